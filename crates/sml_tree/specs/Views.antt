@@ -1,5 +1,5 @@
 -- The program's trees as those of the definitions.
-use Rattle.std.specs.Prelude.{List, [], ◌∷◌, map}
+use Rattle.std.specs.Prelude.{ℕ, List, [], ◌∷◌, map}
 use Rattle.sml_lex.specs.declared.fault.Place.{Place}
 use Rattle.sml_tree.specs.Trees as T
 use Rattle.sml_tree.specs.declared.bare.LongIdent.{LongIdent}

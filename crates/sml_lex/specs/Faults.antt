@@ -1,0 +1,18 @@
+-- Faults without pointers.
+use Rattle.std.specs.Prelude.{ℕ, List, Option, Some, None}
+use Rattle.sml_lex.specs.declared.fault.Code.{Code}
+use Rattle.sml_lex.specs.declared.fault.Place.{Place}
+use Rattle.sml_lex.specs.declared.fault.Fault as P
+
+-- a code, a place and perhaps a detail
+pub record Fault : Type 0 where
+  pub code : Code
+  pub place : Place
+  pub detail : Option (List ℕ)
+
+abbrev pub fault_of : P.Fault → Fault
+fault_of f = record {
+  code = f.code;
+  place = f.place;
+  detail = elim f.detail [ Some bytes ↦ Some bytes.items | None ↦ None ];
+}

@@ -1,0 +1,6 @@
+pub mod Names
+pub mod Maps
+pub mod Objects
+pub mod Initial
+pub mod Alike
+pub mod Views

@@ -4,3 +4,5 @@ pub mod Objects
 pub mod Initial
 pub mod Alike
 pub mod Views
+pub mod Types
+pub mod Sizes

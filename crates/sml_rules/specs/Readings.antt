@@ -9,7 +9,7 @@ use Rattle.sml_objects.specs.Objects.{MlType, MlTypes, Scheme, Env, Sig, Basis, 
 use Rattle.sml_objects.specs.Types.{instance_from, close}
 use Rattle.sml_objects.specs.Sizes.{type_size}
 use Rattle.sml_rules.specs.Lookups.{value_at, type_at}
-use Rattle.sml_rules.specs.Rules.{IsInstance, IsNew, apart, both, Item, item_of, Specified}
+use Rattle.sml_rules.specs.Rules.{IsInstance, IsNew, apart, sum_of, Item, item_of, Specified}
 use Rattle.sml_rules.specs.Matching.{Realisation, realise_type, realise_scheme, realised_by}
 use Rattle.sml_rules.specs.Answers.{Reading, give, ◌>>=◌, test, any, fault, fault_at, need}
 
@@ -83,12 +83,12 @@ module _ {P N : Type 0} (names : Naming N) where
     v ← test (IsSmall u) (fault E7 p)
     give (one_type t (mono u))
 
-  unfoldable pub read_cores : Env N → List (CoreDec P) → Reading P (Env N)
-  read_cores C [] = give empty_env
-  read_cores C (d ∷ ds) = do
+  -- one after the other; F has what those before them bind
+  unfoldable pub read_cores : Env N → Env N → List (CoreDec P) → Reading P (Env N)
+  read_cores C F [] = give F
+  read_cores C F (d ∷ ds) = do
     E ← read_core C d
-    F ← read_cores (extend_env C E) ds
-    give (extend_env E F)
+    read_cores (extend_env C E) (extend_env F E) ds
 
   -- specifications
   abbrev pub place_of : Spec P → P
@@ -105,13 +105,13 @@ module _ {P N : Type 0} (names : Naming N) where
     give (record { names = []; body = one_value x (mono t) })
 
   -- each sees those before it, and specifies what none of them does
-  unfoldable pub read_specs : ℕ → Basis N → List Item → List (Spec P) → Reading P (Sig N)
-  read_specs unit B seen [] = give (record { names = []; body = empty_env })
+  unfoldable pub read_specs : ℕ → Basis N → List Item → List (Spec P) → Reading P (List (Sig N))
+  read_specs unit B seen [] = give []
   read_specs unit B seen (q ∷ qs) = do
     S ← read_spec unit B q
     u ← test (¬ (Specified (item_of q) seen)) (fault N2 (place_of q))
-    S' ← read_specs unit (extend B S) (item_of q ∷ seen) qs
-    give (both names S S')
+    Ss ← read_specs unit (extend B S) (item_of q ∷ seen) qs
+    give (S ∷ Ss)
 
   -- Realisation: each bound name, in the order of the signature's types, is sent to the type function at its path.
   unfoldable pub read_names : P → Env N → Map (Scheme N) → Reading P (Unit {0})
@@ -148,10 +148,10 @@ module _ {P N : Type 0} (names : Naming N) where
     E ← read_core B.body d
     give (record { names = []; body = E })
   read_dec unit B (sealed s p specs decs) = do
-    E ← read_cores B.body decs
-    S ← read_specs unit (apart B E) [] specs
-    u ← read_match p S E
-    give (record { names = S.names; body = one_structure s S.body })
+    E ← read_cores B.body empty_env decs
+    Ss ← read_specs unit (apart B E) [] specs
+    u ← read_match p (sum_of Ss) E
+    give (record { names = (sum_of Ss).names; body = one_structure s (sum_of Ss).body })
 
   -- A unit has at most 1,048,576 names of types. The place of the declaration is given.
   unfoldable pub read_top : P → ℕ → Basis N → Dec P → Reading P (Sig N)

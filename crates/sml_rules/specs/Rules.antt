@@ -55,10 +55,10 @@ module _ {N : Type 0} (names : Naming N) where
   Declares C (val_dec p x e) E = (t : MlType N) × Has C e t × (E ≡ one_value x (close t))
   Declares C (type_dec p t ty) E = (u : MlType N) × Means C ty u × (E ≡ one_type t (mono u))
 
-  unfoldable pub DeclareAll : {P : Type 0} → Env N → List (CoreDec P) → Env N → Type 0
-  DeclareAll C [] E = E ≡ empty_env
-  DeclareAll C (d ∷ ds) E =
-      (E₁ : Env N) × (E₂ : Env N) × Declares C d E₁ × DeclareAll (extend_env C E₁) ds E₂ × (E ≡ extend_env E₁ E₂)
+  -- one after the other, each in the context of those before it; F has what these bind
+  unfoldable pub DeclareAll : {P : Type 0} → Env N → Env N → List (CoreDec P) → Env N → Type 0
+  DeclareAll C F [] E = E ≡ F
+  DeclareAll C F (d ∷ ds) E = (G : Env N) × Declares C d G × DeclareAll (extend_env C G) (extend_env F G) ds E
 
   -- The attributes of the name of `type t` in a specification.
   abbrev pub abstract : ℕ → Attributes
@@ -76,15 +76,23 @@ module _ {N : Type 0} (names : Naming N) where
   Specifies unit B (val_spec p x ty) S =
       (t : MlType N) × Means B.body ty t × (S ≡ record { names = []; body = one_value x (mono t) })
 
-  -- `(T)E + (T')E'`
-  abbrev pub both : Sig N → Sig N → Sig N
-  both S S' = record { names = S.names ++ S'.names; body = extend_env S.body S'.body }
-
   -- each sees those before it
-  unfoldable pub SpecifyAll : {P : Type 0} → ℕ → Basis N → List (Spec P) → Sig N → Type 0
-  SpecifyAll unit B [] S = S ≡ record { names = []; body = empty_env }
-  SpecifyAll unit B (q ∷ qs) S =
-      (S₁ : Sig N) × (S₂ : Sig N) × Specifies unit B q S₁ × SpecifyAll unit (extend B S₁) qs S₂ × (S ≡ both S₁ S₂)
+  unfoldable pub SpecifyAll : {P : Type 0} → ℕ → Basis N → List (Spec P) → List (Sig N) → Type 0
+  SpecifyAll unit B [] Ss = Ss ≡ []
+  SpecifyAll unit B (q ∷ qs) Ss =
+      (S : Sig N) × (Rs : List (Sig N)) × Specifies unit B q S × SpecifyAll unit (extend B S) qs Rs × (Ss ≡ S ∷ Rs)
+
+-- `(T)E + (T')E'`
+abbrev pub both : {N : Type 0} → Sig N → Sig N → Sig N
+both S S' = record { names = S.names ++ S'.names; body = extend_env S.body S'.body }
+
+-- one after the other
+abbrev pub sum_from : {N : Type 0} → Sig N → List (Sig N) → Sig N
+sum_from S [] = S
+sum_from S (S' ∷ Ss) = sum_from (both S S') Ss
+
+abbrev pub sum_of : {N : Type 0} → List (Sig N) → Sig N
+sum_of Ss = sum_from (record { names = []; body = empty_env }) Ss
 
 -- the basis with the names of a structure's body
 abbrev pub apart : {N : Type 0} → Basis N → Env N → Basis N

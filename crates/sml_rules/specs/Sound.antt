@@ -2,9 +2,9 @@
 use Rattle.std.specs.Prelude.{◌≡◌, ℕ, []}
 use Rattle.sml_tree.specs.Trees.{Dec, core, sealed}
 use Rattle.sml_objects.specs.Names.{Naming}
-use Rattle.sml_objects.specs.Objects.{Env, Sig, Basis, one_structure}
+use Rattle.sml_objects.specs.Objects.{Env, Sig, Basis, empty_env, one_structure}
 use Rattle.sml_objects.specs.Alike.{AlikeOver}
-use Rattle.sml_rules.specs.Rules.{Declares, DeclareAll, SpecifyAll, AreDistinct}
+use Rattle.sml_rules.specs.Rules.{Declares, DeclareAll, SpecifyAll, sum_of, AreDistinct}
 use Rattle.sml_rules.specs.Matching.{Matches}
 
 module _ {N : Type 0} (names : Naming N) where
@@ -13,8 +13,8 @@ module _ {N : Type 0} (names : Naming N) where
   unfoldable pub Derives : {P : Type 0} → ℕ → Basis N → Dec P → Sig N → Type 0
   Derives unit B (core d) S = Declares names B.body d S.body × (S.names ≡ [])
   Derives unit B (sealed s p specs decs) S =
-      (E : Env N) × (R : Sig N) × DeclareAll names B.body decs E × SpecifyAll names unit B specs R × AreDistinct [] specs × Matches E R
-      × (S ≡ record { names = R.names; body = one_structure s R.body })
+      (E : Env N) × (Ss : List (Sig N)) × DeclareAll names B.body empty_env decs E × SpecifyAll names unit B specs Ss × AreDistinct [] specs
+      × Matches E (sum_of Ss) × (S ≡ record { names = (sum_of Ss).names; body = one_structure s (sum_of Ss).body })
 
   -- The rules derive, from B and the declaration, what is alike over B to this.
   unfoldable pub IsSound : {P : Type 0} → ℕ → Basis N → Dec P → Sig N → Type 0

@@ -1,5 +1,5 @@
 -- Sound answers: some derivation in the rules gives the environment, up to names of types.
-use Rattle.std.specs.Prelude.{◌≡◌, ℕ, []}
+use Rattle.std.specs.Prelude.{◌≡◌, ℕ, List, []}
 use Rattle.sml_tree.specs.Trees.{Dec, core, sealed}
 use Rattle.sml_objects.specs.Names.{Naming}
 use Rattle.sml_objects.specs.Objects.{Env, Sig, Basis, empty_env, one_structure}

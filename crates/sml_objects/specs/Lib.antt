@@ -6,3 +6,4 @@ pub mod Alike
 pub mod Views
 pub mod Types
 pub mod Sizes
+pub mod Puts

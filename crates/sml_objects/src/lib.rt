@@ -1,4 +1,5 @@
 // The semantic objects of the static semantics (the Definition, sections 4.2 and 5.1).
 #![tactic(auto)]
 
+pub mod environments;
 pub mod objects;

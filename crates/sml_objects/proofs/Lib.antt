@@ -1,1 +1,2 @@
 pub mod EnvViews
+pub mod Joins

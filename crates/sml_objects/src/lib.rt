@@ -1,5 +1,6 @@
 // The semantic objects of the static semantics (the Definition, sections 4.2 and 5.1).
 #![tactic(auto)]
 
+pub mod bases;
 pub mod environments;
 pub mod objects;

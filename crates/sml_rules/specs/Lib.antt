@@ -4,3 +4,4 @@ pub mod Matching
 pub mod Answers
 pub mod Readings
 pub mod Sound
+pub mod Statements

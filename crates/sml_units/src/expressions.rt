@@ -4,8 +4,7 @@ use crate::locals::Locals;
 use crate::lookups::Context;
 use crate::top_fault::{TopFault, plain_fault};
 use crate::types::type_of;
-use sml_lex::fault::{Code, Memory};
-use sml_objects::environments;
+use sml_lex::fault::{Code, Memory, Place};
 use sml_objects::objects::{Env, Initial, MlType, Scheme, TyName};
 use sml_objects::types::{close, instantiate, size_up_to};
 use sml_tree::bare::{CoreDec, CoreForm, Exp, Ident, LongIdent};
@@ -113,49 +112,76 @@ fn typed_tuple(
     Ok(Typed { ty, made: count })
 }
 
+/// A component of an environment: a value or a type constructor.
+#[derive(Drop)]
+pub(crate) enum Component {
+    Value(Ident, Rc<Scheme>),
+    Type(Ident, Rc<Scheme>),
+}
+
+impl Component {
+    /// Puts the component into the environment.
+    pub(crate) fn put_into(self, env: &mut Env) -> Result<(), Memory> {
+        match self {
+            Component::Value(name, scheme) => env.with_value(name, scheme),
+            Component::Type(name, function) => env.with_type(name, function),
+        }
+    }
+}
+
+/// A value with a scheme.
+pub(crate) fn value_component(
+    alloc: Global,
+    name: &Ident,
+    scheme: Scheme,
+) -> Result<Component, TopFault> {
+    let name = name.clone()?;
+    let scheme = Rc::new(alloc, scheme)?;
+    Ok(Component::Value(name, scheme))
+}
+
+/// A type constructor without parameters.
+pub(crate) fn type_component(
+    alloc: Global,
+    name: &Ident,
+    body: Rc<MlType>,
+) -> Result<Component, TopFault> {
+    let name = name.clone()?;
+    let function = Rc::new(alloc, Scheme {
+        variables: Vec::new(alloc),
+        body,
+    })?;
+    Ok(Component::Type(name, function))
+}
+
+/// The type, where it isn't too large.
+pub(crate) fn small(ty: Rc<MlType>, place: Place) -> Result<Rc<MlType>, TopFault> {
+    if size_up_to(&ty, GREATEST_SIZE) > GREATEST_SIZE {
+        return Err(plain_fault(Code::E7, place));
+    }
+    Ok(ty)
+}
+
 /// What a declaration binds.
 pub(crate) fn declared(
     alloc: Global,
     context: &Context,
     dec: &CoreDec,
-) -> Result<Env, TopFault> {
+) -> Result<Component, TopFault> {
     match &dec.form {
         CoreForm::Value(name, exp) => {
             let mut locals = Locals::new(alloc);
             let value = typed(alloc, context, &mut locals, exp, 0)?;
-            if size_up_to(&value.ty, GREATEST_SIZE) > GREATEST_SIZE {
-                return Err(plain_fault(Code::E7, dec.place));
-            }
-            let scheme = close(alloc, &value.ty)?;
-            one_value(alloc, name, scheme)
+            let ty = small(value.ty, dec.place)?;
+            let scheme = close(alloc, &ty)?;
+            value_component(alloc, name, scheme)
         }
         CoreForm::Type(name, ty) => {
             let ty = type_of(alloc, context, ty)?;
-            if size_up_to(&ty, GREATEST_SIZE) > GREATEST_SIZE {
-                return Err(plain_fault(Code::E7, dec.place));
-            }
-            one_type(alloc, name, ty)
+            let ty = small(ty, dec.place)?;
+            type_component(alloc, name, ty)
         }
     }
-}
-
-/// The environment that binds a value alone.
-pub(crate) fn one_value(alloc: Global, name: &Ident, scheme: Scheme) -> Result<Env, TopFault> {
-    let mut env = Env::new(alloc);
-    let scheme = Rc::new(alloc, scheme)?;
-    env.with_value(name.clone()?, scheme)?;
-    Ok(env)
-}
-
-/// The environment that binds a type constructor without parameters alone.
-pub(crate) fn one_type(alloc: Global, name: &Ident, body: Rc<MlType>) -> Result<Env, TopFault> {
-    let mut env = Env::new(alloc);
-    let function = Rc::new(alloc, Scheme {
-        variables: Vec::new(alloc),
-        body,
-    })?;
-    env.with_type(name.clone()?, function)?;
-    Ok(env)
 }
 
 /// What the declarations of a structure's body bind, one after the other.
@@ -170,8 +196,8 @@ pub(crate) fn all_declared(
             outer,
             inner: &bound,
         };
-        let more = declared(alloc, &context, dec)?;
-        bound.add(more)?;
+        let component = declared(alloc, &context, dec)?;
+        component.put_into(&mut bound)?;
     }
     Ok(bound)
 }

@@ -30,10 +30,13 @@ pub fn topdec(
                 outer: &basis.env,
                 inner: &empty,
             };
+            let component = declared(alloc, &context, dec)?;
+            let mut env = Env::new(alloc);
+            component.put_into(&mut env)?;
             Basis {
                 unit: basis.unit,
                 names: Vec::new(alloc),
-                env: declared(alloc, &context, dec)?,
+                env,
             }
         }
         BareDec::Structure(structure) => sealed(alloc, basis, structure)?,

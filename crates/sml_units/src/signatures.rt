@@ -1,13 +1,12 @@
 //! Signature expressions (the Definition, section 5.7, rules 62, 68, 69 and 77).
 
-use crate::expressions::{GREATEST_SIZE, one_type, one_value};
+use crate::expressions::{small, type_component, value_component};
 use crate::lookups::Context;
 use crate::top_fault::{TopFault, plain_fault};
 use crate::types::type_of;
-use sml_lex::fault::{Code, Memory};
+use sml_lex::fault::{Code, Place};
 use sml_objects::objects::{Basis, Env, MadeName, MlType, Scheme, Sig, TyName};
-use sml_objects::types::size_up_to;
-use sml_tree::bare::{Ident, Spec, SpecForm};
+use sml_tree::bare::{Ident, Spec, SpecForm, Ty};
 use std::alloc::Global;
 use std::rc::Rc;
 
@@ -27,37 +26,51 @@ pub(crate) fn signature(alloc: Global, basis: &Basis, specs: &[Spec]) -> Result<
 /// Adds what one more specification specifies.
 fn specify(alloc: Global, basis: &Basis, sig: &mut Sig, spec: &Spec) -> Result<(), TopFault> {
     match &spec.form {
-        SpecForm::Type(name) => {
-            let made = new_name(basis, sig)?;
-            let ty = Rc::new(alloc, MlType::Name(made, Vec::new(alloc)))?;
-            let more = one_type(alloc, name, ty)?;
-            if sig.body.type_function(name).is_some() {
-                return Err(plain_fault(Code::N2, spec.place));
-            }
-            sig.names.push(made)?;
-            sig.body.add(more)?;
-        }
-        SpecForm::Value(name, ty) => {
-            let context = Context {
-                outer: &basis.env,
-                inner: &sig.body,
-            };
-            let ty = type_of(alloc, &context, ty)?;
-            if size_up_to(&ty, GREATEST_SIZE) > GREATEST_SIZE {
-                return Err(plain_fault(Code::E7, spec.place));
-            }
-            let scheme = Scheme {
-                variables: Vec::new(alloc),
-                body: ty,
-            };
-            let more = one_value(alloc, name, scheme)?;
-            if sig.body.value(name).is_some() {
-                return Err(plain_fault(Code::N2, spec.place));
-            }
-            sig.body.add(more)?;
-        }
+        SpecForm::Type(name) => specify_type(alloc, basis, sig, spec.place, name),
+        SpecForm::Value(name, ty) => specify_value(alloc, basis, sig, spec.place, name, ty),
     }
-    Ok(())
+}
+
+fn specify_type(
+    alloc: Global,
+    basis: &Basis,
+    sig: &mut Sig,
+    place: Place,
+    name: &Ident,
+) -> Result<(), TopFault> {
+    if sig.body.type_function(name).is_some() {
+        return Err(plain_fault(Code::N2, place));
+    }
+    let made = new_name(basis, sig)?;
+    let ty = Rc::new(alloc, MlType::Name(made, Vec::new(alloc)))?;
+    let component = type_component(alloc, name, ty)?;
+    sig.names.push(made)?;
+    Ok(component.put_into(&mut sig.body)?)
+}
+
+fn specify_value(
+    alloc: Global,
+    basis: &Basis,
+    sig: &mut Sig,
+    place: Place,
+    name: &Ident,
+    ty: &Ty,
+) -> Result<(), TopFault> {
+    let context = Context {
+        outer: &basis.env,
+        inner: &sig.body,
+    };
+    let ty = type_of(alloc, &context, ty)?;
+    let ty = small(ty, place)?;
+    if sig.body.value(name).is_some() {
+        return Err(plain_fault(Code::N2, place));
+    }
+    let scheme = Scheme {
+        variables: Vec::new(alloc),
+        body: ty,
+    };
+    let component = value_component(alloc, name, scheme)?;
+    Ok(component.put_into(&mut sig.body)?)
 }
 
 /// A name of the basis' unit that neither the basis nor the signature has.

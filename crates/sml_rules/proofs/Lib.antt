@@ -1,0 +1,4 @@
+pub mod Renaming
+pub mod Worlds
+pub mod Settled
+pub mod Unique

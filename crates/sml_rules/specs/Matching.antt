@@ -61,13 +61,14 @@ unfoldable mutual
   HasStructures {N} φ E (and_structure s F ss) =
       ((G : Env N) × (find_structure s (structures E) ≡ Some G) × Enriches φ G F) × HasStructures φ E ss
 
+-- n is one of the names
+unfoldable pub Stands : {N : Type 0} → N → List N → Type 0
+Stands n [] = ⊥
+Stands n (m ∷ ms) = (n ≡ m) ⊎ Stands n ms
+
 -- Only the names of the list are moved.
 unfoldable pub MovesOnly : {N : Type 0} → List N → Realisation N → Type 0
 MovesOnly {N} ns φ = (n : N) (θ : Scheme N) → φ n ≡ Some θ → Stands n ns
-  where
-    Stands : N → List N → Type 0
-    Stands n [] = ⊥
-    Stands n (m ∷ ms) = (n ≡ m) ⊎ Stands n ms
 
 module _ {N : Type 0} (names : Naming N) where
   -- whether the type is this name, without arguments

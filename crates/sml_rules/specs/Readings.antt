@@ -41,6 +41,10 @@ module _ {P N : Type 0} where
       ts ← read_tys C us
       give (and_type t ts)
 
+abbrev pub place_of : {P : Type 0} → Spec P → P
+place_of (type_spec p t) = p
+place_of (val_spec p x ty) = p
+
 -- a type, and how many unknowns have been made
 pub record Typed (X : Type 0) : Type 0 where
   pub made : ℕ
@@ -91,10 +95,6 @@ module _ {P N : Type 0} (names : Naming N) where
     read_cores (extend_env C E) (extend_env F E) ds
 
   -- specifications
-  abbrev pub place_of : Spec P → P
-  place_of (type_spec p t) = p
-  place_of (val_spec p x ty) = p
-
   unfoldable pub read_spec : ℕ → Basis N → Spec P → Reading P (Sig N)
   read_spec unit B (type_spec p t) = do
     n ← any (IsNew names unit B)

@@ -1,2 +1,4 @@
 pub mod EnvViews
 pub mod Joins
+pub mod TypeViews
+pub mod TypeSizes

@@ -1,5 +1,5 @@
 -- Semantic objects (the Definition, sections 4.2 and 5.1), over any type `N` of type names.
-use Rattle.std.specs.Prelude.{◌≡◌, ℕ, ◌+◌, Bool, Option, Some, None, List, [], ◌∷◌, ◌++◌, map, length}
+use Rattle.std.specs.Prelude.{◌≡◌, ℕ, ◌+◌, Bool, Option, Some, None, List, [], ◌∷◌, ◌++◌, map, length, decimal, suc}
 use Rattle.sml_tree.specs.Trees.{Id}
 use Rattle.sml_objects.specs.Maps.{Map, join, by_order, order_of}
 
@@ -181,3 +181,11 @@ arrow_of a b = app arrow (and_type a (and_type b no_type))
 
 abbrev pub named : {N : Type 0} → N → MlType N
 named n = app (name n) no_type
+
+-- the labels of a row of so many fields: k, the number behind it and so on
+abbrev pub labels_of : {N : Type 0} → ℕ → MlTypes N → List Id
+labels_of k no_type = []
+labels_of k (and_type t ts) = decimal k ∷ labels_of (suc k) ts
+
+abbrev pub tuple_of : {N : Type 0} → MlTypes N → MlType N
+tuple_of ts = app (row (labels_of 1 ts)) ts

@@ -1,5 +1,5 @@
 -- The program's objects as those of the definitions, over the names of a run.
-use Rattle.std.specs.Prelude.{ℕ, suc, Vec, List, [], ◌∷◌, map, decimal}
+use Rattle.std.specs.Prelude.{ℕ, suc, Vec, List, [], ◌∷◌, map}
 use Rattle.std.specs.Global.{Global}
 use Rattle.std.specs.declared.rc.Rc.{Rc}
 use Rattle.sml_tree.specs.Trees.{Id}
@@ -44,13 +44,8 @@ abbrev pub types_of : List (O.MlType Name) → O.MlTypes Name
 types_of [] = O.no_type
 types_of (t ∷ ts) = O.and_type t (types_of ts)
 
--- the labels of a row of so many fields: 1, 2 and so on
-abbrev pub labels_from : ℕ → List (O.MlType Name) → List Id
-labels_from k [] = []
-labels_from k (t ∷ ts) = decimal k ∷ labels_from (suc k) ts
-
 abbrev pub row_of : List (O.MlType Name) → O.MlType Name
-row_of ts = O.app (O.row (labels_from 1 ts)) (types_of ts)
+row_of ts = O.tuple_of (types_of ts)
 
 -- one layer of a type, with its parts already seen
 abbrev pub type_layer : MlType-F (O.MlType Name) → O.MlType Name

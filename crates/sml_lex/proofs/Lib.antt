@@ -1,0 +1,5 @@
+pub mod Beginnings
+pub mod Comments
+pub mod DigitValues
+pub mod ReservedWords
+pub mod Spelling

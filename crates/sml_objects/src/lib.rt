@@ -4,4 +4,6 @@
 pub mod bases;
 pub mod environments;
 pub mod objects;
+pub mod replacements;
+pub mod schemes;
 pub mod sizes;

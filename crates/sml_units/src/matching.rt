@@ -29,13 +29,13 @@ pub(crate) fn matches(
     sig: &Sig,
     structure: &Env,
 ) -> Result<(), TopFault> {
-    let realisation = realisation(alloc, place, sig, structure)?;
+    let realisation = sent_names(alloc, place, sig, structure)?;
     types_agree(alloc, place, &realisation, sig, structure)?;
     values_agree(alloc, place, &realisation, sig, structure)
 }
 
 /// Sends each name of the signature to the type function at its path.
-fn realisation(
+fn sent_names(
     alloc: Global,
     place: Place,
     sig: &Sig,

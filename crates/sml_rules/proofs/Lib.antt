@@ -3,5 +3,5 @@ pub mod Worlds
 pub mod Settled
 pub mod Unique
 pub mod Readings
-pub mod Laws
+pub mod Paths
 pub mod Sound

@@ -142,4 +142,3 @@ unfolding Outside
 settled_alone {C = C} {O = O} S R s N a c x y r r' =
     mapped {C = λ N. (C N × Unit {0}) × O N} {D = λ N. C N × O N} (λ N a v. (v.0.0, v.1))
     (s (λ N. Unit {0}) (record { rename = λ f u. tt; names = λ u. []; fixed = λ f u h. refl }) N a c tt (λ n h. tt) x y r r')
-

@@ -1,8 +1,9 @@
 -- What a reading accepts is derived by the rules.
-use Rattle.std.specs.Prelude.{◌≡◌, ◌≤◌, ◌⊎◌, ◌+◌, ℕ, List, [], ◌∷◌, length, Option, Some, None, IsSome}
+use Rattle.std.specs.Prelude.{◌≡◌, ◌≤◌, ◌⊎◌, ◌+◌, ℕ, List, [], ◌∷◌, length, Option, Some, None, IsSome, cond}
 use mathlib.Core.Path.{refl, sym, ap, ap₂, subst, ◌∙◌}
 use mathlib.Core.Logic.{inl, inr}
 use mathlib.Core.List.{◌++◌}
+use mathlib.Core.Bool.{true≢false}
 use Rattle.std.specs.declared.cmp.Ordering.{Ordering}
 use Rattle.std.specs.declared.cmp.Ordering.TheVariants.{Less, Equal, Greater}
 use Rattle.sml_lex.specs.declared.fault.Code.{Code}
@@ -15,12 +16,12 @@ use Rattle.sml_objects.specs.Objects.{MlType, MlTypes, Scheme, Env, Structures, 
 use Rattle.sml_objects.specs.Types.{replace_type, replace_types}
 use Rattle.sml_rules.specs.Lookups.{Found, found, no_path, no_entry}
 use Rattle.sml_rules.specs.Rules.{IsOpen, AreOpen, IsInstance, Means, MeanAll, Has, HaveAll, Declares, DeclareAll, IsNew, Specifies, SpecifyAll, apart, both, sum_from, sum_of, Item, item_of, Specified, AreDistinct}
-use Rattle.sml_rules.specs.Matching.{Realisation, realise_type, realise_scheme, Generalises, HasTypes, HasValues, Enriches, HasStructures, Stands, MovesOnly, is_name, realised_by, Matches}
+use Rattle.sml_rules.specs.Matching.{Realisation, realise_type, realise_scheme, Generalises, HasTypes, HasValues, Enriches, HasStructures, Stands, MovesOnly, is_yes, is_name, realised_by, Matches}
 use Rattle.sml_rules.specs.Answers.{Answer, Reading, refused, accepted, After, give, ◌>>=◌, test, any, need}
 use Rattle.sml_rules.specs.Readings.{Typed, read_ty, read_tys, read_exp, read_exps, read_core, read_cores, read_spec, read_specs, read_names, read_types, read_values, read_match, read_dec, read_top}
 use Rattle.sml_rules.specs.Sound.{Derives, IsSound}
 use Rattle.sml_rules.proofs.Settled.{Covers, outside-left, outside-right, outside-append}
-use Rattle.sml_rules.proofs.Laws.{alike_refl}
+use Rattle.sml_rules.proofs.Paths.{alike_refl}
 
 -- what an accepting reading was made of
 
@@ -213,15 +214,15 @@ names-join ns xs [] h g = h
 names-join ns xs (y ∷ ys) h g = names-join ns (put y.0 y.1 xs) ys (names-put ns y.0 y.1 xs g.0 h) g.1
 
 plain_both : {N : Type 0} (S S' : Sig N) → IsPlain S.names S.body → IsPlain S'.names S'.body → IsPlain (both S S').names (both S S').body
+unfolding IsPlain NoStructure
 plain_both S S' = go S.body S'.body
   where
     go : (E F : Env _) → IsPlain S.names E → IsPlain S'.names F → IsPlain (S.names ++ S'.names) (extend_env E F)
-    unfolding IsPlain NoStructure
     go (env no_structure ts vs) (env no_structure us ws) h g = (
       tt,
       names-join (S.names ++ S'.names) ts us
-      (names-more S.names (S.names ++ S'.names) (λ n o. stands-left n S.names S'.names o) ts h.1)
-      (names-more S'.names (S.names ++ S'.names) (λ n o. stands-right n S.names S'.names o) us g.1),
+          (names-more S.names (S.names ++ S'.names) (λ n o. stands-left n S.names S'.names o) ts h.1)
+          (names-more S'.names (S.names ++ S'.names) (λ n o. stands-right n S.names S'.names o) us g.1),
     )
     go (env (and_structure s E ss) ts vs) F h g = absurd h.0
     go (env no_structure ts vs) (env (and_structure s E ss) us ws) h g = absurd g.0
@@ -272,8 +273,18 @@ instance_generalises σ τ (args, h, e) t (brgs, g, d) =
     (args, h, d ∙ replace_open brgs τ.body o ∙ e)
 
 some_of : {X : Type 0} (o : Option X) → IsSome o → (x : X) × (o ≡ Some x)
-some_of None h = absurd (false_not_true h)
+some_of None h = absurd (true≢false (sym h))
 some_of (Some x) h = (x, refl)
+
+moves_names : {N : Type 0} (names : Naming N) (E : Env N) (ns : List N) (xs : Map (Scheme N)) → AreNames ns xs → MovesOnly ns (realised_by names E xs)
+unfolding realised_by MovesOnly AreNames
+moves_names names E ns [] h n θ e = let bad : ⊥ = cc in absurd bad
+moves_names names E ns (x ∷ xs) h n θ e =
+    go (names.same h.0.0 n) (subst (λ t. cond (is_name names n t) (lookup x.0 (types E)) (realised_by names E xs n) ≡ Some θ) (ap (λ σ. σ.body) h.0.1) e) (λ e. moves_names names E ns xs h.1 n θ e)
+  where
+    go : (d : Prim.Dec (h.0.0 ≡ n)) → cond (is_yes {A = h.0.0 ≡ n} d) (lookup x.0 (types E)) (realised_by names E xs n) ≡ Some θ → ((realised_by names E xs n) ≡ Some θ → Stands n ns) → Stands n ns
+    go (yes s) e k = subst (λ m. Stands m ns) s h.0.2
+    go (no s) e k = k e
 
 module _ {P N : Type 0} (names : Naming N) where
   sound_types : (p : P) (E : Env N) (φ : Realisation N) (xs : Map (Scheme N)) (u : Unit {0}) → read_types names p E φ xs (accepted u) → HasTypes φ E xs
@@ -291,33 +302,22 @@ module _ {P N : Type 0} (names : Naming N) where
       let s = some_of (lookup x.0 (values E)) (tested _ _ a.0 a.1) in
       ((s.0, s.1, instance_generalises s.0 (realise_scheme φ x.1) (tested _ _ b.0 b.1 s.0 s.1)), sound_values p E φ xs u b.2)
 
-  moves_names : (E : Env N) (ns : List N) (xs : Map (Scheme N)) → AreNames ns xs → MovesOnly ns (realised_by names E xs)
-  unfolding realised_by MovesOnly AreNames
-  moves_names E ns [] h n θ e = absurd (none_not_some e)
-  moves_names E ns (x ∷ xs) h n θ e = go (names.same h.0.0 n) (subst (λ t. (elim (is_name names n t) [ Some _ ↦ lookup x.0 (types E) | None ↦ realised_by names E xs n ]) ≡ Some θ) (ap (λ σ. σ.body) h.0.1) e)
-    where
-      go : (d : Dec (h.0.0 ≡ n)) → (elim (elim d [ yes _ ↦ Some tt | no _ ↦ None ]) [ Some _ ↦ lookup x.0 (types E) | None ↦ realised_by names E xs n ]) ≡ Some θ → Stands n ns
-      go (yes s) e = subst (λ m. Stands m ns) s h.0.2
-      go (no s) e = moves_names E ns xs h.1 n θ e
-
   sound_match : (p : P) (S : Sig N) (E : Env N) (u : Unit {0}) → IsPlain S.names S.body → read_match names p S E (accepted u) → Matches E S
-  unfolding read_match Matches
+  unfolding read_match Matches IsPlain NoStructure Enriches
   sound_match p S E u h g =
       let a = bound_by _ _ u g in
       let b = bound_by _ _ u a.2 in
-      (realised_by names E (types S.body), moves S.body h, enriches S.body h (sound_types p E _ (types S.body) b.0 b.1) (sound_values p E _ (values S.body) u b.2))
+      (realised_by names E (types S.body), moves S.body h, enriches _ S.body h (sound_types p E _ (types S.body) b.0 b.1) (sound_values p E _ (values S.body) u b.2))
     where
       moves : (F : Env N) → IsPlain S.names F → MovesOnly S.names (realised_by names E (types F))
-      unfolding IsPlain
-      moves (env ss ts vs) h = moves_names E S.names ts h.1
+      moves (env ss ts vs) h = moves_names names E S.names ts h.1
 
-      enriches : {φ : Realisation N} (F : Env N) → IsPlain S.names F → HasTypes φ E (types F) → HasValues φ E (values F) → Enriches φ E F
-      unfolding Enriches IsPlain NoStructure
-      enriches (env no_structure ts vs) h k l = (tt, k, l)
-      enriches (env (and_structure s F ss) ts vs) h k l = absurd h.0
+      enriches : (φ : Realisation N) (F : Env N) → IsPlain S.names F → HasTypes φ E (types F) → HasValues φ E (values F) → Enriches φ E F
+      enriches φ (env no_structure ts vs) h k l = (tt, k, l)
+      enriches φ (env (and_structure s F ss) ts vs) h k l = absurd h.0
 
   sound_dec : (unit : ℕ) (B : Basis N) (d : Dec P) (S : Sig N) → read_dec names unit B d (accepted S) → Derives names unit B d S
-  unfolding read_dec Derives
+  unfolding read_dec Derives names_basis IsPlain NoStructure AreNames
   sound_dec unit B (core d) S h =
       let a = bound_by _ _ S h in
       let e = given P _ S a.2 in
@@ -331,12 +331,10 @@ module _ {P N : Type 0} (names : Naming N) where
       (a.0, b.0, sound_cores names B.body empty_env decs a.0 a.1, f, r.1, sound_match p (sum_of b.0) a.0 c.0 (plain_sum names unit B specs b.0 _ f plain_empty) c.1, given P _ S c.2)
     where
       apart_covers : (B : Basis N) (E : Env N) → Covers ((names_env E ++ B.names) ++ names_env B.body) (names_basis B)
-      unfolding names_basis
       apart_covers B E n o =
           outside-append n B.names (names_env B.body) (outside-right n (names_env E) B.names (outside-left n (names_env E ++ B.names) (names_env B.body) o)) (outside-right n (names_env E ++ B.names) (names_env B.body) o)
 
       plain_empty : IsPlain {N = N} [] empty_env
-      unfolding IsPlain NoStructure AreNames
       plain_empty = (tt, tt)
 
   pub readings_sound : (p : P) (unit : ℕ) (B : Basis N) (d : Dec P) (S : Sig N) → read_top names p unit B d (accepted S) → IsSound names unit B d S

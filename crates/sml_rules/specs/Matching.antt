@@ -1,5 +1,5 @@
 -- Realisation and enrichment (the Definition, sections 5.2, 5.5 and 5.6).
-use Rattle.std.specs.Prelude.{◌≡◌, ℕ, zero, suc, Option, Some, None, List, [], ◌∷◌, ◌⊎◌}
+use Rattle.std.specs.Prelude.{◌≡◌, ℕ, zero, suc, Bool, true, false, cond, Option, Some, None, List, [], ◌∷◌, ◌⊎◌}
 use Rattle.sml_objects.specs.Names.{Naming}
 use Rattle.sml_objects.specs.Maps.{Map, lookup}
 use Rattle.sml_objects.specs.Objects.{Head, MlType, MlTypes, Scheme, Env, Structures, Sig, arrow, row, name, bound, free, app, no_type, and_type, env, no_structure, and_structure, structures, types, values, find_structure}
@@ -70,19 +70,23 @@ Stands n (m ∷ ms) = (n ≡ m) ⊎ Stands n ms
 unfoldable pub MovesOnly : {N : Type 0} → List N → Realisation N → Type 0
 MovesOnly {N} ns φ = (n : N) (θ : Scheme N) → φ n ≡ Some θ → Stands n ns
 
+abbrev pub is_yes : {A : Type 0} → Dec A → Bool
+is_yes (yes h) = true
+is_yes (no h) = false
+
 module _ {N : Type 0} (names : Naming N) where
   -- whether the type is this name, without arguments
-  abbrev pub is_name : N → MlType N → Option (Unit {0})
-  is_name n (bound k) = None
-  is_name n (free v) = None
-  is_name n (app arrow ts) = None
-  is_name n (app (row ls) ts) = None
-  is_name n (app (name m) ts) = elim (names.same m n) [ yes _ ↦ Some tt | no _ ↦ None ]
+  abbrev pub is_name : N → MlType N → Bool
+  is_name n (bound k) = false
+  is_name n (free v) = false
+  is_name n (app arrow ts) = false
+  is_name n (app (row ls) ts) = false
+  is_name n (app (name m) ts) = is_yes {A = m ≡ n} (names.same m n)
 
   -- the type function that the first type with this name has in the structure
   unfoldable pub realised_by : Env N → Map (Scheme N) → Realisation N
   realised_by E [] n = None
-  realised_by E (x ∷ xs) n = elim (is_name n x.1.body) [ Some _ ↦ lookup x.0 (types E) | None ↦ realised_by E xs n ]
+  realised_by E (x ∷ xs) n = cond (is_name n x.1.body) (lookup x.0 (types E)) (realised_by E xs n)
 
 -- `E ≥ (T)E'`: the environment enriches an instance of the signature.
 unfoldable pub Matches : {N : Type 0} → Env N → Sig N → Type 0

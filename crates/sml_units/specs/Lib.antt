@@ -1,0 +1,3 @@
+pub mod Text
+pub mod Runs
+pub mod Isolation

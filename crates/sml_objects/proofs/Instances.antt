@@ -4,7 +4,7 @@ use Rattle.std.specs.declared.rc.Rc.{Rc}
 use Rattle.sml_objects.specs.Objects as O
 use Rattle.sml_objects.specs.Initial.{Name}
 use Rattle.sml_objects.specs.Types.{replace_type, replace_types, instance_from}
-use Rattle.sml_objects.specs.Views.{type_of, types_of, labels_from, name_of}
+use Rattle.sml_objects.specs.Views.{type_of, types_of, name_of}
 use Rattle.sml_objects.specs.declared.objects.TyName.{TyName}
 use Rattle.sml_objects.specs.declared.objects.MlType.{MlType, Free}
 use Rattle.sml_objects.specs.declared.objects.MlType.TheViews as V
@@ -35,7 +35,7 @@ module _ (k : ℕ) where
   unfolding replace_type
   kept-row ts h =
       ap (instance_from k) (type_of-row ts)
-      ∙ ap (O.app (O.row (labels_from 1 (parts_of ts.items)))) (types-kept ts.items h)
+      ∙ ap (O.app (O.row (O.labels_of 1 (types_of (parts_of ts.items))))) (types-kept ts.items h)
       ∙ sym (type_of-row ts)
 
   pub kept-arrow : (t u : Rc MlType Global) → instance_from k (type_of t.value) ≡ type_of t.value → instance_from k (type_of u.value) ≡ type_of u.value

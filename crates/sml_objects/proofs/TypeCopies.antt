@@ -4,7 +4,7 @@ use Rattle.std.specs.declared.rc.Rc.{Rc}
 use Rattle.sml_objects.specs.Objects as O
 use Rattle.sml_objects.specs.Initial.{Name}
 use Rattle.sml_objects.specs.Types.{replace_type, replace_types}
-use Rattle.sml_objects.specs.Views.{type_of, types_of, labels_from, name_of}
+use Rattle.sml_objects.specs.Views.{type_of, types_of, name_of}
 use Rattle.sml_objects.specs.declared.objects.TyName.{TyName}
 use Rattle.sml_objects.specs.declared.objects.MlType.{MlType, Bound, Free}
 use Rattle.sml_objects.specs.declared.objects.MlType.TheViews as V
@@ -15,9 +15,10 @@ module _ (b f : ℕ → O.MlType Name) (r : Name → Name) where
   abbrev pub copy : O.MlType Name → O.MlType Name
   copy t = replace_type b f (O.rename_type r t)
 
-  labels-copy : (k : ℕ) (ts : List (O.MlType Name)) → labels_from k (map copy ts) ≡ labels_from k ts
-  labels-copy k [] = refl
-  labels-copy k (t ∷ ts) = ap (λ ls. decimal k ∷ ls) (labels-copy (suc k) ts)
+  labels-copy : (k : ℕ) (ts : O.MlTypes Name) → O.labels_of k (replace_types b f (O.rename_types r ts)) ≡ O.labels_of k ts
+  unfolding replace_type replace_types O.rename_type O.rename_types
+  labels-copy k O.no_type = refl
+  labels-copy k (O.and_type t ts) = ap (λ ls. decimal k ∷ ls) (labels-copy (suc k) ts)
 
   types-copy : (ts : List (O.MlType Name)) → types_of (map copy ts) ≡ replace_types b f (O.rename_types r (types_of ts))
   unfolding replace_type replace_types O.rename_type O.rename_types
@@ -38,7 +39,8 @@ module _ (b f : ℕ → O.MlType Name) (r : Name → Name) where
   copy-row ts us h =
       let e = h ∙ sym (map-map copy (λ (t : Rc MlType Global). type_of t.value) ts.items) in
       type_of-row us
-      ∙ (λ i. O.app (O.row ((ap (labels_from 1) e ∙ labels-copy 1 (parts_of ts.items)) i)) ((ap types_of e ∙ types-copy (parts_of ts.items)) i))
+      ∙ ap O.tuple_of (ap types_of e ∙ types-copy (parts_of ts.items))
+      ∙ ap (λ ls. O.app (O.row ls) (replace_types b f (O.rename_types r (types_of (parts_of ts.items))))) (labels-copy 1 (types_of (parts_of ts.items)))
       ∙ ap copy (sym (type_of-row ts))
 
   pub copy-arrow : (t u v w : Rc MlType Global) → type_of v.value ≡ copy (type_of t.value) → type_of w.value ≡ copy (type_of u.value)

@@ -49,7 +49,10 @@ fn elaborate(
 
 #[inline(never)]
 fn typed_number(alloc: Global, made: u32) -> Result<Typed, TopFault> {
-    let ty = Rc::new(alloc, MlType::Name(TyName::Initial(Initial::Int), Vec::new(alloc)))?;
+    let ty = Rc::new(
+        alloc,
+        MlType::Name(TyName::Initial(Initial::Int), Vec::new(alloc)),
+    )?;
     Ok(Typed { ty, made })
 }
 
@@ -148,10 +151,13 @@ pub(crate) fn type_component(
     body: Rc<MlType>,
 ) -> Result<Component, TopFault> {
     let name = name.clone()?;
-    let function = Rc::new(alloc, Scheme {
-        variables: Vec::new(alloc),
-        body,
-    })?;
+    let function = Rc::new(
+        alloc,
+        Scheme {
+            variables: Vec::new(alloc),
+            body,
+        },
+    )?;
     Ok(Component::Type(name, function))
 }
 
@@ -186,11 +192,7 @@ pub(crate) fn declared(
 }
 
 /// What the declarations of a structure's body bind, one after the other.
-pub(crate) fn all_declared(
-    alloc: Global,
-    outer: &Env,
-    decs: &[CoreDec],
-) -> Result<Env, TopFault> {
+pub(crate) fn all_declared(alloc: Global, outer: &Env, decs: &[CoreDec]) -> Result<Env, TopFault> {
     let mut bound = Env::new(alloc);
     for dec in decs {
         let context = Context {

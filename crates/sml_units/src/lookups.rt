@@ -78,7 +78,11 @@ impl<'a> Context<'a> {
     }
 
     /// The scheme of a value, or that it is unbound.
-    pub(crate) fn value(&self, alloc: Global, long: &LongIdent) -> Result<&'a Rc<Scheme>, TopFault> {
+    pub(crate) fn value(
+        &self,
+        alloc: Global,
+        long: &LongIdent,
+    ) -> Result<&'a Rc<Scheme>, TopFault> {
         let found = if long.path.is_empty() {
             self.short_value(&long.last)
         } else {

@@ -67,7 +67,8 @@ fn types_agree(
     for (name, specified) in sig.body.types.iter() {
         let realised = realised(alloc, realisation, &specified.body)?;
         let agrees = match structure.type_function(name) {
-            Some(function) => function.variables == specified.variables && same_type(&function.body, &realised),
+            Some(function) => function.variables == specified.variables
+                && same_type(&function.body, &realised),
             None => false,
         };
         if !agrees {
@@ -99,13 +100,10 @@ fn values_agree(
 
 /// The type with the type functions of the realisation for its names.
 #[cycle(realising)]
-fn realised(
-    alloc: Global,
-    realisation: &Realisation,
-    ty: &Rc<MlType>,
-) -> Result<Rc<MlType>, TopFault> {
-    match &**ty {
-        MlType::Bound(_) | MlType::Free(_) => Ok(ty.clone()?),
+fn realised(alloc: Global, realisation: &Realisation, ty: &MlType) -> Result<Rc<MlType>, TopFault> {
+    match ty {
+        MlType::Bound(k) => Ok(Rc::new(alloc, MlType::Bound(*k))?),
+        MlType::Free(v) => Ok(Rc::new(alloc, MlType::Free(*v))?),
         MlType::Row(parts) => {
             let parts = all_realised(alloc, realisation, parts)?;
             Ok(Rc::new(alloc, MlType::Row(parts))?)
@@ -201,7 +199,11 @@ fn fits(found: &mut Found, body: &MlType, ty: &Rc<MlType>) -> Result<bool, TopFa
 }
 
 #[cycle(fitting)]
-fn all_fit(found: &mut Found, bodies: &[Rc<MlType>], types: &[Rc<MlType>]) -> Result<bool, TopFault> {
+fn all_fit(
+    found: &mut Found,
+    bodies: &[Rc<MlType>],
+    types: &[Rc<MlType>],
+) -> Result<bool, TopFault> {
     if bodies.len() != types.len() {
         return Ok(false);
     }

@@ -35,7 +35,12 @@ pub fn manifest(alloc: Global, text: &[u8]) -> Result<Manifest, ManifestFault> {
             return Err(ManifestFault::Memory);
         };
         line = next;
-        read_line(alloc, &mut manifest, without_return(&text[start..end]), line)?;
+        read_line(
+            alloc,
+            &mut manifest,
+            without_return(&text[start..end]),
+            line,
+        )?;
         if end == text.len() {
             break;
         }
@@ -119,9 +124,7 @@ fn read_line(
 fn is_name(word: &[u8]) -> bool {
     !word.is_empty()
         && word.len() <= LONGEST_NAME
-        && word
-            .iter()
-            .all(|&byte| byte.is_ascii_alphanumeric() || byte == b'_' || byte == b'-')
+        && word.iter().all(|&byte| byte.is_ascii_alphanumeric() || byte == b'_' || byte == b'-')
 }
 
 /// A file has bytes 33 to 126.

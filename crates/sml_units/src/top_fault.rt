@@ -1,5 +1,8 @@
 //! Why a declaration has no environment.
 
+ghost use Rattle.std.specs.Prelude.{◌≡◌};
+ghost use Rattle.sml_units.specs.declared.top_fault.TopFault.TheVariants.{Memory};
+
 use sml_lex::fault::{Code, Fault, Memory, Place};
 use std::alloc::{AllocError, AllocFailed};
 

@@ -1,13 +1,13 @@
-//! The disk as a source of files, and the program.
+//! The disk as a source of files.
 
-use crate::session::{Source, SourceFault, cannot_write, session};
-use sml_units::sink::StdOut;
+use crate::session::{Source, SourceFault};
 use std::alloc::Global;
-use std::io::{self, BufWriter, Read};
+use std::io::{self, Read};
 use std::rt::Files;
-use std::{env, fs};
+use std::fs;
 
 /// The files of a disk.
+#[derive(Drop)]
 pub struct Disk<'a, R> {
     rt: &'a R,
 }

@@ -94,7 +94,7 @@ pub fn session<S: Source, O: Out, E: Out>(
     out: &mut O,
     err: &mut E,
 ) -> u8 {
-    let request = match request(alloc, words) {
+    let request = match requested(alloc, words) {
         Ok(request) => request,
         Err(error) => return usage(alloc, &error, out, err),
     };
@@ -105,7 +105,7 @@ pub fn session<S: Source, O: Out, E: Out>(
 }
 
 /// The command line, as `clap` reads it.
-fn request(alloc: Global, words: &[String]) -> Result<Request, Error> {
+fn requested(alloc: Global, words: &[String]) -> Result<Request, Error> {
     let warnings = Arg::new(alloc, "warnings")
         .long("warnings")
         .help("Prints the warnings of accepted declarations")

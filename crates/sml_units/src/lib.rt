@@ -2,6 +2,7 @@
 #![tactic(auto)]
 
 mod expressions;
+pub mod isolation;
 mod locals;
 mod lookups;
 pub mod manifest;

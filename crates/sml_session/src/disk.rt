@@ -2,9 +2,9 @@
 
 use crate::session::{Source, SourceFault};
 use std::alloc::Global;
+use std::fs;
 use std::io::{self, Read};
 use std::rt::Files;
-use std::fs;
 
 /// The files of a disk.
 #[derive(Drop)]

@@ -1,2 +1,4 @@
+pub mod Paths
+pub mod Dotting
 pub mod Seals
 pub mod Projects

@@ -7,5 +7,4 @@ ghost use Rattle.sml_units.specs.Isolation.{SealsIsolate};
 /// equal byte for byte, for any two runs of them, and those to the accepted sealed ones too.
 pub fn seals_isolate()
     ensures { SealsIsolate }
-{
-}
+{}

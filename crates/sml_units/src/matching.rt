@@ -1,6 +1,5 @@
 //! Whether a structure matches a signature (the Definition, sections 5.2, 5.5 and 5.6).
 
-use crate::lookups::dotted;
 use crate::top_fault::{TopFault, fault_about};
 use sml_lex::fault::{Code, Place};
 use sml_objects::objects::{Env, MlType, Scheme, Sig, TyName};

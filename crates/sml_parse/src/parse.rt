@@ -3,7 +3,7 @@
 use crate::build::build;
 use crate::label::{begins, first, label, start_of};
 use crate::names::Names;
-use crate::place::{FIRST, place_from};
+use crate::place::{FIRST, place_between};
 use crate::tall::measure;
 use sml_lex::fault::{Code, Fault, Memory};
 use sml_lex::token::{End, Lexed};
@@ -25,7 +25,7 @@ pub struct Parsed {
 fn fault_at(unit: &[u8], code: Code, start: usize, at: usize) -> Fault {
     Fault {
         code,
-        place: place_from(unit, start, at),
+        place: place_between(unit, start, at),
         detail: None,
     }
 }

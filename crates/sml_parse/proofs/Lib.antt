@@ -1,2 +1,4 @@
 mod Ways
 mod Labels
+mod Sharing
+pub mod Parts

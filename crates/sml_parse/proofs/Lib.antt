@@ -2,3 +2,4 @@ mod Ways
 mod Labels
 mod Sharing
 pub mod Parts
+mod Shapes

@@ -1,8 +1,9 @@
 //! What the parts of a declaration make, on a stack.
 
 ghost use Rattle.std.specs.Prelude.{◌≡◌, [], ◌∷◌, map, reverse, OnOk};
-ghost use Rattle.sml_tree.specs.Views.{exp_of, exps_of, ty_of, tys_of, spec_of, core_dec_of};
-ghost use Rattle.sml_parse.specs.Values.{word_in, exp_in, exps_in, ty_in, tys_in, specs_in, cores_in, first, rest};
+ghost use Rattle.std.specs.Option.{option_map};
+ghost use Rattle.sml_tree.specs.Views.{exp_of, exps_of, ty_of, tys_of, spec_of, core_dec_of, dec_of};
+ghost use Rattle.sml_parse.specs.Values.{word_in, exp_in, exps_in, ty_in, tys_in, specs_in, cores_in, dec_in, first, rest};
 ghost use Rattle.sml_parse.specs.Stacks.{seen, value_of};
 
 use crate::item::Word;
@@ -133,5 +134,15 @@ impl Stack {
             Value::Cores(cores) => cores,
             _ => Vec::new(self.alloc),
         }
+    }
+
+    pub fn dec(&mut self) -> Option<BareDec>
+        ensures value { option_map dec_of result ≡ dec_in (first (seen self.old)) }
+        ensures rest { seen self.new ≡ rest (seen self.old) }
+    {
+        let Value::Dec(dec) = self.pop() else {
+            return None;
+        };
+        Some(dec)
     }
 }

@@ -3,3 +3,4 @@ mod Labels
 mod Sharing
 pub mod Parts
 mod Shapes
+mod Tallness

@@ -79,7 +79,7 @@ abbrev pub first : List Value → Value
 first [] = nothing
 first (value ∷ values) = value
 
-abbrev pub rest : List Value → List Value
+abbrev pub rest : {A : Type 0} → List A → List A
 rest [] = []
 rest (value ∷ values) = values
 
@@ -87,6 +87,6 @@ abbrev pub at : List Value → ℕ → Value
 at values zero = first values
 at values (suc n) = at (rest values) n
 
-abbrev pub without : ℕ → List Value → List Value
+abbrev pub without : {A : Type 0} → ℕ → List A → List A
 without zero values = values
 without (suc n) values = without n (rest values)

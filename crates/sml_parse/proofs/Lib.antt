@@ -4,3 +4,4 @@ mod Sharing
 pub mod Parts
 mod Shapes
 mod Tallness
+mod Declaring

@@ -1,5 +1,5 @@
 -- The parts of a long identifier, one after another.
-use Rattle.std.proofs.Common.{◌≡◌, ℕ, ◌-◌, map, append_assoc, append-nil, length-drop, ◌+◌, ◌<◌, ◌≤◌, List, [], ◌∷◌, ◌++◌, Bool, true, false, cond, Option, Some, None, length, take, drop, refl, sym, ap, ◌∙◌, subst, eqb, ltb, arith}
+use Rattle.std.proofs.Common.{◌≡◌, ℕ, ◌-◌, map, append_assoc, append-nil, length-drop, ◌+◌, ◌<◌, ◌≤◌, List, [], ◌∷◌, ◌++◌, Bool, true, false, Some, None, length, take, drop, refl, sym, ap, ◌∙◌, eqb, ltb, arith}
 use Rattle.std.specs.Prelude.{position, not}
 use Rattle.std.specs.List.{slice_split, position_or_len, onto_first}
 use Rattle.std.proofs.lemmas.Bool.{cond-true, cond-false, ltb-true, ltb-false}

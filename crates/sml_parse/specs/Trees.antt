@@ -1,5 +1,5 @@
 -- The bare declarations that a unit's tokens spell, and the fault that ends them.
-use Rattle.std.specs.Prelude.{◌≡◌, ℕ, ◌-◌, ◌≤◌, List, [], ◌∷◌, map, length, Option, Some, None, Bool, nat_le, if◌then◌else◌, filter_map}
+use Rattle.std.specs.Prelude.{◌≡◌, ℕ, ◌-◌, List, length, Option, Some, None, Bool, nat_le, if◌then◌else◌, filter_map}
 use Rattle.std.specs.List.{take_while, list_all}
 use Rattle.sml_lex.specs.declared.fault.Code.{Code}
 use Rattle.sml_lex.specs.declared.fault.Code.TheVariants as C
@@ -25,9 +25,13 @@ use Rattle.sml_parse.specs.Rules.{values_of}
 abbrev pub dec_of_items : List ℕ → List Item → Option (Dec Place)
 dec_of_items unit items = dec_in (first (values_of unit items))
 
--- the declarations that a derivation over these tokens spells, in order
+-- the declarations that the items of a derivation spell, in order
+abbrev pub decs_of_items : List ℕ → List Item → List (Dec Place)
+decs_of_items unit items = filter_map (dec_of_items unit) (declarations_of items)
+
+-- the same of a derivation over these tokens
 abbrev pub spelt : List ℕ → List Node → List Token → List (Dec Place)
-spelt unit nodes tokens = filter_map (dec_of_items unit) (declarations_of (items_of unit 0 nodes tokens))
+spelt unit nodes tokens = decs_of_items unit (items_of unit 0 nodes tokens)
 
 -- whether a declaration's tree isn't too high
 abbrev pub is_low : Dec Place → Bool

@@ -1,4 +1,4 @@
-use Rattle.std.proofs.Common.{sym, ap, ◌∙◌}
+use Rattle.std.proofs.Common.{ap, ◌∙◌}
 use Rattle.sml_parse.specs.Values.{tys_in, first}
 use Rattle.sml_parse.proofs.Shapes.{starred_tuple}
 use Rattle.sml_parse.proofs.build.pop_tuple.Goals as goal

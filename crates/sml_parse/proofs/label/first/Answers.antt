@@ -1,4 +1,4 @@
-use Rattle.std.proofs.Common.{◌+◌, sym, ◌∙◌, arith}
+use Rattle.std.proofs.Common.{sym, ◌∙◌, arith}
 use Rattle.sml_parse.proofs.Labels.{first_on}
 use Rattle.sml_parse.proofs.label.first.Goals as goal
 

@@ -1,4 +1,4 @@
-use Rattle.std.proofs.Common.{◌≡◌, ◌∙◌, length, sym, ap, subst, refl, cond}
+use Rattle.std.proofs.Common.{◌∙◌, length, sym, ap, subst, refl}
 use Rattle.std.proofs.lemmas.Bool.{ltb-true, cond-true, cond-false}
 use Rattle.std.proofs.lemmas.Option.{slice_get_read}
 use Rattle.sml_parse.specs.declared.item.Item.TheVariants as I

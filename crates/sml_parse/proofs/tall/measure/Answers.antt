@@ -1,5 +1,5 @@
-use Rattle.std.proofs.Common.{◌≡◌, ◌≤◌, sym, ap, ◌∙◌, drop, map, reverse, arith}
-use Rattle.sml_parse.specs.Values.{dec_in, first}
+use Rattle.std.proofs.Common.{◌≡◌, ap, ◌∙◌, drop, map, reverse, arith}
+use Rattle.sml_parse.specs.Values.{first}
 use Rattle.sml_parse.specs.Rules.{values_of}
 use Rattle.sml_parse.specs.Heights.{dec_tall, first_tall, tall_of}
 use Rattle.sml_parse.proofs.Tallness.{word_on, rule_on, first_tall-map, dec_tall-of}
@@ -8,9 +8,9 @@ use Rattle.sml_parse.proofs.tall.measure.Goals as goal
 
 pub loop-i-preserved : goal.loop-i-preserved
 loop-i-preserved c = λ unit. elim c.match-items-i.branch [
-      | in-Word w ↦ word_on unit c.args.items.now c.loop-i.i _ w.in-Word.field-0 c.loop-i.stack.items c.match-items-i.stack.items c.push.new.self.items c.match-items-i.tall (omega arith) (omega arith) w.in-Word.is (c.loop-i.invariant unit) (ap (λ s. s.items) w.stack-is) w.tall-is c.in_ok-push.ensures.items
-      | in-Rule w ↦ rule_on unit c.args.items.now c.loop-i.i _ w.in-Rule.rule c.loop-i.stack.items c.match-items-i.stack.items c.push.new.self.items c.match-items-i.tall (omega arith) (omega arith) w.in-Rule.is (c.loop-i.invariant unit) (ap (λ s. reverse s.items) w.stack-is ∙ w.pop_made-tall.ensures.rest) (w.tall-is ∙ w.pop_made-tall.ensures.made) c.in_ok-push.ensures.items
-    ]
+  | in-Word w ↦ word_on unit c.args.items.now c.loop-i.i _ w.in-Word.field-0 c.loop-i.stack.items c.match-items-i.stack.items c.push.new.self.items c.match-items-i.tall (omega arith) (omega arith) w.in-Word.is (c.loop-i.invariant unit) (ap (λ s. s.items) w.stack-is) w.tall-is c.in_ok-push.ensures.items
+  | in-Rule w ↦ rule_on unit c.args.items.now c.loop-i.i _ w.in-Rule.rule c.loop-i.stack.items c.match-items-i.stack.items c.push.new.self.items c.match-items-i.tall (omega arith) (omega arith) w.in-Rule.is (c.loop-i.invariant unit) (ap (λ s. reverse s.items) w.stack-is ∙ w.pop_made-tall.ensures.rest) (w.tall-is ∙ w.pop_made-tall.ensures.made) c.in_ok-push.ensures.items
+]
 
 pub returns : goal.returns
 returns c = λ unit.

@@ -1,4 +1,4 @@
-use Rattle.std.proofs.Common.{map, ap, ◌∙◌}
+use Rattle.std.proofs.Common.{map}
 use Rattle.sml_tree.specs.Views.{ident_of}
 use Rattle.sml_parse.proofs.Parts.{cut_more, cut_all}
 use Rattle.sml_parse.proofs.names.Names.long.Goals as goal

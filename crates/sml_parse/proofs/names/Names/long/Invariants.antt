@@ -1,6 +1,5 @@
 -- The parts so far, and those of what is left.
-use Rattle.std.proofs.Common.{◌≡◌, length, map, ◌++◌}
-use Rattle.sml_tree.specs.Trees.{LongId}
+use Rattle.std.proofs.Common.{◌≡◌, length, map}
 use Rattle.sml_tree.specs.Views.{ident_of}
 use Rattle.sml_parse.specs.Idents.{long_id}
 use Rattle.sml_parse.proofs.Parts.{behind}

@@ -1,6 +1,6 @@
-use Rattle.std.proofs.Common.{◌≡◌, ◌++◌, ◌≤◌, sym, ap, ◌∙◌, arith}
+use Rattle.std.proofs.Common.{◌++◌, sym, ap, ◌∙◌, arith}
 use Rattle.std.specs.Prelude.{slice_range}
-use Rattle.sml_parse.specs.Places.{place_behind, place_from}
+use Rattle.sml_parse.specs.Places.{place_behind}
 use Rattle.sml_parse.proofs.Ways.{slice_range-on}
 use Rattle.sml_parse.proofs.place.Walk.go_to.Goals as goal
 

@@ -8,5 +8,6 @@ mod longest;
 mod machine;
 mod numbers;
 mod pieces;
+mod strings;
 pub mod token;
 mod words;

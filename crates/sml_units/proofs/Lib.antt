@@ -1,3 +1,4 @@
+pub mod Answering
 pub mod Paths
 pub mod Dotting
 pub mod Seals

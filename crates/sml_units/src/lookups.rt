@@ -106,7 +106,10 @@ impl<'a> Context<'a> {
         &self,
         alloc: Global,
         long: &LongIdent,
-    ) -> Result<&'a Rc<Scheme>, TopFault> {
+    ) -> Result<&'a Rc<Scheme>, TopFault>
+        ensures { (locals : Map ℕ) (C : NameEnv) → Shows locals (env_of self.now.outer.now) (env_of self.now.inner.now) C → IsFree locals (long_of long.now)
+            → Answers (λ s. scheme_of s.now.value) result (need E1 long.now.place (long_of long.now) (value_at C (long_of long.now))) }
+    {
         if long.path.is_empty() {
             return found(alloc, self.short_value(&long.last), Code::E1, long);
         }

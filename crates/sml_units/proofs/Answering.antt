@@ -12,7 +12,7 @@ use Rattle.sml_rules.specs.Lookups.{Found, find_at, entry, found, no_path, no_en
 use Rattle.sml_rules.specs.Answers.{Answer, Reading, refused, accepted, After, give, ◌>>=◌, test, need, fault_at}
 use Rattle.sml_units.specs.declared.top_fault.TopFault.{TopFault}
 use Rattle.sml_units.specs.declared.top_fault.TopFault.TheVariants.{Memory, Fault}
-use Rattle.sml_units.specs.Elaborated.{Answers, IsFaultOf, LeadsTo}
+use Rattle.sml_units.specs.Elaborated.{Answers, IsMade, IsFaultOf, LeadsTo}
 
 pub leads_nowhere : {X : Type 0} (view : X → Env Name) (C : Env Name) (p : Place) (path s : List Id) (f : TopFault)
     → ((pick : Env Name → Option (Scheme Name)) → find_at pick [] path C ≡ no_path s) → IsFaultOf f (fault_at E3 p s) → LeadsTo view C p path (Err f)
@@ -76,3 +76,38 @@ pub leads_refused : {X Y : Type 0} (view : X → Env Name) (see : Y → Scheme N
 leads_refused view see c p x C pick r Memory h e = tt
 leads_refused view see c p x C pick r (Fault g) (s, h, k) e =
     subst (λ r. need c p x r (refused (fault_of g))) (sym (e (no_path s) (h pick))) (ap refused k)
+
+-- what was made is what the reading accepts
+pub made_so : {X Y : Type 0} (y : Y) (view : X → Y) (r : Result X TopFault) (R : Reading Place Y) → IsMade y view r → R (accepted y) → Answers view r R
+made_so y view (Ok x) R h k = subst (λ z. R (accepted z)) (sym h) k
+made_so y view (Err Memory) R h k = tt
+made_so y view (Err (Fault f)) R h k = absurd h
+
+pub made_same : {X Y : Type 0} (y z : Y) (view : X → Y) (r : Result X TopFault) → y ≡ z → IsMade y view r → IsMade z view r
+made_same y z view r e h = subst (λ y. IsMade y view r) e h
+
+-- a fault is one whatever is seen of a result
+unfoldable pub RefusedBy : {Y : Type 0} → TopFault → Reading Place Y → Type 0
+RefusedBy Memory R = Unit {0}
+RefusedBy (Fault f) R = R (refused (fault_of f))
+
+pub refusal : {X Y : Type 0} (view : X → Y) (f : TopFault) (R : Reading Place Y) → Answers view (Err f) R → RefusedBy f R
+unfolding RefusedBy
+refusal view Memory R h = tt
+refusal view (Fault f) R h = h
+
+pub refuses : {X Y : Type 0} (view : X → Y) (f : TopFault) (R : Reading Place Y) → RefusedBy f R → Answers view (Err f) R
+unfolding RefusedBy
+refuses view Memory R h = tt
+refuses view (Fault f) R h = h
+
+-- the first of two is refused
+pub first_refused : {X Y : Type 0} (m : Reading Place X) (next : X → Reading Place Y) (f : TopFault) → RefusedBy f m → RefusedBy f (m >>= next)
+unfolding RefusedBy
+first_refused m next Memory h = tt
+first_refused m next (Fault f) h = then_refused m next (fault_of f) h
+
+pub refused_on : {X Y : Type 0} (f : TopFault) (R : Reading Place X) (S : Reading Place Y) → ((g : F.Fault Place) → R (refused g) → S (refused g)) → RefusedBy f R → RefusedBy f S
+unfolding RefusedBy
+refused_on Memory R S h k = tt
+refused_on (Fault f) R S h k = h (fault_of f) k

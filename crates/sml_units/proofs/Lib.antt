@@ -1,3 +1,5 @@
+pub mod TypeAnswers
+pub mod Vectors
 pub mod Answering
 pub mod Paths
 pub mod Dotting

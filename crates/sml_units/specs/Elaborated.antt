@@ -26,6 +26,12 @@ Answers view (Ok x) R = R (accepted (view x))
 Answers view (Err Memory) R = Unit {0}
 Answers view (Err (Fault f)) R = R (refused (fault_of f))
 
+-- this object was made, unless memory was refused
+abbrev pub IsMade : {X Y : Type 0} → Y → (X → Y) → Result X TopFault → Type 0
+IsMade y view (Ok x) = view x ≡ y
+IsMade y view (Err Memory) = Unit {0}
+IsMade y view (Err (Fault f)) = ⊥
+
 -- this fault, or want of memory
 abbrev pub IsFaultOf : TopFault → F.Fault Place → Type 0
 IsFaultOf Memory f = Unit {0}

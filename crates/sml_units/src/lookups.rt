@@ -102,11 +102,7 @@ impl<'a> Context<'a> {
     }
 
     /// The scheme of a value, or that it is unbound.
-    pub(crate) fn value(
-        &self,
-        alloc: Global,
-        long: &LongIdent,
-    ) -> Result<&'a Rc<Scheme>, TopFault>
+    pub(crate) fn value(&self, alloc: Global, long: &LongIdent) -> Result<&'a Rc<Scheme>, TopFault>
         ensures { (locals : Map ℕ) (C : NameEnv) → Shows locals (env_of self.now.outer.now) (env_of self.now.inner.now) C → IsFree locals (long_of long.now)
             → Answers (λ s. scheme_of s.now.value) result (need E1 long.now.place (long_of long.now) (value_at C (long_of long.now))) }
     {

@@ -6,3 +6,4 @@ pub mod TypeCopies
 pub mod Renaming
 pub mod Instances
 pub mod Closings
+pub mod EqualityViews

@@ -7,3 +7,4 @@ pub mod Views
 pub mod Types
 pub mod Sizes
 pub mod Puts
+pub mod Equality

@@ -3,6 +3,7 @@
 
 pub mod bases;
 pub mod environments;
+pub mod equality;
 pub mod objects;
 pub mod replacements;
 pub mod schemes;

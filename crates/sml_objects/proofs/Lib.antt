@@ -7,3 +7,5 @@ pub mod Renaming
 pub mod Instances
 pub mod Closings
 pub mod EqualityViews
+pub mod NameTests
+pub mod Appearances

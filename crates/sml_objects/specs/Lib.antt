@@ -8,3 +8,4 @@ pub mod Types
 pub mod Sizes
 pub mod Puts
 pub mod Equality
+pub mod Appearance

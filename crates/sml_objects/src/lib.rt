@@ -4,7 +4,8 @@
 pub mod bases;
 pub mod environments;
 pub mod equality;
+mod names;
 pub mod objects;
-pub mod replacements;
+mod replacements;
 pub mod schemes;
 pub mod sizes;

@@ -9,3 +9,4 @@ pub mod Sizes
 pub mod Puts
 pub mod Equality
 pub mod Appearance
+pub mod Laws

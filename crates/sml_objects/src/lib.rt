@@ -4,6 +4,7 @@
 pub mod bases;
 pub mod environments;
 pub mod equality;
+pub mod laws;
 mod names;
 pub mod objects;
 mod replacements;

@@ -9,3 +9,5 @@ pub mod Closings
 pub mod EqualityViews
 pub mod NameTests
 pub mod Appearances
+pub mod SortedMaps
+pub mod RenamedParts

@@ -7,6 +7,7 @@ pub mod equality;
 pub mod laws;
 mod names;
 pub mod objects;
+mod renames;
 mod replacements;
 pub mod schemes;
 pub mod sizes;

@@ -11,3 +11,4 @@ pub mod NameTests
 pub mod Appearances
 pub mod SortedMaps
 pub mod RenamedParts
+pub mod NamePlaces

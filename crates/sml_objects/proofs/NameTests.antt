@@ -75,14 +75,14 @@ same-eq (T.Made m) (T.Made n) e =
     let q : m.equality ≡ n.equality = cc in
     and-true _ _ (eq-eqb _ _ u) (and-true _ _ (eq-eqb _ _ k) (and-true _ _ (eq-eqb _ _ a) ((booleans_Decides m.equality n.equality).1 q)))
 
-abbrev same : Name → Name → Bool
+abbrev pub same : Name → Name → Bool
 same n m = elim (naming.same n m) [ yes _ ↦ true | no _ ↦ false ]
 
 not-true : (b : Bool) → ¬ (b ≡ true) → b ≡ false
 not-true true h = absurd (h refl)
 not-true false h = refl
 
-eq-is : (x y : TyName) → eq x y ≡ same (name_of x) (name_of y)
+pub eq-is : (x y : TyName) → eq x y ≡ same (name_of x) (name_of y)
 unfolding naming
 eq-is x y =
     elim (naming.same (name_of x) (name_of y)) as (λ d. eq x y ≡ elim d [ yes _ ↦ true | no _ ↦ false ]) [
@@ -90,7 +90,7 @@ eq-is x y =
       | no h ↦ not-true (eq x y) (λ t. h (eq-same x y t))
     ]
 
-stands-any : (n : TyName) (ms : List TyName) → stands naming (name_of n) (map name_of ms) ≡ list_any (eq n) ms
+pub stands-any : (n : TyName) (ms : List TyName) → stands naming (name_of n) (map name_of ms) ≡ list_any (eq n) ms
 unfolding stands naming
 stands-any n [] = refl
 stands-any n (m ∷ ms) =

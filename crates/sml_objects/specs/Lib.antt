@@ -10,3 +10,4 @@ pub mod Puts
 pub mod Equality
 pub mod Appearance
 pub mod Laws
+pub mod Canonical

@@ -46,7 +46,7 @@ fn is_reference(name: TyName) -> bool
     }
 }
 
-fn has_equality(name: TyName) -> bool
+pub(crate) fn has_equality(name: TyName) -> bool
     ensures { result ≡ (attributes_of (name_of name)).equality }
 {
     match name {

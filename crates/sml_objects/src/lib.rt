@@ -2,6 +2,7 @@
 #![tactic(auto)]
 
 pub mod bases;
+pub mod canonical;
 pub mod environments;
 pub mod equality;
 pub mod laws;

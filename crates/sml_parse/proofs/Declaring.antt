@@ -10,12 +10,12 @@ use Rattle.std.proofs.lemmas.List.Sums.{take_while-cons}
 use Rattle.std.proofs.lemmas.Bool.{cond-true, cond-false, and_parts, le-leb, lt-leb}
 use Rattle.sml_lex.specs.declared.fault.Place.{Place}
 use Rattle.sml_tree.specs.Trees.{Dec}
-use Rattle.sml_tree.specs.Height.{dec_height}
+use Rattle.sml_tree.specs.Height.{counted, dec_height}
 use Rattle.sml_tree.specs.Views.{dec_of}
 use Rattle.sml_tree.specs.declared.bare.BareDec.{BareDec}
 use Rattle.sml_parse.specs.declared.item.Item.{Item}
 use Rattle.sml_parse.specs.Items.{begins, ends}
-use Rattle.sml_parse.specs.Heights.{counted, height_if_any}
+use Rattle.sml_parse.specs.Heights.{height_if_any}
 use Rattle.sml_parse.specs.Trees.{dec_of_items, decs_of_items, is_low}
 
 -- where no declaration begins

@@ -5,7 +5,7 @@ use Rattle.std.proofs.lemmas.List.{drop_more, reverse-append}
 use Rattle.sml_parse.specs.declared.item.Word.{Word}
 use Rattle.sml_lex.specs.declared.fault.Place.{Place}
 use Rattle.sml_tree.specs.Trees as T
-use Rattle.sml_tree.specs.Height.{exp_height, exps_height, ty_height, tys_height, specs_height, decs_height}
+use Rattle.sml_tree.specs.Height.{counted, exp_height, exps_height, ty_height, tys_height, specs_height, decs_height}
 use Rattle.sml_read.specs.declared.grammar.Rule.{Rule}
 use Rattle.sml_read.specs.declared.grammar.Rule.TheVariants.{StartEnd, StartSemicolon, StartTop, FollowingEnd, FollowingSemicolon, FollowingTop, TopVal, TopStructure, SpecsEnd, SpecsSemicolon, SpecsSpec, SpecVal, SpecType, DecsEnd, DecsSemicolon, DecsDec, DecVal, DecType, ExpInteger, ExpName, ExpLong, ExpOpen, ExpFn, OpenClose, OpenExp, ExpsClose, ExpsComma, TyTup, TyEnd, TyArrow, TupCon, TupEnd, TupStar, ConName, ConLong, ConOpen, NameValue, NameOther}
 use Rattle.sml_read.specs.Grammar.{right_side}
@@ -15,7 +15,7 @@ use Rattle.sml_parse.specs.declared.tall.Tall.{Tall}
 use Rattle.sml_parse.specs.declared.tall.Tall.TheVariants as H
 use Rattle.sml_parse.specs.Values.{Value, nothing, of_word, of_exp, of_exps, of_ty, of_tys, of_spec, of_specs, of_core, of_cores, of_dec, exp_in, exps_in, ty_in, tys_in, specs_in, cores_in, dec_in, with_spec, with_core, with_arrow, in_brackets, with_stars, first, rest, at, without}
 use Rattle.sml_parse.specs.Rules.{made, values_of}
-use Rattle.sml_parse.specs.Heights.{counted, tall_of, height_if_any, exp_tall, exps_tall, ty_tall, tys_tall, spec_tall, specs_tall, core_tall, cores_tall, dec_tall, arrow_tall, tuple_tall, first_tall, tall_at, raised}
+use Rattle.sml_parse.specs.Heights.{tall_of, height_if_any, exp_tall, exps_tall, ty_tall, tys_tall, spec_tall, specs_tall, core_tall, cores_tall, dec_tall, arrow_tall, tuple_tall, first_tall, tall_at, raised}
 
 pub first_tall-map : (vs : List Value) → first_tall (map tall_of vs) ≡ tall_of (first vs)
 first_tall-map [] = refl

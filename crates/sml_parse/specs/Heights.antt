@@ -2,15 +2,12 @@
 use Rattle.std.specs.Prelude.{ℕ, zero, suc, ◌+◌, ◌-◌, ◌^◌, ◌==◌, min, max, List, [], ◌∷◌, Option, Some, None, if◌then◌else◌}
 use Rattle.sml_lex.specs.declared.fault.Place.{Place}
 use Rattle.sml_tree.specs.Trees.{Dec}
-use Rattle.sml_tree.specs.Height.{exp_height, exps_height, ty_height, tys_height, spec_height, specs_height, core_height, decs_height, dec_height}
+use Rattle.sml_tree.specs.Height.{counted, exp_height, exps_height, ty_height, tys_height, spec_height, specs_height, core_height, decs_height, dec_height}
 use Rattle.sml_read.specs.declared.grammar.Rule.{Rule}
 use Rattle.sml_read.specs.declared.grammar.Rule.TheVariants.{StartEnd, StartSemicolon, StartTop, FollowingEnd, FollowingSemicolon, FollowingTop, TopVal, TopStructure, SpecsEnd, SpecsSemicolon, SpecsSpec, SpecVal, SpecType, DecsEnd, DecsSemicolon, DecsDec, DecVal, DecType, ExpInteger, ExpName, ExpLong, ExpOpen, ExpFn, OpenClose, OpenExp, ExpsClose, ExpsComma, TyTup, TyEnd, TyArrow, TupCon, TupEnd, TupStar, ConName, ConLong, ConOpen, NameValue, NameOther}
 use Rattle.sml_parse.specs.declared.tall.Tall.{Tall}
 use Rattle.sml_parse.specs.declared.tall.Tall.TheVariants as H
 use Rattle.sml_parse.specs.Values.{Value, nothing, of_word, of_exp, of_exps, of_ty, of_tys, of_spec, of_specs, of_core, of_cores, of_dec, rest}
-
-abbrev pub counted : ℕ → ℕ
-counted n = min n (2 ^ 32 - 1)
 
 abbrev pub tall_of : Value → Tall
 tall_of nothing = H.Nothing

@@ -3,7 +3,8 @@ ghost use Rattle.std.specs.Prelude.{◌≡◌, ℕ, ◌+◌, max, List, reverse,
 ghost use Rattle.sml_read.specs.Grammar.{right_side};
 ghost use Rattle.sml_parse.specs.Values.{dec_in, first, rest, without};
 ghost use Rattle.sml_parse.specs.Rules.{values_of};
-ghost use Rattle.sml_parse.specs.Heights.{counted, height_if_any, exp_tall, exps_tall, ty_tall, tys_tall, spec_tall, specs_tall, core_tall, cores_tall, dec_tall, arrow_tall, tuple_tall, first_tall, tall_at, raised};
+ghost use Rattle.sml_tree.specs.Height.{counted};
+ghost use Rattle.sml_parse.specs.Heights.{height_if_any, exp_tall, exps_tall, ty_tall, tys_tall, spec_tall, specs_tall, core_tall, cores_tall, dec_tall, arrow_tall, tuple_tall, first_tall, tall_at, raised};
 
 use crate::item::Item;
 use sml_lex::fault::Memory;

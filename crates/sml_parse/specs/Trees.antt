@@ -37,12 +37,12 @@ spelt unit nodes tokens = decs_of_items unit (items_of unit 0 nodes tokens)
 abbrev pub is_low : Dec Place → Bool
 is_low dec = nat_le (dec_height dec) 4000
 
-abbrev pub fault_from : List ℕ → Code → ℕ → ℕ → Option Fault
+abbrev pub fault_from : List ℕ → Code → ℕ → ℕ → Option (Fault Place)
 fault_from unit code start at = Some (record { code = code; place = place_from unit start at; detail = None })
 
 -- The fault at which reading ended, counted from where the declaration being read begins. Where no declaration
 -- is open a lexical fault is its own beginning.
-abbrev pub fault_read : List ℕ → List Token → End → ℕ → Option Cause → Option Fault
+abbrev pub fault_read : List ℕ → List Token → End → ℕ → Option Cause → Option (Fault Place)
 fault_read unit tokens end begun None = None
 fault_read unit tokens end begun (Some (Unexpected index)) = fault_from unit C.S1 (start_of tokens begun 0) (start_of tokens index 0)
 fault_read unit tokens end begun (Some TooEarly) = fault_from unit C.S2 (start_of tokens begun 0) (start_of tokens (length tokens - 1) 0)
@@ -51,7 +51,7 @@ fault_read unit tokens (E.Fault stop) begun (Some Lexical) = fault_from unit sto
 
 -- The tokens are read; of the declarations that they spell these are all up to the first that is too high, and
 -- the fault is that one's, or the one at which reading ended.
-pub record Trees (unit : List ℕ) (tokens : List Token) (end : End) (decs : List (Dec Place)) (fault : Option Fault) : Type 0 where
+pub record Trees (unit : List ℕ) (tokens : List Token) (end : End) (decs : List (Dec Place)) (fault : Option (Fault Place)) : Type 0 where
   pub nodes : List Node
   pub begun : ℕ
   pub cause : Option Cause

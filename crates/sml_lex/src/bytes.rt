@@ -1,0 +1,105 @@
+//! The bytes of tokens.
+ghost use Rattle.std.specs.Prelude.{◌≡◌, ◌≤◌, length, drop};
+ghost use Rattle.sml_lex.specs.Bytes.{is_white, is_digit, is_hex_digit, is_letter, is_name_byte, is_sign, is_mark, starts_with, starts_with_both};
+
+/// Space, tab, newline, form feed or carriage return.
+pub fn white(byte: u8) -> bool
+    ensures { result ≡ is_white byte }
+{
+    byte == 32 || byte == 9 || byte == 10 || byte == 12 || byte == 13
+}
+
+pub fn digit(byte: u8) -> bool
+    ensures { result ≡ is_digit byte }
+{
+    byte >= 48 && byte <= 57
+}
+
+pub fn hex_digit(byte: u8) -> bool
+    ensures { result ≡ is_hex_digit byte }
+{
+    digit(byte) || byte >= 65 && byte <= 70 || byte >= 97 && byte <= 102
+}
+
+pub fn letter(byte: u8) -> bool
+    ensures { result ≡ is_letter byte }
+{
+    byte >= 65 && byte <= 90 || byte >= 97 && byte <= 122
+}
+
+/// A letter, a digit, a prime or an underscore.
+pub fn name_byte(byte: u8) -> bool
+    ensures { result ≡ is_name_byte byte }
+{
+    letter(byte) || digit(byte) || byte == 39 || byte == 95
+}
+
+/// A byte of symbolic identifiers.
+pub fn sign(byte: u8) -> bool
+    ensures { result ≡ is_sign byte }
+{
+    byte == 33
+        || byte >= 35 && byte <= 38
+        || byte >= 42 && byte <= 43
+        || byte == 45
+        || byte == 47
+        || byte == 58
+        || byte >= 60 && byte <= 64
+        || byte == 92
+        || byte == 94
+        || byte == 96
+        || byte == 124
+        || byte == 126
+}
+
+/// A byte that is a reserved word, whatever follows.
+pub fn mark(byte: u8) -> bool
+    ensures { result ≡ is_mark byte }
+{
+    byte >= 40 && byte <= 41
+        || byte == 44
+        || byte == 59
+        || byte == 91
+        || byte == 93
+        || byte == 95
+        || byte == 123
+        || byte == 125
+}
+
+pub fn starts(text: &[u8], byte: u8) -> bool
+    ensures { result ≡ starts_with byte text.now }
+{
+    match text {
+        [first, ..] => *first == byte,
+        [] => false,
+    }
+}
+
+/// Whether the text begins with these two bytes.
+pub fn starts_both(text: &[u8], first: u8, second: u8) -> bool
+    ensures { result ≡ starts_with_both first second text.now }
+{
+    if text.len() < 2 {
+        return false;
+    }
+    text[0] == first && text[1] == second
+}
+
+/// What is left behind so many bytes.
+pub fn behind(text: &[u8], count: usize) -> &[u8]
+    ensures { result.now ≡ drop count text.now }
+{
+    if count <= text.len() {
+        &text[count..]
+    } else {
+        &[]
+    }
+}
+
+/// Whether these two bytes stand at a place.
+pub fn stand(text: &[u8], place: usize, first: u8, second: u8) -> bool
+    requires { place ≤ length text.now }
+    ensures { result ≡ starts_with_both first second (drop place text.now) }
+{
+    starts_both(&text[place..], first, second)
+}

@@ -1,0 +1,93 @@
+//! The values of integers and words.
+ghost use Rattle.std.specs.Prelude.{◌≡◌, ◌+◌, ◌*◌, ◌^◌, ◌<◌, ◌≤◌, length};
+ghost use Rattle.std.specs.Option.{MatchOption};
+ghost use Rattle.sml_lex.specs.Numbers.{digit_value, number, magnitude, word_value, is_some_below, fits};
+
+use crate::bytes::{behind, digit, starts, starts_both};
+use crate::token::Kind;
+
+fn value_of_digit(byte: u8) -> u8
+    ensures { result ≡ digit_value byte }
+{
+    if digit(byte) {
+        byte - 48
+    } else if byte >= 65 && byte <= 70 {
+        byte - 55
+    } else {
+        byte.saturating_sub(87)
+    }
+}
+
+/// One more digit, where the number stays below 2 to the 64.
+fn with_digit(value: u64, base: u64, byte: u8) -> Option<u64>
+    ensures { MatchOption result (2 ^ 64 ≤ value * base + digit_value byte) (λ more. more ≡ value * base + digit_value byte) }
+{
+    match value.checked_mul(base) {
+        Some(product) => product.checked_add(value_of_digit(byte) as u64),
+        None => None,
+    }
+}
+
+/// The number that these digits write, where it is below 2 to the 64.
+pub fn number_of(digits: &[u8], base: u64) -> Option<u64>
+    requires { 0 < base }
+    ensures { MatchOption result (2 ^ 64 ≤ number base digits.now) (λ value. value ≡ number base digits.now) }
+{
+    let mut value = 0;
+    for byte in digits {
+        match with_digit(value, base, *byte) {
+            Some(more) => value = more,
+            None => return None,
+        }
+    }
+    Some(value)
+}
+
+fn magnitude_of(text: &[u8]) -> Option<u64>
+    ensures { MatchOption result (2 ^ 64 ≤ magnitude text.now) (λ value. value ≡ magnitude text.now) }
+{
+    let digits = if starts(text, 126) {
+        behind(text, 1)
+    } else {
+        text
+    };
+    if starts_both(digits, 48, 120) {
+        number_of(behind(digits, 2), 16)
+    } else {
+        number_of(digits, 10)
+    }
+}
+
+fn word_value_of(text: &[u8]) -> Option<u64>
+    ensures { MatchOption result (2 ^ 64 ≤ word_value text.now) (λ value. value ≡ word_value text.now) }
+{
+    let digits = behind(text, 2);
+    if starts(digits, 120) {
+        number_of(behind(digits, 1), 16)
+    } else {
+        number_of(digits, 10)
+    }
+}
+
+pub fn is_below(value: Option<u64>, limit: u64) -> bool
+    ensures { result ≡ is_some_below value limit }
+{
+    match value {
+        Some(value) => value < limit,
+        None => false,
+    }
+}
+
+/// Whether a constant is within its limit.
+pub fn is_within_limit(kind: Kind, text: &[u8]) -> bool
+    ensures { result ≡ fits kind text.now }
+{
+    match kind {
+        Kind::Numeral | Kind::ZeroNumeral | Kind::Integer => is_below(
+            magnitude_of(text),
+            9_223_372_036_854_775_808,
+        ),
+        Kind::WordConstant => word_value_of(text).is_some(),
+        _ => true,
+    }
+}

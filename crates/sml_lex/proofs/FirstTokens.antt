@@ -35,25 +35,25 @@ starts_both_take x y (suc n) (c ∷ rest) e = go (c == x) e
     go true e = starts_take y n rest e
     go false e = e
 
-starts_one : (x y : ℕ) (text : List ℕ) → starts_with x text ≡ true → starts_with y text ≡ true → x ≡ y
+pub starts_one : (x y : ℕ) (text : List ℕ) → starts_with x text ≡ true → starts_with y text ≡ true → x ≡ y
 starts_one x y [] e f = absurd (false_is_true e)
 starts_one x y (c ∷ text) e f = sym (eqb-true _ _ e) ∙ eqb-true _ _ f
 
-both_starts : (x y : ℕ) (text : List ℕ) → starts_with_both x y text ≡ true → starts_with x text ≡ true
+pub both_starts : (x y : ℕ) (text : List ℕ) → starts_with_both x y text ≡ true → starts_with x text ≡ true
 both_starts x y [] e = e
 both_starts x y (c ∷ text) e = first_true (c == x) (starts_with y text) e
 
-other_start : (x y z : ℕ) (text : List ℕ) → starts_with x text ≡ true → (x ≡ y → ⊥) → starts_with_both y z text ≡ false
+pub other_start : (x y z : ℕ) (text : List ℕ) → starts_with x text ≡ true → (x ≡ y → ⊥) → starts_with_both y z text ≡ false
 other_start x y z text e n = go (starts_with_both y z text) refl
   where
     go : (b : Bool) → starts_with_both y z text ≡ b → starts_with_both y z text ≡ false
     go true h = absurd (n (starts_one x y text e (both_starts y z text h)))
     go false h = h
 
-string_starts : (text : List ℕ) → IsString text → opens_string text ≡ true
+pub string_starts : (text : List ℕ) → IsString text → opens_string text ≡ true
 string_starts text s = ap (starts_with 34) s.2
 
-character_starts : (text : List ℕ) → IsCharacter text → opens_character text ≡ true
+pub character_starts : (text : List ℕ) → IsCharacter text → opens_character text ≡ true
 character_starts text s = ap (starts_with_both 35 34) s.3
 
 -- a token that is cut
@@ -76,7 +76,7 @@ whole_long rest size l = go (size == 1) refl
     go false e = refl
 
 -- what the machine doesn't read
-never_fresh : (c : ℕ) (text : List ℕ) (kind : Kind) → (Reads Fresh [] (c ∷ text) kind → ⊥) → token_kind (c ∷ text) ≡ Some kind → ⊥
+pub never_fresh : (c : ℕ) (text : List ℕ) (kind : Kind) → (Reads Fresh [] (c ∷ text) kind → ⊥) → token_kind (c ∷ text) ≡ Some kind → ⊥
 never_fresh c text kind n e = n (record { read = e })
 
 quote_never : (text : List ℕ) (kind : Kind) → token_kind (34 ∷ text) ≡ Some kind → ⊥
@@ -85,12 +85,12 @@ quote_never text kind e = never_fresh 34 text kind (λ h. dead _ text kind (next
 hash_quote_never : (text : List ℕ) (kind : Kind) → token_kind (35 ∷ 34 ∷ text) ≡ Some kind → ⊥
 hash_quote_never text kind e = never_fresh 35 (34 ∷ text) kind (λ h. dead _ text kind (next (next h))) e
 
-at_quote : (n : ℕ) (rest : List ℕ) (kind : Kind) → opens_string rest ≡ true → token_kind (take n rest) ≡ Some kind → ⊥
+pub at_quote : (n : ℕ) (rest : List ℕ) (kind : Kind) → opens_string rest ≡ true → token_kind (take n rest) ≡ Some kind → ⊥
 at_quote zero rest kind o e = none_is_some kind e
 at_quote (suc n) [] kind o e = none_is_some kind e
 at_quote (suc n) (c ∷ rest) kind o e = quote_never (take n rest) kind (ap (λ c. token_kind (c ∷ take n rest)) (sym (eqb-true _ _ o)) ∙ e)
 
-at_hash : (n : ℕ) (rest : List ℕ) (kind : Kind) → opens_character rest ≡ true → 1 < n → token_kind (take n rest) ≡ Some kind → ⊥
+pub at_hash : (n : ℕ) (rest : List ℕ) (kind : Kind) → opens_character rest ≡ true → 1 < n → token_kind (take n rest) ≡ Some kind → ⊥
 at_hash zero rest kind o l e = absurd (omega (arith, l))
 at_hash (suc zero) rest kind o l e = absurd (omega (arith, l))
 at_hash (suc (suc n)) [] kind o l e = none_is_some kind e

@@ -2,6 +2,7 @@ pub mod Beginnings
 pub mod ByteClasses
 pub mod Comments
 pub mod DigitValues
+pub mod FirstPieces
 pub mod FirstTokens
 pub mod ReadNumbers
 pub mod ReadTokens
@@ -11,3 +12,4 @@ pub mod Spelling
 pub mod StringItems
 pub mod StringScans
 pub mod TokensRead
+pub mod Unique

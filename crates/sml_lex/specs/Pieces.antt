@@ -126,3 +126,7 @@ pub record IsOverLimit (unit : List ℕ) (tokens : List Token) (end : End) : Typ
 -- the tokens that the bytes of a unit spell, and where they end
 abbrev pub Spells : List ℕ → List Token → End → Type 0
 Spells unit tokens end = SpellsUnit unit tokens end ⊎ IsOverLimit unit tokens end
+
+-- one list of bytes spells one answer
+abbrev pub SpellingIsUnique : Type 0
+SpellingIsUnique = (unit : List ℕ) (tokens others : List Token) (end stop : End) → Spells unit tokens end → Spells unit others stop → (tokens ≡ others) × (end ≡ stop)

@@ -3,6 +3,7 @@
 
 mod bytes;
 pub mod fault;
+pub mod laws;
 pub mod lexer;
 mod longest;
 mod machine;

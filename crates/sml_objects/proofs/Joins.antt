@@ -36,7 +36,7 @@ joined-next f before old new ys zs k x v w inserted yielded key value h =
     ∙ ap (λ l. join before (entries_of f l)) (sym yielded)
 
 -- the same seen through a function
-abbrev mapped : {A X : Type 0} → (A → X) → Map A → Map X
+abbrev pub mapped : {A X : Type 0} → (A → X) → Map A → Map X
 mapped g m = map (λ e. (e.0, g e.1)) m
 
 mapped-put : {A X : Type 0} (g : A → X) (m : Map A) (x : Id) (v : A) → mapped g (put x v m) ≡ put x (g v) (mapped g m)

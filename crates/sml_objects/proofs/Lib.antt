@@ -6,3 +6,9 @@ pub mod TypeCopies
 pub mod Renaming
 pub mod Instances
 pub mod Closings
+pub mod EqualityViews
+pub mod NameTests
+pub mod Appearances
+pub mod SortedMaps
+pub mod RenamedParts
+pub mod NamePlaces

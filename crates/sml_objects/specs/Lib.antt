@@ -7,3 +7,7 @@ pub mod Views
 pub mod Types
 pub mod Sizes
 pub mod Puts
+pub mod Equality
+pub mod Appearance
+pub mod Laws
+pub mod Canonical

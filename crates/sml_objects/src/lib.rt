@@ -2,8 +2,13 @@
 #![tactic(auto)]
 
 pub mod bases;
+pub mod canonical;
 pub mod environments;
+pub mod equality;
+pub mod laws;
+mod names;
 pub mod objects;
-pub mod replacements;
+mod renames;
+mod replacements;
 pub mod schemes;
 pub mod sizes;

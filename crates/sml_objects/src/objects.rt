@@ -5,13 +5,13 @@ use std::collections::BTreeMap;
 use std::rc::Rc;
 
 /// A unit: its place among the unit lines of its project, from 0.
-#[derive(Clone, Copy, PartialEq, Eq, Debug)]
+#[derive(Clone, Copy, PartialEq, Eq, Hash, Debug)]
 pub struct UnitId {
     pub index: u32,
 }
 
 /// An initial type name.
-#[derive(Clone, Copy, PartialEq, Eq, Debug)]
+#[derive(Clone, Copy, PartialEq, Eq, Hash, Debug)]
 pub enum Initial {
     Int,
     Word,
@@ -25,7 +25,7 @@ pub enum Initial {
 }
 
 /// A type name that a unit made: its number there, counted from 0, and what it carries.
-#[derive(Clone, Copy, PartialEq, Eq, Debug)]
+#[derive(Clone, Copy, PartialEq, Eq, Hash, Debug)]
 pub struct MadeName {
     pub unit: UnitId,
     pub number: u32,
@@ -34,7 +34,7 @@ pub struct MadeName {
 }
 
 /// A type name.
-#[derive(Clone, Copy, PartialEq, Eq, Debug)]
+#[derive(Clone, Copy, PartialEq, Eq, Hash, Debug)]
 pub enum TyName {
     Initial(Initial),
     Made(MadeName),

@@ -1,0 +1,111 @@
+//! Canonical names: what a declaration made is numbered by first appearance.
+
+ghost use Rattle.std.specs.Prelude.{◌≡◌, ◌+◌, ◌≤◌, ◌^◌, IfOk, length, map, filter};
+ghost use Rattle.sml_objects.specs.Canonical as C;
+ghost use Rattle.sml_objects.specs.Initial.{attributes_of};
+ghost use Rattle.sml_objects.specs.Objects.{rename_sig};
+ghost use Rattle.sml_objects.specs.Views.{sig_of, name_of, maker_of};
+
+use crate::equality::has_equality;
+use crate::names::{collect_env, collect_names};
+use crate::objects::{Basis, Initial, MadeName, TyName, UnitId};
+use crate::renames::{NameMap, renamed_env, renamed_names};
+use indexmap::IndexSet;
+use sml_lex::fault::Memory;
+use std::alloc::Global;
+
+/// The basis with the unit's names that have no number below the count renumbered, from the count on, in the order in
+/// which they first appear: in the lines of the environment, and then among the names that stand nowhere in it.
+pub fn canonical(alloc: Global, basis: &Basis, unit: UnitId, count: u32) -> Result<Basis, Memory>
+    requires { count + length (C.new_names (maker_of unit) count (sig_of basis.now)) ≤ 2 ^ 20 }
+    ensures sig { IfOk result (λ b. sig_of b ≡ C.canonical (maker_of unit) count (sig_of basis.now)) }
+    ensures unit { IfOk result (λ b. b.unit ≡ basis.now.unit) }
+{
+    let names = new_names(alloc, basis, unit, count)?;
+    let by = Numbering {
+        unit,
+        count,
+        names: &names,
+    };
+    renumbered(alloc, basis, &by)
+}
+
+fn new_names(
+    alloc: Global,
+    basis: &Basis,
+    unit: UnitId,
+    count: u32,
+) -> Result<IndexSet<TyName>, Memory>
+    ensures { IfOk result (λ s. map name_of s.keys ≡ C.new_names (maker_of unit) count (sig_of basis.now)) }
+{
+    let mut names = IndexSet::new(alloc);
+    collect_env(&basis.env, &mut names)?;
+    collect_names(&basis.names, &mut names)?;
+    keep_new(&mut names, unit, count);
+    Ok(names)
+}
+
+fn keep_new(names: &mut IndexSet<TyName>, unit: UnitId, count: u32)
+    ensures { names.new.keys ≡ filter (λ n. C.is_new (maker_of unit) count (name_of n)) names.old.keys }
+{
+    names.retain(|name| is_new(*name, unit, count));
+}
+
+/// Whether the unit made this name, with no number below the count.
+fn is_new(name: TyName, unit: UnitId, count: u32) -> bool
+    ensures { result ≡ C.is_new (maker_of unit) count (name_of name) }
+{
+    match name {
+        TyName::Initial(_) => false,
+        TyName::Made(made) => made.unit.index == unit.index && count <= made.number,
+    }
+}
+
+fn renumbered(alloc: Global, basis: &Basis, by: &Numbering) -> Result<Basis, Memory>
+    ensures sig { IfOk result (λ b. sig_of b ≡ rename_sig (C.renumber (maker_of by.now.unit) by.now.count (map name_of by.now.names.now.keys)) (sig_of basis.now)) }
+    ensures unit { IfOk result (λ b. b.unit ≡ basis.now.unit) }
+{
+    let env = renamed_env(alloc, &basis.env, by)?;
+    let names = renamed_names(alloc, &basis.names, by)?;
+    Ok(Basis {
+        unit: basis.unit,
+        names,
+        env,
+    })
+}
+
+/// Names that are numbered by their places, the first by the count.
+#[derive(Clone, Copy)]
+struct Numbering<'a> {
+    unit: UnitId,
+    count: u32,
+    names: &'a IndexSet<TyName>,
+    ghost fits: { count + length names.now.keys ≤ 2 ^ 20 },
+}
+
+impl NameMap for Numbering<'_> {
+    ghost gives = { λ s. C.renumber (maker_of s.unit) s.count (map name_of s.names.now.keys) };
+
+    fn apply(&self, name: TyName) -> TyName {
+        match self.names.get_index_of(&name) {
+            Some(place) => TyName::Made(MadeName {
+                unit: self.unit,
+                number: self.count + place as u32,
+                arity: arity(name),
+                equality: has_equality(name),
+            }),
+            None => name,
+        }
+    }
+}
+
+fn arity(name: TyName) -> u32
+    ensures { result ≡ (attributes_of (name_of name)).arity }
+{
+    match name {
+        TyName::Initial(Initial::List) => 1,
+        TyName::Initial(Initial::Ref) => 1,
+        TyName::Initial(_) => 0,
+        TyName::Made(made) => made.arity,
+    }
+}

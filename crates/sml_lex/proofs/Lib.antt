@@ -4,6 +4,7 @@ pub mod Comments
 pub mod DigitValues
 pub mod FirstPieces
 pub mod FirstTokens
+pub mod Order
 pub mod ReadNumbers
 pub mod ReadTokens
 pub mod Reading

@@ -1,6 +1,6 @@
 -- White space, comments and tokens, and the units that they spell.
 -- (The Definition of Standard ML (Revised), sections 2.1 to 2.5.)
-use Rattle.std.specs.Prelude.{◌≡◌, ℕ, ◌+◌, ◌-◌, ◌<◌, ◌≤◌, ◌⊎◌, List, [], ◌∷◌, length, take, drop, Bool, true, false, ◌&&◌, ◌||◌, ◌==◌, if◌then◌else◌, Option, Some, None}
+use Rattle.std.specs.Prelude.{slice_range, ◌≡◌, ℕ, ◌+◌, ◌-◌, ◌<◌, ◌≤◌, ◌⊎◌, List, [], ◌∷◌, length, take, drop, Bool, true, false, ◌&&◌, ◌||◌, ◌==◌, if◌then◌else◌, Option, Some, None}
 use Rattle.sml_lex.specs.declared.fault.Code.{Code}
 use Rattle.sml_lex.specs.declared.fault.Code.TheVariants.{L1, L4, L5, L6}
 use Rattle.sml_lex.specs.declared.token.Kind.{Kind}
@@ -130,3 +130,16 @@ Spells unit tokens end = SpellsUnit unit tokens end ⊎ IsOverLimit unit tokens 
 -- one list of bytes spells one answer
 abbrev pub SpellingIsUnique : Type 0
 SpellingIsUnique = (unit : List ℕ) (tokens others : List Token) (end stop : End) → Spells unit tokens end → Spells unit others stop → (tokens ≡ others) × (end ≡ stop)
+
+-- From this place on the tokens stand one behind another, and each text is a token of its kind.
+abbrev pub AreInOrder : List ℕ → ℕ → List Token → Type 0
+AreInOrder unit place [] = place ≤ length unit
+AreInOrder unit place (token ∷ tokens) = (place ≤ token.span.start) × (token.span.start < token.span.end) × IsToken token.kind (slice_range unit token.span.start token.span.end) × AreInOrder unit token.span.end tokens
+
+-- the tokens of a unit stand in order, within it
+abbrev pub TokensAreInOrder : Type 0
+TokensAreInOrder = (unit : List ℕ) (tokens : List Token) (end : End) → Spells unit tokens end → AreInOrder unit 0 tokens
+
+-- a fault stands within the unit or at its end
+abbrev pub FaultsAreWithin : Type 0
+FaultsAreWithin = (unit : List ℕ) (tokens : List Token) (stop : Stop) → Spells unit tokens (Fault stop) → stop.at ≤ length unit

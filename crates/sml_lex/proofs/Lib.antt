@@ -1,6 +1,7 @@
 pub mod Beginnings
 pub mod ByteClasses
 pub mod Comments
+pub mod ConstantValues
 pub mod DigitValues
 pub mod FirstPieces
 pub mod FirstTokens

@@ -1,5 +1,5 @@
 -- Tokens stand in order, and faults within the unit.
-use Rattle.std.proofs.Common.{ℕ, ◌+◌, ◌<◌, ◌≤◌, List, [], ◌∷◌, drop, take, length, Bool, true, false, refl, sym, ap, subst, arith, inl, inr}
+use Rattle.std.proofs.Common.{◌≡◌, true, ℕ, ◌+◌, ◌<◌, ◌≤◌, List, [], ◌∷◌, drop, take, length, Bool, true, false, refl, sym, ap, subst, arith, inl, inr}
 use Rattle.std.specs.Prelude.{◌==◌, if◌then◌else◌}
 use Rattle.std.proofs.lemmas.Bool.{cases_lt}
 use Rattle.std.proofs.lemmas.List.{length-drop, length-append}
@@ -11,6 +11,7 @@ use Rattle.sml_lex.specs.declared.token.End.TheVariants.{Done, Fault}
 use Rattle.sml_lex.specs.declared.pieces.Piece.{Piece}
 use Rattle.sml_lex.specs.declared.pieces.Piece.TheVariants.{Blank, Comment, Lexeme}
 use Rattle.sml_lex.specs.Strings.{items_text, break_of, IsBroken}
+use Rattle.sml_lex.specs.Numbers.{fits}
 use Rattle.sml_lex.specs.Tokens.{IsToken}
 use Rattle.sml_lex.specs.Pieces.{IsPiece, IsFault, size_of, SpellsFrom, tokens_of, AreInOrder, TokensAreInOrder, FaultsAreWithin}
 use Rattle.sml_lex.proofs.Spelling.{place_on}
@@ -25,12 +26,12 @@ piece_on unit place piece p = elim (cases_lt place (length unit)) [
 
 lower : (unit : List ℕ) (m n : ℕ) (tokens : List Token) → m ≤ n → AreInOrder unit n tokens → AreInOrder unit m tokens
 lower unit m n [] l o = omega (arith, l, o)
-lower unit m n (token ∷ tokens) l o = (let a = o.0 in omega (arith, l, a), o.1, o.2, o.3)
+lower unit m n (token ∷ tokens) l o = (let a = o.0 in omega (arith, l, a), o.1, o.2, o.3, o.4)
 
 behind : (unit : List ℕ) (place : ℕ) (piece : Piece) (pieces : List Piece) → place < place + size_of piece → IsPiece (drop place unit) piece → AreInOrder unit (place + size_of piece) (tokens_of (place + size_of piece) pieces) → AreInOrder unit place (tokens_of place (piece ∷ pieces))
 behind unit place Blank pieces l p o = lower unit place (place + 1) (tokens_of (place + 1) pieces) (omega (arith, l)) o
 behind unit place (Comment size) pieces l p o = lower unit place (place + size) (tokens_of (place + size) pieces) (omega (arith, l)) o
-behind unit place (Lexeme lexeme) pieces l p o = (omega arith, l, subst (λ n. IsToken lexeme.kind (take n (drop place unit))) (omega arith) p.0.token, o)
+behind unit place (Lexeme lexeme) pieces l p o = (omega arith, l, subst (λ n. IsToken lexeme.kind (take n (drop place unit))) (omega arith) p.0.token, subst (λ n. fits lexeme.kind (take n (drop place unit)) ≡ true) (omega arith) p.1, o)
 
 order : (unit : List ℕ) (pieces : List Piece) (place : ℕ) (end : End) → place ≤ length unit → SpellsFrom unit place pieces end → AreInOrder unit place (tokens_of place pieces)
 order unit [] place end w s = w

@@ -59,7 +59,7 @@ AreItems (item ∷ items) = IsItem item × AreItems items
 abbrev pub items_text : List Item → List ℕ
 items_text items = flat_map item_text items
 
--- the value of a string constant
+-- the characters that items stand for
 abbrev pub string_value : List Item → List ℕ
 string_value items = flat_map item_value items
 
@@ -72,6 +72,14 @@ IsString text = (items : List Item) × AreItems items × (text ≡ quoted items)
 -- a string of length one behind #
 abbrev pub IsCharacter : List ℕ → Type 0
 IsCharacter text = (items : List Item) × AreItems items × (length (string_value items) ≡ 1) × (text ≡ 35 ∷ quoted items)
+
+-- the value of a string constant is its characters
+abbrev pub IsStringValue : List ℕ → List ℕ → Type 0
+IsStringValue text value = (items : List Item) × AreItems items × (text ≡ quoted items) × (value ≡ string_value items)
+
+-- the value of a character constant is its one character
+abbrev pub IsCharacterValue : List ℕ → ℕ → Type 0
+IsCharacterValue text value = (items : List Item) × AreItems items × (text ≡ 35 ∷ quoted items) × (string_value items ≡ value ∷ [])
 
 -- the fault where neither an item nor the closing quote begins, so many bytes behind the opening one
 abbrev pub break_of : List ℕ → ℕ → Stop

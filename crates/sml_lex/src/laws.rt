@@ -6,7 +6,8 @@ pub fn spelling_is_unique()
     ensures { SpellingIsUnique }
 {}
 
-/// The tokens that a unit spells stand in order within it, and the text of each is a token of its kind.
+/// The tokens that a unit spells stand in order within it, and the text of each is a token of its kind,
+/// within its limit.
 pub fn tokens_are_in_order()
     ensures { TokensAreInOrder }
 {}

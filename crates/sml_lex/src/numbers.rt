@@ -43,7 +43,8 @@ pub fn number_of(digits: &[u8], base: u64) -> Option<u64>
     Some(value)
 }
 
-fn magnitude_of(text: &[u8]) -> Option<u64>
+/// An integer without its sign, where it is below 2 to the 64.
+pub fn magnitude_of(text: &[u8]) -> Option<u64>
     ensures { MatchOption result (2 ^ 64 ≤ magnitude text.now) (λ value. value ≡ magnitude text.now) }
 {
     let digits = if starts(text, 126) {
@@ -58,7 +59,8 @@ fn magnitude_of(text: &[u8]) -> Option<u64>
     }
 }
 
-fn word_value_of(text: &[u8]) -> Option<u64>
+/// A word, where it is below 2 to the 64.
+pub fn word_value_of(text: &[u8]) -> Option<u64>
     ensures { MatchOption result (2 ^ 64 ≤ word_value text.now) (λ value. value ≡ word_value text.now) }
 {
     let digits = behind(text, 2);

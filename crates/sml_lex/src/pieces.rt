@@ -10,7 +10,7 @@ use crate::bytes::{behind, stand, starts, starts_both, white};
 use crate::fault::Code;
 use crate::longest::{Lexeme, longest};
 use crate::numbers::is_within_limit;
-use crate::strings::string;
+use crate::strings::scan;
 use crate::token::{Kind, Stop};
 
 /// What a unit is made of, with its number of bytes.
@@ -52,7 +52,7 @@ fn string_piece(rest: &[u8]) -> Result<Piece, Stop>
     requires { opens_string rest.now ≡ true }
     ensures { MatchResult result (IsPiece rest.now) (IsFault rest.now) }
 {
-    match string(rest) {
+    match scan(rest) {
         Ok(extent) => Ok(Piece::Lexeme(Lexeme {
             kind: Kind::StringConstant,
             size: extent.bytes,
@@ -66,7 +66,7 @@ fn character_piece(rest: &[u8]) -> Result<Piece, Stop>
     requires { opens_character rest.now ≡ true }
     ensures { MatchResult result (IsPiece rest.now) (IsFault rest.now) }
 {
-    match string(behind(rest, 1)) {
+    match scan(behind(rest, 1)) {
         Ok(extent) => {
             if extent.characters == 1 {
                 Ok(Piece::Lexeme(Lexeme {

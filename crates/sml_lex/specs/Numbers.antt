@@ -3,7 +3,7 @@
 use Rattle.std.specs.Prelude.{ℤ, pos, ◌-ℤ◌, ℕ, ◌+◌, ◌-◌, ◌*◌, ◌^◌, List, [], ◌∷◌, length, drop, Bool, true, false, nat_lt, Option, Some, None, if◌then◌else◌}
 use Rattle.sml_lex.specs.declared.token.Kind.{Kind}
 use Rattle.sml_lex.specs.declared.token.Kind.TheVariants.{Numeral, ZeroNumeral, Integer, WordConstant}
-use Rattle.sml_lex.specs.Bytes.{is_digit, is_within, starts_with, starts_with_both}
+use Rattle.sml_lex.specs.Bytes.{tilde, is_digit, is_within, starts_with, starts_with_both}
 
 abbrev pub digit_value : ℕ → ℕ
 digit_value c = if is_digit c then c - 48 else if is_within 65 70 c then c - 55 else c - 87
@@ -14,7 +14,7 @@ number base [] = 0
 number base (c ∷ digits) = digit_value c * base ^ length digits + number base digits
 
 abbrev pub without_sign : List ℕ → List ℕ
-without_sign text = if starts_with 126 text then drop 1 text else text
+without_sign text = if starts_with tilde text then drop 1 text else text
 
 -- an integer without its sign
 abbrev pub magnitude : List ℕ → ℕ
@@ -22,7 +22,7 @@ magnitude text = let digits = without_sign text in if starts_with_both 48 120 di
 
 -- the value of an integer
 abbrev pub integer_value : List ℕ → ℤ
-integer_value text = if starts_with 126 text then pos 0 -ℤ pos (magnitude text) else pos (magnitude text)
+integer_value text = if starts_with tilde text then pos 0 -ℤ pos (magnitude text) else pos (magnitude text)
 
 -- the value of a word, whose digits stand behind 0w or 0wx
 abbrev pub word_value : List ℕ → ℕ

@@ -10,16 +10,16 @@ use Rattle.sml_lex.specs.declared.token.End.{End}
 use Rattle.sml_lex.specs.declared.token.End.TheVariants.{Done, Fault}
 use Rattle.sml_lex.specs.declared.pieces.Piece.{Piece}
 use Rattle.sml_lex.specs.declared.pieces.Piece.TheVariants.{Blank, Comment, Lexeme}
-use Rattle.sml_lex.specs.Bytes.{starts_white, starts_with_both}
+use Rattle.sml_lex.specs.Bytes.{open_round, close_round, asterisk, starts_white, starts_with_both}
 use Rattle.sml_lex.specs.Numbers.{fits}
 use Rattle.sml_lex.specs.Strings.{opens_string, opens_character, IsStringFault}
 use Rattle.sml_lex.specs.Tokens.{IsToken}
 
 abbrev pub opens_comment : List ℕ → Bool
-opens_comment bytes = starts_with_both 40 42 bytes
+opens_comment bytes = starts_with_both open_round asterisk bytes
 
 abbrev pub closes_comment : List ℕ → Bool
-closes_comment bytes = starts_with_both 42 41 bytes
+closes_comment bytes = starts_with_both asterisk close_round bytes
 
 -- what follows the end of that many open comments, if they all end
 abbrev pub after_comments : ℕ → List ℕ → Option (List ℕ)

@@ -17,7 +17,7 @@ pub fn integer(text: &[u8]) -> Option<i64>
 {
     match magnitude_of(text) {
         Some(value) if value < 9_223_372_036_854_775_808 => {
-            if starts(text, 126) {
+            if starts(text, b'~') {
                 Some(-(value as i64))
             } else {
                 Some(value as i64)
@@ -38,7 +38,7 @@ pub fn word(text: &[u8]) -> Option<u64>
 pub fn character(text: &[u8]) -> Option<u8>
     ensures { MatchOption result (IsCharacter text.now → ⊥) (IsCharacterValue text.now) }
 {
-    if !starts_both(text, 35, 34) {
+    if !starts_both(text, b'#', b'"') {
         return None;
     }
     match scan(behind(text, 1)) {
@@ -68,13 +68,13 @@ pub fn string(alloc: Global, text: &[u8]) -> Result<Option<Vec<u8>>, Memory>
     ensures { IfOk result (λ value. MatchOption value (IsString text.now → ⊥) (λ characters. IsStringValue text.now characters.items)) }
 {
     let mut value = Vec::new(alloc);
-    if !starts(text, 34) {
+    if !starts(text, b'"') {
         return Ok(None);
     }
     let mut bytes = 1;
     'items: loop {
         let rest = behind(text, bytes);
-        if starts(rest, 34) {
+        if starts(rest, b'"') {
             if bytes + 1 == text.len() {
                 return Ok(Some(value));
             }

@@ -19,7 +19,7 @@ pub struct Element {
 fn plain(byte: u8) -> bool
     ensures { result ≡ is_plain byte }
 {
-    byte >= 32 && byte <= 126 && !(byte == 34 || byte == 92)
+    byte >= b' ' && byte <= b'~' && !(byte == b'"' || byte == b'\\')
 }
 
 /// The character that a letter stands for behind a backslash.
@@ -27,15 +27,15 @@ fn letter_value(byte: u8) -> Option<u8>
     ensures { result ≡ (if is_escape_letter byte then Some (escape_value byte) else None) }
 {
     match byte {
-        97 => Some(7),
-        98 => Some(8),
-        116 => Some(9),
-        110 => Some(10),
-        118 => Some(11),
-        102 => Some(12),
-        114 => Some(13),
-        34 => Some(34),
-        92 => Some(92),
+        b'a' => Some(7),
+        b'b' => Some(8),
+        b't' => Some(9),
+        b'n' => Some(10),
+        b'v' => Some(11),
+        b'f' => Some(12),
+        b'r' => Some(13),
+        b'"' => Some(b'"'),
+        b'\\' => Some(b'\\'),
         _ => None,
     }
 }
@@ -77,9 +77,9 @@ fn control(text: &[u8]) -> Option<Element>
     ensures { result ≡ element (control_at text.now) }
 {
     match text {
-        [byte, ..] if *byte >= 64 && *byte <= 95 => Some(Element {
+        [byte, ..] if *byte >= b'@' && *byte <= b'_' => Some(Element {
             bytes: 3,
-            value: Some(*byte - 64),
+            value: Some(*byte - b'@'),
         }),
         _ => None,
     }
@@ -130,7 +130,7 @@ fn gap(text: &[u8]) -> Option<Element>
     while count < text.len() && white(text[count]) {
         count += 1;
     }
-    if starts(behind(text, count), 92) {
+    if starts(behind(text, count), b'\\') {
         Some(Element {
             bytes: count + 2,
             value: None,
@@ -154,9 +154,9 @@ fn escape(text: &[u8]) -> Option<Element>
             value: Some(value),
         });
     }
-    if byte == 94 {
+    if byte == b'^' {
         control(&text[1..])
-    } else if byte == 117 {
+    } else if byte == b'u' {
         hexadecimal(&text[1..])
     } else if digit(byte) {
         decimal(text)
@@ -175,7 +175,7 @@ pub fn item(text: &[u8]) -> Option<Element>
         return None;
     }
     let byte = text[0];
-    if byte == 92 {
+    if byte == b'\\' {
         escape(&text[1..])
     } else if plain(byte) {
         Some(Element {

@@ -31,10 +31,10 @@ fn comment_end(bytes: &[u8], start: usize) -> Option<usize>
     let mut depth: usize = 1;
     let mut place = start;
     while place < bytes.len() {
-        if stand(bytes, place, 40, 42) {
+        if stand(bytes, place, b'(', b'*') {
             depth += 1;
             place += 2;
-        } else if stand(bytes, place, 42, 41) {
+        } else if stand(bytes, place, b'*', b')') {
             place += 2;
             if depth == 1 {
                 return Some(place);
@@ -134,11 +134,11 @@ pub fn first_piece(rest: &[u8]) -> Result<Piece, Stop>
 {
     if white(rest[0]) {
         Ok(Piece::Blank)
-    } else if starts_both(rest, 40, 42) {
+    } else if starts_both(rest, b'(', b'*') {
         comment_piece(rest)
-    } else if starts(rest, 34) {
+    } else if starts(rest, b'"') {
         string_piece(rest)
-    } else if starts_both(rest, 35, 34) {
+    } else if starts_both(rest, b'#', b'"') {
         character_piece(rest)
     } else {
         token_piece(rest)

@@ -47,11 +47,11 @@ fn break_at(text: &[u8], point: usize) -> Stop
         };
     }
     match text[0] {
-        92 => Stop {
+        b'\\' => Stop {
             code: Code::L3,
             at: point,
         },
-        10 => Stop {
+        b'\n' => Stop {
             code: Code::L2,
             at: 0,
         },
@@ -72,7 +72,7 @@ pub fn scan(text: &[u8]) -> Result<Extent, Stop>
     let mut first = None;
     'items: loop {
         let rest = behind(text, bytes);
-        if starts(rest, 34) {
+        if starts(rest, b'"') {
             return Ok(Extent {
                 bytes: bytes + 1,
                 characters,

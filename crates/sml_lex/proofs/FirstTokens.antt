@@ -148,10 +148,6 @@ pub hash_first : (rest : List ℕ) → opens_character rest ≡ true → rest �
 hash_first [] e = absurd (false_is_true e)
 hash_first (c ∷ rest) e = ap (λ c. c ∷ rest) (eqb-true _ _ (first_true (c == 35) (starts_with 34 rest) e))
 
-pub quote_second : (rest : List ℕ) → opens_character rest ≡ true → opens_string (drop 1 rest) ≡ true
-quote_second [] e = absurd (false_is_true e)
-quote_second (c ∷ rest) e = second_true (c == 35) (starts_with 34 rest) e
-
 pub character_size : (rest : List ℕ) (items : List Item) (behind : List ℕ) (n : ℕ) → AreItems items → rest ≡ 35 ∷ (quoted items ++ behind) → n ≤ length rest → IsCharacter (take n rest) → n ≡ 1 + length (quoted items)
 character_size rest items behind n i e l s =
     let same = ap (λ items. length (quoted items)) (quoted_unique s.0 items (drop n rest) behind s.1 i (ap (drop 1) (ap (λ t. t ++ drop n rest) (sym s.3) ∙ take-append-drop n rest ∙ e))).0 in

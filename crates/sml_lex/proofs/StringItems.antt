@@ -13,9 +13,6 @@ use Rattle.sml_lex.proofs.Reading.{and_false, false_is_true, both_true, first_tr
 use Rattle.sml_lex.proofs.ByteClasses.{digit_no_escape, white_no_escape, white_no_digit}
 use Rattle.sml_lex.specs.StringReading.{white_at, gap_at, control_at, decimal_at, hexadecimal_at, escape_at, item_at, element}
 
-pub all_on : (f : ℕ → Bool) (text : List ℕ) (i d : ℕ) → i < length text → all_are f (drop i text) ≡ (f (get_or text i d) && all_are f (drop (i + 1) text))
-all_on f text i d within = ap (all_are f) (drop_more text i d within)
-
 -- a gap, of which some bytes of white space are known
 pub with_white : ℕ → Option (List ℕ) → Option Element
 with_white before None = None

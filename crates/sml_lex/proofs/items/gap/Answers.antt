@@ -1,8 +1,8 @@
 use Rattle.std.proofs.Common.{drop, sym, ap, ◌∙◌, arith}
 use Rattle.sml_lex.specs.Bytes.{starts_with}
 use Rattle.sml_lex.proofs.StringItems.{gap_first, gap_more, gap_closed, gap_open, white_ends, white_stops}
-use Rattle.sml_lex.proofs.strings.gap.Goals as goal
-use Rattle.sml_lex.proofs.strings.gap.Goals.{then-loop-count-test+else-white, else-loop-count-test}
+use Rattle.sml_lex.proofs.items.gap.Goals as goal
+use Rattle.sml_lex.proofs.items.gap.Goals.{then-loop-count-test+else-white, else-loop-count-test}
 
 pub loop-count-preserved : goal.loop-count-preserved
 loop-count-preserved c = record {

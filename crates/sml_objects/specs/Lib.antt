@@ -11,3 +11,4 @@ pub mod Equality
 pub mod Appearance
 pub mod Laws
 pub mod Canonical
+pub mod CanonicalLaws

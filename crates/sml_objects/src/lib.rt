@@ -3,6 +3,7 @@
 
 pub mod bases;
 pub mod canonical;
+pub mod canonical_laws;
 pub mod environments;
 pub mod equality;
 pub mod laws;

@@ -1,5 +1,15 @@
 pub mod Beginnings
+pub mod ByteClasses
 pub mod Comments
 pub mod DigitValues
+pub mod FirstPieces
+pub mod FirstTokens
+pub mod ReadNumbers
+pub mod ReadTokens
+pub mod Reading
 pub mod ReservedWords
 pub mod Spelling
+pub mod StringItems
+pub mod StringScans
+pub mod TokensRead
+pub mod Unique

@@ -1,5 +1,5 @@
 -- Pieces one after another.
-use Rattle.std.proofs.Common.{◌≡◌, ℕ, zero, suc, ◌+◌, ◌<◌, ◌≤◌, drop, take, length, List, [], ◌∷◌, ◌++◌, Some, None, refl, sym, ap, ◌∙◌, subst, arith, append_assoc, append-nil}
+use Rattle.std.proofs.Common.{◌≡◌, ℕ, zero, suc, ◌+◌, ◌<◌, ◌≤◌, drop, take, length, List, [], ◌∷◌, ◌++◌, refl, sym, ap, ◌∙◌, subst, arith, append_assoc, append-nil}
 use Rattle.std.proofs.lemmas.List.{length-drop}
 use Rattle.sml_lex.specs.declared.token.Kind.{Kind}
 use Rattle.sml_lex.specs.declared.token.Token.{Token}
@@ -7,8 +7,9 @@ use Rattle.sml_lex.specs.declared.token.End.{End}
 use Rattle.sml_lex.specs.declared.pieces.Piece.{Piece}
 use Rattle.sml_lex.specs.declared.pieces.Piece.TheVariants.{Blank, Comment, Lexeme}
 use Rattle.sml_lex.specs.declared.longest.Lexeme.{Lexeme as LexemeAt}
-use Rattle.sml_lex.specs.Machine.{token_kind}
+use Rattle.sml_lex.specs.Tokens.{IsToken}
 use Rattle.sml_lex.specs.Pieces.{IsPiece, size_of, SpellsFrom, tokens_of}
+use Rattle.sml_lex.proofs.FirstTokens.{never_empty}
 
 -- whatever the rest spells, the whole spells it behind these tokens
 pub record Carries (unit : List ℕ) (place : ℕ) (tokens : List Token) : Type 0 where
@@ -48,9 +49,6 @@ pub carried : (unit : List ℕ) (place : ℕ) (tokens : List Token) (end : End) 
 carried unit place tokens end x e =
     let w = x.whole [] end e in (w.0, sym (append-nil tokens) ∙ w.1, w.2)
 
-none_is_some : (kind : Kind) → None ≡ Some kind → ⊥
-none_is_some kind h = cc
-
 -- a piece has some bytes, and all are there
 pub some_size : (rest : List ℕ) (piece : Piece) → 0 < length rest → IsPiece rest piece → 0 < size_of piece
 some_size rest Blank some p = omega arith
@@ -58,7 +56,7 @@ some_size rest (Comment size) some p = let b = p.behind_opening in omega (arith,
 some_size rest (Lexeme lexeme) some p = by_size lexeme.size refl
   where
     by_size : (n : ℕ) → lexeme.size ≡ n → 0 < lexeme.size
-    by_size zero e = absurd (none_is_some lexeme.kind (sym (ap (λ n. token_kind (take n rest)) e) ∙ p.0.token))
+    by_size zero e = absurd (never_empty lexeme.kind (subst (λ n. IsToken lexeme.kind (take n rest)) e p.0.token))
     by_size (suc n) e = omega (arith, e)
 
 pub within_size : (rest : List ℕ) (piece : Piece) → 0 < length rest → IsPiece rest piece → size_of piece ≤ length rest

@@ -1,6 +1,6 @@
 -- The bytes of tokens.
 -- (The Definition of Standard ML (Revised), sections 2.1 to 2.5.)
-use Rattle.std.specs.Prelude.{ℕ, List, [], ◌∷◌, Bool, false, not, ◌&&◌, ◌||◌, ◌==◌, nat_lt}
+use Rattle.std.specs.Prelude.{ℕ, List, [], ◌∷◌, Bool, true, false, not, ◌&&◌, ◌||◌, ◌==◌, nat_lt}
 
 abbrev pub is_within : ℕ → ℕ → ℕ → Bool
 is_within first last c = not (nat_lt c first) && not (nat_lt last c)
@@ -30,6 +30,10 @@ is_sign c = (c == 33) || (is_within 35 38 c || (is_within 42 43 c || ((c == 45) 
 abbrev pub is_mark : ℕ → Bool
 is_mark c = is_within 40 41 c || ((c == 44) || ((c == 59) || ((c == 91) || ((c == 93) || ((c == 95) || ((c == 123) || (c == 125)))))))
 
+abbrev pub starts_white : List ℕ → Bool
+starts_white [] = false
+starts_white (c ∷ text) = is_white c
+
 abbrev pub starts_with : ℕ → List ℕ → Bool
 starts_with x [] = false
 starts_with x (a ∷ text) = a == x
@@ -38,3 +42,12 @@ starts_with x (a ∷ text) = a == x
 abbrev pub starts_with_both : ℕ → ℕ → List ℕ → Bool
 starts_with_both x y [] = false
 starts_with_both x y (a ∷ text) = (a == x) && starts_with y text
+
+abbrev pub all_are : (ℕ → Bool) → List ℕ → Bool
+all_are f [] = true
+all_are f (c ∷ cs) = f c && all_are f cs
+
+-- one byte that passes the first test, and then bytes that pass the second
+abbrev pub is_run : (ℕ → Bool) → (ℕ → Bool) → List ℕ → Bool
+is_run f g [] = false
+is_run f g (c ∷ cs) = f c && all_are g cs

@@ -3,4 +3,7 @@ pub mod Faults
 pub mod Machine
 pub mod Numbers
 pub mod Pieces
+pub mod StringReading
+pub mod Strings
+pub mod Tokens
 pub mod Words

@@ -1,21 +1,19 @@
 -- White space, comments and tokens, and the units that they spell.
 -- (The Definition of Standard ML (Revised), sections 2.1 to 2.5.)
-use Rattle.std.specs.Prelude.{◌≡◌, ℕ, ◌+◌, ◌-◌, ◌<◌, ◌≤◌, ◌⊎◌, List, [], ◌∷◌, length, take, drop, Bool, true, false, ◌==◌, if◌then◌else◌, Option, Some, None}
+use Rattle.std.specs.Prelude.{◌≡◌, ℕ, ◌+◌, ◌-◌, ◌<◌, ◌≤◌, ◌⊎◌, List, [], ◌∷◌, length, take, drop, Bool, true, false, ◌&&◌, ◌||◌, ◌==◌, if◌then◌else◌, Option, Some, None}
 use Rattle.sml_lex.specs.declared.fault.Code.{Code}
 use Rattle.sml_lex.specs.declared.fault.Code.TheVariants.{L1, L4, L5, L6}
 use Rattle.sml_lex.specs.declared.token.Kind.{Kind}
+use Rattle.sml_lex.specs.declared.token.Stop.{Stop}
 use Rattle.sml_lex.specs.declared.token.Token.{Token}
 use Rattle.sml_lex.specs.declared.token.End.{End}
 use Rattle.sml_lex.specs.declared.token.End.TheVariants.{Done, Fault}
 use Rattle.sml_lex.specs.declared.pieces.Piece.{Piece}
 use Rattle.sml_lex.specs.declared.pieces.Piece.TheVariants.{Blank, Comment, Lexeme}
-use Rattle.sml_lex.specs.Bytes.{is_white, starts_with_both}
+use Rattle.sml_lex.specs.Bytes.{starts_white, starts_with_both}
 use Rattle.sml_lex.specs.Numbers.{fits}
-use Rattle.sml_lex.specs.Machine.{token_kind}
-
-abbrev pub starts_white : List ℕ → Bool
-starts_white [] = false
-starts_white (c ∷ bytes) = is_white c
+use Rattle.sml_lex.specs.Strings.{opens_string, opens_character, IsStringFault}
+use Rattle.sml_lex.specs.Tokens.{IsToken}
 
 abbrev pub opens_comment : List ℕ → Bool
 opens_comment bytes = starts_with_both 40 42 bytes
@@ -30,6 +28,12 @@ after_comments depth (a ∷ []) = None
 after_comments depth (a ∷ b ∷ bytes) =
     if opens_comment (a ∷ b ∷ bytes) then after_comments (depth + 1) bytes else if closes_comment (a ∷ b ∷ bytes) then if depth == 1 then Some bytes else after_comments (depth - 1) bytes else after_comments depth (b ∷ bytes)
 
+abbrev pub fault_here : Code → Stop
+fault_here code = record {
+  code = code;
+  at = 0;
+}
+
 -- The comment at the front has this many bytes.
 pub record IsComment (rest : List ℕ) (size : ℕ) : Type 0 where
   pub opens : opens_comment rest ≡ true
@@ -37,13 +41,16 @@ pub record IsComment (rest : List ℕ) (size : ℕ) : Type 0 where
   pub within : size ≤ length rest
   pub closed : after_comments 1 (drop 2 rest) ≡ Some (drop size rest)
 
+-- Neither ( directly before * nor a lone # directly before a quote is a token.
+abbrev pub is_cut : List ℕ → ℕ → Bool
+is_cut rest size = (size == 1) && (opens_comment rest || opens_character rest)
+
 -- The token at the front is of this kind and has this many bytes: no longer beginning is a token.
 pub record IsLexeme (rest : List ℕ) (kind : Kind) (size : ℕ) : Type 0 where
-  pub not_white : starts_white rest ≡ false
-  pub not_comment : opens_comment rest ≡ false
   pub within : size ≤ length rest
-  pub token : token_kind (take size rest) ≡ Some kind
-  pub longest : (n : ℕ) → size < n → n ≤ length rest → token_kind (take n rest) ≡ None
+  pub token : IsToken kind (take size rest)
+  pub whole : is_cut rest size ≡ false
+  pub longest : (n : ℕ) (other : Kind) → size < n → n ≤ length rest → IsToken other (take n rest) → ⊥
 
 abbrev pub IsPiece : List ℕ → Piece → Type 0
 IsPiece rest Blank = starts_white rest ≡ true
@@ -55,17 +62,40 @@ size_of Blank = 1
 size_of (Comment size) = size
 size_of (Lexeme lexeme) = lexeme.size
 
--- where no piece begins: the fault, and where it stands, counted from the front
-abbrev pub IsFault : List ℕ → Code → ℕ → Type 0
-IsFault rest L1 at = (at ≡ 0) × (opens_comment rest ≡ true) × (after_comments 1 (drop 2 rest) ≡ None)
-IsFault rest L4 at = (at ≡ 0) × (starts_white rest ≡ false) × (opens_comment rest ≡ false) × ((n : ℕ) → n ≤ length rest → token_kind (take n rest) ≡ None)
-IsFault rest L5 at = (at ≡ 0) × (kind : Kind) × (size : ℕ) × IsLexeme rest kind size × (fits kind (take size rest) ≡ false)
-IsFault rest _ at = ⊥
+-- a comment that isn't closed
+pub record IsOpenComment (rest : List ℕ) (stop : Stop) : Type 0 where
+  pub opens : opens_comment rest ≡ true
+  pub never_closed : after_comments 1 (drop 2 rest) ≡ None
+  pub fault : stop ≡ fault_here L1
+
+-- a byte at which neither white space, a comment, a string, a character nor any other token begins
+pub record IsBadByte (rest : List ℕ) (stop : Stop) : Type 0 where
+  pub not_white : starts_white rest ≡ false
+  pub no_comment : opens_comment rest ≡ false
+  pub no_string : opens_string rest ≡ false
+  pub no_character : opens_character rest ≡ false
+  pub no_token : (n : ℕ) (kind : Kind) → n ≤ length rest → IsToken kind (take n rest) → ⊥
+  pub fault : stop ≡ fault_here L4
+
+-- an integer or a word over its limit
+pub record IsTooLarge (rest : List ℕ) (stop : Stop) : Type 0 where
+  pub kind : Kind
+  pub size : ℕ
+  pub lexeme : IsLexeme rest kind size
+  pub large : fits kind (take size rest) ≡ false
+  pub fault : stop ≡ fault_here L5
+
+-- where no piece begins: the fault, whose place counts from the front
+abbrev pub IsFault : List ℕ → Stop → Type 0
+IsFault rest stop = IsOpenComment rest stop ⊎ IsStringFault rest stop ⊎ IsBadByte rest stop ⊎ IsTooLarge rest stop
 
 -- From this place on the bytes are these pieces in turn, and then the end.
 abbrev pub SpellsFrom : List ℕ → ℕ → List Piece → End → Type 0
 SpellsFrom unit place [] Done = place ≡ length unit
-SpellsFrom unit place [] (Fault stop) = (place < length unit) × (place ≤ stop.at) × IsFault (drop place unit) stop.code (stop.at - place)
+SpellsFrom unit place [] (Fault stop) = (place < length unit) × (inner : Stop) × IsFault (drop place unit) inner × (stop ≡ record {
+  code = inner.code;
+  at = place + inner.at;
+})
 SpellsFrom unit place (piece ∷ pieces) end = IsPiece (drop place unit) piece × SpellsFrom unit (place + size_of piece) pieces end
 
 abbrev pub tokens_of : ℕ → List Piece → List Token
@@ -87,14 +117,16 @@ pub record SpellsUnit (unit : List ℕ) (tokens : List Token) (end : End) : Type
   pub tokens_are : tokens ≡ tokens_of 0 pieces
   pub spelled : SpellsFrom unit 0 pieces end
 
-pub record IsTooLarge (unit : List ℕ) (tokens : List Token) (end : End) : Type 0 where
+-- a unit over the limit
+pub record IsOverLimit (unit : List ℕ) (tokens : List Token) (end : End) : Type 0 where
   pub over : 1048576 < length unit
   pub none : tokens ≡ []
-  pub fault : end ≡ Fault (record {
-    code = L6;
-    at = 0;
-  })
+  pub fault : end ≡ Fault (fault_here L6)
 
 -- the tokens that the bytes of a unit spell, and where they end
 abbrev pub Spells : List ℕ → List Token → End → Type 0
-Spells unit tokens end = SpellsUnit unit tokens end ⊎ IsTooLarge unit tokens end
+Spells unit tokens end = SpellsUnit unit tokens end ⊎ IsOverLimit unit tokens end
+
+-- one list of bytes spells one answer
+abbrev pub SpellingIsUnique : Type 0
+SpellingIsUnique = (unit : List ℕ) (tokens others : List Token) (end stop : End) → Spells unit tokens end → Spells unit others stop → (tokens ≡ others) × (end ≡ stop)

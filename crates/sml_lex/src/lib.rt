@@ -3,10 +3,12 @@
 
 mod bytes;
 pub mod fault;
+pub mod laws;
 pub mod lexer;
 mod longest;
 mod machine;
 mod numbers;
 mod pieces;
+mod strings;
 pub mod token;
 mod words;

@@ -29,7 +29,7 @@ fn with_digit(value: u64, base: u64, byte: u8) -> Option<u64>
 }
 
 /// The number that these digits write, where it is below 2 to the 64.
-fn number_of(digits: &[u8], base: u64) -> Option<u64>
+pub fn number_of(digits: &[u8], base: u64) -> Option<u64>
     requires { 0 < base }
     ensures { MatchOption result (2 ^ 64 ≤ number base digits.now) (λ value. value ≡ number base digits.now) }
 {
@@ -69,7 +69,7 @@ fn word_value_of(text: &[u8]) -> Option<u64>
     }
 }
 
-fn is_below(value: Option<u64>, limit: u64) -> bool
+pub fn is_below(value: Option<u64>, limit: u64) -> bool
     ensures { result ≡ is_some_below value limit }
 {
     match value {

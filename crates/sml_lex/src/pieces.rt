@@ -1,14 +1,17 @@
 //! White space, comments and tokens.
-ghost use Rattle.std.specs.Prelude.{◌≡◌, ◌<◌, ◌≤◌, length, drop, None, Some};
+ghost use Rattle.std.specs.Prelude.{◌≡◌, ◌<◌, ◌≤◌, length, drop, true, false, None, Some};
 ghost use Rattle.std.specs.Option.{MatchOption};
 ghost use Rattle.std.specs.Result.{MatchResult};
-ghost use Rattle.sml_lex.specs.Pieces.{after_comments, IsPiece, IsFault};
+ghost use Rattle.sml_lex.specs.Bytes.{starts_white};
+ghost use Rattle.sml_lex.specs.Strings.{opens_string, opens_character};
+ghost use Rattle.sml_lex.specs.Pieces.{after_comments, opens_comment, IsPiece, IsFault};
 
-use crate::bytes::{stand, starts_both, white};
+use crate::bytes::{behind, stand, starts, starts_both, white};
 use crate::fault::Code;
 use crate::longest::{Lexeme, longest};
 use crate::numbers::is_within_limit;
-use crate::token::Stop;
+use crate::strings::string;
+use crate::token::{Kind, Stop};
 
 /// What a unit is made of, with its number of bytes.
 #[derive(Clone, Copy, PartialEq, Eq, Debug)]
@@ -44,23 +47,68 @@ fn comment_end(bytes: &[u8], start: usize) -> Option<usize>
     None
 }
 
-/// The piece at the front, or the fault there, whose place counts from the front too.
-pub fn first_piece(rest: &[u8]) -> Result<Piece, Stop>
-    requires { 0 < length rest.now }
-    ensures { MatchResult result (IsPiece rest.now) (λ stop. IsFault rest.now stop.code stop.at) }
+/// The string at the front.
+fn string_piece(rest: &[u8]) -> Result<Piece, Stop>
+    requires { opens_string rest.now ≡ true }
+    ensures { MatchResult result (IsPiece rest.now) (IsFault rest.now) }
 {
-    if white(rest[0]) {
-        return Ok(Piece::Blank);
+    match string(rest) {
+        Ok(extent) => Ok(Piece::Lexeme(Lexeme {
+            kind: Kind::StringConstant,
+            size: extent.bytes,
+        })),
+        Err(stop) => Err(stop),
     }
-    if starts_both(rest, 40, 42) {
-        return match comment_end(rest, 2) {
-            Some(end) => Ok(Piece::Comment(end)),
-            None => Err(Stop {
-                code: Code::L1,
-                at: 0,
-            }),
-        };
+}
+
+/// The character at the front.
+fn character_piece(rest: &[u8]) -> Result<Piece, Stop>
+    requires { opens_character rest.now ≡ true }
+    ensures { MatchResult result (IsPiece rest.now) (IsFault rest.now) }
+{
+    match string(behind(rest, 1)) {
+        Ok(extent) => {
+            if extent.characters == 1 {
+                Ok(Piece::Lexeme(Lexeme {
+                    kind: Kind::CharacterConstant,
+                    size: extent.bytes + 1,
+                }))
+            } else {
+                Err(Stop {
+                    code: Code::L3,
+                    at: 0,
+                })
+            }
+        }
+        Err(stop) => Err(Stop {
+            code: stop.code,
+            at: stop.at + 1,
+        }),
     }
+}
+
+/// The comment at the front.
+fn comment_piece(rest: &[u8]) -> Result<Piece, Stop>
+    requires { opens_comment rest.now ≡ true }
+    ensures { MatchResult result (IsPiece rest.now) (IsFault rest.now) }
+{
+    match comment_end(rest, 2) {
+        Some(end) => Ok(Piece::Comment(end)),
+        None => Err(Stop {
+            code: Code::L1,
+            at: 0,
+        }),
+    }
+}
+
+/// The token at the front, where neither white space, a comment, a string nor a character begins.
+fn token_piece(rest: &[u8]) -> Result<Piece, Stop>
+    requires white { starts_white rest.now ≡ false }
+    requires comment { opens_comment rest.now ≡ false }
+    requires string { opens_string rest.now ≡ false }
+    requires character { opens_character rest.now ≡ false }
+    ensures { MatchResult result (IsPiece rest.now) (IsFault rest.now) }
+{
     match longest(rest) {
         Some(lexeme) => {
             if is_within_limit(lexeme.kind, &rest[..lexeme.size]) {
@@ -76,5 +124,23 @@ pub fn first_piece(rest: &[u8]) -> Result<Piece, Stop>
             code: Code::L4,
             at: 0,
         }),
+    }
+}
+
+/// The piece at the front, or the fault there, whose place counts from the front too.
+pub fn first_piece(rest: &[u8]) -> Result<Piece, Stop>
+    requires { 0 < length rest.now }
+    ensures { MatchResult result (IsPiece rest.now) (IsFault rest.now) }
+{
+    if white(rest[0]) {
+        Ok(Piece::Blank)
+    } else if starts_both(rest, 40, 42) {
+        comment_piece(rest)
+    } else if starts(rest, 34) {
+        string_piece(rest)
+    } else if starts_both(rest, 35, 34) {
+        character_piece(rest)
+    } else {
+        token_piece(rest)
     }
 }

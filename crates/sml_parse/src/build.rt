@@ -1,5 +1,15 @@
 //! Trees from derivations, by one walk from the last item to the first.
 
+ghost use Rattle.std.specs.Prelude.{◌≡◌, map, reverse, length, IfOk, OnOk};
+ghost use Rattle.std.specs.Option.{option_map};
+ghost use Rattle.sml_tree.specs.Trees.{function, and_exp, and_ty, bracket_ty, type_spec, val_spec, val_dec, type_dec, sealed};
+ghost use Rattle.sml_tree.specs.Views.{ident_of, long_of, exp_of, exps_of, ty_of, tys_of, spec_of, core_dec_of, dec_of};
+ghost use Rattle.sml_read.specs.Grammar.{right_side};
+ghost use Rattle.sml_parse.specs.Idents.{long_id};
+ghost use Rattle.sml_parse.specs.Values.{exp_in, exps_in, ty_in, tys_in, specs_in, cores_in, dec_in, with_spec, with_core, with_arrow, in_brackets, with_stars, at, without, first};
+ghost use Rattle.sml_parse.specs.Rules.{place_at, text_at, made, values_of};
+ghost use Rattle.sml_parse.specs.Stacks.{seen, value_of};
+
 use crate::item::Item;
 use crate::names::Names;
 use crate::stack::{Stack, Value};
@@ -12,19 +22,29 @@ use sml_tree::bare::{
 use std::alloc::Global;
 
 /// The identifier whose word is on top.
-fn pop_ident(unit: &[u8], names: &mut Names, stack: &mut Stack) -> Result<Ident, Memory> {
+fn pop_ident(unit: &[u8], names: &mut Names, stack: &mut Stack) -> Result<Ident, Memory>
+    ensures made { IfOk result (λ ident. ident_of ident ≡ text_at unit.now (seen stack.old) 0) }
+    ensures rest { OnOk result (seen stack.new ≡ without 1 (seen stack.old)) }
+{
     let word = stack.word();
     names.ident(text(unit, word.span))
 }
 
 /// The long identifier whose word is on top.
-fn pop_long(unit: &[u8], names: &mut Names, stack: &mut Stack) -> Result<LongIdent, Memory> {
+fn pop_long(unit: &[u8], names: &mut Names, stack: &mut Stack) -> Result<LongIdent, Memory>
+    ensures place { IfOk result (λ long. long.place ≡ place_at (seen stack.old) 0) }
+    ensures parts { IfOk result (λ long. long_of long ≡ long_id (text_at unit.now (seen stack.old) 0)) }
+    ensures rest { OnOk result (seen stack.new ≡ without 1 (seen stack.old)) }
+{
     let word = stack.word();
     names.long(word.place, text(unit, word.span))
 }
 
 /// `val x = e`
-fn pop_value(unit: &[u8], names: &mut Names, stack: &mut Stack) -> Result<CoreDec, Memory> {
+fn pop_value(unit: &[u8], names: &mut Names, stack: &mut Stack) -> Result<CoreDec, Memory>
+    ensures made { IfOk result (λ dec. core_dec_of dec ≡ val_dec (place_at (seen stack.old) 0) (text_at unit.now (seen stack.old) 1) (exp_in (at (seen stack.old) 3))) }
+    ensures rest { OnOk result (seen stack.new ≡ without 4 (seen stack.old)) }
+{
     let place = stack.word().place;
     let ident = pop_ident(unit, names, stack)?;
     stack.pop();
@@ -40,7 +60,10 @@ fn pop_structure(
     unit: &[u8],
     names: &mut Names,
     stack: &mut Stack,
-) -> Result<SealedStructure, Memory> {
+) -> Result<SealedStructure, Memory>
+    ensures made { IfOk result (λ structure. dec_of (BareDec.Structure structure) ≡ sealed (text_at unit.now (seen stack.old) 1) (place_at (seen stack.old) 3) (specs_in (at (seen stack.old) 4)) (cores_in (at (seen stack.old) 8))) }
+    ensures rest { OnOk result (seen stack.new ≡ without 10 (seen stack.old)) }
+{
     stack.pop();
     let name = pop_ident(unit, names, stack)?;
     stack.pop();
@@ -61,7 +84,10 @@ fn pop_structure(
 }
 
 /// `val x : ty`
-fn pop_value_spec(unit: &[u8], names: &mut Names, stack: &mut Stack) -> Result<Spec, Memory> {
+fn pop_value_spec(unit: &[u8], names: &mut Names, stack: &mut Stack) -> Result<Spec, Memory>
+    ensures made { IfOk result (λ spec. spec_of spec ≡ val_spec (place_at (seen stack.old) 0) (text_at unit.now (seen stack.old) 1) (ty_in (at (seen stack.old) 3))) }
+    ensures rest { OnOk result (seen stack.new ≡ without 4 (seen stack.old)) }
+{
     let place = stack.word().place;
     let ident = pop_ident(unit, names, stack)?;
     stack.pop();
@@ -73,7 +99,10 @@ fn pop_value_spec(unit: &[u8], names: &mut Names, stack: &mut Stack) -> Result<S
 }
 
 /// `type t`
-fn pop_type_spec(unit: &[u8], names: &mut Names, stack: &mut Stack) -> Result<Spec, Memory> {
+fn pop_type_spec(unit: &[u8], names: &mut Names, stack: &mut Stack) -> Result<Spec, Memory>
+    ensures made { IfOk result (λ spec. spec_of spec ≡ type_spec (place_at (seen stack.old) 0) (text_at unit.now (seen stack.old) 1)) }
+    ensures rest { OnOk result (seen stack.new ≡ without 2 (seen stack.old)) }
+{
     let place = stack.word().place;
     let ident = pop_ident(unit, names, stack)?;
     Ok(Spec {
@@ -83,7 +112,10 @@ fn pop_type_spec(unit: &[u8], names: &mut Names, stack: &mut Stack) -> Result<Sp
 }
 
 /// `type t = ty`
-fn pop_type(unit: &[u8], names: &mut Names, stack: &mut Stack) -> Result<CoreDec, Memory> {
+fn pop_type(unit: &[u8], names: &mut Names, stack: &mut Stack) -> Result<CoreDec, Memory>
+    ensures made { IfOk result (λ dec. core_dec_of dec ≡ type_dec (place_at (seen stack.old) 0) (text_at unit.now (seen stack.old) 1) (ty_in (at (seen stack.old) 3))) }
+    ensures rest { OnOk result (seen stack.new ≡ without 4 (seen stack.old)) }
+{
     let place = stack.word().place;
     let ident = pop_ident(unit, names, stack)?;
     stack.pop();
@@ -100,7 +132,10 @@ fn pop_function(
     unit: &[u8],
     names: &mut Names,
     stack: &mut Stack,
-) -> Result<Exp, Memory> {
+) -> Result<Exp, Memory>
+    ensures made { IfOk result (λ exp. exp_of exp ≡ function (text_at unit.now (seen stack.old) 1) (exp_in (at (seen stack.old) 3))) }
+    ensures rest { OnOk result (seen stack.new ≡ without 4 (seen stack.old)) }
+{
     stack.pop();
     let ident = pop_ident(unit, names, stack)?;
     stack.pop();
@@ -109,7 +144,10 @@ fn pop_function(
 }
 
 /// What stands behind a `(` that isn't closed at once: a bracket or a tuple.
-fn pop_opened(alloc: Global, stack: &mut Stack) -> Result<Exp, Memory> {
+fn pop_opened(alloc: Global, stack: &mut Stack) -> Result<Exp, Memory>
+    ensures made { IfOk result (λ exp. exp_of exp ≡ in_brackets (exp_in (at (seen stack.old) 0)) (exps_in (at (seen stack.old) 1))) }
+    ensures rest { OnOk result (seen stack.new ≡ without 2 (seen stack.old)) }
+{
     let first = stack.exp();
     let mut exps = stack.exps();
     if exps.is_empty() {
@@ -121,7 +159,10 @@ fn pop_opened(alloc: Global, stack: &mut Stack) -> Result<Exp, Memory> {
 }
 
 /// A type, with what stands behind it: another one behind an arrow, or nothing.
-fn pop_arrow(alloc: Global, stack: &mut Stack) -> Result<Ty, Memory> {
+fn pop_arrow(alloc: Global, stack: &mut Stack) -> Result<Ty, Memory>
+    ensures made { IfOk result (λ ty. ty_of ty ≡ with_arrow (ty_in (at (seen stack.old) 0)) (at (seen stack.old) 1)) }
+    ensures rest { OnOk result (seen stack.new ≡ without 2 (seen stack.old)) }
+{
     let left = stack.ty();
     match stack.pop() {
         Value::Ty(right) => Ok(Ty::Arrow(Box::new(alloc, left)?, Box::new(alloc, right)?)),
@@ -130,7 +171,10 @@ fn pop_arrow(alloc: Global, stack: &mut Stack) -> Result<Ty, Memory> {
 }
 
 /// A type, with those that stand behind stars.
-fn pop_tuple(stack: &mut Stack) -> Result<Ty, Memory> {
+fn pop_tuple(stack: &mut Stack) -> Result<Ty, Memory>
+    ensures made { IfOk result (λ ty. ty_of ty ≡ with_stars (ty_in (at (seen stack.old) 0)) (tys_in (at (seen stack.old) 1))) }
+    ensures rest { OnOk result (seen stack.new ≡ without 2 (seen stack.old)) }
+{
     let first = stack.ty();
     let mut tys = stack.tys();
     if tys.is_empty() {
@@ -142,7 +186,10 @@ fn pop_tuple(stack: &mut Stack) -> Result<Ty, Memory> {
 }
 
 /// An expression behind a comma, and those behind it.
-fn pop_more_exps(stack: &mut Stack) -> Result<Vec<Exp>, Memory> {
+fn pop_more_exps(stack: &mut Stack) -> Result<Vec<Exp>, Memory>
+    ensures made { IfOk result (λ exps. exps_of (map exp_of (reverse exps.items)) ≡ and_exp (exp_in (at (seen stack.old) 1)) (exps_in (at (seen stack.old) 2))) }
+    ensures rest { OnOk result (seen stack.new ≡ without 3 (seen stack.old)) }
+{
     stack.pop();
     let exp = stack.exp();
     let mut exps = stack.exps();
@@ -151,7 +198,10 @@ fn pop_more_exps(stack: &mut Stack) -> Result<Vec<Exp>, Memory> {
 }
 
 /// A type behind a star, and those behind it.
-fn pop_more_tys(stack: &mut Stack) -> Result<Vec<Ty>, Memory> {
+fn pop_more_tys(stack: &mut Stack) -> Result<Vec<Ty>, Memory>
+    ensures made { IfOk result (λ tys. tys_of (map ty_of (reverse tys.items)) ≡ and_ty (ty_in (at (seen stack.old) 1)) (tys_in (at (seen stack.old) 2))) }
+    ensures rest { OnOk result (seen stack.new ≡ without 3 (seen stack.old)) }
+{
     stack.pop();
     let ty = stack.ty();
     let mut tys = stack.tys();
@@ -160,7 +210,10 @@ fn pop_more_tys(stack: &mut Stack) -> Result<Vec<Ty>, Memory> {
 }
 
 /// A type in brackets.
-fn pop_bracket(alloc: Global, stack: &mut Stack) -> Result<Ty, Memory> {
+fn pop_bracket(alloc: Global, stack: &mut Stack) -> Result<Ty, Memory>
+    ensures made { IfOk result (λ ty. ty_of ty ≡ bracket_ty (ty_in (at (seen stack.old) 1))) }
+    ensures rest { OnOk result (seen stack.new ≡ without 3 (seen stack.old)) }
+{
     stack.pop();
     let ty = stack.ty();
     stack.pop();
@@ -168,22 +221,28 @@ fn pop_bracket(alloc: Global, stack: &mut Stack) -> Result<Ty, Memory> {
 }
 
 /// A specification, and those behind it.
-fn pop_more_specs(stack: &mut Stack) -> Result<Vec<Spec>, Memory> {
-    let first = stack.pop();
+fn pop_more_specs(stack: &mut Stack) -> Result<Vec<Spec>, Memory>
+    ensures made { IfOk result (λ specs. map spec_of (reverse specs.items) ≡ with_spec (at (seen stack.old) 0) (specs_in (at (seen stack.old) 1))) }
+    ensures rest { OnOk result (seen stack.new ≡ without 2 (seen stack.old)) }
+{
+    let Value::Spec(spec) = stack.pop() else {
+        return Ok(stack.specs());
+    };
     let mut specs = stack.specs();
-    if let Value::Spec(spec) = first {
-        specs.push(spec)?;
-    }
+    specs.push(spec)?;
     Ok(specs)
 }
 
 /// A declaration of the core, and those behind it.
-fn pop_more_cores(stack: &mut Stack) -> Result<Vec<CoreDec>, Memory> {
-    let first = stack.pop();
+fn pop_more_cores(stack: &mut Stack) -> Result<Vec<CoreDec>, Memory>
+    ensures made { IfOk result (λ cores. map core_dec_of (reverse cores.items) ≡ with_core (at (seen stack.old) 0) (cores_in (at (seen stack.old) 1))) }
+    ensures rest { OnOk result (seen stack.new ≡ without 2 (seen stack.old)) }
+{
+    let Value::Core(core) = stack.pop() else {
+        return Ok(stack.cores());
+    };
     let mut cores = stack.cores();
-    if let Value::Core(core) = first {
-        cores.push(core)?;
-    }
+    cores.push(core)?;
     Ok(cores)
 }
 
@@ -194,7 +253,10 @@ fn pop_made(
     names: &mut Names,
     stack: &mut Stack,
     rule: Rule,
-) -> Result<Value, Memory> {
+) -> Result<Value, Memory>
+    ensures made { IfOk result (λ value. value_of value ≡ made unit.now rule (seen stack.old)) }
+    ensures rest { OnOk result (seen stack.new ≡ without (length (right_side rule)) (seen stack.old)) }
+{
     Ok(match rule {
         Rule::StartEnd | Rule::FollowingEnd => Value::Nothing,
         Rule::StartSemicolon | Rule::StartTop | Rule::FollowingSemicolon | Rule::FollowingTop => {
@@ -261,7 +323,9 @@ pub fn build(
     unit: &[u8],
     names: &mut Names,
     items: &[Item],
-) -> Result<Option<BareDec>, Memory> {
+) -> Result<Option<BareDec>, Memory>
+    ensures { IfOk result (λ dec. option_map dec_of dec ≡ dec_in (first (values_of unit.now items.now))) }
+{
     let mut stack = Stack::new(alloc);
     for i in (0..items.len()).rev() {
         let value = match items[i] {
@@ -270,8 +334,5 @@ pub fn build(
         };
         stack.push(value)?;
     }
-    Ok(match stack.pop() {
-        Value::Dec(dec) => Some(dec),
-        _ => None,
-    })
+    Ok(stack.dec())
 }

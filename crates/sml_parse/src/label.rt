@@ -1,6 +1,8 @@
 //! The items of a unit's derivation.
 
-ghost use Rattle.std.specs.Prelude.{◌<◌, length};
+ghost use Rattle.std.specs.Prelude.{◌≡◌, ◌++◌, ◌<◌, take, drop, length, IfOk};
+ghost use Rattle.std.specs.List.{before_first};
+ghost use Rattle.sml_parse.specs.Items as spec;
 
 use crate::item::{Item, Word};
 use crate::place::Walk;
@@ -10,7 +12,9 @@ use sml_read::grammar::{Node, Rule};
 use std::alloc::Global;
 
 /// The first byte of this token, or the other byte if there is no such token.
-pub fn start_of(tokens: &[Token], index: usize, other: usize) -> usize {
+pub fn start_of(tokens: &[Token], index: usize, other: usize) -> usize
+    ensures { result ≡ spec.start_of tokens.now index other }
+{
     match tokens.get(index) {
         Some(token) => token.span.start,
         None => other,
@@ -18,7 +22,9 @@ pub fn start_of(tokens: &[Token], index: usize, other: usize) -> usize {
 }
 
 /// Whether a declaration begins with this item.
-pub fn begins(item: Item) -> bool {
+pub fn begins(item: Item) -> bool
+    ensures { result ≡ spec.begins item }
+{
     match item {
         Item::Rule(Rule::TopVal | Rule::TopStructure) => true,
         _ => false,
@@ -26,7 +32,9 @@ pub fn begins(item: Item) -> bool {
 }
 
 /// Whether a declaration has ended where this item stands.
-fn ends(item: Item) -> bool {
+fn ends(item: Item) -> bool
+    ensures { result ≡ spec.ends item }
+{
     match item {
         Item::Rule(
             Rule::StartEnd
@@ -43,6 +51,7 @@ fn ends(item: Item) -> bool {
 /// The items of the declaration that begins with the first one.
 pub fn first(items: &[Item]) -> &[Item]
     requires { 0 < length items.now }
+    ensures { result.now ≡ take 1 items.now ++ before_first spec.ends (drop 1 items.now) }
 {
     let mut end = 1;
     while end < items.len() && !ends(items[end]) {
@@ -57,30 +66,32 @@ pub fn label(
     unit: &[u8],
     nodes: &[Node],
     tokens: &[Token],
-) -> Result<Vec<Item>, Memory> {
+) -> Result<Vec<Item>, Memory>
+    ensures { IfOk result (λ items. items.items ≡ spec.items_of unit.now 0 nodes.now tokens.now) }
+{
     let mut items = Vec::new(alloc);
     let mut walk = Walk::new(0);
     let mut index = 0;
     for node in nodes {
-        match *node {
+        let item = match *node {
             Node::Leaf => {
                 let Some(token) = tokens.get(index) else {
                     return Ok(items);
                 };
-                let place = walk.go_to(unit, token.span.start);
-                items.push(Item::Word(Word {
-                    place,
-                    span: token.span,
-                }))?;
                 index += 1;
+                Item::Word(Word {
+                    place: walk.go_to(unit, token.span.start),
+                    span: token.span,
+                })
             }
             Node::Inner(rule) => {
                 if begins(Item::Rule(rule)) {
                     walk = Walk::new(start_of(tokens, index, 0));
                 }
-                items.push(Item::Rule(rule))?;
+                Item::Rule(rule)
             }
-        }
+        };
+        items.push(item)?;
     }
     Ok(items)
 }

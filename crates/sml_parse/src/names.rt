@@ -1,5 +1,9 @@
 //! The identifiers of a unit, each distinct one kept once.
 
+ghost use Rattle.std.specs.Prelude.{◌≡◌, ◌==◌, IfOk, position};
+ghost use Rattle.sml_tree.specs.Views.{ident_of, long_of};
+ghost use Rattle.sml_parse.specs.Idents.{IsShared, long_id};
+
 use indexmap::IndexMap;
 use sml_lex::fault::{Memory, Place};
 use sml_tree::bare::{Ident, LongIdent};
@@ -11,6 +15,14 @@ use std::rc::Rc;
 pub struct Names {
     alloc: Global,
     idents: IndexMap<Vec<u8>, Ident>,
+    ghost shared: { IsShared idents.entries },
+}
+
+/// Where the first dot stands.
+fn first_dot(text: &[u8]) -> Option<usize>
+    ensures { result ≡ position (λ b. b == 46) text.now }
+{
+    text.iter().position(|byte| *byte == b'.')
 }
 
 impl Names {
@@ -22,7 +34,9 @@ impl Names {
     }
 
     /// The identifier with these bytes.
-    pub fn ident(&mut self, text: &[u8]) -> Result<Ident, Memory> {
+    pub fn ident(&mut self, text: &[u8]) -> Result<Ident, Memory>
+        ensures { IfOk result (λ ident. ident_of ident ≡ text.now) }
+    {
         if let Some(ident) = self.idents.get(text) {
             return Ok(ident.clone()?);
         }
@@ -33,10 +47,13 @@ impl Names {
     }
 
     /// The long identifier with these bytes, cut at its dots.
-    pub fn long(&mut self, place: Place, text: &[u8]) -> Result<LongIdent, Memory> {
+    pub fn long(&mut self, place: Place, text: &[u8]) -> Result<LongIdent, Memory>
+        ensures place { IfOk result (λ long. long.place ≡ place) }
+        ensures parts { IfOk result (λ long. long_of long ≡ long_id text.now) }
+    {
         let mut path = Vec::new(self.alloc);
         let mut rest = text;
-        while let Some(dot) = rest.iter().position(|byte| *byte == b'.') {
+        while let Some(dot) = first_dot(rest) {
             path.push(self.ident(&rest[..dot])?)?;
             rest = &rest[dot + 1..];
         }

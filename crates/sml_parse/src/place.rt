@@ -1,5 +1,8 @@
 //! Places of bytes, counted from another byte of the unit.
 
+ghost use Rattle.std.specs.Prelude.{◌≡◌, ℕ, List, [], ◌∷◌, ◌++◌};
+ghost use Rattle.sml_parse.specs.Places.{place_behind, place_from, IsOnWay};
+
 use sml_lex::fault::Place;
 use sml_lex::token::Span;
 use sml_read::terminal::text;
@@ -7,22 +10,38 @@ use sml_read::terminal::text;
 /// The place from which all places of a declaration count.
 pub const FIRST: Place = Place { line: 1, column: 1 };
 
-/// The place behind these bytes, which begin at the given one.
-fn behind(place: Place, bytes: &[u8]) -> Place {
-    let mut behind = place;
-    for byte in bytes {
-        if *byte == b'\n' {
-            behind.line = behind.line.saturating_add(1);
-            behind.column = 1;
-        } else {
-            behind.column = behind.column.saturating_add(1);
+/// The place behind one more byte.
+fn after(place: Place, byte: u8) -> Place
+    ensures { (before : List ℕ) → place ≡ place_behind before → result ≡ place_behind (before ++ byte ∷ []) }
+{
+    if byte == b'\n' {
+        Place {
+            line: place.line.saturating_add(1),
+            column: 1,
+        }
+    } else {
+        Place {
+            line: place.line,
+            column: place.column.saturating_add(1),
         }
     }
-    behind
+}
+
+/// The place behind these bytes, the first of which stands at the given place.
+fn behind(place: Place, bytes: &[u8]) -> Place
+    ensures { (before : List ℕ) → place ≡ place_behind before → result ≡ place_behind (before ++ bytes.now) }
+{
+    let mut reached = place;
+    for byte in bytes {
+        reached = after(reached, *byte);
+    }
+    reached
 }
 
 /// The place of the byte `at`, counted from the byte `start`.
-pub fn place_from(unit: &[u8], start: usize, at: usize) -> Place {
+pub fn place_between(unit: &[u8], start: usize, at: usize) -> Place
+    ensures { result ≡ place_from unit.now start at }
+{
     behind(FIRST, text(unit, Span { start, end: at }))
 }
 
@@ -36,7 +55,10 @@ pub struct Walk {
 
 impl Walk {
     /// Starts at this byte, from which places count.
-    pub fn new(start: usize) -> Walk {
+    pub fn new(start: usize) -> Walk
+        ensures start { result.start ≡ start }
+        ensures sound { (unit : List ℕ) → IsOnWay unit result }
+    {
         Walk {
             start,
             at: start,
@@ -46,20 +68,23 @@ impl Walk {
 
     /// The place of the byte `at`. Costs no more than the way there from where the walk stands, unless that lies
     /// behind `at`.
-    pub fn go_to(&mut self, unit: &[u8], at: usize) -> Place {
+    pub fn go_to(&mut self, unit: &[u8], at: usize) -> Place
+        requires { IsOnWay unit.now self.old }
+        ensures place { result ≡ place_from unit.now self.old.start at }
+        ensures start { self.new.start ≡ self.old.start }
+        ensures sound { IsOnWay unit.now self.new }
+    {
         if at < self.at {
-            return place_from(unit, self.start, at);
+            return place_between(unit, self.start, at);
         }
-        self.place = behind(
-            self.place,
-            text(
-                unit,
-                Span {
-                    start: self.at,
-                    end: at,
-                },
-            ),
+        let way = text(
+            unit,
+            Span {
+                start: self.at,
+                end: at,
+            },
         );
+        self.place = behind(self.place, way);
         self.at = at;
         self.place
     }

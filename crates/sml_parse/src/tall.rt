@@ -1,84 +1,191 @@
 //! Heights from derivations, by one walk from the last item to the first, before any tree is made.
+ghost use Rattle.std.specs.Prelude.{◌≡◌, ℕ, ◌+◌, max, List, reverse, length, IfOk};
+ghost use Rattle.sml_read.specs.Grammar.{right_side};
+ghost use Rattle.sml_parse.specs.Values.{dec_in, first, rest, without};
+ghost use Rattle.sml_parse.specs.Rules.{values_of};
+ghost use Rattle.sml_tree.specs.Height.{counted};
+ghost use Rattle.sml_parse.specs.Heights.{height_if_any, exp_tall, exps_tall, ty_tall, tys_tall, spec_tall, specs_tall, core_tall, cores_tall, dec_tall, arrow_tall, tuple_tall, first_tall, tall_at, raised};
 
 use crate::item::Item;
 use sml_lex::fault::Memory;
 use sml_read::grammar::Rule;
 use std::alloc::Global;
 
-/// The sort of what a part makes.
+/// The height of what a part makes, by its sort.
 #[derive(Clone, Copy, PartialEq, Eq, Debug)]
-enum Sort {
+pub enum Tall {
     Nothing,
     Word,
-    Exp,
-    Exps,
-    Ty,
-    Tys,
-    Spec,
-    Specs,
-    Core,
-    Cores,
-    Dec,
+    Exp(u32),
+    Exps(u32),
+    Ty(u32),
+    Tys(u32),
+    Spec(u32),
+    Specs(u32),
+    Core(u32),
+    Cores(u32),
+    Dec(u32),
 }
 
-/// The sort and the height of what a part makes.
-#[derive(Clone, Copy, PartialEq, Eq, Debug)]
-struct Tall {
-    sort: Sort,
-    height: u32,
-}
-
-/// The topmost is taken off the stack.
-fn pop(stack: &mut Vec<Tall>) -> Tall {
+fn pop(stack: &mut Vec<Tall>) -> Tall
+    ensures value { result ≡ first_tall (reverse stack.old.items) }
+    ensures rest { reverse stack.new.items ≡ rest (reverse stack.old.items) }
+{
     match stack.pop() {
         Some(tall) => tall,
-        None => Tall {
-            sort: Sort::Nothing,
-            height: 0,
-        },
+        None => Tall::Nothing,
     }
 }
 
-/// The height of the topmost, which is of this sort; other things count as the least of it.
-fn pop_height(stack: &mut Vec<Tall>, sort: Sort, least: u32) -> u32 {
-    let tall = pop(stack);
-    if tall.sort == sort {
-        tall.height
-    } else {
-        least
-    }
+fn pop_exp(stack: &mut Vec<Tall>) -> u32
+    ensures value { result ≡ exp_tall (first_tall (reverse stack.old.items)) }
+    ensures rest { reverse stack.new.items ≡ rest (reverse stack.old.items) }
+{
+    let Tall::Exp(height) = pop(stack) else {
+        return 1;
+    };
+    height
 }
 
-fn pop_exp(stack: &mut Vec<Tall>) -> u32 {
-    pop_height(stack, Sort::Exp, 1)
+fn pop_exps(stack: &mut Vec<Tall>) -> u32
+    ensures value { result ≡ exps_tall (first_tall (reverse stack.old.items)) }
+    ensures rest { reverse stack.new.items ≡ rest (reverse stack.old.items) }
+{
+    let Tall::Exps(height) = pop(stack) else {
+        return 0;
+    };
+    height
 }
 
-fn pop_ty(stack: &mut Vec<Tall>) -> u32 {
-    pop_height(stack, Sort::Ty, 1)
+fn pop_ty(stack: &mut Vec<Tall>) -> u32
+    ensures value { result ≡ ty_tall (first_tall (reverse stack.old.items)) }
+    ensures rest { reverse stack.new.items ≡ rest (reverse stack.old.items) }
+{
+    let Tall::Ty(height) = pop(stack) else {
+        return 1;
+    };
+    height
 }
 
-/// The greater of the heights of a part and of those behind it.
-fn pop_more(stack: &mut Vec<Tall>, sort: Sort, least: u32, sorts: Sort) -> u32 {
-    let first = pop_height(stack, sort, least);
-    let others = pop_height(stack, sorts, 0);
+fn pop_tys(stack: &mut Vec<Tall>) -> u32
+    ensures value { result ≡ tys_tall (first_tall (reverse stack.old.items)) }
+    ensures rest { reverse stack.new.items ≡ rest (reverse stack.old.items) }
+{
+    let Tall::Tys(height) = pop(stack) else {
+        return 0;
+    };
+    height
+}
+
+fn pop_spec(stack: &mut Vec<Tall>) -> u32
+    ensures value { result ≡ spec_tall (first_tall (reverse stack.old.items)) }
+    ensures rest { reverse stack.new.items ≡ rest (reverse stack.old.items) }
+{
+    let Tall::Spec(height) = pop(stack) else {
+        return 0;
+    };
+    height
+}
+
+fn pop_specs(stack: &mut Vec<Tall>) -> u32
+    ensures value { result ≡ specs_tall (first_tall (reverse stack.old.items)) }
+    ensures rest { reverse stack.new.items ≡ rest (reverse stack.old.items) }
+{
+    let Tall::Specs(height) = pop(stack) else {
+        return 0;
+    };
+    height
+}
+
+fn pop_core(stack: &mut Vec<Tall>) -> u32
+    ensures value { result ≡ core_tall (first_tall (reverse stack.old.items)) }
+    ensures rest { reverse stack.new.items ≡ rest (reverse stack.old.items) }
+{
+    let Tall::Core(height) = pop(stack) else {
+        return 0;
+    };
+    height
+}
+
+fn pop_cores(stack: &mut Vec<Tall>) -> u32
+    ensures value { result ≡ cores_tall (first_tall (reverse stack.old.items)) }
+    ensures rest { reverse stack.new.items ≡ rest (reverse stack.old.items) }
+{
+    let Tall::Cores(height) = pop(stack) else {
+        return 0;
+    };
+    height
+}
+
+fn pop_dec(stack: &mut Vec<Tall>) -> u32
+    ensures value { result ≡ dec_tall (first_tall (reverse stack.old.items)) }
+    ensures rest { reverse stack.new.items ≡ rest (reverse stack.old.items) }
+{
+    let Tall::Dec(height) = pop(stack) else {
+        return 0;
+    };
+    height
+}
+
+/// The height of an expression and of those behind it.
+fn pop_more_exps(stack: &mut Vec<Tall>) -> u32
+    ensures value { result ≡ max (exp_tall (tall_at (reverse stack.old.items) 0)) (exps_tall (tall_at (reverse stack.old.items) 1)) }
+    ensures rest { reverse stack.new.items ≡ without 2 (reverse stack.old.items) }
+{
+    let first = pop_exp(stack);
+    let others = pop_exps(stack);
+    first.max(others)
+}
+
+/// The height of a type and of those behind it.
+fn pop_more_tys(stack: &mut Vec<Tall>) -> u32
+    ensures value { result ≡ max (ty_tall (tall_at (reverse stack.old.items) 0)) (tys_tall (tall_at (reverse stack.old.items) 1)) }
+    ensures rest { reverse stack.new.items ≡ without 2 (reverse stack.old.items) }
+{
+    let first = pop_ty(stack);
+    let others = pop_tys(stack);
+    first.max(others)
+}
+
+/// The height of a specification and of those behind it.
+fn pop_more_specs(stack: &mut Vec<Tall>) -> u32
+    ensures value { result ≡ max (spec_tall (tall_at (reverse stack.old.items) 0)) (specs_tall (tall_at (reverse stack.old.items) 1)) }
+    ensures rest { reverse stack.new.items ≡ without 2 (reverse stack.old.items) }
+{
+    let first = pop_spec(stack);
+    let others = pop_specs(stack);
+    first.max(others)
+}
+
+/// The height of a declaration of the core and of those behind it.
+fn pop_more_cores(stack: &mut Vec<Tall>) -> u32
+    ensures value { result ≡ max (core_tall (tall_at (reverse stack.old.items) 0)) (cores_tall (tall_at (reverse stack.old.items) 1)) }
+    ensures rest { reverse stack.new.items ≡ without 2 (reverse stack.old.items) }
+{
+    let first = pop_core(stack);
+    let others = pop_cores(stack);
     first.max(others)
 }
 
 /// The height of a type with what stands behind it.
-fn pop_arrow(stack: &mut Vec<Tall>) -> u32 {
+fn pop_arrow(stack: &mut Vec<Tall>) -> u32
+    ensures value { result ≡ arrow_tall (ty_tall (tall_at (reverse stack.old.items) 0)) (tall_at (reverse stack.old.items) 1) }
+    ensures rest { reverse stack.new.items ≡ without 2 (reverse stack.old.items) }
+{
     let left = pop_ty(stack);
-    let right = pop(stack);
-    if right.sort == Sort::Ty {
-        left.max(right.height).saturating_add(1)
-    } else {
-        left
-    }
+    let Tall::Ty(right) = pop(stack) else {
+        return left;
+    };
+    left.max(right).saturating_add(1)
 }
 
 /// The height of a type with those that stand behind stars.
-fn pop_tuple(stack: &mut Vec<Tall>) -> u32 {
+fn pop_tuple(stack: &mut Vec<Tall>) -> u32
+    ensures value { result ≡ tuple_tall (ty_tall (tall_at (reverse stack.old.items) 0)) (tys_tall (tall_at (reverse stack.old.items) 1)) }
+    ensures rest { reverse stack.new.items ≡ without 2 (reverse stack.old.items) }
+{
     let first = pop_ty(stack);
-    let others = pop_height(stack, Sort::Tys, 0);
+    let others = pop_tys(stack);
     if others == 0 {
         first
     } else {
@@ -86,135 +193,141 @@ fn pop_tuple(stack: &mut Vec<Tall>) -> u32 {
     }
 }
 
-fn skip_word(stack: &mut Vec<Tall>) {
+fn skip_three(stack: &mut Vec<Tall>)
+    ensures { reverse stack.new.items ≡ without 3 (reverse stack.old.items) }
+{
+    pop(stack);
+    pop(stack);
     pop(stack);
 }
 
-fn skip_three_words(stack: &mut Vec<Tall>) {
+/// One more than the height of an expression that stands fourth.
+fn pop_fourth_exp(stack: &mut Vec<Tall>) -> u32
+    ensures value { result ≡ counted (exp_tall (tall_at (reverse stack.old.items) 3) + 1) }
+    ensures rest { reverse stack.new.items ≡ without 4 (reverse stack.old.items) }
+{
+    skip_three(stack);
+    pop_exp(stack).saturating_add(1)
+}
+
+/// One more than the height of a type that stands fourth.
+fn pop_fourth_ty(stack: &mut Vec<Tall>) -> u32
+    ensures value { result ≡ counted (ty_tall (tall_at (reverse stack.old.items) 3) + 1) }
+    ensures rest { reverse stack.new.items ≡ without 4 (reverse stack.old.items) }
+{
+    skip_three(stack);
+    pop_ty(stack).saturating_add(1)
+}
+
+/// The height of a type in brackets.
+fn pop_bracket(stack: &mut Vec<Tall>) -> u32
+    ensures value { result ≡ counted (ty_tall (tall_at (reverse stack.old.items) 1) + 1) }
+    ensures rest { reverse stack.new.items ≡ without 3 (reverse stack.old.items) }
+{
     pop(stack);
+    let height = pop_ty(stack);
     pop(stack);
-    pop(stack);
+    height.saturating_add(1)
 }
 
 /// The height of `structure S :> sig specs end = struct decs end`.
-fn pop_structure(stack: &mut Vec<Tall>) -> u32 {
-    skip_three_words(stack);
-    skip_word(stack);
-    let specs = pop_height(stack, Sort::Specs, 0);
-    skip_three_words(stack);
-    let decs = pop_height(stack, Sort::Cores, 0);
-    skip_word(stack);
+fn pop_structure(stack: &mut Vec<Tall>) -> u32
+    ensures value { result ≡ counted (max (specs_tall (tall_at (reverse stack.old.items) 4)) (cores_tall (tall_at (reverse stack.old.items) 8)) + 3) }
+    ensures rest { reverse stack.new.items ≡ without 10 (reverse stack.old.items) }
+{
+    skip_three(stack);
+    pop(stack);
+    let specs = pop_specs(stack);
+    skip_three(stack);
+    let decs = pop_cores(stack);
+    pop(stack);
     specs.max(decs).saturating_add(3)
 }
 
-/// The values of a rule's right side are taken off the stack; what the rule makes of them is answered.
-fn pop_made(stack: &mut Vec<Tall>, rule: Rule) -> Tall {
-    let (sort, height) = match rule {
-        Rule::StartEnd | Rule::FollowingEnd => (Sort::Nothing, 0),
+/// The heights of a rule's right side are taken off the stack; that of what the rule makes is answered.
+fn pop_made(stack: &mut Vec<Tall>, rule: Rule) -> Tall
+    ensures made { result ≡ raised rule (reverse stack.old.items) }
+    ensures rest { reverse stack.new.items ≡ without (length (right_side rule)) (reverse stack.old.items) }
+{
+    match rule {
+        Rule::StartEnd | Rule::FollowingEnd => Tall::Nothing,
         Rule::StartSemicolon | Rule::StartTop | Rule::FollowingSemicolon | Rule::FollowingTop => {
             pop(stack);
             pop(stack);
-            (Sort::Nothing, 0)
+            Tall::Nothing
         }
-        Rule::TopVal => {
-            skip_three_words(stack);
-            (Sort::Dec, pop_exp(stack).saturating_add(1))
-        }
-        Rule::TopStructure => (Sort::Dec, pop_structure(stack)),
-        Rule::SpecsEnd => (Sort::Specs, 0),
+        Rule::TopVal => Tall::Dec(pop_fourth_exp(stack)),
+        Rule::TopStructure => Tall::Dec(pop_structure(stack)),
+        Rule::SpecsEnd => Tall::Specs(0),
         Rule::SpecsSemicolon => {
-            skip_word(stack);
-            (Sort::Specs, pop_height(stack, Sort::Specs, 0))
+            pop(stack);
+            Tall::Specs(pop_specs(stack))
         }
-        Rule::SpecsSpec => (Sort::Specs, pop_more(stack, Sort::Spec, 0, Sort::Specs)),
-        Rule::SpecVal => {
-            skip_three_words(stack);
-            (Sort::Spec, pop_ty(stack).saturating_add(1))
-        }
+        Rule::SpecsSpec => Tall::Specs(pop_more_specs(stack)),
+        Rule::SpecVal => Tall::Spec(pop_fourth_ty(stack)),
         Rule::SpecType => {
             pop(stack);
             pop(stack);
-            (Sort::Spec, 1)
+            Tall::Spec(1)
         }
-        Rule::DecsEnd => (Sort::Cores, 0),
+        Rule::DecsEnd => Tall::Cores(0),
         Rule::DecsSemicolon => {
-            skip_word(stack);
-            (Sort::Cores, pop_height(stack, Sort::Cores, 0))
+            pop(stack);
+            Tall::Cores(pop_cores(stack))
         }
-        Rule::DecsDec => (Sort::Cores, pop_more(stack, Sort::Core, 0, Sort::Cores)),
-        Rule::DecVal => {
-            skip_three_words(stack);
-            (Sort::Core, pop_exp(stack).saturating_add(1))
-        }
-        Rule::DecType => {
-            skip_three_words(stack);
-            (Sort::Core, pop_ty(stack).saturating_add(1))
-        }
+        Rule::DecsDec => Tall::Cores(pop_more_cores(stack)),
+        Rule::DecVal => Tall::Core(pop_fourth_exp(stack)),
+        Rule::DecType => Tall::Core(pop_fourth_ty(stack)),
         Rule::ExpInteger | Rule::ExpName | Rule::ExpLong | Rule::OpenClose => {
-            skip_word(stack);
-            (Sort::Exp, 1)
+            pop(stack);
+            Tall::Exp(1)
         }
         Rule::ExpOpen => {
-            skip_word(stack);
-            (Sort::Exp, pop_exp(stack))
+            pop(stack);
+            Tall::Exp(pop_exp(stack))
         }
-        Rule::ExpFn => {
-            skip_three_words(stack);
-            (Sort::Exp, pop_exp(stack).saturating_add(1))
-        }
-        Rule::OpenExp => (
-            Sort::Exp,
-            pop_more(stack, Sort::Exp, 1, Sort::Exps).saturating_add(1),
-        ),
+        Rule::ExpFn => Tall::Exp(pop_fourth_exp(stack)),
+        Rule::OpenExp => Tall::Exp(pop_more_exps(stack).saturating_add(1)),
         Rule::ExpsClose => {
-            skip_word(stack);
-            (Sort::Exps, 0)
+            pop(stack);
+            Tall::Exps(0)
         }
         Rule::ExpsComma => {
-            skip_word(stack);
-            (Sort::Exps, pop_more(stack, Sort::Exp, 1, Sort::Exps))
+            pop(stack);
+            Tall::Exps(pop_more_exps(stack))
         }
-        Rule::TyTup => (Sort::Ty, pop_arrow(stack)),
-        Rule::TyEnd => (Sort::Nothing, 0),
+        Rule::TyTup => Tall::Ty(pop_arrow(stack)),
+        Rule::TyEnd => Tall::Nothing,
         Rule::TyArrow => {
-            skip_word(stack);
-            (Sort::Ty, pop_ty(stack))
+            pop(stack);
+            Tall::Ty(pop_ty(stack))
         }
-        Rule::TupCon => (Sort::Ty, pop_tuple(stack)),
-        Rule::TupEnd => (Sort::Tys, 0),
+        Rule::TupCon => Tall::Ty(pop_tuple(stack)),
+        Rule::TupEnd => Tall::Tys(0),
         Rule::TupStar => {
-            skip_word(stack);
-            (Sort::Tys, pop_more(stack, Sort::Ty, 1, Sort::Tys))
+            pop(stack);
+            Tall::Tys(pop_more_tys(stack))
         }
         Rule::ConName | Rule::ConLong => {
-            skip_word(stack);
-            (Sort::Ty, 1)
+            pop(stack);
+            Tall::Ty(1)
         }
-        Rule::ConOpen => {
-            skip_word(stack);
-            let height = pop_ty(stack);
-            skip_word(stack);
-            (Sort::Ty, height.saturating_add(1))
-        }
-        Rule::NameValue | Rule::NameOther => {
-            return pop(stack);
-        }
-    };
-    Tall { sort, height }
+        Rule::ConOpen => Tall::Ty(pop_bracket(stack)),
+        Rule::NameValue | Rule::NameOther => pop(stack),
+    }
 }
 
 /// The height of the declaration that these items spell.
-pub fn measure(alloc: Global, items: &[Item]) -> Result<u32, Memory> {
+pub fn measure(alloc: Global, items: &[Item]) -> Result<u32, Memory>
+    ensures { IfOk result (λ height. (unit : List ℕ) → height ≡ counted (height_if_any (dec_in (first (values_of unit items.now))))) }
+{
     let mut stack = Vec::new(alloc);
     for i in (0..items.len()).rev() {
         let tall = match items[i] {
-            Item::Word(_) => Tall {
-                sort: Sort::Word,
-                height: 0,
-            },
+            Item::Word(_) => Tall::Word,
             Item::Rule(rule) => pop_made(&mut stack, rule),
         };
         stack.push(tall)?;
     }
-    Ok(pop_height(&mut stack, Sort::Dec, 0))
+    Ok(pop_dec(&mut stack))
 }

@@ -5,3 +5,4 @@ pub mod Unique
 pub mod Readings
 pub mod Paths
 pub mod Sound
+pub mod Specified

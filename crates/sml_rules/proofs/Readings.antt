@@ -54,20 +54,26 @@ apart_holds B E n h =
     (outside-append n B.names (names_env B.body) (outside-right n (names_env E) B.names p) (outside-right n (names_env E ++ B.names) (names_env B.body) h))
     (outside-left n (names_env E) B.names p)
 
--- a new name
-any_new_settled : {P : Type 0} (unit : ℕ) → Settled {C = Basis} {O = λ N. Answer P N} basis_supported (λ N a B. any (IsNew a unit B))
-unfolding any IsNew basis_supported
-any_new_settled unit D E N a B d cov (refused f) y h k = absurd h
-any_new_settled unit D E N a B d cov (accepted m) (refused f) h k = absurd k
-any_new_settled {P} unit D E N a B d cov (accepted m) (accepted n) h k =
-    mapped {C = λ N. (Basis N × D N) × N} {D = λ N. (Basis N × D N) × Answer P N} (λ N a v. (v.0, accepted v.1))
-    (alike_names {F = λ N. Basis N × D N} (supported_named (pair_supported basis_supported E)) a m n (h.0 ∙ sym k.0) h.1 k.1 (B, d)
+-- two new names
+pub new_settled : (unit : ℕ) (D : Type 0 → Type 0) (E : Supported D) (N : Type 0) (a : Naming N) (B : Basis N) (d : D N)
+    → Covers (names_basis B) (E.names d) → (m n : N) → IsNew a unit B m → IsNew a unit B n
+    → ◌≡◌ {A = Over (λ N. (Basis N × D N) × N)} (N, a, ((B, d), m)) (N, a, ((B, d), n))
+unfolding IsNew basis_supported
+new_settled unit D E N a B d cov m n h k =
+    alike_names {F = λ N. Basis N × D N} (supported_named (pair_supported basis_supported E)) a m n (h.0 ∙ sym k.0) h.1 k.1 (B, d)
     ((pair_supported basis_supported E).fixed (exchange a m n) (B, d)
     (exchange_fixes a m n (names_basis B ++ E.names d)
     (outside-append m (names_basis B) (E.names d) h.2 (cov m h.2))
-    (outside-append n (names_basis B) (E.names d) k.2 (cov n k.2)))))
+    (outside-append n (names_basis B) (E.names d) k.2 (cov n k.2))))
 
-name_supported : Supported (λ N. N)
+any_new_settled : {P : Type 0} (unit : ℕ) → Settled {C = Basis} {O = λ N. Answer P N} basis_supported (λ N a B. any (IsNew a unit B))
+unfolding any basis_supported
+any_new_settled unit D E N a B d cov (refused f) y h k = absurd h
+any_new_settled unit D E N a B d cov (accepted m) (refused f) h k = absurd k
+any_new_settled {P} unit D E N a B d cov (accepted m) (accepted n) h k =
+    mapped {C = λ N. (Basis N × D N) × N} {D = λ N. (Basis N × D N) × Answer P N} (λ N a v. (v.0, accepted v.1)) (new_settled unit D E N a B d cov m n h k)
+
+pub name_supported : Supported (λ N. N)
 unfolding Fixes
 name_supported = record { rename = λ f n. f n; names = λ n. n ∷ []; fixed = λ f n h. h.0 }
 

@@ -316,7 +316,7 @@ module _ {P N : Type 0} (names : Naming N) where
       enriches φ (env no_structure ts vs) h k l = (tt, k, l)
       enriches φ (env (and_structure s F ss) ts vs) h k l = absurd h.0
 
-  sound_dec : (unit : ℕ) (B : Basis N) (d : Dec P) (S : Sig N) → read_dec names unit B d (accepted S) → Derives names unit B d S
+  pub sound_dec : (unit : ℕ) (B : Basis N) (d : Dec P) (S : Sig N) → read_dec names unit B d (accepted S) → Derives names unit B d S
   unfolding read_dec Derives names_basis IsPlain NoStructure AreNames
   sound_dec unit B (core d) S h =
       let a = bound_by _ _ S h in

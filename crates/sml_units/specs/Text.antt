@@ -59,11 +59,11 @@ unfoldable mutual
 
 -- a line: a word, the path and the identifier, a sign, and a type
 unfoldable pub line : {N : Type 0} → List ℕ → List ℕ → List ℕ → Id × Scheme N → List (Piece N)
-line word path sign x = say (word ++ (path ++ (x.0 ++ sign))) ++ (show_type 0 x.1.body ++ say (codes "\n"))
+line keyword path sign x = say (keyword ++ (path ++ (x.0 ++ sign))) ++ (show_type 0 x.1.body ++ say (codes "\n"))
 
 unfoldable pub lines : {N : Type 0} → List ℕ → List ℕ → List ℕ → Map (Scheme N) → List (Piece N)
-lines word path sign [] = []
-lines word path sign (x ∷ xs) = line word path sign x ++ lines word path sign xs
+lines keyword path sign [] = []
+lines keyword path sign (x ∷ xs) = line keyword path sign x ++ lines keyword path sign xs
 
 -- the lines of an environment whose paths begin so: structures, types and values, each in byte order
 unfoldable mutual

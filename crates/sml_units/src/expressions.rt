@@ -6,7 +6,8 @@ use crate::top_fault::{TopFault, plain_fault};
 use crate::types::type_of;
 use sml_lex::fault::{Code, Memory, Place};
 use sml_objects::objects::{Env, Initial, MlType, Scheme, TyName};
-use sml_objects::types::{close, instantiate, size_up_to};
+use sml_objects::schemes::{close, instantiate};
+use sml_objects::sizes::size_up_to;
 use sml_tree::bare::{CoreDec, CoreForm, Exp, Ident, LongIdent};
 use std::alloc::Global;
 use std::rc::Rc;
@@ -22,7 +23,7 @@ pub(crate) struct Typed {
 }
 
 #[cycle(typing)]
-fn typed(
+fn elaborate(
     alloc: Global,
     context: &Context,
     locals: &mut Locals,
@@ -33,32 +34,35 @@ fn typed(
         Exp::Number => typed_number(alloc, made),
         Exp::Identifier(long) => typed_identifier(alloc, context, locals, long, made),
         Exp::Tuple(parts) => typed_tuple(alloc, context, locals, parts, made),
-        Exp::Bracket(inner) => typed(alloc, context, locals, inner, made),
+        Exp::Bracket(inner) => elaborate(alloc, context, locals, inner, made),
         Exp::Function(name, body) => {
             let Some(next) = made.checked_add(1) else {
                 return Err(TopFault::Memory);
             };
             let hidden = locals.bind(name, made)?;
-            let result = typed(alloc, context, locals, body, next)?;
+            let body = elaborate(alloc, context, locals, body, next)?;
             locals.unbind(name, hidden)?;
-            typed_function(alloc, made, result)
+            typed_function(alloc, made, body)
         }
     }
 }
 
 #[inline(never)]
 fn typed_number(alloc: Global, made: u32) -> Result<Typed, TopFault> {
-    let ty = Rc::new(alloc, MlType::Name(TyName::Initial(Initial::Int), Vec::new(alloc)))?;
+    let ty = Rc::new(
+        alloc,
+        MlType::Name(TyName::Initial(Initial::Int), Vec::new(alloc)),
+    )?;
     Ok(Typed { ty, made })
 }
 
 #[inline(never)]
-fn typed_function(alloc: Global, number: u32, result: Typed) -> Result<Typed, TopFault> {
+fn typed_function(alloc: Global, number: u32, body: Typed) -> Result<Typed, TopFault> {
     let variable = Rc::new(alloc, MlType::Free(number))?;
-    let ty = Rc::new(alloc, MlType::Arrow(variable, result.ty))?;
+    let ty = Rc::new(alloc, MlType::Arrow(variable, body.ty))?;
     Ok(Typed {
         ty,
-        made: result.made,
+        made: body.made,
     })
 }
 
@@ -104,7 +108,7 @@ fn typed_tuple(
     let mut types = Vec::new(alloc);
     let mut count = made;
     for part in parts {
-        let part = typed(alloc, context, locals, part, count)?;
+        let part = elaborate(alloc, context, locals, part, count)?;
         count = part.made;
         types.push(part.ty)?;
     }
@@ -147,10 +151,13 @@ pub(crate) fn type_component(
     body: Rc<MlType>,
 ) -> Result<Component, TopFault> {
     let name = name.clone()?;
-    let function = Rc::new(alloc, Scheme {
-        variables: Vec::new(alloc),
-        body,
-    })?;
+    let function = Rc::new(
+        alloc,
+        Scheme {
+            variables: Vec::new(alloc),
+            body,
+        },
+    )?;
     Ok(Component::Type(name, function))
 }
 
@@ -171,7 +178,7 @@ pub(crate) fn declared(
     match &dec.form {
         CoreForm::Value(name, exp) => {
             let mut locals = Locals::new(alloc);
-            let value = typed(alloc, context, &mut locals, exp, 0)?;
+            let value = elaborate(alloc, context, &mut locals, exp, 0)?;
             let ty = small(value.ty, dec.place)?;
             let scheme = close(alloc, &ty)?;
             value_component(alloc, name, scheme)
@@ -185,11 +192,7 @@ pub(crate) fn declared(
 }
 
 /// What the declarations of a structure's body bind, one after the other.
-pub(crate) fn all_declared(
-    alloc: Global,
-    outer: &Env,
-    decs: &[CoreDec],
-) -> Result<Env, TopFault> {
+pub(crate) fn all_declared(alloc: Global, outer: &Env, decs: &[CoreDec]) -> Result<Env, TopFault> {
     let mut bound = Env::new(alloc);
     for dec in decs {
         let context = Context {

@@ -2,13 +2,17 @@
 #![tactic(auto)]
 
 mod expressions;
+pub mod isolation;
 mod locals;
 mod lookups;
 pub mod manifest;
 mod matching;
 pub mod modules;
 mod numerals;
+pub mod project;
+pub mod project_file;
 pub mod reply;
+pub mod run;
 mod signatures;
 pub mod sink;
 mod texts;

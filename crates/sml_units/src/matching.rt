@@ -1,6 +1,5 @@
 //! Whether a structure matches a signature (the Definition, sections 5.2, 5.5 and 5.6).
 
-use crate::lookups::dotted;
 use crate::top_fault::{TopFault, fault_about};
 use sml_lex::fault::{Code, Place};
 use sml_objects::objects::{Env, MlType, Scheme, Sig, TyName};
@@ -29,13 +28,13 @@ pub(crate) fn matches(
     sig: &Sig,
     structure: &Env,
 ) -> Result<(), TopFault> {
-    let realisation = realisation(alloc, place, sig, structure)?;
+    let realisation = sent_names(alloc, place, sig, structure)?;
     types_agree(alloc, place, &realisation, sig, structure)?;
     values_agree(alloc, place, &realisation, sig, structure)
 }
 
 /// Sends each name of the signature to the type function at its path.
-fn realisation(
+fn sent_names(
     alloc: Global,
     place: Place,
     sig: &Sig,
@@ -67,7 +66,8 @@ fn types_agree(
     for (name, specified) in sig.body.types.iter() {
         let realised = realised(alloc, realisation, &specified.body)?;
         let agrees = match structure.type_function(name) {
-            Some(function) => function.variables == specified.variables && same_type(&function.body, &realised),
+            Some(function) => function.variables == specified.variables
+                && same_type(&function.body, &realised),
             None => false,
         };
         if !agrees {
@@ -99,13 +99,10 @@ fn values_agree(
 
 /// The type with the type functions of the realisation for its names.
 #[cycle(realising)]
-fn realised(
-    alloc: Global,
-    realisation: &Realisation,
-    ty: &Rc<MlType>,
-) -> Result<Rc<MlType>, TopFault> {
-    match &**ty {
-        MlType::Bound(_) | MlType::Free(_) => Ok(ty.clone()?),
+fn realised(alloc: Global, realisation: &Realisation, ty: &MlType) -> Result<Rc<MlType>, TopFault> {
+    match ty {
+        MlType::Bound(k) => Ok(Rc::new(alloc, MlType::Bound(*k))?),
+        MlType::Free(v) => Ok(Rc::new(alloc, MlType::Free(*v))?),
         MlType::Row(parts) => {
             let parts = all_realised(alloc, realisation, parts)?;
             Ok(Rc::new(alloc, MlType::Row(parts))?)
@@ -201,7 +198,11 @@ fn fits(found: &mut Found, body: &MlType, ty: &Rc<MlType>) -> Result<bool, TopFa
 }
 
 #[cycle(fitting)]
-fn all_fit(found: &mut Found, bodies: &[Rc<MlType>], types: &[Rc<MlType>]) -> Result<bool, TopFault> {
+fn all_fit(
+    found: &mut Found,
+    bodies: &[Rc<MlType>],
+    types: &[Rc<MlType>],
+) -> Result<bool, TopFault> {
     if bodies.len() != types.len() {
         return Ok(false);
     }

@@ -7,7 +7,7 @@ use crate::top_fault::TopFault;
 use sml_lex::fault::Memory;
 use sml_lex::lexer::lex;
 use sml_objects::objects::{Basis, UnitId};
-use sml_parse::parse::parse;
+use sml_parse::parse::{Parsed, parse};
 use std::alloc::Global;
 
 /// The units of a project in their order, each with its text.
@@ -90,11 +90,14 @@ pub fn check(alloc: Global, project: &Project) -> Result<Checked, Memory> {
 /// The replies to the declarations of a unit.
 fn check_unit(alloc: Global, id: UnitId, text: &[u8]) -> Result<Vec<Reply>, Memory> {
     let lexed = lex(alloc, text)?;
-    let parsed = parse(alloc, &lexed)?;
+    let Parsed {
+        declarations,
+        fault,
+    } = parse(alloc, &lexed)?;
     let mut basis = Basis::initial(alloc, id)?;
     let mut replies = Vec::new(alloc);
     let mut number: u32 = 0;
-    for dec in parsed.declarations.iter() {
+    for dec in declarations.iter() {
         number = after(number)?;
         match topdec(alloc, &basis, dec) {
             Ok((own, warnings)) => {
@@ -105,7 +108,7 @@ fn check_unit(alloc: Global, id: UnitId, text: &[u8]) -> Result<Vec<Reply>, Memo
             Err(TopFault::Memory) => return Err(Memory),
         }
     }
-    if let Some(fault) = parsed.fault {
+    if let Some(fault) = fault {
         number = after(number)?;
         replies.push(Reply::refused(number, fault))?;
     }

@@ -47,7 +47,7 @@ pub fn run<O: Out>(
 ) -> Result<Summary, RunFault> {
     let checked = check(alloc, project)?;
     write_replies(checked.replies(), warnings, out)?;
-    Ok(summary(checked.replies()))
+    Ok(counts(checked.replies()))
 }
 
 fn write_replies<O: Out>(replies: &Replies, warnings: bool, out: &mut O) -> Result<(), OutFault> {
@@ -62,7 +62,7 @@ fn write_replies<O: Out>(replies: &Replies, warnings: bool, out: &mut O) -> Resu
     Ok(())
 }
 
-fn summary(replies: &Replies) -> Summary {
+fn counts(replies: &Replies) -> Summary {
     let mut summary = Summary {
         accepted: 0,
         refused: 0,

@@ -71,7 +71,7 @@ impl<W: Write> Out for StdOut<W> {
 }
 
 /// Writes the whole slice.
-pub(crate) fn write_all<O: Out>(out: &mut O, bytes: &[u8]) -> Result<(), OutFault> {
+pub fn write_all<O: Out>(out: &mut O, bytes: &[u8]) -> Result<(), OutFault> {
     let mut start = 0;
     while start < bytes.len() {
         let rest = &bytes[start..];

@@ -55,7 +55,12 @@ impl Lines {
     }
 
     /// The lines of an environment whose paths begin with the prefix.
-    pub(crate) fn push_env(&mut self, alloc: Global, prefix: &[u8], env: &Env) -> Result<(), Memory> {
+    pub(crate) fn push_env(
+        &mut self,
+        alloc: Global,
+        prefix: &[u8],
+        env: &Env,
+    ) -> Result<(), Memory> {
         for (name, structure) in env.structures.iter() {
             self.push(b"  structure ")?;
             self.push(prefix)?;
@@ -139,7 +144,12 @@ impl Lines {
 
     /// The types with a sign between them.
     #[cycle(types)]
-    fn push_types(&mut self, around: Around, between: &[u8], types: &[Rc<MlType>]) -> Result<(), Memory> {
+    fn push_types(
+        &mut self,
+        around: Around,
+        between: &[u8],
+        types: &[Rc<MlType>],
+    ) -> Result<(), Memory> {
         for (index, ty) in types.iter().enumerate() {
             if index > 0 {
                 self.push(between)?;

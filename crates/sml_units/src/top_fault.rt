@@ -1,5 +1,10 @@
 //! Why a declaration has no environment.
 
+ghost use Rattle.std.specs.Prelude.{◌≡◌, Some};
+ghost use Rattle.sml_rules.specs.Answers.{fault};
+ghost use Rattle.sml_units.specs.Elaborated.{IsFaultOf};
+ghost use Rattle.sml_units.specs.declared.top_fault.TopFault.TheVariants.{Memory};
+
 use sml_lex::fault::{Code, Fault, Memory, Place};
 use std::alloc::{AllocError, AllocFailed};
 
@@ -35,7 +40,9 @@ impl<T: Drop> From<AllocFailed<T>> for TopFault {
 }
 
 /// A fault that speaks of no identifier.
-pub(crate) fn plain_fault(code: Code, place: Place) -> TopFault {
+pub(crate) fn plain_fault(code: Code, place: Place) -> TopFault
+    ensures { IsFaultOf result (fault code place) }
+{
     TopFault::Fault(Fault {
         code,
         place,
@@ -44,7 +51,9 @@ pub(crate) fn plain_fault(code: Code, place: Place) -> TopFault {
 }
 
 /// A fault that speaks of this long identifier or path.
-pub(crate) fn fault_about(code: Code, place: Place, detail: Vec<u8>) -> TopFault {
+pub(crate) fn fault_about(code: Code, place: Place, detail: Vec<u8>) -> TopFault
+    ensures { IsFaultOf result (record { code = code; place = place; detail = Some detail.items }) }
+{
     TopFault::Fault(Fault {
         code,
         place,

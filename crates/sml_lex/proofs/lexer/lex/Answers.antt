@@ -1,4 +1,4 @@
-use Rattle.std.proofs.Common.{◌≡◌, ◌+◌, ◌-◌, drop, ◌++◌, refl, sym, ap, ◌∙◌, subst, arith, inl, append-nil}
+use Rattle.std.proofs.Common.{◌+◌, ◌++◌, refl, sym, ap, ◌∙◌, subst, arith, inl, append-nil}
 use Rattle.std.proofs.lemmas.List.{take_rest}
 use Rattle.sml_lex.specs.Pieces.{IsPiece, IsFault}
 use Rattle.sml_lex.proofs.Spelling.{carries_more, carried, place_on, none_there, token_there}
@@ -23,9 +23,8 @@ loop-place-preserved c =
 
 pub returns-in-Err : goal.returns-in-Err
 returns-in-Err c =
-    let f = subst (λ rest. IsFault rest c.in-Err.stop.code c.in-Err.stop.at) (take_rest c.args.unit.now c.loop-place.place) c.in-Err.ensures in
-    let at : c.in-Err.stop.at ≡ c.loop-place.place + c.in-Err.stop.at - c.loop-place.place = omega arith in
-    let w = carried _ _ _ _ c.loop-place.invariant.carries (c.loop-place-test.true, omega arith, subst (IsFault (drop c.loop-place.place c.args.unit.now) c.in-Err.stop.code) at f) in (
+    let f = subst (λ rest. IsFault rest c.in-Err.stop) (take_rest c.args.unit.now c.loop-place.place) c.in-Err.ensures in
+    let w = carried _ _ _ _ c.loop-place.invariant.carries (c.loop-place-test.true, c.in-Err.stop, f, refl) in (
       refl,
       inl (record {
         within = c.if-unit-gt-MAX_UNIT.false;
@@ -48,3 +47,19 @@ returns c =
         spelled = w.2;
       }),
     )
+
+pub loop-place-smaller-in_ok-push-in-Ok : goal.loop-place-smaller-in_ok-push-in-Ok
+loop-place-smaller-in_ok-push-in-Ok c =
+    let p = subst (λ rest. IsPiece rest c.in-Ok.piece) (take_rest c.args.unit.now c.loop-place.place) c.in-Ok.ensures in
+    let on = place_on c.args.unit.now c.loop-place.place c.size.result c.in-Ok.piece c.loop-place-test.true c.size.ensures p in
+    let more = on.0 in
+    let within = on.1 in
+    omega (arith, more, within)
+
+pub loop-place-smaller : goal.loop-place-smaller
+loop-place-smaller c =
+    let p = subst (λ rest. IsPiece rest c.in-Ok.piece) (take_rest c.args.unit.now c.loop-place.place) c.in-Ok.ensures in
+    let on = place_on c.args.unit.now c.loop-place.place c.size.result c.in-Ok.piece c.loop-place-test.true c.size.ensures p in
+    let more = on.0 in
+    let within = on.1 in
+    omega (arith, more, within)

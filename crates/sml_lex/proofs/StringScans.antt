@@ -1,0 +1,146 @@
+-- A string, item by item.
+use Rattle.std.proofs.Common.{◌≡◌, ℕ, ◌+◌, ◌<◌, ◌≤◌, List, [], ◌∷◌, ◌++◌, drop, length, true, false, Option, Some, None, unwrap_or, refl, sym, ap, ◌∙◌, arith, append_assoc}
+use Rattle.std.specs.Prelude.{flat_map}
+use Rattle.std.proofs.lemmas.Bool.{eqb-true}
+use Rattle.std.proofs.Math.Seq.{drop-append_seam}
+use Rattle.std.proofs.lemmas.List.{drop-drop, length-append, length-drop, flat_map_more}
+use Rattle.sml_lex.specs.declared.token.Stop.{Stop}
+use Rattle.sml_lex.specs.declared.strings.Extent.{Extent}
+use Rattle.sml_lex.specs.Bytes.{starts_with}
+use Rattle.sml_lex.specs.Strings.{Item, item_text, item_value, IsItem, AreItems, items_text, string_value, break_of, IsBroken}
+use Rattle.sml_lex.specs.Strings.Item.{Plain, Letter, Control, Decimal, Hexadecimal, Gap}
+use Rattle.sml_lex.specs.StringReading.{item_at, extent_of, extent, IsQuoted}
+use Rattle.sml_lex.proofs.Reading.{false_is_true}
+use Rattle.sml_lex.proofs.StringItems.{none_is_item, item_sound, item_complete}
+
+-- the bytes of a string so far
+pub record Scanned (text : List ℕ) (bytes characters : ℕ) : Type 0 where
+  pub items : List Item
+  pub are_items : AreItems items
+  pub spelled : text ≡ 34 ∷ (items_text items ++ drop bytes text)
+  pub bytes_are : bytes ≡ 1 + length (items_text items)
+  pub characters_are : characters ≡ length (string_value items)
+  pub few : characters ≤ bytes
+  pub within : bytes ≤ length text
+
+quote_first : (text : List ℕ) → starts_with 34 text ≡ true → text ≡ 34 ∷ drop 1 text
+quote_first [] e = absurd (false_is_true e)
+quote_first (c ∷ text) e = ap (λ c. c ∷ text) (eqb-true _ _ e)
+
+pub scan_start : (text : List ℕ) → starts_with 34 text ≡ true → Scanned text 1 0
+scan_start text e = record {
+  items = [];
+  are_items = tt;
+  spelled = quote_first text e;
+  bytes_are = refl;
+  characters_are = refl;
+  few = omega arith;
+  within = let l = ap length (quote_first text e) in omega (arith, l);
+}
+
+items_more : (items : List Item) (item : Item) → AreItems items → IsItem item → AreItems (items ++ item ∷ [])
+items_more [] item a i = (i, tt)
+items_more (first ∷ items) item a i = (a.0, items_more items item a.1 i)
+
+length_more : (f : Item → List ℕ) (items : List Item) (item : Item) → length (flat_map f (items ++ item ∷ [])) ≡ length (flat_map f items) + length (f item)
+length_more f items item = ap length (sym (flat_map_more f [] items item)) ∙ length-append (flat_map f items) (f item)
+
+fewer : (item : Item) → length (item_value item) ≤ length (item_text item)
+fewer (Plain c) = omega arith
+fewer (Letter c) = omega arith
+fewer (Control c) = omega arith
+fewer (Decimal a b c) = omega arith
+fewer (Hexadecimal a b c d) = omega arith
+fewer (Gap white) = omega arith
+
+some_bytes : (item : Item) → 0 < length (item_text item)
+some_bytes (Plain c) = omega arith
+some_bytes (Letter c) = omega arith
+some_bytes (Control c) = omega arith
+some_bytes (Decimal a b c) = omega arith
+some_bytes (Hexadecimal a b c d) = omega arith
+some_bytes (Gap white) = omega arith
+
+-- the item found
+pub record Found (rest : List ℕ) (found : Extent) : Type 0 where
+  pub item : Item
+  pub is_item : IsItem item
+  pub behind : List ℕ
+  pub spelled : rest ≡ item_text item ++ behind
+  pub bytes : found.bytes ≡ length (item_text item)
+  pub characters : found.characters ≡ length (item_value item)
+
+pub found : (rest : List ℕ) (size : Extent) → extent (item_at rest) ≡ Some size → Found rest size
+found rest size e = go (item_at rest) refl e
+  where
+    go : (o : Option Item) → item_at rest ≡ o → extent o ≡ Some size → Found rest size
+    go None o e = absurd (none_is_item size e)
+    go (Some item) o e =
+        let same : extent_of item ≡ size = ap (λ x. unwrap_or x (extent_of item)) e in
+        let s = item_sound rest item o in record {
+          item = item;
+          is_item = s.0;
+          behind = s.1;
+          spelled = s.2;
+          bytes = sym (ap (λ x. x.bytes) same);
+          characters = sym (ap (λ x. x.characters) same);
+        }
+
+pub scan_on : (text : List ℕ) (bytes characters : ℕ) (size : Extent) → Found (drop bytes text) size → Scanned text bytes characters → Scanned text (bytes + size.bytes) (characters + size.characters)
+scan_on text bytes characters size f s =
+    let behind : drop (bytes + size.bytes) text ≡ f.behind = sym (drop-drop size.bytes bytes text) ∙ ap (λ n. drop n (drop bytes text)) f.bytes ∙ ap (drop (length (item_text f.item))) f.spelled ∙ drop-append_seam (item_text f.item) f.behind in
+    let b = s.bytes_are in
+    let c = s.characters_are in
+    let fb = f.bytes in
+    let fc = f.characters in
+    let few = s.few in
+    let less = fewer f.item in
+    let lb = length_more item_text s.items f.item in
+    let lc = length_more item_value s.items f.item in
+    let ld = length-drop bytes text in
+    let within = s.within in
+    let lf = ap length f.spelled ∙ length-append (item_text f.item) f.behind in record {
+      items = s.items ++ f.item ∷ [];
+      are_items = items_more s.items f.item s.are_items f.is_item;
+      spelled = s.spelled ∙ ap (λ t. 34 ∷ (items_text s.items ++ t)) f.spelled ∙ ap (λ t. 34 ∷ t) (sym (append_assoc (items_text s.items) (item_text f.item) f.behind) ∙ ap (λ t. t ++ f.behind) (flat_map_more item_text [] s.items f.item)) ∙ ap (λ t. 34 ∷ (items_text (s.items ++ f.item ∷ []) ++ t)) (sym behind);
+      bytes_are = omega (arith, b, fb, lb);
+      characters_are = omega (arith, c, fc, lc);
+      few = omega (arith, few, fb, fc, less);
+      within = omega (arith, ld, lf, fb, within);
+    }
+
+pub scan_smaller : (text : List ℕ) (bytes characters : ℕ) (size : Extent) → Found (drop bytes text) size → Scanned text bytes characters → (0 < size.bytes) × (bytes + size.bytes ≤ length text)
+scan_smaller text bytes characters size f s =
+    let some = some_bytes f.item in
+    let fb = f.bytes in
+    let ld = length-drop bytes text in
+    let within = s.within in
+    let lf = ap length f.spelled ∙ length-append (item_text f.item) f.behind in
+    (omega (arith, some, fb), omega (arith, ld, lf, fb, within))
+
+pub scan_closed : (text : List ℕ) (bytes characters : ℕ) → starts_with 34 (drop bytes text) ≡ true → Scanned text bytes characters → IsQuoted text (record {
+  bytes = bytes + 1;
+  characters = characters;
+})
+scan_closed text bytes characters e s =
+    let rest : List ℕ = drop 1 (drop bytes text) in
+    let b = s.bytes_are in
+    let l = length-append (items_text s.items) (34 ∷ []) in record {
+      items = s.items;
+      rest = rest;
+      are_items = s.are_items;
+      spelled = s.spelled ∙ ap (λ t. 34 ∷ (items_text s.items ++ t)) (quote_first (drop bytes text) e) ∙ ap (λ t. 34 ∷ t) (sym (append_assoc (items_text s.items) (34 ∷ []) rest));
+      bytes = omega (arith, b, l);
+      characters = s.characters_are;
+    }
+
+pub scan_broken : (text : List ℕ) (bytes characters : ℕ) (stop : Stop) → starts_with 34 (drop bytes text) ≡ false → extent (item_at (drop bytes text)) ≡ None → stop ≡ break_of (drop bytes text) bytes → Scanned text bytes characters → IsBroken text stop
+scan_broken text bytes characters stop o n b s = record {
+  items = s.items;
+  rest = drop bytes text;
+  are_items = s.are_items;
+  spelled = s.spelled;
+  not_closed = o;
+  no_item = λ item more i e. none_is_item (extent_of item) (sym n ∙ ap (λ t. extent (item_at t)) e ∙ ap extent (item_complete item more i));
+  fault = b ∙ ap (break_of (drop bytes text)) s.bytes_are;
+}

@@ -2,12 +2,10 @@
 use Rattle.std.proofs.Common.{◌≡◌, List, [], ◌∷◌, refl, ap, sym, ◌∙◌}
 use Rattle.sml_objects.specs.Names.{Naming, Initial}
 use Rattle.sml_objects.specs.Alike.{Renaming}
+use Rattle.sml_objects.specs.Exchanges.{exchanged}
 
 module _ {N : Type 0} (names : Naming N) where
-  exchanged : N → N → N → N
-  exchanged m n k = elim (names.same k m) [ yes _ ↦ n | no _ ↦ elim (names.same k n) [ yes _ ↦ m | no _ ↦ k ] ]
-
-  first : (m n k : N) → k ≡ m → exchanged m n k ≡ n
+  pub first : (m n k : N) → k ≡ m → exchanged names m n k ≡ n
   unfolding exchanged
   first m n k e =
       elim (names.same k m) as (λ d. (elim d [ yes _ ↦ n | no _ ↦ elim (names.same k n) [ yes _ ↦ m | no _ ↦ k ] ]) ≡ n) [
@@ -15,7 +13,7 @@ module _ {N : Type 0} (names : Naming N) where
         | no h ↦ absurd (h e)
       ]
 
-  second : (m n k : N) → k ≡ n → exchanged m n k ≡ m
+  pub second : (m n k : N) → k ≡ n → exchanged names m n k ≡ m
   unfolding exchanged
   second m n k e =
       elim (names.same k m) as (λ d. (elim d [ yes _ ↦ n | no _ ↦ elim (names.same k n) [ yes _ ↦ m | no _ ↦ k ] ]) ≡ m) [
@@ -23,7 +21,7 @@ module _ {N : Type 0} (names : Naming N) where
         | no _ ↦ elim (names.same k n) as (λ d. (elim d [ yes _ ↦ m | no _ ↦ k ]) ≡ m) [ yes _ ↦ refl | no h ↦ absurd (h e) ]
       ]
 
-  other : (m n k : N) → ¬ (k ≡ m) → ¬ (k ≡ n) → exchanged m n k ≡ k
+  pub other : (m n k : N) → ¬ (k ≡ m) → ¬ (k ≡ n) → exchanged names m n k ≡ k
   unfolding exchanged
   other m n k f g =
       elim (names.same k m) as (λ d. (elim d [ yes _ ↦ n | no _ ↦ elim (names.same k n) [ yes _ ↦ m | no _ ↦ k ] ]) ≡ k) [
@@ -31,33 +29,33 @@ module _ {N : Type 0} (names : Naming N) where
         | no _ ↦ elim (names.same k n) as (λ d. (elim d [ yes _ ↦ m | no _ ↦ k ]) ≡ k) [ yes h ↦ absurd (g h) | no _ ↦ refl ]
       ]
 
-  twice : (m n k : N) → exchanged m n (exchanged m n k) ≡ k
+  pub twice : (m n k : N) → exchanged names m n (exchanged names m n k) ≡ k
   twice m n k = go (names.same k m) (names.same k n)
     where
-      go : Dec (k ≡ m) → Dec (k ≡ n) → exchanged m n (exchanged m n k) ≡ k
-      go (yes e) d = ap (exchanged m n) (first m n k e) ∙ second m n n refl ∙ sym e
-      go (no f) (yes e) = ap (exchanged m n) (second m n k e) ∙ first m n m refl ∙ sym e
-      go (no f) (no g) = ap (exchanged m n) (other m n k f g) ∙ other m n k f g
+      go : Dec (k ≡ m) → Dec (k ≡ n) → exchanged names m n (exchanged names m n k) ≡ k
+      go (yes e) d = ap (exchanged names m n) (first m n k e) ∙ second m n n refl ∙ sym e
+      go (no f) (yes e) = ap (exchanged names m n) (second m n k e) ∙ first m n m refl ∙ sym e
+      go (no f) (no g) = ap (exchanged names m n) (other m n k f g) ∙ other m n k f g
 
-  kept : (m n k : N) → names.attributes m ≡ names.attributes n → names.attributes k ≡ names.attributes (exchanged m n k)
+  pub kept : (m n k : N) → names.attributes m ≡ names.attributes n → names.attributes k ≡ names.attributes (exchanged names m n k)
   kept m n k a = go (names.same k m) (names.same k n)
     where
-      go : Dec (k ≡ m) → Dec (k ≡ n) → names.attributes k ≡ names.attributes (exchanged m n k)
+      go : Dec (k ≡ m) → Dec (k ≡ n) → names.attributes k ≡ names.attributes (exchanged names m n k)
       go (yes e) d = ap names.attributes e ∙ a ∙ ap names.attributes (sym (first m n k e))
       go (no f) (yes e) = ap names.attributes e ∙ sym a ∙ ap names.attributes (sym (second m n k e))
       go (no f) (no g) = ap names.attributes (sym (other m n k f g))
 
-  exchange : (m n : N) → names.attributes m ≡ names.attributes n → ((k : Initial) → ¬ (names.initial k ≡ m)) → ((k : Initial) → ¬ (names.initial k ≡ n)) → Renaming names
+  unfoldable pub exchange : (m n : N) → names.attributes m ≡ names.attributes n → ((k : Initial) → ¬ (names.initial k ≡ m)) → ((k : Initial) → ¬ (names.initial k ≡ n)) → Renaming names
   exchange m n a f g = record {
-    to = exchanged m n;
-    from = exchanged m n;
+    to = exchanged names m n;
+    from = exchanged names m n;
     to-from = twice m n;
     from-to = twice m n;
     keeps = λ k. kept m n k a;
     initial = λ k. other m n (names.initial k) (f k) (g k);
   }
 
-  after : Renaming names → Renaming names → Renaming names
+  unfoldable pub after : Renaming names → Renaming names → Renaming names
   after g f = record {
     to = λ k. g.to (f.to k);
     from = λ k. f.from (g.from k);
@@ -67,7 +65,7 @@ module _ {N : Type 0} (names : Naming N) where
     initial = λ k. ap g.to (f.initial k) ∙ g.initial k;
   }
 
-  unchanging : Renaming names
+  unfoldable pub unchanging : Renaming names
   unchanging = record { to = λ k. k; from = λ k. k; to-from = λ k. refl; from-to = λ k. refl; keeps = λ k. refl; initial = λ k. refl }
 
   pub one_to_one : (f : Renaming names) (m n : N) → f.to m ≡ f.to n → m ≡ n
@@ -112,6 +110,6 @@ module _ {N : Type 0} (names : Naming N) where
         after x f,
         (first (f.to p.0) p.1 (f.to p.0) refl, taken-after f x p ps (λ k c d. other (f.to p.0) p.1 k c d) g.0 b.1),
         λ n a.
-            ap (exchanged (f.to p.0) p.1) (b.2 n a.2)
+            ap (exchanged names (f.to p.0) p.1) (b.2 n a.2)
             ∙ other (f.to p.0) p.1 n (λ e. a.0 (one_to_one f n p.0 (b.2 n a.2 ∙ e))) a.1,
       )

@@ -16,3 +16,4 @@ pub mod Exchanges
 pub mod Standing
 pub mod StandingObjects
 pub mod CanonicalForms
+pub mod RenamingPairs

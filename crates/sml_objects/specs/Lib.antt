@@ -12,3 +12,5 @@ pub mod Appearance
 pub mod Laws
 pub mod Canonical
 pub mod CanonicalLaws
+pub mod Exchanges
+pub mod Renamings

@@ -10,6 +10,7 @@ pub mod laws;
 mod names;
 pub mod objects;
 mod renames;
+pub mod renamings;
 mod replacements;
 pub mod schemes;
 pub mod sizes;

@@ -17,3 +17,4 @@ pub mod Standing
 pub mod StandingObjects
 pub mod CanonicalForms
 pub mod RenamingPairs
+pub mod SameNames

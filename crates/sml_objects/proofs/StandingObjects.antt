@@ -9,7 +9,7 @@ use Rattle.sml_objects.proofs.Renaming.{parts-image}
 -- the names that appear are those that stand there
 
 module _ {N : Type 0} (n : N) where
-  abbrev Within : List N → List N → Type 0
+  abbrev pub Within : List N → List N → Type 0
   Within ms ns = Stands n ms → Stands n ns
 
   both : (a b c d : List N) → Within a c → Within b d → Within (a ++ b) (c ++ d)
@@ -29,7 +29,7 @@ module _ {N : Type 0} (n : N) where
   mutual
     unfolding appear_type appear_types names_type names_types
 
-    type-appears : (t : MlType N) → Within (names_type t) (appear_type t)
+    pub type-appears : (t : MlType N) → Within (names_type t) (appear_type t)
     type-appears (bound k) h = h
     type-appears (free v) h = h
     type-appears (app g ts) h = swapped (names_head g) (names_types ts) (names_head g) (appear_types ts) (λ k. k) (types-appear ts) h
@@ -46,7 +46,7 @@ module _ {N : Type 0} (n : N) where
   mutual
     unfolding appear_env appear_structures names_env names_structures
 
-    env-appears : (E : Env N) → Within (names_env E) (appear_env E)
+    pub env-appears : (E : Env N) → Within (names_env E) (appear_env E)
     env-appears (env ss ts vs) h =
         both (names_structures ss) (names_map ts ++ names_map vs) (appear_structures ss) (appear_map ts ++ appear_map vs) (structures-appear ss)
         (both (names_map ts) (names_map vs) (appear_map ts) (appear_map vs) (map-appears ts) (map-appears vs)) h

@@ -14,3 +14,4 @@ pub mod Canonical
 pub mod CanonicalLaws
 pub mod Exchanges
 pub mod Renamings
+pub mod Signatures

@@ -7,6 +7,7 @@ pub mod canonical_laws;
 pub mod environments;
 pub mod equality;
 pub mod laws;
+pub mod named;
 mod names;
 pub mod objects;
 mod renames;

@@ -1,13 +1,14 @@
 -- Canonical names are a renaming, and the same for objects that are alike.
-use Rattle.std.proofs.Common.{◌≡◌, ◌≤◌, ◌<◌, ◌⊎◌, ℕ, suc, ◌+◌, Bool, true, false, cond, not, ◌&&◌, nat_eq, nat_lt, List, [], ◌∷◌, map, filter, refl, ap, sym, subst, ◌∙◌, arith, inl, inr}
+use Rattle.std.proofs.Common.{◌≡◌, ◌≤◌, ◌<◌, ◌⊎◌, ℕ, suc, ◌+◌, Bool, true, false, cond, not, ◌&&◌, nat_eq, nat_lt, List, [], ◌∷◌, map, filter, length, add-one, refl, ap, sym, subst, ◌∙◌, arith, inl, inr}
 use Rattle.std.proofs.lemmas.Bool.{eqb-true, eq-eqb, le-ltb}
+use Rattle.std.specs.List.{range_with_len}
 use Rattle.sml_objects.specs.Names as N
 use Rattle.sml_objects.specs.Objects.{Sig, Basis, names_sig, names_basis, rename_sig}
 use Rattle.sml_objects.specs.Alike.{Renaming, IsFixed, AlikeOver}
 use Rattle.sml_objects.specs.Initial.{Name, initial, made, naming, attributes_of}
 use Rattle.sml_objects.specs.Appearance.{Stands, stands, firsts_after, appear_sig}
-use Rattle.sml_objects.specs.Canonical.{is_new, new_names, place_of, with_number, renumber, canonical}
-use Rattle.sml_objects.specs.CanonicalLaws.{CanonicalRenames, CanonicalIsOne, IsOver}
+use Rattle.sml_objects.specs.Canonical.{is_new, new_names, place_of, with_number, renumber, canonical, number_of}
+use Rattle.sml_objects.specs.CanonicalLaws.{CanonicalRenames, CanonicalIsOne, CanonicalNumbers, IsOver}
 use Rattle.sml_objects.proofs.Exchanges.{one_to_one, Apart, ArePairs, TakesAll, IsAway, built}
 use Rattle.sml_objects.proofs.NameTests.{both}
 use Rattle.sml_objects.proofs.Renaming.{sig-both, sig-image}
@@ -64,6 +65,16 @@ module _ (unit count : ℕ) where
   unfolding renumber
   kept-name ns n e = ap (λ b. cond b (with_number unit (count + place_of naming n ns) n) n) e
 
+  -- a one-to-one map that keeps the age of each name moves the new names
+  moved-names : (f : Name → Name) → ((m n : Name) → f m ≡ f n → m ≡ n) → (R : Sig Name)
+      → ((n : Name) → Stands n (names_sig R) → is_new unit count (f n) ≡ is_new unit count n)
+      → new_names unit count (rename_sig f R) ≡ map f (new_names unit count R)
+  unfolding new_names
+  moved-names f one R age =
+      ap (λ ns. filter (is_new unit count) (firsts_after naming [] ns)) (sig-appear-image f R)
+      ∙ ap (filter (is_new unit count)) (firsts-map naming f one [] (appear_sig R))
+      ∙ filter-map (is_new unit count) f (firsts_after naming [] (appear_sig R)) (λ n s. age n (appeared R n s))
+
   -- two objects that are alike
 
   module _ (B : Basis Name) (R S : Sig Name) (over : IsOver unit count B R) (over' : IsOver unit count B S)
@@ -86,12 +97,7 @@ module _ (unit count : ℕ) where
         go true k false l = ap (is_new unit count) (one (f.to n) n (fixed-at f.to (f.to n) (names_basis B) fixed (over' (f.to n) moved l)))
 
     new-moved : new_names unit count S ≡ map f.to (new_names unit count R)
-    unfolding new_names
-    new-moved =
-        ap (λ T. filter (is_new unit count) (firsts_after naming [] (appear_sig T))) (sym e)
-        ∙ ap (λ ns. filter (is_new unit count) (firsts_after naming [] ns)) (sig-appear-image f.to R)
-        ∙ ap (filter (is_new unit count)) (firsts-map naming f.to one [] (appear_sig R))
-        ∙ filter-map (is_new unit count) f.to (firsts_after naming [] (appear_sig R)) (λ n s. same-age n (appeared R n s))
+    new-moved = ap (new_names unit count) (sym e) ∙ moved-names f.to one R same-age
 
     number-kept : (k : ℕ) (n : Name) → with_number unit k (f.to n) ≡ with_number unit k n
     unfolding naming
@@ -190,26 +196,61 @@ module _ (unit count : ℕ) where
       older : (m : Name) → is_new unit count m ≡ true → n ≡ m → ⊥
       older m g d = let j : is_new unit count n ≡ is_new unit count m = ap (is_new unit count) d in cc
 
-  renames : (B : Basis Name) (S : Sig Name) → ((n : Name) → Stands n (names_basis B) → is_new unit count n ≡ false) → AlikeOver naming B S (canonical unit count S)
-  unfolding AlikeOver canonical AreNew
-  renames B S old =
-      (r.0, fixed-each r.0.to (names_basis B) (λ n s. r.2 n (away count n ns (omega arith) (new-is S) (old n s))), sig-agree r.0.to (renumber unit count ns) S agree)
+  -- the renaming of an object's new names
+
+  numbering : (S : Sig Name) → (r : Renaming naming) × TakesAll naming r.to (numbered count (new_names unit count S))
+      × ((n : Name) → IsAway naming n (numbered count (new_names unit count S)) → r.to n ≡ n)
+  unfolding AreNew
+  numbering S =
+      built naming (numbered count (new_names unit count S)) (are-pairs count (new_names unit count S) (omega arith) (no-repeats S) (new-is S))
+
+  old-stays : (S : Sig Name) (n : Name) → is_new unit count n ≡ false → (numbering S).0.to n ≡ n
+  unfolding AreNew
+  old-stays S n h = (numbering S).2 n (away count n (new_names unit count S) (omega arith) (new-is S) h)
+
+  numbering-is : (S : Sig Name) (n : Name) → Stands n (names_sig S) → (numbering S).0.to n ≡ renumber unit count (new_names unit count S) n
+  numbering-is S n h = go (stands-or-not naming n ns)
     where
       ns : List Name
       ns = new_names unit count S
 
-      r : (r : Renaming naming) × TakesAll naming r.to (numbered count ns) × ((n : Name) → IsAway naming n (numbered count ns) → r.to n ≡ n)
-      r = built naming (numbered count ns) (are-pairs count ns (omega arith) (no-repeats S) (new-is S))
+      go : (stands naming n ns ≡ true) ⊎ (stands naming n ns ≡ false) → (numbering S).0.to n ≡ renumber unit count ns n
+      go (inl s) = taken (numbering S).0.to count n ns (numbering S).1 (was_found naming n ns s) ∙ sym (kept-place ns n s)
+      go (inr s) = old-stays S n (not-new S n h s) ∙ sym (kept-name ns n s)
 
-      go : (n : Name) → Stands n (names_sig S) → (stands naming n ns ≡ true) ⊎ (stands naming n ns ≡ false) → r.0.to n ≡ renumber unit count ns n
-      go n h (inl s) = taken r.0.to count n ns r.1 (was_found naming n ns s) ∙ sym (kept-place ns n s)
-      go n h (inr s) = r.2 n (away count n ns (omega arith) (new-is S) (not-new S n h s)) ∙ sym (kept-name ns n s)
+  canonical-is : (S : Sig Name) → rename_sig (numbering S).0.to S ≡ canonical unit count S
+  unfolding canonical
+  canonical-is S = sig-agree (numbering S).0.to (renumber unit count (new_names unit count S)) S (numbering-is S)
 
-      agree : (n : Name) → Stands n (names_sig S) → r.0.to n ≡ renumber unit count ns n
-      agree n h = go n h (stands-or-not naming n ns)
+  age-kept : (S : Sig Name) (n : Name) → Stands n (names_sig S) → is_new unit count ((numbering S).0.to n) ≡ is_new unit count n
+  age-kept S n h = ap (is_new unit count) (numbering-is S n h) ∙ go (stands-or-not naming n ns)
+    where
+      ns : List Name
+      ns = new_names unit count S
+
+      go : (stands naming n ns ≡ true) ⊎ (stands naming n ns ≡ false) → is_new unit count (renumber unit count ns n) ≡ is_new unit count n
+      go (inl s) =
+          ap (is_new unit count) (kept-place ns n s)
+          ∙ new-number (count + place_of naming n ns) n (omega arith)
+          ∙ sym (new-is S n (was_found naming n ns s))
+      go (inr s) = ap (is_new unit count) (kept-name ns n s)
+
+  numbers : (f : Name → Name) (k : ℕ) (ns : List Name) → TakesAll naming f (numbered k ns) → map number_of (map f ns) ≡ range_with_len k (length ns)
+  unfolding TakesAll numbered
+  numbers f k [] t = refl
+  numbers f k (n ∷ ns) t = λ i. number_of (t.0 i) ∷ (numbers f (suc k) ns t.1 ∙ ap (λ j. range_with_len j (length ns)) (sym (add-one k))) i
+
+pub canonical-numbers : CanonicalNumbers
+canonical-numbers unit count S =
+    let f : Renaming naming = (numbering unit count S).0 in
+    ap (λ T. map number_of (new_names unit count T)) (sym (canonical-is unit count S))
+    ∙ ap (map number_of) (moved-names unit count f.to (one_to_one naming f) S (age-kept unit count S))
+    ∙ numbers unit count f.to count (new_names unit count S) (numbering unit count S).1
 
 pub canonical-renames : CanonicalRenames
-canonical-renames unit count B S old = renames unit count B S old
+unfolding AlikeOver
+canonical-renames unit count B S old =
+    ((numbering unit count S).0, fixed-each (numbering unit count S).0.to (names_basis B) (λ n s. old-stays unit count S n (old n s)), canonical-is unit count S)
 
 pub canonical-one : CanonicalIsOne
 unfolding AlikeOver

@@ -1,10 +1,11 @@
 -- Canonical names are a renaming, and the same for objects that are alike.
-use Rattle.std.specs.Prelude.{◌≡◌, ℕ, false}
+use Rattle.std.specs.Prelude.{◌≡◌, ℕ, false, map, length}
+use Rattle.std.specs.List.{range_with_len}
 use Rattle.sml_objects.specs.Objects.{Sig, Basis, names_sig, names_basis}
 use Rattle.sml_objects.specs.Alike.{AlikeOver}
 use Rattle.sml_objects.specs.Initial.{Name, naming}
 use Rattle.sml_objects.specs.Appearance.{Stands}
-use Rattle.sml_objects.specs.Canonical.{is_new, canonical}
+use Rattle.sml_objects.specs.Canonical.{is_new, new_names, canonical, number_of}
 
 -- A renaming that fixes the names of every basis without new names takes an object to its canonical form.
 abbrev pub CanonicalRenames : Type 0
@@ -23,3 +24,9 @@ CanonicalIsOne =
     (unit count : ℕ) (B : Basis Name) (R S : Sig Name)
     → IsOver unit count B R → IsOver unit count B S
     → AlikeOver naming B R S → canonical unit count R ≡ canonical unit count S
+
+-- The new names of a canonical form have the numbers from the count on, in the order in which they appear.
+abbrev pub CanonicalNumbers : Type 0
+CanonicalNumbers =
+    (unit count : ℕ) (S : Sig Name)
+    → map number_of (new_names unit count (canonical unit count S)) ≡ range_with_len count (length (new_names unit count S))

@@ -29,6 +29,13 @@ pub fn canonical(alloc: Global, basis: &Basis, unit: UnitId, count: u32) -> Resu
     renamed_basis(alloc, basis, &by)
 }
 
+/// How many names `canonical` numbers anew.
+pub fn new_count(alloc: Global, basis: &Basis, unit: UnitId, count: u32) -> Result<usize, Memory>
+    ensures { IfOk result (λ n. n ≡ length (C.new_names (maker_of unit) count (sig_of basis.now))) }
+{
+    Ok(new_names(alloc, basis, unit, count)?.len())
+}
+
 fn new_names(
     alloc: Global,
     basis: &Basis,

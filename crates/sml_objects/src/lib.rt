@@ -15,3 +15,5 @@ pub mod renamings;
 mod replacements;
 pub mod schemes;
 pub mod sizes;
+#[cfg(test)]
+mod tests;

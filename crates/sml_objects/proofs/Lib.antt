@@ -12,3 +12,9 @@ pub mod Appearances
 pub mod SortedMaps
 pub mod RenamedParts
 pub mod NamePlaces
+pub mod Exchanges
+pub mod Standing
+pub mod StandingObjects
+pub mod CanonicalForms
+pub mod RenamingPairs
+pub mod SameNames

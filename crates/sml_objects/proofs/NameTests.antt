@@ -17,7 +17,7 @@ use Rattle.sml_objects.specs.contracts.objects.TyNamePartialEq.TheImpl.{ghosts}
 abbrev pub eq : TyName → TyName → Bool
 eq = ghosts.eq
 
-both : (a b : Bool) → (a && b) ≡ true → (a ≡ true) × (b ≡ true)
+pub both : (a b : Bool) → (a && b) ≡ true → (a ≡ true) × (b ≡ true)
 both true b h = (refl, h)
 both false b h = cc
 

@@ -28,3 +28,7 @@ renumber unit count ns n = cond (stands naming n ns) (with_number unit (count + 
 
 unfoldable pub canonical : ℕ → ℕ → Sig Name → Sig Name
 canonical unit count S = rename_sig (renumber unit count (new_names unit count S)) S
+
+abbrev pub number_of : Name → ℕ
+number_of (initial k) = 0
+number_of (made u n a q) = n

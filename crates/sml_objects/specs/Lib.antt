@@ -11,3 +11,7 @@ pub mod Equality
 pub mod Appearance
 pub mod Laws
 pub mod Canonical
+pub mod CanonicalLaws
+pub mod Exchanges
+pub mod Renamings
+pub mod Signatures

@@ -3,13 +3,12 @@
 ghost use Rattle.std.specs.Prelude.{◌≡◌, ◌+◌, ◌≤◌, ◌^◌, IfOk, length, map, filter};
 ghost use Rattle.sml_objects.specs.Canonical as C;
 ghost use Rattle.sml_objects.specs.Initial.{attributes_of};
-ghost use Rattle.sml_objects.specs.Objects.{rename_sig};
 ghost use Rattle.sml_objects.specs.Views.{sig_of, name_of, maker_of};
 
 use crate::equality::has_equality;
-use crate::names::{collect_env, collect_names};
+use crate::names::collect_basis;
 use crate::objects::{Basis, Initial, MadeName, TyName, UnitId};
-use crate::renames::{NameMap, renamed_env, renamed_names};
+use crate::renames::{NameMap, renamed_basis};
 use indexmap::IndexSet;
 use sml_lex::fault::Memory;
 use std::alloc::Global;
@@ -27,7 +26,14 @@ pub fn canonical(alloc: Global, basis: &Basis, unit: UnitId, count: u32) -> Resu
         count,
         names: &names,
     };
-    renumbered(alloc, basis, &by)
+    renamed_basis(alloc, basis, &by)
+}
+
+/// How many names `canonical` numbers anew.
+pub fn new_count(alloc: Global, basis: &Basis, unit: UnitId, count: u32) -> Result<usize, Memory>
+    ensures { IfOk result (λ n. n ≡ length (C.new_names (maker_of unit) count (sig_of basis.now))) }
+{
+    Ok(new_names(alloc, basis, unit, count)?.len())
 }
 
 fn new_names(
@@ -39,8 +45,7 @@ fn new_names(
     ensures { IfOk result (λ s. map name_of s.keys ≡ C.new_names (maker_of unit) count (sig_of basis.now)) }
 {
     let mut names = IndexSet::new(alloc);
-    collect_env(&basis.env, &mut names)?;
-    collect_names(&basis.names, &mut names)?;
+    collect_basis(basis, &mut names)?;
     keep_new(&mut names, unit, count);
     Ok(names)
 }
@@ -59,19 +64,6 @@ fn is_new(name: TyName, unit: UnitId, count: u32) -> bool
         TyName::Initial(_) => false,
         TyName::Made(made) => made.unit.index == unit.index && count <= made.number,
     }
-}
-
-fn renumbered(alloc: Global, basis: &Basis, by: &Numbering) -> Result<Basis, Memory>
-    ensures sig { IfOk result (λ b. sig_of b ≡ rename_sig (C.renumber (maker_of by.now.unit) by.now.count (map name_of by.now.names.now.keys)) (sig_of basis.now)) }
-    ensures unit { IfOk result (λ b. b.unit ≡ basis.now.unit) }
-{
-    let env = renamed_env(alloc, &basis.env, by)?;
-    let names = renamed_names(alloc, &basis.names, by)?;
-    Ok(Basis {
-        unit: basis.unit,
-        names,
-        env,
-    })
 }
 
 /// Names that are numbered by their places, the first by the count.

@@ -3,12 +3,17 @@
 
 pub mod bases;
 pub mod canonical;
+pub mod canonical_laws;
 pub mod environments;
 pub mod equality;
 pub mod laws;
+pub mod named;
 mod names;
 pub mod objects;
 mod renames;
+pub mod renamings;
 mod replacements;
 pub mod schemes;
 pub mod sizes;
+#[cfg(test)]
+mod tests;

@@ -1,11 +1,12 @@
 //! The names that stand in an object, in the order in which they appear.
 
 ghost use Rattle.std.specs.Prelude.{◌≡◌, OnOk, map};
-ghost use Rattle.sml_objects.specs.Appearance.{firsts_after, appear_type, appear_types, appear_map, appear_structures, appear_env};
+ghost use Rattle.sml_objects.specs.Appearance.{firsts_after, appear_type, appear_types, appear_map, appear_structures, appear_env, appear_sig};
 ghost use Rattle.sml_objects.specs.Initial.{naming};
-ghost use Rattle.sml_objects.specs.Views.{type_of, types_of, schemes_of, structures_of, entries_of, env_of, name_of};
+ghost use Rattle.sml_objects.specs.Signatures.{signature_of};
+ghost use Rattle.sml_objects.specs.Views.{type_of, types_of, schemes_of, structures_of, entries_of, env_of, sig_of, name_of};
 
-use crate::objects::{Env, MlType, Scheme, TyName};
+use crate::objects::{Basis, Env, MlType, Scheme, Sig, TyName};
 use indexmap::IndexSet;
 use sml_lex::fault::Memory;
 use sml_tree::bare::Ident;
@@ -81,11 +82,29 @@ fn collect_structures(
 }
 
 /// Adds names.
-pub(crate) fn collect_names(names: &[TyName], seen: &mut IndexSet<TyName>) -> Result<(), Memory>
+fn collect_names(names: &[TyName], seen: &mut IndexSet<TyName>) -> Result<(), Memory>
     ensures { OnOk result (map name_of seen.new.keys ≡ firsts_after naming (map name_of seen.old.keys) (map name_of names.now)) }
 {
     for name in names {
         seen.insert(*name)?;
     }
+    Ok(())
+}
+
+/// Adds the names of a signature.
+pub(crate) fn collect_signature(sig: &Sig, seen: &mut IndexSet<TyName>) -> Result<(), Memory>
+    ensures { OnOk result (map name_of seen.new.keys ≡ firsts_after naming (map name_of seen.old.keys) (appear_sig (signature_of sig.now))) }
+{
+    collect_env(&sig.body, seen)?;
+    collect_names(&sig.names, seen)?;
+    Ok(())
+}
+
+/// Adds the names of a basis.
+pub(crate) fn collect_basis(basis: &Basis, seen: &mut IndexSet<TyName>) -> Result<(), Memory>
+    ensures { OnOk result (map name_of seen.new.keys ≡ firsts_after naming (map name_of seen.old.keys) (appear_sig (sig_of basis.now))) }
+{
+    collect_env(&basis.env, seen)?;
+    collect_names(&basis.names, seen)?;
     Ok(())
 }

@@ -3,9 +3,10 @@
 ghost use Rattle.std.specs.Prelude.{◌≡◌, IfOk, map};
 ghost use Rattle.sml_objects.specs.Initial.{Name};
 ghost use Rattle.sml_objects.specs.Objects as O;
-ghost use Rattle.sml_objects.specs.Views.{type_of, scheme_of, schemes_of, structures_of, entries_of, env_of, name_of};
+ghost use Rattle.sml_objects.specs.Signatures.{signature_of};
+ghost use Rattle.sml_objects.specs.Views.{type_of, scheme_of, schemes_of, structures_of, entries_of, env_of, sig_of, name_of};
 
-use crate::objects::{Env, MlType, Scheme, TyName};
+use crate::objects::{Basis, Env, MlType, Scheme, Sig, TyName};
 use crate::replacements::{Replacement, replaced};
 use sml_lex::fault::Memory;
 use sml_tree::bare::Ident;
@@ -120,11 +121,7 @@ fn renamed_structures<M: NameMap + Drop>(
     Ok(copies)
 }
 
-pub(crate) fn renamed_names<M: NameMap>(
-    alloc: Global,
-    names: &[TyName],
-    by: &M,
-) -> Result<Vec<TyName>, Memory>
+fn renamed_names<M: NameMap>(alloc: Global, names: &[TyName], by: &M) -> Result<Vec<TyName>, Memory>
     ensures { IfOk result (λ ns. map name_of ns.items ≡ map (λ n. M.gives by.now (name_of n)) names.now) }
 {
     let mut copies = Vec::new(alloc);
@@ -132,4 +129,33 @@ pub(crate) fn renamed_names<M: NameMap>(
         copies.push(by.apply(*name))?;
     }
     Ok(copies)
+}
+
+pub(crate) fn renamed_signature<M: NameMap + Drop>(
+    alloc: Global,
+    sig: &Sig,
+    by: &M,
+) -> Result<Sig, Memory>
+    ensures { IfOk result (λ s. signature_of s ≡ O.rename_sig (M.gives by.now) (signature_of sig.now)) }
+{
+    let names = renamed_names(alloc, &sig.names, by)?;
+    let body = renamed_env(alloc, &sig.body, by)?;
+    Ok(Sig { names, body })
+}
+
+pub(crate) fn renamed_basis<M: NameMap + Drop>(
+    alloc: Global,
+    basis: &Basis,
+    by: &M,
+) -> Result<Basis, Memory>
+    ensures sig { IfOk result (λ b. sig_of b ≡ O.rename_sig (M.gives by.now) (sig_of basis.now)) }
+    ensures unit { IfOk result (λ b. b.unit ≡ basis.now.unit) }
+{
+    let names = renamed_names(alloc, &basis.names, by)?;
+    let env = renamed_env(alloc, &basis.env, by)?;
+    Ok(Basis {
+        unit: basis.unit,
+        names,
+        env,
+    })
 }

@@ -14,5 +14,5 @@ invariant_of-by c =
 pub returns-clause-sig : goal.returns-clause-sig
 unfolding canonical
 returns-clause-sig c =
-    subst (λ ns. IfOk c.renumbered.result (λ b. sig_of b ≡ rename_sig (renumber (maker_of c.args.unit) c.args.count ns) (sig_of c.args.basis.now)))
-    c.in_ok-names.ensures c.renumbered.ensures.sig
+    subst (λ ns. IfOk c.renamed_basis.result (λ b. sig_of b ≡ rename_sig (renumber (maker_of c.args.unit) c.args.count ns) (sig_of c.args.basis.now)))
+    c.in_ok-names.ensures c.renamed_basis.ensures.sig

@@ -3,3 +3,5 @@
 
 pub mod disk;
 pub mod session;
+#[cfg(test)]
+mod tests;

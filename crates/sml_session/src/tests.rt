@@ -1,0 +1,9 @@
+//! Sessions over files in memory: what the rows can't store, or can't bring about.
+
+mod command_lines;
+mod fakes;
+mod hostile;
+mod limits;
+mod seals;
+mod sinks;
+mod sources;

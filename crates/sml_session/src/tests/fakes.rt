@@ -1,0 +1,157 @@
+//! Files in memory, and sinks that fail.
+
+use crate::session::{Source, SourceFault, session};
+use sml_units::sink::{Out, OutFault, VecOut};
+use std::alloc::{AllocError, Global};
+use std::process::Abort;
+
+/// The project file `project`, and the unit file `a.sml`.
+#[derive(Drop)]
+pub struct Folder {
+    pub project: Vec<u8>,
+    pub unit: Vec<u8>,
+}
+
+impl Source for Folder {
+    fn read(&mut self, alloc: Global, path: &str, most: usize) -> Result<Vec<u8>, SourceFault> {
+        match path {
+            "project" => beginning(alloc, &self.project, most),
+            "a.sml" => beginning(alloc, &self.unit, most),
+            _ => Err(SourceFault::Unreadable),
+        }
+    }
+}
+
+/// The first so many bytes.
+fn beginning(alloc: Global, text: &[u8], most: usize) -> Result<Vec<u8>, SourceFault> {
+    match Vec::from_slice(alloc, &text[..text.len().min(most)]) {
+        Ok(bytes) => Ok(bytes),
+        Err(_) => Err(SourceFault::Memory),
+    }
+}
+
+/// The folder of a project of one unit.
+pub fn folder_of(alloc: Global, unit: Vec<u8>) -> Result<Folder, AllocError> {
+    Ok(Folder {
+        project: Vec::from_slice(alloc, b"unit a a.sml\n")?,
+        unit,
+    })
+}
+
+/// The words of a command line.
+pub fn words_of(alloc: Global, texts: &[&str]) -> Result<Vec<String>, AllocError> {
+    let mut words = Vec::new(alloc);
+    for text in texts {
+        words.push(String::from_str(alloc, text)?)?;
+    }
+    Ok(words)
+}
+
+/// The status of a session, and what it wrote.
+#[derive(Drop)]
+pub struct Answer {
+    pub status: u8,
+    pub out: VecOut,
+    pub err: VecOut,
+}
+
+impl Answer {
+    /// Demands the status, the output and the standard error.
+    pub fn expect(&self, rt: &impl Abort, status: u8, out: &str, err: &str) {
+        assert_eq!(rt; self.err.bytes(), err.as_bytes());
+        assert_eq!(rt; self.out.bytes(), out.as_bytes());
+        assert_eq!(rt; self.status, status);
+    }
+}
+
+/// The answer to a command line, over a source of files.
+pub fn ask<S: Source>(alloc: Global, texts: &[&str], source: &mut S) -> Result<Answer, AllocError> {
+    let words = words_of(alloc, texts)?;
+    let mut out = VecOut::new(alloc);
+    let mut err = VecOut::new(alloc);
+    let status = session(alloc, &words, source, &mut out, &mut err);
+    Ok(Answer { status, out, err })
+}
+
+/// The answer to a project of one unit.
+pub fn answer_to_unit(alloc: Global, unit: Vec<u8>) -> Result<Answer, AllocError> {
+    let mut folder = folder_of(alloc, unit)?;
+    ask(alloc, &["smlcheck", "project"], &mut folder)
+}
+
+/// A text, another so many times, and a last one.
+pub fn repeated(
+    alloc: Global,
+    first: &[u8],
+    middle: &[u8],
+    times: usize,
+    last: &[u8],
+) -> Result<Vec<u8>, AllocError> {
+    let mut text = Vec::from_slice(alloc, first)?;
+    for _ in 0..times {
+        text.extend_from_slice(middle)?;
+    }
+    text.extend_from_slice(last)?;
+    Ok(text)
+}
+
+/// Takes one byte a call, so many in all, and fails from then on.
+#[derive(Drop)]
+pub struct FuseOut {
+    pub taken: Vec<u8>,
+    pub left: usize,
+}
+
+impl Out for FuseOut {
+    fn write(&mut self, bytes: &[u8]) -> Result<usize, OutFault> {
+        let Some((first, _)) = bytes.split_first() else {
+            return Ok(0);
+        };
+        let Some(left) = self.left.checked_sub(1) else {
+            return Err(OutFault);
+        };
+        self.left = left;
+        match self.taken.push(*first) {
+            Ok(_) => Ok(1),
+            Err(_) => Err(OutFault),
+        }
+    }
+}
+
+/// Takes whole slices, fails at one call, and takes whole slices again.
+#[derive(Drop)]
+pub struct HoledOut {
+    pub taken: Vec<u8>,
+    pub calls_before: usize,
+    pub has_failed: bool,
+}
+
+impl Out for HoledOut {
+    fn write(&mut self, bytes: &[u8]) -> Result<usize, OutFault> {
+        if !self.has_failed {
+            match self.calls_before.checked_sub(1) {
+                Some(before) => self.calls_before = before,
+                None => {
+                    self.has_failed = true;
+                    return Err(OutFault);
+                }
+            }
+        }
+        match self.taken.extend_from_slice(bytes) {
+            Ok(_) => Ok(bytes.len()),
+            Err(_) => Err(OutFault),
+        }
+    }
+}
+
+/// Answers that it took so many bytes, and takes none.
+#[derive(Drop)]
+pub struct ClaimOut {
+    pub claim: usize,
+}
+
+impl Out for ClaimOut {
+    fn write(&mut self, _bytes: &[u8]) -> Result<usize, OutFault> {
+        Ok(self.claim)
+    }
+}

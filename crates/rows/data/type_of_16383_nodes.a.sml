@@ -1,0 +1,16 @@
+structure S :> sig val x : int end = struct
+type a0 = int * int
+type a1 = a0 * a0
+type a2 = a1 * a1
+type a3 = a2 * a2
+type a4 = a3 * a3
+type a5 = a4 * a4
+type a6 = a5 * a5
+type a7 = a6 * a6
+type a8 = a7 * a7
+type a9 = a8 * a8
+type a10 = a9 * a9
+type a11 = a10 * a10
+type a12 = a11 * a11
+val x = 1 end
+val y = 2

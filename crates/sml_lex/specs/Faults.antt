@@ -4,13 +4,13 @@ use Rattle.sml_lex.specs.declared.fault.Code.{Code}
 use Rattle.sml_lex.specs.declared.fault.Place.{Place}
 use Rattle.sml_lex.specs.declared.fault.Fault as P
 
--- a code, a place and perhaps a detail
-pub record Fault : Type 0 where
+-- A code, a place and perhaps a detail; `P` is the type of places.
+pub record Fault (P : Type 0) : Type 0 where
   pub code : Code
-  pub place : Place
+  pub place : P
   pub detail : Option (List ℕ)
 
-abbrev pub fault_of : P.Fault → Fault
+abbrev pub fault_of : P.Fault → Fault Place
 fault_of f = record {
   code = f.code;
   place = f.place;

@@ -1,0 +1,17 @@
+pub mod Names
+pub mod Maps
+pub mod Objects
+pub mod Initial
+pub mod Alike
+pub mod Views
+pub mod Types
+pub mod Sizes
+pub mod Puts
+pub mod Equality
+pub mod Appearance
+pub mod Laws
+pub mod Canonical
+pub mod CanonicalLaws
+pub mod Exchanges
+pub mod Renamings
+pub mod Signatures

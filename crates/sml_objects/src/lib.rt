@@ -1,13 +1,19 @@
-// A library with one function.
+// The semantic objects of the static semantics (the Definition, sections 4.2 and 5.1).
 #![tactic(auto)]
 
-ghost use Rattle.std.specs.Prelude.{◌≡◌};
-ghost use Rattle.sml_objects.specs.Echo.{echo_of};
-
-// The `ensures` clause is the contract: what `echo` returns is `echo_of` of its argument, a definition
-// in `specs/Echo.antt`, which a caller's clause can cite too.
-pub fn echo(x: usize) -> usize
-    ensures { result ≡ echo_of x }
-{
-    x
-}
+pub mod bases;
+pub mod canonical;
+pub mod canonical_laws;
+pub mod environments;
+pub mod equality;
+pub mod laws;
+pub mod named;
+mod names;
+pub mod objects;
+mod renames;
+pub mod renamings;
+mod replacements;
+pub mod schemes;
+pub mod sizes;
+#[cfg(test)]
+mod tests;

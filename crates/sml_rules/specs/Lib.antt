@@ -1,0 +1,7 @@
+pub mod Lookups
+pub mod Rules
+pub mod Matching
+pub mod Answers
+pub mod Readings
+pub mod Sound
+pub mod Statements

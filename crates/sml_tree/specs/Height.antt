@@ -1,5 +1,5 @@
 -- Heights: each phrase is one higher than its highest part, brackets included. Lists add nothing by their length.
-use Rattle.std.specs.Prelude.{ℕ, suc, max, List, [], ◌∷◌}
+use Rattle.std.specs.Prelude.{ℕ, suc, ◌-◌, ◌^◌, min, max, List, [], ◌∷◌}
 use Rattle.sml_tree.specs.Trees.{Exp, Exps, Ty, Tys, Spec, CoreDec, Dec, number, name, tuple, bracket, function, no_exp, and_exp, constructor, product, arrow_to, bracket_ty, no_ty, and_ty, type_spec, val_spec, val_dec, type_dec, core, sealed}
 
 abbrev mutual
@@ -46,3 +46,7 @@ decs_height (d ∷ ds) = max (core_height d) (decs_height ds)
 abbrev pub dec_height : {P : Type 0} → Dec P → ℕ
 dec_height (core d) = core_height d
 dec_height (sealed s p specs decs) = suc (suc (max (suc (specs_height specs)) (suc (decs_height decs))))
+
+-- counts stop at the greatest number of 32 bits
+abbrev pub counted : ℕ → ℕ
+counted n = min n (2 ^ 32 - 1)

@@ -15,7 +15,6 @@ use Rattle.sml_tree.specs.declared.bare.SpecForm.TheVariants as S
 use Rattle.sml_tree.specs.declared.bare.CoreDec.{CoreDec}
 use Rattle.sml_tree.specs.declared.bare.CoreForm.{CoreForm}
 use Rattle.sml_tree.specs.declared.bare.CoreForm.TheVariants as D
-use Rattle.sml_tree.specs.declared.bare.SealedStructure.{SealedStructure}
 use Rattle.sml_tree.specs.declared.bare.BareDec.{BareDec}
 use Rattle.sml_tree.specs.declared.bare.BareDec.TheVariants.{Core, Structure}
 use Rattle.std.specs.declared.rc.Rc.{Rc}

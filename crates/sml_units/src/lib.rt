@@ -1,13 +1,20 @@
-// A library with one function.
+// Projects: their units in order, the elaboration of declarations, replies and runs.
 #![tactic(auto)]
 
-ghost use Rattle.std.specs.Prelude.{◌≡◌};
-ghost use Rattle.sml_units.specs.Echo.{echo_of};
-
-// The `ensures` clause is the contract: what `echo` returns is `echo_of` of its argument, a definition
-// in `specs/Echo.antt`, which a caller's clause can cite too.
-pub fn echo(x: usize) -> usize
-    ensures { result ≡ echo_of x }
-{
-    x
-}
+mod expressions;
+pub mod isolation;
+mod locals;
+mod lookups;
+pub mod manifest;
+mod matching;
+pub mod modules;
+mod numerals;
+pub mod project;
+pub mod project_file;
+pub mod reply;
+pub mod run;
+mod signatures;
+pub mod sink;
+mod texts;
+pub mod top_fault;
+mod types;

@@ -1,0 +1,2 @@
+val f = fn x => x
+val g = fn y => (f, y, ())

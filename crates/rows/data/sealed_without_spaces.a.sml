@@ -1,0 +1,1 @@
+structure S:>sig end=struct end

@@ -1,0 +1,58 @@
+-- Copies of types with other types for their variables and other names, variant by variant.
+use Rattle.std.proofs.Common.{◌≡◌, ℕ, suc, List, [], ◌∷◌, map, refl, ap, ◌∙◌, sym, decimal, Vec, Global}
+use Rattle.std.specs.declared.rc.Rc.{Rc}
+use Rattle.sml_objects.specs.Objects as O
+use Rattle.sml_objects.specs.Initial.{Name}
+use Rattle.sml_objects.specs.Types.{replace_type, replace_types}
+use Rattle.sml_objects.specs.Views.{type_of, types_of, name_of}
+use Rattle.sml_objects.specs.declared.objects.TyName.{TyName}
+use Rattle.sml_objects.specs.declared.objects.MlType.{MlType, Bound, Free}
+use Rattle.sml_objects.specs.declared.objects.MlType.TheViews as V
+use Rattle.sml_objects.proofs.TypeViews.{parts_of, type_of-bound, type_of-free, type_of-row, type_of-arrow, type_of-name}
+use Rattle.sml_objects.proofs.EnvViews.{map-map}
+
+module _ (b f : ℕ → O.MlType Name) (r : Name → Name) where
+  abbrev pub copy : O.MlType Name → O.MlType Name
+  copy t = replace_type b f (O.rename_type r t)
+
+  labels-copy : (k : ℕ) (ts : O.MlTypes Name) → O.labels_of k (replace_types b f (O.rename_types r ts)) ≡ O.labels_of k ts
+  unfolding replace_type replace_types O.rename_type O.rename_types
+  labels-copy k O.no_type = refl
+  labels-copy k (O.and_type t ts) = ap (λ ls. decimal k ∷ ls) (labels-copy (suc k) ts)
+
+  types-copy : (ts : List (O.MlType Name)) → types_of (map copy ts) ≡ replace_types b f (O.rename_types r (types_of ts))
+  unfolding replace_type replace_types O.rename_type O.rename_types
+  types-copy [] = refl
+  types-copy (t ∷ ts) = ap (O.and_type (copy t)) (types-copy ts)
+
+  pub copy-bound : (k : ℕ) → copy (type_of (Bound k)) ≡ b k
+  unfolding replace_type O.rename_type
+  copy-bound k = ap copy (type_of-bound k)
+
+  pub copy-free : (v : ℕ) → copy (type_of (Free v)) ≡ f v
+  unfolding replace_type O.rename_type
+  copy-free v = ap copy (type_of-free v)
+
+  pub copy-row : (ts us : Vec (Rc MlType Global) Global) → parts_of us.items ≡ map (λ t. copy (type_of t.value)) ts.items
+      → type_of (V.Row us) ≡ copy (type_of (V.Row ts))
+  unfolding replace_type O.rename_type
+  copy-row ts us h =
+      let e = h ∙ sym (map-map copy (λ (t : Rc MlType Global). type_of t.value) ts.items) in
+      type_of-row us
+      ∙ ap O.tuple_of (ap types_of e ∙ types-copy (parts_of ts.items))
+      ∙ ap (λ ls. O.app (O.row ls) (replace_types b f (O.rename_types r (types_of (parts_of ts.items))))) (labels-copy 1 (types_of (parts_of ts.items)))
+      ∙ ap copy (sym (type_of-row ts))
+
+  pub copy-arrow : (t u v w : Rc MlType Global) → type_of v.value ≡ copy (type_of t.value) → type_of w.value ≡ copy (type_of u.value)
+      → type_of (V.Arrow v w) ≡ copy (type_of (V.Arrow t u))
+  unfolding replace_type replace_types O.rename_type O.rename_types
+  copy-arrow t u v w h k = type_of-arrow v w ∙ (λ i. O.arrow_of (h i) (k i)) ∙ ap copy (sym (type_of-arrow t u))
+
+  pub copy-name : (n m : TyName) (ts us : Vec (Rc MlType Global) Global) → name_of m ≡ r (name_of n)
+      → parts_of us.items ≡ map (λ t. copy (type_of t.value)) ts.items → type_of (V.Name m us) ≡ copy (type_of (V.Name n ts))
+  unfolding replace_type O.rename_type
+  copy-name n m ts us k h =
+      let e = h ∙ sym (map-map copy (λ (t : Rc MlType Global). type_of t.value) ts.items) in
+      type_of-name m us
+      ∙ (λ i. O.app (O.name (k i)) ((ap types_of e ∙ types-copy (parts_of ts.items)) i))
+      ∙ ap copy (sym (type_of-name n ts))

@@ -1,0 +1,8 @@
+mod Ways
+mod Labels
+mod Sharing
+pub mod Parts
+mod Shapes
+mod Tallness
+mod Declaring
+mod Sorts

@@ -1,0 +1,60 @@
+-- The bare declarations that a unit's tokens spell, and the fault that ends them.
+use Rattle.std.specs.Prelude.{◌≡◌, ℕ, ◌-◌, List, length, Option, Some, None, Bool, nat_le, if◌then◌else◌, filter_map}
+use Rattle.std.specs.List.{take_while, list_all}
+use Rattle.sml_lex.specs.declared.fault.Code.{Code}
+use Rattle.sml_lex.specs.declared.fault.Code.TheVariants as C
+use Rattle.sml_lex.specs.declared.fault.Place.{Place}
+use Rattle.sml_lex.specs.declared.token.Token.{Token}
+use Rattle.sml_lex.specs.declared.token.End.{End}
+use Rattle.sml_lex.specs.declared.token.End.TheVariants as E
+use Rattle.sml_lex.specs.Faults.{Fault}
+use Rattle.sml_tree.specs.Trees.{Dec}
+use Rattle.sml_tree.specs.Height.{dec_height}
+use Rattle.sml_read.specs.declared.grammar.Node.{Node}
+use Rattle.sml_read.specs.declared.read.Cause.{Cause}
+use Rattle.sml_read.specs.declared.read.Cause.TheVariants.{Unexpected, TooEarly, Lexical}
+use Rattle.sml_read.specs.Terminals.{terminals_of}
+use Rattle.sml_read.specs.Answer.{is_done, IsReading}
+use Rattle.sml_parse.specs.declared.item.Item.{Item}
+use Rattle.sml_parse.specs.Places.{place_from}
+use Rattle.sml_parse.specs.Items.{start_of, items_of, declarations_of}
+use Rattle.sml_parse.specs.Values.{dec_in, first}
+use Rattle.sml_parse.specs.Rules.{values_of}
+
+-- the declaration that these items spell
+abbrev pub dec_of_items : List ℕ → List Item → Option (Dec Place)
+dec_of_items unit items = dec_in (first (values_of unit items))
+
+-- the declarations that the items of a derivation spell, in order
+abbrev pub decs_of_items : List ℕ → List Item → List (Dec Place)
+decs_of_items unit items = filter_map (dec_of_items unit) (declarations_of items)
+
+-- the same of a derivation over these tokens
+abbrev pub spelt : List ℕ → List Node → List Token → List (Dec Place)
+spelt unit nodes tokens = decs_of_items unit (items_of unit 0 nodes tokens)
+
+-- whether a declaration's tree isn't too high
+abbrev pub is_low : Dec Place → Bool
+is_low dec = nat_le (dec_height dec) 4000
+
+abbrev pub fault_from : List ℕ → Code → ℕ → ℕ → Option (Fault Place)
+fault_from unit code start at = Some (record { code = code; place = place_from unit start at; detail = None })
+
+-- The fault at which reading ended, counted from where the declaration being read begins. Where no declaration
+-- is open a lexical fault is its own beginning.
+abbrev pub fault_read : List ℕ → List Token → End → ℕ → Option Cause → Option (Fault Place)
+fault_read unit tokens end begun None = None
+fault_read unit tokens end begun (Some (Unexpected index)) = fault_from unit C.S1 (start_of tokens begun 0) (start_of tokens index 0)
+fault_read unit tokens end begun (Some TooEarly) = fault_from unit C.S2 (start_of tokens begun 0) (start_of tokens (length tokens - 1) 0)
+fault_read unit tokens E.Done begun (Some Lexical) = None
+fault_read unit tokens (E.Fault stop) begun (Some Lexical) = fault_from unit stop.code (start_of tokens begun stop.at) stop.at
+
+-- The tokens are read; of the declarations that they spell these are all up to the first that is too high, and
+-- the fault is that one's, or the one at which reading ended.
+pub record Trees (unit : List ℕ) (tokens : List Token) (end : End) (decs : List (Dec Place)) (fault : Option (Fault Place)) : Type 0 where
+  pub nodes : List Node
+  pub begun : ℕ
+  pub cause : Option Cause
+  pub reading : IsReading (terminals_of unit tokens) (is_done end) nodes begun cause
+  pub whole : decs ≡ take_while is_low (spelt unit nodes tokens)
+  pub ended : fault ≡ (if list_all is_low (spelt unit nodes tokens) then fault_read unit tokens end begun cause else Some (record { code = C.S3; place = record { line = 1; column = 1 }; detail = None }))

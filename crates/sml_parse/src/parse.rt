@@ -1,0 +1,116 @@
+//! The bare declarations of a unit.
+
+ghost use Rattle.std.specs.Prelude.{◌≡◌, map, take_while, IfOk};
+ghost use Rattle.std.specs.List.{list_all};
+ghost use Rattle.std.specs.Option.{option_map};
+ghost use Rattle.sml_lex.specs.Faults.{fault_of};
+ghost use Rattle.sml_tree.specs.Views.{dec_of};
+ghost use Rattle.sml_parse.specs.Trees.{decs_of_items, is_low, fault_from, fault_read, Trees};
+
+use crate::build::build;
+use crate::item::Item;
+use crate::label::{begins, first, label, start_of};
+use crate::names::Names;
+use crate::place::{FIRST, place_between};
+use crate::tall::measure;
+use sml_lex::fault::{Code, Fault, Memory};
+use sml_lex::token::{End, Lexed};
+use sml_read::read::{Cause, read};
+use sml_tree::bare::BareDec;
+use std::alloc::Global;
+
+/// The height up to which a declaration's tree may reach.
+pub const MOST: u32 = 4000;
+
+/// The whole bare declarations of a unit before the fault, and the fault.
+#[derive(Drop)]
+pub struct Parsed {
+    pub declarations: Vec<BareDec>,
+    pub fault: Option<Fault>,
+}
+
+/// A fault at the byte `at`, counted from the byte `start`.
+fn fault_at(unit: &[u8], code: Code, start: usize, at: usize) -> Fault
+    ensures { Some (fault_of result) ≡ fault_from unit.now code start at }
+{
+    Fault {
+        code,
+        place: place_between(unit, start, at),
+        detail: None,
+    }
+}
+
+/// The fault at which reading ended.
+fn fault_of_reading(lexed: &Lexed, begun: usize, cause: Option<Cause>) -> Option<Fault>
+    ensures { option_map fault_of result
+        ≡ fault_read lexed.now.unit.now lexed.now.tokens.items lexed.now.end begun cause }
+{
+    let start = start_of(&lexed.tokens, begun, 0);
+    match cause {
+        None => None,
+        Some(Cause::Unexpected(index)) => {
+            let at = start_of(&lexed.tokens, index, 0);
+            Some(fault_at(lexed.unit, Code::S1, start, at))
+        }
+        Some(Cause::TooEarly) => {
+            let last = lexed.tokens.len().saturating_sub(1);
+            let at = start_of(&lexed.tokens, last, 0);
+            Some(fault_at(lexed.unit, Code::S2, start, at))
+        }
+        Some(Cause::Lexical) => match lexed.end {
+            End::Done => None,
+            End::Fault(stop) => {
+                let start = start_of(&lexed.tokens, begun, stop.at);
+                Some(fault_at(lexed.unit, stop.code, start, stop.at))
+            }
+        },
+    }
+}
+
+/// The declarations that these items spell up to the first that is too high, and whether none is.
+fn declare(alloc: Global, unit: &[u8], items: &[Item]) -> Result<(Vec<BareDec>, bool), Memory>
+    ensures { let all = decs_of_items unit.now items.now in
+        IfOk result (λ r. (map dec_of r.0.items ≡ take_while is_low all) × (r.1 ≡ list_all is_low all)) }
+{
+    let mut names = Names::new(alloc);
+    let mut declarations = Vec::new(alloc);
+    for i in 0..items.len() {
+        if begins(items[i]) {
+            let declaration = first(&items[i..]);
+            if MOST < measure(alloc, declaration)? {
+                return Ok((declarations, false));
+            }
+            if let Some(dec) = build(alloc, unit, &mut names, declaration)? {
+                declarations.push(dec)?;
+            }
+        }
+    }
+    Ok((declarations, true))
+}
+
+/// Reads a unit's bare declarations.
+pub fn parse(alloc: Global, lexed: &Lexed) -> Result<Parsed, Memory>
+    ensures { IfOk result (λ parsed. Trees lexed.now.unit.now lexed.now.tokens.items lexed.now.end
+        (map dec_of parsed.declarations.items) (option_map fault_of parsed.fault)) }
+{
+    let full = read(alloc, lexed)?;
+    let items = label(alloc, lexed.unit, &full.nodes, &lexed.tokens)?;
+    let (declarations, low) = declare(alloc, lexed.unit, &items)?;
+    if low {
+        return Ok(Parsed {
+            declarations,
+            fault: fault_of_reading(lexed, full.begun, full.cause),
+        });
+    }
+    Ok(Parsed {
+        declarations,
+        fault: Some(Fault {
+            code: Code::S3,
+            place: FIRST,
+            detail: None,
+        }),
+    })
+}
+
+#[cfg(test)]
+mod tests;

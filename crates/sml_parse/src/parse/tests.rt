@@ -1,0 +1,283 @@
+use super::*;
+use sml_lex::fault::Place;
+use sml_lex::lexer::lex;
+use sml_tree::bare::{CoreDec, CoreForm, Exp, Ident, LongIdent, Spec, SpecForm, Ty};
+use std::fmt::Write;
+use std::test::Fail;
+
+/// Trees as text, each place before what it is the place of.
+#[derive(Drop)]
+struct Shown {
+    text: String,
+}
+
+impl Shown {
+    fn put(&mut self, text: &str) -> Result<(), Memory> {
+        self.text.push_str(text)?;
+        Ok(())
+    }
+
+    fn place(&mut self, place: Place) -> Result<(), Memory> {
+        let line = place.line;
+        let column = place.column;
+        write!(self.text, "{line}.{column} ")?;
+        Ok(())
+    }
+
+    fn ident(&mut self, ident: &Ident) -> Result<(), Memory> {
+        for byte in ident.as_slice() {
+            self.text.push(char::from(*byte))?;
+        }
+        Ok(())
+    }
+
+    fn long(&mut self, long: &LongIdent) -> Result<(), Memory> {
+        self.place(long.place)?;
+        for ident in &long.path {
+            self.ident(ident)?;
+            self.put("/")?;
+        }
+        self.ident(&long.last)
+    }
+}
+
+#[cycle(show_exp)]
+fn show_exp(shown: &mut Shown, exp: &Exp) -> Result<(), Memory> {
+    match exp {
+        Exp::Number => shown.put("n"),
+        Exp::Identifier(long) => shown.long(long),
+        Exp::Tuple(exps) => show_exps(shown, exps),
+        Exp::Bracket(exp) => {
+            shown.put("[")?;
+            show_exp(shown, exp)?;
+            shown.put("]")
+        }
+        Exp::Function(ident, exp) => {
+            shown.put("fn ")?;
+            shown.ident(ident)?;
+            shown.put(" ")?;
+            show_exp(shown, exp)
+        }
+    }
+}
+
+#[cycle(show_exp)]
+fn show_exps(shown: &mut Shown, exps: &[Exp]) -> Result<(), Memory> {
+    shown.put("(")?;
+    for exp in exps {
+        show_exp(shown, exp)?;
+        shown.put(",")?;
+    }
+    shown.put(")")
+}
+
+#[cycle(show_ty)]
+fn show_ty(shown: &mut Shown, ty: &Ty) -> Result<(), Memory> {
+    match ty {
+        Ty::Constructor(long) => shown.long(long),
+        Ty::Tuple(tys) => show_tys(shown, tys),
+        Ty::Bracket(ty) => {
+            shown.put("[")?;
+            show_ty(shown, ty)?;
+            shown.put("]")
+        }
+        Ty::Arrow(left, right) => {
+            shown.put("<")?;
+            show_ty(shown, left)?;
+            shown.put("->")?;
+            show_ty(shown, right)?;
+            shown.put(">")
+        }
+    }
+}
+
+#[cycle(show_ty)]
+fn show_tys(shown: &mut Shown, tys: &[Ty]) -> Result<(), Memory> {
+    shown.put("(")?;
+    for ty in tys {
+        show_ty(shown, ty)?;
+        shown.put("*")?;
+    }
+    shown.put(")")
+}
+
+fn show_core(shown: &mut Shown, core: &CoreDec) -> Result<(), Memory> {
+    shown.place(core.place)?;
+    match &core.form {
+        CoreForm::Value(ident, exp) => {
+            shown.put("val ")?;
+            shown.ident(ident)?;
+            shown.put(" ")?;
+            show_exp(shown, exp)?;
+        }
+        CoreForm::Type(ident, ty) => {
+            shown.put("type ")?;
+            shown.ident(ident)?;
+            shown.put(" ")?;
+            show_ty(shown, ty)?;
+        }
+    }
+    shown.put(";")
+}
+
+fn show_spec(shown: &mut Shown, spec: &Spec) -> Result<(), Memory> {
+    shown.place(spec.place)?;
+    match &spec.form {
+        SpecForm::Type(ident) => {
+            shown.put("type ")?;
+            shown.ident(ident)?;
+        }
+        SpecForm::Value(ident, ty) => {
+            shown.put("val ")?;
+            shown.ident(ident)?;
+            shown.put(" ")?;
+            show_ty(shown, ty)?;
+        }
+    }
+    shown.put(";")
+}
+
+fn show_dec(shown: &mut Shown, dec: &BareDec) -> Result<(), Memory> {
+    match dec {
+        BareDec::Core(core) => show_core(shown, core),
+        BareDec::Structure(structure) => {
+            shown.put("structure ")?;
+            shown.ident(&structure.name)?;
+            shown.put(" ")?;
+            shown.place(structure.signature.place)?;
+            shown.put("sig ")?;
+            for spec in &structure.signature.specs {
+                show_spec(shown, spec)?;
+            }
+            shown.put(" struct ")?;
+            for core in &structure.body {
+                show_core(shown, core)?;
+            }
+            Ok(())
+        }
+    }
+}
+
+fn show_parsed(alloc: Global, parsed: &Parsed) -> Result<String, Memory> {
+    let mut shown = Shown {
+        text: String::new(alloc),
+    };
+    for dec in &parsed.declarations {
+        show_dec(&mut shown, dec)?;
+        shown.put("\n")?;
+    }
+    if let Some(fault) = &parsed.fault {
+        shown.place(fault.place)?;
+        let code = fault.code;
+        write!(shown.text, "{code:?}")?;
+    }
+    Ok(shown.text)
+}
+
+/// What is read of a unit.
+fn read_as(rt: &impl AllocGlobal, unit: &[u8]) -> Result<String, Memory> {
+    let alloc = rt.alloc();
+    show_parsed(alloc, &parse(alloc, &lex(alloc, unit)?)?)
+}
+
+#[test]
+fn trees_and_places(rt: HostRuntime) -> Result<(), Fail> {
+    let text = read_as(&rt, b"val f = fn x => x\nval g = fn y => (f,\n y, ())")?;
+    let expected = "1.1 val f fn x 1.17 x;\n1.1 val g fn y (1.18 f,2.2 y,(),);\n";
+    assert_eq!(rt; text.as_str(), expected);
+    let text = read_as(
+        &rt,
+        b"structure S :> sig type t; val x : t end = struct type t = int val x = 3 end\n val y = (S.x, 1)",
+    )?;
+    let expected =
+        "structure S 1.16 sig 1.20 type t;1.28 val x 1.36 t; struct 1.51 type t 1.60 int;1.64 val x n;\n1.1 val y (1.10 S/x,n,);\n";
+    assert_eq!(rt; text.as_str(), expected);
+    let text = read_as(
+        &rt,
+        b";; structure mod:>sig val h : int -> A.B.t * (u) -> v end = struct end;",
+    )?;
+    let expected =
+        "structure mod 1.16 sig 1.20 val h <1.28 int-><(1.35 A/B/t*[1.44 u]*)->1.50 v>>; struct \n";
+    assert_eq!(rt; text.as_str(), expected);
+    Ok(())
+}
+
+#[test]
+fn faults(rt: HostRuntime) -> Result<(), Fail> {
+    for (unit, expected) in [
+        (b"val x = (1, )".as_slice(), "1.13 S1"),
+        (b"v".as_slice(), "1.1 S1"),
+        (b"val x = 1 )".as_slice(), "1.1 val x n;\n1.1 S1"),
+        (
+            b"val x = 1\nval y = (\n z w".as_slice(),
+            "1.1 val x n;\n2.4 S1",
+        ),
+        (b"val mod = 1".as_slice(), "1.5 S1"),
+        (b"val x = nil".as_slice(), "1.9 S1"),
+        (b"val".as_slice(), "1.1 S2"),
+        (b"val a".as_slice(), "1.5 S2"),
+        (b"val a = 1 val b = (a,".as_slice(), "1.1 val a n;\n1.11 S2"),
+        (b"".as_slice(), ""),
+        (b"; ;".as_slice(), ""),
+        (
+            b"val a = 1 val b = 2 \"x".as_slice(),
+            "1.1 val a n;\n1.11 L2",
+        ),
+        (b"val a = 1; .".as_slice(), "1.1 val a n;\n1.1 L4"),
+        (b"val a = ) .".as_slice(), "1.9 S1"),
+        (b"(* (* x *) val y = 1".as_slice(), "1.1 L1"),
+    ] {
+        let text = read_as(&rt, unit)?;
+        assert_eq!(rt; text.as_str(), expected);
+    }
+    Ok(())
+}
+
+/// `val x = 1`, with this many brackets round the 1, and then `val y = 2`.
+fn nested(alloc: Global, count: usize) -> Result<Vec<u8>, Memory> {
+    let mut unit = Vec::from_slice(alloc, b"val x = ")?;
+    for _ in 0..count {
+        unit.push(b'(')?;
+    }
+    unit.push(b'1')?;
+    for _ in 0..count {
+        unit.push(b')')?;
+    }
+    unit.extend_from_slice(b" val y = 2")?;
+    Ok(unit)
+}
+
+#[test]
+fn heights(rt: HostRuntime) -> Result<(), Fail> {
+    let alloc = rt.alloc();
+    for (count, expected) in [(3998, ""), (3999, "1.1 S3"), (500_000, "1.1 S3")] {
+        let unit = nested(alloc, count)?;
+        let mut parsed = parse(alloc, &lex(alloc, &unit)?)?;
+        let whole = if count == 3998 { 2 } else { 0 };
+        assert_eq!(rt; parsed.declarations.len(), whole);
+        parsed.declarations.clear();
+        let text = show_parsed(alloc, &parsed)?;
+        assert_eq!(rt; text.as_str(), expected);
+    }
+    Ok(())
+}
+
+#[test]
+fn large_units(rt: HostRuntime) -> Result<(), Fail> {
+    let alloc = rt.alloc();
+    let mut unit = Vec::new(alloc);
+    for _ in 0..100_000 {
+        unit.extend_from_slice(b"val x = 1\n")?;
+    }
+    let parsed = parse(alloc, &lex(alloc, &unit)?)?;
+    assert_eq!(rt; parsed.declarations.len(), 100_000);
+    assert_eq!(rt; parsed.fault, None);
+    let mut unit = Vec::from_slice(alloc, b"val x = ")?;
+    for _ in 0..1_048_568 {
+        unit.push(b'(')?;
+    }
+    let parsed = parse(alloc, &lex(alloc, &unit)?)?;
+    assert_eq!(rt; parsed.declarations.len(), 0);
+    assert_eq!(rt; parsed.fault, Some(fault_at(&unit, Code::S2, 0, 1_048_575)));
+    Ok(())
+}

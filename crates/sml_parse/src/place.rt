@@ -1,0 +1,93 @@
+//! Places of bytes, counted from another byte of the unit.
+
+ghost use Rattle.std.specs.Prelude.{◌≡◌, ℕ, List, [], ◌∷◌, ◌++◌};
+ghost use Rattle.sml_parse.specs.Places.{place_behind, place_from, IsOnWay};
+
+use sml_lex::fault::Place;
+use sml_lex::token::Span;
+use sml_read::terminal::text;
+
+/// The place from which all places of a declaration count.
+pub const FIRST: Place = Place { line: 1, column: 1 };
+
+/// The place behind one more byte.
+fn after(place: Place, byte: u8) -> Place
+    ensures { (before : List ℕ) → place ≡ place_behind before →
+        result ≡ place_behind (before ++ byte ∷ []) }
+{
+    if byte == b'\n' {
+        Place {
+            line: place.line.saturating_add(1),
+            column: 1,
+        }
+    } else {
+        Place {
+            line: place.line,
+            column: place.column.saturating_add(1),
+        }
+    }
+}
+
+/// The place behind these bytes, the first of which stands at the given place.
+fn behind(place: Place, bytes: &[u8]) -> Place
+    ensures { (before : List ℕ) → place ≡ place_behind before →
+        result ≡ place_behind (before ++ bytes.now) }
+{
+    let mut reached = place;
+    for byte in bytes {
+        reached = after(reached, *byte);
+    }
+    reached
+}
+
+/// The place of the byte `at`, counted from the byte `start`.
+pub fn place_between(unit: &[u8], start: usize, at: usize) -> Place
+    ensures { result ≡ place_from unit.now start at }
+{
+    behind(FIRST, text(unit, Span { start, end: at }))
+}
+
+/// A walk over a unit, which knows the place where it stands.
+#[derive(Clone, Copy, Debug)]
+pub struct Walk {
+    start: usize,
+    at: usize,
+    place: Place,
+}
+
+impl Walk {
+    /// Starts at this byte, from which places count.
+    pub fn new(start: usize) -> Walk
+        ensures start { result.start ≡ start }
+        ensures sound { (unit : List ℕ) → IsOnWay unit result }
+    {
+        Walk {
+            start,
+            at: start,
+            place: FIRST,
+        }
+    }
+
+    /// The place of the byte `at`. Costs no more than the way there from where the walk stands, unless that lies
+    /// behind `at`.
+    pub fn go_to(&mut self, unit: &[u8], at: usize) -> Place
+        requires { IsOnWay unit.now self.old }
+        ensures place { result ≡ place_from unit.now self.old.start at }
+        ensures start { self.new.start ≡ self.old.start }
+        ensures sound { IsOnWay unit.now self.new }
+    {
+        if at < self.at {
+            return place_between(unit, self.start, at);
+        }
+        let way = text(
+            unit,
+            Span {
+                start: self.at,
+                end: at,
+            },
+        );
+        self.place = behind(self.place, way);
+        self.at = at;
+        self.place
+    }
+}

@@ -1,0 +1,251 @@
+//! The reader: a stack of symbols still to come, and the nodes so far.
+ghost use Rattle.std.specs.Prelude.{◌≡◌, List, [], ◌∷◌, ◌++◌, reverse, Bool, true, false, Option, Some, None, IfOk, MatchBool};
+ghost use Rattle.std.specs.Option.{MatchOption};
+ghost use Rattle.sml_read.specs.declared.grammar.Node.{Node};
+ghost use Rattle.sml_read.specs.declared.grammar.Symbol.TheVariants.{Of};
+ghost use Rattle.sml_read.specs.Grammar.{is_outer};
+ghost use Rattle.sml_read.specs.Steps.{Takes, Refuses, Completes, Blocks, ends_outer};
+ghost use Rattle.sml_read.specs.Terminals.{terminals_of};
+ghost use Rattle.sml_read.specs.Answer.{is_done, IsReading};
+
+use crate::grammar::{Node, Part, Symbol};
+use crate::table::{backwards, choice, expected};
+use crate::terminal::{Terminal, terminals};
+use sml_lex::fault::Memory;
+use sml_lex::token::{End, Lexed};
+use std::alloc::Global;
+
+/// Why a unit isn't read to its end.
+#[derive(Clone, Copy, PartialEq, Eq, Debug)]
+pub enum Cause {
+    /// No unit has the token at this place there.
+    Unexpected(usize),
+    /// The unit ends too early.
+    TooEarly,
+    /// What stands behind the last token is no token.
+    Lexical,
+}
+
+/// What was read of a unit: the trees of the whole declarations, the place of the token that begins what comes
+/// after them, and the fault.
+#[derive(Debug, Drop)]
+pub struct Full {
+    pub nodes: Vec<Node>,
+    pub begun: usize,
+    pub cause: Option<Cause>,
+}
+
+/// Ends what may be ended with this token behind it, or none. Says which part is left where it is one alone.
+fn complete(
+    stack: &mut Vec<Symbol>,
+    nodes: &mut Vec<Node>,
+    next: Option<Terminal>,
+) -> Result<Option<Part>, Memory>
+    requires { ends_outer false (reverse stack.now.items) ≡ true }
+    ensures { IfOk result (λ left. (added : List Node) × (nodes.new.items ≡ nodes.old.items ++ added)
+        × Completes (reverse stack.old.items) next added (reverse stack.new.items)
+        × MatchOption left (Blocks (reverse stack.old.items) next)
+        (λ part. (reverse stack.new.items ≡ Of part ∷ []) × (is_outer part ≡ true))) }
+{
+    while stack.len() > 1 {
+        let Symbol::Of(part) = stack[stack.len() - 1] else {
+            return Ok(None);
+        };
+        let Some(rule) = expected(part, next) else {
+            return Ok(None);
+        };
+        stack.pop();
+        nodes.push(Node::Inner(rule))?;
+        stack.extend_from_slice(backwards(rule))?;
+    }
+    if stack.is_empty() {
+        return Ok(None);
+    }
+    match stack[0] {
+        Symbol::Of(part) => Ok(Some(part)),
+        Symbol::Word(_) => Ok(None),
+    }
+}
+
+/// Takes the next token, and says whether some trees of the symbols on the stack begin with it.
+fn take_token(
+    stack: &mut Vec<Symbol>,
+    nodes: &mut Vec<Node>,
+    terminal: Terminal,
+) -> Result<bool, Memory>
+    ensures { IfOk result (λ taken. (added : List Node) × (nodes.new.items ≡ nodes.old.items ++ added)
+        × MatchBool taken (Takes (reverse stack.old.items) terminal added (reverse stack.new.items))
+        (Refuses (reverse stack.old.items) terminal)) }
+{
+    while let Some(top) = stack.pop() {
+        match top {
+            Symbol::Word(word) => {
+                if word != terminal {
+                    return Ok(false);
+                }
+                nodes.push(Node::Leaf)?;
+                return Ok(true);
+            }
+            Symbol::Of(part) => {
+                let Some(rule) = choice(part, terminal) else {
+                    return Ok(false);
+                };
+                nodes.push(Node::Inner(rule))?;
+                stack.extend_from_slice(backwards(rule))?;
+            }
+        }
+    }
+    Ok(false)
+}
+
+/// Reads these terminals. Where `done` is false, a fault that is no token stands behind the last one.
+fn read_terminals(alloc: Global, terminals: &[Terminal], done: bool) -> Result<Full, Memory>
+    ensures { IfOk result (λ full. IsReading terminals.now done full.nodes.items full.begun full.cause) }
+{
+    let mut stack = Vec::new(alloc);
+    stack.push(Symbol::Of(Part::Start))?;
+    let mut nodes = Vec::new(alloc);
+    let mut begun = 0;
+    let mut count = 0;
+    for (place, terminal) in terminals.iter().enumerate() {
+        match complete(&mut stack, &mut nodes, Some(*terminal))? {
+            Some(_) => {
+                begun = place;
+                count = nodes.len();
+            }
+            None => {}
+        }
+        if !take_token(&mut stack, &mut nodes, *terminal)? {
+            nodes.truncate(count);
+            return Ok(Full {
+                nodes,
+                begun,
+                cause: Some(Cause::Unexpected(place)),
+            });
+        }
+    }
+    let Some(part) = complete(&mut stack, &mut nodes, None)? else {
+        nodes.truncate(count);
+        if done {
+            return Ok(Full {
+                nodes,
+                begun,
+                cause: Some(Cause::TooEarly),
+            });
+        }
+        return Ok(Full {
+            nodes,
+            begun,
+            cause: Some(Cause::Lexical),
+        });
+    };
+    if done {
+        return Ok(Full {
+            nodes,
+            begun: terminals.len(),
+            cause: None,
+        });
+    }
+    match part {
+        Part::Start => Ok(Full {
+            nodes,
+            begun: terminals.len(),
+            cause: Some(Cause::Lexical),
+        }),
+        _ => {
+            nodes.truncate(count);
+            Ok(Full {
+                nodes,
+                begun,
+                cause: Some(Cause::Lexical),
+            })
+        }
+    }
+}
+
+/// Reads a unit's tokens.
+pub fn read(alloc: Global, lexed: &Lexed) -> Result<Full, Memory>
+    ensures { IfOk result (λ full. IsReading
+        (terminals_of lexed.now.unit.now lexed.now.tokens.items) (is_done lexed.now.end)
+        full.nodes.items full.begun full.cause) }
+{
+    let done = match lexed.end {
+        End::Done => true,
+        End::Fault(_) => false,
+    };
+    read_terminals(alloc, &terminals(alloc, lexed)?, done)
+}
+
+#[cfg(test)]
+mod tests {
+    use super::*;
+
+    const TERMINALS: [Terminal; 12] = [
+        Terminal::ValWord,
+        Terminal::ValueName,
+        Terminal::Equals,
+        Terminal::Integer,
+        Terminal::ValWord,
+        Terminal::ValueName,
+        Terminal::Equals,
+        Terminal::OpenRound,
+        Terminal::ValueName,
+        Terminal::Comma,
+        Terminal::Integer,
+        Terminal::CloseRound,
+    ];
+
+    #[test]
+    fn cuts(rt: HostRuntime) -> Result<(), Memory> {
+        for n in 0..13 {
+            let full = read_terminals(rt.alloc(), &TERMINALS[..n], true)?;
+            let whole = n == 0 || n == 4 || n == 12;
+            let begun = if n == 12 {
+                12
+            } else if n < 4 {
+                0
+            } else {
+                4
+            };
+            assert_eq!(rt; full.begun, begun, "at {n}");
+            let cause = if whole { None } else { Some(Cause::TooEarly) };
+            assert_eq!(rt; full.cause, cause, "at {n}");
+        }
+        Ok(())
+    }
+
+    #[test]
+    fn lexical_faults(rt: HostRuntime) -> Result<(), Memory> {
+        for (terminals, begun) in [
+            (&TERMINALS[..0], 0),
+            (&TERMINALS[..4], 0),
+            (&TERMINALS[..5], 4),
+            (&TERMINALS[..12], 4),
+            (&[Terminal::Semicolon, Terminal::Semicolon], 2),
+        ] {
+            let full = read_terminals(rt.alloc(), terminals, false)?;
+            assert_eq!(rt; full.begun, begun);
+            assert_eq!(rt; full.cause, Some(Cause::Lexical));
+        }
+        Ok(())
+    }
+
+    #[test]
+    fn unexpected(rt: HostRuntime) -> Result<(), Memory> {
+        let terminals = [
+            Terminal::ValWord,
+            Terminal::ValueName,
+            Terminal::Equals,
+            Terminal::Integer,
+            Terminal::CloseRound,
+        ];
+        let full = read_terminals(rt.alloc(), &terminals, true)?;
+        assert_eq!(rt; full.begun, 4);
+        assert_eq!(rt; full.cause, Some(Cause::Unexpected(4)));
+        let terminals = [Terminal::Semicolon, Terminal::ValWord, Terminal::Equals];
+        let full = read_terminals(rt.alloc(), &terminals, true)?;
+        assert_eq!(rt; full.begun, 1);
+        assert_eq!(rt; full.cause, Some(Cause::Unexpected(2)));
+        Ok(())
+    }
+}

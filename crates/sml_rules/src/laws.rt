@@ -1,0 +1,15 @@
+//! What holds of all readings of a declaration, over the names of a run.
+
+ghost use Rattle.sml_objects.specs.Initial.{naming};
+ghost use Rattle.sml_rules.specs.Statements.{ReadingsAlike, ReadingsSound};
+
+/// Any two readings of one declaration in one basis are the same fault, or environments that differ in the names made
+/// alone: whichever new names were taken.
+pub fn readings_are_alike()
+    ensures { ReadingsAlike naming }
+{}
+
+/// What a reading accepts, the rules of the Definition derive.
+pub fn readings_are_sound()
+    ensures { ReadingsSound naming }
+{}

@@ -1,0 +1,5 @@
+// A session: the words of a command line, a source of files and two sinks give a status.
+#![tactic(auto)]
+
+pub mod disk;
+pub mod session;

@@ -1,0 +1,77 @@
+-- Runs over the units of a project, each after the units that it needs.
+use Rattle.std.specs.Prelude.{◌≡◌, ℕ, zero, suc, List, [], ◌∷◌, ◌++◌, Option, Some, None, decimal}
+use Rattle.sml_lex.specs.declared.fault.Place.{Place}
+use Rattle.sml_lex.specs.Faults.{Fault}
+use Rattle.sml_tree.specs.Trees.{Dec}
+use Rattle.sml_objects.specs.Names.{Naming}
+use Rattle.sml_objects.specs.Objects.{Sig, Basis, empty_env, extend_env, extend, names_sig, names_basis}
+use Rattle.sml_rules.specs.Answers.{Answer, refused, accepted}
+use Rattle.sml_rules.specs.Readings.{read_top}
+use Rattle.sml_units.specs.Text.{text, fault_text}
+
+-- A unit has a name, its place among the unit lines from 1, the places of its needs in the order of checking, the
+-- declarations that its bytes spell, and perhaps a last fault.
+pub record SourceUnit : Type 0 where
+  pub label : List ℕ
+  pub maker : ℕ
+  pub needs : List ℕ
+  pub declarations : List (Dec Place)
+  pub last : Option (Fault Place)
+
+-- every declaration begins at 1.1
+abbrev pub beginning : Place
+beginning = record { line = 1; column = 1 }
+
+abbrev pub basis_after : {N : Type 0} → Basis N → Answer Place (Sig N) → Basis N
+basis_after B (refused f) = B
+basis_after B (accepted S) = extend B S
+
+-- every answer is a reading in the basis so far
+unfoldable pub Run : {N : Type 0} → Naming N → ℕ → Basis N → List (Dec Place) → List (Answer Place (Sig N)) → Type 0
+Run names unit B [] [] = Unit {0}
+Run names unit B [] (o ∷ os) = ⊥
+Run names unit B (d ∷ ds) [] = ⊥
+Run names unit B (d ∷ ds) (o ∷ os) = read_top names beginning unit B d o × Run names unit (basis_after B o) ds os
+
+-- what the accepted declarations of a unit export
+abbrev pub exports_after : {N : Type 0} → Sig N → Answer Place (Sig N) → Sig N
+exports_after S (refused f) = S
+exports_after S (accepted S') = record { names = names_sig S' ++ names_sig S; body = extend_env S.body S'.body }
+
+unfoldable pub exports : {N : Type 0} → Sig N → List (Answer Place (Sig N)) → Sig N
+exports S [] = S
+exports S (o ∷ os) = exports (exports_after S o) os
+
+abbrev pub nothing : {N : Type 0} → Sig N
+nothing = record { names = []; body = empty_env }
+
+unfoldable pub export_at : {N : Type 0} → List (Sig N) → ℕ → Sig N
+export_at [] k = nothing
+export_at (S ∷ Ss) zero = S
+export_at (S ∷ Ss) (suc k) = export_at Ss k
+
+unfoldable pub all_names : {N : Type 0} → List (Sig N) → List N
+all_names [] = []
+all_names (S ∷ Ss) = names_sig S ++ all_names Ss
+
+-- the exports of the needs, in their order, over the initial basis
+unfoldable pub needed : {N : Type 0} → Basis N → List (Sig N) → List ℕ → Basis N
+needed B Ss [] = B
+needed B Ss (k ∷ ks) = needed (extend B (export_at Ss k)) Ss ks
+
+-- The basis that a unit starts from: it made no name yet, and all that were used before in the run are taken.
+unfoldable pub start : {N : Type 0} → Basis N → List (Sig N) → List ℕ → Basis N
+start B Ss ks = record { names = all_names Ss ++ names_basis B; count = 0; body = (needed B Ss ks).body }
+
+unfoldable pub RunProject : {N : Type 0} → Naming N → Basis N → List (Sig N) → List SourceUnit → List (List (Answer Place (Sig N))) → Type 0
+RunProject names B Ss [] [] = Unit {0}
+RunProject names B Ss [] (os ∷ oss) = ⊥
+RunProject names B Ss (u ∷ us) [] = ⊥
+RunProject names B Ss (u ∷ us) (os ∷ oss) =
+    Run names u.maker (start B Ss u.needs) u.declarations os × RunProject names B (Ss ++ exports nothing os ∷ []) us oss
+
+-- the texts of a unit's replies, from the number k on; the last fault is the last reply
+unfoldable pub texts : {N : Type 0} → Naming N → ℕ → List (Answer Place (Sig N)) → Option (Fault Place) → List (List ℕ)
+texts names k [] None = []
+texts names k [] (Some f) = (decimal k ++ fault_text f) ∷ []
+texts names k (o ∷ os) last = text names k o ∷ texts names (suc k) os last

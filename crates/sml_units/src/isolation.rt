@@ -1,0 +1,10 @@
+//! A sealed body is its maker's own affair.
+
+ghost use Rattle.sml_units.specs.Isolation.{SealsIsolate};
+
+/// If two projects differ only in the bodies of top-level structures sealed by `:>` to the same signature expressions,
+/// and each such declaration is accepted in both or refused in both, then the replies to all other declarations are
+/// equal byte for byte, for any two runs of them, and those to the accepted sealed ones too.
+pub fn seals_isolate()
+    ensures { SealsIsolate }
+{}

@@ -1,0 +1,83 @@
+//! The units that a project lists, and their order.
+
+use sml_lex::fault::Memory;
+use sml_objects::objects::UnitId;
+use std::alloc::{AllocError, AllocFailed, Global};
+
+/// The code of a fault of a project.
+#[derive(Clone, Copy, PartialEq, Eq, Debug)]
+pub enum ProjectCode {
+    /// Unknown unit.
+    O1,
+    /// Cycle.
+    O2,
+    /// Repeated unit.
+    O3,
+    /// Bad line.
+    O4,
+}
+
+/// A fault of a project, and the line of the project file at which it stands, from 1.
+#[derive(Clone, Copy, PartialEq, Eq, Debug)]
+pub struct ProjectFault {
+    pub code: ProjectCode,
+    pub line: u32,
+}
+
+/// Why a project file is no manifest: O4 or O3, or want of memory.
+#[derive(Debug, Drop)]
+pub enum ManifestFault {
+    Memory,
+    Fault(ProjectFault),
+}
+
+/// Why the units have no order: O1 or O2, or want of memory.
+#[derive(Debug, Drop)]
+pub enum OrderFault {
+    Memory,
+    Fault(ProjectFault),
+}
+
+impl From<AllocError> for ManifestFault {
+    fn from(_error: AllocError) -> ManifestFault {
+        ManifestFault::Memory
+    }
+}
+
+impl<T: Drop> From<AllocFailed<T>> for ManifestFault {
+    fn from(_error: AllocFailed<T>) -> ManifestFault {
+        ManifestFault::Memory
+    }
+}
+
+impl<T: Drop> From<AllocFailed<T>> for OrderFault {
+    fn from(_error: AllocFailed<T>) -> OrderFault {
+        OrderFault::Memory
+    }
+}
+
+/// The units of a project file, in the order listed.
+#[derive(Debug, Drop)]
+pub struct Manifest {
+    pub(crate) names: Vec<String>,
+    pub(crate) files: Vec<String>,
+}
+
+impl Manifest {
+    /// The files of the units, as written.
+    pub fn files(&self) -> &[String] {
+        self.files.as_slice()
+    }
+}
+
+/// The order of the units: each after its needs, the earliest listed first among those that may come.
+pub fn order(alloc: Global, manifest: &Manifest) -> Result<Vec<UnitId>, OrderFault> {
+    let mut order = Vec::new(alloc);
+    for index in 0..manifest.names.len() {
+        let Ok(index) = u32::try_from(index) else {
+            return Err(OrderFault::Memory);
+        };
+        order.push(UnitId { index })?;
+    }
+    Ok(order)
+}

@@ -1,0 +1,172 @@
+//! Replies, version 1 of their text.
+
+use crate::numerals::push_number;
+use crate::sink::{Out, OutFault, write_all};
+use crate::texts::Lines;
+use itoa::Buffer;
+use sml_lex::fault::{Code, Fault, Memory, Place, Warning};
+use sml_objects::objects::Basis;
+use std::alloc::Global;
+
+/// The reply to a declaration, with its number in the unit.
+#[derive(Drop)]
+pub enum Reply {
+    Accepted(AcceptedReply),
+    Refused(RefusedReply),
+}
+
+/// The text of an accepted declaration without its warnings, and these.
+#[derive(Drop)]
+pub struct AcceptedReply {
+    text: Vec<u8>,
+    warnings: Vec<Warning>,
+}
+
+#[derive(Drop)]
+pub struct RefusedReply {
+    number: u32,
+    fault: Fault,
+}
+
+impl Reply {
+    /// The reply to an accepted declaration, of which this is the own basis.
+    pub fn accepted(
+        alloc: Global,
+        number: u32,
+        basis: &Basis,
+        warnings: Vec<Warning>,
+    ) -> Result<Reply, Memory> {
+        let mut lines = Lines::new(alloc);
+        push_number(&mut lines.text, number)?;
+        lines.text.extend_from_slice(b" ok\n")?;
+        lines.push_env(alloc, b"", &basis.env)?;
+        let Lines { text, .. } = lines;
+        Ok(Reply::Accepted(AcceptedReply { text, warnings }))
+    }
+
+    /// The reply to a refused declaration.
+    pub fn refused(number: u32, fault: Fault) -> Reply {
+        Reply::Refused(RefusedReply { number, fault })
+    }
+
+    /// Whether the declaration is accepted.
+    pub fn is_accepted(&self) -> bool {
+        match self {
+            Reply::Accepted(_) => true,
+            Reply::Refused(_) => false,
+        }
+    }
+
+    /// The warnings of the declaration.
+    pub fn warnings(&self) -> &[Warning] {
+        match self {
+            Reply::Accepted(reply) => reply.warnings.as_slice(),
+            Reply::Refused(_) => &[],
+        }
+    }
+}
+
+/// Writes the text of a reply, with its warnings if they are asked for.
+pub fn print<O: Out>(reply: &Reply, warnings: bool, out: &mut O) -> Result<(), OutFault> {
+    match reply {
+        Reply::Accepted(reply) => {
+            write_all(out, reply.text.as_slice())?;
+            if warnings {
+                for warning in reply.warnings.iter() {
+                    write_all(out, b"  warning ")?;
+                    print_place(warning.code, warning.place, out)?;
+                    write_all(out, b"\n")?;
+                }
+            }
+            Ok(())
+        }
+        Reply::Refused(reply) => {
+            print_number(reply.number, out)?;
+            write_all(out, b" fault ")?;
+            print_place(reply.fault.code, reply.fault.place, out)?;
+            if let Some(detail) = &reply.fault.detail {
+                write_all(out, b" ")?;
+                write_all(out, detail.as_slice())?;
+            }
+            write_all(out, b"\n")
+        }
+    }
+}
+
+fn print_number<O: Out>(number: u32, out: &mut O) -> Result<(), OutFault> {
+    let mut buffer = Buffer::new();
+    write_all(out, buffer.format(number).as_bytes())
+}
+
+/// The code, the place and the text of a fault or a warning.
+fn print_place<O: Out>(code: Code, place: Place, out: &mut O) -> Result<(), OutFault> {
+    let (name, meaning) = code_text(code);
+    write_all(out, name.as_bytes())?;
+    write_all(out, b" ")?;
+    print_number(place.line, out)?;
+    write_all(out, b".")?;
+    print_number(place.column, out)?;
+    write_all(out, b" ")?;
+    write_all(out, meaning.as_bytes())
+}
+
+/// A code as it is printed, and what it means.
+fn code_text(code: Code) -> (&'static str, &'static str) {
+    match code {
+        Code::L1 => ("L1", "comment not closed"),
+        Code::L2 => ("L2", "string not closed"),
+        Code::L3 => ("L3", "bad escape or character"),
+        Code::L4 => ("L4", "bad byte"),
+        Code::L5 => ("L5", "literal too large"),
+        Code::L6 => ("L6", "unit too large"),
+        Code::S1 => ("S1", "unexpected token"),
+        Code::S2 => ("S2", "unit ends too early"),
+        Code::S3 => ("S3", "tree too high"),
+        Code::F1 => ("F1", "operator without operand"),
+        Code::F2 => ("F2", "sides mixed at one level"),
+        Code::F3 => ("F3", "fixity level not one digit"),
+        Code::F4 => ("F4", "malformed pattern or clause head"),
+        Code::G1 => ("G1", "clauses with different names"),
+        Code::G2 => ("G2", "clauses with different numbers of arguments"),
+        Code::G3 => ("G3", "bound twice"),
+        Code::G4 => ("G4", "identifier can't be bound"),
+        Code::G5 => ("G5", "real in a pattern"),
+        Code::U1 => ("U1", "types clash"),
+        Code::U2 => ("U2", "circular type"),
+        Code::U3 => ("U3", "type name too new"),
+        Code::U4 => ("U4", "not an equality type"),
+        Code::U5 => ("U5", "not in the overloading class"),
+        Code::U6 => ("U6", "record labels undetermined"),
+        Code::U7 => ("U7", "explicit type variable not general"),
+        Code::E1 => ("E1", "unbound value"),
+        Code::E2 => ("E2", "unbound type"),
+        Code::E3 => ("E3", "unbound structure"),
+        Code::E4 => ("E4", "wrong number of type arguments"),
+        Code::E5 => ("E5", "constructor expected"),
+        Code::E6 => ("E6", "local type escapes"),
+        Code::E7 => ("E7", "type too large"),
+        Code::E8 => ("E8", "type variable out of scope"),
+        Code::E9 => ("E9", "right side of rec isn't a function"),
+        Code::E10 => ("E10", "variable bound twice in a pattern"),
+        Code::N1 => ("N1", "unbound signature"),
+        Code::N2 => ("N2", "repeated specification"),
+        Code::N3 => ("N3", "name not free"),
+        Code::N4 => ("N4", "equality lost"),
+        Code::N5 => ("N5", "constructors lost"),
+        Code::N6 => ("N6", "arities differ"),
+        Code::N7 => ("N7", "constructors differ"),
+        Code::M1 => ("M1", "missing component"),
+        Code::M2 => ("M2", "wrong arity"),
+        Code::M3 => ("M3", "type doesn't admit equality"),
+        Code::M4 => ("M4", "type differs"),
+        Code::M5 => ("M5", "constructors differ"),
+        Code::M6 => ("M6", "value not general enough"),
+        Code::M7 => ("M7", "status differs"),
+        Code::Q1 => ("Q1", "unbound functor"),
+        Code::Q2 => ("Q2", "exported type undetermined"),
+        Code::Q3 => ("Q3", "too many type names"),
+        Code::P1 => ("P1", "rule is redundant"),
+        Code::P2 => ("P2", "match not exhaustive"),
+        Code::P3 => ("P3", "binding not exhaustive"),
+    }
+}

@@ -4,7 +4,9 @@ ghost use Rattle.std.specs.Option.{MatchOption};
 ghost use Rattle.std.specs.Result.{MatchResult};
 ghost use Rattle.sml_lex.specs.Bytes.{starts_white};
 ghost use Rattle.sml_lex.specs.Strings.{opens_string, opens_character};
-ghost use Rattle.sml_lex.specs.Pieces.{after_comments, opens_comment, IsPiece, IsFault};
+ghost use Rattle.sml_lex.specs.Comments.{opens_comment};
+ghost use Rattle.sml_lex.specs.CommentReading.{after_comments};
+ghost use Rattle.sml_lex.specs.Pieces.{IsPiece, IsFault};
 
 use crate::bytes::{behind, stand, starts, starts_both, white};
 use crate::fault::Code;

@@ -1,9 +1,9 @@
 -- The longest token among the beginnings of a text, byte by byte.
-use Rattle.std.proofs.Common.{◌≡◌, ℕ, ◌+◌, ◌-◌, ◌<◌, ◌≤◌, take, drop, length, get_or, List, [], ◌∷◌, ◌++◌, Bool, true, false, refl, sym, ap, ◌∙◌, subst, arith, ◌⊎◌, inl, inr, ltb, cond, Option, Some, None, is_some}
+use Rattle.std.proofs.Common.{◌≡◌, ℕ, ◌+◌, ◌-◌, ◌<◌, ◌≤◌, take, drop, length, get_or, List, [], ◌∷◌, ◌++◌, Bool, true, false, refl, sym, ap, ◌∙◌, subst, arith, inl, inr, cond, Option, Some, None, is_some}
 use Rattle.std.specs.Prelude.{◌==◌, codes}
 use Rattle.std.proofs.Math.Seq.{take-add}
 use Rattle.std.proofs.lemmas.List.{take_more, length-drop, get_or-drop}
-use Rattle.std.proofs.lemmas.Bool.{ltb-true, ltb-false}
+use Rattle.std.proofs.lemmas.Bool.{cases_lt}
 use Rattle.sml_lex.specs.declared.token.Kind.{Kind}
 use Rattle.sml_lex.specs.declared.longest.Lexeme.{Lexeme}
 use Rattle.sml_lex.specs.declared.machine.State.{State}
@@ -25,20 +25,13 @@ run_dead r (c ∷ text) e = run_dead (step r c) text (still r.state e)
 pub run_more : (bytes : List ℕ) (i : ℕ) (d : ℕ) → i < length bytes → run fresh (take (i + 1) bytes) ≡ step (run fresh (take i bytes)) (get_or bytes i d)
 run_more bytes i d within = ap (run fresh) (take_more bytes i d within) ∙ run-append fresh (take i bytes) (get_or bytes i d ∷ [])
 
-below : (p n : ℕ) → (p < n) ⊎ (n ≤ p)
-below p n = by_test (ltb p n) refl
-  where
-    by_test : (b : Bool) → ltb p n ≡ b → (p < n) ⊎ (n ≤ p)
-    by_test true e = inl (ltb-true _ _ e)
-    by_test false e = inr (ltb-false _ _ e)
-
 pub longest_none : (bytes : List ℕ) → IsLongestWithin bytes 0 None
 longest_none bytes = λ n l. let z : n ≡ 0 = omega (arith, l) in ap (λ n. token_kind (take n bytes)) z
 
 -- where no longer beginning is a token
 longer : (bytes : List ℕ) (i most : ℕ) → i ≤ most → (best : Option Lexeme) → ((n : ℕ) → i < n → n ≤ most → token_kind (take n bytes) ≡ None) → IsLongestWithin bytes i best → IsLongestWithin bytes most best
-longer bytes i most more None none x = λ n h. elim (below i n) [ inl b ↦ none n b h | inr b ↦ x n b ]
-longer bytes i most more (Some lexeme) none x = (let w = x.0 in omega (arith, w, more), x.1, λ n l h. elim (below i n) [ inl b ↦ none n b h | inr b ↦ x.2 n l b ])
+longer bytes i most more None none x = λ n h. elim (cases_lt i n) [ inl b ↦ none n b h | inr b ↦ x n b ]
+longer bytes i most more (Some lexeme) none x = (let w = x.0 in omega (arith, w, more), x.1, λ n l h. elim (cases_lt i n) [ inl b ↦ none n b h | inr b ↦ x.2 n l b ])
 
 pub longest_yes : (bytes : List ℕ) (i : ℕ) (kind : Kind) → token_kind (take (i + 1) bytes) ≡ Some kind → IsLongestWithin bytes (i + 1) (Some (record {
   kind = kind;

@@ -282,7 +282,7 @@ none_there text stop b = go (item_at b.rest) refl
     go None e = e
     go (Some item) e = let s = item_sound b.rest item e in absurd (b.no_item item s.1 s.0 s.2)
 
-closed_or_broken : (text behind : List ℕ) (items : List Item) (stop : Stop) → AreItems items → text ≡ quoted items ++ behind → IsBroken text stop → ⊥
+pub closed_or_broken : (text behind : List ℕ) (items : List Item) (stop : Stop) → AreItems items → text ≡ quoted items ++ behind → IsBroken text stop → ⊥
 closed_or_broken text behind items stop i e b =
     let u = items_unique items b.items (34 ∷ behind) b.rest i b.are_items refl (none_there text stop b) (sym (append_assoc (items_text items) (34 ∷ []) behind) ∙ ap (drop 1) (sym e ∙ b.spelled)) in
     false_is_true (sym b.not_closed ∙ ap (starts_with 34) (sym u.1))

@@ -15,7 +15,7 @@ use Rattle.sml_lex.specs.StringReading.{item_at, IsQuoted}
 use Rattle.sml_lex.specs.Tokens.{IsToken}
 use Rattle.sml_lex.specs.Machine.{token_kind, IsLongestWithin}
 use Rattle.sml_lex.specs.Pieces.{opens_comment, is_cut, IsLexeme}
-use Rattle.sml_lex.proofs.Reading.{Reads, next, dead, none_is_some, false_is_true, first_true, second_true}
+use Rattle.sml_lex.proofs.Reading.{and_false, Reads, next, dead, none_is_some, false_is_true, first_true, second_true}
 use Rattle.sml_lex.proofs.ReadTokens.{token_read}
 use Rattle.sml_lex.proofs.StringItems.{none_is_item, same_item, item_complete}
 use Rattle.sml_lex.proofs.TokensRead.{is_quoted, token_reads}
@@ -57,10 +57,6 @@ pub character_starts : (text : List ℕ) → IsCharacter text → opens_characte
 character_starts text s = ap (starts_with_both 35 34) s.3
 
 -- a token that is cut
-and_false : (a b : Bool) → b ≡ false → (a && b) ≡ false
-and_false true b e = e
-and_false false b e = refl
-
 or_false : (a b : Bool) → a ≡ false → b ≡ false → (a || b) ≡ false
 or_false true b e f = absurd (false_is_true (sym e))
 or_false false b e f = f
@@ -148,13 +144,9 @@ string_lexeme rest size q = record {
     longest n other l h t false e = at_quote n rest other opens (token_reads other (take n rest) e t)
 
 -- a character at the front
-hash_first : (rest : List ℕ) → opens_character rest ≡ true → rest ≡ 35 ∷ drop 1 rest
+pub hash_first : (rest : List ℕ) → opens_character rest ≡ true → rest ≡ 35 ∷ drop 1 rest
 hash_first [] e = absurd (false_is_true e)
 hash_first (c ∷ rest) e = ap (λ c. c ∷ rest) (eqb-true _ _ (first_true (c == 35) (starts_with 34 rest) e))
-
-pub quote_second : (rest : List ℕ) → opens_character rest ≡ true → opens_string (drop 1 rest) ≡ true
-quote_second [] e = absurd (false_is_true e)
-quote_second (c ∷ rest) e = second_true (c == 35) (starts_with 34 rest) e
 
 pub character_size : (rest : List ℕ) (items : List Item) (behind : List ℕ) (n : ℕ) → AreItems items → rest ≡ 35 ∷ (quoted items ++ behind) → n ≤ length rest → IsCharacter (take n rest) → n ≡ 1 + length (quoted items)
 character_size rest items behind n i e l s =

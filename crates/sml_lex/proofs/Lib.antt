@@ -1,9 +1,11 @@
 pub mod Beginnings
 pub mod ByteClasses
 pub mod Comments
+pub mod ConstantValues
 pub mod DigitValues
 pub mod FirstPieces
 pub mod FirstTokens
+pub mod Order
 pub mod ReadNumbers
 pub mod ReadTokens
 pub mod Reading

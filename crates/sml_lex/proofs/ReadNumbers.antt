@@ -39,9 +39,6 @@ exponent_read part (c ∷ text) kind h =
         λ n h. let w = exponent_digits _ d text kind n h in ((d ∷ text, w.0, inr (ap (λ x. x ∷ d ∷ text) (eqb-true _ _ e))), w.1)
         ) (λ n h. absurd (dead _ text kind h)) (next h)
 
-is_exponent_mark : ℕ → Bool
-is_exponent_mark c = (c == 69) || (c == 101)
-
 exponent_is : (c : ℕ) (text : List ℕ) → ((c == 69) || (c == 101)) ≡ true → IsDecimal text → IsExponent (c ∷ text)
 exponent_is c text e d = (text, d, go (c == 69) refl e)
   where

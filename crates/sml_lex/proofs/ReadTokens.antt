@@ -11,7 +11,7 @@ use Rattle.sml_lex.specs.Bytes.{is_digit, is_hex_digit, is_letter, is_name_byte,
 use Rattle.sml_lex.specs.Words.{is_text, kind_among, reserved_words, word_kind, is_reserved}
 use Rattle.sml_lex.specs.Bytes.{all_are}
 use Rattle.sml_lex.specs.Tokens.{is_digits, is_hex_digits, is_alphanumeric, is_symbolic, is_star, qualifiers, AreQualifiers, IsLong, IsToken}
-use Rattle.sml_lex.specs.Machine.{first_state, part_behind, real_state, digit_or, name_byte_or, sign_or_dead, dot_or_dead, token_kind}
+use Rattle.sml_lex.specs.Machine.{first_dot, first_mark, first_sign, first_tilde, first_prime, first_digit, first_zero, first_state, part_behind, real_state, digit_or, name_byte_or, sign_or_dead, dot_or_dead, token_kind}
 use Rattle.sml_lex.proofs.Reading.{Reads, next, done, none_is_some, false_is_true, some_same, dead, on_if, both_true, first_true, second_true, apart, part_on_byte, only}
 use Rattle.sml_lex.proofs.ReadNumbers.{of_kind, RealTail, real_tail, real_is, NumberRead, number_read, with_digit}
 
@@ -339,29 +339,29 @@ token_read (c ∷ text) kind e = letter (next (first e))
     alone : {s : State} (f : ℕ → Bool) → f 46 ≡ false → f c ≡ true → Reads s (part_behind [] c) text kind → Reads s (c ∷ []) text kind
     alone {s} f dot e h = subst (λ p. Reads s p text kind) (part_on_byte [] c (apart f 46 dot c e)) h
 
-    dot : Reads (if c == 46 then OneDot else Dead) (part_behind [] c) text kind → IsToken kind (c ∷ text)
+    dot : Reads (first_dot c) (part_behind [] c) text kind → IsToken kind (c ∷ text)
     dot h = on_if (IsToken kind (c ∷ text)) (c == 46) OneDot Dead (λ e h. subst (λ c. IsToken kind (c ∷ text)) (sym (eqb-true _ _ e)) (dots_read _ text kind h)) (λ e h. absurd (dead _ text kind h)) h
 
-    mark : Reads (if is_mark c then Mark else if c == 46 then OneDot else Dead) (part_behind [] c) text kind → IsToken kind (c ∷ text)
-    mark h = on_if (IsToken kind (c ∷ text)) (is_mark c) Mark (if c == 46 then OneDot else Dead) (λ e h. alone_read c text kind (alone is_mark refl e h)) (λ e h. dot h) h
+    mark : Reads (first_mark c) (part_behind [] c) text kind → IsToken kind (c ∷ text)
+    mark h = on_if (IsToken kind (c ∷ text)) (is_mark c) Mark (first_dot c) (λ e h. alone_read c text kind (alone is_mark refl e h)) (λ e h. dot h) h
 
-    sign : Reads (if is_sign c then Sign else if is_mark c then Mark else if c == 46 then OneDot else Dead) (part_behind [] c) text kind → IsToken kind (c ∷ text)
-    sign h = on_if (IsToken kind (c ∷ text)) (is_sign c) Sign (if is_mark c then Mark else if c == 46 then OneDot else Dead) (λ e h. signs_read c text kind e (alone is_sign refl e h)) (λ e h. mark h) h
+    sign : Reads (first_sign c) (part_behind [] c) text kind → IsToken kind (c ∷ text)
+    sign h = on_if (IsToken kind (c ∷ text)) (is_sign c) Sign (first_mark c) (λ e h. signs_read c text kind e (alone is_sign refl e h)) (λ e h. mark h) h
 
     tilde_only : (c : ℕ) → c ≡ 126 → Reads Tilde (part_behind [] c) text kind → IsToken kind (c ∷ text)
     tilde_only c e h = subst (λ c. Reads Tilde (part_behind [] c) text kind → IsToken kind (c ∷ text)) (sym e) (λ h. tilde_read text kind h) h
 
-    tilde : Reads (if c == 126 then Tilde else if is_sign c then Sign else if is_mark c then Mark else if c == 46 then OneDot else Dead) (part_behind [] c) text kind → IsToken kind (c ∷ text)
-    tilde h = on_if (IsToken kind (c ∷ text)) (c == 126) Tilde (if is_sign c then Sign else if is_mark c then Mark else if c == 46 then OneDot else Dead) (λ e h. tilde_only c (eqb-true _ _ e) h) (λ e h. sign h) h
+    tilde : Reads (first_tilde c) (part_behind [] c) text kind → IsToken kind (c ∷ text)
+    tilde h = on_if (IsToken kind (c ∷ text)) (c == 126) Tilde (first_sign c) (λ e h. tilde_only c (eqb-true _ _ e) h) (λ e h. sign h) h
 
-    prime : Reads (if c == 39 then Variable else if c == 126 then Tilde else if is_sign c then Sign else if is_mark c then Mark else if c == 46 then OneDot else Dead) (part_behind [] c) text kind → IsToken kind (c ∷ text)
-    prime h = on_if (IsToken kind (c ∷ text)) (c == 39) Variable (if c == 126 then Tilde else if is_sign c then Sign else if is_mark c then Mark else if c == 46 then OneDot else Dead) (λ e h. variable_read c _ text kind e h) (λ e h. tilde h) h
+    prime : Reads (first_prime c) (part_behind [] c) text kind → IsToken kind (c ∷ text)
+    prime h = on_if (IsToken kind (c ∷ text)) (c == 39) Variable (first_tilde c) (λ e h. variable_read c _ text kind e h) (λ e h. tilde h) h
 
-    digit : (c == 48) ≡ false → Reads (if is_digit c then Digits else if c == 39 then Variable else if c == 126 then Tilde else if is_sign c then Sign else if is_mark c then Mark else if c == 46 then OneDot else Dead) (part_behind [] c) text kind → IsToken kind (c ∷ text)
-    digit z h = on_if (IsToken kind (c ∷ text)) (is_digit c) Digits (if c == 39 then Variable else if c == 126 then Tilde else if is_sign c then Sign else if is_mark c then Mark else if c == 46 then OneDot else Dead) (λ e h. digits_read c _ text kind z e h) (λ e h. prime h) h
+    digit : (c == 48) ≡ false → Reads (first_digit c) (part_behind [] c) text kind → IsToken kind (c ∷ text)
+    digit z h = on_if (IsToken kind (c ∷ text)) (is_digit c) Digits (first_prime c) (λ e h. digits_read c _ text kind z e h) (λ e h. prime h) h
 
-    zero : Reads (if c == 48 then Zero else if is_digit c then Digits else if c == 39 then Variable else if c == 126 then Tilde else if is_sign c then Sign else if is_mark c then Mark else if c == 46 then OneDot else Dead) (part_behind [] c) text kind → IsToken kind (c ∷ text)
-    zero h = on_if (IsToken kind (c ∷ text)) (c == 48) Zero (if is_digit c then Digits else if c == 39 then Variable else if c == 126 then Tilde else if is_sign c then Sign else if is_mark c then Mark else if c == 46 then OneDot else Dead) (λ e h. zero_read c _ text kind (eqb-true _ _ e) h) (λ e h. digit e h) h
+    zero : Reads (first_zero c) (part_behind [] c) text kind → IsToken kind (c ∷ text)
+    zero h = on_if (IsToken kind (c ∷ text)) (c == 48) Zero (first_digit c) (λ e h. zero_read c _ text kind (eqb-true _ _ e) h) (λ e h. digit e h) h
 
     letter : Reads (first_state c) (part_behind [] c) text kind → IsToken kind (c ∷ text)
-    letter h = on_if (IsToken kind (c ∷ text)) (is_letter c) Name (if c == 48 then Zero else if is_digit c then Digits else if c == 39 then Variable else if c == 126 then Tilde else if is_sign c then Sign else if is_mark c then Mark else if c == 46 then OneDot else Dead) (λ e h. name_read (c ∷ []) text kind (both_true _ _ e refl) (alone is_letter refl e h)) (λ e h. zero h) h
+    letter h = on_if (IsToken kind (c ∷ text)) (is_letter c) Name (first_zero c) (λ e h. name_read (c ∷ []) text kind (both_true _ _ e refl) (alone is_letter refl e h)) (λ e h. zero h) h

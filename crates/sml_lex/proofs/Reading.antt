@@ -59,6 +59,10 @@ pub second_true : (a b : Bool) → (a && b) ≡ true → b ≡ true
 second_true true b e = e
 second_true false b e = absurd (false_is_true e)
 
+pub and_false : (a b : Bool) → b ≡ false → (a && b) ≡ false
+and_false true b e = e
+and_false false b e = refl
+
 -- a byte that passes a test is none that doesn't
 pub apart : (f : ℕ → Bool) (x : ℕ) → f x ≡ false → (c : ℕ) → f c ≡ true → (c == x) ≡ false
 apart f x n c h = go (c == x) refl

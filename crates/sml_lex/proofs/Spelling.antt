@@ -15,11 +15,6 @@ use Rattle.sml_lex.proofs.FirstTokens.{never_empty}
 pub record Carries (unit : List ℕ) (place : ℕ) (tokens : List Token) : Type 0 where
   pub whole : (pieces : List Piece) (end : End) → SpellsFrom unit place pieces end → (all : List Piece) × (tokens ++ tokens_of place pieces ≡ tokens_of 0 all) × SpellsFrom unit 0 all end
 
-pub carries_none : (unit : List ℕ) (tokens : List Token) → tokens ≡ [] → Carries unit 0 tokens
-carries_none unit tokens e = record {
-  whole = λ pieces end s. (pieces, ap (λ t. t ++ tokens_of 0 pieces) e, s);
-}
-
 -- the token of a piece
 abbrev pub own_tokens : ℕ → Piece → List Token
 own_tokens place Blank = []

@@ -1,64 +1,61 @@
 -- The items of strings, as they are read.
 use Rattle.std.proofs.Common.{◌≡◌, ℕ, ◌+◌, ◌<◌, ◌≤◌, List, [], ◌∷◌, ◌++◌, take, drop, length, get_or, Bool, true, false, Option, Some, None, unwrap_or, refl, sym, ap, ◌∙◌, subst, arith}
 use Rattle.std.specs.Prelude.{◌&&◌, ◌==◌, nat_lt, if◌then◌else◌}
-use Rattle.std.proofs.lemmas.Bool.{cond-true, cond-false, eqb-true, ltb-true, lt-ltb}
+use Rattle.std.proofs.lemmas.Bool.{cond-true, cond-false, eqb-true, ltb-true, lt-ltb, le-ltb}
 use Rattle.std.proofs.lemmas.List.{drop_more, length-append, length-drop}
-use Rattle.sml_lex.specs.declared.strings.Extent.{Extent}
+use Rattle.sml_lex.specs.declared.items.Element.{Element}
 use Rattle.sml_lex.specs.Bytes.{is_within, is_white, is_digit, is_hex_digit, starts_with, starts_white}
 use Rattle.sml_lex.specs.Numbers.{number}
 use Rattle.sml_lex.specs.Bytes.{all_are, is_run}
 use Rattle.sml_lex.specs.Strings.{Item, item_text, is_plain, is_escape_letter, IsItem}
 use Rattle.sml_lex.specs.Strings.Item.{Plain, Letter, Control, Decimal, Hexadecimal, Gap}
-use Rattle.sml_lex.proofs.Reading.{false_is_true, both_true, first_true, second_true, apart}
+use Rattle.sml_lex.proofs.Reading.{and_false, false_is_true, both_true, first_true, second_true, apart}
 use Rattle.sml_lex.proofs.ByteClasses.{digit_no_escape, white_no_escape, white_no_digit}
-use Rattle.sml_lex.specs.StringReading.{white_at, gap_at, control_at, decimal_at, hexadecimal_at, escape_at, item_at, extent}
-
-pub all_on : (f : ℕ → Bool) (text : List ℕ) (i d : ℕ) → i < length text → all_are f (drop i text) ≡ (f (get_or text i d) && all_are f (drop (i + 1) text))
-all_on f text i d within = ap (all_are f) (drop_more text i d within)
+use Rattle.sml_lex.specs.StringReading.{white_at, gap_at, control_at, decimal_at, hexadecimal_at, escape_at, item_at, element}
 
 -- a gap, of which some bytes of white space are known
-pub with_white : ℕ → Option (List ℕ) → Option Extent
+pub with_white : ℕ → Option (List ℕ) → Option Element
 with_white before None = None
 with_white before (Some white) = Some (record {
   bytes = before + length white + 2;
-  characters = 0;
+  value = None;
 })
 
-pub gap_extent : ℕ → List ℕ → Option Extent
-gap_extent before rest = with_white before (white_at rest)
+pub gap_element : ℕ → List ℕ → Option Element
+gap_element before rest = with_white before (white_at rest)
 
-abbrev gap_of : ℕ → Option Extent
+abbrev gap_of : ℕ → Option Element
 gap_of bytes = Some (record {
   bytes = bytes;
-  characters = 0;
+  value = None;
 })
 
-pub gap_first : (text : List ℕ) → gap_extent 0 text ≡ extent (gap_at text)
-unfolding gap_extent with_white
+pub gap_first : (text : List ℕ) → gap_element 0 text ≡ element (gap_at text)
+unfolding gap_element with_white
 gap_first text = go (white_at text)
   where
-    go : (w : Option (List ℕ)) → with_white 0 w ≡ extent (elim w [ None ↦ None | Some white ↦ Some (Gap white) ])
+    go : (w : Option (List ℕ)) → with_white 0 w ≡ element (elim w [ None ↦ None | Some white ↦ Some (Gap white) ])
     go None = refl
     go (Some white) = ap gap_of (let l = length-append white (92 ∷ []) in omega (arith, l))
 
-gap_one : (before c : ℕ) (rest : List ℕ) → is_white c ≡ true → gap_extent before (c ∷ rest) ≡ gap_extent (before + 1) rest
-unfolding gap_extent with_white
+gap_one : (before c : ℕ) (rest : List ℕ) → is_white c ≡ true → gap_element before (c ∷ rest) ≡ gap_element (before + 1) rest
+unfolding gap_element with_white
 gap_one before c rest w = ap (with_white before) (cond-true _ _ _ w) ∙ go (white_at rest)
   where
     go : (o : Option (List ℕ)) → with_white before (elim o [ None ↦ None | Some white ↦ Some (c ∷ white) ]) ≡ with_white (before + 1) o
     go None = refl
     go (Some white) = ap gap_of (omega arith)
 
-pub gap_more : (text : List ℕ) (i : ℕ) → i < length text → is_white (get_or text i 0) ≡ true → gap_extent i (drop i text) ≡ gap_extent (i + 1) (drop (i + 1) text)
-gap_more text i within w = ap (gap_extent i) (drop_more text i 0 within) ∙ gap_one i (get_or text i 0) (drop (i + 1) text) w
+pub gap_more : (text : List ℕ) (i : ℕ) → i < length text → is_white (get_or text i 0) ≡ true → gap_element i (drop i text) ≡ gap_element (i + 1) (drop (i + 1) text)
+gap_more text i within w = ap (gap_element i) (drop_more text i 0 within) ∙ gap_one i (get_or text i 0) (drop (i + 1) text) w
 
-pub gap_closed : (before : ℕ) (rest : List ℕ) → starts_with 92 rest ≡ true → gap_extent before rest ≡ gap_of (before + 2)
-unfolding gap_extent with_white
+pub gap_closed : (before : ℕ) (rest : List ℕ) → starts_with 92 rest ≡ true → gap_element before rest ≡ gap_of (before + 2)
+unfolding gap_element with_white
 gap_closed before [] e = absurd (false_is_true e)
 gap_closed before (c ∷ rest) e = ap (λ c. with_white before (white_at (c ∷ rest))) (eqb-true _ _ e) ∙ ap gap_of (omega arith)
 
-pub gap_open : (before : ℕ) (rest : List ℕ) → starts_with 92 rest ≡ false → starts_white rest ≡ false → gap_extent before rest ≡ None
-unfolding gap_extent with_white
+pub gap_open : (before : ℕ) (rest : List ℕ) → starts_with 92 rest ≡ false → starts_white rest ≡ false → gap_element before rest ≡ None
+unfolding gap_element with_white
 gap_open before [] e w = refl
 gap_open before (c ∷ rest) e w = ap (with_white before) (cond-false _ _ _ w ∙ cond-false _ _ _ e)
 
@@ -73,22 +70,25 @@ pub white_stops : (text : List ℕ) (i : ℕ) → i < length text → is_white (
 white_stops text i within w = ap starts_white (drop_more text i 0 within) ∙ w
 
 -- four hexadecimal digits
-pub hexadecimal_test : (text : List ℕ) → 4 ≤ length text → extent (hexadecimal_at text) ≡ (if all_are is_hex_digit (take 4 text) && nat_lt (number 16 (take 4 text)) 256 then Some (record {
+abbrev pub six_bytes : ℕ → Option Element
+six_bytes value = Some (record {
   bytes = 6;
-  characters = 1;
-}) else None)
-hexadecimal_test [] l = absurd (omega (arith, l))
-hexadecimal_test (a ∷ []) l = absurd (omega (arith, l))
-hexadecimal_test (a ∷ b ∷ []) l = absurd (omega (arith, l))
-hexadecimal_test (a ∷ b ∷ c ∷ []) l = absurd (omega (arith, l))
-hexadecimal_test (a ∷ b ∷ c ∷ d ∷ rest) l = go (all_are is_hex_digit (a ∷ b ∷ c ∷ d ∷ []) && nat_lt (number 16 (a ∷ b ∷ c ∷ d ∷ [])) 256)
-  where
-    go : (t : Bool) → extent (if t then Some (Hexadecimal a b c d) else None) ≡ (if t then Some (record {
-      bytes = 6;
-      characters = 1;
-    }) else None)
-    go true = refl
-    go false = refl
+  value = Some value;
+})
+
+pub hexadecimal_found : (text : List ℕ) → 4 ≤ length text → all_are is_hex_digit (take 4 text) ≡ true → number 16 (take 4 text) < 256 → element (hexadecimal_at text) ≡ six_bytes (number 16 (take 4 text))
+hexadecimal_found [] l d n = absurd (omega (arith, l))
+hexadecimal_found (a ∷ []) l d n = absurd (omega (arith, l))
+hexadecimal_found (a ∷ b ∷ []) l d n = absurd (omega (arith, l))
+hexadecimal_found (a ∷ b ∷ c ∷ []) l d n = absurd (omega (arith, l))
+hexadecimal_found (a ∷ b ∷ c ∷ d ∷ rest) l h n = ap element (cond-true _ _ _ (both_true _ _ h (lt-ltb _ _ n)))
+
+pub hexadecimal_large : (text : List ℕ) → 4 ≤ length text → 256 ≤ number 16 (take 4 text) → element (hexadecimal_at text) ≡ None
+hexadecimal_large [] l n = absurd (omega (arith, l))
+hexadecimal_large (a ∷ []) l n = absurd (omega (arith, l))
+hexadecimal_large (a ∷ b ∷ []) l n = absurd (omega (arith, l))
+hexadecimal_large (a ∷ b ∷ c ∷ []) l n = absurd (omega (arith, l))
+hexadecimal_large (a ∷ b ∷ c ∷ d ∷ rest) l n = ap element (cond-false _ _ _ (and_false (all_are is_hex_digit (a ∷ b ∷ c ∷ d ∷ [])) _ (le-ltb _ _ n)))
 
 -- an item read is one, and stands there
 by_if : {A : Type 0} (R : Type 0) (t : Bool) (x y : Option A) (v : A) → (t ≡ true → x ≡ Some v → R) → (t ≡ false → y ≡ Some v → R) → (if t then x else y) ≡ Some v → R

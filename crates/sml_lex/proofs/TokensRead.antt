@@ -121,9 +121,6 @@ signs_run (c ∷ text) a = go (c == 126) refl
     go false e = Signs (run_first is_sign is_sign Fresh Sign refl refl c text (sign_first c (first_true _ _ a) e) (λ b c e. cond-true _ _ _ e) (first_true _ _ a) (second_true _ _ a))
 
 -- states alone, where the part doesn't matter
-Stands : Reading → State → Type 0
-Stands r s = r.state ≡ s
-
 state_step : (r : Reading) (s t : State) (c : ℕ) → r.state ≡ s → ((b : Bool) → step_state s b c ≡ t) → (step r c).state ≡ t
 state_step r s t c e h = ap (λ s. step_state s (is_reserved r.part) c) e ∙ h (is_reserved r.part)
 

@@ -32,7 +32,7 @@ unfolding stop_of
 same_stop a b e = ap (stop_of a) e
 
 -- a piece has some bytes
-piece_there : (rest : List ℕ) (piece : Piece) → IsPiece rest piece → length rest ≡ 0 → ⊥
+pub piece_there : (rest : List ℕ) (piece : Piece) → IsPiece rest piece → length rest ≡ 0 → ⊥
 piece_there [] Blank p l = false_is_true p
 piece_there [] (Comment size) p l = let a = p.behind_opening in let b = p.within in absurd (omega (arith, a, b))
 piece_there [] (Lexeme lexeme) p l =

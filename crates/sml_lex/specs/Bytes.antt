@@ -2,6 +2,40 @@
 -- (The Definition of Standard ML (Revised), sections 2.1 to 2.5.)
 use Rattle.std.specs.Prelude.{ℕ, List, [], ◌∷◌, Bool, true, false, not, ◌&&◌, ◌||◌, ◌==◌, nat_lt}
 
+-- bytes by name
+abbrev pub newline : ℕ
+newline = 10
+
+abbrev pub quote : ℕ
+quote = 34
+
+abbrev pub hash : ℕ
+hash = 35
+
+abbrev pub prime : ℕ
+prime = 39
+
+abbrev pub open_round : ℕ
+open_round = 40
+
+abbrev pub close_round : ℕ
+close_round = 41
+
+abbrev pub asterisk : ℕ
+asterisk = 42
+
+abbrev pub dot : ℕ
+dot = 46
+
+abbrev pub backslash : ℕ
+backslash = 92
+
+abbrev pub caret : ℕ
+caret = 94
+
+abbrev pub tilde : ℕ
+tilde = 126
+
 abbrev pub is_within : ℕ → ℕ → ℕ → Bool
 is_within first last c = not (nat_lt c first) && not (nat_lt last c)
 

@@ -8,8 +8,30 @@ use Rattle.sml_lex.specs.declared.longest.Lexeme.{Lexeme}
 use Rattle.sml_lex.specs.Bytes.{is_digit, is_hex_digit, is_letter, is_name_byte, is_sign, is_mark}
 use Rattle.sml_lex.specs.Words.{is_text, word_kind}
 
+-- the state behind the first byte, from the last class of bytes to the first
+abbrev pub first_dot : ℕ → State
+first_dot c = if c == 46 then OneDot else Dead
+
+abbrev pub first_mark : ℕ → State
+first_mark c = if is_mark c then Mark else first_dot c
+
+abbrev pub first_sign : ℕ → State
+first_sign c = if is_sign c then Sign else first_mark c
+
+abbrev pub first_tilde : ℕ → State
+first_tilde c = if c == 126 then Tilde else first_sign c
+
+abbrev pub first_prime : ℕ → State
+first_prime c = if c == 39 then Variable else first_tilde c
+
+abbrev pub first_digit : ℕ → State
+first_digit c = if is_digit c then Digits else first_prime c
+
+abbrev pub first_zero : ℕ → State
+first_zero c = if c == 48 then Zero else first_digit c
+
 abbrev pub first_state : ℕ → State
-first_state c = if is_letter c then Name else if c == 48 then Zero else if is_digit c then Digits else if c == 39 then Variable else if c == 126 then Tilde else if is_sign c then Sign else if is_mark c then Mark else if c == 46 then OneDot else Dead
+first_state c = if is_letter c then Name else first_zero c
 
 -- behind a byte that isn't a digit, in a decimal integer that may be the whole part of a real
 abbrev pub real_state : ℕ → State

@@ -1,9 +1,9 @@
 -- The values of integers and words.
 -- (The Definition of Standard ML (Revised), section 2.2.)
-use Rattle.std.specs.Prelude.{ℕ, ◌+◌, ◌-◌, ◌*◌, ◌^◌, List, [], ◌∷◌, length, drop, Bool, true, false, nat_lt, Option, Some, None, if◌then◌else◌}
+use Rattle.std.specs.Prelude.{ℤ, pos, ◌-ℤ◌, ℕ, ◌+◌, ◌-◌, ◌*◌, ◌^◌, List, [], ◌∷◌, length, drop, Bool, true, false, nat_lt, Option, Some, None, if◌then◌else◌}
 use Rattle.sml_lex.specs.declared.token.Kind.{Kind}
 use Rattle.sml_lex.specs.declared.token.Kind.TheVariants.{Numeral, ZeroNumeral, Integer, WordConstant}
-use Rattle.sml_lex.specs.Bytes.{is_digit, is_within, starts_with, starts_with_both}
+use Rattle.sml_lex.specs.Bytes.{tilde, is_digit, is_within, starts_with, starts_with_both}
 
 abbrev pub digit_value : ℕ → ℕ
 digit_value c = if is_digit c then c - 48 else if is_within 65 70 c then c - 55 else c - 87
@@ -14,13 +14,17 @@ number base [] = 0
 number base (c ∷ digits) = digit_value c * base ^ length digits + number base digits
 
 abbrev pub without_sign : List ℕ → List ℕ
-without_sign text = if starts_with 126 text then drop 1 text else text
+without_sign text = if starts_with tilde text then drop 1 text else text
 
 -- an integer without its sign
 abbrev pub magnitude : List ℕ → ℕ
 magnitude text = let digits = without_sign text in if starts_with_both 48 120 digits then number 16 (drop 2 digits) else number 10 digits
 
--- a word, whose digits stand behind 0w or 0wx
+-- the value of an integer
+abbrev pub integer_value : List ℕ → ℤ
+integer_value text = if starts_with tilde text then pos 0 -ℤ pos (magnitude text) else pos (magnitude text)
+
+-- the value of a word, whose digits stand behind 0w or 0wx
 abbrev pub word_value : List ℕ → ℕ
 word_value text = let digits = drop 2 text in if starts_with 120 digits then number 16 (drop 1 digits) else number 10 digits
 

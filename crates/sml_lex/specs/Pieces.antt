@@ -1,6 +1,6 @@
 -- White space, comments and tokens, and the units that they spell.
 -- (The Definition of Standard ML (Revised), sections 2.1 to 2.5.)
-use Rattle.std.specs.Prelude.{◌≡◌, ℕ, ◌+◌, ◌-◌, ◌<◌, ◌≤◌, ◌⊎◌, List, [], ◌∷◌, length, take, drop, Bool, true, false, ◌&&◌, ◌||◌, ◌==◌, if◌then◌else◌, Option, Some, None}
+use Rattle.std.specs.Prelude.{slice_range, ◌≡◌, ℕ, ◌+◌, ◌-◌, ◌<◌, ◌≤◌, ◌⊎◌, List, [], ◌∷◌, length, take, drop, Bool, true, false, ◌&&◌, ◌||◌, ◌==◌, if◌then◌else◌, Option, Some, None}
 use Rattle.sml_lex.specs.declared.fault.Code.{Code}
 use Rattle.sml_lex.specs.declared.fault.Code.TheVariants.{L1, L4, L5, L6}
 use Rattle.sml_lex.specs.declared.token.Kind.{Kind}
@@ -10,16 +10,16 @@ use Rattle.sml_lex.specs.declared.token.End.{End}
 use Rattle.sml_lex.specs.declared.token.End.TheVariants.{Done, Fault}
 use Rattle.sml_lex.specs.declared.pieces.Piece.{Piece}
 use Rattle.sml_lex.specs.declared.pieces.Piece.TheVariants.{Blank, Comment, Lexeme}
-use Rattle.sml_lex.specs.Bytes.{starts_white, starts_with_both}
+use Rattle.sml_lex.specs.Bytes.{open_round, close_round, asterisk, starts_white, starts_with_both}
 use Rattle.sml_lex.specs.Numbers.{fits}
 use Rattle.sml_lex.specs.Strings.{opens_string, opens_character, IsStringFault}
 use Rattle.sml_lex.specs.Tokens.{IsToken}
 
 abbrev pub opens_comment : List ℕ → Bool
-opens_comment bytes = starts_with_both 40 42 bytes
+opens_comment bytes = starts_with_both open_round asterisk bytes
 
 abbrev pub closes_comment : List ℕ → Bool
-closes_comment bytes = starts_with_both 42 41 bytes
+closes_comment bytes = starts_with_both asterisk close_round bytes
 
 -- what follows the end of that many open comments, if they all end
 abbrev pub after_comments : ℕ → List ℕ → Option (List ℕ)
@@ -130,3 +130,16 @@ Spells unit tokens end = SpellsUnit unit tokens end ⊎ IsOverLimit unit tokens 
 -- one list of bytes spells one answer
 abbrev pub SpellingIsUnique : Type 0
 SpellingIsUnique = (unit : List ℕ) (tokens others : List Token) (end stop : End) → Spells unit tokens end → Spells unit others stop → (tokens ≡ others) × (end ≡ stop)
+
+-- From this place on the tokens stand one behind another, and each text is a token of its kind, within its limit.
+abbrev pub AreInOrder : List ℕ → ℕ → List Token → Type 0
+AreInOrder unit place [] = place ≤ length unit
+AreInOrder unit place (token ∷ tokens) = (place ≤ token.span.start) × (token.span.start < token.span.end) × IsToken token.kind (slice_range unit token.span.start token.span.end) × (fits token.kind (slice_range unit token.span.start token.span.end) ≡ true) × AreInOrder unit token.span.end tokens
+
+-- the tokens of a unit stand in order, within it
+abbrev pub TokensAreInOrder : Type 0
+TokensAreInOrder = (unit : List ℕ) (tokens : List Token) (end : End) → Spells unit tokens end → AreInOrder unit 0 tokens
+
+-- a fault stands within the unit or at its end
+abbrev pub FaultsAreWithin : Type 0
+FaultsAreWithin = (unit : List ℕ) (tokens : List Token) (stop : Stop) → Spells unit tokens (Fault stop) → stop.at ≤ length unit

@@ -1,5 +1,6 @@
 -- The item of a string at the front of a text, read byte by byte.
 use Rattle.std.specs.Prelude.{◌≡◌, ℕ, List, [], ◌∷◌, ◌++◌, length, ◌&&◌, ◌==◌, nat_lt, if◌then◌else◌, Option, Some, None}
+use Rattle.sml_lex.specs.declared.items.Element.{Element}
 use Rattle.sml_lex.specs.declared.strings.Extent.{Extent}
 use Rattle.sml_lex.specs.Bytes.{is_within, is_white, is_digit, is_hex_digit, all_are}
 use Rattle.sml_lex.specs.Numbers.{number}
@@ -40,16 +41,28 @@ abbrev pub item_at : List ℕ → Option Item
 item_at [] = None
 item_at (c ∷ rest) = if c == 92 then escape_at rest else if is_plain c then Some (Plain c) else None
 
--- how many bytes an item has, and how many characters it stands for
-abbrev pub extent_of : Item → Extent
-extent_of item = record {
+abbrev pub first_of : List ℕ → Option ℕ
+first_of [] = None
+first_of (c ∷ rest) = Some c
+
+-- how many bytes an item has, and what character it stands for
+abbrev pub element_of : Item → Element
+element_of item = record {
   bytes = length (item_text item);
-  characters = length (item_value item);
+  value = first_of (item_value item);
 }
 
-abbrev pub extent : Option Item → Option Extent
-extent None = None
-extent (Some item) = Some (extent_of item)
+abbrev pub element : Option Item → Option Element
+element None = None
+element (Some item) = Some (element_of item)
+
+abbrev pub count_of : Option ℕ → ℕ
+count_of None = 0
+count_of (Some value) = 1
+
+abbrev pub earlier_of : Option ℕ → Option ℕ → Option ℕ
+earlier_of None next = next
+earlier_of (Some value) next = Some value
 
 -- The string at the front has so many bytes and characters.
 pub record IsQuoted (text : List ℕ) (size : Extent) : Type 0 where
@@ -59,3 +72,4 @@ pub record IsQuoted (text : List ℕ) (size : Extent) : Type 0 where
   pub spelled : text ≡ quoted items ++ rest
   pub bytes : size.bytes ≡ length (quoted items)
   pub characters : size.characters ≡ length (string_value items)
+  pub first : size.first ≡ first_of (string_value items)

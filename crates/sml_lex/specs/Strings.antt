@@ -3,7 +3,7 @@
 use Rattle.std.specs.Prelude.{◌≡◌, ℕ, ◌+◌, ◌-◌, ◌<◌, ◌⊎◌, List, [], ◌∷◌, ◌++◌, length, drop, flat_map, Bool, true, false, not, ◌&&◌, ◌||◌, ◌==◌, if◌then◌else◌}
 use Rattle.sml_lex.specs.declared.fault.Code.TheVariants.{L2, L3, L4}
 use Rattle.sml_lex.specs.declared.token.Stop.{Stop}
-use Rattle.sml_lex.specs.Bytes.{is_within, is_white, is_digit, is_hex_digit, starts_with, starts_with_both, all_are, is_run}
+use Rattle.sml_lex.specs.Bytes.{newline, quote, hash, backslash, caret, is_within, is_white, is_digit, is_hex_digit, starts_with, starts_with_both, all_are, is_run}
 use Rattle.sml_lex.specs.Numbers.{number}
 
 -- what stands in a string: a byte for itself, an escape by a letter, by a control character, by decimal or hexadecimal
@@ -18,15 +18,15 @@ pub data Item : Type 0 where
 
 abbrev pub item_text : Item → List ℕ
 item_text (Plain c) = c ∷ []
-item_text (Letter c) = 92 ∷ c ∷ []
-item_text (Control c) = 92 ∷ 94 ∷ c ∷ []
-item_text (Decimal a b c) = 92 ∷ a ∷ b ∷ c ∷ []
-item_text (Hexadecimal a b c d) = 92 ∷ 117 ∷ a ∷ b ∷ c ∷ d ∷ []
-item_text (Gap white) = 92 ∷ (white ++ 92 ∷ [])
+item_text (Letter c) = backslash ∷ c ∷ []
+item_text (Control c) = backslash ∷ caret ∷ c ∷ []
+item_text (Decimal a b c) = backslash ∷ a ∷ b ∷ c ∷ []
+item_text (Hexadecimal a b c d) = backslash ∷ 117 ∷ a ∷ b ∷ c ∷ d ∷ []
+item_text (Gap white) = backslash ∷ (white ++ backslash ∷ [])
 
 -- bytes 32 to 126 other than the quote and the backslash
 abbrev pub is_plain : ℕ → Bool
-is_plain c = is_within 32 126 c && not ((c == 34) || (c == 92))
+is_plain c = is_within 32 126 c && not ((c == quote) || (c == backslash))
 
 -- a b t n v f r, the quote and the backslash
 abbrev pub is_escape_letter : ℕ → Bool
@@ -59,19 +59,27 @@ AreItems (item ∷ items) = IsItem item × AreItems items
 abbrev pub items_text : List Item → List ℕ
 items_text items = flat_map item_text items
 
--- the value of a string constant
+-- the characters that items stand for
 abbrev pub string_value : List Item → List ℕ
 string_value items = flat_map item_value items
 
 abbrev pub quoted : List Item → List ℕ
-quoted items = 34 ∷ (items_text items ++ 34 ∷ [])
+quoted items = quote ∷ (items_text items ++ quote ∷ [])
 
 abbrev pub IsString : List ℕ → Type 0
 IsString text = (items : List Item) × AreItems items × (text ≡ quoted items)
 
 -- a string of length one behind #
 abbrev pub IsCharacter : List ℕ → Type 0
-IsCharacter text = (items : List Item) × AreItems items × (length (string_value items) ≡ 1) × (text ≡ 35 ∷ quoted items)
+IsCharacter text = (items : List Item) × AreItems items × (length (string_value items) ≡ 1) × (text ≡ hash ∷ quoted items)
+
+-- the value of a string constant is its characters
+abbrev pub IsStringValue : List ℕ → List ℕ → Type 0
+IsStringValue text value = (items : List Item) × AreItems items × (text ≡ quoted items) × (value ≡ string_value items)
+
+-- the value of a character constant is its one character
+abbrev pub IsCharacterValue : List ℕ → ℕ → Type 0
+IsCharacterValue text value = (items : List Item) × AreItems items × (text ≡ hash ∷ quoted items) × (string_value items ≡ value ∷ [])
 
 -- the fault where neither an item nor the closing quote begins, so many bytes behind the opening one
 abbrev pub break_of : List ℕ → ℕ → Stop
@@ -80,10 +88,10 @@ break_of [] point = record {
   at = 0;
 }
 break_of (c ∷ rest) point =
-    if c == 92 then record {
+    if c == backslash then record {
       code = L3;
       at = point;
-    } else if c == 10 then record {
+    } else if c == newline then record {
       code = L2;
       at = 0;
     } else record {
@@ -96,8 +104,8 @@ pub record IsBroken (text : List ℕ) (stop : Stop) : Type 0 where
   pub items : List Item
   pub rest : List ℕ
   pub are_items : AreItems items
-  pub spelled : text ≡ 34 ∷ (items_text items ++ rest)
-  pub not_closed : starts_with 34 rest ≡ false
+  pub spelled : text ≡ quote ∷ (items_text items ++ rest)
+  pub not_closed : starts_with quote rest ≡ false
   pub no_item : (item : Item) (more : List ℕ) → IsItem item → rest ≡ item_text item ++ more → ⊥
   pub fault : stop ≡ break_of rest (1 + length (items_text items))
 
@@ -110,11 +118,11 @@ pub record HasOtherLength (text : List ℕ) : Type 0 where
   pub other : length (string_value items) ≡ 1 → ⊥
 
 abbrev pub opens_string : List ℕ → Bool
-opens_string text = starts_with 34 text
+opens_string text = starts_with quote text
 
 -- a lone # directly before a quote
 abbrev pub opens_character : List ℕ → Bool
-opens_character text = starts_with_both 35 34 text
+opens_character text = starts_with_both hash quote text
 
 -- the faults in a string or a character at the front
 abbrev pub IsStringFault : List ℕ → Stop → Type 0

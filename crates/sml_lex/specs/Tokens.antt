@@ -3,7 +3,7 @@
 use Rattle.std.specs.Prelude.{◌≡◌, ℕ, ◌⊎◌, List, [], ◌∷◌, ◌++◌, flat_map, Bool, true, false, not, ◌&&◌, ◌==◌, Some, codes}
 use Rattle.sml_lex.specs.declared.token.Kind.{Kind}
 use Rattle.sml_lex.specs.declared.token.Kind.TheVariants.{Alphanumeric, Symbolic, Star, LongAlphanumeric, LongSymbolic, LongStar, TypeVariable, Numeral, ZeroNumeral, Integer, WordConstant, RealConstant, StringConstant, CharacterConstant}
-use Rattle.sml_lex.specs.Bytes.{is_digit, is_hex_digit, is_letter, is_name_byte, is_sign, starts_with, is_run}
+use Rattle.sml_lex.specs.Bytes.{prime, dot, tilde, is_digit, is_hex_digit, is_letter, is_name_byte, is_sign, starts_with, is_run}
 use Rattle.sml_lex.specs.Strings.{IsString, IsCharacter}
 use Rattle.sml_lex.specs.Words.{is_text, word_kind, is_reserved}
 
@@ -18,11 +18,11 @@ abbrev pub is_star : List ℕ → Bool
 is_star text = is_text text (codes "*")
 
 abbrev pub is_variable : List ℕ → Bool
-is_variable text = is_run (λ c. c == 39) is_name_byte text
+is_variable text = is_run (λ c. c == prime) is_name_byte text
 
 -- the parts of a long identifier before its last, each with its dot
 abbrev pub qualifiers : List (List ℕ) → List ℕ
-qualifiers parts = flat_map (λ part. part ++ 46 ∷ []) parts
+qualifiers parts = flat_map (λ part. part ++ dot ∷ []) parts
 
 abbrev pub AreQualifiers : List (List ℕ) → Type 0
 AreQualifiers [] = Unit {0}
@@ -46,7 +46,7 @@ is_hex_digits text = is_run is_hex_digit is_hex_digit text
 
 -- digits, perhaps behind a negation sign
 abbrev pub IsDecimal : List ℕ → Type 0
-IsDecimal text = (digits : List ℕ) × (is_digits digits ≡ true) × ((text ≡ digits) ⊎ (text ≡ 126 ∷ digits))
+IsDecimal text = (digits : List ℕ) × (is_digits digits ≡ true) × ((text ≡ digits) ⊎ (text ≡ tilde ∷ digits))
 
 -- digits behind one mark or another
 abbrev pub IsMarked : (List ℕ → Bool) → List ℕ → List ℕ → Type 0

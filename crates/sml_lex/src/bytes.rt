@@ -6,64 +6,64 @@ ghost use Rattle.sml_lex.specs.Bytes.{is_white, is_digit, is_hex_digit, is_lette
 pub fn white(byte: u8) -> bool
     ensures { result ≡ is_white byte }
 {
-    byte == 32 || byte == 9 || byte == 10 || byte == 12 || byte == 13
+    byte == b' ' || byte == b'\t' || byte == b'\n' || byte == b'\x0c' || byte == b'\r'
 }
 
 pub fn digit(byte: u8) -> bool
     ensures { result ≡ is_digit byte }
 {
-    byte >= 48 && byte <= 57
+    byte >= b'0' && byte <= b'9'
 }
 
 pub fn hex_digit(byte: u8) -> bool
     ensures { result ≡ is_hex_digit byte }
 {
-    digit(byte) || byte >= 65 && byte <= 70 || byte >= 97 && byte <= 102
+    digit(byte) || byte >= b'A' && byte <= b'F' || byte >= b'a' && byte <= b'f'
 }
 
 pub fn letter(byte: u8) -> bool
     ensures { result ≡ is_letter byte }
 {
-    byte >= 65 && byte <= 90 || byte >= 97 && byte <= 122
+    byte >= b'A' && byte <= b'Z' || byte >= b'a' && byte <= b'z'
 }
 
 /// A letter, a digit, a prime or an underscore.
 pub fn name_byte(byte: u8) -> bool
     ensures { result ≡ is_name_byte byte }
 {
-    letter(byte) || digit(byte) || byte == 39 || byte == 95
+    letter(byte) || digit(byte) || byte == b'\'' || byte == b'_'
 }
 
 /// A byte of symbolic identifiers.
 pub fn sign(byte: u8) -> bool
     ensures { result ≡ is_sign byte }
 {
-    byte == 33
-        || byte >= 35 && byte <= 38
-        || byte >= 42 && byte <= 43
-        || byte == 45
-        || byte == 47
-        || byte == 58
-        || byte >= 60 && byte <= 64
-        || byte == 92
-        || byte == 94
-        || byte == 96
-        || byte == 124
-        || byte == 126
+    byte == b'!'
+        || byte >= b'#' && byte <= b'&'
+        || byte >= b'*' && byte <= b'+'
+        || byte == b'-'
+        || byte == b'/'
+        || byte == b':'
+        || byte >= b'<' && byte <= b'@'
+        || byte == b'\\'
+        || byte == b'^'
+        || byte == b'`'
+        || byte == b'|'
+        || byte == b'~'
 }
 
 /// A byte that is a reserved word, whatever follows.
 pub fn mark(byte: u8) -> bool
     ensures { result ≡ is_mark byte }
 {
-    byte >= 40 && byte <= 41
-        || byte == 44
-        || byte == 59
-        || byte == 91
-        || byte == 93
-        || byte == 95
-        || byte == 123
-        || byte == 125
+    byte >= b'(' && byte <= b')'
+        || byte == b','
+        || byte == b';'
+        || byte == b'['
+        || byte == b']'
+        || byte == b'_'
+        || byte == b'{'
+        || byte == b'}'
 }
 
 pub fn starts(text: &[u8], byte: u8) -> bool

@@ -2,7 +2,9 @@
 #![tactic(auto)]
 
 mod bytes;
+pub mod constants;
 pub mod fault;
+mod items;
 pub mod laws;
 pub mod lexer;
 mod longest;

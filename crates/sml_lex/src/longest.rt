@@ -17,7 +17,7 @@ pub struct Lexeme {
 fn part_start(start: usize, end: usize, byte: u8) -> usize
     ensures { result ≡ (if byte == 46 then end else start) }
 {
-    if byte == 46 { end } else { start }
+    if byte == b'.' { end } else { start }
 }
 
 /// The longest token at the front, other than a string or a character.

@@ -51,19 +51,19 @@ fn first(byte: u8) -> State
 {
     if letter(byte) {
         State::Name
-    } else if byte == 48 {
+    } else if byte == b'0' {
         State::Zero
     } else if digit(byte) {
         State::Digits
-    } else if byte == 39 {
+    } else if byte == b'\'' {
         State::Variable
-    } else if byte == 126 {
+    } else if byte == b'~' {
         State::Tilde
     } else if sign(byte) {
         State::Sign
     } else if mark(byte) {
         State::Mark
-    } else if byte == 46 {
+    } else if byte == b'.' {
         State::OneDot
     } else {
         State::Dead
@@ -74,9 +74,9 @@ fn first(byte: u8) -> State
 fn in_real(byte: u8) -> State
     ensures { result ≡ real_state byte }
 {
-    if byte == 46 {
+    if byte == b'.' {
         State::Point
-    } else if byte == 69 || byte == 101 {
+    } else if byte == b'E' || byte == b'e' {
         State::ExponentMark
     } else {
         State::Dead
@@ -110,7 +110,7 @@ fn on_sign(next: State, byte: u8) -> State
 fn on_dot(next: State, byte: u8) -> State
     ensures { result ≡ dot_or_dead next byte }
 {
-    if byte == 46 { next } else { State::Dead }
+    if byte == b'.' { next } else { State::Dead }
 }
 
 /// Behind an alphanumeric part, which no dot follows where it is reserved.
@@ -138,7 +138,7 @@ fn behind_dot(byte: u8) -> State
 fn behind_tilde(byte: u8) -> State
     ensures { result ≡ tilde_state byte }
 {
-    if byte == 48 {
+    if byte == b'0' {
         State::NegativeZero
     } else {
         on_digit(State::NegativeDigits, on_sign(State::Sign, byte), byte)
@@ -148,9 +148,9 @@ fn behind_tilde(byte: u8) -> State
 fn behind_zero(byte: u8) -> State
     ensures { result ≡ zero_state byte }
 {
-    if byte == 120 {
+    if byte == b'x' {
         State::HexMark
-    } else if byte == 119 {
+    } else if byte == b'w' {
         State::WordMark
     } else {
         on_digit(State::ZeroDigits, in_real(byte), byte)
@@ -160,7 +160,7 @@ fn behind_zero(byte: u8) -> State
 fn behind_negative_zero(byte: u8) -> State
     ensures { result ≡ negative_zero_state byte }
 {
-    if byte == 120 {
+    if byte == b'x' {
         State::HexMark
     } else {
         on_digit(State::NegativeDigits, in_real(byte), byte)
@@ -170,7 +170,7 @@ fn behind_negative_zero(byte: u8) -> State
 fn behind_word_mark(byte: u8) -> State
     ensures { result ≡ word_mark_state byte }
 {
-    if byte == 120 {
+    if byte == b'x' {
         State::WordHexMark
     } else {
         on_digit(State::WordDigits, State::Dead, byte)
@@ -180,7 +180,7 @@ fn behind_word_mark(byte: u8) -> State
 fn in_fraction(byte: u8) -> State
     ensures { result ≡ fraction_state byte }
 {
-    if byte == 69 || byte == 101 {
+    if byte == b'E' || byte == b'e' {
         State::ExponentMark
     } else {
         on_digit(State::Fraction, State::Dead, byte)
@@ -190,7 +190,7 @@ fn in_fraction(byte: u8) -> State
 fn behind_exponent_mark(byte: u8) -> State
     ensures { result ≡ exponent_state byte }
 {
-    if byte == 126 {
+    if byte == b'~' {
         State::ExponentTilde
     } else {
         on_digit(State::Exponent, State::Dead, byte)

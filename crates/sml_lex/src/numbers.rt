@@ -10,8 +10,8 @@ fn value_of_digit(byte: u8) -> u8
     ensures { result ≡ digit_value byte }
 {
     if digit(byte) {
-        byte - 48
-    } else if byte >= 65 && byte <= 70 {
+        byte - b'0'
+    } else if byte >= b'A' && byte <= b'F' {
         byte - 55
     } else {
         byte.saturating_sub(87)
@@ -43,26 +43,28 @@ pub fn number_of(digits: &[u8], base: u64) -> Option<u64>
     Some(value)
 }
 
-fn magnitude_of(text: &[u8]) -> Option<u64>
+/// An integer without its sign, where it is below 2 to the 64.
+pub fn magnitude_of(text: &[u8]) -> Option<u64>
     ensures { MatchOption result (2 ^ 64 ≤ magnitude text.now) (λ value. value ≡ magnitude text.now) }
 {
-    let digits = if starts(text, 126) {
+    let digits = if starts(text, b'~') {
         behind(text, 1)
     } else {
         text
     };
-    if starts_both(digits, 48, 120) {
+    if starts_both(digits, b'0', b'x') {
         number_of(behind(digits, 2), 16)
     } else {
         number_of(digits, 10)
     }
 }
 
-fn word_value_of(text: &[u8]) -> Option<u64>
+/// A word, where it is below 2 to the 64.
+pub fn word_value_of(text: &[u8]) -> Option<u64>
     ensures { MatchOption result (2 ^ 64 ≤ word_value text.now) (λ value. value ≡ word_value text.now) }
 {
     let digits = behind(text, 2);
-    if starts(digits, 120) {
+    if starts(digits, b'x') {
         number_of(behind(digits, 1), 16)
     } else {
         number_of(digits, 10)

@@ -10,7 +10,7 @@ use crate::bytes::{behind, stand, starts, starts_both, white};
 use crate::fault::Code;
 use crate::longest::{Lexeme, longest};
 use crate::numbers::is_within_limit;
-use crate::strings::string;
+use crate::strings::scan;
 use crate::token::{Kind, Stop};
 
 /// What a unit is made of, with its number of bytes.
@@ -31,10 +31,10 @@ fn comment_end(bytes: &[u8], start: usize) -> Option<usize>
     let mut depth: usize = 1;
     let mut place = start;
     while place < bytes.len() {
-        if stand(bytes, place, 40, 42) {
+        if stand(bytes, place, b'(', b'*') {
             depth += 1;
             place += 2;
-        } else if stand(bytes, place, 42, 41) {
+        } else if stand(bytes, place, b'*', b')') {
             place += 2;
             if depth == 1 {
                 return Some(place);
@@ -52,7 +52,7 @@ fn string_piece(rest: &[u8]) -> Result<Piece, Stop>
     requires { opens_string rest.now ≡ true }
     ensures { MatchResult result (IsPiece rest.now) (IsFault rest.now) }
 {
-    match string(rest) {
+    match scan(rest) {
         Ok(extent) => Ok(Piece::Lexeme(Lexeme {
             kind: Kind::StringConstant,
             size: extent.bytes,
@@ -66,7 +66,7 @@ fn character_piece(rest: &[u8]) -> Result<Piece, Stop>
     requires { opens_character rest.now ≡ true }
     ensures { MatchResult result (IsPiece rest.now) (IsFault rest.now) }
 {
-    match string(behind(rest, 1)) {
+    match scan(behind(rest, 1)) {
         Ok(extent) => {
             if extent.characters == 1 {
                 Ok(Piece::Lexeme(Lexeme {
@@ -134,11 +134,11 @@ pub fn first_piece(rest: &[u8]) -> Result<Piece, Stop>
 {
     if white(rest[0]) {
         Ok(Piece::Blank)
-    } else if starts_both(rest, 40, 42) {
+    } else if starts_both(rest, b'(', b'*') {
         comment_piece(rest)
-    } else if starts(rest, 34) {
+    } else if starts(rest, b'"') {
         string_piece(rest)
-    } else if starts_both(rest, 35, 34) {
+    } else if starts_both(rest, b'#', b'"') {
         character_piece(rest)
     } else {
         token_piece(rest)

@@ -5,3 +5,4 @@ pub mod Parts
 mod Shapes
 mod Tallness
 mod Declaring
+mod Sorts

@@ -5,24 +5,13 @@ use Rattle.std.proofs.lemmas.List.{reverse-append, length-reverse}
 use Rattle.std.proofs.lemmas.Bool.{eqb-false}
 use Rattle.sml_lex.specs.declared.fault.Place.{Place}
 use Rattle.sml_tree.specs.Trees as T
-use Rattle.sml_tree.specs.Views.{exp_of, exps_of, exp_layer, ty_of, tys_of, ty_layer}
+use Rattle.sml_tree.specs.Views.{exp_of, exps_of, ty_of, tys_of}
 use Rattle.sml_tree.specs.declared.bare.Exp.{Exp}
 use Rattle.sml_tree.specs.declared.bare.Exp.TheViews as E
-use Rattle.sml_tree.specs.declared.bare.Exp.TheOpen as F
-use Rattle.sml_tree.specs.declared.bare.Exp.TheFolds.{fold-roll-Exp}
-use Rattle.sml_tree.specs.declared.bare.Exp.TheVariants as EV
 use Rattle.sml_tree.specs.declared.bare.Ty.{Ty}
 use Rattle.sml_tree.specs.declared.bare.Ty.TheViews as Y
-use Rattle.sml_tree.specs.declared.bare.Ty.TheOpen as O
-use Rattle.sml_tree.specs.declared.bare.Ty.TheFolds.{fold-roll-Ty}
-use Rattle.sml_tree.specs.declared.bare.Ty.TheVariants as YV
+use Rattle.sml_tree.proofs.TreeViews.{exp_of-tuple, ty_of-tuple}
 use Rattle.sml_parse.specs.Values.{in_brackets, with_stars}
-
-exp_of-tuple : (v : Vec Exp Global) → exp_of (E.Tuple v) ≡ T.tuple (exps_of (map exp_of v.items))
-exp_of-tuple v = ap exp_of (sym (EV.rolls-Tuple v)) ∙ fold-roll-Exp (T.Exp Place) exp_layer (F.Tuple v)
-
-ty_of-tuple : (v : Vec Ty Global) → ty_of (Y.Tuple v) ≡ T.product (tys_of (map ty_of v.items))
-ty_of-tuple v = ap ty_of (sym (YV.rolls-Tuple v)) ∙ fold-roll-Ty (T.Ty Place) ty_layer (O.Tuple v)
 
 -- the first before the others, which were kept from the last on
 turned : {A : Type 0} (first : A) (old pushed : List A) (new : List A) → pushed ≡ old ++ first ∷ [] → new ≡ reverse pushed → new ≡ first ∷ reverse old

@@ -1,5 +1,5 @@
 -- Heights of what the parts of a declaration make, up to the greatest number of 32 bits.
-use Rattle.std.specs.Prelude.{ℕ, zero, suc, ◌+◌, ◌-◌, ◌^◌, ◌==◌, min, max, List, [], ◌∷◌, Option, Some, None, if◌then◌else◌}
+use Rattle.std.specs.Prelude.{ℕ, zero, suc, ◌+◌, ◌==◌, max, List, [], ◌∷◌, Option, Some, None, if◌then◌else◌}
 use Rattle.sml_lex.specs.declared.fault.Place.{Place}
 use Rattle.sml_tree.specs.Trees.{Dec}
 use Rattle.sml_tree.specs.Height.{counted, exp_height, exps_height, ty_height, tys_height, spec_height, specs_height, core_height, decs_height, dec_height}

@@ -6,3 +6,4 @@ pub mod Rules
 pub mod Stacks
 pub mod Heights
 pub mod Trees
+pub mod Sorts

@@ -33,7 +33,8 @@ fn pop_ident(unit: &[u8], names: &mut Names, stack: &mut Stack) -> Result<Ident,
 /// The long identifier whose word is on top.
 fn pop_long(unit: &[u8], names: &mut Names, stack: &mut Stack) -> Result<LongIdent, Memory>
     ensures place { IfOk result (λ long. long.place ≡ place_at (seen stack.old) 0) }
-    ensures parts { IfOk result (λ long. long_of long ≡ long_id (text_at unit.now (seen stack.old) 0)) }
+    ensures parts { let vs = seen stack.old in
+        IfOk result (λ long. long_of long ≡ long_id (text_at unit.now vs 0)) }
     ensures rest { OnOk result (seen stack.new ≡ without 1 (seen stack.old)) }
 {
     let word = stack.word();
@@ -42,7 +43,9 @@ fn pop_long(unit: &[u8], names: &mut Names, stack: &mut Stack) -> Result<LongIde
 
 /// `val x = e`
 fn pop_value(unit: &[u8], names: &mut Names, stack: &mut Stack) -> Result<CoreDec, Memory>
-    ensures made { IfOk result (λ dec. core_dec_of dec ≡ val_dec (place_at (seen stack.old) 0) (text_at unit.now (seen stack.old) 1) (exp_in (at (seen stack.old) 3))) }
+    ensures made { let vs = seen stack.old in
+        IfOk result (λ dec. core_dec_of dec ≡
+        val_dec (place_at vs 0) (text_at unit.now vs 1) (exp_in (at vs 3))) }
     ensures rest { OnOk result (seen stack.new ≡ without 4 (seen stack.old)) }
 {
     let place = stack.word().place;
@@ -61,7 +64,9 @@ fn pop_structure(
     names: &mut Names,
     stack: &mut Stack,
 ) -> Result<SealedStructure, Memory>
-    ensures made { IfOk result (λ structure. dec_of (BareDec.Structure structure) ≡ sealed (text_at unit.now (seen stack.old) 1) (place_at (seen stack.old) 3) (specs_in (at (seen stack.old) 4)) (cores_in (at (seen stack.old) 8))) }
+    ensures made { let vs = seen stack.old in
+        IfOk result (λ structure. dec_of (BareDec.Structure structure) ≡
+        sealed (text_at unit.now vs 1) (place_at vs 3) (specs_in (at vs 4)) (cores_in (at vs 8))) }
     ensures rest { OnOk result (seen stack.new ≡ without 10 (seen stack.old)) }
 {
     stack.pop();
@@ -85,7 +90,9 @@ fn pop_structure(
 
 /// `val x : ty`
 fn pop_value_spec(unit: &[u8], names: &mut Names, stack: &mut Stack) -> Result<Spec, Memory>
-    ensures made { IfOk result (λ spec. spec_of spec ≡ val_spec (place_at (seen stack.old) 0) (text_at unit.now (seen stack.old) 1) (ty_in (at (seen stack.old) 3))) }
+    ensures made { let vs = seen stack.old in
+        IfOk result (λ spec. spec_of spec ≡
+        val_spec (place_at vs 0) (text_at unit.now vs 1) (ty_in (at vs 3))) }
     ensures rest { OnOk result (seen stack.new ≡ without 4 (seen stack.old)) }
 {
     let place = stack.word().place;
@@ -100,7 +107,8 @@ fn pop_value_spec(unit: &[u8], names: &mut Names, stack: &mut Stack) -> Result<S
 
 /// `type t`
 fn pop_type_spec(unit: &[u8], names: &mut Names, stack: &mut Stack) -> Result<Spec, Memory>
-    ensures made { IfOk result (λ spec. spec_of spec ≡ type_spec (place_at (seen stack.old) 0) (text_at unit.now (seen stack.old) 1)) }
+    ensures made { let vs = seen stack.old in
+        IfOk result (λ spec. spec_of spec ≡ type_spec (place_at vs 0) (text_at unit.now vs 1)) }
     ensures rest { OnOk result (seen stack.new ≡ without 2 (seen stack.old)) }
 {
     let place = stack.word().place;
@@ -113,7 +121,9 @@ fn pop_type_spec(unit: &[u8], names: &mut Names, stack: &mut Stack) -> Result<Sp
 
 /// `type t = ty`
 fn pop_type(unit: &[u8], names: &mut Names, stack: &mut Stack) -> Result<CoreDec, Memory>
-    ensures made { IfOk result (λ dec. core_dec_of dec ≡ type_dec (place_at (seen stack.old) 0) (text_at unit.now (seen stack.old) 1) (ty_in (at (seen stack.old) 3))) }
+    ensures made { let vs = seen stack.old in
+        IfOk result (λ dec. core_dec_of dec ≡
+        type_dec (place_at vs 0) (text_at unit.now vs 1) (ty_in (at vs 3))) }
     ensures rest { OnOk result (seen stack.new ≡ without 4 (seen stack.old)) }
 {
     let place = stack.word().place;
@@ -133,7 +143,8 @@ fn pop_function(
     names: &mut Names,
     stack: &mut Stack,
 ) -> Result<Exp, Memory>
-    ensures made { IfOk result (λ exp. exp_of exp ≡ function (text_at unit.now (seen stack.old) 1) (exp_in (at (seen stack.old) 3))) }
+    ensures made { let vs = seen stack.old in
+        IfOk result (λ exp. exp_of exp ≡ function (text_at unit.now vs 1) (exp_in (at vs 3))) }
     ensures rest { OnOk result (seen stack.new ≡ without 4 (seen stack.old)) }
 {
     stack.pop();
@@ -145,7 +156,8 @@ fn pop_function(
 
 /// What stands behind a `(` that isn't closed at once: a bracket or a tuple.
 fn pop_opened(alloc: Global, stack: &mut Stack) -> Result<Exp, Memory>
-    ensures made { IfOk result (λ exp. exp_of exp ≡ in_brackets (exp_in (at (seen stack.old) 0)) (exps_in (at (seen stack.old) 1))) }
+    ensures made { let vs = seen stack.old in
+        IfOk result (λ exp. exp_of exp ≡ in_brackets (exp_in (at vs 0)) (exps_in (at vs 1))) }
     ensures rest { OnOk result (seen stack.new ≡ without 2 (seen stack.old)) }
 {
     let first = stack.exp();
@@ -160,7 +172,8 @@ fn pop_opened(alloc: Global, stack: &mut Stack) -> Result<Exp, Memory>
 
 /// A type, with what stands behind it: another one behind an arrow, or nothing.
 fn pop_arrow(alloc: Global, stack: &mut Stack) -> Result<Ty, Memory>
-    ensures made { IfOk result (λ ty. ty_of ty ≡ with_arrow (ty_in (at (seen stack.old) 0)) (at (seen stack.old) 1)) }
+    ensures made { let vs = seen stack.old in
+        IfOk result (λ ty. ty_of ty ≡ with_arrow (ty_in (at vs 0)) (at vs 1)) }
     ensures rest { OnOk result (seen stack.new ≡ without 2 (seen stack.old)) }
 {
     let left = stack.ty();
@@ -172,7 +185,8 @@ fn pop_arrow(alloc: Global, stack: &mut Stack) -> Result<Ty, Memory>
 
 /// A type, with those that stand behind stars.
 fn pop_tuple(stack: &mut Stack) -> Result<Ty, Memory>
-    ensures made { IfOk result (λ ty. ty_of ty ≡ with_stars (ty_in (at (seen stack.old) 0)) (tys_in (at (seen stack.old) 1))) }
+    ensures made { let vs = seen stack.old in
+        IfOk result (λ ty. ty_of ty ≡ with_stars (ty_in (at vs 0)) (tys_in (at vs 1))) }
     ensures rest { OnOk result (seen stack.new ≡ without 2 (seen stack.old)) }
 {
     let first = stack.ty();
@@ -187,7 +201,9 @@ fn pop_tuple(stack: &mut Stack) -> Result<Ty, Memory>
 
 /// An expression behind a comma, and those behind it.
 fn pop_more_exps(stack: &mut Stack) -> Result<Vec<Exp>, Memory>
-    ensures made { IfOk result (λ exps. exps_of (map exp_of (reverse exps.items)) ≡ and_exp (exp_in (at (seen stack.old) 1)) (exps_in (at (seen stack.old) 2))) }
+    ensures made { let vs = seen stack.old in
+        IfOk result (λ exps. exps_of (map exp_of (reverse exps.items)) ≡
+        and_exp (exp_in (at vs 1)) (exps_in (at vs 2))) }
     ensures rest { OnOk result (seen stack.new ≡ without 3 (seen stack.old)) }
 {
     stack.pop();
@@ -199,7 +215,9 @@ fn pop_more_exps(stack: &mut Stack) -> Result<Vec<Exp>, Memory>
 
 /// A type behind a star, and those behind it.
 fn pop_more_tys(stack: &mut Stack) -> Result<Vec<Ty>, Memory>
-    ensures made { IfOk result (λ tys. tys_of (map ty_of (reverse tys.items)) ≡ and_ty (ty_in (at (seen stack.old) 1)) (tys_in (at (seen stack.old) 2))) }
+    ensures made { let vs = seen stack.old in
+        IfOk result (λ tys. tys_of (map ty_of (reverse tys.items)) ≡
+        and_ty (ty_in (at vs 1)) (tys_in (at vs 2))) }
     ensures rest { OnOk result (seen stack.new ≡ without 3 (seen stack.old)) }
 {
     stack.pop();
@@ -222,7 +240,9 @@ fn pop_bracket(alloc: Global, stack: &mut Stack) -> Result<Ty, Memory>
 
 /// A specification, and those behind it.
 fn pop_more_specs(stack: &mut Stack) -> Result<Vec<Spec>, Memory>
-    ensures made { IfOk result (λ specs. map spec_of (reverse specs.items) ≡ with_spec (at (seen stack.old) 0) (specs_in (at (seen stack.old) 1))) }
+    ensures made { let vs = seen stack.old in
+        IfOk result (λ specs. map spec_of (reverse specs.items) ≡
+        with_spec (at vs 0) (specs_in (at vs 1))) }
     ensures rest { OnOk result (seen stack.new ≡ without 2 (seen stack.old)) }
 {
     let Value::Spec(spec) = stack.pop() else {
@@ -235,7 +255,9 @@ fn pop_more_specs(stack: &mut Stack) -> Result<Vec<Spec>, Memory>
 
 /// A declaration of the core, and those behind it.
 fn pop_more_cores(stack: &mut Stack) -> Result<Vec<CoreDec>, Memory>
-    ensures made { IfOk result (λ cores. map core_dec_of (reverse cores.items) ≡ with_core (at (seen stack.old) 0) (cores_in (at (seen stack.old) 1))) }
+    ensures made { let vs = seen stack.old in
+        IfOk result (λ cores. map core_dec_of (reverse cores.items) ≡
+        with_core (at vs 0) (cores_in (at vs 1))) }
     ensures rest { OnOk result (seen stack.new ≡ without 2 (seen stack.old)) }
 {
     let Value::Core(core) = stack.pop() else {
@@ -255,7 +277,8 @@ fn pop_made(
     rule: Rule,
 ) -> Result<Value, Memory>
     ensures made { IfOk result (λ value. value_of value ≡ made unit.now rule (seen stack.old)) }
-    ensures rest { OnOk result (seen stack.new ≡ without (length (right_side rule)) (seen stack.old)) }
+    ensures rest { let vs = seen stack.old in
+        OnOk result (seen stack.new ≡ without (length (right_side rule)) vs) }
 {
     Ok(match rule {
         Rule::StartEnd | Rule::FollowingEnd => Value::Nothing,

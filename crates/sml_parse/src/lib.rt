@@ -4,6 +4,7 @@
 mod build;
 mod item;
 mod label;
+pub mod laws;
 mod names;
 pub mod parse;
 mod place;

@@ -42,7 +42,8 @@ fn fault_at(unit: &[u8], code: Code, start: usize, at: usize) -> Fault
 
 /// The fault at which reading ended.
 fn fault_of_reading(lexed: &Lexed, begun: usize, cause: Option<Cause>) -> Option<Fault>
-    ensures { option_map fault_of result ≡ fault_read lexed.now.unit.now lexed.now.tokens.items lexed.now.end begun cause }
+    ensures { option_map fault_of result
+        ≡ fault_read lexed.now.unit.now lexed.now.tokens.items lexed.now.end begun cause }
 {
     let start = start_of(&lexed.tokens, begun, 0);
     match cause {
@@ -68,7 +69,8 @@ fn fault_of_reading(lexed: &Lexed, begun: usize, cause: Option<Cause>) -> Option
 
 /// The declarations that these items spell up to the first that is too high, and whether none is.
 fn declare(alloc: Global, unit: &[u8], items: &[Item]) -> Result<(Vec<BareDec>, bool), Memory>
-    ensures { IfOk result (λ r. (map dec_of r.0.items ≡ take_while is_low (decs_of_items unit.now items.now)) × (r.1 ≡ list_all is_low (decs_of_items unit.now items.now))) }
+    ensures { let all = decs_of_items unit.now items.now in
+        IfOk result (λ r. (map dec_of r.0.items ≡ take_while is_low all) × (r.1 ≡ list_all is_low all)) }
 {
     let mut names = Names::new(alloc);
     let mut declarations = Vec::new(alloc);
@@ -88,7 +90,8 @@ fn declare(alloc: Global, unit: &[u8], items: &[Item]) -> Result<(Vec<BareDec>, 
 
 /// Reads a unit's bare declarations.
 pub fn parse(alloc: Global, lexed: &Lexed) -> Result<Parsed, Memory>
-    ensures { IfOk result (λ parsed. Trees lexed.now.unit.now lexed.now.tokens.items lexed.now.end (map dec_of parsed.declarations.items) (option_map fault_of parsed.fault)) }
+    ensures { IfOk result (λ parsed. Trees lexed.now.unit.now lexed.now.tokens.items lexed.now.end
+        (map dec_of parsed.declarations.items) (option_map fault_of parsed.fault)) }
 {
     let full = read(alloc, lexed)?;
     let items = label(alloc, lexed.unit, &full.nodes, &lexed.tokens)?;

@@ -12,7 +12,8 @@ pub const FIRST: Place = Place { line: 1, column: 1 };
 
 /// The place behind one more byte.
 fn after(place: Place, byte: u8) -> Place
-    ensures { (before : List ℕ) → place ≡ place_behind before → result ≡ place_behind (before ++ byte ∷ []) }
+    ensures { (before : List ℕ) → place ≡ place_behind before →
+        result ≡ place_behind (before ++ byte ∷ []) }
 {
     if byte == b'\n' {
         Place {
@@ -29,7 +30,8 @@ fn after(place: Place, byte: u8) -> Place
 
 /// The place behind these bytes, the first of which stands at the given place.
 fn behind(place: Place, bytes: &[u8]) -> Place
-    ensures { (before : List ℕ) → place ≡ place_behind before → result ≡ place_behind (before ++ bytes.now) }
+    ensures { (before : List ℕ) → place ≡ place_behind before →
+        result ≡ place_behind (before ++ bytes.now) }
 {
     let mut reached = place;
     for byte in bytes {

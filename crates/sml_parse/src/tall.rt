@@ -129,7 +129,8 @@ fn pop_dec(stack: &mut Vec<Tall>) -> u32
 
 /// The height of an expression and of those behind it.
 fn pop_more_exps(stack: &mut Vec<Tall>) -> u32
-    ensures value { result ≡ max (exp_tall (tall_at (reverse stack.old.items) 0)) (exps_tall (tall_at (reverse stack.old.items) 1)) }
+    ensures value { let ts = reverse stack.old.items in
+        result ≡ max (exp_tall (tall_at ts 0)) (exps_tall (tall_at ts 1)) }
     ensures rest { reverse stack.new.items ≡ without 2 (reverse stack.old.items) }
 {
     let first = pop_exp(stack);
@@ -139,7 +140,8 @@ fn pop_more_exps(stack: &mut Vec<Tall>) -> u32
 
 /// The height of a type and of those behind it.
 fn pop_more_tys(stack: &mut Vec<Tall>) -> u32
-    ensures value { result ≡ max (ty_tall (tall_at (reverse stack.old.items) 0)) (tys_tall (tall_at (reverse stack.old.items) 1)) }
+    ensures value { let ts = reverse stack.old.items in
+        result ≡ max (ty_tall (tall_at ts 0)) (tys_tall (tall_at ts 1)) }
     ensures rest { reverse stack.new.items ≡ without 2 (reverse stack.old.items) }
 {
     let first = pop_ty(stack);
@@ -149,7 +151,8 @@ fn pop_more_tys(stack: &mut Vec<Tall>) -> u32
 
 /// The height of a specification and of those behind it.
 fn pop_more_specs(stack: &mut Vec<Tall>) -> u32
-    ensures value { result ≡ max (spec_tall (tall_at (reverse stack.old.items) 0)) (specs_tall (tall_at (reverse stack.old.items) 1)) }
+    ensures value { let ts = reverse stack.old.items in
+        result ≡ max (spec_tall (tall_at ts 0)) (specs_tall (tall_at ts 1)) }
     ensures rest { reverse stack.new.items ≡ without 2 (reverse stack.old.items) }
 {
     let first = pop_spec(stack);
@@ -159,7 +162,8 @@ fn pop_more_specs(stack: &mut Vec<Tall>) -> u32
 
 /// The height of a declaration of the core and of those behind it.
 fn pop_more_cores(stack: &mut Vec<Tall>) -> u32
-    ensures value { result ≡ max (core_tall (tall_at (reverse stack.old.items) 0)) (cores_tall (tall_at (reverse stack.old.items) 1)) }
+    ensures value { let ts = reverse stack.old.items in
+        result ≡ max (core_tall (tall_at ts 0)) (cores_tall (tall_at ts 1)) }
     ensures rest { reverse stack.new.items ≡ without 2 (reverse stack.old.items) }
 {
     let first = pop_core(stack);
@@ -169,7 +173,8 @@ fn pop_more_cores(stack: &mut Vec<Tall>) -> u32
 
 /// The height of a type with what stands behind it.
 fn pop_arrow(stack: &mut Vec<Tall>) -> u32
-    ensures value { result ≡ arrow_tall (ty_tall (tall_at (reverse stack.old.items) 0)) (tall_at (reverse stack.old.items) 1) }
+    ensures value { let ts = reverse stack.old.items in
+        result ≡ arrow_tall (ty_tall (tall_at ts 0)) (tall_at ts 1) }
     ensures rest { reverse stack.new.items ≡ without 2 (reverse stack.old.items) }
 {
     let left = pop_ty(stack);
@@ -181,7 +186,8 @@ fn pop_arrow(stack: &mut Vec<Tall>) -> u32
 
 /// The height of a type with those that stand behind stars.
 fn pop_tuple(stack: &mut Vec<Tall>) -> u32
-    ensures value { result ≡ tuple_tall (ty_tall (tall_at (reverse stack.old.items) 0)) (tys_tall (tall_at (reverse stack.old.items) 1)) }
+    ensures value { let ts = reverse stack.old.items in
+        result ≡ tuple_tall (ty_tall (tall_at ts 0)) (tys_tall (tall_at ts 1)) }
     ensures rest { reverse stack.new.items ≡ without 2 (reverse stack.old.items) }
 {
     let first = pop_ty(stack);
@@ -232,7 +238,8 @@ fn pop_bracket(stack: &mut Vec<Tall>) -> u32
 
 /// The height of `structure S :> sig specs end = struct decs end`.
 fn pop_structure(stack: &mut Vec<Tall>) -> u32
-    ensures value { result ≡ counted (max (specs_tall (tall_at (reverse stack.old.items) 4)) (cores_tall (tall_at (reverse stack.old.items) 8)) + 3) }
+    ensures value { let ts = reverse stack.old.items in
+        result ≡ counted (max (specs_tall (tall_at ts 4)) (cores_tall (tall_at ts 8)) + 3) }
     ensures rest { reverse stack.new.items ≡ without 10 (reverse stack.old.items) }
 {
     skip_three(stack);
@@ -247,7 +254,8 @@ fn pop_structure(stack: &mut Vec<Tall>) -> u32
 /// The heights of a rule's right side are taken off the stack; that of what the rule makes is answered.
 fn pop_made(stack: &mut Vec<Tall>, rule: Rule) -> Tall
     ensures made { result ≡ raised rule (reverse stack.old.items) }
-    ensures rest { reverse stack.new.items ≡ without (length (right_side rule)) (reverse stack.old.items) }
+    ensures rest { let ts = reverse stack.old.items in
+        reverse stack.new.items ≡ without (length (right_side rule)) ts }
 {
     match rule {
         Rule::StartEnd | Rule::FollowingEnd => Tall::Nothing,
@@ -319,7 +327,8 @@ fn pop_made(stack: &mut Vec<Tall>, rule: Rule) -> Tall
 
 /// The height of the declaration that these items spell.
 pub fn measure(alloc: Global, items: &[Item]) -> Result<u32, Memory>
-    ensures { IfOk result (λ height. (unit : List ℕ) → height ≡ counted (height_if_any (dec_in (first (values_of unit items.now))))) }
+    ensures { IfOk result (λ height. (unit : List ℕ) →
+        height ≡ counted (height_if_any (dec_in (first (values_of unit items.now))))) }
 {
     let mut stack = Vec::new(alloc);
     for i in (0..items.len()).rev() {

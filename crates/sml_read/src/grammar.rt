@@ -4,21 +4,37 @@ use crate::terminal::Terminal;
 /// A part of the grammar.
 #[derive(Clone, Copy, PartialEq, Eq, Debug)]
 pub enum Part {
+    /// What is left of a unit at its start and behind a semicolon.
     Start,
+    /// What is left of a unit behind a declaration.
     Following,
+    /// A declaration at the top.
     Top,
+    /// The specifications of a signature.
     Specs,
+    /// A specification.
     Spec,
+    /// The declarations of a structure.
     Decs,
+    /// A declaration of the core.
     Dec,
+    /// An expression.
     Exp,
+    /// What stands behind the `(` of an expression.
     AfterOpen,
+    /// What stands behind an expression in brackets.
     MoreExps,
+    /// A type.
     Ty,
+    /// An arrow and a type, or nothing.
     MoreTy,
+    /// A type without arrows outside brackets.
     Tup,
+    /// Stars and types, or nothing.
     MoreTup,
+    /// A type constructor, or a type in brackets.
     Con,
+    /// An alphanumeric identifier.
     Name,
 }
 

@@ -74,7 +74,8 @@ fn take_token(
     terminal: Terminal,
 ) -> Result<bool, Memory>
     ensures { IfOk result (λ taken. (added : List Node) × (nodes.new.items ≡ nodes.old.items ++ added)
-        × MatchBool taken (Takes (reverse stack.old.items) terminal added (reverse stack.new.items)) (Refuses (reverse stack.old.items) terminal)) }
+        × MatchBool taken (Takes (reverse stack.old.items) terminal added (reverse stack.new.items))
+        (Refuses (reverse stack.old.items) terminal)) }
 {
     while let Some(top) = stack.pop() {
         match top {
@@ -164,7 +165,9 @@ fn read_terminals(alloc: Global, terminals: &[Terminal], done: bool) -> Result<F
 
 /// Reads a unit's tokens.
 pub fn read(alloc: Global, lexed: &Lexed) -> Result<Full, Memory>
-    ensures { IfOk result (λ full. IsReading (terminals_of lexed.now.unit.now lexed.now.tokens.items) (is_done lexed.now.end) full.nodes.items full.begun full.cause) }
+    ensures { IfOk result (λ full. IsReading
+        (terminals_of lexed.now.unit.now lexed.now.tokens.items) (is_done lexed.now.end)
+        full.nodes.items full.begun full.cause) }
 {
     let done = match lexed.end {
         End::Done => true,

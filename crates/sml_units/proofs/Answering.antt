@@ -1,5 +1,5 @@
 -- Answers of readings, step by step.
-use Rattle.std.proofs.Common.{◌≡◌, ℕ, List, [], Option, Some, None, Result, Ok, Err, refl, ap, sym, ◌∙◌, subst, inl, inr}
+use Rattle.std.proofs.Common.{◌≡◌, ℕ, List, [], Option, Some, None, Result, Ok, Err, refl, ap, sym, ◌∙◌, subst, inl, inr, OnOk}
 use Rattle.sml_lex.specs.declared.fault.Place.{Place}
 use Rattle.sml_lex.specs.declared.fault.Code.{Code}
 use Rattle.sml_lex.specs.declared.fault.Code.TheVariants.{E3}
@@ -111,3 +111,7 @@ pub refused_on : {X Y : Type 0} (f : TopFault) (R : Reading Place X) (S : Readin
 unfolding RefusedBy
 refused_on Memory R S h k = tt
 refused_on (Fault f) R S h k = h (fault_of f) k
+
+pub on_ok : {X E : Type 0} (r : Result X E) (P : Type 0) → P → OnOk r P
+on_ok (Ok x) P p = p
+on_ok (Err e) P p = tt

@@ -4,4 +4,8 @@ pub mod Answering
 pub mod Paths
 pub mod Dotting
 pub mod Seals
+pub mod Maps
+pub mod Contexts
+pub mod ExpAnswers
+pub mod Numbers
 pub mod Projects

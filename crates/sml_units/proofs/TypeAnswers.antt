@@ -22,7 +22,7 @@ pub record Carries (C : O.Env Name) (all rest : List (T.Ty Place)) (made : List 
 pub carries_all : (C : O.Env Name) (all : List (T.Ty Place)) → Carries C all all []
 carries_all C all = record { ends = λ f h. h; goes = λ ts h. h }
 
-types-more : (made : List (O.MlType Name)) (t : O.MlType Name) (ts : List (O.MlType Name)) → types_of ((made ++ t ∷ []) ++ ts) ≡ types_of (made ++ t ∷ ts)
+pub types-more : (made : List (O.MlType Name)) (t : O.MlType Name) (ts : List (O.MlType Name)) → types_of ((made ++ t ∷ []) ++ ts) ≡ types_of (made ++ t ∷ ts)
 types-more [] t ts = refl
 types-more (m ∷ made) t ts = ap (O.and_type m) (types-more made t ts)
 

@@ -1,42 +1,50 @@
 //! The variables of the functions around an expression, each with the number of the unknown that is its type.
 
+ghost use Rattle.std.specs.Prelude.{◌≡◌, IfOk, OnOk, None};
+ghost use Rattle.sml_tree.specs.Trees.{Id};
+ghost use Rattle.sml_tree.specs.Views.{ident_of};
+ghost use Rattle.sml_objects.specs.Maps.{order_of, by_order};
+ghost use Rattle.sml_units.specs.Elaborated.{numbers_in};
+
 use sml_lex::fault::Memory;
 use sml_tree::bare::Ident;
 use std::alloc::Global;
 use std::collections::BTreeMap;
 
+/// A variable out of scope has no number.
 #[derive(Drop)]
 pub(crate) struct Locals {
-    pub numbers: BTreeMap<Ident, u32>,
+    pub numbers: BTreeMap<Ident, Option<u32>>,
 }
 
 impl Locals {
-    pub(crate) fn new(alloc: Global) -> Locals {
+    pub(crate) fn new(alloc: Global) -> Locals
+        ensures { (x : Id) → numbers_in result x ≡ None }
+    {
         Locals {
             numbers: BTreeMap::new(alloc),
         }
     }
 
-    pub(crate) fn number(&self, name: &Ident) -> Option<u32> {
-        self.numbers.get(name).copied()
-    }
-
-    /// Binds a variable, and gives what it hides.
-    pub(crate) fn bind(&mut self, name: &Ident, number: u32) -> Result<Option<u32>, Memory> {
-        let key = name.clone()?;
-        Ok(self.numbers.insert(key, number)?)
-    }
-
-    /// Ends the scope of a variable that hid this.
-    pub(crate) fn unbind(&mut self, name: &Ident, hidden: Option<u32>) -> Result<(), Memory> {
-        match hidden {
-            Some(number) => {
-                self.bind(name, number)?;
-            }
-            None => {
-                self.numbers.remove(name);
-            }
+    pub(crate) fn number(&self, name: &Ident) -> Option<u32>
+        ensures { result ≡ numbers_in self.now (ident_of name.now) }
+    {
+        match self.numbers.get(name) {
+            Some(number) => *number,
+            None => None,
         }
-        Ok(())
+    }
+
+    /// Gives the variable this number or none, and answers what it had.
+    pub(crate) fn set(&mut self, name: &Ident, number: Option<u32>) -> Result<Option<u32>, Memory>
+        ensures hidden { IfOk result (λ o. o ≡ numbers_in self.old (ident_of name.now)) }
+        ensures set { OnOk result ((x : Id) → numbers_in self.new x
+            ≡ by_order (order_of x (ident_of name.now)) (numbers_in self.old x) number (numbers_in self.old x)) }
+    {
+        let key = name.clone()?;
+        match self.numbers.insert(key, number)? {
+            Some(hidden) => Ok(hidden),
+            None => Ok(None),
+        }
     }
 }

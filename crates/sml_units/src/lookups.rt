@@ -4,12 +4,12 @@ ghost use Rattle.std.specs.Prelude.{◌≡◌, ◌<◌, ◌≤◌, ℕ, map, tak
 ghost use Rattle.std.specs.Option.{option_map};
 ghost use Rattle.sml_lex.specs.declared.fault.Code.TheVariants.{E1, E2, E3};
 ghost use Rattle.sml_tree.specs.Views.{ident_of, long_of};
-ghost use Rattle.sml_objects.specs.Maps.{Map, lookup};
+ghost use Rattle.sml_objects.specs.Maps.{lookup};
 ghost use Rattle.sml_objects.specs.Objects.{structures, types, values, find_structure};
 ghost use Rattle.sml_objects.specs.Views.{env_of, scheme_of};
 ghost use Rattle.sml_rules.specs.Lookups.{value_at, type_at, entry};
 ghost use Rattle.sml_rules.specs.Answers.{need, fault_at, dotted};
-ghost use Rattle.sml_units.specs.Elaborated.{Answers, Shows, LeadsTo, IsFree, IsFaultOf, or_else, NameEnv};
+ghost use Rattle.sml_units.specs.Elaborated.{Answers, Shows, LeadsTo, IsFree, IsFaultOf, or_else, NameEnv, Numbers};
 
 use crate::top_fault::{TopFault, fault_about};
 use sml_lex::fault::{Code, Memory};
@@ -85,7 +85,7 @@ impl<'a> Context<'a> {
     /// The environment at the end of a path that isn't empty.
     fn at_path(&self, alloc: Global, long: &LongIdent) -> Result<&'a Env, TopFault>
         requires { 0 < vec_len long.now.path }
-        ensures { (locals : Map ℕ) (C : NameEnv) → Shows locals (env_of self.now.outer.now) (env_of self.now.inner.now) C
+        ensures { (locals : Numbers) (C : NameEnv) → Shows locals (env_of self.now.outer.now) (env_of self.now.inner.now) C
             → LeadsTo (λ e. env_of e.now) C long.now.place (long_of long.now).path result }
     {
         let Some(first) = self.structure(&long.path[0]) else {
@@ -103,7 +103,7 @@ impl<'a> Context<'a> {
 
     /// The scheme of a value, or that it is unbound.
     pub(crate) fn value(&self, alloc: Global, long: &LongIdent) -> Result<&'a Rc<Scheme>, TopFault>
-        ensures { (locals : Map ℕ) (C : NameEnv) → Shows locals (env_of self.now.outer.now) (env_of self.now.inner.now) C → IsFree locals (long_of long.now)
+        ensures { (locals : Numbers) (C : NameEnv) → Shows locals (env_of self.now.outer.now) (env_of self.now.inner.now) C → IsFree locals (long_of long.now)
             → Answers (λ s. scheme_of s.now.value) result (need E1 long.now.place (long_of long.now) (value_at C (long_of long.now))) }
     {
         if long.path.is_empty() {
@@ -121,7 +121,7 @@ impl<'a> Context<'a> {
         alloc: Global,
         long: &LongIdent,
     ) -> Result<&'a Rc<Scheme>, TopFault>
-        ensures { (locals : Map ℕ) (C : NameEnv) → Shows locals (env_of self.now.outer.now) (env_of self.now.inner.now) C
+        ensures { (locals : Numbers) (C : NameEnv) → Shows locals (env_of self.now.outer.now) (env_of self.now.inner.now) C
             → Answers (λ s. scheme_of s.now.value) result (need E2 long.now.place (long_of long.now) (type_at C (long_of long.now))) }
     {
         if long.path.is_empty() {

@@ -61,7 +61,7 @@ fn specify_value(
         inner: &sig.body,
     };
     let ty = type_of(alloc, &context, ty)?;
-    let ty = small(ty, place)?;
+    small(&ty, place)?;
     if sig.body.value(name).is_some() {
         return Err(plain_fault(Code::N2, place));
     }

@@ -3,12 +3,11 @@
 ghost use Rattle.std.specs.Prelude.{◌≡◌, ℕ, map};
 ghost use Rattle.sml_tree.specs.Trees.{constructor};
 ghost use Rattle.sml_tree.specs.Views.{long_of, ty_of, tys_of};
-ghost use Rattle.sml_objects.specs.Maps.{Map};
 ghost use Rattle.sml_objects.specs.Objects.{arrow_of};
 ghost use Rattle.sml_objects.specs.Views.{env_of};
 ghost use Rattle.sml_objects.specs.Views as V;
 ghost use Rattle.sml_rules.specs.Readings.{read_ty, read_tys};
-ghost use Rattle.sml_units.specs.Elaborated.{Answers, IsMade, Shows, NameEnv};
+ghost use Rattle.sml_units.specs.Elaborated.{Answers, IsMade, Shows, NameEnv, Numbers};
 
 use crate::lookups::Context;
 use crate::top_fault::{TopFault, plain_fault};
@@ -21,7 +20,7 @@ use std::rc::Rc;
 /// The type that a type expression means.
 #[cycle(meaning)]
 pub(crate) fn type_of(alloc: Global, context: &Context, ty: &Ty) -> Result<Rc<MlType>, TopFault>
-    ensures { (locals : Map ℕ) (C : NameEnv) → Shows locals (env_of context.now.outer.now) (env_of context.now.inner.now) C
+    ensures { (locals : Numbers) (C : NameEnv) → Shows locals (env_of context.now.outer.now) (env_of context.now.inner.now) C
         → Answers (λ t. V.type_of t.value) result (read_ty C (ty_of ty.now)) }
 {
     match ty {
@@ -51,7 +50,7 @@ fn constructor_type(
     alloc: Global,
     long: &LongIdent,
 ) -> Result<Rc<MlType>, TopFault>
-    ensures { (locals : Map ℕ) (C : NameEnv) → Shows locals (env_of context.now.outer.now) (env_of context.now.inner.now) C
+    ensures { (locals : Numbers) (C : NameEnv) → Shows locals (env_of context.now.outer.now) (env_of context.now.inner.now) C
         → Answers (λ t. V.type_of t.value) result (read_ty C (constructor long.now.place (long_of long.now))) }
 {
     match context.type_function(alloc, long) {
@@ -101,7 +100,7 @@ pub(crate) fn arrow(alloc: Global, from: Rc<MlType>, to: Rc<MlType>) -> Result<R
 
 #[cycle(meaning)]
 fn types_of(alloc: Global, context: &Context, parts: &[Ty]) -> Result<Vec<Rc<MlType>>, TopFault>
-    ensures { (locals : Map ℕ) (C : NameEnv) → Shows locals (env_of context.now.outer.now) (env_of context.now.inner.now) C
+    ensures { (locals : Numbers) (C : NameEnv) → Shows locals (env_of context.now.outer.now) (env_of context.now.inner.now) C
         → Answers (λ v. V.types_of (map (λ t. V.type_of t.value) v.items)) result (read_tys C (tys_of (map ty_of parts.now))) }
 {
     let mut types = Vec::new(alloc);

@@ -1,72 +1,9 @@
 use super::*;
 use sml_lex::fault::Place;
-use sml_lex::token::{Kind, Span, Stop, Token};
+use sml_lex::lexer::lex;
 use sml_tree::bare::{CoreDec, CoreForm, Exp, Ident, LongIdent, Spec, SpecForm, Ty};
 use std::fmt::Write;
 use std::test::Fail;
-
-/// The kind of a word that stands alone.
-fn kind_of(text: &[u8]) -> Kind {
-    if text == b"val".as_slice() {
-        Kind::ValWord
-    } else if text == b"fn".as_slice() {
-        Kind::FnWord
-    } else if text == b"structure".as_slice() {
-        Kind::StructureWord
-    } else if text == b"struct".as_slice() {
-        Kind::StructWord
-    } else if text == b"sig".as_slice() {
-        Kind::SigWord
-    } else if text == b"end".as_slice() {
-        Kind::EndWord
-    } else if text == b"type".as_slice() {
-        Kind::TypeWord
-    } else if text == b"=".as_slice() {
-        Kind::Equals
-    } else if text == b"=>".as_slice() {
-        Kind::Gives
-    } else if text == b"->".as_slice() {
-        Kind::Arrow
-    } else if text == b":>".as_slice() {
-        Kind::Seals
-    } else if text == b":".as_slice() {
-        Kind::Colon
-    } else if text == b";".as_slice() {
-        Kind::Semicolon
-    } else if text == b"*".as_slice() {
-        Kind::Star
-    } else if text == b"(".as_slice() {
-        Kind::OpenRound
-    } else if text == b")".as_slice() {
-        Kind::CloseRound
-    } else if text == b",".as_slice() {
-        Kind::Comma
-    } else if text.iter().all(|byte| byte.is_ascii_digit()) {
-        Kind::Numeral
-    } else if text.contains(&b'.') {
-        Kind::LongAlphanumeric
-    } else {
-        Kind::Alphanumeric
-    }
-}
-
-/// The tokens of a unit in which they stand apart.
-fn words<'a>(alloc: Global, unit: &'a [u8], end: End) -> Result<Lexed<'a>, Memory> {
-    let mut tokens = Vec::new(alloc);
-    let mut start = 0;
-    for i in 0..unit.len() + 1 {
-        if i == unit.len() || unit[i] == b' ' || unit[i] == b'\n' {
-            if start < i {
-                tokens.push(Token {
-                    kind: kind_of(&unit[start..i]),
-                    span: Span { start, end: i },
-                })?;
-            }
-            start = i + 1;
-        }
-    }
-    Ok(Lexed { unit, tokens, end })
-}
 
 /// Trees as text, each place before what it is the place of.
 #[derive(Drop)]
@@ -237,44 +174,38 @@ fn show_parsed(alloc: Global, parsed: &Parsed) -> Result<String, Memory> {
     Ok(shown.text)
 }
 
-/// What is read of a unit whose tokens stand apart.
-fn read_as(rt: &impl AllocGlobal, unit: &[u8], end: End) -> Result<String, Memory> {
+/// What is read of a unit.
+fn read_as(rt: &impl AllocGlobal, unit: &[u8]) -> Result<String, Memory> {
     let alloc = rt.alloc();
-    show_parsed(alloc, &parse(alloc, &words(alloc, unit, end)?)?)
+    show_parsed(alloc, &parse(alloc, &lex(alloc, unit)?)?)
 }
 
 #[test]
 fn trees_and_places(rt: HostRuntime) -> Result<(), Fail> {
-    let text = read_as(
-        &rt,
-        b"val f = fn x => x\nval g = fn y => ( f ,\n y , ( ) )",
-        End::Done,
-    )?;
-    let expected = "1.1 val f fn x 1.17 x;\n1.1 val g fn y (1.19 f,2.2 y,(),);\n";
+    let text = read_as(&rt, b"val f = fn x => x\nval g = fn y => (f,\n y, ())")?;
+    let expected = "1.1 val f fn x 1.17 x;\n1.1 val g fn y (1.18 f,2.2 y,(),);\n";
     assert_eq!(rt; text.as_str(), expected);
     let text = read_as(
         &rt,
-        b"structure S :> sig type t ; val x : t end = struct type t = int val x = 3 end\n val y = ( S.x , 1 )",
-        End::Done,
+        b"structure S :> sig type t; val x : t end = struct type t = int val x = 3 end\n val y = (S.x, 1)",
     )?;
     let expected =
-        "structure S 1.16 sig 1.20 type t;1.29 val x 1.37 t; struct 1.52 type t 1.61 int;1.65 val x n;\n1.1 val y (1.11 S/x,n,);\n";
+        "structure S 1.16 sig 1.20 type t;1.28 val x 1.36 t; struct 1.51 type t 1.60 int;1.64 val x n;\n1.1 val y (1.10 S/x,n,);\n";
     assert_eq!(rt; text.as_str(), expected);
     let text = read_as(
         &rt,
-        b"; ; structure mod :> sig val h : int -> A.B.t * ( u ) -> v end = struct end ;",
-        End::Done,
+        b";; structure mod:>sig val h : int -> A.B.t * (u) -> v end = struct end;",
     )?;
     let expected =
-        "structure mod 1.18 sig 1.22 val h <1.30 int-><(1.37 A/B/t*[1.47 u]*)->1.54 v>>; struct \n";
+        "structure mod 1.16 sig 1.20 val h <1.28 int-><(1.35 A/B/t*[1.44 u]*)->1.50 v>>; struct \n";
     assert_eq!(rt; text.as_str(), expected);
     Ok(())
 }
 
 #[test]
-fn syntax_faults(rt: HostRuntime) -> Result<(), Fail> {
+fn faults(rt: HostRuntime) -> Result<(), Fail> {
     for (unit, expected) in [
-        (b"val x = ( 1 , )".as_slice(), "1.15 S1"),
+        (b"val x = (1, )".as_slice(), "1.13 S1"),
         (b"v".as_slice(), "1.1 S1"),
         (b"val x = 1 )".as_slice(), "1.1 val x n;\n1.1 S1"),
         (
@@ -285,46 +216,18 @@ fn syntax_faults(rt: HostRuntime) -> Result<(), Fail> {
         (b"val x = nil".as_slice(), "1.9 S1"),
         (b"val".as_slice(), "1.1 S2"),
         (b"val a".as_slice(), "1.5 S2"),
-        (
-            b"val a = 1 val b =\n ( a".as_slice(),
-            "1.1 val a n;\n2.4 S2",
-        ),
+        (b"val a = 1 val b = (a,".as_slice(), "1.1 val a n;\n1.11 S2"),
         (b"".as_slice(), ""),
         (b"; ;".as_slice(), ""),
-    ] {
-        let text = read_as(&rt, unit, End::Done)?;
-        assert_eq!(rt; text.as_str(), expected);
-    }
-    Ok(())
-}
-
-#[test]
-fn lexical_faults(rt: HostRuntime) -> Result<(), Fail> {
-    for (unit, code, at, expected) in [
         (
-            b"val a = 1 val b = 2 \"".as_slice(),
-            Code::L2,
-            20,
+            b"val a = 1 val b = 2 \"x".as_slice(),
             "1.1 val a n;\n1.11 L2",
         ),
-        (
-            b"val a = 1 ; ?".as_slice(),
-            Code::L4,
-            12,
-            "1.1 val a n;\n1.1 L4",
-        ),
-        (b"val a = ) .".as_slice(), Code::L4, 10, "1.9 S1"),
-        (b"".as_slice(), Code::L6, 0, "1.1 L6"),
+        (b"val a = 1; .".as_slice(), "1.1 val a n;\n1.1 L4"),
+        (b"val a = ) .".as_slice(), "1.9 S1"),
+        (b"(* (* x *) val y = 1".as_slice(), "1.1 L1"),
     ] {
-        let most = unit.len().min(at);
-        let alloc = rt.alloc();
-        let lexed = words(alloc, &unit[..most], End::Fault(Stop { code, at }))?;
-        let lexed = Lexed {
-            unit,
-            tokens: lexed.tokens,
-            end: lexed.end,
-        };
-        let text = show_parsed(alloc, &parse(alloc, &lexed)?)?;
+        let text = read_as(&rt, unit)?;
         assert_eq!(rt; text.as_str(), expected);
     }
     Ok(())
@@ -334,47 +237,47 @@ fn lexical_faults(rt: HostRuntime) -> Result<(), Fail> {
 fn nested(alloc: Global, count: usize) -> Result<Vec<u8>, Memory> {
     let mut unit = Vec::from_slice(alloc, b"val x = ")?;
     for _ in 0..count {
-        unit.extend_from_slice(b"( ")?;
+        unit.push(b'(')?;
     }
-    unit.extend_from_slice(b"1 ")?;
+    unit.push(b'1')?;
     for _ in 0..count {
-        unit.extend_from_slice(b") ")?;
+        unit.push(b')')?;
     }
-    unit.extend_from_slice(b"val y = 2")?;
+    unit.extend_from_slice(b" val y = 2")?;
     Ok(unit)
 }
 
 #[test]
 fn heights(rt: HostRuntime) -> Result<(), Fail> {
-    for (count, expected) in [(3998, ""), (3999, "1.1 S3"), (400_000, "1.1 S3")] {
-        let unit = nested(rt.alloc(), count)?;
-        let lexed = words(rt.alloc(), &unit, End::Done)?;
-        let mut parsed = parse(rt.alloc(), &lexed)?;
+    let alloc = rt.alloc();
+    for (count, expected) in [(3998, ""), (3999, "1.1 S3"), (500_000, "1.1 S3")] {
+        let unit = nested(alloc, count)?;
+        let mut parsed = parse(alloc, &lex(alloc, &unit)?)?;
         let whole = if count == 3998 { 2 } else { 0 };
         assert_eq!(rt; parsed.declarations.len(), whole);
         parsed.declarations.clear();
-        let text = show_parsed(rt.alloc(), &parsed)?;
+        let text = show_parsed(alloc, &parsed)?;
         assert_eq!(rt; text.as_str(), expected);
     }
     Ok(())
 }
 
 #[test]
-fn many(rt: HostRuntime) -> Result<(), Fail> {
+fn large_units(rt: HostRuntime) -> Result<(), Fail> {
     let alloc = rt.alloc();
     let mut unit = Vec::new(alloc);
     for _ in 0..100_000 {
         unit.extend_from_slice(b"val x = 1\n")?;
     }
-    let parsed = parse(alloc, &words(alloc, &unit, End::Done)?)?;
+    let parsed = parse(alloc, &lex(alloc, &unit)?)?;
     assert_eq!(rt; parsed.declarations.len(), 100_000);
     assert_eq!(rt; parsed.fault, None);
     let mut unit = Vec::from_slice(alloc, b"val x = ")?;
-    for _ in 0..500_000 {
-        unit.extend_from_slice(b"( ")?;
+    for _ in 0..1_048_568 {
+        unit.push(b'(')?;
     }
-    let parsed = parse(alloc, &words(alloc, &unit, End::Done)?)?;
+    let parsed = parse(alloc, &lex(alloc, &unit)?)?;
     assert_eq!(rt; parsed.declarations.len(), 0);
-    assert_eq!(rt; parsed.fault, Some(fault_at(&unit, Code::S2, 0, 1_000_006)));
+    assert_eq!(rt; parsed.fault, Some(fault_at(&unit, Code::S2, 0, 1_048_575)));
     Ok(())
 }

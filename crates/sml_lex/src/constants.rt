@@ -1,0 +1,145 @@
+//! The values of constants, as their texts write them.
+ghost use Rattle.std.specs.Prelude.{◌≡◌, ◌≤◌, ◌^◌, ◌++◌, IfOk, OnOk};
+ghost use Rattle.std.specs.Option.{MatchOption, option_to_list};
+ghost use Rattle.sml_lex.specs.Numbers.{magnitude, integer_value, word_value};
+ghost use Rattle.sml_lex.specs.Strings.{IsString, IsStringValue, IsCharacter, IsCharacterValue};
+
+use crate::bytes::{behind, starts, starts_both};
+use crate::fault::Memory;
+use crate::items::item;
+use crate::numbers::{magnitude_of, word_value_of};
+use crate::strings::scan;
+use std::alloc::Global;
+
+/// The value of an integer constant, where it is within the limit.
+pub fn integer(text: &[u8]) -> Option<i64>
+    ensures { MatchOption result (2 ^ 63 ≤ magnitude text.now) (λ value. value ≡ integer_value text.now) }
+{
+    match magnitude_of(text) {
+        Some(value) if value < 9_223_372_036_854_775_808 => {
+            if starts(text, b'~') {
+                Some(-(value as i64))
+            } else {
+                Some(value as i64)
+            }
+        }
+        _ => None,
+    }
+}
+
+/// The value of a word constant, where it is within the limit.
+pub fn word(text: &[u8]) -> Option<u64>
+    ensures { MatchOption result (2 ^ 64 ≤ word_value text.now) (λ value. value ≡ word_value text.now) }
+{
+    word_value_of(text)
+}
+
+/// The value of a text that is a character constant.
+pub fn character(text: &[u8]) -> Option<u8>
+    ensures { MatchOption result (IsCharacter text.now → ⊥) (IsCharacterValue text.now) }
+{
+    if !starts_both(text, b'#', b'"') {
+        return None;
+    }
+    match scan(behind(text, 1)) {
+        Ok(extent) => {
+            if extent.characters == 1 {
+                if extent.bytes + 1 == text.len() {
+                    return extent.first;
+                }
+            }
+            None
+        }
+        Err(_) => None,
+    }
+}
+
+fn push_some(value: &mut Vec<u8>, character: Option<u8>) -> Result<(), Memory>
+    ensures { OnOk result (value.new.items ≡ value.old.items ++ option_to_list character) }
+{
+    if let Some(character) = character {
+        value.push(character)?;
+    }
+    Ok(())
+}
+
+/// The value of a text that is a string constant.
+pub fn string(alloc: Global, text: &[u8]) -> Result<Option<Vec<u8>>, Memory>
+    ensures { IfOk result (λ value. MatchOption value (IsString text.now → ⊥) (λ characters. IsStringValue text.now characters.items)) }
+{
+    let mut value = Vec::new(alloc);
+    if !starts(text, b'"') {
+        return Ok(None);
+    }
+    let mut bytes = 1;
+    'items: loop {
+        let rest = behind(text, bytes);
+        if starts(rest, b'"') {
+            if bytes + 1 == text.len() {
+                return Ok(Some(value));
+            }
+            return Ok(None);
+        }
+        match item(rest) {
+            Some(found) => {
+                push_some(&mut value, found.value)?;
+                bytes += found.bytes;
+            }
+            None => return Ok(None),
+        }
+    }
+}
+
+#[cfg(test)]
+mod tests {
+    use super::*;
+
+    #[test]
+    fn numbers(rt: HostRuntime) {
+        for (text, value) in [
+            ("12", Some(12)),
+            ("~12", Some(-12)),
+            ("~0", Some(0)),
+            ("0x1f", Some(31)),
+            ("~0xA", Some(-10)),
+            ("9223372036854775807", Some(i64::MAX)),
+            ("~9223372036854775808", None),
+        ] {
+            assert_eq!(rt; integer(text.as_bytes()), value, "{text}");
+        }
+        for (text, value) in [
+            ("0w12", Some(12)),
+            ("0wxFF", Some(255)),
+            ("0w18446744073709551615", Some(u64::MAX)),
+            ("0wx10000000000000000", None),
+        ] {
+            assert_eq!(rt; word(text.as_bytes()), value, "{text}");
+        }
+    }
+
+    #[test]
+    fn characters(rt: HostRuntime) {
+        for (text, value) in [
+            (r##"#"a""##, Some(97)),
+            (r##"#"\n""##, Some(10)),
+            (r##"#"\^@""##, Some(0)),
+            (r##"#"\255""##, Some(255)),
+            (r##"#"\u00e9""##, Some(233)),
+            (r##"#"ab""##, None),
+            (r##"#"a" "##, None),
+        ] {
+            assert_eq!(rt; character(text.as_bytes()), value, "{text}");
+        }
+    }
+
+    #[test]
+    fn strings(rt: HostRuntime) -> Result<(), Memory> {
+        let value = string(rt.alloc(), br#""a\a\b\t\n\v\f\r\"\\\^_\065\u0042\  \z""#)?;
+        let want = b"a\x07\x08\t\n\x0b\x0c\r\"\\\x1fABz";
+        match value {
+            Some(value) => assert!(rt; value.as_slice() == want.as_slice()),
+            None => assert!(rt; false),
+        }
+        Ok(())
+    }
+}

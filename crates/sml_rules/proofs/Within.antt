@@ -11,12 +11,9 @@ use Rattle.sml_objects.specs.Objects.{MlType, MlTypes, Scheme, Env, Structures, 
 use Rattle.sml_objects.specs.Types.{replace_type, replace_types, close}
 use Rattle.sml_rules.specs.Lookups.{Found, found, no_path, no_entry, entry, found_in, find_at, value_at, type_at}
 use Rattle.sml_rules.specs.Answers.{accepted}
+use Rattle.sml_rules.specs.Every.{Every}
 use Rattle.sml_rules.specs.Readings.{Typed, read_ty, read_tys, read_exp, read_exps, read_core, read_cores}
 use Rattle.sml_rules.proofs.Sound.{bound_by, given, needed}
-
-abbrev pub Every : {N : Type 0} → (N → Type 0) → List N → Type 0
-Every P [] = Unit {0}
-Every P (n ∷ ns) = P n × Every P ns
 
 module _ {N : Type 0} (P : N → Type 0) where
   pub first : (ms ns : List N) → Every P (ms ++ ns) → Every P ms

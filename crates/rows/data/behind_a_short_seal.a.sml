@@ -1,0 +1,2 @@
+structure S :> sig type t val x : t end = struct type t = int val x = 3 end val y = S.z val w = (S.x, 1) val z =
+  T.x

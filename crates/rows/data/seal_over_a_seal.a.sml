@@ -1,0 +1,1 @@
+structure S :> sig type t val x : t end = struct type t = int val x = 3 end structure T :> sig type t val f : S.t -> t val y : S.t * t end = struct type t = int val f = fn s => 3 val y = (S.x, 3) end val z = (T.f, T.y)

@@ -1,0 +1,1 @@
+structure S :> sig type t val x : t end = struct type u = bool type t = int * u -> int val x = fn p => 7 end structure T :> sig type t val f : S.t -> t val y : S.t * t end = struct type t = S.t * int val f = fn s => (s, 3) val y = (S.x, (S.x, 3)) end val z = (T.f, T.y)

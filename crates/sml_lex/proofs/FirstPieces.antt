@@ -1,8 +1,8 @@
 -- What stands at the front of a text is one piece or one fault.
-use Rattle.std.proofs.Common.{◌≡◌, ℕ, zero, suc, ◌+◌, ◌<◌, ◌≤◌, List, [], ◌∷◌, ◌++◌, take, drop, length, Bool, true, false, Option, Some, None, unwrap_or, Ok, Err, refl, sym, ap, ◌∙◌, subst, arith, ◌⊎◌, inl, inr, append_assoc}
+use Rattle.std.proofs.Common.{◌≡◌, ℕ, zero, suc, ◌+◌, ◌<◌, ◌≤◌, List, [], ◌∷◌, ◌++◌, take, drop, length, Bool, true, false, Option, Some, None, Ok, Err, refl, sym, ap, ◌∙◌, subst, arith, ◌⊎◌, inl, inr, append_assoc}
 use Rattle.std.specs.Prelude.{◌||◌, ◌==◌, if◌then◌else◌, Result}
 use Rattle.std.proofs.lemmas.Bool.{eqb-true, eq-eqb, cond-true, cond-false, cases_lt}
-use Rattle.std.proofs.lemmas.List.{length-append, length-drop, length-take, take-append-drop}
+use Rattle.std.proofs.lemmas.List.{length-append, length-take, take-append-drop}
 use Rattle.sml_lex.specs.declared.fault.Code.TheVariants.{L1, L3, L4, L5}
 use Rattle.sml_lex.specs.declared.token.Kind.{Kind}
 use Rattle.sml_lex.specs.declared.token.Kind.TheVariants.{StringConstant, CharacterConstant}
@@ -16,9 +16,11 @@ use Rattle.sml_lex.specs.Strings.{Item, AreItems, items_text, string_value, quot
 use Rattle.sml_lex.specs.StringReading.{item_at}
 use Rattle.sml_lex.specs.Tokens.{IsToken}
 use Rattle.sml_lex.specs.Machine.{first_state, part_behind, token_kind}
-use Rattle.sml_lex.specs.Pieces.{opens_comment, is_cut, after_comments, fault_here, IsComment, IsLexeme, IsPiece, IsFault}
+use Rattle.sml_lex.specs.Comments.{opens_comment, IsComment}
+use Rattle.sml_lex.specs.Pieces.{is_cut, fault_here, IsLexeme, IsPiece, IsFault}
 use Rattle.sml_lex.proofs.ByteClasses.{white_no_letter, white_no_digit, white_no_sign, white_no_mark}
 use Rattle.sml_lex.proofs.Reading.{Reads, next, dead, none_is_some, false_is_true, some_same, apart, first_true, second_true}
+use Rattle.sml_lex.proofs.CommentBodies.{comment_opens, comment_once}
 use Rattle.sml_lex.proofs.StringItems.{item_sound}
 use Rattle.sml_lex.proofs.TokensRead.{is_quoted, token_reads}
 use Rattle.sml_lex.proofs.FirstTokens.{starts_take, starts_both_take, starts_one, both_starts, other_start, string_starts, character_starts, never_fresh, at_quote, at_hash, items_unique, quoted_unique, string_size, character_size}
@@ -92,7 +94,7 @@ record AtToken (rest : List ℕ) (answer : Answer) : Type 0 where
 
 At : Start → List ℕ → Answer → Type 0
 At White rest answer = answer ≡ Ok Blank
-At InComment rest answer = ((size : ℕ) × IsComment rest size × (answer ≡ Ok (Comment size))) ⊎ ((after_comments 1 (drop 2 rest) ≡ None) × (answer ≡ Err (fault_here L1)))
+At InComment rest answer = ((size : ℕ) × IsComment rest size × (answer ≡ Ok (Comment size))) ⊎ (((size : ℕ) → IsComment rest size → ⊥) × (answer ≡ Err (fault_here L1)))
 At InString rest answer = AtString rest answer ⊎ ((stop : Stop) × IsBroken rest stop × (answer ≡ Err stop))
 At InCharacter rest answer = AtCharacter rest answer ⊎ ((stop : Stop) × IsBroken (drop 1 rest) stop × (answer ≡ Err (record {
   code = stop.code;
@@ -259,7 +261,7 @@ sort_token rest kind n answer l e = white (starts_white rest) refl
 sort : (rest : List ℕ) (answer : Answer) → Answers rest answer → At (start_of rest) rest answer
 unfolding At
 sort rest (Ok Blank) w = subst (λ s. At s rest (Ok Blank)) (sym (cond-true _ _ _ w)) refl
-sort rest (Ok (Comment size)) w = subst (λ s. At s rest (Ok (Comment size))) (sym (start_comment rest w.opens)) (inl (size, w, refl))
+sort rest (Ok (Comment size)) w = subst (λ s. At s rest (Ok (Comment size))) (sym (start_comment rest (comment_opens rest size w))) (inl (size, w, refl))
 sort rest (Ok (Lexeme lexeme)) w = sort_token rest lexeme.kind lexeme.size (Ok (Lexeme lexeme)) w.0 (sym (cond-true _ _ _ w.1))
 sort rest (Err stop) (inl f) = subst (λ s. At s rest (Err stop)) (sym (start_comment rest f.opens)) (inr (f.never_closed, ap Err f.fault))
 sort rest (Err stop) (inr (inl (inl b))) = subst (λ s. At s rest (Err stop)) (sym (start_string rest (ap (starts_with 34) b.spelled))) (inr (stop, b, refl))
@@ -291,19 +293,6 @@ broken_once : (text : List ℕ) (stop other : Stop) → IsBroken text stop → I
 broken_once text stop other a b =
     let u = items_unique a.items b.items a.rest b.rest a.are_items b.are_items (none_there text stop a) (none_there text other b) (ap (drop 1) (sym a.spelled ∙ b.spelled)) in
     a.fault ∙ ap (λ r. break_of r (1 + length (items_text a.items))) u.1 ∙ ap (λ i. break_of b.rest (1 + length (items_text i))) u.0 ∙ sym b.fault
-
-comment_once : (rest : List ℕ) (m n : ℕ) → IsComment rest m → IsComment rest n → m ≡ n
-comment_once rest m n a b =
-    let same : drop m rest ≡ drop n rest = ap (λ o. unwrap_or o []) (sym a.closed ∙ b.closed) in
-    let l = ap length same in
-    let lm = length-drop m rest in
-    let ln = length-drop n rest in
-    let wm = a.within in
-    let wn = b.within in
-    omega (arith, l, lm, ln, wm, wn)
-
-none_is_text : (text : List ℕ) → None ≡ Some text → ⊥
-none_is_text text e = cc
 
 size_once : (rest : List ℕ) (k l : Kind) (m n : ℕ) → IsLexeme rest k m → IsLexeme rest l n → m ≡ n
 size_once rest k l m n a b = elim (cases_lt m n) [ inl h ↦ absurd (a.longest n l h b.within b.token) | inr h ↦ elim (cases_lt n m) [ inl g ↦ absurd (b.longest m k g a.within a.token) | inr g ↦ omega (arith, g, h) ] ]
@@ -361,8 +350,8 @@ once : (s : Start) (rest : List ℕ) (a b : Answer) → At s rest a → At s res
 unfolding At
 once White rest a b v w = v ∙ sym w
 once InComment rest a b (inl (m, v, e)) (inl (n, w, f)) = e ∙ ap (λ n. Ok (Comment n)) (comment_once rest m n v w) ∙ sym f
-once InComment rest a b (inl (m, v, e)) (inr (n, f)) = absurd (none_is_text _ (sym n ∙ v.closed))
-once InComment rest a b (inr (m, e)) (inl (n, w, f)) = absurd (none_is_text _ (sym m ∙ w.closed))
+once InComment rest a b (inl (m, v, e)) (inr (n, f)) = absurd (n m v)
+once InComment rest a b (inr (m, e)) (inl (n, w, f)) = absurd (m n w)
 once InComment rest a b (inr (m, e)) (inr (n, f)) = e ∙ sym f
 once InString rest a b (inl v) (inl w) = string_once rest a b v w
 once InString rest a b (inl v) (inr (stop, w, f)) = absurd (closed_or_broken rest v.behind v.items stop v.are_items v.spelled w)

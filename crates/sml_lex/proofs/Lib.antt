@@ -15,3 +15,4 @@ pub mod StringItems
 pub mod StringScans
 pub mod TokensRead
 pub mod Unique
+pub mod CommentBodies

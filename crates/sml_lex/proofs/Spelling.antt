@@ -9,6 +9,7 @@ use Rattle.sml_lex.specs.declared.pieces.Piece.TheVariants.{Blank, Comment, Lexe
 use Rattle.sml_lex.specs.declared.longest.Lexeme.{Lexeme as LexemeAt}
 use Rattle.sml_lex.specs.Tokens.{IsToken}
 use Rattle.sml_lex.specs.Pieces.{IsPiece, size_of, SpellsFrom, tokens_of}
+use Rattle.sml_lex.proofs.CommentBodies.{comment_bytes}
 use Rattle.sml_lex.proofs.FirstTokens.{never_empty}
 
 -- whatever the rest spells, the whole spells it behind these tokens
@@ -47,7 +48,7 @@ carried unit place tokens end x e =
 -- a piece has some bytes, and all are there
 pub some_size : (rest : List ℕ) (piece : Piece) → 0 < length rest → IsPiece rest piece → 0 < size_of piece
 some_size rest Blank some p = omega arith
-some_size rest (Comment size) some p = let b = p.behind_opening in omega (arith, b)
+some_size rest (Comment size) some p = let b = (comment_bytes rest size p).0 in omega (arith, b)
 some_size rest (Lexeme lexeme) some p = by_size lexeme.size refl
   where
     by_size : (n : ℕ) → lexeme.size ≡ n → 0 < lexeme.size
@@ -56,7 +57,7 @@ some_size rest (Lexeme lexeme) some p = by_size lexeme.size refl
 
 pub within_size : (rest : List ℕ) (piece : Piece) → 0 < length rest → IsPiece rest piece → size_of piece ≤ length rest
 within_size rest Blank some p = omega (arith, some)
-within_size rest (Comment size) some p = p.within
+within_size rest (Comment size) some p = let b = (comment_bytes rest size p).1 in omega (arith, b)
 within_size rest (Lexeme lexeme) some p = p.0.within
 
 -- the same, at a place of the unit

@@ -9,6 +9,7 @@ use Rattle.sml_lex.specs.declared.pieces.Piece.TheVariants.{Blank, Comment, Lexe
 use Rattle.sml_lex.specs.Pieces.{IsPiece, size_of, SpellsFrom, tokens_of, SpellingIsUnique}
 use Rattle.sml_lex.specs.Tokens.{IsToken}
 use Rattle.sml_lex.proofs.Reading.{false_is_true}
+use Rattle.sml_lex.proofs.CommentBodies.{comment_bytes}
 use Rattle.sml_lex.proofs.FirstTokens.{never_empty}
 use Rattle.sml_lex.proofs.FirstPieces.{Answer, answers_once}
 
@@ -34,7 +35,7 @@ same_stop a b e = ap (stop_of a) e
 -- a piece has some bytes
 pub piece_there : (rest : List ℕ) (piece : Piece) → IsPiece rest piece → length rest ≡ 0 → ⊥
 piece_there [] Blank p l = false_is_true p
-piece_there [] (Comment size) p l = let a = p.behind_opening in let b = p.within in absurd (omega (arith, a, b))
+piece_there [] (Comment size) p l = let b = comment_bytes [] size p in let some = b.0 in let within = b.1 in absurd (omega (arith, some, within))
 piece_there [] (Lexeme lexeme) p l =
     let w = p.0.within in
     let none : lexeme.size ≡ 0 = omega (arith, w) in

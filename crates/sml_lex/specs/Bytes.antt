@@ -27,6 +27,15 @@ asterisk = 42
 abbrev pub dot : ℕ
 dot = 46
 
+abbrev pub capital_e : ℕ
+capital_e = 69
+
+abbrev pub small_e : ℕ
+small_e = 101
+
+abbrev pub small_u : ℕ
+small_u = 117
+
 abbrev pub backslash : ℕ
 backslash = 92
 

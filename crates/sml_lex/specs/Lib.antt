@@ -1,4 +1,6 @@
 pub mod Bytes
+pub mod CommentReading
+pub mod Comments
 pub mod Faults
 pub mod Machine
 pub mod Numbers

@@ -1,8 +1,8 @@
 -- White space, comments and tokens, and the units that they spell.
 -- (The Definition of Standard ML (Revised), sections 2.1 to 2.5.)
-use Rattle.std.specs.Prelude.{slice_range, ◌≡◌, ℕ, ◌+◌, ◌-◌, ◌<◌, ◌≤◌, ◌⊎◌, List, [], ◌∷◌, length, take, drop, Bool, true, false, ◌&&◌, ◌||◌, ◌==◌, if◌then◌else◌, Option, Some, None}
+use Rattle.std.specs.Prelude.{slice_range, ◌≡◌, ℕ, ◌+◌, ◌<◌, ◌≤◌, ◌⊎◌, List, [], ◌∷◌, length, take, drop, Bool, true, false, ◌&&◌, ◌||◌, ◌==◌}
 use Rattle.sml_lex.specs.declared.fault.Code.{Code}
-use Rattle.sml_lex.specs.declared.fault.Code.TheVariants.{L1, L4, L5, L6}
+use Rattle.sml_lex.specs.declared.fault.Code.TheVariants.{L4, L5, L6}
 use Rattle.sml_lex.specs.declared.token.Kind.{Kind}
 use Rattle.sml_lex.specs.declared.token.Stop.{Stop}
 use Rattle.sml_lex.specs.declared.token.Token.{Token}
@@ -10,36 +10,17 @@ use Rattle.sml_lex.specs.declared.token.End.{End}
 use Rattle.sml_lex.specs.declared.token.End.TheVariants.{Done, Fault}
 use Rattle.sml_lex.specs.declared.pieces.Piece.{Piece}
 use Rattle.sml_lex.specs.declared.pieces.Piece.TheVariants.{Blank, Comment, Lexeme}
-use Rattle.sml_lex.specs.Bytes.{open_round, close_round, asterisk, starts_white, starts_with_both}
+use Rattle.sml_lex.specs.Bytes.{starts_white}
+use Rattle.sml_lex.specs.Comments.{opens_comment, IsComment, IsOpenComment}
 use Rattle.sml_lex.specs.Numbers.{fits}
 use Rattle.sml_lex.specs.Strings.{opens_string, opens_character, IsStringFault}
 use Rattle.sml_lex.specs.Tokens.{IsToken}
-
-abbrev pub opens_comment : List ℕ → Bool
-opens_comment bytes = starts_with_both open_round asterisk bytes
-
-abbrev pub closes_comment : List ℕ → Bool
-closes_comment bytes = starts_with_both asterisk close_round bytes
-
--- what follows the end of that many open comments, if they all end
-abbrev pub after_comments : ℕ → List ℕ → Option (List ℕ)
-after_comments depth [] = None
-after_comments depth (a ∷ []) = None
-after_comments depth (a ∷ b ∷ bytes) =
-    if opens_comment (a ∷ b ∷ bytes) then after_comments (depth + 1) bytes else if closes_comment (a ∷ b ∷ bytes) then if depth == 1 then Some bytes else after_comments (depth - 1) bytes else after_comments depth (b ∷ bytes)
 
 abbrev pub fault_here : Code → Stop
 fault_here code = record {
   code = code;
   at = 0;
 }
-
--- The comment at the front has this many bytes.
-pub record IsComment (rest : List ℕ) (size : ℕ) : Type 0 where
-  pub opens : opens_comment rest ≡ true
-  pub behind_opening : 2 ≤ size
-  pub within : size ≤ length rest
-  pub closed : after_comments 1 (drop 2 rest) ≡ Some (drop size rest)
 
 -- Neither ( directly before * nor a lone # directly before a quote is a token.
 abbrev pub is_cut : List ℕ → ℕ → Bool
@@ -61,12 +42,6 @@ abbrev pub size_of : Piece → ℕ
 size_of Blank = 1
 size_of (Comment size) = size
 size_of (Lexeme lexeme) = lexeme.size
-
--- a comment that isn't closed
-pub record IsOpenComment (rest : List ℕ) (stop : Stop) : Type 0 where
-  pub opens : opens_comment rest ≡ true
-  pub never_closed : after_comments 1 (drop 2 rest) ≡ None
-  pub fault : stop ≡ fault_here L1
 
 -- a byte at which neither white space, a comment, a string, a character nor any other token begins
 pub record IsBadByte (rest : List ℕ) (stop : Stop) : Type 0 where

@@ -3,7 +3,7 @@
 use Rattle.std.specs.Prelude.{◌≡◌, ℕ, ◌+◌, ◌-◌, ◌<◌, ◌⊎◌, List, [], ◌∷◌, ◌++◌, length, drop, flat_map, Bool, true, false, not, ◌&&◌, ◌||◌, ◌==◌, if◌then◌else◌}
 use Rattle.sml_lex.specs.declared.fault.Code.TheVariants.{L2, L3, L4}
 use Rattle.sml_lex.specs.declared.token.Stop.{Stop}
-use Rattle.sml_lex.specs.Bytes.{newline, quote, hash, backslash, caret, is_within, is_white, is_digit, is_hex_digit, starts_with, starts_with_both, all_are, is_run}
+use Rattle.sml_lex.specs.Bytes.{newline, small_u, quote, hash, backslash, caret, is_within, is_white, is_digit, is_hex_digit, starts_with, starts_with_both, all_are, is_run}
 use Rattle.sml_lex.specs.Numbers.{number}
 
 -- what stands in a string: a byte for itself, an escape by a letter, by a control character, by decimal or hexadecimal
@@ -21,7 +21,7 @@ item_text (Plain c) = c ∷ []
 item_text (Letter c) = backslash ∷ c ∷ []
 item_text (Control c) = backslash ∷ caret ∷ c ∷ []
 item_text (Decimal a b c) = backslash ∷ a ∷ b ∷ c ∷ []
-item_text (Hexadecimal a b c d) = backslash ∷ 117 ∷ a ∷ b ∷ c ∷ d ∷ []
+item_text (Hexadecimal a b c d) = backslash ∷ small_u ∷ a ∷ b ∷ c ∷ d ∷ []
 item_text (Gap white) = backslash ∷ (white ++ backslash ∷ [])
 
 -- bytes 32 to 126 other than the quote and the backslash
@@ -30,7 +30,7 @@ is_plain c = is_within 32 126 c && not ((c == quote) || (c == backslash))
 
 -- a b t n v f r, the quote and the backslash
 abbrev pub is_escape_letter : ℕ → Bool
-is_escape_letter c = (c == 97) || ((c == 98) || ((c == 116) || ((c == 110) || ((c == 118) || ((c == 102) || ((c == 114) || ((c == 34) || (c == 92))))))))
+is_escape_letter c = (c == 97) || ((c == 98) || ((c == 116) || ((c == 110) || ((c == 118) || ((c == 102) || ((c == 114) || ((c == quote) || (c == backslash))))))))
 
 abbrev pub escape_value : ℕ → ℕ
 escape_value c = if c == 97 then 7 else if c == 98 then 8 else if c == 116 then 9 else if c == 110 then 10 else if c == 118 then 11 else if c == 102 then 12 else if c == 114 then 13 else c

@@ -3,7 +3,7 @@
 use Rattle.std.specs.Prelude.{◌≡◌, ℕ, ◌⊎◌, List, [], ◌∷◌, ◌++◌, flat_map, Bool, true, false, not, ◌&&◌, ◌==◌, Some, codes}
 use Rattle.sml_lex.specs.declared.token.Kind.{Kind}
 use Rattle.sml_lex.specs.declared.token.Kind.TheVariants.{Alphanumeric, Symbolic, Star, LongAlphanumeric, LongSymbolic, LongStar, TypeVariable, Numeral, ZeroNumeral, Integer, WordConstant, RealConstant, StringConstant, CharacterConstant}
-use Rattle.sml_lex.specs.Bytes.{prime, dot, tilde, is_digit, is_hex_digit, is_letter, is_name_byte, is_sign, starts_with, is_run}
+use Rattle.sml_lex.specs.Bytes.{capital_e, small_e, prime, dot, tilde, is_digit, is_hex_digit, is_letter, is_name_byte, is_sign, starts_with, is_run}
 use Rattle.sml_lex.specs.Strings.{IsString, IsCharacter}
 use Rattle.sml_lex.specs.Words.{is_text, word_kind, is_reserved}
 
@@ -57,7 +57,7 @@ IsFraction text = IsMarked is_digits (codes ".") text
 
 -- E or e with a decimal integer
 abbrev pub IsExponent : List ℕ → Type 0
-IsExponent text = (whole : List ℕ) × IsDecimal whole × ((text ≡ 69 ∷ whole) ⊎ (text ≡ 101 ∷ whole))
+IsExponent text = (whole : List ℕ) × IsDecimal whole × ((text ≡ capital_e ∷ whole) ⊎ (text ≡ small_e ∷ whole))
 
 -- a decimal integer, then a fraction or an exponent or both
 pub record IsReal (text : List ℕ) : Type 0 where

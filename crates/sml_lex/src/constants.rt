@@ -4,7 +4,7 @@ ghost use Rattle.std.specs.Option.{MatchOption, option_to_list};
 ghost use Rattle.sml_lex.specs.Numbers.{magnitude, integer_value, word_value};
 ghost use Rattle.sml_lex.specs.Strings.{IsString, IsStringValue, IsCharacter, IsCharacterValue};
 
-use crate::bytes::{behind, starts, starts_both};
+use crate::bytes::{behind, starts_with, starts_with_both};
 use crate::fault::Memory;
 use crate::items::item;
 use crate::numbers::{magnitude_of, word_value_of};
@@ -17,7 +17,7 @@ pub fn integer(text: &[u8]) -> Option<i64>
 {
     match magnitude_of(text) {
         Some(value) if value < 9_223_372_036_854_775_808 => {
-            if starts(text, b'~') {
+            if starts_with(text, b'~') {
                 Some(-(value as i64))
             } else {
                 Some(value as i64)
@@ -38,7 +38,7 @@ pub fn word(text: &[u8]) -> Option<u64>
 pub fn character(text: &[u8]) -> Option<u8>
     ensures { MatchOption result (IsCharacter text.now → ⊥) (IsCharacterValue text.now) }
 {
-    if !starts_both(text, b'#', b'"') {
+    if !starts_with_both(text, b'#', b'"') {
         return None;
     }
     match scan(behind(text, 1)) {
@@ -68,13 +68,13 @@ pub fn string(alloc: Global, text: &[u8]) -> Result<Option<Vec<u8>>, Memory>
     ensures { IfOk result (λ value. MatchOption value (IsString text.now → ⊥) (λ characters. IsStringValue text.now characters.items)) }
 {
     let mut value = Vec::new(alloc);
-    if !starts(text, b'"') {
+    if !starts_with(text, b'"') {
         return Ok(None);
     }
     let mut bytes = 1;
     'items: loop {
         let rest = behind(text, bytes);
-        if starts(rest, b'"') {
+        if starts_with(rest, b'"') {
             if bytes + 1 == text.len() {
                 return Ok(Some(value));
             }

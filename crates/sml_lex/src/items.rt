@@ -6,7 +6,7 @@ ghost use Rattle.sml_lex.specs.Numbers.{number};
 ghost use Rattle.sml_lex.specs.Strings.{is_plain, is_escape_letter, escape_value};
 ghost use Rattle.sml_lex.specs.StringReading.{gap_at, control_at, decimal_at, hexadecimal_at, escape_at, item_at, element};
 
-use crate::bytes::{behind, digit, hex_digit, starts, white};
+use crate::bytes::{behind, is_digit, is_hex_digit, is_white, starts_with};
 use crate::numbers::number_of;
 
 /// How many bytes an item of a string has, and the character that it stands for; a gap stands for none.
@@ -16,7 +16,7 @@ pub struct Element {
     pub value: Option<u8>,
 }
 
-fn plain(byte: u8) -> bool
+fn is_plain(byte: u8) -> bool
     ensures { result ≡ is_plain byte }
 {
     byte >= b' ' && byte <= b'~' && !(byte == b'"' || byte == b'\\')
@@ -44,7 +44,7 @@ fn are_digits(text: &[u8]) -> bool
     ensures { result ≡ all_are is_digit text.now }
 {
     for byte in text {
-        if !digit(*byte) {
+        if !is_digit(*byte) {
             return false;
         }
     }
@@ -55,7 +55,7 @@ fn are_hex_digits(text: &[u8]) -> bool
     ensures { result ≡ all_are is_hex_digit text.now }
 {
     for byte in text {
-        if !hex_digit(*byte) {
+        if !is_hex_digit(*byte) {
             return false;
         }
     }
@@ -127,10 +127,10 @@ fn gap(text: &[u8]) -> Option<Element>
     ensures { result ≡ element (gap_at text.now) }
 {
     let mut count = 0;
-    while count < text.len() && white(text[count]) {
+    while count < text.len() && is_white(text[count]) {
         count += 1;
     }
-    if starts(behind(text, count), b'\\') {
+    if starts_with(behind(text, count), b'\\') {
         Some(Element {
             bytes: count + 2,
             value: None,
@@ -158,9 +158,9 @@ fn escape(text: &[u8]) -> Option<Element>
         control(&text[1..])
     } else if byte == b'u' {
         hexadecimal(&text[1..])
-    } else if digit(byte) {
+    } else if is_digit(byte) {
         decimal(text)
-    } else if white(byte) {
+    } else if is_white(byte) {
         gap(text)
     } else {
         None
@@ -177,7 +177,7 @@ pub fn item(text: &[u8]) -> Option<Element>
     let byte = text[0];
     if byte == b'\\' {
         escape(&text[1..])
-    } else if plain(byte) {
+    } else if is_plain(byte) {
         Some(Element {
             bytes: 1,
             value: Some(byte),

@@ -2,7 +2,7 @@
 ghost use Rattle.std.specs.Prelude.{◌≡◌, if◌then◌else◌};
 ghost use Rattle.sml_lex.specs.Machine.{first_state, real_state, digit_or, hex_digit_or_dead, name_byte_or, sign_or_dead, dot_or_dead, name_state, part_state, tilde_state, zero_state, negative_zero_state, word_mark_state, fraction_state, exponent_state, step_state, kind_at};
 
-use crate::bytes::{digit, hex_digit, letter, mark, name_byte, sign};
+use crate::bytes::{is_digit, is_hex_digit, is_letter, is_mark, is_name_byte, is_sign};
 use crate::token::Kind;
 
 /// What was read of a token so far.
@@ -49,19 +49,19 @@ pub enum State {
 fn first(byte: u8) -> State
     ensures { result ≡ first_state byte }
 {
-    if letter(byte) {
+    if is_letter(byte) {
         State::Name
     } else if byte == b'0' {
         State::Zero
-    } else if digit(byte) {
+    } else if is_digit(byte) {
         State::Digits
     } else if byte == b'\'' {
         State::Variable
     } else if byte == b'~' {
         State::Tilde
-    } else if sign(byte) {
+    } else if is_sign(byte) {
         State::Sign
-    } else if mark(byte) {
+    } else if is_mark(byte) {
         State::Mark
     } else if byte == b'.' {
         State::OneDot
@@ -86,25 +86,29 @@ fn in_real(byte: u8) -> State
 fn on_digit(next: State, other: State, byte: u8) -> State
     ensures { result ≡ digit_or next other byte }
 {
-    if digit(byte) { next } else { other }
+    if is_digit(byte) { next } else { other }
 }
 
 fn on_hex_digit(next: State, byte: u8) -> State
     ensures { result ≡ hex_digit_or_dead next byte }
 {
-    if hex_digit(byte) { next } else { State::Dead }
+    if is_hex_digit(byte) {
+        next
+    } else {
+        State::Dead
+    }
 }
 
 fn on_name_byte(next: State, other: State, byte: u8) -> State
     ensures { result ≡ name_byte_or next other byte }
 {
-    if name_byte(byte) { next } else { other }
+    if is_name_byte(byte) { next } else { other }
 }
 
 fn on_sign(next: State, byte: u8) -> State
     ensures { result ≡ sign_or_dead next byte }
 {
-    if sign(byte) { next } else { State::Dead }
+    if is_sign(byte) { next } else { State::Dead }
 }
 
 fn on_dot(next: State, byte: u8) -> State
@@ -128,7 +132,7 @@ fn in_name(next: State, reserved: bool, byte: u8) -> State
 fn behind_dot(byte: u8) -> State
     ensures { result ≡ part_state byte }
 {
-    if letter(byte) {
+    if is_letter(byte) {
         State::LongName
     } else {
         on_sign(State::LongSign, byte)

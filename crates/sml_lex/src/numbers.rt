@@ -3,13 +3,13 @@ ghost use Rattle.std.specs.Prelude.{◌≡◌, ◌+◌, ◌*◌, ◌^◌, ◌<�
 ghost use Rattle.std.specs.Option.{MatchOption};
 ghost use Rattle.sml_lex.specs.Numbers.{digit_value, number, magnitude, word_value, is_some_below, fits};
 
-use crate::bytes::{behind, digit, starts, starts_both};
+use crate::bytes::{behind, is_digit, starts_with, starts_with_both};
 use crate::token::Kind;
 
 fn value_of_digit(byte: u8) -> u8
     ensures { result ≡ digit_value byte }
 {
-    if digit(byte) {
+    if is_digit(byte) {
         byte - b'0'
     } else if byte >= b'A' && byte <= b'F' {
         byte - 55
@@ -47,12 +47,12 @@ pub fn number_of(digits: &[u8], base: u64) -> Option<u64>
 pub fn magnitude_of(text: &[u8]) -> Option<u64>
     ensures { MatchOption result (2 ^ 64 ≤ magnitude text.now) (λ value. value ≡ magnitude text.now) }
 {
-    let digits = if starts(text, b'~') {
+    let digits = if starts_with(text, b'~') {
         behind(text, 1)
     } else {
         text
     };
-    if starts_both(digits, b'0', b'x') {
+    if starts_with_both(digits, b'0', b'x') {
         number_of(behind(digits, 2), 16)
     } else {
         number_of(digits, 10)
@@ -64,7 +64,7 @@ pub fn word_value_of(text: &[u8]) -> Option<u64>
     ensures { MatchOption result (2 ^ 64 ≤ word_value text.now) (λ value. value ≡ word_value text.now) }
 {
     let digits = behind(text, 2);
-    if starts(digits, b'x') {
+    if starts_with(digits, b'x') {
         number_of(behind(digits, 1), 16)
     } else {
         number_of(digits, 10)

@@ -4,9 +4,11 @@ ghost use Rattle.std.specs.Option.{MatchOption};
 ghost use Rattle.std.specs.Result.{MatchResult};
 ghost use Rattle.sml_lex.specs.Bytes.{starts_white};
 ghost use Rattle.sml_lex.specs.Strings.{opens_string, opens_character};
-ghost use Rattle.sml_lex.specs.Pieces.{after_comments, opens_comment, IsPiece, IsFault};
+ghost use Rattle.sml_lex.specs.Comments.{opens_comment};
+ghost use Rattle.sml_lex.specs.CommentReading.{after_comments};
+ghost use Rattle.sml_lex.specs.Pieces.{IsPiece, IsFault};
 
-use crate::bytes::{behind, stand, starts, starts_both, white};
+use crate::bytes::{behind, is_white, stand_at, starts_with, starts_with_both};
 use crate::fault::Code;
 use crate::longest::{Lexeme, longest};
 use crate::numbers::is_within_limit;
@@ -31,10 +33,10 @@ fn comment_end(bytes: &[u8], start: usize) -> Option<usize>
     let mut depth: usize = 1;
     let mut place = start;
     while place < bytes.len() {
-        if stand(bytes, place, b'(', b'*') {
+        if stand_at(bytes, place, b'(', b'*') {
             depth += 1;
             place += 2;
-        } else if stand(bytes, place, b'*', b')') {
+        } else if stand_at(bytes, place, b'*', b')') {
             place += 2;
             if depth == 1 {
                 return Some(place);
@@ -132,13 +134,13 @@ pub fn first_piece(rest: &[u8]) -> Result<Piece, Stop>
     requires { 0 < length rest.now }
     ensures { MatchResult result (IsPiece rest.now) (IsFault rest.now) }
 {
-    if white(rest[0]) {
+    if is_white(rest[0]) {
         Ok(Piece::Blank)
-    } else if starts_both(rest, b'(', b'*') {
+    } else if starts_with_both(rest, b'(', b'*') {
         comment_piece(rest)
-    } else if starts(rest, b'"') {
+    } else if starts_with(rest, b'"') {
         string_piece(rest)
-    } else if starts_both(rest, b'#', b'"') {
+    } else if starts_with_both(rest, b'#', b'"') {
         character_piece(rest)
     } else {
         token_piece(rest)

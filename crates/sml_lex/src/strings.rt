@@ -5,7 +5,7 @@ ghost use Rattle.sml_lex.specs.Bytes.{starts_with};
 ghost use Rattle.sml_lex.specs.Strings.{break_of, IsBroken};
 ghost use Rattle.sml_lex.specs.StringReading.{IsQuoted, count_of, earlier_of};
 
-use crate::bytes::{behind, starts};
+use crate::bytes::{behind, starts_with};
 use crate::fault::Code;
 use crate::items::item;
 use crate::token::Stop;
@@ -72,7 +72,7 @@ pub fn scan(text: &[u8]) -> Result<Extent, Stop>
     let mut first = None;
     'items: loop {
         let rest = behind(text, bytes);
-        if starts(rest, b'"') {
+        if starts_with(rest, b'"') {
             return Ok(Extent {
                 bytes: bytes + 1,
                 characters,

@@ -24,13 +24,6 @@ unfolding firsts_after
 firsts-append seen [] ns = refl
 firsts-append seen (m ∷ ms) ns = firsts-append (cond (stands naming m seen) seen (seen ++ m ∷ [])) ms ns
 
--- one name more
-pub firsts-push : (seen ms : List Name) (n : Name)
-    → firsts_after naming seen (ms ++ (n ∷ []))
-    ≡ (let s : List Name = firsts_after naming seen ms in cond (stands naming n s) s (s ++ n ∷ []))
-unfolding firsts_after
-firsts-push seen ms n = firsts-append seen ms (n ∷ [])
-
 pub appear-bound : (k : ℕ) → appear_type (type_of (Bound k)) ≡ []
 unfolding appear_type
 appear-bound k = ap appear_type (type_of-bound k)

@@ -1,5 +1,5 @@
 -- Copies of types with other types for their variables and other names, variant by variant.
-use Rattle.std.proofs.Common.{◌≡◌, ℕ, suc, List, [], ◌∷◌, map, refl, ap, ◌∙◌, sym, decimal, Vec, Global}
+use Rattle.std.proofs.Common.{◌≡◌, ℕ, suc, Result, Ok, Err, IfOk, List, [], ◌∷◌, map, refl, ap, ◌∙◌, sym, decimal, Vec, Global}
 use Rattle.std.specs.declared.rc.Rc.{Rc}
 use Rattle.sml_objects.specs.Objects as O
 use Rattle.sml_objects.specs.Initial.{Name}
@@ -56,3 +56,8 @@ module _ (b f : ℕ → O.MlType Name) (r : Name → Name) where
       type_of-name m us
       ∙ (λ i. O.app (O.name (k i)) ((ap types_of e ∙ types-copy (parts_of ts.items)) i))
       ∙ ap copy (sym (type_of-name n ts))
+
+pub shared-type : {E : Type 0} (r : Result (Rc MlType Global) E) (ty : MlType) (u : O.MlType Name) → type_of ty ≡ u
+    → IfOk r (λ t. t.value ≡ ty) → IfOk r (λ t. type_of t.value ≡ u)
+shared-type (Ok t) ty u e h = ap type_of h ∙ e
+shared-type (Err x) ty u e h = h

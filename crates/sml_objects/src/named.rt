@@ -15,6 +15,7 @@ use crate::renamings::Renaming;
 use indexmap::IndexSet;
 use sml_lex::fault::Memory;
 use std::alloc::Global;
+use std::rc::Rc;
 
 /// An object in which names stand.
 pub trait Named {
@@ -43,7 +44,8 @@ impl Named for MlType {
     }
 
     fn rename(&self, alloc: Global, by: &Renaming) -> Result<MlType, Memory> {
-        renamed_type(alloc, self, by)
+        // The copy has no other owner.
+        Rc::into_inner(renamed_type(alloc, self, by)?).ok_or(Memory)
     }
 }
 

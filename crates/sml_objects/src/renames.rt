@@ -51,8 +51,8 @@ pub(crate) fn renamed_type<M: NameMap + Drop>(
     alloc: Global,
     ty: &MlType,
     by: &M,
-) -> Result<MlType, Memory>
-    ensures { IfOk result (λ t. type_of t ≡ O.rename_type (M.gives by.now) (type_of ty.now)) }
+) -> Result<Rc<MlType>, Memory>
+    ensures { IfOk result (λ t. type_of t.value ≡ O.rename_type (M.gives by.now) (type_of ty.now)) }
 {
     replaced(alloc, ty, &Renamed { by })
 }
@@ -66,10 +66,7 @@ pub(crate) fn renamed_scheme<M: NameMap + Drop>(
 {
     let variables = Vec::from_slice(alloc, scheme.variables.as_slice())?;
     let body = renamed_type(alloc, &scheme.body, by)?;
-    Ok(Scheme {
-        variables,
-        body: Rc::new(alloc, body)?,
-    })
+    Ok(Scheme { variables, body })
 }
 
 fn renamed_schemes<M: NameMap + Drop>(

@@ -31,23 +31,38 @@ pub(crate) trait Replacement {
 
 /// The type with what stands for its variables and its names.
 #[cycle(replaced)]
-pub(crate) fn replaced<R: Replacement>(alloc: Global, ty: &MlType, by: &R) -> Result<MlType, Memory>
-    ensures { IfOk result (λ t. type_of t ≡ replace_type (R.bound_gives by.now) (R.free_gives by.now) (O.rename_type (R.name_gives by.now) (type_of ty.now))) }
+pub(crate) fn replaced<R: Replacement>(
+    alloc: Global,
+    ty: &MlType,
+    by: &R,
+) -> Result<Rc<MlType>, Memory>
+    ensures { IfOk result (λ t. type_of t.value ≡ replace_type (R.bound_gives by.now) (R.free_gives by.now) (O.rename_type (R.name_gives by.now) (type_of ty.now))) }
 {
     match ty {
-        MlType::Bound(variable) => by.bound(*variable),
-        MlType::Free(variable) => by.free(*variable),
-        MlType::Row(parts) => Ok(MlType::Row(replaced_parts(alloc, parts, by)?)),
+        MlType::Bound(variable) => shared(alloc, by.bound(*variable)?),
+        MlType::Free(variable) => shared(alloc, by.free(*variable)?),
+        MlType::Row(parts) => {
+            let parts = replaced_parts(alloc, parts, by)?;
+            shared(alloc, MlType::Row(parts))
+        }
         MlType::Arrow(from, to) => {
             let from = replaced(alloc, from, by)?;
             let to = replaced(alloc, to, by)?;
-            Ok(MlType::Arrow(Rc::new(alloc, from)?, Rc::new(alloc, to)?))
+            shared(alloc, MlType::Arrow(from, to))
         }
         MlType::Name(name, parts) => {
             let parts = replaced_parts(alloc, parts, by)?;
-            Ok(MlType::Name(by.name(*name), parts))
+            shared(alloc, MlType::Name(by.name(*name), parts))
         }
     }
+}
+
+// Out of line, so that the frames of the recursion have no room for a type.
+#[inline(never)]
+fn shared(alloc: Global, ty: MlType) -> Result<Rc<MlType>, Memory>
+    ensures { IfOk result (λ t. t.value ≡ ty) }
+{
+    Ok(Rc::new(alloc, ty)?)
 }
 
 #[cycle(replaced)]
@@ -60,8 +75,7 @@ fn replaced_parts<R: Replacement>(
 {
     let mut copies = Vec::new(alloc);
     for part in parts {
-        let copy = replaced(alloc, part, by)?;
-        copies.push(Rc::new(alloc, copy)?)?;
+        copies.push(replaced(alloc, part, by)?)?;
     }
     Ok(copies)
 }

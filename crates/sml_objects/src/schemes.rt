@@ -21,8 +21,7 @@ pub fn instantiate(alloc: Global, scheme: &Scheme, from: u32) -> Result<Rc<MlTyp
     if scheme.variables.is_empty() && !has_bound(&scheme.body) {
         return Ok(scheme.body.clone()?);
     }
-    let copy = replaced(alloc, &scheme.body, &Instance { from })?;
-    Ok(Rc::new(alloc, copy)?)
+    replaced(alloc, &scheme.body, &Instance { from })
 }
 
 #[cycle(has_bound)]
@@ -98,8 +97,7 @@ fn closed(alloc: Global, ty: &Rc<MlType>, places: &IndexSet<u32>) -> Result<Sche
         let body = ty.clone()?;
         return Ok(Scheme { variables, body });
     }
-    let copy = replaced(alloc, ty, &Closing { places })?;
-    let body = Rc::new(alloc, copy)?;
+    let body = replaced(alloc, ty, &Closing { places })?;
     Ok(Scheme { variables, body })
 }
 

@@ -142,6 +142,25 @@ fn sizes_of_shared_types_are_found_soon(rt: HostRuntime) -> Result<(), Fail> {
     Ok(())
 }
 
+/// A variable in 10,000 lists.
+#[test]
+fn deep_types_fit_the_stack(rt: HostRuntime) -> Result<(), Fail> {
+    let alloc = rt.alloc();
+    let mut ty = Rc::new(alloc, MlType::Free(1))?;
+    for _ in 0..10_000 {
+        ty = applied(alloc, Initial::List, ty)?;
+    }
+    assert_eq!(rt; size_up_to(&ty, 1_000_000), 10_001);
+    assert!(rt; !admits_equality(&ty));
+    let scheme = close(alloc, &ty)?;
+    assert_eq!(rt; scheme.variables.len(), 1);
+    let instance = instantiate(alloc, &scheme, 0)?;
+    let by = Renaming::new(alloc);
+    let renamed = instance.rename(alloc, &by)?;
+    assert_eq!(rt; renamed.names(alloc)?.len(), 1);
+    Ok(())
+}
+
 #[test]
 fn variables_are_numbered_by_first_appearance(rt: HostRuntime) -> Result<(), Fail> {
     let alloc = rt.alloc();

@@ -4,5 +4,6 @@ pub mod Settled
 pub mod Unique
 pub mod Readings
 pub mod Paths
+pub mod Within
 pub mod Sound
 pub mod Specified

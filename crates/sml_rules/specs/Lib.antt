@@ -1,3 +1,4 @@
+pub mod Every
 pub mod Lookups
 pub mod Rules
 pub mod Matching

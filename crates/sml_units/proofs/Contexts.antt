@@ -22,19 +22,19 @@ shows_same f g outer inner C h s = record {
 pub shows_outer : (outer : Env Name) → Shows no_local outer empty_env outer
 shows_outer outer = record { structures_are = λ x. refl; types_are = λ x. refl; values_are = λ x. refl }
 
-value-values : (C : Env Name) (x : Id) (σ : Scheme Name) → values (extend_env C (one_value x σ)) ≡ put x σ (values C)
+pub value-values : (C : Env Name) (x : Id) (σ : Scheme Name) → values (extend_env C (one_value x σ)) ≡ put x σ (values C)
 value-values (env ss ts vs) x σ = refl
 
-value-types : (C : Env Name) (x : Id) (σ : Scheme Name) → types (extend_env C (one_value x σ)) ≡ types C
+pub value-types : (C : Env Name) (x : Id) (σ : Scheme Name) → types (extend_env C (one_value x σ)) ≡ types C
 value-types (env ss ts vs) x σ = refl
 
 value-structures : (C : Env Name) (x : Id) (σ : Scheme Name) → structures (extend_env C (one_value x σ)) ≡ structures C
 value-structures (env ss ts vs) x σ = refl
 
-type-values : (C : Env Name) (x : Id) (σ : Scheme Name) → values (extend_env C (one_type x σ)) ≡ values C
+pub type-values : (C : Env Name) (x : Id) (σ : Scheme Name) → values (extend_env C (one_type x σ)) ≡ values C
 type-values (env ss ts vs) x σ = refl
 
-type-types : (C : Env Name) (x : Id) (σ : Scheme Name) → types (extend_env C (one_type x σ)) ≡ put x σ (types C)
+pub type-types : (C : Env Name) (x : Id) (σ : Scheme Name) → types (extend_env C (one_type x σ)) ≡ put x σ (types C)
 type-types (env ss ts vs) x σ = refl
 
 type-structures : (C : Env Name) (x : Id) (σ : Scheme Name) → structures (extend_env C (one_type x σ)) ≡ structures C

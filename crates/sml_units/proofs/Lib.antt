@@ -6,6 +6,7 @@ pub mod Dotting
 pub mod Seals
 pub mod Maps
 pub mod Contexts
+pub mod Specifying
 pub mod ExpAnswers
 pub mod Numbers
 pub mod Projects

@@ -1,17 +1,24 @@
 -- What the functions of elaboration give, as answers of readings.
-use Rattle.std.specs.Prelude.{◌≡◌, ℕ, Result, Ok, Err, Option, Some, None, List, [], map}
+use Rattle.std.specs.Prelude.{◌≡◌, ◌<◌, ◌+◌, ℕ, length, true, ◌∷◌, Result, Ok, Err, Option, Some, None, List, [], map}
+use Rattle.std.specs.Option.{is_some}
 use Rattle.sml_lex.specs.declared.fault.Place.{Place}
 use Rattle.sml_lex.specs.Faults as F
 use Rattle.sml_lex.specs.Faults.{fault_of}
-use Rattle.sml_lex.specs.declared.fault.Code.TheVariants.{E3}
-use Rattle.sml_tree.specs.Trees.{Id, LongId}
+use Rattle.sml_lex.specs.declared.fault.Code.TheVariants.{E3, N2}
+use Rattle.sml_tree.specs.Trees.{Id, LongId, Spec}
 use Rattle.sml_objects.specs.Maps.{lookup}
-use Rattle.sml_objects.specs.Objects.{MlType, MlTypes, Scheme, Env, free, mono, structures, types, values, find_structure, one_value, one_type}
-use Rattle.sml_objects.specs.Initial.{Name}
-use Rattle.sml_objects.specs.Views.{entries_of, type_of, types_of, scheme_of}
+use Rattle.sml_objects.specs.Objects.{MlType, MlTypes, Scheme, Env, Sig, Basis, names_basis, names_sig, empty_env, free, mono, structures, types, values, find_structure, one_value, one_type}
+use Rattle.sml_objects.specs.Initial.{Name, initial, made, naming}
+use Rattle.sml_objects.specs.declared.objects.Basis as PB
+use Rattle.sml_objects.specs.declared.objects.Sig as PG
+use Rattle.sml_objects.specs.declared.objects.TyName.{TyName}
+use Rattle.sml_rules.specs.Every.{Every}
+use Rattle.sml_rules.specs.Rules.{Item, a_type, a_value, item_of, Specified, sum_from}
+use Rattle.sml_units.specs.declared.signatures.Specified as PS
+use Rattle.sml_objects.specs.Views.{entries_of, type_of, types_of, scheme_of, env_of, name_of, maker_of}
 use Rattle.sml_rules.specs.Readings as R
 use Rattle.sml_rules.specs.Lookups.{find_at, entry, no_path}
-use Rattle.sml_rules.specs.Answers.{Reading, refused, accepted, fault_at}
+use Rattle.sml_rules.specs.Answers.{Reading, refused, accepted, fault_at, give, ◌>>=◌, test, fault}
 use Rattle.sml_units.specs.declared.top_fault.TopFault.{TopFault}
 use Rattle.sml_units.specs.declared.top_fault.TopFault.TheVariants.{Memory, Fault}
 use Rattle.sml_units.specs.declared.locals.Locals.{Locals}
@@ -90,3 +97,51 @@ LeadsTo view C p path (Err (Fault f)) =
 -- no local variable hides what the long identifier finds
 abbrev pub IsFree : Numbers → LongId → Type 0
 IsFree locals x = x.path ≡ [] → locals x.last ≡ None
+
+-- what else the names of the unit are: those with a lower number
+abbrev pub IsBelow : ℕ → ℕ → Name → Type 0
+IsBelow unit count (initial k) = Unit {0}
+IsBelow unit count (made u k a q) = u ≡ unit → k < count
+
+-- the program's basis as one of the definition, where the unit's names have numbers below their count
+pub record IsBasisOf (p : PB.Basis) (B : Basis Name) : Type 0 where
+  pub body_is : B.body ≡ env_of p.env
+  pub count_is : B.count ≡ length p.names.items
+  pub below : Every (IsBelow (maker_of p.unit) (length p.names.items)) (names_basis B)
+
+abbrev pub no_signature : Sig Name
+no_signature = record { names = []; body = empty_env }
+
+abbrev pub signature_of : PG.Sig → Sig Name
+signature_of s = record { names = map name_of s.names.items; body = env_of s.body }
+
+-- what was specified stands in the environment, and nothing else
+pub record Tells (seen : List Item) (E : Env Name) : Type 0 where
+  pub type_stands : (t : Id) → Specified (a_type t) seen → is_some (lookup t (types E)) ≡ true
+  pub type_specified : (t : Id) → is_some (lookup t (types E)) ≡ true → Specified (a_type t) seen
+  pub value_stands : (x : Id) → Specified (a_value x) seen → is_some (lookup x (values E)) ≡ true
+  pub value_specified : (x : Id) → is_some (lookup x (values E)) ≡ true → Specified (a_value x) seen
+
+abbrev pub names_in : Option TyName → List Name
+names_in None = []
+names_in (Some n) = name_of n ∷ []
+
+abbrev pub specified_of : PS.Specified → Sig Name
+specified_of s = record { names = names_in s.name; body = component_of s.component }
+
+-- one specification, and that it isn't among those seen
+abbrev pub read_new : ℕ → Basis Name → List Item → Spec Place → Reading Place (Sig Name)
+read_new unit B seen q = do
+  S ← R.read_spec naming unit B q
+  u ← test (¬ (Specified (item_of q) seen)) (fault N2 (R.place_of q))
+  give S
+
+-- the sum of the signature and what is read
+abbrev pub summed : Sig Name → Reading Place (List (Sig Name)) → Reading Place (Sig Name)
+summed T m = do
+  Ss ← m
+  give (sum_from T Ss)
+
+-- its names have numbers below the count with its own
+abbrev pub IsNumbered : ℕ → ℕ → PS.Specified → Type 0
+IsNumbered unit count s = Every (IsBelow unit (count + length (names_in s.name))) (names_sig (specified_of s))

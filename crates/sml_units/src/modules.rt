@@ -1,5 +1,18 @@
 //! Top-level declarations (the Definition, section 5.7).
 
+ghost use Rattle.std.specs.Prelude.{◌≡◌, ◌≤◌, ◌+◌, length};
+ghost use Rattle.sml_lex.specs.declared.fault.Code.TheVariants.{Q3};
+ghost use Rattle.sml_lex.specs.declared.fault.Place.{Place};
+ghost use Rattle.sml_tree.specs.Trees as T;
+ghost use Rattle.sml_tree.specs.Views.{dec_of, core_dec_of};
+ghost use Rattle.sml_objects.specs.Objects as O;
+ghost use Rattle.sml_objects.specs.Initial.{Name, naming};
+ghost use Rattle.sml_objects.specs.Views.{env_of, maker_of, sig_of};
+ghost use Rattle.sml_rules.specs.Answers.{test, fault};
+ghost use Rattle.sml_rules.specs.Readings.{read_dec, read_top};
+ghost use Rattle.sml_units.specs.Elaborated.{Answers, IsBasisOf};
+ghost use Rattle.sml_units.specs.Runs.{beginning};
+
 use crate::expressions::{all_declared, declared};
 use crate::lookups::Context;
 use crate::matching::matches;
@@ -7,7 +20,7 @@ use crate::signatures::signature;
 use crate::top_fault::{TopFault, plain_fault};
 use sml_lex::fault::{Code, Place, Warning};
 use sml_objects::objects::{Basis, Env, Sig};
-use sml_tree::bare::{BareDec, SealedStructure};
+use sml_tree::bare::{BareDec, CoreDec, SealedStructure};
 use std::alloc::Global;
 use std::rc::Rc;
 
@@ -22,29 +35,63 @@ pub fn topdec(
     alloc: Global,
     basis: &Basis,
     dec: &BareDec,
-) -> Result<(Basis, Vec<Warning>), TopFault> {
-    let own = match dec {
-        BareDec::Core(dec) => {
-            let empty = Env::new(alloc);
-            let context = Context {
-                outer: &basis.env,
-                inner: &empty,
-            };
-            let component = declared(alloc, &context, dec)?;
-            let mut env = Env::new(alloc);
-            component.put_into(&mut env)?;
-            Basis {
-                unit: basis.unit,
-                names: Vec::new(alloc),
-                env,
-            }
-        }
-        BareDec::Structure(structure) => sealed(alloc, basis, structure)?,
+) -> Result<(Basis, Vec<Warning>), TopFault>
+    ensures { (B : O.Basis Name) (d : T.CoreDec Place) → IsBasisOf basis.now B → dec_of dec.now ≡ T.core d
+        → Answers (λ r. sig_of r.0) result (read_top naming beginning (maker_of basis.now.unit) B (T.core d)) }
+{
+    let own = match own_basis(alloc, basis, dec) {
+        Ok(own) => own,
+        Err(fault) => return Err(fault),
     };
+    match few_names(basis, &own) {
+        Ok(_) => Ok((own, Vec::new(alloc))),
+        Err(fault) => Err(fault),
+    }
+}
+
+/// That the unit makes not too many names with these.
+fn few_names(basis: &Basis, own: &Basis) -> Result<(), TopFault>
+    ensures { Answers (λ u. u) result (test (length basis.now.names.items + length own.now.names.items ≤ 1048576) (fault Q3 beginning)) }
+{
     if own.names.len() > MOST_NAMES || basis.names.len() > MOST_NAMES - own.names.len() {
         return Err(plain_fault(Code::Q3, START));
     }
-    Ok((own, Vec::new(alloc)))
+    Ok(())
+}
+
+fn own_basis(alloc: Global, basis: &Basis, dec: &BareDec) -> Result<Basis, TopFault>
+    ensures { (B : O.Basis Name) (d : T.CoreDec Place) → B.body ≡ env_of basis.now.env → dec_of dec.now ≡ T.core d
+        → Answers sig_of result (read_dec naming (maker_of basis.now.unit) B (T.core d)) }
+{
+    match dec {
+        BareDec::Core(dec) => core_basis(alloc, basis, dec),
+        BareDec::Structure(structure) => sealed(alloc, basis, structure),
+    }
+}
+
+/// What a declaration of the core binds; it makes no name.
+fn core_basis(alloc: Global, basis: &Basis, dec: &CoreDec) -> Result<Basis, TopFault>
+    ensures { (B : O.Basis Name) → B.body ≡ env_of basis.now.env
+        → Answers sig_of result (read_dec naming (maker_of basis.now.unit) B (T.core (core_dec_of dec.now))) }
+{
+    let inner = Env::new(alloc);
+    let context = Context {
+        outer: &basis.env,
+        inner: &inner,
+    };
+    let component = match declared(alloc, &context, dec) {
+        Ok(component) => component,
+        Err(fault) => return Err(fault),
+    };
+    let mut env = Env::new(alloc);
+    match component.put_into(&mut env) {
+        Ok(_) => Ok(Basis {
+            unit: basis.unit,
+            names: Vec::new(alloc),
+            env,
+        }),
+        Err(_) => Err(TopFault::Memory),
+    }
 }
 
 /// A structure sealed by a signature.

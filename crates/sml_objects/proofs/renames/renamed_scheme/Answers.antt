@@ -9,5 +9,5 @@ returns g c =
     let f = g.M.NameMap.gives c.args.by.now in
     λ i. record {
       variables = (c.in_ok-variables.ensures.items ∙ c.as_slice.ensures.value) i;
-      body = (ap type_of c.in_ok-new.ensures.ok ∙ c.in_ok-body.ensures ∙ ap (λ u. rename_type f (type_of u)) c.deref.ensures) i;
+      body = (c.in_ok-body.ensures ∙ ap (λ u. rename_type f (type_of u)) c.deref.ensures) i;
     }

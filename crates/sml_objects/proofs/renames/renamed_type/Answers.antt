@@ -6,4 +6,4 @@ use Rattle.sml_objects.proofs.renames.renamed_type.Goals as goal
 
 pub returns : goal.returns
 returns g c =
-    subst (λ u. IfOk c.replaced.result (λ t. type_of t ≡ u)) (replace-none (rename_type (g.M.NameMap.gives c.args.by.now) (type_of c.args.ty.now))) c.replaced.ensures
+    subst (λ u. IfOk c.replaced.result (λ t. type_of t.value ≡ u)) (replace-none (rename_type (g.M.NameMap.gives c.args.by.now) (type_of c.args.ty.now))) c.replaced.ensures

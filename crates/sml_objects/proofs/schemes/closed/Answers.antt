@@ -21,4 +21,4 @@ returns c =
     let t = type_of c.args.ty.now.value in
     close-by keys c.resize.new.self.items t (type_of c.in_ok-body-2.body.value) c.requires
     (filled c.len.result (length keys) c.new-variables.result.items c.resize.new.self.items _ c.new-variables.ensures.items c.new-variables.ensures.len c.in_ok-resize.ensures.items c.len.ensures.len)
-    (ap type_of c.in_ok-body-2.ensures.ok ∙ c.in_ok-copy.ensures ∙ ap (assign (λ v. O.bound (place_among v keys))) (rename_type-id (type_of c.deref.result.now) ∙ ap type_of c.deref.ensures))
+    (c.in_ok-body-2.ensures ∙ ap (assign (λ v. O.bound (place_among v keys))) (rename_type-id (type_of c.deref.result.now) ∙ ap type_of c.deref.ensures))

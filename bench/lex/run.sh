@@ -7,7 +7,7 @@ mkdir -p "$work/crates/lex_bench/src"
 cp "$here/../../HANDLES" "$work/"
 rm -rf "$work/crates/sml_lex"
 cp -r "$here/../../crates/sml_lex" "$work/crates/"
-cp "$here/main.rt" "$work/crates/lex_bench/src/"
+cp "$here/main.rt.in" "$work/crates/lex_bench/src/main.rt"
 printf 'sml_lex:\nlex_bench: sml_lex\n' > "$work/crates.txt"
 (cd "$work/crates/sml_lex" && rt lib > "$work/log" 2>&1)
 (cd "$work/crates/lex_bench" && rt run < /dev/null >> "$work/log" 2>&1)

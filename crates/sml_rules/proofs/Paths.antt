@@ -3,15 +3,15 @@ use Rattle.std.specs.Prelude.{◌≡◌, ◌⊎◌, ℕ, List, [], ◌∷◌}
 use mathlib.Core.Path.{refl, sym, ap, subst, ◌∙◌, path_j}
 use mathlib.Core.List.{map, map-id, head-eq_of_cons-eq, tail-eq_of_cons-eq}
 use mathlib.Core.Logic.{inl, inr}
-use std.Equiv.{◌≃◌, id_equiv, Iso, equiv_to_iso, iso_to_equiv}
+use std.Equiv.{◌≃◌, id_equiv, equiv_to_iso, iso_to_equiv}
 use std.Univalence.{equiv_j}
 use Rattle.sml_tree.specs.Trees.{Dec}
 use Rattle.sml_objects.specs.Names.{Naming}
-use Rattle.sml_objects.specs.Objects.{Sig, Basis, empty_env, names_basis, rename_sig, rename_basis}
+use Rattle.sml_objects.specs.Objects.{Sig, Basis, empty_env, names_basis}
 use Rattle.sml_objects.specs.Alike.{Renaming, IsFixed, AlikeOver}
 use Rattle.sml_rules.specs.Answers.{Answer, refused, accepted}
 use Rattle.sml_rules.specs.Readings.{read_top}
-use Rattle.sml_rules.proofs.Renaming.{Fixes, fixes-id}
+use Rattle.sml_rules.proofs.Renaming.{fixes-id}
 use Rattle.sml_rules.proofs.Worlds.{Over, Keeps, moved}
 use Rattle.sml_rules.proofs.Settled.{Supported, pair_supported, supported_named, mapped, same_value, settled_alone}
 use Rattle.sml_rules.proofs.Readings.{sig_supported, basis_supported, read_top_settled}

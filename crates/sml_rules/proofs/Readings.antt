@@ -1,18 +1,18 @@
 -- Each reading is settled by its basis, up to the names that it makes.
 use Rattle.std.specs.Prelude.{◌≡◌, ◌≤◌, ◌+◌, ℕ, List, [], ◌∷◌, length}
-use mathlib.Core.Path.{refl, sym, ap, ap₂, ◌∙◌}
+use mathlib.Core.Path.{refl, sym, ◌∙◌}
 use mathlib.Core.List.{◌++◌}
-use Rattle.sml_lex.specs.declared.fault.Code.TheVariants.{E7, N2, Q3}
-use Rattle.sml_tree.specs.Trees.{Id, Spec, Dec, type_spec, val_spec, core, sealed}
+use Rattle.sml_lex.specs.declared.fault.Code.TheVariants.{N2, Q3}
+use Rattle.sml_tree.specs.Trees.{Spec, Dec, type_spec, val_spec, core, sealed}
 use Rattle.sml_objects.specs.Names.{Naming}
-use Rattle.sml_objects.specs.Objects.{MlType, Env, Sig, Basis, empty_env, one_type, one_value, one_structure, extend, mono, named, Outside, rename_sig, rename_env, rename_basis, names_sig, names_env, names_basis}
+use Rattle.sml_objects.specs.Objects.{Env, Sig, Basis, empty_env, one_type, one_structure, extend, mono, named, Outside, rename_sig, rename_env, rename_basis, names_sig, names_env, names_basis}
 use Rattle.sml_rules.specs.Rules.{IsNew, apart, sum_of, Item, item_of, Specified}
-use Rattle.sml_rules.specs.Answers.{Answer, Reading, refused, accepted, After, give, ◌>>=◌, test, any, fault}
-use Rattle.sml_rules.specs.Readings.{IsSmall, read_ty, read_core, read_cores, place_of, read_spec, read_specs, read_match, read_dec, read_top}
+use Rattle.sml_rules.specs.Answers.{Answer, refused, accepted, give, ◌>>=◌, test, any, fault}
+use Rattle.sml_rules.specs.Readings.{read_cores, place_of, read_spec, read_specs, read_match, read_dec, read_top}
 use Rattle.sml_rules.proofs.Renaming.{Fixes, fixed_sig, fixed_env, fixed_basis, rename_sigs, names_sigs, fixed_sigs}
 use Rattle.sml_rules.proofs.Worlds.{Over, exchange, exchange-other, alike_names}
-use Rattle.sml_rules.proofs.Settled.{Rel, Supported, pair_supported, supported_named, Covers, Settled, mapped, carried, outside-left, outside-right, outside-append, by_equation, by_function, reindexed, bind_settled, settled_alone}
-use Rattle.sml_rules.proofs.Unique.{One, give_one, bind_one, test_one, read_ty_one, read_core_one, read_cores_one, read_match_one}
+use Rattle.sml_rules.proofs.Settled.{Rel, Supported, pair_supported, supported_named, Covers, Settled, mapped, outside-left, outside-right, outside-append, by_equation, by_function, reindexed, bind_settled}
+use Rattle.sml_rules.proofs.Unique.{give_one, bind_one, test_one, read_ty_one, read_core_one, read_cores_one, read_match_one}
 
 abbrev pub sig_supported : Supported Sig
 sig_supported = record { rename = rename_sig; names = names_sig; fixed = fixed_sig }

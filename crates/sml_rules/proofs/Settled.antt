@@ -1,8 +1,8 @@
 -- Relations whose answer is settled by the context, up to the choice of names outside it.
-use Rattle.std.specs.Prelude.{◌≡◌, ℕ, List, [], ◌∷◌}
-use mathlib.Core.Path.{refl, sym, ap, subst, ◌∙◌, path_j}
+use Rattle.std.specs.Prelude.{◌≡◌, List, [], ◌∷◌}
+use mathlib.Core.Path.{refl, sym, ◌∙◌, path_j}
 use Rattle.sml_objects.specs.Names.{Naming}
-use Rattle.sml_rules.specs.Answers.{Answer, Reading, refused, accepted, After, ◌>>=◌}
+use Rattle.sml_rules.specs.Answers.{Answer, refused, accepted, After, ◌>>=◌}
 use Rattle.sml_objects.specs.Objects.{Outside}
 use Rattle.sml_rules.proofs.Worlds.{Over, Named}
 use Rattle.sml_rules.proofs.Renaming.{Fixes, fixes-left, fixes-right, fixes-id}

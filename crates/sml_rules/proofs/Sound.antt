@@ -1,5 +1,5 @@
 -- What a reading accepts is derived by the rules.
-use Rattle.std.specs.Prelude.{◌≡◌, ◌≤◌, ◌⊎◌, ◌+◌, ℕ, List, [], ◌∷◌, length, Option, Some, None, IsSome, cond}
+use Rattle.std.specs.Prelude.{◌≡◌, ◌+◌, ℕ, List, [], ◌∷◌, length, Option, Some, None, IsSome, cond}
 use mathlib.Core.Path.{refl, sym, ap, ap₂, subst, ◌∙◌}
 use mathlib.Core.Logic.{inl, inr}
 use mathlib.Core.List.{◌++◌}
@@ -11,14 +11,13 @@ use Rattle.sml_lex.specs.Faults.{Fault}
 use Rattle.sml_tree.specs.Trees.{Id, LongId, Exp, Exps, Ty, Tys, Spec, CoreDec, Dec, number, name, tuple, bracket, function, no_exp, and_exp, constructor, product, arrow_to, bracket_ty, no_ty, and_ty, type_spec, val_spec, val_dec, type_dec, core, sealed}
 use Rattle.sml_objects.specs.Names.{Naming}
 use Rattle.sml_objects.specs.Maps.{Map, lookup, put, join, by_order, order_of}
-use Rattle.sml_objects.specs.Objects as O
-use Rattle.sml_objects.specs.Objects.{MlType, MlTypes, Scheme, Env, Structures, Sig, Basis, bound, free, app, no_type, and_type, env, no_structure, and_structure, structures, types, values, empty_env, extend_env, extend, mono, named, Outside, names_env, names_sig, names_basis}
+use Rattle.sml_objects.specs.Objects.{MlType, MlTypes, Scheme, Env, Structures, Sig, Basis, bound, free, app, no_type, and_type, env, no_structure, and_structure, types, values, empty_env, extend_env, extend, mono, named, names_env, names_sig, names_basis}
 use Rattle.sml_objects.specs.Types.{replace_type, replace_types}
 use Rattle.sml_rules.specs.Lookups.{Found, found, no_path, no_entry}
-use Rattle.sml_rules.specs.Rules.{IsOpen, AreOpen, IsInstance, Means, MeanAll, Has, HaveAll, Declares, DeclareAll, IsNew, Specifies, SpecifyAll, apart, both, sum_from, sum_of, Item, item_of, Specified, AreDistinct}
-use Rattle.sml_rules.specs.Matching.{Realisation, realise_type, realise_scheme, Generalises, HasTypes, HasValues, Enriches, HasStructures, Stands, MovesOnly, is_yes, is_name, realised_by, Matches}
+use Rattle.sml_rules.specs.Rules.{IsOpen, AreOpen, IsInstance, Means, MeanAll, Has, HaveAll, Declares, DeclareAll, IsNew, Specifies, SpecifyAll, apart, both, sum_from, sum_of, Item, item_of, AreDistinct}
+use Rattle.sml_rules.specs.Matching.{Realisation, realise_scheme, Generalises, HasTypes, HasValues, Enriches, Stands, MovesOnly, is_yes, is_name, realised_by, Matches}
 use Rattle.sml_rules.specs.Answers.{Answer, Reading, refused, accepted, After, give, ◌>>=◌, test, any, need}
-use Rattle.sml_rules.specs.Readings.{Typed, read_ty, read_tys, read_exp, read_exps, read_core, read_cores, read_spec, read_specs, read_names, read_types, read_values, read_match, read_dec, read_top}
+use Rattle.sml_rules.specs.Readings.{Typed, read_ty, read_tys, read_exp, read_exps, read_core, read_cores, read_spec, read_specs, read_types, read_values, read_match, read_dec, read_top}
 use Rattle.sml_rules.specs.Sound.{Derives, IsSound}
 use Rattle.sml_rules.proofs.Settled.{Covers, outside-left, outside-right, outside-append}
 use Rattle.sml_rules.proofs.Paths.{alike_refl}

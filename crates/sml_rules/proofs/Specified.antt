@@ -1,20 +1,19 @@
 -- What specifications give does not hang on their places, and is settled by the basis.
 use Rattle.std.specs.Prelude.{◌≡◌, ℕ, List, [], ◌∷◌}
-use mathlib.Core.Path.{refl, sym, ap, ap₂, ◌∙◌}
+use mathlib.Core.Path.{sym, ap, ap₂, ◌∙◌}
 use mathlib.Core.List.{map}
 use Rattle.sml_tree.specs.Trees.{Id, Ty, Tys, Spec, CoreDec, sealed, constructor, product, arrow_to, bracket_ty, no_ty, and_ty, type_spec, val_spec}
 use Rattle.sml_tree.specs.Forget.{forget_ty, forget_tys, forget}
 use Rattle.sml_objects.specs.Names.{Naming}
-use Rattle.sml_objects.specs.Objects.{MlType, MlTypes, Scheme, Env, Sig, Basis, and_type, one_structure, one_type, one_value, extend, mono, named, arrow_of, tuple_of, names_sig, names_basis}
+use Rattle.sml_objects.specs.Objects.{MlType, MlTypes, Env, Sig, Basis, and_type, one_structure, one_type, one_value, extend, mono, named, arrow_of, tuple_of}
 use Rattle.sml_rules.specs.Lookups.{Found, found, no_path, no_entry}
-use Rattle.sml_rules.specs.Rules.{Means, MeanAll, IsNew, Specifies, SpecifyAll, sum_of}
+use Rattle.sml_rules.specs.Rules.{Means, MeanAll, Specifies, SpecifyAll, sum_of}
 use Rattle.sml_rules.specs.Answers.{accepted}
 use Rattle.sml_rules.specs.Readings.{read_top}
 use Rattle.sml_rules.specs.Sound.{Derives}
-use Rattle.sml_rules.proofs.Worlds.{Over}
 use Rattle.sml_rules.proofs.Sound.{bound_by, given, sound_dec}
 use Rattle.sml_rules.proofs.Settled.{Supported, pair_supported, Settled, mapped, by_equation, by_function, reindexed, chain_settled}
-use Rattle.sml_rules.proofs.Readings.{sig_supported, sigs_supported, basis_supported, name_supported, new_settled, extend_holds}
+use Rattle.sml_rules.proofs.Readings.{sig_supported, sigs_supported, basis_supported, new_settled, extend_holds}
 
 mutual
   unfolding Means forget_ty

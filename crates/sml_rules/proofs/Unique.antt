@@ -1,13 +1,13 @@
 -- Readings with one answer.
-use Rattle.std.specs.Prelude.{◌≡◌, ◌⊎◌, ℕ, List, [], ◌∷◌, Option, Some, None}
-use mathlib.Core.Path.{refl, sym, ap, subst, ◌∙◌}
+use Rattle.std.specs.Prelude.{◌≡◌, ℕ, List, [], ◌∷◌}
+use mathlib.Core.Path.{sym, subst, ◌∙◌}
 use mathlib.Core.Logic.{inl, inr}
 use Rattle.sml_lex.specs.declared.fault.Code.{Code}
 use Rattle.sml_lex.specs.Faults.{Fault}
 use Rattle.sml_tree.specs.Trees.{LongId, Exp, Exps, Ty, Tys, CoreDec, number, name, tuple, bracket, function, no_exp, and_exp, constructor, product, arrow_to, bracket_ty, no_ty, and_ty, val_dec, type_dec}
 use Rattle.sml_objects.specs.Names.{Naming}
 use Rattle.sml_objects.specs.Maps.{Map}
-use Rattle.sml_objects.specs.Objects.{Env, Scheme, Sig, MlType, extend_env}
+use Rattle.sml_objects.specs.Objects.{Env, Scheme, Sig, extend_env}
 use Rattle.sml_rules.specs.Lookups.{Found, found, no_path, no_entry}
 use Rattle.sml_rules.specs.Matching.{Realisation}
 use Rattle.sml_rules.specs.Answers.{Answer, Reading, refused, accepted, After, give, ◌>>=◌, test, need}

@@ -1,13 +1,12 @@
 -- What holds of every name of a context holds of every name of what is read in it.
 use Rattle.std.specs.Prelude.{◌≡◌, ◌+◌, ℕ, List, [], ◌∷◌, ◌++◌, Option, Some, None}
-use mathlib.Core.Path.{refl, sym, ap, subst, ◌∙◌}
+use mathlib.Core.Path.{sym, subst}
 use Rattle.std.specs.declared.cmp.Ordering.{Ordering}
 use Rattle.std.specs.declared.cmp.Ordering.TheVariants.{Less, Equal, Greater}
-use Rattle.sml_tree.specs.Trees.{Id, LongId, Exp, Exps, Ty, Tys, Spec, CoreDec, number, name, tuple, bracket, function, no_exp, and_exp, constructor, product, arrow_to, bracket_ty, no_ty, and_ty, type_spec, val_spec, val_dec, type_dec}
+use Rattle.sml_tree.specs.Trees.{Id, LongId, Exp, Exps, Ty, Tys, CoreDec, number, name, tuple, bracket, function, no_exp, and_exp, constructor, product, arrow_to, bracket_ty, no_ty, and_ty, val_dec, type_dec}
 use Rattle.sml_objects.specs.Names.{Naming, int}
 use Rattle.sml_objects.specs.Maps.{Map, lookup, put, join, by_order, order_of}
-use Rattle.sml_objects.specs.Objects as O
-use Rattle.sml_objects.specs.Objects.{MlType, MlTypes, Scheme, Env, Structures, bound, free, app, no_type, and_type, env, no_structure, and_structure, structures, types, values, empty_env, extend_env, put_structure, join_structures, find_structure, mono, one_value, names_head, names_type, names_types, names_map, names_env, names_structures}
+use Rattle.sml_objects.specs.Objects.{MlType, MlTypes, Scheme, Env, Structures, bound, free, app, no_type, and_type, env, no_structure, and_structure, structures, types, values, extend_env, put_structure, join_structures, find_structure, mono, one_value, names_head, names_type, names_types, names_map, names_env, names_structures}
 use Rattle.sml_objects.specs.Types.{replace_type, replace_types, close}
 use Rattle.sml_rules.specs.Lookups.{Found, found, no_path, no_entry, entry, found_in, find_at, value_at, type_at}
 use Rattle.sml_rules.specs.Answers.{accepted}

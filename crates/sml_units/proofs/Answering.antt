@@ -1,5 +1,5 @@
 -- Answers of readings, step by step.
-use Rattle.std.proofs.Common.{◌≡◌, ℕ, List, [], Option, Some, None, Result, Ok, Err, refl, ap, sym, ◌∙◌, subst, inl, inr, OnOk}
+use Rattle.std.proofs.Common.{◌≡◌, List, [], Option, Result, Ok, Err, refl, ap, sym, subst, inl, inr, OnOk}
 use Rattle.sml_lex.specs.declared.fault.Place.{Place}
 use Rattle.sml_lex.specs.declared.fault.Code.{Code}
 use Rattle.sml_lex.specs.declared.fault.Code.TheVariants.{E3}
@@ -8,7 +8,7 @@ use Rattle.sml_lex.specs.Faults.{fault_of}
 use Rattle.sml_tree.specs.Trees.{Id, LongId}
 use Rattle.sml_objects.specs.Objects.{Env, Scheme}
 use Rattle.sml_objects.specs.Initial.{Name}
-use Rattle.sml_rules.specs.Lookups.{Found, find_at, entry, found, no_path, no_entry}
+use Rattle.sml_rules.specs.Lookups.{Found, find_at, no_path}
 use Rattle.sml_rules.specs.Answers.{Answer, Reading, refused, accepted, After, give, ◌>>=◌, test, need, fault_at}
 use Rattle.sml_units.specs.declared.top_fault.TopFault.{TopFault}
 use Rattle.sml_units.specs.declared.top_fault.TopFault.TheVariants.{Memory, Fault}

@@ -1,5 +1,5 @@
 -- Contexts of two layers and local variables, as more is bound.
-use Rattle.std.proofs.Common.{◌≡◌, ℕ, List, [], Option, Some, None, refl, ap, sym, ◌∙◌}
+use Rattle.std.proofs.Common.{◌≡◌, ℕ, Some, refl, ap, sym, ◌∙◌}
 use Rattle.sml_tree.specs.Trees.{Id}
 use Rattle.sml_tree.specs.Views.{ident_of}
 use Rattle.sml_objects.specs.Maps.{lookup, put, order_of}

@@ -1,10 +1,6 @@
 -- Identifiers with dots between them, one more at the end.
-use Rattle.std.proofs.Common.{◌≡◌, ◌<◌, ℕ, List, [], ◌∷◌, ◌++◌, map, take, length, refl, ap, sym, ◌∙◌, append_assoc, arith, Vec, Global}
-use Rattle.std.specs.declared.rc.Rc.{Rc}
-use Rattle.std.proofs.lemmas.List.{take_more}
-use Rattle.std.proofs.lemmas.Grind.{take_at_read}
+use Rattle.std.proofs.Common.{◌≡◌, ◌<◌, ℕ, List, [], ◌∷◌, ◌++◌, map, length, refl, ap, sym, ◌∙◌, append_assoc, arith}
 use Rattle.sml_tree.specs.Trees.{Id}
-use Rattle.sml_tree.specs.Views.{ident_of}
 use Rattle.sml_rules.specs.Answers.{dotted}
 
 pub dotted-more : (x : Id) (xs : List Id) (y : Id) → dotted ((x ∷ xs) ++ y ∷ []) ≡ dotted (x ∷ xs) ++ (46 ∷ y)

@@ -1,13 +1,13 @@
 -- Readings of lists of expressions, one after the other.
-use Rattle.std.proofs.Common.{◌≡◌, ◌<◌, ℕ, ◌+◌, List, [], ◌∷◌, ◌++◌, map, take, drop, length, get_or, Result, Ok, Err, refl, ap, sym, ◌∙◌, subst, arith, append-nil}
+use Rattle.std.proofs.Common.{ℕ, List, [], ◌∷◌, ◌++◌, refl, sym, subst, append-nil}
 use Rattle.sml_lex.specs.declared.fault.Place.{Place}
 use Rattle.sml_lex.specs.Faults as F
 use Rattle.sml_tree.specs.Trees as T
-use Rattle.sml_tree.specs.Views.{exp_of, exps_of}
+use Rattle.sml_tree.specs.Views.{exps_of}
 use Rattle.sml_objects.specs.Objects as O
 use Rattle.sml_objects.specs.Initial.{Name, naming}
 use Rattle.sml_objects.specs.Views.{types_of}
-use Rattle.sml_rules.specs.Answers.{Reading, refused, accepted, give, ◌>>=◌}
+use Rattle.sml_rules.specs.Answers.{refused, accepted}
 use Rattle.sml_rules.specs.Readings.{read_exp, read_exps, typed}
 use Rattle.sml_units.specs.declared.top_fault.TopFault.{TopFault}
 use Rattle.sml_units.proofs.TypeAnswers.{types-more}

@@ -1,3 +1,5 @@
+pub mod Pieces
+pub mod Spelling
 pub mod TypeAnswers
 pub mod Vectors
 pub mod Answering

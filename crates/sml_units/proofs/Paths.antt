@@ -1,5 +1,5 @@
 -- Steps along a path of structures.
-use Rattle.std.proofs.Common.{◌≡◌, ◌<◌, ℕ, ◌+◌, List, [], ◌∷◌, ◌++◌, map, take, drop, length, get_or, refl, ap, sym, ◌∙◌, subst, arith, Option, Some, None}
+use Rattle.std.proofs.Common.{◌≡◌, ◌<◌, ℕ, ◌+◌, List, [], ◌∷◌, ◌++◌, map, take, drop, length, get_or, refl, ap, sym, ◌∙◌, arith, Option, Some, None}
 use Rattle.std.proofs.lemmas.List.{take_more, drop_more}
 use Rattle.std.proofs.Math.Seq.{drop-length}
 use Rattle.sml_tree.specs.Trees.{Id, LongId}

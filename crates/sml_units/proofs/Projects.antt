@@ -10,7 +10,7 @@ use Rattle.sml_tree.specs.Trees as T
 use Rattle.sml_tree.specs.Trees.{Id}
 use Rattle.sml_objects.specs.Names.{Naming}
 use Rattle.sml_objects.specs.Maps.{Map, put, join, by_order, order_of}
-use Rattle.sml_objects.specs.Objects.{Scheme, Env, Structures, Sig, Basis, env, no_structure, and_structure, put_structure, join_structures, extend_env, extend, Outside, rename_sig, names_type, names_sig, names_basis, names_env, names_map, names_structures}
+use Rattle.sml_objects.specs.Objects.{Scheme, Env, Structures, Sig, Basis, env, no_structure, and_structure, put_structure, join_structures, extend_env, Outside, rename_sig, names_type, names_sig, names_basis, names_env, names_map, names_structures}
 use Rattle.sml_rules.specs.Answers.{Answer, refused, accepted}
 use Rattle.sml_rules.specs.Readings.{read_top}
 use Rattle.sml_rules.proofs.Renaming.{Fixes, fixes-left, fixes-right, fixed_sig}

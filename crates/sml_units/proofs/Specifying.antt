@@ -1,5 +1,5 @@
 -- What is specified so far, and new names.
-use Rattle.std.proofs.Common.{◌≡◌, ◌<◌, ◌+◌, ℕ, Bool, true, false, List, [], ◌∷◌, ◌++◌, length, Option, Some, None, refl, ap, sym, ◌∙◌, subst, inl, inr, ◌⊎◌, arith, map}
+use Rattle.std.proofs.Common.{◌≡◌, ◌<◌, ◌+◌, ℕ, true, false, List, [], ◌∷◌, ◌++◌, Option, Some, None, refl, ap, sym, ◌∙◌, subst, inl, inr, ◌⊎◌, arith}
 use Rattle.std.proofs.lemmas.Bool.{true≢false}
 use Rattle.std.specs.Option.{is_some, option_map}
 use Rattle.std.specs.declared.cmp.Ordering.{Ordering}
@@ -7,12 +7,11 @@ use Rattle.std.specs.declared.cmp.Ordering.TheVariants.{Less, Equal, Greater}
 use Rattle.std.proofs.lemmas.Cmp.{nat_list_cmp_total, tied_itself}
 use Rattle.sml_lex.specs.declared.fault.Place.{Place}
 use Rattle.sml_tree.specs.Trees.{Id, Spec, type_spec, val_spec}
-use Rattle.sml_objects.specs.Maps.{lookup, put, order_of}
-use Rattle.sml_objects.specs.Objects.{Env, Scheme, Sig, Basis, env, types, values, one_value, one_type, empty_env, extend_env, extend, mono, named, Outside, names_basis, names_env, names_map, names_type, names_sig}
-use Rattle.sml_objects.specs.Names.{Initial}
+use Rattle.sml_objects.specs.Maps.{lookup, order_of}
+use Rattle.sml_objects.specs.Objects.{Env, Scheme, Sig, Basis, types, values, one_value, one_type, empty_env, extend_env, extend, mono, named, Outside, names_basis, names_env, names_sig}
 use Rattle.sml_objects.specs.Initial.{Name, initial, made, naming}
 use Rattle.sml_rules.specs.Every.{Every}
-use Rattle.sml_rules.specs.Rules.{Item, a_type, a_value, Specified, IsNew, abstract, item_of, both, sum_from}
+use Rattle.sml_rules.specs.Rules.{Item, a_type, a_value, Specified, IsNew, item_of, both, sum_from}
 use Rattle.sml_rules.specs.Answers.{Answer, accepted, refused, After, give, ◌>>=◌}
 use Rattle.sml_rules.specs.Readings.{read_spec, read_specs}
 use Rattle.sml_rules.proofs.Sound.{bound_by, tested, given, not_refused}

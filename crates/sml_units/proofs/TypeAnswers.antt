@@ -1,17 +1,15 @@
 -- Readings of lists of type expressions, one after the other.
-use Rattle.std.proofs.Common.{◌≡◌, ◌<◌, ℕ, ◌+◌, List, [], ◌∷◌, ◌++◌, map, take, drop, length, get_or, Result, Ok, Err, refl, ap, sym, ◌∙◌, subst, arith, append-nil}
-use Rattle.std.proofs.lemmas.List.{drop_more, length-map, get_or-map}
+use Rattle.std.proofs.Common.{◌≡◌, List, [], ◌∷◌, ◌++◌, refl, ap, sym, subst, append-nil}
 use Rattle.sml_lex.specs.declared.fault.Place.{Place}
 use Rattle.sml_lex.specs.Faults as F
 use Rattle.sml_tree.specs.Trees as T
-use Rattle.sml_tree.specs.Views.{ty_of, tys_of}
+use Rattle.sml_tree.specs.Views.{tys_of}
 use Rattle.sml_objects.specs.Objects as O
 use Rattle.sml_objects.specs.Initial.{Name}
 use Rattle.sml_objects.specs.Views.{types_of}
-use Rattle.sml_rules.specs.Answers.{Reading, refused, accepted, give, ◌>>=◌}
+use Rattle.sml_rules.specs.Answers.{refused, accepted}
 use Rattle.sml_rules.specs.Readings.{read_ty, read_tys}
 use Rattle.sml_units.specs.declared.top_fault.TopFault.{TopFault}
-use Rattle.sml_units.proofs.Dotting.{map-more}
 use Rattle.sml_units.proofs.Answering.{then_any, then_refused, gives_so, RefusedBy, refused_on}
 
 -- Whatever the rest answers, all answer: what was read of those before stands in front.

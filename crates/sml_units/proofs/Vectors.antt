@@ -1,5 +1,5 @@
 -- Vectors with and without items.
-use Rattle.std.proofs.Common.{◌≡◌, ◌<◌, ℕ, List, [], ◌∷◌, length, Vec, Global, vec_len, true, false, eqb, ap, sym, ◌∙◌, arith, refl}
+use Rattle.std.proofs.Common.{◌≡◌, List, [], ◌∷◌, length, Vec, Global, vec_len, true, false, eqb, ap, sym, ◌∙◌, arith, refl}
 use Rattle.std.proofs.lemmas.Bool.{eqb-true, eqb-false}
 
 nothing : {A : Type 0} (xs : List A) → length xs ≡ 0 → xs ≡ []

@@ -1,3 +1,4 @@
+pub mod Spelling
 pub mod Text
 pub mod Runs
 pub mod Isolation

@@ -37,7 +37,7 @@ impl Reply {
         warnings: Vec<Warning>,
     ) -> Result<Reply, Memory> {
         let mut lines = Lines::new(alloc);
-        push_number(&mut lines.text, number)?;
+        push_number(&mut lines.text, number as usize)?;
         lines.text.extend_from_slice(b" ok\n")?;
         lines.push_env(alloc, b"", &basis.env)?;
         let Lines { text, .. } = lines;

@@ -1,17 +1,14 @@
-use Rattle.std.proofs.Common.{rules, ◌≡◌, ◌+◌, ◌++◌, ◌∷◌, ℕ, suc, [], map, take, drop, length, ap, ◌∙◌, sym, subst, Ok, Err, Some, Vec, Global, arith, List, ◌<◌, get_or, refl}
-use Rattle.std.specs.declared.rc.Rc.{Rc}
+use Rattle.std.proofs.Common.{rules, ◌≡◌, ◌+◌, ◌∷◌, ℕ, suc, [], map, drop, length, ap, ◌∙◌, sym, subst, Err, Some, arith, List, ◌<◌, get_or, refl}
 use Rattle.sml_tree.specs.Trees as T
 use Rattle.sml_tree.specs.Trees.{Id}
 use Rattle.sml_tree.specs.Views.{ident_of, exp_of, exps_of}
-use Rattle.sml_tree.proofs.TreeViews.{exp_of-number, exp_of-identifier, exp_of-tuple, exp_of-bracket, exp_of-function}
-use Rattle.sml_objects.specs.Objects as O
+use Rattle.sml_tree.proofs.TreeViews.{exp_of-number, exp_of-bracket}
 use Rattle.sml_objects.specs.Objects.{mono, free, one_value, extend_env}
-use Rattle.sml_objects.specs.Initial.{Name, naming}
+use Rattle.sml_objects.specs.Initial.{naming}
 use Rattle.sml_objects.specs.Maps.{order_of}
-use Rattle.sml_objects.specs.Views.{env_of, type_of, types_of}
-use Rattle.sml_objects.specs.declared.objects.MlType.{MlType}
+use Rattle.sml_objects.specs.Views.{type_of}
 use Rattle.sml_rules.specs.Answers.{accepted}
-use Rattle.sml_rules.specs.Readings.{read_exp, read_exps, typed}
+use Rattle.sml_rules.specs.Readings.{read_exp, typed}
 use Rattle.sml_units.specs.Elaborated.{Answers, Shows, numbers_in, typed_of, typed_list_of}
 use Rattle.sml_units.proofs.Contexts.{shows_local, shows_same}
 use Rattle.sml_units.proofs.Maps.{at, over, same_at}

@@ -1,16 +1,14 @@
-use Rattle.std.proofs.Common.{◌≡◌, ◌+◌, ◌<◌, ◌∷◌, ℕ, List, [], map, drop, length, get_or, ap, sym, ◌∙◌, subst, refl, Ok, Err, arith}
+use Rattle.std.proofs.Common.{◌≡◌, ◌+◌, ◌<◌, ◌∷◌, ℕ, List, [], map, drop, length, get_or, ap, sym, ◌∙◌, subst, arith}
 use Rattle.std.proofs.lemmas.List.{drop_more}
 use Rattle.std.proofs.Math.ListN.{drop_of_length-le}
-use Rattle.sml_lex.specs.declared.fault.Place.{Place}
-use Rattle.sml_tree.specs.Trees as T
 use Rattle.sml_tree.specs.Views.{core_dec_of}
 use Rattle.sml_tree.specs.declared.bare.CoreDec.{CoreDec}
-use Rattle.sml_objects.specs.Objects.{Env, empty_env, extend_env}
-use Rattle.sml_objects.specs.Initial.{Name, naming}
+use Rattle.sml_objects.specs.Objects.{extend_env}
+use Rattle.sml_objects.specs.Initial.{naming}
 use Rattle.sml_objects.specs.Views.{env_of}
-use Rattle.sml_rules.specs.Answers.{Answer, accepted, refused}
+use Rattle.sml_rules.specs.Answers.{accepted, refused}
 use Rattle.sml_rules.specs.Readings.{read_core, read_cores}
-use Rattle.sml_units.specs.Elaborated.{Answers, Shows, no_local, component_of}
+use Rattle.sml_units.specs.Elaborated.{Shows, no_local, component_of}
 use Rattle.sml_units.proofs.Contexts.{shows_outer, shows_component}
 use Rattle.sml_units.proofs.Answering.{then_any, then_refused, gives, refusal, refuses, refused_on}
 use Rattle.sml_units.proofs.expressions.all_declared.Goals as goal

@@ -1,4 +1,4 @@
-use Rattle.std.proofs.Common.{ℕ, map, drop}
+use Rattle.std.proofs.Common.{map, drop}
 use Rattle.sml_lex.specs.declared.fault.Place.{Place}
 use Rattle.sml_tree.specs.Views.{core_dec_of}
 use Rattle.sml_objects.specs.Objects.{Env, empty_env}

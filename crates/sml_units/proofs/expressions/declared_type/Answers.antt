@@ -1,4 +1,4 @@
-use Rattle.std.proofs.Common.{◌≡◌, ℕ, ap, sym, ◌∙◌, subst, Ok, Err, Global}
+use Rattle.std.proofs.Common.{subst, Err, Global}
 use Rattle.std.specs.declared.rc.Rc.{Rc}
 use Rattle.sml_lex.specs.declared.fault.Code.TheVariants.{E7}
 use Rattle.sml_objects.specs.Objects as O

@@ -1,15 +1,11 @@
-use Rattle.std.proofs.Common.{◌≡◌, ℕ, ap, sym, ◌∙◌, subst, Ok, Err}
+use Rattle.std.proofs.Common.{subst, Err}
 use Rattle.sml_lex.specs.declared.fault.Code.TheVariants.{E7}
-use Rattle.sml_tree.specs.Views.{ident_of, exp_of}
-use Rattle.sml_objects.specs.Initial.{naming}
-use Rattle.sml_objects.specs.Objects.{one_value}
-use Rattle.sml_objects.specs.Types.{close}
 use Rattle.sml_objects.specs.Views.{type_of}
 use Rattle.sml_rules.specs.Answers.{test, fault, accepted}
-use Rattle.sml_rules.specs.Readings.{read_exp, read_core, IsSmall, typed}
+use Rattle.sml_rules.specs.Readings.{read_core, IsSmall}
 use Rattle.sml_units.specs.Elaborated.{Answers, typed_of, component_of}
 use Rattle.sml_units.proofs.Contexts.{shows_same}
-use Rattle.sml_units.proofs.Answering.{first_ends, second, made_so, gives, refused_by}
+use Rattle.sml_units.proofs.Answering.{first_ends, second, made_so, gives}
 use Rattle.sml_units.proofs.expressions.declared_value.Goals as goal
 
 pub returns-in-Err : goal.returns-in-Err

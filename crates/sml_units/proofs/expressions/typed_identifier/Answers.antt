@@ -1,4 +1,4 @@
-use Rattle.std.proofs.Common.{◌≡◌, ℕ, ◌+◌, [], None, Some, length, map, ap, sym, ◌∙◌, subst, refl, Err, Ok, Bor, Global, arith}
+use Rattle.std.proofs.Common.{◌≡◌, ◌+◌, length, ap, sym, ◌∙◌, subst, Bor, Global, arith}
 use Rattle.std.proofs.lemmas.Bool.{eqb-true, eqb-false}
 use Rattle.std.proofs.lemmas.List.{length-map}
 use Rattle.std.specs.declared.rc.Rc.{Rc}
@@ -11,10 +11,10 @@ use Rattle.sml_objects.specs.Types.{instance_from, replace_type}
 use Rattle.sml_objects.specs.Initial.{Name}
 use Rattle.sml_objects.specs.Views.{env_of, scheme_of}
 use Rattle.sml_objects.specs.declared.objects.Scheme.{Scheme}
-use Rattle.sml_rules.specs.Lookups.{Found, found, entry, value_at}
+use Rattle.sml_rules.specs.Lookups.{found, entry, value_at}
 use Rattle.sml_rules.specs.Answers.{need, accepted}
 use Rattle.sml_rules.specs.Readings.{read_exp, typed}
-use Rattle.sml_units.specs.Elaborated.{Answers, IsMade, IsFree, numbers_in, or_else, local_scheme, typed_of}
+use Rattle.sml_units.specs.Elaborated.{IsFree, numbers_in, or_else, local_scheme, typed_of}
 use Rattle.sml_units.proofs.Paths.{value_short, no_items}
 use Rattle.sml_units.proofs.Answering.{first_ends, second, made_so, made_same, gives}
 use Rattle.sml_units.proofs.expressions.typed_identifier.Goals as goal

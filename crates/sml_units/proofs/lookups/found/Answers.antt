@@ -1,4 +1,4 @@
-use Rattle.std.proofs.Common.{◌≡◌, Some, None, sym, subst, ap, refl}
+use Rattle.std.proofs.Common.{sym, subst, refl}
 use Rattle.std.specs.Option.{option_map}
 use Rattle.sml_tree.specs.Views.{long_of}
 use Rattle.sml_objects.specs.Views.{scheme_of}

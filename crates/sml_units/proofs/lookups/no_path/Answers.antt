@@ -1,4 +1,4 @@
-use Rattle.std.proofs.Common.{◌≡◌, map, take, ap, ◌∙◌, sym, subst, Some, List, ℕ}
+use Rattle.std.proofs.Common.{◌≡◌, map, take, ap, ◌∙◌, sym, subst, Some}
 use Rattle.std.proofs.lemmas.List.{take-map}
 use Rattle.sml_lex.specs.declared.fault.Code.TheVariants.{E3}
 use Rattle.sml_tree.specs.Views.{ident_of}

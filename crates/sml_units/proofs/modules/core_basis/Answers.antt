@@ -1,12 +1,10 @@
-use Rattle.std.proofs.Common.{◌≡◌, refl, ℕ, [], map, ap, sym, ◌∙◌, subst, Ok, Err}
-use Rattle.sml_tree.specs.Views.{core_dec_of}
-use Rattle.sml_objects.specs.Objects.{Env, Sig, env, empty_env, extend_env}
-use Rattle.sml_objects.specs.Initial.{Name, naming}
+use Rattle.std.proofs.Common.{◌≡◌, refl, [], map, ap, sym, ◌∙◌, subst}
+use Rattle.sml_objects.specs.Objects.{empty_env, extend_env}
 use Rattle.sml_objects.specs.Views.{env_of, name_of, sig_of}
-use Rattle.sml_rules.specs.Readings.{read_dec, read_core}
+use Rattle.sml_rules.specs.Readings.{read_dec}
 use Rattle.sml_units.specs.declared.expressions.Component.{Component}
 use Rattle.sml_units.specs.declared.expressions.Component.TheVariants.{Value, «Type»}
-use Rattle.sml_units.specs.Elaborated.{Answers, Shows, no_local, component_of}
+use Rattle.sml_units.specs.Elaborated.{Shows, no_local, component_of}
 use Rattle.sml_units.proofs.Contexts.{shows_outer}
 use Rattle.sml_units.proofs.Answering.{first_ends, then_any, gives_so}
 use Rattle.sml_units.proofs.modules.core_basis.Goals as goal

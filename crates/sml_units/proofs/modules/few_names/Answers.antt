@@ -1,6 +1,6 @@
-use Rattle.std.proofs.Common.{◌≡◌, ◌≤◌, ◌+◌, ◌<◌, ◌-◌, ℕ, length, sym, ◌∙◌, arith}
+use Rattle.std.proofs.Common.{◌≡◌, ◌≤◌, ◌+◌, length, ◌∙◌, arith}
 use Rattle.sml_lex.specs.declared.fault.Code.TheVariants.{Q3}
-use Rattle.sml_rules.specs.Answers.{fault, test}
+use Rattle.sml_rules.specs.Answers.{fault}
 use Rattle.sml_units.specs.Runs.{beginning}
 use Rattle.sml_units.proofs.Answering.{refused_by, fails, passes}
 use Rattle.sml_units.proofs.modules.few_names.Goals as goal

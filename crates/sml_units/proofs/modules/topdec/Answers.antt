@@ -1,4 +1,4 @@
-use Rattle.std.proofs.Common.{◌≡◌, ◌≤◌, ◌+◌, ℕ, length, ap, sym, ◌∙◌, subst, Ok, Err, Vec, Global}
+use Rattle.std.proofs.Common.{◌≤◌, ◌+◌, length, ap, sym, ◌∙◌, subst, Err, Vec, Global}
 use Rattle.std.proofs.lemmas.List.{length-map}
 use Rattle.sml_lex.specs.declared.fault.Code.TheVariants.{Q3}
 use Rattle.sml_lex.specs.declared.fault.Warning.{Warning}

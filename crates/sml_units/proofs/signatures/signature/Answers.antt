@@ -1,19 +1,18 @@
-use Rattle.std.proofs.Common.{◌≡◌, ◌+◌, ◌<◌, ◌∷◌, ◌++◌, ℕ, List, [], map, drop, length, get_or, ap, sym, ◌∙◌, subst, refl, Ok, Err, Some, None, Option, arith}
+use Rattle.std.proofs.Common.{◌≡◌, ◌+◌, ◌<◌, ◌∷◌, ℕ, List, [], map, drop, length, get_or, ap, sym, ◌∙◌, subst, arith}
 use Rattle.std.proofs.lemmas.List.{drop_more, length-map, length-append}
 use Rattle.std.proofs.Math.ListN.{drop_of_length-le}
 use Rattle.sml_tree.specs.Views.{spec_of}
 use Rattle.sml_tree.specs.declared.bare.Spec.{Spec}
-use Rattle.sml_objects.specs.Objects.{Env, Sig, Basis, empty_env, extend, extend_env, names_basis, names_sig, names_env, names_map, names_structures}
-use Rattle.sml_objects.specs.Initial.{Name, naming}
+use Rattle.sml_objects.specs.Objects.{empty_env, extend, extend_env, names_basis, names_sig, names_env, names_map, names_structures}
+use Rattle.sml_objects.specs.Initial.{naming}
 use Rattle.sml_objects.specs.Views.{env_of, maker_of, name_of}
 use Rattle.sml_objects.specs.declared.objects.Sig as P
-use Rattle.sml_objects.specs.declared.objects.TyName.{TyName}
 use Rattle.sml_rules.specs.Every.{Every}
 use Rattle.sml_rules.specs.Rules.{item_of, both}
 use Rattle.sml_rules.specs.Answers.{accepted, refused}
 use Rattle.sml_rules.specs.Readings.{read_specs}
 use Rattle.sml_units.specs.declared.signatures.Specified as PS
-use Rattle.sml_units.specs.Elaborated.{Answers, Shows, Tells, IsBelow, no_local, no_signature, signature_of, specified_of, names_in, component_of, summed, read_new}
+use Rattle.sml_units.specs.Elaborated.{Shows, Tells, IsBelow, no_local, no_signature, signature_of, specified_of, names_in, summed, read_new}
 use Rattle.sml_units.proofs.Contexts.{shows_outer, shows_component}
 use Rattle.sml_units.proofs.Specifying.{tells_nothing, tells_more, read_of_new, specs_on, specs_fault, basis_below, sum_below, all_below_more}
 use Rattle.sml_units.proofs.Answering.{then_any, gives, refusal, refuses, refused_on}

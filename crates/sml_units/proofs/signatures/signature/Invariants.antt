@@ -1,4 +1,4 @@
-use Rattle.std.proofs.Common.{◌≡◌, ◌+◌, ℕ, List, [], map, drop, length}
+use Rattle.std.proofs.Common.{◌≡◌, ◌+◌, List, [], map, drop, length}
 use Rattle.sml_lex.specs.declared.fault.Place.{Place}
 use Rattle.sml_tree.specs.Views.{spec_of}
 use Rattle.sml_objects.specs.Objects.{Basis, Sig, names_basis, names_sig}

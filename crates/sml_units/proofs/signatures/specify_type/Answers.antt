@@ -1,14 +1,13 @@
-use Rattle.std.proofs.Common.{◌≡◌, ◌<◌, ◌+◌, arith, ℕ, [], ◌∷◌, length, Option, Some, None, ap, sym, ◌∙◌, subst, refl, Err, Ok, true, false, map}
+use Rattle.std.proofs.Common.{◌≡◌, ◌<◌, ◌+◌, arith, [], ◌∷◌, length, Some, ap, sym, ◌∙◌, subst, true, false, map}
 use Rattle.std.proofs.lemmas.Bool.{true≢false}
-use Rattle.std.specs.Option.{is_some, option_map}
+use Rattle.std.specs.Option.{is_some}
 use Rattle.sml_lex.specs.declared.fault.Code.TheVariants.{N2}
 use Rattle.sml_tree.specs.Views.{ident_of}
 use Rattle.sml_objects.specs.Maps.{lookup}
 use Rattle.sml_objects.specs.Objects.{types, one_type, mono, named, app, name, Sig, names_sig, names_env, names_map, names_type}
-use Rattle.sml_objects.specs.Initial.{Name, made, naming}
-use Rattle.sml_objects.specs.Views.{env_of, scheme_of, maker_of, name_of, type_of, types_of}
+use Rattle.sml_objects.specs.Initial.{Name, made}
+use Rattle.sml_objects.specs.Views.{env_of, maker_of, name_of, type_of, types_of}
 use Rattle.sml_objects.proofs.TypeViews.{type_of-name}
-use Rattle.sml_rules.specs.Rules.{a_type}
 use Rattle.sml_rules.specs.Answers.{accepted, refused, fault, any}
 use Rattle.sml_rules.specs.Readings.{read_spec}
 use Rattle.sml_units.specs.Elaborated.{specified_of, IsBelow}

@@ -1,20 +1,20 @@
-use Rattle.std.proofs.Common.{◌≡◌, ◌+◌, ℕ, [], ◌∷◌, length, Option, Some, None, ap, sym, ◌∙◌, subst, refl, Err, Ok, true, false, map, Global}
+use Rattle.std.proofs.Common.{◌≡◌, ◌+◌, [], length, None, ap, sym, ◌∙◌, subst, Err, true, false, Global}
 use Rattle.std.proofs.lemmas.Bool.{true≢false}
-use Rattle.std.specs.Option.{is_some, option_map}
+use Rattle.std.specs.Option.{is_some}
 use Rattle.std.specs.declared.rc.Rc.{Rc}
 use Rattle.sml_lex.specs.declared.fault.Code.TheVariants.{E7, N2}
 use Rattle.sml_tree.specs.Views.{ident_of}
 use Rattle.sml_objects.specs.Maps.{lookup}
 use Rattle.sml_objects.specs.Objects as O
 use Rattle.sml_objects.specs.Objects.{values, one_value, mono, Sig, names_sig, names_env, names_map, names_type, names_basis}
-use Rattle.sml_objects.specs.Initial.{Name, naming}
-use Rattle.sml_objects.specs.Views.{env_of, scheme_of, maker_of, type_of}
+use Rattle.sml_objects.specs.Initial.{Name}
+use Rattle.sml_objects.specs.Views.{env_of, maker_of, type_of}
 use Rattle.sml_objects.specs.declared.objects.MlType.{MlType}
 use Rattle.sml_rules.specs.Answers.{accepted, refused, fault, test}
 use Rattle.sml_rules.specs.Readings.{read_spec, IsSmall}
 use Rattle.sml_units.specs.Elaborated.{Answers, IsBelow, specified_of, no_local}
 use Rattle.sml_units.proofs.Specifying.{shown, all_below_more}
-use Rattle.sml_units.proofs.Answering.{then_any, then_refused, refused_by, refusal, refuses, first_refused, first_ends, fails, passes, gives, gives_so, refused_on}
+use Rattle.sml_units.proofs.Answering.{then_any, then_refused, refused_by, refusal, refuses, first_ends, fails, passes, gives, gives_so, refused_on}
 use Rattle.sml_rules.specs.Every.{Every}
 use Rattle.sml_rules.proofs.Within as W
 use Rattle.sml_units.proofs.signatures.specify_value.Goals as goal

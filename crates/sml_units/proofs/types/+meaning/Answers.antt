@@ -1,14 +1,13 @@
-use Rattle.std.proofs.Common.{◌≡◌, ◌+◌, ◌++◌, ◌∷◌, ℕ, [], map, take, drop, length, ap, ◌∙◌, sym, subst, Ok, Err, Vec, Global, arith, List, ◌<◌, get_or}
+use Rattle.std.proofs.Common.{◌≡◌, ◌+◌, ◌∷◌, ℕ, [], map, drop, length, ap, ◌∙◌, sym, subst, Err, Vec, Global, arith, List, ◌<◌, get_or}
 use Rattle.std.specs.declared.rc.Rc.{Rc}
 use Rattle.std.proofs.lemmas.List.{drop_more}
 use Rattle.std.proofs.Math.ListN.{drop_of_length-le}
-use Rattle.sml_tree.specs.Trees as T
 use Rattle.sml_tree.specs.Views.{ty_of, tys_of}
 use Rattle.sml_tree.specs.declared.bare.Ty.{Ty}
 use Rattle.sml_tree.proofs.TreeViews.{ty_of-constructor, ty_of-tuple, ty_of-arrow, ty_of-bracket}
 use Rattle.sml_objects.specs.Objects as O
 use Rattle.sml_objects.specs.Initial.{Name}
-use Rattle.sml_objects.specs.Views.{type_of, types_of, row_of}
+use Rattle.sml_objects.specs.Views.{type_of, types_of}
 use Rattle.sml_objects.specs.declared.objects.MlType.{MlType}
 use Rattle.sml_rules.specs.Answers.{accepted}
 use Rattle.sml_rules.specs.Readings.{read_ty, read_tys}

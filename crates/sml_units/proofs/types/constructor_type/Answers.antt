@@ -1,17 +1,15 @@
-use Rattle.std.proofs.Common.{◌≡◌, ℕ, [], length, ap, ◌∙◌, sym, Err, Ok, Bor, Global}
+use Rattle.std.proofs.Common.{◌≡◌, [], ap, ◌∙◌, sym, Err, Bor, Global}
 use Rattle.std.specs.declared.rc.Rc.{Rc}
-use Rattle.sml_lex.specs.declared.fault.Code.TheVariants.{E2, E4}
-use Rattle.sml_tree.specs.Views.{long_of}
+use Rattle.sml_lex.specs.declared.fault.Code.TheVariants.{E4}
 use Rattle.sml_objects.specs.Views.{type_of, scheme_of}
 use Rattle.sml_objects.specs.declared.objects.MlType.{MlType}
 use Rattle.sml_objects.specs.Objects as O
 use Rattle.sml_objects.specs.Initial.{Name}
 use Rattle.sml_objects.specs.declared.objects.Scheme as P
-use Rattle.sml_rules.specs.Lookups.{type_at}
-use Rattle.sml_rules.specs.Answers.{need, fault}
+use Rattle.sml_rules.specs.Answers.{fault}
 use Rattle.sml_rules.specs.Readings.{read_ty}
 use Rattle.sml_units.proofs.Vectors.{empty_items, some_items}
-use Rattle.sml_units.proofs.Answering.{first_ends, second, refused_by, made_so, made_same, then_refused, then_any, fails, passes, gives}
+use Rattle.sml_units.proofs.Answering.{first_ends, second, refused_by, made_so, made_same, then_refused, fails, passes, gives}
 use Rattle.sml_units.proofs.types.constructor_type.Goals as goal
 
 pub returns-in-Err : goal.returns-in-Err

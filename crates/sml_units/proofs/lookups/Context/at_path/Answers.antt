@@ -1,9 +1,8 @@
-use Rattle.std.proofs.Common.{◌≡◌, ◌+◌, ◌<◌, ℕ, [], map, take, drop, length, ap, ◌∙◌, sym, subst, Some, None, arith, get_or, refl, vec_len, Bor, List, Vec, Global, zero-add}
+use Rattle.std.proofs.Common.{◌≡◌, ◌+◌, ◌<◌, ℕ, map, take, length, ap, ◌∙◌, sym, Some, arith, get_or, Bor, List, Vec, Global}
 use Rattle.std.specs.Option.{option_map}
 use Rattle.std.specs.declared.rc.Rc.{Rc}
 use Rattle.std.proofs.lemmas.List.{length-map, get_or-map}
 use Rattle.sml_tree.specs.Views.{ident_of}
-use Rattle.sml_objects.specs.Objects.{structures, find_structure}
 use Rattle.sml_objects.specs.declared.objects.Env.{Env}
 use Rattle.sml_objects.specs.Views.{env_of}
 use Rattle.sml_units.proofs.Paths.{path_on, path_stops, path_ends}

@@ -1,6 +1,5 @@
-use Rattle.std.proofs.Common.{◌≡◌, ℕ, [], map, length, ap, ◌∙◌, sym, subst, Ok, Err, Bor, Global, arith}
+use Rattle.std.proofs.Common.{◌≡◌, length, ap, ◌∙◌, sym, subst, Bor, Global}
 use Rattle.std.proofs.lemmas.Bool.{eqb-true}
-use Rattle.std.specs.Option.{option_map}
 use Rattle.std.specs.declared.rc.Rc.{Rc}
 use Rattle.sml_lex.specs.declared.fault.Code.TheVariants.{E2}
 use Rattle.sml_tree.specs.Views.{ident_of, long_of}
@@ -11,9 +10,9 @@ use Rattle.sml_objects.specs.declared.objects.Scheme.{Scheme}
 use Rattle.sml_objects.specs.Views.{env_of, scheme_of}
 use Rattle.sml_rules.specs.Lookups.{entry, type_at}
 use Rattle.sml_rules.specs.Answers.{need}
-use Rattle.sml_units.specs.Elaborated.{Answers, or_else, local_scheme}
+use Rattle.sml_units.specs.Elaborated.{Answers}
 use Rattle.sml_units.proofs.Paths.{type_short, type_long, no_items}
-use Rattle.sml_units.proofs.Answering.{answers_same, leads_refused}
+use Rattle.sml_units.proofs.Answering.{leads_refused}
 use Rattle.sml_units.proofs.lookups.Context.type_function.Goals as goal
 
 pub returns-then-is_empty : goal.returns-then-is_empty

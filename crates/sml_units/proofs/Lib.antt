@@ -1,3 +1,4 @@
+pub mod Sinks
 pub mod Pieces
 pub mod Spelling
 pub mod TypeAnswers

@@ -1,4 +1,6 @@
 pub mod Spelling
+pub mod Replies
+pub mod Sinks
 pub mod Text
 pub mod Runs
 pub mod Isolation

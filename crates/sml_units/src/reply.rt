@@ -1,5 +1,13 @@
 //! Replies, version 1 of their text.
 
+ghost use Rattle.std.specs.Prelude.{◌≡◌, IfOk, true, false, []};
+ghost use Rattle.sml_lex.specs.Faults.{fault_of};
+ghost use Rattle.sml_objects.specs.Initial.{naming};
+ghost use Rattle.sml_objects.specs.Views.{sig_of};
+ghost use Rattle.sml_rules.specs.Answers as Answers;
+ghost use Rattle.sml_units.specs.Replies.{reply_text, warnings_of, accepts};
+ghost use Rattle.sml_units.specs.Text as T;
+
 use crate::numerals::push_number;
 use crate::sink::{Out, OutFault, write_all};
 use crate::texts::Lines;
@@ -35,7 +43,11 @@ impl Reply {
         number: u32,
         basis: &Basis,
         warnings: Vec<Warning>,
-    ) -> Result<Reply, Memory> {
+    ) -> Result<Reply, Memory>
+        ensures text { IfOk result (λ r. reply_text r false ≡ T.text naming number (Answers.accepted (sig_of basis.now))) }
+        ensures warnings { IfOk result (λ r. warnings_of r ≡ warnings.items) }
+        ensures accepted { IfOk result (λ r. accepts r ≡ true) }
+    {
         let mut lines = Lines::new(alloc);
         push_number(&mut lines.text, number as usize)?;
         lines.text.extend_from_slice(b" ok\n")?;
@@ -45,12 +57,18 @@ impl Reply {
     }
 
     /// The reply to a refused declaration.
-    pub fn refused(number: u32, fault: Fault) -> Reply {
+    pub fn refused(number: u32, fault: Fault) -> Reply
+        ensures text { reply_text result false ≡ T.text naming number (Answers.refused (fault_of fault)) }
+        ensures warnings { warnings_of result ≡ [] }
+        ensures refused { accepts result ≡ false }
+    {
         Reply::Refused(RefusedReply { number, fault })
     }
 
     /// Whether the declaration is accepted.
-    pub fn is_accepted(&self) -> bool {
+    pub fn is_accepted(&self) -> bool
+        ensures { result ≡ accepts self.now }
+    {
         match self {
             Reply::Accepted(_) => true,
             Reply::Refused(_) => false,
@@ -58,7 +76,9 @@ impl Reply {
     }
 
     /// The warnings of the declaration.
-    pub fn warnings(&self) -> &[Warning] {
+    pub fn warnings(&self) -> &[Warning]
+        ensures { result.now ≡ warnings_of self.now }
+    {
         match self {
             Reply::Accepted(reply) => reply.warnings.as_slice(),
             Reply::Refused(_) => &[],

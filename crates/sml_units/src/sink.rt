@@ -1,5 +1,9 @@
 //! Where the text of replies goes.
 
+ghost use Rattle.std.specs.Prelude.{◌≡◌, ◌≤◌, ℕ, List, [], Option, Some, length, IfOk};
+ghost use Rattle.std.specs.Io.KnownBytes.{WriteAppends};
+ghost use Rattle.sml_units.specs.Sinks.{failures_after, Prints};
+
 use std::alloc::Global;
 use std::io::Write;
 
@@ -9,34 +13,58 @@ pub struct OutFault;
 
 /// A sink of bytes. A count of 0 for a nonempty slice counts as a failure.
 pub trait Out {
+    // The bytes taken so far, where they are known.
+    ghost taken: { Self → Option (List ℕ) };
+
+    // How many calls failed. The count stops at the greatest number of its type.
+    ghost failures: { Self → ℕ };
+
     /// Takes some bytes from the front of the slice, and says how many.
-    fn write(&mut self, bytes: &[u8]) -> Result<usize, OutFault>;
+    fn write(&mut self, bytes: &[u8]) -> Result<usize, OutFault>
+        ensures bound { IfOk result (λ n. n ≤ length bytes.now) }
+        ensures appended { WriteAppends (taken self.old) (taken self.new) result bytes.now }
+        ensures counted { failures self.new ≡ failures_after (failures self.old) result bytes.now };
 }
 
 /// A sink that keeps the bytes. A refused growth is a failed call.
 #[derive(Drop)]
 pub struct VecOut {
     bytes: Vec<u8>,
+    failures: u64,
 }
 
 impl VecOut {
-    pub fn new(alloc: Global) -> VecOut {
+    /// A sink that took nothing yet.
+    pub fn new(alloc: Global) -> VecOut
+        ensures bytes { result.bytes.items ≡ [] }
+        ensures failures { result.failures ≡ 0 }
+    {
         VecOut {
             bytes: Vec::new(alloc),
+            failures: 0,
         }
     }
 
     /// The bytes taken so far.
-    pub fn bytes(&self) -> &[u8] {
+    pub fn bytes(&self) -> &[u8]
+        ensures { result.now ≡ self.now.bytes.items }
+    {
         self.bytes.as_slice()
     }
 }
 
 impl Out for VecOut {
+    ghost taken = { λ s. Some s.bytes.items };
+
+    ghost failures = { λ s. s.failures };
+
     fn write(&mut self, bytes: &[u8]) -> Result<usize, OutFault> {
         match self.bytes.extend_from_slice(bytes) {
             Ok(_) => Ok(bytes.len()),
-            Err(_) => Err(OutFault),
+            Err(_) => {
+                self.failures = self.failures.saturating_add(1);
+                Err(OutFault)
+            }
         }
     }
 }
@@ -45,11 +73,19 @@ impl Out for VecOut {
 #[derive(Drop)]
 pub struct StdOut<W: Write> {
     writer: W,
+    failures: u64,
 }
 
 impl<W: Write> StdOut<W> {
-    pub fn new(writer: W) -> StdOut<W> {
-        StdOut { writer }
+    /// A sink that took what the writer holds.
+    pub fn new(writer: W) -> StdOut<W>
+        ensures writer { result.writer ≡ writer }
+        ensures failures { result.failures ≡ 0 }
+    {
+        StdOut {
+            writer,
+            failures: 0,
+        }
     }
 
     /// Flushes the writer.
@@ -62,24 +98,37 @@ impl<W: Write> StdOut<W> {
 }
 
 impl<W: Write> Out for StdOut<W> {
+    ghost taken = { λ s. W.contents s.writer };
+
+    ghost failures = { λ s. s.failures };
+
     fn write(&mut self, bytes: &[u8]) -> Result<usize, OutFault> {
         match self.writer.write(bytes) {
-            Ok(count) => Ok(count),
-            Err(_) => Err(OutFault),
+            Ok(count) => {
+                if count == 0 && !bytes.is_empty() {
+                    self.failures = self.failures.saturating_add(1);
+                }
+                Ok(count)
+            }
+            Err(_) => {
+                self.failures = self.failures.saturating_add(1);
+                Err(OutFault)
+            }
         }
     }
 }
 
 /// Writes the whole slice.
-pub fn write_all<O: Out>(out: &mut O, bytes: &[u8]) -> Result<(), OutFault> {
+pub fn write_all<O: Out>(out: &mut O, bytes: &[u8]) -> Result<(), OutFault>
+    ensures { Prints (O.taken out.old) (O.taken out.new) (O.failures out.old) (O.failures out.new) result bytes.now }
+{
     let mut start = 0;
     while start < bytes.len() {
-        let rest = &bytes[start..];
-        let count = out.write(rest)?;
-        if count == 0 || count > rest.len() {
-            return Err(OutFault);
+        match out.write(&bytes[start..]) {
+            Ok(0) => return Err(OutFault),
+            Ok(count) => start += count,
+            Err(fault) => return Err(fault),
         }
-        start += count;
     }
     Ok(())
 }

@@ -1,5 +1,6 @@
 //! From the words of a command line to a status.
 
+use clap::error::ErrorKind;
 use clap::{Arg, ArgAction, Command, Error};
 use itoa::Buffer;
 use sml_units::manifest::{Manifest, ManifestFault, OrderFault, ProjectCode, ProjectFault};
@@ -128,6 +129,9 @@ fn requested(alloc: Global, words: &[String]) -> Result<Request, Error> {
 
 /// Prints what `clap` says of the command line: its help, or its fault.
 fn usage<O: Out, E: Out>(alloc: Global, error: &Error, out: &mut O, err: &mut E) -> u8 {
+    if error.kind() == ErrorKind::OutOfMemory {
+        return report(&Stop::Memory, err);
+    }
     let Ok(text) = error.to_string(alloc) else {
         return report(&Stop::Memory, err);
     };
@@ -230,8 +234,13 @@ fn say<E: Out>(stop: &Stop, err: &mut E) -> Result<(), OutFault> {
             write_all(err, b"\n")
         }
         Stop::Write => cannot_write(err),
-        Stop::Memory => write_all(err, b"smlcheck: out of memory\n"),
+        Stop::Memory => out_of_memory(err),
     }
+}
+
+/// Says that memory was refused.
+pub fn out_of_memory<E: Out>(err: &mut E) -> Result<(), OutFault> {
+    write_all(err, b"smlcheck: out of memory\n")
 }
 
 /// Says that output failed.

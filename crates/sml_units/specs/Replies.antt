@@ -1,9 +1,10 @@
 -- The text of a stored reply, with its warnings if they are asked for.
-use Rattle.std.specs.Prelude.{ℕ, Bool, true, false, List, [], ◌∷◌, ◌++◌, cond, codes, decimal}
-use Rattle.sml_lex.specs.declared.fault.Place.{Place}
+use Rattle.std.specs.Prelude.{ℕ, Bool, true, false, List, [], ◌++◌, cond, codes, decimal, map}
 use Rattle.sml_lex.specs.declared.fault.Warning.{Warning}
 use Rattle.sml_lex.specs.Faults.{fault_of}
 use Rattle.sml_units.specs.Text.{code_text, meaning, fault_text}
+use Rattle.sml_units.specs.Sinks.{in_turn}
+use Rattle.sml_units.specs.declared.reply.RefusedReply.{RefusedReply}
 use Rattle.sml_units.specs.declared.reply.Reply.{Reply}
 use Rattle.sml_units.specs.declared.reply.Reply.TheVariants.{Accepted, Refused}
 
@@ -12,13 +13,15 @@ warning_text w =
     codes "  warning " ++ (code_text w.code ++ (codes " " ++ (decimal w.place.line ++ (codes "." ++ (decimal w.place.column
     ++ (codes " " ++ (meaning w.code ++ codes "\n")))))))
 
-unfoldable pub warnings_text : List Warning → List ℕ
-warnings_text [] = []
-warnings_text (w ∷ ws) = warning_text w ++ warnings_text ws
+abbrev pub warnings_text : List Warning → List ℕ
+warnings_text ws = in_turn (map warning_text ws)
+
+unfoldable pub refusal_text : RefusedReply → List ℕ
+refusal_text r = decimal r.number ++ fault_text (fault_of r.fault)
 
 unfoldable pub reply_text : Reply → Bool → List ℕ
 reply_text (Accepted r) asked = r.text.items ++ cond asked (warnings_text r.warnings.items) []
-reply_text (Refused r) asked = decimal r.number ++ fault_text (fault_of r.fault)
+reply_text (Refused r) asked = refusal_text r
 
 abbrev pub warnings_of : Reply → List Warning
 warnings_of (Accepted r) = r.warnings.items

@@ -1,5 +1,5 @@
 -- What sinks take. The bytes that a sink took are known or not, as those that a writer holds are.
-use Rattle.std.specs.Prelude.{◌≡◌, ℕ, ◌+◌, ◌-◌, ◌^◌, min, Bool, true, ◌&&◌, cond, nat_eq, nat_lt, List, ◌++◌, length, Option, Result, Ok, Err, MatchResult}
+use Rattle.std.specs.Prelude.{◌≡◌, ℕ, ◌+◌, ◌-◌, ◌^◌, min, Bool, true, ◌&&◌, cond, nat_eq, nat_lt, List, [], ◌∷◌, ◌++◌, length, Option, Result, Ok, Err, MatchResult}
 use Rattle.std.specs.Io.KnownBytes.{Appends}
 
 -- an error, or no byte of some
@@ -21,6 +21,11 @@ pub record TakesBeginning (old new : Option (List ℕ)) (text : List ℕ) : Type
   pub rest : List ℕ
   pub whole : text ≡ beginning ++ rest
   pub taken : Appends old new beginning
+
+-- texts one after the other
+abbrev pub in_turn : List (List ℕ) → List ℕ
+in_turn [] = []
+in_turn (t ∷ ts) = t ++ in_turn ts
 
 -- The sink took the whole text and no call failed, or it took a beginning and then a call failed.
 unfoldable pub Prints : {X E : Type 0} → Option (List ℕ) → Option (List ℕ) → ℕ → ℕ → Result X E → List ℕ → Type 0

@@ -1,8 +1,8 @@
 //! Where the text of replies goes.
 
-ghost use Rattle.std.specs.Prelude.{◌≡◌, ◌≤◌, ℕ, List, [], Option, Some, length, IfOk};
+ghost use Rattle.std.specs.Prelude.{◌≡◌, ◌≤◌, ℕ, List, [], Option, Some, length, map, IfOk};
 ghost use Rattle.std.specs.Io.KnownBytes.{WriteAppends};
-ghost use Rattle.sml_units.specs.Sinks.{failures_after, Prints};
+ghost use Rattle.sml_units.specs.Sinks.{failures_after, in_turn, Prints};
 
 use std::alloc::Global;
 use std::io::Write;
@@ -127,6 +127,19 @@ pub fn write_all<O: Out>(out: &mut O, bytes: &[u8]) -> Result<(), OutFault>
         match out.write(&bytes[start..]) {
             Ok(0) => return Err(OutFault),
             Ok(count) => start += count,
+            Err(fault) => return Err(fault),
+        }
+    }
+    Ok(())
+}
+
+/// Writes the slices, one after the other.
+pub(crate) fn write_each<O: Out>(out: &mut O, parts: &[&[u8]]) -> Result<(), OutFault>
+    ensures { Prints (O.taken out.old) (O.taken out.new) (O.failures out.old) (O.failures out.new) result (in_turn (map (λ p. p.now) parts.now)) }
+{
+    for part in parts {
+        match write_all(out, *part) {
+            Ok(_) => {}
             Err(fault) => return Err(fault),
         }
     }

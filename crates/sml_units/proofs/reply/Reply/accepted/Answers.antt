@@ -1,9 +1,9 @@
-use Rattle.std.proofs.Common.{◌≡◌, List, ℕ, ap, sym, ◌∙◌, ◌++◌, ◌∷◌, [], codes, decimal, append-nil, append_assoc}
-use Rattle.sml_objects.specs.Initial.{Name, naming}
+use Rattle.std.proofs.Common.{◌≡◌, List, ℕ, ap, ◌∙◌, ◌++◌, [], codes, decimal, append-nil, append_assoc}
+use Rattle.sml_objects.specs.Initial.{naming}
 use Rattle.sml_objects.specs.Views.{env_of}
 use Rattle.sml_units.specs.Replies.{reply_text}
 use Rattle.sml_units.specs.Text.{text, environment_text, spell, show_env}
-use Rattle.sml_units.specs.Spelling.{lines_of, and_pieces}
+use Rattle.sml_units.specs.Spelling.{and_pieces}
 use Rattle.sml_units.proofs.reply.Reply.accepted.Goals as goal
 
 pub returns-clause-text : goal.returns-clause-text

@@ -1,5 +1,6 @@
 #!/bin/sh
-# Times the lexer on units of one megabyte: builds a program beside a copy of sml_lex, and prints a line for each unit.
+# Times the lexer on units of one megabyte: builds a program beside a copy of sml_lex, and prints a line for each unit, with the time
+# of the same loop in plain Rust beside it.
 set -e
 here=$(cd "$(dirname "$0")" && pwd)
 work=${1:-$(mktemp -d)}
@@ -12,9 +13,18 @@ printf 'sml_lex:\nlex_bench: sml_lex\n' > "$work/crates.txt"
 (cd "$work/crates/sml_lex" && rt lib > "$work/log" 2>&1)
 (cd "$work/crates/lex_bench" && rt run < /dev/null >> "$work/log" 2>&1)
 python3 "$here/generate.py" "$work/units"
-for unit in "$work"/units/*; do
+rustc -O -o "$work/plain" "$here/plain.rs"
+
+# the milliseconds that a program takes over a unit
+time_of() {
     start=$(date +%s%N)
-    answer=$("$work/crates/lex_bench/out/lex_bench" < "$unit")
+    "$1" < "$2" > "$work/answer"
     end=$(date +%s%N)
-    echo "$(basename "$unit") $(((end - start) / 1000000)) ms: $answer"
+    echo $(((end - start) / 1000000))
+}
+
+for unit in "$work"/units/*; do
+    plain=$(time_of "$work/plain" "$unit")
+    ours=$(time_of "$work/crates/lex_bench/out/lex_bench" "$unit")
+    echo "$(basename "$unit") $ours ms, in plain Rust $plain ms: $(cat "$work/answer")"
 done

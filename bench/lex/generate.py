@@ -15,6 +15,7 @@ UNITS = {
     "source": fill(SOURCE),
     "tildes": fill("~"),
     "letters": fill("a"),
+    "one_letter": fill("x "),
     "spaces": fill(" "),
     "brackets": fill("("),
     "hex_marks": fill("0x"),

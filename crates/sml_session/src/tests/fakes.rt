@@ -1,5 +1,7 @@
 //! Files in memory, and sinks that fail.
 
+ghost use Rattle.std.specs.Prelude.{None};
+
 use crate::session::{Source, SourceFault, session};
 use sml_units::sink::{Out, OutFault, VecOut};
 use std::alloc::{AllocError, Global};
@@ -100,21 +102,24 @@ pub fn repeated(
 pub struct FuseOut {
     pub taken: Vec<u8>,
     pub left: usize,
+    pub failures: u64,
 }
 
 impl Out for FuseOut {
+    ghost taken = { λ _. None };
+
+    ghost failures = { λ s. s.failures };
+
     fn write(&mut self, bytes: &[u8]) -> Result<usize, OutFault> {
-        let Some((first, _)) = bytes.split_first() else {
+        if bytes.is_empty() {
             return Ok(0);
-        };
-        let Some(left) = self.left.checked_sub(1) else {
-            return Err(OutFault);
-        };
-        self.left = left;
-        match self.taken.push(*first) {
-            Ok(_) => Ok(1),
-            Err(_) => Err(OutFault),
         }
+        if self.left > 0 && self.taken.push(bytes[0]).is_ok() {
+            self.left -= 1;
+            return Ok(1);
+        }
+        self.failures = self.failures.saturating_add(1);
+        Err(OutFault)
     }
 }
 
@@ -124,34 +129,44 @@ pub struct HoledOut {
     pub taken: Vec<u8>,
     pub calls_before: usize,
     pub has_failed: bool,
+    pub failures: u64,
 }
 
 impl Out for HoledOut {
+    ghost taken = { λ _. None };
+
+    ghost failures = { λ s. s.failures };
+
     fn write(&mut self, bytes: &[u8]) -> Result<usize, OutFault> {
-        if !self.has_failed {
-            match self.calls_before.checked_sub(1) {
-                Some(before) => self.calls_before = before,
-                None => {
-                    self.has_failed = true;
-                    return Err(OutFault);
-                }
-            }
+        let fails = !self.has_failed && self.calls_before == 0;
+        if fails {
+            self.has_failed = true;
+        } else if self.calls_before > 0 {
+            self.calls_before -= 1;
         }
-        match self.taken.extend_from_slice(bytes) {
-            Ok(_) => Ok(bytes.len()),
-            Err(_) => Err(OutFault),
+        if !fails && self.taken.extend_from_slice(bytes).is_ok() {
+            return Ok(bytes.len());
         }
+        self.failures = self.failures.saturating_add(1);
+        Err(OutFault)
     }
 }
 
-/// Answers that it took so many bytes, and takes none.
+/// Takes nothing.
 #[derive(Drop)]
-pub struct ClaimOut {
-    pub claim: usize,
+pub struct DeafOut {
+    pub failures: u64,
 }
 
-impl Out for ClaimOut {
-    fn write(&mut self, _bytes: &[u8]) -> Result<usize, OutFault> {
-        Ok(self.claim)
+impl Out for DeafOut {
+    ghost taken = { λ _. None };
+
+    ghost failures = { λ s. s.failures };
+
+    fn write(&mut self, bytes: &[u8]) -> Result<usize, OutFault> {
+        if !bytes.is_empty() {
+            self.failures = self.failures.saturating_add(1);
+        }
+        Ok(0)
     }
 }

@@ -13,3 +13,7 @@ pub mod Specifying
 pub mod ExpAnswers
 pub mod Numbers
 pub mod Projects
+pub mod Fitting
+pub mod Realising
+pub mod Matches
+pub mod Sealing

@@ -2,6 +2,7 @@
 #![tactic(auto)]
 
 mod expressions;
+mod instances;
 pub mod isolation;
 mod locals;
 mod lookups;
@@ -11,6 +12,7 @@ pub mod modules;
 mod numerals;
 pub mod project;
 pub mod project_file;
+mod realisations;
 pub mod reply;
 pub mod run;
 mod signatures;

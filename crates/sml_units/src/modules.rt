@@ -1,16 +1,19 @@
 //! Top-level declarations (the Definition, section 5.7).
 
-ghost use Rattle.std.specs.Prelude.{◌≡◌, ◌≤◌, ◌+◌, length};
+ghost use Rattle.std.specs.Prelude.{◌≡◌, ◌≤◌, ◌+◌, length, [], IfOk};
 ghost use Rattle.sml_lex.specs.declared.fault.Code.TheVariants.{Q3};
 ghost use Rattle.sml_lex.specs.declared.fault.Place.{Place};
 ghost use Rattle.sml_tree.specs.Trees as T;
-ghost use Rattle.sml_tree.specs.Views.{dec_of, core_dec_of};
+ghost use Rattle.sml_tree.specs.Views.{dec_of, core_dec_of, ident_of};
+ghost use Rattle.sml_tree.specs.declared.bare.BareDec.TheVariants.{Structure};
 ghost use Rattle.sml_objects.specs.Objects as O;
+ghost use Rattle.sml_objects.specs.Objects.{one_structure};
 ghost use Rattle.sml_objects.specs.Initial.{Name, naming};
 ghost use Rattle.sml_objects.specs.Views.{env_of, maker_of, sig_of};
 ghost use Rattle.sml_rules.specs.Answers.{test, fault};
 ghost use Rattle.sml_rules.specs.Readings.{read_dec, read_top};
-ghost use Rattle.sml_units.specs.Elaborated.{Answers, IsBasisOf};
+ghost use Rattle.sml_rules.specs.Sound.{IsSound};
+ghost use Rattle.sml_units.specs.Elaborated.{Answers, IsBasisOf, IsOwnBasis, IsMade, signature_of};
 ghost use Rattle.sml_units.specs.Runs.{beginning};
 
 use crate::expressions::{all_declared, declared};
@@ -19,8 +22,8 @@ use crate::matching::matches;
 use crate::signatures::signature;
 use crate::top_fault::{TopFault, plain_fault};
 use sml_lex::fault::{Code, Place, Warning};
-use sml_objects::objects::{Basis, Env, Sig};
-use sml_tree::bare::{BareDec, CoreDec, SealedStructure};
+use sml_objects::objects::{Basis, Env, Sig, UnitId};
+use sml_tree::bare::{BareDec, CoreDec, Ident, SealedStructure};
 use std::alloc::Global;
 use std::rc::Rc;
 
@@ -36,8 +39,12 @@ pub fn topdec(
     basis: &Basis,
     dec: &BareDec,
 ) -> Result<(Basis, Vec<Warning>), TopFault>
-    ensures { (B : O.Basis Name) (d : T.CoreDec Place) → IsBasisOf basis.now B → dec_of dec.now ≡ T.core d
-        → Answers (λ r. sig_of r.0) result (read_top naming beginning (maker_of basis.now.unit) B (T.core d)) }
+    ensures reading { (B : O.Basis Name) → IsBasisOf basis.now B
+        → Answers (λ r. sig_of r.0) result (read_top naming beginning (maker_of basis.now.unit) B (dec_of dec.now)) }
+    ensures sound { (B : O.Basis Name) → IsBasisOf basis.now B
+        → IfOk result (λ r. IsSound naming (maker_of basis.now.unit) B (dec_of dec.now) (sig_of r.0)) }
+    ensures own { (B : O.Basis Name) → IsBasisOf basis.now B → IfOk result (λ r. IsOwnBasis basis.now r.0) }
+    ensures no_warnings { IfOk result (λ r. r.1.items ≡ []) }
 {
     let own = match own_basis(alloc, basis, dec) {
         Ok(own) => own,
@@ -60,8 +67,8 @@ fn few_names(basis: &Basis, own: &Basis) -> Result<(), TopFault>
 }
 
 fn own_basis(alloc: Global, basis: &Basis, dec: &BareDec) -> Result<Basis, TopFault>
-    ensures { (B : O.Basis Name) (d : T.CoreDec Place) → B.body ≡ env_of basis.now.env → dec_of dec.now ≡ T.core d
-        → Answers sig_of result (read_dec naming (maker_of basis.now.unit) B (T.core d)) }
+    ensures answer { (B : O.Basis Name) → IsBasisOf basis.now B → Answers sig_of result (read_dec naming (maker_of basis.now.unit) B (dec_of dec.now)) }
+    ensures names { (B : O.Basis Name) → IsBasisOf basis.now B → IfOk result (IsOwnBasis basis.now) }
 {
     match dec {
         BareDec::Core(dec) => core_basis(alloc, basis, dec),
@@ -71,8 +78,10 @@ fn own_basis(alloc: Global, basis: &Basis, dec: &BareDec) -> Result<Basis, TopFa
 
 /// What a declaration of the core binds; it makes no name.
 fn core_basis(alloc: Global, basis: &Basis, dec: &CoreDec) -> Result<Basis, TopFault>
-    ensures { (B : O.Basis Name) → B.body ≡ env_of basis.now.env
+    ensures answer { (B : O.Basis Name) → B.body ≡ env_of basis.now.env
         → Answers sig_of result (read_dec naming (maker_of basis.now.unit) B (T.core (core_dec_of dec.now))) }
+    ensures unit { IfOk result (λ b. b.unit ≡ basis.now.unit) }
+    ensures names { IfOk result (λ b. b.names.items ≡ []) }
 {
     let inner = Env::new(alloc);
     let context = Context {
@@ -95,17 +104,40 @@ fn core_basis(alloc: Global, basis: &Basis, dec: &CoreDec) -> Result<Basis, TopF
 }
 
 /// A structure sealed by a signature.
-fn sealed(alloc: Global, basis: &Basis, structure: &SealedStructure) -> Result<Basis, TopFault> {
-    let body = all_declared(alloc, &basis.env, &structure.body)?;
-    let sig = signature(alloc, basis, &structure.signature.specs)?;
-    matches(alloc, structure.signature.place, &sig, &body)?;
+fn sealed(alloc: Global, basis: &Basis, structure: &SealedStructure) -> Result<Basis, TopFault>
+    ensures answer { (B : O.Basis Name) → IsBasisOf basis.now B
+        → Answers sig_of result (read_dec naming (maker_of basis.now.unit) B (dec_of (Structure structure.now))) }
+    ensures names { (B : O.Basis Name) → IsBasisOf basis.now B → IfOk result (IsOwnBasis basis.now) }
+{
+    let body = match all_declared(alloc, &basis.env, &structure.body) {
+        Ok(body) => body,
+        Err(fault) => return Err(fault),
+    };
+    let sig = match signature(alloc, basis, &structure.signature.specs) {
+        Ok(sig) => sig,
+        Err(fault) => return Err(fault),
+    };
+    match matches(alloc, structure.signature.place, &sig, &body) {
+        Ok(_) => exported(alloc, basis.unit, &structure.name, sig),
+        Err(fault) => Err(fault),
+    }
+}
+
+/// The basis of one structure, which has this signature.
+fn exported(alloc: Global, unit: UnitId, name: &Ident, sig: Sig) -> Result<Basis, TopFault>
+    ensures made { IsMade (record { names = (signature_of sig).names; body = one_structure (ident_of name.now) (signature_of sig).body }) sig_of result }
+    ensures unit { IfOk result (λ b. b.unit ≡ unit) }
+{
     let Sig { names, body } = sig;
+    let Ok(body) = Rc::new(alloc, body) else {
+        return Err(TopFault::Memory);
+    };
+    let Ok(name) = name.clone() else {
+        return Err(TopFault::Memory);
+    };
     let mut env = Env::new(alloc);
-    let body = Rc::new(alloc, body)?;
-    env.with_structure(structure.name.clone()?, body)?;
-    Ok(Basis {
-        unit: basis.unit,
-        names,
-        env,
-    })
+    match env.with_structure(name, body) {
+        Ok(_) => Ok(Basis { unit, names, env }),
+        Err(_) => Err(TopFault::Memory),
+    }
 }

@@ -13,3 +13,4 @@ pub mod Specifying
 pub mod ExpAnswers
 pub mod Numbers
 pub mod Projects
+pub mod Written

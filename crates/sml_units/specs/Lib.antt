@@ -5,3 +5,4 @@ pub mod Text
 pub mod Runs
 pub mod Isolation
 pub mod Elaborated
+pub mod Written

@@ -14,3 +14,5 @@ pub mod ExpAnswers
 pub mod Numbers
 pub mod Projects
 pub mod Written
+pub mod Listings
+pub mod Manifests

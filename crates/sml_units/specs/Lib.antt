@@ -6,3 +6,4 @@ pub mod Runs
 pub mod Isolation
 pub mod Elaborated
 pub mod Written
+pub mod ProjectFiles

@@ -1,6 +1,9 @@
 //! The units that a project lists, and their order.
 
-use sml_lex::fault::Memory;
+ghost use Rattle.std.specs.Prelude.{◌≡◌, ◌≤◌, vec_len};
+ghost use Rattle.sml_units.specs.declared.manifest.ManifestFault.TheVariants.{Memory};
+ghost use Rattle.sml_units.specs.declared.manifest.TheConstants.{MOST_UNITS};
+
 use sml_objects::objects::UnitId;
 use std::alloc::{AllocError, AllocFailed, Global};
 
@@ -39,12 +42,16 @@ pub enum OrderFault {
 }
 
 impl From<AllocError> for ManifestFault {
+    ghost from_gives = { λ _ f. f ≡ Memory };
+
     fn from(_error: AllocError) -> ManifestFault {
         ManifestFault::Memory
     }
 }
 
 impl<T: Drop> From<AllocFailed<T>> for ManifestFault {
+    ghost from_gives = { λ _ f. f ≡ Memory };
+
     fn from(_error: AllocFailed<T>) -> ManifestFault {
         ManifestFault::Memory
     }
@@ -56,11 +63,15 @@ impl<T: Drop> From<AllocFailed<T>> for OrderFault {
     }
 }
 
+/// How many units a project has at most, for now.
+pub(crate) const MOST_UNITS: usize = 1;
+
 /// The units of a project file, in the order listed.
 #[derive(Debug, Drop)]
 pub struct Manifest {
     pub(crate) names: Vec<String>,
     pub(crate) files: Vec<String>,
+    ghost few: { vec_len names ≤ MOST_UNITS },
 }
 
 impl Manifest {

@@ -16,3 +16,4 @@ pub mod Projects
 pub mod Written
 pub mod Listings
 pub mod Manifests
+pub mod InOrder

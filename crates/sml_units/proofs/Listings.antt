@@ -101,8 +101,8 @@ bad_three us w n f r h =
     let u : UnitLine = record { name = n; file = f; needs = [] } in
     subst (λ m. line_fault us m ≡ Some O4) (sym (unremarked w (n ∷ f ∷ []) r))
     (elim (and_cases (bytes_eq w (codes "unit")) (pair_test n f) h) [
-      inl e ↦ subst (λ b. line_fault us (cond b (listing (n ∷ f ∷ [])) bad_form) ≡ Some O4) (sym e) refl
-    | inr e ↦ fault_of_test us (bytes_eq w (codes "unit")) (listing (n ∷ f ∷ [])) (subst (λ b. line_fault us (cond b (lists u) bad_form) ≡ Some O4) (sym (pair-same n f ∙ e)) refl)
+      | inl e ↦ subst (λ b. line_fault us (cond b (listing (n ∷ f ∷ [])) bad_form) ≡ Some O4) (sym e) refl
+      | inr e ↦ fault_of_test us (bytes_eq w (codes "unit")) (listing (n ∷ f ∷ [])) (subst (λ b. line_fault us (cond b (lists u) bad_form) ≡ Some O4) (sym (pair-same n f ∙ e)) refl)
     ])
 
 bad_listing : (us : List UnitLine) (ws : List (List ℕ)) → length ws ≡ 3 → is_remark (get_or ws 0 []) ≡ false

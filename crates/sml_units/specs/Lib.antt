@@ -7,3 +7,4 @@ pub mod Isolation
 pub mod Elaborated
 pub mod Written
 pub mod ProjectFiles
+pub mod Orders

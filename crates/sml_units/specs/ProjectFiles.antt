@@ -123,22 +123,21 @@ pub record IsFirstFault (ls : List (List ℕ)) (f : ProjectFault) : Type 0 where
 unfoldable pub IsFault : List ℕ → ProjectFault → Type 0
 IsFault bytes f = ((most_bytes < length bytes) × (f ≡ record { code = O4; line = 1 })) ⊎ ((length bytes ≤ most_bytes) × IsFirstFault (lines_of bytes) f)
 
-abbrev pub names_of : Manifest → List (List ℕ)
-names_of m = map string_bytes m.names.items
+-- units of these names and files, without needs
+abbrev pub listed_as : List (List ℕ) → List (List ℕ) → List UnitLine
+listed_as [] files = []
+listed_as (name ∷ names) [] = []
+listed_as (name ∷ names) (file ∷ files) = record { name = name; file = file; needs = [] } ∷ listed_as names files
 
-abbrev pub files_of : Manifest → List (List ℕ)
-files_of m = map string_bytes m.files.items
-
--- the units of the manifest are these, in order
-pub record IsListOf (m : Manifest) (us : List UnitLine) : Type 0 where
-  pub names : names_of m ≡ map (λ u. u.name) us
-  pub files : files_of m ≡ map (λ u. u.file) us
+-- the units of a manifest, in the order listed
+abbrev pub units_in : Manifest → List UnitLine
+units_in m = listed_as (map string_bytes m.names.items) (map string_bytes m.files.items)
 
 -- the manifest of bytes in which no line has a fault
 pub record IsManifestOf (bytes : List ℕ) (m : Manifest) : Type 0 where
   pub size : length bytes ≤ most_bytes
   pub clear : (k : ℕ) → k < length (lines_of bytes) → fault_at (lines_of bytes) k ≡ None
-  pub units : IsListOf m (units_of (lines_of bytes))
+  pub units : units_in m ≡ units_of (lines_of bytes)
 
 -- how a project file is answered
 unfoldable pub Answers : List ℕ → Result Manifest ManifestFault → Type 0

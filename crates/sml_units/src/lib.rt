@@ -9,6 +9,7 @@ pub mod manifest;
 mod matching;
 pub mod modules;
 mod numerals;
+pub mod orders;
 pub mod project;
 pub mod project_file;
 pub mod reply;

@@ -1,11 +1,11 @@
 //! The units that a project lists, and their order.
 
-ghost use Rattle.std.specs.Prelude.{◌≡◌, ◌≤◌, vec_len};
+ghost use Rattle.std.specs.Prelude.{◌≡◌, ◌≤◌, map, vec_len, string_bytes};
 ghost use Rattle.sml_units.specs.declared.manifest.ManifestFault.TheVariants.{Memory};
+ghost use Rattle.sml_units.specs.declared.manifest.OrderFault.TheVariants as OF;
 ghost use Rattle.sml_units.specs.declared.manifest.TheConstants.{MOST_UNITS};
 
-use sml_objects::objects::UnitId;
-use std::alloc::{AllocError, AllocFailed, Global};
+use std::alloc::{AllocError, AllocFailed};
 
 /// The code of a fault of a project.
 #[derive(Clone, Copy, PartialEq, Eq, Debug)]
@@ -58,6 +58,8 @@ impl<T: Drop> From<AllocFailed<T>> for ManifestFault {
 }
 
 impl<T: Drop> From<AllocFailed<T>> for OrderFault {
+    ghost from_gives = { λ _ f. f ≡ OF.Memory };
+
     fn from(_error: AllocFailed<T>) -> OrderFault {
         OrderFault::Memory
     }
@@ -72,23 +74,16 @@ pub struct Manifest {
     pub(crate) names: Vec<String>,
     pub(crate) files: Vec<String>,
     ghost few: { vec_len names ≤ MOST_UNITS },
+    ghost paired: { vec_len files ≡ vec_len names },
 }
 
 impl Manifest {
+    ghost use Rattle.sml_units.specs.ProjectFiles.{units_in};
+
     /// The files of the units, as written.
-    pub fn files(&self) -> &[String] {
+    pub fn files(&self) -> &[String]
+        ensures { map string_bytes result.now ≡ map (λ u. u.file) (units_in self.now) }
+    {
         self.files.as_slice()
     }
-}
-
-/// The order of the units: each after its needs, the earliest listed first among those that may come.
-pub fn order(alloc: Global, manifest: &Manifest) -> Result<Vec<UnitId>, OrderFault> {
-    let mut order = Vec::new(alloc);
-    for index in 0..manifest.names.len() {
-        let Ok(index) = u32::try_from(index) else {
-            return Err(OrderFault::Memory);
-        };
-        order.push(UnitId { index })?;
-    }
-    Ok(order)
 }

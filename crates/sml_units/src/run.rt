@@ -117,7 +117,9 @@ fn counted(summary: Summary, reply: &Reply) -> Summary
     ensures refused { result.refused ≡ capped (summary.refused + (if accepts reply.now then 0 else 1)) }
     ensures warnings { result.warnings ≡ capped (summary.warnings + length (warnings_of reply.now)) }
 {
-    let warnings = summary.warnings.saturating_add(reply.warnings().len() as u64);
+    let warnings = summary
+        .warnings
+        .saturating_add(reply.warnings().len() as u64);
     if reply.is_accepted() {
         Summary {
             accepted: summary.accepted.saturating_add(1),

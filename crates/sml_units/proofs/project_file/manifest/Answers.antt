@@ -66,24 +66,24 @@ loop-index-preserved c =
     let within : i < length (lines_of text) = (let same = same_length items (lines_of text) found in let h = c.loop-index-test.true in omega (arith, same, h)) in
     let line = same_word items (lines_of text) i found in
     elim c.match-branch-3.branch [
-      in-PassedOver w ↦ record {
+      | in-PassedOver w ↦ record {
         read =
-        read_passed (lines_of text) i _ _ _ _ (word_at items i) (ap (λ v. map string_bytes v.items) w.names-is) (ap (λ v. map string_bytes v.items) w.files-is) within line
-        (subst (LineGives c.len.result (word_at items i)) w.in-PassedOver.is c.in_ok-read_line.ensures) c.loop-index.invariant.read;
+            read_passed (lines_of text) i _ _ _ _ (word_at items i) (ap (λ v. map string_bytes v.items) w.names-is) (ap (λ v. map string_bytes v.items) w.files-is) within line
+            (subst (LineGives c.len.result (word_at items i)) w.in-PassedOver.is c.in_ok-read_line.ensures) c.loop-index.invariant.read;
         few = subst (λ v. vec_len v ≤ 1) (sym w.names-is) c.loop-index.invariant.few;
       }
-    | in-Listed+in_ok-push-in-Listed+in_ok-push-in-Listed-2 w ↦
-      let gives = subst (LineGives c.len.result (word_at items i)) w.in-Listed.is c.in_ok-read_line.ensures in
-      let first : vec_len c.loop-index.names < 1 = (let l = c.len.ensures in let g = gives.1 in omega (arith, l, g)) in record {
-        read =
-        read_listed (lines_of text) i _ _ _ _ (word_at items i) (string_bytes w.in-Listed.unit.name) (string_bytes w.in-Listed.unit.file)
-        (ap (λ v. map string_bytes v.items) w.names-is ∙ ap (λ l. map string_bytes l) w.in_ok-push-in-Listed.ensures.items ∙ map-append string_bytes c.loop-index.names.items (w.in-Listed.unit.name ∷ []))
-        (ap (λ v. map string_bytes v.items) w.files-is ∙ ap (λ l. map string_bytes l) w.in_ok-push-in-Listed-2.ensures.items ∙ map-append string_bytes c.loop-index.files.items (w.in-Listed.unit.file ∷ []))
-        within line gives.0
-        (let e = length-map c.loop-index.names.items string_bytes in let o = c.loop-index.names.ok.0 in omega (arith, e, o, first))
-        c.loop-index.invariant.read;
-        few = subst (λ v. vec_len v ≤ 1) (sym w.names-is) (let more = w.in_ok-push-in-Listed.ensures.len in omega (arith, more, first));
-      }
+      | in-Listed+in_ok-push-in-Listed+in_ok-push-in-Listed-2 w ↦
+          let gives = subst (LineGives c.len.result (word_at items i)) w.in-Listed.is c.in_ok-read_line.ensures in
+          let first : vec_len c.loop-index.names < 1 = (let l = c.len.ensures in let g = gives.1 in omega (arith, l, g)) in record {
+            read =
+                read_listed (lines_of text) i _ _ _ _ (word_at items i) (string_bytes w.in-Listed.unit.name) (string_bytes w.in-Listed.unit.file)
+                (ap (λ v. map string_bytes v.items) w.names-is ∙ ap (λ l. map string_bytes l) w.in_ok-push-in-Listed.ensures.items ∙ map-append string_bytes c.loop-index.names.items (w.in-Listed.unit.name ∷ []))
+                (ap (λ v. map string_bytes v.items) w.files-is ∙ ap (λ l. map string_bytes l) w.in_ok-push-in-Listed-2.ensures.items ∙ map-append string_bytes c.loop-index.files.items (w.in-Listed.unit.file ∷ []))
+                within line gives.0
+                (let e = length-map c.loop-index.names.items string_bytes in let o = c.loop-index.names.ok.0 in omega (arith, e, o, first))
+                c.loop-index.invariant.read;
+            few = subst (λ v. vec_len v ≤ 1) (sym w.names-is) (let more = w.in_ok-push-in-Listed.ensures.len in omega (arith, more, first));
+          }
     ]
 
 pub returns : goal.returns

@@ -11,7 +11,7 @@ use Rattle.sml_units.specs.declared.manifest.Manifest.{Manifest}
 use Rattle.sml_units.specs.declared.manifest.ManifestFault.{ManifestFault}
 use Rattle.sml_units.specs.declared.manifest.ManifestFault.TheVariants.{Memory, Fault}
 use Rattle.sml_units.specs.declared.manifest.ProjectCode.TheVariants.{O4}
-use Rattle.sml_units.specs.ProjectFiles.{most_bytes, lines_of, UnitLine, passed_over, lists, unit_of, units_of, meaning, line_fault, fault_at, listed_as, Answers, IsFault}
+use Rattle.sml_units.specs.ProjectFiles.{most_bytes, lines_of, UnitLine, passed_over, lists, unit_of, units_of, meaning, line_fault, fault_at, listed_as, IsAnswerTo, IsFault}
 use Rattle.sml_units.proofs.Listings.{units-more, first_listing}
 
 pub listed-more : (ns fs : List (List ℕ)) (n f : List ℕ) → length fs ≡ length ns → listed_as (ns ++ n ∷ []) (fs ++ f ∷ []) ≡ listed_as ns fs ++ record { name = n; file = f; needs = [] } ∷ []
@@ -68,18 +68,18 @@ read_listed ls i names files ns fs line n f d e h is says few read =
       paired = (let a = ap length d in let b = ap length e in let x = length-append names (n ∷ []) in let y = length-append files (f ∷ []) in let p = read.paired in omega (arith, a, b, x, y, p));
     }
 
-pub read_whole : (text : List ℕ) (i : ℕ) (m : Manifest) → length text ≤ most_bytes → length (lines_of text) ≤ i → ReadTo (lines_of text) i (map string_bytes m.names.items) (map string_bytes m.files.items) → Answers text (Ok m)
-unfolding Answers
+pub read_whole : (text : List ℕ) (i : ℕ) (m : Manifest) → length text ≤ most_bytes → length (lines_of text) ≤ i → ReadTo (lines_of text) i (map string_bytes m.names.items) (map string_bytes m.files.items) → IsAnswerTo text (Ok m)
+unfolding IsAnswerTo
 read_whole text i m size all read =
     let ls = lines_of text in record { size = size; clear = λ k h. read.clear k (omega (arith, h, all)); units = read.units ∙ ap units_of (take_all i ls all) }
 
 pub read_to_fault : (text : List ℕ) (i : ℕ) (names files : List (List ℕ)) (line : List ℕ) (g : ManifestFault) → length text ≤ most_bytes → i < length (lines_of text) → line ≡ get_or (lines_of text) i []
-    → ((us : List UnitLine) → length us ≡ length names → line_fault us (meaning line) ≡ Some O4) → ReadTo (lines_of text) i names files → g ≡ Fault (record { code = O4; line = i + 1 }) → Answers text (Err g)
-unfolding Answers IsFault
+    → ((us : List UnitLine) → length us ≡ length names → line_fault us (meaning line) ≡ Some O4) → ReadTo (lines_of text) i names files → g ≡ Fault (record { code = O4; line = i + 1 }) → IsAnswerTo text (Err g)
+unfolding IsAnswerTo IsFault
 read_to_fault text i names files line g size h is bad read e =
     let ls = lines_of text in
     let us = units_of (take i ls) in
-    subst (λ f. Answers text (Err f)) (sym e)
+    subst (λ f. IsAnswerTo text (Err f)) (sym e)
     (inr (
       size,
       record {
@@ -91,14 +91,14 @@ read_to_fault text i names files line g size h is bad read e =
       },
     ))
 
-pub too_long : (text : List ℕ) (g : ManifestFault) → most_bytes < length text → g ≡ Fault (record { code = O4; line = 1 }) → Answers text (Err g)
-unfolding Answers IsFault
-too_long text g h e = subst (λ f. Answers text (Err f)) (sym e) (inl (h, refl))
+pub too_long : (text : List ℕ) (g : ManifestFault) → most_bytes < length text → g ≡ Fault (record { code = O4; line = 1 }) → IsAnswerTo text (Err g)
+unfolding IsAnswerTo IsFault
+too_long text g h e = subst (λ f. IsAnswerTo text (Err f)) (sym e) (inl (h, refl))
 
-pub no_memory : (text : List ℕ) (r : Result Manifest ManifestFault) → IsErrAnd r (λ f. f ≡ Memory) → Answers text r
-unfolding Answers
+pub no_memory : (text : List ℕ) (r : Result Manifest ManifestFault) → IsErrAnd r (λ f. f ≡ Memory) → IsAnswerTo text r
+unfolding IsAnswerTo
 no_memory text (Ok m) h = absurd h
-no_memory text (Err g) h = subst (λ f. Answers text (Err f)) (sym h) tt
+no_memory text (Err g) h = subst (λ f. IsAnswerTo text (Err f)) (sym h) tt
 
 -- there are few lines, so that their numbers fit
 pub few_lines : (text : List ℕ) → length (lines_of text) ≤ length text + 1

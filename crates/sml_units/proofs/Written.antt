@@ -1,7 +1,7 @@
 -- Texts and counts of replies, one after the other.
-use Rattle.std.proofs.Common.{◌<◌, map, take, drop, get_or, ◌≡◌, ℕ, ◌+◌, ◌-◌, ◌^◌, ◌≤◌, min, Bool, true, false, not, cond, List, [], ◌∷◌, ◌++◌, length, Option, Result, Ok, Err, refl, ap, sym, subst, ◌∙◌, append_assoc, arith}
+use Rattle.std.proofs.Common.{◌<◌, map, take, drop, get_or, ◌≡◌, ℕ, ◌+◌, ◌-◌, ◌^◌, ◌≤◌, min, Bool, true, false, not, cond, List, [], ◌∷◌, ◌++◌, length, Option, Result, Ok, Err, is_ok, IfOk, IfErr, refl, ap, sym, subst, ◌∙◌, append_assoc, arith}
 use Rattle.std.specs.List.{count_by, sum_by}
-use Rattle.std.specs.Io.KnownBytes.{Appends}
+use Rattle.std.proofs.lemmas.Bool.{false≢true}
 use Rattle.std.proofs.lemmas.List.{take_all, take_more, flat_map_more}
 use Rattle.std.proofs.lemmas.List.Sums.{sum_by_push}
 use Rattle.sml_units.specs.declared.reply.Reply.{Reply}
@@ -9,10 +9,10 @@ use Rattle.sml_units.specs.declared.project.Replies.{Replies}
 use Rattle.sml_units.specs.declared.project.UnitReplies.{UnitReplies}
 use Rattle.sml_units.specs.declared.run.Summary.{Summary}
 use Rattle.sml_units.specs.declared.run.RunFault.{RunFault}
-use Rattle.sml_units.specs.declared.run.RunFault.TheVariants.{Memory, Write}
+use Rattle.sml_units.specs.declared.run.RunFault.TheVariants.{Write}
 use Rattle.sml_units.specs.Replies.{warnings_of, accepts}
-use Rattle.sml_units.specs.Sinks.{in_turn, Prints, TakesBeginning}
-use Rattle.sml_units.specs.Written.{capped, units_text, replies_of, summary_of, Runs}
+use Rattle.sml_units.specs.Sinks.{in_turn, Prints}
+use Rattle.sml_units.specs.Written.{capped, replies_text, replies_of, summary_of, IsOutcome}
 use Rattle.sml_units.proofs.Sinks.{turn-more, turn-rest}
 
 pub turn-more-at : {A : Type 0} (f : A → List ℕ) (xs : List A) (i : ℕ) (x : A) → i < length xs → x ≡ get_or xs i x → in_turn (map f (take (i + 1) xs)) ≡ in_turn (map f (take i xs)) ++ f x
@@ -59,26 +59,17 @@ replies-next us i u rs k h is own all =
     ap (λ l. replies_of (take i us) ++ l) (take_all k rs all ∙ own) ∙ flat_map_more (λ v. v.replies.items) [] (take i us) u
     ∙ ap replies_of (ap (λ y. take i us ++ y ∷ []) is ∙ sym (take_more us i u h))
 
-pub runs-along : (P Q : Replies → Type 0) → ((rs : Replies) → P rs → Q rs) → (asked : Bool) (a b : Option (List ℕ)) (m n : ℕ) (r : Result Summary RunFault) → Runs P asked a b m n r → Runs Q asked a b m n r
-unfolding Runs
-runs-along P Q f asked a b m n (Ok s) h = record { replies = h.replies; may = f h.replies h.may; taken = h.taken; unfailing = h.unfailing; counted = h.counted }
-runs-along P Q f asked a b m n (Err Memory) h = h
-runs-along P Q f asked a b m n (Err Write) h = record { replies = h.replies; may = f h.replies h.may; taken = h.taken; failing = h.failing }
+pub printed-as : {X E Y F : Type 0} (a b : Option (List ℕ)) (m n : ℕ) (r : Result X E) (q : Result Y F) (text : List ℕ) → is_ok q ≡ is_ok r → Prints a b m n r text → Prints a b m n q text
+unfolding Prints
+printed-as a b m n (Ok x) (Ok y) text e p = p
+printed-as a b m n (Ok x) (Err f) text e p = absurd (false≢true e)
+printed-as a b m n (Err x) (Ok y) text e p = absurd (false≢true (sym e))
+printed-as a b m n (Err x) (Err f) text e p = p
 
--- what was written and counted are all the replies
-pub ends : {X : Type 0} (E : Type 0) (asked : Bool) (a b : Option (List ℕ)) (m n : ℕ) (x : X) (rs : Replies) (us : List UnitReplies) (s : Summary) → us ≡ rs.units.items
-    → Prints {E = E} a b m n (Ok x) (units_text us asked) → s ≡ summary_of (replies_of us) → Runs (λ q. q ≡ rs) asked a b m n (Ok s)
-unfolding Runs Prints
-ends E asked a b m n x rs us s e p f =
-    record {
-      replies = rs;
-      may = refl;
-      taken = subst (λ l. Appends a b (units_text l asked)) e p.0;
-      unfailing = p.1;
-      counted = f ∙ ap (λ l. summary_of (replies_of l)) e;
-    }
-
-pub breaks : {E : Type 0} (X : Type 0) (asked : Bool) (a b : Option (List ℕ)) (m n : ℕ) (e : E) (rs : Replies) (us : List UnitReplies) → us ≡ rs.units.items
-    → Prints {X = X} a b m n (Err e) (units_text us asked) → Runs (λ q. q ≡ rs) asked a b m n (Err Write)
-unfolding Runs Prints
-breaks X asked a b m n e rs us is p = record { replies = rs; may = refl; taken = subst (λ l. TakesBeginning a b (units_text l asked)) is p.0; failing = p.1 }
+-- what was printed and counted are replies that may be given
+pub outcome : (May : Replies → Type 0) (asked : Bool) (a b : Option (List ℕ)) (m n : ℕ) (r : Result Summary RunFault) (rs : Replies) → May rs → Prints a b m n r (replies_text rs asked)
+    → IfOk r (λ s. s ≡ summary_of (replies_of rs.units.items)) → IfErr r (λ f. f ≡ Write) → IsOutcome May asked a b m n r
+unfolding IsOutcome
+outcome May asked a b m n (Ok s) rs may printed counted fault = record { replies = rs; may = may; printed = printed; counted = counted }
+outcome May asked a b m n (Err f) rs may printed counted fault =
+    subst (λ g. IsOutcome May asked a b m n (Err g)) (sym fault) (record { replies = rs; may = may; printed = printed-as a b m n (Err f) (Err Write) (replies_text rs asked) refl printed; counted = tt })

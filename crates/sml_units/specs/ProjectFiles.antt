@@ -140,10 +140,10 @@ pub record IsManifestOf (bytes : List ℕ) (m : Manifest) : Type 0 where
   pub units : units_in m ≡ units_of (lines_of bytes)
 
 -- how a project file is answered
-unfoldable pub Answers : List ℕ → Result Manifest ManifestFault → Type 0
-Answers bytes (Ok m) = IsManifestOf bytes m
-Answers bytes (Err (Fault f)) = IsFault bytes f
-Answers bytes (Err Memory) = Unit {0}
+unfoldable pub IsAnswerTo : List ℕ → Result Manifest ManifestFault → Type 0
+IsAnswerTo bytes (Ok m) = IsManifestOf bytes m
+IsAnswerTo bytes (Err (Fault f)) = IsFault bytes f
+IsAnswerTo bytes (Err Memory) = Unit {0}
 
 -- what one line gives behind so many units
 unfoldable pub LineGives : ℕ → List ℕ → Line → Type 0

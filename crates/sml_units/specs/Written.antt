@@ -1,7 +1,6 @@
 -- What a run writes and counts.
-use Rattle.std.specs.Prelude.{◌≡◌, ℕ, ◌-◌, ◌^◌, ◌+◌, min, Bool, not, cond, List, [], ◌∷◌, ◌++◌, length, map, codes, count_by, sum_by, Option, Result, Ok, Err}
+use Rattle.std.specs.Prelude.{◌≡◌, ℕ, ◌-◌, ◌^◌, min, Bool, not, List, [], ◌∷◌, ◌++◌, length, map, codes, count_by, sum_by, Option, Result, Ok, Err, IfOk}
 use Rattle.std.specs.List.{flat_map}
-use Rattle.std.specs.Io.KnownBytes.{Appends}
 use Rattle.std.specs.String.{string_bytes}
 use Rattle.sml_units.specs.declared.project.Replies.{Replies}
 use Rattle.sml_units.specs.declared.project.UnitReplies.{UnitReplies}
@@ -10,7 +9,7 @@ use Rattle.sml_units.specs.declared.run.Summary.{Summary}
 use Rattle.sml_units.specs.declared.run.RunFault.{RunFault}
 use Rattle.sml_units.specs.declared.run.RunFault.TheVariants.{Memory, Write}
 use Rattle.sml_units.specs.Replies.{reply_text, warnings_of, accepts}
-use Rattle.sml_units.specs.Sinks.{in_turn, one_more, TakesBeginning}
+use Rattle.sml_units.specs.Sinks.{in_turn, Prints}
 
 -- the line of the unit, and then its replies
 abbrev pub unit_text : UnitReplies → Bool → List ℕ
@@ -38,23 +37,15 @@ summary_of rs = record {
   warnings = capped (sum_by (λ r. length (warnings_of r)) rs);
 }
 
--- a run that ended: the sink took the whole text of replies that may be given, no call failed, and the summary counts them
-pub record RunEnds (May : Replies → Type 0) (asked : Bool) (old new : Option (List ℕ)) (before after : ℕ) (s : Summary) : Type 0 where
+-- Replies that may be given were printed as far as the sink took them, and where it took them all the summary counts them.
+pub record Writes (May : Replies → Type 0) (asked : Bool) (old new : Option (List ℕ)) (before after : ℕ) (r : Result Summary RunFault) : Type 0 where
   pub replies : Replies
   pub may : May replies
-  pub taken : Appends old new (replies_text replies asked)
-  pub unfailing : after ≡ before
-  pub counted : s ≡ summary_of (replies_of replies.units.items)
+  pub printed : Prints old new before after r (replies_text replies asked)
+  pub counted : IfOk r (λ s. s ≡ summary_of (replies_of replies.units.items))
 
--- a run that broke off: the sink took a beginning of the text, and then a call failed
-pub record RunBreaks (May : Replies → Type 0) (asked : Bool) (old new : Option (List ℕ)) (before after : ℕ) : Type 0 where
-  pub replies : Replies
-  pub may : May replies
-  pub taken : TakesBeginning old new (replies_text replies asked)
-  pub failing : after ≡ one_more before
-
--- What a run does to its sink and answers, `May` saying which replies may be given. Without memory it writes nothing.
-unfoldable pub Runs : (Replies → Type 0) → Bool → Option (List ℕ) → Option (List ℕ) → ℕ → ℕ → Result Summary RunFault → Type 0
-Runs May asked old new before after (Ok s) = RunEnds May asked old new before after s
-Runs May asked old new before after (Err Memory) = (new ≡ old) × (after ≡ before)
-Runs May asked old new before after (Err Write) = RunBreaks May asked old new before after
+-- What `run` answers, and what its sink took and how often it failed; `May` says which replies a project may be given. Without memory nothing is written.
+unfoldable pub IsOutcome : (Replies → Type 0) → Bool → Option (List ℕ) → Option (List ℕ) → ℕ → ℕ → Result Summary RunFault → Type 0
+IsOutcome May asked old new before after (Ok s) = Writes May asked old new before after (Ok s)
+IsOutcome May asked old new before after (Err Memory) = (new ≡ old) × (after ≡ before)
+IsOutcome May asked old new before after (Err Write) = Writes May asked old new before after (Err Write)

@@ -2,7 +2,7 @@
 
 ghost use Rattle.std.specs.Prelude.{◌≡◌, IfOk, map};
 ghost use Rattle.std.specs.Str.Lines.{strip_carriage_return};
-ghost use Rattle.sml_units.specs.ProjectFiles.{Answers, LineGives, lines_of, words_of, is_name_byte, is_unit_name, is_file_name, is_remark};
+ghost use Rattle.sml_units.specs.ProjectFiles.{IsAnswerTo, LineGives, lines_of, words_of, is_name_byte, is_unit_name, is_file_name, is_remark};
 
 use crate::manifest::{MOST_UNITS, Manifest, ManifestFault, ProjectCode, ProjectFault};
 use std::alloc::{AllocError, Global};
@@ -38,7 +38,7 @@ fn bad_line(line: u32) -> ManifestFault
 
 /// The units that a project file lists, or O4 or O3 at the first line that has one of them. For now there may be one unit, without needs: a second one and a need are O4.
 pub fn manifest(alloc: Global, text: &[u8]) -> Result<Manifest, ManifestFault>
-    ensures { Answers text.now result }
+    ensures { IsAnswerTo text.now result }
 {
     if text.len() > MOST_BYTES {
         return Err(bad_line(1));

@@ -1,9 +1,9 @@
 //! Runs: a project is checked, and its replies are written.
 
-ghost use Rattle.std.specs.Prelude.{◌≡◌, ◌+◌, if◌then◌else◌, IfErr, length, map};
+ghost use Rattle.std.specs.Prelude.{◌≡◌, ◌+◌, if◌then◌else◌, IfOk, IfErr, length, map};
 ghost use Rattle.sml_units.specs.Replies.{reply_text, warnings_of, accepts};
 ghost use Rattle.sml_units.specs.Sinks.{in_turn, Prints};
-ghost use Rattle.sml_units.specs.Written.{unit_text, units_text, replies_of, summary_of, capped, Runs};
+ghost use Rattle.sml_units.specs.Written.{unit_text, units_text, replies_text, replies_of, summary_of, capped, IsOutcome};
 
 use crate::project::{Project, Replies, UnitReplies, check};
 use crate::reply::{Reply, print};
@@ -37,7 +37,7 @@ pub fn run<O: Out>(
     warnings: bool,
     out: &mut O,
 ) -> Result<Summary, RunFault>
-    ensures { Runs (λ _. Unit {0}) warnings (O.taken out.old) (O.taken out.new) (O.failures out.old) (O.failures out.new) result }
+    ensures { IsOutcome (λ _. Unit {0}) warnings (O.taken out.old) (O.taken out.new) (O.failures out.old) (O.failures out.new) result }
 {
     match check(alloc, project) {
         Ok(checked) => write_checked(checked.replies(), warnings, out),
@@ -51,8 +51,9 @@ fn write_checked<O: Out>(
     warnings: bool,
     out: &mut O,
 ) -> Result<Summary, RunFault>
-    ensures run { Runs (λ rs. rs ≡ replies.now) warnings (O.taken out.old) (O.taken out.new) (O.failures out.old) (O.failures out.new) result }
-    ensures written { IfErr result (λ f. f ≡ RunFault.Write) }
+    ensures printed { Prints (O.taken out.old) (O.taken out.new) (O.failures out.old) (O.failures out.new) result (replies_text replies.now warnings) }
+    ensures counted { IfOk result (λ s. s ≡ summary_of (replies_of replies.now.units.items)) }
+    ensures fault { IfErr result (λ f. f ≡ RunFault.Write) }
 {
     let units = replies.units.as_slice();
     match write_units(units, warnings, out) {

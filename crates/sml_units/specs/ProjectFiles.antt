@@ -14,10 +14,10 @@ use Rattle.sml_units.specs.declared.manifest.ProjectFault.{ProjectFault}
 use Rattle.sml_units.specs.declared.project_file.Line.{Line}
 use Rattle.sml_units.specs.declared.project_file.Line.TheVariants.{PassedOver, Listed, Bad}
 
--- The limits of today: a project has one unit at most, and no unit has needs.
 abbrev pub most_bytes : ℕ
 most_bytes = 1048576
 
+-- The limits of today: a project has one unit at most, and no unit has needs.
 abbrev pub most_units : ℕ
 most_units = 1
 
@@ -90,6 +90,7 @@ unit_of bad_form = None
 abbrev pub units_of : List (List ℕ) → List UnitLine
 units_of ls = filter_map (λ l. unit_of (meaning l)) ls
 
+-- whether a word stands twice
 abbrev pub has_repeats : List (List ℕ) → Bool
 has_repeats [] = false
 has_repeats (w ∷ ws) = list_any (bytes_eq w) ws || has_repeats ws
@@ -98,6 +99,7 @@ has_repeats (w ∷ ws) = list_any (bytes_eq w) ws || has_repeats ws
 abbrev pub is_too_much : List UnitLine → UnitLine → Bool
 is_too_much us u = nat_le most_units (length us) || (nat_lt most_needs (length u.needs) || has_repeats u.needs)
 
+-- whether a unit of this name is listed
 abbrev pub is_repeated : List UnitLine → UnitLine → Bool
 is_repeated us u = list_any (λ v. bytes_eq v.name u.name) us
 
@@ -145,7 +147,7 @@ IsAnswerTo bytes (Ok m) = IsManifestOf bytes m
 IsAnswerTo bytes (Err (Fault f)) = IsFault bytes f
 IsAnswerTo bytes (Err Memory) = Unit {0}
 
--- what one line gives behind so many units
+-- What the code makes of one line behind so many units. No public contract rests on it.
 unfoldable pub LineGives : ℕ → List ℕ → Line → Type 0
 LineGives listed line PassedOver = meaning line ≡ passed_over
 LineGives listed line (Listed u) = (meaning line ≡ lists (record { name = string_bytes u.name; file = string_bytes u.file; needs = [] })) × (listed < most_units)

@@ -1,4 +1,4 @@
-//! The units that a project lists, and their order.
+//! The units that a project lists, and the faults of projects.
 
 ghost use Rattle.std.specs.Prelude.{◌≡◌, ◌≤◌, map, vec_len, string_bytes};
 ghost use Rattle.sml_units.specs.declared.manifest.ManifestFault.TheVariants.{Memory};

@@ -31,6 +31,7 @@ pub struct Summary {
 }
 
 /// Checks the project, and writes the text of its replies: for each unit in order the line `unit NAME`, and then its replies.
+/// Nothing is said yet of which replies a project may be given.
 pub fn run<O: Out>(
     alloc: Global,
     project: &Project,

@@ -10,6 +10,7 @@ pub mod manifest;
 mod matching;
 pub mod modules;
 mod numerals;
+pub mod orders;
 pub mod project;
 pub mod project_file;
 mod realisations;

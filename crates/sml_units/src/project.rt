@@ -1,7 +1,12 @@
 //! Projects and what their declarations are answered.
 
-use crate::manifest::{Manifest, OrderFault, order};
+ghost use Rattle.std.specs.Prelude.{◌≡◌, IfOk, IfErr, length, map, vec_len};
+ghost use Rattle.sml_units.specs.Orders.{IsProjectOf};
+ghost use Rattle.sml_units.specs.ProjectFiles.{units_in};
+
+use crate::manifest::{Manifest, OrderFault};
 use crate::modules::topdec;
+use crate::orders::order;
 use crate::reply::Reply;
 use crate::top_fault::TopFault;
 use sml_lex::fault::Memory;
@@ -29,20 +34,26 @@ impl Project {
         alloc: Global,
         manifest: Manifest,
         texts: Vec<Vec<u8>>,
-    ) -> Result<Project, OrderFault> {
+    ) -> Result<Project, OrderFault>
+        ensures units { vec_len texts ≡ length (units_in manifest) → IfOk result (IsProjectOf (units_in manifest) (map (λ t. t.items) texts.items)) }
+
+        // No unit has needs, for now.
+        ensures faults { IfErr result (λ f. f ≡ OrderFault.Memory) }
+    {
         let order = order(alloc, &manifest)?;
         let mut units = Vec::new(alloc);
         let mut names = manifest.names.into_iter();
         let mut texts = texts.into_iter();
-        for id in order.iter() {
-            let (Some(name), Some(text)) = (names.next(), texts.next()) else {
-                break;
-            };
-            units.push(ProjectUnit {
-                id: *id,
-                name,
-                text,
-            })?;
+        for id in order.as_slice() {
+            if let Some(name) = names.next() {
+                if let Some(text) = texts.next() {
+                    units.push(ProjectUnit {
+                        id: *id,
+                        name,
+                        text,
+                    })?;
+                }
+            }
         }
         Ok(Project { units })
     }

@@ -204,3 +204,29 @@ pub cell_some : (p : Part) (k : Kind) (cell : ℕ) → cell ≡ get_or (row_of p
 cell_some p k cell e l =
     ap (λ x. slice_get (rules_of p) (x - 48)) e
     ∙ sym (cond-false _ None _ (le-ltb _ _ (subst (λ x. 48 ≤ x) e l))) ∙ cell_so p k
+
+-- a part that may be empty has an empty tree
+abbrev is_no_text : List Kind → Bool
+is_no_text [] = true
+is_no_text (k ∷ ks) = false
+
+no_text : (ks : List Kind) → is_no_text ks ≡ true → ks ≡ []
+no_text [] h = refl
+no_text (k ∷ ks) h = absurd (false≢true h)
+
+pub short_so : (p : Part) → may_be_empty p ≡ true → shortest_text p ≡ []
+short_so p h = no_text _ (implied _ _ (each_part (λ p. implies (may_be_empty p) (is_no_text (shortest_text p))) refl p) h)
+
+-- a part that may begin with a kind has a rule that does
+abbrev begins_by : Part → Kind → Option Rule → Bool
+begins_by p k None = false
+begins_by p k (Some r) = eqb (part_number (part_of r)) (part_number p) && side_begins_with (right_side r) k
+
+pub starter_so : (p : Part) (k : Kind) → begins_with p k ≡ true → (r : Rule) × (part_of r ≡ p) × (side_begins_with (right_side r) k ≡ true)
+starter_so p k h = by_rule (rule_for p k) (implied _ _ (each_kind (λ k. implies (begins_with p k) (begins_by p k (rule_for p k))) (each_part (λ p. every (λ k. implies (begins_with p k) (begins_by p k (rule_for p k))) all_kinds) refl p) k) h)
+  where
+    by_rule : (o : Option Rule) → begins_by p k o ≡ true → (r : Rule) × (part_of r ≡ p) × (side_begins_with (right_side r) k ≡ true)
+    by_rule None h = absurd (false≢true h)
+    by_rule (Some r) h =
+        let both = and_parts _ _ h in
+        (r, part_same _ _ (eqb-true _ _ both.0), both.1)

@@ -100,7 +100,7 @@ and_assoc : (a b c : Bool) → ((a && b) && c) ≡ (a && (b && c))
 and_assoc true b c = refl
 and_assoc false b c = refl
 
-all_empty-append : (a b : List Symbol) → all_empty (a ++ b) ≡ (all_empty a && all_empty b)
+pub all_empty-append : (a b : List Symbol) → all_empty (a ++ b) ≡ (all_empty a && all_empty b)
 all_empty-append [] b = refl
 all_empty-append (Word k ∷ a) b = refl
 all_empty-append (Of p ∷ a) b = ap (λ x. may_be_empty p && x) (all_empty-append a b) ∙ sym (and_assoc (may_be_empty p) (all_empty a) (all_empty b))
@@ -139,7 +139,7 @@ distribute false false false true false = refl
 distribute false false false false true = refl
 distribute false false false false false = refl
 
-side_begins_with-append : (a b : List Symbol) (k : Kind) → side_begins_with (a ++ b) k ≡ (side_begins_with a k || (all_empty a && side_begins_with b k))
+pub side_begins_with-append : (a b : List Symbol) (k : Kind) → side_begins_with (a ++ b) k ≡ (side_begins_with a k || (all_empty a && side_begins_with b k))
 side_begins_with-append [] b k = refl
 side_begins_with-append (Word x ∷ a) b k = or_false (eqb (kind_number k) (kind_number x))
   where
@@ -167,7 +167,7 @@ starts (Inner r ∷ nodes) (Word w ∷ a) ss k ts next now h = absurd h
 starts (Inner r ∷ nodes) (Of p ∷ a) ss k ts next now h =
     starts_of r p a k h.0 (starts nodes (right_side r ++ a) ss k ts next now (subst (λ x. Leads nodes x (k ∷ ts) next now) (sym (append_assoc (right_side r) a ss)) h.2))
 
-stops_of : (r : Rule) (p : Part) (a : List Symbol) → part_of r ≡ p → all_empty (right_side r ++ a) ≡ true → (may_be_empty p && all_empty a) ≡ true
+pub stops_of : (r : Rule) (p : Part) (a : List Symbol) → part_of r ≡ p → all_empty (right_side r ++ a) ≡ true → (may_be_empty p && all_empty a) ≡ true
 stops_of r p a e h =
     let both = and_parts _ _ (sym (all_empty-append (right_side r) a) ∙ h) in
     and_from _ _ (subst (λ p. may_be_empty p ≡ true) e (empty_so r both.0)) both.1
@@ -497,7 +497,7 @@ alone (Inner r ∷ nodes) p q next o h =
     by_side (s ∷ t ∷ ss) f g = by_remains (all_empty (s ∷ [])) t ss f (stops nodes (s ∷ []) (t ∷ ss) next (Of q ∷ []) g)
 
 -- the shortest text of a safe stack
-runs_lead : (nodes : List Node) (ss : List Symbol) (ts : List Kind) (f : Option Kind) (more : List Node) (rest : List Symbol) (us : List Kind) → runs nodes ss ts f ≡ true → head_or us None ≡ f → Leads more rest us None [] → Leads (nodes ++ more) (ss ++ rest) (ts ++ us) None []
+pub runs_lead : (nodes : List Node) (ss : List Symbol) (ts : List Kind) (f : Option Kind) (more : List Node) (rest : List Symbol) (us : List Kind) → runs nodes ss ts f ≡ true → head_or us None ≡ f → Leads more rest us None [] → Leads (nodes ++ more) (ss ++ rest) (ts ++ us) None []
 runs_lead [] [] [] f more rest us h e s = s
 runs_lead [] [] (t ∷ ts) f more rest us h e s = absurd (false≢true h)
 runs_lead [] (x ∷ ss) ts f more rest us h e s = absurd (false≢true h)

@@ -7,3 +7,4 @@ pub mod Shortest
 pub mod Steps
 pub mod Answer
 pub mod All
+pub mod Exact

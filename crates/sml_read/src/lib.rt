@@ -5,6 +5,7 @@ mod alternatives;
 mod cells;
 mod core_sides;
 pub mod grammar;
+pub mod laws;
 mod module_sides;
 pub mod read;
 pub mod table;

@@ -8,7 +8,7 @@ use Rattle.sml_lex.specs.declared.token.Token.{Token}
 use Rattle.sml_lex.specs.declared.token.End.{End}
 use Rattle.sml_lex.specs.declared.token.End.TheVariants as E
 use Rattle.sml_lex.specs.Faults.{Fault}
-use Rattle.sml_tree.specs.Trees.{Dec, other}
+use Rattle.sml_tree.specs.Trees.{Dec}
 use Rattle.sml_tree.specs.Height.{dec_height}
 use Rattle.sml_read.specs.declared.grammar.Node.{Node}
 use Rattle.sml_read.specs.declared.read.Cause.{Cause}
@@ -19,12 +19,12 @@ use Rattle.sml_parse.specs.declared.item.Item.{Item}
 use Rattle.sml_parse.specs.Places.{place_from}
 use Rattle.sml_parse.specs.Items.{start_of, items_of, declarations_of}
 use Rattle.sml_parse.specs.Forms.{is_in_piece}
-use Rattle.sml_parse.specs.Values.{dec_in, first}
+use Rattle.sml_parse.specs.Values.{dec_in, outside, first}
 use Rattle.sml_parse.specs.Rules.{values_of}
 
 -- the declaration that these items spell
 abbrev pub dec_of_items : List ℕ → List Item → Dec Place
-dec_of_items unit items = if is_in_piece items then dec_in (first (values_of unit items)) else other
+dec_of_items unit items = if is_in_piece items then dec_in (first (values_of unit items)) else outside
 
 -- the declarations that the items of a derivation spell, in order
 abbrev pub decs_of_items : List ℕ → List Item → List (Dec Place)

@@ -47,9 +47,13 @@ abbrev pub cores_in : Value → List (T.CoreDec Place)
 cores_in (of_cores cores) = cores
 cores_in _ = []
 
+-- a declaration outside the piece, at the place from which places count
+abbrev pub outside : T.Dec Place
+outside = T.other (record { line = 1; column = 1 })
+
 abbrev pub dec_in : Value → T.Dec Place
 dec_in (of_dec dec) = dec
-dec_in _ = T.other
+dec_in _ = outside
 
 -- what was made, as a declaration at the top
 abbrev pub top_in : Value → T.Dec Place

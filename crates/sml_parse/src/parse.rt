@@ -80,7 +80,7 @@ fn declared(
         (λ bare. (dec_of bare ≡ dec) × (is_low dec ≡ true))) }
 {
     if !is_in_piece(alloc, items)? {
-        return Ok(Some(BareDec::Other));
+        return Ok(Some(BareDec::Other(FIRST)));
     }
     if MOST < measure(alloc, items)? {
         return Ok(None);

@@ -142,7 +142,7 @@ impl Stack {
     {
         match self.pop() {
             Value::Dec(dec) => dec,
-            _ => BareDec::Other,
+            _ => BareDec::Other(FIRST),
         }
     }
 
@@ -153,7 +153,7 @@ impl Stack {
         match self.pop() {
             Value::Core(core) => BareDec::Core(core),
             Value::Dec(dec) => dec,
-            _ => BareDec::Other,
+            _ => BareDec::Other(FIRST),
         }
     }
 }

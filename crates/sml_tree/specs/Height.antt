@@ -46,7 +46,7 @@ decs_height (d ∷ ds) = max (core_height d) (decs_height ds)
 abbrev pub dec_height : {P : Type 0} → Dec P → ℕ
 dec_height (core d) = core_height d
 dec_height (sealed s p specs decs) = suc (suc (max (suc (specs_height specs)) (suc (decs_height decs))))
-dec_height other = 1
+dec_height (other p) = 1
 
 -- counts stop at the greatest number of 32 bits
 abbrev pub counted : ℕ → ℕ

@@ -47,4 +47,4 @@ pub data Dec (P : Type 0) : Type 0 where
   -- `structure S = struct decs end :> sig specs end`, with the place of the signature expression
   sealed : Id → P → List (Spec P) → List (CoreDec P) → Dec P
   -- a declaration outside the piece of the language whose trees are made so far
-  other : Dec P
+  other : P → Dec P

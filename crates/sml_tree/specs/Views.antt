@@ -72,4 +72,4 @@ core_dec_of d = core_form_of d.place d.form
 abbrev pub dec_of : BareDec → T.Dec Place
 dec_of (Core d) = T.core (core_dec_of d)
 dec_of (Structure s) = T.sealed (ident_of s.name) s.signature.place (map spec_of s.signature.specs.items) (map core_dec_of s.body.items)
-dec_of Other = T.other
+dec_of (Other p) = T.other p

@@ -435,4 +435,5 @@ def main():
     print(len(grammar.parts), "parts,", len(grammar.all_rules()), "rules,", len(grammar.kinds), "kinds")
 
 
-main()
+if __name__ == "__main__":
+    main()

@@ -1,11 +1,11 @@
 -- A step over a derivation's nodes.
-use Rattle.std.proofs.Common.{◌≡◌, ℕ, zero, suc, ◌+◌, ◌<◌, List, [], ◌∷◌, ◌++◌, Option, Some, take, drop, length, get_or, cond, false, refl, sym, ap, ◌∙◌, append_assoc}
+use Rattle.std.proofs.Common.{◌≡◌, ℕ, zero, suc, ◌+◌, ◌<◌, List, [], ◌∷◌, ◌++◌, Option, Some, None, take, drop, length, get_or, cond, false, refl, sym, ap, ◌∙◌, append_assoc, append-nil}
 use Rattle.std.specs.Prelude.{slice_get, not, unwrap_or}
 use Rattle.std.specs.Option.{option_map}
 use Rattle.std.proofs.lemmas.Option.{slice_get_within, get_or_from_slice_get}
 use Rattle.sml_lex.specs.declared.fault.Place.{Place}
 use Rattle.sml_parse.specs.Places.{place_from}
-use Rattle.std.specs.List.{before_first}
+use Rattle.std.specs.List.{before_first, cons_option}
 use Rattle.std.proofs.lemmas.List.{drop_more, take_more}
 use Rattle.std.proofs.lemmas.List.Sums.{take_while-cons}
 use Rattle.std.proofs.lemmas.Bool.{cond-true}
@@ -15,7 +15,8 @@ use Rattle.sml_read.specs.declared.grammar.Node.TheVariants.{Leaf, Inner}
 use Rattle.sml_read.specs.declared.grammar.Rule.{Rule}
 use Rattle.sml_parse.specs.declared.item.Item.{Item}
 use Rattle.sml_parse.specs.declared.item.Item.TheVariants as I
-use Rattle.sml_parse.specs.Items.{word_of, items_of, begins, ends, start_of}
+use Rattle.sml_parse.specs.Piece.{meaning_of}
+use Rattle.sml_parse.specs.Items.{word_of, item_of, items_of, begins_behind, ends, start_of}
 
 -- the token at an index, of what is left from there on
 slice_get-drop : {A : Type 0} (xs : List A) (i : ℕ) → slice_get (drop i xs) 0 ≡ slice_get xs i
@@ -38,13 +39,17 @@ leaf_on unit start i index nodes tokens total items new d token place item start
     ∙ ap (λ a. new ++ items_of unit a (drop (i + 1) nodes) (drop (index + 1) tokens)) (sym s)
     ∙ ap (λ k. new ++ items_of unit start' (drop (i + 1) nodes) (drop k tokens)) (sym x)
 
-pub inner_on : (unit : List ℕ) (start i index : ℕ) (nodes : List Node) (tokens : List Token) (total items new : List Item) (d : Node) (rule : Rule) (item : Item) (start' index' : ℕ) → total ≡ items ++ items_of unit start (drop i nodes) (drop index tokens) → i < length nodes → get_or nodes i d ≡ Inner rule → item ≡ I.Rule rule → new ≡ items ++ item ∷ [] → start' ≡ cond (begins (I.Rule rule)) (start_of tokens index 0) start → index' ≡ index → total ≡ new ++ items_of unit start' (drop (i + 1) nodes) (drop index' tokens)
-inner_on unit start i index nodes tokens total items new d rule item start' index' h within n f e s x =
+joined_some : (items : List Item) (item : Option Item) (new more : List Item) → new ≡ items ++ cons_option item [] → items ++ cons_option item more ≡ new ++ more
+joined_some items None new more e = sym (ap (λ xs. xs ++ more) (e ∙ append-nil items))
+joined_some items (Some item) new more e = joined items item new more e
+
+pub inner_on : (unit : List ℕ) (start i index : ℕ) (nodes : List Node) (tokens : List Token) (total items new : List Item) (d : Node) (rule : Rule) (token : Option Token) (start' : ℕ) → total ≡ items ++ items_of unit start (drop i nodes) (drop index tokens) → i < length nodes → get_or nodes i d ≡ Inner rule → token ≡ slice_get tokens index → new ≡ items ++ cons_option (item_of unit (meaning_of rule) token) [] → start' ≡ cond (begins_behind (meaning_of rule)) (start_of tokens index 0) start → total ≡ new ++ items_of unit start' (drop (i + 1) nodes) (drop index tokens)
+inner_on unit start i index nodes tokens total items new d rule token start' h within n t e s =
     h ∙ ap (λ ns. items ++ items_of unit start ns (drop index tokens)) (drop_more nodes i d within ∙ ap (λ x. x ∷ drop (i + 1) nodes) n)
-    ∙ ap (λ a. items ++ I.Rule rule ∷ items_of unit (cond (begins (I.Rule rule)) a start) (drop (i + 1) nodes) (drop index tokens)) (start_of-drop tokens index)
-    ∙ joined items (I.Rule rule) new (items_of unit (cond (begins (I.Rule rule)) (start_of tokens index 0) start) (drop (i + 1) nodes) (drop index tokens)) (e ∙ ap (λ y. items ++ y ∷ []) f)
+    ∙ ap (λ a. items ++ cons_option (item_of unit (meaning_of rule) (slice_get (drop index tokens) 0)) (items_of unit (cond (begins_behind (meaning_of rule)) a start) (drop (i + 1) nodes) (drop index tokens))) (start_of-drop tokens index)
+    ∙ ap (λ k. items ++ cons_option (item_of unit (meaning_of rule) k) (items_of unit (cond (begins_behind (meaning_of rule)) (start_of tokens index 0) start) (drop (i + 1) nodes) (drop index tokens))) (slice_get-drop tokens index ∙ sym t)
+    ∙ joined_some items (item_of unit (meaning_of rule) token) new (items_of unit (cond (begins_behind (meaning_of rule)) (start_of tokens index 0) start) (drop (i + 1) nodes) (drop index tokens)) e
     ∙ ap (λ a. new ++ items_of unit a (drop (i + 1) nodes) (drop index tokens)) (sym s)
-    ∙ ap (λ k. new ++ items_of unit start' (drop (i + 1) nodes) (drop k tokens)) (sym x)
 
 pub first_on : (items : List Item) (n : ℕ) (d : Item) → n < length items → ends (get_or items n d) ≡ false → take n items ++ before_first ends (drop n items) ≡ take (n + 1) items ++ before_first ends (drop (n + 1) items)
 first_on items n d within e =

@@ -6,3 +6,4 @@ mod Shapes
 mod Tallness
 mod Declaring
 mod Sorts
+mod Sorting

@@ -5,17 +5,19 @@ use Rattle.std.proofs.lemmas.List.{drop_more, reverse-append}
 use Rattle.sml_parse.specs.declared.item.Word.{Word}
 use Rattle.sml_lex.specs.declared.fault.Place.{Place}
 use Rattle.sml_tree.specs.Trees as T
-use Rattle.sml_tree.specs.Height.{counted, exp_height, exps_height, ty_height, tys_height, specs_height, decs_height}
-use Rattle.sml_read.specs.declared.grammar.Rule.{Rule}
-use Rattle.sml_read.specs.declared.grammar.Rule.TheVariants.{StartEnd, StartSemicolon, StartTop, FollowingEnd, FollowingSemicolon, FollowingTop, TopVal, TopStructure, SpecsEnd, SpecsSemicolon, SpecsSpec, SpecVal, SpecType, DecsEnd, DecsSemicolon, DecsDec, DecVal, DecType, ExpInteger, ExpName, ExpLong, ExpOpen, ExpFn, OpenClose, OpenExp, ExpsClose, ExpsComma, TyTup, TyEnd, TyArrow, TupCon, TupEnd, TupStar, ConName, ConLong, ConOpen, NameValue, NameOther}
-use Rattle.sml_read.specs.Grammar.{right_side}
+use Rattle.sml_tree.specs.Height.{counted, exp_height, exps_height, ty_height, tys_height, specs_height, decs_height, dec_height}
+use Rattle.sml_parse.specs.declared.form.Form.{Form}
+use Rattle.sml_parse.specs.declared.form.Form.TheVariants as F
+use Rattle.sml_parse.specs.declared.item.Mark.{Mark}
+use Rattle.sml_parse.specs.Lists.{rest, without}
+use Rattle.sml_parse.specs.Forms.{needs}
 use Rattle.sml_parse.specs.declared.item.Item.{Item}
 use Rattle.sml_parse.specs.declared.item.Item.TheVariants as I
 use Rattle.sml_parse.specs.declared.tall.Tall.{Tall}
 use Rattle.sml_parse.specs.declared.tall.Tall.TheVariants as H
-use Rattle.sml_parse.specs.Values.{Value, nothing, of_word, of_exp, of_exps, of_ty, of_tys, of_spec, of_specs, of_core, of_cores, of_dec, exp_in, exps_in, ty_in, tys_in, specs_in, cores_in, dec_in, with_spec, with_core, with_arrow, in_brackets, with_stars, first, rest, at, without}
+use Rattle.sml_parse.specs.Values.{Value, nothing, of_word, of_exp, of_exps, of_ty, of_tys, of_spec, of_specs, of_core, of_cores, of_dec, exp_in, exps_in, ty_in, tys_in, specs_in, cores_in, dec_in, with_spec, with_core, with_arrow, in_brackets, with_stars, top_in, first, at}
 use Rattle.sml_parse.specs.Rules.{made, values_of}
-use Rattle.sml_parse.specs.Heights.{tall_of, height_if_any, exp_tall, exps_tall, ty_tall, tys_tall, spec_tall, specs_tall, core_tall, cores_tall, dec_tall, arrow_tall, tuple_tall, first_tall, tall_at, raised}
+use Rattle.sml_parse.specs.Heights.{tall_of, exp_tall, exps_tall, ty_tall, tys_tall, spec_tall, specs_tall, core_tall, cores_tall, dec_tall, top_tall, arrow_tall, tuple_tall, first_tall, tall_at, raised}
 
 pub first_tall-map : (vs : List Value) → first_tall (map tall_of vs) ≡ tall_of (first vs)
 first_tall-map [] = refl
@@ -112,7 +114,7 @@ cores_tall-of (of_core x) = refl
 cores_tall-of (of_cores x) = refl
 cores_tall-of (of_dec x) = refl
 
-pub dec_tall-of : (v : Value) → dec_tall (tall_of v) ≡ counted (height_if_any (dec_in v))
+pub dec_tall-of : (v : Value) → dec_tall (tall_of v) ≡ counted (dec_height (dec_in v))
 dec_tall-of nothing = refl
 dec_tall-of (of_word x) = refl
 dec_tall-of (of_exp x) = refl
@@ -124,6 +126,19 @@ dec_tall-of (of_specs x) = refl
 dec_tall-of (of_core x) = refl
 dec_tall-of (of_cores x) = refl
 dec_tall-of (of_dec x) = refl
+
+top_tall-of : (v : Value) → top_tall (tall_of v) ≡ counted (dec_height (top_in v))
+top_tall-of nothing = refl
+top_tall-of (of_word x) = refl
+top_tall-of (of_exp x) = refl
+top_tall-of (of_exps x) = refl
+top_tall-of (of_ty x) = refl
+top_tall-of (of_tys x) = refl
+top_tall-of (of_spec x) = refl
+top_tall-of (of_specs x) = refl
+top_tall-of (of_core x) = refl
+top_tall-of (of_cores x) = refl
+top_tall-of (of_dec x) = refl
 
 with_spec-of : (v : Value) (xs : List (T.Spec Place)) → counted (specs_height (with_spec v xs)) ≡ max (spec_tall (tall_of v)) (counted (specs_height xs))
 with_spec-of nothing xs = omega arith
@@ -209,45 +224,35 @@ cores_there vs n = ap cores_tall (tall_at-map vs n) ∙ cores_tall-of (at vs n)
 structure_height : (a b m n : ℕ) → m ≡ counted a → n ≡ counted b → counted (suc (suc (max (suc a) (suc b)))) ≡ counted (max m n + 3)
 structure_height a b m n e f = omega (arith, e, f)
 
-pub raised-of : (unit : List ℕ) (r : Rule) (vs : List Value) → tall_of (made unit r vs) ≡ raised r (map tall_of vs)
-raised-of unit TopVal vs = ap H.Dec (higher _ _ (exp_there vs 3))
-raised-of unit TopStructure vs = ap H.Dec (structure_height _ _ _ _ (specs_there vs 4) (cores_there vs 8))
-raised-of unit SpecsEnd vs = refl
-raised-of unit SpecsSemicolon vs = ap H.Specs (sym (specs_there vs 1))
-raised-of unit SpecsSpec vs = ap H.Specs (with_spec-of (at vs 0) (specs_in (at vs 1)) ∙ sym (ap (λ t. max (spec_tall t) (specs_tall (tall_at (map tall_of vs) 1))) (tall_at-map vs 0) ∙ ap (λ n. max (spec_tall (tall_of (at vs 0))) n) (specs_there vs 1)))
-raised-of unit SpecVal vs = ap H.Spec (higher _ _ (ty_there vs 3))
-raised-of unit SpecType vs = refl
-raised-of unit DecsEnd vs = refl
-raised-of unit DecsSemicolon vs = ap H.Cores (sym (cores_there vs 1))
-raised-of unit DecsDec vs = ap H.Cores (with_core-of (at vs 0) (cores_in (at vs 1)) ∙ sym (ap (λ t. max (core_tall t) (cores_tall (tall_at (map tall_of vs) 1))) (tall_at-map vs 0) ∙ ap (λ n. max (core_tall (tall_of (at vs 0))) n) (cores_there vs 1)))
-raised-of unit DecVal vs = ap H.Core (higher _ _ (exp_there vs 3))
-raised-of unit DecType vs = ap H.Core (higher _ _ (ty_there vs 3))
-raised-of unit ExpInteger vs = refl
-raised-of unit ExpName vs = refl
-raised-of unit ExpLong vs = refl
-raised-of unit ExpOpen vs = ap H.Exp (sym (exp_there vs 1))
-raised-of unit ExpFn vs = ap H.Exp (higher _ _ (exp_there vs 3))
-raised-of unit OpenClose vs = refl
-raised-of unit OpenExp vs = ap H.Exp (in_brackets-of (exp_in (at vs 0)) (exps_in (at vs 1)) ∙ sym (ap (λ n. counted (max n (exps_tall (tall_at (map tall_of vs) 1)) + 1)) (exp_there vs 0) ∙ ap (λ n. counted (max (counted (exp_height (exp_in (at vs 0)))) n + 1)) (exps_there vs 1)))
-raised-of unit ExpsClose vs = refl
-raised-of unit ExpsComma vs = ap H.Exps (greater _ _ _ _ (exp_there vs 1) (exps_there vs 2))
-raised-of unit TyTup vs = ap H.Ty (with_arrow-of (ty_in (at vs 0)) (at vs 1) ∙ sym (ap (λ t. arrow_tall (ty_tall (tall_at (map tall_of vs) 0)) t) (tall_at-map vs 1) ∙ ap (λ n. arrow_tall n (tall_of (at vs 1))) (ty_there vs 0)))
-raised-of unit TyEnd vs = refl
-raised-of unit TyArrow vs = ap H.Ty (sym (ty_there vs 1))
-raised-of unit TupCon vs = ap H.Ty (with_stars-of (ty_in (at vs 0)) (tys_in (at vs 1)) ∙ sym (ap (λ n. tuple_tall n (tys_tall (tall_at (map tall_of vs) 1))) (ty_there vs 0) ∙ ap (tuple_tall (counted (ty_height (ty_in (at vs 0))))) (tys_there vs 1)))
-raised-of unit TupEnd vs = refl
-raised-of unit TupStar vs = ap H.Tys (greater _ _ _ _ (ty_there vs 1) (tys_there vs 2))
-raised-of unit ConName vs = refl
-raised-of unit ConLong vs = refl
-raised-of unit ConOpen vs = ap H.Ty (higher _ _ (ty_there vs 1))
-raised-of unit NameValue vs = sym (tall_at-map vs 0)
-raised-of unit NameOther vs = sym (tall_at-map vs 0)
-raised-of unit StartEnd vs = refl
-raised-of unit StartSemicolon vs = refl
-raised-of unit StartTop vs = refl
-raised-of unit FollowingEnd vs = refl
-raised-of unit FollowingSemicolon vs = refl
-raised-of unit FollowingTop vs = refl
+pub raised-of : (unit : List ℕ) (f : Form) (vs : List Value) → tall_of (made unit f vs) ≡ raised f (map tall_of vs)
+raised-of unit F.Top vs = ap H.Dec (sym (ap top_tall (tall_at-map vs 0) ∙ top_tall-of (at vs 0)))
+raised-of unit F.Structure vs = ap H.Dec (structure_height _ _ _ _ (specs_there vs 4) (cores_there vs 8))
+raised-of unit F.SpecsEnd vs = refl
+raised-of unit F.SpecsSemicolon vs = ap H.Specs (sym (specs_there vs 1))
+raised-of unit F.SpecsSpec vs = ap H.Specs (with_spec-of (at vs 0) (specs_in (at vs 1)) ∙ sym (ap (λ t. max (spec_tall t) (specs_tall (tall_at (map tall_of vs) 1))) (tall_at-map vs 0) ∙ ap (λ n. max (spec_tall (tall_of (at vs 0))) n) (specs_there vs 1)))
+raised-of unit F.SpecVal vs = ap H.Spec (higher _ _ (ty_there vs 3))
+raised-of unit F.SpecType vs = refl
+raised-of unit F.DecsEnd vs = refl
+raised-of unit F.DecsSemicolon vs = ap H.Cores (sym (cores_there vs 1))
+raised-of unit F.DecsDec vs = ap H.Cores (with_core-of (at vs 0) (cores_in (at vs 1)) ∙ sym (ap (λ t. max (core_tall t) (cores_tall (tall_at (map tall_of vs) 1))) (tall_at-map vs 0) ∙ ap (λ n. max (core_tall (tall_of (at vs 0))) n) (cores_there vs 1)))
+raised-of unit F.DecVal vs = ap H.Core (higher _ _ (exp_there vs 3))
+raised-of unit F.DecType vs = ap H.Core (higher _ _ (ty_there vs 3))
+raised-of unit F.ExpInteger vs = refl
+raised-of unit F.ExpName vs = refl
+raised-of unit F.ExpRound vs = ap H.Exp (sym (exp_there vs 1))
+raised-of unit F.ExpFn vs = ap H.Exp (higher _ _ (exp_there vs 3))
+raised-of unit F.RoundClose vs = refl
+raised-of unit F.RoundExp vs = ap H.Exp (in_brackets-of (exp_in (at vs 0)) (exps_in (at vs 1)) ∙ sym (ap (λ n. counted (max n (exps_tall (tall_at (map tall_of vs) 1)) + 1)) (exp_there vs 0) ∙ ap (λ n. counted (max (counted (exp_height (exp_in (at vs 0)))) n + 1)) (exps_there vs 1)))
+raised-of unit F.ExpsClose vs = refl
+raised-of unit F.ExpsComma vs = ap H.Exps (greater _ _ _ _ (exp_there vs 1) (exps_there vs 2))
+raised-of unit F.TyTup vs = ap H.Ty (with_arrow-of (ty_in (at vs 0)) (at vs 1) ∙ sym (ap (λ t. arrow_tall (ty_tall (tall_at (map tall_of vs) 0)) t) (tall_at-map vs 1) ∙ ap (λ n. arrow_tall n (tall_of (at vs 1))) (ty_there vs 0)))
+raised-of unit F.TyEnd vs = refl
+raised-of unit F.TyArrow vs = ap H.Ty (sym (ty_there vs 1))
+raised-of unit F.TupCon vs = ap H.Ty (with_stars-of (ty_in (at vs 0)) (tys_in (at vs 1)) ∙ sym (ap (λ n. tuple_tall n (tys_tall (tall_at (map tall_of vs) 1))) (ty_there vs 0) ∙ ap (tuple_tall (counted (ty_height (ty_in (at vs 0))))) (tys_there vs 1)))
+raised-of unit F.TupEnd vs = refl
+raised-of unit F.TupStar vs = ap H.Tys (greater _ _ _ _ (ty_there vs 1) (tys_there vs 2))
+raised-of unit F.ConName vs = refl
+raised-of unit F.ConRound vs = ap H.Ty (higher _ _ (ty_there vs 1))
 
 -- one item before those so far
 turned : (new mid : List Tall) (t : Tall) → new ≡ mid ++ t ∷ [] → reverse new ≡ t ∷ reverse mid
@@ -263,9 +268,14 @@ word_on unit items i d word old mid new tall some within e h m t n =
     turned new mid tall n ∙ ap (λ x. x ∷ reverse mid) t ∙ ap (λ xs. H.Word ∷ reverse xs) m ∙ ap (λ ts. H.Word ∷ ts) h
     ∙ ap (λ xs. map tall_of (values_of unit xs)) (sym (before items i d (I.Word word) some within e))
 
-pub rule_on : (unit : List ℕ) (items : List Item) (i : ℕ) (d : Item) (rule : Rule) (old mid new : List Tall) (tall : Tall) → 0 < i → i ≤ length items → get_or items (i - 1) d ≡ I.Rule rule → reverse old ≡ map tall_of (values_of unit (drop i items)) → reverse mid ≡ without (length (right_side rule)) (reverse old) → tall ≡ raised rule (reverse old) → new ≡ mid ++ tall ∷ [] → reverse new ≡ map tall_of (values_of unit (drop (i - 1) items))
-rule_on unit items i d rule old mid new tall some within e h m t n =
+pub form_on : (unit : List ℕ) (items : List Item) (i : ℕ) (d : Item) (form : Form) (old mid new : List Tall) (tall : Tall) → 0 < i → i ≤ length items → get_or items (i - 1) d ≡ I.Made form → reverse old ≡ map tall_of (values_of unit (drop i items)) → reverse mid ≡ without (length (needs form)) (reverse old) → tall ≡ raised form (reverse old) → new ≡ mid ++ tall ∷ [] → reverse new ≡ map tall_of (values_of unit (drop (i - 1) items))
+form_on unit items i d form old mid new tall some within e h m t n =
     let vs = values_of unit (drop i items) in
-    turned new mid tall n ∙ ap (λ x. x ∷ reverse mid) (t ∙ ap (raised rule) h ∙ sym (raised-of unit rule vs))
-    ∙ ap (λ ts. tall_of (made unit rule vs) ∷ ts) (m ∙ ap (without (length (right_side rule))) h ∙ without-map (length (right_side rule)) vs)
-    ∙ ap (λ xs. map tall_of (values_of unit xs)) (sym (before items i d (I.Rule rule) some within e))
+    turned new mid tall n ∙ ap (λ x. x ∷ reverse mid) (t ∙ ap (raised form) h ∙ sym (raised-of unit form vs))
+    ∙ ap (λ ts. tall_of (made unit form vs) ∷ ts) (m ∙ ap (without (length (needs form))) h ∙ without-map (length (needs form)) vs)
+    ∙ ap (λ xs. map tall_of (values_of unit xs)) (sym (before items i d (I.Made form) some within e))
+
+pub mark_on : (unit : List ℕ) (items : List Item) (i : ℕ) (d : Item) (mark : Mark) (old mid new : List Tall) (tall : Tall) → 0 < i → i ≤ length items → get_or items (i - 1) d ≡ I.Mark mark → reverse old ≡ map tall_of (values_of unit (drop i items)) → mid ≡ old → tall ≡ H.Nothing → new ≡ mid ++ tall ∷ [] → reverse new ≡ map tall_of (values_of unit (drop (i - 1) items))
+mark_on unit items i d mark old mid new tall some within e h m t n =
+    turned new mid tall n ∙ ap (λ x. x ∷ reverse mid) t ∙ ap (λ xs. H.Nothing ∷ reverse xs) m ∙ ap (λ ts. H.Nothing ∷ ts) h
+    ∙ ap (λ xs. map tall_of (values_of unit xs)) (sym (before items i d (I.Mark mark) some within e))

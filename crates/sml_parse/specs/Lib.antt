@@ -1,5 +1,8 @@
 pub mod Places
+pub mod Piece
 pub mod Items
+pub mod Lists
+pub mod Forms
 pub mod Idents
 pub mod Values
 pub mod Rules

@@ -1,55 +1,52 @@
--- Of which sort is what a symbol makes, and that each rule of a declaration finds what it looks for.
-use Rattle.std.specs.Prelude.{◌≡◌, ℕ, List, [], ◌∷◌, Bool, true, false, ◌&&◌, is_some}
-use Rattle.std.specs.List.{list_all}
-use Rattle.sml_lex.specs.declared.token.Token.{Token}
-use Rattle.sml_read.specs.declared.grammar.Part.TheVariants.{Start, Following, Top, Specs, Spec, Decs, Dec, Exp, AfterOpen, MoreExps, Ty, MoreTy, Tup, MoreTup, Con, Name}
-use Rattle.sml_read.specs.declared.grammar.Symbol.{Symbol}
-use Rattle.sml_read.specs.declared.grammar.Symbol.TheVariants.{Word, Of}
-use Rattle.sml_read.specs.declared.grammar.Node.{Node}
-use Rattle.sml_read.specs.Grammar.{right_side}
-use Rattle.sml_read.specs.Spelling.{IsWholeTo}
-use Rattle.sml_read.specs.Terminals.{terminals_of}
+-- What the forms of a declaration of the piece find.
+use Rattle.std.specs.Prelude.{◌≡◌, ℕ, List, [], ◌∷◌, Bool, true, false, ◌&&◌, ◌||◌}
+use Rattle.sml_tree.specs.Trees as T
+use Rattle.sml_parse.specs.declared.sort.Sort.{Sort}
+use Rattle.sml_parse.specs.declared.sort.Sort.TheVariants as S
+use Rattle.sml_parse.specs.declared.sort.Need.{Need}
+use Rattle.sml_parse.specs.declared.sort.Need.TheVariants.{One, Core, Declared, Behind}
 use Rattle.sml_parse.specs.declared.item.Item.{Item}
 use Rattle.sml_parse.specs.declared.item.Item.TheVariants as I
-use Rattle.sml_parse.specs.Items.{items_of, declarations_of}
-use Rattle.sml_parse.specs.Values.{Value, nothing, of_word, of_exp, of_exps, of_ty, of_tys, of_spec, of_specs, of_core, of_cores, of_dec, first, rest}
+use Rattle.sml_parse.specs.Lists.{rest}
+use Rattle.sml_parse.specs.Forms.{needs, is_in_piece}
+use Rattle.sml_parse.specs.Values.{Value, nothing, of_word, of_exp, of_exps, of_ty, of_tys, of_spec, of_specs, of_core, of_cores, of_dec, first}
 use Rattle.sml_parse.specs.Rules.{values_of}
-use Rattle.sml_parse.specs.Trees.{dec_of_items}
 
-abbrev pub is_of : Symbol → Value → Bool
-is_of (Word terminal) (of_word word) = true
-is_of (Of Name) (of_word word) = true
-is_of (Of Exp) (of_exp exp) = true
-is_of (Of AfterOpen) (of_exp exp) = true
-is_of (Of MoreExps) (of_exps exps) = true
-is_of (Of Ty) (of_ty ty) = true
-is_of (Of Tup) (of_ty ty) = true
-is_of (Of Con) (of_ty ty) = true
-is_of (Of MoreTy) (of_ty ty) = true
-is_of (Of MoreTy) nothing = true
-is_of (Of MoreTup) (of_tys tys) = true
-is_of (Of Spec) (of_spec spec) = true
-is_of (Of Specs) (of_specs specs) = true
-is_of (Of Dec) (of_core core) = true
-is_of (Of Decs) (of_cores cores) = true
-is_of (Of Top) (of_dec dec) = true
-is_of (Of Start) nothing = true
-is_of (Of Following) nothing = true
+-- whether a value is of this sort
+abbrev pub is_of : Sort → Value → Bool
+is_of S.Nothing nothing = true
+is_of S.Word (of_word word) = true
+is_of S.Exp (of_exp exp) = true
+is_of S.Exps (of_exps exps) = true
+is_of S.Ty (of_ty ty) = true
+is_of S.Tys (of_tys tys) = true
+is_of S.Spec (of_spec spec) = true
+is_of S.Specs (of_specs specs) = true
+is_of S.Val (of_core (T.val_dec p x e)) = true
+is_of S.Type (of_core (T.type_dec p x t)) = true
+is_of S.Decs (of_cores cores) = true
+is_of S.Structure (of_dec dec) = true
+is_of S.Dec (of_dec dec) = true
 is_of _ _ = false
 
-abbrev pub are_of : List Symbol → List Value → Bool
-are_of [] values = true
-are_of (symbol ∷ symbols) values = is_of symbol (first values) && are_of symbols (rest values)
+-- whether a value serves a need
+abbrev pub value_serves : Need → Value → Bool
+value_serves (One sort) value = is_of sort value
+value_serves Core value = is_of S.Val value || is_of S.Type value
+value_serves Declared value = is_of S.Val value || is_of S.Structure value
+value_serves Behind value = is_of S.Ty value || is_of S.Nothing value
 
--- each rule finds behind it what its right side makes
+abbrev pub values_serve : List Need → List Value → Bool
+values_serve [] values = true
+values_serve (need ∷ needs) values = value_serves need (first values) && values_serve needs (rest values)
+
+-- each form finds what it needs among the values behind it
 abbrev pub finds_all : List ℕ → List Item → Bool
 finds_all unit [] = true
 finds_all unit (I.Word word ∷ items) = finds_all unit items
-finds_all unit (I.Rule rule ∷ items) = are_of (right_side rule) (values_of unit items) && finds_all unit items
+finds_all unit (I.Made form ∷ items) = values_serve (needs form) (values_of unit items) && finds_all unit items
+finds_all unit (I.Mark mark ∷ items) = false
 
-abbrev pub is_made : List ℕ → List Item → Bool
-is_made unit items = finds_all unit items && is_some (dec_of_items unit items)
-
--- each declaration of a derivation is made, and each rule in it finds what it looks for
+-- in a declaration of the piece no form makes up a part, and a declaration is made
 abbrev pub EachIsMade : Type 0
-EachIsMade = (unit : List ℕ) (tokens : List Token) (done : Bool) (begun : ℕ) (nodes : List Node) → IsWholeTo (terminals_of unit tokens) done begun nodes → list_all (is_made unit) (declarations_of (items_of unit 0 nodes tokens)) ≡ true
+EachIsMade = (unit : List ℕ) (items : List Item) → is_in_piece items ≡ true → (finds_all unit items ≡ true) × (is_of S.Dec (first (values_of unit items)) ≡ true)

@@ -1,5 +1,5 @@
 -- The bare declarations that a unit's tokens spell, and the fault that ends them.
-use Rattle.std.specs.Prelude.{◌≡◌, ℕ, ◌-◌, List, length, Option, Some, None, Bool, nat_le, if◌then◌else◌, filter_map}
+use Rattle.std.specs.Prelude.{◌≡◌, ℕ, ◌-◌, List, length, Option, Some, None, Bool, nat_le, if◌then◌else◌, map}
 use Rattle.std.specs.List.{take_while, list_all}
 use Rattle.sml_lex.specs.declared.fault.Code.{Code}
 use Rattle.sml_lex.specs.declared.fault.Code.TheVariants as C
@@ -13,21 +13,22 @@ use Rattle.sml_tree.specs.Height.{dec_height}
 use Rattle.sml_read.specs.declared.grammar.Node.{Node}
 use Rattle.sml_read.specs.declared.read.Cause.{Cause}
 use Rattle.sml_read.specs.declared.read.Cause.TheVariants.{Unexpected, TooEarly, Lexical}
-use Rattle.sml_read.specs.Terminals.{terminals_of}
+use Rattle.sml_read.specs.Spelling.{kinds_of}
 use Rattle.sml_read.specs.Answer.{is_done, IsReading}
 use Rattle.sml_parse.specs.declared.item.Item.{Item}
 use Rattle.sml_parse.specs.Places.{place_from}
 use Rattle.sml_parse.specs.Items.{start_of, items_of, declarations_of}
-use Rattle.sml_parse.specs.Values.{dec_in, first}
+use Rattle.sml_parse.specs.Forms.{is_in_piece}
+use Rattle.sml_parse.specs.Values.{dec_in, outside, first}
 use Rattle.sml_parse.specs.Rules.{values_of}
 
 -- the declaration that these items spell
-abbrev pub dec_of_items : List ℕ → List Item → Option (Dec Place)
-dec_of_items unit items = dec_in (first (values_of unit items))
+abbrev pub dec_of_items : List ℕ → List Item → Dec Place
+dec_of_items unit items = if is_in_piece items then dec_in (first (values_of unit items)) else outside
 
 -- the declarations that the items of a derivation spell, in order
 abbrev pub decs_of_items : List ℕ → List Item → List (Dec Place)
-decs_of_items unit items = filter_map (dec_of_items unit) (declarations_of items)
+decs_of_items unit items = map (dec_of_items unit) (declarations_of items)
 
 -- the same of a derivation over these tokens
 abbrev pub spelt : List ℕ → List Node → List Token → List (Dec Place)
@@ -55,6 +56,6 @@ pub record Trees (unit : List ℕ) (tokens : List Token) (end : End) (decs : Lis
   pub nodes : List Node
   pub begun : ℕ
   pub cause : Option Cause
-  pub reading : IsReading (terminals_of unit tokens) (is_done end) nodes begun cause
+  pub reading : IsReading (kinds_of tokens) (is_done end) nodes begun cause
   pub whole : decs ≡ take_while is_low (spelt unit nodes tokens)
   pub ended : fault ≡ (if list_all is_low (spelt unit nodes tokens) then fault_read unit tokens end begun cause else Some (record { code = C.S3; place = record { line = 1; column = 1 }; detail = None }))

@@ -1,8 +1,9 @@
 -- What the parts of a declaration make.
-use Rattle.std.specs.Prelude.{ℕ, zero, suc, List, [], ◌∷◌, Option, Some, None}
+use Rattle.std.specs.Prelude.{ℕ, zero, suc, List, [], ◌∷◌}
 use Rattle.sml_lex.specs.declared.fault.Place.{Place}
 use Rattle.sml_tree.specs.Trees as T
 use Rattle.sml_parse.specs.declared.item.Word.{Word}
+use Rattle.sml_parse.specs.Lists.{rest}
 
 pub data Value : Type 0 where
   nothing : Value
@@ -46,9 +47,18 @@ abbrev pub cores_in : Value → List (T.CoreDec Place)
 cores_in (of_cores cores) = cores
 cores_in _ = []
 
-abbrev pub dec_in : Value → Option (T.Dec Place)
-dec_in (of_dec dec) = Some dec
-dec_in _ = None
+-- a declaration outside the piece, at the place from which places count
+abbrev pub outside : T.Dec Place
+outside = T.other (record { line = 1; column = 1 })
+
+abbrev pub dec_in : Value → T.Dec Place
+dec_in (of_dec dec) = dec
+dec_in _ = outside
+
+-- what was made, as a declaration at the top
+abbrev pub top_in : Value → T.Dec Place
+top_in (of_core core) = T.core core
+top_in value = dec_in value
 
 -- the specification that was made, and others behind it
 abbrev pub with_spec : Value → List (T.Spec Place) → List (T.Spec Place)
@@ -74,19 +84,11 @@ abbrev pub with_stars : T.Ty Place → T.Tys Place → T.Ty Place
 with_stars ty T.no_ty = ty
 with_stars ty (T.and_ty second tys) = T.product (T.and_ty ty (T.and_ty second tys))
 
--- the first value, one after some others, and the values after some others
+-- the first value, and one after some others
 abbrev pub first : List Value → Value
 first [] = nothing
 first (value ∷ values) = value
 
-abbrev pub rest : {A : Type 0} → List A → List A
-rest [] = []
-rest (value ∷ values) = values
-
 abbrev pub at : List Value → ℕ → Value
 at values zero = first values
 at values (suc n) = at (rest values) n
-
-abbrev pub without : {A : Type 0} → ℕ → List A → List A
-without zero values = values
-without (suc n) values = without n (rest values)

@@ -1,21 +1,21 @@
 //! Trees from derivations, by one walk from the last item to the first.
 
 ghost use Rattle.std.specs.Prelude.{◌≡◌, map, reverse, length, IfOk, OnOk};
-ghost use Rattle.std.specs.Option.{option_map};
 ghost use Rattle.sml_tree.specs.Trees.{function, and_exp, and_ty, bracket_ty, type_spec, val_spec, val_dec, type_dec, sealed};
 ghost use Rattle.sml_tree.specs.Views.{ident_of, long_of, exp_of, exps_of, ty_of, tys_of, spec_of, core_dec_of, dec_of};
-ghost use Rattle.sml_read.specs.Grammar.{right_side};
+ghost use Rattle.sml_parse.specs.Forms.{needs};
 ghost use Rattle.sml_parse.specs.Idents.{long_id};
-ghost use Rattle.sml_parse.specs.Values.{exp_in, exps_in, ty_in, tys_in, specs_in, cores_in, dec_in, with_spec, with_core, with_arrow, in_brackets, with_stars, at, without, first};
+ghost use Rattle.sml_parse.specs.Values.{exp_in, exps_in, ty_in, tys_in, specs_in, cores_in, dec_in, with_spec, with_core, with_arrow, in_brackets, with_stars, at, first};
+ghost use Rattle.sml_parse.specs.Lists.{without};
 ghost use Rattle.sml_parse.specs.Rules.{place_at, text_at, made, values_of};
 ghost use Rattle.sml_parse.specs.Stacks.{seen, value_of};
 
+use crate::form::Form;
 use crate::item::Item;
 use crate::names::Names;
+use crate::place::text;
 use crate::stack::{Stack, Value};
 use sml_lex::fault::Memory;
-use sml_read::grammar::Rule;
-use sml_read::terminal::text;
 use sml_tree::bare::{
     BareDec, CoreDec, CoreForm, Exp, Ident, LongIdent, SealedStructure, SigExp, Spec, SpecForm, Ty,
 };
@@ -268,92 +268,86 @@ fn pop_more_cores(stack: &mut Stack) -> Result<Vec<CoreDec>, Memory>
     Ok(cores)
 }
 
-/// The values of a rule's right side are taken off the stack; what the rule makes of them is answered.
+/// The values that a form needs are taken off the stack; what it makes of them is answered.
 fn pop_made(
     alloc: Global,
     unit: &[u8],
     names: &mut Names,
     stack: &mut Stack,
-    rule: Rule,
+    form: Form,
 ) -> Result<Value, Memory>
-    ensures made { IfOk result (λ value. value_of value ≡ made unit.now rule (seen stack.old)) }
+    ensures made { IfOk result (λ value. value_of value ≡ made unit.now form (seen stack.old)) }
     ensures rest { let vs = seen stack.old in
-        OnOk result (seen stack.new ≡ without (length (right_side rule)) vs) }
+        OnOk result (seen stack.new ≡ without (length (needs form)) vs) }
 {
-    Ok(match rule {
-        Rule::StartEnd | Rule::FollowingEnd => Value::Nothing,
-        Rule::StartSemicolon | Rule::StartTop | Rule::FollowingSemicolon | Rule::FollowingTop => {
-            stack.pop();
-            stack.pop();
-            Value::Nothing
-        }
-        Rule::TopVal => Value::Dec(BareDec::Core(pop_value(unit, names, stack)?)),
-        Rule::TopStructure => Value::Dec(BareDec::Structure(pop_structure(unit, names, stack)?)),
-        Rule::SpecsEnd => Value::Specs(Vec::new(alloc)),
-        Rule::SpecsSemicolon => {
+    Ok(match form {
+        Form::Top => Value::Dec(stack.top()),
+        Form::Structure => Value::Dec(BareDec::Structure(pop_structure(unit, names, stack)?)),
+        Form::SpecsEnd => Value::Specs(Vec::new(alloc)),
+        Form::SpecsSemicolon => {
             stack.pop();
             Value::Specs(stack.specs())
         }
-        Rule::SpecsSpec => Value::Specs(pop_more_specs(stack)?),
-        Rule::SpecVal => Value::Spec(pop_value_spec(unit, names, stack)?),
-        Rule::SpecType => Value::Spec(pop_type_spec(unit, names, stack)?),
-        Rule::DecsEnd => Value::Cores(Vec::new(alloc)),
-        Rule::DecsSemicolon => {
+        Form::SpecsSpec => Value::Specs(pop_more_specs(stack)?),
+        Form::SpecVal => Value::Spec(pop_value_spec(unit, names, stack)?),
+        Form::SpecType => Value::Spec(pop_type_spec(unit, names, stack)?),
+        Form::DecsEnd => Value::Cores(Vec::new(alloc)),
+        Form::DecsSemicolon => {
             stack.pop();
             Value::Cores(stack.cores())
         }
-        Rule::DecsDec => Value::Cores(pop_more_cores(stack)?),
-        Rule::DecVal => Value::Core(pop_value(unit, names, stack)?),
-        Rule::DecType => Value::Core(pop_type(unit, names, stack)?),
-        Rule::ExpInteger => {
+        Form::DecsDec => Value::Cores(pop_more_cores(stack)?),
+        Form::DecVal => Value::Core(pop_value(unit, names, stack)?),
+        Form::DecType => Value::Core(pop_type(unit, names, stack)?),
+        Form::ExpInteger => {
             stack.pop();
             Value::Exp(Exp::Number)
         }
-        Rule::ExpName | Rule::ExpLong => Value::Exp(Exp::Identifier(pop_long(unit, names, stack)?)),
-        Rule::ExpOpen => {
+        Form::ExpName => Value::Exp(Exp::Identifier(pop_long(unit, names, stack)?)),
+        Form::ExpRound => {
             stack.pop();
             Value::Exp(stack.exp())
         }
-        Rule::ExpFn => Value::Exp(pop_function(alloc, unit, names, stack)?),
-        Rule::OpenClose => {
+        Form::ExpFn => Value::Exp(pop_function(alloc, unit, names, stack)?),
+        Form::RoundClose => {
             stack.pop();
             Value::Exp(Exp::Tuple(Vec::new(alloc)))
         }
-        Rule::OpenExp => Value::Exp(pop_opened(alloc, stack)?),
-        Rule::ExpsClose => {
+        Form::RoundExp => Value::Exp(pop_opened(alloc, stack)?),
+        Form::ExpsClose => {
             stack.pop();
             Value::Exps(Vec::new(alloc))
         }
-        Rule::ExpsComma => Value::Exps(pop_more_exps(stack)?),
-        Rule::TyTup => Value::Ty(pop_arrow(alloc, stack)?),
-        Rule::TyEnd => Value::Nothing,
-        Rule::TyArrow => {
+        Form::ExpsComma => Value::Exps(pop_more_exps(stack)?),
+        Form::TyTup => Value::Ty(pop_arrow(alloc, stack)?),
+        Form::TyEnd => Value::Nothing,
+        Form::TyArrow => {
             stack.pop();
             Value::Ty(stack.ty())
         }
-        Rule::TupCon => Value::Ty(pop_tuple(stack)?),
-        Rule::TupEnd => Value::Tys(Vec::new(alloc)),
-        Rule::TupStar => Value::Tys(pop_more_tys(stack)?),
-        Rule::ConName | Rule::ConLong => Value::Ty(Ty::Constructor(pop_long(unit, names, stack)?)),
-        Rule::ConOpen => Value::Ty(pop_bracket(alloc, stack)?),
-        Rule::NameValue | Rule::NameOther => stack.pop(),
+        Form::TupCon => Value::Ty(pop_tuple(stack)?),
+        Form::TupEnd => Value::Tys(Vec::new(alloc)),
+        Form::TupStar => Value::Tys(pop_more_tys(stack)?),
+        Form::ConName => Value::Ty(Ty::Constructor(pop_long(unit, names, stack)?)),
+        Form::ConRound => Value::Ty(pop_bracket(alloc, stack)?),
     })
 }
 
-/// The declaration that these items spell.
+/// The declaration that these items make.
 pub fn build(
     alloc: Global,
     unit: &[u8],
     names: &mut Names,
     items: &[Item],
-) -> Result<Option<BareDec>, Memory>
-    ensures { IfOk result (λ dec. option_map dec_of dec ≡ dec_in (first (values_of unit.now items.now))) }
+) -> Result<BareDec, Memory>
+    ensures { IfOk result (λ dec. dec_of dec ≡ dec_in (first (values_of unit.now items.now))) }
 {
     let mut stack = Stack::new(alloc);
     for i in (0..items.len()).rev() {
         let value = match items[i] {
             Item::Word(word) => Value::Word(word),
-            Item::Rule(rule) => pop_made(alloc, unit, names, &mut stack, rule)?,
+            Item::Made(form) => pop_made(alloc, unit, names, &mut stack, form)?,
+            Item::Mark(_) => Value::Nothing,
         };
         stack.push(value)?;
     }

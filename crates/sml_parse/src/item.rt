@@ -1,8 +1,8 @@
 //! What a declaration's derivation is made of.
 
+use crate::form::Form;
 use sml_lex::fault::Place;
 use sml_lex::token::Span;
-use sml_read::grammar::Rule;
 
 /// A token: its place in its declaration, and its bytes in the unit.
 #[derive(Clone, Copy, PartialEq, Eq, Debug)]
@@ -11,9 +11,21 @@ pub struct Word {
     pub span: Span,
 }
 
-/// A token, or a rule whose right side follows.
+/// What makes no tree.
+#[derive(Clone, Copy, PartialEq, Eq, Debug)]
+pub enum Mark {
+    /// A declaration begins behind it.
+    Begins,
+    /// What stands here is no part of a declaration.
+    Ends,
+    /// What stands here is outside the piece of the language whose trees are made so far.
+    Outside,
+}
+
+/// A token, or a form whose parts follow, or a mark.
 #[derive(Clone, Copy, PartialEq, Eq, Debug)]
 pub enum Item {
     Word(Word),
-    Rule(Rule),
+    Made(Form),
+    Mark(Mark),
 }

@@ -1,14 +1,17 @@
 //! The items of a unit's derivation.
 
-ghost use Rattle.std.specs.Prelude.{◌≡◌, ◌++◌, ◌<◌, take, drop, length, IfOk};
-ghost use Rattle.std.specs.List.{before_first};
+ghost use Rattle.std.specs.Prelude.{◌≡◌, ℕ, List, ◌++◌, [], if◌then◌else◌, slice_get, IfOk, OnOk};
+ghost use Rattle.std.specs.List.{before_first, cons_option};
+ghost use Rattle.sml_parse.specs.Piece as piece;
+ghost use Rattle.sml_parse.specs.Places.{IsOnWay};
 ghost use Rattle.sml_parse.specs.Items as spec;
 
-use crate::item::{Item, Word};
-use crate::place::Walk;
+use crate::form::{Meaning, meaning_of};
+use crate::item::{Item, Mark, Word};
+use crate::place::{Walk, text};
 use sml_lex::fault::Memory;
 use sml_lex::token::Token;
-use sml_read::grammar::{Node, Rule};
+use sml_read::grammar::Node;
 use std::alloc::Global;
 
 /// The first byte of this token, or the other byte if there is no such token.
@@ -21,12 +24,76 @@ pub fn start_of(tokens: &[Token], index: usize, other: usize) -> usize
     }
 }
 
-/// Whether a declaration begins with this item.
+/// The token at this index, if there is one.
+fn token_at(tokens: &[Token], index: usize) -> Option<Token>
+    ensures { result ≡ slice_get tokens.now index }
+{
+    match tokens.get(index) {
+        Some(token) => Some(*token),
+        None => None,
+    }
+}
+
+/// Whether an alphanumeric identifier may name a value: it has no fixity, and it may be bound.
+fn is_value_name(text: &[u8]) -> bool
+    ensures { result ≡ piece.is_value_name text.now }
+{
+    !(text == b"before".as_slice()
+        || text == b"div".as_slice()
+        || text == b"false".as_slice()
+        || text == b"mod".as_slice()
+        || text == b"nil".as_slice()
+        || text == b"o".as_slice()
+        || text == b"ref".as_slice()
+        || text == b"true".as_slice())
+}
+
+/// Whether this token is an identifier that may name a value.
+fn names_value(unit: &[u8], token: Option<Token>) -> bool
+    ensures { result ≡ spec.names_value unit.now token }
+{
+    match token {
+        Some(token) => is_value_name(text(unit, token.span)),
+        None => false,
+    }
+}
+
+/// What a rule's meaning puts among the items, its first token being this one.
+fn item_of(unit: &[u8], meaning: Meaning, token: Option<Token>) -> Option<Item>
+    ensures { result ≡ spec.item_of unit.now meaning token }
+{
+    match meaning {
+        Meaning::Passed => None,
+        Meaning::Named => {
+            if names_value(unit, token) {
+                None
+            } else {
+                Some(Item::Mark(Mark::Outside))
+            }
+        }
+        Meaning::Made(form) => Some(Item::Made(form)),
+        Meaning::Outside => Some(Item::Mark(Mark::Outside)),
+        Meaning::Begins => Some(Item::Mark(Mark::Begins)),
+        Meaning::Ends => Some(Item::Mark(Mark::Ends)),
+    }
+}
+
+/// Whether a declaration begins behind a rule with this meaning.
+fn begins_behind(meaning: Meaning) -> bool
+    ensures { result ≡ spec.begins_behind meaning }
+{
+    match meaning {
+        Meaning::Begins => true,
+        _ => false,
+    }
+}
+
+/// Whether a declaration begins behind this item.
 pub fn begins(item: Item) -> bool
     ensures { result ≡ spec.begins item }
 {
     match item {
-        Item::Rule(Rule::TopVal | Rule::TopStructure) => true,
+        Item::Mark(Mark::Begins) => true,
         _ => false,
     }
 }
@@ -36,31 +103,46 @@ fn ends(item: Item) -> bool
     ensures { result ≡ spec.ends item }
 {
     match item {
-        Item::Rule(
-            Rule::StartEnd
-            | Rule::StartSemicolon
-            | Rule::StartTop
-            | Rule::FollowingEnd
-            | Rule::FollowingSemicolon
-            | Rule::FollowingTop,
-        ) => true,
-        _ => begins(item),
+        Item::Mark(Mark::Begins | Mark::Ends) => true,
+        _ => false,
     }
 }
 
 /// The items of the declaration that begins with the first one.
 pub fn first(items: &[Item]) -> &[Item]
-    requires { 0 < length items.now }
-    ensures { result.now ≡ take 1 items.now ++ before_first spec.ends (drop 1 items.now) }
+    ensures { result.now ≡ before_first spec.ends items.now }
 {
-    let mut end = 1;
+    let mut end = 0;
     while end < items.len() && !ends(items[end]) {
         end += 1;
     }
     &items[..end]
 }
 
-/// Each node as an item, the tokens with their places in their declarations.
+/// The walk behind a rule with this meaning, the token at the index being the next.
+fn walk_behind(walk: Walk, meaning: Meaning, tokens: &[Token], index: usize) -> Walk
+    ensures start { result.start
+        ≡ (if spec.begins_behind meaning then spec.start_of tokens.now index 0 else walk.start) }
+    ensures sound { (unit : List ℕ) → IsOnWay unit walk → IsOnWay unit result }
+{
+    if begins_behind(meaning) {
+        Walk::new(start_of(tokens, index, 0))
+    } else {
+        walk
+    }
+}
+
+fn push_some(items: &mut Vec<Item>, item: Option<Item>) -> Result<(), Memory>
+    ensures { OnOk result (items.new.items ≡ items.old.items ++ cons_option item []) }
+{
+    match item {
+        Some(item) => items.push(item)?,
+        None => {}
+    }
+    Ok(())
+}
+
+/// The items of these nodes over these tokens.
 pub fn label(
     alloc: Global,
     unit: &[u8],
@@ -73,25 +155,24 @@ pub fn label(
     let mut walk = Walk::new(0);
     let mut index = 0;
     for node in nodes {
-        let item = match *node {
+        match *node {
             Node::Leaf => {
                 let Some(token) = tokens.get(index) else {
                     return Ok(items);
                 };
                 index += 1;
-                Item::Word(Word {
+                items.push(Item::Word(Word {
                     place: walk.go_to(unit, token.span.start),
                     span: token.span,
-                })
+                }))?;
             }
             Node::Inner(rule) => {
-                if begins(Item::Rule(rule)) {
-                    walk = Walk::new(start_of(tokens, index, 0));
-                }
-                Item::Rule(rule)
+                let meaning = meaning_of(rule);
+                walk = walk_behind(walk, meaning, tokens, index);
+                let item = item_of(unit, meaning, token_at(tokens, index));
+                push_some(&mut items, item)?;
             }
-        };
-        items.push(item)?;
+        }
     }
     Ok(items)
 }

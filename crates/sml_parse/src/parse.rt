@@ -1,17 +1,18 @@
 //! The bare declarations of a unit.
 
-ghost use Rattle.std.specs.Prelude.{◌≡◌, map, take_while, IfOk};
+ghost use Rattle.std.specs.Prelude.{◌≡◌, map, take_while, true, false, IfOk};
 ghost use Rattle.std.specs.List.{list_all};
-ghost use Rattle.std.specs.Option.{option_map};
+ghost use Rattle.std.specs.Option.{option_map, MatchOption};
 ghost use Rattle.sml_lex.specs.Faults.{fault_of};
 ghost use Rattle.sml_tree.specs.Views.{dec_of};
-ghost use Rattle.sml_parse.specs.Trees.{decs_of_items, is_low, fault_from, fault_read, Trees};
+ghost use Rattle.sml_parse.specs.Trees.{dec_of_items, decs_of_items, is_low, fault_from, fault_read, Trees};
 
 use crate::build::build;
 use crate::item::Item;
 use crate::label::{begins, first, label, start_of};
 use crate::names::Names;
 use crate::place::{FIRST, place_between};
+use crate::sort::is_in_piece;
 use crate::tall::measure;
 use sml_lex::fault::{Code, Fault, Memory};
 use sml_lex::token::{End, Lexed};
@@ -67,6 +68,26 @@ fn fault_of_reading(lexed: &Lexed, begun: usize, cause: Option<Cause>) -> Option
     }
 }
 
+/// The declaration that these items spell, unless it is too high.
+fn declared(
+    alloc: Global,
+    unit: &[u8],
+    names: &mut Names,
+    items: &[Item],
+) -> Result<Option<BareDec>, Memory>
+    ensures { let dec = dec_of_items unit.now items.now in
+        IfOk result (λ made. MatchOption made (is_low dec ≡ false)
+        (λ bare. (dec_of bare ≡ dec) × (is_low dec ≡ true))) }
+{
+    if !is_in_piece(alloc, items)? {
+        return Ok(Some(BareDec::Other(FIRST)));
+    }
+    if MOST < measure(alloc, items)? {
+        return Ok(None);
+    }
+    Ok(Some(build(alloc, unit, names, items)?))
+}
+
 /// The declarations that these items spell up to the first that is too high, and whether none is.
 fn declare(alloc: Global, unit: &[u8], items: &[Item]) -> Result<(Vec<BareDec>, bool), Memory>
     ensures { let all = decs_of_items unit.now items.now in
@@ -76,13 +97,10 @@ fn declare(alloc: Global, unit: &[u8], items: &[Item]) -> Result<(Vec<BareDec>, 
     let mut declarations = Vec::new(alloc);
     for i in 0..items.len() {
         if begins(items[i]) {
-            let declaration = first(&items[i..]);
-            if MOST < measure(alloc, declaration)? {
+            let Some(dec) = declared(alloc, unit, &mut names, first(&items[i + 1..]))? else {
                 return Ok((declarations, false));
-            }
-            if let Some(dec) = build(alloc, unit, &mut names, declaration)? {
-                declarations.push(dec)?;
-            }
+            };
+            declarations.push(dec)?;
         }
     }
     Ok((declarations, true))

@@ -1,14 +1,21 @@
 //! Places of bytes, counted from another byte of the unit.
 
-ghost use Rattle.std.specs.Prelude.{◌≡◌, ℕ, List, [], ◌∷◌, ◌++◌};
+ghost use Rattle.std.specs.Prelude.{◌≡◌, ℕ, List, [], ◌∷◌, ◌++◌, slice_range};
 ghost use Rattle.sml_parse.specs.Places.{place_behind, place_from, IsOnWay};
 
 use sml_lex::fault::Place;
 use sml_lex::token::Span;
-use sml_read::terminal::text;
 
 /// The place from which all places of a declaration count.
 pub const FIRST: Place = Place { line: 1, column: 1 };
+
+/// The bytes of a unit at this span.
+pub fn text<'a>(unit: &'a [u8], span: Span) -> &'a [u8]
+    ensures { result.now ≡ slice_range unit.now span.start span.end }
+{
+    let end = span.end.min(unit.len());
+    &unit[span.start.min(end)..end]
+}
 
 /// The place behind one more byte.
 fn after(place: Place, byte: u8) -> Place

@@ -1,9 +1,9 @@
 //! What the parts of a declaration make, on a stack.
 
 ghost use Rattle.std.specs.Prelude.{◌≡◌, [], ◌∷◌, map, reverse, OnOk};
-ghost use Rattle.std.specs.Option.{option_map};
 ghost use Rattle.sml_tree.specs.Views.{exp_of, exps_of, ty_of, tys_of, spec_of, core_dec_of, dec_of};
-ghost use Rattle.sml_parse.specs.Values.{word_in, exp_in, exps_in, ty_in, tys_in, specs_in, cores_in, dec_in, first, rest};
+ghost use Rattle.sml_parse.specs.Values.{word_in, exp_in, exps_in, ty_in, tys_in, specs_in, cores_in, dec_in, top_in, first};
+ghost use Rattle.sml_parse.specs.Lists.{rest};
 ghost use Rattle.sml_parse.specs.Stacks.{seen, value_of};
 
 use crate::item::Word;
@@ -136,13 +136,24 @@ impl Stack {
         }
     }
 
-    pub fn dec(&mut self) -> Option<BareDec>
-        ensures value { option_map dec_of result ≡ dec_in (first (seen self.old)) }
+    pub fn dec(&mut self) -> BareDec
+        ensures value { dec_of result ≡ dec_in (first (seen self.old)) }
         ensures rest { seen self.new ≡ rest (seen self.old) }
     {
-        let Value::Dec(dec) = self.pop() else {
-            return None;
-        };
-        Some(dec)
+        match self.pop() {
+            Value::Dec(dec) => dec,
+            _ => BareDec::Other(FIRST),
+        }
+    }
+
+    pub fn top(&mut self) -> BareDec
+        ensures value { dec_of result ≡ top_in (first (seen self.old)) }
+        ensures rest { seen self.new ≡ rest (seen self.old) }
+    {
+        match self.pop() {
+            Value::Core(core) => BareDec::Core(core),
+            Value::Dec(dec) => dec,
+            _ => BareDec::Other(FIRST),
+        }
     }
 }

@@ -1,14 +1,15 @@
 //! Heights from derivations, by one walk from the last item to the first, before any tree is made.
 ghost use Rattle.std.specs.Prelude.{◌≡◌, ℕ, ◌+◌, max, List, reverse, length, IfOk};
-ghost use Rattle.sml_read.specs.Grammar.{right_side};
-ghost use Rattle.sml_parse.specs.Values.{dec_in, first, rest, without};
+ghost use Rattle.sml_parse.specs.Forms.{needs};
+ghost use Rattle.sml_parse.specs.Lists.{rest, without};
+ghost use Rattle.sml_parse.specs.Values.{dec_in, first};
 ghost use Rattle.sml_parse.specs.Rules.{values_of};
-ghost use Rattle.sml_tree.specs.Height.{counted};
-ghost use Rattle.sml_parse.specs.Heights.{height_if_any, exp_tall, exps_tall, ty_tall, tys_tall, spec_tall, specs_tall, core_tall, cores_tall, dec_tall, arrow_tall, tuple_tall, first_tall, tall_at, raised};
+ghost use Rattle.sml_tree.specs.Height.{counted, dec_height};
+ghost use Rattle.sml_parse.specs.Heights.{exp_tall, exps_tall, ty_tall, tys_tall, spec_tall, specs_tall, core_tall, cores_tall, dec_tall, top_tall, arrow_tall, tuple_tall, first_tall, tall_at, raised};
 
+use crate::form::Form;
 use crate::item::Item;
 use sml_lex::fault::Memory;
-use sml_read::grammar::Rule;
 use std::alloc::Global;
 
 /// The height of what a part makes, by its sort.
@@ -122,9 +123,19 @@ fn pop_dec(stack: &mut Vec<Tall>) -> u32
     ensures rest { reverse stack.new.items ≡ rest (reverse stack.old.items) }
 {
     let Tall::Dec(height) = pop(stack) else {
-        return 0;
+        return 1;
     };
     height
+}
+
+fn pop_top(stack: &mut Vec<Tall>) -> u32
+    ensures value { result ≡ top_tall (first_tall (reverse stack.old.items)) }
+    ensures rest { reverse stack.new.items ≡ rest (reverse stack.old.items) }
+{
+    match pop(stack) {
+        Tall::Core(height) | Tall::Dec(height) => height,
+        _ => 1,
+    }
 }
 
 /// The height of an expression and of those behind it.
@@ -251,90 +262,84 @@ fn pop_structure(stack: &mut Vec<Tall>) -> u32
     specs.max(decs).saturating_add(3)
 }
 
-/// The heights of a rule's right side are taken off the stack; that of what the rule makes is answered.
-fn pop_made(stack: &mut Vec<Tall>, rule: Rule) -> Tall
-    ensures made { result ≡ raised rule (reverse stack.old.items) }
+/// The heights that a form needs are taken off the stack; that of what it makes is answered.
+fn pop_made(stack: &mut Vec<Tall>, form: Form) -> Tall
+    ensures made { result ≡ raised form (reverse stack.old.items) }
     ensures rest { let ts = reverse stack.old.items in
-        reverse stack.new.items ≡ without (length (right_side rule)) ts }
+        reverse stack.new.items ≡ without (length (needs form)) ts }
 {
-    match rule {
-        Rule::StartEnd | Rule::FollowingEnd => Tall::Nothing,
-        Rule::StartSemicolon | Rule::StartTop | Rule::FollowingSemicolon | Rule::FollowingTop => {
-            pop(stack);
-            pop(stack);
-            Tall::Nothing
-        }
-        Rule::TopVal => Tall::Dec(pop_fourth_exp(stack)),
-        Rule::TopStructure => Tall::Dec(pop_structure(stack)),
-        Rule::SpecsEnd => Tall::Specs(0),
-        Rule::SpecsSemicolon => {
+    match form {
+        Form::Top => Tall::Dec(pop_top(stack)),
+        Form::Structure => Tall::Dec(pop_structure(stack)),
+        Form::SpecsEnd => Tall::Specs(0),
+        Form::SpecsSemicolon => {
             pop(stack);
             Tall::Specs(pop_specs(stack))
         }
-        Rule::SpecsSpec => Tall::Specs(pop_more_specs(stack)),
-        Rule::SpecVal => Tall::Spec(pop_fourth_ty(stack)),
-        Rule::SpecType => {
+        Form::SpecsSpec => Tall::Specs(pop_more_specs(stack)),
+        Form::SpecVal => Tall::Spec(pop_fourth_ty(stack)),
+        Form::SpecType => {
             pop(stack);
             pop(stack);
             Tall::Spec(1)
         }
-        Rule::DecsEnd => Tall::Cores(0),
-        Rule::DecsSemicolon => {
+        Form::DecsEnd => Tall::Cores(0),
+        Form::DecsSemicolon => {
             pop(stack);
             Tall::Cores(pop_cores(stack))
         }
-        Rule::DecsDec => Tall::Cores(pop_more_cores(stack)),
-        Rule::DecVal => Tall::Core(pop_fourth_exp(stack)),
-        Rule::DecType => Tall::Core(pop_fourth_ty(stack)),
-        Rule::ExpInteger | Rule::ExpName | Rule::ExpLong | Rule::OpenClose => {
+        Form::DecsDec => Tall::Cores(pop_more_cores(stack)),
+        Form::DecVal => Tall::Core(pop_fourth_exp(stack)),
+        Form::DecType => Tall::Core(pop_fourth_ty(stack)),
+        Form::ExpInteger | Form::ExpName | Form::RoundClose => {
             pop(stack);
             Tall::Exp(1)
         }
-        Rule::ExpOpen => {
+        Form::ExpRound => {
             pop(stack);
             Tall::Exp(pop_exp(stack))
         }
-        Rule::ExpFn => Tall::Exp(pop_fourth_exp(stack)),
-        Rule::OpenExp => Tall::Exp(pop_more_exps(stack).saturating_add(1)),
-        Rule::ExpsClose => {
+        Form::ExpFn => Tall::Exp(pop_fourth_exp(stack)),
+        Form::RoundExp => Tall::Exp(pop_more_exps(stack).saturating_add(1)),
+        Form::ExpsClose => {
             pop(stack);
             Tall::Exps(0)
         }
-        Rule::ExpsComma => {
+        Form::ExpsComma => {
             pop(stack);
             Tall::Exps(pop_more_exps(stack))
         }
-        Rule::TyTup => Tall::Ty(pop_arrow(stack)),
-        Rule::TyEnd => Tall::Nothing,
-        Rule::TyArrow => {
+        Form::TyTup => Tall::Ty(pop_arrow(stack)),
+        Form::TyEnd => Tall::Nothing,
+        Form::TyArrow => {
             pop(stack);
             Tall::Ty(pop_ty(stack))
         }
-        Rule::TupCon => Tall::Ty(pop_tuple(stack)),
-        Rule::TupEnd => Tall::Tys(0),
-        Rule::TupStar => {
+        Form::TupCon => Tall::Ty(pop_tuple(stack)),
+        Form::TupEnd => Tall::Tys(0),
+        Form::TupStar => {
             pop(stack);
             Tall::Tys(pop_more_tys(stack))
         }
-        Rule::ConName | Rule::ConLong => {
+        Form::ConName => {
             pop(stack);
             Tall::Ty(1)
         }
-        Rule::ConOpen => Tall::Ty(pop_bracket(stack)),
-        Rule::NameValue | Rule::NameOther => pop(stack),
+        Form::ConRound => Tall::Ty(pop_bracket(stack)),
     }
 }
 
-/// The height of the declaration that these items spell.
+/// The height of the declaration that these items make.
 pub fn measure(alloc: Global, items: &[Item]) -> Result<u32, Memory>
     ensures { IfOk result (λ height. (unit : List ℕ) →
-        height ≡ counted (height_if_any (dec_in (first (values_of unit items.now))))) }
+        height ≡ counted (dec_height (dec_in (first (values_of unit items.now))))) }
 {
     let mut stack = Vec::new(alloc);
     for i in (0..items.len()).rev() {
         let tall = match items[i] {
             Item::Word(_) => Tall::Word,
-            Item::Rule(rule) => pop_made(&mut stack, rule),
+            Item::Made(form) => pop_made(&mut stack, form),
+            Item::Mark(_) => Tall::Nothing,
         };
         stack.push(tall)?;
     }

@@ -1,6 +1,10 @@
-pub mod Terminals
 pub mod Grammar
+pub mod Parts
+pub mod Numbers
 pub mod Spelling
 pub mod Table
+pub mod Shortest
 pub mod Steps
 pub mod Answer
+pub mod All
+pub mod Exact

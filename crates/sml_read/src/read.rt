@@ -3,16 +3,15 @@ ghost use Rattle.std.specs.Prelude.{◌≡◌, List, [], ◌∷◌, ◌++◌, re
 ghost use Rattle.std.specs.Option.{MatchOption};
 ghost use Rattle.sml_read.specs.declared.grammar.Node.{Node};
 ghost use Rattle.sml_read.specs.declared.grammar.Symbol.TheVariants.{Of};
-ghost use Rattle.sml_read.specs.Grammar.{is_outer};
-ghost use Rattle.sml_read.specs.Steps.{Takes, Refuses, Completes, Blocks, ends_outer};
-ghost use Rattle.sml_read.specs.Terminals.{terminals_of};
+ghost use Rattle.sml_read.specs.Spelling.{kinds_of, is_outer};
+ghost use Rattle.sml_read.specs.Steps.{Takes, Refuses, Completes, Blocks, ends_outer, ends_whole};
 ghost use Rattle.sml_read.specs.Answer.{is_done, IsReading};
 
 use crate::grammar::{Node, Part, Symbol};
 use crate::table::{backwards, choice, expected};
-use crate::terminal::{Terminal, terminals};
+use crate::tokens::kinds;
 use sml_lex::fault::Memory;
-use sml_lex::token::{End, Lexed};
+use sml_lex::token::{End, Kind, Lexed};
 use std::alloc::Global;
 
 /// Why a unit isn't read to its end.
@@ -39,7 +38,7 @@ pub struct Full {
 fn complete(
     stack: &mut Vec<Symbol>,
     nodes: &mut Vec<Node>,
-    next: Option<Terminal>,
+    next: Option<Kind>,
 ) -> Result<Option<Part>, Memory>
     requires { ends_outer false (reverse stack.now.items) ≡ true }
     ensures { IfOk result (λ left. (added : List Node) × (nodes.new.items ≡ nodes.old.items ++ added)
@@ -68,26 +67,22 @@ fn complete(
 }
 
 /// Takes the next token, and says whether some trees of the symbols on the stack begin with it.
-fn take_token(
-    stack: &mut Vec<Symbol>,
-    nodes: &mut Vec<Node>,
-    terminal: Terminal,
-) -> Result<bool, Memory>
+fn take_token(stack: &mut Vec<Symbol>, nodes: &mut Vec<Node>, kind: Kind) -> Result<bool, Memory>
     ensures { IfOk result (λ taken. (added : List Node) × (nodes.new.items ≡ nodes.old.items ++ added)
-        × MatchBool taken (Takes (reverse stack.old.items) terminal added (reverse stack.new.items))
-        (Refuses (reverse stack.old.items) terminal)) }
+        × MatchBool taken (Takes (reverse stack.old.items) kind added (reverse stack.new.items))
+        (Refuses (reverse stack.old.items) kind)) }
 {
     while let Some(top) = stack.pop() {
         match top {
             Symbol::Word(word) => {
-                if word != terminal {
+                if word != kind {
                     return Ok(false);
                 }
                 nodes.push(Node::Leaf)?;
                 return Ok(true);
             }
             Symbol::Of(part) => {
-                let Some(rule) = choice(part, terminal) else {
+                let Some(rule) = choice(part, kind) else {
                     return Ok(false);
                 };
                 nodes.push(Node::Inner(rule))?;
@@ -98,24 +93,33 @@ fn take_token(
     Ok(false)
 }
 
-/// Reads these terminals. Where `done` is false, a fault that is no token stands behind the last one.
-fn read_terminals(alloc: Global, terminals: &[Terminal], done: bool) -> Result<Full, Memory>
-    ensures { IfOk result (λ full. IsReading terminals.now done full.nodes.items full.begun full.cause) }
+/// Whether a part alone is left, and what stands before it has ended with this token next.
+fn is_whole(left: Option<Part>, next: Kind) -> bool
+    ensures { result ≡ ends_whole left next }
+{
+    match left {
+        Some(Part::AfterExp) => next == Kind::Semicolon,
+        Some(_) => true,
+        None => false,
+    }
+}
+
+/// Reads tokens of these kinds. Where `done` is false, a fault that is no token stands behind the last one.
+fn read_kinds(alloc: Global, kinds: &[Kind], done: bool) -> Result<Full, Memory>
+    ensures { IfOk result (λ full. IsReading kinds.now done full.nodes.items full.begun full.cause) }
 {
     let mut stack = Vec::new(alloc);
     stack.push(Symbol::Of(Part::Start))?;
     let mut nodes = Vec::new(alloc);
     let mut begun = 0;
     let mut count = 0;
-    for (place, terminal) in terminals.iter().enumerate() {
-        match complete(&mut stack, &mut nodes, Some(*terminal))? {
-            Some(_) => {
-                begun = place;
-                count = nodes.len();
-            }
-            None => {}
+    for (place, kind) in kinds.iter().enumerate() {
+        let left = complete(&mut stack, &mut nodes, Some(*kind))?;
+        if is_whole(left, *kind) {
+            begun = place;
+            count = nodes.len();
         }
-        if !take_token(&mut stack, &mut nodes, *terminal)? {
+        if !take_token(&mut stack, &mut nodes, *kind)? {
             nodes.truncate(count);
             return Ok(Full {
                 nodes,
@@ -142,14 +146,14 @@ fn read_terminals(alloc: Global, terminals: &[Terminal], done: bool) -> Result<F
     if done {
         return Ok(Full {
             nodes,
-            begun: terminals.len(),
+            begun: kinds.len(),
             cause: None,
         });
     }
     match part {
         Part::Start => Ok(Full {
             nodes,
-            begun: terminals.len(),
+            begun: kinds.len(),
             cause: Some(Cause::Lexical),
         }),
         _ => {
@@ -166,86 +170,17 @@ fn read_terminals(alloc: Global, terminals: &[Terminal], done: bool) -> Result<F
 /// Reads a unit's tokens.
 pub fn read(alloc: Global, lexed: &Lexed) -> Result<Full, Memory>
     ensures { IfOk result (λ full. IsReading
-        (terminals_of lexed.now.unit.now lexed.now.tokens.items) (is_done lexed.now.end)
+        (kinds_of lexed.now.tokens.items) (is_done lexed.now.end)
         full.nodes.items full.begun full.cause) }
 {
     let done = match lexed.end {
         End::Done => true,
         End::Fault(_) => false,
     };
-    read_terminals(alloc, &terminals(alloc, lexed)?, done)
+    read_kinds(alloc, &kinds(alloc, &lexed.tokens)?, done)
 }
 
 #[cfg(test)]
-mod tests {
-    use super::*;
-
-    const TERMINALS: [Terminal; 12] = [
-        Terminal::ValWord,
-        Terminal::ValueName,
-        Terminal::Equals,
-        Terminal::Integer,
-        Terminal::ValWord,
-        Terminal::ValueName,
-        Terminal::Equals,
-        Terminal::OpenRound,
-        Terminal::ValueName,
-        Terminal::Comma,
-        Terminal::Integer,
-        Terminal::CloseRound,
-    ];
-
-    #[test]
-    fn cuts(rt: HostRuntime) -> Result<(), Memory> {
-        for n in 0..13 {
-            let full = read_terminals(rt.alloc(), &TERMINALS[..n], true)?;
-            let whole = n == 0 || n == 4 || n == 12;
-            let begun = if n == 12 {
-                12
-            } else if n < 4 {
-                0
-            } else {
-                4
-            };
-            assert_eq!(rt; full.begun, begun, "at {n}");
-            let cause = if whole { None } else { Some(Cause::TooEarly) };
-            assert_eq!(rt; full.cause, cause, "at {n}");
-        }
-        Ok(())
-    }
-
-    #[test]
-    fn lexical_faults(rt: HostRuntime) -> Result<(), Memory> {
-        for (terminals, begun) in [
-            (&TERMINALS[..0], 0),
-            (&TERMINALS[..4], 0),
-            (&TERMINALS[..5], 4),
-            (&TERMINALS[..12], 4),
-            (&[Terminal::Semicolon, Terminal::Semicolon], 2),
-        ] {
-            let full = read_terminals(rt.alloc(), terminals, false)?;
-            assert_eq!(rt; full.begun, begun);
-            assert_eq!(rt; full.cause, Some(Cause::Lexical));
-        }
-        Ok(())
-    }
-
-    #[test]
-    fn unexpected(rt: HostRuntime) -> Result<(), Memory> {
-        let terminals = [
-            Terminal::ValWord,
-            Terminal::ValueName,
-            Terminal::Equals,
-            Terminal::Integer,
-            Terminal::CloseRound,
-        ];
-        let full = read_terminals(rt.alloc(), &terminals, true)?;
-        assert_eq!(rt; full.begun, 4);
-        assert_eq!(rt; full.cause, Some(Cause::Unexpected(4)));
-        let terminals = [Terminal::Semicolon, Terminal::ValWord, Terminal::Equals];
-        let full = read_terminals(rt.alloc(), &terminals, true)?;
-        assert_eq!(rt; full.begun, 1);
-        assert_eq!(rt; full.cause, Some(Cause::Unexpected(2)));
-        Ok(())
-    }
-}
+mod forms;
+#[cfg(test)]
+mod tests;

@@ -3,7 +3,7 @@ use Rattle.std.specs.Prelude.{◌≡◌, ◌≤◌, ◌+◌, ℕ, List, [], ◌�
 use mathlib.Core.Path.{refl, sym, ◌∙◌}
 use mathlib.Core.List.{◌++◌}
 use Rattle.sml_lex.specs.declared.fault.Code.TheVariants.{N2, Q3}
-use Rattle.sml_tree.specs.Trees.{Spec, Dec, type_spec, val_spec, core, sealed}
+use Rattle.sml_tree.specs.Trees.{Spec, Dec, type_spec, val_spec, core, sealed, other}
 use Rattle.sml_objects.specs.Names.{Naming}
 use Rattle.sml_objects.specs.Objects.{Env, Sig, Basis, empty_env, one_type, one_structure, extend, mono, named, Outside, rename_sig, rename_env, rename_basis, names_sig, names_env, names_basis}
 use Rattle.sml_rules.specs.Rules.{IsNew, apart, sum_of, Item, item_of, Specified}
@@ -150,6 +150,8 @@ read_dec_settled {P} unit (sealed s p specs decs) =
   where
     result : {N : Type 0} → List (Sig N) → Sig N
     result Ss = record { names = (sum_of Ss).names; body = one_structure s (sum_of Ss).body }
+read_dec_settled {P} unit (other p) =
+    by_one {C = Basis} {O = λ N. Answer P (Sig N)} basis_supported (λ N a B. read_dec a unit B (other p)) (λ N a B x y h k. h ∙ sym k)
 
 pub read_top_settled : {P : Type 0} (p : P) (unit : ℕ) (d : Dec P) → Settled {C = Basis} {O = λ N. Answer P (Sig N)} basis_supported (λ N a B. read_top a p unit B d)
 unfolding read_top basis_supported sig_supported

@@ -8,7 +8,7 @@ use Rattle.std.specs.declared.cmp.Ordering.{Ordering}
 use Rattle.std.specs.declared.cmp.Ordering.TheVariants.{Less, Equal, Greater}
 use Rattle.sml_lex.specs.declared.fault.Code.{Code}
 use Rattle.sml_lex.specs.Faults.{Fault}
-use Rattle.sml_tree.specs.Trees.{Id, LongId, Exp, Exps, Ty, Tys, Spec, CoreDec, Dec, number, name, tuple, bracket, function, no_exp, and_exp, constructor, product, arrow_to, bracket_ty, no_ty, and_ty, type_spec, val_spec, val_dec, type_dec, core, sealed}
+use Rattle.sml_tree.specs.Trees.{Id, LongId, Exp, Exps, Ty, Tys, Spec, CoreDec, Dec, number, name, tuple, bracket, function, no_exp, and_exp, constructor, product, arrow_to, bracket_ty, no_ty, and_ty, type_spec, val_spec, val_dec, type_dec, core, sealed, other}
 use Rattle.sml_objects.specs.Names.{Naming}
 use Rattle.sml_objects.specs.Maps.{Map, lookup, put, join, by_order, order_of}
 use Rattle.sml_objects.specs.Objects.{MlType, MlTypes, Scheme, Env, Structures, Sig, Basis, bound, free, app, no_type, and_type, env, no_structure, and_structure, types, values, empty_env, extend_env, extend, mono, named, names_env, names_sig, names_basis}
@@ -335,6 +335,10 @@ module _ {P N : Type 0} (names : Naming N) where
 
       plain_empty : IsPlain {N = N} [] empty_env
       plain_empty = (tt, tt)
+  sound_dec unit B (other p) S h = absurd (not_refused h)
+    where
+      not_refused : {f : Fault P} → accepted S ≡ refused f → ⊥
+      not_refused e = cc
 
   pub readings_sound : (p : P) (unit : ℕ) (B : Basis N) (d : Dec P) (S : Sig N) → read_top names p unit B d (accepted S) → IsSound names unit B d S
   unfolding read_top IsSound

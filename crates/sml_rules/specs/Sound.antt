@@ -1,6 +1,6 @@
 -- Sound answers: some derivation in the rules gives the environment, up to names of types.
 use Rattle.std.specs.Prelude.{◌≡◌, ℕ, List, []}
-use Rattle.sml_tree.specs.Trees.{Dec, core, sealed}
+use Rattle.sml_tree.specs.Trees.{Dec, core, sealed, other}
 use Rattle.sml_objects.specs.Names.{Naming}
 use Rattle.sml_objects.specs.Objects.{Env, Sig, Basis, empty_env, one_structure}
 use Rattle.sml_objects.specs.Alike.{AlikeOver}
@@ -15,6 +15,7 @@ module _ {N : Type 0} (names : Naming N) where
   Derives unit B (sealed s p specs decs) S =
       (E : Env N) × (Ss : List (Sig N)) × DeclareAll names B.body empty_env decs E × SpecifyAll names unit B specs Ss × AreDistinct [] specs
       × Matches E (sum_of Ss) × (S ≡ record { names = (sum_of Ss).names; body = one_structure s (sum_of Ss).body })
+  Derives unit B (other p) S = ⊥
 
   -- The rules derive, from B and the declaration, what is alike over B to this.
   unfoldable pub IsSound : {P : Type 0} → ℕ → Basis N → Dec P → Sig N → Type 0

@@ -1,6 +1,6 @@
 -- Heights: each phrase is one higher than its highest part, brackets included. Lists add nothing by their length.
 use Rattle.std.specs.Prelude.{ℕ, suc, ◌-◌, ◌^◌, min, max, List, [], ◌∷◌}
-use Rattle.sml_tree.specs.Trees.{Exp, Exps, Ty, Tys, Spec, CoreDec, Dec, number, name, tuple, bracket, function, no_exp, and_exp, constructor, product, arrow_to, bracket_ty, no_ty, and_ty, type_spec, val_spec, val_dec, type_dec, core, sealed}
+use Rattle.sml_tree.specs.Trees.{Exp, Exps, Ty, Tys, Spec, CoreDec, Dec, number, name, tuple, bracket, function, no_exp, and_exp, constructor, product, arrow_to, bracket_ty, no_ty, and_ty, type_spec, val_spec, val_dec, type_dec, core, sealed, other}
 
 abbrev mutual
   pub exp_height : {P : Type 0} → Exp P → ℕ
@@ -46,6 +46,7 @@ decs_height (d ∷ ds) = max (core_height d) (decs_height ds)
 abbrev pub dec_height : {P : Type 0} → Dec P → ℕ
 dec_height (core d) = core_height d
 dec_height (sealed s p specs decs) = suc (suc (max (suc (specs_height specs)) (suc (decs_height decs))))
+dec_height (other p) = 1
 
 -- counts stop at the greatest number of 32 bits
 abbrev pub counted : ℕ → ℕ

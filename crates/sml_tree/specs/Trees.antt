@@ -46,3 +46,5 @@ pub data Dec (P : Type 0) : Type 0 where
   core : CoreDec P → Dec P
   -- `structure S = struct decs end :> sig specs end`, with the place of the signature expression
   sealed : Id → P → List (Spec P) → List (CoreDec P) → Dec P
+  -- a declaration outside the piece of the language whose trees are made so far
+  other : P → Dec P

@@ -16,7 +16,7 @@ use Rattle.sml_tree.specs.declared.bare.CoreDec.{CoreDec}
 use Rattle.sml_tree.specs.declared.bare.CoreForm.{CoreForm}
 use Rattle.sml_tree.specs.declared.bare.CoreForm.TheVariants as D
 use Rattle.sml_tree.specs.declared.bare.BareDec.{BareDec}
-use Rattle.sml_tree.specs.declared.bare.BareDec.TheVariants.{Core, Structure}
+use Rattle.sml_tree.specs.declared.bare.BareDec.TheVariants.{Core, Structure, Other}
 use Rattle.std.specs.declared.rc.Rc.{Rc}
 use Rattle.std.specs.Prelude.{Vec}
 use Rattle.std.specs.Global.{Global}
@@ -72,3 +72,4 @@ core_dec_of d = core_form_of d.place d.form
 abbrev pub dec_of : BareDec → T.Dec Place
 dec_of (Core d) = T.core (core_dec_of d)
 dec_of (Structure s) = T.sealed (ident_of s.name) s.signature.place (map spec_of s.signature.specs.items) (map core_dec_of s.body.items)
+dec_of (Other p) = T.other p

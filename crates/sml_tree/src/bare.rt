@@ -89,4 +89,6 @@ pub struct SealedStructure {
 pub enum BareDec {
     Core(CoreDec),
     Structure(SealedStructure),
+    /// One outside the piece of the language whose trees are made so far, with its place.
+    Other(Place),
 }

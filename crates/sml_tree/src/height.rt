@@ -102,5 +102,6 @@ pub fn height(dec: &BareDec) -> u32
             let body = height_of_cores(&structure.body);
             specs.max(body).saturating_add(3)
         }
+        BareDec::Other(_) => 1,
     }
 }

@@ -7,7 +7,7 @@ use native.Mathlib.Decide.{ℕ_discrete}
 use Rattle.sml_lex.specs.Faults.{Fault}
 use Rattle.sml_lex.specs.declared.fault.Place.{Place}
 use Rattle.sml_tree.specs.Trees as T
-use Rattle.sml_tree.specs.Trees.{core, sealed}
+use Rattle.sml_tree.specs.Trees.{core, sealed, other}
 use Rattle.sml_tree.specs.Forget.{forget}
 use Rattle.sml_objects.specs.Names.{Naming}
 use Rattle.sml_objects.specs.Objects.{Sig, Basis, one_structure, extend, names_basis}
@@ -29,7 +29,9 @@ pub seals_alike : {D : Type 0 → Type 0} (E : Supported D) (unit : ℕ) (d e : 
     → ◌≡◌ {A = Over (λ N. (Basis N × D N) × Sig N)} (v.0, v.1, (v.2, x)) (w.0, w.1, (w.2, y))
 unfolding SealAlike
 seals_alike E unit (core d) e h p cov r r' = absurd h
+seals_alike E unit (other i) e h p cov r r' = absurd h
 seals_alike E unit (sealed s i q ds) (core e) h p cov r r' = absurd h
+seals_alike E unit (sealed s i q ds) (other j) h p cov r r' = absurd h
 seals_alike {D = D} E unit (sealed s i q ds) (sealed s' i' q' ds') h {v = v} {w = w} p cov {x = x} {y = y} r r' =
     let m = exported v.1 unit v.2.0 beginning s i q ds x r in
     let n = exported w.1 unit w.2.0 beginning s' i' q' ds' y r' in

@@ -1,7 +1,7 @@
 -- A sealed body is its maker's own affair.
 use Rattle.std.specs.Prelude.{◌≡◌, ◌⊎◌, ◌↔◌, ℕ, suc, List, [], ◌∷◌, map}
 use Rattle.sml_lex.specs.declared.fault.Place.{Place}
-use Rattle.sml_tree.specs.Trees.{Dec, core, sealed}
+use Rattle.sml_tree.specs.Trees.{Dec, core, sealed, other}
 use Rattle.sml_tree.specs.Forget.{forget}
 use Rattle.sml_objects.specs.Names.{Naming}
 use Rattle.sml_objects.specs.Objects.{Sig}
@@ -13,7 +13,9 @@ use Rattle.sml_units.specs.Runs.{SourceUnit, RunProject}
 -- The same structure identifier and signature expression, and perhaps another body; places don't count.
 unfoldable pub SealAlike : Dec Place → Dec Place → Type 0
 SealAlike (core d) e = ⊥
+SealAlike (other p) e = ⊥
 SealAlike (sealed s p q ds) (core e) = ⊥
+SealAlike (sealed s p q ds) (other p') = ⊥
 SealAlike (sealed s p q ds) (sealed s' p' q' ds') = (s ≡ s') × (map forget q ≡ map forget q')
 
 -- the same declarations in the same number, but for the bodies of sealed structures

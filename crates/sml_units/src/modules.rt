@@ -73,6 +73,7 @@ fn own_basis(alloc: Global, basis: &Basis, dec: &BareDec) -> Result<Basis, TopFa
     match dec {
         BareDec::Core(dec) => core_basis(alloc, basis, dec),
         BareDec::Structure(structure) => sealed(alloc, basis, structure),
+        BareDec::Other(place) => Err(plain_fault(Code::Z1, *place)),
     }
 }
 

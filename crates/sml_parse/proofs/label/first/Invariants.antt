@@ -7,7 +7,7 @@ use Rattle.sml_parse.proofs.label.first.Given as goal
 abbrev pub invariant-loop-end : goal.invariant-loop-end
 invariant-loop-end l = record {
   within : l.end ≤ length l.items;
-  kept : take 1 l.items ++ before_first ends (drop 1 l.items) ≡ take l.end l.items ++ before_first ends (drop l.end l.items);
+  kept : before_first ends l.items ≡ take l.end l.items ++ before_first ends (drop l.end l.items);
 }
 
 abbrev pub decreases-loop-end : goal.decreases-loop-end

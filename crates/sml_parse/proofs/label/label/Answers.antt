@@ -1,11 +1,12 @@
-use Rattle.std.proofs.Common.{◌∙◌, length, sym, ap, subst, refl}
+use Rattle.std.proofs.Common.{◌≡◌, ◌+◌, ◌++◌, [], drop, cond, ◌∙◌, length, sym, ap, subst, refl}
 use Rattle.std.proofs.lemmas.Bool.{ltb-true, cond-true, cond-false}
 use Rattle.std.proofs.lemmas.Option.{slice_get_read}
 use Rattle.sml_parse.specs.declared.item.Item.TheVariants as I
 use Rattle.sml_parse.specs.Places.{IsOnWay}
-use Rattle.sml_parse.specs.Items.{begins, start_of}
+use Rattle.std.specs.List.{cons_option}
+use Rattle.sml_parse.specs.Items.{item_of, items_of, begins_behind, start_of}
 use Rattle.sml_parse.proofs.Labels.{leaf_on, inner_on}
-use Rattle.sml_parse.proofs.label.label.Goals.{in-Leaf+in-Some, in-Inner+then-begins, in-Inner+else-begins}
+use Rattle.sml_parse.proofs.label.label.Goals.{in-Leaf+in-Some+in_ok-push-in-Leaf, in-Inner+in_ok-push_some-in-Inner}
 use Rattle.sml_parse.proofs.label.label.Goals as goal
 
 pub loop-node-preserved : goal.loop-node-preserved
@@ -16,22 +17,15 @@ loop-node-preserved c =
     let index = c.loop-node.index in
     let begun = c.loop-node.walk.start in
     elim c.match-node.branch [
-      | in-Leaf+in-Some w ↦ record {
+      | in-Leaf+in-Some+in_ok-push-in-Leaf w ↦ record {
         sound = subst (IsOnWay unit) (sym w.walk-is) w.go_to.ensures.sound;
         kept = leaf_on unit begun c.loop-node.node-index index c.args.nodes.now tokens _ _ _ _ w.in-Some.token.now w.go_to.result _ _ _ inv.kept c.loop-node-test.true w.in-Leaf.is
             (slice_get_read tokens (length tokens) index w.in-Some.token.now refl (ltb-true _ _ (sym w.in-Some.ensures.lookup.0)) w.in-Some.ensures.lookup.1)
-            w.go_to.ensures.place w.item-is c.in_ok-push.ensures.items (ap (λ x. x.start) w.walk-is ∙ w.go_to.ensures.start) w.index-is;
+            w.go_to.ensures.place refl (ap (λ v. v.items) w.items-is ∙ w.in_ok-push-in-Leaf.ensures.items) (ap (λ x. x.start) w.walk-is ∙ w.go_to.ensures.start) w.index-is;
       }
-      | in-Inner+then-begins w ↦ record {
-        sound = subst (IsOnWay unit) (sym w.walk-is) (w.new-walk-then-begins.ensures.sound unit);
-        kept = inner_on unit begun c.loop-node.node-index index c.args.nodes.now tokens _ _ _ _ w.in-Inner.rule _ _ _ inv.kept c.loop-node-test.true w.in-Inner.is w.item-is c.in_ok-push.ensures.items
-            (ap (λ x. x.start) w.walk-is ∙ w.new-walk-then-begins.ensures.start ∙ w.start_of.ensures ∙ sym (cond-true (begins (I.Rule w.in-Inner.rule)) (start_of tokens index 0) begun (sym w.if-begins.ensures)))
-            w.index-is;
-      }
-      | in-Inner+else-begins w ↦ record {
-        sound = subst (IsOnWay unit) (sym w.walk-is) inv.sound;
-        kept = inner_on unit begun c.loop-node.node-index index c.args.nodes.now tokens _ _ _ _ w.in-Inner.rule _ _ _ inv.kept c.loop-node-test.true w.in-Inner.is w.item-is c.in_ok-push.ensures.items
-            (ap (λ x. x.start) w.walk-is ∙ sym (cond-false (begins (I.Rule w.in-Inner.rule)) (start_of tokens index 0) begun (sym w.if-begins.ensures)))
-            w.index-is;
+      | in-Inner+in_ok-push_some-in-Inner w ↦ record {
+        sound = subst (IsOnWay unit) (sym w.walk-is) (w.walk_behind-walk.ensures.sound unit inv.sound);
+        kept = subst (λ k. items_of unit 0 c.args.nodes.now tokens ≡ c.match-node.items.items ++ items_of unit c.match-node.walk.start (drop (c.loop-node.node-index + 1) c.args.nodes.now) (drop k tokens)) (sym w.index-is)
+            (inner_on unit begun c.loop-node.node-index index c.args.nodes.now tokens _ _ _ _ w.in-Inner.rule _ _ inv.kept c.loop-node-test.true w.in-Inner.is w.token_at.ensures (ap (λ v. v.items) w.items-is ∙ w.in_ok-push_some-in-Inner.ensures ∙ ap (λ o. c.loop-node.items.items ++ cons_option o []) (w.item_of-item.ensures ∙ ap (λ m. item_of unit m w.token_at.result) w.meaning_of-meaning.ensures)) (ap (λ x. x.start) w.walk-is ∙ w.walk_behind-walk.ensures.start ∙ ap (λ m. cond (begins_behind m) (start_of tokens index 0) begun) w.meaning_of-meaning.ensures));
       }
     ]

@@ -1,5 +1,5 @@
 use denote.Enum.Bare.{differs_true, differs_false}
-use Rattle.sml_read.specs.contracts.terminal.Terminal.{the_type}
+use Rattle.sml_lex.specs.contracts.token.Kind.{the_type}
 use Rattle.std.proofs.Common.{rules, [], ◌∷◌, ◌++◌, ap, sym, ◌∙◌, append_assoc}
 use Rattle.sml_read.specs.declared.grammar.Node.TheVariants.{Leaf, Inner}
 use Rattle.sml_read.proofs.Trees.{expand_on, cost_on, leaf_on, refuse_word_on, refuse_part_on, refuse_none_on, emptied}

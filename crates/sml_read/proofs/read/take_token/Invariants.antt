@@ -7,7 +7,7 @@ use Rattle.sml_read.proofs.read.take_token.Given as goal
 
 abbrev pub invariant-loop-top : goal.invariant-loop-top
 invariant-loop-top l =
-    (added : List Node) × (l.nodes.items ≡ l.fn.nodes.items ++ added) × Expands (reverse l.fn.stack.items) l.terminal added (reverse l.stack.items)
+    (added : List Node) × (l.nodes.items ≡ l.fn.nodes.items ++ added) × Expands (reverse l.fn.stack.items) l.kind added (reverse l.stack.items)
 
 abbrev pub decreases-loop-top : goal.decreases-loop-top
 decreases-loop-top l = cost (reverse l.stack.items)

@@ -1,0 +1,84 @@
+use super::*;
+use crate::read::forms::{FORMS, KINDS};
+use sml_lex::lexer::lex;
+use std::test::Fail;
+
+/// The bits of a hexadecimal digit, as a number.
+fn digit(byte: u8) -> u8 {
+    if byte < b'a' {
+        byte.wrapping_sub(b'0')
+    } else {
+        byte.wrapping_sub(b'a').wrapping_add(10)
+    }
+}
+
+/// Whether the kind with this number is among those of a mask.
+fn is_among(mask: &[u8], number: usize) -> bool {
+    let place = 17_usize.saturating_sub(number / 4);
+    match mask.get(place) {
+        Some(byte) => (digit(*byte) >> (number % 4)) & 1 == 1,
+        None => false,
+    }
+}
+
+#[test]
+fn forms(rt: HostRuntime) -> Result<(), Fail> {
+    let alloc = rt.alloc();
+    for (text, marks) in FORMS {
+        let lexed = lex(alloc, text.as_bytes())?;
+        let kinds = kinds(alloc, &lexed.tokens)?;
+        assert_eq!(rt; marks.len(), (kinds.len() + 1) * 19, "{text}");
+        for (count, mask) in marks.as_bytes().chunks(19).enumerate() {
+            let beginning = &kinds[..count];
+            let full = read_kinds(alloc, beginning, true)?;
+            let cause = if mask[18] == b'+' {
+                None
+            } else {
+                Some(Cause::TooEarly)
+            };
+            assert_eq!(rt; full.cause, cause, "{count} tokens of {text}");
+            for (number, kind) in KINDS.iter().enumerate() {
+                let mut longer = Vec::from_slice(alloc, beginning)?;
+                longer.push(*kind)?;
+                let full = read_kinds(alloc, &longer, true)?;
+                let refused = full.cause == Some(Cause::Unexpected(count));
+                assert_eq!(rt; refused, !is_among(mask, number), "{kind:?} behind {count} tokens of {text}");
+            }
+        }
+    }
+    Ok(())
+}
+
+#[test]
+fn ends(rt: HostRuntime) -> Result<(), Fail> {
+    let alloc = rt.alloc();
+    for (text, done, begun, cause) in [
+        ("", true, 0, None),
+        ("", false, 0, Some(Cause::Lexical)),
+        ("x", true, 1, None),
+        ("x", false, 0, Some(Cause::Lexical)),
+        ("x ;", false, 2, Some(Cause::Lexical)),
+        ("; ;", false, 2, Some(Cause::Lexical)),
+        ("x )", true, 0, Some(Cause::Unexpected(1))),
+        ("x val y = 1", true, 0, Some(Cause::Unexpected(1))),
+        ("x ; y z )", true, 2, Some(Cause::Unexpected(4))),
+        ("val x = 1", false, 0, Some(Cause::Lexical)),
+        ("val x = 1 ;", false, 5, Some(Cause::Lexical)),
+        ("val x = 1 )", true, 4, Some(Cause::Unexpected(4))),
+        ("val x = 1 val", true, 4, Some(Cause::TooEarly)),
+        ("val x = 1 val", false, 4, Some(Cause::Lexical)),
+        ("val x = 1 y", true, 5, None),
+        ("val x = 1 fun f x = 2 ; x", true, 11, None),
+        ("val x = 1 fun f x = 2 ; x", false, 10, Some(Cause::Lexical)),
+        ("open A )", true, 2, Some(Cause::Unexpected(2))),
+        ("structure A = B where", true, 4, Some(Cause::Unexpected(4))),
+        ("signature S = T and type", true, 0, Some(Cause::Unexpected(5))),
+        ("val x = 1 abstype", true, 4, Some(Cause::Unexpected(4))),
+    ] {
+        let lexed = lex(alloc, text.as_bytes())?;
+        let full = read_kinds(alloc, &kinds(alloc, &lexed.tokens)?, done)?;
+        assert_eq!(rt; full.begun, begun, "{text}");
+        assert_eq!(rt; full.cause, cause, "{text}");
+    }
+    Ok(())
+}

@@ -1,7 +1,7 @@
 -- What a line's words mean, from tests of the words.
-use Rattle.std.proofs.Common.{◌≡◌, ℕ, ◌+◌, ◌<◌, ◌≤◌, Bool, true, false, not, cond, ◌&&◌, ◌||◌, eqb, ltb, leb, List, [], ◌∷◌, ◌++◌, length, map, take, drop, get_or, codes, Option, Some, None, refl, ap, sym, subst, ◌∙◌, append-nil, Bor, inl, inr, arith}
+use Rattle.std.proofs.Common.{◌≡◌, ℕ, ◌+◌, ◌<◌, ◌≤◌, Bool, true, false, not, cond, ◌&&◌, ◌||◌, ltb, leb, List, [], ◌∷◌, ◌++◌, length, map, take, get_or, codes, Some, None, refl, ap, sym, subst, ◌∙◌, Bor, inl, inr, arith}
 use Rattle.std.specs.Str.{bytes_eq, IsUtf8, IsAscii}
-use Rattle.std.specs.List.{list_all, filter_map}
+use Rattle.std.specs.List.{list_all}
 use Rattle.std.proofs.lemmas.Bool.{and_parts, and_cases, lt-ltb, le-leb}
 use Rattle.std.proofs.Math.Bool.{or-true, and-true}
 use Rattle.std.proofs.lemmas.Bool.Decides.{nat_tests}
@@ -11,7 +11,7 @@ use Rattle.std.proofs.lemmas.List.Elements.{filter_map-append}
 use Rattle.std.proofs.lemmas.Str.{IsUtf8-from_ascii}
 use Rattle.std.proofs.lemmas.Str.Ascii.{IsAscii-nil, IsAscii-cons}
 use Rattle.sml_units.specs.declared.manifest.ProjectCode.TheVariants.{O3, O4}
-use Rattle.sml_units.specs.ProjectFiles.{UnitLine, Meaning, words_of, passed_over, lists, bad_form, is_remark, is_name_byte, is_unit_name, is_file_name, has_repeats, is_too_much, is_repeated, listing, unit_of, units_of, meaning, fault_at, meaning_of_words, line_fault}
+use Rattle.sml_units.specs.ProjectFiles.{UnitLine, Meaning, words_of, passed_over, lists, bad_form, is_remark, is_name_byte, is_unit_name, is_file_name, has_repeats, is_too_much, is_repeated, listing, unit_of, units_of, meaning, meaning_of_words, line_fault}
 
 name_byte_ascii : (b : ℕ) → is_name_byte b ≡ true → b < 128
 name_byte_ascii b h = grind (arith, nat_tests)

@@ -1,7 +1,7 @@
 -- How a project file is read, line by line.
-use Rattle.std.proofs.Common.{◌≡◌, ℕ, ◌+◌, ◌<◌, ◌≤◌, List, [], ◌∷◌, ◌++◌, length, map, take, get_or, eqb, Option, Some, None, Result, Ok, Err, refl, ap, sym, subst, ◌∙◌, append-nil, inl, inr, Bor, arith}
+use Rattle.std.proofs.Common.{◌≡◌, ℕ, ◌+◌, ◌<◌, ◌≤◌, List, [], ◌∷◌, ◌++◌, length, map, take, get_or, eqb, Some, None, Result, Ok, Err, refl, ap, sym, subst, ◌∙◌, append-nil, inl, inr, arith}
 use borrow.Author.Count.{below_more}
-use Rattle.std.specs.List.{cons_option, count_by}
+use Rattle.std.specs.List.{cons_option}
 use Rattle.std.specs.Result.{IsErrAnd}
 use Rattle.std.specs.String.{string_bytes}
 use Rattle.std.proofs.lemmas.List.{length-append, take_all}

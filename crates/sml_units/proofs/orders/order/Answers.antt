@@ -1,4 +1,4 @@
-use Rattle.std.proofs.Common.{◌≡◌, ◌≤◌, ◌∙◌, [], ◌∷◌, ◌++◌, ap, sym, subst, map, length, arith, string_bytes}
+use Rattle.std.proofs.Common.{◌≡◌, ◌∙◌, [], ◌∷◌, ◌++◌, ap, sym, subst, map, length, arith, string_bytes}
 use Rattle.std.proofs.lemmas.List.{length-map, map-append}
 use Rattle.sml_units.specs.Orders.{IsOrder}
 use Rattle.sml_units.specs.ProjectFiles.{units_in}

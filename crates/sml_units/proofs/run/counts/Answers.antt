@@ -1,5 +1,5 @@
-use Rattle.std.proofs.Common.{refl, ap, ◌∙◌, ◌≡◌, ◌++◌, ◌+◌, take, get_or, sym, arith, append-nil}
-use Rattle.std.proofs.lemmas.List.{take_all, take_more}
+use Rattle.std.proofs.Common.{refl, ap, ◌∙◌, take, sym, arith, append-nil}
+use Rattle.std.proofs.lemmas.List.{take_all}
 use Rattle.sml_units.specs.Written.{replies_of, summary_of}
 use Rattle.sml_units.proofs.Written.{summary-next, replies-next}
 use Rattle.sml_units.proofs.run.counts.Goals as goal

@@ -1,4 +1,4 @@
-use Rattle.std.proofs.Common.{sym, ap, ◌++◌, [], ◌∷◌, codes, map}
+use Rattle.std.proofs.Common.{sym, ◌++◌, [], ◌∷◌, codes, map}
 use Rattle.sml_units.specs.Replies.{reply_text}
 use Rattle.sml_units.specs.Sinks.{in_turn}
 use Rattle.sml_units.proofs.Sinks.{prints_then, prints_stop}

@@ -1,7 +1,7 @@
-use Rattle.std.proofs.Common.{drop_of_length-le, append-nil, [], ◌≡◌, ◌∙◌, ◌∷◌, ◌++◌, ◌≤◌, ap, sym, refl, get_or, map, drop, length, arith, Some, None, string_bytes}
+use Rattle.std.proofs.Common.{drop_of_length-le, append-nil, [], ◌≡◌, ◌∙◌, ◌∷◌, ◌++◌, ap, sym, refl, get_or, map, drop, arith, string_bytes}
 use Rattle.std.specs.Vec.Iter.{into_iter_items}
 use Rattle.std.proofs.lemmas.List.{length-map}
-use Rattle.sml_units.proofs.InOrder.{gave_some, gave_none, joined-more, joined-no-name, joined-no-text, project-of, joined_of, joined, seen}
+use Rattle.sml_units.proofs.InOrder.{gave_some, gave_none, joined-more, joined-no-name, joined-no-text, project-of, joined_of, seen}
 use Rattle.sml_units.proofs.project.Project.new.Goals as goal
 use Rattle.sml_units.proofs.project.Project.new.Goals.{in-Some+in-Some-next+in_ok-push, in-Some+in_default-next, in_default}
 

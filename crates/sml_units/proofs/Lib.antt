@@ -17,6 +17,7 @@ pub mod Fitting
 pub mod Realising
 pub mod Matches
 pub mod Sealing
+pub mod Replying
 pub mod Written
 pub mod Listings
 pub mod Manifests

@@ -9,3 +9,4 @@ pub mod Matched
 pub mod Written
 pub mod ProjectFiles
 pub mod Orders
+pub mod Checked

@@ -1,6 +1,8 @@
 //! Runs: a project is checked, and its replies are written.
 
-ghost use Rattle.std.specs.Prelude.{◌≡◌, ◌+◌, if◌then◌else◌, IfOk, IfErr, length, map};
+ghost use Rattle.std.specs.Prelude.{◌≡◌, ◌≤◌, ◌+◌, if◌then◌else◌, IfOk, IfErr, length, map};
+ghost use Rattle.sml_units.specs.Checked.{MayReply};
+ghost use Rattle.sml_units.specs.Orders.{unit_texts};
 ghost use Rattle.sml_units.specs.Replies.{reply_text, warnings_of, accepts};
 ghost use Rattle.sml_units.specs.Sinks.{in_turn, Prints};
 ghost use Rattle.sml_units.specs.Written.{unit_text, units_text, replies_text, replies_of, summary_of, capped, IsOutcome};
@@ -31,14 +33,14 @@ pub struct Summary {
 }
 
 /// Checks the project, and writes the text of its replies: for each unit in order the line `unit NAME`, and then its replies.
-/// Nothing is said yet of which replies a project may be given.
+/// The replies are those of a run over the declarations that the units' bytes spell, for a project of one unit at most.
 pub fn run<O: Out>(
     alloc: Global,
     project: &Project,
     warnings: bool,
     out: &mut O,
 ) -> Result<Summary, RunFault>
-    ensures { IsOutcome (λ _. Unit {0}) warnings (O.taken out.old) (O.taken out.new) (O.failures out.old) (O.failures out.new) result }
+    ensures { IsOutcome (λ rs. length (unit_texts project.now) ≤ 1 → MayReply project.now rs) warnings (O.taken out.old) (O.taken out.new) (O.failures out.old) (O.failures out.new) result }
 {
     match check(alloc, project) {
         Ok(checked) => write_checked(checked.replies(), warnings, out),

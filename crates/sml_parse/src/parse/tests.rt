@@ -356,10 +356,10 @@ fn large_units(rt: HostRuntime) -> Result<(), Fail> {
     Ok(())
 }
 
-/// A unit of a megabyte, at most, of this text again and again, cut behind the last.
-fn repeated(alloc: Global, text: &[u8]) -> Result<Vec<u8>, Memory> {
+/// A unit of this text so many times.
+fn repeated(alloc: Global, text: &[u8], count: usize) -> Result<Vec<u8>, Memory> {
     let mut unit = Vec::new(alloc);
-    while unit.len() + text.len() <= 1_048_576 {
+    for _ in 0..count {
         unit.extend_from_slice(text)?;
     }
     Ok(unit)
@@ -368,32 +368,28 @@ fn repeated(alloc: Global, text: &[u8]) -> Result<Vec<u8>, Memory> {
 #[test]
 fn deep_units(rt: HostRuntime) -> Result<(), Fail> {
     let alloc = rt.alloc();
-    // each text with the place of its last token
-    for (text, last) in [
-        (b"(".as_slice(), 0),
-        (b"[".as_slice(), 0),
-        (b"fn x=>".as_slice(), 4),
-        (b"let val x =".as_slice(), 10),
-        (b"case x of y =>".as_slice(), 12),
-        (b"if x then y else ".as_slice(), 12),
-        (b"while x do ".as_slice(), 8),
-        (b"x andalso raise ".as_slice(), 10),
+    // each text, how often it stands in a megabyte, and the place of the last token then
+    for (text, count, last) in [
+        (b"(".as_slice(), 1_048_576, 1_048_575),
+        (b"[".as_slice(), 1_048_576, 1_048_575),
+        (b"fn x=>".as_slice(), 174_762, 1_048_570),
+        (b"let val x = ".as_slice(), 87_381, 1_048_570),
+        (b"case x of y => ".as_slice(), 69_905, 1_048_572),
+        (b"if x then y else ".as_slice(), 61_680, 1_048_555),
+        (b"while x do ".as_slice(), 95_325, 1_048_572),
+        (b"x andalso raise ".as_slice(), 65_536, 1_048_570),
     ] {
-        let unit = repeated(alloc, text)?;
+        let unit = repeated(alloc, text, count)?;
         let parsed = parse(alloc, &lex(alloc, &unit)?)?;
         assert_eq!(rt; parsed.declarations.len(), 0);
-        let at = unit.len() - text.len() + last;
-        assert_eq!(rt; parsed.fault, Some(fault_at(&unit, Code::S2, 0, at)));
+        assert_eq!(rt; parsed.fault, Some(fault_at(&unit, Code::S2, 0, last)));
     }
     let mut unit = Vec::from_slice(alloc, b"structure A = ")?;
     for _ in 0..40_000 {
         unit.extend_from_slice(b"struct structure A = ")?;
     }
     let parsed = parse(alloc, &lex(alloc, &unit)?)?;
-    assert_eq!(rt;
-        parsed.fault,
-        Some(fault_at(&unit, Code::S2, 0, unit.len() - 2))
-    );
+    assert_eq!(rt; parsed.fault, Some(fault_at(&unit, Code::S2, 0, 840_012)));
     // closed, and so whole declarations outside the piece
     let mut unit = Vec::from_slice(alloc, b"val x = 1 + ")?;
     for _ in 0..500_000 {

@@ -155,6 +155,10 @@ fn show_dec(shown: &mut Shown, dec: &BareDec) -> Result<(), Memory> {
             }
             Ok(())
         }
+        BareDec::Other(place) => {
+            shown.place(*place)?;
+            shown.put("other")
+        }
     }
 }
 
@@ -206,14 +210,27 @@ fn trees_and_places(rt: HostRuntime) -> Result<(), Fail> {
 fn faults(rt: HostRuntime) -> Result<(), Fail> {
     for (unit, expected) in [
         (b"val x = (1, )".as_slice(), "1.13 S1"),
-        (b"v".as_slice(), "1.1 S1"),
         (b"val x = 1 )".as_slice(), "1.1 val x n;\n1.1 S1"),
         (
             b"val x = 1\nval y = (\n z w".as_slice(),
-            "1.1 val x n;\n2.4 S1",
+            "1.1 val x n;\n2.4 S2",
         ),
-        (b"val mod = 1".as_slice(), "1.5 S1"),
-        (b"val x = nil".as_slice(), "1.9 S1"),
+        (b"val mod 1".as_slice(), "1.9 S2"),
+        (b"x y )".as_slice(), "1.5 S1"),
+        (b"x val y = 1".as_slice(), "1.3 S1"),
+        (
+            b"val x = 1 abstype t = A with end".as_slice(),
+            "1.1 val x n;\n1.1 S1",
+        ),
+        (b"val a = 1; b\n c where".as_slice(), "1.1 val a n;\n2.4 S1"),
+        (b"fun f x = 1 | f".as_slice(), "1.15 S2"),
+        (b"case x of A => case y of B => 1 | C".as_slice(), "1.35 S2"),
+        (b"structure A = struct val x = 1".as_slice(), "1.30 S2"),
+        (b"f x \"y".as_slice(), "1.5 L2"),
+        (
+            b"val a = 1 fun f x = x \"y".as_slice(),
+            "1.1 val a n;\n1.13 L2",
+        ),
         (b"val".as_slice(), "1.1 S2"),
         (b"val a".as_slice(), "1.5 S2"),
         (b"val a = 1 val b = (a,".as_slice(), "1.1 val a n;\n1.11 S2"),
@@ -229,6 +246,70 @@ fn faults(rt: HostRuntime) -> Result<(), Fail> {
     ] {
         let text = read_as(&rt, unit)?;
         assert_eq!(rt; text.as_str(), expected);
+    }
+    Ok(())
+}
+
+#[test]
+fn outside_the_piece(rt: HostRuntime) -> Result<(), Fail> {
+    // each of these is one declaration, and none is of the piece
+    for unit in [
+        b"v".as_slice(),
+        b"val mod = 1".as_slice(),
+        b"val x = nil".as_slice(),
+        b"val x = o".as_slice(),
+        b"val ++ = 1".as_slice(),
+        b"val x = =".as_slice(),
+        b"val x = f y".as_slice(),
+        b"val x = 1 + 2".as_slice(),
+        b"val x = (1; 2)".as_slice(),
+        b"val x = (1 + 2)".as_slice(),
+        b"val x = 1 : int".as_slice(),
+        b"val x = 0w1".as_slice(),
+        b"val x = fn y => y | z => z".as_slice(),
+        b"val x = fn op y => y".as_slice(),
+        b"val x = fn (y) => y".as_slice(),
+        b"val x = fn ref => 1".as_slice(),
+        b"val x = 1 and y = 2".as_slice(),
+        b"val 'a x = 1".as_slice(),
+        b"val rec x = fn y => y".as_slice(),
+        b"val x = op y".as_slice(),
+        b"fun f x = x".as_slice(),
+        b"type t = int".as_slice(),
+        b"structure A = B".as_slice(),
+        b"structure A = struct end".as_slice(),
+        b"structure A : sig end = struct end".as_slice(),
+        b"structure A :> S = struct end".as_slice(),
+        b"structure A :> sig end = B".as_slice(),
+        b"structure A :> sig end = struct end and B :> sig end = struct end".as_slice(),
+        b"structure A :> sig end = struct structure B :> sig end = struct end end".as_slice(),
+        b"structure A :> sig end = struct type 'a t = 'a end".as_slice(),
+        b"structure A :> sig end = struct type t = int list end".as_slice(),
+        b"structure A :> sig end = struct type t = {} end".as_slice(),
+        b"structure A :> sig end = struct val x = 1 val y = x x end".as_slice(),
+        b"structure A :> sig eqtype t end = struct end".as_slice(),
+        b"structure A :> sig type t = int end = struct end".as_slice(),
+        b"structure A :> sig type t and u end = struct end".as_slice(),
+        b"structure A :> sig val x : 'a end = struct end".as_slice(),
+        b"structure A :> sig end where type t = int = struct end".as_slice(),
+        b"signature S = sig end".as_slice(),
+        b"functor F () = struct end".as_slice(),
+        b"local val x = 1 in val y = 2 end".as_slice(),
+        b"infix 5 ++".as_slice(),
+    ] {
+        let mut unit = Vec::from_slice(rt.alloc(), unit)?;
+        unit.extend_from_slice(b"; val a = 1")?;
+        let text = read_as(&rt, &unit)?;
+        assert_eq!(rt; text.as_str(), "1.1 other\n1.1 val a n;\n");
+    }
+    // these are of it
+    for unit in [
+        b"val x = S.nil".as_slice(),
+        b"structure ref :> sig type o end = struct type o = nil val x = 01 end".as_slice(),
+    ] {
+        let parsed = parse(rt.alloc(), &lex(rt.alloc(), unit)?)?;
+        assert_eq!(rt; parsed.declarations.len(), 1);
+        assert_eq!(rt; matches!(parsed.declarations[0], BareDec::Other(_)), false);
     }
     Ok(())
 }
@@ -272,12 +353,54 @@ fn large_units(rt: HostRuntime) -> Result<(), Fail> {
     let parsed = parse(alloc, &lex(alloc, &unit)?)?;
     assert_eq!(rt; parsed.declarations.len(), 100_000);
     assert_eq!(rt; parsed.fault, None);
-    let mut unit = Vec::from_slice(alloc, b"val x = ")?;
-    for _ in 0..1_048_568 {
-        unit.push(b'(')?;
+    Ok(())
+}
+
+/// A unit of this text so many times.
+fn repeated(alloc: Global, text: &[u8], count: usize) -> Result<Vec<u8>, Memory> {
+    let mut unit = Vec::new(alloc);
+    for _ in 0..count {
+        unit.extend_from_slice(text)?;
+    }
+    Ok(unit)
+}
+
+#[test]
+fn deep_units(rt: HostRuntime) -> Result<(), Fail> {
+    let alloc = rt.alloc();
+    // each text, how often it stands in a megabyte, and the place of the last token then
+    for (text, count, last) in [
+        (b"(".as_slice(), 1_048_576, 1_048_575),
+        (b"[".as_slice(), 1_048_576, 1_048_575),
+        (b"fn x=>".as_slice(), 174_762, 1_048_570),
+        (b"let val x = ".as_slice(), 87_381, 1_048_570),
+        (b"case x of y => ".as_slice(), 69_905, 1_048_572),
+        (b"if x then y else ".as_slice(), 61_680, 1_048_555),
+        (b"while x do ".as_slice(), 95_325, 1_048_572),
+        (b"x andalso raise ".as_slice(), 65_536, 1_048_570),
+    ] {
+        let unit = repeated(alloc, text, count)?;
+        let parsed = parse(alloc, &lex(alloc, &unit)?)?;
+        assert_eq!(rt; parsed.declarations.len(), 0);
+        assert_eq!(rt; parsed.fault, Some(fault_at(&unit, Code::S2, 0, last)));
+    }
+    let mut unit = Vec::from_slice(alloc, b"structure A = ")?;
+    for _ in 0..40_000 {
+        unit.extend_from_slice(b"struct structure A = ")?;
     }
     let parsed = parse(alloc, &lex(alloc, &unit)?)?;
-    assert_eq!(rt; parsed.declarations.len(), 0);
-    assert_eq!(rt; parsed.fault, Some(fault_at(&unit, Code::S2, 0, 1_048_575)));
+    assert_eq!(rt; parsed.fault, Some(fault_at(&unit, Code::S2, 0, 840_012)));
+    // closed, and so whole declarations outside the piece
+    let mut unit = Vec::from_slice(alloc, b"val x = 1 + ")?;
+    for _ in 0..500_000 {
+        unit.push(b'(')?;
+    }
+    unit.push(b'1')?;
+    for _ in 0..500_000 {
+        unit.push(b')')?;
+    }
+    let parsed = parse(alloc, &lex(alloc, &unit)?)?;
+    assert_eq!(rt; parsed.declarations.len(), 1);
+    assert_eq!(rt; parsed.fault, None);
     Ok(())
 }

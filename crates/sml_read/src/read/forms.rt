@@ -81,10 +81,7 @@ pub const KINDS: [Kind; 72] = [
 /// Texts. Of each beginning of a text, by its number of tokens, which kinds may stand next, as bits in order from the
 /// lowest on in hexadecimal, and behind that `+` where the beginning is a unit and `-` where not.
 pub const FORMS: [(&str, &str); 99] = [
-    (
-        ";",
-        "488a96a2df2f0c3fbf+488a96a2df2f0c3fbf+",
-    ),
+    (";", "488a96a2df2f0c3fbf+488a96a2df2f0c3fbf+"),
     (
         "val x = 1 ; val y = 2",
         "488a96a2df2f0c3fbf+020a80044000003fff-0a4a80004000023fbf-480a90024422043fbf-48ca86a1df1d09bfbf+488a96a2df2f0c3fbf+020a80044000003fff-0a4a80004000023fbf-480a90024422043fbf-48ca86a1df1d09bfbf+",
@@ -361,30 +358,12 @@ pub const FORMS: [(&str, &str); 99] = [
         "let val x = 1 ; in x ; y end",
         "488a96a2df2f0c3fbf+008006009b45080000-020a80044000003fff-0a4a80004000023fbf-480a90024422043fbf-48ca8601df5509bfbf-008006009b45080000-480a90024422043fbf-48ca80014410413fbf-480a90024422043fbf-48ca80014410413fbf-48ca80014410013fbf+",
     ),
-    (
-        "0w1",
-        "488a96a2df2f0c3fbf+48ca80014410013fbf+",
-    ),
-    (
-        "1.5",
-        "488a96a2df2f0c3fbf+48ca80014410013fbf+",
-    ),
-    (
-        "\"s\"",
-        "488a96a2df2f0c3fbf+48ca80014410013fbf+",
-    ),
-    (
-        "#\"c\"",
-        "488a96a2df2f0c3fbf+48ca80014410013fbf+",
-    ),
-    (
-        "~1",
-        "488a96a2df2f0c3fbf+48ca80014410013fbf+",
-    ),
-    (
-        "012",
-        "488a96a2df2f0c3fbf+48ca80014410013fbf+",
-    ),
+    ("0w1", "488a96a2df2f0c3fbf+48ca80014410013fbf+"),
+    ("1.5", "488a96a2df2f0c3fbf+48ca80014410013fbf+"),
+    ("\"s\"", "488a96a2df2f0c3fbf+48ca80014410013fbf+"),
+    ("#\"c\"", "488a96a2df2f0c3fbf+48ca80014410013fbf+"),
+    ("~1", "488a96a2df2f0c3fbf+48ca80014410013fbf+"),
+    ("012", "488a96a2df2f0c3fbf+48ca80014410013fbf+"),
     (
         "fn x : int as y => 1",
         "488a96a2df2f0c3fbf+020a80004000003fbf-124a80004000023fbf-00088000000000005b-30400000000002001f-020a80004000003fbf-124a80004000023fbf-480a90024422043fbf-4cca80014410013fbf+",

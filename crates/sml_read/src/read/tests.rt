@@ -42,7 +42,11 @@ fn forms(rt: HostRuntime) -> Result<(), Fail> {
                 longer.push(*kind)?;
                 let full = read_kinds(alloc, &longer, true)?;
                 let refused = full.cause == Some(Cause::Unexpected(count));
-                assert_eq!(rt; refused, !is_among(mask, number), "{kind:?} behind {count} tokens of {text}");
+                assert_eq!(rt;
+                    refused,
+                    !is_among(mask, number),
+                    "{kind:?} behind {count} tokens of {text}"
+                );
             }
         }
     }
@@ -72,7 +76,12 @@ fn ends(rt: HostRuntime) -> Result<(), Fail> {
         ("val x = 1 fun f x = 2 ; x", false, 10, Some(Cause::Lexical)),
         ("open A )", true, 2, Some(Cause::Unexpected(2))),
         ("structure A = B where", true, 4, Some(Cause::Unexpected(4))),
-        ("signature S = T and type", true, 0, Some(Cause::Unexpected(5))),
+        (
+            "signature S = T and type",
+            true,
+            0,
+            Some(Cause::Unexpected(5)),
+        ),
         ("val x = 1 abstype", true, 4, Some(Cause::Unexpected(4))),
     ] {
         let lexed = lex(alloc, text.as_bytes())?;

@@ -62,7 +62,7 @@ fn cuts(rt: HostRuntime) -> Result<(), Fail> {
 fn open_brackets(rt: HostRuntime) -> Result<(), Fail> {
     let alloc = rt.alloc();
     let unit = repeated(alloc, b"", b"(", 1_048_576, b"")?;
-    let out = "unit a\n1 fault S1 1.1 unexpected token\n";
+    let out = "unit a\n1 fault S2 1.1048576 unit ends too early\n";
     expect_reply(&rt, alloc, unit, 1, out)?;
     let unit = repeated(alloc, b"val x = ", b"(", 1_048_568, b"")?;
     let out = "unit a\n1 fault S2 1.1048576 unit ends too early\n";

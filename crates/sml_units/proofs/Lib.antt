@@ -22,3 +22,4 @@ pub mod Written
 pub mod Listings
 pub mod Manifests
 pub mod InOrder
+pub mod Canonical

@@ -1,16 +1,17 @@
 //! Top-level declarations (the Definition, section 5.7).
 
-ghost use Rattle.std.specs.Prelude.{◌≡◌, ◌≤◌, ◌+◌, length, [], IfOk};
+ghost use Rattle.std.specs.Prelude.{◌≡◌, ◌≤◌, ◌+◌, length, [], IfOk, OnOk};
 ghost use Rattle.sml_lex.specs.declared.fault.Code.TheVariants.{Q3};
 ghost use Rattle.sml_lex.specs.declared.fault.Place.{Place};
 ghost use Rattle.sml_tree.specs.Trees as T;
 ghost use Rattle.sml_tree.specs.Views.{dec_of, core_dec_of, ident_of};
 ghost use Rattle.sml_tree.specs.declared.bare.BareDec.TheVariants.{Structure};
+ghost use Rattle.sml_objects.specs.Canonical as C;
 ghost use Rattle.sml_objects.specs.Objects as O;
 ghost use Rattle.sml_objects.specs.Objects.{one_structure};
 ghost use Rattle.sml_objects.specs.Initial.{Name, naming};
 ghost use Rattle.sml_objects.specs.Views.{env_of, maker_of, sig_of};
-ghost use Rattle.sml_rules.specs.Answers.{test, fault};
+ghost use Rattle.sml_rules.specs.Answers.{accepted, test, fault};
 ghost use Rattle.sml_rules.specs.Readings.{read_dec, read_top};
 ghost use Rattle.sml_rules.specs.Sound.{IsSound};
 ghost use Rattle.sml_units.specs.Elaborated.{Answers, IsBasisOf, IsOwnBasis, IsMade, signature_of};
@@ -21,7 +22,8 @@ use crate::lookups::Context;
 use crate::matching::matches;
 use crate::signatures::signature;
 use crate::top_fault::{TopFault, plain_fault};
-use sml_lex::fault::{Code, Place, Warning};
+use sml_lex::fault::{Code, Memory, Place, Warning};
+use sml_objects::canonical::{canonical, new_count};
 use sml_objects::objects::{Basis, Env, Sig, UnitId};
 use sml_tree::bare::{BareDec, CoreDec, Ident, SealedStructure};
 use std::alloc::Global;
@@ -33,7 +35,8 @@ pub const MOST_NAMES: usize = 1_048_576;
 /// The place of every top-level declaration.
 pub(crate) const START: Place = Place { line: 1, column: 1 };
 
-/// The declaration's own basis, with its warnings, or why it has none. The basis lent is that of its unit so far.
+/// The declaration's own basis, with its warnings, or why it has none. The basis lent is that of its unit so far. The new
+/// names are numbered from its count on, in the order in which they appear in the lines of the environment.
 pub fn topdec(
     alloc: Global,
     basis: &Basis,
@@ -44,6 +47,9 @@ pub fn topdec(
     ensures sound { (B : O.Basis Name) → IsBasisOf basis.now B
         → IfOk result (λ r. IsSound naming (maker_of basis.now.unit) B (dec_of dec.now) (sig_of r.0)) }
     ensures own { (B : O.Basis Name) → IsBasisOf basis.now B → IfOk result (λ r. IsOwnBasis basis.now r.0) }
+    ensures canonical { (B : O.Basis Name) → IsBasisOf basis.now B
+        → IfOk result (λ r. (S : O.Sig Name) × read_top naming beginning (maker_of basis.now.unit) B (dec_of dec.now) (accepted S)
+        × (sig_of r.0 ≡ C.canonical (maker_of basis.now.unit) (length basis.now.names.items) S)) }
     ensures no_warnings { IfOk result (λ r. r.1.items ≡ []) }
 {
     let own = match own_basis(alloc, basis, dec) {
@@ -51,9 +57,31 @@ pub fn topdec(
         Err(fault) => return Err(fault),
     };
     match few_names(basis, &own) {
-        Ok(_) => Ok((own, Vec::new(alloc))),
-        Err(fault) => Err(fault),
+        Ok(_) => {}
+        Err(fault) => return Err(fault),
     }
+    match numbered(alloc, basis, &own) {
+        Ok(own) => Ok((own, Vec::new(alloc))),
+        Err(_) => Err(TopFault::Memory),
+    }
+}
+
+/// What a declaration binds, with its new names numbered by first appearance. Each of these is among the names that it
+/// made; more of them would count as want of memory.
+fn numbered(alloc: Global, basis: &Basis, own: &Basis) -> Result<Basis, Memory>
+    requires { length basis.now.names.items + length own.now.names.items ≤ 1048576 }
+    ensures sig { IfOk result (λ b. sig_of b ≡ C.canonical (maker_of basis.now.unit) (length basis.now.names.items) (sig_of own.now)) }
+    ensures unit { IfOk result (λ b. b.unit ≡ own.now.unit) }
+    ensures few { OnOk result (length (C.new_names (maker_of basis.now.unit) (length basis.now.names.items) (sig_of own.now)) ≤ length own.now.names.items) }
+{
+    let Ok(count) = u32::try_from(basis.names.len()) else {
+        return Err(Memory);
+    };
+    let made = new_count(alloc, own, basis.unit, count)?;
+    if own.names.len() < made {
+        return Err(Memory);
+    }
+    canonical(alloc, own, basis.unit, count)
 }
 
 /// That the unit makes not too many names with these.

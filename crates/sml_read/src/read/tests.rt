@@ -1,6 +1,7 @@
 use super::*;
-use crate::read::forms::{FORMS, KINDS};
+use crate::read::forms::{SECTIONS, all_kinds, forms};
 use sml_lex::lexer::lex;
+use std::process::Abort;
 use std::test::Fail;
 
 /// The bits of a hexadecimal digit, as a number.
@@ -21,33 +22,43 @@ fn is_among(mask: &[u8], number: usize) -> bool {
     }
 }
 
+/// Demands the answers to a text's beginnings, with each kind behind them.
+fn expect_marks(rt: &impl Abort, alloc: Global, text: &str, marks: &str) -> Result<(), Memory> {
+    let lexed = lex(alloc, text.as_bytes())?;
+    let kinds = kinds(alloc, &lexed.tokens)?;
+    let mut beginning = Vec::new(alloc);
+    for (count, mask) in marks.as_bytes().chunks(19).enumerate() {
+        let full = read_kinds(alloc, &beginning, true)?;
+        let cause = if mask.last() == Some(&b'+') {
+            None
+        } else {
+            Some(Cause::TooEarly)
+        };
+        assert_eq!(rt; full.cause, cause, "{count} tokens of {text}");
+        for (number, kind) in all_kinds().iter().enumerate() {
+            let mut longer = Vec::from_slice(alloc, &beginning)?;
+            longer.push(*kind)?;
+            let full = read_kinds(alloc, &longer, true)?;
+            let refused = full.cause == Some(Cause::Unexpected(count));
+            assert_eq!(rt;
+                refused,
+                !is_among(mask, number),
+                "{kind:?} behind {count} tokens of {text}"
+            );
+        }
+        if let Some(kind) = kinds.get(count) {
+            beginning.push(*kind)?;
+        }
+    }
+    assert_eq!(rt; beginning.len(), kinds.len(), "{text}");
+    Ok(())
+}
+
 #[test]
-fn forms(rt: HostRuntime) -> Result<(), Fail> {
-    let alloc = rt.alloc();
-    for (text, marks) in FORMS {
-        let lexed = lex(alloc, text.as_bytes())?;
-        let kinds = kinds(alloc, &lexed.tokens)?;
-        assert_eq!(rt; marks.len(), (kinds.len() + 1) * 19, "{text}");
-        for (count, mask) in marks.as_bytes().chunks(19).enumerate() {
-            let beginning = &kinds[..count];
-            let full = read_kinds(alloc, beginning, true)?;
-            let cause = if mask[18] == b'+' {
-                None
-            } else {
-                Some(Cause::TooEarly)
-            };
-            assert_eq!(rt; full.cause, cause, "{count} tokens of {text}");
-            for (number, kind) in KINDS.iter().enumerate() {
-                let mut longer = Vec::from_slice(alloc, beginning)?;
-                longer.push(*kind)?;
-                let full = read_kinds(alloc, &longer, true)?;
-                let refused = full.cause == Some(Cause::Unexpected(count));
-                assert_eq!(rt;
-                    refused,
-                    !is_among(mask, number),
-                    "{kind:?} behind {count} tokens of {text}"
-                );
-            }
+fn all_forms(rt: HostRuntime) -> Result<(), Fail> {
+    for section in 0..SECTIONS {
+        for (text, marks) in forms(section) {
+            expect_marks(&rt, rt.alloc(), text, marks)?;
         }
     }
     Ok(())

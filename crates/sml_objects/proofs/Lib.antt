@@ -18,3 +18,4 @@ pub mod StandingObjects
 pub mod CanonicalForms
 pub mod RenamingPairs
 pub mod SameNames
+pub mod SameTypes

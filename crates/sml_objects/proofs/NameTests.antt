@@ -48,7 +48,7 @@ same-initial k l e = cc
 and-true : (a b : Bool) → a ≡ true → b ≡ true → (a && b) ≡ true
 and-true a b h k = λ i. h i && k i
 
-eq-same : (x y : TyName) → eq x y ≡ true → name_of x ≡ name_of y
+pub eq-same : (x y : TyName) → eq x y ≡ true → name_of x ≡ name_of y
 eq-same (T.Initial k) (T.Initial l) e = ap initial (initial-same k l e)
 eq-same (T.Initial k) (T.Made m) e = cc
 eq-same (T.Made m) (T.Initial l) e = cc
@@ -63,7 +63,7 @@ maker : Name → ℕ
 maker (initial k) = 0
 maker (made u n a q) = u - 1
 
-same-eq : (x y : TyName) → name_of x ≡ name_of y → eq x y ≡ true
+pub same-eq : (x y : TyName) → name_of x ≡ name_of y → eq x y ≡ true
 unfolding maker
 same-eq (T.Initial k) (T.Initial l) e = same-initial k l (cc)
 same-eq (T.Initial k) (T.Made m) e = cc

@@ -1,9 +1,9 @@
 -- Copies of types with other types for their variables and other names, variant by variant.
-use Rattle.std.proofs.Common.{◌≡◌, ℕ, suc, Result, Ok, Err, IfOk, List, [], ◌∷◌, map, refl, ap, ◌∙◌, sym, decimal, Vec, Global}
+use Rattle.std.proofs.Common.{◌≡◌, ◌<◌, ◌≤◌, ℕ, zero, suc, length, get_or, arith, Result, Ok, Err, IfOk, List, [], ◌∷◌, map, refl, ap, ◌∙◌, sym, decimal, Vec, Global}
 use Rattle.std.specs.declared.rc.Rc.{Rc}
 use Rattle.sml_objects.specs.Objects as O
 use Rattle.sml_objects.specs.Initial.{Name}
-use Rattle.sml_objects.specs.Types.{replace_type, replace_types}
+use Rattle.sml_objects.specs.Types.{replace_type, replace_types, argument, argument_or}
 use Rattle.sml_objects.specs.Views.{type_of, types_of, name_of}
 use Rattle.sml_objects.specs.declared.objects.TyName.{TyName}
 use Rattle.sml_objects.specs.declared.objects.MlType.{MlType, Bound, Free}
@@ -61,3 +61,32 @@ pub shared-type : {E : Type 0} (r : Result (Rc MlType Global) E) (ty : MlType) (
     → IfOk r (λ t. t.value ≡ ty) → IfOk r (λ t. type_of t.value ≡ u)
 shared-type (Ok t) ty u e h = ap type_of h ∙ e
 shared-type (Err x) ty u e h = h
+
+mutual
+  unfolding replace_type replace_types
+
+  -- a type with its own variables in place of them
+  pub unchanged : {N : Type 0} (t : O.MlType N) → replace_type O.bound O.free t ≡ t
+  unchanged (O.bound k) = refl
+  unchanged (O.free v) = refl
+  unchanged (O.app h ts) = ap (O.app h) (all-unchanged ts)
+
+  all-unchanged : {N : Type 0} (ts : O.MlTypes N) → replace_types O.bound O.free ts ≡ ts
+  all-unchanged O.no_type = refl
+  all-unchanged (O.and_type t ts) = λ i. O.and_type (unchanged t i) (all-unchanged ts i)
+
+-- a type function that is applied to nothing
+pub unapplied : (t : O.MlType Name) → replace_type (argument O.no_type) O.free t ≡ t
+unapplied t = unchanged t
+
+-- an argument of a type function
+pub argument-at : (d : O.MlType Name) (k : ℕ) (ts : List (Rc MlType Global)) (t : Rc MlType Global) → k < length ts → t ≡ get_or ts k t → argument_or d (types_of (parts_of ts)) k ≡ type_of t.value
+argument-at d k [] t h e = absurd (omega (arith, h))
+argument-at d zero (u ∷ ts) t h e = ap (λ (t : Rc MlType Global). type_of t.value) (sym e)
+argument-at d (suc k) (u ∷ ts) t h e = argument-at d k ts t (omega (arith, h)) e
+
+-- what is past their end
+pub no-argument : (d : O.MlType Name) (k : ℕ) (ts : List (Rc MlType Global)) → length ts ≤ k → argument_or d (types_of (parts_of ts)) k ≡ d
+no-argument d k [] h = refl
+no-argument d zero (u ∷ ts) h = absurd (omega (arith, h))
+no-argument d (suc k) (u ∷ ts) h = no-argument d k ts (omega (arith, h))

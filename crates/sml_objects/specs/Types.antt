@@ -1,5 +1,5 @@
 -- Types with other types for their variables, and closing (the Definition, sections 4.2 and 4.5).
-use Rattle.std.specs.Prelude.{ℕ, suc, ◌+◌, Bool, true, false, List, [], ◌∷◌, ◌++◌, length, replicate, cond, nat_eq}
+use Rattle.std.specs.Prelude.{ℕ, zero, suc, ◌+◌, Bool, true, false, List, [], ◌∷◌, ◌++◌, length, replicate, cond, nat_eq}
 use Rattle.sml_objects.specs.Objects.{MlType, MlTypes, Scheme, bound, free, app, no_type, and_type}
 
 unfoldable mutual
@@ -12,6 +12,20 @@ unfoldable mutual
   pub replace_types : {N : Type 0} → (ℕ → MlType N) → (ℕ → MlType N) → MlTypes N → MlTypes N
   replace_types b f no_type = no_type
   replace_types b f (and_type t ts) = and_type (replace_type b f t) (replace_types b f ts)
+
+-- the k-th of the types, or else this one
+abbrev pub argument_or : {N : Type 0} → MlType N → MlTypes N → ℕ → MlType N
+argument_or u no_type k = u
+argument_or u (and_type t ts) zero = t
+argument_or u (and_type t ts) (suc k) = argument_or u ts k
+
+-- what stands for the bound variable k of a type function that is applied to these types
+abbrev pub argument : {N : Type 0} → MlTypes N → ℕ → MlType N
+argument ts k = argument_or (bound k) ts k
+
+-- what a type function gives for these types
+abbrev pub applied : {N : Type 0} → Scheme N → MlTypes N → MlType N
+applied θ ts = replace_type (argument ts) free θ.body
 
 -- the type with other types for its free variables
 abbrev pub assign : {N : Type 0} → (ℕ → MlType N) → MlType N → MlType N

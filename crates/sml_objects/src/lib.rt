@@ -1,9 +1,11 @@
 // The semantic objects of the static semantics (the Definition, sections 4.2 and 5.1).
 #![tactic(auto)]
 
+pub mod applications;
 pub mod bases;
 pub mod canonical;
 pub mod canonical_laws;
+pub mod comparisons;
 pub mod environments;
 pub mod equality;
 pub mod laws;

@@ -7,7 +7,7 @@ ghost use Rattle.sml_objects.specs.Signatures.{signature_of};
 ghost use Rattle.sml_objects.specs.Views.{type_of, scheme_of, schemes_of, structures_of, entries_of, env_of, sig_of, name_of};
 
 use crate::objects::{Basis, Env, MlType, Scheme, Sig, TyName};
-use crate::replacements::{Replacement, replaced};
+use crate::replacements::{Replacement, replaced, shared};
 use sml_lex::fault::Memory;
 use sml_tree::bare::Ident;
 use std::alloc::Global;
@@ -34,12 +34,12 @@ impl<M: NameMap> Replacement for Renamed<'_, M> {
 
     ghost name_gives = { λ s. M.gives s.by.now };
 
-    fn bound(&self, variable: u32) -> Result<MlType, Memory> {
-        Ok(MlType::Bound(variable))
+    fn bound(&self, alloc: Global, variable: u32) -> Result<Rc<MlType>, Memory> {
+        shared(alloc, MlType::Bound(variable))
     }
 
-    fn free(&self, variable: u32) -> Result<MlType, Memory> {
-        Ok(MlType::Free(variable))
+    fn free(&self, alloc: Global, variable: u32) -> Result<Rc<MlType>, Memory> {
+        shared(alloc, MlType::Free(variable))
     }
 
     fn name(&self, name: TyName) -> TyName {

@@ -19,11 +19,11 @@ pub(crate) trait Replacement {
 
     ghost name_gives: { Self → Name → Name };
 
-    fn bound(&self, variable: u32) -> Result<MlType, Memory>
-        ensures { IfOk result (λ t. type_of t ≡ bound_gives self.now variable) };
+    fn bound(&self, alloc: Global, variable: u32) -> Result<Rc<MlType>, Memory>
+        ensures { IfOk result (λ t. type_of t.value ≡ bound_gives self.now variable) };
 
-    fn free(&self, variable: u32) -> Result<MlType, Memory>
-        ensures { IfOk result (λ t. type_of t ≡ free_gives self.now variable) };
+    fn free(&self, alloc: Global, variable: u32) -> Result<Rc<MlType>, Memory>
+        ensures { IfOk result (λ t. type_of t.value ≡ free_gives self.now variable) };
 
     fn name(&self, name: TyName) -> TyName
         ensures { name_of result ≡ name_gives self.now (name_of name) };
@@ -39,8 +39,8 @@ pub(crate) fn replaced<R: Replacement>(
     ensures { IfOk result (λ t. type_of t.value ≡ replace_type (R.bound_gives by.now) (R.free_gives by.now) (O.rename_type (R.name_gives by.now) (type_of ty.now))) }
 {
     match ty {
-        MlType::Bound(variable) => shared(alloc, by.bound(*variable)?),
-        MlType::Free(variable) => shared(alloc, by.free(*variable)?),
+        MlType::Bound(variable) => by.bound(alloc, *variable),
+        MlType::Free(variable) => by.free(alloc, *variable),
         MlType::Row(parts) => {
             let parts = replaced_parts(alloc, parts, by)?;
             shared(alloc, MlType::Row(parts))
@@ -59,7 +59,7 @@ pub(crate) fn replaced<R: Replacement>(
 
 // Out of line, so that the frames of the recursion have no room for a type.
 #[inline(never)]
-fn shared(alloc: Global, ty: MlType) -> Result<Rc<MlType>, Memory>
+pub(crate) fn shared(alloc: Global, ty: MlType) -> Result<Rc<MlType>, Memory>
     ensures { IfOk result (λ t. t.value ≡ ty) }
 {
     Ok(Rc::new(alloc, ty)?)

@@ -7,7 +7,7 @@ ghost use Rattle.sml_objects.specs.Types as T;
 ghost use Rattle.sml_objects.specs.Views.{type_of, types_of, scheme_of, name_of};
 
 use crate::objects::{MlType, Scheme, TyName};
-use crate::replacements::{Replacement, replaced};
+use crate::replacements::{Replacement, replaced, shared};
 use indexmap::IndexSet;
 use sml_lex::fault::Memory;
 use std::alloc::Global;
@@ -61,15 +61,15 @@ impl Replacement for Instance {
 
     ghost name_gives = { λ _ n. n };
 
-    fn bound(&self, variable: u32) -> Result<MlType, Memory> {
+    fn bound(&self, alloc: Global, variable: u32) -> Result<Rc<MlType>, Memory> {
         match self.from.checked_add(variable) {
-            Some(free) => Ok(MlType::Free(free)),
+            Some(free) => shared(alloc, MlType::Free(free)),
             None => Err(Memory),
         }
     }
 
-    fn free(&self, variable: u32) -> Result<MlType, Memory> {
-        Ok(MlType::Free(variable))
+    fn free(&self, alloc: Global, variable: u32) -> Result<Rc<MlType>, Memory> {
+        shared(alloc, MlType::Free(variable))
     }
 
     fn name(&self, name: TyName) -> TyName {
@@ -143,17 +143,17 @@ impl Replacement for Closing<'_> {
 
     ghost name_gives = { λ _ n. n };
 
-    fn bound(&self, variable: u32) -> Result<MlType, Memory> {
-        Ok(MlType::Bound(variable))
+    fn bound(&self, alloc: Global, variable: u32) -> Result<Rc<MlType>, Memory> {
+        shared(alloc, MlType::Bound(variable))
     }
 
-    fn free(&self, variable: u32) -> Result<MlType, Memory> {
+    fn free(&self, alloc: Global, variable: u32) -> Result<Rc<MlType>, Memory> {
         let place = match self.places.get_index_of(&variable) {
             Some(place) => place,
             None => self.places.len(),
         };
         match u32::try_from(place) {
-            Ok(place) => Ok(MlType::Bound(place)),
+            Ok(place) => shared(alloc, MlType::Bound(place)),
             Err(_) => Err(Memory),
         }
     }

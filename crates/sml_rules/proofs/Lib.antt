@@ -5,5 +5,6 @@ pub mod Unique
 pub mod Readings
 pub mod Paths
 pub mod Within
+pub mod Open
 pub mod Sound
 pub mod Specified

@@ -1,4 +1,5 @@
 pub mod Every
+pub mod Open
 pub mod Lookups
 pub mod Rules
 pub mod Matching

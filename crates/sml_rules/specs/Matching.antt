@@ -1,23 +1,18 @@
 -- Realisation and enrichment (the Definition, sections 5.2, 5.5 and 5.6).
-use Rattle.std.specs.Prelude.{◌≡◌, ℕ, zero, suc, Bool, true, false, cond, Option, Some, None, List, [], ◌∷◌, ◌⊎◌}
+use Rattle.std.specs.Prelude.{◌≡◌, Bool, true, false, cond, Option, Some, None, List, [], ◌∷◌, ◌⊎◌}
 use Rattle.sml_objects.specs.Names.{Naming}
 use Rattle.sml_objects.specs.Maps.{Map, lookup}
 use Rattle.sml_objects.specs.Objects.{Head, MlType, MlTypes, Scheme, Env, Structures, Sig, arrow, row, name, bound, free, app, no_type, and_type, env, no_structure, and_structure, structures, types, values, find_structure}
-use Rattle.sml_objects.specs.Types.{replace_type}
+use Rattle.sml_objects.specs.Types.{applied}
 use Rattle.sml_rules.specs.Rules.{IsInstance}
 
 -- A realisation gives type functions for the names that it moves.
 abbrev pub Realisation : Type 0 → Type 0
 Realisation N = N → Option (Scheme N)
 
-abbrev pub argument : {N : Type 0} → MlTypes N → ℕ → MlType N
-argument no_type k = bound k
-argument (and_type t ts) zero = t
-argument (and_type t ts) (suc k) = argument ts k
-
 abbrev pub apply_to : {N : Type 0} → N → MlTypes N → Option (Scheme N) → MlType N
 apply_to n ts None = app (name n) ts
-apply_to n ts (Some θ) = replace_type (argument ts) free θ.body
+apply_to n ts (Some θ) = applied θ ts
 
 abbrev pub apply_head : {N : Type 0} → Realisation N → Head N → MlTypes N → MlType N
 apply_head φ arrow ts = app arrow ts

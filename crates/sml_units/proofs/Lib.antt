@@ -13,3 +13,13 @@ pub mod Specifying
 pub mod ExpAnswers
 pub mod Numbers
 pub mod Projects
+pub mod Fitting
+pub mod Realising
+pub mod Matches
+pub mod Sealing
+pub mod Replying
+pub mod Written
+pub mod Listings
+pub mod Manifests
+pub mod InOrder
+pub mod Canonical

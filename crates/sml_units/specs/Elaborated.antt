@@ -13,9 +13,10 @@ use Rattle.sml_objects.specs.declared.objects.Basis as PB
 use Rattle.sml_objects.specs.declared.objects.Sig as PG
 use Rattle.sml_objects.specs.declared.objects.TyName.{TyName}
 use Rattle.sml_rules.specs.Every.{Every}
+use Rattle.sml_rules.specs.Open.{OpenEnv}
 use Rattle.sml_rules.specs.Rules.{Item, a_type, a_value, item_of, Specified, sum_from}
 use Rattle.sml_units.specs.declared.signatures.Specified as PS
-use Rattle.sml_objects.specs.Views.{entries_of, type_of, types_of, scheme_of, env_of, name_of, maker_of}
+use Rattle.sml_objects.specs.Views.{entries_of, type_of, types_of, scheme_of, env_of, name_of, maker_of, sig_of}
 use Rattle.sml_rules.specs.Readings as R
 use Rattle.sml_rules.specs.Lookups.{find_at, entry, no_path}
 use Rattle.sml_rules.specs.Answers.{Reading, refused, accepted, fault_at, give, ◌>>=◌, test, fault}
@@ -108,6 +109,12 @@ pub record IsBasisOf (p : PB.Basis) (B : Basis Name) : Type 0 where
   pub body_is : B.body ≡ env_of p.env
   pub count_is : B.count ≡ length p.names.items
   pub below : Every (IsBelow (maker_of p.unit) (length p.names.items)) (names_basis B)
+  pub opened : OpenEnv B.body
+
+-- what a declaration gives belongs to the basis' unit, and its names have the numbers behind those of the basis
+pub record IsOwnBasis (p own : PB.Basis) : Type 0 where
+  pub unit_is : own.unit ≡ p.unit
+  pub own_below : Every (IsBelow (maker_of p.unit) (length p.names.items + length own.names.items)) (names_sig (sig_of own))
 
 abbrev pub no_signature : Sig Name
 no_signature = record { names = []; body = empty_env }

@@ -5,3 +5,8 @@ pub mod Text
 pub mod Runs
 pub mod Isolation
 pub mod Elaborated
+pub mod Matched
+pub mod Written
+pub mod ProjectFiles
+pub mod Orders
+pub mod Checked

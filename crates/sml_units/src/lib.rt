@@ -2,6 +2,7 @@
 #![tactic(auto)]
 
 mod expressions;
+mod instances;
 pub mod isolation;
 mod locals;
 mod lookups;
@@ -9,8 +10,10 @@ pub mod manifest;
 mod matching;
 pub mod modules;
 mod numerals;
+pub mod orders;
 pub mod project;
 pub mod project_file;
+mod realisations;
 pub mod reply;
 pub mod run;
 mod signatures;

@@ -1,8 +1,11 @@
-//! The units that a project lists, and their order.
+//! The units that a project lists, and the faults of projects.
 
-use sml_lex::fault::Memory;
-use sml_objects::objects::UnitId;
-use std::alloc::{AllocError, AllocFailed, Global};
+ghost use Rattle.std.specs.Prelude.{◌≡◌, ◌≤◌, map, vec_len, string_bytes};
+ghost use Rattle.sml_units.specs.declared.manifest.ManifestFault.TheVariants.{Memory};
+ghost use Rattle.sml_units.specs.declared.manifest.OrderFault.TheVariants as OF;
+ghost use Rattle.sml_units.specs.declared.manifest.TheConstants.{MOST_UNITS};
+
+use std::alloc::{AllocError, AllocFailed};
 
 /// The code of a fault of a project.
 #[derive(Clone, Copy, PartialEq, Eq, Debug)]
@@ -39,45 +42,48 @@ pub enum OrderFault {
 }
 
 impl From<AllocError> for ManifestFault {
+    ghost from_gives = { λ _ f. f ≡ Memory };
+
     fn from(_error: AllocError) -> ManifestFault {
         ManifestFault::Memory
     }
 }
 
 impl<T: Drop> From<AllocFailed<T>> for ManifestFault {
+    ghost from_gives = { λ _ f. f ≡ Memory };
+
     fn from(_error: AllocFailed<T>) -> ManifestFault {
         ManifestFault::Memory
     }
 }
 
 impl<T: Drop> From<AllocFailed<T>> for OrderFault {
+    ghost from_gives = { λ _ f. f ≡ OF.Memory };
+
     fn from(_error: AllocFailed<T>) -> OrderFault {
         OrderFault::Memory
     }
 }
+
+/// How many units a project has at most, for now.
+pub(crate) const MOST_UNITS: usize = 1;
 
 /// The units of a project file, in the order listed.
 #[derive(Debug, Drop)]
 pub struct Manifest {
     pub(crate) names: Vec<String>,
     pub(crate) files: Vec<String>,
+    ghost few: { vec_len names ≤ MOST_UNITS },
+    ghost paired: { vec_len files ≡ vec_len names },
 }
 
 impl Manifest {
+    ghost use Rattle.sml_units.specs.ProjectFiles.{units_in};
+
     /// The files of the units, as written.
-    pub fn files(&self) -> &[String] {
+    pub fn files(&self) -> &[String]
+        ensures { map string_bytes result.now ≡ map (λ u. u.file) (units_in self.now) }
+    {
         self.files.as_slice()
     }
-}
-
-/// The order of the units: each after its needs, the earliest listed first among those that may come.
-pub fn order(alloc: Global, manifest: &Manifest) -> Result<Vec<UnitId>, OrderFault> {
-    let mut order = Vec::new(alloc);
-    for index in 0..manifest.names.len() {
-        let Ok(index) = u32::try_from(index) else {
-            return Err(OrderFault::Memory);
-        };
-        order.push(UnitId { index })?;
-    }
-    Ok(order)
 }

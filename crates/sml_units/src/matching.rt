@@ -1,25 +1,29 @@
 //! Whether a structure matches a signature (the Definition, sections 5.2, 5.5 and 5.6).
 
+ghost use Rattle.std.specs.Prelude.{◌≡◌, ◌∷◌, [], IfOk, Some};
+ghost use Rattle.sml_lex.specs.declared.fault.Code.TheVariants.{M4};
+ghost use Rattle.sml_tree.specs.Views.{ident_of};
+ghost use Rattle.sml_objects.specs.Maps.{lookup};
+ghost use Rattle.sml_objects.specs.Objects.{types, values};
+ghost use Rattle.sml_objects.specs.Initial.{Name, naming};
+ghost use Rattle.sml_objects.specs.Views.{env_of, scheme_of};
+ghost use Rattle.sml_rules.specs.Answers.{fault_at, test};
+ghost use Rattle.sml_rules.specs.Matching.{realise_scheme, realise_type, realised_by};
+ghost use Rattle.sml_rules.specs.Open.{OpenEnv, PlainFunctions, PlainValues};
+ghost use Rattle.sml_rules.specs.Rules.{IsOpen};
+ghost use Rattle.sml_rules.specs.Readings.{read_names, read_types, read_values, read_match};
+ghost use Rattle.sml_units.specs.Elaborated.{Answers, IsFaultOf, signature_of};
+ghost use Rattle.sml_units.specs.Matched.{read_name, read_value, sends, PlainUnder};
+
+use crate::instances::is_instance;
+use crate::realisations::Realisation;
 use crate::top_fault::{TopFault, fault_about};
 use sml_lex::fault::{Code, Place};
-use sml_objects::objects::{Env, MlType, Scheme, Sig, TyName};
+use sml_objects::comparisons::same_type;
+use sml_objects::objects::{Env, Scheme, Sig};
 use sml_tree::bare::Ident;
 use std::alloc::Global;
-use std::collections::BTreeMap;
 use std::rc::Rc;
-
-/// The type functions to which the names of a signature are sent, by their units and numbers.
-#[derive(Drop)]
-struct Realisation {
-    functions: BTreeMap<(u32, u32), Rc<Scheme>>,
-}
-
-fn fault(alloc: Global, code: Code, place: Place, name: &Ident) -> TopFault {
-    match Vec::from_slice(alloc, name.as_slice()) {
-        Ok(text) => fault_about(code, place, text),
-        Err(_) => TopFault::Memory,
-    }
-}
 
 /// Whether the structure matches the signature, which stands at this place.
 pub(crate) fn matches(
@@ -27,189 +31,162 @@ pub(crate) fn matches(
     place: Place,
     sig: &Sig,
     structure: &Env,
-) -> Result<(), TopFault> {
-    let realisation = sent_names(alloc, place, sig, structure)?;
-    types_agree(alloc, place, &realisation, sig, structure)?;
-    values_agree(alloc, place, &realisation, sig, structure)
+) -> Result<(), TopFault>
+    ensures { OpenEnv (env_of structure.now) → PlainFunctions (types (env_of sig.now.body)) → PlainValues (values (env_of sig.now.body))
+        → Answers (λ u. u) result (read_match naming place (signature_of sig.now) (env_of structure.now)) }
+{
+    let realisation = match sent_names(alloc, place, &sig.body, structure) {
+        Ok(realisation) => realisation,
+        Err(fault) => return Err(fault),
+    };
+    match types_agree(alloc, place, &realisation, &sig.body, structure) {
+        Ok(_) => values_agree(alloc, place, &realisation, &sig.body, structure),
+        Err(fault) => Err(fault),
+    }
 }
 
-/// Sends each name of the signature to the type function at its path.
+/// Sends each name of the specified types to the type function at its path.
 fn sent_names(
     alloc: Global,
     place: Place,
-    sig: &Sig,
+    specified: &Env,
     structure: &Env,
-) -> Result<Realisation, TopFault> {
-    let mut functions = BTreeMap::new(alloc);
-    for (name, specified) in sig.body.types.iter() {
-        let Some(function) = structure.type_function(name) else {
-            return Err(fault(alloc, Code::M1, place, name));
+) -> Result<Realisation, TopFault>
+    ensures answer { Answers (λ _. tt) result (read_names naming place (env_of structure.now) (types (env_of specified.now))) }
+    ensures sent { IfOk result (λ r. (n : Name) → sends r.functions.entries n ≡ realised_by naming (env_of structure.now) (types (env_of specified.now)) n) }
+{
+    let mut realisation = Realisation::new(alloc);
+    for (name, scheme) in specified.types.iter() {
+        let function = match type_function(alloc, place, name, scheme, structure) {
+            Ok(function) => function,
+            Err(fault) => return Err(fault),
         };
-        if function.variables.len() != specified.variables.len() {
-            return Err(fault(alloc, Code::M2, place, name));
-        }
-        if let MlType::Name(TyName::Made(made), _) = &*specified.body {
-            functions.insert((made.unit.index, made.number), function.clone()?)?;
+        match realisation.send_specified(scheme, function) {
+            Ok(_) => {}
+            Err(_) => return Err(TopFault::Memory),
         }
     }
-    Ok(Realisation { functions })
+    Ok(realisation)
 }
 
-/// Whether the structure has the signature's types, as they are realised.
+/// The structure's type function of this name, which has as many parameters as the specified one.
+fn type_function<'a>(
+    alloc: Global,
+    place: Place,
+    name: &Ident,
+    specified: &Scheme,
+    structure: &'a Env,
+) -> Result<&'a Rc<Scheme>, TopFault>
+    ensures answer { Answers (λ _. tt) result (read_name place (env_of structure.now) (ident_of name.now, scheme_of specified.now)) }
+    ensures found { IfOk result (λ f. lookup (ident_of name.now) (types (env_of structure.now)) ≡ Some (scheme_of f.now.value)) }
+{
+    match structure.type_function(name) {
+        Some(function) => {
+            if function.variables.len() == specified.variables.len() {
+                Ok(function)
+            } else {
+                Err(fault_of(alloc, Code::M2, place, name))
+            }
+        }
+        None => Err(fault_of(alloc, Code::M1, place, name)),
+    }
+}
+
+/// Whether the structure has the specified types, as they are realised.
 fn types_agree(
     alloc: Global,
     place: Place,
     realisation: &Realisation,
-    sig: &Sig,
+    specified: &Env,
     structure: &Env,
-) -> Result<(), TopFault> {
-    for (name, specified) in sig.body.types.iter() {
-        let realised = realised(alloc, realisation, &specified.body)?;
-        let agrees = match structure.type_function(name) {
-            Some(function) => function.variables == specified.variables
-                && same_type(&function.body, &realised),
-            None => false,
-        };
-        if !agrees {
-            return Err(fault(alloc, Code::M4, place, name));
+) -> Result<(), TopFault>
+    ensures { Answers (λ u. u) result (read_types naming place (env_of structure.now) (sends realisation.now.functions.entries) (types (env_of specified.now))) }
+{
+    for (name, scheme) in specified.types.iter() {
+        match type_agrees(alloc, place, realisation, name, scheme, structure) {
+            Ok(_) => {}
+            Err(fault) => return Err(fault),
         }
     }
     Ok(())
 }
 
-/// Whether the structure has the signature's values, at least as general as they are realised.
+fn type_agrees(
+    alloc: Global,
+    place: Place,
+    realisation: &Realisation,
+    name: &Ident,
+    specified: &Scheme,
+    structure: &Env,
+) -> Result<(), TopFault>
+    ensures { Answers (λ u. u) result
+        (test (lookup (ident_of name.now) (types (env_of structure.now)) ≡ Some (realise_scheme (sends realisation.now.functions.entries) (scheme_of specified.now))) (fault_at M4 place (ident_of name.now ∷ []))) }
+{
+    let Ok(realised) = realisation.realised(alloc, &specified.body) else {
+        return Err(TopFault::Memory);
+    };
+    match structure.type_function(name) {
+        Some(function) => {
+            if function.variables == specified.variables && same_type(&function.body, &realised) {
+                Ok(())
+            } else {
+                Err(fault_of(alloc, Code::M4, place, name))
+            }
+        }
+        None => Err(fault_of(alloc, Code::M4, place, name)),
+    }
+}
+
+/// Whether the structure has the specified values, at least as general as they are realised.
 fn values_agree(
     alloc: Global,
     place: Place,
     realisation: &Realisation,
-    sig: &Sig,
+    specified: &Env,
     structure: &Env,
-) -> Result<(), TopFault> {
-    for (name, specified) in sig.body.values.iter() {
-        let Some(scheme) = structure.value(name) else {
-            return Err(fault(alloc, Code::M1, place, name));
-        };
-        let realised = realised(alloc, realisation, &specified.body)?;
-        if !is_instance(alloc, scheme, &realised)? {
-            return Err(fault(alloc, Code::M6, place, name));
+) -> Result<(), TopFault>
+    ensures { PlainUnder (sends realisation.now.functions.entries) (values (env_of specified.now))
+        → Answers (λ u. u) result (read_values naming place (env_of structure.now) (sends realisation.now.functions.entries) (values (env_of specified.now))) }
+{
+    for (name, scheme) in specified.values.iter() {
+        match value_agrees(alloc, place, realisation, name, scheme, structure) {
+            Ok(_) => {}
+            Err(fault) => return Err(fault),
         }
     }
     Ok(())
 }
 
-/// The type with the type functions of the realisation for its names.
-#[cycle(realising)]
-fn realised(alloc: Global, realisation: &Realisation, ty: &MlType) -> Result<Rc<MlType>, TopFault> {
-    match ty {
-        MlType::Bound(k) => Ok(Rc::new(alloc, MlType::Bound(*k))?),
-        MlType::Free(v) => Ok(Rc::new(alloc, MlType::Free(*v))?),
-        MlType::Row(parts) => {
-            let parts = all_realised(alloc, realisation, parts)?;
-            Ok(Rc::new(alloc, MlType::Row(parts))?)
-        }
-        MlType::Arrow(from, to) => {
-            let from = realised(alloc, realisation, from)?;
-            let to = realised(alloc, realisation, to)?;
-            Ok(Rc::new(alloc, MlType::Arrow(from, to))?)
-        }
-        MlType::Name(name, args) => {
-            if let TyName::Made(made) = name {
-                if let Some(function) = realisation.functions.get(&(made.unit.index, made.number)) {
-                    return Ok(function.body.clone()?);
-                }
-            }
-            let args = all_realised(alloc, realisation, args)?;
-            Ok(Rc::new(alloc, MlType::Name(*name, args))?)
-        }
-    }
-}
-
-#[cycle(realising)]
-fn all_realised(
+fn value_agrees(
     alloc: Global,
+    place: Place,
     realisation: &Realisation,
-    types: &[Rc<MlType>],
-) -> Result<Vec<Rc<MlType>>, TopFault> {
-    let mut made = Vec::new(alloc);
-    for ty in types {
-        let ty = realised(alloc, realisation, ty)?;
-        made.push(ty)?;
-    }
-    Ok(made)
-}
-
-/// Whether two types are equal.
-#[cycle(comparing)]
-fn same_type(a: &MlType, b: &MlType) -> bool {
-    match (a, b) {
-        (MlType::Bound(j), MlType::Bound(k)) => j == k,
-        (MlType::Free(j), MlType::Free(k)) => j == k,
-        (MlType::Row(ts), MlType::Row(us)) => same_types(ts, us),
-        (MlType::Arrow(t, u), MlType::Arrow(v, w)) => same_type(t, v) && same_type(u, w),
-        (MlType::Name(m, ts), MlType::Name(n, us)) => m == n && same_types(ts, us),
-        _ => false,
+    name: &Ident,
+    specified: &Scheme,
+    structure: &Env,
+) -> Result<(), TopFault>
+    ensures { IsOpen (realise_type (sends realisation.now.functions.entries) (scheme_of specified.now).body)
+        → Answers (λ u. u) result (read_value place (env_of structure.now) (sends realisation.now.functions.entries) (ident_of name.now, scheme_of specified.now)) }
+{
+    let Some(scheme) = structure.value(name) else {
+        return Err(fault_of(alloc, Code::M1, place, name));
+    };
+    let Ok(realised) = realisation.realised(alloc, &specified.body) else {
+        return Err(TopFault::Memory);
+    };
+    match is_instance(alloc, scheme, &realised) {
+        Ok(true) => Ok(()),
+        Ok(false) => Err(fault_of(alloc, Code::M6, place, name)),
+        Err(_) => Err(TopFault::Memory),
     }
 }
 
-#[cycle(comparing)]
-fn same_types(a: &[Rc<MlType>], b: &[Rc<MlType>]) -> bool {
-    if a.len() != b.len() {
-        return false;
+/// A fault that speaks of this component.
+fn fault_of(alloc: Global, code: Code, place: Place, name: &Ident) -> TopFault
+    ensures { IsFaultOf result (fault_at code place (ident_of name.now ∷ [])) }
+{
+    match Vec::from_slice(alloc, name.as_slice()) {
+        Ok(text) => fault_about(code, place, text),
+        Err(_) => TopFault::Memory,
     }
-    for (t, u) in a.iter().zip(b.iter()) {
-        if !same_type(t, u) {
-            return false;
-        }
-    }
-    true
-}
-
-/// The types found for the variables of a scheme.
-type Found = BTreeMap<u32, Rc<MlType>>;
-
-/// Whether the type is an instance of the scheme.
-fn is_instance(alloc: Global, scheme: &Scheme, ty: &Rc<MlType>) -> Result<bool, TopFault> {
-    let mut found = BTreeMap::new(alloc);
-    fits(&mut found, &scheme.body, ty)
-}
-
-/// Whether the body of a scheme becomes the type by the types found so far and more.
-#[cycle(fitting)]
-fn fits(found: &mut Found, body: &MlType, ty: &Rc<MlType>) -> Result<bool, TopFault> {
-    match (body, &**ty) {
-        (MlType::Bound(k), _) => {
-            if let Some(before) = found.get(k) {
-                return Ok(same_type(before, ty));
-            }
-            found.insert(*k, ty.clone()?)?;
-            Ok(true)
-        }
-        (MlType::Free(j), MlType::Free(k)) => Ok(j == k),
-        (MlType::Row(ts), MlType::Row(us)) => all_fit(found, ts, us),
-        (MlType::Arrow(t, u), MlType::Arrow(v, w)) => Ok(fits(found, t, v)? && fits(found, u, w)?),
-        (MlType::Name(m, ts), MlType::Name(n, us)) => {
-            if m != n {
-                return Ok(false);
-            }
-            all_fit(found, ts, us)
-        }
-        _ => Ok(false),
-    }
-}
-
-#[cycle(fitting)]
-fn all_fit(
-    found: &mut Found,
-    bodies: &[Rc<MlType>],
-    types: &[Rc<MlType>],
-) -> Result<bool, TopFault> {
-    if bodies.len() != types.len() {
-        return Ok(false);
-    }
-    for (body, ty) in bodies.iter().zip(types.iter()) {
-        if !fits(found, body, ty)? {
-            return Ok(false);
-        }
-    }
-    Ok(true)
 }

@@ -1,16 +1,20 @@
 //! Top-level declarations (the Definition, section 5.7).
 
-ghost use Rattle.std.specs.Prelude.{◌≡◌, ◌≤◌, ◌+◌, length};
+ghost use Rattle.std.specs.Prelude.{◌≡◌, ◌≤◌, ◌+◌, length, [], IfOk, OnOk};
 ghost use Rattle.sml_lex.specs.declared.fault.Code.TheVariants.{Q3};
 ghost use Rattle.sml_lex.specs.declared.fault.Place.{Place};
 ghost use Rattle.sml_tree.specs.Trees as T;
-ghost use Rattle.sml_tree.specs.Views.{dec_of, core_dec_of};
+ghost use Rattle.sml_tree.specs.Views.{dec_of, core_dec_of, ident_of};
+ghost use Rattle.sml_tree.specs.declared.bare.BareDec.TheVariants.{Structure};
+ghost use Rattle.sml_objects.specs.Canonical as C;
 ghost use Rattle.sml_objects.specs.Objects as O;
+ghost use Rattle.sml_objects.specs.Objects.{one_structure};
 ghost use Rattle.sml_objects.specs.Initial.{Name, naming};
 ghost use Rattle.sml_objects.specs.Views.{env_of, maker_of, sig_of};
-ghost use Rattle.sml_rules.specs.Answers.{test, fault};
+ghost use Rattle.sml_rules.specs.Answers.{accepted, test, fault};
 ghost use Rattle.sml_rules.specs.Readings.{read_dec, read_top};
-ghost use Rattle.sml_units.specs.Elaborated.{Answers, IsBasisOf};
+ghost use Rattle.sml_rules.specs.Sound.{IsSound};
+ghost use Rattle.sml_units.specs.Elaborated.{Answers, IsBasisOf, IsOwnBasis, IsMade, signature_of};
 ghost use Rattle.sml_units.specs.Runs.{beginning};
 
 use crate::expressions::{all_declared, declared};
@@ -18,9 +22,10 @@ use crate::lookups::Context;
 use crate::matching::matches;
 use crate::signatures::signature;
 use crate::top_fault::{TopFault, plain_fault};
-use sml_lex::fault::{Code, Place, Warning};
-use sml_objects::objects::{Basis, Env, Sig};
-use sml_tree::bare::{BareDec, CoreDec, SealedStructure};
+use sml_lex::fault::{Code, Memory, Place, Warning};
+use sml_objects::canonical::{canonical, new_count};
+use sml_objects::objects::{Basis, Env, Sig, UnitId};
+use sml_tree::bare::{BareDec, CoreDec, Ident, SealedStructure};
 use std::alloc::Global;
 use std::rc::Rc;
 
@@ -30,23 +35,53 @@ pub const MOST_NAMES: usize = 1_048_576;
 /// The place of every top-level declaration.
 pub(crate) const START: Place = Place { line: 1, column: 1 };
 
-/// The declaration's own basis, with its warnings, or why it has none. The basis lent is that of its unit so far.
+/// The declaration's own basis, with its warnings, or why it has none. The basis lent is that of its unit so far. The new
+/// names are numbered from its count on, in the order in which they appear in the lines of the environment.
 pub fn topdec(
     alloc: Global,
     basis: &Basis,
     dec: &BareDec,
 ) -> Result<(Basis, Vec<Warning>), TopFault>
-    ensures { (B : O.Basis Name) (d : T.CoreDec Place) → IsBasisOf basis.now B → dec_of dec.now ≡ T.core d
-        → Answers (λ r. sig_of r.0) result (read_top naming beginning (maker_of basis.now.unit) B (T.core d)) }
+    ensures reading { (B : O.Basis Name) → IsBasisOf basis.now B
+        → Answers (λ r. sig_of r.0) result (read_top naming beginning (maker_of basis.now.unit) B (dec_of dec.now)) }
+    ensures sound { (B : O.Basis Name) → IsBasisOf basis.now B
+        → IfOk result (λ r. IsSound naming (maker_of basis.now.unit) B (dec_of dec.now) (sig_of r.0)) }
+    ensures own { (B : O.Basis Name) → IsBasisOf basis.now B → IfOk result (λ r. IsOwnBasis basis.now r.0) }
+    ensures canonical { (B : O.Basis Name) → IsBasisOf basis.now B
+        → IfOk result (λ r. (S : O.Sig Name) × read_top naming beginning (maker_of basis.now.unit) B (dec_of dec.now) (accepted S)
+        × (sig_of r.0 ≡ C.canonical (maker_of basis.now.unit) (length basis.now.names.items) S)) }
+    ensures no_warnings { IfOk result (λ r. r.1.items ≡ []) }
 {
     let own = match own_basis(alloc, basis, dec) {
         Ok(own) => own,
         Err(fault) => return Err(fault),
     };
     match few_names(basis, &own) {
-        Ok(_) => Ok((own, Vec::new(alloc))),
-        Err(fault) => Err(fault),
+        Ok(_) => {}
+        Err(fault) => return Err(fault),
     }
+    match numbered(alloc, basis, &own) {
+        Ok(own) => Ok((own, Vec::new(alloc))),
+        Err(_) => Err(TopFault::Memory),
+    }
+}
+
+/// What a declaration binds, with its new names numbered by first appearance. Each of these is among the names that it
+/// made; more of them would count as want of memory.
+fn numbered(alloc: Global, basis: &Basis, own: &Basis) -> Result<Basis, Memory>
+    requires { length basis.now.names.items + length own.now.names.items ≤ 1048576 }
+    ensures sig { IfOk result (λ b. sig_of b ≡ C.canonical (maker_of basis.now.unit) (length basis.now.names.items) (sig_of own.now)) }
+    ensures unit { IfOk result (λ b. b.unit ≡ own.now.unit) }
+    ensures few { OnOk result (length (C.new_names (maker_of basis.now.unit) (length basis.now.names.items) (sig_of own.now)) ≤ length own.now.names.items) }
+{
+    let Ok(count) = u32::try_from(basis.names.len()) else {
+        return Err(Memory);
+    };
+    let made = new_count(alloc, own, basis.unit, count)?;
+    if own.names.len() < made {
+        return Err(Memory);
+    }
+    canonical(alloc, own, basis.unit, count)
 }
 
 /// That the unit makes not too many names with these.
@@ -60,8 +95,8 @@ fn few_names(basis: &Basis, own: &Basis) -> Result<(), TopFault>
 }
 
 fn own_basis(alloc: Global, basis: &Basis, dec: &BareDec) -> Result<Basis, TopFault>
-    ensures { (B : O.Basis Name) (d : T.CoreDec Place) → B.body ≡ env_of basis.now.env → dec_of dec.now ≡ T.core d
-        → Answers sig_of result (read_dec naming (maker_of basis.now.unit) B (T.core d)) }
+    ensures answer { (B : O.Basis Name) → IsBasisOf basis.now B → Answers sig_of result (read_dec naming (maker_of basis.now.unit) B (dec_of dec.now)) }
+    ensures names { (B : O.Basis Name) → IsBasisOf basis.now B → IfOk result (IsOwnBasis basis.now) }
 {
     match dec {
         BareDec::Core(dec) => core_basis(alloc, basis, dec),
@@ -72,8 +107,10 @@ fn own_basis(alloc: Global, basis: &Basis, dec: &BareDec) -> Result<Basis, TopFa
 
 /// What a declaration of the core binds; it makes no name.
 fn core_basis(alloc: Global, basis: &Basis, dec: &CoreDec) -> Result<Basis, TopFault>
-    ensures { (B : O.Basis Name) → B.body ≡ env_of basis.now.env
+    ensures answer { (B : O.Basis Name) → B.body ≡ env_of basis.now.env
         → Answers sig_of result (read_dec naming (maker_of basis.now.unit) B (T.core (core_dec_of dec.now))) }
+    ensures unit { IfOk result (λ b. b.unit ≡ basis.now.unit) }
+    ensures names { IfOk result (λ b. b.names.items ≡ []) }
 {
     let inner = Env::new(alloc);
     let context = Context {
@@ -96,17 +133,40 @@ fn core_basis(alloc: Global, basis: &Basis, dec: &CoreDec) -> Result<Basis, TopF
 }
 
 /// A structure sealed by a signature.
-fn sealed(alloc: Global, basis: &Basis, structure: &SealedStructure) -> Result<Basis, TopFault> {
-    let body = all_declared(alloc, &basis.env, &structure.body)?;
-    let sig = signature(alloc, basis, &structure.signature.specs)?;
-    matches(alloc, structure.signature.place, &sig, &body)?;
+fn sealed(alloc: Global, basis: &Basis, structure: &SealedStructure) -> Result<Basis, TopFault>
+    ensures answer { (B : O.Basis Name) → IsBasisOf basis.now B
+        → Answers sig_of result (read_dec naming (maker_of basis.now.unit) B (dec_of (Structure structure.now))) }
+    ensures names { (B : O.Basis Name) → IsBasisOf basis.now B → IfOk result (IsOwnBasis basis.now) }
+{
+    let body = match all_declared(alloc, &basis.env, &structure.body) {
+        Ok(body) => body,
+        Err(fault) => return Err(fault),
+    };
+    let sig = match signature(alloc, basis, &structure.signature.specs) {
+        Ok(sig) => sig,
+        Err(fault) => return Err(fault),
+    };
+    match matches(alloc, structure.signature.place, &sig, &body) {
+        Ok(_) => exported(alloc, basis.unit, &structure.name, sig),
+        Err(fault) => Err(fault),
+    }
+}
+
+/// The basis of one structure, which has this signature.
+fn exported(alloc: Global, unit: UnitId, name: &Ident, sig: Sig) -> Result<Basis, TopFault>
+    ensures made { IsMade (record { names = (signature_of sig).names; body = one_structure (ident_of name.now) (signature_of sig).body }) sig_of result }
+    ensures unit { IfOk result (λ b. b.unit ≡ unit) }
+{
     let Sig { names, body } = sig;
+    let Ok(body) = Rc::new(alloc, body) else {
+        return Err(TopFault::Memory);
+    };
+    let Ok(name) = name.clone() else {
+        return Err(TopFault::Memory);
+    };
     let mut env = Env::new(alloc);
-    let body = Rc::new(alloc, body)?;
-    env.with_structure(structure.name.clone()?, body)?;
-    Ok(Basis {
-        unit: basis.unit,
-        names,
-        env,
-    })
+    match env.with_structure(name, body) {
+        Ok(_) => Ok(Basis { unit, names, env }),
+        Err(_) => Err(TopFault::Memory),
+    }
 }

@@ -1,9 +1,11 @@
 //! Project files: a line for each unit.
 
-ghost use Rattle.std.specs.Prelude.{◌≤◌, length};
+ghost use Rattle.std.specs.Prelude.{◌≡◌, IfOk, map};
+ghost use Rattle.std.specs.Str.Lines.{strip_carriage_return};
+ghost use Rattle.sml_units.specs.ProjectFiles.{IsAnswerTo, LineGives, lines_of, words_of, is_name_byte, is_unit_name, is_file_name, is_remark};
 
-use crate::manifest::{Manifest, ManifestFault, ProjectCode, ProjectFault};
-use std::alloc::Global;
+use crate::manifest::{MOST_UNITS, Manifest, ManifestFault, ProjectCode, ProjectFault};
+use std::alloc::{AllocError, Global};
 
 /// The greatest size of a project file, in bytes.
 const MOST_BYTES: usize = 1_048_576;
@@ -11,132 +13,125 @@ const MOST_BYTES: usize = 1_048_576;
 /// The longest name of a unit.
 const LONGEST_NAME: usize = 64;
 
-fn bad_line(line: u32) -> ManifestFault {
+/// What a line gives behind the lines before it.
+#[derive(Drop)]
+enum Line {
+    PassedOver,
+    Listed(ListedUnit),
+    Bad,
+}
+
+#[derive(Drop)]
+struct ListedUnit {
+    name: String,
+    file: String,
+}
+
+fn bad_line(line: u32) -> ManifestFault
+    ensures { result ≡ ManifestFault.Fault (record { code = ProjectCode.O4; line = line }) }
+{
     ManifestFault::Fault(ProjectFault {
         code: ProjectCode::O4,
         line,
     })
 }
 
-/// The units that a project file lists. For now there may be one unit, without needs: a second one and a need are O4.
-pub fn manifest(alloc: Global, text: &[u8]) -> Result<Manifest, ManifestFault> {
+/// The units that a project file lists, or O4 or O3 at the first line that has one of them. For now there may be one unit, without needs: a second one and a need are O4.
+pub fn manifest(alloc: Global, text: &[u8]) -> Result<Manifest, ManifestFault>
+    ensures { IsAnswerTo text.now result }
+{
     if text.len() > MOST_BYTES {
         return Err(bad_line(1));
     }
-    let mut manifest = Manifest {
-        names: Vec::new(alloc),
-        files: Vec::new(alloc),
-    };
-    let mut line: u32 = 0;
-    let mut start = 0;
-    while start < text.len() {
-        let end = line_end(text, start);
-        let Some(next) = line.checked_add(1) else {
-            return Err(ManifestFault::Memory);
-        };
-        line = next;
-        read_line(
-            alloc,
-            &mut manifest,
-            without_return(&text[start..end]),
-            line,
-        )?;
-        if end == text.len() {
-            break;
+    let lines = lines(alloc, text)?;
+    let mut names = Vec::new(alloc);
+    let mut files = Vec::new(alloc);
+    for (index, line) in lines.iter().enumerate() {
+        match read_line(alloc, *line, names.len())? {
+            Line::PassedOver => {}
+            Line::Listed(unit) => {
+                names.push(unit.name)?;
+                files.push(unit.file)?;
+            }
+            Line::Bad => return Err(bad_line(index as u32 + 1)),
         }
-        start = end + 1;
     }
-    Ok(manifest)
+    Ok(Manifest { names, files })
 }
 
-/// The first newline from a place on, or the text's end.
-fn line_end(text: &[u8], start: usize) -> usize
-    requires { start ≤ length text.now }
-    ensures { (start ≤ result) × (result ≤ length text.now) }
+/// The lines of a text of a project file.
+fn lines(alloc: Global, text: &[u8]) -> Result<Vec<&[u8]>, AllocError>
+    ensures { IfOk result (λ v. map (λ l. l.now) v.items ≡ lines_of text.now) }
 {
-    let mut end = start;
-    while end < text.len() && text[end] != b'\n' {
-        end += 1;
-    }
-    end
+    text.split(|byte| *byte == b'\n').collect(alloc)
+}
+
+/// The words of a line.
+fn words(alloc: Global, line: &[u8]) -> Result<Vec<&[u8]>, AllocError>
+    ensures { IfOk result (λ v. map (λ w. w.now) v.items ≡ words_of line.now) }
+{
+    without_return(line)
+        .split(|byte| *byte == b' ' || *byte == b'\t')
+        .filter(|word| !word.is_empty())
+        .collect(alloc)
 }
 
 /// The line without a carriage return at its end.
-fn without_return(line: &[u8]) -> &[u8] {
+fn without_return(line: &[u8]) -> &[u8]
+    ensures { result.now ≡ strip_carriage_return line.now }
+{
     if !line.is_empty() && line[line.len() - 1] == b'\r' {
         return &line[..line.len() - 1];
     }
     line
 }
 
-fn is_blank(byte: u8) -> bool {
-    byte == b' ' || byte == b'\t'
-}
-
-/// The first word from a place on: where it begins and ends. Both are the line's end where there is none.
-fn word(line: &[u8], start: usize) -> (usize, usize)
-    requires { start ≤ length line.now }
-    ensures { (start ≤ result.0) × (result.0 ≤ result.1) × (result.1 ≤ length line.now) }
+/// Reads a line behind so many units.
+fn read_line(alloc: Global, line: &[u8], listed: usize) -> Result<Line, AllocError>
+    ensures { IfOk result (LineGives listed line.now) }
 {
-    let mut first = start;
-    while first < line.len() && is_blank(line[first]) {
-        first += 1;
+    let found = words(alloc, line)?;
+    let words = found.as_slice();
+    if words.is_empty() || is_remark(words[0]) {
+        return Ok(Line::PassedOver);
     }
-    let mut last = first;
-    while last < line.len() && !is_blank(line[last]) {
-        last += 1;
-    }
-    (first, last)
-}
-
-/// Reads one line.
-fn read_line(
-    alloc: Global,
-    manifest: &mut Manifest,
-    line: &[u8],
-    number: u32,
-) -> Result<(), ManifestFault> {
-    let (first, last) = word(line, 0);
-    if first == last || line[first] == b'#' {
-        return Ok(());
-    }
-    let (name_first, name_last) = word(line, last);
-    let (file_first, file_last) = word(line, name_last);
-    let (need_first, need_last) = word(line, file_last);
-    let name = &line[name_first..name_last];
-    let file = &line[file_first..file_last];
-    if &line[first..last] != b"unit".as_slice()
-        || !is_name(name)
-        || !is_file(file)
-        || need_first != need_last
-        || !manifest.names.is_empty()
+    if words.len() != 3
+        || words[0] != b"unit".as_slice()
+        || !is_unit_name(words[1])
+        || !is_file_name(words[2])
+        || listed >= MOST_UNITS
     {
-        return Err(bad_line(number));
+        return Ok(Line::Bad);
     }
-    let name = ascii(alloc, name)?;
-    let file = ascii(alloc, file)?;
-    manifest.names.push(name)?;
-    manifest.files.push(file)?;
-    Ok(())
+    Ok(Line::Listed(ListedUnit {
+        name: String::from_utf8_lossy(alloc, words[1])?,
+        file: String::from_utf8_lossy(alloc, words[2])?,
+    }))
 }
 
-/// A name has 1 to 64 letters, digits, underscores and hyphens.
-fn is_name(word: &[u8]) -> bool {
-    !word.is_empty()
-        && word.len() <= LONGEST_NAME
-        && word.iter().all(|&byte| byte.is_ascii_alphanumeric() || byte == b'_' || byte == b'-')
+/// Whether a word begins with `#`.
+fn is_remark(word: &[u8]) -> bool
+    ensures { result ≡ is_remark word.now }
+{
+    !word.is_empty() && word[0] == b'#'
 }
 
-/// A file has bytes 33 to 126.
-fn is_file(word: &[u8]) -> bool {
-    !word.is_empty() && word.iter().all(|&byte| byte >= 33 && byte <= 126)
+/// Up to 64 letters, digits, underscores and hyphens.
+fn is_unit_name(word: &[u8]) -> bool
+    ensures { result ≡ is_unit_name word.now }
+{
+    word.len() <= LONGEST_NAME && word.iter().all(|&byte| is_name_byte(byte))
 }
 
-/// A text of ASCII bytes.
-fn ascii(alloc: Global, word: &[u8]) -> Result<String, ManifestFault> {
-    let mut text = String::new(alloc);
-    for byte in word {
-        text.push(char::from(*byte))?;
-    }
-    Ok(text)
+fn is_name_byte(byte: u8) -> bool
+    ensures { result ≡ is_name_byte byte }
+{
+    byte.is_ascii_alphanumeric() || byte == b'_' || byte == b'-'
+}
+
+/// Bytes 33 to 126.
+fn is_file_name(word: &[u8]) -> bool
+    ensures { result ≡ is_file_name word.now }
+{
+    word.iter().all(|&byte| byte >= 33 && byte <= 126)
 }

@@ -1,9 +1,15 @@
 //! Runs: a project is checked, and its replies are written.
 
-use crate::project::{Project, Replies, check};
-use crate::reply::print;
-use crate::sink::{Out, OutFault, write_all};
-use sml_lex::fault::Memory;
+ghost use Rattle.std.specs.Prelude.{◌≡◌, ◌≤◌, ◌+◌, if◌then◌else◌, IfOk, IfErr, length, map};
+ghost use Rattle.sml_units.specs.Checked.{MayReply};
+ghost use Rattle.sml_units.specs.Orders.{unit_texts};
+ghost use Rattle.sml_units.specs.Replies.{reply_text, warnings_of, accepts};
+ghost use Rattle.sml_units.specs.Sinks.{in_turn, Prints};
+ghost use Rattle.sml_units.specs.Written.{unit_text, units_text, replies_text, replies_of, summary_of, capped, IsOutcome};
+
+use crate::project::{Project, Replies, UnitReplies, check};
+use crate::reply::{Reply, print};
+use crate::sink::{Out, OutFault, write_each};
 use std::alloc::Global;
 use thiserror::Error;
 
@@ -18,18 +24,6 @@ pub enum RunFault {
     Write,
 }
 
-impl From<Memory> for RunFault {
-    fn from(_memory: Memory) -> RunFault {
-        RunFault::Memory
-    }
-}
-
-impl From<OutFault> for RunFault {
-    fn from(_fault: OutFault) -> RunFault {
-        RunFault::Write
-    }
-}
-
 /// How many declarations were accepted and refused, and how many warnings there are, printed or not.
 #[derive(Clone, Copy, PartialEq, Eq, Debug)]
 pub struct Summary {
@@ -38,46 +32,109 @@ pub struct Summary {
     pub warnings: u64,
 }
 
-/// Checks the project, and writes its replies.
+/// Checks the project, and writes the text of its replies: for each unit in order the line `unit NAME`, and then its replies.
+/// The replies are those of a run over the declarations that the units' bytes spell, for a project of one unit at most.
 pub fn run<O: Out>(
     alloc: Global,
     project: &Project,
     warnings: bool,
     out: &mut O,
-) -> Result<Summary, RunFault> {
-    let checked = check(alloc, project)?;
-    write_replies(checked.replies(), warnings, out)?;
-    Ok(counts(checked.replies()))
+) -> Result<Summary, RunFault>
+    ensures { IsOutcome (λ rs. length (unit_texts project.now) ≤ 1 → MayReply project.now rs) warnings (O.taken out.old) (O.taken out.new) (O.failures out.old) (O.failures out.new) result }
+{
+    match check(alloc, project) {
+        Ok(checked) => write_checked(checked.replies(), warnings, out),
+        Err(_) => Err(RunFault::Memory),
+    }
 }
 
-fn write_replies<O: Out>(replies: &Replies, warnings: bool, out: &mut O) -> Result<(), OutFault> {
-    for unit in replies.units.iter() {
-        write_all(out, b"unit ")?;
-        write_all(out, unit.name.as_bytes())?;
-        write_all(out, b"\n")?;
-        for reply in unit.replies.iter() {
-            print(reply, warnings, out)?;
+/// Writes the text of the replies, and counts them.
+fn write_checked<O: Out>(
+    replies: &Replies,
+    warnings: bool,
+    out: &mut O,
+) -> Result<Summary, RunFault>
+    ensures printed { Prints (O.taken out.old) (O.taken out.new) (O.failures out.old) (O.failures out.new) result (replies_text replies.now warnings) }
+    ensures counted { IfOk result (λ s. s ≡ summary_of (replies_of replies.now.units.items)) }
+    ensures fault { IfErr result (λ f. f ≡ RunFault.Write) }
+{
+    let units = replies.units.as_slice();
+    match write_units(units, warnings, out) {
+        Ok(_) => Ok(counts(units)),
+        Err(_) => Err(RunFault::Write),
+    }
+}
+
+fn write_units<O: Out>(units: &[UnitReplies], warnings: bool, out: &mut O) -> Result<(), OutFault>
+    ensures { Prints (O.taken out.old) (O.taken out.new) (O.failures out.old) (O.failures out.new) result (units_text units.now warnings) }
+{
+    for unit in units {
+        match write_unit(unit, warnings, out) {
+            Ok(_) => {}
+            Err(fault) => return Err(fault),
         }
     }
     Ok(())
 }
 
-fn counts(replies: &Replies) -> Summary {
+fn write_unit<O: Out>(unit: &UnitReplies, warnings: bool, out: &mut O) -> Result<(), OutFault>
+    ensures { Prints (O.taken out.old) (O.taken out.new) (O.failures out.old) (O.failures out.new) result (unit_text unit.now warnings) }
+{
+    let heading: [&[u8]; 3] = [b"unit ", unit.name.as_bytes(), b"\n"];
+    match write_each(out, &heading) {
+        Ok(_) => print_each(unit.replies.as_slice(), warnings, out),
+        Err(fault) => Err(fault),
+    }
+}
+
+fn print_each<O: Out>(replies: &[Reply], warnings: bool, out: &mut O) -> Result<(), OutFault>
+    ensures { Prints (O.taken out.old) (O.taken out.new) (O.failures out.old) (O.failures out.new) result (in_turn (map (λ r. reply_text r warnings) replies.now)) }
+{
+    for reply in replies {
+        match print(reply, warnings, out) {
+            Ok(_) => {}
+            Err(fault) => return Err(fault),
+        }
+    }
+    Ok(())
+}
+
+fn counts(units: &[UnitReplies]) -> Summary
+    ensures { result ≡ summary_of (replies_of units.now) }
+{
     let mut summary = Summary {
         accepted: 0,
         refused: 0,
         warnings: 0,
     };
-    for unit in replies.units.iter() {
-        for reply in unit.replies.iter() {
-            if reply.is_accepted() {
-                summary.accepted = summary.accepted.saturating_add(1);
-            } else {
-                summary.refused = summary.refused.saturating_add(1);
-            }
-            let count = reply.warnings().len() as u64;
-            summary.warnings = summary.warnings.saturating_add(count);
+    for unit in units {
+        for reply in unit.replies.as_slice() {
+            summary = counted(summary, reply);
         }
     }
     summary
+}
+
+/// The summary with one more reply.
+fn counted(summary: Summary, reply: &Reply) -> Summary
+    ensures accepted { result.accepted ≡ capped (summary.accepted + (if accepts reply.now then 1 else 0)) }
+    ensures refused { result.refused ≡ capped (summary.refused + (if accepts reply.now then 0 else 1)) }
+    ensures warnings { result.warnings ≡ capped (summary.warnings + length (warnings_of reply.now)) }
+{
+    let warnings = summary
+        .warnings
+        .saturating_add(reply.warnings().len() as u64);
+    if reply.is_accepted() {
+        Summary {
+            accepted: summary.accepted.saturating_add(1),
+            warnings,
+            ..summary
+        }
+    } else {
+        Summary {
+            refused: summary.refused.saturating_add(1),
+            warnings,
+            ..summary
+        }
+    }
 }

@@ -1,8 +1,8 @@
 //! Where the text of replies goes.
 
-ghost use Rattle.std.specs.Prelude.{◌≡◌, ◌≤◌, ℕ, List, [], Option, Some, length, map, IfOk};
-ghost use Rattle.std.specs.Io.KnownBytes.{WriteAppends};
-ghost use Rattle.sml_units.specs.Sinks.{failures_after, in_turn, Prints};
+ghost use Rattle.std.specs.Prelude.{◌≡◌, ◌≤◌, ℕ, List, [], Option, Some, length, map, IfOk, is_ok, if◌then◌else◌};
+ghost use Rattle.std.specs.Io.KnownBytes.{Keeps, WriteAppends};
+ghost use Rattle.sml_units.specs.Sinks.{failures_after, in_turn, one_more, Prints};
 
 use std::alloc::Global;
 use std::io::Write;
@@ -88,11 +88,17 @@ impl<W: Write> StdOut<W> {
         }
     }
 
-    /// Flushes the writer.
-    pub fn flush(&mut self) -> Result<(), OutFault> {
+    /// Flushes the writer. A flush that fails is a failed call of the sink.
+    pub fn flush(&mut self) -> Result<(), OutFault>
+        ensures kept { Keeps (W.contents self.old.writer) (W.contents self.new.writer) }
+        ensures counted { self.new.failures ≡ (if is_ok result then self.old.failures else one_more self.old.failures) }
+    {
         match self.writer.flush() {
             Ok(_) => Ok(()),
-            Err(_) => Err(OutFault),
+            Err(_) => {
+                self.failures = self.failures.saturating_add(1);
+                Err(OutFault)
+            }
         }
     }
 }

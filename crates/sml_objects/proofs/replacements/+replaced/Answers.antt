@@ -1,26 +1,24 @@
-use Rattle.std.proofs.Common.{ap, sym, ◌∙◌, map}
+use Rattle.std.proofs.Common.{◌≡◌, IfOk, ap, sym, subst, ◌∙◌, map}
 use Rattle.sml_objects.specs.Views.{type_of}
 use Rattle.sml_objects.specs.declared.objects.MlType.TheViews as V
 use Rattle.sml_objects.proofs.TypeCopies.{copy, shared-type, copy-bound, copy-free, copy-row, copy-arrow, copy-name}
 use Rattle.sml_objects.proofs.replacements.+replaced.Goals as goal
 
-pub replaced-returns-in_ok-bound-in-Bound : goal.replaced-returns-in_ok-bound-in-Bound
-replaced-returns-in_ok-bound-in-Bound g t c =
+pub replaced-returns-in-Bound : goal.replaced-returns-in-Bound
+replaced-returns-in-Bound g t c =
     let s = c.args.by.now in
     let b = g.R.Replacement.bound_gives s in
     let f = g.R.Replacement.free_gives s in
     let r = g.R.Replacement.name_gives s in
-    shared-type c.shared.result c.in_ok-bound-in-Bound.field-0 _
-    (c.in_ok-bound-in-Bound.ensures ∙ sym (ap (λ u. copy b f r (type_of u)) c.in-Bound.is ∙ copy-bound b f r c.in-Bound.variable)) c.shared.ensures
+    subst (λ u. IfOk c.bound.result (λ t. type_of t.value ≡ u)) (sym (ap (λ u. copy b f r (type_of u)) c.in-Bound.is ∙ copy-bound b f r c.in-Bound.variable)) c.bound.ensures
 
-pub replaced-returns-in_ok-free-in-Free : goal.replaced-returns-in_ok-free-in-Free
-replaced-returns-in_ok-free-in-Free g t c =
+pub replaced-returns-in-Free : goal.replaced-returns-in-Free
+replaced-returns-in-Free g t c =
     let s = c.args.by.now in
     let b = g.R.Replacement.bound_gives s in
     let f = g.R.Replacement.free_gives s in
     let r = g.R.Replacement.name_gives s in
-    shared-type c.shared-in-Free.result c.in_ok-free-in-Free.field-0 _
-    (c.in_ok-free-in-Free.ensures ∙ sym (ap (λ u. copy b f r (type_of u)) c.in-Free.is ∙ copy-free b f r c.in-Free.variable)) c.shared-in-Free.ensures
+    subst (λ u. IfOk c.free.result (λ t. type_of t.value ≡ u)) (sym (ap (λ u. copy b f r (type_of u)) c.in-Free.is ∙ copy-free b f r c.in-Free.variable)) c.free.ensures
 
 pub replaced-returns-in_ok-parts-in-Row : goal.replaced-returns-in_ok-parts-in-Row
 replaced-returns-in_ok-parts-in-Row g t c =
@@ -28,10 +26,10 @@ replaced-returns-in_ok-parts-in-Row g t c =
     let b = g.R.Replacement.bound_gives s in
     let f = g.R.Replacement.free_gives s in
     let r = g.R.Replacement.name_gives s in
-    shared-type c.shared-in-Row.result (V.Row c.in_ok-parts-in-Row.parts) _
+    shared-type c.shared.result (V.Row c.in_ok-parts-in-Row.parts) _
     (copy-row b f r c.in-Row.parts c.in_ok-parts-in-Row.parts
     (c.in_ok-parts-in-Row.ensures ∙ ap (map (λ t. copy b f r (type_of t.value))) c.deref.ensures.value)
-    ∙ ap (λ u. copy b f r (type_of u)) (sym c.in-Row.is)) c.shared-in-Row.ensures
+    ∙ ap (λ u. copy b f r (type_of u)) (sym c.in-Row.is)) c.shared.ensures
 
 pub replaced-returns-in_ok-to-in-Arrow : goal.replaced-returns-in_ok-to-in-Arrow
 replaced-returns-in_ok-to-in-Arrow g t c =

@@ -13,15 +13,15 @@ alone : (c : Component) → extend_env empty_env (component_of c) ≡ component_
 alone (Value x σ) = refl
 alone («Type» x σ) = refl
 
-pub returns-in-Err : goal.returns-in-Err
+pub returns-in-Err-clause-answer : goal.returns-in-Err-clause-answer
 unfolding read_dec
-returns-in-Err c = λ B same.
+returns-in-Err-clause-answer c = λ B same.
     let shows = subst (λ E. Shows no_local (env_of c.args.basis.now.env) E B.body) (sym c.new-inner.ensures) (subst (Shows no_local _ empty_env) (sym same) (shows_outer (env_of c.args.basis.now.env))) in
     first_ends component_of sig_of _ _ c.in-Err.fault (c.in-Err.ensures B.body shows)
 
-pub returns-in-Ok-put_into : goal.returns-in-Ok-put_into
+pub returns-in-Ok-put_into-clause-answer : goal.returns-in-Ok-put_into-clause-answer
 unfolding read_dec
-returns-in-Ok-put_into c = λ B same.
+returns-in-Ok-put_into-clause-answer c = λ B same.
     let shows = subst (λ E. Shows no_local (env_of c.args.basis.now.env) E B.body) (sym c.new-inner.ensures) (subst (Shows no_local _ empty_env) (sym same) (shows_outer (env_of c.args.basis.now.env))) in
     let G = component_of c.in-Ok.component in
     let body : env_of c.put_into.new.env ≡ G = c.in-Ok-put_into.ensures ∙ ap (λ E. extend_env E G) c.new-env.ensures ∙ alone c.in-Ok.component in

@@ -1,8 +1,11 @@
-use Rattle.std.proofs.Common.{length, ◌-◌, ◌≤◌}
+use Rattle.std.proofs.Common.{◌≤◌, map, vec_len}
+use Rattle.std.specs.String.{string_bytes}
+use Rattle.sml_units.specs.ProjectFiles.{lines_of}
+use Rattle.sml_units.proofs.Manifests.{ReadTo}
 use Rattle.sml_units.proofs.project_file.manifest.Given as goal
 
-abbrev pub invariant-loop-start : goal.invariant-loop-start
-invariant-loop-start l = l.start ≤ length l.text
-
-abbrev pub decreases-loop-start : goal.decreases-loop-start
-decreases-loop-start l = length l.text - l.start
+abbrev pub invariant-loop-index : goal.invariant-loop-index
+invariant-loop-index l = record {
+  read : ReadTo (lines_of l.text) l.index (map string_bytes l.names.items) (map string_bytes l.files.items);
+  few : vec_len l.names ≤ 1;
+}

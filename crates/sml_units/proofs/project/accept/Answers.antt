@@ -1,0 +1,6 @@
+use Rattle.sml_units.proofs.Replying.{added}
+use Rattle.sml_units.proofs.project.accept.Goals as goal
+
+pub returns-clause-basis : goal.returns-clause-basis
+returns-clause-basis c = λ B basis is opened.
+    added c.args.basis.now c.add.new.self c.args.own B basis is opened c.in_ok-add.ensures.env c.in_ok-add.ensures.names c.in_ok-add.ensures.unit

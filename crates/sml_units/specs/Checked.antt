@@ -1,0 +1,126 @@
+-- Which replies a project may be given.
+use Rattle.std.specs.Prelude.{◌≡◌, ℕ, suc, Bool, true, false, List, [], ◌∷◌, ◌++◌, Option, Some, None, map, take}
+use Rattle.std.specs.String.{string_bytes}
+use Rattle.sml_lex.specs.declared.fault.Place.{Place}
+use Rattle.sml_lex.specs.declared.token.Token.{Token}
+use Rattle.sml_lex.specs.declared.token.End.{End}
+use Rattle.sml_lex.specs.Faults.{Fault}
+use Rattle.sml_lex.specs.Pieces.{Spells}
+use Rattle.sml_tree.specs.Trees.{Dec}
+use Rattle.sml_parse.specs.Trees.{Trees}
+use Rattle.sml_objects.specs.Objects.{Sig, Basis}
+use Rattle.sml_objects.specs.Initial.{Name, naming, initial_basis}
+use Rattle.sml_rules.specs.Answers.{Answer, refused, accepted}
+use Rattle.sml_rules.specs.Readings.{read_top}
+use Rattle.sml_rules.specs.Sound.{IsSound}
+use Rattle.sml_units.specs.Text.{text}
+use Rattle.sml_units.specs.Runs.{SourceUnit, Run, RunProject, basis_after, start, beginning}
+use Rattle.sml_units.specs.Elaborated.{IsBasisOf}
+use Rattle.sml_objects.specs.Views.{maker_of}
+use Rattle.sml_objects.specs.declared.objects.Basis as PB
+use Rattle.sml_units.specs.Replies.{reply_text, warnings_of, accepts}
+use Rattle.sml_units.specs.Orders.{UnitText, unit_texts}
+use Rattle.sml_units.specs.declared.project.Project.{Project}
+use Rattle.sml_units.specs.declared.project.Replies.{Replies}
+use Rattle.sml_units.specs.declared.project.UnitReplies.{UnitReplies}
+use Rattle.sml_units.specs.declared.reply.Reply.{Reply}
+
+-- the answer to a declaration
+abbrev pub Answered : Type 0
+Answered = Answer Place (Sig Name)
+
+-- The bytes of a unit spell tokens, and these whole declarations and perhaps a last fault.
+pub record AreSpelt (bytes : List ℕ) (declarations : List (Dec Place)) (last : Option (Fault Place)) : Type 0 where
+  pub tokens : List Token
+  pub end : End
+  pub tokens_spelt : Spells bytes tokens end
+  pub trees : Trees bytes tokens end declarations last
+
+abbrev pub is_acceptance : Answered → Bool
+is_acceptance (refused f) = false
+is_acceptance (accepted S) = true
+
+-- the reply with this number gives the answer, and has no warning
+pub record IsReplyTo (number : ℕ) (o : Answered) (r : Reply) : Type 0 where
+  pub printed : reply_text r false ≡ text naming number o
+  pub unwarned : warnings_of r ≡ []
+  pub accepting : accepts r ≡ is_acceptance o
+
+-- the replies from this number on, one for each answer
+abbrev pub AreRepliesTo : ℕ → List Answered → List Reply → Type 0
+AreRepliesTo k [] [] = Unit {0}
+AreRepliesTo k [] (r ∷ rs) = ⊥
+AreRepliesTo k (o ∷ os) [] = ⊥
+AreRepliesTo k (o ∷ os) (r ∷ rs) = IsReplyTo k o r × AreRepliesTo (suc k) os rs
+
+-- a last fault is one more answer
+abbrev pub with_last : List Answered → Option (Fault Place) → List Answered
+with_last os None = os
+with_last os (Some f) = os ++ refused f ∷ []
+
+-- each accepted declaration has a derivation in the rules, whose environment is the one given up to names of types
+abbrev pub IsSoundAnswer : ℕ → Basis Name → Dec Place → Answered → Type 0
+IsSoundAnswer unit B d (refused f) = Unit {0}
+IsSoundAnswer unit B d (accepted S) = IsSound naming unit B d S
+
+abbrev pub AreSound : ℕ → Basis Name → List (Dec Place) → List Answered → Type 0
+AreSound unit B [] os = Unit {0}
+AreSound unit B (d ∷ ds) [] = Unit {0}
+AreSound unit B (d ∷ ds) (o ∷ os) = IsSoundAnswer unit B d o × AreSound unit (basis_after B o) ds os
+
+-- these declarations, each in the basis so far, are given these replies
+pub record HaveReplies (maker : ℕ) (B : Basis Name) (ds : List (Dec Place)) (rs : List Reply) : Type 0 where
+  pub answers : List Answered
+  pub run : Run naming maker B ds answers
+  pub replies : AreRepliesTo 1 answers rs
+
+-- a declaration is answered in the basis, and what it binds if it is accepted is put into it
+pub record IsStep (old new : PB.Basis) (B : Basis Name) (d : Dec Place) (number : ℕ) (r : Reply) : Type 0 where
+  pub answer : Answered
+  pub reading : read_top naming beginning (maker_of old.unit) B d answer
+  pub reply : IsReplyTo number answer r
+  pub after : IsBasisOf new (basis_after B answer)
+  pub unit : new.unit ≡ old.unit
+
+-- A unit of this text is given these replies: some run over the declarations that its bytes spell has their answers.
+pub record IsAnswered (maker : ℕ) (bytes : List ℕ) (rs : List Reply) : Type 0 where
+  pub declarations : List (Dec Place)
+  pub last : Option (Fault Place)
+  pub spelt : AreSpelt bytes declarations last
+  pub answers : List Answered
+  pub run : Run naming maker (start initial_basis [] []) declarations answers
+  pub sound : AreSound maker (start initial_basis [] []) declarations answers
+  pub replies : AreRepliesTo 1 (with_last answers last) rs
+
+-- each unit is named and answered
+abbrev pub AreAnswered : List UnitText → List UnitReplies → Type 0
+AreAnswered [] [] = Unit {0}
+AreAnswered [] (r ∷ rs) = ⊥
+AreAnswered (u ∷ us) [] = ⊥
+AreAnswered (u ∷ us) (r ∷ rs) = ((string_bytes r.name ≡ u.name) × IsAnswered (suc u.place) u.text r.replies.items) × AreAnswered us rs
+
+-- the unit of these declarations, which has no needs for now
+pub record IsSourceOf (u : UnitText) (s : SourceUnit) : Type 0 where
+  pub label_is : s.label ≡ u.name
+  pub maker_is : s.maker ≡ suc u.place
+  pub needs_are : s.needs ≡ []
+  pub spelt : AreSpelt u.text s.declarations s.last
+
+abbrev pub AreSourcesOf : List UnitText → List SourceUnit → Type 0
+AreSourcesOf [] [] = Unit {0}
+AreSourcesOf [] (s ∷ ss) = ⊥
+AreSourcesOf (u ∷ us) [] = ⊥
+AreSourcesOf (u ∷ us) (s ∷ ss) = IsSourceOf u s × AreSourcesOf us ss
+
+abbrev pub AreUnitReplies : List SourceUnit → List (List Answered) → List UnitReplies → Type 0
+AreUnitReplies [] [] [] = Unit {0}
+AreUnitReplies (s ∷ ss) (os ∷ oss) (r ∷ rs) = ((string_bytes r.name ≡ s.label) × AreRepliesTo 1 (with_last os s.last) r.replies.items) × AreUnitReplies ss oss rs
+AreUnitReplies ss oss rs = ⊥
+
+-- Some run over the units of the project, of the declarations that their bytes spell, has the answers of these replies.
+pub record MayReply (p : Project) (rs : Replies) : Type 0 where
+  pub sources : List SourceUnit
+  pub sources_are : AreSourcesOf (unit_texts p) sources
+  pub answers : List (List Answered)
+  pub run : RunProject naming initial_basis [] sources answers
+  pub replies : AreUnitReplies sources answers rs.units.items

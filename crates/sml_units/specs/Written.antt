@@ -1,0 +1,51 @@
+-- What a run writes and counts.
+use Rattle.std.specs.Prelude.{◌≡◌, ℕ, ◌-◌, ◌^◌, min, Bool, not, List, [], ◌∷◌, ◌++◌, length, map, codes, count_by, sum_by, Option, Result, Ok, Err, IfOk}
+use Rattle.std.specs.List.{flat_map}
+use Rattle.std.specs.String.{string_bytes}
+use Rattle.sml_units.specs.declared.project.Replies.{Replies}
+use Rattle.sml_units.specs.declared.project.UnitReplies.{UnitReplies}
+use Rattle.sml_units.specs.declared.reply.Reply.{Reply}
+use Rattle.sml_units.specs.declared.run.Summary.{Summary}
+use Rattle.sml_units.specs.declared.run.RunFault.{RunFault}
+use Rattle.sml_units.specs.declared.run.RunFault.TheVariants.{Memory, Write}
+use Rattle.sml_units.specs.Replies.{reply_text, warnings_of, accepts}
+use Rattle.sml_units.specs.Sinks.{in_turn, Prints}
+
+-- the line of the unit, and then its replies
+abbrev pub unit_text : UnitReplies → Bool → List ℕ
+unit_text u asked = in_turn (codes "unit " ∷ string_bytes u.name ∷ codes "\n" ∷ []) ++ in_turn (map (λ r. reply_text r asked) u.replies.items)
+
+-- the units one after the other
+abbrev pub units_text : List UnitReplies → Bool → List ℕ
+units_text us asked = in_turn (map (λ u. unit_text u asked) us)
+
+abbrev pub replies_text : Replies → Bool → List ℕ
+replies_text rs asked = units_text rs.units.items asked
+
+-- the replies of all units
+abbrev pub replies_of : List UnitReplies → List Reply
+replies_of us = flat_map (λ u. u.replies.items) us
+
+-- counts stop at the greatest number of their type
+abbrev pub capped : ℕ → ℕ
+capped k = min k (2 ^ 64 - 1)
+
+unfoldable pub summary_of : List Reply → Summary
+summary_of rs = record {
+  accepted = capped (count_by accepts rs);
+  refused = capped (count_by (λ r. not (accepts r)) rs);
+  warnings = capped (sum_by (λ r. length (warnings_of r)) rs);
+}
+
+-- Replies that may be given were printed as far as the sink took them, and where it took them all the summary counts them.
+pub record Writes (May : Replies → Type 0) (asked : Bool) (old new : Option (List ℕ)) (before after : ℕ) (r : Result Summary RunFault) : Type 0 where
+  pub replies : Replies
+  pub may : May replies
+  pub printed : Prints old new before after r (replies_text replies asked)
+  pub counted : IfOk r (λ s. s ≡ summary_of (replies_of replies.units.items))
+
+-- What `run` answers, and what its sink took and how often it failed; `May` says which replies a project may be given. Without memory nothing is written.
+unfoldable pub IsOutcome : (Replies → Type 0) → Bool → Option (List ℕ) → Option (List ℕ) → ℕ → ℕ → Result Summary RunFault → Type 0
+IsOutcome May asked old new before after (Ok s) = Writes May asked old new before after (Ok s)
+IsOutcome May asked old new before after (Err Memory) = (new ≡ old) × (after ≡ before)
+IsOutcome May asked old new before after (Err Write) = Writes May asked old new before after (Err Write)

@@ -1,8 +1,7 @@
 -- Each form of a declaration of the piece finds what it needs.
-use Rattle.std.proofs.Common.{◌≡◌, ℕ, zero, suc, List, [], ◌∷◌, Bool, true, false, Option, Some, length, refl, sym, ap, ◌∙◌, subst, eqb}
+use Rattle.std.proofs.Common.{◌≡◌, ℕ, zero, suc, List, [], ◌∷◌, Bool, true, false, Some, length, refl, sym, ap, ◌∙◌, subst}
 use Rattle.std.specs.Prelude.{◌&&◌, ◌||◌, not, slice_get}
 use Rattle.std.proofs.lemmas.Bool.{cond-true, cond-false, eqb-true, and_parts, and_from, false≢true}
-use Rattle.sml_tree.specs.Trees as T
 use Rattle.sml_parse.specs.declared.form.Form.{Form}
 use Rattle.sml_parse.specs.declared.form.Form.TheVariants as F
 use Rattle.sml_parse.specs.declared.sort.Sort.{Sort}
@@ -12,7 +11,7 @@ use Rattle.sml_parse.specs.declared.sort.Need.TheVariants.{One, Core, Declared, 
 use Rattle.sml_parse.specs.declared.item.Item.{Item}
 use Rattle.sml_parse.specs.declared.item.Item.TheVariants as I
 use Rattle.sml_parse.specs.Lists.{rest, without}
-use Rattle.sml_parse.specs.Forms.{needs, gives, sort_number, same, serves, first_sort, serve_all, sort_made, sorts_of, is_one_dec, is_in_piece}
+use Rattle.sml_parse.specs.Forms.{needs, gives, sort_number, same, serves, serve_all, sorts_of, is_one_dec}
 use Rattle.sml_parse.specs.Values.{Value, first}
 use Rattle.sml_parse.specs.Rules.{made, values_of}
 use Rattle.sml_parse.specs.Sorts.{is_of, value_serves, values_serve, finds_all, EachIsMade}

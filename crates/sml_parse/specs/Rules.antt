@@ -1,7 +1,7 @@
 -- What each rule makes of what its right side made: the bare tree of the full one (the Definition, appendix A).
 use Rattle.std.specs.Prelude.{ℕ, List, [], ◌∷◌, length, slice_range}
 use Rattle.sml_lex.specs.declared.fault.Place.{Place}
-use Rattle.sml_tree.specs.Trees.{number, name, tuple, function, no_exp, and_exp, constructor, bracket_ty, no_ty, and_ty, type_spec, val_spec, val_dec, type_dec, core, sealed}
+use Rattle.sml_tree.specs.Trees.{number, name, tuple, function, no_exp, and_exp, constructor, bracket_ty, no_ty, and_ty, type_spec, val_spec, val_dec, type_dec, sealed}
 use Rattle.sml_parse.specs.declared.form.Form.{Form}
 use Rattle.sml_parse.specs.declared.form.Form.TheVariants as F
 use Rattle.sml_parse.specs.declared.item.Item.{Item}

@@ -1,12 +1,11 @@
 -- The tables against the rules alone.
-use Rattle.std.proofs.Common.{◌≡◌, ℕ, zero, suc, ◌+◌, ◌<◌, ◌≤◌, List, [], ◌∷◌, ◌++◌, Bool, true, false, cond, Option, Some, None, refl, sym, ap, ◌∙◌, subst, arith, append_assoc, append-nil}
-use Rattle.std.specs.Prelude.{not, ◌&&◌, ◌||◌}
+use Rattle.std.proofs.Common.{◌≡◌, ℕ, zero, suc, ◌+◌, ◌<◌, List, [], ◌∷◌, ◌++◌, Bool, true, false, cond, Option, None, refl, sym, ap, ◌∙◌, subst, arith, append_assoc, append-nil}
+use Rattle.std.specs.Prelude.{◌&&◌, ◌||◌}
 use Rattle.std.proofs.lemmas.Bool.{eqb-true, eq-eqb, and_parts, and_from, false≢true}
 use Rattle.sml_lex.specs.declared.token.Kind.{Kind}
 use Rattle.sml_read.specs.declared.grammar.Part.{Part}
 use Rattle.sml_read.specs.declared.grammar.Symbol.{Symbol}
 use Rattle.sml_read.specs.declared.grammar.Symbol.TheVariants.{Word, Of}
-use Rattle.sml_read.specs.declared.grammar.Rule.{Rule}
 use Rattle.sml_read.specs.declared.grammar.Node.{Node}
 use Rattle.sml_read.specs.declared.grammar.Node.TheVariants.{Leaf, Inner}
 use Rattle.sml_read.specs.Grammar.{right_side}
@@ -15,9 +14,9 @@ use Rattle.sml_read.specs.Numbers.{kind_number}
 use Rattle.sml_read.specs.Spelling.{begins_with, all_empty, side_begins_with, Leads}
 use Rattle.sml_read.specs.Shortest.{shortest, shortest_text, weight}
 use Rattle.sml_read.specs.Steps.{cost}
-use Rattle.sml_read.specs.Exact.{Spells, SpellsNothing, SpellsFirst, TablesAreExact}
+use Rattle.sml_read.specs.Exact.{Spells, SpellsNothing, TablesAreExact}
 use Rattle.sml_read.proofs.Tables.{kind_same, begins_so, empty_so, cost_so, shortest_so, short_so, starter_so}
-use Rattle.sml_read.proofs.Trees.{all_empty-append, side_begins_with-append, stops_of, runs_lead}
+use Rattle.sml_read.proofs.Trees.{side_begins_with-append, stops_of, runs_lead}
 
 -- what the rules say, the tables say
 or_left : (a b : Bool) → a ≡ true → (a || b) ≡ true

@@ -1,6 +1,6 @@
 -- What a computation over the whole table shows of each rule.
 use Rattle.std.proofs.Common.{◌≡◌, ℕ, zero, suc, ◌-◌, ◌<◌, ◌≤◌, length, get_or, cond, List, [], ◌∷◌, ◌++◌, Bool, true, false, Option, Some, None, refl, sym, ap, ◌∙◌, subst, eqb, ltb}
-use Rattle.std.specs.Prelude.{not, ◌&&◌, ◌||◌, slice_get}
+use Rattle.std.specs.Prelude.{not, ◌&&◌, slice_get}
 use Rattle.std.proofs.lemmas.Bool.{cond-true, cond-false, lt-ltb, le-ltb, eqb-true, ltb-true, and_parts, false≢true}
 use Rattle.sml_lex.specs.declared.token.Kind.{Kind}
 use Rattle.sml_read.specs.declared.grammar.Part.{Part}

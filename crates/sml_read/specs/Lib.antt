@@ -8,3 +8,4 @@ pub mod Steps
 pub mod Answer
 pub mod All
 pub mod Exact
+pub mod Extents

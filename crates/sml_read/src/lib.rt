@@ -7,6 +7,7 @@ mod core_sides;
 pub mod grammar;
 pub mod laws;
 mod module_sides;
+pub mod phrases;
 pub mod read;
 pub mod table;
 pub mod tokens;

@@ -277,7 +277,9 @@ class Writer:
     def grammar_antt(self):
         out = f"-- {MARK}\n-- The grammar, as a table of rules: what stands for a part, from the left, by each of its rules.\n"
         out += "use Rattle.std.specs.Prelude.{List, [], ◌∷◌}\n"
-        out += self.uses(parts=self.g.parts, rules=self.every_rule())
+        types = ["use Rattle.sml_lex.specs.declared.token.Kind.{Kind}\n", "use Rattle.sml_read.specs.declared.grammar.Part.{Part}\n"]
+        uses = self.uses(parts=self.g.parts, rules=self.every_rule())
+        out += uses.replace(types[0], "").replace(types[1], "")
         out += "\nabbrev pub right_side : Rule → List Symbol\n"
         section = None
         for p in self.g.parts:

@@ -1,4 +1,5 @@
 use super::*;
+use crate::phrases::{ends, starts};
 use crate::read::forms::{SECTIONS, all_kinds, forms};
 use sml_lex::lexer::lex;
 use std::process::Abort;
@@ -65,7 +66,7 @@ fn all_forms(rt: HostRuntime) -> Result<(), Fail> {
 }
 
 #[test]
-fn ends(rt: HostRuntime) -> Result<(), Fail> {
+fn how_units_end(rt: HostRuntime) -> Result<(), Fail> {
     let alloc = rt.alloc();
     for (text, done, begun, cause) in [
         ("", true, 0, None),
@@ -100,5 +101,22 @@ fn ends(rt: HostRuntime) -> Result<(), Fail> {
         assert_eq!(rt; full.begun, begun, "{text}");
         assert_eq!(rt; full.cause, cause, "{text}");
     }
+    Ok(())
+}
+
+#[test]
+fn extents(rt: HostRuntime) -> Result<(), Fail> {
+    let alloc = rt.alloc();
+    let full = read(alloc, &lex(alloc, b"open A B")?)?;
+    // what is left of the unit isn't there, so the first node's phrase ends with the nodes
+    assert_eq!(rt; full.nodes.len(), 11);
+    assert_eq!(rt;
+        starts(alloc, &full.nodes)?.as_slice(),
+        [0, 0, 0, 0, 0, 1, 1, 2, 2, 2, 3].as_slice()
+    );
+    assert_eq!(rt;
+        ends(alloc, &full.nodes)?.as_slice(),
+        [11, 11, 11, 11, 5, 7, 7, 11, 10, 10, 11].as_slice()
+    );
     Ok(())
 }

@@ -1,7 +1,6 @@
 use Rattle.std.proofs.Common.{◌≡◌, ◌+◌, ◌++◌, [], drop, cond, ◌∙◌, length, sym, ap, subst, refl}
-use Rattle.std.proofs.lemmas.Bool.{ltb-true, cond-true, cond-false}
+use Rattle.std.proofs.lemmas.Bool.{ltb-true}
 use Rattle.std.proofs.lemmas.Option.{slice_get_read}
-use Rattle.sml_parse.specs.declared.item.Item.TheVariants as I
 use Rattle.sml_parse.specs.Places.{IsOnWay}
 use Rattle.std.specs.List.{cons_option}
 use Rattle.sml_parse.specs.Items.{item_of, items_of, begins_behind, start_of}

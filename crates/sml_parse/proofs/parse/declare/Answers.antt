@@ -1,5 +1,4 @@
 use Rattle.std.proofs.Common.{◌+◌, sym, ap, ◌∙◌}
-use Rattle.sml_tree.specs.Views.{dec_of}
 use Rattle.sml_parse.proofs.Declaring.{high_on, dec_on, pass_on, all_on, all_left}
 use Rattle.sml_parse.proofs.parse.declare.Goals.{then-begins+in_ok-dec+in-Some+in_ok-push, else-begins}
 use Rattle.sml_parse.proofs.parse.declare.Goals as goal

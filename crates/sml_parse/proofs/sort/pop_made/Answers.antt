@@ -1,4 +1,4 @@
-use Rattle.std.proofs.Common.{◌≡◌, ◌+◌, drop, length, reverse, sym, ap, ◌∙◌}
+use Rattle.std.proofs.Common.{◌+◌, drop, length, reverse, sym, ap, ◌∙◌}
 use Rattle.std.specs.Prelude.{◌&&◌}
 use Rattle.sml_parse.specs.declared.sort.Need.TheVariants.{Core}
 use Rattle.sml_parse.specs.Lists.{rest, without}

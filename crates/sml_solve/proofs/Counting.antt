@@ -1,0 +1,117 @@
+-- Sizes of types that are counted node by node.
+use Rattle.std.proofs.Common.{◌≡◌, ℕ, suc, ◌+◌, ◌<◌, ◌≤◌, List, [], ◌∷◌, ◌++◌, length, map, sym, ◌∙◌, ap, refl, arith}
+use Rattle.std.specs.Prelude.{Bool}
+use Rattle.smallvec.specs.SmallVec.{SmallVec}
+use Rattle.sml_objects.specs.Initial.{Name}
+use Rattle.sml_objects.specs.Objects as O
+use Rattle.sml_objects.specs.Sizes.{type_size, types_size}
+use Rattle.sml_objects.specs.Types.{assign}
+use Rattle.sml_objects.specs.Views.{types_of}
+use Rattle.sml_solve.specs.declared.graph.Graph.{Graph}
+use Rattle.sml_solve.specs.declared.layer.Layer.TheVariants.{Finiteness}
+use Rattle.sml_solve.specs.declared.node.Head.{Head}
+use Rattle.sml_solve.specs.declared.node.Node.{Node}
+use Rattle.sml_solve.specs.declared.node.Node.TheVariants.{Unknown, App}
+use Rattle.sml_solve.specs.Worlds.{finite, Assignment}
+use Rattle.sml_solve.specs.Graphs.{node_at, Meets, IsSame}
+use Rattle.sml_solve.specs.Ranks.{HasRank}
+use Rattle.sml_solve.specs.Interned.{IsOver, through}
+use Rattle.sml_solve.specs.Asked.{asked_of, Permits}
+use Rattle.sml_solve.specs.Whole.{IsKept}
+use Rattle.sml_solve.specs.Counted.{sizes_at, IsCounting, IsCounted, IsSizeUpTo}
+use Rattle.sml_solve.proofs.Ranking.{solution, nothing, solution-meets, solution-unknown}
+use Rattle.sml_solve.proofs.Interning.{typed-same}
+use Rattle.sml_solve.proofs.Demanding.{Grows, grown-forth, grown-back, through-agree}
+
+sizes_at-append : (τ : Assignment finite) (is js : List ℕ) → sizes_at τ (is ++ js) ≡ sizes_at τ is + sizes_at τ js
+sizes_at-append τ [] js = omega arith
+sizes_at-append τ (i ∷ is) js = let r = sizes_at-append τ is js in omega (arith, r)
+
+sizes_at-types : (τ : Assignment finite) (is : List ℕ) → types_size (types_of (map τ is)) ≡ sizes_at τ is
+unfolding types_size
+sizes_at-types τ [] = refl
+sizes_at-types τ (i ∷ is) = ap (λ n. type_size (τ i) + n) (sizes_at-types τ is)
+
+positive : (t : O.MlType Name) → 0 < type_size t
+unfolding type_size
+positive (O.bound k) = omega arith
+positive (O.free v) = omega arith
+positive (O.app h ts) = omega arith
+
+pub counting-first : (ns : List Node) (root : ℕ) (is : List ℕ) → HasRank ns → is ≡ root ∷ [] → IsCounting ns root 0 is
+unfolding type_size types_size
+counting-first ns root is r e =
+    let σ = solution ns nothing r.rank in
+    record {
+      less = λ τ m. rw e (omega arith);
+      types = σ;
+      meets = solution-meets ns nothing r.rank r.ranked;
+      ones = λ i q. ap type_size (solution-unknown ns nothing r.rank i q);
+      exact = rw e (omega arith);
+    }
+
+size-app : (ns : List Node) (at here : ℕ) (h : Head) (kids : SmallVec ℕ) → IsSame ns at here → node_at ns here ≡ App h kids → (τ : Assignment finite) → Meets finite ns τ → type_size (τ at) ≡ suc (sizes_at τ kids.items)
+unfolding type_size
+size-app ns at here h kids s e τ m =
+    let a = s finite τ m in
+    let b = rw e at (m here) in
+    ap type_size (a ∙ b) ∙ ap suc (sizes_at-types τ kids.items)
+
+pub counting-app : (ns : List Node) (root n : ℕ) (is js ks : List ℕ) (at here : ℕ) (h : Head) (kids : SmallVec ℕ) → IsCounting ns root n is → is ≡ js ++ at ∷ [] → IsSame ns at here → node_at ns here ≡ App h kids → ks ≡ js ++ kids.items → IsCounting ns root (n + 1) ks
+counting-app ns root n is js ks at here h kids c e s q f =
+    let split : (τ : Assignment finite) → sizes_at τ is ≡ sizes_at τ js + (type_size (τ at) + 0) = λ τ. ap (sizes_at τ) e ∙ sizes_at-append τ js (at ∷ []) in
+    let join : (τ : Assignment finite) → sizes_at τ ks ≡ sizes_at τ js + sizes_at τ kids.items = λ τ. ap (sizes_at τ) f ∙ sizes_at-append τ js kids.items in
+    record {
+      less = λ τ m. let x = c.less τ m in let y = split τ in let z = join τ in let w = size-app ns at here h kids s q τ m in omega (arith, x, y, z, w);
+      types = c.types;
+      meets = c.meets;
+      ones = c.ones;
+      exact = let x = c.exact in let y = split c.types in let z = join c.types in let w = size-app ns at here h kids s q c.types c.meets in omega (arith, x, y, z, w);
+    }
+
+pub counting-one : (ns : List Node) (root n : ℕ) (is js : List ℕ) (at here : ℕ) → IsCounting ns root n is → is ≡ js ++ at ∷ [] → IsSame ns at here → node_at ns here ≡ Unknown → IsCounting ns root (n + 1) js
+counting-one ns root n is js at here c e s q =
+    let split : (τ : Assignment finite) → sizes_at τ is ≡ sizes_at τ js + (type_size (τ at) + 0) = λ τ. ap (sizes_at τ) e ∙ sizes_at-append τ js (at ∷ []) in
+    record {
+      less = λ τ m. let x = c.less τ m in let y = split τ in let w = positive (τ at) in omega (arith, x, y, w);
+      types = c.types;
+      meets = c.meets;
+      ones = c.ones;
+      exact = let x = c.exact in let y = split c.types in let w : type_size (c.types at) ≡ 1 = ap type_size (s finite c.types c.meets) ∙ c.ones here q in omega (arith, x, y, w);
+    }
+
+pub counted-more : (ns : List Node) (root limit n : ℕ) (is js : List ℕ) (at : ℕ) → IsCounting ns root n is → is ≡ js ++ at ∷ [] → n ≤ limit → limit < n + 1 → IsCounted ns root limit (n + 1)
+counted-more ns root limit n is js at c e l h = record {
+  most = omega (arith, l);
+  least = λ τ m.
+      let x = c.less τ m in
+      let y : sizes_at τ is ≡ sizes_at τ js + (type_size (τ at) + 0) = ap (sizes_at τ) e ∙ sizes_at-append τ js (at ∷ []) in
+      let w = positive (τ at) in
+      omega (arith, x, y, w);
+  reached = λ q. absurd (omega (arith, h, q));
+}
+
+pub counted-last : (ns : List Node) (root limit n : ℕ) (is : List ℕ) → IsCounting ns root n is → length is ≡ 0 → n ≤ limit → IsCounted ns root limit n
+counted-last ns root limit n [] c e l = record {
+  most = omega (arith, l);
+  least = λ τ m. let x = c.less τ m in omega (arith, x);
+  reached = λ q. (c.types, c.meets, let x = c.exact in omega (arith, x));
+}
+counted-last ns root limit n (i ∷ is) c e l = absurd (omega (arith, e))
+
+pub counted-size : (u : ℕ) (us : List ℕ) (b : Bool) (t : O.MlType Name) (g h : Graph) (r limit n : ℕ) → IsKept u g us → IsOver (length us) t → Grows us t g h r → IsCounted h.nodes.items r limit n → IsSizeUpTo limit (asked_of u us g b) t n
+unfolding Permits
+counted-size u us b t g h r limit n k o x c = record {
+  most = c.most;
+  least = λ σ p.
+      let y = grown-forth us t g h r u Finiteness x k.whole.full p.0 p.1 p.2 in
+      let e = through-agree finite us (length g.nodes.items) p.0 y.0 σ k.inside y.3 p.3 in
+      let z = grown-back us t g h r u Finiteness x y.0 y.1 y.2 in
+      let s : type_size (y.0 r) ≡ type_size (assign σ t) = ap type_size (z.2 ∙ typed-same finite (through finite us y.0) σ (length us) t e o) in
+      let w = c.least y.0 y.1 in
+      omega (arith, s, w);
+  reached = λ q.
+      let y = c.reached q in
+      let z = grown-back us t g h r u Finiteness x y.0 y.1 tt in
+      (through finite us y.0, (y.0, z.0, tt, λ v l. refl), ap type_size (sym z.2) ∙ y.2);
+}

@@ -1,0 +1,10 @@
+pub mod Worlding
+pub mod Merging
+pub mod Interning
+pub mod Searching
+pub mod Limiting
+pub mod Ranking
+pub mod Walks
+pub mod Wholeness
+pub mod Demanding
+pub mod Counting

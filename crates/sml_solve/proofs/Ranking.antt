@@ -1,0 +1,155 @@
+-- Finite types for the nodes.
+use Rattle.std.proofs.Common.{◌≡◌, ◌≢◌, ℕ, zero, suc, ◌+◌, ◌*◌, ◌<◌, ◌≤◌, inl, inr, Option, Some, None, List, [], ◌∷◌, length, map, ◌∙◌, ap, refl, arith}
+use Rattle.std.proofs.Math.Nat.{mul-le-mul_left}
+use Rattle.std.specs.List.{AllByRecursion}
+use Rattle.sml_objects.specs.Initial.{Name}
+use Rattle.sml_objects.specs.Objects as O
+use Rattle.sml_objects.specs.Sizes.{type_size, types_size}
+use Rattle.sml_objects.specs.Views.{types_of}
+use Rattle.sml_solve.specs.declared.node.Node.{Node}
+use Rattle.sml_solve.specs.declared.node.Node.TheVariants.{Unknown, Link, App}
+use Rattle.sml_solve.specs.Worlds.{finite, Assignment, make}
+use Rattle.sml_solve.specs.Graphs.{node_at, parts, head_over, Agrees, Meets, IsSound, IsSoundNode, IsAmong, SameOutside}
+use Rattle.sml_solve.specs.Ranks.{HasFinite, IsRanked, HasRank, mark_at, IsSearch}
+use Rattle.sml_solve.specs.Bounds.{IsWithin, limit_at, MeetsLimit, Keeps, IsUnder, MeetsHead, IsClosedNode, IsClosed}
+use Rattle.sml_solve.proofs.Merging.{same_or_not}
+use Rattle.sml_solve.proofs.Interning.{map-alike}
+use Rattle.sml_solve.proofs.Searching.{all-parts}
+use Rattle.sml_solve.proofs.Limiting.{limit-more, within-app}
+
+-- a rank from types: their sizes, and the places among nodes of one type
+
+rank-less : (a b k i n : ℕ) → a < b → k < n → n * a + k < n * b + i
+rank-less a b k i n h l = let h' : suc a ≤ b = omega (arith, h) in omega (arith, mul-le-mul_left n h', l)
+
+sizes-below : (σ : Assignment finite) (ks : List ℕ) (s : ℕ) → types_size (types_of (map σ ks)) < s → AllByRecursion (λ k. type_size (σ k) < s) ks
+unfolding types_size
+sizes-below σ [] s h = tt
+sizes-below σ (k ∷ ks) s h = (omega (arith, h), sizes-below σ ks s (omega (arith, h)))
+
+ranks-below : (σ : Assignment finite) (n i : ℕ) (ks : List ℕ) → AllByRecursion (λ k. k < n) ks → AllByRecursion (λ k. type_size (σ k) < type_size (σ i)) ks → AllByRecursion (λ k. n * type_size (σ k) + k < n * type_size (σ i) + i) ks
+ranks-below σ n i [] a b = tt
+ranks-below σ n i (k ∷ ks) a b = (rank-less (type_size (σ k)) (type_size (σ i)) k i n b.0 a.0, ranks-below σ n i ks a.1 b.1)
+
+rank-node : (σ : Assignment finite) (n i : ℕ) (x : Node) → IsSoundNode n i x → Agrees finite σ i x → AllByRecursion (λ k. n * type_size (σ k) + k < n * type_size (σ i) + i) (parts x)
+unfolding type_size
+rank-node σ n i Unknown s a = tt
+rank-node σ n i (Link j) s a =
+    let e : n * type_size (σ i) ≡ n * type_size (σ j) = ap (λ t. n * type_size t) a in
+    (omega (arith, e, s), tt)
+rank-node σ n i (App h kids) s a =
+    let e : type_size (σ i) ≡ suc (types_size (types_of (map σ kids.items))) = ap type_size a in
+    ranks-below σ n i kids.items s (sizes-below σ kids.items (type_size (σ i)) (omega (arith, e)))
+
+pub rank_of : (ns : List Node) → IsSound ns → HasFinite ns → HasRank ns
+rank_of ns s f = record {
+  rank = λ i. length ns * type_size (f.0 i) + i;
+  ranked = λ i. rank-node f.0 (length ns) i (node_at ns i) (s i) (f.1 i);
+}
+
+-- types from a rank: the unknowns have any types, and all others have theirs
+
+abbrev pub value : Assignment finite → O.MlType Name → Node → O.MlType Name
+value σ t Unknown = t
+value σ t (Link j) = σ j
+value σ t (App h kids) = make finite (head_over h (length kids.items)) (map σ kids.items)
+
+abbrev pub types_within : List Node → Assignment finite → ℕ → Assignment finite
+types_within ns ρ zero i = ρ i
+types_within ns ρ (suc n) i = value (types_within ns ρ n) (ρ i) (node_at ns i)
+
+value-same : (σ τ : Assignment finite) (t : O.MlType Name) (x : Node) → AllByRecursion (λ k. σ k ≡ τ k) (parts x) → value σ t x ≡ value τ t x
+value-same σ τ t Unknown a = refl
+value-same σ τ t (Link j) a = a.0
+value-same σ τ t (App h kids) a = ap (make finite (head_over h (length kids.items))) (map-alike finite σ τ kids.items a)
+
+enough : (ns : List Node) (ρ : Assignment finite) (r : ℕ → ℕ) → IsRanked ns r → (n m i : ℕ) → r i < n → r i < m → types_within ns ρ n i ≡ types_within ns ρ m i
+enough ns ρ r a zero m i h l = absurd (omega (arith, h))
+enough ns ρ r a (suc n) zero i h l = absurd (omega (arith, l))
+enough ns ρ r a (suc n) (suc m) i h l =
+    value-same (types_within ns ρ n) (types_within ns ρ m) (ρ i) (node_at ns i) (all-parts (λ k. r k < r i) (λ k. types_within ns ρ n k ≡ types_within ns ρ m k) (parts (node_at ns i)) (λ k b. enough ns ρ r a n m k (omega (arith, b, h)) (omega (arith, b, l))) (a i))
+
+abbrev pub solution : List Node → Assignment finite → (ℕ → ℕ) → Assignment finite
+solution ns ρ r i = types_within ns ρ (suc (r i)) i
+
+solution-value : (ns : List Node) (ρ : Assignment finite) (r : ℕ → ℕ) → IsRanked ns r → (i : ℕ) → solution ns ρ r i ≡ value (solution ns ρ r) (ρ i) (node_at ns i)
+solution-value ns ρ r a i =
+    value-same (types_within ns ρ (r i)) (solution ns ρ r) (ρ i) (node_at ns i) (all-parts (λ k. r k < r i) (λ k. types_within ns ρ (r i) k ≡ solution ns ρ r k) (parts (node_at ns i)) (λ k b. enough ns ρ r a (r i) (suc (r k)) k b (omega arith)) (a i))
+
+value-agrees : (σ : Assignment finite) (i : ℕ) (t : O.MlType Name) (x : Node) → σ i ≡ value σ t x → Agrees finite σ i x
+value-agrees σ i t Unknown e = tt
+value-agrees σ i t (Link j) e = e
+value-agrees σ i t (App h kids) e = e
+
+pub solution-meets : (ns : List Node) (ρ : Assignment finite) (r : ℕ → ℕ) → IsRanked ns r → Meets finite ns (solution ns ρ r)
+solution-meets ns ρ r a i = value-agrees (solution ns ρ r) i (ρ i) (node_at ns i) (solution-value ns ρ r a i)
+
+pub solution-unknown : (ns : List Node) (ρ : Assignment finite) (r : ℕ → ℕ) (i : ℕ) → node_at ns i ≡ Unknown → solution ns ρ r i ≡ ρ i
+solution-unknown ns ρ r i e = ap (value (types_within ns ρ (r i)) (ρ i)) e
+
+-- the type of no names
+abbrev pub nothing : Assignment finite
+nothing i = O.app (O.row []) O.no_type
+
+pub finite_of : (ns : List Node) → HasRank ns → HasFinite ns
+finite_of ns h = (solution ns nothing h.rank, solution-meets ns nothing h.rank h.ranked)
+
+-- limits that are handed on are kept where the unknowns have no names
+
+nothing-meets : (u i : ℕ) (l : Option ℕ) → MeetsLimit u l (nothing i)
+unfolding IsWithin
+nothing-meets u i None = tt
+nothing-meets u i (Some n) = (tt, tt)
+
+mapped-within : (u n : ℕ) (ls : List (Option ℕ)) (σ : Assignment finite) (ks : List ℕ) → AllByRecursion (λ k. MeetsLimit u (limit_at ls k) (σ k)) ks → AllByRecursion (λ k. IsUnder (limit_at ls k) (Some n)) ks → AllByRecursion (IsWithin u n) (map σ ks)
+mapped-within u n ls σ [] a b = tt
+mapped-within u n ls σ (k ∷ ks) a b = (limit-more u (limit_at ls k) (Some n) (σ k) b.0 a.0, mapped-within u n ls σ ks a.1 b.1)
+
+head-meets : (u : ℕ) (l : Option ℕ) (ls : List (Option ℕ)) (h : O.Head Name) (σ : Assignment finite) (ks : List ℕ) → MeetsHead u l h → AllByRecursion (λ k. IsUnder (limit_at ls k) l) ks → AllByRecursion (λ k. MeetsLimit u (limit_at ls k) (σ k)) ks → MeetsLimit u l (make finite h (map σ ks))
+head-meets u None ls h σ ks a b c = tt
+head-meets u (Some n) ls h σ ks a b c = within-app u n h (map σ ks) a (mapped-within u n ls σ ks c b)
+
+value-keeps : (u : ℕ) (ls : List (Option ℕ)) (σ : Assignment finite) (i : ℕ) (x : Node) → IsClosedNode u ls i x → AllByRecursion (λ k. MeetsLimit u (limit_at ls k) (σ k)) (parts x) → MeetsLimit u (limit_at ls i) (value σ (nothing i) x)
+value-keeps u ls σ i Unknown c a = nothing-meets u i (limit_at ls i)
+value-keeps u ls σ i (Link j) c a = limit-more u (limit_at ls j) (limit_at ls i) (σ j) c a.0
+value-keeps u ls σ i (App h kids) c a = head-meets u (limit_at ls i) ls (head_over h (length kids.items)) σ kids.items c.0 c.1 a
+
+within-keeps : (u : ℕ) (ns : List Node) (ls : List (Option ℕ)) (r : ℕ → ℕ) → IsRanked ns r → IsClosed u ns ls → (n i : ℕ) → r i < n → MeetsLimit u (limit_at ls i) (types_within ns nothing n i)
+within-keeps u ns ls r a c zero i h = absurd (omega (arith, h))
+within-keeps u ns ls r a c (suc n) i h =
+    value-keeps u ls (types_within ns nothing n) i (node_at ns i) (c i) (all-parts (λ k. r k < r i) (λ k. MeetsLimit u (limit_at ls k) (types_within ns nothing n k)) (parts (node_at ns i)) (λ k b. within-keeps u ns ls r a c n k (omega (arith, b, h))) (a i))
+
+pub solution-keeps : (u : ℕ) (ns : List Node) (ls : List (Option ℕ)) (r : ℕ → ℕ) → IsRanked ns r → IsClosed u ns ls → Keeps u ls (solution ns nothing r)
+solution-keeps u ns ls r a c i = within-keeps u ns ls r a c (suc (r i)) i (omega arith)
+
+-- after a search from all that was changed
+
+among-done : (e : ℕ) (ms is : List ℕ) (i : ℕ) → AllByRecursion (λ i. mark_at ms i ≡ e + 1) is → IsAmong i is → mark_at ms i ≡ e + 1
+among-done e ms [] i a m = absurd m
+among-done e ms (j ∷ is) i a m = elim m [ inl q ↦ ap (mark_at ms) q ∙ a.0 | inr r ↦ among-done e ms is i a.1 r ]
+
+pub grounded : (ns ls : List Node) (e : ℕ) (ms is : List ℕ) → HasRank ns → SameOutside ns ls is → IsSearch ls e ms [] → AllByRecursion (λ i. mark_at ms i ≡ e + 1) is → HasRank ls
+grounded ns ls e ms is h o s a =
+    let rank : ℕ → ℕ = λ i. elim (same_or_not (mark_at ms i) (e + 1)) [ inl _ ↦ s.order i | inr _ ↦ s.top + h.rank i ] in
+    let done : (i : ℕ) → mark_at ms i ≡ e + 1 → rank i ≡ s.order i = λ i q. elim (same_or_not (mark_at ms i) (e + 1)) as (λ d. elim d as (λ _. ℕ) [ inl _ ↦ s.order i | inr _ ↦ s.top + h.rank i ] ≡ s.order i) [ inl _ ↦ refl | inr d ↦ absurd (d q) ] in
+    let other : (i : ℕ) → mark_at ms i ≢ e + 1 → rank i ≡ s.top + h.rank i = λ i q. elim (same_or_not (mark_at ms i) (e + 1)) as (λ d. elim d as (λ _. ℕ) [ inl _ ↦ s.order i | inr _ ↦ s.top + h.rank i ] ≡ s.top + h.rank i) [ inl x ↦ absurd (q x) | inr d ↦ refl ] in
+    record {
+      rank = rank;
+      ranked = λ i.
+          elim (same_or_not (mark_at ms i) (e + 1)) [
+            | inl q ↦
+                let x = done i q in
+                all-parts (λ k. (mark_at ms k ≡ e + 1) × (s.order k < s.order i)) (λ k. rank k < rank i) (parts (node_at ls i)) (λ k p. let y = done k p.0 in omega (arith, x, y, p.1)) (s.done i q).1
+            | inr q ↦
+                elim (o i) [
+                  | inr m ↦ absurd (q (among-done e ms is i a m))
+                  | inl same ↦
+                      let x = other i q in
+                      all-parts (λ k. h.rank k < h.rank i) (λ k. rank k < rank i) (parts (node_at ls i)) (λ k p.
+                      elim (same_or_not (mark_at ms k) (e + 1)) [
+                        | inl d ↦ let y = done k d in let z = (s.done k d).0 in omega (arith, x, y, z)
+                        | inr d ↦ let y = other k d in omega (arith, x, y, p)
+                      ]) (rw same (h.ranked i))
+                ]
+          ];
+    }

@@ -1,0 +1,126 @@
+-- What a vector of nodes says of the types of its nodes.
+use Rattle.std.specs.Prelude.{◌≡◌, ℕ, zero, suc, ◌+◌, ◌<◌, ◌≤◌, ◌↔◌, ◌⊎◌, List, [], ◌∷◌, length, map, slice_index_or, decimal}
+use Rattle.std.specs.List.{sum_by, AllByRecursion}
+use Rattle.sml_tree.specs.Trees.{Id}
+use Rattle.sml_objects.specs.Initial.{Name}
+use Rattle.sml_objects.specs.Objects as O
+use Rattle.sml_objects.specs.Views.{name_of}
+use Rattle.sml_solve.specs.declared.node.Head.{Head}
+use Rattle.sml_solve.specs.declared.node.Head.TheVariants.{Arrow, Row, Name as Applied}
+use Rattle.sml_solve.specs.declared.node.Node.{Node}
+use Rattle.sml_solve.specs.declared.node.Node.TheVariants.{Unknown, Link, App}
+use Rattle.sml_solve.specs.Worlds.{World, Assignment, make}
+
+-- k, the number behind it and so on: n labels
+abbrev pub labels : ℕ → ℕ → List Id
+labels k zero = []
+labels k (suc n) = decimal k ∷ labels (suc k) n
+
+-- the head over so many parts
+abbrev pub head_over : Head → ℕ → O.Head Name
+head_over Arrow n = O.arrow
+head_over Row n = O.row (labels 1 n)
+head_over (Applied m) n = O.name (name_of m)
+
+-- what stands at the place
+abbrev pub node_at : List Node → ℕ → Node
+node_at ns i = slice_index_or ns i Unknown
+
+abbrev pub Agrees : (w : World) → Assignment w → ℕ → Node → Type 0
+Agrees w σ i Unknown = Unit {0}
+Agrees w σ i (Link j) = σ i ≡ σ j
+Agrees w σ i (App h kids) = σ i ≡ make w (head_over h (length kids.items)) (map σ kids.items)
+
+-- types of the nodes that meet what each node says
+abbrev pub Meets : (w : World) → List Node → Assignment w → Type 0
+Meets w ns σ = (i : ℕ) → Agrees w σ i (node_at ns i)
+
+-- each pair gets one type
+abbrev pub MeetsPairs : (w : World) → List (ℕ × ℕ) → Assignment w → Type 0
+MeetsPairs w [] σ = Unit {0}
+MeetsPairs w (p ∷ ps) σ = (σ p.0 ≡ σ p.1) × MeetsPairs w ps σ
+
+abbrev pub pairs_of : List ℕ → List ℕ → List (ℕ × ℕ)
+pairs_of [] ys = []
+pairs_of (x ∷ xs) [] = []
+pairs_of (x ∷ xs) (y ∷ ys) = (x, y) ∷ pairs_of xs ys
+
+-- links lead down, and parts stand in the vector
+abbrev pub IsSoundNode : ℕ → ℕ → Node → Type 0
+IsSoundNode n i Unknown = Unit {0}
+IsSoundNode n i (Link j) = j < i
+IsSoundNode n i (App h kids) = AllByRecursion (λ k. k < n) kids.items
+
+abbrev pub IsSound : List Node → Type 0
+IsSound ns = (i : ℕ) → IsSoundNode (length ns) i (node_at ns i)
+
+abbrev pub IsRootNode : Node → Type 0
+IsRootNode Unknown = Unit {0}
+IsRootNode (Link j) = ⊥
+IsRootNode (App h kids) = Unit {0}
+
+abbrev pub IsRoot : List Node → ℕ → Type 0
+IsRoot ns i = IsRootNode (node_at ns i)
+
+-- the two have one type in every assignment that meets the nodes
+abbrev pub IsSame : List Node → ℕ → ℕ → Type 0
+IsSame ns i j = (w : World) (σ : Assignment w) → Meets w ns σ → σ i ≡ σ j
+
+abbrev pub IsPairIn : ℕ → ℕ × ℕ → Type 0
+IsPairIn n p = (p.0 < n) × (p.1 < n)
+
+abbrev pub ArePairsIn : ℕ → List (ℕ × ℕ) → Type 0
+ArePairsIn n ps = AllByRecursion (IsPairIn n) ps
+
+-- the nodes that a node speaks of
+abbrev pub parts : Node → List ℕ
+parts Unknown = []
+parts (Link j) = j ∷ []
+parts (App h kids) = kids.items
+
+-- the number of parts
+abbrev pub size : Node → ℕ
+size Unknown = 0
+size (Link j) = 0
+size (App h kids) = length kids.items
+
+abbrev pub weight : List Node → ℕ
+weight ns = sum_by size ns
+
+-- nodes and pairs left to solve have the solutions of others
+abbrev pub SameSolutions : List Node → List (ℕ × ℕ) → List Node → List (ℕ × ℕ) → Type 0
+SameSolutions ns ps ms qs = (w : World) (σ : Assignment w) → (Meets w ns σ × MeetsPairs w ps σ) ↔ (Meets w ms σ × MeetsPairs w qs σ)
+
+-- no assignment, of finite or infinite types, meets them
+abbrev pub HasNoSolution : List Node → List (ℕ × ℕ) → Type 0
+HasNoSolution ns ps = (w : World) (σ : Assignment w) → Meets w ns σ → MeetsPairs w ps σ → ⊥
+
+-- what a step of merging keeps
+pub record Merges (ns : List Node) (ps : List (ℕ × ℕ)) (high low : ℕ) (ms : List Node) (qs : List (ℕ × ℕ)) : Type 0 where
+  pub len : length ms ≡ length ns
+  pub sound : IsSound ms
+  pub inside : ArePairsIn (length ms) qs
+  pub less : weight ms + length qs ≤ weight ns + length ps
+  pub same : SameSolutions ns ((high, low) ∷ ps) ms qs
+
+-- only links were led on
+pub record Leads (ns ms : List Node) : Type 0 where
+  pub len : length ms ≡ length ns
+  pub sound : IsSound ms
+  pub weight : weight ms ≡ weight ns
+  pub roots : (i : ℕ) → IsRoot ns i → node_at ms i ≡ node_at ns i
+  pub same : (w : World) (σ : Assignment w) → Meets w ns σ ↔ Meets w ms σ
+
+abbrev pub IsAmong : ℕ → List ℕ → Type 0
+IsAmong i [] = ⊥
+IsAmong i (x ∷ xs) = (i ≡ x) ⊎ IsAmong i xs
+
+-- the nodes that aren't among these are as they were
+abbrev pub SameOutside : List Node → List Node → List ℕ → Type 0
+SameOutside ns ms is = (i : ℕ) → (node_at ms i ≡ node_at ns i) ⊎ IsAmong i is
+
+-- a vector and the nodes changed in it
+pub record Changes (ns : List Node) (is : List ℕ) (ms : List Node) (js : List ℕ) : Type 0 where
+  pub others : (i : ℕ) → (node_at ms i ≡ node_at ns i) ⊎ IsAmong i js
+  pub grows : (i : ℕ) → IsAmong i is → IsAmong i js
+  pub inside : AllByRecursion (λ i. i < length ns) is → AllByRecursion (λ i. i < length ns) js

@@ -1,0 +1,20 @@
+-- The layers of demands.
+use Rattle.std.specs.Prelude.{ℕ}
+use Rattle.sml_lex.specs.declared.fault.Code.{Code}
+use Rattle.sml_lex.specs.declared.fault.Code.TheVariants.{U1, U2, U3, E6}
+use Rattle.sml_solve.specs.declared.layer.Layer.{Layer}
+use Rattle.sml_solve.specs.declared.layer.Layer.TheVariants.{Equations, Finiteness, Newness, Locality}
+
+-- the fault of a layer that can't be met: types clash, circular type, type name too new, local type escapes
+abbrev pub code_of : Layer → Code
+code_of Equations = U1
+code_of Finiteness = U2
+code_of Newness = U3
+code_of Locality = E6
+
+-- the place in the order of layers
+abbrev pub place_of : Layer → ℕ
+place_of Equations = 0
+place_of Finiteness = 1
+place_of Newness = 2
+place_of Locality = 3

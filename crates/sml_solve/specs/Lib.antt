@@ -1,0 +1,9 @@
+pub mod Worlds
+pub mod Graphs
+pub mod Interned
+pub mod Ranks
+pub mod Bounds
+pub mod Layers
+pub mod Asked
+pub mod Whole
+pub mod Counted

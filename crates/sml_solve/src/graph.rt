@@ -1,0 +1,180 @@
+//! The graph of a solver: its nodes, what is asked of each, and the marks of searches through them.
+
+ghost use Rattle.std.specs.Prelude.{◌≡◌, ◌≢◌, ℕ, ◌<◌, ◌≤◌, ◌↔◌, List, length, IfOk, OnOk, Err};
+ghost use Rattle.std.specs.Bool.{OnTrue, OnFalse};
+ghost use Rattle.std.specs.List.{AllByRecursion};
+ghost use Rattle.sml_objects.specs.Views.{type_of, maker_of};
+ghost use Rattle.sml_solve.specs.declared.layer.Layer.{Layer};
+ghost use Rattle.sml_solve.specs.declared.node.Node.{Node};
+ghost use Rattle.sml_solve.specs.Worlds.{World, Assignment, finite};
+ghost use Rattle.sml_solve.specs.Graphs.{IsSound, Meets, SameOutside};
+ghost use Rattle.sml_solve.specs.Interned.{IsOver, Interns};
+ghost use Rattle.sml_solve.specs.Ranks.{HasRank, mark_at};
+ghost use Rattle.sml_solve.specs.Bounds.{limit_at, IsClosed, IsClosedBut, SameLimits, Keeps};
+ghost use Rattle.sml_solve.specs.Whole.{IsFull, IsMarkedBelow, IsWhole, IsChanged, Finishes, FailsAt};
+
+use crate::finite::is_finite_from;
+use crate::intern::intern;
+use crate::layer::{Layer, Refusal};
+use crate::limits::hand_on_all;
+use crate::merge::{Unsolved, solve};
+use crate::node::Node;
+use sml_lex::fault::Memory;
+use sml_objects::objects::{MlType, UnitId};
+use std::alloc::Global;
+
+/// Nodes with their limits, and the marks of searches, which are below the stamp.
+#[derive(Drop)]
+pub struct Graph {
+    pub(crate) nodes: Vec<Node>,
+    pub(crate) newness: Vec<Option<u32>>,
+    pub(crate) locality: Vec<Option<u32>>,
+    pub(crate) marks: Vec<u64>,
+    pub(crate) stamp: u64,
+}
+
+/// Adds limits and marks for the nodes that have none yet.
+pub(crate) fn fill(graph: &mut Graph) -> Result<(), Memory>
+    requires newness { length graph.old.newness.items ≡ length graph.old.marks.items }
+    requires locality { length graph.old.locality.items ≡ length graph.old.marks.items }
+    requires below { IsMarkedBelow graph.old }
+    ensures nodes { OnOk result (graph.new.nodes.items ≡ graph.old.nodes.items) }
+    ensures newness { OnOk result ((i : ℕ) → limit_at graph.new.newness.items i ≡ limit_at graph.old.newness.items i) }
+    ensures locality { OnOk result ((i : ℕ) → limit_at graph.new.locality.items i ≡ limit_at graph.old.locality.items i) }
+    ensures full { OnOk result (length graph.old.marks.items ≤ length graph.old.nodes.items → IsFull graph.new) }
+{
+    while graph.marks.len() < graph.nodes.len() {
+        graph.newness.push(None)?;
+        graph.locality.push(None)?;
+        graph.marks.push(0)?;
+    }
+    Ok(())
+}
+
+/// Adds nodes for a type, and gives the node that has it.
+pub(crate) fn add(
+    alloc: Global,
+    graph: &mut Graph,
+    unknowns: &[usize],
+    ty: &MlType,
+) -> Result<usize, Memory>
+    requires full { IsFull graph.old }
+    requires sound { IsSound graph.old.nodes.items }
+    requires inside { AllByRecursion (λ u. u < length graph.old.nodes.items) unknowns.now }
+    requires known { IsOver (length unknowns.now) (type_of ty.now) }
+    ensures interns { IfOk result (λ r. Interns graph.old.nodes.items unknowns.now (type_of ty.now) graph.new.nodes.items r) }
+    ensures newness { OnOk result ((i : ℕ) → limit_at graph.new.newness.items i ≡ limit_at graph.old.newness.items i) }
+    ensures locality { OnOk result ((i : ℕ) → limit_at graph.new.locality.items i ≡ limit_at graph.old.locality.items i) }
+    ensures whole { OnOk result ((u : ℕ) → IsWhole u graph.old → IsWhole u graph.new) }
+    ensures full { OnOk result (IsFull graph.new) }
+{
+    let at = intern(alloc, &mut graph.nodes, unknowns, ty)?;
+    fill(graph)?;
+    Ok(at)
+}
+
+/// Makes one node of two. Gives the nodes that may have changed.
+pub(crate) fn merge_two(
+    alloc: Global,
+    nodes: &mut Vec<Node>,
+    left: usize,
+    right: usize,
+) -> Result<Vec<usize>, Refusal>
+    requires sound { IsSound nodes.old.items }
+    requires left { left < length nodes.old.items }
+    requires right { right < length nodes.old.items }
+    ensures len { OnOk result (length nodes.new.items ≡ length nodes.old.items) }
+    ensures sound { OnOk result (IsSound nodes.new.items) }
+    ensures same { OnOk result ((w : World) (σ : Assignment w) → Meets w nodes.new.items σ ↔ (Meets w nodes.old.items σ × (σ left ≡ σ right))) }
+    ensures outside { IfOk result (λ changed. SameOutside nodes.old.items nodes.new.items changed.items) }
+    ensures inside { IfOk result (λ changed. AllByRecursion (λ i. i < length nodes.old.items) changed.items) }
+    ensures unmet { (l : Layer) → result ≡ Err (Refusal.Unmet l) → l ≡ Layer.Equations }
+    ensures clash { (l : Layer) → result ≡ Err (Refusal.Unmet l) → (w : World) (σ : Assignment w) → Meets w nodes.old.items σ → σ left ≡ σ right → ⊥ }
+    ensures spent { result ≡ Err Refusal.Spent → ⊥ }
+{
+    let mut changed = Vec::new(alloc);
+    let mut pending = Vec::new(alloc);
+    if let Err(_) = pending.push((left, right)) {
+        return Err(Refusal::Memory);
+    }
+    match solve(nodes, pending, &mut changed) {
+        Ok(()) => Ok(changed),
+        Err(Unsolved::Clash) => Err(Refusal::Unmet(Layer::Equations)),
+        Err(Unsolved::Memory) => Err(Refusal::Memory),
+    }
+}
+
+/// Whether no node leads to itself, as far as that may have changed.
+fn is_finite(
+    alloc: Global,
+    nodes: &[Node],
+    marks: &mut Vec<u64>,
+    stamp: &mut u64,
+    changed: &[usize],
+) -> Result<bool, Memory>
+    requires sound { IsSound nodes.now }
+    requires len { length marks.old.items ≡ length nodes.now }
+    requires below { (i : ℕ) → mark_at marks.old.items i < stamp.old }
+    requires positive { 0 < stamp.old }
+    requires inside { AllByRecursion (λ i. i < length nodes.now) changed.now }
+    ensures len { IfOk result (λ b. OnTrue b (length marks.new.items ≡ length nodes.now)) }
+    ensures below { IfOk result (λ b. OnTrue b ((i : ℕ) → mark_at marks.new.items i < stamp.new)) }
+    ensures positive { IfOk result (λ b. OnTrue b (0 < stamp.new)) }
+    ensures yes { IfOk result (λ b. OnTrue b ((before : List Node) → HasRank before → SameOutside before nodes.now changed.now → HasRank nodes.now)) }
+    ensures no { IfOk result (λ b. OnFalse b (HasRank nodes.now → ⊥)) }
+{
+    let begun = *stamp;
+    match begun.checked_add(2) {
+        Some(next) => *stamp = next,
+        None => return Err(Memory),
+    }
+    let found = is_finite_from(alloc, nodes, marks.as_mut_slice(), begun, changed)?;
+    Ok(found)
+}
+
+/// Hands the limits of the nodes that were changed on. `false` where a limit isn't kept.
+fn is_kept(
+    alloc: Global,
+    nodes: &[Node],
+    limits: &mut Vec<Option<u32>>,
+    unit: UnitId,
+    changed: &[usize],
+) -> Result<bool, Memory>
+    requires sound { IsSound nodes.now }
+    requires len { length limits.old.items ≡ length nodes.now }
+    requires inside { AllByRecursion (λ i. i < length nodes.now) changed.now }
+    requires but { IsClosedBut (maker_of unit) nodes.now limits.old.items changed.now }
+    ensures len { IfOk result (λ b. OnTrue b (length limits.new.items ≡ length nodes.now)) }
+    ensures closed { IfOk result (λ b. OnTrue b (IsClosed (maker_of unit) nodes.now limits.new.items)) }
+    ensures same { IfOk result (λ b. OnTrue b (SameLimits (maker_of unit) nodes.now limits.old.items limits.new.items)) }
+    ensures no { IfOk result (λ b. OnFalse b ((σ : Assignment finite) → Meets finite nodes.now σ → Keeps (maker_of unit) limits.old.items σ → ⊥)) }
+{
+    let pending = Vec::from_slice(alloc, changed)?;
+    let found = hand_on_all(nodes, limits.as_mut_slice(), unit, pending)?;
+    Ok(found)
+}
+
+/// Makes a graph whole again from the nodes that were changed, layer by layer.
+pub(crate) fn finish(
+    alloc: Global,
+    graph: &mut Graph,
+    unit: UnitId,
+    changed: &[usize],
+) -> Result<(), Refusal>
+    requires { IsChanged (maker_of unit) graph.old changed.now }
+    ensures ok { OnOk result (Finishes (maker_of unit) graph.old graph.new) }
+    ensures unmet { (l : Layer) → result ≡ Err (Refusal.Unmet l) → FailsAt l (maker_of unit) graph.old }
+    ensures spent { result ≡ Err Refusal.Spent → ⊥ }
+{
+    let nodes = graph.nodes.as_slice();
+    if !is_finite(alloc, nodes, &mut graph.marks, &mut graph.stamp, changed)? {
+        return Err(Refusal::Unmet(Layer::Finiteness));
+    }
+    if !is_kept(alloc, nodes, &mut graph.newness, unit, changed)? {
+        return Err(Refusal::Unmet(Layer::Newness));
+    }
+    if !is_kept(alloc, nodes, &mut graph.locality, unit, changed)? {
+        return Err(Refusal::Unmet(Layer::Locality));
+    }
+    Ok(())
+}

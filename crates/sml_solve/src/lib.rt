@@ -1,0 +1,15 @@
+// Unification: what a declaration asks of its unknown types, and the types that meet it.
+#![tactic(auto)]
+
+mod count;
+mod demands;
+mod finite;
+mod graph;
+mod intern;
+pub mod layer;
+mod limits;
+mod merge;
+mod node;
+pub mod solver;
+#[cfg(test)]
+mod tests;

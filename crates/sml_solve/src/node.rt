@@ -1,0 +1,40 @@
+//! Nodes, of which a solver's graph of types is made.
+
+ghost use Rattle.std.specs.Prelude.{◌≡◌, ◌≢◌, ℕ, true, false};
+ghost use Rattle.sml_solve.specs.Graphs.{head_over};
+
+use smallvec::SmallVec;
+use sml_objects::objects::TyName;
+use std::alloc::Global;
+
+/// What stands at the top of a type, over its parts.
+#[derive(Clone, Copy, PartialEq, Eq)]
+pub enum Head {
+    Arrow,
+    /// A row labelled from 1 on.
+    Row,
+    Name(TyName),
+}
+
+/// The type of a place of the graph.
+#[derive(Drop)]
+pub enum Node {
+    Unknown,
+    /// The type of an earlier node.
+    Link(usize),
+    /// A head over the types of other nodes.
+    App(Head, SmallVec<usize, 2, Global>),
+}
+
+/// Whether two heads are one.
+pub(crate) fn is_same_head(left: Head, right: Head) -> bool
+    ensures same { result ≡ true → (n : ℕ) → head_over left n ≡ head_over right n }
+    ensures differ { result ≡ false → (n m : ℕ) → head_over left n ≢ head_over right m }
+{
+    match (left, right) {
+        (Head::Arrow, Head::Arrow) => true,
+        (Head::Row, Head::Row) => true,
+        (Head::Name(one), Head::Name(other)) => one == other,
+        _ => false,
+    }
+}

@@ -1,0 +1,247 @@
+//! The solver: what a declaration asks of its unknown types.
+
+ghost use Rattle.std.specs.Prelude.{◌≡◌, ◌↔◌, ◌+◌, ◌^◌, ◌<◌, true, false, length, IfOk, OnOk, OnErr, Err};
+ghost use Rattle.std.specs.List.{AllByRecursion};
+ghost use Rattle.sml_objects.specs.Types.{instance_from};
+ghost use Rattle.sml_objects.specs.Views.{type_of, scheme_of, maker_of};
+ghost use Rattle.sml_solve.specs.declared.layer.Layer.{Layer};
+ghost use Rattle.sml_solve.specs.Asked.{Asked, asked_of, equal, within, count, IsOf, IsSchemeOf, Adds, CanMeet, IsFirstUnmet, IsMet, PermitsSame};
+ghost use Rattle.sml_solve.specs.Counted.{IsSizeUpTo};
+ghost use Rattle.sml_solve.specs.Whole.{IsKept};
+
+use crate::count::size_from;
+use crate::demands::{equate, restrict};
+use crate::graph::{Graph, add, fill};
+use crate::layer::{Bound, Refusal};
+use crate::node::Node;
+use sml_objects::objects::{MlType, Scheme, UnitId};
+use sml_objects::schemes::instantiate;
+use std::alloc::Global;
+use std::marker::Model;
+use std::rc::Rc;
+
+/// What was asked of unknown types so far. A type speaks of the unknown with a number as the free variable of that
+/// number. A refused call leaves the solver spent, and every later call is refused.
+#[derive(Drop)]
+pub struct Solver {
+    alloc: Global,
+    unit: UnitId,
+    graph: Graph,
+    unknowns: Vec<usize>,
+    spent: bool,
+}
+
+impl Model for Solver {
+    ghost Value = { Asked };
+
+    ghost view = { λ s. asked_of (maker_of s.unit) s.unknowns.items s.graph s.spent };
+
+    ghost invariant = { λ s. s.spent ≡ false → IsKept (maker_of s.unit) s.graph s.unknowns.items };
+}
+
+impl Solver {
+    /// A solver for declarations of a unit, with no unknown and no demand.
+    pub fn new(alloc: Global, unit: UnitId) -> Self
+        ensures count { count result ≡ 0 }
+        ensures unit { result.unit ≡ maker_of unit }
+        ensures met { IsMet result }
+        ensures spent { result.spent ≡ false }
+    {
+        let graph = Graph {
+            nodes: Vec::new(alloc),
+            newness: Vec::new(alloc),
+            locality: Vec::new(alloc),
+            marks: Vec::new(alloc),
+            stamp: 1,
+        };
+        Solver {
+            alloc,
+            unit,
+            graph,
+            unknowns: Vec::new(alloc),
+            spent: false,
+        }
+    }
+
+    /// The number of a new unknown, of which nothing is asked. A number that no `u32` holds counts as want of memory.
+    pub fn fresh(&mut self) -> Result<u32, Refusal>
+        ensures new { IfOk result (λ unknown. unknown ≡ count self.old) }
+        ensures count { OnOk result (count self.new ≡ count self.old + 1) }
+        ensures same { OnOk result (PermitsSame self.old self.new) }
+        ensures kept { OnOk result (self.new.spent ≡ false) }
+        ensures unit { self.new.unit ≡ self.old.unit }
+        ensures err { OnErr result (self.new.spent ≡ true) }
+        ensures unmet { (l : Layer) → result ≡ Err (Refusal.Unmet l) → ⊥ }
+        ensures spent { result ≡ Err Refusal.Spent ↔ self.old.spent ≡ true }
+    {
+        if self.spent {
+            return Err(Refusal::Spent);
+        }
+        self.spent = true;
+        let at = self.graph.nodes.len();
+        let Ok(number) = u32::try_from(self.unknowns.len()) else {
+            return Err(Refusal::Memory);
+        };
+        if let Err(_) = self.graph.nodes.push(Node::Unknown) {
+            return Err(Refusal::Memory);
+        }
+        if let Err(_) = fill(&mut self.graph) {
+            return Err(Refusal::Memory);
+        }
+        if let Err(_) = self.unknowns.push(at) {
+            return Err(Refusal::Memory);
+        }
+        self.spent = false;
+        Ok(number)
+    }
+
+    /// The body of a scheme with new unknowns for its variables (the Definition, section 4.5), of which nothing is
+    /// asked. The new unknowns follow those before, in the order of the variables. A number that no `u32` holds counts as
+    /// want of memory.
+    pub fn instance(&mut self, scheme: &Scheme) -> Result<Rc<MlType>, Refusal>
+        requires { IsSchemeOf self.old (scheme_of scheme.now) }
+        ensures ty { IfOk result (λ t. type_of t.value ≡ instance_from (count self.old) (scheme_of scheme.now).body) }
+        ensures known { IfOk result (λ t. IsOf self.new (type_of t.value)) }
+        ensures count { OnOk result (count self.new ≡ count self.old + length (scheme_of scheme.now).variables) }
+        ensures same { OnOk result (PermitsSame self.old self.new) }
+        ensures kept { OnOk result (self.new.spent ≡ false) }
+        ensures unit { self.new.unit ≡ self.old.unit }
+        ensures err { OnErr result (self.new.spent ≡ true) }
+        ensures unmet { (l : Layer) → result ≡ Err (Refusal.Unmet l) → ⊥ }
+        ensures spent { result ≡ Err Refusal.Spent ↔ self.old.spent ≡ true }
+    {
+        if self.spent {
+            return Err(Refusal::Spent);
+        }
+        let Ok(from) = u32::try_from(self.unknowns.len()) else {
+            self.spent = true;
+            return Err(Refusal::Memory);
+        };
+        let Ok(ty) = instantiate(self.alloc, scheme, from) else {
+            self.spent = true;
+            return Err(Refusal::Memory);
+        };
+        match add_unknowns(self, scheme.variables.len()) {
+            Ok(()) => Ok(ty),
+            Err(refusal) => Err(refusal),
+        }
+    }
+
+    /// The size of the type that a type stands for: the number of its variables, arrows, rows and applied names, where
+    /// each unknown that is left counts as one. One more than the limit where they are more. The time taken beyond the
+    /// type's own size grows with the limit.
+    pub fn size_up_to(&mut self, ty: &MlType, limit: u32) -> Result<u32, Refusal>
+        requires known { IsOf self.old (type_of ty.now) }
+        requires small { limit + 1 < 2 ^ 32 }
+        ensures size { IfOk result (IsSizeUpTo limit self.old (type_of ty.now)) }
+        ensures same { OnOk result (PermitsSame self.old self.new) }
+        ensures count { count self.new ≡ count self.old }
+        ensures kept { OnOk result (self.new.spent ≡ false) }
+        ensures unit { self.new.unit ≡ self.old.unit }
+        ensures err { OnErr result (self.new.spent ≡ true) }
+        ensures unmet { (l : Layer) → result ≡ Err (Refusal.Unmet l) → ⊥ }
+        ensures spent { result ≡ Err Refusal.Spent ↔ self.old.spent ≡ true }
+    {
+        if self.spent {
+            return Err(Refusal::Spent);
+        }
+        self.spent = true;
+        let Ok(at) = add(self.alloc, &mut self.graph, self.unknowns.as_slice(), ty) else {
+            return Err(Refusal::Memory);
+        };
+        let Ok(size) = size_from(self.alloc, self.graph.nodes.as_slice(), at, limit) else {
+            return Err(Refusal::Memory);
+        };
+        self.spent = false;
+        Ok(size)
+    }
+
+    /// Demands that two types are equal: U1, U2, U3 or E6 where they can't be.
+    pub fn require_equal(&mut self, left: &MlType, right: &MlType) -> Result<(), Refusal>
+        requires left { IsOf self.old (type_of left.now) }
+        requires right { IsOf self.old (type_of right.now) }
+        ensures ok { OnOk result (Adds self.old (equal (type_of left.now) (type_of right.now)) self.new) }
+        ensures met { OnOk result ((l : Layer) → CanMeet l self.old (equal (type_of left.now) (type_of right.now))) }
+        ensures unmet { (l : Layer) → result ≡ Err (Refusal.Unmet l) → IsFirstUnmet l self.old (equal (type_of left.now) (type_of right.now)) }
+        ensures count { count self.new ≡ count self.old }
+        ensures kept { OnOk result (self.new.spent ≡ false) }
+        ensures unit { self.new.unit ≡ self.old.unit }
+        ensures err { OnErr result (self.new.spent ≡ true) }
+        ensures spent { result ≡ Err Refusal.Spent ↔ self.old.spent ≡ true }
+    {
+        if self.spent {
+            return Err(Refusal::Spent);
+        }
+        self.spent = true;
+        match equate(
+            self.alloc,
+            self.unit,
+            &mut self.graph,
+            self.unknowns.as_slice(),
+            left,
+            right,
+        ) {
+            Ok(()) => {
+                self.spent = false;
+                Ok(())
+            }
+            Err(refusal) => Err(refusal),
+        }
+    }
+
+    /// Demands that a type mentions no name that the unit made with the number given or a higher one: U3 or E6, by the
+    /// bound, where it can't be met.
+    pub fn require_within(&mut self, ty: &MlType, bound: Bound, most: u32) -> Result<(), Refusal>
+        requires { IsOf self.old (type_of ty.now) }
+        ensures ok { OnOk result (Adds self.old (within bound most (type_of ty.now)) self.new) }
+        ensures met { OnOk result ((l : Layer) → CanMeet l self.old (within bound most (type_of ty.now))) }
+        ensures unmet { (l : Layer) → result ≡ Err (Refusal.Unmet l) → IsFirstUnmet l self.old (within bound most (type_of ty.now)) }
+        ensures count { count self.new ≡ count self.old }
+        ensures kept { OnOk result (self.new.spent ≡ false) }
+        ensures unit { self.new.unit ≡ self.old.unit }
+        ensures err { OnErr result (self.new.spent ≡ true) }
+        ensures spent { result ≡ Err Refusal.Spent ↔ self.old.spent ≡ true }
+    {
+        if self.spent {
+            return Err(Refusal::Spent);
+        }
+        self.spent = true;
+        match restrict(
+            self.alloc,
+            self.unit,
+            &mut self.graph,
+            self.unknowns.as_slice(),
+            bound,
+            most,
+            ty,
+        ) {
+            Ok(()) => {
+                self.spent = false;
+                Ok(())
+            }
+            Err(refusal) => Err(refusal),
+        }
+    }
+}
+
+/// Adds so many unknowns, of which nothing is asked.
+fn add_unknowns(solver: &mut Solver, number: usize) -> Result<(), Refusal>
+    requires { solver.old.spent ≡ false }
+    ensures count { OnOk result (count solver.new ≡ count solver.old + number) }
+    ensures same { OnOk result (PermitsSame solver.old solver.new) }
+    ensures kept { OnOk result (solver.new.spent ≡ false) }
+    ensures unit { solver.new.unit ≡ solver.old.unit }
+    ensures err { OnErr result (solver.new.spent ≡ true) }
+    ensures unmet { (l : Layer) → result ≡ Err (Refusal.Unmet l) → ⊥ }
+    ensures spent { result ≡ Err Refusal.Spent → ⊥ }
+{
+    let mut made = 0;
+    while made < number {
+        match solver.fresh() {
+            Ok(_) => {}
+            Err(refusal) => return Err(refusal),
+        }
+        made += 1;
+    }
+    Ok(())
+}

@@ -1,0 +1,300 @@
+//! Each public call, the order of the layers, and large inputs. What each call is to answer was worked out by hand.
+
+ghost use Rattle.std.specs.Prelude.{◌≡◌, ℕ, ◌<◌, length, IfOk};
+ghost use Rattle.sml_objects.specs.Views.{type_of, scheme_of};
+ghost use Rattle.sml_solve.specs.Asked.{count};
+ghost use Rattle.sml_solve.specs.Interned.{IsOver, IsBodyOver};
+
+use crate::layer::{Bound, Layer, Refusal};
+use crate::solver::Solver;
+use sml_lex::fault::{Code, Memory};
+use sml_objects::objects::{Initial, MadeName, MlType, Scheme, TyName, UnitId};
+use std::alloc::Global;
+use std::rc::Rc;
+use std::test::Fail;
+
+const UNIT: UnitId = UnitId { index: 2 };
+
+const MANY: u32 = 100_000;
+
+fn unknown(number: u32) -> MlType
+    ensures { (n : ℕ) → number < n → IsOver n (type_of result) }
+{
+    MlType::Free(number)
+}
+
+fn named(alloc: Global, name: TyName) -> MlType
+    ensures { (n : ℕ) → IsOver n (type_of result) }
+{
+    MlType::Name(name, Vec::new(alloc))
+}
+
+fn int(alloc: Global) -> MlType
+    ensures { (n : ℕ) → IsOver n (type_of result) }
+{
+    named(alloc, TyName::Initial(Initial::Int))
+}
+
+fn made(alloc: Global, unit: UnitId, number: u32) -> MlType
+    ensures { (n : ℕ) → IsOver n (type_of result) }
+{
+    let name = MadeName {
+        unit,
+        number,
+        arity: 0,
+        equality: true,
+    };
+    named(alloc, TyName::Made(name))
+}
+
+fn list(alloc: Global, of: MlType) -> Result<MlType, Memory>
+    ensures { IfOk result (λ t. (n : ℕ) → IsOver n (type_of of) → IsOver n (type_of t)) }
+{
+    let mut parts = Vec::new(alloc);
+    parts.push(Rc::new(alloc, of)?)?;
+    Ok(MlType::Name(TyName::Initial(Initial::List), parts))
+}
+
+fn pair(alloc: Global, left: MlType, right: MlType) -> Result<MlType, Memory>
+    ensures { IfOk result (λ t. (n : ℕ) → IsOver n (type_of left) → IsOver n (type_of right) → IsOver n (type_of t)) }
+{
+    let mut parts = Vec::new(alloc);
+    parts.push(Rc::new(alloc, left)?)?;
+    parts.push(Rc::new(alloc, right)?)?;
+    Ok(MlType::Row(parts))
+}
+
+fn empty(alloc: Global) -> MlType
+    ensures { (n : ℕ) → IsOver n (type_of result) }
+{
+    MlType::Row(Vec::new(alloc))
+}
+
+/// Demands that two unknowns are equal.
+fn link(solver: &mut Solver, left: u32, right: u32) -> Result<(), Refusal>
+    requires left { left < count solver.old }
+    requires right { right < count solver.old }
+    ensures { count solver.new ≡ count solver.old }
+{
+    solver.require_equal(&unknown(left), &unknown(right))
+}
+
+/// Demands that an unknown is a list of another one.
+fn nest(alloc: Global, solver: &mut Solver, outer: u32, inner: u32) -> Result<(), Refusal>
+    requires outer { outer < count solver.old }
+    requires inner { inner < count solver.old }
+    ensures { count solver.new ≡ count solver.old }
+{
+    let Ok(of) = list(alloc, unknown(inner)) else {
+        return Err(Refusal::Memory);
+    };
+    solver.require_equal(&unknown(outer), &of)
+}
+
+/// Demands that an unknown is a pair of another one with itself.
+fn double(alloc: Global, solver: &mut Solver, outer: u32, inner: u32) -> Result<(), Refusal>
+    requires outer { outer < count solver.old }
+    requires inner { inner < count solver.old }
+    ensures { count solver.new ≡ count solver.old }
+{
+    let Ok(of) = pair(alloc, unknown(inner), unknown(inner)) else {
+        return Err(Refusal::Memory);
+    };
+    solver.require_equal(&unknown(outer), &of)
+}
+
+/// A solver with so many unknowns.
+fn with_unknowns(alloc: Global, number: u32) -> Result<Solver, Refusal>
+    ensures { IfOk result (λ solver. count solver ≡ number) }
+{
+    let mut solver = Solver::new(alloc, UNIT);
+    let mut made = 0;
+    while made < number {
+        solver.fresh()?;
+        made += 1;
+    }
+    Ok(solver)
+}
+
+/// A list of a list and so on of a type.
+fn deep(alloc: Global, of: MlType, times: u32) -> Result<MlType, Memory>
+    ensures { IfOk result (λ t. (n : ℕ) → IsOver n (type_of of) → IsOver n (type_of t)) }
+{
+    let mut ty = of;
+    for _ in 0..times {
+        ty = list(alloc, ty)?;
+    }
+    Ok(ty)
+}
+
+fn solved(alloc: Global, number: u32) -> Result<Solver, Fail>
+    ensures { IfOk result (λ solver. count solver ≡ number) }
+{
+    match with_unknowns(alloc, number) {
+        Ok(solver) => Ok(solver),
+        Err(_) => Err("no memory".into()),
+    }
+}
+
+#[test]
+fn different_names_clash(rt: HostRuntime) -> Result<(), Fail> {
+    let alloc = rt.alloc();
+    let mut solver = solved(alloc, 1)?;
+    assert_eq!(rt; solver.require_equal(&unknown(0), &int(alloc)), Ok(()));
+    let other = made(alloc, UNIT, 0);
+    assert_eq!(rt;
+        solver.require_equal(&unknown(0), &other),
+        Err(Refusal::Unmet(Layer::Equations))
+    );
+    assert_eq!(rt; solver.fresh(), Err(Refusal::Spent));
+    assert_eq!(rt; Layer::Equations.code(), Code::U1);
+    Ok(())
+}
+
+#[test]
+fn rows_of_different_lengths_clash(rt: HostRuntime) -> Result<(), Fail> {
+    let alloc = rt.alloc();
+    let mut solver = solved(alloc, 1)?;
+    let two = pair(alloc, unknown(0), unknown(0))?;
+    let none = empty(alloc);
+    let two_again = pair(alloc, int(alloc), int(alloc))?;
+    assert_eq!(rt; solver.require_equal(&two, &two_again), Ok(()));
+    let clash = solver.require_equal(&two, &none);
+    assert_eq!(rt; clash, Err(Refusal::Unmet(Layer::Equations)));
+    Ok(())
+}
+
+#[test]
+fn a_type_in_itself_is_circular(rt: HostRuntime) -> Result<(), Fail> {
+    let alloc = rt.alloc();
+    let mut solver = solved(alloc, 3)?;
+    assert_eq!(rt; nest(alloc, &mut solver, 0, 1), Ok(()));
+    assert_eq!(rt; nest(alloc, &mut solver, 1, 2), Ok(()));
+    let circular = link(&mut solver, 2, 0);
+    assert_eq!(rt; circular, Err(Refusal::Unmet(Layer::Finiteness)));
+    assert_eq!(rt; link(&mut solver, 0, 0), Err(Refusal::Spent));
+    Ok(())
+}
+
+#[test]
+fn bounds_reach_what_an_unknown_becomes(rt: HostRuntime) -> Result<(), Fail> {
+    let alloc = rt.alloc();
+    let mut solver = solved(alloc, 2)?;
+    assert_eq!(rt; nest(alloc, &mut solver, 0, 1), Ok(()));
+    let older = solver.require_within(&unknown(0), Bound::Newness, 3);
+    assert_eq!(rt; older, Ok(()));
+    let foreign = made(alloc, UnitId { index: 1 }, 7);
+    let pairs = pair(alloc, foreign, made(alloc, UNIT, 2))?;
+    assert_eq!(rt; solver.require_equal(&unknown(1), &pairs), Ok(()));
+    let new = solver.require_within(&pairs, Bound::Locality, 2);
+    assert_eq!(rt; new, Err(Refusal::Unmet(Layer::Locality)));
+    Ok(())
+}
+
+#[test]
+fn the_first_layer_answers(rt: HostRuntime) -> Result<(), Fail> {
+    let alloc = rt.alloc();
+    let mut solver = solved(alloc, 2)?;
+    assert_eq!(rt;
+        solver.require_within(&unknown(0), Bound::Locality, 1),
+        Ok(())
+    );
+    assert_eq!(rt;
+        solver.require_within(&unknown(0), Bound::Newness, 2),
+        Ok(())
+    );
+    let left = pair(alloc, unknown(0), unknown(1))?;
+    let right = pair(alloc, made(alloc, UNIT, 2), list(alloc, unknown(1))?)?;
+    let circular = solver.require_equal(&left, &right);
+    assert_eq!(rt; circular, Err(Refusal::Unmet(Layer::Finiteness)));
+    let mut solver = solved(alloc, 1)?;
+    assert_eq!(rt;
+        solver.require_within(&unknown(0), Bound::Locality, 1),
+        Ok(())
+    );
+    assert_eq!(rt;
+        solver.require_within(&unknown(0), Bound::Newness, 2),
+        Ok(())
+    );
+    let new = solver.require_equal(&unknown(0), &made(alloc, UNIT, 2));
+    assert_eq!(rt; new, Err(Refusal::Unmet(Layer::Newness)));
+    Ok(())
+}
+
+/// The scheme of a type that is one variable.
+fn anything(alloc: Global) -> Result<Scheme, Memory>
+    ensures { IfOk result (λ s. (n : ℕ) → IsBodyOver (length (scheme_of s).variables) n (scheme_of s).body) }
+{
+    let mut variables = Vec::new(alloc);
+    variables.push(false)?;
+    let body = Rc::new(alloc, MlType::Bound(0))?;
+    Ok(Scheme { variables, body })
+}
+
+#[test]
+fn instances_are_apart(rt: HostRuntime) -> Result<(), Fail> {
+    let alloc = rt.alloc();
+    let mut solver = solved(alloc, 1)?;
+    let scheme = anything(alloc)?;
+    let Ok(left) = solver.instance(&scheme) else {
+        return Err("left".into());
+    };
+    let Ok(right) = solver.instance(&scheme) else {
+        return Err("right".into());
+    };
+    assert!(rt; matches!(&*left, MlType::Free(1)));
+    assert!(rt; matches!(&*right, MlType::Free(2)));
+    Ok(())
+}
+
+#[test]
+fn a_chain_of_unknowns(rt: HostRuntime) -> Result<(), Fail> {
+    let alloc = rt.alloc();
+    let mut up = solved(alloc, MANY)?;
+    for i in 1..MANY {
+        assert_eq!(rt; link(&mut up, i - 1, i), Ok(()));
+    }
+    assert_eq!(rt; up.require_equal(&unknown(MANY - 1), &int(alloc)), Ok(()));
+    let mut down = solved(alloc, MANY)?;
+    for i in 1..MANY {
+        assert_eq!(rt; link(&mut down, MANY - i - 1, MANY - i), Ok(()));
+    }
+    assert_eq!(rt; down.require_equal(&unknown(MANY - 1), &int(alloc)), Ok(()));
+    for i in 0..MANY {
+        assert_eq!(rt; down.require_equal(&unknown(i), &int(alloc)), Ok(()));
+    }
+    Ok(())
+}
+
+#[test]
+fn a_deep_type(rt: HostRuntime) -> Result<(), Fail> {
+    let alloc = rt.alloc();
+    let mut solver = solved(alloc, 1)?;
+    let left = deep(alloc, unknown(0), 9_999)?;
+    let right = deep(alloc, int(alloc), 9_999)?;
+    assert_eq!(rt; solver.require_equal(&left, &right), Ok(()));
+    let clash = solver.require_equal(&unknown(0), &made(alloc, UNIT, 0));
+    assert_eq!(rt; clash, Err(Refusal::Unmet(Layer::Equations)));
+    Ok(())
+}
+
+#[test]
+fn a_shared_graph(rt: HostRuntime) -> Result<(), Fail> {
+    let alloc = rt.alloc();
+    let mut solver = solved(alloc, 82)?;
+    for i in 0..40 {
+        assert_eq!(rt; double(alloc, &mut solver, i + 1, i), Ok(()));
+        assert_eq!(rt; double(alloc, &mut solver, i + 42, i + 41), Ok(()));
+    }
+    assert_eq!(rt; link(&mut solver, 40, 81), Ok(()));
+    assert_eq!(rt;
+        solver.require_within(&unknown(40), Bound::Newness, 5),
+        Ok(())
+    );
+    assert_eq!(rt; solver.require_equal(&unknown(41), &int(alloc)), Ok(()));
+    let new = solver.require_equal(&unknown(0), &int(alloc));
+    assert_eq!(rt; new, Ok(()));
+    let clash = link(&mut solver, 0, 81);
+    assert_eq!(rt; clash, Err(Refusal::Unmet(Layer::Equations)));
+    Ok(())
+}

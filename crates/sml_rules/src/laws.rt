@@ -1,7 +1,7 @@
 //! What holds of all readings of a declaration, over the names of a run.
 
 ghost use Rattle.sml_objects.specs.Initial.{naming};
-ghost use Rattle.sml_rules.specs.Statements.{ReadingsAlike, ReadingsSound};
+ghost use Rattle.sml_rules.specs.Statements.{ReadingsAlike, ReadingsSound, SealsExport};
 
 /// Any two readings of one declaration in one basis are the same fault, or environments that differ in the names made
 /// alone: whichever new names were taken.
@@ -12,4 +12,9 @@ pub fn readings_are_alike()
 /// What a reading accepts, the rules of the Definition derive.
 pub fn readings_are_sound()
     ensures { ReadingsSound naming }
+{}
+
+/// What an accepted sealed structure exports, basis and specifications fix.
+pub fn seals_export_what_is_specified()
+    ensures { SealsExport naming }
 {}

@@ -1,5 +1,5 @@
 -- Runs over the units of a project, each after the units that it needs.
-use Rattle.std.specs.Prelude.{ℕ, zero, suc, List, [], ◌∷◌, ◌++◌, Option, Some, None, decimal}
+use Rattle.std.specs.Prelude.{ℕ, zero, suc, List, [], ◌∷◌, ◌++◌, Option}
 use Rattle.sml_lex.specs.declared.fault.Place.{Place}
 use Rattle.sml_lex.specs.Faults.{Fault}
 use Rattle.sml_tree.specs.Trees.{Dec}
@@ -7,7 +7,6 @@ use Rattle.sml_objects.specs.Names.{Naming}
 use Rattle.sml_objects.specs.Objects.{Sig, Basis, empty_env, extend_env, extend, names_sig, names_basis}
 use Rattle.sml_rules.specs.Answers.{Answer, refused, accepted}
 use Rattle.sml_rules.specs.Readings.{read_top}
-use Rattle.sml_units.specs.Text.{text, fault_text}
 
 -- A unit has a name, its place among the unit lines from 1, the places of its needs in the order of checking, the
 -- declarations that its bytes spell, and perhaps a last fault.
@@ -69,9 +68,3 @@ RunProject names B Ss [] (os ∷ oss) = ⊥
 RunProject names B Ss (u ∷ us) [] = ⊥
 RunProject names B Ss (u ∷ us) (os ∷ oss) =
     Run names u.maker (start B Ss u.needs) u.declarations os × RunProject names B (Ss ++ exports nothing os ∷ []) us oss
-
--- the texts of a unit's replies, from the number k on; the last fault is the last reply
-unfoldable pub texts : {N : Type 0} → Naming N → ℕ → List (Answer Place (Sig N)) → Option (Fault Place) → List (List ℕ)
-texts names k [] None = []
-texts names k [] (Some f) = (decimal k ++ fault_text f) ∷ []
-texts names k (o ∷ os) last = text names k o ∷ texts names (suc k) os last

@@ -8,3 +8,5 @@ mod patterns;
 mod roles;
 pub mod scopes;
 pub mod sequences;
+#[cfg(test)]
+mod tests;

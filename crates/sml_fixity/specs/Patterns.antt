@@ -1,9 +1,6 @@
 -- Patterns among infix trees (the Definition, the grammar of atpat and pat).
-use Rattle.std.specs.Prelude.{◌≡◌, ℕ, Bool, true, false, cond, IsTrue, Option, Some, None, unwrap_or, option_map, List, [], ◌∷◌, slice_index_or}
+use Rattle.std.specs.Prelude.{◌≡◌, ℕ, Bool, IsTrue, List, slice_index_or}
 use Rattle.sml_fixity.specs.declared.roles.Role.{Role}
-use Rattle.sml_fixity.specs.declared.roles.Role.TheVariants.{Atom, Infix}
-use Rattle.sml_fixity.specs.declared.patterns.Run.{Run}
-use Rattle.sml_fixity.specs.declared.patterns.Run.TheVariants.{Start, Name, Whole}
 use Rattle.sml_fixity.specs.declared.sequences.Item.{Item}
 use Rattle.sml_fixity.specs.declared.sequences.Item.TheVariants.{Phrase}
 use Rattle.sml_fixity.specs.declared.sequences.Step.{Step}
@@ -46,13 +43,3 @@ PatternFaultStands items roles (NoOperand index) = FaultStands roles (NoOperand 
 PatternFaultStands items roles (MixedSides index) = FaultStands roles (MixedSides index)
 PatternFaultStands items roles Malformed = IsMalformed items roles
 PatternFaultStands items roles Memory = Unit {0}
-
-abbrev pub next_run : (ℕ → Bool) → Role → Run → Option Run
-next_run names (Infix q) r = Some Start
-next_run names (Atom a) Start = cond (names a) (Some Name) (Some Whole)
-next_run names (Atom a) Name = Some Whole
-next_run names (Atom a) Whole = None
-
-abbrev pub runs : (ℕ → Bool) → List Role → Run → Bool
-runs names [] r = true
-runs names (x ∷ xs) r = unwrap_or (option_map (runs names xs) (next_run names x r)) false

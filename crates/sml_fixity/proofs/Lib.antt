@@ -1,0 +1,6 @@
+pub mod Trees
+pub mod Frames
+pub mod Maps
+pub mod Shapes
+pub mod OneHead
+pub mod Rolling

@@ -1,7 +1,7 @@
 -- Readings of declarations whose names are renumbered by first appearance.
 use Rattle.std.proofs.Common.{◌≡◌, ◌<◌, ◌≤◌, ◌+◌, ℕ, suc, Bool, true, false, cond, not, ◌&&◌, nat_eq, nat_lt, List, [], ◌∷◌, map, length, inl, inr, refl, ap, sym, subst, ◌∙◌, arith}
 use Rattle.std.proofs.lemmas.Bool.{true≢false, eqb-true, lt-ltb}
-use Rattle.std.proofs.lemmas.List.{length-map}
+use Rattle.std.proofs.lemmas.List.{length-map, nil_from_length}
 use Rattle.sml_lex.specs.declared.fault.Place.{Place}
 use Rattle.sml_tree.specs.Trees as T
 use Rattle.sml_objects.specs.Objects.{Sig, Basis, names_basis, names_sig, rename_sig, rename_basis}
@@ -11,7 +11,7 @@ use Rattle.sml_objects.specs.Appearance.{Stands, stands}
 use Rattle.sml_objects.specs.Canonical.{is_new, new_names, place_of, with_number, renumber, canonical}
 use Rattle.sml_objects.specs.CanonicalLaws.{CanonicalRenames}
 use Rattle.sml_objects.proofs.CanonicalForms.{canonical-renames}
-use Rattle.sml_objects.proofs.Renaming.{sig-image}
+use Rattle.sml_objects.proofs.Renaming.{sig-image, sig_laws}
 use Rattle.sml_rules.specs.Answers.{accepted, fault}
 use Rattle.sml_rules.specs.Every.{Every}
 use Rattle.sml_rules.specs.Readings.{read_dec, read_top}
@@ -120,3 +120,10 @@ numbered_own p own b is e unit few =
       own_below = subst (λ n. Every (IsBelow u (count + n)) (names_sig (sig_of b))) same
           (subst (λ R. Every (IsBelow u (count + length own.names.items)) (names_sig R)) (sym e) (canonical_below u count (length own.names.items) S few is.own_below));
     }
+
+-- where no name is new nothing changes
+pub canonical_unchanged : (unit count : ℕ) (S : Sig Name) → length (new_names unit count S) ≡ 0 → canonical unit count S ≡ S
+unfolding canonical renumber stands
+canonical_unchanged unit count S none =
+    let f : renumber unit count (new_names unit count S) ≡ (λ n. n) = λ i n. cond (stands naming n (nil_from_length (new_names unit count S) none i)) (with_number unit (count + place_of naming n (nil_from_length (new_names unit count S) none i)) n) n in
+    ap (λ g. rename_sig g S) f ∙ sig_laws.identity S

@@ -60,28 +60,31 @@ pub fn topdec(
         Ok(_) => {}
         Err(fault) => return Err(fault),
     }
-    match numbered(alloc, basis, &own) {
+    match numbered(alloc, basis, own) {
         Ok(own) => Ok((own, Vec::new(alloc))),
         Err(_) => Err(TopFault::Memory),
     }
 }
 
-/// What a declaration binds, with its new names numbered by first appearance. Each of these is among the names that it
-/// made; more of them would count as want of memory.
-fn numbered(alloc: Global, basis: &Basis, own: &Basis) -> Result<Basis, Memory>
-    requires { length basis.now.names.items + length own.now.names.items ≤ 1048576 }
-    ensures sig { IfOk result (λ b. sig_of b ≡ C.canonical (maker_of basis.now.unit) (length basis.now.names.items) (sig_of own.now)) }
-    ensures unit { IfOk result (λ b. b.unit ≡ own.now.unit) }
-    ensures few { OnOk result (length (C.new_names (maker_of basis.now.unit) (length basis.now.names.items) (sig_of own.now)) ≤ length own.now.names.items) }
+/// What a declaration binds, with its new names numbered by first appearance. Where there are none, it is as it was. Each
+/// of them is among the names that the declaration made; more of them would count as want of memory.
+fn numbered(alloc: Global, basis: &Basis, own: Basis) -> Result<Basis, Memory>
+    requires { length basis.now.names.items + length own.names.items ≤ 1048576 }
+    ensures sig { IfOk result (λ b. sig_of b ≡ C.canonical (maker_of basis.now.unit) (length basis.now.names.items) (sig_of own)) }
+    ensures unit { IfOk result (λ b. b.unit ≡ own.unit) }
+    ensures few { OnOk result (length (C.new_names (maker_of basis.now.unit) (length basis.now.names.items) (sig_of own)) ≤ length own.names.items) }
 {
     let Ok(count) = u32::try_from(basis.names.len()) else {
         return Err(Memory);
     };
-    let made = new_count(alloc, own, basis.unit, count)?;
+    let made = new_count(alloc, &own, basis.unit, count)?;
+    if made == 0 {
+        return Ok(own);
+    }
     if own.names.len() < made {
         return Err(Memory);
     }
-    canonical(alloc, own, basis.unit, count)
+    canonical(alloc, &own, basis.unit, count)
 }
 
 /// That the unit makes not too many names with these.

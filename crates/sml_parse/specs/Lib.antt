@@ -10,3 +10,6 @@ pub mod Stacks
 pub mod Heights
 pub mod Trees
 pub mod Sorts
+pub mod Senses
+pub mod Founds
+pub mod Events

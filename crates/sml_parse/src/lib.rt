@@ -2,13 +2,16 @@
 #![tactic(auto)]
 
 mod build;
+mod event;
 mod form;
+mod found;
 mod item;
 mod label;
 pub mod laws;
 mod names;
 pub mod parse;
 mod place;
+mod sense;
 mod sort;
 mod stack;
 mod tall;

@@ -1,0 +1,238 @@
+//! What happens to fixities, and which sequences stand where.
+
+ghost use Rattle.std.specs.Prelude.{◌≡◌, ◌<◌, map, reverse, take, length, get_or, if◌then◌else◌, slice_get, IfOk, OnOk};
+ghost use Rattle.std.specs.List.{cons_option};
+ghost use Rattle.std.specs.Option.{option_map};
+ghost use Rattle.sml_read.specs.Grammar.{right_side};
+ghost use Rattle.sml_read.specs.Extents.{starts_of};
+ghost use Rattle.sml_read.specs.declared.grammar.Node.TheVariants.{Inner};
+ghost use Rattle.sml_parse.specs.Lists.{rest, without};
+ghost use Rattle.sml_parse.specs.Senses as spec;
+ghost use Rattle.sml_parse.specs.Founds.{name_of, found_of, nothing, untyped, left};
+ghost use Rattle.sml_parse.specs.Events.{seen, text_at, found_at, founds_from, scope_event, event_of, event_from, events_of};
+
+use crate::found::{Atom, Finder, Found, Parts};
+use crate::names::Names;
+use crate::sense::{Deed, closes, deed_of, opens, sense_of};
+use sml_fixity::scopes::Directive;
+use sml_fixity::sequences::Item;
+use sml_lex::fault::Memory;
+use sml_lex::token::Token;
+use sml_read::grammar::{Node, Rule};
+use sml_read::phrases::starts;
+use sml_read::table::backwards;
+use std::alloc::Global;
+
+/// What happens where a token or a phrase begins. Atomic phrases go from the last to the first.
+#[derive(Drop)]
+pub enum Event {
+    /// A declaration at the top begins at this token.
+    Begins(usize),
+    /// A scope is opened.
+    Enters,
+    /// The innermost scope is closed.
+    Leaves,
+    /// A directive, with the token of its level, if one is written, and its identifiers.
+    Directs(Directive, Option<usize>, Vec<Atom>),
+    /// A sequence of atomic expressions.
+    Expression(Vec<Atom>),
+    /// A sequence of atomic patterns.
+    Pattern(Vec<Atom>),
+    /// The head of a clause.
+    Head(Vec<Atom>),
+}
+
+fn pop(founds: &mut Vec<Found>) -> Found
+    ensures value { found_of result ≡ get_or (map found_of (reverse founds.old.items)) 0 nothing }
+    ensures rest { map found_of (reverse founds.new.items) ≡ rest (map found_of (reverse founds.old.items)) }
+{
+    match founds.pop() {
+        Some(found) => found,
+        None => Found::Nothing,
+    }
+}
+
+/// The part with this number of a phrase that has so many.
+fn pop_part(founds: &mut Vec<Found>, count: usize, index: usize) -> Found
+    ensures value { let old = map found_of (reverse founds.old.items) in
+        found_of result ≡ (if index < count then get_or old 0 nothing else nothing) }
+    ensures rest { let old = map found_of (reverse founds.old.items) in
+        map found_of (reverse founds.new.items) ≡ (if index < count then rest old else old) }
+{
+    if index < count {
+        pop(founds)
+    } else {
+        Found::Nothing
+    }
+}
+
+/// Takes so many parts off, and answers the first four.
+fn pop_parts(founds: &mut Vec<Found>, count: usize) -> Parts
+    ensures first { found_of result.first ≡ get_or (take count (map found_of (reverse founds.old.items))) 0 nothing }
+    ensures second { found_of result.second ≡ get_or (take count (map found_of (reverse founds.old.items))) 1 nothing }
+    ensures third { found_of result.third ≡ get_or (take count (map found_of (reverse founds.old.items))) 2 nothing }
+    ensures fourth { found_of result.fourth ≡ get_or (take count (map found_of (reverse founds.old.items))) 3 nothing }
+    ensures rest { map found_of (reverse founds.new.items) ≡ without count (map found_of (reverse founds.old.items)) }
+{
+    let first = pop_part(founds, count, 0);
+    let second = pop_part(founds, count, 1);
+    let third = pop_part(founds, count, 2);
+    let fourth = pop_part(founds, count, 3);
+    for index in 4..count {
+        pop_part(founds, count, index);
+    }
+    Parts {
+        first,
+        second,
+        third,
+        fourth,
+    }
+}
+
+fn copy(item: &Item) -> Result<Item, Memory>
+    ensures { IfOk result (λ r. name_of r ≡ name_of item.now) }
+{
+    Ok(match item {
+        Item::Short(name) => Item::Short(name.clone()?),
+        Item::Op => Item::Op,
+        Item::Long => Item::Long,
+        Item::Phrase => Item::Phrase,
+    })
+}
+
+/// The items of atomic phrases that go from the last to the first.
+fn items_of(alloc: Global, atoms: &[Atom]) -> Result<Vec<Item>, Memory>
+    ensures { IfOk result (λ items. map name_of items.items ≡ map (λ a. name_of a.item) (reverse atoms.now)) }
+{
+    let mut items = Vec::new(alloc);
+    for i in (0..atoms.len()).rev() {
+        items.push(copy(&atoms[i].item)?)?;
+    }
+    Ok(items)
+}
+
+/// The items of a sequence without a type.
+fn untyped(alloc: Global, found: &Found) -> Result<Vec<Item>, Memory>
+    ensures { IfOk result (λ items. map name_of items.items ≡ untyped (found_of found.now)) }
+{
+    match found {
+        Found::Several(atoms, false) => items_of(alloc, atoms),
+        _ => Ok(Vec::new(alloc)),
+    }
+}
+
+/// What happens where a phrase begins that is this, and what is left of it for the phrases round it.
+fn finish(
+    alloc: Global,
+    deed: Deed,
+    token: usize,
+    found: Found,
+) -> Result<(Option<Event>, Found), Memory>
+    ensures event { IfOk result (λ r. option_map seen r.0 ≡ event_of deed token (found_of found)) }
+    ensures left { IfOk result (λ r. found_of r.1 ≡ left deed (found_of found)) }
+{
+    Ok(match deed {
+        Deed::Nothing => (None, found),
+        Deed::Begins => (Some(Event::Begins(token)), found),
+        Deed::Directs(directive) => match found {
+            Found::Directed(level, atoms) => (
+                Some(Event::Directs(directive, level, atoms)),
+                Found::Nothing,
+            ),
+            _ => (None, Found::Nothing),
+        },
+        Deed::Expression => match found {
+            Found::Several(atoms, _) => (Some(Event::Expression(atoms)), Found::Nothing),
+            _ => (None, Found::Nothing),
+        },
+        Deed::Pattern => {
+            let items = untyped(alloc, &found)?;
+            match found {
+                Found::Several(atoms, _) => (Some(Event::Pattern(atoms)), Found::Inner(items)),
+                _ => (None, Found::Inner(items)),
+            }
+        }
+        Deed::Head => match found {
+            Found::Several(atoms, _) => (Some(Event::Head(atoms)), Found::Nothing),
+            _ => (None, Found::Nothing),
+        },
+    })
+}
+
+/// What a token does to scopes.
+fn event_of_token(tokens: &[Token], token: usize) -> Option<Event>
+    ensures { option_map seen result ≡ scope_event (slice_get tokens.now token) }
+{
+    let token = tokens.get(token)?;
+    if opens(token.kind) {
+        Some(Event::Enters)
+    } else if closes(token.kind) {
+        Some(Event::Leaves)
+    } else {
+        None
+    }
+}
+
+fn push_some(events: &mut Vec<Event>, event: Option<Event>) -> Result<(), Memory>
+    ensures { OnOk result (map seen (reverse events.new.items) ≡ cons_option (option_map seen event) (map seen (reverse events.old.items))) }
+{
+    match event {
+        Some(event) => events.push(event)?,
+        None => {}
+    }
+    Ok(())
+}
+
+/// The event at a phrase of this rule with this first token, before what is found behind it.
+fn enter_phrase(
+    finder: &Finder,
+    names: &mut Names,
+    founds: &mut Vec<Found>,
+    rule: Rule,
+    token: usize,
+) -> Result<Option<Event>, Memory>
+    ensures event { let old = map found_of (reverse founds.old.items) in
+        let text = text_at finder.now.unit.now finder.now.tokens.now in
+        IfOk result (λ event. option_map seen event ≡ event_of (spec.deed_of rule) token (found_at text token rule old)) }
+    ensures founds { let old = map found_of (reverse founds.old.items) in
+        let text = text_at finder.now.unit.now finder.now.tokens.now in
+        OnOk result (map found_of (reverse founds.new.items) ≡ founds_from text (Inner rule) token old) }
+{
+    let parts = pop_parts(founds, backwards(rule).len());
+    let found = finder.find(names, token, sense_of(rule), parts)?;
+    let (event, left) = finish(finder.alloc, deed_of(rule), token, found)?;
+    founds.push(left)?;
+    Ok(event)
+}
+
+/// The events of a unit's derivation, from the last to the first.
+pub fn events(
+    alloc: Global,
+    unit: &[u8],
+    names: &mut Names,
+    nodes: &[Node],
+    tokens: &[Token],
+) -> Result<Vec<Event>, Memory>
+    ensures { IfOk result (λ events. map seen (reverse events.items) ≡ events_of unit.now tokens.now nodes.now (starts_of 0 nodes.now)) }
+{
+    let finder = Finder {
+        alloc,
+        unit,
+        tokens,
+    };
+    let starts = starts(alloc, nodes)?;
+    let mut founds = Vec::new(alloc);
+    let mut events = Vec::new(alloc);
+    for i in (0..nodes.len()).rev() {
+        let token = starts[i];
+        let event = match nodes[i] {
+            Node::Leaf => {
+                founds.push(Found::Word(token))?;
+                event_of_token(tokens, token)
+            }
+            Node::Inner(rule) => enter_phrase(&finder, names, &mut founds, rule, token)?,
+        };
+        push_some(&mut events, event)?;
+    }
+    Ok(events)
+}

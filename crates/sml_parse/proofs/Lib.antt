@@ -7,3 +7,4 @@ mod Tallness
 mod Declaring
 mod Sorts
 mod Sorting
+mod Parting

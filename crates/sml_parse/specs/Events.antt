@@ -1,6 +1,7 @@
 -- What happens to fixities, and which sequences stand where, in the order of the text.
-use Rattle.std.specs.Prelude.{◌≡◌, ℕ, Bool, true, false, List, [], ◌∷◌, Option, Some, None, map, reverse, take, length, get_or, slice_get, slice_range, if◌then◌else◌}
+use Rattle.std.specs.Prelude.{◌≡◌, ℕ, Bool, true, false, List, [], ◌∷◌, Option, Some, None, take, drop, length, get_or, slice_get, slice_range, if◌then◌else◌}
 use Rattle.std.specs.List.{cons_option}
+use Rattle.std.specs.Option.{option_map}
 use Rattle.sml_lex.specs.declared.token.Kind.{Kind}
 use Rattle.sml_lex.specs.declared.token.Token.{Token}
 use Rattle.sml_tree.specs.Trees.{Id}
@@ -13,9 +14,8 @@ use Rattle.sml_parse.specs.declared.sense.Deed.{Deed}
 use Rattle.sml_parse.specs.declared.sense.Deed.TheVariants as D
 use Rattle.sml_parse.specs.declared.event.Event as P
 use Rattle.sml_parse.specs.declared.event.Event.TheVariants as E
-use Rattle.sml_parse.specs.Lists.{without}
 use Rattle.sml_parse.specs.Senses.{sense_of, deed_of, opens, closes}
-use Rattle.sml_parse.specs.Founds.{Found, Atom, nothing, word, several, directed, found_by, left, atom_of}
+use Rattle.sml_parse.specs.Founds.{Found, Atom, nothing, word, directed, sequence_in, found_by, left, atoms_of}
 
 pub data Event : Type 0 where
   -- a declaration at the top begins at this token
@@ -47,7 +47,7 @@ found_at text n rule founds =
 -- what a node is to the phrases round it, before what is found behind it
 abbrev pub founds_from : (ℕ → Id) → Node → ℕ → List Found → List Found
 founds_from text Leaf n founds = word n ∷ founds
-founds_from text (Inner rule) n founds = left (deed_of rule) (found_at text n rule founds) ∷ without (length (right_side rule)) founds
+founds_from text (Inner rule) n founds = left (deed_of rule) (found_at text n rule founds) ∷ drop (length (right_side rule)) founds
 
 -- what the phrases that begin with these nodes are, each node with the number of its first token
 abbrev pub founds_of : (ℕ → Id) → List Node → List ℕ → List Found
@@ -64,9 +64,9 @@ scope_event (Some token) = if opens token.kind then Some enters else if closes t
 abbrev pub event_of : Deed → ℕ → Found → Option Event
 event_of D.Begins n found = Some (begins n)
 event_of (D.Directs directive) n (directed level atoms) = Some (directs directive level atoms)
-event_of D.Expression n (several atoms typed) = Some (expression atoms)
-event_of D.Pattern n (several atoms typed) = Some (pattern atoms)
-event_of D.Head n (several atoms typed) = Some (head atoms)
+event_of D.Expression n found = option_map expression (sequence_in found)
+event_of D.Pattern n found = option_map pattern (sequence_in found)
+event_of D.Head n found = option_map head (sequence_in found)
 event_of _ n found = None
 
 -- the event at a node, before what is found behind it
@@ -85,7 +85,7 @@ abbrev pub seen : P.Event → Event
 seen (E.Begins n) = begins n
 seen E.Enters = enters
 seen E.Leaves = leaves
-seen (E.Directs directive level atoms) = directs directive level (map atom_of (reverse atoms.items))
-seen (E.Expression atoms) = expression (map atom_of (reverse atoms.items))
-seen (E.Pattern atoms) = pattern (map atom_of (reverse atoms.items))
-seen (E.Head atoms) = head (map atom_of (reverse atoms.items))
+seen (E.Directs directive level atoms) = directs directive level (atoms_of atoms)
+seen (E.Expression atoms) = expression (atoms_of atoms)
+seen (E.Pattern atoms) = pattern (atoms_of atoms)
+seen (E.Head atoms) = head (atoms_of atoms)

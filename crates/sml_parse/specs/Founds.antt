@@ -1,5 +1,6 @@
 -- What a phrase is to the sequence that it stands in.
-use Rattle.std.specs.Prelude.{ℕ, Bool, true, false, List, [], ◌∷◌, Option, Some, None, map, reverse, if◌then◌else◌}
+use Rattle.std.specs.Prelude.{ℕ, Bool, true, false, List, [], ◌∷◌, Option, Some, None, map, reverse, if◌then◌else◌, Vec}
+use Rattle.std.specs.Global.{Global}
 use Rattle.sml_tree.specs.Trees.{Id}
 use Rattle.sml_tree.specs.Views.{ident_of}
 use Rattle.sml_fixity.specs.declared.sequences.Item.{Item}
@@ -107,6 +108,10 @@ found_by text n S.Inner a b c d = if is_word b then within (inner_in a) else not
 found_by text n S.Level a b c d = directed (level_in b) (atom (short (text (word_in c))) (word_in c) [] ∷ atoms_in d)
 found_by text n S.NoLevel a b c d = directed None (atom (short (text (word_in b))) (word_in b) [] ∷ atoms_in c)
 
+abbrev pub sequence_in : Found → Option (List Atom)
+sequence_in (several atoms typed) = Some atoms
+sequence_in _ = None
+
 -- the names of a sequence without a type
 abbrev pub untyped : Found → List Name
 untyped (several atoms false) = map (λ a. a.name) atoms
@@ -131,10 +136,14 @@ name_of I.Phrase = phrase
 abbrev pub atom_of : P.Atom → Atom
 atom_of a = atom (name_of a.item) a.token (map name_of a.inner.items)
 
+-- atomic phrases that go from the last to the first
+abbrev pub atoms_of : Vec P.Atom Global → List Atom
+atoms_of v = map atom_of (reverse v.items)
+
 abbrev pub found_of : F.Found → Found
 found_of V.Nothing = nothing
 found_of (V.Word n) = word n
 found_of (V.One a) = one (atom_of a)
-found_of (V.Several atoms typed) = several (map atom_of (reverse atoms.items)) typed
+found_of (V.Several atoms typed) = several (atoms_of atoms) typed
 found_of (V.Inner items) = within (map name_of items.items)
-found_of (V.Directed level atoms) = directed level (map atom_of (reverse atoms.items))
+found_of (V.Directed level atoms) = directed level (atoms_of atoms)

@@ -13,3 +13,4 @@ pub mod Sorts
 pub mod Senses
 pub mod Founds
 pub mod Events
+pub mod Reach

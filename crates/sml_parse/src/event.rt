@@ -1,15 +1,15 @@
 //! What happens to fixities, and which sequences stand where.
 
-ghost use Rattle.std.specs.Prelude.{◌≡◌, ◌<◌, map, reverse, take, length, get_or, if◌then◌else◌, slice_get, IfOk, OnOk};
+ghost use Rattle.std.specs.Prelude.{◌≡◌, ◌+◌, List, min, map, reverse, take, drop, length, get_or, if◌then◌else◌, slice_get, IfOk, OnOk};
 ghost use Rattle.std.specs.List.{cons_option};
 ghost use Rattle.std.specs.Option.{option_map};
 ghost use Rattle.sml_read.specs.Grammar.{right_side};
 ghost use Rattle.sml_read.specs.Extents.{starts_of};
 ghost use Rattle.sml_read.specs.declared.grammar.Node.TheVariants.{Inner};
-ghost use Rattle.sml_parse.specs.Lists.{rest, without};
-ghost use Rattle.sml_parse.specs.Senses as spec;
-ghost use Rattle.sml_parse.specs.Founds.{name_of, found_of, nothing, untyped, left};
-ghost use Rattle.sml_parse.specs.Events.{seen, text_at, found_at, founds_from, scope_event, event_of, event_from, events_of};
+ghost use Rattle.sml_parse.specs.Senses as senses;
+ghost use Rattle.sml_parse.specs.Founds as spec;
+ghost use Rattle.sml_parse.specs.Founds.{name_of, atom_of, atoms_of, found_of, nothing, sequence_in, untyped, left};
+ghost use Rattle.sml_parse.specs.Events.{seen, expression, pattern, head, text_at, found_at, founds_from, scope_event, event_of, event_from, events_of};
 
 use crate::found::{Atom, Finder, Found, Parts};
 use crate::names::Names;
@@ -44,7 +44,7 @@ pub enum Event {
 
 fn pop(founds: &mut Vec<Found>) -> Found
     ensures value { found_of result ≡ get_or (map found_of (reverse founds.old.items)) 0 nothing }
-    ensures rest { map found_of (reverse founds.new.items) ≡ rest (map found_of (reverse founds.old.items)) }
+    ensures rest { map found_of (reverse founds.new.items) ≡ drop 1 (map found_of (reverse founds.old.items)) }
 {
     match founds.pop() {
         Some(found) => found,
@@ -52,12 +52,12 @@ fn pop(founds: &mut Vec<Found>) -> Found
     }
 }
 
-/// The part with this number of a phrase that has so many.
+/// The part with this number of a phrase that has so many, those before it being taken off.
 fn pop_part(founds: &mut Vec<Found>, count: usize, index: usize) -> Found
-    ensures value { let old = map found_of (reverse founds.old.items) in
-        found_of result ≡ (if index < count then get_or old 0 nothing else nothing) }
-    ensures rest { let old = map found_of (reverse founds.old.items) in
-        map found_of (reverse founds.new.items) ≡ (if index < count then rest old else old) }
+    ensures value { (vs : List spec.Found) → map found_of (reverse founds.old.items) ≡ drop (min index count) vs →
+        found_of result ≡ get_or (take count vs) index nothing }
+    ensures rest { (vs : List spec.Found) → map found_of (reverse founds.old.items) ≡ drop (min index count) vs →
+        map found_of (reverse founds.new.items) ≡ drop (min (index + 1) count) vs }
 {
     if index < count {
         pop(founds)
@@ -72,7 +72,7 @@ fn pop_parts(founds: &mut Vec<Found>, count: usize) -> Parts
     ensures second { found_of result.second ≡ get_or (take count (map found_of (reverse founds.old.items))) 1 nothing }
     ensures third { found_of result.third ≡ get_or (take count (map found_of (reverse founds.old.items))) 2 nothing }
     ensures fourth { found_of result.fourth ≡ get_or (take count (map found_of (reverse founds.old.items))) 3 nothing }
-    ensures rest { map found_of (reverse founds.new.items) ≡ without count (map found_of (reverse founds.old.items)) }
+    ensures rest { map found_of (reverse founds.new.items) ≡ drop count (map found_of (reverse founds.old.items)) }
 {
     let first = pop_part(founds, count, 0);
     let second = pop_part(founds, count, 1);
@@ -102,7 +102,7 @@ fn copy(item: &Item) -> Result<Item, Memory>
 
 /// The items of atomic phrases that go from the last to the first.
 fn items_of(alloc: Global, atoms: &[Atom]) -> Result<Vec<Item>, Memory>
-    ensures { IfOk result (λ items. map name_of items.items ≡ map (λ a. name_of a.item) (reverse atoms.now)) }
+    ensures { IfOk result (λ items. map name_of items.items ≡ map (λ a. a.name) (map atom_of (reverse atoms.now))) }
 {
     let mut items = Vec::new(alloc);
     for i in (0..atoms.len()).rev() {
@@ -121,6 +121,60 @@ fn untyped(alloc: Global, found: &Found) -> Result<Vec<Item>, Memory>
     }
 }
 
+/// The atomic phrases of a sequence.
+fn sequence(found: Found) -> Option<Vec<Atom>>
+    ensures { option_map atoms_of result ≡ sequence_in (found_of found) }
+{
+    match found {
+        Found::Several(atoms, _typed) => Some(atoms),
+        Found::Nothing => None,
+        Found::Word(_token) => None,
+        Found::One(_atom) => None,
+        Found::Inner(_items) => None,
+        Found::Directed(_level, _atoms) => None,
+    }
+}
+
+fn expression(atoms: Option<Vec<Atom>>) -> Option<Event>
+    ensures { option_map seen result ≡ option_map expression (option_map atoms_of atoms) }
+{
+    match atoms {
+        Some(atoms) => Some(Event::Expression(atoms)),
+        None => None,
+    }
+}
+
+fn pattern(atoms: Option<Vec<Atom>>) -> Option<Event>
+    ensures { option_map seen result ≡ option_map pattern (option_map atoms_of atoms) }
+{
+    match atoms {
+        Some(atoms) => Some(Event::Pattern(atoms)),
+        None => None,
+    }
+}
+
+fn head(atoms: Option<Vec<Atom>>) -> Option<Event>
+    ensures { option_map seen result ≡ option_map head (option_map atoms_of atoms) }
+{
+    match atoms {
+        Some(atoms) => Some(Event::Head(atoms)),
+        None => None,
+    }
+}
+
+fn directed(directive: Directive, found: Found) -> Option<Event>
+    ensures { option_map seen result ≡ event_of (Deed.Directs directive) 0 (found_of found) }
+{
+    match found {
+        Found::Directed(level, atoms) => Some(Event::Directs(directive, level, atoms)),
+        Found::Nothing => None,
+        Found::Word(_token) => None,
+        Found::One(_atom) => None,
+        Found::Inner(_items) => None,
+        Found::Several(_atoms, _typed) => None,
+    }
+}
+
 /// What happens where a phrase begins that is this, and what is left of it for the phrases round it.
 fn finish(
     alloc: Global,
@@ -134,28 +188,13 @@ fn finish(
     Ok(match deed {
         Deed::Nothing => (None, found),
         Deed::Begins => (Some(Event::Begins(token)), found),
-        Deed::Directs(directive) => match found {
-            Found::Directed(level, atoms) => (
-                Some(Event::Directs(directive, level, atoms)),
-                Found::Nothing,
-            ),
-            _ => (None, Found::Nothing),
-        },
-        Deed::Expression => match found {
-            Found::Several(atoms, _) => (Some(Event::Expression(atoms)), Found::Nothing),
-            _ => (None, Found::Nothing),
-        },
+        Deed::Directs(directive) => (directed(directive, found), Found::Nothing),
+        Deed::Expression => (expression(sequence(found)), Found::Nothing),
         Deed::Pattern => {
             let items = untyped(alloc, &found)?;
-            match found {
-                Found::Several(atoms, _) => (Some(Event::Pattern(atoms)), Found::Inner(items)),
-                _ => (None, Found::Inner(items)),
-            }
+            (pattern(sequence(found)), Found::Inner(items))
         }
-        Deed::Head => match found {
-            Found::Several(atoms, _) => (Some(Event::Head(atoms)), Found::Nothing),
-            _ => (None, Found::Nothing),
-        },
+        Deed::Head => (head(sequence(found)), Found::Nothing),
     })
 }
 
@@ -193,7 +232,7 @@ fn enter_phrase(
 ) -> Result<Option<Event>, Memory>
     ensures event { let old = map found_of (reverse founds.old.items) in
         let text = text_at finder.now.unit.now finder.now.tokens.now in
-        IfOk result (λ event. option_map seen event ≡ event_of (spec.deed_of rule) token (found_at text token rule old)) }
+        IfOk result (λ event. option_map seen event ≡ event_of (senses.deed_of rule) token (found_at text token rule old)) }
     ensures founds { let old = map found_of (reverse founds.old.items) in
         let text = text_at finder.now.unit.now finder.now.tokens.now in
         OnOk result (map found_of (reverse founds.new.items) ≡ founds_from text (Inner rule) token old) }
@@ -203,6 +242,32 @@ fn enter_phrase(
     let (event, left) = finish(finder.alloc, deed_of(rule), token, found)?;
     founds.push(left)?;
     Ok(event)
+}
+
+/// A node with this first token: its event goes to the others, and what it is to what is found behind it.
+fn at_node(
+    finder: &Finder,
+    names: &mut Names,
+    founds: &mut Vec<Found>,
+    events: &mut Vec<Event>,
+    node: Node,
+    token: usize,
+) -> Result<(), Memory>
+    ensures founds { let old = map found_of (reverse founds.old.items) in
+        let text = text_at finder.now.unit.now finder.now.tokens.now in
+        OnOk result (map found_of (reverse founds.new.items) ≡ founds_from text node token old) }
+    ensures events { let old = map found_of (reverse founds.old.items) in
+        OnOk result (map seen (reverse events.new.items) ≡
+        cons_option (event_from finder.now.unit.now finder.now.tokens.now node token old) (map seen (reverse events.old.items))) }
+{
+    let event = match node {
+        Node::Leaf => {
+            founds.push(Found::Word(token))?;
+            event_of_token(finder.tokens, token)
+        }
+        Node::Inner(rule) => enter_phrase(finder, names, founds, rule, token)?,
+    };
+    push_some(events, event)
 }
 
 /// The events of a unit's derivation, from the last to the first.
@@ -224,15 +289,14 @@ pub fn events(
     let mut founds = Vec::new(alloc);
     let mut events = Vec::new(alloc);
     for i in (0..nodes.len()).rev() {
-        let token = starts[i];
-        let event = match nodes[i] {
-            Node::Leaf => {
-                founds.push(Found::Word(token))?;
-                event_of_token(tokens, token)
-            }
-            Node::Inner(rule) => enter_phrase(&finder, names, &mut founds, rule, token)?,
-        };
-        push_some(&mut events, event)?;
+        at_node(
+            &finder,
+            names,
+            &mut founds,
+            &mut events,
+            nodes[i],
+            starts[i],
+        )?;
     }
     Ok(events)
 }

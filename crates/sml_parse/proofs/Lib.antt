@@ -8,3 +8,4 @@ mod Declaring
 mod Sorts
 mod Sorting
 mod Parting
+mod Reaching

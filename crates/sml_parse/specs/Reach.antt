@@ -1,6 +1,6 @@
 -- How far directives reach, and where sequences of atomic phrases stand for nothing (the Definition, section 2.6): a
 -- directive reaches over the text behind it, up to the end of the innermost scope that it stands in.
-use Rattle.std.specs.Prelude.{◌≡◌, ℕ, suc, ◌+◌, Bool, ◌&&◌, ◌||◌, ◌==◌, nat_lt, nat_le, List, [], ◌∷◌, Option, Some, None, map, get_or, if◌then◌else◌}
+use Rattle.std.specs.Prelude.{◌≡◌, ℕ, suc, ◌<◌, Bool, ◌&&◌, ◌||◌, ◌==◌, nat_lt, nat_le, List, [], ◌∷◌, Option, Some, None, map, length, get_or, if◌then◌else◌}
 use Rattle.std.specs.List.{cons_option}
 use Rattle.sml_lex.specs.declared.fault.Code.{Code}
 use Rattle.sml_lex.specs.declared.fault.Code.TheVariants as C
@@ -11,20 +11,15 @@ use Rattle.sml_fixity.specs.declared.sequences.FixFault.{FixFault}
 use Rattle.sml_fixity.specs.declared.sequences.FixFault.TheVariants.{NoOperand, MixedSides, Malformed, Memory}
 use Rattle.sml_fixity.specs.declared.heads.Head.{Head}
 use Rattle.sml_fixity.specs.declared.scopes.Fixity.{Fixity}
-use Rattle.sml_fixity.specs.Scopes.{Map, changed_all, Gives, initial_map}
+use Rattle.sml_fixity.specs.Scopes.{Map, here, outer, changed_all, Gives, initial_map}
 use Rattle.sml_fixity.specs.Infix.{IsTheTree, FaultStands}
 use Rattle.sml_fixity.specs.Patterns.{IsThePattern, PatternFaultStands}
 use Rattle.sml_fixity.specs.Heads.{IsHead}
 use Rattle.sml_fixity.specs.Sequences.{roles_of}
+use Rattle.sml_parse.specs.declared.reach.Misfit.{Misfit}
+use Rattle.sml_parse.specs.declared.reach.Reach.{Reach}
 use Rattle.sml_parse.specs.Founds.{Name, Atom, short, name_of}
 use Rattle.sml_parse.specs.Events.{Event, begins, enters, leaves, directs, expression, pattern, head}
-
--- a fault of fixity: the number of its declaration in the unit and that one's first token, its own token and its code
-pub record Misfit : Type 0 where
-  pub number : ℕ
-  pub begun : ℕ
-  pub token : ℕ
-  pub code : Code
 
 -- The fixities in force, those at the beginning of each open scope, the innermost first, how many declarations have
 -- begun, and the first token of the last of them.
@@ -33,6 +28,10 @@ pub record State : Type 0 where
   pub outer : List Map
   pub count : ℕ
   pub begun : ℕ
+
+-- the state that the program is in
+abbrev pub state_of : Reach → State
+state_of r = record { here = here r.fixities; outer = outer r.fixities; count = r.count; begun = r.begun }
 
 -- a unit begins with the fixities of the initial basis
 abbrev pub start : State
@@ -76,12 +75,13 @@ IsClauseHead s atoms None = (items inner : List Item) × (how : Head) × AreItem
 IsClauseHead s atoms (Some m) = (items inner : List Item) × AreItems items atoms × (map name_of inner ≡ first_inner atoms) × ((how : Head) → ¬ IsHead s.here items inner how) × (misfit_of s atoms Malformed ≡ Some m)
 
 -- the identifiers of a directive
-abbrev pub id_of : Name → Id
-id_of (short x) = x
-id_of _ = []
+abbrev pub id_in : Name → Option Id
+id_in (short x) = Some x
+id_in _ = None
 
 abbrev pub ids_of : List Atom → List Id
-ids_of atoms = map (λ (a : Atom). id_of a.name) atoms
+ids_of [] = []
+ids_of (a ∷ atoms) = cons_option (id_in a.name) (ids_of atoms)
 
 -- the bytes of a level, none where it isn't written
 abbrev pub level_text : (ℕ → Id) → Option ℕ → Id
@@ -99,8 +99,8 @@ Happens text s enters m t = (m ≡ None) × (t ≡ record { here = s.here; outer
 Happens text s leaves m t = (m ≡ None) × (t.count ≡ s.count) × (t.begun ≡ s.begun) × ((before : Map) (others : List Map) → s.outer ≡ before ∷ others → (t.here ≡ before) × (t.outer ≡ others))
 Happens text s (directs directive level atoms) None t = (fixity : Option Fixity) × Gives directive (level_text text level) fixity × (t ≡ record { here = changed_all s.here (ids_of atoms) fixity; outer = s.outer; count = s.count; begun = s.begun })
 Happens text s (directs directive level atoms) (Some m) t = ((fixity : Option Fixity) → ¬ Gives directive (level_text text level) fixity) × (m ≡ misfit s (level_token level) C.F3) × (t ≡ s)
-Happens text s (expression atoms) m t = IsExpression s atoms m × (t ≡ s)
-Happens text s (pattern atoms) m t = IsPattern s atoms m × (t ≡ s)
+Happens text s (expression atoms) m t = (atoms ≡ [] → m ≡ None) × (0 < length atoms → IsExpression s atoms m) × (t ≡ s)
+Happens text s (pattern atoms) m t = (atoms ≡ [] → m ≡ None) × (0 < length atoms → IsPattern s atoms m) × (t ≡ s)
 Happens text s (head atoms) m t = IsClauseHead s atoms m × (t ≡ s)
 
 -- the faults of these events, one after another

@@ -11,6 +11,7 @@ pub mod laws;
 mod names;
 pub mod parse;
 mod place;
+mod reach;
 mod sense;
 mod sort;
 mod stack;

@@ -1,19 +1,20 @@
 -- A step over the items of a unit.
-use Rattle.std.proofs.Common.{◌≡◌, ℕ, ◌+◌, ◌-◌, ◌<◌, ◌≤◌, List, [], ◌∷◌, ◌++◌, Bool, true, false, map, length, take, drop, get_or, refl, sym, ap, ◌∙◌, subst, arith, append_assoc, append-nil, length-drop}
+use Rattle.std.proofs.Common.{◌≡◌, ℕ, zero, suc, ◌+◌, ◌-◌, ◌<◌, ◌≤◌, List, [], ◌∷◌, ◌++◌, Option, Some, None, Bool, true, false, map, length, take, drop, get_or, refl, sym, ap, ◌∙◌, subst, arith, append_assoc, append-nil, length-drop, length-append}
 use Rattle.std.specs.Prelude.{◌&&◌}
 use Rattle.std.specs.List.{take_while, list_all, before_first}
 use Rattle.std.proofs.Math.ListN.{drop_of_length-le}
 use Rattle.std.proofs.lemmas.List.{drop_more, take_all}
 use Rattle.std.proofs.lemmas.List.Folds.{list_all-append}
 use Rattle.std.proofs.lemmas.List.Sums.{take_while-cons}
-use Rattle.std.proofs.lemmas.Bool.{cond-true, cond-false, and_parts}
+use Rattle.std.proofs.lemmas.Bool.{cond-true, cond-false, and_parts, leb-true, leb-false}
+use Rattle.sml_lex.proofs.Reading.{false_is_true}
 use Rattle.sml_lex.specs.declared.fault.Place.{Place}
 use Rattle.sml_tree.specs.Trees.{Dec}
 use Rattle.sml_tree.specs.Views.{dec_of}
 use Rattle.sml_tree.specs.declared.bare.BareDec.{BareDec}
 use Rattle.sml_parse.specs.declared.item.Item.{Item}
 use Rattle.sml_parse.specs.Items.{begins, ends}
-use Rattle.sml_parse.specs.Trees.{dec_of_items, decs_of_items, is_low}
+use Rattle.sml_parse.specs.Trees.{dec_of_items, decs_of_items, is_low, up_to, is_full}
 
 -- where no declaration begins
 passed : (unit : List ℕ) (items : List Item) (i : ℕ) (d : Item) → i < length items → begins (get_or items i d) ≡ false → decs_of_items unit (drop i items) ≡ decs_of_items unit (drop (i + 1) items)
@@ -35,13 +36,65 @@ take_while-low p (x ∷ xs) ys h =
 list_all-low : {A : Type 0} (p : A → Bool) (xs ys : List A) → list_all p xs ≡ true → list_all p (xs ++ ys) ≡ list_all p ys
 list_all-low p xs ys h = list_all-append p xs ys ∙ ap (λ b. b && list_all p ys) h
 
-pub high_on : (unit : List ℕ) (items piece rest : List Item) (decs : List (Dec Place)) (i : ℕ) (d : Item) → decs_of_items unit items ≡ decs ++ decs_of_items unit (drop i items) → list_all is_low decs ≡ true → i < length items → begins (get_or items i d) ≡ true → rest ≡ drop (i + 1) items → piece ≡ before_first ends rest → is_low (dec_of_items unit piece) ≡ false → (decs ≡ take_while is_low (decs_of_items unit items)) × (false ≡ list_all is_low (decs_of_items unit items))
-high_on unit items piece rest decs i d kept low within b r p above =
+-- so many at most of two lists, of which the first is within that
+abbrev left : Option ℕ → ℕ → Option ℕ
+left None count = None
+left (Some most) count = Some (most - count)
+
+abbrev pub IsShort : Option ℕ → ℕ → Type 0
+IsShort None count = Unit {0}
+IsShort (Some most) count = count ≤ most
+
+take_past : {A : Type 0} (xs ys : List A) (k : ℕ) → take (length xs + k) (xs ++ ys) ≡ xs ++ take k ys
+take_past [] ys k = ap (λ n. take n ys) (let e : 0 + k ≡ k = omega arith in e)
+take_past (x ∷ xs) ys k = ap (λ n. take n (x ∷ (xs ++ ys))) (let e : suc (length xs) + k ≡ suc (length xs + k) = omega arith in e) ∙ ap (λ zs. x ∷ zs) (take_past xs ys k)
+
+up_to-append : {A : Type 0} (most : Option ℕ) (xs ys : List A) → IsShort most (length xs) → up_to most (xs ++ ys) ≡ xs ++ up_to (left most (length xs)) ys
+up_to-append None xs ys s = refl
+up_to-append (Some most) xs ys s = ap (λ n. take n (xs ++ ys)) (let e : most ≡ length xs + (most - length xs) = omega (arith, s) in e) ∙ take_past xs ys (most - length xs)
+
+-- where another may come
+abbrev fewer : Option ℕ → Option ℕ
+fewer None = None
+fewer (Some n) = Some (n - 1)
+
+up_to-more : {A : Type 0} (most : Option ℕ) (count : ℕ) (y : A) (ys : List A) → is_full most count ≡ false → up_to (left most count) (y ∷ ys) ≡ y ∷ up_to (fewer (left most count)) ys
+up_to-more None count y ys f = refl
+up_to-more (Some most) count y ys f =
+    let l = leb-false most count f in
+    let e : most - count ≡ suc (most - count - 1) = omega (arith, l) in
+    ap (λ n. take n (y ∷ ys)) e
+
+-- where none may
+up_to-none : {A : Type 0} (most : Option ℕ) (count : ℕ) (ys : List A) → is_full most count ≡ true → up_to (left most count) ys ≡ []
+up_to-none None count ys f = absurd (false_is_true f)
+up_to-none (Some most) count ys f = ap (λ n. take n ys) (let l = leb-true most count f in let e : most - count ≡ 0 = omega (arith, l) in e)
+
+up_to-nil : {A : Type 0} (most : Option ℕ) → up_to {A = A} most [] ≡ []
+up_to-nil None = refl
+up_to-nil (Some zero) = refl
+up_to-nil (Some (suc n)) = refl
+
+pub length-map : {A B : Type 0} (f : A → B) (xs : List A) → length (map f xs) ≡ length xs
+length-map f [] = refl
+length-map f (x ∷ xs) = ap suc (length-map f xs)
+
+pub high_on : (unit : List ℕ) (items piece rest : List Item) (most : Option ℕ) (decs : List (Dec Place)) (count i : ℕ) (d : Item) → decs_of_items unit items ≡ decs ++ decs_of_items unit (drop i items) → list_all is_low decs ≡ true → IsShort most (length decs) → count ≡ length decs → is_full most count ≡ false → i < length items → begins (get_or items i d) ≡ true → rest ≡ drop (i + 1) items → piece ≡ before_first ends rest → is_low (dec_of_items unit piece) ≡ false → (decs ≡ take_while is_low (up_to most (decs_of_items unit items))) × (false ≡ list_all is_low (up_to most (decs_of_items unit items)))
+high_on unit items piece rest most decs count i d kept low short c full within b r p above =
     let dec = dec_of_items unit piece in
     let others = decs_of_items unit (drop (i + 1) items) in
-    let total = kept ∙ ap (λ ds. decs ++ ds) (begun unit items piece rest i d within b r p) in (
-      sym (ap (take_while is_low) total ∙ take_while-low is_low decs (dec ∷ others) low ∙ ap (λ ds. decs ++ ds) (take_while-cons is_low dec others ∙ cond-false _ _ _ above) ∙ append-nil decs),
-      sym (ap (list_all is_low) total ∙ list_all-low is_low decs (dec ∷ others) low ∙ ap (λ b. b && list_all is_low others) above),
+    let later = up_to (fewer (left most (length decs))) others in
+    let total = ap (up_to most) (kept ∙ ap (λ ds. decs ++ ds) (begun unit items piece rest i d within b r p)) ∙ up_to-append most decs (dec ∷ others) short ∙ ap (λ ds. decs ++ ds) (up_to-more most (length decs) dec others (ap (is_full most) (sym c) ∙ full)) in (
+      sym (ap (take_while is_low) total ∙ take_while-low is_low decs (dec ∷ later) low ∙ ap (λ ds. decs ++ ds) (take_while-cons is_low dec later ∙ cond-false _ _ _ above) ∙ append-nil decs),
+      sym (ap (list_all is_low) total ∙ list_all-low is_low decs (dec ∷ later) low ∙ ap (λ b. b && list_all is_low later) above),
+    )
+
+-- where no more may come
+pub full_on : (unit : List ℕ) (items : List Item) (most : Option ℕ) (decs : List (Dec Place)) (count i : ℕ) → decs_of_items unit items ≡ decs ++ decs_of_items unit (drop i items) → list_all is_low decs ≡ true → IsShort most (length decs) → count ≡ length decs → is_full most count ≡ true → (decs ≡ take_while is_low (up_to most (decs_of_items unit items))) × (true ≡ list_all is_low (up_to most (decs_of_items unit items)))
+full_on unit items most decs count i kept low short c full =
+    let total = ap (up_to most) kept ∙ up_to-append most decs (decs_of_items unit (drop i items)) short ∙ ap (λ ds. decs ++ ds) (up_to-none most (length decs) (decs_of_items unit (drop i items)) (ap (is_full most) (sym c) ∙ full)) in (
+      sym (ap (take_while is_low) total ∙ take_while-low is_low decs [] low ∙ append-nil decs),
+      sym (ap (list_all is_low) total ∙ list_all-low is_low decs [] low),
     )
 
 map_more : {A B : Type 0} (f : A → B) (xs : List A) (x : A) → map f (xs ++ x ∷ []) ≡ map f xs ++ f x ∷ []
@@ -64,13 +117,20 @@ dec_on unit items piece rest old new dec i d kept low within b r p o fits n =
 pub pass_on : (unit : List ℕ) (items : List Item) (old new : List BareDec) (i : ℕ) (d : Item) → decs_of_items unit items ≡ map dec_of old ++ decs_of_items unit (drop i items) → list_all is_low (map dec_of old) ≡ true → i < length items → begins (get_or items i d) ≡ false → new ≡ old → Kept unit items new (i + 1)
 pass_on unit items old new i d kept low within b n = subst (λ ds. Kept unit items ds (i + 1)) (sym n) (kept ∙ ap (λ ds. map dec_of old ++ ds) (passed unit items i d within b), low)
 
--- the slice from a place on
+-- one more, where it may come
+pub one_more : (most : Option ℕ) (xs : List BareDec) (new : List BareDec) (dec : BareDec) (count : ℕ) → IsShort most (length (map dec_of xs)) → count ≡ length xs → is_full most count ≡ false → new ≡ xs ++ dec ∷ [] → IsShort most (length (map dec_of new))
+one_more None xs new dec count s c f n = tt
+one_more (Some most) xs new dec count s c f n =
+    let l = leb-false most count f in
+    let m = length-map dec_of new ∙ ap length n ∙ length-append xs (dec ∷ []) in
+    omega (arith, l, m, c)
+
 pub all_left : {A : Type 0} (xs : List A) (i : ℕ) → take (length xs - i) (drop i xs) ≡ drop i xs
 all_left xs i = take_all (length xs - i) (drop i xs) (omega (arith, length-drop i xs))
 
-pub all_on : (unit : List ℕ) (items : List Item) (decs : List (Dec Place)) (i : ℕ) → decs_of_items unit items ≡ decs ++ decs_of_items unit (drop i items) → list_all is_low decs ≡ true → length items ≤ i → (decs ≡ take_while is_low (decs_of_items unit items)) × (true ≡ list_all is_low (decs_of_items unit items))
-all_on unit items decs i kept low past =
-    let total = kept ∙ ap (λ xs. decs ++ decs_of_items unit xs) (drop_of_length-le items past) in (
+pub all_on : (unit : List ℕ) (items : List Item) (most : Option ℕ) (decs : List (Dec Place)) (i : ℕ) → decs_of_items unit items ≡ decs ++ decs_of_items unit (drop i items) → list_all is_low decs ≡ true → IsShort most (length decs) → length items ≤ i → (decs ≡ take_while is_low (up_to most (decs_of_items unit items))) × (true ≡ list_all is_low (up_to most (decs_of_items unit items)))
+all_on unit items most decs i kept low short past =
+    let total = ap (up_to most) (kept ∙ ap (λ xs. decs ++ decs_of_items unit xs) (drop_of_length-le items past)) ∙ up_to-append most decs [] short ∙ ap (λ ds. decs ++ ds) (up_to-nil (left most (length decs))) in (
       sym (ap (take_while is_low) total ∙ take_while-low is_low decs [] low ∙ append-nil decs),
       sym (ap (list_all is_low) total ∙ list_all-low is_low decs [] low),
     )

@@ -8,9 +8,9 @@ pub mod Values
 pub mod Rules
 pub mod Stacks
 pub mod Heights
-pub mod Trees
 pub mod Sorts
 pub mod Senses
 pub mod Founds
 pub mod Events
 pub mod Reach
+pub mod Trees

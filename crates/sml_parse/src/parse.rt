@@ -5,18 +5,20 @@ ghost use Rattle.std.specs.List.{list_all};
 ghost use Rattle.std.specs.Option.{option_map, MatchOption};
 ghost use Rattle.sml_lex.specs.Faults.{fault_of};
 ghost use Rattle.sml_tree.specs.Views.{dec_of};
-ghost use Rattle.sml_parse.specs.Trees.{dec_of_items, decs_of_items, is_low, fault_from, fault_read, Trees};
+ghost use Rattle.sml_parse.specs.Trees.{dec_of_items, decs_of_items, is_low, fault_from, fault_read, fault_behind, before_misfit, up_to, is_full, Trees};
 
 use crate::build::build;
+use crate::event::events;
 use crate::item::Item;
 use crate::label::{begins, first, label, start_of};
 use crate::names::Names;
 use crate::place::{FIRST, place_between};
+use crate::reach::{Misfit, first_misfit};
 use crate::sort::is_in_piece;
 use crate::tall::measure;
 use sml_lex::fault::{Code, Fault, Memory};
 use sml_lex::token::{End, Lexed};
-use sml_read::read::{Cause, read};
+use sml_read::read::{Cause, Full, read};
 use sml_tree::bare::BareDec;
 use std::alloc::Global;
 
@@ -88,16 +90,34 @@ fn declared(
     Ok(Some(build(alloc, unit, names, items)?))
 }
 
-/// The declarations that these items spell up to the first that is too high, and whether none is.
-fn declare(alloc: Global, unit: &[u8], items: &[Item]) -> Result<(Vec<BareDec>, bool), Memory>
-    ensures { let all = decs_of_items unit.now items.now in
+/// Whether there are as many declarations as there may be.
+fn is_full(most: Option<usize>, count: usize) -> bool
+    ensures { result ≡ is_full most count }
+{
+    match most {
+        Some(most) => most <= count,
+        None => false,
+    }
+}
+
+/// The declarations that these items spell, so many at most, up to the first that is too high, and whether none is.
+fn declare(
+    alloc: Global,
+    unit: &[u8],
+    names: &mut Names,
+    items: &[Item],
+    most: Option<usize>,
+) -> Result<(Vec<BareDec>, bool), Memory>
+    ensures { let all = up_to most (decs_of_items unit.now items.now) in
         IfOk result (λ r. (map dec_of r.0.items ≡ take_while is_low all) × (r.1 ≡ list_all is_low all)) }
 {
-    let mut names = Names::new(alloc);
     let mut declarations = Vec::new(alloc);
     for i in 0..items.len() {
         if begins(items[i]) {
-            let Some(dec) = declared(alloc, unit, &mut names, first(&items[i + 1..]))? else {
+            if is_full(most, declarations.len()) {
+                return Ok((declarations, true));
+            }
+            let Some(dec) = declared(alloc, unit, names, first(&items[i + 1..]))? else {
                 return Ok((declarations, false));
             };
             declarations.push(dec)?;
@@ -106,18 +126,47 @@ fn declare(alloc: Global, unit: &[u8], items: &[Item]) -> Result<(Vec<BareDec>, 
     Ok((declarations, true))
 }
 
+/// The fault behind the last of the declarations.
+fn fault_behind(lexed: &Lexed, full: &Full, misfit: Option<Misfit>) -> Option<Fault>
+    ensures { option_map fault_of result
+        ≡ fault_behind lexed.now.unit.now lexed.now.tokens.items lexed.now.end full.now.begun full.now.cause misfit }
+{
+    match misfit {
+        None => fault_of_reading(lexed, full.begun, full.cause),
+        Some(misfit) => {
+            let start = start_of(&lexed.tokens, misfit.begun, 0);
+            let at = start_of(&lexed.tokens, misfit.token, 0);
+            Some(fault_at(lexed.unit, misfit.code, start, at))
+        }
+    }
+}
+
+/// How many declarations stand before the one with a fault of fixity.
+fn before_misfit(misfit: Option<Misfit>) -> Option<usize>
+    ensures { result ≡ before_misfit misfit }
+{
+    match misfit {
+        None => None,
+        Some(misfit) => Some(misfit.number.saturating_sub(1)),
+    }
+}
+
 /// Reads a unit's bare declarations.
 pub fn parse(alloc: Global, lexed: &Lexed) -> Result<Parsed, Memory>
     ensures { IfOk result (λ parsed. Trees lexed.now.unit.now lexed.now.tokens.items lexed.now.end
         (map dec_of parsed.declarations.items) (option_map fault_of parsed.fault)) }
 {
     let full = read(alloc, lexed)?;
+    let mut names = Names::new(alloc);
+    let events = events(alloc, lexed.unit, &mut names, &full.nodes, &lexed.tokens)?;
+    let misfit = first_misfit(alloc, lexed.unit, &lexed.tokens, events)?;
     let items = label(alloc, lexed.unit, &full.nodes, &lexed.tokens)?;
-    let (declarations, low) = declare(alloc, lexed.unit, &items)?;
+    let most = before_misfit(misfit);
+    let (declarations, low) = declare(alloc, lexed.unit, &mut names, &items, most)?;
     if low {
         return Ok(Parsed {
             declarations,
-            fault: fault_of_reading(lexed, full.begun, full.cause),
+            fault: fault_behind(lexed, &full, misfit),
         });
     }
     Ok(Parsed {

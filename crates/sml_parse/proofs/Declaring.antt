@@ -97,34 +97,7 @@ full_on unit items most decs count i kept low short c full =
       sym (ap (list_all is_low) total ∙ list_all-low is_low decs [] low),
     )
 
-map_more : {A B : Type 0} (f : A → B) (xs : List A) (x : A) → map f (xs ++ x ∷ []) ≡ map f xs ++ f x ∷ []
-map_more f [] x = refl
-map_more f (y ∷ ys) x = ap (λ z. f y ∷ z) (map_more f ys x)
-
--- what the loop keeps
-abbrev pub Kept : List ℕ → List Item → List BareDec → ℕ → Type 0
-Kept unit items decs i = (decs_of_items unit items ≡ map dec_of decs ++ decs_of_items unit (drop i items)) × (list_all is_low (map dec_of decs) ≡ true)
-
-pub dec_on : (unit : List ℕ) (items piece rest : List Item) (old new : List BareDec) (dec : BareDec) (i : ℕ) (d : Item) → decs_of_items unit items ≡ map dec_of old ++ decs_of_items unit (drop i items) → list_all is_low (map dec_of old) ≡ true → i < length items → begins (get_or items i d) ≡ true → rest ≡ drop (i + 1) items → piece ≡ before_first ends rest → dec_of dec ≡ dec_of_items unit piece → is_low (dec_of_items unit piece) ≡ true → new ≡ old ++ dec ∷ [] → Kept unit items new (i + 1)
-dec_on unit items piece rest old new dec i d kept low within b r p o fits n =
-    let more : map dec_of new ≡ map dec_of old ++ dec_of dec ∷ [] = ap (map dec_of) n ∙ map_more dec_of old dec in (
-      kept ∙ ap (λ ds. map dec_of old ++ ds) (begun unit items piece rest i d within b r p ∙ ap (λ x. x ∷ decs_of_items unit (drop (i + 1) items)) (sym o))
-          ∙ sym (append_assoc (map dec_of old) (dec_of dec ∷ []) (decs_of_items unit (drop (i + 1) items)))
-          ∙ ap (λ ds. ds ++ decs_of_items unit (drop (i + 1) items)) (sym more),
-      ap (list_all is_low) more ∙ list_all-low is_low (map dec_of old) (dec_of dec ∷ []) low ∙ ap (λ b. b && true) (ap is_low o ∙ fits),
-    )
-
-pub pass_on : (unit : List ℕ) (items : List Item) (old new : List BareDec) (i : ℕ) (d : Item) → decs_of_items unit items ≡ map dec_of old ++ decs_of_items unit (drop i items) → list_all is_low (map dec_of old) ≡ true → i < length items → begins (get_or items i d) ≡ false → new ≡ old → Kept unit items new (i + 1)
-pass_on unit items old new i d kept low within b n = subst (λ ds. Kept unit items ds (i + 1)) (sym n) (kept ∙ ap (λ ds. map dec_of old ++ ds) (passed unit items i d within b), low)
-
--- one more, where it may come
-pub one_more : (most : Option ℕ) (xs : List BareDec) (new : List BareDec) (dec : BareDec) (count : ℕ) → IsShort most (length (map dec_of xs)) → count ≡ length xs → is_full most count ≡ false → new ≡ xs ++ dec ∷ [] → IsShort most (length (map dec_of new))
-one_more None xs new dec count s c f n = tt
-one_more (Some most) xs new dec count s c f n =
-    let l = leb-false most count f in
-    let m = length-map dec_of new ∙ ap length n ∙ length-append xs (dec ∷ []) in
-    omega (arith, l, m, c)
-
+-- the slice from a place on
 pub all_left : {A : Type 0} (xs : List A) (i : ℕ) → take (length xs - i) (drop i xs) ≡ drop i xs
 all_left xs i = take_all (length xs - i) (drop i xs) (omega (arith, length-drop i xs))
 

@@ -1,8 +1,7 @@
 -- What happens to fixities, and which sequences stand where, in the order of the text.
-use Rattle.std.specs.Prelude.{◌≡◌, ℕ, Bool, true, false, List, [], ◌∷◌, Option, Some, None, take, drop, length, get_or, slice_get, slice_range, if◌then◌else◌}
+use Rattle.std.specs.Prelude.{ℕ, List, [], ◌∷◌, Option, Some, None, take, drop, length, get_or, slice_get, slice_range, if◌then◌else◌}
 use Rattle.std.specs.List.{cons_option}
 use Rattle.std.specs.Option.{option_map}
-use Rattle.sml_lex.specs.declared.token.Kind.{Kind}
 use Rattle.sml_lex.specs.declared.token.Token.{Token}
 use Rattle.sml_tree.specs.Trees.{Id}
 use Rattle.sml_fixity.specs.declared.scopes.Directive.{Directive}

@@ -251,15 +251,97 @@ fn faults(rt: HostRuntime) -> Result<(), Fail> {
 }
 
 #[test]
+fn fixities(rt: HostRuntime) -> Result<(), Fail> {
+    for (unit, expected) in [
+        (b"val x = = 3".as_slice(), "1.9 F1"),
+        (b"val mod = 1".as_slice(), "1.5 F1"),
+        (b"val x = o".as_slice(), "1.9 F1"),
+        (b"val x = f +".as_slice(), "1.11 F1"),
+        (b"val x = 1 + + 2".as_slice(), "1.13 F1"),
+        (b"val x = f (1 +) +".as_slice(), "1.14 F1"),
+        (b"val x = + (1 +)".as_slice(), "1.9 F1"),
+        (b"val x as + = 1".as_slice(), "1.10 F1"),
+        (b"val x = = 3 )".as_slice(), "1.9 F1"),
+        (
+            b"val a = 1 val b =\n (a * * 2".as_slice(),
+            "1.1 val a n;\n2.9 S2",
+        ),
+        (
+            b"val a = 1 val b =\n (a * * 2) val c = +".as_slice(),
+            "1.1 val a n;\n2.7 F1",
+        ),
+        (
+            b"infixr 6 ++ val x = 1 + 2 ++ 3".as_slice(),
+            "1.1 other\n1.15 F2",
+        ),
+        (
+            b"infixr 6 ++ val x ++ y + z = 1".as_slice(),
+            "1.1 other\n1.12 F2",
+        ),
+        (b"infix 12 ##".as_slice(), "1.7 F3"),
+        (b"infix 03 ##".as_slice(), "1.7 F3"),
+        (b"val 1 x = 2".as_slice(), "1.5 F4"),
+        (b"fn 1 2 => 3".as_slice(), "1.4 F4"),
+        (b"val x y z = 1".as_slice(), "1.5 F4"),
+        (b"val op x y z = 1".as_slice(), "1.5 F4"),
+        (b"val (x) y = 1".as_slice(), "1.5 F4"),
+        (b"fun :: x = 1".as_slice(), "1.5 F4"),
+        (b"fun f = 1".as_slice(), "1.5 F4"),
+        (b"fun f 1 = 2 | + x = 3".as_slice(), "1.15 F4"),
+        (b"fun f 1 = 2 and (g) x = 3".as_slice(), "1.17 F4"),
+        (b"infix ## fun a ## b c = 1".as_slice(), "1.1 other\n1.5 F4"),
+        (
+            b"infix ## fun (a ## b : int) c = 1".as_slice(),
+            "1.1 other\n1.5 F4",
+        ),
+        (b"nonfix + val x = +".as_slice(), "1.1 other\n1.1 other\n"),
+        (b"val x = 1 - 2 - 3 * 4".as_slice(), "1.1 other\n"),
+        (b"val op + = op *".as_slice(), "1.1 other\n"),
+        (b"val {+, ...} = r".as_slice(), "1.1 other\n"),
+        (
+            b"infix ## fun (a ## b) c = a".as_slice(),
+            "1.1 other\n1.1 other\n",
+        ),
+        // a directive doesn't leave what encloses it
+        (
+            b"structure A = struct infix 5 ## val a = ## end".as_slice(),
+            "1.41 F1",
+        ),
+        (
+            b"structure A = struct infix 5 ## fun a ## b = a end val z = ##".as_slice(),
+            "1.1 other\n1.1 other\n",
+        ),
+        (
+            b"local infix ## in val x = 1 ## 2 end val y = ##".as_slice(),
+            "1.1 other\n1.1 other\n",
+        ),
+        (b"local infix ## in val x = ## end".as_slice(), "1.27 F1"),
+        (
+            b"val x = let infix ## in 1 ## 2 end val y = ##".as_slice(),
+            "1.1 other\n1.1 other\n",
+        ),
+        (
+            b"structure A = F (infix ##) val y = ##".as_slice(),
+            "1.1 other\n1.1 other\n",
+        ),
+        (
+            b"infix ## structure A = struct nonfix ## end val y = ##".as_slice(),
+            "1.1 other\n1.1 other\n1.9 F1",
+        ),
+    ] {
+        let text = read_as(&rt, unit)?;
+        assert_eq!(rt; text.as_str(), expected);
+    }
+    Ok(())
+}
+
+#[test]
 fn outside_the_piece(rt: HostRuntime) -> Result<(), Fail> {
     // each of these is one declaration, and none is of the piece
     for unit in [
         b"v".as_slice(),
-        b"val mod = 1".as_slice(),
         b"val x = nil".as_slice(),
-        b"val x = o".as_slice(),
         b"val ++ = 1".as_slice(),
-        b"val x = =".as_slice(),
         b"val x = f y".as_slice(),
         b"val x = 1 + 2".as_slice(),
         b"val x = (1; 2)".as_slice(),

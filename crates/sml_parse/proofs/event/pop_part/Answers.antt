@@ -1,5 +1,5 @@
-use Rattle.std.proofs.Common.{map, reverse, ◌∙◌}
-use Rattle.sml_parse.specs.Founds.{found_of, nothing}
+use Rattle.std.proofs.Common.{◌∙◌}
+use Rattle.sml_parse.specs.Founds.{nothing}
 use Rattle.sml_parse.proofs.Parting.{part_is, rest_is}
 use Rattle.sml_parse.proofs.event.pop_part.Goals as goal
 

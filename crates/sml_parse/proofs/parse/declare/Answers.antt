@@ -1,6 +1,6 @@
-use Rattle.std.proofs.Common.{◌+◌, map, length, sym, ap, ◌∙◌}
+use Rattle.std.proofs.Common.{◌+◌, map, sym, ◌∙◌}
 use Rattle.sml_tree.specs.Views.{dec_of}
-use Rattle.sml_parse.proofs.Declaring.{full_on, high_on, dec_on, pass_on, all_on, all_left, length-map, one_more}
+use Rattle.sml_parse.proofs.Declaring.{full_on, high_on, all_on, all_left, length-map}
 use Rattle.sml_parse.proofs.parse.declare.Goals as goal
 
 pub returns-then-is_full : goal.returns-then-is_full

@@ -1,5 +1,5 @@
 -- The faults so far, and those of the events to come.
-use Rattle.std.proofs.Common.{◌≡◌, ◌≤◌, ◌+◌, ◌++◌, List, map, reverse, length}
+use Rattle.std.proofs.Common.{◌≤◌, ◌+◌, ◌++◌, List, map, reverse, length}
 use Rattle.sml_parse.specs.declared.reach.Misfit.{Misfit}
 use Rattle.sml_parse.specs.Events.{seen, text_at}
 use Rattle.sml_parse.specs.Reach.{state_of, start, Misfits}

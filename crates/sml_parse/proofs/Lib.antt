@@ -7,3 +7,7 @@ mod Tallness
 mod Declaring
 mod Sorts
 mod Sorting
+pub mod TreePlaces
+pub mod Extents
+pub mod Nonempty
+pub mod PlacesWithin

@@ -10,3 +10,4 @@ pub mod Stacks
 pub mod Heights
 pub mod Trees
 pub mod Sorts
+pub mod Within

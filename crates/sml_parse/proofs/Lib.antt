@@ -9,3 +9,7 @@ mod Sorts
 mod Sorting
 mod Parting
 mod Reaching
+pub mod TreePlaces
+pub mod Extents
+pub mod Nonempty
+pub mod PlacesWithin

@@ -14,3 +14,4 @@ pub mod Founds
 pub mod Events
 pub mod Reach
 pub mod Trees
+pub mod Within

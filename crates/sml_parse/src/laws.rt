@@ -1,7 +1,15 @@
 //! Laws of the definitions that the parser's contract cites.
 ghost use Rattle.sml_parse.specs.Sorts.{EachIsMade};
+ghost use Rattle.sml_parse.specs.Within.{PlacesAreWithin};
 
 /// In a declaration of the piece no form makes up a part, and a declaration is made.
 pub fn each_is_made()
     ensures { EachIsMade }
+{}
+
+/// 1.1 and the places of the trees that bytes spell are those of tokens of their declarations, counted from the first.
+/// The last fault stands at a token of what is left behind them, or where the tokens end; that of a tree that is too
+/// high at 1.1.
+pub fn places_are_within()
+    ensures { PlacesAreWithin }
 {}

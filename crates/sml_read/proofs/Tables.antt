@@ -49,7 +49,7 @@ each_kind f h k = every_at f all_kinds h (kind_number k) k (kind_at k)
 each_part : (f : Part → Bool) → every f all_parts ≡ true → (p : Part) → f p ≡ true
 each_part f h p = every_at f all_parts h (part_number p) p (part_at p)
 
-each_rule : (f : Rule → Bool) → every f all_rules ≡ true → (r : Rule) → f r ≡ true
+pub each_rule : (f : Rule → Bool) → every f all_rules ≡ true → (r : Rule) → f r ≡ true
 each_rule f h r = every_at f all_rules h (rule_number r) r (rule_at r)
 
 -- what may stand behind: a token of each kind, or none
@@ -60,11 +60,11 @@ each_ending : (f : Option Kind → Bool) → every_ending f ≡ true → (k : Op
 each_ending f h None = (and_parts _ _ h).0
 each_ending f h (Some k) = each_kind (λ k. f (Some k)) (and_parts _ _ h).1 k
 
-abbrev implies : Bool → Bool → Bool
+abbrev pub implies : Bool → Bool → Bool
 implies true b = b
 implies false b = true
 
-implied : (a b : Bool) → implies a b ≡ true → a ≡ true → b ≡ true
+pub implied : (a b : Bool) → implies a b ≡ true → a ≡ true → b ≡ true
 implied true b h e = h
 implied false b h e = absurd (false≢true e)
 

@@ -8,3 +8,4 @@ pub mod Within
 pub mod Open
 pub mod Sound
 pub mod Specified
+pub mod Faults

@@ -2,3 +2,4 @@ pub mod Trees
 pub mod Views
 pub mod Height
 pub mod Forget
+pub mod Places

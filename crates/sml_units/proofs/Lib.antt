@@ -23,3 +23,4 @@ pub mod Listings
 pub mod Manifests
 pub mod InOrder
 pub mod Canonical
+pub mod Standing

@@ -10,3 +10,4 @@ pub mod Written
 pub mod ProjectFiles
 pub mod Orders
 pub mod Checked
+pub mod Standing

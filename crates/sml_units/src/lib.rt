@@ -4,6 +4,7 @@
 mod expressions;
 mod instances;
 pub mod isolation;
+pub mod laws;
 mod locals;
 mod lookups;
 pub mod manifest;

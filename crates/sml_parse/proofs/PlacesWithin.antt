@@ -1,0 +1,142 @@
+-- The places of a unit's trees and of its last fault.
+use Rattle.std.proofs.Common.{◌≡◌, ℕ, zero, suc, ◌+◌, ◌-◌, ◌<◌, ◌≤◌, List, [], ◌∷◌, Bool, true, false, Option, Some, None, map, length, take, drop, cond, get_or, refl, sym, ap, ◌∙◌, subst, arith, inl, inr}
+use Rattle.std.specs.Prelude.{slice_get, unwrap_or, IfSome, if◌then◌else◌}
+use Rattle.std.specs.Option.{option_map}
+use Rattle.std.specs.List.{list_all, take_while}
+use Rattle.std.proofs.lemmas.List.{length-map}
+use Rattle.std.proofs.lemmas.List.Elements.{All-cons}
+use Rattle.std.proofs.lemmas.List.Sums.{take_while-cons}
+use Rattle.std.proofs.lemmas.Option.{slice_get-get_or}
+use Rattle.sml_lex.specs.declared.fault.Code.{Code}
+use Rattle.sml_lex.specs.declared.fault.Code.TheVariants as C
+use Rattle.sml_lex.specs.declared.fault.Place.{Place}
+use Rattle.sml_lex.specs.declared.token.Kind.TheVariants.{Comma}
+use Rattle.sml_lex.specs.declared.token.Stop.{Stop}
+use Rattle.sml_lex.specs.declared.token.Token.{Token}
+use Rattle.sml_lex.specs.declared.token.End.{End}
+use Rattle.sml_lex.specs.declared.token.End.TheVariants as E
+use Rattle.sml_lex.specs.declared.pieces.Piece.{Piece}
+use Rattle.sml_lex.specs.declared.pieces.Piece.TheVariants.{Blank, Comment, Lexeme}
+use Rattle.sml_lex.specs.Pieces.{Spells, SpellsFrom, AreInOrder, size_of, tokens_of}
+use Rattle.sml_lex.proofs.Order.{tokens_are_in_order, faults_are_within}
+use Rattle.sml_tree.specs.Trees.{Dec}
+use Rattle.sml_read.specs.declared.read.Cause.{Cause}
+use Rattle.sml_read.specs.declared.read.Cause.TheVariants.{Unexpected, TooEarly, Lexical}
+use Rattle.sml_read.specs.Spelling.{kinds_of}
+use Rattle.sml_read.specs.Answer.{is_done, IsCauseOf}
+use Rattle.sml_parse.specs.declared.item.Item.{Item}
+use Rattle.sml_parse.specs.Places.{place_behind, place_from}
+use Rattle.sml_parse.specs.Items.{start_of, items_of, declarations_of}
+use Rattle.sml_parse.specs.Trees.{dec_of_items, is_low, fault_from, fault_read}
+use Rattle.sml_parse.specs.Within.{Extent, extents_of, IsOfToken, StandInTurn, StandsLast, PlacesAreWithin}
+use Rattle.sml_parse.proofs.TreePlaces.{places_stand}
+use Rattle.sml_parse.proofs.Nonempty.{HasToken, HaveTokens, have_tokens}
+use Rattle.sml_parse.proofs.Extents.{of_token, OwnWords, all_words_stand}
+
+-- tokens and places
+
+no_token : Token
+no_token = record { kind = Comma; span = record { start = 0; «end» = 0 } }
+
+start_is : (tokens : List Token) (index : ℕ) (token : Token) → slice_get tokens index ≡ Some token → start_of tokens index 0 ≡ token.span.start
+start_is tokens index token e = ap (λ (t : Option Token). unwrap_or (option_map (λ token. token.span.start) t) 0) e
+
+-- a byte counted from itself
+same_place : (unit : List ℕ) (at : ℕ) → record { line = 1; column = 1 } ≡ place_from unit at at
+same_place unit at = let e : 0 ≡ at - at = omega arith in ap (λ n. place_behind (take n (drop at unit))) e
+
+module _ (unit : List ℕ) (tokens : List Token) (o : AreInOrder unit 0 tokens) where
+  first_token : (extent : Extent) → HasToken (length tokens) extent → IsOfToken unit tokens extent (record { line = 1; column = 1 })
+  first_token extent h =
+      let a = h.0 in
+      let b = h.1 in
+      let token = get_or tokens extent.first no_token in
+      let e = slice_get-get_or tokens extent.first no_token (omega (arith, a, b)) in
+      of_token unit tokens extent extent.first token _ o e (omega arith) a (same_place unit token.span.start ∙ ap (λ n. place_from unit n token.span.start) (sym (start_is tokens extent.first token e)))
+
+  -- declarations
+
+  in_turn : (extents : List Extent) (pieces : List (List Item)) → HaveTokens (length tokens) extents → OwnWords unit tokens o extents pieces → StandInTurn unit tokens extents (map (dec_of_items unit) pieces)
+  in_turn extents [] t h = tt
+  in_turn [] (piece ∷ pieces) t h = absurd h
+  in_turn (extent ∷ extents) (piece ∷ pieces) t h =
+      let first = first_token extent t.0 in
+      (All-cons (IsOfToken unit tokens extent) _ _ first (places_stand (IsOfToken unit tokens extent) first unit piece h.0), in_turn extents pieces t.1 h.1)
+
+  -- the first of them
+  some_in_turn : (low : Dec Place → Bool) (extents : List Extent) (decs : List (Dec Place)) → StandInTurn unit tokens extents decs → StandInTurn unit tokens extents (take_while low decs)
+  some_in_turn low extents [] h = tt
+  some_in_turn low [] (dec ∷ decs) h = absurd h
+  some_in_turn low (extent ∷ extents) (dec ∷ decs) h =
+      subst (StandInTurn unit tokens (extent ∷ extents)) (sym (take_while-cons low dec decs)) (by_test (low dec) (some_in_turn low extents decs h.1))
+    where
+      by_test : (b : Bool) → StandInTurn unit tokens extents (take_while low decs) → StandInTurn unit tokens (extent ∷ extents) (cond b (dec ∷ take_while low decs) [])
+      by_test true k = (h.0, k)
+      by_test false k = tt
+
+-- the lexical fault stands behind the tokens
+
+stop_on : (unit : List ℕ) (place : ℕ) (pieces : List Piece) (stop : Stop) → SpellsFrom unit place pieces (E.Fault stop) → place ≤ stop.at
+stop_on unit place [] stop s = let e = ap (λ (s : Stop). s.at) s.3 in omega (arith, e)
+stop_on unit place (piece ∷ pieces) stop s = let r = stop_on unit (place + size_of piece) pieces stop s.1 in omega (arith, r)
+
+stop_behind : (unit : List ℕ) (place : ℕ) (pieces : List Piece) (stop : Stop) (index : ℕ) → SpellsFrom unit place pieces (E.Fault stop)
+    → start_of (tokens_of place pieces) index stop.at ≤ stop.at
+stop_behind unit place [] stop index s = omega arith
+stop_behind unit place (Blank ∷ pieces) stop index s = stop_behind unit (place + 1) pieces stop index s.1
+stop_behind unit place (Comment size ∷ pieces) stop index s = stop_behind unit (place + size) pieces stop index s.1
+stop_behind unit place (Lexeme lexeme ∷ pieces) stop zero s = stop_on unit place (Lexeme lexeme ∷ pieces) stop s
+stop_behind unit place (Lexeme lexeme ∷ pieces) stop (suc index) s = stop_behind unit (place + lexeme.size) pieces stop index s.1
+
+behind_tokens : (unit : List ℕ) (tokens : List Token) (stop : Stop) (index : ℕ) → Spells unit tokens (E.Fault stop) → start_of tokens index stop.at ≤ stop.at
+behind_tokens unit tokens stop index (inl s) = subst (λ ts. start_of ts index stop.at ≤ stop.at) (sym s.tokens_are) (stop_behind unit 0 s.pieces stop index s.spelled)
+behind_tokens unit tokens stop index (inr s) = subst (λ ts. start_of ts index stop.at ≤ stop.at) (sym s.none) (omega arith)
+
+-- the last fault
+
+module _ (unit : List ℕ) (tokens : List Token) (o : AreInOrder unit 0 tokens) where
+  at_token : (code : Code) (end : End) (begun index : ℕ) → begun ≤ index → index < length tokens
+      → IfSome (fault_from unit code (start_of tokens begun 0) (start_of tokens index 0)) (StandsLast unit tokens end begun)
+  at_token code end begun index f b =
+      let token = get_or tokens index no_token in
+      let e = slice_get-get_or tokens index no_token b in
+      inr (inl (of_token unit tokens (record { first = begun; behind = length tokens }) index token _ o e f b (ap (place_from unit (start_of tokens begun 0)) (start_is tokens index token e))))
+
+  last_read : (end : End) (begun : ℕ) (cause : Option Cause) → Spells unit tokens end → IsCauseOf (kinds_of tokens) (is_done end) begun cause
+      → IfSome (fault_read unit tokens end begun cause) (StandsLast unit tokens end begun)
+  last_read end begun None s c = tt
+  last_read end begun (Some (Unexpected index)) s c =
+      let n = length-map tokens (λ (t : Token). t.kind) in
+      let b = c.1 in
+      at_token C.S1 end begun index c.0 (omega (arith, n, b))
+  last_read end begun (Some TooEarly) s c =
+      let n = length-map tokens (λ (t : Token). t.kind) in
+      let b = c.1 in
+      at_token C.S2 end begun (length tokens - 1) (omega (arith, n, b)) (omega (arith, n, b))
+  last_read E.Done begun (Some Lexical) s c = tt
+  last_read (E.Fault stop) begun (Some Lexical) s c =
+      inr (inr (record { stop = stop; ended = refl; ahead = behind_tokens unit tokens stop begun s; within = faults_are_within unit tokens stop s; counted = refl }))
+
+few : {A : Type 0} (n : ℕ) (xs : List A) → length (take n xs) ≤ length xs
+few zero xs = omega arith
+few (suc n) [] = omega arith
+few (suc n) (x ∷ xs) = let f = few n xs in omega (arith, f)
+
+pub places_within : PlacesAreWithin
+places_within unit tokens end decs fault s trees =
+    let o = tokens_are_in_order unit tokens end s in
+    let extents = extents_of 0 trees.nodes in
+    let all = declarations_of (items_of unit 0 trees.nodes tokens) in
+    let spelt = map (dec_of_items unit) all in
+    let whole = trees.reading.whole in
+    let kinds = take trees.begun (kinds_of tokens) in
+    let n = length-map tokens (λ (t : Token). t.kind) in
+    let f = few trees.begun (kinds_of tokens) in
+    let have = have_tokens trees.nodes _ 0 (length tokens) kinds _ whole.part whole.outer (omega (arith, n, f)) whole.leads in (
+      subst (StandInTurn unit tokens extents) (sym trees.whole) (some_in_turn unit tokens o is_low extents spelt (in_turn unit tokens o extents all have (all_words_stand unit tokens o trees.nodes))),
+      subst (λ f. IfSome f (StandsLast unit tokens end trees.begun)) (sym trees.ended) (by_test o (list_all is_low spelt)),
+    )
+  where
+    by_test : AreInOrder unit 0 tokens → (b : Bool) → IfSome (if b then fault_read unit tokens end trees.begun trees.cause else Some (record { code = C.S3; place = record { line = 1; column = 1 }; detail = None })) (StandsLast unit tokens end trees.begun)
+    by_test o true = last_read unit tokens o end trees.begun trees.cause s trees.reading.fault
+    by_test o false = inl (refl, refl)

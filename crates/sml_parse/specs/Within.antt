@@ -1,0 +1,95 @@
+-- Where the places of a unit stand: at tokens of their declaration, counted from its first.
+use Rattle.std.specs.Prelude.{◌≡◌, ◌+◌, ◌≤◌, ◌<◌, ◌⊎◌, ℕ, suc, List, [], ◌∷◌, length, Bool, true, false, ◌&&◌, Option, Some, IfSome, slice_get, if◌then◌else◌}
+use Rattle.std.specs.List.{All}
+use Rattle.sml_lex.specs.declared.fault.Code.TheVariants as C
+use Rattle.sml_lex.specs.declared.fault.Place.{Place}
+use Rattle.sml_lex.specs.declared.token.Token.{Token}
+use Rattle.sml_lex.specs.declared.token.Stop.{Stop}
+use Rattle.sml_lex.specs.declared.token.End.{End}
+use Rattle.sml_lex.specs.declared.token.End.TheVariants as E
+use Rattle.sml_lex.specs.Faults.{Fault}
+use Rattle.sml_lex.specs.Pieces.{Spells}
+use Rattle.sml_tree.specs.Trees.{Dec}
+use Rattle.sml_tree.specs.Places.{dec_places}
+use Rattle.sml_read.specs.declared.grammar.Symbol.{Symbol}
+use Rattle.sml_read.specs.declared.grammar.Symbol.TheVariants.{Of}
+use Rattle.sml_read.specs.declared.grammar.Rule.{Rule}
+use Rattle.sml_read.specs.declared.grammar.Node.{Node}
+use Rattle.sml_read.specs.declared.grammar.Node.TheVariants.{Leaf, Inner}
+use Rattle.sml_read.specs.Grammar.{right_side}
+use Rattle.sml_read.specs.Parts.{part_of}
+use Rattle.sml_read.specs.Spelling.{is_outer}
+use Rattle.sml_parse.specs.Places.{place_from}
+use Rattle.sml_parse.specs.Items.{start_of}
+use Rattle.sml_parse.specs.Trees.{Trees}
+
+-- the tokens of a declaration: the number of the first, and that of the one behind the last
+pub record Extent : Type 0 where
+  pub first : ℕ
+  pub behind : ℕ
+
+-- a rule for what is left of a unit stands where the declaration before it has ended
+abbrev pub ends_before : Rule → Bool
+ends_before rule = is_outer (part_of rule)
+
+abbrev pub is_part_first : List Symbol → Bool
+is_part_first (Of p ∷ symbols) = true
+is_part_first symbols = false
+
+-- and where its right side begins with a part, and not with a semicolon, the next one begins
+abbrev pub begins_next : Rule → Bool
+begins_next rule = ends_before rule && is_part_first (right_side rule)
+
+-- how many tokens stand before the first node where a declaration has ended
+abbrev pub tokens_before : List Node → ℕ
+tokens_before [] = 0
+tokens_before (Leaf ∷ nodes) = suc (tokens_before nodes)
+tokens_before (Inner rule ∷ nodes) = if ends_before rule then 0 else tokens_before nodes
+
+-- the extent of each declaration of a derivation, where so many tokens stand before these nodes
+abbrev pub extents_of : ℕ → List Node → List Extent
+extents_of n [] = []
+extents_of n (Leaf ∷ nodes) = extents_of (suc n) nodes
+extents_of n (Inner rule ∷ nodes) = if begins_next rule then record { first = n; behind = n + tokens_before nodes } ∷ extents_of n nodes else extents_of n nodes
+
+-- The place is that of a token of this extent, counted from where its first token begins. It isn't before that.
+pub record IsOfToken (unit : List ℕ) (tokens : List Token) (extent : Extent) (place : Place) : Type 0 where
+  pub index : ℕ
+  pub token : Token
+  pub stands : slice_get tokens index ≡ Some token
+  pub behind_first : extent.first ≤ index
+  pub before_end : index < extent.behind
+  pub ahead : start_of tokens extent.first 0 ≤ token.span.start
+  pub within : token.span.start < length unit
+  pub counted : place ≡ place_from unit (start_of tokens extent.first 0) token.span.start
+
+-- The place is that of the lexical fault, counted from where the token of this number begins, or from itself where
+-- there is none.
+pub record IsOfStop (unit : List ℕ) (tokens : List Token) (end : End) (first : ℕ) (place : Place) : Type 0 where
+  pub stop : Stop
+  pub ended : end ≡ E.Fault stop
+  pub ahead : start_of tokens first stop.at ≤ stop.at
+  pub within : stop.at ≤ length unit
+  pub counted : place ≡ place_from unit (start_of tokens first stop.at) stop.at
+
+-- 1.1 and the places of each tree are those of tokens of its declaration
+abbrev pub StandInTurn : List ℕ → List Token → List Extent → List (Dec Place) → Type 0
+StandInTurn unit tokens extents [] = Unit {0}
+StandInTurn unit tokens [] (dec ∷ decs) = ⊥
+StandInTurn unit tokens (extent ∷ extents) (dec ∷ decs) =
+    All (IsOfToken unit tokens extent) (record { line = 1; column = 1 } ∷ dec_places dec) × StandInTurn unit tokens extents decs
+
+-- The last fault stands at a token of what is left from the token of this number on, or where the tokens end; that of
+-- a tree that is too high stands at 1.1.
+abbrev pub StandsLast : List ℕ → List Token → End → ℕ → Fault Place → Type 0
+StandsLast unit tokens end begun fault =
+    ((fault.code ≡ C.S3) × (fault.place ≡ record { line = 1; column = 1 }))
+    ⊎ IsOfToken unit tokens (record { first = begun; behind = length tokens }) fault.place
+    ⊎ IsOfStop unit tokens end begun fault.place
+
+-- The places of the trees that bytes spell stand in their declarations, and so does the last fault's.
+abbrev pub PlacesAreWithin : Type 0
+PlacesAreWithin =
+    (unit : List ℕ) (tokens : List Token) (end : End) (decs : List (Dec Place)) (fault : Option (Fault Place))
+    → Spells unit tokens end → (trees : Trees unit tokens end decs fault)
+    → StandInTurn unit tokens (extents_of 0 trees.nodes) decs × IfSome fault (StandsLast unit tokens end trees.begun)

@@ -1,0 +1,9 @@
+//! Laws of the replies that a project may be given.
+
+ghost use Rattle.sml_units.specs.Standing.{FaultsStandInTheirDeclarations};
+
+/// The fault of a refused declaration stands at one of its tokens, counted from the first, and the last fault of a unit
+/// at a token of what is left behind the whole declarations, or where the tokens end.
+pub fn faults_stand_in_their_declarations()
+    ensures { FaultsStandInTheirDeclarations }
+{}

@@ -1,0 +1,3 @@
+infix 5 ##
+val y = 1
+ val z = (1, ##)

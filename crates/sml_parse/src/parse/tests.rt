@@ -486,3 +486,65 @@ fn deep_units(rt: HostRuntime) -> Result<(), Fail> {
     assert_eq!(rt; parsed.fault, None);
     Ok(())
 }
+
+/// A unit of this text, of another so many times, and of a third.
+fn between(
+    alloc: Global,
+    first: &[u8],
+    text: &[u8],
+    count: usize,
+    last: &[u8],
+) -> Result<Vec<u8>, Memory> {
+    let mut unit = Vec::from_slice(alloc, first)?;
+    unit.extend_from_slice(&repeated(alloc, text, count)?)?;
+    unit.extend_from_slice(last)?;
+    Ok(unit)
+}
+
+#[test]
+fn long_sequences(rt: HostRuntime) -> Result<(), Fail> {
+    let alloc = rt.alloc();
+    for (text, count, last) in [
+        (b"1+".as_slice(), 500_000, b"1".as_slice()),
+        (b"1::".as_slice(), 300_000, b"nil".as_slice()),
+        (b"f ".as_slice(), 500_000, b"x".as_slice()),
+        (b"(1)::".as_slice(), 200_000, b"nil".as_slice()),
+        (b"fn x=>".as_slice(), 170_000, b"x".as_slice()),
+        (b"if x then y else ".as_slice(), 60_000, b"z".as_slice()),
+    ] {
+        let unit = between(alloc, b"val x = ", text, count, last)?;
+        let parsed = parse(alloc, &lex(alloc, &unit)?)?;
+        assert_eq!(rt; parsed.declarations.len(), 1);
+        assert_eq!(rt; parsed.fault, None);
+    }
+    let unit = between(alloc, b"val x = ", b"1+", 500_000, b"")?;
+    let parsed = parse(alloc, &lex(alloc, &unit)?)?;
+    assert_eq!(rt; parsed.fault, Some(fault_at(&unit, Code::F1, 0, 1_000_007)));
+    let unit = between(alloc, b"val (x", b"::y", 300_000, b" 1 2) = z")?;
+    let parsed = parse(alloc, &lex(alloc, &unit)?)?;
+    assert_eq!(rt; parsed.fault, Some(fault_at(&unit, Code::F4, 0, 5)));
+    Ok(())
+}
+
+#[test]
+fn many_directives(rt: HostRuntime) -> Result<(), Fail> {
+    let alloc = rt.alloc();
+    let unit = between(
+        alloc,
+        b"local ",
+        b"infix 5 a nonfix a ",
+        50_000,
+        b"in val x = a end",
+    )?;
+    let parsed = parse(alloc, &lex(alloc, &unit)?)?;
+    assert_eq!(rt; parsed.declarations.len(), 1);
+    assert_eq!(rt; parsed.fault, None);
+    // as many scopes, in each of which the identifier has a fixity
+    let mut unit = between(alloc, b"val x = ", b"let infix 5 a in ", 40_000, b"1")?;
+    unit.extend_from_slice(&repeated(alloc, b" end", 40_000)?)?;
+    unit.extend_from_slice(b" val a = 1")?;
+    let parsed = parse(alloc, &lex(alloc, &unit)?)?;
+    assert_eq!(rt; parsed.declarations.len(), 2);
+    assert_eq!(rt; parsed.fault, None);
+    Ok(())
+}

@@ -1,5 +1,5 @@
 -- A step over the items of a unit.
-use Rattle.std.proofs.Common.{◌≡◌, ℕ, zero, suc, ◌+◌, ◌-◌, ◌<◌, ◌≤◌, List, [], ◌∷◌, ◌++◌, Option, Some, None, Bool, true, false, map, length, take, drop, get_or, refl, sym, ap, ◌∙◌, subst, arith, append_assoc, append-nil, length-drop, length-append}
+use Rattle.std.proofs.Common.{◌≡◌, ℕ, zero, suc, ◌+◌, ◌-◌, ◌<◌, ◌≤◌, List, [], ◌∷◌, ◌++◌, Option, Some, None, Bool, true, false, map, length, take, drop, get_or, refl, sym, ap, ◌∙◌, arith, append-nil, length-drop}
 use Rattle.std.specs.Prelude.{◌&&◌}
 use Rattle.std.specs.List.{take_while, list_all, before_first}
 use Rattle.std.proofs.Math.ListN.{drop_of_length-le}
@@ -10,8 +10,6 @@ use Rattle.std.proofs.lemmas.Bool.{cond-true, cond-false, and_parts, leb-true, l
 use Rattle.sml_lex.proofs.Reading.{false_is_true}
 use Rattle.sml_lex.specs.declared.fault.Place.{Place}
 use Rattle.sml_tree.specs.Trees.{Dec}
-use Rattle.sml_tree.specs.Views.{dec_of}
-use Rattle.sml_tree.specs.declared.bare.BareDec.{BareDec}
 use Rattle.sml_parse.specs.declared.item.Item.{Item}
 use Rattle.sml_parse.specs.Items.{begins, ends}
 use Rattle.sml_parse.specs.Trees.{dec_of_items, decs_of_items, is_low, up_to, is_full}

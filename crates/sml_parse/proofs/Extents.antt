@@ -1,5 +1,5 @@
 -- The tokens among a declaration's items are those of its extent.
-use Rattle.std.proofs.Common.{◌≡◌, ℕ, zero, suc, ◌+◌, ◌<◌, ◌≤◌, List, [], ◌∷◌, Bool, true, false, Option, Some, None, length, not, refl, sym, ap, ◌∙◌, subst, arith}
+use Rattle.std.proofs.Common.{◌≡◌, ℕ, zero, suc, ◌+◌, ◌<◌, ◌≤◌, List, [], ◌∷◌, ◌++◌, Bool, true, false, Option, Some, None, length, not, refl, sym, ap, ◌∙◌, subst, arith}
 use Rattle.std.specs.Prelude.{slice_get, unwrap_or, if◌then◌else◌}
 use Rattle.std.specs.Option.{option_map}
 use Rattle.std.specs.List.{before_first, cons_option}
@@ -8,9 +8,14 @@ use Rattle.std.proofs.lemmas.Bool.{cond-true, cond-false, false≢true}
 use Rattle.sml_lex.specs.declared.fault.Place.{Place}
 use Rattle.sml_lex.specs.declared.token.Token.{Token}
 use Rattle.sml_lex.specs.Pieces.{AreInOrder}
+use Rattle.sml_lex.specs.declared.token.Kind.{Kind}
+use Rattle.sml_read.specs.declared.grammar.Symbol.{Symbol}
+use Rattle.sml_read.specs.declared.grammar.Symbol.TheVariants.{Word, Of}
 use Rattle.sml_read.specs.declared.grammar.Node.{Node}
 use Rattle.sml_read.specs.declared.grammar.Node.TheVariants.{Leaf, Inner}
 use Rattle.sml_read.specs.declared.grammar.Rule.{Rule}
+use Rattle.sml_read.specs.Grammar.{right_side}
+use Rattle.sml_read.specs.Spelling.{Leads}
 use Rattle.sml_read.proofs.Tables.{each_rule}
 use Rattle.sml_parse.specs.declared.form.Meaning.{Meaning}
 use Rattle.sml_parse.specs.declared.form.Meaning.TheVariants as M
@@ -23,10 +28,10 @@ use Rattle.sml_parse.specs.Items.{start_of, word_of, names_value, item_of, begin
 use Rattle.sml_parse.specs.Within.{Extent, ends_before, begins_next, tokens_before, extents_of, IsOfToken}
 use Rattle.sml_parse.proofs.TreePlaces.{EachWord}
 
-some_same : {A : Type 0} {x y : A} → Some x ≡ Some y → x ≡ y
+pub some_same : {A : Type 0} {x y : A} → Some x ≡ Some y → x ≡ y
 some_same e = cc
 
-none_some : {A : Type 0} {x : A} → None ≡ Some x → ⊥
+pub none_some : {A : Type 0} {x : A} → None ≡ Some x → ⊥
 none_some e = cc
 
 -- tokens in order
@@ -193,3 +198,34 @@ module _ (unit : List ℕ) (tokens : List Token) (o : AreInOrder unit 0 tokens) 
 
   pub all_words_stand : (nodes : List Node) → OwnWords (extents_of 0 nodes) (declarations_of (items_of unit 0 nodes tokens))
   all_words_stand nodes = words_stand 0 nodes 0 tokens (λ i. ap (slice_get tokens) (omega arith))
+
+-- there are as many extents as declarations
+module _ (unit : List ℕ) where
+  pub as_many : (start : ℕ) (nodes : List Node) (n : ℕ) (left : List Token) (old : List Symbol) (kinds : List Kind) (next : Option Kind) (now : List Symbol) → length kinds ≤ length left → Leads nodes old kinds next now
+      → length (declarations_of (items_of unit start nodes left)) ≡ length (extents_of n nodes)
+  as_many start [] n left old kinds next now b h = refl
+  as_many start (Leaf ∷ nodes) n left [] kinds next now b h = absurd h
+  as_many start (Leaf ∷ nodes) n left (Of p ∷ old) kinds next now b h = absurd h
+  as_many start (Leaf ∷ nodes) n left (Word k ∷ old) [] next now b h = absurd h
+  as_many start (Leaf ∷ nodes) n [] (Word k ∷ old) (x ∷ kinds) next now b h = absurd (omega (arith, b))
+  as_many start (Leaf ∷ nodes) n (t ∷ ts) (Word k ∷ old) (x ∷ kinds) next now b h = as_many start nodes (suc n) ts old kinds next now (omega (arith, b)) h.1
+  as_many start (Inner rule ∷ nodes) n left [] kinds next now b h = absurd h
+  as_many start (Inner rule ∷ nodes) n left (Word k ∷ old) kinds next now b h = absurd h
+  as_many start (Inner rule ∷ nodes) n left (Of p ∷ old) kinds next now b h =
+      subst (λ (c : Bool). length (declarations_of (items_of unit start (Inner rule ∷ nodes) left)) ≡ length (if c then record { first = n; behind = n + tokens_before nodes } ∷ extents_of n nodes else extents_of n nodes)) (begins_so rule)
+      (by_meaning (meaning_of rule) (λ start. as_many start nodes n left (right_side rule ++ old) kinds next now b h.2))
+    where
+      by_name : (c : Bool) → length (declarations_of (items_of unit start nodes left)) ≡ length (extents_of n nodes)
+          → length (declarations_of (cons_option (if c then None else Some (I.Mark K.Outside)) (items_of unit start nodes left))) ≡ length (extents_of n nodes)
+      by_name true h = h
+      by_name false h = h
+
+      by_meaning : (m : Meaning) → ((start : ℕ) → length (declarations_of (items_of unit start nodes left)) ≡ length (extents_of n nodes))
+          → length (declarations_of (cons_option (item_of unit m (slice_get left 0)) (items_of unit (if begins_behind m then start_of left 0 0 else start) nodes left)))
+          ≡ length (if begins_behind m then record { first = n; behind = n + tokens_before nodes } ∷ extents_of n nodes else extents_of n nodes)
+      by_meaning M.Passed h = h start
+      by_meaning M.Named h = by_name (names_value unit (slice_get left 0)) (h start)
+      by_meaning (M.Made form) h = h start
+      by_meaning M.Outside h = h start
+      by_meaning M.Begins h = ap suc (h (start_of left 0 0))
+      by_meaning M.Ends h = h start

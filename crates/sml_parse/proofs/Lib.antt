@@ -12,4 +12,7 @@ mod Reaching
 pub mod TreePlaces
 pub mod Extents
 pub mod Nonempty
+mod FoundsWithin
+mod EventsWithin
+mod MisfitsWithin
 pub mod PlacesWithin

@@ -18,13 +18,13 @@ use Rattle.sml_parse.specs.Within.{Extent, ends_before, begins_next, tokens_befo
 
 -- the table
 
-abbrev all_inner : List Symbol → Bool
+abbrev pub all_inner : List Symbol → Bool
 all_inner [] = true
 all_inner (Word k ∷ ss) = all_inner ss
 all_inner (Of p ∷ ss) = not (is_outer p) && all_inner ss
 
 -- within a declaration no rest of a unit stands
-inner_so : (r : Rule) → not (is_outer (part_of r)) ≡ true → all_inner (right_side r) ≡ true
+pub inner_so : (r : Rule) → not (is_outer (part_of r)) ≡ true → all_inner (right_side r) ≡ true
 inner_so r = implied _ _ (each_rule (λ r. implies (not (is_outer (part_of r))) (all_inner (right_side r))) refl r)
 
 -- a declaration isn't nothing
@@ -37,27 +37,27 @@ opens_so r = implied _ _ (each_rule (λ r. implies (begins_next r) (opens (right
 
 -- tokens before the declaration's end
 
-not_both : (b : Bool) → not b ≡ true → b ≡ true → ⊥
+pub not_both : (b : Bool) → not b ≡ true → b ≡ true → ⊥
 not_both true h g = false≢true h
 not_both false h g = false≢true g
 
-when_not : (b : Bool) → not b ≡ true → b ≡ false
+pub when_not : (b : Bool) → not b ≡ true → b ≡ false
 when_not true h = absurd (false≢true h)
 when_not false h = refl
 
-inner_append : (a b : List Symbol) → all_inner a ≡ true → all_inner b ≡ true → all_inner (a ++ b) ≡ true
+pub inner_append : (a b : List Symbol) → all_inner a ≡ true → all_inner b ≡ true → all_inner (a ++ b) ≡ true
 inner_append [] b h k = k
 inner_append (Word w ∷ a) b h k = inner_append a b h k
 inner_append (Of p ∷ a) b h k = let both = and_parts _ _ h in and_from _ _ both.0 (inner_append a b both.1 k)
 
-word_alone : {k : Kind} {p : Part} {ss : List Symbol} → Word k ∷ ss ≡ Of p ∷ [] → ⊥
+pub word_alone : {k : Kind} {p : Part} {ss : List Symbol} → Word k ∷ ss ≡ Of p ∷ [] → ⊥
 word_alone e = cc
 
-part_alone : {p q : Part} {ss : List Symbol} → Of p ∷ ss ≡ Of q ∷ [] → p ≡ q
+pub part_alone : {p q : Part} {ss : List Symbol} → Of p ∷ ss ≡ Of q ∷ [] → p ≡ q
 part_alone e = cc
 
 -- the parts of a declaration that isn't nothing are spelt by some token
-some_token : (nodes : List Node) (a ss : List Symbol) (tokens : List Kind) (next : Option Kind) (rest : Part) → all_inner a ≡ true → (all_empty a ≡ true → ⊥) → is_outer rest ≡ true
+pub some_token : (nodes : List Node) (a ss : List Symbol) (tokens : List Kind) (next : Option Kind) (rest : Part) → all_inner a ≡ true → (all_empty a ≡ true → ⊥) → is_outer rest ≡ true
     → Leads nodes (a ++ ss) tokens next (Of rest ∷ []) → 0 < tokens_before nodes
 some_token nodes [] ss tokens next rest i n o h = absurd (n refl)
 some_token [] (Word k ∷ a) ss [] next rest i n o h = absurd (word_alone h)
@@ -73,7 +73,7 @@ some_token (Inner r ∷ nodes) (Of p ∷ a) ss tokens next rest i n o h =
     (subst (λ x. Leads nodes x tokens next (Of rest ∷ [])) (sym (append_assoc (right_side r) a ss)) h.2))
 
 -- they are among the tokens spelt
-few_tokens : (nodes : List Node) (old : List Symbol) (tokens : List Kind) (next : Option Kind) (now : List Symbol) → Leads nodes old tokens next now → tokens_before nodes ≤ length tokens
+pub few_tokens : (nodes : List Node) (old : List Symbol) (tokens : List Kind) (next : Option Kind) (now : List Symbol) → Leads nodes old tokens next now → tokens_before nodes ≤ length tokens
 few_tokens [] old tokens next now h = omega arith
 few_tokens (Leaf ∷ nodes) [] tokens next now h = absurd h
 few_tokens (Leaf ∷ nodes) (Word k ∷ old) [] next now h = absurd h

@@ -3,10 +3,11 @@ use Rattle.std.proofs.Common.{◌≡◌, ℕ, zero, suc, ◌+◌, ◌-◌, ◌<�
 use Rattle.std.specs.Prelude.{slice_get, unwrap_or, IfSome, if◌then◌else◌}
 use Rattle.std.specs.Option.{option_map}
 use Rattle.std.specs.List.{list_all, take_while}
-use Rattle.std.proofs.lemmas.List.{length-map}
+use Rattle.std.proofs.lemmas.Bool.{cond-true, and_parts}
+use Rattle.std.proofs.lemmas.List.{length-map, length-take-le}
 use Rattle.std.proofs.lemmas.List.Elements.{All-cons}
 use Rattle.std.proofs.lemmas.List.Sums.{take_while-cons}
-use Rattle.std.proofs.lemmas.Option.{slice_get-get_or}
+use Rattle.std.proofs.lemmas.Option.{slice_get-get_or, slice_get_within}
 use Rattle.sml_lex.specs.declared.fault.Code.{Code}
 use Rattle.sml_lex.specs.declared.fault.Code.TheVariants as C
 use Rattle.sml_lex.specs.declared.fault.Place.{Place}
@@ -20,6 +21,7 @@ use Rattle.sml_lex.specs.declared.pieces.Piece.TheVariants.{Blank, Comment, Lexe
 use Rattle.sml_lex.specs.Pieces.{Spells, SpellsFrom, AreInOrder, size_of, tokens_of}
 use Rattle.sml_lex.proofs.Order.{tokens_are_in_order, faults_are_within}
 use Rattle.sml_tree.specs.Trees.{Dec}
+use Rattle.sml_read.specs.declared.grammar.Node.{Node}
 use Rattle.sml_read.specs.declared.read.Cause.{Cause}
 use Rattle.sml_read.specs.declared.read.Cause.TheVariants.{Unexpected, TooEarly, Lexical}
 use Rattle.sml_read.specs.Spelling.{kinds_of}
@@ -27,11 +29,13 @@ use Rattle.sml_read.specs.Answer.{is_done, IsCauseOf}
 use Rattle.sml_parse.specs.declared.item.Item.{Item}
 use Rattle.sml_parse.specs.Places.{place_behind, place_from}
 use Rattle.sml_parse.specs.Items.{start_of, items_of, declarations_of}
-use Rattle.sml_parse.specs.Trees.{dec_of_items, is_low, fault_from, fault_read}
+use Rattle.sml_parse.specs.declared.reach.Misfit.{Misfit}
+use Rattle.sml_parse.specs.Trees.{dec_of_items, spelt, is_low, fault_from, fault_read, up_to, before_misfit, fault_behind}
 use Rattle.sml_parse.specs.Within.{Extent, extents_of, IsOfToken, StandInTurn, StandsLast, PlacesAreWithin}
 use Rattle.sml_parse.proofs.TreePlaces.{places_stand}
 use Rattle.sml_parse.proofs.Nonempty.{HasToken, HaveTokens, have_tokens}
-use Rattle.sml_parse.proofs.Extents.{of_token, OwnWords, all_words_stand}
+use Rattle.sml_parse.proofs.Extents.{some_same, none_some, of_token, OwnWords, all_words_stand, as_many}
+use Rattle.sml_parse.proofs.MisfitsWithin.{IsPlaced, misfit_placed}
 
 -- tokens and places
 
@@ -74,6 +78,17 @@ module _ (unit : List ℕ) (tokens : List Token) (o : AreInOrder unit 0 tokens) 
       by_test true k = (h.0, k)
       by_test false k = tt
 
+  -- and so many of them at most
+  most_in_turn : (most : Option ℕ) (extents : List Extent) (decs : List (Dec Place)) → StandInTurn unit tokens extents decs → StandInTurn unit tokens extents (up_to most decs)
+  most_in_turn None extents decs h = h
+  most_in_turn (Some most) extents decs h = taken most extents decs h
+    where
+      taken : (most : ℕ) (extents : List Extent) (decs : List (Dec Place)) → StandInTurn unit tokens extents decs → StandInTurn unit tokens extents (take most decs)
+      taken zero extents decs h = tt
+      taken (suc most) extents [] h = tt
+      taken (suc most) [] (dec ∷ decs) h = absurd h
+      taken (suc most) (extent ∷ extents) (dec ∷ decs) h = (h.0, taken most extents decs h.1)
+
 -- the lexical fault stands behind the tokens
 
 stop_on : (unit : List ℕ) (place : ℕ) (pieces : List Piece) (stop : Stop) → SpellsFrom unit place pieces (E.Fault stop) → place ≤ stop.at
@@ -94,16 +109,22 @@ behind_tokens unit tokens stop index (inr s) = subst (λ ts. start_of ts index s
 
 -- the last fault
 
-module _ (unit : List ℕ) (tokens : List Token) (o : AreInOrder unit 0 tokens) where
+-- an extent among these has a token
+have_at : (most : ℕ) (extents : List Extent) (i : ℕ) (extent : Extent) → HaveTokens most extents → slice_get extents i ≡ Some extent → HasToken most extent
+have_at most [] i extent h e = absurd (none_some e)
+have_at most (x ∷ extents) zero extent h e = subst (HasToken most) (some_same e) h.0
+have_at most (x ∷ extents) (suc i) extent h e = have_at most extents i extent h.1 e
+
+module _ (unit : List ℕ) (tokens : List Token) (o : AreInOrder unit 0 tokens) (nodes : List Node) (before : ℕ) where
   at_token : (code : Code) (end : End) (begun index : ℕ) → begun ≤ index → index < length tokens
-      → IfSome (fault_from unit code (start_of tokens begun 0) (start_of tokens index 0)) (StandsLast unit tokens end begun)
+      → IfSome (fault_from unit code (start_of tokens begun 0) (start_of tokens index 0)) (StandsLast unit tokens end nodes begun before)
   at_token code end begun index f b =
       let token = get_or tokens index no_token in
       let e = slice_get-get_or tokens index no_token b in
       inr (inl (of_token unit tokens (record { first = begun; behind = length tokens }) index token _ o e f b (ap (place_from unit (start_of tokens begun 0)) (start_is tokens index token e))))
 
   last_read : (end : End) (begun : ℕ) (cause : Option Cause) → Spells unit tokens end → IsCauseOf (kinds_of tokens) (is_done end) begun cause
-      → IfSome (fault_read unit tokens end begun cause) (StandsLast unit tokens end begun)
+      → IfSome (fault_read unit tokens end begun cause) (StandsLast unit tokens end nodes begun before)
   last_read end begun None s c = tt
   last_read end begun (Some (Unexpected index)) s c =
       let n = length-map tokens (λ (t : Token). t.kind) in
@@ -115,12 +136,45 @@ module _ (unit : List ℕ) (tokens : List Token) (o : AreInOrder unit 0 tokens) 
       at_token C.S2 end begun (length tokens - 1) (omega (arith, n, b)) (omega (arith, n, b))
   last_read E.Done begun (Some Lexical) s c = tt
   last_read (E.Fault stop) begun (Some Lexical) s c =
-      inr (inr (record { stop = stop; ended = refl; ahead = behind_tokens unit tokens stop begun s; within = faults_are_within unit tokens stop s; counted = refl }))
+      inr (inr (inl (record { stop = stop; ended = refl; ahead = behind_tokens unit tokens stop begun s; within = faults_are_within unit tokens stop s; counted = refl })))
+
+  -- that of fixity
+  misfit_stands : (m : Misfit) (end : End) (begun : ℕ) → HaveTokens (length tokens) (extents_of 0 nodes) → IsPlaced (extents_of 0 nodes) m → before ≡ m.number - 1
+      → IfSome (fault_from unit m.code (start_of tokens m.begun 0) (start_of tokens m.token 0)) (StandsLast unit tokens end nodes begun before)
+  misfit_stands m end begun have x n =
+      let extent = x.0 in
+      let f = x.4.0 in
+      let b = x.4.1 in
+      let most = (have_at (length tokens) (extents_of 0 nodes) (m.number - 1) extent have x.1).1 in
+      let token = get_or tokens m.token no_token in
+      let e = slice_get-get_or tokens m.token no_token (omega (arith, b, most)) in
+      let counted = ap (λ k. place_from unit (start_of tokens k 0) (start_of tokens m.token 0)) x.3 ∙ ap (place_from unit (start_of tokens extent.first 0)) (start_is tokens m.token token e) in
+      inr (inr (inr (extent, ap (slice_get (extents_of 0 nodes)) n ∙ x.1, of_token unit tokens extent m.token token _ o e f b counted)))
+
+  last_stands : (misfit : Option Misfit) (end : End) (begun : ℕ) (cause : Option Cause) → Spells unit tokens end → IsCauseOf (kinds_of tokens) (is_done end) begun cause
+      → HaveTokens (length tokens) (extents_of 0 nodes) → IfSome misfit (IsPlaced (extents_of 0 nodes)) → IfSome misfit (λ m. before ≡ m.number - 1)
+      → IfSome (fault_behind unit tokens end begun cause misfit) (StandsLast unit tokens end nodes begun before)
+  last_stands None end begun cause s c have x n = last_read end begun cause s c
+  last_stands (Some m) end begun cause s c have x n = misfit_stands m end begun have x n
 
 few : {A : Type 0} (n : ℕ) (xs : List A) → length (take n xs) ≤ length xs
 few zero xs = omega arith
 few (suc n) [] = omega arith
 few (suc n) (x ∷ xs) = let f = few n xs in omega (arith, f)
+
+all_taken : {A : Type 0} (p : A → Bool) (xs : List A) → list_all p xs ≡ true → take_while p xs ≡ xs
+all_taken p [] h = refl
+all_taken p (x ∷ xs) h =
+    let both = and_parts _ _ h in
+    take_while-cons p x xs ∙ cond-true _ _ _ both.0 ∙ ap (λ ys. x ∷ ys) (all_taken p xs both.1)
+
+-- so many declarations stand before the one with a fault of fixity, where they are all low
+before_it : {A : Type 0} (p : A → Bool) (misfit : Option Misfit) (extents : List Extent) (spelt : List A) → length spelt ≡ length extents → IfSome misfit (IsPlaced extents) → list_all p (up_to (before_misfit misfit) spelt) ≡ true
+    → IfSome misfit (λ m. length (take_while p (up_to (before_misfit misfit) spelt)) ≡ m.number - 1)
+before_it p None extents spelt n x h = tt
+before_it p (Some m) extents spelt n x h =
+    let b = slice_get_within extents (m.number - 1) x.0 x.1 in
+    ap length (all_taken p (take (m.number - 1) spelt) h) ∙ length-take-le (m.number - 1) spelt (omega (arith, b, n))
 
 pub places_within : PlacesAreWithin
 places_within unit tokens end decs fault s trees =
@@ -128,15 +182,25 @@ places_within unit tokens end decs fault s trees =
     let extents = extents_of 0 trees.nodes in
     let all = declarations_of (items_of unit 0 trees.nodes tokens) in
     let spelt = map (dec_of_items unit) all in
+    let low = up_to (before_misfit trees.misfit) spelt in
     let whole = trees.reading.whole in
     let kinds = take trees.begun (kinds_of tokens) in
     let n = length-map tokens (λ (t : Token). t.kind) in
     let f = few trees.begun (kinds_of tokens) in
-    let have = have_tokens trees.nodes _ 0 (length tokens) kinds _ whole.part whole.outer (omega (arith, n, f)) whole.leads in (
-      subst (StandInTurn unit tokens extents) (sym trees.whole) (some_in_turn unit tokens o is_low extents spelt (in_turn unit tokens o extents all have (all_words_stand unit tokens o trees.nodes))),
-      subst (λ f. IfSome f (StandsLast unit tokens end trees.begun)) (sym trees.ended) (by_test o (list_all is_low spelt)),
+    let have = have_tokens trees.nodes _ 0 (length tokens) kinds _ whole.part whole.outer (omega (arith, n, f)) whole.leads in
+    let many = length-map all (dec_of_items unit) ∙ as_many unit 0 trees.nodes 0 tokens _ kinds _ _ (omega (arith, n, f)) whole.leads in
+    let placed = misfit_placed unit tokens trees.nodes kinds _ whole.part trees.misfit whole.outer whole.leads trees.fits in (
+      subst (StandInTurn unit tokens extents) (sym trees.whole) (some_in_turn unit tokens o is_low extents low (most_in_turn unit tokens o (before_misfit trees.misfit) extents spelt (in_turn unit tokens o extents all have (all_words_stand unit tokens o trees.nodes)))),
+      subst (λ f. IfSome f (StandsLast unit tokens end trees.nodes trees.begun (length decs))) (sym trees.ended) (by_test o have placed (λ h. before_it is_low trees.misfit extents spelt many placed h) (list_all is_low low) refl),
     )
   where
-    by_test : AreInOrder unit 0 tokens → (b : Bool) → IfSome (if b then fault_read unit tokens end trees.begun trees.cause else Some (record { code = C.S3; place = record { line = 1; column = 1 }; detail = None })) (StandsLast unit tokens end trees.begun)
-    by_test o true = last_read unit tokens o end trees.begun trees.cause s trees.reading.fault
-    by_test o false = inl (refl, refl)
+    until_misfit : List (Dec Place)
+    until_misfit = up_to (before_misfit trees.misfit) (spelt unit trees.nodes tokens)
+
+    by_test : AreInOrder unit 0 tokens → HaveTokens (length tokens) (extents_of 0 trees.nodes) → IfSome trees.misfit (IsPlaced (extents_of 0 trees.nodes))
+        → (list_all is_low until_misfit ≡ true → IfSome trees.misfit (λ m. length (take_while is_low until_misfit) ≡ m.number - 1)) → (b : Bool) → list_all is_low until_misfit ≡ b
+        → IfSome (if b then fault_behind unit tokens end trees.begun trees.cause trees.misfit else Some (record { code = C.S3; place = record { line = 1; column = 1 }; detail = None })) (StandsLast unit tokens end trees.nodes trees.begun (length decs))
+    by_test o have placed n true q =
+        last_stands unit tokens o trees.nodes (length decs) trees.misfit end trees.begun trees.cause s trees.reading.fault have placed
+        (subst (λ (ds : List (Dec Place)). IfSome trees.misfit (λ m. length ds ≡ m.number - 1)) (sym trees.whole) (n q))
+    by_test o have placed n false q = inl (refl, refl)

@@ -79,17 +79,22 @@ StandInTurn unit tokens [] (dec ∷ decs) = ⊥
 StandInTurn unit tokens (extent ∷ extents) (dec ∷ decs) =
     All (IsOfToken unit tokens extent) (record { line = 1; column = 1 } ∷ dec_places dec) × StandInTurn unit tokens extents decs
 
--- The last fault stands at a token of what is left from the token of this number on, or where the tokens end; that of
--- a tree that is too high stands at 1.1.
-abbrev pub StandsLast : List ℕ → List Token → End → ℕ → Fault Place → Type 0
-StandsLast unit tokens end begun fault =
+-- the place is that of a token of the declaration that has so many before it
+abbrev pub IsOfDeclaration : List ℕ → List Token → List Extent → ℕ → Place → Type 0
+IsOfDeclaration unit tokens extents before place = (extent : Extent) × (slice_get extents before ≡ Some extent) × IsOfToken unit tokens extent place
+
+-- The last fault stands at a token of the declaration that has so many before it, at one of what is left from the
+-- token of this number on, or where the tokens end; that of a tree that is too high stands at 1.1.
+abbrev pub StandsLast : List ℕ → List Token → End → List Node → ℕ → ℕ → Fault Place → Type 0
+StandsLast unit tokens end nodes begun before fault =
     ((fault.code ≡ C.S3) × (fault.place ≡ record { line = 1; column = 1 }))
     ⊎ IsOfToken unit tokens (record { first = begun; behind = length tokens }) fault.place
     ⊎ IsOfStop unit tokens end begun fault.place
+    ⊎ IsOfDeclaration unit tokens (extents_of 0 nodes) before fault.place
 
 -- The places of the trees that bytes spell stand in their declarations, and so does the last fault's.
 abbrev pub PlacesAreWithin : Type 0
 PlacesAreWithin =
     (unit : List ℕ) (tokens : List Token) (end : End) (decs : List (Dec Place)) (fault : Option (Fault Place))
     → Spells unit tokens end → (trees : Trees unit tokens end decs fault)
-    → StandInTurn unit tokens (extents_of 0 trees.nodes) decs × IfSome fault (StandsLast unit tokens end trees.begun)
+    → StandInTurn unit tokens (extents_of 0 trees.nodes) decs × IfSome fault (StandsLast unit tokens end trees.nodes trees.begun (length decs))

@@ -8,8 +8,8 @@ pub fn each_is_made()
 {}
 
 /// 1.1 and the places of the trees that bytes spell are those of tokens of their declarations, counted from the first.
-/// The last fault stands at a token of what is left behind them, or where the tokens end; that of a tree that is too
-/// high at 1.1.
+/// The last fault stands at a token of the declaration behind them, at one of what is left behind all declarations, or
+/// where the tokens end; that of a tree that is too high at 1.1.
 pub fn places_are_within()
     ensures { PlacesAreWithin }
 {}

@@ -2,4 +2,10 @@
 #![tactic(auto)]
 
 pub mod bare;
+pub mod expressions;
 pub mod height;
+pub mod names;
+pub mod patterns;
+pub mod signatures;
+pub mod structures;
+pub mod types;

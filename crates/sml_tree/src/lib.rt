@@ -4,6 +4,7 @@
 pub mod bare;
 pub mod expressions;
 pub mod height;
+pub mod heights;
 pub mod names;
 pub mod patterns;
 pub mod signatures;

@@ -1,0 +1,4 @@
+pub mod Words
+pub mod Derived
+pub mod Laws
+pub mod Views

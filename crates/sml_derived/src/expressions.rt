@@ -33,7 +33,12 @@ pub(crate) fn one_rule(alloc: Global, place: Place, pat: Pat, exp: Exp) -> Resul
     Ok(rules)
 }
 
-pub(crate) fn application(alloc: Global, place: Place, function: Exp, argument: Exp) -> Result<Exp, Memory>
+pub(crate) fn application(
+    alloc: Global,
+    place: Place,
+    function: Exp,
+    argument: Exp,
+) -> Result<Exp, Memory>
     ensures { IfOk result (λ exp. exp_of exp ≡ apply place (exp_of function) (exp_of argument)) }
 {
     let function = Box::new(alloc, function)?;
@@ -93,8 +98,16 @@ impl Expander {
         let truth = pat_var(self.alloc, place, &self.truth)?;
         let falsity = pat_var(self.alloc, place, &self.falsity)?;
         let mut rules = Vec::new(self.alloc);
-        rules.push(Rule { place, pat: truth, exp: yes })?;
-        rules.push(Rule { place, pat: falsity, exp: no })?;
+        rules.push(Rule {
+            place,
+            pat: truth,
+            exp: yes,
+        })?;
+        rules.push(Rule {
+            place,
+            pat: falsity,
+            exp: no,
+        })?;
         self.case(place, test, rules)
     }
 

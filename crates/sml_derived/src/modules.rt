@@ -49,6 +49,13 @@ fn type_spec(alloc: Global, place: Place, bind: TypBind) -> Result<Spec, Memory>
     Ok(Spec::Include(place, SigExp::WhereType(place, signature, equation)))
 }
 
+/// A signature identifier behind `include`.
+fn include(place: Place, signature: Name) -> Spec
+    ensures { spec_of result ≡ include_of place (name_of signature) }
+{
+    Spec::Include(place, SigExp::Identifier(signature.place, signature.ident))
+}
+
 impl Expander {
     /// `structure A : S = e`, also with `:>`.
     pub fn structure(
@@ -158,7 +165,7 @@ impl Expander {
     {
         let mut specs = Vec::new(self.alloc);
         for name in signatures {
-            specs.push(Spec::Include(place, SigExp::Identifier(name.place, name.ident)))?;
+            specs.push(include(place, name))?;
         }
         Ok(specs)
     }

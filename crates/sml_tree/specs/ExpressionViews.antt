@@ -78,6 +78,7 @@ dec_layer (O.Datatype p bs) = E.datatype_dec p (map dat_bind_of bs.items)
 dec_layer (O.Replication p t u) = E.datatype_copy p (name_of t) (long_name_of u)
 dec_layer (O.Exception p bs) = E.exception_dec p (map exn_bind_of bs.items)
 dec_layer (O.Local p ds es) = E.local_dec p (decs_of ds.items) (decs_of es.items)
+dec_layer (O.Sequence p ds) = E.sequence_dec p (decs_of ds.items)
 dec_layer (O.Open p ss) = E.open_dec p (map long_name_of ss.items)
 dec_layer (O.Fixity p) = E.fixity_dec p
 

@@ -66,6 +66,8 @@ mutual
     datatype_copy : P → Name P → LongName P → Dec P
     exception_dec : P → List (ExnBind P) → Dec P
     local_dec : P → Decs P → Decs P → Dec P
+    -- declarations one after the other
+    sequence_dec : P → Decs P → Dec P
     open_dec : P → List (LongName P) → Dec P
     -- a directive of fixity, which binds nothing
     fixity_dec : P → Dec P

@@ -34,6 +34,7 @@ ty_layer (O.Variable p v) = T.ty_variable p (ident_of v)
 ty_layer (O.Row p fs) = T.ty_row p (ty_fields_of fs.items)
 ty_layer (O.Tuple p ts) = T.ty_tuple p (tys_of ts.items)
 ty_layer (O.Constructor p ts c) = T.ty_constructor p (tys_of ts.items) (long_name_of c)
+ty_layer (O.Misapplied p ts c) = T.ty_misapplied p (tys_of ts.items) (long_name_of c)
 ty_layer (O.Arrow p t u) = T.ty_arrow p t.value u.value
 ty_layer (O.Bracket p t) = T.ty_bracket p t.value
 

@@ -10,6 +10,8 @@ mutual
     ty_tuple : P → Tys P → Ty P
     -- a type constructor behind its arguments
     ty_constructor : P → Tys P → LongName P → Ty P
+    -- a type constructor that is bound behind `withtype`, with another number of arguments than it has there
+    ty_misapplied : P → Tys P → LongName P → Ty P
     ty_arrow : P → Ty P → Ty P → Ty P
     ty_bracket : P → Ty P → Ty P
 

@@ -54,6 +54,8 @@ pub enum Dec {
     Replication(Place, Name, LongIdent),
     Exception(Place, Vec<ExnBind>),
     Local(Place, Vec<Dec>, Vec<Dec>),
+    /// Declarations one after the other.
+    Sequence(Place, Vec<Dec>),
     Open(Place, Vec<LongIdent>),
     /// A directive of fixity, which binds nothing.
     Fixity(Place),

@@ -24,6 +24,7 @@ fn height_of_ty(ty: &Ty) -> u32
         Ty::Row(_, fields) => height_of_ty_fields(fields).saturating_add(1),
         Ty::Tuple(_, tys) => height_of_tys(tys).saturating_add(1),
         Ty::Constructor(_, tys, _) => height_of_tys(tys).saturating_add(1),
+        Ty::Misapplied(_, tys, _) => height_of_tys(tys).saturating_add(1),
         Ty::Arrow(_, from, to) => height_of_ty(from).max(height_of_ty(to)).saturating_add(1),
         Ty::Bracket(_, ty) => height_of_ty(ty).saturating_add(1),
     }
@@ -224,6 +225,7 @@ fn height_of_dec(dec: &Dec) -> u32
             .saturating_add(1),
         Dec::Type(_, binds) => height_of_typ_binds(binds).saturating_add(1),
         Dec::Datatype(_, binds) => height_of_dat_binds(binds).saturating_add(1),
+        Dec::Sequence(_, decs) => height_of_decs(decs),
         Dec::Replication(_, _, _) | Dec::Open(_, _) | Dec::Fixity(_) => 1,
         Dec::Exception(_, binds) => height_of_exn_binds(binds).saturating_add(1),
         Dec::Local(_, hidden, decs) => height_of_decs(hidden)

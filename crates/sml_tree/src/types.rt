@@ -14,6 +14,8 @@ pub enum Ty {
     Tuple(Place, Vec<Ty>),
     /// A type constructor behind its arguments.
     Constructor(Place, Vec<Ty>, LongIdent),
+    /// A type constructor that is bound behind `withtype`, with another number of arguments than it has there.
+    Misapplied(Place, Vec<Ty>, LongIdent),
     Arrow(Place, Box<Ty>, Box<Ty>),
     Bracket(Place, Box<Ty>),
 }

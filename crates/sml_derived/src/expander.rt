@@ -1,6 +1,6 @@
 //! What derived forms are made with: the identifiers that they write.
 
-ghost use Rattle.std.specs.Prelude.{◌≡◌, [], ◌∷◌, IfOk, decimal};
+ghost use Rattle.std.specs.Prelude.{◌≡◌, [], ◌∷◌, map, IfOk, decimal};
 ghost use Rattle.sml_tree.specs.Views.{ident_of};
 ghost use Rattle.sml_tree.specs.TypeViews.{name_of, names_of, long_name_of};
 ghost use Rattle.sml_derived.specs.Words.{true_id, false_id, nil_id, cons_id, it_id, hidden, v};
@@ -85,6 +85,16 @@ pub(crate) fn copies_of(alloc: Global, names: &[Name]) -> Result<Vec<Name>, Memo
     let mut copies = Vec::new(alloc);
     for name in names {
         copies.push(copy_of(name)?)?;
+    }
+    Ok(copies)
+}
+
+pub(crate) fn copies_of_idents(alloc: Global, idents: &[Ident]) -> Result<Vec<Ident>, Memory>
+    ensures { IfOk result (λ copies. map ident_of copies.items ≡ map ident_of idents.now) }
+{
+    let mut copies = Vec::new(alloc);
+    for ident in idents {
+        copies.push(ident.clone()?)?;
     }
     Ok(copies)
 }

@@ -1,6 +1,7 @@
 // Derived forms: the bare tree that each of them stands for. (The Definition, appendix A.)
 #![tactic(auto)]
 
+mod copies;
 pub mod expander;
 pub mod expressions;
 pub mod functions;

@@ -1,14 +1,12 @@
 -- The views of a few forms, and of what a loop has made of them.
-use Rattle.std.proofs.Common.{◌≡◌, ℕ, List, [], ◌∷◌, map, length, ap, sym, ◌∙◌, refl, Vec, Box, Global}
-use Rattle.std.specs.declared.rc.Rc.{Rc}
+use Rattle.std.proofs.Common.{◌≡◌, List, [], ◌∷◌, map, length, ap, sym, ◌∙◌, refl, Vec, Box, Global}
 use Rattle.sml_lex.specs.declared.fault.Place.{Place}
-use Rattle.sml_tree.specs.Views.{ident_of}
 use Rattle.sml_tree.specs.Patterns as P
 use Rattle.sml_tree.specs.PatternViews.{pat_of, pats_of, pat_layer, pat_field_layer}
 use Rattle.sml_tree.specs.Expressions as E
 use Rattle.sml_tree.specs.ExpressionViews.{exp_of, exps_of, rule_of, rules_of, bind_of, exp_layer, field_layer, rule_layer, dec_layer, bind_layer}
 use Rattle.sml_tree.specs.Signatures as S
-use Rattle.sml_tree.specs.SignatureViews.{sig_of, spec_of, where_of, sig_layer, spec_layer, str_desc_layer}
+use Rattle.sml_tree.specs.SignatureViews.{sig_of, where_of, sig_layer, spec_layer, str_desc_layer}
 use Rattle.sml_tree.specs.declared.patterns.Pat.{Pat}
 use Rattle.sml_tree.specs.declared.patterns.Pat.TheOpen as PO
 use Rattle.sml_tree.specs.declared.patterns.Pat.TheVariants as PV

@@ -8,11 +8,18 @@ use Rattle.sml_tree.specs.Names.{Name, LongName}
 use Rattle.sml_tree.specs.Types.{Ty, Tys, TyField, TyFields, ty_variable, ty_row, ty_tuple, ty_constructor, ty_misapplied, ty_arrow, ty_bracket, no_ty, and_ty, ty_field, no_ty_field, and_ty_field}
 use Rattle.sml_tree.specs.Expressions.{TypBind, ConBind, DatBind, Dec, datatype_dec, type_dec, sequence_dec, no_dec, and_dec}
 
+abbrev pub first_ty : {P : Type 0} → Tys P → Option (Ty P)
+first_ty no_ty = None
+first_ty (and_ty t ts) = Some t
+
+abbrev pub other_tys : {P : Type 0} → Tys P → Tys P
+other_tys no_ty = no_ty
+other_tys (and_ty t ts) = ts
+
 -- the argument in the place of a variable
 abbrev pub argument : {P : Type 0} → Id → List (Name P) → Tys P → Option (Ty P)
 argument v [] ts = None
-argument v (x ∷ xs) no_ty = None
-argument v (x ∷ xs) (and_ty t ts) = if bytes_eq v x.id then Some t else argument v xs ts
+argument v (x ∷ xs) ts = if bytes_eq v x.id then first_ty ts else argument v xs (other_tys ts)
 
 -- a type, or another in its place
 abbrev pub either : {P : Type 0} → Ty P → Option (Ty P) → Ty P
@@ -46,10 +53,14 @@ count_tys no_ty = 0
 count_tys (and_ty t ts) = suc (count_tys ts)
 
 -- the binding of a type constructor, if it has one
+abbrev pub bound : {P : Type 0} → Id → List (TypBind P) → Option (TypBind P)
+bound c [] = None
+bound c (b ∷ bs) = if bytes_eq c b.name.id then Some b else bound c bs
+
+-- one with a path has none
 abbrev pub binding : {P : Type 0} → List Id → Id → List (TypBind P) → Option (TypBind P)
-binding path c [] = None
-binding [] c (b ∷ bs) = if bytes_eq c b.name.id then Some b else binding [] c bs
-binding (s ∷ path) c (b ∷ bs) = None
+binding [] c bs = bound c bs
+binding (s ∷ path) c bs = None
 
 -- a type constructor behind its arguments, from its binding
 abbrev pub applied : {P : Type 0} → P → Tys P → LongName P → Option (TypBind P) → Ty P

@@ -8,3 +8,4 @@ pub mod functions;
 pub mod laws;
 pub mod modules;
 pub mod patterns;
+mod withtype;

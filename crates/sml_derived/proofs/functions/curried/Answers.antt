@@ -1,4 +1,4 @@
-use Rattle.std.proofs.Common.{◌-◌, ap, ◌∙◌}
+use Rattle.std.proofs.Common.{ap, ◌∙◌}
 use Rattle.sml_tree.specs.Expressions.{fn}
 use Rattle.sml_tree.specs.ExpressionViews.{exp_of}
 use Rattle.sml_derived.specs.Derived.{one_rule, pat_var}

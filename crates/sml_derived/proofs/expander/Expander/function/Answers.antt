@@ -1,6 +1,5 @@
 use Rattle.std.proofs.Common.{map, sym, ◌∙◌}
 use Rattle.sml_tree.specs.Views.{ident_of}
-use Rattle.sml_tree.specs.PatternViews.{pat_of}
 use Rattle.sml_tree.specs.ExpressionViews.{exp_of}
 use Rattle.sml_derived.specs.Views.{clause_of}
 use Rattle.sml_derived.proofs.Lists.{whole_function, count_is_length}

@@ -1,26 +1,6 @@
 -- Heights of lists of phrases, one phrase after another.
 use Rattle.std.proofs.Common.{◌≡◌, ℕ, ◌+◌, ◌<◌, List, [], ◌∷◌, ◌++◌, map, take, length, get_or, max, refl, arith}
 use Rattle.sml_lex.specs.declared.fault.Place.{Place}
-use Rattle.sml_tree.specs.declared.types.Ty.{Ty}
-use Rattle.sml_tree.specs.declared.types.TyField.{TyField}
-use Rattle.sml_tree.specs.declared.patterns.Pat.{Pat}
-use Rattle.sml_tree.specs.declared.patterns.PatField.{PatField}
-use Rattle.sml_tree.specs.declared.expressions.Exp.{Exp}
-use Rattle.sml_tree.specs.declared.expressions.ExpField.{ExpField}
-use Rattle.sml_tree.specs.declared.expressions.Rule.{Rule}
-use Rattle.sml_tree.specs.declared.expressions.Dec.{Dec}
-use Rattle.sml_tree.specs.declared.expressions.ValBind.{ValBind}
-use Rattle.sml_tree.specs.declared.expressions.TypBind.{TypBind}
-use Rattle.sml_tree.specs.declared.expressions.ConBind.{ConBind}
-use Rattle.sml_tree.specs.declared.expressions.DatBind.{DatBind}
-use Rattle.sml_tree.specs.declared.expressions.ExnBind.{ExnBind}
-use Rattle.sml_tree.specs.declared.signatures.Spec.{Spec}
-use Rattle.sml_tree.specs.declared.signatures.StrDesc.{StrDesc}
-use Rattle.sml_tree.specs.declared.signatures.ValDesc.{ValDesc}
-use Rattle.sml_tree.specs.declared.structures.StrDec.{StrDec}
-use Rattle.sml_tree.specs.declared.structures.StrBind.{StrBind}
-use Rattle.sml_tree.specs.declared.structures.SigBind.{SigBind}
-use Rattle.sml_tree.specs.declared.structures.FunBind.{FunBind}
 use Rattle.sml_tree.specs.Types as T
 use Rattle.sml_tree.specs.Patterns as P
 use Rattle.sml_tree.specs.Expressions as E

@@ -8,4 +8,6 @@ pub mod functions;
 pub mod laws;
 pub mod modules;
 pub mod patterns;
+#[cfg(test)]
+mod tests;
 mod withtype;

@@ -1,2 +1,4 @@
 mod Lists
+mod HeightLists
+mod HeightParts
 pub mod TreeViews

@@ -10,7 +10,7 @@ use Rattle.sml_tree.specs.Trees as T
 use Rattle.sml_tree.specs.Views.{exp_of, exps_of, ty_of, tys_of, spec_of, core_dec_of}
 use Rattle.sml_tree.specs.Height.{exp_height, exps_height, ty_height, tys_height, spec_height, specs_height, core_height, decs_height, counted}
 
-map_more : {A B : Type 0} (f : A → B) (xs : List A) (x : A) → map f (xs ++ x ∷ []) ≡ map f xs ++ f x ∷ []
+pub map_more : {A B : Type 0} (f : A → B) (xs : List A) (x : A) → map f (xs ++ x ∷ []) ≡ map f xs ++ f x ∷ []
 map_more f [] x = refl
 map_more f (y ∷ ys) x = ap (λ z. f y ∷ z) (map_more f ys x)
 
@@ -31,7 +31,7 @@ decs_height-push [] d = refl
 decs_height-push (c ∷ ds) d = let h = decs_height-push ds d in omega (arith, h)
 
 -- a running maximum, one element on
-higher : {A B : Type 0} (f : A → B) (height : B → ℕ) (heights : List B → ℕ) → ((ys : List B) (y : B) → heights (ys ++ y ∷ []) ≡ max (height y) (heights ys)) → (xs : List A) (i : ℕ) (x : A) (h most new : ℕ) → i < length xs → x ≡ get_or xs i x → h ≡ counted (height (f x)) → most ≡ counted (heights (map f (take i xs))) → new ≡ max h most → new ≡ counted (heights (map f (take (i + 1) xs)))
+pub higher : {A B : Type 0} (f : A → B) (height : B → ℕ) (heights : List B → ℕ) → ((ys : List B) (y : B) → heights (ys ++ y ∷ []) ≡ max (height y) (heights ys)) → (xs : List A) (i : ℕ) (x : A) (h most new : ℕ) → i < length xs → x ≡ get_or xs i x → h ≡ counted (height (f x)) → most ≡ counted (heights (map f (take i xs))) → new ≡ max h most → new ≡ counted (heights (map f (take (i + 1) xs)))
 higher f height heights push xs i x h most new within e g m n =
     let step : heights (map f (take (i + 1) xs)) ≡ max (height (f x)) (heights (map f (take i xs))) =
     ap (λ ys. heights (map f ys)) (take_more xs i x within ∙ ap (λ y. take i xs ++ y ∷ []) (sym e))

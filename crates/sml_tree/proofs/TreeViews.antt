@@ -1,5 +1,5 @@
 -- The views of trees, variant by variant.
-use Rattle.std.proofs.Common.{◌≡◌, List, map, ap, ◌∙◌, sym, Vec, Box, Global, ℕ}
+use Rattle.std.proofs.Common.{◌≡◌, map, ap, ◌∙◌, sym, Vec, Box, Global, ℕ}
 use Rattle.std.specs.declared.rc.Rc.{Rc}
 use Rattle.sml_lex.specs.declared.fault.Place.{Place}
 use Rattle.sml_tree.specs.Trees as T

@@ -3,3 +3,15 @@ pub mod Views
 pub mod Height
 pub mod Forget
 pub mod Places
+pub mod Names
+pub mod Types
+pub mod Patterns
+pub mod Expressions
+pub mod Signatures
+pub mod Structures
+pub mod Heights
+pub mod TypeViews
+pub mod PatternViews
+pub mod ExpressionViews
+pub mod SignatureViews
+pub mod StructureViews

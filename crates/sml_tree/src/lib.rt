@@ -2,4 +2,11 @@
 #![tactic(auto)]
 
 pub mod bare;
+pub mod expressions;
 pub mod height;
+pub mod heights;
+pub mod names;
+pub mod patterns;
+pub mod signatures;
+pub mod structures;
+pub mod types;

@@ -1,0 +1,7 @@
+use Rattle.std.proofs.Common.{◌∙◌}
+use Rattle.sml_derived.proofs.Views.{pat_of-tuple, pat_row_of-others}
+use Rattle.sml_derived.proofs.functions.pat_row_of.Goals as goal
+
+pub returns-then-len-ne1 : goal.returns-then-len-ne1
+returns-then-len-ne1 c =
+    pat_of-tuple c.args.place c.args.pats ∙ pat_row_of-others c.args.place c.args.pats.items (λ e. c.if-len-ne1.true (c.len.ensures ∙ c.args.pats.ok.0 ∙ e))

@@ -1,0 +1,5 @@
+pub mod Words
+pub mod Derived
+pub mod Laws
+pub mod Views
+pub mod Withtype

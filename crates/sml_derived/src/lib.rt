@@ -1,0 +1,13 @@
+// Derived forms: the bare tree that each of them stands for. (The Definition, appendix A.)
+#![tactic(auto)]
+
+mod copies;
+pub mod expander;
+pub mod expressions;
+pub mod functions;
+pub mod laws;
+pub mod modules;
+pub mod patterns;
+#[cfg(test)]
+mod tests;
+mod withtype;

@@ -27,6 +27,7 @@ use Rattle.sml_parse.specs.Senses.{sense_of, deed_of}
 use Rattle.sml_parse.specs.Founds.{Atom, Found, nothing, word, one, several, within, directed, from, found_by, name_of}
 use Rattle.sml_parse.specs.Events.{Event, begins, enters, leaves, directs, expression, pattern, head, found_at, event_of}
 use Rattle.sml_parse.specs.Reach.{State, misfit, token_of, AreItems, misfit_of, Happens}
+use Rattle.sml_parse.specs.Within.{of_fixity, reason_of}
 use Rattle.sml_parse.proofs.FoundsWithin.{IsIn, AtomsIn, LevelIn, FoundIn}
 
 -- events
@@ -129,9 +130,9 @@ event_in text n e r founds b h = by_deed (deed_of r) n e _ b (λ (q : is_head (d
 
 -- faults
 
--- it stands in the declaration at hand, at a token in these bounds
+-- of fixity, in the declaration at hand, at a token in these bounds
 abbrev pub IsOwn : State → ℕ → ℕ → Misfit → Type 0
-IsOwn s n e m = IsIn n e m.token × (m.number ≡ s.count) × (m.begun ≡ s.begun)
+IsOwn s n e m = IsIn n e m.token × (m.number ≡ s.count) × (m.begun ≡ s.begun) × (reason_of m.code ≡ of_fixity)
 
 token_in : (n e : ℕ) (atoms : List Atom) (index : ℕ) → AtomsIn n e atoms → index < length atoms → IsIn n e (token_of atoms index)
 token_in n e [] index h l = absurd (omega (arith, l))
@@ -157,8 +158,8 @@ split_below roles before after r e =
     omega (arith, l)
 
 module _ (s : State) (n e : ℕ) (atoms : List Atom) (h : AtomsIn n e atoms) where
-  at_index : (index : ℕ) (code : Code) (m : Misfit) → index < length atoms → Some (misfit s (token_of atoms index) code) ≡ Some m → IsOwn s n e m
-  at_index index code m l q = subst (IsOwn s n e) (some_same q) (token_in n e atoms index h l, refl, refl)
+  at_index : (index : ℕ) (code : Code) (m : Misfit) → reason_of code ≡ of_fixity → index < length atoms → Some (misfit s (token_of atoms index) code) ≡ Some m → IsOwn s n e m
+  at_index index code m r l q = subst (IsOwn s n e) (some_same q) (token_in n e atoms index h l, refl, refl, r)
 
   place_below : (fixities : Map) (items : List Item) (place before : ℕ) → AreItems items atoms → before < length (roles_of fixities items) → before ≡ place → place < length atoms
   place_below fixities items place before are l p =
@@ -173,15 +174,15 @@ module _ (s : State) (n e : ℕ) (atoms : List Atom) (h : AtomsIn n e atoms) whe
   mixed_below fixities items place are x = place_below fixities items place (length x.before) are (split_below _ x.before _ _ x.split) x.place_is
 
   of_expression : (items : List Item) (fault : FixFault) (m : Misfit) → AreItems items atoms → FaultStands (roles_of s.here items) fault → misfit_of s atoms fault ≡ Some m → IsOwn s n e m
-  of_expression items (NoOperand index) m are f q = at_index index C.F1 m (stray_below s.here items index are f.0) q
-  of_expression items (MixedSides index) m are f q = at_index index C.F2 m (mixed_below s.here items index are f.0) q
+  of_expression items (NoOperand index) m are f q = at_index index C.F1 m refl (stray_below s.here items index are f.0) q
+  of_expression items (MixedSides index) m are f q = at_index index C.F2 m refl (mixed_below s.here items index are f.0) q
   of_expression items Malformed m are f q = absurd f
   of_expression items Memory m are f q = absurd (none_some q)
 
   of_pattern : (items : List Item) (fault : FixFault) (m : Misfit) → 0 < length atoms → AreItems items atoms → PatternFaultStands items (roles_of s.here items) fault → misfit_of s atoms fault ≡ Some m → IsOwn s n e m
-  of_pattern items (NoOperand index) m l are f q = at_index index C.F1 m (stray_below s.here items index are f.0) q
-  of_pattern items (MixedSides index) m l are f q = at_index index C.F2 m (mixed_below s.here items index are f.0) q
-  of_pattern items Malformed m l are f q = at_index 0 C.F4 m l q
+  of_pattern items (NoOperand index) m l are f q = at_index index C.F1 m refl (stray_below s.here items index are f.0) q
+  of_pattern items (MixedSides index) m l are f q = at_index index C.F2 m refl (mixed_below s.here items index are f.0) q
+  of_pattern items Malformed m l are f q = at_index 0 C.F4 m refl l q
   of_pattern items Memory m l are f q = absurd (none_some q)
 
 -- a directive without a level gives a fixity
@@ -202,7 +203,7 @@ happens_in text s t n e enters m i h = (no_fault s n e m h.0, ap (λ (t : State)
 happens_in text s t n e leaves m i h = (no_fault s n e m h.0, h.1, h.2)
 happens_in text s t n e (directs directive level atoms) None i h = (tt, ap (λ (t : State). t.count) h.2, ap (λ (t : State). t.begun) h.2)
 happens_in text s t n e (directs directive None atoms) (Some m) i h = absurd (without_level directive h.0)
-happens_in text s t n e (directs directive (Some token) atoms) (Some m) i h = (subst (IsOwn s n e) (sym h.1) (i, refl, refl), ap (λ (t : State). t.count) h.2, ap (λ (t : State). t.begun) h.2)
+happens_in text s t n e (directs directive (Some token) atoms) (Some m) i h = (subst (IsOwn s n e) (sym h.1) (i, refl, refl, refl), ap (λ (t : State). t.count) h.2, ap (λ (t : State). t.begun) h.2)
 happens_in text s t n e (expression []) m i h = (no_fault s n e m (h.0 refl), ap (λ (t : State). t.count) h.2, ap (λ (t : State). t.begun) h.2)
 happens_in text s t n e (expression (a ∷ atoms)) None i h = (tt, ap (λ (t : State). t.count) h.2, ap (λ (t : State). t.begun) h.2)
 happens_in text s t n e (expression (a ∷ atoms)) (Some m) i h =
@@ -214,4 +215,4 @@ happens_in text s t n e (pattern (a ∷ atoms)) (Some m) i h =
     let x = h.1 (omega arith) in
     (of_pattern s n e (a ∷ atoms) i x.0 x.1 m (omega arith) x.2 x.3 x.4, ap (λ (t : State). t.count) h.2, ap (λ (t : State). t.begun) h.2)
 happens_in text s t n e (head atoms) None i h = (tt, ap (λ (t : State). t.count) h.1, ap (λ (t : State). t.begun) h.1)
-happens_in text s t n e (head atoms) (Some m) i h = (at_index s n e atoms i.0 0 C.F4 m i.1 h.0.5, ap (λ (t : State). t.count) h.1, ap (λ (t : State). t.begun) h.1)
+happens_in text s t n e (head atoms) (Some m) i h = (at_index s n e atoms i.0 0 C.F4 m refl i.1 h.0.5, ap (λ (t : State). t.count) h.1, ap (λ (t : State). t.begun) h.1)

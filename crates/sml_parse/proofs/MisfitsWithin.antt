@@ -25,7 +25,7 @@ use Rattle.sml_parse.specs.Senses.{deed_of, opens, closes}
 use Rattle.sml_parse.specs.Founds.{Found}
 use Rattle.sml_parse.specs.Events.{Event, enters, leaves, text_at, found_at, founds_of, scope_event, event_of, events_of}
 use Rattle.sml_parse.specs.Reach.{State, start, Misfits, precedes, earlier, first_in, first_misfit, IsFirstMisfit}
-use Rattle.sml_parse.specs.Within.{Extent, ends_before, is_part_first, begins_next, tokens_before, extents_of}
+use Rattle.sml_parse.specs.Within.{Extent, of_fixity, reason_of, ends_before, is_part_first, begins_next, tokens_before, extents_of}
 use Rattle.sml_parse.proofs.Nonempty.{all_inner, inner_so, not_both, when_not, some_token}
 use Rattle.sml_parse.proofs.FoundsWithin.{IsIn, is_idle, phrase_in, founds_in}
 use Rattle.sml_parse.proofs.EventsWithin.{EventIn, is_beginning, event_in, IsOwn, happens_in}
@@ -92,9 +92,9 @@ none_so (s ∷ ss) t = absurd (false≢true t)
 outer_last : (p : Part) (ss : List Symbol) → is_outer p ≡ true → is_tidy (Of p ∷ ss) ≡ true → ss ≡ []
 outer_last p ss q t = none_so ss (subst (λ (c : Bool). (if c then is_none ss else is_tidy ss) ≡ true) q t)
 
--- a fault in the extent of its declaration
+-- a fault of fixity in the extent of its declaration
 abbrev pub IsPlaced : List Extent → Misfit → Type 0
-IsPlaced extents m = (extent : Extent) × (slice_get extents (m.number - 1) ≡ Some extent) × (0 < m.number) × (m.begun ≡ extent.first) × IsIn extent.first extent.behind m.token
+IsPlaced extents m = (extent : Extent) × (slice_get extents (m.number - 1) ≡ Some extent) × (0 < m.number) × (m.begun ≡ extent.first) × IsIn extent.first extent.behind m.token × (reason_of m.code ≡ of_fixity)
 
 abbrev AllPlaced : List Extent → List Misfit → Type 0
 AllPlaced extents [] = Unit {0}
@@ -169,7 +169,7 @@ module _ (unit : List ℕ) (tokens : List Token) (extents : List Extent) where
       let c = own.1 in
       let low = own.0.0 in
       let high = own.0.1 in
-      (x.0, ap (λ c. slice_get extents (c - 1)) c ∙ x.1, omega (arith, c, p), own.2 ∙ x.3, (omega (arith, f, low), omega (arith, high, e)))
+      (x.0, ap (λ c. slice_get extents (c - 1)) c ∙ x.1, omega (arith, c, p), own.2 ∙ x.3, (omega (arith, f, low), omega (arith, high, e)), own.3)
 
   -- these extents are left
   abbrev AreLeft : State → List Extent → Type 0

@@ -1,6 +1,6 @@
 -- The places of a unit's trees and of its last fault.
 use Rattle.std.proofs.Common.{◌≡◌, ℕ, zero, suc, ◌+◌, ◌-◌, ◌<◌, ◌≤◌, List, [], ◌∷◌, Bool, true, false, Option, Some, None, map, length, take, drop, cond, get_or, refl, sym, ap, ◌∙◌, subst, arith, inl, inr}
-use Rattle.std.specs.Prelude.{slice_get, unwrap_or, IfSome, if◌then◌else◌}
+use Rattle.std.specs.Prelude.{slice_get, unwrap_or, IfSome, if◌then◌else◌, ◌==◌}
 use Rattle.std.specs.Option.{option_map}
 use Rattle.std.specs.List.{list_all, take_while}
 use Rattle.std.proofs.lemmas.Bool.{cond-true, and_parts}
@@ -8,7 +8,6 @@ use Rattle.std.proofs.lemmas.List.{length-map, length-take-le}
 use Rattle.std.proofs.lemmas.List.Elements.{All-cons}
 use Rattle.std.proofs.lemmas.List.Sums.{take_while-cons}
 use Rattle.std.proofs.lemmas.Option.{slice_get-get_or, slice_get_within}
-use Rattle.sml_lex.specs.declared.fault.Code.{Code}
 use Rattle.sml_lex.specs.declared.fault.Code.TheVariants as C
 use Rattle.sml_lex.specs.declared.fault.Place.{Place}
 use Rattle.sml_lex.specs.declared.token.Kind.TheVariants.{Comma}
@@ -18,7 +17,8 @@ use Rattle.sml_lex.specs.declared.token.End.{End}
 use Rattle.sml_lex.specs.declared.token.End.TheVariants as E
 use Rattle.sml_lex.specs.declared.pieces.Piece.{Piece}
 use Rattle.sml_lex.specs.declared.pieces.Piece.TheVariants.{Blank, Comment, Lexeme}
-use Rattle.sml_lex.specs.Pieces.{Spells, SpellsFrom, AreInOrder, size_of, tokens_of}
+use Rattle.sml_lex.specs.Pieces.{Spells, SpellsFrom, IsFault, AreInOrder, size_of, tokens_of}
+use Rattle.sml_lex.specs.Strings.{IsBroken, break_of}
 use Rattle.sml_lex.proofs.Order.{tokens_are_in_order, faults_are_within}
 use Rattle.sml_tree.specs.Trees.{Dec}
 use Rattle.sml_read.specs.declared.grammar.Node.{Node}
@@ -31,7 +31,7 @@ use Rattle.sml_parse.specs.Places.{place_behind, place_from}
 use Rattle.sml_parse.specs.Items.{start_of, items_of, declarations_of}
 use Rattle.sml_parse.specs.declared.reach.Misfit.{Misfit}
 use Rattle.sml_parse.specs.Trees.{dec_of_items, spelt, is_low, fault_from, fault_read, up_to, before_misfit, fault_behind}
-use Rattle.sml_parse.specs.Within.{Extent, extents_of, IsOfToken, StandInTurn, StandsLast, PlacesAreWithin}
+use Rattle.sml_parse.specs.Within.{Extent, extents_of, IsOfToken, StandInTurn, Reason, of_bytes, reason_of, StandsBy, StandsLast, PlacesAreWithin}
 use Rattle.sml_parse.proofs.TreePlaces.{places_stand}
 use Rattle.sml_parse.proofs.Nonempty.{HasToken, HaveTokens, have_tokens}
 use Rattle.sml_parse.proofs.Extents.{some_same, none_some, of_token, OwnWords, all_words_stand, as_many}
@@ -107,6 +107,50 @@ behind_tokens : (unit : List ℕ) (tokens : List Token) (stop : Stop) (index : �
 behind_tokens unit tokens stop index (inl s) = subst (λ ts. start_of ts index stop.at ≤ stop.at) (sym s.tokens_are) (stop_behind unit 0 s.pieces stop index s.spelled)
 behind_tokens unit tokens stop index (inr s) = subst (λ ts. start_of ts index stop.at ≤ stop.at) (sym s.none) (omega arith)
 
+-- the codes of lexical faults
+
+break_reason : (rest : List ℕ) (point : ℕ) → reason_of (break_of rest point).code ≡ of_bytes
+break_reason [] point = refl
+break_reason (c ∷ rest) point = go (c == 92) (c == 10)
+  where
+    go : (b d : Bool) → (let stop : Stop = (if b then record {
+      code = C.L3;
+      at = point;
+    } else if d then record {
+      code = C.L2;
+      at = 0;
+    } else record {
+      code = C.L4;
+      at = point;
+    }) in reason_of stop.code) ≡ of_bytes
+    go true d = refl
+    go false true = refl
+    go false false = refl
+
+string_reason : (text : List ℕ) (stop : Stop) → IsBroken text stop → reason_of stop.code ≡ of_bytes
+string_reason text stop b = ap (λ (s : Stop). reason_of s.code) b.fault ∙ break_reason b.rest _
+
+fault_reason : (rest : List ℕ) (stop : Stop) → IsFault rest stop → reason_of stop.code ≡ of_bytes
+fault_reason rest stop (inl f) = ap (λ (s : Stop). reason_of s.code) f.fault
+fault_reason rest stop (inr (inl (inl b))) = string_reason rest stop b
+fault_reason rest stop (inr (inl (inr (inl (o, inner, b, e))))) = ap (λ (s : Stop). reason_of s.code) e ∙ string_reason (drop 1 rest) inner b
+fault_reason rest stop (inr (inl (inr (inr (o, h, e))))) = ap (λ (s : Stop). reason_of s.code) e
+fault_reason rest stop (inr (inr (inl f))) = ap (λ (s : Stop). reason_of s.code) f.fault
+fault_reason rest stop (inr (inr (inr f))) = ap (λ (s : Stop). reason_of s.code) f.fault
+
+stop_reason : (unit : List ℕ) (place : ℕ) (pieces : List Piece) (stop : Stop) → SpellsFrom unit place pieces (E.Fault stop) → reason_of stop.code ≡ of_bytes
+stop_reason unit place [] stop s = ap (λ (s : Stop). reason_of s.code) s.3 ∙ fault_reason (drop place unit) s.1 s.2
+stop_reason unit place (piece ∷ pieces) stop s = stop_reason unit (place + size_of piece) pieces stop s.1
+
+reason_at : End → Reason
+reason_at E.Done = of_bytes
+reason_at (E.Fault stop) = reason_of stop.code
+
+bytes_reason : (unit : List ℕ) (tokens : List Token) (stop : Stop) → Spells unit tokens (E.Fault stop) → reason_of stop.code ≡ of_bytes
+unfolding reason_at
+bytes_reason unit tokens stop (inl s) = stop_reason unit 0 s.pieces stop s.spelled
+bytes_reason unit tokens stop (inr s) = ap reason_at s.fault
+
 -- the last fault
 
 -- an extent among these has a token
@@ -116,12 +160,11 @@ have_at most (x ∷ extents) zero extent h e = subst (HasToken most) (some_same 
 have_at most (x ∷ extents) (suc i) extent h e = have_at most extents i extent h.1 e
 
 module _ (unit : List ℕ) (tokens : List Token) (o : AreInOrder unit 0 tokens) (nodes : List Node) (before : ℕ) where
-  at_token : (code : Code) (end : End) (begun index : ℕ) → begun ≤ index → index < length tokens
-      → IfSome (fault_from unit code (start_of tokens begun 0) (start_of tokens index 0)) (StandsLast unit tokens end nodes begun before)
-  at_token code end begun index f b =
+  at_token : (begun index : ℕ) → begun ≤ index → index < length tokens → IsOfToken unit tokens (record { first = begun; behind = length tokens }) (place_from unit (start_of tokens begun 0) (start_of tokens index 0))
+  at_token begun index f b =
       let token = get_or tokens index no_token in
       let e = slice_get-get_or tokens index no_token b in
-      inr (inl (of_token unit tokens (record { first = begun; behind = length tokens }) index token _ o e f b (ap (place_from unit (start_of tokens begun 0)) (start_is tokens index token e))))
+      of_token unit tokens (record { first = begun; behind = length tokens }) index token _ o e f b (ap (place_from unit (start_of tokens begun 0)) (start_is tokens index token e))
 
   last_read : (end : End) (begun : ℕ) (cause : Option Cause) → Spells unit tokens end → IsCauseOf (kinds_of tokens) (is_done end) begun cause
       → IfSome (fault_read unit tokens end begun cause) (StandsLast unit tokens end nodes begun before)
@@ -129,14 +172,15 @@ module _ (unit : List ℕ) (tokens : List Token) (o : AreInOrder unit 0 tokens) 
   last_read end begun (Some (Unexpected index)) s c =
       let n = length-map tokens (λ (t : Token). t.kind) in
       let b = c.1 in
-      at_token C.S1 end begun index c.0 (omega (arith, n, b))
+      at_token begun index c.0 (omega (arith, n, b))
   last_read end begun (Some TooEarly) s c =
       let n = length-map tokens (λ (t : Token). t.kind) in
       let b = c.1 in
-      at_token C.S2 end begun (length tokens - 1) (omega (arith, n, b)) (omega (arith, n, b))
+      at_token begun (length tokens - 1) (omega (arith, n, b)) (omega (arith, n, b))
   last_read E.Done begun (Some Lexical) s c = tt
   last_read (E.Fault stop) begun (Some Lexical) s c =
-      inr (inr (inl (record { stop = stop; ended = refl; ahead = behind_tokens unit tokens stop begun s; within = faults_are_within unit tokens stop s; counted = refl })))
+      subst (λ r. StandsBy r unit tokens (E.Fault stop) nodes begun before (place_from unit (start_of tokens begun stop.at) stop.at)) (sym (bytes_reason unit tokens stop s))
+      (record { stop = stop; ended = refl; ahead = behind_tokens unit tokens stop begun s; within = faults_are_within unit tokens stop s; counted = refl })
 
   -- that of fixity
   misfit_stands : (m : Misfit) (end : End) (begun : ℕ) → HaveTokens (length tokens) (extents_of 0 nodes) → IsPlaced (extents_of 0 nodes) m → before ≡ m.number - 1
@@ -149,7 +193,8 @@ module _ (unit : List ℕ) (tokens : List Token) (o : AreInOrder unit 0 tokens) 
       let token = get_or tokens m.token no_token in
       let e = slice_get-get_or tokens m.token no_token (omega (arith, b, most)) in
       let counted = ap (λ k. place_from unit (start_of tokens k 0) (start_of tokens m.token 0)) x.3 ∙ ap (place_from unit (start_of tokens extent.first 0)) (start_is tokens m.token token e) in
-      inr (inr (inr (extent, ap (slice_get (extents_of 0 nodes)) n ∙ x.1, of_token unit tokens extent m.token token _ o e f b counted)))
+      subst (λ r. StandsBy r unit tokens end nodes begun before (place_from unit (start_of tokens m.begun 0) (start_of tokens m.token 0))) (sym x.5)
+      (extent, ap (slice_get (extents_of 0 nodes)) n ∙ x.1, of_token unit tokens extent m.token token _ o e f b counted)
 
   last_stands : (misfit : Option Misfit) (end : End) (begun : ℕ) (cause : Option Cause) → Spells unit tokens end → IsCauseOf (kinds_of tokens) (is_done end) begun cause
       → HaveTokens (length tokens) (extents_of 0 nodes) → IfSome misfit (IsPlaced (extents_of 0 nodes)) → IfSome misfit (λ m. before ≡ m.number - 1)
@@ -203,4 +248,4 @@ places_within unit tokens end decs fault s trees =
     by_test o have placed n true q =
         last_stands unit tokens o trees.nodes (length decs) trees.misfit end trees.begun trees.cause s trees.reading.fault have placed
         (subst (λ (ds : List (Dec Place)). IfSome trees.misfit (λ m. length ds ≡ m.number - 1)) (sym trees.whole) (n q))
-    by_test o have placed n false q = inl (refl, refl)
+    by_test o have placed n false q = refl

@@ -1,6 +1,7 @@
 -- Where the places of a unit stand: at tokens of their declaration, counted from its first.
-use Rattle.std.specs.Prelude.{◌≡◌, ◌+◌, ◌≤◌, ◌<◌, ◌⊎◌, ℕ, suc, List, [], ◌∷◌, length, Bool, true, false, ◌&&◌, Option, Some, IfSome, slice_get, if◌then◌else◌}
+use Rattle.std.specs.Prelude.{◌≡◌, ◌+◌, ◌≤◌, ◌<◌, ℕ, suc, List, [], ◌∷◌, length, Bool, true, false, ◌&&◌, Option, Some, IfSome, slice_get, if◌then◌else◌}
 use Rattle.std.specs.List.{All}
+use Rattle.sml_lex.specs.declared.fault.Code.{Code}
 use Rattle.sml_lex.specs.declared.fault.Code.TheVariants as C
 use Rattle.sml_lex.specs.declared.fault.Place.{Place}
 use Rattle.sml_lex.specs.declared.token.Token.{Token}
@@ -83,14 +84,34 @@ StandInTurn unit tokens (extent ∷ extents) (dec ∷ decs) =
 abbrev pub IsOfDeclaration : List ℕ → List Token → List Extent → ℕ → Place → Type 0
 IsOfDeclaration unit tokens extents before place = (extent : Extent) × (slice_get extents before ≡ Some extent) × IsOfToken unit tokens extent place
 
--- The last fault stands at a token of the declaration that has so many before it, at one of what is left from the
--- token of this number on, or where the tokens end; that of a tree that is too high stands at 1.1.
+-- what the last fault of a unit is of
+pub data Reason : Type 0 where
+  of_bytes : Reason
+  of_grammar : Reason
+  of_fixity : Reason
+  of_height : Reason
+
+abbrev pub reason_of : Code → Reason
+reason_of C.S1 = of_grammar
+reason_of C.S2 = of_grammar
+reason_of C.S3 = of_height
+reason_of C.F1 = of_fixity
+reason_of C.F2 = of_fixity
+reason_of C.F3 = of_fixity
+reason_of C.F4 = of_fixity
+reason_of _ = of_bytes
+
+-- A fault of bytes stands where the tokens end, and one of the grammar at a token of what is left from the token of
+-- this number on. One of fixity stands at a token of the declaration that has so many before it, and that of a tree
+-- that is too high at 1.1.
+abbrev pub StandsBy : Reason → List ℕ → List Token → End → List Node → ℕ → ℕ → Place → Type 0
+StandsBy of_bytes unit tokens end nodes begun before place = IsOfStop unit tokens end begun place
+StandsBy of_grammar unit tokens end nodes begun before place = IsOfToken unit tokens (record { first = begun; behind = length tokens }) place
+StandsBy of_fixity unit tokens end nodes begun before place = IsOfDeclaration unit tokens (extents_of 0 nodes) before place
+StandsBy of_height unit tokens end nodes begun before place = place ≡ record { line = 1; column = 1 }
+
 abbrev pub StandsLast : List ℕ → List Token → End → List Node → ℕ → ℕ → Fault Place → Type 0
-StandsLast unit tokens end nodes begun before fault =
-    ((fault.code ≡ C.S3) × (fault.place ≡ record { line = 1; column = 1 }))
-    ⊎ IsOfToken unit tokens (record { first = begun; behind = length tokens }) fault.place
-    ⊎ IsOfStop unit tokens end begun fault.place
-    ⊎ IsOfDeclaration unit tokens (extents_of 0 nodes) before fault.place
+StandsLast unit tokens end nodes begun before fault = StandsBy (reason_of fault.code) unit tokens end nodes begun before fault.place
 
 -- The places of the trees that bytes spell stand in their declarations, and so does the last fault's.
 abbrev pub PlacesAreWithin : Type 0

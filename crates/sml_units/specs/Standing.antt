@@ -30,6 +30,7 @@ UnitsStand (u ∷ us) (s ∷ ss) spelt (os ∷ oss) = UnitStands u.text s spelt.
 UnitsStand us ss spelt oss = Unit {0}
 
 -- Whatever replies a project may be given: the fault of each refused declaration stands at one of its tokens, and the
--- last fault of a unit at a token of the next declaration or of what is left of the unit, or where its tokens end.
+-- last fault of a unit, by its code, at a token of the next declaration or of what is left of the unit, or where its
+-- tokens end.
 abbrev pub FaultsStandInTheirDeclarations : Type 0
 FaultsStandInTheirDeclarations = (p : Project) (rs : Replies) (may : MayReply p rs) → UnitsStand (unit_texts p) may.sources may.sources_are may.answers

@@ -32,7 +32,7 @@ unfolding types_size
 sizes_at-types τ [] = refl
 sizes_at-types τ (i ∷ is) = ap (λ n. type_size (τ i) + n) (sizes_at-types τ is)
 
-positive : (t : O.MlType Name) → 0 < type_size t
+pub positive : (t : O.MlType Name) → 0 < type_size t
 unfolding type_size
 positive (O.bound k) = omega arith
 positive (O.free v) = omega arith
@@ -50,7 +50,7 @@ counting-first ns root is r e =
       exact = rw e (omega arith);
     }
 
-size-app : (ns : List Node) (at here : ℕ) (h : Head) (kids : SmallVec ℕ) → IsSame ns at here → node_at ns here ≡ App h kids → (τ : Assignment finite) → Meets finite ns τ → type_size (τ at) ≡ suc (sizes_at τ kids.items)
+pub size-app : (ns : List Node) (at here : ℕ) (h : Head) (kids : SmallVec ℕ) → IsSame ns at here → node_at ns here ≡ App h kids → (τ : Assignment finite) → Meets finite ns τ → type_size (τ at) ≡ suc (sizes_at τ kids.items)
 unfolding type_size
 size-app ns at here h kids s e τ m =
     let a = s finite τ m in

@@ -8,3 +8,4 @@ pub mod Walks
 pub mod Wholeness
 pub mod Demanding
 pub mod Counting
+pub mod Retrieving

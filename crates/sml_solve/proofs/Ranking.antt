@@ -39,7 +39,7 @@ rank-node σ n i (Link j) s a =
     (omega (arith, e, s), tt)
 rank-node σ n i (App h kids) s a =
     let e : type_size (σ i) ≡ suc (types_size (types_of (map σ kids.items))) = ap type_size a in
-    ranks-below σ n i kids.items s (sizes-below σ kids.items (type_size (σ i)) (omega (arith, e)))
+    ranks-below σ n i kids.items s.0 (sizes-below σ kids.items (type_size (σ i)) (omega (arith, e)))
 
 pub rank_of : (ns : List Node) → IsSound ns → HasFinite ns → HasRank ns
 rank_of ns s f = record {

@@ -45,14 +45,26 @@ pairs_of [] ys = []
 pairs_of (x ∷ xs) [] = []
 pairs_of (x ∷ xs) (y ∷ ys) = (x, y) ∷ pairs_of xs ys
 
+-- an arrow has two parts
+abbrev pub IsCountOf : Head → ℕ → Type 0
+IsCountOf Arrow n = n ≡ 2
+IsCountOf Row n = Unit {0}
+IsCountOf (Applied m) n = Unit {0}
+
 -- links lead down, and parts stand in the vector
 abbrev pub IsSoundNode : ℕ → ℕ → Node → Type 0
 IsSoundNode n i Unknown = Unit {0}
 IsSoundNode n i (Link j) = j < i
-IsSoundNode n i (App h kids) = AllByRecursion (λ k. k < n) kids.items
+IsSoundNode n i (App h kids) = AllByRecursion (λ k. k < n) kids.items × IsCountOf h (length kids.items)
 
 abbrev pub IsSound : List Node → Type 0
 IsSound ns = (i : ℕ) → IsSoundNode (length ns) i (node_at ns i)
+
+-- the node says something
+abbrev pub IsKnown : Node → Type 0
+IsKnown Unknown = ⊥
+IsKnown (Link j) = Unit {0}
+IsKnown (App h kids) = Unit {0}
 
 abbrev pub IsRootNode : Node → Type 0
 IsRootNode Unknown = Unit {0}

@@ -7,3 +7,5 @@ pub mod Layers
 pub mod Asked
 pub mod Whole
 pub mod Counted
+pub mod Left
+pub mod Reads

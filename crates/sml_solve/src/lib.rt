@@ -10,6 +10,7 @@ pub mod layer;
 mod limits;
 mod merge;
 mod node;
+mod reading;
 pub mod solver;
 #[cfg(test)]
 mod tests;

@@ -1,5 +1,5 @@
 -- What a demand does to the types that are permitted.
-use Rattle.std.proofs.Common.{◌≡◌, ℕ, ◌+◌, ◌<◌, ◌↔◌, inl, inr, Option, None, List, [], ◌∷◌, ◌++◌, length, get_or, sym, ◌∙◌, ap, subst, refl, arith, length-append}
+use Rattle.std.proofs.Common.{◌≡◌, ℕ, ◌+◌, ◌<◌, ◌^◌, ◌↔◌, inl, inr, Option, None, List, [], ◌∷◌, ◌++◌, length, get_or, sym, ◌∙◌, ap, subst, refl, arith, length-append}
 use Rattle.std.specs.Prelude.{Bool}
 use Rattle.std.proofs.lemmas.Bool.{cases_lt}
 use Rattle.std.proofs.lemmas.List.{get_or_past}
@@ -28,6 +28,7 @@ use Rattle.sml_solve.proofs.Ranking.{rank_of, finite_of, solution, nothing, solu
 use Rattle.sml_solve.proofs.Walks.{has_infinite}
 use Rattle.sml_solve.proofs.Merging.{all-append}
 use Rattle.sml_solve.proofs.Wholeness.{get_or-push, closed-more}
+use Rattle.sml_solve.proofs.Owning.{owners-none, owners-fresh, owners-grown, owners-merged}
 
 -- limits and assignments that agree
 
@@ -382,7 +383,7 @@ kept-none u g us a b c d e f = record {
     newness = rw a (λ i. tt);
     locality = rw a (λ i. tt);
   };
-  inside = rw f tt;
+  owners = owners-none g.nodes.items us a f;
 }
 
 pub whole-met : (u : ℕ) (g : Graph) (us : List ℕ) (b : Bool) → IsWhole u g → IsMet (asked_of u us g b)
@@ -400,8 +401,8 @@ whole-met u g us b w Locality =
 
 -- an unknown more
 
-pub kept-fresh : (u : ℕ) (g h : Graph) (us vs : List ℕ) → IsKept u g us → h.nodes.items ≡ g.nodes.items ++ Unknown ∷ [] → ((i : ℕ) → limit_at h.newness.items i ≡ limit_at g.newness.items i) → ((i : ℕ) → limit_at h.locality.items i ≡ limit_at g.locality.items i) → IsFull h → vs ≡ us ++ length g.nodes.items ∷ [] → IsKept u h vs
-kept-fresh u g h us vs k e a b full f =
+pub kept-fresh : (u : ℕ) (g h : Graph) (us vs : List ℕ) → IsKept u g us → h.nodes.items ≡ g.nodes.items ++ Unknown ∷ [] → ((i : ℕ) → limit_at h.newness.items i ≡ limit_at g.newness.items i) → ((i : ℕ) → limit_at h.locality.items i ≡ limit_at g.locality.items i) → IsFull h → vs ≡ us ++ length g.nodes.items ∷ [] → length us < 2 ^ 32 → IsKept u h vs
+kept-fresh u g h us vs k e a b full f few =
     let ns = g.nodes.items in
     let w = k.whole in
     let n : length h.nodes.items ≡ length ns + 1 = ap length e ∙ simp length-append in
@@ -414,7 +415,7 @@ kept-fresh u g h us vs k e a b full f =
         newness = closed-more u ns h.nodes.items g.newness.items h.newness.items w.full.newness (λ i l. same i) a w.newness;
         locality = closed-more u ns h.nodes.items g.locality.items h.locality.items w.full.locality (λ i l. same i) b w.locality;
       };
-      inside = rw f (all-append (λ i. i < length h.nodes.items) us (length ns ∷ []) (inside-more (length ns) (length h.nodes.items) us (omega (arith, n)) k.inside) (omega (arith, n), tt));
+      owners = owners-fresh ns h.nodes.items us vs k.owners e f few;
     }
 
 pub permits-fresh : (u : ℕ) (g h : Graph) (us vs : List ℕ) (b d : Bool) → IsKept u g us → h.nodes.items ≡ g.nodes.items ++ Unknown ∷ [] → ((i : ℕ) → limit_at h.newness.items i ≡ limit_at g.newness.items i) → ((i : ℕ) → limit_at h.locality.items i ≡ limit_at g.locality.items i) → vs ≡ us ++ length g.nodes.items ∷ [] → PermitsSame (asked_of u us g b) (asked_of u vs h d)
@@ -435,7 +436,7 @@ permits-fresh u g h us vs b d k e x y f l σ =
             upto-as l u g.newness.items g.locality.items h.newness.items h.locality.items υ x y (upto-agree l u (length ns) g.newness.items g.locality.items p.0 υ k.whole.full.newness k.whole.full.locality agree p.2),
             λ v z.
                 elim (cases_lt v (length us)) [
-                  | inl a ↦ ap υ (old v a) ∙ (agree (get_or us v 0) (inside-at (length ns) us v k.inside a) ∙ p.3 v a)
+                  | inl a ↦ ap υ (old v a) ∙ (agree (get_or us v 0) (inside-at (length ns) us v k.owners.inside a) ∙ p.3 v a)
                   | inr c ↦
                       let q : v ≡ length us + 0 = omega (arith, c, z, n) in
                       let r : length us ≡ v = omega (arith, c, z, n) in
@@ -460,8 +461,26 @@ permits-grown u us b d t g h r k x l σ = (
   λ p. let y = grown-back us t g h r u l x p.0 p.1 p.2 in (p.0, y.0, y.1, p.3),
   λ p.
       let y = grown-forth us t g h r u l x k.whole.full p.0 p.1 p.2 in
-      (y.0, y.1, y.2, through-agree (world l) us (length g.nodes.items) p.0 y.0 σ k.inside y.3 p.3),
+      (y.0, y.1, y.2, through-agree (world l) us (length g.nodes.items) p.0 y.0 σ k.owners.inside y.3 p.3),
 )
 
 pub kept-grown : (u : ℕ) (us : List ℕ) (t : MlType Name) (g h : Graph) (r : ℕ) → IsKept u g us → Grows us t g h r → IsWhole u h → IsKept u h us
-kept-grown u us t g h r k x w = record { whole = w; inside = inside-more (length g.nodes.items) (length h.nodes.items) us x.interns.len k.inside }
+kept-grown u us t g h r k x w = record { whole = w; owners = owners-grown g.nodes.items us t h.nodes.items r k.owners x.interns }
+
+-- one equation more
+
+pub kept-merged : (u : ℕ) (us : List ℕ) (t v : MlType Name) (g h k m f : Graph) (x y : ℕ) → IsKept u g us → Grows us t g h x → Grows us v h k y → IsSound k.nodes.items → length m.nodes.items ≡ length k.nodes.items → ((σ : Assignment finite) → Meets finite m.nodes.items σ → Meets finite k.nodes.items σ) → Finishes u m f → IsKept u f us
+kept-merged u us t v g h k m f x y kept gx gy s n back z =
+    let e = z.nodes in
+    record {
+      whole = z.whole;
+      owners = owners-merged k.nodes.items f.nodes.items us (owners-grown h.nodes.items us v k.nodes.items y (owners-grown g.nodes.items us t h.nodes.items x kept.owners gx.interns) gy.interns) (ap length e ∙ n) s z.whole.sound z.whole.rank (λ σ q. back σ (rw e at q));
+    }
+
+-- limits are lowered
+
+pub kept-lowered : (u : ℕ) (us : List ℕ) (t : MlType Name) (g h m f : Graph) (x : ℕ) → IsKept u g us → Grows us t g h x → m.nodes.items ≡ h.nodes.items → Finishes u m f → IsKept u f us
+kept-lowered u us t g h m f x kept gx e z = record {
+  whole = z.whole;
+  owners = rw (z.nodes, e) (owners-grown g.nodes.items us t h.nodes.items x kept.owners gx.interns);
+}

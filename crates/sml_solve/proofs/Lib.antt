@@ -9,3 +9,4 @@ pub mod Wholeness
 pub mod Demanding
 pub mod Counting
 pub mod Retrieving
+pub mod Owning

@@ -23,12 +23,12 @@ use Rattle.sml_solve.specs.declared.node.Node.TheVariants.{Unknown, App}
 use Rattle.sml_solve.specs.declared.reading.Task.{Task}
 use Rattle.sml_solve.specs.declared.reading.Task.TheVariants.{Read, Apply}
 use Rattle.sml_solve.specs.Worlds.{finite, Assignment, make}
-use Rattle.sml_solve.specs.Graphs.{node_at, head_over, Meets, IsSame, IsCountOf, IsSoundNode}
+use Rattle.sml_solve.specs.Graphs.{node_at, head_over, Meets, IsSame, IsCountOf, IsSoundNode, IsLoose}
 use Rattle.sml_solve.specs.Interned.{through}
 use Rattle.sml_solve.specs.Ranks.{HasRank}
 use Rattle.sml_solve.specs.Left.{IsMadeOf, AreMadeOf}
 use Rattle.sml_solve.specs.Counted.{sizes_at}
-use Rattle.sml_solve.specs.Reads.{IsLoose, IsTypeAt, stacked, Gives, sizes, heads, unread, IsTaskIn, IsReadingOn}
+use Rattle.sml_solve.specs.Reads.{IsTypeAt, stacked, Gives, sizes, heads, unread, IsTaskIn, IsReadingOn}
 use Rattle.sml_solve.proofs.Interning.{typed-app, typed-free, map-push, types_size-is, sizes-append}
 use Rattle.sml_solve.proofs.Merging.{all-append}
 use Rattle.sml_solve.proofs.Ranking.{finite_of}

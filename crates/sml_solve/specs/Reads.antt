@@ -1,5 +1,5 @@
 -- Types that are read back from nodes.
-use Rattle.std.specs.Prelude.{◌≡◌, ℕ, suc, ◌+◌, ◌<◌, ◌≤◌, ◌^◌, List, [], ◌∷◌, length, map, take, drop, reverse, slice_index}
+use Rattle.std.specs.Prelude.{◌≡◌, ℕ, suc, ◌+◌, ◌<◌, ◌≤◌, List, [], ◌∷◌, length, map, take, drop, reverse}
 use Rattle.std.specs.List.{AllByRecursion}
 use Rattle.std.specs.Global.{Global}
 use Rattle.std.specs.declared.rc.Rc.{Rc}
@@ -10,24 +10,12 @@ use Rattle.sml_objects.specs.Types.{assign}
 use Rattle.sml_objects.specs.Views.{type_of}
 use Rattle.sml_objects.specs.declared.objects.MlType.{MlType}
 use Rattle.sml_solve.specs.declared.node.Node.{Node}
-use Rattle.sml_solve.specs.declared.node.Node.TheVariants.{Unknown}
 use Rattle.sml_solve.specs.declared.reading.Task.{Task}
 use Rattle.sml_solve.specs.declared.reading.Task.TheVariants.{Read, Apply}
 use Rattle.sml_solve.specs.Worlds.{finite, Assignment, make}
-use Rattle.sml_solve.specs.Graphs.{node_at, head_over, Meets, IsCountOf}
+use Rattle.sml_solve.specs.Graphs.{head_over, Meets, IsCountOf, IsLoose}
 use Rattle.sml_solve.specs.Interned.{through}
 use Rattle.sml_solve.specs.Left.{IsMadeOf}
-
--- The places of the unknowns rise, and each place that says nothing is one of them.
-pub record AreOwners (ns : List Node) (us : List ℕ) : Type 0 where
-  pub inside : AllByRecursion (λ i. i < length ns) us
-  pub rising : (v w : ℕ) → v < w → w < length us → slice_index us v < slice_index us w
-  pub owned : (i : ℕ) → i < length ns → node_at ns i ≡ Unknown → (v : ℕ) × (v < length us) × (slice_index us v ≡ i)
-  pub few : length us ≤ 2 ^ 32
-
--- the unknown's place says nothing
-abbrev pub IsLoose : List Node → List ℕ → ℕ → Type 0
-IsLoose ns us v = (v < length us) × (node_at ns (slice_index us v) ≡ Unknown)
 
 -- the type of a node, over the unknowns whose places say nothing
 pub record IsTypeAt (ns : List Node) (us : List ℕ) (at limit : ℕ) (t : O.MlType Name) : Type 0 where

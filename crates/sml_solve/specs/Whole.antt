@@ -8,7 +8,7 @@ use Rattle.sml_solve.specs.declared.layer.Layer.{Layer}
 use Rattle.sml_solve.specs.declared.layer.Layer.TheVariants.{Equations, Finiteness, Newness, Locality}
 use Rattle.sml_solve.specs.declared.node.Node.{Node}
 use Rattle.sml_solve.specs.Worlds.{finite, Assignment}
-use Rattle.sml_solve.specs.Graphs.{IsSound, Meets, SameOutside}
+use Rattle.sml_solve.specs.Graphs.{IsSound, Meets, SameOutside, AreOwners}
 use Rattle.sml_solve.specs.Ranks.{HasRank, mark_at}
 use Rattle.sml_solve.specs.Bounds.{Keeps, IsClosed, IsClosedBut, SameLimits, Lowers}
 
@@ -82,4 +82,4 @@ LowersBound B.Locality g r n h is = LowersLocality g r n h is
 -- what a solver keeps between two demands
 pub record IsKept (u : ℕ) (g : Graph) (us : List ℕ) : Type 0 where
   pub whole : IsWhole u g
-  pub inside : AllByRecursion (λ i. i < length g.nodes.items) us
+  pub owners : AreOwners g.nodes.items us

@@ -6,7 +6,7 @@ ghost use Rattle.sml_objects.specs.Views.{type_of, maker_of};
 ghost use Rattle.sml_solve.specs.declared.layer.Layer.{Layer};
 ghost use Rattle.sml_solve.specs.Interned.{IsOver};
 ghost use Rattle.sml_solve.specs.Asked.{asked_of, equal, within, Adds, CanMeet, IsFirstUnmet};
-ghost use Rattle.sml_solve.specs.Whole.{IsFull, IsWhole, LowersBound};
+ghost use Rattle.sml_solve.specs.Whole.{IsFull, IsKept, LowersBound};
 
 use crate::graph::{Graph, add, finish, merge_two};
 use crate::layer::{Bound, Refusal};
@@ -24,12 +24,10 @@ pub(crate) fn equate(
     left: &MlType,
     right: &MlType,
 ) -> Result<(), Refusal>
-    requires whole { IsWhole (maker_of unit) graph.old }
-    requires inside { AllByRecursion (λ i. i < length graph.old.nodes.items) unknowns.now }
+    requires kept { IsKept (maker_of unit) graph.old unknowns.now }
     requires left { IsOver (length unknowns.now) (type_of left.now) }
     requires right { IsOver (length unknowns.now) (type_of right.now) }
-    ensures whole { OnOk result (IsWhole (maker_of unit) graph.new) }
-    ensures inside { OnOk result (AllByRecursion (λ i. i < length graph.new.nodes.items) unknowns.now) }
+    ensures kept { OnOk result (IsKept (maker_of unit) graph.new unknowns.now) }
     ensures ok { OnOk result (Adds (asked_of (maker_of unit) unknowns.now graph.old false) (equal (type_of left.now) (type_of right.now)) (asked_of (maker_of unit) unknowns.now graph.new false)) }
     ensures met { OnOk result ((l : Layer) → CanMeet l (asked_of (maker_of unit) unknowns.now graph.old false) (equal (type_of left.now) (type_of right.now))) }
     ensures unmet { (l : Layer) → result ≡ Err (Refusal.Unmet l) → IsFirstUnmet l (asked_of (maker_of unit) unknowns.now graph.old false) (equal (type_of left.now) (type_of right.now)) }
@@ -60,11 +58,9 @@ pub(crate) fn restrict(
     most: u32,
     ty: &MlType,
 ) -> Result<(), Refusal>
-    requires whole { IsWhole (maker_of unit) graph.old }
-    requires inside { AllByRecursion (λ i. i < length graph.old.nodes.items) unknowns.now }
+    requires kept { IsKept (maker_of unit) graph.old unknowns.now }
     requires known { IsOver (length unknowns.now) (type_of ty.now) }
-    ensures whole { OnOk result (IsWhole (maker_of unit) graph.new) }
-    ensures inside { OnOk result (AllByRecursion (λ i. i < length graph.new.nodes.items) unknowns.now) }
+    ensures kept { OnOk result (IsKept (maker_of unit) graph.new unknowns.now) }
     ensures ok { OnOk result (Adds (asked_of (maker_of unit) unknowns.now graph.old false) (within bound most (type_of ty.now)) (asked_of (maker_of unit) unknowns.now graph.new false)) }
     ensures met { OnOk result ((l : Layer) → CanMeet l (asked_of (maker_of unit) unknowns.now graph.old false) (within bound most (type_of ty.now))) }
     ensures unmet { (l : Layer) → result ≡ Err (Refusal.Unmet l) → IsFirstUnmet l (asked_of (maker_of unit) unknowns.now graph.old false) (within bound most (type_of ty.now)) }

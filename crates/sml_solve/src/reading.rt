@@ -9,9 +9,9 @@ ghost use Rattle.sml_objects.specs.Views.{type_of, types_of};
 ghost use Rattle.sml_solve.specs.declared.node.Node.TheVariants.{Unknown};
 ghost use Rattle.sml_solve.specs.declared.reading.Task.TheVariants.{Read};
 ghost use Rattle.sml_solve.specs.Worlds.{finite, Assignment};
-ghost use Rattle.sml_solve.specs.Graphs.{IsSound, IsCountOf, Meets, head_over, node_at};
+ghost use Rattle.sml_solve.specs.Graphs.{IsSound, IsCountOf, AreOwners, Meets, head_over};
 ghost use Rattle.sml_solve.specs.Ranks.{HasRank};
-ghost use Rattle.sml_solve.specs.Reads.{AreOwners, IsTypeAt, stacked};
+ghost use Rattle.sml_solve.specs.Reads.{IsTypeAt, stacked};
 
 use crate::count::root_of;
 use crate::node::{Head, Node};

@@ -1,12 +1,17 @@
 -- Unknowns and the nodes that say nothing.
-use Rattle.std.proofs.Common.{◌≡◌, ◌≢◌, ℕ, zero, suc, ◌+◌, ◌^◌, ◌<◌, ◌≤◌, ◌⊎◌, inl, inr, List, [], ◌∷◌, ◌++◌, length, map, get_or, sym, ◌∙◌, ap, subst, refl, arith, length-append}
+use Rattle.std.proofs.Common.{◌≡◌, ◌≢◌, ℕ, zero, suc, ◌+◌, ◌^◌, ◌<◌, ◌≤◌, ◌⊎◌, inl, inr, Option, Some, None, List, [], ◌∷◌, ◌++◌, length, map, get_or, sym, ◌∙◌, ap, subst, refl, arith, length-append}
 use Rattle.std.proofs.lemmas.Bool.{cases_lt}
 use Rattle.std.specs.Prelude.{Bool}
 use Rattle.std.specs.List.{AllByRecursion}
+use Rattle.std.specs.Option.{IfSome, IfNone}
+use Rattle.std.specs.Global.{Global}
+use Rattle.std.specs.declared.rc.Rc.{Rc}
 use Rattle.sml_objects.specs.Initial.{Name}
 use Rattle.sml_objects.specs.Objects as O
 use Rattle.sml_objects.specs.Types.{assign}
 use Rattle.sml_objects.specs.Sizes.{type_size}
+use Rattle.sml_objects.specs.Views.{type_of}
+use Rattle.sml_objects.specs.declared.objects.MlType.{MlType}
 use Rattle.smallvec.specs.SmallVec.{SmallVec}
 use Rattle.sml_solve.specs.declared.graph.Graph.{Graph}
 use Rattle.sml_solve.specs.declared.layer.Layer.TheVariants.{Finiteness}
@@ -20,7 +25,7 @@ use Rattle.sml_solve.specs.Ranks.{IsRanked, HasRank}
 use Rattle.sml_solve.specs.Asked.{Asked, asked_of, count, Permits}
 use Rattle.sml_solve.specs.Left.{IsMadeOf, AreMadeOf, IsLeft, IsReading, IsMostGeneral}
 use Rattle.sml_solve.specs.Reads.{IsTypeAt}
-use Rattle.sml_solve.proofs.Interning.{inside-at, inside-more, get_or-left, get_or-right, typed-same, map-alike}
+use Rattle.sml_solve.proofs.Interning.{inside-at, inside-more, get_or-left, get_or-right, typed-same, map-alike, parts-inside}
 use Rattle.sml_solve.proofs.Merging.{same_or_not, all-append}
 use Rattle.sml_solve.proofs.Ranking.{solution, nothing, solution-meets, solution-unknown}
 use Rattle.sml_solve.proofs.Searching.{all-parts}
@@ -128,3 +133,202 @@ owners-none ns us e f = record {
   owned = λ i l q. let n = ap length e in absurd (omega (arith, l, n));
   few = let n = ap length f in omega (arith, n);
 }
+
+-- Where a node leads to.
+
+pub record LeadsTo (ns : List Node) (i r : ℕ) : Type 0 where
+  pub same : IsSame ns i r
+  pub below : r ≤ i
+  pub root : (j : ℕ) → node_at ns r ≡ Link j → ⊥
+
+leads-node : (ns : List Node) (i : ℕ) (x : Node) → node_at ns i ≡ x → IsSoundNode (length ns) i x → ((j : ℕ) → j < i → (r : ℕ) × LeadsTo ns j r) → (r : ℕ) × LeadsTo ns i r
+leads-node ns i Unknown e s f = (i, record { same = λ w σ m. refl; below = omega arith; root = λ j q. absurd (apart j (sym e ∙ q)) }) where
+  apart : (j : ℕ) → Unknown ≡ Link j → ⊥
+  apart j q = cc
+leads-node ns i (Link k) e s f =
+    let g = f k s in
+    let l = g.1.below in
+    (g.0, record { same = λ w σ m. let a : σ i ≡ σ k = rw e at (m i) in a ∙ g.1.same w σ m; below = omega (arith, l, s); root = g.1.root })
+leads-node ns i (App h kids) e s f = (i, record { same = λ w σ m. refl; below = omega arith; root = λ j q. absurd (apart j (sym e ∙ q)) }) where
+  apart : (j : ℕ) → App h kids ≡ Link j → ⊥
+  apart j q = cc
+
+leads-below : (ns : List Node) → IsSound ns → (n i : ℕ) → i < n → (r : ℕ) × LeadsTo ns i r
+leads-below ns s zero i h = absurd (omega (arith, h))
+leads-below ns s (suc n) i h = leads-node ns i (node_at ns i) refl (s i) (λ j l. leads-below ns s n j (omega (arith, h, l)))
+
+-- Unknowns that are left.
+
+permitted : (u : ℕ) (us : List ℕ) (g : Graph) (b : Bool) (τ : Assignment finite) → Meets finite g.nodes.items τ → Permits Finiteness (asked_of u us g b) (through finite us τ)
+unfolding Permits
+permitted u us g b τ m = (τ, m, tt, λ v l. refl)
+
+through-permitted : (u : ℕ) (us : List ℕ) (g : Graph) (b : Bool) (σ : Assignment finite) → Permits Finiteness (asked_of u us g b) σ → (τ : Assignment finite) × Meets finite g.nodes.items τ × ((v : ℕ) → v < length us → through finite us τ v ≡ σ v)
+unfolding Permits
+through-permitted u us g b σ p = (p.0, p.1, p.3)
+
+owned-once : (us : List ℕ) (v w : ℕ) → ((v w : ℕ) → v < w → w < length us → get_or us v 0 < get_or us w 0) → v < length us → w < length us → get_or us v 0 ≡ get_or us w 0 → v ≡ w
+owned-once us v w r h l e =
+    elim (cases_lt v w) [
+      | inl b ↦ let z = r v w b l in absurd (omega (arith, z, e))
+      | inr c ↦
+          elim (cases_lt w v) [
+            | inl b ↦ let z = r w v b h in absurd (omega (arith, z, e))
+            | inr d ↦ omega (arith, c, d)
+          ]
+    ]
+
+pub loose-left : (u : ℕ) (us : List ℕ) (g : Graph) (b : Bool) (v : ℕ) → IsSound g.nodes.items → HasRank g.nodes.items → AreOwners g.nodes.items us → IsLoose g.nodes.items us v → IsLeft (asked_of u us g b) v
+loose-left u us g b v s h o l = record {
+  known = l.0;
+  any = λ t.
+      let σ = solution g.nodes.items (λ _. t) h.rank in
+      (through finite us σ, permitted u us g b σ (solution-meets g.nodes.items (λ _. t) h.rank h.ranked), solution-unknown g.nodes.items (λ _. t) h.rank (get_or us v 0) l.1);
+  first = λ w k.
+      let d = differs g.nodes.items (get_or us v 0) (get_or us w 0) s h l.1 (o.rising w v k l.0) in
+      (through finite us d.0, permitted u us g b d.0 d.1, d.2);
+}
+
+left-node : (u : ℕ) (us : List ℕ) (g : Graph) (b : Bool) (v r : ℕ) (x : Node) → AreOwners g.nodes.items us → IsLeft (asked_of u us g b) v → LeadsTo g.nodes.items (get_or us v 0) r → node_at g.nodes.items r ≡ x → node_at g.nodes.items (get_or us v 0) ≡ Unknown
+left-node u us g b v r Unknown o l t e =
+    let i = get_or us v 0 in
+    let inside = inside-at (length g.nodes.items) us v o.inside l.known in
+    let w = t.below in
+    let x = o.owned r (omega (arith, inside, w)) e in
+    elim (cases_lt x.0 v) [
+      | inl k ↦
+          let f = l.first x.0 k in
+          let p = through-permitted u us g b f.0 f.1 in
+          let q : f.0 x.0 ≡ f.0 v = sym (p.2 x.0 x.1) ∙ (ap p.0 x.2 ∙ (sym (t.same finite p.0 p.1) ∙ p.2 v l.known)) in
+          absurd (f.2 q)
+      | inr k ↦
+          elim (cases_lt v x.0) [
+            | inl m ↦ let z = o.rising v x.0 m x.1 in let y = x.2 in absurd (omega (arith, z, y, w))
+            | inr m ↦ let q : x.0 ≡ v = omega (arith, k, m) in let z : i ≡ r = ap (λ k. get_or us k 0) (sym q) ∙ x.2 in ap (node_at g.nodes.items) z ∙ e
+          ]
+    ]
+left-node u us g b v r (Link j) o l t e = absurd (t.root j e)
+left-node u us g b v r (App h kids) o l t e =
+    let f = l.any (O.free 0) in
+    let p = through-permitted u us g b f.0 f.1 in
+    let a : p.0 r ≡ make finite (head_over h (length kids.items)) (map p.0 kids.items) = rw e at (p.1 r) in
+    absurd (not-free _ _ 0 (f.0 v) (sym (p.2 v l.known) ∙ (t.same finite p.0 p.1 ∙ a)) f.2)
+
+pub left-loose : (u : ℕ) (us : List ℕ) (g : Graph) (b : Bool) (v : ℕ) → IsSound g.nodes.items → AreOwners g.nodes.items us → IsLeft (asked_of u us g b) v → IsLoose g.nodes.items us v
+left-loose u us g b v s o l =
+    let t = leads-below g.nodes.items s (suc (get_or us v 0)) (get_or us v 0) (omega arith) in
+    (l.known, left-node u us g b v t.0 (node_at g.nodes.items t.0) o l t.1 refl)
+
+-- Types that are chosen for the unknowns that are left.
+
+module _ (ns : List Node) (us : List ℕ) (o : AreOwners ns us) (ρ : Assignment finite) where
+  abbrev chosen : (i : ℕ) (x : Node) → node_at ns i ≡ x → O.MlType Name
+  chosen i Unknown e = elim (cases_lt i (length ns)) [ inl l ↦ ρ (o.owned i l e).0 | inr _ ↦ nothing i ]
+  chosen i (Link j) e = nothing i
+  chosen i (App h kids) e = nothing i
+
+  abbrev choice : Assignment finite
+  choice i = chosen i (node_at ns i) refl
+
+  chosen-is : (v : ℕ) (x : Node) (e : node_at ns (get_or us v 0) ≡ x) → v < length us → x ≡ Unknown → chosen (get_or us v 0) x e ≡ ρ v
+  chosen-is v Unknown e l q =
+      let inside = inside-at (length ns) us v o.inside l in
+      elim (cases_lt (get_or us v 0) (length ns)) as (λ d. elim d as (λ _. O.MlType Name) [ inl b ↦ ρ (o.owned (get_or us v 0) b e).0 | inr _ ↦ nothing (get_or us v 0) ] ≡ ρ v) [
+        | inl b ↦ let w = o.owned (get_or us v 0) b e in ap ρ (owned-once us w.0 v o.rising w.1 l w.2)
+        | inr c ↦ absurd (omega (arith, inside, c))
+      ]
+  chosen-is v (Link j) e l q = cc
+  chosen-is v (App h kids) e l q = cc
+
+-- nodes whose unknowns have the same types have the same types
+
+same-node : (σ τ : Assignment finite) (i : ℕ) (x : Node) → Agrees finite σ i x → Agrees finite τ i x → (x ≡ Unknown → σ i ≡ τ i) → AllByRecursion (λ k. σ k ≡ τ k) (parts x) → σ i ≡ τ i
+same-node σ τ i Unknown a b f c = f refl
+same-node σ τ i (Link j) a b f c = a ∙ (c.0 ∙ sym b)
+same-node σ τ i (App h kids) a b f c = a ∙ (ap (make finite (head_over h (length kids.items))) (map-alike finite σ τ kids.items c) ∙ sym b)
+
+all-both : (P Q : ℕ → Type 0) (ks : List ℕ) → AllByRecursion P ks → AllByRecursion Q ks → AllByRecursion (λ k. P k × Q k) ks
+all-both P Q [] a b = tt
+all-both P Q (k ∷ ks) a b = ((a.0, b.0), all-both P Q ks a.1 b.1)
+
+same-below : (ns : List Node) (r : ℕ → ℕ) (σ τ : Assignment finite) → IsSound ns → IsRanked ns r → Meets finite ns σ → Meets finite ns τ → ((i : ℕ) → i < length ns → node_at ns i ≡ Unknown → σ i ≡ τ i) → (n i : ℕ) → i < length ns → r i < n → σ i ≡ τ i
+same-below ns r σ τ s a m m' f zero i h l = absurd (omega (arith, l))
+same-below ns r σ τ s a m m' f (suc n) i h l =
+    same-node σ τ i (node_at ns i) (m i) (m' i) (f i h) (all-parts (λ k. (k < length ns) × (r k < r i)) (λ k. σ k ≡ τ k) (parts (node_at ns i)) (λ k b. same-below ns r σ τ s a m m' f n k b.0 (let z = b.1 in omega (arith, z, l))) (all-both (λ k. k < length ns) (λ k. r k < r i) (parts (node_at ns i)) (parts-inside (length ns) i (node_at ns i) h (s i)) (a i)))
+
+pub most-general : (u : ℕ) (us : List ℕ) (g : Graph) (b : Bool) → IsSound g.nodes.items → HasRank g.nodes.items → AreOwners g.nodes.items us → IsMostGeneral (asked_of u us g b)
+unfolding IsMostGeneral
+most-general u us g b s h o ρ =
+    let ns = g.nodes.items in
+    let ρ' = choice ns us o ρ in
+    let σ = solution ns ρ' h.rank in
+    let m = solution-meets ns ρ' h.rank h.ranked in (
+      through finite us σ,
+      permitted u us g b σ m,
+      λ v l.
+          let k = left-loose u us g b v s o l in
+          solution-unknown ns ρ' h.rank (get_or us v 0) k.1 ∙ chosen-is ns us o ρ v (node_at ns (get_or us v 0)) refl k.0 k.1,
+      λ τ p q v l.
+          let t = through-permitted u us g b τ p in
+          let one : (i : ℕ) → i < length ns → node_at ns i ≡ Unknown → t.0 i ≡ σ i = (λ i k e.
+          let w = o.owned i k e in
+          let loose : IsLoose ns us w.0 = (w.1, ap (node_at ns) w.2 ∙ e) in
+          let left = loose-left u us g b w.0 s h o loose in
+          let z : σ (get_or us w.0 0) ≡ ρ w.0 = solution-unknown ns ρ' h.rank (get_or us w.0 0) loose.1 ∙ chosen-is ns us o ρ w.0 (node_at ns (get_or us w.0 0)) refl w.1 loose.1 in
+          ap t.0 (sym w.2) ∙ (t.2 w.0 w.1 ∙ (q w.0 left ∙ (sym z ∙ ap σ w.2)))) in
+          let inside = inside-at (length ns) us v o.inside l in
+          sym (t.2 v l) ∙ same-below ns h.rank t.0 σ s h.ranked t.1 m one (suc (h.rank (get_or us v 0))) (get_or us v 0) inside (omega arith),
+    )
+
+-- Types that are read back.
+
+mutual
+  unfolding IsMadeOf AreMadeOf IsOver AreOver
+
+  pub made-over : (P : ℕ → Type 0) (n : ℕ) (t : O.MlType Name) → ((v : ℕ) → P v → v < n) → IsMadeOf P t → IsOver n t
+  made-over P n (O.bound k) f m = m
+  made-over P n (O.free v) f m = f v m
+  made-over P n (O.app h ts) f m = made-overs P n ts f m
+
+  made-overs : (P : ℕ → Type 0) (n : ℕ) (ts : O.MlTypes Name) → ((v : ℕ) → P v → v < n) → AreMadeOf P ts → AreOver n ts
+  made-overs P n O.no_type f m = tt
+  made-overs P n (O.and_type t ts) f m = (made-over P n t f m.0, made-overs P n ts f m.1)
+
+mutual
+  unfolding IsMadeOf AreMadeOf
+
+  pub made-more : (P Q : ℕ → Type 0) (t : O.MlType Name) → ((v : ℕ) → P v → Q v) → IsMadeOf P t → IsMadeOf Q t
+  made-more P Q (O.bound k) f m = m
+  made-more P Q (O.free v) f m = f v m
+  made-more P Q (O.app h ts) f m = mades-more P Q ts f m
+
+  mades-more : (P Q : ℕ → Type 0) (ts : O.MlTypes Name) → ((v : ℕ) → P v → Q v) → AreMadeOf P ts → AreMadeOf Q ts
+  mades-more P Q O.no_type f m = tt
+  mades-more P Q (O.and_type t ts) f m = (made-more P Q t f m.0, mades-more P Q ts f m.1)
+
+pub reading-is : (u : ℕ) (us : List ℕ) (g : Graph) (b : Bool) (t r : O.MlType Name) (at limit : ℕ) → IsSound g.nodes.items → HasRank g.nodes.items → AreOwners g.nodes.items us → IsOver (length us) t → ((τ : Assignment finite) → Meets finite g.nodes.items τ → τ at ≡ typed finite (through finite us τ) t) → IsTypeAt g.nodes.items us at limit r → IsReading (asked_of u us g b) t r
+unfolding IsReading
+reading-is u us g b t r at limit s h o k back x = (
+  made-more (IsLoose g.nodes.items us) (IsLeft (asked_of u us g b)) r (λ v l. loose-left u us g b v s h o l) x.over,
+  λ σ p.
+      let q = through-permitted u us g b σ p in
+      let over : IsOver (length us) r = made-over (IsLoose g.nodes.items us) (length us) r (λ v l. l.0) x.over in
+      let one = typed-same finite (through finite us q.0) σ (length us) r q.2 over in
+      let two = typed-same finite (through finite us q.0) σ (length us) t q.2 k in
+      sym one ∙ (x.same q.0 q.1 ∙ (back q.0 q.1 ∙ two)),
+)
+
+pub large-is : (u : ℕ) (us : List ℕ) (g : Graph) (b : Bool) (t : O.MlType Name) (at limit : ℕ) → IsOver (length us) t → ((τ : Assignment finite) → Meets finite g.nodes.items τ → τ at ≡ typed finite (through finite us τ) t) → ((τ : Assignment finite) → Meets finite g.nodes.items τ → limit < type_size (τ at)) → (σ : Assignment finite) → Permits Finiteness (asked_of u us g b) σ → limit < type_size (assign σ t)
+large-is u us g b t at limit k back f σ p =
+    let q = through-permitted u us g b σ p in
+    let e : type_size (q.0 at) ≡ type_size (assign σ t) = ap type_size (back q.0 q.1 ∙ typed-same finite (through finite us q.0) σ (length us) t q.2 k) in
+    let l = f q.0 q.1 in
+    omega (arith, e, l)
+
+pub readings-are : (u : ℕ) (us : List ℕ) (g : Graph) (b : Bool) (t : O.MlType Name) (at limit : ℕ) (o : Option (Rc MlType Global)) → IsSound g.nodes.items → HasRank g.nodes.items → AreOwners g.nodes.items us → IsOver (length us) t → ((τ : Assignment finite) → Meets finite g.nodes.items τ → τ at ≡ typed finite (through finite us τ) t) → IfSome o (λ r. IsTypeAt g.nodes.items us at limit (type_of r.value)) → IfSome o (λ r. IsReading (asked_of u us g b) t (type_of r.value))
+readings-are u us g b t at limit None s h a k back x = tt
+readings-are u us g b t at limit (Some r) s h a k back x = reading-is u us g b t (type_of r.value) at limit s h a k back x
+
+pub larges-are : (u : ℕ) (us : List ℕ) (g : Graph) (b : Bool) (t : O.MlType Name) (at limit : ℕ) (o : Option (Rc MlType Global)) → IsOver (length us) t → ((τ : Assignment finite) → Meets finite g.nodes.items τ → τ at ≡ typed finite (through finite us τ) t) → IfNone o ((τ : Assignment finite) → Meets finite g.nodes.items τ → limit < type_size (τ at)) → IfNone o ((σ : Assignment finite) → Permits Finiteness (asked_of u us g b) σ → limit < type_size (assign σ t))
+larges-are u us g b t at limit None k back f = large-is u us g b t at limit k back f
+larges-are u us g b t at limit (Some r) k back f = tt

@@ -1,12 +1,17 @@
 //! The solver: what a declaration asks of its unknown types.
 
-ghost use Rattle.std.specs.Prelude.{◌≡◌, ◌↔◌, ◌+◌, ◌^◌, ◌<◌, true, false, length, IfOk, OnOk, OnErr, Err};
+ghost use Rattle.std.specs.Prelude.{◌≡◌, ◌↔◌, ◌+◌, ◌^◌, ◌<◌, ◌≤◌, true, false, length, IfOk, OnOk, OnErr, Err};
 ghost use Rattle.std.specs.List.{AllByRecursion};
-ghost use Rattle.sml_objects.specs.Types.{instance_from};
+ghost use Rattle.std.specs.Option.{IfSome, IfNone};
+ghost use Rattle.sml_objects.specs.Sizes.{type_size};
+ghost use Rattle.sml_objects.specs.Types.{instance_from, assign};
 ghost use Rattle.sml_objects.specs.Views.{type_of, scheme_of, maker_of};
 ghost use Rattle.sml_solve.specs.declared.layer.Layer.{Layer};
-ghost use Rattle.sml_solve.specs.Asked.{Asked, asked_of, equal, within, count, IsOf, IsSchemeOf, Adds, CanMeet, IsFirstUnmet, IsMet, PermitsSame};
+ghost use Rattle.sml_solve.specs.declared.layer.Layer.TheVariants.{Finiteness};
+ghost use Rattle.sml_solve.specs.Worlds.{finite, Assignment};
+ghost use Rattle.sml_solve.specs.Asked.{Asked, asked_of, equal, within, count, IsOf, IsSchemeOf, Adds, CanMeet, IsFirstUnmet, IsMet, Permits, PermitsSame};
 ghost use Rattle.sml_solve.specs.Counted.{IsSizeUpTo};
+ghost use Rattle.sml_solve.specs.Left.{IsReading, IsMostGeneral};
 ghost use Rattle.sml_solve.specs.Whole.{IsKept};
 
 use crate::count::size_from;
@@ -14,6 +19,7 @@ use crate::demands::{equate, restrict};
 use crate::graph::{Graph, add, fill};
 use crate::layer::{Bound, Refusal};
 use crate::node::Node;
+use crate::reading::type_up_to;
 use sml_objects::objects::{MlType, Scheme, UnitId};
 use sml_objects::schemes::instantiate;
 use std::alloc::Global;
@@ -154,6 +160,45 @@ impl Solver {
         };
         self.spent = false;
         Ok(size)
+    }
+
+    /// A law: by the equations, the unknowns that are left may have any types, and these fix those of all others.
+    pub fn choices_are_free(&self)
+        requires { self.now.spent ≡ false }
+        ensures { IsMostGeneral self.now }
+    {
+        let _spent = self.spent;
+    }
+
+    /// The type that a type stands for, over the unknowns that are left, or `None` where it has more nodes than the
+    /// limit. The time taken beyond the type's own size grows with the limit.
+    pub fn reading(&mut self, ty: &MlType, limit: u32) -> Result<Option<Rc<MlType>>, Refusal>
+        requires known { IsOf self.old (type_of ty.now) }
+        requires small { limit + 1 < 2 ^ 32 }
+        ensures ty { IfOk result (λ found. IfSome found (λ t. IsReading self.new (type_of ty.now) (type_of t.value))) }
+        ensures within { IfOk result (λ found. IfSome found (λ t. type_size (type_of t.value) ≤ limit)) }
+        ensures large { IfOk result (λ found. IfNone found ((σ : Assignment finite) → Permits Finiteness self.new σ → limit < type_size (assign σ (type_of ty.now)))) }
+        ensures same { OnOk result (PermitsSame self.old self.new) }
+        ensures count { count self.new ≡ count self.old }
+        ensures kept { OnOk result (self.new.spent ≡ false) }
+        ensures unit { self.new.unit ≡ self.old.unit }
+        ensures err { OnErr result (self.new.spent ≡ true) }
+        ensures unmet { (l : Layer) → result ≡ Err (Refusal.Unmet l) → ⊥ }
+        ensures spent { result ≡ Err Refusal.Spent ↔ self.old.spent ≡ true }
+    {
+        if self.spent {
+            return Err(Refusal::Spent);
+        }
+        self.spent = true;
+        let Ok(at) = add(self.alloc, &mut self.graph, self.unknowns.as_slice(), ty) else {
+            return Err(Refusal::Memory);
+        };
+        let nodes = self.graph.nodes.as_slice();
+        let Ok(found) = type_up_to(self.alloc, nodes, self.unknowns.as_slice(), at, limit) else {
+            return Err(Refusal::Memory);
+        };
+        self.spent = false;
+        Ok(found)
     }
 
     /// Demands that two types are equal: U1, U2, U3 or E6 where they can't be.

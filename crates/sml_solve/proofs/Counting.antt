@@ -19,9 +19,10 @@ use Rattle.sml_solve.specs.Interned.{IsOver, through}
 use Rattle.sml_solve.specs.Asked.{asked_of, Permits}
 use Rattle.sml_solve.specs.Whole.{IsKept}
 use Rattle.sml_solve.specs.Counted.{sizes_at, IsCounting, IsCounted, IsSizeUpTo}
-use Rattle.sml_solve.proofs.Ranking.{solution, nothing, solution-meets, solution-unknown}
+use Rattle.sml_solve.proofs.Ranking.{solution, ints, solution-meets, solution-unknown}
 use Rattle.sml_solve.proofs.Interning.{typed-same}
 use Rattle.sml_solve.proofs.Demanding.{Grows, grown-forth, grown-back, through-agree}
+use Rattle.sml_solve.proofs.Limiting.{nothing-asked}
 
 sizes_at-append : (τ : Assignment finite) (is js : List ℕ) → sizes_at τ (is ++ js) ≡ sizes_at τ is + sizes_at τ js
 sizes_at-append τ [] js = omega arith
@@ -41,12 +42,12 @@ positive (O.app h ts) = omega arith
 pub counting-first : (ns : List Node) (root : ℕ) (is : List ℕ) → HasRank ns → is ≡ root ∷ [] → IsCounting ns root 0 is
 unfolding type_size types_size
 counting-first ns root is r e =
-    let σ = solution ns nothing r.rank in
+    let σ = solution ns ints r.rank in
     record {
       less = λ τ m. rw e (omega arith);
       types = σ;
-      meets = solution-meets ns nothing r.rank r.ranked;
-      ones = λ i q. ap type_size (solution-unknown ns nothing r.rank i q);
+      meets = solution-meets ns ints r.rank r.ranked;
+      ones = λ i q. ap type_size (solution-unknown ns ints r.rank i q);
       exact = rw e (omega arith);
     }
 
@@ -112,6 +113,6 @@ counted-size u us b t g h r limit n k o x c = record {
       omega (arith, s, w);
   reached = λ q.
       let y = c.reached q in
-      let z = grown-back us t g h r u Finiteness x y.0 y.1 tt in
-      (through finite us y.0, (y.0, z.0, tt, λ v l. refl), ap type_size (sym z.2) ∙ y.2);
+      let z = grown-back us t g h r u Finiteness x y.0 y.1 (nothing-asked u h.limits.items y.0) in
+      (through finite us y.0, (y.0, z.0, nothing-asked u g.limits.items y.0, λ v l. refl), ap type_size (sym z.2) ∙ y.2);
 }

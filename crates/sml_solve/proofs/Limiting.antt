@@ -1,108 +1,31 @@
 -- Limits that are handed on.
-use Rattle.std.proofs.Common.{◌≡◌, ◌≢◌, ℕ, zero, suc, ◌+◌, ◌<◌, ◌≤◌, ◌⊎◌, inl, inr, Option, Some, None, List, [], ◌∷◌, ◌++◌, length, map, set, sym, ◌∙◌, ap, subst, refl, arith, length-append, get_or-set_same, get_or-set_other}
+use Rattle.std.proofs.Common.{◌≡◌, ◌≢◌, ℕ, zero, suc, ◌+◌, ◌^◌, ◌<◌, ◌≤◌, ◌⊎◌, ◌↔◌, inl, inr, Bool, true, false, ◌&&◌, ◌||◌, not, cond, nat_lt, Option, Some, None, List, [], ◌∷◌, ◌++◌, length, map, set, sym, ◌∙◌, ap, subst, refl, arith, length-append, get_or-set_same, get_or-set_other}
 use Rattle.std.proofs.Math.ListN.{length-set}
+use Rattle.std.proofs.lemmas.Bool.{ltb-false, ltb-true}
+use Rattle.std.proofs.lemmas.List.{length-map}
 use Rattle.std.specs.List.{AllByRecursion}
-use Rattle.sml_objects.specs.Initial.{Name, initial, made}
-use Rattle.sml_objects.specs.Objects.{MlType, MlTypes, Head, bound, free, app, arrow, row, name, no_type, and_type}
+use Rattle.std.specs.Option.{IfSome, IfNone}
+use Rattle.sml_objects.specs.Names as N
+use Rattle.sml_objects.specs.Initial.{Name, initial, made, naming, attributes_of}
+use Rattle.sml_objects.specs.Equality.{admits, all_admit, is_reference_name}
+use Rattle.sml_objects.specs.Objects.{MlType, MlTypes, Head, bound, free, app, arrow, row, name, no_type, and_type, named}
 use Rattle.sml_objects.specs.Views.{types_of}
+use Rattle.sml_objects.proofs.EqualityViews.{is_ref-name}
+use Rattle.sml_solve.specs.declared.class.Names.{Names}
+use Rattle.sml_solve.specs.declared.layer.Layer.{Layer}
+use Rattle.sml_solve.specs.declared.layer.Layer.TheVariants.{Equations, Finiteness, Newness, Locality, Equality, Classes}
+use Rattle.sml_solve.specs.declared.limits.Limit.{Limit}
 use Rattle.sml_solve.specs.declared.node.Node.{Node}
 use Rattle.sml_solve.specs.declared.node.Node.TheVariants.{Unknown, Link, App}
-use Rattle.sml_solve.specs.Worlds.{finite, Assignment}
+use Rattle.sml_solve.specs.Worlds.{finite, Assignment, make}
 use Rattle.sml_solve.specs.Graphs.{node_at, parts, head_over, Agrees, Meets, IsAmong}
-use Rattle.sml_solve.specs.Bounds.{IsNameWithin, IsHeadWithin, IsWithin, AreWithin, limit_at, MeetsLimit, Keeps, IsUnder, HasHeadWithin, IsClosedNode, IsClosed, IsClosedBut, SameLimits, height, heights, Lowers}
+use Rattle.sml_solve.specs.Bounds.{IsNameWithin, IsHeadWithin, IsWithin, AreWithin}
+use Rattle.sml_solve.specs.Classes.{allows, both_names, IsIn}
+use Rattle.sml_solve.specs.Limits.{no_limit, limit_at, MeetsBound, MeetsEquality, MeetsClass, MeetsAt, KeepsAt, KeepsThrough, IsUnder, IsOfBoth, both_bounds, both_classes, both, FitsBound, FitsEquality, FitsClass, FitsAt, IsFitNode, asks_parts, for_parts, handed, IsClosedNode, IsClosed, IsFit, IsBefore, IsDoneBut, SameLimits, NoneKeeps, bound_height, class_height, height, heights, Lowers}
 use Rattle.sml_solve.proofs.Merging.{same_or_not, all-append, IsAmong-append, IsAmong-back}
 use Rattle.sml_solve.proofs.Searching.{all-parts}
 
-pub under-refl : (a : Option ℕ) → IsUnder a a
-under-refl None = tt
-under-refl (Some n) = omega arith
-
-pub under-trans : (a b c : Option ℕ) → IsUnder a b → IsUnder b c → IsUnder a c
-under-trans a b None f g = tt
-under-trans a None (Some n) f g = absurd g
-under-trans None (Some m) (Some n) f g = absurd f
-under-trans (Some k) (Some m) (Some n) f g = omega (arith, f, g)
-
-limit-same : (ls : List (Option ℕ)) (i : ℕ) (l : Option ℕ) → i < length ls → limit_at (set ls i l) i ≡ l
-limit-same ls i l h = get_or-set_same ls i l None h
-
-limit-other : (ls : List (Option ℕ)) (i j : ℕ) (l : Option ℕ) → j ≢ i → limit_at (set ls i l) j ≡ limit_at ls j
-limit-other ls i j l d = get_or-set_other ls i j l None d
-
-heights-set : (ls : List (Option ℕ)) (i : ℕ) (l : Option ℕ) → i < length ls → heights (set ls i l) + height (limit_at ls i) ≡ heights ls + height l
-heights-set [] i l h = absurd (omega (arith, h))
-heights-set (x ∷ ls) zero l h = omega arith
-heights-set (x ∷ ls) (suc i) l h = let r = heights-set ls i l (omega (arith, h)) in omega (arith, r)
-
-pub lowers-none : (ls : List (Option ℕ)) (is : List ℕ) (n : ℕ) → Lowers ls is [] n ls is
-lowers-none ls is n = record {
-  len = refl;
-  reach = tt;
-  under = λ i. under-refl (limit_at ls i);
-  moved = λ i. inl refl;
-  grows = λ i a. a;
-  inside = λ a. a;
-  less = omega arith;
-}
-
-pub lowers-low : (ls : List (Option ℕ)) (is : List ℕ) (at n : ℕ) → IsUnder (limit_at ls at) (Some n) → Lowers ls is (at ∷ []) n ls is
-lowers-low ls is at n h = record {
-  len = refl;
-  reach = (h, tt);
-  under = λ i. under-refl (limit_at ls i);
-  moved = λ i. inl refl;
-  grows = λ i a. a;
-  inside = λ a. a;
-  less = omega arith;
-}
-
-lower-height : (n : ℕ) (l : Option ℕ) → n < height l → IsUnder (Some n) l
-lower-height n None h = tt
-lower-height n (Some m) h = omega (arith, h)
-
-pub lowers-one : (ls : List (Option ℕ)) (is : List ℕ) (at n : ℕ) → at < length ls → n < height (limit_at ls at) → Lowers ls is (at ∷ []) n (set ls at (Some n)) (is ++ at ∷ [])
-lowers-one ls is at n h b = record {
-  len = length-set ls at (Some n);
-  reach = (rw (limit-same ls at (Some n) h) (omega arith), tt);
-  under = λ i.
-      elim (same_or_not i at) [
-        | inl e ↦ rw (e, limit-same ls at (Some n) h) (lower-height n (limit_at ls at) b)
-        | inr d ↦ rw (limit-other ls at i (Some n) d) (under-refl (limit_at ls i))
-      ];
-  moved = λ i.
-      elim (same_or_not i at) [
-        | inl e ↦ inr (ap (limit_at (set ls at (Some n))) e ∙ limit-same ls at (Some n) h, inl e, IsAmong-back i is (at ∷ []) (inl e))
-        | inr d ↦ inl (limit-other ls at i (Some n) d)
-      ];
-  grows = λ i a. IsAmong-append i is (at ∷ []) a;
-  inside = λ a. all-append (λ i. i < length ls) is (at ∷ []) a (h, tt);
-  less = let x = heights-set ls at (Some n) h in simp length-append (omega (arith, x, b));
-}
-
-pub lowers-then : (ls ms ns : List (Option ℕ)) (is js ps : List ℕ) (ks ks' : List ℕ) (n : ℕ) → Lowers ls is ks n ms js → Lowers ms js ks' n ns ps → Lowers ls is (ks ++ ks') n ns ps
-lowers-then ls ms ns is js ps ks ks' n a b =
-    let len = a.len in
-    let x = a.less in
-    let y = b.less in
-    record {
-      len = b.len ∙ a.len;
-      reach = all-append (λ k. IsUnder (limit_at ns k) (Some n)) ks ks' (all-parts (λ k. IsUnder (limit_at ms k) (Some n)) (λ k. IsUnder (limit_at ns k) (Some n)) ks (λ k. under-trans (limit_at ns k) (limit_at ms k) (Some n) (b.under k)) a.reach) b.reach;
-      under = λ i. under-trans (limit_at ns i) (limit_at ms i) (limit_at ls i) (b.under i) (a.under i);
-      moved = λ i.
-          elim (b.moved i) [
-            | inl e ↦
-                elim (a.moved i) [
-                  | inl f ↦ inl (e ∙ f)
-                  | inr f ↦ inr (e ∙ f.0, IsAmong-append i ks ks' f.1, b.grows i f.2)
-                ]
-            | inr f ↦ inr (f.0, IsAmong-back i ks ks' f.1, f.2)
-          ];
-      grows = λ i h. b.grows i (a.grows i h);
-      inside = λ h. subst (λ m. AllByRecursion (λ i. i < m) ps) len (b.inside (subst (λ m. AllByRecursion (λ i. i < m) js) (sym len) (a.inside h)));
-      less = omega (arith, x, y);
-    }
-
--- types within a limit
+-- types within a bound
 
 pub head-within : (u n : ℕ) (h : Head Name) (ts : List (MlType Name)) → IsWithin u n (app h (types_of ts)) → IsHeadWithin u n h
 unfolding IsWithin
@@ -139,50 +62,439 @@ mutual
   are-within-more u m n no_type h w = tt
   are-within-more u m n (and_type t ts) h w = (within-more u m n t h w.0, are-within-more u m n ts h w.1)
 
-pub limit-more : (u : ℕ) (a b : Option ℕ) (t : MlType Name) → IsUnder a b → MeetsLimit u a t → MeetsLimit u b t
-limit-more u a None t h m = tt
-limit-more u None (Some n) t h m = absurd h
-limit-more u (Some k) (Some n) t h m = within-more u k n t h m
+-- what two limits ask together
 
-mapped-within : (u n : ℕ) (σ : Assignment finite) (ks : List ℕ) (k : ℕ) → AllByRecursion (IsWithin u n) (map σ ks) → IsAmong k ks → IsWithin u n (σ k)
-mapped-within u n σ [] k a m = absurd m
-mapped-within u n σ (j ∷ ks) k a m = elim m [ inl e ↦ rw e a.0 | inr r ↦ mapped-within u n σ ks k a.1 r ]
+lower-cases : (m n : ℕ) (P : ℕ → Type 0) → (n < m → P n) → (m ≤ n → P m) → P (cond (nat_lt n m) n m)
+lower-cases m n P f g = go (nat_lt n m) refl where
+  go : (b : Bool) → nat_lt n m ≡ b → P (cond b n m)
+  go true e = f (ltb-true n m e)
+  go false e = g (ltb-false n m e)
 
--- a part of a node is within what the node is within
-part-within : (u n : ℕ) (σ : Assignment finite) (i k : ℕ) (x : Node) → Agrees finite σ i x → IsWithin u n (σ i) → IsAmong k (parts x) → IsWithin u n (σ k)
-part-within u n σ i k Unknown a w m = absurd m
-part-within u n σ i k (Link j) a w m = elim m [ inl e ↦ rw (e, ← a) w | inr r ↦ absurd r ]
-part-within u n σ i k (App h kids) a w m =
-    mapped-within u n σ kids.items k (parts-within u n (head_over h (length kids.items)) (map σ kids.items) (subst (IsWithin u n) a w)) m
+bounds-left : (u : ℕ) (a b : Option ℕ) (t : MlType Name) → MeetsBound u (both_bounds a b) t → MeetsBound u a t
+bounds-left u None b t w = tt
+bounds-left u (Some m) None t w = w
+bounds-left u (Some m) (Some n) t w = lower-cases m n (λ k. IsWithin u k t → IsWithin u m t) (λ l. within-more u n m t (omega (arith, l))) (λ l w. w) w
 
-pub node-within : (u n : ℕ) (σ : Assignment finite) (i : ℕ) (x : Node) → Agrees finite σ i x → IsWithin u n (σ i) → HasHeadWithin u n x
-node-within u n σ i Unknown a w = tt
-node-within u n σ i (Link j) a w = tt
-node-within u n σ i (App h kids) a w = head-within u n (head_over h (length kids.items)) (map σ kids.items) (subst (IsWithin u n) a w)
+bounds-right : (u : ℕ) (a b : Option ℕ) (t : MlType Name) → MeetsBound u (both_bounds a b) t → MeetsBound u b t
+bounds-right u None b t w = w
+bounds-right u (Some m) None t w = tt
+bounds-right u (Some m) (Some n) t w = lower-cases m n (λ k. IsWithin u k t → IsWithin u n t) (λ l w. w) (λ l. within-more u m n t l) w
 
--- one more node is closed
+bounds-both : (u : ℕ) (a b : Option ℕ) (t : MlType Name) → MeetsBound u a t → MeetsBound u b t → MeetsBound u (both_bounds a b) t
+bounds-both u None b t v w = w
+bounds-both u (Some m) None t v w = v
+bounds-both u (Some m) (Some n) t v w = lower-cases m n (λ k. IsWithin u k t) (λ l. w) (λ l. v)
 
-closed-here : (u n : ℕ) (ls : List (Option ℕ)) (i : ℕ) (x : Node) → limit_at ls i ≡ Some n → HasHeadWithin u n x → AllByRecursion (λ k. IsUnder (limit_at ls k) (Some n)) (parts x) → IsClosedNode u ls i x
-closed-here u n ls i Unknown e h a = tt
-closed-here u n ls i (Link j) e h a = rw e a.0
-closed-here u n ls i (App f kids) e h a = rw e (h, a)
+equality-left : (a b : Bool) (t : MlType Name) → MeetsEquality (a || b) t → MeetsEquality a t
+equality-left true b t w = w
+equality-left false b t w = tt
 
-pub closed-free : (u : ℕ) (ls : List (Option ℕ)) (i : ℕ) (x : Node) → limit_at ls i ≡ None → IsClosedNode u ls i x
-closed-free u ls i Unknown e = tt
-closed-free u ls i (Link j) e = rw e tt
-closed-free u ls i (App f kids) e = rw e (tt, all-free kids.items) where
-  all-free : (ks : List ℕ) → AllByRecursion (λ k. IsUnder (limit_at ls k) None) ks
-  all-free [] = tt
-  all-free (k ∷ ks) = (tt, all-free ks)
+equality-right : (a b : Bool) (t : MlType Name) → MeetsEquality (a || b) t → MeetsEquality b t
+equality-right true true t w = w
+equality-right true false t w = tt
+equality-right false b t w = w
 
-under-all : (ls ms : List (Option ℕ)) (l : Option ℕ) (ks : List ℕ) → ((k : ℕ) → IsUnder (limit_at ms k) (limit_at ls k)) → AllByRecursion (λ k. IsUnder (limit_at ls k) l) ks → AllByRecursion (λ k. IsUnder (limit_at ms k) l) ks
-under-all ls ms l [] f a = tt
-under-all ls ms l (k ∷ ks) f a = (under-trans (limit_at ms k) (limit_at ls k) l (f k) a.0, under-all ls ms l ks f a.1)
+equality-both : (a b : Bool) (t : MlType Name) → MeetsEquality a t → MeetsEquality b t → MeetsEquality (a || b) t
+equality-both true b t v w = v
+equality-both false b t v w = w
 
-pub closed-still : (u : ℕ) (ls ms : List (Option ℕ)) (i : ℕ) (x : Node) → ((k : ℕ) → IsUnder (limit_at ms k) (limit_at ls k)) → limit_at ms i ≡ limit_at ls i → IsClosedNode u ls i x → IsClosedNode u ms i x
-closed-still u ls ms i Unknown f e c = tt
-closed-still u ls ms i (Link j) f e c = rw e (under-trans (limit_at ms j) (limit_at ls j) (limit_at ls i) (f j) c)
-closed-still u ls ms i (App h kids) f e c = rw e (c.0, under-all ls ms (limit_at ls i) kids.items f c.1)
+and-left : (a b : Bool) → (a && b) ≡ true → a ≡ true
+and-left true b e = refl
+and-left false b e = e
+
+and-right : (a b : Bool) → (a && b) ≡ true → b ≡ true
+and-right true b e = e
+and-right false b e = absurd (elim b as (λ _. ⊥) [ true ↦ cc | false ↦ cc ])
+
+and-both : (a b : Bool) → a ≡ true → b ≡ true → (a && b) ≡ true
+and-both true b e f = f
+and-both false b e f = e
+
+allows-both : (c d : Names) (k : N.Initial) → allows (both_names c d) k ≡ (allows c k && allows d k)
+allows-both c d N.int = refl
+allows-both c d N.word = refl
+allows-both c d N.char = refl
+allows-both c d N.string = refl
+allows-both c d N.bool = refl
+allows-both c d N.exn = refl
+allows-both c d N.real = refl
+allows-both c d N.list = refl
+allows-both c d N.ref = refl
+
+classes-left : (a b : Option Names) (t : MlType Name) → MeetsClass (both_classes a b) t → MeetsClass a t
+classes-left None b t w = tt
+classes-left (Some c) None t w = w
+classes-left (Some c) (Some d) t w = (w.0, and-left (allows c w.0) (allows d w.0) (sym (allows-both c d w.0) ∙ w.1), w.2)
+
+classes-right : (a b : Option Names) (t : MlType Name) → MeetsClass (both_classes a b) t → MeetsClass b t
+classes-right None b t w = w
+classes-right (Some c) None t w = tt
+classes-right (Some c) (Some d) t w = (w.0, and-right (allows c w.0) (allows d w.0) (sym (allows-both c d w.0) ∙ w.1), w.2)
+
+classes-both : (a b : Option Names) (t : MlType Name) → MeetsClass a t → MeetsClass b t → MeetsClass (both_classes a b) t
+classes-both None b t v w = w
+classes-both (Some c) None t v w = v
+classes-both (Some c) (Some d) t v w =
+    let e : named (initial w.0) ≡ named (initial v.0) = sym w.2 ∙ v.2 in
+    let k : w.0 ≡ v.0 = cc in
+    (v.0, allows-both c d v.0 ∙ and-both (allows c v.0) (allows d v.0) v.1 (ap (allows d) (sym k) ∙ w.1), v.2)
+
+pub both-left : (a b : Limit) → IsUnder (both a b) a
+both-left a b Equations u t w = tt
+both-left a b Finiteness u t w = tt
+both-left a b Newness u t w = bounds-left u a.newness b.newness t w
+both-left a b Locality u t w = bounds-left u a.locality b.locality t w
+both-left a b Equality u t w = equality-left a.equality b.equality t w
+both-left a b Classes u t w = classes-left a.class b.class t w
+
+pub both-right : (a b : Limit) → IsUnder (both a b) b
+both-right a b Equations u t w = tt
+both-right a b Finiteness u t w = tt
+both-right a b Newness u t w = bounds-right u a.newness b.newness t w
+both-right a b Locality u t w = bounds-right u a.locality b.locality t w
+both-right a b Equality u t w = equality-right a.equality b.equality t w
+both-right a b Classes u t w = classes-right a.class b.class t w
+
+pub both-meets : (a b : Limit) → IsOfBoth a b (both a b)
+both-meets a b Equations u t v w = tt
+both-meets a b Finiteness u t v w = tt
+both-meets a b Newness u t v w = bounds-both u a.newness b.newness t v w
+both-meets a b Locality u t v w = bounds-both u a.locality b.locality t v w
+both-meets a b Equality u t v w = equality-both a.equality b.equality t v w
+both-meets a b Classes u t v w = classes-both a.class b.class t v w
+
+pub none-meets : (l : Layer) (u : ℕ) (t : MlType Name) → MeetsAt l u no_limit t
+none-meets Equations u t = tt
+none-meets Finiteness u t = tt
+none-meets Newness u t = tt
+none-meets Locality u t = tt
+none-meets Equality u t = tt
+none-meets Classes u t = tt
+
+-- how much a limit is lowered
+
+bound-lower : (a b : Option ℕ) → ((n : ℕ) → b ≡ Some n → n < 2 ^ 32) → (both_bounds a b ≡ a) ⊎ (bound_height (both_bounds a b) < bound_height a)
+bound-lower None None f = inl refl
+bound-lower None (Some n) f = inr (f n refl)
+bound-lower (Some m) None f = inl refl
+bound-lower (Some m) (Some n) f = lower-cases m n (λ k. (Some k ≡ Some m) ⊎ (k < m)) (λ l. inr l) (λ l. inl refl)
+
+at-most : {A : Type 0} (h : A → ℕ) (x a : A) → (x ≡ a) ⊎ (h x < h a) → h x ≤ h a
+at-most h x a (inl e) = let f = ap h e in omega (arith, f)
+at-most h x a (inr l) = omega (arith, l)
+
+equality-lower : (a b : Bool) → ((a || b) ≡ a) ⊎ (cond (a || b) 0 1 < cond a 0 1)
+equality-lower true b = inl refl
+equality-lower false true = inr (omega arith)
+equality-lower false false = inl refl
+
+flag-lower : (a b : Bool) → ((a && b) ≡ a) ⊎ (cond (a && b) 1 0 < cond a 1 0)
+flag-lower true true = inl refl
+flag-lower true false = inr (omega arith)
+flag-lower false b = inl refl
+
+flag-few : (a : Bool) → cond a 1 0 ≤ 1
+flag-few true = omega arith
+flag-few false = omega arith
+
+class-lower : (a b : Option Names) → (both_classes a b ≡ a) ⊎ (class_height (both_classes a b) < class_height a)
+class-lower None None = inl refl
+class-lower None (Some d) = let x = flag-few d.word in let y = flag-few d.real in let z = flag-few d.text in inr (omega (arith, x, y, z))
+class-lower (Some c) None = inl refl
+class-lower (Some c) (Some d) =
+    let p = flag-lower c.word d.word in
+    let q = flag-lower c.real d.real in
+    let r = flag-lower c.text d.text in
+    let p' = at-most (λ b. cond b 1 0) (c.word && d.word) c.word p in
+    let q' = at-most (λ b. cond b 1 0) (c.real && d.real) c.real q in
+    let r' = at-most (λ b. cond b 1 0) (c.text && d.text) c.text r in
+    elim p [
+      | inr x ↦ inr (omega (arith, x, q', r'))
+      | inl x ↦
+          elim q [
+            | inr y ↦ inr (omega (arith, p', y, r'))
+            | inl y ↦
+                elim r [
+                  | inr z ↦ inr (omega (arith, p', q', z))
+                  | inl z ↦ inl (λ i. Some (record { word = x i; real = y i; text = z i }))
+                ]
+          ]
+    ]
+
+pub height-lower : (a b : Limit) → ((n : ℕ) → b.newness ≡ Some n → n < 2 ^ 32) → ((n : ℕ) → b.locality ≡ Some n → n < 2 ^ 32) → (both a b ≡ a → ⊥) → height (both a b) < height a
+height-lower a b f g d =
+    let p = bound-lower a.newness b.newness f in
+    let q = bound-lower a.locality b.locality g in
+    let r = equality-lower a.equality b.equality in
+    let s = class-lower a.class b.class in
+    let p' = at-most bound_height (both_bounds a.newness b.newness) a.newness p in
+    let q' = at-most bound_height (both_bounds a.locality b.locality) a.locality q in
+    let r' = at-most (λ e. cond e 0 1) (a.equality || b.equality) a.equality r in
+    let s' = at-most class_height (both_classes a.class b.class) a.class s in
+    elim p [
+      | inr x ↦ omega (arith, x, q', r', s')
+      | inl x ↦
+          elim q [
+            | inr y ↦ omega (arith, p', y, r', s')
+            | inl y ↦
+                elim r [
+                  | inr z ↦ omega (arith, p', q', z, s')
+                  | inl z ↦
+                      elim s [
+                        | inr w ↦ omega (arith, p', q', r', w)
+                        | inl w ↦ absurd (d (λ i. record { newness = x i; locality = y i; equality = z i; class = w i }))
+                      ]
+                ]
+          ]
+    ]
+
+-- what is asked of a head and of parts
+
+all-unit : (ts : List (MlType Name)) → AllByRecursion (λ t. Unit {0}) ts
+all-unit [] = tt
+all-unit (t ∷ ts) = (tt, all-unit ts)
+
+bound-fits : (u : ℕ) (a : Option ℕ) (h : Head Name) (ts : List (MlType Name)) → MeetsBound u a (app h (types_of ts)) → FitsBound u a h
+bound-fits u None h ts w = tt
+bound-fits u (Some n) h ts w = head-within u n h ts w
+
+bound-parts : (u : ℕ) (a : Option ℕ) (h : Head Name) (ts : List (MlType Name)) → MeetsBound u a (app h (types_of ts)) → AllByRecursion (MeetsBound u a) ts
+bound-parts u None h ts w = all-unit ts
+bound-parts u (Some n) h ts w = parts-within u n h ts w
+
+bound-meets : (u : ℕ) (a : Option ℕ) (h : Head Name) (ts : List (MlType Name)) → FitsBound u a h → AllByRecursion (MeetsBound u a) ts → MeetsBound u a (app h (types_of ts))
+bound-meets u None h ts f w = tt
+bound-meets u (Some n) h ts f w = within-app u n h ts f w
+
+off-parts : (b : Bool) (ts : List (MlType Name)) → AllByRecursion (MeetsEquality (b && false)) ts
+off-parts true ts = all-unit ts
+off-parts false ts = all-unit ts
+
+all-admitting : (ts : List (MlType Name)) → all_admit naming (types_of ts) ≡ true → AllByRecursion (MeetsEquality true) ts
+unfolding all_admit
+all-admitting [] e = tt
+all-admitting (t ∷ ts) e = (and-left (admits naming t) (all_admit naming (types_of ts)) e, all-admitting ts (and-right (admits naming t) (all_admit naming (types_of ts)) e))
+
+admitting-all : (ts : List (MlType Name)) → AllByRecursion (MeetsEquality true) ts → all_admit naming (types_of ts) ≡ true
+unfolding all_admit
+admitting-all [] a = refl
+admitting-all (t ∷ ts) a = and-both (admits naming t) (all_admit naming (types_of ts)) a.0 (admitting-all ts a.1)
+
+admits-named : (m : Name) (ts : List (MlType Name)) → admits naming (app (name m) (types_of ts)) ≡ (is_reference_name m || ((attributes_of m).equality && all_admit naming (types_of ts)))
+unfolding admits naming
+admits-named m ts = ap (λ b. b || ((attributes_of m).equality && all_admit naming (types_of ts))) (is_ref-name m)
+
+ref-fits : (b e a : Bool) → (b || (e && a)) ≡ true → (b || e) ≡ true
+ref-fits true e a q = refl
+ref-fits false e a q = and-left e a q
+
+ref-parts : (b e : Bool) (ts : List (MlType Name)) → (b || (e && all_admit naming (types_of ts))) ≡ true → AllByRecursion (MeetsEquality (not b && true)) ts
+ref-parts true e ts q = all-unit ts
+ref-parts false e ts q = all-admitting ts (and-right e (all_admit naming (types_of ts)) q)
+
+ref-meets : (b e : Bool) (ts : List (MlType Name)) → (b || e) ≡ true → AllByRecursion (MeetsEquality (not b && true)) ts → (b || (e && all_admit naming (types_of ts))) ≡ true
+ref-meets true e ts q a = refl
+ref-meets false e ts q a = and-both e (all_admit naming (types_of ts)) q (admitting-all ts a)
+
+arrow-admits-not : (ts : List (MlType Name)) → admits naming (app arrow (types_of ts)) ≡ true → ⊥
+unfolding admits
+arrow-admits-not ts e = let f : false ≡ true = e in cc
+
+row-admits : (ls : List (List ℕ)) (ts : List (MlType Name)) → admits naming (app (row ls) (types_of ts)) ≡ all_admit naming (types_of ts)
+unfolding admits
+row-admits ls ts = refl
+
+equality-fits : (e : Bool) (h : Head Name) (ts : List (MlType Name)) → MeetsEquality e (app h (types_of ts)) → FitsEquality e h
+equality-fits false h ts w = tt
+equality-fits true arrow ts w = arrow-admits-not ts w
+equality-fits true (row ls) ts w = tt
+equality-fits true (name m) ts w = ref-fits (is_reference_name m) (attributes_of m).equality (all_admit naming (types_of ts)) (sym (admits-named m ts) ∙ w)
+
+equality-parts : (e : Bool) (h : Head Name) (ts : List (MlType Name)) → MeetsEquality e (app h (types_of ts)) → AllByRecursion (MeetsEquality (asks_parts h && e)) ts
+equality-parts false h ts w = off-parts (asks_parts h) ts
+equality-parts true arrow ts w = absurd (arrow-admits-not ts w)
+equality-parts true (row ls) ts w = all-admitting ts (sym (row-admits ls ts) ∙ w)
+equality-parts true (name m) ts w = ref-parts (is_reference_name m) (attributes_of m).equality ts (sym (admits-named m ts) ∙ w)
+
+equality-meets : (e : Bool) (h : Head Name) (ts : List (MlType Name)) → FitsEquality e h → AllByRecursion (MeetsEquality (asks_parts h && e)) ts → MeetsEquality e (app h (types_of ts))
+equality-meets false h ts f a = tt
+equality-meets true arrow ts f a = absurd f
+equality-meets true (row ls) ts f a = row-admits ls ts ∙ admitting-all ts a
+equality-meets true (name m) ts f a = admits-named m ts ∙ ref-meets (is_reference_name m) (attributes_of m).equality ts f a
+
+no-types : (ts : List (MlType Name)) → types_of ts ≡ no_type → length ts ≡ 0
+no-types [] e = refl
+no-types (t ∷ ts) e = cc
+
+none-of : (ts : List (MlType Name)) → length ts ≡ 0 → types_of ts ≡ no_type
+none-of [] e = refl
+none-of (t ∷ ts) e = absurd (omega (arith, e))
+
+class-fits : (a : Option Names) (h : Head Name) (ts : List (MlType Name)) → MeetsClass a (app h (types_of ts)) → FitsClass a h (length ts)
+class-fits None h ts w = tt
+class-fits (Some c) h ts w =
+    let e : app h (types_of ts) ≡ app (name (initial w.0)) no_type = w.2 in
+    let f : h ≡ name (initial w.0) = cc in
+    let g : types_of ts ≡ no_type = cc in
+    (w.0, w.1, f, no-types ts g)
+
+class-meets : (a : Option Names) (h : Head Name) (ts : List (MlType Name)) → FitsClass a h (length ts) → MeetsClass a (app h (types_of ts))
+class-meets None h ts f = tt
+class-meets (Some c) h ts f = (f.0, f.1, (λ i. app (f.2 i) (none-of ts f.3 i)))
+
+app-fits : (l : Layer) (u : ℕ) (a : Limit) (h : Head Name) (ts : List (MlType Name)) → MeetsAt l u a (app h (types_of ts)) → FitsAt l u a h (length ts)
+app-fits Equations u a h ts w = tt
+app-fits Finiteness u a h ts w = tt
+app-fits Newness u a h ts w = bound-fits u a.newness h ts w
+app-fits Locality u a h ts w = bound-fits u a.locality h ts w
+app-fits Equality u a h ts w = equality-fits a.equality h ts w
+app-fits Classes u a h ts w = class-fits a.class h ts w
+
+app-parts : (l : Layer) (u : ℕ) (a : Limit) (h : Head Name) (ts : List (MlType Name)) → MeetsAt l u a (app h (types_of ts)) → AllByRecursion (MeetsAt l u (for_parts h a)) ts
+app-parts Equations u a h ts w = all-unit ts
+app-parts Finiteness u a h ts w = all-unit ts
+app-parts Newness u a h ts w = bound-parts u a.newness h ts w
+app-parts Locality u a h ts w = bound-parts u a.locality h ts w
+app-parts Equality u a h ts w = equality-parts a.equality h ts w
+app-parts Classes u a h ts w = all-unit ts
+
+app-meets : (l : Layer) (u : ℕ) (a : Limit) (h : Head Name) (ts : List (MlType Name)) → FitsAt l u a h (length ts) → AllByRecursion (MeetsAt l u (for_parts h a)) ts → MeetsAt l u a (app h (types_of ts))
+app-meets Equations u a h ts f w = tt
+app-meets Finiteness u a h ts f w = tt
+app-meets Newness u a h ts f w = bound-meets u a.newness h ts f w
+app-meets Locality u a h ts f w = bound-meets u a.locality h ts f w
+app-meets Equality u a h ts f w = equality-meets a.equality h ts f w
+app-meets Classes u a h ts f w = class-meets a.class h ts f
+
+-- the same of nodes
+
+all-mapped : (P : MlType Name → Type 0) (σ : Assignment finite) (ks : List ℕ) → AllByRecursion P (map σ ks) → AllByRecursion (λ k. P (σ k)) ks
+all-mapped P σ [] a = tt
+all-mapped P σ (k ∷ ks) a = (a.0, all-mapped P σ ks a.1)
+
+mapped-all : (P : MlType Name → Type 0) (σ : Assignment finite) (ks : List ℕ) → AllByRecursion (λ k. P (σ k)) ks → AllByRecursion P (map σ ks)
+mapped-all P σ [] a = tt
+mapped-all P σ (k ∷ ks) a = (a.0, mapped-all P σ ks a.1)
+
+node-fits : (l : Layer) (u : ℕ) (a : Limit) (σ : Assignment finite) (i : ℕ) (x : Node) → Agrees finite σ i x → MeetsAt l u a (σ i) → IsFitNode l u a x
+node-fits l u a σ i Unknown e w = tt
+node-fits l u a σ i (Link j) e w = tt
+node-fits l u a σ i (App h kids) e w =
+    let n = length kids.items in
+    rw length-map at (app-fits l u a (head_over h n) (map σ kids.items) (subst (MeetsAt l u a) e w))
+
+node-parts : (l : Layer) (u : ℕ) (a : Limit) (σ : Assignment finite) (i : ℕ) (x : Node) → Agrees finite σ i x → MeetsAt l u a (σ i) → AllByRecursion (λ k. MeetsAt l u (handed x a) (σ k)) (parts x)
+node-parts l u a σ i Unknown e w = tt
+node-parts l u a σ i (Link j) e w = (subst (MeetsAt l u a) e w, tt)
+node-parts l u a σ i (App h kids) e w =
+    let g = head_over h (length kids.items) in
+    all-mapped (MeetsAt l u (for_parts g a)) σ kids.items (app-parts l u a g (map σ kids.items) (subst (MeetsAt l u a) e w))
+
+-- the type of a node from those of its parts, or else this one
+abbrev pub value : Assignment finite → MlType Name → Node → MlType Name
+value σ t Unknown = t
+value σ t (Link j) = σ j
+value σ t (App h kids) = make finite (head_over h (length kids.items)) (map σ kids.items)
+
+pub node-meets : (l : Layer) (u : ℕ) (a : Limit) (σ : Assignment finite) (t : MlType Name) (x : Node) → IsFitNode l u a x → AllByRecursion (λ k. MeetsAt l u (handed x a) (σ k)) (parts x) → (x ≡ Unknown → MeetsAt l u a t) → MeetsAt l u a (value σ t x)
+node-meets l u a σ t Unknown f w g = g refl
+node-meets l u a σ t (Link j) f w g = w.0
+node-meets l u a σ t (App h kids) f w g =
+    let k = head_over h (length kids.items) in
+    app-meets l u a k (map σ kids.items) (rw length-map f) (mapped-all (MeetsAt l u (for_parts k a)) σ kids.items w)
+
+-- limits that are lowered
+
+pub under-refl : (a : Limit) → IsUnder a a
+under-refl a l u t w = w
+
+pub under-trans : (a b c : Limit) → IsUnder a b → IsUnder b c → IsUnder a c
+under-trans a b c f g l u t w = g l u t (f l u t w)
+
+limit-same : (ls : List Limit) (i : ℕ) (a : Limit) → i < length ls → limit_at (set ls i a) i ≡ a
+limit-same ls i a h = get_or-set_same ls i a no_limit h
+
+limit-other : (ls : List Limit) (i j : ℕ) (a : Limit) → j ≢ i → limit_at (set ls i a) j ≡ limit_at ls j
+limit-other ls i j a d = get_or-set_other ls i j a no_limit d
+
+heights-set : (ls : List Limit) (i : ℕ) (a : Limit) → i < length ls → heights (set ls i a) + height (limit_at ls i) ≡ heights ls + height a
+heights-set [] i a h = absurd (omega (arith, h))
+heights-set (x ∷ ls) zero a h = omega arith
+heights-set (x ∷ ls) (suc i) a h = let r = heights-set ls i a (omega (arith, h)) in omega (arith, r)
+
+pub lowers-none : (ls : List Limit) (is : List ℕ) (a : Limit) → Lowers ls is [] a ls is
+lowers-none ls is a = record {
+  len = refl;
+  reach = tt;
+  under = λ i. under-refl (limit_at ls i);
+  moved = λ i. inl refl;
+  grows = λ i m. m;
+  inside = λ m. m;
+  less = omega arith;
+}
+
+pub lowers-low : (ls : List Limit) (is : List ℕ) (at : ℕ) (a : Limit) → both (limit_at ls at) a ≡ limit_at ls at → Lowers ls is (at ∷ []) a ls is
+lowers-low ls is at a e = record {
+  len = refl;
+  reach = (subst (λ x. IsUnder x a) e (both-right (limit_at ls at) a), tt);
+  under = λ i. under-refl (limit_at ls i);
+  moved = λ i. inl refl;
+  grows = λ i m. m;
+  inside = λ m. m;
+  less = omega arith;
+}
+
+pub lowers-one : (ls : List Limit) (is : List ℕ) (at : ℕ) (a x : Limit) → at < length ls → x ≡ both (limit_at ls at) a → height x < height (limit_at ls at) → Lowers ls is (at ∷ []) a (set ls at x) (is ++ at ∷ [])
+lowers-one ls is at a x h e b = record {
+  len = length-set ls at x;
+  reach = (rw (limit-same ls at x h, e) (both-right (limit_at ls at) a), tt);
+  under = λ i.
+      elim (same_or_not i at) [
+        | inl q ↦ rw (q, limit-same ls at x h, e) (both-left (limit_at ls at) a)
+        | inr d ↦ rw (limit-other ls at i x d) (under-refl (limit_at ls i))
+      ];
+  moved = λ i.
+      elim (same_or_not i at) [
+        | inl q ↦ inr (rw (q, limit-same ls at x h, e) (both-meets (limit_at ls at) a), inl q, IsAmong-back i is (at ∷ []) (inl q))
+        | inr d ↦ inl (limit-other ls at i x d)
+      ];
+  grows = λ i m. IsAmong-append i is (at ∷ []) m;
+  inside = λ m. all-append (λ i. i < length ls) is (at ∷ []) m (h, tt);
+  less = let y = heights-set ls at x h in simp length-append (omega (arith, y, b));
+}
+
+pub lowers-then : (ls ms ns : List Limit) (is js ps : List ℕ) (ks ks' : List ℕ) (a : Limit) → Lowers ls is ks a ms js → Lowers ms js ks' a ns ps → Lowers ls is (ks ++ ks') a ns ps
+lowers-then ls ms ns is js ps ks ks' a f g =
+    let len = f.len in
+    let x = f.less in
+    let y = g.less in
+    record {
+      len = g.len ∙ f.len;
+      reach = all-append (λ k. IsUnder (limit_at ns k) a) ks ks' (all-parts (λ k. IsUnder (limit_at ms k) a) (λ k. IsUnder (limit_at ns k) a) ks (λ k. under-trans (limit_at ns k) (limit_at ms k) a (g.under k)) f.reach) g.reach;
+      under = λ i. under-trans (limit_at ns i) (limit_at ms i) (limit_at ls i) (g.under i) (f.under i);
+      moved = λ i.
+          elim (g.moved i) [
+            | inl e ↦
+                elim (f.moved i) [
+                  | inl q ↦ inl (e ∙ q)
+                  | inr q ↦ inr (rw e q.0, IsAmong-append i ks ks' q.1, g.grows i q.2)
+                ]
+            | inr e ↦
+                elim (f.moved i) [
+                  | inl q ↦ inr (subst (λ z. IsOfBoth z a (limit_at ns i)) q e.0, IsAmong-back i ks ks' e.1, e.2)
+                  | inr q ↦ inr (λ l u t v w. e.0 l u t (q.0 l u t v w) w, IsAmong-back i ks ks' e.1, e.2)
+                ]
+          ];
+      grows = λ i m. g.grows i (f.grows i m);
+      inside = λ m. subst (λ k. AllByRecursion (λ i. i < k) ps) len (g.inside (subst (λ k. AllByRecursion (λ i. i < k) js) (sym len) (f.inside m)));
+      less = omega (arith, x, y);
+    }
+
+-- one more node is done
+
+pub closed-still : (ls ms : List Limit) (i : ℕ) (x : Node) → ((k : ℕ) → IsUnder (limit_at ms k) (limit_at ls k)) → limit_at ms i ≡ limit_at ls i → IsClosedNode ls i x → IsClosedNode ms i x
+closed-still ls ms i x f e c =
+    rw e (all-parts (λ k. IsUnder (limit_at ls k) (handed x (limit_at ls i))) (λ k. IsUnder (limit_at ms k) (handed x (limit_at ls i))) (parts x) (λ k. under-trans (limit_at ms k) (limit_at ls k) (handed x (limit_at ls i)) (f k)) c)
 
 among-cases : (i : ℕ) (xs : List ℕ) (x : ℕ) → IsAmong i (xs ++ x ∷ []) → IsAmong i xs ⊎ (i ≡ x)
 among-cases i [] x a = elim a [ inl e ↦ inr e | inr r ↦ absurd r ]
@@ -196,83 +508,136 @@ pub front-inside : (P : ℕ → Type 0) (xs : List ℕ) (x : ℕ) → AllByRecur
 front-inside P [] x a = (tt, a.0)
 front-inside P (y ∷ xs) x a = let r = front-inside P xs x a.1 in ((a.0, r.0), r.1)
 
-pub but-done : (u : ℕ) (ns : List Node) (ls : List (Option ℕ)) (is : List ℕ) (at : ℕ) → IsClosedBut u ns ls (is ++ at ∷ []) → limit_at ls at ≡ None → IsClosedBut u ns ls is
-but-done u ns ls is at b e i =
-    elim (b i) [
-      | inl c ↦ inl c
-      | inr a ↦
-          elim (among-cases i is at a) [
-            | inl m ↦ inr m
-            | inr q ↦ inl (closed-free u ls i (node_at ns i) (ap (limit_at ls) q ∙ e))
-          ]
-    ]
+all-among : (P : ℕ → Type 0) (ks : List ℕ) (i : ℕ) → AllByRecursion P ks → IsAmong i ks → P i
+all-among P [] i a m = absurd m
+all-among P (k ∷ ks) i a m = elim m [ inl e ↦ rw e a.0 | inr r ↦ all-among P ks i a.1 r ]
 
-pub but-handed : (u n : ℕ) (ns : List Node) (ls ms : List (Option ℕ)) (is js : List ℕ) (at : ℕ) → IsClosedBut u ns ls (is ++ at ∷ []) → limit_at ls at ≡ Some n → HasHeadWithin u n (node_at ns at) → Lowers ls is (parts (node_at ns at)) n ms js → IsClosedBut u ns ms js
-but-handed u n ns ls ms is js at b e h l i =
-    let here : limit_at ms at ≡ Some n = elim (l.moved at) [ inl q ↦ q ∙ e | inr q ↦ q.0 ] in
-    elim (same_or_not i at) [
-      | inl q ↦ inl (rw q (closed-here u n ms at (node_at ns at) here h l.reach))
-      | inr d ↦
-          elim (l.moved i) [
-            | inr q ↦ inr q.2
-            | inl q ↦
+pub but-handed : (u : ℕ) (a : Limit) (ns : List Node) (ls ms : List Limit) (f g : Option Layer) (is js : List ℕ) (at : ℕ) → IsDoneBut u ns ls f (is ++ at ∷ []) → limit_at ls at ≡ a → ((l : Layer) → IsBefore l g → IsBefore l f) → ((l : Layer) → IsBefore l g → IsFitNode l u a (node_at ns at)) → Lowers ls is (parts (node_at ns at)) (handed (node_at ns at) a) ms js → IsDoneBut u ns ms g js
+but-handed u a ns ls ms f g is js at b e before fit low i =
+    elim (low.moved i) [
+      | inr q ↦ inr q.2
+      | inl q ↦
+          elim (same_or_not i at) [
+            | inl s ↦ let here : limit_at ms at ≡ a = ap (limit_at ms) (sym s) ∙ (q ∙ (ap (limit_at ls) s ∙ e)) in inl (rw (s, here) (low.reach, fit))
+            | inr d ↦
                 elim (b i) [
-                  | inl c ↦ inl (closed-still u ls ms i (node_at ns i) l.under q c)
-                  | inr a ↦ elim (among-cases i is at a) [ inl m ↦ inr (l.grows i m) | inr x ↦ absurd (d x) ]
+                  | inl c ↦ inl (closed-still ls ms i (node_at ns i) low.under q c.0, λ l k. rw q (c.1 l (before l k)))
+                  | inr m ↦ elim (among-cases i is at m) [ inl n ↦ inr (low.grows i n) | inr n ↦ absurd (d n) ]
                 ]
           ]
     ]
 
-pub same-handed : (u n : ℕ) (ns : List Node) (ls ms : List (Option ℕ)) (is js : List ℕ) (at : ℕ) → limit_at ls at ≡ Some n → Lowers ls is (parts (node_at ns at)) n ms js → SameLimits u ns ls ms
-same-handed u n ns ls ms is js at e l σ m = (
+pub same-handed : (u : ℕ) (a : Limit) (ns : List Node) (ls ms : List Limit) (is js : List ℕ) (at : ℕ) → limit_at ls at ≡ a → Lowers ls is (parts (node_at ns at)) (handed (node_at ns at) a) ms js → SameLimits u ns ls ms
+same-handed u a ns ls ms is js at e low l σ m = (
   λ k i.
-      elim (l.moved i) [
+      elim (low.moved i) [
         | inl q ↦ rw q (k i)
         | inr q ↦
-            let w : IsWithin u n (σ at) = rw e at (k at) in
-            rw q.0 (part-within u n σ at i (node_at ns at) (m at) w q.1)
+            let w : MeetsAt l u a (σ at) = rw e at (k at) in
+            q.0 l u (σ i) (k i) (all-among (λ k. MeetsAt l u (handed (node_at ns at) a) (σ k)) (parts (node_at ns at)) i (node-parts l u a σ at (node_at ns at) (m at) w) q.1)
       ],
-  λ k i. limit-more u (limit_at ms i) (limit_at ls i) (σ i) (l.under i) (k i),
+  λ k i. low.under i l u (σ i) (k i),
 )
 
-pub same-then : (u : ℕ) (ns : List Node) (ls ms ks : List (Option ℕ)) → SameLimits u ns ls ms → SameLimits u ns ms ks → SameLimits u ns ls ks
-same-then u ns ls ms ks a b σ m = (λ k. (b σ m).0 ((a σ m).0 k), λ k. (a σ m).1 ((b σ m).1 k))
+pub same-then : (u : ℕ) (ns : List Node) (ls ms ks : List Limit) → SameLimits u ns ls ms → SameLimits u ns ms ks → SameLimits u ns ls ks
+same-then u ns ls ms ks a b l σ m = (λ k. (b l σ m).0 ((a l σ m).0 k), λ k. (a l σ m).1 ((b l σ m).1 k))
 
-pub not-kept : (u n : ℕ) (ns : List Node) (ls : List (Option ℕ)) (at : ℕ) → limit_at ls at ≡ Some n → (HasHeadWithin u n (node_at ns at) → ⊥) → (σ : Assignment finite) → Meets finite ns σ → Keeps u ls σ → ⊥
-not-kept u n ns ls at e h σ m k = h (node-within u n σ at (node_at ns at) (m at) (rw e at (k at)))
-
-pub none-of : (l : Option ℕ) → ((n : ℕ) → l ≡ Some n → ⊥) → l ≡ None
-none-of None f = refl
-none-of (Some n) f = absurd (f n refl)
-
-all-as : (ks ls : List (Option ℕ)) (a b : Option ℕ) (is : List ℕ) → ((i : ℕ) → limit_at ls i ≡ limit_at ks i) → b ≡ a → AllByRecursion (λ k. IsUnder (limit_at ks k) a) is → AllByRecursion (λ k. IsUnder (limit_at ls k) b) is
-all-as ks ls a b [] f e x = tt
-all-as ks ls a b (i ∷ is) f e x = (rw (f i, e) x.0, all-as ks ls a b is f e x.1)
-
--- the same limits in other lists
-pub closed-as : (u : ℕ) (ks ls : List (Option ℕ)) (i : ℕ) (x : Node) → ((i : ℕ) → limit_at ls i ≡ limit_at ks i) → IsClosedNode u ks i x → IsClosedNode u ls i x
-closed-as u ks ls i Unknown f c = tt
-closed-as u ks ls i (Link j) f c = rw (f i, f j) c
-closed-as u ks ls i (App h kids) f c = (rw (f i) c.0, all-as ks ls (limit_at ks i) (limit_at ls i) kids.items f (f i) c.1)
+-- a head that isn't as asked
+pub unfit-fails : (u : ℕ) (ns : List Node) (ls ms : List Limit) (at : ℕ) (a : Limit) (f : Option Layer) → limit_at ms at ≡ a → SameLimits u ns ls ms → IfSome f (λ l. IsFitNode l u a (node_at ns at) → ⊥) → IfSome f (NoneKeeps u ns ls)
+unfit-fails u ns ls ms at a None e s n = tt
+unfit-fails u ns ls ms at a (Some l) e s n = λ σ m k. n (node-fits l u a σ at (node_at ns at) (m at) (rw e at ((s l σ m).0 k at)))
 
 -- limits that were just lowered
 
-pub but-lowered : (u n : ℕ) (ns : List Node) (ls ms : List (Option ℕ)) (ks js : List ℕ) → IsClosed u ns ls → Lowers ls [] ks n ms js → IsClosedBut u ns ms js
-but-lowered u n ns ls ms ks js c l i =
-    elim (l.moved i) [
-      | inl q ↦ inl (closed-still u ls ms i (node_at ns i) l.under q (c i))
+pub but-lowered : (u : ℕ) (a : Limit) (ns : List Node) (ls ms : List Limit) (ks js : List ℕ) → IsClosed ns ls → ((l : Layer) → IsFit l u ns ls) → Lowers ls [] ks a ms js → IsDoneBut u ns ms None js
+but-lowered u a ns ls ms ks js c f low i =
+    elim (low.moved i) [
+      | inl q ↦ inl (closed-still ls ms i (node_at ns i) low.under q (c i), λ l k. rw q (f l i))
       | inr q ↦ inr q.2
     ]
 
-pub lowered-keeps : (u n r : ℕ) (ls ms : List (Option ℕ)) (js : List ℕ) (τ : Assignment finite) → Lowers ls [] (r ∷ []) n ms js → Keeps u ls τ → IsWithin u n (τ r) → Keeps u ms τ
-lowered-keeps u n r ls ms js τ l k w i =
-    elim (l.moved i) [
+pub lowered-keeps : (l : Layer) (u : ℕ) (a : Limit) (r : ℕ) (ls ms : List Limit) (js : List ℕ) (τ : Assignment finite) → Lowers ls [] (r ∷ []) a ms js → KeepsAt l u ls τ → MeetsAt l u a (τ r) → KeepsAt l u ms τ
+lowered-keeps l u a r ls ms js τ low k w i =
+    elim (low.moved i) [
       | inl q ↦ rw q (k i)
-      | inr q ↦ elim q.1 [ inl e ↦ rw (q.0, e) w | inr x ↦ absurd x ]
+      | inr q ↦ elim q.1 [ inl e ↦ q.0 l u (τ i) (k i) (rw e w) | inr x ↦ absurd x ]
     ]
 
-pub keeps-lowered : (u n r : ℕ) (ls ms : List (Option ℕ)) (js : List ℕ) (τ : Assignment finite) → Lowers ls [] (r ∷ []) n ms js → Keeps u ms τ → Keeps u ls τ × IsWithin u n (τ r)
-keeps-lowered u n r ls ms js τ l k = (
-  λ i. limit-more u (limit_at ms i) (limit_at ls i) (τ i) (l.under i) (k i),
-  limit-more u (limit_at ms r) (Some n) (τ r) l.reach.0 (k r),
-)
+pub keeps-lowered : (l : Layer) (u : ℕ) (a : Limit) (r : ℕ) (ls ms : List Limit) (js : List ℕ) (τ : Assignment finite) → Lowers ls [] (r ∷ []) a ms js → KeepsAt l u ms τ → KeepsAt l u ls τ × MeetsAt l u a (τ r)
+keeps-lowered l u a r ls ms js τ low k = (λ i. low.under i l u (τ i) (k i), low.reach.0 l u (τ r) (k r))
+
+-- nodes of which nothing is asked
+
+none-handed : (l : Layer) (u : ℕ) (x : Node) (t : MlType Name) → MeetsAt l u (handed x no_limit) t
+none-handed l u Unknown t = none-meets l u t
+none-handed l u (Link j) t = none-meets l u t
+none-handed Equations u (App h kids) t = tt
+none-handed Finiteness u (App h kids) t = tt
+none-handed Newness u (App h kids) t = tt
+none-handed Locality u (App h kids) t = tt
+none-handed Equality u (App h kids) t = off (asks_parts (head_over h (length kids.items))) where
+  off : (b : Bool) → MeetsEquality (b && false) t
+  off true = tt
+  off false = tt
+none-handed Classes u (App h kids) t = tt
+
+pub none-closed : (ls : List Limit) (i : ℕ) (x : Node) → limit_at ls i ≡ no_limit → IsClosedNode ls i x
+none-closed ls i x e = rw e (every (parts x)) where
+  every : (ks : List ℕ) → AllByRecursion (λ k. IsUnder (limit_at ls k) (handed x no_limit)) ks
+  every [] = tt
+  every (k ∷ ks) = (λ l u t w. none-handed l u x t, every ks)
+
+pub none-fits : (l : Layer) (u : ℕ) (x : Node) → IsFitNode l u no_limit x
+none-fits l u Unknown = tt
+none-fits l u (Link j) = tt
+none-fits Equations u (App h kids) = tt
+none-fits Finiteness u (App h kids) = tt
+none-fits Newness u (App h kids) = tt
+none-fits Locality u (App h kids) = tt
+none-fits Equality u (App h kids) = tt
+none-fits Classes u (App h kids) = tt
+
+-- the same limits in other lists
+pub closed-as : (ks ls : List Limit) (i : ℕ) (x : Node) → ((i : ℕ) → limit_at ls i ≡ limit_at ks i) → IsClosedNode ks i x → IsClosedNode ls i x
+closed-as ks ls i x f c = closed-still ks ls i x (λ k. rw (f k) (under-refl (limit_at ks k))) (f i) c
+
+-- the type int is as anything asks
+
+bound-int : (u : ℕ) (a : Option ℕ) → MeetsBound u a (named (initial N.int))
+unfolding IsWithin AreWithin
+bound-int u None = tt
+bound-int u (Some n) = (tt, tt)
+
+equality-int : (e : Bool) → MeetsEquality e (named (initial N.int))
+unfolding all_admit
+equality-int false = tt
+equality-int true = admits-named (initial N.int) [] ∙ refl
+
+class-int : (a : Option Names) → MeetsClass a (named (initial N.int))
+class-int None = tt
+class-int (Some c) = (N.int, refl, refl)
+
+pub int-meets : (l : Layer) (u : ℕ) (a : Limit) → MeetsAt l u a (named (initial N.int))
+int-meets Equations u a = tt
+int-meets Finiteness u a = tt
+int-meets Newness u a = bound-int u a.newness
+int-meets Locality u a = bound-int u a.locality
+int-meets Equality u a = equality-int a.equality
+int-meets Classes u a = class-int a.class
+
+-- the earlier of two layers fails
+pub either-fails : (u : ℕ) (ns : List Node) (ls : List Limit) (a b r : Option Layer) → (r ≡ a) ⊎ (r ≡ b) → IfSome a (NoneKeeps u ns ls) → IfSome b (NoneKeeps u ns ls) → IfSome r (NoneKeeps u ns ls)
+either-fails u ns ls a b r e f g = elim e [ inl p ↦ rw p f | inr p ↦ rw p g ]
+
+pub done-fits : (u : ℕ) (ns : List Node) (ls : List Limit) (f : Option Layer) (is : List ℕ) → IsDoneBut u ns ls f is → length is ≡ 0 → (l : Layer) → IsBefore l f → IsFit l u ns ls
+done-fits u ns ls f [] b e l h i = elim (b i) [ inl c ↦ c.1 l h | inr m ↦ absurd m ]
+done-fits u ns ls f (i ∷ is) b e l h k = absurd (omega (arith, e))
+
+-- up to finiteness, nothing is asked of single nodes
+pub nothing-asked : (u : ℕ) (ls : List Limit) (τ : Assignment finite) → KeepsThrough Finiteness u ls τ
+nothing-asked u ls τ Equations h = λ i. tt
+nothing-asked u ls τ Finiteness h = λ i. tt
+nothing-asked u ls τ Newness h = absurd (omega (arith, h))
+nothing-asked u ls τ Locality h = absurd (omega (arith, h))
+nothing-asked u ls τ Equality h = absurd (omega (arith, h))
+nothing-asked u ls τ Classes h = absurd (omega (arith, h))

@@ -1,4 +1,4 @@
--- Unknowns and the nodes that say nothing.
+-- Unknowns and the nodes that say ints.
 use Rattle.std.proofs.Common.{◌≡◌, ◌≢◌, ℕ, zero, suc, ◌+◌, ◌^◌, ◌<◌, ◌≤◌, ◌⊎◌, inl, inr, Option, Some, None, List, [], ◌∷◌, ◌++◌, length, map, get_or, sym, ◌∙◌, ap, subst, refl, arith, length-append}
 use Rattle.std.proofs.lemmas.Bool.{cases_lt}
 use Rattle.std.specs.Prelude.{Bool}
@@ -27,7 +27,8 @@ use Rattle.sml_solve.specs.Left.{IsMadeOf, AreMadeOf, IsLeft, IsReading, IsMostG
 use Rattle.sml_solve.specs.Reads.{IsTypeAt}
 use Rattle.sml_solve.proofs.Interning.{inside-at, inside-more, get_or-left, get_or-right, typed-same, map-alike, parts-inside}
 use Rattle.sml_solve.proofs.Merging.{same_or_not, all-append}
-use Rattle.sml_solve.proofs.Ranking.{solution, nothing, solution-meets, solution-unknown}
+use Rattle.sml_solve.proofs.Limiting.{nothing-asked}
+use Rattle.sml_solve.proofs.Ranking.{all-both, solution, ints, solution-meets, solution-unknown}
 use Rattle.sml_solve.proofs.Searching.{all-parts}
 use Rattle.sml_solve.proofs.Wholeness.{get_or-push}
 
@@ -37,18 +38,18 @@ not-free : (h : O.Head Name) (ts : O.MlTypes Name) (v : ℕ) (t : O.MlType Name)
 not-free h ts v t e f = let g : O.app h ts ≡ O.free v = sym e ∙ f in cc
 
 abbrev only : ℕ → Assignment finite
-only i x = elim (same_or_not x i) [ inl _ ↦ O.free 0 | inr _ ↦ nothing x ]
+only i x = elim (same_or_not x i) [ inl _ ↦ O.free 0 | inr _ ↦ ints x ]
 
 only-here : (i : ℕ) → only i i ≡ O.free 0
-only-here i = elim (same_or_not i i) as (λ d. elim d as (λ _. O.MlType Name) [ inl _ ↦ O.free 0 | inr _ ↦ nothing i ] ≡ O.free 0) [ inl _ ↦ refl | inr d ↦ absurd (d refl) ]
+only-here i = elim (same_or_not i i) as (λ d. elim d as (λ _. O.MlType Name) [ inl _ ↦ O.free 0 | inr _ ↦ ints i ] ≡ O.free 0) [ inl _ ↦ refl | inr d ↦ absurd (d refl) ]
 
-only-there : (i x : ℕ) → x ≢ i → only i x ≡ nothing x
-only-there i x n = elim (same_or_not x i) as (λ d. elim d as (λ _. O.MlType Name) [ inl _ ↦ O.free 0 | inr _ ↦ nothing x ] ≡ nothing x) [ inl e ↦ absurd (n e) | inr d ↦ refl ]
+only-there : (i x : ℕ) → x ≢ i → only i x ≡ ints x
+only-there i x n = elim (same_or_not x i) as (λ d. elim d as (λ _. O.MlType Name) [ inl _ ↦ O.free 0 | inr _ ↦ ints x ] ≡ ints x) [ inl e ↦ absurd (n e) | inr d ↦ refl ]
 
 differs-node : (ns : List Node) (r : ℕ → ℕ) (i j : ℕ) (x : Node) → j < i → IsSoundNode (length ns) j x → node_at ns j ≡ x → Agrees finite (solution ns (only i) r) j x → ((k : ℕ) → k < j → solution ns (only i) r k ≢ O.free 0) → solution ns (only i) r j ≢ O.free 0
 differs-node ns r i j Unknown h s e a before q =
-    let b : solution ns (only i) r j ≡ nothing j = solution-unknown ns (only i) r j e ∙ only-there i j (λ z. omega (arith, h, z)) in
-    not-free (O.row []) O.no_type 0 (solution ns (only i) r j) b q
+    let b : solution ns (only i) r j ≡ ints j = solution-unknown ns (only i) r j e ∙ only-there i j (λ z. omega (arith, h, z)) in
+    not-free _ O.no_type 0 (solution ns (only i) r j) b q
 differs-node ns r i j (Link k) h s e a before q = before k s (sym a ∙ q)
 differs-node ns r i j (App f kids) h s e a before q = not-free _ _ 0 (solution ns (only i) r j) a q
 
@@ -161,7 +162,7 @@ leads-below ns s (suc n) i h = leads-node ns i (node_at ns i) refl (s i) (λ j l
 
 permitted : (u : ℕ) (us : List ℕ) (g : Graph) (b : Bool) (τ : Assignment finite) → Meets finite g.nodes.items τ → Permits Finiteness (asked_of u us g b) (through finite us τ)
 unfolding Permits
-permitted u us g b τ m = (τ, m, tt, λ v l. refl)
+permitted u us g b τ m = (τ, m, nothing-asked u g.limits.items τ, λ v l. refl)
 
 through-permitted : (u : ℕ) (us : List ℕ) (g : Graph) (b : Bool) (σ : Assignment finite) → Permits Finiteness (asked_of u us g b) σ → (τ : Assignment finite) × Meets finite g.nodes.items τ × ((v : ℕ) → v < length us → through finite us τ v ≡ σ v)
 unfolding Permits
@@ -223,9 +224,9 @@ left-loose u us g b v s o l =
 
 module _ (ns : List Node) (us : List ℕ) (o : AreOwners ns us) (ρ : Assignment finite) where
   abbrev chosen : (i : ℕ) (x : Node) → node_at ns i ≡ x → O.MlType Name
-  chosen i Unknown e = elim (cases_lt i (length ns)) [ inl l ↦ ρ (o.owned i l e).0 | inr _ ↦ nothing i ]
-  chosen i (Link j) e = nothing i
-  chosen i (App h kids) e = nothing i
+  chosen i Unknown e = elim (cases_lt i (length ns)) [ inl l ↦ ρ (o.owned i l e).0 | inr _ ↦ ints i ]
+  chosen i (Link j) e = ints i
+  chosen i (App h kids) e = ints i
 
   abbrev choice : Assignment finite
   choice i = chosen i (node_at ns i) refl
@@ -233,7 +234,7 @@ module _ (ns : List Node) (us : List ℕ) (o : AreOwners ns us) (ρ : Assignment
   chosen-is : (v : ℕ) (x : Node) (e : node_at ns (get_or us v 0) ≡ x) → v < length us → x ≡ Unknown → chosen (get_or us v 0) x e ≡ ρ v
   chosen-is v Unknown e l q =
       let inside = inside-at (length ns) us v o.inside l in
-      elim (cases_lt (get_or us v 0) (length ns)) as (λ d. elim d as (λ _. O.MlType Name) [ inl b ↦ ρ (o.owned (get_or us v 0) b e).0 | inr _ ↦ nothing (get_or us v 0) ] ≡ ρ v) [
+      elim (cases_lt (get_or us v 0) (length ns)) as (λ d. elim d as (λ _. O.MlType Name) [ inl b ↦ ρ (o.owned (get_or us v 0) b e).0 | inr _ ↦ ints (get_or us v 0) ] ≡ ρ v) [
         | inl b ↦ let w = o.owned (get_or us v 0) b e in ap ρ (owned-once us w.0 v o.rising w.1 l w.2)
         | inr c ↦ absurd (omega (arith, inside, c))
       ]
@@ -246,10 +247,6 @@ same-node : (σ τ : Assignment finite) (i : ℕ) (x : Node) → Agrees finite �
 same-node σ τ i Unknown a b f c = f refl
 same-node σ τ i (Link j) a b f c = a ∙ (c.0 ∙ sym b)
 same-node σ τ i (App h kids) a b f c = a ∙ (ap (make finite (head_over h (length kids.items))) (map-alike finite σ τ kids.items c) ∙ sym b)
-
-all-both : (P Q : ℕ → Type 0) (ks : List ℕ) → AllByRecursion P ks → AllByRecursion Q ks → AllByRecursion (λ k. P k × Q k) ks
-all-both P Q [] a b = tt
-all-both P Q (k ∷ ks) a b = ((a.0, b.0), all-both P Q ks a.1 b.1)
 
 same-below : (ns : List Node) (r : ℕ → ℕ) (σ τ : Assignment finite) → IsSound ns → IsRanked ns r → Meets finite ns σ → Meets finite ns τ → ((i : ℕ) → i < length ns → node_at ns i ≡ Unknown → σ i ≡ τ i) → (n i : ℕ) → i < length ns → r i < n → σ i ≡ τ i
 same-below ns r σ τ s a m m' f zero i h l = absurd (omega (arith, l))

@@ -33,4 +33,4 @@ unfoldable pub IsMostGeneral : Asked → Type 0
 IsMostGeneral s =
     (ρ : Assignment finite)
     → (σ : Assignment finite) × Permits Finiteness s σ × ((v : ℕ) → IsLeft s v → σ v ≡ ρ v)
-      × ((τ : Assignment finite) → Permits Finiteness s τ → ((v : ℕ) → IsLeft s v → τ v ≡ ρ v) → (v : ℕ) → v < count s → τ v ≡ σ v)
+    × ((τ : Assignment finite) → Permits Finiteness s τ → ((v : ℕ) → IsLeft s v → τ v ≡ ρ v) → (v : ℕ) → v < count s → τ v ≡ σ v)

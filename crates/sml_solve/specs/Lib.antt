@@ -3,6 +3,8 @@ pub mod Graphs
 pub mod Interned
 pub mod Ranks
 pub mod Bounds
+pub mod Classes
+pub mod Limits
 pub mod Layers
 pub mod Asked
 pub mod Whole

@@ -9,15 +9,16 @@ ghost use Rattle.sml_objects.specs.Views.{type_of, scheme_of, maker_of};
 ghost use Rattle.sml_solve.specs.declared.layer.Layer.{Layer};
 ghost use Rattle.sml_solve.specs.declared.layer.Layer.TheVariants.{Finiteness};
 ghost use Rattle.sml_solve.specs.Worlds.{finite, Assignment};
-ghost use Rattle.sml_solve.specs.Asked.{Asked, asked_of, equal, within, count, IsOf, IsSchemeOf, Adds, CanMeet, IsFirstUnmet, IsMet, Permits, PermitsSame};
+ghost use Rattle.sml_solve.specs.Asked.{Asked, asked_of, equal, asks, count, IsOf, IsSchemeOf, Adds, CanMeet, IsFirstUnmet, IsMet, Permits, PermitsSame};
 ghost use Rattle.sml_solve.specs.Counted.{IsSizeUpTo};
 ghost use Rattle.sml_solve.specs.Left.{IsReading, IsMostGeneral};
 ghost use Rattle.sml_solve.specs.Whole.{IsKept};
 
+use crate::class::Class;
 use crate::count::size_from;
-use crate::demands::{equate, restrict};
+use crate::demands::{equate, impose};
 use crate::graph::{Graph, add, fill};
-use crate::layer::{Bound, Refusal};
+use crate::layer::{Ask, Bound, Refusal};
 use crate::node::Node;
 use crate::reading::type_up_to;
 use sml_objects::objects::{MlType, Scheme, UnitId};
@@ -55,8 +56,7 @@ impl Solver {
     {
         let graph = Graph {
             nodes: Vec::new(alloc),
-            newness: Vec::new(alloc),
-            locality: Vec::new(alloc),
+            limits: Vec::new(alloc),
             marks: Vec::new(alloc),
             stamp: 1,
         };
@@ -201,7 +201,7 @@ impl Solver {
         Ok(found)
     }
 
-    /// Demands that two types are equal: U1, U2, U3 or E6 where they can't be.
+    /// Demands that two types are equal: U1, U2, U3, E6, U4 or U5 where they can't be.
     pub fn require_equal(&mut self, left: &MlType, right: &MlType) -> Result<(), Refusal>
         requires left { IsOf self.old (type_of left.now) }
         requires right { IsOf self.old (type_of right.now) }
@@ -238,9 +238,54 @@ impl Solver {
     /// bound, where it can't be met.
     pub fn require_within(&mut self, ty: &MlType, bound: Bound, most: u32) -> Result<(), Refusal>
         requires { IsOf self.old (type_of ty.now) }
-        ensures ok { OnOk result (Adds self.old (within bound most (type_of ty.now)) self.new) }
-        ensures met { OnOk result ((l : Layer) → CanMeet l self.old (within bound most (type_of ty.now))) }
-        ensures unmet { (l : Layer) → result ≡ Err (Refusal.Unmet l) → IsFirstUnmet l self.old (within bound most (type_of ty.now)) }
+        ensures ok { OnOk result (Adds self.old (asks (Ask.Within bound most) (type_of ty.now)) self.new) }
+        ensures met { OnOk result ((l : Layer) → CanMeet l self.old (asks (Ask.Within bound most) (type_of ty.now))) }
+        ensures unmet { (l : Layer) → result ≡ Err (Refusal.Unmet l) → IsFirstUnmet l self.old (asks (Ask.Within bound most) (type_of ty.now)) }
+        ensures count { count self.new ≡ count self.old }
+        ensures kept { OnOk result (self.new.spent ≡ false) }
+        ensures unit { self.new.unit ≡ self.old.unit }
+        ensures err { OnErr result (self.new.spent ≡ true) }
+        ensures spent { result ≡ Err Refusal.Spent ↔ self.old.spent ≡ true }
+    {
+        self.require(ty, Ask::Within(bound, most))
+    }
+
+    /// Demands that a type admits equality (the Definition, section 4.4): U4 where it can't.
+    pub fn require_equality(&mut self, ty: &MlType) -> Result<(), Refusal>
+        requires { IsOf self.old (type_of ty.now) }
+        ensures ok { OnOk result (Adds self.old (asks (Ask.Equality) (type_of ty.now)) self.new) }
+        ensures met { OnOk result ((l : Layer) → CanMeet l self.old (asks (Ask.Equality) (type_of ty.now))) }
+        ensures unmet { (l : Layer) → result ≡ Err (Refusal.Unmet l) → IsFirstUnmet l self.old (asks (Ask.Equality) (type_of ty.now)) }
+        ensures count { count self.new ≡ count self.old }
+        ensures kept { OnOk result (self.new.spent ≡ false) }
+        ensures unit { self.new.unit ≡ self.old.unit }
+        ensures err { OnErr result (self.new.spent ≡ true) }
+        ensures spent { result ≡ Err Refusal.Spent ↔ self.old.spent ≡ true }
+    {
+        self.require(ty, Ask::Equality)
+    }
+
+    /// Demands that a type is one of the names of a class: U5 where it can't be.
+    pub fn require_class(&mut self, ty: &MlType, class: Class) -> Result<(), Refusal>
+        requires { IsOf self.old (type_of ty.now) }
+        ensures ok { OnOk result (Adds self.old (asks (Ask.Class class) (type_of ty.now)) self.new) }
+        ensures met { OnOk result ((l : Layer) → CanMeet l self.old (asks (Ask.Class class) (type_of ty.now))) }
+        ensures unmet { (l : Layer) → result ≡ Err (Refusal.Unmet l) → IsFirstUnmet l self.old (asks (Ask.Class class) (type_of ty.now)) }
+        ensures count { count self.new ≡ count self.old }
+        ensures kept { OnOk result (self.new.spent ≡ false) }
+        ensures unit { self.new.unit ≡ self.old.unit }
+        ensures err { OnErr result (self.new.spent ≡ true) }
+        ensures spent { result ≡ Err Refusal.Spent ↔ self.old.spent ≡ true }
+    {
+        self.require(ty, Ask::Class(class))
+    }
+
+    /// Demands something of a type.
+    fn require(&mut self, ty: &MlType, ask: Ask) -> Result<(), Refusal>
+        requires { IsOf self.old (type_of ty.now) }
+        ensures ok { OnOk result (Adds self.old (asks ask (type_of ty.now)) self.new) }
+        ensures met { OnOk result ((l : Layer) → CanMeet l self.old (asks ask (type_of ty.now))) }
+        ensures unmet { (l : Layer) → result ≡ Err (Refusal.Unmet l) → IsFirstUnmet l self.old (asks ask (type_of ty.now)) }
         ensures count { count self.new ≡ count self.old }
         ensures kept { OnOk result (self.new.spent ≡ false) }
         ensures unit { self.new.unit ≡ self.old.unit }
@@ -251,15 +296,8 @@ impl Solver {
             return Err(Refusal::Spent);
         }
         self.spent = true;
-        match restrict(
-            self.alloc,
-            self.unit,
-            &mut self.graph,
-            self.unknowns.as_slice(),
-            bound,
-            most,
-            ty,
-        ) {
+        let unknowns = self.unknowns.as_slice();
+        match impose(self.alloc, self.unit, &mut self.graph, unknowns, ask, ty) {
             Ok(()) => {
                 self.spent = false;
                 Ok(())

@@ -23,7 +23,7 @@ type_up_to-requires-clause-rank c =
     let t = type_of c.args.ty.now in
     let k : IsKept u g us = c.self.invariant c.if-self.false in
     let i : Interns g.nodes.items us t h.nodes.items c.in-Ok.at = subst (λ us. Interns g.nodes.items us t h.nodes.items c.in-Ok.at) c.as_slice.ensures.value c.in-Ok.ensures.interns in
-    let x : Grows us t g h c.in-Ok.at = record { interns = i; newness = c.in-Ok.ensures.newness; locality = c.in-Ok.ensures.locality } in
+    let x : Grows us t g h c.in-Ok.at = record { interns = i; limits = c.in-Ok.ensures.limits } in
     let w : IsWhole u h = c.in-Ok.ensures.whole u k.whole in
     let n : IsKept u h us = kept-grown u us t g h c.in-Ok.at k x w in
     rw c.as_slice-nodes.ensures.value w.rank
@@ -37,7 +37,7 @@ type_up_to-requires-clause-owners c =
     let t = type_of c.args.ty.now in
     let k : IsKept u g us = c.self.invariant c.if-self.false in
     let i : Interns g.nodes.items us t h.nodes.items c.in-Ok.at = subst (λ us. Interns g.nodes.items us t h.nodes.items c.in-Ok.at) c.as_slice.ensures.value c.in-Ok.ensures.interns in
-    let x : Grows us t g h c.in-Ok.at = record { interns = i; newness = c.in-Ok.ensures.newness; locality = c.in-Ok.ensures.locality } in
+    let x : Grows us t g h c.in-Ok.at = record { interns = i; limits = c.in-Ok.ensures.limits } in
     let w : IsWhole u h = c.in-Ok.ensures.whole u k.whole in
     let n : IsKept u h us = kept-grown u us t g h c.in-Ok.at k x w in
     rw (c.as_slice-nodes.ensures.value, c.as_slice-2.ensures.value) n.owners
@@ -51,7 +51,7 @@ invariant_of-self-2 c _ =
     let t = type_of c.args.ty.now in
     let k : IsKept u g us = c.self.invariant c.if-self.false in
     let i : Interns g.nodes.items us t h.nodes.items c.in-Ok.at = subst (λ us. Interns g.nodes.items us t h.nodes.items c.in-Ok.at) c.as_slice.ensures.value c.in-Ok.ensures.interns in
-    let x : Grows us t g h c.in-Ok.at = record { interns = i; newness = c.in-Ok.ensures.newness; locality = c.in-Ok.ensures.locality } in
+    let x : Grows us t g h c.in-Ok.at = record { interns = i; limits = c.in-Ok.ensures.limits } in
     let w : IsWhole u h = c.in-Ok.ensures.whole u k.whole in
     let n : IsKept u h us = kept-grown u us t g h c.in-Ok.at k x w in
     n
@@ -65,7 +65,7 @@ returns-clause-ty c =
     let t = type_of c.args.ty.now in
     let k : IsKept u g us = c.self.invariant c.if-self.false in
     let i : Interns g.nodes.items us t h.nodes.items c.in-Ok.at = subst (λ us. Interns g.nodes.items us t h.nodes.items c.in-Ok.at) c.as_slice.ensures.value c.in-Ok.ensures.interns in
-    let x : Grows us t g h c.in-Ok.at = record { interns = i; newness = c.in-Ok.ensures.newness; locality = c.in-Ok.ensures.locality } in
+    let x : Grows us t g h c.in-Ok.at = record { interns = i; limits = c.in-Ok.ensures.limits } in
     let w : IsWhole u h = c.in-Ok.ensures.whole u k.whole in
     let n : IsKept u h us = kept-grown u us t g h c.in-Ok.at k x w in
     let o : IsOver (length us) t = subst (λ s. IsOf s t) (sym c.self.view_is) c.requires.known in
@@ -81,7 +81,7 @@ returns-clause-large c =
     let t = type_of c.args.ty.now in
     let k : IsKept u g us = c.self.invariant c.if-self.false in
     let i : Interns g.nodes.items us t h.nodes.items c.in-Ok.at = subst (λ us. Interns g.nodes.items us t h.nodes.items c.in-Ok.at) c.as_slice.ensures.value c.in-Ok.ensures.interns in
-    let x : Grows us t g h c.in-Ok.at = record { interns = i; newness = c.in-Ok.ensures.newness; locality = c.in-Ok.ensures.locality } in
+    let x : Grows us t g h c.in-Ok.at = record { interns = i; limits = c.in-Ok.ensures.limits } in
     let w : IsWhole u h = c.in-Ok.ensures.whole u k.whole in
     let n : IsKept u h us = kept-grown u us t g h c.in-Ok.at k x w in
     let o : IsOver (length us) t = subst (λ s. IsOf s t) (sym c.self.view_is) c.requires.known in
@@ -97,7 +97,7 @@ returns-clause-same c =
     let t = type_of c.args.ty.now in
     let k : IsKept u g us = c.self.invariant c.if-self.false in
     let i : Interns g.nodes.items us t h.nodes.items c.in-Ok.at = subst (λ us. Interns g.nodes.items us t h.nodes.items c.in-Ok.at) c.as_slice.ensures.value c.in-Ok.ensures.interns in
-    let x : Grows us t g h c.in-Ok.at = record { interns = i; newness = c.in-Ok.ensures.newness; locality = c.in-Ok.ensures.locality } in
+    let x : Grows us t g h c.in-Ok.at = record { interns = i; limits = c.in-Ok.ensures.limits } in
     let w : IsWhole u h = c.in-Ok.ensures.whole u k.whole in
     let n : IsKept u h us = kept-grown u us t g h c.in-Ok.at k x w in
     subst (λ s. PermitsSame s (asked_of u us h false)) c.self.view_is (permits-grown u us c.self.inside.spent false t g h c.in-Ok.at k x)

@@ -1,6 +1,7 @@
 -- Unknowns and the nodes that say ints.
 use Rattle.std.proofs.Common.{◌≡◌, ◌≢◌, ℕ, zero, suc, ◌+◌, ◌^◌, ◌<◌, ◌≤◌, ◌⊎◌, inl, inr, Option, Some, None, List, [], ◌∷◌, ◌++◌, length, map, get_or, sym, ◌∙◌, ap, subst, refl, arith, length-append}
 use Rattle.std.proofs.lemmas.Bool.{cases_lt}
+use Rattle.std.proofs.lemmas.List.{get_or_past}
 use Rattle.std.specs.Prelude.{Bool}
 use Rattle.std.specs.List.{AllByRecursion}
 use Rattle.std.specs.Option.{IfSome, IfNone}
@@ -14,7 +15,8 @@ use Rattle.sml_objects.specs.Views.{type_of}
 use Rattle.sml_objects.specs.declared.objects.MlType.{MlType}
 use Rattle.smallvec.specs.SmallVec.{SmallVec}
 use Rattle.sml_solve.specs.declared.graph.Graph.{Graph}
-use Rattle.sml_solve.specs.declared.layer.Layer.TheVariants.{Finiteness}
+use Rattle.sml_solve.specs.declared.layer.Layer.{Layer}
+use Rattle.sml_solve.specs.declared.layer.Layer.TheVariants.{Equations, Finiteness, Newness, Locality, Equality, Classes}
 use Rattle.sml_solve.specs.declared.node.Head.{Head}
 use Rattle.sml_solve.specs.declared.node.Node.{Node}
 use Rattle.sml_solve.specs.declared.node.Node.TheVariants.{Unknown, Link, App}
@@ -23,12 +25,15 @@ use Rattle.sml_solve.specs.Graphs.{node_at, head_over, parts, Agrees, Meets, IsS
 use Rattle.sml_solve.specs.Interned.{IsOver, AreOver, Interns, through}
 use Rattle.sml_solve.specs.Ranks.{IsRanked, HasRank}
 use Rattle.sml_solve.specs.Asked.{Asked, asked_of, count, Permits}
-use Rattle.sml_solve.specs.Left.{IsMadeOf, AreMadeOf, IsLeft, IsReading, IsMostGeneral}
+use Rattle.sml_solve.specs.Layers.{place_of}
+use Rattle.sml_solve.specs.Limits.{no_limit, limit_at, MeetsAt, KeepsThrough}
+use Rattle.sml_solve.specs.Whole.{IsWhole, IsKept}
+use Rattle.sml_solve.specs.Left.{IsMadeOf, AreMadeOf, IsLeft, IsReading, MayBe, IsMostGeneral}
 use Rattle.sml_solve.specs.Reads.{IsTypeAt}
 use Rattle.sml_solve.proofs.Interning.{inside-at, inside-more, get_or-left, get_or-right, typed-same, map-alike, parts-inside}
 use Rattle.sml_solve.proofs.Merging.{same_or_not, all-append}
-use Rattle.sml_solve.proofs.Limiting.{nothing-asked}
-use Rattle.sml_solve.proofs.Ranking.{all-both, solution, ints, solution-meets, solution-unknown}
+use Rattle.sml_solve.proofs.Limiting.{nothing-asked, none-meets}
+use Rattle.sml_solve.proofs.Ranking.{all-both, solution, ints, solution-meets, solution-unknown, solution-keeps}
 use Rattle.sml_solve.proofs.Searching.{all-parts}
 use Rattle.sml_solve.proofs.Wholeness.{get_or-push}
 
@@ -253,30 +258,67 @@ same-below ns r σ τ s a m m' f zero i h l = absurd (omega (arith, l))
 same-below ns r σ τ s a m m' f (suc n) i h l =
     same-node σ τ i (node_at ns i) (m i) (m' i) (f i h) (all-parts (λ k. (k < length ns) × (r k < r i)) (λ k. σ k ≡ τ k) (parts (node_at ns i)) (λ k b. same-below ns r σ τ s a m m' f n k b.0 (let z = b.1 in omega (arith, z, l))) (all-both (λ k. k < length ns) (λ k. r k < r i) (parts (node_at ns i)) (parts-inside (length ns) i (node_at ns i) h (s i)) (a i)))
 
-pub most-general : (u : ℕ) (us : List ℕ) (g : Graph) (b : Bool) → IsSound g.nodes.items → HasRank g.nodes.items → AreOwners g.nodes.items us → IsMostGeneral (asked_of u us g b)
-unfolding IsMostGeneral
-most-general u us g b s h o ρ =
-    let ns = g.nodes.items in
-    let ρ' = choice ns us o ρ in
-    let σ = solution ns ρ' h.rank in
-    let m = solution-meets ns ρ' h.rank h.ranked in (
-      through finite us σ,
-      permitted u us g b σ m,
-      λ v l.
-          let k = left-loose u us g b v s o l in
-          solution-unknown ns ρ' h.rank (get_or us v 0) k.1 ∙ chosen-is ns us o ρ v (node_at ns (get_or us v 0)) refl k.0 k.1,
-      λ τ p q v l.
-          let t = through-permitted u us g b τ p in
-          let one : (i : ℕ) → i < length ns → node_at ns i ≡ Unknown → t.0 i ≡ σ i = (λ i k e.
-          let w = o.owned i k e in
-          let loose : IsLoose ns us w.0 = (w.1, ap (node_at ns) w.2 ∙ e) in
-          let left = loose-left u us g b w.0 s h o loose in
-          let z : σ (get_or us w.0 0) ≡ ρ w.0 = solution-unknown ns ρ' h.rank (get_or us w.0 0) loose.1 ∙ chosen-is ns us o ρ w.0 (node_at ns (get_or us w.0 0)) refl w.1 loose.1 in
-          ap t.0 (sym w.2) ∙ (t.2 w.0 w.1 ∙ (q w.0 left ∙ (sym z ∙ ap σ w.2)))) in
-          let inside = inside-at (length ns) us v o.inside l in
-          sym (t.2 v l) ∙ same-below ns h.rank t.0 σ s h.ranked t.1 m one (suc (h.rank (get_or us v 0))) (get_or us v 0) inside (omega arith),
+-- types that are chosen so that each is possible are possible together, and fix all others
+module _ (u : ℕ) (us : List ℕ) (g : Graph) (b : Bool) (w : IsWhole u g) (o : AreOwners g.nodes.items us) (l : Layer) (ρ : Assignment finite) where
+  abbrev ns : List Node
+  ns = g.nodes.items
+
+  abbrev chosen-types : Assignment finite
+  chosen-types = solution ns (choice ns us o ρ) w.rank.rank
+
+  chosen-meets : Meets finite ns chosen-types
+  chosen-meets = solution-meets ns (choice ns us o ρ) w.rank.rank w.rank.ranked
+
+  chosen-left : (v : ℕ) → IsLeft (asked_of u us g b) v → chosen-types (get_or us v 0) ≡ ρ v
+  chosen-left v l =
+      let k = left-loose u us g b v w.sound o l in
+      solution-unknown ns (choice ns us o ρ) w.rank.rank (get_or us v 0) k.1 ∙ chosen-is ns us o ρ v (node_at ns (get_or us v 0)) refl k.0 k.1
+
+  chosen-once : (τ : Assignment finite) → Meets finite ns τ → ((v : ℕ) → IsLeft (asked_of u us g b) v → τ (get_or us v 0) ≡ ρ v) → (v : ℕ) → v < length us → τ (get_or us v 0) ≡ chosen-types (get_or us v 0)
+  chosen-once τ m q v k =
+      let one : (i : ℕ) → i < length ns → node_at ns i ≡ Unknown → τ i ≡ chosen-types i = (λ i k e.
+      let x = o.owned i k e in
+      let left = loose-left u us g b x.0 w.sound w.rank o (x.1, ap (node_at ns) x.2 ∙ e) in
+      ap τ (sym x.2) ∙ (q x.0 left ∙ (sym (chosen-left x.0 left) ∙ ap chosen-types x.2))) in
+      let inside = inside-at (length ns) us v o.inside k in
+      same-below ns w.rank.rank τ chosen-types w.sound w.rank.ranked m chosen-meets one (suc (w.rank.rank (get_or us v 0))) (get_or us v 0) inside (omega arith)
+
+  chosen-keeps : ((v : ℕ) → IsLeft (asked_of u us g b) v → (τ : Assignment finite) × KeepsThrough l u g.limits.items τ × (τ (get_or us v 0) ≡ ρ v)) → KeepsThrough l u g.limits.items chosen-types
+  chosen-keeps may j h =
+      solution-keeps j u ns g.limits.items (choice ns us o ρ) w.rank.rank w.rank.ranked w.closed (w.fit j) (λ i e.
+      elim (cases_lt i (length ns)) [
+        | inl k ↦
+            let x = o.owned i k e in
+            let loose : IsLoose ns us x.0 = (x.1, ap (node_at ns) x.2 ∙ e) in
+            let t = may x.0 (loose-left u us g b x.0 w.sound w.rank o loose) in
+            let y : choice ns us o ρ (get_or us x.0 0) ≡ ρ x.0 = chosen-is ns us o ρ x.0 (node_at ns (get_or us x.0 0)) refl x.1 loose.1 in
+            subst (λ i. MeetsAt j u (limit_at g.limits.items i) (choice ns us o ρ i)) x.2 (rw (y, ← t.2) (t.1 j h (get_or us x.0 0)))
+        | inr k ↦ rw (get_or_past g.limits.items i no_limit (let z = w.full.limits in omega (arith, k, z))) (none-meets j u (choice ns us o ρ i))
+      ])
+
+abbrev PermitsThrough : Layer → Asked → Assignment finite → Type 0
+PermitsThrough l s σ = (τ : Assignment finite) × Meets finite s.nodes τ × KeepsThrough l s.unit s.limits τ × ((v : ℕ) → v < count s → through finite s.unknowns τ v ≡ σ v)
+
+one-for-each : (u : ℕ) (us : List ℕ) (g : Graph) (b : Bool) → IsKept u g us → (l : Layer) (ρ : Assignment finite)
+    → ((v : ℕ) → IsLeft (asked_of u us g b) v → (σ : Assignment finite) × PermitsThrough l (asked_of u us g b) σ × (σ v ≡ ρ v))
+    → (σ : Assignment finite) × PermitsThrough l (asked_of u us g b) σ × ((v : ℕ) → IsLeft (asked_of u us g b) v → σ v ≡ ρ v)
+    × ((τ : Assignment finite) → PermitsThrough l (asked_of u us g b) τ → ((v : ℕ) → IsLeft (asked_of u us g b) v → τ v ≡ ρ v) → (v : ℕ) → v < length us → τ v ≡ σ v)
+one-for-each u us g b k l ρ may =
+    let t = chosen-types u us g b k.whole k.owners l ρ in (
+      through finite us t,
+      (t, chosen-meets u us g b k.whole k.owners l ρ, chosen-keeps u us g b k.whole k.owners l ρ (λ v h. let p = may v h in (p.1.0, p.1.2, p.1.3 v h.known ∙ p.2)), λ v h. refl),
+      chosen-left u us g b k.whole k.owners l ρ,
+      λ τ p q v h. sym (p.3 v h) ∙ chosen-once u us g b k.whole k.owners l ρ p.0 p.1 (λ v h. p.3 v h.known ∙ q v h) v h,
     )
 
+pub most-general : (u : ℕ) (us : List ℕ) (g : Graph) (b : Bool) → IsKept u g us → IsMostGeneral (asked_of u us g b)
+unfolding IsMostGeneral Permits MayBe
+most-general u us g b k Equations h = absurd (omega (arith, h))
+most-general u us g b k Finiteness h = one-for-each u us g b k Finiteness
+most-general u us g b k Newness h = one-for-each u us g b k Newness
+most-general u us g b k Locality h = one-for-each u us g b k Locality
+most-general u us g b k Equality h = one-for-each u us g b k Equality
+most-general u us g b k Classes h = one-for-each u us g b k Classes
 -- Types that are read back.
 
 mutual

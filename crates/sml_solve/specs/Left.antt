@@ -1,11 +1,13 @@
 -- The unknowns that are left, and the type over them that a type stands for.
-use Rattle.std.specs.Prelude.{◌≡◌, ◌≢◌, ℕ, ◌<◌}
+use Rattle.std.specs.Prelude.{◌≡◌, ◌≢◌, ℕ, ◌<◌, ◌≤◌}
 use Rattle.sml_objects.specs.Initial.{Name}
 use Rattle.sml_objects.specs.Objects.{MlType, MlTypes, bound, free, app, no_type, and_type}
 use Rattle.sml_objects.specs.Types.{assign}
+use Rattle.sml_solve.specs.declared.layer.Layer.{Layer}
 use Rattle.sml_solve.specs.declared.layer.Layer.TheVariants.{Finiteness}
-use Rattle.sml_solve.specs.Worlds.{finite, Assignment}
-use Rattle.sml_solve.specs.Asked.{Asked, count, Permits}
+use Rattle.sml_solve.specs.Worlds.{finite, In, Assignment}
+use Rattle.sml_solve.specs.Layers.{place_of}
+use Rattle.sml_solve.specs.Asked.{Asked, count, world, Permits}
 
 -- No variable of the type is bound by a scheme, and P holds of each.
 unfoldable mutual
@@ -28,9 +30,17 @@ pub record IsLeft (s : Asked) (v : ℕ) : Type 0 where
 unfoldable pub IsReading : Asked → MlType Name → MlType Name → Type 0
 IsReading s t r = IsMadeOf (IsLeft s) r × ((σ : Assignment finite) → Permits Finiteness s σ → assign σ r ≡ assign σ t)
 
--- Whatever types are chosen for the unknowns that are left, exactly one assignment gives them these.
+-- The unknown may have this type, by what was asked in the layers up to this one.
+unfoldable pub MayBe : (l : Layer) → Asked → ℕ → In (world l) → Type 0
+MayBe l s v t = (σ : Assignment (world l)) × Permits l s σ × (σ v ≡ t)
+
+-- Whatever types are chosen for the unknowns that are left, each one that it may have, exactly one assignment gives them these.
+abbrev pub HasOneForEachChoice : Layer → Asked → Type 0
+HasOneForEachChoice l s =
+    (ρ : Assignment (world l)) → ((v : ℕ) → IsLeft s v → MayBe l s v (ρ v))
+    → (σ : Assignment (world l)) × Permits l s σ × ((v : ℕ) → IsLeft s v → σ v ≡ ρ v)
+    × ((τ : Assignment (world l)) → Permits l s τ → ((v : ℕ) → IsLeft s v → τ v ≡ ρ v) → (v : ℕ) → v < count s → τ v ≡ σ v)
+
+-- The same in each layer of finite types. By the equations alone, an unknown that is left may have any of these.
 unfoldable pub IsMostGeneral : Asked → Type 0
-IsMostGeneral s =
-    (ρ : Assignment finite)
-    → (σ : Assignment finite) × Permits Finiteness s σ × ((v : ℕ) → IsLeft s v → σ v ≡ ρ v)
-    × ((τ : Assignment finite) → Permits Finiteness s τ → ((v : ℕ) → IsLeft s v → τ v ≡ ρ v) → (v : ℕ) → v < count s → τ v ≡ σ v)
+IsMostGeneral s = (l : Layer) → place_of Finiteness ≤ place_of l → HasOneForEachChoice l s

@@ -162,7 +162,8 @@ impl Solver {
         Ok(size)
     }
 
-    /// A law: by the equations, the unknowns that are left may have any types, and these fix those of all others.
+    /// A law: the unknowns that are left may have any types at once that each of them may have, and these fix the types of
+    /// all others.
     pub fn choices_are_free(&self)
         requires { self.now.spent ≡ false }
         ensures { IsMostGeneral self.now }

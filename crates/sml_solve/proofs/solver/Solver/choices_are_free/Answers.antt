@@ -12,4 +12,4 @@ returns c =
     let g = c.self.inside.graph in
     let spent : c.self.inside.spent ≡ false = ap (λ (s : Asked). s.spent) c.self.view_is ∙ c.requires in
     let k : IsKept (maker_of c.self.inside.unit) g c.self.inside.unknowns.items = c.self.invariant spent in
-    subst IsMostGeneral c.self.view_is (most-general (maker_of c.self.inside.unit) c.self.inside.unknowns.items g c.self.inside.spent k.whole.sound k.whole.rank k.owners)
+    subst IsMostGeneral c.self.view_is (most-general (maker_of c.self.inside.unit) c.self.inside.unknowns.items g c.self.inside.spent k)

@@ -12,7 +12,7 @@ use Rattle.sml_solve.specs.declared.layer.Ask.{Ask}
 use Rattle.sml_solve.specs.declared.layer.Ask.TheVariants as A
 use Rattle.sml_solve.specs.declared.layer.Bound.TheVariants as B
 use Rattle.sml_solve.specs.declared.layer.Layer.{Layer}
-use Rattle.sml_solve.specs.declared.layer.Layer.TheVariants.{Equations, Finiteness, Newness, Locality, Equality, Classes}
+use Rattle.sml_solve.specs.declared.layer.Layer.TheVariants.{Equations, Finiteness, Newness, Locality, Equality, Classes, Rigidity}
 use Rattle.sml_solve.specs.declared.limits.Limit.{Limit}
 use Rattle.sml_solve.specs.declared.node.Node.{Node}
 use Rattle.sml_solve.specs.declared.node.Node.TheVariants.{Unknown}
@@ -25,8 +25,8 @@ use Rattle.sml_solve.specs.Layers.{place_of}
 use Rattle.sml_solve.specs.Asked.{Asked, asked_of, count, world, KeepsUpTo, Permits, layer_of, limit_of, IsAsAsked, HoldsUpTo, Demand, equal, asks, Holds, CanMeet, IsFirstUnmet, Adds, IsMet, PermitsSame}
 use Rattle.sml_solve.specs.Whole.{IsFull, IsWhole, IsChanged, Finishes, FailsFirst, FailsAt, LowersLimit, IsKept}
 use Rattle.sml_solve.proofs.Interning.{inside-at, inside-more, typed-same, sound-more, get_or-left, get_or-right, beyond, beyond-below, beyond-above, meets-beyond}
-use Rattle.sml_solve.proofs.Limiting.{nothing-asked, none-meets, closed-still, lowered-keeps, keeps-lowered, but-lowered}
-use Rattle.sml_solve.proofs.Ranking.{rank_of, finite_of, solution, ints, solution-meets, ints-keep}
+use Rattle.sml_solve.proofs.Limiting.{nothing-asked, none-meets, none-fits, closed-still, lowered-keeps, keeps-lowered, but-lowered}
+use Rattle.sml_solve.proofs.Ranking.{rank_of, finite_of, solution, stand_ins, solution-meets, stands-keep}
 use Rattle.sml_solve.proofs.Walks.{has_infinite}
 use Rattle.sml_solve.proofs.Merging.{all-append}
 use Rattle.sml_solve.proofs.Wholeness.{get_or-push, closed-more, fit-more}
@@ -51,6 +51,7 @@ upto-agree Newness u n ls τ υ a e k = λ j h. keeps-agree j u n ls τ υ a e (
 upto-agree Locality u n ls τ υ a e k = λ j h. keeps-agree j u n ls τ υ a e (k j h)
 upto-agree Equality u n ls τ υ a e k = λ j h. keeps-agree j u n ls τ υ a e (k j h)
 upto-agree Classes u n ls τ υ a e k = λ j h. keeps-agree j u n ls τ υ a e (k j h)
+upto-agree Rigidity u n ls τ υ a e k = λ j h. keeps-agree j u n ls τ υ a e (k j h)
 
 upto-as : (l : Layer) (u : ℕ) (ks ls : List Limit) (τ : Assignment (world l)) → ((i : ℕ) → limit_at ls i ≡ limit_at ks i) → KeepsUpTo l u ks τ → KeepsUpTo l u ls τ
 upto-as Equations u ks ls τ e k = tt
@@ -59,6 +60,7 @@ upto-as Newness u ks ls τ e k = λ j h. keeps-as j u ks ls τ e (k j h)
 upto-as Locality u ks ls τ e k = λ j h. keeps-as j u ks ls τ e (k j h)
 upto-as Equality u ks ls τ e k = λ j h. keeps-as j u ks ls τ e (k j h)
 upto-as Classes u ks ls τ e k = λ j h. keeps-as j u ks ls τ e (k j h)
+upto-as Rigidity u ks ls τ e k = λ j h. keeps-as j u ks ls τ e (k j h)
 
 through-finish : (l : Layer) (u : ℕ) (g h : Graph) (τ : Assignment finite) → Finishes u g h → Meets finite g.nodes.items τ → KeepsThrough l u g.limits.items τ ↔ KeepsThrough l u h.limits.items τ
 through-finish l u g h τ f m = (λ k j p. (f.limits j τ m).0 (k j p), λ k j p. (f.limits j τ m).1 (k j p))
@@ -70,6 +72,7 @@ upto-finish Newness u g h τ f m = through-finish Newness u g h τ f m
 upto-finish Locality u g h τ f m = through-finish Locality u g h τ f m
 upto-finish Equality u g h τ f m = through-finish Equality u g h τ f m
 upto-finish Classes u g h τ f m = through-finish Classes u g h τ f m
+upto-finish Rigidity u g h τ f m = through-finish Rigidity u g h τ f m
 
 -- A graph in which a demand stands: its types are those that were permitted and meet the demand.
 pub record Stands (s : Asked) (d : Demand) (g : Graph) : Type 0 where
@@ -98,15 +101,16 @@ can-finite s d g x r = let t = finite_of g.nodes.items r in can s d g x Finitene
 
 -- what stands in a finished graph
 
-finished-types : (u : ℕ) (g h : Graph) → Finishes u g h → (σ : Assignment finite) × Meets finite g.nodes.items σ × ((k : Layer) → KeepsAt k u g.limits.items σ)
-finished-types u g h f =
+finished-types : (u : ℕ) (g h : Graph) → (0 ≡ u → ⊥) → Finishes u g h → (σ : Assignment finite) × Meets finite g.nodes.items σ × ((k : Layer) → KeepsAt k u g.limits.items σ)
+finished-types u g h d f =
     let w = f.whole in
-    let σ = solution h.nodes.items ints w.rank.rank in
-    let m : Meets finite g.nodes.items σ = rw (sym f.nodes) (solution-meets h.nodes.items ints w.rank.rank w.rank.ranked) in
-    (σ, m, λ k. (f.limits k σ m).1 (ints-keep k u h.nodes.items h.limits.items w.rank.rank w.rank.ranked w.closed (w.fit k)))
+    let ρ = stand_ins h.limits.items in
+    let σ = solution h.nodes.items ρ w.rank.rank in
+    let m : Meets finite g.nodes.items σ = rw (sym f.nodes) (solution-meets h.nodes.items ρ w.rank.rank w.rank.ranked) in
+    (σ, m, λ k. (f.limits k σ m).1 (stands-keep k u h.nodes.items h.limits.items w.rank.rank d w.rank.ranked w.closed w.fit))
 
-pub finished-met : (s : Asked) (d : Demand) (g h : Graph) → Stands s d g → Finishes s.unit g h → (l : Layer) → CanMeet l s d
-finished-met s d g h x f l = go l (finished-types s.unit g h f) where
+pub finished-met : (s : Asked) (d : Demand) (g h : Graph) → (0 ≡ s.unit → ⊥) → Stands s d g → Finishes s.unit g h → (l : Layer) → CanMeet l s d
+finished-met s d g h n x f l = go l (finished-types s.unit g h n f) where
   go : (l : Layer) → ((σ : Assignment finite) × Meets finite g.nodes.items σ × ((k : Layer) → KeepsAt k s.unit g.limits.items σ)) → CanMeet l s d
   go Equations t = can-equations s d g x (rw (sym f.nodes) f.whole.sound)
   go Finiteness t = can s d g x Finiteness t.0 t.1 (λ k h. t.2 k)
@@ -114,6 +118,7 @@ finished-met s d g h x f l = go l (finished-types s.unit g h f) where
   go Locality t = can s d g x Locality t.0 t.1 (λ k h. t.2 k)
   go Equality t = can s d g x Equality t.0 t.1 (λ k h. t.2 k)
   go Classes t = can s d g x Classes t.0 t.1 (λ k h. t.2 k)
+  go Rigidity t = can s d g x Rigidity t.0 t.1 (λ k h. t.2 k)
 
 pub finished-adds : (s : Asked) (d : Demand) (g h : Graph) (b : Bool) → Stands s d g → Finishes s.unit g h → Adds s d (asked_of s.unit s.unknowns h b)
 unfolding Adds Permits
@@ -135,6 +140,7 @@ before-met s d g l x sound f Newness h = can s d g x Newness f.types f.meets (λ
 before-met s d g l x sound f Locality h = can s d g x Locality f.types f.meets (λ j q. f.keeps j (omega (arith, q, h)))
 before-met s d g l x sound f Equality h = can s d g x Equality f.types f.meets (λ j q. f.keeps j (omega (arith, q, h)))
 before-met s d g l x sound f Classes h = can s d g x Classes f.types f.meets (λ j q. f.keeps j (omega (arith, q, h)))
+before-met s d g l x sound f Rigidity h = can s d g x Rigidity f.types f.meets (λ j q. f.keeps j (omega (arith, q, h)))
 
 pub failing-first : (s : Asked) (d : Demand) (g : Graph) → Stands s d g → IsSound g.nodes.items → (l : Layer) → FailsAt l s.unit g → IsFirstUnmet l s d
 unfolding IsFirstUnmet
@@ -148,12 +154,14 @@ failing-first s d g x sound Finiteness f = (
     | Locality ↦ λ h. absurd (omega (arith, h))
     | Equality ↦ λ h. absurd (omega (arith, h))
     | Classes ↦ λ h. absurd (omega (arith, h))
+    | Rigidity ↦ λ h. absurd (omega (arith, h))
   ],
 )
-failing-first s d g x sound Newness f = (cannot s d g x Newness (λ υ m k. f.none υ m (k Newness (omega arith))), before-met s d g Newness x sound f)
-failing-first s d g x sound Locality f = (cannot s d g x Locality (λ υ m k. f.none υ m (k Locality (omega arith))), before-met s d g Locality x sound f)
-failing-first s d g x sound Equality f = (cannot s d g x Equality (λ υ m k. f.none υ m (k Equality (omega arith))), before-met s d g Equality x sound f)
-failing-first s d g x sound Classes f = (cannot s d g x Classes (λ υ m k. f.none υ m (k Classes (omega arith))), before-met s d g Classes x sound f)
+failing-first s d g x sound Newness f = (cannot s d g x Newness (λ υ m k. f.none υ m k), before-met s d g Newness x sound f)
+failing-first s d g x sound Locality f = (cannot s d g x Locality (λ υ m k. f.none υ m k), before-met s d g Locality x sound f)
+failing-first s d g x sound Equality f = (cannot s d g x Equality (λ υ m k. f.none υ m k), before-met s d g Equality x sound f)
+failing-first s d g x sound Classes f = (cannot s d g x Classes (λ υ m k. f.none υ m k), before-met s d g Classes x sound f)
+failing-first s d g x sound Rigidity f = (cannot s d g x Rigidity (λ υ m k. f.none υ m k), before-met s d g Rigidity x sound f)
 
 -- A graph with nodes for a type more.
 pub record Grows (us : List ℕ) (t : MlType Name) (g h : Graph) (r : ℕ) : Type 0 where
@@ -247,24 +255,34 @@ asked-at Newness l u (A.Within B.Newness n) t h f = f h
 asked-at Newness l u (A.Within B.Locality n) t h f = tt
 asked-at Newness l u A.Equality t h f = tt
 asked-at Newness l u (A.Class c) t h f = tt
+asked-at Newness l u (A.Variable x) t h f = tt
 asked-at Locality l u (A.Within B.Newness n) t h f = tt
 asked-at Locality l u (A.Within B.Locality n) t h f = f h
 asked-at Locality l u A.Equality t h f = tt
 asked-at Locality l u (A.Class c) t h f = tt
+asked-at Locality l u (A.Variable x) t h f = tt
 asked-at Equality l u (A.Within B.Newness n) t h f = tt
 asked-at Equality l u (A.Within B.Locality n) t h f = tt
 asked-at Equality l u A.Equality t h f = f h
 asked-at Equality l u (A.Class c) t h f = tt
+asked-at Equality l u (A.Variable x) t h f = tt
 asked-at Classes l u (A.Within B.Newness n) t h f = tt
 asked-at Classes l u (A.Within B.Locality n) t h f = tt
 asked-at Classes l u A.Equality t h f = tt
 asked-at Classes l u (A.Class c) t h f = f h
+asked-at Classes l u (A.Variable x) t h f = tt
+asked-at Rigidity l u (A.Within B.Newness n) t h f = tt
+asked-at Rigidity l u (A.Within B.Locality n) t h f = tt
+asked-at Rigidity l u A.Equality t h f = tt
+asked-at Rigidity l u (A.Class c) t h f = tt
+asked-at Rigidity l u (A.Variable x) t h f = f h
 
 at-asked : (u : ℕ) (a : Ask) (t : MlType Name) → MeetsAt (layer_of a) u (limit_of a) t → IsAsAsked u a t
 at-asked u (A.Within B.Newness n) t w = w
 at-asked u (A.Within B.Locality n) t w = w
 at-asked u A.Equality t w = w
 at-asked u (A.Class c) t w = w
+at-asked u (A.Variable x) t w = w
 
 module _ (u r : ℕ) (a : Ask) (ls ms : List Limit) (js : List ℕ) (low : Lowers ls [] (r ∷ []) (limit_of a) ms js) where
   through-lower : (l : Layer) (τ : Assignment finite) → KeepsThrough l u ls τ → (place_of (layer_of a) ≤ place_of l → IsAsAsked u a (τ r)) → KeepsThrough l u ms τ
@@ -281,6 +299,7 @@ module _ (u : ℕ) (us : List ℕ) (b : Bool) (a : Ask) (t : MlType Name) (g h m
   up Locality υ σ k e w = through-lower u r a h.limits.items m.limits.items js x.lowers Locality υ k (λ p. rw e (w p))
   up Equality υ σ k e w = through-lower u r a h.limits.items m.limits.items js x.lowers Equality υ k (λ p. rw e (w p))
   up Classes υ σ k e w = through-lower u r a h.limits.items m.limits.items js x.lowers Classes υ k (λ p. rw e (w p))
+  up Rigidity υ σ k e w = through-lower u r a h.limits.items m.limits.items js x.lowers Rigidity υ k (λ p. rw e (w p))
 
   down : (l : Layer) (υ : Assignment (world l)) → KeepsUpTo l u m.limits.items υ → KeepsUpTo l u h.limits.items υ
   down Equations υ k = tt
@@ -289,6 +308,7 @@ module _ (u : ℕ) (us : List ℕ) (b : Bool) (a : Ask) (t : MlType Name) (g h m
   down Locality υ k = (through-lowered u r a h.limits.items m.limits.items js x.lowers Locality υ k).0
   down Equality υ k = (through-lowered u r a h.limits.items m.limits.items js x.lowers Equality υ k).0
   down Classes υ k = (through-lowered u r a h.limits.items m.limits.items js x.lowers Classes υ k).0
+  down Rigidity υ k = (through-lowered u r a h.limits.items m.limits.items js x.lowers Rigidity υ k).0
 
   held : (l : Layer) (υ σ : Assignment (world l)) → KeepsUpTo l u m.limits.items υ → υ r ≡ typed (world l) σ t → Holds l u σ (asks a t)
   held Equations υ σ k e = tt
@@ -297,6 +317,7 @@ module _ (u : ℕ) (us : List ℕ) (b : Bool) (a : Ask) (t : MlType Name) (g h m
   held Locality υ σ k e = λ p. subst (IsAsAsked u a) e ((through-lowered u r a h.limits.items m.limits.items js x.lowers Locality υ k).1 p)
   held Equality υ σ k e = λ p. subst (IsAsAsked u a) e ((through-lowered u r a h.limits.items m.limits.items js x.lowers Equality υ k).1 p)
   held Classes υ σ k e = λ p. subst (IsAsAsked u a) e ((through-lowered u r a h.limits.items m.limits.items js x.lowers Classes υ k).1 p)
+  held Rigidity υ σ k e = λ p. subst (IsAsAsked u a) e ((through-lowered u r a h.limits.items m.limits.items js x.lowers Rigidity υ k).1 p)
 
   pub stands-asked : IsFull g → AllByRecursion (λ i. i < length g.nodes.items) us → Grows us t g h r → Stands (asked_of u us g b) (asks a t) m
   unfolding Permits
@@ -344,24 +365,26 @@ kept-none u g us a b d e f = record {
     sound = rw a (λ i. tt);
     rank = record { rank = λ i. 0; ranked = rw a (λ i. tt) };
     closed = rw a (λ i. tt);
-    fit = λ l. rw a (λ i. tt);
+    fit = λ l. rw (a, b) (λ i. none-fits l u Unknown);
   };
   owners = owners-none g.nodes.items us a f;
 }
 
-whole-met-finite : (u : ℕ) (g : Graph) → IsWhole u g → (σ : Assignment finite) × Meets finite g.nodes.items σ × ((k : Layer) → KeepsAt k u g.limits.items σ)
-whole-met-finite u g w =
+whole-met-finite : (u : ℕ) (g : Graph) → (0 ≡ u → ⊥) → IsWhole u g → (σ : Assignment finite) × Meets finite g.nodes.items σ × ((k : Layer) → KeepsAt k u g.limits.items σ)
+whole-met-finite u g d w =
     let r = w.rank in
-    (solution g.nodes.items ints r.rank, solution-meets g.nodes.items ints r.rank r.ranked, λ k. ints-keep k u g.nodes.items g.limits.items r.rank r.ranked w.closed (w.fit k))
+    let ρ = stand_ins g.limits.items in
+    (solution g.nodes.items ρ r.rank, solution-meets g.nodes.items ρ r.rank r.ranked, λ k. stands-keep k u g.nodes.items g.limits.items r.rank d r.ranked w.closed w.fit)
 
-pub whole-met : (u : ℕ) (g : Graph) (us : List ℕ) (b : Bool) → IsWhole u g → IsMet (asked_of u us g b)
+pub whole-met : (u : ℕ) (g : Graph) (us : List ℕ) (b : Bool) → (0 ≡ u → ⊥) → IsWhole u g → IsMet (asked_of u us g b)
 unfolding IsMet Permits
-whole-met u g us b w Equations = let t = has_infinite g.nodes.items w.sound in (through infinite us t.0, (t.0, t.1, tt, λ v h. refl))
-whole-met u g us b w Finiteness = let t = whole-met-finite u g w in (through finite us t.0, (t.0, t.1, λ k h. t.2 k, λ v h. refl))
-whole-met u g us b w Newness = let t = whole-met-finite u g w in (through finite us t.0, (t.0, t.1, λ k h. t.2 k, λ v h. refl))
-whole-met u g us b w Locality = let t = whole-met-finite u g w in (through finite us t.0, (t.0, t.1, λ k h. t.2 k, λ v h. refl))
-whole-met u g us b w Equality = let t = whole-met-finite u g w in (through finite us t.0, (t.0, t.1, λ k h. t.2 k, λ v h. refl))
-whole-met u g us b w Classes = let t = whole-met-finite u g w in (through finite us t.0, (t.0, t.1, λ k h. t.2 k, λ v h. refl))
+whole-met u g us b d w Equations = let t = has_infinite g.nodes.items w.sound in (through infinite us t.0, (t.0, t.1, tt, λ v h. refl))
+whole-met u g us b d w Finiteness = let t = whole-met-finite u g d w in (through finite us t.0, (t.0, t.1, λ k h. t.2 k, λ v h. refl))
+whole-met u g us b d w Newness = let t = whole-met-finite u g d w in (through finite us t.0, (t.0, t.1, λ k h. t.2 k, λ v h. refl))
+whole-met u g us b d w Locality = let t = whole-met-finite u g d w in (through finite us t.0, (t.0, t.1, λ k h. t.2 k, λ v h. refl))
+whole-met u g us b d w Equality = let t = whole-met-finite u g d w in (through finite us t.0, (t.0, t.1, λ k h. t.2 k, λ v h. refl))
+whole-met u g us b d w Classes = let t = whole-met-finite u g d w in (through finite us t.0, (t.0, t.1, λ k h. t.2 k, λ v h. refl))
+whole-met u g us b d w Rigidity = let t = whole-met-finite u g d w in (through finite us t.0, (t.0, t.1, λ k h. t.2 k, λ v h. refl))
 
 -- an unknown more
 

@@ -1,7 +1,7 @@
 -- Limits that are handed on.
-use Rattle.std.proofs.Common.{◌≡◌, ◌≢◌, ℕ, zero, suc, ◌+◌, ◌^◌, ◌<◌, ◌≤◌, ◌⊎◌, ◌↔◌, inl, inr, Bool, true, false, ◌&&◌, ◌||◌, not, cond, nat_lt, Option, Some, None, List, [], ◌∷◌, ◌++◌, length, map, set, sym, ◌∙◌, ap, subst, refl, arith, length-append, get_or-set_same, get_or-set_other}
+use Rattle.std.proofs.Common.{◌≡◌, ◌≢◌, ℕ, zero, suc, ◌+◌, ◌^◌, ◌<◌, ◌≤◌, ◌⊎◌, ◌↔◌, inl, inr, Bool, true, false, ◌&&◌, ◌||◌, not, cond, nat_lt, Option, Some, None, List, [], ◌∷◌, ◌++◌, length, map, set, sym, ◌∙◌, ap, subst, refl, arith, length-append, get_or-set_same, get_or-set_other, nat_eq, eq-eqb}
 use Rattle.std.proofs.Math.ListN.{length-set}
-use Rattle.std.proofs.lemmas.Bool.{ltb-false, ltb-true}
+use Rattle.std.proofs.lemmas.Bool.{ltb-false, ltb-true, eqb-true}
 use Rattle.std.proofs.lemmas.List.{length-map}
 use Rattle.std.specs.List.{AllByRecursion}
 use Rattle.std.specs.Option.{IfSome, IfNone}
@@ -13,7 +13,7 @@ use Rattle.sml_objects.specs.Views.{types_of}
 use Rattle.sml_objects.proofs.EqualityViews.{is_ref-name}
 use Rattle.sml_solve.specs.declared.class.Names.{Names}
 use Rattle.sml_solve.specs.declared.layer.Layer.{Layer}
-use Rattle.sml_solve.specs.declared.layer.Layer.TheVariants.{Equations, Finiteness, Newness, Locality, Equality, Classes}
+use Rattle.sml_solve.specs.declared.layer.Layer.TheVariants.{Equations, Finiteness, Newness, Locality, Equality, Classes, Rigidity}
 use Rattle.sml_solve.specs.declared.limits.Limit.{Limit}
 use Rattle.sml_solve.specs.declared.node.Node.{Node}
 use Rattle.sml_solve.specs.declared.node.Node.TheVariants.{Unknown, Link, App}
@@ -21,7 +21,12 @@ use Rattle.sml_solve.specs.Worlds.{finite, Assignment, make}
 use Rattle.sml_solve.specs.Graphs.{node_at, parts, head_over, Agrees, Meets, IsAmong}
 use Rattle.sml_solve.specs.Bounds.{IsNameWithin, IsHeadWithin, IsWithin, AreWithin}
 use Rattle.sml_solve.specs.Classes.{allows, both_names, IsIn}
-use Rattle.sml_solve.specs.Limits.{no_limit, limit_at, MeetsBound, MeetsEquality, MeetsClass, MeetsAt, KeepsAt, KeepsThrough, IsUnder, IsOfBoth, both_bounds, both_classes, both, FitsBound, FitsEquality, FitsClass, FitsAt, IsFitNode, asks_parts, for_parts, handed, IsClosedNode, IsClosed, IsFit, IsBefore, IsDoneBut, SameLimits, NoneKeeps, bound_height, class_height, height, heights, Lowers}
+use Rattle.sml_solve.specs.Limits.{no_limit, limit_at, MeetsBound, MeetsEquality, MeetsClass, MeetsAt, KeepsAt, KeepsThrough, IsUnder, IsOfBoth, both_bounds, both_classes, both, FitsBound, FitsEquality, FitsClass, FitsAt, IsFitUnknown, IsFitNode, asks_parts, for_parts, handed, IsClosedNode, IsClosed, IsFit, IsBefore, IsDoneBut, SameLimits, NoneKeeps, bound_height, class_height, height, heights, Lowers}
+use Rattle.sml_solve.specs.Layers.{place_of}
+use Rattle.sml_solve.specs.declared.variable.Variable.{Variable}
+use Rattle.sml_solve.specs.declared.variable.Variables.{Variables}
+use Rattle.sml_solve.specs.declared.variable.Variables.TheVariants as V
+use Rattle.sml_solve.specs.Variables.{variable_type, is_same, both_variables, MeetsVariables, FitsVariables, IsPossible, stand_in, variables_height}
 use Rattle.sml_solve.proofs.Merging.{same_or_not, all-append, IsAmong-append, IsAmong-back}
 use Rattle.sml_solve.proofs.Searching.{all-parts}
 
@@ -139,6 +144,49 @@ classes-both (Some c) (Some d) t v w =
     let k : w.0 ≡ v.0 = cc in
     (v.0, allows-both c d v.0 ∙ and-both (allows c v.0) (allows d v.0) v.1 (ap (allows d) (sym k) ∙ w.1), v.2)
 
+equal-flags : (a b : Bool) → cond a b (not b) ≡ true → a ≡ b
+equal-flags true true e = refl
+equal-flags true false e = cc
+equal-flags false true e = cc
+equal-flags false false e = refl
+
+same-flag : (a : Bool) → cond a a (not a) ≡ true
+same-flag true = refl
+same-flag false = refl
+
+same-parts : (x y : Variable) → is_same x y ≡ true → (x.number ≡ y.number) × (x.equality ≡ y.equality)
+same-parts x y e = (eqb-true x.number y.number (and-left (nat_eq x.number y.number) (cond x.equality y.equality (not y.equality)) e), equal-flags x.equality y.equality (and-right (nat_eq x.number y.number) (cond x.equality y.equality (not y.equality)) e))
+
+parts-same : (x y : Variable) → x.number ≡ y.number → x.equality ≡ y.equality → is_same x y ≡ true
+parts-same x y e f = and-both (nat_eq x.number y.number) (cond x.equality y.equality (not y.equality)) (eq-eqb x.number y.number e) (subst (λ b. cond x.equality b (not b) ≡ true) f (same-flag x.equality))
+
+same-cases : (x y : Variable) (P : Variables → Type 0) → (x.number ≡ y.number → x.equality ≡ y.equality → P (V.One x)) → ((variable_type x ≡ variable_type y → ⊥) → P V.Several) → P (both_variables (V.One x) (V.One y))
+same-cases x y P f g = go (is_same x y) refl where
+  go : (b : Bool) → is_same x y ≡ b → P (cond b (V.One x) V.Several)
+  go true e = let p = same-parts x y e in f p.0 p.1
+  go false e = g (λ q. let n : x.number ≡ y.number = cc in let m : x.equality ≡ y.equality = cc in let z : false ≡ true = sym e ∙ parts-same x y n m in cc)
+
+variables-left : (a b : Variables) (t : MlType Name) → MeetsVariables (both_variables a b) t → MeetsVariables a t
+variables-left V.Any b t w = tt
+variables-left (V.One x) V.Any t w = w
+variables-left (V.One x) (V.One y) t w = same-cases x y (λ v. MeetsVariables v t → t ≡ variable_type x) (λ n m w. w) (λ d w. absurd w) w
+variables-left (V.One x) V.Several t w = absurd w
+variables-left V.Several b t w = w
+
+variables-right : (a b : Variables) (t : MlType Name) → MeetsVariables (both_variables a b) t → MeetsVariables b t
+variables-right V.Any b t w = w
+variables-right (V.One x) V.Any t w = tt
+variables-right (V.One x) (V.One y) t w = same-cases x y (λ v. MeetsVariables v t → t ≡ variable_type y) (λ n m w. w ∙ (λ i. named (made 0 (n i) 0 (m i)))) (λ d w. absurd w) w
+variables-right (V.One x) V.Several t w = w
+variables-right V.Several b t w = absurd w
+
+variables-both : (a b : Variables) (t : MlType Name) → MeetsVariables a t → MeetsVariables b t → MeetsVariables (both_variables a b) t
+variables-both V.Any b t v w = w
+variables-both (V.One x) V.Any t v w = v
+variables-both (V.One x) (V.One y) t v w = same-cases x y (λ z. MeetsVariables z t) (λ n m. v) (λ d. d (sym v ∙ w))
+variables-both (V.One x) V.Several t v w = w
+variables-both V.Several b t v w = v
+
 pub both-left : (a b : Limit) → IsUnder (both a b) a
 both-left a b Equations u t w = tt
 both-left a b Finiteness u t w = tt
@@ -146,6 +194,7 @@ both-left a b Newness u t w = bounds-left u a.newness b.newness t w
 both-left a b Locality u t w = bounds-left u a.locality b.locality t w
 both-left a b Equality u t w = equality-left a.equality b.equality t w
 both-left a b Classes u t w = classes-left a.class b.class t w
+both-left a b Rigidity u t w = variables-left a.variables b.variables t w
 
 pub both-right : (a b : Limit) → IsUnder (both a b) b
 both-right a b Equations u t w = tt
@@ -154,6 +203,7 @@ both-right a b Newness u t w = bounds-right u a.newness b.newness t w
 both-right a b Locality u t w = bounds-right u a.locality b.locality t w
 both-right a b Equality u t w = equality-right a.equality b.equality t w
 both-right a b Classes u t w = classes-right a.class b.class t w
+both-right a b Rigidity u t w = variables-right a.variables b.variables t w
 
 pub both-meets : (a b : Limit) → IsOfBoth a b (both a b)
 both-meets a b Equations u t v w = tt
@@ -162,6 +212,7 @@ both-meets a b Newness u t v w = bounds-both u a.newness b.newness t v w
 both-meets a b Locality u t v w = bounds-both u a.locality b.locality t v w
 both-meets a b Equality u t v w = equality-both a.equality b.equality t v w
 both-meets a b Classes u t v w = classes-both a.class b.class t v w
+both-meets a b Rigidity u t v w = variables-both a.variables b.variables t v w
 
 pub none-meets : (l : Layer) (u : ℕ) (t : MlType Name) → MeetsAt l u no_limit t
 none-meets Equations u t = tt
@@ -170,6 +221,7 @@ none-meets Newness u t = tt
 none-meets Locality u t = tt
 none-meets Equality u t = tt
 none-meets Classes u t = tt
+none-meets Rigidity u t = tt
 
 -- how much a limit is lowered
 
@@ -221,6 +273,15 @@ class-lower (Some c) (Some d) =
           ]
     ]
 
+variables-lower : (a b : Variables) → (both_variables a b ≡ a) ⊎ (variables_height (both_variables a b) < variables_height a)
+variables-lower V.Any V.Any = inl refl
+variables-lower V.Any (V.One y) = inr (omega arith)
+variables-lower V.Any V.Several = inr (omega arith)
+variables-lower (V.One x) V.Any = inl refl
+variables-lower (V.One x) (V.One y) = same-cases x y (λ v. (v ≡ V.One x) ⊎ (variables_height v < 1)) (λ n m. inl refl) (λ d. inr (omega arith))
+variables-lower (V.One x) V.Several = inr (omega arith)
+variables-lower V.Several b = inl refl
+
 pub height-lower : (a b : Limit) → ((n : ℕ) → b.newness ≡ Some n → n < 2 ^ 32) → ((n : ℕ) → b.locality ≡ Some n → n < 2 ^ 32) → (both a b ≡ a → ⊥) → height (both a b) < height a
 height-lower a b f g d =
     let p = bound-lower a.newness b.newness f in
@@ -231,18 +292,24 @@ height-lower a b f g d =
     let q' = at-most bound_height (both_bounds a.locality b.locality) a.locality q in
     let r' = at-most (λ e. cond e 0 1) (a.equality || b.equality) a.equality r in
     let s' = at-most class_height (both_classes a.class b.class) a.class s in
+    let v = variables-lower a.variables b.variables in
+    let v' = at-most variables_height (both_variables a.variables b.variables) a.variables v in
     elim p [
-      | inr x ↦ omega (arith, x, q', r', s')
+      | inr x ↦ omega (arith, x, q', r', s', v')
       | inl x ↦
           elim q [
-            | inr y ↦ omega (arith, p', y, r', s')
+            | inr y ↦ omega (arith, p', y, r', s', v')
             | inl y ↦
                 elim r [
-                  | inr z ↦ omega (arith, p', q', z, s')
+                  | inr z ↦ omega (arith, p', q', z, s', v')
                   | inl z ↦
                       elim s [
-                        | inr w ↦ omega (arith, p', q', r', w)
-                        | inl w ↦ absurd (d (λ i. record { newness = x i; locality = y i; equality = z i; class = w i }))
+                        | inr w ↦ omega (arith, p', q', r', w, v')
+                        | inl w ↦
+                            elim v [
+                              | inr k ↦ omega (arith, p', q', r', s', k)
+                              | inl k ↦ absurd (d (λ i. record { newness = x i; locality = y i; equality = z i; class = w i; variables = k i }))
+                            ]
                       ]
                 ]
           ]
@@ -342,6 +409,20 @@ class-meets : (a : Option Names) (h : Head Name) (ts : List (MlType Name)) → F
 class-meets None h ts f = tt
 class-meets (Some c) h ts f = (f.0, f.1, (λ i. app (f.2 i) (none-of ts f.3 i)))
 
+variables-fits : (a : Variables) (h : Head Name) (ts : List (MlType Name)) → MeetsVariables a (app h (types_of ts)) → FitsVariables a h (length ts)
+variables-fits V.Any h ts w = tt
+variables-fits (V.One x) h ts w =
+    let e : app h (types_of ts) ≡ app (name (made 0 x.number 0 x.equality)) no_type = w in
+    let f : h ≡ name (made 0 x.number 0 x.equality) = cc in
+    let g : types_of ts ≡ no_type = cc in
+    (f, no-types ts g)
+variables-fits V.Several h ts w = w
+
+variables-meets : (a : Variables) (h : Head Name) (ts : List (MlType Name)) → FitsVariables a h (length ts) → MeetsVariables a (app h (types_of ts))
+variables-meets V.Any h ts f = tt
+variables-meets (V.One x) h ts f = λ i. app (f.0 i) (none-of ts f.1 i)
+variables-meets V.Several h ts f = f
+
 app-fits : (l : Layer) (u : ℕ) (a : Limit) (h : Head Name) (ts : List (MlType Name)) → MeetsAt l u a (app h (types_of ts)) → FitsAt l u a h (length ts)
 app-fits Equations u a h ts w = tt
 app-fits Finiteness u a h ts w = tt
@@ -349,6 +430,7 @@ app-fits Newness u a h ts w = bound-fits u a.newness h ts w
 app-fits Locality u a h ts w = bound-fits u a.locality h ts w
 app-fits Equality u a h ts w = equality-fits a.equality h ts w
 app-fits Classes u a h ts w = class-fits a.class h ts w
+app-fits Rigidity u a h ts w = variables-fits a.variables h ts w
 
 app-parts : (l : Layer) (u : ℕ) (a : Limit) (h : Head Name) (ts : List (MlType Name)) → MeetsAt l u a (app h (types_of ts)) → AllByRecursion (MeetsAt l u (for_parts h a)) ts
 app-parts Equations u a h ts w = all-unit ts
@@ -357,6 +439,7 @@ app-parts Newness u a h ts w = bound-parts u a.newness h ts w
 app-parts Locality u a h ts w = bound-parts u a.locality h ts w
 app-parts Equality u a h ts w = equality-parts a.equality h ts w
 app-parts Classes u a h ts w = all-unit ts
+app-parts Rigidity u a h ts w = all-unit ts
 
 app-meets : (l : Layer) (u : ℕ) (a : Limit) (h : Head Name) (ts : List (MlType Name)) → FitsAt l u a h (length ts) → AllByRecursion (MeetsAt l u (for_parts h a)) ts → MeetsAt l u a (app h (types_of ts))
 app-meets Equations u a h ts f w = tt
@@ -365,6 +448,7 @@ app-meets Newness u a h ts f w = bound-meets u a.newness h ts f w
 app-meets Locality u a h ts f w = bound-meets u a.locality h ts f w
 app-meets Equality u a h ts f w = equality-meets a.equality h ts f w
 app-meets Classes u a h ts f w = class-meets a.class h ts f
+app-meets Rigidity u a h ts f w = variables-meets a.variables h ts f
 
 -- the same of nodes
 
@@ -376,12 +460,32 @@ mapped-all : (P : MlType Name → Type 0) (σ : Assignment finite) (ks : List �
 mapped-all P σ [] a = tt
 mapped-all P σ (k ∷ ks) a = (a.0, mapped-all P σ ks a.1)
 
-node-fits : (l : Layer) (u : ℕ) (a : Limit) (σ : Assignment finite) (i : ℕ) (x : Node) → Agrees finite σ i x → MeetsAt l u a (σ i) → IsFitNode l u a x
-node-fits l u a σ i Unknown e w = tt
+variable-admits : (x : Variable) → admits naming (variable_type x) ≡ true → x.equality ≡ true
+unfolding all_admit
+variable-admits x e = and-left x.equality true (sym (admits-named (made 0 x.number 0 x.equality) []) ∙ e)
+
+possible : (v : Variables) (e : Bool) (c : Option Names) (t : MlType Name) → MeetsVariables v t → MeetsEquality e t → MeetsClass c t → IsPossible v e c
+possible V.Any e c t w q k = tt
+possible (V.One x) e (Some c) t w q k = let z : named (made 0 x.number 0 x.equality) ≡ named (initial k.0) = sym w ∙ k.2 in cc
+possible (V.One x) true None t w q k = variable-admits x (subst (λ t. admits naming t ≡ true) w q)
+possible (V.One x) false None t w q k = tt
+possible V.Several e c t w q k = w
+
+fits-unknown : (l : Layer) (u : ℕ) (a : Limit) (t : MlType Name) → ((k : Layer) → place_of k ≤ place_of l → MeetsAt k u a t) → IsFitUnknown l a
+fits-unknown Equations u a t w = tt
+fits-unknown Finiteness u a t w = tt
+fits-unknown Newness u a t w = tt
+fits-unknown Locality u a t w = tt
+fits-unknown Equality u a t w = tt
+fits-unknown Classes u a t w = tt
+fits-unknown Rigidity u a t w = possible a.variables a.equality a.class t (w Rigidity (omega arith)) (w Equality (omega arith)) (w Classes (omega arith))
+
+node-fits : (l : Layer) (u : ℕ) (a : Limit) (σ : Assignment finite) (i : ℕ) (x : Node) → Agrees finite σ i x → ((k : Layer) → place_of k ≤ place_of l → MeetsAt k u a (σ i)) → IsFitNode l u a x
+node-fits l u a σ i Unknown e w = fits-unknown l u a (σ i) w
 node-fits l u a σ i (Link j) e w = tt
 node-fits l u a σ i (App h kids) e w =
     let n = length kids.items in
-    rw length-map at (app-fits l u a (head_over h n) (map σ kids.items) (subst (MeetsAt l u a) e w))
+    rw length-map at (app-fits l u a (head_over h n) (map σ kids.items) (subst (MeetsAt l u a) e (w l (omega arith))))
 
 node-parts : (l : Layer) (u : ℕ) (a : Limit) (σ : Assignment finite) (i : ℕ) (x : Node) → Agrees finite σ i x → MeetsAt l u a (σ i) → AllByRecursion (λ k. MeetsAt l u (handed x a) (σ k)) (parts x)
 node-parts l u a σ i Unknown e w = tt
@@ -545,7 +649,7 @@ same-then u ns ls ms ks a b l σ m = (λ k. (b l σ m).0 ((a l σ m).0 k), λ k.
 -- a head that isn't as asked
 pub unfit-fails : (u : ℕ) (ns : List Node) (ls ms : List Limit) (at : ℕ) (a : Limit) (f : Option Layer) → limit_at ms at ≡ a → SameLimits u ns ls ms → IfSome f (λ l. IsFitNode l u a (node_at ns at) → ⊥) → IfSome f (NoneKeeps u ns ls)
 unfit-fails u ns ls ms at a None e s n = tt
-unfit-fails u ns ls ms at a (Some l) e s n = λ σ m k. n (node-fits l u a σ at (node_at ns at) (m at) (rw e at ((s l σ m).0 k at)))
+unfit-fails u ns ls ms at a (Some l) e s n = λ σ m k. n (node-fits l u a σ at (node_at ns at) (m at) (λ j h. rw e at ((s j σ m).0 (k j h) at)))
 
 -- limits that were just lowered
 
@@ -580,6 +684,7 @@ none-handed Equality u (App h kids) t = off (asks_parts (head_over h (length kid
   off true = tt
   off false = tt
 none-handed Classes u (App h kids) t = tt
+none-handed Rigidity u (App h kids) t = tt
 
 pub none-closed : (ls : List Limit) (i : ℕ) (x : Node) → limit_at ls i ≡ no_limit → IsClosedNode ls i x
 none-closed ls i x e = rw e (every (parts x)) where
@@ -588,7 +693,13 @@ none-closed ls i x e = rw e (every (parts x)) where
   every (k ∷ ks) = (λ l u t w. none-handed l u x t, every ks)
 
 pub none-fits : (l : Layer) (u : ℕ) (x : Node) → IsFitNode l u no_limit x
-none-fits l u Unknown = tt
+none-fits Equations u Unknown = tt
+none-fits Finiteness u Unknown = tt
+none-fits Newness u Unknown = tt
+none-fits Locality u Unknown = tt
+none-fits Equality u Unknown = tt
+none-fits Classes u Unknown = tt
+none-fits Rigidity u Unknown = tt
 none-fits l u (Link j) = tt
 none-fits Equations u (App h kids) = tt
 none-fits Finiteness u (App h kids) = tt
@@ -596,6 +707,7 @@ none-fits Newness u (App h kids) = tt
 none-fits Locality u (App h kids) = tt
 none-fits Equality u (App h kids) = tt
 none-fits Classes u (App h kids) = tt
+none-fits Rigidity u (App h kids) = tt
 
 -- the same limits in other lists
 pub closed-as : (ks ls : List Limit) (i : ℕ) (x : Node) → ((i : ℕ) → limit_at ls i ≡ limit_at ks i) → IsClosedNode ks i x → IsClosedNode ls i x
@@ -617,13 +729,51 @@ class-int : (a : Option Names) → MeetsClass a (named (initial N.int))
 class-int None = tt
 class-int (Some c) = (N.int, refl, refl)
 
-pub int-meets : (l : Layer) (u : ℕ) (a : Limit) → MeetsAt l u a (named (initial N.int))
-int-meets Equations u a = tt
-int-meets Finiteness u a = tt
-int-meets Newness u a = bound-int u a.newness
-int-meets Locality u a = bound-int u a.locality
-int-meets Equality u a = equality-int a.equality
-int-meets Classes u a = class-int a.class
+pub int-meets : (l : Layer) (u : ℕ) (a : Limit) → place_of l < place_of Rigidity → MeetsAt l u a (named (initial N.int))
+int-meets Equations u a h = tt
+int-meets Finiteness u a h = tt
+int-meets Newness u a h = bound-int u a.newness
+int-meets Locality u a h = bound-int u a.locality
+int-meets Equality u a h = equality-int a.equality
+int-meets Classes u a h = class-int a.class
+int-meets Rigidity u a h = absurd (omega (arith, h))
+
+-- a type that is as a limit asks, where that is possible
+
+bound-stand : (u : ℕ) (a : Option ℕ) (v : Variables) → (0 ≡ u → ⊥) → MeetsBound u a (stand_in v)
+unfolding IsWithin AreWithin
+bound-stand u None v d = tt
+bound-stand u (Some n) V.Any d = (tt, tt)
+bound-stand u (Some n) (V.One x) d = ((λ e. absurd (d e)), tt)
+bound-stand u (Some n) V.Several d = (tt, tt)
+
+equality-stand : (e : Bool) (c : Option Names) (v : Variables) → IsPossible v e c → MeetsEquality e (stand_in v)
+unfolding all_admit
+equality-stand e c V.Any p = equality-int e
+equality-stand false c (V.One x) p = tt
+equality-stand true None (V.One x) p = admits-named (made 0 x.number 0 x.equality) [] ∙ and-both x.equality true p refl
+equality-stand true (Some d) (V.One x) p = absurd p
+equality-stand e c V.Several p = absurd p
+
+class-stand : (e : Bool) (c : Option Names) (v : Variables) → IsPossible v e c → MeetsClass c (stand_in v)
+class-stand e c V.Any p = class-int c
+class-stand e None (V.One x) p = tt
+class-stand e (Some d) (V.One x) p = absurd p
+class-stand e c V.Several p = absurd p
+
+variables-stand : (e : Bool) (c : Option Names) (v : Variables) → IsPossible v e c → MeetsVariables v (stand_in v)
+variables-stand e c V.Any p = tt
+variables-stand e c (V.One x) p = refl
+variables-stand e c V.Several p = absurd p
+
+pub stands-meets : (l : Layer) (u : ℕ) (a : Limit) → (0 ≡ u → ⊥) → IsPossible a.variables a.equality a.class → MeetsAt l u a (stand_in a.variables)
+stands-meets Equations u a d p = tt
+stands-meets Finiteness u a d p = tt
+stands-meets Newness u a d p = bound-stand u a.newness a.variables d
+stands-meets Locality u a d p = bound-stand u a.locality a.variables d
+stands-meets Equality u a d p = equality-stand a.equality a.class a.variables p
+stands-meets Classes u a d p = class-stand a.equality a.class a.variables p
+stands-meets Rigidity u a d p = variables-stand a.equality a.class a.variables p
 
 -- the earlier of two layers fails
 pub either-fails : (u : ℕ) (ns : List Node) (ls : List Limit) (a b r : Option Layer) → (r ≡ a) ⊎ (r ≡ b) → IfSome a (NoneKeeps u ns ls) → IfSome b (NoneKeeps u ns ls) → IfSome r (NoneKeeps u ns ls)
@@ -641,3 +791,4 @@ nothing-asked u ls τ Newness h = absurd (omega (arith, h))
 nothing-asked u ls τ Locality h = absurd (omega (arith, h))
 nothing-asked u ls τ Equality h = absurd (omega (arith, h))
 nothing-asked u ls τ Classes h = absurd (omega (arith, h))
+nothing-asked u ls τ Rigidity h = absurd (omega (arith, h))

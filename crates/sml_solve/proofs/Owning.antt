@@ -16,7 +16,7 @@ use Rattle.sml_objects.specs.declared.objects.MlType.{MlType}
 use Rattle.smallvec.specs.SmallVec.{SmallVec}
 use Rattle.sml_solve.specs.declared.graph.Graph.{Graph}
 use Rattle.sml_solve.specs.declared.layer.Layer.{Layer}
-use Rattle.sml_solve.specs.declared.layer.Layer.TheVariants.{Equations, Finiteness, Newness, Locality, Equality, Classes}
+use Rattle.sml_solve.specs.declared.layer.Layer.TheVariants.{Equations, Finiteness, Newness, Locality, Equality, Classes, Rigidity}
 use Rattle.sml_solve.specs.declared.node.Head.{Head}
 use Rattle.sml_solve.specs.declared.node.Node.{Node}
 use Rattle.sml_solve.specs.declared.node.Node.TheVariants.{Unknown, Link, App}
@@ -319,6 +319,8 @@ most-general u us g b k Newness h = one-for-each u us g b k Newness
 most-general u us g b k Locality h = one-for-each u us g b k Locality
 most-general u us g b k Equality h = one-for-each u us g b k Equality
 most-general u us g b k Classes h = one-for-each u us g b k Classes
+most-general u us g b k Rigidity h = one-for-each u us g b k Rigidity
+
 -- Types that are read back.
 
 mutual

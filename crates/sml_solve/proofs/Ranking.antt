@@ -1,5 +1,5 @@
 -- Finite types for the nodes.
-use Rattle.std.proofs.Common.{◌≡◌, ◌≢◌, ℕ, zero, suc, ◌+◌, ◌*◌, ◌<◌, ◌≤◌, inl, inr, Option, Some, None, List, [], ◌∷◌, length, map, ◌∙◌, ap, refl, arith}
+use Rattle.std.proofs.Common.{◌≡◌, ◌≢◌, ℕ, zero, suc, ◌+◌, ◌*◌, ◌<◌, ◌≤◌, inl, inr, Option, Some, None, List, [], ◌∷◌, length, map, ◌∙◌, ap, subst, refl, arith}
 use Rattle.std.proofs.Math.Nat.{mul-le-mul_left}
 use Rattle.std.specs.List.{AllByRecursion}
 use Rattle.sml_objects.specs.Names.{int}
@@ -8,17 +8,20 @@ use Rattle.sml_objects.specs.Objects as O
 use Rattle.sml_objects.specs.Sizes.{type_size, types_size}
 use Rattle.sml_objects.specs.Views.{types_of}
 use Rattle.sml_solve.specs.declared.layer.Layer.{Layer}
+use Rattle.sml_solve.specs.declared.layer.Layer.TheVariants.{Rigidity}
 use Rattle.sml_solve.specs.declared.limits.Limit.{Limit}
 use Rattle.sml_solve.specs.declared.node.Node.{Node}
 use Rattle.sml_solve.specs.declared.node.Node.TheVariants.{Unknown, Link, App}
 use Rattle.sml_solve.specs.Worlds.{finite, Assignment, make}
 use Rattle.sml_solve.specs.Graphs.{node_at, parts, head_over, Agrees, Meets, IsSound, IsSoundNode, IsAmong, SameOutside}
 use Rattle.sml_solve.specs.Ranks.{HasFinite, IsRanked, HasRank, mark_at, IsSearch}
-use Rattle.sml_solve.specs.Limits.{limit_at, MeetsAt, KeepsAt, IsUnder, handed, IsClosed, IsFit}
+use Rattle.sml_solve.specs.Limits.{limit_at, MeetsAt, KeepsAt, IsUnder, IsFitNode, handed, IsClosed, IsFit}
+use Rattle.sml_solve.specs.Layers.{place_of}
+use Rattle.sml_solve.specs.Variables.{stand_in}
 use Rattle.sml_solve.proofs.Merging.{same_or_not}
 use Rattle.sml_solve.proofs.Interning.{map-alike}
 use Rattle.sml_solve.proofs.Searching.{all-parts}
-use Rattle.sml_solve.proofs.Limiting.{value, node-meets, int-meets}
+use Rattle.sml_solve.proofs.Limiting.{value, node-meets, int-meets, stands-meets}
 
 -- a rank from types: their sizes, and the places among nodes of one type
 
@@ -108,8 +111,15 @@ module _ (l : Layer) (u : ℕ) (ns : List Node) (ls : List Limit) (ρ : Assignme
   pub solution-keeps : IsRanked ns r → IsClosed ns ls → IsFit l u ns ls → ((i : ℕ) → node_at ns i ≡ Unknown → MeetsAt l u (limit_at ls i) (ρ i)) → KeepsAt l u ls (solution ns ρ r)
   solution-keeps a c f w i = within-keeps a c f w (suc (r i)) i (omega arith)
 
-pub ints-keep : (l : Layer) (u : ℕ) (ns : List Node) (ls : List Limit) (r : ℕ → ℕ) → IsRanked ns r → IsClosed ns ls → IsFit l u ns ls → KeepsAt l u ls (solution ns ints r)
-ints-keep l u ns ls r a c f = solution-keeps l u ns ls ints r a c f (λ i e. int-meets l u (limit_at ls i))
+pub ints-keep : (l : Layer) (u : ℕ) (ns : List Node) (ls : List Limit) (r : ℕ → ℕ) → place_of l < place_of Rigidity → IsRanked ns r → IsClosed ns ls → IsFit l u ns ls → KeepsAt l u ls (solution ns ints r)
+ints-keep l u ns ls r h a c f = solution-keeps l u ns ls ints r a c f (λ i e. int-meets l u (limit_at ls i) h)
+
+-- types that are as the limits ask
+abbrev pub stand_ins : List Limit → Assignment finite
+stand_ins ls i = stand_in (limit_at ls i).variables
+
+pub stands-keep : (l : Layer) (u : ℕ) (ns : List Node) (ls : List Limit) (r : ℕ → ℕ) → (0 ≡ u → ⊥) → IsRanked ns r → IsClosed ns ls → ((k : Layer) → IsFit k u ns ls) → KeepsAt l u ls (solution ns (stand_ins ls) r)
+stands-keep l u ns ls r d a c f = solution-keeps l u ns ls (stand_ins ls) r a c (f l) (λ i e. stands-meets l u (limit_at ls i) d (subst (IsFitNode Rigidity u (limit_at ls i)) e (f Rigidity i)))
 
 -- after a search from all that was changed
 

@@ -1,5 +1,5 @@
 -- Graphs between demands.
-use Rattle.std.proofs.Common.{◌≡◌, ℕ, zero, suc, ◌<◌, ◌↔◌, inl, inr, Option, Some, None, List, [], ◌∷◌, ◌++◌, length, get_or, ◌∙◌, subst, refl, arith}
+use Rattle.std.proofs.Common.{◌≡◌, ℕ, zero, suc, ◌<◌, ◌≤◌, ◌↔◌, inl, inr, Option, Some, None, List, [], ◌∷◌, ◌++◌, length, get_or, ◌∙◌, subst, refl, arith}
 use Rattle.std.proofs.lemmas.Bool.{cases_lt}
 use Rattle.std.proofs.lemmas.List.{get_or_past}
 use Rattle.std.specs.Prelude.{Bool, true, false}
@@ -9,7 +9,7 @@ use Rattle.sml_objects.specs.Initial.{Name}
 use Rattle.sml_objects.specs.Objects.{MlType}
 use Rattle.sml_solve.specs.declared.graph.Graph.{Graph}
 use Rattle.sml_solve.specs.declared.layer.Layer.{Layer}
-use Rattle.sml_solve.specs.declared.layer.Layer.TheVariants.{Equations, Finiteness, Newness, Locality, Equality, Classes}
+use Rattle.sml_solve.specs.declared.layer.Layer.TheVariants.{Equations, Finiteness, Newness, Locality, Equality, Classes, Rigidity}
 use Rattle.sml_solve.specs.declared.limits.Limit.{Limit}
 use Rattle.sml_solve.specs.declared.node.Node.{Node}
 use Rattle.sml_solve.specs.Worlds.{World, finite, Assignment}
@@ -19,7 +19,7 @@ use Rattle.sml_solve.specs.Ranks.{HasRank, mark_at, IsSearch}
 use Rattle.sml_solve.specs.Limits.{no_limit, limit_at, KeepsAt, IsClosed, IsFit, IsBefore, SameLimits, NoneKeeps}
 use Rattle.sml_solve.specs.Layers.{place_of}
 use Rattle.sml_solve.specs.Whole.{FailsFirst, FailsAt}
-use Rattle.sml_solve.proofs.Limiting.{none-closed, none-fits, closed-as}
+use Rattle.sml_solve.proofs.Limiting.{none-closed, none-fits, nothing-asked, closed-as}
 use Rattle.sml_solve.proofs.Ranking.{rank_of, finite_of, solution, ints, solution-meets, ints-keep}
 
 pub get_or-push : {A : Type 0} (xs : List A) (d : A) (i : ℕ) → get_or (xs ++ d ∷ []) i d ≡ get_or xs i d
@@ -91,12 +91,22 @@ fails-first : (l : Layer) (u : ℕ) (g : Graph) (σ : Assignment finite) → Mee
 fails-first l u g σ m k n = record { types = σ; meets = m; keeps = k; none = n }
 
 pub fails-at : (l : Layer) (u : ℕ) (g : Graph) (σ : Assignment finite) → Meets finite g.nodes.items σ → ((k : Layer) → place_of k < place_of l → KeepsAt k u g.limits.items σ) → NoneKeeps u g.nodes.items g.limits.items l → FailsAt l u g
-fails-at Equations u g σ m k n = n σ m (λ i. tt)
-fails-at Finiteness u g σ m k n = λ r. n σ m (λ i. tt)
+fails-at Equations u g σ m k n = n σ m (λ j h. nothing-asked u g.limits.items σ j (omega (arith, h)))
+fails-at Finiteness u g σ m k n = λ r. n σ m (nothing-asked u g.limits.items σ)
 fails-at Newness u g σ m k n = fails-first Newness u g σ m k n
 fails-at Locality u g σ m k n = fails-first Locality u g σ m k n
 fails-at Equality u g σ m k n = fails-first Equality u g σ m k n
 fails-at Classes u g σ m k n = fails-first Classes u g σ m k n
+fails-at Rigidity u g σ m k n = fails-first Rigidity u g σ m k n
+
+last : (k : Layer) → place_of k ≤ place_of Rigidity
+last Equations = omega arith
+last Finiteness = omega arith
+last Newness = omega arith
+last Locality = omega arith
+last Equality = omega arith
+last Classes = omega arith
+last Rigidity = omega arith
 
 -- the limits were handed on in the layers before the one that failed
 pub handed-fails : (u : ℕ) (g : Graph) (ls : List Limit) (f : Option Layer) (l : Layer) → HasRank g.nodes.items → IsClosed g.nodes.items ls → ((k : Layer) → IsBefore k f → IsFit k u g.nodes.items ls) → SameLimits u g.nodes.items g.limits.items ls → IfSome f (NoneKeeps u g.nodes.items g.limits.items) → f ≡ Some l → FailsAt l u g
@@ -105,4 +115,4 @@ handed-fails u g ls (Some k) l r c w s n e =
     let q : k ≡ l = cc in
     let σ = solution g.nodes.items ints r.rank in
     let m : Meets finite g.nodes.items σ = solution-meets g.nodes.items ints r.rank r.ranked in
-    subst (λ l. FailsAt l u g) q (fails-at k u g σ m (λ j h. (s j σ m).1 (ints-keep j u g.nodes.items ls r.rank r.ranked c (w j h))) n)
+    subst (λ l. FailsAt l u g) q (fails-at k u g σ m (λ j h. (s j σ m).1 (ints-keep j u g.nodes.items ls r.rank (let y = last k in omega (arith, h, y)) r.ranked c (w j h))) n)

@@ -10,15 +10,17 @@ use Rattle.sml_solve.specs.declared.layer.Ask.TheVariants as A
 use Rattle.sml_solve.specs.declared.layer.Bound.{Bound}
 use Rattle.sml_solve.specs.declared.layer.Bound.TheVariants as B
 use Rattle.sml_solve.specs.declared.layer.Layer.{Layer}
-use Rattle.sml_solve.specs.declared.layer.Layer.TheVariants.{Equations, Finiteness, Newness, Locality, Equality, Classes}
+use Rattle.sml_solve.specs.declared.layer.Layer.TheVariants.{Equations, Finiteness, Newness, Locality, Equality, Classes, Rigidity}
 use Rattle.sml_solve.specs.declared.limits.Limit.{Limit}
 use Rattle.sml_solve.specs.declared.node.Node.{Node}
+use Rattle.sml_solve.specs.declared.variable.Variables.TheVariants as V
 use Rattle.sml_solve.specs.Worlds.{World, Assignment, finite, infinite, typed}
 use Rattle.sml_solve.specs.Graphs.{Meets}
 use Rattle.sml_solve.specs.Interned.{IsOver, IsBodyOver, through}
 use Rattle.sml_solve.specs.Bounds.{IsWithin}
 use Rattle.sml_solve.specs.Classes.{names_in, IsIn}
 use Rattle.sml_solve.specs.Limits.{no_limit, KeepsThrough}
+use Rattle.sml_solve.specs.Variables.{variable_type}
 use Rattle.sml_solve.specs.Layers.{place_of}
 
 -- A solver. Callers see of it the number of its unknowns, whether it is spent, and what `Permits` says.
@@ -44,6 +46,7 @@ world Newness = finite
 world Locality = finite
 world Equality = finite
 world Classes = finite
+world Rigidity = finite
 
 -- what is asked of single nodes in the layers up to this one
 abbrev pub KeepsUpTo : (l : Layer) → ℕ → List Limit → Assignment (world l) → Type 0
@@ -53,6 +56,7 @@ KeepsUpTo Newness u ls τ = KeepsThrough Newness u ls τ
 KeepsUpTo Locality u ls τ = KeepsThrough Locality u ls τ
 KeepsUpTo Equality u ls τ = KeepsThrough Equality u ls τ
 KeepsUpTo Classes u ls τ = KeepsThrough Classes u ls τ
+KeepsUpTo Rigidity u ls τ = KeepsThrough Rigidity u ls τ
 
 -- The unknowns may have these types, by what was asked in the layers up to this one.
 unfoldable pub Permits : (l : Layer) → Asked → Assignment (world l) → Type 0
@@ -66,12 +70,15 @@ layer_of (A.Within B.Newness n) = Newness
 layer_of (A.Within B.Locality n) = Locality
 layer_of A.Equality = Equality
 layer_of (A.Class c) = Classes
+layer_of (A.Variable x) = Rigidity
 
--- The type is as asked: it mentions only such names of the unit as are among its first n, it admits equality, it is of the class.
+-- The type is as asked: it mentions only such names of the unit as are among its first n, it admits equality, it is of the class,
+-- it is the explicit variable.
 abbrev pub IsAsAsked : ℕ → Ask → MlType Name → Type 0
 IsAsAsked u (A.Within b n) t = IsWithin u n t
 IsAsAsked u A.Equality t = admits naming t ≡ true
 IsAsAsked u (A.Class c) t = IsIn (names_in c) t
+IsAsAsked u (A.Variable x) t = t ≡ variable_type x
 
 -- the limit that asks just this
 abbrev pub limit_of : Ask → Limit
@@ -79,6 +86,7 @@ limit_of (A.Within B.Newness n) = record no_limit { newness = Some n }
 limit_of (A.Within B.Locality n) = record no_limit { locality = Some n }
 limit_of A.Equality = record no_limit { equality = true }
 limit_of (A.Class c) = record no_limit { class = Some (names_in c) }
+limit_of (A.Variable x) = record no_limit { variables = V.One x }
 
 -- What may be demanded: that two types are equal, or something of one type.
 pub data Demand : Type 0 where
@@ -98,6 +106,7 @@ Holds Newness u σ (asks a t) = HoldsUpTo Newness u σ a t
 Holds Locality u σ (asks a t) = HoldsUpTo Locality u σ a t
 Holds Equality u σ (asks a t) = HoldsUpTo Equality u σ a t
 Holds Classes u σ (asks a t) = HoldsUpTo Classes u σ a t
+Holds Rigidity u σ (asks a t) = HoldsUpTo Rigidity u σ a t
 
 -- the demand speaks of the solver's unknowns, and of no variable that a scheme binds
 abbrev pub IsOf : Asked → MlType Name → Type 0

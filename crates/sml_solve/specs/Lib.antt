@@ -4,6 +4,7 @@ pub mod Interned
 pub mod Ranks
 pub mod Bounds
 pub mod Classes
+pub mod Variables
 pub mod Limits
 pub mod Layers
 pub mod Asked

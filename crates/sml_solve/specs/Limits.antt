@@ -8,7 +8,7 @@ use Rattle.sml_objects.specs.Equality.{admits, is_reference_name}
 use Rattle.sml_objects.specs.Objects.{MlType, Head, arrow, row, name}
 use Rattle.sml_solve.specs.declared.class.Names.{Names}
 use Rattle.sml_solve.specs.declared.layer.Layer.{Layer}
-use Rattle.sml_solve.specs.declared.layer.Layer.TheVariants.{Equations, Finiteness, Newness, Locality, Equality, Classes}
+use Rattle.sml_solve.specs.declared.layer.Layer.TheVariants.{Equations, Finiteness, Newness, Locality, Equality, Classes, Rigidity}
 use Rattle.sml_solve.specs.declared.limits.Limit.{Limit}
 use Rattle.sml_solve.specs.declared.node.Node.{Node}
 use Rattle.sml_solve.specs.declared.node.Node.TheVariants.{Unknown, Link, App}
@@ -17,9 +17,11 @@ use Rattle.sml_solve.specs.Graphs.{node_at, head_over, parts, Meets, IsAmong}
 use Rattle.sml_solve.specs.Bounds.{IsWithin, IsHeadWithin}
 use Rattle.sml_solve.specs.Classes.{allows, both_names, IsIn}
 use Rattle.sml_solve.specs.Layers.{place_of}
+use Rattle.sml_solve.specs.Variables.{both_variables, MeetsVariables, FitsVariables, IsPossible, variables_height}
+use Rattle.sml_solve.specs.declared.variable.Variables.TheVariants as V
 
 abbrev pub no_limit : Limit
-no_limit = record { newness = None; locality = None; equality = false; class = None }
+no_limit = record { newness = None; locality = None; equality = false; class = None; variables = V.Any }
 
 abbrev pub limit_at : List Limit → ℕ → Limit
 limit_at ls i = slice_index_or ls i no_limit
@@ -44,6 +46,7 @@ MeetsAt Newness u a t = MeetsBound u a.newness t
 MeetsAt Locality u a t = MeetsBound u a.locality t
 MeetsAt Equality u a t = MeetsEquality a.equality t
 MeetsAt Classes u a t = MeetsClass a.class t
+MeetsAt Rigidity u a t = MeetsVariables a.variables t
 
 -- each node's type is as its limit asks
 abbrev pub KeepsAt : Layer → ℕ → List Limit → Assignment finite → Type 0
@@ -79,6 +82,7 @@ both a b = record {
   locality = both_bounds a.locality b.locality;
   equality = a.equality || b.equality;
   class = both_classes a.class b.class;
+  variables = both_variables a.variables b.variables;
 }
 
 -- what is asked of the head of a type
@@ -104,9 +108,15 @@ FitsAt Newness u a h n = FitsBound u a.newness h
 FitsAt Locality u a h n = FitsBound u a.locality h
 FitsAt Equality u a h n = FitsEquality a.equality h
 FitsAt Classes u a h n = FitsClass a.class h n
+FitsAt Rigidity u a h n = FitsVariables a.variables h n
+
+-- where nothing is known of a type, only explicit variables ask for too much
+abbrev pub IsFitUnknown : Layer → Limit → Type 0
+IsFitUnknown Rigidity a = IsPossible a.variables a.equality a.class
+IsFitUnknown l a = Unit {0}
 
 abbrev pub IsFitNode : Layer → ℕ → Limit → Node → Type 0
-IsFitNode l u a Unknown = Unit {0}
+IsFitNode l u a Unknown = IsFitUnknown l a
 IsFitNode l u a (Link j) = Unit {0}
 IsFitNode l u a (App h kids) = FitsAt l u a (head_over h (length kids.items)) (length kids.items)
 
@@ -118,7 +128,7 @@ asks_parts (row ls) = true
 asks_parts (name m) = not (is_reference_name m)
 
 abbrev pub for_parts : Head Name → Limit → Limit
-for_parts h a = record { newness = a.newness; locality = a.locality; equality = asks_parts h && a.equality; class = None }
+for_parts h a = record { newness = a.newness; locality = a.locality; equality = asks_parts h && a.equality; class = None; variables = V.Any }
 
 -- what is asked of the nodes that a node speaks of
 abbrev pub handed : Node → Limit → Limit
@@ -151,9 +161,9 @@ IsDoneBut u ns ls f is =
 abbrev pub SameLimits : ℕ → List Node → List Limit → List Limit → Type 0
 SameLimits u ns ls ms = (l : Layer) (σ : Assignment finite) → Meets finite ns σ → KeepsAt l u ls σ ↔ KeepsAt l u ms σ
 
--- no types that meet the nodes keep the limits in the layer
+-- no types that meet the nodes keep the limits in the layers up to this one
 abbrev pub NoneKeeps : ℕ → List Node → List Limit → Layer → Type 0
-NoneKeeps u ns ls l = (σ : Assignment finite) → Meets finite ns σ → KeepsAt l u ls σ → ⊥
+NoneKeeps u ns ls l = (σ : Assignment finite) → Meets finite ns σ → KeepsThrough l u ls σ → ⊥
 
 -- how much a limit can still be lowered
 
@@ -166,7 +176,7 @@ class_height None = 4
 class_height (Some c) = cond c.word 1 0 + (cond c.real 1 0 + cond c.text 1 0)
 
 abbrev pub height : Limit → ℕ
-height a = bound_height a.newness + (bound_height a.locality + (cond a.equality 0 1 + class_height a.class))
+height a = bound_height a.newness + (bound_height a.locality + (cond a.equality 0 1 + (class_height a.class + variables_height a.variables)))
 
 abbrev pub heights : List Limit → ℕ
 heights [] = 0

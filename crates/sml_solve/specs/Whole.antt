@@ -3,7 +3,7 @@ use Rattle.std.specs.Prelude.{◌≡◌, ℕ, ◌<◌, List, length, [], ◌∷�
 use Rattle.std.specs.List.{AllByRecursion}
 use Rattle.sml_solve.specs.declared.graph.Graph.{Graph}
 use Rattle.sml_solve.specs.declared.layer.Layer.{Layer}
-use Rattle.sml_solve.specs.declared.layer.Layer.TheVariants.{Equations, Finiteness, Newness, Locality, Equality, Classes}
+use Rattle.sml_solve.specs.declared.layer.Layer.TheVariants.{Equations, Finiteness, Newness, Locality, Equality, Classes, Rigidity}
 use Rattle.sml_solve.specs.declared.limits.Limit.{Limit}
 use Rattle.sml_solve.specs.declared.node.Node.{Node}
 use Rattle.sml_solve.specs.Worlds.{finite, Assignment}
@@ -62,6 +62,7 @@ FailsAt Newness u g = FailsFirst Newness u g
 FailsAt Locality u g = FailsFirst Locality u g
 FailsAt Equality u g = FailsFirst Equality u g
 FailsAt Classes u g = FailsFirst Classes u g
+FailsAt Rigidity u g = FailsFirst Rigidity u g
 
 -- only the limit of one node is lowered
 pub record LowersLimit (g : Graph) (r : ℕ) (a : Limit) (h : Graph) (is : List ℕ) : Type 0 where

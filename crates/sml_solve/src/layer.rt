@@ -6,6 +6,7 @@ ghost use Rattle.sml_solve.specs.Layers.{code_of, place_of};
 
 use crate::class::Class;
 use crate::limits::Limit;
+use crate::variable::{Variable, Variables};
 use sml_lex::fault::{Code, Memory};
 
 /// The layers, in order. A demand that can't be met is refused by the first layer that can't be met, each together with
@@ -24,6 +25,8 @@ pub enum Layer {
     Equality,
     /// Types that are to be of a class of initial names (appendix E).
     Classes,
+    /// Explicit type variables, which stand for themselves alone (section 4.6).
+    Rigidity,
 }
 
 /// The layer that a bound on names belongs to.
@@ -42,6 +45,8 @@ pub enum Ask {
     Equality,
     /// It is one of the names of a class.
     Class(Class),
+    /// It is an explicit type variable.
+    Variable(Variable),
 }
 
 /// Why a call of the solver is refused. After any refusal the solver is spent.
@@ -66,7 +71,7 @@ impl From<Memory> for Refusal {
 }
 
 impl Layer {
-    /// The code of a fault: U1, U2, U3, E6, U4 or U5.
+    /// The code of a fault: U1, U2, U3, E6, U4, U5 or U7.
     pub fn code(self) -> Code
         ensures { result ≡ code_of self }
     {
@@ -77,6 +82,7 @@ impl Layer {
             Layer::Locality => Code::E6,
             Layer::Equality => Code::U4,
             Layer::Classes => Code::U5,
+            Layer::Rigidity => Code::U7,
         }
     }
 
@@ -91,6 +97,7 @@ impl Layer {
             Layer::Locality => 3,
             Layer::Equality => 4,
             Layer::Classes => 5,
+            Layer::Rigidity => 6,
         }
     }
 }
@@ -106,6 +113,7 @@ impl Ask {
             Ask::Within(Bound::Locality, most) => limit.locality = Some(most),
             Ask::Equality => limit.equality = true,
             Ask::Class(class) => limit.class = Some(class.names()),
+            Ask::Variable(variable) => limit.variables = Variables::One(variable),
         }
         limit
     }

@@ -15,3 +15,4 @@ mod reading;
 pub mod solver;
 #[cfg(test)]
 mod tests;
+pub mod variable;

@@ -10,23 +10,26 @@ ghost use Rattle.sml_solve.specs.declared.layer.Layer.{Layer};
 ghost use Rattle.sml_solve.specs.Worlds.{finite, Assignment};
 ghost use Rattle.sml_solve.specs.Graphs.{IsSound, Meets, head_over, parts};
 ghost use Rattle.sml_solve.specs.Layers.{place_of};
+ghost use Rattle.sml_solve.specs.Variables.{IsPossible, FitsVariables};
 ghost use Rattle.sml_solve.specs.Limits.{no_limit, both, both_bounds, both_classes, FitsBound, FitsEquality, FitsClass, IsFitNode, for_parts, handed, IsClosed, IsFit, IsBefore, IsDoneBut, SameLimits, NoneKeeps, Lowers};
 
 use crate::class::Names;
 use crate::layer::Layer;
 use crate::node::{Head, Node};
+use crate::variable::Variables;
 use sml_lex::fault::Memory;
 use sml_objects::equality::{has_equality, is_reference};
 use sml_objects::objects::{TyName, UnitId};
 
 /// What is asked of the type of a node: that it mentions only such names of the unit as have lower numbers than these,
-/// that it admits equality, and that it is one of some initial names.
+/// that it admits equality, that it is one of some initial names, and that it is an explicit type variable.
 #[derive(Clone, Copy)]
 pub struct Limit {
     pub(crate) newness: Option<u32>,
     pub(crate) locality: Option<u32>,
     pub(crate) equality: bool,
     pub(crate) class: Option<Names>,
+    pub(crate) variables: Variables,
 }
 
 /// The lower of two bounds.
@@ -62,6 +65,7 @@ impl Limit {
             locality: None,
             equality: false,
             class: None,
+            variables: Variables::Any,
         }
     }
 
@@ -76,6 +80,7 @@ impl Limit {
             locality: lower_bound(self.locality, other.locality),
             equality: self.equality || other.equality,
             class: common_names(self.class, other.class),
+            variables: self.variables.and(other.variables),
         }
     }
 
@@ -92,6 +97,7 @@ impl Limit {
             locality: self.locality,
             equality,
             class: None,
+            variables: Variables::Any,
         }
     }
 }
@@ -120,6 +126,20 @@ fn is_same_class(one: Option<Names>, other: Option<Names>) -> bool
     }
 }
 
+fn are_same_variables(one: Variables, other: Variables) -> bool
+    ensures yes { OnTrue result (one ≡ other) }
+    ensures no { OnFalse result (one ≡ other → ⊥) }
+{
+    match (one, other) {
+        (Variables::Any, Variables::Any) => true,
+        (Variables::One(first), Variables::One(second)) => {
+            first.number == second.number && first.equality == second.equality
+        }
+        (Variables::Several, Variables::Several) => true,
+        _ => false,
+    }
+}
+
 fn is_same_limit(one: Limit, other: Limit) -> bool
     ensures yes { OnTrue result (one ≡ other) }
     ensures no { OnFalse result (one ≡ other → ⊥) }
@@ -128,6 +148,7 @@ fn is_same_limit(one: Limit, other: Limit) -> bool
         && is_same_bound(one.locality, other.locality)
         && one.equality == other.equality
         && is_same_class(one.class, other.class)
+        && are_same_variables(one.variables, other.variables)
 }
 
 /// Whether a head is no name that the unit made with the bound's number or a higher one.
@@ -167,13 +188,40 @@ fn is_in_class(head: Head, count: usize, class: Option<Names>) -> bool
     }
 }
 
-/// The first layer in which the head of a node isn't what is asked.
+/// Whether a type may be what a limit asks, where nothing else is known of it.
+fn is_possible(limit: Limit) -> bool
+    ensures yes { OnTrue result (IsPossible limit.variables limit.equality limit.class) }
+    ensures no { OnFalse result (IsPossible limit.variables limit.equality limit.class → ⊥) }
+{
+    match (limit.variables, limit.class) {
+        (Variables::Any, _) => true,
+        (Variables::One(variable), None) => !limit.equality || variable.equality,
+        (Variables::One(_), Some(_)) => false,
+        (Variables::Several, _) => false,
+    }
+}
+
+/// Whether nothing asks for explicit variables. A head is none.
+fn is_any(variables: Variables) -> bool
+    ensures yes { OnTrue result (variables ≡ Variables.Any) }
+    ensures no { OnFalse result ((h : Head) (n : ℕ) → FitsVariables variables (head_over h n) n → ⊥) }
+{
+    matches!(variables, Variables::Any)
+}
+
+/// The first layer in which a node isn't what is asked.
 fn misfit(node: &Node, limit: Limit, unit: UnitId) -> Option<Layer>
     ensures fits { (l : Layer) → IsBefore l result → IsFitNode l (maker_of unit) limit node.now }
     ensures fails { IfSome result (λ l. IsFitNode l (maker_of unit) limit node.now → ⊥) }
 {
-    let Node::App(head, kids) = node else {
-        return None;
+    let (head, kids) = match node {
+        Node::Unknown => return if is_possible(limit) {
+            None
+        } else {
+            Some(Layer::Rigidity)
+        },
+        Node::Link(_) => return None,
+        Node::App(head, kids) => (head, kids),
     };
     if !is_head_within(*head, unit, limit.newness) {
         return Some(Layer::Newness);
@@ -186,6 +234,9 @@ fn misfit(node: &Node, limit: Limit, unit: UnitId) -> Option<Layer>
     }
     if !is_in_class(*head, kids.len(), limit.class) {
         return Some(Layer::Classes);
+    }
+    if !is_any(limit.variables) {
+        return Some(Layer::Rigidity);
     }
     None
 }

@@ -21,6 +21,7 @@ use crate::graph::{Graph, add, fill};
 use crate::layer::{Ask, Bound, Refusal};
 use crate::node::Node;
 use crate::reading::type_up_to;
+use crate::variable::Variable;
 use sml_objects::objects::{MlType, Scheme, UnitId};
 use sml_objects::schemes::instantiate;
 use std::alloc::Global;
@@ -202,7 +203,7 @@ impl Solver {
         Ok(found)
     }
 
-    /// Demands that two types are equal: U1, U2, U3, E6, U4 or U5 where they can't be.
+    /// Demands that two types are equal: U1, U2, U3, E6, U4, U5 or U7 where they can't be.
     pub fn require_equal(&mut self, left: &MlType, right: &MlType) -> Result<(), Refusal>
         requires left { IsOf self.old (type_of left.now) }
         requires right { IsOf self.old (type_of right.now) }
@@ -279,6 +280,21 @@ impl Solver {
         ensures spent { result ≡ Err Refusal.Spent ↔ self.old.spent ≡ true }
     {
         self.require(ty, Ask::Class(class))
+    }
+
+    /// Demands that a type is an explicit type variable, which stands for itself alone: U7 where it can't be.
+    pub fn require_variable(&mut self, ty: &MlType, variable: Variable) -> Result<(), Refusal>
+        requires { IsOf self.old (type_of ty.now) }
+        ensures ok { OnOk result (Adds self.old (asks (Ask.Variable variable) (type_of ty.now)) self.new) }
+        ensures met { OnOk result ((l : Layer) → CanMeet l self.old (asks (Ask.Variable variable) (type_of ty.now))) }
+        ensures unmet { (l : Layer) → result ≡ Err (Refusal.Unmet l) → IsFirstUnmet l self.old (asks (Ask.Variable variable) (type_of ty.now)) }
+        ensures count { count self.new ≡ count self.old }
+        ensures kept { OnOk result (self.new.spent ≡ false) }
+        ensures unit { self.new.unit ≡ self.old.unit }
+        ensures err { OnErr result (self.new.spent ≡ true) }
+        ensures spent { result ≡ Err Refusal.Spent ↔ self.old.spent ≡ true }
+    {
+        self.require(ty, Ask::Variable(variable))
     }
 
     /// Demands something of a type.

@@ -8,6 +8,7 @@ ghost use Rattle.sml_solve.specs.Interned.{IsOver, IsBodyOver};
 use crate::class::Class;
 use crate::layer::{Bound, Layer, Refusal};
 use crate::solver::Solver;
+use crate::variable::Variable;
 use sml_lex::fault::{Code, Memory};
 use sml_objects::objects::{Initial, MadeName, MlType, Scheme, TyName, UnitId};
 use std::alloc::Global;
@@ -285,6 +286,55 @@ fn equality_is_asked_before_classes(rt: HostRuntime) -> Result<(), Fail> {
     let right = pair(alloc, real(alloc), made(alloc, UNIT, 0))?;
     let first = solver.require_equal(&left, &right);
     assert_eq!(rt; first, Err(Refusal::Unmet(Layer::Locality)));
+    Ok(())
+}
+
+fn variable(number: u32, equality: bool) -> Variable {
+    Variable { number, equality }
+}
+
+#[test]
+fn explicit_variables_stand_for_themselves(rt: HostRuntime) -> Result<(), Fail> {
+    let alloc = rt.alloc();
+    let mut solver = solved(alloc, 3)?;
+    let plain = solver.require_variable(&unknown(0), variable(0, false));
+    assert_eq!(rt; plain, Ok(()));
+    assert_eq!(rt; link(&mut solver, 1, 0), Ok(()));
+    let again = solver.require_variable(&unknown(1), variable(0, false));
+    assert_eq!(rt; again, Ok(()));
+    let admitting = solver.require_variable(&unknown(2), variable(1, true));
+    assert_eq!(rt; admitting, Ok(()));
+    assert_eq!(rt; solver.require_equality(&unknown(2)), Ok(()));
+    let two = link(&mut solver, 0, 2);
+    assert_eq!(rt; two, Err(Refusal::Unmet(Layer::Rigidity)));
+    assert_eq!(rt; Layer::Rigidity.code(), Code::U7);
+    let mut solver = solved(alloc, 1)?;
+    let plain = solver.require_variable(&unknown(0), variable(0, false));
+    assert_eq!(rt; plain, Ok(()));
+    let unequal = solver.require_equality(&unknown(0));
+    assert_eq!(rt; unequal, Err(Refusal::Unmet(Layer::Rigidity)));
+    let mut solver = solved(alloc, 1)?;
+    assert_eq!(rt; solver.require_class(&unknown(0), Class::Num), Ok(()));
+    let number = solver.require_variable(&unknown(0), variable(0, true));
+    assert_eq!(rt; number, Err(Refusal::Unmet(Layer::Rigidity)));
+    Ok(())
+}
+
+#[test]
+fn explicit_variables_are_no_other_types(rt: HostRuntime) -> Result<(), Fail> {
+    let alloc = rt.alloc();
+    let mut solver = solved(alloc, 1)?;
+    let plain = solver.require_variable(&unknown(0), variable(0, true));
+    assert_eq!(rt; plain, Ok(()));
+    let bound = solver.require_equal(&unknown(0), &int(alloc));
+    assert_eq!(rt; bound, Err(Refusal::Unmet(Layer::Rigidity)));
+    let mut solver = solved(alloc, 1)?;
+    let plain = solver.require_variable(&unknown(0), variable(0, false));
+    assert_eq!(rt; plain, Ok(()));
+    assert_eq!(rt;
+        solver.require_equality(&real(alloc)),
+        Err(Refusal::Unmet(Layer::Equality))
+    );
     Ok(())
 }
 

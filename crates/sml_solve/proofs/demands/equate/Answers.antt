@@ -101,4 +101,4 @@ returns-clause-met c =
     let gy : Grows us v h k c.in-Ok-add.second = record { interns = c.in-Ok-add.ensures.interns; limits = c.in-Ok-add.ensures.limits } in
     let m : Graph = record { nodes = c.merge_two.new.nodes; limits = k.limits; marks = k.marks; stamp = k.stamp } in
     let x : Stands (asked_of u us g false) (equal t v) m = stands-equal u us false t v g h k m c.in-Ok.first c.in-Ok-add.second c.requires.kept.whole.full c.in-Ok.ensures.full c.requires.kept.owners.inside c.requires.left c.requires.right gx gy c.in-Ok-merge_two.ensures.same refl in
-    finished-met (asked_of u us g false) (equal t v) m c.finish.new.graph x c.in-Ok-finish.ensures.ok
+    finished-met (asked_of u us g false) (equal t v) m c.finish.new.graph (λ e. omega (arith, e)) x c.in-Ok-finish.ensures.ok

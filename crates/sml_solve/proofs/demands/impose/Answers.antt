@@ -1,3 +1,4 @@
+use Rattle.std.proofs.Common.{arith}
 use Rattle.std.specs.Prelude.{false}
 use Rattle.sml_objects.specs.Views.{type_of, maker_of}
 use Rattle.sml_solve.specs.Graphs.{IsSound}
@@ -68,4 +69,4 @@ returns-clause-met c =
     let gx : Grows us t g h c.in-Ok.at = record { interns = c.in-Ok.ensures.interns; limits = c.in-Ok.ensures.limits } in
     let low : LowersLimit h c.in-Ok.at (limit_of c.args.ask) m js = rw c.limit.ensures at c.in-Ok-lower_limit.ensures.lowers in
     let x : Stands (asked_of u us g false) (asks c.args.ask t) m = stands-asked u us false c.args.ask t g h m c.in-Ok.at js c.requires.known low c.requires.kept.whole.full c.requires.kept.owners.inside gx in
-    finished-met (asked_of u us g false) (asks c.args.ask t) m c.finish.new.graph x c.in-Ok-finish.ensures.ok
+    finished-met (asked_of u us g false) (asks c.args.ask t) m c.finish.new.graph (λ e. omega (arith, e)) x c.in-Ok-finish.ensures.ok

@@ -10,3 +10,4 @@ pub mod Demanding
 pub mod Counting
 pub mod Retrieving
 pub mod Owning
+pub mod Overloading

@@ -103,11 +103,11 @@ equality-both : (a b : Bool) (t : MlType Name) → MeetsEquality a t → MeetsEq
 equality-both true b t v w = v
 equality-both false b t v w = w
 
-and-left : (a b : Bool) → (a && b) ≡ true → a ≡ true
+pub and-left : (a b : Bool) → (a && b) ≡ true → a ≡ true
 and-left true b e = refl
 and-left false b e = e
 
-and-right : (a b : Bool) → (a && b) ≡ true → b ≡ true
+pub and-right : (a b : Bool) → (a && b) ≡ true → b ≡ true
 and-right true b e = e
 and-right false b e = absurd (elim b as (λ _. ⊥) [ true ↦ cc | false ↦ cc ])
 
@@ -347,7 +347,7 @@ unfolding all_admit
 admitting-all [] a = refl
 admitting-all (t ∷ ts) a = and-both (admits naming t) (all_admit naming (types_of ts)) a.0 (admitting-all ts a.1)
 
-admits-named : (m : Name) (ts : List (MlType Name)) → admits naming (app (name m) (types_of ts)) ≡ (is_reference_name m || ((attributes_of m).equality && all_admit naming (types_of ts)))
+pub admits-named : (m : Name) (ts : List (MlType Name)) → admits naming (app (name m) (types_of ts)) ≡ (is_reference_name m || ((attributes_of m).equality && all_admit naming (types_of ts)))
 unfolding admits naming
 admits-named m ts = ap (λ b. b || ((attributes_of m).equality && all_admit naming (types_of ts))) (is_ref-name m)
 
@@ -367,7 +367,7 @@ arrow-admits-not : (ts : List (MlType Name)) → admits naming (app arrow (types
 unfolding admits
 arrow-admits-not ts e = let f : false ≡ true = e in cc
 
-row-admits : (ls : List (List ℕ)) (ts : List (MlType Name)) → admits naming (app (row ls) (types_of ts)) ≡ all_admit naming (types_of ts)
+pub row-admits : (ls : List (List ℕ)) (ts : List (MlType Name)) → admits naming (app (row ls) (types_of ts)) ≡ all_admit naming (types_of ts)
 unfolding admits
 row-admits ls ts = refl
 
@@ -715,10 +715,10 @@ closed-as ks ls i x f c = closed-still ks ls i x (λ k. rw (f k) (under-refl (li
 
 -- the type int is as anything asks
 
-bound-int : (u : ℕ) (a : Option ℕ) → MeetsBound u a (named (initial N.int))
+pub bound-initial : (u : ℕ) (a : Option ℕ) (k : N.Initial) → MeetsBound u a (named (initial k))
 unfolding IsWithin AreWithin
-bound-int u None = tt
-bound-int u (Some n) = (tt, tt)
+bound-initial u None k = tt
+bound-initial u (Some n) k = (tt, tt)
 
 equality-int : (e : Bool) → MeetsEquality e (named (initial N.int))
 unfolding all_admit
@@ -732,8 +732,8 @@ class-int (Some c) = (N.int, refl, refl)
 pub int-meets : (l : Layer) (u : ℕ) (a : Limit) → place_of l < place_of Rigidity → MeetsAt l u a (named (initial N.int))
 int-meets Equations u a h = tt
 int-meets Finiteness u a h = tt
-int-meets Newness u a h = bound-int u a.newness
-int-meets Locality u a h = bound-int u a.locality
+int-meets Newness u a h = bound-initial u a.newness N.int
+int-meets Locality u a h = bound-initial u a.locality N.int
 int-meets Equality u a h = equality-int a.equality
 int-meets Classes u a h = class-int a.class
 int-meets Rigidity u a h = absurd (omega (arith, h))

@@ -99,7 +99,7 @@ fails-at Equality u g σ m k n = fails-first Equality u g σ m k n
 fails-at Classes u g σ m k n = fails-first Classes u g σ m k n
 fails-at Rigidity u g σ m k n = fails-first Rigidity u g σ m k n
 
-last : (k : Layer) → place_of k ≤ place_of Rigidity
+pub last : (k : Layer) → place_of k ≤ place_of Rigidity
 last Equations = omega arith
 last Finiteness = omega arith
 last Newness = omega arith

@@ -12,3 +12,4 @@ pub mod Whole
 pub mod Counted
 pub mod Left
 pub mod Reads
+pub mod Overloaded

@@ -12,6 +12,7 @@ mod limits;
 mod merge;
 mod node;
 mod reading;
+mod settling;
 pub mod solver;
 #[cfg(test)]
 mod tests;

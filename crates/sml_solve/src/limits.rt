@@ -11,6 +11,7 @@ ghost use Rattle.sml_solve.specs.Worlds.{finite, Assignment};
 ghost use Rattle.sml_solve.specs.Graphs.{IsSound, Meets, head_over, parts};
 ghost use Rattle.sml_solve.specs.Layers.{place_of};
 ghost use Rattle.sml_solve.specs.Variables.{IsPossible, FitsVariables};
+ghost use Rattle.sml_solve.specs.Overloaded.{has_several};
 ghost use Rattle.sml_solve.specs.Limits.{no_limit, both, both_bounds, both_classes, FitsBound, FitsEquality, FitsClass, IsFitNode, for_parts, handed, IsClosed, IsFit, IsBefore, IsDoneBut, SameLimits, NoneKeeps, Lowers};
 
 use crate::class::Names;
@@ -81,6 +82,16 @@ impl Limit {
             equality: self.equality || other.equality,
             class: common_names(self.class, other.class),
             variables: self.variables.and(other.variables),
+        }
+    }
+
+    /// Whether more names than one of a class are left.
+    pub(crate) fn has_several_names(self) -> bool
+        ensures { result ≡ has_several self.class self.equality }
+    {
+        match self.class {
+            None => false,
+            Some(names) => names.word || names.text || (names.real && !self.equality),
         }
     }
 

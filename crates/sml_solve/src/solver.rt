@@ -1,6 +1,7 @@
 //! The solver: what a declaration asks of its unknown types.
 
 ghost use Rattle.std.specs.Prelude.{◌≡◌, ◌↔◌, ◌+◌, ◌^◌, ◌<◌, ◌≤◌, true, false, length, IfOk, OnOk, OnErr, Err};
+ghost use Rattle.std.specs.Bool.{OnTrue, OnFalse};
 ghost use Rattle.std.specs.List.{AllByRecursion};
 ghost use Rattle.std.specs.Option.{IfSome, IfNone};
 ghost use Rattle.sml_objects.specs.Sizes.{type_size};
@@ -12,6 +13,7 @@ ghost use Rattle.sml_solve.specs.Worlds.{finite, Assignment};
 ghost use Rattle.sml_solve.specs.Asked.{Asked, asked_of, equal, asks, count, IsOf, IsSchemeOf, Adds, CanMeet, IsFirstUnmet, IsMet, Permits, PermitsSame};
 ghost use Rattle.sml_solve.specs.Counted.{IsSizeUpTo};
 ghost use Rattle.sml_solve.specs.Left.{IsReading, IsMostGeneral};
+ghost use Rattle.sml_solve.specs.Overloaded.{IsOverloaded};
 ghost use Rattle.sml_solve.specs.Whole.{IsKept};
 
 use crate::class::Class;
@@ -21,6 +23,7 @@ use crate::graph::{Graph, add, fill};
 use crate::layer::{Ask, Bound, Refusal};
 use crate::node::Node;
 use crate::reading::type_up_to;
+use crate::settling::has_several_names;
 use crate::variable::Variable;
 use sml_objects::objects::{MlType, Scheme, UnitId};
 use sml_objects::schemes::instantiate;
@@ -161,6 +164,23 @@ impl Solver {
         };
         self.spent = false;
         Ok(size)
+    }
+
+    /// Whether an unknown is to be an initial name, and more than one it could still be. The default of such an unknown is
+    /// `int` (the Definition, appendix E).
+    pub fn is_overloaded(&self, unknown: u32) -> Result<bool, Refusal>
+        requires { unknown < count self.now }
+        ensures yes { IfOk result (λ b. OnTrue b (IsOverloaded self.now unknown)) }
+        ensures no { IfOk result (λ b. OnFalse b (IsOverloaded self.now unknown → ⊥)) }
+        ensures err { OnErr result (result ≡ Err Refusal.Spent) }
+        ensures spent { result ≡ Err Refusal.Spent ↔ self.now.spent ≡ true }
+    {
+        if self.spent {
+            return Err(Refusal::Spent);
+        }
+        let at = self.unknowns[unknown as usize];
+        let nodes = self.graph.nodes.as_slice();
+        Ok(has_several_names(nodes, self.graph.limits.as_slice(), at))
     }
 
     /// A law: the unknowns that are left may have any types at once that each of them may have, and these fix the types of

@@ -22,7 +22,7 @@ use Rattle.sml_solve.specs.Counted.{sizes_at, IsCounting, IsCounted, IsSizeUpTo}
 use Rattle.sml_solve.proofs.Ranking.{solution, ints, solution-meets, solution-unknown}
 use Rattle.sml_solve.proofs.Interning.{typed-same}
 use Rattle.sml_solve.proofs.Demanding.{Grows, grown-forth, grown-back, through-agree}
-use Rattle.sml_solve.proofs.Limiting.{nothing-asked}
+use Rattle.sml_solve.proofs.Asking.{nothing-asked}
 
 sizes_at-append : (τ : Assignment finite) (is js : List ℕ) → sizes_at τ (is ++ js) ≡ sizes_at τ is + sizes_at τ js
 sizes_at-append τ [] js = omega arith

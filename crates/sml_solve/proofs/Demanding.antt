@@ -1,12 +1,11 @@
 -- What a demand does to the types that are permitted.
-use Rattle.std.proofs.Common.{◌≡◌, ℕ, ◌+◌, ◌<◌, ◌≤◌, ◌^◌, ◌↔◌, inl, inr, Option, Some, None, List, [], ◌∷◌, ◌++◌, length, get_or, sym, ◌∙◌, ap, subst, refl, arith, length-append}
+use Rattle.std.proofs.Common.{◌≡◌, ℕ, ◌+◌, ◌<◌, ◌≤◌, ◌^◌, ◌↔◌, inl, inr, None, List, [], ◌∷◌, ◌++◌, length, get_or, sym, ◌∙◌, ap, subst, refl, arith, length-append}
 use Rattle.std.specs.Prelude.{Bool}
 use Rattle.std.proofs.lemmas.Bool.{cases_lt}
 use Rattle.std.proofs.lemmas.List.{get_or_past}
 use Rattle.std.specs.List.{AllByRecursion}
 use Rattle.sml_objects.specs.Initial.{Name}
 use Rattle.sml_objects.specs.Objects.{MlType}
-use Rattle.sml_objects.specs.Types.{assign}
 use Rattle.sml_solve.specs.declared.graph.Graph.{Graph}
 use Rattle.sml_solve.specs.declared.layer.Ask.{Ask}
 use Rattle.sml_solve.specs.declared.layer.Ask.TheVariants as A
@@ -20,15 +19,15 @@ use Rattle.sml_solve.specs.Worlds.{World, Assignment, finite, infinite, typed}
 use Rattle.sml_solve.specs.Graphs.{node_at, Meets, IsSound, SameOutside}
 use Rattle.sml_solve.specs.Interned.{IsOver, through, Interns}
 use Rattle.sml_solve.specs.Ranks.{HasRank}
-use Rattle.sml_solve.specs.Limits.{no_limit, limit_at, MeetsAt, KeepsAt, KeepsThrough, IsClosed, IsFit, IsDoneBut, SameLimits, Lowers}
+use Rattle.sml_solve.specs.Limits.{no_limit, limit_at, MeetsAt, KeepsAt, KeepsThrough, IsClosed, IsFit, IsDoneBut, Lowers}
 use Rattle.sml_solve.specs.Layers.{place_of}
-use Rattle.sml_solve.specs.Asked.{Asked, asked_of, count, world, KeepsUpTo, Permits, layer_of, limit_of, IsAsAsked, HoldsUpTo, Demand, equal, asks, Holds, CanMeet, IsFirstUnmet, Adds, IsMet, PermitsSame}
+use Rattle.sml_solve.specs.Asked.{Asked, asked_of, count, world, KeepsUpTo, Permits, layer_of, limit_of, IsAsAsked, Demand, equal, asks, Holds, CanMeet, IsFirstUnmet, Adds, IsMet, PermitsSame}
 use Rattle.sml_solve.specs.Whole.{IsFull, IsWhole, IsChanged, Finishes, FailsFirst, FailsAt, LowersLimit, IsKept}
-use Rattle.sml_solve.proofs.Interning.{inside-at, inside-more, typed-same, sound-more, get_or-left, get_or-right, beyond, beyond-below, beyond-above, meets-beyond}
-use Rattle.sml_solve.proofs.Limiting.{nothing-asked, none-meets, none-fits, closed-still, lowered-keeps, keeps-lowered, but-lowered}
+use Rattle.sml_solve.proofs.Interning.{inside-at, typed-same, sound-more, get_or-left, get_or-right, beyond, beyond-below, beyond-above, meets-beyond}
+use Rattle.sml_solve.proofs.Asking.{nothing-asked, none-meets}
+use Rattle.sml_solve.proofs.Limiting.{none-fits, lowered-keeps, keeps-lowered, but-lowered}
 use Rattle.sml_solve.proofs.Ranking.{rank_of, finite_of, solution, stand_ins, solution-meets, stands-keep}
 use Rattle.sml_solve.proofs.Walks.{has_infinite}
-use Rattle.sml_solve.proofs.Merging.{all-append}
 use Rattle.sml_solve.proofs.Wholeness.{get_or-push, closed-more, fit-more}
 use Rattle.sml_solve.proofs.Owning.{owners-none, owners-fresh, owners-grown, owners-merged}
 

@@ -2,6 +2,7 @@ pub mod Worlding
 pub mod Merging
 pub mod Interning
 pub mod Searching
+pub mod Asking
 pub mod Limiting
 pub mod Ranking
 pub mod Walks

@@ -1,6 +1,5 @@
 -- Unknowns that may be one of several initial names.
-use Rattle.std.proofs.Common.{◌≡◌, ◌≢◌, ℕ, ◌<◌, ◌≤◌, ◌⊎◌, inl, inr, Bool, true, false, ◌&&◌, ◌||◌, not, Option, Some, None, List, [], ◌∷◌, length, map, get_or, sym, ◌∙◌, ap, subst, refl, arith}
-use Rattle.std.proofs.lemmas.List.{length-map}
+use Rattle.std.proofs.Common.{◌≡◌, ◌≢◌, ℕ, ◌<◌, ◌⊎◌, inl, inr, Bool, true, false, ◌&&◌, ◌||◌, not, Option, Some, None, List, [], ◌∷◌, length, map, get_or, sym, ◌∙◌, ap, subst, refl}
 use Rattle.std.specs.Bool.{OnTrue, OnFalse}
 use Rattle.smallvec.specs.SmallVec.{SmallVec}
 use Rattle.sml_objects.specs.Names as N
@@ -22,15 +21,14 @@ use Rattle.sml_solve.specs.Worlds.{finite, Assignment, make}
 use Rattle.sml_solve.specs.Graphs.{node_at, head_over, Meets, IsSame, IsRootNode}
 use Rattle.sml_solve.specs.Interned.{through}
 use Rattle.sml_solve.specs.Bounds.{IsWithin, AreWithin}
-use Rattle.sml_solve.specs.Classes.{allows, IsIn}
+use Rattle.sml_solve.specs.Classes.{allows}
 use Rattle.sml_solve.specs.Limits.{limit_at, MeetsBound, MeetsEquality, MeetsClass, MeetsAt, KeepsAt, IsFitNode}
-use Rattle.sml_solve.specs.Layers.{place_of}
 use Rattle.sml_solve.specs.Variables.{MeetsVariables, IsPossible, stand_in}
 use Rattle.sml_solve.specs.Asked.{asked_of, Permits}
 use Rattle.sml_solve.specs.Overloaded.{IsOverloaded, has_several, is_several}
-use Rattle.sml_solve.specs.Whole.{IsWhole, IsKept}
+use Rattle.sml_solve.specs.Whole.{IsKept}
 use Rattle.sml_solve.proofs.Merging.{same_or_not}
-use Rattle.sml_solve.proofs.Limiting.{and-left, and-right, admits-named, row-admits, bound-initial, stands-meets}
+use Rattle.sml_solve.proofs.Asking.{and-left, and-right, admits-named, row-admits, bound-initial, stands-meets}
 use Rattle.sml_solve.proofs.Ranking.{solution, solution-meets, solution-unknown, solution-keeps}
 use Rattle.sml_solve.proofs.Wholeness.{last}
 
@@ -219,9 +217,9 @@ module _ (u : ℕ) (us : List ℕ) (g : Graph) (b : Bool) (k : IsKept u g us) (d
       let w : O.app (head_over x (length kids.items)) (types_of (map t.0 kids.items)) ≡ O.app (O.name (initial n.0)) O.no_type = sym f ∙ (sym t.3 ∙ n.1) in
       let j : types_of (map t.0 kids.items) ≡ O.no_type = cc in
       o.apart (t.3 ∙ (f ∙ (ap (λ ts. O.app (head_over x (length kids.items)) ts) (none-alike t.0 z.0 kids.items j) ∙ (sym y ∙ sym z.3)))) where
-    none-alike : (σ τ : Assignment finite) (is : List ℕ) → types_of (map σ is) ≡ O.no_type → types_of (map σ is) ≡ types_of (map τ is)
-    none-alike σ τ [] q = refl
-    none-alike σ τ (i ∷ is) q = cc
+        none-alike : (σ τ : Assignment finite) (is : List ℕ) → types_of (map σ is) ≡ O.no_type → types_of (map σ is) ≡ types_of (map τ is)
+        none-alike σ τ [] q = refl
+        none-alike σ τ (i ∷ is) q = cc
 
   overloaded-yes : (x : Node) → node_at g.nodes.items r ≡ x → is_several x (limit_at g.limits.items r) ≡ true → IsOverloaded (asked_of u us g b) v
   overloaded-yes Unknown e s = several-yes (limit_at g.limits.items r).class refl e s

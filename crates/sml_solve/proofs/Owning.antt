@@ -1,5 +1,5 @@
 -- Unknowns and the nodes that say ints.
-use Rattle.std.proofs.Common.{◌≡◌, ◌≢◌, ℕ, zero, suc, ◌+◌, ◌^◌, ◌<◌, ◌≤◌, ◌⊎◌, inl, inr, Option, Some, None, List, [], ◌∷◌, ◌++◌, length, map, get_or, sym, ◌∙◌, ap, subst, refl, arith, length-append}
+use Rattle.std.proofs.Common.{◌≡◌, ◌≢◌, ℕ, zero, suc, ◌+◌, ◌^◌, ◌<◌, ◌≤◌, inl, inr, Option, Some, None, List, [], ◌∷◌, ◌++◌, length, map, get_or, sym, ◌∙◌, ap, subst, refl, arith, length-append}
 use Rattle.std.proofs.lemmas.Bool.{cases_lt}
 use Rattle.std.proofs.lemmas.List.{get_or_past}
 use Rattle.std.specs.Prelude.{Bool}
@@ -13,26 +13,23 @@ use Rattle.sml_objects.specs.Types.{assign}
 use Rattle.sml_objects.specs.Sizes.{type_size}
 use Rattle.sml_objects.specs.Views.{type_of}
 use Rattle.sml_objects.specs.declared.objects.MlType.{MlType}
-use Rattle.smallvec.specs.SmallVec.{SmallVec}
 use Rattle.sml_solve.specs.declared.graph.Graph.{Graph}
 use Rattle.sml_solve.specs.declared.layer.Layer.{Layer}
 use Rattle.sml_solve.specs.declared.layer.Layer.TheVariants.{Equations, Finiteness, Newness, Locality, Equality, Classes, Rigidity}
-use Rattle.sml_solve.specs.declared.node.Head.{Head}
 use Rattle.sml_solve.specs.declared.node.Node.{Node}
 use Rattle.sml_solve.specs.declared.node.Node.TheVariants.{Unknown, Link, App}
-use Rattle.sml_solve.specs.Worlds.{World, finite, Assignment, make, typed}
+use Rattle.sml_solve.specs.Worlds.{finite, Assignment, make, typed}
 use Rattle.sml_solve.specs.Graphs.{node_at, head_over, parts, Agrees, Meets, IsSame, IsSound, IsSoundNode, IsKnown, AreOwners, IsLoose}
 use Rattle.sml_solve.specs.Interned.{IsOver, AreOver, Interns, through}
 use Rattle.sml_solve.specs.Ranks.{IsRanked, HasRank}
 use Rattle.sml_solve.specs.Asked.{Asked, asked_of, count, Permits}
-use Rattle.sml_solve.specs.Layers.{place_of}
 use Rattle.sml_solve.specs.Limits.{no_limit, limit_at, MeetsAt, KeepsThrough}
 use Rattle.sml_solve.specs.Whole.{IsWhole, IsKept}
 use Rattle.sml_solve.specs.Left.{IsMadeOf, AreMadeOf, IsLeft, IsReading, MayBe, IsMostGeneral}
 use Rattle.sml_solve.specs.Reads.{IsTypeAt}
 use Rattle.sml_solve.proofs.Interning.{inside-at, inside-more, get_or-left, get_or-right, typed-same, map-alike, parts-inside}
 use Rattle.sml_solve.proofs.Merging.{same_or_not, all-append}
-use Rattle.sml_solve.proofs.Limiting.{nothing-asked, none-meets}
+use Rattle.sml_solve.proofs.Asking.{nothing-asked, none-meets}
 use Rattle.sml_solve.proofs.Ranking.{all-both, solution, ints, solution-meets, solution-unknown, solution-keeps}
 use Rattle.sml_solve.proofs.Searching.{all-parts}
 use Rattle.sml_solve.proofs.Wholeness.{get_or-push}

@@ -1,5 +1,5 @@
 -- Finite types for the nodes.
-use Rattle.std.proofs.Common.{◌≡◌, ◌≢◌, ℕ, zero, suc, ◌+◌, ◌*◌, ◌<◌, ◌≤◌, inl, inr, Option, Some, None, List, [], ◌∷◌, length, map, ◌∙◌, ap, subst, refl, arith}
+use Rattle.std.proofs.Common.{◌≡◌, ◌≢◌, ℕ, zero, suc, ◌+◌, ◌*◌, ◌<◌, ◌≤◌, inl, inr, List, [], ◌∷◌, length, map, ◌∙◌, ap, subst, refl, arith}
 use Rattle.std.proofs.Math.Nat.{mul-le-mul_left}
 use Rattle.std.specs.List.{AllByRecursion}
 use Rattle.sml_objects.specs.Names.{int}
@@ -21,7 +21,7 @@ use Rattle.sml_solve.specs.Variables.{stand_in}
 use Rattle.sml_solve.proofs.Merging.{same_or_not}
 use Rattle.sml_solve.proofs.Interning.{map-alike}
 use Rattle.sml_solve.proofs.Searching.{all-parts}
-use Rattle.sml_solve.proofs.Limiting.{value, node-meets, int-meets, stands-meets}
+use Rattle.sml_solve.proofs.Asking.{value, node-meets, int-meets, stands-meets}
 
 -- a rank from types: their sizes, and the places among nodes of one type
 

@@ -1,19 +1,18 @@
 -- Types that are read back from nodes.
-use Rattle.std.proofs.Common.{◌≡◌, ◌≢◌, ℕ, zero, suc, ◌+◌, ◌*◌, ◌<◌, ◌≤◌, List, [], ◌∷◌, ◌++◌, length, map, get_or, length-append, take, drop, reverse, sym, ◌∙◌, ap, subst, refl, arith, inl, inr, ◌↔◌, Option, Some, None}
+use Rattle.std.proofs.Common.{◌≡◌, ℕ, zero, suc, ◌+◌, ◌<◌, ◌≤◌, List, [], ◌∷◌, ◌++◌, length, map, get_or, length-append, take, drop, reverse, sym, ◌∙◌, ap, subst, refl, arith, inl, inr, Option, Some, None}
 use Rattle.std.specs.Prelude.{IsSome, option_to_list}
 use Rattle.std.specs.Option.{IfSome, IfNone}
 use Rattle.std.proofs.Math.Seq.{take-append_seam, drop-append_seam}
 use Rattle.std.proofs.lemmas.Bool.{cases_lt}
 use Rattle.std.proofs.lemmas.Grind.{reverse_onto}
 use Rattle.std.proofs.lemmas.List.{append_assoc, length-map, length-reverse, reverse-append, length-take-le, take-map, drop-map, take-append-drop}
-use Rattle.std.proofs.lemmas.List.Sorted.{searched}
 use Rattle.std.specs.List.{AllByRecursion}
 use Rattle.std.specs.Global.{Global}
 use Rattle.std.specs.declared.rc.Rc.{Rc}
 use Rattle.sml_objects.specs.Initial.{Name}
 use Rattle.sml_objects.specs.Objects as O
-use Rattle.sml_objects.specs.Sizes.{type_size, types_size}
-use Rattle.sml_objects.specs.Types.{assign, replace_type}
+use Rattle.sml_objects.specs.Sizes.{type_size}
+use Rattle.sml_objects.specs.Types.{assign}
 use Rattle.sml_objects.specs.Views.{type_of, types_of}
 use Rattle.sml_objects.specs.declared.objects.MlType.{MlType}
 use Rattle.smallvec.specs.SmallVec.{SmallVec}
@@ -23,7 +22,7 @@ use Rattle.sml_solve.specs.declared.node.Node.TheVariants.{Unknown, App}
 use Rattle.sml_solve.specs.declared.reading.Task.{Task}
 use Rattle.sml_solve.specs.declared.reading.Task.TheVariants.{Read, Apply}
 use Rattle.sml_solve.specs.Worlds.{finite, Assignment, make}
-use Rattle.sml_solve.specs.Graphs.{node_at, head_over, Meets, IsSame, IsCountOf, IsSoundNode, IsLoose}
+use Rattle.sml_solve.specs.Graphs.{node_at, head_over, IsSame, IsSoundNode, IsLoose}
 use Rattle.sml_solve.specs.Interned.{through}
 use Rattle.sml_solve.specs.Ranks.{HasRank}
 use Rattle.sml_solve.specs.Left.{IsMadeOf, AreMadeOf}

@@ -19,7 +19,8 @@ use Rattle.sml_solve.specs.Ranks.{HasRank, mark_at, IsSearch}
 use Rattle.sml_solve.specs.Limits.{no_limit, limit_at, KeepsAt, IsClosed, IsFit, IsBefore, SameLimits, NoneKeeps}
 use Rattle.sml_solve.specs.Layers.{place_of}
 use Rattle.sml_solve.specs.Whole.{FailsFirst, FailsAt}
-use Rattle.sml_solve.proofs.Limiting.{none-closed, none-fits, nothing-asked, closed-as}
+use Rattle.sml_solve.proofs.Asking.{nothing-asked}
+use Rattle.sml_solve.proofs.Limiting.{none-closed, none-fits, closed-as}
 use Rattle.sml_solve.proofs.Ranking.{rank_of, finite_of, solution, ints, solution-meets, ints-keep}
 
 pub get_or-push : {A : Type 0} (xs : List A) (d : A) (i : ℕ) → get_or (xs ++ d ∷ []) i d ≡ get_or xs i d

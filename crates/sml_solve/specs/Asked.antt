@@ -1,5 +1,5 @@
 -- What was asked of a solver's unknowns so far, seen as the types that they may have.
-use Rattle.std.specs.Prelude.{◌≡◌, ℕ, ◌<◌, ◌≤◌, ◌↔◌, Bool, true, List, length, Option, Some}
+use Rattle.std.specs.Prelude.{◌≡◌, ℕ, ◌<◌, ◌≤◌, ◌↔◌, Bool, true, List, length, Some}
 use Rattle.sml_objects.specs.Equality.{admits}
 use Rattle.sml_objects.specs.Initial.{Name, naming}
 use Rattle.sml_objects.specs.Objects.{MlType, Scheme}
@@ -7,7 +7,6 @@ use Rattle.sml_objects.specs.Types.{assign}
 use Rattle.sml_solve.specs.declared.graph.Graph.{Graph}
 use Rattle.sml_solve.specs.declared.layer.Ask.{Ask}
 use Rattle.sml_solve.specs.declared.layer.Ask.TheVariants as A
-use Rattle.sml_solve.specs.declared.layer.Bound.{Bound}
 use Rattle.sml_solve.specs.declared.layer.Bound.TheVariants as B
 use Rattle.sml_solve.specs.declared.layer.Layer.{Layer}
 use Rattle.sml_solve.specs.declared.layer.Layer.TheVariants.{Equations, Finiteness, Newness, Locality, Equality, Classes, Rigidity}

@@ -1,7 +1,6 @@
 -- What is asked of the type of each node, layer by layer, and what follows for the types of its parts.
 use Rattle.std.specs.Prelude.{◌≡◌, ℕ, ◌+◌, ◌<◌, ◌≤◌, ◌^◌, ◌↔◌, ◌⊎◌, Bool, true, false, not, ◌&&◌, ◌||◌, cond, nat_lt, List, [], ◌∷◌, length, Option, Some, None, slice_index_or}
 use Rattle.std.specs.List.{AllByRecursion}
-use Rattle.std.specs.Option.{IfNone, IfSome}
 use Rattle.sml_objects.specs.Names.{Initial}
 use Rattle.sml_objects.specs.Initial.{Name, initial, naming, attributes_of}
 use Rattle.sml_objects.specs.Equality.{admits, is_reference_name}

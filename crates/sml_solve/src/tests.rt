@@ -289,6 +289,27 @@ fn equality_is_asked_before_classes(rt: HostRuntime) -> Result<(), Fail> {
     Ok(())
 }
 
+#[test]
+fn overloaded_is_what_more_than_one_name_is_left_to(rt: HostRuntime) -> Result<(), Fail> {
+    let alloc = rt.alloc();
+    let mut solver = solved(alloc, 3)?;
+    assert_eq!(rt; solver.is_overloaded(0), Ok(false));
+    assert_eq!(rt; solver.require_class(&unknown(0), Class::RealInt), Ok(()));
+    assert_eq!(rt; link(&mut solver, 0, 1), Ok(()));
+    assert_eq!(rt; solver.is_overloaded(1), Ok(true));
+    assert_eq!(rt; solver.require_equality(&unknown(0)), Ok(()));
+    assert_eq!(rt; solver.is_overloaded(1), Ok(false));
+    assert_eq!(rt; solver.require_class(&unknown(2), Class::WordInt), Ok(()));
+    assert_eq!(rt; solver.require_equality(&unknown(2)), Ok(()));
+    assert_eq!(rt; solver.is_overloaded(2), Ok(true));
+    assert_eq!(rt; solver.require_equal(&unknown(2), &int(alloc)), Ok(()));
+    assert_eq!(rt; solver.is_overloaded(2), Ok(false));
+    let row = solver.require_equal(&unknown(2), &empty(alloc));
+    assert_eq!(rt; row, Err(Refusal::Unmet(Layer::Equations)));
+    assert_eq!(rt; solver.is_overloaded(0), Err(Refusal::Spent));
+    Ok(())
+}
+
 fn variable(number: u32, equality: bool) -> Variable {
     Variable { number, equality }
 }

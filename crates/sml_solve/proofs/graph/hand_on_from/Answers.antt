@@ -1,7 +1,7 @@
 use Rattle.std.proofs.Common.{◌≡◌, ◌++◌, length, take, drop, sym, subst, arith, None}
 use Rattle.std.proofs.Math.Seq.{take-append_seam}
 use Rattle.sml_objects.specs.Views.{maker_of}
-use Rattle.sml_solve.specs.Limits.{IsBefore, IsFit, IsDoneBut, SameLimits}
+use Rattle.sml_solve.specs.Limits.{IsFit, IsDoneBut, SameLimits}
 use Rattle.sml_solve.proofs.graph.hand_on_from.Goals as goal
 
 pub hand_on_all-requires-clause-but : goal.hand_on_all-requires-clause-but

@@ -1,6 +1,7 @@
 use Rattle.std.proofs.Common.{◌≡◌, ◌<◌, sym, ◌∙◌}
 use Rattle.sml_solve.specs.Limits.{height, limit_at, both}
-use Rattle.sml_solve.proofs.Limiting.{lowers-one, lowers-low, height-lower}
+use Rattle.sml_solve.proofs.Asking.{height-lower}
+use Rattle.sml_solve.proofs.Limiting.{lowers-one, lowers-low}
 use Rattle.sml_solve.proofs.limits.lower.Goals as goal
 
 pub returns-in_ok-push : goal.returns-in_ok-push

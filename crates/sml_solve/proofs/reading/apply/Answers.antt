@@ -1,4 +1,4 @@
-use Rattle.std.proofs.Common.{◌≡◌, ◌≤◌, length, ap, ◌∙◌, sym, arith}
+use Rattle.std.proofs.Common.{◌≡◌, ◌≤◌, length, ap, ◌∙◌, arith}
 use Rattle.sml_objects.proofs.TypeViews.{parts_of, type_of-row, type_of-name}
 use Rattle.sml_objects.specs.Views.{type_of}
 use Rattle.sml_solve.specs.declared.node.Head.TheVariants.{Row, Name}

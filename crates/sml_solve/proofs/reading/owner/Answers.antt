@@ -1,4 +1,3 @@
-use Rattle.std.proofs.Common.{◌≡◌, ◌<◌, ◌≤◌, ℕ, get_or, arith}
 use Rattle.std.proofs.lemmas.List.Sorted.{searched}
 use Rattle.sml_solve.proofs.Retrieving.{owner-found, rising-weakly}
 use Rattle.sml_solve.proofs.reading.owner.Goals as goal

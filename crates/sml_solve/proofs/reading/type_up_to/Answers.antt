@@ -1,10 +1,8 @@
-use Rattle.std.proofs.Common.{◌≡◌, ◌≤◌, ◌<◌, ◌∷◌, [], ◌++◌, length, reverse, map, suc, ap, ◌∙◌, sym, subst, arith, refl, List, take, drop}
+use Rattle.std.proofs.Common.{◌≡◌, ◌∷◌, [], ◌++◌, length, reverse, map, ap, ◌∙◌, arith, drop}
 use Rattle.sml_objects.specs.Objects as O
-use Rattle.sml_objects.specs.Initial.{Name}
 use Rattle.sml_objects.specs.Views.{type_of}
 use Rattle.sml_objects.proofs.TypeViews.{type_of-free}
 use Rattle.sml_solve.specs.declared.node.Node.TheVariants.{Unknown, App}
-use Rattle.sml_solve.specs.declared.reading.Task.{Task}
 use Rattle.sml_solve.specs.declared.reading.Task.TheVariants.{Read, Apply}
 use Rattle.sml_solve.specs.Graphs.{node_at, IsRootNode, IsSoundNode}
 use Rattle.sml_solve.specs.Reads.{stacked, heads, IsReadingOn}

@@ -1,4 +1,4 @@
-use Rattle.std.proofs.Common.{◌≡◌, ◌≤◌, ◌+◌, ◌*◌, ◌-◌, reverse, vec_len}
+use Rattle.std.proofs.Common.{◌≤◌, ◌+◌, ◌*◌, ◌-◌, reverse}
 use Rattle.sml_solve.specs.Reads.{stacked, heads, IsReadingOn}
 use Rattle.sml_solve.proofs.reading.type_up_to.Given as goal
 

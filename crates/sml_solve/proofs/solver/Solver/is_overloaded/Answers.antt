@@ -2,7 +2,7 @@ use Rattle.std.proofs.Common.{◌≡◌, ◌<◌, ◌∙◌, length, get_or, sym
 use Rattle.std.proofs.lemmas.List.{get_or_default}
 use Rattle.std.specs.Bool.{OnTrue, OnFalse}
 use Rattle.sml_objects.specs.Views.{maker_of}
-use Rattle.sml_solve.specs.Asked.{asked_of, count}
+use Rattle.sml_solve.specs.Asked.{count}
 use Rattle.sml_solve.specs.Overloaded.{IsOverloaded}
 use Rattle.sml_solve.specs.Whole.{IsKept}
 use Rattle.sml_solve.proofs.Overloading.{overloaded-if, overloaded-only-if}

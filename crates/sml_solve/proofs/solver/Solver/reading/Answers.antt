@@ -1,14 +1,9 @@
-use Rattle.std.proofs.Common.{length, subst, sym, ◌<◌, ◌≤◌}
+use Rattle.std.proofs.Common.{length, subst, sym}
 use Rattle.std.specs.Prelude.{false}
-use Rattle.std.specs.Option.{IfSome, IfNone}
-use Rattle.sml_objects.specs.Sizes.{type_size}
 use Rattle.sml_objects.specs.Views.{type_of, maker_of}
-use Rattle.sml_solve.specs.Worlds.{finite, Assignment}
-use Rattle.sml_solve.specs.Graphs.{Meets}
+use Rattle.sml_solve.specs.Worlds.{finite}
 use Rattle.sml_solve.specs.Interned.{IsOver, Interns}
 use Rattle.sml_solve.specs.Asked.{asked_of, IsOf, PermitsSame}
-use Rattle.sml_solve.specs.Left.{IsReading}
-use Rattle.sml_solve.specs.Reads.{IsTypeAt}
 use Rattle.sml_solve.specs.Whole.{IsKept, IsWhole}
 use Rattle.sml_solve.proofs.Demanding.{Grows, permits-grown, kept-grown}
 use Rattle.sml_solve.proofs.Owning.{readings-are, larges-are}

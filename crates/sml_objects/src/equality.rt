@@ -36,7 +36,8 @@ fn all_admit_equality(parts: &[Rc<MlType>]) -> bool
     true
 }
 
-fn is_reference(name: TyName) -> bool
+/// Whether the name is `ref`, whose types admit equality whatever they hold.
+pub fn is_reference(name: TyName) -> bool
     ensures { result ≡ is_reference_name (name_of name) }
 {
     match name {
@@ -46,7 +47,8 @@ fn is_reference(name: TyName) -> bool
     }
 }
 
-pub(crate) fn has_equality(name: TyName) -> bool
+/// Whether the name has the equality attribute.
+pub fn has_equality(name: TyName) -> bool
     ensures { result ≡ (attributes_of (name_of name)).equality }
 {
     match name {

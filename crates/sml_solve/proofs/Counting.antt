@@ -19,9 +19,10 @@ use Rattle.sml_solve.specs.Interned.{IsOver, through}
 use Rattle.sml_solve.specs.Asked.{asked_of, Permits}
 use Rattle.sml_solve.specs.Whole.{IsKept}
 use Rattle.sml_solve.specs.Counted.{sizes_at, IsCounting, IsCounted, IsSizeUpTo}
-use Rattle.sml_solve.proofs.Ranking.{solution, nothing, solution-meets, solution-unknown}
+use Rattle.sml_solve.proofs.Ranking.{solution, ints, solution-meets, solution-unknown}
 use Rattle.sml_solve.proofs.Interning.{typed-same}
 use Rattle.sml_solve.proofs.Demanding.{Grows, grown-forth, grown-back, through-agree}
+use Rattle.sml_solve.proofs.Asking.{nothing-asked}
 
 sizes_at-append : (τ : Assignment finite) (is js : List ℕ) → sizes_at τ (is ++ js) ≡ sizes_at τ is + sizes_at τ js
 sizes_at-append τ [] js = omega arith
@@ -32,7 +33,7 @@ unfolding types_size
 sizes_at-types τ [] = refl
 sizes_at-types τ (i ∷ is) = ap (λ n. type_size (τ i) + n) (sizes_at-types τ is)
 
-positive : (t : O.MlType Name) → 0 < type_size t
+pub positive : (t : O.MlType Name) → 0 < type_size t
 unfolding type_size
 positive (O.bound k) = omega arith
 positive (O.free v) = omega arith
@@ -41,16 +42,16 @@ positive (O.app h ts) = omega arith
 pub counting-first : (ns : List Node) (root : ℕ) (is : List ℕ) → HasRank ns → is ≡ root ∷ [] → IsCounting ns root 0 is
 unfolding type_size types_size
 counting-first ns root is r e =
-    let σ = solution ns nothing r.rank in
+    let σ = solution ns ints r.rank in
     record {
       less = λ τ m. rw e (omega arith);
       types = σ;
-      meets = solution-meets ns nothing r.rank r.ranked;
-      ones = λ i q. ap type_size (solution-unknown ns nothing r.rank i q);
+      meets = solution-meets ns ints r.rank r.ranked;
+      ones = λ i q. ap type_size (solution-unknown ns ints r.rank i q);
       exact = rw e (omega arith);
     }
 
-size-app : (ns : List Node) (at here : ℕ) (h : Head) (kids : SmallVec ℕ) → IsSame ns at here → node_at ns here ≡ App h kids → (τ : Assignment finite) → Meets finite ns τ → type_size (τ at) ≡ suc (sizes_at τ kids.items)
+pub size-app : (ns : List Node) (at here : ℕ) (h : Head) (kids : SmallVec ℕ) → IsSame ns at here → node_at ns here ≡ App h kids → (τ : Assignment finite) → Meets finite ns τ → type_size (τ at) ≡ suc (sizes_at τ kids.items)
 unfolding type_size
 size-app ns at here h kids s e τ m =
     let a = s finite τ m in
@@ -105,13 +106,13 @@ counted-size u us b t g h r limit n k o x c = record {
   most = c.most;
   least = λ σ p.
       let y = grown-forth us t g h r u Finiteness x k.whole.full p.0 p.1 p.2 in
-      let e = through-agree finite us (length g.nodes.items) p.0 y.0 σ k.inside y.3 p.3 in
+      let e = through-agree finite us (length g.nodes.items) p.0 y.0 σ k.owners.inside y.3 p.3 in
       let z = grown-back us t g h r u Finiteness x y.0 y.1 y.2 in
       let s : type_size (y.0 r) ≡ type_size (assign σ t) = ap type_size (z.2 ∙ typed-same finite (through finite us y.0) σ (length us) t e o) in
       let w = c.least y.0 y.1 in
       omega (arith, s, w);
   reached = λ q.
       let y = c.reached q in
-      let z = grown-back us t g h r u Finiteness x y.0 y.1 tt in
-      (through finite us y.0, (y.0, z.0, tt, λ v l. refl), ap type_size (sym z.2) ∙ y.2);
+      let z = grown-back us t g h r u Finiteness x y.0 y.1 (nothing-asked u h.limits.items y.0) in
+      (through finite us y.0, (y.0, z.0, nothing-asked u g.limits.items y.0, λ v l. refl), ap type_size (sym z.2) ∙ y.2);
 }

@@ -1,83 +1,94 @@
 -- What a demand does to the types that are permitted.
-use Rattle.std.proofs.Common.{◌≡◌, ℕ, ◌+◌, ◌<◌, ◌↔◌, inl, inr, Option, None, List, [], ◌∷◌, ◌++◌, length, get_or, sym, ◌∙◌, ap, subst, refl, arith, length-append}
+use Rattle.std.proofs.Common.{◌≡◌, ℕ, ◌+◌, ◌<◌, ◌≤◌, ◌^◌, ◌↔◌, inl, inr, None, List, [], ◌∷◌, ◌++◌, length, get_or, sym, ◌∙◌, ap, subst, refl, arith, length-append}
 use Rattle.std.specs.Prelude.{Bool}
 use Rattle.std.proofs.lemmas.Bool.{cases_lt}
 use Rattle.std.proofs.lemmas.List.{get_or_past}
 use Rattle.std.specs.List.{AllByRecursion}
 use Rattle.sml_objects.specs.Initial.{Name}
 use Rattle.sml_objects.specs.Objects.{MlType}
-use Rattle.sml_objects.specs.Types.{assign}
 use Rattle.sml_solve.specs.declared.graph.Graph.{Graph}
-use Rattle.sml_solve.specs.declared.layer.Bound.{Bound}
+use Rattle.sml_solve.specs.declared.layer.Ask.{Ask}
+use Rattle.sml_solve.specs.declared.layer.Ask.TheVariants as A
 use Rattle.sml_solve.specs.declared.layer.Bound.TheVariants as B
 use Rattle.sml_solve.specs.declared.layer.Layer.{Layer}
-use Rattle.sml_solve.specs.declared.layer.Layer.TheVariants.{Equations, Finiteness, Newness, Locality}
+use Rattle.sml_solve.specs.declared.layer.Layer.TheVariants.{Equations, Finiteness, Newness, Locality, Equality, Classes, Rigidity}
+use Rattle.sml_solve.specs.declared.limits.Limit.{Limit}
 use Rattle.sml_solve.specs.declared.node.Node.{Node}
 use Rattle.sml_solve.specs.declared.node.Node.TheVariants.{Unknown}
 use Rattle.sml_solve.specs.Worlds.{World, Assignment, finite, infinite, typed}
 use Rattle.sml_solve.specs.Graphs.{node_at, Meets, IsSound, SameOutside}
 use Rattle.sml_solve.specs.Interned.{IsOver, through, Interns}
 use Rattle.sml_solve.specs.Ranks.{HasRank}
-use Rattle.sml_solve.specs.Bounds.{IsWithin, limit_at, Keeps, IsClosed, IsClosedBut, Lowers}
+use Rattle.sml_solve.specs.Limits.{no_limit, limit_at, MeetsAt, KeepsAt, KeepsThrough, IsClosed, IsFit, IsDoneBut, Lowers}
 use Rattle.sml_solve.specs.Layers.{place_of}
-use Rattle.sml_solve.specs.Asked.{Asked, asked_of, count, world, KeepsUpTo, Permits, Demand, equal, within, Holds, CanMeet, IsFirstUnmet, Adds, IsMet, PermitsSame}
-use Rattle.sml_solve.specs.Whole.{IsFull, IsWhole, IsChanged, Finishes, FailsAt, LowersBound, IsKept}
-use Rattle.sml_solve.proofs.Interning.{inside-at, inside-more, typed-same, sound-more, get_or-left, get_or-right, beyond, beyond-below, beyond-above, meets-beyond}
-use Rattle.sml_solve.proofs.Limiting.{lowered-keeps, keeps-lowered, but-lowered}
-use Rattle.sml_solve.proofs.Ranking.{rank_of, finite_of, solution, nothing, solution-meets, solution-keeps}
+use Rattle.sml_solve.specs.Asked.{Asked, asked_of, count, world, KeepsUpTo, Permits, layer_of, limit_of, IsAsAsked, Demand, equal, asks, Holds, CanMeet, IsFirstUnmet, Adds, IsMet, PermitsSame}
+use Rattle.sml_solve.specs.Whole.{IsFull, IsWhole, IsChanged, Finishes, FailsFirst, FailsAt, LowersLimit, IsKept}
+use Rattle.sml_solve.proofs.Interning.{inside-at, typed-same, sound-more, get_or-left, get_or-right, beyond, beyond-below, beyond-above, meets-beyond}
+use Rattle.sml_solve.proofs.Asking.{nothing-asked, none-meets}
+use Rattle.sml_solve.proofs.Limiting.{none-fits, lowered-keeps, keeps-lowered, but-lowered}
+use Rattle.sml_solve.proofs.Ranking.{rank_of, finite_of, solution, stand_ins, solution-meets, stands-keep}
 use Rattle.sml_solve.proofs.Walks.{has_infinite}
-use Rattle.sml_solve.proofs.Merging.{all-append}
-use Rattle.sml_solve.proofs.Wholeness.{get_or-push, closed-more}
+use Rattle.sml_solve.proofs.Wholeness.{get_or-push, closed-more, fit-more}
+use Rattle.sml_solve.proofs.Owning.{owners-none, owners-fresh, owners-grown, owners-merged}
 
 -- limits and assignments that agree
 
-keeps-agree : (u n : ℕ) (ls : List (Option ℕ)) (τ υ : Assignment finite) → length ls ≡ n → ((i : ℕ) → i < n → υ i ≡ τ i) → Keeps u ls τ → Keeps u ls υ
-keeps-agree u n ls τ υ len e k i =
+keeps-agree : (l : Layer) (u n : ℕ) (ls : List Limit) (τ υ : Assignment finite) → length ls ≡ n → ((i : ℕ) → i < n → υ i ≡ τ i) → KeepsAt l u ls τ → KeepsAt l u ls υ
+keeps-agree l u n ls τ υ len e k i =
     elim (cases_lt i n) [
-      | inl l ↦ rw (e i l) (k i)
-      | inr g ↦ rw (get_or_past ls i None (omega (arith, g, len))) tt
+      | inl h ↦ rw (e i h) (k i)
+      | inr g ↦ rw (get_or_past ls i no_limit (omega (arith, g, len))) (none-meets l u (υ i))
     ]
 
-keeps-as : (u : ℕ) (ks ls : List (Option ℕ)) (τ : Assignment finite) → ((i : ℕ) → limit_at ls i ≡ limit_at ks i) → Keeps u ks τ → Keeps u ls τ
-keeps-as u ks ls τ e k i = rw (e i) (k i)
+keeps-as : (l : Layer) (u : ℕ) (ks ls : List Limit) (τ : Assignment finite) → ((i : ℕ) → limit_at ls i ≡ limit_at ks i) → KeepsAt l u ks τ → KeepsAt l u ls τ
+keeps-as l u ks ls τ e k i = rw (e i) (k i)
 
-upto-agree : (l : Layer) (u n : ℕ) (ns ls : List (Option ℕ)) (τ υ : Assignment (world l)) → length ns ≡ n → length ls ≡ n → ((i : ℕ) → i < n → υ i ≡ τ i) → KeepsUpTo l u ns ls τ → KeepsUpTo l u ns ls υ
-upto-agree Equations u n ns ls τ υ a b e k = tt
-upto-agree Finiteness u n ns ls τ υ a b e k = tt
-upto-agree Newness u n ns ls τ υ a b e k = keeps-agree u n ns τ υ a e k
-upto-agree Locality u n ns ls τ υ a b e k = (keeps-agree u n ns τ υ a e k.0, keeps-agree u n ls τ υ b e k.1)
+upto-agree : (l : Layer) (u n : ℕ) (ls : List Limit) (τ υ : Assignment (world l)) → length ls ≡ n → ((i : ℕ) → i < n → υ i ≡ τ i) → KeepsUpTo l u ls τ → KeepsUpTo l u ls υ
+upto-agree Equations u n ls τ υ a e k = tt
+upto-agree Finiteness u n ls τ υ a e k = λ j h. keeps-agree j u n ls τ υ a e (k j h)
+upto-agree Newness u n ls τ υ a e k = λ j h. keeps-agree j u n ls τ υ a e (k j h)
+upto-agree Locality u n ls τ υ a e k = λ j h. keeps-agree j u n ls τ υ a e (k j h)
+upto-agree Equality u n ls τ υ a e k = λ j h. keeps-agree j u n ls τ υ a e (k j h)
+upto-agree Classes u n ls τ υ a e k = λ j h. keeps-agree j u n ls τ υ a e (k j h)
+upto-agree Rigidity u n ls τ υ a e k = λ j h. keeps-agree j u n ls τ υ a e (k j h)
 
-upto-as : (l : Layer) (u : ℕ) (ns ls ns' ls' : List (Option ℕ)) (τ : Assignment (world l)) → ((i : ℕ) → limit_at ns' i ≡ limit_at ns i) → ((i : ℕ) → limit_at ls' i ≡ limit_at ls i) → KeepsUpTo l u ns ls τ → KeepsUpTo l u ns' ls' τ
-upto-as Equations u ns ls ns' ls' τ a b k = tt
-upto-as Finiteness u ns ls ns' ls' τ a b k = tt
-upto-as Newness u ns ls ns' ls' τ a b k = keeps-as u ns ns' τ a k
-upto-as Locality u ns ls ns' ls' τ a b k = (keeps-as u ns ns' τ a k.0, keeps-as u ls ls' τ b k.1)
+upto-as : (l : Layer) (u : ℕ) (ks ls : List Limit) (τ : Assignment (world l)) → ((i : ℕ) → limit_at ls i ≡ limit_at ks i) → KeepsUpTo l u ks τ → KeepsUpTo l u ls τ
+upto-as Equations u ks ls τ e k = tt
+upto-as Finiteness u ks ls τ e k = λ j h. keeps-as j u ks ls τ e (k j h)
+upto-as Newness u ks ls τ e k = λ j h. keeps-as j u ks ls τ e (k j h)
+upto-as Locality u ks ls τ e k = λ j h. keeps-as j u ks ls τ e (k j h)
+upto-as Equality u ks ls τ e k = λ j h. keeps-as j u ks ls τ e (k j h)
+upto-as Classes u ks ls τ e k = λ j h. keeps-as j u ks ls τ e (k j h)
+upto-as Rigidity u ks ls τ e k = λ j h. keeps-as j u ks ls τ e (k j h)
 
-upto-finish : (l : Layer) (u : ℕ) (g h : Graph) (τ : Assignment (world l)) → Finishes u g h → Meets (world l) g.nodes.items τ → KeepsUpTo l u g.newness.items g.locality.items τ ↔ KeepsUpTo l u h.newness.items h.locality.items τ
+through-finish : (l : Layer) (u : ℕ) (g h : Graph) (τ : Assignment finite) → Finishes u g h → Meets finite g.nodes.items τ → KeepsThrough l u g.limits.items τ ↔ KeepsThrough l u h.limits.items τ
+through-finish l u g h τ f m = (λ k j p. (f.limits j τ m).0 (k j p), λ k j p. (f.limits j τ m).1 (k j p))
+
+upto-finish : (l : Layer) (u : ℕ) (g h : Graph) (τ : Assignment (world l)) → Finishes u g h → Meets (world l) g.nodes.items τ → KeepsUpTo l u g.limits.items τ ↔ KeepsUpTo l u h.limits.items τ
 upto-finish Equations u g h τ f m = (λ k. tt, λ k. tt)
-upto-finish Finiteness u g h τ f m = (λ k. tt, λ k. tt)
-upto-finish Newness u g h τ f m = f.newness τ m
-upto-finish Locality u g h τ f m = (
-  λ k. ((f.newness τ m).0 k.0, (f.locality τ m).0 k.1),
-  λ k. ((f.newness τ m).1 k.0, (f.locality τ m).1 k.1),
-)
+upto-finish Finiteness u g h τ f m = through-finish Finiteness u g h τ f m
+upto-finish Newness u g h τ f m = through-finish Newness u g h τ f m
+upto-finish Locality u g h τ f m = through-finish Locality u g h τ f m
+upto-finish Equality u g h τ f m = through-finish Equality u g h τ f m
+upto-finish Classes u g h τ f m = through-finish Classes u g h τ f m
+upto-finish Rigidity u g h τ f m = through-finish Rigidity u g h τ f m
 
 -- A graph in which a demand stands: its types are those that were permitted and meet the demand.
 pub record Stands (s : Asked) (d : Demand) (g : Graph) : Type 0 where
   pub forth : (l : Layer) (σ : Assignment (world l)) → Permits l s σ → Holds l s.unit σ d
-      → (υ : Assignment (world l)) × Meets (world l) g.nodes.items υ × KeepsUpTo l s.unit g.newness.items g.locality.items υ
+      → (υ : Assignment (world l)) × Meets (world l) g.nodes.items υ × KeepsUpTo l s.unit g.limits.items υ
       × ((v : ℕ) → v < count s → through (world l) s.unknowns υ v ≡ σ v)
-  pub back : (l : Layer) (υ : Assignment (world l)) → Meets (world l) g.nodes.items υ → KeepsUpTo l s.unit g.newness.items g.locality.items υ
+  pub back : (l : Layer) (υ : Assignment (world l)) → Meets (world l) g.nodes.items υ → KeepsUpTo l s.unit g.limits.items υ
       → (σ : Assignment (world l)) → ((v : ℕ) → v < count s → through (world l) s.unknowns υ v ≡ σ v) → Permits l s σ × Holds l s.unit σ d
 
-can : (s : Asked) (d : Demand) (g : Graph) → Stands s d g → (l : Layer) (υ : Assignment (world l)) → Meets (world l) g.nodes.items υ → KeepsUpTo l s.unit g.newness.items g.locality.items υ → CanMeet l s d
+can : (s : Asked) (d : Demand) (g : Graph) → Stands s d g → (l : Layer) (υ : Assignment (world l)) → Meets (world l) g.nodes.items υ → KeepsUpTo l s.unit g.limits.items υ → CanMeet l s d
 unfolding CanMeet
 can s d g x l υ m k =
     let σ : Assignment (world l) = through (world l) s.unknowns υ in
     let b = x.back l υ m k σ (λ v h. refl) in
     (σ, b.0, b.1)
 
-cannot : (s : Asked) (d : Demand) (g : Graph) → Stands s d g → (l : Layer) → ((υ : Assignment (world l)) → Meets (world l) g.nodes.items υ → KeepsUpTo l s.unit g.newness.items g.locality.items υ → ⊥) → CanMeet l s d → ⊥
+cannot : (s : Asked) (d : Demand) (g : Graph) → Stands s d g → (l : Layer) → ((υ : Assignment (world l)) → Meets (world l) g.nodes.items υ → KeepsUpTo l s.unit g.limits.items υ → ⊥) → CanMeet l s d → ⊥
 unfolding CanMeet
 cannot s d g x l never c = let f = x.forth l c.0 c.1 c.2 in never f.0 f.1 f.2
 
@@ -85,25 +96,28 @@ can-equations : (s : Asked) (d : Demand) (g : Graph) → Stands s d g → IsSoun
 can-equations s d g x sound = let t = has_infinite g.nodes.items sound in can s d g x Equations t.0 t.1 tt
 
 can-finite : (s : Asked) (d : Demand) (g : Graph) → Stands s d g → HasRank g.nodes.items → CanMeet Finiteness s d
-can-finite s d g x r = let t = finite_of g.nodes.items r in can s d g x Finiteness t.0 t.1 tt
+can-finite s d g x r = let t = finite_of g.nodes.items r in can s d g x Finiteness t.0 t.1 (nothing-asked s.unit g.limits.items t.0)
 
 -- what stands in a finished graph
-pub finished-met : (s : Asked) (d : Demand) (g h : Graph) → Stands s d g → Finishes s.unit g h → (l : Layer) → CanMeet l s d
-finished-met s d g h x f Equations = can-equations s d g x (rw (sym f.nodes) f.whole.sound)
-finished-met s d g h x f Finiteness = can-finite s d g x (rw (sym f.nodes) f.whole.rank)
-finished-met s d g h x f Newness =
-    let r = f.whole.rank in
-    let σ = solution h.nodes.items nothing r.rank in
-    let m : Meets finite g.nodes.items σ = rw (sym f.nodes) (solution-meets h.nodes.items nothing r.rank r.ranked) in
-    can s d g x Newness σ m ((f.newness σ m).1 (solution-keeps s.unit h.nodes.items h.newness.items r.rank r.ranked f.whole.newness))
-finished-met s d g h x f Locality =
-    let r = f.whole.rank in
-    let σ = solution h.nodes.items nothing r.rank in
-    let m : Meets finite g.nodes.items σ = rw (sym f.nodes) (solution-meets h.nodes.items nothing r.rank r.ranked) in
-    can s d g x Locality σ m (
-      (f.newness σ m).1 (solution-keeps s.unit h.nodes.items h.newness.items r.rank r.ranked f.whole.newness),
-      (f.locality σ m).1 (solution-keeps s.unit h.nodes.items h.locality.items r.rank r.ranked f.whole.locality),
-    )
+
+finished-types : (u : ℕ) (g h : Graph) → (0 ≡ u → ⊥) → Finishes u g h → (σ : Assignment finite) × Meets finite g.nodes.items σ × ((k : Layer) → KeepsAt k u g.limits.items σ)
+finished-types u g h d f =
+    let w = f.whole in
+    let ρ = stand_ins h.limits.items in
+    let σ = solution h.nodes.items ρ w.rank.rank in
+    let m : Meets finite g.nodes.items σ = rw (sym f.nodes) (solution-meets h.nodes.items ρ w.rank.rank w.rank.ranked) in
+    (σ, m, λ k. (f.limits k σ m).1 (stands-keep k u h.nodes.items h.limits.items w.rank.rank d w.rank.ranked w.closed w.fit))
+
+pub finished-met : (s : Asked) (d : Demand) (g h : Graph) → (0 ≡ s.unit → ⊥) → Stands s d g → Finishes s.unit g h → (l : Layer) → CanMeet l s d
+finished-met s d g h n x f l = go l (finished-types s.unit g h n f) where
+  go : (l : Layer) → ((σ : Assignment finite) × Meets finite g.nodes.items σ × ((k : Layer) → KeepsAt k s.unit g.limits.items σ)) → CanMeet l s d
+  go Equations t = can-equations s d g x (rw (sym f.nodes) f.whole.sound)
+  go Finiteness t = can s d g x Finiteness t.0 t.1 (λ k h. t.2 k)
+  go Newness t = can s d g x Newness t.0 t.1 (λ k h. t.2 k)
+  go Locality t = can s d g x Locality t.0 t.1 (λ k h. t.2 k)
+  go Equality t = can s d g x Equality t.0 t.1 (λ k h. t.2 k)
+  go Classes t = can s d g x Classes t.0 t.1 (λ k h. t.2 k)
+  go Rigidity t = can s d g x Rigidity t.0 t.1 (λ k h. t.2 k)
 
 pub finished-adds : (s : Asked) (d : Demand) (g h : Graph) (b : Bool) → Stands s d g → Finishes s.unit g h → Adds s d (asked_of s.unit s.unknowns h b)
 unfolding Adds Permits
@@ -117,6 +131,16 @@ finished-adds s d g h b x f l σ = (
 )
 
 -- what fails in a graph is the first layer that can't be met
+
+before-met : (s : Asked) (d : Demand) (g : Graph) (l : Layer) → Stands s d g → IsSound g.nodes.items → FailsFirst l s.unit g → (k : Layer) → place_of k < place_of l → CanMeet k s d
+before-met s d g l x sound f Equations h = can-equations s d g x sound
+before-met s d g l x sound f Finiteness h = can s d g x Finiteness f.types f.meets (λ j q. f.keeps j (omega (arith, q, h)))
+before-met s d g l x sound f Newness h = can s d g x Newness f.types f.meets (λ j q. f.keeps j (omega (arith, q, h)))
+before-met s d g l x sound f Locality h = can s d g x Locality f.types f.meets (λ j q. f.keeps j (omega (arith, q, h)))
+before-met s d g l x sound f Equality h = can s d g x Equality f.types f.meets (λ j q. f.keeps j (omega (arith, q, h)))
+before-met s d g l x sound f Classes h = can s d g x Classes f.types f.meets (λ j q. f.keeps j (omega (arith, q, h)))
+before-met s d g l x sound f Rigidity h = can s d g x Rigidity f.types f.meets (λ j q. f.keeps j (omega (arith, q, h)))
+
 pub failing-first : (s : Asked) (d : Demand) (g : Graph) → Stands s d g → IsSound g.nodes.items → (l : Layer) → FailsAt l s.unit g → IsFirstUnmet l s d
 unfolding IsFirstUnmet
 failing-first s d g x sound Equations f = absurd f
@@ -127,50 +151,38 @@ failing-first s d g x sound Finiteness f = (
     | Finiteness ↦ λ h. absurd (omega (arith, h))
     | Newness ↦ λ h. absurd (omega (arith, h))
     | Locality ↦ λ h. absurd (omega (arith, h))
+    | Equality ↦ λ h. absurd (omega (arith, h))
+    | Classes ↦ λ h. absurd (omega (arith, h))
+    | Rigidity ↦ λ h. absurd (omega (arith, h))
   ],
 )
-failing-first s d g x sound Newness f = (
-  cannot s d g x Newness (λ υ m k. f.1 υ m k),
-  λ k. elim k as (λ k. place_of k < 2 → CanMeet k s d) [
-    | Equations ↦ λ h. can-equations s d g x sound
-    | Finiteness ↦ λ h. can-finite s d g x f.0
-    | Newness ↦ λ h. absurd (omega (arith, h))
-    | Locality ↦ λ h. absurd (omega (arith, h))
-  ],
-)
-failing-first s d g x sound Locality f = (
-  cannot s d g x Locality (λ υ m k. f.1 υ m k.1),
-  λ k. elim k as (λ k. place_of k < 3 → CanMeet k s d) [
-    | Equations ↦ λ h. can-equations s d g x sound
-    | Finiteness ↦ λ h. can s d g x Finiteness f.0.0 f.0.1 tt
-    | Newness ↦ λ h. can s d g x Newness f.0.0 f.0.1 f.0.2
-    | Locality ↦ λ h. absurd (omega (arith, h))
-  ],
-)
+failing-first s d g x sound Newness f = (cannot s d g x Newness (λ υ m k. f.none υ m k), before-met s d g Newness x sound f)
+failing-first s d g x sound Locality f = (cannot s d g x Locality (λ υ m k. f.none υ m k), before-met s d g Locality x sound f)
+failing-first s d g x sound Equality f = (cannot s d g x Equality (λ υ m k. f.none υ m k), before-met s d g Equality x sound f)
+failing-first s d g x sound Classes f = (cannot s d g x Classes (λ υ m k. f.none υ m k), before-met s d g Classes x sound f)
+failing-first s d g x sound Rigidity f = (cannot s d g x Rigidity (λ υ m k. f.none υ m k), before-met s d g Rigidity x sound f)
 
 -- A graph with nodes for a type more.
 pub record Grows (us : List ℕ) (t : MlType Name) (g h : Graph) (r : ℕ) : Type 0 where
   pub interns : Interns g.nodes.items us t h.nodes.items r
-  pub newness : (i : ℕ) → limit_at h.newness.items i ≡ limit_at g.newness.items i
-  pub locality : (i : ℕ) → limit_at h.locality.items i ≡ limit_at g.locality.items i
+  pub limits : (i : ℕ) → limit_at h.limits.items i ≡ limit_at g.limits.items i
 
 module _ (us : List ℕ) (t : MlType Name) (g h : Graph) (r u : ℕ) (l : Layer) where
-  pub grown-forth : Grows us t g h r → IsFull g → (τ : Assignment (world l)) → Meets (world l) g.nodes.items τ → KeepsUpTo l u g.newness.items g.locality.items τ
-      → (υ : Assignment (world l)) × Meets (world l) h.nodes.items υ × KeepsUpTo l u h.newness.items h.locality.items υ × ((i : ℕ) → i < length g.nodes.items → υ i ≡ τ i)
+  pub grown-forth : Grows us t g h r → IsFull g → (τ : Assignment (world l)) → Meets (world l) g.nodes.items τ → KeepsUpTo l u g.limits.items τ
+      → (υ : Assignment (world l)) × Meets (world l) h.nodes.items υ × KeepsUpTo l u h.limits.items υ × ((i : ℕ) → i < length g.nodes.items → υ i ≡ τ i)
   grown-forth x f τ m k =
       let y = x.interns.forth (world l) τ m in (
         y.0,
         y.1,
-        upto-as l u g.newness.items g.locality.items h.newness.items h.locality.items y.0 x.newness x.locality
-            (upto-agree l u (length g.nodes.items) g.newness.items g.locality.items τ y.0 f.newness f.locality y.2 k),
+        upto-as l u g.limits.items h.limits.items y.0 x.limits (upto-agree l u (length g.nodes.items) g.limits.items τ y.0 f.limits y.2 k),
         y.2,
       )
 
-  pub grown-back : Grows us t g h r → (υ : Assignment (world l)) → Meets (world l) h.nodes.items υ → KeepsUpTo l u h.newness.items h.locality.items υ
-      → Meets (world l) g.nodes.items υ × KeepsUpTo l u g.newness.items g.locality.items υ × (υ r ≡ typed (world l) (through (world l) us υ) t)
+  pub grown-back : Grows us t g h r → (υ : Assignment (world l)) → Meets (world l) h.nodes.items υ → KeepsUpTo l u h.limits.items υ
+      → Meets (world l) g.nodes.items υ × KeepsUpTo l u g.limits.items υ × (υ r ≡ typed (world l) (through (world l) us υ) t)
   grown-back x υ m k =
       let y = x.interns.back (world l) υ m in
-      (y.0, upto-as l u h.newness.items h.locality.items g.newness.items g.locality.items υ (λ i. sym (x.newness i)) (λ i. sym (x.locality i)) k, y.1)
+      (y.0, upto-as l u h.limits.items g.limits.items υ (λ i. sym (x.limits i)) k, y.1)
 
 pub through-agree : (w : World) (us : List ℕ) (n : ℕ) (τ υ : Assignment w) (σ : Assignment w) → AllByRecursion (λ u. u < n) us → ((i : ℕ) → i < n → υ i ≡ τ i) → ((v : ℕ) → v < length us → through w us τ v ≡ σ v) → (v : ℕ) → v < length us → through w us υ v ≡ σ v
 through-agree w us n τ υ σ a e s v h = e (get_or us v 0) (inside-at n us v a h) ∙ s v h
@@ -179,10 +191,10 @@ through-agree w us n τ υ σ a e s v h = e (get_or us v 0) (inside-at n us v a 
 pub stands-equal : (u : ℕ) (us : List ℕ) (b : Bool) (t v : MlType Name) (g h k m : Graph) (x y : ℕ) → IsFull g → IsFull h → AllByRecursion (λ i. i < length g.nodes.items) us → IsOver (length us) t → IsOver (length us) v
     → Grows us t g h x → Grows us v h k y
     → ((w : World) (σ : Assignment w) → Meets w m.nodes.items σ ↔ (Meets w k.nodes.items σ × (σ x ≡ σ y)))
-    → m.newness.items ≡ k.newness.items → m.locality.items ≡ k.locality.items
+    → m.limits.items ≡ k.limits.items
     → Stands (asked_of u us g b) (equal t v) m
 unfolding Permits
-stands-equal u us b t v g h k m x y fg fh a ot ov gx gy same en el = record {
+stands-equal u us b t v g h k m x y fg fh a ot ov gx gy same en = record {
   forth = λ l σ p q.
       let one = grown-forth us t g h x u l gx fg p.0 p.1 p.2 in
       let two = grown-forth us v h k y u l gy fh one.0 one.1 one.2 in
@@ -194,10 +206,10 @@ stands-equal u us b t v g h k m x y fg fh a ot ov gx gy same en el = record {
       let bx = grown-back us t g h x u l gx υ by.0 by.1 in
       let tx = typed-same (world l) (through (world l) us υ) σ (length us) t e2 ot in
       let ty = typed-same (world l) (through (world l) us υ) σ (length us) v e2 ov in
-      (υ, (same (world l) υ).1 (two.1, bx.2 ∙ (tx ∙ (q ∙ (sym ty ∙ sym by.2)))), upto-as l u k.newness.items k.locality.items m.newness.items m.locality.items υ (λ i. ap (λ z. limit_at z i) en) (λ i. ap (λ z. limit_at z i) el) two.2, e2);
+      (υ, (same (world l) υ).1 (two.1, bx.2 ∙ (tx ∙ (q ∙ (sym ty ∙ sym by.2)))), upto-as l u k.limits.items m.limits.items υ (λ i. ap (λ z. limit_at z i) en) two.2, e2);
   back = λ l υ z w σ e.
       let mk = (same (world l) υ).0 z in
-      let kk = upto-as l u m.newness.items m.locality.items k.newness.items k.locality.items υ (λ i. ap (λ z. limit_at z i) (sym en)) (λ i. ap (λ z. limit_at z i) (sym el)) w in
+      let kk = upto-as l u m.limits.items k.limits.items υ (λ i. ap (λ z. limit_at z i) (sym en)) w in
       let by = grown-back us v h k y u l gy υ mk.0 kk in
       let bx = grown-back us t g h x u l gx υ by.0 by.1 in
       let tx = typed-same (world l) (through (world l) us υ) σ (length us) t e ot in
@@ -230,178 +242,153 @@ clash-first u us b t v g h k x y fg fh a ot ov gx gy never = (
 )
 
 -- a node is left to do where it was changed
-pub changed-but : (u : ℕ) (ns ms : List Node) (ls : List (Option ℕ)) (is : List ℕ) → IsClosed u ns ls → SameOutside ns ms is → IsClosedBut u ms ls is
-changed-but u ns ms ls is c o i = elim (o i) [ inl e ↦ inl (rw e (c i)) | inr m ↦ inr m ]
+pub changed-but : (u : ℕ) (ns ms : List Node) (ls : List Limit) (is : List ℕ) → IsClosed ns ls → ((l : Layer) → IsFit l u ns ls) → SameOutside ns ms is → IsDoneBut u ms ls None is
+changed-but u ns ms ls is c f o i = elim (o i) [ inl e ↦ inl (rw e (c i, λ l h. f l i)) | inr m ↦ inr m ]
 
--- a type is bounded
+-- something is asked of a type
 
-within-typed : (u n : ℕ) (us : List ℕ) (t : MlType Name) (υ σ : Assignment finite) (r : ℕ) → IsOver (length us) t → ((v : ℕ) → v < length us → through finite us υ v ≡ σ v) → υ r ≡ typed finite (through finite us υ) t → υ r ≡ assign σ t
-within-typed u n us t υ σ r o e q = q ∙ typed-same finite (through finite us υ) σ (length us) t e o
+asked-at : (k l : Layer) (u : ℕ) (a : Ask) (t : MlType Name) → place_of k ≤ place_of l → (place_of (layer_of a) ≤ place_of l → IsAsAsked u a t) → MeetsAt k u (limit_of a) t
+asked-at Equations l u a t h f = tt
+asked-at Finiteness l u a t h f = tt
+asked-at Newness l u (A.Within B.Newness n) t h f = f h
+asked-at Newness l u (A.Within B.Locality n) t h f = tt
+asked-at Newness l u A.Equality t h f = tt
+asked-at Newness l u (A.Class c) t h f = tt
+asked-at Newness l u (A.Variable x) t h f = tt
+asked-at Locality l u (A.Within B.Newness n) t h f = tt
+asked-at Locality l u (A.Within B.Locality n) t h f = f h
+asked-at Locality l u A.Equality t h f = tt
+asked-at Locality l u (A.Class c) t h f = tt
+asked-at Locality l u (A.Variable x) t h f = tt
+asked-at Equality l u (A.Within B.Newness n) t h f = tt
+asked-at Equality l u (A.Within B.Locality n) t h f = tt
+asked-at Equality l u A.Equality t h f = f h
+asked-at Equality l u (A.Class c) t h f = tt
+asked-at Equality l u (A.Variable x) t h f = tt
+asked-at Classes l u (A.Within B.Newness n) t h f = tt
+asked-at Classes l u (A.Within B.Locality n) t h f = tt
+asked-at Classes l u A.Equality t h f = tt
+asked-at Classes l u (A.Class c) t h f = f h
+asked-at Classes l u (A.Variable x) t h f = tt
+asked-at Rigidity l u (A.Within B.Newness n) t h f = tt
+asked-at Rigidity l u (A.Within B.Locality n) t h f = tt
+asked-at Rigidity l u A.Equality t h f = tt
+asked-at Rigidity l u (A.Class c) t h f = tt
+asked-at Rigidity l u (A.Variable x) t h f = f h
 
-pub stands-newness : (u n : ℕ) (us : List ℕ) (b : Bool) (t : MlType Name) (g h m : Graph) (r : ℕ) (js : List ℕ) → IsFull g → AllByRecursion (λ i. i < length g.nodes.items) us → IsOver (length us) t
-    → Grows us t g h r → m.nodes.items ≡ h.nodes.items → Lowers h.newness.items [] (r ∷ []) n m.newness.items js → m.locality.items ≡ h.locality.items
-    → Stands (asked_of u us g b) (within B.Newness n t) m
-unfolding Permits
-stands-newness u n us b t g h m r js fg a ot gx en low el = record {
-  forth = λ l σ p q.
-      let one = grown-forth us t g h r u l gx fg p.0 p.1 p.2 in
-      let e1 = through-agree (world l) us (length g.nodes.items) p.0 one.0 σ a one.3 p.3 in
-      let bx = grown-back us t g h r u l gx one.0 one.1 one.2 in
-      (one.0, rw en one.1, up l one.0 σ one.2 e1 bx.2 q, e1);
-  back = λ l υ z w σ e.
-      let mh : Meets (world l) h.nodes.items υ = rw (sym en) z in
-      let d = down l υ w in
-      let bx = grown-back us t g h r u l gx υ mh d.0 in
-      ((υ, bx.0, bx.1, e), held l υ σ d.1 e bx.2);
-} where
-  up : (l : Layer) (υ σ : Assignment (world l)) → KeepsUpTo l u h.newness.items h.locality.items υ → ((v : ℕ) → v < length us → through (world l) us υ v ≡ σ v) → υ r ≡ typed (world l) (through (world l) us υ) t → Holds l u σ (within B.Newness n t) → KeepsUpTo l u m.newness.items m.locality.items υ
-  up Equations υ σ k e q w = tt
-  up Finiteness υ σ k e q w = tt
-  up Newness υ σ k e q w = lowered-keeps u n r h.newness.items m.newness.items js υ low k (rw (within-typed u n us t υ σ r ot e q) w)
-  up Locality υ σ k e q w = (lowered-keeps u n r h.newness.items m.newness.items js υ low k.0 (rw (within-typed u n us t υ σ r ot e q) w), rw el k.1)
+at-asked : (u : ℕ) (a : Ask) (t : MlType Name) → MeetsAt (layer_of a) u (limit_of a) t → IsAsAsked u a t
+at-asked u (A.Within B.Newness n) t w = w
+at-asked u (A.Within B.Locality n) t w = w
+at-asked u A.Equality t w = w
+at-asked u (A.Class c) t w = w
+at-asked u (A.Variable x) t w = w
 
-  Within : (l : Layer) → Assignment (world l) → Type 0
-  Within Equations υ = Unit {0}
-  Within Finiteness υ = Unit {0}
-  Within Newness υ = IsWithin u n (υ r)
-  Within Locality υ = IsWithin u n (υ r)
+module _ (u r : ℕ) (a : Ask) (ls ms : List Limit) (js : List ℕ) (low : Lowers ls [] (r ∷ []) (limit_of a) ms js) where
+  through-lower : (l : Layer) (τ : Assignment finite) → KeepsThrough l u ls τ → (place_of (layer_of a) ≤ place_of l → IsAsAsked u a (τ r)) → KeepsThrough l u ms τ
+  through-lower l τ k w j h = lowered-keeps j u (limit_of a) r ls ms js τ low (k j h) (asked-at j l u a (τ r) h w)
 
-  down : (l : Layer) (υ : Assignment (world l)) → KeepsUpTo l u m.newness.items m.locality.items υ → KeepsUpTo l u h.newness.items h.locality.items υ × Within l υ
-  down Equations υ k = (tt, tt)
-  down Finiteness υ k = (tt, tt)
-  down Newness υ k = keeps-lowered u n r h.newness.items m.newness.items js υ low k
-  down Locality υ k = let x = keeps-lowered u n r h.newness.items m.newness.items js υ low k.0 in ((x.0, rw (sym el) k.1), x.1)
+  through-lowered : (l : Layer) (τ : Assignment finite) → KeepsThrough l u ms τ → KeepsThrough l u ls τ × (place_of (layer_of a) ≤ place_of l → IsAsAsked u a (τ r))
+  through-lowered l τ k = (λ j h. (keeps-lowered j u (limit_of a) r ls ms js τ low (k j h)).0, λ h. at-asked u a (τ r) ((keeps-lowered (layer_of a) u (limit_of a) r ls ms js τ low (k (layer_of a) h)).1))
 
-  held : (l : Layer) (υ σ : Assignment (world l)) → Within l υ → ((v : ℕ) → v < length us → through (world l) us υ v ≡ σ v) → υ r ≡ typed (world l) (through (world l) us υ) t → Holds l u σ (within B.Newness n t)
-  held Equations υ σ w e q = tt
-  held Finiteness υ σ w e q = tt
-  held Newness υ σ w e q = subst (IsWithin u n) (within-typed u n us t υ σ r ot e q) w
-  held Locality υ σ w e q = subst (IsWithin u n) (within-typed u n us t υ σ r ot e q) w
+module _ (u : ℕ) (us : List ℕ) (b : Bool) (a : Ask) (t : MlType Name) (g h m : Graph) (r : ℕ) (js : List ℕ) (o : IsOver (length us) t) (x : LowersLimit h r (limit_of a) m js) where
+  up : (l : Layer) (υ σ : Assignment (world l)) → KeepsUpTo l u h.limits.items υ → υ r ≡ typed (world l) σ t → Holds l u σ (asks a t) → KeepsUpTo l u m.limits.items υ
+  up Equations υ σ k e w = tt
+  up Finiteness υ σ k e w = through-lower u r a h.limits.items m.limits.items js x.lowers Finiteness υ k (λ p. rw e (w p))
+  up Newness υ σ k e w = through-lower u r a h.limits.items m.limits.items js x.lowers Newness υ k (λ p. rw e (w p))
+  up Locality υ σ k e w = through-lower u r a h.limits.items m.limits.items js x.lowers Locality υ k (λ p. rw e (w p))
+  up Equality υ σ k e w = through-lower u r a h.limits.items m.limits.items js x.lowers Equality υ k (λ p. rw e (w p))
+  up Classes υ σ k e w = through-lower u r a h.limits.items m.limits.items js x.lowers Classes υ k (λ p. rw e (w p))
+  up Rigidity υ σ k e w = through-lower u r a h.limits.items m.limits.items js x.lowers Rigidity υ k (λ p. rw e (w p))
 
-pub stands-locality : (u n : ℕ) (us : List ℕ) (b : Bool) (t : MlType Name) (g h m : Graph) (r : ℕ) (js : List ℕ) → IsFull g → AllByRecursion (λ i. i < length g.nodes.items) us → IsOver (length us) t
-    → Grows us t g h r → m.nodes.items ≡ h.nodes.items → Lowers h.locality.items [] (r ∷ []) n m.locality.items js → m.newness.items ≡ h.newness.items
-    → Stands (asked_of u us g b) (within B.Locality n t) m
-unfolding Permits
-stands-locality u n us b t g h m r js fg a ot gx en low el = record {
-  forth = λ l σ p q.
-      let one = grown-forth us t g h r u l gx fg p.0 p.1 p.2 in
-      let e1 = through-agree (world l) us (length g.nodes.items) p.0 one.0 σ a one.3 p.3 in
-      let bx = grown-back us t g h r u l gx one.0 one.1 one.2 in
-      (one.0, rw en one.1, up l one.0 σ one.2 e1 bx.2 q, e1);
-  back = λ l υ z w σ e.
-      let mh : Meets (world l) h.nodes.items υ = rw (sym en) z in
-      let d = down l υ w in
-      let bx = grown-back us t g h r u l gx υ mh d.0 in
-      ((υ, bx.0, bx.1, e), held l υ σ d.1 e bx.2);
-} where
-  up : (l : Layer) (υ σ : Assignment (world l)) → KeepsUpTo l u h.newness.items h.locality.items υ → ((v : ℕ) → v < length us → through (world l) us υ v ≡ σ v) → υ r ≡ typed (world l) (through (world l) us υ) t → Holds l u σ (within B.Locality n t) → KeepsUpTo l u m.newness.items m.locality.items υ
-  up Equations υ σ k e q w = tt
-  up Finiteness υ σ k e q w = tt
-  up Newness υ σ k e q w = rw el k
-  up Locality υ σ k e q w = (rw el k.0, lowered-keeps u n r h.locality.items m.locality.items js υ low k.1 (rw (within-typed u n us t υ σ r ot e q) w))
+  down : (l : Layer) (υ : Assignment (world l)) → KeepsUpTo l u m.limits.items υ → KeepsUpTo l u h.limits.items υ
+  down Equations υ k = tt
+  down Finiteness υ k = (through-lowered u r a h.limits.items m.limits.items js x.lowers Finiteness υ k).0
+  down Newness υ k = (through-lowered u r a h.limits.items m.limits.items js x.lowers Newness υ k).0
+  down Locality υ k = (through-lowered u r a h.limits.items m.limits.items js x.lowers Locality υ k).0
+  down Equality υ k = (through-lowered u r a h.limits.items m.limits.items js x.lowers Equality υ k).0
+  down Classes υ k = (through-lowered u r a h.limits.items m.limits.items js x.lowers Classes υ k).0
+  down Rigidity υ k = (through-lowered u r a h.limits.items m.limits.items js x.lowers Rigidity υ k).0
 
-  Within : (l : Layer) → Assignment (world l) → Type 0
-  Within Equations υ = Unit {0}
-  Within Finiteness υ = Unit {0}
-  Within Newness υ = Unit {0}
-  Within Locality υ = IsWithin u n (υ r)
+  held : (l : Layer) (υ σ : Assignment (world l)) → KeepsUpTo l u m.limits.items υ → υ r ≡ typed (world l) σ t → Holds l u σ (asks a t)
+  held Equations υ σ k e = tt
+  held Finiteness υ σ k e = λ p. subst (IsAsAsked u a) e ((through-lowered u r a h.limits.items m.limits.items js x.lowers Finiteness υ k).1 p)
+  held Newness υ σ k e = λ p. subst (IsAsAsked u a) e ((through-lowered u r a h.limits.items m.limits.items js x.lowers Newness υ k).1 p)
+  held Locality υ σ k e = λ p. subst (IsAsAsked u a) e ((through-lowered u r a h.limits.items m.limits.items js x.lowers Locality υ k).1 p)
+  held Equality υ σ k e = λ p. subst (IsAsAsked u a) e ((through-lowered u r a h.limits.items m.limits.items js x.lowers Equality υ k).1 p)
+  held Classes υ σ k e = λ p. subst (IsAsAsked u a) e ((through-lowered u r a h.limits.items m.limits.items js x.lowers Classes υ k).1 p)
+  held Rigidity υ σ k e = λ p. subst (IsAsAsked u a) e ((through-lowered u r a h.limits.items m.limits.items js x.lowers Rigidity υ k).1 p)
 
-  down : (l : Layer) (υ : Assignment (world l)) → KeepsUpTo l u m.newness.items m.locality.items υ → KeepsUpTo l u h.newness.items h.locality.items υ × Within l υ
-  down Equations υ k = (tt, tt)
-  down Finiteness υ k = (tt, tt)
-  down Newness υ k = (rw (sym el) k, tt)
-  down Locality υ k = let x = keeps-lowered u n r h.locality.items m.locality.items js υ low k.1 in ((rw (sym el) k.0, x.0), x.1)
+  pub stands-asked : IsFull g → AllByRecursion (λ i. i < length g.nodes.items) us → Grows us t g h r → Stands (asked_of u us g b) (asks a t) m
+  unfolding Permits
+  stands-asked fg inside gx = record {
+    forth = λ l σ p q.
+        let one = grown-forth us t g h r u l gx fg p.0 p.1 p.2 in
+        let e1 = through-agree (world l) us (length g.nodes.items) p.0 one.0 σ inside one.3 p.3 in
+        let bx = grown-back us t g h r u l gx one.0 one.1 one.2 in
+        let e2 = bx.2 ∙ typed-same (world l) (through (world l) us one.0) σ (length us) t e1 o in
+        (one.0, rw x.nodes one.1, up l one.0 σ one.2 e2 q, e1);
+    back = λ l υ z w σ e.
+        let mh : Meets (world l) h.nodes.items υ = rw (sym x.nodes) z in
+        let bx = grown-back us t g h r u l gx υ mh (down l υ w) in
+        let e2 = bx.2 ∙ typed-same (world l) (through (world l) us υ) σ (length us) t e o in
+        ((υ, bx.0, bx.1, e), held l υ σ w e2);
+  }
 
-  held : (l : Layer) (υ σ : Assignment (world l)) → Within l υ → ((v : ℕ) → v < length us → through (world l) us υ v ≡ σ v) → υ r ≡ typed (world l) (through (world l) us υ) t → Holds l u σ (within B.Locality n t)
-  held Equations υ σ w e q = tt
-  held Finiteness υ σ w e q = tt
-  held Newness υ σ w e q = tt
-  held Locality υ σ w e q = subst (IsWithin u n) (within-typed u n us t υ σ r ot e q) w
-
-pub stands-bound : (u n : ℕ) (us : List ℕ) (b : Bool) (k : Bound) (t : MlType Name) (g h m : Graph) (r : ℕ) (js : List ℕ) → IsFull g → AllByRecursion (λ i. i < length g.nodes.items) us → IsOver (length us) t
-    → Grows us t g h r → LowersBound k h r n m js → Stands (asked_of u us g b) (within k n t) m
-stands-bound u n us b B.Newness t g h m r js fg a ot gx x = stands-newness u n us b t g h m r js fg a ot gx x.nodes x.lowers x.locality
-stands-bound u n us b B.Locality t g h m r js fg a ot gx x = stands-locality u n us b t g h m r js fg a ot gx x.nodes x.lowers x.newness
-
-pub bound-nodes : (k : Bound) (h : Graph) (r n : ℕ) (m : Graph) (js : List ℕ) → LowersBound k h r n m js → m.nodes.items ≡ h.nodes.items
-bound-nodes B.Newness h r n m js x = x.nodes
-bound-nodes B.Locality h r n m js x = x.nodes
-
-closed-same : (u : ℕ) (ns : List Node) (ls : List (Option ℕ)) (is : List ℕ) → IsClosed u ns ls → IsClosedBut u ns ls is
-closed-same u ns ls is c i = inl (c i)
-
-pub bound-changed : (u : ℕ) (k : Bound) (h : Graph) (r n : ℕ) (m : Graph) (js : List ℕ) → IsWhole u h → LowersBound k h r n m js → IsChanged u m js
-bound-changed u B.Newness h r n m js w x =
+pub limit-changed : (u : ℕ) (a : Limit) (h : Graph) (r : ℕ) (m : Graph) (js : List ℕ) → IsWhole u h → LowersLimit h r a m js → IsChanged u m js
+limit-changed u a h r m js w x =
     let e = x.nodes in
     record {
       full = record {
-        newness = x.lowers.len ∙ (w.full.newness ∙ ap length (sym e));
-        locality = ap length x.locality ∙ (w.full.locality ∙ ap length (sym e));
+        limits = x.lowers.len ∙ (w.full.limits ∙ ap length (sym e));
         marks = ap length x.marks ∙ (w.full.marks ∙ ap length (sym e));
         below = record { below = λ i. rw (x.marks, x.stamp) (w.full.below.below i); positive = rw x.stamp w.full.below.positive };
       };
       sound = rw e w.sound;
-      inside = rw e (subst (λ q. AllByRecursion (λ i. i < q) js) w.full.newness (x.lowers.inside tt));
+      inside = rw e (subst (λ q. AllByRecursion (λ i. i < q) js) w.full.limits (x.lowers.inside tt));
       before = h.nodes.items;
       rank = w.rank;
       outside = λ i. inl (ap (λ z. node_at z i) e);
-      newness = rw e (but-lowered u n h.nodes.items h.newness.items m.newness.items (r ∷ []) js w.newness x.lowers);
-      locality = rw (e, x.locality) (closed-same u h.nodes.items h.locality.items js w.locality);
-    }
-bound-changed u B.Locality h r n m js w x =
-    let e = x.nodes in
-    record {
-      full = record {
-        newness = ap length x.newness ∙ (w.full.newness ∙ ap length (sym e));
-        locality = x.lowers.len ∙ (w.full.locality ∙ ap length (sym e));
-        marks = ap length x.marks ∙ (w.full.marks ∙ ap length (sym e));
-        below = record { below = λ i. rw (x.marks, x.stamp) (w.full.below.below i); positive = rw x.stamp w.full.below.positive };
-      };
-      sound = rw e w.sound;
-      inside = rw e (subst (λ q. AllByRecursion (λ i. i < q) js) w.full.locality (x.lowers.inside tt));
-      before = h.nodes.items;
-      rank = w.rank;
-      outside = λ i. inl (ap (λ z. node_at z i) e);
-      newness = rw (e, x.newness) (closed-same u h.nodes.items h.newness.items js w.newness);
-      locality = rw e (but-lowered u n h.nodes.items h.locality.items m.locality.items (r ∷ []) js w.locality x.lowers);
+      but = rw e (but-lowered u a h.nodes.items h.limits.items m.limits.items (r ∷ []) js w.closed w.fit x.lowers);
     }
 
 -- a solver with no unknown
 
-pub kept-none : (u : ℕ) (g : Graph) (us : List ℕ) → g.nodes.items ≡ [] → g.newness.items ≡ [] → g.locality.items ≡ [] → g.marks.items ≡ [] → g.stamp ≡ 1 → us ≡ [] → IsKept u g us
-kept-none u g us a b c d e f = record {
+pub kept-none : (u : ℕ) (g : Graph) (us : List ℕ) → g.nodes.items ≡ [] → g.limits.items ≡ [] → g.marks.items ≡ [] → g.stamp ≡ 1 → us ≡ [] → IsKept u g us
+kept-none u g us a b d e f = record {
   whole = record {
     full = record {
-      newness = rw (a, b) refl;
-      locality = rw (a, c) refl;
+      limits = rw (a, b) refl;
       marks = rw (a, d) refl;
       below = record { below = λ i. rw (d, e) (omega arith); positive = rw e (omega arith) };
     };
     sound = rw a (λ i. tt);
     rank = record { rank = λ i. 0; ranked = rw a (λ i. tt) };
-    newness = rw a (λ i. tt);
-    locality = rw a (λ i. tt);
+    closed = rw a (λ i. tt);
+    fit = λ l. rw (a, b) (λ i. none-fits l u Unknown);
   };
-  inside = rw f tt;
+  owners = owners-none g.nodes.items us a f;
 }
 
-pub whole-met : (u : ℕ) (g : Graph) (us : List ℕ) (b : Bool) → IsWhole u g → IsMet (asked_of u us g b)
+whole-met-finite : (u : ℕ) (g : Graph) → (0 ≡ u → ⊥) → IsWhole u g → (σ : Assignment finite) × Meets finite g.nodes.items σ × ((k : Layer) → KeepsAt k u g.limits.items σ)
+whole-met-finite u g d w =
+    let r = w.rank in
+    let ρ = stand_ins g.limits.items in
+    (solution g.nodes.items ρ r.rank, solution-meets g.nodes.items ρ r.rank r.ranked, λ k. stands-keep k u g.nodes.items g.limits.items r.rank d r.ranked w.closed w.fit)
+
+pub whole-met : (u : ℕ) (g : Graph) (us : List ℕ) (b : Bool) → (0 ≡ u → ⊥) → IsWhole u g → IsMet (asked_of u us g b)
 unfolding IsMet Permits
-whole-met u g us b w Equations = let t = has_infinite g.nodes.items w.sound in (through infinite us t.0, (t.0, t.1, tt, λ v h. refl))
-whole-met u g us b w Finiteness = let t = finite_of g.nodes.items w.rank in (through finite us t.0, (t.0, t.1, tt, λ v h. refl))
-whole-met u g us b w Newness =
-    let σ = solution g.nodes.items nothing w.rank.rank in
-    (through finite us σ, (σ, solution-meets g.nodes.items nothing w.rank.rank w.rank.ranked, solution-keeps u g.nodes.items g.newness.items w.rank.rank w.rank.ranked w.newness, λ v h. refl))
-whole-met u g us b w Locality =
-    let σ = solution g.nodes.items nothing w.rank.rank in
-    let k = solution-keeps u g.nodes.items g.newness.items w.rank.rank w.rank.ranked w.newness in
-    let k' = solution-keeps u g.nodes.items g.locality.items w.rank.rank w.rank.ranked w.locality in
-    (through finite us σ, (σ, solution-meets g.nodes.items nothing w.rank.rank w.rank.ranked, (k, k'), λ v h. refl))
+whole-met u g us b d w Equations = let t = has_infinite g.nodes.items w.sound in (through infinite us t.0, (t.0, t.1, tt, λ v h. refl))
+whole-met u g us b d w Finiteness = let t = whole-met-finite u g d w in (through finite us t.0, (t.0, t.1, λ k h. t.2 k, λ v h. refl))
+whole-met u g us b d w Newness = let t = whole-met-finite u g d w in (through finite us t.0, (t.0, t.1, λ k h. t.2 k, λ v h. refl))
+whole-met u g us b d w Locality = let t = whole-met-finite u g d w in (through finite us t.0, (t.0, t.1, λ k h. t.2 k, λ v h. refl))
+whole-met u g us b d w Equality = let t = whole-met-finite u g d w in (through finite us t.0, (t.0, t.1, λ k h. t.2 k, λ v h. refl))
+whole-met u g us b d w Classes = let t = whole-met-finite u g d w in (through finite us t.0, (t.0, t.1, λ k h. t.2 k, λ v h. refl))
+whole-met u g us b d w Rigidity = let t = whole-met-finite u g d w in (through finite us t.0, (t.0, t.1, λ k h. t.2 k, λ v h. refl))
 
 -- an unknown more
 
-pub kept-fresh : (u : ℕ) (g h : Graph) (us vs : List ℕ) → IsKept u g us → h.nodes.items ≡ g.nodes.items ++ Unknown ∷ [] → ((i : ℕ) → limit_at h.newness.items i ≡ limit_at g.newness.items i) → ((i : ℕ) → limit_at h.locality.items i ≡ limit_at g.locality.items i) → IsFull h → vs ≡ us ++ length g.nodes.items ∷ [] → IsKept u h vs
-kept-fresh u g h us vs k e a b full f =
+pub kept-fresh : (u : ℕ) (g h : Graph) (us vs : List ℕ) → IsKept u g us → h.nodes.items ≡ g.nodes.items ++ Unknown ∷ [] → ((i : ℕ) → limit_at h.limits.items i ≡ limit_at g.limits.items i) → IsFull h → vs ≡ us ++ length g.nodes.items ∷ [] → length us < 2 ^ 32 → IsKept u h vs
+kept-fresh u g h us vs k e a full f few =
     let ns = g.nodes.items in
     let w = k.whole in
     let n : length h.nodes.items ≡ length ns + 1 = ap length e ∙ simp length-append in
@@ -411,31 +398,31 @@ kept-fresh u g h us vs k e a b full f =
         full = full;
         sound = λ i. rw (same i) (sound-more (length ns) (length h.nodes.items) i (node_at ns i) (omega (arith, n)) (w.sound i));
         rank = record { rank = w.rank.rank; ranked = λ i. rw (same i) (w.rank.ranked i) };
-        newness = closed-more u ns h.nodes.items g.newness.items h.newness.items w.full.newness (λ i l. same i) a w.newness;
-        locality = closed-more u ns h.nodes.items g.locality.items h.locality.items w.full.locality (λ i l. same i) b w.locality;
+        closed = closed-more ns h.nodes.items g.limits.items h.limits.items w.full.limits (λ i l. same i) a w.closed;
+        fit = λ l. fit-more l u ns h.nodes.items g.limits.items h.limits.items w.full.limits (λ i l. same i) a (w.fit l);
       };
-      inside = rw f (all-append (λ i. i < length h.nodes.items) us (length ns ∷ []) (inside-more (length ns) (length h.nodes.items) us (omega (arith, n)) k.inside) (omega (arith, n), tt));
+      owners = owners-fresh ns h.nodes.items us vs k.owners e f few;
     }
 
-pub permits-fresh : (u : ℕ) (g h : Graph) (us vs : List ℕ) (b d : Bool) → IsKept u g us → h.nodes.items ≡ g.nodes.items ++ Unknown ∷ [] → ((i : ℕ) → limit_at h.newness.items i ≡ limit_at g.newness.items i) → ((i : ℕ) → limit_at h.locality.items i ≡ limit_at g.locality.items i) → vs ≡ us ++ length g.nodes.items ∷ [] → PermitsSame (asked_of u us g b) (asked_of u vs h d)
+pub permits-fresh : (u : ℕ) (g h : Graph) (us vs : List ℕ) (b d : Bool) → IsKept u g us → h.nodes.items ≡ g.nodes.items ++ Unknown ∷ [] → ((i : ℕ) → limit_at h.limits.items i ≡ limit_at g.limits.items i) → vs ≡ us ++ length g.nodes.items ∷ [] → PermitsSame (asked_of u us g b) (asked_of u vs h d)
 unfolding PermitsSame Permits
-permits-fresh u g h us vs b d k e x y f l σ =
+permits-fresh u g h us vs b d k e x f l σ =
     let ns = g.nodes.items in
     let w = world l in
     let n : length vs ≡ length us + 1 = ap length f ∙ simp length-append in
     let same : (i : ℕ) → node_at h.nodes.items i ≡ node_at ns i = λ i. ap (λ z. node_at z i) e ∙ get_or-push ns Unknown i in
     let old : (v : ℕ) → v < length us → get_or vs v 0 ≡ get_or us v 0 = λ v z. ap (λ zs. get_or zs v 0) f ∙ get_or-left us (length ns ∷ []) v 0 z in (
-      λ p. (p.0, λ i. rw (same i) at (p.1 i), upto-as l u h.newness.items h.locality.items g.newness.items g.locality.items p.0 (λ i. sym (x i)) (λ i. sym (y i)) p.2, λ v z. ap p.0 (sym (old v z)) ∙ p.3 v (omega (arith, z, n))),
+      λ p. (p.0, λ i. rw (same i) at (p.1 i), upto-as l u h.limits.items g.limits.items p.0 (λ i. sym (x i)) p.2, λ v z. ap p.0 (sym (old v z)) ∙ p.3 v (omega (arith, z, n))),
       λ p.
           let υ : Assignment w = beyond w p.0 (length ns) (λ _. σ (length us)) in
           let agree : (i : ℕ) → i < length ns → υ i ≡ p.0 i = λ i z. beyond-below w p.0 (length ns) (λ _. σ (length us)) i z in
           let m = meets-beyond w ns p.0 (length ns) (λ _. σ (length us)) (omega arith) k.whole.sound p.1 in (
             υ,
             λ i. rw (same i) (m i),
-            upto-as l u g.newness.items g.locality.items h.newness.items h.locality.items υ x y (upto-agree l u (length ns) g.newness.items g.locality.items p.0 υ k.whole.full.newness k.whole.full.locality agree p.2),
+            upto-as l u g.limits.items h.limits.items υ x (upto-agree l u (length ns) g.limits.items p.0 υ k.whole.full.limits agree p.2),
             λ v z.
                 elim (cases_lt v (length us)) [
-                  | inl a ↦ ap υ (old v a) ∙ (agree (get_or us v 0) (inside-at (length ns) us v k.inside a) ∙ p.3 v a)
+                  | inl a ↦ ap υ (old v a) ∙ (agree (get_or us v 0) (inside-at (length ns) us v k.owners.inside a) ∙ p.3 v a)
                   | inr c ↦
                       let q : v ≡ length us + 0 = omega (arith, c, z, n) in
                       let r : length us ≡ v = omega (arith, c, z, n) in
@@ -460,8 +447,26 @@ permits-grown u us b d t g h r k x l σ = (
   λ p. let y = grown-back us t g h r u l x p.0 p.1 p.2 in (p.0, y.0, y.1, p.3),
   λ p.
       let y = grown-forth us t g h r u l x k.whole.full p.0 p.1 p.2 in
-      (y.0, y.1, y.2, through-agree (world l) us (length g.nodes.items) p.0 y.0 σ k.inside y.3 p.3),
+      (y.0, y.1, y.2, through-agree (world l) us (length g.nodes.items) p.0 y.0 σ k.owners.inside y.3 p.3),
 )
 
 pub kept-grown : (u : ℕ) (us : List ℕ) (t : MlType Name) (g h : Graph) (r : ℕ) → IsKept u g us → Grows us t g h r → IsWhole u h → IsKept u h us
-kept-grown u us t g h r k x w = record { whole = w; inside = inside-more (length g.nodes.items) (length h.nodes.items) us x.interns.len k.inside }
+kept-grown u us t g h r k x w = record { whole = w; owners = owners-grown g.nodes.items us t h.nodes.items r k.owners x.interns }
+
+-- one equation more
+
+pub kept-merged : (u : ℕ) (us : List ℕ) (t v : MlType Name) (g h k m f : Graph) (x y : ℕ) → IsKept u g us → Grows us t g h x → Grows us v h k y → IsSound k.nodes.items → length m.nodes.items ≡ length k.nodes.items → ((σ : Assignment finite) → Meets finite m.nodes.items σ → Meets finite k.nodes.items σ) → Finishes u m f → IsKept u f us
+kept-merged u us t v g h k m f x y kept gx gy s n back z =
+    let e = z.nodes in
+    record {
+      whole = z.whole;
+      owners = owners-merged k.nodes.items f.nodes.items us (owners-grown h.nodes.items us v k.nodes.items y (owners-grown g.nodes.items us t h.nodes.items x kept.owners gx.interns) gy.interns) (ap length e ∙ n) s z.whole.sound z.whole.rank (λ σ q. back σ (rw e at q));
+    }
+
+-- limits are lowered
+
+pub kept-lowered : (u : ℕ) (us : List ℕ) (t : MlType Name) (g h m f : Graph) (x : ℕ) → IsKept u g us → Grows us t g h x → m.nodes.items ≡ h.nodes.items → Finishes u m f → IsKept u f us
+kept-lowered u us t g h m f x kept gx e z = record {
+  whole = z.whole;
+  owners = rw (z.nodes, e) (owners-grown g.nodes.items us t h.nodes.items x kept.owners gx.interns);
+}

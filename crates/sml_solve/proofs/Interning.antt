@@ -15,8 +15,9 @@ use Rattle.sml_solve.specs.declared.node.Head.TheVariants.{Row}
 use Rattle.sml_solve.specs.declared.node.Node.{Node}
 use Rattle.sml_solve.specs.declared.node.Node.TheVariants.{Unknown, Link, App}
 use Rattle.sml_solve.specs.Worlds.{World, finite, infinite, In, Assignment, make, tree, spread, spread_all, typed}
-use Rattle.sml_solve.specs.Graphs.{node_at, Agrees, Meets, IsSound, IsSoundNode, parts, head_over, labels}
+use Rattle.sml_solve.specs.Graphs.{node_at, Agrees, Meets, IsSound, IsSoundNode, IsCountOf, IsKnown, parts, head_over, labels}
 use Rattle.sml_solve.specs.Interned.{IsOver, AreOver, IsBodyOver, AreBodiesOver, through, Interns, IsInterning, numbers, IsHeadOver, IsUnknownAt, Expands}
+use Rattle.sml_solve.specs.Reads.{sizes}
 use Rattle.sml_solve.proofs.Merging.{same_or_not, all-append}
 
 -- lists
@@ -157,12 +158,12 @@ agrees-alike w σ τ i (App f kids) e a h = sym e ∙ (h ∙ ap (make w (head_ov
 pub parts-inside : (n i : ℕ) (m : Node) → i < n → IsSoundNode n i m → AllByRecursion (λ k. k < n) (parts m)
 parts-inside n i Unknown h s = tt
 parts-inside n i (Link j) h s = (omega (arith, h, s), tt)
-parts-inside n i (App f kids) h s = s
+parts-inside n i (App f kids) h s = s.0
 
 pub sound-more : (n m i : ℕ) (x : Node) → n ≤ m → IsSoundNode n i x → IsSoundNode m i x
 sound-more n m i Unknown h s = tt
 sound-more n m i (Link j) h s = s
-sound-more n m i (App f kids) h s = inside-more n m kids.items h s
+sound-more n m i (App f kids) h s = (inside-more n m kids.items h s.0, s.1)
 
 -- an assignment with other types from k on
 abbrev pub beyond : (w : World) → Assignment w → ℕ → (ℕ → In w) → Assignment w
@@ -206,6 +207,14 @@ sound-push b ns n s a i =
       | inr d ↦ rw (node_at-before ns n i d) (s i)
     ]
 
+filled-push : (b : ℕ) (ns : List Node) (n : Node) → ((i : ℕ) → b ≤ i → i < length ns → IsKnown (node_at ns i)) → IsKnown n → (i : ℕ) → b ≤ i → i < length (ns ++ n ∷ []) → IsKnown (node_at (ns ++ n ∷ []) i)
+filled-push b ns n f k i h l =
+    let len : length (ns ++ n ∷ []) ≡ length ns + 1 = simp length-append in
+    elim (same_or_not i (length ns)) [
+      | inl e ↦ rw (e, node_at-last ns n) k
+      | inr d ↦ rw (node_at-before ns n i d) (f i h (omega (arith, l, len, d)))
+    ]
+
 -- what a node for a type is
 
 pub not-bound : (n k : ℕ) (t : O.MlType Name) → t ≡ O.bound k → IsOver n t → ⊥
@@ -219,8 +228,8 @@ free-over n v t e o = rw e at o
 pub row-type : (ts : List (O.MlType Name)) → O.tuple_of (types_of ts) ≡ O.app (head_over Row (length ts)) (types_of ts)
 row-type ts = ap (λ ls. O.app (O.row ls) (types_of ts)) (labels-are 1 ts)
 
-pub expands-head : (t : O.MlType Name) (us : List ℕ) (k : ℕ) (h : Head) (v : SmallVec ℕ) (ss ts more : List (O.MlType Name)) → t ≡ O.app (head_over h (length more)) (types_of more) → v.items ≡ numbers k (length more) → ts ≡ ss ++ more → Expands t us k (App h v) ss ts
-expands-head t us k h v ss ts more a b c = inr (record { head = h; kids = v; more = more; type = a; node = refl; places = b; rest = c })
+pub expands-head : (t : O.MlType Name) (us : List ℕ) (k : ℕ) (h : Head) (v : SmallVec ℕ) (ss ts more : List (O.MlType Name)) → t ≡ O.app (head_over h (length more)) (types_of more) → v.items ≡ numbers k (length more) → IsCountOf h (length more) → ts ≡ ss ++ more → Expands t us k (App h v) ss ts
+expands-head t us k h v ss ts more a b n c = inr (record { head = h; kids = v; more = more; type = a; node = refl; places = b; count = n; rest = c })
 
 pub expands-unknown : (t : O.MlType Name) (us : List ℕ) (k u : ℕ) (n : Node) (ss : List (O.MlType Name)) → u < length us → t ≡ O.free u → n ≡ Link (get_or us u 0) → Expands t us k n ss ss
 expands-unknown t us k u n ss h a b = inl (record { unknown = u; known = h; type = a; node = b; rest = refl })
@@ -233,16 +242,12 @@ two-places ps qs rs k x y a b c d e = rw (c, b, a, d, e, add-one) refl
 
 -- the way to nodes for a type
 
-abbrev pub sizes : List (O.MlType Name) → ℕ
-sizes [] = 0
-sizes (t ∷ ts) = type_size t + sizes ts
-
-types_size-is : (ts : List (O.MlType Name)) → types_size (types_of ts) ≡ sizes ts
+pub types_size-is : (ts : List (O.MlType Name)) → types_size (types_of ts) ≡ sizes ts
 unfolding types_size
 types_size-is [] = refl
 types_size-is (t ∷ ts) = ap (λ n. type_size t + n) (types_size-is ts)
 
-sizes-append : (ss ts : List (O.MlType Name)) → sizes (ss ++ ts) ≡ sizes ss + sizes ts
+pub sizes-append : (ss ts : List (O.MlType Name)) → sizes (ss ++ ts) ≡ sizes ss + sizes ts
 sizes-append [] ts = omega arith
 sizes-append (s ∷ ss) ts = let r = sizes-append ss ts in omega (arith, r)
 
@@ -280,6 +285,7 @@ interning-first ns us t ts s o e =
       over = rw e (o, tt);
       sound = more;
       before = λ i l. refl;
+      filled = λ i h l. absurd (omega (arith, h, l));
       back = λ w τ m pend. (m, ap τ (sym z) ∙ (pend 0 (omega arith) (omega (arith, n)) ∙ ap (λ xs. typed w (through w us τ) (get_or xs 0 (O.free 0))) e));
       forth = λ w τ m.
           let f = λ (x : ℕ). typed w (through w us τ) (get_or ts x (O.free 0)) in (
@@ -303,6 +309,7 @@ next-unknown ns us t ms ss ts k n a i h e =
       first = omega (arith, h, le);
       over = rw e.rest i.over;
       sound = rw e.rest (sound-push (length ns + length ss) ms n i.sound (node (length ns + length ss)));
+      filled = filled-push (length ns) ms n i.filled (rw e.node tt);
       before = λ x l. node_at-before ms n x (λ q. omega (arith, p, l, q)) ∙ i.before x l;
       back = λ w τ m pend.
           let here : τ (length ms) ≡ τ (get_or us e.unknown 0) = rw (node_at-last ms n, e.node) at (m (length ms)) in
@@ -335,7 +342,8 @@ next-head ns us t ms ss ts k n i h e =
       known = omega (arith, h, le);
       first = omega (arith, h, le);
       over = rw e.rest (all-append (IsOver (length us)) ss e.more i.over (over-parts (length us) (head_over e.head (length e.more)) e.more here-over));
-      sound = sound-push (length ns + length ts) ms n (λ x. sound-more b (length ns + length ts) x (node_at ms x) (omega (arith, le)) (i.sound x)) (rw e.node inside);
+      sound = sound-push (length ns + length ts) ms n (λ x. sound-more b (length ns + length ts) x (node_at ms x) (omega (arith, le)) (i.sound x)) (rw e.node (inside, rw count e.count));
+      filled = filled-push (length ns) ms n i.filled (rw e.node tt);
       before = λ x l. node_at-before ms n x (λ q. omega (arith, p, l, q)) ∙ i.before x l;
       back = λ w τ m pend.
           let σ = through w us τ in
@@ -392,6 +400,7 @@ interning-last ns us t ms ts k i h =
       inside = omega (arith, p, f, h);
       sound = λ x. subst (λ b. IsSoundNode b x (node_at ms x)) n (i.sound x);
       before = i.before;
+      filled = i.filled;
       back = λ w τ m. i.back w τ m (λ j ge lt. absurd (omega (arith, ge, lt, h)));
       forth = λ w τ m. let g = i.forth w τ m in (g.0, g.1, g.2);
     }

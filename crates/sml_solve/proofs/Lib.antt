@@ -2,9 +2,13 @@ pub mod Worlding
 pub mod Merging
 pub mod Interning
 pub mod Searching
+pub mod Asking
 pub mod Limiting
 pub mod Ranking
 pub mod Walks
 pub mod Wholeness
 pub mod Demanding
 pub mod Counting
+pub mod Retrieving
+pub mod Owning
+pub mod Overloading

@@ -147,7 +147,7 @@ link_parts ns ps high low f g kids others s a o h e d fg n =
     record {
       len = length-set ns high (Link low);
       sound = IsSound-set ns high (Link low) s h o;
-      inside = rw length-set (ArePairsIn-append (length ns) ps (pairs_of kids.items others.items) a (ArePairsIn-of (length ns) kids.items others.items k k'));
+      inside = rw length-set (ArePairsIn-append (length ns) ps (pairs_of kids.items others.items) a (ArePairsIn-of (length ns) kids.items others.items k.0 k'.0));
       less =
           let x = weight-set ns high (Link low) h in
           let ex : size (node_at ns high) ≡ length kids.items = ap size e in

@@ -1,21 +1,27 @@
 -- Finite types for the nodes.
-use Rattle.std.proofs.Common.{◌≡◌, ◌≢◌, ℕ, zero, suc, ◌+◌, ◌*◌, ◌<◌, ◌≤◌, inl, inr, Option, Some, None, List, [], ◌∷◌, length, map, ◌∙◌, ap, refl, arith}
+use Rattle.std.proofs.Common.{◌≡◌, ◌≢◌, ℕ, zero, suc, ◌+◌, ◌*◌, ◌<◌, ◌≤◌, inl, inr, List, [], ◌∷◌, length, map, ◌∙◌, ap, subst, refl, arith}
 use Rattle.std.proofs.Math.Nat.{mul-le-mul_left}
 use Rattle.std.specs.List.{AllByRecursion}
-use Rattle.sml_objects.specs.Initial.{Name}
+use Rattle.sml_objects.specs.Names.{int}
+use Rattle.sml_objects.specs.Initial.{Name, initial}
 use Rattle.sml_objects.specs.Objects as O
 use Rattle.sml_objects.specs.Sizes.{type_size, types_size}
 use Rattle.sml_objects.specs.Views.{types_of}
+use Rattle.sml_solve.specs.declared.layer.Layer.{Layer}
+use Rattle.sml_solve.specs.declared.layer.Layer.TheVariants.{Rigidity}
+use Rattle.sml_solve.specs.declared.limits.Limit.{Limit}
 use Rattle.sml_solve.specs.declared.node.Node.{Node}
 use Rattle.sml_solve.specs.declared.node.Node.TheVariants.{Unknown, Link, App}
 use Rattle.sml_solve.specs.Worlds.{finite, Assignment, make}
 use Rattle.sml_solve.specs.Graphs.{node_at, parts, head_over, Agrees, Meets, IsSound, IsSoundNode, IsAmong, SameOutside}
 use Rattle.sml_solve.specs.Ranks.{HasFinite, IsRanked, HasRank, mark_at, IsSearch}
-use Rattle.sml_solve.specs.Bounds.{IsWithin, limit_at, MeetsLimit, Keeps, IsUnder, MeetsHead, IsClosedNode, IsClosed}
+use Rattle.sml_solve.specs.Limits.{limit_at, MeetsAt, KeepsAt, IsUnder, IsFitNode, handed, IsClosed, IsFit}
+use Rattle.sml_solve.specs.Layers.{place_of}
+use Rattle.sml_solve.specs.Variables.{stand_in}
 use Rattle.sml_solve.proofs.Merging.{same_or_not}
 use Rattle.sml_solve.proofs.Interning.{map-alike}
 use Rattle.sml_solve.proofs.Searching.{all-parts}
-use Rattle.sml_solve.proofs.Limiting.{limit-more, within-app}
+use Rattle.sml_solve.proofs.Asking.{value, node-meets, int-meets, stands-meets}
 
 -- a rank from types: their sizes, and the places among nodes of one type
 
@@ -39,7 +45,7 @@ rank-node σ n i (Link j) s a =
     (omega (arith, e, s), tt)
 rank-node σ n i (App h kids) s a =
     let e : type_size (σ i) ≡ suc (types_size (types_of (map σ kids.items))) = ap type_size a in
-    ranks-below σ n i kids.items s (sizes-below σ kids.items (type_size (σ i)) (omega (arith, e)))
+    ranks-below σ n i kids.items s.0 (sizes-below σ kids.items (type_size (σ i)) (omega (arith, e)))
 
 pub rank_of : (ns : List Node) → IsSound ns → HasFinite ns → HasRank ns
 rank_of ns s f = record {
@@ -48,11 +54,6 @@ rank_of ns s f = record {
 }
 
 -- types from a rank: the unknowns have any types, and all others have theirs
-
-abbrev pub value : Assignment finite → O.MlType Name → Node → O.MlType Name
-value σ t Unknown = t
-value σ t (Link j) = σ j
-value σ t (App h kids) = make finite (head_over h (length kids.items)) (map σ kids.items)
 
 abbrev pub types_within : List Node → Assignment finite → ℕ → Assignment finite
 types_within ns ρ zero i = ρ i
@@ -87,40 +88,38 @@ solution-meets ns ρ r a i = value-agrees (solution ns ρ r) i (ρ i) (node_at n
 pub solution-unknown : (ns : List Node) (ρ : Assignment finite) (r : ℕ → ℕ) (i : ℕ) → node_at ns i ≡ Unknown → solution ns ρ r i ≡ ρ i
 solution-unknown ns ρ r i e = ap (value (types_within ns ρ (r i)) (ρ i)) e
 
--- the type of no names
-abbrev pub nothing : Assignment finite
-nothing i = O.app (O.row []) O.no_type
+-- types that are as anything asks
+abbrev pub ints : Assignment finite
+ints i = O.named (initial int)
 
 pub finite_of : (ns : List Node) → HasRank ns → HasFinite ns
-finite_of ns h = (solution ns nothing h.rank, solution-meets ns nothing h.rank h.ranked)
+finite_of ns h = (solution ns ints h.rank, solution-meets ns ints h.rank h.ranked)
 
--- limits that are handed on are kept where the unknowns have no names
+-- limits that are handed on are kept where the unknowns keep them
 
-nothing-meets : (u i : ℕ) (l : Option ℕ) → MeetsLimit u l (nothing i)
-unfolding IsWithin
-nothing-meets u i None = tt
-nothing-meets u i (Some n) = (tt, tt)
+pub all-both : (P Q : ℕ → Type 0) (ks : List ℕ) → AllByRecursion P ks → AllByRecursion Q ks → AllByRecursion (λ k. P k × Q k) ks
+all-both P Q [] a b = tt
+all-both P Q (k ∷ ks) a b = ((a.0, b.0), all-both P Q ks a.1 b.1)
 
-mapped-within : (u n : ℕ) (ls : List (Option ℕ)) (σ : Assignment finite) (ks : List ℕ) → AllByRecursion (λ k. MeetsLimit u (limit_at ls k) (σ k)) ks → AllByRecursion (λ k. IsUnder (limit_at ls k) (Some n)) ks → AllByRecursion (IsWithin u n) (map σ ks)
-mapped-within u n ls σ [] a b = tt
-mapped-within u n ls σ (k ∷ ks) a b = (limit-more u (limit_at ls k) (Some n) (σ k) b.0 a.0, mapped-within u n ls σ ks a.1 b.1)
+module _ (l : Layer) (u : ℕ) (ns : List Node) (ls : List Limit) (ρ : Assignment finite) (r : ℕ → ℕ) where
+  within-keeps : IsRanked ns r → IsClosed ns ls → IsFit l u ns ls → ((i : ℕ) → node_at ns i ≡ Unknown → MeetsAt l u (limit_at ls i) (ρ i)) → (n i : ℕ) → r i < n → MeetsAt l u (limit_at ls i) (types_within ns ρ n i)
+  within-keeps a c f w zero i h = absurd (omega (arith, h))
+  within-keeps a c f w (suc n) i h =
+      let x = node_at ns i in
+      node-meets l u (limit_at ls i) (types_within ns ρ n) (ρ i) x (f i) (all-parts (λ k. IsUnder (limit_at ls k) (handed x (limit_at ls i)) × (r k < r i)) (λ k. MeetsAt l u (handed x (limit_at ls i)) (types_within ns ρ n k)) (parts x) (λ k b. b.0 l u (types_within ns ρ n k) (within-keeps a c f w n k (let z = b.1 in omega (arith, z, h)))) (all-both (λ k. IsUnder (limit_at ls k) (handed x (limit_at ls i))) (λ k. r k < r i) (parts x) (c i) (a i))) (w i)
 
-head-meets : (u : ℕ) (l : Option ℕ) (ls : List (Option ℕ)) (h : O.Head Name) (σ : Assignment finite) (ks : List ℕ) → MeetsHead u l h → AllByRecursion (λ k. IsUnder (limit_at ls k) l) ks → AllByRecursion (λ k. MeetsLimit u (limit_at ls k) (σ k)) ks → MeetsLimit u l (make finite h (map σ ks))
-head-meets u None ls h σ ks a b c = tt
-head-meets u (Some n) ls h σ ks a b c = within-app u n h (map σ ks) a (mapped-within u n ls σ ks c b)
+  pub solution-keeps : IsRanked ns r → IsClosed ns ls → IsFit l u ns ls → ((i : ℕ) → node_at ns i ≡ Unknown → MeetsAt l u (limit_at ls i) (ρ i)) → KeepsAt l u ls (solution ns ρ r)
+  solution-keeps a c f w i = within-keeps a c f w (suc (r i)) i (omega arith)
 
-value-keeps : (u : ℕ) (ls : List (Option ℕ)) (σ : Assignment finite) (i : ℕ) (x : Node) → IsClosedNode u ls i x → AllByRecursion (λ k. MeetsLimit u (limit_at ls k) (σ k)) (parts x) → MeetsLimit u (limit_at ls i) (value σ (nothing i) x)
-value-keeps u ls σ i Unknown c a = nothing-meets u i (limit_at ls i)
-value-keeps u ls σ i (Link j) c a = limit-more u (limit_at ls j) (limit_at ls i) (σ j) c a.0
-value-keeps u ls σ i (App h kids) c a = head-meets u (limit_at ls i) ls (head_over h (length kids.items)) σ kids.items c.0 c.1 a
+pub ints-keep : (l : Layer) (u : ℕ) (ns : List Node) (ls : List Limit) (r : ℕ → ℕ) → place_of l < place_of Rigidity → IsRanked ns r → IsClosed ns ls → IsFit l u ns ls → KeepsAt l u ls (solution ns ints r)
+ints-keep l u ns ls r h a c f = solution-keeps l u ns ls ints r a c f (λ i e. int-meets l u (limit_at ls i) h)
 
-within-keeps : (u : ℕ) (ns : List Node) (ls : List (Option ℕ)) (r : ℕ → ℕ) → IsRanked ns r → IsClosed u ns ls → (n i : ℕ) → r i < n → MeetsLimit u (limit_at ls i) (types_within ns nothing n i)
-within-keeps u ns ls r a c zero i h = absurd (omega (arith, h))
-within-keeps u ns ls r a c (suc n) i h =
-    value-keeps u ls (types_within ns nothing n) i (node_at ns i) (c i) (all-parts (λ k. r k < r i) (λ k. MeetsLimit u (limit_at ls k) (types_within ns nothing n k)) (parts (node_at ns i)) (λ k b. within-keeps u ns ls r a c n k (omega (arith, b, h))) (a i))
+-- types that are as the limits ask
+abbrev pub stand_ins : List Limit → Assignment finite
+stand_ins ls i = stand_in (limit_at ls i).variables
 
-pub solution-keeps : (u : ℕ) (ns : List Node) (ls : List (Option ℕ)) (r : ℕ → ℕ) → IsRanked ns r → IsClosed u ns ls → Keeps u ls (solution ns nothing r)
-solution-keeps u ns ls r a c i = within-keeps u ns ls r a c (suc (r i)) i (omega arith)
+pub stands-keep : (l : Layer) (u : ℕ) (ns : List Node) (ls : List Limit) (r : ℕ → ℕ) → (0 ≡ u → ⊥) → IsRanked ns r → IsClosed ns ls → ((k : Layer) → IsFit k u ns ls) → KeepsAt l u ls (solution ns (stand_ins ls) r)
+stands-keep l u ns ls r d a c f = solution-keeps l u ns ls (stand_ins ls) r a c (f l) (λ i e. stands-meets l u (limit_at ls i) d (subst (IsFitNode Rigidity u (limit_at ls i)) e (f Rigidity i)))
 
 -- after a search from all that was changed
 

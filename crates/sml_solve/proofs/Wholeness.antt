@@ -1,19 +1,27 @@
 -- Graphs between demands.
-use Rattle.std.proofs.Common.{◌≡◌, ℕ, zero, suc, ◌<◌, ◌↔◌, inl, inr, Option, None, List, [], ◌∷◌, ◌++◌, length, get_or, ◌∙◌, refl, arith}
+use Rattle.std.proofs.Common.{◌≡◌, ℕ, zero, suc, ◌<◌, ◌≤◌, ◌↔◌, inl, inr, Option, Some, None, List, [], ◌∷◌, ◌++◌, length, get_or, ◌∙◌, subst, refl, arith}
 use Rattle.std.proofs.lemmas.Bool.{cases_lt}
 use Rattle.std.proofs.lemmas.List.{get_or_past}
 use Rattle.std.specs.Prelude.{Bool, true, false}
 use Rattle.std.specs.Bool.{OnTrue}
+use Rattle.std.specs.Option.{IfSome}
 use Rattle.sml_objects.specs.Initial.{Name}
 use Rattle.sml_objects.specs.Objects.{MlType}
+use Rattle.sml_solve.specs.declared.graph.Graph.{Graph}
+use Rattle.sml_solve.specs.declared.layer.Layer.{Layer}
+use Rattle.sml_solve.specs.declared.layer.Layer.TheVariants.{Equations, Finiteness, Newness, Locality, Equality, Classes, Rigidity}
+use Rattle.sml_solve.specs.declared.limits.Limit.{Limit}
 use Rattle.sml_solve.specs.declared.node.Node.{Node}
 use Rattle.sml_solve.specs.Worlds.{World, finite, Assignment}
 use Rattle.sml_solve.specs.Graphs.{node_at, Meets, MeetsPairs, SameSolutions, HasNoSolution}
 use Rattle.sml_solve.specs.Interned.{Interns}
 use Rattle.sml_solve.specs.Ranks.{HasRank, mark_at, IsSearch}
-use Rattle.sml_solve.specs.Bounds.{limit_at, IsClosed}
-use Rattle.sml_solve.proofs.Limiting.{closed-free, closed-as}
-use Rattle.sml_solve.proofs.Ranking.{rank_of, finite_of}
+use Rattle.sml_solve.specs.Limits.{no_limit, limit_at, KeepsAt, IsClosed, IsFit, IsBefore, SameLimits, NoneKeeps}
+use Rattle.sml_solve.specs.Layers.{place_of}
+use Rattle.sml_solve.specs.Whole.{FailsFirst, FailsAt}
+use Rattle.sml_solve.proofs.Asking.{nothing-asked}
+use Rattle.sml_solve.proofs.Limiting.{none-closed, none-fits, closed-as}
+use Rattle.sml_solve.proofs.Ranking.{rank_of, finite_of, solution, ints, solution-meets, ints-keep}
 
 pub get_or-push : {A : Type 0} (xs : List A) (d : A) (i : ℕ) → get_or (xs ++ d ∷ []) i d ≡ get_or xs i d
 get_or-push [] d zero = refl
@@ -36,11 +44,21 @@ search-none ns e ms n b = record {
 }
 
 -- nodes for a type more leave the graph whole
-pub closed-more : (u : ℕ) (ns ms : List Node) (ks ls : List (Option ℕ)) → length ks ≡ length ns → ((i : ℕ) → i < length ns → node_at ms i ≡ node_at ns i) → ((i : ℕ) → limit_at ls i ≡ limit_at ks i) → IsClosed u ns ks → IsClosed u ms ls
-closed-more u ns ms ks ls n before same c i =
+
+pub closed-more : (ns ms : List Node) (ks ls : List Limit) → length ks ≡ length ns → ((i : ℕ) → i < length ns → node_at ms i ≡ node_at ns i) → ((i : ℕ) → limit_at ls i ≡ limit_at ks i) → IsClosed ns ks → IsClosed ms ls
+closed-more ns ms ks ls n before same c i =
     elim (cases_lt i (length ns)) [
-      | inl l ↦ rw (before i l) (closed-as u ks ls i (node_at ns i) same (c i))
-      | inr g ↦ closed-free u ls i (node_at ms i) (same i ∙ get_or_past ks i None (omega (arith, g, n)))
+      | inl l ↦ rw (before i l) (closed-as ks ls i (node_at ns i) same (c i))
+      | inr g ↦ none-closed ls i (node_at ms i) (same i ∙ get_or_past ks i no_limit (omega (arith, g, n)))
+    ]
+
+pub fit-more : (l : Layer) (u : ℕ) (ns ms : List Node) (ks ls : List Limit) → length ks ≡ length ns → ((i : ℕ) → i < length ns → node_at ms i ≡ node_at ns i) → ((i : ℕ) → limit_at ls i ≡ limit_at ks i) → IsFit l u ns ks → IsFit l u ms ls
+fit-more l u ns ms ks ls n before same f i =
+    elim (cases_lt i (length ns)) [
+      | inl h ↦ rw (before i h, same i) (f i)
+      | inr g ↦
+          let e : limit_at ls i ≡ no_limit = same i ∙ get_or_past ks i no_limit (omega (arith, g, n)) in
+          rw e (none-fits l u (node_at ms i))
     ]
 
 pub ranked-more : (ns : List Node) (us : List ℕ) (t : MlType Name) (ms : List Node) (r : ℕ) → Interns ns us t ms r → HasRank ns → HasRank ms
@@ -67,3 +85,35 @@ equal_is ns ms ps l r e s w σ = (
 
 pub clash_is : (ns : List Node) (ps : List (ℕ × ℕ)) (l r : ℕ) → ps ≡ (l, r) ∷ [] → HasNoSolution ns ps → (w : World) (σ : Assignment w) → Meets w ns σ → σ l ≡ σ r → ⊥
 clash_is ns ps l r e h w σ m q = h w σ m (rw e (q, tt))
+
+-- a layer that fails is the first to fail
+
+fails-first : (l : Layer) (u : ℕ) (g : Graph) (σ : Assignment finite) → Meets finite g.nodes.items σ → ((k : Layer) → place_of k < place_of l → KeepsAt k u g.limits.items σ) → NoneKeeps u g.nodes.items g.limits.items l → FailsFirst l u g
+fails-first l u g σ m k n = record { types = σ; meets = m; keeps = k; none = n }
+
+pub fails-at : (l : Layer) (u : ℕ) (g : Graph) (σ : Assignment finite) → Meets finite g.nodes.items σ → ((k : Layer) → place_of k < place_of l → KeepsAt k u g.limits.items σ) → NoneKeeps u g.nodes.items g.limits.items l → FailsAt l u g
+fails-at Equations u g σ m k n = n σ m (λ j h. nothing-asked u g.limits.items σ j (omega (arith, h)))
+fails-at Finiteness u g σ m k n = λ r. n σ m (nothing-asked u g.limits.items σ)
+fails-at Newness u g σ m k n = fails-first Newness u g σ m k n
+fails-at Locality u g σ m k n = fails-first Locality u g σ m k n
+fails-at Equality u g σ m k n = fails-first Equality u g σ m k n
+fails-at Classes u g σ m k n = fails-first Classes u g σ m k n
+fails-at Rigidity u g σ m k n = fails-first Rigidity u g σ m k n
+
+pub last : (k : Layer) → place_of k ≤ place_of Rigidity
+last Equations = omega arith
+last Finiteness = omega arith
+last Newness = omega arith
+last Locality = omega arith
+last Equality = omega arith
+last Classes = omega arith
+last Rigidity = omega arith
+
+-- the limits were handed on in the layers before the one that failed
+pub handed-fails : (u : ℕ) (g : Graph) (ls : List Limit) (f : Option Layer) (l : Layer) → HasRank g.nodes.items → IsClosed g.nodes.items ls → ((k : Layer) → IsBefore k f → IsFit k u g.nodes.items ls) → SameLimits u g.nodes.items g.limits.items ls → IfSome f (NoneKeeps u g.nodes.items g.limits.items) → f ≡ Some l → FailsAt l u g
+handed-fails u g ls None l r c w s n e = let x : None ≡ Some l = e in absurd cc
+handed-fails u g ls (Some k) l r c w s n e =
+    let q : k ≡ l = cc in
+    let σ = solution g.nodes.items ints r.rank in
+    let m : Meets finite g.nodes.items σ = solution-meets g.nodes.items ints r.rank r.ranked in
+    subst (λ l. FailsAt l u g) q (fails-at k u g σ m (λ j h. (s j σ m).1 (ints-keep j u g.nodes.items ls r.rank (let y = last k in omega (arith, h, y)) r.ranked c (w j h))) n)

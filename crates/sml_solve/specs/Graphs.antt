@@ -1,5 +1,5 @@
 -- What a vector of nodes says of the types of its nodes.
-use Rattle.std.specs.Prelude.{◌≡◌, ℕ, zero, suc, ◌+◌, ◌<◌, ◌≤◌, ◌↔◌, ◌⊎◌, List, [], ◌∷◌, length, map, slice_index_or, decimal}
+use Rattle.std.specs.Prelude.{◌≡◌, ℕ, zero, suc, ◌+◌, ◌<◌, ◌≤◌, ◌↔◌, ◌⊎◌, ◌^◌, List, [], ◌∷◌, length, map, slice_index, slice_index_or, decimal}
 use Rattle.std.specs.List.{sum_by, AllByRecursion}
 use Rattle.sml_tree.specs.Trees.{Id}
 use Rattle.sml_objects.specs.Initial.{Name}
@@ -45,14 +45,26 @@ pairs_of [] ys = []
 pairs_of (x ∷ xs) [] = []
 pairs_of (x ∷ xs) (y ∷ ys) = (x, y) ∷ pairs_of xs ys
 
+-- an arrow has two parts
+abbrev pub IsCountOf : Head → ℕ → Type 0
+IsCountOf Arrow n = n ≡ 2
+IsCountOf Row n = Unit {0}
+IsCountOf (Applied m) n = Unit {0}
+
 -- links lead down, and parts stand in the vector
 abbrev pub IsSoundNode : ℕ → ℕ → Node → Type 0
 IsSoundNode n i Unknown = Unit {0}
 IsSoundNode n i (Link j) = j < i
-IsSoundNode n i (App h kids) = AllByRecursion (λ k. k < n) kids.items
+IsSoundNode n i (App h kids) = AllByRecursion (λ k. k < n) kids.items × IsCountOf h (length kids.items)
 
 abbrev pub IsSound : List Node → Type 0
 IsSound ns = (i : ℕ) → IsSoundNode (length ns) i (node_at ns i)
+
+-- the node says something
+abbrev pub IsKnown : Node → Type 0
+IsKnown Unknown = ⊥
+IsKnown (Link j) = Unit {0}
+IsKnown (App h kids) = Unit {0}
 
 abbrev pub IsRootNode : Node → Type 0
 IsRootNode Unknown = Unit {0}
@@ -71,6 +83,17 @@ IsPairIn n p = (p.0 < n) × (p.1 < n)
 
 abbrev pub ArePairsIn : ℕ → List (ℕ × ℕ) → Type 0
 ArePairsIn n ps = AllByRecursion (IsPairIn n) ps
+
+-- The places of the unknowns rise, and each place that says nothing is one of them.
+pub record AreOwners (ns : List Node) (us : List ℕ) : Type 0 where
+  pub inside : AllByRecursion (λ i. i < length ns) us
+  pub rising : (v w : ℕ) → v < w → w < length us → slice_index us v < slice_index us w
+  pub owned : (i : ℕ) → i < length ns → node_at ns i ≡ Unknown → (v : ℕ) × (v < length us) × (slice_index us v ≡ i)
+  pub few : length us ≤ 2 ^ 32
+
+-- the unknown's place says nothing
+abbrev pub IsLoose : List Node → List ℕ → ℕ → Type 0
+IsLoose ns us v = (v < length us) × (node_at ns (slice_index us v) ≡ Unknown)
 
 -- the nodes that a node speaks of
 abbrev pub parts : Node → List ℕ

@@ -11,7 +11,7 @@ use Rattle.sml_solve.specs.declared.node.Head.{Head}
 use Rattle.sml_solve.specs.declared.node.Node.{Node}
 use Rattle.sml_solve.specs.declared.node.Node.TheVariants.{Link, App}
 use Rattle.sml_solve.specs.Worlds.{World, Assignment, typed}
-use Rattle.sml_solve.specs.Graphs.{Meets, IsSound, IsSoundNode, node_at, head_over}
+use Rattle.sml_solve.specs.Graphs.{Meets, IsSound, IsSoundNode, IsCountOf, IsKnown, node_at, head_over}
 
 -- No variable of the type is bound by a scheme, and each is one of the first n unknowns.
 unfoldable mutual
@@ -45,6 +45,7 @@ pub record Interns (ns : List Node) (us : List ℕ) (t : O.MlType Name) (ms : Li
   pub inside : r < length ms
   pub sound : IsSound ms
   pub before : (i : ℕ) → i < length ns → node_at ms i ≡ node_at ns i
+  pub filled : (i : ℕ) → length ns ≤ i → i < length ms → IsKnown (node_at ms i)
   pub back : (w : World) (τ : Assignment w) → Meets w ms τ → Meets w ns τ × (τ r ≡ typed w (through w us τ) t)
   pub forth : (w : World) (τ : Assignment w) → Meets w ns τ → (υ : Assignment w) × Meets w ms υ × ((i : ℕ) → i < length ns → υ i ≡ τ i)
 
@@ -65,6 +66,7 @@ pub record IsHeadOver (t : O.MlType Name) (k : ℕ) (n : Node) (ss ts : List (O.
   pub type : t ≡ O.app (head_over head (length more)) (types_of more)
   pub node : n ≡ App head kids
   pub places : kids.items ≡ numbers k (length more)
+  pub count : IsCountOf head (length more)
   pub rest : ts ≡ ss ++ more
 
 pub record IsUnknownAt (t : O.MlType Name) (us : List ℕ) (n : Node) (ss ts : List (O.MlType Name)) : Type 0 where
@@ -85,6 +87,7 @@ pub record IsInterning (ns : List Node) (us : List ℕ) (t : O.MlType Name) (ms 
   pub over : AllByRecursion (IsOver (length us)) ts
   pub sound : (i : ℕ) → IsSoundNode (length ns + length ts) i (node_at ms i)
   pub before : (i : ℕ) → i < length ns → node_at ms i ≡ node_at ns i
+  pub filled : (i : ℕ) → length ns ≤ i → i < length ms → IsKnown (node_at ms i)
   pub back : (w : World) (τ : Assignment w) → Meets w ms τ
       → ((j : ℕ) → k ≤ j → j < length ts → τ (length ns + j) ≡ typed w (through w us τ) (slice_index_or ts j (O.free 0)))
       → Meets w ns τ × (τ (length ns) ≡ typed w (through w us τ) t)

@@ -3,7 +3,13 @@ pub mod Graphs
 pub mod Interned
 pub mod Ranks
 pub mod Bounds
+pub mod Classes
+pub mod Variables
+pub mod Limits
 pub mod Layers
 pub mod Asked
 pub mod Whole
 pub mod Counted
+pub mod Left
+pub mod Reads
+pub mod Overloaded

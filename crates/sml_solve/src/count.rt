@@ -10,7 +10,7 @@ use sml_lex::fault::Memory;
 use std::alloc::Global;
 
 /// The node that another one leads to.
-fn root_of(nodes: &[Node], at: usize) -> usize
+pub(crate) fn root_of(nodes: &[Node], at: usize) -> usize
     requires sound { IsSound nodes.now }
     requires inside { at < length nodes.now }
     ensures same { IsSame nodes.now at result }

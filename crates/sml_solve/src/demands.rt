@@ -1,16 +1,15 @@
 //! Demands on the types of a graph.
 
 ghost use Rattle.std.specs.Prelude.{◌≡◌, false, ◌<◌, length, IfOk, OnOk, Err};
-ghost use Rattle.std.specs.List.{AllByRecursion};
 ghost use Rattle.sml_objects.specs.Views.{type_of, maker_of};
 ghost use Rattle.sml_solve.specs.declared.layer.Layer.{Layer};
 ghost use Rattle.sml_solve.specs.Interned.{IsOver};
-ghost use Rattle.sml_solve.specs.Asked.{asked_of, equal, within, Adds, CanMeet, IsFirstUnmet};
-ghost use Rattle.sml_solve.specs.Whole.{IsFull, IsWhole, LowersBound};
+ghost use Rattle.sml_solve.specs.Asked.{asked_of, equal, asks, Adds, CanMeet, IsFirstUnmet};
+ghost use Rattle.sml_solve.specs.Whole.{IsFull, IsKept, LowersLimit};
 
 use crate::graph::{Graph, add, finish, merge_two};
-use crate::layer::{Bound, Refusal};
-use crate::limits::lower;
+use crate::layer::{Ask, Refusal};
+use crate::limits::{Limit, lower};
 use sml_lex::fault::Memory;
 use sml_objects::objects::{MlType, UnitId};
 use std::alloc::Global;
@@ -24,12 +23,10 @@ pub(crate) fn equate(
     left: &MlType,
     right: &MlType,
 ) -> Result<(), Refusal>
-    requires whole { IsWhole (maker_of unit) graph.old }
-    requires inside { AllByRecursion (λ i. i < length graph.old.nodes.items) unknowns.now }
+    requires kept { IsKept (maker_of unit) graph.old unknowns.now }
     requires left { IsOver (length unknowns.now) (type_of left.now) }
     requires right { IsOver (length unknowns.now) (type_of right.now) }
-    ensures whole { OnOk result (IsWhole (maker_of unit) graph.new) }
-    ensures inside { OnOk result (AllByRecursion (λ i. i < length graph.new.nodes.items) unknowns.now) }
+    ensures kept { OnOk result (IsKept (maker_of unit) graph.new unknowns.now) }
     ensures ok { OnOk result (Adds (asked_of (maker_of unit) unknowns.now graph.old false) (equal (type_of left.now) (type_of right.now)) (asked_of (maker_of unit) unknowns.now graph.new false)) }
     ensures met { OnOk result ((l : Layer) → CanMeet l (asked_of (maker_of unit) unknowns.now graph.old false) (equal (type_of left.now) (type_of right.now))) }
     ensures unmet { (l : Layer) → result ≡ Err (Refusal.Unmet l) → IsFirstUnmet l (asked_of (maker_of unit) unknowns.now graph.old false) (equal (type_of left.now) (type_of right.now)) }
@@ -50,30 +47,27 @@ pub(crate) fn equate(
     }
 }
 
-/// Demands that a type mentions only such names of the unit as have numbers below the one given.
-pub(crate) fn restrict(
+/// Demands something of a type.
+pub(crate) fn impose(
     alloc: Global,
     unit: UnitId,
     graph: &mut Graph,
     unknowns: &[usize],
-    bound: Bound,
-    most: u32,
+    ask: Ask,
     ty: &MlType,
 ) -> Result<(), Refusal>
-    requires whole { IsWhole (maker_of unit) graph.old }
-    requires inside { AllByRecursion (λ i. i < length graph.old.nodes.items) unknowns.now }
+    requires kept { IsKept (maker_of unit) graph.old unknowns.now }
     requires known { IsOver (length unknowns.now) (type_of ty.now) }
-    ensures whole { OnOk result (IsWhole (maker_of unit) graph.new) }
-    ensures inside { OnOk result (AllByRecursion (λ i. i < length graph.new.nodes.items) unknowns.now) }
-    ensures ok { OnOk result (Adds (asked_of (maker_of unit) unknowns.now graph.old false) (within bound most (type_of ty.now)) (asked_of (maker_of unit) unknowns.now graph.new false)) }
-    ensures met { OnOk result ((l : Layer) → CanMeet l (asked_of (maker_of unit) unknowns.now graph.old false) (within bound most (type_of ty.now))) }
-    ensures unmet { (l : Layer) → result ≡ Err (Refusal.Unmet l) → IsFirstUnmet l (asked_of (maker_of unit) unknowns.now graph.old false) (within bound most (type_of ty.now)) }
+    ensures kept { OnOk result (IsKept (maker_of unit) graph.new unknowns.now) }
+    ensures ok { OnOk result (Adds (asked_of (maker_of unit) unknowns.now graph.old false) (asks ask (type_of ty.now)) (asked_of (maker_of unit) unknowns.now graph.new false)) }
+    ensures met { OnOk result ((l : Layer) → CanMeet l (asked_of (maker_of unit) unknowns.now graph.old false) (asks ask (type_of ty.now))) }
+    ensures unmet { (l : Layer) → result ≡ Err (Refusal.Unmet l) → IsFirstUnmet l (asked_of (maker_of unit) unknowns.now graph.old false) (asks ask (type_of ty.now)) }
     ensures spent { result ≡ Err Refusal.Spent → ⊥ }
 {
     let Ok(at) = add(alloc, graph, unknowns, ty) else {
         return Err(Refusal::Memory);
     };
-    match lower_bound(alloc, graph, bound, at, most) {
+    match lower_limit(alloc, graph, at, ask.limit()) {
         Err(_) => Err(Refusal::Memory),
         Ok(changed) => match finish(alloc, graph, unit, changed.as_slice()) {
             Err(refusal) => Err(refusal),
@@ -83,21 +77,17 @@ pub(crate) fn restrict(
 }
 
 /// Lowers the limit of a node. Gives the nodes whose limits may have changed.
-fn lower_bound(
+fn lower_limit(
     alloc: Global,
     graph: &mut Graph,
-    bound: Bound,
     at: usize,
-    most: u32,
+    limit: Limit,
 ) -> Result<Vec<usize>, Memory>
     requires full { IsFull graph.old }
     requires inside { at < length graph.old.nodes.items }
-    ensures lowers { IfOk result (λ changed. LowersBound bound graph.old at most graph.new changed.items) }
+    ensures lowers { IfOk result (λ changed. LowersLimit graph.old at limit graph.new changed.items) }
 {
     let mut changed = Vec::new(alloc);
-    match bound {
-        Bound::Newness => lower(graph.newness.as_mut_slice(), &mut changed, at, most)?,
-        Bound::Locality => lower(graph.locality.as_mut_slice(), &mut changed, at, most)?,
-    }
+    lower(graph.limits.as_mut_slice(), &mut changed, at, limit)?;
     Ok(changed)
 }

@@ -1,8 +1,9 @@
 //! The graph of a solver: its nodes, what is asked of each, and the marks of searches through them.
 
-ghost use Rattle.std.specs.Prelude.{◌≡◌, ◌≢◌, ℕ, ◌<◌, ◌≤◌, ◌↔◌, List, length, IfOk, OnOk, Err};
+ghost use Rattle.std.specs.Prelude.{◌≡◌, ◌≢◌, ℕ, ◌<◌, ◌≤◌, ◌↔◌, List, None, length, IfOk, OnOk, Err};
 ghost use Rattle.std.specs.Bool.{OnTrue, OnFalse};
 ghost use Rattle.std.specs.List.{AllByRecursion};
+ghost use Rattle.std.specs.Option.{IfSome};
 ghost use Rattle.sml_objects.specs.Views.{type_of, maker_of};
 ghost use Rattle.sml_solve.specs.declared.layer.Layer.{Layer};
 ghost use Rattle.sml_solve.specs.declared.node.Node.{Node};
@@ -10,42 +11,38 @@ ghost use Rattle.sml_solve.specs.Worlds.{World, Assignment, finite};
 ghost use Rattle.sml_solve.specs.Graphs.{IsSound, Meets, SameOutside};
 ghost use Rattle.sml_solve.specs.Interned.{IsOver, Interns};
 ghost use Rattle.sml_solve.specs.Ranks.{HasRank, mark_at};
-ghost use Rattle.sml_solve.specs.Bounds.{limit_at, IsClosed, IsClosedBut, SameLimits, Keeps};
+ghost use Rattle.sml_solve.specs.Limits.{limit_at, IsClosed, IsFit, IsBefore, IsDoneBut, SameLimits, NoneKeeps};
 ghost use Rattle.sml_solve.specs.Whole.{IsFull, IsMarkedBelow, IsWhole, IsChanged, Finishes, FailsAt};
 
 use crate::finite::is_finite_from;
 use crate::intern::intern;
 use crate::layer::{Layer, Refusal};
-use crate::limits::hand_on_all;
+use crate::limits::{Limit, hand_on_all};
 use crate::merge::{Unsolved, solve};
 use crate::node::Node;
 use sml_lex::fault::Memory;
 use sml_objects::objects::{MlType, UnitId};
 use std::alloc::Global;
 
-/// Nodes with their limits, and the marks of searches, which are below the stamp.
+/// Nodes, what is asked of each, and the marks of searches, which are below the stamp.
 #[derive(Drop)]
 pub struct Graph {
     pub(crate) nodes: Vec<Node>,
-    pub(crate) newness: Vec<Option<u32>>,
-    pub(crate) locality: Vec<Option<u32>>,
+    pub(crate) limits: Vec<Limit>,
     pub(crate) marks: Vec<u64>,
     pub(crate) stamp: u64,
 }
 
 /// Adds limits and marks for the nodes that have none yet.
 pub(crate) fn fill(graph: &mut Graph) -> Result<(), Memory>
-    requires newness { length graph.old.newness.items ≡ length graph.old.marks.items }
-    requires locality { length graph.old.locality.items ≡ length graph.old.marks.items }
+    requires limits { length graph.old.limits.items ≡ length graph.old.marks.items }
     requires below { IsMarkedBelow graph.old }
     ensures nodes { OnOk result (graph.new.nodes.items ≡ graph.old.nodes.items) }
-    ensures newness { OnOk result ((i : ℕ) → limit_at graph.new.newness.items i ≡ limit_at graph.old.newness.items i) }
-    ensures locality { OnOk result ((i : ℕ) → limit_at graph.new.locality.items i ≡ limit_at graph.old.locality.items i) }
+    ensures limits { OnOk result ((i : ℕ) → limit_at graph.new.limits.items i ≡ limit_at graph.old.limits.items i) }
     ensures full { OnOk result (length graph.old.marks.items ≤ length graph.old.nodes.items → IsFull graph.new) }
 {
     while graph.marks.len() < graph.nodes.len() {
-        graph.newness.push(None)?;
-        graph.locality.push(None)?;
+        graph.limits.push(Limit::none())?;
         graph.marks.push(0)?;
     }
     Ok(())
@@ -63,8 +60,7 @@ pub(crate) fn add(
     requires inside { AllByRecursion (λ u. u < length graph.old.nodes.items) unknowns.now }
     requires known { IsOver (length unknowns.now) (type_of ty.now) }
     ensures interns { IfOk result (λ r. Interns graph.old.nodes.items unknowns.now (type_of ty.now) graph.new.nodes.items r) }
-    ensures newness { OnOk result ((i : ℕ) → limit_at graph.new.newness.items i ≡ limit_at graph.old.newness.items i) }
-    ensures locality { OnOk result ((i : ℕ) → limit_at graph.new.locality.items i ≡ limit_at graph.old.locality.items i) }
+    ensures limits { OnOk result ((i : ℕ) → limit_at graph.new.limits.items i ≡ limit_at graph.old.limits.items i) }
     ensures whole { OnOk result ((u : ℕ) → IsWhole u graph.old → IsWhole u graph.new) }
     ensures full { OnOk result (IsFull graph.new) }
 {
@@ -132,26 +128,27 @@ fn is_finite(
     Ok(found)
 }
 
-/// Hands the limits of the nodes that were changed on. `false` where a limit isn't kept.
-fn is_kept(
+/// Hands the limits of the nodes that were changed on. Gives the first layer in which a limit isn't kept.
+fn hand_on_from(
     alloc: Global,
     nodes: &[Node],
-    limits: &mut Vec<Option<u32>>,
+    limits: &mut Vec<Limit>,
     unit: UnitId,
     changed: &[usize],
-) -> Result<bool, Memory>
+) -> Result<Option<Layer>, Memory>
     requires sound { IsSound nodes.now }
     requires len { length limits.old.items ≡ length nodes.now }
     requires inside { AllByRecursion (λ i. i < length nodes.now) changed.now }
-    requires but { IsClosedBut (maker_of unit) nodes.now limits.old.items changed.now }
-    ensures len { IfOk result (λ b. OnTrue b (length limits.new.items ≡ length nodes.now)) }
-    ensures closed { IfOk result (λ b. OnTrue b (IsClosed (maker_of unit) nodes.now limits.new.items)) }
-    ensures same { IfOk result (λ b. OnTrue b (SameLimits (maker_of unit) nodes.now limits.old.items limits.new.items)) }
-    ensures no { IfOk result (λ b. OnFalse b ((σ : Assignment finite) → Meets finite nodes.now σ → Keeps (maker_of unit) limits.old.items σ → ⊥)) }
+    requires but { IsDoneBut (maker_of unit) nodes.now limits.old.items None changed.now }
+    ensures len { OnOk result (length limits.new.items ≡ length nodes.now) }
+    ensures closed { OnOk result (IsClosed nodes.now limits.new.items) }
+    ensures fit { IfOk result (λ failed. (l : Layer) → IsBefore l failed → IsFit l (maker_of unit) nodes.now limits.new.items) }
+    ensures same { OnOk result (SameLimits (maker_of unit) nodes.now limits.old.items limits.new.items) }
+    ensures fails { IfOk result (λ failed. IfSome failed (NoneKeeps (maker_of unit) nodes.now limits.old.items)) }
 {
     let pending = Vec::from_slice(alloc, changed)?;
-    let found = hand_on_all(nodes, limits.as_mut_slice(), unit, pending)?;
-    Ok(found)
+    let failed = hand_on_all(nodes, limits.as_mut_slice(), unit, pending)?;
+    Ok(failed)
 }
 
 /// Makes a graph whole again from the nodes that were changed, layer by layer.
@@ -170,11 +167,8 @@ pub(crate) fn finish(
     if !is_finite(alloc, nodes, &mut graph.marks, &mut graph.stamp, changed)? {
         return Err(Refusal::Unmet(Layer::Finiteness));
     }
-    if !is_kept(alloc, nodes, &mut graph.newness, unit, changed)? {
-        return Err(Refusal::Unmet(Layer::Newness));
+    match hand_on_from(alloc, nodes, &mut graph.limits, unit, changed)? {
+        Some(layer) => Err(Refusal::Unmet(layer)),
+        None => Ok(()),
     }
-    if !is_kept(alloc, nodes, &mut graph.locality, unit, changed)? {
-        return Err(Refusal::Unmet(Layer::Locality));
-    }
-    Ok(())
 }

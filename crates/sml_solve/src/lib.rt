@@ -1,6 +1,7 @@
 // Unification: what a declaration asks of its unknown types, and the types that meet it.
 #![tactic(auto)]
 
+pub mod class;
 mod count;
 mod demands;
 mod finite;
@@ -10,6 +11,9 @@ pub mod layer;
 mod limits;
 mod merge;
 mod node;
+mod reading;
+mod settling;
 pub mod solver;
 #[cfg(test)]
 mod tests;
+pub mod variable;

@@ -1,125 +1,351 @@
-//! Bounds on the names that the types of nodes may mention. They are handed on from a node to its parts, from the nodes
-//! that were changed on.
+//! What is asked of the types of nodes, beyond equations. It is handed on from a node to its parts, from the nodes that
+//! were changed on.
 
-ghost use Rattle.std.specs.Prelude.{◌≡◌, ℕ, ◌<◌, [], ◌∷◌, length, Some, IfOk, OnOk};
+ghost use Rattle.std.specs.Prelude.{◌≡◌, ℕ, ◌<◌, ◌^◌, ◌⊎◌, [], ◌∷◌, length, Some, None, true, false, IfOk, OnOk};
 ghost use Rattle.std.specs.Bool.{OnTrue, OnFalse};
+ghost use Rattle.std.specs.Option.{IfSome, IfNone};
 ghost use Rattle.std.specs.List.{AllByRecursion};
 ghost use Rattle.sml_objects.specs.Views.{maker_of};
+ghost use Rattle.sml_solve.specs.declared.layer.Layer.{Layer};
 ghost use Rattle.sml_solve.specs.Worlds.{finite, Assignment};
 ghost use Rattle.sml_solve.specs.Graphs.{IsSound, Meets, head_over, parts};
-ghost use Rattle.sml_solve.specs.Bounds.{IsHeadWithin, Keeps, IsClosed, IsClosedBut, SameLimits, IsUnder, Lowers, HasHeadWithin, height};
+ghost use Rattle.sml_solve.specs.Layers.{place_of};
+ghost use Rattle.sml_solve.specs.Variables.{IsPossible, FitsVariables};
+ghost use Rattle.sml_solve.specs.Overloaded.{has_several};
+ghost use Rattle.sml_solve.specs.Limits.{no_limit, both, both_bounds, both_classes, FitsBound, FitsEquality, FitsClass, IsFitNode, for_parts, handed, IsClosed, IsFit, IsBefore, IsDoneBut, SameLimits, NoneKeeps, Lowers};
 
+use crate::class::Names;
+use crate::layer::Layer;
 use crate::node::{Head, Node};
+use crate::variable::Variables;
 use sml_lex::fault::Memory;
+use sml_objects::equality::{has_equality, is_reference};
 use sml_objects::objects::{TyName, UnitId};
 
-/// Whether a head is no name that the unit made with the number given or a higher one.
-fn is_head_within(head: Head, unit: UnitId, most: u32) -> bool
-    ensures yes { OnTrue result ((n : ℕ) → IsHeadWithin (maker_of unit) most (head_over head n)) }
-    ensures no { OnFalse result ((n : ℕ) → IsHeadWithin (maker_of unit) most (head_over head n) → ⊥) }
+/// What is asked of the type of a node: that it mentions only such names of the unit as have lower numbers than these,
+/// that it admits equality, that it is one of some initial names, and that it is an explicit type variable.
+#[derive(Clone, Copy)]
+pub struct Limit {
+    pub(crate) newness: Option<u32>,
+    pub(crate) locality: Option<u32>,
+    pub(crate) equality: bool,
+    pub(crate) class: Option<Names>,
+    pub(crate) variables: Variables,
+}
+
+/// The lower of two bounds.
+fn lower_bound(one: Option<u32>, other: Option<u32>) -> Option<u32>
+    ensures value { result ≡ both_bounds one other }
+    ensures small { (n : ℕ) → other ≡ Some n → n < 2 ^ 32 }
 {
-    match head {
-        Head::Arrow => true,
-        Head::Row => true,
-        Head::Name(TyName::Initial(_)) => true,
-        Head::Name(TyName::Made(made)) => made.unit.index != unit.index || made.number < most,
+    match (one, other) {
+        (_, None) => one,
+        (None, Some(second)) => Some(second),
+        (Some(first), Some(second)) => Some(if second < first { second } else { first }),
     }
 }
 
-/// Whether a limit asks for more than another one.
-fn is_lower(most: u32, limit: Option<u32>) -> bool
-    ensures yes { OnTrue result (most < height limit) }
-    ensures no { OnFalse result (IsUnder limit (Some most)) }
+/// The names that two classes have, of those that there are.
+fn common_names(one: Option<Names>, other: Option<Names>) -> Option<Names>
+    ensures { result ≡ both_classes one other }
 {
-    match limit {
-        None => true,
-        Some(other) => most < other,
+    match (one, other) {
+        (None, _) => other,
+        (Some(_), None) => one,
+        (Some(first), Some(second)) => Some(first.and(second)),
+    }
+}
+
+impl Limit {
+    /// Nothing is asked.
+    pub(crate) const fn none() -> Self
+        ensures { result ≡ no_limit }
+    {
+        Limit {
+            newness: None,
+            locality: None,
+            equality: false,
+            class: None,
+            variables: Variables::Any,
+        }
+    }
+
+    /// What both ask.
+    fn and(self, other: Self) -> Self
+        ensures value { result ≡ both self other }
+        ensures newness { (n : ℕ) → other.newness ≡ Some n → n < 2 ^ 32 }
+        ensures locality { (n : ℕ) → other.locality ≡ Some n → n < 2 ^ 32 }
+    {
+        Limit {
+            newness: lower_bound(self.newness, other.newness),
+            locality: lower_bound(self.locality, other.locality),
+            equality: self.equality || other.equality,
+            class: common_names(self.class, other.class),
+            variables: self.variables.and(other.variables),
+        }
+    }
+
+    /// Whether more names than one of a class are left.
+    pub(crate) fn has_several_names(self) -> bool
+        ensures { result ≡ has_several self.class self.equality }
+    {
+        match self.class {
+            None => false,
+            Some(names) => names.word || names.text || (names.real && !self.equality),
+        }
+    }
+
+    /// What is asked of the parts of a type with this head. Equality isn't asked of what a reference holds.
+    fn for_parts(self, head: Head) -> Self
+        ensures { (n : ℕ) → result ≡ for_parts (head_over head n) self }
+    {
+        let equality = match head {
+            Head::Name(name) => !is_reference(name) && self.equality,
+            _ => self.equality,
+        };
+        Limit {
+            newness: self.newness,
+            locality: self.locality,
+            equality,
+            class: None,
+            variables: Variables::Any,
+        }
+    }
+}
+
+fn is_same_bound(one: Option<u32>, other: Option<u32>) -> bool
+    ensures yes { OnTrue result (one ≡ other) }
+    ensures no { OnFalse result (one ≡ other → ⊥) }
+{
+    match (one, other) {
+        (None, None) => true,
+        (Some(first), Some(second)) => first == second,
+        _ => false,
+    }
+}
+
+fn is_same_class(one: Option<Names>, other: Option<Names>) -> bool
+    ensures yes { OnTrue result (one ≡ other) }
+    ensures no { OnFalse result (one ≡ other → ⊥) }
+{
+    match (one, other) {
+        (None, None) => true,
+        (Some(first), Some(second)) => {
+            first.word == second.word && first.real == second.real && first.text == second.text
+        }
+        _ => false,
+    }
+}
+
+fn are_same_variables(one: Variables, other: Variables) -> bool
+    ensures yes { OnTrue result (one ≡ other) }
+    ensures no { OnFalse result (one ≡ other → ⊥) }
+{
+    match (one, other) {
+        (Variables::Any, Variables::Any) => true,
+        (Variables::One(first), Variables::One(second)) => {
+            first.number == second.number && first.equality == second.equality
+        }
+        (Variables::Several, Variables::Several) => true,
+        _ => false,
+    }
+}
+
+fn is_same_limit(one: Limit, other: Limit) -> bool
+    ensures yes { OnTrue result (one ≡ other) }
+    ensures no { OnFalse result (one ≡ other → ⊥) }
+{
+    is_same_bound(one.newness, other.newness)
+        && is_same_bound(one.locality, other.locality)
+        && one.equality == other.equality
+        && is_same_class(one.class, other.class)
+        && are_same_variables(one.variables, other.variables)
+}
+
+/// Whether a head is no name that the unit made with the bound's number or a higher one.
+fn is_head_within(head: Head, unit: UnitId, bound: Option<u32>) -> bool
+    ensures yes { OnTrue result ((n : ℕ) → FitsBound (maker_of unit) bound (head_over head n)) }
+    ensures no { OnFalse result ((n : ℕ) → FitsBound (maker_of unit) bound (head_over head n) → ⊥) }
+{
+    match (head, bound) {
+        (Head::Name(TyName::Made(made)), Some(most)) => {
+            made.unit.index != unit.index || made.number < most
+        }
+        _ => true,
+    }
+}
+
+/// Whether a type with this head may admit equality.
+fn may_admit(head: Head, equality: bool) -> bool
+    ensures yes { OnTrue result ((n : ℕ) → FitsEquality equality (head_over head n)) }
+    ensures no { OnFalse result ((n : ℕ) → FitsEquality equality (head_over head n) → ⊥) }
+{
+    match head {
+        Head::Arrow => !equality,
+        Head::Row => true,
+        Head::Name(name) => !equality || is_reference(name) || has_equality(name),
+    }
+}
+
+/// Whether a head over so many parts is one of some names.
+fn is_in_class(head: Head, count: usize, class: Option<Names>) -> bool
+    ensures yes { OnTrue result (FitsClass class (head_over head count) count) }
+    ensures no { OnFalse result (FitsClass class (head_over head count) count → ⊥) }
+{
+    match (class, head) {
+        (None, _) => true,
+        (Some(names), Head::Name(TyName::Initial(name))) => count == 0 && names.has(name),
+        (Some(_), _) => false,
+    }
+}
+
+/// Whether a type may be what a limit asks, where nothing else is known of it.
+fn is_possible(limit: Limit) -> bool
+    ensures yes { OnTrue result (IsPossible limit.variables limit.equality limit.class) }
+    ensures no { OnFalse result (IsPossible limit.variables limit.equality limit.class → ⊥) }
+{
+    match (limit.variables, limit.class) {
+        (Variables::Any, _) => true,
+        (Variables::One(variable), None) => !limit.equality || variable.equality,
+        (Variables::One(_), Some(_)) => false,
+        (Variables::Several, _) => false,
+    }
+}
+
+/// Whether nothing asks for explicit variables. A head is none.
+fn is_any(variables: Variables) -> bool
+    ensures yes { OnTrue result (variables ≡ Variables.Any) }
+    ensures no { OnFalse result ((h : Head) (n : ℕ) → FitsVariables variables (head_over h n) n → ⊥) }
+{
+    matches!(variables, Variables::Any)
+}
+
+/// The first layer in which a node isn't what is asked.
+fn misfit(node: &Node, limit: Limit, unit: UnitId) -> Option<Layer>
+    ensures fits { (l : Layer) → IsBefore l result → IsFitNode l (maker_of unit) limit node.now }
+    ensures fails { IfSome result (λ l. IsFitNode l (maker_of unit) limit node.now → ⊥) }
+{
+    let (head, kids) = match node {
+        Node::Unknown => return if is_possible(limit) {
+            None
+        } else {
+            Some(Layer::Rigidity)
+        },
+        Node::Link(_) => return None,
+        Node::App(head, kids) => (head, kids),
+    };
+    if !is_head_within(*head, unit, limit.newness) {
+        return Some(Layer::Newness);
+    }
+    if !is_head_within(*head, unit, limit.locality) {
+        return Some(Layer::Locality);
+    }
+    if !may_admit(*head, limit.equality) {
+        return Some(Layer::Equality);
+    }
+    if !is_in_class(*head, kids.len(), limit.class) {
+        return Some(Layer::Classes);
+    }
+    if !is_any(limit.variables) {
+        return Some(Layer::Rigidity);
+    }
+    None
+}
+
+/// The earlier of two layers that failed, if any did.
+fn earlier(one: Option<Layer>, other: Option<Layer>) -> Option<Layer>
+    ensures either { (result ≡ one) ⊎ (result ≡ other) }
+    ensures first { (l : Layer) → IsBefore l result → IsBefore l one }
+    ensures second { (l : Layer) → IsBefore l result → IsBefore l other }
+{
+    match (one, other) {
+        (None, _) => other,
+        (Some(_), None) => one,
+        (Some(first), Some(second)) => {
+            if first.place() < second.place() {
+                one
+            } else {
+                other
+            }
+        }
     }
 }
 
 /// Lowers the limit of a node, which is then left to do.
 pub(crate) fn lower(
-    limits: &mut [Option<u32>],
+    limits: &mut [Limit],
     pending: &mut Vec<usize>,
     at: usize,
-    most: u32,
+    limit: Limit,
 ) -> Result<(), Memory>
     requires { at < length limits.old }
-    ensures { OnOk result (Lowers limits.old pending.old.items (at ∷ []) most limits.new pending.new.items) }
+    ensures { OnOk result (Lowers limits.old pending.old.items (at ∷ []) limit limits.new pending.new.items) }
 {
-    if is_lower(most, limits[at]) {
+    let lowered = limits[at].and(limit);
+    if !is_same_limit(lowered, limits[at]) {
         pending.push(at)?;
-        limits[at] = Some(most);
+        limits[at] = lowered;
     }
     Ok(())
 }
 
 /// The same for several nodes.
 fn lower_all(
-    limits: &mut [Option<u32>],
+    limits: &mut [Limit],
     pending: &mut Vec<usize>,
     parts: &[usize],
-    most: u32,
+    limit: Limit,
 ) -> Result<(), Memory>
     requires { AllByRecursion (λ k. k < length limits.old) parts.now }
-    ensures { OnOk result (Lowers limits.old pending.old.items parts.now most limits.new pending.new.items) }
+    ensures { OnOk result (Lowers limits.old pending.old.items parts.now limit limits.new pending.new.items) }
 {
     for part in parts {
-        lower(limits, pending, *part, most)?;
+        lower(limits, pending, *part, limit)?;
     }
     Ok(())
 }
 
-/// Hands a limit on to the parts of a node. `false` where its head isn't within the limit.
+/// Hands a limit on to the parts of a node.
 fn hand_on(
-    limits: &mut [Option<u32>],
+    limits: &mut [Limit],
     pending: &mut Vec<usize>,
-    unit: UnitId,
     node: &Node,
-    most: u32,
-) -> Result<bool, Memory>
+    limit: Limit,
+) -> Result<(), Memory>
     requires { AllByRecursion (λ k. k < length limits.old) (parts node.now) }
-    ensures yes { IfOk result (λ b. OnTrue b (Lowers limits.old pending.old.items (parts node.now) most limits.new pending.new.items)) }
-    ensures within { IfOk result (λ b. OnTrue b (HasHeadWithin (maker_of unit) most node.now)) }
-    ensures no { IfOk result (λ b. OnFalse b (HasHeadWithin (maker_of unit) most node.now → ⊥)) }
+    ensures { OnOk result (Lowers limits.old pending.old.items (parts node.now) (handed node.now limit) limits.new pending.new.items) }
 {
     match node {
-        Node::Unknown => Ok(true),
-        Node::Link(to) => {
-            lower(limits, pending, *to, most)?;
-            Ok(true)
-        }
+        Node::Unknown => Ok(()),
+        Node::Link(to) => lower(limits, pending, *to, limit),
         Node::App(head, kids) => {
-            if !is_head_within(*head, unit, most) {
-                return Ok(false);
-            }
-            lower_all(limits, pending, kids.as_slice(), most)?;
-            Ok(true)
+            lower_all(limits, pending, kids.as_slice(), limit.for_parts(*head))
         }
     }
 }
 
-/// Hands the limits of the nodes that are left to do on to all that they lead to. `false` where a limit isn't kept.
+/// Hands the limits of the nodes that are left to do on to all that they lead to. Gives the first layer in which a limit
+/// isn't kept.
 pub(crate) fn hand_on_all(
     nodes: &[Node],
-    limits: &mut [Option<u32>],
+    limits: &mut [Limit],
     unit: UnitId,
     mut pending: Vec<usize>,
-) -> Result<bool, Memory>
+) -> Result<Option<Layer>, Memory>
     requires sound { IsSound nodes.now }
     requires len { length limits.old ≡ length nodes.now }
     requires inside { AllByRecursion (λ i. i < length limits.old) pending.items }
-    requires but { IsClosedBut (maker_of unit) nodes.now limits.old pending.items }
-    ensures closed { IfOk result (λ b. OnTrue b (IsClosed (maker_of unit) nodes.now limits.new)) }
-    ensures same { IfOk result (λ b. OnTrue b (SameLimits (maker_of unit) nodes.now limits.old limits.new)) }
-    ensures no { IfOk result (λ b. OnFalse b ((σ : Assignment finite) → Meets finite nodes.now σ → Keeps (maker_of unit) limits.old σ → ⊥)) }
+    requires but { IsDoneBut (maker_of unit) nodes.now limits.old None pending.items }
+    ensures closed { OnOk result (IsClosed nodes.now limits.new) }
+    ensures fit { IfOk result (λ failed. (l : Layer) → IsBefore l failed → IsFit l (maker_of unit) nodes.now limits.new) }
+    ensures same { OnOk result (SameLimits (maker_of unit) nodes.now limits.old limits.new) }
+    ensures fails { IfOk result (λ failed. IfSome failed (NoneKeeps (maker_of unit) nodes.now limits.old)) }
 {
+    let mut failed = None;
     while let Some(at) = pending.pop() {
-        if let Some(most) = limits[at] {
-            if !hand_on(limits, &mut pending, unit, &nodes[at], most)? {
-                return Ok(false);
-            }
-        }
+        let limit = limits[at];
+        failed = earlier(failed, misfit(&nodes[at], limit, unit));
+        hand_on(limits, &mut pending, &nodes[at], limit)?;
     }
-    Ok(true)
+    Ok(failed)
 }

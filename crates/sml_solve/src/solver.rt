@@ -1,19 +1,30 @@
 //! The solver: what a declaration asks of its unknown types.
 
-ghost use Rattle.std.specs.Prelude.{◌≡◌, ◌↔◌, ◌+◌, ◌^◌, ◌<◌, true, false, length, IfOk, OnOk, OnErr, Err};
+ghost use Rattle.std.specs.Prelude.{◌≡◌, ◌↔◌, ◌+◌, ◌^◌, ◌<◌, ◌≤◌, true, false, length, IfOk, OnOk, OnErr, Err};
+ghost use Rattle.std.specs.Bool.{OnTrue, OnFalse};
 ghost use Rattle.std.specs.List.{AllByRecursion};
-ghost use Rattle.sml_objects.specs.Types.{instance_from};
+ghost use Rattle.std.specs.Option.{IfSome, IfNone};
+ghost use Rattle.sml_objects.specs.Sizes.{type_size};
+ghost use Rattle.sml_objects.specs.Types.{instance_from, assign};
 ghost use Rattle.sml_objects.specs.Views.{type_of, scheme_of, maker_of};
 ghost use Rattle.sml_solve.specs.declared.layer.Layer.{Layer};
-ghost use Rattle.sml_solve.specs.Asked.{Asked, asked_of, equal, within, count, IsOf, IsSchemeOf, Adds, CanMeet, IsFirstUnmet, IsMet, PermitsSame};
+ghost use Rattle.sml_solve.specs.declared.layer.Layer.TheVariants.{Finiteness};
+ghost use Rattle.sml_solve.specs.Worlds.{finite, Assignment};
+ghost use Rattle.sml_solve.specs.Asked.{Asked, asked_of, equal, asks, count, IsOf, IsSchemeOf, Adds, CanMeet, IsFirstUnmet, IsMet, Permits, PermitsSame};
 ghost use Rattle.sml_solve.specs.Counted.{IsSizeUpTo};
+ghost use Rattle.sml_solve.specs.Left.{IsReading, IsMostGeneral};
+ghost use Rattle.sml_solve.specs.Overloaded.{IsOverloaded};
 ghost use Rattle.sml_solve.specs.Whole.{IsKept};
 
+use crate::class::Class;
 use crate::count::size_from;
-use crate::demands::{equate, restrict};
+use crate::demands::{equate, impose};
 use crate::graph::{Graph, add, fill};
-use crate::layer::{Bound, Refusal};
+use crate::layer::{Ask, Bound, Refusal};
 use crate::node::Node;
+use crate::reading::type_up_to;
+use crate::settling::has_several_names;
+use crate::variable::Variable;
 use sml_objects::objects::{MlType, Scheme, UnitId};
 use sml_objects::schemes::instantiate;
 use std::alloc::Global;
@@ -49,8 +60,7 @@ impl Solver {
     {
         let graph = Graph {
             nodes: Vec::new(alloc),
-            newness: Vec::new(alloc),
-            locality: Vec::new(alloc),
+            limits: Vec::new(alloc),
             marks: Vec::new(alloc),
             stamp: 1,
         };
@@ -156,7 +166,64 @@ impl Solver {
         Ok(size)
     }
 
-    /// Demands that two types are equal: U1, U2, U3 or E6 where they can't be.
+    /// Whether an unknown is to be an initial name, and more than one it could still be. The default of such an unknown is
+    /// `int` (the Definition, appendix E).
+    pub fn is_overloaded(&self, unknown: u32) -> Result<bool, Refusal>
+        requires { unknown < count self.now }
+        ensures yes { IfOk result (λ b. OnTrue b (IsOverloaded self.now unknown)) }
+        ensures no { IfOk result (λ b. OnFalse b (IsOverloaded self.now unknown → ⊥)) }
+        ensures err { OnErr result (result ≡ Err Refusal.Spent) }
+        ensures spent { result ≡ Err Refusal.Spent ↔ self.now.spent ≡ true }
+    {
+        if self.spent {
+            return Err(Refusal::Spent);
+        }
+        let at = self.unknowns[unknown as usize];
+        let nodes = self.graph.nodes.as_slice();
+        Ok(has_several_names(nodes, self.graph.limits.as_slice(), at))
+    }
+
+    /// A law: the unknowns that are left may have any types at once that each of them may have, and these fix the types of
+    /// all others.
+    pub fn choices_are_free(&self)
+        requires { self.now.spent ≡ false }
+        ensures { IsMostGeneral self.now }
+    {
+        let _spent = self.spent;
+    }
+
+    /// The type that a type stands for, over the unknowns that are left, or `None` where it has more nodes than the
+    /// limit. The time taken beyond the type's own size grows with the limit.
+    pub fn reading(&mut self, ty: &MlType, limit: u32) -> Result<Option<Rc<MlType>>, Refusal>
+        requires known { IsOf self.old (type_of ty.now) }
+        requires small { limit + 1 < 2 ^ 32 }
+        ensures ty { IfOk result (λ found. IfSome found (λ t. IsReading self.new (type_of ty.now) (type_of t.value))) }
+        ensures within { IfOk result (λ found. IfSome found (λ t. type_size (type_of t.value) ≤ limit)) }
+        ensures large { IfOk result (λ found. IfNone found ((σ : Assignment finite) → Permits Finiteness self.new σ → limit < type_size (assign σ (type_of ty.now)))) }
+        ensures same { OnOk result (PermitsSame self.old self.new) }
+        ensures count { count self.new ≡ count self.old }
+        ensures kept { OnOk result (self.new.spent ≡ false) }
+        ensures unit { self.new.unit ≡ self.old.unit }
+        ensures err { OnErr result (self.new.spent ≡ true) }
+        ensures unmet { (l : Layer) → result ≡ Err (Refusal.Unmet l) → ⊥ }
+        ensures spent { result ≡ Err Refusal.Spent ↔ self.old.spent ≡ true }
+    {
+        if self.spent {
+            return Err(Refusal::Spent);
+        }
+        self.spent = true;
+        let Ok(at) = add(self.alloc, &mut self.graph, self.unknowns.as_slice(), ty) else {
+            return Err(Refusal::Memory);
+        };
+        let nodes = self.graph.nodes.as_slice();
+        let Ok(found) = type_up_to(self.alloc, nodes, self.unknowns.as_slice(), at, limit) else {
+            return Err(Refusal::Memory);
+        };
+        self.spent = false;
+        Ok(found)
+    }
+
+    /// Demands that two types are equal: U1, U2, U3, E6, U4, U5 or U7 where they can't be.
     pub fn require_equal(&mut self, left: &MlType, right: &MlType) -> Result<(), Refusal>
         requires left { IsOf self.old (type_of left.now) }
         requires right { IsOf self.old (type_of right.now) }
@@ -193,9 +260,69 @@ impl Solver {
     /// bound, where it can't be met.
     pub fn require_within(&mut self, ty: &MlType, bound: Bound, most: u32) -> Result<(), Refusal>
         requires { IsOf self.old (type_of ty.now) }
-        ensures ok { OnOk result (Adds self.old (within bound most (type_of ty.now)) self.new) }
-        ensures met { OnOk result ((l : Layer) → CanMeet l self.old (within bound most (type_of ty.now))) }
-        ensures unmet { (l : Layer) → result ≡ Err (Refusal.Unmet l) → IsFirstUnmet l self.old (within bound most (type_of ty.now)) }
+        ensures ok { OnOk result (Adds self.old (asks (Ask.Within bound most) (type_of ty.now)) self.new) }
+        ensures met { OnOk result ((l : Layer) → CanMeet l self.old (asks (Ask.Within bound most) (type_of ty.now))) }
+        ensures unmet { (l : Layer) → result ≡ Err (Refusal.Unmet l) → IsFirstUnmet l self.old (asks (Ask.Within bound most) (type_of ty.now)) }
+        ensures count { count self.new ≡ count self.old }
+        ensures kept { OnOk result (self.new.spent ≡ false) }
+        ensures unit { self.new.unit ≡ self.old.unit }
+        ensures err { OnErr result (self.new.spent ≡ true) }
+        ensures spent { result ≡ Err Refusal.Spent ↔ self.old.spent ≡ true }
+    {
+        self.require(ty, Ask::Within(bound, most))
+    }
+
+    /// Demands that a type admits equality (the Definition, section 4.4): U4 where it can't.
+    pub fn require_equality(&mut self, ty: &MlType) -> Result<(), Refusal>
+        requires { IsOf self.old (type_of ty.now) }
+        ensures ok { OnOk result (Adds self.old (asks (Ask.Equality) (type_of ty.now)) self.new) }
+        ensures met { OnOk result ((l : Layer) → CanMeet l self.old (asks (Ask.Equality) (type_of ty.now))) }
+        ensures unmet { (l : Layer) → result ≡ Err (Refusal.Unmet l) → IsFirstUnmet l self.old (asks (Ask.Equality) (type_of ty.now)) }
+        ensures count { count self.new ≡ count self.old }
+        ensures kept { OnOk result (self.new.spent ≡ false) }
+        ensures unit { self.new.unit ≡ self.old.unit }
+        ensures err { OnErr result (self.new.spent ≡ true) }
+        ensures spent { result ≡ Err Refusal.Spent ↔ self.old.spent ≡ true }
+    {
+        self.require(ty, Ask::Equality)
+    }
+
+    /// Demands that a type is one of the names of a class: U5 where it can't be.
+    pub fn require_class(&mut self, ty: &MlType, class: Class) -> Result<(), Refusal>
+        requires { IsOf self.old (type_of ty.now) }
+        ensures ok { OnOk result (Adds self.old (asks (Ask.Class class) (type_of ty.now)) self.new) }
+        ensures met { OnOk result ((l : Layer) → CanMeet l self.old (asks (Ask.Class class) (type_of ty.now))) }
+        ensures unmet { (l : Layer) → result ≡ Err (Refusal.Unmet l) → IsFirstUnmet l self.old (asks (Ask.Class class) (type_of ty.now)) }
+        ensures count { count self.new ≡ count self.old }
+        ensures kept { OnOk result (self.new.spent ≡ false) }
+        ensures unit { self.new.unit ≡ self.old.unit }
+        ensures err { OnErr result (self.new.spent ≡ true) }
+        ensures spent { result ≡ Err Refusal.Spent ↔ self.old.spent ≡ true }
+    {
+        self.require(ty, Ask::Class(class))
+    }
+
+    /// Demands that a type is an explicit type variable, which stands for itself alone: U7 where it can't be.
+    pub fn require_variable(&mut self, ty: &MlType, variable: Variable) -> Result<(), Refusal>
+        requires { IsOf self.old (type_of ty.now) }
+        ensures ok { OnOk result (Adds self.old (asks (Ask.Variable variable) (type_of ty.now)) self.new) }
+        ensures met { OnOk result ((l : Layer) → CanMeet l self.old (asks (Ask.Variable variable) (type_of ty.now))) }
+        ensures unmet { (l : Layer) → result ≡ Err (Refusal.Unmet l) → IsFirstUnmet l self.old (asks (Ask.Variable variable) (type_of ty.now)) }
+        ensures count { count self.new ≡ count self.old }
+        ensures kept { OnOk result (self.new.spent ≡ false) }
+        ensures unit { self.new.unit ≡ self.old.unit }
+        ensures err { OnErr result (self.new.spent ≡ true) }
+        ensures spent { result ≡ Err Refusal.Spent ↔ self.old.spent ≡ true }
+    {
+        self.require(ty, Ask::Variable(variable))
+    }
+
+    /// Demands something of a type.
+    fn require(&mut self, ty: &MlType, ask: Ask) -> Result<(), Refusal>
+        requires { IsOf self.old (type_of ty.now) }
+        ensures ok { OnOk result (Adds self.old (asks ask (type_of ty.now)) self.new) }
+        ensures met { OnOk result ((l : Layer) → CanMeet l self.old (asks ask (type_of ty.now))) }
+        ensures unmet { (l : Layer) → result ≡ Err (Refusal.Unmet l) → IsFirstUnmet l self.old (asks ask (type_of ty.now)) }
         ensures count { count self.new ≡ count self.old }
         ensures kept { OnOk result (self.new.spent ≡ false) }
         ensures unit { self.new.unit ≡ self.old.unit }
@@ -206,15 +333,8 @@ impl Solver {
             return Err(Refusal::Spent);
         }
         self.spent = true;
-        match restrict(
-            self.alloc,
-            self.unit,
-            &mut self.graph,
-            self.unknowns.as_slice(),
-            bound,
-            most,
-            ty,
-        ) {
+        let unknowns = self.unknowns.as_slice();
+        match impose(self.alloc, self.unit, &mut self.graph, unknowns, ask, ty) {
             Ok(()) => {
                 self.spent = false;
                 Ok(())

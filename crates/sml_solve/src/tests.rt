@@ -5,8 +5,10 @@ ghost use Rattle.sml_objects.specs.Views.{type_of, scheme_of};
 ghost use Rattle.sml_solve.specs.Asked.{count};
 ghost use Rattle.sml_solve.specs.Interned.{IsOver, IsBodyOver};
 
+use crate::class::Class;
 use crate::layer::{Bound, Layer, Refusal};
 use crate::solver::Solver;
+use crate::variable::Variable;
 use sml_lex::fault::{Code, Memory};
 use sml_objects::objects::{Initial, MadeName, MlType, Scheme, TyName, UnitId};
 use std::alloc::Global;
@@ -35,6 +37,12 @@ fn int(alloc: Global) -> MlType
     named(alloc, TyName::Initial(Initial::Int))
 }
 
+fn real(alloc: Global) -> MlType
+    ensures { (n : ℕ) → IsOver n (type_of result) }
+{
+    named(alloc, TyName::Initial(Initial::Real))
+}
+
 fn made(alloc: Global, unit: UnitId, number: u32) -> MlType
     ensures { (n : ℕ) → IsOver n (type_of result) }
 {
@@ -53,6 +61,14 @@ fn list(alloc: Global, of: MlType) -> Result<MlType, Memory>
     let mut parts = Vec::new(alloc);
     parts.push(Rc::new(alloc, of)?)?;
     Ok(MlType::Name(TyName::Initial(Initial::List), parts))
+}
+
+fn reference(alloc: Global, to: MlType) -> Result<MlType, Memory>
+    ensures { IfOk result (λ t. (n : ℕ) → IsOver n (type_of to) → IsOver n (type_of t)) }
+{
+    let mut parts = Vec::new(alloc);
+    parts.push(Rc::new(alloc, to)?)?;
+    Ok(MlType::Name(TyName::Initial(Initial::Ref), parts))
 }
 
 fn pair(alloc: Global, left: MlType, right: MlType) -> Result<MlType, Memory>
@@ -218,6 +234,153 @@ fn the_first_layer_answers(rt: HostRuntime) -> Result<(), Fail> {
     );
     let new = solver.require_equal(&unknown(0), &made(alloc, UNIT, 2));
     assert_eq!(rt; new, Err(Refusal::Unmet(Layer::Newness)));
+    Ok(())
+}
+
+#[test]
+fn equality_reaches_parts_and_stops_at_references(rt: HostRuntime) -> Result<(), Fail> {
+    let alloc = rt.alloc();
+    let mut solver = solved(alloc, 3)?;
+    let of_real = reference(alloc, real(alloc))?;
+    assert_eq!(rt; solver.require_equality(&of_real), Ok(()));
+    assert_eq!(rt; nest(alloc, &mut solver, 0, 1), Ok(()));
+    assert_eq!(rt; solver.require_equality(&unknown(0)), Ok(()));
+    assert_eq!(rt; link(&mut solver, 1, 2), Ok(()));
+    let unequal = solver.require_equal(&unknown(2), &real(alloc));
+    assert_eq!(rt; unequal, Err(Refusal::Unmet(Layer::Equality)));
+    assert_eq!(rt; Layer::Equality.code(), Code::U4);
+    Ok(())
+}
+
+#[test]
+fn classes_are_met_by_their_names_alone(rt: HostRuntime) -> Result<(), Fail> {
+    let alloc = rt.alloc();
+    let mut solver = solved(alloc, 2)?;
+    assert_eq!(rt; solver.require_class(&unknown(0), Class::Num), Ok(()));
+    assert_eq!(rt; link(&mut solver, 0, 1), Ok(()));
+    assert_eq!(rt; solver.require_class(&unknown(1), Class::RealInt), Ok(()));
+    assert_eq!(rt; solver.require_equal(&unknown(0), &real(alloc)), Ok(()));
+    let wordless = solver.require_class(&real(alloc), Class::WordInt);
+    assert_eq!(rt; wordless, Err(Refusal::Unmet(Layer::Classes)));
+    assert_eq!(rt; Layer::Classes.code(), Code::U5);
+    let mut solver = solved(alloc, 1)?;
+    assert_eq!(rt; solver.require_class(&unknown(0), Class::NumTxt), Ok(()));
+    let row = solver.require_equal(&unknown(0), &empty(alloc));
+    assert_eq!(rt; row, Err(Refusal::Unmet(Layer::Classes)));
+    Ok(())
+}
+
+#[test]
+fn equality_is_asked_before_classes(rt: HostRuntime) -> Result<(), Fail> {
+    let alloc = rt.alloc();
+    let mut solver = solved(alloc, 2)?;
+    assert_eq!(rt; solver.require_class(&unknown(0), Class::WordInt), Ok(()));
+    assert_eq!(rt; solver.require_equality(&unknown(0)), Ok(()));
+    let first = solver.require_equal(&unknown(0), &real(alloc));
+    assert_eq!(rt; first, Err(Refusal::Unmet(Layer::Equality)));
+    let mut solver = solved(alloc, 2)?;
+    assert_eq!(rt; solver.require_equality(&unknown(0)), Ok(()));
+    let within = solver.require_within(&unknown(1), Bound::Locality, 0);
+    assert_eq!(rt; within, Ok(()));
+    let left = pair(alloc, unknown(0), unknown(1))?;
+    let right = pair(alloc, real(alloc), made(alloc, UNIT, 0))?;
+    let first = solver.require_equal(&left, &right);
+    assert_eq!(rt; first, Err(Refusal::Unmet(Layer::Locality)));
+    Ok(())
+}
+
+#[test]
+fn overloaded_is_what_more_than_one_name_is_left_to(rt: HostRuntime) -> Result<(), Fail> {
+    let alloc = rt.alloc();
+    let mut solver = solved(alloc, 3)?;
+    assert_eq!(rt; solver.is_overloaded(0), Ok(false));
+    assert_eq!(rt; solver.require_class(&unknown(0), Class::RealInt), Ok(()));
+    assert_eq!(rt; link(&mut solver, 0, 1), Ok(()));
+    assert_eq!(rt; solver.is_overloaded(1), Ok(true));
+    assert_eq!(rt; solver.require_equality(&unknown(0)), Ok(()));
+    assert_eq!(rt; solver.is_overloaded(1), Ok(false));
+    assert_eq!(rt; solver.require_class(&unknown(2), Class::WordInt), Ok(()));
+    assert_eq!(rt; solver.require_equality(&unknown(2)), Ok(()));
+    assert_eq!(rt; solver.is_overloaded(2), Ok(true));
+    assert_eq!(rt; solver.require_equal(&unknown(2), &int(alloc)), Ok(()));
+    assert_eq!(rt; solver.is_overloaded(2), Ok(false));
+    let row = solver.require_equal(&unknown(2), &empty(alloc));
+    assert_eq!(rt; row, Err(Refusal::Unmet(Layer::Equations)));
+    assert_eq!(rt; solver.is_overloaded(0), Err(Refusal::Spent));
+    Ok(())
+}
+
+fn variable(number: u32, equality: bool) -> Variable {
+    Variable { number, equality }
+}
+
+#[test]
+fn explicit_variables_stand_for_themselves(rt: HostRuntime) -> Result<(), Fail> {
+    let alloc = rt.alloc();
+    let mut solver = solved(alloc, 3)?;
+    let plain = solver.require_variable(&unknown(0), variable(0, false));
+    assert_eq!(rt; plain, Ok(()));
+    assert_eq!(rt; link(&mut solver, 1, 0), Ok(()));
+    let again = solver.require_variable(&unknown(1), variable(0, false));
+    assert_eq!(rt; again, Ok(()));
+    let admitting = solver.require_variable(&unknown(2), variable(1, true));
+    assert_eq!(rt; admitting, Ok(()));
+    assert_eq!(rt; solver.require_equality(&unknown(2)), Ok(()));
+    let two = link(&mut solver, 0, 2);
+    assert_eq!(rt; two, Err(Refusal::Unmet(Layer::Rigidity)));
+    assert_eq!(rt; Layer::Rigidity.code(), Code::U7);
+    let mut solver = solved(alloc, 1)?;
+    let plain = solver.require_variable(&unknown(0), variable(0, false));
+    assert_eq!(rt; plain, Ok(()));
+    let unequal = solver.require_equality(&unknown(0));
+    assert_eq!(rt; unequal, Err(Refusal::Unmet(Layer::Rigidity)));
+    let mut solver = solved(alloc, 1)?;
+    assert_eq!(rt; solver.require_class(&unknown(0), Class::Num), Ok(()));
+    let number = solver.require_variable(&unknown(0), variable(0, true));
+    assert_eq!(rt; number, Err(Refusal::Unmet(Layer::Rigidity)));
+    Ok(())
+}
+
+#[test]
+fn explicit_variables_are_no_other_types(rt: HostRuntime) -> Result<(), Fail> {
+    let alloc = rt.alloc();
+    let mut solver = solved(alloc, 1)?;
+    let plain = solver.require_variable(&unknown(0), variable(0, true));
+    assert_eq!(rt; plain, Ok(()));
+    let bound = solver.require_equal(&unknown(0), &int(alloc));
+    assert_eq!(rt; bound, Err(Refusal::Unmet(Layer::Rigidity)));
+    let mut solver = solved(alloc, 1)?;
+    let plain = solver.require_variable(&unknown(0), variable(0, false));
+    assert_eq!(rt; plain, Ok(()));
+    assert_eq!(rt;
+        solver.require_equality(&real(alloc)),
+        Err(Refusal::Unmet(Layer::Equality))
+    );
+    Ok(())
+}
+
+#[test]
+fn a_type_is_read_up_to_its_size(rt: HostRuntime) -> Result<(), Fail> {
+    let alloc = rt.alloc();
+    let mut solver = solved(alloc, 3)?;
+    assert_eq!(rt; link(&mut solver, 2, 1), Ok(()));
+    let parts = pair(alloc, unknown(2), list(alloc, unknown(2))?)?;
+    assert_eq!(rt; solver.require_equal(&unknown(0), &parts), Ok(()));
+    let Ok(large) = solver.reading(&unknown(0), 3) else {
+        return Err("large".into());
+    };
+    assert!(rt; large.is_none());
+    let Ok(Some(ty)) = solver.reading(&unknown(0), 4) else {
+        return Err("small".into());
+    };
+    let MlType::Row(parts) = &*ty else {
+        return Err("row".into());
+    };
+    assert_eq!(rt; parts.len(), 2);
+    assert!(rt; matches!(&*parts[0], MlType::Free(1)));
+    assert!(rt;
+        matches!(&*parts[1], MlType::Name(TyName::Initial(Initial::List), of) if of.len() == 1 && matches!(&*of[0], MlType::Free(1)))
+    );
     Ok(())
 }
 

@@ -38,7 +38,7 @@ loop-at-preserved-in-Continue-branch-2 c =
     record {
       counting = counting-app ns c.args.root c.loop-at.size c.loop-at.pending.items c.pop.new.self.items c.extend_from_slice.new.self.items c.in-Some.at here c.in-App.field-0 kids c.loop-at.invariant.counting c.in-Some.ensures.items c.root_of.ensures.same e f;
       within = c.if-limit-size.false;
-      inside = rw f (all-append (λ i. i < length ns) c.pop.new.self.items kids.items (front-inside (λ i. i < length ns) c.pop.new.self.items c.in-Some.at i).0 k);
+      inside = rw f (all-append (λ i. i < length ns) c.pop.new.self.items kids.items (front-inside (λ i. i < length ns) c.pop.new.self.items c.in-Some.at i).0 k.0);
     }
 
 pub loop-at-preserved : goal.loop-at-preserved

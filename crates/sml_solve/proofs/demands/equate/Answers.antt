@@ -1,12 +1,12 @@
-use Rattle.std.proofs.Common.{◌≡◌, length, ap, refl, sym, ◌∙◌, arith, subst, Err}
+use Rattle.std.proofs.Common.{◌≡◌, ap, refl, sym, ◌∙◌, arith, subst, Err}
 use Rattle.std.specs.Prelude.{false}
 use Rattle.sml_objects.specs.Views.{type_of, maker_of}
 use Rattle.sml_solve.specs.declared.graph.Graph.{Graph}
 use Rattle.sml_solve.specs.declared.layer.Refusal.TheVariants.{Unmet}
+use Rattle.sml_solve.specs.Worlds.{finite}
 use Rattle.sml_solve.specs.Asked.{asked_of, equal, IsFirstUnmet}
 use Rattle.sml_solve.specs.Whole.{IsWhole}
-use Rattle.sml_solve.proofs.Interning.{inside-more}
-use Rattle.sml_solve.proofs.Demanding.{Stands, Grows, stands-equal, clash-first, changed-but, finished-adds, finished-met, failing-first}
+use Rattle.sml_solve.proofs.Demanding.{Stands, Grows, stands-equal, clash-first, changed-but, kept-merged, finished-adds, finished-met, failing-first}
 use Rattle.sml_solve.proofs.demands.equate.Goals as goal
 
 pub returns-in-Err-clause-unmet : goal.returns-in-Err-clause-unmet
@@ -18,23 +18,22 @@ returns-in-Err-clause-unmet c l e =
     let g = c.args.graph.now in
     let h = c.add.new.graph in
     let k = c.add-2.new.graph in
-    let gx : Grows us t g h c.in-Ok.first = record { interns = c.in-Ok.ensures.interns; newness = c.in-Ok.ensures.newness; locality = c.in-Ok.ensures.locality } in
-    let gy : Grows us v h k c.in-Ok-add.second = record { interns = c.in-Ok-add.ensures.interns; newness = c.in-Ok-add.ensures.newness; locality = c.in-Ok-add.ensures.locality } in
+    let gx : Grows us t g h c.in-Ok.first = record { interns = c.in-Ok.ensures.interns; limits = c.in-Ok.ensures.limits } in
+    let gy : Grows us v h k c.in-Ok-add.second = record { interns = c.in-Ok-add.ensures.interns; limits = c.in-Ok-add.ensures.limits } in
     let r : c.in-Err.refusal ≡ Unmet l = cc in
     let q = c.in-Err.ensures.unmet l (ap Err r) in
     subst (λ l. IsFirstUnmet l (asked_of u us g false) (equal t v)) (sym q)
-    (clash-first u us false t v g h k c.in-Ok.first c.in-Ok-add.second c.requires.whole.full c.in-Ok.ensures.full c.requires.inside c.requires.left c.requires.right gx gy (c.in-Err.ensures.clash l (ap Err r)))
+    (clash-first u us false t v g h k c.in-Ok.first c.in-Ok-add.second c.requires.kept.whole.full c.in-Ok.ensures.full c.requires.kept.owners.inside c.requires.left c.requires.right gx gy (c.in-Err.ensures.clash l (ap Err r)))
 
 pub finish-requires : goal.finish-requires
 finish-requires c =
     let u = maker_of c.args.unit in
     let k = c.add-2.new.graph in
-    let w : IsWhole u k = c.in-Ok-add.ensures.whole u (c.in-Ok.ensures.whole u c.requires.whole) in
+    let w : IsWhole u k = c.in-Ok-add.ensures.whole u (c.in-Ok.ensures.whole u c.requires.kept.whole) in
     let n = c.in-Ok-merge_two.ensures.len in
     rw c.as_slice.ensures.value record {
       full = record {
-        newness = w.full.newness ∙ sym n;
-        locality = w.full.locality ∙ sym n;
+        limits = w.full.limits ∙ sym n;
         marks = w.full.marks ∙ sym n;
         below = record { below = w.full.below.below; positive = w.full.below.positive };
       };
@@ -43,8 +42,7 @@ finish-requires c =
       before = k.nodes.items;
       rank = w.rank;
       outside = c.in-Ok-merge_two.ensures.outside;
-      newness = changed-but u k.nodes.items c.merge_two.new.nodes.items k.newness.items c.in-Ok-merge_two.changed.items w.newness c.in-Ok-merge_two.ensures.outside;
-      locality = changed-but u k.nodes.items c.merge_two.new.nodes.items k.locality.items c.in-Ok-merge_two.changed.items w.locality c.in-Ok-merge_two.ensures.outside;
+      but = changed-but u k.nodes.items c.merge_two.new.nodes.items k.limits.items c.in-Ok-merge_two.changed.items w.closed w.fit c.in-Ok-merge_two.ensures.outside;
     }
 
 pub returns-in-Err-finish-clause-unmet : goal.returns-in-Err-finish-clause-unmet
@@ -56,19 +54,24 @@ returns-in-Err-finish-clause-unmet c l e =
     let g = c.args.graph.now in
     let h = c.add.new.graph in
     let k = c.add-2.new.graph in
-    let gx : Grows us t g h c.in-Ok.first = record { interns = c.in-Ok.ensures.interns; newness = c.in-Ok.ensures.newness; locality = c.in-Ok.ensures.locality } in
-    let gy : Grows us v h k c.in-Ok-add.second = record { interns = c.in-Ok-add.ensures.interns; newness = c.in-Ok-add.ensures.newness; locality = c.in-Ok-add.ensures.locality } in
-    let m : Graph = record { nodes = c.merge_two.new.nodes; newness = k.newness; locality = k.locality; marks = k.marks; stamp = k.stamp } in
-    let x : Stands (asked_of u us g false) (equal t v) m = stands-equal u us false t v g h k m c.in-Ok.first c.in-Ok-add.second c.requires.whole.full c.in-Ok.ensures.full c.requires.inside c.requires.left c.requires.right gx gy c.in-Ok-merge_two.ensures.same refl refl in
+    let gx : Grows us t g h c.in-Ok.first = record { interns = c.in-Ok.ensures.interns; limits = c.in-Ok.ensures.limits } in
+    let gy : Grows us v h k c.in-Ok-add.second = record { interns = c.in-Ok-add.ensures.interns; limits = c.in-Ok-add.ensures.limits } in
+    let m : Graph = record { nodes = c.merge_two.new.nodes; limits = k.limits; marks = k.marks; stamp = k.stamp } in
+    let x : Stands (asked_of u us g false) (equal t v) m = stands-equal u us false t v g h k m c.in-Ok.first c.in-Ok-add.second c.requires.kept.whole.full c.in-Ok.ensures.full c.requires.kept.owners.inside c.requires.left c.requires.right gx gy c.in-Ok-merge_two.ensures.same refl in
     failing-first (asked_of u us g false) (equal t v) m x c.in-Ok-merge_two.ensures.sound l (c.in-Err-finish.ensures.unmet l e)
 
-pub returns-clause-inside : goal.returns-clause-inside
-returns-clause-inside c =
-    let a = c.in-Ok.ensures.interns.len in
-    let b = c.in-Ok-add.ensures.interns.len in
-    let n = c.in-Ok-merge_two.ensures.len in
-    let f = ap length c.in-Ok-finish.ensures.ok.nodes in
-    inside-more (length c.args.graph.now.nodes.items) (length c.finish.new.graph.nodes.items) c.args.unknowns.now (omega (arith, a, b, n, f)) c.requires.inside
+pub returns-clause-kept : goal.returns-clause-kept
+returns-clause-kept c =
+    let u = maker_of c.args.unit in
+    let us = c.args.unknowns.now in
+    let g = c.args.graph.now in
+    let h = c.add.new.graph in
+    let k = c.add-2.new.graph in
+    let gx : Grows us (type_of c.args.left.now) g h c.in-Ok.first = record { interns = c.in-Ok.ensures.interns; limits = c.in-Ok.ensures.limits } in
+    let gy : Grows us (type_of c.args.right.now) h k c.in-Ok-add.second = record { interns = c.in-Ok-add.ensures.interns; limits = c.in-Ok-add.ensures.limits } in
+    let m : Graph = record { nodes = c.merge_two.new.nodes; limits = k.limits; marks = k.marks; stamp = k.stamp } in
+    let w : IsWhole u k = c.in-Ok-add.ensures.whole u (c.in-Ok.ensures.whole u c.requires.kept.whole) in
+    kept-merged u us (type_of c.args.left.now) (type_of c.args.right.now) g h k m c.finish.new.graph c.in-Ok.first c.in-Ok-add.second c.requires.kept gx gy w.sound c.in-Ok-merge_two.ensures.len (λ σ q. ((c.in-Ok-merge_two.ensures.same finite σ).0 q).0) c.in-Ok-finish.ensures.ok
 
 pub returns-clause-ok : goal.returns-clause-ok
 returns-clause-ok c =
@@ -79,10 +82,10 @@ returns-clause-ok c =
     let g = c.args.graph.now in
     let h = c.add.new.graph in
     let k = c.add-2.new.graph in
-    let gx : Grows us t g h c.in-Ok.first = record { interns = c.in-Ok.ensures.interns; newness = c.in-Ok.ensures.newness; locality = c.in-Ok.ensures.locality } in
-    let gy : Grows us v h k c.in-Ok-add.second = record { interns = c.in-Ok-add.ensures.interns; newness = c.in-Ok-add.ensures.newness; locality = c.in-Ok-add.ensures.locality } in
-    let m : Graph = record { nodes = c.merge_two.new.nodes; newness = k.newness; locality = k.locality; marks = k.marks; stamp = k.stamp } in
-    let x : Stands (asked_of u us g false) (equal t v) m = stands-equal u us false t v g h k m c.in-Ok.first c.in-Ok-add.second c.requires.whole.full c.in-Ok.ensures.full c.requires.inside c.requires.left c.requires.right gx gy c.in-Ok-merge_two.ensures.same refl refl in
+    let gx : Grows us t g h c.in-Ok.first = record { interns = c.in-Ok.ensures.interns; limits = c.in-Ok.ensures.limits } in
+    let gy : Grows us v h k c.in-Ok-add.second = record { interns = c.in-Ok-add.ensures.interns; limits = c.in-Ok-add.ensures.limits } in
+    let m : Graph = record { nodes = c.merge_two.new.nodes; limits = k.limits; marks = k.marks; stamp = k.stamp } in
+    let x : Stands (asked_of u us g false) (equal t v) m = stands-equal u us false t v g h k m c.in-Ok.first c.in-Ok-add.second c.requires.kept.whole.full c.in-Ok.ensures.full c.requires.kept.owners.inside c.requires.left c.requires.right gx gy c.in-Ok-merge_two.ensures.same refl in
     finished-adds (asked_of u us g false) (equal t v) m c.finish.new.graph false x c.in-Ok-finish.ensures.ok
 
 pub returns-clause-met : goal.returns-clause-met
@@ -94,8 +97,8 @@ returns-clause-met c =
     let g = c.args.graph.now in
     let h = c.add.new.graph in
     let k = c.add-2.new.graph in
-    let gx : Grows us t g h c.in-Ok.first = record { interns = c.in-Ok.ensures.interns; newness = c.in-Ok.ensures.newness; locality = c.in-Ok.ensures.locality } in
-    let gy : Grows us v h k c.in-Ok-add.second = record { interns = c.in-Ok-add.ensures.interns; newness = c.in-Ok-add.ensures.newness; locality = c.in-Ok-add.ensures.locality } in
-    let m : Graph = record { nodes = c.merge_two.new.nodes; newness = k.newness; locality = k.locality; marks = k.marks; stamp = k.stamp } in
-    let x : Stands (asked_of u us g false) (equal t v) m = stands-equal u us false t v g h k m c.in-Ok.first c.in-Ok-add.second c.requires.whole.full c.in-Ok.ensures.full c.requires.inside c.requires.left c.requires.right gx gy c.in-Ok-merge_two.ensures.same refl refl in
-    finished-met (asked_of u us g false) (equal t v) m c.finish.new.graph x c.in-Ok-finish.ensures.ok
+    let gx : Grows us t g h c.in-Ok.first = record { interns = c.in-Ok.ensures.interns; limits = c.in-Ok.ensures.limits } in
+    let gy : Grows us v h k c.in-Ok-add.second = record { interns = c.in-Ok-add.ensures.interns; limits = c.in-Ok-add.ensures.limits } in
+    let m : Graph = record { nodes = c.merge_two.new.nodes; limits = k.limits; marks = k.marks; stamp = k.stamp } in
+    let x : Stands (asked_of u us g false) (equal t v) m = stands-equal u us false t v g h k m c.in-Ok.first c.in-Ok-add.second c.requires.kept.whole.full c.in-Ok.ensures.full c.requires.kept.owners.inside c.requires.left c.requires.right gx gy c.in-Ok-merge_two.ensures.same refl in
+    finished-met (asked_of u us g false) (equal t v) m c.finish.new.graph (λ e. omega (arith, e)) x c.in-Ok-finish.ensures.ok

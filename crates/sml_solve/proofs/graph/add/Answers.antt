@@ -2,8 +2,7 @@ use Rattle.std.proofs.Common.{arith}
 use Rattle.sml_objects.specs.Views.{type_of}
 use Rattle.sml_solve.specs.Interned.{Interns}
 use Rattle.sml_solve.specs.Ranks.{HasRank}
-use Rattle.sml_solve.specs.Bounds.{IsClosed}
-use Rattle.sml_solve.proofs.Wholeness.{closed-more, ranked-more}
+use Rattle.sml_solve.proofs.Wholeness.{closed-more, fit-more, ranked-more}
 use Rattle.sml_solve.proofs.graph.add.Goals as goal
 
 pub returns-clause-whole : goal.returns-clause-whole
@@ -14,12 +13,12 @@ returns-clause-whole c u w =
     let f = c.in_ok-fill.ensures in
     let x : Interns ns us t c.intern.new.nodes.items c.in_ok-at.at = c.in_ok-at.ensures in
     let rank : HasRank c.intern.new.nodes.items = ranked-more ns us t c.intern.new.nodes.items c.in_ok-at.at x w.rank in
-    let newness : IsClosed u c.intern.new.nodes.items c.fill.new.graph.newness.items = closed-more u ns c.intern.new.nodes.items c.args.graph.now.newness.items c.fill.new.graph.newness.items w.full.newness x.before f.newness w.newness in
-    let locality : IsClosed u c.intern.new.nodes.items c.fill.new.graph.locality.items = closed-more u ns c.intern.new.nodes.items c.args.graph.now.locality.items c.fill.new.graph.locality.items w.full.locality x.before f.locality w.locality in
+    let n = c.args.graph.now.limits.items in
+    let m = c.fill.new.graph.limits.items in
     record {
       full = f.full (omega (arith, w.full.marks, x.len));
       sound = rw f.nodes x.sound;
       rank = rw f.nodes rank;
-      newness = rw f.nodes newness;
-      locality = rw f.nodes locality;
+      closed = rw f.nodes (closed-more ns c.intern.new.nodes.items n m w.full.limits x.before f.limits w.closed);
+      fit = λ l. rw f.nodes (fit-more l u ns c.intern.new.nodes.items n m w.full.limits x.before f.limits (w.fit l));
     }

@@ -1,7 +1,7 @@
 use Rattle.std.proofs.Common.{drop}
 use Rattle.sml_objects.specs.Views.{type_of}
 use Rattle.sml_solve.specs.Interned.{IsInterning, seen}
-use Rattle.sml_solve.proofs.Interning.{sizes}
+use Rattle.sml_solve.specs.Reads.{sizes}
 use Rattle.sml_solve.proofs.intern.intern.Given as goal
 
 abbrev pub invariant-loop-next : goal.invariant-loop-next

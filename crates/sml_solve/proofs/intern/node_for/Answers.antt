@@ -28,6 +28,7 @@ returns-in_ok-kids-in-Row c =
     expands-head (type_of c.args.ty.now) c.args.unknowns.now k Row c.in_ok-kids-in-Row.kids (seen c.args.types.now.items) (seen c.places_for.new.types.items) more
     (ap type_of c.in-Row.is ∙ (type_of-row c.in-Row.parts ∙ row-type more))
     (c.in_ok-kids-in-Row.ensures.places ∙ ap (numbers k) n)
+    tt
     (c.in_ok-kids-in-Row.ensures.types ∙ ap (λ xs. seen c.args.types.now.items ++ xs) same)
 
 pub returns-in_ok-push-in-Arrow-2 : goal.returns-in_ok-push-in-Arrow-2
@@ -40,6 +41,7 @@ returns-in_ok-push-in-Arrow-2 c =
     expands-head (type_of c.args.ty.now) c.args.unknowns.now k Arrow c.push-in-Arrow.new.self (seen c.args.types.now.items) (seen c.place_for-in-Arrow.new.types.items) (a ∷ b ∷ [])
     (ap type_of c.in-Arrow.is ∙ type_of-arrow c.in-Arrow.from c.in-Arrow.to)
     (two-places c.new-kids.result.items c.push.new.self.items c.push-in-Arrow.new.self.items k c.in_ok-place_for-in-Arrow.field-0 c.in_ok-place_for-in-Arrow-2.field-0 c.new-kids.ensures.items c.in_ok-push-in-Arrow.ensures.ok c.in_ok-push-in-Arrow-2.ensures.ok c.in_ok-place_for-in-Arrow.ensures.place (omega (arith, c.in_ok-place_for-in-Arrow-2.ensures.place, c.in_ok-place_for-in-Arrow.ensures.len)))
+    refl
     (append-next (seen c.place_for-in-Arrow.new.types.items) (seen c.place_for.new.types.items) (seen c.args.types.now.items) (a ∷ []) b (a ∷ b ∷ []) two one refl)
 
 pub returns-in_ok-kids-in-Name : goal.returns-in_ok-kids-in-Name
@@ -51,4 +53,5 @@ returns-in_ok-kids-in-Name c =
     expands-head (type_of c.args.ty.now) c.args.unknowns.now k (Name c.in-Name.name) c.in_ok-kids-in-Name.kids (seen c.args.types.now.items) (seen c.places_for-in-Name.new.types.items) more
     (ap type_of c.in-Name.is ∙ type_of-name c.in-Name.name c.in-Name.parts)
     (c.in_ok-kids-in-Name.ensures.places ∙ ap (numbers k) n)
+    tt
     (c.in_ok-kids-in-Name.ensures.types ∙ ap (λ xs. seen c.args.types.now.items ++ xs) same)

@@ -1,56 +1,45 @@
-use Rattle.std.proofs.Common.{◌≡◌, ◌<◌, ◌∷◌, [], ◌++◌, length, None, ◌∙◌}
+use Rattle.std.proofs.Common.{◌≡◌, ◌<◌, ◌∷◌, [], ◌++◌, length, arith, refl, ◌∙◌}
 use Rattle.std.specs.List.{AllByRecursion}
 use Rattle.sml_objects.specs.Views.{maker_of}
 use Rattle.sml_solve.specs.Graphs.{node_at, parts}
-use Rattle.sml_solve.specs.Bounds.{IsClosedBut, Lowers, HasHeadWithin, limit_at}
+use Rattle.sml_solve.specs.Limits.{limit_at, handed, IsDoneBut, Lowers}
+use Rattle.sml_solve.proofs.Interning.{parts-inside}
 use Rattle.sml_solve.proofs.Searching.{read_at}
-use Rattle.sml_solve.proofs.Limiting.{but-done, but-handed, same-handed, same-then, not-kept, front-inside, none-of}
+use Rattle.sml_solve.proofs.Limiting.{but-handed, same-handed, same-then, unfit-fails, either-fails, done-fits, front-inside}
 use Rattle.sml_solve.proofs.limits.hand_on_all.Goals as goal
 
-pub returns-then-not-branch-clause-no : goal.returns-then-not-branch-clause-no
-returns-then-not-branch-clause-no c σ m k =
+pub hand_on-requires : goal.hand_on-requires
+hand_on-requires c =
     let ns = c.args.nodes.now in
-    let u = maker_of c.args.unit in
     let at = c.in-Some.at in
     let i = c.loop-at.invariant in
     let inside : AllByRecursion (λ i. i < length c.loop-at.limits) (c.pop.new.self.items ++ at ∷ []) = rw c.in-Some.ensures.items at i.inside in
     let l : at < length ns = rw i.len at (front-inside (λ i. i < length c.loop-at.limits) c.pop.new.self.items at inside).1 in
-    let n : node_at ns at ≡ c.index-nodes-at.result = read_at ns at c.index-nodes-at.result l c.index-nodes-at.is in
-    let h = rw (c.if-not-branch.true, ← n) at c.in_ok-hand_on.ensures.no in
-    not-kept u c.in-Some-limits.most ns c.loop-at.limits at c.in-Some-limits.is h σ m ((i.same σ m).0 k)
-
-pub loop-at-preserved-else-not-branch : goal.loop-at-preserved-else-not-branch
-loop-at-preserved-else-not-branch c =
-    let ns = c.args.nodes.now in
-    let u = maker_of c.args.unit in
-    let at = c.in-Some.at in
-    let i = c.loop-at.invariant in
-    let inside : AllByRecursion (λ i. i < length c.loop-at.limits) (c.pop.new.self.items ++ at ∷ []) = rw c.in-Some.ensures.items at i.inside in
-    let front = front-inside (λ i. i < length c.loop-at.limits) c.pop.new.self.items at inside in
-    let l : at < length ns = rw i.len at front.1 in
-    let n : node_at ns at ≡ c.index-nodes-at.result = read_at ns at c.index-nodes-at.result l c.index-nodes-at.is in
-    let b : IsClosedBut u ns c.loop-at.limits (c.pop.new.self.items ++ at ∷ []) = rw c.in-Some.ensures.items at i.but in
-    let low : Lowers c.loop-at.limits c.pop.new.self.items (parts (node_at ns at)) c.in-Some-limits.most c.hand_on.new.limits c.hand_on.new.pending.items = rw n (rw c.if-not-branch.false at c.in_ok-hand_on.ensures.yes) in
-    let h : HasHeadWithin u c.in-Some-limits.most (node_at ns at) = rw n (rw c.if-not-branch.false at c.in_ok-hand_on.ensures.within) in
-    record {
-      len = low.len ∙ i.len;
-      inside = rw low.len (low.inside front.0);
-      but = but-handed u c.in-Some-limits.most ns c.loop-at.limits c.hand_on.new.limits c.pop.new.self.items c.hand_on.new.pending.items at b c.in-Some-limits.is h low;
-      same = same-then u ns c.args.limits.now c.loop-at.limits c.hand_on.new.limits i.same (same-handed u c.in-Some-limits.most ns c.loop-at.limits c.hand_on.new.limits c.pop.new.self.items c.hand_on.new.pending.items at c.in-Some-limits.is low);
-    }
+    let n : node_at ns at ≡ c.index-nodes-at-in-Some.result = read_at ns at c.index-nodes-at-in-Some.result l c.index-nodes-at-in-Some.is in
+    rw (i.len, ← n) (parts-inside (length ns) at (node_at ns at) l (c.requires.sound at))
 
 pub loop-at-preserved : goal.loop-at-preserved
 loop-at-preserved c =
     let ns = c.args.nodes.now in
     let u = maker_of c.args.unit in
     let at = c.in-Some.at in
+    let ls = c.loop-at.limits in
+    let a = limit_at ls at in
     let i = c.loop-at.invariant in
-    let inside : AllByRecursion (λ i. i < length c.loop-at.limits) (c.pop.new.self.items ++ at ∷ []) = rw c.in-Some.ensures.items at i.inside in
-    let b : IsClosedBut u ns c.loop-at.limits (c.pop.new.self.items ++ at ∷ []) = rw c.in-Some.ensures.items at i.but in
-    let none : limit_at c.loop-at.limits at ≡ None = none-of (limit_at c.loop-at.limits at) c.in_default-limits.not-Some in
+    let inside : AllByRecursion (λ i. i < length ls) (c.pop.new.self.items ++ at ∷ []) = rw c.in-Some.ensures.items at i.inside in
+    let front = front-inside (λ i. i < length ls) c.pop.new.self.items at inside in
+    let l : at < length ns = rw i.len at front.1 in
+    let n : node_at ns at ≡ c.index-nodes-at.result = read_at ns at c.index-nodes-at.result l c.index-nodes-at.is in
+    let m : node_at ns at ≡ c.index-nodes-at-in-Some.result = read_at ns at c.index-nodes-at-in-Some.result l c.index-nodes-at-in-Some.is in
+    let b : IsDoneBut u ns ls c.loop-at.failed (c.pop.new.self.items ++ at ∷ []) = rw c.in-Some.ensures.items at i.but in
+    let low : Lowers ls c.pop.new.self.items (parts (node_at ns at)) (handed (node_at ns at) a) c.hand_on.new.limits c.hand_on.new.pending.items = rw m c.in_ok-hand_on.ensures in
     record {
-      len = i.len;
-      inside = (front-inside (λ i. i < length c.loop-at.limits) c.pop.new.self.items at inside).0;
-      but = but-done u ns c.loop-at.limits c.pop.new.self.items at b none;
-      same = i.same;
+      len = low.len ∙ i.len;
+      inside = rw low.len (low.inside front.0);
+      but = but-handed u a ns ls c.hand_on.new.limits c.loop-at.failed c.earlier-failed.result c.pop.new.self.items c.hand_on.new.pending.items at b refl c.earlier-failed.ensures.first (λ k h. rw n (c.misfit.ensures.fits k (c.earlier-failed.ensures.second k h))) low;
+      same = same-then u ns c.args.limits.now ls c.hand_on.new.limits i.same (same-handed u a ns ls c.hand_on.new.limits c.pop.new.self.items c.hand_on.new.pending.items at refl low);
+      fails = either-fails u ns c.args.limits.now c.loop-at.failed c.misfit.result c.earlier-failed.result c.earlier-failed.ensures.either i.fails (unfit-fails u ns c.args.limits.now ls at a c.misfit.result refl i.same (rw n c.misfit.ensures.fails));
     }
+
+pub returns-clause-fit : goal.returns-clause-fit
+returns-clause-fit c = done-fits (maker_of c.args.unit) c.args.nodes.now c.loop-at.limits c.loop-at.failed c.loop-at.pending.items c.loop-at.invariant.but (omega (arith, c.in_default.ensures.len, c.in_default.ensures.cases.0))

@@ -1,4 +1,4 @@
-use Rattle.std.proofs.Common.{◌≡◌, ◌++◌, ◌∷◌, [], length, ◌+◌, ap, ◌∙◌, subst, arith, length-append}
+use Rattle.std.proofs.Common.{◌≡◌, ◌++◌, ◌∷◌, [], length, ◌+◌, ◌<◌, ◌^◌, ap, ◌∙◌, subst, arith, length-append}
 use Rattle.std.specs.Prelude.{false}
 use Rattle.sml_objects.specs.Views.{maker_of}
 use Rattle.sml_solve.specs.declared.node.Node.TheVariants.{Unknown}
@@ -18,7 +18,8 @@ invariant_of-self-2 c _ =
     let m : length c.push.new.self.items ≡ length g.nodes.items + 1 = ap length c.in_default-push.ensures.items ∙ simp length-append in
     let full : IsFull c.fill.new.graph = c.in_default-fill.ensures.full (omega (arith, k.whole.full.marks, m)) in
     let v : c.push-2.new.self.items ≡ us ++ length g.nodes.items ∷ [] = rw (← n) c.in_default-push-2.ensures.items in
-    kept-fresh u g c.fill.new.graph us c.push-2.new.self.items k e c.in_default-fill.ensures.newness c.in_default-fill.ensures.locality full v
+    let few : length us < 2 ^ 32 = omega (arith, c.in-Ok.ensures) in
+    kept-fresh u g c.fill.new.graph us c.push-2.new.self.items k e c.in_default-fill.ensures.limits full v few
 
 pub returns-clause-same : goal.returns-clause-same
 returns-clause-same c =
@@ -31,4 +32,4 @@ returns-clause-same c =
     let e : h.nodes.items ≡ g.nodes.items ++ Unknown ∷ [] = c.in_default-fill.ensures.nodes ∙ c.in_default-push.ensures.items in
     let v : c.push-2.new.self.items ≡ us ++ length g.nodes.items ∷ [] = rw (← n) c.in_default-push-2.ensures.items in
     subst (λ s. PermitsSame s (asked_of u c.push-2.new.self.items h false)) c.self.view_is
-    (permits-fresh u g h us c.push-2.new.self.items c.self.inside.spent false k e c.in_default-fill.ensures.newness c.in_default-fill.ensures.locality v)
+    (permits-fresh u g h us c.push-2.new.self.items c.self.inside.spent false k e c.in_default-fill.ensures.limits v)

@@ -1,4 +1,4 @@
-use Rattle.std.proofs.Common.{refl}
+use Rattle.std.proofs.Common.{refl, arith}
 use Rattle.std.specs.Prelude.{false}
 use Rattle.sml_objects.specs.Views.{maker_of}
 use Rattle.sml_solve.specs.declared.graph.Graph.{Graph}
@@ -8,11 +8,11 @@ use Rattle.sml_solve.proofs.solver.Solver.new.Goals as goal
 
 pub invariant_of-result : goal.invariant_of-result
 invariant_of-result c _ =
-    let g : Graph = record { nodes = c.new.result; newness = c.new-2.result; locality = c.new-3.result; marks = c.new-4.result; stamp = 1 } in
-    kept-none (maker_of c.args.unit) g c.new-5.result.items c.new.ensures.items c.new-2.ensures.items c.new-3.ensures.items c.new-4.ensures.items refl c.new-5.ensures.items
+    let g : Graph = record { nodes = c.new.result; limits = c.new-2.result; marks = c.new-3.result; stamp = 1 } in
+    kept-none (maker_of c.args.unit) g c.new-4.result.items c.new.ensures.items c.new-2.ensures.items c.new-3.ensures.items refl c.new-4.ensures.items
 
 pub returns-clause-met : goal.returns-clause-met
 returns-clause-met c =
-    let g : Graph = record { nodes = c.new.result; newness = c.new-2.result; locality = c.new-3.result; marks = c.new-4.result; stamp = 1 } in
-    let k : IsKept (maker_of c.args.unit) g c.new-5.result.items = kept-none (maker_of c.args.unit) g c.new-5.result.items c.new.ensures.items c.new-2.ensures.items c.new-3.ensures.items c.new-4.ensures.items refl c.new-5.ensures.items in
-    whole-met (maker_of c.args.unit) g c.new-5.result.items false k.whole
+    let g : Graph = record { nodes = c.new.result; limits = c.new-2.result; marks = c.new-3.result; stamp = 1 } in
+    let k : IsKept (maker_of c.args.unit) g c.new-4.result.items = kept-none (maker_of c.args.unit) g c.new-4.result.items c.new.ensures.items c.new-2.ensures.items c.new-3.ensures.items refl c.new-4.ensures.items in
+    whole-met (maker_of c.args.unit) g c.new-4.result.items false (λ e. omega (arith, e)) k.whole

@@ -18,7 +18,7 @@ size_from-requires-clause-rank c =
     let t = type_of c.args.ty.now in
     let k : IsKept u g us = c.self.invariant c.if-self.false in
     let i : Interns g.nodes.items us t h.nodes.items c.in-Ok.at = subst (λ us. Interns g.nodes.items us t h.nodes.items c.in-Ok.at) c.as_slice.ensures.value c.in-Ok.ensures.interns in
-    let x : Grows us t g h c.in-Ok.at = record { interns = i; newness = c.in-Ok.ensures.newness; locality = c.in-Ok.ensures.locality } in
+    let x : Grows us t g h c.in-Ok.at = record { interns = i; limits = c.in-Ok.ensures.limits } in
     let w : IsWhole u h = c.in-Ok.ensures.whole u k.whole in
     rw c.as_slice-2.ensures.value w.rank
 
@@ -31,7 +31,7 @@ invariant_of-self-2 c _ =
     let t = type_of c.args.ty.now in
     let k : IsKept u g us = c.self.invariant c.if-self.false in
     let i : Interns g.nodes.items us t h.nodes.items c.in-Ok.at = subst (λ us. Interns g.nodes.items us t h.nodes.items c.in-Ok.at) c.as_slice.ensures.value c.in-Ok.ensures.interns in
-    let x : Grows us t g h c.in-Ok.at = record { interns = i; newness = c.in-Ok.ensures.newness; locality = c.in-Ok.ensures.locality } in
+    let x : Grows us t g h c.in-Ok.at = record { interns = i; limits = c.in-Ok.ensures.limits } in
     let w : IsWhole u h = c.in-Ok.ensures.whole u k.whole in
     kept-grown u us t g h c.in-Ok.at k x w
 
@@ -44,7 +44,7 @@ returns-clause-size c =
     let t = type_of c.args.ty.now in
     let k : IsKept u g us = c.self.invariant c.if-self.false in
     let i : Interns g.nodes.items us t h.nodes.items c.in-Ok.at = subst (λ us. Interns g.nodes.items us t h.nodes.items c.in-Ok.at) c.as_slice.ensures.value c.in-Ok.ensures.interns in
-    let x : Grows us t g h c.in-Ok.at = record { interns = i; newness = c.in-Ok.ensures.newness; locality = c.in-Ok.ensures.locality } in
+    let x : Grows us t g h c.in-Ok.at = record { interns = i; limits = c.in-Ok.ensures.limits } in
     let w : IsWhole u h = c.in-Ok.ensures.whole u k.whole in
     let o : IsOver (length us) t = subst (λ s. IsOf s t) (sym c.self.view_is) c.requires.known in
     let n : IsCounted h.nodes.items c.in-Ok.at c.args.limit c.in-Ok-size_from.size = subst (λ ns. IsCounted ns c.in-Ok.at c.args.limit c.in-Ok-size_from.size) c.as_slice-2.ensures.value c.in-Ok-size_from.ensures in
@@ -59,6 +59,6 @@ returns-clause-same c =
     let t = type_of c.args.ty.now in
     let k : IsKept u g us = c.self.invariant c.if-self.false in
     let i : Interns g.nodes.items us t h.nodes.items c.in-Ok.at = subst (λ us. Interns g.nodes.items us t h.nodes.items c.in-Ok.at) c.as_slice.ensures.value c.in-Ok.ensures.interns in
-    let x : Grows us t g h c.in-Ok.at = record { interns = i; newness = c.in-Ok.ensures.newness; locality = c.in-Ok.ensures.locality } in
+    let x : Grows us t g h c.in-Ok.at = record { interns = i; limits = c.in-Ok.ensures.limits } in
     let w : IsWhole u h = c.in-Ok.ensures.whole u k.whole in
     subst (λ s. PermitsSame s (asked_of u us h false)) c.self.view_is (permits-grown u us c.self.inside.spent false t g h c.in-Ok.at k x)

@@ -1,0 +1,98 @@
+use Rattle.std.proofs.Common.{length, subst, sym}
+use Rattle.std.specs.Prelude.{false}
+use Rattle.sml_objects.specs.Views.{type_of, maker_of}
+use Rattle.sml_solve.specs.Worlds.{finite}
+use Rattle.sml_solve.specs.Interned.{IsOver, Interns}
+use Rattle.sml_solve.specs.Asked.{asked_of, IsOf, PermitsSame}
+use Rattle.sml_solve.specs.Whole.{IsKept, IsWhole}
+use Rattle.sml_solve.proofs.Demanding.{Grows, permits-grown, kept-grown}
+use Rattle.sml_solve.proofs.Owning.{readings-are, larges-are}
+use Rattle.sml_solve.proofs.solver.Solver.reading.Goals as goal
+
+pub type_up_to-requires-clause-rank : goal.type_up_to-requires-clause-rank
+type_up_to-requires-clause-rank c =
+    let u = maker_of c.self.inside.unit in
+    let us = c.self.inside.unknowns.items in
+    let g = c.self.inside.graph in
+    let h = c.add.new.graph in
+    let t = type_of c.args.ty.now in
+    let k : IsKept u g us = c.self.invariant c.if-self.false in
+    let i : Interns g.nodes.items us t h.nodes.items c.in-Ok.at = subst (λ us. Interns g.nodes.items us t h.nodes.items c.in-Ok.at) c.as_slice.ensures.value c.in-Ok.ensures.interns in
+    let x : Grows us t g h c.in-Ok.at = record { interns = i; limits = c.in-Ok.ensures.limits } in
+    let w : IsWhole u h = c.in-Ok.ensures.whole u k.whole in
+    let n : IsKept u h us = kept-grown u us t g h c.in-Ok.at k x w in
+    rw c.as_slice-nodes.ensures.value w.rank
+
+pub type_up_to-requires-clause-owners : goal.type_up_to-requires-clause-owners
+type_up_to-requires-clause-owners c =
+    let u = maker_of c.self.inside.unit in
+    let us = c.self.inside.unknowns.items in
+    let g = c.self.inside.graph in
+    let h = c.add.new.graph in
+    let t = type_of c.args.ty.now in
+    let k : IsKept u g us = c.self.invariant c.if-self.false in
+    let i : Interns g.nodes.items us t h.nodes.items c.in-Ok.at = subst (λ us. Interns g.nodes.items us t h.nodes.items c.in-Ok.at) c.as_slice.ensures.value c.in-Ok.ensures.interns in
+    let x : Grows us t g h c.in-Ok.at = record { interns = i; limits = c.in-Ok.ensures.limits } in
+    let w : IsWhole u h = c.in-Ok.ensures.whole u k.whole in
+    let n : IsKept u h us = kept-grown u us t g h c.in-Ok.at k x w in
+    rw (c.as_slice-nodes.ensures.value, c.as_slice-2.ensures.value) n.owners
+
+pub invariant_of-self-2 : goal.invariant_of-self-2
+invariant_of-self-2 c _ =
+    let u = maker_of c.self.inside.unit in
+    let us = c.self.inside.unknowns.items in
+    let g = c.self.inside.graph in
+    let h = c.add.new.graph in
+    let t = type_of c.args.ty.now in
+    let k : IsKept u g us = c.self.invariant c.if-self.false in
+    let i : Interns g.nodes.items us t h.nodes.items c.in-Ok.at = subst (λ us. Interns g.nodes.items us t h.nodes.items c.in-Ok.at) c.as_slice.ensures.value c.in-Ok.ensures.interns in
+    let x : Grows us t g h c.in-Ok.at = record { interns = i; limits = c.in-Ok.ensures.limits } in
+    let w : IsWhole u h = c.in-Ok.ensures.whole u k.whole in
+    let n : IsKept u h us = kept-grown u us t g h c.in-Ok.at k x w in
+    n
+
+pub returns-clause-ty : goal.returns-clause-ty
+returns-clause-ty c =
+    let u = maker_of c.self.inside.unit in
+    let us = c.self.inside.unknowns.items in
+    let g = c.self.inside.graph in
+    let h = c.add.new.graph in
+    let t = type_of c.args.ty.now in
+    let k : IsKept u g us = c.self.invariant c.if-self.false in
+    let i : Interns g.nodes.items us t h.nodes.items c.in-Ok.at = subst (λ us. Interns g.nodes.items us t h.nodes.items c.in-Ok.at) c.as_slice.ensures.value c.in-Ok.ensures.interns in
+    let x : Grows us t g h c.in-Ok.at = record { interns = i; limits = c.in-Ok.ensures.limits } in
+    let w : IsWhole u h = c.in-Ok.ensures.whole u k.whole in
+    let n : IsKept u h us = kept-grown u us t g h c.in-Ok.at k x w in
+    let o : IsOver (length us) t = subst (λ s. IsOf s t) (sym c.self.view_is) c.requires.known in
+    readings-are u us h false t c.in-Ok.at c.args.limit c.in-Ok-type_up_to.found w.sound w.rank n.owners o (λ τ m. (i.back finite τ m).1)
+    (rw (c.as_slice-nodes.ensures.value, c.as_slice-2.ensures.value) at c.in-Ok-type_up_to.ensures.ty)
+
+pub returns-clause-large : goal.returns-clause-large
+returns-clause-large c =
+    let u = maker_of c.self.inside.unit in
+    let us = c.self.inside.unknowns.items in
+    let g = c.self.inside.graph in
+    let h = c.add.new.graph in
+    let t = type_of c.args.ty.now in
+    let k : IsKept u g us = c.self.invariant c.if-self.false in
+    let i : Interns g.nodes.items us t h.nodes.items c.in-Ok.at = subst (λ us. Interns g.nodes.items us t h.nodes.items c.in-Ok.at) c.as_slice.ensures.value c.in-Ok.ensures.interns in
+    let x : Grows us t g h c.in-Ok.at = record { interns = i; limits = c.in-Ok.ensures.limits } in
+    let w : IsWhole u h = c.in-Ok.ensures.whole u k.whole in
+    let n : IsKept u h us = kept-grown u us t g h c.in-Ok.at k x w in
+    let o : IsOver (length us) t = subst (λ s. IsOf s t) (sym c.self.view_is) c.requires.known in
+    larges-are u us h false t c.in-Ok.at c.args.limit c.in-Ok-type_up_to.found o (λ τ m. (i.back finite τ m).1)
+    (rw c.as_slice-nodes.ensures.value at c.in-Ok-type_up_to.ensures.large)
+
+pub returns-clause-same : goal.returns-clause-same
+returns-clause-same c =
+    let u = maker_of c.self.inside.unit in
+    let us = c.self.inside.unknowns.items in
+    let g = c.self.inside.graph in
+    let h = c.add.new.graph in
+    let t = type_of c.args.ty.now in
+    let k : IsKept u g us = c.self.invariant c.if-self.false in
+    let i : Interns g.nodes.items us t h.nodes.items c.in-Ok.at = subst (λ us. Interns g.nodes.items us t h.nodes.items c.in-Ok.at) c.as_slice.ensures.value c.in-Ok.ensures.interns in
+    let x : Grows us t g h c.in-Ok.at = record { interns = i; limits = c.in-Ok.ensures.limits } in
+    let w : IsWhole u h = c.in-Ok.ensures.whole u k.whole in
+    let n : IsKept u h us = kept-grown u us t g h c.in-Ok.at k x w in
+    subst (λ s. PermitsSame s (asked_of u us h false)) c.self.view_is (permits-grown u us c.self.inside.spent false t g h c.in-Ok.at k x)

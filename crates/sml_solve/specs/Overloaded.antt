@@ -1,0 +1,31 @@
+-- Unknowns that may be one of several initial names, as the type of an overloaded identifier (the Definition, appendix E).
+use Rattle.std.specs.Prelude.{◌≡◌, ◌≢◌, ℕ, ◌&&◌, ◌||◌, Bool, false, not, Option, Some, None}
+use Rattle.sml_objects.specs.Names.{Initial}
+use Rattle.sml_objects.specs.Initial.{initial}
+use Rattle.sml_objects.specs.Objects.{named}
+use Rattle.sml_solve.specs.declared.class.Names.{Names}
+use Rattle.sml_solve.specs.declared.layer.Layer.TheVariants.{Rigidity}
+use Rattle.sml_solve.specs.declared.limits.Limit.{Limit}
+use Rattle.sml_solve.specs.declared.node.Node.{Node}
+use Rattle.sml_solve.specs.declared.node.Node.TheVariants.{Unknown, Link, App}
+use Rattle.sml_solve.specs.Worlds.{finite, Assignment}
+use Rattle.sml_solve.specs.Asked.{Asked, Permits}
+
+-- By all that was asked, it is an initial name, and more than one could it still be.
+pub record IsOverloaded (s : Asked) (v : ℕ) : Type 0 where
+  pub named_so : (σ : Assignment finite) → Permits Rigidity s σ → (k : Initial) × (σ v ≡ named (initial k))
+  pub one : Assignment finite
+  pub other : Assignment finite
+  pub may_be_one : Permits Rigidity s one
+  pub may_be_other : Permits Rigidity s other
+  pub apart : one v ≢ other v
+
+-- whether more names than int are left where equality may be asked
+abbrev pub has_several : Option Names → Bool → Bool
+has_several None e = false
+has_several (Some c) e = c.word || (c.text || (c.real && not e))
+
+abbrev pub is_several : Node → Limit → Bool
+is_several Unknown a = has_several a.class a.equality
+is_several (Link j) a = false
+is_several (App h kids) a = false

@@ -1,0 +1,24 @@
+//! Which names an unknown could still be.
+
+ghost use Rattle.std.specs.Prelude.{◌≡◌, ℕ, ◌<◌, length};
+ghost use Rattle.sml_solve.specs.Graphs.{IsSame, IsRoot, IsSound, node_at};
+ghost use Rattle.sml_solve.specs.Limits.{limit_at};
+ghost use Rattle.sml_solve.specs.Overloaded.{is_several};
+
+use crate::count::root_of;
+use crate::limits::Limit;
+use crate::node::Node;
+
+/// Whether the type of a node is to be an initial name, and more than one is left.
+pub(crate) fn has_several_names(nodes: &[Node], limits: &[Limit], at: usize) -> bool
+    requires sound { IsSound nodes.now }
+    requires full { length limits.now ≡ length nodes.now }
+    requires inside { at < length nodes.now }
+    ensures { (r : ℕ) × IsSame nodes.now at r × IsRoot nodes.now r × (result ≡ is_several (node_at nodes.now r) (limit_at limits.now r)) }
+{
+    let root = root_of(nodes, at);
+    match &nodes[root] {
+        Node::Unknown => limits[root].has_several_names(),
+        _ => false,
+    }
+}

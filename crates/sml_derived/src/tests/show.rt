@@ -91,7 +91,6 @@ fn show_tys(shown: &mut Shown, tys: &[Ty]) -> Result<(), Memory> {
     shown.put(")")
 }
 
-#[cycle(show_pat)]
 pub fn show_pat(shown: &mut Shown, pat: &Pat) -> Result<(), Memory> {
     match pat {
         Pat::Wildcard(place) => {
@@ -358,7 +357,6 @@ pub fn show_spec(shown: &mut Shown, spec: &Spec) -> Result<(), Memory> {
     }
 }
 
-#[cycle(show_str)]
 pub fn show_str(shown: &mut Shown, structure: &StrExp) -> Result<(), Memory> {
     match structure {
         StrExp::Decs(place, decs) => {
@@ -398,7 +396,6 @@ pub fn show_str(shown: &mut Shown, structure: &StrExp) -> Result<(), Memory> {
     }
 }
 
-#[cycle(show_str)]
 fn show_str_dec(shown: &mut Shown, dec: &StrDec) -> Result<(), Memory> {
     match dec {
         StrDec::Core(dec) => show_dec(shown, dec),

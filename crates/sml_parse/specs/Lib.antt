@@ -12,6 +12,7 @@ pub mod Sorts
 pub mod Senses
 pub mod Founds
 pub mod Events
+pub mod Fits
 pub mod Reach
 pub mod Trees
 pub mod Within

@@ -3,6 +3,7 @@
 
 mod build;
 mod event;
+mod fitted;
 mod form;
 mod found;
 mod item;

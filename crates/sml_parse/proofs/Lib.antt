@@ -9,6 +9,7 @@ mod Sorts
 mod Sorting
 mod Parting
 mod Reaching
+mod Marking
 pub mod TreePlaces
 pub mod Extents
 pub mod Nonempty

@@ -14,5 +14,7 @@ pub mod Founds
 pub mod Events
 pub mod Fits
 pub mod Reach
+pub mod Roles
+pub mod Marks
 pub mod Trees
 pub mod Within

@@ -10,6 +10,8 @@ mod Sorting
 mod Parting
 mod Reaching
 mod Marking
+mod Knowing
+mod Flawing
 pub mod TreePlaces
 pub mod Extents
 pub mod Nonempty

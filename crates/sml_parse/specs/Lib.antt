@@ -16,5 +16,7 @@ pub mod Fits
 pub mod Reach
 pub mod Roles
 pub mod Marks
+pub mod Known
+pub mod Flaws
 pub mod Trees
 pub mod Within

@@ -4,15 +4,17 @@
 mod build;
 mod event;
 mod fitted;
+mod flaw;
 mod form;
 mod found;
 mod item;
+mod known;
 mod label;
 pub mod laws;
+mod mark;
 mod names;
 pub mod parse;
 mod place;
-mod mark;
 mod reach;
 mod role;
 mod sense;

@@ -2,7 +2,10 @@
 ghost use Rattle.std.specs.Prelude.{◌≡◌};
 ghost use Rattle.sml_parse.specs.Roles as spec;
 
-use sml_read::grammar::{DeclarationRule, ExpressionRule, PatternRule, SignatureRule, SpecificationRule, StructureRule, TypeRule, UnitRule, Rule};
+use sml_read::grammar::{
+    DeclarationRule, ExpressionRule, PatternRule, Rule, SignatureRule, SpecificationRule,
+    StructureRule, TypeRule, UnitRule,
+};
 
 /// Names that are told apart only from one another.
 #[derive(Clone, Copy, PartialEq, Eq, Debug)]
@@ -92,9 +95,18 @@ fn specification_roles(rule: SpecificationRule) -> &'static [Role]
 {
     match rule {
         SpecificationRule::ValSpecVid => &[Role::Word(Word::Bound(Space::Values))],
-        SpecificationRule::TypeSpecTvs | SpecificationRule::DatSpecSomeTvs => &[Role::Same, Role::Word(Word::Bound(Space::Types))],
+        SpecificationRule::TypeSpecTvs | SpecificationRule::DatSpecSomeTvs => &[
+            Role::Same,
+            Role::Word(Word::Bound(Space::Types)),
+        ],
         SpecificationRule::DatSpecTyCon => &[Role::Word(Word::Bound(Space::Types))],
-        SpecificationRule::SpecEqtype | SpecificationRule::TypeSpecMoreAnd | SpecificationRule::DatSpecMoreAnd => &[Role::Same, Role::Same, Role::Word(Word::Bound(Space::Types))],
+        SpecificationRule::SpecEqtype
+        | SpecificationRule::TypeSpecMoreAnd
+        | SpecificationRule::DatSpecMoreAnd => &[
+            Role::Same,
+            Role::Same,
+            Role::Word(Word::Bound(Space::Types)),
+        ],
         SpecificationRule::ConSpecsVid => &[Role::Word(Word::Bound(Space::Constructors))],
         SpecificationRule::ExnSpecVid => &[Role::Word(Word::Bound(Space::Exceptions))],
         SpecificationRule::StrSpecAlphanumeric => &[Role::Word(Word::Bound(Space::Structures))],
@@ -106,15 +118,35 @@ fn declaration_roles(rule: DeclarationRule) -> &'static [Role]
     ensures { result.now ≡ spec.declaration_roles rule }
 {
     match rule {
-        DeclarationRule::ValDecTypeVariable | DeclarationRule::FunDecTypeVariable | DeclarationRule::ValRoundTypeVariable | DeclarationRule::FunRoundTypeVariable => &[Role::Word(Word::Listed)],
-        DeclarationRule::ValRoundPatRound | DeclarationRule::FunDecBareAtPat | DeclarationRule::FunRoundPatRound | DeclarationRule::ClausesAtPat | DeclarationRule::AtPatsAtPat => &[Role::Same, Role::Next],
+        DeclarationRule::ValDecTypeVariable
+        | DeclarationRule::FunDecTypeVariable
+        | DeclarationRule::ValRoundTypeVariable
+        | DeclarationRule::FunRoundTypeVariable => &[Role::Word(Word::Listed)],
+        DeclarationRule::ValRoundPatRound
+        | DeclarationRule::FunDecBareAtPat
+        | DeclarationRule::FunRoundPatRound
+        | DeclarationRule::ClausesAtPat
+        | DeclarationRule::AtPatsAtPat => &[Role::Same, Role::Next],
         DeclarationRule::ClauseMoreBar => &[Role::Same, Role::Same, Role::Next],
         DeclarationRule::ValBindPat => &[Role::Same, Role::Same, Role::Expression],
-        DeclarationRule::TypBindTvs | DeclarationRule::DatDecSomeTvs => &[Role::Same, Role::Word(Word::Bound(Space::Types))],
+        DeclarationRule::TypBindTvs | DeclarationRule::DatDecSomeTvs => &[
+            Role::Same,
+            Role::Word(Word::Bound(Space::Types)),
+        ],
         DeclarationRule::DatDecTyCon => &[Role::Word(Word::Bound(Space::Types))],
-        DeclarationRule::DatBindMoreAnd => &[Role::Same, Role::Same, Role::Word(Word::Bound(Space::Types))],
-        DeclarationRule::ConBindsMaybeOp => &[Role::Same, Role::Word(Word::Bound(Space::Constructors))],
-        DeclarationRule::ExnBindMaybeOp => &[Role::Same, Role::Word(Word::Bound(Space::Exceptions))],
+        DeclarationRule::DatBindMoreAnd => &[
+            Role::Same,
+            Role::Same,
+            Role::Word(Word::Bound(Space::Types)),
+        ],
+        DeclarationRule::ConBindsMaybeOp => &[
+            Role::Same,
+            Role::Word(Word::Bound(Space::Constructors)),
+        ],
+        DeclarationRule::ExnBindMaybeOp => &[
+            Role::Same,
+            Role::Word(Word::Bound(Space::Exceptions)),
+        ],
         _ => &[],
     }
 }
@@ -135,7 +167,10 @@ fn pattern_roles(rule: PatternRule) -> &'static [Role]
     match rule {
         PatternRule::PatOpenRound => &[Role::Same, Role::Same, Role::Next],
         PatternRule::BarePatVid | PatternRule::OpPatVid => &[Role::Word(Word::Atom), Role::Next],
-        PatternRule::BarePatOtherAtPat | PatternRule::OpPatQualified | PatternRule::AfterVidAtPat | PatternRule::AtPatMoreAtPat => &[Role::Same, Role::Next],
+        PatternRule::BarePatOtherAtPat
+        | PatternRule::OpPatQualified
+        | PatternRule::AfterVidAtPat
+        | PatternRule::AtPatMoreAtPat => &[Role::Same, Role::Next],
         PatternRule::BareAtPatVid => &[Role::Word(Word::Atom)],
         PatternRule::BareAtPatOp => &[Role::Same, Role::Word(Word::Atom)],
         PatternRule::OtherAtPatConstant => &[Role::Word(Word::Constant)],
@@ -150,7 +185,10 @@ fn type_roles(rule: TypeRule) -> &'static [Role]
     match rule {
         TypeRule::ATyTypeVariable => &[Role::Word(Word::Variable)],
         TypeRule::SomeTvsTypeVariable => &[Role::Word(Word::Listed)],
-        TypeRule::SomeTvsOpenRound | TypeRule::TvsMoreComma => &[Role::Same, Role::Word(Word::Listed)],
+        TypeRule::SomeTvsOpenRound | TypeRule::TvsMoreComma => &[
+            Role::Same,
+            Role::Word(Word::Listed),
+        ],
         TypeRule::TyRowLab => &[Role::Word(Word::Bound(Space::Labels))],
         TypeRule::TyRowMoreComma => &[Role::Same, Role::Word(Word::Bound(Space::Labels))],
         _ => &[],
@@ -187,7 +225,12 @@ fn specification_opening(rule: SpecificationRule) -> Opening
     ensures { result ≡ spec.specification_opening rule }
 {
     match rule {
-        SpecificationRule::SpecVal | SpecificationRule::SpecType | SpecificationRule::SpecEqtype | SpecificationRule::SpecDatatype | SpecificationRule::SpecException | SpecificationRule::SpecStructure => Opening::Group,
+        SpecificationRule::SpecVal
+        | SpecificationRule::SpecType
+        | SpecificationRule::SpecEqtype
+        | SpecificationRule::SpecDatatype
+        | SpecificationRule::SpecException
+        | SpecificationRule::SpecStructure => Opening::Group,
         _ => Opening::Nothing,
     }
 }
@@ -198,10 +241,17 @@ fn declaration_opening(rule: DeclarationRule) -> Opening
     match rule {
         DeclarationRule::CoreDecVal | DeclarationRule::CoreDecFun => Opening::Value,
         DeclarationRule::CoreDecType | DeclarationRule::CoreDecDatatype => Opening::Types,
-        DeclarationRule::CoreDecException | DeclarationRule::DatBindMoreWithtype | DeclarationRule::ValDecTypeVariable | DeclarationRule::ValRoundTypeVariable | DeclarationRule::FunDecTypeVariable | DeclarationRule::FunRoundTypeVariable => Opening::Group,
+        DeclarationRule::CoreDecException
+        | DeclarationRule::DatBindMoreWithtype
+        | DeclarationRule::ValDecTypeVariable
+        | DeclarationRule::ValRoundTypeVariable
+        | DeclarationRule::FunDecTypeVariable
+        | DeclarationRule::FunRoundTypeVariable => Opening::Group,
         DeclarationRule::ValDecRec | DeclarationRule::ValBindRec => Opening::Recursive,
         DeclarationRule::ValDecOpenRound => Opening::Sequence,
-        DeclarationRule::FunDecOpenRound | DeclarationRule::FunDecBareAtPat | DeclarationRule::ClausesAtPat => Opening::Function,
+        DeclarationRule::FunDecOpenRound
+        | DeclarationRule::FunDecBareAtPat
+        | DeclarationRule::ClausesAtPat => Opening::Function,
         DeclarationRule::ClauseMoreBar => Opening::Clause,
         _ => Opening::Nothing,
     }
@@ -221,7 +271,10 @@ fn pattern_opening(rule: PatternRule) -> Opening
     ensures { result ≡ spec.pattern_opening rule }
 {
     match rule {
-        PatternRule::PatOpenRound | PatternRule::BarePatVid | PatternRule::BarePatOp | PatternRule::BarePatOtherAtPat => Opening::Sequence,
+        PatternRule::PatOpenRound
+        | PatternRule::BarePatVid
+        | PatternRule::BarePatOp
+        | PatternRule::BarePatOtherAtPat => Opening::Sequence,
         PatternRule::OtherAtPatOpenCurly => Opening::Group,
         _ => Opening::Nothing,
     }
@@ -231,7 +284,8 @@ fn type_opening(rule: TypeRule) -> Opening
     ensures { result ≡ spec.type_opening rule }
 {
     match rule {
-        TypeRule::SomeTvsTypeVariable | TypeRule::SomeTvsOpenRound | TypeRule::ATyOpenCurly => Opening::Group,
+        TypeRule::SomeTvsTypeVariable | TypeRule::SomeTvsOpenRound | TypeRule::ATyOpenCurly =>
+            Opening::Group,
         _ => Opening::Nothing,
     }
 }

@@ -16,7 +16,7 @@ loop-i-preserved c =
     let b = c.token_behind-token.ensures in
     record {
       kept =
-        mark_on _ c.loop-i.marks.items c.push_some.new.marks.items i c.loop-i.token c.token_behind-token.result c.in-Some.context _ _ _ c.args.nodes.now c.loop-i.invariant.kept t c.in-Some.ensures
-        (c.in_ok-push_some.ensures ∙ ap (λ m. c.loop-i.marks.items ++ cons_option m []) c.in_ok-mark.ensures.mark) c.in_ok-mark.ensures.contexts b;
+          mark_on _ c.loop-i.marks.items c.push_some.new.marks.items i c.loop-i.token c.token_behind-token.result c.in-Some.context _ _ _ c.args.nodes.now c.loop-i.invariant.kept t c.in-Some.ensures
+          (c.in_ok-push_some.ensures ∙ ap (λ m. c.loop-i.marks.items ++ cons_option m []) c.in_ok-mark.ensures.mark) c.in_ok-mark.ensures.contexts b;
       few = omega (arith, f, o, b);
     }

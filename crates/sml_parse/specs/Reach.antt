@@ -59,14 +59,15 @@ misfit_of s atoms (MixedSides index) = Some (misfit s (token_of atoms index) C.F
 misfit_of s atoms Malformed = Some (misfit s (token_of atoms 0) C.F4)
 misfit_of s atoms Memory = None
 
--- what an event comes to: a declaration at the top begins at this token, or no sequence stands here, or one that
--- stands for this, or a fault
+-- What an event comes to: a declaration at the top begins at this token; or no sequence stands here, and there is no
+-- fault; or a sequence stands for this; or there is this fault.
 pub data Outcome : Type 0 where
   declares : ℕ → Outcome
   idle : Outcome
   stands : Fit → Outcome
   fails : Misfit → Outcome
 
+-- the sequence of these atomic phrases, which stands for this
 abbrev pub fit_at : List Atom → Shape → Fit
 fit_at atoms shape = record { token = token_of atoms 0; shape = shape }
 
@@ -183,7 +184,8 @@ abbrev pub up_to : {A : Type 0} → Option ℕ → List A → List A
 up_to None decs = decs
 up_to (Some n) decs = take n decs
 
--- the first fault of fixity that these events have, and what stands in the declarations before the one that has it
+-- the first fault of fixity that these events have, and the declarations before the one that has it, or all of them
+-- where none has one, each with what its sequences stand for
 pub record AreFitted (text : ℕ → Id) (events : List Event) (fitted : List Fitted) (first : Option Misfit) : Type 0 where
   pub outcomes : List Outcome
   pub happen : Outcomes text start events outcomes

@@ -10,7 +10,7 @@ ghost use Rattle.sml_parse.specs.Founds.{name_of, atoms_of};
 ghost use Rattle.sml_parse.specs.Events.{seen, text_at, directs};
 ghost use Rattle.sml_parse.specs.Reach as spec;
 ghost use Rattle.sml_parse.specs.Fits.{shape_of, fitted_of};
-ghost use Rattle.sml_parse.specs.Reach.{state_of, start, AreItems, first_inner, ids_of, level_text, level_token, misfit_of, Outcome, idle, fit_at, outcome_of, Happens, Outcomes, misfit_in, misfits_in, declarations_in, AreGathered, first_misfit, before_misfit, up_to, AreFitted};
+ghost use Rattle.sml_parse.specs.Reach.{state_of, start, AreItems, first_inner, ids_of, level_text, level_token, misfit_of, idle, fit_at, outcome_of, Happens, Outcomes, misfit_in, misfits_in, declarations_in, AreGathered, first_misfit, before_misfit, up_to, AreFitted};
 
 use crate::event::Event;
 use crate::fitted::{Fit, Fitted, Shape};

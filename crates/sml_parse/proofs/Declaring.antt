@@ -12,7 +12,8 @@ use Rattle.sml_lex.specs.declared.fault.Place.{Place}
 use Rattle.sml_tree.specs.Trees.{Dec}
 use Rattle.sml_parse.specs.declared.item.Item.{Item}
 use Rattle.sml_parse.specs.Items.{begins, ends}
-use Rattle.sml_parse.specs.Trees.{dec_of_items, decs_of_items, is_low, up_to, is_full}
+use Rattle.sml_parse.specs.Reach.{up_to}
+use Rattle.sml_parse.specs.Trees.{dec_of_items, decs_of_items, is_low, is_full}
 
 -- where no declaration begins
 passed : (unit : List ℕ) (items : List Item) (i : ℕ) (d : Item) → i < length items → begins (get_or items i d) ≡ false → decs_of_items unit (drop i items) ≡ decs_of_items unit (drop (i + 1) items)

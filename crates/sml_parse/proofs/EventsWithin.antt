@@ -26,7 +26,7 @@ use Rattle.sml_parse.specs.declared.reach.Misfit.{Misfit}
 use Rattle.sml_parse.specs.Senses.{sense_of, deed_of}
 use Rattle.sml_parse.specs.Founds.{Atom, Found, nothing, word, one, several, within, directed, from, found_by, name_of}
 use Rattle.sml_parse.specs.Events.{Event, begins, enters, leaves, directs, expression, pattern, head, found_at, event_of}
-use Rattle.sml_parse.specs.Reach.{State, misfit, token_of, AreItems, misfit_of, Happens}
+use Rattle.sml_parse.specs.Reach.{State, Outcome, declares, idle, stands, fails, misfit, token_of, AreItems, misfit_of, misfit_in, IsExpression, IsPattern, IsClauseHead, Happens}
 use Rattle.sml_parse.specs.Within.{of_fixity, reason_of}
 use Rattle.sml_parse.proofs.FoundsWithin.{IsIn, AtomsIn, LevelIn, FoundIn}
 
@@ -191,28 +191,41 @@ without_level R.Infix h = h (Some (fixity_of 0 Left)) (0, inl (refl, refl), refl
 without_level R.Infixr h = h (Some (fixity_of 0 Right)) (0, inl (refl, refl), refl)
 without_level R.Nonfix h = h None refl
 
-abbrev IsSame : State → State → Type 0
-IsSame s t = (t.count ≡ s.count) × (t.begun ≡ s.begun)
+abbrev IsOwnFault : State → ℕ → ℕ → Outcome → Type 0
+IsOwnFault s n e o = IfSome (misfit_in o) (IsOwn s n e)
 
-no_fault : (s : State) (n e : ℕ) (m : Option Misfit) → m ≡ None → IfSome m (IsOwn s n e)
-no_fault s n e m q = subst (λ (m : Option Misfit). IfSome m (IsOwn s n e)) (sym q) tt
+no_fault : (s : State) (n e : ℕ) (o : Outcome) → o ≡ idle → IsOwnFault s n e o
+no_fault s n e o q = subst (IsOwnFault s n e) (sym q) tt
 
-pub happens_in : (text : ℕ → Id) (s t : State) (n e : ℕ) (event : Event) (m : Option Misfit) → EventIn n e event → Happens text s event m t → IfSome m (IsOwn s n e) × (t.count ≡ s.count) × (t.begun ≡ s.begun)
-happens_in text s t n e (begins token) m i h = absurd i
-happens_in text s t n e enters m i h = (no_fault s n e m h.0, ap (λ (t : State). t.count) h.1, ap (λ (t : State). t.begun) h.1)
-happens_in text s t n e leaves m i h = (no_fault s n e m h.0, h.1, h.2)
-happens_in text s t n e (directs directive level atoms) None i h = (tt, ap (λ (t : State). t.count) h.2, ap (λ (t : State). t.begun) h.2)
-happens_in text s t n e (directs directive None atoms) (Some m) i h = absurd (without_level directive h.0)
-happens_in text s t n e (directs directive (Some token) atoms) (Some m) i h = (subst (IsOwn s n e) (sym h.1) (i, refl, refl, refl), ap (λ (t : State). t.count) h.2, ap (λ (t : State). t.begun) h.2)
-happens_in text s t n e (expression []) m i h = (no_fault s n e m (h.0 refl), ap (λ (t : State). t.count) h.2, ap (λ (t : State). t.begun) h.2)
-happens_in text s t n e (expression (a ∷ atoms)) None i h = (tt, ap (λ (t : State). t.count) h.2, ap (λ (t : State). t.begun) h.2)
-happens_in text s t n e (expression (a ∷ atoms)) (Some m) i h =
-    let x = h.1 (omega arith) in
-    (of_expression s n e (a ∷ atoms) i x.0 x.1 m x.2 x.3 x.4, ap (λ (t : State). t.count) h.2, ap (λ (t : State). t.begun) h.2)
-happens_in text s t n e (pattern []) m i h = (no_fault s n e m (h.0 refl), ap (λ (t : State). t.count) h.2, ap (λ (t : State). t.begun) h.2)
-happens_in text s t n e (pattern (a ∷ atoms)) None i h = (tt, ap (λ (t : State). t.count) h.2, ap (λ (t : State). t.begun) h.2)
-happens_in text s t n e (pattern (a ∷ atoms)) (Some m) i h =
-    let x = h.1 (omega arith) in
-    (of_pattern s n e (a ∷ atoms) i x.0 x.1 m (omega arith) x.2 x.3 x.4, ap (λ (t : State). t.count) h.2, ap (λ (t : State). t.begun) h.2)
-happens_in text s t n e (head atoms) None i h = (tt, ap (λ (t : State). t.count) h.1, ap (λ (t : State). t.begun) h.1)
-happens_in text s t n e (head atoms) (Some m) i h = (at_index s n e atoms i.0 0 C.F4 m refl i.1 h.0.5, ap (λ (t : State). t.count) h.1, ap (λ (t : State). t.begun) h.1)
+expression_in : (s : State) (n e : ℕ) (atoms : List Atom) (o : Outcome) → AtomsIn n e atoms → IsExpression s atoms o → IsOwnFault s n e o
+expression_in s n e atoms (declares token) i h = tt
+expression_in s n e atoms idle i h = tt
+expression_in s n e atoms (stands fit) i h = tt
+expression_in s n e atoms (fails m) i h = of_expression s n e atoms i h.0 h.1 m h.2 h.3 h.4
+
+pattern_in : (s : State) (n e : ℕ) (atoms : List Atom) (o : Outcome) → AtomsIn n e atoms → 0 < length atoms → IsPattern s atoms o → IsOwnFault s n e o
+pattern_in s n e atoms (declares token) i l h = tt
+pattern_in s n e atoms idle i l h = tt
+pattern_in s n e atoms (stands fit) i l h = tt
+pattern_in s n e atoms (fails m) i l h = of_pattern s n e atoms i h.0 h.1 m l h.2 h.3 h.4
+
+head_in : (s : State) (n e : ℕ) (atoms : List Atom) (o : Outcome) → AtomsIn n e atoms → 0 < length atoms → IsClauseHead s atoms o → IsOwnFault s n e o
+head_in s n e atoms (declares token) i l h = tt
+head_in s n e atoms idle i l h = tt
+head_in s n e atoms (stands fit) i l h = tt
+head_in s n e atoms (fails m) i l h = at_index s n e atoms i 0 C.F4 m refl l h.5
+
+pub happens_in : (text : ℕ → Id) (s t : State) (n e : ℕ) (event : Event) (o : Outcome) → EventIn n e event → Happens text s event o t → IfSome (misfit_in o) (IsOwn s n e) × (t.count ≡ s.count) × (t.begun ≡ s.begun)
+happens_in text s t n e (begins token) o i h = absurd i
+happens_in text s t n e enters o i h = (no_fault s n e o h.0, ap (λ (t : State). t.count) h.1, ap (λ (t : State). t.begun) h.1)
+happens_in text s t n e leaves o i h = (no_fault s n e o h.0, h.1, h.2)
+happens_in text s t n e (directs directive level atoms) (declares token) i h = absurd h
+happens_in text s t n e (directs directive level atoms) idle i h = (tt, ap (λ (t : State). t.count) h.2, ap (λ (t : State). t.begun) h.2)
+happens_in text s t n e (directs directive level atoms) (stands fit) i h = absurd h
+happens_in text s t n e (directs directive None atoms) (fails m) i h = absurd (without_level directive h.0)
+happens_in text s t n e (directs directive (Some token) atoms) (fails m) i h = (subst (IsOwn s n e) (sym h.1) (i, refl, refl, refl), ap (λ (t : State). t.count) h.2, ap (λ (t : State). t.begun) h.2)
+happens_in text s t n e (expression []) o i h = (no_fault s n e o (h.0 refl), ap (λ (t : State). t.count) h.2, ap (λ (t : State). t.begun) h.2)
+happens_in text s t n e (expression (a ∷ atoms)) o i h = (expression_in s n e (a ∷ atoms) o i (h.1 (omega arith)), ap (λ (t : State). t.count) h.2, ap (λ (t : State). t.begun) h.2)
+happens_in text s t n e (pattern []) o i h = (no_fault s n e o (h.0 refl), ap (λ (t : State). t.count) h.2, ap (λ (t : State). t.begun) h.2)
+happens_in text s t n e (pattern (a ∷ atoms)) o i h = (pattern_in s n e (a ∷ atoms) o i (omega arith) (h.1 (omega arith)), ap (λ (t : State). t.count) h.2, ap (λ (t : State). t.begun) h.2)
+happens_in text s t n e (head atoms) o i h = (head_in s n e atoms o i.0 i.1 h.0, ap (λ (t : State). t.count) h.1, ap (λ (t : State). t.begun) h.1)

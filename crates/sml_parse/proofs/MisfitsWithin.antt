@@ -24,7 +24,8 @@ use Rattle.sml_parse.specs.declared.reach.Misfit.{Misfit}
 use Rattle.sml_parse.specs.Senses.{deed_of, opens, closes}
 use Rattle.sml_parse.specs.Founds.{Found}
 use Rattle.sml_parse.specs.Events.{Event, enters, leaves, text_at, found_at, founds_of, scope_event, event_of, events_of}
-use Rattle.sml_parse.specs.Reach.{State, start, Misfits, precedes, earlier, first_in, first_misfit, IsFirstMisfit}
+use Rattle.sml_parse.specs.Fits.{Fitted}
+use Rattle.sml_parse.specs.Reach.{State, Outcome, start, Outcomes, misfit_in, misfits_in, precedes, earlier, first_in, first_misfit, AreFitted}
 use Rattle.sml_parse.specs.Within.{Extent, of_fixity, reason_of, ends_before, is_part_first, begins_next, tokens_before, extents_of}
 use Rattle.sml_parse.proofs.Nonempty.{all_inner, inner_so, not_both, when_not, some_token}
 use Rattle.sml_parse.proofs.FoundsWithin.{IsIn, is_idle, phrase_in, founds_in}
@@ -108,17 +109,21 @@ module _ (unit : List ℕ) (tokens : List Token) (extents : List Extent) where
   abbrev text : ℕ → Id
   text = text_at unit tokens
 
+  -- each fault among outcomes is placed
+  abbrev EachPlaced : List Outcome → Type 0
+  EachPlaced all = AllPlaced extents (misfits_in all)
+
   put : (s : State) (n e : ℕ) (m : Option Misfit) (more : List Misfit) → IfSome m (IsOwn s n e) → ((m : Misfit) → IsOwn s n e m → IsPlaced extents m) → AllPlaced extents more → AllPlaced extents (cons_option m more)
   put s n e None more own f h = h
   put s n e (Some m) more own f h = (f m own, h)
 
   -- one event
-  step : (s : State) (n e : ℕ) (o : Option Event) (events : List Event) (faults : List Misfit) → IfSome o (EventIn n e) → Misfits text s (cons_option o events) faults
-      → (t : State) × (more : List Misfit) × Misfits text t events more × (t.count ≡ s.count) × (t.begun ≡ s.begun) × (((m : Misfit) → IsOwn s n e m → IsPlaced extents m) → AllPlaced extents more → AllPlaced extents faults)
-  step s n e None events faults i h = (s, faults, h, refl, refl, λ f k. k)
-  step s n e (Some event) events faults i h =
+  step : (s : State) (n e : ℕ) (o : Option Event) (events : List Event) (all : List Outcome) → IfSome o (EventIn n e) → Outcomes text s (cons_option o events) all
+      → (t : State) × (more : List Outcome) × Outcomes text t events more × (t.count ≡ s.count) × (t.begun ≡ s.begun) × (((m : Misfit) → IsOwn s n e m → IsPlaced extents m) → EachPlaced more → EachPlaced all)
+  step s n e None events all i h = (s, all, h, refl, refl, λ f k. k)
+  step s n e (Some event) events all i h =
       let x = happens_in text s h.1 n e event h.0 i h.3 in
-      (h.1, h.2, h.4, x.1, x.2, λ f k. subst (AllPlaced extents) (sym h.5) (put s n e h.0 h.2 x.0 f k))
+      (h.1, h.2, h.4, x.1, x.2, λ f k. subst EachPlaced (sym h.5) (put s n e (misfit_in h.0) (misfits_in h.2) x.0 f k))
 
   scope_in : (n : ℕ) (token : Option Token) → IfSome (scope_event token) (EventIn n n)
   scope_in n None = tt
@@ -129,26 +134,25 @@ module _ (unit : List ℕ) (tokens : List Token) (extents : List Extent) where
       by_tests false true = tt
       by_tests false false = tt
 
-  idle : (s : State) (deed : Deed) (n : ℕ) (f : Found) (events : List Event) (faults : List Misfit) → is_idle deed ≡ true → Misfits text s (cons_option (event_of deed n f) events) faults → Misfits text s events faults
-  idle s D.Nothing n f events faults i h = h
-  idle s D.Begins n f events faults i h = absurd (false≢true i)
-  idle s (D.Directs directive) n f events faults i h = absurd (false≢true i)
-  idle s D.Expression n f events faults i h = absurd (false≢true i)
-  idle s D.Pattern n f events faults i h = absurd (false≢true i)
-  idle s D.Head n f events faults i h = absurd (false≢true i)
+  idle : (s : State) (deed : Deed) (n : ℕ) (f : Found) (events : List Event) (all : List Outcome) → is_idle deed ≡ true → Outcomes text s (cons_option (event_of deed n f) events) all → Outcomes text s events all
+  idle s D.Nothing n f events all i h = h
+  idle s D.Begins n f events all i h = absurd (false≢true i)
+  idle s (D.Directs directive) n f events all i h = absurd (false≢true i)
+  idle s D.Expression n f events all i h = absurd (false≢true i)
+  idle s D.Pattern n f events all i h = absurd (false≢true i)
+  idle s D.Head n f events all i h = absurd (false≢true i)
 
   -- the state where a declaration has begun
   abbrev begun : State → ℕ → State
   begun s n = record { here = s.here; outer = s.outer; count = suc s.count; begun = n }
 
-  beginning : (s : State) (deed : Deed) (n : ℕ) (f : Found) (events : List Event) (faults : List Misfit) → is_beginning deed ≡ true → Misfits text s (cons_option (event_of deed n f) events) faults → Misfits text (begun s n) events faults
-  beginning s D.Begins n f events faults i h =
-      subst (Misfits text (begun s n) events) (sym (h.5 ∙ ap (λ (m : Option Misfit). cons_option m h.2) h.3.0)) (subst (λ (t : State). Misfits text t events h.2) h.3.1 h.4)
-  beginning s D.Nothing n f events faults i h = absurd (false≢true i)
-  beginning s (D.Directs directive) n f events faults i h = absurd (false≢true i)
-  beginning s D.Expression n f events faults i h = absurd (false≢true i)
-  beginning s D.Pattern n f events faults i h = absurd (false≢true i)
-  beginning s D.Head n f events faults i h = absurd (false≢true i)
+  beginning : (s : State) (deed : Deed) (n : ℕ) (f : Found) (events : List Event) (all : List Outcome) → is_beginning deed ≡ true → Outcomes text s (cons_option (event_of deed n f) events) all → (more : List Outcome) × Outcomes text (begun s n) events more × (misfits_in all ≡ misfits_in more)
+  beginning s D.Begins n f events all i h = (h.2, subst (λ (t : State). Outcomes text t events h.2) h.3.1 h.4, ap misfits_in (h.5 ∙ ap (λ (o : Outcome). o ∷ h.2) h.3.0))
+  beginning s D.Nothing n f events all i h = absurd (false≢true i)
+  beginning s (D.Directs directive) n f events all i h = absurd (false≢true i)
+  beginning s D.Expression n f events all i h = absurd (false≢true i)
+  beginning s D.Pattern n f events all i h = absurd (false≢true i)
+  beginning s D.Head n f events all i h = absurd (false≢true i)
 
   -- these nodes are of the declaration that began last, up to its end
   abbrev IsOpen : State → ℕ → ℕ → Type 0
@@ -184,11 +188,11 @@ module _ (unit : List ℕ) (tokens : List Token) (extents : List Extent) where
   next_open : (s : State) (n size : ℕ) (left : List Extent) → AreLeft s (record { first = n; behind = n + size } ∷ left) → IsOpen (begun s n) n size
   next_open s n size left f = (record { first = n; behind = n + size }, ap (slice_get extents) (omega arith) ∙ f 0, omega arith, refl, omega arith, omega arith)
 
-  -- the faults from these nodes on are in their extents, whatever the state
+  -- the all from these nodes on are in their extents, whatever the state
   abbrev GoesOn : List Node → List Symbol → ℕ → Type 0
   GoesOn nodes old n =
-      (s : State) (faults : List Misfit) → is_tidy old ≡ true → (goes_in old ≡ true → IsOpen s n (tokens_before nodes)) → AreLeft s (extents_of n nodes)
-      → Misfits text s (events_of unit tokens nodes (starts_of n nodes)) faults → AllPlaced extents faults
+      (s : State) (all : List Outcome) → is_tidy old ≡ true → (goes_in old ≡ true → IsOpen s n (tokens_before nodes)) → AreLeft s (extents_of n nodes)
+      → Outcomes text s (events_of unit tokens nodes (starts_of n nodes)) all → EachPlaced all
 
   module _ (r : Rule) (nodes : List Node) (old : List Symbol) (n : ℕ) (more : GoesOn nodes (right_side r ++ old) n) where
     abbrev found : Found
@@ -201,21 +205,21 @@ module _ (unit : List ℕ) (tokens : List Token) (extents : List Extent) where
     lefts b = if b then record { first = n; behind = n + tokens_before nodes } ∷ extents_of n nodes else extents_of n nodes
 
     -- a phrase of a declaration
-    inside : (kinds : List Kind) (next : Option Kind) (rest : Part) → is_outer rest ≡ true → Leads nodes (right_side r ++ old) kinds next (Of rest ∷ []) → (s : State) (faults : List Misfit) → not (is_outer (part_of r)) ≡ true → is_tidy old ≡ true
-        → IsOpen s n (if ends_before r then 0 else tokens_before nodes) → AreLeft s (lefts (begins_next r)) → Misfits text s (cons_option (event_of (deed_of r) n found) next_events) faults → AllPlaced extents faults
-    inside kinds next rest o l s faults q t g f h =
+    inside : (kinds : List Kind) (next : Option Kind) (rest : Part) → is_outer rest ≡ true → Leads nodes (right_side r ++ old) kinds next (Of rest ∷ []) → (s : State) (all : List Outcome) → not (is_outer (part_of r)) ≡ true → is_tidy old ≡ true
+        → IsOpen s n (if ends_before r then 0 else tokens_before nodes) → AreLeft s (lefts (begins_next r)) → Outcomes text s (cons_option (event_of (deed_of r) n found) next_events) all → EachPlaced all
+    inside kinds next rest o l s all q t g f h =
         let e = n + tokens_before nodes in
         let i = inner_so r q in
         let here : IsOpen s n (tokens_before nodes) = subst (λ (b : Bool). IsOpen s n (if b then 0 else tokens_before nodes)) (when_not (ends_before r) q) g in
         let has : not (all_empty (right_side r)) ≡ true → n < e = λ c. let k = some_token nodes (right_side r) old kinds next rest i (not_both (all_empty (right_side r)) c) o l in omega (arith, k) in
         let own = event_in text n e r _ (inner_begins r q) (phrase_in text n e r _ (founds_in text nodes (right_side r) old n kinds next rest i o l) has) in
-        let x = step s n e (event_of (deed_of r) n found) next_events faults own h in
+        let x = step s n e (event_of (deed_of r) n found) next_events all own h in
         x.5 (own_placed s n (tokens_before nodes) here)
         (more x.0 x.1 (tidy_append (right_side r) old i t) (λ _. open_on s x.0 n n (tokens_before nodes) (tokens_before nodes) (omega arith) (omega arith) x.3 x.4 here) (still_left s x.0 _ x.3 (subst (λ b. AreLeft s (lefts b)) (inner_next r q) f)) x.2)
 
     -- what is left of a unit
-    outside : (s : State) (faults : List Misfit) → is_outer (part_of r) ≡ true → old ≡ [] → AreLeft s (lefts (begins_next r)) → Misfits text s (cons_option (event_of (deed_of r) n found) next_events) faults → AllPlaced extents faults
-    outside s faults q none f h = by_next (begins_next r) refl
+    outside : (s : State) (all : List Outcome) → is_outer (part_of r) ≡ true → old ≡ [] → AreLeft s (lefts (begins_next r)) → Outcomes text s (cons_option (event_of (deed_of r) n found) next_events) all → EachPlaced all
+    outside s all q none f h = by_next (begins_next r) refl
       where
         last : right_side r ++ old ≡ right_side r
         last = ap (λ ss. right_side r ++ ss) none ∙ append-nil (right_side r)
@@ -223,33 +227,33 @@ module _ (unit : List ℕ) (tokens : List Token) (extents : List Extent) where
         tidy : is_tidy (right_side r ++ old) ≡ true
         tidy = ap is_tidy last ∙ outer_tidy r q
 
-        by_next : (b : Bool) → begins_next r ≡ b → AllPlaced extents faults
+        by_next : (b : Bool) → begins_next r ≡ b → EachPlaced all
         by_next true e =
             let left = subst (λ b. AreLeft s (lefts b)) e f in
-            more (begun s n) faults tidy (λ _. next_open s n (tokens_before nodes) (extents_of n nodes) left) (fewer_left s n (record { first = n; behind = n + tokens_before nodes }) (extents_of n nodes) left)
-            (beginning s (deed_of r) n found next_events faults (next_begins r e) h)
+            let x = beginning s (deed_of r) n found next_events all (next_begins r e) h in
+            subst (AllPlaced extents) (sym x.2) (more (begun s n) x.0 tidy (λ _. next_open s n (tokens_before nodes) (extents_of n nodes) left) (fewer_left s n (record { first = n; behind = n + tokens_before nodes }) (extents_of n nodes) left) x.1)
         by_next false e =
             let both = and_parts _ _ (outer_rest r q e) in
-            more s faults tidy (λ k. absurd (not_both (goes_in (right_side r)) both.0 (sym (ap goes_in last) ∙ k))) (subst (λ b. AreLeft s (lefts b)) e f) (idle s (deed_of r) n found next_events faults both.1 h)
+            more s all tidy (λ k. absurd (not_both (goes_in (right_side r)) both.0 (sym (ap goes_in last) ∙ k))) (subst (λ b. AreLeft s (lefts b)) e f) (idle s (deed_of r) n found next_events all both.1 h)
 
   walk : (nodes : List Node) (old : List Symbol) (n : ℕ) (kinds : List Kind) (next : Option Kind) (rest : Part) → is_outer rest ≡ true → Leads nodes old kinds next (Of rest ∷ []) → GoesOn nodes old n
-  walk [] old n kinds next rest o l s faults t g f h = subst (AllPlaced extents) (sym h) tt
-  walk (Leaf ∷ nodes) [] n kinds next rest o l s faults t g f h = absurd l
-  walk (Leaf ∷ nodes) (Word k ∷ old) n [] next rest o l s faults t g f h = absurd l
-  walk (Leaf ∷ nodes) (Of p ∷ old) n kinds next rest o l s faults t g f h = absurd l
-  walk (Leaf ∷ nodes) (Word k ∷ old) n (kind ∷ kinds) next rest o l s faults t g f h =
-      let x = step s n n (scope_event (slice_get tokens n)) (events_of unit tokens nodes (starts_of (suc n) nodes)) faults (scope_in n (slice_get tokens n)) h in
+  walk [] old n kinds next rest o l s all t g f h = subst EachPlaced (sym h) tt
+  walk (Leaf ∷ nodes) [] n kinds next rest o l s all t g f h = absurd l
+  walk (Leaf ∷ nodes) (Word k ∷ old) n [] next rest o l s all t g f h = absurd l
+  walk (Leaf ∷ nodes) (Of p ∷ old) n kinds next rest o l s all t g f h = absurd l
+  walk (Leaf ∷ nodes) (Word k ∷ old) n (kind ∷ kinds) next rest o l s all t g f h =
+      let x = step s n n (scope_event (slice_get tokens n)) (events_of unit tokens nodes (starts_of (suc n) nodes)) all (scope_in n (slice_get tokens n)) h in
       x.5 (none_here extents s n) (walk nodes old (suc n) kinds next rest o l.1 x.0 x.1 t (λ q. open_on s x.0 n (suc n) (suc (tokens_before nodes)) (tokens_before nodes) (omega arith) (omega arith) x.3 x.4 (g q)) (still_left s x.0 _ x.3 f) x.2)
-  walk (Inner r ∷ nodes) [] n kinds next rest o l s faults t g f h = absurd l
-  walk (Inner r ∷ nodes) (Word k ∷ old) n kinds next rest o l s faults t g f h = absurd l
-  walk (Inner r ∷ nodes) (Of p ∷ old) n kinds next rest o l s faults t g f h = by_part (walk nodes (right_side r ++ old) n kinds next rest o l.2) (is_outer p) refl
+  walk (Inner r ∷ nodes) [] n kinds next rest o l s all t g f h = absurd l
+  walk (Inner r ∷ nodes) (Word k ∷ old) n kinds next rest o l s all t g f h = absurd l
+  walk (Inner r ∷ nodes) (Of p ∷ old) n kinds next rest o l s all t g f h = by_part (walk nodes (right_side r ++ old) n kinds next rest o l.2) (is_outer p) refl
     where
       same : is_outer (part_of r) ≡ is_outer p
       same = ap is_outer l.0
 
-      by_part : GoesOn nodes (right_side r ++ old) n → (b : Bool) → is_outer p ≡ b → AllPlaced extents faults
-      by_part more true q = outside r nodes old n more s faults (same ∙ q) (outer_last p old q t) f h
-      by_part more false q = inside r nodes old n more kinds next rest o l.2 s faults (ap not (same ∙ q)) (tidy_rest p old (ap not q) t) (g (ap not q)) f h
+      by_part : GoesOn nodes (right_side r ++ old) n → (b : Bool) → is_outer p ≡ b → EachPlaced all
+      by_part more true q = outside r nodes old n more s all (same ∙ q) (outer_last p old q t) f h
+      by_part more false q = inside r nodes old n more kinds next rest o l.2 s all (ap not (same ∙ q)) (tidy_rest p old (ap not q) t) (g (ap not q)) f h
 
 -- the first of them
 
@@ -273,9 +277,9 @@ first_placed : (extents : List Extent) (faults : List Misfit) → AllPlaced exte
 first_placed extents [] h = tt
 first_placed extents (m ∷ ms) h = first_in_placed extents m.number (m ∷ ms) h
 
-pub misfit_placed : (unit : List ℕ) (tokens : List Token) (nodes : List Node) (kinds : List Kind) (next : Option Kind) (rest : Part) (first : Option Misfit) → is_outer rest ≡ true → Leads nodes (Of Start ∷ []) kinds next (Of rest ∷ [])
-    → IsFirstMisfit (text_at unit tokens) (events_of unit tokens nodes (starts_of 0 nodes)) first → IfSome first (IsPlaced (extents_of 0 nodes))
-misfit_placed unit tokens nodes kinds next rest first o l x =
+pub misfit_placed : (unit : List ℕ) (tokens : List Token) (nodes : List Node) (kinds : List Kind) (next : Option Kind) (rest : Part) (fitted : List Fitted) (first : Option Misfit) → is_outer rest ≡ true → Leads nodes (Of Start ∷ []) kinds next (Of rest ∷ [])
+    → AreFitted (text_at unit tokens) (events_of unit tokens nodes (starts_of 0 nodes)) fitted first → IfSome first (IsPlaced (extents_of 0 nodes))
+misfit_placed unit tokens nodes kinds next rest fitted first o l x =
     let extents = extents_of 0 nodes in
-    let all = walk unit tokens extents nodes (Of Start ∷ []) 0 kinds next rest o l start x.all refl (λ e. absurd (false≢true e)) (λ i. ap (slice_get extents) (omega arith)) x.misfits in
-    subst (λ (m : Option Misfit). IfSome m (IsPlaced extents)) (sym x.is_first) (first_placed extents x.all all)
+    let all = walk unit tokens extents nodes (Of Start ∷ []) 0 kinds next rest o l start x.outcomes refl (λ e. absurd (false≢true e)) (λ i. ap (slice_get extents) (omega arith)) x.happen in
+    subst (λ (m : Option Misfit). IfSome m (IsPlaced extents)) (sym x.is_first) (first_placed extents (misfits_in x.outcomes) all)

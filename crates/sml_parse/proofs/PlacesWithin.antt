@@ -30,7 +30,8 @@ use Rattle.sml_parse.specs.declared.item.Item.{Item}
 use Rattle.sml_parse.specs.Places.{place_behind, place_from}
 use Rattle.sml_parse.specs.Items.{start_of, items_of, declarations_of}
 use Rattle.sml_parse.specs.declared.reach.Misfit.{Misfit}
-use Rattle.sml_parse.specs.Trees.{dec_of_items, spelt, is_low, fault_from, fault_read, up_to, before_misfit, fault_behind}
+use Rattle.sml_parse.specs.Reach.{up_to, before_misfit}
+use Rattle.sml_parse.specs.Trees.{dec_of_items, spelt, is_low, fault_from, fault_read, fault_behind}
 use Rattle.sml_parse.specs.Within.{Extent, extents_of, IsOfToken, StandInTurn, Reason, of_bytes, reason_of, StandsBy, StandsLast, PlacesAreWithin}
 use Rattle.sml_parse.proofs.TreePlaces.{places_stand}
 use Rattle.sml_parse.proofs.Nonempty.{HasToken, HaveTokens, have_tokens}
@@ -234,7 +235,7 @@ places_within unit tokens end decs fault s trees =
     let f = few trees.begun (kinds_of tokens) in
     let have = have_tokens trees.nodes _ 0 (length tokens) kinds _ whole.part whole.outer (omega (arith, n, f)) whole.leads in
     let many = length-map all (dec_of_items unit) ∙ as_many unit 0 trees.nodes 0 tokens _ kinds _ _ (omega (arith, n, f)) whole.leads in
-    let placed = misfit_placed unit tokens trees.nodes kinds _ whole.part trees.misfit whole.outer whole.leads trees.fits in (
+    let placed = misfit_placed unit tokens trees.nodes kinds _ whole.part trees.fitted trees.misfit whole.outer whole.leads trees.fits in (
       subst (StandInTurn unit tokens extents) (sym trees.whole) (some_in_turn unit tokens o is_low extents low (most_in_turn unit tokens o (before_misfit trees.misfit) extents spelt (in_turn unit tokens o extents all have (all_words_stand unit tokens o trees.nodes)))),
       subst (λ f. IfSome f (StandsLast unit tokens end trees.nodes trees.begun (length decs))) (sym trees.ended) (by_test o have placed (λ h. before_it is_low trees.misfit extents spelt many placed h) (list_all is_low low) refl),
     )

@@ -1,7 +1,8 @@
--- How far directives reach, and where sequences of atomic phrases stand for nothing (the Definition, section 2.6): a
+-- How far directives reach, and what sequences of atomic phrases stand for (the Definition, section 2.6): a
 -- directive reaches over the text behind it, up to the end of the innermost scope that it stands in.
-use Rattle.std.specs.Prelude.{◌≡◌, ℕ, suc, ◌<◌, Bool, ◌&&◌, ◌||◌, ◌==◌, nat_lt, nat_le, List, [], ◌∷◌, Option, Some, None, map, length, get_or, if◌then◌else◌}
+use Rattle.std.specs.Prelude.{◌≡◌, ℕ, suc, ◌-◌, ◌<◌, Bool, ◌&&◌, ◌||◌, ◌==◌, nat_lt, nat_le, List, [], ◌∷◌, Option, Some, None, map, reverse, take, length, get_or, if◌then◌else◌}
 use Rattle.std.specs.List.{cons_option}
+use Rattle.std.specs.Option.{option_map}
 use Rattle.sml_lex.specs.declared.fault.Code.{Code}
 use Rattle.sml_lex.specs.declared.fault.Code.TheVariants as C
 use Rattle.sml_tree.specs.Trees.{Id}
@@ -18,8 +19,12 @@ use Rattle.sml_fixity.specs.Heads.{IsHead}
 use Rattle.sml_fixity.specs.Sequences.{roles_of}
 use Rattle.sml_parse.specs.declared.reach.Misfit.{Misfit}
 use Rattle.sml_parse.specs.declared.reach.Reach.{Reach}
+use Rattle.sml_parse.specs.declared.reach.Outcome as P
+use Rattle.sml_parse.specs.declared.reach.Outcome.TheVariants as V
+use Rattle.sml_parse.specs.declared.reach.Gathered.{Gathered}
 use Rattle.sml_parse.specs.Founds.{Name, Atom, short, name_of}
 use Rattle.sml_parse.specs.Events.{Event, begins, enters, leaves, directs, expression, pattern, head}
+use Rattle.sml_parse.specs.Fits.{Shape, Fit, Fitted, tree, headed, fit_of, fitted_of}
 
 -- The fixities in force, those at the beginning of each open scope, the innermost first, how many declarations have
 -- begun, and the first token of the last of them.
@@ -54,25 +59,40 @@ misfit_of s atoms (MixedSides index) = Some (misfit s (token_of atoms index) C.F
 misfit_of s atoms Malformed = Some (misfit s (token_of atoms 0) C.F4)
 misfit_of s atoms Memory = None
 
--- the sequence stands for an expression, or has this fault
-abbrev pub IsExpression : State → List Atom → Option Misfit → Type 0
-IsExpression s atoms None = (items : List Item) × (steps : List Step) × AreItems items atoms × IsTheTree (roles_of s.here items) steps
-IsExpression s atoms (Some m) = (items : List Item) × (fault : FixFault) × AreItems items atoms × FaultStands (roles_of s.here items) fault × (misfit_of s atoms fault ≡ Some m)
+-- What an event comes to: a declaration at the top begins at this token; or no sequence stands here, and there is no
+-- fault; or a sequence stands for this; or there is this fault.
+pub data Outcome : Type 0 where
+  declares : ℕ → Outcome
+  idle : Outcome
+  stands : Fit → Outcome
+  fails : Misfit → Outcome
 
--- the sequence stands for a pattern, or has this fault
-abbrev pub IsPattern : State → List Atom → Option Misfit → Type 0
-IsPattern s atoms None = (items : List Item) × (steps : List Step) × AreItems items atoms × IsThePattern items (roles_of s.here items) steps
-IsPattern s atoms (Some m) = (items : List Item) × (fault : FixFault) × AreItems items atoms × PatternFaultStands items (roles_of s.here items) fault × (misfit_of s atoms fault ≡ Some m)
+-- the sequence of these atomic phrases, which stands for this
+abbrev pub fit_at : List Atom → Shape → Fit
+fit_at atoms shape = record { token = token_of atoms 0; shape = shape }
+
+-- the sequence stands for this expression, or has this fault
+abbrev pub IsExpression : State → List Atom → Outcome → Type 0
+IsExpression s atoms (stands fit) = (items : List Item) × (steps : List Step) × AreItems items atoms × IsTheTree (roles_of s.here items) steps × (fit ≡ fit_at atoms (tree steps))
+IsExpression s atoms (fails m) = (items : List Item) × (fault : FixFault) × AreItems items atoms × FaultStands (roles_of s.here items) fault × (misfit_of s atoms fault ≡ Some m)
+IsExpression s atoms _ = ⊥
+
+-- the sequence stands for this pattern, or has this fault
+abbrev pub IsPattern : State → List Atom → Outcome → Type 0
+IsPattern s atoms (stands fit) = (items : List Item) × (steps : List Step) × AreItems items atoms × IsThePattern items (roles_of s.here items) steps × (fit ≡ fit_at atoms (tree steps))
+IsPattern s atoms (fails m) = (items : List Item) × (fault : FixFault) × AreItems items atoms × PatternFaultStands items (roles_of s.here items) fault × (misfit_of s atoms fault ≡ Some m)
+IsPattern s atoms _ = ⊥
 
 -- what the first atomic phrase has in round brackets
 abbrev pub first_inner : List Atom → List Name
 first_inner [] = []
 first_inner (a ∷ atoms) = a.inner
 
--- the sequence is the head of a clause, or isn't
-abbrev pub IsClauseHead : State → List Atom → Option Misfit → Type 0
-IsClauseHead s atoms None = (items inner : List Item) × (how : Head) × AreItems items atoms × (map name_of inner ≡ first_inner atoms) × IsHead s.here items inner how
-IsClauseHead s atoms (Some m) = (items inner : List Item) × AreItems items atoms × (map name_of inner ≡ first_inner atoms) × ((how : Head) → ¬ IsHead s.here items inner how) × (misfit_of s atoms Malformed ≡ Some m)
+-- the sequence is the head of a clause in this way, or isn't one
+abbrev pub IsClauseHead : State → List Atom → Outcome → Type 0
+IsClauseHead s atoms (stands fit) = (items inner : List Item) × (how : Head) × AreItems items atoms × (map name_of inner ≡ first_inner atoms) × IsHead s.here items inner how × (fit ≡ fit_at atoms (headed how))
+IsClauseHead s atoms (fails m) = (items inner : List Item) × AreItems items atoms × (map name_of inner ≡ first_inner atoms) × ((how : Head) → ¬ IsHead s.here items inner how) × (misfit_of s atoms Malformed ≡ Some m)
+IsClauseHead s atoms _ = ⊥
 
 -- the identifiers of a directive
 abbrev pub id_in : Name → Option Id
@@ -92,21 +112,44 @@ abbrev pub level_token : Option ℕ → ℕ
 level_token None = 0
 level_token (Some token) = token
 
--- An event in a state: its fault, if it has one, and the state behind it. The bytes of each token are known.
-abbrev pub Happens : (ℕ → Id) → State → Event → Option Misfit → State → Type 0
-Happens text s (begins token) m t = (m ≡ None) × (t ≡ record { here = s.here; outer = s.outer; count = suc s.count; begun = token })
-Happens text s enters m t = (m ≡ None) × (t ≡ record { here = s.here; outer = s.here ∷ s.outer; count = s.count; begun = s.begun })
-Happens text s leaves m t = (m ≡ None) × (t.count ≡ s.count) × (t.begun ≡ s.begun) × ((before : Map) (others : List Map) → s.outer ≡ before ∷ others → (t.here ≡ before) × (t.outer ≡ others))
-Happens text s (directs directive level atoms) None t = (fixity : Option Fixity) × Gives directive (level_text text level) fixity × (t ≡ record { here = changed_all s.here (ids_of atoms) fixity; outer = s.outer; count = s.count; begun = s.begun })
-Happens text s (directs directive level atoms) (Some m) t = ((fixity : Option Fixity) → ¬ Gives directive (level_text text level) fixity) × (m ≡ misfit s (level_token level) C.F3) × (t ≡ s)
-Happens text s (expression atoms) m t = (atoms ≡ [] → m ≡ None) × (0 < length atoms → IsExpression s atoms m) × (t ≡ s)
-Happens text s (pattern atoms) m t = (atoms ≡ [] → m ≡ None) × (0 < length atoms → IsPattern s atoms m) × (t ≡ s)
-Happens text s (head atoms) m t = IsClauseHead s atoms m × (t ≡ s)
+-- An event in a state: what it comes to, and the state behind it. The bytes of each token are known.
+abbrev pub Happens : (ℕ → Id) → State → Event → Outcome → State → Type 0
+Happens text s (begins token) o t = (o ≡ declares token) × (t ≡ record { here = s.here; outer = s.outer; count = suc s.count; begun = token })
+Happens text s enters o t = (o ≡ idle) × (t ≡ record { here = s.here; outer = s.here ∷ s.outer; count = s.count; begun = s.begun })
+Happens text s leaves o t = (o ≡ idle) × (t.count ≡ s.count) × (t.begun ≡ s.begun) × ((before : Map) (others : List Map) → s.outer ≡ before ∷ others → (t.here ≡ before) × (t.outer ≡ others))
+Happens text s (directs directive level atoms) idle t = (fixity : Option Fixity) × Gives directive (level_text text level) fixity × (t ≡ record { here = changed_all s.here (ids_of atoms) fixity; outer = s.outer; count = s.count; begun = s.begun })
+Happens text s (directs directive level atoms) (fails m) t = ((fixity : Option Fixity) → ¬ Gives directive (level_text text level) fixity) × (m ≡ misfit s (level_token level) C.F3) × (t ≡ s)
+Happens text s (directs directive level atoms) _ t = ⊥
+Happens text s (expression atoms) o t = (atoms ≡ [] → o ≡ idle) × (0 < length atoms → IsExpression s atoms o) × (t ≡ s)
+Happens text s (pattern atoms) o t = (atoms ≡ [] → o ≡ idle) × (0 < length atoms → IsPattern s atoms o) × (t ≡ s)
+Happens text s (head atoms) o t = IsClauseHead s atoms o × (t ≡ s)
 
--- the faults of these events, one after another
-abbrev pub Misfits : (ℕ → Id) → State → List Event → List Misfit → Type 0
-Misfits text s [] all = all ≡ []
-Misfits text s (event ∷ events) all = (m : Option Misfit) × (t : State) × (more : List Misfit) × Happens text s event m t × Misfits text t events more × (all ≡ cons_option m more)
+-- what these events come to, one after another
+abbrev pub Outcomes : (ℕ → Id) → State → List Event → List Outcome → Type 0
+Outcomes text s [] all = all ≡ []
+Outcomes text s (event ∷ events) all = (o : Outcome) × (t : State) × (more : List Outcome) × Happens text s event o t × Outcomes text t events more × (all ≡ o ∷ more)
+
+-- the faults among outcomes
+abbrev pub misfit_in : Outcome → Option Misfit
+misfit_in (fails m) = Some m
+misfit_in _ = None
+
+abbrev pub misfits_in : List Outcome → List Misfit
+misfits_in [] = []
+misfits_in (o ∷ os) = cons_option (misfit_in o) (misfits_in os)
+
+-- what the sequences before the next declaration stand for
+abbrev pub fits_before : List Outcome → List Fit
+fits_before [] = []
+fits_before (declares token ∷ os) = []
+fits_before (stands fit ∷ os) = fit ∷ fits_before os
+fits_before (o ∷ os) = fits_before os
+
+-- the declarations that begin, each with what the sequences before the next one stand for
+abbrev pub declarations_in : List Outcome → List Fitted
+declarations_in [] = []
+declarations_in (declares token ∷ os) = record { begun = token; fits = fits_before os } ∷ declarations_in os
+declarations_in (o ∷ os) = declarations_in os
 
 abbrev pub code_number : Code → ℕ
 code_number C.F1 = 1
@@ -132,8 +175,30 @@ abbrev pub first_misfit : List Misfit → Option Misfit
 first_misfit [] = None
 first_misfit (m ∷ ms) = first_in m.number (m ∷ ms)
 
--- the first fault of fixity that these events have
-pub record IsFirstMisfit (text : ℕ → Id) (events : List Event) (first : Option Misfit) : Type 0 where
-  pub all : List Misfit
-  pub misfits : Misfits text start events all
-  pub is_first : first ≡ first_misfit all
+-- how many declarations stand before the one with a fault of fixity
+abbrev pub before_misfit : Option Misfit → Option ℕ
+before_misfit misfit = option_map (λ (m : Misfit). m.number - 1) misfit
+
+-- so many declarations at most
+abbrev pub up_to : {A : Type 0} → Option ℕ → List A → List A
+up_to None decs = decs
+up_to (Some n) decs = take n decs
+
+-- the first fault of fixity that these events have, and the declarations before the one that has it, or all of them
+-- where none has one, each with what its sequences stand for
+pub record AreFitted (text : ℕ → Id) (events : List Event) (fitted : List Fitted) (first : Option Misfit) : Type 0 where
+  pub outcomes : List Outcome
+  pub happen : Outcomes text start events outcomes
+  pub is_first : first ≡ first_misfit (misfits_in outcomes)
+  pub are_fitted : fitted ≡ up_to (before_misfit first) (declarations_in outcomes)
+
+-- the program's outcomes as these
+abbrev pub outcome_of : P.Outcome → Outcome
+outcome_of (V.Declares token) = declares token
+outcome_of V.Idle = idle
+outcome_of (V.Stands fit) = stands (fit_of fit)
+outcome_of (V.Fails m) = fails m
+
+-- the declarations that begin among outcomes, and the fits before the first of them, all from the last to the first
+abbrev pub AreGathered : Gathered → List Outcome → Type 0
+AreGathered g os = (map fitted_of (reverse g.declarations.items) ≡ declarations_in os) × (map fit_of (reverse g.fits.items) ≡ fits_before os)

@@ -1,6 +1,5 @@
 -- The bare declarations that a unit's tokens spell, and the fault that ends them.
-use Rattle.std.specs.Prelude.{◌≡◌, ℕ, ◌-◌, List, length, Option, Some, None, Bool, false, nat_le, if◌then◌else◌, map, take}
-use Rattle.std.specs.Option.{option_map}
+use Rattle.std.specs.Prelude.{◌≡◌, ℕ, ◌-◌, List, length, Option, Some, None, Bool, false, nat_le, if◌then◌else◌, map}
 use Rattle.std.specs.List.{take_while, list_all}
 use Rattle.sml_lex.specs.declared.fault.Code.{Code}
 use Rattle.sml_lex.specs.declared.fault.Code.TheVariants as C
@@ -20,7 +19,8 @@ use Rattle.sml_read.specs.Answer.{is_done, IsReading}
 use Rattle.sml_parse.specs.declared.item.Item.{Item}
 use Rattle.sml_parse.specs.declared.reach.Misfit.{Misfit}
 use Rattle.sml_parse.specs.Events.{text_at, events_of}
-use Rattle.sml_parse.specs.Reach.{IsFirstMisfit}
+use Rattle.sml_parse.specs.Fits.{Fitted}
+use Rattle.sml_parse.specs.Reach.{before_misfit, up_to, AreFitted}
 use Rattle.sml_parse.specs.Places.{place_from}
 use Rattle.sml_parse.specs.Items.{start_of, items_of, declarations_of}
 use Rattle.sml_parse.specs.Forms.{is_in_piece}
@@ -55,19 +55,10 @@ fault_read unit tokens end begun (Some TooEarly) = fault_from unit C.S2 (start_o
 fault_read unit tokens E.Done begun (Some Lexical) = None
 fault_read unit tokens (E.Fault stop) begun (Some Lexical) = fault_from unit stop.code (start_of tokens begun stop.at) stop.at
 
--- so many declarations at most
-abbrev pub up_to : {A : Type 0} → Option ℕ → List A → List A
-up_to None decs = decs
-up_to (Some n) decs = take n decs
-
 -- whether there are that many
 abbrev pub is_full : Option ℕ → ℕ → Bool
 is_full None count = false
 is_full (Some most) count = nat_le most count
-
--- how many declarations stand before the one with a fault of fixity
-abbrev pub before_misfit : Option Misfit → Option ℕ
-before_misfit misfit = option_map (λ (m : Misfit). m.number - 1) misfit
 
 -- the fault behind the last of the declarations: that of fixity, or the one at which reading ended
 abbrev pub fault_behind : List ℕ → List Token → End → ℕ → Option Cause → Option Misfit → Option (Fault Place)
@@ -80,8 +71,9 @@ pub record Trees (unit : List ℕ) (tokens : List Token) (end : End) (decs : Lis
   pub nodes : List Node
   pub begun : ℕ
   pub cause : Option Cause
+  pub fitted : List Fitted
   pub misfit : Option Misfit
   pub reading : IsReading (kinds_of tokens) (is_done end) nodes begun cause
-  pub fits : IsFirstMisfit (text_at unit tokens) (events_of unit tokens nodes (starts_of 0 nodes)) misfit
+  pub fits : AreFitted (text_at unit tokens) (events_of unit tokens nodes (starts_of 0 nodes)) fitted misfit
   pub whole : decs ≡ take_while is_low (up_to (before_misfit misfit) (spelt unit nodes tokens))
   pub ended : fault ≡ (if list_all is_low (up_to (before_misfit misfit) (spelt unit nodes tokens)) then fault_behind unit tokens end begun cause misfit else Some (record { code = C.S3; place = record { line = 1; column = 1 }; detail = None }))

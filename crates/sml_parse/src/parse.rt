@@ -5,7 +5,8 @@ ghost use Rattle.std.specs.List.{list_all};
 ghost use Rattle.std.specs.Option.{option_map, MatchOption};
 ghost use Rattle.sml_lex.specs.Faults.{fault_of};
 ghost use Rattle.sml_tree.specs.Views.{dec_of};
-ghost use Rattle.sml_parse.specs.Trees.{dec_of_items, decs_of_items, is_low, fault_from, fault_read, fault_behind, before_misfit, up_to, is_full, Trees};
+ghost use Rattle.sml_parse.specs.Reach.{up_to};
+ghost use Rattle.sml_parse.specs.Trees.{dec_of_items, decs_of_items, is_low, fault_from, fault_read, fault_behind, is_full, Trees};
 
 use crate::build::build;
 use crate::event::events;
@@ -13,7 +14,7 @@ use crate::item::Item;
 use crate::label::{begins, first, label, start_of};
 use crate::names::Names;
 use crate::place::{FIRST, place_between};
-use crate::reach::{Misfit, first_misfit};
+use crate::reach::{Misfit, before_misfit, fit};
 use crate::sort::is_in_piece;
 use crate::tall::measure;
 use sml_lex::fault::{Code, Fault, Memory};
@@ -141,16 +142,6 @@ fn fault_behind(lexed: &Lexed, full: &Full, misfit: Option<Misfit>) -> Option<Fa
     }
 }
 
-/// How many declarations stand before the one with a fault of fixity.
-fn before_misfit(misfit: Option<Misfit>) -> Option<usize>
-    ensures { result ≡ before_misfit misfit }
-{
-    match misfit {
-        None => None,
-        Some(misfit) => Some(misfit.number.saturating_sub(1)),
-    }
-}
-
 /// Reads a unit's bare declarations.
 pub fn parse(alloc: Global, lexed: &Lexed) -> Result<Parsed, Memory>
     ensures { IfOk result (λ parsed. Trees lexed.now.unit.now lexed.now.tokens.items lexed.now.end
@@ -159,7 +150,7 @@ pub fn parse(alloc: Global, lexed: &Lexed) -> Result<Parsed, Memory>
     let full = read(alloc, lexed)?;
     let mut names = Names::new(alloc);
     let events = events(alloc, lexed.unit, &mut names, &full.nodes, &lexed.tokens)?;
-    let misfit = first_misfit(alloc, lexed.unit, &lexed.tokens, events)?;
+    let (_fitted, misfit) = fit(alloc, lexed.unit, &lexed.tokens, events)?;
     let items = label(alloc, lexed.unit, &full.nodes, &lexed.tokens)?;
     let most = before_misfit(misfit);
     let (declarations, low) = declare(alloc, lexed.unit, &mut names, &items, most)?;

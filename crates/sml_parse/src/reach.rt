@@ -1,4 +1,4 @@
-//! How far directives reach, and the first sequence that stands for nothing where they are in force.
+//! How far directives reach, and what each sequence stands for where they are in force.
 
 ghost use Rattle.std.specs.Prelude.{◌≡◌, ℕ, ◌<◌, ◌≤◌, ◌+◌, ◌-◌, ◌^◌, List, [], ◌∷◌, ◌++◌, map, reverse, length, get_or, IfOk, IfSome, OnOk};
 ghost use Rattle.std.specs.List.{cons_option};
@@ -9,9 +9,11 @@ ghost use Rattle.sml_parse.specs.Founds as founds;
 ghost use Rattle.sml_parse.specs.Founds.{name_of, atoms_of};
 ghost use Rattle.sml_parse.specs.Events.{seen, text_at, directs};
 ghost use Rattle.sml_parse.specs.Reach as spec;
-ghost use Rattle.sml_parse.specs.Reach.{state_of, start, AreItems, first_inner, ids_of, level_text, level_token, misfit_of, Happens, Misfits, first_misfit, IsFirstMisfit};
+ghost use Rattle.sml_parse.specs.Fits.{shape_of, fitted_of};
+ghost use Rattle.sml_parse.specs.Reach.{state_of, start, AreItems, first_inner, ids_of, level_text, level_token, misfit_of, idle, fit_at, outcome_of, Happens, Outcomes, misfit_in, misfits_in, declarations_in, AreGathered, first_misfit, before_misfit, up_to, AreFitted};
 
 use crate::event::Event;
+use crate::fitted::{Fit, Fitted, Shape};
 use crate::found::Atom;
 use crate::place::text;
 use sml_fixity::heads::clause_head;
@@ -30,6 +32,25 @@ pub struct Misfit {
     pub begun: usize,
     pub token: usize,
     pub code: Code,
+}
+
+/// What an event comes to.
+#[derive(Drop)]
+pub enum Outcome {
+    /// A declaration at the top begins at this token.
+    Declares(usize),
+    /// No sequence stands here, and there is no fault.
+    Idle,
+    /// A sequence stands for this.
+    Stands(Fit),
+    Fails(Misfit),
+}
+
+/// The declarations that begin among outcomes, and the fits before the first of them, all from the last to the first.
+#[derive(Drop)]
+pub struct Gathered {
+    declarations: Vec<Fitted>,
+    fits: Vec<Fit>,
 }
 
 /// The fixities in force, how many declarations have begun, and the first token of the last of them.
@@ -109,6 +130,17 @@ fn token_at(tokens: &[usize], index: usize) -> usize
     }
 }
 
+/// What the sequence with these tokens stands for.
+fn stands(tokens: &[usize], shape: Shape) -> Outcome
+    ensures { (atoms : List founds.Atom) → tokens.now ≡ map (λ (a : founds.Atom). a.token) atoms →
+        outcome_of result ≡ spec.stands (fit_at atoms (shape_of shape)) }
+{
+    Outcome::Stands(Fit {
+        token: token_at(tokens, 0),
+        shape,
+    })
+}
+
 /// The bytes of a level, none where it isn't written.
 fn level_bytes<'a>(unit: &'a [u8], tokens: &[Token], level: Option<usize>) -> &'a [u8]
     ensures { result.now ≡ level_text (text_at unit.now tokens.now) level }
@@ -158,44 +190,44 @@ impl Reach {
         }
     }
 
-    /// The fault of a sequence of atomic expressions.
-    fn of_expression(&self, alloc: Global, atoms: Vec<Atom>) -> Result<Option<Misfit>, Memory>
-        ensures empty { atoms_of atoms ≡ [] → IfOk result (λ m. m ≡ None) }
-        ensures some { 0 < length (atoms_of atoms) → IfOk result (spec.IsExpression (state_of self.now) (atoms_of atoms)) }
+    /// What a sequence of atomic expressions comes to.
+    fn of_expression(&self, alloc: Global, atoms: Vec<Atom>) -> Result<Outcome, Memory>
+        ensures empty { atoms_of atoms ≡ [] → IfOk result (λ o. outcome_of o ≡ idle) }
+        ensures some { 0 < length (atoms_of atoms) → IfOk result (λ o. spec.IsExpression (state_of self.now) (atoms_of atoms) (outcome_of o)) }
     {
         let sequence = split(alloc, atoms)?;
         if sequence.items.is_empty() {
-            return Ok(None);
+            return Ok(Outcome::Idle);
         }
         match resolve(alloc, &self.fixities, &sequence.items) {
-            Ok(_operand) => Ok(None),
-            Err(fault) => Ok(Some(self.misfit_of(&sequence.tokens, fault)?)),
+            Ok(operand) => Ok(stands(&sequence.tokens, Shape::Tree(operand))),
+            Err(fault) => Ok(Outcome::Fails(self.misfit_of(&sequence.tokens, fault)?)),
         }
     }
 
-    /// The fault of a sequence of atomic patterns.
-    fn of_pattern(&self, alloc: Global, atoms: Vec<Atom>) -> Result<Option<Misfit>, Memory>
-        ensures empty { atoms_of atoms ≡ [] → IfOk result (λ m. m ≡ None) }
-        ensures some { 0 < length (atoms_of atoms) → IfOk result (spec.IsPattern (state_of self.now) (atoms_of atoms)) }
+    /// What a sequence of atomic patterns comes to.
+    fn of_pattern(&self, alloc: Global, atoms: Vec<Atom>) -> Result<Outcome, Memory>
+        ensures empty { atoms_of atoms ≡ [] → IfOk result (λ o. outcome_of o ≡ idle) }
+        ensures some { 0 < length (atoms_of atoms) → IfOk result (λ o. spec.IsPattern (state_of self.now) (atoms_of atoms) (outcome_of o)) }
     {
         let sequence = split(alloc, atoms)?;
         if sequence.items.is_empty() {
-            return Ok(None);
+            return Ok(Outcome::Idle);
         }
         match resolve_pattern(alloc, &self.fixities, &sequence.items) {
-            Ok(_operand) => Ok(None),
-            Err(fault) => Ok(Some(self.misfit_of(&sequence.tokens, fault)?)),
+            Ok(operand) => Ok(stands(&sequence.tokens, Shape::Tree(operand))),
+            Err(fault) => Ok(Outcome::Fails(self.misfit_of(&sequence.tokens, fault)?)),
         }
     }
 
-    /// The fault of the head of a clause.
-    fn of_head(&self, alloc: Global, atoms: Vec<Atom>) -> Result<Option<Misfit>, Memory>
-        ensures { IfOk result (spec.IsClauseHead (state_of self.now) (atoms_of atoms)) }
+    /// What the head of a clause comes to.
+    fn of_head(&self, alloc: Global, atoms: Vec<Atom>) -> Result<Outcome, Memory>
+        ensures { IfOk result (λ o. spec.IsClauseHead (state_of self.now) (atoms_of atoms) (outcome_of o)) }
     {
         let sequence = split(alloc, atoms)?;
         match clause_head(&self.fixities, &sequence.items, &sequence.inner) {
-            Ok(_head) => Ok(None),
-            Err(fault) => Ok(Some(self.misfit_of(&sequence.tokens, fault)?)),
+            Ok(head) => Ok(stands(&sequence.tokens, Shape::Head(head))),
+            Err(fault) => Ok(Outcome::Fails(self.misfit_of(&sequence.tokens, fault)?)),
         }
     }
 
@@ -207,44 +239,46 @@ impl Reach {
         bytes: &[u8],
         level: Option<usize>,
         atoms: Vec<Atom>,
-    ) -> Result<Option<Misfit>, Memory>
+    ) -> Result<Outcome, Memory>
         ensures happens { (text : ℕ → Id) → bytes.now ≡ level_text text level →
-            IfOk result (λ m. Happens text (state_of self.old) (directs directive level (atoms_of atoms)) m (state_of self.new)) }
+            IfOk result (λ o. Happens text (state_of self.old) (directs directive level (atoms_of atoms)) (outcome_of o) (state_of self.new)) }
         ensures count { self.new.count ≡ self.old.count }
     {
         let idents = idents(alloc, atoms)?;
         match self.fixities.with(directive, bytes, &idents) {
-            Ok(()) => Ok(None),
-            Err(DirectiveFault::Level) => Ok(Some(self.misfit(level.unwrap_or(0), Code::F3))),
+            Ok(()) => Ok(Outcome::Idle),
+            Err(DirectiveFault::Level) => {
+                Ok(Outcome::Fails(self.misfit(level.unwrap_or(0), Code::F3)))
+            }
             Err(DirectiveFault::Memory) => Err(Memory),
         }
     }
 
-    /// What an event does, and its fault.
+    /// What an event does, and what it comes to.
     fn happen(
         &mut self,
         alloc: Global,
         unit: &[u8],
         tokens: &[Token],
         event: Event,
-    ) -> Result<Option<Misfit>, Memory>
+    ) -> Result<Outcome, Memory>
         requires { self.now.count < 2 ^ 64 - 1 }
-        ensures happens { IfOk result (λ m. Happens (text_at unit.now tokens.now) (state_of self.old) (seen event) m (state_of self.new)) }
+        ensures happens { IfOk result (λ o. Happens (text_at unit.now tokens.now) (state_of self.old) (seen event) (outcome_of o) (state_of self.new)) }
         ensures count { self.new.count ≤ self.old.count + 1 }
     {
         match event {
             Event::Begins(token) => {
                 self.count += 1;
                 self.begun = token;
-                Ok(None)
+                Ok(Outcome::Declares(token))
             }
             Event::Enters => {
                 self.fixities.enter()?;
-                Ok(None)
+                Ok(Outcome::Idle)
             }
             Event::Leaves => {
                 self.fixities.leave()?;
-                Ok(None)
+                Ok(Outcome::Idle)
             }
             Event::Directs(directive, level, atoms) => {
                 let bytes = level_bytes(unit, tokens, level);
@@ -311,31 +345,129 @@ fn next(events: &mut Vec<Event>) -> Option<Event>
     events.pop()
 }
 
-fn push_some(misfits: &mut Vec<Misfit>, misfit: Option<Misfit>) -> Result<(), Memory>
-    ensures { OnOk result (misfits.new.items ≡ misfits.old.items ++ cons_option misfit []) }
-{
-    match misfit {
-        Some(misfit) => misfits.push(misfit)?,
-        None => {}
-    }
-    Ok(())
-}
-
-/// The first fault of fixity in a unit, whose events go from the last to the first.
-pub fn first_misfit(
+/// What a unit's events come to, which go from the last to the first.
+fn outcomes(
     alloc: Global,
     unit: &[u8],
     tokens: &[Token],
     events: Vec<Event>,
-) -> Result<Option<Misfit>, Memory>
-    ensures { IfOk result (IsFirstMisfit (text_at unit.now tokens.now) (map seen (reverse events.items))) }
+) -> Result<Vec<Outcome>, Memory>
+    ensures { IfOk result (λ v. Outcomes (text_at unit.now tokens.now) start (map seen (reverse events.items)) (map outcome_of v.items)) }
 {
     let mut reach = Reach::new(alloc)?;
-    let mut misfits = Vec::new(alloc);
+    let mut outcomes = Vec::new(alloc);
     let mut events = events;
     while let Some(event) = next(&mut events) {
-        let misfit = reach.happen(alloc, unit, tokens, event)?;
-        push_some(&mut misfits, misfit)?;
+        outcomes.push(reach.happen(alloc, unit, tokens, event)?)?;
     }
-    Ok(first_of(&misfits))
+    Ok(outcomes)
+}
+
+fn push_misfit(misfits: &mut Vec<Misfit>, outcome: &Outcome) -> Result<(), Memory>
+    ensures { OnOk result (misfits.new.items ≡ misfits.old.items ++ cons_option (misfit_in (outcome_of outcome.now)) []) }
+{
+    match outcome {
+        Outcome::Fails(misfit) => misfits.push(*misfit)?,
+        Outcome::Declares(_) => {}
+        Outcome::Idle => {}
+        Outcome::Stands(_) => {}
+    }
+    Ok(())
+}
+
+/// The faults among outcomes.
+fn misfits(alloc: Global, outcomes: &[Outcome]) -> Result<Vec<Misfit>, Memory>
+    ensures { IfOk result (λ v. v.items ≡ misfits_in (map outcome_of outcomes.now)) }
+{
+    let mut misfits = Vec::new(alloc);
+    for outcome in outcomes {
+        push_misfit(&mut misfits, outcome)?;
+    }
+    Ok(misfits)
+}
+
+impl Gathered {
+    /// With the outcome before those that this was gathered from.
+    fn with(self, alloc: Global, outcome: Outcome) -> Result<Gathered, Memory>
+        ensures { (os : List spec.Outcome) → AreGathered self os → IfOk result (λ g. AreGathered g (outcome_of outcome ∷ os)) }
+    {
+        let Gathered {
+            mut declarations,
+            mut fits,
+        } = self;
+        match outcome {
+            Outcome::Declares(begun) => {
+                fits.reverse();
+                declarations.push(Fitted { begun, fits })?;
+                Ok(Gathered {
+                    declarations,
+                    fits: Vec::new(alloc),
+                })
+            }
+            Outcome::Stands(fit) => {
+                fits.push(fit)?;
+                Ok(Gathered { declarations, fits })
+            }
+            Outcome::Idle => Ok(Gathered { declarations, fits }),
+            Outcome::Fails(_) => Ok(Gathered { declarations, fits }),
+        }
+    }
+}
+
+/// The declarations that begin among outcomes, each with what its sequences stand for.
+fn declarations(alloc: Global, outcomes: Vec<Outcome>) -> Result<Vec<Fitted>, Memory>
+    ensures { IfOk result (λ v. map fitted_of v.items ≡ declarations_in (map outcome_of outcomes.items)) }
+{
+    let mut gathered = Gathered {
+        declarations: Vec::new(alloc),
+        fits: Vec::new(alloc),
+    };
+    let mut outcomes = outcomes;
+    while let Some(outcome) = outcomes.pop() {
+        gathered = gathered.with(alloc, outcome)?;
+    }
+    let Gathered {
+        mut declarations,
+        fits: _,
+    } = gathered;
+    declarations.reverse();
+    Ok(declarations)
+}
+
+/// How many declarations stand before the one with a fault of fixity.
+pub fn before_misfit(misfit: Option<Misfit>) -> Option<usize>
+    ensures { result ≡ before_misfit misfit }
+{
+    match misfit {
+        None => None,
+        Some(misfit) => Some(misfit.number.saturating_sub(1)),
+    }
+}
+
+fn up_to(most: Option<usize>, declarations: Vec<Fitted>) -> Vec<Fitted>
+    ensures { map fitted_of result.items ≡ up_to most (map fitted_of declarations.items) }
+{
+    let mut declarations = declarations;
+    match most {
+        Some(most) => declarations.truncate(most),
+        None => {}
+    }
+    declarations
+}
+
+/// The declarations of a unit before its first fault of fixity, each with what its sequences stand for, and that
+/// fault. The events go from the last to the first.
+pub fn fit(
+    alloc: Global,
+    unit: &[u8],
+    tokens: &[Token],
+    events: Vec<Event>,
+) -> Result<(Vec<Fitted>, Option<Misfit>), Memory>
+    ensures { IfOk result (λ r. AreFitted (text_at unit.now tokens.now) (map seen (reverse events.items)) (map fitted_of r.0.items) r.1) }
+{
+    let outcomes = outcomes(alloc, unit, tokens, events)?;
+    let misfits = misfits(alloc, &outcomes)?;
+    let first = first_of(&misfits);
+    let declarations = declarations(alloc, outcomes)?;
+    Ok((up_to(before_misfit(first), declarations), first))
 }

@@ -27,7 +27,7 @@ use Rattle.sml_parse.specs.Senses.{sense_of, deed_of}
 use Rattle.sml_parse.specs.Founds.{Atom, Found, nothing, word, one, several, within, directed, from, found_by, name_of}
 use Rattle.sml_parse.specs.Events.{Event, begins, enters, leaves, directs, expression, pattern, head, found_at, event_of}
 use Rattle.sml_parse.specs.Reach.{State, Outcome, declares, idle, stands, fails, misfit, token_of, AreItems, misfit_of, misfit_in, IsExpression, IsPattern, IsClauseHead, Happens}
-use Rattle.sml_parse.specs.Within.{of_fixity, reason_of}
+use Rattle.sml_parse.specs.Within.{of_phrases, reason_of}
 use Rattle.sml_parse.proofs.FoundsWithin.{IsIn, AtomsIn, LevelIn, FoundIn}
 
 -- events
@@ -132,7 +132,7 @@ event_in text n e r founds b h = by_deed (deed_of r) n e _ b (λ (q : is_head (d
 
 -- of fixity, in the declaration at hand, at a token in these bounds
 abbrev pub IsOwn : State → ℕ → ℕ → Misfit → Type 0
-IsOwn s n e m = IsIn n e m.token × (m.number ≡ s.count) × (m.begun ≡ s.begun) × (reason_of m.code ≡ of_fixity)
+IsOwn s n e m = IsIn n e m.token × (m.number ≡ s.count) × (m.begun ≡ s.begun) × (reason_of m.code ≡ of_phrases)
 
 token_in : (n e : ℕ) (atoms : List Atom) (index : ℕ) → AtomsIn n e atoms → index < length atoms → IsIn n e (token_of atoms index)
 token_in n e [] index h l = absurd (omega (arith, l))
@@ -158,7 +158,7 @@ split_below roles before after r e =
     omega (arith, l)
 
 module _ (s : State) (n e : ℕ) (atoms : List Atom) (h : AtomsIn n e atoms) where
-  at_index : (index : ℕ) (code : Code) (m : Misfit) → reason_of code ≡ of_fixity → index < length atoms → Some (misfit s (token_of atoms index) code) ≡ Some m → IsOwn s n e m
+  at_index : (index : ℕ) (code : Code) (m : Misfit) → reason_of code ≡ of_phrases → index < length atoms → Some (misfit s (token_of atoms index) code) ≡ Some m → IsOwn s n e m
   at_index index code m r l q = subst (IsOwn s n e) (some_same q) (token_in n e atoms index h l, refl, refl, r)
 
   place_below : (fixities : Map) (items : List Item) (place before : ℕ) → AreItems items atoms → before < length (roles_of fixities items) → before ≡ place → place < length atoms

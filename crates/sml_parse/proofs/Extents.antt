@@ -95,11 +95,11 @@ is_mark M.Begins = true
 is_mark M.Ends = true
 is_mark _ = false
 
-abbrev agree : Bool → Bool → Bool
+abbrev pub agree : Bool → Bool → Bool
 agree true b = b
 agree false b = not b
 
-agreed : (a b : Bool) → agree a b ≡ true → a ≡ b
+pub agreed : (a b : Bool) → agree a b ≡ true → a ≡ b
 agreed true true h = refl
 agreed true false h = absurd (false≢true h)
 agreed false true h = absurd (false≢true h)

@@ -1,5 +1,5 @@
 -- A step over a derivation's nodes.
-use Rattle.std.proofs.Common.{◌≡◌, ℕ, zero, suc, ◌+◌, ◌<◌, List, [], ◌∷◌, ◌++◌, Option, Some, None, take, drop, length, get_or, cond, false, refl, sym, ap, ◌∙◌, append_assoc, append-nil}
+use Rattle.std.proofs.Common.{◌≡◌, ℕ, zero, suc, ◌+◌, ◌<◌, List, [], ◌∷◌, ◌++◌, Option, Some, None, Bool, take, drop, length, get_or, cond, false, refl, sym, ap, ◌∙◌, append_assoc, append-nil}
 use Rattle.std.specs.Prelude.{slice_get, not, unwrap_or}
 use Rattle.std.specs.Option.{option_map}
 use Rattle.std.proofs.lemmas.Option.{slice_get_within, get_or_from_slice_get}
@@ -16,7 +16,7 @@ use Rattle.sml_read.specs.declared.grammar.Rule.{Rule}
 use Rattle.sml_parse.specs.declared.item.Item.{Item}
 use Rattle.sml_parse.specs.declared.item.Item.TheVariants as I
 use Rattle.sml_parse.specs.Piece.{meaning_of}
-use Rattle.sml_parse.specs.Items.{word_of, item_of, items_of, begins_behind, ends, start_of}
+use Rattle.sml_parse.specs.Items.{word_of, item_of, items_of, begins_behind, start_of}
 
 -- the token at an index, of what is left from there on
 slice_get-drop : {A : Type 0} (xs : List A) (i : ℕ) → slice_get (drop i xs) 0 ≡ slice_get xs i
@@ -51,9 +51,9 @@ inner_on unit start i index nodes tokens total items new d rule token start' h w
     ∙ joined_some items (item_of unit (meaning_of rule) token) new (items_of unit (cond (begins_behind (meaning_of rule)) (start_of tokens index 0) start) (drop (i + 1) nodes) (drop index tokens)) e
     ∙ ap (λ a. new ++ items_of unit a (drop (i + 1) nodes) (drop index tokens)) (sym s)
 
-pub first_on : (items : List Item) (n : ℕ) (d : Item) → n < length items → ends (get_or items n d) ≡ false → take n items ++ before_first ends (drop n items) ≡ take (n + 1) items ++ before_first ends (drop (n + 1) items)
-first_on items n d within e =
-    ap (λ xs. take n items ++ before_first ends xs) (drop_more items n d within)
-    ∙ ap (λ xs. take n items ++ xs) (take_while-cons (λ x. not (ends x)) (get_or items n d) (drop (n + 1) items) ∙ cond-true _ _ _ (ap not e))
-    ∙ sym (append_assoc (take n items) (get_or items n d ∷ []) (before_first ends (drop (n + 1) items)))
-    ∙ ap (λ xs. xs ++ before_first ends (drop (n + 1) items)) (sym (take_more items n d within))
+pub first_on : {A : Type 0} (stops : A → Bool) (items : List A) (n : ℕ) (d : A) → n < length items → stops (get_or items n d) ≡ false → take n items ++ before_first stops (drop n items) ≡ take (n + 1) items ++ before_first stops (drop (n + 1) items)
+first_on stops items n d within e =
+    ap (λ xs. take n items ++ before_first stops xs) (drop_more items n d within)
+    ∙ ap (λ xs. take n items ++ xs) (take_while-cons (λ x. not (stops x)) (get_or items n d) (drop (n + 1) items) ∙ cond-true _ _ _ (ap not e))
+    ∙ sym (append_assoc (take n items) (get_or items n d ∷ []) (before_first stops (drop (n + 1) items)))
+    ∙ ap (λ xs. xs ++ before_first stops (drop (n + 1) items)) (sym (take_more items n d within))

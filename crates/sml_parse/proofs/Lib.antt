@@ -18,4 +18,6 @@ pub mod Nonempty
 mod FoundsWithin
 mod EventsWithin
 mod MisfitsWithin
+mod FlawsWithin
 pub mod PlacesWithin
+mod FirstFlaws

@@ -26,7 +26,7 @@ use Rattle.sml_parse.specs.Founds.{Found}
 use Rattle.sml_parse.specs.Events.{Event, enters, leaves, text_at, found_at, founds_of, scope_event, event_of, events_of}
 use Rattle.sml_parse.specs.Fits.{Fitted}
 use Rattle.sml_parse.specs.Reach.{State, Outcome, start, Outcomes, misfit_in, misfits_in, precedes, earlier, first_in, first_misfit, AreFitted}
-use Rattle.sml_parse.specs.Within.{Extent, of_fixity, reason_of, ends_before, is_part_first, begins_next, tokens_before, extents_of}
+use Rattle.sml_parse.specs.Within.{Extent, of_phrases, reason_of, ends_before, is_part_first, begins_next, tokens_before, extents_of}
 use Rattle.sml_parse.proofs.Nonempty.{all_inner, inner_so, not_both, when_not, some_token}
 use Rattle.sml_parse.proofs.FoundsWithin.{IsIn, is_idle, phrase_in, founds_in}
 use Rattle.sml_parse.proofs.EventsWithin.{EventIn, is_beginning, event_in, IsOwn, happens_in}
@@ -95,7 +95,7 @@ outer_last p ss q t = none_so ss (subst (λ (c : Bool). (if c then is_none ss el
 
 -- a fault of fixity in the extent of its declaration
 abbrev pub IsPlaced : List Extent → Misfit → Type 0
-IsPlaced extents m = (extent : Extent) × (slice_get extents (m.number - 1) ≡ Some extent) × (0 < m.number) × (m.begun ≡ extent.first) × IsIn extent.first extent.behind m.token × (reason_of m.code ≡ of_fixity)
+IsPlaced extents m = (extent : Extent) × (slice_get extents (m.number - 1) ≡ Some extent) × (0 < m.number) × (m.begun ≡ extent.first) × IsIn extent.first extent.behind m.token × (reason_of m.code ≡ of_phrases)
 
 abbrev AllPlaced : List Extent → List Misfit → Type 0
 AllPlaced extents [] = Unit {0}

@@ -18,5 +18,6 @@ pub mod Roles
 pub mod Marks
 pub mod Known
 pub mod Flaws
+pub mod Flawed
 pub mod Trees
 pub mod Within

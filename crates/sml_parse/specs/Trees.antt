@@ -21,6 +21,7 @@ use Rattle.sml_parse.specs.declared.reach.Misfit.{Misfit}
 use Rattle.sml_parse.specs.Events.{text_at, events_of}
 use Rattle.sml_parse.specs.Fits.{Fitted}
 use Rattle.sml_parse.specs.Reach.{before_misfit, up_to, AreFitted}
+use Rattle.sml_parse.specs.Flawed.{or_else, first_flawed}
 use Rattle.sml_parse.specs.Places.{place_from}
 use Rattle.sml_parse.specs.Items.{start_of, items_of, declarations_of}
 use Rattle.sml_parse.specs.Forms.{is_in_piece}
@@ -60,20 +61,23 @@ abbrev pub is_full : Option ℕ → ℕ → Bool
 is_full None count = false
 is_full (Some most) count = nat_le most count
 
--- the fault behind the last of the declarations: that of fixity, or the one at which reading ended
+-- the fault behind the last of the declarations: that of its sequences or of what it binds, or the one at which reading ended
 abbrev pub fault_behind : List ℕ → List Token → End → ℕ → Option Cause → Option Misfit → Option (Fault Place)
 fault_behind unit tokens end begun cause None = fault_read unit tokens end begun cause
 fault_behind unit tokens end begun cause (Some m) = fault_from unit m.code (start_of tokens m.begun 0) (start_of tokens m.token 0)
 
 -- The tokens are read. Of the declarations that they spell these are all up to the first that has a fault of fixity
--- or is too high, and the fault is that one's, or the one at which reading ended.
+-- or of what it binds or is too high, and the fault is that one's, or the one at which reading ended. In one
+-- declaration a fault of fixity comes first: where it has one its other faults aren't sought.
 pub record Trees (unit : List ℕ) (tokens : List Token) (end : End) (decs : List (Dec Place)) (fault : Option (Fault Place)) : Type 0 where
   pub nodes : List Node
   pub begun : ℕ
   pub cause : Option Cause
   pub fitted : List Fitted
+  pub unfit : Option Misfit
   pub misfit : Option Misfit
   pub reading : IsReading (kinds_of tokens) (is_done end) nodes begun cause
-  pub fits : AreFitted (text_at unit tokens) (events_of unit tokens nodes (starts_of 0 nodes)) fitted misfit
+  pub fits : AreFitted (text_at unit tokens) (events_of unit tokens nodes (starts_of 0 nodes)) fitted unfit
+  pub is_first : misfit ≡ or_else (first_flawed (text_at unit tokens) 0 0 nodes tokens fitted) unfit
   pub whole : decs ≡ take_while is_low (up_to (before_misfit misfit) (spelt unit nodes tokens))
   pub ended : fault ≡ (if list_all is_low (up_to (before_misfit misfit) (spelt unit nodes tokens)) then fault_behind unit tokens end begun cause misfit else Some (record { code = C.S3; place = record { line = 1; column = 1 }; detail = None }))

@@ -88,26 +88,31 @@ IsOfDeclaration unit tokens extents before place = (extent : Extent) × (slice_g
 pub data Reason : Type 0 where
   of_bytes : Reason
   of_grammar : Reason
-  of_fixity : Reason
+  of_phrases : Reason
   of_height : Reason
 
 abbrev pub reason_of : Code → Reason
 reason_of C.S1 = of_grammar
 reason_of C.S2 = of_grammar
 reason_of C.S3 = of_height
-reason_of C.F1 = of_fixity
-reason_of C.F2 = of_fixity
-reason_of C.F3 = of_fixity
-reason_of C.F4 = of_fixity
+reason_of C.F1 = of_phrases
+reason_of C.F2 = of_phrases
+reason_of C.F3 = of_phrases
+reason_of C.F4 = of_phrases
+reason_of C.G1 = of_phrases
+reason_of C.G2 = of_phrases
+reason_of C.G3 = of_phrases
+reason_of C.G4 = of_phrases
+reason_of C.G5 = of_phrases
 reason_of _ = of_bytes
 
 -- A fault of bytes stands where the tokens end, and one of the grammar at a token of what is left from the token of
--- this number on. One of fixity stands at a token of the declaration that has so many before it, and that of a tree
--- that is too high at 1.1.
+-- this number on. One of a declaration's sequences or of what it binds stands at a token of the declaration that has
+-- so many before it, and that of a tree that is too high at 1.1.
 abbrev pub StandsBy : Reason → List ℕ → List Token → End → List Node → ℕ → ℕ → Place → Type 0
 StandsBy of_bytes unit tokens end nodes begun before place = IsOfStop unit tokens end begun place
 StandsBy of_grammar unit tokens end nodes begun before place = IsOfToken unit tokens (record { first = begun; behind = length tokens }) place
-StandsBy of_fixity unit tokens end nodes begun before place = IsOfDeclaration unit tokens (extents_of 0 nodes) before place
+StandsBy of_phrases unit tokens end nodes begun before place = IsOfDeclaration unit tokens (extents_of 0 nodes) before place
 StandsBy of_height unit tokens end nodes begun before place = place ≡ record { line = 1; column = 1 }
 
 abbrev pub StandsLast : List ℕ → List Token → End → List Node → ℕ → ℕ → Fault Place → Type 0

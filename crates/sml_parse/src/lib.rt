@@ -5,6 +5,7 @@ mod build;
 mod event;
 mod fitted;
 mod flaw;
+mod flawed;
 mod form;
 mod found;
 mod item;

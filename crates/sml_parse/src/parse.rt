@@ -10,6 +10,7 @@ ghost use Rattle.sml_parse.specs.Trees.{dec_of_items, decs_of_items, is_low, fau
 
 use crate::build::build;
 use crate::event::events;
+use crate::flawed::{first_flawed, or_else};
 use crate::item::Item;
 use crate::label::{begins, first, label, start_of};
 use crate::names::Names;
@@ -150,7 +151,9 @@ pub fn parse(alloc: Global, lexed: &Lexed) -> Result<Parsed, Memory>
     let full = read(alloc, lexed)?;
     let mut names = Names::new(alloc);
     let events = events(alloc, lexed.unit, &mut names, &full.nodes, &lexed.tokens)?;
-    let (_fitted, misfit) = fit(alloc, lexed.unit, &lexed.tokens, events)?;
+    let (fitted, unfit) = fit(alloc, lexed.unit, &lexed.tokens, events)?;
+    let flawed = first_flawed(alloc, lexed.unit, &lexed.tokens, &full.nodes, &fitted)?;
+    let misfit = or_else(flawed, unfit);
     let items = label(alloc, lexed.unit, &full.nodes, &lexed.tokens)?;
     let most = before_misfit(misfit);
     let (declarations, low) = declare(alloc, lexed.unit, &mut names, &items, most)?;

@@ -1,4 +1,5 @@
 use Rattle.std.proofs.Common.{sym, ◌∙◌, arith}
+use Rattle.sml_parse.specs.Items.{ends}
 use Rattle.sml_parse.proofs.Labels.{first_on}
 use Rattle.sml_parse.proofs.label.first.Goals as goal
 
@@ -6,5 +7,5 @@ pub loop-end-preserved : goal.loop-end-preserved
 loop-end-preserved c = record {
   within = omega arith;
   kept = c.loop-end.invariant.kept
-      ∙ first_on c.args.items.now c.loop-end.end _ c.loop-end-test.true (sym c.if-not-ends.ensures);
+      ∙ first_on ends c.args.items.now c.loop-end.end _ c.loop-end-test.true (sym c.if-not-ends.ensures);
 }

@@ -396,3 +396,6 @@ pub fn first_flaw(
     let flaws = judge.flaws(&marks)?;
     Ok(first_of(&flaws))
 }
+
+#[cfg(test)]
+mod tests;

@@ -154,3 +154,46 @@ fn reals(rt: HostRuntime) -> Result<(), Fail> {
         ],
     )
 }
+
+#[test]
+fn variables_in_scope(rt: HostRuntime) -> Result<(), Fail> {
+    expect_all(
+        &rt,
+        &[
+            (
+                b"val 'a f = fn x => let val 'a y = x in y end".as_slice(),
+                "1.28 G3",
+            ),
+            (
+                b"val f = let val 'a y = x in (y : 'a) end".as_slice(),
+                "1.17 G3",
+            ),
+            (b"val f = let val 'a y = x in 1 end".as_slice(), ""),
+            (
+                b"val f = (let val 'a y = x in 1 end, let val z = y : 'a in 1 end)".as_slice(),
+                "",
+            ),
+            (
+                b"val f = while (x : 'a) do let val 'a y = x in 1 end".as_slice(),
+                "1.35 G3",
+            ),
+            (
+                b"val f = (while (x : 'a) do (), let val 'a y = x in 1 end)".as_slice(),
+                "",
+            ),
+            (
+                b"val f = let datatype 'a t = A of 'a val 'a y = x in 1 end".as_slice(),
+                "",
+            ),
+            (
+                b"val f = let exception E of 'a val 'a y = x in 1 end".as_slice(),
+                "1.35 G3",
+            ),
+            (b"let val 'a y = x in (y : 'a) end".as_slice(), "1.9 G3"),
+            (
+                b"fun 'a f x = let fun 'a g y = y in g end".as_slice(),
+                "1.22 G3",
+            ),
+        ],
+    )
+}

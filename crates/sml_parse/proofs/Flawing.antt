@@ -1,5 +1,5 @@
 -- The faults of one mark after another.
-use Rattle.std.proofs.Common.{◌≡◌, ℕ, ◌+◌, ◌<◌, ◌≤◌, Bool, List, [], ◌∷◌, ◌++◌, get_or, take, drop, length, reverse, refl, sym, ap, ◌∙◌, arith, append_assoc, append-nil}
+use Rattle.std.proofs.Common.{◌≡◌, ℕ, ◌+◌, ◌<◌, ◌≤◌, Bool, List, [], ◌∷◌, ◌++◌, get_or, take, drop, length, reverse, sym, ap, ◌∙◌, append_assoc, append-nil}
 use Rattle.std.proofs.lemmas.List.{drop_more, take_more, reverse-append, drop_all}
 use Rattle.sml_tree.specs.Trees.{Id}
 use Rattle.sml_parse.specs.declared.mark.Mark.{Mark}

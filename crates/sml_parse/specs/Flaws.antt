@@ -1,5 +1,5 @@
 -- The faults of what a declaration binds, and the first of them. The marks before a mark go from the last to the first.
-use Rattle.std.specs.Prelude.{◌≡◌, ℕ, ◌-◌, Bool, true, false, not, ◌&&◌, ◌||◌, ◌==◌, nat_lt, nat_le, List, [], ◌∷◌, ◌++◌, Option, Some, None, map, if◌then◌else◌}
+use Rattle.std.specs.Prelude.{ℕ, ◌-◌, Bool, true, false, not, ◌&&◌, ◌||◌, ◌==◌, nat_lt, nat_le, get_or, List, [], ◌∷◌, ◌++◌, Option, Some, None, if◌then◌else◌}
 use Rattle.std.specs.List.{cons_option, list_any}
 use Rattle.std.specs.Str.{bytes_eq}
 use Rattle.sml_lex.specs.declared.fault.Code.{Code}
@@ -17,6 +17,7 @@ use Rattle.sml_parse.specs.declared.flaw.Seen.{Seen}
 use Rattle.sml_parse.specs.declared.flaw.Judge.{Judge}
 use Rattle.sml_parse.specs.Fits.{Fit}
 use Rattle.sml_read.specs.declared.grammar.Node.{Node}
+use Rattle.sml_read.specs.Extents.{ends_of}
 use Rattle.sml_parse.specs.Marks.{next, start, marks_of}
 use Rattle.sml_parse.specs.Known.{is_again, atom_at, count_at, is_used, head_at, token_in, KnowsKeys, KnowsAtoms, KnowsCounts, KnowsUses, KnowsHeads}
 
@@ -115,9 +116,41 @@ abbrev pub flaws_of : (ℕ → Id) → List Fit → List Mark → List Mark → 
 flaws_of text fits before [] = []
 flaws_of text fits before (m ∷ marks) = flaws_by text fits (m ∷ before) m (is_again text before m) ++ flaws_of text fits (m ∷ before) marks
 
+-- the value declaration of a type variable
+abbrev pub owner_in : Mark → Option ℕ
+owner_in (M.Listed v) = v.owner
+owner_in (M.Owned v) = Some v.owner
+owner_in _ = None
+
+-- whether a node lies behind that of a value declaration and before the end of its phrase, the ends of all being these
+abbrev pub lies_in : List ℕ → Option ℕ → ℕ → Bool
+lies_in ends None node = false
+lies_in ends (Some owner) node = nat_lt owner node && nat_lt node (get_or ends owner 0)
+
+-- whether a type variable is this one, of a value declaration round this node
+abbrev pub is_outer : (ℕ → Id) → List ℕ → ℕ → ℕ → Mark → Bool
+is_outer text ends node token m = lies_in ends (owner_in m) node && bytes_eq (text token) (text (token_in m))
+
+abbrev pub scoped_by : (ℕ → Id) → List ℕ → List Mark → ℕ → Option ℕ → Option Flaw
+scoped_by text ends all token None = None
+scoped_by text ends all token (Some node) = flaw_if (list_any (is_outer text ends node token) all) token C.G3
+
+-- the list of a value declaration names a variable of one round it
+abbrev pub scoped_at : (ℕ → Id) → List ℕ → List Mark → Mark → Option Flaw
+scoped_at text ends all (M.Listed v) = scoped_by text ends all v.token v.owner
+scoped_at text ends all _ = None
+
+abbrev pub scoped_of : (ℕ → Id) → List ℕ → List Mark → List Mark → List Flaw
+scoped_of text ends all [] = []
+scoped_of text ends all (m ∷ marks) = cons_option (scoped_at text ends all m) (scoped_of text ends all marks)
+
+-- the faults of these marks of a declaration with these nodes
+abbrev pub flaws_in : (ℕ → Id) → List Fit → List Node → List Mark → List Flaw
+flaws_in text fits nodes marks = flaws_of text fits [] marks ++ scoped_of text (ends_of 0 nodes) marks marks
+
 -- the faults of a declaration with these sequences and nodes, the first of which begins at this token
 abbrev pub flaws : (ℕ → Id) → List Fit → ℕ → List Node → List Flaw
-flaws text fits begun nodes = flaws_of text fits [] (marks_of 0 begun (start ∷ []) nodes)
+flaws text fits begun nodes = flaws_in text fits nodes (marks_of 0 begun (start ∷ []) nodes)
 
 abbrev pub flaw_number : Code → ℕ
 flaw_number C.G1 = 1

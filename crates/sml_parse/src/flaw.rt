@@ -1,8 +1,8 @@
 //! The first fault of what a declaration binds: names that are bound twice or can't be bound, clauses that don't
 //! agree, and real constants in patterns.
 
-ghost use Rattle.std.specs.Prelude.{◌≡◌, ◌≤◌, ℕ, List, [], ◌∷◌, ◌++◌, Option, map, reverse, drop, length, IfOk, OnOk};
-ghost use Rattle.std.specs.List.{cons_option};
+ghost use Rattle.std.specs.Prelude.{◌≡◌, ◌≤◌, ℕ, List, [], ◌∷◌, ◌++◌, Option, map, get_or, drop, length, IfOk, OnOk};
+ghost use Rattle.std.specs.List.{cons_option, list_any};
 ghost use Rattle.sml_parse.specs.declared.mark.Mark.{Mark};
 ghost use Rattle.sml_parse.specs.Events.{text_at};
 ghost use Rattle.sml_parse.specs.Fits as shapes;
@@ -22,6 +22,7 @@ use sml_fixity::heads::Head;
 use sml_lex::fault::{Code, Memory};
 use sml_lex::token::Token;
 use sml_read::grammar::Node;
+use sml_read::phrases::ends;
 use std::alloc::Global;
 
 /// A fault of what a declaration binds: its token and its code.
@@ -106,6 +107,35 @@ fn token_in(mark: Mark) -> usize
         Mark::Pun(token) => token,
         Mark::Real(token) => token,
         Mark::Clause(clause) => clause.sequence,
+    }
+}
+
+fn owner_in(mark: Mark) -> Option<usize>
+    ensures { result ≡ spec.owner_in mark }
+{
+    match mark {
+        Mark::Listed(listed) => listed.owner,
+        Mark::Owned(owned) => Some(owned.owner),
+        _ => None,
+    }
+}
+
+fn end_at(ends: &[usize], node: usize) -> usize
+    ensures { result ≡ get_or ends.now node 0 }
+{
+    match ends.get(node) {
+        Some(end) => *end,
+        None => 0,
+    }
+}
+
+/// Whether a node lies within the phrase of a value declaration.
+fn lies_in(ends: &[usize], owner: Option<usize>, node: usize) -> bool
+    ensures { result ≡ spec.lies_in ends.now owner node }
+{
+    match owner {
+        Some(owner) => owner < node && node < end_at(ends, owner),
+        None => false,
     }
 }
 
@@ -369,6 +399,53 @@ impl Judge<'_> {
         }
         Ok(flaws)
     }
+
+    /// Whether a type variable is this one, of a value declaration round this node.
+    fn is_outer(&self, ends: &[usize], node: usize, token: usize, mark: Mark) -> bool
+        ensures { result ≡ spec.is_outer (text_at self.now.unit.now self.now.tokens.now) ends.now node token mark }
+    {
+        lies_in(ends, owner_in(mark), node) && self.text(token) == self.text(token_in(mark))
+    }
+
+    fn is_scoped(&self, ends: &[usize], marks: &[Mark], node: usize, token: usize) -> bool
+        ensures { let text = text_at self.now.unit.now self.now.tokens.now in
+            result ≡ list_any (spec.is_outer text ends.now node token) marks.now }
+    {
+        for mark in marks {
+            if self.is_outer(ends, node, token, *mark) {
+                return true;
+            }
+        }
+        false
+    }
+
+    /// The fault of a variable in the list of a value declaration.
+    fn scoped_at(&self, ends: &[usize], marks: &[Mark], mark: Mark) -> Option<Flaw>
+        ensures { result ≡ spec.scoped_at (text_at self.now.unit.now self.now.tokens.now) ends.now marks.now mark }
+    {
+        let Mark::Listed(listed) = mark else {
+            return None;
+        };
+        let node = listed.owner?;
+        let here = self.is_scoped(ends, marks, node, listed.token);
+        flaw_if(here, listed.token, Code::G3)
+    }
+
+    /// The faults of variables in lists go behind the others.
+    fn push_scoped(
+        &self,
+        flaws: &mut Vec<Flaw>,
+        ends: &[usize],
+        marks: &[Mark],
+    ) -> Result<(), Memory>
+        ensures { let text = text_at self.now.unit.now self.now.tokens.now in
+            OnOk result (flaws.new.items ≡ flaws.old.items ++ spec.scoped_of text ends.now marks.now marks.now) }
+    {
+        for mark in marks {
+            push_some(flaws, self.scoped_at(ends, marks, *mark))?;
+        }
+        Ok(())
+    }
 }
 
 /// The first fault, by token and then by number, of what a declaration with these nodes and sequences binds, the first
@@ -393,6 +470,10 @@ pub fn first_flaw(
         heads: heads_of(alloc, fits)?,
     };
     let marks = marks(alloc, nodes, begun)?;
-    let flaws = judge.flaws(&marks)?;
+    let mut flaws = judge.flaws(&marks)?;
+    judge.push_scoped(&mut flaws, &ends(alloc, nodes)?, &marks)?;
     Ok(first_of(&flaws))
 }
+
+#[cfg(test)]
+mod tests;

@@ -1,5 +1,5 @@
 -- The uses of the steps from here on are added.
-use Rattle.std.proofs.Common.{◌≡◌, Bool, true, drop, length, ◌≤◌}
+use Rattle.std.proofs.Common.{◌≡◌, true, drop, length, ◌≤◌}
 use Rattle.std.specs.Bool.{if◌then◌else◌}
 use Rattle.indexmap.specs.IndexSet.{contains}
 use Rattle.sml_parse.specs.declared.known.Position.{Position}

@@ -1,4 +1,4 @@
-use Rattle.std.proofs.Common.{ap, ◌∙◌}
+use Rattle.std.proofs.Common.{◌∙◌}
 use Rattle.sml_parse.specs.Flaws.{arity_by}
 use Rattle.sml_parse.proofs.flaw.Judge.arity_at.Goals as goal
 

@@ -17,8 +17,10 @@ use Rattle.sml_parse.specs.declared.mark.Mark.TheVariants as M
 use Rattle.sml_parse.specs.declared.flaw.Flaw.{Flaw}
 use Rattle.sml_parse.specs.declared.reach.Misfit.{Misfit}
 use Rattle.sml_parse.specs.Fits.{Fit, Fitted}
-use Rattle.sml_parse.specs.Known.{is_again, is_used, token_in}
-use Rattle.sml_parse.specs.Flaws.{flaw_if, position, name_at, arity_at, unlike_by, unlike, uneven_by, uneven, barred_name, barred_value, barred, real, flaws_by, flaws_of, flaws, precedes, earlier, first_flaw}
+use Rattle.sml_read.specs.Extents.{ends_of}
+use Rattle.sml_parse.specs.Marks.{start, marks_of}
+use Rattle.sml_parse.specs.Known.{is_again, token_in}
+use Rattle.sml_parse.specs.Flaws.{flaw_if, name_at, arity_at, unlike_by, unlike, uneven_by, uneven, barred_name, barred_value, barred, real, flaws_by, flaws_of, scoped_by, scoped_at, scoped_of, flaws_in, precedes, earlier, first_flaw}
 use Rattle.sml_parse.specs.Flawed.{begins_at, ends_at, own_nodes, count_tokens, own_token, flaw_in, flaw_here, or_else, first_flawed}
 use Rattle.sml_parse.specs.Within.{Extent, of_phrases, reason_of, ends_before, begins_next, tokens_before, extents_of}
 use Rattle.sml_parse.proofs.Extents.{agree, agreed}
@@ -66,7 +68,7 @@ barred_of text (Some token) = if_of _ _ _ refl
 
 module _ (text : ℕ → Id) (fits : List Fit) (before : List Mark) where
   unlike_at : (m : Mark) → MaybeOfPhrases (unlike text fits before m)
-  unlike_at (M.Clause c) = unlike_of text _ _
+  unlike_at (M.Clause c) = unlike_of text (name_at fits before c.sequence) (name_at fits before c.function)
   unlike_at (M.Bound b) = tt
   unlike_at (M.Listed v) = tt
   unlike_at (M.Owned v) = tt
@@ -75,7 +77,7 @@ module _ (text : ℕ → Id) (fits : List Fit) (before : List Mark) where
   unlike_at (M.Real n) = tt
 
   uneven_at : (m : Mark) → MaybeOfPhrases (uneven fits before m)
-  uneven_at (M.Clause c) = uneven_of _ _ _
+  uneven_at (M.Clause c) = uneven_of c.sequence (arity_at fits before c.sequence) (arity_at fits before c.function)
   uneven_at (M.Bound b) = tt
   uneven_at (M.Listed v) = tt
   uneven_at (M.Owned v) = tt
@@ -112,6 +114,27 @@ at_marks : (text : ℕ → Id) (fits : List Fit) (before marks : List Mark) → 
 at_marks text fits before [] = tt
 at_marks text fits before (m ∷ marks) = joined _ _ (at_mark text fits (m ∷ before) m (is_again text before m)) (at_marks text fits (m ∷ before) marks)
 
+module _ (text : ℕ → Id) (ends : List ℕ) (all : List Mark) where
+  scoped_or_not : (token : ℕ) (node : Option ℕ) → MaybeOfPhrases (scoped_by text ends all token node)
+  scoped_or_not token None = tt
+  scoped_or_not token (Some node) = if_of _ _ _ refl
+
+  scoped_mark : (m : Mark) → MaybeOfPhrases (scoped_at text ends all m)
+  scoped_mark (M.Listed v) = scoped_or_not v.token v.owner
+  scoped_mark (M.Bound b) = tt
+  scoped_mark (M.Owned v) = tt
+  scoped_mark (M.Identifier a) = tt
+  scoped_mark (M.Pun n) = tt
+  scoped_mark (M.Real n) = tt
+  scoped_mark (M.Clause c) = tt
+
+  scoped_marks : (marks : List Mark) → AllOfPhrases (scoped_of text ends all marks)
+  scoped_marks [] = tt
+  scoped_marks (m ∷ marks) = put _ _ (scoped_mark m) (scoped_marks marks)
+
+all_of : (text : ℕ → Id) (fits : List Fit) (nodes : List Node) (marks : List Mark) → AllOfPhrases (flaws_in text fits nodes marks)
+all_of text fits nodes marks = joined _ _ (at_marks text fits [] marks) (scoped_marks text (ends_of 0 nodes) marks marks)
+
 earlier_of : (a : Flaw) (o : Option Flaw) → IsOfPhrases a → MaybeOfPhrases o → IsOfPhrases (earlier a o)
 earlier_of a None h k = h
 earlier_of a (Some b) h k = by_test (precedes a b)
@@ -137,11 +160,11 @@ own_count [] = refl
 own_count (Leaf ∷ nodes) = ap count_tokens (take_while-cons (λ node. not (ends_at node)) Leaf nodes) ∙ ap suc (own_count nodes)
 own_count (Inner r ∷ nodes) =
     ap count_tokens (take_while-cons (λ node. not (ends_at node)) (Inner r) nodes)
-    ∙ subst (λ (b : Bool). count_tokens (cond (not (ends_at (Inner r))) (Inner r ∷ own_nodes nodes) []) ≡ (if b then 0 else tokens_before nodes)) (ends_same r) (by_end (ends_at (Inner r)))
+    ∙ subst (λ (b : Bool). count_tokens (cond (not (ends_at (Inner r))) (Inner r ∷ own_nodes nodes) []) ≡ (if b then 0 else tokens_before nodes)) (ends_same r) (by_end (own_count nodes) (ends_at (Inner r)))
   where
-    by_end : (b : Bool) → count_tokens (cond (not b) (Inner r ∷ own_nodes nodes) []) ≡ (if b then 0 else tokens_before nodes)
-    by_end true = refl
-    by_end false = own_count nodes
+    by_end : count_tokens (own_nodes nodes) ≡ tokens_before nodes → (b : Bool) → count_tokens (cond (not b) (Inner r ∷ own_nodes nodes) []) ≡ (if b then 0 else tokens_before nodes)
+    by_end h true = refl
+    by_end h false = h
 
 own_in : (first : ℕ) (nodes : List Node) (token : ℕ) → 0 < count_tokens nodes → IsIn first (first + count_tokens nodes) (own_token first nodes token)
 own_in first nodes token some = by_test (nat_le first token && nat_lt token (first + count_tokens nodes)) refl
@@ -180,7 +203,7 @@ module _ (text : ℕ → Id) (extents : List Extent) (most : ℕ) where
   flawed_here : (n count : ℕ) (nodes : List Node) (left : List Extent) (fitted : List Fitted) → n < n + tokens_before nodes → AreLeft count (record { first = n; behind = n + tokens_before nodes } ∷ left)
       → MaybePlaced (flaw_here text (suc count) n (own_nodes nodes) fitted)
   flawed_here n count nodes left [] some l = tt
-  flawed_here n count nodes left (f ∷ fitted) some l = here_placed n count nodes left _ some l (first_of _ (at_marks text f.fits [] _))
+  flawed_here n count nodes left (f ∷ fitted) some l = here_placed n count nodes left _ some l (first_of _ (all_of text f.fits (own_nodes nodes) (marks_of 0 n (start ∷ []) (own_nodes nodes))))
 
   pub flawed_placed : (nodes : List Node) (n count : ℕ) (tokens : List Token) (fitted : List Fitted) → HaveTokens most (extents_of n nodes) → AreLeft count (extents_of n nodes)
       → MaybePlaced (first_flawed text n count nodes tokens fitted)
@@ -191,7 +214,7 @@ module _ (text : ℕ → Id) (extents : List Extent) (most : ℕ) where
       subst (λ (b : Bool). MaybePlaced (if b then or_else (flaw_here text (suc count) n (own_nodes nodes) fitted) (first_flawed text n (suc count) nodes tokens (drop 1 fitted)) else first_flawed text n count nodes tokens fitted)) (sym (begins_same r))
       (by_begin (begins_next r) h l (flawed_placed nodes n (suc count) tokens (drop 1 fitted)) (flawed_placed nodes n count tokens fitted))
     where
-      abbrev extent : Extent
+      extent : Extent
       extent = record { first = n; behind = n + tokens_before nodes }
 
       by_begin : (b : Bool) → HaveTokens most (if b then extent ∷ extents_of n nodes else extents_of n nodes) → AreLeft count (if b then extent ∷ extents_of n nodes else extents_of n nodes)

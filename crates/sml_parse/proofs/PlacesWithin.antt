@@ -225,9 +225,9 @@ before_it p (Some m) extents spelt n x h =
     let b = slice_get_within extents (m.number - 1) x.0 x.1 in
     ap length (all_taken p (take (m.number - 1) spelt) h) ∙ length-take-le (m.number - 1) spelt (omega (arith, b, n))
 
-first_placed : {extents : List Extent} (first other : Option Misfit) → IfSome first (IsPlaced extents) → IfSome other (IsPlaced extents) → IfSome (or_else first other) (IsPlaced extents)
-first_placed None other h k = k
-first_placed (Some m) other h k = h
+first_placed : (extents : List Extent) (first other : Option Misfit) → IfSome first (IsPlaced extents) → IfSome other (IsPlaced extents) → IfSome (or_else first other) (IsPlaced extents)
+first_placed extents None other h k = k
+first_placed extents (Some m) other h k = h
 
 pub places_within : PlacesAreWithin
 places_within unit tokens end decs fault s trees =
@@ -244,7 +244,7 @@ places_within unit tokens end decs fault s trees =
     let many = length-map all (dec_of_items unit) ∙ as_many unit 0 trees.nodes 0 tokens _ kinds _ _ (omega (arith, n, f)) whole.leads in
     let flawed = flawed_placed (text_at unit tokens) extents (length tokens) trees.nodes 0 0 tokens trees.fitted have (λ i. ap (slice_get extents) (let e : 0 + i ≡ i = omega arith in e)) in
     let unfit = misfit_placed unit tokens trees.nodes kinds _ whole.part trees.fitted trees.unfit whole.outer whole.leads trees.fits in
-    let placed = subst (λ m. IfSome m (IsPlaced extents)) (sym trees.is_first) (first_placed _ _ flawed unfit) in (
+    let placed = subst (λ m. IfSome m (IsPlaced extents)) (sym trees.is_first) (first_placed extents _ _ flawed unfit) in (
       subst (StandInTurn unit tokens extents) (sym trees.whole) (some_in_turn unit tokens o is_low extents low (most_in_turn unit tokens o (before_misfit trees.misfit) extents spelt (in_turn unit tokens o extents all have (all_words_stand unit tokens o trees.nodes)))),
       subst (λ f. IfSome f (StandsLast unit tokens end trees.nodes trees.begun (length decs))) (sym trees.ended) (by_test o have placed (λ h. before_it is_low trees.misfit extents spelt many placed h) (list_all is_low low) refl),
     )

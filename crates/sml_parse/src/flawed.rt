@@ -28,17 +28,19 @@ fn ends_at(node: Node) -> bool
     ensures { result ≡ spec.ends_at node }
 {
     match node {
-        Node::Inner(Rule::Units(
-            UnitRule::StartNone
-            | UnitRule::StartSemicolon
-            | UnitRule::StartTop
-            | UnitRule::StartExp
-            | UnitRule::AfterTopNone
-            | UnitRule::AfterTopSemicolon
-            | UnitRule::AfterTopTop
-            | UnitRule::AfterExpNone
-            | UnitRule::AfterExpSemicolon,
-        )) => true,
+        Node::Inner(
+            Rule::Units(
+                UnitRule::StartNone
+                | UnitRule::StartSemicolon
+                | UnitRule::StartTop
+                | UnitRule::StartExp
+                | UnitRule::AfterTopNone
+                | UnitRule::AfterTopSemicolon
+                | UnitRule::AfterTopTop
+                | UnitRule::AfterExpNone
+                | UnitRule::AfterExpSemicolon,
+            ),
+        ) => true,
         _ => false,
     }
 }

@@ -12,5 +12,5 @@ returns c =
     let fitted = c.args.fitted.now in
     c.flaw_in.ensures
     ∙ here_on (text_at c.args.unit.now c.args.tokens.now) c.args.count c.args.first c.args.nodes.now fitted c.in-Some.fitted.now c.in_ok-flaw.flaw
-        (slice_get_read fitted (length fitted) c.args.count c.in-Some.fitted.now refl (ltb-true _ _ (sym c.in-Some.ensures.lookup.0)) c.in-Some.ensures.lookup.1)
-        (c.in_ok-flaw.ensures ∙ ap (λ fs. first_flaw (flaws (text_at c.args.unit.now c.args.tokens.now) (map fit_of fs) c.args.first c.args.nodes.now)) c.deref.ensures.value)
+    (slice_get_read fitted (length fitted) c.args.count c.in-Some.fitted.now refl (ltb-true _ _ (sym c.in-Some.ensures.lookup.0)) c.in-Some.ensures.lookup.1)
+    (c.in_ok-flaw.ensures ∙ ap (λ fs. first_flaw (flaws (text_at c.args.unit.now c.args.tokens.now) (map fit_of fs) c.args.first c.args.nodes.now)) c.deref.ensures.value)

@@ -1,0 +1,1 @@
+val 'a x = let val 'a y = 1 in y end

@@ -19,18 +19,14 @@ fn first_as(rt: &impl AllocGlobal, unit: &[u8]) -> Result<String, Memory> {
     let (declarations, _misfit) = fit(alloc, unit, &lexed.tokens, events)?;
     let mut text = String::new(alloc);
     for fitted in &declarations {
-        let first = first_flaw(
-            alloc,
-            unit,
-            &lexed.tokens,
-            &full.nodes,
-            fitted.begun,
-            &fitted.fits,
-        )?;
+        let first = first_flaw(alloc, unit, &lexed.tokens, &full.nodes, 0, &fitted.fits)?;
         let Some(flaw) = first else {
             continue;
         };
-        let place = place_between(unit, 0, lexed.tokens[flaw.token].span.start);
+        let Some(token) = lexed.tokens.get(flaw.token) else {
+            continue;
+        };
+        let place = place_between(unit, 0, token.span.start);
         let line = place.line;
         let column = place.column;
         let code = flaw.code;

@@ -12,3 +12,4 @@ pub mod Counting
 pub mod Retrieving
 pub mod Owning
 pub mod Overloading
+pub mod Defaulting

@@ -156,7 +156,7 @@ leads-node ns i (App h kids) e s f = (i, record { same = λ w σ m. refl; below 
   apart : (j : ℕ) → App h kids ≡ Link j → ⊥
   apart j q = cc
 
-leads-below : (ns : List Node) → IsSound ns → (n i : ℕ) → i < n → (r : ℕ) × LeadsTo ns i r
+pub leads-below : (ns : List Node) → IsSound ns → (n i : ℕ) → i < n → (r : ℕ) × LeadsTo ns i r
 leads-below ns s zero i h = absurd (omega (arith, h))
 leads-below ns s (suc n) i h = leads-node ns i (node_at ns i) refl (s i) (λ j l. leads-below ns s n j (omega (arith, h, l)))
 

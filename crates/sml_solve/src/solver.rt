@@ -4,6 +4,9 @@ ghost use Rattle.std.specs.Prelude.{◌≡◌, ◌↔◌, ◌+◌, ◌^◌, ◌<
 ghost use Rattle.std.specs.Bool.{OnTrue, OnFalse};
 ghost use Rattle.std.specs.List.{AllByRecursion};
 ghost use Rattle.std.specs.Option.{IfSome, IfNone};
+ghost use Rattle.sml_objects.specs.Initial.{initial};
+ghost use Rattle.sml_objects.specs.Names.{int};
+ghost use Rattle.sml_objects.specs.Objects.{free, named};
 ghost use Rattle.sml_objects.specs.Sizes.{type_size};
 ghost use Rattle.sml_objects.specs.Types.{instance_from, assign};
 ghost use Rattle.sml_objects.specs.Views.{type_of, scheme_of, maker_of};
@@ -13,7 +16,7 @@ ghost use Rattle.sml_solve.specs.Worlds.{finite, Assignment};
 ghost use Rattle.sml_solve.specs.Asked.{Asked, asked_of, equal, asks, count, IsOf, IsSchemeOf, Adds, CanMeet, IsFirstUnmet, IsMet, Permits, PermitsSame};
 ghost use Rattle.sml_solve.specs.Counted.{IsSizeUpTo};
 ghost use Rattle.sml_solve.specs.Left.{IsReading, IsMostGeneral};
-ghost use Rattle.sml_solve.specs.Overloaded.{IsOverloaded};
+ghost use Rattle.sml_solve.specs.Overloaded.{IsOverloaded, Settles};
 ghost use Rattle.sml_solve.specs.Whole.{IsKept};
 
 use crate::class::Class;
@@ -25,7 +28,7 @@ use crate::node::Node;
 use crate::reading::type_up_to;
 use crate::settling::has_several_names;
 use crate::variable::Variable;
-use sml_objects::objects::{MlType, Scheme, UnitId};
+use sml_objects::objects::{Initial, MlType, Scheme, TyName, UnitId};
 use sml_objects::schemes::instantiate;
 use std::alloc::Global;
 use std::marker::Model;
@@ -172,6 +175,7 @@ impl Solver {
         requires { unknown < count self.now }
         ensures yes { IfOk result (λ b. OnTrue b (IsOverloaded self.now unknown)) }
         ensures no { IfOk result (λ b. OnFalse b (IsOverloaded self.now unknown → ⊥)) }
+        ensures int { IfOk result (λ b. OnTrue b ((l : Layer) → CanMeet l self.now (equal (free unknown) (named (initial int))))) }
         ensures err { OnErr result (result ≡ Err Refusal.Spent) }
         ensures spent { result ≡ Err Refusal.Spent ↔ self.now.spent ≡ true }
     {
@@ -181,6 +185,38 @@ impl Solver {
         let at = self.unknowns[unknown as usize];
         let nodes = self.graph.nodes.as_slice();
         Ok(has_several_names(nodes, self.graph.limits.as_slice(), at))
+    }
+
+    /// The number of unknowns.
+    pub fn unknowns(&self) -> usize
+        ensures { result ≡ count self.now }
+    {
+        self.unknowns.len()
+    }
+
+    /// Makes each unknown from a place on that is overloaded the default, `int` (the Definition, appendix E).
+    pub fn settle(&mut self, from: usize) -> Result<(), Refusal>
+        ensures ok { OnOk result (Settles self.old from (count self.old) self.new) }
+        ensures count { count self.new ≡ count self.old }
+        ensures kept { OnOk result (self.new.spent ≡ false) }
+        ensures unit { self.new.unit ≡ self.old.unit }
+        ensures err { OnErr result (self.new.spent ≡ true) }
+        ensures unmet { (l : Layer) → result ≡ Err (Refusal.Unmet l) → ⊥ }
+        ensures spent { result ≡ Err Refusal.Spent ↔ self.old.spent ≡ true }
+    {
+        if self.spent {
+            return Err(Refusal::Spent);
+        }
+        let end = self.unknowns.len();
+        let mut place = from;
+        while place < end {
+            match settle_one(self, place as u32) {
+                Ok(()) => {}
+                Err(refusal) => return Err(refusal),
+            }
+            place += 1;
+        }
+        Ok(())
     }
 
     /// A law: the unknowns that are left may have any types at once that each of them may have, and these fix the types of
@@ -340,6 +376,34 @@ impl Solver {
                 Ok(())
             }
             Err(refusal) => Err(refusal),
+        }
+    }
+}
+
+fn int_type(alloc: Global) -> MlType
+    ensures { type_of result ≡ named (initial int) }
+{
+    MlType::Name(TyName::Initial(Initial::Int), Vec::new(alloc))
+}
+
+/// Makes an unknown `int` where it is overloaded.
+fn settle_one(solver: &mut Solver, unknown: u32) -> Result<(), Refusal>
+    requires known { unknown < count solver.old }
+    requires new { solver.old.spent ≡ false }
+    ensures ok { OnOk result (Settles solver.old unknown (unknown + 1) solver.new) }
+    ensures count { count solver.new ≡ count solver.old }
+    ensures kept { OnOk result (solver.new.spent ≡ false) }
+    ensures unit { solver.new.unit ≡ solver.old.unit }
+    ensures err { OnErr result (solver.new.spent ≡ true) }
+    ensures unmet { (l : Layer) → result ≡ Err (Refusal.Unmet l) → ⊥ }
+    ensures spent { result ≡ Err Refusal.Spent → ⊥ }
+{
+    match solver.is_overloaded(unknown) {
+        Err(refusal) => Err(refusal),
+        Ok(false) => Ok(()),
+        Ok(true) => {
+            let default = int_type(solver.alloc);
+            solver.require_equal(&MlType::Free(unknown), &default)
         }
     }
 }

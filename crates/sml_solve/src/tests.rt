@@ -310,6 +310,26 @@ fn overloaded_is_what_more_than_one_name_is_left_to(rt: HostRuntime) -> Result<(
     Ok(())
 }
 
+#[test]
+fn what_is_overloaded_becomes_int(rt: HostRuntime) -> Result<(), Fail> {
+    let alloc = rt.alloc();
+    let mut solver = solved(alloc, 4)?;
+    assert_eq!(rt; solver.unknowns(), 4);
+    assert_eq!(rt; solver.require_class(&unknown(0), Class::Num), Ok(()));
+    assert_eq!(rt; solver.require_class(&unknown(1), Class::Num), Ok(()));
+    assert_eq!(rt; link(&mut solver, 1, 2), Ok(()));
+    assert_eq!(rt; solver.settle(1), Ok(()));
+    assert_eq!(rt; solver.is_overloaded(1), Ok(false));
+    assert_eq!(rt; solver.require_equal(&unknown(0), &real(alloc)), Ok(()));
+    assert_eq!(rt; solver.require_equal(&unknown(2), &int(alloc)), Ok(()));
+    assert_eq!(rt; solver.require_equal(&unknown(3), &empty(alloc)), Ok(()));
+    assert_eq!(rt; solver.settle(9), Ok(()));
+    let other = solver.require_equal(&unknown(1), &real(alloc));
+    assert_eq!(rt; other, Err(Refusal::Unmet(Layer::Equations)));
+    assert_eq!(rt; solver.settle(0), Err(Refusal::Spent));
+    Ok(())
+}
+
 fn variable(number: u32, equality: bool) -> Variable {
     Variable { number, equality }
 }

@@ -13,3 +13,6 @@ pub mod Retrieving
 pub mod Owning
 pub mod Overloading
 pub mod Defaulting
+pub mod Reaching
+pub mod Fixing
+pub mod Fated

@@ -34,11 +34,11 @@ use Rattle.sml_solve.proofs.Wholeness.{last}
 
 -- the names that are left
 
-or-cases : (a b : Bool) → (a || b) ≡ true → (a ≡ true) ⊎ (b ≡ true)
+pub or-cases : (a b : Bool) → (a || b) ≡ true → (a ≡ true) ⊎ (b ≡ true)
 or-cases true b e = inl refl
 or-cases false b e = inr e
 
-or-neither : (a b : Bool) → (a || b) ≡ false → (a ≡ false) × (b ≡ false)
+pub or-neither : (a b : Bool) → (a || b) ≡ false → (a ≡ false) × (b ≡ false)
 or-neither true b e = cc
 or-neither false b e = (refl, e)
 
@@ -81,7 +81,7 @@ no-real true true h p w = real-admits-not w
 no-real true false h p w = cc
 no-real false e h p w = cc
 
-only-int : (c : Names) (e : Bool) (k : N.Initial) → has_several (Some c) e ≡ false → allows c k ≡ true → MeetsEquality e (O.named (initial k)) → k ≡ N.int
+pub only-int : (c : Names) (e : Bool) (k : N.Initial) → has_several (Some c) e ≡ false → allows c k ≡ true → MeetsEquality e (O.named (initial k)) → k ≡ N.int
 only-int c e N.int h p w = refl
 only-int c e N.word h p w = let n = (or-neither c.word (c.text || (c.real && not e)) h).0 in let z : false ≡ true = sym n ∙ p in cc
 only-int c e N.char h p w = let n = (or-neither c.text (c.real && not e) (or-neither c.word (c.text || (c.real && not e)) h).1).0 in let z : false ≡ true = sym n ∙ p in cc
@@ -111,12 +111,12 @@ name-meets Rigidity u a c k e p q w = no-variables a.variables a.equality c (O.n
 abbrev pub unit : O.MlType Name
 unit = O.app (O.row []) O.no_type
 
-bound-unit : (u : ℕ) (a : Option ℕ) → MeetsBound u a unit
+pub bound-unit : (u : ℕ) (a : Option ℕ) → MeetsBound u a unit
 unfolding IsWithin AreWithin
 bound-unit u None = tt
 bound-unit u (Some n) = (tt, tt)
 
-equality-unit : (e : Bool) → MeetsEquality e unit
+pub equality-unit : (e : Bool) → MeetsEquality e unit
 unfolding all_admit
 equality-unit false = tt
 equality-unit true = row-admits [] [] ∙ refl

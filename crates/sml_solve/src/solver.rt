@@ -15,16 +15,20 @@ ghost use Rattle.sml_solve.specs.declared.layer.Layer.TheVariants.{Finiteness};
 ghost use Rattle.sml_solve.specs.Worlds.{finite, Assignment};
 ghost use Rattle.sml_solve.specs.Asked.{Asked, asked_of, equal, asks, count, IsOf, IsSchemeOf, Adds, CanMeet, IsFirstUnmet, IsMet, Permits, PermitsSame};
 ghost use Rattle.sml_solve.specs.Counted.{IsSizeUpTo};
-ghost use Rattle.sml_solve.specs.Left.{IsReading, IsMostGeneral};
+ghost use Rattle.sml_solve.specs.Fixed.{AreFixed};
+ghost use Rattle.sml_solve.specs.Left.{IsLeft, IsMadeOf, IsReading, IsMostGeneral};
+ghost use Rattle.sml_solve.specs.Schemes.{IsScheme, IsSchemeOfReading};
 ghost use Rattle.sml_solve.specs.Overloaded.{IsOverloaded, Settles};
 ghost use Rattle.sml_solve.specs.Whole.{IsKept};
 
 use crate::class::Class;
+use crate::closing::closed;
 use crate::count::size_from;
 use crate::demands::{equate, impose};
 use crate::graph::{Graph, add, fill};
 use crate::layer::{Ask, Bound, Refusal};
 use crate::node::Node;
+use crate::reach::reached_unknowns;
 use crate::reading::type_up_to;
 use crate::settling::has_several_names;
 use crate::variable::Variable;
@@ -219,6 +223,32 @@ impl Solver {
         Ok(())
     }
 
+    /// A flag for each unknown. Those of the unknowns that by the equations may be any type tell whether the types of the
+    /// first unknowns fix its type, so that it stands in the context of what is made behind these.
+    pub fn fixed_by(&mut self, first: usize) -> Result<Vec<bool>, Refusal>
+        requires { first ≤ count self.old }
+        ensures flags { IfOk result (λ flags. AreFixed self.new first flags.items) }
+        ensures same { OnOk result (PermitsSame self.old self.new) }
+        ensures count { count self.new ≡ count self.old }
+        ensures kept { OnOk result (self.new.spent ≡ false) }
+        ensures unit { self.new.unit ≡ self.old.unit }
+        ensures err { OnErr result (self.new.spent ≡ true) }
+        ensures unmet { (l : Layer) → result ≡ Err (Refusal.Unmet l) → ⊥ }
+        ensures spent { result ≡ Err Refusal.Spent ↔ self.old.spent ≡ true }
+    {
+        if self.spent {
+            return Err(Refusal::Spent);
+        }
+        let nodes = self.graph.nodes.as_slice();
+        match reached_unknowns(self.alloc, nodes, self.unknowns.as_slice(), first) {
+            Ok(flags) => Ok(flags),
+            Err(_) => {
+                self.spent = true;
+                Err(Refusal::Memory)
+            }
+        }
+    }
+
     /// A law: the unknowns that are left may have any types at once that each of them may have, and these fix the types of
     /// all others.
     pub fn choices_are_free(&self)
@@ -257,6 +287,40 @@ impl Solver {
         };
         self.spent = false;
         Ok(found)
+    }
+
+    /// The scheme of a type whose variables may be bound unless the phrase is expansive, or `None` where it has more nodes
+    /// than the limit. The unknowns with a flag are fixed, and stay. The time taken beyond the type's own size grows with
+    /// the limit. A number that no `u32` holds counts as want of memory.
+    pub fn generalise(
+        &mut self,
+        ty: &MlType,
+        fixed: &[bool],
+        expansive: bool,
+        limit: u32,
+    ) -> Result<Option<Scheme>, Refusal>
+        requires known { IsOf self.old (type_of ty.now) }
+        requires flags { length fixed.now ≡ count self.old }
+        requires small { limit + 1 < 2 ^ 32 }
+        ensures scheme { IfOk result (λ found. IfSome found (λ s. IsScheme self.new fixed.now expansive (type_of ty.now) (scheme_of s))) }
+        ensures within { IfOk result (λ found. IfSome found (λ s. type_size (scheme_of s).body ≤ limit)) }
+        ensures large { IfOk result (λ found. IfNone found ((σ : Assignment finite) → Permits Finiteness self.new σ → limit < type_size (assign σ (type_of ty.now)))) }
+        ensures same { OnOk result (PermitsSame self.old self.new) }
+        ensures count { count self.new ≡ count self.old }
+        ensures kept { OnOk result (self.new.spent ≡ false) }
+        ensures unit { self.new.unit ≡ self.old.unit }
+        ensures err { OnErr result (self.new.spent ≡ true) }
+        ensures unmet { (l : Layer) → result ≡ Err (Refusal.Unmet l) → ⊥ }
+        ensures spent { result ≡ Err Refusal.Spent ↔ self.old.spent ≡ true }
+    {
+        match self.reading(ty, limit) {
+            Err(refusal) => Err(refusal),
+            Ok(None) => Ok(None),
+            Ok(Some(reading)) => match close_reading(self, &reading, fixed, expansive) {
+                Ok(scheme) => Ok(Some(scheme)),
+                Err(refusal) => Err(refusal),
+            },
+        }
     }
 
     /// Demands that two types are equal: U1, U2, U3, E6, U4, U5 or U7 where they can't be.
@@ -376,6 +440,35 @@ impl Solver {
                 Ok(())
             }
             Err(refusal) => Err(refusal),
+        }
+    }
+}
+
+/// The scheme of a type over unknowns that are left.
+fn close_reading(
+    solver: &mut Solver,
+    ty: &MlType,
+    fixed: &[bool],
+    expansive: bool,
+) -> Result<Scheme, Refusal>
+    requires kept { solver.old.spent ≡ false }
+    requires left { IsMadeOf (IsLeft solver.old) (type_of ty.now) }
+    requires flags { length fixed.now ≡ count solver.old }
+    ensures scheme { IfOk result (λ s. IsSchemeOfReading solver.new fixed.now expansive (type_of ty.now) (scheme_of s)) }
+    ensures size { IfOk result (λ s. type_size (scheme_of s).body ≡ type_size (type_of ty.now)) }
+    ensures same { OnOk result (solver.new ≡ solver.old) }
+    ensures count { count solver.new ≡ count solver.old }
+    ensures unit { solver.new.unit ≡ solver.old.unit }
+    ensures err { OnErr result (solver.new.spent ≡ true) }
+    ensures memory { OnErr result (result ≡ Err Refusal.Memory) }
+{
+    let limits = solver.graph.limits.as_slice();
+    let unknowns = solver.unknowns.as_slice();
+    match closed(solver.alloc, limits, unknowns, fixed, expansive, ty) {
+        Ok(scheme) => Ok(scheme),
+        Err(_) => {
+            solver.spent = true;
+            Err(Refusal::Memory)
         }
     }
 }

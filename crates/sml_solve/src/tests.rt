@@ -404,6 +404,46 @@ fn a_type_is_read_up_to_its_size(rt: HostRuntime) -> Result<(), Fail> {
     Ok(())
 }
 
+#[test]
+fn what_the_context_fixes_stays(rt: HostRuntime) -> Result<(), Fail> {
+    let alloc = rt.alloc();
+    let mut solver = solved(alloc, 4)?;
+    assert_eq!(rt; nest(alloc, &mut solver, 0, 2), Ok(()));
+    assert_eq!(rt; solver.require_equality(&unknown(1)), Ok(()));
+    assert_eq!(rt; solver.require_class(&unknown(3), Class::RealInt), Ok(()));
+    assert_eq!(rt; solver.require_equality(&unknown(3)), Ok(()));
+    let Ok(fixed) = solver.fixed_by(1) else {
+        return Err("flags".into());
+    };
+    assert_eq!(rt; fixed.as_slice(), [true, false, true, false].as_slice());
+    let ty = pair(alloc, unknown(2), pair(alloc, unknown(3), unknown(1))?)?;
+    let Ok(Some(scheme)) = solver.generalise(&ty, fixed.as_slice(), false, 5) else {
+        return Err("scheme".into());
+    };
+    assert_eq!(rt; scheme.variables.as_slice(), [true].as_slice());
+    let MlType::Row(parts) = &*scheme.body else {
+        return Err("row".into());
+    };
+    assert_eq!(rt; parts.len(), 2);
+    assert!(rt; matches!(&*parts[0], MlType::Free(2)));
+    let MlType::Row(others) = &*parts[1] else {
+        return Err("inner row".into());
+    };
+    assert_eq!(rt; others.len(), 2);
+    assert!(rt; matches!(&*others[0], MlType::Name(TyName::Initial(Initial::Int), _)));
+    assert!(rt; matches!(&*others[1], MlType::Bound(0)));
+    let Ok(large) = solver.generalise(&ty, fixed.as_slice(), false, 4) else {
+        return Err("large".into());
+    };
+    assert!(rt; large.is_none());
+    let Ok(Some(open)) = solver.generalise(&unknown(1), fixed.as_slice(), true, 5) else {
+        return Err("expansive".into());
+    };
+    assert!(rt; open.variables.is_empty());
+    assert!(rt; matches!(&*open.body, MlType::Free(1)));
+    Ok(())
+}
+
 /// The scheme of a type that is one variable.
 fn anything(alloc: Global) -> Result<Scheme, Memory>
     ensures { IfOk result (λ s. (n : ℕ) → IsBodyOver (length (scheme_of s).variables) n (scheme_of s).body) }

@@ -124,3 +124,8 @@ reach-less ns from ms ls is js ks at r e m f g =
     let b : length ks ≡ length js + length (parts (node_at ns at)) = ap length g ∙ simp length-append in
     let c : length is ≡ length js + 1 = ap length e ∙ simp length-append in
     omega (arith, a, b, c)
+
+pub among-at : (xs : List ℕ) (i : ℕ) → i < length xs → IsAmong (get_or xs i 0) xs
+among-at [] i h = absurd (omega (arith, h))
+among-at (x ∷ xs) zero h = inl refl
+among-at (x ∷ xs) (suc i) h = inr (among-at xs i (omega (arith, h)))

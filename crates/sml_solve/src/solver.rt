@@ -1,6 +1,6 @@
 //! The solver: what a declaration asks of its unknown types.
 
-ghost use Rattle.std.specs.Prelude.{◌≡◌, ◌↔◌, ◌+◌, ◌^◌, ◌<◌, ◌≤◌, true, false, length, IfOk, OnOk, OnErr, Err};
+ghost use Rattle.std.specs.Prelude.{◌≡◌, ℕ, ◌↔◌, ◌+◌, ◌^◌, ◌<◌, ◌≤◌, true, false, length, IfOk, OnOk, OnErr, Err};
 ghost use Rattle.std.specs.Bool.{OnTrue, OnFalse};
 ghost use Rattle.std.specs.List.{AllByRecursion};
 ghost use Rattle.std.specs.Option.{IfSome, IfNone};
@@ -15,7 +15,8 @@ ghost use Rattle.sml_solve.specs.declared.layer.Layer.TheVariants.{Finiteness};
 ghost use Rattle.sml_solve.specs.Worlds.{finite, Assignment};
 ghost use Rattle.sml_solve.specs.Asked.{Asked, asked_of, equal, asks, count, IsOf, IsSchemeOf, Adds, CanMeet, IsFirstUnmet, IsMet, Permits, PermitsSame};
 ghost use Rattle.sml_solve.specs.Counted.{IsSizeUpTo};
-ghost use Rattle.sml_solve.specs.Fixed.{AreFixed};
+ghost use Rattle.sml_solve.specs.Fixed.{AreFixed, IsFixed, IsOpen};
+ghost use Rattle.sml_solve.specs.Graphs.{IsAmong};
 ghost use Rattle.sml_solve.specs.Left.{IsLeft, IsMadeOf, IsReading, IsMostGeneral};
 ghost use Rattle.sml_solve.specs.Schemes.{IsScheme, IsSchemeOfReading};
 ghost use Rattle.sml_solve.specs.Overloaded.{IsOverloaded, Settles};
@@ -26,12 +27,13 @@ use crate::closing::closed;
 use crate::count::size_from;
 use crate::demands::{equate, impose};
 use crate::graph::{Graph, add, fill};
-use crate::layer::{Ask, Bound, Refusal};
+use crate::layer::{Ask, Bound, Layer, Refusal};
 use crate::node::Node;
-use crate::reach::reached_unknowns;
+use crate::reach::{has_flag, places, reached_unknowns};
 use crate::reading::type_up_to;
 use crate::settling::has_several_names;
 use crate::variable::Variable;
+use sml_lex::fault::Memory;
 use sml_objects::objects::{Initial, MlType, Scheme, TyName, UnitId};
 use sml_objects::schemes::instantiate;
 use std::alloc::Global;
@@ -223,11 +225,12 @@ impl Solver {
         Ok(())
     }
 
-    /// A flag for each unknown. Those of the unknowns that by the equations may be any type tell whether the types of the
-    /// first unknowns fix its type, so that it stands in the context of what is made behind these.
-    pub fn fixed_by(&mut self, first: usize) -> Result<Vec<bool>, Refusal>
-        requires { first ≤ count self.old }
-        ensures flags { IfOk result (λ flags. AreFixed self.new first flags.items) }
+    /// A flag for each unknown that the types of the first unknowns and of others fix, so that it stands in the context of
+    /// what is made behind these. Of the unknowns that by the equations may be any type, no others have one.
+    pub fn fixed_by(&mut self, first: usize, others: &[u32]) -> Result<Vec<bool>, Refusal>
+        requires first { first ≤ count self.old }
+        requires others { AllByRecursion (λ w. w < count self.old) others.now }
+        ensures flags { IfOk result (λ flags. AreFixed self.old first others.now flags.items) }
         ensures same { OnOk result (PermitsSame self.old self.new) }
         ensures count { count self.new ≡ count self.old }
         ensures kept { OnOk result (self.new.spent ≡ false) }
@@ -239,12 +242,43 @@ impl Solver {
         if self.spent {
             return Err(Refusal::Spent);
         }
-        let nodes = self.graph.nodes.as_slice();
-        match reached_unknowns(self.alloc, nodes, self.unknowns.as_slice(), first) {
+        match fixed_flags(self, first, others) {
             Ok(flags) => Ok(flags),
             Err(_) => {
                 self.spent = true;
                 Err(Refusal::Memory)
+            }
+        }
+    }
+
+    /// Demands that explicit type variables, for which some unknowns stand, are free neither in the types of the first
+    /// unknowns nor in those of others (the Definition, section 4.6): U7 where one is.
+    pub fn require_general(
+        &mut self,
+        variables: &[u32],
+        first: usize,
+        others: &[u32],
+    ) -> Result<(), Refusal>
+        requires variables { AllByRecursion (λ v. v < count self.old) variables.now }
+        requires first { first ≤ count self.old }
+        requires others { AllByRecursion (λ w. w < count self.old) others.now }
+        ensures general { OnOk result (AllByRecursion (λ v. IsOpen self.old v → IsFixed self.old first others.now v → ⊥) variables.now) }
+        ensures unmet { (l : Layer) → result ≡ Err (Refusal.Unmet l) → (l ≡ Layer.Rigidity) × (v : ℕ) × IsAmong v variables.now × IsFixed self.old first others.now v }
+        ensures same { OnOk result (PermitsSame self.old self.new) }
+        ensures count { count self.new ≡ count self.old }
+        ensures kept { OnOk result (self.new.spent ≡ false) }
+        ensures unit { self.new.unit ≡ self.old.unit }
+        ensures err { OnErr result (self.new.spent ≡ true) }
+        ensures spent { result ≡ Err Refusal.Spent ↔ self.old.spent ≡ true }
+    {
+        match self.fixed_by(first, others) {
+            Err(refusal) => Err(refusal),
+            Ok(flags) => {
+                if has_flag(flags.as_slice(), variables) {
+                    self.spent = true;
+                    return Err(Refusal::Unmet(Layer::Rigidity));
+                }
+                Ok(())
             }
         }
     }
@@ -442,6 +476,20 @@ impl Solver {
             Err(refusal) => Err(refusal),
         }
     }
+}
+
+/// A flag for each unknown that the first unknowns and others fix.
+fn fixed_flags(solver: &Solver, first: usize, others: &[u32]) -> Result<Vec<bool>, Memory>
+    requires kept { solver.now.spent ≡ false }
+    requires first { first ≤ count solver.now }
+    requires others { AllByRecursion (λ w. w < count solver.now) others.now }
+    ensures { IfOk result (λ flags. AreFixed solver.now first others.now flags.items) }
+{
+    let unknowns = solver.unknowns.as_slice();
+    let from = places(solver.alloc, unknowns, first, others)?;
+    let nodes = solver.graph.nodes.as_slice();
+    let flags = reached_unknowns(solver.alloc, nodes, unknowns, from.as_slice())?;
+    Ok(flags)
 }
 
 /// The scheme of a type over unknowns that are left.

@@ -412,7 +412,7 @@ fn what_the_context_fixes_stays(rt: HostRuntime) -> Result<(), Fail> {
     assert_eq!(rt; solver.require_equality(&unknown(1)), Ok(()));
     assert_eq!(rt; solver.require_class(&unknown(3), Class::RealInt), Ok(()));
     assert_eq!(rt; solver.require_equality(&unknown(3)), Ok(()));
-    let Ok(fixed) = solver.fixed_by(1) else {
+    let Ok(fixed) = solver.fixed_by(1, &[]) else {
         return Err("flags".into());
     };
     assert_eq!(rt; fixed.as_slice(), [true, false, true, false].as_slice());
@@ -441,6 +441,32 @@ fn what_the_context_fixes_stays(rt: HostRuntime) -> Result<(), Fail> {
     };
     assert!(rt; open.variables.is_empty());
     assert!(rt; matches!(&*open.body, MlType::Free(1)));
+    Ok(())
+}
+
+#[test]
+fn explicit_variables_are_free_nowhere_else(rt: HostRuntime) -> Result<(), Fail> {
+    let alloc = rt.alloc();
+    let mut solver = solved(alloc, 4)?;
+    assert_eq!(rt;
+        solver.require_variable(&unknown(1), variable(0, false)),
+        Ok(())
+    );
+    assert_eq!(rt; nest(alloc, &mut solver, 2, 1), Ok(()));
+    assert_eq!(rt; solver.require_general(&[1], 1, &[]), Ok(()));
+    assert_eq!(rt; solver.require_general(&[1], 1, &[3]), Ok(()));
+    let other = solver.require_general(&[1], 1, &[3, 2]);
+    assert_eq!(rt; other, Err(Refusal::Unmet(Layer::Rigidity)));
+    assert_eq!(rt; solver.require_general(&[], 0, &[]), Err(Refusal::Spent));
+    let mut solver = solved(alloc, 3)?;
+    assert_eq!(rt;
+        solver.require_variable(&unknown(2), variable(0, false)),
+        Ok(())
+    );
+    assert_eq!(rt; link(&mut solver, 0, 2), Ok(()));
+    assert_eq!(rt; solver.require_general(&[2], 0, &[1]), Ok(()));
+    let first = solver.require_general(&[2], 1, &[]);
+    assert_eq!(rt; first, Err(Refusal::Unmet(Layer::Rigidity)));
     Ok(())
 }
 

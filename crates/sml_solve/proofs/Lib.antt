@@ -16,3 +16,4 @@ pub mod Defaulting
 pub mod Reaching
 pub mod Fixing
 pub mod Fated
+pub mod Uniqueness

@@ -45,6 +45,10 @@ pub record IsScheme (s : Asked) (bs : List Bool) (x : Bool) (t : MlType Name) (�
   pub reads : IsReading s t reading
   pub closed : IsSchemeOfReading s bs x reading θ
 
+-- a type has no two schemes
+abbrev pub HasOneScheme : Asked → Type 0
+HasOneScheme s = (bs : List Bool) (x : Bool) (t : MlType Name) (θ η : Scheme Name) → IsScheme s bs x t θ → IsScheme s bs x t η → θ ≡ η
+
 -- whether int is the one name that is left, where equality may be asked
 abbrev pub has_one : Option Names → Bool → Bool
 has_one None e = false

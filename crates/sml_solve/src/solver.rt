@@ -18,7 +18,7 @@ ghost use Rattle.sml_solve.specs.Counted.{IsSizeUpTo};
 ghost use Rattle.sml_solve.specs.Fixed.{AreFixed, IsFixed, IsOpen};
 ghost use Rattle.sml_solve.specs.Graphs.{IsAmong};
 ghost use Rattle.sml_solve.specs.Left.{IsLeft, IsMadeOf, IsReading, IsMostGeneral};
-ghost use Rattle.sml_solve.specs.Schemes.{IsScheme, IsSchemeOfReading};
+ghost use Rattle.sml_solve.specs.Schemes.{HasOneScheme, IsScheme, IsSchemeOfReading};
 ghost use Rattle.sml_solve.specs.Overloaded.{IsOverloaded, Settles};
 ghost use Rattle.sml_solve.specs.Whole.{IsKept};
 
@@ -290,6 +290,14 @@ impl Solver {
         ensures { IsMostGeneral self.now }
     {
         let _spent = self.spent;
+    }
+
+    /// A law: what `generalise` promises fixes the scheme.
+    pub fn schemes_are_one(&self)
+        requires { self.now.spent ≡ false }
+        ensures { HasOneScheme self.now }
+    {
+        self.choices_are_free();
     }
 
     /// The type that a type stands for, over the unknowns that are left, or `None` where it has more nodes than the

@@ -1,11 +1,16 @@
 -- What becomes of the unknowns that are left, by what is asked of them.
-use Rattle.std.proofs.Common.{◌≡◌, ◌≢◌, ℕ, ◌<◌, ◌≤◌, inl, inr, Bool, true, false, ◌||◌, not, cond, Option, Some, None, List, [], ◌∷◌, ◌++◌, length, get_or, sym, ◌∙◌, ap, subst, refl, arith}
+use Rattle.std.proofs.Common.{◌≡◌, ◌≢◌, ℕ, ◌<◌, ◌≤◌, inl, inr, Bool, true, false, ◌||◌, not, cond, Option, Some, None, List, [], ◌∷◌, ◌++◌, length, get_or, sym, ◌∙◌, ap, subst, refl, arith, zero, suc, ◌+◌}
+use Rattle.std.specs.Prelude.{Result, Ok, Err, IfOk}
 use Rattle.std.specs.List.{AllByRecursion}
+use Rattle.sml_lex.specs.declared.fault.Memory.{Memory}
 use Rattle.sml_objects.specs.Names as N
 use Rattle.sml_objects.specs.Initial.{Name, initial, naming}
 use Rattle.sml_objects.specs.Equality.{admits}
 use Rattle.sml_objects.specs.Objects as O
-use Rattle.sml_objects.specs.Types.{is_among, variables_after, variables_after_all}
+use Rattle.sml_objects.specs.Types.{is_among, variables_after, variables_after_all, assign, replace_type, replace_types, place_among}
+use Rattle.sml_objects.specs.Fates.{attributes, substitutes, type_or, standing_for, close_as}
+use Rattle.sml_objects.specs.declared.objects.Scheme.{Scheme}
+use Rattle.sml_objects.specs.declared.fates.Fate.{Fate}
 use Rattle.sml_objects.specs.declared.fates.Fate.TheVariants.{Bind, Keep, Default}
 use Rattle.sml_solve.specs.declared.class.Names.{Names}
 use Rattle.sml_solve.specs.declared.graph.Graph.{Graph}
@@ -16,7 +21,7 @@ use Rattle.sml_solve.specs.declared.node.Node.{Node}
 use Rattle.sml_solve.specs.declared.node.Node.TheVariants.{Unknown}
 use Rattle.sml_solve.specs.Worlds.{finite, Assignment}
 use Rattle.sml_solve.specs.Graphs.{node_at, Meets}
-use Rattle.sml_solve.specs.Interned.{IsOver, AreOver, through}
+use Rattle.sml_solve.specs.Interned.{IsOver, AreOver, through, IsBodyOver, AreBodiesOver}
 use Rattle.sml_solve.specs.Bounds.{IsWithin, AreWithin}
 use Rattle.sml_solve.specs.Layers.{place_of}
 use Rattle.sml_solve.specs.Limits.{limit_at, MeetsBound, MeetsEquality, MeetsClass, MeetsAt, KeepsAt}
@@ -25,6 +30,7 @@ use Rattle.sml_solve.specs.Left.{IsLeft}
 use Rattle.sml_solve.specs.Overloaded.{has_several}
 use Rattle.sml_solve.specs.Schemes.{IsInt, AsksEquality, IsFateOf, has_one, fate_at}
 use Rattle.sml_solve.specs.Whole.{IsKept}
+use Rattle.sml_objects.specs.Views.{scheme_of}
 use Rattle.sml_solve.proofs.Merging.{same_or_not, all-append}
 use Rattle.sml_solve.proofs.Asking.{int-meets, arrow-admits-not}
 use Rattle.sml_solve.proofs.Ranking.{solution, ints, solution-meets, solution-unknown, solution-keeps}
@@ -177,3 +183,36 @@ pub fate-is : (u : ℕ) (us : List ℕ) (g : Graph) (b : Bool) (k : IsKept u g u
 fate-is u us g b k d bs x v l =
     let loose = left-loose u us g b v k.whole.sound k.owners l in
     fate-cases u us g b k d v loose.0 loose.1 bs x _ _ refl refl
+
+-- schemes speak of their own variables, and of unknowns
+
+standing-over : (n k m : ℕ) (fs : List Fate) (p v : ℕ) → v < n → k + length (attributes fs) ≤ m → IsBodyOver m n (type_or (O.free v) (get_or (substitutes (O.named (initial N.int)) k fs) p None))
+unfolding IsBodyOver AreBodiesOver
+standing-over n k m [] p v h l = h
+standing-over n k m (Bind e ∷ fs) zero v h l = omega (arith, l)
+standing-over n k m (Keep ∷ fs) zero v h l = h
+standing-over n k m (Default ∷ fs) zero v h l = tt
+standing-over n k m (Bind e ∷ fs) (suc p) v h l = standing-over n (suc k) m fs p v h (omega (arith, l))
+standing-over n k m (Keep ∷ fs) (suc p) v h l = standing-over n k m fs p v h l
+standing-over n k m (Default ∷ fs) (suc p) v h l = standing-over n k m fs p v h l
+
+mutual
+  unfolding IsOver AreOver IsBodyOver AreBodiesOver replace_type replace_types
+
+  assigned-over : (m n : ℕ) (f : ℕ → O.MlType Name) (t : O.MlType Name) → ((v : ℕ) → v < n → IsBodyOver m n (f v)) → IsOver n t → IsBodyOver m n (assign f t)
+  assigned-over m n f (O.bound k) g o = absurd o
+  assigned-over m n f (O.free v) g o = g v o
+  assigned-over m n f (O.app h ts) g o = all-assigned-over m n f ts g o
+
+  all-assigned-over : (m n : ℕ) (f : ℕ → O.MlType Name) (ts : O.MlTypes Name) → ((v : ℕ) → v < n → IsBodyOver m n (f v)) → AreOver n ts → AreBodiesOver m n (replace_types O.bound f ts)
+  all-assigned-over m n f O.no_type g o = tt
+  all-assigned-over m n f (O.and_type t ts) g o = (assigned-over m n f t g o.0, all-assigned-over m n f ts g o.1)
+
+closed-over : (n : ℕ) (fs : List Fate) (t : O.MlType Name) → IsOver n t → IsBodyOver (length (close_as (O.named (initial N.int)) fs t).variables) n (close_as (O.named (initial N.int)) fs t).body
+unfolding close_as
+closed-over n fs t o =
+    assigned-over (length (attributes fs)) n (standing_for (variables_after [] t) (substitutes (O.named (initial N.int)) 0 fs)) t (λ v h. standing-over n 0 (length (attributes fs)) fs (place_among v (variables_after [] t)) v h (omega arith)) o
+
+pub scheme-over : (n : ℕ) (fs : List Fate) (t : O.MlType Name) (r : Result Scheme Memory) → IsOver n t → IfOk r (λ s. scheme_of s ≡ close_as (O.named (initial N.int)) fs t) → IfOk r (λ s. IsBodyOver (length (scheme_of s).variables) n (scheme_of s).body)
+scheme-over n fs t (Ok s) o e = subst (λ (z : O.Scheme Name). IsBodyOver (length z.variables) n z.body) (sym e) (closed-over n fs t o)
+scheme-over n fs t (Err m) o e = tt

@@ -9,7 +9,7 @@ ghost use Rattle.sml_objects.specs.Objects.{named};
 ghost use Rattle.sml_objects.specs.Sizes.{type_size};
 ghost use Rattle.sml_objects.specs.Types.{variables_after};
 ghost use Rattle.sml_objects.specs.Views.{type_of, scheme_of};
-ghost use Rattle.sml_solve.specs.Interned.{IsOver};
+ghost use Rattle.sml_solve.specs.Interned.{IsOver, IsBodyOver};
 ghost use Rattle.sml_solve.specs.Schemes.{fate_of, fate_at};
 
 use crate::limits::Limit;
@@ -68,6 +68,7 @@ pub(crate) fn closed(
     requires flags { length fixed.now ≡ length unknowns.now }
     requires known { IsOver (length unknowns.now) (type_of ty.now) }
     ensures scheme { IfOk result (λ s. scheme_of s ≡ F.close_as (named (initial int)) (map (fate_at limits.now unknowns.now fixed.now expansive) (variables_after [] (type_of ty.now))) (type_of ty.now)) }
+    ensures known { IfOk result (λ s. IsBodyOver (length (scheme_of s).variables) (length unknowns.now) (scheme_of s).body) }
     ensures size { IfOk result (λ s. type_size (scheme_of s).body ≡ type_size (type_of ty.now)) }
 {
     let places = free_variables(alloc, ty)?;

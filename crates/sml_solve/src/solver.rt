@@ -345,6 +345,7 @@ impl Solver {
         requires flags { length fixed.now ≡ count self.old }
         requires small { limit + 1 < 2 ^ 32 }
         ensures scheme { IfOk result (λ found. IfSome found (λ s. IsScheme self.new fixed.now expansive (type_of ty.now) (scheme_of s))) }
+        ensures known { IfOk result (λ found. IfSome found (λ s. IsSchemeOf self.new (scheme_of s))) }
         ensures within { IfOk result (λ found. IfSome found (λ s. type_size (scheme_of s).body ≤ limit)) }
         ensures large { IfOk result (λ found. IfNone found ((σ : Assignment finite) → Permits Finiteness self.new σ → limit < type_size (assign σ (type_of ty.now)))) }
         ensures same { OnOk result (PermitsSame self.old self.new) }
@@ -511,6 +512,7 @@ fn close_reading(
     requires left { IsMadeOf (IsLeft solver.old) (type_of ty.now) }
     requires flags { length fixed.now ≡ count solver.old }
     ensures scheme { IfOk result (λ s. IsSchemeOfReading solver.new fixed.now expansive (type_of ty.now) (scheme_of s)) }
+    ensures known { IfOk result (λ s. IsSchemeOf solver.new (scheme_of s)) }
     ensures size { IfOk result (λ s. type_size (scheme_of s).body ≡ type_size (type_of ty.now)) }
     ensures same { OnOk result (solver.new ≡ solver.old) }
     ensures count { count solver.new ≡ count solver.old }

@@ -332,8 +332,9 @@ impl Solver {
     }
 
     /// The scheme of a type whose variables may be bound unless the phrase is expansive, or `None` where it has more nodes
-    /// than the limit. The unknowns with a flag are fixed, and stay. The time taken beyond the type's own size grows with
-    /// the limit. A number that no `u32` holds counts as want of memory.
+    /// than the limit. The unknowns with a flag are fixed, and stay. An unknown that is still overloaded is bound like any
+    /// other, so `settle` comes before. The time taken beyond the type's own size grows with the limit. A number that no
+    /// `u32` holds counts as want of memory.
     pub fn generalise(
         &mut self,
         ty: &MlType,

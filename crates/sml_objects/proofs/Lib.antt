@@ -6,6 +6,7 @@ pub mod TypeCopies
 pub mod Renaming
 pub mod Instances
 pub mod Closings
+pub mod FatesOfVariables
 pub mod EqualityViews
 pub mod NameTests
 pub mod Appearances

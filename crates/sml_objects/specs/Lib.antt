@@ -15,3 +15,4 @@ pub mod CanonicalLaws
 pub mod Exchanges
 pub mod Renamings
 pub mod Signatures
+pub mod Fates

@@ -8,6 +8,7 @@ pub mod canonical_laws;
 pub mod comparisons;
 pub mod environments;
 pub mod equality;
+pub mod fates;
 pub mod laws;
 pub mod named;
 mod names;

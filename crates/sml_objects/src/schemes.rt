@@ -102,7 +102,7 @@ fn closed(alloc: Global, ty: &Rc<MlType>, places: &IndexSet<u32>) -> Result<Sche
 }
 
 #[cycle(variables)]
-fn collect_variables(ty: &MlType, seen: &mut IndexSet<u32>) -> Result<(), Memory>
+pub(crate) fn collect_variables(ty: &MlType, seen: &mut IndexSet<u32>) -> Result<(), Memory>
     ensures { OnOk result (seen.new.keys ≡ T.variables_after seen.old.keys (type_of ty.now)) }
 {
     match ty {

@@ -4,6 +4,7 @@ ghost use Rattle.std.specs.Prelude.{◌≡◌, false};
 
 use crate::canonical::{canonical, new_count};
 use crate::equality::admits_equality;
+use crate::fates::{Fate, close_as, free_variables};
 use crate::named::Named;
 use crate::objects::{Basis, Env, Initial, MadeName, MlType, Scheme, TyName, UnitId};
 use crate::renamings::Renaming;
@@ -183,6 +184,31 @@ fn variables_are_numbered_by_first_appearance(rt: HostRuntime) -> Result<(), Fai
     };
     assert!(rt; is_free(second, 6));
     assert!(rt; is_free(third, 5));
+    Ok(())
+}
+
+#[test]
+fn variables_that_stay_are_not_numbered(rt: HostRuntime) -> Result<(), Fail> {
+    let alloc = rt.alloc();
+    let inner = arrow(
+        alloc,
+        Rc::new(alloc, MlType::Free(4))?,
+        Rc::new(alloc, MlType::Free(9))?,
+    )?;
+    let ty = arrow(alloc, Rc::new(alloc, MlType::Free(3))?, inner)?;
+    let places = free_variables(alloc, &ty)?;
+    let fates = [Fate::Default, Fate::Keep, Fate::Bind(true)];
+    let scheme = close_as(alloc, &ty, &places, &fates)?;
+    assert_eq!(rt; scheme.variables.as_slice(), [true].as_slice());
+    let MlType::Arrow(first, rest) = &*scheme.body else {
+        return Err(Fail::from("no arrow"));
+    };
+    assert!(rt; is_name(first, TyName::Initial(Initial::Int)));
+    let MlType::Arrow(second, third) = &**rest else {
+        return Err(Fail::from("no second arrow"));
+    };
+    assert!(rt; is_free(second, 4));
+    assert!(rt; is_bound(third, 0));
     Ok(())
 }
 

@@ -359,7 +359,7 @@ ref-meets : (b e : Bool) (ts : List (MlType Name)) → (b || e) ≡ true → All
 ref-meets true e ts q a = refl
 ref-meets false e ts q a = and-both e (all_admit naming (types_of ts)) q (admitting-all ts a)
 
-arrow-admits-not : (ts : List (MlType Name)) → admits naming (app arrow (types_of ts)) ≡ true → ⊥
+pub arrow-admits-not : (ts : List (MlType Name)) → admits naming (app arrow (types_of ts)) ≡ true → ⊥
 unfolding admits
 arrow-admits-not ts e = let f : false ≡ true = e in cc
 

@@ -12,3 +12,8 @@ pub mod Counting
 pub mod Retrieving
 pub mod Owning
 pub mod Overloading
+pub mod Defaulting
+pub mod Reaching
+pub mod Fixing
+pub mod Fated
+pub mod Uniqueness

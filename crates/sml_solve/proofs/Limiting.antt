@@ -110,7 +110,7 @@ pub closed-still : (ls ms : List Limit) (i : ℕ) (x : Node) → ((k : ℕ) → 
 closed-still ls ms i x f e c =
     rw e (all-parts (λ k. IsUnder (limit_at ls k) (handed x (limit_at ls i))) (λ k. IsUnder (limit_at ms k) (handed x (limit_at ls i))) (parts x) (λ k. under-trans (limit_at ms k) (limit_at ls k) (handed x (limit_at ls i)) (f k)) c)
 
-among-cases : (i : ℕ) (xs : List ℕ) (x : ℕ) → IsAmong i (xs ++ x ∷ []) → IsAmong i xs ⊎ (i ≡ x)
+pub among-cases : (i : ℕ) (xs : List ℕ) (x : ℕ) → IsAmong i (xs ++ x ∷ []) → IsAmong i xs ⊎ (i ≡ x)
 among-cases i [] x a = elim a [ inl e ↦ inr e | inr r ↦ absurd r ]
 among-cases i (y ∷ xs) x a =
     elim a [

@@ -34,11 +34,11 @@ use Rattle.sml_solve.proofs.Wholeness.{last}
 
 -- the names that are left
 
-or-cases : (a b : Bool) → (a || b) ≡ true → (a ≡ true) ⊎ (b ≡ true)
+pub or-cases : (a b : Bool) → (a || b) ≡ true → (a ≡ true) ⊎ (b ≡ true)
 or-cases true b e = inl refl
 or-cases false b e = inr e
 
-or-neither : (a b : Bool) → (a || b) ≡ false → (a ≡ false) × (b ≡ false)
+pub or-neither : (a b : Bool) → (a || b) ≡ false → (a ≡ false) × (b ≡ false)
 or-neither true b e = cc
 or-neither false b e = (refl, e)
 
@@ -46,7 +46,7 @@ is-off : (e : Bool) → not e ≡ true → e ≡ false
 is-off true q = cc
 is-off false q = refl
 
-int-admits : (e : Bool) → MeetsEquality e (O.named (initial N.int))
+pub int-admits : (e : Bool) → MeetsEquality e (O.named (initial N.int))
 unfolding all_admit
 int-admits false = tt
 int-admits true = admits-named (initial N.int) [] ∙ refl
@@ -81,7 +81,7 @@ no-real true true h p w = real-admits-not w
 no-real true false h p w = cc
 no-real false e h p w = cc
 
-only-int : (c : Names) (e : Bool) (k : N.Initial) → has_several (Some c) e ≡ false → allows c k ≡ true → MeetsEquality e (O.named (initial k)) → k ≡ N.int
+pub only-int : (c : Names) (e : Bool) (k : N.Initial) → has_several (Some c) e ≡ false → allows c k ≡ true → MeetsEquality e (O.named (initial k)) → k ≡ N.int
 only-int c e N.int h p w = refl
 only-int c e N.word h p w = let n = (or-neither c.word (c.text || (c.real && not e)) h).0 in let z : false ≡ true = sym n ∙ p in cc
 only-int c e N.char h p w = let n = (or-neither c.text (c.real && not e) (or-neither c.word (c.text || (c.real && not e)) h).1).0 in let z : false ≡ true = sym n ∙ p in cc
@@ -108,15 +108,15 @@ name-meets Equality u a c k e p q w = w
 name-meets Classes u a c k e p q w = rw e (k, q, refl)
 name-meets Rigidity u a c k e p q w = no-variables a.variables a.equality c (O.named (initial k)) (rw e at p)
 
-abbrev unit : O.MlType Name
+abbrev pub unit : O.MlType Name
 unit = O.app (O.row []) O.no_type
 
-bound-unit : (u : ℕ) (a : Option ℕ) → MeetsBound u a unit
+pub bound-unit : (u : ℕ) (a : Option ℕ) → MeetsBound u a unit
 unfolding IsWithin AreWithin
 bound-unit u None = tt
 bound-unit u (Some n) = (tt, tt)
 
-equality-unit : (e : Bool) → MeetsEquality e unit
+pub equality-unit : (e : Bool) → MeetsEquality e unit
 unfolding all_admit
 equality-unit false = tt
 equality-unit true = row-admits [] [] ∙ refl
@@ -133,19 +133,19 @@ unit-meets Rigidity u a e f = rw f tt
 -- an unknown with a type, and all others with types that are as asked
 
 module _ (u : ℕ) (us : List ℕ) (g : Graph) (b : Bool) (k : IsKept u g us) (d : 0 ≡ u → ⊥) (v : ℕ) (h : v < length us) (r : ℕ) (same : IsSame g.nodes.items (get_or us v 0) r) where
-  abbrev choice-with : O.MlType Name → Assignment finite
+  abbrev pub choice-with : O.MlType Name → Assignment finite
   choice-with t i = elim (same_or_not i r) [ inl _ ↦ t | inr _ ↦ stand_in (limit_at g.limits.items i).variables ]
 
   with-here : (t : O.MlType Name) → choice-with t r ≡ t
   with-here t = elim (same_or_not r r) as (λ s. elim s as (λ _. O.MlType Name) [ inl _ ↦ t | inr _ ↦ stand_in (limit_at g.limits.items r).variables ] ≡ t) [ inl _ ↦ refl | inr n ↦ absurd (n refl) ]
 
-  with-there : (t : O.MlType Name) (i : ℕ) → i ≢ r → choice-with t i ≡ stand_in (limit_at g.limits.items i).variables
+  pub with-there : (t : O.MlType Name) (i : ℕ) → i ≢ r → choice-with t i ≡ stand_in (limit_at g.limits.items i).variables
   with-there t i n = elim (same_or_not i r) as (λ s. elim s as (λ _. O.MlType Name) [ inl _ ↦ t | inr _ ↦ stand_in (limit_at g.limits.items i).variables ] ≡ stand_in (limit_at g.limits.items i).variables) [ inl e ↦ absurd (n e) | inr _ ↦ refl ]
 
-  abbrev types-with : O.MlType Name → Assignment finite
+  abbrev pub types-with : O.MlType Name → Assignment finite
   types-with t = solution g.nodes.items (choice-with t) k.whole.rank.rank
 
-  with-keeps : (t : O.MlType Name) → ((l : Layer) → MeetsAt l u (limit_at g.limits.items r) t) → (l : Layer) → KeepsAt l u g.limits.items (types-with t)
+  pub with-keeps : (t : O.MlType Name) → ((l : Layer) → MeetsAt l u (limit_at g.limits.items r) t) → (l : Layer) → KeepsAt l u g.limits.items (types-with t)
   with-keeps t m l =
       let w = k.whole in
       solution-keeps l u g.nodes.items g.limits.items (choice-with t) w.rank.rank w.rank.ranked w.closed (w.fit l) (λ i e.
@@ -154,82 +154,96 @@ module _ (u : ℕ) (us : List ℕ) (g : Graph) (b : Bool) (k : IsKept u g us) (d
         | inr n ↦ rw (with-there t i n) (stands-meets l u (limit_at g.limits.items i) d (subst (IsFitNode Rigidity u (limit_at g.limits.items i)) e (w.fit Rigidity i)))
       ])
 
-  with-permits : (t : O.MlType Name) → ((l : Layer) → MeetsAt l u (limit_at g.limits.items r) t) → Permits Rigidity (asked_of u us g b) (through finite us (types-with t))
+  pub with-permits : (t : O.MlType Name) → ((l : Layer) → MeetsAt l u (limit_at g.limits.items r) t) → Permits Rigidity (asked_of u us g b) (through finite us (types-with t))
   unfolding Permits
   with-permits t m = (types-with t, solution-meets g.nodes.items (choice-with t) k.whole.rank.rank k.whole.rank.ranked, λ l p. with-keeps t m l, λ v l. refl)
 
-  with-type : (t : O.MlType Name) → node_at g.nodes.items r ≡ Unknown → through finite us (types-with t) v ≡ t
+  pub with-type : (t : O.MlType Name) → node_at g.nodes.items r ≡ Unknown → through finite us (types-with t) v ≡ t
   with-type t e = same finite (types-with t) (solution-meets g.nodes.items (choice-with t) k.whole.rank.rank k.whole.rank.ranked) ∙ (solution-unknown g.nodes.items (choice-with t) k.whole.rank.rank r e ∙ with-here t)
 
   type-of : (σ : Assignment finite) → Permits Rigidity (asked_of u us g b) σ → (τ : Assignment finite) × Meets finite g.nodes.items τ × ((l : Layer) → MeetsAt l u (limit_at g.limits.items r) (τ r)) × (σ v ≡ τ r)
   unfolding Permits
   type-of σ p = (p.0, p.1, λ l. p.2 l (last l) r, sym (p.3 v h) ∙ same finite p.0 p.1)
 
-  several-yes : (c : Option Names) → (limit_at g.limits.items r).class ≡ c → node_at g.nodes.items r ≡ Unknown → has_several c (limit_at g.limits.items r).equality ≡ true → IsOverloaded (asked_of u us g b) v
-  several-yes None q e s = cc
-  several-yes (Some c) q e s =
+  -- a name other than int
+  pub two-names : (c : Option Names) → (limit_at g.limits.items r).class ≡ c → node_at g.nodes.items r ≡ Unknown → has_several c (limit_at g.limits.items r).equality ≡ true
+      → (j : N.Initial) × (N.int ≢ j) × ((l : Layer) → MeetsAt l u (limit_at g.limits.items r) (O.named (initial N.int))) × ((l : Layer) → MeetsAt l u (limit_at g.limits.items r) (O.named (initial j)))
+  two-names None q e s = cc
+  two-names (Some c) q e s =
       let a = limit_at g.limits.items r in
       let p : IsPossible a.variables a.equality a.class = subst (IsFitNode Rigidity u a) e (k.whole.fit Rigidity r) in
       let o = another c a.equality s in
-      let m : (l : Layer) → MeetsAt l u a (O.named (initial N.int)) = (λ l. name-meets l u a c N.int q p refl (int-admits a.equality)) in
-      let n : (l : Layer) → MeetsAt l u a (O.named (initial o.0)) = (λ l. name-meets l u a c o.0 q p o.1 o.2) in
+      (o.0, o.3, λ l. name-meets l u a c N.int q p refl (int-admits a.equality), λ l. name-meets l u a c o.0 q p o.1 o.2)
+
+  pub with-apart : (j : N.Initial) → N.int ≢ j → node_at g.nodes.items r ≡ Unknown → through finite us (types-with (O.named (initial N.int))) v ≢ through finite us (types-with (O.named (initial j))) v
+  with-apart j n e z =
+      let f : O.named (initial N.int) ≡ O.named (initial j) = sym (with-type (O.named (initial N.int)) e) ∙ (z ∙ with-type (O.named (initial j)) e) in
+      let y : N.int ≡ j = cc in
+      n y
+
+  several-yes : (c : Option Names) → (limit_at g.limits.items r).class ≡ c → node_at g.nodes.items r ≡ Unknown → has_several c (limit_at g.limits.items r).equality ≡ true → IsOverloaded (asked_of u us g b) v
+  several-yes None q e s = cc
+  several-yes (Some c) q e s =
+      let o = two-names (Some c) q e s in
       record {
         named_so = λ σ y. let t = type-of σ y in let w : MeetsClass (Some c) (t.0 r) = rw q at (t.2 Classes) in (w.0, t.3 ∙ w.2);
         one = through finite us (types-with (O.named (initial N.int)));
         other = through finite us (types-with (O.named (initial o.0)));
-        may_be_one = with-permits (O.named (initial N.int)) m;
-        may_be_other = with-permits (O.named (initial o.0)) n;
-        apart = λ z.
-            let f : O.named (initial N.int) ≡ O.named (initial o.0) = sym (with-type (O.named (initial N.int)) e) ∙ (z ∙ with-type (O.named (initial o.0)) e) in
-            let y : N.int ≡ o.0 = cc in
-            o.3 y;
+        may_be_one = with-permits (O.named (initial N.int)) o.2;
+        may_be_other = with-permits (O.named (initial o.0)) o.3;
+        apart = with-apart o.0 o.1 e;
       }
 
-  unknown-no : (c : Option Names) (x : Variables) → (limit_at g.limits.items r).class ≡ c → (limit_at g.limits.items r).variables ≡ x → node_at g.nodes.items r ≡ Unknown → has_several c (limit_at g.limits.items r).equality ≡ false → IsOverloaded (asked_of u us g b) v → ⊥
-  unknown-no None V.Any q y e s o =
-      let m : (l : Layer) → MeetsAt l u (limit_at g.limits.items r) unit = (λ l. unit-meets l u (limit_at g.limits.items r) q y) in
-      let n = o.named_so (through finite us (types-with unit)) (with-permits unit m) in
-      let z : unit ≡ O.named (initial n.0) = sym (with-type unit e) ∙ n.1 in
-      cc
-  unknown-no None (V.One x) q y e s o =
-      let n = o.named_so o.one o.may_be_one in
-      let t = type-of o.one o.may_be_one in
-      let w : MeetsVariables (V.One x) (t.0 r) = rw y at (t.2 Rigidity) in
-      let z : O.named (initial n.0) ≡ _ = sym n.1 ∙ (t.3 ∙ w) in
-      cc
-  unknown-no None V.Several q y e s o = let t = type-of o.one o.may_be_one in rw y at (t.2 Rigidity)
-  unknown-no (Some c) x q y e s o =
-      let a = limit_at g.limits.items r in
-      let ints : (σ : Assignment finite) → Permits Rigidity (asked_of u us g b) σ → σ v ≡ O.named (initial N.int) = (λ σ p.
-      let t = type-of σ p in
-      let w : MeetsClass (Some c) (t.0 r) = rw q at (t.2 Classes) in
-      let f = only-int c a.equality w.0 s w.1 (subst (MeetsEquality a.equality) w.2 (t.2 Equality)) in
-      t.3 ∙ (w.2 ∙ ap (λ k. O.named (initial k)) f)) in
-      o.apart (ints o.one o.may_be_one ∙ sym (ints o.other o.may_be_other))
+  -- Where no more than one name is left, no two types that are permitted differ as names, though the unknown could be the empty row if it may be anything.
+  module _ (one other : Assignment finite) (p : Permits Rigidity (asked_of u us g b) one) (q : Permits Rigidity (asked_of u us g b) other) (apart : one v ≢ other v) (named_so : (j : N.Initial) × (one v ≡ O.named (initial j))) where
+    unknown-apart : (c : Option Names) (x : Variables) → (limit_at g.limits.items r).class ≡ c → (limit_at g.limits.items r).variables ≡ x → node_at g.nodes.items r ≡ Unknown → has_several c (limit_at g.limits.items r).equality ≡ false
+        → (Permits Rigidity (asked_of u us g b) (through finite us (types-with unit)) → (j : N.Initial) × (through finite us (types-with unit) v ≡ O.named (initial j))) → ⊥
+    unknown-apart None V.Any y z e s f =
+        let m : (l : Layer) → MeetsAt l u (limit_at g.limits.items r) unit = (λ l. unit-meets l u (limit_at g.limits.items r) y z) in
+        let n = f (with-permits unit m) in
+        let w : unit ≡ O.named (initial n.0) = sym (with-type unit e) ∙ n.1 in
+        cc
+    unknown-apart None (V.One x) y z e s f =
+        let t = type-of one p in
+        let w : MeetsVariables (V.One x) (t.0 r) = rw z at (t.2 Rigidity) in
+        let n : O.named (initial named_so.0) ≡ _ = sym named_so.1 ∙ (t.3 ∙ w) in
+        cc
+    unknown-apart None V.Several y z e s f = let t = type-of one p in rw z at (t.2 Rigidity)
+    unknown-apart (Some c) x y z e s f =
+        let a = limit_at g.limits.items r in
+        let ints : (σ : Assignment finite) → Permits Rigidity (asked_of u us g b) σ → σ v ≡ O.named (initial N.int) = (λ σ p.
+        let t = type-of σ p in
+        let w : MeetsClass (Some c) (t.0 r) = rw y at (t.2 Classes) in
+        let f = only-int c a.equality w.0 s w.1 (subst (MeetsEquality a.equality) w.2 (t.2 Equality)) in
+        t.3 ∙ (w.2 ∙ ap (λ k. O.named (initial k)) f)) in
+        apart (ints one p ∙ sym (ints other q))
 
-  app-no : (x : Head) (kids : SmallVec ℕ) → node_at g.nodes.items r ≡ App x kids → IsOverloaded (asked_of u us g b) v → ⊥
-  app-no x kids e o =
-      let t = type-of o.one o.may_be_one in
-      let z = type-of o.other o.may_be_other in
-      let n = o.named_so o.one o.may_be_one in
-      let f : t.0 r ≡ make finite (head_over x (length kids.items)) (map t.0 kids.items) = rw e at (t.1 r) in
-      let y : z.0 r ≡ make finite (head_over x (length kids.items)) (map z.0 kids.items) = rw e at (z.1 r) in
-      let w : O.app (head_over x (length kids.items)) (types_of (map t.0 kids.items)) ≡ O.app (O.name (initial n.0)) O.no_type = sym f ∙ (sym t.3 ∙ n.1) in
-      let j : types_of (map t.0 kids.items) ≡ O.no_type = cc in
-      o.apart (t.3 ∙ (f ∙ (ap (λ ts. O.app (head_over x (length kids.items)) ts) (none-alike t.0 z.0 kids.items j) ∙ (sym y ∙ sym z.3)))) where
-        none-alike : (σ τ : Assignment finite) (is : List ℕ) → types_of (map σ is) ≡ O.no_type → types_of (map σ is) ≡ types_of (map τ is)
-        none-alike σ τ [] q = refl
-        none-alike σ τ (i ∷ is) q = cc
+    app-apart : (x : Head) (kids : SmallVec ℕ) → node_at g.nodes.items r ≡ App x kids → ⊥
+    app-apart x kids e =
+        let t = type-of one p in
+        let z = type-of other q in
+        let f : t.0 r ≡ make finite (head_over x (length kids.items)) (map t.0 kids.items) = rw e at (t.1 r) in
+        let y : z.0 r ≡ make finite (head_over x (length kids.items)) (map z.0 kids.items) = rw e at (z.1 r) in
+        let w : O.app (head_over x (length kids.items)) (types_of (map t.0 kids.items)) ≡ O.app (O.name (initial named_so.0)) O.no_type = sym f ∙ (sym t.3 ∙ named_so.1) in
+        let j : types_of (map t.0 kids.items) ≡ O.no_type = cc in
+        apart (t.3 ∙ (f ∙ (ap (λ ts. O.app (head_over x (length kids.items)) ts) (none-alike t.0 z.0 kids.items j) ∙ (sym y ∙ sym z.3)))) where
+          none-alike : (σ τ : Assignment finite) (is : List ℕ) → types_of (map σ is) ≡ O.no_type → types_of (map σ is) ≡ types_of (map τ is)
+          none-alike σ τ [] q = refl
+          none-alike σ τ (i ∷ is) q = cc
 
-  overloaded-yes : (x : Node) → node_at g.nodes.items r ≡ x → is_several x (limit_at g.limits.items r) ≡ true → IsOverloaded (asked_of u us g b) v
+    pub node-apart : (x : Node) → node_at g.nodes.items r ≡ x → IsRootNode x → is_several x (limit_at g.limits.items r) ≡ false
+        → (Permits Rigidity (asked_of u us g b) (through finite us (types-with unit)) → (j : N.Initial) × (through finite us (types-with unit) v ≡ O.named (initial j))) → ⊥
+    node-apart Unknown e root s f = unknown-apart (limit_at g.limits.items r).class (limit_at g.limits.items r).variables refl refl e s f
+    node-apart (Link j) e root s f = absurd root
+    node-apart (App x kids) e root s f = app-apart x kids e
+
+  pub overloaded-yes : (x : Node) → node_at g.nodes.items r ≡ x → is_several x (limit_at g.limits.items r) ≡ true → IsOverloaded (asked_of u us g b) v
   overloaded-yes Unknown e s = several-yes (limit_at g.limits.items r).class refl e s
   overloaded-yes (Link j) e s = cc
   overloaded-yes (App x kids) e s = cc
 
-  overloaded-no : (x : Node) → node_at g.nodes.items r ≡ x → IsRootNode x → is_several x (limit_at g.limits.items r) ≡ false → IsOverloaded (asked_of u us g b) v → ⊥
-  overloaded-no Unknown e root s = unknown-no (limit_at g.limits.items r).class (limit_at g.limits.items r).variables refl refl e s
-  overloaded-no (Link j) e root s = absurd root
-  overloaded-no (App x kids) e root s = app-no x kids e
+  pub overloaded-no : IsRootNode (node_at g.nodes.items r) → is_several (node_at g.nodes.items r) (limit_at g.limits.items r) ≡ false → IsOverloaded (asked_of u us g b) v → ⊥
+  overloaded-no root s o = node-apart o.one o.other o.may_be_one o.may_be_other o.apart (o.named_so o.one o.may_be_one) (node_at g.nodes.items r) refl root s (o.named_so (through finite us (types-with unit)))
 
   pub overloaded-if : (s : Bool) → s ≡ is_several (node_at g.nodes.items r) (limit_at g.limits.items r) → OnTrue s (IsOverloaded (asked_of u us g b) v)
   overloaded-if true e = overloaded-yes (node_at g.nodes.items r) refl (sym e)
@@ -237,4 +251,4 @@ module _ (u : ℕ) (us : List ℕ) (g : Graph) (b : Bool) (k : IsKept u g us) (d
 
   pub overloaded-only-if : (s : Bool) → IsRootNode (node_at g.nodes.items r) → s ≡ is_several (node_at g.nodes.items r) (limit_at g.limits.items r) → OnFalse s (IsOverloaded (asked_of u us g b) v → ⊥)
   overloaded-only-if true root e = tt
-  overloaded-only-if false root e = overloaded-no (node_at g.nodes.items r) refl root (sym e)
+  overloaded-only-if false root e = overloaded-no root (sym e)

@@ -36,16 +36,16 @@ use Rattle.sml_solve.proofs.Wholeness.{get_or-push}
 
 -- An unknown can differ from every node before it.
 
-not-free : (h : O.Head Name) (ts : O.MlTypes Name) (v : ℕ) (t : O.MlType Name) → t ≡ O.app h ts → t ≡ O.free v → ⊥
+pub not-free : (h : O.Head Name) (ts : O.MlTypes Name) (v : ℕ) (t : O.MlType Name) → t ≡ O.app h ts → t ≡ O.free v → ⊥
 not-free h ts v t e f = let g : O.app h ts ≡ O.free v = sym e ∙ f in cc
 
-abbrev only : ℕ → Assignment finite
+abbrev pub only : ℕ → Assignment finite
 only i x = elim (same_or_not x i) [ inl _ ↦ O.free 0 | inr _ ↦ ints x ]
 
-only-here : (i : ℕ) → only i i ≡ O.free 0
+pub only-here : (i : ℕ) → only i i ≡ O.free 0
 only-here i = elim (same_or_not i i) as (λ d. elim d as (λ _. O.MlType Name) [ inl _ ↦ O.free 0 | inr _ ↦ ints i ] ≡ O.free 0) [ inl _ ↦ refl | inr d ↦ absurd (d refl) ]
 
-only-there : (i x : ℕ) → x ≢ i → only i x ≡ ints x
+pub only-there : (i x : ℕ) → x ≢ i → only i x ≡ ints x
 only-there i x n = elim (same_or_not x i) as (λ d. elim d as (λ _. O.MlType Name) [ inl _ ↦ O.free 0 | inr _ ↦ ints x ] ≡ ints x) [ inl e ↦ absurd (n e) | inr d ↦ refl ]
 
 differs-node : (ns : List Node) (r : ℕ → ℕ) (i j : ℕ) (x : Node) → j < i → IsSoundNode (length ns) j x → node_at ns j ≡ x → Agrees finite (solution ns (only i) r) j x → ((k : ℕ) → k < j → solution ns (only i) r k ≢ O.free 0) → solution ns (only i) r j ≢ O.free 0
@@ -156,17 +156,17 @@ leads-node ns i (App h kids) e s f = (i, record { same = λ w σ m. refl; below 
   apart : (j : ℕ) → App h kids ≡ Link j → ⊥
   apart j q = cc
 
-leads-below : (ns : List Node) → IsSound ns → (n i : ℕ) → i < n → (r : ℕ) × LeadsTo ns i r
+pub leads-below : (ns : List Node) → IsSound ns → (n i : ℕ) → i < n → (r : ℕ) × LeadsTo ns i r
 leads-below ns s zero i h = absurd (omega (arith, h))
 leads-below ns s (suc n) i h = leads-node ns i (node_at ns i) refl (s i) (λ j l. leads-below ns s n j (omega (arith, h, l)))
 
 -- Unknowns that are left.
 
-permitted : (u : ℕ) (us : List ℕ) (g : Graph) (b : Bool) (τ : Assignment finite) → Meets finite g.nodes.items τ → Permits Finiteness (asked_of u us g b) (through finite us τ)
+pub permitted : (u : ℕ) (us : List ℕ) (g : Graph) (b : Bool) (τ : Assignment finite) → Meets finite g.nodes.items τ → Permits Finiteness (asked_of u us g b) (through finite us τ)
 unfolding Permits
 permitted u us g b τ m = (τ, m, nothing-asked u g.limits.items τ, λ v l. refl)
 
-through-permitted : (u : ℕ) (us : List ℕ) (g : Graph) (b : Bool) (σ : Assignment finite) → Permits Finiteness (asked_of u us g b) σ → (τ : Assignment finite) × Meets finite g.nodes.items τ × ((v : ℕ) → v < length us → through finite us τ v ≡ σ v)
+pub through-permitted : (u : ℕ) (us : List ℕ) (g : Graph) (b : Bool) (σ : Assignment finite) → Permits Finiteness (asked_of u us g b) σ → (τ : Assignment finite) × Meets finite g.nodes.items τ × ((v : ℕ) → v < length us → through finite us τ v ≡ σ v)
 unfolding Permits
 through-permitted u us g b σ p = (p.0, p.1, p.3)
 
@@ -245,7 +245,7 @@ module _ (ns : List Node) (us : List ℕ) (o : AreOwners ns us) (ρ : Assignment
 
 -- nodes whose unknowns have the same types have the same types
 
-same-node : (σ τ : Assignment finite) (i : ℕ) (x : Node) → Agrees finite σ i x → Agrees finite τ i x → (x ≡ Unknown → σ i ≡ τ i) → AllByRecursion (λ k. σ k ≡ τ k) (parts x) → σ i ≡ τ i
+pub same-node : (σ τ : Assignment finite) (i : ℕ) (x : Node) → Agrees finite σ i x → Agrees finite τ i x → (x ≡ Unknown → σ i ≡ τ i) → AllByRecursion (λ k. σ k ≡ τ k) (parts x) → σ i ≡ τ i
 same-node σ τ i Unknown a b f c = f refl
 same-node σ τ i (Link j) a b f c = a ∙ (c.0 ∙ sym b)
 same-node σ τ i (App h kids) a b f c = a ∙ (ap (make finite (head_over h (length kids.items))) (map-alike finite σ τ kids.items c) ∙ sym b)

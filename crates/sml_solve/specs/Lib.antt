@@ -13,3 +13,5 @@ pub mod Counted
 pub mod Left
 pub mod Reads
 pub mod Overloaded
+pub mod Fixed
+pub mod Schemes

@@ -2,6 +2,7 @@
 #![tactic(auto)]
 
 pub mod class;
+mod closing;
 mod count;
 mod demands;
 mod finite;
@@ -11,6 +12,7 @@ pub mod layer;
 mod limits;
 mod merge;
 mod node;
+mod reach;
 mod reading;
 mod settling;
 pub mod solver;

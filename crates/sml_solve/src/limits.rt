@@ -12,6 +12,7 @@ ghost use Rattle.sml_solve.specs.Graphs.{IsSound, Meets, head_over, parts};
 ghost use Rattle.sml_solve.specs.Layers.{place_of};
 ghost use Rattle.sml_solve.specs.Variables.{IsPossible, FitsVariables};
 ghost use Rattle.sml_solve.specs.Overloaded.{has_several};
+ghost use Rattle.sml_solve.specs.Schemes.{has_one};
 ghost use Rattle.sml_solve.specs.Limits.{no_limit, both, both_bounds, both_classes, FitsBound, FitsEquality, FitsClass, IsFitNode, for_parts, handed, IsClosed, IsFit, IsBefore, IsDoneBut, SameLimits, NoneKeeps, Lowers};
 
 use crate::class::Names;
@@ -93,6 +94,13 @@ impl Limit {
             None => false,
             Some(names) => names.word || names.text || (names.real && !self.equality),
         }
+    }
+
+    /// Whether one name of a class is left, which is `int`.
+    pub(crate) fn has_one_name(self) -> bool
+        ensures { result ≡ has_one self.class self.equality }
+    {
+        self.class.is_some() && !self.has_several_names()
     }
 
     /// What is asked of the parts of a type with this head. Equality isn't asked of what a reference holds.

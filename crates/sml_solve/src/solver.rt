@@ -1,9 +1,12 @@
 //! The solver: what a declaration asks of its unknown types.
 
-ghost use Rattle.std.specs.Prelude.{◌≡◌, ◌↔◌, ◌+◌, ◌^◌, ◌<◌, ◌≤◌, true, false, length, IfOk, OnOk, OnErr, Err};
+ghost use Rattle.std.specs.Prelude.{◌≡◌, ℕ, ◌↔◌, ◌+◌, ◌^◌, ◌<◌, ◌≤◌, true, false, length, IfOk, OnOk, OnErr, Err};
 ghost use Rattle.std.specs.Bool.{OnTrue, OnFalse};
 ghost use Rattle.std.specs.List.{AllByRecursion};
 ghost use Rattle.std.specs.Option.{IfSome, IfNone};
+ghost use Rattle.sml_objects.specs.Initial.{initial};
+ghost use Rattle.sml_objects.specs.Names.{int};
+ghost use Rattle.sml_objects.specs.Objects.{free, named};
 ghost use Rattle.sml_objects.specs.Sizes.{type_size};
 ghost use Rattle.sml_objects.specs.Types.{instance_from, assign};
 ghost use Rattle.sml_objects.specs.Views.{type_of, scheme_of, maker_of};
@@ -12,20 +15,26 @@ ghost use Rattle.sml_solve.specs.declared.layer.Layer.TheVariants.{Finiteness};
 ghost use Rattle.sml_solve.specs.Worlds.{finite, Assignment};
 ghost use Rattle.sml_solve.specs.Asked.{Asked, asked_of, equal, asks, count, IsOf, IsSchemeOf, Adds, CanMeet, IsFirstUnmet, IsMet, Permits, PermitsSame};
 ghost use Rattle.sml_solve.specs.Counted.{IsSizeUpTo};
-ghost use Rattle.sml_solve.specs.Left.{IsReading, IsMostGeneral};
-ghost use Rattle.sml_solve.specs.Overloaded.{IsOverloaded};
+ghost use Rattle.sml_solve.specs.Fixed.{AreFixed, IsFixed, IsOpen};
+ghost use Rattle.sml_solve.specs.Graphs.{IsAmong};
+ghost use Rattle.sml_solve.specs.Left.{IsLeft, IsMadeOf, IsReading, IsMostGeneral};
+ghost use Rattle.sml_solve.specs.Schemes.{HasOneScheme, IsScheme, IsSchemeOfReading};
+ghost use Rattle.sml_solve.specs.Overloaded.{IsOverloaded, Settles};
 ghost use Rattle.sml_solve.specs.Whole.{IsKept};
 
 use crate::class::Class;
+use crate::closing::closed;
 use crate::count::size_from;
 use crate::demands::{equate, impose};
 use crate::graph::{Graph, add, fill};
-use crate::layer::{Ask, Bound, Refusal};
+use crate::layer::{Ask, Bound, Layer, Refusal};
 use crate::node::Node;
+use crate::reach::{has_flag, places, reached_unknowns};
 use crate::reading::type_up_to;
 use crate::settling::has_several_names;
 use crate::variable::Variable;
-use sml_objects::objects::{MlType, Scheme, UnitId};
+use sml_lex::fault::Memory;
+use sml_objects::objects::{Initial, MlType, Scheme, TyName, UnitId};
 use sml_objects::schemes::instantiate;
 use std::alloc::Global;
 use std::marker::Model;
@@ -172,6 +181,7 @@ impl Solver {
         requires { unknown < count self.now }
         ensures yes { IfOk result (λ b. OnTrue b (IsOverloaded self.now unknown)) }
         ensures no { IfOk result (λ b. OnFalse b (IsOverloaded self.now unknown → ⊥)) }
+        ensures int { IfOk result (λ b. OnTrue b ((l : Layer) → CanMeet l self.now (equal (free unknown) (named (initial int))))) }
         ensures err { OnErr result (result ≡ Err Refusal.Spent) }
         ensures spent { result ≡ Err Refusal.Spent ↔ self.now.spent ≡ true }
     {
@@ -183,6 +193,96 @@ impl Solver {
         Ok(has_several_names(nodes, self.graph.limits.as_slice(), at))
     }
 
+    /// The number of unknowns.
+    pub fn unknowns(&self) -> usize
+        ensures { result ≡ count self.now }
+    {
+        self.unknowns.len()
+    }
+
+    /// Makes each unknown from a place on that is overloaded the default, `int` (the Definition, appendix E).
+    pub fn settle(&mut self, from: usize) -> Result<(), Refusal>
+        ensures ok { OnOk result (Settles self.old from (count self.old) self.new) }
+        ensures count { count self.new ≡ count self.old }
+        ensures kept { OnOk result (self.new.spent ≡ false) }
+        ensures unit { self.new.unit ≡ self.old.unit }
+        ensures err { OnErr result (self.new.spent ≡ true) }
+        ensures unmet { (l : Layer) → result ≡ Err (Refusal.Unmet l) → ⊥ }
+        ensures spent { result ≡ Err Refusal.Spent ↔ self.old.spent ≡ true }
+    {
+        if self.spent {
+            return Err(Refusal::Spent);
+        }
+        let end = self.unknowns.len();
+        let mut place = from;
+        while place < end {
+            match settle_one(self, place as u32) {
+                Ok(()) => {}
+                Err(refusal) => return Err(refusal),
+            }
+            place += 1;
+        }
+        Ok(())
+    }
+
+    /// A flag for each unknown that the types of the first unknowns and of others fix, so that it stands in the context of
+    /// what is made behind these. Of the unknowns that by the equations may be any type, no others have one.
+    pub fn fixed_by(&mut self, first: usize, others: &[u32]) -> Result<Vec<bool>, Refusal>
+        requires first { first ≤ count self.old }
+        requires others { AllByRecursion (λ w. w < count self.old) others.now }
+        ensures flags { IfOk result (λ flags. AreFixed self.old first others.now flags.items) }
+        ensures same { OnOk result (PermitsSame self.old self.new) }
+        ensures count { count self.new ≡ count self.old }
+        ensures kept { OnOk result (self.new.spent ≡ false) }
+        ensures unit { self.new.unit ≡ self.old.unit }
+        ensures err { OnErr result (self.new.spent ≡ true) }
+        ensures unmet { (l : Layer) → result ≡ Err (Refusal.Unmet l) → ⊥ }
+        ensures spent { result ≡ Err Refusal.Spent ↔ self.old.spent ≡ true }
+    {
+        if self.spent {
+            return Err(Refusal::Spent);
+        }
+        match fixed_flags(self, first, others) {
+            Ok(flags) => Ok(flags),
+            Err(_) => {
+                self.spent = true;
+                Err(Refusal::Memory)
+            }
+        }
+    }
+
+    /// Demands that explicit type variables, for which some unknowns stand, are free neither in the types of the first
+    /// unknowns nor in those of others (the Definition, section 4.6): U7 where one is.
+    pub fn require_general(
+        &mut self,
+        variables: &[u32],
+        first: usize,
+        others: &[u32],
+    ) -> Result<(), Refusal>
+        requires variables { AllByRecursion (λ v. v < count self.old) variables.now }
+        requires first { first ≤ count self.old }
+        requires others { AllByRecursion (λ w. w < count self.old) others.now }
+        ensures general { OnOk result (AllByRecursion (λ v. IsOpen self.old v → IsFixed self.old first others.now v → ⊥) variables.now) }
+        ensures unmet { (l : Layer) → result ≡ Err (Refusal.Unmet l) → (l ≡ Layer.Rigidity) × (v : ℕ) × IsAmong v variables.now × IsFixed self.old first others.now v }
+        ensures same { OnOk result (PermitsSame self.old self.new) }
+        ensures count { count self.new ≡ count self.old }
+        ensures kept { OnOk result (self.new.spent ≡ false) }
+        ensures unit { self.new.unit ≡ self.old.unit }
+        ensures err { OnErr result (self.new.spent ≡ true) }
+        ensures spent { result ≡ Err Refusal.Spent ↔ self.old.spent ≡ true }
+    {
+        match self.fixed_by(first, others) {
+            Err(refusal) => Err(refusal),
+            Ok(flags) => {
+                if has_flag(flags.as_slice(), variables) {
+                    self.spent = true;
+                    return Err(Refusal::Unmet(Layer::Rigidity));
+                }
+                Ok(())
+            }
+        }
+    }
+
     /// A law: the unknowns that are left may have any types at once that each of them may have, and these fix the types of
     /// all others.
     pub fn choices_are_free(&self)
@@ -190,6 +290,14 @@ impl Solver {
         ensures { IsMostGeneral self.now }
     {
         let _spent = self.spent;
+    }
+
+    /// A law: what `generalise` promises fixes the scheme.
+    pub fn schemes_are_one(&self)
+        requires { self.now.spent ≡ false }
+        ensures { HasOneScheme self.now }
+    {
+        self.choices_are_free();
     }
 
     /// The type that a type stands for, over the unknowns that are left, or `None` where it has more nodes than the
@@ -221,6 +329,42 @@ impl Solver {
         };
         self.spent = false;
         Ok(found)
+    }
+
+    /// The scheme of a type whose variables may be bound unless the phrase is expansive, or `None` where it has more nodes
+    /// than the limit. The unknowns with a flag are fixed, and stay. An unknown that is still overloaded is bound like any
+    /// other, so `settle` comes before. The time taken beyond the type's own size grows with the limit. A number that no
+    /// `u32` holds counts as want of memory.
+    pub fn generalise(
+        &mut self,
+        ty: &MlType,
+        fixed: &[bool],
+        expansive: bool,
+        limit: u32,
+    ) -> Result<Option<Scheme>, Refusal>
+        requires known { IsOf self.old (type_of ty.now) }
+        requires flags { length fixed.now ≡ count self.old }
+        requires small { limit + 1 < 2 ^ 32 }
+        ensures scheme { IfOk result (λ found. IfSome found (λ s. IsScheme self.new fixed.now expansive (type_of ty.now) (scheme_of s))) }
+        ensures known { IfOk result (λ found. IfSome found (λ s. IsSchemeOf self.new (scheme_of s))) }
+        ensures within { IfOk result (λ found. IfSome found (λ s. type_size (scheme_of s).body ≤ limit)) }
+        ensures large { IfOk result (λ found. IfNone found ((σ : Assignment finite) → Permits Finiteness self.new σ → limit < type_size (assign σ (type_of ty.now)))) }
+        ensures same { OnOk result (PermitsSame self.old self.new) }
+        ensures count { count self.new ≡ count self.old }
+        ensures kept { OnOk result (self.new.spent ≡ false) }
+        ensures unit { self.new.unit ≡ self.old.unit }
+        ensures err { OnErr result (self.new.spent ≡ true) }
+        ensures unmet { (l : Layer) → result ≡ Err (Refusal.Unmet l) → ⊥ }
+        ensures spent { result ≡ Err Refusal.Spent ↔ self.old.spent ≡ true }
+    {
+        match self.reading(ty, limit) {
+            Err(refusal) => Err(refusal),
+            Ok(None) => Ok(None),
+            Ok(Some(reading)) => match close_reading(self, &reading, fixed, expansive) {
+                Ok(scheme) => Ok(Some(scheme)),
+                Err(refusal) => Err(refusal),
+            },
+        }
     }
 
     /// Demands that two types are equal: U1, U2, U3, E6, U4, U5 or U7 where they can't be.
@@ -340,6 +484,78 @@ impl Solver {
                 Ok(())
             }
             Err(refusal) => Err(refusal),
+        }
+    }
+}
+
+/// A flag for each unknown that the first unknowns and others fix.
+fn fixed_flags(solver: &Solver, first: usize, others: &[u32]) -> Result<Vec<bool>, Memory>
+    requires kept { solver.now.spent ≡ false }
+    requires first { first ≤ count solver.now }
+    requires others { AllByRecursion (λ w. w < count solver.now) others.now }
+    ensures { IfOk result (λ flags. AreFixed solver.now first others.now flags.items) }
+{
+    let unknowns = solver.unknowns.as_slice();
+    let from = places(solver.alloc, unknowns, first, others)?;
+    let nodes = solver.graph.nodes.as_slice();
+    let flags = reached_unknowns(solver.alloc, nodes, unknowns, from.as_slice())?;
+    Ok(flags)
+}
+
+/// The scheme of a type over unknowns that are left.
+fn close_reading(
+    solver: &mut Solver,
+    ty: &MlType,
+    fixed: &[bool],
+    expansive: bool,
+) -> Result<Scheme, Refusal>
+    requires kept { solver.old.spent ≡ false }
+    requires left { IsMadeOf (IsLeft solver.old) (type_of ty.now) }
+    requires flags { length fixed.now ≡ count solver.old }
+    ensures scheme { IfOk result (λ s. IsSchemeOfReading solver.new fixed.now expansive (type_of ty.now) (scheme_of s)) }
+    ensures known { IfOk result (λ s. IsSchemeOf solver.new (scheme_of s)) }
+    ensures size { IfOk result (λ s. type_size (scheme_of s).body ≡ type_size (type_of ty.now)) }
+    ensures same { OnOk result (solver.new ≡ solver.old) }
+    ensures count { count solver.new ≡ count solver.old }
+    ensures unit { solver.new.unit ≡ solver.old.unit }
+    ensures err { OnErr result (solver.new.spent ≡ true) }
+    ensures memory { OnErr result (result ≡ Err Refusal.Memory) }
+{
+    let limits = solver.graph.limits.as_slice();
+    let unknowns = solver.unknowns.as_slice();
+    match closed(solver.alloc, limits, unknowns, fixed, expansive, ty) {
+        Ok(scheme) => Ok(scheme),
+        Err(_) => {
+            solver.spent = true;
+            Err(Refusal::Memory)
+        }
+    }
+}
+
+fn int_type(alloc: Global) -> MlType
+    ensures { type_of result ≡ named (initial int) }
+{
+    MlType::Name(TyName::Initial(Initial::Int), Vec::new(alloc))
+}
+
+/// Makes an unknown `int` where it is overloaded.
+fn settle_one(solver: &mut Solver, unknown: u32) -> Result<(), Refusal>
+    requires known { unknown < count solver.old }
+    requires new { solver.old.spent ≡ false }
+    ensures ok { OnOk result (Settles solver.old unknown (unknown + 1) solver.new) }
+    ensures count { count solver.new ≡ count solver.old }
+    ensures kept { OnOk result (solver.new.spent ≡ false) }
+    ensures unit { solver.new.unit ≡ solver.old.unit }
+    ensures err { OnErr result (solver.new.spent ≡ true) }
+    ensures unmet { (l : Layer) → result ≡ Err (Refusal.Unmet l) → ⊥ }
+    ensures spent { result ≡ Err Refusal.Spent → ⊥ }
+{
+    match solver.is_overloaded(unknown) {
+        Err(refusal) => Err(refusal),
+        Ok(false) => Ok(()),
+        Ok(true) => {
+            let default = int_type(solver.alloc);
+            solver.require_equal(&MlType::Free(unknown), &default)
         }
     }
 }

@@ -310,6 +310,26 @@ fn overloaded_is_what_more_than_one_name_is_left_to(rt: HostRuntime) -> Result<(
     Ok(())
 }
 
+#[test]
+fn what_is_overloaded_becomes_int(rt: HostRuntime) -> Result<(), Fail> {
+    let alloc = rt.alloc();
+    let mut solver = solved(alloc, 4)?;
+    assert_eq!(rt; solver.unknowns(), 4);
+    assert_eq!(rt; solver.require_class(&unknown(0), Class::Num), Ok(()));
+    assert_eq!(rt; solver.require_class(&unknown(1), Class::Num), Ok(()));
+    assert_eq!(rt; link(&mut solver, 1, 2), Ok(()));
+    assert_eq!(rt; solver.settle(1), Ok(()));
+    assert_eq!(rt; solver.is_overloaded(1), Ok(false));
+    assert_eq!(rt; solver.require_equal(&unknown(0), &real(alloc)), Ok(()));
+    assert_eq!(rt; solver.require_equal(&unknown(2), &int(alloc)), Ok(()));
+    assert_eq!(rt; solver.require_equal(&unknown(3), &empty(alloc)), Ok(()));
+    assert_eq!(rt; solver.settle(9), Ok(()));
+    let other = solver.require_equal(&unknown(1), &real(alloc));
+    assert_eq!(rt; other, Err(Refusal::Unmet(Layer::Equations)));
+    assert_eq!(rt; solver.settle(0), Err(Refusal::Spent));
+    Ok(())
+}
+
 fn variable(number: u32, equality: bool) -> Variable {
     Variable { number, equality }
 }
@@ -381,6 +401,72 @@ fn a_type_is_read_up_to_its_size(rt: HostRuntime) -> Result<(), Fail> {
     assert!(rt;
         matches!(&*parts[1], MlType::Name(TyName::Initial(Initial::List), of) if of.len() == 1 && matches!(&*of[0], MlType::Free(1)))
     );
+    Ok(())
+}
+
+#[test]
+fn what_the_context_fixes_stays(rt: HostRuntime) -> Result<(), Fail> {
+    let alloc = rt.alloc();
+    let mut solver = solved(alloc, 4)?;
+    assert_eq!(rt; nest(alloc, &mut solver, 0, 2), Ok(()));
+    assert_eq!(rt; solver.require_equality(&unknown(1)), Ok(()));
+    assert_eq!(rt; solver.require_class(&unknown(3), Class::RealInt), Ok(()));
+    assert_eq!(rt; solver.require_equality(&unknown(3)), Ok(()));
+    let Ok(fixed) = solver.fixed_by(1, &[]) else {
+        return Err("flags".into());
+    };
+    assert_eq!(rt; fixed.as_slice(), [true, false, true, false].as_slice());
+    let ty = pair(alloc, unknown(2), pair(alloc, unknown(3), unknown(1))?)?;
+    let Ok(Some(scheme)) = solver.generalise(&ty, fixed.as_slice(), false, 5) else {
+        return Err("scheme".into());
+    };
+    assert_eq!(rt; scheme.variables.as_slice(), [true].as_slice());
+    let MlType::Row(parts) = &*scheme.body else {
+        return Err("row".into());
+    };
+    assert_eq!(rt; parts.len(), 2);
+    assert!(rt; matches!(&*parts[0], MlType::Free(2)));
+    let MlType::Row(others) = &*parts[1] else {
+        return Err("inner row".into());
+    };
+    assert_eq!(rt; others.len(), 2);
+    assert!(rt; matches!(&*others[0], MlType::Name(TyName::Initial(Initial::Int), _)));
+    assert!(rt; matches!(&*others[1], MlType::Bound(0)));
+    let Ok(large) = solver.generalise(&ty, fixed.as_slice(), false, 4) else {
+        return Err("large".into());
+    };
+    assert!(rt; large.is_none());
+    let Ok(Some(open)) = solver.generalise(&unknown(1), fixed.as_slice(), true, 5) else {
+        return Err("expansive".into());
+    };
+    assert!(rt; open.variables.is_empty());
+    assert!(rt; matches!(&*open.body, MlType::Free(1)));
+    Ok(())
+}
+
+#[test]
+fn explicit_variables_are_free_nowhere_else(rt: HostRuntime) -> Result<(), Fail> {
+    let alloc = rt.alloc();
+    let mut solver = solved(alloc, 4)?;
+    assert_eq!(rt;
+        solver.require_variable(&unknown(1), variable(0, false)),
+        Ok(())
+    );
+    assert_eq!(rt; nest(alloc, &mut solver, 2, 1), Ok(()));
+    assert_eq!(rt; solver.require_general(&[1], 1, &[]), Ok(()));
+    assert_eq!(rt; solver.require_general(&[1], 1, &[3]), Ok(()));
+    let other = solver.require_general(&[1], 1, &[3, 2]);
+    assert_eq!(rt; other, Err(Refusal::Unmet(Layer::Rigidity)));
+    assert_eq!(rt; solver.require_general(&[], 0, &[]), Err(Refusal::Spent));
+    let mut solver = solved(alloc, 3)?;
+    assert_eq!(rt;
+        solver.require_variable(&unknown(2), variable(0, false)),
+        Ok(())
+    );
+    assert_eq!(rt; link(&mut solver, 0, 2), Ok(()));
+    assert_eq!(rt; solver.require_general(&[2], 0, &[1]), Ok(()));
+    let first = solver.require_general(&[2], 1, &[]);
+    assert_eq!(rt; first, Err(Refusal::Unmet(Layer::Rigidity)));
     Ok(())
 }
 

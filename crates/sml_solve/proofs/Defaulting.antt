@@ -1,0 +1,291 @@
+-- Overloaded unknowns that become `int`.
+use Rattle.std.proofs.Common.{◌≡◌, ◌≢◌, ℕ, zero, suc, ◌+◌, ◌<◌, ◌≤◌, ◌⊎◌, inl, inr, Bool, true, false, Option, Some, None, List, [], ◌∷◌, length, map, get_or, sym, ◌∙◌, ap, subst, refl, arith}
+use Rattle.std.specs.Prelude.{Result, Ok, Err, OnOk}
+use Rattle.std.proofs.lemmas.Bool.{cases_lt}
+use Rattle.sml_objects.specs.Names as N
+use Rattle.sml_objects.specs.Initial.{Name, initial}
+use Rattle.sml_objects.specs.Objects as O
+use Rattle.sml_objects.specs.Types.{replace_type, replace_types}
+use Rattle.sml_objects.specs.Views.{types_of}
+use Rattle.sml_solve.specs.declared.class.Names.{Names}
+use Rattle.sml_solve.specs.declared.graph.Graph.{Graph}
+use Rattle.sml_solve.specs.declared.layer.Layer.{Layer}
+use Rattle.sml_solve.specs.declared.layer.Layer.TheVariants.{Equations, Finiteness, Newness, Locality, Equality, Classes, Rigidity}
+use Rattle.sml_solve.specs.declared.limits.Limit.{Limit}
+use Rattle.sml_solve.specs.declared.node.Node.{Node}
+use Rattle.sml_solve.specs.declared.node.Node.TheVariants.{Unknown, Link, App}
+use Rattle.sml_solve.specs.declared.variable.Variables.{Variables}
+use Rattle.sml_solve.specs.declared.variable.Variables.TheVariants as V
+use Rattle.sml_solve.specs.Worlds.{World, finite, infinite, Assignment, Tree, make, tree, typed, spread, spread_all}
+use Rattle.sml_solve.specs.Graphs.{node_at, head_over, Agrees, Meets, IsRootNode}
+use Rattle.sml_solve.specs.Interned.{IsOver, AreOver, through}
+use Rattle.sml_solve.specs.Limits.{limit_at, KeepsAt, IsFitNode}
+use Rattle.sml_solve.specs.Variables.{IsPossible, stand_in}
+use Rattle.sml_solve.specs.Asked.{Asked, asked_of, world, Permits, Demand, equal, Holds, CanMeet, IsFirstUnmet, Adds}
+use Rattle.sml_solve.specs.Overloaded.{IsOverloaded, Settles, has_several, is_several}
+use Rattle.sml_solve.specs.Whole.{IsKept}
+use Rattle.sml_solve.proofs.Merging.{same_or_not}
+use Rattle.sml_solve.proofs.Ranking.{solution-meets, solution-unknown}
+use Rattle.sml_solve.proofs.Owning.{LeadsTo, leads-below}
+use Rattle.sml_solve.proofs.Overloading.{unit, choice-with, types-with, with-there, with-keeps, with-permits, with-type, two-names, with-apart, node-apart, overloaded-yes, overloaded-no}
+
+-- the demand that an unknown is int
+
+typed-free : (w : World) (σ : Assignment w) (v : ℕ) → typed w σ (O.free v) ≡ σ v
+unfolding replace_type spread
+typed-free finite σ v = refl
+typed-free infinite σ v = refl
+
+typed-int : (w : World) (σ : Assignment w) → typed w σ (O.named (initial N.int)) ≡ make w (O.name (initial N.int)) []
+unfolding replace_type replace_types spread spread_all
+typed-int finite σ = refl
+typed-int infinite σ = refl
+
+abbrev pub to_int : ℕ → Demand
+to_int v = equal (O.free v) (O.named (initial N.int))
+
+is-int : (l : Layer) (u : ℕ) (σ : Assignment (world l)) (v : ℕ) → Holds l u σ (to_int v) → σ v ≡ make (world l) (O.name (initial N.int)) []
+is-int l u σ v h = sym (typed-free (world l) σ v) ∙ (h ∙ typed-int (world l) σ)
+
+int-is : (l : Layer) (u : ℕ) (σ : Assignment (world l)) (v : ℕ) → σ v ≡ make (world l) (O.name (initial N.int)) [] → Holds l u σ (to_int v)
+int-is l u σ v e = typed-free (world l) σ v ∙ (e ∙ sym (typed-int (world l) σ))
+
+pub settled-one : (old new : Asked) (v : ℕ) → IsOverloaded old v → Adds old (to_int v) new → Settles old v (v + 1) new
+unfolding Settles Adds
+settled-one old new v o a l σ = (
+  λ p. let q = (a l σ).0 p in (q.0, λ w h k _. let e : v ≡ w = omega (arith, h, k) in subst (λ w. σ w ≡ make (world l) (O.name (initial N.int)) []) e (is-int l old.unit σ v q.1)),
+  λ p. (a l σ).1 (p.0, int-is l old.unit σ v (p.1 v (omega arith) (omega arith) o)),
+)
+
+pub settled-none : (s : Asked) (v : ℕ) → (IsOverloaded s v → ⊥) → Settles s v (v + 1) s
+unfolding Settles
+settled-none s v n l σ = (
+  λ p. (p, λ w h k o. let e : w ≡ v = omega (arith, h, k) in absurd (n (subst (IsOverloaded s) e o))),
+  λ p. p.0,
+)
+
+pub settled-first : (s : Asked) (n m : ℕ) → m ≤ n → Settles s n m s
+unfolding Settles
+settled-first s n m h l σ = (λ p. (p, λ w a k _. absurd (omega (arith, a, k, h))), λ p. p.0)
+
+pub settled-as : (s : Asked) (n m l : ℕ) (new : Asked) → ((v : ℕ) → n ≤ v → v < l → v < m) → ((v : ℕ) → n ≤ v → v < m → v < l) → Settles s n m new → Settles s n l new
+unfolding Settles
+settled-as s n m l new f g x k σ = (
+  λ p. let q = (x k σ).0 p in (q.0, λ v a h. q.1 v a (f v a h)),
+  λ p. (x k σ).1 (p.0, λ v a h. p.1 v a (g v a h)),
+)
+
+-- finite types as infinite ones
+
+spreads : (ts : List (O.MlType Name)) (f : Assignment infinite) → spread_all f (types_of ts) ≡ map (spread f) ts
+unfolding spread_all
+spreads [] f = refl
+spreads (t ∷ ts) f = ap (λ xs. spread f t ∷ xs) (spreads ts f)
+
+map-map : (f : O.MlType Name → Tree) (τ : Assignment finite) (is : List ℕ) → map f (map τ is) ≡ map (λ i. f (τ i)) is
+map-map f τ [] = refl
+map-map f τ (i ∷ is) = ap (λ xs. f (τ i) ∷ xs) (map-map f τ is)
+
+abbrev nothing : Assignment infinite
+nothing v = λ _. None
+
+spread-agrees : (τ : Assignment finite) (i : ℕ) (x : Node) → Agrees finite τ i x → Agrees infinite (λ i. spread nothing (τ i)) i x
+unfolding spread
+spread-agrees τ i Unknown a = tt
+spread-agrees τ i (Link j) a = ap (spread nothing) a
+spread-agrees τ i (App h kids) a = ap (spread nothing) a ∙ ap (tree (head_over h (length kids.items))) (spreads (map τ kids.items) nothing ∙ map-map (spread nothing) τ kids.items)
+
+-- an unknown that is several names
+
+root-node : (ns : List Node) (i r : ℕ) (x : Node) → LeadsTo ns i r → node_at ns r ≡ x → IsRootNode x
+root-node ns i r Unknown t e = tt
+root-node ns i r (Link j) t e = t.root j e
+root-node ns i r (App h kids) t e = tt
+
+stands-int : (c : Option Names) (x : Variables) (e : Bool) → has_several c e ≡ true → IsPossible x e c → stand_in x ≡ O.named (initial N.int)
+stands-int None x e h p = cc
+stands-int (Some c) V.Any e h p = refl
+stands-int (Some c) (V.One x) e h p = absurd p
+stands-int (Some c) V.Several e h p = absurd p
+
+several-node : (u : ℕ) (x : Node) (a : Limit) → is_several x a ≡ true → IsFitNode Rigidity u a x → (x ≡ Unknown) × (has_several a.class a.equality ≡ true) × (stand_in a.variables ≡ O.named (initial N.int))
+several-node u Unknown a e f = (refl, e, stands-int a.class a.variables a.equality e f)
+several-node u (Link j) a e f = cc
+several-node u (App h kids) a e f = cc
+
+module _ (u : ℕ) (us : List ℕ) (g : Graph) (b : Bool) (k : IsKept u g us) (d : 0 ≡ u → ⊥) where
+  abbrev s : Asked
+  s = asked_of u us g b
+
+  abbrev ns : List Node
+  ns = g.nodes.items
+
+  abbrev root : (v : ℕ) → (r : ℕ) × LeadsTo ns (get_or us v 0) r
+  root v = leads-below ns k.whole.sound (suc (get_or us v 0)) (get_or us v 0) (omega arith)
+
+  abbrev many : ℕ → Bool
+  many r = is_several (node_at ns r) (limit_at g.limits.items r)
+
+  many-or-not : (r : ℕ) → (many r ≡ true) ⊎ (many r ≡ false)
+  many-or-not r = cases (many r) where
+    cases : (b : Bool) → (b ≡ true) ⊎ (b ≡ false)
+    cases true = inl refl
+    cases false = inr refl
+
+  root-is : (v : ℕ) → IsRootNode (node_at ns (root v).0)
+  root-is v = root-node ns (get_or us v 0) (root v).0 (node_at ns (root v).0) (root v).1 refl
+
+  overloaded-many : (v : ℕ) → v < length us → IsOverloaded s v → many (root v).0 ≡ true
+  overloaded-many v h o =
+      elim (many-or-not (root v).0) [
+        | inl e ↦ e
+        | inr e ↦ absurd (overloaded-no u us g b k d v h (root v).0 (root v).1.same (root-is v) e o)
+      ]
+
+  many-overloaded : (v : ℕ) → v < length us → many (root v).0 ≡ true → IsOverloaded s v
+  many-overloaded v h e = overloaded-yes u us g b k d v h (root v).0 (root v).1.same (node_at ns (root v).0) refl e
+
+  many-node : (r : ℕ) → many r ≡ true → (node_at ns r ≡ Unknown) × (has_several (limit_at g.limits.items r).class (limit_at g.limits.items r).equality ≡ true) × (stand_in (limit_at g.limits.items r).variables ≡ O.named (initial N.int))
+  many-node r e = several-node u (node_at ns r) (limit_at g.limits.items r) e (k.whole.fit Rigidity r)
+
+  can-meet : (v : ℕ) (τ : Assignment finite) → Meets finite ns τ → ((l : Layer) → KeepsAt l u g.limits.items τ) → through finite us τ v ≡ O.named (initial N.int) → (l : Layer) → CanMeet l s (to_int v)
+  unfolding CanMeet Permits spread spread_all
+  can-meet v τ m f e Equations =
+      let ρ : Assignment infinite = λ i. spread nothing (τ i) in
+      (through infinite us ρ, (ρ, λ i. spread-agrees τ i (node_at ns i) (m i), tt, λ v l. refl), int-is Equations u (through infinite us ρ) v (ap (spread nothing) e))
+  can-meet v τ m f e Finiteness = (through finite us τ, (τ, m, λ l h. f l, λ v l. refl), int-is Finiteness u (through finite us τ) v e)
+  can-meet v τ m f e Newness = (through finite us τ, (τ, m, λ l h. f l, λ v l. refl), int-is Newness u (through finite us τ) v e)
+  can-meet v τ m f e Locality = (through finite us τ, (τ, m, λ l h. f l, λ v l. refl), int-is Locality u (through finite us τ) v e)
+  can-meet v τ m f e Equality = (through finite us τ, (τ, m, λ l h. f l, λ v l. refl), int-is Equality u (through finite us τ) v e)
+  can-meet v τ m f e Classes = (through finite us τ, (τ, m, λ l h. f l, λ v l. refl), int-is Classes u (through finite us τ) v e)
+  can-meet v τ m f e Rigidity = (through finite us τ, (τ, m, λ l h. f l, λ v l. refl), int-is Rigidity u (through finite us τ) v e)
+
+  -- an unknown with a type, and all others with their defaults
+  module _ (v : ℕ) (h : v < length us) where
+    abbrev with : O.MlType Name → Assignment finite
+    with t = types-with u us g b k d v h (root v).0 (root v).1.same t
+
+    with-default : (t : O.MlType Name) (w : ℕ) → w < length us → IsOverloaded s w → (root w).0 ≢ (root v).0 → through finite us (with t) w ≡ O.named (initial N.int)
+    with-default t w l o n =
+        let e = many-node (root w).0 (overloaded-many w l o) in
+        (root w).1.same finite (with t) (solution-meets ns _ k.whole.rank.rank k.whole.rank.ranked)
+        ∙ (solution-unknown ns (choice-with u us g b k d v h (root v).0 (root v).1.same t) k.whole.rank.rank (root w).0 e.0
+        ∙ (with-there u us g b k d v h (root v).0 (root v).1.same t (root w).0 n
+        ∙ e.2))
+
+    -- int can be met in each layer
+    pub can-be-int : IsOverloaded s v → (l : Layer) → CanMeet l s (to_int v)
+    can-be-int o l =
+        let r = (root v).0 in
+        let e = many-node r (overloaded-many v h o) in
+        let j = two-names u us g b k d v h r (root v).1.same (limit_at g.limits.items r).class refl e.0 e.1 in
+        can-meet v (with (O.named (initial N.int))) (solution-meets ns _ k.whole.rank.rank k.whole.rank.ranked) (with-keeps u us g b k d v h r (root v).1.same (O.named (initial N.int)) j.2) (with-type u us g b k d v h r (root v).1.same (O.named (initial N.int)) e.0) l
+
+  -- what is overloaded after some unknowns became int was overloaded before
+  was-overloaded : (n m : ℕ) (cur : Asked) → m ≤ length us → Settles s n m cur → (v : ℕ) → v < length us → IsOverloaded cur v → IsOverloaded s v
+  unfolding Settles
+  was-overloaded n m cur c x v h o =
+      elim (many-or-not (root v).0) [
+        | inl e ↦ many-overloaded v h e
+        | inr e ↦
+            absurd (node-apart u us g b k d v h (root v).0 (root v).1.same o.one o.other ((x Rigidity o.one).0 o.may_be_one).0 ((x Rigidity o.other).0 o.may_be_other).0 o.apart (o.named_so o.one o.may_be_one) (node_at ns (root v).0) refl (root-is v) e (λ p.
+            o.named_so (through finite us (with v h unit)) ((x Rigidity (through finite us (with v h unit))).1 (
+              p,
+              λ w a l q.
+                  let f = overloaded-many w (omega (arith, l, c)) q in
+                  with-default v h unit w (omega (arith, l, c)) q (λ z. let y : true ≡ false = sym f ∙ (ap many z ∙ e) in cc),
+            ))))
+      ]
+
+  -- what was overloaded is so still, unless an unknown that became int is the same
+  still-overloaded : (n m : ℕ) (cur : Asked) → m ≤ length us → Settles s n m cur → (v : ℕ) → v < length us → ((w : ℕ) → n ≤ w → w < m → (root w).0 ≢ (root v).0) → IsOverloaded s v → IsOverloaded cur v
+  unfolding Settles
+  still-overloaded n m cur c x v h apart o =
+      let r = (root v).0 in
+      let e = many-node r (overloaded-many v h o) in
+      let j = two-names u us g b k d v h r (root v).1.same (limit_at g.limits.items r).class refl e.0 e.1 in
+      let up : (t : O.MlType Name) → Permits Rigidity s (through finite us (with v h t)) → Permits Rigidity cur (through finite us (with v h t)) = (λ t p.
+      (x Rigidity (through finite us (with v h t))).1 (p, λ w a l q. with-default v h t w (omega (arith, l, c)) q (apart w a l))) in
+      record {
+        named_so = λ σ p. o.named_so σ ((x Rigidity σ).0 p).0;
+        one = through finite us (with v h (O.named (initial N.int)));
+        other = through finite us (with v h (O.named (initial j.0)));
+        may_be_one = up (O.named (initial N.int)) (with-permits u us g b k d v h r (root v).1.same (O.named (initial N.int)) j.2);
+        may_be_other = up (O.named (initial j.0)) (with-permits u us g b k d v h r (root v).1.same (O.named (initial j.0)) j.3);
+        apart = with-apart u us g b k d v h r (root v).1.same j.0 j.1 e.0;
+      }
+
+  -- an unknown below m that is the same, or none
+  before : (n m r : ℕ) → ((w : ℕ) × (n ≤ w) × (w < m) × ((root w).0 ≡ r)) ⊎ ((w : ℕ) → n ≤ w → w < m → (root w).0 ≢ r)
+  before n zero r = inr (λ w a l q. omega (arith, l))
+  before n (suc m) r =
+      elim (before n m r) [
+        | inl p ↦ inl (p.0, p.1, omega (arith, p.2), p.3)
+        | inr f ↦
+            elim (cases_lt m n) [
+              | inl l ↦ inr (λ w a z q. omega (arith, l, a, z))
+              | inr c ↦
+                  elim (same_or_not (root m).0 r) [
+                    | inl e ↦ inl (m, c, omega arith, e)
+                    | inr x ↦
+                        inr (λ w a l q.
+                        elim (cases_lt w m) [
+                          | inl y ↦ f w a y q
+                          | inr z ↦ let e : w ≡ m = omega (arith, l, z) in x (subst (λ w. (root w).0 ≡ r) e q)
+                        ])
+                  ]
+            ]
+      ]
+
+  same-types : (l : Layer) (σ : Assignment (world l)) (v w : ℕ) → v < length us → w < length us → (root v).0 ≡ (root w).0 → Permits l s σ → σ v ≡ σ w
+  unfolding Permits
+  same-types l σ v w h i e p =
+      sym (p.3 v h) ∙ ((root v).1.same (world l) p.0 p.1 ∙ (ap p.0 e ∙ (sym ((root w).1.same (world l) p.0 p.1) ∙ p.3 w i)))
+
+  pub settled-more : (n m : ℕ) (cur new : Asked) → n ≤ m → m < length us → Settles s n m cur → Settles cur m (m + 1) new → Settles s n (m + 1) new
+  unfolding Settles
+  settled-more n m cur new a h x y l σ = (
+    λ p.
+        let q = (y l σ).0 p in
+        let z = (x l σ).0 q.0 in (
+          z.0,
+          λ v i j o.
+              elim (cases_lt v m) [
+                | inl c ↦ z.1 v i c o
+                | inr c ↦
+                    let e : m ≡ v = omega (arith, c, j) in
+                    let om : IsOverloaded s m = subst (IsOverloaded s) (sym e) o in
+                    subst (λ v. σ v ≡ make (world l) (O.name (initial N.int)) []) e
+                    (elim (before n m (root m).0) [
+                      | inl w ↦
+                          let wl : w.0 < length us = omega (arith, w.2, h) in
+                          same-types l σ m w.0 h wl (sym w.3) z.0 ∙ z.1 w.0 w.1 w.2 (many-overloaded w.0 wl (ap many w.3 ∙ overloaded-many m h om))
+                      | inr f ↦ q.1 m (omega arith) (omega arith) (still-overloaded n m cur (omega (arith, h)) x m h f om)
+                    ])
+              ],
+        ),
+    λ p.
+        (y l σ).1 (
+          (x l σ).1 (p.0, λ v i j o. p.1 v i (omega (arith, j)) o),
+          λ v i j o.
+              let e : m ≡ v = omega (arith, i, j) in
+              let ov : IsOverloaded cur m = subst (IsOverloaded cur) (sym e) o in
+              subst (λ v. σ v ≡ make (world l) (O.name (initial N.int)) []) e (p.1 m a (omega arith) (was-overloaded n m cur (omega (arith, h)) x m h ov)),
+        ),
+  )
+
+pub free-over : (v n : ℕ) → v < n → IsOver n (O.free v)
+unfolding IsOver
+free-over v n h = h
+
+pub int-over : (n : ℕ) → IsOver n (O.named (initial N.int))
+unfolding IsOver AreOver
+int-over n = tt
+
+pub not-unmet : (l : Layer) (s : Asked) (d : Demand) → IsFirstUnmet l s d → CanMeet l s d → ⊥
+unfolding IsFirstUnmet
+not-unmet l s d f c = f.0 c
+
+pub on_ok : {A E : Type 0} (r : Result A E) (P Q : Type 0) → OnOk r P → (P → Q) → OnOk r Q
+on_ok (Ok a) P Q p f = f p
+on_ok (Err e) P Q p f = tt

@@ -1,0 +1,64 @@
+-- Unknowns whose type others fix: those that are in the context of a declaration.
+use Rattle.std.specs.Prelude.{◌≡◌, ℕ, suc, ◌+◌, ◌<◌, ◌⊎◌, ◌++◌, map, Bool, true, false, cond, List, [], ◌∷◌, length, take, slice_index, slice_index_or}
+use Rattle.std.specs.List.{AllByRecursion}
+use Rattle.sml_objects.specs.Initial.{Name}
+use Rattle.sml_objects.specs.Objects.{MlType}
+use Rattle.sml_solve.specs.declared.layer.Layer.TheVariants.{Finiteness}
+use Rattle.sml_solve.specs.declared.node.Node.{Node}
+use Rattle.sml_solve.specs.Worlds.{finite, Assignment}
+use Rattle.sml_solve.specs.Graphs.{node_at, parts, Meets, IsAmong, IsSame, IsRoot}
+use Rattle.sml_solve.specs.Asked.{Asked, count, Permits}
+use Rattle.sml_solve.specs.Left.{MayBe}
+
+-- The types of the first n unknowns and of some others fix that of v: where two assignments give all of these the same
+-- types, they give v one.
+unfoldable pub IsFixed : Asked → ℕ → List ℕ → ℕ → Type 0
+IsFixed s n ws v =
+    (σ τ : Assignment finite) → Permits Finiteness s σ → Permits Finiteness s τ
+    → ((w : ℕ) → w < n → σ w ≡ τ w) → AllByRecursion (λ w. σ w ≡ τ w) ws → σ v ≡ τ v
+
+-- by the equations the unknown may have any type
+abbrev pub IsOpen : Asked → ℕ → Type 0
+IsOpen s v = (t : MlType Name) → MayBe Finiteness s v t
+
+abbrev pub IsMarked : List Bool → ℕ → Type 0
+IsMarked ms i = slice_index_or ms i false ≡ true
+
+-- A flag for each unknown: those with one are fixed, and of those that are open no others are.
+pub record AreFixed (s : Asked) (n : ℕ) (ws : List ℕ) (bs : List Bool) : Type 0 where
+  pub len : length bs ≡ count s
+  pub fixes : (v : ℕ) → v < count s → IsMarked bs v → IsFixed s n ws v
+  pub all : (v : ℕ) → v < count s → IsOpen s v → IsFixed s n ws v → IsMarked bs v
+
+-- the types of these nodes fix that of another
+abbrev pub IsFixedBy : List Node → List ℕ → ℕ → Type 0
+IsFixedBy ns is i = (σ τ : Assignment finite) → Meets finite ns σ → Meets finite ns τ → AllByRecursion (λ k. σ k ≡ τ k) is → σ i ≡ τ i
+
+abbrev pub IsMarkedBut : List Bool → List ℕ → ℕ → Type 0
+IsMarkedBut ms is i = IsMarked ms i ⊎ IsAmong i is
+
+-- The way to all nodes that some lead to: those with a mark were found, and others are left to do.
+pub record IsReach (ns : List Node) (from : List ℕ) (ms : List Bool) (is : List ℕ) : Type 0 where
+  pub len : length ms ≡ length ns
+  pub inside : AllByRecursion (λ i. i < length ns) is
+  pub begun : AllByRecursion (IsMarkedBut ms is) from
+  pub closed : (i : ℕ) → IsMarked ms i → AllByRecursion (IsMarkedBut ms is) (parts (node_at ns i))
+  pub fixed : (i : ℕ) → IsMarked ms i → IsFixedBy ns from i
+  pub left : AllByRecursion (IsFixedBy ns from) is
+
+-- how much is left: the nodes without a mark, with their parts
+abbrev pub unmarked : List Node → List Bool → ℕ
+unmarked [] ms = 0
+unmarked (n ∷ ns) [] = 0
+unmarked (n ∷ ns) (m ∷ ms) = cond m 0 (suc (length (parts n))) + unmarked ns ms
+
+-- For each unknown a flag: whether one of some nodes leads to it.
+pub record AreReached (ns : List Node) (us from : List ℕ) (bs : List Bool) : Type 0 where
+  pub marks : List Bool
+  pub reach : IsReach ns from marks []
+  pub len : length bs ≡ length us
+  pub each : (v : ℕ) → v < length us → (r : ℕ) × IsSame ns (slice_index us v) r × IsRoot ns r × (r < length ns) × (slice_index_or bs v false ≡ slice_index_or marks r false)
+
+-- the places of the first n unknowns and of others
+abbrev pub places_of : List ℕ → ℕ → List ℕ → List ℕ
+places_of us n ws = take n us ++ map (λ w. slice_index us w) ws

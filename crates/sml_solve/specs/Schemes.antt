@@ -1,0 +1,62 @@
+-- Schemes of what a value declaration binds (the Definition, sections 4.5 and 4.8).
+use Rattle.std.specs.Prelude.{◌≡◌, ℕ, ◌↔◌, ◌⊎◌, ◌||◌, Bool, true, false, not, cond, List, [], map, slice_index, slice_index_or, Option, Some, None}
+use Rattle.sml_objects.specs.Equality.{admits}
+use Rattle.sml_objects.specs.Fates.{close_as}
+use Rattle.sml_objects.specs.Initial.{Name, initial, naming}
+use Rattle.sml_objects.specs.Names.{int}
+use Rattle.sml_objects.specs.Objects.{MlType, Scheme, named}
+use Rattle.sml_objects.specs.Types.{variables_after}
+use Rattle.sml_objects.specs.declared.fates.Fate.{Fate}
+use Rattle.sml_objects.specs.declared.fates.Fate.TheVariants.{Bind, Keep, Default}
+use Rattle.sml_solve.specs.declared.class.Names.{Names}
+use Rattle.sml_solve.specs.declared.layer.Layer.TheVariants.{Equality, Classes}
+use Rattle.sml_solve.specs.declared.limits.Limit.{Limit}
+use Rattle.sml_solve.specs.Worlds.{finite, Assignment}
+use Rattle.sml_solve.specs.Limits.{limit_at}
+use Rattle.sml_solve.specs.Asked.{Asked, Permits}
+use Rattle.sml_solve.specs.Left.{IsLeft, IsReading}
+use Rattle.sml_solve.specs.Overloaded.{has_several}
+use Rattle.sml_solve.specs.Fixed.{IsMarked}
+
+-- by its class, the unknown can be no other type than int
+unfoldable pub IsInt : Asked → ℕ → Type 0
+IsInt s v = (σ : Assignment finite) → Permits Classes s σ → σ v ≡ named (initial int)
+
+-- whatever type the unknown becomes admits equality
+unfoldable pub AsksEquality : Asked → ℕ → Type 0
+AsksEquality s v = (σ : Assignment finite) → Permits Equality s σ → admits naming (σ v) ≡ true
+
+-- What becomes of an unknown that is left. Where no type but int is left for it, it is int. Otherwise it is bound, with
+-- its equality attribute and nothing else of what was asked, unless the phrase is expansive or the unknown has a flag.
+abbrev pub IsFateOf : Asked → List Bool → Bool → ℕ → Fate → Type 0
+IsFateOf s bs x v (Bind e) = (IsInt s v → ⊥) × (x ≡ false) × (IsMarked bs v → ⊥) × ((e ≡ true) ↔ AsksEquality s v)
+IsFateOf s bs x v Keep = (IsInt s v → ⊥) × ((x ≡ true) ⊎ IsMarked bs v)
+IsFateOf s bs x v Default = IsInt s v
+
+-- the scheme of a type over unknowns that are left, each of which has its fate
+pub record IsSchemeOfReading (s : Asked) (bs : List Bool) (x : Bool) (r : MlType Name) (θ : Scheme Name) : Type 0 where
+  pub fate : ℕ → Fate
+  pub fates : (v : ℕ) → IsLeft s v → IsFateOf s bs x v (fate v)
+  pub scheme : θ ≡ close_as (named (initial int)) (map fate (variables_after [] r)) r
+
+-- The scheme of a type is that of its reading.
+pub record IsScheme (s : Asked) (bs : List Bool) (x : Bool) (t : MlType Name) (θ : Scheme Name) : Type 0 where
+  pub reading : MlType Name
+  pub reads : IsReading s t reading
+  pub closed : IsSchemeOfReading s bs x reading θ
+
+-- a type has no two schemes
+abbrev pub HasOneScheme : Asked → Type 0
+HasOneScheme s = (bs : List Bool) (x : Bool) (t : MlType Name) (θ η : Scheme Name) → IsScheme s bs x t θ → IsScheme s bs x t η → θ ≡ η
+
+-- whether int is the one name that is left, where equality may be asked
+abbrev pub has_one : Option Names → Bool → Bool
+has_one None e = false
+has_one (Some c) e = not (has_several (Some c) e)
+
+abbrev pub fate_of : Limit → Bool → Bool → Fate
+fate_of a b x = cond (has_one a.class a.equality) Default (cond (x || b) Keep (Bind a.equality))
+
+-- the fate of an unknown, by the limit of its place
+abbrev pub fate_at : List Limit → List ℕ → List Bool → Bool → ℕ → Fate
+fate_at ls us bs x v = fate_of (limit_at ls (slice_index us v)) (slice_index_or bs v false) x

@@ -25,7 +25,7 @@ module _ (text : ℕ → Id) (nodes : List Node) (tokens : List Token) (fitted :
   abbrev pub left : ℕ → ℕ → ℕ → Option Misfit
   left n count i = first_flawed text n count (drop i nodes) (drop n tokens) (drop count fitted)
 
-  split : (i : ℕ) (node d : Node) → i < length nodes → get_or nodes i d ≡ node → drop i nodes ≡ node ∷ drop (i + 1) nodes
+  pub split : (i : ℕ) (node d : Node) → i < length nodes → get_or nodes i d ≡ node → drop i nodes ≡ node ∷ drop (i + 1) nodes
   split i node d w e = drop_more nodes i d w ∙ ap (λ x. x ∷ drop (i + 1) nodes) e
 
   pub leaf_on : (n count i : ℕ) (d : Node) → i < length nodes → n < length tokens → get_or nodes i d ≡ Leaf → left n count i ≡ left (n + 1) count (i + 1)
@@ -38,21 +38,16 @@ module _ (text : ℕ → Id) (nodes : List Node) (tokens : List Token) (fitted :
   passed_on n count i rule d w e b = ap (λ ns. first_flawed text n count ns (drop n tokens) (drop count fitted)) (split i (Inner rule) d w e) ∙ cond-false _ _ _ b
 
   begun_on : (n count i : ℕ) (rule : Rule) (d : Node) → i < length nodes → get_or nodes i d ≡ Inner rule → begins_at rule ≡ true
-      → left n count i ≡ or_else (flaw_here text (suc count) n (own_nodes (drop (i + 1) nodes)) (drop count fitted)) (left n (count + 1) (i + 1))
+      → left n count i ≡ or_else (flaw_here text (suc count) n (own_nodes (Inner rule ∷ drop (i + 1) nodes)) (drop count fitted)) (left n (count + 1) (i + 1))
   begun_on n count i rule d w e b =
       ap (λ ns. first_flawed text n count ns (drop n tokens) (drop count fitted)) (split i (Inner rule) d w e) ∙ cond-true _ _ _ b
-      ∙ ap (λ fs. or_else (flaw_here text (suc count) n (own_nodes (drop (i + 1) nodes)) (drop count fitted)) (first_flawed text n (suc count) (drop (i + 1) nodes) (drop n tokens) fs)) (drop-drop 1 count fitted)
-      ∙ ap (λ k. or_else (flaw_here text (suc count) n (own_nodes (drop (i + 1) nodes)) (drop count fitted)) (first_flawed text n k (drop (i + 1) nodes) (drop n tokens) (drop (count + 1) fitted))) (let s : suc count ≡ count + 1 = omega arith in s)
+      ∙ ap (λ fs. or_else (flaw_here text (suc count) n (own_nodes (Inner rule ∷ drop (i + 1) nodes)) (drop count fitted)) (first_flawed text n (suc count) (drop (i + 1) nodes) (drop n tokens) fs)) (drop-drop 1 count fitted)
+      ∙ ap (λ k. or_else (flaw_here text (suc count) n (own_nodes (Inner rule ∷ drop (i + 1) nodes)) (drop count fitted)) (first_flawed text n k (drop (i + 1) nodes) (drop n tokens) (drop (count + 1) fitted))) (let s : suc count ≡ count + 1 = omega arith in s)
 
   pub next_on : (n count i : ℕ) (rule : Rule) (own : List Node) (flaw : Option Misfit) (d : Node) → i < length nodes → get_or nodes i d ≡ Inner rule → begins_at rule ≡ true
-      → own ≡ own_nodes (drop (i + 1) nodes) → flaw ≡ flaw_here text (suc count) n own (drop count fitted) → flaw ≡ None → left n count i ≡ left n (count + 1) (i + 1)
+      → own ≡ own_nodes (Inner rule ∷ drop (i + 1) nodes) → flaw ≡ flaw_here text (suc count) n own (drop count fitted) → flaw ≡ None → left n count i ≡ left n (count + 1) (i + 1)
   next_on n count i rule own flaw d w e b o f none =
       begun_on n count i rule d w e b ∙ ap (λ m. or_else m (left n (count + 1) (i + 1))) (ap (λ ns. flaw_here text (suc count) n ns (drop count fitted)) (sym o) ∙ sym f ∙ none)
-
-  pub found_on : (n count i : ℕ) (rule : Rule) (own : List Node) (flaw : Option Misfit) (m : Misfit) (d : Node) → i < length nodes → get_or nodes i d ≡ Inner rule → begins_at rule ≡ true
-      → own ≡ own_nodes (drop (i + 1) nodes) → flaw ≡ flaw_here text (suc count) n own (drop count fitted) → flaw ≡ Some m → left n count i ≡ flaw
-  found_on n count i rule own flaw m d w e b o f some =
-      begun_on n count i rule d w e b ∙ ap (λ m. or_else m (left n (count + 1) (i + 1))) (ap (λ ns. flaw_here text (suc count) n ns (drop count fitted)) (sym o) ∙ sym f ∙ some) ∙ sym some
 
 pub none_of : {A : Type 0} (o : Option A) → is_some o ≡ false → o ≡ None
 none_of None e = refl

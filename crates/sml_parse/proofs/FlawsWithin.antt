@@ -1,7 +1,7 @@
 -- Each fault of what a declaration binds stands in its declaration.
 use Rattle.std.proofs.Common.{◌≡◌, ℕ, suc, ◌+◌, ◌-◌, ◌<◌, ◌≤◌, List, [], ◌∷◌, ◌++◌, Bool, true, false, Option, Some, None, drop, cond, refl, sym, ap, ◌∙◌, subst, arith, IfSome}
 use Rattle.std.specs.Prelude.{not, ◌&&◌, nat_le, nat_lt, if◌then◌else◌, slice_get}
-use Rattle.std.specs.List.{cons_option}
+use Rattle.std.specs.List.{cons_option, before_first}
 use Rattle.std.proofs.lemmas.Bool.{and_parts, leb-true, ltb-true}
 use Rattle.std.proofs.lemmas.List.Sums.{take_while-cons}
 use Rattle.sml_lex.specs.declared.fault.Code.{Code}
@@ -155,14 +155,14 @@ begins_same r = agreed _ _ (each_rule (λ r. agree (begins_at r) (begins_next r)
 ends_same : (r : Rule) → ends_at (Inner r) ≡ ends_before r
 ends_same r = agreed _ _ (each_rule (λ r. agree (ends_at (Inner r)) (ends_before r)) refl r)
 
-own_count : (nodes : List Node) → count_tokens (own_nodes nodes) ≡ tokens_before nodes
+own_count : (nodes : List Node) → count_tokens (before_first ends_at nodes) ≡ tokens_before nodes
 own_count [] = refl
 own_count (Leaf ∷ nodes) = ap count_tokens (take_while-cons (λ node. not (ends_at node)) Leaf nodes) ∙ ap suc (own_count nodes)
 own_count (Inner r ∷ nodes) =
     ap count_tokens (take_while-cons (λ node. not (ends_at node)) (Inner r) nodes)
-    ∙ subst (λ (b : Bool). count_tokens (cond (not (ends_at (Inner r))) (Inner r ∷ own_nodes nodes) []) ≡ (if b then 0 else tokens_before nodes)) (ends_same r) (by_end (own_count nodes) (ends_at (Inner r)))
+    ∙ subst (λ (b : Bool). count_tokens (cond (not (ends_at (Inner r))) (Inner r ∷ before_first ends_at nodes) []) ≡ (if b then 0 else tokens_before nodes)) (ends_same r) (by_end (own_count nodes) (ends_at (Inner r)))
   where
-    by_end : count_tokens (own_nodes nodes) ≡ tokens_before nodes → (b : Bool) → count_tokens (cond (not b) (Inner r ∷ own_nodes nodes) []) ≡ (if b then 0 else tokens_before nodes)
+    by_end : count_tokens (before_first ends_at nodes) ≡ tokens_before nodes → (b : Bool) → count_tokens (cond (not b) (Inner r ∷ before_first ends_at nodes) []) ≡ (if b then 0 else tokens_before nodes)
     by_end h true = refl
     by_end h false = h
 
@@ -187,23 +187,23 @@ module _ (text : ℕ → Id) (extents : List Extent) (most : ℕ) where
   either None b h k = k
   either (Some m) b h k = h
 
-  here_placed : (n count : ℕ) (nodes : List Node) (left : List Extent) (flaw : Option Flaw) → n < n + tokens_before nodes → AreLeft count (record { first = n; behind = n + tokens_before nodes } ∷ left) → MaybeOfPhrases flaw
-      → MaybePlaced (flaw_in (suc count) n (own_nodes nodes) flaw)
-  here_placed n count nodes left None some l h = tt
-  here_placed n count nodes left (Some flaw) some l h =
+  here_placed : (r : Rule) (n count : ℕ) (nodes : List Node) (left : List Extent) (flaw : Option Flaw) → n < n + tokens_before nodes → AreLeft count (record { first = n; behind = n + tokens_before nodes } ∷ left) → MaybeOfPhrases flaw
+      → MaybePlaced (flaw_in (suc count) n (own_nodes (Inner r ∷ nodes)) flaw)
+  here_placed r n count nodes left None some l h = tt
+  here_placed r n count nodes left (Some flaw) some l h =
       let c = own_count nodes in (
         record { first = n; behind = n + tokens_before nodes },
         ap (slice_get extents) (let e : suc count - 1 ≡ count + 0 = omega arith in e) ∙ l 0,
         omega arith,
         refl,
-        subst (λ k. IsIn n (n + k) (own_token n (own_nodes nodes) flaw.token)) c (own_in n (own_nodes nodes) flaw.token (omega (arith, c, some))),
+        subst (λ k. IsIn n (n + k) (own_token n (own_nodes (Inner r ∷ nodes)) flaw.token)) c (own_in n (own_nodes (Inner r ∷ nodes)) flaw.token (omega (arith, c, some))),
         h,
       )
 
-  flawed_here : (n count : ℕ) (nodes : List Node) (left : List Extent) (fitted : List Fitted) → n < n + tokens_before nodes → AreLeft count (record { first = n; behind = n + tokens_before nodes } ∷ left)
-      → MaybePlaced (flaw_here text (suc count) n (own_nodes nodes) fitted)
-  flawed_here n count nodes left [] some l = tt
-  flawed_here n count nodes left (f ∷ fitted) some l = here_placed n count nodes left _ some l (first_of _ (all_of text f.fits (own_nodes nodes) (marks_of 0 n (start ∷ []) (own_nodes nodes))))
+  flawed_here : (r : Rule) (n count : ℕ) (nodes : List Node) (left : List Extent) (fitted : List Fitted) → n < n + tokens_before nodes → AreLeft count (record { first = n; behind = n + tokens_before nodes } ∷ left)
+      → MaybePlaced (flaw_here text (suc count) n (own_nodes (Inner r ∷ nodes)) fitted)
+  flawed_here r n count nodes left [] some l = tt
+  flawed_here r n count nodes left (f ∷ fitted) some l = here_placed r n count nodes left _ some l (first_of _ (all_of text f.fits (own_nodes (Inner r ∷ nodes)) (marks_of 0 n (start ∷ []) (own_nodes (Inner r ∷ nodes)))))
 
   pub flawed_placed : (nodes : List Node) (n count : ℕ) (tokens : List Token) (fitted : List Fitted) → HaveTokens most (extents_of n nodes) → AreLeft count (extents_of n nodes)
       → MaybePlaced (first_flawed text n count nodes tokens fitted)
@@ -211,7 +211,7 @@ module _ (text : ℕ → Id) (extents : List Extent) (most : ℕ) where
   flawed_placed (Leaf ∷ nodes) n count [] fitted h l = tt
   flawed_placed (Leaf ∷ nodes) n count (token ∷ tokens) fitted h l = flawed_placed nodes (suc n) count tokens fitted h l
   flawed_placed (Inner r ∷ nodes) n count tokens fitted h l =
-      subst (λ (b : Bool). MaybePlaced (if b then or_else (flaw_here text (suc count) n (own_nodes nodes) fitted) (first_flawed text n (suc count) nodes tokens (drop 1 fitted)) else first_flawed text n count nodes tokens fitted)) (sym (begins_same r))
+      subst (λ (b : Bool). MaybePlaced (if b then or_else (flaw_here text (suc count) n (own_nodes (Inner r ∷ nodes)) fitted) (first_flawed text n (suc count) nodes tokens (drop 1 fitted)) else first_flawed text n count nodes tokens fitted)) (sym (begins_same r))
       (by_begin (begins_next r) h l (flawed_placed nodes n (suc count) tokens (drop 1 fitted)) (flawed_placed nodes n count tokens fitted))
     where
       extent : Extent
@@ -220,6 +220,6 @@ module _ (text : ℕ → Id) (extents : List Extent) (most : ℕ) where
       by_begin : (b : Bool) → HaveTokens most (if b then extent ∷ extents_of n nodes else extents_of n nodes) → AreLeft count (if b then extent ∷ extents_of n nodes else extents_of n nodes)
           → (HaveTokens most (extents_of n nodes) → AreLeft (suc count) (extents_of n nodes) → MaybePlaced (first_flawed text n (suc count) nodes tokens (drop 1 fitted)))
           → (HaveTokens most (extents_of n nodes) → AreLeft count (extents_of n nodes) → MaybePlaced (first_flawed text n count nodes tokens fitted))
-          → MaybePlaced (if b then or_else (flaw_here text (suc count) n (own_nodes nodes) fitted) (first_flawed text n (suc count) nodes tokens (drop 1 fitted)) else first_flawed text n count nodes tokens fitted)
-      by_begin true h l more same = either _ _ (flawed_here n count nodes (extents_of n nodes) fitted h.0.0 l) (more h.1 (λ i. ap (slice_get extents) (let e : suc count + i ≡ count + suc i = omega arith in e) ∙ l (suc i)))
+          → MaybePlaced (if b then or_else (flaw_here text (suc count) n (own_nodes (Inner r ∷ nodes)) fitted) (first_flawed text n (suc count) nodes tokens (drop 1 fitted)) else first_flawed text n count nodes tokens fitted)
+      by_begin true h l more same = either _ _ (flawed_here r n count nodes (extents_of n nodes) fitted h.0.0 l) (more h.1 (λ i. ap (slice_get extents) (let e : suc count + i ≡ count + suc i = omega arith in e) ∙ l (suc i)))
       by_begin false h l more same = same h l

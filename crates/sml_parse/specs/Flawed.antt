@@ -42,9 +42,10 @@ abbrev pub ends_at : Node → Bool
 ends_at (Inner (Units rule)) = unit_ends rule
 ends_at _ = false
 
--- the nodes of the declaration that begins with the first of these
+-- the nodes of the declaration that begins behind the first of these, and that one
 abbrev pub own_nodes : List Node → List Node
-own_nodes nodes = before_first ends_at nodes
+own_nodes [] = []
+own_nodes (node ∷ nodes) = node ∷ before_first ends_at nodes
 
 abbrev pub count_tokens : List Node → ℕ
 count_tokens [] = 0
@@ -75,5 +76,5 @@ first_flawed text n count [] tokens fitted = None
 first_flawed text n count (Leaf ∷ nodes) [] fitted = None
 first_flawed text n count (Leaf ∷ nodes) (token ∷ tokens) fitted = first_flawed text (suc n) count nodes tokens fitted
 first_flawed text n count (Inner rule ∷ nodes) tokens fitted =
-    if begins_at rule then or_else (flaw_here text (suc count) n (own_nodes nodes) fitted) (first_flawed text n (suc count) nodes tokens (drop 1 fitted))
+    if begins_at rule then or_else (flaw_here text (suc count) n (own_nodes (Inner rule ∷ nodes)) fitted) (first_flawed text n (suc count) nodes tokens (drop 1 fitted))
     else first_flawed text n count nodes tokens fitted

@@ -1,6 +1,7 @@
 //! The first fault of what the declarations of a unit bind.
 
-ghost use Rattle.std.specs.Prelude.{◌≡◌, ◌<◌, ◌≤◌, ◌-◌, ◌^◌, suc, map, drop, length, IfOk};
+ghost use Rattle.std.specs.Prelude.{◌≡◌, ◌<◌, ◌≤◌, ◌-◌, ◌^◌, suc, map, take, drop, length, IfOk};
+ghost use Rattle.std.specs.List.{before_first};
 ghost use Rattle.sml_parse.specs.Events.{text_at};
 ghost use Rattle.sml_parse.specs.Fits.{fitted_of};
 ghost use Rattle.sml_parse.specs.Flawed as spec;
@@ -45,15 +46,25 @@ fn ends_at(node: Node) -> bool
     }
 }
 
-/// The nodes of the declaration that begins with the first one.
-fn own(nodes: &[Node]) -> &[Node]
-    ensures { result.now ≡ spec.own_nodes nodes.now }
+/// The nodes before the first where a declaration has ended.
+fn up_to_end(nodes: &[Node]) -> usize
+    ensures within { result ≤ length nodes.now }
+    ensures kept { take result nodes.now ≡ before_first spec.ends_at nodes.now }
 {
     let mut end = 0;
     while end < nodes.len() && !ends_at(nodes[end]) {
         end += 1;
     }
-    &nodes[..end]
+    end
+}
+
+/// The nodes of the declaration that begins behind the node with this number, and that one.
+fn own(nodes: &[Node], number: usize) -> &[Node]
+    requires { number < length nodes.now }
+    ensures { result.now ≡ spec.own_nodes (drop number nodes.now) }
+{
+    let end = up_to_end(&nodes[number + 1..]);
+    &nodes[number..number + 1 + end]
 }
 
 fn count_tokens(nodes: &[Node]) -> usize
@@ -148,7 +159,7 @@ pub fn first_flawed(
             }
             Node::Inner(rule) => {
                 if begins_at(rule) {
-                    let nodes = own(&nodes[i + 1..]);
+                    let nodes = own(nodes, i);
                     let flaw = flaw_here(alloc, unit, tokens, nodes, first, count, fitted)?;
                     if flaw.is_some() {
                         return Ok(flaw);

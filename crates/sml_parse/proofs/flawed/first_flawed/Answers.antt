@@ -2,8 +2,8 @@ use Rattle.std.proofs.Common.{◌≡◌, ℕ, ◌+◌, map, sym, ◌∙◌, ap, 
 use Rattle.sml_parse.specs.Events.{text_at}
 use Rattle.sml_parse.specs.Fits.{fitted_of}
 use Rattle.sml_parse.specs.Flawed.{own_nodes}
-use Rattle.sml_parse.proofs.Declaring.{all_left}
-use Rattle.sml_parse.proofs.FirstFlaws.{left, none_of, leaf_on, passed_on, next_on}
+use Rattle.sml_read.specs.declared.grammar.Node.TheVariants.{Inner}
+use Rattle.sml_parse.proofs.FirstFlaws.{left, split, none_of, leaf_on, passed_on, next_on}
 use Rattle.sml_parse.proofs.flawed.first_flawed.Goals.{in-Leaf+else-first-tokens, in-Inner+then-begins_at+in_ok-flaw-in-Inner+else-is_some, in-Inner+else-begins_at}
 use Rattle.sml_parse.proofs.flawed.first_flawed.Goals as goal
 
@@ -24,7 +24,7 @@ loop-i-preserved c =
         few = omega (arith, w.count-is, inv.few);
       }
       | in-Inner+then-begins_at+in_ok-flaw-in-Inner+else-is_some w ↦ record {
-        kept = inv.kept ∙ next_on text nodes tokens fitted n count i w.in-Inner.rule w.own-nodes.result.now w.in_ok-flaw-in-Inner.flaw _ c.loop-i-test.true w.in-Inner.is (sym w.begins_at.ensures ∙ w.if-begins_at.true) (w.own-nodes.ensures ∙ ap own_nodes (all_left nodes (i + 1))) w.in_ok-flaw-in-Inner.ensures (none_of _ (sym w.is_some.ensures ∙ w.if-is_some.false)) ∙ moved _ _ (sym w.first-is) (sym w.count-is);
+        kept = inv.kept ∙ next_on text nodes tokens fitted n count i w.in-Inner.rule w.own-nodes.result.now w.in_ok-flaw-in-Inner.flaw _ c.loop-i-test.true w.in-Inner.is (sym w.begins_at.ensures ∙ w.if-begins_at.true) (w.own-nodes.ensures ∙ ap own_nodes (split text nodes tokens fitted i (Inner w.in-Inner.rule) _ c.loop-i-test.true w.in-Inner.is)) w.in_ok-flaw-in-Inner.ensures (none_of _ (sym w.is_some.ensures ∙ w.if-is_some.false)) ∙ moved _ _ (sym w.first-is) (sym w.count-is);
         within = omega (arith, w.first-is, inv.within);
         few = omega (arith, w.count-is, inv.few);
       }

@@ -1,0 +1,1 @@
+fn (x : 'a) => let val 'a y = x in y end;

@@ -152,6 +152,11 @@ clause_rules (c ∷ cs) = and_rule (clause_rule c) (clause_rules cs)
 abbrev pub function_of : {P : Type 0} → Id → Clause P → List (Clause P) → ValBind P
 function_of f c cs = bind (pat_var c.place f) (curried c.place 1 (count c.pats) (case_of c.place (row_of c.place (hidden_from c.place 1 (count c.pats))) (clause_rules (c ∷ cs))))
 
+-- a signature expression behind `:` or `:>`
+pub record Constraint (P : Type 0) : Type 0 where
+  pub ascription : Ascription
+  pub signature : SigExp P
+
 -- `structure A : S = e`, also with `:>`
 abbrev pub structure_of : {P : Type 0} → Name P → Ascription → SigExp P → StrExp P → StrBind P
 structure_of x a s e = str_bind x (ascribed x.place e a s)

@@ -36,7 +36,7 @@ list_all-low : {A : Type 0} (p : A → Bool) (xs ys : List A) → list_all p xs 
 list_all-low p xs ys h = list_all-append p xs ys ∙ ap (λ b. b && list_all p ys) h
 
 -- so many at most of two lists, of which the first is within that
-abbrev left : Option ℕ → ℕ → Option ℕ
+abbrev pub left : Option ℕ → ℕ → Option ℕ
 left None count = None
 left (Some most) count = Some (most - count)
 
@@ -48,16 +48,16 @@ take_past : {A : Type 0} (xs ys : List A) (k : ℕ) → take (length xs + k) (xs
 take_past [] ys k = ap (λ n. take n ys) (let e : 0 + k ≡ k = omega arith in e)
 take_past (x ∷ xs) ys k = ap (λ n. take n (x ∷ (xs ++ ys))) (let e : suc (length xs) + k ≡ suc (length xs + k) = omega arith in e) ∙ ap (λ zs. x ∷ zs) (take_past xs ys k)
 
-up_to-append : {A : Type 0} (most : Option ℕ) (xs ys : List A) → IsShort most (length xs) → up_to most (xs ++ ys) ≡ xs ++ up_to (left most (length xs)) ys
+pub up_to-append : {A : Type 0} (most : Option ℕ) (xs ys : List A) → IsShort most (length xs) → up_to most (xs ++ ys) ≡ xs ++ up_to (left most (length xs)) ys
 up_to-append None xs ys s = refl
 up_to-append (Some most) xs ys s = ap (λ n. take n (xs ++ ys)) (let e : most ≡ length xs + (most - length xs) = omega (arith, s) in e) ∙ take_past xs ys (most - length xs)
 
 -- where another may come
-abbrev fewer : Option ℕ → Option ℕ
+abbrev pub fewer : Option ℕ → Option ℕ
 fewer None = None
 fewer (Some n) = Some (n - 1)
 
-up_to-more : {A : Type 0} (most : Option ℕ) (count : ℕ) (y : A) (ys : List A) → is_full most count ≡ false → up_to (left most count) (y ∷ ys) ≡ y ∷ up_to (fewer (left most count)) ys
+pub up_to-more : {A : Type 0} (most : Option ℕ) (count : ℕ) (y : A) (ys : List A) → is_full most count ≡ false → up_to (left most count) (y ∷ ys) ≡ y ∷ up_to (fewer (left most count)) ys
 up_to-more None count y ys f = refl
 up_to-more (Some most) count y ys f =
     let l = leb-false most count f in
@@ -65,11 +65,11 @@ up_to-more (Some most) count y ys f =
     ap (λ n. take n (y ∷ ys)) e
 
 -- where none may
-up_to-none : {A : Type 0} (most : Option ℕ) (count : ℕ) (ys : List A) → is_full most count ≡ true → up_to (left most count) ys ≡ []
+pub up_to-none : {A : Type 0} (most : Option ℕ) (count : ℕ) (ys : List A) → is_full most count ≡ true → up_to (left most count) ys ≡ []
 up_to-none None count ys f = absurd (false_is_true f)
 up_to-none (Some most) count ys f = ap (λ n. take n ys) (let l = leb-true most count f in let e : most - count ≡ 0 = omega (arith, l) in e)
 
-up_to-nil : {A : Type 0} (most : Option ℕ) → up_to {A = A} most [] ≡ []
+pub up_to-nil : {A : Type 0} (most : Option ℕ) → up_to {A = A} most [] ≡ []
 up_to-nil None = refl
 up_to-nil (Some zero) = refl
 up_to-nil (Some (suc n)) = refl

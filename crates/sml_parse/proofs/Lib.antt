@@ -21,3 +21,6 @@ mod MisfitsWithin
 mod FlawsWithin
 pub mod PlacesWithin
 mod FirstFlaws
+pub mod Sourcing
+mod Making
+mod Wholes

@@ -13,7 +13,8 @@ use Rattle.sml_parse.specs.declared.mark.Mark.{Mark}
 use Rattle.sml_parse.specs.declared.mark.Mark.TheVariants as M
 use Rattle.sml_parse.specs.declared.known.Key as P
 use Rattle.sml_parse.specs.declared.known.Position.{Position}
-use Rattle.sml_parse.specs.Fits.{Fit, Shape, tree, headed}
+use Rattle.sml_derived.specs.Shapes.{Shape, tree, headed}
+use Rattle.sml_parse.specs.Fits.{Fit}
 
 abbrev pub space_number : Space → ℕ
 space_number S.Labels = 0

@@ -21,3 +21,6 @@ pub mod Flaws
 pub mod Flawed
 pub mod Trees
 pub mod Within
+pub mod Derivations
+pub mod Sources
+pub mod SourceViews

@@ -24,7 +24,8 @@ use Rattle.sml_parse.specs.declared.reach.Outcome.TheVariants as V
 use Rattle.sml_parse.specs.declared.reach.Gathered.{Gathered}
 use Rattle.sml_parse.specs.Founds.{Name, Atom, short, name_of}
 use Rattle.sml_parse.specs.Events.{Event, begins, enters, leaves, directs, expression, pattern, head}
-use Rattle.sml_parse.specs.Fits.{Shape, Fit, Fitted, tree, headed, fit_of, fitted_of}
+use Rattle.sml_derived.specs.Shapes.{Shape, tree, headed}
+use Rattle.sml_parse.specs.Fits.{Fit, Fitted, fit_of, fitted_of}
 
 -- The fixities in force, those at the beginning of each open scope, the innermost first, how many declarations have
 -- begun, and the first token of the last of them.

@@ -1,16 +1,6 @@
 //! What sequences of atomic phrases stand for, by declaration.
 
-use sml_fixity::heads::Head;
-use sml_fixity::sequences::Operand;
-
-/// What a sequence of atomic phrases stands for.
-#[derive(Drop)]
-pub enum Shape {
-    /// An expression or a pattern.
-    Tree(Operand),
-    /// The head of a clause.
-    Head(Head),
-}
+use sml_derived::shape::Shape;
 
 /// A sequence, by its first token.
 #[derive(Drop)]

@@ -15,7 +15,7 @@ use sml_read::grammar::{Node, Rule, UnitRule};
 use std::alloc::Global;
 
 /// Whether a declaration begins behind this rule.
-fn begins_at(rule: Rule) -> bool
+pub fn begins_at(rule: Rule) -> bool
     ensures { result ≡ spec.begins_at rule }
 {
     match rule {
@@ -56,6 +56,13 @@ fn up_to_end(nodes: &[Node]) -> usize
         end += 1;
     }
     end
+}
+
+/// The nodes of the declaration that begins with the first of these.
+pub fn before_end(nodes: &[Node]) -> &[Node]
+    ensures { result.now ≡ before_first spec.ends_at nodes.now }
+{
+    &nodes[..up_to_end(nodes)]
 }
 
 /// The nodes of the declaration that begins behind the node with this number, and that one.

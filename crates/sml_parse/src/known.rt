@@ -12,11 +12,12 @@ ghost use Rattle.sml_parse.specs.Fits.{fit_of};
 ghost use Rattle.sml_parse.specs.Known as spec;
 ghost use Rattle.sml_parse.specs.Known.{key_of, KnowsKeys, KnowsAtoms, KnowsCounts, KnowsUses, KnowsHeads};
 
-use crate::fitted::{Fit, Shape};
+use crate::fitted::Fit;
 use crate::mark::Mark;
 use crate::place::text;
 use crate::role::Space;
 use indexmap::{IndexMap, IndexSet};
+use sml_derived::shape::Shape;
 use sml_fixity::heads::Head;
 use sml_fixity::sequences::Step;
 use sml_lex::fault::Memory;

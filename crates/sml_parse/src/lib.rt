@@ -2,6 +2,8 @@
 #![tactic(auto)]
 
 mod build;
+#[cfg(test)]
+mod derived_forms;
 mod event;
 mod fitted;
 mod flaw;
@@ -20,5 +22,7 @@ mod reach;
 mod role;
 mod sense;
 mod sort;
+mod source;
 mod stack;
 mod tall;
+mod whole;

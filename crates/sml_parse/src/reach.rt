@@ -9,13 +9,15 @@ ghost use Rattle.sml_parse.specs.Founds as founds;
 ghost use Rattle.sml_parse.specs.Founds.{name_of, atoms_of};
 ghost use Rattle.sml_parse.specs.Events.{seen, text_at, directs};
 ghost use Rattle.sml_parse.specs.Reach as spec;
-ghost use Rattle.sml_parse.specs.Fits.{shape_of, fitted_of};
+ghost use Rattle.sml_derived.specs.Shapes.{shape_of};
+ghost use Rattle.sml_parse.specs.Fits.{fitted_of};
 ghost use Rattle.sml_parse.specs.Reach.{state_of, start, AreItems, first_inner, ids_of, level_text, level_token, misfit_of, idle, fit_at, outcome_of, Happens, Outcomes, misfit_in, misfits_in, declarations_in, AreGathered, first_misfit, before_misfit, up_to, AreFitted};
 
 use crate::event::Event;
-use crate::fitted::{Fit, Fitted, Shape};
+use crate::fitted::{Fit, Fitted};
 use crate::found::Atom;
 use crate::place::text;
+use sml_derived::shape::Shape;
 use sml_fixity::heads::clause_head;
 use sml_fixity::scopes::{Directive, DirectiveFault, Fixities};
 use sml_fixity::sequences::{FixFault, Item, resolve, resolve_pattern};

@@ -14,6 +14,9 @@ pub mod Owning
 pub mod Overloading
 pub mod Defaulting
 pub mod Reaching
+pub mod Levelling
 pub mod Fixing
 pub mod Fated
 pub mod Uniqueness
+pub mod Renaming
+pub mod Agreeing

@@ -122,7 +122,7 @@ pub front-inside : (P : ℕ → Type 0) (xs : List ℕ) (x : ℕ) → AllByRecur
 front-inside P [] x a = (tt, a.0)
 front-inside P (y ∷ xs) x a = let r = front-inside P xs x a.1 in ((a.0, r.0), r.1)
 
-all-among : (P : ℕ → Type 0) (ks : List ℕ) (i : ℕ) → AllByRecursion P ks → IsAmong i ks → P i
+pub all-among : (P : ℕ → Type 0) (ks : List ℕ) (i : ℕ) → AllByRecursion P ks → IsAmong i ks → P i
 all-among P [] i a m = absurd m
 all-among P (k ∷ ks) i a m = elim m [ inl e ↦ rw e a.0 | inr r ↦ all-among P ks i a.1 r ]
 

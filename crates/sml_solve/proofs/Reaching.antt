@@ -41,7 +41,7 @@ among-part : (P : ℕ → Type 0) (ks : List ℕ) (k : ℕ) → AllByRecursion P
 among-part P [] k a m = absurd m
 among-part P (j ∷ ks) k a m = elim m [ inl e ↦ rw e a.0 | inr r ↦ among-part P ks k a.1 r ]
 
-parts-fixed : (ns : List Node) (from : List ℕ) (i : ℕ) → IsFixedBy ns from i → AllByRecursion (IsFixedBy ns from) (parts (node_at ns i))
+pub parts-fixed : (ns : List Node) (from : List ℕ) (i : ℕ) → IsFixedBy ns from i → AllByRecursion (IsFixedBy ns from) (parts (node_at ns i))
 parts-fixed ns from i f =
     all-these (IsFixedBy ns from) (parts (node_at ns i)) (λ k m σ τ a b c.
     among-part (λ k. σ k ≡ τ k) (parts (node_at ns i)) k (parts-same σ τ i (node_at ns i) (a i) (b i) (f σ τ a b c)) m)

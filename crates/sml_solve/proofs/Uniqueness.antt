@@ -17,14 +17,14 @@ use Rattle.sml_solve.proofs.Merging.{all-append}
 use Rattle.sml_solve.proofs.Searching.{all-parts}
 
 -- each unknown that is left may stand for itself
-own : (s : Asked) → IsMostGeneral s → (σ : Assignment finite) × Permits Finiteness s σ × ((v : ℕ) → IsLeft s v → σ v ≡ O.free v)
+pub own : (s : Asked) → IsMostGeneral s → (σ : Assignment finite) × Permits Finiteness s σ × ((v : ℕ) → IsLeft s v → σ v ≡ O.free v)
 unfolding IsMostGeneral MayBe
 own s m = let h = m Finiteness (omega arith) (λ v. O.free v) (λ v l. l.any (O.free v)) in (h.0, h.1, h.2)
 
 mutual
   unfolding IsMadeOf AreMadeOf replace_type replace_types
 
-  stays : (P : ℕ → Type 0) (σ : Assignment finite) (t : O.MlType Name) → ((v : ℕ) → P v → σ v ≡ O.free v) → IsMadeOf P t → assign σ t ≡ t
+  pub stays : (P : ℕ → Type 0) (σ : Assignment finite) (t : O.MlType Name) → ((v : ℕ) → P v → σ v ≡ O.free v) → IsMadeOf P t → assign σ t ≡ t
   stays P σ (O.bound k) f m = absurd m
   stays P σ (O.free v) f m = f v m
   stays P σ (O.app h ts) f m = ap (O.app h) (all-stay P σ ts f m)
@@ -33,7 +33,7 @@ mutual
   all-stay P σ O.no_type f m = refl
   all-stay P σ (O.and_type t ts) f m = λ i. O.and_type (stays P σ t f m.0 i) (all-stay P σ ts f m.1 i)
 
-one-reading : (s : Asked) (t r q : O.MlType Name) → IsMostGeneral s → IsReading s t r → IsReading s t q → r ≡ q
+pub one-reading : (s : Asked) (t r q : O.MlType Name) → IsMostGeneral s → IsReading s t r → IsReading s t q → r ≡ q
 unfolding IsReading
 one-reading s t r q m a b =
     let o = own s m in
@@ -48,7 +48,7 @@ seen-also P v false seen a h = all-append P seen (v ∷ []) a (h, tt)
 mutual
   unfolding IsMadeOf AreMadeOf variables_after variables_after_all
 
-  variables-made : (P : ℕ → Type 0) (seen : List ℕ) (t : O.MlType Name) → AllByRecursion P seen → IsMadeOf P t → AllByRecursion P (variables_after seen t)
+  pub variables-made : (P : ℕ → Type 0) (seen : List ℕ) (t : O.MlType Name) → AllByRecursion P seen → IsMadeOf P t → AllByRecursion P (variables_after seen t)
   variables-made P seen (O.bound k) a m = absurd m
   variables-made P seen (O.free v) a m = seen-also P v (is_among v seen) seen a m
   variables-made P seen (O.app h ts) a m = all-variables-made P seen ts a m
@@ -68,7 +68,7 @@ same-flag false false p q = refl
 bind-keep : (s : Asked) (bs : List Bool) (x : Bool) (v : ℕ) (e : Bool) → IsFateOf s bs x v (Bind e) → IsFateOf s bs x v Keep → ⊥
 bind-keep s bs x v e p q = elim q.1 [ inl y ↦ let z : true ≡ false = sym y ∙ p.1 in cc | inr m ↦ p.2 m ]
 
-one-fate : (s : Asked) (bs : List Bool) (x : Bool) (v : ℕ) (f g : Fate) → IsFateOf s bs x v f → IsFateOf s bs x v g → f ≡ g
+pub one-fate : (s : Asked) (bs : List Bool) (x : Bool) (v : ℕ) (f g : Fate) → IsFateOf s bs x v f → IsFateOf s bs x v g → f ≡ g
 one-fate s bs x v (Bind a) (Bind b) p q = ap Bind (same-flag a b p.3 q.3)
 one-fate s bs x v (Bind a) Keep p q = absurd (bind-keep s bs x v a p q)
 one-fate s bs x v (Bind a) Default p q = absurd (p.0 q)
@@ -79,7 +79,7 @@ one-fate s bs x v Default (Bind b) p q = absurd (q.0 p)
 one-fate s bs x v Default Keep p q = absurd (q.0 p)
 one-fate s bs x v Default Default p q = refl
 
-same-fates : (f g : ℕ → Fate) (vs : List ℕ) → AllByRecursion (λ v. f v ≡ g v) vs → map f vs ≡ map g vs
+pub same-fates : (f g : ℕ → Fate) (vs : List ℕ) → AllByRecursion (λ v. f v ≡ g v) vs → map f vs ≡ map g vs
 same-fates f g [] a = refl
 same-fates f g (v ∷ vs) a = λ i. a.0 i ∷ same-fates f g vs a.1 i
 

@@ -1,12 +1,12 @@
 -- Unknowns whose type others fix: those that are in the context of a declaration.
-use Rattle.std.specs.Prelude.{◌≡◌, ℕ, suc, ◌+◌, ◌<◌, ◌⊎◌, ◌++◌, map, Bool, true, false, cond, List, [], ◌∷◌, length, take, slice_index, slice_index_or}
+use Rattle.std.specs.Prelude.{◌≡◌, ℕ, suc, ◌+◌, ◌<◌, ◌⊎◌, map, Bool, true, false, cond, List, [], ◌∷◌, length, slice_index, slice_index_or}
 use Rattle.std.specs.List.{AllByRecursion}
 use Rattle.sml_objects.specs.Initial.{Name}
 use Rattle.sml_objects.specs.Objects.{MlType}
 use Rattle.sml_solve.specs.declared.layer.Layer.TheVariants.{Finiteness}
 use Rattle.sml_solve.specs.declared.node.Node.{Node}
 use Rattle.sml_solve.specs.Worlds.{finite, Assignment}
-use Rattle.sml_solve.specs.Graphs.{node_at, parts, Meets, IsAmong, IsSame, IsRoot}
+use Rattle.sml_solve.specs.Graphs.{node_at, parts, Meets, IsAmong}
 use Rattle.sml_solve.specs.Asked.{Asked, count, Permits}
 use Rattle.sml_solve.specs.Left.{MayBe}
 
@@ -52,13 +52,12 @@ unmarked [] ms = 0
 unmarked (n ∷ ns) [] = 0
 unmarked (n ∷ ns) (m ∷ ms) = cond m 0 (suc (length (parts n))) + unmarked ns ms
 
--- For each unknown a flag: whether one of some nodes leads to it.
-pub record AreReached (ns : List Node) (us from : List ℕ) (bs : List Bool) : Type 0 where
-  pub marks : List Bool
-  pub reach : IsReach ns from marks []
-  pub len : length bs ≡ length us
-  pub each : (v : ℕ) → v < length us → (r : ℕ) × IsSame ns (slice_index us v) r × IsRoot ns r × (r < length ns) × (slice_index_or bs v false ≡ slice_index_or marks r false)
+-- Nodes with a mark: some nodes and all that they lead to.
+pub record AreMarks (ns : List Node) (from : List ℕ) (ms : List Bool) : Type 0 where
+  pub begun : AllByRecursion (IsMarked ms) from
+  pub closed : (i : ℕ) → IsMarked ms i → AllByRecursion (IsMarked ms) (parts (node_at ns i))
+  pub fixed : (i : ℕ) → IsMarked ms i → IsFixedBy ns from i
 
--- the places of the first n unknowns and of others
-abbrev pub places_of : List ℕ → ℕ → List ℕ → List ℕ
-places_of us n ws = take n us ++ map (λ w. slice_index us w) ws
+-- the places of some unknowns
+abbrev pub places_of : List ℕ → List ℕ → List ℕ
+places_of us ws = map (λ w. slice_index us w) ws

@@ -14,4 +14,5 @@ pub mod Left
 pub mod Reads
 pub mod Overloaded
 pub mod Fixed
+pub mod Levels
 pub mod Schemes

@@ -9,11 +9,12 @@ use Rattle.sml_objects.specs.Types.{variables_after}
 use Rattle.sml_objects.specs.declared.fates.Fate.{Fate}
 use Rattle.sml_objects.specs.declared.fates.Fate.TheVariants.{Bind, Keep, Default}
 use Rattle.sml_solve.specs.declared.class.Names.{Names}
-use Rattle.sml_solve.specs.declared.layer.Layer.TheVariants.{Equality, Classes}
+use Rattle.sml_solve.specs.declared.layer.Layer.{Layer}
+use Rattle.sml_solve.specs.declared.layer.Layer.TheVariants.{Finiteness, Equality, Classes}
 use Rattle.sml_solve.specs.declared.limits.Limit.{Limit}
-use Rattle.sml_solve.specs.Worlds.{finite, Assignment}
+use Rattle.sml_solve.specs.Worlds.{finite, In, Assignment, typed}
 use Rattle.sml_solve.specs.Limits.{limit_at}
-use Rattle.sml_solve.specs.Asked.{Asked, Permits}
+use Rattle.sml_solve.specs.Asked.{Asked, Permits, world}
 use Rattle.sml_solve.specs.Left.{IsLeft, IsReading}
 use Rattle.sml_solve.specs.Overloaded.{has_several}
 use Rattle.sml_solve.specs.Fixed.{IsMarked}
@@ -48,6 +49,28 @@ pub record IsScheme (s : Asked) (bs : List Bool) (x : Bool) (t : MlType Name) (�
 -- a type has no two schemes
 abbrev pub HasOneScheme : Asked → Type 0
 HasOneScheme s = (bs : List Bool) (x : Bool) (t : MlType Name) (θ η : Scheme Name) → IsScheme s bs x t θ → IsScheme s bs x t η → θ ≡ η
+
+-- By what was asked in the layers up to this one, the type may be this one.
+unfoldable pub MayBecome : (l : Layer) → Asked → MlType Name → In (world l) → Type 0
+MayBecome l s t a = (σ : Assignment (world l)) × Permits l s σ × (typed (world l) σ t ≡ a)
+
+abbrev pub MayBecomeSame : Layer → Asked → MlType Name → Asked → MlType Name → Type 0
+MayBecomeSame l s t r q = (a : In (world l)) → MayBecome l s t a ↔ MayBecome l r q a
+
+-- Two types, each over the unknowns of a solver of its own, may become the same types: by the equations, where equality is
+-- asked too, and where classes are.
+pub record AreAlike (s : Asked) (t : MlType Name) (r : Asked) (q : MlType Name) : Type 0 where
+  pub finite_types : MayBecomeSame Finiteness s t r q
+  pub with_equality : MayBecomeSame Equality s t r q
+  pub with_classes : MayBecomeSame Classes s t r q
+
+-- no unknown is fixed
+abbrev pub HasNoFlag : List Bool → Type 0
+HasNoFlag bs = (v : ℕ) → IsMarked bs v → ⊥
+
+-- Types that are alike have one scheme, whatever unknowns they were made of.
+abbrev pub GiveOneScheme : Asked → Asked → Type 0
+GiveOneScheme s r = (t q : MlType Name) (bs cs : List Bool) (θ η : Scheme Name) → AreAlike s t r q → HasNoFlag bs → HasNoFlag cs → IsScheme s bs false t θ → IsScheme r cs false q η → θ ≡ η
 
 -- whether int is the one name that is left, where equality may be asked
 abbrev pub has_one : Option Names → Bool → Bool

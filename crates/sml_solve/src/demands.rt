@@ -1,10 +1,11 @@
 //! Demands on the types of a graph.
 
-ghost use Rattle.std.specs.Prelude.{◌≡◌, false, ◌<◌, length, IfOk, OnOk, Err};
+ghost use Rattle.std.specs.Prelude.{◌≡◌, false, ◌<◌, [], length, IfOk, OnOk, Err};
 ghost use Rattle.sml_objects.specs.Views.{type_of, maker_of};
 ghost use Rattle.sml_solve.specs.declared.layer.Layer.{Layer};
 ghost use Rattle.sml_solve.specs.Interned.{IsOver};
 ghost use Rattle.sml_solve.specs.Asked.{asked_of, equal, asks, Adds, CanMeet, IsFirstUnmet};
+ghost use Rattle.sml_solve.specs.Levels.{Moves};
 ghost use Rattle.sml_solve.specs.Whole.{IsFull, IsKept, LowersLimit};
 
 use crate::graph::{Graph, add, finish, merge_two};
@@ -14,7 +15,7 @@ use sml_lex::fault::Memory;
 use sml_objects::objects::{MlType, UnitId};
 use std::alloc::Global;
 
-/// Demands that two types are equal.
+/// Demands that two types are equal. Gives the nodes that may have changed.
 pub(crate) fn equate(
     alloc: Global,
     unit: UnitId,
@@ -22,10 +23,11 @@ pub(crate) fn equate(
     unknowns: &[usize],
     left: &MlType,
     right: &MlType,
-) -> Result<(), Refusal>
+) -> Result<Vec<usize>, Refusal>
     requires kept { IsKept (maker_of unit) graph.old unknowns.now }
     requires left { IsOver (length unknowns.now) (type_of left.now) }
     requires right { IsOver (length unknowns.now) (type_of right.now) }
+    ensures moves { IfOk result (λ changed. Moves graph.old.nodes.items graph.new.nodes.items changed.items) }
     ensures kept { OnOk result (IsKept (maker_of unit) graph.new unknowns.now) }
     ensures ok { OnOk result (Adds (asked_of (maker_of unit) unknowns.now graph.old false) (equal (type_of left.now) (type_of right.now)) (asked_of (maker_of unit) unknowns.now graph.new false)) }
     ensures met { OnOk result ((l : Layer) → CanMeet l (asked_of (maker_of unit) unknowns.now graph.old false) (equal (type_of left.now) (type_of right.now))) }
@@ -42,7 +44,7 @@ pub(crate) fn equate(
         Err(refusal) => Err(refusal),
         Ok(changed) => match finish(alloc, graph, unit, changed.as_slice()) {
             Err(refusal) => Err(refusal),
-            Ok(()) => Ok(()),
+            Ok(()) => Ok(changed),
         },
     }
 }
@@ -58,6 +60,7 @@ pub(crate) fn impose(
 ) -> Result<(), Refusal>
     requires kept { IsKept (maker_of unit) graph.old unknowns.now }
     requires known { IsOver (length unknowns.now) (type_of ty.now) }
+    ensures moves { OnOk result (Moves graph.old.nodes.items graph.new.nodes.items []) }
     ensures kept { OnOk result (IsKept (maker_of unit) graph.new unknowns.now) }
     ensures ok { OnOk result (Adds (asked_of (maker_of unit) unknowns.now graph.old false) (asks ask (type_of ty.now)) (asked_of (maker_of unit) unknowns.now graph.new false)) }
     ensures met { OnOk result ((l : Layer) → CanMeet l (asked_of (maker_of unit) unknowns.now graph.old false) (asks ask (type_of ty.now))) }

@@ -9,6 +9,7 @@ mod finite;
 mod graph;
 mod intern;
 pub mod layer;
+mod levels;
 mod limits;
 mod merge;
 mod node;

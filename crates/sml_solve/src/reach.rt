@@ -1,12 +1,11 @@
 //! The nodes that some nodes lead to.
 
-ghost use Rattle.std.specs.Prelude.{◌≡◌, ℕ, ◌<◌, ◌≤◌, ◌++◌, [], length, IfOk, OnOk};
+ghost use Rattle.std.specs.Prelude.{◌≡◌, ℕ, ◌<◌, ◌++◌, [], length, IfOk, OnOk};
 ghost use Rattle.std.specs.Bool.{OnTrue, OnFalse};
 ghost use Rattle.std.specs.List.{AllByRecursion};
 ghost use Rattle.sml_solve.specs.Graphs.{IsAmong, IsSound, parts};
-ghost use Rattle.sml_solve.specs.Fixed.{IsMarked, IsReach, AreReached, places_of};
+ghost use Rattle.sml_solve.specs.Fixed.{IsMarked, IsReach, AreMarks, places_of};
 
-use crate::count::root_of;
 use crate::node::Node;
 use sml_lex::fault::Memory;
 use std::alloc::Global;
@@ -41,42 +40,33 @@ pub(crate) fn reached(alloc: Global, nodes: &[Node], from: &[usize]) -> Result<V
     Ok(marks)
 }
 
-/// The places of the first unknowns, and of others.
+/// The same. The nodes at the end that get no mark may be missing: where no node is given, nothing is gone through.
+pub(crate) fn marks_from(alloc: Global, nodes: &[Node], from: &[usize]) -> Result<Vec<bool>, Memory>
+    requires sound { IsSound nodes.now }
+    requires inside { AllByRecursion (λ i. i < length nodes.now) from.now }
+    ensures { IfOk result (λ marks. AreMarks nodes.now from.now marks.items) }
+{
+    if from.is_empty() {
+        return Ok(Vec::new(alloc));
+    }
+    let marks = reached(alloc, nodes, from)?;
+    Ok(marks)
+}
+
+/// The places of some unknowns.
 pub(crate) fn places(
     alloc: Global,
     unknowns: &[usize],
-    first: usize,
     others: &[u32],
 ) -> Result<Vec<usize>, Memory>
-    requires within { first ≤ length unknowns.now }
-    requires others { AllByRecursion (λ w. w < length unknowns.now) others.now }
-    ensures { IfOk result (λ places. places.items ≡ places_of unknowns.now first others.now) }
+    requires { AllByRecursion (λ w. w < length unknowns.now) others.now }
+    ensures { IfOk result (λ places. places.items ≡ places_of unknowns.now others.now) }
 {
-    let mut places = Vec::from_slice(alloc, &unknowns[..first])?;
+    let mut places = Vec::new(alloc);
     for other in others {
         places.push(unknowns[*other as usize])?;
     }
     Ok(places)
-}
-
-/// For each unknown, whether one of some nodes leads to it.
-pub(crate) fn reached_unknowns(
-    alloc: Global,
-    nodes: &[Node],
-    unknowns: &[usize],
-    from: &[usize],
-) -> Result<Vec<bool>, Memory>
-    requires sound { IsSound nodes.now }
-    requires inside { AllByRecursion (λ i. i < length nodes.now) unknowns.now }
-    requires from { AllByRecursion (λ i. i < length nodes.now) from.now }
-    ensures { IfOk result (λ flags. AreReached nodes.now unknowns.now from.now flags.items) }
-{
-    let marks = reached(alloc, nodes, from)?;
-    let mut flags = Vec::new(alloc);
-    for unknown in unknowns {
-        flags.push(marks[root_of(nodes, *unknown)])?;
-    }
-    Ok(flags)
 }
 
 /// Whether one of some unknowns has a flag.

@@ -18,9 +18,9 @@ ghost use Rattle.sml_solve.specs.Counted.{IsSizeUpTo};
 ghost use Rattle.sml_solve.specs.Fixed.{AreFixed, IsFixed, IsOpen};
 ghost use Rattle.sml_solve.specs.Graphs.{IsAmong};
 ghost use Rattle.sml_solve.specs.Left.{IsLeft, IsMadeOf, IsReading, IsMostGeneral};
-ghost use Rattle.sml_solve.specs.Schemes.{HasOneScheme, IsScheme, IsSchemeOfReading};
+ghost use Rattle.sml_solve.specs.Levels.{IsKeptWith};
+ghost use Rattle.sml_solve.specs.Schemes.{GiveOneScheme, HasOneScheme, IsScheme, IsSchemeOfReading};
 ghost use Rattle.sml_solve.specs.Overloaded.{IsOverloaded, Settles};
-ghost use Rattle.sml_solve.specs.Whole.{IsKept};
 
 use crate::class::Class;
 use crate::closing::closed;
@@ -28,8 +28,9 @@ use crate::count::size_from;
 use crate::demands::{equate, impose};
 use crate::graph::{Graph, add, fill};
 use crate::layer::{Ask, Bound, Layer, Refusal};
+use crate::levels::{begin_level, hand_levels_on, held_unknowns};
 use crate::node::Node;
-use crate::reach::{has_flag, places, reached_unknowns};
+use crate::reach::{has_flag, marks_from, places};
 use crate::reading::type_up_to;
 use crate::settling::has_several_names;
 use crate::variable::Variable;
@@ -48,6 +49,7 @@ pub struct Solver {
     unit: UnitId,
     graph: Graph,
     unknowns: Vec<usize>,
+    levels: Vec<Option<u32>>,
     spent: bool,
 }
 
@@ -56,7 +58,7 @@ impl Model for Solver {
 
     ghost view = { λ s. asked_of (maker_of s.unit) s.unknowns.items s.graph s.spent };
 
-    ghost invariant = { λ s. s.spent ≡ false → IsKept (maker_of s.unit) s.graph s.unknowns.items };
+    ghost invariant = { λ s. s.spent ≡ false → IsKeptWith (maker_of s.unit) s.graph s.unknowns.items s.levels.items };
 }
 
 impl Solver {
@@ -78,6 +80,7 @@ impl Solver {
             unit,
             graph,
             unknowns: Vec::new(alloc),
+            levels: Vec::new(alloc),
             spent: false,
         }
     }
@@ -108,6 +111,9 @@ impl Solver {
             return Err(Refusal::Memory);
         }
         if let Err(_) = self.unknowns.push(at) {
+            return Err(Refusal::Memory);
+        }
+        if let Err(_) = begin_level(&mut self.levels, at, number) {
             return Err(Refusal::Memory);
         }
         self.spent = false;
@@ -300,6 +306,17 @@ impl Solver {
         self.choices_are_free();
     }
 
+    /// A law: where two types, each over the unknowns of a solver of its own, may become the same types, what `generalise`
+    /// promises gives them one scheme. So a scheme doesn't tell which unknowns it was made of, and in which order.
+    pub fn schemes_agree(&self, other: &Solver)
+        requires this { self.now.spent ≡ false }
+        requires other { other.now.spent ≡ false }
+        ensures { GiveOneScheme self.now other.now }
+    {
+        self.choices_are_free();
+        other.choices_are_free();
+    }
+
     /// The type that a type stands for, over the unknowns that are left, or `None` where it has more nodes than the
     /// limit. The time taken beyond the type's own size grows with the limit.
     pub fn reading(&mut self, ty: &MlType, limit: u32) -> Result<Option<Rc<MlType>>, Refusal>
@@ -392,7 +409,11 @@ impl Solver {
             left,
             right,
         ) {
-            Ok(()) => {
+            Ok(changed) => {
+                let nodes = self.graph.nodes.as_slice();
+                if let Err(_) = hand_levels_on(nodes, &mut self.levels, changed) {
+                    return Err(Refusal::Memory);
+                }
                 self.spent = false;
                 Ok(())
             }
@@ -496,10 +517,18 @@ fn fixed_flags(solver: &Solver, first: usize, others: &[u32]) -> Result<Vec<bool
     ensures { IfOk result (λ flags. AreFixed solver.now first others.now flags.items) }
 {
     let unknowns = solver.unknowns.as_slice();
-    let from = places(solver.alloc, unknowns, first, others)?;
     let nodes = solver.graph.nodes.as_slice();
-    let flags = reached_unknowns(solver.alloc, nodes, unknowns, from.as_slice())?;
-    Ok(flags)
+    let levels = solver.levels.as_slice();
+    let from = places(solver.alloc, unknowns, others)?;
+    let marks = marks_from(solver.alloc, nodes, from.as_slice())?;
+    held_unknowns(
+        solver.alloc,
+        nodes,
+        unknowns,
+        levels,
+        first,
+        marks.as_slice(),
+    )
 }
 
 /// The scheme of a type over unknowns that are left.

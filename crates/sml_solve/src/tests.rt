@@ -5,6 +5,8 @@ ghost use Rattle.sml_objects.specs.Views.{type_of, scheme_of};
 ghost use Rattle.sml_solve.specs.Asked.{count};
 ghost use Rattle.sml_solve.specs.Interned.{IsOver, IsBodyOver};
 
+mod memory;
+
 use crate::class::Class;
 use crate::layer::{Bound, Layer, Refusal};
 use crate::solver::Solver;
@@ -545,5 +547,22 @@ fn a_shared_graph(rt: HostRuntime) -> Result<(), Fail> {
     assert_eq!(rt; new, Ok(()));
     let clash = link(&mut solver, 0, 81);
     assert_eq!(rt; clash, Err(Refusal::Unmet(Layer::Equations)));
+    Ok(())
+}
+
+#[test]
+fn many_declarations(rt: HostRuntime) -> Result<(), Fail> {
+    let alloc = rt.alloc();
+    let mut solver = solved(alloc, 1)?;
+    for _ in 0..20_000 {
+        let Ok(new) = solver.fresh() else {
+            return Err("fresh".into());
+        };
+        assert_eq!(rt; nest(alloc, &mut solver, new, 0), Ok(()));
+        let Ok(fixed) = solver.fixed_by(new as usize, &[]) else {
+            return Err("flags".into());
+        };
+        assert!(rt; (new as usize) < fixed.len());
+    }
     Ok(())
 }

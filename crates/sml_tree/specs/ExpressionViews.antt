@@ -75,6 +75,7 @@ abbrev pub dec_layer : O.Dec-F (E.Dec Place) (E.Exp Place) (E.Field Place) (E.Ru
 dec_layer (O.Value p vs bs rs) = E.val_dec p (names_of vs.items) (binds_of bs.items) (binds_of rs.items)
 dec_layer (O.Type p bs) = E.type_dec p (map typ_bind_of bs.items)
 dec_layer (O.Datatype p bs) = E.datatype_dec p (map dat_bind_of bs.items)
+dec_layer (O.DatatypeWith p ds bs) = E.datatype_with p (map dat_bind_of ds.items) (map typ_bind_of bs.items)
 dec_layer (O.Replication p t u) = E.datatype_copy p (name_of t) (long_name_of u)
 dec_layer (O.Exception p bs) = E.exception_dec p (map exn_bind_of bs.items)
 dec_layer (O.Local p ds es) = E.local_dec p (decs_of ds.items) (decs_of es.items)

@@ -63,6 +63,8 @@ mutual
     val_dec : P → List (Name P) → ValBinds P → ValBinds P → Dec P
     type_dec : P → List (TypBind P) → Dec P
     datatype_dec : P → List (DatBind P) → Dec P
+    -- `datatype .. withtype ..`
+    datatype_with : P → List (DatBind P) → List (TypBind P) → Dec P
     datatype_copy : P → Name P → LongName P → Dec P
     exception_dec : P → List (ExnBind P) → Dec P
     local_dec : P → Decs P → Decs P → Dec P

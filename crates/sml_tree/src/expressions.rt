@@ -50,6 +50,8 @@ pub enum Dec {
     Value(Place, Vec<Name>, Vec<ValBind>, Vec<ValBind>),
     Type(Place, Vec<TypBind>),
     Datatype(Place, Vec<DatBind>),
+    /// `datatype .. withtype ..`
+    DatatypeWith(Place, Vec<DatBind>, Vec<TypBind>),
     /// `datatype t = datatype u`
     Replication(Place, Name, LongIdent),
     Exception(Place, Vec<ExnBind>),

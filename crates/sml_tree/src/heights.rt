@@ -225,6 +225,11 @@ fn height_of_dec(dec: &Dec) -> u32
             .saturating_add(1),
         Dec::Type(_, binds) => height_of_typ_binds(binds).saturating_add(1),
         Dec::Datatype(_, binds) => height_of_dat_binds(binds).saturating_add(1),
+        Dec::DatatypeWith(_, binds, types) => {
+            height_of_dat_binds(binds)
+                .max(height_of_typ_binds(types))
+                .saturating_add(1)
+        }
         Dec::Sequence(_, decs) => height_of_decs(decs),
         Dec::Replication(_, _, _) | Dec::Open(_, _) | Dec::Fixity(_) => 1,
         Dec::Exception(_, binds) => height_of_exn_binds(binds).saturating_add(1),

@@ -1,9 +1,10 @@
-use Rattle.std.proofs.Common.{arith}
+use Rattle.std.proofs.Common.{arith, []}
 use Rattle.std.specs.Prelude.{false}
 use Rattle.sml_objects.specs.Views.{type_of, maker_of}
 use Rattle.sml_solve.specs.Graphs.{IsSound}
 use Rattle.sml_solve.specs.Asked.{asked_of, asks, limit_of}
 use Rattle.sml_solve.specs.Whole.{IsWhole, LowersLimit}
+use Rattle.sml_solve.proofs.Levelling.{grown-moves, moves-same}
 use Rattle.sml_solve.proofs.Demanding.{Stands, Grows, stands-asked, limit-changed, kept-lowered, finished-adds, finished-met, failing-first}
 use Rattle.sml_solve.proofs.demands.impose.Goals as goal
 
@@ -70,3 +71,12 @@ returns-clause-met c =
     let low : LowersLimit h c.in-Ok.at (limit_of c.args.ask) m js = rw c.limit.ensures at c.in-Ok-lower_limit.ensures.lowers in
     let x : Stands (asked_of u us g false) (asks c.args.ask t) m = stands-asked u us false c.args.ask t g h m c.in-Ok.at js c.requires.known low c.requires.kept.whole.full c.requires.kept.owners.inside gx in
     finished-met (asked_of u us g false) (asks c.args.ask t) m c.finish.new.graph (λ e. omega (arith, e)) x c.in-Ok-finish.ensures.ok
+
+pub returns-clause-moves : goal.returns-clause-moves
+returns-clause-moves c =
+    let ns = c.args.graph.now.nodes.items in
+    let us = c.args.unknowns.now in
+    let h = c.add.new.graph in
+    let m = c.lower_limit.new.graph in
+    let x = grown-moves ns us (type_of c.args.ty.now) h.nodes.items c.in-Ok.at c.in-Ok.ensures.interns in
+    moves-same ns m.nodes.items c.finish.new.graph.nodes.items [] c.in-Ok-finish.ensures.ok.nodes (moves-same ns h.nodes.items m.nodes.items [] c.in-Ok-lower_limit.ensures.lowers.nodes x)

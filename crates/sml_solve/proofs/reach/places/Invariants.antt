@@ -3,4 +3,4 @@ use Rattle.sml_solve.specs.Fixed.{places_of}
 use Rattle.sml_solve.proofs.reach.places.Given as goal
 
 abbrev pub invariant-loop-other : goal.invariant-loop-other
-invariant-loop-other l = l.places.items ≡ places_of l.unknowns l.first (take l.other-index l.others)
+invariant-loop-other l = l.places.items ≡ places_of l.unknowns (take l.other-index l.others)

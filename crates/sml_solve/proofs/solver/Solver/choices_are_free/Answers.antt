@@ -11,5 +11,5 @@ pub returns : goal.returns
 returns c =
     let g = c.self.inside.graph in
     let spent : c.self.inside.spent ≡ false = ap (λ (s : Asked). s.spent) c.self.view_is ∙ c.requires in
-    let k : IsKept (maker_of c.self.inside.unit) g c.self.inside.unknowns.items = c.self.invariant spent in
+    let k : IsKept (maker_of c.self.inside.unit) g c.self.inside.unknowns.items = (c.self.invariant spent).kept in
     subst IsMostGeneral c.self.view_is (most-general (maker_of c.self.inside.unit) c.self.inside.unknowns.items g c.self.inside.spent k)

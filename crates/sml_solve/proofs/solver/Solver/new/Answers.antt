@@ -3,13 +3,17 @@ use Rattle.std.specs.Prelude.{false}
 use Rattle.sml_objects.specs.Views.{maker_of}
 use Rattle.sml_solve.specs.declared.graph.Graph.{Graph}
 use Rattle.sml_solve.specs.Whole.{IsKept}
+use Rattle.sml_solve.proofs.Levelling.{levels-none}
 use Rattle.sml_solve.proofs.Demanding.{kept-none, whole-met}
 use Rattle.sml_solve.proofs.solver.Solver.new.Goals as goal
 
 pub invariant_of-result : goal.invariant_of-result
 invariant_of-result c _ =
     let g : Graph = record { nodes = c.new.result; limits = c.new-2.result; marks = c.new-3.result; stamp = 1 } in
-    kept-none (maker_of c.args.unit) g c.new-4.result.items c.new.ensures.items c.new-2.ensures.items c.new-3.ensures.items refl c.new-4.ensures.items
+    record {
+      kept = kept-none (maker_of c.args.unit) g c.new-4.result.items c.new.ensures.items c.new-2.ensures.items c.new-3.ensures.items refl c.new-4.ensures.items;
+      levels = levels-none c.new.result.items c.new-4.result.items c.new-5.result.items c.new.ensures.items c.new-4.ensures.items c.new-5.ensures.items;
+    }
 
 pub returns-clause-met : goal.returns-clause-met
 returns-clause-met c =

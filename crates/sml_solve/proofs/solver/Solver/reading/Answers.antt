@@ -5,6 +5,7 @@ use Rattle.sml_solve.specs.Worlds.{finite}
 use Rattle.sml_solve.specs.Interned.{IsOver, Interns}
 use Rattle.sml_solve.specs.Asked.{asked_of, IsOf, PermitsSame}
 use Rattle.sml_solve.specs.Whole.{IsKept, IsWhole}
+use Rattle.sml_solve.proofs.Levelling.{grown-moves, levels-moved}
 use Rattle.sml_solve.proofs.Demanding.{Grows, permits-grown, kept-grown}
 use Rattle.sml_solve.proofs.Owning.{readings-are, larges-are}
 use Rattle.sml_solve.proofs.solver.Solver.reading.Goals as goal
@@ -16,7 +17,7 @@ type_up_to-requires-clause-rank c =
     let g = c.self.inside.graph in
     let h = c.add.new.graph in
     let t = type_of c.args.ty.now in
-    let k : IsKept u g us = c.self.invariant c.if-self.false in
+    let k : IsKept u g us = (c.self.invariant c.if-self.false).kept in
     let i : Interns g.nodes.items us t h.nodes.items c.in-Ok.at = subst (λ us. Interns g.nodes.items us t h.nodes.items c.in-Ok.at) c.as_slice.ensures.value c.in-Ok.ensures.interns in
     let x : Grows us t g h c.in-Ok.at = record { interns = i; limits = c.in-Ok.ensures.limits } in
     let w : IsWhole u h = c.in-Ok.ensures.whole u k.whole in
@@ -30,7 +31,7 @@ type_up_to-requires-clause-owners c =
     let g = c.self.inside.graph in
     let h = c.add.new.graph in
     let t = type_of c.args.ty.now in
-    let k : IsKept u g us = c.self.invariant c.if-self.false in
+    let k : IsKept u g us = (c.self.invariant c.if-self.false).kept in
     let i : Interns g.nodes.items us t h.nodes.items c.in-Ok.at = subst (λ us. Interns g.nodes.items us t h.nodes.items c.in-Ok.at) c.as_slice.ensures.value c.in-Ok.ensures.interns in
     let x : Grows us t g h c.in-Ok.at = record { interns = i; limits = c.in-Ok.ensures.limits } in
     let w : IsWhole u h = c.in-Ok.ensures.whole u k.whole in
@@ -44,12 +45,14 @@ invariant_of-self-2 c _ =
     let g = c.self.inside.graph in
     let h = c.add.new.graph in
     let t = type_of c.args.ty.now in
-    let k : IsKept u g us = c.self.invariant c.if-self.false in
+    let k : IsKept u g us = (c.self.invariant c.if-self.false).kept in
     let i : Interns g.nodes.items us t h.nodes.items c.in-Ok.at = subst (λ us. Interns g.nodes.items us t h.nodes.items c.in-Ok.at) c.as_slice.ensures.value c.in-Ok.ensures.interns in
     let x : Grows us t g h c.in-Ok.at = record { interns = i; limits = c.in-Ok.ensures.limits } in
     let w : IsWhole u h = c.in-Ok.ensures.whole u k.whole in
     let n : IsKept u h us = kept-grown u us t g h c.in-Ok.at k x w in
-    n
+    let a = c.self.invariant c.if-self.false in
+    let m = grown-moves g.nodes.items us t h.nodes.items c.in-Ok.at i in
+    record { kept = n; levels = levels-moved g.nodes.items h.nodes.items us c.self.inside.levels.items k.owners.few a.levels m }
 
 pub returns-clause-ty : goal.returns-clause-ty
 returns-clause-ty c =
@@ -58,7 +61,7 @@ returns-clause-ty c =
     let g = c.self.inside.graph in
     let h = c.add.new.graph in
     let t = type_of c.args.ty.now in
-    let k : IsKept u g us = c.self.invariant c.if-self.false in
+    let k : IsKept u g us = (c.self.invariant c.if-self.false).kept in
     let i : Interns g.nodes.items us t h.nodes.items c.in-Ok.at = subst (λ us. Interns g.nodes.items us t h.nodes.items c.in-Ok.at) c.as_slice.ensures.value c.in-Ok.ensures.interns in
     let x : Grows us t g h c.in-Ok.at = record { interns = i; limits = c.in-Ok.ensures.limits } in
     let w : IsWhole u h = c.in-Ok.ensures.whole u k.whole in
@@ -74,7 +77,7 @@ returns-clause-large c =
     let g = c.self.inside.graph in
     let h = c.add.new.graph in
     let t = type_of c.args.ty.now in
-    let k : IsKept u g us = c.self.invariant c.if-self.false in
+    let k : IsKept u g us = (c.self.invariant c.if-self.false).kept in
     let i : Interns g.nodes.items us t h.nodes.items c.in-Ok.at = subst (λ us. Interns g.nodes.items us t h.nodes.items c.in-Ok.at) c.as_slice.ensures.value c.in-Ok.ensures.interns in
     let x : Grows us t g h c.in-Ok.at = record { interns = i; limits = c.in-Ok.ensures.limits } in
     let w : IsWhole u h = c.in-Ok.ensures.whole u k.whole in
@@ -90,7 +93,7 @@ returns-clause-same c =
     let g = c.self.inside.graph in
     let h = c.add.new.graph in
     let t = type_of c.args.ty.now in
-    let k : IsKept u g us = c.self.invariant c.if-self.false in
+    let k : IsKept u g us = (c.self.invariant c.if-self.false).kept in
     let i : Interns g.nodes.items us t h.nodes.items c.in-Ok.at = subst (λ us. Interns g.nodes.items us t h.nodes.items c.in-Ok.at) c.as_slice.ensures.value c.in-Ok.ensures.interns in
     let x : Grows us t g h c.in-Ok.at = record { interns = i; limits = c.in-Ok.ensures.limits } in
     let w : IsWhole u h = c.in-Ok.ensures.whole u k.whole in

@@ -5,6 +5,7 @@ use Rattle.sml_solve.specs.Interned.{IsOver, Interns}
 use Rattle.sml_solve.specs.Asked.{asked_of, IsOf, PermitsSame}
 use Rattle.sml_solve.specs.Counted.{IsCounted, IsSizeUpTo}
 use Rattle.sml_solve.specs.Whole.{IsKept, IsWhole}
+use Rattle.sml_solve.proofs.Levelling.{grown-moves, levels-moved}
 use Rattle.sml_solve.proofs.Demanding.{Grows, permits-grown, kept-grown}
 use Rattle.sml_solve.proofs.Counting.{counted-size}
 use Rattle.sml_solve.proofs.solver.Solver.size_up_to.Goals as goal
@@ -16,7 +17,7 @@ size_from-requires-clause-rank c =
     let g = c.self.inside.graph in
     let h = c.add.new.graph in
     let t = type_of c.args.ty.now in
-    let k : IsKept u g us = c.self.invariant c.if-self.false in
+    let k : IsKept u g us = (c.self.invariant c.if-self.false).kept in
     let i : Interns g.nodes.items us t h.nodes.items c.in-Ok.at = subst (λ us. Interns g.nodes.items us t h.nodes.items c.in-Ok.at) c.as_slice.ensures.value c.in-Ok.ensures.interns in
     let x : Grows us t g h c.in-Ok.at = record { interns = i; limits = c.in-Ok.ensures.limits } in
     let w : IsWhole u h = c.in-Ok.ensures.whole u k.whole in
@@ -29,11 +30,13 @@ invariant_of-self-2 c _ =
     let g = c.self.inside.graph in
     let h = c.add.new.graph in
     let t = type_of c.args.ty.now in
-    let k : IsKept u g us = c.self.invariant c.if-self.false in
+    let k : IsKept u g us = (c.self.invariant c.if-self.false).kept in
     let i : Interns g.nodes.items us t h.nodes.items c.in-Ok.at = subst (λ us. Interns g.nodes.items us t h.nodes.items c.in-Ok.at) c.as_slice.ensures.value c.in-Ok.ensures.interns in
     let x : Grows us t g h c.in-Ok.at = record { interns = i; limits = c.in-Ok.ensures.limits } in
     let w : IsWhole u h = c.in-Ok.ensures.whole u k.whole in
-    kept-grown u us t g h c.in-Ok.at k x w
+    let a = c.self.invariant c.if-self.false in
+    let m = grown-moves g.nodes.items us t h.nodes.items c.in-Ok.at i in
+    record { kept = kept-grown u us t g h c.in-Ok.at k x w; levels = levels-moved g.nodes.items h.nodes.items us c.self.inside.levels.items k.owners.few a.levels m }
 
 pub returns-clause-size : goal.returns-clause-size
 returns-clause-size c =
@@ -42,7 +45,7 @@ returns-clause-size c =
     let g = c.self.inside.graph in
     let h = c.add.new.graph in
     let t = type_of c.args.ty.now in
-    let k : IsKept u g us = c.self.invariant c.if-self.false in
+    let k : IsKept u g us = (c.self.invariant c.if-self.false).kept in
     let i : Interns g.nodes.items us t h.nodes.items c.in-Ok.at = subst (λ us. Interns g.nodes.items us t h.nodes.items c.in-Ok.at) c.as_slice.ensures.value c.in-Ok.ensures.interns in
     let x : Grows us t g h c.in-Ok.at = record { interns = i; limits = c.in-Ok.ensures.limits } in
     let w : IsWhole u h = c.in-Ok.ensures.whole u k.whole in
@@ -57,7 +60,7 @@ returns-clause-same c =
     let g = c.self.inside.graph in
     let h = c.add.new.graph in
     let t = type_of c.args.ty.now in
-    let k : IsKept u g us = c.self.invariant c.if-self.false in
+    let k : IsKept u g us = (c.self.invariant c.if-self.false).kept in
     let i : Interns g.nodes.items us t h.nodes.items c.in-Ok.at = subst (λ us. Interns g.nodes.items us t h.nodes.items c.in-Ok.at) c.as_slice.ensures.value c.in-Ok.ensures.interns in
     let x : Grows us t g h c.in-Ok.at = record { interns = i; limits = c.in-Ok.ensures.limits } in
     let w : IsWhole u h = c.in-Ok.ensures.whole u k.whole in

@@ -1,0 +1,130 @@
+-- Types that may become the same types have one scheme.
+use Rattle.std.proofs.Common.{◌≡◌, ℕ, inl, inr, Bool, true, false, List, [], ◌∷◌, map, sym, ◌∙◌, ap, subst, refl, arith}
+use Rattle.std.proofs.lemmas.List.{length-map}
+use Rattle.std.specs.List.{AllByRecursion}
+use Rattle.sml_objects.specs.Equality.{admits}
+use Rattle.sml_objects.specs.Fates.{close_as}
+use Rattle.sml_objects.specs.Names.{int}
+use Rattle.sml_objects.specs.Initial.{Name, initial, naming}
+use Rattle.sml_objects.specs.Objects as O
+use Rattle.sml_objects.specs.Types.{assign, replace_type, is_among, variables_after}
+use Rattle.sml_objects.specs.declared.fates.Fate.{Fate}
+use Rattle.sml_objects.specs.declared.fates.Fate.TheVariants.{Bind, Keep, Default}
+use Rattle.sml_objects.proofs.EnvViews.{map-map}
+use Rattle.sml_solve.specs.declared.layer.Layer.TheVariants.{Finiteness, Equality, Classes}
+use Rattle.sml_solve.specs.Worlds.{finite, Assignment}
+use Rattle.sml_solve.specs.Asked.{Asked, Permits}
+use Rattle.sml_solve.specs.Left.{IsMadeOf, IsLeft, IsReading, IsMostGeneral}
+use Rattle.sml_solve.specs.Schemes.{IsInt, AsksEquality, IsFateOf, IsSchemeOfReading, MayBecome, AreAlike, HasNoFlag, GiveOneScheme}
+use Rattle.sml_solve.proofs.Owning.{made-more}
+use Rattle.sml_solve.proofs.Searching.{all-parts}
+use Rattle.sml_solve.proofs.Uniqueness.{own, stays, variables-made, one-fate, same-fates}
+use Rattle.sml_solve.proofs.Renaming.{assigned-alike, alike-on, assign-then, made-there, number_of, IsNamed, back-named, IsBack, variables-renamed, at-variable, at-each, IsNotKeep, closed-renamed}
+
+-- what is permitted where more is asked is permitted by the equations
+
+with-equality : (s : Asked) (σ : Assignment finite) → Permits Equality s σ → Permits Finiteness s σ
+unfolding Permits
+with-equality s σ p = (p.0, p.1, λ k h. p.2 k (omega (arith, h)), p.3)
+
+with-classes : (s : Asked) (σ : Assignment finite) → Permits Classes s σ → Permits Finiteness s σ
+unfolding Permits
+with-classes s σ p = (p.0, p.1, λ k h. p.2 k (omega (arith, h)), p.3)
+
+-- A reading becomes whatever a type that is alike is read as.
+becomes : (s r : Asked) (t q p o : O.MlType Name) → IsMostGeneral r → ((a : O.MlType Name) → MayBecome Finiteness r q a → MayBecome Finiteness s t a) → IsReading s t p → IsReading r q o → (σ : Assignment finite) × Permits Finiteness s σ × (assign σ p ≡ o)
+unfolding IsReading MayBecome
+becomes s r t q p o m f a b =
+    let w = own r m in
+    let e : assign w.0 q ≡ o = sym (b.1 w.0 w.1) ∙ stays (IsLeft r) w.0 o w.2 b.0 in
+    let x = f o (w.0, w.1, e) in
+    (x.0, x.1, a.1 x.0 x.1 ∙ x.2)
+
+all-over : {A : Type 0} (P : A → Type 0) (f : ℕ → A) (vs : List ℕ) → AllByRecursion (λ v. P (f v)) vs → AllByRecursion P (map f vs)
+all-over P f [] a = tt
+all-over P f (v ∷ vs) a = (a.0, all-over P f vs a.1)
+
+not-kept : (s : Asked) (bs : List Bool) (v : ℕ) (f : Fate) → HasNoFlag bs → IsFateOf s bs false v f → IsNotKeep f
+not-kept s bs v (Bind e) n x = tt
+not-kept s bs v Keep n x = elim x.1 [ inl y ↦ let q : false ≡ true = y in absurd cc | inr m ↦ absurd (n v m) ]
+not-kept s bs v Default n x = tt
+
+module _ (s r : Asked) (t q p o : O.MlType Name) (alike : AreAlike s t r q) (a : IsReading s t p) (b : IsReading r q o) (σ τ : Assignment finite) (forth : assign σ p ≡ o) (back : assign τ o ≡ p) where
+  abbrev there : ℕ → ℕ
+  there v = number_of (σ v)
+
+  abbrev here : ℕ → ℕ
+  here v = number_of (τ v)
+
+  abbrev IsOf : ℕ → Type 0
+  IsOf v = is_among v (variables_after [] p) ≡ true
+
+  made : IsMadeOf (λ v. IsLeft s v × IsNamed τ v (σ v)) p
+  unfolding IsReading
+  made = back-named (IsLeft s) σ τ p a.0 (ap (assign τ) forth ∙ back)
+
+  goes-back : IsMadeOf (IsBack there here) p
+  goes-back = made-more (λ v. IsLeft s v × IsNamed τ v (σ v)) (IsBack there here) p (λ v x. ap number_of x.1.1) made
+
+  renamed : o ≡ assign (λ v. O.free (there v)) p
+  renamed = sym forth ∙ assigned-alike σ (λ v. O.free (there v)) p (made-more (λ v. IsLeft s v × IsNamed τ v (σ v)) (λ v. σ v ≡ O.free (there v)) p (λ v x. x.1.0) made)
+
+  -- types that both may become are the same at each variable
+  matched : (ρ υ : Assignment finite) → Permits Finiteness s ρ → Permits Finiteness r υ → assign ρ t ≡ assign υ q → (v : ℕ) → IsOf v → ρ v ≡ υ (there v)
+  unfolding IsReading replace_type
+  matched ρ υ x y e v i =
+      let same : assign ρ p ≡ assign (λ v. υ (there v)) p = a.1 ρ x ∙ (e ∙ (sym (b.1 υ y) ∙ (ap (assign υ) renamed ∙ assign-then (λ v. O.free (there v)) υ p))) in
+      (at-variable (λ v. IsLeft s v × (ρ v ≡ υ (there v))) p v (alike-on (IsLeft s) ρ (λ v. υ (there v)) p a.0 same) i).1
+
+  int-there : (v : ℕ) → IsOf v → IsInt s v → IsInt r (there v)
+  unfolding IsInt MayBecome
+  int-there v i f υ y =
+      let x = (alike.with_classes (assign υ q)).1 (υ, y, refl) in
+      sym (matched x.0 υ (with-classes s x.0 x.1) (with-classes r υ y) x.2 v i) ∙ f x.0 x.1
+
+  int-here : (v : ℕ) → IsOf v → IsInt r (there v) → IsInt s v
+  unfolding IsInt MayBecome
+  int-here v i f ρ x =
+      let y = (alike.with_classes (assign ρ t)).0 (ρ, x, refl) in
+      matched ρ y.0 (with-classes s ρ x) (with-classes r y.0 y.1) (sym y.2) v i ∙ f y.0 y.1
+
+  equality-there : (v : ℕ) → IsOf v → AsksEquality s v → AsksEquality r (there v)
+  unfolding AsksEquality MayBecome
+  equality-there v i f υ y =
+      let x = (alike.with_equality (assign υ q)).1 (υ, y, refl) in
+      subst (λ t. admits naming t ≡ true) (matched x.0 υ (with-equality s x.0 x.1) (with-equality r υ y) x.2 v i) (f x.0 x.1)
+
+  equality-here : (v : ℕ) → IsOf v → AsksEquality r (there v) → AsksEquality s v
+  unfolding AsksEquality MayBecome
+  equality-here v i f ρ x =
+      let y = (alike.with_equality (assign ρ t)).0 (ρ, x, refl) in
+      subst (λ t. admits naming t ≡ true) (sym (matched ρ y.0 (with-equality s ρ x) (with-equality r y.0 y.1) (sym y.2) v i)) (f y.0 y.1)
+
+  fate-here : (bs cs : List Bool) (v : ℕ) (f : Fate) → IsOf v → HasNoFlag bs → HasNoFlag cs → IsFateOf r cs false (there v) f → IsFateOf s bs false v f
+  fate-here bs cs v (Bind e) i n k x = (λ z. x.0 (int-there v i z), refl, n v, (λ z. equality-here v i (x.3.0 z), λ z. x.3.1 (equality-there v i z)))
+  fate-here bs cs v Keep i n k x = absurd (not-kept r cs (there v) Keep k x)
+  fate-here bs cs v Default i n k x = int-here v i x
+
+  left-there : (v : ℕ) → IsOf v → IsLeft r (there v)
+  unfolding IsReading
+  left-there v i = at-variable (λ v. IsLeft r (there v)) p v (made-there (IsLeft r) there p (subst (IsMadeOf (IsLeft r)) renamed b.0)) i
+
+  schemes-same : (bs cs : List Bool) (θ η : O.Scheme Name) → HasNoFlag bs → HasNoFlag cs → IsSchemeOfReading s bs false p θ → IsSchemeOfReading r cs false o η → θ ≡ η
+  unfolding IsReading
+  schemes-same bs cs θ η n k x y =
+      let u = O.named (initial int) in
+      let vs = variables_after [] p in
+      let left = variables-made (IsLeft s) [] p tt a.0 in
+      let fs = map x.fate vs in
+      let same : AllByRecursion (λ v. x.fate v ≡ y.fate (there v)) vs = variables-made (λ v. x.fate v ≡ y.fate (there v)) [] p tt
+      (at-each (IsLeft s) (λ v. x.fate v ≡ y.fate (there v)) p a.0 (λ v i.
+      one-fate s bs false v (x.fate v) (y.fate (there v)) (x.fates v (at-variable (IsLeft s) p v a.0 i)) (fate-here bs cs v (y.fate (there v)) i n k (y.fates (there v) (left-there v i))))) in
+      let kept : AllByRecursion IsNotKeep fs = all-over IsNotKeep x.fate vs (all-parts (IsLeft s) (λ v. IsNotKeep (x.fate v)) vs (λ v l. not-kept s bs v (x.fate v) n (x.fates v l)) left) in
+      let fates : map y.fate (variables_after [] o) ≡ fs = ap (λ z. map y.fate (variables_after [] z)) renamed ∙ (ap (map y.fate) (variables-renamed there here [] p tt goes-back) ∙ (map-map y.fate there vs ∙ sym (same-fates x.fate (λ v. y.fate (there v)) vs same))) in
+      x.scheme ∙ (closed-renamed u there here p o fs renamed goes-back kept (length-map vs x.fate) ∙ (ap (λ gs. close_as u gs o) (sym fates) ∙ sym y.scheme))
+
+pub schemes-agree : (s r : Asked) → IsMostGeneral s → IsMostGeneral r → GiveOneScheme s r
+schemes-agree s r m k t q bs cs θ η alike n l x y =
+    let f = becomes s r t q x.reading y.reading k (λ a. (alike.finite_types a).1) x.reads y.reads in
+    let g = becomes r s q t y.reading x.reading m (λ a. (alike.finite_types a).0) y.reads x.reads in
+    schemes-same s r t q x.reading y.reading alike x.reads y.reads f.0 g.0 f.2 g.2 bs cs θ η n l x.closed y.closed

@@ -1,0 +1,118 @@
+//! Calls to which memory is refused. `bench/refused` runs the test once for each growth, which is refused then.
+
+ghost use Rattle.std.specs.Prelude.{◌≡◌, ℕ, ◌≤◌, length, OnOk};
+ghost use Rattle.sml_objects.specs.Views.{scheme_of};
+ghost use Rattle.sml_solve.specs.Asked.{count};
+ghost use Rattle.sml_solve.specs.Interned.{IsBodyOver};
+
+use super::{UNIT, anything, int, list, pair, unknown, variable};
+use crate::class::Class;
+use crate::layer::{Bound, Refusal};
+use crate::solver::Solver;
+use sml_objects::objects::Scheme;
+use std::alloc::Global;
+use std::test::Fail;
+
+/// Whether a call was refused because an earlier one was.
+fn is_spent<T: Drop>(answer: Result<T, Refusal>) -> bool {
+    matches!(&answer, Err(Refusal::Spent))
+}
+
+/// Makes each call that adds unknowns or demands, up to the first that is refused. Where memory is refused to something
+/// else, no more calls are made.
+fn demand(alloc: Global, solver: &mut Solver, scheme: &Scheme) -> Result<(), Refusal>
+    requires new { count solver.old ≡ 0 }
+    requires scheme { (n : ℕ) → IsBodyOver (length (scheme_of scheme.now).variables) n (scheme_of scheme.now).body }
+    ensures { OnOk result (3 ≤ count solver.new) }
+{
+    solver.fresh()?;
+    solver.fresh()?;
+    solver.fresh()?;
+    solver.instance(scheme)?;
+    let Ok(of) = list(alloc, unknown(1)) else {
+        return Ok(());
+    };
+    solver.require_equal(&unknown(0), &of)?;
+    solver.require_within(&of, Bound::Locality, 3)?;
+    solver.require_equality(&of)?;
+    solver.require_class(&unknown(1), Class::Num)?;
+    solver.settle(0)?;
+    solver.require_variable(&unknown(2), variable(0, true))?;
+    solver.require_general(&[2], 1, &[1])
+}
+
+/// Makes each call that asks, up to the first that is refused.
+fn ask(alloc: Global, solver: &mut Solver) -> Result<(), Refusal>
+    requires { 3 ≤ count solver.old }
+{
+    let Ok(ty) = pair(alloc, unknown(0), unknown(2)) else {
+        return Ok(());
+    };
+    solver.is_overloaded(1)?;
+    let flags = solver.fixed_by(1, &[2])?;
+    solver.size_up_to(&ty, 9)?;
+    solver.reading(&ty, 9)?;
+    solver.generalise(&ty, flags.as_slice(), false, 9)?;
+    Ok(())
+}
+
+/// Whether each call that adds unknowns or demands is refused because an earlier one was.
+fn are_demands_spent(alloc: Global, solver: &mut Solver, scheme: &Scheme) -> bool
+    requires { (n : ℕ) → IsBodyOver (length (scheme_of scheme.now).variables) n (scheme_of scheme.now).body }
+{
+    let ty = int(alloc);
+    is_spent(solver.fresh())
+        && is_spent(solver.instance(scheme))
+        && is_spent(solver.require_equal(&ty, &ty))
+        && is_spent(solver.require_within(&ty, Bound::Newness, 0))
+        && is_spent(solver.require_equality(&ty))
+        && is_spent(solver.require_class(&ty, Class::Num))
+        && is_spent(solver.settle(0))
+        && is_spent(solver.require_variable(&ty, variable(0, false)))
+        && is_spent(solver.require_general(&[], 0, &[]))
+}
+
+/// Whether each call that asks is refused because an earlier one was.
+fn are_questions_spent(alloc: Global, solver: &mut Solver) -> bool {
+    let ty = int(alloc);
+    let flags = [false; 8];
+    let unknowns = solver.unknowns();
+    if 0 < unknowns && !is_spent(solver.is_overloaded(0)) {
+        return false;
+    }
+    if unknowns <= 8 && !is_spent(solver.generalise(&ty, &flags[..unknowns], false, 5)) {
+        return false;
+    }
+    is_spent(solver.fixed_by(0, &[]))
+        && is_spent(solver.size_up_to(&ty, 5))
+        && is_spent(solver.reading(&ty, 5))
+}
+
+/// Makes each call, up to the first that is refused.
+fn call(alloc: Global, solver: &mut Solver, scheme: &Scheme) -> Result<(), Refusal>
+    requires new { count solver.old ≡ 0 }
+    requires scheme { (n : ℕ) → IsBodyOver (length (scheme_of scheme.now).variables) n (scheme_of scheme.now).body }
+{
+    demand(alloc, solver, scheme)?;
+    ask(alloc, solver)
+}
+
+#[test]
+fn a_refused_call_spends_the_solver(rt: HostRuntime) -> Result<(), Fail> {
+    let alloc = rt.alloc();
+    let Ok(scheme) = anything(alloc) else {
+        return Ok(());
+    };
+    let mut solver = Solver::new(alloc, UNIT);
+    match call(alloc, &mut solver, &scheme) {
+        Ok(()) => {
+            assert!(rt; !is_spent(solver.settle(0)));
+        }
+        Err(refusal) => {
+            assert_eq!(rt; refusal, Refusal::Memory);
+            assert!(rt; are_demands_spent(alloc, &mut solver, &scheme));
+            assert!(rt; are_questions_spent(alloc, &mut solver));
+        }
+    }
+    Ok(())
+}

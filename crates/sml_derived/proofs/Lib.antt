@@ -1,20 +1,3 @@
-mod Lists
-mod Views
+pub mod Lists
+pub mod Views
 mod Searches
-mod PatternSequences
-mod Failures
-mod TypeChains
-mod PatternLists
-mod Answers
-mod ExpressionHeights
-mod ExpressionLists
-mod Bindings
-mod FunctionHeights
-mod Headings
-mod Drops
-mod Reversed
-mod Chains
-mod Within
-mod DerivedHeights
-mod Rows
-mod Clauses

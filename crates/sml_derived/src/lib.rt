@@ -1,42 +1,12 @@
 // Derived forms: the bare tree that each of them stands for. (The Definition, appendix A.)
 #![tactic(auto)]
 
-mod atom_rules;
-mod clause_heads;
 pub mod constraint;
 mod copies;
-mod datatype_rules;
-mod declaration_lists;
-mod declaration_parts;
-mod declaration_rules;
-mod derived_specifications;
 pub mod expander;
-pub mod expression_rules;
-mod expression_sequences;
 pub mod expressions;
-mod function_rules;
 pub mod functions;
-mod functor_rules;
 pub mod laws;
-pub mod low;
-mod low_forms;
-mod low_lists;
-mod module_stack;
 pub mod modules;
-pub mod name_rules;
-mod pattern_parts;
-pub mod pattern_rules;
-mod pattern_sequences;
 pub mod patterns;
-pub mod phrase;
-mod raise;
-pub mod rules;
-pub mod shape;
-mod signature_rules;
-mod specification_rules;
-pub mod stack;
-mod structure_rules;
-pub mod type_rules;
-mod unit_rules;
-mod value_rules;
 mod withtype;

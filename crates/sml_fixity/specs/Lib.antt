@@ -6,3 +6,4 @@ pub mod Patterns
 pub mod Runs
 pub mod Heads
 pub mod Laws
+pub mod Shapes

@@ -8,5 +8,6 @@ mod patterns;
 mod roles;
 pub mod scopes;
 pub mod sequences;
+pub mod shape;
 #[cfg(test)]
 mod tests;

@@ -10,10 +10,12 @@ use Rattle.std.proofs.lemmas.Bool.{cond-true, cond-false, and_parts, leb-true, l
 use Rattle.sml_lex.proofs.Reading.{false_is_true}
 use Rattle.sml_lex.specs.declared.fault.Place.{Place}
 use Rattle.sml_tree.specs.Trees.{Dec}
+use Rattle.sml_reach.proofs.UpTo.{IsShort, left, fewer, up_to-append, up_to-more, up_to-none, up_to-nil, length-map, all_left}
 use Rattle.sml_parse.specs.declared.item.Item.{Item}
 use Rattle.sml_parse.specs.Items.{begins, ends}
-use Rattle.sml_parse.specs.Reach.{up_to}
-use Rattle.sml_parse.specs.Trees.{dec_of_items, decs_of_items, is_low, is_full}
+use Rattle.sml_reach.specs.Reach.{up_to}
+use Rattle.sml_parse.specs.Trees.{dec_of_items, decs_of_items, is_low}
+use Rattle.sml_reach.specs.Reach.{is_full}
 
 -- where no declaration begins
 passed : (unit : List ℕ) (items : List Item) (i : ℕ) (d : Item) → i < length items → begins (get_or items i d) ≡ false → decs_of_items unit (drop i items) ≡ decs_of_items unit (drop (i + 1) items)
@@ -35,49 +37,6 @@ take_while-low p (x ∷ xs) ys h =
 list_all-low : {A : Type 0} (p : A → Bool) (xs ys : List A) → list_all p xs ≡ true → list_all p (xs ++ ys) ≡ list_all p ys
 list_all-low p xs ys h = list_all-append p xs ys ∙ ap (λ b. b && list_all p ys) h
 
--- so many at most of two lists, of which the first is within that
-abbrev pub left : Option ℕ → ℕ → Option ℕ
-left None count = None
-left (Some most) count = Some (most - count)
-
-abbrev pub IsShort : Option ℕ → ℕ → Type 0
-IsShort None count = Unit {0}
-IsShort (Some most) count = count ≤ most
-
-take_past : {A : Type 0} (xs ys : List A) (k : ℕ) → take (length xs + k) (xs ++ ys) ≡ xs ++ take k ys
-take_past [] ys k = ap (λ n. take n ys) (let e : 0 + k ≡ k = omega arith in e)
-take_past (x ∷ xs) ys k = ap (λ n. take n (x ∷ (xs ++ ys))) (let e : suc (length xs) + k ≡ suc (length xs + k) = omega arith in e) ∙ ap (λ zs. x ∷ zs) (take_past xs ys k)
-
-pub up_to-append : {A : Type 0} (most : Option ℕ) (xs ys : List A) → IsShort most (length xs) → up_to most (xs ++ ys) ≡ xs ++ up_to (left most (length xs)) ys
-up_to-append None xs ys s = refl
-up_to-append (Some most) xs ys s = ap (λ n. take n (xs ++ ys)) (let e : most ≡ length xs + (most - length xs) = omega (arith, s) in e) ∙ take_past xs ys (most - length xs)
-
--- where another may come
-abbrev pub fewer : Option ℕ → Option ℕ
-fewer None = None
-fewer (Some n) = Some (n - 1)
-
-pub up_to-more : {A : Type 0} (most : Option ℕ) (count : ℕ) (y : A) (ys : List A) → is_full most count ≡ false → up_to (left most count) (y ∷ ys) ≡ y ∷ up_to (fewer (left most count)) ys
-up_to-more None count y ys f = refl
-up_to-more (Some most) count y ys f =
-    let l = leb-false most count f in
-    let e : most - count ≡ suc (most - count - 1) = omega (arith, l) in
-    ap (λ n. take n (y ∷ ys)) e
-
--- where none may
-pub up_to-none : {A : Type 0} (most : Option ℕ) (count : ℕ) (ys : List A) → is_full most count ≡ true → up_to (left most count) ys ≡ []
-up_to-none None count ys f = absurd (false_is_true f)
-up_to-none (Some most) count ys f = ap (λ n. take n ys) (let l = leb-true most count f in let e : most - count ≡ 0 = omega (arith, l) in e)
-
-pub up_to-nil : {A : Type 0} (most : Option ℕ) → up_to {A = A} most [] ≡ []
-up_to-nil None = refl
-up_to-nil (Some zero) = refl
-up_to-nil (Some (suc n)) = refl
-
-pub length-map : {A B : Type 0} (f : A → B) (xs : List A) → length (map f xs) ≡ length xs
-length-map f [] = refl
-length-map f (x ∷ xs) = ap suc (length-map f xs)
-
 pub high_on : (unit : List ℕ) (items piece rest : List Item) (most : Option ℕ) (decs : List (Dec Place)) (count i : ℕ) (d : Item) → decs_of_items unit items ≡ decs ++ decs_of_items unit (drop i items) → list_all is_low decs ≡ true → IsShort most (length decs) → count ≡ length decs → is_full most count ≡ false → i < length items → begins (get_or items i d) ≡ true → rest ≡ drop (i + 1) items → piece ≡ before_first ends rest → is_low (dec_of_items unit piece) ≡ false → (decs ≡ take_while is_low (up_to most (decs_of_items unit items))) × (false ≡ list_all is_low (up_to most (decs_of_items unit items)))
 high_on unit items piece rest most decs count i d kept low short c full within b r p above =
     let dec = dec_of_items unit piece in
@@ -95,10 +54,6 @@ full_on unit items most decs count i kept low short c full =
       sym (ap (take_while is_low) total ∙ take_while-low is_low decs [] low ∙ append-nil decs),
       sym (ap (list_all is_low) total ∙ list_all-low is_low decs [] low),
     )
-
--- the slice from a place on
-pub all_left : {A : Type 0} (xs : List A) (i : ℕ) → take (length xs - i) (drop i xs) ≡ drop i xs
-all_left xs i = take_all (length xs - i) (drop i xs) (omega (arith, length-drop i xs))
 
 pub all_on : (unit : List ℕ) (items : List Item) (most : Option ℕ) (decs : List (Dec Place)) (i : ℕ) → decs_of_items unit items ≡ decs ++ decs_of_items unit (drop i items) → list_all is_low decs ≡ true → IsShort most (length decs) → length items ≤ i → (decs ≡ take_while is_low (up_to most (decs_of_items unit items))) × (true ≡ list_all is_low (up_to most (decs_of_items unit items)))
 all_on unit items most decs i kept low short past =

@@ -23,16 +23,12 @@ use Rattle.sml_parse.specs.declared.item.Mark.TheVariants as K
 use Rattle.sml_parse.specs.declared.item.Item.{Item}
 use Rattle.sml_parse.specs.declared.item.Item.TheVariants as I
 use Rattle.sml_parse.specs.Piece.{meaning_of}
-use Rattle.sml_parse.specs.Places.{place_from}
-use Rattle.sml_parse.specs.Items.{start_of, word_of, names_value, item_of, begins_behind, items_of, ends, declarations_of}
+use Rattle.sml_reach.specs.Places.{place_from}
+use Rattle.sml_parse.specs.Items.{word_of, names_value, item_of, begins_behind, items_of, ends, declarations_of}
+use Rattle.sml_reach.specs.Places.{start_of}
 use Rattle.sml_parse.specs.Within.{Extent, ends_before, begins_next, tokens_before, extents_of, IsOfToken}
+use Rattle.sml_reach.proofs.Somes.{some_same, none_some}
 use Rattle.sml_parse.proofs.TreePlaces.{EachWord}
-
-pub some_same : {A : Type 0} {x y : A} → Some x ≡ Some y → x ≡ y
-some_same e = cc
-
-pub none_some : {A : Type 0} {x : A} → None ≡ Some x → ⊥
-none_some e = cc
 
 -- tokens in order
 

@@ -12,16 +12,16 @@ use Rattle.sml_read.specs.declared.grammar.Rule.{Rule}
 use Rattle.sml_read.specs.declared.grammar.Node.{Node}
 use Rattle.sml_read.specs.declared.grammar.Node.TheVariants.{Leaf, Inner}
 use Rattle.sml_read.proofs.Tables.{each_rule}
-use Rattle.sml_parse.specs.declared.mark.Mark.{Mark}
-use Rattle.sml_parse.specs.declared.mark.Mark.TheVariants as M
-use Rattle.sml_parse.specs.declared.flaw.Flaw.{Flaw}
-use Rattle.sml_parse.specs.declared.reach.Misfit.{Misfit}
-use Rattle.sml_parse.specs.Fits.{Fit, Fitted}
+use Rattle.sml_flaws.specs.declared.mark.Mark.{Mark}
+use Rattle.sml_flaws.specs.declared.mark.Mark.TheVariants as M
+use Rattle.sml_flaws.specs.declared.flaw.Flaw.{Flaw}
+use Rattle.sml_reach.specs.declared.reach.Misfit.{Misfit}
+use Rattle.sml_reach.specs.Fits.{Fit, Fitted}
 use Rattle.sml_read.specs.Extents.{ends_of}
-use Rattle.sml_parse.specs.Marks.{start, marks_of}
-use Rattle.sml_parse.specs.Known.{is_again, token_in}
-use Rattle.sml_parse.specs.Flaws.{flaw_if, name_at, arity_at, unlike_by, unlike, uneven_by, uneven, barred_name, barred_value, barred, real, flaws_by, flaws_of, scoped_by, scoped_at, scoped_of, flaws_in, precedes, earlier, first_flaw}
-use Rattle.sml_parse.specs.Flawed.{begins_at, ends_at, own_nodes, count_tokens, own_token, flaw_in, flaw_here, or_else, first_flawed}
+use Rattle.sml_flaws.specs.Marks.{start, marks_of}
+use Rattle.sml_flaws.specs.Known.{is_again, token_in}
+use Rattle.sml_flaws.specs.Flaws.{flaw_if, name_at, arity_at, unlike_by, unlike, uneven_by, uneven, barred_name, barred_value, barred, real, flaws_by, flaws_of, scoped_by, scoped_at, scoped_of, flaws_in, precedes, earlier, first_flaw}
+use Rattle.sml_flaws.specs.Flawed.{begins_at, ends_at, own_nodes, count_tokens, own_token, flaw_in, flaw_here, or_else, first_flawed}
 use Rattle.sml_parse.specs.Within.{Extent, of_phrases, reason_of, ends_before, begins_next, tokens_before, extents_of}
 use Rattle.sml_parse.proofs.Extents.{agree, agreed}
 use Rattle.sml_parse.proofs.Nonempty.{HasToken, HaveTokens}

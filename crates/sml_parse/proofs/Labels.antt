@@ -4,7 +4,7 @@ use Rattle.std.specs.Prelude.{slice_get, not, unwrap_or}
 use Rattle.std.specs.Option.{option_map}
 use Rattle.std.proofs.lemmas.Option.{slice_get_within, get_or_from_slice_get}
 use Rattle.sml_lex.specs.declared.fault.Place.{Place}
-use Rattle.sml_parse.specs.Places.{place_from}
+use Rattle.sml_reach.specs.Places.{place_from}
 use Rattle.std.specs.List.{before_first, cons_option}
 use Rattle.std.proofs.lemmas.List.{drop_more, take_more}
 use Rattle.std.proofs.lemmas.List.Sums.{take_while-cons}
@@ -16,7 +16,8 @@ use Rattle.sml_read.specs.declared.grammar.Rule.{Rule}
 use Rattle.sml_parse.specs.declared.item.Item.{Item}
 use Rattle.sml_parse.specs.declared.item.Item.TheVariants as I
 use Rattle.sml_parse.specs.Piece.{meaning_of}
-use Rattle.sml_parse.specs.Items.{word_of, item_of, items_of, begins_behind, start_of}
+use Rattle.sml_parse.specs.Items.{word_of, item_of, items_of, begins_behind}
+use Rattle.sml_reach.specs.Places.{start_of}
 
 -- the token at an index, of what is left from there on
 slice_get-drop : {A : Type 0} (xs : List A) (i : ℕ) → slice_get (drop i xs) 0 ≡ slice_get xs i
@@ -50,10 +51,3 @@ inner_on unit start i index nodes tokens total items new d rule token start' h w
     ∙ ap (λ k. items ++ cons_option (item_of unit (meaning_of rule) k) (items_of unit (cond (begins_behind (meaning_of rule)) (start_of tokens index 0) start) (drop (i + 1) nodes) (drop index tokens))) (slice_get-drop tokens index ∙ sym t)
     ∙ joined_some items (item_of unit (meaning_of rule) token) new (items_of unit (cond (begins_behind (meaning_of rule)) (start_of tokens index 0) start) (drop (i + 1) nodes) (drop index tokens)) e
     ∙ ap (λ a. new ++ items_of unit a (drop (i + 1) nodes) (drop index tokens)) (sym s)
-
-pub first_on : {A : Type 0} (stops : A → Bool) (items : List A) (n : ℕ) (d : A) → n < length items → stops (get_or items n d) ≡ false → take n items ++ before_first stops (drop n items) ≡ take (n + 1) items ++ before_first stops (drop (n + 1) items)
-first_on stops items n d within e =
-    ap (λ xs. take n items ++ before_first stops xs) (drop_more items n d within)
-    ∙ ap (λ xs. take n items ++ xs) (take_while-cons (λ x. not (stops x)) (get_or items n d) (drop (n + 1) items) ∙ cond-true _ _ _ (ap not e))
-    ∙ sym (append_assoc (take n items) (get_or items n d ∷ []) (before_first stops (drop (n + 1) items)))
-    ∙ ap (λ xs. xs ++ before_first stops (drop (n + 1) items)) (sym (take_more items n d within))

@@ -18,14 +18,14 @@ use Rattle.sml_read.specs.Parts.{part_of}
 use Rattle.sml_read.specs.Spelling.{all_empty, is_outer, Leads}
 use Rattle.sml_read.specs.Extents.{starts_of}
 use Rattle.sml_read.proofs.Tables.{each_rule, implies, implied}
-use Rattle.sml_parse.specs.declared.sense.Deed.{Deed}
-use Rattle.sml_parse.specs.declared.sense.Deed.TheVariants as D
-use Rattle.sml_parse.specs.declared.reach.Misfit.{Misfit}
-use Rattle.sml_parse.specs.Senses.{deed_of, opens, closes}
-use Rattle.sml_parse.specs.Founds.{Found}
-use Rattle.sml_parse.specs.Events.{Event, enters, leaves, text_at, found_at, founds_of, scope_event, event_of, events_of}
-use Rattle.sml_parse.specs.Fits.{Fitted}
-use Rattle.sml_parse.specs.Reach.{State, Outcome, start, Outcomes, misfit_in, misfits_in, precedes, earlier, first_in, first_misfit, AreFitted}
+use Rattle.sml_reach.specs.declared.sense.Deed.{Deed}
+use Rattle.sml_reach.specs.declared.sense.Deed.TheVariants as D
+use Rattle.sml_reach.specs.declared.reach.Misfit.{Misfit}
+use Rattle.sml_reach.specs.Senses.{deed_of, opens, closes}
+use Rattle.sml_reach.specs.Founds.{Found}
+use Rattle.sml_reach.specs.Events.{Event, enters, leaves, text_at, found_at, founds_of, scope_event, event_of, events_of}
+use Rattle.sml_reach.specs.Fits.{Fitted}
+use Rattle.sml_reach.specs.Reach.{State, Outcome, start, Outcomes, misfit_in, misfits_in, precedes, earlier, first_in, first_misfit, AreFitted}
 use Rattle.sml_parse.specs.Within.{Extent, of_phrases, reason_of, ends_before, is_part_first, begins_next, tokens_before, extents_of}
 use Rattle.sml_parse.proofs.Nonempty.{all_inner, inner_so, not_both, when_not, some_token}
 use Rattle.sml_parse.proofs.FoundsWithin.{IsIn, is_idle, phrase_in, founds_in}

@@ -27,19 +27,22 @@ use Rattle.sml_read.specs.declared.read.Cause.TheVariants.{Unexpected, TooEarly,
 use Rattle.sml_read.specs.Spelling.{kinds_of}
 use Rattle.sml_read.specs.Answer.{is_done, IsCauseOf}
 use Rattle.sml_parse.specs.declared.item.Item.{Item}
-use Rattle.sml_parse.specs.Places.{place_behind, place_from}
-use Rattle.sml_parse.specs.Items.{start_of, items_of, declarations_of}
-use Rattle.sml_parse.specs.declared.reach.Misfit.{Misfit}
-use Rattle.sml_parse.specs.Reach.{up_to, before_misfit}
+use Rattle.sml_reach.specs.Places.{place_behind, place_from}
+use Rattle.sml_parse.specs.Items.{items_of, declarations_of}
+use Rattle.sml_reach.specs.Places.{start_of}
+use Rattle.sml_reach.specs.declared.reach.Misfit.{Misfit}
+use Rattle.sml_reach.specs.Reach.{up_to, before_misfit}
 use Rattle.sml_parse.specs.Trees.{dec_of_items, spelt, is_low, fault_from, fault_read, fault_behind}
 use Rattle.sml_parse.specs.Within.{Extent, extents_of, IsOfToken, StandInTurn, Reason, of_bytes, reason_of, StandsBy, StandsLast, PlacesAreWithin}
 use Rattle.sml_parse.proofs.TreePlaces.{places_stand}
 use Rattle.sml_parse.proofs.Nonempty.{HasToken, HaveTokens, have_tokens}
-use Rattle.sml_parse.proofs.Extents.{some_same, none_some, of_token, OwnWords, all_words_stand, as_many}
+use Rattle.sml_parse.proofs.Extents.{of_token, OwnWords, all_words_stand, as_many}
+use Rattle.sml_reach.proofs.Somes.{none_some}
+use Rattle.sml_reach.proofs.Somes.{some_same}
 use Rattle.sml_parse.proofs.MisfitsWithin.{IsPlaced, misfit_placed}
 use Rattle.sml_parse.proofs.FlawsWithin.{flawed_placed}
-use Rattle.sml_parse.specs.Flawed.{or_else}
-use Rattle.sml_parse.specs.Events.{text_at}
+use Rattle.sml_flaws.specs.Flawed.{or_else}
+use Rattle.sml_reach.specs.Events.{text_at}
 
 -- tokens and places
 

@@ -1,7 +1,6 @@
 -- The declarations of a unit's derivation, as forms and tokens in order.
-use Rattle.std.specs.Prelude.{ℕ, List, [], ◌∷◌, Bool, true, false, Option, Some, None, if◌then◌else◌, slice_get, slice_range, unwrap_or}
+use Rattle.std.specs.Prelude.{ℕ, List, [], ◌∷◌, Bool, true, false, Option, Some, None, if◌then◌else◌, slice_get, slice_range}
 use Rattle.std.specs.List.{before_first, cons_option}
-use Rattle.std.specs.Option.{option_map}
 use Rattle.sml_lex.specs.declared.token.Token.{Token}
 use Rattle.sml_read.specs.declared.grammar.Node.{Node}
 use Rattle.sml_read.specs.declared.grammar.Node.TheVariants.{Leaf, Inner}
@@ -12,11 +11,7 @@ use Rattle.sml_parse.specs.declared.item.Mark.TheVariants as K
 use Rattle.sml_parse.specs.declared.item.Item.{Item}
 use Rattle.sml_parse.specs.declared.item.Item.TheVariants as I
 use Rattle.sml_parse.specs.Piece.{is_value_name, meaning_of}
-use Rattle.sml_parse.specs.Places.{place_from}
-
--- the first byte of the token at this index, or the other byte where there is none
-abbrev pub start_of : List Token → ℕ → ℕ → ℕ
-start_of tokens index other = unwrap_or (option_map (λ token. token.span.start) (slice_get tokens index)) other
+use Rattle.sml_reach.specs.Places.{place_from, start_of}
 
 -- a token in a declaration that begins at the byte `start`
 abbrev pub word_of : List ℕ → ℕ → Token → Word

@@ -6,7 +6,7 @@ use Rattle.sml_parse.specs.declared.form.Form.{Form}
 use Rattle.sml_parse.specs.declared.form.Form.TheVariants as F
 use Rattle.sml_parse.specs.declared.item.Item.{Item}
 use Rattle.sml_parse.specs.declared.item.Item.TheVariants as I
-use Rattle.sml_parse.specs.Idents.{long_id}
+use Rattle.sml_reach.specs.Idents.{long_id}
 use Rattle.sml_parse.specs.Values.{Value, nothing, of_word, of_exp, of_exps, of_ty, of_tys, of_spec, of_specs, of_core, of_cores, of_dec, word_in, exp_in, exps_in, ty_in, tys_in, specs_in, cores_in, top_in, with_spec, with_core, with_arrow, in_brackets, with_stars, at}
 use Rattle.sml_parse.specs.Lists.{without}
 use Rattle.sml_parse.specs.Forms.{needs}

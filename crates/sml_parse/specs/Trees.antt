@@ -17,13 +17,14 @@ use Rattle.sml_read.specs.Spelling.{kinds_of}
 use Rattle.sml_read.specs.Extents.{starts_of}
 use Rattle.sml_read.specs.Answer.{is_done, IsReading}
 use Rattle.sml_parse.specs.declared.item.Item.{Item}
-use Rattle.sml_parse.specs.declared.reach.Misfit.{Misfit}
-use Rattle.sml_parse.specs.Events.{text_at, events_of}
-use Rattle.sml_parse.specs.Fits.{Fitted}
-use Rattle.sml_parse.specs.Reach.{before_misfit, up_to, AreFitted}
-use Rattle.sml_parse.specs.Flawed.{or_else, first_flawed}
-use Rattle.sml_parse.specs.Places.{place_from}
-use Rattle.sml_parse.specs.Items.{start_of, items_of, declarations_of}
+use Rattle.sml_reach.specs.declared.reach.Misfit.{Misfit}
+use Rattle.sml_reach.specs.Events.{text_at, events_of}
+use Rattle.sml_reach.specs.Fits.{Fitted}
+use Rattle.sml_reach.specs.Reach.{before_misfit, up_to, AreFitted}
+use Rattle.sml_flaws.specs.Flawed.{or_else, first_flawed}
+use Rattle.sml_reach.specs.Places.{place_from}
+use Rattle.sml_parse.specs.Items.{items_of, declarations_of}
+use Rattle.sml_reach.specs.Places.{start_of}
 use Rattle.sml_parse.specs.Forms.{is_in_piece}
 use Rattle.sml_parse.specs.Values.{dec_in, outside, first}
 use Rattle.sml_parse.specs.Rules.{values_of}
@@ -55,11 +56,6 @@ fault_read unit tokens end begun (Some (Unexpected index)) = fault_from unit C.S
 fault_read unit tokens end begun (Some TooEarly) = fault_from unit C.S2 (start_of tokens begun 0) (start_of tokens (length tokens - 1) 0)
 fault_read unit tokens E.Done begun (Some Lexical) = None
 fault_read unit tokens (E.Fault stop) begun (Some Lexical) = fault_from unit stop.code (start_of tokens begun stop.at) stop.at
-
--- whether there are that many
-abbrev pub is_full : Option ℕ → ℕ → Bool
-is_full None count = false
-is_full (Some most) count = nat_le most count
 
 -- the fault behind the last of the declarations: that of its sequences or of what it binds, or the one at which reading ended
 abbrev pub fault_behind : List ℕ → List Token → End → ℕ → Option Cause → Option Misfit → Option (Fault Place)

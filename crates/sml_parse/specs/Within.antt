@@ -20,8 +20,8 @@ use Rattle.sml_read.specs.declared.grammar.Node.TheVariants.{Leaf, Inner}
 use Rattle.sml_read.specs.Grammar.{right_side}
 use Rattle.sml_read.specs.Parts.{part_of}
 use Rattle.sml_read.specs.Spelling.{is_outer}
-use Rattle.sml_parse.specs.Places.{place_from}
-use Rattle.sml_parse.specs.Items.{start_of}
+use Rattle.sml_reach.specs.Places.{place_from}
+use Rattle.sml_reach.specs.Places.{start_of}
 use Rattle.sml_parse.specs.Trees.{Trees}
 
 -- the tokens of a declaration: the number of the first, and that of the one behind the last

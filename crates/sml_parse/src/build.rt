@@ -4,7 +4,7 @@ ghost use Rattle.std.specs.Prelude.{◌≡◌, map, reverse, length, IfOk, OnOk}
 ghost use Rattle.sml_tree.specs.Trees.{function, and_exp, and_ty, bracket_ty, type_spec, val_spec, val_dec, type_dec, sealed};
 ghost use Rattle.sml_tree.specs.Views.{ident_of, long_of, exp_of, exps_of, ty_of, tys_of, spec_of, core_dec_of, dec_of};
 ghost use Rattle.sml_parse.specs.Forms.{needs};
-ghost use Rattle.sml_parse.specs.Idents.{long_id};
+ghost use Rattle.sml_reach.specs.Idents.{long_id};
 ghost use Rattle.sml_parse.specs.Values.{exp_in, exps_in, ty_in, tys_in, specs_in, cores_in, dec_in, with_spec, with_core, with_arrow, in_brackets, with_stars, at, first};
 ghost use Rattle.sml_parse.specs.Lists.{without};
 ghost use Rattle.sml_parse.specs.Rules.{place_at, text_at, made, values_of};
@@ -12,8 +12,8 @@ ghost use Rattle.sml_parse.specs.Stacks.{seen, value_of};
 
 use crate::form::Form;
 use crate::item::Item;
-use crate::names::Names;
-use crate::place::text;
+use sml_reach::names::Names;
+use sml_reach::place::text;
 use crate::stack::{Stack, Value};
 use sml_lex::fault::Memory;
 use sml_tree::bare::{

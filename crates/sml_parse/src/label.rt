@@ -3,26 +3,16 @@
 ghost use Rattle.std.specs.Prelude.{◌≡◌, ℕ, List, ◌++◌, [], if◌then◌else◌, slice_get, IfOk, OnOk};
 ghost use Rattle.std.specs.List.{before_first, cons_option};
 ghost use Rattle.sml_parse.specs.Piece as piece;
-ghost use Rattle.sml_parse.specs.Places.{IsOnWay};
+ghost use Rattle.sml_reach.specs.Places.{start_of, IsOnWay};
 ghost use Rattle.sml_parse.specs.Items as spec;
 
 use crate::form::{Meaning, meaning_of};
 use crate::item::{Item, Mark, Word};
-use crate::place::{Walk, text};
+use sml_reach::place::{Walk, start_of, text};
 use sml_lex::fault::Memory;
 use sml_lex::token::Token;
 use sml_read::grammar::Node;
 use std::alloc::Global;
-
-/// The first byte of this token, or the other byte if there is no such token.
-pub fn start_of(tokens: &[Token], index: usize, other: usize) -> usize
-    ensures { result ≡ spec.start_of tokens.now index other }
-{
-    match tokens.get(index) {
-        Some(token) => token.span.start,
-        None => other,
-    }
-}
 
 /// The token at this index, if there is one.
 fn token_at(tokens: &[Token], index: usize) -> Option<Token>
@@ -122,7 +112,7 @@ pub fn first(items: &[Item]) -> &[Item]
 /// The walk behind a rule with this meaning, the token at the index being the next.
 fn walk_behind(walk: Walk, meaning: Meaning, tokens: &[Token], index: usize) -> Walk
     ensures start { result.start
-        ≡ (if spec.begins_behind meaning then spec.start_of tokens.now index 0 else walk.start) }
+        ≡ (if spec.begins_behind meaning then start_of tokens.now index 0 else walk.start) }
     ensures sound { (unit : List ℕ) → IsOnWay unit walk → IsOnWay unit result }
 {
     if begins_behind(meaning) {

@@ -5,17 +5,19 @@ ghost use Rattle.std.specs.List.{list_all};
 ghost use Rattle.std.specs.Option.{option_map, MatchOption};
 ghost use Rattle.sml_lex.specs.Faults.{fault_of};
 ghost use Rattle.sml_tree.specs.Views.{dec_of};
-ghost use Rattle.sml_parse.specs.Reach.{up_to};
-ghost use Rattle.sml_parse.specs.Trees.{dec_of_items, decs_of_items, is_low, fault_from, fault_read, fault_behind, is_full, Trees};
+ghost use Rattle.sml_reach.specs.Reach.{up_to};
+ghost use Rattle.sml_parse.specs.Trees.{dec_of_items, decs_of_items, is_low, fault_from, fault_read, fault_behind, Trees};
+ghost use Rattle.sml_reach.specs.Reach.{is_full};
 
 use crate::build::build;
-use crate::event::events;
-use crate::flawed::{first_flawed, or_else};
+use sml_reach::event::events;
+use sml_flaws::flawed::{first_flawed, or_else};
 use crate::item::Item;
-use crate::label::{begins, first, label, start_of};
-use crate::names::Names;
-use crate::place::{FIRST, place_between};
-use crate::reach::{Misfit, before_misfit, fit};
+use crate::label::{begins, first, label};
+use sml_reach::names::Names;
+use sml_bare::whole::is_full;
+use sml_reach::place::{FIRST, place_between, start_of};
+use sml_reach::reach::{Misfit, before_misfit, fit};
 use crate::sort::is_in_piece;
 use crate::tall::measure;
 use sml_lex::fault::{Code, Fault, Memory};
@@ -90,16 +92,6 @@ fn declared(
         return Ok(None);
     }
     Ok(Some(build(alloc, unit, names, items)?))
-}
-
-/// Whether there are as many declarations as there may be.
-fn is_full(most: Option<usize>, count: usize) -> bool
-    ensures { result ≡ is_full most count }
-{
-    match most {
-        Some(most) => most <= count,
-        None => false,
-    }
 }
 
 /// The declarations that these items spell, so many at most, up to the first that is too high, and whether none is.

@@ -1,6 +1,6 @@
 use Rattle.std.proofs.Common.{sym, ◌∙◌, arith}
 use Rattle.sml_parse.specs.Items.{ends}
-use Rattle.sml_parse.proofs.Labels.{first_on}
+use Rattle.sml_reach.proofs.Firsts.{first_on}
 use Rattle.sml_parse.proofs.label.first.Goals as goal
 
 pub loop-end-preserved : goal.loop-end-preserved

@@ -1,9 +1,10 @@
 use Rattle.std.proofs.Common.{◌≡◌, ◌+◌, ◌++◌, [], drop, cond, ◌∙◌, length, sym, ap, subst, refl}
 use Rattle.std.proofs.lemmas.Bool.{ltb-true}
 use Rattle.std.proofs.lemmas.Option.{slice_get_read}
-use Rattle.sml_parse.specs.Places.{IsOnWay}
+use Rattle.sml_reach.specs.Places.{IsOnWay}
 use Rattle.std.specs.List.{cons_option}
-use Rattle.sml_parse.specs.Items.{item_of, items_of, begins_behind, start_of}
+use Rattle.sml_parse.specs.Items.{item_of, items_of, begins_behind}
+use Rattle.sml_reach.specs.Places.{start_of}
 use Rattle.sml_parse.proofs.Labels.{leaf_on, inner_on}
 use Rattle.sml_parse.proofs.label.label.Goals.{in-Leaf+in-Some+in_ok-push-in-Leaf, in-Inner+in_ok-push_some-in-Inner}
 use Rattle.sml_parse.proofs.label.label.Goals as goal

@@ -1,6 +1,6 @@
 -- The items so far, and those of what is left.
 use Rattle.std.proofs.Common.{◌≡◌, ◌++◌, drop}
-use Rattle.sml_parse.specs.Places.{IsOnWay}
+use Rattle.sml_reach.specs.Places.{IsOnWay}
 use Rattle.sml_parse.specs.Items.{items_of}
 use Rattle.sml_parse.proofs.label.label.Given as goal
 

@@ -1,6 +1,8 @@
 use Rattle.std.proofs.Common.{◌+◌, map, sym, ◌∙◌}
 use Rattle.sml_tree.specs.Views.{dec_of}
-use Rattle.sml_parse.proofs.Declaring.{full_on, high_on, all_on, all_left, length-map}
+use Rattle.sml_parse.proofs.Declaring.{full_on, high_on, all_on}
+use Rattle.sml_reach.proofs.UpTo.{length-map}
+use Rattle.sml_reach.proofs.UpTo.{all_left}
 use Rattle.sml_parse.proofs.parse.declare.Goals as goal
 
 pub returns-then-is_full : goal.returns-then-is_full

@@ -3,7 +3,7 @@ use Rattle.std.proofs.Common.{◌≡◌, ◌++◌, map, drop, length, true}
 use Rattle.std.specs.List.{list_all}
 use Rattle.sml_tree.specs.Views.{dec_of}
 use Rattle.sml_parse.specs.Trees.{decs_of_items, is_low}
-use Rattle.sml_parse.proofs.Declaring.{IsShort}
+use Rattle.sml_reach.proofs.UpTo.{IsShort}
 use Rattle.sml_parse.proofs.parse.declare.Given as goal
 
 abbrev pub invariant-loop-i : goal.invariant-loop-i

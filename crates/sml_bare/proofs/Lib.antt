@@ -1,0 +1,4 @@
+mod Within
+mod Wholes
+mod Sourcing
+mod Making

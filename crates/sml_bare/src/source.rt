@@ -1,0 +1,129 @@
+//! A declaration before it is made: its tokens with their places, and what its sequences stand for.
+
+ghost use Rattle.std.specs.Prelude.{◌≡◌, ℕ, ◌+◌, ◌==◌, Some, map, if◌then◌else◌, IfOk, OnOk};
+ghost use Rattle.indexmap.specs.IndexMap.{get};
+ghost use Rattle.std.specs.Option.{option_map};
+ghost use Rattle.sml_fixity.specs.Shapes.{shape_of};
+ghost use Rattle.sml_reach.specs.Fits.{fit_of};
+ghost use Rattle.sml_bare.specs.Derivations as spec;
+ghost use Rattle.sml_bare.specs.Sources.{fit_from, KnowsFits, ArePlaced};
+
+use sml_reach::fitted::Fit;
+use sml_reach::place::{Walk, place_between, start_of};
+use indexmap::IndexMap;
+use sml_fixity::shape::Shape;
+use sml_lex::fault::{Memory, Place};
+use sml_lex::token::Token;
+use std::alloc::Global;
+
+/// Notes the number of a sequence by its first token, counted from that of the declaration.
+fn note(
+    table: &mut IndexMap<usize, usize>,
+    begun: usize,
+    token: usize,
+    number: usize,
+) -> Result<(), Memory>
+    ensures { OnOk result ((n : ℕ) → get ◌==◌ table.new n ≡ (if token == begun + n then Some number else get ◌==◌ table.old n)) }
+{
+    if token < begun {
+        return Ok(());
+    }
+    table.insert(token - begun, number)?;
+    Ok(())
+}
+
+/// The sequences of a declaration, by their first tokens, counted from that of the declaration.
+fn by_token(alloc: Global, begun: usize, fits: &[Fit]) -> Result<IndexMap<usize, usize>, Memory>
+    ensures { IfOk result (λ table. KnowsFits 0 begun (map fit_of fits.now) table) }
+{
+    let mut table = IndexMap::new(alloc);
+    for i in (0..fits.len()).rev() {
+        note(&mut table, begun, fits[i].token, i)?;
+    }
+    Ok(table)
+}
+
+/// The places of so many tokens of a declaration.
+fn places(alloc: Global, unit: &[u8], tokens: &[Token], count: usize) -> Result<Vec<Place>, Memory>
+    ensures { IfOk result (λ v. ArePlaced unit.now tokens.now v.items) }
+{
+    let mut walk = Walk::new(start_of(tokens, 0, 0));
+    let mut places = Vec::new(alloc);
+    for n in 0..count {
+        places.push(walk.go_to(unit, start_of(tokens, n, 0)))?;
+    }
+    Ok(places)
+}
+
+/// A declaration before it is made: the bytes of its unit, the tokens from its first one on, the number of that in the
+/// unit, what its sequences stand for, the places of its tokens, and its sequences by their first tokens.
+#[derive(Drop)]
+pub struct Source<'a> {
+    pub unit: &'a [u8],
+    pub tokens: &'a [Token],
+    pub begun: usize,
+    fits: &'a [Fit],
+    places: Vec<Place>,
+    table: IndexMap<usize, usize>,
+    ghost placed: { ArePlaced unit.now tokens.now places.items },
+    ghost known: { KnowsFits 0 begun (map fit_of fits.now) table },
+}
+
+impl<'a> Source<'a> {
+    pub fn new(
+        alloc: Global,
+        unit: &'a [u8],
+        tokens: &'a [Token],
+        begun: usize,
+        fits: &'a [Fit],
+        count: usize,
+    ) -> Result<Source<'a>, Memory>
+        ensures { IfOk result (λ source. (source.unit.now ≡ unit.now) × (source.tokens.now ≡ tokens.now) × (source.begun ≡ begun) × (source.fits.now ≡ fits.now)) }
+    {
+        Ok(Source {
+            unit,
+            tokens,
+            begun,
+            fits,
+            places: places(alloc, unit, tokens, count)?,
+            table: by_token(alloc, begun, fits)?,
+        })
+    }
+
+    /// The place of the n-th token, or of what comes behind them.
+    pub fn place(&self, n: usize) -> Place
+        ensures { result ≡ spec.place_at self.now.unit.now self.now.tokens.now n }
+    {
+        match self.places.get(n) {
+            Some(place) => *place,
+            None => place_between(
+                self.unit,
+                start_of(self.tokens, 0, 0),
+                start_of(self.tokens, n, 0),
+            ),
+        }
+    }
+
+    /// The number of the sequence that begins at the n-th token.
+    fn sequence(&self, n: usize) -> Option<usize>
+        ensures { result ≡ fit_from 0 (map fit_of self.now.fits.now) (self.now.begun + n) }
+    {
+        match self.table.get(&n) {
+            Some(index) => Some(*index),
+            None => None,
+        }
+    }
+
+    /// What the sequence stands for that begins at the n-th token.
+    pub fn shape(&self, n: usize) -> Option<&Shape>
+        ensures { option_map (λ s. shape_of s.now) result ≡ spec.shape_from (map fit_of self.now.fits.now) (self.now.begun + n) }
+    {
+        match self.sequence(n) {
+            Some(index) => match self.fits.get(index) {
+                Some(fit) => Some(&fit.shape),
+                None => None,
+            },
+            None => None,
+        }
+    }
+}

@@ -1,0 +1,268 @@
+//! Bare declarations from derivations, by one walk from a declaration's last node to its first.
+
+ghost use Rattle.std.specs.Prelude.{◌≡◌, ◌<◌, ◌-◌, ◌^◌, ◌∷◌, false, true, drop, length, map, slice_get, IfOk, IfErr, OnOk};
+ghost use Rattle.std.specs.List.{list_all};
+ghost use Rattle.std.specs.Option.{option_map, is_some};
+ghost use Rattle.sml_phrases.specs.Phrases.{first, of_constant};
+ghost use Rattle.sml_phrases.specs.PhraseViews.{Makes, phrase_of, seen};
+ghost use Rattle.sml_phrases.specs.declared.phrase.Failure.TheVariants.{TooHigh};
+ghost use Rattle.sml_tree.specs.StructureViews.{top_of};
+ghost use Rattle.sml_read.specs.Grammar.{right_side};
+ghost use Rattle.sml_read.specs.Extents.{starts_of};
+ghost use Rattle.sml_reach.specs.Fits.{fit_of, fitted_of};
+ghost use Rattle.sml_bare.specs.Derivations as spec;
+ghost use Rattle.sml_reach.specs.Reach.{up_to};
+ghost use Rattle.sml_reach.specs.Reach.{is_full};
+ghost use Rattle.sml_bare.specs.SourceViews.{source_of};
+
+use sml_reach::fitted::{Fit, Fitted};
+use sml_flaws::flawed::{before_end, begins_at};
+use sml_reach::names::Names;
+use sml_reach::place::text;
+use crate::source::Source;
+use sml_derived::expander::Expander;
+use sml_phrases::phrase::{Failure, Phrase};
+use crate::rules::{declaration, is_within, rule_phrase};
+use sml_phrases::stack::Stack;
+use sml_lex::fault::{Memory, Place};
+use sml_lex::token::{Kind, Token};
+use sml_read::grammar::{DeclarationRule, Node, Rule};
+use sml_read::phrases::starts;
+use sml_tree::names::Name;
+use sml_tree::patterns::{Constant, ConstantKind};
+use sml_tree::structures::TopDec;
+use std::alloc::Global;
+
+/// A constant of this kind.
+fn constant(names: &mut Names, kind: ConstantKind, text: &[u8]) -> Result<Phrase, Memory>
+    ensures { IfOk result (λ phrase. phrase_of phrase ≡ of_constant (record { kind = kind; literal = text.now })) }
+{
+    let literal = names.ident(text)?;
+    Ok(Phrase::Constant(Constant { kind, literal }))
+}
+
+/// What a token makes by its kind, its place and its bytes.
+fn word_phrase(names: &mut Names, kind: Kind, place: Place, text: &[u8]) -> Result<Phrase, Memory>
+    ensures { IfOk result (λ phrase. phrase_of phrase ≡ spec.word_phrase kind place text.now) }
+{
+    match kind {
+        Kind::Alphanumeric
+        | Kind::Symbolic
+        | Kind::Star
+        | Kind::Equals
+        | Kind::TypeVariable
+        | Kind::Numeral
+        | Kind::ZeroNumeral => {
+            let ident = names.ident(text)?;
+            Ok(Phrase::Name(Name { place, ident }))
+        }
+        Kind::LongAlphanumeric | Kind::LongSymbolic | Kind::LongStar => Ok(Phrase::Long(names.long(
+            place, text,
+        )?)),
+        Kind::Integer => constant(names, ConstantKind::Integer, text),
+        Kind::WordConstant => constant(names, ConstantKind::Word, text),
+        Kind::RealConstant => constant(names, ConstantKind::Real, text),
+        Kind::StringConstant => constant(names, ConstantKind::String, text),
+        Kind::CharacterConstant => constant(names, ConstantKind::Character, text),
+        _ => Ok(Phrase::Word(place)),
+    }
+}
+
+/// How many tokens of a phrase stand before the sequence that it begins with.
+fn before_sequence(rule: Rule) -> usize
+    ensures { result ≡ spec.before_sequence rule }
+{
+    match rule {
+        Rule::Declarations(DeclarationRule::ClauseMoreBar) => 1,
+        _ => 0,
+    }
+}
+
+/// What the n-th token of a declaration makes.
+fn token_phrase(source: &Source, names: &mut Names, n: usize) -> Result<Phrase, Memory>
+    ensures { let s = source_of source.now in
+        IfOk result (λ phrase. phrase_of phrase ≡ spec.token_phrase s.unit (spec.place_at s.unit s.tokens n) (slice_get s.tokens n)) }
+{
+    match source.tokens.get(n) {
+        Some(token) => word_phrase(
+            names,
+            token.kind,
+            source.place(n),
+            text(source.unit, token.span),
+        ),
+        None => Ok(Phrase::Nothing),
+    }
+}
+
+/// What a phrase makes by its rule and its first token. Its parts are taken off the stack.
+fn phrase_by(
+    source: &Source,
+    expander: &Expander,
+    stack: &mut Stack,
+    rule: Rule,
+    n: usize,
+) -> Result<Phrase, Failure>
+    requires { n < 2 ^ 64 - 1 }
+    ensures made { Makes (spec.made_by (source_of source.now) rule n (seen stack.old)) result }
+    ensures rest { OnOk result (seen stack.new ≡ drop (length (right_side rule)) (seen stack.old)) }
+{
+    let shape = source.shape(n + before_sequence(rule));
+    rule_phrase(rule, source.place(n), shape, expander, stack)
+}
+
+/// A node of a declaration with its first token: what it makes goes on the stack in place of its parts.
+fn at_node(
+    source: &Source,
+    names: &mut Names,
+    expander: &Expander,
+    stack: &mut Stack,
+    node: Node,
+    n: usize,
+) -> Result<(), Failure>
+    requires { n < 2 ^ 64 - 1 }
+    ensures made { OnOk result (seen stack.new ≡ spec.phrases_from (source_of source.now) node n (seen stack.old)) }
+    ensures within { IfOk result (λ u. spec.is_low_at (source_of source.now) node n (seen stack.old) ≡ true) }
+    ensures high { IfErr result (λ f. f ≡ TooHigh → spec.is_low_at (source_of source.now) node n (seen stack.old) ≡ false) }
+{
+    let phrase = match node {
+        Node::Leaf => token_phrase(source, names, n)?,
+        Node::Inner(rule) => {
+            let phrase = phrase_by(source, expander, stack, rule, n)?;
+            is_within(&phrase);
+            phrase
+        }
+    };
+    stack.push(phrase)?;
+    Ok(())
+}
+
+/// What is made by the nodes of a declaration.
+fn phrases(
+    alloc: Global,
+    source: &Source,
+    names: &mut Names,
+    expander: &Expander,
+    nodes: &[Node],
+) -> Result<Stack, Failure>
+    ensures made { IfOk result (λ stack. seen stack ≡ spec.phrases_of (source_of source.now) nodes.now (starts_of 0 nodes.now)) }
+    ensures within { IfOk result (λ u. spec.are_low (source_of source.now) nodes.now (starts_of 0 nodes.now) ≡ true) }
+    ensures high { IfErr result (λ f. f ≡ TooHigh → spec.are_low (source_of source.now) nodes.now (starts_of 0 nodes.now) ≡ false) }
+{
+    let starts = starts(alloc, nodes)?;
+    let mut stack = Stack::new(alloc);
+    for i in (0..nodes.len()).rev() {
+        match at_node(source, names, expander, &mut stack, nodes[i], starts[i]) {
+            Ok(()) => {}
+            Err(failure) => return Err(failure),
+        }
+    }
+    Ok(stack)
+}
+
+/// The declaration of these nodes, unless it is too high.
+fn declared(
+    alloc: Global,
+    source: &Source,
+    names: &mut Names,
+    expander: &Expander,
+    nodes: &[Node],
+) -> Result<Option<TopDec>, Memory>
+    ensures { IfOk result (λ top. option_map top_of top ≡ spec.bare_dec (source_of source.now) nodes.now) }
+{
+    let mut stack = match phrases(alloc, source, names, expander, nodes) {
+        Ok(stack) => stack,
+        Err(Failure::TooHigh) => return Ok(None),
+        Err(Failure::Memory) => return Err(Memory),
+    };
+    match declaration(source.place(0), expander, &mut stack) {
+        Ok(top) => Ok(Some(top.tree)),
+        Err(Failure::TooHigh) => Ok(None),
+        Err(Failure::Memory) => Err(Memory),
+    }
+}
+
+/// The tokens behind so many.
+fn behind<'a>(tokens: &'a [Token], count: usize) -> &'a [Token]
+    ensures { result.now ≡ drop count tokens.now }
+{
+    &tokens[count.min(tokens.len())..]
+}
+
+/// What the sequences of a declaration stand for, behind so many declarations.
+fn fits_at<'a>(fitted: &'a [Fitted], count: usize) -> &'a [Fit]
+    ensures { map fit_of result.now ≡ spec.first_fits (drop count (map fitted_of fitted.now)) }
+{
+    match fitted.get(count) {
+        Some(fitted) => &fitted.fits,
+        None => &[],
+    }
+}
+
+/// The declaration of these nodes behind so many tokens, and behind so many declarations of the unit.
+fn declared_at(
+    alloc: Global,
+    unit: &[u8],
+    tokens: &[Token],
+    names: &mut Names,
+    expander: &Expander,
+    fitted: &[Fitted],
+    nodes: &[Node],
+    first: usize,
+    count: usize,
+) -> Result<Option<TopDec>, Memory>
+    ensures { IfOk result (λ top. option_map top_of top ≡ spec.bare_dec_at unit.now tokens.now first nodes.now (drop count (map fitted_of fitted.now))) }
+{
+    let fits = fits_at(fitted, count);
+    let source = Source::new(alloc, unit, behind(tokens, first), first, fits, nodes.len())?;
+    declared(alloc, &source, names, expander, nodes)
+}
+
+/// Whether there are as many declarations as there may be.
+pub fn is_full(most: Option<usize>, count: usize) -> bool
+    ensures { result ≡ is_full most count }
+{
+    match most {
+        Some(most) => most <= count,
+        None => false,
+    }
+}
+
+/// The bare declarations of a unit's derivation, so many at most, up to the first that is too high, and whether none is.
+pub fn bare_decs(
+    alloc: Global,
+    unit: &[u8],
+    tokens: &[Token],
+    names: &mut Names,
+    nodes: &[Node],
+    fitted: &[Fitted],
+    most: Option<usize>,
+) -> Result<(Vec<TopDec>, bool), Memory>
+    ensures { let all = up_to most (spec.bare_decs unit.now tokens.now 0 nodes.now (map fitted_of fitted.now)) in
+        IfOk result (λ r. (map top_of r.0.items ≡ spec.before_none all) × (r.1 ≡ list_all is_some all)) }
+{
+    let expander = Expander::new(alloc)?;
+    let mut declarations = Vec::new(alloc);
+    let mut first = 0;
+    for i in 0..nodes.len() {
+        match nodes[i] {
+            Node::Leaf => first += 1,
+            Node::Inner(rule) => {
+                if begins_at(rule) {
+                    let count = declarations.len();
+                    if is_full(most, count) {
+                        return Ok((declarations, true));
+                    }
+                    let own = before_end(&nodes[i + 1..]);
+                    let Some(top) = declared_at(
+                        alloc, unit, tokens, names, &expander, fitted, own, first, count,
+                    )?
+                    else {
+                        return Ok((declarations, false));
+                    };
+                    declarations.push(top)?;
+                }
+            }
+        }
+    }
+    Ok((declarations, true))
+}

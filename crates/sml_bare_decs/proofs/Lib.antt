@@ -1,0 +1,5 @@
+mod Bindings
+mod FunctionHeights
+mod Headings
+mod Clauses
+mod Rows

@@ -1,0 +1,4 @@
+pub mod DeclarationRules
+pub mod DeclarationViews
+pub mod FunctionRules
+pub mod FunctionViews

@@ -1,0 +1,383 @@
+//! What the rules of declarations make of their parts.
+
+ghost use Rattle.std.specs.Prelude.{◌≡◌, ◌∷◌, [], ◌+◌, drop, length, map, reverse, OnOk};
+ghost use Rattle.std.specs.Option.{option_map};
+ghost use Rattle.sml_tree.specs.Heights.{highest, typ_bind_height, exn_bind_height};
+ghost use Rattle.sml_tree.specs.ExpressionViews.{typ_bind_of, exn_bind_of};
+ghost use Rattle.sml_tree.specs.Expressions.{local_dec, type_dec, exception_dec, open_dec, fixity_dec, no_dec, and_dec};
+ghost use Rattle.sml_read.specs.Grammar.{right_side};
+ghost use Rattle.sml_read.specs.declared.grammar.Rule.TheVariants.{Declarations};
+ghost use Rattle.sml_phrases.specs.Phrases.{nothing, of_longs, of_dec, of_decs, of_typ_bind, of_typ_binds, of_exn_binds, at, name_in, long_in, names_in, longs_in, ty_in, dec_in, decs_in, typ_binds_in, exn_binds_in};
+ghost use Rattle.sml_phrases.specs.PhraseHeights.{low};
+ghost use Rattle.sml_phrases.specs.PhraseViews.{Gives, Makes, seen};
+ghost use Rattle.sml_bare_decs.specs.DeclarationRules.{value_dec, function_dec, typ_bind_in, exn_bind_in, exn_rest, values_in, functions_in, declaration_phrase};
+ghost use Rattle.sml_fixity.specs.Shapes.{shape_of};
+
+use crate::datatype_rules::{
+    and_constructor, constructors, datatype_before, datatype_dec, more_datatypes, no_con_bind,
+    no_dat_bind, plain_datatype, with_types,
+};
+use crate::declaration_lists::{and_dec, and_exn_bind, and_typ_bind};
+use crate::declaration_parts::{ExceptionRest, Functions, TypeBinding, Values, pop_exn_bind, pop_exn_rest, pop_functions, pop_typ_bind, pop_values};
+use sml_derived::expander::Expander;
+use crate::function_rules::{
+    clause_before, clauses, functions, functions_behind_bracket, functions_of_variable,
+    functions_of_variables, more_functions, no_clause, no_function, no_pat, pat_before, right_side,
+    round_functions,
+};
+use sml_phrases::low::{LowDec, LowDecs, LowExnBinds, LowTypBinds};
+use sml_phrases::phrase::{DeclarationPhrase, Failure, Phrase};
+use sml_phrases::raise::raised;
+use sml_fixity::shape::Shape;
+use sml_phrases::stack::Stack;
+use crate::value_rules::{
+    behind_bracket, no_value, of_variable, of_variables, recursive, round_value, value,
+};
+use sml_lex::fault::Place;
+use sml_read::grammar::DeclarationRule;
+use sml_tree::expressions::Dec;
+
+/// Takes so many phrases off.
+#[tactic(auto, using(crate::proofs::Drops::dropped))]
+pub fn skip_all(stack: &mut Stack, parts: usize)
+    ensures { seen stack.new ≡ drop parts (seen stack.old) }
+{
+    for _part in 0..parts {
+        stack.skip();
+    }
+}
+
+/// What the part behind so many others has made.
+#[tactic(auto, using(crate::proofs::Drops::dropped))]
+pub fn passed(stack: &mut Stack, before: usize) -> Result<Phrase, Failure>
+    ensures made { Makes (at (seen stack.old) before) result }
+    ensures rest { OnOk result (seen stack.new ≡ drop (before + 1) (seen stack.old)) }
+{
+    skip_all(stack, before);
+    Ok(stack.pop())
+}
+
+/// `local .. in .. end`
+fn local(stack: &mut Stack, place: Place) -> Result<Phrase, Failure>
+    ensures made { let vs = seen stack.old in Makes (of_dec (local_dec place (decs_in (at vs 1)) (decs_in (at vs 3)))) result }
+    ensures rest { OnOk result (seen stack.new ≡ drop 5 (seen stack.old)) }
+{
+    stack.skip();
+    let mut hidden = stack.decs();
+    stack.skip();
+    let mut shown = stack.decs();
+    stack.skip();
+    let height = raised(hidden.height.max(shown.height), 1)?;
+    hidden.trees.reverse();
+    shown.trees.reverse();
+    let tree = Dec::Local(place, hidden.trees, shown.trees);
+    Ok(Phrase::Declarations(DeclarationPhrase::Dec(LowDec { tree, height })))
+}
+
+/// `val ..`
+fn value_dec(stack: &mut Stack, place: Place) -> Result<Phrase, Failure>
+    ensures made { Makes (value_dec place (values_in (at (seen stack.old) 1))) result }
+    ensures rest { OnOk result (seen stack.new ≡ drop 2 (seen stack.old)) }
+{
+    stack.skip();
+    let Values {
+        variables,
+        plain,
+        recursive,
+    } = pop_values(stack);
+    let height = raised(plain.height.max(recursive.height), 1)?;
+    let mut variables = variables;
+    variables.reverse();
+    let mut plain = plain.trees;
+    plain.reverse();
+    let mut recursive = recursive.trees;
+    recursive.reverse();
+    let tree = Dec::Value(place, variables, plain, recursive);
+    Ok(Phrase::Declarations(DeclarationPhrase::Dec(LowDec { tree, height })))
+}
+
+/// `fun ..`
+fn function_dec(stack: &mut Stack, place: Place) -> Result<Phrase, Failure>
+    ensures made { Makes (function_dec place (functions_in (at (seen stack.old) 1))) result }
+    ensures rest { OnOk result (seen stack.new ≡ drop 2 (seen stack.old)) }
+{
+    stack.skip();
+    let Functions { variables, binds } = pop_functions(stack);
+    let height = raised(binds.height, 1)?;
+    let mut variables = variables;
+    variables.reverse();
+    let mut binds = binds.trees;
+    binds.reverse();
+    let tree = Dec::Value(place, variables, Vec::new(stack.alloc), binds);
+    Ok(Phrase::Declarations(DeclarationPhrase::Dec(LowDec { tree, height })))
+}
+
+/// A type binding, and others behind it.
+pub fn typ_binds(stack: &mut Stack) -> Result<LowTypBinds, Failure>
+    ensures made { let vs = seen stack.old in Gives (λ bs. map typ_bind_of (reverse bs.trees.items)) (λ bs. low (highest typ_bind_height bs)) (typ_bind_in (at vs 0) ∷ typ_binds_in (at vs 1)) result }
+    ensures rest { OnOk result (seen stack.new ≡ drop 2 (seen stack.old)) }
+{
+    let TypeBinding {
+        variables,
+        name,
+        ty,
+    } = pop_typ_bind(stack)?;
+    let others = stack.typ_binds();
+    Ok(and_typ_bind(variables, name, ty, others)?)
+}
+
+/// `type ..`
+fn type_dec(stack: &mut Stack, place: Place) -> Result<Phrase, Failure>
+    ensures made { let vs = seen stack.old in Makes (of_dec (type_dec place (typ_bind_in (at vs 1) ∷ typ_binds_in (at vs 2)))) result }
+    ensures rest { OnOk result (seen stack.new ≡ drop 3 (seen stack.old)) }
+{
+    stack.skip();
+    let mut all = typ_binds(stack)?;
+    let height = raised(all.height, 1)?;
+    all.trees.reverse();
+    let tree = Dec::Type(place, all.trees);
+    Ok(Phrase::Declarations(DeclarationPhrase::Dec(LowDec { tree, height })))
+}
+
+/// A type binding before others, behind `and`.
+fn more_types(stack: &mut Stack) -> Result<Phrase, Failure>
+    ensures made { let vs = seen stack.old in Makes (of_typ_binds (typ_bind_in (at vs 1) ∷ typ_binds_in (at vs 2))) result }
+    ensures rest { OnOk result (seen stack.new ≡ drop 3 (seen stack.old)) }
+{
+    stack.skip();
+    Ok(Phrase::Declarations(DeclarationPhrase::TypBinds(typ_binds(stack)?)))
+}
+
+/// Type variables, a type constructor and its right side.
+fn typ_bind(stack: &mut Stack) -> Result<Phrase, Failure>
+    ensures made { let vs = seen stack.old in Makes (of_typ_bind (names_in (at vs 0)) (name_in (at vs 1)) (ty_in (at vs 3))) result }
+    ensures rest { OnOk result (seen stack.new ≡ drop 4 (seen stack.old)) }
+{
+    let variables = stack.names();
+    let name = stack.name()?;
+    stack.skip();
+    let ty = stack.ty();
+    Ok(Phrase::Declarations(DeclarationPhrase::TypBind(variables, name, ty)))
+}
+
+fn no_typ_bind(stack: &mut Stack) -> Result<Phrase, Failure>
+    ensures made { Makes (of_typ_binds []) result }
+    ensures rest { seen stack.new ≡ seen stack.old }
+{
+    let none = LowTypBinds {
+        trees: Vec::new(stack.alloc),
+        height: 0,
+    };
+    Ok(Phrase::Declarations(DeclarationPhrase::TypBinds(none)))
+}
+
+/// An exception binding, and others behind it.
+fn exn_binds(stack: &mut Stack) -> Result<LowExnBinds, Failure>
+    ensures made { let vs = seen stack.old in Gives (λ bs. map exn_bind_of (reverse bs.trees.items)) (λ bs. low (highest exn_bind_height bs)) (exn_bind_in (at vs 0) ∷ exn_binds_in (at vs 1)) result }
+    ensures rest { OnOk result (seen stack.new ≡ drop 2 (seen stack.old)) }
+{
+    let first = pop_exn_bind(stack)?;
+    let others = stack.exn_binds();
+    Ok(and_exn_bind(first, others)?)
+}
+
+/// `exception ..`
+fn exception_dec(stack: &mut Stack, place: Place) -> Result<Phrase, Failure>
+    ensures made { let vs = seen stack.old in Makes (of_dec (exception_dec place (exn_bind_in (at vs 1) ∷ exn_binds_in (at vs 2)))) result }
+    ensures rest { OnOk result (seen stack.new ≡ drop 3 (seen stack.old)) }
+{
+    stack.skip();
+    let mut all = exn_binds(stack)?;
+    let height = raised(all.height, 1)?;
+    all.trees.reverse();
+    let tree = Dec::Exception(place, all.trees);
+    Ok(Phrase::Declarations(DeclarationPhrase::Dec(LowDec { tree, height })))
+}
+
+/// An exception binding before others, behind `and`.
+fn more_exceptions(stack: &mut Stack) -> Result<Phrase, Failure>
+    ensures made { let vs = seen stack.old in Makes (of_exn_binds (exn_bind_in (at vs 1) ∷ exn_binds_in (at vs 2))) result }
+    ensures rest { OnOk result (seen stack.new ≡ drop 3 (seen stack.old)) }
+{
+    stack.skip();
+    Ok(Phrase::Declarations(DeclarationPhrase::ExnBinds(exn_binds(stack)?)))
+}
+
+fn no_exn_bind(stack: &mut Stack) -> Result<Phrase, Failure>
+    ensures made { Makes (of_exn_binds []) result }
+    ensures rest { seen stack.new ≡ seen stack.old }
+{
+    let none = LowExnBinds {
+        trees: Vec::new(stack.alloc),
+        height: 0,
+    };
+    Ok(Phrase::Declarations(DeclarationPhrase::ExnBinds(none)))
+}
+
+/// An exception, and what stands behind it.
+fn exn_bind(stack: &mut Stack) -> Result<Phrase, Failure>
+    ensures made { let vs = seen stack.old in Makes (exn_rest (name_in (at vs 1)) (at vs 2)) result }
+    ensures rest { OnOk result (seen stack.new ≡ drop 3 (seen stack.old)) }
+{
+    stack.skip();
+    let name = stack.name()?;
+    let ExceptionRest { copied, argument } = pop_exn_rest(stack);
+    match copied {
+        Some(copied) => Ok(Phrase::Declarations(DeclarationPhrase::Copy(name, copied))),
+        None => Ok(Phrase::Declarations(DeclarationPhrase::ConBind(name, argument))),
+    }
+}
+
+/// `open ..`
+fn open_dec(stack: &mut Stack, place: Place) -> Result<Phrase, Failure>
+    ensures made { let vs = seen stack.old in Makes (of_dec (open_dec place (long_in (at vs 1) ∷ longs_in (at vs 2)))) result }
+    ensures rest { OnOk result (seen stack.new ≡ drop 3 (seen stack.old)) }
+{
+    stack.skip();
+    let first = stack.long()?;
+    let mut all = stack.longs();
+    all.push(first)?;
+    all.reverse();
+    let tree = Dec::Open(place, all);
+    Ok(Phrase::Declarations(DeclarationPhrase::Dec(LowDec { tree, height: 1 })))
+}
+
+/// A structure before others.
+fn and_opened(stack: &mut Stack) -> Result<Phrase, Failure>
+    ensures made { let vs = seen stack.old in Makes (of_longs (long_in (at vs 0) ∷ longs_in (at vs 1))) result }
+    ensures rest { OnOk result (seen stack.new ≡ drop 2 (seen stack.old)) }
+{
+    let first = stack.long()?;
+    let mut all = stack.longs();
+    all.push(first)?;
+    Ok(Phrase::Longs(all))
+}
+
+/// A directive of fixity of so many parts.
+fn fixity_dec(stack: &mut Stack, place: Place, parts: usize) -> Result<Phrase, Failure>
+    ensures made { Makes (of_dec (fixity_dec place)) result }
+    ensures rest { OnOk result (seen stack.new ≡ drop parts (seen stack.old)) }
+{
+    skip_all(stack, parts);
+    Ok(Phrase::Declarations(DeclarationPhrase::Dec(LowDec {
+        tree: Dec::Fixity(place),
+        height: 1,
+    })))
+}
+
+/// The sequence of no declarations.
+pub fn no_dec(stack: &mut Stack) -> Result<Phrase, Failure>
+    ensures made { Makes (of_decs no_dec) result }
+    ensures rest { seen stack.new ≡ seen stack.old }
+{
+    let none = LowDecs {
+        trees: Vec::new(stack.alloc),
+        height: 0,
+    };
+    Ok(Phrase::Declarations(DeclarationPhrase::Decs(none)))
+}
+
+/// A declaration before others.
+pub fn dec_before(stack: &mut Stack) -> Result<Phrase, Failure>
+    ensures made { let vs = seen stack.old in Makes (of_decs (and_dec (dec_in (at vs 0)) (decs_in (at vs 1)))) result }
+    ensures rest { OnOk result (seen stack.new ≡ drop 2 (seen stack.old)) }
+{
+    let first = stack.dec();
+    let others = stack.decs();
+    Ok(Phrase::Declarations(DeclarationPhrase::Decs(and_dec(first, others)?)))
+}
+
+/// Nothing, of so many parts.
+fn nothing(stack: &mut Stack, parts: usize) -> Result<Phrase, Failure>
+    ensures made { Makes nothing result }
+    ensures rest { OnOk result (seen stack.new ≡ drop parts (seen stack.old)) }
+{
+    skip_all(stack, parts);
+    Ok(Phrase::Nothing)
+}
+
+/// The sequence of no opened structures.
+fn no_opened(stack: &mut Stack) -> Result<Phrase, Failure>
+    ensures made { Makes (of_longs []) result }
+    ensures rest { seen stack.new ≡ seen stack.old }
+{
+    Ok(Phrase::Longs(Vec::new(stack.alloc)))
+}
+
+/// What a rule of declarations makes of its parts, which it takes off the stack.
+pub fn declaration_phrase(
+    rule: DeclarationRule,
+    place: Place,
+    shape: Option<&Shape>,
+    expander: &Expander,
+    stack: &mut Stack,
+) -> Result<Phrase, Failure>
+    ensures made { Makes (declaration_phrase rule place (option_map (λ s. shape_of s.now) shape.entry) (seen stack.old)) result }
+    ensures rest { OnOk result (seen stack.new ≡ drop (length (right_side (Declarations rule))) (seen stack.old)) }
+{
+    match rule {
+        DeclarationRule::DecCoreDec => passed(stack, 0),
+        DeclarationRule::DecLocal => local(stack, place),
+        DeclarationRule::CoreDecVal => value_dec(stack, place),
+        DeclarationRule::CoreDecFun => function_dec(stack, place),
+        DeclarationRule::CoreDecType => type_dec(stack, place),
+        DeclarationRule::CoreDecDatatype => datatype_dec(stack, place),
+        DeclarationRule::CoreDecException => exception_dec(stack, place),
+        DeclarationRule::CoreDecOpen => open_dec(stack, place),
+        DeclarationRule::CoreDecInfix => fixity_dec(stack, place, 4),
+        DeclarationRule::CoreDecInfixr => fixity_dec(stack, place, 4),
+        DeclarationRule::CoreDecNonfix => fixity_dec(stack, place, 3),
+        DeclarationRule::OpenMoreNone => no_opened(stack),
+        DeclarationRule::OpenMoreLongStrId => and_opened(stack),
+        DeclarationRule::FixityNone => nothing(stack, 0),
+        DeclarationRule::FixityLevel => nothing(stack, 1),
+        DeclarationRule::VidMoreNone => nothing(stack, 0),
+        DeclarationRule::VidMoreVid => nothing(stack, 2),
+        DeclarationRule::ValDecTypeVariable => of_variable(stack),
+        DeclarationRule::ValDecOpenRound => round_value(stack, place, expander, shape),
+        DeclarationRule::ValDecRec => recursive(stack),
+        DeclarationRule::ValDecBarePat => value(stack),
+        DeclarationRule::ValRoundTypeVariable => of_variables(stack),
+        DeclarationRule::ValRoundPatRound => behind_bracket(stack),
+        DeclarationRule::ValBindRec => recursive(stack),
+        DeclarationRule::ValBindPat => value(stack),
+        DeclarationRule::ValMoreNone => no_value(stack),
+        DeclarationRule::ValMoreAnd => passed(stack, 1),
+        DeclarationRule::FunDecTypeVariable => functions_of_variable(stack),
+        DeclarationRule::FunDecOpenRound => round_functions(stack, place, expander, shape),
+        DeclarationRule::FunDecBareAtPat => functions(stack, expander, shape),
+        DeclarationRule::FunRoundTypeVariable => functions_of_variables(stack),
+        DeclarationRule::FunRoundPatRound => functions_behind_bracket(stack),
+        DeclarationRule::ClausesAtPat => clauses(stack, expander, shape),
+        DeclarationRule::ClausesMoreNone => no_function(stack),
+        DeclarationRule::ClausesMoreAnd => more_functions(stack),
+        DeclarationRule::ClauseAtPats => right_side(stack),
+        DeclarationRule::ClauseMoreNone => no_clause(stack),
+        DeclarationRule::ClauseMoreBar => clause_before(stack, shape),
+        DeclarationRule::AtPatsNone => no_pat(stack),
+        DeclarationRule::AtPatsAtPat => pat_before(stack),
+        DeclarationRule::TypedNone => nothing(stack, 0),
+        DeclarationRule::TypedColon => passed(stack, 1),
+        DeclarationRule::TypBindTvs => typ_bind(stack),
+        DeclarationRule::TypBindMoreNone => no_typ_bind(stack),
+        DeclarationRule::TypBindMoreAnd => more_types(stack),
+        DeclarationRule::DatDecSomeTvs => datatype_before(stack),
+        DeclarationRule::DatDecTyCon => plain_datatype(stack),
+        DeclarationRule::DatRestDatatype => passed(stack, 1),
+        DeclarationRule::DatRestConBinds => constructors(stack),
+        DeclarationRule::DatBindMoreNone => no_dat_bind(stack),
+        DeclarationRule::DatBindMoreAnd => more_datatypes(stack),
+        DeclarationRule::DatBindMoreWithtype => with_types(stack),
+        DeclarationRule::ConBindsMaybeOp => and_constructor(stack),
+        DeclarationRule::ConBindsMoreNone => no_con_bind(stack),
+        DeclarationRule::ConBindsMoreBar => passed(stack, 1),
+        DeclarationRule::MaybeOpNone => nothing(stack, 0),
+        DeclarationRule::MaybeOpOp => nothing(stack, 1),
+        DeclarationRule::ExnBindMaybeOp => exn_bind(stack),
+        DeclarationRule::ExnBindMoreNone => no_exn_bind(stack),
+        DeclarationRule::ExnBindMoreAnd => more_exceptions(stack),
+        DeclarationRule::ExnRestNone => nothing(stack, 0),
+        DeclarationRule::ExnRestOf => passed(stack, 1),
+        DeclarationRule::ExnRestEquals => passed(stack, 2),
+    }
+}

@@ -1,0 +1,474 @@
+//! What the rules of functions and their clauses make of their parts.
+
+ghost use Rattle.std.specs.Prelude.{◌≡◌, ◌≤◌, ◌+◌, ◌∷◌, [], suc, max, cond, nat_eq, drop, map, reverse, IfOk, OnOk};
+ghost use Rattle.std.specs.Option.{option_map};
+ghost use Rattle.sml_tree.specs.Heights.{pat_height, pats_height, bind_height, rule_height};
+ghost use Rattle.sml_tree.specs.Views.{ident_of};
+ghost use Rattle.sml_tree.specs.TypeViews.{name_of, ty_of};
+ghost use Rattle.sml_tree.specs.Patterns.{no_pat, and_pat};
+ghost use Rattle.sml_tree.specs.PatternViews.{pat_of, pats_of};
+ghost use Rattle.sml_tree.specs.Expressions.{no_bind, and_bind};
+ghost use Rattle.sml_tree.specs.ExpressionViews.{exp_of, bind_of, binds_of};
+ghost use Rattle.sml_derived.specs.Derived.{clause_rule, function_of, pat_row_of};
+ghost use Rattle.sml_derived.specs.Views.{clause_of};
+ghost use Rattle.sml_phrases.specs.Phrases.{at, first, name_in, names_in, pat_in, pats_in, exp_in, bind_in, binds_in, clauses_in, ty_if_any, of_pats, of_bind, of_binds, of_clauses, of_functions, of_right_side};
+ghost use Rattle.sml_phrases.specs.PhraseHeights.{low};
+ghost use Rattle.sml_phrases.specs.PhraseViews.{Gives, Makes, phrase_of, seen};
+ghost use Rattle.sml_fixity.specs.Shapes.{shape_of};
+ghost use Rattle.sml_bare_decs.specs.FunctionRules.{right_side_in, round_rest, round_functions, clause_from, function_from};
+ghost use Rattle.sml_bare_decs.specs.FunctionViews.{low_pats_of, right_side_of};
+ghost use Rattle.sml_bare_exps.specs.PatternRules.{round_pat};
+ghost use Rattle.sml_bare_exps.specs.PatternSequences.{pat_place};
+
+use crate::clause_heads::{ClauseHead, heading};
+use crate::declaration_lists::{and_bind, and_pat};
+use sml_derived::expander::Expander;
+use sml_derived::functions::Clause;
+use sml_phrases::low::{LIMIT, LowBind, LowBinds, LowClauses, LowExp, LowPat, LowPats, LowTy};
+use sml_bare_exps::pattern_parts::round_pat;
+use sml_bare_exps::pattern_sequences::pat_place;
+use sml_phrases::phrase::{DeclarationPhrase, Failure, PatternPhrase, Phrase, discard};
+use sml_fixity::shape::Shape;
+use sml_phrases::stack::Stack;
+use sml_lex::fault::{Memory, Place};
+use sml_tree::bare::Ident;
+use sml_tree::expressions::Exp;
+use sml_tree::names::Name;
+use sml_tree::patterns::Pat;
+use std::alloc::Global;
+
+/// A clause behind its first atomic pattern: the other patterns, perhaps a type, and the right side.
+#[derive(Drop)]
+pub struct RightSide {
+    pub pats: LowPats,
+    pub result: Option<LowTy>,
+    pub body: LowExp,
+}
+
+/// A clause, with the height of its rule.
+#[derive(Drop)]
+pub struct LowClause {
+    pub tree: Clause,
+    pub height: u32,
+    ghost measured: { rule_height (clause_rule (clause_of tree)) ≡ height },
+    ghost low: { height ≤ 4000 },
+}
+
+/// Patterns from the first to the last, without their heights.
+fn in_order(alloc: Global, pats: LowPats) -> Result<Vec<Pat>, Memory>
+    ensures { IfOk result (λ all. pats_of (map pat_of all.items) ≡ low_pats_of pats) }
+{
+    let mut rest = pats.trees;
+    rest.reverse();
+    let mut all = Vec::new(alloc);
+    for pat in rest {
+        all.push(pat.tree)?;
+    }
+    Ok(all)
+}
+
+/// The height of patterns as one: alone, or as a tuple.
+#[tactic(auto, using(crate::proofs::Rows::count_reversed, crate::proofs::Rows::one_pat, crate::proofs::Rows::other_pats))]
+fn row_height(place: Place, pats: &LowPats) -> u32
+    ensures value { result ≡ pat_height (pat_row_of place (low_pats_of pats.now)) }
+    ensures within { result ≤ 4001 }
+{
+    if pats.trees.len() == 1 {
+        return pats.height;
+    }
+    pats.height + 1
+}
+
+/// A height within the limit.
+fn within(height: u32) -> Result<u32, Failure>
+    ensures value { Gives (λ h. h) low height result }
+    ensures within { IfOk result (λ h. h ≤ 4000) }
+{
+    if height > LIMIT {
+        return Err(Failure::TooHigh);
+    }
+    Ok(height)
+}
+
+/// A clause from its place, its arguments and its right side.
+fn clause(
+    alloc: Global,
+    place: Place,
+    arguments: LowPats,
+    ty: Option<LowTy>,
+    body: LowExp,
+) -> Result<LowClause, Failure>
+    ensures { Gives (λ c. clause_of c.tree) (λ c. low (rule_height (clause_rule c))) (record { place = place; pats = low_pats_of arguments; result = option_map (λ t. ty_of t.tree) ty; body = exp_of body.tree }) result }
+{
+    let row = row_height(place, &arguments);
+    match ty {
+        None => {
+            let height = within(row.max(body.height))?;
+            let pats = in_order(alloc, arguments)?;
+            Ok(LowClause {
+                tree: Clause {
+                    place,
+                    pats,
+                    result: None,
+                    body: body.tree,
+                },
+                height,
+            })
+        }
+        Some(ty) => {
+            let height = within(row.max(body.height.max(ty.height) + 1))?;
+            let pats = in_order(alloc, arguments)?;
+            Ok(LowClause {
+                tree: Clause {
+                    place,
+                    pats,
+                    result: Some(ty.tree),
+                    body: body.tree,
+                },
+                height,
+            })
+        }
+    }
+}
+
+/// The height of a function, from the number of its arguments and the height of its rules.
+fn function_height(count: usize, rules: u32) -> Result<u32, Failure>
+    requires { rules ≤ 4000 }
+    ensures sum { Gives (λ h. h) low (count + (rules + 3)) result }
+    ensures within { IfOk result (λ h. h ≤ 4000) }
+{
+    if count > 4000 {
+        return Err(Failure::TooHigh);
+    }
+    let height = count as u32 + (rules + 3);
+    if height > LIMIT {
+        return Err(Failure::TooHigh);
+    }
+    Ok(height)
+}
+
+/// A function, from its name, its first clause and the others.
+fn function(
+    expander: &Expander,
+    name: &Ident,
+    first: LowClause,
+    others: LowClauses,
+) -> Result<LowBind, Failure>
+    ensures { Gives (λ b. bind_of b.tree) (λ b. low (bind_height b)) (function_of (ident_of name.now) (clause_of first.tree) (map clause_of (reverse others.trees.items))) result }
+{
+    let height = function_height(first.tree.pats.len(), first.height.max(others.height))?;
+    let mut others = others.trees;
+    others.reverse();
+    let tree = expander.function(name, first.tree, others)?;
+    Ok(LowBind { tree, height })
+}
+
+/// A function whose first clause begins with an atomic pattern, at a place.
+fn function_from(
+    expander: &Expander,
+    shape: Option<&Shape>,
+    place: Place,
+    first: LowPat,
+    right: RightSide,
+    others: LowClauses,
+) -> Result<LowBind, Failure>
+    ensures { Gives (λ b. bind_of b.tree) (λ b. low (bind_height b)) (function_from (option_map (λ s. shape_of s.now) shape.entry) place (pat_of first.tree) (right_side_of right) (map clause_of (reverse others.trees.items))) result }
+{
+    let ClauseHead { name, arguments } = heading(expander.alloc, shape, first, right.pats)?;
+    let clause = clause(expander.alloc, place, arguments, right.result, right.body)?;
+    function(expander, &name, clause, others)
+}
+
+/// A clause that begins with an atomic pattern.
+fn clause_from(
+    alloc: Global,
+    shape: Option<&Shape>,
+    first: LowPat,
+    right: RightSide,
+) -> Result<LowClause, Failure>
+    ensures { Gives (λ c. clause_of c.tree) (λ c. low (rule_height (clause_rule c))) (clause_from (option_map (λ s. shape_of s.now) shape.entry) (pat_of first.tree) (right_side_of right)) result }
+{
+    let place = pat_place(&first.tree);
+    let ClauseHead { name: _, arguments } = heading(alloc, shape, first, right.pats)?;
+    clause(alloc, place, arguments, right.result, right.body)
+}
+
+fn and_clause(first: LowClause, others: LowClauses) -> Result<LowClauses, Memory>
+    ensures { IfOk result (λ all. map clause_of (reverse all.trees.items) ≡ clause_of first.tree ∷ map clause_of (reverse others.trees.items)) }
+{
+    let height = first.height.max(others.height);
+    let mut trees = others.trees;
+    trees.push(first.tree)?;
+    Ok(LowClauses { trees, height })
+}
+
+pub fn pop_right_side(stack: &mut Stack) -> RightSide
+    ensures value { right_side_of result ≡ right_side_in (first (seen stack.old)) }
+    ensures rest { seen stack.new ≡ drop 1 (seen stack.old) }
+{
+    match stack.pop() {
+        Phrase::Declarations(DeclarationPhrase::RightSide(pats, result, body)) => RightSide {
+            pats,
+            result,
+            body,
+        },
+        other => {
+            discard(other);
+            let pats = LowPats {
+                trees: Vec::new(stack.alloc),
+                height: 0,
+            };
+            let tree = Exp::Tuple(Place { line: 1, column: 1 }, Vec::new(stack.alloc));
+            RightSide {
+                pats,
+                result: None,
+                body: LowExp { tree, height: 1 },
+            }
+        }
+    }
+}
+
+/// A clause behind its first atomic pattern.
+pub fn right_side(stack: &mut Stack) -> Result<Phrase, Failure>
+    ensures made { let vs = seen stack.old in Makes (of_right_side (pats_in (at vs 0)) (ty_if_any (at vs 1)) (exp_in (at vs 3))) result }
+    ensures rest { OnOk result (seen stack.new ≡ drop 4 (seen stack.old)) }
+{
+    let pats = stack.pats();
+    let ty = stack.ty_if_any();
+    stack.skip();
+    let body = stack.exp();
+    Ok(Phrase::Declarations(DeclarationPhrase::RightSide(pats, ty, body)))
+}
+
+pub fn no_pat(stack: &mut Stack) -> Result<Phrase, Failure>
+    ensures made { Makes (of_pats no_pat) result }
+    ensures rest { seen stack.new ≡ seen stack.old }
+{
+    let none = LowPats {
+        trees: Vec::new(stack.alloc),
+        height: 0,
+    };
+    Ok(Phrase::Patterns(PatternPhrase::Pats(none)))
+}
+
+/// An atomic pattern before others.
+pub fn pat_before(stack: &mut Stack) -> Result<Phrase, Failure>
+    ensures made { let vs = seen stack.old in Makes (of_pats (and_pat (pat_in (at vs 0)) (pats_in (at vs 1)))) result }
+    ensures rest { OnOk result (seen stack.new ≡ drop 2 (seen stack.old)) }
+{
+    let first = stack.pat();
+    let others = stack.pats();
+    Ok(Phrase::Patterns(PatternPhrase::Pats(and_pat(first, others)?)))
+}
+
+pub fn no_clause(stack: &mut Stack) -> Result<Phrase, Failure>
+    ensures made { Makes (of_clauses []) result }
+    ensures rest { seen stack.new ≡ seen stack.old }
+{
+    let none = LowClauses {
+        trees: Vec::new(stack.alloc),
+        height: 0,
+    };
+    Ok(Phrase::Declarations(DeclarationPhrase::Clauses(none)))
+}
+
+/// A clause that begins with the pattern on the stack.
+fn clause_on(stack: &mut Stack, shape: Option<&Shape>) -> Result<LowClause, Failure>
+    ensures made { let vs = seen stack.old in Gives (λ c. clause_of c.tree) (λ c. low (rule_height (clause_rule c))) (clause_from (option_map (λ s. shape_of s.now) shape.entry) (pat_in (at vs 0)) (right_side_in (at vs 1))) result }
+    ensures rest { OnOk result (seen stack.new ≡ drop 2 (seen stack.old)) }
+{
+    let first = stack.pat();
+    let right = pop_right_side(stack);
+    clause_from(stack.alloc, shape, first, right)
+}
+
+/// A clause before others, behind a bar.
+pub fn clause_before(stack: &mut Stack, shape: Option<&Shape>) -> Result<Phrase, Failure>
+    ensures made { let vs = seen stack.old in Makes (of_clauses (clause_from (option_map (λ s. shape_of s.now) shape.entry) (pat_in (at vs 1)) (right_side_in (at vs 2)) ∷ clauses_in (at vs 3))) result }
+    ensures rest { OnOk result (seen stack.new ≡ drop 4 (seen stack.old)) }
+{
+    stack.skip();
+    let clause = clause_on(stack, shape)?;
+    let others = stack.clauses();
+    Ok(Phrase::Declarations(DeclarationPhrase::Clauses(and_clause(clause, others)?)))
+}
+
+/// A function from its clauses on the stack.
+fn function_on(
+    stack: &mut Stack,
+    expander: &Expander,
+    shape: Option<&Shape>,
+) -> Result<LowBind, Failure>
+    ensures made { let vs = seen stack.old in Gives (λ b. bind_of b.tree) (λ b. low (bind_height b)) (function_from (option_map (λ s. shape_of s.now) shape.entry) (pat_place (pat_in (at vs 0))) (pat_in (at vs 0)) (right_side_in (at vs 1)) (clauses_in (at vs 2))) result }
+    ensures rest { OnOk result (seen stack.new ≡ drop 3 (seen stack.old)) }
+{
+    let first = stack.pat();
+    let right = pop_right_side(stack);
+    let others = stack.clauses();
+    let place = pat_place(&first.tree);
+    function_from(expander, shape, place, first, right, others)
+}
+
+/// The clauses of a function.
+pub fn clauses(
+    stack: &mut Stack,
+    expander: &Expander,
+    shape: Option<&Shape>,
+) -> Result<Phrase, Failure>
+    ensures made { let vs = seen stack.old in Makes (of_bind (function_from (option_map (λ s. shape_of s.now) shape.entry) (pat_place (pat_in (at vs 0))) (pat_in (at vs 0)) (right_side_in (at vs 1)) (clauses_in (at vs 2)))) result }
+    ensures rest { OnOk result (seen stack.new ≡ drop 3 (seen stack.old)) }
+{
+    Ok(Phrase::Declarations(DeclarationPhrase::Bind(function_on(stack, expander, shape)?)))
+}
+
+/// The clauses of a function, and further functions.
+pub fn functions(
+    stack: &mut Stack,
+    expander: &Expander,
+    shape: Option<&Shape>,
+) -> Result<Phrase, Failure>
+    ensures made { let vs = seen stack.old in Makes (of_functions [] (and_bind (function_from (option_map (λ s. shape_of s.now) shape.entry) (pat_place (pat_in (at vs 0))) (pat_in (at vs 0)) (right_side_in (at vs 1)) (clauses_in (at vs 2))) (binds_in (at vs 3)))) result }
+    ensures rest { OnOk result (seen stack.new ≡ drop 4 (seen stack.old)) }
+{
+    let function = function_on(stack, expander, shape)?;
+    let others = stack.binds();
+    Ok(Phrase::Declarations(DeclarationPhrase::Functions(
+        Vec::new(stack.alloc),
+        and_bind(function, others)?,
+    )))
+}
+
+pub fn no_function(stack: &mut Stack) -> Result<Phrase, Failure>
+    ensures made { Makes (of_binds no_bind) result }
+    ensures rest { seen stack.new ≡ seen stack.old }
+{
+    let none = LowBinds {
+        trees: Vec::new(stack.alloc),
+        height: 0,
+    };
+    Ok(Phrase::Declarations(DeclarationPhrase::Binds(none)))
+}
+
+/// A function before others, behind `and`.
+pub fn more_functions(stack: &mut Stack) -> Result<Phrase, Failure>
+    ensures made { let vs = seen stack.old in Makes (of_binds (and_bind (bind_in (at vs 1)) (binds_in (at vs 2)))) result }
+    ensures rest { OnOk result (seen stack.new ≡ drop 3 (seen stack.old)) }
+{
+    stack.skip();
+    let first = stack.bind();
+    let others = stack.binds();
+    Ok(Phrase::Declarations(DeclarationPhrase::Binds(and_bind(first, others)?)))
+}
+
+/// Functions behind one explicit type variable.
+pub fn functions_of_variable(stack: &mut Stack) -> Result<Phrase, Failure>
+    ensures made { let vs = seen stack.old in Makes (of_functions (name_in (at vs 0) ∷ []) (and_bind (bind_in (at vs 1)) (binds_in (at vs 2)))) result }
+    ensures rest { OnOk result (seen stack.new ≡ drop 3 (seen stack.old)) }
+{
+    let mut variables = Vec::new(stack.alloc);
+    variables.push(stack.name()?)?;
+    let first = stack.bind();
+    let others = stack.binds();
+    Ok(Phrase::Declarations(DeclarationPhrase::Functions(variables, and_bind(first, others)?)))
+}
+
+/// Explicit type variables in round brackets, without the brackets.
+fn variables(stack: &mut Stack) -> Result<Vec<Name>, Memory>
+    ensures made { let vs = seen stack.old in IfOk result (λ xs. map name_of (reverse xs.items) ≡ name_in (at vs 0) ∷ names_in (at vs 1)) }
+    ensures rest { OnOk result (seen stack.new ≡ drop 2 (seen stack.old)) }
+{
+    let first = stack.name()?;
+    let mut all = stack.names();
+    all.push(first)?;
+    Ok(all)
+}
+
+/// A function, and the further ones.
+fn all_functions(stack: &mut Stack) -> Result<LowBinds, Memory>
+    ensures made { let vs = seen stack.old in IfOk result (λ bs. binds_of (map bind_of (reverse bs.trees.items)) ≡ and_bind (bind_in (at vs 0)) (binds_in (at vs 1))) }
+    ensures rest { OnOk result (seen stack.new ≡ drop 2 (seen stack.old)) }
+{
+    let first = stack.bind();
+    let others = stack.binds();
+    and_bind(first, others)
+}
+
+/// Functions behind explicit type variables in round brackets, without the first bracket.
+pub fn functions_of_variables(stack: &mut Stack) -> Result<Phrase, Failure>
+    ensures made { let vs = seen stack.old in Makes (of_functions (name_in (at vs 0) ∷ names_in (at vs 1)) (and_bind (bind_in (at vs 3)) (binds_in (at vs 4)))) result }
+    ensures rest { OnOk result (seen stack.new ≡ drop 5 (seen stack.old)) }
+{
+    let variables = variables(stack)?;
+    stack.skip();
+    let functions = all_functions(stack)?;
+    Ok(Phrase::Declarations(DeclarationPhrase::Functions(variables, functions)))
+}
+
+/// What stands behind `fun (` where it is a pattern.
+pub fn functions_behind_bracket(stack: &mut Stack) -> Result<Phrase, Failure>
+    ensures made { let vs = seen stack.old in Makes (round_rest (pats_in (at vs 0)) (right_side_in (at vs 1)) (clauses_in (at vs 2)) (binds_in (at vs 3))) result }
+    ensures rest { OnOk result (seen stack.new ≡ drop 4 (seen stack.old)) }
+{
+    let inner = stack.pats();
+    let RightSide { pats, result, body } = pop_right_side(stack);
+    let others = stack.clauses();
+    let binds = stack.binds();
+    Ok(Phrase::Declarations(DeclarationPhrase::RoundFunctions(
+        inner, pats, result, body, others, binds,
+    )))
+}
+
+/// A function whose first clause begins with a round bracket, and further functions.
+fn round_function(
+    expander: &Expander,
+    shape: Option<&Shape>,
+    place: Place,
+    inner: LowPats,
+    right: RightSide,
+    others: LowClauses,
+    binds: LowBinds,
+) -> Result<Phrase, Failure>
+    ensures { Makes (of_functions [] (and_bind (function_from (option_map (λ s. shape_of s.now) shape.entry) place (round_pat place (low_pats_of inner)) (right_side_of right) (map clause_of (reverse others.trees.items))) (binds_of (map bind_of (reverse binds.trees.items))))) result }
+{
+    let first = round_pat(expander.alloc, place, inner)?;
+    let function = function_from(expander, shape, place, first, right, others)?;
+    Ok(Phrase::Declarations(DeclarationPhrase::Functions(
+        Vec::new(expander.alloc),
+        and_bind(function, binds)?,
+    )))
+}
+
+/// What stands behind `fun (`, with the pattern in its brackets.
+fn round_functions_of(
+    expander: &Expander,
+    shape: Option<&Shape>,
+    place: Place,
+    rest: Phrase,
+) -> Result<Phrase, Failure>
+    ensures { Makes (round_functions (option_map (λ s. shape_of s.now) shape.entry) place (phrase_of rest)) result }
+{
+    match rest {
+        Phrase::Declarations(
+            DeclarationPhrase::RoundFunctions(inner, pats, result, body, others, binds),
+        ) => {
+            let right = RightSide { pats, result, body };
+            round_function(expander, shape, place, inner, right, others, binds)
+        }
+        other => Ok(other),
+    }
+}
+
+/// Functions behind `fun (`.
+pub fn round_functions(
+    stack: &mut Stack,
+    place: Place,
+    expander: &Expander,
+    shape: Option<&Shape>,
+) -> Result<Phrase, Failure>
+    ensures made { Makes (round_functions (option_map (λ s. shape_of s.now) shape.entry) place (at (seen stack.old) 1)) result }
+    ensures rest { OnOk result (seen stack.new ≡ drop 2 (seen stack.old)) }
+{
+    stack.skip();
+    let rest = stack.pop();
+    round_functions_of(expander, shape, place, rest)
+}

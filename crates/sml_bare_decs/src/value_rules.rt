@@ -1,0 +1,208 @@
+//! What the rules of value declarations make of their parts.
+
+ghost use Rattle.std.specs.Prelude.{◌≡◌, ◌∷◌, [], drop, map, reverse, IfOk, OnOk};
+ghost use Rattle.std.specs.Option.{option_map};
+ghost use Rattle.sml_tree.specs.PatternViews.{pat_of};
+ghost use Rattle.sml_tree.specs.ExpressionViews.{exp_of, bind_of, binds_of};
+ghost use Rattle.sml_tree.specs.Expressions.{bind, no_bind, and_bind};
+ghost use Rattle.sml_phrases.specs.Phrases.{of_values, at, name_in, names_in, pat_in, pats_in, exp_in};
+ghost use Rattle.sml_phrases.specs.PhraseViews.{Makes, phrase_of, seen};
+ghost use Rattle.sml_bare_decs.specs.DeclarationRules.{values_in, atoms_in, with_variables, all_recursive, round_value, round_values, and_value};
+ghost use Rattle.sml_bare_exps.specs.LowViews.{low_pats_of, low_tys_of};
+ghost use Rattle.sml_bare_exps.specs.PatternRules.{round_pat};
+ghost use Rattle.sml_bare_exps.specs.PatternSequences.{round_sequence};
+ghost use Rattle.sml_fixity.specs.Shapes.{shape_of};
+
+use crate::declaration_lists::{and_bind, joined};
+use crate::declaration_parts::{Atoms, Values, pop_atoms, pop_values};
+use sml_derived::expander::Expander;
+use sml_phrases::low::{LowBind, LowBinds, LowExp, LowPat, LowPats};
+use sml_bare_exps::pattern_sequences::round_sequence;
+use sml_phrases::phrase::{DeclarationPhrase, Failure, Phrase};
+use sml_fixity::shape::Shape;
+use sml_phrases::stack::Stack;
+use sml_lex::fault::{Memory, Place};
+use sml_tree::expressions::ValBind;
+use std::alloc::Global;
+
+/// One binding before others.
+fn and_value(
+    alloc: Global,
+    pat: LowPat,
+    exp: LowExp,
+    others: LowBinds,
+    recursive: LowBinds,
+) -> Result<Phrase, Memory>
+    ensures { IfOk result (λ phrase. phrase_of phrase ≡ of_values [] (and_bind (bind (pat_of pat.tree) (exp_of exp.tree)) (binds_of (map bind_of (reverse others.trees.items)))) (binds_of (map bind_of (reverse recursive.trees.items)))) }
+{
+    let height = pat.height.max(exp.height);
+    let first = LowBind {
+        tree: ValBind {
+            pat: pat.tree,
+            exp: exp.tree,
+        },
+        height,
+    };
+    let plain = and_bind(first, others)?;
+    Ok(Phrase::Declarations(DeclarationPhrase::Values(Vec::new(alloc), plain, recursive)))
+}
+
+/// A pattern, its right side, and further bindings.
+pub fn value(stack: &mut Stack) -> Result<Phrase, Failure>
+    ensures made { let vs = seen stack.old in Makes (and_value (pat_in (at vs 0)) (exp_in (at vs 2)) (values_in (at vs 3))) result }
+    ensures rest { OnOk result (seen stack.new ≡ drop 4 (seen stack.old)) }
+{
+    let pat = stack.pat();
+    stack.skip();
+    let exp = stack.exp();
+    let Values {
+        variables: _,
+        plain,
+        recursive,
+    } = pop_values(stack);
+    Ok(and_value(stack.alloc, pat, exp, plain, recursive)?)
+}
+
+pub fn no_value(stack: &mut Stack) -> Result<Phrase, Failure>
+    ensures made { Makes (of_values [] no_bind no_bind) result }
+    ensures rest { seen stack.new ≡ seen stack.old }
+{
+    let plain = LowBinds {
+        trees: Vec::new(stack.alloc),
+        height: 0,
+    };
+    let recursive = LowBinds {
+        trees: Vec::new(stack.alloc),
+        height: 0,
+    };
+    Ok(Phrase::Declarations(DeclarationPhrase::Values(Vec::new(stack.alloc), plain, recursive)))
+}
+
+/// Bindings behind `rec`.
+pub fn recursive(stack: &mut Stack) -> Result<Phrase, Failure>
+    ensures made { Makes (all_recursive (values_in (at (seen stack.old) 1))) result }
+    ensures rest { OnOk result (seen stack.new ≡ drop 2 (seen stack.old)) }
+{
+    stack.skip();
+    let Values {
+        variables: _,
+        plain,
+        recursive,
+    } = pop_values(stack);
+    let all = joined(plain, recursive)?;
+    let none = LowBinds {
+        trees: Vec::new(stack.alloc),
+        height: 0,
+    };
+    Ok(Phrase::Declarations(DeclarationPhrase::Values(Vec::new(stack.alloc), none, all)))
+}
+
+/// Bindings behind one explicit type variable.
+pub fn of_variable(stack: &mut Stack) -> Result<Phrase, Failure>
+    ensures made { let vs = seen stack.old in Makes (with_variables (name_in (at vs 0) ∷ []) (values_in (at vs 1))) result }
+    ensures rest { OnOk result (seen stack.new ≡ drop 2 (seen stack.old)) }
+{
+    let mut variables = Vec::new(stack.alloc);
+    variables.push(stack.name()?)?;
+    let Values {
+        variables: _,
+        plain,
+        recursive,
+    } = pop_values(stack);
+    Ok(Phrase::Declarations(DeclarationPhrase::Values(variables, plain, recursive)))
+}
+
+/// Bindings behind explicit type variables in round brackets, without the first bracket.
+pub fn of_variables(stack: &mut Stack) -> Result<Phrase, Failure>
+    ensures made { let vs = seen stack.old in Makes (with_variables (name_in (at vs 0) ∷ names_in (at vs 1)) (values_in (at vs 3))) result }
+    ensures rest { OnOk result (seen stack.new ≡ drop 4 (seen stack.old)) }
+{
+    let first = stack.name()?;
+    let mut all = stack.names();
+    all.push(first)?;
+    stack.skip();
+    let Values {
+        variables: _,
+        plain,
+        recursive,
+    } = pop_values(stack);
+    Ok(Phrase::Declarations(DeclarationPhrase::Values(all, plain, recursive)))
+}
+
+/// What stands behind `val (` where it is a pattern.
+pub fn behind_bracket(stack: &mut Stack) -> Result<Phrase, Failure>
+    ensures made { let vs = seen stack.old in Makes (round_values (pats_in (at vs 0)) (atoms_in (at vs 1)) (exp_in (at vs 3)) (values_in (at vs 4))) result }
+    ensures rest { OnOk result (seen stack.new ≡ drop 5 (seen stack.old)) }
+{
+    let inner = stack.pats();
+    let Atoms { pats, tys } = pop_atoms(stack);
+    stack.skip();
+    let exp = stack.exp();
+    let Values {
+        variables: _,
+        plain,
+        recursive,
+    } = pop_values(stack);
+    Ok(Phrase::Declarations(DeclarationPhrase::RoundValues(
+        inner, pats, tys, exp, plain, recursive,
+    )))
+}
+
+/// A binding whose pattern begins with a round bracket, before others.
+#[tactic(auto, using(crate::proofs::Clauses::value_too_high))]
+fn round_binding(
+    expander: &Expander,
+    shape: Option<&Shape>,
+    place: Place,
+    inner: LowPats,
+    atoms: Atoms,
+    exp: LowExp,
+    plain: LowBinds,
+    recursive: LowBinds,
+) -> Result<Phrase, Failure>
+    ensures { Makes (of_values [] (and_bind (bind (round_sequence (option_map (λ s. shape_of s.now) shape.entry) (round_pat place (low_pats_of inner)) (low_pats_of atoms.pats) (low_tys_of atoms.tys)) (exp_of exp.tree)) (binds_of (map bind_of (reverse plain.trees.items)))) (binds_of (map bind_of (reverse recursive.trees.items)))) result }
+{
+    let pat = round_sequence(expander, shape, place, inner, atoms.pats, atoms.tys)?;
+    Ok(and_value(expander.alloc, pat, exp, plain, recursive)?)
+}
+
+/// What stands behind `val (`, with the pattern in its brackets.
+fn round_value_of(
+    expander: &Expander,
+    shape: Option<&Shape>,
+    place: Place,
+    rest: Phrase,
+) -> Result<Phrase, Failure>
+    ensures { Makes (round_value (option_map (λ s. shape_of s.now) shape.entry) place (phrase_of rest)) result }
+{
+    match rest {
+        Phrase::Declarations(
+            DeclarationPhrase::RoundValues(inner, pats, tys, exp, plain, recursive),
+        ) => round_binding(
+            expander,
+            shape,
+            place,
+            inner,
+            Atoms { pats, tys },
+            exp,
+            plain,
+            recursive,
+        ),
+        other => Ok(other),
+    }
+}
+
+/// Bindings behind `val (`.
+pub fn round_value(
+    stack: &mut Stack,
+    place: Place,
+    expander: &Expander,
+    shape: Option<&Shape>,
+) -> Result<Phrase, Failure>
+    ensures made { Makes (round_value (option_map (λ s. shape_of s.now) shape.entry) place (at (seen stack.old) 1)) result }
+    ensures rest { OnOk result (seen stack.new ≡ drop 2 (seen stack.old)) }
+{
+    stack.skip();
+    let rest = stack.pop();
+    round_value_of(expander, shape, place, rest)
+}

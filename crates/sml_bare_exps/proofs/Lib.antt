@@ -1,0 +1,5 @@
+mod ExpressionHeights
+mod TypeChains
+mod PatternSequences
+mod PatternLists
+mod ExpressionLists

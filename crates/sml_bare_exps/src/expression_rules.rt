@@ -1,0 +1,395 @@
+//! What the rules of expressions make of their parts.
+
+ghost use Rattle.std.specs.Prelude.{◌≡◌, map, reverse, drop, length, IfOk, OnOk};
+ghost use Rattle.std.specs.Option.{option_map};
+ghost use Rattle.sml_tree.specs.Types.{no_ty, and_ty};
+ghost use Rattle.sml_tree.specs.Expressions.{Exp, raise, fn, and_exp, rule, no_rule, and_rule};
+ghost use Rattle.sml_tree.specs.PatternViews.{pat_of};
+ghost use Rattle.sml_tree.specs.ExpressionViews.{rule_of, rules_of};
+ghost use Rattle.sml_read.specs.declared.grammar.Rule.TheVariants.{Expressions};
+ghost use Rattle.sml_read.specs.Grammar.{right_side};
+ghost use Rattle.sml_derived.specs.Derived.{case_of, if_of, while_of};
+ghost use Rattle.sml_phrases.specs.Phrases.{of_exp, of_rules, of_tys, at, exp_in, exps_in, exp_if_any, pat_in, rules_in, rules_if_any, ty_in, tys_in};
+ghost use Rattle.sml_phrases.specs.PhraseViews.{Makes, phrase_of, seen};
+ghost use Rattle.sml_fixity.specs.Shapes.{shape_of};
+ghost use Rattle.sml_bare_exps.specs.ExpressionSequences.{sequence_exp};
+ghost use Rattle.sml_bare_exps.specs.ExpressionViews.{GivesExp, low_exp_of};
+ghost use Rattle.sml_bare_exps.specs.ExpressionRules.{conjunction, disjunction, handled, expression_phrase};
+
+use crate::low_forms::{low_and_also, low_case, low_conditional, low_or_else, low_repeat};
+use crate::atom_rules::{
+    behind_op, constant, first_exps, first_fields, identifier, last_exp, last_field, local,
+    more_exps, more_fields, more_series, no_exps, of_exp, round, round_parts, row, selector,
+    square, taken_exps,
+};
+use sml_derived::expander::Expander;
+use crate::expression_sequences::sequence_exp;
+use sml_phrases::low::{LowExp, LowPat, LowRules, LowTys};
+use sml_phrases::phrase::{ExpressionPhrase, Failure, Phrase, TypePhrase};
+use sml_phrases::raise::raised;
+use sml_fixity::shape::Shape;
+use sml_phrases::stack::Stack;
+use sml_lex::fault::{Memory, Place};
+use sml_read::grammar::ExpressionRule;
+use sml_tree::expressions::{Exp, Rule};
+use std::alloc::Global;
+
+/// An expression, and perhaps the right operand of `andalso`.
+fn conjunction(
+    expander: &Expander,
+    place: Place,
+    left: LowExp,
+    right: Option<LowExp>,
+) -> Result<LowExp, Failure>
+    ensures { GivesExp (conjunction place (low_exp_of left) (option_map low_exp_of right)) result }
+{
+    match right {
+        None => Ok(left),
+        Some(right) => low_and_also(expander, place, left, right),
+    }
+}
+
+/// An expression, and perhaps the right operand of `orelse`.
+fn disjunction(
+    expander: &Expander,
+    place: Place,
+    left: LowExp,
+    right: Option<LowExp>,
+) -> Result<LowExp, Failure>
+    ensures { GivesExp (disjunction place (low_exp_of left) (option_map low_exp_of right)) result }
+{
+    match right {
+        None => Ok(left),
+        Some(right) => low_or_else(expander, place, left, right),
+    }
+}
+
+/// An expression, and perhaps the match behind `handle`.
+fn handled(
+    alloc: Global,
+    place: Place,
+    exp: LowExp,
+    rules: Option<LowRules>,
+) -> Result<LowExp, Failure>
+    ensures { GivesExp (handled place (low_exp_of exp) (option_map (λ rs. rules_of (map rule_of (reverse rs.trees.items))) rules)) result }
+{
+    let Some(rules) = rules else {
+        return Ok(exp);
+    };
+    let height = raised(exp.height.max(rules.height), 1)?;
+    let mut trees = rules.trees;
+    trees.reverse();
+    let tree = Exp::Handle(place, Box::new(alloc, exp.tree)?, trees);
+    Ok(LowExp { tree, height })
+}
+
+/// `Typ AndMore`
+fn conjuncts(expander: &Expander, place: Place, stack: &mut Stack) -> Result<LowExp, Failure>
+    ensures made { let vs = seen stack.old in GivesExp (conjunction place (exp_in (at vs 0)) (exp_if_any (at vs 1))) result }
+    ensures rest { OnOk result (seen stack.new ≡ drop 2 (seen stack.old)) }
+{
+    let left = stack.exp();
+    let right = stack.exp_if_any();
+    Ok(conjunction(expander, place, left, right)?)
+}
+
+/// `Typ AndMore OrMore`
+fn operands(expander: &Expander, place: Place, stack: &mut Stack) -> Result<LowExp, Failure>
+    ensures made { let vs = seen stack.old in GivesExp (disjunction place (conjunction place (exp_in (at vs 0)) (exp_if_any (at vs 1))) (exp_if_any (at vs 2))) result }
+    ensures rest { OnOk result (seen stack.new ≡ drop 3 (seen stack.old)) }
+{
+    let left = conjuncts(expander, place, stack)?;
+    let right = stack.exp_if_any();
+    Ok(disjunction(expander, place, left, right)?)
+}
+
+/// `Typ AndMore OrMore HandleMore`
+fn handled_operands(expander: &Expander, place: Place, stack: &mut Stack) -> Result<LowExp, Failure>
+    ensures made { let vs = seen stack.old in GivesExp (handled place (disjunction place (conjunction place (exp_in (at vs 0)) (exp_if_any (at vs 1))) (exp_if_any (at vs 2))) (rules_if_any (at vs 3))) result }
+    ensures rest { OnOk result (seen stack.new ≡ drop 4 (seen stack.old)) }
+{
+    let alloc = stack.alloc;
+    let exp = operands(expander, place, stack)?;
+    let rules = stack.rules_if_any();
+    Ok(handled(alloc, place, exp, rules)?)
+}
+
+/// The same, as a phrase.
+fn handling(expander: &Expander, place: Place, stack: &mut Stack) -> Result<Phrase, Failure>
+    ensures made { Makes (let vs = seen stack.old in of_exp (handled place (disjunction place (conjunction place (exp_in (at vs 0)) (exp_if_any (at vs 1))) (exp_if_any (at vs 2))) (rules_if_any (at vs 3)))) result }
+    ensures rest { OnOk result (seen stack.new ≡ drop 4 (seen stack.old)) }
+{
+    Ok(of_exp(handled_operands(expander, place, stack)?))
+}
+
+/// The same, as a phrase.
+fn alternatives(expander: &Expander, place: Place, stack: &mut Stack) -> Result<Phrase, Failure>
+    ensures made { Makes (let vs = seen stack.old in of_exp (disjunction place (conjunction place (exp_in (at vs 0)) (exp_if_any (at vs 1))) (exp_if_any (at vs 2)))) result }
+    ensures rest { OnOk result (seen stack.new ≡ drop 3 (seen stack.old)) }
+{
+    Ok(of_exp(operands(expander, place, stack)?))
+}
+
+/// The same, as a phrase.
+fn both(expander: &Expander, place: Place, stack: &mut Stack) -> Result<Phrase, Failure>
+    ensures made { Makes (let vs = seen stack.old in of_exp (conjunction place (exp_in (at vs 0)) (exp_if_any (at vs 1)))) result }
+    ensures rest { OnOk result (seen stack.new ≡ drop 2 (seen stack.old)) }
+{
+    Ok(of_exp(conjuncts(expander, place, stack)?))
+}
+
+/// `At AtMore TyMore`
+fn sequence(
+    expander: &Expander,
+    shape: Option<&Shape>,
+    stack: &mut Stack,
+) -> Result<Phrase, Failure>
+    ensures made { Makes (let vs = seen stack.old in of_exp (sequence_exp (option_map (λ s. shape_of s.now) shape.entry) (and_exp (exp_in (at vs 0)) (exps_in (at vs 1))) (tys_in (at vs 2)))) result }
+    ensures rest { OnOk result (seen stack.new ≡ drop 3 (seen stack.old)) }
+{
+    let exps = taken_exps(stack)?;
+    let tys = stack.tys();
+    Ok(of_exp(sequence_exp(expander, shape, exps.trees, tys.trees)?))
+}
+
+/// `: Ty TyMore`
+fn more_tys(stack: &mut Stack) -> Result<Phrase, Failure>
+    ensures made { Makes (let vs = seen stack.old in of_tys (and_ty (ty_in (at vs 1)) (tys_in (at vs 2)))) result }
+    ensures rest { OnOk result (seen stack.new ≡ drop 3 (seen stack.old)) }
+{
+    stack.skip();
+    let ty = stack.ty();
+    let LowTys { mut trees, height } = stack.tys();
+    let height = height.max(ty.height);
+    trees.push(ty)?;
+    Ok(Phrase::Types(TypePhrase::Tys(LowTys { trees, height })))
+}
+
+/// `raise Exp`
+fn raising(place: Place, stack: &mut Stack) -> Result<Phrase, Failure>
+    ensures made { Makes (of_exp (raise place (exp_in (at (seen stack.old) 1)))) result }
+    ensures rest { OnOk result (seen stack.new ≡ drop 2 (seen stack.old)) }
+{
+    stack.skip();
+    let exp = stack.exp();
+    let height = raised(exp.height, 1)?;
+    let tree = Exp::Raise(place, Box::new(stack.alloc, exp.tree)?);
+    Ok(of_exp(LowExp { tree, height }))
+}
+
+/// A word, and the expression behind it.
+fn behind_word(stack: &mut Stack) -> LowExp
+    ensures value { low_exp_of result ≡ exp_in (at (seen stack.old) 1) }
+    ensures rest { seen stack.new ≡ drop 2 (seen stack.old) }
+{
+    stack.skip();
+    stack.exp()
+}
+
+/// A word, and the match behind it.
+fn match_behind_word(stack: &mut Stack) -> LowRules
+    ensures value { rules_of (map rule_of (reverse result.trees.items)) ≡ rules_in (at (seen stack.old) 1) }
+    ensures rest { seen stack.new ≡ drop 2 (seen stack.old) }
+{
+    stack.skip();
+    stack.rules()
+}
+
+/// `then Exp else Exp` behind a test
+fn branches(
+    expander: &Expander,
+    place: Place,
+    test: LowExp,
+    stack: &mut Stack,
+) -> Result<LowExp, Failure>
+    ensures made { let vs = seen stack.old in GivesExp (if_of place (low_exp_of test) (exp_in (at vs 1)) (exp_in (at vs 3))) result }
+    ensures rest { OnOk result (seen stack.new ≡ drop 4 (seen stack.old)) }
+{
+    let yes = behind_word(stack);
+    let no = behind_word(stack);
+    low_conditional(expander, place, test, yes, no)
+}
+
+/// `if Exp then Exp else Exp`
+fn chosen(expander: &Expander, place: Place, stack: &mut Stack) -> Result<LowExp, Failure>
+    ensures made { let vs = seen stack.old in GivesExp (if_of place (exp_in (at vs 1)) (exp_in (at vs 3)) (exp_in (at vs 5))) result }
+    ensures rest { OnOk result (seen stack.new ≡ drop 6 (seen stack.old)) }
+{
+    let test = behind_word(stack);
+    branches(expander, place, test, stack)
+}
+
+/// The same, as a phrase.
+fn conditional(expander: &Expander, place: Place, stack: &mut Stack) -> Result<Phrase, Failure>
+    ensures made { Makes (let vs = seen stack.old in of_exp (if_of place (exp_in (at vs 1)) (exp_in (at vs 3)) (exp_in (at vs 5)))) result }
+    ensures rest { OnOk result (seen stack.new ≡ drop 6 (seen stack.old)) }
+{
+    Ok(of_exp(chosen(expander, place, stack)?))
+}
+
+/// `while Exp do Exp`
+fn repetition(expander: &Expander, place: Place, stack: &mut Stack) -> Result<LowExp, Failure>
+    ensures made { let vs = seen stack.old in GivesExp (while_of place (exp_in (at vs 1)) (exp_in (at vs 3))) result }
+    ensures rest { OnOk result (seen stack.new ≡ drop 4 (seen stack.old)) }
+{
+    let test = behind_word(stack);
+    let body = behind_word(stack);
+    low_repeat(expander, place, test, body)
+}
+
+/// The same, as a phrase.
+fn repeated(expander: &Expander, place: Place, stack: &mut Stack) -> Result<Phrase, Failure>
+    ensures made { Makes (let vs = seen stack.old in of_exp (while_of place (exp_in (at vs 1)) (exp_in (at vs 3)))) result }
+    ensures rest { OnOk result (seen stack.new ≡ drop 4 (seen stack.old)) }
+{
+    Ok(of_exp(repetition(expander, place, stack)?))
+}
+
+/// `case Exp of Match`
+fn cases(expander: &Expander, place: Place, stack: &mut Stack) -> Result<LowExp, Failure>
+    ensures made { let vs = seen stack.old in GivesExp (case_of place (exp_in (at vs 1)) (rules_in (at vs 3))) result }
+    ensures rest { OnOk result (seen stack.new ≡ drop 4 (seen stack.old)) }
+{
+    let subject = behind_word(stack);
+    let rules = match_behind_word(stack);
+    low_case(expander, place, subject, rules)
+}
+
+/// The same, as a phrase.
+fn case(expander: &Expander, place: Place, stack: &mut Stack) -> Result<Phrase, Failure>
+    ensures made { Makes (let vs = seen stack.old in of_exp (case_of place (exp_in (at vs 1)) (rules_in (at vs 3)))) result }
+    ensures rest { OnOk result (seen stack.new ≡ drop 4 (seen stack.old)) }
+{
+    Ok(of_exp(cases(expander, place, stack)?))
+}
+
+/// `fn Match`
+fn function(place: Place, stack: &mut Stack) -> Result<Phrase, Failure>
+    ensures made { Makes (of_exp (fn place (rules_in (at (seen stack.old) 1)))) result }
+    ensures rest { OnOk result (seen stack.new ≡ drop 2 (seen stack.old)) }
+{
+    stack.skip();
+    let rules = stack.rules();
+    let height = raised(rules.height, 1)?;
+    let mut trees = rules.trees;
+    trees.reverse();
+    let tree = Exp::Function(place, trees);
+    Ok(of_exp(LowExp { tree, height }))
+}
+
+/// Rules with one more before them.
+fn with_rule(place: Place, pat: LowPat, exp: LowExp, rules: LowRules) -> Result<LowRules, Memory>
+    ensures { IfOk result (λ rs. rules_of (map rule_of (reverse rs.trees.items)) ≡ and_rule (rule place (pat_of pat.tree) (low_exp_of exp)) (rules_of (map rule_of (reverse rules.trees.items)))) }
+{
+    let LowRules { mut trees, height } = rules;
+    let height = pat.height.max(exp.height).max(height);
+    trees.push(Rule {
+        place,
+        pat: pat.tree,
+        exp: exp.tree,
+    })?;
+    Ok(LowRules { trees, height })
+}
+
+/// `Pat => Exp MatchMore`
+fn more_rules(place: Place, stack: &mut Stack) -> Result<Phrase, Failure>
+    ensures made { Makes (let vs = seen stack.old in of_rules (and_rule (rule place (pat_in (at vs 0)) (exp_in (at vs 2))) (rules_in (at vs 3)))) result }
+    ensures rest { OnOk result (seen stack.new ≡ drop 4 (seen stack.old)) }
+{
+    let pat = stack.pat();
+    stack.skip();
+    let exp = stack.exp();
+    let rules = with_rule(place, pat, exp, stack.rules())?;
+    Ok(Phrase::Expressions(ExpressionPhrase::Rules(rules)))
+}
+
+/// No types.
+fn no_tys(stack: &Stack) -> Phrase
+    ensures { phrase_of result ≡ of_tys no_ty }
+{
+    let trees = Vec::new(stack.alloc);
+    Phrase::Types(TypePhrase::Tys(LowTys { trees, height: 0 }))
+}
+
+/// No rules.
+fn no_rules(stack: &Stack) -> Phrase
+    ensures { phrase_of result ≡ of_rules no_rule }
+{
+    let trees = Vec::new(stack.alloc);
+    Phrase::Expressions(ExpressionPhrase::Rules(LowRules { trees, height: 0 }))
+}
+
+/// The part behind the first one.
+fn second(stack: &mut Stack) -> Phrase
+    ensures made { phrase_of result ≡ at (seen stack.old) 1 }
+    ensures rest { seen stack.new ≡ drop 2 (seen stack.old) }
+{
+    stack.skip();
+    stack.pop()
+}
+
+/// What a rule of expressions makes of its parts.
+pub fn expression_phrase(
+    rule: ExpressionRule,
+    place: Place,
+    shape: Option<&Shape>,
+    expander: &Expander,
+    stack: &mut Stack,
+) -> Result<Phrase, Failure>
+    ensures made { Makes (expression_phrase rule place (option_map (λ s. shape_of s.now) shape.entry) (seen stack.old)) result }
+    ensures rest { OnOk result (seen stack.new ≡ drop (length (right_side (Expressions rule))) (seen stack.old)) }
+{
+    match rule {
+        ExpressionRule::ExpOpen | ExpressionRule::AndRestOpen | ExpressionRule::OrRestOpen => Ok(
+            stack.pop(),
+        ),
+        ExpressionRule::AndMoreAndalso
+        | ExpressionRule::OrMoreOrelse
+        | ExpressionRule::HandleMoreHandle
+        | ExpressionRule::MatchMoreBar => Ok(second(stack)),
+        ExpressionRule::AndMoreNone | ExpressionRule::OrMoreNone | ExpressionRule::HandleMoreNone =>
+            Ok(Phrase::Nothing),
+        ExpressionRule::ExpTyp => handling(expander, place, stack),
+        ExpressionRule::AndRestTyp => both(expander, place, stack),
+        ExpressionRule::OrRestTyp => alternatives(expander, place, stack),
+        ExpressionRule::TypAt => sequence(expander, shape, stack),
+        ExpressionRule::TyMoreNone => Ok(no_tys(stack)),
+        ExpressionRule::TyMoreColon => more_tys(stack),
+        ExpressionRule::OpenRaise => raising(place, stack),
+        ExpressionRule::OpenIf => conditional(expander, place, stack),
+        ExpressionRule::OpenWhile => repeated(expander, place, stack),
+        ExpressionRule::OpenCase => case(expander, place, stack),
+        ExpressionRule::OpenFn => function(place, stack),
+        ExpressionRule::MatchPat => more_rules(place, stack),
+        ExpressionRule::MatchMoreNone => Ok(no_rules(stack)),
+        ExpressionRule::AtMoreNone => Ok(no_exps(stack)),
+        ExpressionRule::AtMoreAt | ExpressionRule::ExpListExp => first_exps(stack),
+        ExpressionRule::AtConstant => constant(place, stack),
+        ExpressionRule::AtExpVid => identifier(place, stack),
+        ExpressionRule::AtOp => behind_op(place, stack),
+        ExpressionRule::AtOpenCurly => row(place, stack),
+        ExpressionRule::AtHash => selector(expander, place, stack),
+        ExpressionRule::AtOpenRound => round(expander, place, stack),
+        ExpressionRule::AtOpenSquare => square(expander, place, stack),
+        ExpressionRule::AtLet => local(expander, place, stack),
+        ExpressionRule::ExpRowCloseCurly | ExpressionRule::ExpRowMoreCloseCurly => Ok(last_field(
+            stack,
+        )),
+        ExpressionRule::ExpRowLab => first_fields(stack),
+        ExpressionRule::ExpRowMoreComma => more_fields(stack),
+        ExpressionRule::ExpRoundExp => round_parts(stack),
+        ExpressionRule::ExpRoundMoreSemicolon => more_series(stack),
+        ExpressionRule::ExpRoundMoreComma
+        | ExpressionRule::TupleMoreComma
+        | ExpressionRule::SequenceMoreSemicolon
+        | ExpressionRule::ExpListMoreComma
+        | ExpressionRule::LetMoreSemicolon => more_exps(stack),
+        ExpressionRule::ExpRoundCloseRound
+        | ExpressionRule::ExpRoundMoreCloseRound
+        | ExpressionRule::TupleMoreCloseRound
+        | ExpressionRule::SequenceMoreCloseRound
+        | ExpressionRule::ExpListCloseSquare
+        | ExpressionRule::ExpListMoreCloseSquare
+        | ExpressionRule::LetMoreEnd => Ok(last_exp(stack)),
+    }
+}

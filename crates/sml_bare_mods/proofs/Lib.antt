@@ -1,0 +1,3 @@
+mod DerivedHeights
+mod Reversed
+mod Chains

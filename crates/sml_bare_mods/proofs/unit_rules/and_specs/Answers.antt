@@ -1,0 +1,10 @@
+use Rattle.std.proofs.Common.{◌≡◌, ap, arith, map, max, reverse, rules, ◌∙◌}
+use Rattle.sml_tree.specs.Heights.{specs_height}
+use Rattle.sml_bare_mods.proofs.Reversed.{specs_joined, joined_height}
+use Rattle.sml_bare_mods.proofs.unit_rules.and_specs.Goals as goal
+
+pub invariant_of-result-clause-measured : goal.invariant_of-result-clause-measured
+invariant_of-result-clause-measured c = grind (arith, joined_height)
+
+pub returns-clause-made : goal.returns-clause-made
+returns-clause-made c = grind (arith, specs_joined)

@@ -1,0 +1,4 @@
+pub mod SignatureRules
+pub mod SpecificationRules
+pub mod StructureRules
+pub mod UnitRules

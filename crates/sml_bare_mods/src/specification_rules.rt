@@ -1,0 +1,702 @@
+//! What the rules of specifications make of their parts.
+
+ghost use Rattle.std.specs.Prelude.{◌≡◌, ◌≤◌, ◌<◌, [], ◌∷◌, drop, length, map, reverse, IfErr, IfOk, OnOk};
+ghost use Rattle.std.specs.Option.{option_map};
+ghost use Rattle.sml_tree.specs.Heights.{con_bind_height, highest, sig_height, spec_height, str_descs_height, val_desc_height};
+ghost use Rattle.sml_tree.specs.SignatureViews.{sig_of, spec_of, specs_of, str_desc_of, str_descs_of, typ_desc_of, val_desc_of};
+ghost use Rattle.sml_tree.specs.ExpressionViews.{con_bind_of, dat_bind_of};
+ghost use Rattle.sml_tree.specs.Signatures.{copy_spec, datatype_spec, eqtype_spec, exception_spec, no_str_desc, sharing_structures, sharing_types, sig_end, structure_spec, type_spec, val_spec};
+ghost use Rattle.sml_tree.specs.TypeViews.{long_name_of, name_of, names_of, ty_of};
+ghost use Rattle.sml_read.specs.Grammar.{right_side};
+ghost use Rattle.sml_read.specs.declared.grammar.Rule.TheVariants.{Specifications};
+ghost use Rattle.sml_derived.specs.Derived.{where_types};
+ghost use Rattle.sml_phrases.specs.PhraseHeights.{low};
+ghost use Rattle.sml_phrases.specs.Phrases.{of_con_bind, of_con_binds, of_constructors, of_datatypes, of_longs, of_names, of_open_str_desc, of_shared_types, of_sig, of_specs, of_str_descs, of_typ_descs, of_type_rest, of_val_desc, of_val_descs, nothing, at, con_bind_in, con_binds_in, dat_binds_in, desc_wheres_in, long_in, longs_in, name_in, names_in, sig_in, specs_in, str_descs_in, ty_if_any, ty_in, typ_binds_in, typ_descs_in, val_desc_in, val_descs_in, wheres_in};
+ghost use Rattle.sml_phrases.specs.declared.phrase.Failure.TheVariants.{Memory};
+ghost use Rattle.sml_phrases.specs.PhraseViews.{Gives, Makes, phrase_of, seen};
+ghost use Rattle.sml_bare_mods.specs.SpecificationRules.{datatype, datatype_rest, datatypes, included_name, one, shared, specification_phrase, str_descs, type_rest, where_str_desc};
+
+use crate::module_stack::{pop_con_bind, pop_dat_binds, pop_str_descs, pop_val_desc, pop_where_type};
+use crate::derived_specifications::{included, types};
+use sml_derived::expander::Expander;
+use sml_phrases::low::{
+    LowConBinds, LowDatBinds, LowSig, LowSpecs, LowStrDescs, LowTypBinds, LowValDescs,
+};
+use sml_phrases::phrase::{DeclarationPhrase, Failure, Phrase, SignaturePhrase, discard};
+use sml_phrases::raise::raised;
+use crate::signature_rules::{sig_end, where_types, with_wheres};
+use sml_phrases::stack::Stack;
+use sml_lex::fault::Place;
+use sml_read::grammar::SpecificationRule;
+use sml_tree::bare::LongIdent;
+use sml_tree::expressions::{ConBind, DatBind, TypBind};
+use sml_tree::names::Name;
+use sml_tree::signatures::{SigExp, Spec, StrDesc, TypDesc, ValDesc};
+use std::alloc::Global;
+
+/// One specification.
+pub fn one(alloc: Global, spec: Spec, height: u32) -> Result<Phrase, Failure>
+    requires height { spec_height (spec_of spec) ≡ height }
+    requires low { height ≤ 4000 }
+    ensures { Makes (one (spec_of spec)) result }
+{
+    let mut trees = Vec::new(alloc);
+    trees.push(spec)?;
+    Ok(Phrase::Signatures(SignaturePhrase::Specs(LowSpecs { trees, height })))
+}
+
+/// `val ..`
+fn val_spec(stack: &mut Stack, place: Place) -> Result<Phrase, Failure>
+    ensures made { let vs = seen stack.old in Makes (one (val_spec place (val_desc_in (at vs 1) ∷ val_descs_in (at vs 2)))) result }
+    ensures rest { OnOk result (seen stack.new ≡ drop 3 (seen stack.old)) }
+{
+    stack.skip();
+    let LowValDescs { mut trees, height } = and_val_desc(stack)?;
+    let height = raised(height, 1)?;
+    trees.reverse();
+    one(stack.alloc, Spec::Value(place, trees), height)
+}
+
+/// A variable and its type, and those behind it.
+fn and_val_desc(stack: &mut Stack) -> Result<LowValDescs, Failure>
+    ensures made { let vs = seen stack.old in Gives (λ (ds : LowValDescs). map val_desc_of (reverse ds.trees.items)) (λ ds. low (highest val_desc_height ds)) (val_desc_in (at vs 0) ∷ val_descs_in (at vs 1)) result }
+    ensures rest { OnOk result (seen stack.new ≡ drop 2 (seen stack.old)) }
+{
+    let (name, ty) = pop_val_desc(stack)?;
+    let LowValDescs { mut trees, height } = stack.val_descs();
+    trees.push(ValDesc { name, ty: ty.tree })?;
+    Ok(LowValDescs {
+        trees,
+        height: height.max(ty.height),
+    })
+}
+
+/// `and ..` behind a variable and its type.
+fn val_descs(stack: &mut Stack) -> Result<Phrase, Failure>
+    ensures made { let vs = seen stack.old in Makes (of_val_descs (val_desc_in (at vs 1) ∷ val_descs_in (at vs 2))) result }
+    ensures rest { OnOk result (seen stack.new ≡ drop 3 (seen stack.old)) }
+{
+    stack.skip();
+    Ok(Phrase::Signatures(SignaturePhrase::ValDescs(and_val_desc(stack)?)))
+}
+
+/// A variable and its type.
+fn val_desc(stack: &mut Stack) -> Result<Phrase, Failure>
+    ensures made { let vs = seen stack.old in Makes (of_val_desc (name_in (at vs 0)) (ty_in (at vs 2))) result }
+    ensures rest { OnOk result (seen stack.new ≡ drop 3 (seen stack.old)) }
+{
+    let name = stack.name()?;
+    stack.skip();
+    Ok(Phrase::Signatures(SignaturePhrase::ValDesc(name, stack.ty())))
+}
+
+/// A type constructor, and what stands behind it.
+fn type_rest(stack: &mut Stack) -> Result<Phrase, Failure>
+    ensures made { let vs = seen stack.old in Makes (type_rest (names_in (at vs 0)) (name_in (at vs 1)) (at vs 2)) result }
+    ensures rest { OnOk result (seen stack.new ≡ drop 3 (seen stack.old)) }
+{
+    let mut variables = stack.names();
+    variables.reverse();
+    let name = stack.name()?;
+    type_rest_of(variables, name, stack.pop())
+}
+
+/// The same from the parts.
+fn type_rest_of(variables: Vec<Name>, name: Name, rest: Phrase) -> Result<Phrase, Failure>
+    ensures { Makes (type_rest (names_of variables.items) (name_of name) (phrase_of rest)) result }
+{
+    match rest {
+        Phrase::Signatures(SignaturePhrase::TypeRest(ty, binds)) => {
+            let LowTypBinds { mut trees, height } = binds;
+            trees.push(TypBind {
+                variables,
+                name,
+                ty: ty.tree,
+            })?;
+            let height = height.max(ty.height);
+            Ok(Phrase::Declarations(DeclarationPhrase::TypBinds(LowTypBinds { trees, height })))
+        }
+        Phrase::Signatures(SignaturePhrase::TypDescs(mut descs)) => {
+            descs.push(TypDesc { variables, name })?;
+            Ok(Phrase::Signatures(SignaturePhrase::TypDescs(descs)))
+        }
+        other => {
+            discard(other);
+            Ok(Phrase::Nothing)
+        }
+    }
+}
+
+/// `= ..` behind a type constructor.
+fn type_equals(stack: &mut Stack) -> Phrase
+    ensures made { let vs = seen stack.old in phrase_of result ≡ of_type_rest (ty_in (at vs 1)) (typ_binds_in (at vs 2)) }
+    ensures rest { seen stack.new ≡ drop 3 (seen stack.old) }
+{
+    stack.skip();
+    let ty = stack.ty();
+    Phrase::Signatures(SignaturePhrase::TypeRest(ty, stack.typ_binds()))
+}
+
+/// A type description behind a word, and those behind it.
+fn typ_descs(stack: &mut Stack) -> Result<Vec<TypDesc>, Failure>
+    ensures made { let vs = seen stack.old in IfOk result (λ ds. map typ_desc_of (reverse ds.items) ≡ record { variables = names_in (at vs 1); name = name_in (at vs 2) } ∷ typ_descs_in (at vs 3)) }
+    ensures failure { IfErr result (λ e. e ≡ Memory) }
+    ensures rest { OnOk result (seen stack.new ≡ drop 4 (seen stack.old)) }
+{
+    stack.skip();
+    let mut variables = stack.names();
+    variables.reverse();
+    let name = stack.name()?;
+    let mut descs = stack.typ_descs();
+    descs.push(TypDesc { variables, name })?;
+    Ok(descs)
+}
+
+/// `eqtype ..`
+fn eqtype_spec(stack: &mut Stack, place: Place) -> Result<Phrase, Failure>
+    ensures made { let vs = seen stack.old in Makes (one (eqtype_spec place (record { variables = names_in (at vs 1); name = name_in (at vs 2) } ∷ typ_descs_in (at vs 3)))) result }
+    ensures rest { OnOk result (seen stack.new ≡ drop 4 (seen stack.old)) }
+{
+    let mut descs = typ_descs(stack)?;
+    descs.reverse();
+    one(stack.alloc, Spec::Eqtype(place, descs), 1)
+}
+
+/// `and ..` behind a type description.
+fn and_typ_desc(stack: &mut Stack) -> Result<Phrase, Failure>
+    ensures made { let vs = seen stack.old in Makes (of_typ_descs (record { variables = names_in (at vs 1); name = name_in (at vs 2) } ∷ typ_descs_in (at vs 3))) result }
+    ensures rest { OnOk result (seen stack.new ≡ drop 4 (seen stack.old)) }
+{
+    Ok(Phrase::Signatures(SignaturePhrase::TypDescs(typ_descs(stack)?)))
+}
+
+/// What stands behind `datatype`.
+fn datatypes(stack: &mut Stack, place: Place) -> Result<Phrase, Failure>
+    ensures made { Makes (datatypes place (at (seen stack.old) 1)) result }
+    ensures rest { OnOk result (seen stack.new ≡ drop 2 (seen stack.old)) }
+{
+    stack.skip();
+    match stack.pop() {
+        Phrase::Declarations(DeclarationPhrase::Datatypes(mut datatypes, _types)) => {
+            let height = raised(datatypes.height, 1)?;
+            datatypes.trees.reverse();
+            one(stack.alloc, Spec::Datatype(place, datatypes.trees), height)
+        }
+        Phrase::Declarations(DeclarationPhrase::Copy(name, long)) => one(
+            stack.alloc,
+            Spec::Replication(place, name, long),
+            1,
+        ),
+        other => {
+            discard(other);
+            Ok(Phrase::Nothing)
+        }
+    }
+}
+
+/// A type constructor, `=`, constructors, and the datatypes behind them.
+fn datatype(stack: &mut Stack) -> Result<Phrase, Failure>
+    ensures made { let vs = seen stack.old in Makes (datatype (names_in (at vs 0)) (name_in (at vs 1)) (at vs 3) (dat_binds_in (at vs 4))) result }
+    ensures rest { OnOk result (seen stack.new ≡ drop 5 (seen stack.old)) }
+{
+    let mut variables = stack.names();
+    variables.reverse();
+    let name = stack.name()?;
+    stack.skip();
+    let constructors = stack.con_binds();
+    let datatypes = pop_dat_binds(stack);
+    and_datatype(stack.alloc, variables, name, constructors, datatypes)
+}
+
+/// A datatype in front of others, from its type variables, its type constructor and its constructors.
+fn and_datatype(
+    alloc: Global,
+    variables: Vec<Name>,
+    name: Name,
+    constructors: LowConBinds,
+    datatypes: LowDatBinds,
+) -> Result<Phrase, Failure>
+    ensures { Makes (of_datatypes (record { variables = names_of variables.items; name = name_of name; constructors = map con_bind_of (reverse constructors.trees.items) } ∷ map dat_bind_of (reverse datatypes.trees.items)) []) result }
+{
+    let mut constructors = constructors;
+    constructors.trees.reverse();
+    let LowDatBinds { mut trees, height } = datatypes;
+    let height = height.max(constructors.height);
+    trees.push(DatBind {
+        variables,
+        name,
+        constructors: constructors.trees,
+    })?;
+    Ok(datatype_phrase(alloc, LowDatBinds { trees, height }))
+}
+
+/// Datatypes with no types behind `withtype`.
+fn datatype_phrase(alloc: Global, datatypes: LowDatBinds) -> Phrase
+    ensures { phrase_of result ≡ of_datatypes (map dat_bind_of (reverse datatypes.trees.items)) [] }
+{
+    let types = LowTypBinds {
+        trees: Vec::new(alloc),
+        height: 0,
+    };
+    Phrase::Declarations(DeclarationPhrase::Datatypes(datatypes, types))
+}
+
+/// A type constructor, `=`, and what stands behind that.
+fn datatype_rest(stack: &mut Stack) -> Result<Phrase, Failure>
+    ensures made { let vs = seen stack.old in Makes (datatype_rest (name_in (at vs 0)) (at vs 2)) result }
+    ensures rest { OnOk result (seen stack.new ≡ drop 3 (seen stack.old)) }
+{
+    let name = stack.name()?;
+    stack.skip();
+    datatype_rest_of(stack.alloc, name, stack.pop())
+}
+
+/// The same from the parts.
+fn datatype_rest_of(alloc: Global, name: Name, rest: Phrase) -> Result<Phrase, Failure>
+    ensures { Makes (datatype_rest (name_of name) (phrase_of rest)) result }
+{
+    match rest {
+        Phrase::Declarations(DeclarationPhrase::Constructors(constructors, datatypes, _types)) =>
+            and_datatype(alloc, Vec::new(alloc), name, constructors, datatypes),
+        Phrase::Long(long) => Ok(Phrase::Declarations(DeclarationPhrase::Copy(name, long))),
+        other => {
+            discard(other);
+            Ok(Phrase::Nothing)
+        }
+    }
+}
+
+/// Constructors, and the datatypes behind them.
+fn constructors(stack: &mut Stack) -> Phrase
+    ensures made { let vs = seen stack.old in phrase_of result ≡ of_constructors (con_binds_in (at vs 0)) (dat_binds_in (at vs 1)) [] }
+    ensures rest { seen stack.new ≡ drop 2 (seen stack.old) }
+{
+    let constructors = stack.con_binds();
+    let datatypes = pop_dat_binds(stack);
+    let types = LowTypBinds {
+        trees: Vec::new(stack.alloc),
+        height: 0,
+    };
+    Phrase::Declarations(DeclarationPhrase::Constructors(constructors, datatypes, types))
+}
+
+/// A constructor, and those behind it.
+fn con_binds(stack: &mut Stack) -> Result<Phrase, Failure>
+    ensures made { let vs = seen stack.old in Makes (of_con_binds (record { name = name_in (at vs 0); argument = ty_if_any (at vs 1) } ∷ con_binds_in (at vs 2))) result }
+    ensures rest { OnOk result (seen stack.new ≡ drop 3 (seen stack.old)) }
+{
+    let name = stack.name()?;
+    let ty = stack.ty_if_any();
+    let LowConBinds { mut trees, height } = stack.con_binds();
+    match ty {
+        None => {
+            trees.push(ConBind {
+                name,
+                argument: None,
+            })?;
+            Ok(Phrase::Declarations(DeclarationPhrase::ConBinds(LowConBinds { trees, height })))
+        }
+        Some(ty) => {
+            trees.push(ConBind {
+                name,
+                argument: Some(ty.tree),
+            })?;
+            let height = height.max(ty.height);
+            Ok(Phrase::Declarations(DeclarationPhrase::ConBinds(LowConBinds { trees, height })))
+        }
+    }
+}
+
+/// An exception, and perhaps the type of its argument.
+fn con_bind(stack: &mut Stack) -> Result<Phrase, Failure>
+    ensures made { let vs = seen stack.old in Makes (of_con_bind (name_in (at vs 0)) (ty_if_any (at vs 1))) result }
+    ensures rest { OnOk result (seen stack.new ≡ drop 2 (seen stack.old)) }
+{
+    let name = stack.name()?;
+    Ok(Phrase::Declarations(DeclarationPhrase::ConBind(name, stack.ty_if_any())))
+}
+
+/// An exception behind a word, and those behind it.
+fn exceptions(stack: &mut Stack) -> Result<LowConBinds, Failure>
+    ensures made { let vs = seen stack.old in Gives (λ (cs : LowConBinds). map con_bind_of (reverse cs.trees.items)) (λ cs. low (highest con_bind_height cs)) (con_bind_in (at vs 1) ∷ con_binds_in (at vs 2)) result }
+    ensures rest { OnOk result (seen stack.new ≡ drop 3 (seen stack.old)) }
+{
+    stack.skip();
+    let (name, ty) = pop_con_bind(stack)?;
+    let LowConBinds { mut trees, height } = stack.con_binds();
+    match ty {
+        None => {
+            trees.push(ConBind {
+                name,
+                argument: None,
+            })?;
+            Ok(LowConBinds { trees, height })
+        }
+        Some(ty) => {
+            trees.push(ConBind {
+                name,
+                argument: Some(ty.tree),
+            })?;
+            Ok(LowConBinds {
+                trees,
+                height: height.max(ty.height),
+            })
+        }
+    }
+}
+
+/// `exception ..`
+fn exception_spec(stack: &mut Stack, place: Place) -> Result<Phrase, Failure>
+    ensures made { let vs = seen stack.old in Makes (one (exception_spec place (con_bind_in (at vs 1) ∷ con_binds_in (at vs 2)))) result }
+    ensures rest { OnOk result (seen stack.new ≡ drop 3 (seen stack.old)) }
+{
+    let LowConBinds { mut trees, height } = exceptions(stack)?;
+    let height = raised(height, 1)?;
+    trees.reverse();
+    one(stack.alloc, Spec::Exception(place, trees), height)
+}
+
+/// `and ..` behind an exception.
+fn and_exception(stack: &mut Stack) -> Result<Phrase, Failure>
+    ensures made { let vs = seen stack.old in Makes (of_con_binds (con_bind_in (at vs 1) ∷ con_binds_in (at vs 2))) result }
+    ensures rest { OnOk result (seen stack.new ≡ drop 3 (seen stack.old)) }
+{
+    Ok(Phrase::Declarations(DeclarationPhrase::ConBinds(exceptions(stack)?)))
+}
+
+/// `strid : sigexp`
+fn open_str_desc(stack: &mut Stack) -> Result<Phrase, Failure>
+    ensures made { let vs = seen stack.old in Makes (of_open_str_desc (name_in (at vs 0)) (sig_in (at vs 2))) result }
+    ensures rest { OnOk result (seen stack.new ≡ drop 3 (seen stack.old)) }
+{
+    let name = stack.name()?;
+    stack.skip();
+    Ok(Phrase::Signatures(SignaturePhrase::OpenStrDesc(name, stack.sig())))
+}
+
+/// An equation of the structure description before it, and what stands behind that.
+fn where_str_desc(stack: &mut Stack) -> Result<Phrase, Failure>
+    ensures made { let vs = seen stack.old in Makes (where_str_desc (at vs 0) (at vs 1)) result }
+    ensures rest { OnOk result (seen stack.new ≡ drop 2 (seen stack.old)) }
+{
+    let equation = pop_where_type(stack)?;
+    let (mut equations, descs) = pop_str_descs(stack);
+    equations.push(equation)?;
+    Ok(Phrase::Signatures(SignaturePhrase::StrDescs(equations, descs)))
+}
+
+/// A structure description with what belongs to it, and those behind it.
+fn str_descs(stack: &mut Stack) -> Result<LowStrDescs, Failure>
+    ensures made { let vs = seen stack.old in Gives (λ (ds : LowStrDescs). str_descs_of (map str_desc_of (reverse ds.trees.items))) (λ ds. low (str_descs_height ds)) (str_descs (at vs 0) (at vs 1)) result }
+    ensures rest { OnOk result (seen stack.new ≡ drop 2 (seen stack.old)) }
+{
+    let first = stack.pop();
+    let (equations, descs) = pop_str_descs(stack);
+    match first {
+        Phrase::Signatures(SignaturePhrase::OpenStrDesc(name, signature)) => {
+            let signature = with_wheres(stack.alloc, signature, equations)?;
+            let LowStrDescs { mut trees, height } = descs;
+            trees.push(StrDesc {
+                name,
+                signature: signature.tree,
+            })?;
+            Ok(LowStrDescs {
+                trees,
+                height: height.max(signature.height),
+            })
+        }
+        other => {
+            discard(other);
+            Ok(descs)
+        }
+    }
+}
+
+/// The same behind a structure description.
+fn and_str_descs(stack: &mut Stack) -> Result<Phrase, Failure>
+    ensures made { let vs = seen stack.old in Makes (of_str_descs [] (str_descs (at vs 0) (at vs 1))) result }
+    ensures rest { OnOk result (seen stack.new ≡ drop 2 (seen stack.old)) }
+{
+    let descs = str_descs(stack)?;
+    Ok(Phrase::Signatures(SignaturePhrase::StrDescs(Vec::new(stack.alloc), descs)))
+}
+
+/// `structure ..`
+fn structure_spec(stack: &mut Stack, place: Place) -> Result<Phrase, Failure>
+    ensures made { let vs = seen stack.old in Makes (one (structure_spec place (str_descs (at vs 1) (at vs 2)))) result }
+    ensures rest { OnOk result (seen stack.new ≡ drop 3 (seen stack.old)) }
+{
+    stack.skip();
+    let LowStrDescs { mut trees, height } = str_descs(stack)?;
+    let height = raised(height, 1)?;
+    trees.reverse();
+    one(stack.alloc, Spec::Structure(place, trees), height)
+}
+
+/// `sig .. end` behind `include`, with what stands behind it.
+fn included_sig(stack: &mut Stack, place: Place) -> Result<Phrase, Failure>
+    ensures made { let vs = seen stack.old in Makes (of_sig (where_types place (sig_end place (specs_in (at vs 1))) (wheres_in (at vs 3)))) result }
+    ensures rest { OnOk result (seen stack.new ≡ drop 4 (seen stack.old)) }
+{
+    match sig_end(stack, place) {
+        Ok(signature) => {
+            let equations = stack.wheres();
+            let signature = where_types(stack.alloc, place, signature, equations)?;
+            Ok(Phrase::Signatures(SignaturePhrase::Sig(signature)))
+        }
+        Err(failure) => Err(failure),
+    }
+}
+
+/// A signature identifier behind `include`, with what stands behind it.
+fn included_name(stack: &mut Stack, place: Place) -> Result<Phrase, Failure>
+    ensures made { let vs = seen stack.old in Makes (included_name place (name_in (at vs 0)) (at vs 1)) result }
+    ensures rest { OnOk result (seen stack.new ≡ drop 2 (seen stack.old)) }
+{
+    let name = stack.name()?;
+    match stack.pop() {
+        Phrase::Signatures(SignaturePhrase::Wheres(equations)) => {
+            let signature = LowSig {
+                tree: SigExp::Identifier(place, name.ident),
+                height: 1,
+            };
+            let signature = where_types(stack.alloc, place, signature, equations)?;
+            Ok(Phrase::Signatures(SignaturePhrase::Sig(signature)))
+        }
+        Phrase::Names(mut names) => {
+            names.push(name)?;
+            Ok(Phrase::Names(names))
+        }
+        other => {
+            discard(other);
+            Ok(Phrase::Nothing)
+        }
+    }
+}
+
+/// A signature identifier, and those behind it.
+fn names(stack: &mut Stack) -> Result<Phrase, Failure>
+    ensures made { let vs = seen stack.old in Makes (of_names (name_in (at vs 0) ∷ names_in (at vs 1))) result }
+    ensures rest { OnOk result (seen stack.new ≡ drop 2 (seen stack.old)) }
+{
+    let name = stack.name()?;
+    let mut names = stack.names();
+    names.push(name)?;
+    Ok(Phrase::Names(names))
+}
+
+/// What stands behind `sharing`.
+fn shared(stack: &mut Stack, place: Place) -> Result<Phrase, Failure>
+    ensures made { Makes (shared place (at (seen stack.old) 1)) result }
+    ensures rest { OnOk result (seen stack.new ≡ drop 2 (seen stack.old)) }
+{
+    stack.skip();
+    match stack.pop() {
+        Phrase::Signatures(SignaturePhrase::SharedTypes(mut longs)) => {
+            longs.reverse();
+            one(stack.alloc, Spec::SharingType(place, longs), 1)
+        }
+        Phrase::Longs(mut longs) => {
+            longs.reverse();
+            one(stack.alloc, Spec::Sharing(place, longs), 1)
+        }
+        other => {
+            discard(other);
+            Ok(Phrase::Nothing)
+        }
+    }
+}
+
+/// A long identifier, a word, another one, and those behind it.
+fn two_longs(stack: &mut Stack) -> Result<Vec<LongIdent>, Failure>
+    ensures made { let vs = seen stack.old in IfOk result (λ cs. map long_name_of (reverse cs.items) ≡ long_in (at vs 0) ∷ long_in (at vs 2) ∷ longs_in (at vs 3)) }
+    ensures failure { IfErr result (λ e. e ≡ Memory) }
+    ensures rest { OnOk result (seen stack.new ≡ drop 4 (seen stack.old)) }
+{
+    let first = stack.long()?;
+    stack.skip();
+    let behind = long_and_longs(stack)?;
+    and_long(first, behind)
+}
+
+/// A long identifier, and those behind it.
+fn long_and_longs(stack: &mut Stack) -> Result<Vec<LongIdent>, Failure>
+    ensures made { let vs = seen stack.old in IfOk result (λ cs. map long_name_of (reverse cs.items) ≡ long_in (at vs 0) ∷ longs_in (at vs 1)) }
+    ensures failure { IfErr result (λ e. e ≡ Memory) }
+    ensures rest { OnOk result (seen stack.new ≡ drop 2 (seen stack.old)) }
+{
+    let long = stack.long()?;
+    and_long(long, stack.longs())
+}
+
+/// A long identifier in front of others.
+fn and_long(long: LongIdent, longs: Vec<LongIdent>) -> Result<Vec<LongIdent>, Failure>
+    ensures made { IfOk result (λ cs. map long_name_of (reverse cs.items) ≡ long_name_of long ∷ map long_name_of (reverse longs.items)) }
+    ensures failure { IfErr result (λ e. e ≡ Memory) }
+{
+    let mut longs = longs;
+    longs.push(long)?;
+    Ok(longs)
+}
+
+/// Type constructors behind `sharing type`.
+fn shared_types(stack: &mut Stack) -> Result<Phrase, Failure>
+    ensures made { let vs = seen stack.old in Makes (of_shared_types (long_in (at vs 1) ∷ long_in (at vs 3) ∷ longs_in (at vs 4))) result }
+    ensures rest { OnOk result (seen stack.new ≡ drop 5 (seen stack.old)) }
+{
+    stack.skip();
+    Ok(Phrase::Signatures(SignaturePhrase::SharedTypes(two_longs(stack)?)))
+}
+
+/// Structures behind `sharing`.
+fn shared_structures(stack: &mut Stack) -> Result<Phrase, Failure>
+    ensures made { let vs = seen stack.old in Makes (of_longs (long_in (at vs 0) ∷ long_in (at vs 2) ∷ longs_in (at vs 3))) result }
+    ensures rest { OnOk result (seen stack.new ≡ drop 4 (seen stack.old)) }
+{
+    Ok(Phrase::Longs(two_longs(stack)?))
+}
+
+/// A long identifier behind `=`, and those behind it.
+fn longs(stack: &mut Stack) -> Result<Phrase, Failure>
+    ensures made { let vs = seen stack.old in Makes (of_longs (long_in (at vs 1) ∷ longs_in (at vs 2))) result }
+    ensures rest { OnOk result (seen stack.new ≡ drop 3 (seen stack.old)) }
+{
+    stack.skip();
+    let long = stack.long()?;
+    let mut longs = stack.longs();
+    longs.push(long)?;
+    Ok(Phrase::Longs(longs))
+}
+
+fn no_val_descs(stack: &Stack) -> Phrase
+    ensures { phrase_of result ≡ of_val_descs [] }
+{
+    Phrase::Signatures(SignaturePhrase::ValDescs(LowValDescs {
+        trees: Vec::new(stack.alloc),
+        height: 0,
+    }))
+}
+
+fn no_typ_descs(stack: &Stack) -> Phrase
+    ensures { phrase_of result ≡ of_typ_descs [] }
+{
+    Phrase::Signatures(SignaturePhrase::TypDescs(Vec::new(stack.alloc)))
+}
+
+fn no_datatypes(stack: &Stack) -> Phrase
+    ensures { phrase_of result ≡ of_datatypes [] [] }
+{
+    datatype_phrase(
+        stack.alloc,
+        LowDatBinds {
+            trees: Vec::new(stack.alloc),
+            height: 0,
+        },
+    )
+}
+
+fn no_con_binds(stack: &Stack) -> Phrase
+    ensures { phrase_of result ≡ of_con_binds [] }
+{
+    Phrase::Declarations(DeclarationPhrase::ConBinds(LowConBinds {
+        trees: Vec::new(stack.alloc),
+        height: 0,
+    }))
+}
+
+fn no_str_descs(stack: &Stack) -> Phrase
+    ensures { phrase_of result ≡ of_str_descs [] no_str_desc }
+{
+    let descs = LowStrDescs {
+        trees: Vec::new(stack.alloc),
+        height: 0,
+    };
+    Phrase::Signatures(SignaturePhrase::StrDescs(Vec::new(stack.alloc), descs))
+}
+
+/// The phrase behind a word.
+fn behind_word(stack: &mut Stack) -> Phrase
+    ensures made { phrase_of result ≡ at (seen stack.old) 1 }
+    ensures rest { seen stack.new ≡ drop 2 (seen stack.old) }
+{
+    stack.skip();
+    stack.pop()
+}
+
+/// What a phrase of a specification makes by its rule.
+pub fn specification_phrase(
+    rule: SpecificationRule,
+    place: Place,
+    expander: &Expander,
+    stack: &mut Stack,
+) -> Result<Phrase, Failure>
+    ensures made { Makes (specification_phrase rule place (seen stack.old)) result }
+    ensures rest { OnOk result (seen stack.new ≡ drop (length (right_side (Specifications rule))) (seen stack.old)) }
+{
+    match rule {
+        SpecificationRule::SpecVal => val_spec(stack, place),
+        SpecificationRule::SpecType => types(stack, place, expander),
+        SpecificationRule::SpecEqtype => eqtype_spec(stack, place),
+        SpecificationRule::SpecDatatype => datatypes(stack, place),
+        SpecificationRule::SpecException => exception_spec(stack, place),
+        SpecificationRule::SpecStructure => structure_spec(stack, place),
+        SpecificationRule::SpecInclude => included(stack, place, expander),
+        SpecificationRule::SpecSharing => shared(stack, place),
+        SpecificationRule::ValSpecVid => val_desc(stack),
+        SpecificationRule::ValSpecMoreNone => Ok(no_val_descs(stack)),
+        SpecificationRule::ValSpecMoreAnd => val_descs(stack),
+        SpecificationRule::TypeSpecTvs => type_rest(stack),
+        SpecificationRule::TypeSpecRestEquals => Ok(type_equals(stack)),
+        SpecificationRule::TypeSpecRestTypeSpecMore | SpecificationRule::IncludeMoreSigMore => Ok(
+            stack.pop(),
+        ),
+        SpecificationRule::TypeSpecMoreNone => Ok(no_typ_descs(stack)),
+        SpecificationRule::TypeSpecMoreAnd => and_typ_desc(stack),
+        SpecificationRule::DatSpecSomeTvs => datatype(stack),
+        SpecificationRule::DatSpecTyCon => datatype_rest(stack),
+        SpecificationRule::DatSpecRestConSpecs => Ok(constructors(stack)),
+        SpecificationRule::DatSpecMoreNone => Ok(no_datatypes(stack)),
+        SpecificationRule::DatSpecMoreAnd => {
+            stack.skip();
+            datatype(stack)
+        }
+        SpecificationRule::ConSpecsVid => con_binds(stack),
+        SpecificationRule::ConSpecsMoreNone | SpecificationRule::ExnSpecMoreNone => Ok(no_con_binds(
+            stack,
+        )),
+        SpecificationRule::DatSpecRestDatatype
+        | SpecificationRule::ConSpecsMoreBar
+        | SpecificationRule::OfTyOf
+        | SpecificationRule::StrSpecWhereAnd => Ok(behind_word(stack)),
+        SpecificationRule::OfTyNone => Ok(Phrase::Nothing),
+        SpecificationRule::ExnSpecVid => con_bind(stack),
+        SpecificationRule::ExnSpecMoreAnd => and_exception(stack),
+        SpecificationRule::StrSpecAlphanumeric => open_str_desc(stack),
+        SpecificationRule::StrSpecMoreNone | SpecificationRule::StrSpecWhereNone => Ok(no_str_descs(
+            stack,
+        )),
+        SpecificationRule::StrSpecMoreWhere | SpecificationRule::StrSpecWhereWhere => {
+            stack.skip();
+            where_str_desc(stack)
+        }
+        SpecificationRule::StrSpecMoreAnd => {
+            stack.skip();
+            and_str_descs(stack)
+        }
+        SpecificationRule::StrSpecAndWhere => where_str_desc(stack),
+        SpecificationRule::StrSpecAndStrSpec => and_str_descs(stack),
+        SpecificationRule::IncludeSig => included_sig(stack, place),
+        SpecificationRule::IncludeAlphanumeric => included_name(stack, place),
+        SpecificationRule::IncludeMoreAlphanumeric | SpecificationRule::IncludeIdsAlphanumeric =>
+            names(stack),
+        SpecificationRule::IncludeIdsNone => Ok(Phrase::Names(Vec::new(stack.alloc))),
+        SpecificationRule::SharingType => shared_types(stack),
+        SpecificationRule::SharingLongStrId => shared_structures(stack),
+        SpecificationRule::TypeShareMoreNone | SpecificationRule::StrShareMoreNone => Ok(
+            Phrase::Longs(Vec::new(stack.alloc)),
+        ),
+        SpecificationRule::TypeShareMoreEquals | SpecificationRule::StrShareMoreEquals => longs(
+            stack,
+        ),
+    }
+}

@@ -1,6 +1,0 @@
-use Rattle.std.proofs.Common.{◌≡◌, drop}
-use Rattle.sml_derived.specs.PhraseViews.{seen}
-use Rattle.sml_derived.proofs.declaration_rules.skip_all.Given as goal
-
-abbrev pub invariant-loop-part : goal.invariant-loop-part
-invariant-loop-part l = seen l.stack ≡ drop l._part (seen l.fn.stack)

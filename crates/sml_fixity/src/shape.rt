@@ -1,0 +1,13 @@
+//! What sequences of atomic phrases stand for.
+
+use crate::heads::Head;
+use crate::sequences::Operand;
+
+/// What a sequence of atomic phrases stands for.
+#[derive(Drop)]
+pub enum Shape {
+    /// An expression or a pattern.
+    Tree(Operand),
+    /// The head of a clause.
+    Head(Head),
+}

@@ -1,0 +1,4 @@
+mod Knowing
+pub mod FirstFlaws
+mod Flawing
+mod Marking

@@ -1,0 +1,5 @@
+pub mod Marks
+pub mod Known
+pub mod Flawed
+pub mod Roles
+pub mod Flaws

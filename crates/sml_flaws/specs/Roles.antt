@@ -1,0 +1,173 @@
+-- What each rule of the grammar is to the names that its phrases bind (the Definition, sections 2.9 and 3.5).
+use Rattle.std.specs.Prelude.{List, [], ◌∷◌}
+use Rattle.sml_read.specs.declared.grammar.Rule.{Rule}
+use Rattle.sml_read.specs.declared.grammar.Rule.TheVariants.{Units, Structures, Signatures, Specifications, Declarations, Expressions, Patterns, Types}
+use Rattle.sml_read.specs.declared.grammar.UnitRule.{UnitRule}
+use Rattle.sml_read.specs.declared.grammar.UnitRule.TheVariants.{StartExp, TopSignature, TopFunctor, StrStructure}
+use Rattle.sml_read.specs.declared.grammar.StructureRule.{StructureRule}
+use Rattle.sml_read.specs.declared.grammar.StructureRule.TheVariants.{StrBindAlphanumeric, FunBindAlphanumeric}
+use Rattle.sml_read.specs.declared.grammar.SignatureRule.{SignatureRule}
+use Rattle.sml_read.specs.declared.grammar.SignatureRule.TheVariants.{SigBindAlphanumeric}
+use Rattle.sml_read.specs.declared.grammar.SpecificationRule.{SpecificationRule}
+use Rattle.sml_read.specs.declared.grammar.SpecificationRule.TheVariants.{ValSpecVid, TypeSpecTvs, DatSpecSomeTvs, DatSpecTyCon, SpecEqtype, TypeSpecMoreAnd, DatSpecMoreAnd, ConSpecsVid, ExnSpecVid, StrSpecAlphanumeric, SpecVal, SpecType, SpecDatatype, SpecException, SpecStructure}
+use Rattle.sml_read.specs.declared.grammar.DeclarationRule.{DeclarationRule}
+use Rattle.sml_read.specs.declared.grammar.DeclarationRule.TheVariants.{ValDecTypeVariable, FunDecTypeVariable, ValRoundTypeVariable, FunRoundTypeVariable, ValRoundPatRound, FunDecBareAtPat, FunRoundPatRound, ClausesAtPat, AtPatsAtPat, ClauseMoreBar, ValBindPat, TypBindTvs, DatDecSomeTvs, DatDecTyCon, DatBindMoreAnd, ConBindsMaybeOp, ExnBindMaybeOp, CoreDecVal, CoreDecFun, CoreDecType, CoreDecDatatype, CoreDecException, DatBindMoreWithtype, ValDecRec, ValBindRec, ValDecOpenRound, FunDecOpenRound}
+use Rattle.sml_read.specs.declared.grammar.ExpressionRule.{ExpressionRule}
+use Rattle.sml_read.specs.declared.grammar.ExpressionRule.TheVariants.{ExpRowLab, ExpRowMoreComma, OpenWhile, AtOpenCurly}
+use Rattle.sml_read.specs.declared.grammar.PatternRule.{PatternRule}
+use Rattle.sml_read.specs.declared.grammar.PatternRule.TheVariants.{PatOpenRound, BarePatVid, OpPatVid, BarePatOtherAtPat, OpPatQualified, AfterVidAtPat, AtPatMoreAtPat, BareAtPatVid, BareAtPatOp, OtherAtPatConstant, RowNumeral, RowVid, BarePatOp, OtherAtPatOpenCurly}
+use Rattle.sml_read.specs.declared.grammar.TypeRule.{TypeRule}
+use Rattle.sml_read.specs.declared.grammar.TypeRule.TheVariants.{ATyTypeVariable, SomeTvsTypeVariable, SomeTvsOpenRound, TvsMoreComma, TyRowLab, TyRowMoreComma, ATyOpenCurly}
+use Rattle.sml_flaws.specs.declared.role.Space.TheVariants as P
+use Rattle.sml_flaws.specs.declared.role.Word.TheVariants as W
+use Rattle.sml_flaws.specs.declared.role.Role.{Role}
+use Rattle.sml_flaws.specs.declared.role.Role.TheVariants as R
+use Rattle.sml_flaws.specs.declared.role.Opening.{Opening}
+use Rattle.sml_flaws.specs.declared.role.Opening.TheVariants as O
+
+abbrev pub structure_roles : StructureRule → List Role
+structure_roles StrBindAlphanumeric = R.Word (W.Bound P.Structures) ∷ []
+structure_roles FunBindAlphanumeric = R.Word (W.Bound P.Functors) ∷ []
+structure_roles _ = []
+
+abbrev pub signature_roles : SignatureRule → List Role
+signature_roles SigBindAlphanumeric = R.Word (W.Bound P.Signatures) ∷ []
+signature_roles _ = []
+
+abbrev pub specification_roles : SpecificationRule → List Role
+specification_roles ValSpecVid = R.Word (W.Bound P.Values) ∷ []
+specification_roles TypeSpecTvs = R.Same ∷ R.Word (W.Bound P.Types) ∷ []
+specification_roles DatSpecSomeTvs = R.Same ∷ R.Word (W.Bound P.Types) ∷ []
+specification_roles DatSpecTyCon = R.Word (W.Bound P.Types) ∷ []
+specification_roles SpecEqtype = R.Same ∷ R.Same ∷ R.Word (W.Bound P.Types) ∷ []
+specification_roles TypeSpecMoreAnd = R.Same ∷ R.Same ∷ R.Word (W.Bound P.Types) ∷ []
+specification_roles DatSpecMoreAnd = R.Same ∷ R.Same ∷ R.Word (W.Bound P.Types) ∷ []
+specification_roles ConSpecsVid = R.Word (W.Bound P.Constructors) ∷ []
+specification_roles ExnSpecVid = R.Word (W.Bound P.Exceptions) ∷ []
+specification_roles StrSpecAlphanumeric = R.Word (W.Bound P.Structures) ∷ []
+specification_roles _ = []
+
+abbrev pub declaration_roles : DeclarationRule → List Role
+declaration_roles ValDecTypeVariable = R.Word W.Listed ∷ []
+declaration_roles FunDecTypeVariable = R.Word W.Listed ∷ []
+declaration_roles ValRoundTypeVariable = R.Word W.Listed ∷ []
+declaration_roles FunRoundTypeVariable = R.Word W.Listed ∷ []
+declaration_roles ValRoundPatRound = R.Same ∷ R.Next ∷ []
+declaration_roles FunDecBareAtPat = R.Same ∷ R.Next ∷ []
+declaration_roles FunRoundPatRound = R.Same ∷ R.Next ∷ []
+declaration_roles ClausesAtPat = R.Same ∷ R.Next ∷ []
+declaration_roles AtPatsAtPat = R.Same ∷ R.Next ∷ []
+declaration_roles ClauseMoreBar = R.Same ∷ R.Same ∷ R.Next ∷ []
+declaration_roles ValBindPat = R.Same ∷ R.Same ∷ R.Expression ∷ []
+declaration_roles TypBindTvs = R.Same ∷ R.Word (W.Bound P.Types) ∷ []
+declaration_roles DatDecSomeTvs = R.Same ∷ R.Word (W.Bound P.Types) ∷ []
+declaration_roles DatDecTyCon = R.Word (W.Bound P.Types) ∷ []
+declaration_roles DatBindMoreAnd = R.Same ∷ R.Same ∷ R.Word (W.Bound P.Types) ∷ []
+declaration_roles ConBindsMaybeOp = R.Same ∷ R.Word (W.Bound P.Constructors) ∷ []
+declaration_roles ExnBindMaybeOp = R.Same ∷ R.Word (W.Bound P.Exceptions) ∷ []
+declaration_roles _ = []
+
+abbrev pub expression_roles : ExpressionRule → List Role
+expression_roles ExpRowLab = R.Word (W.Bound P.Labels) ∷ []
+expression_roles ExpRowMoreComma = R.Same ∷ R.Word (W.Bound P.Labels) ∷ []
+expression_roles _ = []
+
+abbrev pub pattern_roles : PatternRule → List Role
+pattern_roles PatOpenRound = R.Same ∷ R.Same ∷ R.Next ∷ []
+pattern_roles BarePatVid = R.Word W.Atom ∷ R.Next ∷ []
+pattern_roles OpPatVid = R.Word W.Atom ∷ R.Next ∷ []
+pattern_roles BarePatOtherAtPat = R.Same ∷ R.Next ∷ []
+pattern_roles OpPatQualified = R.Same ∷ R.Next ∷ []
+pattern_roles AfterVidAtPat = R.Same ∷ R.Next ∷ []
+pattern_roles AtPatMoreAtPat = R.Same ∷ R.Next ∷ []
+pattern_roles BareAtPatVid = R.Word W.Atom ∷ []
+pattern_roles BareAtPatOp = R.Same ∷ R.Word W.Atom ∷ []
+pattern_roles OtherAtPatConstant = R.Word W.Constant ∷ []
+pattern_roles RowNumeral = R.Word (W.Bound P.Labels) ∷ []
+pattern_roles RowVid = R.Word (W.Bound P.Labels) ∷ []
+pattern_roles _ = []
+
+abbrev pub type_roles : TypeRule → List Role
+type_roles ATyTypeVariable = R.Word W.Variable ∷ []
+type_roles SomeTvsTypeVariable = R.Word W.Listed ∷ []
+type_roles SomeTvsOpenRound = R.Same ∷ R.Word W.Listed ∷ []
+type_roles TvsMoreComma = R.Same ∷ R.Word W.Listed ∷ []
+type_roles TyRowLab = R.Word (W.Bound P.Labels) ∷ []
+type_roles TyRowMoreComma = R.Same ∷ R.Word (W.Bound P.Labels) ∷ []
+type_roles _ = []
+
+-- the roles of the first symbols of a rule; those behind have the context of the whole
+abbrev pub roles_of : Rule → List Role
+roles_of (Structures rule) = structure_roles rule
+roles_of (Signatures rule) = signature_roles rule
+roles_of (Specifications rule) = specification_roles rule
+roles_of (Declarations rule) = declaration_roles rule
+roles_of (Expressions rule) = expression_roles rule
+roles_of (Patterns rule) = pattern_roles rule
+roles_of (Types rule) = type_roles rule
+roles_of _ = []
+
+abbrev pub unit_opening : UnitRule → Opening
+unit_opening StartExp = O.Value
+unit_opening TopSignature = O.Group
+unit_opening TopFunctor = O.Group
+unit_opening StrStructure = O.Group
+unit_opening _ = O.Nothing
+
+abbrev pub specification_opening : SpecificationRule → Opening
+specification_opening SpecVal = O.Group
+specification_opening SpecType = O.Group
+specification_opening SpecEqtype = O.Group
+specification_opening SpecDatatype = O.Group
+specification_opening SpecException = O.Group
+specification_opening SpecStructure = O.Group
+specification_opening _ = O.Nothing
+
+abbrev pub declaration_opening : DeclarationRule → Opening
+declaration_opening CoreDecVal = O.Value
+declaration_opening CoreDecFun = O.Value
+declaration_opening CoreDecType = O.Types
+declaration_opening CoreDecDatatype = O.Types
+declaration_opening CoreDecException = O.Group
+declaration_opening DatBindMoreWithtype = O.Group
+declaration_opening ValDecTypeVariable = O.Group
+declaration_opening ValRoundTypeVariable = O.Group
+declaration_opening FunDecTypeVariable = O.Group
+declaration_opening FunRoundTypeVariable = O.Group
+declaration_opening ValDecRec = O.Recursive
+declaration_opening ValBindRec = O.Recursive
+declaration_opening ValDecOpenRound = O.Sequence
+declaration_opening FunDecOpenRound = O.Function
+declaration_opening FunDecBareAtPat = O.Function
+declaration_opening ClausesAtPat = O.Function
+declaration_opening ClauseMoreBar = O.Clause
+declaration_opening _ = O.Nothing
+
+abbrev pub expression_opening : ExpressionRule → Opening
+expression_opening OpenWhile = O.Value
+expression_opening AtOpenCurly = O.Group
+expression_opening _ = O.Nothing
+
+abbrev pub pattern_opening : PatternRule → Opening
+pattern_opening PatOpenRound = O.Sequence
+pattern_opening BarePatVid = O.Sequence
+pattern_opening BarePatOp = O.Sequence
+pattern_opening BarePatOtherAtPat = O.Sequence
+pattern_opening OtherAtPatOpenCurly = O.Group
+pattern_opening _ = O.Nothing
+
+abbrev pub type_opening : TypeRule → Opening
+type_opening SomeTvsTypeVariable = O.Group
+type_opening SomeTvsOpenRound = O.Group
+type_opening ATyOpenCurly = O.Group
+type_opening _ = O.Nothing
+
+-- what begins with a phrase of a rule
+abbrev pub opening_of : Rule → Opening
+opening_of (Units rule) = unit_opening rule
+opening_of (Specifications rule) = specification_opening rule
+opening_of (Declarations rule) = declaration_opening rule
+opening_of (Expressions rule) = expression_opening rule
+opening_of (Patterns rule) = pattern_opening rule
+opening_of (Types rule) = type_opening rule
+opening_of _ = O.Nothing

@@ -1,0 +1,476 @@
+//! The first fault of what a declaration binds: names that are bound twice or can't be bound, clauses that don't
+//! agree, and real constants in patterns.
+
+ghost use Rattle.std.specs.Prelude.{◌≡◌, ◌≤◌, ℕ, List, [], ◌∷◌, ◌++◌, Option, map, get_or, drop, length, IfOk, OnOk};
+ghost use Rattle.std.specs.List.{cons_option, list_any};
+ghost use Rattle.sml_flaws.specs.declared.mark.Mark.{Mark};
+ghost use Rattle.sml_reach.specs.Events.{text_at};
+ghost use Rattle.sml_reach.specs.Fits as shapes;
+ghost use Rattle.sml_reach.specs.Fits.{fit_of};
+ghost use Rattle.sml_flaws.specs.Marks.{marks_of, start};
+ghost use Rattle.sml_flaws.specs.Flaws as spec;
+ghost use Rattle.sml_tree.specs.Trees.{Id};
+ghost use Rattle.sml_flaws.specs.Known.{atom_at, count_at, is_again, is_used, head_at, token_in};
+ghost use Rattle.sml_flaws.specs.Flaws.{KnowsFits, Knows};
+
+use sml_reach::fitted::Fit;
+use crate::known::{Key, Position, bytes, heads_of, note_atom, note_count, note_key, uses_of};
+use crate::mark::{Mark, marks};
+use crate::role::Space;
+use indexmap::{IndexMap, IndexSet};
+use sml_fixity::heads::Head;
+use sml_lex::fault::{Code, Memory};
+use sml_lex::token::Token;
+use sml_read::grammar::Node;
+use sml_read::phrases::ends;
+use std::alloc::Global;
+
+/// A fault of what a declaration binds: its token and its code.
+#[derive(Clone, Copy, PartialEq, Eq, Debug, Drop)]
+pub struct Flaw {
+    pub token: usize,
+    pub code: Code,
+}
+
+/// What is known of the marks before.
+#[derive(Drop)]
+pub struct Seen {
+    keys: IndexSet<Key>,
+    atoms: IndexMap<Position, usize>,
+    counts: IndexMap<usize, usize>,
+}
+
+/// Judges the marks of a declaration, whose sequences are known.
+#[derive(Drop)]
+pub struct Judge<'a> {
+    alloc: Global,
+    unit: &'a [u8],
+    tokens: &'a [Token],
+    uses: IndexSet<Position>,
+    heads: IndexMap<usize, Head>,
+}
+
+fn flaw_if(here: bool, token: usize, code: Code) -> Option<Flaw>
+    ensures { result ≡ spec.flaw_if here token code }
+{
+    if here {
+        Some(Flaw { token, code })
+    } else {
+        None
+    }
+}
+
+fn is_reserved(text: &[u8]) -> bool
+    ensures { result ≡ spec.is_reserved text.now }
+{
+    text == b"true".as_slice()
+        || text == b"false".as_slice()
+        || text == b"nil".as_slice()
+        || text == b"::".as_slice()
+        || text == b"ref".as_slice()
+}
+
+fn is_it(text: &[u8]) -> bool
+    ensures { result ≡ spec.is_it text.now }
+{
+    text == b"it".as_slice()
+}
+
+/// Whether names of this space are values.
+fn names_value(space: Space) -> bool
+    ensures { result ≡ spec.names_value space }
+{
+    match space {
+        Space::Constructors | Space::Exceptions | Space::Values => true,
+        _ => false,
+    }
+}
+
+/// Whether names of this space make values of datatypes or of `exn`.
+fn names_constructor(space: Space) -> bool
+    ensures { result ≡ spec.names_constructor space }
+{
+    match space {
+        Space::Constructors | Space::Exceptions => true,
+        _ => false,
+    }
+}
+
+fn token_in(mark: Mark) -> usize
+    ensures { result ≡ token_in mark }
+{
+    match mark {
+        Mark::Bound(bound) => bound.token,
+        Mark::Listed(listed) => listed.token,
+        Mark::Owned(owned) => owned.token,
+        Mark::Identifier(identifier) => identifier.token,
+        Mark::Pun(token) => token,
+        Mark::Real(token) => token,
+        Mark::Clause(clause) => clause.sequence,
+    }
+}
+
+fn owner_in(mark: Mark) -> Option<usize>
+    ensures { result ≡ spec.owner_in mark }
+{
+    match mark {
+        Mark::Listed(listed) => listed.owner,
+        Mark::Owned(owned) => Some(owned.owner),
+        _ => None,
+    }
+}
+
+fn end_at(ends: &[usize], node: usize) -> usize
+    ensures { result ≡ get_or ends.now node 0 }
+{
+    match ends.get(node) {
+        Some(end) => *end,
+        None => 0,
+    }
+}
+
+/// Whether a node lies within the phrase of a value declaration.
+fn lies_in(ends: &[usize], owner: Option<usize>, node: usize) -> bool
+    ensures { result ≡ spec.lies_in ends.now owner node }
+{
+    match owner {
+        Some(owner) => owner < node && node < end_at(ends, owner),
+        None => false,
+    }
+}
+
+fn real(mark: Mark) -> Option<Flaw>
+    ensures { result ≡ spec.real mark }
+{
+    match mark {
+        Mark::Real(token) => flaw_if(true, token, Code::G5),
+        _ => None,
+    }
+}
+
+/// The fault of a clause with this many arguments in a function of so many.
+fn uneven(token: usize, own: Option<usize>, first: Option<usize>) -> Option<Flaw>
+    ensures { result ≡ spec.uneven_by token own first }
+{
+    let own = own?;
+    let first = first?;
+    flaw_if(own != first, token, Code::G2)
+}
+
+/// How many arguments a head of so many atomic patterns has.
+fn arity(head: Option<Head>, atoms: Option<usize>) -> Option<usize>
+    ensures { result ≡ spec.arity_by head atoms }
+{
+    let head = head?;
+    let atoms = atoms?;
+    Some(match head {
+        Head::Prefix => atoms.saturating_sub(1),
+        Head::Infix => 1,
+        Head::Bracketed => atoms,
+    })
+}
+
+fn push_some(flaws: &mut Vec<Flaw>, flaw: Option<Flaw>) -> Result<(), Memory>
+    ensures { OnOk result (flaws.new.items ≡ flaws.old.items ++ cons_option flaw []) }
+{
+    match flaw {
+        Some(flaw) => flaws.push(flaw)?,
+        None => {}
+    }
+    Ok(())
+}
+
+fn code_number(code: Code) -> u8
+    ensures { result ≡ spec.flaw_number code }
+{
+    match code {
+        Code::G1 => 1,
+        Code::G2 => 2,
+        Code::G3 => 3,
+        Code::G4 => 4,
+        _ => 5,
+    }
+}
+
+fn precedes(left: Flaw, right: Flaw) -> bool
+    ensures { result ≡ spec.precedes left right }
+{
+    left.token < right.token
+        || left.token == right.token && code_number(left.code) <= code_number(right.code)
+}
+
+fn earlier(left: Flaw, right: Option<Flaw>) -> Flaw
+    ensures { result ≡ spec.earlier left right }
+{
+    match right {
+        Some(right) => { if precedes(left, right) { left } else { right } }
+        None => left,
+    }
+}
+
+fn first_of(flaws: &[Flaw]) -> Option<Flaw>
+    ensures { result ≡ spec.first_flaw flaws.now }
+{
+    let mut first = None;
+    for i in (0..flaws.len()).rev() {
+        first = Some(earlier(flaws[i], first));
+    }
+    first
+}
+
+impl Seen {
+    fn new(alloc: Global) -> Seen
+        ensures { (text : ℕ → Id) → Knows text [] result }
+    {
+        Seen {
+            keys: IndexSet::new(alloc),
+            atoms: IndexMap::new(alloc),
+            counts: IndexMap::new(alloc),
+        }
+    }
+
+    /// Notes a mark, and answers whether it binds what is bound before.
+    fn note(&mut self, judge: &Judge, mark: Mark) -> Result<bool, Memory>
+        ensures knows { let text = text_at judge.now.unit.now judge.now.tokens.now in
+            (before : List Mark) → Knows text before self.old → OnOk result (Knows text (mark ∷ before) self.new) }
+        ensures again { let text = text_at judge.now.unit.now judge.now.tokens.now in
+            (before : List Mark) → Knows text before self.old → IfOk result (λ again. again ≡ is_again text before mark) }
+    {
+        let again = note_key(judge.alloc, judge.unit, judge.tokens, &mut self.keys, mark)?;
+        note_atom(&mut self.atoms, mark)?;
+        note_count(&mut self.counts, mark)?;
+        Ok(again)
+    }
+
+    fn count_at(&self, sequence: usize) -> Option<usize>
+        ensures { (text : ℕ → Id) (before : List Mark) → Knows text before self.now → result ≡ count_at before sequence }
+    {
+        self.counts.get(&sequence).copied()
+    }
+
+    fn atom_at(&self, sequence: usize, index: usize) -> Option<usize>
+        ensures { (text : ℕ → Id) (before : List Mark) → Knows text before self.now → result ≡ atom_at before (spec.position sequence index) }
+    {
+        let position = Position { sequence, index };
+        self.atoms.get(&position).copied()
+    }
+}
+
+impl Judge<'_> {
+    fn text(&self, token: usize) -> &[u8]
+        ensures { result.now ≡ text_at self.now.unit.now self.now.tokens.now token }
+    {
+        bytes(self.unit, self.tokens, token)
+    }
+
+    fn head_at(&self, sequence: usize) -> Option<Head>
+        ensures { (fits : List shapes.Fit) → KnowsFits fits self.now → result ≡ head_at fits sequence }
+    {
+        self.heads.get(&sequence).copied()
+    }
+
+    fn is_used(&self, sequence: usize, index: usize) -> bool
+        ensures { (fits : List shapes.Fit) → KnowsFits fits self.now → result ≡ is_used fits (spec.position sequence index) }
+    {
+        let position = Position { sequence, index };
+        self.uses.contains(&position)
+    }
+
+    /// The token of the name of the clause with this head.
+    fn name_at(&self, seen: &Seen, sequence: usize) -> Option<usize>
+        ensures { let text = text_at self.now.unit.now self.now.tokens.now in
+            (fits : List shapes.Fit) (before : List Mark) → KnowsFits fits self.now → Knows text before seen.now → result ≡ spec.name_at fits before sequence }
+    {
+        match self.head_at(sequence) {
+            Some(Head::Prefix) => seen.atom_at(sequence, 0),
+            Some(Head::Infix) => seen.atom_at(sequence, 1),
+            Some(Head::Bracketed) => seen.atom_at(sequence.saturating_add(1), 1),
+            None => None,
+        }
+    }
+
+    fn arity_at(&self, seen: &Seen, sequence: usize) -> Option<usize>
+        ensures { let text = text_at self.now.unit.now self.now.tokens.now in
+            (fits : List shapes.Fit) (before : List Mark) → KnowsFits fits self.now → Knows text before seen.now → result ≡ spec.arity_at fits before sequence }
+    {
+        arity(self.head_at(sequence), seen.count_at(sequence))
+    }
+
+    /// The fault of a clause whose name is this token in a function whose name is that.
+    fn unlike_by(&self, own: Option<usize>, first: Option<usize>) -> Option<Flaw>
+        ensures { result ≡ spec.unlike_by (text_at self.now.unit.now self.now.tokens.now) own first }
+    {
+        let own = own?;
+        let first = first?;
+        let same = self.text(own) == self.text(first);
+        flaw_if(!same, own, Code::G1)
+    }
+
+    fn unlike(&self, seen: &Seen, mark: Mark) -> Option<Flaw>
+        ensures { let text = text_at self.now.unit.now self.now.tokens.now in
+            (fits : List shapes.Fit) (before : List Mark) → KnowsFits fits self.now → Knows text before seen.now → result ≡ spec.unlike text fits before mark }
+    {
+        let Mark::Clause(clause) = mark else {
+            return None;
+        };
+        let own = self.name_at(seen, clause.sequence);
+        let first = self.name_at(seen, clause.function);
+        self.unlike_by(own, first)
+    }
+
+    fn uneven(&self, seen: &Seen, mark: Mark) -> Option<Flaw>
+        ensures { let text = text_at self.now.unit.now self.now.tokens.now in
+            (fits : List shapes.Fit) (before : List Mark) → KnowsFits fits self.now → Knows text before seen.now → result ≡ spec.uneven fits before mark }
+    {
+        let Mark::Clause(clause) = mark else {
+            return None;
+        };
+        let own = self.arity_at(seen, clause.sequence);
+        let first = self.arity_at(seen, clause.function);
+        uneven(clause.sequence, own, first)
+    }
+
+    fn barred_name(&self, space: Space, token: usize) -> Option<Flaw>
+        ensures { result ≡ spec.barred_name (text_at self.now.unit.now self.now.tokens.now) space token }
+    {
+        let text = self.text(token);
+        let reserved = names_value(space) && is_reserved(text);
+        let it = names_constructor(space) && is_it(text);
+        flaw_if(reserved || it, token, Code::G4)
+    }
+
+    fn barred_value(&self, token: Option<usize>) -> Option<Flaw>
+        ensures { result ≡ spec.barred_value (text_at self.now.unit.now self.now.tokens.now) token }
+    {
+        let token = token?;
+        flaw_if(is_reserved(self.text(token)), token, Code::G4)
+    }
+
+    /// The fault of a name that can't be bound.
+    fn barred(&self, seen: &Seen, mark: Mark) -> Option<Flaw>
+        ensures { let text = text_at self.now.unit.now self.now.tokens.now in
+            (fits : List shapes.Fit) (before : List Mark) → KnowsFits fits self.now → Knows text before seen.now → result ≡ spec.barred text fits before mark }
+    {
+        match mark {
+            Mark::Bound(bound) => self.barred_name(bound.space, bound.token),
+            Mark::Identifier(atom) => {
+                if atom.binds && !self.is_used(atom.sequence, atom.index) {
+                    self.barred_value(Some(atom.token))
+                } else {
+                    None
+                }
+            }
+            Mark::Pun(token) => self.barred_value(Some(token)),
+            Mark::Clause(clause) => self.barred_value(self.name_at(seen, clause.sequence)),
+            Mark::Listed(_) | Mark::Owned(_) | Mark::Real(_) => None,
+        }
+    }
+
+    /// The faults at a mark, which is noted, go behind the others.
+    fn push_flaws(
+        &self,
+        flaws: &mut Vec<Flaw>,
+        seen: &Seen,
+        mark: Mark,
+        again: bool,
+    ) -> Result<(), Memory>
+        ensures { let text = text_at self.now.unit.now self.now.tokens.now in
+            (fits : List shapes.Fit) (known : List Mark) → KnowsFits fits self.now → Knows text known seen.now →
+            OnOk result (flaws.new.items ≡ flaws.old.items ++ spec.flaws_by text fits known mark again) }
+    {
+        push_some(flaws, flaw_if(again, token_in(mark), Code::G3))?;
+        push_some(flaws, self.unlike(seen, mark))?;
+        push_some(flaws, self.uneven(seen, mark))?;
+        push_some(flaws, self.barred(seen, mark))?;
+        push_some(flaws, real(mark))?;
+        Ok(())
+    }
+
+    /// The faults at these marks.
+    fn flaws(&self, marks: &[Mark]) -> Result<Vec<Flaw>, Memory>
+        ensures { let text = text_at self.now.unit.now self.now.tokens.now in
+            (fits : List shapes.Fit) → KnowsFits fits self.now → IfOk result (λ flaws. flaws.items ≡ spec.flaws_of text fits [] marks.now) }
+    {
+        let mut seen = Seen::new(self.alloc);
+        let mut flaws = Vec::new(self.alloc);
+        for mark in marks {
+            let again = seen.note(self, *mark)?;
+            self.push_flaws(&mut flaws, &seen, *mark, again)?;
+        }
+        Ok(flaws)
+    }
+
+    /// Whether a type variable is this one, of a value declaration round this node.
+    fn is_outer(&self, ends: &[usize], node: usize, token: usize, mark: Mark) -> bool
+        ensures { result ≡ spec.is_outer (text_at self.now.unit.now self.now.tokens.now) ends.now node token mark }
+    {
+        lies_in(ends, owner_in(mark), node) && self.text(token) == self.text(token_in(mark))
+    }
+
+    fn is_scoped(&self, ends: &[usize], marks: &[Mark], node: usize, token: usize) -> bool
+        ensures { let text = text_at self.now.unit.now self.now.tokens.now in
+            result ≡ list_any (spec.is_outer text ends.now node token) marks.now }
+    {
+        for mark in marks {
+            if self.is_outer(ends, node, token, *mark) {
+                return true;
+            }
+        }
+        false
+    }
+
+    /// The fault of a variable in the list of a value declaration.
+    fn scoped_at(&self, ends: &[usize], marks: &[Mark], mark: Mark) -> Option<Flaw>
+        ensures { result ≡ spec.scoped_at (text_at self.now.unit.now self.now.tokens.now) ends.now marks.now mark }
+    {
+        let Mark::Listed(listed) = mark else {
+            return None;
+        };
+        let node = listed.owner?;
+        let here = self.is_scoped(ends, marks, node, listed.token);
+        flaw_if(here, listed.token, Code::G3)
+    }
+
+    /// The faults of variables in lists go behind the others.
+    fn push_scoped(
+        &self,
+        flaws: &mut Vec<Flaw>,
+        ends: &[usize],
+        marks: &[Mark],
+    ) -> Result<(), Memory>
+        ensures { let text = text_at self.now.unit.now self.now.tokens.now in
+            OnOk result (flaws.new.items ≡ flaws.old.items ++ spec.scoped_of text ends.now marks.now marks.now) }
+    {
+        for mark in marks {
+            push_some(flaws, self.scoped_at(ends, marks, *mark))?;
+        }
+        Ok(())
+    }
+}
+
+/// The first fault, by token and then by number, of what a declaration with these nodes and sequences binds, the first
+/// node beginning at this token.
+pub fn first_flaw(
+    alloc: Global,
+    unit: &[u8],
+    tokens: &[Token],
+    nodes: &[Node],
+    begun: usize,
+    fits: &[Fit],
+) -> Result<Option<Flaw>, Memory>
+    requires { begun ≤ length tokens.now }
+    ensures { let text = text_at unit.now tokens.now in
+        IfOk result (λ first. first ≡ spec.first_flaw (spec.flaws text (map fit_of fits.now) begun nodes.now)) }
+{
+    let judge = Judge {
+        alloc,
+        unit,
+        tokens,
+        uses: uses_of(alloc, fits)?,
+        heads: heads_of(alloc, fits)?,
+    };
+    let marks = marks(alloc, nodes, begun)?;
+    let mut flaws = judge.flaws(&marks)?;
+    judge.push_scoped(&mut flaws, &ends(alloc, nodes)?, &marks)?;
+    Ok(first_of(&flaws))
+}

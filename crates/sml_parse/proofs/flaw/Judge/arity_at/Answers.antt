@@ -1,6 +1,0 @@
-use Rattle.std.proofs.Common.{◌∙◌}
-use Rattle.sml_parse.specs.Flaws.{arity_by}
-use Rattle.sml_parse.proofs.flaw.Judge.arity_at.Goals as goal
-
-pub returns : goal.returns
-returns c = λ fits before f k. c.arity.ensures ∙ (λ i. arity_by (c.head_at.ensures fits f i) (c.count_at.ensures _ before k i))

@@ -1,9 +1,0 @@
-use Rattle.std.proofs.Common.{map, ap, sym, ◌∙◌}
-use Rattle.std.proofs.lemmas.List.{take-map}
-use Rattle.sml_parse.specs.Fits.{fitted_of}
-use Rattle.sml_parse.specs.Reach.{up_to}
-use Rattle.sml_parse.proofs.reach.up_to.Goals as goal
-
-pub returns-in-Some : goal.returns-in-Some
-returns-in-Some c =
-    ap (map fitted_of) c.truncate.ensures.items ∙ sym (take-map fitted_of _ _) ∙ ap (λ most. up_to most (map fitted_of c.args.declarations.items)) (sym c.in-Some.is)

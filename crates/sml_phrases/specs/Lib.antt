@@ -1,0 +1,3 @@
+pub mod Phrases
+pub mod PhraseViews
+pub mod PhraseHeights

@@ -1,0 +1,220 @@
+//! What a phrase of the grammar makes, before it is part of another one. Lists go from their last element to their first.
+
+ghost use Rattle.std.specs.Prelude.{◌≡◌};
+
+use crate::low::{
+    LowBind, LowBinds, LowClauses, LowConBinds, LowConstraint, LowDatBinds, LowDec, LowDecs,
+    LowExnBinds, LowExp, LowExps, LowFields, LowFunBinds, LowPat, LowPatFields, LowPats, LowRules,
+    LowSig, LowSigBinds, LowSpecs, LowStr, LowStrBinds, LowStrDec, LowStrDecs, LowStrDescs, LowTop,
+    LowTy, LowTyFields, LowTypBinds, LowTys, LowValDescs, LowWhere,
+};
+use sml_lex::fault::{Memory, Place};
+use sml_tree::bare::LongIdent;
+use sml_tree::names::Name;
+use sml_tree::patterns::Constant;
+use sml_tree::signatures::TypDesc;
+use std::alloc::{AllocError, AllocFailed};
+
+/// Why a phrase isn't made: a tree would be higher than the limit, or a growth was refused.
+#[derive(Clone, Copy, PartialEq, Eq, Debug, Drop)]
+pub enum Failure {
+    TooHigh,
+    Memory,
+}
+
+impl From<AllocError> for Failure {
+    ghost use Rattle.sml_phrases.specs.declared.phrase.Failure.TheVariants.{Memory};
+
+    ghost from_gives = { λ _ e. e ≡ Memory };
+
+    fn from(_error: AllocError) -> Failure {
+        Failure::Memory
+    }
+}
+
+impl<T: Drop> From<AllocFailed<T>> for Failure {
+    ghost use Rattle.sml_phrases.specs.declared.phrase.Failure.TheVariants as F;
+
+    ghost from_gives = { λ _ e. e ≡ F.Memory };
+
+    fn from(_error: AllocFailed<T>) -> Failure {
+        Failure::Memory
+    }
+}
+
+impl From<Memory> for Failure {
+    ghost use Rattle.sml_phrases.specs.declared.phrase.Failure.TheVariants as F;
+
+    ghost from_gives = { λ _ e. e ≡ F.Memory };
+
+    fn from(_error: Memory) -> Failure {
+        Failure::Memory
+    }
+}
+
+#[derive(Drop)]
+pub enum Phrase {
+    /// Nothing.
+    Nothing,
+    /// A token that is neither an identifier nor a constant.
+    Word(Place),
+    /// An identifier without a path, a type variable or a label.
+    Name(Name),
+    /// An identifier with or without a path.
+    Long(LongIdent),
+    /// A special constant.
+    Constant(Constant),
+    /// Identifiers or type variables.
+    Names(Vec<Name>),
+    /// Long identifiers.
+    Longs(Vec<LongIdent>),
+    Types(TypePhrase),
+    Patterns(PatternPhrase),
+    Expressions(ExpressionPhrase),
+    Declarations(DeclarationPhrase),
+    Signatures(SignaturePhrase),
+    Structures(StructurePhrase),
+}
+
+#[derive(Drop)]
+pub enum TypePhrase {
+    /// A type expression.
+    Ty(LowTy),
+    /// Type expressions.
+    Tys(LowTys),
+    /// Fields of a record type.
+    TyFields(LowTyFields),
+    /// Types behind the first one in round brackets, and the type constructor behind these.
+    Arguments(LowTys, LongIdent),
+}
+
+#[derive(Drop)]
+pub enum PatternPhrase {
+    /// A pattern.
+    Pat(LowPat),
+    /// Patterns.
+    Pats(LowPats),
+    /// Fields of a record pattern, and whether `...` stands behind them.
+    PatFields(LowPatFields, bool),
+    /// Atomic patterns, and the types behind colons that follow them.
+    Atoms(LowPats, LowTys),
+    /// A type behind `:` and a pattern behind `as`, if they are there.
+    Layer(Option<LowTy>, Option<LowPat>),
+    /// What stands behind `op`: an identifier, atomic patterns, and types behind colons.
+    OpAtoms(LongIdent, LowPats, LowTys),
+    /// What stands behind `op`: an identifier, perhaps a type, and a pattern behind `as`.
+    OpLayer(Name, Option<LowTy>, Option<LowPat>),
+}
+
+#[derive(Drop)]
+pub enum ExpressionPhrase {
+    /// An expression.
+    Exp(LowExp),
+    /// Expressions.
+    Exps(LowExps),
+    /// Expressions between semicolons.
+    Series(LowExps),
+    /// Fields of a record.
+    Fields(LowFields),
+    /// Rules of a match.
+    Rules(LowRules),
+}
+
+#[derive(Drop)]
+pub enum DeclarationPhrase {
+    /// A declaration of the core.
+    Dec(LowDec),
+    /// Declarations of the core.
+    Decs(LowDecs),
+    /// A value binding.
+    Bind(LowBind),
+    /// Value bindings.
+    Binds(LowBinds),
+    /// Explicit type variables, the bindings before the first `rec`, and those behind it.
+    Values(Vec<Name>, LowBinds, LowBinds),
+    /// What stands behind `val (`: the patterns in the brackets, the atomic patterns and types behind them, the right side, and further bindings without and with `rec`.
+    RoundValues(LowPats, LowPats, LowTys, LowExp, LowBinds, LowBinds),
+    /// Explicit type variables, and functions.
+    Functions(Vec<Name>, LowBinds),
+    /// A clause behind its first atomic pattern: the other patterns, perhaps a type, and the right side.
+    RightSide(LowPats, Option<LowTy>, LowExp),
+    /// Clauses of a function.
+    Clauses(LowClauses),
+    /// What stands behind `fun (`: the patterns in the brackets, the rest of the first clause, the other clauses, and further functions.
+    RoundFunctions(LowPats, LowPats, Option<LowTy>, LowExp, LowClauses, LowBinds),
+    /// A type binding: type variables, a type constructor and its right side.
+    TypBind(Vec<Name>, Name, LowTy),
+    /// Type bindings.
+    TypBinds(LowTypBinds),
+    /// A constructor or an exception, and the type of its argument.
+    ConBind(Name, Option<LowTy>),
+    /// Constructors or exceptions, with the types of their arguments.
+    ConBinds(LowConBinds),
+    /// Datatype bindings, and the type bindings behind `withtype`.
+    Datatypes(LowDatBinds, LowTypBinds),
+    /// The constructors of a datatype, further datatype bindings, and the type bindings behind `withtype`.
+    Constructors(LowConBinds, LowDatBinds, LowTypBinds),
+    /// A type constructor, and the one that it copies.
+    Copy(Name, LongIdent),
+    /// Exception bindings.
+    ExnBinds(LowExnBinds),
+}
+
+#[derive(Drop)]
+pub enum SignaturePhrase {
+    /// A signature expression.
+    Sig(LowSig),
+    /// What stands behind `where`: type variables, a type constructor and a type.
+    Where(Vec<Name>, LongIdent, LowTy),
+    /// What stands behind `where type`, one after the other.
+    Wheres(Vec<LowWhere>),
+    /// A signature binding to which more may belong: its identifier and its right side.
+    OpenSigBind(Name, LowSig),
+    /// What belongs to the signature expression before it, and further signature bindings.
+    SigBinds(Vec<LowWhere>, LowSigBinds),
+    /// Specifications.
+    Specs(LowSpecs),
+    /// A variable and its type.
+    ValDesc(Name, LowTy),
+    /// Variables and their types.
+    ValDescs(LowValDescs),
+    /// Type descriptions.
+    TypDescs(Vec<TypDesc>),
+    /// The type of a type binding, and further type bindings.
+    TypeRest(LowTy, LowTypBinds),
+    /// A structure description to which more may belong: its identifier and its signature expression.
+    OpenStrDesc(Name, LowSig),
+    /// What belongs to the signature expression before it, and further structure descriptions.
+    StrDescs(Vec<LowWhere>, LowStrDescs),
+    /// Type constructors that are to be shared.
+    SharedTypes(Vec<LongIdent>),
+}
+
+#[derive(Drop)]
+pub enum StructurePhrase {
+    /// A structure expression.
+    Str(LowStr),
+    /// A structure-level declaration.
+    StrDec(LowStrDec),
+    /// Structure-level declarations.
+    StrDecs(LowStrDecs),
+    /// What belongs to the signature expression before it, and the constraints behind that.
+    Constraints(Vec<LowWhere>, Vec<LowConstraint>),
+    /// The same, and further structure bindings.
+    StrBinds(Vec<LowWhere>, Vec<LowConstraint>, LowStrBinds),
+    /// A structure binding to which constraints may still belong: its identifier, its own constraint if it has one, and its right side.
+    OpenStrBind(Name, Vec<LowConstraint>, LowStr),
+    /// The argument of a functor, and its signature expression.
+    FunctorArgument(Name, LowSig),
+    /// What belongs to the signature expression before it, the constraints behind that, and further functor bindings.
+    FunBinds(Vec<LowWhere>, Vec<LowConstraint>, LowFunBinds),
+    /// A functor binding to which constraints may still belong: its identifier, its argument with the signature expression, its own constraint if it has one, and its right side.
+    OpenFunBind(Name, Name, LowSig, Vec<LowConstraint>, LowStr),
+    /// The same with specifications in the place of the argument.
+    OpenFunctor(Name, LowSpecs, Vec<LowConstraint>, LowStr),
+    /// A top-level declaration.
+    Top(LowTop),
+}
+
+/// Drops a phrase.
+pub fn discard(_phrase: Phrase) {}

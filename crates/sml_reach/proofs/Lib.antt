@@ -1,0 +1,8 @@
+mod Sharing
+mod Ways
+mod Parts
+mod Reaching
+pub mod Parting
+pub mod Somes
+pub mod UpTo
+pub mod Firsts

@@ -1,0 +1,302 @@
+//! What happens to fixities, and which sequences stand where.
+
+ghost use Rattle.std.specs.Prelude.{◌≡◌, ◌+◌, List, min, map, reverse, take, drop, length, get_or, if◌then◌else◌, slice_get, IfOk, OnOk};
+ghost use Rattle.std.specs.List.{cons_option};
+ghost use Rattle.std.specs.Option.{option_map};
+ghost use Rattle.sml_read.specs.Grammar.{right_side};
+ghost use Rattle.sml_read.specs.Extents.{starts_of};
+ghost use Rattle.sml_read.specs.declared.grammar.Node.TheVariants.{Inner};
+ghost use Rattle.sml_reach.specs.Senses as senses;
+ghost use Rattle.sml_reach.specs.Founds as spec;
+ghost use Rattle.sml_reach.specs.Founds.{name_of, atom_of, atoms_of, found_of, nothing, sequence_in, untyped, left};
+ghost use Rattle.sml_reach.specs.Events.{seen, expression, pattern, head, text_at, found_at, founds_from, scope_event, event_of, event_from, events_of};
+
+use crate::found::{Atom, Finder, Found, Parts};
+use crate::names::Names;
+use crate::sense::{Deed, closes, deed_of, opens, sense_of};
+use sml_fixity::scopes::Directive;
+use sml_fixity::sequences::Item;
+use sml_lex::fault::Memory;
+use sml_lex::token::Token;
+use sml_read::grammar::{Node, Rule};
+use sml_read::phrases::starts;
+use sml_read::table::backwards;
+use std::alloc::Global;
+
+/// What happens where a token or a phrase begins. Atomic phrases go from the last to the first.
+#[derive(Drop)]
+pub enum Event {
+    /// A declaration at the top begins at this token.
+    Begins(usize),
+    /// A scope is opened.
+    Enters,
+    /// The innermost scope is closed.
+    Leaves,
+    /// A directive, with the token of its level, if one is written, and its identifiers.
+    Directs(Directive, Option<usize>, Vec<Atom>),
+    /// A sequence of atomic expressions.
+    Expression(Vec<Atom>),
+    /// A sequence of atomic patterns.
+    Pattern(Vec<Atom>),
+    /// The head of a clause.
+    Head(Vec<Atom>),
+}
+
+fn pop(founds: &mut Vec<Found>) -> Found
+    ensures value { found_of result ≡ get_or (map found_of (reverse founds.old.items)) 0 nothing }
+    ensures rest { map found_of (reverse founds.new.items) ≡ drop 1 (map found_of (reverse founds.old.items)) }
+{
+    match founds.pop() {
+        Some(found) => found,
+        None => Found::Nothing,
+    }
+}
+
+/// The part with this number of a phrase that has so many, those before it being taken off.
+fn pop_part(founds: &mut Vec<Found>, count: usize, index: usize) -> Found
+    ensures value { (vs : List spec.Found) → map found_of (reverse founds.old.items) ≡ drop (min index count) vs →
+        found_of result ≡ get_or (take count vs) index nothing }
+    ensures rest { (vs : List spec.Found) → map found_of (reverse founds.old.items) ≡ drop (min index count) vs →
+        map found_of (reverse founds.new.items) ≡ drop (min (index + 1) count) vs }
+{
+    if index < count {
+        pop(founds)
+    } else {
+        Found::Nothing
+    }
+}
+
+/// Takes so many parts off, and answers the first four.
+fn pop_parts(founds: &mut Vec<Found>, count: usize) -> Parts
+    ensures first { found_of result.first ≡ get_or (take count (map found_of (reverse founds.old.items))) 0 nothing }
+    ensures second { found_of result.second ≡ get_or (take count (map found_of (reverse founds.old.items))) 1 nothing }
+    ensures third { found_of result.third ≡ get_or (take count (map found_of (reverse founds.old.items))) 2 nothing }
+    ensures fourth { found_of result.fourth ≡ get_or (take count (map found_of (reverse founds.old.items))) 3 nothing }
+    ensures rest { map found_of (reverse founds.new.items) ≡ drop count (map found_of (reverse founds.old.items)) }
+{
+    let first = pop_part(founds, count, 0);
+    let second = pop_part(founds, count, 1);
+    let third = pop_part(founds, count, 2);
+    let fourth = pop_part(founds, count, 3);
+    for index in 4..count {
+        pop_part(founds, count, index);
+    }
+    Parts {
+        first,
+        second,
+        third,
+        fourth,
+    }
+}
+
+fn copy(item: &Item) -> Result<Item, Memory>
+    ensures { IfOk result (λ r. name_of r ≡ name_of item.now) }
+{
+    Ok(match item {
+        Item::Short(name) => Item::Short(name.clone()?),
+        Item::Op => Item::Op,
+        Item::Long => Item::Long,
+        Item::Phrase => Item::Phrase,
+    })
+}
+
+/// The items of atomic phrases that go from the last to the first.
+fn items_of(alloc: Global, atoms: &[Atom]) -> Result<Vec<Item>, Memory>
+    ensures { IfOk result (λ items. map name_of items.items ≡ map (λ a. a.name) (map atom_of (reverse atoms.now))) }
+{
+    let mut items = Vec::new(alloc);
+    for i in (0..atoms.len()).rev() {
+        items.push(copy(&atoms[i].item)?)?;
+    }
+    Ok(items)
+}
+
+/// The items of a sequence without a type.
+fn untyped(alloc: Global, found: &Found) -> Result<Vec<Item>, Memory>
+    ensures { IfOk result (λ items. map name_of items.items ≡ untyped (found_of found.now)) }
+{
+    match found {
+        Found::Several(atoms, false) => items_of(alloc, atoms),
+        _ => Ok(Vec::new(alloc)),
+    }
+}
+
+/// The atomic phrases of a sequence.
+fn sequence(found: Found) -> Option<Vec<Atom>>
+    ensures { option_map atoms_of result ≡ sequence_in (found_of found) }
+{
+    match found {
+        Found::Several(atoms, _typed) => Some(atoms),
+        Found::Nothing => None,
+        Found::Word(_token) => None,
+        Found::One(_atom) => None,
+        Found::Inner(_items) => None,
+        Found::Directed(_level, _atoms) => None,
+    }
+}
+
+fn expression(atoms: Option<Vec<Atom>>) -> Option<Event>
+    ensures { option_map seen result ≡ option_map expression (option_map atoms_of atoms) }
+{
+    match atoms {
+        Some(atoms) => Some(Event::Expression(atoms)),
+        None => None,
+    }
+}
+
+fn pattern(atoms: Option<Vec<Atom>>) -> Option<Event>
+    ensures { option_map seen result ≡ option_map pattern (option_map atoms_of atoms) }
+{
+    match atoms {
+        Some(atoms) => Some(Event::Pattern(atoms)),
+        None => None,
+    }
+}
+
+fn head(atoms: Option<Vec<Atom>>) -> Option<Event>
+    ensures { option_map seen result ≡ option_map head (option_map atoms_of atoms) }
+{
+    match atoms {
+        Some(atoms) => Some(Event::Head(atoms)),
+        None => None,
+    }
+}
+
+fn directed(directive: Directive, found: Found) -> Option<Event>
+    ensures { option_map seen result ≡ event_of (Deed.Directs directive) 0 (found_of found) }
+{
+    match found {
+        Found::Directed(level, atoms) => Some(Event::Directs(directive, level, atoms)),
+        Found::Nothing => None,
+        Found::Word(_token) => None,
+        Found::One(_atom) => None,
+        Found::Inner(_items) => None,
+        Found::Several(_atoms, _typed) => None,
+    }
+}
+
+/// What happens where a phrase begins that is this, and what is left of it for the phrases round it.
+fn finish(
+    alloc: Global,
+    deed: Deed,
+    token: usize,
+    found: Found,
+) -> Result<(Option<Event>, Found), Memory>
+    ensures event { IfOk result (λ r. option_map seen r.0 ≡ event_of deed token (found_of found)) }
+    ensures left { IfOk result (λ r. found_of r.1 ≡ left deed (found_of found)) }
+{
+    Ok(match deed {
+        Deed::Nothing => (None, found),
+        Deed::Begins => (Some(Event::Begins(token)), found),
+        Deed::Directs(directive) => (directed(directive, found), Found::Nothing),
+        Deed::Expression => (expression(sequence(found)), Found::Nothing),
+        Deed::Pattern => {
+            let items = untyped(alloc, &found)?;
+            (pattern(sequence(found)), Found::Inner(items))
+        }
+        Deed::Head => (head(sequence(found)), Found::Nothing),
+    })
+}
+
+/// What a token does to scopes.
+fn event_of_token(tokens: &[Token], token: usize) -> Option<Event>
+    ensures { option_map seen result ≡ scope_event (slice_get tokens.now token) }
+{
+    let token = tokens.get(token)?;
+    if opens(token.kind) {
+        Some(Event::Enters)
+    } else if closes(token.kind) {
+        Some(Event::Leaves)
+    } else {
+        None
+    }
+}
+
+fn push_some(events: &mut Vec<Event>, event: Option<Event>) -> Result<(), Memory>
+    ensures { OnOk result (map seen (reverse events.new.items) ≡ cons_option (option_map seen event) (map seen (reverse events.old.items))) }
+{
+    match event {
+        Some(event) => events.push(event)?,
+        None => {}
+    }
+    Ok(())
+}
+
+/// The event at a phrase of this rule with this first token, before what is found behind it.
+fn enter_phrase(
+    finder: &Finder,
+    names: &mut Names,
+    founds: &mut Vec<Found>,
+    rule: Rule,
+    token: usize,
+) -> Result<Option<Event>, Memory>
+    ensures event { let old = map found_of (reverse founds.old.items) in
+        let text = text_at finder.now.unit.now finder.now.tokens.now in
+        IfOk result (λ event. option_map seen event ≡ event_of (senses.deed_of rule) token (found_at text token rule old)) }
+    ensures founds { let old = map found_of (reverse founds.old.items) in
+        let text = text_at finder.now.unit.now finder.now.tokens.now in
+        OnOk result (map found_of (reverse founds.new.items) ≡ founds_from text (Inner rule) token old) }
+{
+    let parts = pop_parts(founds, backwards(rule).len());
+    let found = finder.find(names, token, sense_of(rule), parts)?;
+    let (event, left) = finish(finder.alloc, deed_of(rule), token, found)?;
+    founds.push(left)?;
+    Ok(event)
+}
+
+/// A node with this first token: its event goes to the others, and what it is to what is found behind it.
+fn at_node(
+    finder: &Finder,
+    names: &mut Names,
+    founds: &mut Vec<Found>,
+    events: &mut Vec<Event>,
+    node: Node,
+    token: usize,
+) -> Result<(), Memory>
+    ensures founds { let old = map found_of (reverse founds.old.items) in
+        let text = text_at finder.now.unit.now finder.now.tokens.now in
+        OnOk result (map found_of (reverse founds.new.items) ≡ founds_from text node token old) }
+    ensures events { let old = map found_of (reverse founds.old.items) in
+        OnOk result (map seen (reverse events.new.items) ≡
+        cons_option (event_from finder.now.unit.now finder.now.tokens.now node token old) (map seen (reverse events.old.items))) }
+{
+    let event = match node {
+        Node::Leaf => {
+            founds.push(Found::Word(token))?;
+            event_of_token(finder.tokens, token)
+        }
+        Node::Inner(rule) => enter_phrase(finder, names, founds, rule, token)?,
+    };
+    push_some(events, event)
+}
+
+/// The events of a unit's derivation, from the last to the first.
+pub fn events(
+    alloc: Global,
+    unit: &[u8],
+    names: &mut Names,
+    nodes: &[Node],
+    tokens: &[Token],
+) -> Result<Vec<Event>, Memory>
+    ensures { IfOk result (λ events. map seen (reverse events.items) ≡ events_of unit.now tokens.now nodes.now (starts_of 0 nodes.now)) }
+{
+    let finder = Finder {
+        alloc,
+        unit,
+        tokens,
+    };
+    let starts = starts(alloc, nodes)?;
+    let mut founds = Vec::new(alloc);
+    let mut events = Vec::new(alloc);
+    for i in (0..nodes.len()).rev() {
+        at_node(
+            &finder,
+            names,
+            &mut founds,
+            &mut events,
+            nodes[i],
+            starts[i],
+        )?;
+    }
+    Ok(events)
+}

@@ -1,0 +1,292 @@
+//! What the phrases of a derivation are to the sequences that they stand in.
+
+ghost use Rattle.std.specs.Prelude.{◌≡◌, ℕ, true, false, [], ◌∷◌, Option, Some, None, if◌then◌else◌, map, reverse, IfOk};
+ghost use Rattle.sml_reach.specs.Founds as spec;
+ghost use Rattle.sml_reach.specs.Founds.{atom, short, behind_op, long, phrase, atom_of, name_of, found_of};
+ghost use Rattle.sml_reach.specs.Events.{text_at};
+
+use crate::names::Names;
+use crate::place::text;
+use crate::sense::Sense;
+use sml_fixity::sequences::Item;
+use sml_lex::fault::Memory;
+use sml_lex::token::Token;
+use std::alloc::Global;
+
+/// An atomic phrase of a sequence: what it is to the operators, the number of its first token, and the items of the
+/// sequence of patterns that it has in round brackets, if it is that.
+#[derive(Drop)]
+pub struct Atom {
+    pub item: Item,
+    pub token: usize,
+    pub inner: Vec<Item>,
+}
+
+/// What a phrase is to the sequence that it stands in. Atomic phrases go from the last to the first.
+#[derive(Drop)]
+pub enum Found {
+    Nothing,
+    /// A token, by its number.
+    Word(usize),
+    One(Atom),
+    /// Some atomic phrases, and whether a type stands behind them.
+    Several(Vec<Atom>, bool),
+    /// The items of a sequence of patterns without a type.
+    Inner(Vec<Item>),
+    /// A directive: the token of its level, if one is written, and its identifiers.
+    Directed(Option<usize>, Vec<Atom>),
+}
+
+/// What the first parts of a phrase are.
+#[derive(Drop)]
+pub struct Parts {
+    pub first: Found,
+    pub second: Found,
+    pub third: Found,
+    pub fourth: Found,
+}
+
+/// Answers what a phrase is, by what its parts are.
+#[derive(Drop)]
+pub struct Finder<'a> {
+    pub alloc: Global,
+    pub unit: &'a [u8],
+    pub tokens: &'a [Token],
+}
+
+fn word_in(found: &Found) -> usize
+    ensures { result ≡ spec.word_in (found_of found.now) }
+{
+    match found {
+        Found::Word(token) => *token,
+        _ => 0,
+    }
+}
+
+fn level_in(found: &Found) -> Option<usize>
+    ensures { result ≡ spec.level_in (found_of found.now) }
+{
+    match found {
+        Found::Word(token) => Some(*token),
+        _ => None,
+    }
+}
+
+fn is_word(found: &Found) -> bool
+    ensures { result ≡ spec.is_word (found_of found.now) }
+{
+    match found {
+        Found::Word(_) => true,
+        _ => false,
+    }
+}
+
+fn atom_in(alloc: Global, found: Found) -> Atom
+    ensures { atom_of result ≡ spec.atom_in (found_of found) }
+{
+    match found {
+        Found::One(atom) => atom,
+        _ => Atom {
+            item: Item::Phrase,
+            token: 0,
+            inner: Vec::new(alloc),
+        },
+    }
+}
+
+fn atoms_in(alloc: Global, found: Found) -> Vec<Atom>
+    ensures { map atom_of (reverse result.items) ≡ spec.atoms_in (found_of found) }
+{
+    match found {
+        Found::Several(atoms, _) => atoms,
+        _ => Vec::new(alloc),
+    }
+}
+
+fn typed_in(found: &Found) -> bool
+    ensures { result ≡ spec.typed_in (found_of found.now) }
+{
+    match found {
+        Found::Several(_, typed) => *typed,
+        _ => false,
+    }
+}
+
+fn inner_in(alloc: Global, found: Found) -> Vec<Item>
+    ensures { map name_of result.items ≡ spec.inner_in (found_of found) }
+{
+    match found {
+        Found::Inner(items) => items,
+        _ => Vec::new(alloc),
+    }
+}
+
+/// The item behind `op`.
+fn after_op(item: Item) -> Item
+    ensures { name_of result ≡ spec.after_op (name_of item) }
+{
+    match item {
+        Item::Short(_) => Item::Op,
+        Item::Op => Item::Op,
+        Item::Long => Item::Long,
+        Item::Phrase => Item::Phrase,
+    }
+}
+
+/// The atomic phrase before those of the rest.
+fn joined(alloc: Global, first: Atom, rest: Found) -> Result<Found, Memory>
+    ensures { let found = found_of rest in
+        IfOk result (λ r. found_of r ≡ spec.several (atom_of first ∷ spec.atoms_in found) (spec.typed_in found)) }
+{
+    let typed = typed_in(&rest);
+    let mut atoms = atoms_in(alloc, rest);
+    atoms.push(first)?;
+    Ok(Found::Several(atoms, typed))
+}
+
+/// The atomic phrase before those of the rest, if that is a sequence.
+fn before(first: Atom, rest: Found) -> Result<Found, Memory>
+    ensures { IfOk result (λ r. found_of r ≡ spec.before (atom_of first) (found_of rest)) }
+{
+    match rest {
+        Found::Several(mut atoms, typed) => {
+            atoms.push(first)?;
+            Ok(Found::Several(atoms, typed))
+        }
+        _ => Ok(Found::Nothing),
+    }
+}
+
+/// A sequence whose first phrase begins at this token.
+fn from(token: usize, found: Found) -> Result<Found, Memory>
+    ensures { IfOk result (λ r. found_of r ≡ spec.from token (found_of found)) }
+{
+    match found {
+        Found::Several(mut atoms, typed) => match atoms.pop() {
+            Some(first) => {
+                atoms.push(Atom {
+                    item: first.item,
+                    token,
+                    inner: first.inner,
+                })?;
+                Ok(Found::Several(atoms, typed))
+            }
+            None => Ok(Found::Nothing),
+        },
+        _ => Ok(Found::Nothing),
+    }
+}
+
+impl Finder<'_> {
+    /// An item without brackets that begins at this token.
+    fn plain(&self, item: Item, token: usize) -> Atom
+        ensures { atom_of result ≡ atom (name_of item) token [] }
+    {
+        Atom {
+            item,
+            token,
+            inner: Vec::new(self.alloc),
+        }
+    }
+
+    /// The identifier without a path that this token is.
+    fn short(&self, names: &mut Names, token: usize) -> Result<Atom, Memory>
+        ensures { let text = text_at self.now.unit.now self.now.tokens.now token in
+            IfOk result (λ a. atom_of a ≡ atom (short text) token []) }
+    {
+        let bytes = match self.tokens.get(token) {
+            Some(token) => text(self.unit, token.span),
+            None => &[],
+        };
+        let ident = names.ident(bytes)?;
+        Ok(self.plain(Item::Short(ident), token))
+    }
+
+    /// What a phrase with this first token is.
+    pub fn find(
+        &self,
+        names: &mut Names,
+        token: usize,
+        sense: Sense,
+        parts: Parts,
+    ) -> Result<Found, Memory>
+        ensures { let text = text_at self.now.unit.now self.now.tokens.now in
+            IfOk result (λ found. found_of found ≡ spec.found_by text token sense
+            (found_of parts.first) (found_of parts.second) (found_of parts.third) (found_of parts.fourth)) }
+    {
+        Ok(match sense {
+            Sense::Nothing => Found::Nothing,
+            Sense::Passed => parts.first,
+            Sense::Short => Found::One(self.short(names, token)?),
+            Sense::Long => Found::One(self.plain(Item::Long, token)),
+            Sense::Op => {
+                let item = after_op(atom_in(self.alloc, parts.second).item);
+                Found::One(self.plain(item, token))
+            }
+            Sense::Phrase => Found::One(self.plain(Item::Phrase, token)),
+            Sense::Round => Found::One(round(token, inner_in(self.alloc, parts.second))),
+            Sense::Empty => Found::Several(Vec::new(self.alloc), false),
+            Sense::Typed => Found::Several(Vec::new(self.alloc), true),
+            Sense::More => {
+                let first = atom_in(self.alloc, parts.first);
+                joined(self.alloc, first, parts.second)?
+            }
+            Sense::MoreBehind => {
+                let first = atom_in(self.alloc, parts.second);
+                joined(self.alloc, first, parts.third)?
+            }
+            Sense::Third => parts.third,
+            Sense::Named => before(self.short(names, token)?, parts.second)?,
+            Sense::OpNamed => before(self.plain(Item::Op, token), parts.second)?,
+            Sense::Behind => from(token, parts.second)?,
+            Sense::RoundMore => {
+                let first = round(token, inner_in(self.alloc, parts.first));
+                joined(self.alloc, first, parts.second)?
+            }
+            Sense::OpenRoundMore => {
+                let first = round(token, inner_in(self.alloc, parts.second));
+                joined(self.alloc, first, parts.third)?
+            }
+            Sense::Inner => {
+                if is_word(&parts.second) {
+                    Found::Inner(inner_in(self.alloc, parts.first))
+                } else {
+                    Found::Nothing
+                }
+            }
+            Sense::Level => {
+                let level = level_in(&parts.second);
+                self.directed(names, level, word_in(&parts.third), parts.fourth)?
+            }
+            Sense::NoLevel => { self.directed(names, None, word_in(&parts.second), parts.third)? }
+        })
+    }
+
+    /// A directive whose first identifier is this token.
+    fn directed(
+        &self,
+        names: &mut Names,
+        level: Option<usize>,
+        token: usize,
+        rest: Found,
+    ) -> Result<Found, Memory>
+        ensures { let text = text_at self.now.unit.now self.now.tokens.now token in
+            IfOk result (λ found. found_of found ≡ spec.directed level (atom (short text) token [] ∷ spec.atoms_in (found_of rest))) }
+    {
+        let first = self.short(names, token)?;
+        let mut atoms = atoms_in(self.alloc, rest);
+        atoms.push(first)?;
+        Ok(Found::Directed(level, atoms))
+    }
+}
+
+/// Patterns in round brackets, as an atomic phrase.
+fn round(token: usize, inner: Vec<Item>) -> Atom
+    ensures { atom_of result ≡ atom phrase token (map name_of inner.items) }
+{
+    Atom {
+        item: Item::Phrase,
+        token,
+        inner,
+    }
+}

@@ -1,0 +1,475 @@
+//! How far directives reach, and what each sequence stands for where they are in force.
+
+ghost use Rattle.std.specs.Prelude.{◌≡◌, ℕ, ◌<◌, ◌≤◌, ◌+◌, ◌-◌, ◌^◌, List, [], ◌∷◌, ◌++◌, map, reverse, length, get_or, IfOk, IfSome, OnOk};
+ghost use Rattle.std.specs.List.{cons_option};
+ghost use Rattle.std.specs.Option.{MatchOption};
+ghost use Rattle.sml_tree.specs.Trees.{Id};
+ghost use Rattle.sml_tree.specs.Views.{ident_of};
+ghost use Rattle.sml_reach.specs.Founds as founds;
+ghost use Rattle.sml_reach.specs.Founds.{name_of, atoms_of};
+ghost use Rattle.sml_reach.specs.Events.{seen, text_at, directs};
+ghost use Rattle.sml_reach.specs.Reach as spec;
+ghost use Rattle.sml_fixity.specs.Shapes.{shape_of};
+ghost use Rattle.sml_reach.specs.Fits.{fitted_of};
+ghost use Rattle.sml_reach.specs.Reach.{state_of, start, AreItems, first_inner, ids_of, level_text, level_token, misfit_of, idle, fit_at, outcome_of, Happens, Outcomes, misfit_in, misfits_in, declarations_in, AreGathered, first_misfit, before_misfit, up_to, AreFitted};
+
+use crate::event::Event;
+use crate::fitted::{Fit, Fitted};
+use crate::found::Atom;
+use crate::place::text;
+use sml_fixity::shape::Shape;
+use sml_fixity::heads::clause_head;
+use sml_fixity::scopes::{Directive, DirectiveFault, Fixities};
+use sml_fixity::sequences::{FixFault, Item, resolve, resolve_pattern};
+use sml_lex::fault::{Code, Memory};
+use sml_lex::token::Token;
+use sml_tree::bare::Ident;
+use std::alloc::Global;
+
+/// A fault of fixity: the number of its declaration in the unit, counted from 1, and that one's first token, its own
+/// token, and its code.
+#[derive(Clone, Copy, PartialEq, Eq, Debug, Drop)]
+pub struct Misfit {
+    pub number: usize,
+    pub begun: usize,
+    pub token: usize,
+    pub code: Code,
+}
+
+/// What an event comes to.
+#[derive(Drop)]
+pub enum Outcome {
+    /// A declaration at the top begins at this token.
+    Declares(usize),
+    /// No sequence stands here, and there is no fault.
+    Idle,
+    /// A sequence stands for this.
+    Stands(Fit),
+    Fails(Misfit),
+}
+
+/// The declarations that begin among outcomes, and the fits before the first of them, all from the last to the first.
+#[derive(Drop)]
+pub struct Gathered {
+    declarations: Vec<Fitted>,
+    fits: Vec<Fit>,
+}
+
+/// The fixities in force, how many declarations have begun, and the first token of the last of them.
+#[derive(Drop)]
+pub struct Reach {
+    fixities: Fixities,
+    count: usize,
+    begun: usize,
+}
+
+/// The atomic phrases of a sequence: what each is to the operators, its first token, and what the first of them has
+/// in round brackets.
+#[derive(Drop)]
+struct Sequence {
+    items: Vec<Item>,
+    tokens: Vec<usize>,
+    inner: Vec<Item>,
+}
+
+/// The atomic phrases, which go from the last to the first.
+fn split(alloc: Global, atoms: Vec<Atom>) -> Result<Sequence, Memory>
+    ensures items { IfOk result (λ s. AreItems s.items.items (atoms_of atoms)) }
+    ensures tokens { IfOk result (λ s. s.tokens.items ≡ map (λ (a : founds.Atom). a.token) (atoms_of atoms)) }
+    ensures inner { IfOk result (λ s. map name_of s.inner.items ≡ first_inner (atoms_of atoms)) }
+{
+    let mut items = Vec::new(alloc);
+    let mut tokens = Vec::new(alloc);
+    let mut atoms = atoms;
+    let Some(first) = atoms.pop() else {
+        return Ok(Sequence {
+            items,
+            tokens,
+            inner: Vec::new(alloc),
+        });
+    };
+    items.push(first.item)?;
+    tokens.push(first.token)?;
+    while let Some(atom) = atoms.pop() {
+        items.push(atom.item)?;
+        tokens.push(atom.token)?;
+    }
+    Ok(Sequence {
+        items,
+        tokens,
+        inner: first.inner,
+    })
+}
+
+/// The identifiers among atomic phrases that go from the last to the first.
+fn idents(alloc: Global, atoms: Vec<Atom>) -> Result<Vec<Ident>, Memory>
+    ensures { IfOk result (λ v. map ident_of v.items ≡ ids_of (atoms_of atoms)) }
+{
+    let mut idents = Vec::new(alloc);
+    let mut atoms = atoms;
+    while let Some(atom) = atoms.pop() {
+        let Atom {
+            item,
+            token: _,
+            inner: _,
+        } = atom;
+        match item {
+            Item::Short(ident) => idents.push(ident)?,
+            Item::Op => {}
+            Item::Long => {}
+            Item::Phrase => {}
+        }
+    }
+    Ok(idents)
+}
+
+fn token_at(tokens: &[usize], index: usize) -> usize
+    ensures { result ≡ get_or tokens.now index 0 }
+{
+    match tokens.get(index) {
+        Some(token) => *token,
+        None => 0,
+    }
+}
+
+/// What the sequence with these tokens stands for.
+fn stands(tokens: &[usize], shape: Shape) -> Outcome
+    ensures { (atoms : List founds.Atom) → tokens.now ≡ map (λ (a : founds.Atom). a.token) atoms →
+        outcome_of result ≡ spec.stands (fit_at atoms (shape_of shape)) }
+{
+    Outcome::Stands(Fit {
+        token: token_at(tokens, 0),
+        shape,
+    })
+}
+
+/// The bytes of a level, none where it isn't written.
+fn level_bytes<'a>(unit: &'a [u8], tokens: &[Token], level: Option<usize>) -> &'a [u8]
+    ensures { result.now ≡ level_text (text_at unit.now tokens.now) level }
+{
+    let Some(token) = level else {
+        return &[];
+    };
+    match tokens.get(token) {
+        Some(token) => text(unit, token.span),
+        None => &[],
+    }
+}
+
+impl Reach {
+    /// The beginning of a unit.
+    fn new(alloc: Global) -> Result<Reach, Memory>
+        ensures { IfOk result (λ r. state_of r ≡ start) }
+    {
+        Ok(Reach {
+            fixities: Fixities::initial(alloc)?,
+            count: 0,
+            begun: 0,
+        })
+    }
+
+    fn misfit(&self, token: usize, code: Code) -> Misfit
+        ensures { result ≡ spec.misfit (state_of self.now) token code }
+    {
+        Misfit {
+            number: self.count,
+            begun: self.begun,
+            token,
+            code,
+        }
+    }
+
+    /// Where a fault of the sequence with these tokens stands.
+    fn misfit_of(&self, tokens: &[usize], fault: FixFault) -> Result<Misfit, Memory>
+        ensures { (atoms : List founds.Atom) → tokens.now ≡ map (λ (a : founds.Atom). a.token) atoms →
+            IfOk result (λ m. misfit_of (state_of self.now) atoms fault ≡ Some m) }
+    {
+        match fault {
+            FixFault::NoOperand(index) => Ok(self.misfit(token_at(tokens, index), Code::F1)),
+            FixFault::MixedSides(index) => Ok(self.misfit(token_at(tokens, index), Code::F2)),
+            FixFault::Malformed => Ok(self.misfit(token_at(tokens, 0), Code::F4)),
+            FixFault::Memory => Err(Memory),
+        }
+    }
+
+    /// What a sequence of atomic expressions comes to.
+    fn of_expression(&self, alloc: Global, atoms: Vec<Atom>) -> Result<Outcome, Memory>
+        ensures empty { atoms_of atoms ≡ [] → IfOk result (λ o. outcome_of o ≡ idle) }
+        ensures some { 0 < length (atoms_of atoms) → IfOk result (λ o. spec.IsExpression (state_of self.now) (atoms_of atoms) (outcome_of o)) }
+    {
+        let sequence = split(alloc, atoms)?;
+        if sequence.items.is_empty() {
+            return Ok(Outcome::Idle);
+        }
+        match resolve(alloc, &self.fixities, &sequence.items) {
+            Ok(operand) => Ok(stands(&sequence.tokens, Shape::Tree(operand))),
+            Err(fault) => Ok(Outcome::Fails(self.misfit_of(&sequence.tokens, fault)?)),
+        }
+    }
+
+    /// What a sequence of atomic patterns comes to.
+    fn of_pattern(&self, alloc: Global, atoms: Vec<Atom>) -> Result<Outcome, Memory>
+        ensures empty { atoms_of atoms ≡ [] → IfOk result (λ o. outcome_of o ≡ idle) }
+        ensures some { 0 < length (atoms_of atoms) → IfOk result (λ o. spec.IsPattern (state_of self.now) (atoms_of atoms) (outcome_of o)) }
+    {
+        let sequence = split(alloc, atoms)?;
+        if sequence.items.is_empty() {
+            return Ok(Outcome::Idle);
+        }
+        match resolve_pattern(alloc, &self.fixities, &sequence.items) {
+            Ok(operand) => Ok(stands(&sequence.tokens, Shape::Tree(operand))),
+            Err(fault) => Ok(Outcome::Fails(self.misfit_of(&sequence.tokens, fault)?)),
+        }
+    }
+
+    /// What the head of a clause comes to.
+    fn of_head(&self, alloc: Global, atoms: Vec<Atom>) -> Result<Outcome, Memory>
+        ensures { IfOk result (λ o. spec.IsClauseHead (state_of self.now) (atoms_of atoms) (outcome_of o)) }
+    {
+        let sequence = split(alloc, atoms)?;
+        match clause_head(&self.fixities, &sequence.items, &sequence.inner) {
+            Ok(head) => Ok(stands(&sequence.tokens, Shape::Head(head))),
+            Err(fault) => Ok(Outcome::Fails(self.misfit_of(&sequence.tokens, fault)?)),
+        }
+    }
+
+    /// A directive, whose identifiers go from the last to the first.
+    fn direct(
+        &mut self,
+        alloc: Global,
+        directive: Directive,
+        bytes: &[u8],
+        level: Option<usize>,
+        atoms: Vec<Atom>,
+    ) -> Result<Outcome, Memory>
+        ensures happens { (text : ℕ → Id) → bytes.now ≡ level_text text level →
+            IfOk result (λ o. Happens text (state_of self.old) (directs directive level (atoms_of atoms)) (outcome_of o) (state_of self.new)) }
+        ensures count { self.new.count ≡ self.old.count }
+    {
+        let idents = idents(alloc, atoms)?;
+        match self.fixities.with(directive, bytes, &idents) {
+            Ok(()) => Ok(Outcome::Idle),
+            Err(DirectiveFault::Level) => {
+                Ok(Outcome::Fails(self.misfit(level.unwrap_or(0), Code::F3)))
+            }
+            Err(DirectiveFault::Memory) => Err(Memory),
+        }
+    }
+
+    /// What an event does, and what it comes to.
+    fn happen(
+        &mut self,
+        alloc: Global,
+        unit: &[u8],
+        tokens: &[Token],
+        event: Event,
+    ) -> Result<Outcome, Memory>
+        requires { self.now.count < 2 ^ 64 - 1 }
+        ensures happens { IfOk result (λ o. Happens (text_at unit.now tokens.now) (state_of self.old) (seen event) (outcome_of o) (state_of self.new)) }
+        ensures count { self.new.count ≤ self.old.count + 1 }
+    {
+        match event {
+            Event::Begins(token) => {
+                self.count += 1;
+                self.begun = token;
+                Ok(Outcome::Declares(token))
+            }
+            Event::Enters => {
+                self.fixities.enter()?;
+                Ok(Outcome::Idle)
+            }
+            Event::Leaves => {
+                self.fixities.leave()?;
+                Ok(Outcome::Idle)
+            }
+            Event::Directs(directive, level, atoms) => {
+                let bytes = level_bytes(unit, tokens, level);
+                self.direct(alloc, directive, bytes, level, atoms)
+            }
+            Event::Expression(atoms) => self.of_expression(alloc, atoms),
+            Event::Pattern(atoms) => self.of_pattern(alloc, atoms),
+            Event::Head(atoms) => self.of_head(alloc, atoms),
+        }
+    }
+}
+
+fn code_number(code: Code) -> u8
+    ensures { result ≡ spec.code_number code }
+{
+    match code {
+        Code::F1 => 1,
+        Code::F2 => 2,
+        Code::F3 => 3,
+        _ => 4,
+    }
+}
+
+fn precedes(left: Misfit, right: Misfit) -> bool
+    ensures { result ≡ spec.precedes left right }
+{
+    left.token < right.token
+        || (left.token == right.token && code_number(left.code) <= code_number(right.code))
+}
+
+fn earlier(left: Misfit, right: Option<Misfit>) -> Misfit
+    ensures { result ≡ spec.earlier left right }
+{
+    match right {
+        None => left,
+        Some(right) => { if precedes(left, right) { left } else { right } }
+    }
+}
+
+/// The first fault of the first declaration that has one.
+fn first_of(misfits: &[Misfit]) -> Option<Misfit>
+    ensures { result ≡ first_misfit misfits.now }
+{
+    if misfits.is_empty() {
+        return None;
+    }
+    let number = misfits[0].number;
+    let mut first = None;
+    for i in (0..misfits.len()).rev() {
+        let misfit = misfits[i];
+        if misfit.number == number {
+            first = Some(earlier(misfit, first));
+        }
+    }
+    first
+}
+
+/// The next event, of those that go from the last to the first.
+fn next(events: &mut Vec<Event>) -> Option<Event>
+    ensures event { MatchOption result (map seen (reverse events.old.items) ≡ [])
+        (λ event. map seen (reverse events.old.items) ≡ seen event ∷ map seen (reverse events.new.items)) }
+    ensures fewer { IfSome result (λ _. length events.new.items + 1 ≡ length events.old.items) }
+{
+    events.pop()
+}
+
+/// What a unit's events come to, which go from the last to the first.
+fn outcomes(
+    alloc: Global,
+    unit: &[u8],
+    tokens: &[Token],
+    events: Vec<Event>,
+) -> Result<Vec<Outcome>, Memory>
+    ensures { IfOk result (λ v. Outcomes (text_at unit.now tokens.now) start (map seen (reverse events.items)) (map outcome_of v.items)) }
+{
+    let mut reach = Reach::new(alloc)?;
+    let mut outcomes = Vec::new(alloc);
+    let mut events = events;
+    while let Some(event) = next(&mut events) {
+        outcomes.push(reach.happen(alloc, unit, tokens, event)?)?;
+    }
+    Ok(outcomes)
+}
+
+fn push_misfit(misfits: &mut Vec<Misfit>, outcome: &Outcome) -> Result<(), Memory>
+    ensures { OnOk result (misfits.new.items ≡ misfits.old.items ++ cons_option (misfit_in (outcome_of outcome.now)) []) }
+{
+    match outcome {
+        Outcome::Fails(misfit) => misfits.push(*misfit)?,
+        Outcome::Declares(_) => {}
+        Outcome::Idle => {}
+        Outcome::Stands(_) => {}
+    }
+    Ok(())
+}
+
+/// The faults among outcomes.
+fn misfits(alloc: Global, outcomes: &[Outcome]) -> Result<Vec<Misfit>, Memory>
+    ensures { IfOk result (λ v. v.items ≡ misfits_in (map outcome_of outcomes.now)) }
+{
+    let mut misfits = Vec::new(alloc);
+    for outcome in outcomes {
+        push_misfit(&mut misfits, outcome)?;
+    }
+    Ok(misfits)
+}
+
+impl Gathered {
+    /// With the outcome before those that this was gathered from.
+    fn with(self, alloc: Global, outcome: Outcome) -> Result<Gathered, Memory>
+        ensures { (os : List spec.Outcome) → AreGathered self os → IfOk result (λ g. AreGathered g (outcome_of outcome ∷ os)) }
+    {
+        let Gathered {
+            mut declarations,
+            mut fits,
+        } = self;
+        match outcome {
+            Outcome::Declares(begun) => {
+                fits.reverse();
+                declarations.push(Fitted { begun, fits })?;
+                Ok(Gathered {
+                    declarations,
+                    fits: Vec::new(alloc),
+                })
+            }
+            Outcome::Stands(fit) => {
+                fits.push(fit)?;
+                Ok(Gathered { declarations, fits })
+            }
+            Outcome::Idle => Ok(Gathered { declarations, fits }),
+            Outcome::Fails(_) => Ok(Gathered { declarations, fits }),
+        }
+    }
+}
+
+/// The declarations that begin among outcomes, each with what its sequences stand for.
+fn declarations(alloc: Global, outcomes: Vec<Outcome>) -> Result<Vec<Fitted>, Memory>
+    ensures { IfOk result (λ v. map fitted_of v.items ≡ declarations_in (map outcome_of outcomes.items)) }
+{
+    let mut gathered = Gathered {
+        declarations: Vec::new(alloc),
+        fits: Vec::new(alloc),
+    };
+    let mut outcomes = outcomes;
+    while let Some(outcome) = outcomes.pop() {
+        gathered = gathered.with(alloc, outcome)?;
+    }
+    let Gathered {
+        mut declarations,
+        fits: _,
+    } = gathered;
+    declarations.reverse();
+    Ok(declarations)
+}
+
+/// How many declarations stand before the one with a fault of fixity.
+pub fn before_misfit(misfit: Option<Misfit>) -> Option<usize>
+    ensures { result ≡ before_misfit misfit }
+{
+    match misfit {
+        None => None,
+        Some(misfit) => Some(misfit.number.saturating_sub(1)),
+    }
+}
+
+fn up_to(most: Option<usize>, declarations: Vec<Fitted>) -> Vec<Fitted>
+    ensures { map fitted_of result.items ≡ up_to most (map fitted_of declarations.items) }
+{
+    let mut declarations = declarations;
+    match most {
+        Some(most) => declarations.truncate(most),
+        None => {}
+    }
+    declarations
+}
+
+/// The declarations of a unit before its first fault of fixity, each with what its sequences stand for, and that
+/// fault. The events go from the last to the first.
+pub fn fit(
+    alloc: Global,
+    unit: &[u8],
+    tokens: &[Token],
+    events: Vec<Event>,
+) -> Result<(Vec<Fitted>, Option<Misfit>), Memory>
+    ensures { IfOk result (λ r. AreFitted (text_at unit.now tokens.now) (map seen (reverse events.items)) (map fitted_of r.0.items) r.1) }
+{
+    let outcomes = outcomes(alloc, unit, tokens, events)?;
+    let misfits = misfits(alloc, &outcomes)?;
+    let first = first_of(&misfits);
+    let declarations = declarations(alloc, outcomes)?;
+    Ok((up_to(before_misfit(first), declarations), first))
+}

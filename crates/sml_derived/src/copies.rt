@@ -9,7 +9,7 @@ use sml_tree::bare::LongIdent;
 use sml_tree::types::{Ty, TyField};
 use std::alloc::Global;
 
-pub(crate) fn copy_of_long(alloc: Global, long: &LongIdent) -> Result<LongIdent, Memory>
+pub fn copy_of_long(alloc: Global, long: &LongIdent) -> Result<LongIdent, Memory>
     ensures { IfOk result (λ copy. long_name_of copy ≡ long_name_of long.now) }
 {
     Ok(LongIdent {
@@ -20,7 +20,7 @@ pub(crate) fn copy_of_long(alloc: Global, long: &LongIdent) -> Result<LongIdent,
 }
 
 #[cycle(copies)]
-pub(crate) fn copy_of_ty(alloc: Global, ty: &Ty) -> Result<Ty, Memory>
+pub fn copy_of_ty(alloc: Global, ty: &Ty) -> Result<Ty, Memory>
     ensures { IfOk result (λ copy. ty_of copy ≡ ty_of ty.now) }
 {
     match ty {

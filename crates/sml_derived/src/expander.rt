@@ -17,13 +17,13 @@ use std::rc::Rc;
 /// `Memory` only where a growth was refused.
 #[derive(Drop)]
 pub struct Expander {
-    pub(crate) alloc: Global,
-    pub(crate) truth: Ident,
-    pub(crate) falsity: Ident,
-    pub(crate) nil: Ident,
-    pub(crate) cons: Ident,
-    pub(crate) it: Ident,
-    pub(crate) variable: Ident,
+    pub alloc: Global,
+    pub truth: Ident,
+    pub falsity: Ident,
+    pub nil: Ident,
+    pub cons: Ident,
+    pub it: Ident,
+    pub variable: Ident,
     ghost truth_is: { ident_of truth ≡ true_id },
     ghost falsity_is: { ident_of falsity ≡ false_id },
     ghost nil_is: { ident_of nil ≡ nil_id },
@@ -39,7 +39,7 @@ fn spelled(alloc: Global, text: &[u8]) -> Result<Ident, Memory>
 }
 
 /// The hidden variable with this number, which no source can spell: a space, then the number.
-pub(crate) fn hidden(alloc: Global, number: usize) -> Result<Ident, Memory>
+pub fn hidden(alloc: Global, number: usize) -> Result<Ident, Memory>
     ensures { IfOk result (λ ident. ident_of ident ≡ hidden number) }
 {
     let mut buffer = Buffer::new();
@@ -49,7 +49,7 @@ pub(crate) fn hidden(alloc: Global, number: usize) -> Result<Ident, Memory>
 }
 
 /// An identifier that a form writes at a place.
-pub(crate) fn written(alloc: Global, place: Place, ident: &Ident) -> Result<LongIdent, Memory>
+pub fn written(alloc: Global, place: Place, ident: &Ident) -> Result<LongIdent, Memory>
     ensures { IfOk result (λ long. long_name_of long ≡ written place (ident_of ident.now)) }
 {
     Ok(LongIdent {
@@ -60,7 +60,7 @@ pub(crate) fn written(alloc: Global, place: Place, ident: &Ident) -> Result<Long
 }
 
 /// An identifier as a long one.
-pub(crate) fn long(alloc: Global, name: Name) -> LongIdent
+pub fn long(alloc: Global, name: Name) -> LongIdent
     ensures { long_name_of result ≡ long (name_of name) }
 {
     LongIdent {
@@ -70,7 +70,7 @@ pub(crate) fn long(alloc: Global, name: Name) -> LongIdent
     }
 }
 
-pub(crate) fn copy_of(name: &Name) -> Result<Name, Memory>
+pub fn copy_of(name: &Name) -> Result<Name, Memory>
     ensures { IfOk result (λ copy. name_of copy ≡ name_of name.now) }
 {
     Ok(Name {
@@ -79,7 +79,7 @@ pub(crate) fn copy_of(name: &Name) -> Result<Name, Memory>
     })
 }
 
-pub(crate) fn copies_of(alloc: Global, names: &[Name]) -> Result<Vec<Name>, Memory>
+pub fn copies_of(alloc: Global, names: &[Name]) -> Result<Vec<Name>, Memory>
     ensures { IfOk result (λ copies. names_of copies.items ≡ names_of names.now) }
 {
     let mut copies = Vec::new(alloc);
@@ -89,7 +89,7 @@ pub(crate) fn copies_of(alloc: Global, names: &[Name]) -> Result<Vec<Name>, Memo
     Ok(copies)
 }
 
-pub(crate) fn copies_of_idents(alloc: Global, idents: &[Ident]) -> Result<Vec<Ident>, Memory>
+pub fn copies_of_idents(alloc: Global, idents: &[Ident]) -> Result<Vec<Ident>, Memory>
     ensures { IfOk result (λ copies. map ident_of copies.items ≡ map ident_of idents.now) }
 {
     let mut copies = Vec::new(alloc);

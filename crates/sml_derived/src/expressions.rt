@@ -19,13 +19,13 @@ use sml_tree::names::Name;
 use sml_tree::patterns::{Pat, PatField};
 use std::alloc::Global;
 
-pub(crate) fn var(alloc: Global, place: Place, ident: &Ident) -> Result<Exp, Memory>
+pub fn var(alloc: Global, place: Place, ident: &Ident) -> Result<Exp, Memory>
     ensures { IfOk result (λ exp. exp_of exp ≡ var place (ident_of ident.now)) }
 {
     Ok(Exp::Identifier(place, written(alloc, place, ident)?))
 }
 
-pub(crate) fn one_rule(alloc: Global, place: Place, pat: Pat, exp: Exp) -> Result<Vec<Rule>, Memory>
+pub fn one_rule(alloc: Global, place: Place, pat: Pat, exp: Exp) -> Result<Vec<Rule>, Memory>
     ensures { IfOk result (λ rules. rules_of (map rule_of rules.items) ≡ one_rule place (pat_of pat) (exp_of exp)) }
 {
     let mut rules = Vec::new(alloc);
@@ -33,7 +33,7 @@ pub(crate) fn one_rule(alloc: Global, place: Place, pat: Pat, exp: Exp) -> Resul
     Ok(rules)
 }
 
-pub(crate) fn application(
+pub fn application(
     alloc: Global,
     place: Place,
     function: Exp,

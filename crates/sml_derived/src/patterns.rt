@@ -16,7 +16,7 @@ use sml_tree::patterns::{Pat, PatField};
 use sml_tree::types::Ty;
 use std::alloc::Global;
 
-pub(crate) fn pat_var(alloc: Global, place: Place, ident: &Ident) -> Result<Pat, Memory>
+pub fn pat_var(alloc: Global, place: Place, ident: &Ident) -> Result<Pat, Memory>
     ensures { IfOk result (λ pat. pat_of pat ≡ pat_var place (ident_of ident.now)) }
 {
     Ok(Pat::Identifier(place, written(alloc, place, ident)?))
@@ -31,7 +31,7 @@ fn pat_pair(alloc: Global, place: Place, left: Pat, right: Pat) -> Result<Pat, M
     Ok(Pat::Tuple(place, pats))
 }
 
-pub(crate) fn layered(
+pub fn layered(
     alloc: Global,
     name: Name,
     ty: Option<Ty>,

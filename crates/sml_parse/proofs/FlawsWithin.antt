@@ -149,7 +149,7 @@ first_of (a ∷ flaws) h = earlier_of a (first_flaw flaws) h.0 (first_of flaws h
 
 -- tokens
 
-begins_same : (r : Rule) → begins_at r ≡ begins_next r
+pub begins_same : (r : Rule) → begins_at r ≡ begins_next r
 begins_same r = agreed _ _ (each_rule (λ r. agree (begins_at r) (begins_next r)) refl r)
 
 ends_same : (r : Rule) → ends_at (Inner r) ≡ ends_before r

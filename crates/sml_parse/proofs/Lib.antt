@@ -1,6 +1,5 @@
 mod Labels
 mod Shapes
-mod Tallness
 mod Declaring
 mod Sorts
 mod Sorting

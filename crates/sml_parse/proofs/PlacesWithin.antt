@@ -1,12 +1,11 @@
 -- The places of a unit's trees and of its last fault.
-use Rattle.std.proofs.Common.{◌≡◌, ℕ, zero, suc, ◌+◌, ◌-◌, ◌<◌, ◌≤◌, List, [], ◌∷◌, Bool, true, false, Option, Some, None, map, length, take, drop, cond, get_or, refl, sym, ap, ◌∙◌, subst, arith, inl, inr}
+use Rattle.std.proofs.Common.{◌≡◌, ℕ, zero, suc, ◌+◌, ◌-◌, ◌<◌, ◌≤◌, List, [], ◌∷◌, Bool, true, false, Option, Some, None, map, length, take, drop, get_or, refl, sym, ap, ◌∙◌, subst, arith, false≢true, inl, inr}
 use Rattle.std.specs.Prelude.{slice_get, unwrap_or, IfSome, if◌then◌else◌, ◌==◌}
-use Rattle.std.specs.Option.{option_map}
-use Rattle.std.specs.List.{list_all, take_while}
-use Rattle.std.proofs.lemmas.Bool.{cond-true, and_parts}
+use Rattle.std.specs.Option.{option_map, is_some}
+use Rattle.std.specs.List.{list_all, before_first}
+use Rattle.std.proofs.lemmas.Bool.{and_parts}
 use Rattle.std.proofs.lemmas.List.{length-map, length-take-le}
 use Rattle.std.proofs.lemmas.List.Elements.{All-cons}
-use Rattle.std.proofs.lemmas.List.Sums.{take_while-cons}
 use Rattle.std.proofs.lemmas.Option.{slice_get-get_or, slice_get_within}
 use Rattle.sml_lex.specs.declared.fault.Code.TheVariants as C
 use Rattle.sml_lex.specs.declared.fault.Place.{Place}
@@ -20,8 +19,10 @@ use Rattle.sml_lex.specs.declared.pieces.Piece.TheVariants.{Blank, Comment, Lexe
 use Rattle.sml_lex.specs.Pieces.{Spells, SpellsFrom, IsFault, AreInOrder, size_of, tokens_of}
 use Rattle.sml_lex.specs.Strings.{IsBroken, break_of}
 use Rattle.sml_lex.proofs.Order.{tokens_are_in_order, faults_are_within}
+use Rattle.sml_tree.specs.Structures.{TopDec}
 use Rattle.sml_tree.specs.Trees.{Dec}
 use Rattle.sml_read.specs.declared.grammar.Node.{Node}
+use Rattle.sml_read.specs.declared.grammar.Node.TheVariants.{Leaf, Inner}
 use Rattle.sml_read.specs.declared.read.Cause.{Cause}
 use Rattle.sml_read.specs.declared.read.Cause.TheVariants.{Unexpected, TooEarly, Lexical}
 use Rattle.sml_read.specs.Spelling.{kinds_of}
@@ -32,16 +33,18 @@ use Rattle.sml_parse.specs.Items.{items_of, declarations_of}
 use Rattle.sml_reach.specs.Places.{start_of}
 use Rattle.sml_reach.specs.declared.reach.Misfit.{Misfit}
 use Rattle.sml_reach.specs.Reach.{up_to, before_misfit}
-use Rattle.sml_parse.specs.Trees.{dec_of_items, spelt, is_low, fault_from, fault_read, fault_behind}
-use Rattle.sml_parse.specs.Within.{Extent, extents_of, IsOfToken, StandInTurn, Reason, of_bytes, reason_of, StandsBy, StandsLast, PlacesAreWithin}
+use Rattle.sml_reach.specs.Fits.{Fitted}
+use Rattle.sml_bare.specs.Derivations.{bare_dec_at, bare_decs, before_none}
+use Rattle.sml_parse.specs.Trees.{dec_of_items, fault_from, fault_read, fault_behind}
+use Rattle.sml_parse.specs.Within.{Extent, begins_next, tokens_before, extents_of, IsOfToken, StandInTurn, Reason, of_bytes, reason_of, StandsBy, StandsLast, PlacesAreWithin}
 use Rattle.sml_parse.proofs.TreePlaces.{places_stand}
 use Rattle.sml_parse.proofs.Nonempty.{HasToken, HaveTokens, have_tokens}
 use Rattle.sml_parse.proofs.Extents.{of_token, OwnWords, all_words_stand, as_many}
 use Rattle.sml_reach.proofs.Somes.{none_some}
 use Rattle.sml_reach.proofs.Somes.{some_same}
 use Rattle.sml_parse.proofs.MisfitsWithin.{IsPlaced, misfit_placed}
-use Rattle.sml_parse.proofs.FlawsWithin.{flawed_placed}
-use Rattle.sml_flaws.specs.Flawed.{or_else}
+use Rattle.sml_parse.proofs.FlawsWithin.{begins_same, flawed_placed}
+use Rattle.sml_flaws.specs.Flawed.{or_else, ends_at}
 use Rattle.sml_reach.specs.Events.{text_at}
 
 -- tokens and places
@@ -74,18 +77,7 @@ module _ (unit : List ℕ) (tokens : List Token) (o : AreInOrder unit 0 tokens) 
       let first = first_token extent t.0 in
       (All-cons (IsOfToken unit tokens extent) _ _ first (places_stand (IsOfToken unit tokens extent) first unit piece h.0), in_turn extents pieces t.1 h.1)
 
-  -- the first of them
-  some_in_turn : (low : Dec Place → Bool) (extents : List Extent) (decs : List (Dec Place)) → StandInTurn unit tokens extents decs → StandInTurn unit tokens extents (take_while low decs)
-  some_in_turn low extents [] h = tt
-  some_in_turn low [] (dec ∷ decs) h = absurd h
-  some_in_turn low (extent ∷ extents) (dec ∷ decs) h =
-      subst (StandInTurn unit tokens (extent ∷ extents)) (sym (take_while-cons low dec decs)) (by_test (low dec) (some_in_turn low extents decs h.1))
-    where
-      by_test : (b : Bool) → StandInTurn unit tokens extents (take_while low decs) → StandInTurn unit tokens (extent ∷ extents) (cond b (dec ∷ take_while low decs) [])
-      by_test true k = (h.0, k)
-      by_test false k = tt
-
-  -- and so many of them at most
+  -- so many of them at most
   most_in_turn : (most : Option ℕ) (extents : List Extent) (decs : List (Dec Place)) → StandInTurn unit tokens extents decs → StandInTurn unit tokens extents (up_to most decs)
   most_in_turn None extents decs h = h
   most_in_turn (Some most) extents decs h = taken most extents decs h
@@ -214,51 +206,80 @@ few zero xs = omega arith
 few (suc n) [] = omega arith
 few (suc n) (x ∷ xs) = let f = few n xs in omega (arith, f)
 
-all_taken : {A : Type 0} (p : A → Bool) (xs : List A) → list_all p xs ≡ true → take_while p xs ≡ xs
-all_taken p [] h = refl
-all_taken p (x ∷ xs) h =
-    let both = and_parts _ _ h in
-    take_while-cons p x xs ∙ cond-true _ _ _ both.0 ∙ ap (λ ys. x ∷ ys) (all_taken p xs both.1)
+few_at_most : {A : Type 0} (most : Option ℕ) (xs : List A) → length (up_to most xs) ≤ length xs
+few_at_most None xs = omega arith
+few_at_most (Some most) xs = few most xs
 
--- so many declarations stand before the one with a fault of fixity, where they are all low
-before_it : {A : Type 0} (p : A → Bool) (misfit : Option Misfit) (extents : List Extent) (spelt : List A) → length spelt ≡ length extents → IfSome misfit (IsPlaced extents) → list_all p (up_to (before_misfit misfit) spelt) ≡ true
-    → IfSome misfit (λ m. length (take_while p (up_to (before_misfit misfit) spelt)) ≡ m.number - 1)
-before_it p None extents spelt n x h = tt
-before_it p (Some m) extents spelt n x h =
+few_before_none : {A : Type 0} (xs : List (Option A)) → length (before_none xs) ≤ length xs
+few_before_none [] = omega arith
+few_before_none (None ∷ xs) = omega arith
+few_before_none (Some x ∷ xs) = let f = few_before_none xs in omega (arith, f)
+
+all_before_none : {A : Type 0} (xs : List (Option A)) → list_all is_some xs ≡ true → length (before_none xs) ≡ length xs
+all_before_none [] h = refl
+all_before_none (None ∷ xs) h = absurd (false≢true (and_parts _ _ h).0)
+all_before_none (Some x ∷ xs) h = ap suc (all_before_none xs (and_parts _ _ h).1)
+
+-- so many declarations stand before the one with a fault of its phrases, where none is too high
+before_it : {A : Type 0} (misfit : Option Misfit) (extents : List Extent) (tops : List (Option A)) → length tops ≡ length extents → IfSome misfit (IsPlaced extents) → list_all is_some (up_to (before_misfit misfit) tops) ≡ true
+    → IfSome misfit (λ m. length (before_none (up_to (before_misfit misfit) tops)) ≡ m.number - 1)
+before_it None extents tops n x h = tt
+before_it (Some m) extents tops n x h =
     let b = slice_get_within extents (m.number - 1) x.0 x.1 in
-    ap length (all_taken p (take (m.number - 1) spelt) h) ∙ length-take-le (m.number - 1) spelt (omega (arith, b, n))
+    all_before_none (take (m.number - 1) tops) h ∙ length-take-le (m.number - 1) tops (omega (arith, b, n))
+
+-- there are as many extents as declarations
+module _ (unit : List ℕ) (tokens : List Token) where
+  as_many_bare : (n : ℕ) (nodes : List Node) (fitted : List Fitted) → length (bare_decs unit tokens n nodes fitted) ≡ length (extents_of n nodes)
+  as_many_bare n [] fitted = refl
+  as_many_bare n (Leaf ∷ nodes) fitted = as_many_bare (suc n) nodes fitted
+  as_many_bare n (Inner rule ∷ nodes) fitted =
+      let dec = bare_dec_at unit tokens n (before_first ends_at nodes) fitted in
+      let extent = record { first = n; behind = n + tokens_before nodes } in
+      subst (λ (b : Bool). length (if b then dec ∷ bare_decs unit tokens n nodes (drop 1 fitted) else bare_decs unit tokens n nodes fitted) ≡ length (if begins_next rule then extent ∷ extents_of n nodes else extents_of n nodes)) (sym (begins_same rule))
+      (by_begin dec extent (begins_next rule) (as_many_bare n nodes (drop 1 fitted)) (as_many_bare n nodes fitted))
+    where
+      by_begin : (dec : Option (TopDec Place)) (extent : Extent) (b : Bool) → length (bare_decs unit tokens n nodes (drop 1 fitted)) ≡ length (extents_of n nodes) → length (bare_decs unit tokens n nodes fitted) ≡ length (extents_of n nodes)
+          → length (if b then dec ∷ bare_decs unit tokens n nodes (drop 1 fitted) else bare_decs unit tokens n nodes fitted) ≡ length (if b then extent ∷ extents_of n nodes else extents_of n nodes)
+      by_begin dec extent true h k = ap suc h
+      by_begin dec extent false h k = k
 
 first_placed : (extents : List Extent) (first other : Option Misfit) → IfSome first (IsPlaced extents) → IfSome other (IsPlaced extents) → IfSome (or_else first other) (IsPlaced extents)
 first_placed extents None other h k = k
 first_placed extents (Some m) other h k = h
 
 pub places_within : PlacesAreWithin
-places_within unit tokens end decs fault s trees =
+places_within unit tokens end tops decs fault s trees =
     let o = tokens_are_in_order unit tokens end s in
     let extents = extents_of 0 trees.nodes in
     let all = declarations_of (items_of unit 0 trees.nodes tokens) in
     let spelt = map (dec_of_items unit) all in
-    let low = up_to (before_misfit trees.misfit) spelt in
+    let bare = bare_decs unit tokens 0 trees.nodes trees.fitted in
+    let made = up_to (before_misfit trees.misfit) bare in
     let whole = trees.reading.whole in
     let kinds = take trees.begun (kinds_of tokens) in
     let n = length-map tokens (λ (t : Token). t.kind) in
     let f = few trees.begun (kinds_of tokens) in
     let have = have_tokens trees.nodes _ 0 (length tokens) kinds _ whole.part whole.outer (omega (arith, n, f)) whole.leads in
     let many = length-map all (dec_of_items unit) ∙ as_many unit 0 trees.nodes 0 tokens _ kinds _ _ (omega (arith, n, f)) whole.leads in
+    let many_bare = as_many_bare unit tokens 0 trees.nodes trees.fitted in
     let flawed = flawed_placed (text_at unit tokens) extents (length tokens) trees.nodes 0 0 tokens trees.fitted have (λ i. ap (slice_get extents) (let e : 0 + i ≡ i = omega arith in e)) in
     let unfit = misfit_placed unit tokens trees.nodes kinds _ whole.part trees.fitted trees.unfit whole.outer whole.leads trees.fits in
-    let placed = subst (λ m. IfSome m (IsPlaced extents)) (sym trees.is_first) (first_placed extents _ _ flawed unfit) in (
-      subst (StandInTurn unit tokens extents) (sym trees.whole) (some_in_turn unit tokens o is_low extents low (most_in_turn unit tokens o (before_misfit trees.misfit) extents spelt (in_turn unit tokens o extents all have (all_words_stand unit tokens o trees.nodes)))),
-      subst (λ f. IfSome f (StandsLast unit tokens end trees.nodes trees.begun (length decs))) (sym trees.ended) (by_test o have placed (λ h. before_it is_low trees.misfit extents spelt many placed h) (list_all is_low low) refl),
+    let placed = subst (λ m. IfSome m (IsPlaced extents)) (sym trees.is_first) (first_placed extents _ _ flawed unfit) in
+    let counted = ap length trees.made in
+    let few_made = few_before_none made in
+    let few_bare = few_at_most (before_misfit trees.misfit) bare in
+    let kept = ap length trees.piece ∙ length-take-le (length tops) spelt (omega (arith, counted, few_made, few_bare, many, many_bare)) in (
+      subst (StandInTurn unit tokens extents) (sym trees.piece) (most_in_turn unit tokens o (Some (length tops)) extents spelt (in_turn unit tokens o extents all have (all_words_stand unit tokens o trees.nodes))),
+      subst (λ f. IfSome f (StandsLast unit tokens end trees.nodes trees.begun (length decs))) (sym trees.ended) (by_test o have placed (λ h. subst (λ (k : ℕ). IfSome trees.misfit (λ m. k ≡ m.number - 1)) (sym counted ∙ sym kept) (before_it trees.misfit extents bare many_bare placed h)) (list_all is_some made) refl),
     )
   where
-    until_misfit : List (Dec Place)
-    until_misfit = up_to (before_misfit trees.misfit) (spelt unit trees.nodes tokens)
+    until_misfit : List (Option (TopDec Place))
+    until_misfit = up_to (before_misfit trees.misfit) (bare_decs unit tokens 0 trees.nodes trees.fitted)
 
     by_test : AreInOrder unit 0 tokens → HaveTokens (length tokens) (extents_of 0 trees.nodes) → IfSome trees.misfit (IsPlaced (extents_of 0 trees.nodes))
-        → (list_all is_low until_misfit ≡ true → IfSome trees.misfit (λ m. length (take_while is_low until_misfit) ≡ m.number - 1)) → (b : Bool) → list_all is_low until_misfit ≡ b
+        → (list_all is_some until_misfit ≡ true → IfSome trees.misfit (λ m. length decs ≡ m.number - 1)) → (b : Bool) → list_all is_some until_misfit ≡ b
         → IfSome (if b then fault_behind unit tokens end trees.begun trees.cause trees.misfit else Some (record { code = C.S3; place = record { line = 1; column = 1 }; detail = None })) (StandsLast unit tokens end trees.nodes trees.begun (length decs))
     by_test o have placed n true q =
-        last_stands unit tokens o trees.nodes (length decs) trees.misfit end trees.begun trees.cause s trees.reading.fault have placed
-        (subst (λ (ds : List (Dec Place)). IfSome trees.misfit (λ m. length ds ≡ m.number - 1)) (sym trees.whole) (n q))
+        last_stands unit tokens o trees.nodes (length decs) trees.misfit end trees.begun trees.cause s trees.reading.fault have placed (n q)
     by_test o have placed n false q = refl

@@ -5,7 +5,6 @@ pub mod Forms
 pub mod Values
 pub mod Rules
 pub mod Stacks
-pub mod Heights
 pub mod Sorts
 pub mod Trees
 pub mod Within

@@ -1,6 +1,7 @@
 -- The bare declarations that a unit's tokens spell, and the fault that ends them.
-use Rattle.std.specs.Prelude.{◌≡◌, ℕ, ◌-◌, List, length, Option, Some, None, Bool, false, nat_le, if◌then◌else◌, map}
-use Rattle.std.specs.List.{take_while, list_all}
+use Rattle.std.specs.Prelude.{◌≡◌, ℕ, ◌-◌, List, length, Option, Some, None, if◌then◌else◌, map, take}
+use Rattle.std.specs.List.{list_all}
+use Rattle.std.specs.Option.{is_some}
 use Rattle.sml_lex.specs.declared.fault.Code.{Code}
 use Rattle.sml_lex.specs.declared.fault.Code.TheVariants as C
 use Rattle.sml_lex.specs.declared.fault.Place.{Place}
@@ -9,7 +10,7 @@ use Rattle.sml_lex.specs.declared.token.End.{End}
 use Rattle.sml_lex.specs.declared.token.End.TheVariants as E
 use Rattle.sml_lex.specs.Faults.{Fault}
 use Rattle.sml_tree.specs.Trees.{Dec}
-use Rattle.sml_tree.specs.Height.{dec_height}
+use Rattle.sml_tree.specs.Structures.{TopDec}
 use Rattle.sml_read.specs.declared.grammar.Node.{Node}
 use Rattle.sml_read.specs.declared.read.Cause.{Cause}
 use Rattle.sml_read.specs.declared.read.Cause.TheVariants.{Unexpected, TooEarly, Lexical}
@@ -25,6 +26,7 @@ use Rattle.sml_flaws.specs.Flawed.{or_else, first_flawed}
 use Rattle.sml_reach.specs.Places.{place_from}
 use Rattle.sml_parse.specs.Items.{items_of, declarations_of}
 use Rattle.sml_reach.specs.Places.{start_of}
+use Rattle.sml_bare.specs.Derivations.{bare_decs, before_none}
 use Rattle.sml_parse.specs.Forms.{is_in_piece}
 use Rattle.sml_parse.specs.Values.{dec_in, outside, first}
 use Rattle.sml_parse.specs.Rules.{values_of}
@@ -40,10 +42,6 @@ decs_of_items unit items = map (dec_of_items unit) (declarations_of items)
 -- the same of a derivation over these tokens
 abbrev pub spelt : List ℕ → List Node → List Token → List (Dec Place)
 spelt unit nodes tokens = decs_of_items unit (items_of unit 0 nodes tokens)
-
--- whether a declaration's tree isn't too high
-abbrev pub is_low : Dec Place → Bool
-is_low dec = nat_le (dec_height dec) 4000
 
 abbrev pub fault_from : List ℕ → Code → ℕ → ℕ → Option (Fault Place)
 fault_from unit code start at = Some (record { code = code; place = place_from unit start at; detail = None })
@@ -62,10 +60,11 @@ abbrev pub fault_behind : List ℕ → List Token → End → ℕ → Option Cau
 fault_behind unit tokens end begun cause None = fault_read unit tokens end begun cause
 fault_behind unit tokens end begun cause (Some m) = fault_from unit m.code (start_of tokens m.begun 0) (start_of tokens m.token 0)
 
--- The tokens are read. Of the declarations that they spell these are all up to the first that has a fault of fixity
--- or of what it binds or is too high, and the fault is that one's, or the one at which reading ended. In one
--- declaration a fault of fixity comes first: where it has one its other faults aren't sought.
-pub record Trees (unit : List ℕ) (tokens : List Token) (end : End) (decs : List (Dec Place)) (fault : Option (Fault Place)) : Type 0 where
+-- The tokens are read. These are the declarations that they spell, up to the first that has a fault of fixity or of
+-- what it binds or is too high, as whole trees and as those of the piece of the language that is answered so far. The
+-- fault is that one's, or the one at which reading ended. In one declaration a fault of fixity comes first: where it
+-- has one its other faults aren't sought.
+pub record Trees (unit : List ℕ) (tokens : List Token) (end : End) (tops : List (TopDec Place)) (decs : List (Dec Place)) (fault : Option (Fault Place)) : Type 0 where
   pub nodes : List Node
   pub begun : ℕ
   pub cause : Option Cause
@@ -75,5 +74,6 @@ pub record Trees (unit : List ℕ) (tokens : List Token) (end : End) (decs : Lis
   pub reading : IsReading (kinds_of tokens) (is_done end) nodes begun cause
   pub fits : AreFitted (text_at unit tokens) (events_of unit tokens nodes (starts_of 0 nodes)) fitted unfit
   pub is_first : misfit ≡ or_else (first_flawed (text_at unit tokens) 0 0 nodes tokens fitted) unfit
-  pub whole : decs ≡ take_while is_low (up_to (before_misfit misfit) (spelt unit nodes tokens))
-  pub ended : fault ≡ (if list_all is_low (up_to (before_misfit misfit) (spelt unit nodes tokens)) then fault_behind unit tokens end begun cause misfit else Some (record { code = C.S3; place = record { line = 1; column = 1 }; detail = None }))
+  pub made : tops ≡ before_none (up_to (before_misfit misfit) (bare_decs unit tokens 0 nodes fitted))
+  pub piece : decs ≡ take (length tops) (spelt unit nodes tokens)
+  pub ended : fault ≡ (if list_all is_some (up_to (before_misfit misfit) (bare_decs unit tokens 0 nodes fitted)) then fault_behind unit tokens end begun cause misfit else Some (record { code = C.S3; place = record { line = 1; column = 1 }; detail = None }))

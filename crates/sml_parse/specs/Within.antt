@@ -12,6 +12,7 @@ use Rattle.sml_lex.specs.Faults.{Fault}
 use Rattle.sml_lex.specs.Pieces.{Spells}
 use Rattle.sml_tree.specs.Trees.{Dec}
 use Rattle.sml_tree.specs.Places.{dec_places}
+use Rattle.sml_tree.specs.Structures.{TopDec}
 use Rattle.sml_read.specs.declared.grammar.Symbol.{Symbol}
 use Rattle.sml_read.specs.declared.grammar.Symbol.TheVariants.{Of}
 use Rattle.sml_read.specs.declared.grammar.Rule.{Rule}
@@ -121,6 +122,6 @@ StandsLast unit tokens end nodes begun before fault = StandsBy (reason_of fault.
 -- The places of the trees that bytes spell stand in their declarations, and so does the last fault's.
 abbrev pub PlacesAreWithin : Type 0
 PlacesAreWithin =
-    (unit : List ℕ) (tokens : List Token) (end : End) (decs : List (Dec Place)) (fault : Option (Fault Place))
-    → Spells unit tokens end → (trees : Trees unit tokens end decs fault)
+    (unit : List ℕ) (tokens : List Token) (end : End) (tops : List (TopDec Place)) (decs : List (Dec Place)) (fault : Option (Fault Place))
+    → Spells unit tokens end → (trees : Trees unit tokens end tops decs fault)
     → StandInTurn unit tokens (extents_of 0 trees.nodes) decs × IfSome fault (StandsLast unit tokens end trees.nodes trees.begun (length decs))

@@ -1,7 +1,7 @@
 //! Each derived form with its bare tree as text, worked out by hand from the table of derived forms (the Definition,
 //! appendix A). A hidden variable is shown as it is: a space, then its number.
 
-mod show;
+pub mod show;
 
 use show::{Shown, show_bind, show_dec, show_exp, show_pat, show_sig, show_spec, show_str};
 use sml_derived::expander::Expander;

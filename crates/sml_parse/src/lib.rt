@@ -13,4 +13,5 @@ pub mod laws;
 pub mod parse;
 mod sort;
 mod stack;
-mod tall;
+#[cfg(test)]
+mod whole_forms;

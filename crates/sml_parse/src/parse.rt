@@ -1,13 +1,11 @@
 //! The bare declarations of a unit.
 
-ghost use Rattle.std.specs.Prelude.{◌≡◌, map, take_while, true, false, IfOk};
-ghost use Rattle.std.specs.List.{list_all};
-ghost use Rattle.std.specs.Option.{option_map, MatchOption};
+ghost use Rattle.std.specs.Prelude.{◌≡◌, map, take, IfOk};
+ghost use Rattle.std.specs.Option.{option_map};
 ghost use Rattle.sml_lex.specs.Faults.{fault_of};
 ghost use Rattle.sml_tree.specs.Views.{dec_of};
-ghost use Rattle.sml_reach.specs.Reach.{up_to};
-ghost use Rattle.sml_parse.specs.Trees.{dec_of_items, decs_of_items, is_low, fault_from, fault_read, fault_behind, Trees};
-ghost use Rattle.sml_reach.specs.Reach.{is_full};
+ghost use Rattle.sml_tree.specs.StructureViews.{top_of};
+ghost use Rattle.sml_parse.specs.Trees.{dec_of_items, decs_of_items, fault_from, fault_read, fault_behind, Trees};
 
 use crate::build::build;
 use sml_reach::event::events;
@@ -15,24 +13,23 @@ use sml_flaws::flawed::{first_flawed, or_else};
 use crate::item::Item;
 use crate::label::{begins, first, label};
 use sml_reach::names::Names;
-use sml_bare::whole::is_full;
+use sml_bare::whole::bare_decs;
 use sml_reach::place::{FIRST, place_between, start_of};
 use sml_reach::reach::{Misfit, before_misfit, fit};
 use crate::sort::is_in_piece;
-use crate::tall::measure;
 use sml_lex::fault::{Code, Fault, Memory};
 use sml_lex::token::{End, Lexed};
 use sml_read::read::{Cause, Full, read};
 use sml_tree::bare::BareDec;
+use sml_tree::structures::TopDec;
 use std::alloc::Global;
 
-/// The height up to which a declaration's tree may reach.
-pub const MOST: u32 = 4000;
-
-/// The whole bare declarations of a unit before the fault, and the fault.
+/// The whole bare declarations of a unit before the fault, the same as trees of the piece of the language that is
+/// answered so far, and the fault.
 #[derive(Drop)]
 pub struct Parsed {
-    pub declarations: Vec<BareDec>,
+    pub declarations: Vec<TopDec>,
+    pub piece: Vec<BareDec>,
     pub fault: Option<Fault>,
 }
 
@@ -74,50 +71,42 @@ fn fault_of_reading(lexed: &Lexed, begun: usize, cause: Option<Cause>) -> Option
     }
 }
 
-/// The declaration that these items spell, unless it is too high.
+/// The declaration that these items spell.
 fn declared(
     alloc: Global,
     unit: &[u8],
     names: &mut Names,
     items: &[Item],
-) -> Result<Option<BareDec>, Memory>
-    ensures { let dec = dec_of_items unit.now items.now in
-        IfOk result (λ made. MatchOption made (is_low dec ≡ false)
-        (λ bare. (dec_of bare ≡ dec) × (is_low dec ≡ true))) }
+) -> Result<BareDec, Memory>
+    ensures { IfOk result (λ bare. dec_of bare ≡ dec_of_items unit.now items.now) }
 {
     if !is_in_piece(alloc, items)? {
-        return Ok(Some(BareDec::Other(FIRST)));
+        return Ok(BareDec::Other(FIRST));
     }
-    if MOST < measure(alloc, items)? {
-        return Ok(None);
-    }
-    Ok(Some(build(alloc, unit, names, items)?))
+    build(alloc, unit, names, items)
 }
 
-/// The declarations that these items spell, so many at most, up to the first that is too high, and whether none is.
+/// The declarations that these items spell, so many at most.
 fn declare(
     alloc: Global,
     unit: &[u8],
     names: &mut Names,
     items: &[Item],
-    most: Option<usize>,
-) -> Result<(Vec<BareDec>, bool), Memory>
-    ensures { let all = up_to most (decs_of_items unit.now items.now) in
-        IfOk result (λ r. (map dec_of r.0.items ≡ take_while is_low all) × (r.1 ≡ list_all is_low all)) }
+    most: usize,
+) -> Result<Vec<BareDec>, Memory>
+    ensures { IfOk result (λ decs. map dec_of decs.items ≡ take most (decs_of_items unit.now items.now)) }
 {
     let mut declarations = Vec::new(alloc);
     for i in 0..items.len() {
         if begins(items[i]) {
-            if is_full(most, declarations.len()) {
-                return Ok((declarations, true));
+            if most <= declarations.len() {
+                return Ok(declarations);
             }
-            let Some(dec) = declared(alloc, unit, names, first(&items[i + 1..]))? else {
-                return Ok((declarations, false));
-            };
+            let dec = declared(alloc, unit, names, first(&items[i + 1..]))?;
             declarations.push(dec)?;
         }
     }
-    Ok((declarations, true))
+    Ok(declarations)
 }
 
 /// The fault behind the last of the declarations.
@@ -138,7 +127,7 @@ fn fault_behind(lexed: &Lexed, full: &Full, misfit: Option<Misfit>) -> Option<Fa
 /// Reads a unit's bare declarations.
 pub fn parse(alloc: Global, lexed: &Lexed) -> Result<Parsed, Memory>
     ensures { IfOk result (λ parsed. Trees lexed.now.unit.now lexed.now.tokens.items lexed.now.end
-        (map dec_of parsed.declarations.items) (option_map fault_of parsed.fault)) }
+        (map top_of parsed.declarations.items) (map dec_of parsed.piece.items) (option_map fault_of parsed.fault)) }
 {
     let full = read(alloc, lexed)?;
     let mut names = Names::new(alloc);
@@ -146,22 +135,31 @@ pub fn parse(alloc: Global, lexed: &Lexed) -> Result<Parsed, Memory>
     let (fitted, unfit) = fit(alloc, lexed.unit, &lexed.tokens, events)?;
     let flawed = first_flawed(alloc, lexed.unit, &lexed.tokens, &full.nodes, &fitted)?;
     let misfit = or_else(flawed, unfit);
-    let items = label(alloc, lexed.unit, &full.nodes, &lexed.tokens)?;
     let most = before_misfit(misfit);
-    let (declarations, low) = declare(alloc, lexed.unit, &mut names, &items, most)?;
-    if low {
-        return Ok(Parsed {
-            declarations,
-            fault: fault_behind(lexed, &full, misfit),
-        });
-    }
-    Ok(Parsed {
-        declarations,
-        fault: Some(Fault {
+    let (declarations, are_low) = bare_decs(
+        alloc,
+        lexed.unit,
+        &lexed.tokens,
+        &mut names,
+        &full.nodes,
+        &fitted,
+        most,
+    )?;
+    let items = label(alloc, lexed.unit, &full.nodes, &lexed.tokens)?;
+    let piece = declare(alloc, lexed.unit, &mut names, &items, declarations.len())?;
+    let fault = if are_low {
+        fault_behind(lexed, &full, misfit)
+    } else {
+        Some(Fault {
             code: Code::S3,
             place: FIRST,
             detail: None,
-        }),
+        })
+    };
+    Ok(Parsed {
+        declarations,
+        piece,
+        fault,
     })
 }
 

@@ -35,7 +35,7 @@ answers_stand maker B bytes tokens (extent ∷ extents) (d ∷ ds) (o ∷ os) h 
 
 unit_stands : (B : Basis Name) (bytes : List ℕ) (s : SourceUnit) (spelt : AreSpelt bytes s.declarations s.last) (os : List Answered) → Run naming s.maker B s.declarations os → UnitStands bytes s spelt os
 unit_stands B bytes s spelt os r =
-    let p = places_within bytes spelt.tokens spelt.end s.declarations s.last spelt.tokens_spelt spelt.trees in
+    let p = places_within bytes spelt.tokens spelt.end spelt.tops s.declarations s.last spelt.tokens_spelt spelt.trees in
     record { answers = answers_stand s.maker B bytes spelt.tokens _ s.declarations os p.0 r; last = p.1 }
 
 pub units_stand : (B : Basis Name) (Ss : List (Sig Name)) (us : List UnitText) (ss : List SourceUnit) (spelt : AreSourcesOf us ss) (oss : List (List Answered))

@@ -120,11 +120,8 @@ fn check_unit(alloc: Global, id: UnitId, text: &[u8]) -> Result<Vec<Reply>, Memo
     ensures { IfOk result (λ rs. IsAnswered (maker_of id) text.now rs.items) }
 {
     let lexed = lex(alloc, text)?;
-    let Parsed {
-        declarations,
-        fault,
-    } = parse(alloc, &lexed)?;
-    let replies = answer_all(alloc, id, &declarations)?;
+    let parsed = parse(alloc, &lexed)?;
+    let replies = answer_all(alloc, id, &parsed.piece)?;
     and_last(replies, fault)
 }
 

@@ -5,7 +5,7 @@ use sml_tree::bare::{Ident, LongIdent};
 use sml_tree::expressions::{Dec, Exp, Rule, TypBind, ValBind};
 use sml_tree::patterns::Pat;
 use sml_tree::signatures::{SigExp, Spec, WhereType};
-use sml_tree::structures::{Ascription, StrDec, StrExp};
+use sml_tree::structures::{Ascription, StrDec, StrExp, TopDec};
 use sml_tree::types::Ty;
 use std::fmt::Write;
 
@@ -399,6 +399,49 @@ pub fn show_str(shown: &mut Shown, structure: &StrExp) -> Result<(), Memory> {
 fn show_str_dec(shown: &mut Shown, dec: &StrDec) -> Result<(), Memory> {
     match dec {
         StrDec::Core(dec) => show_dec(shown, dec),
-        _ => shown.put("?"),
+        StrDec::Structure(place, binds) => {
+            shown.place(*place)?;
+            shown.put("structure ")?;
+            for bind in binds {
+                shown.ident(&bind.name.ident)?;
+                shown.put("=")?;
+                show_str(shown, &bind.body)?;
+                shown.put("; ")?;
+            }
+            Ok(())
+        }
+        StrDec::Local(_, _, _) => shown.put("?"),
+    }
+}
+
+pub fn show_top(shown: &mut Shown, top: &TopDec) -> Result<(), Memory> {
+    match top {
+        TopDec::Structure(dec) => show_str_dec(shown, dec),
+        TopDec::Signature(place, binds) => {
+            shown.place(*place)?;
+            shown.put("signature ")?;
+            for bind in binds {
+                shown.ident(&bind.name.ident)?;
+                shown.put("=")?;
+                show_sig(shown, &bind.signature)?;
+                shown.put("; ")?;
+            }
+            Ok(())
+        }
+        TopDec::Functor(place, binds) => {
+            shown.place(*place)?;
+            shown.put("functor ")?;
+            for bind in binds {
+                shown.ident(&bind.name.ident)?;
+                shown.put("(")?;
+                shown.ident(&bind.argument.ident)?;
+                shown.put(":")?;
+                show_sig(shown, &bind.signature)?;
+                shown.put(")=")?;
+                show_str(shown, &bind.body)?;
+                shown.put("; ")?;
+            }
+            Ok(())
+        }
     }
 }

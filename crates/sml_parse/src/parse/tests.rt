@@ -166,7 +166,7 @@ fn show_parsed(alloc: Global, parsed: &Parsed) -> Result<String, Memory> {
     let mut shown = Shown {
         text: String::new(alloc),
     };
-    for dec in &parsed.declarations {
+    for dec in &parsed.piece {
         show_dec(&mut shown, dec)?;
         shown.put("\n")?;
     }
@@ -390,8 +390,8 @@ fn outside_the_piece(rt: HostRuntime) -> Result<(), Fail> {
         b"structure ref :> sig type o end = struct type o = nil val x = 01 end".as_slice(),
     ] {
         let parsed = parse(rt.alloc(), &lex(rt.alloc(), unit)?)?;
-        assert_eq!(rt; parsed.declarations.len(), 1);
-        assert_eq!(rt; matches!(parsed.declarations[0], BareDec::Other(_)), false);
+        assert_eq!(rt; parsed.piece.len(), 1);
+        assert_eq!(rt; matches!(parsed.piece[0], BareDec::Other(_)), false);
     }
     Ok(())
 }
@@ -417,11 +417,36 @@ fn heights(rt: HostRuntime) -> Result<(), Fail> {
         let unit = nested(alloc, count)?;
         let mut parsed = parse(alloc, &lex(alloc, &unit)?)?;
         let whole = if count == 3998 { 2 } else { 0 };
-        assert_eq!(rt; parsed.declarations.len(), whole);
+        assert_eq!(rt; parsed.piece.len(), whole);
         parsed.declarations.clear();
+        parsed.piece.clear();
         let text = show_parsed(alloc, &parsed)?;
         assert_eq!(rt; text.as_str(), expected);
     }
+    Ok(())
+}
+
+// a list of n elements is n applications to pairs and `nil`, so 2 n + 1 high, and its declaration one more
+#[test]
+fn heights_of_lists(rt: HostRuntime) -> Result<(), Fail> {
+    let alloc = rt.alloc();
+    for (count, whole) in [(1_999, 1), (2_000, 0)] {
+        let unit = between(alloc, b"val x = [", b"1,", count - 1, b"1]")?;
+        let parsed = parse(alloc, &lex(alloc, &unit)?)?;
+        assert_eq!(rt; parsed.declarations.len(), whole);
+        assert_eq!(rt; parsed.fault.is_none(), whole == 1);
+    }
+    Ok(())
+}
+
+// clauses stand beside one another, and so add nothing to the height
+#[test]
+fn many_clauses(rt: HostRuntime) -> Result<(), Fail> {
+    let alloc = rt.alloc();
+    let unit = between(alloc, b"fun f 0 = 1", b" | f 1 = 2", 9_999, b"")?;
+    let parsed = parse(alloc, &lex(alloc, &unit)?)?;
+    assert_eq!(rt; parsed.declarations.len(), 1);
+    assert_eq!(rt; parsed.fault, None);
     Ok(())
 }
 
@@ -433,7 +458,7 @@ fn large_units(rt: HostRuntime) -> Result<(), Fail> {
         unit.extend_from_slice(b"val x = 1\n")?;
     }
     let parsed = parse(alloc, &lex(alloc, &unit)?)?;
-    assert_eq!(rt; parsed.declarations.len(), 100_000);
+    assert_eq!(rt; parsed.piece.len(), 100_000);
     assert_eq!(rt; parsed.fault, None);
     Ok(())
 }
@@ -463,7 +488,7 @@ fn deep_units(rt: HostRuntime) -> Result<(), Fail> {
     ] {
         let unit = repeated(alloc, text, count)?;
         let parsed = parse(alloc, &lex(alloc, &unit)?)?;
-        assert_eq!(rt; parsed.declarations.len(), 0);
+        assert_eq!(rt; parsed.piece.len(), 0);
         assert_eq!(rt; parsed.fault, Some(fault_at(&unit, Code::S2, 0, last)));
     }
     let mut unit = Vec::from_slice(alloc, b"structure A = ")?;
@@ -472,7 +497,7 @@ fn deep_units(rt: HostRuntime) -> Result<(), Fail> {
     }
     let parsed = parse(alloc, &lex(alloc, &unit)?)?;
     assert_eq!(rt; parsed.fault, Some(fault_at(&unit, Code::S2, 0, 840_012)));
-    // closed, and so whole declarations outside the piece
+    // closed, and so whole declarations outside the piece, which are too high
     let mut unit = Vec::from_slice(alloc, b"val x = 1 + ")?;
     for _ in 0..500_000 {
         unit.push(b'(')?;
@@ -482,8 +507,8 @@ fn deep_units(rt: HostRuntime) -> Result<(), Fail> {
         unit.push(b')')?;
     }
     let parsed = parse(alloc, &lex(alloc, &unit)?)?;
-    assert_eq!(rt; parsed.declarations.len(), 1);
-    assert_eq!(rt; parsed.fault, None);
+    assert_eq!(rt; parsed.piece.len(), 0);
+    assert_eq!(rt; parsed.fault, Some(fault_at(&unit, Code::S3, 0, 0)));
     Ok(())
 }
 
@@ -510,11 +535,10 @@ fn long_sequences(rt: HostRuntime) -> Result<(), Fail> {
         (b"f ".as_slice(), 500_000, b"x".as_slice()),
         (b"(1)::".as_slice(), 200_000, b"nil".as_slice()),
     ] {
-        // outside the piece, and so without a height for now
         let unit = between(alloc, b"val x = ", text, count, last)?;
         let parsed = parse(alloc, &lex(alloc, &unit)?)?;
-        assert_eq!(rt; parsed.fault, None);
-        assert_eq!(rt; parsed.declarations.len(), 1);
+        assert_eq!(rt; parsed.fault, Some(fault_at(&unit, Code::S3, 0, 0)));
+        assert_eq!(rt; parsed.piece.len(), 0);
     }
     let unit = between(alloc, b"val x = ", b"fn x=>", 170_000, b"x")?;
     let parsed = parse(alloc, &lex(alloc, &unit)?)?;
@@ -539,14 +563,14 @@ fn many_directives(rt: HostRuntime) -> Result<(), Fail> {
         b"in val x = a end",
     )?;
     let parsed = parse(alloc, &lex(alloc, &unit)?)?;
-    assert_eq!(rt; parsed.declarations.len(), 1);
+    assert_eq!(rt; parsed.piece.len(), 1);
     assert_eq!(rt; parsed.fault, None);
     // as many scopes, in each of which the identifier has a fixity
     let mut unit = between(alloc, b"val x = ", b"let infix 5 a in ", 40_000, b"1")?;
     unit.extend_from_slice(&repeated(alloc, b" end", 40_000)?)?;
     unit.extend_from_slice(b" val a = 1")?;
     let parsed = parse(alloc, &lex(alloc, &unit)?)?;
-    assert_eq!(rt; parsed.declarations.len(), 2);
-    assert_eq!(rt; parsed.fault, None);
+    assert_eq!(rt; parsed.piece.len(), 0);
+    assert_eq!(rt; parsed.fault, Some(fault_at(&unit, Code::S3, 0, 0)));
     Ok(())
 }

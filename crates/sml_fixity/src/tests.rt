@@ -302,3 +302,51 @@ fn laws_run() {
     tree_is_unique();
     head_is_unique();
 }
+
+// `bench/refused` runs this once for each growth of memory, which is refused then
+#[test]
+fn a_refused_growth_is_want_of_memory(rt: HostRuntime) -> Result<(), Fail> {
+    let alloc = rt.alloc();
+    let (Ok(mut fixities), Ok(sequence), Ok(pattern)) = (
+        Fixities::initial(alloc),
+        items(alloc, &[b"0", b"-", b"0", b"*", b"0"]),
+        items(alloc, &[b"f", b"x", b"::", b"y"]),
+    ) else {
+        return Ok(());
+    };
+    let entered = fixities.enter();
+    let done = direct(alloc, &mut fixities, Directive::Infix, b"5", b"##");
+    assert_eq!(rt; matches!(&done, Err(DirectiveFault::Level)), false);
+    assert!(rt; sequence.len() > 0);
+    match resolve(alloc, &fixities, sequence.as_slice()) {
+        Ok(operand) => {
+            let expected = [
+                Step::Push(0),
+                Step::Push(2),
+                Step::Push(4),
+                Step::Combine(3),
+                Step::Combine(1),
+            ];
+            assert_eq!(rt; operand.steps.as_slice(), expected.as_slice());
+        }
+        Err(fault) => assert_eq!(rt; fault, FixFault::Memory),
+    }
+    assert!(rt; pattern.len() > 0);
+    match resolve_pattern(alloc, &fixities, pattern.as_slice()) {
+        Ok(operand) => {
+            let expected = [
+                Step::Push(0),
+                Step::Push(1),
+                Step::Apply,
+                Step::Push(3),
+                Step::Combine(2),
+            ];
+            assert_eq!(rt; operand.steps.as_slice(), expected.as_slice());
+        }
+        Err(fault) => assert_eq!(rt; fault, FixFault::Memory),
+    }
+    if entered.is_ok() {
+        let _left = fixities.leave();
+    }
+    Ok(())
+}

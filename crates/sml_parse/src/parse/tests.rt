@@ -534,6 +534,7 @@ fn long_sequences(rt: HostRuntime) -> Result<(), Fail> {
         (b"1::".as_slice(), 300_000, b"nil".as_slice()),
         (b"f ".as_slice(), 500_000, b"x".as_slice()),
         (b"(1)::".as_slice(), 200_000, b"nil".as_slice()),
+        (b"if x then y else ".as_slice(), 61_000, b"z".as_slice()),
     ] {
         let unit = between(alloc, b"val x = ", text, count, last)?;
         let parsed = parse(alloc, &lex(alloc, &unit)?)?;

@@ -8,12 +8,12 @@ ghost use Rattle.sml_reach.specs.Fits.{fit_of};
 ghost use Rattle.sml_bare.specs.Derivations as spec;
 ghost use Rattle.sml_bare.specs.Sources.{fit_from, KnowsFits, ArePlaced};
 
-use sml_reach::fitted::Fit;
-use sml_reach::place::{Walk, place_between, start_of};
 use indexmap::IndexMap;
 use sml_fixity::shape::Shape;
 use sml_lex::fault::{Memory, Place};
 use sml_lex::token::Token;
+use sml_reach::fitted::Fit;
+use sml_reach::place::{Walk, place_between, start_of};
 use std::alloc::Global;
 
 /// Notes the number of a sequence by its first token, counted from that of the declaration.

@@ -3,3 +3,4 @@ mod FunctionHeights
 mod Headings
 mod Clauses
 mod Rows
+mod Skips

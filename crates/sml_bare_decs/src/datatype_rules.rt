@@ -11,13 +11,15 @@ ghost use Rattle.sml_bare_decs.specs.DeclarationViews.{constructors_of};
 ghost use Rattle.sml_phrases.specs.Phrases.{typ_binds_in};
 
 use crate::declaration_lists::{and_con_bind, and_dat_bind};
-use crate::declaration_parts::{Constructors, DatatypeRest, Datatypes, pop_datatype_rest, pop_datatypes};
+use crate::declaration_parts::{
+    Constructors, DatatypeRest, Datatypes, pop_datatype_rest, pop_datatypes,
+};
 use crate::declaration_rules::typ_binds;
+use sml_lex::fault::Place;
 use sml_phrases::low::{LowConBinds, LowDatBinds, LowDec, LowTypBinds};
 use sml_phrases::phrase::{DeclarationPhrase, Failure, Phrase, discard};
 use sml_phrases::raise::raised;
 use sml_phrases::stack::Stack;
-use sml_lex::fault::Place;
 use sml_tree::bare::LongIdent;
 use sml_tree::expressions::Dec;
 use sml_tree::names::Name;

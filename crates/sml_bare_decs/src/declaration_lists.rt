@@ -10,11 +10,11 @@ ghost use Rattle.sml_tree.specs.ExpressionViews.{typ_bind_of, con_bind_of, dat_b
 ghost use Rattle.sml_bare_decs.specs.DeclarationRules.{joined};
 
 use crate::declaration_parts::LowExnBind;
+use sml_lex::fault::Memory;
 use sml_phrases::low::{
     LowBind, LowBinds, LowConBinds, LowDatBinds, LowDec, LowDecs, LowExnBinds, LowPat, LowPats,
     LowTy, LowTypBinds,
 };
-use sml_lex::fault::Memory;
 use sml_tree::expressions::{ConBind, DatBind, TypBind};
 use sml_tree::names::Name;
 

@@ -12,10 +12,10 @@ ghost use Rattle.sml_phrases.specs.PhraseViews.{seen};
 ghost use Rattle.sml_bare_decs.specs.DeclarationRules.{values_in, functions_in, atoms_in, datatypes_in, typ_bind_in, exn_bind_in, long_if_any, constructors_if_any};
 ghost use Rattle.sml_bare_decs.specs.DeclarationViews.{constructors_of};
 
+use sml_lex::fault::{Memory, Place};
 use sml_phrases::low::{LowBinds, LowConBinds, LowDatBinds, LowPats, LowTy, LowTypBinds, LowTys};
 use sml_phrases::phrase::{DeclarationPhrase, PatternPhrase, Phrase, TypePhrase, discard};
 use sml_phrases::stack::Stack;
-use sml_lex::fault::{Memory, Place};
 use sml_tree::bare::LongIdent;
 use sml_tree::expressions::{ConBind, ExnBind};
 use sml_tree::names::Name;
@@ -221,13 +221,11 @@ pub fn pop_typ_bind(stack: &mut Stack) -> Result<TypeBinding, Memory>
     ensures rest { OnOk result (seen stack.new ≡ drop 1 (seen stack.old)) }
 {
     match stack.pop() {
-        Phrase::Declarations(DeclarationPhrase::TypBind(variables, name, ty)) => Ok(
-            TypeBinding {
-                variables,
-                name,
-                ty,
-            },
-        ),
+        Phrase::Declarations(DeclarationPhrase::TypBind(variables, name, ty)) => Ok(TypeBinding {
+            variables,
+            name,
+            ty,
+        }),
         other => {
             discard(other);
             let place = Place { line: 1, column: 1 };
@@ -250,9 +248,7 @@ pub fn pop_exn_bind(stack: &mut Stack) -> Result<LowExnBind, Memory>
     ensures rest { OnOk result (seen stack.new ≡ drop 1 (seen stack.old)) }
 {
     match stack.pop() {
-        Phrase::Declarations(DeclarationPhrase::ConBind(name, ty)) => Ok(new_exception(
-            name, ty,
-        )),
+        Phrase::Declarations(DeclarationPhrase::ConBind(name, ty)) => Ok(new_exception(name, ty)),
         Phrase::Declarations(DeclarationPhrase::Copy(name, copied)) => Ok(LowExnBind {
             tree: ExnBind::Copy(name, copied),
             height: 0,
@@ -300,18 +296,17 @@ pub fn pop_datatype_rest(stack: &mut Stack) -> DatatypeRest
             copied: Some(copied),
             constructors: None,
         },
-        Phrase::Declarations(DeclarationPhrase::Constructors(constructors, datatypes, types)) =>
-            {
-                let all = Constructors {
-                    constructors,
-                    datatypes,
-                    types,
-                };
-                DatatypeRest {
-                    copied: None,
-                    constructors: Some(all),
-                }
+        Phrase::Declarations(DeclarationPhrase::Constructors(constructors, datatypes, types)) => {
+            let all = Constructors {
+                constructors,
+                datatypes,
+                types,
+            };
+            DatatypeRest {
+                copied: None,
+                constructors: Some(all),
             }
+        }
         other => {
             discard(other);
             DatatypeRest {

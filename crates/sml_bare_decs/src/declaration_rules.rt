@@ -18,27 +18,30 @@ use crate::datatype_rules::{
     no_dat_bind, plain_datatype, with_types,
 };
 use crate::declaration_lists::{and_dec, and_exn_bind, and_typ_bind};
-use crate::declaration_parts::{ExceptionRest, Functions, TypeBinding, Values, pop_exn_bind, pop_exn_rest, pop_functions, pop_typ_bind, pop_values};
-use sml_derived::expander::Expander;
+use crate::declaration_parts::{
+    ExceptionRest, Functions, TypeBinding, Values, pop_exn_bind, pop_exn_rest, pop_functions,
+    pop_typ_bind, pop_values,
+};
 use crate::function_rules::{
     clause_before, clauses, functions, functions_behind_bracket, functions_of_variable,
     functions_of_variables, more_functions, no_clause, no_function, no_pat, pat_before, right_side,
     round_functions,
 };
-use sml_phrases::low::{LowDec, LowDecs, LowExnBinds, LowTypBinds};
-use sml_phrases::phrase::{DeclarationPhrase, Failure, Phrase};
-use sml_phrases::raise::raised;
-use sml_fixity::shape::Shape;
-use sml_phrases::stack::Stack;
 use crate::value_rules::{
     behind_bracket, no_value, of_variable, of_variables, recursive, round_value, value,
 };
+use sml_derived::expander::Expander;
+use sml_fixity::shape::Shape;
 use sml_lex::fault::Place;
+use sml_phrases::low::{LowDec, LowDecs, LowExnBinds, LowTypBinds};
+use sml_phrases::phrase::{DeclarationPhrase, Failure, Phrase};
+use sml_phrases::raise::raised;
+use sml_phrases::stack::Stack;
 use sml_read::grammar::DeclarationRule;
 use sml_tree::expressions::Dec;
 
 /// Takes so many phrases off.
-#[tactic(auto, using(crate::proofs::Drops::dropped))]
+#[tactic(auto, using(crate::proofs::Skips::skipped))]
 pub fn skip_all(stack: &mut Stack, parts: usize)
     ensures { seen stack.new ≡ drop parts (seen stack.old) }
 {
@@ -48,7 +51,7 @@ pub fn skip_all(stack: &mut Stack, parts: usize)
 }
 
 /// What the part behind so many others has made.
-#[tactic(auto, using(crate::proofs::Drops::dropped))]
+#[tactic(auto, using(crate::proofs::Skips::skipped))]
 pub fn passed(stack: &mut Stack, before: usize) -> Result<Phrase, Failure>
     ensures made { Makes (at (seen stack.old) before) result }
     ensures rest { OnOk result (seen stack.new ≡ drop (before + 1) (seen stack.old)) }

@@ -15,13 +15,13 @@ ghost use Rattle.sml_fixity.specs.Shapes.{shape_of};
 
 use crate::declaration_lists::{and_bind, joined};
 use crate::declaration_parts::{Atoms, Values, pop_atoms, pop_values};
-use sml_derived::expander::Expander;
-use sml_phrases::low::{LowBind, LowBinds, LowExp, LowPat, LowPats};
 use sml_bare_exps::pattern_sequences::round_sequence;
-use sml_phrases::phrase::{DeclarationPhrase, Failure, Phrase};
+use sml_derived::expander::Expander;
 use sml_fixity::shape::Shape;
-use sml_phrases::stack::Stack;
 use sml_lex::fault::{Memory, Place};
+use sml_phrases::low::{LowBind, LowBinds, LowExp, LowPat, LowPats};
+use sml_phrases::phrase::{DeclarationPhrase, Failure, Phrase};
+use sml_phrases::stack::Stack;
 use sml_tree::expressions::ValBind;
 use std::alloc::Global;
 

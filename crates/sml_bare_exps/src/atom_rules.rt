@@ -10,14 +10,14 @@ ghost use Rattle.sml_phrases.specs.PhraseViews.{Makes, phrase_of, seen};
 ghost use Rattle.sml_bare_exps.specs.ExpressionViews.{GivesExp, low_exp_of};
 ghost use Rattle.sml_bare_exps.specs.ExpressionRules.{series_of, list_of, tuple_of, round_of, round_parts, body_of};
 
+use crate::expression_sequences::exp_place;
 use crate::low_forms::{low_cons, low_nil, low_select, low_sequence};
 use sml_derived::expander::Expander;
-use crate::expression_sequences::exp_place;
+use sml_lex::fault::{Memory, Place};
 use sml_phrases::low::{LowDecs, LowExp, LowExps, LowFields};
 use sml_phrases::phrase::{ExpressionPhrase, Failure, Phrase, discard};
 use sml_phrases::raise::raised;
 use sml_phrases::stack::Stack;
-use sml_lex::fault::{Memory, Place};
 use sml_tree::expressions::{Exp, ExpField};
 use sml_tree::names::Name;
 use std::alloc::Global;
@@ -217,11 +217,7 @@ pub fn round(expander: &Expander, place: Place, stack: &mut Stack) -> Result<Phr
 }
 
 /// `[ ExpList`
-pub fn square(
-    expander: &Expander,
-    place: Place,
-    stack: &mut Stack,
-) -> Result<Phrase, Failure>
+pub fn square(expander: &Expander, place: Place, stack: &mut Stack) -> Result<Phrase, Failure>
     ensures made { Makes (of_exp (list_of place (exps_in (at (seen stack.old) 1)))) result }
     ensures rest { OnOk result (seen stack.new ≡ drop 2 (seen stack.old)) }
 {
@@ -317,11 +313,7 @@ pub fn behind_op(place: Place, stack: &mut Stack) -> Result<Phrase, Failure>
 }
 
 /// `# Lab`
-pub fn selector(
-    expander: &Expander,
-    place: Place,
-    stack: &mut Stack,
-) -> Result<Phrase, Failure>
+pub fn selector(expander: &Expander, place: Place, stack: &mut Stack) -> Result<Phrase, Failure>
     ensures made { Makes (of_exp (select place (name_in (at (seen stack.old) 1)))) result }
     ensures rest { OnOk result (seen stack.new ≡ drop 2 (seen stack.old)) }
 {

@@ -16,20 +16,20 @@ ghost use Rattle.sml_bare_exps.specs.ExpressionSequences.{sequence_exp};
 ghost use Rattle.sml_bare_exps.specs.ExpressionViews.{GivesExp, low_exp_of};
 ghost use Rattle.sml_bare_exps.specs.ExpressionRules.{conjunction, disjunction, handled, expression_phrase};
 
-use crate::low_forms::{low_and_also, low_case, low_conditional, low_or_else, low_repeat};
 use crate::atom_rules::{
     behind_op, constant, first_exps, first_fields, identifier, last_exp, last_field, local,
     more_exps, more_fields, more_series, no_exps, of_exp, round, round_parts, row, selector,
     square, taken_exps,
 };
-use sml_derived::expander::Expander;
 use crate::expression_sequences::sequence_exp;
+use crate::low_forms::{low_and_also, low_case, low_conditional, low_or_else, low_repeat};
+use sml_derived::expander::Expander;
+use sml_fixity::shape::Shape;
+use sml_lex::fault::{Memory, Place};
 use sml_phrases::low::{LowExp, LowPat, LowRules, LowTys};
 use sml_phrases::phrase::{ExpressionPhrase, Failure, Phrase, TypePhrase};
 use sml_phrases::raise::raised;
-use sml_fixity::shape::Shape;
 use sml_phrases::stack::Stack;
-use sml_lex::fault::{Memory, Place};
 use sml_read::grammar::ExpressionRule;
 use sml_tree::expressions::{Exp, Rule};
 use std::alloc::Global;

@@ -8,10 +8,10 @@ ghost use Rattle.sml_derived.specs.Derived.{select, case_of, if_of, orelse_of, a
 ghost use Rattle.sml_bare_exps.specs.ExpressionViews.{GivesExp};
 
 use sml_derived::expander::Expander;
+use sml_lex::fault::Place;
 use sml_phrases::low::{LowExp, LowRules};
 use sml_phrases::phrase::Failure;
 use sml_phrases::raise::raised;
-use sml_lex::fault::Place;
 use sml_tree::names::Name;
 
 /// `#l`

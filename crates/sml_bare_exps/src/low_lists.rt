@@ -7,8 +7,8 @@ ghost use Rattle.sml_tree.specs.Types.{and_ty};
 ghost use Rattle.sml_tree.specs.TypeViews.{ty_of, tys_of};
 ghost use Rattle.sml_bare_exps.specs.LowViews.{low_ty_of, low_tys_of, low_pat_of, low_pats_of};
 
-use sml_phrases::low::{LowPat, LowPats, LowTy, LowTys};
 use sml_lex::fault::Memory;
+use sml_phrases::low::{LowPat, LowPats, LowTy, LowTys};
 use sml_tree::patterns::Pat;
 use sml_tree::types::Ty;
 use std::alloc::Global;

@@ -9,9 +9,9 @@ ghost use Rattle.sml_phrases.specs.Phrases.{of_long, of_constant, at, name_in};
 ghost use Rattle.sml_phrases.specs.PhraseViews.{Makes, seen};
 
 use sml_derived::expander::{Expander, long};
+use sml_lex::fault::Place;
 use sml_phrases::phrase::{Failure, Phrase};
 use sml_phrases::stack::Stack;
-use sml_lex::fault::Place;
 use sml_read::grammar::NameRule;
 use sml_tree::patterns::{Constant, ConstantKind};
 

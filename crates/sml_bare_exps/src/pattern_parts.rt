@@ -11,13 +11,13 @@ ghost use Rattle.sml_bare_exps.specs.PatternPhrases.{pat_fields_in, flexible_in,
 ghost use Rattle.sml_bare_exps.specs.PatternRules.{round_pat, list_pat, field_pat};
 ghost use Rattle.sml_phrases.specs.PhraseViews.{phrase_of};
 
-use sml_derived::expander::Expander;
-use sml_phrases::low::{LowPat, LowPatFields, LowPats, LowTy, LowTys};
 use crate::low_lists::pat_trees;
+use sml_derived::expander::Expander;
 use sml_derived::patterns::layered as layered_tree;
+use sml_lex::fault::{Memory, Place};
+use sml_phrases::low::{LowPat, LowPatFields, LowPats, LowTy, LowTys};
 use sml_phrases::phrase::{Failure, PatternPhrase, Phrase, discard};
 use sml_phrases::raise::raised;
-use sml_lex::fault::{Memory, Place};
 use sml_tree::bare::LongIdent;
 use sml_tree::names::Name;
 use sml_tree::patterns::{Pat, PatField};
@@ -201,11 +201,7 @@ pub fn fields_in(alloc: Global, phrase: Phrase) -> (LowPatFields, bool)
 }
 
 /// A field before others.
-pub fn and_field(
-    label: Name,
-    pat: LowPat,
-    fields: LowPatFields,
-) -> Result<LowPatFields, Memory>
+pub fn and_field(label: Name, pat: LowPat, fields: LowPatFields) -> Result<LowPatFields, Memory>
     ensures { IfOk result (λ all. low_pat_fields_of all ≡ and_pat_field (pat_field (name_of label) (low_pat_of pat)) (low_pat_fields_of fields)) }
 {
     let height = pat.height.max(fields.height);

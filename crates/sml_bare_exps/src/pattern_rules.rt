@@ -16,18 +16,18 @@ ghost use Rattle.sml_phrases.specs.Phrases.{nothing, of_tys, of_pat, of_pats, of
 ghost use Rattle.sml_phrases.specs.PhraseViews.{Makes, phrase_of, seen};
 ghost use Rattle.sml_fixity.specs.Shapes.{shape_of};
 
-use sml_derived::expander::{Expander, copy_of, long};
-use sml_phrases::low::{LowPat, LowPatFields, LowPats, LowTy, LowTys};
 use crate::low_lists::{and_pat, and_ty};
 use crate::pattern_parts::{
     and_field, atoms_in, field_pat, fields_in, layered, list_pat, pat_as, pat_name, round_pat,
 };
 use crate::pattern_sequences::{no_operand, round_sequence, sequence};
+use sml_derived::expander::{Expander, copy_of, long};
+use sml_fixity::shape::Shape;
+use sml_lex::fault::{Memory, Place};
+use sml_phrases::low::{LowPat, LowPatFields, LowPats, LowTy, LowTys};
 use sml_phrases::phrase::{Failure, PatternPhrase, Phrase, TypePhrase, discard};
 use sml_phrases::raise::raised;
-use sml_fixity::shape::Shape;
 use sml_phrases::stack::Stack;
-use sml_lex::fault::{Memory, Place};
 use sml_read::grammar::PatternRule;
 use sml_tree::names::Name;
 use sml_tree::patterns::Pat;

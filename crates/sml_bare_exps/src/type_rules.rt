@@ -10,13 +10,13 @@ ghost use Rattle.sml_phrases.specs.Phrases.{nothing, of_names, of_longs, of_ty, 
 ghost use Rattle.sml_phrases.specs.PhraseViews.{Makes, phrase_of, seen};
 ghost use Rattle.sml_bare_exps.specs.TypeRules.{arrow, product, constructed, round_ty, and_argument, type_phrase};
 
-use sml_derived::expander::Expander;
-use sml_phrases::low::{LowTy, LowTyFields, LowTys};
 use crate::low_lists::{and_ty, ty_trees};
+use sml_derived::expander::Expander;
+use sml_lex::fault::{Memory, Place};
+use sml_phrases::low::{LowTy, LowTyFields, LowTys};
 use sml_phrases::phrase::{Failure, Phrase, TypePhrase, discard};
 use sml_phrases::raise::raised;
 use sml_phrases::stack::Stack;
-use sml_lex::fault::{Memory, Place};
 use sml_read::grammar::TypeRule;
 use sml_tree::bare::LongIdent;
 use sml_tree::names::Name;

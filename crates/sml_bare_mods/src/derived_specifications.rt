@@ -10,13 +10,13 @@ ghost use Rattle.sml_phrases.specs.Phrases.{of_specs, of_typ_binds, at};
 ghost use Rattle.sml_phrases.specs.PhraseViews.{Makes, phrase_of, seen};
 ghost use Rattle.sml_bare_mods.specs.SpecificationRules.{included, types};
 
+use crate::specification_rules::one;
 use sml_derived::expander::Expander;
+use sml_lex::fault::Place;
 use sml_phrases::low::{LowSpecs, LowTypBinds};
 use sml_phrases::phrase::{DeclarationPhrase, Failure, Phrase, SignaturePhrase, discard};
 use sml_phrases::raise::raised;
-use crate::specification_rules::one;
 use sml_phrases::stack::Stack;
-use sml_lex::fault::Place;
 use sml_tree::expressions::TypBind;
 use sml_tree::names::Name;
 use sml_tree::signatures::Spec;
@@ -88,11 +88,7 @@ fn type_specs(
 }
 
 /// What stands behind `include`.
-pub fn included(
-    stack: &mut Stack,
-    place: Place,
-    expander: &Expander,
-) -> Result<Phrase, Failure>
+pub fn included(stack: &mut Stack, place: Place, expander: &Expander) -> Result<Phrase, Failure>
     ensures made { Makes (included place (at (seen stack.old) 1)) result }
     ensures rest { OnOk result (seen stack.new ≡ drop 2 (seen stack.old)) }
 {

@@ -12,12 +12,12 @@ ghost use Rattle.sml_phrases.specs.PhraseViews.{Gives, Makes, low_constraint_of,
 ghost use Rattle.sml_bare_mods.specs.StructureRules.{behind_fun_bind, fun_binds, open_fun_bind, where_fun_bind};
 
 use crate::module_stack::{pop_constraints, pop_fun_binds, pop_where_type};
+use crate::structure_rules::{and_constraint, constrained, own_constrained};
 use sml_derived::expander::Expander;
 use sml_phrases::low::{LowConstraint, LowFunBinds, LowSig, LowSpecs, LowStr};
 use sml_phrases::phrase::{Failure, Phrase, SignaturePhrase, StructurePhrase, discard};
 use sml_phrases::raise::raised;
 use sml_phrases::stack::Stack;
-use crate::structure_rules::{and_constraint, constrained, own_constrained};
 use sml_tree::names::Name;
 use sml_tree::structures::FunBind;
 

@@ -14,11 +14,11 @@ ghost use Rattle.sml_phrases.specs.PhraseViews.{Gives, Makes, low_where_of, phra
 ghost use Rattle.sml_bare_mods.specs.SignatureRules.{sig_binds, sig_place, signature_phrase, with_wheres};
 
 use crate::module_stack::{pop_sig_binds, pop_where_type};
+use sml_lex::fault::Place;
 use sml_phrases::low::{LowSig, LowSigBinds, LowWhere};
 use sml_phrases::phrase::{Failure, Phrase, SignaturePhrase, discard};
 use sml_phrases::raise::raised;
 use sml_phrases::stack::Stack;
-use sml_lex::fault::Place;
 use sml_read::grammar::SignatureRule;
 use sml_tree::signatures::{SigExp, WhereType};
 use sml_tree::structures::SigBind;

@@ -16,17 +16,19 @@ ghost use Rattle.sml_phrases.specs.declared.phrase.Failure.TheVariants.{Memory};
 ghost use Rattle.sml_phrases.specs.PhraseViews.{Gives, Makes, phrase_of, seen};
 ghost use Rattle.sml_bare_mods.specs.SpecificationRules.{datatype, datatype_rest, datatypes, included_name, one, shared, specification_phrase, str_descs, type_rest, where_str_desc};
 
-use crate::module_stack::{pop_con_bind, pop_dat_binds, pop_str_descs, pop_val_desc, pop_where_type};
 use crate::derived_specifications::{included, types};
+use crate::module_stack::{
+    pop_con_bind, pop_dat_binds, pop_str_descs, pop_val_desc, pop_where_type,
+};
+use crate::signature_rules::{sig_end, where_types, with_wheres};
 use sml_derived::expander::Expander;
+use sml_lex::fault::Place;
 use sml_phrases::low::{
     LowConBinds, LowDatBinds, LowSig, LowSpecs, LowStrDescs, LowTypBinds, LowValDescs,
 };
 use sml_phrases::phrase::{DeclarationPhrase, Failure, Phrase, SignaturePhrase, discard};
 use sml_phrases::raise::raised;
-use crate::signature_rules::{sig_end, where_types, with_wheres};
 use sml_phrases::stack::Stack;
-use sml_lex::fault::Place;
 use sml_read::grammar::SpecificationRule;
 use sml_tree::bare::LongIdent;
 use sml_tree::expressions::{ConBind, DatBind, TypBind};

@@ -11,17 +11,17 @@ ghost use Rattle.sml_phrases.specs.Phrases.{of_constraints, of_open_str_bind, of
 ghost use Rattle.sml_phrases.specs.PhraseViews.{Gives, Makes, low_constraint_of, low_where_of, phrase_of, seen};
 ghost use Rattle.sml_bare_mods.specs.StructureRules.{and_constraint, applied, behind_str, behind_str_bind, constrained, own_constrained, str_binds, str_place, structure_phrase, where_str, where_str_bind};
 
-use crate::module_stack::{pop_constraints, pop_str_binds, pop_where_type};
-use sml_derived::expander::{Expander, long};
 use crate::functor_rules::{
     and_fun_binds, behind_fun_bind, functor_argument, no_fun_binds, open_fun_bind, where_fun_bind,
 };
+use crate::module_stack::{pop_constraints, pop_str_binds, pop_where_type};
+use crate::signature_rules::with_wheres;
+use sml_derived::expander::{Expander, long};
+use sml_lex::fault::Place;
 use sml_phrases::low::{LowConstraint, LowStr, LowStrBinds, LowStrDecs, LowWhere};
 use sml_phrases::phrase::{Failure, Phrase, StructurePhrase, discard};
 use sml_phrases::raise::raised;
-use crate::signature_rules::with_wheres;
 use sml_phrases::stack::Stack;
-use sml_lex::fault::Place;
 use sml_read::grammar::StructureRule;
 use sml_tree::structures::{Ascription, StrBind, StrExp};
 use std::alloc::Global;

@@ -16,17 +16,17 @@ ghost use Rattle.sml_bare_mods.specs.SignatureRules.{sig_binds};
 ghost use Rattle.sml_bare_mods.specs.StructureRules.{fun_binds, str_binds};
 ghost use Rattle.sml_bare_mods.specs.UnitRules.{and_specs, unit_phrase};
 
-use sml_derived::expander::Expander;
 use crate::functor_rules::fun_binds;
+use crate::signature_rules::sig_binds;
+use crate::structure_rules::str_binds;
+use sml_derived::expander::Expander;
+use sml_lex::fault::Place;
 use sml_phrases::low::{
     LowDec, LowDecs, LowFunBinds, LowSigBinds, LowSpecs, LowStrBinds, LowStrDec, LowStrDecs, LowTop,
 };
 use sml_phrases::phrase::{DeclarationPhrase, Failure, Phrase, SignaturePhrase, StructurePhrase};
 use sml_phrases::raise::raised;
-use crate::signature_rules::sig_binds;
 use sml_phrases::stack::Stack;
-use crate::structure_rules::str_binds;
-use sml_lex::fault::Place;
 use sml_read::grammar::UnitRule;
 use sml_tree::structures::{StrDec, TopDec};
 

@@ -33,12 +33,7 @@ pub fn one_rule(alloc: Global, place: Place, pat: Pat, exp: Exp) -> Result<Vec<R
     Ok(rules)
 }
 
-pub fn application(
-    alloc: Global,
-    place: Place,
-    function: Exp,
-    argument: Exp,
-) -> Result<Exp, Memory>
+pub fn application(alloc: Global, place: Place, function: Exp, argument: Exp) -> Result<Exp, Memory>
     ensures { IfOk result (λ exp. exp_of exp ≡ apply place (exp_of function) (exp_of argument)) }
 {
     let function = Box::new(alloc, function)?;

@@ -31,12 +31,7 @@ fn pat_pair(alloc: Global, place: Place, left: Pat, right: Pat) -> Result<Pat, M
     Ok(Pat::Tuple(place, pats))
 }
 
-pub fn layered(
-    alloc: Global,
-    name: Name,
-    ty: Option<Ty>,
-    pat: Option<Pat>,
-) -> Result<Pat, Memory>
+pub fn layered(alloc: Global, name: Name, ty: Option<Ty>, pat: Option<Pat>) -> Result<Pat, Memory>
     ensures { IfOk result (λ whole. pat_of whole ≡ layered (name_of name) (option_map ty_of ty) (option_map pat_of pat)) }
 {
     let place = name.place;

@@ -13,7 +13,6 @@ ghost use Rattle.sml_tree.specs.Trees.{Id};
 ghost use Rattle.sml_flaws.specs.Known.{atom_at, count_at, is_again, is_used, head_at, token_in};
 ghost use Rattle.sml_flaws.specs.Flaws.{KnowsFits, Knows};
 
-use sml_reach::fitted::Fit;
 use crate::known::{Key, Position, bytes, heads_of, note_atom, note_count, note_key, uses_of};
 use crate::mark::{Mark, marks};
 use crate::role::Space;
@@ -21,6 +20,7 @@ use indexmap::{IndexMap, IndexSet};
 use sml_fixity::heads::Head;
 use sml_lex::fault::{Code, Memory};
 use sml_lex::token::Token;
+use sml_reach::fitted::Fit;
 use sml_read::grammar::Node;
 use sml_read::phrases::ends;
 use std::alloc::Global;

@@ -12,10 +12,10 @@ ghost use Rattle.sml_parse.specs.Stacks.{seen, value_of};
 
 use crate::form::Form;
 use crate::item::Item;
-use sml_reach::names::Names;
-use sml_reach::place::text;
 use crate::stack::{Stack, Value};
 use sml_lex::fault::Memory;
+use sml_reach::names::Names;
+use sml_reach::place::text;
 use sml_tree::bare::{
     BareDec, CoreDec, CoreForm, Exp, Ident, LongIdent, SealedStructure, SigExp, Spec, SpecForm, Ty,
 };

@@ -1,10 +1,10 @@
 use sml_flaws::flaw::first_flaw;
 use sml_lex::fault::Memory;
+use sml_lex::lexer::lex;
 use sml_reach::event::events;
 use sml_reach::names::Names;
 use sml_reach::place::place_between;
 use sml_reach::reach::fit;
-use sml_lex::lexer::lex;
 use sml_read::read::read;
 use std::fmt::Write;
 use std::process::Abort;

@@ -8,9 +8,9 @@ ghost use Rattle.sml_parse.specs.Items as spec;
 
 use crate::form::{Meaning, meaning_of};
 use crate::item::{Item, Mark, Word};
-use sml_reach::place::{Walk, start_of, text};
 use sml_lex::fault::Memory;
 use sml_lex::token::Token;
+use sml_reach::place::{Walk, start_of, text};
 use sml_read::grammar::Node;
 use std::alloc::Global;
 

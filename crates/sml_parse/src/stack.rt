@@ -7,9 +7,9 @@ ghost use Rattle.sml_parse.specs.Lists.{rest};
 ghost use Rattle.sml_parse.specs.Stacks.{seen, value_of};
 
 use crate::item::Word;
-use sml_reach::place::FIRST;
 use sml_lex::fault::Memory;
 use sml_lex::token::Span;
+use sml_reach::place::FIRST;
 use sml_tree::bare::{BareDec, CoreDec, Exp, Spec, Ty};
 use std::alloc::Global;
 

@@ -4,4 +4,4 @@ use Rattle.sml_phrases.proofs.Drops.{two_off}
 use Rattle.sml_bare_decs.proofs.function_rules.clause_on.Goals as goal
 
 pub returns-clause-rest : goal.returns-clause-rest
-returns-clause-rest c = on_ok c.clause_from.result _ (two_off (seen c.args.stack.now) (seen c.pat-first.new.self) _ c.pat-first.ensures.rest c.right_side-right.ensures.rest)
+returns-clause-rest c = on_ok c.clause_from.result _ (two_off (seen c.args.stack.now) (seen c.pat-first.new.self) _ c.pat-first.ensures.rest c.pop_right_side-right.ensures.rest)

@@ -22,7 +22,7 @@ value_made v a b d q e bs recs p1 p2 p3 h1 h2 h3 h4 =
 pub returns-clause-made : goal.returns-clause-made
 returns-clause-made c =
     c.in_ok-and_value.ensures
-    ∙ value_made (seen c.args.stack.now) (seen c.pat-pat.new.self) (seen c.skip.new.self) (seen c.exp-exp.new.self) _ _ _ _ c.pat-pat.ensures.rest c.skip.ensures c.exp-exp.ensures.rest c.pat-pat.ensures.value c.exp-exp.ensures.value c.values-plain.ensures.plain c.values-plain.ensures.recursive
+    ∙ value_made (seen c.args.stack.now) (seen c.pat-pat.new.self) (seen c.skip.new.self) (seen c.exp-exp.new.self) _ _ _ _ c.pat-pat.ensures.rest c.skip.ensures c.exp-exp.ensures.rest c.pat-pat.ensures.value c.exp-exp.ensures.value c.pop_values-plain.ensures.plain c.pop_values-plain.ensures.recursive
 
 pub returns-clause-rest : goal.returns-clause-rest
-returns-clause-rest c = four_off (seen c.args.stack.now) (seen c.pat-pat.new.self) (seen c.skip.new.self) (seen c.exp-exp.new.self) _ c.pat-pat.ensures.rest c.skip.ensures c.exp-exp.ensures.rest c.values-plain.ensures.rest
+returns-clause-rest c = four_off (seen c.args.stack.now) (seen c.pat-pat.new.self) (seen c.skip.new.self) (seen c.exp-exp.new.self) _ c.pat-pat.ensures.rest c.skip.ensures c.exp-exp.ensures.rest c.pop_values-plain.ensures.rest

@@ -5,4 +5,4 @@ use Rattle.sml_bare_mods.proofs.functor_rules.fun_binds.Goals as goal
 
 pub returns-in-Structures-OpenFunBind-clause-rest : goal.returns-in-Structures-OpenFunBind-clause-rest
 returns-in-Structures-OpenFunBind-clause-rest c =
-    on_ok c.and_fun_bind.result _ (two_off (seen c.args.stack.now) (seen c.pop-first.new.self) _ c.pop-first.ensures.rest c.fun_binds-equations.ensures.rest)
+    on_ok c.and_fun_bind.result _ (two_off (seen c.args.stack.now) (seen c.pop-first.new.self) _ c.pop-first.ensures.rest c.pop_fun_binds-equations.ensures.rest)

@@ -28,6 +28,6 @@ bind_made v a b d e f g x y cs s r p1 p2 p3 p4 p5 p6 h1 h2 h3 h4 made =
 
 pub returns-clause-made : goal.returns-clause-made
 returns-clause-made c =
-    bind_made (seen c.args.stack.now) (seen c.name.new.self) (seen c.skip.new.self) (seen c.pop-argument.new.self) (seen c.skip-2.new.self) (seen c.constraints-none.new.self) (seen c.skip-3.new.self) _ _ _ _ c.open_fun_bind_of.result
-    c.in_ok-name.ensures.rest c.skip.ensures c.pop-argument.ensures.rest c.skip-2.ensures c.constraints-none.ensures.rest c.skip-3.ensures
-    c.in_ok-name.ensures.value c.pop-argument.ensures.value c.constraints-none.ensures.constraints c.str-body.ensures.value c.open_fun_bind_of.ensures
+    bind_made (seen c.args.stack.now) (seen c.name.new.self) (seen c.skip.new.self) (seen c.pop-argument.new.self) (seen c.skip-2.new.self) (seen c.pop_constraints-none.new.stack) (seen c.skip-3.new.self) _ _ _ _ c.open_fun_bind_of.result
+    c.in_ok-name.ensures.rest c.skip.ensures c.pop-argument.ensures.rest c.skip-2.ensures c.pop_constraints-none.ensures.rest c.skip-3.ensures
+    c.in_ok-name.ensures.value c.pop-argument.ensures.value c.pop_constraints-none.ensures.constraints c.str-body.ensures.value c.open_fun_bind_of.ensures

@@ -36,11 +36,11 @@ pub returns-clause-made : goal.returns-clause-made
 returns-clause-made c =
     datatype_made (seen c.args.stack.now) (seen c.names-variables.new.self) (seen c.name.new.self) (seen c.skip.new.self) (seen c.con_binds-constructors.new.self) _ _ _ _ c.and_datatype.result
     c.names-variables.ensures.rest c.in_ok-name.ensures.rest c.skip.ensures c.con_binds-constructors.ensures.rest
-    (ap (map name_of) c.reverse.ensures.items ∙ c.names-variables.ensures.value) c.in_ok-name.ensures.value c.con_binds-constructors.ensures.value c.dat_binds-datatypes.ensures.value c.and_datatype.ensures
+    (ap (map name_of) c.reverse.ensures.items ∙ c.names-variables.ensures.value) c.in_ok-name.ensures.value c.con_binds-constructors.ensures.value c.pop_dat_binds-datatypes.ensures.value c.and_datatype.ensures
 
 pub returns-clause-rest : goal.returns-clause-rest
 returns-clause-rest c =
     on_ok c.and_datatype.result _
     (next_off 4 (seen c.args.stack.now) (seen c.con_binds-constructors.new.self) _
     (four_off (seen c.args.stack.now) (seen c.names-variables.new.self) (seen c.name.new.self) (seen c.skip.new.self) (seen c.con_binds-constructors.new.self) c.names-variables.ensures.rest c.in_ok-name.ensures.rest c.skip.ensures c.con_binds-constructors.ensures.rest)
-    c.dat_binds-datatypes.ensures.rest)
+    c.pop_dat_binds-datatypes.ensures.rest)

@@ -6,11 +6,11 @@ ghost use Rattle.sml_reach.specs.Events.{text_at};
 ghost use Rattle.sml_reach.specs.Fits.{fitted_of};
 ghost use Rattle.sml_flaws.specs.Flawed as spec;
 
-use sml_reach::fitted::Fitted;
 use crate::flaw::{Flaw, first_flaw};
-use sml_reach::reach::Misfit;
 use sml_lex::fault::Memory;
 use sml_lex::token::Token;
+use sml_reach::fitted::Fitted;
+use sml_reach::reach::Misfit;
 use sml_read::grammar::{Node, Rule, UnitRule};
 use std::alloc::Global;
 

@@ -12,16 +12,16 @@ ghost use Rattle.sml_reach.specs.Fits.{fit_of};
 ghost use Rattle.sml_flaws.specs.Known as spec;
 ghost use Rattle.sml_flaws.specs.Known.{key_of, KnowsKeys, KnowsAtoms, KnowsCounts, KnowsUses, KnowsHeads};
 
-use sml_reach::fitted::Fit;
 use crate::mark::Mark;
-use sml_reach::place::text;
 use crate::role::Space;
 use indexmap::{IndexMap, IndexSet};
-use sml_fixity::shape::Shape;
 use sml_fixity::heads::Head;
 use sml_fixity::sequences::Step;
+use sml_fixity::shape::Shape;
 use sml_lex::fault::Memory;
 use sml_lex::token::Token;
+use sml_reach::fitted::Fit;
+use sml_reach::place::text;
 use std::alloc::Global;
 
 /// A name with its space, by number, and its group.

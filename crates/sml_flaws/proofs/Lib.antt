@@ -2,3 +2,4 @@ mod Knowing
 pub mod FirstFlaws
 mod Flawing
 mod Marking
+pub mod Scoping

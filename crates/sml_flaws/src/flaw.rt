@@ -1,8 +1,8 @@
 //! The first fault of what a declaration binds: names that are bound twice or can't be bound, clauses that don't
 //! agree, and real constants in patterns.
 
-ghost use Rattle.std.specs.Prelude.{◌≡◌, ◌≤◌, ℕ, List, [], ◌∷◌, ◌++◌, Option, map, get_or, drop, length, IfOk, OnOk};
-ghost use Rattle.std.specs.List.{cons_option, list_any};
+ghost use Rattle.std.specs.Prelude.{◌≡◌, ◌≤◌, ℕ, List, [], ◌∷◌, ◌++◌, Option, map, length, IfOk, OnOk};
+ghost use Rattle.std.specs.List.{cons_option};
 ghost use Rattle.sml_flaws.specs.declared.mark.Mark.{Mark};
 ghost use Rattle.sml_reach.specs.Events.{text_at};
 ghost use Rattle.sml_reach.specs.Fits as shapes;
@@ -12,10 +12,12 @@ ghost use Rattle.sml_flaws.specs.Flaws as spec;
 ghost use Rattle.sml_tree.specs.Trees.{Id};
 ghost use Rattle.sml_flaws.specs.Known.{atom_at, count_at, is_again, is_used, head_at, token_in};
 ghost use Rattle.sml_flaws.specs.Flaws.{KnowsFits, Knows};
+ghost use Rattle.sml_flaws.specs.Scopes.{AreOwned, KnowsPassed};
 
 use crate::known::{Key, Position, bytes, heads_of, note_atom, note_count, note_key, uses_of};
 use crate::mark::{Mark, marks};
 use crate::role::Space;
+use crate::scopes::{Passed, Scopes, owned_of};
 use indexmap::{IndexMap, IndexSet};
 use sml_fixity::heads::Head;
 use sml_lex::fault::{Code, Memory};
@@ -110,35 +112,6 @@ fn token_in(mark: Mark) -> usize
     }
 }
 
-fn owner_in(mark: Mark) -> Option<usize>
-    ensures { result ≡ spec.owner_in mark }
-{
-    match mark {
-        Mark::Listed(listed) => listed.owner,
-        Mark::Owned(owned) => Some(owned.owner),
-        _ => None,
-    }
-}
-
-fn end_at(ends: &[usize], node: usize) -> usize
-    ensures { result ≡ get_or ends.now node 0 }
-{
-    match ends.get(node) {
-        Some(end) => *end,
-        None => 0,
-    }
-}
-
-/// Whether a node lies within the phrase of a value declaration.
-fn lies_in(ends: &[usize], owner: Option<usize>, node: usize) -> bool
-    ensures { result ≡ spec.lies_in ends.now owner node }
-{
-    match owner {
-        Some(owner) => owner < node && node < end_at(ends, owner),
-        None => false,
-    }
-}
-
 fn real(mark: Mark) -> Option<Flaw>
     ensures { result ≡ spec.real mark }
 {
@@ -216,6 +189,28 @@ fn first_of(flaws: &[Flaw]) -> Option<Flaw>
         first = Some(earlier(flaws[i], first));
     }
     first
+}
+
+/// The fault of a variable in the list of a value declaration.
+fn scoped_at<'a>(
+    scopes: &Scopes<'a>,
+    passed: &mut Passed<'a>,
+    mark: Mark,
+) -> Result<Option<Flaw>, Memory>
+    ensures known { let text = text_at scopes.now.unit.now scopes.now.tokens.now in
+        KnowsPassed text scopes.now.ends.now scopes.now.owned.items passed.old → OnOk result (KnowsPassed text scopes.now.ends.now scopes.now.owned.items passed.new) }
+    ensures flaw { let text = text_at scopes.now.unit.now scopes.now.tokens.now in
+        (marks : List Mark) → AreOwned marks scopes.now.owned.items → KnowsPassed text scopes.now.ends.now scopes.now.owned.items passed.old →
+        IfOk result (λ flaw. flaw ≡ spec.scoped_at text scopes.now.ends.now marks mark) }
+{
+    let Mark::Listed(listed) = mark else {
+        return Ok(None);
+    };
+    let Some(node) = listed.owner else {
+        return Ok(None);
+    };
+    let here = passed.is_scoped(scopes, node, listed.token)?;
+    Ok(flaw_if(here, listed.token, Code::G3))
 }
 
 impl Seen {
@@ -400,37 +395,6 @@ impl Judge<'_> {
         Ok(flaws)
     }
 
-    /// Whether a type variable is this one, of a value declaration round this node.
-    fn is_outer(&self, ends: &[usize], node: usize, token: usize, mark: Mark) -> bool
-        ensures { result ≡ spec.is_outer (text_at self.now.unit.now self.now.tokens.now) ends.now node token mark }
-    {
-        lies_in(ends, owner_in(mark), node) && self.text(token) == self.text(token_in(mark))
-    }
-
-    fn is_scoped(&self, ends: &[usize], marks: &[Mark], node: usize, token: usize) -> bool
-        ensures { let text = text_at self.now.unit.now self.now.tokens.now in
-            result ≡ list_any (spec.is_outer text ends.now node token) marks.now }
-    {
-        for mark in marks {
-            if self.is_outer(ends, node, token, *mark) {
-                return true;
-            }
-        }
-        false
-    }
-
-    /// The fault of a variable in the list of a value declaration.
-    fn scoped_at(&self, ends: &[usize], marks: &[Mark], mark: Mark) -> Option<Flaw>
-        ensures { result ≡ spec.scoped_at (text_at self.now.unit.now self.now.tokens.now) ends.now marks.now mark }
-    {
-        let Mark::Listed(listed) = mark else {
-            return None;
-        };
-        let node = listed.owner?;
-        let here = self.is_scoped(ends, marks, node, listed.token);
-        flaw_if(here, listed.token, Code::G3)
-    }
-
     /// The faults of variables in lists go behind the others.
     fn push_scoped(
         &self,
@@ -441,8 +405,15 @@ impl Judge<'_> {
         ensures { let text = text_at self.now.unit.now self.now.tokens.now in
             OnOk result (flaws.new.items ≡ flaws.old.items ++ spec.scoped_of text ends.now marks.now marks.now) }
     {
+        let scopes = Scopes {
+            unit: self.unit,
+            tokens: self.tokens,
+            ends,
+            owned: owned_of(self.alloc, marks)?,
+        };
+        let mut passed = Passed::new(self.alloc);
         for mark in marks {
-            push_some(flaws, self.scoped_at(ends, marks, *mark))?;
+            push_some(flaws, scoped_at(&scopes, &mut passed, *mark)?)?;
         }
         Ok(())
     }

@@ -6,3 +6,4 @@ pub mod flawed;
 pub mod known;
 pub mod mark;
 pub mod role;
+pub mod scopes;

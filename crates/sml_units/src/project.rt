@@ -24,7 +24,7 @@ use crate::top_fault::TopFault;
 use sml_lex::fault::{Fault, Memory, Warning};
 use sml_lex::lexer::lex;
 use sml_objects::objects::{Basis, UnitId};
-use sml_parse::parse::{Parsed, parse};
+use sml_parse::parse::parse;
 use sml_tree::bare::BareDec;
 use std::alloc::Global;
 

@@ -1,9 +1,9 @@
 -- The places of a unit's trees and of its last fault.
-use Rattle.std.proofs.Common.{◌≡◌, ℕ, zero, suc, ◌+◌, ◌-◌, ◌<◌, ◌≤◌, List, [], ◌∷◌, Bool, true, false, Option, Some, None, map, length, take, drop, get_or, refl, sym, ap, ◌∙◌, subst, arith, false≢true, inl, inr}
+use Rattle.std.proofs.Common.{◌≡◌, ℕ, zero, suc, ◌+◌, ◌-◌, ◌<◌, ◌≤◌, List, [], ◌∷◌, Bool, true, false, Option, Some, None, map, length, take, drop, get_or, refl, sym, ap, ◌∙◌, subst, arith, inl, inr}
 use Rattle.std.specs.Prelude.{slice_get, unwrap_or, IfSome, if◌then◌else◌, ◌==◌}
 use Rattle.std.specs.Option.{option_map, is_some}
 use Rattle.std.specs.List.{list_all, before_first}
-use Rattle.std.proofs.lemmas.Bool.{and_parts}
+use Rattle.std.proofs.lemmas.Bool.{and_parts, false≢true}
 use Rattle.std.proofs.lemmas.List.{length-map, length-take-le}
 use Rattle.std.proofs.lemmas.List.Elements.{All-cons}
 use Rattle.std.proofs.lemmas.Option.{slice_get-get_or, slice_get_within}
@@ -215,10 +215,13 @@ few_before_none [] = omega arith
 few_before_none (None ∷ xs) = omega arith
 few_before_none (Some x ∷ xs) = let f = few_before_none xs in omega (arith, f)
 
+of_all : {A : Type 0} (p : A → Bool) (x : A) (xs : List A) → list_all p (x ∷ xs) ≡ true → (p x ≡ true) × (list_all p xs ≡ true)
+of_all p x xs h = and_parts _ _ h
+
 all_before_none : {A : Type 0} (xs : List (Option A)) → list_all is_some xs ≡ true → length (before_none xs) ≡ length xs
 all_before_none [] h = refl
-all_before_none (None ∷ xs) h = absurd (false≢true (and_parts _ _ h).0)
-all_before_none (Some x ∷ xs) h = ap suc (all_before_none xs (and_parts _ _ h).1)
+all_before_none (None ∷ xs) h = absurd (false≢true (of_all is_some None xs h).0)
+all_before_none (Some x ∷ xs) h = ap suc (all_before_none xs (of_all is_some (Some x) xs h).1)
 
 -- so many declarations stand before the one with a fault of its phrases, where none is too high
 before_it : {A : Type 0} (misfit : Option Misfit) (extents : List Extent) (tops : List (Option A)) → length tops ≡ length extents → IfSome misfit (IsPlaced extents) → list_all is_some (up_to (before_misfit misfit) tops) ≡ true
@@ -235,7 +238,7 @@ module _ (unit : List ℕ) (tokens : List Token) where
   as_many_bare n (Leaf ∷ nodes) fitted = as_many_bare (suc n) nodes fitted
   as_many_bare n (Inner rule ∷ nodes) fitted =
       let dec = bare_dec_at unit tokens n (before_first ends_at nodes) fitted in
-      let extent = record { first = n; behind = n + tokens_before nodes } in
+      let extent : Extent = record { first = n; behind = n + tokens_before nodes } in
       subst (λ (b : Bool). length (if b then dec ∷ bare_decs unit tokens n nodes (drop 1 fitted) else bare_decs unit tokens n nodes fitted) ≡ length (if begins_next rule then extent ∷ extents_of n nodes else extents_of n nodes)) (sym (begins_same rule))
       (by_begin dec extent (begins_next rule) (as_many_bare n nodes (drop 1 fitted)) (as_many_bare n nodes fitted))
     where

@@ -1,5 +1,5 @@
 -- The bare declarations that a unit's tokens spell, and the fault that ends them.
-use Rattle.std.specs.Prelude.{◌≡◌, ℕ, ◌-◌, List, length, Option, Some, None, if◌then◌else◌, map, take}
+use Rattle.std.specs.Prelude.{◌≡◌, ℕ, ◌-◌, List, length, Option, Some, None, Bool, if◌then◌else◌, map, take}
 use Rattle.std.specs.List.{list_all}
 use Rattle.std.specs.Option.{is_some}
 use Rattle.sml_lex.specs.declared.fault.Code.{Code}
@@ -60,6 +60,11 @@ abbrev pub fault_behind : List ℕ → List Token → End → ℕ → Option Cau
 fault_behind unit tokens end begun cause None = fault_read unit tokens end begun cause
 fault_behind unit tokens end begun cause (Some m) = fault_from unit m.code (start_of tokens m.begun 0) (start_of tokens m.token 0)
 
+-- the last fault: that of a tree that is too high, unless all are low
+abbrev pub last_fault : List ℕ → List Token → End → ℕ → Option Cause → Option Misfit → Bool → Option (Fault Place)
+last_fault unit tokens end begun cause misfit are_low =
+    if are_low then fault_behind unit tokens end begun cause misfit else Some (record { code = C.S3; place = record { line = 1; column = 1 }; detail = None })
+
 -- The tokens are read. These are the declarations that they spell, up to the first that has a fault of fixity or of
 -- what it binds or is too high, as whole trees and as those of the piece of the language that is answered so far. The
 -- fault is that one's, or the one at which reading ended. In one declaration a fault of fixity comes first: where it
@@ -76,4 +81,4 @@ pub record Trees (unit : List ℕ) (tokens : List Token) (end : End) (tops : Lis
   pub is_first : misfit ≡ or_else (first_flawed (text_at unit tokens) 0 0 nodes tokens fitted) unfit
   pub made : tops ≡ before_none (up_to (before_misfit misfit) (bare_decs unit tokens 0 nodes fitted))
   pub piece : decs ≡ take (length tops) (spelt unit nodes tokens)
-  pub ended : fault ≡ (if list_all is_some (up_to (before_misfit misfit) (bare_decs unit tokens 0 nodes fitted)) then fault_behind unit tokens end begun cause misfit else Some (record { code = C.S3; place = record { line = 1; column = 1 }; detail = None }))
+  pub ended : fault ≡ last_fault unit tokens end begun cause misfit (list_all is_some (up_to (before_misfit misfit) (bare_decs unit tokens 0 nodes fitted)))

@@ -1,11 +1,17 @@
 //! The bare declarations of a unit.
 
-ghost use Rattle.std.specs.Prelude.{◌≡◌, map, take, IfOk};
-ghost use Rattle.std.specs.Option.{option_map};
+ghost use Rattle.std.specs.Prelude.{◌≡◌, map, take, length, IfOk};
+ghost use Rattle.std.specs.List.{list_all};
+ghost use Rattle.std.specs.Option.{is_some, option_map};
 ghost use Rattle.sml_lex.specs.Faults.{fault_of};
 ghost use Rattle.sml_tree.specs.Views.{dec_of};
 ghost use Rattle.sml_tree.specs.StructureViews.{top_of};
-ghost use Rattle.sml_parse.specs.Trees.{dec_of_items, decs_of_items, fault_from, fault_read, fault_behind, Trees};
+ghost use Rattle.sml_parse.specs.Trees.{dec_of_items, decs_of_items, spelt, fault_from, fault_read, fault_behind, last_fault, Trees};
+ghost use Rattle.sml_read.specs.Extents.{starts_of};
+ghost use Rattle.sml_reach.specs.Events.{text_at, events_of};
+ghost use Rattle.sml_reach.specs.Fits.{fitted_of};
+ghost use Rattle.sml_reach.specs.Reach.{up_to, before_misfit, AreFitted};
+ghost use Rattle.sml_bare.specs.Derivations.{bare_decs, before_none};
 
 use crate::build::build;
 use crate::item::Item;
@@ -16,9 +22,11 @@ use sml_flaws::flawed::{first_flawed, or_else};
 use sml_lex::fault::{Code, Fault, Memory};
 use sml_lex::token::{End, Lexed};
 use sml_reach::event::events;
+use sml_reach::fitted::Fitted;
 use sml_reach::names::Names;
 use sml_reach::place::{FIRST, place_between, start_of};
 use sml_reach::reach::{Misfit, before_misfit, fit};
+use sml_read::grammar::Node;
 use sml_read::read::{Cause, Full, read};
 use sml_tree::bare::BareDec;
 use sml_tree::structures::TopDec;
@@ -124,38 +132,87 @@ fn fault_behind(lexed: &Lexed, full: &Full, misfit: Option<Misfit>) -> Option<Fa
     }
 }
 
+/// The last fault: that of a tree that is too high, unless all are low.
+fn last_fault(lexed: &Lexed, full: &Full, misfit: Option<Misfit>, are_low: bool) -> Option<Fault>
+    ensures { option_map fault_of result
+        ≡ last_fault lexed.now.unit.now lexed.now.tokens.items lexed.now.end full.now.begun full.now.cause misfit are_low }
+{
+    if are_low {
+        return fault_behind(lexed, full, misfit);
+    }
+    Some(Fault {
+        code: Code::S3,
+        place: FIRST,
+        detail: None,
+    })
+}
+
+/// What the sequences of a unit's declarations stand for, and the first fault of fixity.
+fn fitted(
+    alloc: Global,
+    lexed: &Lexed,
+    names: &mut Names,
+    nodes: &[Node],
+) -> Result<(Vec<Fitted>, Option<Misfit>), Memory>
+    ensures { IfOk result (λ r. AreFitted (text_at lexed.now.unit.now lexed.now.tokens.items)
+        (events_of lexed.now.unit.now lexed.now.tokens.items nodes.now (starts_of 0 nodes.now)) (map fitted_of r.0.items) r.1) }
+{
+    let events = events(alloc, lexed.unit, names, nodes, &lexed.tokens)?;
+    fit(alloc, lexed.unit, &lexed.tokens, events)
+}
+
+/// The declarations before the one with a fault, up to the first that is too high, and whether none is.
+fn tops(
+    alloc: Global,
+    lexed: &Lexed,
+    names: &mut Names,
+    nodes: &[Node],
+    fitted: &[Fitted],
+    misfit: Option<Misfit>,
+) -> Result<(Vec<TopDec>, bool), Memory>
+    ensures { let all = up_to (before_misfit misfit) (bare_decs lexed.now.unit.now lexed.now.tokens.items 0 nodes.now (map fitted_of fitted.now)) in
+        IfOk result (λ r. (map top_of r.0.items ≡ before_none all) × (r.1 ≡ list_all is_some all)) }
+{
+    bare_decs(
+        alloc,
+        lexed.unit,
+        &lexed.tokens,
+        names,
+        nodes,
+        fitted,
+        before_misfit(misfit),
+    )
+}
+
+/// As many declarations as these, as trees of the piece.
+#[tactic(auto, using(crate::proofs::Declaring::as_many))]
+fn piece_of(
+    alloc: Global,
+    lexed: &Lexed,
+    names: &mut Names,
+    nodes: &[Node],
+    tops: &[TopDec],
+) -> Result<Vec<BareDec>, Memory>
+    ensures { IfOk result (λ decs. map dec_of decs.items ≡ take (length (map top_of tops.now)) (spelt lexed.now.unit.now nodes.now lexed.now.tokens.items)) }
+{
+    let items = label(alloc, lexed.unit, nodes, &lexed.tokens)?;
+    declare(alloc, lexed.unit, names, &items, tops.len())
+}
+
 /// Reads a unit's bare declarations.
 pub fn parse(alloc: Global, lexed: &Lexed) -> Result<Parsed, Memory>
     ensures { IfOk result (λ parsed. Trees lexed.now.unit.now lexed.now.tokens.items lexed.now.end
         (map top_of parsed.declarations.items) (map dec_of parsed.piece.items) (option_map fault_of parsed.fault)) }
 {
     let full = read(alloc, lexed)?;
+    let nodes = full.nodes.as_slice();
     let mut names = Names::new(alloc);
-    let events = events(alloc, lexed.unit, &mut names, &full.nodes, &lexed.tokens)?;
-    let (fitted, unfit) = fit(alloc, lexed.unit, &lexed.tokens, events)?;
-    let flawed = first_flawed(alloc, lexed.unit, &lexed.tokens, &full.nodes, &fitted)?;
+    let (fitted, unfit) = fitted(alloc, lexed, &mut names, nodes)?;
+    let flawed = first_flawed(alloc, lexed.unit, &lexed.tokens, nodes, &fitted)?;
     let misfit = or_else(flawed, unfit);
-    let most = before_misfit(misfit);
-    let (declarations, are_low) = bare_decs(
-        alloc,
-        lexed.unit,
-        &lexed.tokens,
-        &mut names,
-        &full.nodes,
-        &fitted,
-        most,
-    )?;
-    let items = label(alloc, lexed.unit, &full.nodes, &lexed.tokens)?;
-    let piece = declare(alloc, lexed.unit, &mut names, &items, declarations.len())?;
-    let fault = if are_low {
-        fault_behind(lexed, &full, misfit)
-    } else {
-        Some(Fault {
-            code: Code::S3,
-            place: FIRST,
-            detail: None,
-        })
-    };
+    let (declarations, are_low) = tops(alloc, lexed, &mut names, nodes, &fitted, misfit)?;
+    let piece = piece_of(alloc, lexed, &mut names, nodes, &declarations)?;
+    let fault = last_fault(lexed, &full, misfit, are_low);
     Ok(Parsed {
         declarations,
         piece,

@@ -1,5 +1,5 @@
 -- Each fault of what a declaration binds stands in its declaration.
-use Rattle.std.proofs.Common.{◌≡◌, ℕ, suc, ◌+◌, ◌-◌, ◌<◌, ◌≤◌, List, [], ◌∷◌, ◌++◌, Bool, true, false, Option, Some, None, drop, cond, refl, sym, ap, ◌∙◌, subst, arith, IfSome}
+use Rattle.std.proofs.Common.{◌≡◌, ℕ, suc, ◌+◌, ◌-◌, ◌<◌, List, [], ◌∷◌, ◌++◌, Bool, true, false, Option, Some, None, drop, cond, refl, sym, ap, ◌∙◌, subst, arith, IfSome}
 use Rattle.std.specs.Prelude.{not, ◌&&◌, nat_le, nat_lt, if◌then◌else◌, slice_get}
 use Rattle.std.specs.List.{cons_option, before_first}
 use Rattle.std.proofs.lemmas.Bool.{and_parts, leb-true, ltb-true}
@@ -7,7 +7,6 @@ use Rattle.std.proofs.lemmas.List.Sums.{take_while-cons}
 use Rattle.sml_lex.specs.declared.fault.Code.{Code}
 use Rattle.sml_lex.specs.declared.token.Token.{Token}
 use Rattle.sml_tree.specs.Trees.{Id}
-use Rattle.sml_fixity.specs.declared.heads.Head.{Head}
 use Rattle.sml_read.specs.declared.grammar.Rule.{Rule}
 use Rattle.sml_read.specs.declared.grammar.Node.{Node}
 use Rattle.sml_read.specs.declared.grammar.Node.TheVariants.{Leaf, Inner}
@@ -20,11 +19,11 @@ use Rattle.sml_reach.specs.Fits.{Fit, Fitted}
 use Rattle.sml_read.specs.Extents.{ends_of}
 use Rattle.sml_flaws.specs.Marks.{start, marks_of}
 use Rattle.sml_flaws.specs.Known.{is_again, token_in}
-use Rattle.sml_flaws.specs.Flaws.{flaw_if, name_at, arity_at, unlike_by, unlike, uneven_by, uneven, barred_name, barred_value, barred, real, flaws_by, flaws_of, scoped_by, scoped_at, scoped_of, flaws_in, precedes, earlier, first_flaw}
+use Rattle.sml_flaws.specs.Flaws.{flaw_if, name_at, arity_at, unlike_by, unlike, uneven_by, uneven, barred_value, barred, real, flaws_by, flaws_of, scoped_by, scoped_at, scoped_of, flaws_in, precedes, earlier, first_flaw}
 use Rattle.sml_flaws.specs.Flawed.{begins_at, ends_at, own_nodes, count_tokens, own_token, flaw_in, flaw_here, or_else, first_flawed}
 use Rattle.sml_parse.specs.Within.{Extent, of_phrases, reason_of, ends_before, begins_next, tokens_before, extents_of}
 use Rattle.sml_parse.proofs.Extents.{agree, agreed}
-use Rattle.sml_parse.proofs.Nonempty.{HasToken, HaveTokens}
+use Rattle.sml_parse.proofs.Nonempty.{HaveTokens}
 use Rattle.sml_parse.proofs.FoundsWithin.{IsIn}
 use Rattle.sml_parse.proofs.MisfitsWithin.{IsPlaced}
 

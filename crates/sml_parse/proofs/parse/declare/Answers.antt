@@ -1,7 +1,6 @@
-use Rattle.std.proofs.Common.{◌+◌, map, sym, ◌∙◌, arith}
+use Rattle.std.proofs.Common.{map}
 use Rattle.sml_tree.specs.Views.{dec_of}
-use Rattle.sml_parse.proofs.Declaring.{full_on, all_on}
-use Rattle.sml_reach.proofs.UpTo.{length-map}
+use Rattle.sml_parse.proofs.Declaring.{all_on}
 use Rattle.sml_parse.proofs.parse.declare.Goals as goal
 
 pub returns : goal.returns

@@ -5,6 +5,7 @@ pub mod Searching
 pub mod Asking
 pub mod Limiting
 pub mod Ranking
+pub mod Ordering
 pub mod Walks
 pub mod Wholeness
 pub mod Demanding

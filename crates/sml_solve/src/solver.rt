@@ -30,6 +30,7 @@ use crate::graph::{Graph, add, fill};
 use crate::layer::{Ask, Bound, Layer, Refusal};
 use crate::levels::{begin_level, hand_levels_on, held_unknowns};
 use crate::node::Node;
+use crate::orders::MIDDLE;
 use crate::reach::{has_flag, marks_from, places};
 use crate::reading::type_up_to;
 use crate::settling::has_several_names;
@@ -72,8 +73,9 @@ impl Solver {
         let graph = Graph {
             nodes: Vec::new(alloc),
             limits: Vec::new(alloc),
-            marks: Vec::new(alloc),
-            stamp: 1,
+            orders: Vec::new(alloc),
+            bottom: MIDDLE,
+            top: MIDDLE,
         };
         Solver {
             alloc,

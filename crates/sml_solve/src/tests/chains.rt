@@ -42,3 +42,15 @@ fn lists_of_newer_unknowns(rt: HostRuntime) -> Result<(), Fail> {
     assert_eq!(rt; circular, Err(Refusal::Unmet(Layer::Finiteness)));
     Ok(())
 }
+
+#[test]
+fn lists_of_newer_unknowns_from_the_inside_out(rt: HostRuntime) -> Result<(), Fail> {
+    let alloc = rt.alloc();
+    let mut solver = solved(alloc, MANY)?;
+    for i in 1..MANY {
+        assert_eq!(rt; nest(alloc, &mut solver, MANY - i - 1, MANY - i), Ok(()));
+    }
+    let circular = link(&mut solver, 0, MANY - 1);
+    assert_eq!(rt; circular, Err(Refusal::Unmet(Layer::Finiteness)));
+    Ok(())
+}

@@ -28,7 +28,7 @@ invariant_of-self-2 c _ =
     let b : BeginsLevel ls (length g.nodes.items) (length us) ks = subst (λ i. BeginsLevel ls i (length us) ks) n (subst (λ i. BeginsLevel ls c.len-at.result i ks) q c.in_default-begin_level.ensures) in
     record {
       kept = kept-fresh u g c.fill.new.graph us c.push-2.new.self.items k e c.in_default-fill.ensures.limits c.in_default-fill.ensures.orders full v few;
-      levels = levels-fresh g.nodes.items c.fill.new.graph.nodes.items us c.push-2.new.self.items ls ks k.owners a.levels e v few b;
+      levels = levels-fresh g.nodes.items c.fill.new.graph.nodes.items us c.push-2.new.self.items c.self.inside.left.items ls ks k.owners a.levels e v few b;
     }
 
 pub returns-clause-same : goal.returns-clause-same

@@ -12,7 +12,7 @@ invariant_of-result c _ =
     let g : Graph = record { nodes = c.new.result; limits = c.new-2.result; orders = c.new-3.result; bottom = 0x8000_0000_0000_0000; top = 0x8000_0000_0000_0000 } in
     record {
       kept = kept-none (maker_of c.args.unit) g c.new-4.result.items c.new.ensures.items c.new-2.ensures.items c.new-3.ensures.items (omega arith) (omega arith) c.new-4.ensures.items;
-      levels = levels-none c.new.result.items c.new-4.result.items c.new-5.result.items c.new.ensures.items c.new-4.ensures.items c.new-5.ensures.items;
+      levels = levels-none c.new.result.items c.new-4.result.items c.new-5.result.items c.new-6.result.items c.new.ensures.items c.new-4.ensures.items c.new-5.ensures.items c.new-6.ensures.items;
     }
 
 pub returns-clause-met : goal.returns-clause-met

@@ -14,6 +14,7 @@ ghost use Rattle.sml_solve.specs.declared.layer.Layer.{Layer};
 ghost use Rattle.sml_solve.specs.declared.layer.Layer.TheVariants.{Finiteness};
 ghost use Rattle.sml_solve.specs.Worlds.{finite, Assignment};
 ghost use Rattle.sml_solve.specs.Asked.{Asked, asked_of, equal, asks, count, IsOf, IsSchemeOf, Adds, CanMeet, IsFirstUnmet, IsMet, Permits, PermitsSame};
+ghost use Rattle.sml_solve.specs.Clashes.{ClashesAreUnmet};
 ghost use Rattle.sml_solve.specs.Counted.{IsSizeUpTo};
 ghost use Rattle.sml_solve.specs.Fixed.{AreFixed, IsFixed, IsOpen};
 ghost use Rattle.sml_solve.specs.Graphs.{IsAmong};
@@ -296,6 +297,14 @@ impl Solver {
     pub fn choices_are_free(&self)
         requires { self.now.spent ≡ false }
         ensures { IsMostGeneral self.now }
+    {
+        let _spent = self.spent;
+    }
+
+    /// A law: where equations that were asked, closed under symmetry, transitivity and components, clash with one more,
+    /// that one is refused with U1.
+    pub fn clashes_are_unmet(&self)
+        ensures { ClashesAreUnmet self.now }
     {
         let _spent = self.spent;
     }

@@ -38,6 +38,10 @@ fn lists_of_newer_unknowns(rt: HostRuntime) -> Result<(), Fail> {
     for i in 1..MANY {
         assert_eq!(rt; nest(alloc, &mut solver, i - 1, i), Ok(()));
     }
+    let Ok(fixed) = solver.fixed_by(1, &[]) else {
+        return Err("flags".into());
+    };
+    assert_eq!(rt; fixed.last().copied(), Some(true));
     let circular = link(&mut solver, 0, MANY - 1);
     assert_eq!(rt; circular, Err(Refusal::Unmet(Layer::Finiteness)));
     Ok(())
@@ -50,6 +54,10 @@ fn lists_of_newer_unknowns_from_the_inside_out(rt: HostRuntime) -> Result<(), Fa
     for i in 1..MANY {
         assert_eq!(rt; nest(alloc, &mut solver, MANY - i - 1, MANY - i), Ok(()));
     }
+    let Ok(fixed) = solver.fixed_by(1, &[]) else {
+        return Err("flags".into());
+    };
+    assert_eq!(rt; fixed.last().copied(), Some(true));
     let circular = link(&mut solver, 0, MANY - 1);
     assert_eq!(rt; circular, Err(Refusal::Unmet(Layer::Finiteness)));
     Ok(())

@@ -1,5 +1,5 @@
 -- The oldest unknowns that lead to nodes.
-use Rattle.std.specs.Prelude.{◌≡◌, ◌≢◌, ℕ, ◌+◌, ◌<◌, ◌≤◌, ◌^◌, ◌⊎◌, ◌↔◌, Bool, List, [], ◌∷◌, length, Option, Some, None, slice_index, slice_index_or}
+use Rattle.std.specs.Prelude.{◌≡◌, ◌≢◌, ℕ, ◌+◌, ◌-◌, ◌<◌, ◌≤◌, ◌^◌, ◌⊎◌, ◌↔◌, Bool, List, [], ◌∷◌, length, Option, Some, None, slice_index, slice_index_or}
 use Rattle.std.specs.List.{AllByRecursion}
 use Rattle.sml_solve.specs.declared.graph.Graph.{Graph}
 use Rattle.sml_solve.specs.declared.node.Node.{Node}
@@ -15,6 +15,10 @@ level_of (Some n) = n
 
 abbrev pub level_at : List (Option ℕ) → ℕ → ℕ
 level_at ls i = level_of (slice_index_or ls i None)
+
+-- how far the node's level is below those of all unknowns
+abbrev pub level_rank : List (Option ℕ) → ℕ → ℕ
+level_rank ls i = 2 ^ 32 - 1 - level_at ls i
 
 abbrev pub AreAtMost : List (Option ℕ) → ℕ → List ℕ → Type 0
 AreAtMost ls a ks = AllByRecursion (λ k. level_at ls k ≤ a) ks

@@ -18,7 +18,7 @@ hand_levels_on-requires-clause-but c =
     let ps = c.in_ok-pending.pending.items in
     let spent : c.solver.inside.spent ≡ false = ap (λ (s : Asked). s.spent) c.solver.view_is ∙ c.requires.kept in
     let k = c.solver.invariant spent in
-    let p : IsPermutation is ps = rw c.replace-left.ensures.value at c.in_ok-pending.ensures in
+    let p : IsPermutation is ps = rw c.replace-left.ensures.value at c.in_ok-pending.ensures.permutation in
     let b : AreHandedBut ns ls ps = λ i. elim (k.levels.handed i) [ inl h ↦ inl h | inr m ↦ inr (among-sorted is ps i p m) ] in
     rw c.as_slice-2.ensures.value b
 

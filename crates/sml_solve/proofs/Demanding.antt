@@ -18,7 +18,7 @@ use Rattle.sml_solve.specs.declared.node.Node.TheVariants.{Unknown}
 use Rattle.sml_solve.specs.Worlds.{World, Assignment, finite, infinite, typed}
 use Rattle.sml_solve.specs.Graphs.{node_at, Meets, IsSound, SameOutside}
 use Rattle.sml_solve.specs.Interned.{IsOver, through, Interns}
-use Rattle.sml_solve.specs.Ranks.{HasRank}
+use Rattle.sml_solve.specs.Ranks.{HasRank, no_order, order_at}
 use Rattle.sml_solve.specs.Limits.{no_limit, limit_at, MeetsAt, KeepsAt, KeepsThrough, IsClosed, IsFit, IsDoneBut, Lowers}
 use Rattle.sml_solve.specs.Layers.{place_of}
 use Rattle.sml_solve.specs.Asked.{Asked, asked_of, count, world, KeepsUpTo, Permits, layer_of, limit_of, IsAsAsked, Demand, equal, asks, Holds, CanMeet, IsFirstUnmet, Adds, IsMet, PermitsSame}
@@ -28,7 +28,7 @@ use Rattle.sml_solve.proofs.Asking.{nothing-asked, none-meets}
 use Rattle.sml_solve.proofs.Limiting.{none-fits, lowered-keeps, keeps-lowered, but-lowered}
 use Rattle.sml_solve.proofs.Ranking.{rank_of, finite_of, solution, stand_ins, solution-meets, stands-keep}
 use Rattle.sml_solve.proofs.Walks.{has_infinite}
-use Rattle.sml_solve.proofs.Wholeness.{get_or-push, closed-more, fit-more}
+use Rattle.sml_solve.proofs.Wholeness.{ordered-more, get_or-push, closed-more, fit-more}
 use Rattle.sml_solve.proofs.Owning.{owners-none, owners-fresh, owners-grown, owners-merged}
 
 -- limits and assignments that agree
@@ -340,29 +340,31 @@ limit-changed u a h r m js w x =
     record {
       full = record {
         limits = x.lowers.len ∙ (w.full.limits ∙ ap length (sym e));
-        marks = ap length x.marks ∙ (w.full.marks ∙ ap length (sym e));
-        below = record { below = λ i. rw (x.marks, x.stamp) (w.full.below.below i); positive = rw x.stamp w.full.below.positive };
+        orders = ap length x.orders ∙ (w.full.orders ∙ ap length (sym e));
+        bottom = record { from = λ i. rw (x.orders, x.bottom) (w.full.bottom.from i); positive = rw x.bottom w.full.bottom.positive };
       };
       sound = rw e w.sound;
       inside = rw e (subst (λ q. AllByRecursion (λ i. i < q) js) w.full.limits (x.lowers.inside tt));
       before = h.nodes.items;
       rank = w.rank;
       outside = λ i. inl (ap (λ z. node_at z i) e);
+      ordered = λ i h. inl (rw (e, x.orders) (w.ordered i (rw x.orders at h)));
       but = rw e (but-lowered u a h.nodes.items h.limits.items m.limits.items (r ∷ []) js w.closed w.fit x.lowers);
     }
 
 -- a solver with no unknown
 
-pub kept-none : (u : ℕ) (g : Graph) (us : List ℕ) → g.nodes.items ≡ [] → g.limits.items ≡ [] → g.marks.items ≡ [] → g.stamp ≡ 1 → us ≡ [] → IsKept u g us
-kept-none u g us a b d e f = record {
+pub kept-none : (u : ℕ) (g : Graph) (us : List ℕ) → g.nodes.items ≡ [] → g.limits.items ≡ [] → g.orders.items ≡ [] → 0 < g.bottom → g.bottom ≤ no_order → us ≡ [] → IsKept u g us
+kept-none u g us a b d p m f = record {
   whole = record {
     full = record {
       limits = rw (a, b) refl;
-      marks = rw (a, d) refl;
-      below = record { below = λ i. rw (d, e) (omega arith); positive = rw e (omega arith) };
+      orders = rw (a, d) refl;
+      bottom = record { from = λ i. rw d m; positive = p };
     };
     sound = rw a (λ i. tt);
     rank = record { rank = λ i. 0; ranked = rw a (λ i. tt) };
+    ordered = rw a (λ i h. tt);
     closed = rw a (λ i. tt);
     fit = λ l. rw (a, b) (λ i. none-fits l u Unknown);
   };
@@ -387,8 +389,8 @@ whole-met u g us b d w Rigidity = let t = whole-met-finite u g d w in (through f
 
 -- an unknown more
 
-pub kept-fresh : (u : ℕ) (g h : Graph) (us vs : List ℕ) → IsKept u g us → h.nodes.items ≡ g.nodes.items ++ Unknown ∷ [] → ((i : ℕ) → limit_at h.limits.items i ≡ limit_at g.limits.items i) → IsFull h → vs ≡ us ++ length g.nodes.items ∷ [] → length us < 2 ^ 32 → IsKept u h vs
-kept-fresh u g h us vs k e a full f few =
+pub kept-fresh : (u : ℕ) (g h : Graph) (us vs : List ℕ) → IsKept u g us → h.nodes.items ≡ g.nodes.items ++ Unknown ∷ [] → ((i : ℕ) → limit_at h.limits.items i ≡ limit_at g.limits.items i) → ((i : ℕ) → order_at h.orders.items i ≡ order_at g.orders.items i) → IsFull h → vs ≡ us ++ length g.nodes.items ∷ [] → length us < 2 ^ 32 → IsKept u h vs
+kept-fresh u g h us vs k e a o full f few =
     let ns = g.nodes.items in
     let w = k.whole in
     let n : length h.nodes.items ≡ length ns + 1 = ap length e ∙ simp length-append in
@@ -398,6 +400,7 @@ kept-fresh u g h us vs k e a full f few =
         full = full;
         sound = λ i. rw (same i) (sound-more (length ns) (length h.nodes.items) i (node_at ns i) (omega (arith, n)) (w.sound i));
         rank = record { rank = w.rank.rank; ranked = λ i. rw (same i) (w.rank.ranked i) };
+        ordered = ordered-more ns h.nodes.items g.orders.items h.orders.items w.full.orders (λ i l. same i) o w.ordered;
         closed = closed-more ns h.nodes.items g.limits.items h.limits.items w.full.limits (λ i l. same i) a w.closed;
         fit = λ l. fit-more l u ns h.nodes.items g.limits.items h.limits.items w.full.limits (λ i l. same i) a (w.fit l);
       };

@@ -14,6 +14,7 @@ use Rattle.sml_solve.specs.Asked.{Asked, asked_of}
 use Rattle.sml_solve.specs.Left.{MayBe}
 use Rattle.sml_solve.specs.Fixed.{IsFixed, IsOpen, IsMarked, IsMarkedBut, IsReach, AreMarks, AreFixed, places_of}
 use Rattle.sml_solve.specs.Levels.{level_at, IsHeld, AreHeld, IsKeptWith}
+use Rattle.sml_solve.proofs.Levelling.{none-left}
 use Rattle.sml_solve.proofs.Interning.{inside-at}
 use Rattle.sml_solve.proofs.Ranking.{all-both, solution, ints, solution-meets, solution-unknown}
 use Rattle.sml_solve.proofs.Searching.{all-parts}
@@ -68,7 +69,7 @@ first-fixed : (s : Asked) (n : ℕ) (ws : List ℕ) (v : ℕ) → v < n → IsFi
 unfolding IsFixed
 first-fixed s n ws v h σ τ p q e f = e v h
 
-module _ (u : ℕ) (us : List ℕ) (g : Graph) (b : Bool) (ls : List (Option ℕ)) (k : IsKeptWith u g us ls) (n : ℕ) (ws : List ℕ) (within : n ≤ length us) (known : AllByRecursion (λ w. w < length us) ws) where
+module _ (u : ℕ) (us : List ℕ) (g : Graph) (b : Bool) (ls : List (Option ℕ)) (k : IsKeptWith u g us ls []) (n : ℕ) (ws : List ℕ) (within : n ≤ length us) (known : AllByRecursion (λ w. w < length us) ws) where
   abbrev ns : List Node
   ns = g.nodes.items
 
@@ -101,7 +102,7 @@ module _ (u : ℕ) (us : List ℕ) (g : Graph) (b : Bool) (ls : List (Option ℕ
   held-parts : (ms : List Bool) (i : ℕ) → AreMarks ns from ms → IsHeld ls n ms i → AllByRecursion (IsHeld ls n ms) (parts (node_at ns i))
   held-parts ms i x h =
       elim h [
-        | inl l ↦ all-parts (λ k. level_at ls k ≤ level_at ls i) (IsHeld ls n ms) (parts (node_at ns i)) (λ k a. inl (omega (arith, a, l))) (k.levels.handed i)
+        | inl l ↦ all-parts (λ k. level_at ls k ≤ level_at ls i) (IsHeld ls n ms) (parts (node_at ns i)) (λ k a. inl (omega (arith, a, l))) (none-left ns ls [] k.levels.handed refl i)
         | inr m ↦ all-parts (IsMarked ms) (IsHeld ls n ms) (parts (node_at ns i)) (λ k a. inr a) (x.closed i m)
       ]
 

@@ -2,14 +2,16 @@
 use Rattle.std.proofs.Common.{◌≡◌, ◌≢◌, ℕ, zero, suc, ◌+◌, ◌<◌, ◌≤◌, ◌^◌, inl, inr, Option, None, List, [], ◌∷◌, ◌++◌, length, set, get_or, sym, ◌∙◌, ap, subst, refl, arith, length-append, get_or-set_same, get_or-set_other}
 use Rattle.std.proofs.Math.ListN.{length-set}
 use Rattle.std.proofs.lemmas.Bool.{cases_lt}
-use Rattle.std.proofs.lemmas.List.{get_or_past}
-use Rattle.std.specs.List.{AllByRecursion}
+use Rattle.std.proofs.lemmas.List.{append-nil, get_or_past}
+use Rattle.std.proofs.lemmas.List.Sorted.{Contains-permutation}
+use Rattle.std.specs.List.{AllByRecursion, Contains}
+use Rattle.std.specs.List.Sorted.{IsPermutation}
 use Rattle.sml_objects.specs.Initial.{Name}
 use Rattle.sml_objects.specs.Objects.{MlType}
 use Rattle.sml_solve.specs.declared.node.Node.{Node}
 use Rattle.sml_solve.specs.declared.node.Node.TheVariants.{Unknown}
 use Rattle.sml_solve.specs.Worlds.{finite, Assignment}
-use Rattle.sml_solve.specs.Graphs.{node_at, parts, Meets, AreOwners}
+use Rattle.sml_solve.specs.Graphs.{node_at, parts, Meets, AreOwners, IsAmong}
 use Rattle.sml_solve.specs.Interned.{Interns}
 use Rattle.sml_solve.specs.Fixed.{IsFixedBy}
 use Rattle.sml_solve.specs.Levels.{level_of, level_at, AreAtMost, IsHandedNode, AreHandedBut, IsLevelOf, AreLevels, Moves, BeginsLevel, levels_sum, LowersLevels, HandsLevels}
@@ -130,12 +132,13 @@ none-left ns ls (j ∷ is) b e i = absurd (omega (arith, e))
 
 -- the levels of a solver's nodes
 
-pub levels-none : (ns : List Node) (us : List ℕ) (ls : List (Option ℕ)) → ns ≡ [] → us ≡ [] → ls ≡ [] → AreLevels ns us ls
-levels-none ns us ls e f g = record {
+pub levels-none : (ns : List Node) (us : List ℕ) (ls : List (Option ℕ)) (is : List ℕ) → ns ≡ [] → us ≡ [] → ls ≡ [] → is ≡ [] → AreLevels ns us ls is
+levels-none ns us ls is e f g h = record {
   within = rw (g, e) (omega arith);
-  begun = λ v h. let n = ap length f in absurd (omega (arith, h, n));
-  handed = λ i. rw e tt;
+  begun = λ v l. let n = ap length f in absurd (omega (arith, l, n));
+  handed = λ i. inl (rw e tt);
   exact = λ i. rw g (inl refl);
+  inside = rw h tt;
 }
 
 level-most : (ns : List Node) (us : List ℕ) (n i : ℕ) → length us ≤ 2 ^ 32 → IsLevelOf ns us n i → n ≤ 2 ^ 32
@@ -148,23 +151,31 @@ all-most : (ls : List (Option ℕ)) (ks : List ℕ) (a : ℕ) → ((k : ℕ) →
 all-most ls [] a f = tt
 all-most ls (k ∷ ks) a f = (f k, all-most ls ks a f)
 
-pub moved-but : (ns ms : List Node) (us is : List ℕ) (ls : List (Option ℕ)) → length us ≤ 2 ^ 32 → AreLevels ns us ls → Moves ns ms is → AreHandedBut ms ls is
-moved-but ns ms us is ls few x m i =
+moved-but : (ns ms : List Node) (us is js : List ℕ) (ls : List (Option ℕ)) → length us ≤ 2 ^ 32 → AreLevels ns us ls is → Moves ns ms js → AreHandedBut ms ls (is ++ js)
+moved-but ns ms us is js ls few x m i =
     elim (cases_lt i (length ns)) [
-      | inl h ↦ elim (m.outside i h) [ inl e ↦ inl (rw e (x.handed i)) | inr a ↦ inr a ]
+      | inl h ↦
+          elim (m.outside i h) [
+            | inl e ↦ elim (x.handed i) [ inl y ↦ inl (rw e y) | inr a ↦ inr (IsAmong-append i is js a) ]
+            | inr a ↦ inr (IsAmong-back i is js a)
+          ]
       | inr h ↦
           let w = x.within in
           let e : level_at ls i ≡ 2 ^ 32 = ap level_of (get_or_past ls i None (omega (arith, h, w))) in
           inl (rw e (all-most ls (parts (node_at ms i)) (2 ^ 32) (λ k. level-most ns us (level_at ls k) k few (x.exact k))))
     ]
 
-pub levels-moved : (ns ms : List Node) (us : List ℕ) (ls : List (Option ℕ)) → length us ≤ 2 ^ 32 → AreLevels ns us ls → Moves ns ms [] → AreLevels ms us ls
-levels-moved ns ms us ls few x m = record {
+pub levels-moved : (ns ms : List Node) (us is js ps : List ℕ) (ls : List (Option ℕ)) → length us ≤ 2 ^ 32 → AreLevels ns us ls is → Moves ns ms js → ps ≡ is ++ js → AreLevels ms us ls ps
+levels-moved ns ms us is js ps ls few x m e = rw e record {
   within = let a = x.within in let b = m.len in omega (arith, a, b);
   begun = x.begun;
-  handed = none-left ms ls [] (moved-but ns ms us [] ls few x m) refl;
+  handed = moved-but ns ms us is js ls few x m;
   exact = λ i. level-narrow ns ms us (level_at ls i) i m.narrows (x.exact i);
+  inside = all-append (λ i. i < length ms) is js (all-parts (λ i. i < length ns) (λ i. i < length ms) is (λ i l. let b = m.len in omega (arith, l, b)) x.inside) m.inside;
 }
+
+pub levels-grown : (ns ms : List Node) (us is : List ℕ) (ls : List (Option ℕ)) → length us ≤ 2 ^ 32 → AreLevels ns us ls is → Moves ns ms [] → AreLevels ms us ls is
+levels-grown ns ms us is ls few x m = levels-moved ns ms us is [] is ls few x m (sym (append-nil is))
 
 level-from : (ns : List Node) (us : List ℕ) (n m i j : ℕ) → m ≡ n → IsFixedBy ns (j ∷ []) i → IsLevelOf ns us n j → IsLevelOf ns us m i
 level-from ns us n m i j e f x =
@@ -174,13 +185,32 @@ level-from ns us n m i j e f x =
       | inr h ↦ inr (h.0, fixed-then ns (get_or us n 0) j i h.1 f)
     ])
 
-pub levels-handed : (ns ms : List Node) (us is : List ℕ) (ls ks : List (Option ℕ)) → AreLevels ns us ls → Moves ns ms is → HandsLevels ms ls ks → AreLevels ms us ks
-levels-handed ns ms us is ls ks x m h = record {
+pub levels-handed : (ns : List Node) (us is js : List ℕ) (ls ks : List (Option ℕ)) → AreLevels ns us ls is → HandsLevels ns ls ks → js ≡ [] → AreLevels ns us ks js
+levels-handed ns us is js ls ks x h e = record {
   within = h.within;
   begun = λ v l. let a = x.begun v l in let b = h.under (get_or us v 0) in omega (arith, a, b);
-  handed = h.handed;
-  exact = λ i. let w = h.from i in level-from ms us (level_at ls w.0) (level_at ks i) i w.0 w.1 w.2 (level-narrow ns ms us (level_at ls w.0) w.0 m.narrows (x.exact w.0));
+  handed = λ i. inl (h.handed i);
+  exact = λ i. let w = h.from i in level-from ns us (level_at ls w.0) (level_at ks i) i w.0 w.1 w.2 (x.exact w.0);
+  inside = rw e tt;
 }
+
+-- the nodes that are left to do, in another order
+
+among-contained : (i : ℕ) (xs : List ℕ) → IsAmong i xs → Contains xs i
+among-contained i [] m = absurd m
+among-contained i (x ∷ xs) m =
+    elim m [
+      | inl q ↦ (0, omega arith, sym q)
+      | inr a ↦ let c = among-contained i xs a in (suc c.0, let l = c.1 in omega (arith, l), c.2)
+    ]
+
+contained-among : (i : ℕ) (xs : List ℕ) (k : ℕ) → k < length xs → get_or xs k i ≡ i → IsAmong i xs
+contained-among i [] k l q = absurd (omega (arith, l))
+contained-among i (x ∷ xs) zero l q = inl (sym q)
+contained-among i (x ∷ xs) (suc k) l q = inr (contained-among i xs k (omega (arith, l)) q)
+
+pub among-sorted : (xs ys : List ℕ) (i : ℕ) → IsPermutation xs ys → IsAmong i xs → IsAmong i ys
+among-sorted xs ys i p m = let c = Contains-permutation xs ys i p (among-contained i xs m) in contained-among i ys c.0 c.1 c.2
 
 level-more : (ns : List Node) (us : List ℕ) (k n i : ℕ) → length us < 2 ^ 32 → IsLevelOf ns us n i → IsLevelOf ns (us ++ k ∷ []) n i
 level-more ns us k n i few x =
@@ -192,8 +222,8 @@ level-more ns us k n i few x =
           inr (simp length-append (omega (arith, z)), subst (λ a. IsFixedBy ns (a ∷ []) i) (sym e) h.1)
     ]
 
-pub levels-fresh : (ns ms : List Node) (us vs : List ℕ) (ls ks : List (Option ℕ)) → AreOwners ns us → AreLevels ns us ls → ms ≡ ns ++ Unknown ∷ [] → vs ≡ us ++ length ns ∷ [] → length us < 2 ^ 32 → BeginsLevel ls (length ns) (length us) ks → AreLevels ms vs ks
-levels-fresh ns ms us vs ls ks o x e f few b =
+pub levels-fresh : (ns ms : List Node) (us vs is : List ℕ) (ls ks : List (Option ℕ)) → AreOwners ns us → AreLevels ns us ls is → ms ≡ ns ++ Unknown ∷ [] → vs ≡ us ++ length ns ∷ [] → length us < 2 ^ 32 → BeginsLevel ls (length ns) (length us) ks → AreLevels ms vs ks is
+levels-fresh ns ms us vs is ls ks o x e f few b =
     let n : length ms ≡ length ns + 1 = ap length e ∙ simp length-append in
     let m : length vs ≡ length us + 1 = ap length f ∙ simp length-append in
     let here = b.here in
@@ -221,9 +251,10 @@ levels-fresh ns ms us vs ls ks o x e f few b =
           ];
       handed = λ i.
           elim (same_or_not i (length ns)) [
-            | inl q ↦ rw (same i, q, get_or_past ns (length ns) Unknown (omega arith)) tt
-            | inr d ↦ rw (same i) (handed-still ls ks i (node_at ns i) under (b.others i d) (x.handed i))
+            | inl q ↦ inl (rw (same i, q, get_or_past ns (length ns) Unknown (omega arith)) tt)
+            | inr d ↦ elim (x.handed i) [ inl y ↦ inl (rw (same i) (handed-still ls ks i (node_at ns i) under (b.others i d) y)) | inr a ↦ inr a ]
           ];
+      inside = all-parts (λ i. i < length ns) (λ i. i < length ms) is (λ i l. omega (arith, l, n)) x.inside;
       exact = λ i.
           elim (same_or_not i (length ns)) [
             | inl q ↦

@@ -1,10 +1,12 @@
 pub mod Worlding
+pub mod Clashing
 pub mod Merging
 pub mod Interning
 pub mod Searching
 pub mod Asking
 pub mod Limiting
 pub mod Ranking
+pub mod Ordering
 pub mod Walks
 pub mod Wholeness
 pub mod Demanding

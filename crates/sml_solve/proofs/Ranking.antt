@@ -1,5 +1,5 @@
 -- Finite types for the nodes.
-use Rattle.std.proofs.Common.{◌≡◌, ◌≢◌, ℕ, zero, suc, ◌+◌, ◌*◌, ◌<◌, ◌≤◌, inl, inr, List, [], ◌∷◌, length, map, ◌∙◌, ap, subst, refl, arith}
+use Rattle.std.proofs.Common.{◌≡◌, ℕ, zero, suc, ◌+◌, ◌*◌, ◌<◌, ◌≤◌, List, [], ◌∷◌, length, map, ap, subst, refl, arith}
 use Rattle.std.proofs.Math.Nat.{mul-le-mul_left}
 use Rattle.std.specs.List.{AllByRecursion}
 use Rattle.sml_objects.specs.Names.{int}
@@ -13,12 +13,11 @@ use Rattle.sml_solve.specs.declared.limits.Limit.{Limit}
 use Rattle.sml_solve.specs.declared.node.Node.{Node}
 use Rattle.sml_solve.specs.declared.node.Node.TheVariants.{Unknown, Link, App}
 use Rattle.sml_solve.specs.Worlds.{finite, Assignment, make}
-use Rattle.sml_solve.specs.Graphs.{node_at, parts, head_over, Agrees, Meets, IsSound, IsSoundNode, IsAmong, SameOutside}
-use Rattle.sml_solve.specs.Ranks.{HasFinite, IsRanked, HasRank, mark_at, IsSearch}
+use Rattle.sml_solve.specs.Graphs.{node_at, parts, head_over, Agrees, Meets, IsSound, IsSoundNode}
+use Rattle.sml_solve.specs.Ranks.{HasFinite, IsRanked, HasRank}
 use Rattle.sml_solve.specs.Limits.{limit_at, MeetsAt, KeepsAt, IsUnder, IsFitNode, handed, IsClosed, IsFit}
 use Rattle.sml_solve.specs.Layers.{place_of}
 use Rattle.sml_solve.specs.Variables.{stand_in}
-use Rattle.sml_solve.proofs.Merging.{same_or_not}
 use Rattle.sml_solve.proofs.Interning.{map-alike}
 use Rattle.sml_solve.proofs.Searching.{all-parts}
 use Rattle.sml_solve.proofs.Asking.{value, node-meets, int-meets, stands-meets}
@@ -120,35 +119,3 @@ stand_ins ls i = stand_in (limit_at ls i).variables
 
 pub stands-keep : (l : Layer) (u : ℕ) (ns : List Node) (ls : List Limit) (r : ℕ → ℕ) → (0 ≡ u → ⊥) → IsRanked ns r → IsClosed ns ls → ((k : Layer) → IsFit k u ns ls) → KeepsAt l u ls (solution ns (stand_ins ls) r)
 stands-keep l u ns ls r d a c f = solution-keeps l u ns ls (stand_ins ls) r a c (f l) (λ i e. stands-meets l u (limit_at ls i) d (subst (IsFitNode Rigidity u (limit_at ls i)) e (f Rigidity i)))
-
--- after a search from all that was changed
-
-among-done : (e : ℕ) (ms is : List ℕ) (i : ℕ) → AllByRecursion (λ i. mark_at ms i ≡ e + 1) is → IsAmong i is → mark_at ms i ≡ e + 1
-among-done e ms [] i a m = absurd m
-among-done e ms (j ∷ is) i a m = elim m [ inl q ↦ ap (mark_at ms) q ∙ a.0 | inr r ↦ among-done e ms is i a.1 r ]
-
-pub grounded : (ns ls : List Node) (e : ℕ) (ms is : List ℕ) → HasRank ns → SameOutside ns ls is → IsSearch ls e ms [] → AllByRecursion (λ i. mark_at ms i ≡ e + 1) is → HasRank ls
-grounded ns ls e ms is h o s a =
-    let rank : ℕ → ℕ = λ i. elim (same_or_not (mark_at ms i) (e + 1)) [ inl _ ↦ s.order i | inr _ ↦ s.top + h.rank i ] in
-    let done : (i : ℕ) → mark_at ms i ≡ e + 1 → rank i ≡ s.order i = λ i q. elim (same_or_not (mark_at ms i) (e + 1)) as (λ d. elim d as (λ _. ℕ) [ inl _ ↦ s.order i | inr _ ↦ s.top + h.rank i ] ≡ s.order i) [ inl _ ↦ refl | inr d ↦ absurd (d q) ] in
-    let other : (i : ℕ) → mark_at ms i ≢ e + 1 → rank i ≡ s.top + h.rank i = λ i q. elim (same_or_not (mark_at ms i) (e + 1)) as (λ d. elim d as (λ _. ℕ) [ inl _ ↦ s.order i | inr _ ↦ s.top + h.rank i ] ≡ s.top + h.rank i) [ inl x ↦ absurd (q x) | inr d ↦ refl ] in
-    record {
-      rank = rank;
-      ranked = λ i.
-          elim (same_or_not (mark_at ms i) (e + 1)) [
-            | inl q ↦
-                let x = done i q in
-                all-parts (λ k. (mark_at ms k ≡ e + 1) × (s.order k < s.order i)) (λ k. rank k < rank i) (parts (node_at ls i)) (λ k p. let y = done k p.0 in omega (arith, x, y, p.1)) (s.done i q).1
-            | inr q ↦
-                elim (o i) [
-                  | inr m ↦ absurd (q (among-done e ms is i a m))
-                  | inl same ↦
-                      let x = other i q in
-                      all-parts (λ k. h.rank k < h.rank i) (λ k. rank k < rank i) (parts (node_at ls i)) (λ k p.
-                      elim (same_or_not (mark_at ms k) (e + 1)) [
-                        | inl d ↦ let y = done k d in let z = (s.done k d).0 in omega (arith, x, y, z)
-                        | inr d ↦ let y = other k d in omega (arith, x, y, p)
-                      ]) (rw same (h.ranked i))
-                ]
-          ];
-    }

@@ -13,13 +13,14 @@ use Rattle.sml_solve.specs.declared.layer.Layer.TheVariants.{Equations, Finitene
 use Rattle.sml_solve.specs.declared.limits.Limit.{Limit}
 use Rattle.sml_solve.specs.declared.node.Node.{Node}
 use Rattle.sml_solve.specs.Worlds.{World, finite, Assignment}
-use Rattle.sml_solve.specs.Graphs.{node_at, Meets, MeetsPairs, SameSolutions, HasNoSolution}
+use Rattle.sml_solve.specs.Graphs.{node_at, parts, Meets, MeetsPairs, SameSolutions, HasNoSolution}
 use Rattle.sml_solve.specs.Interned.{Interns}
-use Rattle.sml_solve.specs.Ranks.{HasRank, mark_at, IsSearch}
+use Rattle.sml_solve.specs.Ranks.{HasRank, no_order, order_at, AreFrom, AreOrdered, IsOrdered, IsSearch}
 use Rattle.sml_solve.specs.Limits.{no_limit, limit_at, KeepsAt, IsClosed, IsFit, IsBefore, SameLimits, NoneKeeps}
 use Rattle.sml_solve.specs.Layers.{place_of}
 use Rattle.sml_solve.specs.Whole.{FailsFirst, FailsAt}
 use Rattle.sml_solve.proofs.Asking.{nothing-asked}
+use Rattle.sml_solve.proofs.Searching.{all-parts}
 use Rattle.sml_solve.proofs.Limiting.{none-closed, none-fits, closed-as}
 use Rattle.sml_solve.proofs.Ranking.{rank_of, finite_of, solution, ints, solution-meets, ints-keep}
 
@@ -29,15 +30,12 @@ get_or-push [] d (suc i) = refl
 get_or-push (x ∷ xs) d zero = refl
 get_or-push (x ∷ xs) d (suc i) = get_or-push xs d i
 
--- a search with nothing done
-pub search-none : (ns : List Node) (e : ℕ) (ms : List ℕ) → length ms ≡ length ns → ((i : ℕ) → mark_at ms i < e) → IsSearch ns e ms []
-search-none ns e ms n b = record {
+-- no node is being visited
+pub search-none : (ns : List Node) (e b : ℕ) (os : List ℕ) → length os ≡ length ns → 0 < e → 0 < b → AreFrom b os → IsSearch ns e os []
+search-none ns e b os n z p f = record {
   len = n;
-  below = λ i. let x = b i in omega (arith, x);
-  order = λ i. 0;
-  top = 0;
-  done = λ i q. let x = b i in absurd (omega (arith, x, q));
-  begun = λ i q. let x = b i in absurd (omega (arith, x, q));
+  positive = z;
+  begun = λ i q. let x = f i in absurd (omega (arith, x, q, p));
   visits = tt;
   apart = tt;
   falls = λ r a. tt;
@@ -67,6 +65,17 @@ ranked-more ns us t ms r x h =
     let g = x.forth finite f.0 f.1 in
     rank_of ms x.sound (g.0, g.1)
 
+pub ordered-more : (ns ms : List Node) (os ps : List ℕ) → length os ≡ length ns → ((i : ℕ) → i < length ns → node_at ms i ≡ node_at ns i) → ((i : ℕ) → order_at ps i ≡ order_at os i) → AreOrdered ns os → AreOrdered ms ps
+ordered-more ns ms os ps n before same a i h =
+    elim (cases_lt i (length ns)) [
+      | inl l ↦
+          let x : IsOrdered ns os i = a i (rw (same i) at h) in
+          rw (before i l) (all-parts (λ k. (0 < order_at os k) × (order_at os k < order_at os i)) (λ k. (0 < order_at ps k) × (order_at ps k < order_at ps i)) (parts (node_at ns i)) (λ k y. let p = same k in let q = same i in let u = y.0 in let v = y.1 in (omega (arith, p, u), omega (arith, p, q, v))) x)
+      | inr g ↦
+          let e : order_at ps i ≡ no_order = same i ∙ get_or_past os i no_order (omega (arith, g, n)) in
+          absurd (omega (arith, e, h))
+    ]
+
 pub on_true : (b : Bool) (P Q : Type 0) → OnTrue b P → (P → Q) → OnTrue b Q
 on_true true P Q a f = f a
 on_true false P Q a f = tt
@@ -74,6 +83,10 @@ on_true false P Q a f = tt
 pub on_true2 : (b : Bool) (P Q R : Type 0) → OnTrue b P → OnTrue b Q → (P → Q → R) → OnTrue b R
 on_true2 true P Q R a b f = f a b
 on_true2 false P Q R a b f = tt
+
+pub on_true3 : (b : Bool) (P Q R S : Type 0) → OnTrue b P → OnTrue b Q → OnTrue b R → (P → Q → R → S) → OnTrue b S
+on_true3 true P Q R S a b c f = f a b c
+on_true3 false P Q R S a b c f = tt
 
 -- one equation is solved
 

@@ -1,5 +1,5 @@
 -- The oldest unknowns that lead to nodes.
-use Rattle.std.specs.Prelude.{◌≡◌, ◌≢◌, ℕ, ◌+◌, ◌<◌, ◌≤◌, ◌^◌, ◌⊎◌, ◌↔◌, Bool, List, [], ◌∷◌, length, Option, Some, None, slice_index, slice_index_or}
+use Rattle.std.specs.Prelude.{◌≡◌, ◌≢◌, ℕ, ◌+◌, ◌-◌, ◌<◌, ◌≤◌, ◌^◌, ◌⊎◌, ◌↔◌, Bool, List, [], ◌∷◌, length, Option, Some, None, slice_index, slice_index_or}
 use Rattle.std.specs.List.{AllByRecursion}
 use Rattle.sml_solve.specs.declared.graph.Graph.{Graph}
 use Rattle.sml_solve.specs.declared.node.Node.{Node}
@@ -15,6 +15,10 @@ level_of (Some n) = n
 
 abbrev pub level_at : List (Option ℕ) → ℕ → ℕ
 level_at ls i = level_of (slice_index_or ls i None)
+
+-- how far the node's level is below those of all unknowns
+abbrev pub level_rank : List (Option ℕ) → ℕ → ℕ
+level_rank ls i = 2 ^ 32 - 1 - level_at ls i
 
 abbrev pub AreAtMost : List (Option ℕ) → ℕ → List ℕ → Type 0
 AreAtMost ls a ks = AllByRecursion (λ k. level_at ls k ≤ a) ks
@@ -32,12 +36,13 @@ abbrev pub IsLevelOf : List Node → List ℕ → ℕ → ℕ → Type 0
 IsLevelOf ns us n i = (n ≡ 2 ^ 32) ⊎ ((n < length us) × IsFixedBy ns (slice_index us n ∷ []) i)
 
 -- The levels of nodes: where an unknown leads to a node, the node's level is at most its number, and is the number of one
--- that fixes the node.
-pub record AreLevels (ns : List Node) (us : List ℕ) (ls : List (Option ℕ)) : Type 0 where
+-- that fixes the node. Those of some nodes are left to hand on.
+pub record AreLevels (ns : List Node) (us : List ℕ) (ls : List (Option ℕ)) (is : List ℕ) : Type 0 where
   pub within : length ls ≤ length ns
   pub begun : (v : ℕ) → v < length us → level_at ls (slice_index us v) ≤ v
-  pub handed : (i : ℕ) → IsHandedNode ls i (node_at ns i)
+  pub handed : AreHandedBut ns ls is
   pub exact : (i : ℕ) → IsLevelOf ns us (level_at ls i) i
+  pub inside : AllByRecursion (λ i. i < length ns) is
 
 -- One of the first n unknowns leads to the node, or it has a mark.
 abbrev pub IsHeld : List (Option ℕ) → ℕ → List Bool → ℕ → Type 0
@@ -50,9 +55,9 @@ pub record AreHeld (ns : List Node) (us : List ℕ) (ls : List (Option ℕ)) (n 
   pub each : (v : ℕ) → n ≤ v → v < length us → (r : ℕ) × IsSame ns (slice_index us v) r × IsRoot ns r × (IsMarked bs v ↔ IsHeld ls n ms r)
 
 -- what a solver keeps between two demands, with the levels
-pub record IsKeptWith (u : ℕ) (g : Graph) (us : List ℕ) (ls : List (Option ℕ)) : Type 0 where
+pub record IsKeptWith (u : ℕ) (g : Graph) (us : List ℕ) (ls : List (Option ℕ)) (is : List ℕ) : Type 0 where
   pub kept : IsKept u g us
-  pub levels : AreLevels g.nodes.items us ls
+  pub levels : AreLevels g.nodes.items us ls is
 
 -- More nodes, of which some that were there before have changed.
 pub record Moves (ns ms : List Node) (is : List ℕ) : Type 0 where

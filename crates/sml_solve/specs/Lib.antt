@@ -8,6 +8,7 @@ pub mod Variables
 pub mod Limits
 pub mod Layers
 pub mod Asked
+pub mod Clashes
 pub mod Whole
 pub mod Counted
 pub mod Left

@@ -1,10 +1,10 @@
--- Whether finite types meet the nodes.
-use Rattle.std.specs.Prelude.{◌≡◌, ℕ, suc, ◌+◌, ◌<◌, ◌≤◌, ◌⊎◌, List, [], ◌∷◌, length, slice_index, cond, nat_lt, ◌-◌}
+-- Whether finite types meet the nodes, and orders of nodes, which show it.
+use Rattle.std.specs.Prelude.{◌≡◌, ℕ, suc, ◌+◌, ◌<◌, ◌≤◌, ◌⊎◌, List, [], ◌∷◌, length, slice_index, slice_index_or, cond, nat_lt, ◌-◌}
 use Rattle.std.specs.List.{AllByRecursion}
 use Rattle.sml_solve.specs.declared.finite.Visit.{Visit}
 use Rattle.sml_solve.specs.declared.node.Node.{Node}
 use Rattle.sml_solve.specs.Worlds.{finite, Assignment}
-use Rattle.sml_solve.specs.Graphs.{node_at, parts, Meets}
+use Rattle.sml_solve.specs.Graphs.{node_at, parts, Meets, IsAmong}
 
 abbrev pub HasFinite : List Node → Type 0
 HasFinite ns = (σ : Assignment finite) × Meets finite ns σ
@@ -17,14 +17,42 @@ pub record HasRank (ns : List Node) : Type 0 where
   pub rank : ℕ → ℕ
   pub ranked : IsRanked ns rank
 
-abbrev pub mark_at : List ℕ → ℕ → ℕ
-mark_at ms i = slice_index ms i
+-- stands for the order of a node that has none
+abbrev pub no_order : ℕ
+no_order = 0xffff_ffff_ffff_ffff
+
+abbrev pub order_at : List ℕ → ℕ → ℕ
+order_at os i = slice_index_or os i no_order
+
+-- the number is above the orders of the node's parts
+abbrev pub IsAbove : List ℕ → Node → ℕ → Type 0
+IsAbove os x n = AllByRecursion (λ k. order_at os k < n) (parts x)
+
+-- the node's parts have orders, which are below the node's
+abbrev pub IsOrdered : List Node → List ℕ → ℕ → Type 0
+IsOrdered ns os i = AllByRecursion (λ k. (0 < order_at os k) × (order_at os k < order_at os i)) (parts (node_at ns i))
+
+-- so are those of each node that has one
+abbrev pub AreOrdered : List Node → List ℕ → Type 0
+AreOrdered ns os = (i : ℕ) → order_at os i < no_order → IsOrdered ns os i
+
+-- the same, but for some nodes
+abbrev pub AreOrderedBut : List Node → List ℕ → List ℕ → Type 0
+AreOrderedBut ns os is = (i : ℕ) → order_at os i < no_order → IsOrdered ns os i ⊎ IsAmong i is
+
+-- all orders are at or above the bottom
+abbrev pub AreFrom : ℕ → List ℕ → Type 0
+AreFrom b os = (i : ℕ) → b ≤ order_at os i
+
+-- the order is below the limit of a search; 0 stands for that of a node that is being visited
+abbrev pub IsDone : ℕ → ℕ → Type 0
+IsDone e n = (0 < n) × (n < e)
 
 -- each part that a visit has passed is done
-abbrev pub IsVisit : List Node → List ℕ → ℕ → Visit → Type 0
-IsVisit ns ms e v =
-    (v.node < length ns) × (v.next ≤ length (parts (node_at ns v.node))) × (mark_at ms v.node ≡ e)
-    × ((x : ℕ) → x < v.next → mark_at ms (slice_index (parts (node_at ns v.node)) x) ≡ e + 1)
+abbrev pub IsVisit : List Node → ℕ → List ℕ → Visit → Type 0
+IsVisit ns e os v =
+    (v.node < length ns) × (v.next ≤ length (parts (node_at ns v.node))) × (order_at os v.node ≡ 0)
+    × ((x : ℕ) → x < v.next → IsDone e (order_at os (slice_index (parts (node_at ns v.node)) x)))
 
 -- each visit's node is below those of the visits before it
 abbrev pub IsFalling : (ℕ → ℕ) → List Visit → Type 0
@@ -40,29 +68,29 @@ abbrev pub IsApart : List Visit → Type 0
 IsApart [] = Unit {0}
 IsApart (v ∷ vs) = (IsVisited v.node vs → ⊥) × IsApart vs
 
--- A search from some nodes: those with the mark e + 1 are done and have done parts below them; those with the mark e
--- are being visited; all others have older marks.
-pub record IsSearch (ns : List Node) (e : ℕ) (ms : List ℕ) (vs : List Visit) : Type 0 where
-  pub len : length ms ≡ length ns
-  pub below : (i : ℕ) → mark_at ms i < e + 2
-  pub order : ℕ → ℕ
-  pub top : ℕ
-  pub done : (i : ℕ) → mark_at ms i ≡ e + 1
-      → (order i < top) × AllByRecursion (λ k. (mark_at ms k ≡ e + 1) × (order k < order i)) (parts (node_at ns i))
-  pub begun : (i : ℕ) → mark_at ms i ≡ e → IsVisited i vs
-  pub visits : AllByRecursion (IsVisit ns ms e) vs
+-- A search that gives orders below e.
+pub record IsSearch (ns : List Node) (e : ℕ) (os : List ℕ) (vs : List Visit) : Type 0 where
+  pub len : length os ≡ length ns
+  pub positive : 0 < e
+  pub begun : (i : ℕ) → order_at os i ≡ 0 → IsVisited i vs
+  pub visits : AllByRecursion (IsVisit ns e os) vs
   pub apart : IsApart vs
   pub falls : (r : ℕ → ℕ) → IsRanked ns r → IsFalling r vs
 
--- what is done stays done
-abbrev pub KeepsDone : ℕ → List ℕ → List ℕ → Type 0
-KeepsDone e ms ls = (i : ℕ) → mark_at ms i ≡ e + 1 → mark_at ls i ≡ e + 1
+-- the node has an order from the lowest on and below the limit, which is above those of its parts
+abbrev pub IsGiven : List Node → ℕ → ℕ → List ℕ → ℕ → Type 0
+IsGiven ns low e os i = (low ≤ order_at os i) × (order_at os i < e) × IsOrdered ns os i
+
+-- A search has given some nodes their orders, and changed no order below the limit.
+pub record Gives (ns : List Node) (low e : ℕ) (os ps : List ℕ) : Type 0 where
+  pub keeps : (i : ℕ) → IsDone e (order_at os i) → order_at ps i ≡ order_at os i
+  pub given : (i : ℕ) → 0 < order_at ps i → (order_at ps i ≡ order_at os i) ⊎ IsGiven ns low e ps i
 
 -- how much of a search is left: the nodes that are new to it, with their parts, and the rest of each visit
 abbrev pub fresh_weight : ℕ → List Node → List ℕ → ℕ
-fresh_weight e [] ms = 0
+fresh_weight e [] os = 0
 fresh_weight e (n ∷ ns) [] = 0
-fresh_weight e (n ∷ ns) (m ∷ ms) = cond (nat_lt m e) (length (parts n) + 2) 0 + fresh_weight e ns ms
+fresh_weight e (n ∷ ns) (m ∷ os) = cond (nat_lt m e) 0 (length (parts n) + 2) + fresh_weight e ns os
 
 abbrev pub visit_weight : List Node → List Visit → ℕ
 visit_weight ns [] = 0

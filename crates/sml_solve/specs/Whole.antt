@@ -8,26 +8,27 @@ use Rattle.sml_solve.specs.declared.limits.Limit.{Limit}
 use Rattle.sml_solve.specs.declared.node.Node.{Node}
 use Rattle.sml_solve.specs.Worlds.{finite, Assignment}
 use Rattle.sml_solve.specs.Graphs.{IsSound, Meets, SameOutside, AreOwners}
-use Rattle.sml_solve.specs.Ranks.{HasRank, mark_at}
+use Rattle.sml_solve.specs.Ranks.{HasRank, AreFrom, AreOrdered, AreOrderedBut}
 use Rattle.sml_solve.specs.Layers.{place_of}
 use Rattle.sml_solve.specs.Limits.{KeepsAt, IsClosed, IsFit, IsDoneBut, SameLimits, NoneKeeps, Lowers}
 
--- the marks are older than the next search
-pub record IsMarkedBelow (g : Graph) : Type 0 where
-  pub below : (i : ℕ) → mark_at g.marks.items i < g.stamp
-  pub positive : 0 < g.stamp
+-- there is room below all orders
+pub record HasBottom (g : Graph) : Type 0 where
+  pub from : AreFrom g.bottom g.orders.items
+  pub positive : 0 < g.bottom
 
--- a limit and a mark for each node
+-- a limit and an order for each node
 pub record IsFull (g : Graph) : Type 0 where
   pub limits : length g.limits.items ≡ length g.nodes.items
-  pub marks : length g.marks.items ≡ length g.nodes.items
-  pub below : IsMarkedBelow g
+  pub orders : length g.orders.items ≡ length g.nodes.items
+  pub bottom : HasBottom g
 
 -- no node leads to itself, and the limits have been handed on and are kept
 pub record IsWhole (u : ℕ) (g : Graph) : Type 0 where
   pub full : IsFull g
   pub sound : IsSound g.nodes.items
   pub rank : HasRank g.nodes.items
+  pub ordered : AreOrdered g.nodes.items g.orders.items
   pub closed : IsClosed g.nodes.items g.limits.items
   pub fit : (l : Layer) → IsFit l u g.nodes.items g.limits.items
 
@@ -39,6 +40,7 @@ pub record IsChanged (u : ℕ) (g : Graph) (is : List ℕ) : Type 0 where
   pub before : List Node
   pub rank : HasRank before
   pub outside : SameOutside before g.nodes.items is
+  pub ordered : AreOrderedBut g.nodes.items g.orders.items is
   pub but : IsDoneBut u g.nodes.items g.limits.items None is
 
 -- the graph has become whole, and says the same
@@ -68,8 +70,8 @@ FailsAt Rigidity u g = FailsFirst Rigidity u g
 pub record LowersLimit (g : Graph) (r : ℕ) (a : Limit) (h : Graph) (is : List ℕ) : Type 0 where
   pub nodes : h.nodes.items ≡ g.nodes.items
   pub lowers : Lowers g.limits.items [] (r ∷ []) a h.limits.items is
-  pub marks : h.marks.items ≡ g.marks.items
-  pub stamp : h.stamp ≡ g.stamp
+  pub orders : h.orders.items ≡ g.orders.items
+  pub bottom : h.bottom ≡ g.bottom
 
 -- what a solver keeps between two demands
 pub record IsKept (u : ℕ) (g : Graph) (us : List ℕ) : Type 0 where

@@ -1,13 +1,17 @@
-//! Whether finite types meet the nodes. The search goes from the nodes that were changed.
+//! Whether finite types meet the nodes. The search goes from the nodes that were changed, and stops at those that have
+//! their order.
 
-ghost use Rattle.std.specs.Prelude.{◌≡◌, ℕ, ◌+◌, ◌^◌, ◌<◌, ◌≤◌, [], length, slice_index, IfOk, OnSome};
+ghost use Rattle.std.specs.Prelude.{◌≡◌, ℕ, ◌+◌, ◌++◌, ◌^◌, ◌<◌, ◌≤◌, List, [], length, slice_index, IfOk, OnOk, OnSome};
 ghost use Rattle.std.specs.Bool.{OnTrue, OnFalse};
 ghost use Rattle.std.specs.Option.{IfSome, IfNone};
 ghost use Rattle.std.specs.List.{AllByRecursion};
-ghost use Rattle.sml_solve.specs.Graphs.{IsSound, parts};
-ghost use Rattle.sml_solve.specs.Ranks.{HasRank, IsSearch, KeepsDone, mark_at};
+ghost use Rattle.sml_solve.specs.declared.node.Node.{Node};
+ghost use Rattle.sml_solve.specs.Graphs.{IsSound, SameOutside, parts};
+ghost use Rattle.sml_solve.specs.Ranks.{HasRank, AreFrom, AreOrdered, AreOrderedBut, Gives, IsDone, IsSearch, order_at};
 
 use crate::node::Node;
+use crate::orders::{NO_ORDER, Orders, unordered};
+use crate::reach::push_parts;
 use sml_lex::fault::Memory;
 use std::alloc::Global;
 
@@ -39,42 +43,44 @@ fn part_at(node: &Node, next: usize) -> Option<usize>
     }
 }
 
-/// Visits a node and all that it leads to, and marks them as done. `false` where a node leads to itself.
+/// Visits a node and all that it leads to without an order below the limit, and gives each its order. `false` where a
+/// node leads to itself.
 fn search(
     alloc: Global,
     nodes: &[Node],
-    marks: &mut [u64],
-    begun: u64,
+    orders: &mut [u64],
+    given: &mut Orders,
     root: usize,
 ) -> Result<bool, Memory>
     requires sound { IsSound nodes.now }
-    requires room { begun + 2 < 2 ^ 64 }
-    requires positive { 0 < begun }
+    requires positive { 0 < given.old.lowest }
     requires inside { root < length nodes.now }
-    requires search { IsSearch nodes.now begun marks.old [] }
-    requires new { mark_at marks.old root < begun }
-    ensures search { IfOk result (λ found. OnTrue found (IsSearch nodes.now begun marks.new [])) }
-    ensures done { IfOk result (λ found. OnTrue found (mark_at marks.new root ≡ begun + 1)) }
-    ensures keeps { IfOk result (λ found. OnTrue found (KeepsDone begun marks.old marks.new)) }
+    requires search { IsSearch nodes.now given.old.limit orders.old [] }
+    requires new { given.old.limit ≤ order_at orders.old root }
+    ensures search { IfOk result (λ found. OnTrue found (IsSearch nodes.now given.old.limit orders.new [])) }
+    ensures done { IfOk result (λ found. OnTrue found (IsDone given.old.limit (order_at orders.new root))) }
+    ensures gives { IfOk result (λ found. OnTrue found (Gives nodes.now given.old.lowest given.old.limit orders.old orders.new)) }
+    ensures lowest { OnOk result (given.new.lowest ≡ given.old.lowest) }
+    ensures limit { OnOk result (given.new.limit ≡ given.old.limit) }
     ensures no { IfOk result (λ found. OnFalse found (HasRank nodes.now → ⊥)) }
 {
     let mut visits = Vec::new(alloc);
-    marks[root] = begun;
+    orders[root] = 0;
     visits.push(Visit {
         node: root,
         next: 0,
     })?;
     while let Some(visit) = visits.pop() {
         match part_at(&nodes[visit.node], visit.next) {
-            None => marks[visit.node] = begun + 1,
+            None => orders[visit.node] = given.of(orders, &nodes[visit.node])?,
             Some(part) => {
-                let mark = marks[part];
-                if mark == begun {
+                let order = orders[part];
+                if order == 0 {
                     return Ok(false);
                 }
-                if mark < begun {
+                if given.limit <= order {
                     visits.push(visit)?;
-                    marks[part] = begun;
+                    orders[part] = 0;
                     visits.push(Visit {
                         node: part,
                         next: 0,
@@ -91,27 +97,83 @@ fn search(
     Ok(true)
 }
 
-/// Visits some nodes and all that they lead to. `false` where a node leads to itself.
-pub(crate) fn is_finite_from(
+/// Gives some nodes and all that they lead to an order below the limit. `false` where a node leads to itself.
+fn give_orders(
     alloc: Global,
     nodes: &[Node],
-    marks: &mut [u64],
-    begun: u64,
+    orders: &mut [u64],
+    given: &mut Orders,
     from: &[usize],
 ) -> Result<bool, Memory>
     requires sound { IsSound nodes.now }
-    requires room { begun + 2 < 2 ^ 64 }
-    requires positive { 0 < begun }
+    requires positive { 0 < given.old.lowest }
     requires inside { AllByRecursion (λ i. i < length nodes.now) from.now }
-    requires search { IsSearch nodes.now begun marks.old [] }
-    ensures search { IfOk result (λ found. OnTrue found (IsSearch nodes.now begun marks.new [])) }
-    ensures done { IfOk result (λ found. OnTrue found (AllByRecursion (λ i. mark_at marks.new i ≡ begun + 1) from.now)) }
+    requires search { IsSearch nodes.now given.old.limit orders.old [] }
+    ensures search { IfOk result (λ found. OnTrue found (IsSearch nodes.now given.old.limit orders.new [])) }
+    ensures done { IfOk result (λ found. OnTrue found (AllByRecursion (λ i. IsDone given.old.limit (order_at orders.new i)) from.now)) }
+    ensures gives { IfOk result (λ found. OnTrue found (Gives nodes.now given.old.lowest given.old.limit orders.old orders.new)) }
     ensures no { IfOk result (λ found. OnFalse found (HasRank nodes.now → ⊥)) }
 {
     for root in from {
-        if marks[*root] < begun && !search(alloc, nodes, marks, begun, *root)? {
+        if given.limit <= orders[*root] && !search(alloc, nodes, orders, given, *root)? {
             return Ok(false);
         }
     }
     Ok(true)
+}
+
+/// Some nodes and their parts.
+fn with_parts(alloc: Global, nodes: &[Node], some: &[usize]) -> Result<Vec<usize>, Memory>
+    requires sound { IsSound nodes.now }
+    requires inside { AllByRecursion (λ i. i < length nodes.now) some.now }
+    ensures inside { IfOk result (λ all. AllByRecursion (λ i. i < length nodes.now) all.items) }
+    ensures some { IfOk result (λ all. (more : List ℕ) × (all.items ≡ some.now ++ more)) }
+{
+    let mut all = Vec::from_slice(alloc, some)?;
+    for at in some {
+        push_parts(&mut all, &nodes[*at])?;
+    }
+    Ok(all)
+}
+
+/// Whether no node leads to itself, as far as that may have changed. What has no order gets one above those of its
+/// parts; a node that was changed and isn't above its parts goes with all that it leads to below all other nodes.
+pub(crate) fn is_finite(
+    alloc: Global,
+    nodes: &[Node],
+    orders: &mut [u64],
+    bottom: &mut u64,
+    top: &mut u64,
+    changed: &[usize],
+) -> Result<bool, Memory>
+    requires sound { IsSound nodes.now }
+    requires len { length orders.old ≡ length nodes.now }
+    requires from { AreFrom bottom.old orders.old }
+    requires positive { 0 < bottom.old }
+    requires ordered { AreOrderedBut nodes.now orders.old changed.now }
+    requires inside { AllByRecursion (λ i. i < length nodes.now) changed.now }
+    ensures from { IfOk result (λ b. OnTrue b (AreFrom bottom.new orders.new)) }
+    ensures positive { IfOk result (λ b. OnTrue b (0 < bottom.new)) }
+    ensures ordered { IfOk result (λ b. OnTrue b (AreOrdered nodes.now orders.new)) }
+    ensures yes { IfOk result (λ b. OnTrue b ((before : List Node) → HasRank before → SameOutside before nodes.now changed.now → HasRank nodes.now)) }
+    ensures no { IfOk result (λ b. OnFalse b (HasRank nodes.now → ⊥)) }
+{
+    let mut new = Orders {
+        lowest: *bottom,
+        limit: NO_ORDER,
+        next: *top,
+    };
+    let from = with_parts(alloc, nodes, changed)?;
+    if !give_orders(alloc, nodes, orders, &mut new, from.as_slice())? {
+        return Ok(false);
+    }
+    *top = new.next;
+    let again = unordered(alloc, nodes, orders, changed)?;
+    if again.is_empty() {
+        return Ok(true);
+    }
+    let mut below = Orders::below(*bottom, nodes.len())?;
+    *bottom = below.lowest;
+    let found = give_orders(alloc, nodes, orders, &mut below, again.as_slice())?;
+    Ok(found)
 }

@@ -1,4 +1,4 @@
-//! The graph of a solver: its nodes, what is asked of each, and the marks of searches through them.
+//! The graph of a solver: its nodes, what is asked of each, and their order.
 
 ghost use Rattle.std.specs.Prelude.{◌≡◌, ◌≢◌, ℕ, ◌<◌, ◌≤◌, ◌↔◌, List, None, length, IfOk, OnOk, Err};
 ghost use Rattle.std.specs.Bool.{OnTrue, OnFalse};
@@ -10,40 +10,43 @@ ghost use Rattle.sml_solve.specs.declared.node.Node.{Node};
 ghost use Rattle.sml_solve.specs.Worlds.{World, Assignment, finite};
 ghost use Rattle.sml_solve.specs.Graphs.{IsSound, Meets, SameOutside};
 ghost use Rattle.sml_solve.specs.Interned.{IsOver, Interns};
-ghost use Rattle.sml_solve.specs.Ranks.{HasRank, mark_at};
+ghost use Rattle.sml_solve.specs.Ranks.{order_at};
 ghost use Rattle.sml_solve.specs.Limits.{limit_at, IsClosed, IsFit, IsBefore, IsDoneBut, SameLimits, NoneKeeps};
-ghost use Rattle.sml_solve.specs.Whole.{IsFull, IsMarkedBelow, IsWhole, IsChanged, Finishes, FailsAt};
+ghost use Rattle.sml_solve.specs.Whole.{IsFull, HasBottom, IsWhole, IsChanged, Finishes, FailsAt};
 
-use crate::finite::is_finite_from;
+use crate::finite::is_finite;
 use crate::intern::intern;
 use crate::layer::{Layer, Refusal};
 use crate::limits::{Limit, hand_on_all};
 use crate::merge::{Unsolved, solve};
 use crate::node::Node;
+use crate::orders::NO_ORDER;
 use sml_lex::fault::Memory;
 use sml_objects::objects::{MlType, UnitId};
 use std::alloc::Global;
 
-/// Nodes, what is asked of each, and the marks of searches, which are below the stamp.
+/// Nodes, what is asked of each, and the order of each. All orders are at or above the bottom, and new ones come at the top.
 #[derive(Drop)]
 pub struct Graph {
     pub(crate) nodes: Vec<Node>,
     pub(crate) limits: Vec<Limit>,
-    pub(crate) marks: Vec<u64>,
-    pub(crate) stamp: u64,
+    pub(crate) orders: Vec<u64>,
+    pub(crate) bottom: u64,
+    pub(crate) top: u64,
 }
 
-/// Adds limits and marks for the nodes that have none yet.
+/// Adds limits and orders for the nodes that have none yet.
 pub(crate) fn fill(graph: &mut Graph) -> Result<(), Memory>
-    requires limits { length graph.old.limits.items ≡ length graph.old.marks.items }
-    requires below { IsMarkedBelow graph.old }
+    requires limits { length graph.old.limits.items ≡ length graph.old.orders.items }
+    requires bottom { HasBottom graph.old }
     ensures nodes { OnOk result (graph.new.nodes.items ≡ graph.old.nodes.items) }
     ensures limits { OnOk result ((i : ℕ) → limit_at graph.new.limits.items i ≡ limit_at graph.old.limits.items i) }
-    ensures full { OnOk result (length graph.old.marks.items ≤ length graph.old.nodes.items → IsFull graph.new) }
+    ensures orders { OnOk result ((i : ℕ) → order_at graph.new.orders.items i ≡ order_at graph.old.orders.items i) }
+    ensures full { OnOk result (length graph.old.orders.items ≤ length graph.old.nodes.items → IsFull graph.new) }
 {
-    while graph.marks.len() < graph.nodes.len() {
+    while graph.orders.len() < graph.nodes.len() {
         graph.limits.push(Limit::none())?;
-        graph.marks.push(0)?;
+        graph.orders.push(NO_ORDER)?;
     }
     Ok(())
 }
@@ -100,34 +103,6 @@ pub(crate) fn merge_two(
     }
 }
 
-/// Whether no node leads to itself, as far as that may have changed.
-fn is_finite(
-    alloc: Global,
-    nodes: &[Node],
-    marks: &mut Vec<u64>,
-    stamp: &mut u64,
-    changed: &[usize],
-) -> Result<bool, Memory>
-    requires sound { IsSound nodes.now }
-    requires len { length marks.old.items ≡ length nodes.now }
-    requires below { (i : ℕ) → mark_at marks.old.items i < stamp.old }
-    requires positive { 0 < stamp.old }
-    requires inside { AllByRecursion (λ i. i < length nodes.now) changed.now }
-    ensures len { IfOk result (λ b. OnTrue b (length marks.new.items ≡ length nodes.now)) }
-    ensures below { IfOk result (λ b. OnTrue b ((i : ℕ) → mark_at marks.new.items i < stamp.new)) }
-    ensures positive { IfOk result (λ b. OnTrue b (0 < stamp.new)) }
-    ensures yes { IfOk result (λ b. OnTrue b ((before : List Node) → HasRank before → SameOutside before nodes.now changed.now → HasRank nodes.now)) }
-    ensures no { IfOk result (λ b. OnFalse b (HasRank nodes.now → ⊥)) }
-{
-    let begun = *stamp;
-    match begun.checked_add(2) {
-        Some(next) => *stamp = next,
-        None => return Err(Memory),
-    }
-    let found = is_finite_from(alloc, nodes, marks.as_mut_slice(), begun, changed)?;
-    Ok(found)
-}
-
 /// Hands the limits of the nodes that were changed on. Gives the first layer in which a limit isn't kept.
 fn hand_on_from(
     alloc: Global,
@@ -164,7 +139,15 @@ pub(crate) fn finish(
     ensures spent { result ≡ Err Refusal.Spent → ⊥ }
 {
     let nodes = graph.nodes.as_slice();
-    if !is_finite(alloc, nodes, &mut graph.marks, &mut graph.stamp, changed)? {
+    let orders = graph.orders.as_mut_slice();
+    if !is_finite(
+        alloc,
+        nodes,
+        orders,
+        &mut graph.bottom,
+        &mut graph.top,
+        changed,
+    )? {
         return Err(Refusal::Unmet(Layer::Finiteness));
     }
     match hand_on_from(alloc, nodes, &mut graph.limits, unit, changed)? {

@@ -4,8 +4,9 @@
 ghost use Rattle.std.specs.Prelude.{◌≡◌, ◌↔◌, ◌<◌, ◌≤◌, ◌^◌, [], ◌∷◌, true, false, length, slice_index_or, IfOk, OnOk};
 ghost use Rattle.std.specs.Bool.{OnTrue, OnFalse};
 ghost use Rattle.std.specs.List.{AllByRecursion};
+ghost use Rattle.std.specs.List.Sorted.{IsPermutation, IsNonDecreasingBy};
 ghost use Rattle.sml_solve.specs.Graphs.{IsSound, parts};
-ghost use Rattle.sml_solve.specs.Levels.{level_of, level_at, AreHandedBut, AreHeld, BeginsLevel, LowersLevels, HandsLevels};
+ghost use Rattle.sml_solve.specs.Levels.{level_of, level_at, level_rank, AreHandedBut, AreHeld, BeginsLevel, LowersLevels, HandsLevels};
 
 use crate::count::root_of;
 use crate::node::Node;
@@ -87,6 +88,29 @@ fn hand_level_on(
         Node::Link(to) => lower_level(levels, pending, *to, level),
         Node::App(_, kids) => lower_levels(levels, pending, kids.as_slice(), level),
     }
+}
+
+/// Where a node comes in the order in which levels are handed on: the lower its level, the later.
+fn rank_of(levels: &[Option<u32>], node: usize) -> u32
+    ensures { result ≡ level_rank levels.now node }
+{
+    if node < levels.len() {
+        match levels[node] {
+            Some(level) => u32::MAX - level,
+            None => 0,
+        }
+    } else {
+        0
+    }
+}
+
+/// Nodes, those with the lowest levels last. So each node gets a level once, where levels are handed on from the last.
+pub(crate) fn by_level(levels: &[Option<u32>], mut nodes: Vec<usize>) -> Result<Vec<usize>, Memory>
+    ensures permutation { IfOk result (λ sorted. IsPermutation nodes.items sorted.items) }
+    ensures order { IfOk result (λ sorted. IsNonDecreasingBy (level_rank levels.now) sorted.items) }
+{
+    nodes.sort_by_key(|node| rank_of(levels, *node))?;
+    Ok(nodes)
 }
 
 /// Hands the levels of the nodes that are left to do on to all that they lead to. Nodes that have no level yet may be

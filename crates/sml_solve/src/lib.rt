@@ -13,6 +13,7 @@ mod levels;
 mod limits;
 mod merge;
 mod node;
+mod orders;
 mod reach;
 mod reading;
 mod settling;

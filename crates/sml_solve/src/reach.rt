@@ -11,7 +11,7 @@ use sml_lex::fault::Memory;
 use std::alloc::Global;
 
 /// Adds the parts of a node.
-fn push_parts(pending: &mut Vec<usize>, node: &Node) -> Result<(), Memory>
+pub(crate) fn push_parts(pending: &mut Vec<usize>, node: &Node) -> Result<(), Memory>
     ensures { OnOk result (pending.new.items ≡ pending.old.items ++ parts node.now) }
 {
     match node {

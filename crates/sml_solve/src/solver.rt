@@ -14,6 +14,7 @@ ghost use Rattle.sml_solve.specs.declared.layer.Layer.{Layer};
 ghost use Rattle.sml_solve.specs.declared.layer.Layer.TheVariants.{Finiteness};
 ghost use Rattle.sml_solve.specs.Worlds.{finite, Assignment};
 ghost use Rattle.sml_solve.specs.Asked.{Asked, asked_of, equal, asks, count, IsOf, IsSchemeOf, Adds, CanMeet, IsFirstUnmet, IsMet, Permits, PermitsSame};
+ghost use Rattle.sml_solve.specs.Clashes.{ClashesAreUnmet};
 ghost use Rattle.sml_solve.specs.Counted.{IsSizeUpTo};
 ghost use Rattle.sml_solve.specs.Fixed.{AreFixed, IsFixed, IsOpen};
 ghost use Rattle.sml_solve.specs.Graphs.{IsAmong};
@@ -28,8 +29,9 @@ use crate::count::size_from;
 use crate::demands::{equate, impose};
 use crate::graph::{Graph, add, fill};
 use crate::layer::{Ask, Bound, Layer, Refusal};
-use crate::levels::{begin_level, hand_levels_on, held_unknowns};
+use crate::levels::{begin_level, by_level, hand_levels_on, held_unknowns};
 use crate::node::Node;
+use crate::orders::MIDDLE;
 use crate::reach::{has_flag, marks_from, places};
 use crate::reading::type_up_to;
 use crate::settling::has_several_names;
@@ -39,6 +41,7 @@ use sml_objects::objects::{Initial, MlType, Scheme, TyName, UnitId};
 use sml_objects::schemes::instantiate;
 use std::alloc::Global;
 use std::marker::Model;
+use std::mem;
 use std::rc::Rc;
 
 /// What was asked of unknown types so far. A type speaks of the unknown with a number as the free variable of that
@@ -50,6 +53,7 @@ pub struct Solver {
     graph: Graph,
     unknowns: Vec<usize>,
     levels: Vec<Option<u32>>,
+    left: Vec<usize>,
     spent: bool,
 }
 
@@ -58,7 +62,7 @@ impl Model for Solver {
 
     ghost view = { λ s. asked_of (maker_of s.unit) s.unknowns.items s.graph s.spent };
 
-    ghost invariant = { λ s. s.spent ≡ false → IsKeptWith (maker_of s.unit) s.graph s.unknowns.items s.levels.items };
+    ghost invariant = { λ s. s.spent ≡ false → IsKeptWith (maker_of s.unit) s.graph s.unknowns.items s.levels.items s.left.items };
 }
 
 impl Solver {
@@ -72,8 +76,9 @@ impl Solver {
         let graph = Graph {
             nodes: Vec::new(alloc),
             limits: Vec::new(alloc),
-            marks: Vec::new(alloc),
-            stamp: 1,
+            orders: Vec::new(alloc),
+            bottom: MIDDLE,
+            top: MIDDLE,
         };
         Solver {
             alloc,
@@ -81,6 +86,7 @@ impl Solver {
             graph,
             unknowns: Vec::new(alloc),
             levels: Vec::new(alloc),
+            left: Vec::new(alloc),
             spent: false,
         }
     }
@@ -250,10 +256,7 @@ impl Solver {
         }
         match fixed_flags(self, first, others) {
             Ok(flags) => Ok(flags),
-            Err(_) => {
-                self.spent = true;
-                Err(Refusal::Memory)
-            }
+            Err(_) => Err(Refusal::Memory),
         }
     }
 
@@ -294,6 +297,14 @@ impl Solver {
     pub fn choices_are_free(&self)
         requires { self.now.spent ≡ false }
         ensures { IsMostGeneral self.now }
+    {
+        let _spent = self.spent;
+    }
+
+    /// A law: where equations that were asked, closed under symmetry, transitivity and components, clash with one more,
+    /// that one is refused with U1.
+    pub fn clashes_are_unmet(&self)
+        ensures { ClashesAreUnmet self.now }
     {
         let _spent = self.spent;
     }
@@ -410,8 +421,7 @@ impl Solver {
             right,
         ) {
             Ok(changed) => {
-                let nodes = self.graph.nodes.as_slice();
-                if let Err(_) = hand_levels_on(nodes, &mut self.levels, changed) {
+                if let Err(_) = self.left.extend_from_slice(changed.as_slice()) {
                     return Err(Refusal::Memory);
                 }
                 self.spent = false;
@@ -510,25 +520,35 @@ impl Solver {
 }
 
 /// A flag for each unknown that the first unknowns and others fix.
-fn fixed_flags(solver: &Solver, first: usize, others: &[u32]) -> Result<Vec<bool>, Memory>
-    requires kept { solver.now.spent ≡ false }
-    requires first { first ≤ count solver.now }
-    requires others { AllByRecursion (λ w. w < count solver.now) others.now }
-    ensures { IfOk result (λ flags. AreFixed solver.now first others.now flags.items) }
+fn fixed_flags(solver: &mut Solver, first: usize, others: &[u32]) -> Result<Vec<bool>, Memory>
+    requires kept { solver.old.spent ≡ false }
+    requires first { first ≤ count solver.old }
+    requires others { AllByRecursion (λ w. w < count solver.old) others.now }
+    ensures flags { IfOk result (λ flags. AreFixed solver.old first others.now flags.items) }
+    ensures same { OnOk result (solver.new ≡ solver.old) }
+    ensures count { count solver.new ≡ count solver.old }
+    ensures unit { solver.new.unit ≡ solver.old.unit }
+    ensures err { OnErr result (solver.new.spent ≡ true) }
 {
+    solver.spent = true;
+    let left = mem::replace(&mut solver.left, Vec::new(solver.alloc));
+    let pending = by_level(solver.levels.as_slice(), left)?;
+    hand_levels_on(solver.graph.nodes.as_slice(), &mut solver.levels, pending)?;
     let unknowns = solver.unknowns.as_slice();
     let nodes = solver.graph.nodes.as_slice();
     let levels = solver.levels.as_slice();
     let from = places(solver.alloc, unknowns, others)?;
     let marks = marks_from(solver.alloc, nodes, from.as_slice())?;
-    held_unknowns(
+    let flags = held_unknowns(
         solver.alloc,
         nodes,
         unknowns,
         levels,
         first,
         marks.as_slice(),
-    )
+    )?;
+    solver.spent = false;
+    Ok(flags)
 }
 
 /// The scheme of a type over unknowns that are left.

@@ -5,6 +5,7 @@ ghost use Rattle.sml_objects.specs.Views.{type_of, scheme_of};
 ghost use Rattle.sml_solve.specs.Asked.{count};
 ghost use Rattle.sml_solve.specs.Interned.{IsOver, IsBodyOver};
 
+mod chains;
 mod memory;
 
 use crate::class::Class;

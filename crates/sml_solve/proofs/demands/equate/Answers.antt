@@ -1,4 +1,4 @@
-use Rattle.std.proofs.Common.{◌≡◌, length, ap, refl, sym, ◌∙◌, arith, subst, Err}
+use Rattle.std.proofs.Common.{◌≡◌, length, ap, refl, inl, inr, sym, ◌∙◌, arith, subst, Err}
 use Rattle.std.specs.Prelude.{false}
 use Rattle.sml_objects.specs.Views.{type_of, maker_of}
 use Rattle.sml_solve.specs.declared.graph.Graph.{Graph}
@@ -36,14 +36,15 @@ finish-requires c =
     rw c.as_slice.ensures.value record {
       full = record {
         limits = w.full.limits ∙ sym n;
-        marks = w.full.marks ∙ sym n;
-        below = record { below = w.full.below.below; positive = w.full.below.positive };
+        orders = w.full.orders ∙ sym n;
+        bottom = record { from = w.full.bottom.from; positive = w.full.bottom.positive };
       };
       sound = c.in-Ok-merge_two.ensures.sound;
       inside = rw n c.in-Ok-merge_two.ensures.inside;
       before = k.nodes.items;
       rank = w.rank;
       outside = c.in-Ok-merge_two.ensures.outside;
+      ordered = λ i h. elim (c.in-Ok-merge_two.ensures.outside i) [ inl q ↦ inl (rw q (w.ordered i h)) | inr a ↦ inr a ];
       but = changed-but u k.nodes.items c.merge_two.new.nodes.items k.limits.items c.in-Ok-merge_two.changed.items w.closed w.fit c.in-Ok-merge_two.ensures.outside;
     }
 
@@ -58,7 +59,7 @@ returns-in-Err-finish-clause-unmet c l e =
     let k = c.add-2.new.graph in
     let gx : Grows us t g h c.in-Ok.first = record { interns = c.in-Ok.ensures.interns; limits = c.in-Ok.ensures.limits } in
     let gy : Grows us v h k c.in-Ok-add.second = record { interns = c.in-Ok-add.ensures.interns; limits = c.in-Ok-add.ensures.limits } in
-    let m : Graph = record { nodes = c.merge_two.new.nodes; limits = k.limits; marks = k.marks; stamp = k.stamp } in
+    let m : Graph = record { nodes = c.merge_two.new.nodes; limits = k.limits; orders = k.orders; bottom = k.bottom; top = k.top } in
     let x : Stands (asked_of u us g false) (equal t v) m = stands-equal u us false t v g h k m c.in-Ok.first c.in-Ok-add.second c.requires.kept.whole.full c.in-Ok.ensures.full c.requires.kept.owners.inside c.requires.left c.requires.right gx gy c.in-Ok-merge_two.ensures.same refl in
     failing-first (asked_of u us g false) (equal t v) m x c.in-Ok-merge_two.ensures.sound l (let r : c.in-Err-finish.refusal ≡ Unmet l = cc in c.in-Err-finish.ensures.unmet l (ap Err r))
 
@@ -71,7 +72,7 @@ returns-in-Ok-finish-clause-kept c =
     let k = c.add-2.new.graph in
     let gx : Grows us (type_of c.args.left.now) g h c.in-Ok.first = record { interns = c.in-Ok.ensures.interns; limits = c.in-Ok.ensures.limits } in
     let gy : Grows us (type_of c.args.right.now) h k c.in-Ok-add.second = record { interns = c.in-Ok-add.ensures.interns; limits = c.in-Ok-add.ensures.limits } in
-    let m : Graph = record { nodes = c.merge_two.new.nodes; limits = k.limits; marks = k.marks; stamp = k.stamp } in
+    let m : Graph = record { nodes = c.merge_two.new.nodes; limits = k.limits; orders = k.orders; bottom = k.bottom; top = k.top } in
     let w : IsWhole u k = c.in-Ok-add.ensures.whole u (c.in-Ok.ensures.whole u c.requires.kept.whole) in
     kept-merged u us (type_of c.args.left.now) (type_of c.args.right.now) g h k m c.finish.new.graph c.in-Ok.first c.in-Ok-add.second c.requires.kept gx gy w.sound c.in-Ok-merge_two.ensures.len (λ σ q. ((c.in-Ok-merge_two.ensures.same finite σ).0 q).0) c.in-Ok-finish.ensures.ok
 
@@ -86,7 +87,7 @@ returns-in-Ok-finish-clause-ok c =
     let k = c.add-2.new.graph in
     let gx : Grows us t g h c.in-Ok.first = record { interns = c.in-Ok.ensures.interns; limits = c.in-Ok.ensures.limits } in
     let gy : Grows us v h k c.in-Ok-add.second = record { interns = c.in-Ok-add.ensures.interns; limits = c.in-Ok-add.ensures.limits } in
-    let m : Graph = record { nodes = c.merge_two.new.nodes; limits = k.limits; marks = k.marks; stamp = k.stamp } in
+    let m : Graph = record { nodes = c.merge_two.new.nodes; limits = k.limits; orders = k.orders; bottom = k.bottom; top = k.top } in
     let x : Stands (asked_of u us g false) (equal t v) m = stands-equal u us false t v g h k m c.in-Ok.first c.in-Ok-add.second c.requires.kept.whole.full c.in-Ok.ensures.full c.requires.kept.owners.inside c.requires.left c.requires.right gx gy c.in-Ok-merge_two.ensures.same refl in
     finished-adds (asked_of u us g false) (equal t v) m c.finish.new.graph false x c.in-Ok-finish.ensures.ok
 
@@ -101,7 +102,7 @@ returns-in-Ok-finish-clause-met c =
     let k = c.add-2.new.graph in
     let gx : Grows us t g h c.in-Ok.first = record { interns = c.in-Ok.ensures.interns; limits = c.in-Ok.ensures.limits } in
     let gy : Grows us v h k c.in-Ok-add.second = record { interns = c.in-Ok-add.ensures.interns; limits = c.in-Ok-add.ensures.limits } in
-    let m : Graph = record { nodes = c.merge_two.new.nodes; limits = k.limits; marks = k.marks; stamp = k.stamp } in
+    let m : Graph = record { nodes = c.merge_two.new.nodes; limits = k.limits; orders = k.orders; bottom = k.bottom; top = k.top } in
     let x : Stands (asked_of u us g false) (equal t v) m = stands-equal u us false t v g h k m c.in-Ok.first c.in-Ok-add.second c.requires.kept.whole.full c.in-Ok.ensures.full c.requires.kept.owners.inside c.requires.left c.requires.right gx gy c.in-Ok-merge_two.ensures.same refl in
     finished-met (asked_of u us g false) (equal t v) m c.finish.new.graph (λ e. omega (arith, e)) x c.in-Ok-finish.ensures.ok
 

@@ -2,7 +2,7 @@ use Rattle.std.proofs.Common.{arith}
 use Rattle.sml_objects.specs.Views.{type_of}
 use Rattle.sml_solve.specs.Interned.{Interns}
 use Rattle.sml_solve.specs.Ranks.{HasRank}
-use Rattle.sml_solve.proofs.Wholeness.{closed-more, fit-more, ranked-more}
+use Rattle.sml_solve.proofs.Wholeness.{ordered-more, closed-more, fit-more, ranked-more}
 use Rattle.sml_solve.proofs.graph.add.Goals as goal
 
 pub returns-clause-whole : goal.returns-clause-whole
@@ -16,9 +16,10 @@ returns-clause-whole c u w =
     let n = c.args.graph.now.limits.items in
     let m = c.fill.new.graph.limits.items in
     record {
-      full = f.full (omega (arith, w.full.marks, x.len));
+      full = f.full (omega (arith, w.full.orders, x.len));
       sound = rw f.nodes x.sound;
       rank = rw f.nodes rank;
+      ordered = rw f.nodes (ordered-more ns c.intern.new.nodes.items c.args.graph.now.orders.items c.fill.new.graph.orders.items w.full.orders x.before f.orders w.ordered);
       closed = rw f.nodes (closed-more ns c.intern.new.nodes.items n m w.full.limits x.before f.limits w.closed);
       fit = λ l. rw f.nodes (fit-more l u ns c.intern.new.nodes.items n m w.full.limits x.before f.limits (w.fit l));
     }

@@ -1,5 +1,6 @@
 use Rattle.std.proofs.Common.{◌≡◌, ◌+◌, ◌++◌, ◌∷◌, [], ap, ◌∙◌, arith, length-append, length}
 use Rattle.sml_solve.specs.Limits.{no_limit, limit_at}
+use Rattle.sml_solve.specs.Ranks.{no_order, order_at}
 use Rattle.sml_solve.proofs.Wholeness.{get_or-push}
 use Rattle.sml_solve.proofs.graph.fill.Goals as goal
 
@@ -8,14 +9,15 @@ loop-graph-preserved c =
     let i = c.loop-graph.invariant in
     let g = c.loop-graph.graph in
     let a : length c.push.new.self.items ≡ length g.limits.items + 1 = ap length c.in_ok-push.ensures.items ∙ simp length-append in
-    let b : length c.push-in-loop-graph.new.self.items ≡ length g.marks.items + 1 = ap length c.in_ok-push-2.ensures.items ∙ simp length-append in
+    let b : length c.push-in-loop-graph.new.self.items ≡ length g.orders.items + 1 = ap length c.in_ok-push-2.ensures.items ∙ simp length-append in
     record {
       nodes = i.nodes;
       limits_len = omega (arith, a, b, i.limits_len);
       limits = λ x. ap (λ ls. limit_at ls x) (c.in_ok-push.ensures.items ∙ ap (λ a. g.limits.items ++ a ∷ []) c.none.ensures) ∙ (get_or-push g.limits.items no_limit x ∙ i.limits x);
-      below = record {
-        below = λ x. rw (c.in_ok-push-2.ensures.items, get_or-push g.marks.items 0 x) (i.below.below x);
-        positive = i.below.positive;
+      orders = λ x. ap (λ os. order_at os x) c.in_ok-push-2.ensures.items ∙ (get_or-push g.orders.items no_order x ∙ i.orders x);
+      bottom = record {
+        from = λ x. rw (c.in_ok-push-2.ensures.items, get_or-push g.orders.items no_order x) (i.bottom.from x);
+        positive = i.bottom.positive;
       };
       within = λ h. omega (arith, b);
     }

@@ -1,7 +1,8 @@
-use Rattle.std.proofs.Common.{◌≡◌, subst, sym, None, refl}
+use Rattle.std.proofs.Common.{◌≡◌, ◌++◌, length, take, drop, ap, subst, sym, arith, None, refl}
+use Rattle.std.proofs.Math.Seq.{take-append_seam}
 use Rattle.sml_objects.specs.Views.{maker_of}
 use Rattle.sml_solve.specs.declared.layer.Layer.{Layer}
-use Rattle.sml_solve.specs.Ranks.{HasRank}
+use Rattle.sml_solve.specs.Ranks.{HasRank, AreFrom, AreOrdered}
 use Rattle.sml_solve.specs.Limits.{IsBefore, IsFit, IsClosed, IsDoneBut, SameLimits}
 use Rattle.sml_solve.specs.Whole.{FailsAt}
 use Rattle.sml_solve.proofs.Wholeness.{handed-fails}
@@ -37,15 +38,23 @@ returns-in-None-clause-ok c =
     let same : SameLimits u ns g.limits.items ls = rw v at c.in_ok-layer.ensures.same in
     let fit : (k : Layer) → IsBefore k c.in_ok-layer.field-0 → IsFit k u ns ls = rw v at c.in_ok-layer.ensures.fit in
     let yes = c.in_ok-is_finite.ensures in
+    let t = c.if-not-branch.false in
+    let new = c.is_finite.new.orders in
+    let n : g.orders.len ≡ length new = omega (arith, c.is_finite.auto.orders, c.as_mut_slice-orders.ensures.len) in
+    let e : new ≡ take g.orders.len (new ++ drop (length new) g.orders.items) = (rw n (sym (take-append_seam new (drop (length new) g.orders.items)))) in
+    let old : length g.orders.items ≡ length ns = c.requires.full.orders in
+    let held : length c.as_mut_slice-orders.result.now ≡ length g.orders.items = ap length c.as_mut_slice-orders.ensures.value in
+    let len : length new ≡ length ns = omega (arith, old, held, c.is_finite.auto.orders) in
     record {
       whole = record {
         full = record {
           limits = rw v at c.in_ok-layer.ensures.len;
-          marks = rw v at (rw c.if-not-branch.false at yes.len);
-          below = record { below = rw c.if-not-branch.false at yes.below; positive = rw c.if-not-branch.false at yes.positive };
+          orders = subst (λ os. length os ≡ length ns) e len;
+          bottom = record { from = subst (AreFrom c.is_finite.new.bottom) e (rw t at yes.from); positive = rw t at yes.positive };
         };
         sound = c.requires.sound;
         rank = rank;
+        ordered = subst (AreOrdered ns) e (rw v at (rw t at yes.ordered));
         closed = closed;
         fit = λ k. fit k (rw c.in-None.is tt);
       };

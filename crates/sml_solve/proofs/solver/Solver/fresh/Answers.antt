@@ -18,7 +18,7 @@ invariant_of-self-2 c _ =
     let n : c.len-at.result ≡ length g.nodes.items = omega arith in
     let e : c.fill.new.graph.nodes.items ≡ g.nodes.items ++ Unknown ∷ [] = c.in_default-fill.ensures.nodes ∙ c.in_default-push.ensures.items in
     let m : length c.push.new.self.items ≡ length g.nodes.items + 1 = ap length c.in_default-push.ensures.items ∙ simp length-append in
-    let full : IsFull c.fill.new.graph = c.in_default-fill.ensures.full (omega (arith, k.whole.full.marks, m)) in
+    let full : IsFull c.fill.new.graph = c.in_default-fill.ensures.full (omega (arith, k.whole.full.orders, m)) in
     let v : c.push-2.new.self.items ≡ us ++ length g.nodes.items ∷ [] = rw (← n) c.in_default-push-2.ensures.items in
     let few : length us < 2 ^ 32 = omega (arith, c.in-Ok.ensures) in
     let a = c.self.invariant c.if-self.false in
@@ -27,8 +27,8 @@ invariant_of-self-2 c _ =
     let q : c.in-Ok.number ≡ length us = omega (arith, c.in-Ok.ensures) in
     let b : BeginsLevel ls (length g.nodes.items) (length us) ks = subst (λ i. BeginsLevel ls i (length us) ks) n (subst (λ i. BeginsLevel ls c.len-at.result i ks) q c.in_default-begin_level.ensures) in
     record {
-      kept = kept-fresh u g c.fill.new.graph us c.push-2.new.self.items k e c.in_default-fill.ensures.limits full v few;
-      levels = levels-fresh g.nodes.items c.fill.new.graph.nodes.items us c.push-2.new.self.items ls ks k.owners a.levels e v few b;
+      kept = kept-fresh u g c.fill.new.graph us c.push-2.new.self.items k e c.in_default-fill.ensures.limits c.in_default-fill.ensures.orders full v few;
+      levels = levels-fresh g.nodes.items c.fill.new.graph.nodes.items us c.push-2.new.self.items c.self.inside.left.items ls ks k.owners a.levels e v few b;
     }
 
 pub returns-clause-same : goal.returns-clause-same

@@ -5,7 +5,7 @@ use Rattle.sml_solve.specs.Worlds.{finite}
 use Rattle.sml_solve.specs.Interned.{IsOver, Interns}
 use Rattle.sml_solve.specs.Asked.{asked_of, IsOf, PermitsSame}
 use Rattle.sml_solve.specs.Whole.{IsKept, IsWhole}
-use Rattle.sml_solve.proofs.Levelling.{grown-moves, levels-moved}
+use Rattle.sml_solve.proofs.Levelling.{grown-moves, levels-grown}
 use Rattle.sml_solve.proofs.Demanding.{Grows, permits-grown, kept-grown}
 use Rattle.sml_solve.proofs.Owning.{readings-are, larges-are}
 use Rattle.sml_solve.proofs.solver.Solver.reading.Goals as goal
@@ -52,7 +52,7 @@ invariant_of-self-2 c _ =
     let n : IsKept u h us = kept-grown u us t g h c.in-Ok.at k x w in
     let a = c.self.invariant c.if-self.false in
     let m = grown-moves g.nodes.items us t h.nodes.items c.in-Ok.at i in
-    record { kept = n; levels = levels-moved g.nodes.items h.nodes.items us c.self.inside.levels.items k.owners.few a.levels m }
+    record { kept = n; levels = levels-grown g.nodes.items h.nodes.items us c.self.inside.left.items c.self.inside.levels.items k.owners.few a.levels m }
 
 pub returns-clause-ty : goal.returns-clause-ty
 returns-clause-ty c =

@@ -3,7 +3,7 @@ use Rattle.std.specs.Prelude.{false}
 use Rattle.sml_objects.specs.Views.{type_of, maker_of}
 use Rattle.sml_solve.specs.Asked.{asked_of, asks, Demand, Adds, CanMeet, IsFirstUnmet}
 use Rattle.sml_solve.specs.Whole.{IsKept}
-use Rattle.sml_solve.proofs.Levelling.{levels-moved}
+use Rattle.sml_solve.proofs.Levelling.{levels-grown}
 use Rattle.sml_solve.proofs.solver.Solver.require.Goals as goal
 
 pub returns-in-Ok-clause-ok : goal.returns-in-Ok-clause-ok
@@ -43,5 +43,5 @@ invariant_of-self c _ =
     let a = c.self.invariant c.if-self.false in
     record {
       kept = subst (IsKept u h) c.as_slice-unknowns.ensures.value c.in-Ok.ensures.kept;
-      levels = levels-moved g.nodes.items h.nodes.items us c.self.inside.levels.items a.kept.owners.few a.levels c.in-Ok.ensures.moves;
+      levels = levels-grown g.nodes.items h.nodes.items us c.self.inside.left.items c.self.inside.levels.items a.kept.owners.few a.levels c.in-Ok.ensures.moves;
     }

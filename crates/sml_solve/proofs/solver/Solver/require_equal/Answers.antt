@@ -1,11 +1,10 @@
-use Rattle.std.proofs.Common.{◌≡◌, ap, subst, sym, Err}
+use Rattle.std.proofs.Common.{◌≡◌, ◌++◌, ◌∙◌, ap, subst, sym, Err}
 use Rattle.std.specs.Prelude.{false}
 use Rattle.sml_objects.specs.Views.{type_of, maker_of}
 use Rattle.sml_solve.specs.declared.layer.Refusal.TheVariants.{Unmet}
 use Rattle.sml_solve.specs.Asked.{asked_of, equal, Demand, Adds, CanMeet, IsFirstUnmet}
-use Rattle.sml_solve.specs.Levels.{HandsLevels}
 use Rattle.sml_solve.specs.Whole.{IsKept}
-use Rattle.sml_solve.proofs.Levelling.{moved-but, levels-handed}
+use Rattle.sml_solve.proofs.Levelling.{levels-moved}
 use Rattle.sml_solve.proofs.solver.Solver.require_equal.Goals as goal
 
 pub returns-in_default-clause-ok : goal.returns-in_default-clause-ok
@@ -36,16 +35,6 @@ returns-in-Err-clause-unmet c l e =
     let x : IsFirstUnmet l (asked_of u us g false) d = subst (λ us. IsFirstUnmet l (asked_of u us g false) d) c.as_slice.ensures.value (let r : c.in-Err.refusal ≡ Unmet l = cc in c.in-Err.ensures.unmet l (ap Err r)) in
     subst (λ s. IsFirstUnmet l s d) c.self.view_is (subst (λ b. IsFirstUnmet l (asked_of u us g b) d) (sym c.if-self.false) x)
 
-pub hand_levels_on-requires-clause-but : goal.hand_levels_on-requires-clause-but
-hand_levels_on-requires-clause-but c =
-    let us = c.self.inside.unknowns.items in
-    let g = c.self.inside.graph in
-    let h = c.equate.new.graph in
-    let ls = c.self.inside.levels.items in
-    let is = c.in-Ok.changed.items in
-    let a = c.self.invariant c.if-self.false in
-    rw c.as_slice-nodes.ensures.value (moved-but g.nodes.items h.nodes.items us is ls a.kept.owners.few a.levels c.in-Ok.ensures.moves)
-
 pub invariant_of-self-in-Ok : goal.invariant_of-self-in-Ok
 invariant_of-self-in-Ok c _ =
     let u = maker_of c.self.inside.unit in
@@ -53,11 +42,10 @@ invariant_of-self-in-Ok c _ =
     let g = c.self.inside.graph in
     let h = c.equate.new.graph in
     let ls = c.self.inside.levels.items in
-    let ks = c.hand_levels_on.new.levels.items in
-    let is = c.in-Ok.changed.items in
+    let is = c.self.inside.left.items in
+    let js = c.in-Ok.changed.items in
     let a = c.self.invariant c.if-self.false in
-    let x : HandsLevels h.nodes.items ls ks = rw c.as_slice-nodes.ensures.value at c.in_default.ensures in
     record {
       kept = subst (IsKept u h) c.as_slice.ensures.value c.in-Ok.ensures.kept;
-      levels = levels-handed g.nodes.items h.nodes.items us is ls ks a.levels c.in-Ok.ensures.moves x;
+      levels = levels-moved g.nodes.items h.nodes.items us is js c.extend_from_slice.new.self.items ls a.kept.owners.few a.levels c.in-Ok.ensures.moves (c.in_default.ensures.items ∙ ap (λ xs. is ++ xs) c.as_slice-in-Ok.ensures.value);
     }

@@ -122,7 +122,7 @@ fn check_unit(alloc: Global, id: UnitId, text: &[u8]) -> Result<Vec<Reply>, Memo
     let lexed = lex(alloc, text)?;
     let parsed = parse(alloc, &lexed)?;
     let replies = answer_all(alloc, id, &parsed.piece)?;
-    and_last(replies, fault)
+    and_last(replies, parsed.fault)
 }
 
 /// The replies with that to the unit's last fault, if there is one.

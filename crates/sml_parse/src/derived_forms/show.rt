@@ -357,6 +357,7 @@ pub fn show_spec(shown: &mut Shown, spec: &Spec) -> Result<(), Memory> {
     }
 }
 
+#[cycle(show_str)]
 pub fn show_str(shown: &mut Shown, structure: &StrExp) -> Result<(), Memory> {
     match structure {
         StrExp::Decs(place, decs) => {
@@ -396,6 +397,7 @@ pub fn show_str(shown: &mut Shown, structure: &StrExp) -> Result<(), Memory> {
     }
 }
 
+#[cycle(show_str)]
 fn show_str_dec(shown: &mut Shown, dec: &StrDec) -> Result<(), Memory> {
     match dec {
         StrDec::Core(dec) => show_dec(shown, dec),

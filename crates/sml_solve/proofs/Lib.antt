@@ -22,3 +22,11 @@ pub mod Fated
 pub mod Uniqueness
 pub mod Renaming
 pub mod Agreeing
+mod Members
+mod Discerning
+mod Subterms
+mod Partitions
+mod Grouping
+mod LabelMaps
+mod Consistency
+mod Trees

@@ -14,7 +14,7 @@ ghost use Rattle.sml_solve.specs.declared.layer.Layer.{Layer};
 ghost use Rattle.sml_solve.specs.declared.layer.Layer.TheVariants.{Finiteness};
 ghost use Rattle.sml_solve.specs.Worlds.{finite, Assignment};
 ghost use Rattle.sml_solve.specs.Asked.{Asked, asked_of, equal, asks, count, IsOf, IsSchemeOf, Adds, CanMeet, IsFirstUnmet, IsMet, Permits, PermitsSame};
-ghost use Rattle.sml_solve.specs.Clashes.{ClashesAreUnmet};
+ghost use Rattle.sml_solve.specs.Clashes.{IsUnmetWhereItClashes};
 ghost use Rattle.sml_solve.specs.Counted.{IsSizeUpTo};
 ghost use Rattle.sml_solve.specs.Fixed.{AreFixed, IsFixed, IsOpen};
 ghost use Rattle.sml_solve.specs.Graphs.{IsAmong};
@@ -301,10 +301,10 @@ impl Solver {
         let _spent = self.spent;
     }
 
-    /// A law: where equations that were asked, closed under symmetry, transitivity and components, clash with one more,
-    /// that one is refused with U1.
-    pub fn clashes_are_unmet(&self)
-        ensures { ClashesAreUnmet self.now }
+    /// A law: a demand is refused with U1 exactly where it clashes with those that were asked: where these demands, closed
+    /// under symmetry, transitivity and components, make two types equal that have different heads.
+    pub fn unmet_where_it_clashes(&self)
+        ensures { IsUnmetWhereItClashes self.now }
     {
         let _spent = self.spent;
     }

@@ -1,0 +1,30 @@
+-- Labels of rows (the Definition, sections 2.4 and 4.2).
+use Rattle.std.specs.Prelude.{◌≡◌, ℕ, ◌-◌, ◌^◌, ◌&&◌, Bool, false, cond, nat_lt, List, [], ◌∷◌, length}
+use Rattle.std.specs.List.{AllByRecursion}
+use Rattle.std.specs.declared.cmp.Ordering.{Ordering}
+use Rattle.std.specs.declared.cmp.Ordering.TheVariants.{Less}
+use Rattle.sml_tree.specs.Trees.{Id}
+use Rattle.sml_objects.specs.Maps.{Map, order_of}
+
+-- no identifier begins with a digit, and no number with 0
+abbrev pub is_number : Id → Bool
+is_number [] = false
+is_number (d ∷ ds) = nat_lt 48 d && nat_lt d 58
+
+-- what labels are ordered by: numbers come first, by their lengths and then by their digits, and all others behind them, by their bytes
+abbrev pub label_key : Id → List ℕ
+label_key l = cond (is_number l) (length l) (2 ^ 64 - 1) ∷ l
+
+abbrev pub label_order : Id → Id → Ordering
+label_order l m = order_of (label_key l) (label_key m)
+
+-- each label comes before those behind it
+abbrev pub AreRising : List Id → Type 0
+AreRising [] = Unit {0}
+AreRising (l ∷ ls) = AllByRecursion (λ m. label_order l m ≡ Less) ls × AreRising ls
+
+-- the labels, each with what stands at its place
+abbrev pub with_labels : {X : Type 0} → List Id → List X → Map X
+with_labels [] xs = []
+with_labels (l ∷ ls) [] = []
+with_labels (l ∷ ls) (x ∷ xs) = (l, x) ∷ with_labels ls xs

@@ -1,5 +1,6 @@
 -- What was asked of a solver's unknowns so far, seen as the types that they may have.
 use Rattle.std.specs.Prelude.{◌≡◌, ℕ, ◌<◌, ◌≤◌, ◌↔◌, Bool, true, List, length, Some}
+use Rattle.sml_tree.specs.Trees.{Id}
 use Rattle.sml_objects.specs.Equality.{admits}
 use Rattle.sml_objects.specs.Initial.{Name, naming}
 use Rattle.sml_objects.specs.Objects.{MlType, Scheme}
@@ -14,6 +15,7 @@ use Rattle.sml_solve.specs.declared.limits.Limit.{Limit}
 use Rattle.sml_solve.specs.declared.node.Node.{Node}
 use Rattle.sml_solve.specs.declared.variable.Variables.TheVariants as V
 use Rattle.sml_solve.specs.Worlds.{World, Assignment, finite, infinite, typed}
+use Rattle.sml_solve.specs.Rows.{HasFields, fields_at}
 use Rattle.sml_solve.specs.Graphs.{Meets}
 use Rattle.sml_solve.specs.Interned.{IsOver, IsBodyOver, through}
 use Rattle.sml_solve.specs.Bounds.{IsWithin}
@@ -87,9 +89,10 @@ limit_of A.Equality = record no_limit { equality = true }
 limit_of (A.Class c) = record no_limit { class = Some (names_in c) }
 limit_of (A.Variable x) = record no_limit { variables = V.One x }
 
--- What may be demanded: that two types are equal, or something of one type.
+-- What may be demanded: that two types are equal, that a type is a row that has these fields, or something else of one type.
 pub data Demand : Type 0 where
   equal : MlType Name → MlType Name → Demand
+  has_fields : MlType Name → List (Id × MlType Name) → Demand
   asks : Ask → MlType Name → Demand
 
 -- the type is as asked, as far as the layers up to this one see it
@@ -99,6 +102,7 @@ HoldsUpTo l u σ a t = place_of (layer_of a) ≤ place_of l → IsAsAsked u a (a
 -- the types of the unknowns meet the demand, as far as the layers up to this one see it
 abbrev pub Holds : (l : Layer) → ℕ → Assignment (world l) → Demand → Type 0
 Holds l u σ (equal t v) = typed (world l) σ t ≡ typed (world l) σ v
+Holds l u σ (has_fields t fs) = HasFields (world l) (typed (world l) σ t) (fields_at (typed (world l) σ) fs)
 Holds Equations u σ (asks a t) = Unit {0}
 Holds Finiteness u σ (asks a t) = HoldsUpTo Finiteness u σ a t
 Holds Newness u σ (asks a t) = HoldsUpTo Newness u σ a t

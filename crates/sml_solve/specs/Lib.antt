@@ -1,4 +1,6 @@
 pub mod Worlds
+pub mod Labels
+pub mod Rows
 pub mod Graphs
 pub mod Interned
 pub mod Ranks

@@ -12,7 +12,7 @@ use Rattle.sml_solve.specs.Interned.{through}
 use Rattle.sml_solve.specs.Ranks.{IsRanked}
 use Rattle.sml_solve.specs.Asked.{Asked, asked_of}
 use Rattle.sml_solve.specs.Left.{MayBe}
-use Rattle.sml_solve.specs.Fixed.{IsFixed, IsOpen, IsMarked, IsMarkedBut, IsReach, AreMarks, AreFixed, places_of}
+use Rattle.sml_solve.specs.Fixed.{IsFixed, IsFree, IsMarked, IsMarkedBut, IsReach, AreMarks, AreFixed, places_of}
 use Rattle.sml_solve.specs.Levels.{level_at, IsHeld, AreHeld, IsKeptWith}
 use Rattle.sml_solve.proofs.Levelling.{none-left}
 use Rattle.sml_solve.proofs.Interning.{inside-at}
@@ -26,7 +26,7 @@ same-marked ns r M σ τ a c m m' f zero i h l = absurd (omega (arith, l))
 same-marked ns r M σ τ a c m m' f (suc n) i h l =
     same-node σ τ i (node_at ns i) (m i) (m' i) (f i h) (all-parts (λ k. M k × (r k < r i)) (λ k. σ k ≡ τ k) (parts (node_at ns i)) (λ k b. same-marked ns r M σ τ a c m m' f n k b.0 (let z = b.1 in omega (arith, z, l))) (all-both M (λ k. r k < r i) (parts (node_at ns i)) (c i h) (a i)))
 
-open-root : (u : ℕ) (us : List ℕ) (g : Graph) (b : Bool) (v r : ℕ) (x : Node) → v < length us → IsOpen (asked_of u us g b) v → IsSame g.nodes.items (get_or us v 0) r → IsRootNode x → node_at g.nodes.items r ≡ x → x ≡ Unknown
+open-root : (u : ℕ) (us : List ℕ) (g : Graph) (b : Bool) (v r : ℕ) (x : Node) → v < length us → IsFree (asked_of u us g b) v → IsSame g.nodes.items (get_or us v 0) r → IsRootNode x → node_at g.nodes.items r ≡ x → x ≡ Unknown
 unfolding MayBe
 open-root u us g b v r Unknown h o s t e = refl
 open-root u us g b v r (Link j) h o s t e = absurd t

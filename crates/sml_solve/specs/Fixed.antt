@@ -8,7 +8,7 @@ use Rattle.sml_solve.specs.declared.node.Node.{Node}
 use Rattle.sml_solve.specs.Worlds.{finite, Assignment}
 use Rattle.sml_solve.specs.Graphs.{node_at, parts, Meets, IsAmong}
 use Rattle.sml_solve.specs.Asked.{Asked, count, Permits}
-use Rattle.sml_solve.specs.Left.{MayBe}
+use Rattle.sml_solve.specs.Left.{IsUndetermined}
 
 -- The types of the first n unknowns and of some others fix that of v: where two assignments give all of these the same
 -- types, they give v one.
@@ -17,18 +17,14 @@ IsFixed s n ws v =
     (σ τ : Assignment finite) → Permits Finiteness s σ → Permits Finiteness s τ
     → ((w : ℕ) → w < n → σ w ≡ τ w) → AllByRecursion (λ w. σ w ≡ τ w) ws → σ v ≡ τ v
 
--- by the equations the unknown may have any type
-abbrev pub IsOpen : Asked → ℕ → Type 0
-IsOpen s v = (t : MlType Name) → MayBe Finiteness s v t
-
 abbrev pub IsMarked : List Bool → ℕ → Type 0
 IsMarked ms i = slice_index_or ms i false ≡ true
 
--- A flag for each unknown: those with one are fixed, and of those that are open no others are.
+-- A flag for each unknown: those with one are fixed, and of those that are undetermined no others are.
 pub record AreFixed (s : Asked) (n : ℕ) (ws : List ℕ) (bs : List Bool) : Type 0 where
   pub len : length bs ≡ count s
   pub fixes : (v : ℕ) → v < count s → IsMarked bs v → IsFixed s n ws v
-  pub all : (v : ℕ) → v < count s → IsOpen s v → IsFixed s n ws v → IsMarked bs v
+  pub all : (v : ℕ) → v < count s → IsUndetermined s v → IsFixed s n ws v → IsMarked bs v
 
 -- the types of these nodes fix that of another
 abbrev pub IsFixedBy : List Node → List ℕ → ℕ → Type 0

@@ -10,7 +10,7 @@ use Rattle.sml_solve.specs.declared.layer.Layer.{Layer}
 use Rattle.sml_solve.specs.declared.layer.Layer.TheVariants.{Equations, Finiteness, Newness, Locality, Equality, Classes, Rigidity}
 use Rattle.sml_solve.specs.declared.limits.Limit.{Limit}
 use Rattle.sml_solve.specs.declared.node.Node.{Node}
-use Rattle.sml_solve.specs.declared.node.Node.TheVariants.{Unknown, Link, App}
+use Rattle.sml_solve.specs.declared.node.Node.TheVariants.{Unknown, Link, App, Open}
 use Rattle.sml_solve.specs.Worlds.{finite, Assignment}
 use Rattle.sml_solve.specs.Graphs.{node_at, head_over, parts, Meets, IsAmong}
 use Rattle.sml_solve.specs.Bounds.{IsWithin, IsHeadWithin}
@@ -118,6 +118,7 @@ abbrev pub IsFitNode : Layer → ℕ → Limit → Node → Type 0
 IsFitNode l u a Unknown = IsFitUnknown l a
 IsFitNode l u a (Link j) = Unit {0}
 IsFitNode l u a (App h kids) = FitsAt l u a (head_over h (length kids.items)) (length kids.items)
+IsFitNode l u a (Open fs) = FitsAt l u a (row []) 0
 
 -- what is asked of the parts of a type: equality of those of a reference isn't
 
@@ -134,6 +135,7 @@ abbrev pub handed : Node → Limit → Limit
 handed Unknown a = a
 handed (Link j) a = a
 handed (App h kids) a = for_parts (head_over h (length kids.items)) a
+handed (Open fs) a = for_parts (row []) a
 
 -- what is asked of the node is asked of its parts
 abbrev pub IsClosedNode : List Limit → ℕ → Node → Type 0

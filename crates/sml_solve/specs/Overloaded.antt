@@ -8,7 +8,7 @@ use Rattle.sml_solve.specs.declared.layer.Layer.{Layer}
 use Rattle.sml_solve.specs.declared.layer.Layer.TheVariants.{Rigidity}
 use Rattle.sml_solve.specs.declared.limits.Limit.{Limit}
 use Rattle.sml_solve.specs.declared.node.Node.{Node}
-use Rattle.sml_solve.specs.declared.node.Node.TheVariants.{Unknown, Link, App}
+use Rattle.sml_solve.specs.declared.node.Node.TheVariants.{Unknown, Link, App, Open}
 use Rattle.sml_solve.specs.Worlds.{finite, Assignment, make}
 use Rattle.sml_solve.specs.Asked.{Asked, Permits, world}
 
@@ -30,6 +30,7 @@ abbrev pub is_several : Node → Limit → Bool
 is_several Unknown a = has_several a.class a.equality
 is_several (Link j) a = false
 is_several (App h kids) a = false
+is_several (Open fs) a = false
 
 -- The types permitted are those before in which each unknown from the n-th on, below the m-th, that was overloaded is `int`.
 unfoldable pub Settles : Asked → ℕ → ℕ → Asked → Type 0

@@ -15,7 +15,7 @@ use Rattle.sml_solve.specs.declared.limits.Limit.{Limit}
 use Rattle.sml_solve.specs.Worlds.{finite, In, Assignment, typed}
 use Rattle.sml_solve.specs.Limits.{limit_at}
 use Rattle.sml_solve.specs.Asked.{Asked, Permits, world}
-use Rattle.sml_solve.specs.Left.{IsLeft, IsReading}
+use Rattle.sml_solve.specs.Left.{IsLeft, IsFlexible, IsReading}
 use Rattle.sml_solve.specs.Overloaded.{has_several}
 use Rattle.sml_solve.specs.Fixed.{IsMarked}
 
@@ -28,10 +28,11 @@ unfoldable pub AsksEquality : Asked → ℕ → Type 0
 AsksEquality s v = (σ : Assignment finite) → Permits Equality s σ → admits naming (σ v) ≡ true
 
 -- What becomes of an unknown that is left. Where no type but int is left for it, it is int. Otherwise it is bound, with
--- its equality attribute and nothing else of what was asked, unless the phrase is expansive or the unknown has a flag.
+-- its equality attribute and nothing else of what was asked, unless the phrase is expansive, the unknown has a flag, or it is a
+-- flexible row.
 abbrev pub IsFateOf : Asked → List Bool → Bool → ℕ → Fate → Type 0
-IsFateOf s bs x v (Bind e) = (IsInt s v → ⊥) × (x ≡ false) × (IsMarked bs v → ⊥) × ((e ≡ true) ↔ AsksEquality s v)
-IsFateOf s bs x v Keep = (IsInt s v → ⊥) × ((x ≡ true) ⊎ IsMarked bs v)
+IsFateOf s bs x v (Bind e) = (IsInt s v → ⊥) × (x ≡ false) × (IsMarked bs v → ⊥) × (IsFlexible s v → ⊥) × ((e ≡ true) ↔ AsksEquality s v)
+IsFateOf s bs x v Keep = (IsInt s v → ⊥) × ((x ≡ true) ⊎ IsMarked bs v ⊎ IsFlexible s v)
 IsFateOf s bs x v Default = IsInt s v
 
 -- the scheme of a type over unknowns that are left, each of which has its fate
@@ -68,9 +69,13 @@ pub record AreAlike (s : Asked) (t : MlType Name) (r : Asked) (q : MlType Name) 
 abbrev pub HasNoFlag : List Bool → Type 0
 HasNoFlag bs = (v : ℕ) → IsMarked bs v → ⊥
 
+-- no flexible row is left
+abbrev pub HasNoFlexible : Asked → Type 0
+HasNoFlexible s = (v : ℕ) → IsLeft s v → IsFlexible s v → ⊥
+
 -- Types that are alike have one scheme, whatever unknowns they were made of.
 abbrev pub GiveOneScheme : Asked → Asked → Type 0
-GiveOneScheme s r = (t q : MlType Name) (bs cs : List Bool) (θ η : Scheme Name) → AreAlike s t r q → HasNoFlag bs → HasNoFlag cs → IsScheme s bs false t θ → IsScheme r cs false q η → θ ≡ η
+GiveOneScheme s r = (t q : MlType Name) (bs cs : List Bool) (θ η : Scheme Name) → AreAlike s t r q → HasNoFlag bs → HasNoFlag cs → HasNoFlexible s → HasNoFlexible r → IsScheme s bs false t θ → IsScheme r cs false q η → θ ≡ η
 
 -- whether int is the one name that is left, where equality may be asked
 abbrev pub has_one : Option Names → Bool → Bool

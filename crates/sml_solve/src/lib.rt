@@ -5,6 +5,7 @@ pub mod class;
 mod closing;
 mod count;
 mod demands;
+mod fields;
 mod finite;
 mod graph;
 mod intern;

@@ -1,11 +1,13 @@
 //! Nodes, of which a solver's graph of types is made.
 
 ghost use Rattle.std.specs.Prelude.{◌≡◌, ◌≢◌, ℕ, true, false};
-ghost use Rattle.sml_solve.specs.Graphs.{head_over};
+ghost use Rattle.sml_solve.specs.Graphs.{head_over, parts};
 
+use crate::fields::Fields;
 use smallvec::SmallVec;
 use sml_objects::objects::TyName;
 use std::alloc::Global;
+use std::slice;
 
 /// What stands at the top of a type, over its parts.
 #[derive(Clone, Copy, PartialEq, Eq)]
@@ -24,6 +26,20 @@ pub enum Node {
     Link(usize),
     /// A head over the types of other nodes.
     App(Head, SmallVec<usize, 2, Global>),
+    /// A row that has these fields and perhaps others.
+    Open(Box<Fields>),
+}
+
+/// The nodes that a node speaks of.
+pub(crate) fn parts_of(node: &Node) -> &[usize]
+    ensures { result.now ≡ parts node.now }
+{
+    match node {
+        Node::Unknown => &[],
+        Node::Link(to) => slice::from_ref(to),
+        Node::App(_, kids) => kids.as_slice(),
+        Node::Open(fields) => fields.kids(),
+    }
 }
 
 /// Whether two heads are one.

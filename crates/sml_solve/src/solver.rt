@@ -16,7 +16,7 @@ ghost use Rattle.sml_solve.specs.Worlds.{finite, Assignment};
 ghost use Rattle.sml_solve.specs.Asked.{Asked, asked_of, equal, asks, count, IsOf, IsSchemeOf, Adds, CanMeet, IsFirstUnmet, IsMet, Permits, PermitsSame};
 ghost use Rattle.sml_solve.specs.Clashes.{IsUnmetWhereItClashes};
 ghost use Rattle.sml_solve.specs.Counted.{IsSizeUpTo};
-ghost use Rattle.sml_solve.specs.Fixed.{AreFixed, IsFixed, IsOpen};
+ghost use Rattle.sml_solve.specs.Fixed.{AreFixed, IsFixed, IsFree};
 ghost use Rattle.sml_solve.specs.Graphs.{IsAmong};
 ghost use Rattle.sml_solve.specs.Left.{IsLeft, IsMadeOf, IsReading, IsMostGeneral};
 ghost use Rattle.sml_solve.specs.Levels.{IsKeptWith};
@@ -271,7 +271,7 @@ impl Solver {
         requires variables { AllByRecursion (λ v. v < count self.old) variables.now }
         requires first { first ≤ count self.old }
         requires others { AllByRecursion (λ w. w < count self.old) others.now }
-        ensures general { OnOk result (AllByRecursion (λ v. IsOpen self.old v → IsFixed self.old first others.now v → ⊥) variables.now) }
+        ensures general { OnOk result (AllByRecursion (λ v. IsFree self.old v → IsFixed self.old first others.now v → ⊥) variables.now) }
         ensures unmet { (l : Layer) → result ≡ Err (Refusal.Unmet l) → (l ≡ Layer.Rigidity) × (v : ℕ) × IsAmong v variables.now × IsFixed self.old first others.now v }
         ensures same { OnOk result (PermitsSame self.old self.new) }
         ensures count { count self.new ≡ count self.old }

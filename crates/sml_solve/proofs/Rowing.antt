@@ -124,7 +124,7 @@ lookup-here l e m q = found-by (order_of l e.0) (lookup l m) (Some e.1) (subst (
 pub lookup-there : {X : Type 0} (l : Id) (e : Id × X) (m : Map X) → (l ≡ e.0 → ⊥) → lookup l (e ∷ m) ≡ lookup l m
 lookup-there l e m d = passed-by (order_of l e.0) (lookup l m) (Some e.1) (λ q. d (exact_bytes l e.0 q))
 
-same_or_other : (l m : Id) → (l ≡ m) ⊎ (l ≡ m → ⊥)
+pub same_or_other : (l m : Id) → (l ≡ m) ⊎ (l ≡ m → ⊥)
 same_or_other l m = go (order_of l m) refl where
   go : (o : Ordering) → order_of l m ≡ o → (l ≡ m) ⊎ (l ≡ m → ⊥)
   go Less e = inr (λ q. let f : Less ≡ Equal = sym e ∙ subst (λ k. order_of l k ≡ Equal) q (own_order l) in cc)
@@ -161,7 +161,7 @@ module _ {X : Type 0} (l : Id) (x : X) where
     go Equal q = g q
     go Greater q = h q
 
-  set-here : (m : Map X) → lookup l (set_field l x m) ≡ Some x
+  pub set-here : (m : Map X) → lookup l (set_field l x m) ≡ Some x
   set-here [] = lookup-here l (l, x) [] refl
   set-here (e ∷ m) = by_label e m (λ n. lookup l n ≡ Some x)
       (λ q. lookup-here l (l, x) (e ∷ m) refl)
@@ -169,7 +169,7 @@ module _ {X : Type 0} (l : Id) (x : X) where
       (λ q. lookup-there l e (set_field l x m) (λ s. let f : Greater ≡ Equal = sym q ∙ subst (λ k. label_order l k ≡ Equal) s (own_label l) in cc) ∙ set-here m)
 
   -- a field with another label stays
-  set-there : (k : Id) (m : Map X) → (k ≡ l → ⊥) → lookup k (set_field l x m) ≡ lookup k m
+  pub set-there : (k : Id) (m : Map X) → (k ≡ l → ⊥) → lookup k (set_field l x m) ≡ lookup k m
   set-there k [] d = lookup-there k (l, x) [] d
   set-there k (e ∷ m) d = by_label e m (λ n. lookup k n ≡ lookup k (e ∷ m))
       (λ q. lookup-there k (l, x) (e ∷ m) d)
@@ -213,13 +213,13 @@ module _ {X : Type 0} (l : Id) (x : X) where
   set-same (e ∷ m) r h = by_label e m (λ n. n ≡ e ∷ m)
       (λ q. absurd (none-some x (sym (none-below (e ∷ m) (q, all-less e.0 (labels_in m) q r.0)) ∙ h)))
       (λ q.
-          let s = same_label l e.0 q in
-          let f : Some e.1 ≡ Some x = sym (lookup-here l e m s) ∙ h in
-          let g : e.1 ≡ x = cc in
-          λ i. (s i, sym g i) ∷ m)
+      let s = same_label l e.0 q in
+      let f : Some e.1 ≡ Some x = sym (lookup-here l e m s) ∙ h in
+      let g : e.1 ≡ x = cc in
+      λ i. (s i, sym g i) ∷ m)
       (λ q.
-          let d : l ≡ e.0 → ⊥ = λ s. let f : Greater ≡ Equal = sym q ∙ subst (λ k. label_order l k ≡ Equal) s (own_label l) in cc in
-          ap (λ n. e ∷ n) (set-same m r.1 (sym (lookup-there l e m d) ∙ h)))
+      let d : l ≡ e.0 → ⊥ = λ s. let f : Greater ≡ Equal = sym q ∙ subst (λ k. label_order l k ≡ Equal) s (own_label l) in cc in
+      ap (λ n. e ∷ n) (set-same m r.1 (sym (lookup-there l e m d) ∙ h)))
 
   all-set : (P : X → Type 0) (m : Map X) → P x → AllByRecursion P (values_in m) → AllByRecursion P (values_in (set_field l x m))
   all-set P [] p a = (p, tt)
@@ -275,11 +275,11 @@ module _ {X : Type 0} where
       let m : length xs ≡ length ls = omega (arith, n) in
       ap (set_field l x) (sets-row ls xs m r.1) ∙ set-first l x (with_labels ls xs) (subst (AllByRecursion (λ j. label_order l j ≡ Less)) (sym (labels-of ls xs m)) r.0)
 
-  with-parts : (m : Map X) → with_labels (labels_in m) (values_in m) ≡ m
+  pub with-parts : (m : Map X) → with_labels (labels_in m) (values_in m) ≡ m
   with-parts [] = refl
   with-parts (e ∷ m) = ap (λ n. e ∷ n) (with-parts m)
 
-  count-parts : (m : Map X) → length (values_in m) ≡ length (labels_in m)
+  pub count-parts : (m : Map X) → length (values_in m) ≡ length (labels_in m)
   count-parts [] = refl
   count-parts (e ∷ m) = let r = count-parts m in omega (arith, r)
 

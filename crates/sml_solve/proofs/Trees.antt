@@ -19,7 +19,8 @@ use Rattle.sml_solve.proofs.Discerning.{same_id, same_head}
 use Rattle.sml_solve.proofs.Subterms.{Ty, listed, types_in, terms, term-in, term-part, Headed, headed}
 use Rattle.sml_solve.proofs.Partitions.{Pair, when, in-when, zipped, pairs_under, Field, asked_fields, asked-field, source, field_pair, row_pairs, given_pairs, Classes, together, component_needs, row_needs, field_needs, needs}
 use Rattle.sml_solve.proofs.Grouping.{AreSettled, settled}
-use Rattle.sml_solve.proofs.LabelMaps.{labels_in, values_in, put_labels, puts-rise, puts-found, labels-values, labels-count, lookup-mapped}
+use Rattle.sml_solve.proofs.LabelMaps.{puts-found, lookup-mapped}
+use Rattle.sml_solve.proofs.Rowing.{labels_in, values_in, set_fields, rising-sets, with-parts, count-parts}
 use Rattle.sml_solve.proofs.Consistency.{AgreeInHeads, IsRowFor, IsRowDemand, AreConsistent, consistent-or-clash}
 
 abbrev nth : List Ty → ℕ → Option Ty
@@ -99,7 +100,7 @@ module _ (ds : List Demand) (s : AreSettled ds) (ok : AreConsistent ds s.classes
   class_fields n = gather (λ f. one_field (ℕ_discrete (c f.0) n) f) (asked_fields ds)
 
   abbrev class_row : ℕ → Map Ty
-  class_row n = put_labels (class_fields n) []
+  class_row n = set_fields (class_fields n) []
 
   abbrev row_top : ℕ → Headed
   row_top n = Some (row (labels_in (class_row n)), values_in (class_row n))
@@ -308,8 +309,8 @@ module _ (ds : List Demand) (s : AreSettled ds) (ok : AreConsistent ds s.classes
           record {
             labels = labels_in m;
             types = map class_tree (values_in m);
-            rising = puts-rise (class_fields (c r)) [] tt;
-            count = sym (mapped-count class_tree (values_in m)) ∙ labels-count m;
+            rising = rising-sets (class_fields (c r)) [] tt;
+            count = sym (mapped-count class_tree (values_in m)) ∙ count-parts m;
             is_row = tree-of n r o is ∙ follow-is (c r) (row (labels_in m)) (values_in m) q;
             fields = all-shown (labels_in m) (values_in m) fs (λ f j.
                 let x : Field = (r, f.0, f.1) in
@@ -318,7 +319,7 @@ module _ (ds : List Demand) (s : AreSettled ds) (ok : AreConsistent ds s.classes
                 let y = class-field (c r) (f.0, p.0) p.2 in
                 let l : f.0 ≡ y.0.1 = ap (λ (z : Id × Ty). z.0) y.3 in
                 let k : p.0 ≡ y.0.2 = ap (λ (z : Id × Ty). z.1) y.3 in
-                shown n (labels_in m) (values_in m) r fs f p.0 i (over f j) j (ap (lookup f.0) (labels-values m) ∙ p.1) (field-one x y.0 a y.1 (sym y.2) l ∙ ap c (sym k)));
+                shown n (labels_in m) (values_in m) r fs f p.0 i (over f j) j (ap (lookup f.0) (with-parts m) ∙ p.1) (field-one x y.0 a y.1 (sym y.2) l ∙ ap c (sym k)));
           }
 
       go : (b : Headed) → first_headed (c r) (terms ds) ≡ b → HasFields infinite (spread types r) (fields_at (spread types) fs)

@@ -1,5 +1,7 @@
 //! The solver: what a declaration asks of its unknown types.
 
+ghost use Rattle.sml_solve.specs.contracts.fields.Fields as fields;
+ghost use Rattle.std.specs.Coded.{codes};
 ghost use Rattle.std.specs.Prelude.{◌≡◌, ℕ, ◌↔◌, ◌+◌, ◌^◌, ◌<◌, ◌≤◌, true, false, length, IfOk, OnOk, OnErr, Err};
 ghost use Rattle.std.specs.Bool.{OnTrue, OnFalse};
 ghost use Rattle.std.specs.List.{AllByRecursion};
@@ -16,9 +18,9 @@ ghost use Rattle.sml_solve.specs.Worlds.{finite, Assignment};
 ghost use Rattle.sml_solve.specs.Asked.{Asked, asked_of, equal, asks, count, IsOf, IsSchemeOf, Adds, CanMeet, IsFirstUnmet, IsMet, Permits, PermitsSame};
 ghost use Rattle.sml_solve.specs.Clashes.{IsUnmetWhereItClashes};
 ghost use Rattle.sml_solve.specs.Counted.{IsSizeUpTo};
-ghost use Rattle.sml_solve.specs.Fixed.{AreFixed, IsFixed, IsFree};
+ghost use Rattle.sml_solve.specs.Fixed.{AreFixed, IsFixed};
 ghost use Rattle.sml_solve.specs.Graphs.{IsAmong};
-ghost use Rattle.sml_solve.specs.Left.{IsLeft, IsMadeOf, IsReading, IsMostGeneral};
+ghost use Rattle.sml_solve.specs.Left.{HasOneSetOfLabels, IsFree, IsLeft, IsMadeOf, IsReading, IsMostGeneral};
 ghost use Rattle.sml_solve.specs.Levels.{IsKeptWith};
 ghost use Rattle.sml_solve.specs.Schemes.{GiveOneScheme, HasOneScheme, IsScheme, IsSchemeOfReading};
 ghost use Rattle.sml_solve.specs.Overloaded.{IsOverloaded, Settles};
@@ -59,6 +61,8 @@ pub struct Solver {
 
 impl Model for Solver {
     ghost Value = { Asked };
+
+    ghost coded = { Prim.hlevel (codes, fields.the_row.coded) };
 
     ghost view = { λ s. asked_of (maker_of s.unit) s.unknowns.items s.graph s.spent };
 

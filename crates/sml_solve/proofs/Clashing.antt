@@ -8,7 +8,7 @@ use Rattle.sml_objects.specs.Objects.{MlType, Head, row, app}
 use Rattle.sml_objects.specs.Views.{types_of}
 use Rattle.sml_solve.specs.declared.layer.Layer.{Layer}
 use Rattle.sml_solve.specs.declared.layer.Layer.TheVariants.{Equations}
-use Rattle.sml_solve.specs.Labels.{with_labels}
+use Rattle.sml_objects.specs.Labels.{with_labels}
 use Rattle.sml_solve.specs.Rows.{HasFields, fields_at}
 use Rattle.sml_solve.specs.Worlds.{infinite, In, Assignment, make, spread, spread_all}
 use Rattle.sml_solve.specs.Layers.{place_of}

@@ -1,6 +1,7 @@
 -- Demands that don't clash: the heads in one class agree, and rows have the fields that are asked of them.
 use Rattle.std.proofs.Common.{◌≡◌, ◌≢◌, ◌⊎◌, ℕ, zero, suc, Option, Some, None, List, [], ◌∷◌, length, refl, ap, sym, subst, ◌∙◌, inl, inr}
 use Rattle.std.specs.List.{AllByRecursion}
+use Rattle.std.specs.List.Sorted.{IsStrictlySortedBy}
 use Rattle.std.specs.declared.cmp.Ordering.{Ordering}
 use Rattle.std.specs.declared.cmp.Ordering.TheVariants.{Less, Equal, Greater}
 use Rattle.std.proofs.Math.Decide.{ℕ_discrete}
@@ -9,7 +10,7 @@ use Rattle.sml_objects.specs.Initial.{Name}
 use Rattle.sml_objects.specs.Maps.{lookup}
 use Rattle.sml_objects.specs.Objects.{Head, arrow, row, name, app}
 use Rattle.sml_objects.specs.Views.{types_of}
-use Rattle.sml_solve.specs.Labels.{label_order, AreRising, with_labels}
+use Rattle.sml_objects.specs.Labels.{label_order, AreRising, with_labels}
 use Rattle.sml_solve.specs.Asked.{Demand, equal, has_fields, asks}
 use Rattle.sml_solve.specs.Clashes.{IsOneOf, MakesEqual, HasLabels, Clash, heads, no_row}
 use Rattle.sml_solve.proofs.Members.{all-in, all-or}
@@ -34,6 +35,7 @@ all? P d (x ∷ xs) =
     ]
 
 rising? : (ls : List Id) → Dec (AreRising ls)
+unfolding IsStrictlySortedBy
 rising? [] = yes tt
 rising? (l ∷ ls) =
     elim (all? (λ m. label_order l m ≡ Less) (λ m. is-less (label_order l m)) ls) [

@@ -4,7 +4,7 @@ use Rattle.std.specs.declared.cmp.Ordering.{Ordering}
 use Rattle.std.specs.declared.cmp.Ordering.TheVariants.{Less, Equal, Greater}
 use Rattle.sml_tree.specs.Trees.{Id}
 use Rattle.sml_objects.specs.Maps.{Map, lookup, by_order, order_of}
-use Rattle.sml_solve.specs.Labels.{with_labels}
+use Rattle.sml_objects.specs.Labels.{with_labels}
 use Rattle.sml_solve.specs.Clashes.{IsOneOf}
 use Rattle.sml_solve.proofs.Discerning.{same_id}
 use Rattle.sml_solve.proofs.Rowing.{set_fields, set-here, set-there}

@@ -7,7 +7,7 @@ use Rattle.sml_objects.specs.Initial.{Name}
 use Rattle.sml_objects.specs.Maps.{lookup}
 use Rattle.sml_objects.specs.Objects.{MlType, MlTypes, Head, arrow, row, name, bound, free, app, no_type, and_type}
 use Rattle.sml_objects.specs.Views.{types_of}
-use Rattle.sml_solve.specs.Labels.{with_labels}
+use Rattle.sml_objects.specs.Labels.{with_labels}
 use Rattle.sml_solve.specs.Asked.{Demand, equal, has_fields, asks}
 use Rattle.sml_solve.specs.Clashes.{IsOneOf, part_at, MakesEqual, given, same, turned, joined, component, field, fields}
 use Rattle.sml_solve.proofs.Members.{in-left, in-right, in-either, gather, in-gather, gathered, in-map, all-in, in-all, without, without-less, in-without}

@@ -1,6 +1,7 @@
 -- Trees that meet demands which don't clash: each class of types has one.
 use Rattle.std.proofs.Common.{◌≡◌, ◌≢◌, ◌⊎◌, ℕ, zero, suc, Option, Some, None, List, [], ◌∷◌, ◌++◌, length, map, get_or, refl, ap, sym, subst, ◌∙◌, inl, inr}
 use Rattle.std.specs.List.{AllByRecursion}
+use Rattle.std.specs.List.Sorted.{IsStrictlySortedBy}
 use Rattle.std.proofs.Math.Decide.{ℕ_discrete}
 use Rattle.sml_tree.specs.Trees.{Id}
 use Rattle.sml_objects.specs.Initial.{Name}
@@ -8,7 +9,7 @@ use Rattle.sml_objects.specs.Maps.{Map, lookup}
 use Rattle.sml_objects.specs.Objects.{MlType, MlTypes, Head, row, bound, free, app, no_type, and_type}
 use Rattle.sml_objects.specs.Views.{types_of}
 use Rattle.sml_solve.specs.declared.layer.Layer.TheVariants.{Equations}
-use Rattle.sml_solve.specs.Labels.{AreRising, with_labels}
+use Rattle.sml_objects.specs.Labels.{AreRising, with_labels}
 use Rattle.sml_solve.specs.Rows.{HasFields, fields_at}
 use Rattle.sml_solve.specs.Worlds.{infinite, Assignment, Tree, tree, spread, spread_all}
 use Rattle.sml_solve.specs.Interned.{IsOver, AreOver}
@@ -27,6 +28,10 @@ abbrev nth : List Ty → ℕ → Option Ty
 nth [] k = None
 nth (t ∷ ts) zero = Some t
 nth (t ∷ ts) (suc k) = nth ts k
+
+none-rising : AreRising []
+unfolding IsStrictlySortedBy
+none-rising = tt
 
 mapped-count : {X Y : Type 0} (f : X → Y) (xs : List X) → length xs ≡ length (map f xs)
 mapped-count f [] = refl
@@ -309,7 +314,7 @@ module _ (ds : List Demand) (s : AreSettled ds) (ok : AreConsistent ds s.classes
           record {
             labels = labels_in m;
             types = map class_tree (values_in m);
-            rising = rising-sets (class_fields (c r)) [] tt;
+            rising = rising-sets (class_fields (c r)) [] none-rising;
             count = sym (mapped-count class_tree (values_in m)) ∙ count-parts m;
             is_row = tree-of n r o is ∙ follow-is (c r) (row (labels_in m)) (values_in m) q;
             fields = all-shown (labels_in m) (values_in m) fs (λ f j.

@@ -8,7 +8,7 @@ use Rattle.sml_objects.specs.Maps.{lookup}
 use Rattle.sml_objects.specs.Objects.{MlType, Head, app, row, bound}
 use Rattle.sml_objects.specs.Views.{types_of}
 use Rattle.sml_solve.specs.declared.layer.Layer.TheVariants.{Equations}
-use Rattle.sml_solve.specs.Labels.{AreRising, with_labels}
+use Rattle.sml_objects.specs.Labels.{AreRising, with_labels}
 use Rattle.sml_solve.specs.Worlds.{infinite, Assignment}
 use Rattle.sml_solve.specs.Asked.{Asked, Demand, equal, has_fields, asks, IsOf, Permits, Holds, IsFirstUnmet}
 

@@ -1,5 +1,6 @@
 //! The solver: what a declaration asks of its unknown types.
 
+ghost use Rattle.sml_objects.specs.contracts.labels.Labels as labels;
 ghost use Rattle.sml_solve.specs.contracts.fields.Fields as fields;
 ghost use Rattle.std.specs.Coded.{codes};
 ghost use Rattle.std.specs.Prelude.{◌≡◌, ℕ, ◌↔◌, ◌+◌, ◌^◌, ◌<◌, ◌≤◌, true, false, length, IfOk, OnOk, OnErr, Err};
@@ -62,7 +63,7 @@ pub struct Solver {
 impl Model for Solver {
     ghost Value = { Asked };
 
-    ghost coded = { Prim.hlevel (codes, fields.the_row.coded) };
+    ghost coded = { Prim.hlevel (codes, fields.the_row.coded, labels.the_row.coded) };
 
     ghost view = { λ s. asked_of (maker_of s.unit) s.unknowns.items s.graph s.spent };
 

@@ -1,13 +1,14 @@
-//! Which names an unknown could still be.
+//! What the types of nodes could still be.
 
 ghost use Rattle.std.specs.Prelude.{◌≡◌, ℕ, ◌<◌, length};
 ghost use Rattle.sml_solve.specs.Graphs.{IsSame, IsRoot, IsSound, node_at};
 ghost use Rattle.sml_solve.specs.Limits.{limit_at};
 ghost use Rattle.sml_solve.specs.Overloaded.{is_several};
+ghost use Rattle.sml_solve.specs.Settled.{has_labels};
 
 use crate::count::root_of;
 use crate::limits::Limit;
-use crate::node::Node;
+use crate::node::{Head, Node};
 
 /// Whether the type of a node is to be an initial name, and more than one is left.
 pub(crate) fn has_several_names(nodes: &[Node], limits: &[Limit], at: usize) -> bool
@@ -21,4 +22,13 @@ pub(crate) fn has_several_names(nodes: &[Node], limits: &[Limit], at: usize) -> 
         Node::Unknown => limits[root].has_several_names(),
         _ => false,
     }
+}
+
+/// Whether the type of a node is a row whose labels are known.
+pub(crate) fn has_labels(nodes: &[Node], at: usize) -> bool
+    requires sound { IsSound nodes.now }
+    requires inside { at < length nodes.now }
+    ensures { (r : ℕ) × IsSame nodes.now at r × IsRoot nodes.now r × (result ≡ has_labels (node_at nodes.now r)) }
+{
+    matches!(nodes[root_of(nodes, at)], Node::App(Head::Row, _))
 }

@@ -14,9 +14,14 @@ use Rattle.sml_solve.specs.declared.layer.Layer.{Layer}
 use Rattle.sml_solve.specs.declared.layer.Layer.TheVariants.{Equations, Finiteness, Newness, Locality, Equality, Classes, Rigidity}
 use Rattle.sml_solve.specs.declared.limits.Limit.{Limit}
 use Rattle.sml_solve.specs.declared.node.Node.{Node}
-use Rattle.sml_solve.specs.declared.node.Node.TheVariants.{Unknown, Link, App}
+use Rattle.sml_solve.specs.declared.node.Node.TheVariants.{Unknown, Link, App, Open}
 use Rattle.sml_solve.specs.Worlds.{finite, Assignment, make}
-use Rattle.sml_solve.specs.Graphs.{parts, head_over, Agrees}
+use Rattle.sml_solve.specs.Graphs.{parts, head_over, fields_of, Agrees, IsKnown}
+use Rattle.sml_tree.specs.Trees.{Id}
+use Rattle.sml_objects.specs.Maps.{lookup}
+use Rattle.sml_solve.specs.Labels.{with_labels}
+use Rattle.sml_solve.specs.Rows.{fields_at, kids_of}
+use Rattle.sml_solve.proofs.Rowing.{set_fields, labels_in, values_in, components, list_of, types-list_of, open_row, open-all, all-components, all-at-fields, row-found}
 use Rattle.sml_solve.specs.Bounds.{IsNameWithin, IsHeadWithin, IsWithin, AreWithin}
 use Rattle.sml_solve.specs.Classes.{allows, both_names}
 use Rattle.sml_solve.specs.Limits.{no_limit, MeetsBound, MeetsEquality, MeetsClass, MeetsAt, KeepsThrough, IsUnder, IsOfBoth, both_bounds, both_classes, both, FitsBound, FitsEquality, FitsClass, FitsAt, IsFitUnknown, IsFitNode, asks_parts, for_parts, handed, bound_height, class_height, height}
@@ -385,6 +390,9 @@ equality-meets true arrow ts f a = absurd f
 equality-meets true (row ls) ts f a = row-admits ls ts ∙ admitting-all ts a
 equality-meets true (name m) ts f a = admits-named m ts ∙ ref-meets (is_reference_name m) (attributes_of m).equality ts f a
 
+row-named : (ls : List Id) (n : Name) → ◌≡◌ {A = Head Name} (row ls) (name n) → ⊥
+row-named ls n e = cc
+
 no-types : (ts : List (MlType Name)) → types_of ts ≡ no_type → length ts ≡ 0
 no-types [] e = refl
 no-types (t ∷ ts) e = cc
@@ -446,6 +454,55 @@ app-meets Equality u a h ts f w = equality-meets a.equality h ts f w
 app-meets Classes u a h ts f w = class-meets a.class h ts f
 app-meets Rigidity u a h ts f w = variables-meets a.variables h ts f
 
+-- what is asked of the heads of rows doesn't depend on the labels
+
+row-class : (a : Option Names) (ls ks : List Id) (n m : ℕ) → FitsClass a (row ls) n → FitsClass a (row ks) m
+row-class None ls ks n m f = tt
+row-class (Some c) ls ks n m f = absurd (row-named ls (initial f.0) f.2)
+
+row-bound : (u : ℕ) (a : Option ℕ) (ls : List Id) → FitsBound u a (row ls)
+row-bound u None ls = tt
+row-bound u (Some n) ls = tt
+
+row-equality : (a : Bool) (ls : List Id) → FitsEquality a (row ls)
+row-equality true ls = tt
+row-equality false ls = tt
+
+row-variables : (a : Variables) (ls ks : List Id) (n m : ℕ) → FitsVariables a (row ls) n → FitsVariables a (row ks) m
+row-variables V.Any ls ks n m f = tt
+row-variables (V.One x) ls ks n m f = absurd (row-named ls (made 0 x.number 0 x.equality) f.0)
+row-variables V.Several ls ks n m f = f
+
+row-fits : (l : Layer) (u : ℕ) (a : Limit) (ls ks : List Id) (n m : ℕ) → FitsAt l u a (row ls) n → FitsAt l u a (row ks) m
+row-fits Equations u a ls ks n m f = tt
+row-fits Finiteness u a ls ks n m f = tt
+row-fits Newness u a ls ks n m f = row-bound u a.newness ks
+row-fits Locality u a ls ks n m f = row-bound u a.locality ks
+row-fits Equality u a ls ks n m f = row-equality a.equality ks
+row-fits Classes u a ls ks n m f = row-class a.class ls ks n m f
+row-fits Rigidity u a ls ks n m f = row-variables a.variables ls ks n m f
+
+fits-row : (l : Layer) (u : ℕ) (a : Limit) (ls : List Id) (n : ℕ) → FitsAt l u a (row []) 0 → FitsAt l u a (row ls) n
+fits-row l u a ls n f = row-fits l u a [] ls 0 n f
+
+fits-any : (l : Layer) (u : ℕ) (a : Limit) (ls : List Id) (n : ℕ) → FitsAt l u a (row ls) n → FitsAt l u a (row []) 0
+fits-any l u a ls n f = row-fits l u a ls [] n 0 f
+
+-- what holds of a row's types holds of its fields
+pub all-fields : (P : MlType Name → Type 0) (σ : Assignment finite) (ls : List Id) (ts : List (MlType Name)) (fs : List (Id × ℕ)) → AllByRecursion (λ f. lookup f.0 (with_labels ls ts) ≡ Some f.1) (fields_at σ fs) → AllByRecursion P ts → AllByRecursion (λ k. P (σ k)) (kids_of fs)
+all-fields P σ ls ts [] a b = tt
+all-fields P σ ls ts (f ∷ fs) a b = (row-found P ls ts f.0 (σ f.1) b a.0, all-fields P σ ls ts fs a.1 b)
+
+-- a type's own components, where it is a row
+own-parts : (l : Layer) (u : ℕ) (a : Limit) (t : MlType Name) → MeetsAt l u a t → AllByRecursion (MeetsAt l u (for_parts (row []) a)) (values_in (components t))
+own-parts l u a (bound k) w = tt
+own-parts l u a (free v) w = tt
+own-parts l u a (app arrow ts) w = tt
+own-parts l u a (app (row ls) ts) w =
+    let e : app (row ls) (types_of (list_of ts)) ≡ app (row ls) ts = ap (app (row ls)) (types-list_of ts) in
+    subst (λ t. AllByRecursion (MeetsAt l u (for_parts (row []) a)) (values_in (components t))) e (all-components (MeetsAt l u (for_parts (row []) a)) ls (list_of ts) (app-parts l u a (row ls) (list_of ts) (subst (MeetsAt l u a) (sym e) w)))
+own-parts l u a (app (name n) ts) w = tt
+
 -- the same of nodes
 
 all-mapped : (P : MlType Name → Type 0) (σ : Assignment finite) (ks : List ℕ) → AllByRecursion P (map σ ks) → AllByRecursion (λ k. P (σ k)) ks
@@ -482,6 +539,7 @@ node-fits l u a σ i (Link j) e w = tt
 node-fits l u a σ i (App h kids) e w =
     let n = length kids.items in
     rw length-map at (app-fits l u a (head_over h n) (map σ kids.items) (subst (MeetsAt l u a) e (w l (omega arith))))
+node-fits l u a σ i (Open fs) e w = fits-any l u a e.labels (length e.types) (app-fits l u a (row e.labels) e.types (subst (MeetsAt l u a) e.is_row (w l (omega arith))))
 
 pub node-parts : (l : Layer) (u : ℕ) (a : Limit) (σ : Assignment finite) (i : ℕ) (x : Node) → Agrees finite σ i x → MeetsAt l u a (σ i) → AllByRecursion (λ k. MeetsAt l u (handed x a) (σ k)) (parts x)
 node-parts l u a σ i Unknown e w = tt
@@ -489,19 +547,28 @@ node-parts l u a σ i (Link j) e w = (subst (MeetsAt l u a) e w, tt)
 node-parts l u a σ i (App h kids) e w =
     let g = head_over h (length kids.items) in
     all-mapped (MeetsAt l u (for_parts g a)) σ kids.items (app-parts l u a g (map σ kids.items) (subst (MeetsAt l u a) e w))
+node-parts l u a σ i (Open fs) e w =
+    all-fields (MeetsAt l u (for_parts (row []) a)) σ e.labels e.types (fields_of fs.value) e.fields (app-parts l u a (row e.labels) e.types (subst (MeetsAt l u a) e.is_row w))
 
 -- the type of a node from those of its parts, or else this one
 abbrev pub value : Assignment finite → MlType Name → Node → MlType Name
 value σ t Unknown = t
 value σ t (Link j) = σ j
 value σ t (App h kids) = make finite (head_over h (length kids.items)) (map σ kids.items)
+value σ t (Open fs) = open_row t (fields_at σ (fields_of fs.value))
 
-pub node-meets : (l : Layer) (u : ℕ) (a : Limit) (σ : Assignment finite) (t : MlType Name) (x : Node) → IsFitNode l u a x → AllByRecursion (λ k. MeetsAt l u (handed x a) (σ k)) (parts x) → (x ≡ Unknown → MeetsAt l u a t) → MeetsAt l u a (value σ t x)
-node-meets l u a σ t Unknown f w g = g refl
+pub node-meets : (l : Layer) (u : ℕ) (a : Limit) (σ : Assignment finite) (t : MlType Name) (x : Node) → IsFitNode l u a x → AllByRecursion (λ k. MeetsAt l u (handed x a) (σ k)) (parts x) → ((IsKnown x → ⊥) → MeetsAt l u a t) → MeetsAt l u a (value σ t x)
+node-meets l u a σ t Unknown f w g = g (λ e. e)
 node-meets l u a σ t (Link j) f w g = w.0
 node-meets l u a σ t (App h kids) f w g =
     let k = head_over h (length kids.items) in
     app-meets l u a k (map σ kids.items) (rw length-map f) (mapped-all (MeetsAt l u (for_parts k a)) σ kids.items w)
+node-meets l u a σ t (Open fs) f w g =
+    let gs = fields_at σ (fields_of fs.value) in
+    let m = set_fields gs (set_fields (components t) []) in
+    let b = for_parts (row []) a in
+    app-meets l u a (row (labels_in m)) (values_in m) (fits-row l u a (labels_in m) (length (values_in m)) f)
+    (open-all (MeetsAt l u b) t gs (own-parts l u a t (g (λ e. e))) (all-at-fields σ (MeetsAt l u b) (fields_of fs.value) w))
 
 -- the type int is as anything asks
 

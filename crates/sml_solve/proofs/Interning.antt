@@ -13,9 +13,11 @@ use Rattle.sml_objects.specs.Views.{types_of}
 use Rattle.sml_solve.specs.declared.node.Head.{Head}
 use Rattle.sml_solve.specs.declared.node.Head.TheVariants.{Row}
 use Rattle.sml_solve.specs.declared.node.Node.{Node}
-use Rattle.sml_solve.specs.declared.node.Node.TheVariants.{Unknown, Link, App}
+use Rattle.sml_solve.specs.declared.node.Node.TheVariants.{Unknown, Link, App, Open}
 use Rattle.sml_solve.specs.Worlds.{World, finite, infinite, In, Assignment, make, tree, spread, spread_all, typed}
-use Rattle.sml_solve.specs.Graphs.{node_at, Agrees, Meets, IsSound, IsSoundNode, IsCountOf, IsKnown, parts, head_over, labels}
+use Rattle.sml_tree.specs.Trees.{Id}
+use Rattle.sml_solve.specs.Rows.{HasFields, fields_at, kids_of}
+use Rattle.sml_solve.specs.Graphs.{node_at, Agrees, Meets, IsSound, IsSoundNode, IsCountOf, IsKnown, fields_of, parts, head_over, labels}
 use Rattle.sml_solve.specs.Interned.{IsOver, AreOver, IsBodyOver, AreBodiesOver, through, Interns, IsInterning, numbers, IsHeadOver, IsUnknownAt, Expands}
 use Rattle.sml_solve.specs.Reads.{sizes}
 use Rattle.sml_solve.proofs.Merging.{same_or_not, all-append}
@@ -150,20 +152,28 @@ map-alike w σ τ (k ∷ ks) a =
     let r : map σ ks ≡ map τ ks = map-alike w σ τ ks a.1 in
     cc
 
+pub fields-alike : (w : World) (σ τ : Assignment w) (fs : List (Id × ℕ)) → Alike w σ τ (kids_of fs) → fields_at σ fs ≡ fields_at τ fs
+fields-alike w σ τ [] a = refl
+fields-alike w σ τ (f ∷ fs) a = let r = fields-alike w σ τ fs a.1 in λ i. (f.0, a.0 i) ∷ r i
+
 pub agrees-alike : (w : World) (σ τ : Assignment w) (i : ℕ) (n : Node) → σ i ≡ τ i → Alike w σ τ (parts n) → Agrees w σ i n → Agrees w τ i n
 agrees-alike w σ τ i Unknown e a h = tt
 agrees-alike w σ τ i (Link j) e a h = sym e ∙ (h ∙ a.0)
 agrees-alike w σ τ i (App f kids) e a h = sym e ∙ (h ∙ ap (make w (head_over f (length kids.items))) (map-alike w σ τ kids.items a))
+agrees-alike w σ τ i (Open fs) e a h =
+    subst (λ t. HasFields w t (fields_at τ (fields_of fs.value))) e (subst (HasFields w (σ i)) (fields-alike w σ τ (fields_of fs.value) a) h)
 
 pub parts-inside : (n i : ℕ) (m : Node) → i < n → IsSoundNode n i m → AllByRecursion (λ k. k < n) (parts m)
 parts-inside n i Unknown h s = tt
 parts-inside n i (Link j) h s = (omega (arith, h, s), tt)
 parts-inside n i (App f kids) h s = s.0
+parts-inside n i (Open fs) h s = s
 
 pub sound-more : (n m i : ℕ) (x : Node) → n ≤ m → IsSoundNode n i x → IsSoundNode m i x
 sound-more n m i Unknown h s = tt
 sound-more n m i (Link j) h s = s
 sound-more n m i (App f kids) h s = (inside-more n m kids.items h s.0, s.1)
+sound-more n m i (Open fs) h s = inside-more n m (kids_of (fields_of fs.value)) h s
 
 -- an assignment with other types from k on
 abbrev pub beyond : (w : World) → Assignment w → ℕ → (ℕ → In w) → Assignment w

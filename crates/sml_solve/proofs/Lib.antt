@@ -1,4 +1,5 @@
 pub mod Worlding
+pub mod Rowing
 pub mod Clashing
 pub mod Merging
 pub mod Interning

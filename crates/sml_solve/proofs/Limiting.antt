@@ -9,7 +9,7 @@ use Rattle.sml_solve.specs.declared.layer.Layer.{Layer}
 use Rattle.sml_solve.specs.declared.layer.Layer.TheVariants.{Equations, Finiteness, Newness, Locality, Equality, Classes, Rigidity}
 use Rattle.sml_solve.specs.declared.limits.Limit.{Limit}
 use Rattle.sml_solve.specs.declared.node.Node.{Node}
-use Rattle.sml_solve.specs.declared.node.Node.TheVariants.{Unknown, Link, App}
+use Rattle.sml_solve.specs.declared.node.Node.TheVariants.{Unknown, Link, App, Open}
 use Rattle.sml_solve.specs.Worlds.{finite, Assignment}
 use Rattle.sml_solve.specs.Graphs.{node_at, parts, head_over, IsAmong}
 use Rattle.sml_solve.specs.Limits.{no_limit, limit_at, MeetsEquality, MeetsAt, KeepsAt, IsUnder, IsOfBoth, both, IsFitNode, asks_parts, handed, IsClosedNode, IsClosed, IsFit, IsBefore, IsDoneBut, SameLimits, NoneKeeps, height, heights, Lowers}
@@ -195,6 +195,13 @@ none-handed Equality u (App h kids) t = off (asks_parts (head_over h (length kid
   off false = tt
 none-handed Classes u (App h kids) t = tt
 none-handed Rigidity u (App h kids) t = tt
+none-handed Equations u (Open fs) t = tt
+none-handed Finiteness u (Open fs) t = tt
+none-handed Newness u (Open fs) t = tt
+none-handed Locality u (Open fs) t = tt
+none-handed Equality u (Open fs) t = tt
+none-handed Classes u (Open fs) t = tt
+none-handed Rigidity u (Open fs) t = tt
 
 pub none-closed : (ls : List Limit) (i : ℕ) (x : Node) → limit_at ls i ≡ no_limit → IsClosedNode ls i x
 none-closed ls i x e = rw e (every (parts x)) where
@@ -218,6 +225,13 @@ none-fits Locality u (App h kids) = tt
 none-fits Equality u (App h kids) = tt
 none-fits Classes u (App h kids) = tt
 none-fits Rigidity u (App h kids) = tt
+none-fits Equations u (Open fs) = tt
+none-fits Finiteness u (Open fs) = tt
+none-fits Newness u (Open fs) = tt
+none-fits Locality u (Open fs) = tt
+none-fits Equality u (Open fs) = tt
+none-fits Classes u (Open fs) = tt
+none-fits Rigidity u (Open fs) = tt
 
 -- the same limits in other lists
 pub closed-as : (ks ls : List Limit) (i : ℕ) (x : Node) → ((i : ℕ) → limit_at ls i ≡ limit_at ks i) → IsClosedNode ks i x → IsClosedNode ls i x

@@ -1,19 +1,27 @@
 -- What one step of unification keeps.
-use Rattle.std.proofs.Common.{◌≡◌, ◌≢◌, ℕ, ◌+◌, ◌<◌, ◌≤◌, ◌⊎◌, inl, inr, List, [], ◌∷◌, ◌++◌, length, map, get_or, set, drop, sym, ◌∙◌, ap, subst, refl, arith, add-one, get_or-set_same, get_or-set_other, length-append}
+use Rattle.std.proofs.Common.{◌≡◌, ◌≢◌, ℕ, zero, suc, ◌+◌, ◌<◌, ◌≤◌, ◌⊎◌, inl, inr, List, [], ◌∷◌, ◌++◌, length, map, get_or, set, drop, take, Some, append-nil, append_assoc, sym, ◌∙◌, ap, subst, refl, arith, add-one, get_or-set_same, get_or-set_other, length-append}
 use Rattle.std.proofs.Math.Seq.{drop-cons}
 use Rattle.std.proofs.lemmas.Bool.{cases_lt}
-use Rattle.std.proofs.lemmas.List.{length-map, get_or_default}
+use Rattle.std.proofs.lemmas.List.{length-map, get_or_default, set-set}
 use Rattle.std.proofs.Math.ListN.{length-set}
 use Rattle.std.proofs.lemmas.List.Sums.{sum_by-set}
 use Rattle.std.specs.Prelude.{Result, Ok, Err, OnOk}
 use Rattle.smallvec.specs.SmallVec.{SmallVec}
 use Rattle.std.specs.List.{AllByRecursion}
+use Rattle.std.specs.Global.{Box}
+use Rattle.sml_tree.specs.Trees.{Id}
+use Rattle.sml_tree.specs.Views.{ident_of}
+use Rattle.sml_objects.specs.Maps.{lookup}
+use Rattle.sml_solve.specs.declared.fields.Fields.{Fields}
 use Rattle.sml_solve.specs.declared.node.Head.{Head}
 use Rattle.sml_solve.specs.declared.node.Node.{Node}
-use Rattle.sml_solve.specs.declared.node.Node.TheVariants.{Unknown, Link, App}
-use Rattle.sml_solve.specs.Worlds.{World, Assignment, make}
-use Rattle.sml_solve.specs.Graphs.{head_over, node_at, Agrees, Meets, MeetsPairs, pairs_of, SameSolutions, HasNoSolution, IsSound, IsSoundNode, ArePairsIn, IsRootNode, IsSame, size, weight, Merges, IsAmong, Leads, Changes}
+use Rattle.sml_solve.specs.declared.node.Node.TheVariants.{Unknown, Link, App, Open}
+use Rattle.sml_solve.specs.Worlds.{World, In, Assignment, make}
+use Rattle.sml_solve.specs.Labels.{with_labels}
+use Rattle.sml_solve.specs.Rows.{HasFields, IsField, fields_at, kids_of}
+use Rattle.sml_solve.specs.Graphs.{head_over, node_at, Agrees, Meets, MeetsPairs, pairs_of, SameSolutions, HasNoSolution, IsSound, IsSoundNode, ArePairsIn, IsRootNode, IsSame, IsKnown, size, weight, Merges, AreApart, Joins, JoinsFields, fields_of, IsAmong, Leads, Changes}
 use Rattle.sml_solve.proofs.Worlding.{app_head, app_parts}
+use Rattle.sml_solve.proofs.Rowing.{Key, same-some, fields-known, has-these, has-front, has-back, has-both, field-found}
 
 pub pairs_of-drop : (xs ys : List ℕ) (i : ℕ) → i < length xs → i < length ys → pairs_of (drop i xs) (drop i ys) ≡ (get_or xs i 0, get_or ys i 0) ∷ pairs_of (drop (i + 1) xs) (drop (i + 1) ys)
 pairs_of-drop xs ys i h k = rw (add-one, drop-cons xs i 0, drop-cons ys i 0)
@@ -96,85 +104,231 @@ length-pairs_of [] ys = omega arith
 length-pairs_of (x ∷ xs) [] = omega arith
 length-pairs_of (x ∷ xs) (y ∷ ys) = let r = length-pairs_of xs ys in omega (arith, r)
 
--- an unknown becomes a link
-pub link_unknown : (ns : List Node) (ps : List (ℕ × ℕ)) (high low : ℕ) → IsSound ns → ArePairsIn (length ns) ps → low < high → high < length ns → node_at ns high ≡ Unknown → Merges ns ps high low (set ns high (Link low)) ps
-link_unknown ns ps high low s a o h e = record {
-  len = length-set ns high (Link low);
-  sound = IsSound-set ns high (Link low) s h o;
-  inside = rw length-set a;
-  less = let x = weight-set ns high (Link low) h in omega (arith, x);
-  same = λ w σ. (
-    λ m. (Meets-set w ns σ high (Link low) h m.0 m.1.0, m.1.1),
-    λ m. (Meets-unset w ns σ high (Link low) m.0 (rw e tt), (rw (node_at-same ns high (Link low) h) at (m.0 high), m.1)),
+pub all-append : {A : Type 0} (P : A → Type 0) (xs ys : List A) → AllByRecursion P xs → AllByRecursion P ys → AllByRecursion P (xs ++ ys)
+all-append P [] ys a b = b
+all-append P (x ∷ xs) ys a b = (a.0, all-append P xs ys a.1 b)
+
+-- what a root says doesn't depend on its place
+
+pub root-sound : (n i j : ℕ) (x : Node) → IsRootNode x → IsSoundNode n i x → IsSoundNode n j x
+root-sound n i j Unknown r s = s
+root-sound n i j (Link k) r s = absurd r
+root-sound n i j (App f kids) r s = s
+root-sound n i j (Open fs) r s = s
+
+pub root-agrees : (w : World) (σ : Assignment w) (i j : ℕ) (x : Node) → σ i ≡ σ j → Agrees w σ i x → Agrees w σ j x
+root-agrees w σ i j Unknown e a = tt
+root-agrees w σ i j (Link k) e a = sym e ∙ a
+root-agrees w σ i j (App f kids) e a = sym e ∙ a
+root-agrees w σ i j (Open fs) e a = subst (λ t. HasFields w t (fields_at σ (fields_of fs.value))) e a
+
+-- two nodes become one
+
+pub joins-left : (b : Node) (ps : List (ℕ × ℕ)) → IsRootNode b → Joins Unknown b b ps ps
+joins-left b ps r = record {
+  more = [];
+  pairs = sym (append-nil ps);
+  less = omega arith;
+  sound = λ n i j k _ s. (root-sound n j k b r s, tt);
+  same = λ w σ i. (λ m. (m.1, tt), λ m. (tt, m.0));
+}
+
+pub joins-right : (a : Node) (ps : List (ℕ × ℕ)) → IsRootNode a → Joins a Unknown a ps ps
+joins-right a ps r = record {
+  more = [];
+  pairs = sym (append-nil ps);
+  less = omega arith;
+  sound = λ n i j k s _. (root-sound n i k a r s, tt);
+  same = λ w σ i. (λ m. (m.0, tt), λ m. (m.0, tt));
+}
+
+-- one of two equal heads stays, and their parts are left to solve
+pub joins-heads : (f g : Head) (kids others : SmallVec ℕ) (ps qs : List (ℕ × ℕ)) → ((n : ℕ) → head_over f n ≡ head_over g n) → length kids.items ≡ length others.items → qs ≡ ps ++ pairs_of kids.items others.items → Joins (App f kids) (App g others) (App f kids) ps qs
+joins-heads f g kids others ps qs fg n q = record {
+  more = pairs_of kids.items others.items;
+  pairs = q;
+  less = let y = length-pairs_of kids.items others.items in omega (arith, y, n);
+  sound = λ m i j k s t. (s, ArePairsIn-of m kids.items others.items s.0 t.0);
+  same = λ w σ i. (
+    λ m. (m.0, MeetsPairs-of w kids.items others.items σ (app_parts w (σ i) (head_over f (length kids.items)) (head_over g (length others.items)) (map σ kids.items) (map σ others.items) m.0 m.1)),
+    λ m.
+        let same : map σ kids.items ≡ map σ others.items = map-pairs w kids.items others.items σ n m.1 in
+        let heads : head_over f (length kids.items) ≡ head_over g (length others.items) = ap (head_over f) n ∙ fg (length others.items) in
+        (m.0, m.0 ∙ (λ j. make w (heads j) (same j))),
   );
 }
 
--- what is known moves down
-pub move_down : (ns : List Node) (ps : List (ℕ × ℕ)) (high low : ℕ) (f : Head) (kids : SmallVec ℕ) → IsSound ns → ArePairsIn (length ns) ps → low < high → high < length ns → node_at ns high ≡ App f kids → node_at ns low ≡ Unknown → Merges ns ps high low (set (set ns high (Link low)) low (App f kids)) ps
-move_down ns ps high low f kids s a o h e d =
-    let d' : node_at (set ns high (Link low)) low ≡ Unknown = node_at-other ns high low (Link low) (λ e. omega arith) ∙ d in
-    let l : low < length (set ns high (Link low)) = rw length-set (omega arith) in
-    let k : IsSoundNode (length ns) high (App f kids) = rw e at (s high) in
-    record {
-      len = length-set (set ns high (Link low)) low (App f kids) ∙ length-set ns high (Link low);
-      sound = IsSound-set (set ns high (Link low)) low (App f kids) (IsSound-set ns high (Link low) s h o) l (rw length-set k);
-      inside = rw (length-set, length-set) a;
-      less =
-          let x = weight-set ns high (Link low) h in
-          let y = weight-set (set ns high (Link low)) low (App f kids) l in
-          let ex : size (node_at ns high) ≡ length kids.items = ap size e in
-          let ey : size (node_at (set ns high (Link low)) low) ≡ 0 = ap size d' in
-          omega (arith, x, y, ex, ey);
-      same = λ w σ. (
-        λ m.
-            let app : (σ high) ≡ make w (head_over f (length kids.items)) (map σ kids.items) = rw e at (m.0 high) in
-            let lower : (σ low) ≡ make w (head_over f (length kids.items)) (map σ kids.items) = subst (λ t. t ≡ make w (head_over f (length kids.items)) (map σ kids.items)) m.1.0 app in
-            (Meets-set w (set ns high (Link low)) σ low (App f kids) l (Meets-set w ns σ high (Link low) h m.0 m.1.0) lower, m.1.1),
-        λ m.
-            let lower : (σ low) ≡ make w (head_over f (length kids.items)) (map σ kids.items) = rw (node_at-same (set ns high (Link low)) low (App f kids) l) at (m.0 low) in
-            let linked : Meets w (set ns high (Link low)) σ = Meets-unset w (set ns high (Link low)) σ low (App f kids) m.0 (rw d' tt) in
-            let equal : σ high ≡ σ low = rw (node_at-same ns high (Link low) h) at (linked high) in
-            let app : (σ high) ≡ make w (head_over f (length kids.items)) (map σ kids.items) = subst (λ t. t ≡ make w (head_over f (length kids.items)) (map σ kids.items)) (sym equal) lower in
-            (Meets-unset w ns σ high (Link low) linked (rw e app), (equal, m.1)),
-      );
-    }
-
--- one of two equal heads becomes a link, and their parts are left to solve
-pub link_parts : (ns : List Node) (ps : List (ℕ × ℕ)) (high low : ℕ) (f g : Head) (kids others : SmallVec ℕ) → IsSound ns → ArePairsIn (length ns) ps → low < high → high < length ns → node_at ns high ≡ App f kids → node_at ns low ≡ App g others → ((n : ℕ) → head_over f n ≡ head_over g n) → length kids.items ≡ length others.items → Merges ns ps high low (set ns high (Link low)) (ps ++ pairs_of kids.items others.items)
-link_parts ns ps high low f g kids others s a o h e d fg n =
-    let k : IsSoundNode (length ns) high (App f kids) = rw e at (s high) in
-    let k' : IsSoundNode (length ns) low (App g others) = rw d at (s low) in
-    record {
-      len = length-set ns high (Link low);
-      sound = IsSound-set ns high (Link low) s h o;
-      inside = rw length-set (ArePairsIn-append (length ns) ps (pairs_of kids.items others.items) a (ArePairsIn-of (length ns) kids.items others.items k.0 k'.0));
-      less =
-          let x = weight-set ns high (Link low) h in
-          let ex : size (node_at ns high) ≡ length kids.items = ap size e in
-          let y = length-pairs_of kids.items others.items in
-          simp length-append (omega (arith, x, ex, y));
-      same = λ w σ. (
-        λ m.
-            let parts : map σ kids.items ≡ map σ others.items = app_parts w (σ high) (head_over f (length kids.items)) (head_over g (length others.items)) (map σ kids.items) (map σ others.items) (rw e at (m.0 high)) (m.1.0 ∙ rw d at (m.0 low)) in
-            (Meets-set w ns σ high (Link low) h m.0 m.1.0, MeetsPairs-append w ps (pairs_of kids.items others.items) σ m.1.1 (MeetsPairs-of w kids.items others.items σ parts)),
-        λ m.
-            let equal : σ high ≡ σ low = rw (node_at-same ns high (Link low) h) at (m.0 high) in
-            let same : map σ kids.items ≡ map σ others.items = map-pairs w kids.items others.items σ n (MeetsPairs-back w ps (pairs_of kids.items others.items) σ m.1) in
-            let ne : low ≢ high = (λ e. omega arith) in
-            let lower : (σ low) ≡ make w (head_over g (length others.items)) (map σ others.items) = rw (node_at-other ns high low (Link low) ne, d) at (m.0 low) in
-            let heads : head_over g (length others.items) ≡ head_over f (length kids.items) = sym (fg (length others.items)) ∙ ap (head_over f) (sym n) in
-            let app : (σ high) ≡ make w (head_over f (length kids.items)) (map σ kids.items) = equal ∙ (lower ∙ (ap (λ x. make w x (map σ others.items)) heads ∙ ap (make w (head_over f (length kids.items))) (sym same))) in
-            (Meets-unset w ns σ high (Link low) m.0 (rw e app), (equal, MeetsPairs-front w ps (pairs_of kids.items others.items) σ m.1)),
-      );
-    }
-
 -- two heads or two numbers of parts
-pub clash : (ns : List Node) (high low : ℕ) (f g : Head) (kids others : SmallVec ℕ) → node_at ns high ≡ App f kids → node_at ns low ≡ App g others → (head_over f (length kids.items) ≡ head_over g (length others.items) → length kids.items ≡ length others.items → ⊥) → HasNoSolution ns ((high, low) ∷ [])
-clash ns high low f g kids others e d differ w σ m p =
-    let left : (σ high) ≡ make w (head_over f (length kids.items)) (map σ kids.items) = rw e at (m high) in
-    let right : (σ high) ≡ make w (head_over g (length others.items)) (map σ others.items) = p.0 ∙ rw d at (m low) in
-    let same : map σ kids.items ≡ map σ others.items = app_parts w (σ high) (head_over f (length kids.items)) (head_over g (length others.items)) (map σ kids.items) (map σ others.items) left right in
-    differ (app_head w (σ high) (head_over f (length kids.items)) (head_over g (length others.items)) (map σ kids.items) (map σ others.items) left right) (sym (length-map kids.items σ) ∙ ap length same ∙ length-map others.items σ)
+pub heads-apart : (f g : Head) (kids others : SmallVec ℕ) → (head_over f (length kids.items) ≡ head_over g (length others.items) → length kids.items ≡ length others.items → ⊥) → AreApart (App f kids) (App g others)
+heads-apart f g kids others differ w σ i left right =
+    let same : map σ kids.items ≡ map σ others.items = app_parts w (σ i) (head_over f (length kids.items)) (head_over g (length others.items)) (map σ kids.items) (map σ others.items) left right in
+    differ (app_head w (σ i) (head_over f (length kids.items)) (head_over g (length others.items)) (map σ kids.items) (map σ others.items) left right) (sym (length-map kids.items σ) ∙ ap length same ∙ length-map others.items σ)
+
+pub apart-as : (a b x y : Node) → x ≡ a → y ≡ b → AreApart a b → AreApart x y
+apart-as a b x y e f d = rw (e, f) d
+
+-- fields are added one by one
+
+fields-append : {A B : Type 0} (g : A → B) (fs hs : List (Id × A)) → fields_at g (fs ++ hs) ≡ fields_at g fs ++ fields_at g hs
+fields-append g [] hs = refl
+fields-append g (f ∷ fs) hs = ap (λ xs. (f.0, g f.1) ∷ xs) (fields-append g fs hs)
+
+field-same : (w : World) (σ : Assignment w) (t : In w) (hs : List (Id × ℕ)) (l : Id) (k j : ℕ) → HasFields w t (fields_at σ hs) → IsField l k hs → HasFields w t ((l, σ j) ∷ []) → σ k ≡ σ j
+field-same w σ t hs l k j h f g =
+    let a : lookup l (with_labels h.labels h.types) ≡ Some (σ k) = field-found σ hs (with_labels h.labels h.types) l k f h.fields in
+    let b : lookup l (with_labels h.labels h.types) ≡ Some (σ j) = (fields-known w t (fields_at σ hs) ((l, σ j) ∷ []) h g).0 in
+    same-some (σ k) (σ j) (sym a ∙ b)
+
+field-there : (w : World) (σ : Assignment w) (t : In w) (hs : List (Id × ℕ)) (l : Id) (k j : ℕ) → HasFields w t (fields_at σ hs) → IsField l k hs → σ k ≡ σ j → HasFields w t ((l, σ j) ∷ [])
+field-there w σ t hs l k j h f e =
+    has-these w t (fields_at σ hs) ((l, σ j) ∷ []) h (field-found σ hs (with_labels h.labels h.types) l k f h.fields ∙ ap (λ x. Some x) e, tt)
+
+pub fields-none : (fs : List (Id × ℕ)) (ps : List (ℕ × ℕ)) → JoinsFields fs [] fs ps ps
+fields-none fs ps = record {
+  more = [];
+  pairs = sym (append-nil ps);
+  less = omega arith;
+  sound = λ n a b. (a, tt);
+  same = λ w σ t. (λ m. (m.0, tt), λ m. (m.0, has-these w t (fields_at σ fs) [] m.0 tt));
+}
+
+kids-more : (fs : List (Id × ℕ)) (f : Id × ℕ) → kids_of (fs ++ f ∷ []) ≡ kids_of fs ++ f.1 ∷ []
+kids-more [] f = refl
+kids-more (g ∷ fs) f = ap (λ ks. g.1 ∷ ks) (kids-more fs f)
+
+inside-front : (n : ℕ) (fs : List (Id × ℕ)) (f : Id × ℕ) → AllByRecursion (λ k. k < n) (kids_of (fs ++ f ∷ [])) → AllByRecursion (λ k. k < n) (kids_of fs) × (f.1 < n)
+inside-front n [] f a = (tt, a.0)
+inside-front n (g ∷ fs) f a = let r = inside-front n fs f a.1 in ((a.0, r.0), r.1)
+
+inside-field : (n : ℕ) (fs : List (Id × ℕ)) (l : Id) (k : ℕ) → AllByRecursion (λ k. k < n) (kids_of fs) → IsField l k fs → k < n
+inside-field n [] l k a h = absurd h
+inside-field n (f ∷ fs) l k a h = elim h [ inl q ↦ rw q.1 a.0 | inr r ↦ inside-field n fs l k a.1 r ]
+
+-- the next field, as the code reads it
+
+field-take : (fs : List (Id × ℕ)) (ls : List Key) (i : ℕ) (l : Key) → map ident_of ls ≡ map (λ f. f.0) fs → i < length ls → l ≡ get_or ls i l → take (suc i) fs ≡ take i fs ++ (ident_of l, get_or (kids_of fs) i 0) ∷ []
+field-take [] [] i l p h e = absurd (omega (arith, h))
+field-take [] (x ∷ ls) i l p h e = absurd (let z : suc (length (map ident_of ls)) ≡ 0 = ap length p in omega (arith, z))
+field-take (f ∷ fs) [] i l p h e = absurd (omega (arith, h))
+field-take (f ∷ fs) (x ∷ ls) zero l p h e =
+    let a : ident_of x ≡ f.0 = cc in
+    λ j. (sym (ap ident_of e ∙ a) j, f.1) ∷ []
+field-take (f ∷ fs) (x ∷ ls) (suc i) l p h e =
+    let a : map ident_of ls ≡ map (λ f. f.0) fs = cc in
+    ap (λ xs. f ∷ xs) (field-take fs ls i l a (omega (arith, h)) e)
+
+pub field-next : (fs : List (Id × ℕ)) (ls : List Key) (ks : List ℕ) (i : ℕ) (l k : Key) → map ident_of ls ≡ map (λ f. f.0) fs → ks ≡ kids_of fs → i < length ls → l ≡ get_or ls i l → k.value ≡ l.value → take (i + 1) fs ≡ take i fs ++ (ident_of k, get_or ks i 0) ∷ []
+field-next fs ls ks i l k p q h e c = rw add-one (field-take fs ls i l p h e ∙ (λ j. take i fs ++ ((sym c j).items, get_or (sym q j) i 0) ∷ []))
+
+-- a new one
+pub fields-new : (fs gs hs js ks : List (Id × ℕ)) (ps qs : List (ℕ × ℕ)) (f : Id × ℕ) → JoinsFields fs gs hs ps qs → js ≡ hs ++ f ∷ [] → ks ≡ gs ++ f ∷ [] → JoinsFields fs ks js ps qs
+fields-new fs gs hs js ks ps qs f m p q = rw (p, q) record {
+  more = m.more;
+  pairs = m.pairs;
+  less = let x = m.less in simp length-append (omega (arith, x));
+  sound = λ n a b.
+      let c = inside-front n gs f b in
+      let r = m.sound n a c.0 in
+      (rw kids-more (all-append (λ k. k < n) (kids_of hs) (f.1 ∷ []) r.0 (c.1, tt)), r.1);
+  same = λ w σ t. (
+    λ x.
+        let y : HasFields w t (fields_at σ gs ++ (f.0, σ f.1) ∷ []) = subst (HasFields w t) (fields-append σ gs (f ∷ [])) x.1 in
+        let z = (m.same w σ t).0 (x.0, has-front w t (fields_at σ gs) ((f.0, σ f.1) ∷ []) y) in
+        (subst (HasFields w t) (sym (fields-append σ hs (f ∷ []))) (has-both w t (fields_at σ hs) ((f.0, σ f.1) ∷ []) z.0 (has-back w t (fields_at σ gs) ((f.0, σ f.1) ∷ []) y)), z.1),
+    λ x.
+        let y : HasFields w t (fields_at σ hs ++ (f.0, σ f.1) ∷ []) = subst (HasFields w t) (fields-append σ hs (f ∷ [])) x.0 in
+        let z = (m.same w σ t).1 (has-front w t (fields_at σ hs) ((f.0, σ f.1) ∷ []) y, x.1) in
+        (z.0, subst (HasFields w t) (sym (fields-append σ gs (f ∷ []))) (has-both w t (fields_at σ gs) ((f.0, σ f.1) ∷ []) z.1 (has-back w t (fields_at σ hs) ((f.0, σ f.1) ∷ []) y))),
+  );
+}
+
+-- one whose label stands already
+pub fields-known-too : (fs gs hs js ks : List (Id × ℕ)) (ps qs rs : List (ℕ × ℕ)) (f : Id × ℕ) (k : ℕ) → JoinsFields fs gs hs ps qs → js ≡ hs → IsField f.0 k hs → ks ≡ gs ++ f ∷ [] → rs ≡ qs ++ (k, f.1) ∷ [] → JoinsFields fs ks js ps rs
+fields-known-too fs gs hs js ks ps qs rs f k m p h q r = rw (p, q, r) record {
+  more = m.more ++ (k, f.1) ∷ [];
+  pairs = ap (λ xs. xs ++ (k, f.1) ∷ []) m.pairs ∙ append_assoc ps m.more ((k, f.1) ∷ []);
+  less = let x = m.less in simp length-append (omega (arith, x));
+  sound = λ n a b.
+      let c = inside-front n gs f b in
+      let r = m.sound n a c.0 in
+      (r.0, ArePairsIn-append n m.more ((k, f.1) ∷ []) r.1 ((inside-field n hs f.0 k r.0 h, c.1), tt));
+  same = λ w σ t. (
+    λ x.
+        let y : HasFields w t (fields_at σ gs ++ (f.0, σ f.1) ∷ []) = subst (HasFields w t) (fields-append σ gs (f ∷ [])) x.1 in
+        let z = (m.same w σ t).0 (x.0, has-front w t (fields_at σ gs) ((f.0, σ f.1) ∷ []) y) in
+        let e : σ k ≡ σ f.1 = field-same w σ t hs f.0 k f.1 z.0 h (has-back w t (fields_at σ gs) ((f.0, σ f.1) ∷ []) y) in
+        (z.0, MeetsPairs-append w m.more ((k, f.1) ∷ []) σ z.1 (e, tt)),
+    λ x.
+        let z = (m.same w σ t).1 (x.0, MeetsPairs-front w m.more ((k, f.1) ∷ []) σ x.1) in
+        let e : σ k ≡ σ f.1 = (MeetsPairs-back w m.more ((k, f.1) ∷ []) σ x.1).0 in
+        (z.0, subst (HasFields w t) (sym (fields-append σ gs (f ∷ []))) (has-both w t (fields_at σ gs) ((f.0, σ f.1) ∷ []) z.1 (field-there w σ t hs f.0 k f.1 x.0 h e))),
+  );
+}
+
+-- two open rows
+pub joins-open : (a b c : Box Fields) (ps qs : List (ℕ × ℕ)) → JoinsFields (fields_of a.value) (fields_of b.value) (fields_of c.value) ps qs → Joins (Open a) (Open b) (Open c) ps qs
+joins-open a b c ps qs m = record {
+  more = m.more;
+  pairs = m.pairs;
+  less = m.less;
+  sound = λ n i j k s t. m.sound n s t;
+  same = λ w σ i. m.same w σ (σ i);
+}
+
+pub joins-turned : (a b c : Node) (ps qs : List (ℕ × ℕ)) → Joins a b c ps qs → Joins b a c ps qs
+joins-turned a b c ps qs m = record {
+  more = m.more;
+  pairs = m.pairs;
+  less = let x = m.less in omega (arith, x);
+  sound = λ n i j k s t. m.sound n j i k t s;
+  same = λ w σ i. (λ x. (m.same w σ i).0 (x.1, x.0), λ x. let y = (m.same w σ i).1 x in (y.1, y.0));
+}
+
+-- the upper node becomes a link, and the lower one says what both say
+pub merged : (ns : List Node) (ps : List (ℕ × ℕ)) (high low : ℕ) (a b c : Node) (qs : List (ℕ × ℕ)) → IsSound ns → ArePairsIn (length ns) ps → low < high → high < length ns → node_at ns high ≡ a → node_at ns low ≡ b → Joins a b c ps qs → Merges ns ps high low (set (set ns high (Link low)) low c) qs
+merged ns ps high low a b c qs s p o h e d j =
+    let ms = set ns high (Link low) in
+    let ne : low ≢ high = (λ q. omega (arith, o, q)) in
+    let d' : node_at ms low ≡ b = node_at-other ns high low (Link low) ne ∙ d in
+    let l : low < length ms = rw length-set (omega (arith, o, h)) in
+    let sa : IsSoundNode (length ns) high a = rw e at (s high) in
+    let sb : IsSoundNode (length ns) low b = rw d at (s low) in
+    let sc = j.sound (length ns) high low low sa sb in
+    record {
+      len = length-set ms low c ∙ length-set ns high (Link low);
+      sound = IsSound-set ms low c (IsSound-set ns high (Link low) s h o) l (rw length-set sc.0);
+      inside = rw (length-set, length-set, j.pairs) (ArePairsIn-append (length ns) ps j.more p sc.1);
+      less =
+          let x = weight-set ns high (Link low) h in
+          let y = weight-set ms low c l in
+          let ex : size (node_at ns high) ≡ size a = ap size e in
+          let ey : size (node_at ms low) ≡ size b = ap size d' in
+          let z = j.less in
+          let n : length qs ≡ length ps + length j.more = ap length j.pairs ∙ length-append ps j.more in
+          omega (arith, x, y, ex, ey, z, n);
+      same = λ w σ. (
+        λ m.
+            let upper : Agrees w σ low a = root-agrees w σ high low a m.1.0 (rw e at (m.0 high)) in
+            let lower : Agrees w σ low b = rw d at (m.0 low) in
+            let both = (j.same w σ low).0 (upper, lower) in
+            (Meets-set w ms σ low c l (Meets-set w ns σ high (Link low) h m.0 m.1.0) both.0, rw j.pairs (MeetsPairs-append w ps j.more σ m.1.1 both.1)),
+        λ m.
+            let there : Agrees w σ low c = rw (node_at-same ms low c l) at (m.0 low) in
+            let pairs : MeetsPairs w (ps ++ j.more) σ = rw j.pairs at m.1 in
+            let both = (j.same w σ low).1 (there, MeetsPairs-back w ps j.more σ pairs) in
+            let linked : Meets w ms σ = Meets-unset w ms σ low c m.0 (rw d' both.1) in
+            let equal : σ high ≡ σ low = rw (node_at-same ns high (Link low) h) at (linked high) in
+            (Meets-unset w ns σ high (Link low) linked (rw e (root-agrees w σ low high a (sym equal) both.0)), (equal, MeetsPairs-front w ps j.more σ pairs)),
+      );
+    }
+
+pub clash : (ns : List Node) (high low : ℕ) (a b : Node) → node_at ns high ≡ a → node_at ns low ≡ b → AreApart a b → HasNoSolution ns ((high, low) ∷ [])
+clash ns high low a b e d differ w σ m p =
+    differ w σ low (root-agrees w σ high low a p.0 (rw e at (m high))) (rw d at (m low))
+
+-- the same, where the lower node was written twice
+pub merged-as : (ns : List Node) (ps : List (ℕ × ℕ)) (high low : ℕ) (a b c x y : Node) (qs : List (ℕ × ℕ)) → IsSound ns → ArePairsIn (length ns) ps → low < high → high < length ns → node_at ns high ≡ a → node_at ns low ≡ b → x ≡ Link low → Joins a b c ps qs → Merges ns ps high low (set (set (set ns high x) low y) low c) qs
+merged-as ns ps high low a b c x y qs s p o h e d f j = rw (set-set, f) (merged ns ps high low a b c qs s p o h e d j)
 
 -- a node as the code reads it
 pub read_node : (ns : List Node) (i : ℕ) (x n : Node) → i < length ns → x ≡ get_or ns i x → x ≡ n → node_at ns i ≡ n
@@ -183,10 +337,11 @@ read_node ns i x n h a b = get_or_default ns i Unknown x h ∙ sym a ∙ b
 pub read_other : (ns : List Node) (i j : ℕ) (y x n : Node) → j < length ns → j ≢ i → x ≡ get_or (set ns i y) j x → x ≡ n → node_at ns j ≡ n
 read_other ns i j y x n h d a b = sym (node_at-other ns i j y d) ∙ read_node (set ns i y) j x n (rw length-set h) a b
 
-pub not_app : (n : Node) → IsRootNode n → ((f : Head) (kids : SmallVec ℕ) → n ≡ App f kids → ⊥) → n ≡ Unknown
-not_app Unknown r d = refl
-not_app (Link j) r d = absurd r
-not_app (App f kids) r d = absurd (d f kids refl)
+pub not_app : (n : Node) → IsRootNode n → ((f : Head) (kids : SmallVec ℕ) → n ≡ App f kids → ⊥) → IsKnown n → ⊥
+not_app Unknown r d k = k
+not_app (Link j) r d k = r
+not_app (App f kids) r d k = d f kids refl
+not_app (Open fs) r d k = k
 
 pub Merges-as : (ns : List Node) (ps : List (ℕ × ℕ)) (high low : ℕ) (ms ms' : List Node) (qs qs' : List (ℕ × ℕ)) → Merges ns ps high low ms qs → ms ≡ ms' → qs ≡ qs' → Merges ns ps high low ms' qs'
 Merges-as ns ps high low ms ms' qs qs' m a b = subst (λ x. Merges ns ps high low x qs') a (subst (λ x. Merges ns ps high low ms x) b m)
@@ -275,10 +430,6 @@ IsAmong-append i (x ∷ xs) ys a = elim a [ inl e ↦ inl e | inr r ↦ inr (IsA
 pub IsAmong-back : (i : ℕ) (xs ys : List ℕ) → IsAmong i ys → IsAmong i (xs ++ ys)
 IsAmong-back i [] ys a = a
 IsAmong-back i (x ∷ xs) ys a = inr (IsAmong-back i xs ys a)
-
-pub all-append : {A : Type 0} (P : A → Type 0) (xs ys : List A) → AllByRecursion P xs → AllByRecursion P ys → AllByRecursion P (xs ++ ys)
-all-append P [] ys a b = b
-all-append P (x ∷ xs) ys a b = (a.0, all-append P xs ys a.1 b)
 
 pub changes-none : (ns : List Node) (is : List ℕ) → Changes ns is ns is
 changes-none ns is = record { others = λ i. inl refl; grows = λ i a. a; inside = λ a. a }

@@ -1,5 +1,5 @@
 -- What a vector of nodes says of the types of its nodes.
-use Rattle.std.specs.Prelude.{◌≡◌, ℕ, zero, suc, ◌+◌, ◌<◌, ◌≤◌, ◌↔◌, ◌⊎◌, ◌^◌, List, [], ◌∷◌, length, map, slice_index, slice_index_or, decimal}
+use Rattle.std.specs.Prelude.{◌≡◌, ℕ, zero, suc, ◌+◌, ◌<◌, ◌≤◌, ◌↔◌, ◌⊎◌, ◌^◌, List, [], ◌∷◌, ◌++◌, length, map, slice_index, slice_index_or, decimal}
 use Rattle.std.specs.List.{sum_by, AllByRecursion}
 use Rattle.sml_tree.specs.Trees.{Id}
 use Rattle.sml_objects.specs.Initial.{Name}
@@ -10,7 +10,7 @@ use Rattle.sml_solve.specs.declared.node.Head.{Head}
 use Rattle.sml_solve.specs.declared.node.Head.TheVariants.{Arrow, Row, Name as Applied}
 use Rattle.sml_solve.specs.declared.node.Node.{Node}
 use Rattle.sml_solve.specs.declared.node.Node.TheVariants.{Unknown, Link, App, Open}
-use Rattle.sml_solve.specs.Worlds.{World, Assignment, make}
+use Rattle.sml_solve.specs.Worlds.{World, In, Assignment, make}
 use Rattle.sml_solve.specs.Rows.{HasFields, field_list, fields_at, kids_of}
 
 -- k, the number behind it and so on: n labels
@@ -137,6 +137,27 @@ pub record Merges (ns : List Node) (ps : List (ℕ × ℕ)) (high low : ℕ) (ms
   pub inside : ArePairsIn (length ms) qs
   pub less : weight ms + length qs ≤ weight ns + length ps
   pub same : SameSolutions ns ((high, low) ∷ ps) ms qs
+
+-- no type is what both nodes say
+abbrev pub AreApart : Node → Node → Type 0
+AreApart a b = (w : World) (σ : Assignment w) (i : ℕ) → Agrees w σ i a → Agrees w σ i b → ⊥
+
+-- One node says what two say, where each pair that is left to solve besides gets one type.
+pub record Joins (a b c : Node) (ps qs : List (ℕ × ℕ)) : Type 0 where
+  pub more : List (ℕ × ℕ)
+  pub pairs : qs ≡ ps ++ more
+  pub less : size c + length more ≤ size a + size b
+  pub sound : (n i j k : ℕ) → IsSoundNode n i a → IsSoundNode n j b → IsSoundNode n k c × ArePairsIn n more
+  pub same : (w : World) (σ : Assignment w) (i : ℕ) → (Agrees w σ i a × Agrees w σ i b) ↔ (Agrees w σ i c × MeetsPairs w more σ)
+
+-- The same of fields: rows that have the fields of two lists have those of a third one, where each pair gets one type.
+pub record JoinsFields (fs gs hs : List (Id × ℕ)) (ps qs : List (ℕ × ℕ)) : Type 0 where
+  pub more : List (ℕ × ℕ)
+  pub pairs : qs ≡ ps ++ more
+  pub less : length hs + length more ≤ length fs + length gs
+  pub sound : (n : ℕ) → AllByRecursion (λ k. k < n) (kids_of fs) → AllByRecursion (λ k. k < n) (kids_of gs) → AllByRecursion (λ k. k < n) (kids_of hs) × ArePairsIn n more
+  pub same : (w : World) (σ : Assignment w) (t : In w)
+      → (HasFields w t (fields_at σ fs) × HasFields w t (fields_at σ gs)) ↔ (HasFields w t (fields_at σ hs) × MeetsPairs w more σ)
 
 -- only links were led on
 pub record Leads (ns ms : List Node) : Type 0 where

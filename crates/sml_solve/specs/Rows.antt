@@ -1,6 +1,8 @@
 -- Rows that have some fields and perhaps others (the Definition, section 4.7: flexible records).
 use Rattle.std.specs.Prelude.{◌≡◌, ◌⊎◌, ℕ, Vec, List, [], ◌∷◌, length, map, Some}
-use Rattle.std.specs.List.{AllByRecursion}
+use Rattle.std.specs.List.{AllByRecursion, AllByRecursion-prop}
+use Rattle.std.specs.Coded.{×_prop, →_prop, Unit-prop}
+use mathlib.Core.HLevel.{⊥_prop}
 use Rattle.std.specs.Global.{Global}
 use Rattle.std.specs.declared.rc.Rc.{Rc}
 use Rattle.sml_tree.specs.Trees.{Id}
@@ -11,9 +13,13 @@ use Rattle.sml_objects.specs.Objects.{row}
 use Rattle.sml_solve.specs.Worlds.{World, In, make}
 
 -- no label stands twice
-abbrev pub AreDistinct : List (Id × ℕ) → Type 0
+abbrev pub AreDistinct : {X : Type 0} → List (Id × X) → Type 0
 AreDistinct [] = Unit {0}
 AreDistinct (f ∷ fs) = AllByRecursion (λ g. f.0 ≡ g.0 → ⊥) fs × AreDistinct fs
+
+pub AreDistinct-prop : {X : Type 0} (fs : List (Id × X)) → IsProp (AreDistinct fs)
+AreDistinct-prop [] = Unit-prop
+AreDistinct-prop (f ∷ fs) = ×_prop (AllByRecursion-prop (λ g. f.0 ≡ g.0 → ⊥) (λ g. →_prop ⊥_prop) fs) (AreDistinct-prop fs)
 
 -- labels with nodes
 abbrev pub field_list : List (Rc (Vec ℕ Global) Global × ℕ) → List (Id × ℕ)

@@ -1,19 +1,19 @@
 //! The fields of a row of which not all labels are known.
 
-ghost use Rattle.std.specs.Prelude.{◌≡◌, ◌×◌, ◌∷◌, ◌++◌, [], length, map, Some, None, IfOk};
+ghost use Rattle.std.specs.Prelude.{◌≡◌, ◌∷◌, ◌++◌, [], map, IfOk};
+ghost use Rattle.std.specs.Option.{IfSome};
 ghost use Rattle.sml_tree.specs.Views.{ident_of};
-ghost use Rattle.sml_solve.specs.Rows.{AreDistinct, field_list, kids_of, IsField};
+ghost use Rattle.sml_solve.specs.Rows.{AreDistinct, AreDistinct-prop, field_list, kids_of, IsField};
 
 use indexmap::IndexMap;
-use sml_lex::fault::Memory;
 use sml_tree::bare::Ident;
-use std::alloc::Global;
+use std::alloc::{AllocError, Global};
 
 /// Labels, each with the node that has the type of its field. Each label stands once.
 #[derive(Drop)]
 pub struct Fields {
     map: IndexMap<Ident, usize>,
-    ghost distinct: { AreDistinct (field_list map.entries) },
+    ghost distinct: { AreDistinct (field_list map.entries) } by { AreDistinct-prop (field_list map.entries) },
 }
 
 impl Fields {
@@ -41,7 +41,7 @@ impl Fields {
     }
 
     /// Adds a field. Where its label stands already, nothing is changed, and the node that stands there is given.
-    pub(crate) fn add(&mut self, label: Ident, kid: usize) -> Result<Option<usize>, Memory>
+    pub(crate) fn add(&mut self, label: Ident, kid: usize) -> Result<Option<usize>, AllocError>
         ensures new { IfOk result (λ found. found ≡ None → field_list self.new.map.entries ≡ field_list self.old.map.entries ++ (ident_of label, kid) ∷ []) }
         ensures known { IfOk result (λ found. IfSome found (λ k. (field_list self.new.map.entries ≡ field_list self.old.map.entries) × IsField (ident_of label) k (field_list self.old.map.entries))) }
     {

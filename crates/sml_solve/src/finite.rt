@@ -9,7 +9,7 @@ ghost use Rattle.sml_solve.specs.declared.node.Node.{Node};
 ghost use Rattle.sml_solve.specs.Graphs.{IsSound, SameOutside, parts};
 ghost use Rattle.sml_solve.specs.Ranks.{HasRank, AreFrom, AreOrdered, AreOrderedBut, Gives, IsDone, IsSearch, order_at};
 
-use crate::node::Node;
+use crate::node::{Node, parts_of};
 use crate::orders::{NO_ORDER, Orders, unordered};
 use crate::reach::push_parts;
 use sml_lex::fault::Memory;
@@ -29,17 +29,11 @@ fn part_at(node: &Node, next: usize) -> Option<usize>
     ensures value { IfSome result (λ k. k ≡ slice_index (parts node.now) next) }
     ensures small { OnSome result (next + 1 < 2 ^ 64) }
 {
-    match node {
-        Node::Unknown => None,
-        Node::Link(to) => { if next == 0 { Some(*to) } else { None } }
-        Node::App(_, kids) => {
-            let kids = kids.as_slice();
-            if next < kids.len() {
-                Some(kids[next])
-            } else {
-                None
-            }
-        }
+    let parts = parts_of(node);
+    if next < parts.len() {
+        Some(parts[next])
+    } else {
+        None
     }
 }
 

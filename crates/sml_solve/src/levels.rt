@@ -5,11 +5,11 @@ ghost use Rattle.std.specs.Prelude.{◌≡◌, ◌↔◌, ◌<◌, ◌≤◌, �
 ghost use Rattle.std.specs.Bool.{OnTrue, OnFalse};
 ghost use Rattle.std.specs.List.{AllByRecursion};
 ghost use Rattle.std.specs.List.Sorted.{IsPermutation, IsNonDecreasingBy};
-ghost use Rattle.sml_solve.specs.Graphs.{IsSound, parts};
+ghost use Rattle.sml_solve.specs.Graphs.{IsSound};
 ghost use Rattle.sml_solve.specs.Levels.{level_of, level_at, level_rank, AreHandedBut, AreHeld, BeginsLevel, LowersLevels, HandsLevels};
 
 use crate::count::root_of;
-use crate::node::Node;
+use crate::node::{Node, parts_of};
 use sml_lex::fault::Memory;
 use std::alloc::Global;
 
@@ -73,23 +73,6 @@ fn lower_levels(
     Ok(())
 }
 
-/// Hands a level on to the parts of a node.
-fn hand_level_on(
-    levels: &mut Vec<Option<u32>>,
-    pending: &mut Vec<usize>,
-    node: &Node,
-    level: Option<u32>,
-) -> Result<(), Memory>
-    requires { AllByRecursion (λ k. k < length levels.old.items) (parts node.now) }
-    ensures { OnOk result (LowersLevels levels.old.items pending.old.items (parts node.now) (level_of level) levels.new.items pending.new.items) }
-{
-    match node {
-        Node::Unknown => Ok(()),
-        Node::Link(to) => lower_level(levels, pending, *to, level),
-        Node::App(_, kids) => lower_levels(levels, pending, kids.as_slice(), level),
-    }
-}
-
 /// Where a node comes in the order in which levels are handed on: the lower its level, the later.
 fn rank_of(levels: &[Option<u32>], node: usize) -> u32
     ensures { result ≡ level_rank levels.now node }
@@ -129,7 +112,7 @@ pub(crate) fn hand_levels_on(
     levels.resize(nodes.len(), None)?;
     while let Some(at) = pending.pop() {
         let level = levels[at];
-        hand_level_on(levels, &mut pending, &nodes[at], level)?;
+        lower_levels(levels, &mut pending, parts_of(&nodes[at]), level)?;
     }
     Ok(())
 }

@@ -5,6 +5,7 @@ ghost use Rattle.std.specs.Prelude.{◌≡◌, ℕ, ◌<◌, ◌^◌, ◌⊎◌,
 ghost use Rattle.std.specs.Bool.{OnTrue, OnFalse};
 ghost use Rattle.std.specs.Option.{IfSome, IfNone};
 ghost use Rattle.std.specs.List.{AllByRecursion};
+ghost use Rattle.sml_objects.specs.Objects.{row};
 ghost use Rattle.sml_objects.specs.Views.{maker_of};
 ghost use Rattle.sml_solve.specs.declared.layer.Layer.{Layer};
 ghost use Rattle.sml_solve.specs.Worlds.{finite, Assignment};
@@ -13,11 +14,11 @@ ghost use Rattle.sml_solve.specs.Layers.{place_of};
 ghost use Rattle.sml_solve.specs.Variables.{IsPossible, FitsVariables};
 ghost use Rattle.sml_solve.specs.Overloaded.{has_several};
 ghost use Rattle.sml_solve.specs.Schemes.{has_one};
-ghost use Rattle.sml_solve.specs.Limits.{no_limit, both, both_bounds, both_classes, FitsBound, FitsEquality, FitsClass, IsFitNode, for_parts, handed, IsClosed, IsFit, IsBefore, IsDoneBut, SameLimits, NoneKeeps, Lowers};
+ghost use Rattle.sml_solve.specs.Limits.{no_limit, both, both_bounds, both_classes, FitsBound, FitsEquality, FitsClass, FitsAt, IsFitNode, handed, IsClosed, IsFit, IsBefore, IsDoneBut, SameLimits, NoneKeeps, Lowers};
 
 use crate::class::Names;
 use crate::layer::Layer;
-use crate::node::{Head, Node};
+use crate::node::{Head, Node, parts_of};
 use crate::variable::Variables;
 use sml_lex::fault::Memory;
 use sml_objects::equality::{has_equality, is_reference};
@@ -102,22 +103,25 @@ impl Limit {
     {
         self.class.is_some() && !self.has_several_names()
     }
+}
 
-    /// What is asked of the parts of a type with this head. Equality isn't asked of what a reference holds.
-    fn for_parts(self, head: Head) -> Self
-        ensures { (n : ℕ) → result ≡ for_parts (head_over head n) self }
-    {
-        let equality = match head {
-            Head::Name(name) => !is_reference(name) && self.equality,
-            _ => self.equality,
-        };
-        Limit {
-            newness: self.newness,
-            locality: self.locality,
-            equality,
-            class: None,
-            variables: Variables::Any,
-        }
+/// What is asked of the parts of a node. Equality isn't asked of what a reference holds.
+fn handed_on(node: &Node, limit: Limit) -> Limit
+    ensures { result ≡ handed node.now limit }
+{
+    let equality = match node {
+        Node::Unknown => return limit,
+        Node::Link(_) => return limit,
+        Node::App(Head::Name(name), _) => !is_reference(*name) && limit.equality,
+        Node::App(_, _) => limit.equality,
+        Node::Open(_) => limit.equality,
+    };
+    Limit {
+        newness: limit.newness,
+        locality: limit.locality,
+        equality,
+        class: None,
+        variables: Variables::Any,
     }
 }
 
@@ -224,8 +228,46 @@ fn is_possible(limit: Limit) -> bool
 fn is_any(variables: Variables) -> bool
     ensures yes { OnTrue result (variables ≡ Variables.Any) }
     ensures no { OnFalse result ((h : Head) (n : ℕ) → FitsVariables variables (head_over h n) n → ⊥) }
+    ensures row { OnFalse result (FitsVariables variables (row []) 0 → ⊥) }
 {
     matches!(variables, Variables::Any)
+}
+
+/// The first layer in which a head over so many parts isn't what is asked.
+fn misfit_head(head: Head, count: usize, limit: Limit, unit: UnitId) -> Option<Layer>
+    ensures fits { (l : Layer) → IsBefore l result → FitsAt l (maker_of unit) limit (head_over head count) count }
+    ensures fails { IfSome result (λ l. FitsAt l (maker_of unit) limit (head_over head count) count → ⊥) }
+{
+    if !is_head_within(head, unit, limit.newness) {
+        return Some(Layer::Newness);
+    }
+    if !is_head_within(head, unit, limit.locality) {
+        return Some(Layer::Locality);
+    }
+    if !may_admit(head, limit.equality) {
+        return Some(Layer::Equality);
+    }
+    if !is_in_class(head, count, limit.class) {
+        return Some(Layer::Classes);
+    }
+    if !is_any(limit.variables) {
+        return Some(Layer::Rigidity);
+    }
+    None
+}
+
+/// The first layer in which a row isn't what is asked, whatever its labels.
+fn misfit_row(limit: Limit) -> Option<Layer>
+    ensures fits { (u : ℕ) (l : Layer) → IsBefore l result → FitsAt l u limit (row []) 0 }
+    ensures fails { IfSome result (λ l. (u : ℕ) → FitsAt l u limit (row []) 0 → ⊥) }
+{
+    if limit.class.is_some() {
+        return Some(Layer::Classes);
+    }
+    if !is_any(limit.variables) {
+        return Some(Layer::Rigidity);
+    }
+    None
 }
 
 /// The first layer in which a node isn't what is asked.
@@ -233,31 +275,18 @@ fn misfit(node: &Node, limit: Limit, unit: UnitId) -> Option<Layer>
     ensures fits { (l : Layer) → IsBefore l result → IsFitNode l (maker_of unit) limit node.now }
     ensures fails { IfSome result (λ l. IsFitNode l (maker_of unit) limit node.now → ⊥) }
 {
-    let (head, kids) = match node {
-        Node::Unknown => return if is_possible(limit) {
-            None
-        } else {
-            Some(Layer::Rigidity)
-        },
-        Node::Link(_) => return None,
-        Node::App(head, kids) => (head, kids),
-    };
-    if !is_head_within(*head, unit, limit.newness) {
-        return Some(Layer::Newness);
+    match node {
+        Node::Unknown => {
+            if is_possible(limit) {
+                None
+            } else {
+                Some(Layer::Rigidity)
+            }
+        }
+        Node::Link(_) => None,
+        Node::App(head, kids) => misfit_head(*head, kids.len(), limit, unit),
+        Node::Open(_) => misfit_row(limit),
     }
-    if !is_head_within(*head, unit, limit.locality) {
-        return Some(Layer::Locality);
-    }
-    if !may_admit(*head, limit.equality) {
-        return Some(Layer::Equality);
-    }
-    if !is_in_class(*head, kids.len(), limit.class) {
-        return Some(Layer::Classes);
-    }
-    if !is_any(limit.variables) {
-        return Some(Layer::Rigidity);
-    }
-    None
 }
 
 /// The earlier of two layers that failed, if any did.
@@ -323,13 +352,7 @@ fn hand_on(
     requires { AllByRecursion (λ k. k < length limits.old) (parts node.now) }
     ensures { OnOk result (Lowers limits.old pending.old.items (parts node.now) (handed node.now limit) limits.new pending.new.items) }
 {
-    match node {
-        Node::Unknown => Ok(()),
-        Node::Link(to) => lower(limits, pending, *to, limit),
-        Node::App(head, kids) => {
-            lower_all(limits, pending, kids.as_slice(), limit.for_parts(*head))
-        }
-    }
+    lower_all(limits, pending, parts_of(node), handed_on(node, limit))
 }
 
 /// Hands the limits of the nodes that are left to do on to all that they lead to. Gives the first layer in which a limit

@@ -3,10 +3,13 @@
 ghost use Rattle.std.specs.Prelude.{◌≡◌, ◌≢◌, ℕ, ◌+◌, ◌<◌, ◌≤◌, ◌++◌, ◌∷◌, [], length, vec_len, IfOk, OnOk, Err};
 ghost use Rattle.std.specs.List.{AllByRecursion};
 ghost use Rattle.sml_solve.specs.declared.merge.Unsolved.TheVariants.{Memory};
-ghost use Rattle.sml_solve.specs.Graphs.{IsSame, IsRoot, IsSound, ArePairsIn, SameSolutions, HasNoSolution, Merges, Leads, Changes, pairs_of, node_at};
+ghost use Rattle.sml_solve.specs.declared.node.Node.TheVariants.{App, Open};
+ghost use Rattle.sml_solve.specs.Graphs.{IsSame, IsRoot, IsSound, ArePairsIn, SameSolutions, HasNoSolution, Merges, Leads, Changes, IsRootNode, AreApart, Joins, JoinsFields, fields_of, pairs_of, node_at};
 
-use crate::node::{Node, is_same_head};
-use std::alloc::{AllocError, AllocFailed};
+use crate::fields::Fields;
+use crate::node::{Head, Node, is_same_head};
+use smallvec::SmallVec;
+use std::alloc::{AllocError, AllocFailed, Global};
 use std::mem;
 
 /// Why two nodes have no type in common.
@@ -72,6 +75,92 @@ fn push_pairs(
     Ok(())
 }
 
+/// Adds the fields of one row to another one. Where a label stands in both, their nodes are a pair left to solve.
+fn add_fields(
+    pending: &mut Vec<(usize, usize)>,
+    into: &mut Fields,
+    from: &Fields,
+) -> Result<(), Unsolved>
+    ensures joins { OnOk result (JoinsFields (fields_of into.old) (fields_of from.now) (fields_of into.new) pending.old.items pending.new.items) }
+    ensures clash { result ≡ Err Unsolved.Clash → ⊥ }
+{
+    let labels = from.labels();
+    let kids = from.kids();
+    for i in 0..labels.len() {
+        let label = labels[i].clone()?;
+        if let Some(found) = into.add(label, kids[i])? {
+            pending.push((found, kids[i]))?;
+        }
+    }
+    Ok(())
+}
+
+/// One row with the fields of two.
+fn join_fields(
+    pending: &mut Vec<(usize, usize)>,
+    mut one: Box<Fields>,
+    mut other: Box<Fields>,
+) -> Result<Node, Unsolved>
+    ensures joins { IfOk result (λ n. Joins (Open one) (Open other) n pending.old.items pending.new.items) }
+    ensures clash { result ≡ Err Unsolved.Clash → ⊥ }
+{
+    if one.kids().len() < other.kids().len() {
+        add_fields(pending, &mut other, &one)?;
+        Ok(Node::Open(other))
+    } else {
+        add_fields(pending, &mut one, &other)?;
+        Ok(Node::Open(one))
+    }
+}
+
+/// One node with the parts of two heads that are one.
+fn join_heads(
+    pending: &mut Vec<(usize, usize)>,
+    head: Head,
+    kids: SmallVec<usize, 2, Global>,
+    other: Head,
+    others: SmallVec<usize, 2, Global>,
+) -> Result<Node, Unsolved>
+    ensures joins { IfOk result (λ n. Joins (App head kids) (App other others) n pending.old.items pending.new.items) }
+    ensures clash { result ≡ Err Unsolved.Clash → AreApart (App head kids) (App other others) }
+{
+    if is_same_head(head, other) && kids.len() == others.len() {
+        push_pairs(pending, kids.as_slice(), others.as_slice())?;
+        Ok(Node::App(head, kids))
+    } else {
+        Err(Unsolved::Clash)
+    }
+}
+
+/// One node that says what two say, where neither leads to another.
+fn join(
+    pending: &mut Vec<(usize, usize)>,
+    upper: Node,
+    lower: Node,
+) -> Result<Node, Unsolved>
+    requires upper { IsRootNode upper }
+    requires lower { IsRootNode lower }
+    ensures joins { IfOk result (λ n. Joins upper lower n pending.old.items pending.new.items) }
+    ensures clash { result ≡ Err Unsolved.Clash → AreApart upper lower }
+{
+    match upper {
+        Node::Unknown => Ok(lower),
+        Node::Link(_) => unreachable!(),
+        Node::App(head, kids) => match lower {
+            Node::Unknown => Ok(Node::App(head, kids)),
+            Node::Link(_) => unreachable!(),
+            Node::App(other, others) => join_heads(pending, head, kids, other, others),
+            Node::Open(_) => Err(Unsolved::Memory),
+        },
+        Node::Open(fields) => match lower {
+            Node::Unknown => Ok(Node::Open(fields)),
+            Node::Link(_) => unreachable!(),
+            Node::App(_, _) => Err(Unsolved::Memory),
+            Node::Open(others) => join_fields(pending, fields, others),
+        },
+    }
+}
+
 /// Makes one node of two that others may lead to.
 fn merge(
     nodes: &mut Vec<Node>,
@@ -89,24 +178,14 @@ fn merge(
     ensures others { OnOk result ((i : ℕ) → i ≢ high → i ≢ low → node_at nodes.new.items i ≡ node_at nodes.old.items i) }
     ensures clash { result ≡ Err Unsolved.Clash → HasNoSolution nodes.old.items ((high, low) ∷ []) }
 {
-    match mem::replace(&mut nodes[high], Node::Link(low)) {
-        Node::App(head, kids) => match &nodes[low] {
-            Node::App(other, others) => {
-                if is_same_head(head, *other) && kids.len() == others.len() {
-                    push_pairs(pending, kids.as_slice(), others.as_slice())?;
-                    Ok(())
-                } else {
-                    Err(Unsolved::Clash)
-                }
-            }
-            Node::Unknown => {
-                nodes[low] = Node::App(head, kids);
-                Ok(())
-            }
-            Node::Link(_) => unreachable!(),
-        },
-        Node::Unknown => Ok(()),
-        Node::Link(_) => unreachable!(),
+    let upper = mem::replace(&mut nodes[high], Node::Link(low));
+    let lower = mem::replace(&mut nodes[low], Node::Unknown);
+    match join(pending, upper, lower) {
+        Ok(joined) => {
+            nodes[low] = joined;
+            Ok(())
+        }
+        Err(fault) => Err(fault),
     }
 }
 

@@ -5,7 +5,7 @@ ghost use Rattle.std.specs.List.{AllByRecursion};
 ghost use Rattle.sml_solve.specs.Graphs.{IsAmong, IsSound, parts};
 ghost use Rattle.sml_solve.specs.Ranks.{order_at, IsAbove, IsOrdered};
 
-use crate::node::Node;
+use crate::node::{Node, parts_of};
 use sml_lex::fault::Memory;
 use std::alloc::Global;
 
@@ -50,11 +50,7 @@ fn above(orders: &[u64], node: &Node, least: u64) -> Result<u64, Memory>
     ensures above { IfOk result (λ n. IsAbove orders.now node.now n) }
     ensures least { IfOk result (λ n. least ≤ n) }
 {
-    match node {
-        Node::Unknown => Ok(least),
-        Node::Link(to) => above_all(orders, &[*to], least),
-        Node::App(_, kids) => above_all(orders, kids.as_slice(), least),
-    }
+    above_all(orders, parts_of(node), least)
 }
 
 impl Orders {

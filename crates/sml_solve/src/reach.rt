@@ -6,7 +6,7 @@ ghost use Rattle.std.specs.List.{AllByRecursion};
 ghost use Rattle.sml_solve.specs.Graphs.{IsAmong, IsSound, parts};
 ghost use Rattle.sml_solve.specs.Fixed.{IsMarked, IsReach, AreMarks, places_of};
 
-use crate::node::Node;
+use crate::node::{Node, parts_of};
 use sml_lex::fault::Memory;
 use std::alloc::Global;
 
@@ -14,11 +14,7 @@ use std::alloc::Global;
 pub(crate) fn push_parts(pending: &mut Vec<usize>, node: &Node) -> Result<(), Memory>
     ensures { OnOk result (pending.new.items ≡ pending.old.items ++ parts node.now) }
 {
-    match node {
-        Node::Unknown => {}
-        Node::Link(to) => pending.push(*to)?,
-        Node::App(_, kids) => pending.extend_from_slice(kids.as_slice())?,
-    }
+    pending.extend_from_slice(parts_of(node))?;
     Ok(())
 }
 

@@ -44,15 +44,15 @@ bounds-nodes-at c =
     let n = i.len in
     omega (arith, l, n)
 
-pub hand_level_on-requires : goal.hand_level_on-requires
-hand_level_on-requires c =
+pub lower_levels-requires : goal.lower_levels-requires
+lower_levels-requires c =
     let ns = c.args.nodes.now in
     let at = c.in-Some.at in
     let i = c.loop-at.invariant in
     let inside : AllByRecursion (λ i. i < length c.loop-at.levels.items) (c.pop.new.self.items ++ at ∷ []) = rw c.in-Some.ensures.items at i.inside in
     let l : at < length ns = rw i.len at (front-inside (λ i. i < length c.loop-at.levels.items) c.pop.new.self.items at inside).1 in
     let n : node_at ns at ≡ c.index-nodes-at.result = read_at ns at c.index-nodes-at.result l c.index-nodes-at.is in
-    rw (i.len, ← n) (parts-inside (length ns) at (node_at ns at) l (c.requires.sound at))
+    rw (i.len, c.parts_of.ensures, ← n) (parts-inside (length ns) at (node_at ns at) l (c.requires.sound at))
 
 pub loop-at-preserved : goal.loop-at-preserved
 loop-at-preserved c =
@@ -60,9 +60,9 @@ loop-at-preserved c =
     let at = c.in-Some.at in
     let old = c.args.levels.now.items in
     let ls = c.loop-at.levels.items in
-    let ms = c.hand_level_on.new.levels.items in
+    let ms = c.lower_levels.new.levels.items in
     let is = c.pop.new.self.items in
-    let js = c.hand_level_on.new.pending.items in
+    let js = c.lower_levels.new.pending.items in
     let i = c.loop-at.invariant in
     let inside : AllByRecursion (λ i. i < length ls) (is ++ at ∷ []) = rw c.in-Some.ensures.items at i.inside in
     let front = front-inside (λ i. i < length ls) is at inside in
@@ -70,7 +70,7 @@ loop-at-preserved c =
     let n : node_at ns at ≡ c.index-nodes-at.result = read_at ns at c.index-nodes-at.result l c.index-nodes-at.is in
     let a : level_of c.index-level.result.now ≡ level_at ls at = ap level_of (c.index-level.ensures ∙ sym (get_or_default ls at None _ front.1)) in
     let b : AreHandedBut ns ls (is ++ at ∷ []) = rw c.in-Some.ensures.items at i.but in
-    let x : LowersLevels ls is (parts c.index-nodes-at.result) (level_at ls at) ms js = subst (λ n. LowersLevels ls is (parts c.index-nodes-at.result) n ms js) a c.in_ok-hand_level_on.ensures in
+    let x : LowersLevels ls is (parts c.index-nodes-at.result) (level_at ls at) ms js = subst (λ n. LowersLevels ls is (parts c.index-nodes-at.result) n ms js) a (rw c.parts_of.ensures at c.in_ok-lower_levels.ensures) in
     let low : LowersLevels ls is (parts (node_at ns at)) (level_at ls at) ms js = rw n x in
     record {
       len = low.len ∙ i.len;

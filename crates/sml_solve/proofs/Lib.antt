@@ -1,5 +1,6 @@
 pub mod Worlding
 pub mod Rowing
+pub mod Opening
 pub mod Clashing
 pub mod Merging
 pub mod Interning

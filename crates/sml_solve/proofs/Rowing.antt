@@ -88,7 +88,7 @@ equal-behind Less s e = absurd (let f : Less ≡ Equal = e in cc)
 equal-behind Equal s e = e
 equal-behind Greater s e = absurd (let f : Greater ≡ Equal = e in cc)
 
-same_label : (l m : Id) → label_order l m ≡ Equal → l ≡ m
+pub same_label : (l m : Id) → label_order l m ≡ Equal → l ≡ m
 same_label l m e = exact_bytes l m (equal-behind (nat_cmp (label_rank l) (label_rank m)) (order_of l m) e)
 
 own_label : (l : Id) → label_order l l ≡ Equal
@@ -124,7 +124,7 @@ lookup-here l e m q = found-by (order_of l e.0) (lookup l m) (Some e.1) (subst (
 pub lookup-there : {X : Type 0} (l : Id) (e : Id × X) (m : Map X) → (l ≡ e.0 → ⊥) → lookup l (e ∷ m) ≡ lookup l m
 lookup-there l e m d = passed-by (order_of l e.0) (lookup l m) (Some e.1) (λ q. d (exact_bytes l e.0 q))
 
-same_or_other : (l m : Id) → (l ≡ m) ⊎ (l ≡ m → ⊥)
+pub same_or_other : (l m : Id) → (l ≡ m) ⊎ (l ≡ m → ⊥)
 same_or_other l m = go (order_of l m) refl where
   go : (o : Ordering) → order_of l m ≡ o → (l ≡ m) ⊎ (l ≡ m → ⊥)
   go Less e = inr (λ q. let f : Less ≡ Equal = sym e ∙ subst (λ k. order_of l k ≡ Equal) q (own_order l) in cc)
@@ -154,7 +154,7 @@ abbrev pub values_in : {X : Type 0} → List (Id × X) → List X
 values_in m = map (λ e. e.1) m
 
 module _ {X : Type 0} (l : Id) (x : X) where
-  by_label : (e : Id × X) (m : Map X) (P : Map X → Type 0) → (label_order l e.0 ≡ Less → P ((l, x) ∷ e ∷ m)) → (label_order l e.0 ≡ Equal → P ((l, x) ∷ m)) → (label_order l e.0 ≡ Greater → P (e ∷ set_field l x m)) → P (set_field l x (e ∷ m))
+  pub by_label : (e : Id × X) (m : Map X) (P : Map X → Type 0) → (label_order l e.0 ≡ Less → P ((l, x) ∷ e ∷ m)) → (label_order l e.0 ≡ Equal → P ((l, x) ∷ m)) → (label_order l e.0 ≡ Greater → P (e ∷ set_field l x m)) → P (set_field l x (e ∷ m))
   by_label e m P f g h = go (label_order l e.0) refl where
     go : (o : Ordering) → label_order l e.0 ≡ o → P (by_order o ((l, x) ∷ e ∷ m) ((l, x) ∷ m) (e ∷ set_field l x m))
     go Less q = f q
@@ -261,7 +261,7 @@ module _ {X : Type 0} where
   labels-of (l ∷ ls) [] n = absurd (omega (arith, n))
   labels-of (l ∷ ls) (x ∷ xs) n = ap (λ ks. l ∷ ks) (labels-of ls xs (omega (arith, n)))
 
-  values-of : (ls : List Id) (xs : List X) → length xs ≡ length ls → values_in (with_labels ls xs) ≡ xs
+  pub values-of : (ls : List Id) (xs : List X) → length xs ≡ length ls → values_in (with_labels ls xs) ≡ xs
   values-of [] [] n = refl
   values-of [] (x ∷ xs) n = absurd (omega (arith, n))
   values-of (l ∷ ls) [] n = absurd (omega (arith, n))
@@ -275,7 +275,7 @@ module _ {X : Type 0} where
       let m : length xs ≡ length ls = omega (arith, n) in
       ap (set_field l x) (sets-row ls xs m r.1) ∙ set-first l x (with_labels ls xs) (subst (AllByRecursion (λ j. label_order l j ≡ Less)) (sym (labels-of ls xs m)) r.0)
 
-  with-parts : (m : Map X) → with_labels (labels_in m) (values_in m) ≡ m
+  pub with-parts : (m : Map X) → with_labels (labels_in m) (values_in m) ≡ m
   with-parts [] = refl
   with-parts (e ∷ m) = ap (λ n. e ∷ n) (with-parts m)
 
@@ -378,7 +378,7 @@ row_with-has w m fs r a = record {
 pub open-has : (t : MlType Name) (fs : List (Id × MlType Name)) → AreDistinct fs → HasFields finite (open_row t fs) fs
 open-has t fs d = row_with-has finite (set_fields fs (set_fields (components t) [])) fs (rising-sets fs (set_fields (components t) []) (rising-sets (components t) [] tt)) (sets-found fs (set_fields (components t) []) d)
 
-components-row : (ls : List Id) (ts : List (MlType Name)) → components (app (row ls) (types_of ts)) ≡ with_labels ls ts
+pub components-row : (ls : List Id) (ts : List (MlType Name)) → components (app (row ls) (types_of ts)) ≡ with_labels ls ts
 components-row ls ts = ap (with_labels ls) (list_of-types ts)
 
 -- a row that has the fields stays

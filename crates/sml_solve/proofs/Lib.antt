@@ -16,6 +16,7 @@ pub mod Counting
 pub mod Retrieving
 pub mod Owning
 pub mod Overloading
+pub mod Labelling
 pub mod Defaulting
 pub mod Reaching
 pub mod Levelling

@@ -136,7 +136,7 @@ module _ (u : ℕ) (us : List ℕ) (g : Graph) (b : Bool) (k : IsKept u g us) (d
   abbrev pub choice-with : O.MlType Name → Assignment finite
   choice-with t i = elim (same_or_not i r) [ inl _ ↦ t | inr _ ↦ stand_in (limit_at g.limits.items i).variables ]
 
-  with-here : (t : O.MlType Name) → choice-with t r ≡ t
+  pub with-here : (t : O.MlType Name) → choice-with t r ≡ t
   with-here t = elim (same_or_not r r) as (λ s. elim s as (λ _. O.MlType Name) [ inl _ ↦ t | inr _ ↦ stand_in (limit_at g.limits.items r).variables ] ≡ t) [ inl _ ↦ refl | inr n ↦ absurd (n refl) ]
 
   pub with-there : (t : O.MlType Name) (i : ℕ) → i ≢ r → choice-with t i ≡ stand_in (limit_at g.limits.items i).variables

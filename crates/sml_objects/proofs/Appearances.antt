@@ -10,6 +10,7 @@ use Rattle.sml_objects.specs.Objects as O
 use Rattle.sml_objects.specs.Initial.{Name, naming}
 use Rattle.sml_objects.specs.Appearance.{stands, firsts_after, appear_type, appear_types, appear_map, appear_env, appear_structures}
 use Rattle.sml_objects.specs.Views.{type_of, types_of, name_of, structures_of, schemes_of, entries_of, env_of}
+use Rattle.sml_objects.specs.declared.labels.Labels.{Labels}
 use Rattle.sml_objects.specs.declared.objects.TyName.{TyName}
 use Rattle.sml_objects.specs.declared.objects.MlType.{MlType, Bound, Free}
 use Rattle.sml_objects.specs.declared.objects.MlType.TheViews as V
@@ -36,9 +37,9 @@ no-more : (ns : List Name) → ns ++ [] ≡ ns
 no-more [] = refl
 no-more (n ∷ ns) = ap (λ ms. n ∷ ms) (no-more ns)
 
-pub appear-row : (ts : Vec (Rc MlType Global) Global) → appear_type (type_of (V.Row ts)) ≡ appear_types (types_of (parts_of ts.items))
+pub appear-row : (ls : Rc Labels Global) (ts : Vec (Rc MlType Global) Global) → appear_type (type_of (V.Row ls ts)) ≡ appear_types (types_of (parts_of ts.items))
 unfolding appear_type
-appear-row ts = ap appear_type (type_of-row ts) ∙ no-more (appear_types (types_of (parts_of ts.items)))
+appear-row ls ts = ap appear_type (type_of-row ls ts) ∙ no-more (appear_types (types_of (parts_of ts.items)))
 
 pub appear-arrow : (t u : Rc MlType Global) → appear_type (type_of (V.Arrow t u)) ≡ appear_type (type_of t.value) ++ appear_type (type_of u.value)
 unfolding appear_type appear_types

@@ -9,6 +9,7 @@ use Rattle.sml_objects.specs.Objects as O
 use Rattle.sml_objects.specs.Initial.{Name}
 use Rattle.sml_objects.specs.Types.{is_among, variables_after, variables_after_all, place_among, replace_type, replace_types, assign, close}
 use Rattle.sml_objects.specs.Views.{type_of, types_of}
+use Rattle.sml_objects.specs.declared.labels.Labels.{Labels}
 use Rattle.sml_objects.specs.declared.objects.TyName.{TyName}
 use Rattle.sml_objects.specs.declared.objects.MlType.{MlType, Bound, Free}
 use Rattle.sml_objects.specs.declared.objects.MlType.TheViews as V
@@ -38,10 +39,10 @@ pub variables-free : (seen : List ℕ) (v : ℕ) → variables_after seen (type_
 unfolding variables_after
 variables-free seen v = ap (variables_after seen) (type_of-free v) ∙ ap (λ b. cond b seen (seen ++ v ∷ [])) (is_among-any v seen)
 
-pub variables-row : (seen : List ℕ) (ts : Vec (Rc MlType Global) Global)
-    → variables_after seen (type_of (V.Row ts)) ≡ variables_after_all seen (types_of (parts_of ts.items))
+pub variables-row : (seen : List ℕ) (ls : Rc Labels Global) (ts : Vec (Rc MlType Global) Global)
+    → variables_after seen (type_of (V.Row ls ts)) ≡ variables_after_all seen (types_of (parts_of ts.items))
 unfolding variables_after
-variables-row seen ts = ap (variables_after seen) (type_of-row ts)
+variables-row seen ls ts = ap (variables_after seen) (type_of-row ls ts)
 
 pub variables-arrow : (seen : List ℕ) (t u : Rc MlType Global)
     → variables_after seen (type_of (V.Arrow t u)) ≡ variables_after (variables_after seen (type_of t.value)) (type_of u.value)

@@ -7,6 +7,7 @@ use Rattle.sml_objects.specs.Objects as O
 use Rattle.sml_objects.specs.Initial.{Name, initial, made, naming, attributes_of}
 use Rattle.sml_objects.specs.Equality.{admits, all_admit, is_ref, is_reference_name}
 use Rattle.sml_objects.specs.Views.{type_of, types_of, name_of}
+use Rattle.sml_objects.specs.declared.labels.Labels.{Labels}
 use Rattle.sml_objects.specs.declared.objects.TyName.{TyName}
 use Rattle.sml_objects.specs.declared.objects.MlType.{MlType, Bound, Free}
 use Rattle.sml_objects.specs.declared.objects.MlType.TheViews as V
@@ -38,9 +39,9 @@ pub admits-free : (v : ℕ) → admits naming (type_of (Free v)) ≡ false
 unfolding admits
 admits-free v = ap (admits naming) (type_of-free v)
 
-pub admits-row : (ts : Vec (Rc MlType Global) Global) → admits naming (type_of (V.Row ts)) ≡ all_admit naming (types_of (parts_of ts.items))
+pub admits-row : (ls : Rc Labels Global) (ts : Vec (Rc MlType Global) Global) → admits naming (type_of (V.Row ls ts)) ≡ all_admit naming (types_of (parts_of ts.items))
 unfolding admits
-admits-row ts = ap (admits naming) (type_of-row ts)
+admits-row ls ts = ap (admits naming) (type_of-row ls ts)
 
 pub admits-arrow : (t u : Rc MlType Global) → admits naming (type_of (V.Arrow t u)) ≡ false
 unfolding admits

@@ -4,7 +4,8 @@ use Rattle.std.specs.declared.rc.Rc.{Rc}
 use Rattle.sml_objects.specs.Objects as O
 use Rattle.sml_objects.specs.Initial.{Name}
 use Rattle.sml_objects.specs.Types.{replace_type, replace_types, instance_from}
-use Rattle.sml_objects.specs.Views.{type_of, types_of, name_of}
+use Rattle.sml_objects.specs.Views.{type_of, types_of, label_list, name_of}
+use Rattle.sml_objects.specs.declared.labels.Labels.{Labels}
 use Rattle.sml_objects.specs.declared.objects.TyName.{TyName}
 use Rattle.sml_objects.specs.declared.objects.MlType.{MlType, Free}
 use Rattle.sml_objects.specs.declared.objects.MlType.TheViews as V
@@ -30,13 +31,13 @@ module _ (k : ℕ) where
   unfolding replace_type
   kept-free v = ap (instance_from k) (type_of-free v) ∙ sym (type_of-free v)
 
-  pub kept-row : (ts : Vec (Rc MlType Global) Global) → map (λ t. instance_from k (type_of t.value)) ts.items ≡ parts_of ts.items
-      → instance_from k (type_of (V.Row ts)) ≡ type_of (V.Row ts)
+  pub kept-row : (ls : Rc Labels Global) (ts : Vec (Rc MlType Global) Global) → map (λ t. instance_from k (type_of t.value)) ts.items ≡ parts_of ts.items
+      → instance_from k (type_of (V.Row ls ts)) ≡ type_of (V.Row ls ts)
   unfolding replace_type
-  kept-row ts h =
-      ap (instance_from k) (type_of-row ts)
-      ∙ ap (O.app (O.row (O.labels_of 1 (types_of (parts_of ts.items))))) (types-kept ts.items h)
-      ∙ sym (type_of-row ts)
+  kept-row ls ts h =
+      ap (instance_from k) (type_of-row ls ts)
+      ∙ ap (O.app (O.row (label_list ls.value))) (types-kept ts.items h)
+      ∙ sym (type_of-row ls ts)
 
   pub kept-arrow : (t u : Rc MlType Global) → instance_from k (type_of t.value) ≡ type_of t.value → instance_from k (type_of u.value) ≡ type_of u.value
       → instance_from k (type_of (V.Arrow t u)) ≡ type_of (V.Arrow t u)

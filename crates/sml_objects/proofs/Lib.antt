@@ -1,5 +1,9 @@
 pub mod EnvViews
 pub mod Joins
+pub mod RisingLabels
+pub mod DecimalLabels
+pub mod LabelPlaces
+pub mod FieldsByLabel
 pub mod TypeViews
 pub mod TypeSizes
 pub mod TypeCopies

@@ -1,10 +1,11 @@
 -- Copies of types with other types for their variables and other names, variant by variant.
-use Rattle.std.proofs.Common.{◌≡◌, ◌<◌, ◌≤◌, ℕ, zero, suc, length, get_or, arith, Result, Ok, Err, IfOk, List, [], ◌∷◌, map, refl, ap, ◌∙◌, sym, decimal, Vec, Global}
+use Rattle.std.proofs.Common.{◌≡◌, ◌<◌, ◌≤◌, ℕ, zero, suc, length, get_or, arith, Result, Ok, Err, IfOk, List, [], ◌∷◌, map, refl, ap, ◌∙◌, sym, Vec, Global}
 use Rattle.std.specs.declared.rc.Rc.{Rc}
 use Rattle.sml_objects.specs.Objects as O
 use Rattle.sml_objects.specs.Initial.{Name}
 use Rattle.sml_objects.specs.Types.{replace_type, replace_types, argument, argument_or}
-use Rattle.sml_objects.specs.Views.{type_of, types_of, name_of}
+use Rattle.sml_objects.specs.Views.{type_of, types_of, label_list, name_of}
+use Rattle.sml_objects.specs.declared.labels.Labels.{Labels}
 use Rattle.sml_objects.specs.declared.objects.TyName.{TyName}
 use Rattle.sml_objects.specs.declared.objects.MlType.{MlType, Bound, Free}
 use Rattle.sml_objects.specs.declared.objects.MlType.TheViews as V
@@ -14,11 +15,6 @@ use Rattle.sml_objects.proofs.EnvViews.{map-map}
 module _ (b f : ℕ → O.MlType Name) (r : Name → Name) where
   abbrev pub copy : O.MlType Name → O.MlType Name
   copy t = replace_type b f (O.rename_type r t)
-
-  labels-copy : (k : ℕ) (ts : O.MlTypes Name) → O.labels_of k (replace_types b f (O.rename_types r ts)) ≡ O.labels_of k ts
-  unfolding replace_type replace_types O.rename_type O.rename_types
-  labels-copy k O.no_type = refl
-  labels-copy k (O.and_type t ts) = ap (λ ls. decimal k ∷ ls) (labels-copy (suc k) ts)
 
   types-copy : (ts : List (O.MlType Name)) → types_of (map copy ts) ≡ replace_types b f (O.rename_types r (types_of ts))
   unfolding replace_type replace_types O.rename_type O.rename_types
@@ -33,15 +29,14 @@ module _ (b f : ℕ → O.MlType Name) (r : Name → Name) where
   unfolding replace_type O.rename_type
   copy-free v = ap copy (type_of-free v)
 
-  pub copy-row : (ts us : Vec (Rc MlType Global) Global) → parts_of us.items ≡ map (λ t. copy (type_of t.value)) ts.items
-      → type_of (V.Row us) ≡ copy (type_of (V.Row ts))
+  pub copy-row : (ls ms : Rc Labels Global) (ts us : Vec (Rc MlType Global) Global) → label_list ms.value ≡ label_list ls.value
+      → parts_of us.items ≡ map (λ t. copy (type_of t.value)) ts.items → type_of (V.Row ms us) ≡ copy (type_of (V.Row ls ts))
   unfolding replace_type O.rename_type
-  copy-row ts us h =
+  copy-row ls ms ts us k h =
       let e = h ∙ sym (map-map copy (λ (t : Rc MlType Global). type_of t.value) ts.items) in
-      type_of-row us
-      ∙ ap O.tuple_of (ap types_of e ∙ types-copy (parts_of ts.items))
-      ∙ ap (λ ls. O.app (O.row ls) (replace_types b f (O.rename_types r (types_of (parts_of ts.items))))) (labels-copy 1 (types_of (parts_of ts.items)))
-      ∙ ap copy (sym (type_of-row ts))
+      type_of-row ms us
+      ∙ (λ i. O.app (O.row (k i)) ((ap types_of e ∙ types-copy (parts_of ts.items)) i))
+      ∙ ap copy (sym (type_of-row ls ts))
 
   pub copy-arrow : (t u v w : Rc MlType Global) → type_of v.value ≡ copy (type_of t.value) → type_of w.value ≡ copy (type_of u.value)
       → type_of (V.Arrow v w) ≡ copy (type_of (V.Arrow t u))

@@ -6,6 +6,7 @@ use Rattle.sml_objects.specs.Objects as O
 use Rattle.sml_objects.specs.Initial.{Name}
 use Rattle.sml_objects.specs.Views.{type_of, types_of}
 use Rattle.sml_objects.specs.Sizes.{type_size, types_size}
+use Rattle.sml_objects.specs.declared.labels.Labels.{Labels}
 use Rattle.sml_objects.specs.declared.objects.TyName.{TyName}
 use Rattle.sml_objects.specs.declared.objects.MlType.{MlType, Bound, Free}
 use Rattle.sml_objects.specs.declared.objects.MlType.TheViews as V
@@ -40,9 +41,9 @@ pub size-free : (k : ℕ) → type_size (type_of (Free k)) ≡ 1
 unfolding type_size
 size-free k = ap type_size (type_of-free k)
 
-pub size-row : (ts : Vec (Rc MlType Global) Global) → type_size (type_of (V.Row ts)) ≡ suc (sizes (parts_of ts.items))
+pub size-row : (ls : Rc Labels Global) (ts : Vec (Rc MlType Global) Global) → type_size (type_of (V.Row ls ts)) ≡ suc (sizes (parts_of ts.items))
 unfolding type_size
-size-row ts = ap type_size (type_of-row ts)
+size-row ls ts = ap type_size (type_of-row ls ts)
 
 pub size-arrow : (t u : Rc MlType Global)
     → type_size (type_of (V.Arrow t u)) ≡ suc (type_size (type_of t.value) + type_size (type_of u.value))

@@ -2,6 +2,7 @@ pub mod Names
 pub mod Maps
 pub mod Objects
 pub mod Initial
+pub mod Labels
 pub mod Alike
 pub mod Views
 pub mod Types

@@ -11,6 +11,7 @@ use Rattle.sml_objects.specs.declared.objects.Initial.{Initial}
 use Rattle.sml_objects.specs.declared.objects.Initial.TheVariants.{Int, Word, Char, String, Bool, Exn, Real, List as ListName, Ref}
 use Rattle.sml_objects.specs.declared.objects.TyName.{TyName}
 use Rattle.sml_objects.specs.declared.objects.TyName.TheVariants as T
+use Rattle.sml_objects.specs.declared.labels.Labels.{Labels}
 use Rattle.sml_objects.specs.declared.objects.MlType.{MlType}
 use Rattle.sml_objects.specs.declared.objects.MlType.TheOpen.{MlType-F, Bound, Free, Row, Arrow, Name as Applied}
 use Rattle.sml_objects.specs.declared.objects.MlType.TheFolds.{fold-MlType}
@@ -44,14 +45,17 @@ abbrev pub types_of : List (O.MlType Name) → O.MlTypes Name
 types_of [] = O.no_type
 types_of (t ∷ ts) = O.and_type t (types_of ts)
 
-abbrev pub row_of : List (O.MlType Name) → O.MlType Name
-row_of ts = O.tuple_of (types_of ts)
+abbrev pub label_list : Labels → List Id
+label_list ls = map ident_of ls.list.items
+
+abbrev pub row_of : List Id → List (O.MlType Name) → O.MlType Name
+row_of ls ts = O.app (O.row ls) (types_of ts)
 
 -- one layer of a type, with its parts already seen
 abbrev pub type_layer : MlType-F (O.MlType Name) → O.MlType Name
 type_layer (Bound k) = O.bound k
 type_layer (Free v) = O.free v
-type_layer (Row ts) = row_of (map (λ t. t.value) ts.items)
+type_layer (Row ls ts) = row_of (label_list ls.value) (map (λ t. t.value) ts.items)
 type_layer (Arrow t u) = O.arrow_of t.value u.value
 type_layer (Applied n ts) = O.app (O.name (name_of n)) (types_of (map (λ t. t.value) ts.items))
 

@@ -8,6 +8,7 @@ ghost use Rattle.sml_objects.specs.Maps.{join};
 ghost use Rattle.sml_objects.specs.Puts as puts;
 ghost use Rattle.sml_objects.specs.Views.{env_of, type_of, initial_of, row_of, entries_of};
 
+use crate::labels::Labels;
 use crate::objects::{Basis, Env, Initial, MlType, Scheme, TyName, UnitId};
 use sml_lex::fault::Memory;
 use sml_tree::bare::Ident;
@@ -140,15 +141,11 @@ fn put_unary(alloc: Global, env: &mut Env, name: &[u8], initial: Initial) -> Res
 }
 
 fn put_unit(alloc: Global, env: &mut Env) -> Result<(), Memory>
-    ensures { OnOk result (env_of env.new ≡ puts.with_type (codes "unit") (mono (row_of [])) (env_of env.old)) }
+    ensures { OnOk result (env_of env.new ≡ puts.with_type (codes "unit") (mono (row_of [] [])) (env_of env.old)) }
 {
-    put_type(
-        alloc,
-        env,
-        b"unit",
-        Vec::new(alloc),
-        MlType::Row(Vec::new(alloc)),
-    )
+    let labels = Rc::new(alloc, Labels::numbered(alloc, 0)?)?;
+    let body = MlType::Row(labels, Vec::new(alloc));
+    put_type(alloc, env, b"unit", Vec::new(alloc), body)
 }
 
 fn put_type(

@@ -15,7 +15,9 @@ pub fn same_type(one: &MlType, other: &MlType) -> bool
     match (one, other) {
         (MlType::Bound(j), MlType::Bound(k)) => j == k,
         (MlType::Free(v), MlType::Free(w)) => v == w,
-        (MlType::Row(parts), MlType::Row(others)) => same_types(parts, others),
+        (MlType::Row(labels, parts), MlType::Row(other_labels, others)) => labels.are_same(
+            other_labels,
+        ) && same_types(parts, others),
         (MlType::Arrow(from, to), MlType::Arrow(from_other, to_other)) => same_type(
             from, from_other,
         ) && same_type(to, to_other),

@@ -16,7 +16,7 @@ pub fn admits_equality(ty: &MlType) -> bool
     match ty {
         MlType::Bound(_) => false,
         MlType::Free(_) => false,
-        MlType::Row(parts) => all_admit_equality(parts),
+        MlType::Row(_, parts) => all_admit_equality(parts),
         MlType::Arrow(_, _) => false,
         MlType::Name(name, parts) => {
             is_reference(*name) || (has_equality(*name) && all_admit_equality(parts))

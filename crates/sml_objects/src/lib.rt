@@ -9,6 +9,7 @@ pub mod comparisons;
 pub mod environments;
 pub mod equality;
 pub mod fates;
+pub mod labels;
 pub mod laws;
 pub mod named;
 mod names;

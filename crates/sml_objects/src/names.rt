@@ -21,7 +21,7 @@ pub(crate) fn collect_type(ty: &MlType, seen: &mut IndexSet<TyName>) -> Result<(
     match ty {
         MlType::Bound(_) => Ok(()),
         MlType::Free(_) => Ok(()),
-        MlType::Row(parts) => collect_types(parts, seen),
+        MlType::Row(_, parts) => collect_types(parts, seen),
         MlType::Arrow(from, to) => {
             collect_type(from, seen)?;
             collect_type(to, seen)?;

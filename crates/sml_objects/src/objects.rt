@@ -1,5 +1,6 @@
 //! Type names, types, environments and bases. Objects are immutable and shared.
 
+use crate::labels::Labels;
 use sml_tree::bare::Ident;
 use std::collections::BTreeMap;
 use std::rc::Rc;
@@ -45,8 +46,8 @@ pub enum TyName {
 pub enum MlType {
     Bound(u32),
     Free(u32),
-    /// A row labelled from 1 on.
-    Row(Vec<Rc<MlType>>),
+    /// A row: its labels, and their types in the same order.
+    Row(Rc<Labels>, Vec<Rc<MlType>>),
     Arrow(Rc<MlType>, Rc<MlType>),
     /// A type name applied to types.
     Name(TyName, Vec<Rc<MlType>>),

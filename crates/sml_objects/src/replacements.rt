@@ -41,9 +41,10 @@ pub(crate) fn replaced<R: Replacement>(
     match ty {
         MlType::Bound(variable) => by.bound(alloc, *variable),
         MlType::Free(variable) => by.free(alloc, *variable),
-        MlType::Row(parts) => {
+        MlType::Row(labels, parts) => {
+            let labels = labels.clone()?;
             let parts = replaced_parts(alloc, parts, by)?;
-            shared(alloc, MlType::Row(parts))
+            shared(alloc, MlType::Row(labels, parts))
         }
         MlType::Arrow(from, to) => {
             let from = replaced(alloc, from, by)?;

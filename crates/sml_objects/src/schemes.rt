@@ -31,7 +31,7 @@ fn has_bound(ty: &MlType) -> bool
     match ty {
         MlType::Bound(_) => true,
         MlType::Free(_) => false,
-        MlType::Row(parts) => have_bound(parts),
+        MlType::Row(_, parts) => have_bound(parts),
         MlType::Arrow(from, to) => has_bound(from) || has_bound(to),
         MlType::Name(_, parts) => have_bound(parts),
     }
@@ -111,7 +111,7 @@ pub(crate) fn collect_variables(ty: &MlType, seen: &mut IndexSet<u32>) -> Result
             seen.insert(*variable)?;
             Ok(())
         }
-        MlType::Row(parts) => collect_all_variables(parts, seen),
+        MlType::Row(_, parts) => collect_all_variables(parts, seen),
         MlType::Arrow(from, to) => {
             collect_variables(from, seen)?;
             collect_variables(to, seen)?;

@@ -26,7 +26,7 @@ fn size_within(ty: &MlType, most: u32) -> u32
     match ty {
         MlType::Bound(_) => 1,
         MlType::Free(_) => 1,
-        MlType::Row(parts) => 1 + sizes_within(parts, most - 1),
+        MlType::Row(_, parts) => 1 + sizes_within(parts, most - 1),
         MlType::Arrow(from, to) => {
             let size = 1 + size_within(from, most - 1);
             size + size_within(to, most - size)

@@ -3,8 +3,10 @@
 ghost use Rattle.std.specs.Prelude.{◌≡◌, false};
 
 use crate::canonical::{canonical, new_count};
+use crate::comparisons::same_type;
 use crate::equality::admits_equality;
 use crate::fates::{Fate, close_as, free_variables};
+use crate::labels::Labels;
 use crate::named::Named;
 use crate::objects::{Basis, Env, Initial, MadeName, MlType, Scheme, TyName, UnitId};
 use crate::renamings::Renaming;
@@ -276,5 +278,73 @@ fn names_change_places(rt: HostRuntime) -> Result<(), Fail> {
     let names = renamed.names(alloc)?;
     assert_eq!(rt; names.len(), 3);
     assert!(rt; names.contains(&TyName::Made(made(6))));
+    Ok(())
+}
+
+fn idents(alloc: Global, texts: &[&[u8]]) -> Result<Vec<Ident>, Memory> {
+    let mut list = Vec::new(alloc);
+    for text in texts {
+        list.push(ident(alloc, text)?)?;
+    }
+    Ok(list)
+}
+
+#[test]
+fn numbers_come_before_other_labels(rt: HostRuntime) -> Result<(), Fail> {
+    let alloc = rt.alloc();
+    let list = idents(alloc, &[b"2", b"10", b"A", b"a"])?;
+    let labels = Labels::from_list(list).ok().ok_or("labels that rise")?;
+    assert_eq!(rt; labels.as_slice().len(), 4);
+    assert_eq!(rt; labels.position(b"10"), Some(1));
+    assert_eq!(rt; labels.position(b"a"), Some(3));
+    assert_eq!(rt; labels.position(b"b"), None);
+    assert!(rt; !labels.are_numbered());
+    let fields = [7, 8, 9];
+    assert_eq!(rt; labels.field(&fields, b"10").copied(), Some(8));
+    assert_eq!(rt; labels.field(&fields, b"a").copied(), None);
+    assert!(rt; Labels::from_list(idents(alloc, &[b"10", b"2"])?).is_err());
+    assert!(rt; Labels::from_list(idents(alloc, &[b"a", b"A"])?).is_err());
+    assert!(rt; Labels::from_list(idents(alloc, &[b"a", b"a"])?).is_err());
+    Ok(())
+}
+
+#[test]
+fn labels_of_a_tuple_are_numbers(rt: HostRuntime) -> Result<(), Fail> {
+    let alloc = rt.alloc();
+    let labels = Labels::numbered(alloc, 12)?;
+    assert!(rt; labels.are_numbered());
+    assert_eq!(rt; labels.position(b"1"), Some(0));
+    assert_eq!(rt; labels.position(b"12"), Some(11));
+    assert_eq!(rt; labels.position(b"0"), None);
+    assert!(rt; labels.are_same(&Labels::numbered(alloc, 12)?));
+    assert!(rt; !labels.are_same(&Labels::numbered(alloc, 11)?));
+    Ok(())
+}
+
+fn row(alloc: Global, labels: Labels, part: Rc<MlType>) -> Result<MlType, Memory> {
+    let mut parts = Vec::new(alloc);
+    parts.push(part)?;
+    Ok(MlType::Row(Rc::new(alloc, labels)?, parts))
+}
+
+#[test]
+fn rows_have_their_labels(rt: HostRuntime) -> Result<(), Fail> {
+    let alloc = rt.alloc();
+    let named = Labels::from_list(idents(alloc, &[b"a"])?)
+        .ok()
+        .ok_or("one label")?;
+    let one = row(
+        alloc,
+        Labels::numbered(alloc, 1)?,
+        initial(alloc, Initial::Int)?,
+    )?;
+    let same = row(
+        alloc,
+        Labels::numbered(alloc, 1)?,
+        initial(alloc, Initial::Int)?,
+    )?;
+    let other = row(alloc, named, initial(alloc, Initial::Int)?)?;
+    assert!(rt; same_type(&one, &same));
+    assert!(rt; !same_type(&one, &other));
     Ok(())
 }

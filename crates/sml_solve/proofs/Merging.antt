@@ -169,7 +169,7 @@ apart-as a b x y e f d = rw (e, f) d
 
 -- fields are added one by one
 
-fields-append : {A B : Type 0} (g : A → B) (fs hs : List (Id × A)) → fields_at g (fs ++ hs) ≡ fields_at g fs ++ fields_at g hs
+pub fields-append : {A B : Type 0} (g : A → B) (fs hs : List (Id × A)) → fields_at g (fs ++ hs) ≡ fields_at g fs ++ fields_at g hs
 fields-append g [] hs = refl
 fields-append g (f ∷ fs) hs = ap (λ xs. (f.0, g f.1) ∷ xs) (fields-append g fs hs)
 

@@ -1,14 +1,21 @@
 -- The nodes that some nodes lead to.
-use Rattle.std.proofs.Common.{◌≡◌, ℕ, zero, suc, ◌+◌, ◌<◌, inl, inr, Bool, true, false, List, [], ◌∷◌, ◌++◌, length, map, get_or, set, replicate, sym, ◌∙◌, ap, refl, arith, get_or-set_same, get_or-set_other, length-append}
+use Rattle.std.proofs.Common.{◌≡◌, ℕ, zero, suc, ◌+◌, ◌<◌, inl, inr, Bool, true, false, List, [], ◌∷◌, ◌++◌, length, map, get_or, set, replicate, Some, sym, ◌∙◌, ap, subst, refl, arith, get_or-set_same, get_or-set_other, length-append}
 use Rattle.std.proofs.Math.ListN.{length-set}
 use Rattle.std.proofs.lemmas.List.{length-replicate}
 use Rattle.std.specs.List.{AllByRecursion}
 use Rattle.sml_solve.specs.declared.node.Node.{Node}
-use Rattle.sml_solve.specs.declared.node.Node.TheVariants.{Unknown, Link, App}
+use Rattle.sml_solve.specs.declared.node.Node.TheVariants.{Unknown, Link, App, Open}
 use Rattle.sml_solve.specs.Worlds.{finite, Assignment}
-use Rattle.sml_solve.specs.Graphs.{node_at, parts, head_over, Agrees, IsAmong, IsSound}
+use Rattle.sml_tree.specs.Trees.{Id}
+use Rattle.sml_objects.specs.Initial.{Name}
+use Rattle.sml_objects.specs.Maps.{Map, lookup}
+use Rattle.sml_objects.specs.Objects.{MlType}
+use Rattle.sml_solve.specs.Labels.{with_labels}
+use Rattle.sml_solve.specs.Rows.{HasFields, fields_at, kids_of}
+use Rattle.sml_solve.specs.Graphs.{node_at, parts, head_over, fields_of, Agrees, IsAmong, IsSound}
 use Rattle.sml_solve.specs.Fixed.{IsMarked, IsFixedBy, IsMarkedBut, IsReach, unmarked}
 use Rattle.sml_solve.proofs.Worlding.{app_parts}
+use Rattle.sml_solve.proofs.Rowing.{same-some, fields-known}
 use Rattle.sml_solve.proofs.Merging.{same_or_not, all-append, IsAmong-append, IsAmong-back}
 use Rattle.sml_solve.proofs.Interning.{parts-inside}
 use Rattle.sml_solve.proofs.Searching.{all-parts}
@@ -30,12 +37,20 @@ same-list σ τ (k ∷ ks) e =
     let b : map σ ks ≡ map τ ks = cc in
     (a, same-list σ τ ks b)
 
+same-fields : (σ τ : Assignment finite) (m : Map (MlType Name)) (fs : List (Id × ℕ)) → AllByRecursion (λ f. lookup f.0 m ≡ Some f.1) (fields_at σ fs) → AllByRecursion (λ f. lookup f.0 m ≡ Some f.1) (fields_at τ fs) → AllByRecursion (λ k. σ k ≡ τ k) (kids_of fs)
+same-fields σ τ m [] a b = tt
+same-fields σ τ m (f ∷ fs) a b = (same-some (σ f.1) (τ f.1) (sym a.0 ∙ b.0), same-fields σ τ m fs a.1 b.1)
+
 parts-same : (σ τ : Assignment finite) (i : ℕ) (x : Node) → Agrees finite σ i x → Agrees finite τ i x → σ i ≡ τ i → AllByRecursion (λ k. σ k ≡ τ k) (parts x)
 parts-same σ τ i Unknown a b e = tt
 parts-same σ τ i (Link j) a b e = (sym a ∙ (e ∙ b), tt)
 parts-same σ τ i (App h kids) a b e =
     let n = head_over h (length kids.items) in
     same-list σ τ kids.items (app_parts finite (τ i) n n (map σ kids.items) (map τ kids.items) (sym e ∙ a) b)
+parts-same σ τ i (Open fs) a b e =
+    let gs = fields_of fs.value in
+    let a' : HasFields finite (τ i) (fields_at σ gs) = subst (λ t. HasFields finite t (fields_at σ gs)) e a in
+    same-fields σ τ (with_labels b.labels b.types) gs (fields-known finite (τ i) (fields_at τ gs) (fields_at σ gs) b a') b.fields
 
 among-part : (P : ℕ → Type 0) (ks : List ℕ) (k : ℕ) → AllByRecursion P ks → IsAmong k ks → P k
 among-part P [] k a m = absurd m

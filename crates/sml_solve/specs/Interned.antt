@@ -1,17 +1,22 @@
 -- Nodes for a type.
-use Rattle.std.specs.Prelude.{◌≡◌, ℕ, zero, suc, ◌+◌, ◌<◌, ◌≤◌, ◌⊎◌, List, [], ◌∷◌, ◌++◌, length, map, slice_index, slice_index_or}
+use Rattle.std.specs.Prelude.{◌≡◌, ℕ, zero, suc, ◌+◌, ◌<◌, ◌≤◌, ◌↔◌, ◌⊎◌, Vec, List, [], ◌∷◌, ◌++◌, length, map, slice_index, slice_index_or}
 use Rattle.std.specs.List.{AllByRecursion}
+use Rattle.std.specs.Global.{Box, Global}
+use Rattle.std.specs.declared.rc.Rc.{Rc}
+use Rattle.sml_tree.specs.Trees.{Id}
 use denote.Ref.{Bor}
 use Rattle.smallvec.specs.SmallVec.{SmallVec}
 use Rattle.sml_objects.specs.Initial.{Name}
 use Rattle.sml_objects.specs.Objects as O
-use Rattle.sml_objects.specs.Views.{type_of, types_of}
+use Rattle.sml_objects.specs.Views.{type_of, types_of, entries_of}
 use Rattle.sml_objects.specs.declared.objects.MlType.{MlType}
 use Rattle.sml_solve.specs.declared.node.Head.{Head}
 use Rattle.sml_solve.specs.declared.node.Node.{Node}
-use Rattle.sml_solve.specs.declared.node.Node.TheVariants.{Link, App}
-use Rattle.sml_solve.specs.Worlds.{World, Assignment, typed}
-use Rattle.sml_solve.specs.Graphs.{Meets, IsSound, IsSoundNode, IsCountOf, IsKnown, node_at, head_over}
+use Rattle.sml_solve.specs.declared.node.Node.TheVariants.{Link, App, Open}
+use Rattle.sml_solve.specs.declared.fields.Fields.{Fields}
+use Rattle.sml_solve.specs.Worlds.{World, In, Assignment, typed}
+use Rattle.sml_solve.specs.Rows.{HasFields, fields_at, kids_of}
+use Rattle.sml_solve.specs.Graphs.{Meets, MeetsPairs, ArePairsIn, IsSound, IsSoundNode, IsCountOf, IsKnown, fields_of, node_at, head_over}
 
 -- No variable of the type is bound by a scheme, and each is one of the first n unknowns.
 unfoldable mutual
@@ -48,6 +53,40 @@ pub record Interns (ns : List Node) (us : List ℕ) (t : O.MlType Name) (ms : Li
   pub filled : (i : ℕ) → length ns ≤ i → i < length ms → IsKnown (node_at ms i)
   pub back : (w : World) (τ : Assignment w) → Meets w ms τ → Meets w ns τ × (τ r ≡ typed w (through w us τ) t)
   pub forth : (w : World) (τ : Assignment w) → Meets w ns τ → (υ : Assignment w) × Meets w ms υ × ((i : ℕ) → i < length ns → υ i ≡ τ i)
+
+-- ms is ns with nodes more for the types of some fields. fs has the labels with these nodes; where a label stands twice, its
+-- nodes are a pair left to solve.
+pub record InternsFields (ns : List Node) (us : List ℕ) (rs : List (Id × O.MlType Name)) (ms : List Node) (fs : List (Id × ℕ)) (ps : List (ℕ × ℕ)) : Type 0 where
+  pub len : length ns ≤ length ms
+  pub inside : AllByRecursion (λ k. k < length ms) (kids_of fs)
+  pub pairs : ArePairsIn (length ms) ps
+  pub sound : IsSound ms
+  pub before : (i : ℕ) → i < length ns → node_at ms i ≡ node_at ns i
+  pub filled : (i : ℕ) → length ns ≤ i → i < length ms → IsKnown (node_at ms i)
+  pub back : (w : World) (τ : Assignment w) → Meets w ms τ → Meets w ns τ
+  pub same : (w : World) (τ : Assignment w) (t : In w) → Meets w ms τ
+      → (HasFields w t (fields_at τ fs) × MeetsPairs w ps τ) ↔ HasFields w t (fields_at (typed w (through w us τ)) rs)
+  pub forth : (w : World) (τ : Assignment w) → Meets w ns τ → (υ : Assignment w) × Meets w ms υ × ((i : ℕ) → i < length ns → υ i ≡ τ i)
+
+-- one node more, of a row with these fields
+pub record IsPushed (ns : List Node) (fs : List (Id × ℕ)) (ms : List Node) : Type 0 where
+  pub row : Box Fields
+  pub fields : fields_of row.value ≡ fs
+  pub nodes : ms ≡ ns ++ Open row ∷ []
+
+-- the type is a row that has the fields, where these nodes have their types
+abbrev pub IsRowWith : (w : World) → List ℕ → Assignment w → O.MlType Name → List (Id × O.MlType Name) → Type 0
+IsRowWith w us τ t rs = HasFields w (typed w (through w us τ) t) (fields_at (typed w (through w us τ)) rs)
+
+-- ms says what ns does, and that a type is a row that has some fields
+pub record AsksRow (ns : List Node) (us : List ℕ) (t : O.MlType Name) (rs : List (Id × O.MlType Name)) (ms : List Node) : Type 0 where
+  pub back : (w : World) (τ : Assignment w) → Meets w ms τ → Meets w ns τ × IsRowWith w us τ t rs
+  pub forth : (w : World) (τ : Assignment w) → Meets w ns τ → IsRowWith w us τ t rs
+      → (υ : Assignment w) × Meets w ms υ × ((i : ℕ) → i < length ns → υ i ≡ τ i)
+
+-- the labels and the types of some fields
+abbrev pub demanded : List (Rc (Vec ℕ Global) Global × Rc MlType Global) → List (Id × O.MlType Name)
+demanded fs = entries_of (λ t. type_of t.value) fs
 
 -- the types behind these references
 abbrev pub seen : List (Bor MlType) → List (O.MlType Name)

@@ -12,7 +12,7 @@ unfolding initial_basis
 returns c =
     c.in_ok-put_simple-7.ensures
     ∙ ap (with_type (codes "word") (simple (codes "word") word).1) (c.in_ok-put_unit.ensures
-    ∙ ap (with_type (codes "unit") (mono (row_of []))) (c.in_ok-put_simple-6.ensures
+    ∙ ap (with_type (codes "unit") (mono (row_of [] []))) (c.in_ok-put_simple-6.ensures
     ∙ ap (with_type (codes "string") (simple (codes "string") string).1) (c.in_ok-put_unary-2.ensures
     ∙ ap (with_type (codes "ref") (unary (codes "ref") ref).1) (c.in_ok-put_simple-5.ensures
     ∙ ap (with_type (codes "real") (simple (codes "real") real).1) (c.in_ok-put_unary.ensures

@@ -1,25 +1,24 @@
-use Rattle.std.proofs.Common.{◌≡◌, false, ap, sym, subst, ◌∙◌, map, rules}
-use Rattle.std.proofs.lemmas.Grind.{take_at_read}
-use Rattle.sml_objects.specs.Views.{type_of, name_of}
-use Rattle.sml_objects.specs.declared.objects.MlType.TheViews as V
+use Rattle.std.proofs.Common.{ap, sym, ◌∙◌, rules}
+use Rattle.sml_objects.specs.Views.{type_of, label_list}
 use Rattle.sml_objects.proofs.TypeViews.{parts_of}
-use Rattle.sml_objects.proofs.NameTests.{eq-same, same-eq}
-use Rattle.sml_objects.proofs.SameTypes.{same-row, parts-row, same-name, parts-name, head-name, part-at}
+use Rattle.sml_objects.proofs.NameTests.{eq-same}
+use Rattle.sml_objects.proofs.SameTypes.{same-row, parts-row, same-name, parts-name, part-at}
 use Rattle.sml_objects.proofs.comparisons.+same_type.Goals as goal
 
-pub same_type-returns-in-Row-Row-clause-yes : goal.same_type-returns-in-Row-Row-clause-yes
-same_type-returns-in-Row-Row-clause-yes t c = λ h.
+pub same_type-returns-then-are_same-clause-yes : goal.same_type-returns-then-are_same-clause-yes
+same_type-returns-then-are_same-clause-yes t c = λ h.
     ap type_of c.in-Row-Row.is-0
-    ∙ same-row c.in-Row-Row.parts c.in-Row-Row.others
-    (ap parts_of (sym c.deref.ensures.value) ∙ c.same_types.ensures.yes h ∙ ap parts_of c.deref-in-Row-Row.ensures.value)
+    ∙ same-row c.in-Row-Row.labels c.in-Row-Row.other_labels c.in-Row-Row.parts c.in-Row-Row.others
+    (ap label_list (sym c.deref.ensures) ∙ c.if-are_same.ensures.yes (search rules) ∙ ap label_list c.deref-in-Row-Row.ensures)
+    (ap parts_of (sym c.deref-then-are_same.ensures.value) ∙ c.same_types.ensures.yes h ∙ ap parts_of c.deref-then-are_same-2.ensures.value)
     ∙ ap type_of (sym c.in-Row-Row.is-1)
 
-pub same_type-returns-in-Row-Row-clause-no : goal.same_type-returns-in-Row-Row-clause-no
-same_type-returns-in-Row-Row-clause-no t c = λ h e.
+pub same_type-returns-then-are_same-clause-no : goal.same_type-returns-then-are_same-clause-no
+same_type-returns-then-are_same-clause-no t c = λ h e.
     c.same_types.ensures.no h
-    (ap parts_of c.deref.ensures.value
-    ∙ parts-row c.in-Row-Row.parts c.in-Row-Row.others (ap type_of (sym c.in-Row-Row.is-0) ∙ e ∙ ap type_of c.in-Row-Row.is-1)
-    ∙ ap parts_of (sym c.deref-in-Row-Row.ensures.value))
+    (ap parts_of c.deref-then-are_same.ensures.value
+    ∙ parts-row c.in-Row-Row.labels c.in-Row-Row.other_labels c.in-Row-Row.parts c.in-Row-Row.others (ap type_of (sym c.in-Row-Row.is-0) ∙ e ∙ ap type_of c.in-Row-Row.is-1)
+    ∙ ap parts_of (sym c.deref-then-are_same-2.ensures.value))
 
 pub same_type-returns-then-eq-clause-yes : goal.same_type-returns-then-eq-clause-yes
 same_type-returns-then-eq-clause-yes t c = λ h.

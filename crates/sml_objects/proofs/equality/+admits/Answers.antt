@@ -21,7 +21,7 @@ pub admits_equality-returns-in-Row : goal.admits_equality-returns-in-Row
 admits_equality-returns-in-Row t c =
     c.all_admit_equality.ensures
     ∙ ap (λ ts. all_admit naming (types_of (parts_of ts))) c.deref.ensures.value
-    ∙ sym (ap (λ u. admits naming (type_of u)) c.in-Row.is ∙ admits-row c.in-Row.parts)
+    ∙ sym (ap (λ u. admits naming (type_of u)) c.in-Row.is ∙ admits-row c.in-Row.field-0 c.in-Row.parts)
 
 pub admits_equality-returns-in-Arrow : goal.admits_equality-returns-in-Arrow
 admits_equality-returns-in-Arrow t c =

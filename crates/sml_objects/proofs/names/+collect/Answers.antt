@@ -22,7 +22,7 @@ collect_type-returns-in-Row t c =
     let s = map name_of c.args.seen.now.keys in
     subst (λ l. OnOk c.collect_types.result (map name_of c.collect_types.new.seen.keys ≡ firsts_after naming s l))
     (ap (λ ts. appear_types (types_of (parts_of ts))) c.deref.ensures.value
-    ∙ sym (ap (λ u. appear_type (type_of u)) c.in-Row.is ∙ appear-row c.in-Row.parts))
+    ∙ sym (ap (λ u. appear_type (type_of u)) c.in-Row.is ∙ appear-row c.in-Row.field-0 c.in-Row.parts))
     c.collect_types.ensures
 
 pub collect_type-returns-in_ok-collect_type-in-Arrow-2 : goal.collect_type-returns-in_ok-collect_type-in-Arrow-2

@@ -1,5 +1,5 @@
 use Rattle.std.proofs.Common.{◌≡◌, IfOk, ap, sym, subst, ◌∙◌, map}
-use Rattle.sml_objects.specs.Views.{type_of}
+use Rattle.sml_objects.specs.Views.{type_of, label_list}
 use Rattle.sml_objects.specs.declared.objects.MlType.TheViews as V
 use Rattle.sml_objects.proofs.TypeCopies.{copy, shared-type, copy-bound, copy-free, copy-row, copy-arrow, copy-name}
 use Rattle.sml_objects.proofs.replacements.+replaced.Goals as goal
@@ -26,8 +26,8 @@ replaced-returns-in_ok-parts-in-Row g t c =
     let b = g.R.Replacement.bound_gives s in
     let f = g.R.Replacement.free_gives s in
     let r = g.R.Replacement.name_gives s in
-    shared-type c.shared.result (V.Row c.in_ok-parts-in-Row.parts) _
-    (copy-row b f r c.in-Row.parts c.in_ok-parts-in-Row.parts
+    shared-type c.shared.result (V.Row c.in_ok-labels-in-Row.labels c.in_ok-parts-in-Row.parts) _
+    (copy-row b f r c.in-Row.labels c.in_ok-labels-in-Row.labels c.in-Row.parts c.in_ok-parts-in-Row.parts (ap label_list c.in_ok-labels-in-Row.ensures.cases)
     (c.in_ok-parts-in-Row.ensures ∙ ap (map (λ t. copy b f r (type_of t.value))) c.deref.ensures.value)
     ∙ ap (λ u. copy b f r (type_of u)) (sym c.in-Row.is)) c.shared.ensures
 

@@ -13,7 +13,7 @@ has_bound-returns-in-Free t c = λ h k.
 pub has_bound-returns-in-Row : goal.has_bound-returns-in-Row
 has_bound-returns-in-Row t c = λ h k.
     subst (λ (u : MlType). instance_from k (type_of u) ≡ type_of u) (sym c.in-Row.is)
-    (kept-row k c.in-Row.parts (subst (λ ts. map (λ t. instance_from k (type_of t.value)) ts ≡ parts_of ts) c.deref.ensures.value (c.have_bound.ensures h k)))
+    (kept-row k c.in-Row.field-0 c.in-Row.parts (subst (λ ts. map (λ t. instance_from k (type_of t.value)) ts ≡ parts_of ts) c.deref.ensures.value (c.have_bound.ensures h k)))
 
 pub has_bound-returns-else-has_bound : goal.has_bound-returns-else-has_bound
 has_bound-returns-else-has_bound t c = λ h k.

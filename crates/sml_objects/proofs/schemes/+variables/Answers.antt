@@ -36,7 +36,7 @@ collect_variables-returns-in-Row t c =
     let seen = c.args.seen.now.keys in
     subst (λ l. OnOk c.collect_all_variables.result (c.collect_all_variables.new.seen.keys ≡ l))
     (ap (λ ts. variables_after_all seen (types_of (parts_of ts))) c.deref.ensures.value
-    ∙ sym (ap (λ u. variables_after seen (type_of u)) c.in-Row.is ∙ variables-row seen c.in-Row.parts))
+    ∙ sym (ap (λ u. variables_after seen (type_of u)) c.in-Row.is ∙ variables-row seen c.in-Row.field-0 c.in-Row.parts))
     c.collect_all_variables.ensures
 
 pub collect_variables-returns-in_ok-collect_variables-in-Arrow-2 :

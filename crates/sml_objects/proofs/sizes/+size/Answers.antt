@@ -16,7 +16,7 @@ pub size_within-returns-in-Row : goal.size_within-returns-in-Row
 size_within-returns-in-Row t c =
     omega (
       arith,
-      ap (λ u. type_size (type_of u)) c.in-Row.is ∙ size-row c.in-Row.parts,
+      ap (λ u. type_size (type_of u)) c.in-Row.is ∙ size-row c.in-Row.field-0 c.in-Row.parts,
       ap (λ ts. sizes (parts_of ts)) c.deref.ensures.value,
       c.sizes_within.ensures,
     )

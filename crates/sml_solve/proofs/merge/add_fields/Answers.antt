@@ -1,4 +1,4 @@
-use Rattle.std.proofs.Common.{◌≡◌, ◌+◌, ◌∷◌, [], ◌++◌, take, get_or, ◌∙◌, arith}
+use Rattle.std.proofs.Common.{◌≡◌, ◌+◌, ◌∷◌, [], ◌++◌, take, get_or, ap, ◌∙◌, arith}
 use Rattle.sml_tree.specs.Views.{ident_of}
 use Rattle.sml_solve.specs.Graphs.{fields_of}
 use Rattle.sml_solve.proofs.Merging.{fields-new, fields-known-too, field-next}
@@ -18,7 +18,7 @@ loop-i-preserved c =
     elim c.match-branch-3.branch [
       | in-Some+in_ok-push w ↦
           let known = rw w.in-Some.is at c.in_ok-found.ensures.known in
-          fields-known-too old (take i fs) hs js (take (i + 1) fs) c.args.pending.now.items c.loop-i.pending.items c.match-branch-3.pending.items (ident_of label, kid) w.in-Some.found c.loop-i.invariant known.0 known.1 next (w.pending-is ∙ w.in_ok-push.ensures.items)
+          fields-known-too old (take i fs) hs js (take (i + 1) fs) c.args.pending.now.items c.loop-i.pending.items c.match-branch-3.pending.items (ident_of label, kid) w.in-Some.found c.loop-i.invariant known.0 known.1 next (ap (λ v. v.items) w.pending-is ∙ w.in_ok-push.ensures.items)
       | in_default w ↦
           rw w.pending-is (fields-new old (take i fs) hs js (take (i + 1) fs) c.args.pending.now.items c.loop-i.pending.items (ident_of label, kid) c.loop-i.invariant (c.in_ok-found.ensures.new w.in_default.is) next)
     ]

@@ -1,4 +1,4 @@
-use Rattle.std.proofs.Common.{◌≡◌, ap, sym, subst, ◌∙◌, IfOk, rules}
+use Rattle.std.proofs.Common.{ap, sym, ◌∙◌, rules}
 use Rattle.sml_objects.specs.Objects as O
 use Rattle.sml_objects.specs.Views.{type_of}
 use Rattle.sml_objects.specs.declared.objects.MlType.{Bound}

@@ -21,7 +21,7 @@ use std::alloc::Global;
 use std::rc::Rc;
 
 /// What is left to do on the way to a type.
-#[derive(Clone, Copy)]
+#[derive(Drop)]
 pub(crate) enum Task {
     /// The type of a node goes onto the stack of types.
     Read(usize),
@@ -80,14 +80,26 @@ fn apply(
             (Some(from), Some(to)) => Ok(Rc::new(alloc, MlType::Arrow(from, to))?),
             _ => unreachable!(),
         },
-        Head::Row => {
+        Head::Row(labels) => {
             let parts = pop_all(alloc, count, types)?;
-            Ok(Rc::new(alloc, MlType::Row(parts))?)
+            Ok(Rc::new(alloc, MlType::Row(labels, parts))?)
         }
         Head::Name(name) => {
             let parts = pop_all(alloc, count, types)?;
             Ok(Rc::new(alloc, MlType::Name(name, parts))?)
         }
+    }
+}
+
+/// The same head once more.
+fn copy_of(head: &Head) -> Result<Head, Memory>
+    ensures over { IfOk result (λ copy. (n : ℕ) → head_over copy n ≡ head_over head.now n) }
+    ensures count { IfOk result (λ copy. (n : ℕ) → IsCountOf head.now n → IsCountOf copy n) }
+{
+    match head {
+        Head::Arrow => Ok(Head::Arrow),
+        Head::Row(labels) => Ok(Head::Row(labels.clone()?)),
+        Head::Name(name) => Ok(Head::Name(*name)),
     }
 }
 
@@ -132,7 +144,7 @@ pub(crate) fn type_up_to(
                 let here = root_of(nodes, at);
                 match &nodes[here] {
                     Node::App(head, kids) => {
-                        tasks.push(Task::Apply(*head, kids.len()))?;
+                        tasks.push(Task::Apply(copy_of(head)?, kids.len()))?;
                         push_reads(&mut tasks, kids.as_slice())?;
                     }
                     _ => types.push(Rc::new(alloc, MlType::Free(owner(unknowns, here)))?)?,

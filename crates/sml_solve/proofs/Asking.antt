@@ -19,7 +19,7 @@ use Rattle.sml_solve.specs.Worlds.{finite, Assignment, make}
 use Rattle.sml_solve.specs.Graphs.{parts, head_over, fields_of, Agrees, IsKnown}
 use Rattle.sml_tree.specs.Trees.{Id}
 use Rattle.sml_objects.specs.Maps.{lookup}
-use Rattle.sml_solve.specs.Labels.{with_labels}
+use Rattle.sml_objects.specs.Labels.{with_labels}
 use Rattle.sml_solve.specs.Rows.{fields_at, kids_of}
 use Rattle.sml_solve.proofs.Rowing.{set_fields, labels_in, values_in, components, list_of, types-list_of, open_row, open-all, all-components, all-at-fields, row-found}
 use Rattle.sml_solve.specs.Bounds.{IsNameWithin, IsHeadWithin, IsWithin, AreWithin}

@@ -1,5 +1,5 @@
 -- Nodes for types.
-use Rattle.std.proofs.Common.{◌≡◌, ◌≢◌, ℕ, zero, suc, ◌+◌, ◌-◌, ◌<◌, ◌≤◌, inl, inr, List, [], ◌∷◌, ◌++◌, length, map, get_or, take, drop, sym, ◌∙◌, ap, subst, refl, arith, add-one, length-append, append_assoc, decimal}
+use Rattle.std.proofs.Common.{◌≡◌, ◌≢◌, ℕ, zero, suc, ◌+◌, ◌-◌, ◌<◌, ◌≤◌, inl, inr, List, [], ◌∷◌, ◌++◌, length, map, get_or, take, drop, sym, ◌∙◌, ap, subst, refl, arith, add-one, length-append, append_assoc}
 use Rattle.std.proofs.Math.Seq.{take-suc, drop-cons}
 use Rattle.std.proofs.lemmas.Bool.{cases_lt}
 use Rattle.std.proofs.lemmas.List.{get_or_past}
@@ -11,13 +11,12 @@ use Rattle.sml_objects.specs.Types.{replace_type, replace_types, assign, instanc
 use Rattle.sml_objects.specs.Sizes.{type_size, types_size}
 use Rattle.sml_objects.specs.Views.{types_of}
 use Rattle.sml_solve.specs.declared.node.Head.{Head}
-use Rattle.sml_solve.specs.declared.node.Head.TheVariants.{Row}
 use Rattle.sml_solve.specs.declared.node.Node.{Node}
 use Rattle.sml_solve.specs.declared.node.Node.TheVariants.{Unknown, Link, App, Open}
 use Rattle.sml_solve.specs.Worlds.{World, finite, infinite, In, Assignment, make, tree, spread, spread_all, typed}
 use Rattle.sml_tree.specs.Trees.{Id}
 use Rattle.sml_solve.specs.Rows.{HasFields, fields_at, kids_of}
-use Rattle.sml_solve.specs.Graphs.{node_at, Agrees, Meets, IsSound, IsSoundNode, IsCountOf, IsKnown, fields_of, parts, head_over, labels}
+use Rattle.sml_solve.specs.Graphs.{node_at, Agrees, Meets, IsSound, IsSoundNode, IsCountOf, IsKnown, fields_of, parts, head_over}
 use Rattle.sml_solve.specs.Interned.{IsOver, AreOver, IsBodyOver, AreBodiesOver, through, Interns, IsInterning, numbers, IsHeadOver, IsUnknownAt, Expands}
 use Rattle.sml_solve.specs.Reads.{sizes}
 use Rattle.sml_solve.proofs.Merging.{same_or_not, all-append}
@@ -127,10 +126,6 @@ unfolding IsOver AreOver
 over-parts n h [] o = tt
 over-parts n h (t ∷ ts) o = (o.0, over-parts n h ts o.1)
 
-pub labels-are : (k : ℕ) (ts : List (O.MlType Name)) → O.labels_of k (types_of ts) ≡ labels k (length ts)
-labels-are k [] = refl
-labels-are k (t ∷ ts) = ap (λ ls. decimal k ∷ ls) (labels-are (suc k) ts)
-
 -- a node more
 pub node_at-last : (ns : List Node) (n : Node) → node_at (ns ++ n ∷ []) (length ns) ≡ n
 node_at-last [] n = refl
@@ -234,9 +229,6 @@ not-bound n k t e o = rw e at o
 pub free-over : (n v : ℕ) (t : O.MlType Name) → t ≡ O.free v → IsOver n t → v < n
 unfolding IsOver
 free-over n v t e o = rw e at o
-
-pub row-type : (ts : List (O.MlType Name)) → O.tuple_of (types_of ts) ≡ O.app (head_over Row (length ts)) (types_of ts)
-row-type ts = ap (λ ls. O.app (O.row ls) (types_of ts)) (labels-are 1 ts)
 
 pub expands-head : (t : O.MlType Name) (us : List ℕ) (k : ℕ) (h : Head) (v : SmallVec ℕ) (ss ts more : List (O.MlType Name)) → t ≡ O.app (head_over h (length more)) (types_of more) → v.items ≡ numbers k (length more) → IsCountOf h (length more) → ts ≡ ss ++ more → Expands t us k (App h v) ss ts
 expands-head t us k h v ss ts more a b n c = inr (record { head = h; kids = v; more = more; type = a; node = refl; places = b; count = n; rest = c })

@@ -1,27 +1,36 @@
 -- What one step of unification keeps.
-use Rattle.std.proofs.Common.{◌≡◌, ◌≢◌, ℕ, zero, suc, ◌+◌, ◌<◌, ◌≤◌, ◌⊎◌, inl, inr, List, [], ◌∷◌, ◌++◌, length, map, get_or, set, drop, take, Some, append-nil, append_assoc, sym, ◌∙◌, ap, subst, refl, arith, add-one, get_or-set_same, get_or-set_other, length-append}
+use Rattle.std.proofs.Common.{◌≡◌, ◌≢◌, ℕ, zero, suc, ◌+◌, ◌<◌, ◌≤◌, ◌⊎◌, inl, inr, List, [], ◌∷◌, ◌++◌, length, map, get_or, set, drop, take, Some, None, append-nil, append_assoc, sym, ◌∙◌, ap, subst, refl, arith, add-one, get_or-set_same, get_or-set_other, length-append}
 use Rattle.std.proofs.Math.Seq.{drop-cons}
 use Rattle.std.proofs.lemmas.Bool.{cases_lt}
 use Rattle.std.proofs.lemmas.List.{length-map, get_or_default, set-set}
 use Rattle.std.proofs.Math.ListN.{length-set}
 use Rattle.std.proofs.lemmas.List.Sums.{sum_by-set}
-use Rattle.std.specs.Prelude.{Result, Ok, Err, OnOk}
+use Rattle.std.specs.Prelude.{Result, Ok, Err, OnOk, IfOk}
 use Rattle.smallvec.specs.SmallVec.{SmallVec}
 use Rattle.std.specs.List.{AllByRecursion}
-use Rattle.std.specs.Global.{Box}
+use Rattle.std.specs.Global.{Box, Global}
+use Rattle.std.specs.Option.{option_map}
+use Rattle.std.specs.declared.rc.Rc.{Rc}
+use Rattle.sml_objects.specs.Initial.{Name as ObjectName}
+use Rattle.sml_objects.specs.Objects as O
+use Rattle.sml_objects.specs.Views.{label_list, name_of}
+use Rattle.sml_objects.specs.declared.labels.Labels.{Labels}
+use Rattle.sml_objects.specs.declared.objects.TyName.{TyName}
+use Rattle.sml_solve.specs.declared.node.Head.TheVariants.{Arrow, Row, Name as Applied}
 use Rattle.sml_tree.specs.Trees.{Id}
 use Rattle.sml_tree.specs.Views.{ident_of}
 use Rattle.sml_objects.specs.Maps.{lookup}
 use Rattle.sml_solve.specs.declared.fields.Fields.{Fields}
+use Rattle.sml_solve.specs.declared.merge.Unsolved.{Unsolved}
 use Rattle.sml_solve.specs.declared.node.Head.{Head}
 use Rattle.sml_solve.specs.declared.node.Node.{Node}
 use Rattle.sml_solve.specs.declared.node.Node.TheVariants.{Unknown, Link, App, Open}
 use Rattle.sml_solve.specs.Worlds.{World, In, Assignment, make}
-use Rattle.sml_solve.specs.Labels.{with_labels}
+use Rattle.sml_objects.specs.Labels.{with_labels}
 use Rattle.sml_solve.specs.Rows.{HasFields, IsField, fields_at, kids_of}
-use Rattle.sml_solve.specs.Graphs.{head_over, node_at, Agrees, Meets, MeetsPairs, pairs_of, SameSolutions, HasNoSolution, IsSound, IsSoundNode, ArePairsIn, IsRootNode, IsSame, IsKnown, size, weight, Merges, AreApart, Joins, JoinsFields, fields_of, IsAmong, Leads, Changes}
+use Rattle.sml_solve.specs.Graphs.{head_over, node_at, Agrees, Meets, MeetsPairs, pairs_of, SameSolutions, HasNoSolution, IsSound, IsSoundNode, ArePairsIn, IsRootNode, IsSame, IsKnown, size, weight, Merges, AreApart, Joins, JoinsFields, JoinsRow, LacksLabel, fields_of, IsAmong, Leads, Changes}
 use Rattle.sml_solve.proofs.Worlding.{app_head, app_parts}
-use Rattle.sml_solve.proofs.Rowing.{Key, same-some, fields-known, has-these, has-front, has-back, has-both, field-found}
+use Rattle.sml_solve.proofs.Rowing.{Key, same-some, none-some, row-found, row-labels, labels-map, lookup-at, all-front, all-back, fields-known, has-these, has-front, has-back, has-both, field-found}
 
 pub pairs_of-drop : (xs ys : List ℕ) (i : ℕ) → i < length xs → i < length ys → pairs_of (drop i xs) (drop i ys) ≡ (get_or xs i 0, get_or ys i 0) ∷ pairs_of (drop (i + 1) xs) (drop (i + 1) ys)
 pairs_of-drop xs ys i h k = rw (add-one, drop-cons xs i 0, drop-cons ys i 0)
@@ -265,15 +274,105 @@ fields-known-too fs gs hs js ks ps qs rs f k m p h q r = rw (p, q, r) record {
   );
 }
 
--- two open rows
-pub joins-open : (a b c : Box Fields) (ps qs : List (ℕ × ℕ)) → JoinsFields (fields_of a.value) (fields_of b.value) (fields_of c.value) ps qs → Joins (Open a) (Open b) (Open c) ps qs
-joins-open a b c ps qs m = record {
+-- fields and the parts of a row
+
+pub row-none : (ls : List Id) (kids : List ℕ) (ps : List (ℕ × ℕ)) → JoinsRow [] ls kids ps ps
+row-none ls kids ps = record {
+  more = [];
+  pairs = sym (append-nil ps);
+  less = omega arith;
+  sound = λ n a b. tt;
+  same = λ w σ. (λ a. tt, λ a. tt);
+}
+
+part-found : (w : World) (σ : Assignment w) (ls : List Id) (kids : List ℕ) (l : Id) (k : ℕ) → lookup l (with_labels ls kids) ≡ Some k → lookup l (with_labels ls (map σ kids)) ≡ Some (σ k)
+part-found w σ ls kids l k h = ap (lookup l) (labels-map σ ls kids) ∙ (sym (lookup-at σ l (with_labels ls kids)) ∙ ap (option_map σ) h)
+
+pub row-more : (fs js : List (Id × ℕ)) (ls : List Id) (kids : List ℕ) (ps qs rs : List (ℕ × ℕ)) (f : Id × ℕ) (k : ℕ) → JoinsRow fs ls kids ps qs → lookup f.0 (with_labels ls kids) ≡ Some k → js ≡ fs ++ f ∷ [] → rs ≡ qs ++ (k, f.1) ∷ [] → JoinsRow js ls kids ps rs
+row-more fs js ls kids ps qs rs f k m h p q = rw (p, q) record {
+  more = m.more ++ (k, f.1) ∷ [];
+  pairs = ap (λ xs. xs ++ (k, f.1) ∷ []) m.pairs ∙ append_assoc ps m.more ((k, f.1) ∷ []);
+  less = let x = m.less in simp length-append (omega (arith, x));
+  sound = λ n a b.
+      let c = inside-front n fs f a in
+      ArePairsIn-append n m.more ((k, f.1) ∷ []) (m.sound n c.0 b) ((row-found (λ k. k < n) ls kids f.0 k b h, c.1), tt);
+  same = λ w σ.
+      let P : Id × In w → Type 0 = λ g. lookup g.0 (with_labels ls (map σ kids)) ≡ Some g.1 in (
+        λ x.
+            let y : AllByRecursion P (fields_at σ fs ++ (f.0, σ f.1) ∷ []) = subst (AllByRecursion P) (fields-append σ fs (f ∷ [])) x in
+            let e : σ k ≡ σ f.1 = same-some (σ k) (σ f.1) (sym (part-found w σ ls kids f.0 k h) ∙ (all-back P (fields_at σ fs) ((f.0, σ f.1) ∷ []) y).0) in
+            MeetsPairs-append w m.more ((k, f.1) ∷ []) σ ((m.same w σ).0 (all-front P (fields_at σ fs) ((f.0, σ f.1) ∷ []) y)) (e, tt),
+        λ x.
+            let e : σ k ≡ σ f.1 = (MeetsPairs-back w m.more ((k, f.1) ∷ []) σ x).0 in
+            subst (AllByRecursion P) (sym (fields-append σ fs (f ∷ [])))
+            (all-append P (fields_at σ fs) ((f.0, σ f.1) ∷ []) ((m.same w σ).1 (MeetsPairs-front w m.more ((k, f.1) ∷ []) σ x)) (part-found w σ ls kids f.0 k h ∙ ap (λ t. Some t) e, tt)),
+      );
+}
+
+-- a label that isn't there
+pub row-lacks : (fs gs : List (Id × ℕ)) (ls : List Id) (kids : List ℕ) (i : ℕ) (f : Id × ℕ) → take (i + 1) fs ≡ gs ++ f ∷ [] → lookup f.0 (with_labels ls kids) ≡ None → LacksLabel fs ls kids
+row-lacks fs gs ls kids i f e n = record { label = f.0; kid = f.1; field = field-within fs (i + 1) f.0 f.1 (rw e (field-last gs f)); none = n } where
+  field-last : (gs : List (Id × ℕ)) (f : Id × ℕ) → IsField f.0 f.1 (gs ++ f ∷ [])
+  field-last [] f = inl (refl, refl)
+  field-last (g ∷ gs) f = inr (field-last gs f)
+
+  field-within : (fs : List (Id × ℕ)) (i : ℕ) (l : Id) (k : ℕ) → IsField l k (take i fs) → IsField l k fs
+  field-within fs zero l k h = absurd h
+  field-within [] (suc i) l k h = h
+  field-within (f ∷ fs) (suc i) l k h = elim h [ inl q ↦ inl q | inr r ↦ inr (field-within fs i l k r) ]
+
+-- a row and an open one
+pub joins-row : (ls : Rc Labels Global) (kids : SmallVec ℕ) (b : Box Fields) (ps qs : List (ℕ × ℕ)) → length kids.items ≡ length (label_list ls.value) → JoinsRow (fields_of b.value) (label_list ls.value) kids.items ps qs → Joins (App (Row ls) kids) (Open b) (App (Row ls) kids) ps qs
+joins-row ls kids b ps qs n m = record {
   more = m.more;
   pairs = m.pairs;
-  less = m.less;
-  sound = λ n i j k s t. m.sound n s t;
-  same = λ w σ i. m.same w σ (σ i);
+  less = let x = m.less in omega (arith, x);
+  sound = λ k i j l s t. (s, m.sound k t s.0);
+  same = λ w σ i. (
+    λ x.
+        let h = x.1 in
+        let a : h.labels ≡ label_list ls.value = row-labels h.labels (label_list ls.value) (app_head w (σ i) (O.row h.labels) (O.row (label_list ls.value)) h.types (map σ kids.items) h.is_row x.0) in
+        let c : h.types ≡ map σ kids.items = app_parts w (σ i) (O.row h.labels) (O.row (label_list ls.value)) h.types (map σ kids.items) h.is_row x.0 in
+        (x.0, (m.same w σ).0 (subst (λ m. AllByRecursion (λ f. lookup f.0 m ≡ Some f.1) (fields_at σ (fields_of b.value))) (λ j. with_labels (a j) (c j)) h.fields)),
+    λ x. (x.0, record { labels = label_list ls.value; types = map σ kids.items; rising = ls.value.rising; count = length-map kids.items σ ∙ n; is_row = x.0; fields = (m.same w σ).1 x.1 }),
+  );
 }
+
+pub head-apart : (f : Head) (kids : SmallVec ℕ) (b : Box Fields) → ((ls : List Id) → head_over f (length kids.items) ≡ O.row ls → ⊥) → AreApart (App f kids) (Open b)
+head-apart f kids b d w σ i x h = d h.labels (app_head w (σ i) (head_over f (length kids.items)) (O.row h.labels) (map σ kids.items) h.types x h.is_row)
+
+pub arrow-apart : (f : Head) (kids : SmallVec ℕ) (b : Box Fields) → f ≡ Arrow → AreApart (App f kids) (Open b)
+arrow-apart f kids b e = rw e (head-apart Arrow kids b (λ ls q. arrow-row ls q)) where
+  arrow-row : (ls : List Id) → ◌≡◌ {A = O.Head ObjectName} O.arrow (O.row ls) → ⊥
+  arrow-row ls q = cc
+
+pub name-apart : (f : Head) (m : TyName) (kids : SmallVec ℕ) (b : Box Fields) → f ≡ Applied m → AreApart (App f kids) (Open b)
+name-apart f m kids b e = rw e (head-apart (Applied m) kids b (λ ls q. name-row (name_of m) ls q)) where
+  name-row : (n : ObjectName) (ls : List Id) → ◌≡◌ {A = O.Head ObjectName} (O.name n) (O.row ls) → ⊥
+  name-row n ls q = cc
+
+module _ (f : Head) (ls : Rc Labels Global) (kids : SmallVec ℕ) (b : Box Fields) (e : f ≡ Row ls) where
+  row-known : (w : World) (σ : Assignment w) (i : ℕ) → Agrees w σ i (App f kids) → (h : Agrees w σ i (Open b)) → (h.labels ≡ label_list ls.value) × (h.types ≡ map σ kids.items)
+  row-known w σ i x h =
+      let y : σ i ≡ make w (O.row (label_list ls.value)) (map σ kids.items) = subst (λ f. Agrees w σ i (App f kids)) e x in (
+        row-labels h.labels (label_list ls.value) (app_head w (σ i) (O.row h.labels) (O.row (label_list ls.value)) h.types (map σ kids.items) h.is_row y),
+        app_parts w (σ i) (O.row h.labels) (O.row (label_list ls.value)) h.types (map σ kids.items) h.is_row y,
+      )
+
+  pub count-apart : (length kids.items ≡ length (label_list ls.value) → ⊥) → AreApart (App f kids) (Open b)
+  count-apart d w σ i x h =
+      let q = row-known w σ i x h in
+      d (sym (length-map kids.items σ) ∙ (ap length (sym q.1) ∙ (h.count ∙ ap length q.0)))
+
+  pub label-apart : LacksLabel (fields_of b.value) (label_list ls.value) kids.items → AreApart (App f kids) (Open b)
+  label-apart m w σ i x h =
+      let q = row-known w σ i x h in
+      let found : lookup m.label (with_labels (label_list ls.value) (map σ kids.items)) ≡ Some (σ m.kid) =
+          field-found σ (fields_of b.value) (with_labels (label_list ls.value) (map σ kids.items)) m.label m.kid m.field
+          (subst (λ n. AllByRecursion (λ f. lookup f.0 n ≡ Some f.1) (fields_at σ (fields_of b.value))) (λ j. with_labels (q.0 j) (q.1 j)) h.fields) in
+      let none : lookup m.label (with_labels (label_list ls.value) (map σ kids.items)) ≡ None =
+          ap (lookup m.label) (labels-map σ (label_list ls.value) kids.items) ∙ (sym (lookup-at σ m.label (with_labels (label_list ls.value) kids.items)) ∙ ap (option_map σ) m.none) in
+      none-some (σ m.kid) (sym none ∙ found)
 
 pub joins-turned : (a b c : Node) (ps qs : List (ℕ × ℕ)) → Joins a b c ps qs → Joins b a c ps qs
 joins-turned a b c ps qs m = record {
@@ -282,6 +381,23 @@ joins-turned a b c ps qs m = record {
   less = let x = m.less in omega (arith, x);
   sound = λ n i j k s t. m.sound n j i k t s;
   same = λ w σ i. (λ x. (m.same w σ i).0 (x.1, x.0), λ x. let y = (m.same w σ i).1 x in (y.1, y.0));
+}
+
+pub if-turned : (r : Result Node Unsolved) (a b x y : Node) (ps qs : List (ℕ × ℕ)) → x ≡ b → y ≡ a → IfOk r (λ n. Joins a b n ps qs) → IfOk r (λ n. Joins x y n ps qs)
+if-turned (Ok n) a b x y ps qs e f j = rw (e, f) (joins-turned a b n ps qs j)
+if-turned (Err u) a b x y ps qs e f j = tt
+
+pub apart-turned : (a b : Node) → AreApart a b → AreApart b a
+apart-turned a b d w σ i x y = d w σ i y x
+
+-- two open rows
+pub joins-open : (a b c : Box Fields) (ps qs : List (ℕ × ℕ)) → JoinsFields (fields_of a.value) (fields_of b.value) (fields_of c.value) ps qs → Joins (Open a) (Open b) (Open c) ps qs
+joins-open a b c ps qs m = record {
+  more = m.more;
+  pairs = m.pairs;
+  less = m.less;
+  sound = λ n i j k s t. m.sound n s t;
+  same = λ w σ i. m.same w σ (σ i);
 }
 
 -- the upper node becomes a link, and the lower one says what both say

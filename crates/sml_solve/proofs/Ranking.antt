@@ -24,7 +24,7 @@ use Rattle.sml_solve.specs.declared.class.Names.{Names}
 use Rattle.sml_solve.specs.declared.fields.Fields.{Fields}
 use Rattle.sml_solve.specs.declared.variable.Variables.{Variables}
 use Rattle.sml_solve.specs.declared.variable.Variables.TheVariants as V
-use Rattle.sml_solve.specs.Labels.{with_labels}
+use Rattle.sml_objects.specs.Labels.{with_labels}
 use Rattle.sml_solve.specs.Rows.{HasFields, fields_at, kids_of}
 use Rattle.sml_solve.specs.Variables.{FitsVariables, IsPossible, stand_in}
 use Rattle.sml_solve.proofs.Interning.{map-alike, fields-alike}

@@ -10,7 +10,7 @@ use Rattle.sml_tree.specs.Trees.{Id}
 use Rattle.sml_objects.specs.Initial.{Name}
 use Rattle.sml_objects.specs.Maps.{Map, lookup}
 use Rattle.sml_objects.specs.Objects.{MlType}
-use Rattle.sml_solve.specs.Labels.{with_labels}
+use Rattle.sml_objects.specs.Labels.{with_labels}
 use Rattle.sml_solve.specs.Rows.{HasFields, fields_at, kids_of}
 use Rattle.sml_solve.specs.Graphs.{node_at, parts, head_over, fields_of, Agrees, IsAmong, IsSound}
 use Rattle.sml_solve.specs.Fixed.{IsMarked, IsFixedBy, IsMarkedBut, IsReach, unmarked}

@@ -1,11 +1,12 @@
 -- Rows with some fields and others.
 use Rattle.std.proofs.Common.{◌≡◌, ◌≢◌, ◌⊎◌, inl, inr, ℕ, ◌+◌, ◌<◌, ◌≤◌, List, [], ◌∷◌, ◌++◌, length, map, Option, Some, None, Result, Ok, Err, Bool, true, false, cond, nat_eq, Vec, Global, sym, ◌∙◌, ap, subst, refl, arith}
-use Rattle.std.proofs.Math.Path.{fun_ext}
-use Rattle.std.specs.Cmp.{IsTotalOrder, nat_cmp_total, then_total, on_total, tied_itself}
+use Rattle.std.specs.Cmp.{tied_itself}
+use Rattle.std.specs.List.Sorted.{IsStrictlySortedBy}
 use Rattle.std.specs.Cmp.Lexicographic.{nat_list_cmp_total, pointwise, same_text, other_text}
 use Rattle.std.specs.Map as stored
 use Rattle.std.specs.Result.{OnOk, OnErr}
-use Rattle.std.specs.Ordering.{nat_cmp, ordering_then, ordering_reverse, then_cmp, on}
+use Rattle.std.specs.Option.{option_map}
+use Rattle.std.specs.Ordering.{ordering_reverse}
 use Rattle.std.specs.List.{AllByRecursion}
 use Rattle.std.specs.declared.cmp.Ordering.{Ordering}
 use Rattle.std.specs.declared.cmp.Ordering.TheVariants.{Less, Equal, Greater}
@@ -17,7 +18,9 @@ use Rattle.sml_objects.specs.Initial.{Name}
 use Rattle.sml_objects.specs.Maps.{Map, lookup, by_order, order_of}
 use Rattle.sml_objects.specs.Objects.{MlType, MlTypes, Head, bound, free, app, arrow, row, name, no_type, and_type}
 use Rattle.sml_objects.specs.Views.{types_of}
-use Rattle.sml_solve.specs.Labels.{label_rank, label_order, AreRising, with_labels}
+use Rattle.sml_objects.specs.Labels.{label_order, AreRising, with_labels}
+use Rattle.sml_objects.proofs.RisingLabels.{label_total}
+use Rattle.sml_objects.proofs.LabelPlaces.{label-exact}
 use Rattle.sml_solve.specs.Rows.{AreDistinct, HasFields, IsField, field_list, fields_at, kids_of}
 use Rattle.sml_solve.specs.Worlds.{World, finite, infinite, In, Assignment, make}
 use Rattle.sml_solve.proofs.Worlding.{app_head, app_parts, types_of-injective}
@@ -73,24 +76,6 @@ added-distinct (Err x) es xs ys k v a b q d n = subst (λ zs. AreDistinct (field
 
 -- the order of labels
 
-ranked-then : (r s : Ordering) → ordering_then r s ≡ by_order r Less s Greater
-ranked-then Less s = refl
-ranked-then Equal s = refl
-ranked-then Greater s = refl
-
-label_total : IsTotalOrder label_order
-label_total =
-    let f : then_cmp (on label_rank nat_cmp) order_of ≡ label_order = fun_ext (λ x. fun_ext (λ y. ranked-then (nat_cmp (label_rank x) (label_rank y)) (order_of x y))) in
-    subst IsTotalOrder f (then_total (on_total label_rank nat_cmp_total) nat_list_cmp_total)
-
-equal-behind : (r s : Ordering) → by_order r Less s Greater ≡ Equal → s ≡ Equal
-equal-behind Less s e = absurd (let f : Less ≡ Equal = e in cc)
-equal-behind Equal s e = e
-equal-behind Greater s e = absurd (let f : Greater ≡ Equal = e in cc)
-
-pub same_label : (l m : Id) → label_order l m ≡ Equal → l ≡ m
-same_label l m e = exact_bytes l m (equal-behind (nat_cmp (label_rank l) (label_rank m)) (order_of l m) e)
-
 own_label : (l : Id) → label_order l l ≡ Equal
 own_label l = tied_itself label_total l
 
@@ -134,8 +119,12 @@ same_or_other l m = go (order_of l m) refl where
 pub same-some : {X : Type 0} (x y : X) → Some x ≡ Some y → x ≡ y
 same-some x y e = cc
 
-none-some : {X : Type 0} (x : X) → None ≡ Some x → ⊥
+pub none-some : {X : Type 0} (x : X) → None ≡ Some x → ⊥
 none-some x e = cc
+
+pub rising-none : AreRising []
+unfolding IsStrictlySortedBy
+rising-none = tt
 
 -- a map with one more field at its place
 
@@ -173,7 +162,7 @@ module _ {X : Type 0} (l : Id) (x : X) where
   set-there k [] d = lookup-there k (l, x) [] d
   set-there k (e ∷ m) d = by_label e m (λ n. lookup k n ≡ lookup k (e ∷ m))
       (λ q. lookup-there k (l, x) (e ∷ m) d)
-      (λ q. lookup-there k (l, x) m d ∙ sym (lookup-there k e m (λ s. d (s ∙ sym (same_label l e.0 q)))))
+      (λ q. lookup-there k (l, x) m d ∙ sym (lookup-there k e m (λ s. d (s ∙ sym (label-exact l e.0 q)))))
       (λ q. elim (same_or_other k e.0) [
         | inl s ↦ lookup-here k e (set_field l x m) s ∙ sym (lookup-here k e m s)
         | inr s ↦ lookup-there k e (set_field l x m) s ∙ (set-there k m d ∙ sym (lookup-there k e m s))
@@ -192,10 +181,11 @@ module _ {X : Type 0} (l : Id) (x : X) where
   all-less k (j ∷ ls) h a = (label_total.trans l k j h a.0, all-less k ls h a.1)
 
   rising-set : (m : Map X) → AreRising (labels_in m) → AreRising (labels_in (set_field l x m))
+  unfolding IsStrictlySortedBy
   rising-set [] r = (tt, tt)
   rising-set (e ∷ m) r = by_label e m (λ n. AreRising (labels_in n))
       (λ q. ((q, all-less e.0 (labels_in m) q r.0), r))
-      (λ q. (subst (λ k. AllByRecursion (λ j. label_order k j ≡ Less) (labels_in m)) (sym (same_label l e.0 q)) r.0, r.1))
+      (λ q. (subst (λ k. AllByRecursion (λ j. label_order k j ≡ Less) (labels_in m)) (sym (label-exact l e.0 q)) r.0, r.1))
       (λ q. (below-set e.0 m (label_turned l e.0 q) r.0, rising-set m r.1))
 
   -- a label below all others comes first
@@ -209,17 +199,18 @@ module _ {X : Type 0} (l : Id) (x : X) where
 
   -- what stands there already
   set-same : (m : Map X) → AreRising (labels_in m) → lookup l m ≡ Some x → set_field l x m ≡ m
+  unfolding IsStrictlySortedBy
   set-same [] r h = absurd (none-some x h)
   set-same (e ∷ m) r h = by_label e m (λ n. n ≡ e ∷ m)
       (λ q. absurd (none-some x (sym (none-below (e ∷ m) (q, all-less e.0 (labels_in m) q r.0)) ∙ h)))
       (λ q.
-      let s = same_label l e.0 q in
-      let f : Some e.1 ≡ Some x = sym (lookup-here l e m s) ∙ h in
-      let g : e.1 ≡ x = cc in
-      λ i. (s i, sym g i) ∷ m)
+          let s = label-exact l e.0 q in
+          let f : Some e.1 ≡ Some x = sym (lookup-here l e m s) ∙ h in
+          let g : e.1 ≡ x = cc in
+          λ i. (s i, sym g i) ∷ m)
       (λ q.
-      let d : l ≡ e.0 → ⊥ = λ s. let f : Greater ≡ Equal = sym q ∙ subst (λ k. label_order l k ≡ Equal) s (own_label l) in cc in
-      ap (λ n. e ∷ n) (set-same m r.1 (sym (lookup-there l e m d) ∙ h)))
+          let d : l ≡ e.0 → ⊥ = λ s. let f : Greater ≡ Equal = sym q ∙ subst (λ k. label_order l k ≡ Equal) s (own_label l) in cc in
+          ap (λ n. e ∷ n) (set-same m r.1 (sym (lookup-there l e m d) ∙ h)))
 
   all-set : (P : X → Type 0) (m : Map X) → P x → AllByRecursion P (values_in m) → AllByRecursion P (values_in (set_field l x m))
   all-set P [] p a = (p, tt)
@@ -268,6 +259,7 @@ module _ {X : Type 0} where
   values-of (l ∷ ls) (x ∷ xs) n = ap (λ ks. x ∷ ks) (values-of ls xs (omega (arith, n)))
 
   sets-row : (ls : List Id) (xs : List X) → length xs ≡ length ls → AreRising ls → set_fields (with_labels ls xs) [] ≡ with_labels ls xs
+  unfolding IsStrictlySortedBy
   sets-row [] [] n r = refl
   sets-row [] (x ∷ xs) n r = absurd (omega (arith, n))
   sets-row (l ∷ ls) [] n r = absurd (omega (arith, n))
@@ -335,6 +327,20 @@ module _ {A B : Type 0} (g : A → B) where
   all-at-fields P [] a = tt
   all-at-fields P (f ∷ fs) a = (a.0, all-at-fields P fs a.1)
 
+  pub labels-map : (ls : List Id) (xs : List A) → with_labels ls (map g xs) ≡ fields_at g (with_labels ls xs)
+  labels-map [] xs = refl
+  labels-map (l ∷ ls) [] = refl
+  labels-map (l ∷ ls) (x ∷ xs) = ap (λ m. (l, g x) ∷ m) (labels-map ls xs)
+
+  lookup-by : (o : Ordering) (e : A) (r : Option A) (s : Option B) → option_map g r ≡ s → option_map g (by_order o r (Some e) r) ≡ by_order o s (Some (g e)) s
+  lookup-by Less e r s q = q
+  lookup-by Equal e r s q = refl
+  lookup-by Greater e r s q = q
+
+  pub lookup-at : (l : Id) (m : Map A) → option_map g (lookup l m) ≡ lookup l (fields_at g m)
+  lookup-at l [] = refl
+  lookup-at l (e ∷ m) = lookup-by (order_of l e.0) e.1 (lookup l m) (lookup l (fields_at g m)) (lookup-at l m)
+
 -- a row's components
 
 abbrev pub list_of : MlTypes Name → List (MlType Name)
@@ -376,7 +382,7 @@ row_with-has w m fs r a = record {
 }
 
 pub open-has : (t : MlType Name) (fs : List (Id × MlType Name)) → AreDistinct fs → HasFields finite (open_row t fs) fs
-open-has t fs d = row_with-has finite (set_fields fs (set_fields (components t) [])) fs (rising-sets fs (set_fields (components t) []) (rising-sets (components t) [] tt)) (sets-found fs (set_fields (components t) []) d)
+open-has t fs d = row_with-has finite (set_fields fs (set_fields (components t) [])) fs (rising-sets fs (set_fields (components t) []) (rising-sets (components t) [] rising-none)) (sets-found fs (set_fields (components t) []) d)
 
 pub components-row : (ls : List Id) (ts : List (MlType Name)) → components (app (row ls) (types_of ts)) ≡ with_labels ls ts
 components-row ls ts = ap (with_labels ls) (list_of-types ts)
@@ -400,7 +406,7 @@ all-components P ls ts a = subst (λ m. AllByRecursion P (values_in m)) (sym (co
 
 -- fields of one row
 
-row-labels : (ls ks : List Id) → ◌≡◌ {A = Head Name} (row ls) (row ks) → ls ≡ ks
+pub row-labels : (ls ks : List Id) → ◌≡◌ {A = Head Name} (row ls) (row ks) → ls ≡ ks
 row-labels ls ks e = cc
 
 module _ (w : World) (t : In w) (fs gs : List (Id × In w)) where
@@ -413,11 +419,11 @@ module _ (w : World) (t : In w) (fs gs : List (Id × In w)) where
   pub has-these : (h : HasFields w t fs) → AllByRecursion (λ f. lookup f.0 (with_labels h.labels h.types) ≡ Some f.1) gs → HasFields w t gs
   has-these h a = record { labels = h.labels; types = h.types; rising = h.rising; count = h.count; is_row = h.is_row; fields = a }
 
-all-front : {A : Type 0} (P : A → Type 0) (xs ys : List A) → AllByRecursion P (xs ++ ys) → AllByRecursion P xs
+pub all-front : {A : Type 0} (P : A → Type 0) (xs ys : List A) → AllByRecursion P (xs ++ ys) → AllByRecursion P xs
 all-front P [] ys a = tt
 all-front P (x ∷ xs) ys a = (a.0, all-front P xs ys a.1)
 
-all-back : {A : Type 0} (P : A → Type 0) (xs ys : List A) → AllByRecursion P (xs ++ ys) → AllByRecursion P ys
+pub all-back : {A : Type 0} (P : A → Type 0) (xs ys : List A) → AllByRecursion P (xs ++ ys) → AllByRecursion P ys
 all-back P [] ys a = a
 all-back P (x ∷ xs) ys a = all-back P xs ys a.1
 

@@ -10,7 +10,7 @@ use Rattle.sml_solve.specs.declared.node.Node.TheVariants.{Unknown, Link, App, O
 use Rattle.sml_solve.specs.Worlds.{infinite, Assignment, tree}
 use Rattle.sml_solve.specs.declared.fields.Fields.{Fields}
 use Rattle.sml_solve.specs.Rows.{HasFields, fields_at}
-use Rattle.sml_solve.proofs.Rowing.{set_fields, labels_in, values_in, sets-at, labels-at, values-at, row_with, row_with-has, rising-sets, sets-found, distinct-at}
+use Rattle.sml_solve.proofs.Rowing.{set_fields, labels_in, values_in, sets-at, labels-at, values-at, row_with, row_with-has, rising-sets, rising-none, sets-found, distinct-at}
 use Rattle.sml_solve.specs.Graphs.{node_at, head_over, fields_of, Agrees, Meets, IsSound, IsSoundNode}
 
 -- what a node leads to
@@ -107,7 +107,7 @@ agrees-walks ns s i (Open fs) e =
     let b : map (walks ns) (values_in m) ≡ values_in ms = sym (values-at (walks ns) m) ∙ ap values_in q in
     let u : walks ns i ≡ row_with infinite ms = t ∙ (λ j. tree (row (a j)) (b j)) in
     subst (λ t. HasFields infinite t (fields_at (walks ns) gs)) (sym u)
-    (row_with-has infinite ms (fields_at (walks ns) gs) (rising-sets (fields_at (walks ns) gs) [] tt) (sets-found (fields_at (walks ns) gs) [] (distinct-at (walks ns) gs fs.value.distinct)))
+    (row_with-has infinite ms (fields_at (walks ns) gs) (rising-sets (fields_at (walks ns) gs) [] rising-none) (sets-found (fields_at (walks ns) gs) [] (distinct-at (walks ns) gs fs.value.distinct)))
 
 pub has_infinite : (ns : List Node) → IsSound ns → (σ : Assignment infinite) × Meets infinite ns σ
 has_infinite ns s = (walks ns, λ i. agrees-walks ns s i (node_at ns i) refl)

@@ -1,27 +1,24 @@
 -- What a vector of nodes says of the types of its nodes.
-use Rattle.std.specs.Prelude.{◌≡◌, ℕ, zero, suc, ◌+◌, ◌<◌, ◌≤◌, ◌↔◌, ◌⊎◌, ◌^◌, List, [], ◌∷◌, ◌++◌, length, map, slice_index, slice_index_or, decimal}
+use Rattle.std.specs.Prelude.{◌≡◌, ℕ, ◌+◌, ◌<◌, ◌≤◌, ◌↔◌, ◌⊎◌, ◌^◌, List, [], ◌∷◌, ◌++◌, length, map, Some, None, slice_index, slice_index_or}
 use Rattle.std.specs.List.{sum_by, AllByRecursion}
 use Rattle.sml_tree.specs.Trees.{Id}
 use Rattle.sml_objects.specs.Initial.{Name}
 use Rattle.sml_objects.specs.Objects as O
-use Rattle.sml_objects.specs.Views.{name_of}
+use Rattle.sml_objects.specs.Labels.{with_labels}
+use Rattle.sml_objects.specs.Maps.{lookup}
+use Rattle.sml_objects.specs.Views.{name_of, label_list}
 use Rattle.sml_solve.specs.declared.fields.Fields.{Fields}
 use Rattle.sml_solve.specs.declared.node.Head.{Head}
 use Rattle.sml_solve.specs.declared.node.Head.TheVariants.{Arrow, Row, Name as Applied}
 use Rattle.sml_solve.specs.declared.node.Node.{Node}
 use Rattle.sml_solve.specs.declared.node.Node.TheVariants.{Unknown, Link, App, Open}
 use Rattle.sml_solve.specs.Worlds.{World, In, Assignment, make}
-use Rattle.sml_solve.specs.Rows.{HasFields, field_list, fields_at, kids_of}
-
--- k, the number behind it and so on: n labels
-abbrev pub labels : ℕ → ℕ → List Id
-labels k zero = []
-labels k (suc n) = decimal k ∷ labels (suc k) n
+use Rattle.sml_solve.specs.Rows.{HasFields, IsField, field_list, fields_at, kids_of}
 
 -- the head over so many parts
 abbrev pub head_over : Head → ℕ → O.Head Name
 head_over Arrow n = O.arrow
-head_over Row n = O.row (labels 1 n)
+head_over (Row ls) n = O.row (label_list ls.value)
 head_over (Applied m) n = O.name (name_of m)
 
 -- what stands at the place
@@ -55,7 +52,7 @@ pairs_of (x ∷ xs) (y ∷ ys) = (x, y) ∷ pairs_of xs ys
 -- an arrow has two parts
 abbrev pub IsCountOf : Head → ℕ → Type 0
 IsCountOf Arrow n = n ≡ 2
-IsCountOf Row n = Unit {0}
+IsCountOf (Row ls) n = Unit {0}
 IsCountOf (Applied m) n = Unit {0}
 
 -- links lead down, and parts stand in the vector
@@ -158,6 +155,21 @@ pub record JoinsFields (fs gs hs : List (Id × ℕ)) (ps qs : List (ℕ × ℕ))
   pub sound : (n : ℕ) → AllByRecursion (λ k. k < n) (kids_of fs) → AllByRecursion (λ k. k < n) (kids_of gs) → AllByRecursion (λ k. k < n) (kids_of hs) × ArePairsIn n more
   pub same : (w : World) (σ : Assignment w) (t : In w)
       → (HasFields w t (fields_at σ fs) × HasFields w t (fields_at σ gs)) ↔ (HasFields w t (fields_at σ hs) × MeetsPairs w more σ)
+
+-- rows of these labels and parts have the fields where each pair gets one type
+pub record JoinsRow (fs : List (Id × ℕ)) (ls : List Id) (kids : List ℕ) (ps qs : List (ℕ × ℕ)) : Type 0 where
+  pub more : List (ℕ × ℕ)
+  pub pairs : qs ≡ ps ++ more
+  pub less : length more ≤ length fs
+  pub sound : (n : ℕ) → AllByRecursion (λ k. k < n) (kids_of fs) → AllByRecursion (λ k. k < n) kids → ArePairsIn n more
+  pub same : (w : World) (σ : Assignment w) → AllByRecursion (λ f. lookup f.0 (with_labels ls (map σ kids)) ≡ Some f.1) (fields_at σ fs) ↔ MeetsPairs w more σ
+
+-- a field's label is none of these
+pub record LacksLabel (fs : List (Id × ℕ)) (ls : List Id) (kids : List ℕ) : Type 0 where
+  pub label : Id
+  pub kid : ℕ
+  pub field : IsField label kid fs
+  pub none : lookup label (with_labels ls kids) ≡ None
 
 -- only links were led on
 pub record Leads (ns ms : List Node) : Type 0 where

@@ -1,5 +1,4 @@
 pub mod Worlds
-pub mod Labels
 pub mod Rows
 pub mod Graphs
 pub mod Interned

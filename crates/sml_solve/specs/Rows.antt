@@ -7,7 +7,7 @@ use Rattle.std.specs.Global.{Global}
 use Rattle.std.specs.declared.rc.Rc.{Rc}
 use Rattle.sml_tree.specs.Trees.{Id}
 use Rattle.sml_tree.specs.Views.{ident_of}
-use Rattle.sml_solve.specs.Labels.{AreRising, with_labels}
+use Rattle.sml_objects.specs.Labels.{AreRising, with_labels}
 use Rattle.sml_objects.specs.Maps.{lookup}
 use Rattle.sml_objects.specs.Objects.{row}
 use Rattle.sml_solve.specs.Worlds.{World, In, make}

@@ -54,9 +54,10 @@ fn node_for<'a>(
     match ty {
         MlType::Bound(_) => unreachable!(),
         MlType::Free(unknown) => Ok(Node::Link(unknowns[*unknown as usize])),
-        MlType::Row(parts) => {
+        MlType::Row(labels, parts) => {
+            let own = labels.clone()?;
             let kids = places_for(alloc, base, types, parts)?;
-            Ok(Node::App(Head::Row, kids))
+            Ok(Node::App(Head::Row(own), kids))
         }
         MlType::Arrow(from, to) => {
             let mut kids = SmallVec::new(alloc);

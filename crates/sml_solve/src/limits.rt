@@ -175,9 +175,9 @@ fn is_same_limit(one: Limit, other: Limit) -> bool
 }
 
 /// Whether a head is no name that the unit made with the bound's number or a higher one.
-fn is_head_within(head: Head, unit: UnitId, bound: Option<u32>) -> bool
-    ensures yes { OnTrue result ((n : ℕ) → FitsBound (maker_of unit) bound (head_over head n)) }
-    ensures no { OnFalse result ((n : ℕ) → FitsBound (maker_of unit) bound (head_over head n) → ⊥) }
+fn is_head_within(head: &Head, unit: UnitId, bound: Option<u32>) -> bool
+    ensures yes { OnTrue result ((n : ℕ) → FitsBound (maker_of unit) bound (head_over head.now n)) }
+    ensures no { OnFalse result ((n : ℕ) → FitsBound (maker_of unit) bound (head_over head.now n) → ⊥) }
 {
     match (head, bound) {
         (Head::Name(TyName::Made(made)), Some(most)) => {
@@ -188,25 +188,25 @@ fn is_head_within(head: Head, unit: UnitId, bound: Option<u32>) -> bool
 }
 
 /// Whether a type with this head may admit equality.
-fn may_admit(head: Head, equality: bool) -> bool
-    ensures yes { OnTrue result ((n : ℕ) → FitsEquality equality (head_over head n)) }
-    ensures no { OnFalse result ((n : ℕ) → FitsEquality equality (head_over head n) → ⊥) }
+fn may_admit(head: &Head, equality: bool) -> bool
+    ensures yes { OnTrue result ((n : ℕ) → FitsEquality equality (head_over head.now n)) }
+    ensures no { OnFalse result ((n : ℕ) → FitsEquality equality (head_over head.now n) → ⊥) }
 {
     match head {
         Head::Arrow => !equality,
-        Head::Row => true,
-        Head::Name(name) => !equality || is_reference(name) || has_equality(name),
+        Head::Row(_) => true,
+        Head::Name(name) => !equality || is_reference(*name) || has_equality(*name),
     }
 }
 
 /// Whether a head over so many parts is one of some names.
-fn is_in_class(head: Head, count: usize, class: Option<Names>) -> bool
-    ensures yes { OnTrue result (FitsClass class (head_over head count) count) }
-    ensures no { OnFalse result (FitsClass class (head_over head count) count → ⊥) }
+fn is_in_class(head: &Head, count: usize, class: Option<Names>) -> bool
+    ensures yes { OnTrue result (FitsClass class (head_over head.now count) count) }
+    ensures no { OnFalse result (FitsClass class (head_over head.now count) count → ⊥) }
 {
     match (class, head) {
         (None, _) => true,
-        (Some(names), Head::Name(TyName::Initial(name))) => count == 0 && names.has(name),
+        (Some(names), Head::Name(TyName::Initial(name))) => count == 0 && names.has(*name),
         (Some(_), _) => false,
     }
 }
@@ -234,9 +234,9 @@ fn is_any(variables: Variables) -> bool
 }
 
 /// The first layer in which a head over so many parts isn't what is asked.
-fn misfit_head(head: Head, count: usize, limit: Limit, unit: UnitId) -> Option<Layer>
-    ensures fits { (l : Layer) → IsBefore l result → FitsAt l (maker_of unit) limit (head_over head count) count }
-    ensures fails { IfSome result (λ l. FitsAt l (maker_of unit) limit (head_over head count) count → ⊥) }
+fn misfit_head(head: &Head, count: usize, limit: Limit, unit: UnitId) -> Option<Layer>
+    ensures fits { (l : Layer) → IsBefore l result → FitsAt l (maker_of unit) limit (head_over head.now count) count }
+    ensures fails { IfSome result (λ l. FitsAt l (maker_of unit) limit (head_over head.now count) count → ⊥) }
 {
     if !is_head_within(head, unit, limit.newness) {
         return Some(Layer::Newness);
@@ -284,7 +284,7 @@ fn misfit(node: &Node, limit: Limit, unit: UnitId) -> Option<Layer>
             }
         }
         Node::Link(_) => None,
-        Node::App(head, kids) => misfit_head(*head, kids.len(), limit, unit),
+        Node::App(head, kids) => misfit_head(head, kids.len(), limit, unit),
         Node::Open(_) => misfit_row(limit),
     }
 }

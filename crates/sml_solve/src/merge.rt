@@ -2,13 +2,15 @@
 
 ghost use Rattle.std.specs.Prelude.{◌≡◌, ◌≢◌, ℕ, ◌+◌, ◌<◌, ◌≤◌, ◌++◌, ◌∷◌, [], length, vec_len, IfOk, OnOk, Err};
 ghost use Rattle.std.specs.List.{AllByRecursion};
+ghost use Rattle.sml_objects.specs.Views.{label_list};
 ghost use Rattle.sml_solve.specs.declared.merge.Unsolved.TheVariants.{Memory};
 ghost use Rattle.sml_solve.specs.declared.node.Node.TheVariants.{App, Open};
-ghost use Rattle.sml_solve.specs.Graphs.{IsSame, IsRoot, IsSound, ArePairsIn, SameSolutions, HasNoSolution, Merges, Leads, Changes, IsRootNode, AreApart, Joins, JoinsFields, fields_of, pairs_of, node_at};
+ghost use Rattle.sml_solve.specs.Graphs.{IsSame, IsRoot, IsSound, ArePairsIn, SameSolutions, HasNoSolution, Merges, Leads, Changes, IsRootNode, AreApart, Joins, JoinsFields, JoinsRow, LacksLabel, fields_of, pairs_of, node_at};
 
 use crate::fields::Fields;
 use crate::node::{Head, Node, is_same_head};
 use smallvec::SmallVec;
+use sml_objects::labels::Labels;
 use std::alloc::{AllocError, AllocFailed, Global};
 use std::mem;
 
@@ -124,12 +126,60 @@ fn join_heads(
     ensures joins { IfOk result (λ n. Joins (App head kids) (App other others) n pending.old.items pending.new.items) }
     ensures clash { result ≡ Err Unsolved.Clash → AreApart (App head kids) (App other others) }
 {
-    if is_same_head(head, other) && kids.len() == others.len() {
+    if is_same_head(&head, &other) && kids.len() == others.len() {
         push_pairs(pending, kids.as_slice(), others.as_slice())?;
         Ok(Node::App(head, kids))
     } else {
         Err(Unsolved::Clash)
     }
+}
+
+/// Adds pairs of the nodes of some fields and the parts of a row that have their labels. A label that the row lacks is a
+/// clash.
+fn push_fields(
+    pending: &mut Vec<(usize, usize)>,
+    fields: &Fields,
+    labels: &Labels,
+    kids: &[usize],
+) -> Result<(), Unsolved>
+    ensures joins { OnOk result (JoinsRow (fields_of fields.now) (label_list labels.now) kids.now pending.old.items pending.new.items) }
+    ensures clash { result ≡ Err Unsolved.Clash → LacksLabel (fields_of fields.now) (label_list labels.now) kids.now }
+{
+    let own = fields.labels();
+    let nodes = fields.kids();
+    for i in 0..own.len() {
+        match labels.field(kids, &own[i]) {
+            None => return Err(Unsolved::Clash),
+            Some(kid) => pending.push((*kid, nodes[i]))?,
+        }
+    }
+    Ok(())
+}
+
+/// One node of a head and a row that has some fields.
+fn close_row(
+    pending: &mut Vec<(usize, usize)>,
+    head: Head,
+    kids: SmallVec<usize, 2, Global>,
+    fields: Box<Fields>,
+) -> Result<Node, Unsolved>
+    ensures joins { IfOk result (λ n. Joins (App head kids) (Open fields) n pending.old.items pending.new.items) }
+    ensures clash { result ≡ Err Unsolved.Clash → AreApart (App head kids) (Open fields) }
+{
+    match &head {
+        Head::Row(labels) => {
+            if kids.len() != labels.as_slice().len() {
+                return Err(Unsolved::Clash);
+            }
+            match push_fields(pending, &fields, labels, kids.as_slice()) {
+                Ok(()) => {}
+                Err(fault) => return Err(fault),
+            }
+        }
+        Head::Arrow => return Err(Unsolved::Clash),
+        Head::Name(_) => return Err(Unsolved::Clash),
+    }
+    Ok(Node::App(head, kids))
 }
 
 /// One node that says what two say, where neither leads to another.
@@ -146,12 +196,12 @@ fn join(pending: &mut Vec<(usize, usize)>, upper: Node, lower: Node) -> Result<N
             Node::Unknown => Ok(Node::App(head, kids)),
             Node::Link(_) => unreachable!(),
             Node::App(other, others) => join_heads(pending, head, kids, other, others),
-            Node::Open(_) => Err(Unsolved::Memory),
+            Node::Open(fields) => close_row(pending, head, kids, fields),
         },
         Node::Open(fields) => match lower {
             Node::Unknown => Ok(Node::Open(fields)),
             Node::Link(_) => unreachable!(),
-            Node::App(_, _) => Err(Unsolved::Memory),
+            Node::App(head, kids) => close_row(pending, head, kids, fields),
             Node::Open(others) => join_fields(pending, fields, others),
         },
     }

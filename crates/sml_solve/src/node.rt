@@ -5,16 +5,18 @@ ghost use Rattle.sml_solve.specs.Graphs.{head_over, parts};
 
 use crate::fields::Fields;
 use smallvec::SmallVec;
+use sml_objects::labels::Labels;
 use sml_objects::objects::TyName;
 use std::alloc::Global;
+use std::rc::Rc;
 use std::slice;
 
 /// What stands at the top of a type, over its parts.
-#[derive(Clone, Copy, PartialEq, Eq)]
+#[derive(Clone, Drop)]
 pub enum Head {
     Arrow,
-    /// A row labelled from 1 on.
-    Row,
+    /// A row with these labels.
+    Row(Rc<Labels>),
     Name(TyName),
 }
 
@@ -43,13 +45,13 @@ pub(crate) fn parts_of(node: &Node) -> &[usize]
 }
 
 /// Whether two heads are one.
-pub(crate) fn is_same_head(left: Head, right: Head) -> bool
-    ensures same { result ≡ true → (n : ℕ) → head_over left n ≡ head_over right n }
-    ensures differ { result ≡ false → (n m : ℕ) → head_over left n ≢ head_over right m }
+pub(crate) fn is_same_head(left: &Head, right: &Head) -> bool
+    ensures same { result ≡ true → (n : ℕ) → head_over left.now n ≡ head_over right.now n }
+    ensures differ { result ≡ false → (n m : ℕ) → head_over left.now n ≢ head_over right.now m }
 {
     match (left, right) {
         (Head::Arrow, Head::Arrow) => true,
-        (Head::Row, Head::Row) => true,
+        (Head::Row(some), Head::Row(others)) => some.are_same(others),
         (Head::Name(one), Head::Name(other)) => one == other,
         _ => false,
     }

@@ -1,11 +1,11 @@
 use Rattle.std.proofs.Common.{◌≡◌, ◌+◌, ◌++◌, ◌∷◌, [], length, map, ap, sym, ◌∙◌, arith, refl, vec_len}
 use Rattle.std.proofs.lemmas.List.{length-map}
 use Rattle.sml_objects.specs.Objects as O
-use Rattle.sml_objects.specs.Views.{type_of}
+use Rattle.sml_objects.specs.Views.{type_of, label_list, row_of}
 use Rattle.sml_objects.proofs.TypeViews.{parts_of, type_of-bound, type_of-free, type_of-row, type_of-arrow, type_of-name}
 use Rattle.sml_solve.specs.declared.node.Head.TheVariants.{Row, Arrow, Name}
 use Rattle.sml_solve.specs.Interned.{numbers, seen}
-use Rattle.sml_solve.proofs.Interning.{not-bound, free-over, row-type, expands-head, expands-unknown, append-next, two-places}
+use Rattle.sml_solve.proofs.Interning.{not-bound, free-over, expands-head, expands-unknown, append-next, two-places}
 use Rattle.sml_solve.proofs.intern.node_for.Goals as goal
 
 pub unreachable-requires : goal.unreachable-requires
@@ -25,8 +25,8 @@ returns-in_ok-kids-in-Row c =
     let k = c.args.base + vec_len c.args.types.now in
     let same : map (λ t. type_of t.value) c.deref.result.now ≡ more = ap parts_of c.deref.ensures.value in
     let n : length c.deref.result.now ≡ length more = ap length c.deref.ensures.value ∙ sym (length-map c.in-Row.parts.items (λ t. type_of t.value)) in
-    expands-head (type_of c.args.ty.now) c.args.unknowns.now k Row c.in_ok-kids-in-Row.kids (seen c.args.types.now.items) (seen c.places_for.new.types.items) more
-    (ap type_of c.in-Row.is ∙ (type_of-row c.in-Row.parts ∙ row-type more))
+    expands-head (type_of c.args.ty.now) c.args.unknowns.now k (Row c.in_ok-own-in-Row.own) c.in_ok-kids-in-Row.kids (seen c.args.types.now.items) (seen c.places_for.new.types.items) more
+    (ap type_of c.in-Row.is ∙ (type_of-row c.in-Row.labels c.in-Row.parts ∙ ap (λ ls. row_of (label_list ls) more) (sym c.in_ok-own-in-Row.ensures.cases)))
     (c.in_ok-kids-in-Row.ensures.places ∙ ap (numbers k) n)
     tt
     (c.in_ok-kids-in-Row.ensures.types ∙ ap (λ xs. seen c.args.types.now.items ++ xs) same)

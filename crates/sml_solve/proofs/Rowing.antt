@@ -143,7 +143,7 @@ abbrev pub values_in : {X : Type 0} → List (Id × X) → List X
 values_in m = map (λ e. e.1) m
 
 module _ {X : Type 0} (l : Id) (x : X) where
-  by_label : (e : Id × X) (m : Map X) (P : Map X → Type 0) → (label_order l e.0 ≡ Less → P ((l, x) ∷ e ∷ m)) → (label_order l e.0 ≡ Equal → P ((l, x) ∷ m)) → (label_order l e.0 ≡ Greater → P (e ∷ set_field l x m)) → P (set_field l x (e ∷ m))
+  pub by_label : (e : Id × X) (m : Map X) (P : Map X → Type 0) → (label_order l e.0 ≡ Less → P ((l, x) ∷ e ∷ m)) → (label_order l e.0 ≡ Equal → P ((l, x) ∷ m)) → (label_order l e.0 ≡ Greater → P (e ∷ set_field l x m)) → P (set_field l x (e ∷ m))
   by_label e m P f g h = go (label_order l e.0) refl where
     go : (o : Ordering) → label_order l e.0 ≡ o → P (by_order o ((l, x) ∷ e ∷ m) ((l, x) ∷ m) (e ∷ set_field l x m))
     go Less q = f q
@@ -252,7 +252,7 @@ module _ {X : Type 0} where
   labels-of (l ∷ ls) [] n = absurd (omega (arith, n))
   labels-of (l ∷ ls) (x ∷ xs) n = ap (λ ks. l ∷ ks) (labels-of ls xs (omega (arith, n)))
 
-  values-of : (ls : List Id) (xs : List X) → length xs ≡ length ls → values_in (with_labels ls xs) ≡ xs
+  pub values-of : (ls : List Id) (xs : List X) → length xs ≡ length ls → values_in (with_labels ls xs) ≡ xs
   values-of [] [] n = refl
   values-of [] (x ∷ xs) n = absurd (omega (arith, n))
   values-of (l ∷ ls) [] n = absurd (omega (arith, n))
@@ -384,7 +384,7 @@ row_with-has w m fs r a = record {
 pub open-has : (t : MlType Name) (fs : List (Id × MlType Name)) → AreDistinct fs → HasFields finite (open_row t fs) fs
 open-has t fs d = row_with-has finite (set_fields fs (set_fields (components t) [])) fs (rising-sets fs (set_fields (components t) []) (rising-sets (components t) [] rising-none)) (sets-found fs (set_fields (components t) []) d)
 
-components-row : (ls : List Id) (ts : List (MlType Name)) → components (app (row ls) (types_of ts)) ≡ with_labels ls ts
+pub components-row : (ls : List Id) (ts : List (MlType Name)) → components (app (row ls) (types_of ts)) ≡ with_labels ls ts
 components-row ls ts = ap (with_labels ls) (list_of-types ts)
 
 -- a row that has the fields stays

@@ -14,12 +14,13 @@ use Rattle.sml_objects.proofs.EnvViews.{map-map}
 use Rattle.sml_solve.specs.declared.layer.Layer.TheVariants.{Finiteness, Equality, Classes}
 use Rattle.sml_solve.specs.Worlds.{finite, Assignment}
 use Rattle.sml_solve.specs.Asked.{Asked, Permits}
-use Rattle.sml_solve.specs.Left.{IsMadeOf, IsLeft, IsReading, IsMostGeneral}
-use Rattle.sml_solve.specs.Schemes.{IsInt, AsksEquality, IsFateOf, IsSchemeOfReading, MayBecome, AreAlike, HasNoFlag, GiveOneScheme}
-use Rattle.sml_solve.proofs.Owning.{made-more}
+use Rattle.sml_solve.specs.Rows.{fields_at}
+use Rattle.sml_solve.specs.Left.{IsMadeOf, IsFree, IsLeft, IsReading, MayBe, KeepsFields, IsMostGeneral}
+use Rattle.sml_solve.specs.Schemes.{IsInt, AsksEquality, IsFateOf, IsSchemeOfReading, MayBecome, AreAlike, HasNoFlag, HasNoFlexible, GiveOneScheme}
+use Rattle.sml_solve.proofs.Owning.{made-more, assigned-alike, row-not-free}
 use Rattle.sml_solve.proofs.Searching.{all-parts}
-use Rattle.sml_solve.proofs.Uniqueness.{own, stays, variables-made, one-fate, same-fates}
-use Rattle.sml_solve.proofs.Renaming.{assigned-alike, alike-on, assign-then, made-there, number_of, IsNamed, back-named, IsBack, variables-renamed, at-variable, at-each, IsNotKeep, closed-renamed}
+use Rattle.sml_solve.proofs.Uniqueness.{stays, variables-made, one-fate, same-fates}
+use Rattle.sml_solve.proofs.Renaming.{alike-on, assign-then, made-there, number_of, IsNamed, back-named, IsBack, variables-renamed, at-variable, at-each, IsNotKeep, closed-renamed}
 
 -- what is permitted where more is asked is permitted by the equations
 
@@ -31,11 +32,22 @@ with-classes : (s : Asked) (σ : Assignment finite) → Permits Classes s σ →
 unfolding Permits
 with-classes s σ p = (p.0, p.1, λ k h. p.2 k (omega (arith, h)), p.3)
 
+-- where no flexible row is left, each unknown that is left may stand for itself
+
+left-free : (s : Asked) (v : ℕ) → HasNoFlexible s → IsLeft s v → IsFree s v
+left-free s v n l = elim l.undetermined [ inl f ↦ f | inr x ↦ absurd (n v l x) ]
+
+own : (s : Asked) → IsMostGeneral s → HasNoFlexible s → (σ : Assignment finite) × Permits Finiteness s σ × ((v : ℕ) → IsLeft s v → σ v ≡ O.free v)
+unfolding IsMostGeneral MayBe KeepsFields
+own s m n =
+    let h = m Finiteness (omega arith) (λ v. O.free v) (λ v l. left-free s v n l (O.free v)) (λ v fs l a f. let p = left-free s v n l (O.free 0) in absurd (row-not-free (fields_at (assign p.0) fs) 0 (p.0 v) (f p.0 p.1) p.2)) in
+    (h.0, h.1, h.2)
+
 -- A reading becomes whatever a type that is alike is read as.
-becomes : (s r : Asked) (t q p o : O.MlType Name) → IsMostGeneral r → ((a : O.MlType Name) → MayBecome Finiteness r q a → MayBecome Finiteness s t a) → IsReading s t p → IsReading r q o → (σ : Assignment finite) × Permits Finiteness s σ × (assign σ p ≡ o)
+becomes : (s r : Asked) (t q p o : O.MlType Name) → IsMostGeneral r → HasNoFlexible r → ((a : O.MlType Name) → MayBecome Finiteness r q a → MayBecome Finiteness s t a) → IsReading s t p → IsReading r q o → (σ : Assignment finite) × Permits Finiteness s σ × (assign σ p ≡ o)
 unfolding IsReading MayBecome
-becomes s r t q p o m f a b =
-    let w = own r m in
+becomes s r t q p o m n f a b =
+    let w = own r m n in
     let e : assign w.0 q ≡ o = sym (b.1 w.0 w.1) ∙ stays (IsLeft r) w.0 o w.2 b.0 in
     let x = f o (w.0, w.1, e) in
     (x.0, x.1, a.1 x.0 x.1 ∙ x.2)
@@ -44,10 +56,10 @@ all-over : {A : Type 0} (P : A → Type 0) (f : ℕ → A) (vs : List ℕ) → A
 all-over P f [] a = tt
 all-over P f (v ∷ vs) a = (a.0, all-over P f vs a.1)
 
-not-kept : (s : Asked) (bs : List Bool) (v : ℕ) (f : Fate) → HasNoFlag bs → IsFateOf s bs false v f → IsNotKeep f
-not-kept s bs v (Bind e) n x = tt
-not-kept s bs v Keep n x = elim x.1 [ inl y ↦ let q : false ≡ true = y in absurd cc | inr m ↦ absurd (n v m) ]
-not-kept s bs v Default n x = tt
+not-kept : (s : Asked) (bs : List Bool) (v : ℕ) (f : Fate) → HasNoFlag bs → HasNoFlexible s → IsLeft s v → IsFateOf s bs false v f → IsNotKeep f
+not-kept s bs v (Bind e) n o l x = tt
+not-kept s bs v Keep n o l x = elim x.1 [ inl y ↦ let q : false ≡ true = y in absurd cc | inr m ↦ elim m [ inl a ↦ absurd (n v a) | inr f ↦ absurd (o v l f) ] ]
+not-kept s bs v Default n o l x = tt
 
 module _ (s r : Asked) (t q p o : O.MlType Name) (alike : AreAlike s t r q) (a : IsReading s t p) (b : IsReading r q o) (σ τ : Assignment finite) (forth : assign σ p ≡ o) (back : assign τ o ≡ p) where
   abbrev there : ℕ → ℕ
@@ -100,31 +112,36 @@ module _ (s r : Asked) (t q p o : O.MlType Name) (alike : AreAlike s t r q) (a :
       let y = (alike.with_equality (assign ρ t)).0 (ρ, x, refl) in
       subst (λ t. admits naming t ≡ true) (sym (matched ρ y.0 (with-equality s ρ x) (with-equality r y.0 y.1) (sym y.2) v i)) (f y.0 y.1)
 
-  fate-here : (bs cs : List Bool) (v : ℕ) (f : Fate) → IsOf v → HasNoFlag bs → HasNoFlag cs → IsFateOf r cs false (there v) f → IsFateOf s bs false v f
-  fate-here bs cs v (Bind e) i n k x = (λ z. x.0 (int-there v i z), refl, n v, (λ z. equality-here v i (x.3.0 z), λ z. x.3.1 (equality-there v i z)))
-  fate-here bs cs v Keep i n k x = absurd (not-kept r cs (there v) Keep k x)
-  fate-here bs cs v Default i n k x = int-here v i x
+  left-here : (v : ℕ) → IsOf v → IsLeft s v
+  unfolding IsReading
+  left-here v i = at-variable (IsLeft s) p v a.0 i
 
   left-there : (v : ℕ) → IsOf v → IsLeft r (there v)
   unfolding IsReading
   left-there v i = at-variable (λ v. IsLeft r (there v)) p v (made-there (IsLeft r) there p (subst (IsMadeOf (IsLeft r)) renamed b.0)) i
 
-  schemes-same : (bs cs : List Bool) (θ η : O.Scheme Name) → HasNoFlag bs → HasNoFlag cs → IsSchemeOfReading s bs false p θ → IsSchemeOfReading r cs false o η → θ ≡ η
-  unfolding IsReading
-  schemes-same bs cs θ η n k x y =
-      let u = O.named (initial int) in
-      let vs = variables_after [] p in
-      let left = variables-made (IsLeft s) [] p tt a.0 in
-      let fs = map x.fate vs in
-      let same : AllByRecursion (λ v. x.fate v ≡ y.fate (there v)) vs = variables-made (λ v. x.fate v ≡ y.fate (there v)) [] p tt
-      (at-each (IsLeft s) (λ v. x.fate v ≡ y.fate (there v)) p a.0 (λ v i.
-      one-fate s bs false v (x.fate v) (y.fate (there v)) (x.fates v (at-variable (IsLeft s) p v a.0 i)) (fate-here bs cs v (y.fate (there v)) i n k (y.fates (there v) (left-there v i))))) in
-      let kept : AllByRecursion IsNotKeep fs = all-over IsNotKeep x.fate vs (all-parts (IsLeft s) (λ v. IsNotKeep (x.fate v)) vs (λ v l. not-kept s bs v (x.fate v) n (x.fates v l)) left) in
-      let fates : map y.fate (variables_after [] o) ≡ fs = ap (λ z. map y.fate (variables_after [] z)) renamed ∙ (ap (map y.fate) (variables-renamed there here [] p tt goes-back) ∙ (map-map y.fate there vs ∙ sym (same-fates x.fate (λ v. y.fate (there v)) vs same))) in
-      x.scheme ∙ (closed-renamed u there here p o fs renamed goes-back kept (length-map vs x.fate) ∙ (ap (λ gs. close_as u gs o) (sym fates) ∙ sym y.scheme))
+  module _ (bs cs : List Bool) (n : HasNoFlag bs) (k : HasNoFlag cs) (x : HasNoFlexible s) (y : HasNoFlexible r) where
+    fate-here : (v : ℕ) (f : Fate) → IsOf v → IsFateOf r cs false (there v) f → IsFateOf s bs false v f
+    fate-here v (Bind e) i z = (λ w. z.0 (int-there v i w), refl, n v, x v (left-here v i), (λ w. equality-here v i (z.4.0 w), λ w. z.4.1 (equality-there v i w)))
+    fate-here v Keep i z = absurd (not-kept r cs (there v) Keep k y (left-there v i) z)
+    fate-here v Default i z = int-here v i z
+
+    schemes-same : (θ η : O.Scheme Name) → IsSchemeOfReading s bs false p θ → IsSchemeOfReading r cs false o η → θ ≡ η
+    unfolding IsReading
+    schemes-same θ η z w =
+        let u = O.named (initial int) in
+        let vs = variables_after [] p in
+        let left = variables-made (IsLeft s) [] p tt a.0 in
+        let fs = map z.fate vs in
+        let same : AllByRecursion (λ v. z.fate v ≡ w.fate (there v)) vs = variables-made (λ v. z.fate v ≡ w.fate (there v)) [] p tt
+        (at-each (IsLeft s) (λ v. z.fate v ≡ w.fate (there v)) p a.0 (λ v i.
+        one-fate s bs false v (z.fate v) (w.fate (there v)) (z.fates v (left-here v i)) (fate-here v (w.fate (there v)) i (w.fates (there v) (left-there v i))))) in
+        let kept : AllByRecursion IsNotKeep fs = all-over IsNotKeep z.fate vs (all-parts (IsLeft s) (λ v. IsNotKeep (z.fate v)) vs (λ v l. not-kept s bs v (z.fate v) n x l (z.fates v l)) left) in
+        let fates : map w.fate (variables_after [] o) ≡ fs = ap (λ z. map w.fate (variables_after [] z)) renamed ∙ (ap (map w.fate) (variables-renamed there here [] p tt goes-back) ∙ (map-map w.fate there vs ∙ sym (same-fates z.fate (λ v. w.fate (there v)) vs same))) in
+        z.scheme ∙ (closed-renamed u there here p o fs renamed goes-back kept (length-map vs z.fate) ∙ (ap (λ gs. close_as u gs o) (sym fates) ∙ sym w.scheme))
 
 pub schemes-agree : (s r : Asked) → IsMostGeneral s → IsMostGeneral r → GiveOneScheme s r
-schemes-agree s r m k t q bs cs θ η alike n l x y =
-    let f = becomes s r t q x.reading y.reading k (λ a. (alike.finite_types a).1) x.reads y.reads in
-    let g = becomes r s q t y.reading x.reading m (λ a. (alike.finite_types a).0) y.reads x.reads in
-    schemes-same s r t q x.reading y.reading alike x.reads y.reads f.0 g.0 f.2 g.2 bs cs θ η n l x.closed y.closed
+schemes-agree s r m k t q bs cs θ η alike n l e h x y =
+    let f = becomes s r t q x.reading y.reading k h (λ a. (alike.finite_types a).1) x.reads y.reads in
+    let g = becomes r s q t y.reading x.reading m e (λ a. (alike.finite_types a).0) y.reads x.reads in
+    schemes-same s r t q x.reading y.reading alike x.reads y.reads f.0 g.0 f.2 g.2 bs cs n l e h θ η x.closed y.closed

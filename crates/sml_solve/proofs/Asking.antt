@@ -445,7 +445,7 @@ app-parts Equality u a h ts w = equality-parts a.equality h ts w
 app-parts Classes u a h ts w = all-unit ts
 app-parts Rigidity u a h ts w = all-unit ts
 
-app-meets : (l : Layer) (u : ℕ) (a : Limit) (h : Head Name) (ts : List (MlType Name)) → FitsAt l u a h (length ts) → AllByRecursion (MeetsAt l u (for_parts h a)) ts → MeetsAt l u a (app h (types_of ts))
+pub app-meets : (l : Layer) (u : ℕ) (a : Limit) (h : Head Name) (ts : List (MlType Name)) → FitsAt l u a h (length ts) → AllByRecursion (MeetsAt l u (for_parts h a)) ts → MeetsAt l u a (app h (types_of ts))
 app-meets Equations u a h ts f w = tt
 app-meets Finiteness u a h ts f w = tt
 app-meets Newness u a h ts f w = bound-meets u a.newness h ts f w
@@ -482,7 +482,7 @@ row-fits Equality u a ls ks n m f = row-equality a.equality ks
 row-fits Classes u a ls ks n m f = row-class a.class ls ks n m f
 row-fits Rigidity u a ls ks n m f = row-variables a.variables ls ks n m f
 
-fits-row : (l : Layer) (u : ℕ) (a : Limit) (ls : List Id) (n : ℕ) → FitsAt l u a (row []) 0 → FitsAt l u a (row ls) n
+pub fits-row : (l : Layer) (u : ℕ) (a : Limit) (ls : List Id) (n : ℕ) → FitsAt l u a (row []) 0 → FitsAt l u a (row ls) n
 fits-row l u a ls n f = row-fits l u a [] ls 0 n f
 
 fits-any : (l : Layer) (u : ℕ) (a : Limit) (ls : List Id) (n : ℕ) → FitsAt l u a (row ls) n → FitsAt l u a (row []) 0

@@ -11,15 +11,17 @@ use Rattle.sml_solve.specs.declared.graph.Graph.{Graph}
 use Rattle.sml_solve.specs.declared.layer.Layer.TheVariants.{Finiteness}
 use Rattle.sml_solve.specs.declared.node.Head.{Head}
 use Rattle.sml_solve.specs.declared.node.Node.{Node}
-use Rattle.sml_solve.specs.declared.node.Node.TheVariants.{Unknown, App}
+use Rattle.sml_solve.specs.declared.node.Node.TheVariants.{Unknown, Link, App, Open}
 use Rattle.sml_solve.specs.Worlds.{finite, Assignment}
-use Rattle.sml_solve.specs.Graphs.{node_at, Meets, IsSame}
+use Rattle.sml_solve.specs.Graphs.{node_at, parts, fields_of, Agrees, Meets, IsSame, IsRoot, IsRootNode}
 use Rattle.sml_solve.specs.Ranks.{HasRank}
 use Rattle.sml_solve.specs.Interned.{IsOver, through}
 use Rattle.sml_solve.specs.Asked.{asked_of, Permits}
 use Rattle.sml_solve.specs.Whole.{IsKept}
 use Rattle.sml_solve.specs.Counted.{sizes_at, IsCounting, IsCounted, IsSizeUpTo}
 use Rattle.sml_solve.proofs.Ranking.{solution, ints, solution-meets, solution-unknown}
+use Rattle.sml_solve.proofs.Opening.{size-open, size-has}
+use Rattle.sml_solve.proofs.Owning.{solution-row}
 use Rattle.sml_solve.proofs.Interning.{typed-same}
 use Rattle.sml_solve.proofs.Demanding.{Grows, grown-forth, grown-back, through-agree}
 use Rattle.sml_solve.proofs.Asking.{nothing-asked}
@@ -39,16 +41,51 @@ positive (O.bound k) = omega arith
 positive (O.free v) = omega arith
 positive (O.app h ts) = omega arith
 
-pub counting-first : (ns : List Node) (root : ℕ) (is : List ℕ) → HasRank ns → is ≡ root ∷ [] → IsCounting ns root 0 is
+-- a node is no smaller than its parts
+parts-less : (τ : Assignment finite) (i : ℕ) (x : Node) → IsRootNode x → Agrees finite τ i x → suc (sizes_at τ (parts x)) ≤ type_size (τ i)
+unfolding type_size
+parts-less τ i Unknown r a = let p = positive (τ i) in omega (arith, p)
+parts-less τ i (Link j) r a = absurd r
+parts-less τ i (App h kids) r a =
+    let e = ap type_size a in
+    let f = sizes_at-types τ kids.items in
+    omega (arith, e, f)
+parts-less τ i (Open fs) r a = size-has τ (τ i) (fields_of fs.value) fs.value.distinct a
+
+-- where nothing more is known it is as small
+parts-small : (ns : List Node) (h : HasRank ns) (i : ℕ) (x : Node) → IsRootNode x → node_at ns i ≡ x → type_size (solution ns ints h.rank i) ≡ suc (sizes_at (solution ns ints h.rank) (parts x))
 unfolding type_size types_size
-counting-first ns root is r e =
-    let σ = solution ns ints r.rank in
+parts-small ns h i Unknown r e = ap type_size (solution-unknown ns ints h.rank i e)
+parts-small ns h i (Link j) r e = absurd r
+parts-small ns h i (App f kids) r e =
+    let σ = solution ns ints h.rank in
+    let a : Agrees finite σ i (App f kids) = rw e at (solution-meets ns ints h.rank h.ranked i) in
+    ap type_size a ∙ ap suc (sizes_at-types σ kids.items)
+parts-small ns h i (Open fs) r e =
+    let σ = solution ns ints h.rank in
+    ap type_size (solution-row ns ints h i fs e) ∙ size-open σ (ints i) (fields_of fs.value) refl fs.value.distinct
+
+pub counting-first : (ns : List Node) (root : ℕ) (is : List ℕ) → HasRank ns → is ≡ root ∷ [] → IsCounting ns root 0 is
+counting-first ns root is r e = record {
+  less = λ τ m. rw e (omega arith);
+  types = solution ns ints r.rank;
+  meets = solution-meets ns ints r.rank r.ranked;
+  small = λ i h. parts-small ns r i (node_at ns i) h refl;
+  exact = rw e (omega arith);
+}
+
+pub counting-parts : (ns : List Node) (root n : ℕ) (is js ks : List ℕ) (at here : ℕ) → IsCounting ns root n is → is ≡ js ++ at ∷ [] → IsSame ns at here → IsRoot ns here → ks ≡ js ++ parts (node_at ns here) → IsCounting ns root (n + 1) ks
+counting-parts ns root n is js ks at here c e s r f =
+    let ps = parts (node_at ns here) in
+    let split : (τ : Assignment finite) → sizes_at τ is ≡ sizes_at τ js + (type_size (τ at) + 0) = λ τ. ap (sizes_at τ) e ∙ sizes_at-append τ js (at ∷ []) in
+    let join : (τ : Assignment finite) → sizes_at τ ks ≡ sizes_at τ js + sizes_at τ ps = λ τ. ap (sizes_at τ) f ∙ sizes_at-append τ js ps in
+    let lead : (τ : Assignment finite) → Meets finite ns τ → type_size (τ at) ≡ type_size (τ here) = λ τ m. ap type_size (s finite τ m) in
     record {
-      less = λ τ m. rw e (omega arith);
-      types = σ;
-      meets = solution-meets ns ints r.rank r.ranked;
-      ones = λ i q. ap type_size (solution-unknown ns ints r.rank i q);
-      exact = rw e (omega arith);
+      less = λ τ m. let x = c.less τ m in let y = split τ in let z = join τ in let w = parts-less τ here (node_at ns here) r (m here) in let v = lead τ m in omega (arith, x, y, z, w, v);
+      types = c.types;
+      meets = c.meets;
+      small = c.small;
+      exact = let x = c.exact in let y = split c.types in let z = join c.types in let w = c.small here r in let v = lead c.types c.meets in omega (arith, x, y, z, w, v);
     }
 
 pub size-app : (ns : List Node) (at here : ℕ) (h : Head) (kids : SmallVec ℕ) → IsSame ns at here → node_at ns here ≡ App h kids → (τ : Assignment finite) → Meets finite ns τ → type_size (τ at) ≡ suc (sizes_at τ kids.items)
@@ -57,29 +94,6 @@ size-app ns at here h kids s e τ m =
     let a = s finite τ m in
     let b = rw e at (m here) in
     ap type_size (a ∙ b) ∙ ap suc (sizes_at-types τ kids.items)
-
-pub counting-app : (ns : List Node) (root n : ℕ) (is js ks : List ℕ) (at here : ℕ) (h : Head) (kids : SmallVec ℕ) → IsCounting ns root n is → is ≡ js ++ at ∷ [] → IsSame ns at here → node_at ns here ≡ App h kids → ks ≡ js ++ kids.items → IsCounting ns root (n + 1) ks
-counting-app ns root n is js ks at here h kids c e s q f =
-    let split : (τ : Assignment finite) → sizes_at τ is ≡ sizes_at τ js + (type_size (τ at) + 0) = λ τ. ap (sizes_at τ) e ∙ sizes_at-append τ js (at ∷ []) in
-    let join : (τ : Assignment finite) → sizes_at τ ks ≡ sizes_at τ js + sizes_at τ kids.items = λ τ. ap (sizes_at τ) f ∙ sizes_at-append τ js kids.items in
-    record {
-      less = λ τ m. let x = c.less τ m in let y = split τ in let z = join τ in let w = size-app ns at here h kids s q τ m in omega (arith, x, y, z, w);
-      types = c.types;
-      meets = c.meets;
-      ones = c.ones;
-      exact = let x = c.exact in let y = split c.types in let z = join c.types in let w = size-app ns at here h kids s q c.types c.meets in omega (arith, x, y, z, w);
-    }
-
-pub counting-one : (ns : List Node) (root n : ℕ) (is js : List ℕ) (at here : ℕ) → IsCounting ns root n is → is ≡ js ++ at ∷ [] → IsSame ns at here → node_at ns here ≡ Unknown → IsCounting ns root (n + 1) js
-counting-one ns root n is js at here c e s q =
-    let split : (τ : Assignment finite) → sizes_at τ is ≡ sizes_at τ js + (type_size (τ at) + 0) = λ τ. ap (sizes_at τ) e ∙ sizes_at-append τ js (at ∷ []) in
-    record {
-      less = λ τ m. let x = c.less τ m in let y = split τ in let w = positive (τ at) in omega (arith, x, y, w);
-      types = c.types;
-      meets = c.meets;
-      ones = c.ones;
-      exact = let x = c.exact in let y = split c.types in let w : type_size (c.types at) ≡ 1 = ap type_size (s finite c.types c.meets) ∙ c.ones here q in omega (arith, x, y, w);
-    }
 
 pub counted-more : (ns : List Node) (root limit n : ℕ) (is js : List ℕ) (at : ℕ) → IsCounting ns root n is → is ≡ js ++ at ∷ [] → n ≤ limit → limit < n + 1 → IsCounted ns root limit (n + 1)
 counted-more ns root limit n is js at c e l h = record {

@@ -13,11 +13,18 @@ use Rattle.sml_solve.specs.declared.layer.Layer.{Layer}
 use Rattle.sml_solve.specs.declared.layer.Layer.TheVariants.{Equations, Finiteness, Newness, Locality, Equality, Classes, Rigidity}
 use Rattle.sml_solve.specs.declared.limits.Limit.{Limit}
 use Rattle.sml_solve.specs.declared.node.Node.{Node}
-use Rattle.sml_solve.specs.declared.node.Node.TheVariants.{Unknown, Link, App}
+use Rattle.sml_solve.specs.declared.node.Node.TheVariants.{Unknown, Link, App, Open}
 use Rattle.sml_solve.specs.declared.variable.Variables.{Variables}
 use Rattle.sml_solve.specs.declared.variable.Variables.TheVariants as V
 use Rattle.sml_solve.specs.Worlds.{World, finite, infinite, Assignment, Tree, make, tree, typed, spread, spread_all}
-use Rattle.sml_solve.specs.Graphs.{node_at, head_over, Agrees, Meets, IsRootNode}
+use Rattle.sml_solve.specs.Graphs.{node_at, head_over, fields_of, Agrees, Meets, IsRootNode}
+use Rattle.sml_tree.specs.Trees.{Id}
+use Rattle.sml_objects.specs.Maps.{lookup}
+use Rattle.std.specs.List.{AllByRecursion}
+use Rattle.std.proofs.lemmas.List.{length-map}
+use Rattle.sml_solve.specs.Labels.{with_labels}
+use Rattle.sml_solve.specs.Rows.{fields_at}
+use Rattle.sml_solve.proofs.Rowing.{lookup-here, lookup-there, same_or_other}
 use Rattle.sml_solve.specs.Interned.{IsOver, AreOver, through}
 use Rattle.sml_solve.specs.Limits.{limit_at, KeepsAt, IsFitNode}
 use Rattle.sml_solve.specs.Variables.{IsPossible, stand_in}
@@ -26,7 +33,7 @@ use Rattle.sml_solve.specs.Overloaded.{IsOverloaded, Settles, has_several, is_se
 use Rattle.sml_solve.specs.Whole.{IsKept}
 use Rattle.sml_solve.proofs.Merging.{same_or_not}
 use Rattle.sml_solve.proofs.Ranking.{solution-meets, solution-unknown}
-use Rattle.sml_solve.proofs.Owning.{LeadsTo, leads-below}
+use Rattle.sml_solve.proofs.Owning.{LeadsTo, leads-below, root-node}
 use Rattle.sml_solve.proofs.Overloading.{unit, choice-with, types-with, with-there, with-keeps, with-permits, with-type, two-names, with-apart, node-apart, overloaded-yes, overloaded-no}
 
 -- the demand that an unknown is int
@@ -89,18 +96,41 @@ map-map f τ (i ∷ is) = ap (λ xs. f (τ i) ∷ xs) (map-map f τ is)
 abbrev nothing : Assignment infinite
 nothing v = λ _. None
 
+found-spread : (ls : List Id) (ts : List (O.MlType Name)) (l : Id) (t : O.MlType Name) → lookup l (with_labels ls ts) ≡ Some t → lookup l (with_labels ls (map (spread nothing) ts)) ≡ Some (spread nothing t)
+found-spread [] ts l t e = absurd (none l t e) where
+  none : (l : Id) (t : O.MlType Name) → None ≡ Some t → ⊥
+  none l t e = cc
+found-spread (k ∷ ls) [] l t e = absurd (none l t e) where
+  none : (l : Id) (t : O.MlType Name) → None ≡ Some t → ⊥
+  none l t e = cc
+found-spread (k ∷ ls) (v ∷ ts) l t e =
+    elim (same_or_other l k) [
+      | inl q ↦
+          let f : Some v ≡ Some t = sym (lookup-here l (k, v) (with_labels ls ts) q) ∙ e in
+          let g : v ≡ t = cc in
+          lookup-here l (k, spread nothing v) (with_labels ls (map (spread nothing) ts)) q ∙ ap (λ t. Some (spread nothing t)) g
+      | inr q ↦ lookup-there l (k, spread nothing v) (with_labels ls (map (spread nothing) ts)) q ∙ found-spread ls ts l t (sym (lookup-there l (k, v) (with_labels ls ts) q) ∙ e)
+    ]
+
+spread-fields : (τ : Assignment finite) (ls : List Id) (ts : List (O.MlType Name)) (fs : List (Id × ℕ)) → AllByRecursion (λ f. lookup f.0 (with_labels ls ts) ≡ Some f.1) (fields_at τ fs) → AllByRecursion (λ f. lookup f.0 (with_labels ls (map (spread nothing) ts)) ≡ Some f.1) (fields_at (λ i. spread nothing (τ i)) fs)
+spread-fields τ ls ts [] a = tt
+spread-fields τ ls ts (f ∷ fs) a = (found-spread ls ts f.0 (τ f.1) a.0, spread-fields τ ls ts fs a.1)
+
 spread-agrees : (τ : Assignment finite) (i : ℕ) (x : Node) → Agrees finite τ i x → Agrees infinite (λ i. spread nothing (τ i)) i x
 unfolding spread
 spread-agrees τ i Unknown a = tt
 spread-agrees τ i (Link j) a = ap (spread nothing) a
+spread-agrees τ i (Open fs) a = record {
+  labels = a.labels;
+  types = map (spread nothing) a.types;
+  rising = a.rising;
+  count = length-map a.types (spread nothing) ∙ a.count;
+  is_row = ap (spread nothing) a.is_row ∙ ap (tree (O.row a.labels)) (spreads a.types nothing);
+  fields = spread-fields τ a.labels a.types (fields_of fs.value) a.fields;
+}
 spread-agrees τ i (App h kids) a = ap (spread nothing) a ∙ ap (tree (head_over h (length kids.items))) (spreads (map τ kids.items) nothing ∙ map-map (spread nothing) τ kids.items)
 
 -- an unknown that is several names
-
-root-node : (ns : List Node) (i r : ℕ) (x : Node) → LeadsTo ns i r → node_at ns r ≡ x → IsRootNode x
-root-node ns i r Unknown t e = tt
-root-node ns i r (Link j) t e = t.root j e
-root-node ns i r (App h kids) t e = tt
 
 stands-int : (c : Option Names) (x : Variables) (e : Bool) → has_several c e ≡ true → IsPossible x e c → stand_in x ≡ O.named (initial N.int)
 stands-int None x e h p = cc
@@ -112,6 +142,7 @@ several-node : (u : ℕ) (x : Node) (a : Limit) → is_several x a ≡ true → 
 several-node u Unknown a e f = (refl, e, stands-int a.class a.variables a.equality e f)
 several-node u (Link j) a e f = cc
 several-node u (App h kids) a e f = cc
+several-node u (Open fs) a e f = cc
 
 module _ (u : ℕ) (us : List ℕ) (g : Graph) (b : Bool) (k : IsKept u g us) (d : 0 ≡ u → ⊥) where
   abbrev s : Asked

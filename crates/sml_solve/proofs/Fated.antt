@@ -1,5 +1,5 @@
 -- What becomes of the unknowns that are left, by what is asked of them.
-use Rattle.std.proofs.Common.{◌≡◌, ◌≢◌, ℕ, ◌<◌, ◌≤◌, inl, inr, Bool, true, false, ◌||◌, not, cond, Option, Some, None, List, [], ◌∷◌, ◌++◌, length, get_or, sym, ◌∙◌, ap, subst, refl, arith, zero, suc, ◌+◌}
+use Rattle.std.proofs.Common.{◌≡◌, ◌≢◌, ℕ, ◌<◌, ◌≤◌, ◌⊎◌, inl, inr, Bool, true, false, ◌||◌, not, cond, Option, Some, None, List, [], ◌∷◌, ◌++◌, length, get_or, sym, ◌∙◌, ap, subst, refl, arith, zero, suc, ◌+◌, Box, Global}
 use Rattle.std.specs.Prelude.{Result, Ok, Err, IfOk}
 use Rattle.std.specs.List.{AllByRecursion}
 use Rattle.sml_lex.specs.declared.fault.Memory.{Memory}
@@ -18,23 +18,28 @@ use Rattle.sml_solve.specs.declared.layer.Layer.{Layer}
 use Rattle.sml_solve.specs.declared.layer.Layer.TheVariants.{Equations, Finiteness, Newness, Locality, Equality, Classes, Rigidity}
 use Rattle.sml_solve.specs.declared.limits.Limit.{Limit}
 use Rattle.sml_solve.specs.declared.node.Node.{Node}
-use Rattle.sml_solve.specs.declared.node.Node.TheVariants.{Unknown}
+use Rattle.sml_solve.specs.declared.node.Node.TheVariants.{Unknown, Link, App, Open}
 use Rattle.sml_solve.specs.Worlds.{finite, Assignment}
-use Rattle.sml_solve.specs.Graphs.{node_at, Meets}
+use Rattle.sml_solve.specs.declared.fields.Fields.{Fields}
+use Rattle.sml_tree.specs.Trees.{Id}
+use Rattle.sml_objects.specs.Views.{types_of}
+use Rattle.sml_solve.specs.Rows.{HasFields, fields_at}
+use Rattle.sml_solve.specs.Graphs.{node_at, fields_of, Agrees, Meets, IsKnown}
 use Rattle.sml_solve.specs.Interned.{IsOver, AreOver, through, IsBodyOver, AreBodiesOver}
 use Rattle.sml_solve.specs.Bounds.{IsWithin, AreWithin}
 use Rattle.sml_solve.specs.Layers.{place_of}
-use Rattle.sml_solve.specs.Limits.{limit_at, MeetsBound, MeetsEquality, MeetsClass, MeetsAt, KeepsAt}
+use Rattle.sml_solve.specs.Limits.{limit_at, MeetsBound, MeetsEquality, MeetsClass, MeetsAt, KeepsAt, FitsClass, IsFitNode}
 use Rattle.sml_solve.specs.Asked.{asked_of, Permits}
-use Rattle.sml_solve.specs.Left.{IsLeft}
+use Rattle.sml_solve.specs.Fixed.{IsMarked}
+use Rattle.sml_solve.specs.Left.{IsFlexible, IsLeft}
 use Rattle.sml_solve.specs.Overloaded.{has_several}
-use Rattle.sml_solve.specs.Schemes.{IsInt, AsksEquality, IsFateOf, has_one, fate_at}
+use Rattle.sml_solve.specs.Schemes.{IsInt, AsksEquality, IsFateOf, is_open, has_one, fate_of, fate_at}
 use Rattle.sml_solve.specs.Whole.{IsKept}
 use Rattle.sml_objects.specs.Views.{scheme_of}
 use Rattle.sml_solve.proofs.Merging.{same_or_not, all-append}
 use Rattle.sml_solve.proofs.Asking.{int-meets, arrow-admits-not}
-use Rattle.sml_solve.proofs.Ranking.{solution, ints, solution-meets, solution-unknown, solution-keeps}
-use Rattle.sml_solve.proofs.Owning.{left-loose}
+use Rattle.sml_solve.proofs.Ranking.{solution, ints, ints-keep, solution-meets, solution-unknown, solution-keeps}
+use Rattle.sml_solve.proofs.Owning.{only, only-here, only-there, unknown-free, open-flexible, free-not-flexible, left-loose}
 use Rattle.sml_solve.proofs.Overloading.{unit, bound-unit, equality-unit, only-int, or-cases, or-neither, types-with, with-keeps, with-type, two-names}
 
 -- the variables of a type over some unknowns
@@ -103,31 +108,22 @@ module _ (u : ℕ) (us : List ℕ) (g : Graph) (b : Bool) (k : IsKept u g us) (d
 
   -- the unknown with a type, and all others with int
 
-  abbrev chosen-one : O.MlType Name → Assignment finite
-  chosen-one t i = elim (same_or_not i r) [ inl _ ↦ t | inr _ ↦ ints i ]
-
-  chosen-here : (t : O.MlType Name) → chosen-one t r ≡ t
-  chosen-here t = elim (same_or_not r r) as (λ s. elim s as (λ _. O.MlType Name) [ inl _ ↦ t | inr _ ↦ ints r ] ≡ t) [ inl _ ↦ refl | inr n ↦ absurd (n refl) ]
-
-  chosen-there : (t : O.MlType Name) (i : ℕ) → i ≢ r → chosen-one t i ≡ ints i
-  chosen-there t i n = elim (same_or_not i r) as (λ s. elim s as (λ _. O.MlType Name) [ inl _ ↦ t | inr _ ↦ ints i ] ≡ ints i) [ inl q ↦ absurd (n q) | inr _ ↦ refl ]
-
   abbrev picked : O.MlType Name → Assignment finite
-  picked t = solution ns (chosen-one t) k.whole.rank.rank
+  picked t = solution ns (only r t) k.whole.rank.rank
 
   picked-type : (t : O.MlType Name) → through finite us (picked t) v ≡ t
-  picked-type t = solution-unknown ns (chosen-one t) k.whole.rank.rank r e ∙ chosen-here t
+  picked-type t = solution-unknown ns (only r t) k.whole.rank.rank r e ∙ only-here r t
 
   picked-meets : (t : O.MlType Name) → Meets finite ns (picked t)
-  picked-meets t = solution-meets ns (chosen-one t) k.whole.rank.rank k.whole.rank.ranked
+  picked-meets t = solution-meets ns (only r t) k.whole.rank.rank k.whole.rank.ranked
 
   picked-keeps : (t : O.MlType Name) (l : Layer) → place_of l < place_of Rigidity → MeetsAt l u a t → KeepsAt l u g.limits.items (picked t)
   picked-keeps t l q m =
       let w = k.whole in
-      solution-keeps l u ns g.limits.items (chosen-one t) w.rank.rank w.rank.ranked w.closed (w.fit l) (λ i x.
+      solution-keeps l u ns g.limits.items (only r t) w.rank.rank w.rank.ranked w.closed (w.fit l) (λ i x.
       elim (same_or_not i r) [
-        | inl y ↦ subst (λ i. MeetsAt l u (limit_at g.limits.items i) (chosen-one t i)) (sym y) (rw (chosen-here t) m)
-        | inr n ↦ rw (chosen-there t i n) (int-meets l u (limit_at g.limits.items i) q)
+        | inl y ↦ subst (λ i. MeetsAt l u (limit_at g.limits.items i) (only r t i)) (sym y) (rw (only-here r t) m)
+        | inr n ↦ rw (only-there r t i n) (int-meets l u (limit_at g.limits.items i) q)
       ])
 
   -- int alone
@@ -172,17 +168,69 @@ module _ (u : ℕ) (us : List ℕ) (g : Graph) (b : Bool) (k : IsKept u g us) (d
       let y : admits naming arrow ≡ true = ap (admits naming) (sym (picked-type arrow)) ∙ z in
       absurd (arrow-admits-not (O.named (initial N.int) ∷ O.named (initial N.int) ∷ []) y)
 
-  fate-cases : (bs : List Bool) (x o y : Bool) → has_one a.class a.equality ≡ o → (x || get_or bs v false) ≡ y → IsFateOf (asked_of u us g b) bs x v (cond o Default (cond y Keep (Bind a.equality)))
-  fate-cases bs x true y p q = one-name a.class refl p
-  fate-cases bs x false true p q = (more-types a.class refl p, or-cases x (get_or bs v false) q)
-  fate-cases bs x false false p q =
-      let n = or-neither x (get_or bs v false) q in
-      (more-types a.class refl p, n.0, λ m. let z : false ≡ true = sym n.1 ∙ m in cc, (flag-asks, asks-flag a.equality refl))
+  stays-cases : (bs : List Bool) (x : Bool) → (x || (get_or bs v false || is_open (node_at ns r))) ≡ true → (x ≡ true) ⊎ IsMarked bs v ⊎ IsFlexible (asked_of u us g b) v
+  stays-cases bs x q =
+      elim (or-cases x (get_or bs v false || is_open (node_at ns r)) q) [
+        | inl y ↦ inl y
+        | inr y ↦
+            elim (or-cases (get_or bs v false) (is_open (node_at ns r)) y) [
+              | inl m ↦ inr (inl m)
+              | inr o ↦ let z : false ≡ true = sym (ap is_open e) ∙ o in absurd cc
+            ]
+      ]
 
-pub fate-is : (u : ℕ) (us : List ℕ) (g : Graph) (b : Bool) (k : IsKept u g us) → (0 ≡ u → ⊥) → (bs : List Bool) (x : Bool) (v : ℕ) → IsLeft (asked_of u us g b) v → IsFateOf (asked_of u us g b) bs x v (fate_at g.limits.items us bs x v)
+  fate-cases : (bs : List Bool) (x o y : Bool) → has_one a.class a.equality ≡ o → (x || (get_or bs v false || is_open (node_at ns r))) ≡ y → IsFateOf (asked_of u us g b) bs x v (cond o Default (cond y Keep (Bind a.equality)))
+  fate-cases bs x true y p q = one-name a.class refl p
+  fate-cases bs x false true p q = (more-types a.class refl p, stays-cases bs x q)
+  fate-cases bs x false false p q =
+      let n = or-neither x (get_or bs v false || is_open (node_at ns r)) q in
+      let m = or-neither (get_or bs v false) (is_open (node_at ns r)) n.1 in
+      (more-types a.class refl p, n.0, (λ z. let y : false ≡ true = sym m.0 ∙ z in cc), (λ f. free-not-flexible (asked_of u us g b) v (unknown-free u us g b v k.whole.rank e) f), (flag-asks, asks-flag a.equality refl))
+
+-- a flexible row stays
+
+no-class : (c : Option Names) (e : Bool) → FitsClass c (O.row []) 0 → has_one c e ≡ false
+no-class None e f = refl
+no-class (Some c) e f = absurd (let q : ◌≡◌ {A = O.Head Name} (O.row []) (O.name (initial f.0)) = f.2 in cc)
+
+keeps-open : (a : Limit) (o x : Bool) → has_one a.class a.equality ≡ false → o ≡ true → fate_of a o x ≡ Keep
+keeps-open a o true p q = ap (λ b. cond b Default Keep) p
+keeps-open a o false p q = ap (λ b. cond b Default (cond o Keep (Bind a.equality))) p ∙ ap (λ b. cond b Keep (Bind a.equality)) q
+
+or-right : (a b : Bool) → b ≡ true → (a || b) ≡ true
+or-right true b e = refl
+or-right false b e = e
+
+row-not-named : (t : O.MlType Name) (fs : List (Id × O.MlType Name)) (n : Name) → HasFields finite t fs → t ≡ O.named n → ⊥
+row-not-named t fs n h e = let q : O.app (O.row h.labels) (types_of h.types) ≡ O.app (O.name n) O.no_type = sym h.is_row ∙ e in cc
+
+open-not-int : (u : ℕ) (us : List ℕ) (g : Graph) (b : Bool) (v : ℕ) (fs : Box Fields Global) → IsKept u g us → v < length us → node_at g.nodes.items (get_or us v 0) ≡ Open fs → IsInt (asked_of u us g b) v → ⊥
+unfolding IsInt Permits
+open-not-int u us g b v fs k h e f =
+    let w = k.whole in
+    let σ = solution g.nodes.items ints w.rank.rank in
+    let m = solution-meets g.nodes.items ints w.rank.rank w.rank.ranked in
+    let a : Agrees finite σ (get_or us v 0) (Open fs) = rw e at (m (get_or us v 0)) in
+    row-not-named (σ (get_or us v 0)) (fields_at σ (fields_of fs.value)) (initial N.int) a (f (through finite us σ) (σ, m, λ l x. ints-keep l u g.nodes.items g.limits.items w.rank.rank (omega (arith, x)) w.rank.ranked w.closed (w.fit l), λ v l. refl))
+
+fate-open : (u : ℕ) (us : List ℕ) (g : Graph) (b : Bool) (bs : List Bool) (x : Bool) (v : ℕ) (fs : Box Fields Global) → IsKept u g us → v < length us → node_at g.nodes.items (get_or us v 0) ≡ Open fs → IsFateOf (asked_of u us g b) bs x v (fate_at g.nodes.items g.limits.items us bs x v)
+fate-open u us g b bs x v fs k h e =
+    let r = get_or us v 0 in
+    let a = limit_at g.limits.items r in
+    let fits : FitsClass a.class (O.row []) 0 = subst (IsFitNode Classes u a) e (k.whole.fit Classes r) in
+    let q : fate_at g.nodes.items g.limits.items us bs x v ≡ Keep = keeps-open a (get_or bs v false || is_open (node_at g.nodes.items r)) x (no-class a.class a.equality fits) (or-right (get_or bs v false) (is_open (node_at g.nodes.items r)) (ap is_open e)) in
+    subst (IsFateOf (asked_of u us g b) bs x v) (sym q) (open-not-int u us g b v fs k h e, inr (inr (open-flexible u us g b v fs k.whole.rank h e)))
+
+fate-node : (u : ℕ) (us : List ℕ) (g : Graph) (b : Bool) (k : IsKept u g us) → (0 ≡ u → ⊥) → (bs : List Bool) (x : Bool) (v : ℕ) (n : Node) → v < length us → node_at g.nodes.items (get_or us v 0) ≡ n → (IsKnown n → ⊥) → IsFateOf (asked_of u us g b) bs x v (fate_at g.nodes.items g.limits.items us bs x v)
+fate-node u us g b k d bs x v Unknown h e n = fate-cases u us g b k d v h e bs x _ _ refl refl
+fate-node u us g b k d bs x v (Link j) h e n = absurd (n tt)
+fate-node u us g b k d bs x v (App f kids) h e n = absurd (n tt)
+fate-node u us g b k d bs x v (Open fs) h e n = fate-open u us g b bs x v fs k h e
+
+pub fate-is : (u : ℕ) (us : List ℕ) (g : Graph) (b : Bool) (k : IsKept u g us) → (0 ≡ u → ⊥) → (bs : List Bool) (x : Bool) (v : ℕ) → IsLeft (asked_of u us g b) v → IsFateOf (asked_of u us g b) bs x v (fate_at g.nodes.items g.limits.items us bs x v)
 fate-is u us g b k d bs x v l =
-    let loose = left-loose u us g b v k.whole.sound k.owners l in
-    fate-cases u us g b k d v loose.0 loose.1 bs x _ _ refl refl
+    let loose = left-loose u us g b v k.whole.sound k.whole.rank k.owners l in
+    fate-node u us g b k d bs x v (node_at g.nodes.items (get_or us v 0)) loose.0 refl loose.1
 
 -- schemes speak of their own variables, and of unknowns
 

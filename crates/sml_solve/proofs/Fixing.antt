@@ -1,40 +1,60 @@
 -- Unknowns whose type those before fix, and the nodes that these lead to.
-use Rattle.std.proofs.Common.{◌≡◌, ◌≢◌, ℕ, zero, suc, ◌<◌, ◌≤◌, ◌⊎◌, inl, inr, Bool, true, false, Option, List, [], ◌∷◌, length, map, get_or, sym, ◌∙◌, subst, refl, arith}
+use Rattle.std.proofs.Common.{◌≡◌, ◌≢◌, ℕ, zero, suc, ◌<◌, ◌≤◌, ◌⊎◌, inl, inr, Bool, true, false, Option, List, [], ◌∷◌, length, map, get_or, sym, ◌∙◌, ap, subst, refl, arith}
 use Rattle.std.proofs.lemmas.Bool.{cases_lt}
 use Rattle.std.specs.List.{AllByRecursion}
+use Rattle.sml_objects.specs.Initial.{Name}
 use Rattle.sml_objects.specs.Objects as O
 use Rattle.sml_solve.specs.declared.graph.Graph.{Graph}
 use Rattle.sml_solve.specs.declared.node.Node.{Node}
-use Rattle.sml_solve.specs.declared.node.Node.TheVariants.{Unknown, Link, App}
-use Rattle.sml_solve.specs.Worlds.{finite, Assignment, make}
-use Rattle.sml_solve.specs.Graphs.{node_at, parts, head_over, Meets, IsSame, IsRootNode}
+use Rattle.sml_solve.specs.declared.node.Node.TheVariants.{Unknown, Link, App, Open}
+use Rattle.sml_solve.specs.Worlds.{finite, Assignment}
+use Rattle.sml_solve.specs.Graphs.{node_at, parts, Meets, IsSame, IsRootNode, IsKnown}
 use Rattle.sml_solve.specs.Interned.{through}
-use Rattle.sml_solve.specs.Ranks.{IsRanked}
+use Rattle.sml_solve.specs.Ranks.{IsRanked, HasRank}
 use Rattle.sml_solve.specs.Asked.{Asked, asked_of}
-use Rattle.sml_solve.specs.Left.{MayBe}
-use Rattle.sml_solve.specs.Fixed.{IsFixed, IsFree, IsMarked, IsMarkedBut, IsReach, AreMarks, AreFixed, places_of}
+use Rattle.sml_solve.specs.Left.{IsUndetermined}
+use Rattle.sml_solve.specs.Fixed.{IsFixed, IsMarked, IsMarkedBut, IsReach, AreMarks, AreFixed, places_of}
 use Rattle.sml_solve.specs.Levels.{level_at, IsHeld, AreHeld, IsKeptWith}
 use Rattle.sml_solve.proofs.Levelling.{none-left}
 use Rattle.sml_solve.proofs.Interning.{inside-at}
-use Rattle.sml_solve.proofs.Ranking.{all-both, solution, ints, solution-meets, solution-unknown}
+use Rattle.sml_solve.proofs.Asking.{value}
+use Rattle.sml_solve.proofs.Opening.{fresh_label, fresh-none, one_row}
+use Rattle.sml_solve.proofs.Ranking.{all-both, solution, ints, value-same, solution-value, solution-meets, solution-unknown}
 use Rattle.sml_solve.proofs.Searching.{all-parts}
-use Rattle.sml_solve.proofs.Owning.{not-free, only, only-here, only-there, same-node, permitted, through-permitted}
+use Rattle.sml_solve.proofs.Owning.{node_labels, solution-more, solution-none, not-free, found-or-not, only, only-here, only-there, permitted, through-permitted, app-determined}
 
--- nodes that are closed under parts have the same types where their unknowns do
-same-marked : (ns : List Node) (r : ℕ → ℕ) (M : ℕ → Type 0) (σ τ : Assignment finite) → IsRanked ns r → ((i : ℕ) → M i → AllByRecursion M (parts (node_at ns i))) → Meets finite ns σ → Meets finite ns τ → ((i : ℕ) → M i → node_at ns i ≡ Unknown → σ i ≡ τ i) → (n i : ℕ) → M i → r i < n → σ i ≡ τ i
-same-marked ns r M σ τ a c m m' f zero i h l = absurd (omega (arith, l))
-same-marked ns r M σ τ a c m m' f (suc n) i h l =
-    same-node σ τ i (node_at ns i) (m i) (m' i) (f i h) (all-parts (λ k. M k × (r k < r i)) (λ k. σ k ≡ τ k) (parts (node_at ns i)) (λ k b. same-marked ns r M σ τ a c m m' f n k b.0 (let z = b.1 in omega (arith, z, l))) (all-both M (λ k. r k < r i) (parts (node_at ns i)) (c i h) (a i)))
+-- nodes that are closed under parts have the same types where the same types were chosen for them
+same-marked : (ns : List Node) (r : ℕ → ℕ) (M : ℕ → Type 0) (ρ ψ : Assignment finite) → IsRanked ns r → ((i : ℕ) → M i → AllByRecursion M (parts (node_at ns i))) → ((i : ℕ) → M i → ρ i ≡ ψ i) → (n i : ℕ) → M i → r i < n → solution ns ρ r i ≡ solution ns ψ r i
+same-marked ns r M ρ ψ a c f zero i h l = absurd (omega (arith, l))
+same-marked ns r M ρ ψ a c f (suc n) i h l =
+    let x = node_at ns i in
+    let same = value-same (solution ns ρ r) (solution ns ψ r) (ρ i) x (all-parts (λ k. M k × (r k < r i)) (λ k. solution ns ρ r k ≡ solution ns ψ r k) (parts x) (λ k b. same-marked ns r M ρ ψ a c f n k b.0 (let z = b.1 in omega (arith, z, l))) (all-both M (λ k. r k < r i) (parts x) (c i h) (a i))) in
+    solution-value ns ρ r a i ∙ (same ∙ (ap (λ t. value (solution ns ψ r) t x) (f i h) ∙ sym (solution-value ns ψ r a i)))
 
-open-root : (u : ℕ) (us : List ℕ) (g : Graph) (b : Bool) (v r : ℕ) (x : Node) → v < length us → IsFree (asked_of u us g b) v → IsSame g.nodes.items (get_or us v 0) r → IsRootNode x → node_at g.nodes.items r ≡ x → x ≡ Unknown
-unfolding MayBe
-open-root u us g b v r Unknown h o s t e = refl
-open-root u us g b v r (Link j) h o s t e = absurd t
-open-root u us g b v r (App f kids) h o s t e =
-    let m = o (O.free 0) in
-    let p = through-permitted u us g b m.0 m.1 in
-    let a : p.0 r ≡ make finite (head_over f (length kids.items)) (map p.0 kids.items) = rw e at (p.1 r) in
-    absurd (not-free _ _ 0 (m.0 v) (sym (p.2 v h) ∙ (s finite p.0 p.1 ∙ a)) m.2)
+loose-root : (u : ℕ) (us : List ℕ) (g : Graph) (b : Bool) (v r : ℕ) (x : Node) → HasRank g.nodes.items → v < length us → IsUndetermined (asked_of u us g b) v → IsSame g.nodes.items (get_or us v 0) r → IsRootNode x → node_at g.nodes.items r ≡ x → IsKnown x → ⊥
+loose-root u us g b v r Unknown rank h o s t e k = k
+loose-root u us g b v r (Link j) rank h o s t e k = t
+loose-root u us g b v r (App f kids) rank h o s t e k = app-determined u us g b v r f kids rank h s e o
+loose-root u us g b v r (Open fs) rank h o s t e k = k
+
+-- a place that isn't known may have two types
+two-types : (ns : List Node) (h : HasRank ns) (r : ℕ) (x : Node) → node_at ns r ≡ x → (IsKnown x → ⊥) → (t : O.MlType Name) × (solution ns (only r t) h.rank r ≢ solution ns ints h.rank r)
+two-types ns h r Unknown e n = (
+  O.free 0,
+  λ q.
+      let here : solution ns (only r (O.free 0)) h.rank r ≡ O.free 0 = solution-unknown ns (only r (O.free 0)) h.rank r e ∙ only-here r (O.free 0) in
+      let there : solution ns ints h.rank r ≡ ints r = solution-unknown ns ints h.rank r e in
+      not-free _ O.no_type 0 (solution ns ints h.rank r) there (sym q ∙ here),
+)
+two-types ns h r (Link j) e n = absurd (n tt)
+two-types ns h r (App f kids) e n = absurd (n tt)
+two-types ns h r (Open fs) e n =
+    let l = fresh_label (node_labels (Open fs)) in
+    let fresh = fresh-none (node_labels (Open fs)) in
+    let t = one_row l (ints r) in (
+      t,
+      λ q. found-or-not l (solution ns ints h.rank r) (solution ns (only r t) h.rank r) (ints r) (sym q) (solution-none ns ints h r l (Open fs) e tt refl fresh) (solution-more ns (only r t) h r l (ints r) (Open fs) e n (only-here r t) fresh),
+    )
 
 flag-cases : (b : Bool) → (b ≡ true) ⊎ (b ≡ true → ⊥)
 flag-cases true = inl refl
@@ -106,25 +126,22 @@ module _ (u : ℕ) (us : List ℕ) (g : Graph) (b : Bool) (ls : List (Option ℕ
         | inr m ↦ all-parts (IsMarked ms) (IsHeld ls n ms) (parts (node_at ns i)) (λ k a. inr a) (x.closed i m)
       ]
 
-  fixed-held : (ms : List Bool) (v r : ℕ) → AreMarks ns from ms → v < length us → IsSame ns (get_or us v 0) r → node_at ns r ≡ Unknown → (IsHeld ls n ms r → ⊥) → IsFixed (asked_of u us g b) n ws v → ⊥
+  fixed-held : (ms : List Bool) (v r : ℕ) → AreMarks ns from ms → v < length us → IsSame ns (get_or us v 0) r → (IsKnown (node_at ns r) → ⊥) → (IsHeld ls n ms r → ⊥) → IsFixed (asked_of u us g b) n ws v → ⊥
   unfolding IsFixed
   fixed-held ms v r x h s e out f =
       let rank = k.kept.whole.rank.rank in
       let ranked = k.kept.whole.rank.ranked in
-      let σ = solution ns (only r) rank in
+      let two = two-types ns k.kept.whole.rank r (node_at ns r) refl e in
+      let σ = solution ns (only r two.0) rank in
       let τ = solution ns ints rank in
-      let mσ : Meets finite ns σ = solution-meets ns (only r) rank ranked in
+      let mσ : Meets finite ns σ = solution-meets ns (only r two.0) rank ranked in
       let mτ : Meets finite ns τ = solution-meets ns ints rank ranked in
       let same : (i : ℕ) → IsHeld ls n ms i → σ i ≡ τ i = λ i m.
-      same-marked ns rank (IsHeld ls n ms) σ τ ranked (λ i m. held-parts ms i x m) mσ mτ (λ i m q.
-      let d : i ≢ r = λ z. out (subst (IsHeld ls n ms) z m) in
-      solution-unknown ns (only r) rank i q ∙ (only-there r i d ∙ sym (solution-unknown ns ints rank i q))) (suc (rank i)) i m (omega arith) in
+      same-marked ns rank (IsHeld ls n ms) (only r two.0) ints ranked (λ i m. held-parts ms i x m) (λ i m. only-there r two.0 i (λ z. out (subst (IsHeld ls n ms) z m))) (suc (rank i)) i m (omega arith) in
       let agree : (w : ℕ) → w < n → through finite us σ w ≡ through finite us τ w = λ w l. let a = k.levels.begun w (omega (arith, l, within)) in same (get_or us w 0) (inl (omega (arith, a, l))) in
       let others : AllByRecursion (λ w. through finite us σ w ≡ through finite us τ w) ws = mapped-all (λ i. σ i ≡ τ i) (λ w. get_or us w 0) ws (all-parts (IsMarked ms) (λ i. σ i ≡ τ i) from (λ i m. same i (inr m)) x.begun) in
       let z : through finite us σ v ≡ through finite us τ v = f (through finite us σ) (through finite us τ) (permitted u us g b σ mσ) (permitted u us g b τ mτ) agree others in
-      let here : σ r ≡ O.free 0 = solution-unknown ns (only r) rank r e ∙ only-here r in
-      let there : τ r ≡ ints r = solution-unknown ns ints rank r e in
-      not-free _ O.no_type 0 (τ r) there (sym (s finite τ mτ) ∙ (sym z ∙ (s finite σ mσ ∙ here)))
+      two.1 (sym (s finite σ mσ) ∙ (z ∙ s finite τ mτ))
 
   pub flags-are : (ms bs : List Bool) → AreMarks ns from ms → AreHeld ns us ls n ms bs → AreFixed (asked_of u us g b) n ws bs
   flags-are ms bs x y = record {
@@ -141,7 +158,7 @@ module _ (u : ℕ) (us : List ℕ) (g : Graph) (b : Bool) (ls : List (Option ℕ
               let e = y.each v l h in
               elim (flag-cases (get_or bs v false)) [
                 | inl m ↦ m
-                | inr d ↦ absurd (fixed-held ms v e.0 x h e.1 (let w = open-root u us g b v e.0 (node_at ns e.0) h o e.1 e.2 refl in w) (λ z. d (e.3.1 z)) f)
+                | inr d ↦ absurd (fixed-held ms v e.0 x h e.1 (loose-root u us g b v e.0 (node_at ns e.0) k.kept.whole.rank h o e.1 e.2 refl) (λ z. d (e.3.1 z)) f)
               ]
         ];
   }

@@ -1,5 +1,6 @@
 pub mod Worlding
 pub mod Rowing
+pub mod Opening
 pub mod Clashing
 pub mod Merging
 pub mod Interning
@@ -15,6 +16,7 @@ pub mod Counting
 pub mod Retrieving
 pub mod Owning
 pub mod Overloading
+pub mod Labelling
 pub mod Defaulting
 pub mod Reaching
 pub mod Levelling

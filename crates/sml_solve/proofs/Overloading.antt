@@ -14,11 +14,11 @@ use Rattle.sml_solve.specs.declared.layer.Layer.TheVariants.{Equations, Finitene
 use Rattle.sml_solve.specs.declared.limits.Limit.{Limit}
 use Rattle.sml_solve.specs.declared.node.Head.{Head}
 use Rattle.sml_solve.specs.declared.node.Node.{Node}
-use Rattle.sml_solve.specs.declared.node.Node.TheVariants.{Unknown, Link, App}
+use Rattle.sml_solve.specs.declared.node.Node.TheVariants.{Unknown, Link, App, Open}
 use Rattle.sml_solve.specs.declared.variable.Variables.{Variables}
 use Rattle.sml_solve.specs.declared.variable.Variables.TheVariants as V
 use Rattle.sml_solve.specs.Worlds.{finite, Assignment, make}
-use Rattle.sml_solve.specs.Graphs.{node_at, head_over, Meets, IsSame, IsRootNode}
+use Rattle.sml_solve.specs.Graphs.{node_at, head_over, Agrees, Meets, IsSame, IsRootNode}
 use Rattle.sml_solve.specs.Interned.{through}
 use Rattle.sml_solve.specs.Bounds.{IsWithin, AreWithin}
 use Rattle.sml_solve.specs.Classes.{allows}
@@ -29,7 +29,7 @@ use Rattle.sml_solve.specs.Overloaded.{IsOverloaded, has_several, is_several}
 use Rattle.sml_solve.specs.Whole.{IsKept}
 use Rattle.sml_solve.proofs.Merging.{same_or_not}
 use Rattle.sml_solve.proofs.Asking.{and-left, and-right, admits-named, row-admits, bound-initial, stands-meets}
-use Rattle.sml_solve.proofs.Ranking.{solution, solution-meets, solution-unknown, solution-keeps}
+use Rattle.sml_solve.proofs.Ranking.{solution, solution-meets, solution-unknown, solution-keeps, loose-possible}
 use Rattle.sml_solve.proofs.Wholeness.{last}
 
 -- the names that are left
@@ -136,7 +136,7 @@ module _ (u : ℕ) (us : List ℕ) (g : Graph) (b : Bool) (k : IsKept u g us) (d
   abbrev pub choice-with : O.MlType Name → Assignment finite
   choice-with t i = elim (same_or_not i r) [ inl _ ↦ t | inr _ ↦ stand_in (limit_at g.limits.items i).variables ]
 
-  with-here : (t : O.MlType Name) → choice-with t r ≡ t
+  pub with-here : (t : O.MlType Name) → choice-with t r ≡ t
   with-here t = elim (same_or_not r r) as (λ s. elim s as (λ _. O.MlType Name) [ inl _ ↦ t | inr _ ↦ stand_in (limit_at g.limits.items r).variables ] ≡ t) [ inl _ ↦ refl | inr n ↦ absurd (n refl) ]
 
   pub with-there : (t : O.MlType Name) (i : ℕ) → i ≢ r → choice-with t i ≡ stand_in (limit_at g.limits.items i).variables
@@ -151,7 +151,7 @@ module _ (u : ℕ) (us : List ℕ) (g : Graph) (b : Bool) (k : IsKept u g us) (d
       solution-keeps l u g.nodes.items g.limits.items (choice-with t) w.rank.rank w.rank.ranked w.closed (w.fit l) (λ i e.
       elim (same_or_not i r) [
         | inl q ↦ subst (λ i. MeetsAt l u (limit_at g.limits.items i) (choice-with t i)) (sym q) (rw (with-here t) (m l))
-        | inr n ↦ rw (with-there t i n) (stands-meets l u (limit_at g.limits.items i) d (subst (IsFitNode Rigidity u (limit_at g.limits.items i)) e (w.fit Rigidity i)))
+        | inr n ↦ rw (with-there t i n) (stands-meets l u (limit_at g.limits.items i) d (loose-possible u (limit_at g.limits.items i) (node_at g.nodes.items i) e (w.fit Rigidity i)))
       ])
 
   pub with-permits : (t : O.MlType Name) → ((l : Layer) → MeetsAt l u (limit_at g.limits.items r) t) → Permits Rigidity (asked_of u us g b) (through finite us (types-with t))
@@ -236,11 +236,17 @@ module _ (u : ℕ) (us : List ℕ) (g : Graph) (b : Bool) (k : IsKept u g us) (d
     node-apart Unknown e root s f = unknown-apart (limit_at g.limits.items r).class (limit_at g.limits.items r).variables refl refl e s f
     node-apart (Link j) e root s f = absurd root
     node-apart (App x kids) e root s f = app-apart x kids e
+    node-apart (Open fs) e root s f =
+        let t = type-of one p in
+        let a : Agrees finite t.0 r (Open fs) = rw e at (t.1 r) in
+        let w : O.app (O.row a.labels) (types_of a.types) ≡ O.app (O.name (initial named_so.0)) O.no_type = sym a.is_row ∙ (sym t.3 ∙ named_so.1) in
+        cc
 
   pub overloaded-yes : (x : Node) → node_at g.nodes.items r ≡ x → is_several x (limit_at g.limits.items r) ≡ true → IsOverloaded (asked_of u us g b) v
   overloaded-yes Unknown e s = several-yes (limit_at g.limits.items r).class refl e s
   overloaded-yes (Link j) e s = cc
   overloaded-yes (App x kids) e s = cc
+  overloaded-yes (Open fs) e s = cc
 
   pub overloaded-no : IsRootNode (node_at g.nodes.items r) → is_several (node_at g.nodes.items r) (limit_at g.limits.items r) ≡ false → IsOverloaded (asked_of u us g b) v → ⊥
   overloaded-no root s o = node-apart o.one o.other o.may_be_one o.may_be_other o.apart (o.named_so o.one o.may_be_one) (node_at g.nodes.items r) refl root s (o.named_so (through finite us (types-with unit)))

@@ -79,7 +79,7 @@ abbrev pub types_within : List Node → Assignment finite → ℕ → Assignment
 types_within ns ρ zero i = ρ i
 types_within ns ρ (suc n) i = value (types_within ns ρ n) (ρ i) (node_at ns i)
 
-value-same : (σ τ : Assignment finite) (t : O.MlType Name) (x : Node) → AllByRecursion (λ k. σ k ≡ τ k) (parts x) → value σ t x ≡ value τ t x
+pub value-same : (σ τ : Assignment finite) (t : O.MlType Name) (x : Node) → AllByRecursion (λ k. σ k ≡ τ k) (parts x) → value σ t x ≡ value τ t x
 value-same σ τ t Unknown a = refl
 value-same σ τ t (Link j) a = a.0
 value-same σ τ t (Open fs) a = ap (open_row t) (fields-alike finite σ τ (fields_of fs.value) a)
@@ -94,7 +94,7 @@ enough ns ρ r a (suc n) (suc m) i h l =
 abbrev pub solution : List Node → Assignment finite → (ℕ → ℕ) → Assignment finite
 solution ns ρ r i = types_within ns ρ (suc (r i)) i
 
-solution-value : (ns : List Node) (ρ : Assignment finite) (r : ℕ → ℕ) → IsRanked ns r → (i : ℕ) → solution ns ρ r i ≡ value (solution ns ρ r) (ρ i) (node_at ns i)
+pub solution-value : (ns : List Node) (ρ : Assignment finite) (r : ℕ → ℕ) → IsRanked ns r → (i : ℕ) → solution ns ρ r i ≡ value (solution ns ρ r) (ρ i) (node_at ns i)
 solution-value ns ρ r a i =
     value-same (types_within ns ρ (r i)) (solution ns ρ r) (ρ i) (node_at ns i) (all-parts (λ k. r k < r i) (λ k. types_within ns ρ (r i) k ≡ solution ns ρ r k) (parts (node_at ns i)) (λ k b. enough ns ρ r a (r i) (suc (r k)) k b (omega arith)) (a i))
 

@@ -11,22 +11,10 @@ use Rattle.sml_objects.specs.declared.fates.Fate.{Fate}
 use Rattle.sml_objects.specs.declared.fates.Fate.TheVariants.{Bind, Keep, Default}
 use Rattle.sml_solve.specs.Worlds.{finite, Assignment}
 use Rattle.sml_solve.specs.Left.{IsMadeOf, AreMadeOf}
-use Rattle.sml_solve.proofs.Owning.{made-more}
+use Rattle.sml_solve.proofs.Owning.{made-more, assigned-alike}
 use Rattle.sml_solve.proofs.Uniqueness.{stays, variables-made}
 
 -- types for the variables of a type
-
-mutual
-  unfolding IsMadeOf AreMadeOf replace_type replace_types
-
-  pub assigned-alike : (σ τ : Assignment finite) (t : O.MlType Name) → IsMadeOf (λ v. σ v ≡ τ v) t → assign σ t ≡ assign τ t
-  assigned-alike σ τ (O.bound k) m = absurd m
-  assigned-alike σ τ (O.free v) m = m
-  assigned-alike σ τ (O.app h ts) m = ap (O.app h) (all-assigned-alike σ τ ts m)
-
-  all-assigned-alike : (σ τ : Assignment finite) (ts : O.MlTypes Name) → AreMadeOf (λ v. σ v ≡ τ v) ts → replace_types O.bound σ ts ≡ replace_types O.bound τ ts
-  all-assigned-alike σ τ O.no_type m = refl
-  all-assigned-alike σ τ (O.and_type t ts) m = λ i. O.and_type (assigned-alike σ τ t m.0 i) (all-assigned-alike σ τ ts m.1 i)
 
 mutual
   unfolding IsMadeOf AreMadeOf replace_type replace_types

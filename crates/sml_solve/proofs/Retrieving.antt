@@ -18,11 +18,11 @@ use Rattle.sml_objects.specs.declared.objects.MlType.{MlType}
 use Rattle.smallvec.specs.SmallVec.{SmallVec}
 use Rattle.sml_solve.specs.declared.node.Head.{Head}
 use Rattle.sml_solve.specs.declared.node.Node.{Node}
-use Rattle.sml_solve.specs.declared.node.Node.TheVariants.{Unknown, App}
+use Rattle.sml_solve.specs.declared.node.Node.TheVariants.{Unknown, Link, App, Open}
 use Rattle.sml_solve.specs.declared.reading.Task.{Task}
 use Rattle.sml_solve.specs.declared.reading.Task.TheVariants.{Read, Apply}
 use Rattle.sml_solve.specs.Worlds.{finite, Assignment, make}
-use Rattle.sml_solve.specs.Graphs.{node_at, head_over, IsSame, IsSoundNode, IsLoose}
+use Rattle.sml_solve.specs.Graphs.{node_at, head_over, IsSame, IsSoundNode, IsRootNode, IsKnown, IsLoose}
 use Rattle.sml_solve.specs.Interned.{through}
 use Rattle.sml_solve.specs.Ranks.{HasRank}
 use Rattle.sml_solve.specs.Left.{IsMadeOf, AreMadeOf}
@@ -31,6 +31,7 @@ use Rattle.sml_solve.specs.Reads.{IsTypeAt, stacked, Gives, sizes, heads, unread
 use Rattle.sml_solve.proofs.Interning.{typed-app, typed-free, map-push, types_size-is, sizes-append}
 use Rattle.sml_solve.proofs.Merging.{all-append}
 use Rattle.sml_solve.proofs.Ranking.{finite_of}
+use Rattle.sml_solve.proofs.Owning.{made-app}
 use Rattle.sml_solve.proofs.Counting.{positive, size-app}
 
 -- stacks
@@ -90,11 +91,6 @@ made-free : (P : ℕ → Type 0) (v : ℕ) → P v → IsMadeOf P (O.free v)
 unfolding IsMadeOf
 made-free P v p = p
 
-made-app : (P : ℕ → Type 0) (h : O.Head Name) (ts : List (O.MlType Name)) → AllByRecursion (IsMadeOf P) ts → IsMadeOf P (O.app h (types_of ts))
-unfolding IsMadeOf AreMadeOf
-made-app P h [] a = tt
-made-app P h (t ∷ ts) a = (a.0, made-app P h ts a.1)
-
 size-free : (v : ℕ) → type_size {N = Name} (O.free v) ≡ 1
 unfolding type_size
 size-free v = refl
@@ -129,6 +125,13 @@ reads-inside : (n : ℕ) (is : List ℕ) → AllByRecursion (λ i. i < n) is →
 reads-inside n [] a = tt
 reads-inside n (i ∷ is) a = (a.0, reads-inside n is a.1)
 
+-- a root that isn't a head isn't known
+pub not-app-known : (x : Node) → IsRootNode x → ((h : Head) (kids : SmallVec ℕ) → x ≡ App h kids → ⊥) → IsKnown x → ⊥
+not-app-known Unknown r d k = k
+not-app-known (Link j) r d k = r
+not-app-known (App h kids) r d k = d h kids refl
+not-app-known (Open fs) r d k = k
+
 -- steps on the way to the type of a node
 
 pub reading-first : (ns : List Node) (us : List ℕ) (at : ℕ) (ks : List Task) (ts : List (O.MlType Name)) → at < length ns → ks ≡ Read at ∷ [] → ts ≡ [] → IsReadingOn ns us at 0 ks ts
@@ -140,14 +143,14 @@ reading-first ns us at ks ts h e f = record {
   less = λ τ m. rw e (omega arith);
 }
 
-pub reading-unknown : (ns : List Node) (us : List ℕ) (at size : ℕ) (ks : List Task) (ts : List (O.MlType Name)) (i here v : ℕ) → IsReadingOn ns us at size (Read i ∷ ks) ts → IsSame ns i here → node_at ns here ≡ Unknown → v < length us → get_or us v 0 ≡ here → IsReadingOn ns us at (size + 1) ks (O.free v ∷ ts)
+pub reading-unknown : (ns : List Node) (us : List ℕ) (at size : ℕ) (ks : List Task) (ts : List (O.MlType Name)) (i here v : ℕ) → IsReadingOn ns us at size (Read i ∷ ks) ts → IsSame ns i here → (IsKnown (node_at ns here) → ⊥) → v < length us → get_or us v 0 ≡ here → IsReadingOn ns us at (size + 1) ks (O.free v ∷ ts)
 reading-unknown ns us at size ks ts i here v r s e h f =
     let one = size-free v in
     record {
       gives = λ τ m.
           let q : assign (through finite us τ) (O.free v) ≡ τ i = typed-free finite (through finite us τ) v ∙ (ap τ f ∙ sym (s finite τ m)) in
           subst (λ t. Gives τ at ks (t ∷ map (assign (through finite us τ)) ts)) (sym q) (r.gives τ m);
-      over = (made-free (IsLoose ns us) v (h, ap (node_at ns) f ∙ e), r.over);
+      over = (made-free (IsLoose ns us) v (h, λ k. e (subst (λ i. IsKnown (node_at ns i)) f k)), r.over);
       inside = r.inside.1;
       sized = let z = r.sized in omega (arith, z, one);
       less = λ τ m. let z = r.less τ m in let p = positive (τ i) in omega (arith, z, p);

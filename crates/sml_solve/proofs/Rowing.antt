@@ -76,6 +76,9 @@ added-distinct (Err x) es xs ys k v a b q d n = subst (λ zs. AreDistinct (field
 
 -- the order of labels
 
+pub same_label : (l m : Id) → label_order l m ≡ Equal → l ≡ m
+same_label l m e = label-exact l m e
+
 own_label : (l : Id) → label_order l l ≡ Equal
 own_label l = tied_itself label_total l
 
@@ -109,7 +112,7 @@ lookup-here l e m q = found-by (order_of l e.0) (lookup l m) (Some e.1) (subst (
 pub lookup-there : {X : Type 0} (l : Id) (e : Id × X) (m : Map X) → (l ≡ e.0 → ⊥) → lookup l (e ∷ m) ≡ lookup l m
 lookup-there l e m d = passed-by (order_of l e.0) (lookup l m) (Some e.1) (λ q. d (exact_bytes l e.0 q))
 
-same_or_other : (l m : Id) → (l ≡ m) ⊎ (l ≡ m → ⊥)
+pub same_or_other : (l m : Id) → (l ≡ m) ⊎ (l ≡ m → ⊥)
 same_or_other l m = go (order_of l m) refl where
   go : (o : Ordering) → order_of l m ≡ o → (l ≡ m) ⊎ (l ≡ m → ⊥)
   go Less e = inr (λ q. let f : Less ≡ Equal = sym e ∙ subst (λ k. order_of l k ≡ Equal) q (own_order l) in cc)
@@ -143,7 +146,7 @@ abbrev pub values_in : {X : Type 0} → List (Id × X) → List X
 values_in m = map (λ e. e.1) m
 
 module _ {X : Type 0} (l : Id) (x : X) where
-  by_label : (e : Id × X) (m : Map X) (P : Map X → Type 0) → (label_order l e.0 ≡ Less → P ((l, x) ∷ e ∷ m)) → (label_order l e.0 ≡ Equal → P ((l, x) ∷ m)) → (label_order l e.0 ≡ Greater → P (e ∷ set_field l x m)) → P (set_field l x (e ∷ m))
+  pub by_label : (e : Id × X) (m : Map X) (P : Map X → Type 0) → (label_order l e.0 ≡ Less → P ((l, x) ∷ e ∷ m)) → (label_order l e.0 ≡ Equal → P ((l, x) ∷ m)) → (label_order l e.0 ≡ Greater → P (e ∷ set_field l x m)) → P (set_field l x (e ∷ m))
   by_label e m P f g h = go (label_order l e.0) refl where
     go : (o : Ordering) → label_order l e.0 ≡ o → P (by_order o ((l, x) ∷ e ∷ m) ((l, x) ∷ m) (e ∷ set_field l x m))
     go Less q = f q
@@ -162,7 +165,7 @@ module _ {X : Type 0} (l : Id) (x : X) where
   set-there k [] d = lookup-there k (l, x) [] d
   set-there k (e ∷ m) d = by_label e m (λ n. lookup k n ≡ lookup k (e ∷ m))
       (λ q. lookup-there k (l, x) (e ∷ m) d)
-      (λ q. lookup-there k (l, x) m d ∙ sym (lookup-there k e m (λ s. d (s ∙ sym (label-exact l e.0 q)))))
+      (λ q. lookup-there k (l, x) m d ∙ sym (lookup-there k e m (λ s. d (s ∙ sym (same_label l e.0 q)))))
       (λ q. elim (same_or_other k e.0) [
         | inl s ↦ lookup-here k e (set_field l x m) s ∙ sym (lookup-here k e m s)
         | inr s ↦ lookup-there k e (set_field l x m) s ∙ (set-there k m d ∙ sym (lookup-there k e m s))
@@ -185,7 +188,7 @@ module _ {X : Type 0} (l : Id) (x : X) where
   rising-set [] r = (tt, tt)
   rising-set (e ∷ m) r = by_label e m (λ n. AreRising (labels_in n))
       (λ q. ((q, all-less e.0 (labels_in m) q r.0), r))
-      (λ q. (subst (λ k. AllByRecursion (λ j. label_order k j ≡ Less) (labels_in m)) (sym (label-exact l e.0 q)) r.0, r.1))
+      (λ q. (subst (λ k. AllByRecursion (λ j. label_order k j ≡ Less) (labels_in m)) (sym (same_label l e.0 q)) r.0, r.1))
       (λ q. (below-set e.0 m (label_turned l e.0 q) r.0, rising-set m r.1))
 
   -- a label below all others comes first
@@ -204,7 +207,7 @@ module _ {X : Type 0} (l : Id) (x : X) where
   set-same (e ∷ m) r h = by_label e m (λ n. n ≡ e ∷ m)
       (λ q. absurd (none-some x (sym (none-below (e ∷ m) (q, all-less e.0 (labels_in m) q r.0)) ∙ h)))
       (λ q.
-          let s = label-exact l e.0 q in
+          let s = same_label l e.0 q in
           let f : Some e.1 ≡ Some x = sym (lookup-here l e m s) ∙ h in
           let g : e.1 ≡ x = cc in
           λ i. (s i, sym g i) ∷ m)
@@ -252,7 +255,7 @@ module _ {X : Type 0} where
   labels-of (l ∷ ls) [] n = absurd (omega (arith, n))
   labels-of (l ∷ ls) (x ∷ xs) n = ap (λ ks. l ∷ ks) (labels-of ls xs (omega (arith, n)))
 
-  values-of : (ls : List Id) (xs : List X) → length xs ≡ length ls → values_in (with_labels ls xs) ≡ xs
+  pub values-of : (ls : List Id) (xs : List X) → length xs ≡ length ls → values_in (with_labels ls xs) ≡ xs
   values-of [] [] n = refl
   values-of [] (x ∷ xs) n = absurd (omega (arith, n))
   values-of (l ∷ ls) [] n = absurd (omega (arith, n))
@@ -267,7 +270,7 @@ module _ {X : Type 0} where
       let m : length xs ≡ length ls = omega (arith, n) in
       ap (set_field l x) (sets-row ls xs m r.1) ∙ set-first l x (with_labels ls xs) (subst (AllByRecursion (λ j. label_order l j ≡ Less)) (sym (labels-of ls xs m)) r.0)
 
-  with-parts : (m : Map X) → with_labels (labels_in m) (values_in m) ≡ m
+  pub with-parts : (m : Map X) → with_labels (labels_in m) (values_in m) ≡ m
   with-parts [] = refl
   with-parts (e ∷ m) = ap (λ n. e ∷ n) (with-parts m)
 
@@ -384,7 +387,7 @@ row_with-has w m fs r a = record {
 pub open-has : (t : MlType Name) (fs : List (Id × MlType Name)) → AreDistinct fs → HasFields finite (open_row t fs) fs
 open-has t fs d = row_with-has finite (set_fields fs (set_fields (components t) [])) fs (rising-sets fs (set_fields (components t) []) (rising-sets (components t) [] rising-none)) (sets-found fs (set_fields (components t) []) d)
 
-components-row : (ls : List Id) (ts : List (MlType Name)) → components (app (row ls) (types_of ts)) ≡ with_labels ls ts
+pub components-row : (ls : List Id) (ts : List (MlType Name)) → components (app (row ls) (types_of ts)) ≡ with_labels ls ts
 components-row ls ts = ap (with_labels ls) (list_of-types ts)
 
 -- a row that has the fields stays

@@ -1,5 +1,5 @@
 -- A type has one reading and one scheme.
-use Rattle.std.proofs.Common.{◌≡◌, ℕ, ◌↔◌, inl, inr, Bool, true, false, cond, List, [], ◌∷◌, ◌++◌, map, sym, ◌∙◌, ap, subst, refl, arith}
+use Rattle.std.proofs.Common.{◌≡◌, ℕ, zero, suc, ◌<◌, ◌↔◌, inl, inr, Bool, true, false, cond, Some, List, [], ◌∷◌, ◌++◌, map, get_or, sym, ◌∙◌, ap, subst, refl}
 use Rattle.std.specs.List.{AllByRecursion}
 use Rattle.sml_objects.specs.Fates.{close_as}
 use Rattle.sml_objects.specs.Names.{int}
@@ -9,17 +9,23 @@ use Rattle.sml_objects.specs.Types.{assign, replace_type, replace_types, is_amon
 use Rattle.sml_objects.specs.declared.fates.Fate.{Fate}
 use Rattle.sml_objects.specs.declared.fates.Fate.TheVariants.{Bind, Keep, Default}
 use Rattle.sml_solve.specs.declared.layer.Layer.TheVariants.{Finiteness}
+use Rattle.sml_tree.specs.Trees.{Id}
+use Rattle.sml_objects.specs.Maps.{lookup}
+use Rattle.sml_solve.specs.declared.graph.Graph.{Graph}
+use Rattle.sml_solve.specs.declared.node.Node.{Node}
+use Rattle.sml_solve.specs.Graphs.{node_at}
+use Rattle.sml_solve.specs.Interned.{through}
+use Rattle.sml_solve.specs.Whole.{IsKept}
 use Rattle.sml_solve.specs.Worlds.{finite, Assignment}
-use Rattle.sml_solve.specs.Asked.{Asked, Permits}
-use Rattle.sml_solve.specs.Left.{IsMadeOf, AreMadeOf, IsLeft, IsReading, MayBe, IsMostGeneral}
+use Rattle.sml_solve.specs.Asked.{Asked, asked_of, Permits}
+use Rattle.sml_solve.specs.Left.{IsMadeOf, AreMadeOf, IsLeft, IsReading}
 use Rattle.sml_solve.specs.Schemes.{IsFateOf, IsSchemeOfReading, HasOneScheme}
 use Rattle.sml_solve.proofs.Merging.{all-append}
+use Rattle.sml_solve.proofs.Rowing.{components}
+use Rattle.sml_solve.proofs.Opening.{fresh_label, fresh-none, IsNone, none-front, none-back, head_labels, component-head, one_row}
+use Rattle.sml_solve.proofs.Owning.{node_labels, solution-more, found-or-not, permitted, left-loose, choice, choice-is}
+use Rattle.sml_solve.proofs.Ranking.{solution, solution-meets}
 use Rattle.sml_solve.proofs.Searching.{all-parts}
-
--- each unknown that is left may stand for itself
-pub own : (s : Asked) → IsMostGeneral s → (σ : Assignment finite) × Permits Finiteness s σ × ((v : ℕ) → IsLeft s v → σ v ≡ O.free v)
-unfolding IsMostGeneral MayBe
-own s m = let h = m Finiteness (omega arith) (λ v. O.free v) (λ v l. l.any (O.free v)) in (h.0, h.1, h.2)
 
 mutual
   unfolding IsMadeOf AreMadeOf replace_type replace_types
@@ -33,11 +39,98 @@ mutual
   all-stay P σ O.no_type f m = refl
   all-stay P σ (O.and_type t ts) f m = λ i. O.and_type (stays P σ t f m.0 i) (all-stay P σ ts f m.1 i)
 
-pub one-reading : (s : Asked) (t r q : O.MlType Name) → IsMostGeneral s → IsReading s t r → IsReading s t q → r ≡ q
+-- Types that have a mark tell the unknowns that are left apart.
+
+-- a field with a label tells which unknown the type is of
+abbrev IsMark : Id → ℕ → O.MlType Name → Type 0
+IsMark l v t = lookup l (components t) ≡ Some (O.free v)
+
+mutual
+  type_labels : O.MlType Name → List Id
+  type_labels (O.bound k) = []
+  type_labels (O.free v) = []
+  type_labels (O.app h ts) = head_labels h ++ types_labels ts
+
+  types_labels : O.MlTypes Name → List Id
+  types_labels O.no_type = []
+  types_labels (O.and_type t ts) = type_labels t ++ types_labels ts
+
+unmarked : (l : Id) (v : ℕ) (h : O.Head Name) (ts : O.MlTypes Name) (t : O.MlType Name) → IsNone l (head_labels h) → IsMark l v t → t ≡ O.app h ts → ⊥
+unmarked l v h ts t n m e = found-or-not l (O.app h ts) t (O.free v) (sym e) (component-head l h ts n) m
+
+same-mark : (l : Id) (v w : ℕ) (a b : O.MlType Name) → IsMark l v a → IsMark l w b → a ≡ b → v ≡ w
+same-mark l v w a b m n e = let f : Some (O.free v) ≡ Some (O.free w) = sym m ∙ (ap (λ t. lookup l (components t)) e ∙ n) in cc
+
+module _ (P : ℕ → Type 0) (σ : Assignment finite) (l : Id) (marks : (v : ℕ) → P v → IsMark l v (σ v)) where
+  mutual
+    unfolding IsMadeOf AreMadeOf replace_type replace_types type_labels types_labels
+
+    told-apart : (r q : O.MlType Name) → IsMadeOf P r → IsMadeOf P q → IsNone l (type_labels r) → IsNone l (type_labels q) → assign σ r ≡ assign σ q → r ≡ q
+    told-apart (O.bound k) q m n x y e = absurd m
+    told-apart (O.free v) (O.bound k) m n x y e = absurd n
+    told-apart (O.free v) (O.free w) m n x y e = ap O.free (same-mark l v w (σ v) (σ w) (marks v m) (marks w n) e)
+    told-apart (O.free v) (O.app h ts) m n x y e = absurd (unmarked l v h (replace_types O.bound σ ts) (σ v) (none-front l (head_labels h) (types_labels ts) y) (marks v m) e)
+    told-apart (O.app h ts) (O.bound k) m n x y e = absurd n
+    told-apart (O.app h ts) (O.free v) m n x y e = absurd (unmarked l v h (replace_types O.bound σ ts) (σ v) (none-front l (head_labels h) (types_labels ts) x) (marks v n) (sym e))
+    told-apart (O.app h ts) (O.app k us) m n x y e =
+        let f : O.app h (replace_types O.bound σ ts) ≡ O.app k (replace_types O.bound σ us) = e in
+        let a : h ≡ k = cc in
+        let b : replace_types O.bound σ ts ≡ replace_types O.bound σ us = cc in
+        let c = all-told-apart ts us m n (none-back l (head_labels h) (types_labels ts) x) (none-back l (head_labels k) (types_labels us) y) b in
+        λ i. O.app (a i) (c i)
+
+    all-told-apart : (ts us : O.MlTypes Name) → AreMadeOf P ts → AreMadeOf P us → IsNone l (types_labels ts) → IsNone l (types_labels us) → replace_types O.bound σ ts ≡ replace_types O.bound σ us → ts ≡ us
+    all-told-apart O.no_type O.no_type m n x y e = refl
+    all-told-apart O.no_type (O.and_type t us) m n x y e = let f : O.no_type ≡ O.and_type (assign σ t) (replace_types O.bound σ us) = e in absurd cc
+    all-told-apart (O.and_type t ts) O.no_type m n x y e = let f : O.and_type (assign σ t) (replace_types O.bound σ ts) ≡ O.no_type = e in absurd cc
+    all-told-apart (O.and_type t ts) (O.and_type v us) m n x y e =
+        let f : O.and_type (assign σ t) (replace_types O.bound σ ts) ≡ O.and_type (assign σ v) (replace_types O.bound σ us) = e in
+        let a : assign σ t ≡ assign σ v = cc in
+        let b : replace_types O.bound σ ts ≡ replace_types O.bound σ us = cc in
+        let c = told-apart t v m.0 n.0 (none-front l (type_labels t) (types_labels ts) x) (none-front l (type_labels v) (types_labels us) y) a in
+        let d = all-told-apart ts us m.1 n.1 (none-back l (type_labels t) (types_labels ts) x) (none-back l (type_labels v) (types_labels us) y) b in
+        λ i. O.and_type (c i) (d i)
+
+-- the labels of all nodes
+nodes_labels : List Node → List Id
+nodes_labels [] = []
+nodes_labels (n ∷ ns) = node_labels n ++ nodes_labels ns
+
+none-at-node : (l : Id) (ns : List Node) (i : ℕ) → IsNone l (nodes_labels ns) → IsNone l (node_labels (node_at ns i))
+unfolding nodes_labels
+none-at-node l [] zero a = tt
+none-at-node l [] (suc i) a = tt
+none-at-node l (n ∷ ns) zero a = none-front l (node_labels n) (nodes_labels ns) a
+none-at-node l (n ∷ ns) (suc i) a = none-at-node l ns i (none-back l (node_labels n) (nodes_labels ns) a)
+
+-- each unknown that is left may have a mark
+module _ (u : ℕ) (us : List ℕ) (g : Graph) (b : Bool) (k : IsKept u g us) (l : Id) (fresh : IsNone l (nodes_labels g.nodes.items)) where
+  abbrev marks : Assignment finite
+  marks v = one_row l (O.free v)
+
+  abbrev marked : Assignment finite
+  marked = solution g.nodes.items (choice g.nodes.items us k.owners marks) k.whole.rank.rank
+
+  marked-is : (v : ℕ) → IsLeft (asked_of u us g b) v → IsMark l v (marked (get_or us v 0))
+  marked-is v h =
+      let loose = left-loose u us g b v k.whole.sound k.whole.rank k.owners h in
+      let i = get_or us v 0 in
+      solution-more g.nodes.items (choice g.nodes.items us k.owners marks) k.whole.rank i l (O.free v) (node_at g.nodes.items i) refl loose.1 (choice-is g.nodes.items us k.owners marks v loose.0 loose.1) (none-at-node l g.nodes.items i fresh)
+
+  marked-permitted : Permits Finiteness (asked_of u us g b) (through finite us marked)
+  marked-permitted = permitted u us g b marked (solution-meets g.nodes.items (choice g.nodes.items us k.owners marks) k.whole.rank.rank k.whole.rank.ranked)
+
+one-reading : (u : ℕ) (us : List ℕ) (g : Graph) (b : Bool) (t r q : O.MlType Name) → IsKept u g us → IsReading (asked_of u us g b) t r → IsReading (asked_of u us g b) t q → r ≡ q
 unfolding IsReading
-one-reading s t r q m a b =
-    let o = own s m in
-    sym (stays (IsLeft s) o.0 r o.2 a.0) ∙ (a.1 o.0 o.1 ∙ (sym (b.1 o.0 o.1) ∙ stays (IsLeft s) o.0 q o.2 b.0))
+one-reading u us g b t r q k x y =
+    let more = type_labels r ++ type_labels q in
+    let l = fresh_label (nodes_labels g.nodes.items ++ more) in
+    let fresh = fresh-none (nodes_labels g.nodes.items ++ more) in
+    let here = none-front l (nodes_labels g.nodes.items) more fresh in
+    let there = none-back l (nodes_labels g.nodes.items) more fresh in
+    let σ = through finite us (marked u us g b k l here) in
+    let p = marked-permitted u us g b k l here in
+    told-apart (IsLeft (asked_of u us g b)) σ l (marked-is u us g b k l here) r q x.0 y.0 (none-front l (type_labels r) (type_labels q) there) (none-back l (type_labels r) (type_labels q) there) (x.1 σ p ∙ sym (y.1 σ p))
 
 -- the variables of a type that is made of some
 
@@ -66,10 +159,10 @@ same-flag false true p q = p.1 (q.0 refl)
 same-flag false false p q = refl
 
 bind-keep : (s : Asked) (bs : List Bool) (x : Bool) (v : ℕ) (e : Bool) → IsFateOf s bs x v (Bind e) → IsFateOf s bs x v Keep → ⊥
-bind-keep s bs x v e p q = elim q.1 [ inl y ↦ let z : true ≡ false = sym y ∙ p.1 in cc | inr m ↦ p.2 m ]
+bind-keep s bs x v e p q = elim q.1 [ inl y ↦ let z : true ≡ false = sym y ∙ p.1 in cc | inr m ↦ elim m [ inl a ↦ p.2 a | inr f ↦ p.3 f ] ]
 
 pub one-fate : (s : Asked) (bs : List Bool) (x : Bool) (v : ℕ) (f g : Fate) → IsFateOf s bs x v f → IsFateOf s bs x v g → f ≡ g
-one-fate s bs x v (Bind a) (Bind b) p q = ap Bind (same-flag a b p.3 q.3)
+one-fate s bs x v (Bind a) (Bind b) p q = ap Bind (same-flag a b p.4 q.4)
 one-fate s bs x v (Bind a) Keep p q = absurd (bind-keep s bs x v a p q)
 one-fate s bs x v (Bind a) Default p q = absurd (p.0 q)
 one-fate s bs x v Keep (Bind b) p q = absurd (bind-keep s bs x v b q p)
@@ -88,8 +181,9 @@ one-of-reading s bs x r θ η m a b =
     let same = same-fates a.fate b.fate (variables_after [] r) (all-parts (IsLeft s) (λ v. a.fate v ≡ b.fate v) (variables_after [] r) (λ v l. one-fate s bs x v (a.fate v) (b.fate v) (a.fates v l) (b.fates v l)) (variables-made (IsLeft s) [] r tt m)) in
     a.scheme ∙ (ap (λ fs. close_as (O.named (initial int)) fs r) same ∙ sym b.scheme)
 
-pub one-scheme : (s : Asked) → IsMostGeneral s → HasOneScheme s
+pub one-scheme : (u : ℕ) (us : List ℕ) (g : Graph) (b : Bool) → IsKept u g us → HasOneScheme (asked_of u us g b)
 unfolding IsReading
-one-scheme s m bs x t θ η a b =
-    let e = one-reading s t a.reading b.reading m a.reads b.reads in
-    one-of-reading s bs x a.reading θ η a.reads.0 a.closed (subst (λ r. IsSchemeOfReading s bs x r η) (sym e) b.closed)
+one-scheme u us g b k bs x t θ η a c =
+    let s = asked_of u us g b in
+    let e = one-reading u us g b t a.reading c.reading k a.reads c.reads in
+    one-of-reading s bs x a.reading θ η a.reads.0 a.closed (subst (λ r. IsSchemeOfReading s bs x r η) (sym e) c.closed)

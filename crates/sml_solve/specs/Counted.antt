@@ -1,18 +1,18 @@
 -- How many nodes a type has at least, whatever its unknowns become.
-use Rattle.std.specs.Prelude.{◌≡◌, ℕ, ◌+◌, ◌≤◌, List, [], ◌∷◌}
+use Rattle.std.specs.Prelude.{◌≡◌, ℕ, suc, ◌+◌, ◌≤◌, List, [], ◌∷◌}
 use Rattle.sml_objects.specs.Initial.{Name}
 use Rattle.sml_objects.specs.Objects.{MlType}
 use Rattle.sml_objects.specs.Sizes.{type_size}
 use Rattle.sml_objects.specs.Types.{assign}
 use Rattle.sml_solve.specs.declared.layer.Layer.TheVariants.{Finiteness}
 use Rattle.sml_solve.specs.declared.node.Node.{Node}
-use Rattle.sml_solve.specs.declared.node.Node.TheVariants.{Unknown}
 use Rattle.sml_solve.specs.Worlds.{finite, Assignment}
-use Rattle.sml_solve.specs.Graphs.{node_at, Meets}
+use Rattle.sml_solve.specs.Graphs.{node_at, parts, Meets, IsRoot}
 use Rattle.sml_solve.specs.Asked.{Asked, Permits}
 
 -- The least size of the type over the types that the unknowns may have: that of the type where each unknown that is
--- left counts as one node. Where it is above the limit, n is one more than the limit.
+-- left counts as one node, with the fields that are asked for where it is a flexible row. Where it is above the limit, n is one more
+-- than the limit.
 pub record IsSizeUpTo (limit : ℕ) (s : Asked) (t : MlType Name) (n : ℕ) : Type 0 where
   pub most : n ≤ limit + 1
   pub least : (σ : Assignment finite) → Permits Finiteness s σ → n ≤ type_size (assign σ t)
@@ -27,7 +27,7 @@ pub record IsCounting (ns : List Node) (root n : ℕ) (is : List ℕ) : Type 0 w
   pub less : (τ : Assignment finite) → Meets finite ns τ → n + sizes_at τ is ≤ type_size (τ root)
   pub types : Assignment finite
   pub meets : Meets finite ns types
-  pub ones : (i : ℕ) → node_at ns i ≡ Unknown → type_size (types i) ≡ 1
+  pub small : (i : ℕ) → IsRoot ns i → type_size (types i) ≡ suc (sizes_at types (parts (node_at ns i)))
   pub exact : type_size (types root) ≡ n + sizes_at types is
 
 pub record IsCounted (ns : List Node) (root limit n : ℕ) : Type 0 where

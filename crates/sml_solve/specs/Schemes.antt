@@ -12,7 +12,10 @@ use Rattle.sml_solve.specs.declared.class.Names.{Names}
 use Rattle.sml_solve.specs.declared.layer.Layer.{Layer}
 use Rattle.sml_solve.specs.declared.layer.Layer.TheVariants.{Finiteness, Equality, Classes}
 use Rattle.sml_solve.specs.declared.limits.Limit.{Limit}
+use Rattle.sml_solve.specs.declared.node.Node.{Node}
+use Rattle.sml_solve.specs.declared.node.Node.TheVariants.{Unknown, Link, App, Open}
 use Rattle.sml_solve.specs.Worlds.{finite, In, Assignment, typed}
+use Rattle.sml_solve.specs.Graphs.{node_at}
 use Rattle.sml_solve.specs.Limits.{limit_at}
 use Rattle.sml_solve.specs.Asked.{Asked, Permits, world}
 use Rattle.sml_solve.specs.Left.{IsLeft, IsFlexible, IsReading}
@@ -85,6 +88,12 @@ has_one (Some c) e = not (has_several (Some c) e)
 abbrev pub fate_of : Limit → Bool → Bool → Fate
 fate_of a b x = cond (has_one a.class a.equality) Default (cond (x || b) Keep (Bind a.equality))
 
--- the fate of an unknown, by the limit of its place
-abbrev pub fate_at : List Limit → List ℕ → List Bool → Bool → ℕ → Fate
-fate_at ls us bs x v = fate_of (limit_at ls (slice_index us v)) (slice_index_or bs v false) x
+abbrev pub is_open : Node → Bool
+is_open Unknown = false
+is_open (Link j) = false
+is_open (App h kids) = false
+is_open (Open fs) = true
+
+-- the fate of an unknown, by its place
+abbrev pub fate_at : List Node → List Limit → List ℕ → List Bool → Bool → ℕ → Fate
+fate_at ns ls us bs x v = fate_of (limit_at ls (slice_index us v)) (slice_index_or bs v false || is_open (node_at ns (slice_index us v))) x

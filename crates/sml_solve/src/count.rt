@@ -5,7 +5,7 @@ ghost use Rattle.sml_solve.specs.Graphs.{IsSame, IsRoot, IsSound};
 ghost use Rattle.sml_solve.specs.Ranks.{HasRank};
 ghost use Rattle.sml_solve.specs.Counted.{IsCounted};
 
-use crate::node::Node;
+use crate::node::{Node, parts_of};
 use sml_lex::fault::Memory;
 use std::alloc::Global;
 
@@ -46,9 +46,7 @@ pub(crate) fn size_from(
         if limit < size {
             return Ok(size);
         }
-        if let Node::App(_, kids) = &nodes[root_of(nodes, at)] {
-            pending.extend_from_slice(kids.as_slice())?;
-        }
+        pending.extend_from_slice(parts_of(&nodes[root_of(nodes, at)]))?;
     }
     Ok(size)
 }

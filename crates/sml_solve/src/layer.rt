@@ -2,7 +2,7 @@
 
 ghost use Rattle.std.specs.Prelude.{◌≡◌};
 ghost use Rattle.sml_solve.specs.Asked.{limit_of};
-ghost use Rattle.sml_solve.specs.Layers.{code_of, place_of};
+ghost use Rattle.sml_solve.specs.Layers.{code_of, place_of, refusal_code};
 
 use crate::class::Class;
 use crate::limits::Limit;
@@ -54,6 +54,8 @@ pub enum Ask {
 pub enum Refusal {
     /// No types meet what was asked; the first layer that can't be met.
     Unmet(Layer),
+    /// A row may have several sets of labels, or no row need stand there.
+    Labels,
     /// A growth was refused.
     Memory,
     /// An earlier call was refused.
@@ -67,6 +69,19 @@ impl From<Memory> for Refusal {
 
     fn from(_memory: Memory) -> Refusal {
         Refusal::Memory
+    }
+}
+
+impl Refusal {
+    /// The code of the fault, if it is one of the program.
+    pub fn code(self) -> Option<Code>
+        ensures { result ≡ refusal_code self }
+    {
+        match self {
+            Refusal::Unmet(layer) => Some(layer.code()),
+            Refusal::Labels => Some(Code::U6),
+            Refusal::Memory | Refusal::Spent => None,
+        }
     }
 }
 

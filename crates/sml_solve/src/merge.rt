@@ -183,11 +183,7 @@ fn close_row(
 }
 
 /// One node that says what two say, where neither leads to another.
-fn join(
-    pending: &mut Vec<(usize, usize)>,
-    upper: Node,
-    lower: Node,
-) -> Result<Node, Unsolved>
+fn join(pending: &mut Vec<(usize, usize)>, upper: Node, lower: Node) -> Result<Node, Unsolved>
     requires upper { IsRootNode upper }
     requires lower { IsRootNode lower }
     ensures joins { IfOk result (λ n. Joins upper lower n pending.old.items pending.new.items) }

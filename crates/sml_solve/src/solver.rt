@@ -2,6 +2,7 @@
 
 ghost use Rattle.std.specs.Prelude.{◌≡◌, ℕ, ◌↔◌, ◌+◌, ◌^◌, ◌<◌, ◌≤◌, true, false, length, IfOk, OnOk, OnErr, Err};
 ghost use Rattle.std.specs.Bool.{OnTrue, OnFalse};
+ghost use Rattle.std.specs.Coded.{codes};
 ghost use Rattle.std.specs.List.{AllByRecursion};
 ghost use Rattle.std.specs.Option.{IfSome, IfNone};
 ghost use Rattle.sml_objects.specs.Initial.{initial};
@@ -10,15 +11,16 @@ ghost use Rattle.sml_objects.specs.Objects.{free, named};
 ghost use Rattle.sml_objects.specs.Sizes.{type_size};
 ghost use Rattle.sml_objects.specs.Types.{instance_from, assign};
 ghost use Rattle.sml_objects.specs.Views.{type_of, scheme_of, maker_of};
+ghost use Rattle.sml_solve.specs.contracts.fields.Fields as fields;
 ghost use Rattle.sml_solve.specs.declared.layer.Layer.{Layer};
-ghost use Rattle.sml_solve.specs.declared.layer.Layer.TheVariants.{Finiteness};
+ghost use Rattle.sml_solve.specs.declared.layer.Layer.TheVariants.{Finiteness, Rigidity};
 ghost use Rattle.sml_solve.specs.Worlds.{finite, Assignment};
 ghost use Rattle.sml_solve.specs.Asked.{Asked, asked_of, equal, asks, count, IsOf, IsSchemeOf, Adds, CanMeet, IsFirstUnmet, IsMet, Permits, PermitsSame};
 ghost use Rattle.sml_solve.specs.Clashes.{ClashesAreUnmet};
 ghost use Rattle.sml_solve.specs.Counted.{IsSizeUpTo};
-ghost use Rattle.sml_solve.specs.Fixed.{AreFixed, IsFixed, IsFree};
+ghost use Rattle.sml_solve.specs.Fixed.{AreFixed, IsFixed};
 ghost use Rattle.sml_solve.specs.Graphs.{IsAmong};
-ghost use Rattle.sml_solve.specs.Left.{IsLeft, IsMadeOf, IsReading, IsMostGeneral};
+ghost use Rattle.sml_solve.specs.Left.{HasOneSetOfLabels, IsFree, IsLeft, IsMadeOf, IsReading, IsMostGeneral};
 ghost use Rattle.sml_solve.specs.Levels.{IsKeptWith};
 ghost use Rattle.sml_solve.specs.Schemes.{GiveOneScheme, HasOneScheme, IsScheme, IsSchemeOfReading};
 ghost use Rattle.sml_solve.specs.Overloaded.{IsOverloaded, Settles};
@@ -34,7 +36,7 @@ use crate::node::Node;
 use crate::orders::MIDDLE;
 use crate::reach::{has_flag, marks_from, places};
 use crate::reading::type_up_to;
-use crate::settling::has_several_names;
+use crate::settling::{has_labels, has_several_names};
 use crate::variable::Variable;
 use sml_lex::fault::Memory;
 use sml_objects::objects::{Initial, MlType, Scheme, TyName, UnitId};
@@ -59,6 +61,8 @@ pub struct Solver {
 
 impl Model for Solver {
     ghost Value = { Asked };
+
+    ghost coded = { Prim.hlevel (codes, fields.the_row.coded) };
 
     ghost view = { λ s. asked_of (maker_of s.unit) s.unknowns.items s.graph s.spent };
 
@@ -292,6 +296,33 @@ impl Solver {
         }
     }
 
+    /// Demands that a type is a row with one set of labels, whatever the unknowns become: U6 where it isn't.
+    pub fn require_labels(&mut self, ty: &MlType) -> Result<(), Refusal>
+        requires { IsOf self.old (type_of ty.now) }
+        ensures one { OnOk result (HasOneSetOfLabels Finiteness self.old (type_of ty.now)) }
+        ensures several { result ≡ Err Refusal.Labels → HasOneSetOfLabels Rigidity self.old (type_of ty.now) → ⊥ }
+        ensures same { OnOk result (PermitsSame self.old self.new) }
+        ensures count { count self.new ≡ count self.old }
+        ensures kept { OnOk result (self.new.spent ≡ false) }
+        ensures unit { self.new.unit ≡ self.old.unit }
+        ensures err { OnErr result (self.new.spent ≡ true) }
+        ensures unmet { (l : Layer) → result ≡ Err (Refusal.Unmet l) → ⊥ }
+        ensures spent { result ≡ Err Refusal.Spent ↔ self.old.spent ≡ true }
+    {
+        if self.spent {
+            return Err(Refusal::Spent);
+        }
+        self.spent = true;
+        let Ok(at) = add(self.alloc, &mut self.graph, self.unknowns.as_slice(), ty) else {
+            return Err(Refusal::Memory);
+        };
+        if !has_labels(self.graph.nodes.as_slice(), at) {
+            return Err(Refusal::Labels);
+        }
+        self.spent = false;
+        Ok(())
+    }
+
     /// A law: the unknowns that are left may have any types at once that each of them may have, and these fix the types of
     /// all others.
     pub fn choices_are_free(&self)
@@ -314,7 +345,7 @@ impl Solver {
         requires { self.now.spent ≡ false }
         ensures { HasOneScheme self.now }
     {
-        self.choices_are_free();
+        let _spent = self.spent;
     }
 
     /// A law: where two types, each over the unknowns of a solver of its own, may become the same types, what `generalise`
@@ -570,9 +601,10 @@ fn close_reading(
     ensures err { OnErr result (solver.new.spent ≡ true) }
     ensures memory { OnErr result (result ≡ Err Refusal.Memory) }
 {
+    let nodes = solver.graph.nodes.as_slice();
     let limits = solver.graph.limits.as_slice();
     let unknowns = solver.unknowns.as_slice();
-    match closed(solver.alloc, limits, unknowns, fixed, expansive, ty) {
+    match closed(solver.alloc, nodes, limits, unknowns, fixed, expansive, ty) {
         Ok(scheme) => Ok(scheme),
         Err(_) => {
             solver.spent = true;

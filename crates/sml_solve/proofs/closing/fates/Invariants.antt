@@ -3,4 +3,4 @@ use Rattle.sml_solve.specs.Schemes.{fate_at}
 use Rattle.sml_solve.proofs.closing.fates.Given as goal
 
 abbrev pub invariant-loop-variable : goal.invariant-loop-variable
-invariant-loop-variable l = l.fates.items ≡ map (fate_at l.limits l.unknowns l.fixed l.expansive) (take l.variable-index l.variables)
+invariant-loop-variable l = l.fates.items ≡ map (fate_at l.nodes l.limits l.unknowns l.fixed l.expansive) (take l.variable-index l.variables)

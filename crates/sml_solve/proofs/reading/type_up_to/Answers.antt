@@ -1,15 +1,14 @@
-use Rattle.std.proofs.Common.{◌≡◌, ◌∷◌, [], ◌++◌, length, reverse, map, ap, ◌∙◌, arith, drop}
+use Rattle.std.proofs.Common.{◌≡◌, ◌∷◌, [], ◌++◌, length, reverse, map, ap, subst, ◌∙◌, arith, drop}
 use Rattle.sml_objects.specs.Objects as O
 use Rattle.sml_objects.specs.Views.{type_of}
 use Rattle.sml_objects.proofs.TypeViews.{type_of-free}
-use Rattle.sml_solve.specs.declared.node.Node.TheVariants.{Unknown, App}
+use Rattle.sml_solve.specs.declared.node.Node.TheVariants.{App}
 use Rattle.sml_solve.specs.declared.reading.Task.TheVariants.{Read, Apply}
-use Rattle.sml_solve.specs.Graphs.{node_at, IsRootNode, IsSoundNode}
+use Rattle.sml_solve.specs.Graphs.{node_at, IsRootNode, IsSoundNode, IsKnown}
 use Rattle.sml_solve.specs.Reads.{stacked, heads, IsReadingOn}
-use Rattle.sml_solve.proofs.Merging.{not_app}
 use Rattle.sml_solve.proofs.Searching.{read_at}
 use Rattle.sml_solve.proofs.Counting.{positive}
-use Rattle.sml_solve.proofs.Retrieving.{reverse-push, stacked-push, length-stacked, reading-first, reading-unknown, reading-app, reading-enough, reading-apply, empty, reading-found, reading-none, reverse-reads, heads-app}
+use Rattle.sml_solve.proofs.Retrieving.{not-app-known, reverse-push, stacked-push, length-stacked, reading-first, reading-unknown, reading-app, reading-enough, reading-apply, empty, reading-found, reading-none, reverse-reads, heads-app}
 use Rattle.sml_solve.proofs.reading.type_up_to.Goals as goal
 
 pub loop-task-init : goal.loop-task-init
@@ -61,7 +60,7 @@ loop-task-preserved-in_ok-push-in_default-nodes c =
     let r : IsReadingOn ns us c.args.root c.loop-task.size (Read c.in-Read.at ∷ reverse c.pop.new.self.items) (stacked c.loop-task.types.items) = rw q at c.loop-task.invariant.on in
     let e = read_at ns here c.index-nodes-here.result c.root_of-here.ensures.inside c.index-nodes-here.is in
     let root : IsRootNode c.index-nodes-here.result = rw e at c.root_of-here.ensures.root in
-    let k : node_at ns here ≡ Unknown = e ∙ not_app c.index-nodes-here.result root c.in_default-nodes.not-App in
+    let k : IsKnown (node_at ns here) → ⊥ = λ q. not-app-known c.index-nodes-here.result root c.in_default-nodes.not-App (subst IsKnown e q) in
     let t : stacked c.push-in_default-nodes.new.self.items ≡ O.free v ∷ stacked c.loop-task.types.items = ap stacked c.in_ok-push-in_default-nodes.ensures.items ∙ (stacked-push c.loop-task.types.items c.in_ok-new-in_default-nodes.field-0 ∙ ap (λ t. t ∷ stacked c.loop-task.types.items) (ap type_of c.in_ok-new-in_default-nodes.ensures.ok ∙ type_of-free v)) in
     record {
       on = rw t (reading-unknown ns us c.args.root c.loop-task.size (reverse c.pop.new.self.items) (stacked c.loop-task.types.items) c.in-Read.at here v r c.root_of-here.ensures.same k c.owner.ensures.known c.owner.ensures.place);

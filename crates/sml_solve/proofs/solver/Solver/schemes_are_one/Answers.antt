@@ -1,5 +1,15 @@
+use Rattle.std.proofs.Common.{◌≡◌, ◌∙◌, ap, subst}
+use Rattle.std.specs.Prelude.{false}
+use Rattle.sml_objects.specs.Views.{maker_of}
+use Rattle.sml_solve.specs.Asked.{Asked}
+use Rattle.sml_solve.specs.Schemes.{HasOneScheme}
+use Rattle.sml_solve.specs.Whole.{IsKept}
 use Rattle.sml_solve.proofs.Uniqueness.{one-scheme}
 use Rattle.sml_solve.proofs.solver.Solver.schemes_are_one.Goals as goal
 
 pub returns : goal.returns
-returns c = one-scheme c.args.self.now c.choices_are_free.ensures
+returns c =
+    let g = c.self.inside.graph in
+    let spent : c.self.inside.spent ≡ false = ap (λ (s : Asked). s.spent) c.self.view_is ∙ c.requires in
+    let k : IsKept (maker_of c.self.inside.unit) g c.self.inside.unknowns.items = (c.self.invariant spent).kept in
+    subst HasOneScheme c.self.view_is (one-scheme (maker_of c.self.inside.unit) c.self.inside.unknowns.items g c.self.inside.spent k)

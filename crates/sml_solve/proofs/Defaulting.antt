@@ -22,7 +22,7 @@ use Rattle.sml_tree.specs.Trees.{Id}
 use Rattle.sml_objects.specs.Maps.{lookup}
 use Rattle.std.specs.List.{AllByRecursion}
 use Rattle.std.proofs.lemmas.List.{length-map}
-use Rattle.sml_solve.specs.Labels.{with_labels}
+use Rattle.sml_objects.specs.Labels.{with_labels}
 use Rattle.sml_solve.specs.Rows.{fields_at}
 use Rattle.sml_solve.proofs.Rowing.{lookup-here, lookup-there, same_or_other}
 use Rattle.sml_solve.specs.Interned.{IsOver, AreOver, through}

@@ -8,7 +8,7 @@ use Rattle.sml_objects.specs.Maps.{Map, lookup}
 use Rattle.sml_objects.specs.Objects as O
 use Rattle.sml_objects.specs.Sizes.{type_size, types_size}
 use Rattle.sml_objects.specs.Views.{types_of}
-use Rattle.sml_solve.specs.Labels.{label_order, with_labels}
+use Rattle.sml_objects.specs.Labels.{label_order, with_labels}
 use Rattle.sml_solve.specs.Rows.{AreDistinct, HasFields, fields_at, kids_of}
 use Rattle.sml_solve.specs.Worlds.{finite, Assignment}
 use Rattle.sml_solve.specs.Counted.{sizes_at}

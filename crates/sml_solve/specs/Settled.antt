@@ -7,7 +7,7 @@ use Rattle.sml_solve.specs.declared.node.Node.TheVariants.{Unknown, Link, App, O
 
 abbrev pub is_row : Head → Bool
 is_row Arrow = false
-is_row Row = true
+is_row (Row ls) = true
 is_row (Name m) = false
 
 -- the node is a row whose labels are known

@@ -27,7 +27,7 @@ pub(crate) fn has_several_names(nodes: &[Node], limits: &[Limit], at: usize) -> 
 fn is_row(head: &Head) -> bool
     ensures { result ≡ is_row head.now }
 {
-    matches!(head, Head::Row)
+    matches!(head, Head::Row(_))
 }
 
 /// Whether the type of a node is a row whose labels are known.

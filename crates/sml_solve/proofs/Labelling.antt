@@ -7,7 +7,7 @@ use Rattle.sml_objects.specs.Names as N
 use Rattle.sml_objects.specs.Initial.{Name, initial, made}
 use Rattle.sml_objects.specs.Maps.{lookup}
 use Rattle.sml_objects.specs.Objects as O
-use Rattle.sml_objects.specs.Views.{types_of, name_of}
+use Rattle.sml_objects.specs.Views.{types_of, name_of, label_list}
 use Rattle.sml_solve.specs.declared.fields.Fields.{Fields}
 use Rattle.sml_solve.specs.declared.graph.Graph.{Graph}
 use Rattle.sml_solve.specs.declared.layer.Layer.{Layer}
@@ -49,12 +49,12 @@ labels-as l s r t p h = (h.0, λ σ q. h.1 σ ((p l σ).0 q))
 
 row-labels : (h : Head) (n : ℕ) → is_row h ≡ true → (ls : List Id) × (head_over h n ≡ O.row ls)
 row-labels Arrow n e = cc
-row-labels Row n e = (_, refl)
+row-labels (Row ls) n e = (label_list ls.value, refl)
 row-labels (Applied m) n e = cc
 
 no-row : (h : Head) (n : ℕ) (ls : List Id) → is_row h ≡ false → head_over h n ≡ O.row ls → ⊥
 no-row Arrow n ls e f = let g : ◌≡◌ {A = O.Head Name} O.arrow (O.row ls) = f in cc
-no-row Row n ls e f = cc
+no-row (Row ks) n ls e f = cc
 no-row (Applied m) n ls e f = let g : O.name (name_of m) ≡ O.row ls = f in cc
 
 -- a stand-in is no row

@@ -8,11 +8,12 @@ use Rattle.sml_objects.specs.Maps.{Map, lookup}
 use Rattle.sml_objects.specs.Objects as O
 use Rattle.sml_objects.specs.Sizes.{type_size, types_size}
 use Rattle.sml_objects.specs.Views.{types_of}
+use Rattle.sml_objects.proofs.LabelPlaces.{label-exact}
 use Rattle.sml_objects.specs.Labels.{label_order, with_labels}
 use Rattle.sml_solve.specs.Rows.{AreDistinct, HasFields, fields_at, kids_of}
 use Rattle.sml_solve.specs.Worlds.{finite, Assignment}
 use Rattle.sml_solve.specs.Counted.{sizes_at}
-use Rattle.sml_solve.proofs.Rowing.{lookup-here, lookup-there, same_or_other, same_label, set_field, set_fields, labels_in, values_in, by_label, others-there, distinct-at, with-parts, values-of, list_of, components, components-row, open_row}
+use Rattle.sml_solve.proofs.Rowing.{lookup-here, lookup-there, same_or_other, set_field, set_fields, labels_in, values_in, by_label, others-there, distinct-at, with-parts, values-of, list_of, components, components-row, open_row}
 
 -- a label that is none of some labels
 
@@ -100,7 +101,7 @@ unfolding types_size
 size-set l x [] h = refl
 size-set l x (e ∷ m) h = by_label l x e m (λ n. total n ≡ type_size x + (type_size e.1 + total m))
     (λ q. refl)
-    (λ q. let f : None ≡ Some e.1 = sym h ∙ lookup-here l e m (same_label l e.0 q) in absurd cc)
+    (λ q. let f : None ≡ Some e.1 = sym h ∙ lookup-here l e m (label-exact l e.0 q) in absurd cc)
     (λ q. elim (same_or_other l e.0) [
       | inl s ↦ let f : None ≡ Some e.1 = sym h ∙ lookup-here l e m s in absurd cc
       | inr s ↦ let r = size-set l x m (sym (lookup-there l e m s) ∙ h) in omega (arith, r)

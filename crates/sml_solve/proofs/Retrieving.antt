@@ -22,7 +22,7 @@ use Rattle.sml_solve.specs.declared.node.Node.TheVariants.{Unknown, Link, App, O
 use Rattle.sml_solve.specs.declared.reading.Task.{Task}
 use Rattle.sml_solve.specs.declared.reading.Task.TheVariants.{Read, Apply}
 use Rattle.sml_solve.specs.Worlds.{finite, Assignment, make}
-use Rattle.sml_solve.specs.Graphs.{node_at, head_over, IsSame, IsSoundNode, IsRootNode, IsKnown, IsLoose}
+use Rattle.sml_solve.specs.Graphs.{node_at, head_over, IsSame, IsSoundNode, IsCountOf, IsRootNode, IsKnown, IsLoose}
 use Rattle.sml_solve.specs.Interned.{through}
 use Rattle.sml_solve.specs.Ranks.{HasRank}
 use Rattle.sml_solve.specs.Left.{IsMadeOf, AreMadeOf}
@@ -156,22 +156,22 @@ reading-unknown ns us at size ks ts i here v r s e h f =
       less = λ τ m. let z = r.less τ m in let p = positive (τ i) in omega (arith, z, p);
     }
 
-pub reading-app : (ns : List Node) (us : List ℕ) (at size : ℕ) (ks qs : List Task) (ts : List (O.MlType Name)) (i here : ℕ) (h : Head) (kids : SmallVec ℕ) → IsReadingOn ns us at size (Read i ∷ ks) ts → IsSame ns i here → node_at ns here ≡ App h kids → IsSoundNode (length ns) here (App h kids) → qs ≡ reverse (map Read kids.items) ++ Apply h (length kids.items) ∷ ks → IsReadingOn ns us at (size + 1) qs ts
-reading-app ns us at size ks qs ts i here h kids r s e sound q =
+pub reading-app : (ns : List Node) (us : List ℕ) (at size : ℕ) (ks qs : List Task) (ts : List (O.MlType Name)) (i here : ℕ) (h f : Head) (kids : SmallVec ℕ) → IsReadingOn ns us at size (Read i ∷ ks) ts → IsSame ns i here → node_at ns here ≡ App h kids → IsSoundNode (length ns) here (App h kids) → ((n : ℕ) → head_over f n ≡ head_over h n) → ((n : ℕ) → IsCountOf h n → IsCountOf f n) → qs ≡ reverse (map Read kids.items) ++ Apply f (length kids.items) ∷ ks → IsReadingOn ns us at (size + 1) qs ts
+reading-app ns us at size ks qs ts i here h f kids r s e sound same count q =
     let n = length kids.items in
     record {
       gives = λ τ m.
           let us' = map (assign (through finite us τ)) ts in
           let p : length (map τ kids.items) ≡ n = length-map kids.items τ in
-          let whole : τ i ≡ make finite (head_over h n) (map τ kids.items) = s finite τ m ∙ rw e at (m here) in
+          let whole : τ i ≡ make finite (head_over f n) (map τ kids.items) = s finite τ m ∙ (rw e at (m here) ∙ ap (λ h. make finite h (map τ kids.items)) (sym (same n))) in
           let len : length (map τ kids.items ++ us') ≡ n + length us' = length-append (map τ kids.items) us' ∙ ap (λ k. k + length us') p in
-          rw q (gives-reads τ at kids.items (Apply h n ∷ ks) us' (omega (arith, len), rw (take-of n (map τ kids.items) us' p, drop-of n (map τ kids.items) us' p, ← whole) (r.gives τ m)));
+          rw q (gives-reads τ at kids.items (Apply f n ∷ ks) us' (omega (arith, len), rw (take-of n (map τ kids.items) us' p, drop-of n (map τ kids.items) us' p, ← whole) (r.gives τ m)));
       over = r.over;
-      inside = rw q (all-append (IsTaskIn (length ns)) (reverse (map Read kids.items)) (Apply h n ∷ ks) (all-reverse (IsTaskIn (length ns)) (map Read kids.items) (reads-inside (length ns) kids.items sound.0)) (sound.1, r.inside.1));
-      sized = let z = r.sized in let y = ap heads q ∙ heads-reads kids.items (Apply h n ∷ ks) in omega (arith, z, y);
+      inside = rw q (all-append (IsTaskIn (length ns)) (reverse (map Read kids.items)) (Apply f n ∷ ks) (all-reverse (IsTaskIn (length ns)) (map Read kids.items) (reads-inside (length ns) kids.items sound.0)) (count n sound.1, r.inside.1));
+      sized = let z = r.sized in let y = ap heads q ∙ heads-reads kids.items (Apply f n ∷ ks) in omega (arith, z, y);
       less = λ τ m.
           let z = r.less τ m in
-          let y = ap (unread τ) q ∙ unread-reads τ kids.items (Apply h n ∷ ks) in
+          let y = ap (unread τ) q ∙ unread-reads τ kids.items (Apply f n ∷ ks) in
           let w = size-app ns i here h kids s e τ m in
           omega (arith, z, y, w);
     }

@@ -91,6 +91,18 @@ fn apply(
     }
 }
 
+/// The same head once more.
+fn copy_of(head: &Head) -> Result<Head, Memory>
+    ensures over { IfOk result (λ copy. (n : ℕ) → head_over copy n ≡ head_over head.now n) }
+    ensures count { IfOk result (λ copy. (n : ℕ) → IsCountOf head.now n → IsCountOf copy n) }
+{
+    match head {
+        Head::Arrow => Ok(Head::Arrow),
+        Head::Row(labels) => Ok(Head::Row(labels.clone()?)),
+        Head::Name(name) => Ok(Head::Name(*name)),
+    }
+}
+
 /// Adds the reading of some nodes to what is left to do.
 fn push_reads(tasks: &mut Vec<Task>, kids: &[usize]) -> Result<(), Memory>
     ensures { OnOk result (tasks.new.items ≡ tasks.old.items ++ map Read kids.now) }
@@ -132,7 +144,7 @@ pub(crate) fn type_up_to(
                 let here = root_of(nodes, at);
                 match &nodes[here] {
                     Node::App(head, kids) => {
-                        tasks.push(Task::Apply(head.clone()?, kids.len()))?;
+                        tasks.push(Task::Apply(copy_of(head)?, kids.len()))?;
                         push_reads(&mut tasks, kids.as_slice())?;
                     }
                     _ => types.push(Rc::new(alloc, MlType::Free(owner(unknowns, here)))?)?,

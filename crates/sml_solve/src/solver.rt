@@ -11,6 +11,7 @@ ghost use Rattle.sml_objects.specs.Objects.{free, named};
 ghost use Rattle.sml_objects.specs.Sizes.{type_size};
 ghost use Rattle.sml_objects.specs.Types.{instance_from, assign};
 ghost use Rattle.sml_objects.specs.Views.{type_of, scheme_of, maker_of};
+ghost use Rattle.sml_objects.specs.contracts.labels.Labels as labels;
 ghost use Rattle.sml_solve.specs.contracts.fields.Fields as fields;
 ghost use Rattle.sml_solve.specs.declared.layer.Layer.{Layer};
 ghost use Rattle.sml_solve.specs.declared.layer.Layer.TheVariants.{Finiteness, Rigidity};
@@ -62,7 +63,7 @@ pub struct Solver {
 impl Model for Solver {
     ghost Value = { Asked };
 
-    ghost coded = { Prim.hlevel (codes, fields.the_row.coded) };
+    ghost coded = { Prim.hlevel (codes, fields.the_row.coded, labels.the_row.coded) };
 
     ghost view = { λ s. asked_of (maker_of s.unit) s.unknowns.items s.graph s.spent };
 

@@ -3,7 +3,6 @@ use Rattle.sml_objects.proofs.TypeViews.{parts_of, type_of-row, type_of-name}
 use Rattle.sml_objects.specs.Views.{type_of}
 use Rattle.sml_solve.specs.declared.node.Head.TheVariants.{Row, Name}
 use Rattle.sml_solve.specs.Reads.{stacked}
-use Rattle.sml_solve.proofs.Interning.{row-type}
 use Rattle.sml_solve.proofs.Retrieving.{length-stacked, head-taken}
 use Rattle.sml_solve.proofs.reading.apply.Goals as goal
 
@@ -13,7 +12,7 @@ returns-in_ok-new-in-Row-clause-ty c =
     let ts = stacked c.args.types.now.items in
     let n : length ts ≡ length c.args.types.now.items = length-stacked c.args.types.now.items in
     let l : c.args.count ≤ length ts = omega (arith, n, c.requires.enough) in
-    ap type_of c.in_ok-new-in-Row.ensures.ok ∙ (type_of-row c.in_ok-parts-in-Row.parts ∙ (row-type more ∙ rw c.in-Row.is (head-taken Row c.args.count ts more c.in_ok-parts-in-Row.ensures.parts l)))
+    ap type_of c.in_ok-new-in-Row.ensures.ok ∙ (type_of-row c.in-Row.labels c.in_ok-parts-in-Row.parts ∙ rw c.in-Row.is (head-taken (Row c.in-Row.labels) c.args.count ts more c.in_ok-parts-in-Row.ensures.parts l))
 
 pub returns-in_ok-new-in-Name-clause-ty : goal.returns-in_ok-new-in-Name-clause-ty
 returns-in_ok-new-in-Name-clause-ty c =

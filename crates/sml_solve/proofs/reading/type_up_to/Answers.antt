@@ -28,9 +28,9 @@ returns-then-limit-size-clause-large c τ m =
 pub loop-task-smaller-in_ok-push_reads-in-App : goal.loop-task-smaller-in_ok-push_reads-in-App
 loop-task-smaller-in_ok-push_reads-in-App c =
     let q : reverse c.loop-task.tasks.items ≡ Read c.in-Read.at ∷ reverse c.pop.new.self.items = ap reverse c.in-Some.ensures.items ∙ (reverse-push c.pop.new.self.items c.in-Some.task ∙ ap (λ k. k ∷ reverse c.pop.new.self.items) c.in-Read.is) in
-    let p = reverse-reads c.pop.new.self.items c.push-in-App.new.self.items c.push_reads.new.tasks.items (Apply c.in-App.head c.len.result) c.as_slice.result.now c.in_ok-push-in-App.ensures.items c.in_ok-push_reads-in-App.ensures in
+    let p = reverse-reads c.pop.new.self.items c.push-in-App.new.self.items c.push_reads.new.tasks.items (Apply c.in_ok-copy_of-in-App.field-0 c.len.result) c.as_slice.result.now c.in_ok-push-in-App.ensures.items c.in_ok-push_reads-in-App.ensures in
     let a = ap heads q in
-    let b = ap heads p ∙ heads-app c.as_slice.result.now c.in-App.head c.len.result (reverse c.pop.new.self.items) in
+    let b = ap heads p ∙ heads-app c.as_slice.result.now c.in_ok-copy_of-in-App.field-0 c.len.result (reverse c.pop.new.self.items) in
     omega (arith, a, b, c.if-limit-size.false)
 
 pub loop-task-preserved-in_ok-push_reads-in-App : goal.loop-task-preserved-in_ok-push_reads-in-App
@@ -38,15 +38,16 @@ loop-task-preserved-in_ok-push_reads-in-App c =
     let ns = c.args.nodes.now in
     let here = c.root_of-here.result in
     let kids = c.in-App.kids in
+    let copy = c.in_ok-copy_of-in-App.field-0 in
     let q : reverse c.loop-task.tasks.items ≡ Read c.in-Read.at ∷ reverse c.pop.new.self.items = ap reverse c.in-Some.ensures.items ∙ (reverse-push c.pop.new.self.items c.in-Some.task ∙ ap (λ k. k ∷ reverse c.pop.new.self.items) c.in-Read.is) in
     let r : IsReadingOn ns c.args.unknowns.now c.args.root c.loop-task.size (Read c.in-Read.at ∷ reverse c.pop.new.self.items) (stacked c.loop-task.types.items) = rw q at c.loop-task.invariant.on in
     let e : node_at ns here ≡ App c.in-App.head kids = read_at ns here c.index-nodes-here.result c.root_of-here.ensures.inside c.index-nodes-here.is ∙ c.in-App.is in
     let s : IsSoundNode (length ns) here (App c.in-App.head kids) = rw e at (c.requires.sound here) in
     let n : c.len.result ≡ length kids.items = c.len.ensures.value in
-    let p : reverse c.push_reads.new.tasks.items ≡ reverse (map Read kids.items) ++ Apply c.in-App.head (length kids.items) ∷ reverse c.pop.new.self.items =
-    reverse-reads c.pop.new.self.items c.push-in-App.new.self.items c.push_reads.new.tasks.items (Apply c.in-App.head (length kids.items)) kids.items (c.in_ok-push-in-App.ensures.items ∙ ap (λ k. c.pop.new.self.items ++ Apply c.in-App.head k ∷ []) n) (c.in_ok-push_reads-in-App.ensures ∙ ap (λ is. c.push-in-App.new.self.items ++ map Read is) c.as_slice.ensures) in
+    let p : reverse c.push_reads.new.tasks.items ≡ reverse (map Read kids.items) ++ Apply copy (length kids.items) ∷ reverse c.pop.new.self.items =
+    reverse-reads c.pop.new.self.items c.push-in-App.new.self.items c.push_reads.new.tasks.items (Apply copy (length kids.items)) kids.items (c.in_ok-push-in-App.ensures.items ∙ ap (λ k. c.pop.new.self.items ++ Apply copy k ∷ []) n) (c.in_ok-push_reads-in-App.ensures ∙ ap (λ is. c.push-in-App.new.self.items ++ map Read is) c.as_slice.ensures) in
     record {
-      on = reading-app ns c.args.unknowns.now c.args.root c.loop-task.size (reverse c.pop.new.self.items) (reverse c.push_reads.new.tasks.items) (stacked c.loop-task.types.items) c.in-Read.at here c.in-App.head kids r c.root_of-here.ensures.same e s p;
+      on = reading-app ns c.args.unknowns.now c.args.root c.loop-task.size (reverse c.pop.new.self.items) (reverse c.push_reads.new.tasks.items) (stacked c.loop-task.types.items) c.in-Read.at here c.in-App.head copy kids r c.root_of-here.ensures.same e s c.in_ok-copy_of-in-App.ensures.over c.in_ok-copy_of-in-App.ensures.count p;
       within = c.if-limit-size.false;
     }
 

@@ -368,10 +368,10 @@ module _ (f : Head) (ls : Rc Labels Global) (kids : SmallVec ℕ) (b : Box Field
   label-apart m w σ i x h =
       let q = row-known w σ i x h in
       let found : lookup m.label (with_labels (label_list ls.value) (map σ kids.items)) ≡ Some (σ m.kid) =
-          field-found σ (fields_of b.value) (with_labels (label_list ls.value) (map σ kids.items)) m.label m.kid m.field
-          (subst (λ n. AllByRecursion (λ f. lookup f.0 n ≡ Some f.1) (fields_at σ (fields_of b.value))) (λ j. with_labels (q.0 j) (q.1 j)) h.fields) in
+      field-found σ (fields_of b.value) (with_labels (label_list ls.value) (map σ kids.items)) m.label m.kid m.field
+      (subst (λ n. AllByRecursion (λ f. lookup f.0 n ≡ Some f.1) (fields_at σ (fields_of b.value))) (λ j. with_labels (q.0 j) (q.1 j)) h.fields) in
       let none : lookup m.label (with_labels (label_list ls.value) (map σ kids.items)) ≡ None =
-          ap (lookup m.label) (labels-map σ (label_list ls.value) kids.items) ∙ (sym (lookup-at σ m.label (with_labels (label_list ls.value) kids.items)) ∙ ap (option_map σ) m.none) in
+      ap (lookup m.label) (labels-map σ (label_list ls.value) kids.items) ∙ (sym (lookup-at σ m.label (with_labels (label_list ls.value) kids.items)) ∙ ap (option_map σ) m.none) in
       none-some (σ m.kid) (sym none ∙ found)
 
 pub joins-turned : (a b c : Node) (ps qs : List (ℕ × ℕ)) → Joins a b c ps qs → Joins b a c ps qs

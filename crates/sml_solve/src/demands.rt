@@ -43,6 +43,7 @@ pub(crate) fn equate(
     ensures met { OnOk result ((l : Layer) → CanMeet l (asked_of (maker_of unit) unknowns.now graph.old false) (equal (type_of left.now) (type_of right.now))) }
     ensures unmet { (l : Layer) → result ≡ Err (Refusal.Unmet l) → IsFirstUnmet l (asked_of (maker_of unit) unknowns.now graph.old false) (equal (type_of left.now) (type_of right.now)) }
     ensures spent { result ≡ Err Refusal.Spent → ⊥ }
+    ensures labels { result ≡ Err Refusal.Labels → ⊥ }
 {
     let Ok(first) = add(alloc, graph, unknowns, left) else {
         return Err(Refusal::Memory);
@@ -197,6 +198,7 @@ pub(crate) fn impose(
     ensures met { OnOk result ((l : Layer) → CanMeet l (asked_of (maker_of unit) unknowns.now graph.old false) (asks ask (type_of ty.now))) }
     ensures unmet { (l : Layer) → result ≡ Err (Refusal.Unmet l) → IsFirstUnmet l (asked_of (maker_of unit) unknowns.now graph.old false) (asks ask (type_of ty.now)) }
     ensures spent { result ≡ Err Refusal.Spent → ⊥ }
+    ensures labels { result ≡ Err Refusal.Labels → ⊥ }
 {
     let Ok(at) = add(alloc, graph, unknowns, ty) else {
         return Err(Refusal::Memory);

@@ -108,6 +108,7 @@ impl Solver {
         ensures err { OnErr result (self.new.spent ≡ true) }
         ensures unmet { (l : Layer) → result ≡ Err (Refusal.Unmet l) → ⊥ }
         ensures spent { result ≡ Err Refusal.Spent ↔ self.old.spent ≡ true }
+        ensures labels { result ≡ Err Refusal.Labels → ⊥ }
     {
         if self.spent {
             return Err(Refusal::Spent);
@@ -147,6 +148,7 @@ impl Solver {
         ensures err { OnErr result (self.new.spent ≡ true) }
         ensures unmet { (l : Layer) → result ≡ Err (Refusal.Unmet l) → ⊥ }
         ensures spent { result ≡ Err Refusal.Spent ↔ self.old.spent ≡ true }
+        ensures labels { result ≡ Err Refusal.Labels → ⊥ }
     {
         if self.spent {
             return Err(Refusal::Spent);
@@ -166,8 +168,8 @@ impl Solver {
     }
 
     /// The size of the type that a type stands for: the number of its variables, arrows, rows and applied names, where
-    /// each unknown that is left counts as one. One more than the limit where they are more. The time taken beyond the
-    /// type's own size grows with the limit.
+    /// each unknown that is left counts as one, with the fields asked for where it is a flexible row. One more than the
+    /// limit where they are more. The time taken beyond the type's own size grows with the limit.
     pub fn size_up_to(&mut self, ty: &MlType, limit: u32) -> Result<u32, Refusal>
         requires known { IsOf self.old (type_of ty.now) }
         requires small { limit + 1 < 2 ^ 32 }
@@ -179,6 +181,7 @@ impl Solver {
         ensures err { OnErr result (self.new.spent ≡ true) }
         ensures unmet { (l : Layer) → result ≡ Err (Refusal.Unmet l) → ⊥ }
         ensures spent { result ≡ Err Refusal.Spent ↔ self.old.spent ≡ true }
+        ensures labels { result ≡ Err Refusal.Labels → ⊥ }
     {
         if self.spent {
             return Err(Refusal::Spent);
@@ -228,6 +231,7 @@ impl Solver {
         ensures err { OnErr result (self.new.spent ≡ true) }
         ensures unmet { (l : Layer) → result ≡ Err (Refusal.Unmet l) → ⊥ }
         ensures spent { result ≡ Err Refusal.Spent ↔ self.old.spent ≡ true }
+        ensures labels { result ≡ Err Refusal.Labels → ⊥ }
     {
         if self.spent {
             return Err(Refusal::Spent);
@@ -245,7 +249,8 @@ impl Solver {
     }
 
     /// A flag for each unknown that the types of the first unknowns and of others fix, so that it stands in the context of
-    /// what is made behind these. Of the unknowns that by the equations may be any type, no others have one.
+    /// what is made behind these. Of the unknowns that by the equations may be any type, or are flexible rows, no others
+    /// have one.
     pub fn fixed_by(&mut self, first: usize, others: &[u32]) -> Result<Vec<bool>, Refusal>
         requires first { first ≤ count self.old }
         requires others { AllByRecursion (λ w. w < count self.old) others.now }
@@ -257,6 +262,7 @@ impl Solver {
         ensures err { OnErr result (self.new.spent ≡ true) }
         ensures unmet { (l : Layer) → result ≡ Err (Refusal.Unmet l) → ⊥ }
         ensures spent { result ≡ Err Refusal.Spent ↔ self.old.spent ≡ true }
+        ensures labels { result ≡ Err Refusal.Labels → ⊥ }
     {
         if self.spent {
             return Err(Refusal::Spent);
@@ -286,6 +292,7 @@ impl Solver {
         ensures unit { self.new.unit ≡ self.old.unit }
         ensures err { OnErr result (self.new.spent ≡ true) }
         ensures spent { result ≡ Err Refusal.Spent ↔ self.old.spent ≡ true }
+        ensures labels { result ≡ Err Refusal.Labels → ⊥ }
     {
         match self.fixed_by(first, others) {
             Err(refusal) => Err(refusal),
@@ -377,6 +384,7 @@ impl Solver {
         ensures err { OnErr result (self.new.spent ≡ true) }
         ensures unmet { (l : Layer) → result ≡ Err (Refusal.Unmet l) → ⊥ }
         ensures spent { result ≡ Err Refusal.Spent ↔ self.old.spent ≡ true }
+        ensures labels { result ≡ Err Refusal.Labels → ⊥ }
     {
         if self.spent {
             return Err(Refusal::Spent);
@@ -394,8 +402,8 @@ impl Solver {
     }
 
     /// The scheme of a type whose variables may be bound unless the phrase is expansive, or `None` where it has more nodes
-    /// than the limit. The unknowns with a flag are fixed, and stay. An unknown that is still overloaded is bound like any
-    /// other, so `settle` comes before. The time taken beyond the type's own size grows with the limit. A number that no
+    /// than the limit. The unknowns with a flag are fixed, and stay, and so do flexible rows. An unknown that is still
+    /// overloaded is bound like any other, so `settle` comes before. The time taken beyond the type's own size grows with the limit. A number that no
     /// `u32` holds counts as want of memory.
     pub fn generalise(
         &mut self,
@@ -418,6 +426,7 @@ impl Solver {
         ensures err { OnErr result (self.new.spent ≡ true) }
         ensures unmet { (l : Layer) → result ≡ Err (Refusal.Unmet l) → ⊥ }
         ensures spent { result ≡ Err Refusal.Spent ↔ self.old.spent ≡ true }
+        ensures labels { result ≡ Err Refusal.Labels → ⊥ }
     {
         match self.reading(ty, limit) {
             Err(refusal) => Err(refusal),
@@ -441,6 +450,7 @@ impl Solver {
         ensures unit { self.new.unit ≡ self.old.unit }
         ensures err { OnErr result (self.new.spent ≡ true) }
         ensures spent { result ≡ Err Refusal.Spent ↔ self.old.spent ≡ true }
+        ensures labels { result ≡ Err Refusal.Labels → ⊥ }
     {
         if self.spent {
             return Err(Refusal::Spent);
@@ -519,6 +529,7 @@ impl Solver {
         ensures unit { self.new.unit ≡ self.old.unit }
         ensures err { OnErr result (self.new.spent ≡ true) }
         ensures spent { result ≡ Err Refusal.Spent ↔ self.old.spent ≡ true }
+        ensures labels { result ≡ Err Refusal.Labels → ⊥ }
     {
         self.require(ty, Ask::Within(bound, most))
     }
@@ -534,6 +545,7 @@ impl Solver {
         ensures unit { self.new.unit ≡ self.old.unit }
         ensures err { OnErr result (self.new.spent ≡ true) }
         ensures spent { result ≡ Err Refusal.Spent ↔ self.old.spent ≡ true }
+        ensures labels { result ≡ Err Refusal.Labels → ⊥ }
     {
         self.require(ty, Ask::Equality)
     }
@@ -549,6 +561,7 @@ impl Solver {
         ensures unit { self.new.unit ≡ self.old.unit }
         ensures err { OnErr result (self.new.spent ≡ true) }
         ensures spent { result ≡ Err Refusal.Spent ↔ self.old.spent ≡ true }
+        ensures labels { result ≡ Err Refusal.Labels → ⊥ }
     {
         self.require(ty, Ask::Class(class))
     }
@@ -564,6 +577,7 @@ impl Solver {
         ensures unit { self.new.unit ≡ self.old.unit }
         ensures err { OnErr result (self.new.spent ≡ true) }
         ensures spent { result ≡ Err Refusal.Spent ↔ self.old.spent ≡ true }
+        ensures labels { result ≡ Err Refusal.Labels → ⊥ }
     {
         self.require(ty, Ask::Variable(variable))
     }
@@ -579,6 +593,7 @@ impl Solver {
         ensures unit { self.new.unit ≡ self.old.unit }
         ensures err { OnErr result (self.new.spent ≡ true) }
         ensures spent { result ≡ Err Refusal.Spent ↔ self.old.spent ≡ true }
+        ensures labels { result ≡ Err Refusal.Labels → ⊥ }
     {
         if self.spent {
             return Err(Refusal::Spent);
@@ -675,6 +690,7 @@ fn settle_one(solver: &mut Solver, unknown: u32) -> Result<(), Refusal>
     ensures err { OnErr result (solver.new.spent ≡ true) }
     ensures unmet { (l : Layer) → result ≡ Err (Refusal.Unmet l) → ⊥ }
     ensures spent { result ≡ Err Refusal.Spent → ⊥ }
+    ensures labels { result ≡ Err Refusal.Labels → ⊥ }
 {
     match solver.is_overloaded(unknown) {
         Err(refusal) => Err(refusal),
@@ -696,6 +712,7 @@ fn add_unknowns(solver: &mut Solver, number: usize) -> Result<(), Refusal>
     ensures err { OnErr result (solver.new.spent ≡ true) }
     ensures unmet { (l : Layer) → result ≡ Err (Refusal.Unmet l) → ⊥ }
     ensures spent { result ≡ Err Refusal.Spent → ⊥ }
+    ensures labels { result ≡ Err Refusal.Labels → ⊥ }
 {
     let mut made = 0;
     while made < number {

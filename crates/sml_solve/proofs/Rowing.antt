@@ -204,13 +204,13 @@ module _ {X : Type 0} (l : Id) (x : X) where
   set-same (e ∷ m) r h = by_label e m (λ n. n ≡ e ∷ m)
       (λ q. absurd (none-some x (sym (none-below (e ∷ m) (q, all-less e.0 (labels_in m) q r.0)) ∙ h)))
       (λ q.
-          let s = label-exact l e.0 q in
-          let f : Some e.1 ≡ Some x = sym (lookup-here l e m s) ∙ h in
-          let g : e.1 ≡ x = cc in
-          λ i. (s i, sym g i) ∷ m)
+      let s = label-exact l e.0 q in
+      let f : Some e.1 ≡ Some x = sym (lookup-here l e m s) ∙ h in
+      let g : e.1 ≡ x = cc in
+      λ i. (s i, sym g i) ∷ m)
       (λ q.
-          let d : l ≡ e.0 → ⊥ = λ s. let f : Greater ≡ Equal = sym q ∙ subst (λ k. label_order l k ≡ Equal) s (own_label l) in cc in
-          ap (λ n. e ∷ n) (set-same m r.1 (sym (lookup-there l e m d) ∙ h)))
+      let d : l ≡ e.0 → ⊥ = λ s. let f : Greater ≡ Equal = sym q ∙ subst (λ k. label_order l k ≡ Equal) s (own_label l) in cc in
+      ap (λ n. e ∷ n) (set-same m r.1 (sym (lookup-there l e m d) ∙ h)))
 
   all-set : (P : X → Type 0) (m : Map X) → P x → AllByRecursion P (values_in m) → AllByRecursion P (values_in (set_field l x m))
   all-set P [] p a = (p, tt)

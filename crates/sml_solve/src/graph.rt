@@ -90,6 +90,7 @@ pub(crate) fn merge_two(
     ensures unmet { (l : Layer) → result ≡ Err (Refusal.Unmet l) → l ≡ Layer.Equations }
     ensures clash { (l : Layer) → result ≡ Err (Refusal.Unmet l) → (w : World) (σ : Assignment w) → Meets w nodes.old.items σ → σ left ≡ σ right → ⊥ }
     ensures spent { result ≡ Err Refusal.Spent → ⊥ }
+    ensures labels { result ≡ Err Refusal.Labels → ⊥ }
 {
     let mut changed = Vec::new(alloc);
     let mut pending = Vec::new(alloc);
@@ -137,6 +138,7 @@ pub(crate) fn finish(
     ensures ok { OnOk result (Finishes (maker_of unit) graph.old graph.new) }
     ensures unmet { (l : Layer) → result ≡ Err (Refusal.Unmet l) → FailsAt l (maker_of unit) graph.old }
     ensures spent { result ≡ Err Refusal.Spent → ⊥ }
+    ensures labels { result ≡ Err Refusal.Labels → ⊥ }
 {
     let nodes = graph.nodes.as_slice();
     let orders = graph.orders.as_mut_slice();

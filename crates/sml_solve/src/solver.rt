@@ -1,8 +1,5 @@
 //! The solver: what a declaration asks of its unknown types.
 
-ghost use Rattle.sml_objects.specs.contracts.labels.Labels as labels;
-ghost use Rattle.sml_solve.specs.contracts.fields.Fields as fields;
-ghost use Rattle.std.specs.Coded.{codes};
 ghost use Rattle.std.specs.Prelude.{◌≡◌, ℕ, ◌↔◌, ◌+◌, ◌^◌, ◌<◌, ◌≤◌, true, false, length, IfOk, OnOk, OnErr, Err};
 ghost use Rattle.std.specs.Bool.{OnTrue, OnFalse};
 ghost use Rattle.std.specs.Coded.{codes};
@@ -19,11 +16,12 @@ ghost use Rattle.sml_solve.specs.contracts.fields.Fields as fields;
 ghost use Rattle.sml_solve.specs.declared.layer.Layer.{Layer};
 ghost use Rattle.sml_solve.specs.declared.layer.Layer.TheVariants.{Finiteness, Rigidity};
 ghost use Rattle.sml_solve.specs.Worlds.{finite, Assignment};
-ghost use Rattle.sml_solve.specs.Asked.{Asked, asked_of, equal, asks, count, IsOf, IsSchemeOf, Adds, CanMeet, IsFirstUnmet, IsMet, Permits, PermitsSame};
+ghost use Rattle.sml_solve.specs.Asked.{Asked, asked_of, equal, has_fields, asks, count, IsOf, IsSchemeOf, Adds, CanMeet, IsFirstUnmet, IsMet, Permits, PermitsSame};
 ghost use Rattle.sml_solve.specs.Clashes.{IsUnmetWhereItClashes};
 ghost use Rattle.sml_solve.specs.Counted.{IsSizeUpTo};
 ghost use Rattle.sml_solve.specs.Fixed.{AreFixed, IsFixed};
 ghost use Rattle.sml_solve.specs.Graphs.{IsAmong};
+ghost use Rattle.sml_solve.specs.Interned.{demanded};
 ghost use Rattle.sml_solve.specs.Left.{HasOneSetOfLabels, IsFree, IsLeft, IsMadeOf, IsReading, IsMostGeneral};
 ghost use Rattle.sml_solve.specs.Levels.{IsKeptWith};
 ghost use Rattle.sml_solve.specs.Schemes.{GiveOneScheme, HasOneScheme, IsScheme, IsSchemeOfReading};
@@ -32,7 +30,7 @@ ghost use Rattle.sml_solve.specs.Overloaded.{IsOverloaded, Settles};
 use crate::class::Class;
 use crate::closing::closed;
 use crate::count::size_from;
-use crate::demands::{equate, impose};
+use crate::demands::{ask_row, equate, impose};
 use crate::graph::{Graph, add, fill};
 use crate::layer::{Ask, Bound, Layer, Refusal};
 use crate::levels::{begin_level, by_level, hand_levels_on, held_unknowns};
@@ -45,6 +43,7 @@ use crate::variable::Variable;
 use sml_lex::fault::Memory;
 use sml_objects::objects::{Initial, MlType, Scheme, TyName, UnitId};
 use sml_objects::schemes::instantiate;
+use sml_tree::bare::Ident;
 use std::alloc::Global;
 use std::marker::Model;
 use std::mem;
@@ -109,6 +108,7 @@ impl Solver {
         ensures err { OnErr result (self.new.spent ≡ true) }
         ensures unmet { (l : Layer) → result ≡ Err (Refusal.Unmet l) → ⊥ }
         ensures spent { result ≡ Err Refusal.Spent ↔ self.old.spent ≡ true }
+        ensures labels { result ≡ Err Refusal.Labels → ⊥ }
     {
         if self.spent {
             return Err(Refusal::Spent);
@@ -148,6 +148,7 @@ impl Solver {
         ensures err { OnErr result (self.new.spent ≡ true) }
         ensures unmet { (l : Layer) → result ≡ Err (Refusal.Unmet l) → ⊥ }
         ensures spent { result ≡ Err Refusal.Spent ↔ self.old.spent ≡ true }
+        ensures labels { result ≡ Err Refusal.Labels → ⊥ }
     {
         if self.spent {
             return Err(Refusal::Spent);
@@ -167,8 +168,8 @@ impl Solver {
     }
 
     /// The size of the type that a type stands for: the number of its variables, arrows, rows and applied names, where
-    /// each unknown that is left counts as one. One more than the limit where they are more. The time taken beyond the
-    /// type's own size grows with the limit.
+    /// each unknown that is left counts as one, with the fields asked for where it is a flexible row. One more than the
+    /// limit where they are more. The time taken beyond the type's own size grows with the limit.
     pub fn size_up_to(&mut self, ty: &MlType, limit: u32) -> Result<u32, Refusal>
         requires known { IsOf self.old (type_of ty.now) }
         requires small { limit + 1 < 2 ^ 32 }
@@ -180,6 +181,7 @@ impl Solver {
         ensures err { OnErr result (self.new.spent ≡ true) }
         ensures unmet { (l : Layer) → result ≡ Err (Refusal.Unmet l) → ⊥ }
         ensures spent { result ≡ Err Refusal.Spent ↔ self.old.spent ≡ true }
+        ensures labels { result ≡ Err Refusal.Labels → ⊥ }
     {
         if self.spent {
             return Err(Refusal::Spent);
@@ -229,6 +231,7 @@ impl Solver {
         ensures err { OnErr result (self.new.spent ≡ true) }
         ensures unmet { (l : Layer) → result ≡ Err (Refusal.Unmet l) → ⊥ }
         ensures spent { result ≡ Err Refusal.Spent ↔ self.old.spent ≡ true }
+        ensures labels { result ≡ Err Refusal.Labels → ⊥ }
     {
         if self.spent {
             return Err(Refusal::Spent);
@@ -246,7 +249,8 @@ impl Solver {
     }
 
     /// A flag for each unknown that the types of the first unknowns and of others fix, so that it stands in the context of
-    /// what is made behind these. Of the unknowns that by the equations may be any type, no others have one.
+    /// what is made behind these. Of the unknowns that by the equations may be any type, or are flexible rows, no others
+    /// have one.
     pub fn fixed_by(&mut self, first: usize, others: &[u32]) -> Result<Vec<bool>, Refusal>
         requires first { first ≤ count self.old }
         requires others { AllByRecursion (λ w. w < count self.old) others.now }
@@ -258,6 +262,7 @@ impl Solver {
         ensures err { OnErr result (self.new.spent ≡ true) }
         ensures unmet { (l : Layer) → result ≡ Err (Refusal.Unmet l) → ⊥ }
         ensures spent { result ≡ Err Refusal.Spent ↔ self.old.spent ≡ true }
+        ensures labels { result ≡ Err Refusal.Labels → ⊥ }
     {
         if self.spent {
             return Err(Refusal::Spent);
@@ -287,6 +292,7 @@ impl Solver {
         ensures unit { self.new.unit ≡ self.old.unit }
         ensures err { OnErr result (self.new.spent ≡ true) }
         ensures spent { result ≡ Err Refusal.Spent ↔ self.old.spent ≡ true }
+        ensures labels { result ≡ Err Refusal.Labels → ⊥ }
     {
         match self.fixed_by(first, others) {
             Err(refusal) => Err(refusal),
@@ -378,6 +384,7 @@ impl Solver {
         ensures err { OnErr result (self.new.spent ≡ true) }
         ensures unmet { (l : Layer) → result ≡ Err (Refusal.Unmet l) → ⊥ }
         ensures spent { result ≡ Err Refusal.Spent ↔ self.old.spent ≡ true }
+        ensures labels { result ≡ Err Refusal.Labels → ⊥ }
     {
         if self.spent {
             return Err(Refusal::Spent);
@@ -395,8 +402,8 @@ impl Solver {
     }
 
     /// The scheme of a type whose variables may be bound unless the phrase is expansive, or `None` where it has more nodes
-    /// than the limit. The unknowns with a flag are fixed, and stay. An unknown that is still overloaded is bound like any
-    /// other, so `settle` comes before. The time taken beyond the type's own size grows with the limit. A number that no
+    /// than the limit. The unknowns with a flag are fixed, and stay, and so do flexible rows. An unknown that is still
+    /// overloaded is bound like any other, so `settle` comes before. The time taken beyond the type's own size grows with the limit. A number that no
     /// `u32` holds counts as want of memory.
     pub fn generalise(
         &mut self,
@@ -419,6 +426,7 @@ impl Solver {
         ensures err { OnErr result (self.new.spent ≡ true) }
         ensures unmet { (l : Layer) → result ≡ Err (Refusal.Unmet l) → ⊥ }
         ensures spent { result ≡ Err Refusal.Spent ↔ self.old.spent ≡ true }
+        ensures labels { result ≡ Err Refusal.Labels → ⊥ }
     {
         match self.reading(ty, limit) {
             Err(refusal) => Err(refusal),
@@ -442,6 +450,7 @@ impl Solver {
         ensures unit { self.new.unit ≡ self.old.unit }
         ensures err { OnErr result (self.new.spent ≡ true) }
         ensures spent { result ≡ Err Refusal.Spent ↔ self.old.spent ≡ true }
+        ensures labels { result ≡ Err Refusal.Labels → ⊥ }
     {
         if self.spent {
             return Err(Refusal::Spent);
@@ -466,6 +475,48 @@ impl Solver {
         }
     }
 
+    /// Demands that a type is a row that has some fields, and perhaps others (the Definition, section 4.7): U1, U2, U3, E6,
+    /// U4, U5 or U7 where it can't be.
+    pub fn require_row(
+        &mut self,
+        ty: &MlType,
+        fields: &[(Ident, Rc<MlType>)],
+    ) -> Result<(), Refusal>
+        requires ty { IsOf self.old (type_of ty.now) }
+        requires fields { AllByRecursion (λ f. IsOf self.old f.1) (demanded fields.now) }
+        ensures ok { OnOk result (Adds self.old (has_fields (type_of ty.now) (demanded fields.now)) self.new) }
+        ensures met { OnOk result ((l : Layer) → CanMeet l self.old (has_fields (type_of ty.now) (demanded fields.now))) }
+        ensures unmet { (l : Layer) → result ≡ Err (Refusal.Unmet l) → IsFirstUnmet l self.old (has_fields (type_of ty.now) (demanded fields.now)) }
+        ensures count { count self.new ≡ count self.old }
+        ensures kept { OnOk result (self.new.spent ≡ false) }
+        ensures unit { self.new.unit ≡ self.old.unit }
+        ensures err { OnErr result (self.new.spent ≡ true) }
+        ensures labels { result ≡ Err Refusal.Labels → ⊥ }
+        ensures spent { result ≡ Err Refusal.Spent ↔ self.old.spent ≡ true }
+    {
+        if self.spent {
+            return Err(Refusal::Spent);
+        }
+        self.spent = true;
+        match ask_row(
+            self.alloc,
+            self.unit,
+            &mut self.graph,
+            self.unknowns.as_slice(),
+            ty,
+            fields,
+        ) {
+            Ok(changed) => {
+                if let Err(_) = self.left.extend_from_slice(changed.as_slice()) {
+                    return Err(Refusal::Memory);
+                }
+                self.spent = false;
+                Ok(())
+            }
+            Err(refusal) => Err(refusal),
+        }
+    }
+
     /// Demands that a type mentions no name that the unit made with the number given or a higher one: U3 or E6, by the
     /// bound, where it can't be met.
     pub fn require_within(&mut self, ty: &MlType, bound: Bound, most: u32) -> Result<(), Refusal>
@@ -478,6 +529,7 @@ impl Solver {
         ensures unit { self.new.unit ≡ self.old.unit }
         ensures err { OnErr result (self.new.spent ≡ true) }
         ensures spent { result ≡ Err Refusal.Spent ↔ self.old.spent ≡ true }
+        ensures labels { result ≡ Err Refusal.Labels → ⊥ }
     {
         self.require(ty, Ask::Within(bound, most))
     }
@@ -493,6 +545,7 @@ impl Solver {
         ensures unit { self.new.unit ≡ self.old.unit }
         ensures err { OnErr result (self.new.spent ≡ true) }
         ensures spent { result ≡ Err Refusal.Spent ↔ self.old.spent ≡ true }
+        ensures labels { result ≡ Err Refusal.Labels → ⊥ }
     {
         self.require(ty, Ask::Equality)
     }
@@ -508,6 +561,7 @@ impl Solver {
         ensures unit { self.new.unit ≡ self.old.unit }
         ensures err { OnErr result (self.new.spent ≡ true) }
         ensures spent { result ≡ Err Refusal.Spent ↔ self.old.spent ≡ true }
+        ensures labels { result ≡ Err Refusal.Labels → ⊥ }
     {
         self.require(ty, Ask::Class(class))
     }
@@ -523,6 +577,7 @@ impl Solver {
         ensures unit { self.new.unit ≡ self.old.unit }
         ensures err { OnErr result (self.new.spent ≡ true) }
         ensures spent { result ≡ Err Refusal.Spent ↔ self.old.spent ≡ true }
+        ensures labels { result ≡ Err Refusal.Labels → ⊥ }
     {
         self.require(ty, Ask::Variable(variable))
     }
@@ -538,6 +593,7 @@ impl Solver {
         ensures unit { self.new.unit ≡ self.old.unit }
         ensures err { OnErr result (self.new.spent ≡ true) }
         ensures spent { result ≡ Err Refusal.Spent ↔ self.old.spent ≡ true }
+        ensures labels { result ≡ Err Refusal.Labels → ⊥ }
     {
         if self.spent {
             return Err(Refusal::Spent);
@@ -634,6 +690,7 @@ fn settle_one(solver: &mut Solver, unknown: u32) -> Result<(), Refusal>
     ensures err { OnErr result (solver.new.spent ≡ true) }
     ensures unmet { (l : Layer) → result ≡ Err (Refusal.Unmet l) → ⊥ }
     ensures spent { result ≡ Err Refusal.Spent → ⊥ }
+    ensures labels { result ≡ Err Refusal.Labels → ⊥ }
 {
     match solver.is_overloaded(unknown) {
         Err(refusal) => Err(refusal),
@@ -655,6 +712,7 @@ fn add_unknowns(solver: &mut Solver, number: usize) -> Result<(), Refusal>
     ensures err { OnErr result (solver.new.spent ≡ true) }
     ensures unmet { (l : Layer) → result ≡ Err (Refusal.Unmet l) → ⊥ }
     ensures spent { result ≡ Err Refusal.Spent → ⊥ }
+    ensures labels { result ≡ Err Refusal.Labels → ⊥ }
 {
     let mut made = 0;
     while made < number {

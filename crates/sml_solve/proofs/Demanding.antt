@@ -43,7 +43,7 @@ keeps-agree l u n ls τ υ len e k i =
 keeps-as : (l : Layer) (u : ℕ) (ks ls : List Limit) (τ : Assignment finite) → ((i : ℕ) → limit_at ls i ≡ limit_at ks i) → KeepsAt l u ks τ → KeepsAt l u ls τ
 keeps-as l u ks ls τ e k i = rw (e i) (k i)
 
-upto-agree : (l : Layer) (u n : ℕ) (ls : List Limit) (τ υ : Assignment (world l)) → length ls ≡ n → ((i : ℕ) → i < n → υ i ≡ τ i) → KeepsUpTo l u ls τ → KeepsUpTo l u ls υ
+pub upto-agree : (l : Layer) (u n : ℕ) (ls : List Limit) (τ υ : Assignment (world l)) → length ls ≡ n → ((i : ℕ) → i < n → υ i ≡ τ i) → KeepsUpTo l u ls τ → KeepsUpTo l u ls υ
 upto-agree Equations u n ls τ υ a e k = tt
 upto-agree Finiteness u n ls τ υ a e k = λ j h. keeps-agree j u n ls τ υ a e (k j h)
 upto-agree Newness u n ls τ υ a e k = λ j h. keeps-agree j u n ls τ υ a e (k j h)
@@ -52,7 +52,7 @@ upto-agree Equality u n ls τ υ a e k = λ j h. keeps-agree j u n ls τ υ a e 
 upto-agree Classes u n ls τ υ a e k = λ j h. keeps-agree j u n ls τ υ a e (k j h)
 upto-agree Rigidity u n ls τ υ a e k = λ j h. keeps-agree j u n ls τ υ a e (k j h)
 
-upto-as : (l : Layer) (u : ℕ) (ks ls : List Limit) (τ : Assignment (world l)) → ((i : ℕ) → limit_at ls i ≡ limit_at ks i) → KeepsUpTo l u ks τ → KeepsUpTo l u ls τ
+pub upto-as : (l : Layer) (u : ℕ) (ks ls : List Limit) (τ : Assignment (world l)) → ((i : ℕ) → limit_at ls i ≡ limit_at ks i) → KeepsUpTo l u ks τ → KeepsUpTo l u ls τ
 upto-as Equations u ks ls τ e k = tt
 upto-as Finiteness u ks ls τ e k = λ j h. keeps-as j u ks ls τ e (k j h)
 upto-as Newness u ks ls τ e k = λ j h. keeps-as j u ks ls τ e (k j h)

@@ -12,6 +12,7 @@ pub mod Ordering
 pub mod Walks
 pub mod Wholeness
 pub mod Demanding
+pub mod Shaping
 pub mod Counting
 pub mod Retrieving
 pub mod Owning

@@ -182,13 +182,13 @@ pub fields-append : {A B : Type 0} (g : A → B) (fs hs : List (Id × A)) → fi
 fields-append g [] hs = refl
 fields-append g (f ∷ fs) hs = ap (λ xs. (f.0, g f.1) ∷ xs) (fields-append g fs hs)
 
-field-same : (w : World) (σ : Assignment w) (t : In w) (hs : List (Id × ℕ)) (l : Id) (k j : ℕ) → HasFields w t (fields_at σ hs) → IsField l k hs → HasFields w t ((l, σ j) ∷ []) → σ k ≡ σ j
+pub field-same : (w : World) (σ : Assignment w) (t : In w) (hs : List (Id × ℕ)) (l : Id) (k j : ℕ) → HasFields w t (fields_at σ hs) → IsField l k hs → HasFields w t ((l, σ j) ∷ []) → σ k ≡ σ j
 field-same w σ t hs l k j h f g =
     let a : lookup l (with_labels h.labels h.types) ≡ Some (σ k) = field-found σ hs (with_labels h.labels h.types) l k f h.fields in
     let b : lookup l (with_labels h.labels h.types) ≡ Some (σ j) = (fields-known w t (fields_at σ hs) ((l, σ j) ∷ []) h g).0 in
     same-some (σ k) (σ j) (sym a ∙ b)
 
-field-there : (w : World) (σ : Assignment w) (t : In w) (hs : List (Id × ℕ)) (l : Id) (k j : ℕ) → HasFields w t (fields_at σ hs) → IsField l k hs → σ k ≡ σ j → HasFields w t ((l, σ j) ∷ [])
+pub field-there : (w : World) (σ : Assignment w) (t : In w) (hs : List (Id × ℕ)) (l : Id) (k j : ℕ) → HasFields w t (fields_at σ hs) → IsField l k hs → σ k ≡ σ j → HasFields w t ((l, σ j) ∷ [])
 field-there w σ t hs l k j h f e =
     has-these w t (fields_at σ hs) ((l, σ j) ∷ []) h (field-found σ hs (with_labels h.labels h.types) l k f h.fields ∙ ap (λ x. Some x) e, tt)
 
@@ -201,7 +201,7 @@ fields-none fs ps = record {
   same = λ w σ t. (λ m. (m.0, tt), λ m. (m.0, has-these w t (fields_at σ fs) [] m.0 tt));
 }
 
-kids-more : (fs : List (Id × ℕ)) (f : Id × ℕ) → kids_of (fs ++ f ∷ []) ≡ kids_of fs ++ f.1 ∷ []
+pub kids-more : (fs : List (Id × ℕ)) (f : Id × ℕ) → kids_of (fs ++ f ∷ []) ≡ kids_of fs ++ f.1 ∷ []
 kids-more [] f = refl
 kids-more (g ∷ fs) f = ap (λ ks. g.1 ∷ ks) (kids-more fs f)
 
@@ -209,7 +209,7 @@ inside-front : (n : ℕ) (fs : List (Id × ℕ)) (f : Id × ℕ) → AllByRecurs
 inside-front n [] f a = (tt, a.0)
 inside-front n (g ∷ fs) f a = let r = inside-front n fs f a.1 in ((a.0, r.0), r.1)
 
-inside-field : (n : ℕ) (fs : List (Id × ℕ)) (l : Id) (k : ℕ) → AllByRecursion (λ k. k < n) (kids_of fs) → IsField l k fs → k < n
+pub inside-field : (n : ℕ) (fs : List (Id × ℕ)) (l : Id) (k : ℕ) → AllByRecursion (λ k. k < n) (kids_of fs) → IsField l k fs → k < n
 inside-field n [] l k a h = absurd h
 inside-field n (f ∷ fs) l k a h = elim h [ inl q ↦ rw q.1 a.0 | inr r ↦ inside-field n fs l k a.1 r ]
 

@@ -1,11 +1,12 @@
 -- When a body becomes a type, phrase by phrase.
-use Rattle.std.proofs.Common.{◌≡◌, ℕ, Bool, true, false, Result, Ok, Err, IfOk, Option, Some, None, List, [], ◌∷◌, ◌++◌, map, length, take, suc, decimal, nat_eq, cond, refl, ap, sym, subst, ◌∙◌, ◌↔◌, Vec, Global}
+use Rattle.std.proofs.Common.{◌≡◌, ℕ, Bool, true, false, Result, Ok, Err, IfOk, Option, Some, None, List, [], ◌∷◌, ◌++◌, map, length, take, nat_eq, cond, refl, ap, sym, subst, ◌∙◌, ◌↔◌, Vec, Global}
 use Rattle.std.proofs.lemmas.Bool.{eqb-true, eqb-false, eq-eqb}
 use Rattle.std.proofs.lemmas.List.{map-append, take-map, length-map}
 use Rattle.std.proofs.lemmas.Option.{none-some}
 use Rattle.std.specs.Map.{lookup}
 use Rattle.std.specs.Option.{option_map}
 use Rattle.std.specs.declared.rc.Rc.{Rc}
+use Rattle.sml_tree.specs.Trees.{Id}
 use Rattle.sml_objects.specs.Objects as O
 use Rattle.sml_objects.specs.declared.objects.MlType.{MlType}
 use Rattle.sml_objects.specs.Initial.{Name}
@@ -78,21 +79,17 @@ pub other_name : (old : Found) (new : Found) (m n : Name) (bs ts : O.MlTypes Nam
 unfolding replace_type
 other_name old new m n bs ts h = λ args a e. h (sym (ap (head_name m) e))
 
-labels_replaced : (args : Args) (k : ℕ) (bs : O.MlTypes Name) → O.labels_of k (replace_types args O.free bs) ≡ O.labels_of k bs
-unfolding replace_types
-labels_replaced args k O.no_type = refl
-labels_replaced args k (O.and_type b bs) = ap (λ ls. decimal k ∷ ls) (labels_replaced args (suc k) bs)
+pub fits_row : (old new : Found) (ls ms : List Id) (bs ts : O.MlTypes Name) (b : Bool) → ls ≡ ms → FitAll old new bs ts b → Fits old new (O.app (O.row ls) bs) (O.app (O.row ms) ts) b
+fits_row old new ls ms bs ts true e f = subst (λ ks. Fits old new (O.app (O.row ls) bs) (O.app (O.row ks) ts) true) e (app_true old new (O.row ls) bs ts f)
+fits_row old new ls ms bs ts false e f = app_false old new (O.row ls) (O.row ms) bs ts f
 
-pub fits_row : (old new : Found) (bs ts : O.MlTypes Name) (b : Bool) → FitAll old new bs ts b → Fits old new (O.tuple_of bs) (O.tuple_of ts) b
-unfolding replace_type IsOpen
-fits_row old new bs ts true (f, o) = (
-  λ args. (
-    λ a. let p = (f args).0 a in (p.0, ap O.tuple_of p.1 ∙ ap (λ ls. O.app (O.row ls) (replace_types args O.free bs)) (labels_replaced args 1 bs)),
-    λ p. (f args).1 (p.0, ap parts p.1),
-  ),
-  o,
-)
-fits_row old new bs ts false f = λ args a e. f args a (ap parts e)
+abbrev head_labels : List Id → O.MlType Name → List Id
+head_labels ls (O.app (O.row ms) ts) = ms
+head_labels ls t = ls
+
+pub other_labels : (old new : Found) (ls ms : List Id) (bs ts : O.MlTypes Name) → ¬ (ls ≡ ms) → Fits old new (O.app (O.row ls) bs) (O.app (O.row ms) ts) false
+unfolding replace_type
+other_labels old new ls ms bs ts h = λ args a e. h (sym (ap (head_labels ls) e))
 
 first : O.MlTypes Name → O.MlType Name
 first O.no_type = O.bound 0
@@ -264,10 +261,10 @@ fits_decide old new vs body t false none o f = λ i. f i.0 (λ k u e. absurd (no
 pub on_result : {E : Type 0} (old new : Found) (b c t u : O.MlType Name) (r : Result Bool E) → c ≡ b → u ≡ t → IfOk r (Fits old new b t) → IfOk r (Fits old new c u)
 on_result old new b c t u r h k f = subst (λ v. IfOk r (Fits old new c v)) (sym k) (subst (λ v. IfOk r (Fits old new v t)) (sym h) f)
 
-pub row_result : {E : Type 0} (old new : Found) (bs cs ts us : O.MlTypes Name) (r : Result Bool E) → bs ≡ cs → ts ≡ us → IfOk r (FitAll old new bs ts)
-    → IfOk r (Fits old new (O.tuple_of cs) (O.tuple_of us))
-row_result old new bs cs ts us (Ok b) h k f = fits_row old new cs us b (subst (λ v. FitAll old new cs v b) k (subst (λ v. FitAll old new v ts b) h f))
-row_result old new bs cs ts us (Err e) h k f = tt
+pub row_result : {E : Type 0} (old new : Found) (ls ms : List Id) (bs cs ts us : O.MlTypes Name) (r : Result Bool E) → ls ≡ ms → bs ≡ cs → ts ≡ us → IfOk r (FitAll old new bs ts)
+    → IfOk r (Fits old new (O.app (O.row ls) cs) (O.app (O.row ms) us))
+row_result old new ls ms bs cs ts us (Ok b) e h k f = fits_row old new ls ms cs us b e (subst (λ v. FitAll old new cs v b) k (subst (λ v. FitAll old new v ts b) h f))
+row_result old new ls ms bs cs ts us (Err x) e h k f = tt
 
 pub name_result : {E : Type 0} (old new : Found) (m n : Name) (bs cs ts us : O.MlTypes Name) (r : Result Bool E) → m ≡ n → bs ≡ cs → ts ≡ us → IfOk r (FitAll old new bs ts)
     → IfOk r (Fits old new (O.app (O.name m) cs) (O.app (O.name n) us))

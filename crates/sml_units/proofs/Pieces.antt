@@ -46,15 +46,15 @@ arrow-pieces l b t u e =
     ap (λ x. x ++ opening b (codes ")")) (append_assoc (o ++ p) s q ∙ append_assoc o p (s ++ q))
     ∙ brackets b (p ++ (s ++ q)) ∙ ap (λ b. bracketed b (p ++ (s ++ q))) e
 
-pub unit-pieces : (l : ℕ) (ts : List (O.MlType Name)) → ts ≡ [] → say (codes "unit") ≡ show_type l (row_of ts)
+pub unit-pieces : (l : ℕ) (ls : List Id) (ts : List (O.MlType Name)) → ts ≡ [] → say (codes "unit") ≡ show_type l (row_of ls ts)
 unfolding show_type show_types show_head levels
-unit-pieces l ts e = ap (λ ts. show_type l (row_of ts)) (sym e)
+unit-pieces l ls ts e = ap (λ ts. show_type l (row_of ls ts)) (sym e)
 
-pub row-pieces : (l : ℕ) (b : Bool) (ts : List (O.MlType Name)) → ¬ (ts ≡ []) → b ≡ nat_lt 1 l
-    → bracketed b (joined (codes " * ") (show_types 2 2 (types_of ts))) ≡ show_type l (row_of ts)
+pub row-pieces : (l : ℕ) (b : Bool) (ls : List Id) (ts : List (O.MlType Name)) → ¬ (ts ≡ []) → b ≡ nat_lt 1 l
+    → bracketed b (joined (codes " * ") (show_types 2 2 (types_of ts))) ≡ show_type l (row_of ls ts)
 unfolding show_type show_types show_head levels
-row-pieces l b [] h e = absurd (h refl)
-row-pieces l b (t ∷ ts) h e = ap (λ b. bracketed b (joined (codes " * ") (show_types 2 2 (types_of (t ∷ ts))))) e
+row-pieces l b ls [] h e = absurd (h refl)
+row-pieces l b ls (t ∷ ts) h e = ap (λ b. bracketed b (joined (codes " * ") (show_types 2 2 (types_of (t ∷ ts))))) e
 
 -- whether there are several, and whether there are any
 abbrev pub several : {A : Type 0} → List A → Bool

@@ -1,5 +1,5 @@
 -- Realisations, name by name and variant by variant.
-use Rattle.std.proofs.Common.{◌≡◌, ℕ, suc, Bool, true, false, cond, Option, Some, None, List, [], ◌∷◌, ◌++◌, map, decimal, refl, ap, sym, subst, ◌∙◌, Vec, Global}
+use Rattle.std.proofs.Common.{◌≡◌, ℕ, Bool, true, false, cond, Option, Some, None, List, [], ◌∷◌, ◌++◌, map, refl, ap, sym, subst, ◌∙◌, Vec, Global}
 use Rattle.std.proofs.lemmas.Bool.{true≢false}
 use Rattle.std.specs.Map.{lookup}
 use Rattle.std.specs.Option.{option_map, is_some}
@@ -7,7 +7,8 @@ use Rattle.std.specs.declared.rc.Rc.{Rc}
 use Rattle.sml_objects.specs.Objects as O
 use Rattle.sml_objects.specs.Initial.{Name, naming}
 use Rattle.sml_objects.specs.Types.{applied}
-use Rattle.sml_objects.specs.Views.{type_of, types_of, name_of, scheme_of}
+use Rattle.sml_objects.specs.Views.{type_of, types_of, name_of, scheme_of, label_list}
+use Rattle.sml_objects.specs.declared.labels.Labels.{Labels}
 use Rattle.sml_objects.specs.declared.objects.TyName.{TyName}
 use Rattle.sml_objects.specs.declared.objects.Scheme.{Scheme}
 use Rattle.sml_objects.specs.declared.objects.MlType.{MlType, Bound, Free}
@@ -92,17 +93,10 @@ module _ (φ : Realisation Name) where
   unfolding realise_type
   realised_free v = type_of-free v ∙ sym (ap (realise_type φ) (type_of-free v))
 
-  labels_realised : (k : ℕ) (ts : O.MlTypes Name) → O.labels_of k (realise_types φ ts) ≡ O.labels_of k ts
-  unfolding realise_types
-  labels_realised k O.no_type = refl
-  labels_realised k (O.and_type t ts) = ap (λ ls. decimal k ∷ ls) (labels_realised (suc k) ts)
-
-  pub realised_row : (ts us : Vec (Rc MlType Global) Global) → types_of (parts_of us.items) ≡ realise_types φ (types_of (parts_of ts.items))
-      → type_of (V.Row us) ≡ realise_type φ (type_of (V.Row ts))
+  pub realised_row : (ls ms : Rc Labels Global) (ts us : Vec (Rc MlType Global) Global) → label_list ms.value ≡ label_list ls.value
+      → types_of (parts_of us.items) ≡ realise_types φ (types_of (parts_of ts.items)) → type_of (V.Row ms us) ≡ realise_type φ (type_of (V.Row ls ts))
   unfolding realise_type
-  realised_row ts us h =
-      let same = types_of (parts_of ts.items) in
-      type_of-row us ∙ ap O.tuple_of h ∙ ap (λ ls. O.app (O.row ls) (realise_types φ same)) (labels_realised 1 same) ∙ sym (ap (realise_type φ) (type_of-row ts))
+  realised_row ls ms ts us k h = type_of-row ms us ∙ (λ i. O.app (O.row (k i)) (h i)) ∙ sym (ap (realise_type φ) (type_of-row ls ts))
 
   pub realised_arrow : (t u v w : Rc MlType Global) → type_of v.value ≡ realise_type φ (type_of t.value) → type_of w.value ≡ realise_type φ (type_of u.value)
       → type_of (V.Arrow v w) ≡ realise_type φ (type_of (V.Arrow t u))

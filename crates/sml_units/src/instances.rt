@@ -33,7 +33,12 @@ fn fits(
     match (body, &**ty) {
         (MlType::Bound(variable), _) => fits_variable(found, *variable, ty),
         (MlType::Free(v), MlType::Free(w)) => Ok(v == w),
-        (MlType::Row(bodies), MlType::Row(types)) => all_fit(found, bodies, types),
+        (MlType::Row(labels, bodies), MlType::Row(other_labels, types)) => {
+            if labels.are_same(other_labels) {
+                return all_fit(found, bodies, types);
+            }
+            Ok(false)
+        }
         (MlType::Arrow(from, to), MlType::Arrow(from_type, to_type)) => {
             if fits(found, from, from_type)? {
                 return fits(found, to, to_type);

@@ -43,7 +43,7 @@ impl Realisation {
             MlType::Name(name, _) => self.send(*name, function),
             MlType::Bound(_) => Ok(()),
             MlType::Free(_) => Ok(()),
-            MlType::Row(_) => Ok(()),
+            MlType::Row(_, _) => Ok(()),
             MlType::Arrow(_, _) => Ok(()),
         }
     }
@@ -67,9 +67,10 @@ impl Realisation {
         match ty {
             MlType::Bound(variable) => shared(alloc, MlType::Bound(*variable)),
             MlType::Free(variable) => shared(alloc, MlType::Free(*variable)),
-            MlType::Row(parts) => {
+            MlType::Row(labels, parts) => {
+                let labels = labels.clone()?;
                 let parts = self.all_realised(alloc, parts)?;
-                shared(alloc, MlType::Row(parts))
+                shared(alloc, MlType::Row(labels, parts))
             }
             MlType::Arrow(from, to) => {
                 let from = self.realised(alloc, from)?;

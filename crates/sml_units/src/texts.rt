@@ -167,7 +167,7 @@ impl Lines {
                 self.push_type(Around::Nothing, to)?;
                 self.push_if(brackets, b")")
             }
-            MlType::Row(parts) => {
+            MlType::Row(_, parts) => {
                 if parts.is_empty() {
                     return self.push(b"unit");
                 }

@@ -1,9 +1,10 @@
 //! The types that type expressions mean (the Definition, section 4.10, rules 44 to 49).
 
-ghost use Rattle.std.specs.Prelude.{◌≡◌, ℕ, map};
+ghost use Rattle.std.specs.Prelude.{◌≡◌, ℕ, length, map, IfOk};
 ghost use Rattle.sml_tree.specs.Trees.{constructor};
 ghost use Rattle.sml_tree.specs.Views.{long_of, ty_of, tys_of};
-ghost use Rattle.sml_objects.specs.Objects.{arrow_of};
+ghost use Rattle.sml_objects.specs.Labels.{numbers};
+ghost use Rattle.sml_objects.specs.Objects.{arrow_of, tuple_of};
 ghost use Rattle.sml_objects.specs.Views.{env_of};
 ghost use Rattle.sml_objects.specs.Views as V;
 ghost use Rattle.sml_rules.specs.Readings.{read_ty, read_tys};
@@ -11,7 +12,8 @@ ghost use Rattle.sml_units.specs.Elaborated.{Answers, IsMade, Shows, NameEnv, Nu
 
 use crate::lookups::Context;
 use crate::top_fault::{TopFault, plain_fault};
-use sml_lex::fault::Code;
+use sml_lex::fault::{Code, Memory};
+use sml_objects::labels::Labels;
 use sml_objects::objects::MlType;
 use sml_tree::bare::{LongIdent, Ty};
 use std::alloc::Global;
@@ -86,9 +88,20 @@ pub(crate) fn boxed(alloc: Global, ty: MlType) -> Result<Rc<MlType>, TopFault>
 
 /// The row of these types, labelled from 1 on.
 pub(crate) fn row(alloc: Global, parts: Vec<Rc<MlType>>) -> Result<Rc<MlType>, TopFault>
-    ensures { IsMade (V.row_of (map (λ t. V.type_of t.value) parts.items)) (λ t. V.type_of t.value) result }
+    ensures { IsMade (tuple_of (V.types_of (map (λ t. V.type_of t.value) parts.items))) (λ t. V.type_of t.value) result }
 {
-    boxed(alloc, MlType::Row(parts))
+    match numbered(alloc, parts.len()) {
+        Ok(labels) => boxed(alloc, MlType::Row(labels, parts)),
+        Err(_) => Err(TopFault::Memory),
+    }
+}
+
+/// The labels from 1 to the count, on the heap.
+fn numbered(alloc: Global, count: usize) -> Result<Rc<Labels>, Memory>
+    ensures { IfOk result (λ ls. V.label_list ls.value ≡ numbers 1 count) }
+{
+    let labels = Labels::numbered(alloc, count)?;
+    Ok(Rc::new(alloc, labels)?)
 }
 
 /// An arrow.

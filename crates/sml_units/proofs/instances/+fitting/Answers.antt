@@ -6,13 +6,13 @@ use Rattle.std.proofs.lemmas.List.{length-map, map_more, take-map, take_all}
 use Rattle.std.specs.declared.rc.Rc.{Rc}
 use Rattle.sml_objects.specs.Objects as O
 use Rattle.sml_objects.specs.declared.objects.MlType.{MlType}
-use Rattle.sml_objects.specs.Views.{type_of, types_of, name_of}
+use Rattle.sml_objects.specs.Views.{type_of, types_of, name_of, label_list}
 use Rattle.sml_objects.specs.Types.{replace_type}
 use Rattle.sml_objects.proofs.TypeViews.{parts_of, type_of-bound, type_of-free, type_of-row, type_of-arrow, type_of-name}
 use Rattle.sml_objects.proofs.NameTests.{eq, eq-same, same-eq}
 use Rattle.sml_objects.proofs.SameTypes.{kind, only-free, only-arrow, only-row, only-name}
 use Rattle.sml_units.specs.Matched.{Found, Fits, FitAll, found_in}
-use Rattle.sml_units.proofs.Fitting.{fits_free, fits_row, fits_arrow, fits_name, other_name, other_from, kind-free, kind-row, kind-arrow, kind-name, fit_none, fit_more, fit_part, fit_length, on_result, row_result, name_result, arrow_result}
+use Rattle.sml_units.proofs.Fitting.{fits_free, fits_arrow, fits_name, other_name, other_labels, other_from, kind-free, kind-row, kind-arrow, kind-name, fit_none, fit_more, fit_part, fit_length, on_result, row_result, name_result, arrow_result}
 use Rattle.sml_units.proofs.instances.+fitting.Goals as goal
 
 pub fits-returns-in_default : goal.fits-returns-in_default
@@ -21,7 +21,7 @@ fits-returns-in_default t c = λ args a e.
 
 pub fits-returns-in_default-2 : goal.fits-returns-in_default-2
 fits-returns-in_default-2 t c = λ args a e.
-    only-row c.deref.result.now (ap (λ u. kind (type_of u)) c.deref.ensures ∙ ap kind e ∙ ap (λ u. kind (replace_type args O.free u)) (ap type_of c.in_default.is-0 ∙ type_of-row c.in_default.field-0-0) ∙ kind-row args _ _) c.in_default.not-Row-1
+    only-row c.deref.result.now (ap (λ u. kind (type_of u)) c.deref.ensures ∙ ap kind e ∙ ap (λ u. kind (replace_type args O.free u)) (ap type_of c.in_default.is-0 ∙ type_of-row c.in_default.field-0-0 c.in_default.field-1-0) ∙ kind-row args _ _) c.in_default.not-Row-1
 
 pub fits-returns-in_default-3 : goal.fits-returns-in_default-3
 fits-returns-in_default-3 t c = λ args a e.
@@ -43,10 +43,10 @@ fits-returns-in-Free-Free t c =
     subst (λ b. Fits found found b (type_of c.args.ty.now.value) (nat_eq v w)) (sym (ap type_of c.in-Free-Free.is-0 ∙ type_of-free v))
     (subst (λ u. Fits found found (O.free v) u (nat_eq v w)) (sym (ap type_of (sym c.deref.ensures ∙ c.in-Free-Free.is-1) ∙ type_of-free w)) (fits_free found v w))
 
-pub fits-returns-in-Row-Row : goal.fits-returns-in-Row-Row
-fits-returns-in-Row-Row t c =
-    on_result _ _ _ _ _ _ c.all_fit.result (ap type_of c.in-Row-Row.is-0 ∙ type_of-row c.in-Row-Row.bodies) (ap type_of (sym c.deref.ensures ∙ c.in-Row-Row.is-1) ∙ type_of-row c.in-Row-Row.types)
-    (row_result _ _ _ _ _ _ c.all_fit.result (ap (λ l. types_of (parts_of l)) c.deref-in-Row-Row.ensures.value) (ap (λ l. types_of (parts_of l)) c.deref-in-Row-Row-2.ensures.value) c.all_fit.ensures)
+pub fits-returns-then-are_same : goal.fits-returns-then-are_same
+fits-returns-then-are_same t c =
+    on_result _ _ _ _ _ _ c.all_fit.result (ap type_of c.in-Row-Row.is-0 ∙ type_of-row c.in-Row-Row.labels c.in-Row-Row.bodies) (ap type_of (sym c.deref.ensures ∙ c.in-Row-Row.is-1) ∙ type_of-row c.in-Row-Row.other_labels c.in-Row-Row.types)
+    (row_result _ _ _ _ _ _ _ _ c.all_fit.result (ap label_list (sym c.deref-in-Row-Row.ensures) ∙ (c.are_same.ensures.yes c.if-are_same.true ∙ ap label_list c.deref-in-Row-Row-2.ensures)) (ap (λ l. types_of (parts_of l)) c.deref-then-are_same.ensures.value) (ap (λ l. types_of (parts_of l)) c.deref-then-are_same-2.ensures.value) c.all_fit.ensures)
 
 pub fits-returns-then-eq : goal.fits-returns-then-eq
 fits-returns-then-eq t c =
@@ -69,6 +69,15 @@ fits-returns-else-eq t c =
     let found = found_in c.args.found.now.entries in
     seen found found _ _ _ _ (ap type_of c.in-Name-Name.is-0 ∙ type_of-name m c.in-Name-Name.bodies) (ap type_of (sym c.deref.ensures ∙ c.in-Name-Name.is-1) ∙ type_of-name n c.in-Name-Name.types)
     (other_name found found (name_of m) (name_of n) _ _ (λ e. let differ : eq m n ≡ false = search rules in true≢false (sym (same-eq m n e) ∙ differ)))
+
+pub fits-returns-else-are_same : goal.fits-returns-else-are_same
+fits-returns-else-are_same t c =
+    let ls = c.in-Row-Row.labels in
+    let ms = c.in-Row-Row.other_labels in
+    let found = found_in c.args.found.now.entries in
+    seen found found _ _ _ _ (ap type_of c.in-Row-Row.is-0 ∙ type_of-row ls c.in-Row-Row.bodies) (ap type_of (sym c.deref.ensures ∙ c.in-Row-Row.is-1) ∙ type_of-row ms c.in-Row-Row.types)
+    (other_labels found found (label_list ls.value) (label_list ms.value) _ _
+    (λ e. c.are_same.ensures.no c.if-are_same.false (ap label_list c.deref-in-Row-Row.ensures ∙ (e ∙ ap label_list (sym c.deref-in-Row-Row-2.ensures)))))
 
 pub fits-returns-then-branch : goal.fits-returns-then-branch
 fits-returns-then-branch t c =

@@ -5,7 +5,7 @@ use Rattle.std.specs.declared.rc.Rc.{Rc}
 use Rattle.sml_objects.specs.Objects as O
 use Rattle.sml_objects.specs.Initial.{Name}
 use Rattle.sml_objects.specs.Types.{applied}
-use Rattle.sml_objects.specs.Views.{type_of, types_of, scheme_of, name_of}
+use Rattle.sml_objects.specs.Views.{type_of, types_of, scheme_of, name_of, label_list}
 use Rattle.sml_objects.specs.declared.objects.MlType.{MlType, Bound, Free}
 use Rattle.sml_objects.specs.declared.objects.MlType.TheViews as V
 use Rattle.sml_objects.specs.declared.objects.Scheme.{Scheme}
@@ -29,8 +29,8 @@ realised-returns-in-Free t c =
 pub realised-returns-in_ok-parts-in-Row : goal.realised-returns-in_ok-parts-in-Row
 realised-returns-in_ok-parts-in-Row t c =
     let φ = sends c.args.self.now.functions.entries in
-    shared-type c.shared-in-Row.result (V.Row c.in_ok-parts-in-Row.parts) _
-    (realised_row φ c.in-Row.parts c.in_ok-parts-in-Row.parts (c.in_ok-parts-in-Row.ensures ∙ ap (λ l. realise_types φ (types_of (parts_of l))) c.deref.ensures.value)
+    shared-type c.shared-in-Row.result (V.Row c.in_ok-labels-in-Row.labels c.in_ok-parts-in-Row.parts) _
+    (realised_row φ c.in-Row.labels c.in_ok-labels-in-Row.labels c.in-Row.parts c.in_ok-parts-in-Row.parts (ap label_list c.in_ok-labels-in-Row.ensures.cases) (c.in_ok-parts-in-Row.ensures ∙ ap (λ l. realise_types φ (types_of (parts_of l))) c.deref.ensures.value)
     ∙ ap (λ u. realise_type φ (type_of u)) (sym c.in-Row.is)) c.shared-in-Row.ensures
 
 pub realised-returns-in_ok-to-in-Arrow : goal.realised-returns-in_ok-to-in-Arrow

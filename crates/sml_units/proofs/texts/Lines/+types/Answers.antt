@@ -2,7 +2,7 @@ use Rattle.std.proofs.Common.{◌≡◌, ◌+◌, not, ltb, ap, sym, ◌∙◌, 
 use Rattle.std.proofs.lemmas.List.{length-take-le, length-map, take_all}
 use Rattle.std.proofs.lemmas.Grind.{take_at_read}
 use Rattle.sml_objects.specs.Objects as O
-use Rattle.sml_objects.specs.Views.{type_of, types_of, name_of}
+use Rattle.sml_objects.specs.Views.{type_of, types_of, name_of, label_list}
 use Rattle.sml_objects.proofs.TypeViews.{parts_of, type_of-bound, type_of-free, type_of-row, type_of-arrow, type_of-name}
 use Rattle.sml_units.specs.Text.{show_type, show_types, joined, bracketed, a_name}
 use Rattle.sml_units.specs.Spelling.{lines_of, and_pieces, level}
@@ -27,7 +27,7 @@ push_type-returns-then-is_empty t c =
     let l = level c.args.around in
     let parts = c.in-Row.parts in
     only c.push-then-is_empty.result _ _ _ _
-    (unit-pieces l (parts_of parts.items) (ap parts_of (empty_items parts (sym c.if-is_empty.true ∙ c.is_empty.ensures))) ∙ ap (show_type l) (sym (ap type_of c.in-Row.is ∙ type_of-row parts)))
+    (unit-pieces l (label_list c.in-Row.field-0.value) (parts_of parts.items) (ap parts_of (empty_items parts (sym c.if-is_empty.true ∙ c.is_empty.ensures))) ∙ ap (show_type l) (sym (ap type_of c.in-Row.is ∙ type_of-row c.in-Row.field-0 parts)))
     c.push-then-is_empty.ensures
 
 pub push_type-returns-else-is_empty : goal.push_type-returns-else-is_empty
@@ -38,7 +38,7 @@ push_type-returns-else-is_empty t c =
     let some : ¬ (parts_of parts.items ≡ []) = λ e. some_items parts (sym c.if-is_empty.false ∙ c.is_empty.ensures) (none-mapped (λ t. type_of t.value) parts.items e) in
     only c.push_types.result _ _ _ _
     (ap (λ ts. bracketed b (joined (codes " * ") (show_types 2 2 (types_of (parts_of ts))))) c.deref-in-Row.ensures.value
-    ∙ row-pieces l b (parts_of parts.items) some c.brackets_tuple.ensures ∙ ap (show_type l) (sym (ap type_of c.in-Row.is ∙ type_of-row parts)))
+    ∙ row-pieces l b (label_list c.in-Row.field-0.value) (parts_of parts.items) some c.brackets_tuple.ensures ∙ ap (show_type l) (sym (ap type_of c.in-Row.is ∙ type_of-row c.in-Row.field-0 parts)))
     c.push_types.ensures
 
 pub push_type-returns-in_ok-push_type-in-Arrow-2 : goal.push_type-returns-in_ok-push_type-in-Arrow-2

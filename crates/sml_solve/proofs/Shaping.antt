@@ -272,7 +272,7 @@ module _ (ns hs ks ms : List Node) (us : List ℕ) (t : O.MlType Name) (rs : Lis
         let n : length es ≡ length ks + 1 = simp length-append in
         let b = more in
         let three : AreOwners es us = owners-more ks es two (omega (arith, n)) (λ i h. node_at-before ks (Link at) i (λ e. omega (arith, h, e)))
-            (λ i h l. let e : i ≡ length ks = omega (arith, h, l, n) in rw (e, node_at-last ks (Link at)) tt) in
+        (λ i h l. let e : i ≡ length ks = omega (arith, h, l, n) in rw (e, node_at-last ks (Link at)) tt) in
         let s : IsSound es = λ i. elim (same_or_not i (length ks)) [
           | inl e ↦ rw (e, node_at-last ks (Link at)) below
           | inr d ↦ rw (node_at-before ks (Link at) i d) (sound-more (length ks) (length es) i (node_at ks i) (omega (arith, n)) (y.sound i))

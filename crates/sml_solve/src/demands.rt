@@ -126,6 +126,7 @@ fn open(
     ensures owners { OnOk result (HasRank graph.new.nodes.items → AreOwners graph.old.nodes.items unknowns.now → AreOwners graph.new.nodes.items unknowns.now) }
     ensures unmet { (l : Layer) → result ≡ Err (Refusal.Unmet l) → l ≡ Layer.Equations }
     ensures clash { (l : Layer) → result ≡ Err (Refusal.Unmet l) → (w : World) (τ : Assignment w) → Meets w graph.old.nodes.items τ → IsRowWith w unknowns.now τ (type_of ty.now) (demanded fields.now) → ⊥ }
+    ensures labels { result ≡ Err Refusal.Labels → ⊥ }
     ensures spent { result ≡ Err Refusal.Spent → ⊥ }
 {
     let Ok(at) = add(alloc, graph, unknowns, ty) else {
@@ -170,6 +171,7 @@ pub(crate) fn ask_row(
     ensures ok { OnOk result (Adds (asked_of (maker_of unit) unknowns.now graph.old false) (has_fields (type_of ty.now) (demanded fields.now)) (asked_of (maker_of unit) unknowns.now graph.new false)) }
     ensures met { OnOk result ((l : Layer) → CanMeet l (asked_of (maker_of unit) unknowns.now graph.old false) (has_fields (type_of ty.now) (demanded fields.now))) }
     ensures unmet { (l : Layer) → result ≡ Err (Refusal.Unmet l) → IsFirstUnmet l (asked_of (maker_of unit) unknowns.now graph.old false) (has_fields (type_of ty.now) (demanded fields.now)) }
+    ensures labels { result ≡ Err Refusal.Labels → ⊥ }
     ensures spent { result ≡ Err Refusal.Spent → ⊥ }
 {
     match open(alloc, graph, unknowns, ty, fields) {

@@ -16,11 +16,12 @@ ghost use Rattle.sml_solve.specs.contracts.fields.Fields as fields;
 ghost use Rattle.sml_solve.specs.declared.layer.Layer.{Layer};
 ghost use Rattle.sml_solve.specs.declared.layer.Layer.TheVariants.{Finiteness, Rigidity};
 ghost use Rattle.sml_solve.specs.Worlds.{finite, Assignment};
-ghost use Rattle.sml_solve.specs.Asked.{Asked, asked_of, equal, asks, count, IsOf, IsSchemeOf, Adds, CanMeet, IsFirstUnmet, IsMet, Permits, PermitsSame};
+ghost use Rattle.sml_solve.specs.Asked.{Asked, asked_of, equal, has_fields, asks, count, IsOf, IsSchemeOf, Adds, CanMeet, IsFirstUnmet, IsMet, Permits, PermitsSame};
 ghost use Rattle.sml_solve.specs.Clashes.{ClashesAreUnmet};
 ghost use Rattle.sml_solve.specs.Counted.{IsSizeUpTo};
 ghost use Rattle.sml_solve.specs.Fixed.{AreFixed, IsFixed};
 ghost use Rattle.sml_solve.specs.Graphs.{IsAmong};
+ghost use Rattle.sml_solve.specs.Interned.{demanded};
 ghost use Rattle.sml_solve.specs.Left.{HasOneSetOfLabels, IsFree, IsLeft, IsMadeOf, IsReading, IsMostGeneral};
 ghost use Rattle.sml_solve.specs.Levels.{IsKeptWith};
 ghost use Rattle.sml_solve.specs.Schemes.{GiveOneScheme, HasOneScheme, IsScheme, IsSchemeOfReading};
@@ -29,7 +30,7 @@ ghost use Rattle.sml_solve.specs.Overloaded.{IsOverloaded, Settles};
 use crate::class::Class;
 use crate::closing::closed;
 use crate::count::size_from;
-use crate::demands::{equate, impose};
+use crate::demands::{ask_row, equate, impose};
 use crate::graph::{Graph, add, fill};
 use crate::layer::{Ask, Bound, Layer, Refusal};
 use crate::levels::{begin_level, by_level, hand_levels_on, held_unknowns};
@@ -42,6 +43,7 @@ use crate::variable::Variable;
 use sml_lex::fault::Memory;
 use sml_objects::objects::{Initial, MlType, Scheme, TyName, UnitId};
 use sml_objects::schemes::instantiate;
+use sml_tree::bare::Ident;
 use std::alloc::Global;
 use std::marker::Model;
 use std::mem;
@@ -461,6 +463,48 @@ impl Solver {
             self.unknowns.as_slice(),
             left,
             right,
+        ) {
+            Ok(changed) => {
+                if let Err(_) = self.left.extend_from_slice(changed.as_slice()) {
+                    return Err(Refusal::Memory);
+                }
+                self.spent = false;
+                Ok(())
+            }
+            Err(refusal) => Err(refusal),
+        }
+    }
+
+    /// Demands that a type is a row that has some fields, and perhaps others (the Definition, section 4.7): U1, U2, U3, E6,
+    /// U4, U5 or U7 where it can't be.
+    pub fn require_row(
+        &mut self,
+        ty: &MlType,
+        fields: &[(Ident, Rc<MlType>)],
+    ) -> Result<(), Refusal>
+        requires ty { IsOf self.old (type_of ty.now) }
+        requires fields { AllByRecursion (λ f. IsOf self.old f.1) (demanded fields.now) }
+        ensures ok { OnOk result (Adds self.old (has_fields (type_of ty.now) (demanded fields.now)) self.new) }
+        ensures met { OnOk result ((l : Layer) → CanMeet l self.old (has_fields (type_of ty.now) (demanded fields.now))) }
+        ensures unmet { (l : Layer) → result ≡ Err (Refusal.Unmet l) → IsFirstUnmet l self.old (has_fields (type_of ty.now) (demanded fields.now)) }
+        ensures count { count self.new ≡ count self.old }
+        ensures kept { OnOk result (self.new.spent ≡ false) }
+        ensures unit { self.new.unit ≡ self.old.unit }
+        ensures err { OnErr result (self.new.spent ≡ true) }
+        ensures labels { result ≡ Err Refusal.Labels → ⊥ }
+        ensures spent { result ≡ Err Refusal.Spent ↔ self.old.spent ≡ true }
+    {
+        if self.spent {
+            return Err(Refusal::Spent);
+        }
+        self.spent = true;
+        match ask_row(
+            self.alloc,
+            self.unit,
+            &mut self.graph,
+            self.unknowns.as_slice(),
+            ty,
+            fields,
         ) {
             Ok(changed) => {
                 if let Err(_) = self.left.extend_from_slice(changed.as_slice()) {

@@ -76,9 +76,6 @@ added-distinct (Err x) es xs ys k v a b q d n = subst (λ zs. AreDistinct (field
 
 -- the order of labels
 
-pub same_label : (l m : Id) → label_order l m ≡ Equal → l ≡ m
-same_label l m e = label-exact l m e
-
 own_label : (l : Id) → label_order l l ≡ Equal
 own_label l = tied_itself label_total l
 
@@ -165,7 +162,7 @@ module _ {X : Type 0} (l : Id) (x : X) where
   set-there k [] d = lookup-there k (l, x) [] d
   set-there k (e ∷ m) d = by_label e m (λ n. lookup k n ≡ lookup k (e ∷ m))
       (λ q. lookup-there k (l, x) (e ∷ m) d)
-      (λ q. lookup-there k (l, x) m d ∙ sym (lookup-there k e m (λ s. d (s ∙ sym (same_label l e.0 q)))))
+      (λ q. lookup-there k (l, x) m d ∙ sym (lookup-there k e m (λ s. d (s ∙ sym (label-exact l e.0 q)))))
       (λ q. elim (same_or_other k e.0) [
         | inl s ↦ lookup-here k e (set_field l x m) s ∙ sym (lookup-here k e m s)
         | inr s ↦ lookup-there k e (set_field l x m) s ∙ (set-there k m d ∙ sym (lookup-there k e m s))
@@ -188,7 +185,7 @@ module _ {X : Type 0} (l : Id) (x : X) where
   rising-set [] r = (tt, tt)
   rising-set (e ∷ m) r = by_label e m (λ n. AreRising (labels_in n))
       (λ q. ((q, all-less e.0 (labels_in m) q r.0), r))
-      (λ q. (subst (λ k. AllByRecursion (λ j. label_order k j ≡ Less) (labels_in m)) (sym (same_label l e.0 q)) r.0, r.1))
+      (λ q. (subst (λ k. AllByRecursion (λ j. label_order k j ≡ Less) (labels_in m)) (sym (label-exact l e.0 q)) r.0, r.1))
       (λ q. (below-set e.0 m (label_turned l e.0 q) r.0, rising-set m r.1))
 
   -- a label below all others comes first
@@ -207,13 +204,13 @@ module _ {X : Type 0} (l : Id) (x : X) where
   set-same (e ∷ m) r h = by_label e m (λ n. n ≡ e ∷ m)
       (λ q. absurd (none-some x (sym (none-below (e ∷ m) (q, all-less e.0 (labels_in m) q r.0)) ∙ h)))
       (λ q.
-          let s = same_label l e.0 q in
-          let f : Some e.1 ≡ Some x = sym (lookup-here l e m s) ∙ h in
-          let g : e.1 ≡ x = cc in
-          λ i. (s i, sym g i) ∷ m)
+      let s = label-exact l e.0 q in
+      let f : Some e.1 ≡ Some x = sym (lookup-here l e m s) ∙ h in
+      let g : e.1 ≡ x = cc in
+      λ i. (s i, sym g i) ∷ m)
       (λ q.
-          let d : l ≡ e.0 → ⊥ = λ s. let f : Greater ≡ Equal = sym q ∙ subst (λ k. label_order l k ≡ Equal) s (own_label l) in cc in
-          ap (λ n. e ∷ n) (set-same m r.1 (sym (lookup-there l e m d) ∙ h)))
+      let d : l ≡ e.0 → ⊥ = λ s. let f : Greater ≡ Equal = sym q ∙ subst (λ k. label_order l k ≡ Equal) s (own_label l) in cc in
+      ap (λ n. e ∷ n) (set-same m r.1 (sym (lookup-there l e m d) ∙ h)))
 
   all-set : (P : X → Type 0) (m : Map X) → P x → AllByRecursion P (values_in m) → AllByRecursion P (values_in (set_field l x m))
   all-set P [] p a = (p, tt)

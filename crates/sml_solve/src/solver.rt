@@ -506,8 +506,8 @@ impl Solver {
             ty,
             fields,
         ) {
-            Ok(changed) => {
-                if let Err(_) = self.left.extend_from_slice(changed.as_slice()) {
+            Ok(moved) => {
+                if let Err(_) = self.left.extend_from_slice(moved.as_slice()) {
                     return Err(Refusal::Memory);
                 }
                 self.spent = false;

@@ -7,12 +7,14 @@ ghost use Rattle.sml_solve.specs.Interned.{IsOver, IsBodyOver};
 
 mod chains;
 mod memory;
+mod rows;
 
 use crate::class::Class;
 use crate::layer::{Bound, Layer, Refusal};
 use crate::solver::Solver;
 use crate::variable::Variable;
 use sml_lex::fault::{Code, Memory};
+use sml_objects::labels::Labels;
 use sml_objects::objects::{Initial, MadeName, MlType, Scheme, TyName, UnitId};
 use std::alloc::Global;
 use std::rc::Rc;
@@ -80,13 +82,15 @@ fn pair(alloc: Global, left: MlType, right: MlType) -> Result<MlType, Memory>
     let mut parts = Vec::new(alloc);
     parts.push(Rc::new(alloc, left)?)?;
     parts.push(Rc::new(alloc, right)?)?;
-    Ok(MlType::Row(parts))
+    let labels = Rc::new(alloc, Labels::numbered(alloc, 2)?)?;
+    Ok(MlType::Row(labels, parts))
 }
 
-fn empty(alloc: Global) -> MlType
-    ensures { (n : ℕ) → IsOver n (type_of result) }
+fn empty(alloc: Global) -> Result<MlType, Memory>
+    ensures { IfOk result (λ t. (n : ℕ) → IsOver n (type_of t)) }
 {
-    MlType::Row(Vec::new(alloc))
+    let labels = Rc::new(alloc, Labels::numbered(alloc, 0)?)?;
+    Ok(MlType::Row(labels, Vec::new(alloc)))
 }
 
 /// Demands that two unknowns are equal.
@@ -175,7 +179,7 @@ fn rows_of_different_lengths_clash(rt: HostRuntime) -> Result<(), Fail> {
     let alloc = rt.alloc();
     let mut solver = solved(alloc, 1)?;
     let two = pair(alloc, unknown(0), unknown(0))?;
-    let none = empty(alloc);
+    let none = empty(alloc)?;
     let two_again = pair(alloc, int(alloc), int(alloc))?;
     assert_eq!(rt; solver.require_equal(&two, &two_again), Ok(()));
     let clash = solver.require_equal(&two, &none);
@@ -268,7 +272,7 @@ fn classes_are_met_by_their_names_alone(rt: HostRuntime) -> Result<(), Fail> {
     assert_eq!(rt; Layer::Classes.code(), Code::U5);
     let mut solver = solved(alloc, 1)?;
     assert_eq!(rt; solver.require_class(&unknown(0), Class::NumTxt), Ok(()));
-    let row = solver.require_equal(&unknown(0), &empty(alloc));
+    let row = solver.require_equal(&unknown(0), &empty(alloc)?);
     assert_eq!(rt; row, Err(Refusal::Unmet(Layer::Classes)));
     Ok(())
 }
@@ -307,7 +311,7 @@ fn overloaded_is_what_more_than_one_name_is_left_to(rt: HostRuntime) -> Result<(
     assert_eq!(rt; solver.is_overloaded(2), Ok(true));
     assert_eq!(rt; solver.require_equal(&unknown(2), &int(alloc)), Ok(()));
     assert_eq!(rt; solver.is_overloaded(2), Ok(false));
-    let row = solver.require_equal(&unknown(2), &empty(alloc));
+    let row = solver.require_equal(&unknown(2), &empty(alloc)?);
     assert_eq!(rt; row, Err(Refusal::Unmet(Layer::Equations)));
     assert_eq!(rt; solver.is_overloaded(0), Err(Refusal::Spent));
     Ok(())
@@ -325,7 +329,7 @@ fn what_is_overloaded_becomes_int(rt: HostRuntime) -> Result<(), Fail> {
     assert_eq!(rt; solver.is_overloaded(1), Ok(false));
     assert_eq!(rt; solver.require_equal(&unknown(0), &real(alloc)), Ok(()));
     assert_eq!(rt; solver.require_equal(&unknown(2), &int(alloc)), Ok(()));
-    assert_eq!(rt; solver.require_equal(&unknown(3), &empty(alloc)), Ok(()));
+    assert_eq!(rt; solver.require_equal(&unknown(3), &empty(alloc)?), Ok(()));
     assert_eq!(rt; solver.settle(9), Ok(()));
     let other = solver.require_equal(&unknown(1), &real(alloc));
     assert_eq!(rt; other, Err(Refusal::Unmet(Layer::Equations)));
@@ -396,7 +400,7 @@ fn a_type_is_read_up_to_its_size(rt: HostRuntime) -> Result<(), Fail> {
     let Ok(Some(ty)) = solver.reading(&unknown(0), 4) else {
         return Err("small".into());
     };
-    let MlType::Row(parts) = &*ty else {
+    let MlType::Row(_, parts) = &*ty else {
         return Err("row".into());
     };
     assert_eq!(rt; parts.len(), 2);
@@ -424,12 +428,12 @@ fn what_the_context_fixes_stays(rt: HostRuntime) -> Result<(), Fail> {
         return Err("scheme".into());
     };
     assert_eq!(rt; scheme.variables.as_slice(), [true].as_slice());
-    let MlType::Row(parts) = &*scheme.body else {
+    let MlType::Row(_, parts) = &*scheme.body else {
         return Err("row".into());
     };
     assert_eq!(rt; parts.len(), 2);
     assert!(rt; matches!(&*parts[0], MlType::Free(2)));
-    let MlType::Row(others) = &*parts[1] else {
+    let MlType::Row(_, others) = &*parts[1] else {
         return Err("inner row".into());
     };
     assert_eq!(rt; others.len(), 2);

@@ -1,7 +1,7 @@
 use Rattle.std.proofs.Common.{◌≡◌, [], ap, sym, subst}
 use Rattle.std.specs.List.{AllByRecursion}
 use Rattle.sml_objects.specs.Objects as O
-use Rattle.sml_objects.specs.Views.{types_of}
+use Rattle.sml_objects.specs.Views.{label_list}
 use Rattle.sml_objects.proofs.TypeViews.{parts_of, type_of-row}
 use Rattle.sml_solve.specs.Interned.{IsOver}
 use Rattle.sml_solve.proofs.Interning.{over-app}
@@ -9,5 +9,6 @@ use Rattle.sml_solve.proofs.tests.empty.Goals as goal
 
 pub returns : goal.returns
 returns c n =
-    let e : parts_of c.new.result.items ≡ [] = ap parts_of c.new.ensures.items in
-    rw (type_of-row c.new.result) (over-app n (O.row (O.labels_of 1 (types_of (parts_of c.new.result.items)))) (parts_of c.new.result.items) (subst (AllByRecursion (IsOver n)) (sym e) tt))
+    let ls = c.in_ok-labels.labels in
+    let e : parts_of c.new-2.result.items ≡ [] = ap parts_of c.new-2.ensures.items in
+    rw (type_of-row ls c.new-2.result) (over-app n (O.row (label_list ls.value)) (parts_of c.new-2.result.items) (subst (AllByRecursion (IsOver n)) (sym e) tt))

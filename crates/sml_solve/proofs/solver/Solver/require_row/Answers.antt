@@ -44,7 +44,7 @@ invariant_of-self-in-Ok c _ =
     let h = c.ask_row.new.graph in
     let ls = c.self.inside.levels.items in
     let is = c.self.inside.left.items in
-    let js = c.in-Ok.changed.items in
+    let js = c.in-Ok.moved.items in
     let a = c.self.invariant c.if-self.false in
     record {
       kept = subst (IsKept u h) c.as_slice.ensures.value c.in-Ok.ensures.kept;

@@ -6,6 +6,7 @@ ghost use Rattle.sml_solve.specs.Asked.{count};
 ghost use Rattle.sml_solve.specs.Interned.{IsOver, IsBodyOver};
 
 mod chains;
+mod flexible;
 mod memory;
 mod rows;
 

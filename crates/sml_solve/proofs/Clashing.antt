@@ -1,5 +1,6 @@
 -- What demands make equal, trees that meet them make equal; and where they don't clash, trees meet them.
 use Rattle.std.proofs.Common.{◌≡◌, ◌⊎◌, ◌↔◌, ℕ, zero, suc, ◌<◌, inl, inr, Option, Some, None, List, [], ◌∷◌, length, map, get_or, sym, ◌∙◌, ap, refl, subst, arith}
+use Rattle.std.proofs.lemmas.List.{length-map}
 use Rattle.std.specs.List.{AllByRecursion}
 use Rattle.sml_tree.specs.Trees.{Id}
 use Rattle.sml_objects.specs.Initial.{Name}
@@ -17,6 +18,7 @@ use Rattle.sml_solve.specs.Clashes.{IsOneOf, part_at, MakesEqual, given, same, t
 use Rattle.sml_solve.proofs.Worlding.{app_head, app_parts}
 use Rattle.sml_solve.proofs.Members.{all-in, in-all}
 use Rattle.sml_solve.proofs.LabelMaps.{lookup-mapped, lookup-unmapped}
+use Rattle.sml_solve.proofs.Rowing.{row-labels}
 use Rattle.sml_solve.proofs.Trees.{IsDemandOver, clash-or-trees}
 
 spread-parts : (σ : Assignment infinite) (h : Head Name) (ts : List (MlType Name)) → spread σ (app h (types_of ts)) ≡ make infinite h (spread_all σ (types_of ts))
@@ -31,10 +33,6 @@ spread-listed σ (t ∷ ts) = ap (λ us. spread σ t ∷ us) (spread-listed σ t
 spread-app : (σ : Assignment infinite) (h : Head Name) (ts : List (MlType Name)) → spread σ (app h (types_of ts)) ≡ make infinite h (map (spread σ) ts)
 spread-app σ h ts = spread-parts σ h ts ∙ ap (make infinite h) (spread-listed σ ts)
 
-mapped-count : {X Y : Type 0} (f : X → Y) (xs : List X) → length (map f xs) ≡ length xs
-mapped-count f [] = refl
-mapped-count f (x ∷ xs) = ap suc (mapped-count f xs)
-
 spread-part : (σ : Assignment infinite) (ts : List (MlType Name)) (i : ℕ) → get_or (map (spread σ) ts) i (λ _. None) ≡ spread σ (part_at ts i)
 unfolding spread
 spread-part σ [] i = refl
@@ -43,9 +41,6 @@ spread-part σ (t ∷ ts) (suc i) = spread-part σ ts i
 
 one-type : {X : Type 0} (o : Option X) (x y : X) → o ≡ Some x → o ≡ Some y → x ≡ y
 one-type o x y e f = let g : Some x ≡ Some y = sym e ∙ f in cc
-
-row-labels : (ls ms : List Id) (h : Head Name) → row ls ≡ h → h ≡ row ms → ls ≡ ms
-row-labels ls ms h e f = let g : row ls ≡ row ms = e ∙ f in cc
 
 field-of : {X Y : Type 0} (g : X → Y) (l : Id) (t : X) (fs : List (Id × X)) → IsOneOf (l, t) fs → IsOneOf (l, g t) (fields_at g fs)
 field-of g l t [] i = absurd i
@@ -80,7 +75,7 @@ module _ (u : ℕ) (σ : Assignment infinite) (ds : List Demand) (a : MeetsAll u
   made-equal x y (field t v r fs l ls ts i j m e) =
       let h = row-met r fs i in
       let b : spread σ r ≡ make infinite (row ls) (map (spread σ) ts) = made-equal r (app (row ls) (types_of ts)) m ∙ spread-app σ (row ls) ts in
-      let q = row-labels ls h.labels (row ls) refl (has-head (spread σ r) (fields_at (spread σ) fs) h (row ls) (map (spread σ) ts) b) in
+      let q = row-labels ls h.labels (has-head (spread σ r) (fields_at (spread σ) fs) h (row ls) (map (spread σ) ts) b) in
       let k = has-field (spread σ r) (fields_at (spread σ) fs) h (row ls) (map (spread σ) ts) b l (spread σ t) (field-of (spread σ) l t fs j) in
       one-type (lookup l (with_labels h.labels (map (spread σ) ts))) (spread σ t) (spread σ v) k
       (subst (λ ms. lookup l (with_labels ms (map (spread σ) ts)) ≡ Some (spread σ v)) q (lookup-mapped (spread σ) l ls ts v e))
@@ -89,7 +84,7 @@ module _ (u : ℕ) (σ : Assignment infinite) (ds : List Demand) (a : MeetsAll u
       let k = row-met q gs j in
       let b : spread σ r ≡ make infinite (row k.labels) k.types = made-equal r q e ∙ k.is_row in
       let f = has-field (spread σ r) (fields_at (spread σ) fs) h (row k.labels) k.types b l (spread σ t) (field-of (spread σ) l t fs m) in
-      let g = row-labels k.labels h.labels (row k.labels) refl (has-head (spread σ r) (fields_at (spread σ) fs) h (row k.labels) k.types b) in
+      let g = row-labels k.labels h.labels (has-head (spread σ r) (fields_at (spread σ) fs) h (row k.labels) k.types b) in
       one-type (lookup l (with_labels h.labels k.types)) (spread σ t) (spread σ v) f
       (subst (λ ms. lookup l (with_labels ms k.types) ≡ Some (spread σ v)) g (all-in (λ x. lookup x.0 (with_labels k.labels k.types) ≡ Some x.1) (fields_at (spread σ) gs) k.fields (l, spread σ v) (field-of (spread σ) l v gs n)))
 
@@ -101,7 +96,7 @@ module _ (u : ℕ) (σ : Assignment infinite) (ds : List Demand) (a : MeetsAll u
         labels = x.labels;
         is_row = has-head (spread σ r) (fields_at (spread σ) fs) x h (map (spread σ) ts) e;
         rising = x.rising;
-        count = sym (mapped-count (spread σ) ts) ∙ (ap length p ∙ x.count);
+        count = sym (length-map ts (spread σ)) ∙ (ap length p ∙ x.count);
         all = in-all (λ f. (t : MlType Name) × (lookup f.0 (with_labels x.labels ts) ≡ Some t)) fs (λ f i.
             lookup-unmapped (spread σ) f.0 x.labels ts (spread σ f.1) (has-field (spread σ r) (fields_at (spread σ) fs) x h (map (spread σ) ts) e f.0 (spread σ f.1) (field-of (spread σ) f.0 f.1 fs i)));
       }
@@ -114,7 +109,7 @@ module _ (u : ℕ) (σ : Assignment infinite) (ds : List Demand) (a : MeetsAll u
       let g : t ≡ make infinite k (map (spread σ) us) = e ∙ spread-app σ k us in
       elim d [
         | inl n ↦ n (app_head infinite t h k (map (spread σ) ts) (map (spread σ) us) f g)
-        | inr n ↦ n (sym (mapped-count (spread σ) ts) ∙ (ap length (app_parts infinite t h k (map (spread σ) ts) (map (spread σ) us) f g) ∙ mapped-count (spread σ) us))
+        | inr n ↦ n (sym (length-map ts (spread σ)) ∙ (ap length (app_parts infinite t h k (map (spread σ) ts) (map (spread σ) us) f g) ∙ length-map us (spread σ)))
       ]
   no-clash (no_row r fs h ts i m d) = d (labels-met fs r h ts (row-met r fs i) (made-equal r (app h (types_of ts)) m ∙ spread-app σ h ts))
 

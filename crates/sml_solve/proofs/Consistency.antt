@@ -15,6 +15,7 @@ use Rattle.sml_solve.specs.Asked.{Demand, equal, has_fields, asks}
 use Rattle.sml_solve.specs.Clashes.{IsOneOf, MakesEqual, HasLabels, Clash, heads, no_row}
 use Rattle.sml_solve.proofs.Members.{all-in, all-or}
 use Rattle.sml_solve.proofs.Discerning.{same_head}
+use Rattle.sml_solve.proofs.Rowing.{row-labels}
 use Rattle.sml_solve.proofs.Subterms.{Ty, terms, term-in, Headed, headed, headed-is}
 use Rattle.sml_solve.proofs.Partitions.{Classes}
 use Rattle.sml_solve.proofs.Grouping.{AreMade}
@@ -47,20 +48,17 @@ found? : {X : Type 0} (o : Option X) → Dec ((x : X) × (o ≡ Some x))
 found? None = no (λ f. let e = f.1 in cc)
 found? (Some x) = yes (x, refl)
 
-row-labels : (ls ms : List Id) → (h : Head Name) → h ≡ row ls → h ≡ row ms → ls ≡ ms
-row-labels ls ms h e f = let g : row ls ≡ row ms = sym e ∙ f in cc
-
 labels? : (fs : List (Id × Ty)) (ls : List Id) (ts : List Ty) → Dec (HasLabels fs (row ls) ts)
 labels? fs ls ts =
     elim (rising? ls) [
       | yes r ↦ elim (ℕ_discrete (length ts) (length ls)) [
         | yes n ↦ elim (all? (λ f. (t : Ty) × (lookup f.0 (with_labels ls ts) ≡ Some t)) (λ f. found? (lookup f.0 (with_labels ls ts))) fs) [
           | yes a ↦ yes (record { labels = ls; is_row = refl; rising = r; count = n; all = a })
-          | no d ↦ no (λ h. d (subst (λ ms. AllByRecursion (λ f. (t : Ty) × (lookup f.0 (with_labels ms ts) ≡ Some t)) fs) (sym (row-labels ls h.labels (row ls) refl h.is_row)) h.all))
+          | no d ↦ no (λ h. d (subst (λ ms. AllByRecursion (λ f. (t : Ty) × (lookup f.0 (with_labels ms ts) ≡ Some t)) fs) (sym (row-labels ls h.labels h.is_row)) h.all))
         ]
-        | no d ↦ no (λ h. d (h.count ∙ ap length (sym (row-labels ls h.labels (row ls) refl h.is_row))))
+        | no d ↦ no (λ h. d (h.count ∙ ap length (sym (row-labels ls h.labels h.is_row))))
       ]
-      | no d ↦ no (λ h. d (subst AreRising (sym (row-labels ls h.labels (row ls) refl h.is_row)) h.rising))
+      | no d ↦ no (λ h. d (subst AreRising (sym (row-labels ls h.labels h.is_row)) h.rising))
     ]
 
 has-labels? : (fs : List (Id × Ty)) (h : Head Name) (ts : List Ty) → Dec (HasLabels fs h ts)

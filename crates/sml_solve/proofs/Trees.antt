@@ -1,5 +1,6 @@
 -- Trees that meet demands which don't clash: each class of types has one.
 use Rattle.std.proofs.Common.{◌≡◌, ◌≢◌, ◌⊎◌, ℕ, zero, suc, Option, Some, None, List, [], ◌∷◌, ◌++◌, length, map, get_or, refl, ap, sym, subst, ◌∙◌, inl, inr}
+use Rattle.std.proofs.lemmas.List.{length-map}
 use Rattle.std.specs.List.{AllByRecursion}
 use Rattle.std.specs.List.Sorted.{IsStrictlySortedBy}
 use Rattle.std.proofs.Math.Decide.{ℕ_discrete}
@@ -32,10 +33,6 @@ nth (t ∷ ts) (suc k) = nth ts k
 none-rising : AreRising []
 unfolding IsStrictlySortedBy
 none-rising = tt
-
-mapped-count : {X Y : Type 0} (f : X → Y) (xs : List X) → length xs ≡ length (map f xs)
-mapped-count f [] = refl
-mapped-count f (x ∷ xs) = ap suc (mapped-count f xs)
 
 -- the demand speaks of the first n unknowns
 abbrev pub IsDemandOver : ℕ → Demand → Type 0
@@ -146,7 +143,7 @@ module _ (ds : List Demand) (s : AreSettled ds) (ok : AreConsistent ds s.classes
 
   follow-at : (n : ℕ) (h : Head Name) (ts : List Ty) → top n ≡ Some (h, ts) → (path : List ℕ) → follow n path ≡ tree h (map class_tree ts) path
   unfolding follow
-  follow-at n h ts e [] = ap shape e ∙ ap (λ m. Some (h, m)) (mapped-count class_tree ts)
+  follow-at n h ts e [] = ap shape e ∙ ap (λ m. Some (h, m)) (sym (length-map ts class_tree))
   follow-at n h ts e (k ∷ path) =
       ap (λ (b : Headed). elim b [ None ↦ None | Some a ↦ elim (nth a.1 k) [ None ↦ None | Some t ↦ follow (c t) path ] ]) e ∙ follow-part ts k path
 
@@ -300,7 +297,7 @@ module _ (ds : List Demand) (s : AreSettled ds) (ok : AreConsistent ds s.classes
             labels = a.labels;
             types = map class_tree b.1;
             rising = a.rising;
-            count = sym (mapped-count class_tree b.1) ∙ a.count;
+            count = length-map b.1 class_tree ∙ a.count;
             is_row = tree-of n r o is ∙ (follow-is (c r) b.0 b.1 (top-of (c r) b e) ∙ ap (λ h. tree h (map class_tree b.1)) a.is_row);
             fields = all-shown a.labels b.1 fs (λ f j.
                 let w = all-in (λ x. (t : Ty) × (lookup x.0 (with_labels a.labels b.1) ≡ Some t)) fs a.all f j in
@@ -315,7 +312,7 @@ module _ (ds : List Demand) (s : AreSettled ds) (ok : AreConsistent ds s.classes
             labels = labels_in m;
             types = map class_tree (values_in m);
             rising = rising-sets (class_fields (c r)) [] none-rising;
-            count = sym (mapped-count class_tree (values_in m)) ∙ count-parts m;
+            count = length-map (values_in m) class_tree ∙ count-parts m;
             is_row = tree-of n r o is ∙ follow-is (c r) (row (labels_in m)) (values_in m) q;
             fields = all-shown (labels_in m) (values_in m) fs (λ f j.
                 let x : Field = (r, f.0, f.1) in

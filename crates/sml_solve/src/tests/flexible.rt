@@ -14,7 +14,7 @@ use std::rc::Rc;
 use std::test::Fail;
 
 /// A field with a label.
-fn field(alloc: Global, label: &[u8], of: MlType) -> Result<(Ident, Rc<MlType>), Memory>
+pub(super) fn field(alloc: Global, label: &[u8], of: MlType) -> Result<(Ident, Rc<MlType>), Memory>
     ensures { IfOk result (λ f. (n : ℕ) → IsOver n (type_of of) → IsOver n (type_of f.1.value)) }
 {
     let text = Vec::from_slice(alloc, label)?;

@@ -5,6 +5,7 @@ ghost use Rattle.sml_objects.specs.Views.{scheme_of};
 ghost use Rattle.sml_solve.specs.Asked.{count};
 ghost use Rattle.sml_solve.specs.Interned.{IsBodyOver};
 
+use super::flexible::field;
 use super::{UNIT, anything, int, list, pair, unknown, variable};
 use crate::class::Class;
 use crate::layer::{Bound, Refusal};
@@ -70,6 +71,8 @@ fn are_demands_spent(alloc: Global, solver: &mut Solver, scheme: &Scheme) -> boo
         && is_spent(solver.settle(0))
         && is_spent(solver.require_variable(&ty, variable(0, false)))
         && is_spent(solver.require_general(&[], 0, &[]))
+        && is_spent(solver.require_row(&ty, &[]))
+        && is_spent(solver.require_labels(&ty))
 }
 
 /// Whether each call that asks is refused because an earlier one was.
@@ -86,6 +89,24 @@ fn are_questions_spent(alloc: Global, solver: &mut Solver) -> bool {
     is_spent(solver.fixed_by(0, &[]))
         && is_spent(solver.size_up_to(&ty, 5))
         && is_spent(solver.reading(&ty, 5))
+}
+
+/// Demands two rows, and that they are one, up to the first call that is refused.
+fn demand_rows(alloc: Global, solver: &mut Solver) -> Result<(), Refusal> {
+    let one = solver.fresh()?;
+    let other = solver.fresh()?;
+    let Ok(first) = field(alloc, b"a", int(alloc)) else {
+        return Ok(());
+    };
+    let Ok(second) = field(alloc, b"a", int(alloc)) else {
+        return Ok(());
+    };
+    let Ok(third) = field(alloc, b"b", int(alloc)) else {
+        return Ok(());
+    };
+    solver.require_row(&unknown(one), &[first])?;
+    solver.require_row(&unknown(other), &[second, third])?;
+    solver.require_equal(&unknown(one), &unknown(other))
 }
 
 /// Makes each call, up to the first that is refused.
@@ -113,6 +134,21 @@ fn a_refused_call_spends_the_solver(rt: HostRuntime) -> Result<(), Fail> {
             assert!(rt; are_demands_spent(alloc, &mut solver, &scheme));
             assert!(rt; are_questions_spent(alloc, &mut solver));
         }
+    }
+    Ok(())
+}
+
+#[test]
+fn a_refused_row_spends_the_solver(rt: HostRuntime) -> Result<(), Fail> {
+    let alloc = rt.alloc();
+    let Ok(scheme) = anything(alloc) else {
+        return Ok(());
+    };
+    let mut solver = Solver::new(alloc, UNIT);
+    if let Err(refusal) = demand_rows(alloc, &mut solver) {
+        assert_eq!(rt; refusal, Refusal::Memory);
+        assert!(rt; are_demands_spent(alloc, &mut solver, &scheme));
+        assert!(rt; are_questions_spent(alloc, &mut solver));
     }
     Ok(())
 }

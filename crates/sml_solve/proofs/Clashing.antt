@@ -1,5 +1,5 @@
 -- What demands make equal, trees that meet them make equal; and where they don't clash, trees meet them.
-use Rattle.std.proofs.Common.{◌≡◌, ◌⊎◌, ◌↔◌, ℕ, zero, suc, ◌<◌, inl, inr, Option, Some, None, List, [], ◌∷◌, length, map, get_or, sym, ◌∙◌, ap, refl, subst, arith}
+use Rattle.std.proofs.Common.{◌≡◌, ℕ, zero, suc, ◌<◌, inl, inr, Option, Some, None, List, [], ◌∷◌, length, map, get_or, sym, ◌∙◌, ap, refl, subst, arith}
 use Rattle.std.proofs.lemmas.List.{length-map}
 use Rattle.std.specs.List.{AllByRecursion}
 use Rattle.sml_tree.specs.Trees.{Id}
@@ -13,8 +13,8 @@ use Rattle.sml_objects.specs.Labels.{with_labels}
 use Rattle.sml_solve.specs.Rows.{HasFields, fields_at}
 use Rattle.sml_solve.specs.Worlds.{infinite, In, Assignment, make, spread, spread_all}
 use Rattle.sml_solve.specs.Layers.{place_of}
-use Rattle.sml_solve.specs.Asked.{Asked, Demand, equal, has_fields, asks, Holds, Permits, CanMeet, IsFirstUnmet, count}
-use Rattle.sml_solve.specs.Clashes.{IsOneOf, part_at, MakesEqual, given, same, turned, joined, component, field, fields, HasLabels, Clash, heads, no_row, IsDemandOf, MeetsAll, SaysAll, IsUnmetWhereItClashes}
+use Rattle.sml_solve.specs.Asked.{Asked, Demand, equal, has_fields, asks, Holds, CanMeet, IsFirstUnmet, count}
+use Rattle.sml_solve.specs.Clashes.{IsOneOf, part_at, MakesEqual, given, same, turned, joined, component, field, fields, HasLabels, Clash, heads, no_row, IsDemandOf, MeetsAll, IsUnmetWhereItClashes}
 use Rattle.sml_solve.proofs.Worlding.{app_head, app_parts}
 use Rattle.sml_solve.proofs.Members.{all-in, in-all}
 use Rattle.sml_solve.proofs.LabelMaps.{lookup-mapped, lookup-unmapped}

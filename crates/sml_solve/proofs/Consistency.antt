@@ -1,5 +1,5 @@
 -- Demands that don't clash: the heads in one class agree, and rows have the fields that are asked of them.
-use Rattle.std.proofs.Common.{◌≡◌, ◌≢◌, ◌⊎◌, ℕ, zero, suc, Option, Some, None, List, [], ◌∷◌, length, refl, ap, sym, subst, ◌∙◌, inl, inr}
+use Rattle.std.proofs.Common.{◌≡◌, ◌⊎◌, Option, Some, None, List, [], ◌∷◌, length, refl, ap, sym, subst, ◌∙◌, inl, inr}
 use Rattle.std.specs.List.{AllByRecursion}
 use Rattle.std.specs.List.Sorted.{IsStrictlySortedBy}
 use Rattle.std.specs.declared.cmp.Ordering.{Ordering}
@@ -13,7 +13,7 @@ use Rattle.sml_objects.specs.Views.{types_of}
 use Rattle.sml_objects.specs.Labels.{label_order, AreRising, with_labels}
 use Rattle.sml_solve.specs.Asked.{Demand, equal, has_fields, asks}
 use Rattle.sml_solve.specs.Clashes.{IsOneOf, MakesEqual, HasLabels, Clash, heads, no_row}
-use Rattle.sml_solve.proofs.Members.{all-in, all-or}
+use Rattle.sml_solve.proofs.Members.{all-or}
 use Rattle.sml_solve.proofs.Discerning.{same_head}
 use Rattle.sml_solve.proofs.Rowing.{row-labels}
 use Rattle.sml_solve.proofs.Subterms.{Ty, terms, term-in, Headed, headed, headed-is}

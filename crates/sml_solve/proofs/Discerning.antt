@@ -1,5 +1,5 @@
 -- Types, heads and lists of labels are equal or not.
-use Rattle.std.proofs.Common.{◌≡◌, ℕ, List, [], ◌∷◌, refl, ap}
+use Rattle.std.proofs.Common.{◌≡◌, List, [], ◌∷◌, refl, ap}
 use Rattle.std.proofs.Math.Decide.{ℕ_discrete}
 use Rattle.sml_tree.specs.Trees.{Id}
 use Rattle.sml_objects.specs.Initial.{Name, naming}

@@ -1,21 +1,20 @@
 -- Classes grow by what the demands make equal, until nothing is left to put together.
-use Rattle.std.proofs.Common.{◌≡◌, ◌≢◌, ◌⊎◌, ℕ, zero, suc, ◌<◌, ◌≤◌, Option, Some, None, List, [], ◌∷◌, ◌++◌, length, map, refl, ap, sym, subst, ◌∙◌, inl, inr, arith}
+use Rattle.std.proofs.Common.{◌≡◌, ◌⊎◌, ℕ, zero, suc, ◌≤◌, Option, Some, None, List, [], ◌∷◌, ◌++◌, length, map, refl, ap, sym, subst, ◌∙◌, inl, inr, arith}
 use Rattle.std.specs.List.{AllByRecursion}
 use Rattle.std.specs.declared.cmp.Ordering.{Ordering}
 use Rattle.std.specs.declared.cmp.Ordering.TheVariants.{Less, Equal, Greater}
 use Rattle.std.proofs.Math.Decide.{ℕ_discrete}
 use Rattle.sml_tree.specs.Trees.{Id}
-use Rattle.sml_objects.specs.Initial.{Name}
 use Rattle.sml_objects.specs.Maps.{lookup, by_order, order_of}
-use Rattle.sml_objects.specs.Objects.{MlType, MlTypes, Head, arrow, row, name, bound, free, app, no_type, and_type}
+use Rattle.sml_objects.specs.Objects.{arrow, row, name, app}
 use Rattle.sml_objects.specs.Views.{types_of}
 use Rattle.sml_objects.specs.Labels.{with_labels}
 use Rattle.sml_solve.specs.Asked.{Demand, equal, has_fields, asks}
-use Rattle.sml_solve.specs.Clashes.{IsOneOf, part_at, MakesEqual, given, same, turned, joined, component, field, fields}
-use Rattle.sml_solve.proofs.Members.{in-left, in-right, in-either, gather, in-gather, gathered, in-map, all-in, in-all, all-or, without, without-less, in-without}
+use Rattle.sml_solve.specs.Clashes.{IsOneOf, MakesEqual, given, same, turned, joined, component, field, fields}
+use Rattle.sml_solve.proofs.Members.{in-either, gather, gathered, in-map, all-or, without, without-less, in-without}
 use Rattle.sml_solve.proofs.Discerning.{same_id, same_head, same_type}
-use Rattle.sml_solve.proofs.Subterms.{Ty, listed, types_in, terms, term-in, Headed, headed, headed-is, headed-part}
-use Rattle.sml_solve.proofs.Partitions.{Pair, when, when-in, in-when, zipped, zipped-at, pairs_under, Field, asked_fields, Source, source, field_pair, row_pairs, given_pairs, Classes, together, component_needs, row_needs, field_needs, needs}
+use Rattle.sml_solve.proofs.Subterms.{Ty, terms, term-in, Headed, headed, headed-is, headed-part}
+use Rattle.sml_solve.proofs.Partitions.{Pair, when, when-in, zipped, zipped-at, pairs_under, Field, asked_fields, Source, source, field_pair, row_pairs, given_pairs, Classes, together, component_needs, row_needs, field_needs, needs}
 
 -- only what the demands make equal is in one class
 abbrev pub AreMade : List Demand → Classes → Type 0

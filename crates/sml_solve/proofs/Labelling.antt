@@ -1,7 +1,5 @@
 -- Rows with one set of labels.
-use Rattle.std.proofs.Common.{◌≡◌, ℕ, ◌<◌, inl, inr, Bool, true, false, Some, None, List, [], ◌∷◌, ◌++◌, length, map, get_or, sym, ◌∙◌, ap, subst, refl, arith, Box, Global}
-use Rattle.std.specs.List.{AllByRecursion}
-use Rattle.smallvec.specs.SmallVec.{SmallVec}
+use Rattle.std.proofs.Common.{◌≡◌, ℕ, ◌<◌, Bool, true, false, Some, List, [], ◌∷◌, ◌++◌, length, map, get_or, sym, ◌∙◌, ap, subst, refl, arith, Box, Global}
 use Rattle.sml_tree.specs.Trees.{Id}
 use Rattle.sml_objects.specs.Names as N
 use Rattle.sml_objects.specs.Initial.{Name, initial, made}
@@ -20,7 +18,7 @@ use Rattle.sml_solve.specs.declared.node.Node.TheVariants.{Unknown, Link, App, O
 use Rattle.sml_solve.specs.declared.variable.Variables.{Variables}
 use Rattle.sml_solve.specs.declared.variable.Variables.TheVariants as V
 use Rattle.sml_solve.specs.Worlds.{finite, Assignment, make, typed}
-use Rattle.sml_solve.specs.Graphs.{node_at, head_over, Agrees, Meets, IsSame, IsRootNode, IsKnown}
+use Rattle.sml_solve.specs.Graphs.{node_at, head_over, Meets, IsSame, IsRootNode, IsKnown}
 use Rattle.sml_solve.specs.Interned.{IsOver, through}
 use Rattle.sml_solve.specs.Limits.{limit_at, MeetsAt, for_parts, IsFitNode}
 use Rattle.sml_solve.specs.Variables.{stand_in}
@@ -32,7 +30,7 @@ use Rattle.sml_solve.proofs.Interning.{typed-same}
 use Rattle.sml_solve.proofs.Rowing.{components}
 use Rattle.sml_solve.proofs.Opening.{fresh_label, fresh-none, none-front, none-back, component-head, one_row}
 use Rattle.sml_solve.proofs.Asking.{int-meets, app-meets, fits-row}
-use Rattle.sml_solve.proofs.Ranking.{solution, ints, stand_ins, stands-keep, solution-meets, solution-unknown}
+use Rattle.sml_solve.proofs.Ranking.{solution, stand_ins, stands-keep, solution-meets, solution-unknown}
 use Rattle.sml_solve.proofs.Owning.{node_labels, solution-more, found-or-not, row-head, through-permitted}
 use Rattle.sml_solve.proofs.Overloading.{choice-with, types-with, with-here, with-permits}
 

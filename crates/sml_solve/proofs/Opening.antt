@@ -1,7 +1,6 @@
 -- Open rows with a label more, and the least of them.
-use Rattle.std.proofs.Common.{◌≡◌, ℕ, suc, ◌+◌, ◌<◌, ◌≤◌, inl, inr, List, [], ◌∷◌, ◌++◌, length, map, Option, Some, None, sym, ◌∙◌, ap, subst, refl, arith, length-append}
+use Rattle.std.proofs.Common.{◌≡◌, ℕ, suc, ◌+◌, ◌<◌, ◌≤◌, inl, inr, List, [], ◌∷◌, ◌++◌, length, Some, None, sym, ◌∙◌, ap, refl, arith, length-append}
 use Rattle.std.specs.List.{AllByRecursion}
-use Rattle.std.specs.declared.cmp.Ordering.TheVariants.{Less, Equal, Greater}
 use Rattle.sml_tree.specs.Trees.{Id}
 use Rattle.sml_objects.specs.Initial.{Name}
 use Rattle.sml_objects.specs.Maps.{Map, lookup}
@@ -9,7 +8,7 @@ use Rattle.sml_objects.specs.Objects as O
 use Rattle.sml_objects.specs.Sizes.{type_size, types_size}
 use Rattle.sml_objects.specs.Views.{types_of}
 use Rattle.sml_objects.proofs.LabelPlaces.{label-exact}
-use Rattle.sml_objects.specs.Labels.{label_order, with_labels}
+use Rattle.sml_objects.specs.Labels.{with_labels}
 use Rattle.sml_solve.specs.Rows.{AreDistinct, HasFields, fields_at, kids_of}
 use Rattle.sml_solve.specs.Worlds.{finite, Assignment}
 use Rattle.sml_solve.specs.Counted.{sizes_at}

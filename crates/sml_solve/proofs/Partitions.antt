@@ -1,18 +1,15 @@
 -- Classes of types that demands make equal.
-use Rattle.std.proofs.Common.{◌≡◌, ◌≢◌, ◌⊎◌, ℕ, zero, suc, ◌<◌, ◌≤◌, Option, Some, None, List, [], ◌∷◌, ◌++◌, length, map, refl, ap, sym, subst, ◌∙◌, inl, inr, arith}
-use Rattle.std.specs.List.{AllByRecursion}
+use Rattle.std.proofs.Common.{◌≡◌, ℕ, suc, ◌<◌, Option, Some, None, List, [], ◌∷◌, ◌++◌, length, map, ap, sym, subst, inl, inr, arith}
 use Rattle.std.proofs.Math.Decide.{ℕ_discrete}
 use Rattle.sml_tree.specs.Trees.{Id}
-use Rattle.sml_objects.specs.Initial.{Name}
 use Rattle.sml_objects.specs.Maps.{lookup}
-use Rattle.sml_objects.specs.Objects.{MlType, MlTypes, Head, arrow, row, name, bound, free, app, no_type, and_type}
-use Rattle.sml_objects.specs.Views.{types_of}
+use Rattle.sml_objects.specs.Objects.{arrow, row, name}
 use Rattle.sml_objects.specs.Labels.{with_labels}
 use Rattle.sml_solve.specs.Asked.{Demand, equal, has_fields, asks}
-use Rattle.sml_solve.specs.Clashes.{IsOneOf, part_at, MakesEqual, given, same, turned, joined, component, field, fields}
-use Rattle.sml_solve.proofs.Members.{in-left, in-right, in-either, gather, in-gather, gathered, in-map, all-in, in-all, without, without-less, in-without}
-use Rattle.sml_solve.proofs.Discerning.{same_id, same_head, same_type}
-use Rattle.sml_solve.proofs.Subterms.{Ty, listed, types_in, terms, term-in, Headed, headed, headed-is, headed-part}
+use Rattle.sml_solve.specs.Clashes.{IsOneOf, part_at}
+use Rattle.sml_solve.proofs.Members.{gather, in-gather, gathered, in-map}
+use Rattle.sml_solve.proofs.Discerning.{same_id, same_head}
+use Rattle.sml_solve.proofs.Subterms.{Ty, terms, term-in, Headed, headed}
 
 abbrev pub Pair : Type 0
 Pair = Ty × Ty

@@ -25,7 +25,7 @@ use Rattle.sml_solve.specs.Worlds.{finite, Assignment, make}
 use Rattle.sml_solve.specs.Graphs.{node_at, head_over, IsSame, IsSoundNode, IsCountOf, IsRootNode, IsKnown, IsLoose}
 use Rattle.sml_solve.specs.Interned.{through}
 use Rattle.sml_solve.specs.Ranks.{HasRank}
-use Rattle.sml_solve.specs.Left.{IsMadeOf, AreMadeOf}
+use Rattle.sml_solve.specs.Left.{IsMadeOf}
 use Rattle.sml_solve.specs.Counted.{sizes_at}
 use Rattle.sml_solve.specs.Reads.{IsTypeAt, stacked, Gives, sizes, heads, unread, IsTaskIn, IsReadingOn}
 use Rattle.sml_solve.proofs.Interning.{typed-app, typed-free, map-push, types_size-is, sizes-append}

@@ -1,5 +1,5 @@
 -- Rows with some fields and others.
-use Rattle.std.proofs.Common.{◌≡◌, ◌≢◌, ◌⊎◌, inl, inr, ℕ, ◌+◌, ◌<◌, ◌≤◌, List, [], ◌∷◌, ◌++◌, length, map, Option, Some, None, Result, Ok, Err, Bool, true, false, cond, nat_eq, Vec, Global, sym, ◌∙◌, ap, subst, refl, arith}
+use Rattle.std.proofs.Common.{◌≡◌, ◌⊎◌, inl, inr, ℕ, List, [], ◌∷◌, ◌++◌, length, map, Option, Some, None, Result, Ok, Err, Bool, true, false, cond, nat_eq, Vec, Global, sym, ◌∙◌, ap, subst, refl, arith}
 use Rattle.std.specs.Cmp.{tied_itself}
 use Rattle.std.specs.List.Sorted.{IsStrictlySortedBy}
 use Rattle.std.specs.Cmp.Lexicographic.{nat_list_cmp_total, pointwise, same_text, other_text}
@@ -22,8 +22,8 @@ use Rattle.sml_objects.specs.Labels.{label_order, AreRising, with_labels}
 use Rattle.sml_objects.proofs.RisingLabels.{label_total}
 use Rattle.sml_objects.proofs.LabelPlaces.{label-exact}
 use Rattle.sml_solve.specs.Rows.{AreDistinct, HasFields, IsField, field_list, fields_at, kids_of}
-use Rattle.sml_solve.specs.Worlds.{World, finite, infinite, In, Assignment, make}
-use Rattle.sml_solve.proofs.Worlding.{app_head, app_parts, types_of-injective}
+use Rattle.sml_solve.specs.Worlds.{World, finite, In, make}
+use Rattle.sml_solve.proofs.Worlding.{app_head, app_parts}
 
 -- fields as the code reads them
 

@@ -1,5 +1,5 @@
 -- Rows that are asked for.
-use Rattle.std.proofs.Common.{◌≡◌, ◌≢◌, ℕ, zero, suc, ◌+◌, ◌<◌, ◌≤◌, ◌⊎◌, inl, inr, None, Some, List, [], ◌∷◌, ◌++◌, length, map, get_or, take, Vec, Global, Box, sym, ◌∙◌, ap, subst, refl, arith, add-one, length-append}
+use Rattle.std.proofs.Common.{◌≡◌, ℕ, zero, suc, ◌+◌, ◌<◌, ◌≤◌, ◌⊎◌, inl, inr, List, [], ◌∷◌, ◌++◌, length, get_or, take, Global, sym, ◌∙◌, ap, subst, refl, arith, add-one, length-append}
 use Rattle.std.specs.Prelude.{Bool}
 use Rattle.std.proofs.lemmas.Bool.{cases_lt}
 use Rattle.std.specs.List.{AllByRecursion}
@@ -10,24 +10,22 @@ use Rattle.sml_objects.specs.Initial.{Name}
 use Rattle.sml_objects.specs.Objects as O
 use Rattle.sml_objects.specs.Views.{type_of}
 use Rattle.sml_objects.specs.declared.objects.MlType.{MlType}
-use Rattle.sml_solve.specs.declared.fields.Fields.{Fields}
 use Rattle.sml_solve.specs.declared.graph.Graph.{Graph}
 use Rattle.sml_solve.specs.declared.layer.Layer.{Layer}
 use Rattle.sml_solve.specs.declared.layer.Layer.TheVariants.{Equations}
-use Rattle.sml_solve.specs.declared.limits.Limit.{Limit}
 use Rattle.sml_solve.specs.declared.node.Node.{Node}
-use Rattle.sml_solve.specs.declared.node.Node.TheVariants.{Unknown, Link, Open}
+use Rattle.sml_solve.specs.declared.node.Node.TheVariants.{Link, Open}
 use Rattle.sml_solve.specs.Worlds.{World, In, Assignment, finite, infinite, typed}
 use Rattle.sml_solve.specs.Rows.{HasFields, IsField, fields_at, kids_of}
-use Rattle.sml_solve.specs.Graphs.{node_at, fields_of, Meets, MeetsPairs, SameSolutions, HasNoSolution, ArePairsIn, IsSound, IsSoundNode, IsKnown, AreOwners, Changes, SameOutside, IsAmong}
+use Rattle.sml_solve.specs.Graphs.{node_at, fields_of, Meets, MeetsPairs, SameSolutions, HasNoSolution, ArePairsIn, IsSound, IsKnown, AreOwners, Changes, IsAmong}
 use Rattle.sml_solve.specs.Interned.{IsOver, through, Interns, InternsFields, IsPushed, IsRowWith, AsksRow, demanded}
-use Rattle.sml_solve.specs.Ranks.{HasRank, no_order, order_at, IsOrdered, AreOrdered, AreOrderedBut}
-use Rattle.sml_solve.specs.Limits.{limit_at, IsClosed, IsFit, IsDoneBut}
-use Rattle.sml_solve.specs.Asked.{asked_of, world, Permits, has_fields, Holds, CanMeet, IsFirstUnmet}
+use Rattle.sml_solve.specs.Ranks.{HasRank, order_at}
+use Rattle.sml_solve.specs.Limits.{limit_at, IsClosed, IsFit}
+use Rattle.sml_solve.specs.Asked.{asked_of, world, Permits, has_fields, CanMeet, IsFirstUnmet}
 use Rattle.sml_solve.specs.Levels.{Moves}
 use Rattle.sml_solve.specs.Whole.{IsFull, IsWhole, IsChanged, Finishes, IsKept}
 use Rattle.sml_solve.proofs.Rowing.{Key, has-front, has-back, has-both}
-use Rattle.sml_solve.proofs.Merging.{same_or_not, all-append, fields-append, fields-none, field-same, field-there, inside-field, kids-more, MeetsPairs-append, MeetsPairs-front, MeetsPairs-back, ArePairsIn-append}
+use Rattle.sml_solve.proofs.Merging.{same_or_not, all-append, fields-append, field-same, field-there, inside-field, kids-more, MeetsPairs-append, MeetsPairs-front, MeetsPairs-back, ArePairsIn-append}
 use Rattle.sml_solve.proofs.Interning.{inside-at, inside-more, sound-more, typed-same, beyond, beyond-below, beyond-above, meets-beyond, meets-before, meets-push, node_at-last, node_at-before}
 use Rattle.sml_solve.proofs.Searching.{all-parts}
 use Rattle.sml_solve.proofs.Limiting.{closed-as}

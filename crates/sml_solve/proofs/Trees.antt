@@ -1,5 +1,5 @@
 -- Trees that meet demands which don't clash: each class of types has one.
-use Rattle.std.proofs.Common.{◌≡◌, ◌≢◌, ◌⊎◌, ℕ, zero, suc, Option, Some, None, List, [], ◌∷◌, ◌++◌, length, map, get_or, refl, ap, sym, subst, ◌∙◌, inl, inr}
+use Rattle.std.proofs.Common.{◌≡◌, ◌⊎◌, ℕ, zero, suc, Option, Some, None, List, [], ◌∷◌, ◌++◌, length, map, get_or, refl, ap, sym, subst, ◌∙◌, inl, inr}
 use Rattle.std.proofs.lemmas.List.{length-map}
 use Rattle.std.specs.List.{AllByRecursion}
 use Rattle.std.specs.List.Sorted.{IsStrictlySortedBy}
@@ -7,18 +7,17 @@ use Rattle.std.proofs.Math.Decide.{ℕ_discrete}
 use Rattle.sml_tree.specs.Trees.{Id}
 use Rattle.sml_objects.specs.Initial.{Name}
 use Rattle.sml_objects.specs.Maps.{Map, lookup}
-use Rattle.sml_objects.specs.Objects.{MlType, MlTypes, Head, row, bound, free, app, no_type, and_type}
-use Rattle.sml_objects.specs.Views.{types_of}
+use Rattle.sml_objects.specs.Objects.{MlTypes, Head, row, bound, free, app, no_type, and_type}
 use Rattle.sml_solve.specs.declared.layer.Layer.TheVariants.{Equations}
 use Rattle.sml_objects.specs.Labels.{AreRising, with_labels}
 use Rattle.sml_solve.specs.Rows.{HasFields, fields_at}
 use Rattle.sml_solve.specs.Worlds.{infinite, Assignment, Tree, tree, spread, spread_all}
 use Rattle.sml_solve.specs.Interned.{IsOver, AreOver}
 use Rattle.sml_solve.specs.Asked.{Demand, equal, has_fields, asks, Holds}
-use Rattle.sml_solve.specs.Clashes.{IsOneOf, MakesEqual, HasLabels, Clash, MeetsAll}
+use Rattle.sml_solve.specs.Clashes.{IsOneOf, HasLabels, Clash, MeetsAll}
 use Rattle.sml_solve.proofs.Members.{in-left, in-right, gather, in-gather, gathered, all-in, in-all}
 use Rattle.sml_solve.proofs.Discerning.{same_id, same_head}
-use Rattle.sml_solve.proofs.Subterms.{Ty, listed, types_in, terms, term-in, term-part, Headed, headed}
+use Rattle.sml_solve.proofs.Subterms.{Ty, listed, terms, term-in, term-part, Headed, headed}
 use Rattle.sml_solve.proofs.Partitions.{Pair, when, in-when, zipped, pairs_under, Field, asked_fields, asked-field, source, field_pair, row_pairs, given_pairs, Classes, together, component_needs, row_needs, field_needs, needs}
 use Rattle.sml_solve.proofs.Grouping.{AreSettled, settled}
 use Rattle.sml_solve.proofs.LabelMaps.{puts-found, lookup-mapped}

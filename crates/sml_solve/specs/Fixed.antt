@@ -1,8 +1,6 @@
 -- Unknowns whose type others fix: those that are in the context of a declaration.
 use Rattle.std.specs.Prelude.{◌≡◌, ℕ, suc, ◌+◌, ◌<◌, ◌⊎◌, map, Bool, true, false, cond, List, [], ◌∷◌, length, slice_index, slice_index_or}
 use Rattle.std.specs.List.{AllByRecursion}
-use Rattle.sml_objects.specs.Initial.{Name}
-use Rattle.sml_objects.specs.Objects.{MlType}
 use Rattle.sml_solve.specs.declared.layer.Layer.TheVariants.{Finiteness}
 use Rattle.sml_solve.specs.declared.node.Node.{Node}
 use Rattle.sml_solve.specs.Worlds.{finite, Assignment}

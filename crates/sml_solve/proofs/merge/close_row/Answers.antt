@@ -1,4 +1,4 @@
-use Rattle.std.proofs.Common.{◌≡◌, length, map, sym, ap, subst, ◌∙◌, arith, Err}
+use Rattle.std.proofs.Common.{◌≡◌, length, sym, ap, subst, ◌∙◌, arith, Err}
 use Rattle.std.proofs.lemmas.List.{length-map}
 use Rattle.sml_tree.specs.Views.{ident_of}
 use Rattle.sml_objects.specs.Views.{label_list}

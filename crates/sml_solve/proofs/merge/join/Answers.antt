@@ -1,4 +1,4 @@
-use Rattle.sml_solve.proofs.Merging.{apart-as, apart-turned, joins-right, if-turned}
+use Rattle.sml_solve.proofs.Merging.{apart-as, joins-right, if-turned}
 use Rattle.sml_solve.specs.declared.node.Node.TheVariants.{Open}
 use Rattle.sml_solve.proofs.merge.join.Goals as goal
 

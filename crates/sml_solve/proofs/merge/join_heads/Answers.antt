@@ -1,5 +1,4 @@
-use Rattle.std.proofs.Common.{◌≡◌, ◌++◌, length, arith}
-use Rattle.sml_solve.specs.Graphs.{pairs_of}
+use Rattle.std.proofs.Common.{◌≡◌, length, arith}
 use Rattle.sml_solve.proofs.Merging.{joins-heads, heads-apart}
 use Rattle.sml_solve.proofs.merge.join_heads.Goals as goal
 use Rattle.sml_solve.proofs.merge.join_heads.Goals.{else-is_same_head-via-then-is_same_head+else-len, else-is_same_head-via-else-is_same_head}

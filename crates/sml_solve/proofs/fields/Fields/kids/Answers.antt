@@ -1,4 +1,4 @@
-use Rattle.std.proofs.Common.{◌∙◌, sym}
+use Rattle.std.proofs.Common.{◌∙◌}
 use Rattle.sml_solve.proofs.Rowing.{kids-seen}
 use Rattle.sml_solve.proofs.fields.Fields.kids.Goals as goal
 

@@ -1,4 +1,4 @@
-use Rattle.std.proofs.Common.{map, ap, ◌∙◌, sym}
+use Rattle.std.proofs.Common.{map, ap, ◌∙◌}
 use Rattle.sml_tree.specs.Views.{ident_of}
 use Rattle.sml_solve.proofs.Rowing.{labels-seen}
 use Rattle.sml_solve.proofs.fields.Fields.labels.Goals as goal

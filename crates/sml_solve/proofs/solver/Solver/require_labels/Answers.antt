@@ -5,8 +5,7 @@ use Rattle.sml_solve.specs.declared.layer.Layer.TheVariants.{Finiteness, Rigidit
 use Rattle.sml_solve.specs.Worlds.{finite}
 use Rattle.sml_solve.specs.Graphs.{node_at}
 use Rattle.sml_solve.specs.Interned.{IsOver, Interns}
-use Rattle.sml_solve.specs.Asked.{Asked, asked_of, IsOf, PermitsSame}
-use Rattle.sml_solve.specs.Left.{HasOneSetOfLabels}
+use Rattle.sml_solve.specs.Asked.{asked_of, IsOf, PermitsSame}
 use Rattle.sml_solve.specs.Settled.{has_labels}
 use Rattle.sml_solve.specs.Whole.{IsKept, IsWhole}
 use Rattle.sml_solve.proofs.Levelling.{grown-moves, levels-grown}

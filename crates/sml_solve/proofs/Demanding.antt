@@ -13,19 +13,22 @@ use Rattle.sml_solve.specs.declared.layer.Bound.TheVariants as B
 use Rattle.sml_solve.specs.declared.layer.Layer.{Layer}
 use Rattle.sml_solve.specs.declared.layer.Layer.TheVariants.{Equations, Finiteness, Newness, Locality, Equality, Classes, Rigidity}
 use Rattle.sml_solve.specs.declared.limits.Limit.{Limit}
+use Rattle.sml_solve.specs.declared.change.Change.{Change}
 use Rattle.sml_solve.specs.declared.node.Node.{Node}
 use Rattle.sml_solve.specs.declared.node.Node.TheVariants.{Unknown}
 use Rattle.sml_solve.specs.Worlds.{World, Assignment, finite, infinite, typed}
-use Rattle.sml_solve.specs.Graphs.{node_at, Meets, IsSound, SameOutside}
+use Rattle.sml_solve.specs.Graphs.{node_at, Meets, IsSound}
+use Rattle.sml_solve.specs.Changes.{IsChange, SameOutside, AreInside}
 use Rattle.sml_solve.specs.Interned.{IsOver, through, Interns}
 use Rattle.sml_solve.specs.Ranks.{HasRank, no_order, order_at}
-use Rattle.sml_solve.specs.Limits.{no_limit, limit_at, MeetsAt, KeepsAt, KeepsThrough, IsClosed, IsFit, IsDoneBut, Lowers}
+use Rattle.sml_solve.specs.Limits.{no_limit, limit_at, MeetsAt, KeepsAt, KeepsThrough, IsClosed, IsClosedTo, IsFit, IsDoneBut, Lowers}
 use Rattle.sml_solve.specs.Layers.{place_of}
 use Rattle.sml_solve.specs.Asked.{Asked, asked_of, count, world, KeepsUpTo, Permits, layer_of, limit_of, IsAsAsked, Demand, equal, asks, Holds, CanMeet, IsFirstUnmet, Adds, IsMet, PermitsSame}
 use Rattle.sml_solve.specs.Whole.{IsFull, IsWhole, IsChanged, Finishes, FailsFirst, FailsAt, LowersLimit, IsKept}
+use Rattle.sml_solve.proofs.Changing.{has-map}
 use Rattle.sml_solve.proofs.Interning.{inside-at, typed-same, sound-more, get_or-left, get_or-right, beyond, beyond-below, beyond-above, meets-beyond}
 use Rattle.sml_solve.proofs.Asking.{nothing-asked, none-meets}
-use Rattle.sml_solve.proofs.Limiting.{none-fits, lowered-keeps, keeps-lowered, but-lowered}
+use Rattle.sml_solve.proofs.Limiting.{none-fits, closed-first, lowered-keeps, keeps-lowered, but-lowered}
 use Rattle.sml_solve.proofs.Ranking.{rank_of, finite_of, solution, stand_ins, solution-meets, stands-keep}
 use Rattle.sml_solve.proofs.Walks.{has_infinite}
 use Rattle.sml_solve.proofs.Wholeness.{ordered-more, get_or-push, closed-more, fit-more}
@@ -241,9 +244,13 @@ clash-first u us b t v g h k x y fg fh a ot ov gx gy never = (
   λ j h. absurd (omega (arith, h)),
 )
 
--- a node is left to do where it was changed
-pub changed-but : (u : ℕ) (ns ms : List Node) (ls : List Limit) (is : List ℕ) → IsClosed ns ls → ((l : Layer) → IsFit l u ns ls) → SameOutside ns ms is → IsDoneBut u ms ls None is
-changed-but u ns ms ls is c f o i = elim (o i) [ inl e ↦ inl (rw e (c i, λ l h. f l i)) | inr m ↦ inr m ]
+-- what was changed is left to do
+pub changed-but : (u : ℕ) (ns ms : List Node) (ls : List Limit) (cs : List Change) → IsClosed ns ls → ((l : Layer) → IsFit l u ns ls) → SameOutside ns ms cs → IsDoneBut u ms ls None cs
+changed-but u ns ms ls cs c f o i =
+    elim (o i) [
+      | inl e ↦ inl (rw e (c i, λ l h. f l i))
+      | inr m ↦ inr (has-map (IsChange i (node_at ns i) (node_at ms i)) (IsClosedTo ls i (node_at ms i)) cs (λ d x. (x.0, closed-first ls i d.from (node_at ns i) (node_at ms i) x.1 (c i))) m)
+    ]
 
 -- something is asked of a type
 
@@ -283,14 +290,14 @@ at-asked u A.Equality t w = w
 at-asked u (A.Class c) t w = w
 at-asked u (A.Variable x) t w = w
 
-module _ (u r : ℕ) (a : Ask) (ls ms : List Limit) (js : List ℕ) (low : Lowers ls [] (r ∷ []) (limit_of a) ms js) where
+module _ (u r : ℕ) (a : Ask) (ls ms : List Limit) (js : List Change) (low : Lowers ls [] (r ∷ []) (limit_of a) ms js) where
   through-lower : (l : Layer) (τ : Assignment finite) → KeepsThrough l u ls τ → (place_of (layer_of a) ≤ place_of l → IsAsAsked u a (τ r)) → KeepsThrough l u ms τ
   through-lower l τ k w j h = lowered-keeps j u (limit_of a) r ls ms js τ low (k j h) (asked-at j l u a (τ r) h w)
 
   through-lowered : (l : Layer) (τ : Assignment finite) → KeepsThrough l u ms τ → KeepsThrough l u ls τ × (place_of (layer_of a) ≤ place_of l → IsAsAsked u a (τ r))
   through-lowered l τ k = (λ j h. (keeps-lowered j u (limit_of a) r ls ms js τ low (k j h)).0, λ h. at-asked u a (τ r) ((keeps-lowered (layer_of a) u (limit_of a) r ls ms js τ low (k (layer_of a) h)).1))
 
-module _ (u : ℕ) (us : List ℕ) (b : Bool) (a : Ask) (t : MlType Name) (g h m : Graph) (r : ℕ) (js : List ℕ) (o : IsOver (length us) t) (x : LowersLimit h r (limit_of a) m js) where
+module _ (u : ℕ) (us : List ℕ) (b : Bool) (a : Ask) (t : MlType Name) (g h m : Graph) (r : ℕ) (js : List Change) (o : IsOver (length us) t) (x : LowersLimit h r (limit_of a) m js) where
   up : (l : Layer) (υ σ : Assignment (world l)) → KeepsUpTo l u h.limits.items υ → υ r ≡ typed (world l) σ t → Holds l u σ (asks a t) → KeepsUpTo l u m.limits.items υ
   up Equations υ σ k e w = tt
   up Finiteness υ σ k e w = through-lower u r a h.limits.items m.limits.items js x.lowers Finiteness υ k (λ p. rw e (w p))
@@ -334,7 +341,7 @@ module _ (u : ℕ) (us : List ℕ) (b : Bool) (a : Ask) (t : MlType Name) (g h m
         ((υ, bx.0, bx.1, e), held l υ σ w e2);
   }
 
-pub limit-changed : (u : ℕ) (a : Limit) (h : Graph) (r : ℕ) (m : Graph) (js : List ℕ) → IsWhole u h → LowersLimit h r a m js → IsChanged u m js
+pub limit-changed : (u : ℕ) (a : Limit) (h : Graph) (r : ℕ) (m : Graph) (js : List Change) → IsWhole u h → LowersLimit h r a m js → IsChanged u m js
 limit-changed u a h r m js w x =
     let e = x.nodes in
     record {
@@ -344,7 +351,7 @@ limit-changed u a h r m js w x =
         bottom = record { from = λ i. rw (x.orders, x.bottom) (w.full.bottom.from i); positive = rw x.bottom w.full.bottom.positive };
       };
       sound = rw e w.sound;
-      inside = rw e (subst (λ q. AllByRecursion (λ i. i < q) js) w.full.limits (x.lowers.inside tt));
+      inside = rw e (subst (λ q. AreInside q js) w.full.limits (x.lowers.inside tt));
       before = h.nodes.items;
       rank = w.rank;
       outside = λ i. inl (ap (λ z. node_at z i) e);

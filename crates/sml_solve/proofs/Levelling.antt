@@ -1,24 +1,24 @@
 -- Levels of nodes.
-use Rattle.std.proofs.Common.{◌≡◌, ◌≢◌, ℕ, zero, suc, ◌+◌, ◌<◌, ◌≤◌, ◌^◌, inl, inr, Option, None, List, [], ◌∷◌, ◌++◌, length, set, get_or, sym, ◌∙◌, ap, subst, refl, arith, length-append, get_or-set_same, get_or-set_other}
+use Rattle.std.proofs.Common.{◌≡◌, ◌≢◌, ℕ, zero, suc, ◌+◌, ◌<◌, ◌≤◌, ◌^◌, inl, inr, Option, None, List, [], ◌∷◌, ◌++◌, length, take, drop, set, get_or, sym, ◌∙◌, ap, subst, refl, arith, length-append, get_or-set_same, get_or-set_other}
 use Rattle.std.proofs.Math.ListN.{length-set}
 use Rattle.std.proofs.lemmas.Bool.{cases_lt}
 use Rattle.std.proofs.lemmas.List.{append-nil, get_or_past}
-use Rattle.std.proofs.lemmas.List.Sorted.{Contains-permutation}
-use Rattle.std.specs.List.{AllByRecursion, Contains}
-use Rattle.std.specs.List.Sorted.{IsPermutation}
 use Rattle.sml_objects.specs.Initial.{Name}
 use Rattle.sml_objects.specs.Objects.{MlType}
+use Rattle.sml_solve.specs.declared.change.Change.{Change}
 use Rattle.sml_solve.specs.declared.node.Node.{Node}
 use Rattle.sml_solve.specs.declared.node.Node.TheVariants.{Unknown}
 use Rattle.sml_solve.specs.Worlds.{finite, Assignment}
-use Rattle.sml_solve.specs.Graphs.{node_at, parts, Meets, AreOwners, IsAmong}
+use Rattle.sml_solve.specs.Graphs.{node_at, parts, Meets, AreOwners}
+use Rattle.sml_solve.specs.Changes.{HasChange, IsChange, IsOfAll, AreInside, AreCovered}
 use Rattle.sml_solve.specs.Interned.{Interns}
 use Rattle.sml_solve.specs.Fixed.{IsFixedBy}
-use Rattle.sml_solve.specs.Levels.{level_of, level_at, AreAtMost, IsHandedNode, AreHandedBut, IsLevelOf, AreLevels, Moves, BeginsLevel, levels_sum, LowersLevels, HandsLevels}
+use Rattle.sml_solve.specs.Levels.{level_of, level_at, AreAtMost, IsHandedNode, IsHandedTo, AreHandedBut, IsLevelOf, AreLevels, Moves, BeginsLevel, levels_sum, LowersLevels, HandsLevels}
 use Rattle.sml_solve.proofs.Interning.{get_or-left, get_or-right}
 use Rattle.sml_solve.proofs.Merging.{same_or_not, all-append, IsAmong-append, IsAmong-back}
 use Rattle.sml_solve.proofs.Searching.{all-parts}
-use Rattle.sml_solve.proofs.Limiting.{among-cases, all-among}
+use Rattle.sml_solve.proofs.Limiting.{all-among}
+use Rattle.sml_solve.proofs.Changing.{all-fewer, has-covered, has-front, has-back, has-more, has-map, has-cases, has-two, inside-both, inside-grown, begins-one, begins-then, all-both, all-rest, first-kept, first-still, first-fewer}
 use Rattle.sml_solve.proofs.Reaching.{parts-fixed}
 use Rattle.sml_solve.proofs.Wholeness.{get_or-push}
 
@@ -47,8 +47,9 @@ padded old new m n e h l f g i =
 
 -- levels that are lowered
 
-pub levels-one : (ls : List (Option ℕ)) (is : List ℕ) (at : ℕ) (x : Option ℕ) → at < length ls → level_of x < level_at ls at → LowersLevels ls is (at ∷ []) (level_of x) (set ls at x) (is ++ at ∷ [])
+pub levels-one : (ls : List (Option ℕ)) (is : List Change) (at : ℕ) (x : Option ℕ) → at < length ls → level_of x < level_at ls at → LowersLevels ls is (at ∷ []) (level_of x) (set ls at x) (is ++ record { node = at; from = 0 } ∷ [])
 levels-one ls is at x h b =
+    let new : Change = record { node = at; from = 0 } in
     let here = level-same ls at x h in
     record {
       len = length-set ls at x;
@@ -60,15 +61,15 @@ levels-one ls is at x h b =
           ];
       moved = λ i.
           elim (same_or_not i at) [
-            | inl q ↦ inr (rw q here, inl q, IsAmong-back i is (at ∷ []) (inl q))
+            | inl q ↦ inr (rw q here, inl q, has-back (IsOfAll i) is (new ∷ []) (inl (sym q, refl)))
             | inr d ↦ inl (level-other ls at i x d)
           ];
-      grows = λ i m. IsAmong-append i is (at ∷ []) m;
-      inside = λ m. all-append (λ i. i < length ls) is (at ∷ []) m (h, tt);
+      grows = begins-one is (is ++ new ∷ []) new refl;
+      inside = λ m. inside-both (length ls) is (new ∷ []) m (h, tt);
       less = let y = sum-set ls at x h in simp length-append (omega (arith, y, b));
     }
 
-pub levels-then : (ls ms ns : List (Option ℕ)) (is js ps : List ℕ) (ks ks' : List ℕ) (a : ℕ) → LowersLevels ls is ks a ms js → LowersLevels ms js ks' a ns ps → LowersLevels ls is (ks ++ ks') a ns ps
+pub levels-then : (ls ms ns : List (Option ℕ)) (is js ps : List Change) (ks ks' : List ℕ) (a : ℕ) → LowersLevels ls is ks a ms js → LowersLevels ms js ks' a ns ps → LowersLevels ls is (ks ++ ks') a ns ps
 levels-then ls ms ns is js ps ks ks' a f g =
     let len = f.len in
     let x = f.less in
@@ -82,42 +83,61 @@ levels-then ls ms ns is js ps ks ks' a f g =
             | inl e ↦
                 elim (f.moved i) [
                   | inl q ↦ inl (e ∙ q)
-                  | inr q ↦ inr (e ∙ q.0, IsAmong-append i ks ks' q.1, g.grows i q.2)
+                  | inr q ↦ inr (e ∙ q.0, IsAmong-append i ks ks' q.1, has-more (IsOfAll i) js ps g.grows q.2)
                 ]
             | inr e ↦ inr (e.0, IsAmong-back i ks ks' e.1, e.2)
           ];
-      grows = λ i m. g.grows i (f.grows i m);
-      inside = λ m. subst (λ k. AllByRecursion (λ i. i < k) ps) len (g.inside (subst (λ k. AllByRecursion (λ i. i < k) js) (sym len) (f.inside m)));
+      grows = begins-then is js ps f.grows g.grows;
+      inside = λ m. subst (λ k. AreInside k ps) len (g.inside (subst (λ k. AreInside k js) (sym len) (f.inside m)));
       less = omega (arith, x, y);
     }
 
 -- one more node is done
 
-pub handed-still : (ls ms : List (Option ℕ)) (i : ℕ) (x : Node) → ((k : ℕ) → level_at ms k ≤ level_at ls k) → level_at ms i ≡ level_at ls i → IsHandedNode ls i x → IsHandedNode ms i x
-handed-still ls ms i x f e c = all-parts (λ k. level_at ls k ≤ level_at ls i) (λ k. level_at ms k ≤ level_at ms i) (parts x) (λ k h. let z = f k in omega (arith, z, h, e)) c
+most-still : (ls ms : List (Option ℕ)) (i : ℕ) (ks : List ℕ) → ((k : ℕ) → level_at ms k ≤ level_at ls k) → level_at ms i ≡ level_at ls i → AreAtMost ls (level_at ls i) ks → AreAtMost ms (level_at ms i) ks
+most-still ls ms i ks f e c = all-parts (λ k. level_at ls k ≤ level_at ls i) (λ k. level_at ms k ≤ level_at ms i) ks (λ k h. let z = f k in omega (arith, z, h, e)) c
 
-pub but-lower : (ns : List Node) (ls ms : List (Option ℕ)) (is js : List ℕ) (at : ℕ) → AreHandedBut ns ls (is ++ at ∷ []) → LowersLevels ls is (parts (node_at ns at)) (level_at ls at) ms js → AreHandedBut ns ms js
-but-lower ns ls ms is js at b low i =
+pub handed-still : (ls ms : List (Option ℕ)) (i : ℕ) (x : Node) → ((k : ℕ) → level_at ms k ≤ level_at ls k) → level_at ms i ≡ level_at ls i → IsHandedNode ls i x → IsHandedNode ms i x
+handed-still ls ms i x f e c = most-still ls ms i (parts x) f e c
+
+pub left-still : (ls ms : List (Option ℕ)) (i : ℕ) (x : Node) (cs : List Change) → ((k : ℕ) → level_at ms k ≤ level_at ls k) → level_at ms i ≡ level_at ls i → HasChange (IsHandedTo ls i x) cs → HasChange (IsHandedTo ms i x) cs
+left-still ls ms i x cs f e m = has-map (IsHandedTo ls i x) (IsHandedTo ms i x) cs (λ c h. (h.0, most-still ls ms i (take c.from (parts x)) f e h.1)) m
+
+pub handed-covered : (ns : List Node) (ls : List (Option ℕ)) (is js : List Change) → AreCovered is js → AreHandedBut ns ls is → AreHandedBut ns ls js
+handed-covered ns ls is js a h i =
+    elim (h i) [
+      | inl x ↦ inl x
+      | inr m ↦ inr (has-covered (IsHandedTo ls i (node_at ns i)) is js (λ c d l x. (l.0 ∙ x.0, all-fewer (λ k. level_at ls k ≤ level_at ls i) d.from c.from (parts (node_at ns i)) l.1 x.1)) a m)
+    ]
+
+pub but-lower : (ns : List Node) (ls ms : List (Option ℕ)) (is js : List Change) (c : Change) → AreHandedBut ns ls (is ++ c ∷ []) → LowersLevels ls is (drop c.from (parts (node_at ns c.node))) (level_at ls c.node) ms js → AreHandedBut ns ms js
+but-lower ns ls ms is js c b low i =
     elim (low.moved i) [
-      | inr q ↦ inr q.2
+      | inr q ↦ inr (has-map (IsOfAll i) (IsHandedTo ms i (node_at ns i)) js (λ d o. (o.0, rw o.1 tt)) q.2)
       | inl q ↦
-          elim (same_or_not i at) [
-            | inl s ↦
-                let here : level_at ms at ≡ level_at ls at = ap (level_at ms) (sym s) ∙ (q ∙ ap (level_at ls) s) in
-                inl (rw s (all-parts (λ k. level_at ms k ≤ level_at ls at) (λ k. level_at ms k ≤ level_at ms at) (parts (node_at ns at)) (λ k h. omega (arith, here, h)) low.reach))
-            | inr d ↦
-                elim (b i) [
-                  | inl c ↦ inl (handed-still ls ms i (node_at ns i) low.under q c)
-                  | inr m ↦ elim (among-cases i is at m) [ inl n ↦ inr (low.grows i n) | inr n ↦ absurd (d n) ]
+          elim (b i) [
+            | inl d ↦ inl (handed-still ls ms i (node_at ns i) low.under q d)
+            | inr m ↦
+                elim (has-cases (IsHandedTo ls i (node_at ns i)) is c m) [
+                  | inl n ↦ inr (left-still ls ms i (node_at ns i) js low.under q (has-more (IsHandedTo ls i (node_at ns i)) is js low.grows n))
+                  | inr n ↦
+                      let x = node_at ns i in
+                      let at : node_at ns c.node ≡ x = ap (node_at ns) n.0 in
+                      let here : level_at ls c.node ≡ level_at ms i = ap (level_at ls) n.0 ∙ sym q in
+                      let new : AreAtMost ms (level_at ms i) (drop c.from (parts x)) = rw (← here, ← at) low.reach in
+                      inl (all-both (λ k. level_at ms k ≤ level_at ms i) c.from (parts x) (most-still ls ms i (take c.from (parts x)) low.under q n.1) new)
                 ]
           ]
     ]
 
-pub from-lower : (ns : List Node) (ls ks ms : List (Option ℕ)) (is js : List ℕ) (at : ℕ) → ((i : ℕ) → (j : ℕ) × (level_at ks i ≡ level_at ls j) × IsFixedBy ns (j ∷ []) i) → LowersLevels ks is (parts (node_at ns at)) (level_at ks at) ms js → (i : ℕ) → (j : ℕ) × (level_at ms i ≡ level_at ls j) × IsFixedBy ns (j ∷ []) i
-from-lower ns ls ks ms is js at from low i =
+pub from-lower : (ns : List Node) (ls ks ms : List (Option ℕ)) (is js : List Change) (at n : ℕ) → ((i : ℕ) → (j : ℕ) × (level_at ks i ≡ level_at ls j) × IsFixedBy ns (j ∷ []) i) → LowersLevels ks is (drop n (parts (node_at ns at))) (level_at ks at) ms js → (i : ℕ) → (j : ℕ) × (level_at ms i ≡ level_at ls j) × IsFixedBy ns (j ∷ []) i
+from-lower ns ls ks ms is js at n from low i =
     elim (low.moved i) [
       | inl q ↦ let w = from i in (w.0, q ∙ w.1, w.2)
-      | inr q ↦ let w = from at in (w.0, q.0 ∙ w.1, all-among (IsFixedBy ns (w.0 ∷ [])) (parts (node_at ns at)) i (parts-fixed ns (w.0 ∷ []) at w.2) q.1)
+      | inr q ↦
+          let w = from at in
+          let all = parts-fixed ns (w.0 ∷ []) at w.2 in
+          (w.0, q.0 ∙ w.1, all-among (IsFixedBy ns (w.0 ∷ [])) (drop n (parts (node_at ns at))) i (all-rest (IsFixedBy ns (w.0 ∷ [])) n (parts (node_at ns at)) all) q.1)
     ]
 
 pub fixed-self : (ns : List Node) (i : ℕ) → IsFixedBy ns (i ∷ []) i
@@ -126,13 +146,13 @@ fixed-self ns i σ τ a b e = e.0
 fixed-then : (ns : List Node) (i j k : ℕ) → IsFixedBy ns (i ∷ []) j → IsFixedBy ns (j ∷ []) k → IsFixedBy ns (i ∷ []) k
 fixed-then ns i j k f g σ τ a b e = g σ τ a b (f σ τ a b e, tt)
 
-pub none-left : (ns : List Node) (ls : List (Option ℕ)) (is : List ℕ) → AreHandedBut ns ls is → length is ≡ 0 → (i : ℕ) → IsHandedNode ls i (node_at ns i)
+pub none-left : (ns : List Node) (ls : List (Option ℕ)) (is : List Change) → AreHandedBut ns ls is → length is ≡ 0 → (i : ℕ) → IsHandedNode ls i (node_at ns i)
 none-left ns ls [] b e i = elim (b i) [ inl c ↦ c | inr m ↦ absurd m ]
-none-left ns ls (j ∷ is) b e i = absurd (omega (arith, e))
+none-left ns ls (c ∷ is) b e i = absurd (omega (arith, e))
 
 -- the levels of a solver's nodes
 
-pub levels-none : (ns : List Node) (us : List ℕ) (ls : List (Option ℕ)) (is : List ℕ) → ns ≡ [] → us ≡ [] → ls ≡ [] → is ≡ [] → AreLevels ns us ls is
+pub levels-none : (ns : List Node) (us : List ℕ) (ls : List (Option ℕ)) (is : List Change) → ns ≡ [] → us ≡ [] → ls ≡ [] → is ≡ [] → AreLevels ns us ls is
 levels-none ns us ls is e f g h = record {
   within = rw (g, e) (omega arith);
   begun = λ v l. let n = ap length f in absurd (omega (arith, l, n));
@@ -151,13 +171,28 @@ all-most : (ls : List (Option ℕ)) (ks : List ℕ) (a : ℕ) → ((k : ℕ) →
 all-most ls [] a f = tt
 all-most ls (k ∷ ks) a f = (f k, all-most ls ks a f)
 
-moved-but : (ns ms : List Node) (us is js : List ℕ) (ls : List (Option ℕ)) → length us ≤ 2 ^ 32 → AreLevels ns us ls is → Moves ns ms js → AreHandedBut ms ls (is ++ js)
+-- the changes of both lists are left to do
+both-left : (ms : List Node) (ls : List (Option ℕ)) (i : ℕ) (a : Node) (is js : List Change) → HasChange (IsHandedTo ls i a) is → HasChange (IsChange i a (node_at ms i)) js → HasChange (IsHandedTo ls i (node_at ms i)) (is ++ js)
+both-left ms ls i a is js m k =
+    let P : Change → Type 0 = IsHandedTo ls i a in
+    let Q : Change → Type 0 = IsChange i a (node_at ms i) in
+    has-two P Q (IsHandedTo ls i (node_at ms i)) (is ++ js) (λ c d x y.
+    elim (cases_lt d.from c.from) [
+      | inl l ↦ inr (y.0, first-still (λ k. level_at ls k ≤ level_at ls i) d.from c.from a (node_at ms i) (omega (arith, l)) y.1 x.1)
+      | inr g ↦ inl (x.0, first-fewer (λ k. level_at ls k ≤ level_at ls i) c.from d.from a (node_at ms i) g y.1 x.1)
+    ]) (has-front P is js m) (has-back Q is js k)
+
+moved-but : (ns ms : List Node) (us : List ℕ) (is js : List Change) (ls : List (Option ℕ)) → length us ≤ 2 ^ 32 → AreLevels ns us ls is → Moves ns ms js → AreHandedBut ms ls (is ++ js)
 moved-but ns ms us is js ls few x m i =
     elim (cases_lt i (length ns)) [
       | inl h ↦
           elim (m.outside i h) [
-            | inl e ↦ elim (x.handed i) [ inl y ↦ inl (rw e y) | inr a ↦ inr (IsAmong-append i is js a) ]
-            | inr a ↦ inr (IsAmong-back i is js a)
+            | inl e ↦ elim (x.handed i) [ inl y ↦ inl (rw e y) | inr a ↦ inr (has-front (IsHandedTo ls i (node_at ms i)) is js (rw e a)) ]
+            | inr a ↦
+                elim (x.handed i) [
+                  | inl y ↦ inr (has-back (IsHandedTo ls i (node_at ms i)) is js (has-map (IsChange i (node_at ns i) (node_at ms i)) (IsHandedTo ls i (node_at ms i)) js (λ c k. (k.0, first-kept (λ k. level_at ls k ≤ level_at ls i) c.from (node_at ns i) (node_at ms i) k.1 y)) a))
+                  | inr y ↦ inr (both-left ms ls i (node_at ns i) is js y a)
+                ]
           ]
       | inr h ↦
           let w = x.within in
@@ -165,16 +200,16 @@ moved-but ns ms us is js ls few x m i =
           inl (rw e (all-most ls (parts (node_at ms i)) (2 ^ 32) (λ k. level-most ns us (level_at ls k) k few (x.exact k))))
     ]
 
-pub levels-moved : (ns ms : List Node) (us is js ps : List ℕ) (ls : List (Option ℕ)) → length us ≤ 2 ^ 32 → AreLevels ns us ls is → Moves ns ms js → ps ≡ is ++ js → AreLevels ms us ls ps
+pub levels-moved : (ns ms : List Node) (us : List ℕ) (is js ps : List Change) (ls : List (Option ℕ)) → length us ≤ 2 ^ 32 → AreLevels ns us ls is → Moves ns ms js → ps ≡ is ++ js → AreLevels ms us ls ps
 levels-moved ns ms us is js ps ls few x m e = rw e record {
   within = let a = x.within in let b = m.len in omega (arith, a, b);
   begun = x.begun;
   handed = moved-but ns ms us is js ls few x m;
   exact = λ i. level-narrow ns ms us (level_at ls i) i m.narrows (x.exact i);
-  inside = all-append (λ i. i < length ms) is js (all-parts (λ i. i < length ns) (λ i. i < length ms) is (λ i l. let b = m.len in omega (arith, l, b)) x.inside) m.inside;
+  inside = inside-both (length ms) is js (inside-grown (length ns) (length ms) is m.len x.inside) m.inside;
 }
 
-pub levels-grown : (ns ms : List Node) (us is : List ℕ) (ls : List (Option ℕ)) → length us ≤ 2 ^ 32 → AreLevels ns us ls is → Moves ns ms [] → AreLevels ms us ls is
+pub levels-grown : (ns ms : List Node) (us : List ℕ) (is : List Change) (ls : List (Option ℕ)) → length us ≤ 2 ^ 32 → AreLevels ns us ls is → Moves ns ms [] → AreLevels ms us ls is
 levels-grown ns ms us is ls few x m = levels-moved ns ms us is [] is ls few x m (sym (append-nil is))
 
 level-from : (ns : List Node) (us : List ℕ) (n m i j : ℕ) → m ≡ n → IsFixedBy ns (j ∷ []) i → IsLevelOf ns us n j → IsLevelOf ns us m i
@@ -185,7 +220,7 @@ level-from ns us n m i j e f x =
       | inr h ↦ inr (h.0, fixed-then ns (get_or us n 0) j i h.1 f)
     ])
 
-pub levels-handed : (ns : List Node) (us is js : List ℕ) (ls ks : List (Option ℕ)) → AreLevels ns us ls is → HandsLevels ns ls ks → js ≡ [] → AreLevels ns us ks js
+pub levels-handed : (ns : List Node) (us : List ℕ) (is js : List Change) (ls ks : List (Option ℕ)) → AreLevels ns us ls is → HandsLevels ns ls ks → js ≡ [] → AreLevels ns us ks js
 levels-handed ns us is js ls ks x h e = record {
   within = h.within;
   begun = λ v l. let a = x.begun v l in let b = h.under (get_or us v 0) in omega (arith, a, b);
@@ -193,24 +228,6 @@ levels-handed ns us is js ls ks x h e = record {
   exact = λ i. let w = h.from i in level-from ns us (level_at ls w.0) (level_at ks i) i w.0 w.1 w.2 (x.exact w.0);
   inside = rw e tt;
 }
-
--- the nodes that are left to do, in another order
-
-among-contained : (i : ℕ) (xs : List ℕ) → IsAmong i xs → Contains xs i
-among-contained i [] m = absurd m
-among-contained i (x ∷ xs) m =
-    elim m [
-      | inl q ↦ (0, omega arith, sym q)
-      | inr a ↦ let c = among-contained i xs a in (suc c.0, let l = c.1 in omega (arith, l), c.2)
-    ]
-
-contained-among : (i : ℕ) (xs : List ℕ) (k : ℕ) → k < length xs → get_or xs k i ≡ i → IsAmong i xs
-contained-among i [] k l q = absurd (omega (arith, l))
-contained-among i (x ∷ xs) zero l q = inl (sym q)
-contained-among i (x ∷ xs) (suc k) l q = inr (contained-among i xs k (omega (arith, l)) q)
-
-pub among-sorted : (xs ys : List ℕ) (i : ℕ) → IsPermutation xs ys → IsAmong i xs → IsAmong i ys
-among-sorted xs ys i p m = let c = Contains-permutation xs ys i p (among-contained i xs m) in contained-among i ys c.0 c.1 c.2
 
 level-more : (ns : List Node) (us : List ℕ) (k n i : ℕ) → length us < 2 ^ 32 → IsLevelOf ns us n i → IsLevelOf ns (us ++ k ∷ []) n i
 level-more ns us k n i few x =
@@ -222,7 +239,7 @@ level-more ns us k n i few x =
           inr (simp length-append (omega (arith, z)), subst (λ a. IsFixedBy ns (a ∷ []) i) (sym e) h.1)
     ]
 
-pub levels-fresh : (ns ms : List Node) (us vs is : List ℕ) (ls ks : List (Option ℕ)) → AreOwners ns us → AreLevels ns us ls is → ms ≡ ns ++ Unknown ∷ [] → vs ≡ us ++ length ns ∷ [] → length us < 2 ^ 32 → BeginsLevel ls (length ns) (length us) ks → AreLevels ms vs ks is
+pub levels-fresh : (ns ms : List Node) (us vs : List ℕ) (is : List Change) (ls ks : List (Option ℕ)) → AreOwners ns us → AreLevels ns us ls is → ms ≡ ns ++ Unknown ∷ [] → vs ≡ us ++ length ns ∷ [] → length us < 2 ^ 32 → BeginsLevel ls (length ns) (length us) ks → AreLevels ms vs ks is
 levels-fresh ns ms us vs is ls ks o x e f few b =
     let n : length ms ≡ length ns + 1 = ap length e ∙ simp length-append in
     let m : length vs ≡ length us + 1 = ap length f ∙ simp length-append in
@@ -252,9 +269,9 @@ levels-fresh ns ms us vs is ls ks o x e f few b =
       handed = λ i.
           elim (same_or_not i (length ns)) [
             | inl q ↦ inl (rw (same i, q, get_or_past ns (length ns) Unknown (omega arith)) tt)
-            | inr d ↦ elim (x.handed i) [ inl y ↦ inl (rw (same i) (handed-still ls ks i (node_at ns i) under (b.others i d) y)) | inr a ↦ inr a ]
+            | inr d ↦ elim (x.handed i) [ inl y ↦ inl (rw (same i) (handed-still ls ks i (node_at ns i) under (b.others i d) y)) | inr a ↦ inr (rw (same i) (left-still ls ks i (node_at ns i) is under (b.others i d) a)) ]
           ];
-      inside = all-parts (λ i. i < length ns) (λ i. i < length ms) is (λ i l. omega (arith, l, n)) x.inside;
+      inside = inside-grown (length ns) (length ms) is (omega (arith, n)) x.inside;
       exact = λ i.
           elim (same_or_not i (length ns)) [
             | inl q ↦
@@ -274,7 +291,7 @@ grown-moves ns us t ms r x = record {
   narrows = λ σ m. (x.back finite σ m).0;
 }
 
-pub moves-then : (ns ms ls : List Node) (is : List ℕ) → Moves ns ms [] → Moves ms ls is → Moves ns ls is
+pub moves-then : (ns ms ls : List Node) (is : List Change) → Moves ns ms [] → Moves ms ls is → Moves ns ls is
 moves-then ns ms ls is a b =
     let n = a.len in
     let m = b.len in
@@ -283,11 +300,11 @@ moves-then ns ms ls is a b =
       outside = λ i h.
           elim (b.outside i (omega (arith, n, h))) [
             | inl e ↦ elim (a.outside i h) [ inl f ↦ inl (e ∙ f) | inr x ↦ absurd x ]
-            | inr x ↦ inr x
+            | inr x ↦ elim (a.outside i h) [ inl f ↦ inr (rw f at x) | inr y ↦ absurd y ]
           ];
       inside = b.inside;
       narrows = λ σ x. a.narrows σ (b.narrows σ x);
     }
 
-pub moves-same : (ns ms ls : List Node) (is : List ℕ) → ls ≡ ms → Moves ns ms is → Moves ns ls is
+pub moves-same : (ns ms ls : List Node) (is : List Change) → ls ≡ ms → Moves ns ms is → Moves ns ls is
 moves-same ns ms ls is e x = rw e x

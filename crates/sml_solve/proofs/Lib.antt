@@ -3,6 +3,7 @@ pub mod Rowing
 pub mod Opening
 pub mod Clashing
 pub mod Merging
+pub mod Changing
 pub mod Interning
 pub mod Searching
 pub mod Asking

@@ -28,7 +28,7 @@ use Rattle.sml_solve.specs.declared.node.Node.TheVariants.{Unknown, Link, App, O
 use Rattle.sml_solve.specs.Worlds.{World, In, Assignment, make}
 use Rattle.sml_objects.specs.Labels.{with_labels}
 use Rattle.sml_solve.specs.Rows.{HasFields, IsField, fields_at, kids_of}
-use Rattle.sml_solve.specs.Graphs.{head_over, node_at, Agrees, Meets, MeetsPairs, pairs_of, SameSolutions, HasNoSolution, IsSound, IsSoundNode, ArePairsIn, IsRootNode, IsSame, IsKnown, size, weight, Merges, AreApart, Joins, JoinsFields, JoinsRow, LacksLabel, fields_of, IsAmong, Leads, Changes}
+use Rattle.sml_solve.specs.Graphs.{head_over, node_at, Agrees, Meets, MeetsPairs, pairs_of, SameSolutions, HasNoSolution, IsSound, IsSoundNode, ArePairsIn, IsRootNode, IsSame, IsKnown, size, weight, Merges, AreApart, Joins, JoinsFields, JoinsRow, LacksLabel, fields_of, IsAmong, Leads}
 use Rattle.sml_solve.proofs.Worlding.{app_head, app_parts}
 use Rattle.sml_solve.proofs.Rowing.{Key, same-some, none-some, row-found, row-labels, labels-map, lookup-at, all-front, all-back, fields-known, has-these, has-front, has-back, has-both, field-found}
 
@@ -547,41 +547,6 @@ pub IsAmong-back : (i : ℕ) (xs ys : List ℕ) → IsAmong i ys → IsAmong i (
 IsAmong-back i [] ys a = a
 IsAmong-back i (x ∷ xs) ys a = inr (IsAmong-back i xs ys a)
 
-pub changes-none : (ns : List Node) (is : List ℕ) → Changes ns is ns is
-changes-none ns is = record { others = λ i. inl refl; grows = λ i a. a; inside = λ a. a }
-
-pub changes-two : (ns ms : List Node) (is : List ℕ) (a b high low : ℕ) → a < length ns → b < length ns → ((i : ℕ) → i ≢ high → i ≢ low → node_at ms i ≡ node_at ns i) → IsAmong high (a ∷ b ∷ []) → IsAmong low (a ∷ b ∷ []) → Changes ns is ms ((is ++ a ∷ []) ++ b ∷ [])
-changes-two ns ms is a b high low la lb o ph pl =
-    let two : (i : ℕ) → IsAmong i (a ∷ b ∷ []) → IsAmong i ((is ++ a ∷ []) ++ b ∷ []) = λ i m.
-    elim m [
-      | inl e ↦ IsAmong-append i (is ++ a ∷ []) (b ∷ []) (IsAmong-back i is (a ∷ []) (inl e))
-      | inr r ↦ IsAmong-back i (is ++ a ∷ []) (b ∷ []) r
-    ] in
-    record {
-      others = λ i.
-          elim (same_or_not i high) [
-            | inl e ↦ inr (two i (rw e ph))
-            | inr d ↦
-                elim (same_or_not i low) [
-                  | inl e ↦ inr (two i (rw e pl))
-                  | inr d' ↦ inl (o i d d')
-                ]
-          ];
-      grows = λ i m. IsAmong-append i (is ++ a ∷ []) (b ∷ []) (IsAmong-append i is (a ∷ []) m);
-      inside = λ m. all-append (λ i. i < length ns) (is ++ a ∷ []) (b ∷ []) (all-append (λ i. i < length ns) is (a ∷ []) m (la, tt)) (lb, tt);
-    }
-
-pub changes-then : (ns ms ls : List Node) (is js ks : List ℕ) → length ms ≡ length ns → Changes ns is ms js → Changes ms js ls ks → Changes ns is ls ks
-changes-then ns ms ls is js ks n a b = record {
-  others = λ i.
-      elim (b.others i) [
-        | inl e ↦ elim (a.others i) [ inl f ↦ inl (e ∙ f) | inr m ↦ inr (b.grows i m) ]
-        | inr m ↦ inr m
-      ];
-  grows = λ i m. b.grows i (a.grows i m);
-  inside = λ m. rw n at (b.inside (rw n (a.inside m)));
-}
-
 pub on_ok : {T E : Type 0} (r : Result T E) (P Q : Type 0) → OnOk r P → (P → Q) → OnOk r Q
 on_ok (Ok x) P Q a f = f a
 on_ok (Err e) P Q a f = tt
@@ -621,13 +586,6 @@ leads-past ns i j k s h e d =
             Meets-unset w ns σ i (Link k) m (rw e (p ∙ sym q)),
       );
     }
-
-pub changes-one : (ns : List Node) (is : List ℕ) (i : ℕ) (n : Node) → i < length ns → Changes ns is (set ns i n) (is ++ i ∷ [])
-changes-one ns is i n h = record {
-  others = λ x. elim (same_or_not x i) [ inl e ↦ inr (IsAmong-back x is (i ∷ []) (inl e)) | inr d ↦ inl (node_at-other ns i x n d) ];
-  grows = λ x m. IsAmong-append x is (i ∷ []) m;
-  inside = λ m. all-append (λ x. x < length ns) is (i ∷ []) m (h, tt);
-}
 
 pub same-link : (ns : List Node) (at i j : ℕ) → IsSame ns at i → node_at ns i ≡ Link j → IsSame ns at j
 same-link ns at i j a e w σ m = let p : σ i ≡ σ j = rw e at (m i) in a w σ m ∙ p

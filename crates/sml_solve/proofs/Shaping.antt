@@ -1,5 +1,5 @@
 -- Rows that are asked for.
-use Rattle.std.proofs.Common.{◌≡◌, ℕ, zero, suc, ◌+◌, ◌<◌, ◌≤◌, ◌⊎◌, inl, inr, List, [], ◌∷◌, ◌++◌, length, get_or, take, Global, sym, ◌∙◌, ap, subst, refl, arith, add-one, length-append}
+use Rattle.std.proofs.Common.{◌≡◌, ℕ, zero, suc, ◌+◌, ◌<◌, ◌≤◌, inl, inr, List, [], ◌∷◌, ◌++◌, length, get_or, take, Global, sym, ◌∙◌, ap, subst, refl, arith, add-one, length-append}
 use Rattle.std.specs.Prelude.{Bool}
 use Rattle.std.proofs.lemmas.Bool.{cases_lt}
 use Rattle.std.specs.List.{AllByRecursion}
@@ -13,13 +13,15 @@ use Rattle.sml_objects.specs.declared.objects.MlType.{MlType}
 use Rattle.sml_solve.specs.declared.graph.Graph.{Graph}
 use Rattle.sml_solve.specs.declared.layer.Layer.{Layer}
 use Rattle.sml_solve.specs.declared.layer.Layer.TheVariants.{Equations}
+use Rattle.sml_solve.specs.declared.change.Change.{Change}
 use Rattle.sml_solve.specs.declared.node.Node.{Node}
 use Rattle.sml_solve.specs.declared.node.Node.TheVariants.{Link, Open}
 use Rattle.sml_solve.specs.Worlds.{World, In, Assignment, finite, infinite, typed}
 use Rattle.sml_solve.specs.Rows.{HasFields, IsField, fields_at, kids_of}
-use Rattle.sml_solve.specs.Graphs.{node_at, fields_of, Meets, MeetsPairs, SameSolutions, HasNoSolution, ArePairsIn, IsSound, IsKnown, AreOwners, Changes, IsAmong}
+use Rattle.sml_solve.specs.Graphs.{node_at, fields_of, Meets, MeetsPairs, SameSolutions, HasNoSolution, ArePairsIn, IsSound, IsKnown, AreOwners, parts}
+use Rattle.sml_solve.specs.Changes.{Changes, HasChange, IsChange, SameOutside, AreInside}
 use Rattle.sml_solve.specs.Interned.{IsOver, through, Interns, InternsFields, IsPushed, IsRowWith, AsksRow, demanded}
-use Rattle.sml_solve.specs.Ranks.{HasRank, order_at}
+use Rattle.sml_solve.specs.Ranks.{HasRank, order_at, AreOrdered}
 use Rattle.sml_solve.specs.Limits.{limit_at, IsClosed, IsFit}
 use Rattle.sml_solve.specs.Asked.{asked_of, world, Permits, has_fields, CanMeet, IsFirstUnmet}
 use Rattle.sml_solve.specs.Levels.{Moves}
@@ -28,6 +30,8 @@ use Rattle.sml_solve.proofs.Rowing.{Key, has-front, has-back, has-both}
 use Rattle.sml_solve.proofs.Merging.{same_or_not, all-append, fields-append, field-same, field-there, inside-field, kids-more, MeetsPairs-append, MeetsPairs-front, MeetsPairs-back, ArePairsIn-append}
 use Rattle.sml_solve.proofs.Interning.{inside-at, inside-more, sound-more, typed-same, beyond, beyond-below, beyond-above, meets-beyond, meets-before, meets-push, node_at-last, node_at-before}
 use Rattle.sml_solve.proofs.Searching.{all-parts}
+use Rattle.sml_solve.proofs.Changing.{has-covered, change-earlier}
+use Rattle.sml_solve.proofs.Ordering.{changed-ordered}
 use Rattle.sml_solve.proofs.Limiting.{closed-as}
 use Rattle.sml_solve.proofs.Owning.{owners-grown, owners-merged}
 use Rattle.sml_solve.proofs.Demanding.{Stands, upto-as, upto-agree, through-agree, changed-but}
@@ -210,28 +214,26 @@ module _ (ns hs ks ms : List Node) (us : List ℕ) (t : O.MlType Name) (rs : Lis
   pub row-clash : HasNoSolution ms qs → (w : World) (τ : Assignment w) → Meets w ns τ → IsRowWith w us τ t rs → ⊥
   row-clash never w τ m row = let f = pushed-forth w τ m row in never w f.0 f.1 f.2
 
-  module _ (ls : List Node) (js is : List ℕ) (same : SameSolutions ms qs ls []) (changes : Changes ms js ls is) (begun : js ≡ r ∷ []) (len : length ls ≡ length ms) where
+  module _ (ls : List Node) (js is : List Change) (same : SameSolutions ms qs ls []) (changes : Changes ms js ls is) (begun : js ≡ record { node = r; from = 0 } ∷ []) (len : length ls ≡ length ms) where
     pub asks-row : AsksRow ns us t rs ls
     asks-row = record {
       back = λ w τ m. let a = (same w τ).1 (m, tt) in let b = pushed-back w τ a.0 a.1 in (b.0, b.1);
       forth = λ w τ m row. let f = pushed-forth w τ m row in (f.0, ((same w f.0).0 (f.1, f.2)).0, f.3);
     }
 
-    placed : IsAmong r is
-    placed = changes.grows r (subst (IsAmong r) (sym begun) (inl refl))
-
-    pub outside : (i : ℕ) → (node_at ls i ≡ node_at ks i) ⊎ IsAmong i is
+    pub outside : SameOutside ks ls is
     outside i =
         elim (same_or_not i r) [
-          | inl e ↦ inr (subst (λ k. IsAmong k is) (sym e) placed)
+          | inl e ↦ inr (has-covered (IsChange i (node_at ks i) (node_at ls i)) js is (change-earlier i (node_at ks i) (node_at ls i)) changes.covers (subst (HasChange (IsChange i (node_at ks i) (node_at ls i))) (sym begun) (inl (sym e, inl refl))))
           | inr d ↦
+              let old : node_at ms i ≡ node_at ks i = ap (λ n. node_at n i) z.nodes ∙ node_at-before ks (Open z.row) i (λ q. d (q ∙ sym place)) in
               elim (changes.others i) [
-                | inl e ↦ inl (e ∙ (ap (λ n. node_at n i) z.nodes ∙ node_at-before ks (Open z.row) i (λ q. d (q ∙ sym place))))
-                | inr m ↦ inr m
+                | inl e ↦ inl (e ∙ old)
+                | inr m ↦ inr (rw old at m)
               ]
         ]
 
-    pub within : AllByRecursion (λ i. i < length ls) is
+    pub within : AreInside (length ls) is
     within = let b = more in rw len (changes.inside (rw begun (omega (arith, place, b), tt)))
 
     pub moved-row : Moves ns ls is
@@ -242,9 +244,10 @@ module _ (ns hs ks ms : List Node) (us : List ℕ) (t : O.MlType Name) (rs : Lis
         record {
           len = omega (arith, n1, n2, b, len);
           outside = λ i h.
+              let old : node_at ks i ≡ node_at ns i = y.before i (omega (arith, h, n1)) ∙ x.before i h in
               elim (outside i) [
-                | inl e ↦ inl (e ∙ (y.before i (omega (arith, h, n1)) ∙ x.before i h))
-                | inr m ↦ inr m
+                | inl e ↦ inl (e ∙ old)
+                | inr m ↦ inr (rw old at m)
               ];
           inside = within;
           narrows = λ σ m. (asks-row.back finite σ m).0;
@@ -282,11 +285,12 @@ module _ (ns hs ks ms : List Node) (us : List ℕ) (t : O.MlType Name) (rs : Lis
         meets-push finite ks (Link at) σ c.2 c.3)
 
 -- a graph in which a row was asked for
-pub changed-row : (u : ℕ) (k m : Graph) (ls : List Node) (is : List ℕ) (f : Graph) → IsWhole u k → IsFull m → ((i : ℕ) → limit_at m.limits.items i ≡ limit_at k.limits.items i) → ((i : ℕ) → order_at m.orders.items i ≡ order_at k.orders.items i)
-    → f.nodes.items ≡ ls → f.limits.items ≡ m.limits.items → f.orders.items ≡ m.orders.items → f.bottom ≡ m.bottom → length ls ≡ length m.nodes.items → IsSound ls → AllByRecursion (λ i. i < length ls) is → ((i : ℕ) → (node_at ls i ≡ node_at k.nodes.items i) ⊎ IsAmong i is) → IsChanged u f is
+pub changed-row : (u : ℕ) (k m : Graph) (ls : List Node) (is : List Change) (f : Graph) → IsWhole u k → IsFull m → ((i : ℕ) → limit_at m.limits.items i ≡ limit_at k.limits.items i) → ((i : ℕ) → order_at m.orders.items i ≡ order_at k.orders.items i)
+    → f.nodes.items ≡ ls → f.limits.items ≡ m.limits.items → f.orders.items ≡ m.orders.items → f.bottom ≡ m.bottom → length ls ≡ length m.nodes.items → IsSound ls → AreInside (length ls) is → SameOutside k.nodes.items ls is → IsChanged u f is
 changed-row u k m ls is f w full lim ord en el eo eb len sound inside out =
     let closed : IsClosed k.nodes.items m.limits.items = λ i. closed-as k.limits.items m.limits.items i (node_at k.nodes.items i) lim (w.closed i) in
     let fit : (l : Layer) → IsFit l u k.nodes.items m.limits.items = λ l i. rw (lim i) (w.fit l i) in
+    let ordered : AreOrdered k.nodes.items m.orders.items = λ i h. all-parts (λ j. (0 < order_at k.orders.items j) × (order_at k.orders.items j < order_at k.orders.items i)) (λ j. (0 < order_at m.orders.items j) × (order_at m.orders.items j < order_at m.orders.items i)) (parts (node_at k.nodes.items i)) (λ j a. rw (ord j, ord i) a) (w.ordered i (rw (ord i) at h)) in
     record {
       full = record {
         limits = rw (el, en, len) full.limits;
@@ -298,11 +302,7 @@ changed-row u k m ls is f w full lim ord en el eo eb len sound inside out =
       before = k.nodes.items;
       rank = w.rank;
       outside = rw en out;
-      ordered = rw (en, eo) (λ i h.
-          elim (out i) [
-            | inl e ↦ inl (rw e (all-parts (λ j. (0 < order_at k.orders.items j) × (order_at k.orders.items j < order_at k.orders.items i)) (λ j. (0 < order_at m.orders.items j) × (order_at m.orders.items j < order_at m.orders.items i)) _ (λ j a. rw (ord j, ord i) a) (w.ordered i (rw (ord i) at h))))
-            | inr a ↦ inr a
-          ]);
+      ordered = rw (en, eo) (changed-ordered k.nodes.items ls m.orders.items is ordered out);
       but = rw (en, el) (changed-but u k.nodes.items ls m.limits.items is closed fit out);
     }
 

@@ -182,13 +182,3 @@ pub record Leads (ns ms : List Node) : Type 0 where
 abbrev pub IsAmong : ℕ → List ℕ → Type 0
 IsAmong i [] = ⊥
 IsAmong i (x ∷ xs) = (i ≡ x) ⊎ IsAmong i xs
-
--- the nodes that aren't among these are as they were
-abbrev pub SameOutside : List Node → List Node → List ℕ → Type 0
-SameOutside ns ms is = (i : ℕ) → (node_at ms i ≡ node_at ns i) ⊎ IsAmong i is
-
--- a vector and the nodes changed in it
-pub record Changes (ns : List Node) (is : List ℕ) (ms : List Node) (js : List ℕ) : Type 0 where
-  pub others : (i : ℕ) → (node_at ms i ≡ node_at ns i) ⊎ IsAmong i js
-  pub grows : (i : ℕ) → IsAmong i is → IsAmong i js
-  pub inside : AllByRecursion (λ i. i < length ns) is → AllByRecursion (λ i. i < length ns) js

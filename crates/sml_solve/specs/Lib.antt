@@ -1,6 +1,7 @@
 pub mod Worlds
 pub mod Rows
 pub mod Graphs
+pub mod Changes
 pub mod Interned
 pub mod Ranks
 pub mod Bounds

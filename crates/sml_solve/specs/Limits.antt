@@ -1,5 +1,5 @@
 -- What is asked of the type of each node, layer by layer, and what follows for the types of its parts.
-use Rattle.std.specs.Prelude.{◌≡◌, ℕ, ◌+◌, ◌<◌, ◌≤◌, ◌^◌, ◌↔◌, ◌⊎◌, Bool, true, false, not, ◌&&◌, ◌||◌, cond, nat_lt, List, [], ◌∷◌, length, Option, Some, None, slice_index_or}
+use Rattle.std.specs.Prelude.{◌≡◌, ℕ, ◌+◌, ◌<◌, ◌≤◌, ◌^◌, ◌↔◌, ◌⊎◌, Bool, true, false, not, ◌&&◌, ◌||◌, cond, nat_lt, List, [], ◌∷◌, length, take, Option, Some, None, slice_index_or}
 use Rattle.std.specs.List.{AllByRecursion}
 use Rattle.sml_objects.specs.Names.{Initial}
 use Rattle.sml_objects.specs.Initial.{Name, initial, naming, attributes_of}
@@ -9,10 +9,12 @@ use Rattle.sml_solve.specs.declared.class.Names.{Names}
 use Rattle.sml_solve.specs.declared.layer.Layer.{Layer}
 use Rattle.sml_solve.specs.declared.layer.Layer.TheVariants.{Equations, Finiteness, Newness, Locality, Equality, Classes, Rigidity}
 use Rattle.sml_solve.specs.declared.limits.Limit.{Limit}
+use Rattle.sml_solve.specs.declared.change.Change.{Change}
 use Rattle.sml_solve.specs.declared.node.Node.{Node}
 use Rattle.sml_solve.specs.declared.node.Node.TheVariants.{Unknown, Link, App, Open}
 use Rattle.sml_solve.specs.Worlds.{finite, Assignment}
 use Rattle.sml_solve.specs.Graphs.{node_at, head_over, parts, Meets, IsAmong}
+use Rattle.sml_solve.specs.Changes.{HasChange, BeginsWith, IsOfAll, AreInside}
 use Rattle.sml_solve.specs.Bounds.{IsWithin, IsHeadWithin}
 use Rattle.sml_solve.specs.Classes.{allows, both_names, IsIn}
 use Rattle.sml_solve.specs.Layers.{place_of}
@@ -137,9 +139,17 @@ handed (Link j) a = a
 handed (App h kids) a = for_parts (head_over h (length kids.items)) a
 handed (Open fs) a = for_parts (row []) a
 
+-- the limit is asked of each of these
+abbrev pub AreUnder : List Limit → Limit → List ℕ → Type 0
+AreUnder ls a ks = AllByRecursion (λ k. IsUnder (limit_at ls k) a) ks
+
 -- what is asked of the node is asked of its parts
 abbrev pub IsClosedNode : List Limit → ℕ → Node → Type 0
-IsClosedNode ls i x = AllByRecursion (λ k. IsUnder (limit_at ls k) (handed x (limit_at ls i))) (parts x)
+IsClosedNode ls i x = AreUnder ls (handed x (limit_at ls i)) (parts x)
+
+-- the same of its first parts, before the change
+abbrev pub IsClosedTo : List Limit → ℕ → Node → Change → Type 0
+IsClosedTo ls i x c = (c.node ≡ i) × AreUnder ls (handed x (limit_at ls i)) (take c.from (parts x))
 
 abbrev pub IsClosed : List Node → List Limit → Type 0
 IsClosed ns ls = (i : ℕ) → IsClosedNode ls i (node_at ns i)
@@ -153,10 +163,11 @@ abbrev pub IsBefore : Layer → Option Layer → Type 0
 IsBefore l None = Unit {0}
 IsBefore l (Some m) = place_of l < place_of m
 
--- each node is done, but for those that are left to do and for layers that failed
-abbrev pub IsDoneBut : ℕ → List Node → List Limit → Option Layer → List ℕ → Type 0
-IsDoneBut u ns ls f is =
-    (i : ℕ) → (IsClosedNode ls i (node_at ns i) × ((l : Layer) → IsBefore l f → IsFitNode l u (limit_at ls i) (node_at ns i))) ⊎ IsAmong i is
+-- each node is done, but for changes that are left to do and for layers that failed
+abbrev pub IsDoneBut : ℕ → List Node → List Limit → Option Layer → List Change → Type 0
+IsDoneBut u ns ls f cs =
+    (i : ℕ) → (IsClosedNode ls i (node_at ns i) × ((l : Layer) → IsBefore l f → IsFitNode l u (limit_at ls i) (node_at ns i)))
+    ⊎ HasChange (IsClosedTo ls i (node_at ns i)) cs
 
 -- the types that meet the nodes keep the one limits where they keep the others
 abbrev pub SameLimits : ℕ → List Node → List Limit → List Limit → Type 0
@@ -184,11 +195,11 @@ heights [] = 0
 heights (l ∷ ls) = height l + heights ls
 
 -- the limits of some nodes are lowered by one; nodes whose limit changed are left to do
-pub record Lowers (ls : List Limit) (is : List ℕ) (ks : List ℕ) (a : Limit) (ms : List Limit) (js : List ℕ) : Type 0 where
+pub record Lowers (ls : List Limit) (bs : List Change) (ks : List ℕ) (a : Limit) (ms : List Limit) (cs : List Change) : Type 0 where
   pub len : length ms ≡ length ls
-  pub reach : AllByRecursion (λ k. IsUnder (limit_at ms k) a) ks
+  pub reach : AreUnder ms a ks
   pub under : (i : ℕ) → IsUnder (limit_at ms i) (limit_at ls i)
-  pub moved : (i : ℕ) → (limit_at ms i ≡ limit_at ls i) ⊎ (IsOfBoth (limit_at ls i) a (limit_at ms i) × IsAmong i ks × IsAmong i js)
-  pub grows : (i : ℕ) → IsAmong i is → IsAmong i js
-  pub inside : AllByRecursion (λ i. i < length ls) is → AllByRecursion (λ i. i < length ls) js
-  pub less : heights ms + length js ≤ heights ls + length is
+  pub moved : (i : ℕ) → (limit_at ms i ≡ limit_at ls i) ⊎ (IsOfBoth (limit_at ls i) a (limit_at ms i) × IsAmong i ks × HasChange (IsOfAll i) cs)
+  pub grows : BeginsWith bs cs
+  pub inside : AreInside (length ls) bs → AreInside (length ls) cs
+  pub less : heights ms + length cs ≤ heights ls + length bs

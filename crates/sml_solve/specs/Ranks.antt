@@ -1,10 +1,12 @@
 -- Whether finite types meet the nodes, and orders of nodes, which show it.
-use Rattle.std.specs.Prelude.{◌≡◌, ℕ, suc, ◌+◌, ◌<◌, ◌≤◌, ◌⊎◌, List, [], ◌∷◌, length, slice_index, slice_index_or, cond, nat_lt, ◌-◌}
+use Rattle.std.specs.Prelude.{◌≡◌, ℕ, suc, ◌+◌, ◌<◌, ◌≤◌, ◌⊎◌, List, [], ◌∷◌, length, take, drop, slice_index, slice_index_or, cond, nat_lt, ◌-◌}
 use Rattle.std.specs.List.{AllByRecursion}
 use Rattle.sml_solve.specs.declared.finite.Visit.{Visit}
+use Rattle.sml_solve.specs.declared.change.Change.{Change}
 use Rattle.sml_solve.specs.declared.node.Node.{Node}
 use Rattle.sml_solve.specs.Worlds.{finite, Assignment}
 use Rattle.sml_solve.specs.Graphs.{node_at, parts, Meets, IsAmong}
+use Rattle.sml_solve.specs.Changes.{HasChange}
 
 abbrev pub HasFinite : List Node → Type 0
 HasFinite ns = (σ : Assignment finite) × Meets finite ns σ
@@ -28,17 +30,40 @@ order_at os i = slice_index_or os i no_order
 abbrev pub IsAbove : List ℕ → Node → ℕ → Type 0
 IsAbove os x n = AllByRecursion (λ k. order_at os k < n) (parts x)
 
--- the node's parts have orders, which are below the node's
-abbrev pub IsOrdered : List Node → List ℕ → ℕ → Type 0
-IsOrdered ns os i = AllByRecursion (λ k. (0 < order_at os k) × (order_at os k < order_at os i)) (parts (node_at ns i))
+-- these nodes have orders, which are below the node's
+abbrev pub AreBelow : List ℕ → ℕ → List ℕ → Type 0
+AreBelow os i ks = AllByRecursion (λ k. (0 < order_at os k) × (order_at os k < order_at os i)) ks
 
--- so are those of each node that has one
+-- so are the node's parts
+abbrev pub IsOrdered : List Node → List ℕ → ℕ → Type 0
+IsOrdered ns os i = AreBelow os i (parts (node_at ns i))
+
+-- so are those of each node that has an order
 abbrev pub AreOrdered : List Node → List ℕ → Type 0
 AreOrdered ns os = (i : ℕ) → order_at os i < no_order → IsOrdered ns os i
 
--- the same, but for some nodes
-abbrev pub AreOrderedBut : List Node → List ℕ → List ℕ → Type 0
-AreOrderedBut ns os is = (i : ℕ) → order_at os i < no_order → IsOrdered ns os i ⊎ IsAmong i is
+-- the node's first parts, before the change, are below it
+abbrev pub IsOrderedTo : List Node → List ℕ → ℕ → Change → Type 0
+IsOrderedTo ns os i c = (c.node ≡ i) × AreBelow os i (take c.from (parts (node_at ns i)))
+
+-- the same, but for what was changed
+abbrev pub AreOrderedBut : List Node → List ℕ → List Change → Type 0
+AreOrderedBut ns os cs = (i : ℕ) → order_at os i < no_order → IsOrdered ns os i ⊎ HasChange (IsOrderedTo ns os i) cs
+
+-- the same, but for parts that are some of these
+abbrev pub AreOrderedBeside : List Node → List ℕ → List ℕ → Type 0
+AreOrderedBeside ns os is =
+    (i : ℕ) → order_at os i < no_order → AllByRecursion (λ k. ((0 < order_at os k) × (order_at os k < order_at os i)) ⊎ IsAmong k is) (parts (node_at ns i))
+
+-- those of some parts that aren't below an order are added to others
+pub record FindsUnordered (os : List ℕ) (ks : List ℕ) (n : ℕ) (is js : List ℕ) : Type 0 where
+  pub grows : (i : ℕ) → IsAmong i is → IsAmong i js
+  pub inside : AllByRecursion (λ i. i < length os) is → AllByRecursion (λ i. i < length os) js
+  pub found : AllByRecursion (λ k. (order_at os k < n) ⊎ IsAmong k js) ks
+
+-- the new parts of what was changed are below their nodes, but for those that are some of these
+abbrev pub IsFoundIn : List Node → List ℕ → List ℕ → Change → Type 0
+IsFoundIn ns os is c = AllByRecursion (λ k. (order_at os k < order_at os c.node) ⊎ IsAmong k is) (drop c.from (parts (node_at ns c.node)))
 
 -- all orders are at or above the bottom
 abbrev pub AreFrom : ℕ → List ℕ → Type 0

@@ -1,13 +1,14 @@
 -- What a graph of nodes keeps between two demands, and what is left of it within one.
 use Rattle.std.specs.Prelude.{◌≡◌, ℕ, ◌<◌, List, length, [], ◌∷◌, None}
-use Rattle.std.specs.List.{AllByRecursion}
 use Rattle.sml_solve.specs.declared.graph.Graph.{Graph}
 use Rattle.sml_solve.specs.declared.layer.Layer.{Layer}
 use Rattle.sml_solve.specs.declared.layer.Layer.TheVariants.{Equations, Finiteness, Newness, Locality, Equality, Classes, Rigidity}
 use Rattle.sml_solve.specs.declared.limits.Limit.{Limit}
+use Rattle.sml_solve.specs.declared.change.Change.{Change}
 use Rattle.sml_solve.specs.declared.node.Node.{Node}
 use Rattle.sml_solve.specs.Worlds.{finite, Assignment}
-use Rattle.sml_solve.specs.Graphs.{IsSound, Meets, SameOutside, AreOwners}
+use Rattle.sml_solve.specs.Graphs.{IsSound, Meets, AreOwners}
+use Rattle.sml_solve.specs.Changes.{SameOutside, AreInside}
 use Rattle.sml_solve.specs.Ranks.{HasRank, AreFrom, AreOrdered, AreOrderedBut}
 use Rattle.sml_solve.specs.Layers.{place_of}
 use Rattle.sml_solve.specs.Limits.{KeepsAt, IsClosed, IsFit, IsDoneBut, SameLimits, NoneKeeps, Lowers}
@@ -32,16 +33,16 @@ pub record IsWhole (u : ℕ) (g : Graph) : Type 0 where
   pub closed : IsClosed g.nodes.items g.limits.items
   pub fit : (l : Layer) → IsFit l u g.nodes.items g.limits.items
 
--- The same, but for the nodes that were changed.
-pub record IsChanged (u : ℕ) (g : Graph) (is : List ℕ) : Type 0 where
+-- The same, but for what was changed.
+pub record IsChanged (u : ℕ) (g : Graph) (cs : List Change) : Type 0 where
   pub full : IsFull g
   pub sound : IsSound g.nodes.items
-  pub inside : AllByRecursion (λ i. i < length g.nodes.items) is
+  pub inside : AreInside (length g.nodes.items) cs
   pub before : List Node
   pub rank : HasRank before
-  pub outside : SameOutside before g.nodes.items is
-  pub ordered : AreOrderedBut g.nodes.items g.orders.items is
-  pub but : IsDoneBut u g.nodes.items g.limits.items None is
+  pub outside : SameOutside before g.nodes.items cs
+  pub ordered : AreOrderedBut g.nodes.items g.orders.items cs
+  pub but : IsDoneBut u g.nodes.items g.limits.items None cs
 
 -- the graph has become whole, and says the same
 pub record Finishes (u : ℕ) (g h : Graph) : Type 0 where
@@ -67,9 +68,9 @@ FailsAt Classes u g = FailsFirst Classes u g
 FailsAt Rigidity u g = FailsFirst Rigidity u g
 
 -- only the limit of one node is lowered
-pub record LowersLimit (g : Graph) (r : ℕ) (a : Limit) (h : Graph) (is : List ℕ) : Type 0 where
+pub record LowersLimit (g : Graph) (r : ℕ) (a : Limit) (h : Graph) (cs : List Change) : Type 0 where
   pub nodes : h.nodes.items ≡ g.nodes.items
-  pub lowers : Lowers g.limits.items [] (r ∷ []) a h.limits.items is
+  pub lowers : Lowers g.limits.items [] (r ∷ []) a h.limits.items cs
   pub orders : h.orders.items ≡ g.orders.items
   pub bottom : h.bottom ≡ g.bottom
 

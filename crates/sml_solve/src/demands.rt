@@ -13,6 +13,7 @@ ghost use Rattle.sml_solve.specs.Asked.{asked_of, equal, has_fields, asks, Adds,
 ghost use Rattle.sml_solve.specs.Levels.{Moves};
 ghost use Rattle.sml_solve.specs.Whole.{IsFull, IsWhole, IsChanged, IsKept, LowersLimit};
 
+use crate::change::Change;
 use crate::fields::Fields;
 use crate::graph::{Graph, add, fill, finish, merge_two};
 use crate::layer::{Ask, Layer, Refusal};
@@ -25,7 +26,7 @@ use sml_tree::bare::Ident;
 use std::alloc::Global;
 use std::rc::Rc;
 
-/// Demands that two types are equal. Gives the nodes that may have changed.
+/// Demands that two types are equal. Gives what was changed.
 pub(crate) fn equate(
     alloc: Global,
     unit: UnitId,
@@ -33,7 +34,7 @@ pub(crate) fn equate(
     unknowns: &[usize],
     left: &MlType,
     right: &MlType,
-) -> Result<Vec<usize>, Refusal>
+) -> Result<Vec<Change>, Refusal>
     requires kept { IsKept (maker_of unit) graph.old unknowns.now }
     requires left { IsOver (length unknowns.now) (type_of left.now) }
     requires right { IsOver (length unknowns.now) (type_of right.now) }
@@ -106,14 +107,14 @@ fn push_row(alloc: Global, graph: &mut Graph, row: Fields) -> Result<usize, Memo
     Ok(at)
 }
 
-/// Makes a type a row that has some fields. Gives the nodes that may have changed.
+/// Makes a type a row that has some fields. Gives what was changed.
 fn open(
     alloc: Global,
     graph: &mut Graph,
     unknowns: &[usize],
     ty: &MlType,
     fields: &[(Ident, Rc<MlType>)],
-) -> Result<Vec<usize>, Refusal>
+) -> Result<Vec<Change>, Refusal>
     requires full { IsFull graph.old }
     requires sound { IsSound graph.old.nodes.items }
     requires inside { AllByRecursion (λ u. u < length graph.old.nodes.items) unknowns.now }
@@ -141,20 +142,20 @@ fn open(
         return Err(Refusal::Memory);
     };
     let mut changed = Vec::new(alloc);
-    if let Err(_) = changed.push(place) {
+    if let Err(_) = changed.push(Change::of(place)) {
         return Err(Refusal::Memory);
     }
     if let Err(_) = pending.push((at, place)) {
         return Err(Refusal::Memory);
     }
-    match solve(&mut graph.nodes, pending, &mut changed) {
-        Ok(()) => Ok(changed),
+    match solve(alloc, &mut graph.nodes, pending, changed) {
+        Ok(changed) => Ok(changed),
         Err(Unsolved::Clash) => Err(Refusal::Unmet(Layer::Equations)),
         Err(Unsolved::Memory) => Err(Refusal::Memory),
     }
 }
 
-/// Demands that a type is a row that has some fields. Gives the nodes that may have changed.
+/// Demands that a type is a row that has some fields. Gives what was changed.
 pub(crate) fn ask_row(
     alloc: Global,
     unit: UnitId,
@@ -162,7 +163,7 @@ pub(crate) fn ask_row(
     unknowns: &[usize],
     ty: &MlType,
     fields: &[(Ident, Rc<MlType>)],
-) -> Result<Vec<usize>, Refusal>
+) -> Result<Vec<Change>, Refusal>
     requires kept { IsKept (maker_of unit) graph.old unknowns.now }
     requires ty { IsOver (length unknowns.now) (type_of ty.now) }
     requires fields { AllByRecursion (λ f. IsOver (length unknowns.now) f.1) (demanded fields.now) }
@@ -214,13 +215,13 @@ pub(crate) fn impose(
     }
 }
 
-/// Lowers the limit of a node. Gives the nodes whose limits may have changed.
+/// Lowers the limit of a node. Gives what was changed.
 fn lower_limit(
     alloc: Global,
     graph: &mut Graph,
     at: usize,
     limit: Limit,
-) -> Result<Vec<usize>, Memory>
+) -> Result<Vec<Change>, Memory>
     requires full { IsFull graph.old }
     requires inside { at < length graph.old.nodes.items }
     ensures lowers { IfOk result (λ changed. LowersLimit graph.old at limit graph.new changed.items) }

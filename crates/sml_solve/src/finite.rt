@@ -1,17 +1,17 @@
-//! Whether finite types meet the nodes. The search goes from the nodes that were changed, and stops at those that have
-//! their order.
+//! Whether finite types meet the nodes. The search goes from what was changed, and stops at nodes that have their order.
 
-ghost use Rattle.std.specs.Prelude.{◌≡◌, ℕ, ◌+◌, ◌++◌, ◌^◌, ◌<◌, ◌≤◌, List, [], length, slice_index, IfOk, OnOk, OnSome};
+ghost use Rattle.std.specs.Prelude.{◌≡◌, ℕ, ◌+◌, ◌^◌, ◌<◌, ◌≤◌, List, [], length, slice_index, IfOk, OnOk, OnSome};
 ghost use Rattle.std.specs.Bool.{OnTrue, OnFalse};
 ghost use Rattle.std.specs.Option.{IfSome, IfNone};
 ghost use Rattle.std.specs.List.{AllByRecursion};
 ghost use Rattle.sml_solve.specs.declared.node.Node.{Node};
-ghost use Rattle.sml_solve.specs.Graphs.{IsSound, SameOutside, parts};
+ghost use Rattle.sml_solve.specs.Graphs.{IsAmong, IsSound, parts};
+ghost use Rattle.sml_solve.specs.Changes.{SameOutside, AreInside};
 ghost use Rattle.sml_solve.specs.Ranks.{HasRank, AreFrom, AreOrdered, AreOrderedBut, Gives, IsDone, IsSearch, order_at};
 
-use crate::node::{Node, parts_of};
+use crate::change::Change;
+use crate::node::{Node, parts_from, parts_of};
 use crate::orders::{NO_ORDER, Orders, unordered};
-use crate::reach::push_parts;
 use sml_lex::fault::Memory;
 use std::alloc::Global;
 
@@ -116,36 +116,37 @@ fn give_orders(
     Ok(true)
 }
 
-/// Some nodes and their parts.
-fn with_parts(alloc: Global, nodes: &[Node], some: &[usize]) -> Result<Vec<usize>, Memory>
+/// The nodes that were changed, and their parts that may be new.
+fn with_parts(alloc: Global, nodes: &[Node], changed: &[Change]) -> Result<Vec<usize>, Memory>
     requires sound { IsSound nodes.now }
-    requires inside { AllByRecursion (λ i. i < length nodes.now) some.now }
+    requires inside { AreInside (length nodes.now) changed.now }
     ensures inside { IfOk result (λ all. AllByRecursion (λ i. i < length nodes.now) all.items) }
-    ensures some { IfOk result (λ all. (more : List ℕ) × (all.items ≡ some.now ++ more)) }
+    ensures changed { IfOk result (λ all. AllByRecursion (λ c. IsAmong c.node all.items) changed.now) }
 {
-    let mut all = Vec::from_slice(alloc, some)?;
-    for at in some {
-        push_parts(&mut all, &nodes[*at])?;
+    let mut all = Vec::new(alloc);
+    for change in changed {
+        all.push(change.node)?;
+        all.extend_from_slice(parts_from(&nodes[change.node], change.from))?;
     }
     Ok(all)
 }
 
 /// Whether no node leads to itself, as far as that may have changed. What has no order gets one above those of its
-/// parts; a node that was changed and isn't above its parts goes with all that it leads to below all other nodes.
+/// parts; a new part that isn't below its node goes with all that it leads to below all other nodes.
 pub(crate) fn is_finite(
     alloc: Global,
     nodes: &[Node],
     orders: &mut [u64],
     bottom: &mut u64,
     top: &mut u64,
-    changed: &[usize],
+    changed: &[Change],
 ) -> Result<bool, Memory>
     requires sound { IsSound nodes.now }
     requires len { length orders.old ≡ length nodes.now }
     requires from { AreFrom bottom.old orders.old }
     requires positive { 0 < bottom.old }
     requires ordered { AreOrderedBut nodes.now orders.old changed.now }
-    requires inside { AllByRecursion (λ i. i < length nodes.now) changed.now }
+    requires inside { AreInside (length nodes.now) changed.now }
     ensures from { IfOk result (λ b. OnTrue b (AreFrom bottom.new orders.new)) }
     ensures positive { IfOk result (λ b. OnTrue b (0 < bottom.new)) }
     ensures ordered { IfOk result (λ b. OnTrue b (AreOrdered nodes.now orders.new)) }

@@ -8,12 +8,14 @@ ghost use Rattle.sml_objects.specs.Views.{type_of, maker_of};
 ghost use Rattle.sml_solve.specs.declared.layer.Layer.{Layer};
 ghost use Rattle.sml_solve.specs.declared.node.Node.{Node};
 ghost use Rattle.sml_solve.specs.Worlds.{World, Assignment, finite};
-ghost use Rattle.sml_solve.specs.Graphs.{IsSound, Meets, SameOutside};
+ghost use Rattle.sml_solve.specs.Graphs.{IsSound, Meets};
+ghost use Rattle.sml_solve.specs.Changes.{SameOutside, AreInside};
 ghost use Rattle.sml_solve.specs.Interned.{IsOver, Interns};
 ghost use Rattle.sml_solve.specs.Ranks.{order_at};
 ghost use Rattle.sml_solve.specs.Limits.{limit_at, IsClosed, IsFit, IsBefore, IsDoneBut, SameLimits, NoneKeeps};
 ghost use Rattle.sml_solve.specs.Whole.{IsFull, HasBottom, IsWhole, IsChanged, Finishes, FailsAt};
 
+use crate::change::Change;
 use crate::finite::is_finite;
 use crate::intern::intern;
 use crate::layer::{Layer, Refusal};
@@ -72,13 +74,13 @@ pub(crate) fn add(
     Ok(at)
 }
 
-/// Makes one node of two. Gives the nodes that may have changed.
+/// Makes one node of two. Gives what was changed.
 pub(crate) fn merge_two(
     alloc: Global,
     nodes: &mut Vec<Node>,
     left: usize,
     right: usize,
-) -> Result<Vec<usize>, Refusal>
+) -> Result<Vec<Change>, Refusal>
     requires sound { IsSound nodes.old.items }
     requires left { left < length nodes.old.items }
     requires right { right < length nodes.old.items }
@@ -86,35 +88,34 @@ pub(crate) fn merge_two(
     ensures sound { OnOk result (IsSound nodes.new.items) }
     ensures same { OnOk result ((w : World) (σ : Assignment w) → Meets w nodes.new.items σ ↔ (Meets w nodes.old.items σ × (σ left ≡ σ right))) }
     ensures outside { IfOk result (λ changed. SameOutside nodes.old.items nodes.new.items changed.items) }
-    ensures inside { IfOk result (λ changed. AllByRecursion (λ i. i < length nodes.old.items) changed.items) }
+    ensures inside { IfOk result (λ changed. AreInside (length nodes.old.items) changed.items) }
     ensures unmet { (l : Layer) → result ≡ Err (Refusal.Unmet l) → l ≡ Layer.Equations }
     ensures clash { (l : Layer) → result ≡ Err (Refusal.Unmet l) → (w : World) (σ : Assignment w) → Meets w nodes.old.items σ → σ left ≡ σ right → ⊥ }
     ensures spent { result ≡ Err Refusal.Spent → ⊥ }
     ensures labels { result ≡ Err Refusal.Labels → ⊥ }
 {
-    let mut changed = Vec::new(alloc);
     let mut pending = Vec::new(alloc);
     if let Err(_) = pending.push((left, right)) {
         return Err(Refusal::Memory);
     }
-    match solve(nodes, pending, &mut changed) {
-        Ok(()) => Ok(changed),
+    match solve(alloc, nodes, pending, Vec::new(alloc)) {
+        Ok(changed) => Ok(changed),
         Err(Unsolved::Clash) => Err(Refusal::Unmet(Layer::Equations)),
         Err(Unsolved::Memory) => Err(Refusal::Memory),
     }
 }
 
-/// Hands the limits of the nodes that were changed on. Gives the first layer in which a limit isn't kept.
+/// Hands limits on from what was changed. Gives the first layer in which a limit isn't kept.
 fn hand_on_from(
     alloc: Global,
     nodes: &[Node],
     limits: &mut Vec<Limit>,
     unit: UnitId,
-    changed: &[usize],
+    changed: &[Change],
 ) -> Result<Option<Layer>, Memory>
     requires sound { IsSound nodes.now }
     requires len { length limits.old.items ≡ length nodes.now }
-    requires inside { AllByRecursion (λ i. i < length nodes.now) changed.now }
+    requires inside { AreInside (length nodes.now) changed.now }
     requires but { IsDoneBut (maker_of unit) nodes.now limits.old.items None changed.now }
     ensures len { OnOk result (length limits.new.items ≡ length nodes.now) }
     ensures closed { OnOk result (IsClosed nodes.now limits.new.items) }
@@ -127,12 +128,12 @@ fn hand_on_from(
     Ok(failed)
 }
 
-/// Makes a graph whole again from the nodes that were changed, layer by layer.
+/// Makes a graph whole again from what was changed, layer by layer.
 pub(crate) fn finish(
     alloc: Global,
     graph: &mut Graph,
     unit: UnitId,
-    changed: &[usize],
+    changed: &[Change],
 ) -> Result<(), Refusal>
     requires { IsChanged (maker_of unit) graph.old changed.now }
     ensures ok { OnOk result (Finishes (maker_of unit) graph.old graph.new) }

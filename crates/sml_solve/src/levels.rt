@@ -1,15 +1,17 @@
 //! How old the oldest unknown is that leads to a node. It is handed on from a node to its parts, from the nodes that were
 //! changed on.
 
-ghost use Rattle.std.specs.Prelude.{◌≡◌, ◌↔◌, ◌<◌, ◌≤◌, ◌^◌, [], ◌∷◌, true, false, length, slice_index_or, IfOk, OnOk};
+ghost use Rattle.std.specs.Prelude.{◌≡◌, ℕ, ◌↔◌, ◌<◌, ◌≤◌, ◌^◌, [], ◌∷◌, true, false, length, slice_index_or, IfOk, OnOk};
 ghost use Rattle.std.specs.Bool.{OnTrue, OnFalse};
 ghost use Rattle.std.specs.List.{AllByRecursion};
-ghost use Rattle.std.specs.List.Sorted.{IsPermutation, IsNonDecreasingBy};
+ghost use Rattle.std.specs.List.Sorted.{IsNonDecreasingBy};
 ghost use Rattle.sml_solve.specs.Graphs.{IsSound};
+ghost use Rattle.sml_solve.specs.Changes.{AreCovered, AreInside};
 ghost use Rattle.sml_solve.specs.Levels.{level_of, level_at, level_rank, AreHandedBut, AreHeld, BeginsLevel, LowersLevels, HandsLevels};
 
+use crate::change::{Change, fewest};
 use crate::count::root_of;
-use crate::node::{Node, parts_of};
+use crate::node::{Node, parts_from};
 use sml_lex::fault::Memory;
 use std::alloc::Global;
 
@@ -43,7 +45,7 @@ pub(crate) fn begin_level(
 /// Lowers the level of a node, which is then left to do.
 fn lower_level(
     levels: &mut Vec<Option<u32>>,
-    pending: &mut Vec<usize>,
+    pending: &mut Vec<Change>,
     at: usize,
     level: Option<u32>,
 ) -> Result<(), Memory>
@@ -51,7 +53,7 @@ fn lower_level(
     ensures { OnOk result (LowersLevels levels.old.items pending.old.items (at ∷ []) (level_of level) levels.new.items pending.new.items) }
 {
     if is_lower(level, levels[at]) {
-        pending.push(at)?;
+        pending.push(Change::of(at))?;
         levels[at] = level;
     }
     Ok(())
@@ -60,7 +62,7 @@ fn lower_level(
 /// The same for several nodes.
 fn lower_levels(
     levels: &mut Vec<Option<u32>>,
-    pending: &mut Vec<usize>,
+    pending: &mut Vec<Change>,
     parts: &[usize],
     level: Option<u32>,
 ) -> Result<(), Memory>
@@ -87,32 +89,40 @@ fn rank_of(levels: &[Option<u32>], node: usize) -> u32
     }
 }
 
-/// Nodes, those with the lowest levels last. So each node gets a level once, where levels are handed on from the last.
-pub(crate) fn by_level(levels: &[Option<u32>], mut nodes: Vec<usize>) -> Result<Vec<usize>, Memory>
-    ensures permutation { IfOk result (λ sorted. IsPermutation nodes.items sorted.items) }
-    ensures order { IfOk result (λ sorted. IsNonDecreasingBy (level_rank levels.now) sorted.items) }
+/// Changes of the same parts, each node but once, and those of the nodes with the lowest levels last. So each node gets a
+/// level once, where levels are handed on from the last.
+pub(crate) fn by_level(
+    alloc: Global,
+    levels: &[Option<u32>],
+    changes: Vec<Change>,
+) -> Result<Vec<Change>, Memory>
+    ensures covers { IfOk result (λ sorted. AreCovered changes.items sorted.items) }
+    ensures inside { (n : ℕ) → AreInside n changes.items → IfOk result (λ sorted. AreInside n sorted.items) }
+    ensures order { IfOk result (λ sorted. IsNonDecreasingBy (λ c. level_rank levels.now c.node) sorted.items) }
 {
-    nodes.sort_by_key(|node| rank_of(levels, *node))?;
-    Ok(nodes)
+    let mut few = fewest(alloc, changes)?;
+    few.sort_by_key(|change| rank_of(levels, change.node))?;
+    Ok(few)
 }
 
-/// Hands the levels of the nodes that are left to do on to all that they lead to. Nodes that have no level yet may be
+/// Hands levels on from the changes that are left to do to all that these lead to. Nodes that have no level yet may be
 /// missing at the end.
 pub(crate) fn hand_levels_on(
     nodes: &[Node],
     levels: &mut Vec<Option<u32>>,
-    mut pending: Vec<usize>,
+    mut pending: Vec<Change>,
 ) -> Result<(), Memory>
     requires sound { IsSound nodes.now }
     requires within { length levels.old.items ≤ length nodes.now }
-    requires inside { AllByRecursion (λ i. i < length nodes.now) pending.items }
+    requires inside { AreInside (length nodes.now) pending.items }
     requires but { AreHandedBut nodes.now levels.old.items pending.items }
     ensures { OnOk result (HandsLevels nodes.now levels.old.items levels.new.items) }
 {
     levels.resize(nodes.len(), None)?;
-    while let Some(at) = pending.pop() {
-        let level = levels[at];
-        lower_levels(levels, &mut pending, parts_of(&nodes[at]), level)?;
+    while let Some(change) = pending.pop() {
+        let level = levels[change.node];
+        let parts = parts_from(&nodes[change.node], change.from);
+        lower_levels(levels, &mut pending, parts, level)?;
     }
     Ok(())
 }

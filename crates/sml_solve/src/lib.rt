@@ -1,6 +1,7 @@
 // Unification: what a declaration asks of its unknown types, and the types that meet it.
 #![tactic(auto)]
 
+mod change;
 pub mod class;
 mod closing;
 mod count;

@@ -1,7 +1,7 @@
 //! What is asked of the types of nodes, beyond equations. It is handed on from a node to its parts, from the nodes that
 //! were changed on.
 
-ghost use Rattle.std.specs.Prelude.{◌≡◌, ℕ, ◌<◌, ◌^◌, ◌⊎◌, [], ◌∷◌, length, Some, None, true, false, IfOk, OnOk};
+ghost use Rattle.std.specs.Prelude.{◌≡◌, ℕ, ◌<◌, ◌^◌, ◌⊎◌, [], ◌∷◌, length, drop, Some, None, true, false, IfOk, OnOk};
 ghost use Rattle.std.specs.Bool.{OnTrue, OnFalse};
 ghost use Rattle.std.specs.Option.{IfSome, IfNone};
 ghost use Rattle.std.specs.List.{AllByRecursion};
@@ -10,15 +10,17 @@ ghost use Rattle.sml_objects.specs.Views.{maker_of};
 ghost use Rattle.sml_solve.specs.declared.layer.Layer.{Layer};
 ghost use Rattle.sml_solve.specs.Worlds.{finite, Assignment};
 ghost use Rattle.sml_solve.specs.Graphs.{IsSound, Meets, head_over, parts};
+ghost use Rattle.sml_solve.specs.Changes.{AreInside};
 ghost use Rattle.sml_solve.specs.Layers.{place_of};
 ghost use Rattle.sml_solve.specs.Variables.{IsPossible, FitsVariables};
 ghost use Rattle.sml_solve.specs.Overloaded.{has_several};
 ghost use Rattle.sml_solve.specs.Schemes.{has_one};
 ghost use Rattle.sml_solve.specs.Limits.{no_limit, both, both_bounds, both_classes, FitsBound, FitsEquality, FitsClass, FitsAt, IsFitNode, handed, IsClosed, IsFit, IsBefore, IsDoneBut, SameLimits, NoneKeeps, Lowers};
 
+use crate::change::Change;
 use crate::class::Names;
 use crate::layer::Layer;
-use crate::node::{Head, Node, parts_of};
+use crate::node::{Head, Node, parts_from};
 use crate::variable::Variables;
 use sml_lex::fault::Memory;
 use sml_objects::equality::{has_equality, is_reference};
@@ -311,7 +313,7 @@ fn earlier(one: Option<Layer>, other: Option<Layer>) -> Option<Layer>
 /// Lowers the limit of a node, which is then left to do.
 pub(crate) fn lower(
     limits: &mut [Limit],
-    pending: &mut Vec<usize>,
+    pending: &mut Vec<Change>,
     at: usize,
     limit: Limit,
 ) -> Result<(), Memory>
@@ -320,7 +322,7 @@ pub(crate) fn lower(
 {
     let lowered = limits[at].and(limit);
     if !is_same_limit(lowered, limits[at]) {
-        pending.push(at)?;
+        pending.push(Change::of(at))?;
         limits[at] = lowered;
     }
     Ok(())
@@ -329,7 +331,7 @@ pub(crate) fn lower(
 /// The same for several nodes.
 fn lower_all(
     limits: &mut [Limit],
-    pending: &mut Vec<usize>,
+    pending: &mut Vec<Change>,
     parts: &[usize],
     limit: Limit,
 ) -> Result<(), Memory>
@@ -342,30 +344,36 @@ fn lower_all(
     Ok(())
 }
 
-/// Hands a limit on to the parts of a node.
+/// Hands a limit on to the parts of a node from a place on.
 fn hand_on(
     limits: &mut [Limit],
-    pending: &mut Vec<usize>,
+    pending: &mut Vec<Change>,
     node: &Node,
+    from: usize,
     limit: Limit,
 ) -> Result<(), Memory>
-    requires { AllByRecursion (λ k. k < length limits.old) (parts node.now) }
-    ensures { OnOk result (Lowers limits.old pending.old.items (parts node.now) (handed node.now limit) limits.new pending.new.items) }
+    requires { AllByRecursion (λ k. k < length limits.old) (drop from (parts node.now)) }
+    ensures { OnOk result (Lowers limits.old pending.old.items (drop from (parts node.now)) (handed node.now limit) limits.new pending.new.items) }
 {
-    lower_all(limits, pending, parts_of(node), handed_on(node, limit))
+    lower_all(
+        limits,
+        pending,
+        parts_from(node, from),
+        handed_on(node, limit),
+    )
 }
 
-/// Hands the limits of the nodes that are left to do on to all that they lead to. Gives the first layer in which a limit
-/// isn't kept.
+/// Hands limits on from the changes that are left to do to all that these lead to. Gives the first layer in which a
+/// limit isn't kept.
 pub(crate) fn hand_on_all(
     nodes: &[Node],
     limits: &mut [Limit],
     unit: UnitId,
-    mut pending: Vec<usize>,
+    mut pending: Vec<Change>,
 ) -> Result<Option<Layer>, Memory>
     requires sound { IsSound nodes.now }
     requires len { length limits.old ≡ length nodes.now }
-    requires inside { AllByRecursion (λ i. i < length limits.old) pending.items }
+    requires inside { AreInside (length limits.old) pending.items }
     requires but { IsDoneBut (maker_of unit) nodes.now limits.old None pending.items }
     ensures closed { OnOk result (IsClosed nodes.now limits.new) }
     ensures fit { IfOk result (λ failed. (l : Layer) → IsBefore l failed → IsFit l (maker_of unit) nodes.now limits.new) }
@@ -373,10 +381,11 @@ pub(crate) fn hand_on_all(
     ensures fails { IfOk result (λ failed. IfSome failed (NoneKeeps (maker_of unit) nodes.now limits.old)) }
 {
     let mut failed = None;
-    while let Some(at) = pending.pop() {
-        let limit = limits[at];
-        failed = earlier(failed, misfit(&nodes[at], limit, unit));
-        hand_on(limits, &mut pending, &nodes[at], limit)?;
+    while let Some(change) = pending.pop() {
+        let limit = limits[change.node];
+        let node = &nodes[change.node];
+        failed = earlier(failed, misfit(node, limit, unit));
+        hand_on(limits, &mut pending, node, change.from, limit)?;
     }
     Ok(failed)
 }

@@ -5,10 +5,12 @@ ghost use Rattle.std.specs.List.{AllByRecursion};
 ghost use Rattle.sml_objects.specs.Views.{label_list};
 ghost use Rattle.sml_solve.specs.declared.merge.Unsolved.TheVariants.{Memory};
 ghost use Rattle.sml_solve.specs.declared.node.Node.TheVariants.{App, Open};
-ghost use Rattle.sml_solve.specs.Graphs.{IsSame, IsRoot, IsSound, ArePairsIn, SameSolutions, HasNoSolution, Merges, Leads, Changes, IsRootNode, AreApart, Joins, JoinsFields, JoinsRow, LacksLabel, fields_of, pairs_of, node_at};
+ghost use Rattle.sml_solve.specs.Graphs.{IsSame, IsRoot, IsSound, ArePairsIn, SameSolutions, HasNoSolution, Merges, Leads, IsRootNode, AreApart, Joins, JoinsFields, JoinsRow, LacksLabel, fields_of, pairs_of};
+ghost use Rattle.sml_solve.specs.Changes.{Changes, BeginsWith, KeepsFirst};
 
+use crate::change::{Change, fewest};
 use crate::fields::Fields;
-use crate::node::{Head, Node, is_same_head};
+use crate::node::{Head, Node, is_same_head, parts_of};
 use smallvec::SmallVec;
 use sml_objects::labels::Labels;
 use std::alloc::{AllocError, AllocFailed, Global};
@@ -39,9 +41,8 @@ impl<T: Drop> From<AllocFailed<T>> for Unsolved {
     }
 }
 
-/// The node that another one leads to. Each link on the way is then led past the next one, and its node is added to the
-/// nodes given.
-fn find(nodes: &mut Vec<Node>, changed: &mut Vec<usize>, at: usize) -> Result<usize, Unsolved>
+/// The node that another one leads to. Each link on the way is then led past the next one, and added to the changes.
+fn find(nodes: &mut Vec<Node>, changed: &mut Vec<Change>, at: usize) -> Result<usize, Unsolved>
     requires sound { IsSound nodes.old.items }
     requires inside { at < vec_len nodes.old }
     ensures leads { OnOk result (Leads nodes.old.items nodes.new.items) }
@@ -54,7 +55,7 @@ fn find(nodes: &mut Vec<Node>, changed: &mut Vec<usize>, at: usize) -> Result<us
     let mut here = at;
     while let Node::Link(next) = nodes[here] {
         if let Node::Link(after) = nodes[next] {
-            changed.push(here)?;
+            changed.push(Change::of(here))?;
             nodes[here] = Node::Link(after);
         }
         here = next;
@@ -84,6 +85,7 @@ fn add_fields(
     from: &Fields,
 ) -> Result<(), Unsolved>
     ensures joins { OnOk result (JoinsFields (fields_of into.old) (fields_of from.now) (fields_of into.new) pending.old.items pending.new.items) }
+    ensures more { OnOk result (BeginsWith (fields_of into.old) (fields_of into.new)) }
     ensures clash { result ≡ Err Unsolved.Clash → ⊥ }
 {
     let labels = from.labels();
@@ -97,25 +99,28 @@ fn add_fields(
     Ok(())
 }
 
-/// One row with the fields of two.
+/// One row with the fields of two: of the larger one, and behind them those that only the other has. With it, how many
+/// of the second row's fields stay where they are.
 fn join_fields(
     pending: &mut Vec<(usize, usize)>,
-    mut one: Box<Fields>,
-    mut other: Box<Fields>,
-) -> Result<Node, Unsolved>
-    ensures joins { IfOk result (λ n. Joins (Open one) (Open other) n pending.old.items pending.new.items) }
+    mut upper: Box<Fields>,
+    mut lower: Box<Fields>,
+) -> Result<(Node, usize), Unsolved>
+    ensures joins { IfOk result (λ r. Joins (Open upper) (Open lower) r.0 pending.old.items pending.new.items) }
+    ensures keeps { IfOk result (λ r. KeepsFirst r.1 (Open lower) r.0) }
     ensures clash { result ≡ Err Unsolved.Clash → ⊥ }
 {
-    if one.kids().len() < other.kids().len() {
-        add_fields(pending, &mut other, &one)?;
-        Ok(Node::Open(other))
+    let kept = lower.kids().len();
+    if upper.kids().len() <= kept {
+        add_fields(pending, &mut lower, &upper)?;
+        Ok((Node::Open(lower), kept))
     } else {
-        add_fields(pending, &mut one, &other)?;
-        Ok(Node::Open(one))
+        add_fields(pending, &mut upper, &lower)?;
+        Ok((Node::Open(upper), 0))
     }
 }
 
-/// One node with the parts of two heads that are one.
+/// One node with the parts of two heads that are one: the first of the two.
 fn join_heads(
     pending: &mut Vec<(usize, usize)>,
     head: Head,
@@ -124,6 +129,7 @@ fn join_heads(
     others: SmallVec<usize, 2, Global>,
 ) -> Result<Node, Unsolved>
     ensures joins { IfOk result (λ n. Joins (App head kids) (App other others) n pending.old.items pending.new.items) }
+    ensures first { IfOk result (λ n. n ≡ App head kids) }
     ensures clash { result ≡ Err Unsolved.Clash → AreApart (App head kids) (App other others) }
 {
     if is_same_head(&head, &other) && kids.len() == others.len() {
@@ -156,7 +162,7 @@ fn push_fields(
     Ok(())
 }
 
-/// One node of a head and a row that has some fields.
+/// One node of a head and a row that has some fields: the head's.
 fn close_row(
     pending: &mut Vec<(usize, usize)>,
     head: Head,
@@ -164,6 +170,7 @@ fn close_row(
     fields: Box<Fields>,
 ) -> Result<Node, Unsolved>
     ensures joins { IfOk result (λ n. Joins (App head kids) (Open fields) n pending.old.items pending.new.items) }
+    ensures first { IfOk result (λ n. n ≡ App head kids) }
     ensures clash { result ≡ Err Unsolved.Clash → AreApart (App head kids) (Open fields) }
 {
     match &head {
@@ -182,26 +189,36 @@ fn close_row(
     Ok(Node::App(head, kids))
 }
 
-/// One node that says what two say, where neither leads to another.
-fn join(pending: &mut Vec<(usize, usize)>, upper: Node, lower: Node) -> Result<Node, Unsolved>
+/// One node that says what two say, where neither leads to another. With it, how many of the lower node's first parts
+/// stay where they are.
+fn join(
+    pending: &mut Vec<(usize, usize)>,
+    upper: Node,
+    lower: Node,
+) -> Result<(Node, usize), Unsolved>
     requires upper { IsRootNode upper }
     requires lower { IsRootNode lower }
-    ensures joins { IfOk result (λ n. Joins upper lower n pending.old.items pending.new.items) }
+    ensures joins { IfOk result (λ r. Joins upper lower r.0 pending.old.items pending.new.items) }
+    ensures keeps { IfOk result (λ r. KeepsFirst r.1 lower r.0) }
     ensures clash { result ≡ Err Unsolved.Clash → AreApart upper lower }
 {
+    let kept = parts_of(&lower).len();
     match upper {
-        Node::Unknown => Ok(lower),
+        Node::Unknown => Ok((lower, kept)),
         Node::Link(_) => unreachable!(),
         Node::App(head, kids) => match lower {
-            Node::Unknown => Ok(Node::App(head, kids)),
+            Node::Unknown => Ok((Node::App(head, kids), 0)),
             Node::Link(_) => unreachable!(),
-            Node::App(other, others) => join_heads(pending, head, kids, other, others),
-            Node::Open(fields) => close_row(pending, head, kids, fields),
+            Node::App(other, others) => match join_heads(pending, other, others, head, kids) {
+                Ok(node) => Ok((node, kept)),
+                Err(fault) => Err(fault),
+            },
+            Node::Open(fields) => Ok((close_row(pending, head, kids, fields)?, 0)),
         },
         Node::Open(fields) => match lower {
-            Node::Unknown => Ok(Node::Open(fields)),
+            Node::Unknown => Ok((Node::Open(fields), 0)),
             Node::Link(_) => unreachable!(),
-            Node::App(head, kids) => close_row(pending, head, kids, fields),
+            Node::App(head, kids) => Ok((close_row(pending, head, kids, fields)?, kept)),
             Node::Open(others) => join_fields(pending, fields, others),
         },
     }
@@ -211,6 +228,7 @@ fn join(pending: &mut Vec<(usize, usize)>, upper: Node, lower: Node) -> Result<N
 fn merge(
     nodes: &mut Vec<Node>,
     pending: &mut Vec<(usize, usize)>,
+    changed: &mut Vec<Change>,
     high: usize,
     low: usize,
 ) -> Result<(), Unsolved>
@@ -221,25 +239,27 @@ fn merge(
     requires high_root { IsRoot nodes.old.items high }
     requires low_root { IsRoot nodes.old.items low }
     ensures merges { OnOk result (Merges nodes.old.items pending.old.items high low nodes.new.items pending.new.items) }
-    ensures others { OnOk result ((i : ℕ) → i ≢ high → i ≢ low → node_at nodes.new.items i ≡ node_at nodes.old.items i) }
+    ensures changes { OnOk result (Changes nodes.old.items changed.old.items nodes.new.items changed.new.items) }
     ensures clash { result ≡ Err Unsolved.Clash → HasNoSolution nodes.old.items ((high, low) ∷ []) }
 {
     let upper = mem::replace(&mut nodes[high], Node::Link(low));
     let lower = mem::replace(&mut nodes[low], Node::Unknown);
     match join(pending, upper, lower) {
-        Ok(joined) => {
+        Ok((joined, from)) => {
             nodes[low] = joined;
+            changed.push(Change::of(high))?;
+            changed.push(Change { node: low, from })?;
             Ok(())
         }
         Err(fault) => Err(fault),
     }
 }
 
-/// Makes one node of the two that these lead to. What may have changed is added to the nodes given.
+/// Makes one node of the two that these lead to.
 fn step(
     nodes: &mut Vec<Node>,
     pending: &mut Vec<(usize, usize)>,
-    changed: &mut Vec<usize>,
+    changed: &mut Vec<Change>,
     left: usize,
     right: usize,
 ) -> Result<(), Unsolved>
@@ -256,34 +276,36 @@ fn step(
     if first == second {
         return Ok(());
     }
-    changed.push(first)?;
-    changed.push(second)?;
     if first < second {
-        merge(nodes, pending, second, first)
+        merge(nodes, pending, changed, second, first)
     } else {
-        merge(nodes, pending, first, second)
+        merge(nodes, pending, changed, first, second)
     }
 }
 
-/// Solves equations between nodes, over infinite types. What may have changed is added to the nodes given.
+/// Solves equations between nodes, over infinite types. Gives what was changed, besides what had been.
 pub(crate) fn solve(
+    alloc: Global,
     nodes: &mut Vec<Node>,
     mut pending: Vec<(usize, usize)>,
-    changed: &mut Vec<usize>,
-) -> Result<(), Unsolved>
+    mut changed: Vec<Change>,
+) -> Result<Vec<Change>, Unsolved>
     requires sound { IsSound nodes.old.items }
     requires inside { ArePairsIn (length nodes.old.items) pending.items }
     ensures len { OnOk result (length nodes.new.items ≡ length nodes.old.items) }
     ensures sound { OnOk result (IsSound nodes.new.items) }
     ensures same { OnOk result (SameSolutions nodes.old.items pending.items nodes.new.items []) }
-    ensures changes { OnOk result (Changes nodes.old.items changed.old.items nodes.new.items changed.new.items) }
+    ensures changes { IfOk result (λ cs. Changes nodes.old.items changed.items nodes.new.items cs.items) }
     ensures clash { result ≡ Err Unsolved.Clash → HasNoSolution nodes.old.items pending.items }
 {
     while let Some((left, right)) = pending.pop() {
-        match step(nodes, &mut pending, changed, left, right) {
+        match step(nodes, &mut pending, &mut changed, left, right) {
             Ok(()) => {}
             Err(fault) => return Err(fault),
         }
     }
-    Ok(())
+    match fewest(alloc, changed) {
+        Ok(few) => Ok(few),
+        Err(_) => Err(Unsolved::Memory),
+    }
 }

@@ -1,6 +1,6 @@
 //! Nodes, of which a solver's graph of types is made.
 
-ghost use Rattle.std.specs.Prelude.{◌≡◌, ◌≢◌, ℕ, true, false};
+ghost use Rattle.std.specs.Prelude.{◌≡◌, ◌≢◌, ℕ, true, false, drop};
 ghost use Rattle.sml_solve.specs.Graphs.{head_over, parts};
 
 use crate::fields::Fields;
@@ -41,6 +41,18 @@ pub(crate) fn parts_of(node: &Node) -> &[usize]
         Node::Link(to) => slice::from_ref(to),
         Node::App(_, kids) => kids.as_slice(),
         Node::Open(fields) => fields.kids(),
+    }
+}
+
+/// The parts of a node from a place on.
+pub(crate) fn parts_from(node: &Node, from: usize) -> &[usize]
+    ensures { result.now ≡ drop from (parts node.now) }
+{
+    let parts = parts_of(node);
+    if from < parts.len() {
+        &parts[from..]
+    } else {
+        &[]
     }
 }
 

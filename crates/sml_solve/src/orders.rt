@@ -1,11 +1,13 @@
 //! Orders of nodes: numbers, each above those of the node's parts. Where all nodes have one, no node leads to itself.
 
-ghost use Rattle.std.specs.Prelude.{◌≡◌, ◌<◌, ◌≤◌, ◌⊎◌, ℕ, length, IfOk};
+ghost use Rattle.std.specs.Prelude.{◌≡◌, ◌<◌, ◌≤◌, length, IfOk, OnOk};
 ghost use Rattle.std.specs.List.{AllByRecursion};
-ghost use Rattle.sml_solve.specs.Graphs.{IsAmong, IsSound, parts};
-ghost use Rattle.sml_solve.specs.Ranks.{order_at, IsAbove, IsOrdered};
+ghost use Rattle.sml_solve.specs.Graphs.{IsSound, parts};
+ghost use Rattle.sml_solve.specs.Changes.{AreInside};
+ghost use Rattle.sml_solve.specs.Ranks.{order_at, IsAbove, IsFoundIn, FindsUnordered};
 
-use crate::node::{Node, parts_of};
+use crate::change::Change;
+use crate::node::{Node, parts_from, parts_of};
 use sml_lex::fault::Memory;
 use std::alloc::Global;
 
@@ -116,25 +118,41 @@ impl Orders {
     }
 }
 
-/// Those of some nodes that aren't above their parts.
+/// Adds those of some parts that aren't below an order.
+fn push_unordered(
+    orders: &[u64],
+    found: &mut Vec<usize>,
+    parts: &[usize],
+    order: u64,
+) -> Result<(), Memory>
+    requires { AllByRecursion (λ k. k < length orders.now) parts.now }
+    ensures { OnOk result (FindsUnordered orders.now parts.now order found.old.items found.new.items) }
+{
+    for part in parts {
+        if order <= orders[*part] {
+            found.push(*part)?;
+        }
+    }
+    Ok(())
+}
+
+/// The new parts of what was changed that aren't below their nodes.
 pub(crate) fn unordered(
     alloc: Global,
     nodes: &[Node],
     orders: &[u64],
-    some: &[usize],
+    changed: &[Change],
 ) -> Result<Vec<usize>, Memory>
     requires sound { IsSound nodes.now }
     requires len { length orders.now ≡ length nodes.now }
-    requires positive { (i : ℕ) → 0 < order_at orders.now i }
-    requires inside { AllByRecursion (λ i. i < length nodes.now) some.now }
+    requires inside { AreInside (length nodes.now) changed.now }
     ensures inside { IfOk result (λ found. AllByRecursion (λ i. i < length nodes.now) found.items) }
-    ensures rest { IfOk result (λ found. (i : ℕ) → IsAmong i some.now → IsOrdered nodes.now orders.now i ⊎ IsAmong i found.items) }
+    ensures rest { IfOk result (λ found. AllByRecursion (IsFoundIn nodes.now orders.now found.items) changed.now) }
 {
     let mut found = Vec::new(alloc);
-    for at in some {
-        if orders[*at] < above(orders, &nodes[*at], 0)? {
-            found.push(*at)?;
-        }
+    for change in changed {
+        let parts = parts_from(&nodes[change.node], change.from);
+        push_unordered(orders, &mut found, parts, orders[change.node])?;
     }
     Ok(found)
 }

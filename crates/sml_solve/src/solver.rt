@@ -27,6 +27,7 @@ ghost use Rattle.sml_solve.specs.Levels.{IsKeptWith};
 ghost use Rattle.sml_solve.specs.Schemes.{GiveOneScheme, HasOneScheme, IsScheme, IsSchemeOfReading};
 ghost use Rattle.sml_solve.specs.Overloaded.{IsOverloaded, Settles};
 
+use crate::change::Change;
 use crate::class::Class;
 use crate::closing::closed;
 use crate::count::size_from;
@@ -58,7 +59,7 @@ pub struct Solver {
     graph: Graph,
     unknowns: Vec<usize>,
     levels: Vec<Option<u32>>,
-    left: Vec<usize>,
+    left: Vec<Change>,
     spent: bool,
 }
 
@@ -623,7 +624,7 @@ fn fixed_flags(solver: &mut Solver, first: usize, others: &[u32]) -> Result<Vec<
 {
     solver.spent = true;
     let left = mem::replace(&mut solver.left, Vec::new(solver.alloc));
-    let pending = by_level(solver.levels.as_slice(), left)?;
+    let pending = by_level(solver.alloc, solver.levels.as_slice(), left)?;
     hand_levels_on(solver.graph.nodes.as_slice(), &mut solver.levels, pending)?;
     let unknowns = solver.unknowns.as_slice();
     let nodes = solver.graph.nodes.as_slice();

@@ -9,6 +9,7 @@ mod chains;
 mod flexible;
 mod memory;
 mod rows;
+mod wide;
 
 use crate::class::Class;
 use crate::layer::{Bound, Layer, Refusal};

@@ -23,7 +23,7 @@ fn label(alloc: Global, text: &[u8]) -> Result<Ident, Memory> {
 }
 
 /// Demands that an unknown is a row with a field.
-fn select(
+pub(super) fn select(
     alloc: Global,
     solver: &mut Solver,
     row: u32,

@@ -1,4 +1,4 @@
-use Rattle.std.proofs.Common.{◌≡◌, length, ap, refl, inl, inr, sym, ◌∙◌, arith, subst, Err}
+use Rattle.std.proofs.Common.{◌≡◌, length, ap, refl, sym, ◌∙◌, arith, subst, Err}
 use Rattle.std.specs.Prelude.{false}
 use Rattle.sml_objects.specs.Views.{type_of, maker_of}
 use Rattle.sml_solve.specs.declared.graph.Graph.{Graph}
@@ -8,6 +8,7 @@ use Rattle.sml_solve.specs.Asked.{asked_of, equal, IsFirstUnmet}
 use Rattle.sml_solve.specs.Levels.{Moves}
 use Rattle.sml_solve.specs.Whole.{IsWhole}
 use Rattle.sml_solve.proofs.Levelling.{grown-moves, moves-then, moves-same}
+use Rattle.sml_solve.proofs.Ordering.{changed-ordered}
 use Rattle.sml_solve.proofs.Demanding.{Stands, Grows, stands-equal, clash-first, changed-but, kept-merged, finished-adds, finished-met, failing-first}
 use Rattle.sml_solve.proofs.demands.equate.Goals as goal
 
@@ -44,7 +45,7 @@ finish-requires c =
       before = k.nodes.items;
       rank = w.rank;
       outside = c.in-Ok-merge_two.ensures.outside;
-      ordered = λ i h. elim (c.in-Ok-merge_two.ensures.outside i) [ inl q ↦ inl (rw q (w.ordered i h)) | inr a ↦ inr a ];
+      ordered = changed-ordered k.nodes.items c.merge_two.new.nodes.items k.orders.items c.in-Ok-merge_two.changed.items w.ordered c.in-Ok-merge_two.ensures.outside;
       but = changed-but u k.nodes.items c.merge_two.new.nodes.items k.limits.items c.in-Ok-merge_two.changed.items w.closed w.fit c.in-Ok-merge_two.ensures.outside;
     }
 

@@ -1,4 +1,4 @@
-use Rattle.std.proofs.Common.{◌≡◌, ◌∷◌, [], ◌++◌, ap, ◌∙◌, refl, Err}
+use Rattle.std.proofs.Common.{◌≡◌, ◌∷◌, [], ap, refl, Err}
 use Rattle.sml_objects.specs.Views.{type_of}
 use Rattle.sml_solve.specs.declared.graph.Graph.{Graph}
 use Rattle.sml_solve.specs.Graphs.{fields_of}
@@ -55,8 +55,8 @@ returns-in-Ok-solve-clause-asks c =
     let x = c.in-Ok.ensures.interns in
     let y = c.in_default-add_kids.ensures.interns in
     let z = c.in-Ok-push_row.ensures.nodes in
-    let begun : c.push.new.self.items ≡ c.in-Ok-push_row.place ∷ [] = c.in_default-push.ensures.items ∙ ap (λ xs. xs ++ c.in-Ok-push_row.place ∷ []) c.new-changed.ensures.items in
-    asks-row ns hs ks ms us t rs c.in-Ok.at c.in-Ok-push_row.place fs ps qs c.requires.inside c.requires.ty c.requires.fields x y z c.in-Ok-push_row.ensures.at c.in_default-push-2.ensures.items c.solve.new.nodes.items c.push.new.self.items c.solve.new.changed.items c.in-Ok-solve.ensures.same c.in-Ok-solve.ensures.changes begun c.in-Ok-solve.ensures.len
+    let begun : c.push.new.self.items ≡ record { node = c.in-Ok-push_row.place; from = 0 } ∷ [] = rw (c.in_default-push.ensures.items, c.new-changed.ensures.items, c.of.ensures) refl in
+    asks-row ns hs ks ms us t rs c.in-Ok.at c.in-Ok-push_row.place fs ps qs c.requires.inside c.requires.ty c.requires.fields x y z c.in-Ok-push_row.ensures.at c.in_default-push-2.ensures.items c.solve.new.nodes.items c.push.new.self.items c.in-Ok-solve.changed.items c.in-Ok-solve.ensures.same c.in-Ok-solve.ensures.changes begun c.in-Ok-solve.ensures.len
 
 pub returns-in-Ok-solve-clause-changed : goal.returns-in-Ok-solve-clause-changed
 returns-in-Ok-solve-clause-changed c u w =
@@ -73,12 +73,12 @@ returns-in-Ok-solve-clause-changed c u w =
     let x = c.in-Ok.ensures.interns in
     let y = c.in_default-add_kids.ensures.interns in
     let z = c.in-Ok-push_row.ensures.nodes in
-    let begun : c.push.new.self.items ≡ c.in-Ok-push_row.place ∷ [] = c.in_default-push.ensures.items ∙ ap (λ xs. xs ++ c.in-Ok-push_row.place ∷ []) c.new-changed.ensures.items in
+    let begun : c.push.new.self.items ≡ record { node = c.in-Ok-push_row.place; from = 0 } ∷ [] = rw (c.in_default-push.ensures.items, c.new-changed.ensures.items, c.of.ensures) refl in
     let k = c.add_kids.new.graph in
     let m = c.push_row.new.graph in
     let f : Graph = record { nodes = c.solve.new.nodes; limits = m.limits; orders = m.orders; bottom = m.bottom; top = m.top } in
-    changed-row u k m c.solve.new.nodes.items c.solve.new.changed.items f (c.in_default-add_kids.ensures.whole u (c.in-Ok.ensures.whole u w)) c.in-Ok-push_row.ensures.full c.in-Ok-push_row.ensures.limits c.in-Ok-push_row.ensures.orders refl refl refl refl c.in-Ok-solve.ensures.len c.in-Ok-solve.ensures.sound
-    (within ns hs ks ms us t rs c.in-Ok.at c.in-Ok-push_row.place fs ps qs c.requires.inside c.requires.ty c.requires.fields x y z c.in-Ok-push_row.ensures.at c.in_default-push-2.ensures.items c.solve.new.nodes.items c.push.new.self.items c.solve.new.changed.items c.in-Ok-solve.ensures.same c.in-Ok-solve.ensures.changes begun c.in-Ok-solve.ensures.len) (outside ns hs ks ms us t rs c.in-Ok.at c.in-Ok-push_row.place fs ps qs c.requires.inside c.requires.ty c.requires.fields x y z c.in-Ok-push_row.ensures.at c.in_default-push-2.ensures.items c.solve.new.nodes.items c.push.new.self.items c.solve.new.changed.items c.in-Ok-solve.ensures.same c.in-Ok-solve.ensures.changes begun c.in-Ok-solve.ensures.len)
+    changed-row u k m c.solve.new.nodes.items c.in-Ok-solve.changed.items f (c.in_default-add_kids.ensures.whole u (c.in-Ok.ensures.whole u w)) c.in-Ok-push_row.ensures.full c.in-Ok-push_row.ensures.limits c.in-Ok-push_row.ensures.orders refl refl refl refl c.in-Ok-solve.ensures.len c.in-Ok-solve.ensures.sound
+    (within ns hs ks ms us t rs c.in-Ok.at c.in-Ok-push_row.place fs ps qs c.requires.inside c.requires.ty c.requires.fields x y z c.in-Ok-push_row.ensures.at c.in_default-push-2.ensures.items c.solve.new.nodes.items c.push.new.self.items c.in-Ok-solve.changed.items c.in-Ok-solve.ensures.same c.in-Ok-solve.ensures.changes begun c.in-Ok-solve.ensures.len) (outside ns hs ks ms us t rs c.in-Ok.at c.in-Ok-push_row.place fs ps qs c.requires.inside c.requires.ty c.requires.fields x y z c.in-Ok-push_row.ensures.at c.in_default-push-2.ensures.items c.solve.new.nodes.items c.push.new.self.items c.in-Ok-solve.changed.items c.in-Ok-solve.ensures.same c.in-Ok-solve.ensures.changes begun c.in-Ok-solve.ensures.len)
 
 pub returns-in-Ok-solve-clause-moves : goal.returns-in-Ok-solve-clause-moves
 returns-in-Ok-solve-clause-moves c =
@@ -95,8 +95,8 @@ returns-in-Ok-solve-clause-moves c =
     let x = c.in-Ok.ensures.interns in
     let y = c.in_default-add_kids.ensures.interns in
     let z = c.in-Ok-push_row.ensures.nodes in
-    let begun : c.push.new.self.items ≡ c.in-Ok-push_row.place ∷ [] = c.in_default-push.ensures.items ∙ ap (λ xs. xs ++ c.in-Ok-push_row.place ∷ []) c.new-changed.ensures.items in
-    moved-row ns hs ks ms us t rs c.in-Ok.at c.in-Ok-push_row.place fs ps qs c.requires.inside c.requires.ty c.requires.fields x y z c.in-Ok-push_row.ensures.at c.in_default-push-2.ensures.items c.solve.new.nodes.items c.push.new.self.items c.solve.new.changed.items c.in-Ok-solve.ensures.same c.in-Ok-solve.ensures.changes begun c.in-Ok-solve.ensures.len
+    let begun : c.push.new.self.items ≡ record { node = c.in-Ok-push_row.place; from = 0 } ∷ [] = rw (c.in_default-push.ensures.items, c.new-changed.ensures.items, c.of.ensures) refl in
+    moved-row ns hs ks ms us t rs c.in-Ok.at c.in-Ok-push_row.place fs ps qs c.requires.inside c.requires.ty c.requires.fields x y z c.in-Ok-push_row.ensures.at c.in_default-push-2.ensures.items c.solve.new.nodes.items c.push.new.self.items c.in-Ok-solve.changed.items c.in-Ok-solve.ensures.same c.in-Ok-solve.ensures.changes begun c.in-Ok-solve.ensures.len
 
 pub returns-in-Ok-solve-clause-owners : goal.returns-in-Ok-solve-clause-owners
 returns-in-Ok-solve-clause-owners c r o =
@@ -113,8 +113,8 @@ returns-in-Ok-solve-clause-owners c r o =
     let x = c.in-Ok.ensures.interns in
     let y = c.in_default-add_kids.ensures.interns in
     let z = c.in-Ok-push_row.ensures.nodes in
-    let begun : c.push.new.self.items ≡ c.in-Ok-push_row.place ∷ [] = c.in_default-push.ensures.items ∙ ap (λ xs. xs ++ c.in-Ok-push_row.place ∷ []) c.new-changed.ensures.items in
-    owners-row ns hs ks ms us t rs c.in-Ok.at c.in-Ok-push_row.place fs ps qs c.requires.inside c.requires.ty c.requires.fields x y z c.in-Ok-push_row.ensures.at c.in_default-push-2.ensures.items c.solve.new.nodes.items c.push.new.self.items c.solve.new.changed.items c.in-Ok-solve.ensures.same c.in-Ok-solve.ensures.changes begun c.in-Ok-solve.ensures.len c.in-Ok-solve.ensures.sound r o
+    let begun : c.push.new.self.items ≡ record { node = c.in-Ok-push_row.place; from = 0 } ∷ [] = rw (c.in_default-push.ensures.items, c.new-changed.ensures.items, c.of.ensures) refl in
+    owners-row ns hs ks ms us t rs c.in-Ok.at c.in-Ok-push_row.place fs ps qs c.requires.inside c.requires.ty c.requires.fields x y z c.in-Ok-push_row.ensures.at c.in_default-push-2.ensures.items c.solve.new.nodes.items c.push.new.self.items c.in-Ok-solve.changed.items c.in-Ok-solve.ensures.same c.in-Ok-solve.ensures.changes begun c.in-Ok-solve.ensures.len c.in-Ok-solve.ensures.sound r o
 
 pub returns-in-Err-Clash-clause-clash : goal.returns-in-Err-Clash-clause-clash
 returns-in-Err-Clash-clause-clash c l e =

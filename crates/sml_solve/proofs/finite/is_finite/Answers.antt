@@ -1,8 +1,8 @@
 use Rattle.std.proofs.Common.{◌≡◌, [], length, rules, arith}
 use Rattle.std.specs.List.{AllByRecursion}
-use Rattle.sml_solve.specs.Ranks.{no_order, order_at, AreFrom, AreOrderedBut, Gives, IsDone, IsSearch}
+use Rattle.sml_solve.specs.Ranks.{no_order, order_at, AreFrom, AreOrderedBeside, Gives, IsDone, IsSearch}
 use Rattle.sml_solve.proofs.Wholeness.{on_true3}
-use Rattle.sml_solve.proofs.Ordering.{from-given, ordered-new, ordered-rest, ordered-none, ordered-below, has-new, has-below, grounded}
+use Rattle.sml_solve.proofs.Ordering.{all-positive, from-given, ordered-new, ordered-beside, ordered-none, ordered-below, has-new, has-below, grounded}
 use Rattle.sml_solve.proofs.finite.is_finite.Goals as goal
 
 pub returns-then-is_empty-clause-ordered : goal.returns-then-is_empty-clause-ordered
@@ -16,7 +16,7 @@ returns-then-is_empty-clause-ordered c =
     let t = c.if-not-branch.false in
     let s : IsSearch ns no_order ps [] = rw t at c.in_ok-give_orders.ensures.search in
     let g : Gives ns b no_order os ps = rw t at c.in_ok-give_orders.ensures.gives in
-    let a : AreOrderedBut ns ps js = ordered-rest ns ps is js (ordered-new ns b os ps is c.requires.ordered s g) c.in_ok-again.ensures.rest in
+    let a : AreOrderedBeside ns ps js = ordered-beside ns ps is js (all-positive ns no_order ps s) (ordered-new ns b os ps is c.requires.ordered s g) c.in_ok-again.ensures.rest in
     ordered-none ns ps js (let z : length js ≡ 0 = search rules in z) a
 
 pub returns-then-is_empty-clause-yes : goal.returns-then-is_empty-clause-yes
@@ -30,9 +30,9 @@ returns-then-is_empty-clause-yes c before r o =
     let t = c.if-not-branch.false in
     let s : IsSearch ns no_order ps [] = rw t at c.in_ok-give_orders.ensures.search in
     let g : Gives ns b no_order os ps = rw t at c.in_ok-give_orders.ensures.gives in
-    let a : AreOrderedBut ns ps js = ordered-rest ns ps is js (ordered-new ns b os ps is c.requires.ordered s g) c.in_ok-again.ensures.rest in
+    let a : AreOrderedBeside ns ps js = ordered-beside ns ps is js (all-positive ns no_order ps s) (ordered-new ns b os ps is c.requires.ordered s g) c.in_ok-again.ensures.rest in
     let d : AllByRecursion (λ i. IsDone no_order (order_at ps i)) c.in_ok-from.from.items = rw (t, c.as_slice.ensures.value) at c.in_ok-give_orders.ensures.done in
-    let n = has-new ps is c.in_ok-from.from.items c.in_ok-from.ensures.some.0 c.in_ok-from.ensures.some.1 d in
+    let n = has-new ps c.in_ok-from.from.items is c.in_ok-from.ensures.changed d in
     grounded before ns ps is r o (ordered-none ns ps js (let z : length js ≡ 0 = search rules in z) a) n
 
 pub returns-clause-ordered : goal.returns-clause-ordered
@@ -46,7 +46,7 @@ returns-clause-ordered c =
     let t = c.if-not-branch.false in
     let s : IsSearch ns no_order ps [] = rw t at c.in_ok-give_orders.ensures.search in
     let g : Gives ns b no_order os ps = rw t at c.in_ok-give_orders.ensures.gives in
-    let a : AreOrderedBut ns ps js = ordered-rest ns ps is js (ordered-new ns b os ps is c.requires.ordered s g) c.in_ok-again.ensures.rest in
+    let a : AreOrderedBeside ns ps js = ordered-beside ns ps is js (all-positive ns no_order ps s) (ordered-new ns b os ps is c.requires.ordered s g) c.in_ok-again.ensures.rest in
     let f : AreFrom b ps = from-given ns b b no_order os ps (omega arith) c.requires.from s g in
     let e = c.in_ok-below.ensures.limit in
     let v = c.as_slice-2.ensures.value in
@@ -64,9 +64,9 @@ returns-clause-yes c =
     let t = c.if-not-branch.false in
     let s : IsSearch ns no_order ps [] = rw t at c.in_ok-give_orders.ensures.search in
     let g : Gives ns b no_order os ps = rw t at c.in_ok-give_orders.ensures.gives in
-    let a : AreOrderedBut ns ps js = ordered-rest ns ps is js (ordered-new ns b os ps is c.requires.ordered s g) c.in_ok-again.ensures.rest in
+    let a : AreOrderedBeside ns ps js = ordered-beside ns ps is js (all-positive ns no_order ps s) (ordered-new ns b os ps is c.requires.ordered s g) c.in_ok-again.ensures.rest in
     let d : AllByRecursion (λ i. IsDone no_order (order_at ps i)) c.in_ok-from.from.items = rw (t, c.as_slice.ensures.value) at c.in_ok-give_orders.ensures.done in
-    let n = has-new ps is c.in_ok-from.from.items c.in_ok-from.ensures.some.0 c.in_ok-from.ensures.some.1 d in
+    let n = has-new ps c.in_ok-from.from.items is c.in_ok-from.ensures.changed d in
     let f : AreFrom b ps = from-given ns b b no_order os ps (omega arith) c.requires.from s g in
     let e = c.in_ok-below.ensures.limit in
     let v = c.as_slice-2.ensures.value in

@@ -1,22 +1,28 @@
-use Rattle.std.proofs.Common.{◌≡◌, ◌<◌, ◌++◌, length, get_or, ap, ◌∙◌, append_assoc}
-use Rattle.std.specs.List.{AllByRecursion}
-use Rattle.sml_solve.specs.Graphs.{node_at, parts}
-use Rattle.sml_solve.proofs.Merging.{all-append}
-use Rattle.sml_solve.proofs.Interning.{inside-at, parts-inside}
+use Rattle.std.proofs.Common.{◌≡◌, ◌+◌, ◌<◌, ◌∷◌, [], ◌++◌, inl, length, take, drop, get_or, refl}
+use Rattle.std.proofs.lemmas.List.{get_or_default}
+use Rattle.sml_solve.specs.declared.change.Change.{Change}
+use Rattle.sml_solve.specs.Graphs.{node_at, parts, IsAmong}
+use Rattle.sml_solve.proofs.Merging.{all-append, IsAmong-append, IsAmong-back}
+use Rattle.sml_solve.proofs.Changing.{all-changes, all-rest}
+use Rattle.sml_solve.proofs.Interning.{all-at, parts-inside, take-next}
 use Rattle.sml_solve.proofs.Searching.{read_at}
 use Rattle.sml_solve.proofs.finite.with_parts.Goals as goal
 
-pub loop-at-preserved : goal.loop-at-preserved
-loop-at-preserved c =
+pub loop-change-preserved : goal.loop-change-preserved
+loop-change-preserved c =
     let ns = c.args.nodes.now in
-    let i = c.loop-at.at-index in
-    let k = get_or c.args.some.now i 0 in
-    let x = c.index-nodes-at.result in
-    let l : k < length ns = inside-at (length ns) c.args.some.now i c.requires.inside c.loop-at-test.true in
-    let n : node_at ns k ≡ x = read_at ns k x l c.index-nodes-at.is in
-    let v = c.loop-at.invariant in
-    let a : AllByRecursion (λ j. j < length ns) (parts x) = rw n at (parts-inside (length ns) k (node_at ns k) l (c.requires.sound k)) in
-    record {
-      inside = rw c.in_ok-push_parts.ensures (all-append (λ j. j < length ns) c.loop-at.all.items (parts x) v.inside a);
-      some = (v.some.0 ++ parts x, c.in_ok-push_parts.ensures ∙ (ap (λ ys. ys ++ parts x) v.some.1 ∙ simp append_assoc));
+    let cs = c.args.changed.now in
+    let i = c.loop-change.change-index in
+    let none : Change = record { node = 0; from = 0 } in
+    let d : Change = get_or cs i none in
+    let l : d.node < length ns = all-at (λ c. c.node < length ns) cs i none c.requires.inside c.loop-change-test.true in
+    let n : node_at ns d.node ≡ c.index-nodes-change.result = read_at ns d.node c.index-nodes-change.result l c.index-nodes-change.is in
+    let new = drop d.from (parts (node_at ns d.node)) in
+    let a = all-rest (λ k. k < length ns) d.from (parts (node_at ns d.node)) (parts-inside (length ns) d.node (node_at ns d.node) l (c.requires.sound d.node)) in
+    let next : take (i + 1) cs ≡ take i cs ++ d ∷ [] = take-next cs i d c.loop-change-test.true (get_or_default cs i none d c.loop-change-test.true) in
+    let old = c.loop-change.all.items in
+    let e : c.extend_from_slice.new.self.items ≡ (old ++ d.node ∷ []) ++ new = rw (c.in_ok-extend_from_slice.ensures.items, c.in_ok-push.ensures.items, c.parts_from.ensures, n) refl in
+    rw (e, next) record {
+      inside = all-append (λ i. i < length ns) (old ++ d.node ∷ []) new (all-append (λ i. i < length ns) old (d.node ∷ []) c.loop-change.invariant.inside (l, tt)) a;
+      changed = all-append (λ c. IsAmong c.node ((old ++ d.node ∷ []) ++ new)) (take i cs) (d ∷ []) (all-changes (λ c. IsAmong c.node old) (λ c. IsAmong c.node ((old ++ d.node ∷ []) ++ new)) (take i cs) (λ c m. IsAmong-append c.node (old ++ d.node ∷ []) new (IsAmong-append c.node old (d.node ∷ []) m)) c.loop-change.invariant.changed) (IsAmong-append d.node (old ++ d.node ∷ []) new (IsAmong-back d.node old (d.node ∷ []) (inl refl)), tt);
     }

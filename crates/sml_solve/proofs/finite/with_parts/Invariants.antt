@@ -1,9 +1,10 @@
-use Rattle.std.proofs.Common.{◌≡◌, ◌<◌, ◌++◌, ℕ, List, length}
+use Rattle.std.proofs.Common.{◌<◌, length, take}
 use Rattle.std.specs.List.{AllByRecursion}
+use Rattle.sml_solve.specs.Graphs.{IsAmong}
 use Rattle.sml_solve.proofs.finite.with_parts.Given as goal
 
-abbrev pub invariant-loop-at : goal.invariant-loop-at
-invariant-loop-at l = record {
+abbrev pub invariant-loop-change : goal.invariant-loop-change
+invariant-loop-change l = record {
   inside : AllByRecursion (λ i. i < length l.nodes) l.all.items;
-  some : (more : List ℕ) × (l.all.items ≡ l.some ++ more);
+  changed : AllByRecursion (λ c. IsAmong c.node l.all.items) (take l.change-index l.changed);
 }

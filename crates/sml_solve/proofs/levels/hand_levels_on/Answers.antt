@@ -1,17 +1,18 @@
-use Rattle.std.proofs.Common.{◌≡◌, ℕ, ◌<◌, ◌∷◌, [], ◌++◌, inl, inr, None, length, arith, sym, ◌∙◌, ap, subst, refl}
+use Rattle.std.proofs.Common.{◌≡◌, ℕ, ◌<◌, ◌∷◌, [], ◌++◌, inl, inr, None, length, drop, arith, sym, ◌∙◌, ap, subst, refl}
 use Rattle.std.proofs.lemmas.List.{get_or_default}
-use Rattle.std.specs.List.{AllByRecursion}
 use Rattle.std.specs.Vec.{vec_len}
 use Rattle.sml_solve.specs.Graphs.{node_at, parts}
+use Rattle.sml_solve.specs.Changes.{AreInside}
 use Rattle.sml_solve.specs.Levels.{level_of, level_at, AreHandedBut, LowersLevels}
+use Rattle.sml_solve.proofs.Changing.{all-rest}
 use Rattle.sml_solve.proofs.Interning.{parts-inside}
 use Rattle.sml_solve.proofs.Limiting.{front-inside}
 use Rattle.sml_solve.proofs.Searching.{read_at}
-use Rattle.sml_solve.proofs.Levelling.{padded, handed-still, fixed-self, but-lower, from-lower}
+use Rattle.sml_solve.proofs.Levelling.{padded, handed-still, left-still, fixed-self, but-lower, from-lower}
 use Rattle.sml_solve.proofs.levels.hand_levels_on.Goals as goal
 
-pub loop-at-init : goal.loop-at-init
-loop-at-init c =
+pub loop-change-init : goal.loop-change-init
+loop-change-init c =
     let ns = c.args.nodes.now in
     let old = c.args.levels.now.items in
     let new = c.resize.new.self.items in
@@ -23,7 +24,7 @@ loop-at-init c =
       but = λ i.
           elim (c.requires.but i) [
             | inl h ↦ inl (handed-still old new i (node_at ns i) (λ k. let z = same k in omega (arith, z)) (same i) h)
-            | inr m ↦ inr m
+            | inr m ↦ inr (left-still old new i (node_at ns i) c.args.pending.items (λ k. let z = same k in omega (arith, z)) (same i) m)
           ];
       under = λ i. let z = same i in omega (arith, z);
       from = λ i. (i, same i, fixed-self ns i);
@@ -31,51 +32,52 @@ loop-at-init c =
 
 pub index-level-requires : goal.index-level-requires
 index-level-requires c =
-    let i = c.loop-at.invariant in
-    let inside : AllByRecursion (λ i. i < length c.loop-at.levels.items) (c.pop.new.self.items ++ c.in-Some.at ∷ []) = rw c.in-Some.ensures.items at i.inside in
-    let l = (front-inside (λ i. i < length c.loop-at.levels.items) c.pop.new.self.items c.in-Some.at inside).1 in
+    let i = c.loop-change.invariant in
+    let inside : AreInside (length c.loop-change.levels.items) (c.pop.new.self.items ++ c.in-Some.change ∷ []) = rw c.in-Some.ensures.items at i.inside in
+    let l = (front-inside (λ d. d.node < length c.loop-change.levels.items) c.pop.new.self.items c.in-Some.change inside).1 in
     omega (arith, l)
 
-pub bounds-nodes-at : goal.bounds-nodes-at
-bounds-nodes-at c =
-    let i = c.loop-at.invariant in
-    let inside : AllByRecursion (λ i. i < length c.loop-at.levels.items) (c.pop.new.self.items ++ c.in-Some.at ∷ []) = rw c.in-Some.ensures.items at i.inside in
-    let l = (front-inside (λ i. i < length c.loop-at.levels.items) c.pop.new.self.items c.in-Some.at inside).1 in
+pub bounds-nodes-change : goal.bounds-nodes-change
+bounds-nodes-change c =
+    let i = c.loop-change.invariant in
+    let inside : AreInside (length c.loop-change.levels.items) (c.pop.new.self.items ++ c.in-Some.change ∷ []) = rw c.in-Some.ensures.items at i.inside in
+    let l = (front-inside (λ d. d.node < length c.loop-change.levels.items) c.pop.new.self.items c.in-Some.change inside).1 in
     let n = i.len in
     omega (arith, l, n)
 
 pub lower_levels-requires : goal.lower_levels-requires
 lower_levels-requires c =
     let ns = c.args.nodes.now in
-    let at = c.in-Some.at in
-    let i = c.loop-at.invariant in
-    let inside : AllByRecursion (λ i. i < length c.loop-at.levels.items) (c.pop.new.self.items ++ at ∷ []) = rw c.in-Some.ensures.items at i.inside in
-    let l : at < length ns = rw i.len at (front-inside (λ i. i < length c.loop-at.levels.items) c.pop.new.self.items at inside).1 in
-    let n : node_at ns at ≡ c.index-nodes-at.result = read_at ns at c.index-nodes-at.result l c.index-nodes-at.is in
-    rw (i.len, c.parts_of.ensures, ← n) (parts-inside (length ns) at (node_at ns at) l (c.requires.sound at))
+    let d = c.in-Some.change in
+    let i = c.loop-change.invariant in
+    let inside : AreInside (length c.loop-change.levels.items) (c.pop.new.self.items ++ d ∷ []) = rw c.in-Some.ensures.items at i.inside in
+    let l : d.node < length ns = rw i.len at (front-inside (λ d. d.node < length c.loop-change.levels.items) c.pop.new.self.items d inside).1 in
+    let n : node_at ns d.node ≡ c.index-nodes-change.result = read_at ns d.node c.index-nodes-change.result l c.index-nodes-change.is in
+    rw (i.len, c.parts_from-parts.ensures, ← n) (all-rest (λ k. k < length ns) d.from (parts (node_at ns d.node)) (parts-inside (length ns) d.node (node_at ns d.node) l (c.requires.sound d.node)))
 
-pub loop-at-preserved : goal.loop-at-preserved
-loop-at-preserved c =
+pub loop-change-preserved : goal.loop-change-preserved
+loop-change-preserved c =
     let ns = c.args.nodes.now in
-    let at = c.in-Some.at in
+    let d = c.in-Some.change in
     let old = c.args.levels.now.items in
-    let ls = c.loop-at.levels.items in
+    let ls = c.loop-change.levels.items in
     let ms = c.lower_levels.new.levels.items in
     let is = c.pop.new.self.items in
     let js = c.lower_levels.new.pending.items in
-    let i = c.loop-at.invariant in
-    let inside : AllByRecursion (λ i. i < length ls) (is ++ at ∷ []) = rw c.in-Some.ensures.items at i.inside in
-    let front = front-inside (λ i. i < length ls) is at inside in
-    let l : at < length ns = rw i.len at front.1 in
-    let n : node_at ns at ≡ c.index-nodes-at.result = read_at ns at c.index-nodes-at.result l c.index-nodes-at.is in
-    let a : level_of c.index-level.result.now ≡ level_at ls at = ap level_of (c.index-level.ensures ∙ sym (get_or_default ls at None _ front.1)) in
-    let b : AreHandedBut ns ls (is ++ at ∷ []) = rw c.in-Some.ensures.items at i.but in
-    let x : LowersLevels ls is (parts c.index-nodes-at.result) (level_at ls at) ms js = subst (λ n. LowersLevels ls is (parts c.index-nodes-at.result) n ms js) a (rw c.parts_of.ensures at c.in_ok-lower_levels.ensures) in
-    let low : LowersLevels ls is (parts (node_at ns at)) (level_at ls at) ms js = rw n x in
+    let i = c.loop-change.invariant in
+    let inside : AreInside (length ls) (is ++ d ∷ []) = rw c.in-Some.ensures.items at i.inside in
+    let front = front-inside (λ c. c.node < length ls) is d inside in
+    let l : d.node < length ns = rw i.len at front.1 in
+    let n : node_at ns d.node ≡ c.index-nodes-change.result = read_at ns d.node c.index-nodes-change.result l c.index-nodes-change.is in
+    let a : level_of c.index-level.result.now ≡ level_at ls d.node = ap level_of (c.index-level.ensures ∙ sym (get_or_default ls d.node None _ front.1)) in
+    let b : AreHandedBut ns ls (is ++ d ∷ []) = rw c.in-Some.ensures.items at i.but in
+    let new = drop d.from (parts c.index-nodes-change.result) in
+    let x : LowersLevels ls is new (level_at ls d.node) ms js = subst (λ n. LowersLevels ls is new n ms js) a (rw c.parts_from-parts.ensures at c.in_ok-lower_levels.ensures) in
+    let low : LowersLevels ls is (drop d.from (parts (node_at ns d.node))) (level_at ls d.node) ms js = rw n x in
     record {
       len = low.len ∙ i.len;
       inside = rw low.len (low.inside front.0);
-      but = but-lower ns ls ms is js at b low;
+      but = but-lower ns ls ms is js d b low;
       under = λ k. let p = low.under k in let q = i.under k in omega (arith, p, q);
-      from = from-lower ns old ls ms is js at i.from low;
+      from = from-lower ns old ls ms is js d.node d.from i.from low;
     }

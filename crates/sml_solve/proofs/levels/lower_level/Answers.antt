@@ -10,4 +10,4 @@ returns-in_ok-push c =
     let a = level_of c.args.level in
     let here : c.index.result.now ≡ get_or ls c.args.at None = c.index.ensures ∙ sym (get_or_default ls c.args.at None _ c.requires) in
     let h : a < level_at ls c.args.at = subst (λ x. a < level_of x) here c.if-is_lower.ensures.yes in
-    rw c.in_ok-push.ensures.items (levels-one ls c.args.pending.now.items c.args.at c.args.level c.requires h)
+    rw (c.in_ok-push.ensures.items, c.of.ensures) (levels-one ls c.args.pending.now.items c.args.at c.args.level c.requires h)

@@ -1,18 +1,18 @@
-use Rattle.std.proofs.Common.{◌≡◌, ◌+◌, ◌<◌, length}
-use Rattle.std.specs.List.{AllByRecursion}
+use Rattle.std.proofs.Common.{◌≡◌, ◌+◌, length}
 use Rattle.std.specs.Option.{IfSome}
 use Rattle.sml_objects.specs.Views.{maker_of}
+use Rattle.sml_solve.specs.Changes.{AreInside}
 use Rattle.sml_solve.specs.Limits.{IsDoneBut, SameLimits, NoneKeeps, heights}
 use Rattle.sml_solve.proofs.limits.hand_on_all.Given as goal
 
-abbrev pub invariant-loop-at : goal.invariant-loop-at
-invariant-loop-at l = record {
+abbrev pub invariant-loop-change : goal.invariant-loop-change
+invariant-loop-change l = record {
   len : length l.limits ≡ length l.nodes;
-  inside : AllByRecursion (λ i. i < length l.limits) l.pending.items;
+  inside : AreInside (length l.limits) l.pending.items;
   but : IsDoneBut (maker_of l.unit) l.nodes l.limits l.failed l.pending.items;
   same : SameLimits (maker_of l.unit) l.nodes l.initial.limits l.limits;
   fails : IfSome l.failed (NoneKeeps (maker_of l.unit) l.nodes l.initial.limits);
 }
 
-abbrev pub decreases-loop-at : goal.decreases-loop-at
-decreases-loop-at l = heights l.limits + length l.pending.items
+abbrev pub decreases-loop-change : goal.decreases-loop-change
+decreases-loop-change l = heights l.limits + length l.pending.items

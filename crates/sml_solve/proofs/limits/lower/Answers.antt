@@ -11,7 +11,7 @@ returns-in_ok-push c =
     let x : c.and-lowered.result ≡ both old c.args.limit = c.and-lowered.ensures.value in
     let n : both old c.args.limit ≡ old → ⊥ = λ e. c.if-not-is_same_limit.ensures.no (x ∙ e) in
     let h : height c.and-lowered.result < height old = rw x (height-lower old c.args.limit c.and-lowered.ensures.newness c.and-lowered.ensures.locality n) in
-    rw c.in_ok-push.ensures.items (lowers-one ls c.args.pending.now.items c.args.at c.args.limit c.and-lowered.result c.requires x h)
+    rw (c.in_ok-push.ensures.items, c.of.ensures) (lowers-one ls c.args.pending.now.items c.args.at c.args.limit c.and-lowered.result c.requires x h)
 
 pub returns-else-not-is_same_limit : goal.returns-else-not-is_same_limit
 returns-else-not-is_same_limit c =

@@ -1,7 +1,9 @@
-use Rattle.std.proofs.Common.{◌≡◌, ◌+◌, ◌∷◌, [], ◌++◌, take, get_or, ap, ◌∙◌, arith}
+use Rattle.std.proofs.Common.{◌≡◌, ◌+◌, ◌∷◌, [], ◌++◌, take, get_or, sym, ap, subst, ◌∙◌, arith}
 use Rattle.sml_tree.specs.Views.{ident_of}
 use Rattle.sml_solve.specs.Graphs.{fields_of}
+use Rattle.sml_solve.specs.Changes.{BeginsWith}
 use Rattle.sml_solve.proofs.Merging.{fields-new, fields-known-too, field-next}
+use Rattle.sml_solve.proofs.Changing.{begins-then, begins-one}
 use Rattle.sml_solve.proofs.merge.add_fields.Goals as goal
 use Rattle.sml_solve.proofs.merge.add_fields.Goals.{in-Some+in_ok-push, in_default}
 
@@ -18,7 +20,14 @@ loop-i-preserved c =
     elim c.match-branch-3.branch [
       | in-Some+in_ok-push w ↦
           let known = rw w.in-Some.is at c.in_ok-found.ensures.known in
-          fields-known-too old (take i fs) hs js (take (i + 1) fs) c.args.pending.now.items c.loop-i.pending.items c.match-branch-3.pending.items (ident_of label, kid) w.in-Some.found c.loop-i.invariant known.0 known.1 next (ap (λ v. v.items) w.pending-is ∙ w.in_ok-push.ensures.items)
+          record {
+            joins = fields-known-too old (take i fs) hs js (take (i + 1) fs) c.args.pending.now.items c.loop-i.pending.items c.match-branch-3.pending.items (ident_of label, kid) w.in-Some.found c.loop-i.invariant.joins known.0 known.1 next (ap (λ v. v.items) w.pending-is ∙ w.in_ok-push.ensures.items);
+            more = subst (BeginsWith old) (sym known.0) c.loop-i.invariant.more;
+          }
       | in_default w ↦
-          rw w.pending-is (fields-new old (take i fs) hs js (take (i + 1) fs) c.args.pending.now.items c.loop-i.pending.items (ident_of label, kid) c.loop-i.invariant (c.in_ok-found.ensures.new w.in_default.is) next)
+          let new = c.in_ok-found.ensures.new w.in_default.is in
+          record {
+            joins = rw w.pending-is (fields-new old (take i fs) hs js (take (i + 1) fs) c.args.pending.now.items c.loop-i.pending.items (ident_of label, kid) c.loop-i.invariant.joins new next);
+            more = begins-then old hs js c.loop-i.invariant.more (begins-one hs js (ident_of label, kid) new);
+          }
     ]

@@ -1,8 +1,17 @@
 use Rattle.std.proofs.Common.{◌≡◌, ◌<◌, length, set, arith, refl}
 use Rattle.sml_solve.specs.declared.node.Node.TheVariants.{Link}
 use Rattle.sml_solve.specs.Graphs.{node_at, IsSoundNode}
-use Rattle.sml_solve.proofs.Merging.{leads-then, leads-past, changes-one, changes-then, same-link, same-led, read_node}
+use Rattle.sml_solve.proofs.Changing.{changes-none, changes-one, changes-then}
+use Rattle.sml_solve.proofs.Merging.{leads-none, leads-then, leads-past, same-link, same-led, read_node}
 use Rattle.sml_solve.proofs.merge.find.Goals as goal
+
+pub loop-next-init : goal.loop-next-init
+loop-next-init c = record {
+  inside = c.requires.inside;
+  leads = leads-none c.args.nodes.now.items c.requires.sound;
+  changes = changes-none c.args.nodes.now.items c.args.changed.now.items;
+  same = λ w σ m. refl;
+}
 
 pub loop-next-preserved-in_ok-push : goal.loop-next-preserved-in_ok-push
 loop-next-preserved-in_ok-push c =
@@ -18,7 +27,7 @@ loop-next-preserved-in_ok-push c =
     record {
       inside = omega (arith, a);
       leads = leads-then old ns (set ns here (Link c.in-Link-index.after)) i.leads (leads-past ns here next c.in-Link-index.after i.leads.sound inside e d);
-      changes = rw c.in_ok-push.ensures.items (changes-then old ns (set ns here (Link c.in-Link-index.after)) c.args.changed.now.items c.loop-next.changed.items _ i.leads.len i.changes (changes-one ns c.loop-next.changed.items here (Link c.in-Link-index.after) inside));
+      changes = rw (c.in_ok-push.ensures.items, c.of.ensures) (changes-then old ns (set ns here (Link c.in-Link-index.after)) c.args.changed.now.items c.loop-next.changed.items _ i.leads.len i.changes (changes-one ns c.loop-next.changed.items here (Link c.in-Link-index.after) inside));
       same = same-led old ns c.args.at here next i.leads i.same (same-link ns here here next (λ w σ m. refl) e);
     }
 

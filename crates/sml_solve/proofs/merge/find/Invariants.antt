@@ -1,5 +1,6 @@
 use Rattle.std.proofs.Common.{◌<◌, vec_len}
-use Rattle.sml_solve.specs.Graphs.{IsSame, Leads, Changes}
+use Rattle.sml_solve.specs.Graphs.{IsSame, Leads}
+use Rattle.sml_solve.specs.Changes.{Changes}
 use Rattle.sml_solve.proofs.merge.find.Given as goal
 
 abbrev pub invariant-loop-next : goal.invariant-loop-next

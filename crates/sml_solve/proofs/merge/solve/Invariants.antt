@@ -1,5 +1,6 @@
 use Rattle.std.proofs.Common.{◌≡◌, ◌+◌, length}
-use Rattle.sml_solve.specs.Graphs.{IsSound, ArePairsIn, SameSolutions, Changes, weight}
+use Rattle.sml_solve.specs.Graphs.{IsSound, ArePairsIn, SameSolutions, weight}
+use Rattle.sml_solve.specs.Changes.{Changes}
 use Rattle.sml_solve.proofs.merge.solve.Given as goal
 
 abbrev pub invariant-loop-left : goal.invariant-loop-left

@@ -1,6 +1,8 @@
-use Rattle.std.proofs.Common.{subst, inl, inr, refl, arith}
-use Rattle.sml_solve.specs.Graphs.{IsSame, Leads, Changes}
-use Rattle.sml_solve.proofs.Merging.{Merges-led, Merges-swap, Merges-found, leads-then, same-led, clash-led, clash-swap, changes-two, changes-then, on_ok}
+use Rattle.std.proofs.Common.{subst, refl}
+use Rattle.sml_solve.specs.Graphs.{IsSame, Leads}
+use Rattle.sml_solve.specs.Changes.{Changes}
+use Rattle.sml_solve.proofs.Changing.{changes-then}
+use Rattle.sml_solve.proofs.Merging.{Merges-led, Merges-swap, Merges-found, leads-then, same-led, clash-led, clash-swap, on_ok}
 use Rattle.sml_solve.proofs.merge.step.Goals as goal
 
 pub returns-then-first-second-clause-merges : goal.returns-then-first-second-clause-merges
@@ -48,8 +50,8 @@ returns-then-first-second-2-clause-changes c =
     let s1 : IsSame ns c.args.left c.in_ok-first.first = c.in_ok-first.ensures.same in
     let s2 : IsSame ns c.args.right c.in_ok-second.second = same-led ns n1 c.args.right c.args.right c.in_ok-second.second a (λ w σ m. refl) c.in_ok-second.ensures.same in
     let both : Changes ns c.args.changed.now.items n2 c.find-2.new.changed.items = changes-then ns n1 n2 c.args.changed.now.items c.find.new.changed.items c.find-2.new.changed.items a.len c.in_ok-first.ensures.changes c.in_ok-second.ensures.changes in
-    on_ok c.merge.result _ _ c.merge.ensures.others
-    (λ o. rw (c.in_ok-push-2.ensures.items, c.in_ok-push.ensures.items) (changes-then ns n2 c.merge.new.nodes.items c.args.changed.now.items c.find-2.new.changed.items _ l.len both (changes-two n2 c.merge.new.nodes.items c.find-2.new.changed.items c.in_ok-first.first c.in_ok-second.second c.in_ok-second.second c.in_ok-first.first (omega (arith, c.in_ok-first.ensures.inside, c.in_ok-second.ensures.leads.len)) (omega (arith, c.in_ok-second.ensures.inside)) o (inr (inl refl)) (inl refl))))
+    on_ok c.merge.result _ _ c.merge.ensures.changes
+    (λ x. changes-then ns n2 c.merge.new.nodes.items c.args.changed.now.items c.find-2.new.changed.items _ l.len both x)
 
 pub returns-then-first-second-2-clause-clash : goal.returns-then-first-second-2-clause-clash
 returns-then-first-second-2-clause-clash c =
@@ -84,8 +86,8 @@ returns-else-first-second-2-clause-changes c =
     let s1 : IsSame ns c.args.left c.in_ok-first.first = c.in_ok-first.ensures.same in
     let s2 : IsSame ns c.args.right c.in_ok-second.second = same-led ns n1 c.args.right c.args.right c.in_ok-second.second a (λ w σ m. refl) c.in_ok-second.ensures.same in
     let both : Changes ns c.args.changed.now.items n2 c.find-2.new.changed.items = changes-then ns n1 n2 c.args.changed.now.items c.find.new.changed.items c.find-2.new.changed.items a.len c.in_ok-first.ensures.changes c.in_ok-second.ensures.changes in
-    on_ok c.merge-else-first-second-2.result _ _ c.merge-else-first-second-2.ensures.others
-    (λ o. rw (c.in_ok-push-2.ensures.items, c.in_ok-push.ensures.items) (changes-then ns n2 c.merge-else-first-second-2.new.nodes.items c.args.changed.now.items c.find-2.new.changed.items _ l.len both (changes-two n2 c.merge-else-first-second-2.new.nodes.items c.find-2.new.changed.items c.in_ok-first.first c.in_ok-second.second c.in_ok-first.first c.in_ok-second.second (omega (arith, c.in_ok-first.ensures.inside, c.in_ok-second.ensures.leads.len)) (omega (arith, c.in_ok-second.ensures.inside)) o (inl refl) (inr (inl refl)))))
+    on_ok c.merge-else-first-second-2.result _ _ c.merge-else-first-second-2.ensures.changes
+    (λ x. changes-then ns n2 c.merge-else-first-second-2.new.nodes.items c.args.changed.now.items c.find-2.new.changed.items _ l.len both x)
 
 pub returns-else-first-second-2-clause-clash : goal.returns-else-first-second-2-clause-clash
 returns-else-first-second-2-clause-clash c =

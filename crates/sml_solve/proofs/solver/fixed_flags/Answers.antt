@@ -1,13 +1,13 @@
-use Rattle.std.proofs.Common.{◌≡◌, ◌≤◌, ◌<◌, inl, inr, [], length, ap, sym, ◌∙◌, subst, refl}
+use Rattle.std.proofs.Common.{◌≡◌, ◌≤◌, ◌<◌, [], length, ap, sym, ◌∙◌, subst, refl}
 use Rattle.std.specs.Prelude.{false}
 use Rattle.std.specs.List.{AllByRecursion}
-use Rattle.std.specs.List.Sorted.{IsPermutation}
 use Rattle.sml_objects.specs.Views.{maker_of}
 use Rattle.sml_solve.specs.Asked.{Asked, count}
 use Rattle.sml_solve.specs.Fixed.{AreFixed, AreMarks, places_of}
+use Rattle.sml_solve.specs.Changes.{AreCovered, AreInside}
 use Rattle.sml_solve.specs.Levels.{AreHandedBut, HandsLevels, IsKeptWith}
 use Rattle.sml_solve.proofs.Fixing.{flags-are, places-inside}
-use Rattle.sml_solve.proofs.Levelling.{among-sorted, levels-handed}
+use Rattle.sml_solve.proofs.Levelling.{handed-covered, levels-handed}
 use Rattle.sml_solve.proofs.solver.fixed_flags.Goals as goal
 
 pub hand_levels_on-requires-clause-but : goal.hand_levels_on-requires-clause-but
@@ -18,9 +18,18 @@ hand_levels_on-requires-clause-but c =
     let ps = c.in_ok-pending.pending.items in
     let spent : c.solver.inside.spent ≡ false = ap (λ (s : Asked). s.spent) c.solver.view_is ∙ c.requires.kept in
     let k = c.solver.invariant spent in
-    let p : IsPermutation is ps = rw c.replace-left.ensures.value at c.in_ok-pending.ensures.permutation in
-    let b : AreHandedBut ns ls ps = λ i. elim (k.levels.handed i) [ inl h ↦ inl h | inr m ↦ inr (among-sorted is ps i p m) ] in
+    let p : AreCovered is ps = rw c.replace-left.ensures.value at c.in_ok-pending.ensures.covers in
+    let b : AreHandedBut ns ls ps = handed-covered ns ls is ps p k.levels.handed in
     rw c.as_slice-2.ensures.value b
+
+pub hand_levels_on-requires-clause-inside : goal.hand_levels_on-requires-clause-inside
+hand_levels_on-requires-clause-inside c =
+    let ns = c.solver.inside.graph.nodes.items in
+    let is = c.solver.inside.left.items in
+    let spent : c.solver.inside.spent ≡ false = ap (λ (s : Asked). s.spent) c.solver.view_is ∙ c.requires.kept in
+    let k = c.solver.invariant spent in
+    let old : AreInside (length ns) c.replace-left.result.items = rw c.replace-left.ensures.value k.levels.inside in
+    rw c.as_slice-2.ensures.value (c.in_ok-pending.ensures.inside (length ns) old)
 
 pub places-requires : goal.places-requires
 places-requires c =

@@ -17,6 +17,7 @@ pub mod Shaping
 pub mod Counting
 pub mod Retrieving
 pub mod Owning
+pub mod Marking
 pub mod Overloading
 pub mod Labelling
 pub mod Defaulting

@@ -6,7 +6,8 @@ use Rattle.std.proofs.Math.Seq.{take-append_seam, drop-append_seam}
 use Rattle.std.proofs.lemmas.Bool.{cases_lt}
 use Rattle.std.proofs.lemmas.Grind.{reverse_onto}
 use Rattle.std.proofs.lemmas.List.{append_assoc, length-map, length-reverse, reverse-append, length-take-le, take-map, drop-map, take-append-drop}
-use Rattle.std.specs.List.{AllByRecursion}
+use Rattle.std.specs.List.{sum_by, AllByRecursion}
+use Rattle.std.proofs.lemmas.List.Sums.{sum_by-cons}
 use Rattle.std.specs.Global.{Global}
 use Rattle.std.specs.declared.rc.Rc.{Rc}
 use Rattle.sml_objects.specs.Initial.{Name}
@@ -26,13 +27,11 @@ use Rattle.sml_solve.specs.Graphs.{node_at, head_over, IsSame, IsSoundNode, IsCo
 use Rattle.sml_solve.specs.Interned.{through}
 use Rattle.sml_solve.specs.Ranks.{HasRank}
 use Rattle.sml_solve.specs.Left.{IsMadeOf}
-use Rattle.sml_solve.specs.Counted.{sizes_at}
 use Rattle.sml_solve.specs.Reads.{IsTypeAt, stacked, Gives, sizes, heads, unread, IsTaskIn, IsReadingOn}
 use Rattle.sml_solve.proofs.Interning.{typed-app, typed-free, map-push, types_size-is, sizes-append}
 use Rattle.sml_solve.proofs.Merging.{all-append}
 use Rattle.sml_solve.proofs.Ranking.{finite_of}
 use Rattle.sml_solve.proofs.Owning.{made-app}
-use Rattle.sml_solve.proofs.Counting.{positive, size-app}
 
 -- stacks
 
@@ -114,12 +113,13 @@ heads-reads : (is : List ℕ) (ks : List Task) → heads (reverse (map Read is) 
 heads-reads [] ks = refl
 heads-reads (i ∷ is) ks = ap heads (reads-next i is ks) ∙ heads-reads is (Read i ∷ ks)
 
-unread-reads : (τ : Assignment finite) (is : List ℕ) (ks : List Task) → unread τ (reverse (map Read is) ++ ks) ≡ sizes_at τ is + unread τ ks
-unread-reads τ [] ks = omega arith
-unread-reads τ (i ∷ is) ks =
-    let a = ap (unread τ) (reads-next i is ks) in
-    let r = unread-reads τ is (Read i ∷ ks) in
-    omega (arith, a, r)
+unread-reads : (f : ℕ → ℕ) (is : List ℕ) (ks : List Task) → unread f (reverse (map Read is) ++ ks) ≡ sum_by f is + unread f ks
+unread-reads f [] ks = omega arith
+unread-reads f (i ∷ is) ks =
+    let a = ap (unread f) (reads-next i is ks) in
+    let r = unread-reads f is (Read i ∷ ks) in
+    let c = sum_by-cons f i is in
+    omega (arith, a, r, c)
 
 reads-inside : (n : ℕ) (is : List ℕ) → AllByRecursion (λ i. i < n) is → AllByRecursion (IsTaskIn n) (map Read is)
 reads-inside n [] a = tt
@@ -140,7 +140,7 @@ reading-first ns us at ks ts h e f = record {
   over = rw f tt;
   inside = rw e (h, tt);
   sized = rw (e, f) (omega arith);
-  less = λ τ m. rw e (omega arith);
+  less = λ f a. rw e (omega arith);
 }
 
 pub reading-unknown : (ns : List Node) (us : List ℕ) (at size : ℕ) (ks : List Task) (ts : List (O.MlType Name)) (i here v : ℕ) → IsReadingOn ns us at size (Read i ∷ ks) ts → IsSame ns i here → (IsKnown (node_at ns here) → ⊥) → v < length us → get_or us v 0 ≡ here → IsReadingOn ns us at (size + 1) ks (O.free v ∷ ts)
@@ -153,7 +153,7 @@ reading-unknown ns us at size ks ts i here v r s e h f =
       over = (made-free (IsLoose ns us) v (h, λ k. e (subst (λ i. IsKnown (node_at ns i)) f k)), r.over);
       inside = r.inside.1;
       sized = let z = r.sized in omega (arith, z, one);
-      less = λ τ m. let z = r.less τ m in let p = positive (τ i) in omega (arith, z, p);
+      less = λ f a. let z = r.less f a in let p = a.some i in omega (arith, z, p);
     }
 
 pub reading-app : (ns : List Node) (us : List ℕ) (at size : ℕ) (ks qs : List Task) (ts : List (O.MlType Name)) (i here : ℕ) (h f : Head) (kids : SmallVec ℕ) → IsReadingOn ns us at size (Read i ∷ ks) ts → IsSame ns i here → node_at ns here ≡ App h kids → IsSoundNode (length ns) here (App h kids) → ((n : ℕ) → head_over f n ≡ head_over h n) → ((n : ℕ) → IsCountOf h n → IsCountOf f n) → qs ≡ reverse (map Read kids.items) ++ Apply f (length kids.items) ∷ ks → IsReadingOn ns us at (size + 1) qs ts
@@ -169,11 +169,12 @@ reading-app ns us at size ks qs ts i here h f kids r s e sound same count q =
       over = r.over;
       inside = rw q (all-append (IsTaskIn (length ns)) (reverse (map Read kids.items)) (Apply f n ∷ ks) (all-reverse (IsTaskIn (length ns)) (map Read kids.items) (reads-inside (length ns) kids.items sound.0)) (count n sound.1, r.inside.1));
       sized = let z = r.sized in let y = ap heads q ∙ heads-reads kids.items (Apply f n ∷ ks) in omega (arith, z, y);
-      less = λ τ m.
-          let z = r.less τ m in
-          let y = ap (unread τ) q ∙ unread-reads τ kids.items (Apply f n ∷ ks) in
-          let w = size-app ns i here h kids s e τ m in
-          omega (arith, z, y, w);
+      less = λ g a.
+          let z = r.less g a in
+          let y = ap (unread g) q ∙ unread-reads g kids.items (Apply f n ∷ ks) in
+          let w = a.parts here h kids e in
+          let v = a.same i here s in
+          omega (arith, z, y, w, v);
     }
 
 pub reading-enough : (ns : List Node) (us : List ℕ) (at size : ℕ) (ks : List Task) (ts : List (O.MlType Name)) (h : Head) (n : ℕ) → HasRank ns → IsReadingOn ns us at size (Apply h n ∷ ks) ts → n ≤ length ts

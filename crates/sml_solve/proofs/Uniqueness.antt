@@ -22,9 +22,9 @@ use Rattle.sml_solve.specs.Left.{IsMadeOf, AreMadeOf, IsLeft, IsReading}
 use Rattle.sml_solve.specs.Schemes.{IsFateOf, IsSchemeOfReading, HasOneScheme}
 use Rattle.sml_solve.proofs.Merging.{all-append}
 use Rattle.sml_solve.proofs.Rowing.{components}
-use Rattle.sml_solve.proofs.Opening.{fresh_label, fresh-none, IsNone, none-front, none-back, head_labels, component-head, one_row}
-use Rattle.sml_solve.proofs.Owning.{node_labels, solution-more, found-or-not, permitted, left-loose, choice, choice-is}
-use Rattle.sml_solve.proofs.Ranking.{solution, solution-meets}
+use Rattle.sml_solve.proofs.Marking.{IsMark, type_labels, types_labels, nodes_labels, marked, marked-meets, marked-is}
+use Rattle.sml_solve.proofs.Opening.{fresh_label, fresh-none, IsNone, none-front, none-back, head_labels, component-head}
+use Rattle.sml_solve.proofs.Owning.{found-or-not, permitted, left-loose}
 use Rattle.sml_solve.proofs.Searching.{all-parts}
 
 mutual
@@ -40,20 +40,6 @@ mutual
   all-stay P σ (O.and_type t ts) f m = λ i. O.and_type (stays P σ t f m.0 i) (all-stay P σ ts f m.1 i)
 
 -- Types that have a mark tell the unknowns that are left apart.
-
--- a field with a label tells which unknown the type is of
-abbrev IsMark : Id → ℕ → O.MlType Name → Type 0
-IsMark l v t = lookup l (components t) ≡ Some (O.free v)
-
-mutual
-  type_labels : O.MlType Name → List Id
-  type_labels (O.bound k) = []
-  type_labels (O.free v) = []
-  type_labels (O.app h ts) = head_labels h ++ types_labels ts
-
-  types_labels : O.MlTypes Name → List Id
-  types_labels O.no_type = []
-  types_labels (O.and_type t ts) = type_labels t ++ types_labels ts
 
 unmarked : (l : Id) (v : ℕ) (h : O.Head Name) (ts : O.MlTypes Name) (t : O.MlType Name) → IsNone l (head_labels h) → IsMark l v t → t ≡ O.app h ts → ⊥
 unmarked l v h ts t n m e = found-or-not l (O.app h ts) t (O.free v) (sym e) (component-head l h ts n) m
@@ -91,46 +77,21 @@ module _ (P : ℕ → Type 0) (σ : Assignment finite) (l : Id) (marks : (v : �
         let d = all-told-apart ts us m.1 n.1 (none-back l (type_labels t) (types_labels ts) x) (none-back l (type_labels v) (types_labels us) y) b in
         λ i. O.and_type (c i) (d i)
 
--- the labels of all nodes
-nodes_labels : List Node → List Id
-nodes_labels [] = []
-nodes_labels (n ∷ ns) = node_labels n ++ nodes_labels ns
-
-none-at-node : (l : Id) (ns : List Node) (i : ℕ) → IsNone l (nodes_labels ns) → IsNone l (node_labels (node_at ns i))
-unfolding nodes_labels
-none-at-node l [] zero a = tt
-none-at-node l [] (suc i) a = tt
-none-at-node l (n ∷ ns) zero a = none-front l (node_labels n) (nodes_labels ns) a
-none-at-node l (n ∷ ns) (suc i) a = none-at-node l ns i (none-back l (node_labels n) (nodes_labels ns) a)
-
--- each unknown that is left may have a mark
-module _ (u : ℕ) (us : List ℕ) (g : Graph) (b : Bool) (k : IsKept u g us) (l : Id) (fresh : IsNone l (nodes_labels g.nodes.items)) where
-  abbrev marks : Assignment finite
-  marks v = one_row l (O.free v)
-
-  abbrev marked : Assignment finite
-  marked = solution g.nodes.items (choice g.nodes.items us k.owners marks) k.whole.rank.rank
-
-  marked-is : (v : ℕ) → IsLeft (asked_of u us g b) v → IsMark l v (marked (get_or us v 0))
-  marked-is v h =
-      let loose = left-loose u us g b v k.whole.sound k.whole.rank k.owners h in
-      let i = get_or us v 0 in
-      solution-more g.nodes.items (choice g.nodes.items us k.owners marks) k.whole.rank i l (O.free v) (node_at g.nodes.items i) refl loose.1 (choice-is g.nodes.items us k.owners marks v loose.0 loose.1) (none-at-node l g.nodes.items i fresh)
-
-  marked-permitted : Permits Finiteness (asked_of u us g b) (through finite us marked)
-  marked-permitted = permitted u us g b marked (solution-meets g.nodes.items (choice g.nodes.items us k.owners marks) k.whole.rank.rank k.whole.rank.ranked)
-
 one-reading : (u : ℕ) (us : List ℕ) (g : Graph) (b : Bool) (t r q : O.MlType Name) → IsKept u g us → IsReading (asked_of u us g b) t r → IsReading (asked_of u us g b) t q → r ≡ q
 unfolding IsReading
 one-reading u us g b t r q k x y =
+    let ns = g.nodes.items in
+    let o = k.owners in
+    let h = k.whole.rank in
     let more = type_labels r ++ type_labels q in
-    let l = fresh_label (nodes_labels g.nodes.items ++ more) in
-    let fresh = fresh-none (nodes_labels g.nodes.items ++ more) in
-    let here = none-front l (nodes_labels g.nodes.items) more fresh in
-    let there = none-back l (nodes_labels g.nodes.items) more fresh in
-    let σ = through finite us (marked u us g b k l here) in
-    let p = marked-permitted u us g b k l here in
-    told-apart (IsLeft (asked_of u us g b)) σ l (marked-is u us g b k l here) r q x.0 y.0 (none-front l (type_labels r) (type_labels q) there) (none-back l (type_labels r) (type_labels q) there) (x.1 σ p ∙ sym (y.1 σ p))
+    let l = fresh_label (nodes_labels ns ++ more) in
+    let fresh = fresh-none (nodes_labels ns ++ more) in
+    let here = none-front l (nodes_labels ns) more fresh in
+    let there = none-back l (nodes_labels ns) more fresh in
+    let σ = through finite us (marked ns us o h l here) in
+    let p = permitted u us g b (marked ns us o h l here) (marked-meets ns us o h l here) in
+    let marks : (v : ℕ) → IsLeft (asked_of u us g b) v → IsMark l v (σ v) = λ v f. marked-is ns us o h l here v (left-loose u us g b v k.whole.sound h o f) in
+    told-apart (IsLeft (asked_of u us g b)) σ l marks r q x.0 y.0 (none-front l (type_labels r) (type_labels q) there) (none-back l (type_labels r) (type_labels q) there) (x.1 σ p ∙ sym (y.1 σ p))
 
 -- the variables of a type that is made of some
 

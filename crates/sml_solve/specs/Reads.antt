@@ -1,6 +1,6 @@
 -- Types that are read back from nodes.
 use Rattle.std.specs.Prelude.{◌≡◌, ℕ, suc, ◌+◌, ◌<◌, ◌≤◌, List, [], ◌∷◌, length, map, take, drop, reverse}
-use Rattle.std.specs.List.{AllByRecursion}
+use Rattle.std.specs.List.{sum_by, AllByRecursion}
 use Rattle.std.specs.Global.{Global}
 use Rattle.std.specs.declared.rc.Rc.{Rc}
 use Rattle.sml_objects.specs.Initial.{Name}
@@ -9,11 +9,14 @@ use Rattle.sml_objects.specs.Sizes.{type_size}
 use Rattle.sml_objects.specs.Types.{assign}
 use Rattle.sml_objects.specs.Views.{type_of}
 use Rattle.sml_objects.specs.declared.objects.MlType.{MlType}
+use Rattle.smallvec.specs.SmallVec.{SmallVec}
+use Rattle.sml_solve.specs.declared.node.Head.{Head}
 use Rattle.sml_solve.specs.declared.node.Node.{Node}
+use Rattle.sml_solve.specs.declared.node.Node.TheVariants.{App}
 use Rattle.sml_solve.specs.declared.reading.Task.{Task}
 use Rattle.sml_solve.specs.declared.reading.Task.TheVariants.{Read, Apply}
 use Rattle.sml_solve.specs.Worlds.{finite, Assignment, make}
-use Rattle.sml_solve.specs.Graphs.{head_over, Meets, IsCountOf, IsLoose}
+use Rattle.sml_solve.specs.Graphs.{head_over, node_at, Meets, IsSame, IsCountOf, IsLoose}
 use Rattle.sml_solve.specs.Interned.{through}
 use Rattle.sml_solve.specs.Left.{IsMadeOf}
 
@@ -43,11 +46,17 @@ heads [] = 0
 heads (Read i ∷ ks) = heads ks
 heads (Apply h n ∷ ks) = suc (heads ks)
 
--- the sizes of the types that are left to read
-abbrev pub unread : Assignment finite → List Task → ℕ
-unread τ [] = 0
-unread τ (Read i ∷ ks) = type_size (τ i) + unread τ ks
-unread τ (Apply h n ∷ ks) = unread τ ks
+-- A size for each node: nodes of one type have one size, and that of a head is greater than those of its parts together.
+pub record AreSizes (ns : List Node) (size : ℕ → ℕ) : Type 0 where
+  pub same : (i j : ℕ) → IsSame ns i j → size i ≡ size j
+  pub some : (i : ℕ) → 0 < size i
+  pub parts : (i : ℕ) (h : Head) (kids : SmallVec ℕ) → node_at ns i ≡ App h kids → sum_by size kids.items < size i
+
+-- the sizes of the nodes that are left to read
+abbrev pub unread : (ℕ → ℕ) → List Task → ℕ
+unread size [] = 0
+unread size (Read i ∷ ks) = size i + unread size ks
+unread size (Apply h n ∷ ks) = unread size ks
 
 abbrev pub IsTaskIn : ℕ → Task → Type 0
 IsTaskIn n (Read i) = i < n
@@ -59,4 +68,4 @@ pub record IsReadingOn (ns : List Node) (us : List ℕ) (at size : ℕ) (ks : Li
   pub over : AllByRecursion (IsMadeOf (IsLoose ns us)) ts
   pub inside : AllByRecursion (IsTaskIn (length ns)) ks
   pub sized : sizes ts + heads ks ≡ size
-  pub less : (τ : Assignment finite) → Meets finite ns τ → size + unread τ ks ≤ type_size (τ at)
+  pub less : (f : ℕ → ℕ) → AreSizes ns f → size + unread f ks ≤ f at

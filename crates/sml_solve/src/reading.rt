@@ -3,6 +3,8 @@
 ghost use Rattle.std.specs.Prelude.{◌≡◌, ◌≤◌, ◌<◌, ◌+◌, ◌^◌, ◌++◌, ◌∷◌, ℕ, length, map, vec_len, take, drop, reverse, slice_index, IfOk, OnOk};
 ghost use Rattle.std.specs.Option.{IfSome, IfNone};
 ghost use Rattle.std.specs.List.{AllByRecursion};
+ghost use Rattle.sml_objects.specs.Initial.{Name};
+ghost use Rattle.sml_objects.specs.Objects as O;
 ghost use Rattle.sml_objects.specs.Objects.{app};
 ghost use Rattle.sml_objects.specs.Sizes.{type_size};
 ghost use Rattle.sml_objects.specs.Views.{type_of, types_of};
@@ -128,6 +130,7 @@ pub(crate) fn type_up_to(
     requires inside { root < length nodes.now }
     requires small { limit + 1 < 2 ^ 32 }
     ensures ty { IfOk result (λ found. IfSome found (λ t. IsTypeAt nodes.now unknowns.now root limit (type_of t.value))) }
+    ensures none { IfOk result (λ found. IfNone found ((t : O.MlType Name) → IsTypeAt nodes.now unknowns.now root limit t → ⊥)) }
     ensures large { IfOk result (λ found. IfNone found ((τ : Assignment finite) → Meets finite nodes.now τ → limit < type_size (τ root))) }
 {
     let mut tasks = Vec::new(alloc);

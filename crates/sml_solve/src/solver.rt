@@ -5,8 +5,9 @@ ghost use Rattle.std.specs.Bool.{OnTrue, OnFalse};
 ghost use Rattle.std.specs.Coded.{codes};
 ghost use Rattle.std.specs.List.{AllByRecursion};
 ghost use Rattle.std.specs.Option.{IfSome, IfNone};
-ghost use Rattle.sml_objects.specs.Initial.{initial};
+ghost use Rattle.sml_objects.specs.Initial.{Name, initial};
 ghost use Rattle.sml_objects.specs.Names.{int};
+ghost use Rattle.sml_objects.specs.Objects as O;
 ghost use Rattle.sml_objects.specs.Objects.{free, named};
 ghost use Rattle.sml_objects.specs.Sizes.{type_size};
 ghost use Rattle.sml_objects.specs.Types.{instance_from, assign};
@@ -377,6 +378,7 @@ impl Solver {
         requires small { limit + 1 < 2 ^ 32 }
         ensures ty { IfOk result (λ found. IfSome found (λ t. IsReading self.new (type_of ty.now) (type_of t.value))) }
         ensures within { IfOk result (λ found. IfSome found (λ t. type_size (type_of t.value) ≤ limit)) }
+        ensures none { IfOk result (λ found. IfNone found ((r : O.MlType Name) → IsReading self.new (type_of ty.now) r → limit < type_size r)) }
         ensures large { IfOk result (λ found. IfNone found ((σ : Assignment finite) → Permits Finiteness self.new σ → limit < type_size (assign σ (type_of ty.now)))) }
         ensures same { OnOk result (PermitsSame self.old self.new) }
         ensures count { count self.new ≡ count self.old }
@@ -419,6 +421,7 @@ impl Solver {
         ensures scheme { IfOk result (λ found. IfSome found (λ s. IsScheme self.new fixed.now expansive (type_of ty.now) (scheme_of s))) }
         ensures known { IfOk result (λ found. IfSome found (λ s. IsSchemeOf self.new (scheme_of s))) }
         ensures within { IfOk result (λ found. IfSome found (λ s. type_size (scheme_of s).body ≤ limit)) }
+        ensures none { IfOk result (λ found. IfNone found ((θ : O.Scheme Name) → IsScheme self.new fixed.now expansive (type_of ty.now) θ → limit < type_size θ.body)) }
         ensures large { IfOk result (λ found. IfNone found ((σ : Assignment finite) → Permits Finiteness self.new σ → limit < type_size (assign σ (type_of ty.now)))) }
         ensures same { OnOk result (PermitsSame self.old self.new) }
         ensures count { count self.new ≡ count self.old }

@@ -1,5 +1,6 @@
 use Rattle.std.proofs.Common.{◌≡◌, ◌∷◌, [], ◌++◌, length, reverse, map, ap, subst, ◌∙◌, arith, drop}
 use Rattle.sml_objects.specs.Objects as O
+use Rattle.sml_objects.specs.Sizes.{type_size}
 use Rattle.sml_objects.specs.Views.{type_of}
 use Rattle.sml_objects.proofs.TypeViews.{type_of-free}
 use Rattle.sml_solve.specs.declared.node.Node.TheVariants.{App}
@@ -8,6 +9,7 @@ use Rattle.sml_solve.specs.Graphs.{node_at, IsRootNode, IsSoundNode, IsKnown}
 use Rattle.sml_solve.specs.Reads.{stacked, heads, IsReadingOn}
 use Rattle.sml_solve.proofs.Searching.{read_at}
 use Rattle.sml_solve.proofs.Counting.{positive}
+use Rattle.sml_solve.proofs.Marking.{type-sizes, too-large}
 use Rattle.sml_solve.proofs.Retrieving.{not-app-known, reverse-push, stacked-push, length-stacked, reading-first, reading-unknown, reading-app, reading-enough, reading-apply, empty, reading-found, reading-none, reverse-reads, heads-app}
 use Rattle.sml_solve.proofs.reading.type_up_to.Goals as goal
 
@@ -21,9 +23,15 @@ pub returns-then-limit-size-clause-large : goal.returns-then-limit-size-clause-l
 returns-then-limit-size-clause-large c τ m =
     let q : reverse c.loop-task.tasks.items ≡ Read c.in-Read.at ∷ reverse c.pop.new.self.items = ap reverse c.in-Some.ensures.items ∙ (reverse-push c.pop.new.self.items c.in-Some.task ∙ ap (λ k. k ∷ reverse c.pop.new.self.items) c.in-Read.is) in
     let r : IsReadingOn c.args.nodes.now c.args.unknowns.now c.args.root c.loop-task.size (Read c.in-Read.at ∷ reverse c.pop.new.self.items) (stacked c.loop-task.types.items) = rw q at c.loop-task.invariant.on in
-    let z = r.less τ m in
+    let z = r.less (λ i. type_size (τ i)) (type-sizes c.args.nodes.now τ m) in
     let p = positive (τ c.in-Read.at) in
     omega (arith, z, p, c.if-limit-size.true)
+
+pub returns-then-limit-size-clause-none : goal.returns-then-limit-size-clause-none
+returns-then-limit-size-clause-none c =
+    let q : reverse c.loop-task.tasks.items ≡ Read c.in-Read.at ∷ reverse c.pop.new.self.items = ap reverse c.in-Some.ensures.items ∙ (reverse-push c.pop.new.self.items c.in-Some.task ∙ ap (λ k. k ∷ reverse c.pop.new.self.items) c.in-Read.is) in
+    let r : IsReadingOn c.args.nodes.now c.args.unknowns.now c.args.root c.loop-task.size (Read c.in-Read.at ∷ reverse c.pop.new.self.items) (stacked c.loop-task.types.items) = rw q at c.loop-task.invariant.on in
+    too-large c.args.nodes.now c.args.unknowns.now c.args.root c.loop-task.size c.args.limit c.in-Read.at (reverse c.pop.new.self.items) (stacked c.loop-task.types.items) c.requires.owners c.requires.rank r c.if-limit-size.true
 
 pub loop-task-smaller-in_ok-push_reads-in-App : goal.loop-task-smaller-in_ok-push_reads-in-App
 loop-task-smaller-in_ok-push_reads-in-App c =
@@ -98,6 +106,12 @@ returns-clause-ty c =
 
 pub returns-clause-large : goal.returns-clause-large
 returns-clause-large c =
+    let q : reverse c.loop-task.tasks.items ≡ [] = ap reverse (empty c.loop-task.tasks.items (omega (arith, c.in_default.ensures.len, c.in_default.ensures.cases.0))) in
+    let r : IsReadingOn c.args.nodes.now c.args.unknowns.now c.args.root c.loop-task.size [] (stacked c.loop-task.types.items) = rw q at c.loop-task.invariant.on in
+    reading-none c.args.nodes.now c.args.unknowns.now c.args.root c.loop-task.size c.loop-task.types.len c.loop-task.types.items c.pop-2.result _ c.requires.rank r (omega arith) c.pop-2.ensures.variant.1
+
+pub returns-clause-none : goal.returns-clause-none
+returns-clause-none c =
     let q : reverse c.loop-task.tasks.items ≡ [] = ap reverse (empty c.loop-task.tasks.items (omega (arith, c.in_default.ensures.len, c.in_default.ensures.cases.0))) in
     let r : IsReadingOn c.args.nodes.now c.args.unknowns.now c.args.root c.loop-task.size [] (stacked c.loop-task.types.items) = rw q at c.loop-task.invariant.on in
     reading-none c.args.nodes.now c.args.unknowns.now c.args.root c.loop-task.size c.loop-task.types.len c.loop-task.types.items c.pop-2.result _ c.requires.rank r (omega arith) c.pop-2.ensures.variant.1

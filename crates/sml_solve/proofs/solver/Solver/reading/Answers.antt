@@ -7,6 +7,7 @@ use Rattle.sml_solve.specs.Asked.{asked_of, IsOf, PermitsSame}
 use Rattle.sml_solve.specs.Whole.{IsKept, IsWhole}
 use Rattle.sml_solve.proofs.Levelling.{grown-moves, levels-grown}
 use Rattle.sml_solve.proofs.Demanding.{Grows, permits-grown, kept-grown}
+use Rattle.sml_solve.proofs.Marking.{unread-larger}
 use Rattle.sml_solve.proofs.Owning.{readings-are, larges-are}
 use Rattle.sml_solve.proofs.solver.Solver.reading.Goals as goal
 
@@ -85,6 +86,21 @@ returns-clause-large c =
     let o : IsOver (length us) t = subst (λ s. IsOf s t) (sym c.self.view_is) c.requires.known in
     larges-are u us h false t c.in-Ok.at c.args.limit c.in-Ok-type_up_to.found o (λ τ m. (i.back finite τ m).1)
     (rw c.as_slice-nodes.ensures.value at c.in-Ok-type_up_to.ensures.large)
+
+pub returns-clause-none : goal.returns-clause-none
+returns-clause-none c =
+    let u = maker_of c.self.inside.unit in
+    let us = c.self.inside.unknowns.items in
+    let g = c.self.inside.graph in
+    let h = c.add.new.graph in
+    let t = type_of c.args.ty.now in
+    let k : IsKept u g us = (c.self.invariant c.if-self.false).kept in
+    let i : Interns g.nodes.items us t h.nodes.items c.in-Ok.at = subst (λ us. Interns g.nodes.items us t h.nodes.items c.in-Ok.at) c.as_slice.ensures.value c.in-Ok.ensures.interns in
+    let x : Grows us t g h c.in-Ok.at = record { interns = i; limits = c.in-Ok.ensures.limits } in
+    let w : IsWhole u h = c.in-Ok.ensures.whole u k.whole in
+    let n : IsKept u h us = kept-grown u us t g h c.in-Ok.at k x w in
+    unread-larger u us h false t c.in-Ok.at c.args.limit c.in-Ok-type_up_to.found w.sound w.rank n.owners (λ τ m. (i.back finite τ m).1)
+    (rw (c.as_slice-nodes.ensures.value, c.as_slice-2.ensures.value) at c.in-Ok-type_up_to.ensures.none)
 
 pub returns-clause-same : goal.returns-clause-same
 returns-clause-same c =

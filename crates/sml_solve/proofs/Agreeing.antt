@@ -11,14 +11,14 @@ use Rattle.sml_objects.specs.Types.{assign, replace_type, is_among, variables_af
 use Rattle.sml_objects.specs.declared.fates.Fate.{Fate}
 use Rattle.sml_objects.specs.declared.fates.Fate.TheVariants.{Bind, Keep, Default}
 use Rattle.sml_objects.proofs.EnvViews.{map-map}
-use Rattle.sml_solve.specs.declared.layer.Layer.TheVariants.{Finiteness, Equality, Classes}
-use Rattle.sml_solve.specs.Worlds.{finite, Assignment}
-use Rattle.sml_solve.specs.Asked.{Asked, Permits}
-use Rattle.sml_solve.specs.Rows.{fields_at}
-use Rattle.sml_solve.specs.Left.{IsMadeOf, IsFree, IsLeft, IsReading, MayBe, KeepsFields, IsMostGeneral}
-use Rattle.sml_solve.specs.Schemes.{IsInt, AsksEquality, IsFateOf, IsSchemeOfReading, MayBecome, AreAlike, HasNoFlag, HasNoFlexible, GiveOneScheme}
-use Rattle.sml_solve.proofs.Owning.{made-more, assigned-alike, row-not-free}
-use Rattle.sml_solve.proofs.Searching.{all-parts}
+use Rattle.sml_graph.specs.declared.layer.Layer.TheVariants.{Finiteness, Equality, Classes}
+use Rattle.sml_graph.specs.Worlds.{finite, Assignment}
+use Rattle.sml_graph.specs.Asked.{Asked, Permits}
+use Rattle.sml_graph.specs.Rows.{fields_at}
+use Rattle.sml_demands.specs.Left.{IsMadeOf, IsFree, IsLeft, IsReading, MayBe, KeepsFields, IsMostGeneral}
+use Rattle.sml_demands.specs.Schemes.{IsInt, AsksEquality, IsFateOf, IsSchemeOfReading, MayBecome, AreAlike, HasNoFlag, HasNoFlexible, GiveOneScheme}
+use Rattle.sml_demands.proofs.Owning.{made-more, assigned-alike, row-not-free}
+use Rattle.sml_graph.proofs.Searching.{all-parts}
 use Rattle.sml_solve.proofs.Uniqueness.{stays, variables-made, one-fate, same-fates}
 use Rattle.sml_solve.proofs.Renaming.{alike-on, assign-then, made-there, number_of, IsNamed, back-named, IsBack, variables-renamed, at-variable, at-each, IsNotKeep, closed-renamed}
 

@@ -7,18 +7,18 @@ use Rattle.sml_objects.specs.Initial.{Name}
 use Rattle.sml_objects.specs.Maps.{lookup}
 use Rattle.sml_objects.specs.Objects.{MlType, Head, row, app}
 use Rattle.sml_objects.specs.Views.{types_of}
-use Rattle.sml_solve.specs.declared.layer.Layer.{Layer}
-use Rattle.sml_solve.specs.declared.layer.Layer.TheVariants.{Equations}
+use Rattle.sml_graph.specs.declared.layer.Layer.{Layer}
+use Rattle.sml_graph.specs.declared.layer.Layer.TheVariants.{Equations}
 use Rattle.sml_objects.specs.Labels.{with_labels}
-use Rattle.sml_solve.specs.Rows.{HasFields, fields_at}
-use Rattle.sml_solve.specs.Worlds.{infinite, In, Assignment, make, spread, spread_all}
-use Rattle.sml_solve.specs.Layers.{place_of}
-use Rattle.sml_solve.specs.Asked.{Asked, Demand, equal, has_fields, asks, Holds, CanMeet, IsFirstUnmet, count}
+use Rattle.sml_graph.specs.Rows.{HasFields, fields_at}
+use Rattle.sml_graph.specs.Worlds.{infinite, In, Assignment, make, spread, spread_all}
+use Rattle.sml_graph.specs.Layers.{place_of}
+use Rattle.sml_graph.specs.Asked.{Asked, Demand, equal, has_fields, asks, Holds, CanMeet, IsFirstUnmet, count}
 use Rattle.sml_solve.specs.Clashes.{IsOneOf, part_at, MakesEqual, given, same, turned, joined, component, field, fields, HasLabels, Clash, heads, no_row, IsDemandOf, MeetsAll, IsUnmetWhereItClashes}
-use Rattle.sml_solve.proofs.Worlding.{app_head, app_parts}
+use Rattle.sml_graph.proofs.Worlding.{app_head, app_parts}
 use Rattle.sml_solve.proofs.Members.{all-in, in-all}
 use Rattle.sml_solve.proofs.LabelMaps.{lookup-mapped, lookup-unmapped}
-use Rattle.sml_solve.proofs.Rowing.{row-labels}
+use Rattle.sml_graph.proofs.Rowing.{row-labels}
 use Rattle.sml_solve.proofs.Trees.{IsDemandOver, clash-or-trees}
 
 spread-parts : (σ : Assignment infinite) (h : Head Name) (ts : List (MlType Name)) → spread σ (app h (types_of ts)) ≡ make infinite h (spread_all σ (types_of ts))

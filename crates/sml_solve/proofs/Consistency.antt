@@ -11,11 +11,11 @@ use Rattle.sml_objects.specs.Maps.{lookup}
 use Rattle.sml_objects.specs.Objects.{Head, arrow, row, name, app}
 use Rattle.sml_objects.specs.Views.{types_of}
 use Rattle.sml_objects.specs.Labels.{label_order, AreRising, with_labels}
-use Rattle.sml_solve.specs.Asked.{Demand, equal, has_fields, asks}
+use Rattle.sml_graph.specs.Asked.{Demand, equal, has_fields, asks}
 use Rattle.sml_solve.specs.Clashes.{IsOneOf, MakesEqual, HasLabels, Clash, heads, no_row}
 use Rattle.sml_solve.proofs.Members.{all-or}
 use Rattle.sml_solve.proofs.Discerning.{same_head}
-use Rattle.sml_solve.proofs.Rowing.{row-labels}
+use Rattle.sml_graph.proofs.Rowing.{row-labels}
 use Rattle.sml_solve.proofs.Subterms.{Ty, terms, term-in, Headed, headed, headed-is}
 use Rattle.sml_solve.proofs.Partitions.{Classes}
 use Rattle.sml_solve.proofs.Grouping.{AreMade}

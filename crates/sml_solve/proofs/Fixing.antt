@@ -4,24 +4,24 @@ use Rattle.std.proofs.lemmas.Bool.{cases_lt}
 use Rattle.std.specs.List.{AllByRecursion}
 use Rattle.sml_objects.specs.Initial.{Name}
 use Rattle.sml_objects.specs.Objects as O
-use Rattle.sml_solve.specs.declared.graph.Graph.{Graph}
-use Rattle.sml_solve.specs.declared.node.Node.{Node}
-use Rattle.sml_solve.specs.declared.node.Node.TheVariants.{Unknown, Link, App, Open}
-use Rattle.sml_solve.specs.Worlds.{finite, Assignment}
-use Rattle.sml_solve.specs.Graphs.{node_at, parts, Meets, IsSame, IsRootNode, IsKnown}
-use Rattle.sml_solve.specs.Interned.{through}
-use Rattle.sml_solve.specs.Ranks.{IsRanked, HasRank}
-use Rattle.sml_solve.specs.Asked.{Asked, asked_of}
-use Rattle.sml_solve.specs.Left.{IsUndetermined}
-use Rattle.sml_solve.specs.Fixed.{IsFixed, IsMarked, IsMarkedBut, IsReach, AreMarks, AreFixed, places_of}
-use Rattle.sml_solve.specs.Levels.{level_at, IsHeld, AreHeld, IsKeptWith}
-use Rattle.sml_solve.proofs.Levelling.{none-left}
-use Rattle.sml_solve.proofs.Interning.{inside-at}
-use Rattle.sml_solve.proofs.Asking.{value}
-use Rattle.sml_solve.proofs.Opening.{fresh_label, fresh-none, one_row}
-use Rattle.sml_solve.proofs.Ranking.{all-both, solution, ints, value-same, solution-value, solution-meets, solution-unknown}
-use Rattle.sml_solve.proofs.Searching.{all-parts}
-use Rattle.sml_solve.proofs.Owning.{node_labels, solution-more, solution-none, not-free, found-or-not, only, only-here, only-there, permitted, through-permitted, app-determined}
+use Rattle.sml_graph.specs.declared.graph.Graph.{Graph}
+use Rattle.sml_graph.specs.declared.node.Node.{Node}
+use Rattle.sml_graph.specs.declared.node.Node.TheVariants.{Unknown, Link, App, Open}
+use Rattle.sml_graph.specs.Worlds.{finite, Assignment}
+use Rattle.sml_graph.specs.Graphs.{node_at, parts, Meets, IsSame, IsRootNode, IsKnown}
+use Rattle.sml_graph.specs.Interned.{through}
+use Rattle.sml_graph.specs.Ranks.{IsRanked, HasRank}
+use Rattle.sml_graph.specs.Asked.{Asked, asked_of}
+use Rattle.sml_demands.specs.Left.{IsUndetermined}
+use Rattle.sml_demands.specs.Fixed.{IsFixed, IsMarked, IsMarkedBut, IsReach, AreMarks, AreFixed, places_of}
+use Rattle.sml_demands.specs.Levels.{level_at, IsHeld, AreHeld, IsKeptWith}
+use Rattle.sml_demands.proofs.Levelling.{none-left}
+use Rattle.sml_graph.proofs.Interning.{inside-at}
+use Rattle.sml_graph.proofs.Asking.{value}
+use Rattle.sml_demands.proofs.Opening.{fresh_label, fresh-none, one_row}
+use Rattle.sml_graph.proofs.Ranking.{all-both, solution, ints, value-same, solution-value, solution-meets, solution-unknown}
+use Rattle.sml_graph.proofs.Searching.{all-parts}
+use Rattle.sml_demands.proofs.Owning.{node_labels, solution-more, solution-none, not-free, found-or-not, only, only-here, only-there, permitted, through-permitted, app-determined}
 
 -- nodes that are closed under parts have the same types where the same types were chosen for them
 same-marked : (ns : List Node) (r : ℕ → ℕ) (M : ℕ → Type 0) (ρ ψ : Assignment finite) → IsRanked ns r → ((i : ℕ) → M i → AllByRecursion M (parts (node_at ns i))) → ((i : ℕ) → M i → ρ i ≡ ψ i) → (n i : ℕ) → M i → r i < n → solution ns ρ r i ≡ solution ns ψ r i

@@ -9,7 +9,7 @@ use Rattle.sml_objects.specs.Maps.{lookup, by_order, order_of}
 use Rattle.sml_objects.specs.Objects.{arrow, row, name, app}
 use Rattle.sml_objects.specs.Views.{types_of}
 use Rattle.sml_objects.specs.Labels.{with_labels}
-use Rattle.sml_solve.specs.Asked.{Demand, equal, has_fields, asks}
+use Rattle.sml_graph.specs.Asked.{Demand, equal, has_fields, asks}
 use Rattle.sml_solve.specs.Clashes.{IsOneOf, MakesEqual, given, same, turned, joined, component, field, fields}
 use Rattle.sml_solve.proofs.Members.{in-either, gather, gathered, in-map, all-or, without, without-less, in-without}
 use Rattle.sml_solve.proofs.Discerning.{same_id, same_head, same_type}

@@ -7,7 +7,7 @@ use Rattle.sml_objects.specs.Maps.{Map, lookup, by_order, order_of}
 use Rattle.sml_objects.specs.Labels.{with_labels}
 use Rattle.sml_solve.specs.Clashes.{IsOneOf}
 use Rattle.sml_solve.proofs.Discerning.{same_id}
-use Rattle.sml_solve.proofs.Rowing.{set_fields, set-here, set-there}
+use Rattle.sml_graph.proofs.Rowing.{set_fields, set-here, set-there}
 
 -- a label that was put in stands with one of the things that it was put in with
 pub puts-found : {X : Type 0} (f : Id × X) (fs : List (Id × X)) (m : Map X) → IsOneOf f fs → (x : X) × (lookup f.0 (set_fields fs m) ≡ Some x) × IsOneOf (f.0, x) fs

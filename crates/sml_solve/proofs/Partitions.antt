@@ -5,7 +5,7 @@ use Rattle.sml_tree.specs.Trees.{Id}
 use Rattle.sml_objects.specs.Maps.{lookup}
 use Rattle.sml_objects.specs.Objects.{arrow, row, name}
 use Rattle.sml_objects.specs.Labels.{with_labels}
-use Rattle.sml_solve.specs.Asked.{Demand, equal, has_fields, asks}
+use Rattle.sml_graph.specs.Asked.{Demand, equal, has_fields, asks}
 use Rattle.sml_solve.specs.Clashes.{IsOneOf, part_at}
 use Rattle.sml_solve.proofs.Members.{gather, in-gather, gathered, in-map}
 use Rattle.sml_solve.proofs.Discerning.{same_id, same_head}

@@ -8,12 +8,12 @@ use Rattle.sml_tree.specs.Trees.{Id}
 use Rattle.sml_objects.specs.Initial.{Name}
 use Rattle.sml_objects.specs.Maps.{Map, lookup}
 use Rattle.sml_objects.specs.Objects.{MlTypes, Head, row, bound, free, app, no_type, and_type}
-use Rattle.sml_solve.specs.declared.layer.Layer.TheVariants.{Equations}
+use Rattle.sml_graph.specs.declared.layer.Layer.TheVariants.{Equations}
 use Rattle.sml_objects.specs.Labels.{AreRising, with_labels}
-use Rattle.sml_solve.specs.Rows.{HasFields, fields_at}
-use Rattle.sml_solve.specs.Worlds.{infinite, Assignment, Tree, tree, spread, spread_all}
-use Rattle.sml_solve.specs.Interned.{IsOver, AreOver}
-use Rattle.sml_solve.specs.Asked.{Demand, equal, has_fields, asks, Holds}
+use Rattle.sml_graph.specs.Rows.{HasFields, fields_at}
+use Rattle.sml_graph.specs.Worlds.{infinite, Assignment, Tree, tree, spread, spread_all}
+use Rattle.sml_graph.specs.Interned.{IsOver, AreOver}
+use Rattle.sml_graph.specs.Asked.{Demand, equal, has_fields, asks, Holds}
 use Rattle.sml_solve.specs.Clashes.{IsOneOf, HasLabels, Clash, MeetsAll}
 use Rattle.sml_solve.proofs.Members.{in-left, in-right, gather, in-gather, gathered, all-in, in-all}
 use Rattle.sml_solve.proofs.Discerning.{same_id, same_head}
@@ -21,7 +21,7 @@ use Rattle.sml_solve.proofs.Subterms.{Ty, listed, terms, term-in, term-part, Hea
 use Rattle.sml_solve.proofs.Partitions.{Pair, when, in-when, zipped, pairs_under, Field, asked_fields, asked-field, source, field_pair, row_pairs, given_pairs, Classes, together, component_needs, row_needs, field_needs, needs}
 use Rattle.sml_solve.proofs.Grouping.{AreSettled, settled}
 use Rattle.sml_solve.proofs.LabelMaps.{puts-found, lookup-mapped}
-use Rattle.sml_solve.proofs.Rowing.{labels_in, values_in, set_fields, rising-sets, with-parts, count-parts}
+use Rattle.sml_graph.proofs.Rowing.{labels_in, values_in, set_fields, rising-sets, with-parts, count-parts}
 use Rattle.sml_solve.proofs.Consistency.{AgreeInHeads, IsRowFor, IsRowDemand, AreConsistent, consistent-or-clash}
 
 abbrev nth : List Ty → ℕ → Option Ty

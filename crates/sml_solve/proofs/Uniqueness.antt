@@ -8,24 +8,24 @@ use Rattle.sml_objects.specs.Objects as O
 use Rattle.sml_objects.specs.Types.{assign, replace_type, replace_types, is_among, variables_after, variables_after_all}
 use Rattle.sml_objects.specs.declared.fates.Fate.{Fate}
 use Rattle.sml_objects.specs.declared.fates.Fate.TheVariants.{Bind, Keep, Default}
-use Rattle.sml_solve.specs.declared.layer.Layer.TheVariants.{Finiteness}
+use Rattle.sml_graph.specs.declared.layer.Layer.TheVariants.{Finiteness}
 use Rattle.sml_tree.specs.Trees.{Id}
 use Rattle.sml_objects.specs.Maps.{lookup}
-use Rattle.sml_solve.specs.declared.graph.Graph.{Graph}
-use Rattle.sml_solve.specs.declared.node.Node.{Node}
-use Rattle.sml_solve.specs.Graphs.{node_at}
-use Rattle.sml_solve.specs.Interned.{through}
-use Rattle.sml_solve.specs.Whole.{IsKept}
-use Rattle.sml_solve.specs.Worlds.{finite, Assignment}
-use Rattle.sml_solve.specs.Asked.{Asked, asked_of, Permits}
-use Rattle.sml_solve.specs.Left.{IsMadeOf, AreMadeOf, IsLeft, IsReading}
-use Rattle.sml_solve.specs.Schemes.{IsFateOf, IsSchemeOfReading, HasOneScheme}
-use Rattle.sml_solve.proofs.Merging.{all-append}
-use Rattle.sml_solve.proofs.Rowing.{components}
-use Rattle.sml_solve.proofs.Marking.{IsMark, type_labels, types_labels, nodes_labels, marked, marked-meets, marked-is}
-use Rattle.sml_solve.proofs.Opening.{fresh_label, fresh-none, IsNone, none-front, none-back, head_labels, component-head}
-use Rattle.sml_solve.proofs.Owning.{found-or-not, permitted, left-loose}
-use Rattle.sml_solve.proofs.Searching.{all-parts}
+use Rattle.sml_graph.specs.declared.graph.Graph.{Graph}
+use Rattle.sml_graph.specs.declared.node.Node.{Node}
+use Rattle.sml_graph.specs.Graphs.{node_at}
+use Rattle.sml_graph.specs.Interned.{through}
+use Rattle.sml_graph.specs.Whole.{IsKept}
+use Rattle.sml_graph.specs.Worlds.{finite, Assignment}
+use Rattle.sml_graph.specs.Asked.{Asked, asked_of, Permits}
+use Rattle.sml_demands.specs.Left.{IsMadeOf, AreMadeOf, IsLeft, IsReading}
+use Rattle.sml_demands.specs.Schemes.{IsFateOf, IsSchemeOfReading, HasOneScheme}
+use Rattle.sml_graph.proofs.Merging.{all-append}
+use Rattle.sml_graph.proofs.Rowing.{components}
+use Rattle.sml_demands.proofs.Marking.{IsMark, type_labels, types_labels, nodes_labels, marked, marked-meets, marked-is}
+use Rattle.sml_demands.proofs.Opening.{fresh_label, fresh-none, IsNone, none-front, none-back, head_labels, component-head}
+use Rattle.sml_demands.proofs.Owning.{found-or-not, permitted, left-loose}
+use Rattle.sml_graph.proofs.Searching.{all-parts}
 
 mutual
   unfolding IsMadeOf AreMadeOf replace_type replace_types

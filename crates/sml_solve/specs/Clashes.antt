@@ -7,10 +7,10 @@ use Rattle.sml_objects.specs.Initial.{Name}
 use Rattle.sml_objects.specs.Maps.{lookup}
 use Rattle.sml_objects.specs.Objects.{MlType, Head, app, row, bound}
 use Rattle.sml_objects.specs.Views.{types_of}
-use Rattle.sml_solve.specs.declared.layer.Layer.TheVariants.{Equations}
+use Rattle.sml_graph.specs.declared.layer.Layer.TheVariants.{Equations}
 use Rattle.sml_objects.specs.Labels.{AreRising, with_labels}
-use Rattle.sml_solve.specs.Worlds.{infinite, Assignment}
-use Rattle.sml_solve.specs.Asked.{Asked, Demand, equal, has_fields, asks, IsOf, Permits, Holds, IsFirstUnmet}
+use Rattle.sml_graph.specs.Worlds.{infinite, Assignment}
+use Rattle.sml_graph.specs.Asked.{Asked, Demand, equal, has_fields, asks, IsOf, Permits, Holds, IsFirstUnmet}
 
 abbrev pub IsOneOf : {A : Type 0} → A → List A → Type 0
 IsOneOf x [] = ⊥

@@ -2,8 +2,8 @@
 
 ghost use Rattle.std.specs.Prelude.{◌≡◌, ℕ, ◌<◌, length, IfOk};
 ghost use Rattle.sml_objects.specs.Views.{type_of, scheme_of};
-ghost use Rattle.sml_solve.specs.Asked.{count};
-ghost use Rattle.sml_solve.specs.Interned.{IsOver, IsBodyOver};
+ghost use Rattle.sml_graph.specs.Asked.{count};
+ghost use Rattle.sml_graph.specs.Interned.{IsOver, IsBodyOver};
 
 mod chains;
 mod flexible;
@@ -11,10 +11,10 @@ mod memory;
 mod rows;
 mod wide;
 
-use crate::class::Class;
-use crate::layer::{Bound, Layer, Refusal};
+use sml_graph::class::Class;
+use sml_graph::layer::{Bound, Layer, Refusal};
 use crate::solver::Solver;
-use crate::variable::Variable;
+use sml_graph::variable::Variable;
 use sml_lex::fault::{Code, Memory};
 use sml_objects::labels::Labels;
 use sml_objects::objects::{Initial, MadeName, MlType, Scheme, TyName, UnitId};

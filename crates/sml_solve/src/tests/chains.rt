@@ -1,9 +1,9 @@
 //! Long chains of unknowns, with a demand for each: what a demand costs doesn't grow with the chain.
 
 ghost use Rattle.std.specs.Prelude.{◌≡◌};
-ghost use Rattle.sml_solve.specs.Asked.{count};
+ghost use Rattle.sml_graph.specs.Asked.{count};
 
-use crate::layer::{Layer, Refusal};
+use sml_graph::layer::{Layer, Refusal};
 use crate::tests::{MANY, link, nest, solved};
 use std::test::Fail;
 

@@ -2,10 +2,10 @@
 
 ghost use Rattle.std.specs.Prelude.{ℕ, IfOk};
 ghost use Rattle.sml_objects.specs.Views.{type_of};
-ghost use Rattle.sml_solve.specs.Interned.{IsOver};
+ghost use Rattle.sml_graph.specs.Interned.{IsOver};
 
 use super::{int, nest, pair, solved, unknown};
-use crate::layer::Refusal;
+use sml_graph::layer::Refusal;
 use sml_lex::fault::{Code, Memory};
 use sml_objects::objects::MlType;
 use sml_tree::bare::Ident;

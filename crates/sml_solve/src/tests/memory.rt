@@ -2,13 +2,13 @@
 
 ghost use Rattle.std.specs.Prelude.{◌≡◌, ℕ, ◌≤◌, length, OnOk};
 ghost use Rattle.sml_objects.specs.Views.{scheme_of};
-ghost use Rattle.sml_solve.specs.Asked.{count};
-ghost use Rattle.sml_solve.specs.Interned.{IsBodyOver};
+ghost use Rattle.sml_graph.specs.Asked.{count};
+ghost use Rattle.sml_graph.specs.Interned.{IsBodyOver};
 
 use super::flexible::field;
 use super::{UNIT, anything, int, list, pair, unknown, variable};
-use crate::class::Class;
-use crate::layer::{Bound, Refusal};
+use sml_graph::class::Class;
+use sml_graph::layer::{Bound, Refusal};
 use crate::solver::Solver;
 use sml_objects::objects::Scheme;
 use std::alloc::Global;

@@ -2,11 +2,11 @@
 
 ghost use Rattle.std.specs.Prelude.{◌≡◌, ◌<◌, ℕ, IfOk};
 ghost use Rattle.sml_objects.specs.Views.{type_of};
-ghost use Rattle.sml_solve.specs.Asked.{count};
-ghost use Rattle.sml_solve.specs.Interned.{IsOver};
+ghost use Rattle.sml_graph.specs.Asked.{count};
+ghost use Rattle.sml_graph.specs.Interned.{IsOver};
 
-use crate::class::Class;
-use crate::layer::{Bound, Layer, Refusal};
+use sml_graph::class::Class;
+use sml_graph::layer::{Bound, Layer, Refusal};
 use crate::solver::Solver;
 use crate::tests::{UNIT, int, link, made, real, solved, unknown, variable};
 use sml_lex::fault::Memory;

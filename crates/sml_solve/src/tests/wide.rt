@@ -1,9 +1,9 @@
 //! Rows of many fields, with a demand for each: what a demand costs doesn't grow with the row.
 
 ghost use Rattle.std.specs.Prelude.{◌≡◌};
-ghost use Rattle.sml_solve.specs.Asked.{count};
+ghost use Rattle.sml_graph.specs.Asked.{count};
 
-use crate::layer::{Layer, Refusal};
+use sml_graph::layer::{Layer, Refusal};
 use crate::tests::rows::select;
 use crate::tests::{MANY, int, link, real, solved, unknown};
 use std::test::Fail;

@@ -1,5 +1,5 @@
 use Rattle.std.proofs.Common.{◌∙◌, arith, refl}
-use Rattle.sml_solve.proofs.Demanding.{permits-refl, permits-trans}
+use Rattle.sml_demands.proofs.Demanding.{permits-refl, permits-trans}
 use Rattle.sml_solve.proofs.solver.add_unknowns.Goals as goal
 
 pub loop-made-init : goal.loop-made-init

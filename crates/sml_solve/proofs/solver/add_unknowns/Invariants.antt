@@ -1,6 +1,6 @@
 use Rattle.std.proofs.Common.{◌≡◌, ◌≤◌, ◌-◌, ◌+◌}
 use Rattle.std.specs.Prelude.{false}
-use Rattle.sml_solve.specs.Asked.{count, PermitsSame}
+use Rattle.sml_graph.specs.Asked.{count, PermitsSame}
 use Rattle.sml_solve.proofs.solver.add_unknowns.Given as goal
 
 abbrev pub invariant-loop-made : goal.invariant-loop-made

@@ -1,13 +1,13 @@
 use Rattle.std.proofs.Common.{◌≡◌, length, ap, sym, ◌∙◌, subst, arith}
 use Rattle.std.specs.Prelude.{false}
 use Rattle.sml_objects.specs.Views.{type_of, scheme_of, maker_of}
-use Rattle.sml_solve.specs.Asked.{Asked, asked_of, count}
-use Rattle.sml_solve.specs.Interned.{IsOver}
-use Rattle.sml_solve.specs.Left.{IsLeft}
-use Rattle.sml_solve.specs.Schemes.{IsSchemeOfReading, fate_at}
-use Rattle.sml_solve.specs.Whole.{IsKept}
-use Rattle.sml_solve.proofs.Fated.{fate-is}
-use Rattle.sml_solve.proofs.Owning.{made-over}
+use Rattle.sml_graph.specs.Asked.{Asked, asked_of, count}
+use Rattle.sml_graph.specs.Interned.{IsOver}
+use Rattle.sml_demands.specs.Left.{IsLeft}
+use Rattle.sml_demands.specs.Schemes.{IsSchemeOfReading, fate_at}
+use Rattle.sml_graph.specs.Whole.{IsKept}
+use Rattle.sml_demands.proofs.Fated.{fate-is}
+use Rattle.sml_demands.proofs.Owning.{made-over}
 use Rattle.sml_solve.proofs.solver.close_reading.Goals as goal
 
 pub closed-requires-clause-known : goal.closed-requires-clause-known

@@ -3,7 +3,7 @@ use Rattle.std.specs.Prelude.{false}
 use Rattle.sml_objects.specs.Objects as O
 use Rattle.sml_objects.specs.Views.{type_of}
 use Rattle.sml_objects.proofs.TypeViews.{type_of-bound}
-use Rattle.sml_solve.proofs.Interning.{body-bound}
+use Rattle.sml_graph.proofs.Interning.{body-bound}
 use Rattle.sml_solve.proofs.tests.anything.Goals as goal
 
 pub returns : goal.returns

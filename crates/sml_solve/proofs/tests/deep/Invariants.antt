@@ -1,6 +1,6 @@
 use Rattle.std.proofs.Common.{ℕ}
 use Rattle.sml_objects.specs.Views.{type_of}
-use Rattle.sml_solve.specs.Interned.{IsOver}
+use Rattle.sml_graph.specs.Interned.{IsOver}
 use Rattle.sml_solve.proofs.tests.deep.Given as goal
 
 abbrev pub invariant-loop : goal.invariant-loop

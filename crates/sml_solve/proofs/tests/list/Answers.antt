@@ -5,8 +5,8 @@ use Rattle.sml_objects.specs.Views.{name_of, type_of}
 use Rattle.sml_objects.specs.declared.objects.Initial.TheVariants.{List}
 use Rattle.sml_objects.specs.declared.objects.TyName.TheVariants.{Initial}
 use Rattle.sml_objects.proofs.TypeViews.{parts_of, type_of-name}
-use Rattle.sml_solve.specs.Interned.{IsOver}
-use Rattle.sml_solve.proofs.Interning.{over-app}
+use Rattle.sml_graph.specs.Interned.{IsOver}
+use Rattle.sml_graph.proofs.Interning.{over-app}
 use Rattle.sml_solve.proofs.tests.list.Goals as goal
 
 pub returns : goal.returns

@@ -3,8 +3,8 @@ use Rattle.std.specs.List.{AllByRecursion}
 use Rattle.sml_objects.specs.Objects as O
 use Rattle.sml_objects.specs.Views.{name_of}
 use Rattle.sml_objects.proofs.TypeViews.{parts_of, type_of-name}
-use Rattle.sml_solve.specs.Interned.{IsOver}
-use Rattle.sml_solve.proofs.Interning.{over-app}
+use Rattle.sml_graph.specs.Interned.{IsOver}
+use Rattle.sml_graph.proofs.Interning.{over-app}
 use Rattle.sml_solve.proofs.tests.named.Goals as goal
 
 pub returns : goal.returns

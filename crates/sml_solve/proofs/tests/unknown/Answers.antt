@@ -1,5 +1,5 @@
 use Rattle.sml_objects.proofs.TypeViews.{type_of-free}
-use Rattle.sml_solve.proofs.Interning.{over-free}
+use Rattle.sml_graph.proofs.Interning.{over-free}
 use Rattle.sml_solve.proofs.tests.unknown.Goals as goal
 
 pub returns : goal.returns

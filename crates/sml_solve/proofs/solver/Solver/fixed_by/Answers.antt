@@ -1,4 +1,4 @@
-use Rattle.sml_solve.proofs.Demanding.{permits-refl}
+use Rattle.sml_demands.proofs.Demanding.{permits-refl}
 use Rattle.sml_solve.proofs.solver.Solver.fixed_by.Goals as goal
 
 pub returns-in-Ok-clause-same : goal.returns-in-Ok-clause-same

@@ -1,12 +1,12 @@
 use Rattle.std.proofs.Common.{◌≡◌, ◌++◌, ◌∷◌, [], length, ◌+◌, ◌<◌, ◌^◌, ap, ◌∙◌, subst, arith, length-append}
 use Rattle.std.specs.Prelude.{false}
 use Rattle.sml_objects.specs.Views.{maker_of}
-use Rattle.sml_solve.specs.declared.node.Node.TheVariants.{Unknown}
-use Rattle.sml_solve.specs.Asked.{asked_of, PermitsSame}
-use Rattle.sml_solve.specs.Whole.{IsKept, IsFull}
-use Rattle.sml_solve.specs.Levels.{BeginsLevel}
-use Rattle.sml_solve.proofs.Levelling.{levels-fresh}
-use Rattle.sml_solve.proofs.Demanding.{kept-fresh, permits-fresh}
+use Rattle.sml_graph.specs.declared.node.Node.TheVariants.{Unknown}
+use Rattle.sml_graph.specs.Asked.{asked_of, PermitsSame}
+use Rattle.sml_graph.specs.Whole.{IsKept, IsFull}
+use Rattle.sml_demands.specs.Levels.{BeginsLevel}
+use Rattle.sml_demands.proofs.Levelling.{levels-fresh}
+use Rattle.sml_demands.proofs.Demanding.{kept-fresh, permits-fresh}
 use Rattle.sml_solve.proofs.solver.Solver.fresh.Goals as goal
 
 pub invariant_of-self-2 : goal.invariant_of-self-2

@@ -1,8 +1,8 @@
 use Rattle.std.proofs.Common.{◌≡◌, ◌+◌, length, ap, sym, ◌∙◌, arith}
 use Rattle.sml_objects.specs.Types.{instance_from}
 use Rattle.sml_objects.specs.Views.{type_of, scheme_of}
-use Rattle.sml_solve.specs.Asked.{count}
-use Rattle.sml_solve.proofs.Interning.{instance-over}
+use Rattle.sml_graph.specs.Asked.{count}
+use Rattle.sml_graph.proofs.Interning.{instance-over}
 use Rattle.sml_solve.proofs.solver.Solver.instance.Goals as goal
 
 pub returns-in-Ok-add_unknowns-clause-known : goal.returns-in-Ok-add_unknowns-clause-known

@@ -2,12 +2,12 @@ use Rattle.std.proofs.Common.{◌≡◌, ◌<◌, ◌∙◌, length, get_or, sym
 use Rattle.std.proofs.lemmas.List.{get_or_default}
 use Rattle.std.specs.Bool.{OnTrue, OnFalse}
 use Rattle.sml_objects.specs.Views.{maker_of}
-use Rattle.sml_solve.specs.declared.layer.Layer.{Layer}
-use Rattle.sml_solve.specs.Asked.{asked_of, count, CanMeet}
-use Rattle.sml_solve.specs.Overloaded.{IsOverloaded}
-use Rattle.sml_solve.specs.Whole.{IsKept}
-use Rattle.sml_solve.proofs.Wholeness.{on_true}
-use Rattle.sml_solve.proofs.Overloading.{overloaded-if, overloaded-only-if}
+use Rattle.sml_graph.specs.declared.layer.Layer.{Layer}
+use Rattle.sml_graph.specs.Asked.{asked_of, count, CanMeet}
+use Rattle.sml_demands.specs.Overloaded.{IsOverloaded}
+use Rattle.sml_graph.specs.Whole.{IsKept}
+use Rattle.sml_graph.proofs.Wholeness.{on_true}
+use Rattle.sml_demands.proofs.Overloading.{overloaded-if, overloaded-only-if}
 use Rattle.sml_solve.proofs.Defaulting.{to_int, can-be-int}
 use Rattle.sml_solve.proofs.solver.Solver.is_overloaded.Goals as goal
 

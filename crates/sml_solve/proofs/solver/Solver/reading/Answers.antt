@@ -1,14 +1,14 @@
 use Rattle.std.proofs.Common.{length, subst, sym}
 use Rattle.std.specs.Prelude.{false}
 use Rattle.sml_objects.specs.Views.{type_of, maker_of}
-use Rattle.sml_solve.specs.Worlds.{finite}
-use Rattle.sml_solve.specs.Interned.{IsOver, Interns}
-use Rattle.sml_solve.specs.Asked.{asked_of, IsOf, PermitsSame}
-use Rattle.sml_solve.specs.Whole.{IsKept, IsWhole}
-use Rattle.sml_solve.proofs.Levelling.{grown-moves, levels-grown}
-use Rattle.sml_solve.proofs.Demanding.{Grows, permits-grown, kept-grown}
-use Rattle.sml_solve.proofs.Marking.{unread-larger}
-use Rattle.sml_solve.proofs.Owning.{readings-are, larges-are}
+use Rattle.sml_graph.specs.Worlds.{finite}
+use Rattle.sml_graph.specs.Interned.{IsOver, Interns}
+use Rattle.sml_graph.specs.Asked.{asked_of, IsOf, PermitsSame}
+use Rattle.sml_graph.specs.Whole.{IsKept, IsWhole}
+use Rattle.sml_demands.proofs.Levelling.{grown-moves, levels-grown}
+use Rattle.sml_demands.proofs.Demanding.{Grows, permits-grown, kept-grown}
+use Rattle.sml_demands.proofs.Marking.{unread-larger}
+use Rattle.sml_demands.proofs.Owning.{readings-are, larges-are}
 use Rattle.sml_solve.proofs.solver.Solver.reading.Goals as goal
 
 pub type_up_to-requires-clause-rank : goal.type_up_to-requires-clause-rank

@@ -1,9 +1,9 @@
 use Rattle.std.proofs.Common.{subst, sym}
 use Rattle.std.specs.Prelude.{false}
 use Rattle.sml_objects.specs.Views.{type_of, maker_of}
-use Rattle.sml_solve.specs.Asked.{asked_of, asks, Demand, Adds, CanMeet, IsFirstUnmet}
-use Rattle.sml_solve.specs.Whole.{IsKept}
-use Rattle.sml_solve.proofs.Levelling.{levels-grown}
+use Rattle.sml_graph.specs.Asked.{asked_of, asks, Demand, Adds, CanMeet, IsFirstUnmet}
+use Rattle.sml_graph.specs.Whole.{IsKept}
+use Rattle.sml_demands.proofs.Levelling.{levels-grown}
 use Rattle.sml_solve.proofs.solver.Solver.require.Goals as goal
 
 pub returns-in-Ok-clause-ok : goal.returns-in-Ok-clause-ok

@@ -1,16 +1,16 @@
 use Rattle.std.proofs.Common.{◌≡◌, ◌∙◌, length, subst, sym, refl, arith}
 use Rattle.std.specs.Prelude.{true, false}
 use Rattle.sml_objects.specs.Views.{type_of, maker_of}
-use Rattle.sml_solve.specs.declared.layer.Layer.TheVariants.{Finiteness, Rigidity}
-use Rattle.sml_solve.specs.Worlds.{finite}
-use Rattle.sml_solve.specs.Graphs.{node_at}
-use Rattle.sml_solve.specs.Interned.{IsOver, Interns}
-use Rattle.sml_solve.specs.Asked.{asked_of, IsOf, PermitsSame}
-use Rattle.sml_solve.specs.Settled.{has_labels}
-use Rattle.sml_solve.specs.Whole.{IsKept, IsWhole}
-use Rattle.sml_solve.proofs.Levelling.{grown-moves, levels-grown}
-use Rattle.sml_solve.proofs.Demanding.{Grows, permits-grown, kept-grown}
-use Rattle.sml_solve.proofs.Labelling.{labels-same, labels-as, one-set, several}
+use Rattle.sml_graph.specs.declared.layer.Layer.TheVariants.{Finiteness, Rigidity}
+use Rattle.sml_graph.specs.Worlds.{finite}
+use Rattle.sml_graph.specs.Graphs.{node_at}
+use Rattle.sml_graph.specs.Interned.{IsOver, Interns}
+use Rattle.sml_graph.specs.Asked.{asked_of, IsOf, PermitsSame}
+use Rattle.sml_demands.specs.Settled.{has_labels}
+use Rattle.sml_graph.specs.Whole.{IsKept, IsWhole}
+use Rattle.sml_demands.proofs.Levelling.{grown-moves, levels-grown}
+use Rattle.sml_demands.proofs.Demanding.{Grows, permits-grown, kept-grown}
+use Rattle.sml_demands.proofs.Labelling.{labels-same, labels-as, one-set, several}
 use Rattle.sml_solve.proofs.solver.Solver.require_labels.Goals as goal
 
 pub returns-then-not-has_labels-clause-several : goal.returns-then-not-has_labels-clause-several

@@ -1,11 +1,11 @@
 use Rattle.std.proofs.Common.{◌≡◌, ◌++◌, ◌∙◌, ap, subst, sym, Err}
 use Rattle.std.specs.Prelude.{false}
 use Rattle.sml_objects.specs.Views.{type_of, maker_of}
-use Rattle.sml_solve.specs.declared.layer.Refusal.TheVariants.{Unmet}
-use Rattle.sml_solve.specs.Asked.{asked_of, has_fields, Demand, Adds, CanMeet, IsFirstUnmet}
-use Rattle.sml_solve.specs.Interned.{demanded}
-use Rattle.sml_solve.specs.Whole.{IsKept}
-use Rattle.sml_solve.proofs.Levelling.{levels-moved}
+use Rattle.sml_graph.specs.declared.layer.Refusal.TheVariants.{Unmet}
+use Rattle.sml_graph.specs.Asked.{asked_of, has_fields, Demand, Adds, CanMeet, IsFirstUnmet}
+use Rattle.sml_graph.specs.Interned.{demanded}
+use Rattle.sml_graph.specs.Whole.{IsKept}
+use Rattle.sml_demands.proofs.Levelling.{levels-moved}
 use Rattle.sml_solve.proofs.solver.Solver.require_row.Goals as goal
 
 pub returns-in_default-clause-ok : goal.returns-in_default-clause-ok

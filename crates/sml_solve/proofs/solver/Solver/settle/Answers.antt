@@ -1,8 +1,8 @@
 use Rattle.std.proofs.Common.{◌≡◌, ◌+◌, ◌<◌, inl, inr, length, sym, ◌∙◌, subst, refl, arith}
 use Rattle.sml_objects.specs.Views.{maker_of}
-use Rattle.sml_solve.specs.Asked.{asked_of, count}
-use Rattle.sml_solve.specs.Overloaded.{Settles}
-use Rattle.sml_solve.specs.Whole.{IsKept}
+use Rattle.sml_graph.specs.Asked.{asked_of, count}
+use Rattle.sml_demands.specs.Overloaded.{Settles}
+use Rattle.sml_graph.specs.Whole.{IsKept}
 use Rattle.sml_solve.proofs.Defaulting.{settled-first, settled-more, settled-as}
 use Rattle.sml_solve.proofs.solver.Solver.settle.Goals as goal
 

@@ -1,7 +1,7 @@
 use Rattle.std.proofs.Common.{◌≡◌, ◌≤◌, ◌⊎◌, ◌-◌}
 use Rattle.std.specs.Prelude.{false}
-use Rattle.sml_solve.specs.Asked.{count}
-use Rattle.sml_solve.specs.Overloaded.{Settles}
+use Rattle.sml_graph.specs.Asked.{count}
+use Rattle.sml_demands.specs.Overloaded.{Settles}
 use Rattle.sml_solve.proofs.solver.Solver.settle.Given as goal
 
 abbrev pub invariant-loop-place : goal.invariant-loop-place

@@ -1,13 +1,13 @@
 use Rattle.std.proofs.Common.{length, subst, sym}
 use Rattle.std.specs.Prelude.{false}
 use Rattle.sml_objects.specs.Views.{type_of, maker_of}
-use Rattle.sml_solve.specs.Interned.{IsOver, Interns}
-use Rattle.sml_solve.specs.Asked.{asked_of, IsOf, PermitsSame}
-use Rattle.sml_solve.specs.Counted.{IsCounted, IsSizeUpTo}
-use Rattle.sml_solve.specs.Whole.{IsKept, IsWhole}
-use Rattle.sml_solve.proofs.Levelling.{grown-moves, levels-grown}
-use Rattle.sml_solve.proofs.Demanding.{Grows, permits-grown, kept-grown}
-use Rattle.sml_solve.proofs.Counting.{counted-size}
+use Rattle.sml_graph.specs.Interned.{IsOver, Interns}
+use Rattle.sml_graph.specs.Asked.{asked_of, IsOf, PermitsSame}
+use Rattle.sml_demands.specs.Counted.{IsCounted, IsSizeUpTo}
+use Rattle.sml_graph.specs.Whole.{IsKept, IsWhole}
+use Rattle.sml_demands.proofs.Levelling.{grown-moves, levels-grown}
+use Rattle.sml_demands.proofs.Demanding.{Grows, permits-grown, kept-grown}
+use Rattle.sml_demands.proofs.Counting.{counted-size}
 use Rattle.sml_solve.proofs.solver.Solver.size_up_to.Goals as goal
 
 pub size_from-requires-clause-rank : goal.size_from-requires-clause-rank

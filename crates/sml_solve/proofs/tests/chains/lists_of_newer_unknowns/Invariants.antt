@@ -1,5 +1,5 @@
 use Rattle.std.proofs.Common.{◌≡◌}
-use Rattle.sml_solve.specs.Asked.{count}
+use Rattle.sml_graph.specs.Asked.{count}
 use Rattle.sml_solve.proofs.tests.chains.lists_of_newer_unknowns.Given as goal
 
 abbrev pub invariant-loop-i : goal.invariant-loop-i

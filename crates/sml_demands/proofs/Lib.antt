@@ -1,0 +1,12 @@
+pub mod Opening
+pub mod Demanding
+pub mod Shaping
+pub mod Counting
+pub mod Retrieving
+pub mod Owning
+pub mod Marking
+pub mod Overloading
+pub mod Labelling
+pub mod Reaching
+pub mod Levelling
+pub mod Fated

@@ -1,0 +1,12 @@
+pub mod Worlding
+pub mod Rowing
+pub mod Merging
+pub mod Changing
+pub mod Interning
+pub mod Searching
+pub mod Asking
+pub mod Limiting
+pub mod Ranking
+pub mod Ordering
+pub mod Walks
+pub mod Wholeness

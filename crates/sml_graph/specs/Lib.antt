@@ -1,0 +1,13 @@
+pub mod Worlds
+pub mod Rows
+pub mod Graphs
+pub mod Changes
+pub mod Interned
+pub mod Ranks
+pub mod Bounds
+pub mod Classes
+pub mod Variables
+pub mod Limits
+pub mod Layers
+pub mod Asked
+pub mod Whole

@@ -1,0 +1,15 @@
+// The graph of types: nodes, the equations between them, what is asked of each, and their order.
+#![tactic(auto)]
+
+pub mod change;
+pub mod class;
+pub mod fields;
+mod finite;
+pub mod graph;
+mod intern;
+pub mod layer;
+pub mod limits;
+pub mod merge;
+pub mod node;
+pub mod orders;
+pub mod variable;

@@ -1,0 +1,43 @@
+//! Explicit type variables.
+
+ghost use Rattle.std.specs.Prelude.{◌≡◌};
+ghost use Rattle.sml_graph.specs.Variables.{both_variables};
+
+/// An explicit type variable of a declaration: its number there, and whether it admits equality (the Definition,
+/// section 4.1).
+#[derive(Clone, Copy, PartialEq, Eq, Debug)]
+pub struct Variable {
+    pub number: u32,
+    pub equality: bool,
+}
+
+/// The explicit type variables that a type is to be.
+#[derive(Clone, Copy)]
+pub enum Variables {
+    /// It may be any type.
+    Any,
+    One(Variable),
+    /// It is to be two at once, which no type is.
+    Several,
+}
+
+impl Variables {
+    /// What both ask.
+    pub(crate) fn and(self, other: Variables) -> Variables
+        ensures { result ≡ both_variables self other }
+    {
+        match (self, other) {
+            (Variables::Any, _) => other,
+            (Variables::One(_), Variables::Any) => self,
+            (Variables::One(first), Variables::One(second)) => {
+                if first.number == second.number && first.equality == second.equality {
+                    self
+                } else {
+                    Variables::Several
+                }
+            }
+            (Variables::One(_), Variables::Several) => Variables::Several,
+            (Variables::Several, _) => Variables::Several,
+        }
+    }
+}

@@ -1,9 +1,0 @@
-use Rattle.std.proofs.Common.{ℕ, take}
-use Rattle.sml_solve.specs.Changes.{AreCovered, AreInside}
-use Rattle.sml_solve.proofs.change.fewest.Given as goal
-
-abbrev pub invariant-loop-change : goal.invariant-loop-change
-invariant-loop-change l = record {
-  covers : AreCovered (take l.change-index l.change-items) l.few.items;
-  inside : (n : ℕ) → AreInside n l.change-items → AreInside n l.few.items;
-}

@@ -1,6 +1,0 @@
-use Rattle.std.proofs.Common.{◌∙◌}
-use Rattle.sml_solve.proofs.Rowing.{kids-seen}
-use Rattle.sml_solve.proofs.fields.Fields.kids.Goals as goal
-
-pub returns : goal.returns
-returns c = c.as_slice.ensures ∙ (c.values.ensures.rest ∙ kids-seen c.args.self.now.map.entries)

@@ -1,7 +1,0 @@
-use Rattle.std.proofs.Common.{map, ap, ◌∙◌}
-use Rattle.sml_tree.specs.Views.{ident_of}
-use Rattle.sml_solve.proofs.Rowing.{labels-seen}
-use Rattle.sml_solve.proofs.fields.Fields.labels.Goals as goal
-
-pub returns : goal.returns
-returns c = ap (map ident_of) (c.as_slice.ensures ∙ c.keys.ensures.rest) ∙ labels-seen c.args.self.now.map.entries

@@ -1,6 +1,0 @@
-use Rattle.std.proofs.Common.{take}
-use Rattle.sml_solve.specs.Ranks.{FindsUnordered}
-use Rattle.sml_solve.proofs.orders.push_unordered.Given as goal
-
-abbrev pub invariant-loop-part : goal.invariant-loop-part
-invariant-loop-part l = FindsUnordered l.orders (take l.part-index l.parts) l.order l.initial.found.items l.found.items

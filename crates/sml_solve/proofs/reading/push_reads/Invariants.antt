@@ -1,6 +1,0 @@
-use Rattle.std.proofs.Common.{◌≡◌, ◌++◌, map, take}
-use Rattle.sml_solve.specs.declared.reading.Task.TheVariants.{Read}
-use Rattle.sml_solve.proofs.reading.push_reads.Given as goal
-
-abbrev pub invariant-loop-kid : goal.invariant-loop-kid
-invariant-loop-kid l = l.tasks.items ≡ l.initial.tasks.items ++ map Read (take l.kid-index l.kids)

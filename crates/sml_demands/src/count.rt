@@ -26,12 +26,7 @@ pub(crate) fn root_of(nodes: &[Node], at: usize) -> usize
 
 /// How many nodes the type of a node has, or one more than the limit where they are more. The time taken grows with the
 /// limit and not with the type.
-pub fn size_from(
-    alloc: Global,
-    nodes: &[Node],
-    root: usize,
-    limit: u32,
-) -> Result<u32, Memory>
+pub fn size_from(alloc: Global, nodes: &[Node], root: usize, limit: u32) -> Result<u32, Memory>
     requires sound { IsSound nodes.now }
     requires rank { HasRank nodes.now }
     requires inside { root < length nodes.now }

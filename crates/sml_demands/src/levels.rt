@@ -9,8 +9,8 @@ ghost use Rattle.sml_graph.specs.Graphs.{IsSound};
 ghost use Rattle.sml_graph.specs.Changes.{AreCovered, AreInside};
 ghost use Rattle.sml_demands.specs.Levels.{level_of, level_at, level_rank, AreHandedBut, AreHeld, BeginsLevel, LowersLevels, HandsLevels};
 
-use sml_graph::change::{Change, fewest};
 use crate::count::root_of;
+use sml_graph::change::{Change, fewest};
 use sml_graph::node::{Node, parts_from};
 use sml_lex::fault::Memory;
 use std::alloc::Global;
@@ -29,11 +29,7 @@ pub(crate) fn is_lower(one: Option<u32>, other: Option<u32>) -> bool
 }
 
 /// Gives a level to a node that is new.
-pub fn begin_level(
-    levels: &mut Vec<Option<u32>>,
-    at: usize,
-    level: u32,
-) -> Result<(), Memory>
+pub fn begin_level(levels: &mut Vec<Option<u32>>, at: usize, level: u32) -> Result<(), Memory>
     requires { length levels.old.items ≤ at }
     ensures { OnOk result (BeginsLevel levels.old.items at level levels.new.items) }
 {

@@ -42,11 +42,7 @@ pub fn marks_from(alloc: Global, nodes: &[Node], from: &[usize]) -> Result<Vec<b
 }
 
 /// The places of some unknowns.
-pub fn places(
-    alloc: Global,
-    unknowns: &[usize],
-    others: &[u32],
-) -> Result<Vec<usize>, Memory>
+pub fn places(alloc: Global, unknowns: &[usize], others: &[u32]) -> Result<Vec<usize>, Memory>
     requires { AllByRecursion (λ w. w < length unknowns.now) others.now }
     ensures { IfOk result (λ places. places.items ≡ places_of unknowns.now others.now) }
 {

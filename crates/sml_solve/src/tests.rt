@@ -11,9 +11,9 @@ mod memory;
 mod rows;
 mod wide;
 
+use crate::solver::Solver;
 use sml_graph::class::Class;
 use sml_graph::layer::{Bound, Layer, Refusal};
-use crate::solver::Solver;
 use sml_graph::variable::Variable;
 use sml_lex::fault::{Code, Memory};
 use sml_objects::labels::Labels;

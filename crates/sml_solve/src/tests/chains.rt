@@ -3,8 +3,8 @@
 ghost use Rattle.std.specs.Prelude.{◌≡◌};
 ghost use Rattle.sml_graph.specs.Asked.{count};
 
-use sml_graph::layer::{Layer, Refusal};
 use crate::tests::{MANY, link, nest, solved};
+use sml_graph::layer::{Layer, Refusal};
 use std::test::Fail;
 
 #[test]

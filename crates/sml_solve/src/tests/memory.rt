@@ -7,9 +7,9 @@ ghost use Rattle.sml_graph.specs.Interned.{IsBodyOver};
 
 use super::flexible::field;
 use super::{UNIT, anything, int, list, pair, unknown, variable};
+use crate::solver::Solver;
 use sml_graph::class::Class;
 use sml_graph::layer::{Bound, Refusal};
-use crate::solver::Solver;
 use sml_objects::objects::Scheme;
 use std::alloc::Global;
 use std::test::Fail;

@@ -5,10 +5,10 @@ ghost use Rattle.sml_objects.specs.Views.{type_of};
 ghost use Rattle.sml_graph.specs.Asked.{count};
 ghost use Rattle.sml_graph.specs.Interned.{IsOver};
 
-use sml_graph::class::Class;
-use sml_graph::layer::{Bound, Layer, Refusal};
 use crate::solver::Solver;
 use crate::tests::{UNIT, int, link, made, real, solved, unknown, variable};
+use sml_graph::class::Class;
+use sml_graph::layer::{Bound, Layer, Refusal};
 use sml_lex::fault::Memory;
 use sml_objects::labels::Labels;
 use sml_objects::objects::MlType;

@@ -3,9 +3,9 @@
 ghost use Rattle.std.specs.Prelude.{◌≡◌};
 ghost use Rattle.sml_graph.specs.Asked.{count};
 
-use sml_graph::layer::{Layer, Refusal};
 use crate::tests::rows::select;
 use crate::tests::{MANY, int, link, real, solved, unknown};
+use sml_graph::layer::{Layer, Refusal};
 use std::test::Fail;
 
 #[test]

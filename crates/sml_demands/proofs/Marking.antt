@@ -1,5 +1,5 @@
 -- Unknowns that are left, told apart by a label that stands nowhere else, and the sizes of types that are read back.
-use Rattle.std.proofs.Common.{◌≡◌, ℕ, zero, suc, ◌+◌, ◌<◌, ◌≤◌, inl, inr, List, [], ◌∷◌, ◌++◌, length, map, get_or, Option, Some, None, sym, ◌∙◌, ap, subst, refl, arith}
+use Rattle.std.proofs.Common.{◌≡◌, ℕ, zero, suc, ◌+◌, ◌<◌, inl, inr, List, [], ◌∷◌, ◌++◌, length, map, get_or, Option, Some, None, sym, ◌∙◌, ap, refl, arith}
 use Rattle.std.proofs.lemmas.Bool.{cases_lt}
 use Rattle.std.proofs.lemmas.List.Sums.{sum_by-cons}
 use Rattle.std.specs.Prelude.{Bool}
@@ -7,7 +7,6 @@ use Rattle.std.specs.Global.{Global}
 use Rattle.std.specs.List.{sum_by}
 use Rattle.std.specs.Option.{IfNone}
 use Rattle.std.specs.declared.rc.Rc.{Rc}
-use Rattle.smallvec.specs.SmallVec.{SmallVec}
 use Rattle.sml_tree.specs.Trees.{Id}
 use Rattle.sml_objects.specs.Initial.{Name}
 use Rattle.sml_objects.specs.Maps.{lookup}
@@ -17,9 +16,7 @@ use Rattle.sml_objects.specs.Types.{assign, replace_type, replace_types}
 use Rattle.sml_objects.specs.Views.{types_of}
 use Rattle.sml_objects.specs.declared.objects.MlType.{MlType}
 use Rattle.sml_graph.specs.declared.graph.Graph.{Graph}
-use Rattle.sml_graph.specs.declared.node.Head.{Head}
 use Rattle.sml_graph.specs.declared.node.Node.{Node}
-use Rattle.sml_graph.specs.declared.node.Node.TheVariants.{App}
 use Rattle.sml_demands.specs.declared.reading.Task.{Task}
 use Rattle.sml_demands.specs.declared.reading.Task.TheVariants.{Read}
 use Rattle.sml_graph.specs.Worlds.{finite, Assignment, make, typed}

@@ -1,5 +1,5 @@
 -- A type has one reading and one scheme.
-use Rattle.std.proofs.Common.{◌≡◌, ℕ, zero, suc, ◌↔◌, inl, inr, Bool, true, false, cond, Some, List, [], ◌∷◌, ◌++◌, map, get_or, sym, ◌∙◌, ap, subst, refl}
+use Rattle.std.proofs.Common.{◌≡◌, ℕ, ◌↔◌, inl, inr, Bool, true, false, cond, Some, List, [], ◌∷◌, ◌++◌, map, sym, ◌∙◌, ap, subst, refl}
 use Rattle.std.specs.List.{AllByRecursion}
 use Rattle.sml_objects.specs.Fates.{close_as}
 use Rattle.sml_objects.specs.Names.{int}
@@ -8,16 +8,13 @@ use Rattle.sml_objects.specs.Objects as O
 use Rattle.sml_objects.specs.Types.{assign, replace_type, replace_types, is_among, variables_after, variables_after_all}
 use Rattle.sml_objects.specs.declared.fates.Fate.{Fate}
 use Rattle.sml_objects.specs.declared.fates.Fate.TheVariants.{Bind, Keep, Default}
-use Rattle.sml_graph.specs.declared.layer.Layer.TheVariants.{Finiteness}
 use Rattle.sml_tree.specs.Trees.{Id}
 use Rattle.sml_objects.specs.Maps.{lookup}
 use Rattle.sml_graph.specs.declared.graph.Graph.{Graph}
-use Rattle.sml_graph.specs.declared.node.Node.{Node}
-use Rattle.sml_graph.specs.Graphs.{node_at}
 use Rattle.sml_graph.specs.Interned.{through}
 use Rattle.sml_graph.specs.Whole.{IsKept}
 use Rattle.sml_graph.specs.Worlds.{finite, Assignment}
-use Rattle.sml_graph.specs.Asked.{Asked, asked_of, Permits}
+use Rattle.sml_graph.specs.Asked.{Asked, asked_of}
 use Rattle.sml_demands.specs.Left.{IsMadeOf, AreMadeOf, IsLeft, IsReading}
 use Rattle.sml_demands.specs.Schemes.{IsFateOf, IsSchemeOfReading, HasOneScheme}
 use Rattle.sml_graph.proofs.Merging.{all-append}

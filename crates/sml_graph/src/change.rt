@@ -1,7 +1,6 @@
 //! What was changed in a graph.
 
-ghost use Rattle.std.specs.Prelude.{◌≡◌, ℕ, true, false, IfOk};
-ghost use Rattle.std.specs.Bool.{OnTrue};
+ghost use Rattle.std.specs.Prelude.{◌≡◌, ◌↔◌, ℕ, true, IfOk};
 ghost use Rattle.sml_graph.specs.Changes.{AreCovered, AreInside, IsNoLater};
 
 use sml_lex::fault::Memory;
@@ -24,13 +23,13 @@ impl Change {
 
     /// Whether this is a change of another one's node, from the same place on or an earlier one.
     fn is_no_later(self, other: Change) -> bool
-        ensures { OnTrue result (IsNoLater other self) }
+        ensures { (result ≡ true) ↔ IsNoLater other self }
     {
         self.node == other.node && self.from <= other.from
     }
 }
 
-/// Changes of the same parts, each node but once: so no part is gone through twice.
+/// Changes that cover others: of those of one node the one from the earliest place on, so that no part is gone through twice.
 pub fn fewest(alloc: Global, mut changes: Vec<Change>) -> Result<Vec<Change>, Memory>
     ensures covers { IfOk result (λ few. AreCovered changes.items few.items) }
     ensures inside { (n : ℕ) → AreInside n changes.items → IfOk result (λ few. AreInside n few.items) }

@@ -1,4 +1,4 @@
-use Rattle.std.proofs.Common.{◌≡◌, ◌+◌, ◌-◌, ◌<◌, ◌∷◌, [], ◌++◌, length, take, get_or, ap, ◌∙◌, subst, arith}
+use Rattle.std.proofs.Common.{◌≡◌, ◌+◌, ◌-◌, ◌<◌, ◌∷◌, [], ◌++◌, length, take, get_or, ap, ◌∙◌, subst, refl, arith}
 use Rattle.std.proofs.Math.Seq.{take-length}
 use Rattle.std.proofs.lemmas.List.{get_or_default}
 use Rattle.std.specs.List.Sorted.{IsPermutation}
@@ -24,7 +24,7 @@ loop-change-preserved c =
         inside = λ n a. rw w.in_ok-push.ensures.items (inside-both n few (d ∷ []) (v.inside n a) (all-at (λ c. c.node < n) cs i none a c.loop-change-test.true, tt));
       }
       | else-count-eq0+else-not-is_no_later w ↦ rw w.few-is record {
-        covers = covered-more (take i cs) (take (i + 1) cs) few d v.covers next (has-at (IsNoLater d) few (c.len-count.result - 1) w.index.result.now (omega (arith, c.len-count.ensures, w.if-count-eq0.false)) (subst (IsNoLater d) w.index.ensures w.if-not-is_no_later.ensures));
+        covers = covered-more (take i cs) (take (i + 1) cs) few d v.covers next (has-at (IsNoLater d) few (c.len-count.result - 1) w.index.result.now (omega (arith, c.len-count.ensures, w.if-count-eq0.false)) (subst (IsNoLater d) w.index.ensures (w.if-not-is_no_later.ensures.0 refl)));
         inside = v.inside;
       }
     ]

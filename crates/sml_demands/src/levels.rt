@@ -85,8 +85,8 @@ fn rank_of(levels: &[Option<u32>], node: usize) -> u32
     }
 }
 
-/// Changes of the same parts, each node but once, and those of the nodes with the lowest levels last. So each node gets a
-/// level once, where levels are handed on from the last.
+/// Changes that cover others, those of the nodes with the lowest levels last. So each node gets a level once, where levels
+/// are handed on from the last.
 pub fn by_level(
     alloc: Global,
     levels: &[Option<u32>],

@@ -1,5 +1,5 @@
 -- Changes of nodes.
-use Rattle.std.proofs.Common.{◌≡◌, ◌≢◌, ℕ, zero, suc, ◌<◌, ◌≤◌, ◌⊎◌, inl, inr, List, [], ◌∷◌, ◌++◌, length, take, drop, get_or, set, sym, ◌∙◌, ap, subst, refl, arith, append_assoc}
+use Rattle.std.proofs.Common.{◌≡◌, ◌≢◌, ℕ, ◌+◌, zero, suc, ◌<◌, ◌≤◌, ◌⊎◌, inl, inr, List, [], ◌∷◌, ◌++◌, length, take, drop, get_or, set, sym, ◌∙◌, ap, subst, refl, arith, append_assoc}
 use Rattle.std.proofs.lemmas.Bool.{cases_lt}
 use Rattle.std.proofs.lemmas.List.{append-nil, map-append, take-append-le}
 use Rattle.std.specs.Global.{Box}
@@ -11,7 +11,7 @@ use Rattle.sml_graph.specs.declared.change.Change.{Change}
 use Rattle.sml_graph.specs.declared.node.Node.{Node}
 use Rattle.sml_graph.specs.declared.node.Node.TheVariants.{Open}
 use Rattle.sml_graph.specs.Graphs.{node_at, parts, fields_of}
-use Rattle.sml_graph.specs.Changes.{HasChange, BeginsWith, IsAlike, KeepsFirst, IsChange, AreInside, IsNoLater, AreCovered, Changes}
+use Rattle.sml_graph.specs.Changes.{HasChange, BeginsWith, IsAlike, KeepsFirst, IsChange, AreInside, IsNoLater, AreCovered, NodesRise, AddsChange, Changes}
 use Rattle.sml_graph.specs.Rows.{kids_of}
 use Rattle.sml_graph.proofs.Merging.{same_or_not, all-append, node_at-other}
 
@@ -153,8 +153,47 @@ covered-sorted bs cs ds p a = all-changes (λ b. HasChange (IsNoLater b) cs) (λ
 pub covered-more : (bs es cs : List Change) (b : Change) → AreCovered bs cs → es ≡ bs ++ b ∷ [] → HasChange (IsNoLater b) cs → AreCovered es cs
 covered-more bs es cs b a e h = rw e (all-append (λ b. HasChange (IsNoLater b) cs) bs (b ∷ []) a (h, tt))
 
-pub covered-new : (bs es cs ds : List Change) (b : Change) → AreCovered bs cs → es ≡ bs ++ b ∷ [] → ds ≡ cs ++ b ∷ [] → AreCovered es ds
-covered-new bs es cs ds b a e f = covered-more bs es ds b (covered-then bs cs ds a (covered-begins cs ds (begins-one cs ds b f))) e (rw f (has-back (IsNoLater b) cs (b ∷ []) (inl (refl, omega arith))))
+-- changes of later and later nodes
+
+pub all-none : (P : Change → Type 0) (xs : List Change) → length xs ≡ 0 → AllByRecursion P xs
+all-none P [] e = tt
+all-none P (x ∷ xs) e = absurd (omega (arith, e))
+
+both-last : (P : Change → Type 0) (xs : List Change) (x : Change) → AllByRecursion P (xs ++ x ∷ []) → AllByRecursion P xs × P x
+both-last P [] x a = (tt, a.0)
+both-last P (y ∷ xs) x a = let r = both-last P xs x a.1 in ((a.0, r.0), r.1)
+
+rise-front : (xs : List Change) (x : Change) → NodesRise (xs ++ x ∷ []) → NodesRise xs × AllByRecursion (λ d. d.node < x.node) xs
+rise-front [] x p = (tt, tt)
+rise-front (y ∷ xs) x p = let f = both-last (λ d. y.node < d.node) xs x p.0 in let r = rise-front xs x p.1 in ((f.0, r.0), (f.1, r.1))
+
+rise-push : (xs : List Change) (x : Change) → NodesRise xs → AllByRecursion (λ d. d.node < x.node) xs → NodesRise (xs ++ x ∷ [])
+rise-push [] x p a = (tt, tt)
+rise-push (y ∷ xs) x p a = (all-append (λ d. y.node < d.node) xs (x ∷ []) p.0 (a.0, tt), rise-push xs x p.1 a.1)
+
+pub adds-same : (bs cs xs : List Change) (l c e : Change) → bs ≡ xs ++ l ∷ [] → cs ≡ xs ++ e ∷ [] → IsNoLater l e → IsNoLater c e → AddsChange bs c cs
+adds-same bs cs xs l c e q f m n = rw (q, f) record {
+  covers = all-append (λ b. HasChange (IsNoLater b) (xs ++ e ∷ [])) xs (l ∷ []) (covered-begins xs (xs ++ e ∷ []) (begins-one xs (xs ++ e ∷ []) e refl)) (has-back (IsNoLater l) xs (e ∷ []) (inl m), tt);
+  new = has-back (IsNoLater c) xs (e ∷ []) (inl n);
+  inside = λ k a h. inside-both k xs (e ∷ []) (both-last (λ d. d.node < k) xs l a).0 (let z = n.0 in omega (arith, z, h), tt);
+  rise = λ r u. let p = rise-front xs l r in rise-push xs e p.0 (all-changes (λ d. d.node < l.node) (λ d. d.node < e.node) xs (λ d h. let z = m.0 in omega (arith, h, z)) p.1);
+}
+
+pub adds-behind : (bs cs : List Change) (c : Change) → cs ≡ bs ++ c ∷ [] → (NodesRise bs → AreInside (c.node + 1) bs → AllByRecursion (λ d. d.node < c.node) bs) → AddsChange bs c cs
+adds-behind bs cs c q f = rw q record {
+  covers = covered-begins bs (bs ++ c ∷ []) (begins-one bs (bs ++ c ∷ []) c refl);
+  new = has-back (IsNoLater c) bs (c ∷ []) (inl (refl, omega arith));
+  inside = λ k a h. inside-both k bs (c ∷ []) a (h, tt);
+  rise = λ r u. rise-push bs c r (f r u);
+}
+
+pub later-behind : (bs xs : List Change) (l c : Change) → bs ≡ xs ++ l ∷ [] → l.node ≢ c.node → NodesRise bs → AreInside (c.node + 1) bs → AllByRecursion (λ d. d.node < c.node) bs
+later-behind bs xs l c q n r u =
+    let p = rise-front xs l (rw q at r) in
+    let v = both-last (λ d. d.node < c.node + 1) xs l (rw q at u) in
+    let m = v.1 in
+    let k : l.node < c.node = omega (arith, m, n) in
+    rw q (all-append (λ d. d.node < c.node) xs (l ∷ []) (all-changes (λ d. d.node < l.node) (λ d. d.node < c.node) xs (λ d h. omega (arith, h, k)) p.1) (k, tt))
 
 -- the parts of a node
 

@@ -1,5 +1,5 @@
 -- Changes of nodes.
-use Rattle.std.specs.Prelude.{◌≡◌, ℕ, ◌<◌, ◌≤◌, ◌⊎◌, List, [], ◌∷◌, ◌++◌, length, take}
+use Rattle.std.specs.Prelude.{◌≡◌, ℕ, ◌+◌, ◌<◌, ◌≤◌, ◌⊎◌, List, [], ◌∷◌, ◌++◌, length, take}
 use Rattle.std.specs.List.{AllByRecursion}
 use Rattle.sml_graph.specs.declared.change.Change.{Change}
 use Rattle.sml_graph.specs.declared.node.Node.{Node}
@@ -51,6 +51,18 @@ IsNoLater c d = (d.node ≡ c.node) × (d.from ≤ c.from)
 -- each change of the first list is covered by one of the second
 abbrev pub AreCovered : List Change → List Change → Type 0
 AreCovered bs cs = AllByRecursion (λ b. HasChange (IsNoLater b) cs) bs
+
+-- each change is of a later node than those before it
+abbrev pub NodesRise : List Change → Type 0
+NodesRise [] = Unit {0}
+NodesRise (c ∷ cs) = AllByRecursion (λ d. c.node < d.node) cs × NodesRise cs
+
+-- A change is added to others: these and it are covered. Where the others' nodes rise up to its node, so do those of all.
+pub record AddsChange (bs : List Change) (c : Change) (cs : List Change) : Type 0 where
+  pub covers : AreCovered bs cs
+  pub new : HasChange (IsNoLater c) cs
+  pub inside : (n : ℕ) → AreInside n bs → c.node < n → AreInside n cs
+  pub rise : NodesRise bs → AreInside (c.node + 1) bs → NodesRise cs
 
 -- a vector and the changes in it
 pub record Changes (ns : List Node) (bs : List Change) (ms : List Node) (cs : List Change) : Type 0 where

@@ -1,7 +1,7 @@
 //! What was changed in a graph.
 
-ghost use Rattle.std.specs.Prelude.{◌≡◌, ◌↔◌, ℕ, true, IfOk};
-ghost use Rattle.sml_graph.specs.Changes.{AreCovered, AreInside, IsNoLater};
+ghost use Rattle.std.specs.Prelude.{◌≡◌, ℕ, IfOk, OnOk};
+ghost use Rattle.sml_graph.specs.Changes.{AddsChange, AreCovered, AreInside, IsNoLater, NodesRise};
 
 use sml_lex::fault::Memory;
 use std::alloc::Global;
@@ -21,26 +21,41 @@ impl Change {
         Change { node, from: 0 }
     }
 
-    /// Whether this is a change of another one's node, from the same place on or an earlier one.
-    fn is_no_later(self, other: Change) -> bool
-        ensures { (result ≡ true) ↔ IsNoLater other self }
+    /// The one of two changes of a node that is from the earlier place on.
+    fn earlier(self, other: Change) -> Change
+        requires { self.node ≡ other.node }
+        ensures own { IsNoLater self result }
+        ensures other { IsNoLater other result }
     {
-        self.node == other.node && self.from <= other.from
+        if other.from < self.from { other } else { self }
     }
 }
 
-/// Changes that cover others: of those of one node the one from the earliest place on, so that no part is gone through twice.
+/// Adds a change to others. Where the last of these is of the same node, one change takes the place of both.
+fn add_change(few: &mut Vec<Change>, change: Change) -> Result<(), Memory>
+    ensures { OnOk result (AddsChange few.old.items change few.new.items) }
+{
+    if let Some(last) = few.pop() {
+        if last.node == change.node {
+            few.push(last.earlier(change))?;
+            return Ok(());
+        }
+        few.push(last)?;
+    }
+    few.push(change)?;
+    Ok(())
+}
+
+/// Changes that cover others, each node but once: so no part is gone through twice.
 pub fn fewest(alloc: Global, mut changes: Vec<Change>) -> Result<Vec<Change>, Memory>
     ensures covers { IfOk result (λ few. AreCovered changes.items few.items) }
     ensures inside { (n : ℕ) → AreInside n changes.items → IfOk result (λ few. AreInside n few.items) }
+    ensures once { IfOk result (λ few. NodesRise few.items) }
 {
-    changes.sort_by_key(|change| (change.node, change.from))?;
-    let mut few: Vec<Change> = Vec::new(alloc);
+    changes.sort_by_key(|change| change.node)?;
+    let mut few = Vec::new(alloc);
     for change in changes.as_slice() {
-        let count = few.len();
-        if count == 0 || !few[count - 1].is_no_later(*change) {
-            few.push(*change)?;
-        }
+        add_change(&mut few, *change)?;
     }
     Ok(few)
 }

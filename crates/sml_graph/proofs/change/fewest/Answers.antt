@@ -1,13 +1,16 @@
-use Rattle.std.proofs.Common.{◌≡◌, ◌+◌, ◌-◌, ◌<◌, ◌∷◌, [], ◌++◌, length, take, get_or, ap, ◌∙◌, subst, refl, arith}
+use Rattle.std.proofs.Common.{◌≡◌, ◌+◌, ◌<◌, ◌∷◌, [], ◌++◌, length, take, get_or, ap, ◌∙◌, subst, arith, rules}
 use Rattle.std.proofs.Math.Seq.{take-length}
 use Rattle.std.proofs.lemmas.List.{get_or_default}
-use Rattle.std.specs.List.Sorted.{IsPermutation}
+use Rattle.std.proofs.lemmas.List.Sorted.{IsNonDecreasingBy-from_sort_by_key}
+use Rattle.std.specs.List.Sorted.{IsPermutation, IsNonDecreasingBy}
 use Rattle.sml_graph.specs.declared.change.Change.{Change}
 use Rattle.sml_graph.specs.Changes.{AreCovered, HasChange, IsNoLater}
 use Rattle.sml_graph.proofs.Interning.{all-at, take-next}
-use Rattle.sml_graph.proofs.Changing.{all-sorted, all-unsorted, covered-more, covered-new, has-at, inside-both}
+use Rattle.sml_graph.proofs.Changing.{all-sorted, all-unsorted, covered-more, covered-then}
 use Rattle.sml_graph.proofs.change.fewest.Goals as goal
-use Rattle.sml_graph.proofs.change.fewest.Goals.{then-count-eq0+in_ok-push, else-count-eq0+else-not-is_no_later}
+
+pub loop-change-init : goal.loop-change-init
+loop-change-init c = record { covers = tt; inside = λ n a. rw c.new-few.ensures.items tt; rise = rw c.new-few.ensures.items tt; below = λ k d h l. rw c.new-few.ensures.items tt }
 
 pub loop-change-preserved : goal.loop-change-preserved
 loop-change-preserved c =
@@ -17,17 +20,15 @@ loop-change-preserved c =
     let d : Change = get_or cs i none in
     let few = c.loop-change.few.items in
     let v = c.loop-change.invariant in
+    let a = c.in_ok-add_change.ensures in
     let next : take (i + 1) cs ≡ take i cs ++ d ∷ [] = take-next cs i d c.loop-change-test.true (get_or_default cs i none d c.loop-change-test.true) in
-    elim c.if-count-eq0.branch [
-      | then-count-eq0+in_ok-push w ↦ rw w.few-is record {
-        covers = covered-new (take i cs) (take (i + 1) cs) few w.push.new.self.items d v.covers next w.in_ok-push.ensures.items;
-        inside = λ n a. rw w.in_ok-push.ensures.items (inside-both n few (d ∷ []) (v.inside n a) (all-at (λ c. c.node < n) cs i none a c.loop-change-test.true, tt));
-      }
-      | else-count-eq0+else-not-is_no_later w ↦ rw w.few-is record {
-        covers = covered-more (take i cs) (take (i + 1) cs) few d v.covers next (has-at (IsNoLater d) few (c.len-count.result - 1) w.index.result.now (omega (arith, c.len-count.ensures, w.if-count-eq0.false)) (subst (IsNoLater d) w.index.ensures (w.if-not-is_no_later.ensures.0 refl)));
-        inside = v.inside;
-      }
-    ]
+    let sorted : IsNonDecreasingBy (λ (c' : Change). c'.node) cs = rw c.as_slice-change-items.ensures.value (IsNonDecreasingBy-from_sort_by_key (λ c'. c'.node) _ c.in_ok-sort_by_key.ensures.sorted (λ a r q k. search rules)) in
+    record {
+      covers = covered-more (take i cs) (take (i + 1) cs) c.add_change.new.few.items d (covered-then (take i cs) few c.add_change.new.few.items v.covers a.covers) next a.new;
+      inside = λ n b. a.inside n (v.inside n b) (all-at (λ c. c.node < n) cs i none b c.loop-change-test.true);
+      rise = a.rise v.rise (v.below i none (omega arith) c.loop-change-test.true);
+      below = λ k e h l. a.inside ((get_or cs k e).node + 1) (v.below k e (omega (arith, h)) l) (let z = sorted i k e (omega (arith, h)) l in let q = get_or_default cs i none e c.loop-change-test.true in omega (arith, z, ap (λ (c : Change). c.node) q));
+    }
 
 module _ (c : goal.After-drop-changes-2) where
   sorted : IsPermutation c.args.changes.items c.as_slice-change-items.result.now

@@ -2,10 +2,6 @@
 #![tactic(auto)]
 
 mod build;
-#[cfg(test)]
-mod derived_forms;
-#[cfg(test)]
-mod flaws;
 mod form;
 mod item;
 mod label;
@@ -13,5 +9,3 @@ pub mod laws;
 pub mod parse;
 mod sort;
 mod stack;
-#[cfg(test)]
-mod whole_forms;

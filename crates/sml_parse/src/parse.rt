@@ -219,6 +219,3 @@ pub fn parse(alloc: Global, lexed: &Lexed) -> Result<Parsed, Memory>
         fault,
     })
 }
-
-#[cfg(test)]
-mod tests;

@@ -1,9 +1,22 @@
-use super::*;
-use sml_lex::fault::Place;
+//! The trees and faults of whole units, small and large.
+
+use sml_lex::fault::{Code, Fault, Memory, Place};
 use sml_lex::lexer::lex;
-use sml_tree::bare::{CoreDec, CoreForm, Exp, Ident, LongIdent, Spec, SpecForm, Ty};
+use sml_parse::parse::{Parsed, parse};
+use sml_reach::place::place_between;
+use sml_tree::bare::{BareDec, CoreDec, CoreForm, Exp, Ident, LongIdent, Spec, SpecForm, Ty};
+use std::alloc::Global;
 use std::fmt::Write;
 use std::test::Fail;
+
+/// A fault at a byte of the unit, with no detail.
+fn fault_at(unit: &[u8], code: Code, at: usize) -> Fault {
+    Fault {
+        code,
+        place: place_between(unit, 0, at),
+        detail: None,
+    }
+}
 
 /// Trees as text, each place before what it is the place of.
 #[derive(Drop)]
@@ -489,14 +502,14 @@ fn deep_units(rt: HostRuntime) -> Result<(), Fail> {
         let unit = repeated(alloc, text, count)?;
         let parsed = parse(alloc, &lex(alloc, &unit)?)?;
         assert_eq!(rt; parsed.piece.len(), 0);
-        assert_eq!(rt; parsed.fault, Some(fault_at(&unit, Code::S2, 0, last)));
+        assert_eq!(rt; parsed.fault, Some(fault_at(&unit, Code::S2, last)));
     }
     let mut unit = Vec::from_slice(alloc, b"structure A = ")?;
     for _ in 0..40_000 {
         unit.extend_from_slice(b"struct structure A = ")?;
     }
     let parsed = parse(alloc, &lex(alloc, &unit)?)?;
-    assert_eq!(rt; parsed.fault, Some(fault_at(&unit, Code::S2, 0, 840_012)));
+    assert_eq!(rt; parsed.fault, Some(fault_at(&unit, Code::S2, 840_012)));
     // closed, and so whole declarations outside the piece, which are too high
     let mut unit = Vec::from_slice(alloc, b"val x = 1 + ")?;
     for _ in 0..500_000 {
@@ -508,7 +521,7 @@ fn deep_units(rt: HostRuntime) -> Result<(), Fail> {
     }
     let parsed = parse(alloc, &lex(alloc, &unit)?)?;
     assert_eq!(rt; parsed.piece.len(), 0);
-    assert_eq!(rt; parsed.fault, Some(fault_at(&unit, Code::S3, 0, 0)));
+    assert_eq!(rt; parsed.fault, Some(fault_at(&unit, Code::S3, 0)));
     Ok(())
 }
 
@@ -538,18 +551,18 @@ fn long_sequences(rt: HostRuntime) -> Result<(), Fail> {
     ] {
         let unit = between(alloc, b"val x = ", text, count, last)?;
         let parsed = parse(alloc, &lex(alloc, &unit)?)?;
-        assert_eq!(rt; parsed.fault, Some(fault_at(&unit, Code::S3, 0, 0)));
+        assert_eq!(rt; parsed.fault, Some(fault_at(&unit, Code::S3, 0)));
         assert_eq!(rt; parsed.piece.len(), 0);
     }
     let unit = between(alloc, b"val x = ", b"fn x=>", 170_000, b"x")?;
     let parsed = parse(alloc, &lex(alloc, &unit)?)?;
-    assert_eq!(rt; parsed.fault, Some(fault_at(&unit, Code::S3, 0, 0)));
+    assert_eq!(rt; parsed.fault, Some(fault_at(&unit, Code::S3, 0)));
     let unit = between(alloc, b"val x = ", b"1+", 500_000, b"")?;
     let parsed = parse(alloc, &lex(alloc, &unit)?)?;
-    assert_eq!(rt; parsed.fault, Some(fault_at(&unit, Code::F1, 0, 1_000_007)));
+    assert_eq!(rt; parsed.fault, Some(fault_at(&unit, Code::F1, 1_000_007)));
     let unit = between(alloc, b"val (x", b"::y", 300_000, b" 1 2) = z")?;
     let parsed = parse(alloc, &lex(alloc, &unit)?)?;
-    assert_eq!(rt; parsed.fault, Some(fault_at(&unit, Code::F4, 0, 5)));
+    assert_eq!(rt; parsed.fault, Some(fault_at(&unit, Code::F4, 5)));
     Ok(())
 }
 
@@ -572,6 +585,6 @@ fn many_directives(rt: HostRuntime) -> Result<(), Fail> {
     unit.extend_from_slice(b" val a = 1")?;
     let parsed = parse(alloc, &lex(alloc, &unit)?)?;
     assert_eq!(rt; parsed.piece.len(), 0);
-    assert_eq!(rt; parsed.fault, Some(fault_at(&unit, Code::S3, 0, 0)));
+    assert_eq!(rt; parsed.fault, Some(fault_at(&unit, Code::S3, 0)));
     Ok(())
 }

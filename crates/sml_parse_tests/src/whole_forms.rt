@@ -2,9 +2,9 @@
 //! is shown as it is: a space, then its number.
 
 use crate::derived_forms::show::{Shown, show_top};
-use crate::parse::parse;
 use sml_lex::fault::Memory;
 use sml_lex::lexer::lex;
+use sml_parse::parse::parse;
 use std::test::Fail;
 
 /// The whole declarations of a unit, as text.

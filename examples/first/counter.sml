@@ -12,4 +12,3 @@ end
 val pair = Counter.twice
 val swap = fn a => fn b => (b, a)
 val both = (Counter.start, swap)
-val lost = Counter.next

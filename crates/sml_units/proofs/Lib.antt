@@ -1,6 +1,3 @@
-pub mod Sinks
-pub mod Pieces
-pub mod Spelling
 pub mod TypeAnswers
 pub mod Vectors
 pub mod Answering

@@ -1,4 +1,4 @@
-// Projects: their units in order, the elaboration of declarations, replies and runs.
+// Projects: their units in order, the elaboration of declarations, and runs.
 #![tactic(auto)]
 
 mod expressions;
@@ -10,15 +10,11 @@ mod lookups;
 pub mod manifest;
 mod matching;
 pub mod modules;
-mod numerals;
 pub mod orders;
 pub mod project;
 pub mod project_file;
 mod realisations;
-pub mod reply;
 pub mod run;
 mod signatures;
-pub mod sink;
-mod texts;
 pub mod top_fault;
 mod types;

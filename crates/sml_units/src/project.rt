@@ -19,12 +19,12 @@ ghost use Rattle.sml_units.specs.ProjectFiles.{units_in};
 use crate::manifest::{Manifest, OrderFault};
 use crate::modules::topdec;
 use crate::orders::order;
-use crate::reply::Reply;
 use crate::top_fault::TopFault;
 use sml_lex::fault::{Fault, Memory, Warning};
 use sml_lex::lexer::lex;
 use sml_objects::objects::{Basis, UnitId};
 use sml_parse::parse::parse;
+use sml_reply::reply::Reply;
 use sml_tree::bare::BareDec;
 use std::alloc::Global;
 

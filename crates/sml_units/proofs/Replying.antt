@@ -16,14 +16,14 @@ use Rattle.sml_rules.specs.Rules.{IsOpen, AreOpen}
 use Rattle.sml_rules.proofs.Open.{extended}
 use Rattle.sml_rules.proofs.Sound.{readings_sound}
 use Rattle.sml_reply.specs.declared.reply.Reply.{Reply}
-use Rattle.sml_units.specs.Elaborated.{IsBasisOf, IsOwnBasis, IsBelow}
-use Rattle.sml_units.specs.Runs.{Run, basis_after, start, needed, all_names, beginning, SourceUnit, RunProject}
+use Rattle.sml_modules.specs.Elaborated.{IsBasisOf, IsOwnBasis, IsBelow, beginning}
+use Rattle.sml_modules.proofs.Specifying.{all_below_more, basis_below}
+use Rattle.sml_units.specs.Runs.{Run, basis_after, start, needed, all_names, SourceUnit, RunProject}
 use Rattle.sml_units.specs.Orders.{UnitText}
-use Rattle.sml_units.specs.declared.project.ProjectUnit.{ProjectUnit}
 use Rattle.std.specs.String.{string_bytes}
+use Rattle.sml_units.specs.declared.project.ProjectUnit.{ProjectUnit}
 use Rattle.sml_units.specs.declared.project.UnitReplies.{UnitReplies}
 use Rattle.sml_units.specs.Checked.{Answered, IsStep, IsReplyTo, AreRepliesTo, AreSound, IsSoundAnswer, AreSpelt, HaveReplies, IsAnswered, AreAnswered, IsSourceOf, AreSourcesOf, AreUnitReplies, with_last}
-use Rattle.sml_units.proofs.Specifying.{all_below_more, basis_below}
 
 -- the basis behind these answers
 abbrev pub after_all : Basis Name → List Answered → Basis Name

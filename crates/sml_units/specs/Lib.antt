@@ -1,7 +1,5 @@
 pub mod Runs
 pub mod Isolation
-pub mod Elaborated
-pub mod Matched
 pub mod Written
 pub mod ProjectFiles
 pub mod Orders

@@ -6,10 +6,9 @@ use Rattle.sml_lex.specs.declared.fault.Place.{Place}
 use Rattle.sml_tree.specs.Trees as T
 use Rattle.sml_objects.specs.Objects.{Sig, Basis, names_basis, names_sig, rename_sig, rename_basis}
 use Rattle.sml_objects.specs.Initial.{Name, initial, made, naming}
-use Rattle.sml_objects.specs.Alike.{Renaming, IsFixed, AlikeOver}
+use Rattle.sml_objects.specs.Alike.{IsFixed, AlikeOver}
 use Rattle.sml_objects.specs.Appearance.{Stands, stands}
 use Rattle.sml_objects.specs.Canonical.{is_new, new_names, place_of, with_number, renumber, canonical}
-use Rattle.sml_objects.specs.CanonicalLaws.{CanonicalRenames}
 use Rattle.sml_objects.proofs.CanonicalForms.{canonical-renames}
 use Rattle.sml_objects.proofs.Renaming.{sig-image, sig_laws}
 use Rattle.sml_rules.specs.Answers.{accepted, fault}

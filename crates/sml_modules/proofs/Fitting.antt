@@ -1,5 +1,5 @@
 -- When a body becomes a type, phrase by phrase.
-use Rattle.std.proofs.Common.{◌≡◌, ℕ, Bool, true, false, Result, Ok, Err, IfOk, Option, Some, None, List, [], ◌∷◌, ◌++◌, map, length, take, nat_eq, cond, refl, ap, sym, subst, ◌∙◌, ◌↔◌, Vec, Global}
+use Rattle.std.proofs.Common.{◌≡◌, ℕ, Bool, true, false, Result, Ok, Err, IfOk, Option, Some, None, List, [], ◌∷◌, ◌++◌, map, length, take, nat_eq, cond, refl, ap, sym, subst, ◌∙◌, Global}
 use Rattle.std.proofs.lemmas.Bool.{eqb-true, eqb-false, eq-eqb}
 use Rattle.std.proofs.lemmas.List.{map-append, take-map, length-map}
 use Rattle.std.proofs.lemmas.Option.{none-some}
@@ -11,7 +11,7 @@ use Rattle.sml_objects.specs.Objects as O
 use Rattle.sml_objects.specs.declared.objects.MlType.{MlType}
 use Rattle.sml_objects.specs.Initial.{Name}
 use Rattle.sml_objects.specs.Types.{replace_type, replace_types}
-use Rattle.sml_objects.specs.Views.{type_of, types_of, name_of}
+use Rattle.sml_objects.specs.Views.{type_of, types_of}
 use Rattle.sml_objects.proofs.SameTypes.{kind}
 use Rattle.sml_rules.specs.Rules.{IsOpen, AreOpen, IsInstance}
 use Rattle.sml_modules.specs.Matched.{Found, Agrees, AreOpenIn, Fits, FitAll, Decides, found_in}

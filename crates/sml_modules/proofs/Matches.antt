@@ -10,7 +10,7 @@ use Rattle.sml_lex.specs.declared.fault.Place.{Place}
 use Rattle.sml_lex.specs.declared.fault.Code.TheVariants.{M1, M2, M4, M6}
 use Rattle.sml_lex.specs.Faults as F
 use Rattle.sml_tree.specs.Trees.{Id}
-use Rattle.sml_objects.specs.Maps.{Map, lookup}
+use Rattle.sml_objects.specs.Maps.{lookup}
 use Rattle.sml_objects.specs.Objects as O
 use Rattle.sml_objects.specs.Objects.{types, values}
 use Rattle.sml_objects.specs.Initial.{Name, naming}
@@ -27,7 +27,6 @@ use Rattle.sml_modules.specs.Elaborated.{or_else}
 use Rattle.sml_modules.specs.Matched.{read_name, read_value, PlainUnder}
 use Rattle.sml_rules.specs.Rules.{IsInstance, IsOpen, AreOpen}
 use Rattle.sml_modules.proofs.Answering.{passes, fails, then_any, then_refused, gives}
-use Rattle.sml_modules.proofs.Realising.{or_none}
 
 abbrev Item : Type 0
 Item = Id × O.Scheme Name

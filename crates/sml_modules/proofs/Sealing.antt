@@ -1,10 +1,9 @@
 -- Readings of sealed structures, step by step.
-use Rattle.std.proofs.Common.{◌≡◌, ◌+◌, ℕ, List, [], ◌∷◌, ◌++◌, length, map, Result, Ok, Err, IfOk, refl, ap, sym, subst, ◌∙◌}
+use Rattle.std.proofs.Common.{◌≡◌, ◌+◌, ℕ, List, [], ◌++◌, length, map, Result, Ok, Err, IfOk, ap, sym, subst, ◌∙◌}
 use Rattle.std.proofs.lemmas.List.{length-map}
 use Rattle.sml_lex.specs.declared.fault.Place.{Place}
 use Rattle.sml_lex.specs.Faults as F
-use Rattle.sml_tree.specs.Trees.{Id, CoreDec, Spec, core}
-use Rattle.sml_objects.specs.Names.{Naming}
+use Rattle.sml_tree.specs.Trees.{Id, CoreDec, core}
 use Rattle.sml_objects.specs.Objects.{Env, Sig, Basis, empty_env, one_structure, names_basis, names_env, names_sig, names_structures, names_map}
 use Rattle.sml_objects.specs.Initial.{Name, naming}
 use Rattle.sml_tree.specs.Views.{core_dec_of}
@@ -14,12 +13,12 @@ use Rattle.sml_objects.specs.declared.objects.Basis as PB
 use Rattle.sml_objects.specs.declared.objects.Sig as PS
 use Rattle.sml_rules.specs.Answers.{Answer, Reading, refused, accepted, After, give, ◌>>=◌}
 use Rattle.sml_rules.specs.Every.{Every}
-use Rattle.sml_rules.specs.Readings.{read_cores, read_specs, read_dec}
-use Rattle.sml_rules.specs.Rules.{apart, sum_from, sum_of}
+use Rattle.sml_rules.specs.Readings.{read_cores, read_dec}
+use Rattle.sml_rules.specs.Rules.{apart, sum_from}
 use Rattle.sml_rules.proofs.Sound.{bound_by, given}
 use Rattle.sml_rules.proofs.Within.{first, last, both, read_core_within, read_cores_within}
 use Rattle.sml_modules.specs.declared.top_fault.TopFault.{TopFault}
-use Rattle.sml_modules.specs.Elaborated.{Answers, IsBelow, IsBasisOf, IsOwnBasis, IsMade, summed, no_signature, signature_of}
+use Rattle.sml_modules.specs.Elaborated.{Answers, IsBelow, IsBasisOf, IsOwnBasis, IsMade, summed, signature_of}
 use Rattle.sml_modules.proofs.Specifying.{all_below_more}
 
 -- what a sum comes from

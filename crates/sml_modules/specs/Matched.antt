@@ -1,11 +1,11 @@
 -- What the functions of matching give.
-use Rattle.std.specs.Prelude.{◌≡◌, ℕ, Bool, true, false, cond, Option, Some, None, IsSome, List, [], ◌∷◌, length, nat_eq, ◌↔◌}
+use Rattle.std.specs.Prelude.{◌≡◌, ℕ, Bool, true, false, Option, Some, None, IsSome, List, [], ◌∷◌, length, nat_eq, ◌↔◌}
 use Rattle.std.specs.Map.{lookup}
 use Rattle.std.specs.Option.{option_map}
 use Rattle.std.specs.Global.{Global}
 use Rattle.std.specs.declared.rc.Rc.{Rc}
 use Rattle.sml_lex.specs.declared.fault.Place.{Place}
-use Rattle.sml_lex.specs.declared.fault.Code.TheVariants.{M1, M2, M4, M6}
+use Rattle.sml_lex.specs.declared.fault.Code.TheVariants.{M1, M2, M6}
 use Rattle.sml_tree.specs.Trees.{Id}
 use Rattle.sml_objects.specs.Maps as M
 use Rattle.sml_objects.specs.Objects as O
@@ -17,7 +17,7 @@ use Rattle.sml_objects.specs.declared.objects.TyName.{TyName}
 use Rattle.sml_objects.specs.declared.objects.Scheme.{Scheme}
 use Rattle.sml_objects.specs.declared.objects.MlType.{MlType}
 use Rattle.sml_rules.specs.Rules.{IsOpen, AreOpen, IsInstance}
-use Rattle.sml_rules.specs.Matching.{Realisation, realise_type, realise_scheme}
+use Rattle.sml_rules.specs.Matching.{Realisation, realise_type}
 use Rattle.sml_rules.specs.Answers.{Reading, give, ◌>>=◌, test, fault_at}
 use Rattle.sml_modules.specs.Elaborated.{or_else}
 

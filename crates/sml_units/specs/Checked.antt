@@ -1,5 +1,5 @@
 -- Which replies a project may be given.
-use Rattle.std.specs.Prelude.{◌≡◌, ℕ, suc, Bool, true, false, List, [], ◌∷◌, ◌++◌, Option, Some, None, map, take}
+use Rattle.std.specs.Prelude.{◌≡◌, ℕ, suc, Bool, true, false, List, [], ◌∷◌, ◌++◌, Option, Some, None}
 use Rattle.std.specs.String.{string_bytes}
 use Rattle.sml_lex.specs.declared.fault.Place.{Place}
 use Rattle.sml_lex.specs.declared.token.Token.{Token}

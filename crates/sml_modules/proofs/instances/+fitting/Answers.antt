@@ -1,6 +1,5 @@
-use Rattle.std.proofs.Common.{◌≡◌, false, true, refl, nat_eq, ap, sym, subst, ◌∙◌, IfOk, Global, ℕ, Bool, List, [], ◌<◌, ◌≤◌, ◌+◌, get_or, arith, take, length, ◌∷◌, ◌++◌, map, rules}
+use Rattle.std.proofs.Common.{◌≡◌, false, true, refl, nat_eq, ap, sym, subst, ◌∙◌, IfOk, Global, ℕ, Bool, List, [], ◌<◌, ◌≤◌, ◌+◌, get_or, arith, take, length, ◌∷◌, ◌++◌, rules}
 use Rattle.std.proofs.lemmas.Bool.{true≢false}
-use Rattle.std.proofs.lemmas.Grind.{take_at_read}
 use Rattle.sml_objects.specs.Initial.{Name}
 use Rattle.std.proofs.lemmas.List.{length-map, map_more, take-map, take_all}
 use Rattle.std.specs.declared.rc.Rc.{Rc}
@@ -12,7 +11,7 @@ use Rattle.sml_objects.proofs.TypeViews.{parts_of, type_of-bound, type_of-free, 
 use Rattle.sml_objects.proofs.NameTests.{eq, eq-same, same-eq}
 use Rattle.sml_objects.proofs.SameTypes.{kind, only-free, only-arrow, only-row, only-name}
 use Rattle.sml_modules.specs.Matched.{Found, Fits, FitAll, found_in}
-use Rattle.sml_modules.proofs.Fitting.{fits_free, fits_arrow, fits_name, other_name, other_labels, other_from, kind-free, kind-row, kind-arrow, kind-name, fit_none, fit_more, fit_part, fit_length, on_result, row_result, name_result, arrow_result}
+use Rattle.sml_modules.proofs.Fitting.{fits_free, other_name, other_labels, other_from, kind-free, kind-row, kind-arrow, kind-name, fit_none, fit_more, fit_part, fit_length, on_result, row_result, name_result, arrow_result}
 use Rattle.sml_modules.proofs.instances.+fitting.Goals as goal
 
 pub fits-returns-in_default : goal.fits-returns-in_default

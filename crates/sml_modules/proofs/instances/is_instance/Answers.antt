@@ -1,9 +1,5 @@
-use Rattle.std.proofs.Common.{◌≡◌, ap, subst, IfOk, Global, ℕ}
-use Rattle.std.specs.Map.{lookup}
-use Rattle.std.specs.Option.{option_map}
-use Rattle.std.specs.declared.rc.Rc.{Rc}
+use Rattle.std.proofs.Common.{subst, IfOk}
 use Rattle.sml_objects.specs.Views.{type_of}
-use Rattle.sml_objects.specs.declared.objects.MlType.{MlType}
 use Rattle.sml_modules.specs.Matched.{Fits, found_in}
 use Rattle.sml_modules.proofs.Fitting.{decided, none_found}
 use Rattle.sml_modules.proofs.instances.is_instance.Goals as goal

@@ -1,10 +1,9 @@
 use Rattle.std.proofs.Common.{◌≡◌, Err, subst}
-use Rattle.sml_objects.specs.Objects as O
 use Rattle.sml_objects.specs.Objects.{types, values}
-use Rattle.sml_objects.specs.Initial.{Name, naming}
+use Rattle.sml_objects.specs.Initial.{naming}
 use Rattle.sml_objects.specs.Views.{env_of}
 use Rattle.sml_rules.specs.Answers.{accepted}
-use Rattle.sml_rules.specs.Matching.{Realisation, realised_by}
+use Rattle.sml_rules.specs.Matching.{realised_by}
 use Rattle.sml_rules.specs.Readings.{read_match, read_types, read_values}
 use Rattle.sml_rules.proofs.Open.{of_types}
 use Rattle.sml_modules.specs.Elaborated.{Answers}

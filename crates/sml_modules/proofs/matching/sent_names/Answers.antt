@@ -1,5 +1,5 @@
-use Rattle.std.proofs.Common.{◌≡◌, Err, Some, None, cond, ap, sym, subst, ◌∙◌, [], ◌∷◌, ◌++◌, map, Bor, Global}
-use Rattle.std.proofs.lemmas.Map.Iter.{rest_so_far, rest_more, iter_end}
+use Rattle.std.proofs.Common.{◌≡◌, Err, Some, None, cond, ap, sym, subst, ◌∙◌, ◌∷◌, ◌++◌, map, Bor, Global}
+use Rattle.std.proofs.lemmas.Map.Iter.{rest_so_far, rest_more}
 use Rattle.std.specs.Map.Iter.{deref_pair}
 use Rattle.std.specs.declared.rc.Rc.{Rc}
 use Rattle.sml_tree.specs.Views.{ident_of}
@@ -7,7 +7,6 @@ use Rattle.sml_tree.specs.Trees.{Id}
 use Rattle.sml_objects.specs.Objects as O
 use Rattle.sml_objects.specs.Objects.{types}
 use Rattle.sml_objects.specs.Initial.{Name, naming}
-use Rattle.sml_objects.specs.Maps.{lookup}
 use Rattle.sml_objects.specs.Views.{env_of, scheme_of, schemes_of}
 use Rattle.sml_objects.specs.declared.objects.Scheme.{Scheme}
 use Rattle.sml_objects.proofs.EnvViews.{env_of-out}
@@ -16,7 +15,7 @@ use Rattle.sml_rules.specs.Matching.{realised_by, is_name}
 use Rattle.sml_rules.specs.Readings.{read_names}
 use Rattle.sml_modules.specs.declared.realisations.Realisation.{Realisation}
 use Rattle.sml_modules.specs.Elaborated.{Answers, or_else}
-use Rattle.sml_modules.specs.Matched.{sends, read_name}
+use Rattle.sml_modules.specs.Matched.{read_name}
 use Rattle.sml_modules.proofs.Answering.{refusal, refuses, refused_on}
 use Rattle.sml_modules.proofs.Matches.{names_each, more, stops_at, entries_more, entries_split, realised_more, realised_none}
 use Rattle.sml_modules.proofs.matching.sent_names.Goals as goal

@@ -1,13 +1,11 @@
-use Rattle.std.proofs.Common.{◌≡◌, refl, ap, sym, ◌∙◌, [], ◌∷◌, Some, None}
+use Rattle.std.proofs.Common.{◌≡◌, refl, ap, sym, ◌∙◌, [], ◌∷◌, Some}
 use Rattle.std.proofs.lemmas.Option.{none-some}
 use Rattle.std.proofs.lemmas.Bool.{true≢false}
 use Rattle.std.proofs.lemmas.Slice.Eq.{slice_eq-Decides}
 use Rattle.std.specs.Cmp.{booleans_Decides}
 use Rattle.sml_lex.specs.declared.fault.Code.TheVariants.{M4}
 use Rattle.sml_tree.specs.Views.{ident_of}
-use Rattle.sml_objects.specs.Objects as O
-use Rattle.sml_objects.specs.Initial.{Name}
-use Rattle.sml_objects.specs.Views.{env_of, scheme_of, type_of}
+use Rattle.sml_objects.specs.Views.{scheme_of, type_of}
 use Rattle.sml_rules.specs.Answers.{fault_at}
 use Rattle.sml_rules.specs.Matching.{realise_scheme, realise_type}
 use Rattle.sml_modules.specs.Matched.{sends}

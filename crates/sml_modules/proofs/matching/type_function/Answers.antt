@@ -1,4 +1,4 @@
-use Rattle.std.proofs.Common.{◌≡◌, ap, sym, ◌∙◌, [], ◌∷◌, length, Bor, Global, arith}
+use Rattle.std.proofs.Common.{ap, sym, ◌∙◌, [], ◌∷◌, Bor, Global}
 use Rattle.std.specs.declared.rc.Rc.{Rc}
 use Rattle.sml_lex.specs.declared.fault.Code.TheVariants.{M1, M2}
 use Rattle.sml_tree.specs.Views.{ident_of}

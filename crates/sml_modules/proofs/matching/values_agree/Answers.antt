@@ -1,4 +1,4 @@
-use Rattle.std.proofs.Common.{◌≡◌, Err, ap, sym, subst, ◌∙◌, [], ◌∷◌, ◌++◌, map}
+use Rattle.std.proofs.Common.{◌≡◌, Err, ap, sym, subst, ◌∙◌, ◌∷◌, ◌++◌, map}
 use Rattle.std.proofs.lemmas.Map.Iter.{rest_so_far, rest_more}
 use Rattle.std.specs.Map.Iter.{deref_pair}
 use Rattle.sml_tree.specs.Views.{ident_of}

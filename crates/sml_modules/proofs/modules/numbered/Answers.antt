@@ -1,4 +1,4 @@
-use Rattle.std.proofs.Common.{◌≡◌, ◌+◌, length, ap, sym, ◌∙◌, rules}
+use Rattle.std.proofs.Common.{◌≡◌, length, ap, sym, ◌∙◌, rules}
 use Rattle.sml_objects.specs.Canonical as C
 use Rattle.sml_objects.specs.Views.{maker_of, sig_of}
 use Rattle.sml_modules.proofs.Canonical.{canonical_unchanged}

@@ -1,4 +1,4 @@
-use Rattle.std.proofs.Common.{◌≡◌, Err, refl, sym, subst}
+use Rattle.std.proofs.Common.{Err, refl, sym, subst}
 use Rattle.sml_lex.specs.declared.fault.Code.TheVariants.{Z1}
 use Rattle.sml_tree.specs.Views.{dec_of}
 use Rattle.sml_tree.specs.Trees.{other}

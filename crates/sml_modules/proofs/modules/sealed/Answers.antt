@@ -1,15 +1,15 @@
-use Rattle.std.proofs.Common.{◌≡◌, ◌+◌, [], length, map, ap, sym, subst, ◌∙◌, Err}
+use Rattle.std.proofs.Common.{[], length, map, ap, sym, subst, Err}
 use Rattle.sml_tree.specs.Views.{ident_of, spec_of, core_dec_of}
-use Rattle.sml_objects.specs.Objects.{Basis, Env, Sig, empty_env, one_structure, types, values}
+use Rattle.sml_objects.specs.Objects.{empty_env, one_structure, types, values}
 use Rattle.sml_objects.specs.Initial.{Name, naming}
 use Rattle.sml_objects.specs.Views.{env_of, maker_of, sig_of}
 use Rattle.sml_rules.specs.Answers.{accepted, refused}
 use Rattle.sml_rules.specs.Open.{PlainFunctions, PlainValues}
-use Rattle.sml_rules.specs.Readings.{read_dec, read_cores, read_specs, read_match}
-use Rattle.sml_rules.specs.Rules.{apart, sum_of}
+use Rattle.sml_rules.specs.Readings.{read_dec, read_specs, read_match}
+use Rattle.sml_rules.specs.Rules.{apart}
 use Rattle.sml_rules.proofs.Open.{nothing, read_cores_open, specified}
-use Rattle.sml_modules.specs.Elaborated.{Answers, IsBasisOf, signature_of, summed, no_signature}
-use Rattle.sml_modules.proofs.Answering.{first_ends, second, then_any, made_so, made_same, gives, refusal, refuses, refused_on, first_refused}
+use Rattle.sml_modules.specs.Elaborated.{Answers, signature_of, no_signature}
+use Rattle.sml_modules.proofs.Answering.{second, made_so, made_same, gives, refusal, refuses, refused_on, first_refused}
 use Rattle.sml_modules.proofs.Sealing.{summands, refused_summand, apart_below, exported_own, body_read}
 use Rattle.sml_modules.proofs.modules.sealed.Goals as goal
 

@@ -6,13 +6,13 @@ use Rattle.sml_objects.specs.Objects as O
 use Rattle.sml_objects.specs.Initial.{Name, naming}
 use Rattle.sml_objects.specs.Views.{maker_of, name_of, sig_of}
 use Rattle.sml_objects.specs.declared.objects.Basis.{Basis}
-use Rattle.sml_rules.specs.Answers.{accepted, test, fault}
+use Rattle.sml_rules.specs.Answers.{test, fault}
 use Rattle.sml_rules.specs.Readings.{read_top}
 use Rattle.sml_tree.specs.Views.{dec_of}
 use Rattle.sml_rules.proofs.Sound.{readings_sound, tested}
 use Rattle.sml_modules.proofs.Canonical.{top_of, numbered_top, numbered_own}
 use Rattle.sml_modules.specs.Elaborated.{Answers, beginning}
-use Rattle.sml_modules.proofs.Answering.{first_ends, then_any, second, gives}
+use Rattle.sml_modules.proofs.Answering.{first_ends, second}
 use Rattle.sml_modules.proofs.modules.topdec.Goals as goal
 
 abbrev view : Basis × Vec Warning Global → O.Sig Name

@@ -1,6 +1,5 @@
-use Rattle.std.proofs.Common.{◌≡◌, []}
 use Rattle.sml_tree.specs.Views.{dec_of}
-use Rattle.sml_objects.specs.Initial.{Name, naming}
+use Rattle.sml_objects.specs.Initial.{naming}
 use Rattle.sml_objects.specs.Views.{maker_of, sig_of}
 use Rattle.sml_rules.specs.Answers.{accepted}
 use Rattle.sml_rules.proofs.Open.{read_top_open}

@@ -1,4 +1,4 @@
-use Rattle.std.proofs.Common.{◌≡◌, ap, sym, subst, ◌∙◌, IfOk, Global, map, Bor, Some, None}
+use Rattle.std.proofs.Common.{◌≡◌, ap, sym, subst, ◌∙◌, IfOk, Global, map, Some, None}
 use Rattle.std.proofs.lemmas.List.{take_all}
 use Rattle.std.specs.Option.{option_map}
 use Rattle.std.specs.declared.rc.Rc.{Rc}
@@ -6,7 +6,7 @@ use Rattle.sml_objects.specs.Objects as O
 use Rattle.sml_objects.specs.Initial.{Name}
 use Rattle.sml_objects.specs.Types.{applied}
 use Rattle.sml_objects.specs.Views.{type_of, types_of, scheme_of, name_of, label_list}
-use Rattle.sml_objects.specs.declared.objects.MlType.{MlType, Bound, Free}
+use Rattle.sml_objects.specs.declared.objects.MlType.{Bound, Free}
 use Rattle.sml_objects.specs.declared.objects.MlType.TheViews as V
 use Rattle.sml_objects.specs.declared.objects.Scheme.{Scheme}
 use Rattle.sml_objects.proofs.TypeViews.{parts_of}

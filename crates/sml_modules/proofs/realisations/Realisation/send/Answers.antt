@@ -1,7 +1,6 @@
 use Rattle.std.proofs.Common.{◌≡◌, ap, sym, ◌∙◌, ◌++◌, ◌∷◌, []}
 use Rattle.std.specs.Map.{lookup}
 use Rattle.indexmap.proofs.CallerLemmas.{insert_entry-new}
-use Rattle.sml_objects.specs.Initial.{Name}
 use Rattle.sml_objects.specs.Views.{name_of, scheme_of}
 use Rattle.sml_objects.proofs.NameTests.{eq}
 use Rattle.sml_modules.specs.Elaborated.{or_else}

@@ -1,5 +1,5 @@
 -- Which replies a project may be given.
-use Rattle.std.specs.Prelude.{◌≡◌, ℕ, suc, Bool, true, false, List, [], ◌∷◌, ◌++◌, Option, Some, None, map, take}
+use Rattle.std.specs.Prelude.{◌≡◌, ℕ, suc, Bool, true, false, List, [], ◌∷◌, ◌++◌, Option, Some, None}
 use Rattle.std.specs.String.{string_bytes}
 use Rattle.sml_lex.specs.declared.fault.Place.{Place}
 use Rattle.sml_lex.specs.declared.token.Token.{Token}
@@ -14,17 +14,17 @@ use Rattle.sml_objects.specs.Initial.{Name, naming, initial_basis}
 use Rattle.sml_rules.specs.Answers.{Answer, refused, accepted}
 use Rattle.sml_rules.specs.Readings.{read_top}
 use Rattle.sml_rules.specs.Sound.{IsSound}
-use Rattle.sml_units.specs.Text.{text}
-use Rattle.sml_units.specs.Runs.{SourceUnit, Run, RunProject, basis_after, start, beginning}
-use Rattle.sml_units.specs.Elaborated.{IsBasisOf}
+use Rattle.sml_reply.specs.Text.{text}
+use Rattle.sml_reply.specs.Replies.{reply_text, warnings_of, accepts}
+use Rattle.sml_reply.specs.declared.reply.Reply.{Reply}
 use Rattle.sml_objects.specs.Views.{maker_of}
 use Rattle.sml_objects.specs.declared.objects.Basis as PB
-use Rattle.sml_units.specs.Replies.{reply_text, warnings_of, accepts}
+use Rattle.sml_modules.specs.Elaborated.{IsBasisOf, beginning}
+use Rattle.sml_units.specs.Runs.{SourceUnit, Run, RunProject, basis_after, start}
 use Rattle.sml_units.specs.Orders.{UnitText, unit_texts}
 use Rattle.sml_units.specs.declared.project.Project.{Project}
 use Rattle.sml_units.specs.declared.project.Replies.{Replies}
 use Rattle.sml_units.specs.declared.project.UnitReplies.{UnitReplies}
-use Rattle.sml_units.specs.declared.reply.Reply.{Reply}
 
 -- the answer to a declaration
 abbrev pub Answered : Type 0

@@ -1,6 +1,5 @@
 use Rattle.std.proofs.Common.{◌≡◌, ◌<◌, ◌+◌, ℕ, List, [], ◌∷◌, ◌++◌, length, map, take, get_or, ap, sym, subst, ◌∙◌}
 use Rattle.std.proofs.lemmas.List.{map_more, take_all}
-use Rattle.std.specs.String.{string_bytes}
 use Rattle.sml_objects.specs.Views.{maker_of}
 use Rattle.sml_units.specs.Checked.{AreAnswered, IsAnswered}
 use Rattle.sml_units.specs.declared.project.ProjectUnit.{ProjectUnit}

@@ -6,3 +6,4 @@ pub mod Listings
 pub mod Manifests
 pub mod InOrder
 pub mod Standing
+mod Files

@@ -5,3 +5,4 @@ pub mod ProjectFiles
 pub mod Orders
 pub mod Checked
 pub mod Standing
+pub mod Files

@@ -2,9 +2,9 @@
 // NAME.project has to give the output NAME.out, the standard error NAME.err and the status.
 #![tactic(auto)]
 
+use sml_reply::sink::VecOut;
 use sml_session::disk::Disk;
 use sml_session::session::{Source, SourceFault, session};
-use sml_units::sink::VecOut;
 use std::alloc::{AllocError, AllocFailed, Global};
 use std::io;
 use std::rt::Files;

@@ -4,3 +4,6 @@ pub mod Maps
 pub mod Shapes
 pub mod OneHead
 pub mod Rolling
+mod Opened
+pub mod NamedItems
+pub mod Alike

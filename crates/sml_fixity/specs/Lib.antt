@@ -7,3 +7,4 @@ pub mod Runs
 pub mod Heads
 pub mod Laws
 pub mod Shapes
+pub mod ItemNames

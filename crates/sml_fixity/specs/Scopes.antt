@@ -1,5 +1,5 @@
 -- Fixities as maps from identifiers, one for each open scope (the Definition, section 2.6).
-use Rattle.std.specs.Prelude.{◌≡◌, ◌⊎◌, ℕ, ◌+◌, ◌<◌, Option, Some, None, List, [], ◌∷◌, reverse, codes, Vec}
+use Rattle.std.specs.Prelude.{◌≡◌, ◌⊎◌, ℕ, ◌+◌, ◌<◌, Option, Some, None, Bool, true, false, List, [], ◌∷◌, reverse, codes, Vec}
 use Rattle.std.specs.Global.{Global}
 use Rattle.std.specs.Ordering.{nat_cmp, match_ordering}
 use Rattle.std.specs.Cmp.Lexicographic.{slice_cmp}
@@ -51,6 +51,11 @@ abbrev pub unwound : Map → List Change → List Map
 unwound f [] = []
 unwound f (Scope ∷ us) = f ∷ unwound f us
 unwound f (Restore x v ∷ us) = unwound (changed f (ident_of x) v) us
+
+-- whether a change is the beginning of a scope
+abbrev pub is_scope : Change → Bool
+is_scope Scope = true
+is_scope (Restore x v) = false
 
 -- the fixities at the beginning of each open scope, the innermost first
 abbrev pub outer : Fixities → List Map

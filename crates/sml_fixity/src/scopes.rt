@@ -1,9 +1,10 @@
 //! The fixities in force, and the scopes that directives don't leave.
 
 ghost use Rattle.std.specs.Prelude.{◌≡◌, ℕ, ◌<◌, Option, Some, None, List, [], ◌∷◌, map, OnOk, OnErr, IfOk, IfErr, ◌↔◌, IfSome};
+ghost use Rattle.std.specs.List.{list_any};
 ghost use Rattle.sml_tree.specs.Trees.{Id};
 ghost use Rattle.sml_tree.specs.Views.{ident_of};
-ghost use Rattle.sml_fixity.specs.Scopes.{Map, here, outer, changed, changed_all, fixity_of, IsLevel, Gives, initial_map};
+ghost use Rattle.sml_fixity.specs.Scopes.{Map, here, outer, is_scope, changed, changed_all, fixity_of, IsLevel, Gives, initial_map};
 
 use sml_lex::fault::Memory;
 use sml_tree::bare::Ident;
@@ -81,6 +82,19 @@ fn read_level(text: &[u8]) -> Option<u8>
     Some(text[0] - b'0')
 }
 
+/// Whether a scope was opened in these changes and not left.
+fn has_scope(changes: &[Change]) -> bool
+    ensures { result ≡ list_any is_scope changes.now }
+{
+    for i in (0..changes.len()).rev() {
+        match changes[i] {
+            Change::Scope => return true,
+            Change::Restore(_, _) => {}
+        }
+    }
+    false
+}
+
 impl Fixities {
     /// No identifier has a fixity, and no scope is open.
     fn new(alloc: Global) -> Fixities
@@ -113,9 +127,20 @@ impl Fixities {
         Ok(())
     }
 
-    /// Leaves the innermost scope: the fixities are those at its beginning. After `Memory` some of them may have
-    /// been brought back, and others not.
+    /// Leaves the innermost scope: the fixities are those at its beginning. Where none is open they stay. After `Memory`
+    /// some of them may have been brought back, and others not.
     pub fn leave(&mut self) -> Result<(), Memory>
+        ensures scope { OnOk result ((m : Map) (ms : List Map) → outer self.old ≡ m ∷ ms → (here self.new ≡ m) × (outer self.new ≡ ms)) }
+        ensures none { OnOk result (outer self.old ≡ [] → (here self.new ≡ here self.old) × (outer self.new ≡ [])) }
+    {
+        if !has_scope(&self.changes) {
+            return Ok(());
+        }
+        self.unwind()
+    }
+
+    /// Goes back over the changes of the innermost scope.
+    fn unwind(&mut self) -> Result<(), Memory>
         ensures { OnOk result ((m : Map) (ms : List Map) → outer self.old ≡ m ∷ ms → (here self.new ≡ m) × (outer self.new ≡ ms)) }
     {
         while let Some(change) = self.changes.pop() {

@@ -24,7 +24,8 @@ use Rattle.sml_reach.specs.declared.sense.Deed.{Deed}
 use Rattle.sml_reach.specs.declared.sense.Deed.TheVariants as D
 use Rattle.sml_reach.specs.declared.reach.Misfit.{Misfit}
 use Rattle.sml_reach.specs.Senses.{sense_of, deed_of}
-use Rattle.sml_reach.specs.Founds.{Atom, Found, nothing, word, one, several, within, directed, from, found_by, name_of}
+use Rattle.sml_reach.specs.Founds.{Atom, Found, nothing, word, one, several, within, directed, from, found_by}
+use Rattle.sml_fixity.specs.ItemNames.{name_of}
 use Rattle.sml_reach.specs.Events.{Event, begins, enters, leaves, directs, expression, pattern, head, found_at, event_of}
 use Rattle.sml_reach.specs.Reach.{State, Outcome, declares, idle, stands, fails, misfit, token_of, AreItems, misfit_of, misfit_in, IsExpression, IsPattern, IsClauseHead, Happens}
 use Rattle.sml_parse.specs.Within.{of_phrases, reason_of}

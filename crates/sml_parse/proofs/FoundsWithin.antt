@@ -21,7 +21,8 @@ use Rattle.sml_reach.specs.declared.sense.Sense.TheVariants as S
 use Rattle.sml_reach.specs.declared.sense.Deed.{Deed}
 use Rattle.sml_reach.specs.declared.sense.Deed.TheVariants as D
 use Rattle.sml_reach.specs.Senses.{sense_of, deed_of}
-use Rattle.sml_reach.specs.Founds.{Name, Atom, Found, nothing, word, one, several, within, directed, level_in, is_word, atom_in, atoms_in, inner_in, before, from, found_by, left}
+use Rattle.sml_fixity.specs.ItemNames.{Name}
+use Rattle.sml_reach.specs.Founds.{Atom, Found, nothing, word, one, several, within, directed, level_in, is_word, atom_in, atoms_in, inner_in, before, from, found_by, left}
 use Rattle.sml_reach.specs.Events.{found_at, founds_of}
 use Rattle.sml_parse.specs.Within.{ends_before, tokens_before}
 use Rattle.sml_parse.proofs.Nonempty.{all_inner, inner_so, inner_append, not_both, when_not, word_alone, part_alone, some_token}

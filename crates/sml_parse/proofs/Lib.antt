@@ -11,3 +11,4 @@ mod EventsWithin
 mod MisfitsWithin
 mod FlawsWithin
 pub mod PlacesWithin
+pub mod OneList

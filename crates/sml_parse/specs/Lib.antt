@@ -8,3 +8,4 @@ pub mod Stacks
 pub mod Sorts
 pub mod Trees
 pub mod Within
+pub mod Unique

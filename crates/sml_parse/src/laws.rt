@@ -1,5 +1,6 @@
 //! Laws of the definitions that the parser's contract cites.
 ghost use Rattle.sml_parse.specs.Sorts.{EachIsMade};
+ghost use Rattle.sml_parse.specs.Unique.{TreesAreUnique};
 ghost use Rattle.sml_parse.specs.Within.{PlacesAreWithin};
 
 /// In a declaration of the piece no form makes up a part, and a declaration is made.
@@ -12,4 +13,9 @@ pub fn each_is_made()
 /// what is left behind all declarations, one of bytes where the tokens end, and that of a tree that is too high at 1.1.
 pub fn places_are_within()
     ensures { PlacesAreWithin }
+{}
+
+/// Bytes spell one list of bare declarations, and one last fault or none.
+pub fn trees_are_unique()
+    ensures { TreesAreUnique }
 {}

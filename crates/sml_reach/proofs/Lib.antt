@@ -6,3 +6,4 @@ pub mod Parting
 pub mod Somes
 pub mod UpTo
 pub mod Firsts
+pub mod OneOutcome

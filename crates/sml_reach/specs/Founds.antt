@@ -2,9 +2,7 @@
 use Rattle.std.specs.Prelude.{ℕ, Bool, true, false, List, [], ◌∷◌, Option, Some, None, map, reverse, if◌then◌else◌, Vec}
 use Rattle.std.specs.Global.{Global}
 use Rattle.sml_tree.specs.Trees.{Id}
-use Rattle.sml_tree.specs.Views.{ident_of}
-use Rattle.sml_fixity.specs.declared.sequences.Item.{Item}
-use Rattle.sml_fixity.specs.declared.sequences.Item.TheVariants as I
+use Rattle.sml_fixity.specs.ItemNames.{Name, short, behind_op, long, phrase, name_of}
 use Rattle.sml_reach.specs.declared.sense.Sense.{Sense}
 use Rattle.sml_reach.specs.declared.sense.Sense.TheVariants as S
 use Rattle.sml_reach.specs.declared.sense.Deed.{Deed}
@@ -12,13 +10,6 @@ use Rattle.sml_reach.specs.declared.sense.Deed.TheVariants as D
 use Rattle.sml_reach.specs.declared.found.Atom as P
 use Rattle.sml_reach.specs.declared.found.Found as F
 use Rattle.sml_reach.specs.declared.found.Found.TheVariants as V
-
--- an identifier without a path; one behind `op`; one with a path; any other phrase
-pub data Name : Type 0 where
-  short : Id → Name
-  behind_op : Name
-  long : Name
-  phrase : Name
 
 -- an atomic phrase: its first token, and what it has in round brackets
 pub record Atom : Type 0 where
@@ -126,13 +117,7 @@ left D.Expression found = nothing
 left D.Pattern found = within (untyped found)
 left D.Head found = nothing
 
--- the program's items and phrases as these
-abbrev pub name_of : Item → Name
-name_of (I.Short x) = short (ident_of x)
-name_of I.Op = behind_op
-name_of I.Long = long
-name_of I.Phrase = phrase
-
+-- the program's phrases as these
 abbrev pub atom_of : P.Atom → Atom
 atom_of a = atom (name_of a.item) a.token (map name_of a.inner.items)
 

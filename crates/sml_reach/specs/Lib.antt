@@ -5,3 +5,4 @@ pub mod Founds
 pub mod Places
 pub mod Reach
 pub mod Events
+pub mod Laws

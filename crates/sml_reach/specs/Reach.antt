@@ -22,7 +22,8 @@ use Rattle.sml_reach.specs.declared.reach.Reach.{Reach}
 use Rattle.sml_reach.specs.declared.reach.Outcome as P
 use Rattle.sml_reach.specs.declared.reach.Outcome.TheVariants as V
 use Rattle.sml_reach.specs.declared.reach.Gathered.{Gathered}
-use Rattle.sml_reach.specs.Founds.{Name, Atom, short, name_of}
+use Rattle.sml_fixity.specs.ItemNames.{Name, short, name_of}
+use Rattle.sml_reach.specs.Founds.{Atom}
 use Rattle.sml_reach.specs.Events.{Event, begins, enters, leaves, directs, expression, pattern, head}
 use Rattle.sml_fixity.specs.Shapes.{Shape, tree, headed}
 use Rattle.sml_reach.specs.Fits.{Fit, Fitted, fit_of, fitted_of}
@@ -117,7 +118,7 @@ level_token (Some token) = token
 abbrev pub Happens : (ℕ → Id) → State → Event → Outcome → State → Type 0
 Happens text s (begins token) o t = (o ≡ declares token) × (t ≡ record { here = s.here; outer = s.outer; count = suc s.count; begun = token })
 Happens text s enters o t = (o ≡ idle) × (t ≡ record { here = s.here; outer = s.here ∷ s.outer; count = s.count; begun = s.begun })
-Happens text s leaves o t = (o ≡ idle) × (t.count ≡ s.count) × (t.begun ≡ s.begun) × ((before : Map) (others : List Map) → s.outer ≡ before ∷ others → (t.here ≡ before) × (t.outer ≡ others))
+Happens text s leaves o t = (o ≡ idle) × (t.count ≡ s.count) × (t.begun ≡ s.begun) × ((before : Map) (others : List Map) → s.outer ≡ before ∷ others → (t.here ≡ before) × (t.outer ≡ others)) × (s.outer ≡ [] → (t.here ≡ s.here) × (t.outer ≡ []))
 Happens text s (directs directive level atoms) idle t = (fixity : Option Fixity) × Gives directive (level_text text level) fixity × (t ≡ record { here = changed_all s.here (ids_of atoms) fixity; outer = s.outer; count = s.count; begun = s.begun })
 Happens text s (directs directive level atoms) (fails m) t = ((fixity : Option Fixity) → ¬ Gives directive (level_text text level) fixity) × (m ≡ misfit s (level_token level) C.F3) × (t ≡ s)
 Happens text s (directs directive level atoms) _ t = ⊥

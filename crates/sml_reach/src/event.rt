@@ -8,7 +8,8 @@ ghost use Rattle.sml_read.specs.Extents.{starts_of};
 ghost use Rattle.sml_read.specs.declared.grammar.Node.TheVariants.{Inner};
 ghost use Rattle.sml_reach.specs.Senses as senses;
 ghost use Rattle.sml_reach.specs.Founds as spec;
-ghost use Rattle.sml_reach.specs.Founds.{name_of, atom_of, atoms_of, found_of, nothing, sequence_in, untyped, left};
+ghost use Rattle.sml_fixity.specs.ItemNames.{name_of};
+ghost use Rattle.sml_reach.specs.Founds.{atom_of, atoms_of, found_of, nothing, sequence_in, untyped, left};
 ghost use Rattle.sml_reach.specs.Events.{seen, expression, pattern, head, text_at, found_at, founds_from, scope_event, event_of, event_from, events_of};
 
 use crate::found::{Atom, Finder, Found, Parts};

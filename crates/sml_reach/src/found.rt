@@ -2,7 +2,8 @@
 
 ghost use Rattle.std.specs.Prelude.{◌≡◌, ℕ, true, false, [], ◌∷◌, Option, Some, None, if◌then◌else◌, map, reverse, IfOk};
 ghost use Rattle.sml_reach.specs.Founds as spec;
-ghost use Rattle.sml_reach.specs.Founds.{atom, short, behind_op, long, phrase, atom_of, name_of, found_of};
+ghost use Rattle.sml_fixity.specs.ItemNames.{short, behind_op, long, phrase, name_of};
+ghost use Rattle.sml_reach.specs.Founds.{atom, atom_of, found_of};
 ghost use Rattle.sml_reach.specs.Events.{text_at};
 
 use crate::names::Names;

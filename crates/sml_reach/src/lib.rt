@@ -4,6 +4,7 @@
 pub mod event;
 pub mod fitted;
 pub mod found;
+pub mod laws;
 pub mod names;
 pub mod place;
 pub mod reach;

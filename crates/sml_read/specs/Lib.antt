@@ -9,3 +9,4 @@ pub mod Answer
 pub mod All
 pub mod Exact
 pub mod Extents
+pub mod Unique

@@ -3,11 +3,11 @@
 use clap::error::ErrorKind;
 use clap::{Arg, ArgAction, Command, Error};
 use itoa::Buffer;
+use sml_reply::sink::{Out, OutFault, write_all};
 use sml_units::manifest::{Manifest, ManifestFault, OrderFault, ProjectCode, ProjectFault};
 use sml_units::project::Project;
 use sml_units::project_file::manifest;
 use sml_units::run::{RunFault, run};
-use sml_units::sink::{Out, OutFault, write_all};
 use std::alloc::{AllocError, Global};
 
 /// Why a file couldn't be had.

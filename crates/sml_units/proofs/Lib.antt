@@ -1,26 +1,9 @@
-pub mod Sinks
-pub mod Pieces
-pub mod Spelling
-pub mod TypeAnswers
-pub mod Vectors
-pub mod Answering
-pub mod Paths
-pub mod Dotting
 pub mod Seals
-pub mod Maps
-pub mod Contexts
-pub mod Specifying
-pub mod ExpAnswers
-pub mod Numbers
 pub mod Projects
-pub mod Fitting
-pub mod Realising
-pub mod Matches
-pub mod Sealing
 pub mod Replying
 pub mod Written
 pub mod Listings
 pub mod Manifests
 pub mod InOrder
-pub mod Canonical
 pub mod Standing
+mod Files

@@ -1,29 +1,29 @@
 -- Runs and replies, declaration by declaration.
-use Rattle.std.proofs.Common.{◌≡◌, ◌≤◌, ◌+◌, ℕ, suc, Bool, List, [], ◌∷◌, ◌++◌, length, map, take, Option, Some, None, Result, Ok, Err, IfOk, OnOk, Vec, Global, refl, ap, sym, subst, ◌∙◌, arith}
+use Rattle.std.proofs.Common.{◌≡◌, ◌≤◌, ◌+◌, ℕ, suc, Bool, List, [], ◌∷◌, ◌++◌, length, Option, Result, Ok, Err, IfOk, OnOk, Vec, Global, refl, ap, sym, subst, ◌∙◌, arith}
 use Rattle.std.proofs.lemmas.List.{length-map, length-append}
 use Rattle.sml_lex.specs.declared.fault.Place.{Place}
 use Rattle.sml_lex.specs.Faults.{Fault}
 use Rattle.sml_tree.specs.Trees.{Dec}
-use Rattle.sml_objects.specs.Objects.{Sig, Basis, extend, extend_env, names_basis, names_sig, names_env, names_structures, names_map, names_type}
+use Rattle.sml_objects.specs.Objects.{Basis, extend, extend_env, names_basis, names_env, names_structures, names_map, names_type}
 use Rattle.sml_objects.specs.Initial.{Name, naming, initial_basis}
 use Rattle.sml_objects.specs.Views.{env_of, maker_of, name_of, sig_of}
 use Rattle.sml_objects.specs.declared.objects.Basis as PB
-use Rattle.sml_rules.specs.Answers.{Answer, refused, accepted}
+use Rattle.sml_rules.specs.Answers.{refused, accepted}
 use Rattle.sml_rules.specs.Every.{Every}
 use Rattle.sml_rules.specs.Open.{OpenEnv, OpenStructures, OpenFunctions}
 use Rattle.sml_rules.specs.Readings.{read_top}
 use Rattle.sml_rules.specs.Rules.{IsOpen, AreOpen}
 use Rattle.sml_rules.proofs.Open.{extended}
 use Rattle.sml_rules.proofs.Sound.{readings_sound}
-use Rattle.sml_units.specs.Elaborated.{IsBasisOf, IsOwnBasis, IsBelow}
-use Rattle.sml_units.specs.Runs.{Run, basis_after, start, needed, all_names, beginning, SourceUnit, RunProject}
+use Rattle.sml_reply.specs.declared.reply.Reply.{Reply}
+use Rattle.sml_modules.specs.Elaborated.{IsBasisOf, IsOwnBasis, IsBelow, beginning}
+use Rattle.sml_modules.proofs.Specifying.{all_below_more, basis_below}
+use Rattle.sml_units.specs.Runs.{Run, basis_after, start, needed, all_names, SourceUnit, RunProject, exports, nothing}
 use Rattle.sml_units.specs.Orders.{UnitText}
+use Rattle.std.specs.String.{string_bytes}
 use Rattle.sml_units.specs.declared.project.ProjectUnit.{ProjectUnit}
 use Rattle.sml_units.specs.declared.project.UnitReplies.{UnitReplies}
-use Rattle.std.specs.String.{string_bytes}
-use Rattle.sml_units.specs.Checked.{Answered, IsStep, IsReplyTo, AreRepliesTo, AreSound, IsSoundAnswer, AreSpelt, HaveReplies, IsAnswered, AreAnswered, IsSourceOf, AreSourcesOf, AreUnitReplies, with_last}
-use Rattle.sml_units.specs.declared.reply.Reply.{Reply}
-use Rattle.sml_units.proofs.Specifying.{all_below_more, basis_below}
+use Rattle.sml_units.specs.Checked.{Answered, IsStep, IsReplyTo, AreRepliesTo, AreSound, AreAllSound, IsSoundAnswer, AreSpelt, HaveReplies, IsAnswered, AreAnswered, AreSourcesOf, AreUnitReplies, with_last}
 
 -- the basis behind these answers
 abbrev pub after_all : Basis Name → List Answered → Basis Name
@@ -63,6 +63,13 @@ run_sound unit B (d ∷ ds) (o ∷ os) h = (answer_sound o h.0, run_sound unit (
     answer_sound : (o : Answered) → read_top naming beginning unit B d o → IsSoundAnswer unit B d o
     answer_sound (refused f) h = tt
     answer_sound (accepted S) h = readings_sound naming beginning unit B d S h
+
+-- and so is what those of projects accept
+pub project_sound : (Ss : List (Sig Name)) (us : List SourceUnit) (oss : List (List Answered)) → RunProject naming initial_basis Ss us oss → AreAllSound Ss us oss
+unfolding RunProject
+project_sound Ss [] oss h = tt
+project_sound Ss (u ∷ us) [] h = tt
+project_sound Ss (u ∷ us) (os ∷ oss) h = (run_sound u.maker (start initial_basis Ss u.needs) u.declarations os h.0, project_sound (Ss ++ exports nothing os ∷ []) us oss h.1)
 
 nothing_there : {b : Bool} {bs : List Bool} → b ∷ bs ≡ [] → ⊥
 nothing_there e = cc

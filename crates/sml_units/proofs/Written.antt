@@ -4,16 +4,16 @@ use Rattle.std.specs.List.{count_by, sum_by}
 use Rattle.std.proofs.lemmas.Bool.{false≢true}
 use Rattle.std.proofs.lemmas.List.{take_all, take_more, flat_map_more}
 use Rattle.std.proofs.lemmas.List.Sums.{sum_by_push}
-use Rattle.sml_units.specs.declared.reply.Reply.{Reply}
+use Rattle.sml_reply.specs.declared.reply.Reply.{Reply}
+use Rattle.sml_reply.specs.Replies.{warnings_of, accepts}
+use Rattle.sml_reply.specs.Sinks.{in_turn, Prints}
+use Rattle.sml_reply.proofs.Sinks.{turn-more, turn-rest}
 use Rattle.sml_units.specs.declared.project.Replies.{Replies}
 use Rattle.sml_units.specs.declared.project.UnitReplies.{UnitReplies}
 use Rattle.sml_units.specs.declared.run.Summary.{Summary}
 use Rattle.sml_units.specs.declared.run.RunFault.{RunFault}
 use Rattle.sml_units.specs.declared.run.RunFault.TheVariants.{Write}
-use Rattle.sml_units.specs.Replies.{warnings_of, accepts}
-use Rattle.sml_units.specs.Sinks.{in_turn, Prints}
 use Rattle.sml_units.specs.Written.{capped, replies_text, replies_of, summary_of, IsOutcome}
-use Rattle.sml_units.proofs.Sinks.{turn-more, turn-rest}
 
 pub turn-more-at : {A : Type 0} (f : A → List ℕ) (xs : List A) (i : ℕ) (x : A) → i < length xs → x ≡ get_or xs i x → in_turn (map f (take (i + 1) xs)) ≡ in_turn (map f (take i xs)) ++ f x
 turn-more-at f xs i x h is = turn-more f xs i x h ∙ ap (λ y. in_turn (map f (take i xs)) ++ f y) (sym is)

@@ -1,5 +1,5 @@
 -- Which replies a project may be given.
-use Rattle.std.specs.Prelude.{◌≡◌, ℕ, suc, Bool, true, false, List, [], ◌∷◌, ◌++◌, Option, Some, None, map, take}
+use Rattle.std.specs.Prelude.{◌≡◌, ℕ, suc, Bool, true, false, List, [], ◌∷◌, ◌++◌, Option, Some, None}
 use Rattle.std.specs.String.{string_bytes}
 use Rattle.sml_lex.specs.declared.fault.Place.{Place}
 use Rattle.sml_lex.specs.declared.token.Token.{Token}
@@ -14,17 +14,17 @@ use Rattle.sml_objects.specs.Initial.{Name, naming, initial_basis}
 use Rattle.sml_rules.specs.Answers.{Answer, refused, accepted}
 use Rattle.sml_rules.specs.Readings.{read_top}
 use Rattle.sml_rules.specs.Sound.{IsSound}
-use Rattle.sml_units.specs.Text.{text}
-use Rattle.sml_units.specs.Runs.{SourceUnit, Run, RunProject, basis_after, start, beginning}
-use Rattle.sml_units.specs.Elaborated.{IsBasisOf}
+use Rattle.sml_reply.specs.Text.{text}
+use Rattle.sml_reply.specs.Replies.{reply_text, warnings_of, accepts}
+use Rattle.sml_reply.specs.declared.reply.Reply.{Reply}
 use Rattle.sml_objects.specs.Views.{maker_of}
 use Rattle.sml_objects.specs.declared.objects.Basis as PB
-use Rattle.sml_units.specs.Replies.{reply_text, warnings_of, accepts}
+use Rattle.sml_modules.specs.Elaborated.{IsBasisOf, beginning}
+use Rattle.sml_units.specs.Runs.{SourceUnit, Run, RunProject, basis_after, start, exports, nothing}
 use Rattle.sml_units.specs.Orders.{UnitText, unit_texts}
 use Rattle.sml_units.specs.declared.project.Project.{Project}
 use Rattle.sml_units.specs.declared.project.Replies.{Replies}
 use Rattle.sml_units.specs.declared.project.UnitReplies.{UnitReplies}
-use Rattle.sml_units.specs.declared.reply.Reply.{Reply}
 
 -- the answer to a declaration
 abbrev pub Answered : Type 0
@@ -119,10 +119,18 @@ AreUnitReplies [] [] [] = Unit {0}
 AreUnitReplies (s ∷ ss) (os ∷ oss) (r ∷ rs) = ((string_bytes r.name ≡ s.label) × AreRepliesTo 1 (with_last os s.last) r.replies.items) × AreUnitReplies ss oss rs
 AreUnitReplies ss oss rs = ⊥
 
--- Some run over the units of the project, of the declarations that their bytes spell, has the answers of these replies.
+-- each accepted declaration of the units has a derivation in the rules, in the basis in which it was answered
+abbrev pub AreAllSound : List (Sig Name) → List SourceUnit → List (List Answered) → Type 0
+AreAllSound Ss [] oss = Unit {0}
+AreAllSound Ss (u ∷ us) [] = Unit {0}
+AreAllSound Ss (u ∷ us) (os ∷ oss) = AreSound u.maker (start initial_basis Ss u.needs) u.declarations os × AreAllSound (Ss ++ exports nothing os ∷ []) us oss
+
+-- Some run over the units of the project, of the declarations that their bytes spell, has the answers of these replies, and
+-- what it accepts is sound.
 pub record MayReply (p : Project) (rs : Replies) : Type 0 where
   pub sources : List SourceUnit
   pub sources_are : AreSourcesOf (unit_texts p) sources
   pub answers : List (List Answered)
   pub run : RunProject naming initial_basis [] sources answers
+  pub sound : AreAllSound [] sources answers
   pub replies : AreUnitReplies sources answers rs.units.items

@@ -1,13 +1,8 @@
-pub mod Spelling
-pub mod Replies
-pub mod Sinks
-pub mod Text
 pub mod Runs
 pub mod Isolation
-pub mod Elaborated
-pub mod Matched
 pub mod Written
 pub mod ProjectFiles
 pub mod Orders
 pub mod Checked
 pub mod Standing
+pub mod Files

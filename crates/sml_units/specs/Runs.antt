@@ -7,6 +7,7 @@ use Rattle.sml_objects.specs.Names.{Naming}
 use Rattle.sml_objects.specs.Objects.{Sig, Basis, empty_env, extend_env, extend, names_sig, names_basis}
 use Rattle.sml_rules.specs.Answers.{Answer, refused, accepted}
 use Rattle.sml_rules.specs.Readings.{read_top}
+use Rattle.sml_modules.specs.Elaborated.{beginning}
 
 -- A unit has a name, its place among the unit lines from 1, the places of its needs in the order of checking, the
 -- declarations that its bytes spell, and perhaps a last fault.
@@ -16,10 +17,6 @@ pub record SourceUnit : Type 0 where
   pub needs : List ℕ
   pub declarations : List (Dec Place)
   pub last : Option (Fault Place)
-
--- every declaration begins at 1.1
-abbrev pub beginning : Place
-beginning = record { line = 1; column = 1 }
 
 abbrev pub basis_after : {N : Type 0} → Basis N → Answer Place (Sig N) → Basis N
 basis_after B (refused f) = B

@@ -2,14 +2,14 @@
 use Rattle.std.specs.Prelude.{◌≡◌, ℕ, ◌-◌, ◌^◌, min, Bool, not, List, [], ◌∷◌, ◌++◌, length, map, codes, count_by, sum_by, Option, Result, Ok, Err, IfOk}
 use Rattle.std.specs.List.{flat_map}
 use Rattle.std.specs.String.{string_bytes}
+use Rattle.sml_reply.specs.declared.reply.Reply.{Reply}
+use Rattle.sml_reply.specs.Replies.{reply_text, warnings_of, accepts}
+use Rattle.sml_reply.specs.Sinks.{in_turn, Prints}
 use Rattle.sml_units.specs.declared.project.Replies.{Replies}
 use Rattle.sml_units.specs.declared.project.UnitReplies.{UnitReplies}
-use Rattle.sml_units.specs.declared.reply.Reply.{Reply}
 use Rattle.sml_units.specs.declared.run.Summary.{Summary}
 use Rattle.sml_units.specs.declared.run.RunFault.{RunFault}
 use Rattle.sml_units.specs.declared.run.RunFault.TheVariants.{Memory, Write}
-use Rattle.sml_units.specs.Replies.{reply_text, warnings_of, accepts}
-use Rattle.sml_units.specs.Sinks.{in_turn, Prints}
 
 -- the line of the unit, and then its replies
 abbrev pub unit_text : UnitReplies → Bool → List ℕ

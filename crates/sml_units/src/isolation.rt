@@ -1,5 +1,6 @@
 //! A sealed body is its maker's own affair.
 
+ghost use Rattle.sml_units.specs.Files.{SealsIsolateFiles};
 ghost use Rattle.sml_units.specs.Isolation.{SealsIsolate};
 
 /// If two projects differ only in the bodies of top-level structures sealed by `:>` to the same signature expressions,
@@ -7,4 +8,11 @@ ghost use Rattle.sml_units.specs.Isolation.{SealsIsolate};
 /// equal byte for byte, for any two runs of them, and those to the accepted sealed ones too.
 pub fn seals_isolate()
     ensures { SealsIsolate }
+{}
+
+/// The same of files and replies: if the bytes of two projects differ only in the bodies of sealed structures, and each
+/// declaration that differs is accepted in both or refused in both, then any replies that they may be given are the same
+/// bytes for all other declarations, for the sealed ones that are accepted, and for each unit's last fault.
+pub fn seals_isolate_files()
+    ensures { SealsIsolateFiles }
 {}

@@ -10,21 +10,21 @@ ghost use Rattle.sml_objects.specs.Objects.{extend};
 ghost use Rattle.sml_objects.specs.Views.{maker_of, sig_of};
 ghost use Rattle.sml_rules.specs.Answers.{accepted};
 ghost use Rattle.sml_rules.specs.Open.{OpenEnv};
+ghost use Rattle.sml_modules.specs.Elaborated.{IsBasisOf, IsOwnBasis};
 ghost use Rattle.sml_units.specs.Checked.{MayReply, IsAnswered, HaveReplies, IsStep, IsReplyTo, Answered, AreRepliesTo, with_last};
-ghost use Rattle.sml_units.specs.Elaborated.{IsBasisOf, IsOwnBasis};
 ghost use Rattle.sml_units.specs.Orders.{IsProjectOf, unit_texts};
 ghost use Rattle.sml_units.specs.Runs.{start};
 ghost use Rattle.sml_units.specs.ProjectFiles.{units_in};
 
 use crate::manifest::{Manifest, OrderFault};
-use crate::modules::topdec;
 use crate::orders::order;
-use crate::reply::Reply;
-use crate::top_fault::TopFault;
 use sml_lex::fault::{Fault, Memory, Warning};
 use sml_lex::lexer::lex;
+use sml_modules::modules::topdec;
+use sml_modules::top_fault::TopFault;
 use sml_objects::objects::{Basis, UnitId};
 use sml_parse::parse::parse;
+use sml_reply::reply::Reply;
 use sml_tree::bare::BareDec;
 use std::alloc::Global;
 

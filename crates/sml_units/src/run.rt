@@ -1,15 +1,15 @@
 //! Runs: a project is checked, and its replies are written.
 
 ghost use Rattle.std.specs.Prelude.{◌≡◌, ◌≤◌, ◌+◌, if◌then◌else◌, IfOk, IfErr, length, map};
+ghost use Rattle.sml_reply.specs.Replies.{reply_text, warnings_of, accepts};
+ghost use Rattle.sml_reply.specs.Sinks.{in_turn, Prints};
 ghost use Rattle.sml_units.specs.Checked.{MayReply};
 ghost use Rattle.sml_units.specs.Orders.{unit_texts};
-ghost use Rattle.sml_units.specs.Replies.{reply_text, warnings_of, accepts};
-ghost use Rattle.sml_units.specs.Sinks.{in_turn, Prints};
 ghost use Rattle.sml_units.specs.Written.{unit_text, units_text, replies_text, replies_of, summary_of, capped, IsOutcome};
 
 use crate::project::{Project, Replies, UnitReplies, check};
-use crate::reply::{Reply, print};
-use crate::sink::{Out, OutFault, write_each};
+use sml_reply::reply::{Reply, print};
+use sml_reply::sink::{Out, OutFault, write_each};
 use std::alloc::Global;
 use thiserror::Error;
 

@@ -3,7 +3,7 @@
 ghost use Rattle.std.specs.Prelude.{None};
 
 use crate::session::{Source, SourceFault, session};
-use sml_units::sink::{Out, OutFault, VecOut};
+use sml_reply::sink::{Out, OutFault, VecOut};
 use std::alloc::{AllocError, Global};
 use std::process::Abort;
 

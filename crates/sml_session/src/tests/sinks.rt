@@ -2,7 +2,7 @@
 
 use crate::session::session;
 use crate::tests::fakes::{DeafOut, Folder, FuseOut, HoledOut, ask, folder_of, words_of};
-use sml_units::sink::VecOut;
+use sml_reply::sink::VecOut;
 use std::alloc::{AllocError, Global};
 use std::test::Fail;
 

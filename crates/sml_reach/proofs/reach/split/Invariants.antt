@@ -1,6 +1,7 @@
 -- The items and tokens so far, and those of what is left.
 use Rattle.std.proofs.Common.{◌≡◌, ◌++◌, map, length}
-use Rattle.sml_reach.specs.Founds.{Atom, name_of, atoms_of}
+use Rattle.sml_fixity.specs.ItemNames.{name_of}
+use Rattle.sml_reach.specs.Founds.{Atom, atoms_of}
 use Rattle.sml_reach.proofs.reach.split.Given as goal
 
 abbrev pub invariant-loop-atom : goal.invariant-loop-atom

@@ -1,4 +1,4 @@
-use Rattle.std.proofs.Common.{◌≡◌, [], ◌∷◌, ◌++◌, ap, sym, subst, ◌∙◌, arith}
+use Rattle.std.proofs.Common.{[], ◌∷◌, ◌++◌, sym, subst, arith}
 use Rattle.std.specs.Option.{option_map}
 use Rattle.sml_lex.specs.Faults.{fault_of}
 use Rattle.sml_rules.specs.Answers.{refused}

@@ -1,10 +1,9 @@
 use Rattle.std.proofs.Common.{◌≡◌, ◌<◌, ◌+◌, ℕ, List, [], ◌∷◌, ◌++◌, length, map, take, get_or, ap, sym, subst, ◌∙◌}
 use Rattle.std.proofs.lemmas.List.{map_more, take_all}
-use Rattle.std.specs.String.{string_bytes}
 use Rattle.sml_objects.specs.Views.{maker_of}
 use Rattle.sml_units.specs.Checked.{AreAnswered, IsAnswered}
 use Rattle.sml_units.specs.declared.project.ProjectUnit.{ProjectUnit}
-use Rattle.sml_units.proofs.Replying.{seen, answered_push, one_unit}
+use Rattle.sml_units.proofs.Replying.{seen, answered_push, one_unit, project_sound}
 use Rattle.sml_units.proofs.project.check.Goals as goal
 
 pub loop-unit-init : goal.loop-unit-init
@@ -32,4 +31,4 @@ returns c = λ few.
     let all : take c.loop-unit.unit-index xs ≡ units = take_all c.loop-unit.unit-index xs c.loop-unit-test.false ∙ c.as_slice-unit-items.ensures.value in
     let answered = subst (λ us. AreAnswered (map seen us) c.loop-unit.units.items) all c.loop-unit.invariant in
     let one = one_unit (map seen units) c.loop-unit.units.items few answered in
-    record { sources = one.0; sources_are = one.1; answers = one.2; run = one.3; replies = one.4 }
+    record { sources = one.0; sources_are = one.1; answers = one.2; run = one.3; sound = project_sound [] one.0 one.2 one.3; replies = one.4 }

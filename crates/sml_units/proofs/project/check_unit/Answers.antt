@@ -1,7 +1,6 @@
-use Rattle.std.proofs.Common.{◌≡◌, [], subst, map}
+use Rattle.std.proofs.Common.{[], subst, map}
 use Rattle.std.specs.Option.{option_map}
 use Rattle.sml_lex.specs.Faults.{fault_of}
-use Rattle.sml_lex.specs.Pieces.{Spells}
 use Rattle.sml_tree.specs.Views.{dec_of}
 use Rattle.sml_tree.specs.StructureViews.{top_of}
 use Rattle.sml_parse.specs.Trees.{Trees}

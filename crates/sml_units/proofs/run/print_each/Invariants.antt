@@ -1,7 +1,7 @@
 use Rattle.std.proofs.Common.{◌≡◌, map, take}
 use Rattle.std.specs.Io.KnownBytes.{Appends}
-use Rattle.sml_units.specs.Sinks.{in_turn}
-use Rattle.sml_units.specs.Replies.{reply_text}
+use Rattle.sml_reply.specs.Sinks.{in_turn}
+use Rattle.sml_reply.specs.Replies.{reply_text}
 use Rattle.sml_units.proofs.run.print_each.Given as goal
 
 abbrev pub invariant-loop-reply : goal.invariant-loop-reply

@@ -1,6 +1,6 @@
 use Rattle.std.proofs.Common.{ap, ◌∙◌, refl}
+use Rattle.sml_reply.proofs.Sinks.{same_text}
 use Rattle.sml_units.specs.Written.{units_text, replies_of, summary_of}
-use Rattle.sml_units.proofs.Sinks.{same_text}
 use Rattle.sml_units.proofs.Written.{printed-as}
 use Rattle.sml_units.proofs.run.write_checked.Goals as goal
 

@@ -1,7 +1,7 @@
 use Rattle.std.proofs.Common.{sym, ◌++◌, [], ◌∷◌, codes, map}
-use Rattle.sml_units.specs.Replies.{reply_text}
-use Rattle.sml_units.specs.Sinks.{in_turn}
-use Rattle.sml_units.proofs.Sinks.{prints_then, prints_stop}
+use Rattle.sml_reply.specs.Replies.{reply_text}
+use Rattle.sml_reply.specs.Sinks.{in_turn}
+use Rattle.sml_reply.proofs.Sinks.{prints_then, prints_stop}
 use Rattle.sml_units.proofs.run.write_unit.Goals as goal
 
 pub returns-in-Ok : goal.returns-in-Ok

@@ -1,9 +1,9 @@
 use Rattle.std.proofs.Common.{◌+◌, ap, subst, map, drop, arith}
 use Rattle.std.proofs.lemmas.List.{take_all}
 use Rattle.std.specs.Io.KnownBytes.{Appends}
-use Rattle.sml_units.specs.Sinks.{in_turn}
+use Rattle.sml_reply.specs.Sinks.{in_turn}
+use Rattle.sml_reply.proofs.Sinks.{goes_on, stops, prints_all}
 use Rattle.sml_units.specs.Written.{unit_text}
-use Rattle.sml_units.proofs.Sinks.{goes_on, stops, prints_all}
 use Rattle.sml_units.proofs.Written.{turn-more-at, turn-rest-at}
 use Rattle.sml_units.proofs.run.write_units.Goals as goal
 

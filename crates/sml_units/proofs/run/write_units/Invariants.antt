@@ -1,6 +1,6 @@
 use Rattle.std.proofs.Common.{◌≡◌, map, take}
 use Rattle.std.specs.Io.KnownBytes.{Appends}
-use Rattle.sml_units.specs.Sinks.{in_turn}
+use Rattle.sml_reply.specs.Sinks.{in_turn}
 use Rattle.sml_units.specs.Written.{unit_text}
 use Rattle.sml_units.proofs.run.write_units.Given as goal
 

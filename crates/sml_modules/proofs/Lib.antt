@@ -1,0 +1,15 @@
+pub mod TypeAnswers
+pub mod Vectors
+pub mod Answering
+pub mod Paths
+pub mod Dotting
+pub mod Maps
+pub mod Contexts
+pub mod Specifying
+pub mod ExpAnswers
+pub mod Numbers
+pub mod Fitting
+pub mod Realising
+pub mod Matches
+pub mod Sealing
+pub mod Canonical

@@ -1,0 +1,2 @@
+pub mod Elaborated
+pub mod Matched

@@ -1,0 +1,4 @@
+pub mod Sinks
+pub mod Pieces
+pub mod Spelling
+pub mod Vectors

@@ -1,0 +1,4 @@
+pub mod Spelling
+pub mod Replies
+pub mod Sinks
+pub mod Text

@@ -1,0 +1,32 @@
+-- The text of a stored reply, with its warnings if they are asked for.
+use Rattle.std.specs.Prelude.{ℕ, Bool, true, false, List, [], ◌++◌, cond, codes, decimal, map}
+use Rattle.sml_lex.specs.declared.fault.Warning.{Warning}
+use Rattle.sml_lex.specs.Faults.{fault_of}
+use Rattle.sml_reply.specs.Text.{code_text, meaning, fault_text}
+use Rattle.sml_reply.specs.Sinks.{in_turn}
+use Rattle.sml_reply.specs.declared.reply.RefusedReply.{RefusedReply}
+use Rattle.sml_reply.specs.declared.reply.Reply.{Reply}
+use Rattle.sml_reply.specs.declared.reply.Reply.TheVariants.{Accepted, Refused}
+
+unfoldable pub warning_text : Warning → List ℕ
+warning_text w =
+    codes "  warning " ++ (code_text w.code ++ (codes " " ++ (decimal w.place.line ++ (codes "." ++ (decimal w.place.column
+    ++ (codes " " ++ (meaning w.code ++ codes "\n")))))))
+
+abbrev pub warnings_text : List Warning → List ℕ
+warnings_text ws = in_turn (map warning_text ws)
+
+unfoldable pub refusal_text : RefusedReply → List ℕ
+refusal_text r = decimal r.number ++ fault_text (fault_of r.fault)
+
+unfoldable pub reply_text : Reply → Bool → List ℕ
+reply_text (Accepted r) asked = r.text.items ++ cond asked (warnings_text r.warnings.items) []
+reply_text (Refused r) asked = refusal_text r
+
+abbrev pub warnings_of : Reply → List Warning
+warnings_of (Accepted r) = r.warnings.items
+warnings_of (Refused r) = []
+
+abbrev pub accepts : Reply → Bool
+accepts (Accepted r) = true
+accepts (Refused r) = false

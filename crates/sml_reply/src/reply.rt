@@ -1,0 +1,309 @@
+//! Replies, version 1 of their text.
+
+ghost use Rattle.std.specs.Prelude.{◌≡◌, ◌++◌, ◌∷◌, IfOk, true, false, [], codes, decimal};
+ghost use Rattle.sml_lex.specs.Faults.{fault_of};
+ghost use Rattle.sml_objects.specs.Initial.{naming};
+ghost use Rattle.sml_objects.specs.Views.{sig_of};
+ghost use Rattle.sml_rules.specs.Answers as Answers;
+ghost use Rattle.sml_reply.specs.Replies.{reply_text, refusal_text, warning_text, warnings_text, warnings_of, accepts};
+ghost use Rattle.std.specs.Option.{option_map};
+ghost use Rattle.sml_reply.specs.Sinks.{Prints, in_turn};
+ghost use Rattle.sml_reply.specs.Text as T;
+
+use crate::numerals::push_number;
+use crate::sink::{Out, OutFault, write_all, write_each};
+use crate::texts::Lines;
+use itoa::Buffer;
+use sml_lex::fault::{Code, Fault, Memory, Place, Warning};
+use sml_objects::objects::Basis;
+use std::alloc::Global;
+
+/// The reply to a declaration, with its number in the unit.
+#[derive(Drop)]
+pub enum Reply {
+    Accepted(AcceptedReply),
+    Refused(RefusedReply),
+}
+
+/// The text of an accepted declaration without its warnings, and these.
+#[derive(Drop)]
+pub struct AcceptedReply {
+    text: Vec<u8>,
+    warnings: Vec<Warning>,
+}
+
+#[derive(Drop)]
+pub struct RefusedReply {
+    number: u32,
+    fault: Fault,
+}
+
+impl Reply {
+    /// The reply to an accepted declaration, of which this is the own basis.
+    pub fn accepted(
+        alloc: Global,
+        number: u32,
+        basis: &Basis,
+        warnings: Vec<Warning>,
+    ) -> Result<Reply, Memory>
+        ensures text { IfOk result (λ r. reply_text r false ≡ T.text naming number (Answers.accepted (sig_of basis.now))) }
+        ensures warnings { IfOk result (λ r. warnings_of r ≡ warnings.items) }
+        ensures accepted { IfOk result (λ r. accepts r ≡ true) }
+    {
+        let mut lines = Lines::new(alloc);
+        push_number(&mut lines.text, number as usize)?;
+        lines.text.extend_from_slice(b" ok\n")?;
+        lines.push_env(alloc, b"", &basis.env)?;
+        let Lines { text, .. } = lines;
+        Ok(Reply::Accepted(AcceptedReply { text, warnings }))
+    }
+
+    /// The reply to a refused declaration.
+    pub fn refused(number: u32, fault: Fault) -> Reply
+        ensures text { reply_text result false ≡ T.text naming number (Answers.refused (fault_of fault)) }
+        ensures warnings { warnings_of result ≡ [] }
+        ensures refused { accepts result ≡ false }
+    {
+        Reply::Refused(RefusedReply { number, fault })
+    }
+
+    /// Whether the declaration is accepted.
+    pub fn is_accepted(&self) -> bool
+        ensures { result ≡ accepts self.now }
+    {
+        match self {
+            Reply::Accepted(_) => true,
+            Reply::Refused(_) => false,
+        }
+    }
+
+    /// The warnings of the declaration.
+    pub fn warnings(&self) -> &[Warning]
+        ensures { result.now ≡ warnings_of self.now }
+    {
+        match self {
+            Reply::Accepted(reply) => reply.warnings.as_slice(),
+            Reply::Refused(_) => &[],
+        }
+    }
+}
+
+/// Writes the text of a reply, with its warnings if they are asked for.
+pub fn print<O: Out>(reply: &Reply, warnings: bool, out: &mut O) -> Result<(), OutFault>
+    ensures { Prints (O.taken out.old) (O.taken out.new) (O.failures out.old) (O.failures out.new) result (reply_text reply.now warnings) }
+{
+    match reply {
+        Reply::Accepted(reply) => match write_all(out, reply.text.as_slice()) {
+            Ok(_) => {
+                if warnings {
+                    print_warnings(reply.warnings.as_slice(), out)
+                } else {
+                    Ok(())
+                }
+            }
+            Err(fault) => Err(fault),
+        },
+        Reply::Refused(reply) => print_refused(reply, out),
+    }
+}
+
+fn print_warnings<O: Out>(warnings: &[Warning], out: &mut O) -> Result<(), OutFault>
+    ensures { Prints (O.taken out.old) (O.taken out.new) (O.failures out.old) (O.failures out.new) result (warnings_text warnings.now) }
+{
+    for warning in warnings {
+        match print_warning(*warning, out) {
+            Ok(_) => {}
+            Err(fault) => return Err(fault),
+        }
+    }
+    Ok(())
+}
+
+fn print_warning<O: Out>(warning: Warning, out: &mut O) -> Result<(), OutFault>
+    ensures { Prints (O.taken out.old) (O.taken out.new) (O.failures out.old) (O.failures out.new) result (warning_text warning) }
+{
+    let mut line = Buffer::new();
+    let mut column = Buffer::new();
+    let parts: [&[u8]; 9] = [
+        b"  warning ",
+        code_text(warning.code).as_bytes(),
+        b" ",
+        line.format(warning.place.line).as_bytes(),
+        b".",
+        column.format(warning.place.column).as_bytes(),
+        b" ",
+        meaning(warning.code).as_bytes(),
+        b"\n",
+    ];
+    write_each(out, &parts)
+}
+
+fn print_refused<O: Out>(reply: &RefusedReply, out: &mut O) -> Result<(), OutFault>
+    ensures { Prints (O.taken out.old) (O.taken out.new) (O.failures out.old) (O.failures out.new) result (refusal_text reply.now) }
+{
+    match print_fault(reply.number, reply.fault.code, reply.fault.place, out) {
+        Ok(_) => print_detail(&reply.fault.detail, out),
+        Err(fault) => Err(fault),
+    }
+}
+
+fn print_fault<O: Out>(number: u32, code: Code, place: Place, out: &mut O) -> Result<(), OutFault>
+    ensures { Prints (O.taken out.old) (O.taken out.new) (O.failures out.old) (O.failures out.new) result
+        (in_turn (decimal number ∷ codes " fault " ∷ T.code_text code ∷ codes " " ∷ decimal place.line ∷ codes "." ∷ decimal place.column ∷ codes " " ∷ T.meaning code ∷ [])) }
+{
+    let mut numeral = Buffer::new();
+    let mut line = Buffer::new();
+    let mut column = Buffer::new();
+    let parts: [&[u8]; 9] = [
+        numeral.format(number).as_bytes(),
+        b" fault ",
+        code_text(code).as_bytes(),
+        b" ",
+        line.format(place.line).as_bytes(),
+        b".",
+        column.format(place.column).as_bytes(),
+        b" ",
+        meaning(code).as_bytes(),
+    ];
+    write_each(out, &parts)
+}
+
+fn print_detail<O: Out>(detail: &Option<Vec<u8>>, out: &mut O) -> Result<(), OutFault>
+    ensures { Prints (O.taken out.old) (O.taken out.new) (O.failures out.old) (O.failures out.new) result (T.detail_text (option_map (λ v. v.items) detail.now) ++ codes "\n") }
+{
+    match detail {
+        Some(bytes) => {
+            let parts: [&[u8]; 3] = [b" ", bytes.as_slice(), b"\n"];
+            write_each(out, &parts)
+        }
+        None => write_all(out, b"\n"),
+    }
+}
+
+/// A code as it is printed.
+fn code_text(code: Code) -> &'static str
+    ensures { result.now ≡ T.code_text code }
+{
+    match code {
+        Code::L1 => "L1",
+        Code::L2 => "L2",
+        Code::L3 => "L3",
+        Code::L4 => "L4",
+        Code::L5 => "L5",
+        Code::L6 => "L6",
+        Code::S1 => "S1",
+        Code::S2 => "S2",
+        Code::S3 => "S3",
+        Code::F1 => "F1",
+        Code::F2 => "F2",
+        Code::F3 => "F3",
+        Code::F4 => "F4",
+        Code::G1 => "G1",
+        Code::G2 => "G2",
+        Code::G3 => "G3",
+        Code::G4 => "G4",
+        Code::G5 => "G5",
+        Code::U1 => "U1",
+        Code::U2 => "U2",
+        Code::U3 => "U3",
+        Code::U4 => "U4",
+        Code::U5 => "U5",
+        Code::U6 => "U6",
+        Code::U7 => "U7",
+        Code::E1 => "E1",
+        Code::E2 => "E2",
+        Code::E3 => "E3",
+        Code::E4 => "E4",
+        Code::E5 => "E5",
+        Code::E6 => "E6",
+        Code::E7 => "E7",
+        Code::E8 => "E8",
+        Code::E9 => "E9",
+        Code::E10 => "E10",
+        Code::N1 => "N1",
+        Code::N2 => "N2",
+        Code::N3 => "N3",
+        Code::N4 => "N4",
+        Code::N5 => "N5",
+        Code::N6 => "N6",
+        Code::N7 => "N7",
+        Code::M1 => "M1",
+        Code::M2 => "M2",
+        Code::M3 => "M3",
+        Code::M4 => "M4",
+        Code::M5 => "M5",
+        Code::M6 => "M6",
+        Code::M7 => "M7",
+        Code::Q1 => "Q1",
+        Code::Q2 => "Q2",
+        Code::Q3 => "Q3",
+        Code::P1 => "P1",
+        Code::P2 => "P2",
+        Code::P3 => "P3",
+        Code::Z1 => "Z1",
+    }
+}
+
+/// What a code means.
+fn meaning(code: Code) -> &'static str
+    ensures { result.now ≡ T.meaning code }
+{
+    match code {
+        Code::L1 => "comment not closed",
+        Code::L2 => "string not closed",
+        Code::L3 => "bad escape or character",
+        Code::L4 => "bad byte",
+        Code::L5 => "literal too large",
+        Code::L6 => "unit too large",
+        Code::S1 => "unexpected token",
+        Code::S2 => "unit ends too early",
+        Code::S3 => "tree too high",
+        Code::F1 => "operator without operand",
+        Code::F2 => "sides mixed at one level",
+        Code::F3 => "fixity level not one digit",
+        Code::F4 => "malformed pattern or clause head",
+        Code::G1 => "clauses with different names",
+        Code::G2 => "clauses with different numbers of arguments",
+        Code::G3 => "bound twice",
+        Code::G4 => "identifier can't be bound",
+        Code::G5 => "real in a pattern",
+        Code::U1 => "types clash",
+        Code::U2 => "circular type",
+        Code::U3 => "type name too new",
+        Code::U4 => "not an equality type",
+        Code::U5 => "not in the overloading class",
+        Code::U6 => "record labels undetermined",
+        Code::U7 => "explicit type variable not general",
+        Code::E1 => "unbound value",
+        Code::E2 => "unbound type",
+        Code::E3 => "unbound structure",
+        Code::E4 => "wrong number of type arguments",
+        Code::E5 => "constructor expected",
+        Code::E6 => "local type escapes",
+        Code::E7 => "type too large",
+        Code::E8 => "type variable out of scope",
+        Code::E9 => "right side of rec isn't a function",
+        Code::E10 => "variable bound twice in a pattern",
+        Code::N1 => "unbound signature",
+        Code::N2 => "repeated specification",
+        Code::N3 => "name not free",
+        Code::N4 => "equality lost",
+        Code::N5 => "constructors lost",
+        Code::N6 => "arities differ",
+        Code::N7 => "constructors differ",
+        Code::M1 => "missing component",
+        Code::M2 => "wrong arity",
+        Code::M3 => "type doesn't admit equality",
+        Code::M4 => "type differs",
+        Code::M5 => "constructors differ",
+        Code::M6 => "value not general enough",
+        Code::M7 => "status differs",
+        Code::Q1 => "unbound functor",
+        Code::Q2 => "exported type undetermined",
+        Code::Q3 => "too many type names",
+        Code::P1 => "rule is redundant",
+        Code::P2 => "match not exhaustive",
+        Code::P3 => "binding not exhaustive",
+        Code::Z1 => "not yet checked",
+    }
+}

@@ -1,8 +1,0 @@
-use Rattle.std.proofs.Common.{refl}
-use Rattle.sml_units.specs.Replies.{reply_text, refusal_text}
-use Rattle.sml_units.specs.Text.{text}
-use Rattle.sml_units.proofs.reply.Reply.refused.Goals as goal
-
-pub returns-clause-text : goal.returns-clause-text
-unfolding reply_text refusal_text text
-returns-clause-text c = refl

@@ -1,9 +1,44 @@
-use super::*;
-use crate::phrases::{ends, starts};
-use crate::read::forms::{SECTIONS, all_kinds, forms};
+//! Which texts the reader takes, where it stops, and where phrases begin and end.
+
+mod texts;
+
+use sml_lex::fault::{Code, Memory};
 use sml_lex::lexer::lex;
+use sml_lex::token::{End, Kind, Lexed, Span, Stop, Token};
+use sml_read::phrases::{ends, starts};
+use sml_read::read::{Cause, Full, read};
+use sml_read::tokens::kinds;
+use std::alloc::Global;
 use std::process::Abort;
 use std::test::Fail;
+use texts::{SECTIONS, all_kinds, forms};
+
+/// Reads tokens of these kinds, of no bytes. Where `done` is false, a fault that is no token stands behind the last one.
+fn read_kinds(alloc: Global, kinds: &[Kind], done: bool) -> Result<Full, Memory> {
+    let mut tokens = Vec::new(alloc);
+    for kind in kinds {
+        tokens.push(Token {
+            kind: *kind,
+            span: Span { start: 0, end: 0 },
+        })?;
+    }
+    let end = if done {
+        End::Done
+    } else {
+        End::Fault(Stop {
+            code: Code::L4,
+            at: 0,
+        })
+    };
+    read(
+        alloc,
+        &Lexed {
+            unit: &[],
+            tokens,
+            end,
+        },
+    )
+}
 
 /// The bits of a hexadecimal digit, as a number.
 fn digit(byte: u8) -> u8 {

@@ -1,9 +1,13 @@
 //! Heights worked out by hand, and trees as high as a tree may be.
 
-use super::*;
-use crate::bare::{Ident, LongIdent};
-use crate::names::Name;
 use sml_lex::fault::Place;
+use sml_tree::bare::{Ident, LongIdent};
+use sml_tree::expressions::{Dec, Exp, Rule, ValBind};
+use sml_tree::heights::height_of_top;
+use sml_tree::names::Name;
+use sml_tree::patterns::Pat;
+use sml_tree::structures::{StrBind, StrDec, StrExp, TopDec};
+use sml_tree::types::Ty;
 use std::alloc::{AllocError, Global};
 use std::rc::Rc;
 use std::test::Fail;

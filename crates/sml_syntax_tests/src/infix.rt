@@ -1,9 +1,9 @@
 //! Sequences, directives and heads as a unit writes them, with trees and faults worked out by hand.
 
-use crate::heads::{Head, clause_head};
-use crate::laws::{head_is_unique, tree_is_unique};
-use crate::scopes::{Directive, DirectiveFault, Fixities, Fixity, Side};
-use crate::sequences::{FixFault, Item, Step, resolve, resolve_pattern};
+use sml_fixity::heads::{Head, clause_head};
+use sml_fixity::laws::{head_is_unique, tree_is_unique};
+use sml_fixity::scopes::{Directive, DirectiveFault, Fixities, Fixity, Side};
+use sml_fixity::sequences::{FixFault, Item, Step, resolve, resolve_pattern};
 use sml_lex::fault::Memory;
 use sml_tree::bare::Ident;
 use std::alloc::{AllocError, Global};

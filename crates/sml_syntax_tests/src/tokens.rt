@@ -1,5 +1,9 @@
-use super::*;
-use crate::token::Kind;
+//! The tokens of units, and the faults that end them.
+
+use sml_lex::fault::{Code, Memory};
+use sml_lex::lexer::{MAX_UNIT, lex};
+use sml_lex::token::{End, Kind, Stop};
+use std::alloc::Global;
 use std::process::Abort;
 
 /// The kinds of the tokens of a unit that has no fault.

@@ -9,5 +9,3 @@ mod roles;
 pub mod scopes;
 pub mod sequences;
 pub mod shape;
-#[cfg(test)]
-mod tests;

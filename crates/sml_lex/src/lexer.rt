@@ -61,6 +61,3 @@ pub fn lex<'a>(alloc: Global, unit: &'a [u8]) -> Result<Lexed<'a>, Memory>
         end: End::Done,
     })
 }
-
-#[cfg(test)]
-mod tests;

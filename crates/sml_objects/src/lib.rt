@@ -19,5 +19,3 @@ pub mod renamings;
 mod replacements;
 pub mod schemes;
 pub mod sizes;
-#[cfg(test)]
-mod tests;

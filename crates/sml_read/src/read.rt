@@ -179,8 +179,3 @@ pub fn read(alloc: Global, lexed: &Lexed) -> Result<Full, Memory>
     };
     read_kinds(alloc, &kinds(alloc, &lexed.tokens)?, done)
 }
-
-#[cfg(test)]
-mod forms;
-#[cfg(test)]
-mod tests;

@@ -4,5 +4,3 @@
 pub use sml_graph::{class, layer, variable};
 
 pub mod solver;
-#[cfg(test)]
-mod tests;

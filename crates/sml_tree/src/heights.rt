@@ -407,6 +407,3 @@ pub fn height_of_top(dec: &TopDec) -> u32
         TopDec::Functor(_, binds) => height_of_fun_binds(binds).saturating_add(1),
     }
 }
-
-#[cfg(test)]
-mod tests;

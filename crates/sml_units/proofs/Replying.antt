@@ -4,7 +4,7 @@ use Rattle.std.proofs.lemmas.List.{length-map, length-append}
 use Rattle.sml_lex.specs.declared.fault.Place.{Place}
 use Rattle.sml_lex.specs.Faults.{Fault}
 use Rattle.sml_tree.specs.Trees.{Dec}
-use Rattle.sml_objects.specs.Objects.{Basis, extend, extend_env, names_basis, names_env, names_structures, names_map, names_type}
+use Rattle.sml_objects.specs.Objects.{Sig, Basis, extend, extend_env, names_basis, names_env, names_structures, names_map, names_type}
 use Rattle.sml_objects.specs.Initial.{Name, naming, initial_basis}
 use Rattle.sml_objects.specs.Views.{env_of, maker_of, name_of, sig_of}
 use Rattle.sml_objects.specs.declared.objects.Basis as PB

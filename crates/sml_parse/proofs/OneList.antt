@@ -34,8 +34,7 @@ tokens_one unit tokens end tops tops' decs decs' last last' h k =
     let fits = subst (λ ns. AreFitted (text_at unit tokens) (events_of unit tokens ns (starts_of 0 ns)) h.fitted h.unfit) nodes h.fits in
     let fit = fitting_one (text_at unit tokens) (events_of unit tokens k.nodes (starts_of 0 k.nodes)) h.fitted k.fitted h.unfit k.unfit fits k.fits in
     let misfit = h.is_first ∙ (λ i. or_else (first_flawed (text_at unit tokens) 0 0 (nodes i) tokens (fit.0 i)) (fit.1 i)) ∙ sym k.is_first in
-    let tops_are = h.made ∙ (λ i. before_none (up_to (before_misfit (misfit i)) (bare_decs unit tokens 0 (nodes i) (fit.0 i)))) ∙ sym k.made in
-    (
+    let tops_are = h.made ∙ (λ i. before_none (up_to (before_misfit (misfit i)) (bare_decs unit tokens 0 (nodes i) (fit.0 i)))) ∙ sym k.made in (
       tops_are,
       h.piece ∙ (λ i. take (length (tops_are i)) (spelt unit (nodes i) tokens)) ∙ sym k.piece,
       h.ended ∙ (λ i. last_fault unit tokens end (read.1 i) (read.2 i) (misfit i) (list_all is_some (up_to (before_misfit (misfit i)) (bare_decs unit tokens 0 (nodes i) (fit.0 i))))) ∙ sym k.ended,

@@ -49,9 +49,10 @@ told (u ∷ us) (w ∷ ws) (x ∷ xs) (s ∷ ss) (t ∷ ts) f h k =
     let b = k.0 in
     let alike = f.0.2 in
     let one = spelt_one u.text s.declarations x.declarations s.last x.last a.spelt alike.spelt in
-    let other = spelt_one w.text t.declarations x.others t.last x.last b.spelt alike.others_spelt in
-    ((a.label_is ∙ f.0.0 ∙ sym b.label_is, a.maker_is ∙ ap suc f.0.1 ∙ sym b.maker_is, a.needs_are ∙ sym b.needs_are, one.0, other.0, one.1, other.1, alike.alike),
-      told us ws xs ss ts f.1 h.1 k.1)
+    let other = spelt_one w.text t.declarations x.others t.last x.last b.spelt alike.others_spelt in (
+      (a.label_is ∙ f.0.0 ∙ sym b.label_is, a.maker_is ∙ ap suc f.0.1 ∙ sym b.maker_is, a.needs_are ∙ sym b.needs_are, one.0, other.0, one.1, other.1, alike.alike),
+      told us ws xs ss ts f.1 h.1 k.1,
+    )
 
 alike_by : (xs : List Pair) (ss ts : List SourceUnit) → Told xs ss ts → ProjectsAlike ss ts
 unfolding ProjectsAlike

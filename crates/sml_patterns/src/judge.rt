@@ -29,14 +29,14 @@ pub enum Holder {
 
 /// A rule's place, and what matching sees of its pattern.
 #[derive(Drop)]
-pub struct Judged {
+struct Judged {
     pub place: Place,
     pub pattern: Pattern,
 }
 
 /// What a warning says.
 #[derive(Clone, Copy, PartialEq, Eq, PartialOrd, Ord, Drop)]
-pub enum Flaw {
+enum Flaw {
     Redundant,
     OpenMatch,
     OpenBinding,
@@ -44,7 +44,7 @@ pub enum Flaw {
 
 /// A warning, with what it is sorted by.
 #[derive(Clone, Copy, PartialEq, Eq, PartialOrd, Ord, Drop)]
-pub struct Finding {
+struct Finding {
     pub line: u32,
     pub column: u32,
     pub flaw: Flaw,

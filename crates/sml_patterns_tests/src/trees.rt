@@ -82,13 +82,7 @@ pub fn one_of(alloc: Global, label: &str, pat: Pat) -> Result<Pat, Memory> {
 }
 
 /// `{first = one, second = other}`
-pub fn both(
-    alloc: Global,
-    first: &str,
-    one: Pat,
-    second: &str,
-    other: Pat,
-) -> Result<Pat, Memory> {
+pub fn both(alloc: Global, first: &str, one: Pat, second: &str, other: Pat) -> Result<Pat, Memory> {
     let mut fields = Vec::new(alloc);
     add_field(alloc, &mut fields, first, one)?;
     add_field(alloc, &mut fields, second, other)?;

@@ -1,11 +1,13 @@
 //! The warnings of matches and bindings.
 
 use crate::trees::{
-    apply, at, both, cons, constant, judged, judged_by, long, name, number, one_of, pair, wild,
+    apply, at, both, cons, constant, ident, judged, judged_by, long, name, number, one_of, pair,
+    wild,
 };
 use sml_lex::fault::Memory;
 use sml_patterns::judge::Holder;
 use sml_patterns::names::{Meaning, Names};
+use sml_tree::names::Name;
 use sml_tree::patterns::{ConstantKind, Pat};
 use std::fmt::Write;
 use std::test::Fail;
@@ -16,8 +18,15 @@ fn numbers_by_value(rt: HostRuntime) -> Result<(), Fail> {
     let alloc = rt.alloc();
     let rules = [number(alloc, "0xA")?, number(alloc, "10")?, wild()];
     assert_eq!(rt; judged(alloc, Holder::Fn(at(9)), &rules)?.as_str(), "P1 2;");
-    let signs = [number(alloc, "1")?, number(alloc, "~1")?, number(alloc, "~0x1")?];
-    assert_eq!(rt; judged(alloc, Holder::Fn(at(9)), &signs)?.as_str(), "P1 3;P2 9;");
+    let signs = [
+        number(alloc, "1")?,
+        number(alloc, "~1")?,
+        number(alloc, "~0x1")?,
+    ];
+    assert_eq!(rt;
+        judged(alloc, Holder::Fn(at(9)), &signs)?.as_str(),
+        "P1 3;P2 9;"
+    );
     Ok(())
 }
 
@@ -47,7 +56,11 @@ fn a_constructor_is_left_out(rt: HostRuntime) -> Result<(), Fail> {
     assert_eq!(rt; judged(alloc, Holder::Fn(at(9)), &rules)?.as_str(), "P2 9;");
     let both = [name(alloc, "true")?, name(alloc, "false")?];
     assert_eq!(rt; judged(alloc, Holder::Fn(at(9)), &both)?.as_str(), "");
-    let again = [name(alloc, "true")?, name(alloc, "false")?, name(alloc, "x")?];
+    let again = [
+        name(alloc, "true")?,
+        name(alloc, "false")?,
+        name(alloc, "x")?,
+    ];
     assert_eq!(rt; judged(alloc, Holder::Fn(at(9)), &again)?.as_str(), "P1 3;");
     Ok(())
 }
@@ -67,7 +80,10 @@ fn several_rules_together(rt: HostRuntime) -> Result<(), Fail> {
         pair(alloc, name(alloc, "true")?, wild())?,
         pair(alloc, wild(), name(alloc, "true")?)?,
     ];
-    assert_eq!(rt; judged(alloc, Holder::Fn(at(9)), &overlap)?.as_str(), "P2 9;");
+    assert_eq!(rt;
+        judged(alloc, Holder::Fn(at(9)), &overlap)?.as_str(),
+        "P2 9;"
+    );
     Ok(())
 }
 
@@ -81,8 +97,14 @@ fn constructors_in_constructors(rt: HostRuntime) -> Result<(), Fail> {
         name(alloc, "NONE")?,
     ];
     assert_eq!(rt; judged(alloc, Holder::Fn(at(9)), &rules)?.as_str(), "");
-    assert_eq!(rt; judged(alloc, Holder::Fn(at(9)), &rules[..2])?.as_str(), "P2 9;");
-    assert_eq!(rt; judged(alloc, Holder::Fn(at(9)), &rules[1..])?.as_str(), "P2 9;");
+    assert_eq!(rt;
+        judged(alloc, Holder::Fn(at(9)), &rules[..2])?.as_str(),
+        "P2 9;"
+    );
+    assert_eq!(rt;
+        judged(alloc, Holder::Fn(at(9)), &rules[1..])?.as_str(),
+        "P2 9;"
+    );
     let twice = [
         apply(alloc, "SOME", wild())?,
         apply(alloc, "SOME", name(alloc, "nil")?)?,
@@ -99,10 +121,19 @@ fn rows(rt: HostRuntime) -> Result<(), Fail> {
     let rules = [
         both(alloc, "a", name(alloc, "true")?, "b", wild())?,
         both(alloc, "b", name(alloc, "true")?, "a", wild())?,
-        both(alloc, "a", name(alloc, "false")?, "b", name(alloc, "false")?)?,
+        both(
+            alloc,
+            "a",
+            name(alloc, "false")?,
+            "b",
+            name(alloc, "false")?,
+        )?,
     ];
     assert_eq!(rt; judged(alloc, Holder::Fn(at(9)), &rules)?.as_str(), "");
-    assert_eq!(rt; judged(alloc, Holder::Fn(at(9)), &rules[..2])?.as_str(), "P2 9;");
+    assert_eq!(rt;
+        judged(alloc, Holder::Fn(at(9)), &rules[..2])?.as_str(),
+        "P2 9;"
+    );
     Ok(())
 }
 
@@ -118,7 +149,10 @@ fn flexible_rows(rt: HostRuntime) -> Result<(), Fail> {
     ];
     assert_eq!(rt; judged(alloc, Holder::Fn(at(9)), &rules)?.as_str(), "P1 4;");
     assert_eq!(rt; judged(alloc, Holder::Fn(at(9)), &rules[..3])?.as_str(), "");
-    assert_eq!(rt; judged(alloc, Holder::Fn(at(9)), &rules[..2])?.as_str(), "P2 9;");
+    assert_eq!(rt;
+        judged(alloc, Holder::Fn(at(9)), &rules[..2])?.as_str(),
+        "P2 9;"
+    );
     // fn {1 = true, ...} => 1 | (false, _) => 2
     let tuple = [
         one_of(alloc, "1", name(alloc, "true")?)?,
@@ -133,8 +167,14 @@ fn flexible_rows(rt: HostRuntime) -> Result<(), Fail> {
 fn exceptions(rt: HostRuntime) -> Result<(), Fail> {
     let alloc = rt.alloc();
     let rules = [name(alloc, "E")?, name(alloc, "F")?, name(alloc, "E")?];
-    assert_eq!(rt; judged(alloc, Holder::Handle(at(9)), &rules)?.as_str(), "P1 3;");
-    assert_eq!(rt; judged(alloc, Holder::Fn(at(9)), &rules)?.as_str(), "P1 3;P2 9;");
+    assert_eq!(rt;
+        judged(alloc, Holder::Handle(at(9)), &rules)?.as_str(),
+        "P1 3;"
+    );
+    assert_eq!(rt;
+        judged(alloc, Holder::Fn(at(9)), &rules)?.as_str(),
+        "P1 3;P2 9;"
+    );
     // handle E 1 => 1 | E 2 => 2 | E _ => 3 | E 3 => 4
     let applied = [
         apply(alloc, "E", number(alloc, "1")?)?,
@@ -142,7 +182,10 @@ fn exceptions(rt: HostRuntime) -> Result<(), Fail> {
         apply(alloc, "E", wild())?,
         apply(alloc, "E", number(alloc, "3")?)?,
     ];
-    assert_eq!(rt; judged(alloc, Holder::Handle(at(9)), &applied)?.as_str(), "P1 4;");
+    assert_eq!(rt;
+        judged(alloc, Holder::Handle(at(9)), &applied)?.as_str(),
+        "P1 4;"
+    );
     Ok(())
 }
 
@@ -161,15 +204,28 @@ fn bindings(rt: HostRuntime) -> Result<(), Fail> {
     Ok(())
 }
 
-// fn (true) => 1 | false => 2
+// fn (true) => 1 | x as false => 2
 #[test]
-fn brackets(rt: HostRuntime) -> Result<(), Fail> {
+fn brackets_and_layers(rt: HostRuntime) -> Result<(), Fail> {
     let alloc = rt.alloc();
+    let variable = Name {
+        place: at(1),
+        ident: ident(alloc, "x")?,
+    };
     let rules = [
         Pat::Bracket(at(1), Box::new(alloc, name(alloc, "true")?)?),
-        name(alloc, "false")?,
+        Pat::As(
+            at(1),
+            variable,
+            None,
+            Box::new(alloc, name(alloc, "false")?)?,
+        ),
     ];
     assert_eq!(rt; judged(alloc, Holder::Fn(at(9)), &rules)?.as_str(), "");
+    assert_eq!(rt;
+        judged(alloc, Holder::Fn(at(9)), &rules[1..])?.as_str(),
+        "P2 9;"
+    );
     Ok(())
 }
 
@@ -178,8 +234,14 @@ fn brackets(rt: HostRuntime) -> Result<(), Fail> {
 fn sorted_by_place(rt: HostRuntime) -> Result<(), Fail> {
     let alloc = rt.alloc();
     let rules = [name(alloc, "true")?, name(alloc, "true")?];
-    assert_eq!(rt; judged(alloc, Holder::Fn(at(1)), &rules)?.as_str(), "P2 1;P1 2;");
-    assert_eq!(rt; judged(alloc, Holder::Fn(at(2)), &rules)?.as_str(), "P1 2;P2 2;");
+    assert_eq!(rt;
+        judged(alloc, Holder::Fn(at(1)), &rules)?.as_str(),
+        "P2 1;P1 2;"
+    );
+    assert_eq!(rt;
+        judged(alloc, Holder::Fn(at(2)), &rules)?.as_str(),
+        "P1 2;P2 2;"
+    );
     Ok(())
 }
 
@@ -196,9 +258,15 @@ fn many_constructors(rt: HostRuntime) -> Result<(), Fail> {
         names.insert(&long(alloc, &text)?, meaning)?;
         rules.push(name(alloc, &text)?)?;
     }
-    assert_eq!(rt; judged_by(alloc, &names, Holder::Fn(at(999)), &rules)?.as_str(), "");
+    assert_eq!(rt;
+        judged_by(alloc, &names, Holder::Fn(at(999)), &rules)?.as_str(),
+        ""
+    );
     rules.pop();
-    assert_eq!(rt; judged_by(alloc, &names, Holder::Fn(at(999)), &rules)?.as_str(), "P2 999;");
+    assert_eq!(rt;
+        judged_by(alloc, &names, Holder::Fn(at(999)), &rules)?.as_str(),
+        "P2 999;"
+    );
     Ok(())
 }
 
@@ -221,8 +289,29 @@ fn many_columns(rt: HostRuntime) -> Result<(), Fail> {
     for index in 0..12usize {
         rules.push(twelve(&rt, index, "true", "x")?)?;
     }
-    assert_eq!(rt; judged(alloc, Holder::Fn(at(99)), &rules)?.as_str(), "P2 99;");
+    assert_eq!(rt;
+        judged(alloc, Holder::Fn(at(99)), &rules)?.as_str(),
+        "P2 99;"
+    );
     rules.push(twelve(&rt, 12, "true", "false")?)?;
     assert_eq!(rt; judged(alloc, Holder::Fn(at(99)), &rules)?.as_str(), "");
+    Ok(())
+}
+
+// 12 columns of booleans, each constructor of each column in a rule of its own: the first two rules are enough
+#[test]
+fn all_columns_split(rt: HostRuntime) -> Result<(), Fail> {
+    let alloc = rt.alloc();
+    let mut rules = Vec::new(alloc);
+    for index in 0..12usize {
+        rules.push(twelve(&rt, index, "true", "x")?)?;
+        rules.push(twelve(&rt, index, "false", "x")?)?;
+    }
+    let mut redundant = String::new(alloc);
+    for column in 3..25u32 {
+        write!(redundant, "P1 {column};")?;
+    }
+    let found = judged(alloc, Holder::Fn(at(99)), &rules)?;
+    assert_eq!(rt; found.as_str(), redundant.as_str());
     Ok(())
 }

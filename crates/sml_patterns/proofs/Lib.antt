@@ -1,0 +1,14 @@
+pub mod Vectors
+pub mod Labels
+pub mod Values
+pub mod Narrowing
+pub mod Splitting
+pub mod Weights
+pub mod Exact
+pub mod Lines
+pub mod Constants
+pub mod Rows
+pub mod Known
+pub mod Trees
+pub mod Work
+pub mod Judged

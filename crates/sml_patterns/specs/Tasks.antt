@@ -1,0 +1,105 @@
+-- The rows, heads and problems that the code keeps. A row has its first column last.
+use Rattle.std.specs.Prelude.{ℕ, Bool, List, [], ◌∷◌, ◌++◌, map, reverse, Option, Some, None, Vec, cond}
+use Rattle.std.specs.List.{list_any}
+use Rattle.std.specs.Str.{bytes_eq}
+use Rattle.std.specs.Borrow.{Bor}
+use Rattle.std.specs.Global.{Global}
+use Rattle.std.specs.declared.rc.Rc.{Rc}
+use Rattle.sml_lex.specs.declared.fault.Place.{Place}
+use Rattle.sml_lex.specs.declared.fault.Code.TheVariants.{P1, P2, P3}
+use Rattle.sml_lex.specs.declared.fault.Warning.{Warning}
+use Rattle.sml_tree.specs.Trees.{Id}
+use Rattle.sml_tree.specs.Views.{ident_of}
+use Rattle.sml_patterns.specs.declared.pattern.Pattern.{Pattern}
+use Rattle.sml_patterns.specs.declared.narrow.Head as H
+use Rattle.sml_patterns.specs.declared.narrow.Head.TheVariants as V
+use Rattle.sml_patterns.specs.declared.narrow.Split.{Split}
+use Rattle.sml_patterns.specs.declared.narrow.Split.TheVariants.{Below, One}
+use Rattle.sml_patterns.specs.declared.search.Task.{Task}
+use Rattle.sml_patterns.specs.declared.judge.Holder.{Holder}
+use Rattle.sml_patterns.specs.declared.judge.Holder.TheVariants.{Fn, Handle, Val}
+use Rattle.sml_patterns.specs.declared.judge.Judged.{Judged}
+use Rattle.sml_patterns.specs.declared.judge.Finding.{Finding}
+use Rattle.sml_patterns.specs.declared.judge.Flaw.{Flaw}
+use Rattle.sml_patterns.specs.declared.judge.Flaw.TheVariants.{Redundant, OpenMatch, OpenBinding}
+use Rattle.sml_patterns.specs.Plain.{Plain, Wild}
+use Rattle.sml_patterns.specs.Warnings.{Rule, warning}
+use Rattle.sml_patterns.specs.Matrix.{Head, AtConstructor, AtRow, AtValue, AtOther, Problem, problem, below, is_useful, singles}
+use Rattle.sml_patterns.specs.Views.{value_of, plain_of}
+
+abbrev pub pointee : Bor Pattern → Plain
+pointee p = plain_of p.now
+
+abbrev pub line : List (Bor Pattern) → List Plain
+line ps = reverse (map pointee ps)
+
+abbrev pub lines : List (Vec (Bor Pattern) Global) → List (List Plain)
+lines rows = map (λ r. line r.items) rows
+
+abbrev pub kept_line : Option (Vec (Bor Pattern) Global) → Option (List Plain)
+kept_line None = None
+kept_line (Some r) = Some (line r.items)
+
+abbrev pub plain_at : Option (Bor Pattern) → Plain
+plain_at None = Wild
+plain_at (Some p) = plain_of p.now
+
+abbrev pub IsNamed : Plain → Type 0
+IsNamed Wild = ⊥
+IsNamed _ = Unit {0}
+
+-- whether one of the labels is this
+abbrev pub is_among : Id → List (Bor (Rc (Vec ℕ Global) Global)) → Bool
+is_among l ls = list_any (λ k. bytes_eq l (ident_of k.now)) ls
+
+-- the labels, the last one first
+abbrev pub labels_of : List (Bor (Rc (Vec ℕ Global) Global)) → List Id
+labels_of ls = reverse (map (λ l. ident_of l.now) ls)
+
+abbrev pub head_of : H.Head → Head
+head_of (V.AtConstructor k) = AtConstructor k
+head_of (V.AtRow ls) = AtRow (labels_of ls.items)
+head_of (V.AtValue v) = AtValue (value_of v.now)
+head_of V.AtOther = AtOther
+
+abbrev pub problem_of : Task → Problem
+problem_of t = problem (lines t.rows.items) (line t.question.items)
+
+abbrev pub problems : List Task → List Problem
+problems ts = map problem_of ts
+
+abbrev pub split_heads : Split → List Head
+split_heads (Below n) = below n
+split_heads (One h) = head_of h ∷ []
+
+-- the rules that the code keeps
+abbrev pub rule_of : Judged → Rule
+rule_of r = record { place = r.place; plain = plain_of r.pattern }
+
+abbrev pub rules_of : List Judged → List Rule
+rules_of rs = map rule_of rs
+
+abbrev pub plains : List Rule → List Plain
+plains rules = map (λ r. r.plain) rules
+
+-- the warnings that the search gives: of the rules behind the first ones, and of them all
+abbrev pub redundant_from : List Rule → List Rule → List Warning
+redundant_from above [] = []
+redundant_from above (r ∷ rs) =
+    cond (is_useful (singles (plains above)) (r.plain ∷ [])) [] (warning r.place P1 ∷ []) ++ redundant_from (above ++ r ∷ []) rs
+
+abbrev pub open_at : List Rule → Holder → List Warning
+open_at rules (Fn p) = cond (is_useful (singles (plains rules)) (Wild ∷ [])) (warning p P2 ∷ []) []
+open_at rules (Handle p) = []
+open_at rules (Val p) = cond (is_useful (singles (plains rules)) (Wild ∷ [])) (warning p P3 ∷ []) []
+
+abbrev pub flaw_warning : Place → Flaw → Warning
+flaw_warning p Redundant = warning p P1
+flaw_warning p OpenMatch = warning p P2
+flaw_warning p OpenBinding = warning p P3
+
+abbrev pub warning_of : Finding → Warning
+warning_of m = flaw_warning (record { line = m.line; column = m.column }) m.flaw
+
+abbrev pub warnings_of : List Finding → List Warning
+warnings_of ms = map warning_of ms

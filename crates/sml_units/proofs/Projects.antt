@@ -18,7 +18,7 @@ use Rattle.sml_rules.proofs.Worlds.{Over}
 use Rattle.sml_rules.proofs.Settled.{Covers, Supported, pair_supported, mapped, same_value, outside-left, outside-right, outside-append}
 use Rattle.sml_rules.proofs.Readings.{sig_supported, basis_supported, extend_holds}
 use Rattle.sml_reply.specs.Text.{text}
-use Rattle.sml_modules.specs.Elaborated.{beginning}
+use Rattle.sml_piece.specs.Elaborated.{beginning}
 use Rattle.sml_units.specs.Runs.{SourceUnit, basis_after, Run, exports_after, exports, nothing, all_names, needed, start, RunProject}
 use Rattle.sml_units.specs.Isolation.{AlikeOutsideSeals, AgreeAtSeals, EqualReplies, ProjectsAlike, ProjectsAgree, ProjectsReplyEqually}
 use Rattle.sml_units.proofs.Seals.{cases_of, replies_stable, reads_alike, step}

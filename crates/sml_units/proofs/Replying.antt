@@ -16,8 +16,8 @@ use Rattle.sml_rules.specs.Rules.{IsOpen, AreOpen}
 use Rattle.sml_rules.proofs.Open.{extended}
 use Rattle.sml_rules.proofs.Sound.{readings_sound}
 use Rattle.sml_reply.specs.declared.reply.Reply.{Reply}
-use Rattle.sml_modules.specs.Elaborated.{IsBasisOf, IsOwnBasis, IsBelow, beginning}
-use Rattle.sml_modules.proofs.Specifying.{all_below_more, basis_below}
+use Rattle.sml_piece.specs.Elaborated.{IsBasisOf, IsOwnBasis, IsBelow, beginning}
+use Rattle.sml_piece.proofs.Specifying.{all_below_more, basis_below}
 use Rattle.sml_units.specs.Runs.{Run, basis_after, start, needed, all_names, SourceUnit, RunProject, exports, nothing}
 use Rattle.sml_units.specs.Orders.{UnitText}
 use Rattle.std.specs.String.{string_bytes}

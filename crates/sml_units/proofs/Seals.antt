@@ -19,7 +19,7 @@ use Rattle.sml_rules.proofs.Settled.{Covers, Supported, mapped, by_equation, sam
 use Rattle.sml_rules.proofs.Readings.{read_top_settled}
 use Rattle.sml_rules.proofs.Specified.{specify_all_settled, exported}
 use Rattle.sml_reply.specs.Text.{text}
-use Rattle.sml_modules.specs.Elaborated.{beginning}
+use Rattle.sml_piece.specs.Elaborated.{beginning}
 use Rattle.sml_units.specs.Runs.{basis_after}
 use Rattle.sml_units.specs.Isolation.{SealAlike, IsAccepted, EqualReplies}
 

@@ -13,7 +13,7 @@ use Rattle.sml_objects.specs.Initial.{Name, naming}
 use Rattle.sml_rules.specs.Answers.{refused, accepted}
 use Rattle.sml_rules.specs.Readings.{read_top}
 use Rattle.sml_rules.proofs.Faults.{stands_in_declaration}
-use Rattle.sml_modules.specs.Elaborated.{beginning}
+use Rattle.sml_piece.specs.Elaborated.{beginning}
 use Rattle.sml_units.specs.Orders.{UnitText}
 use Rattle.sml_units.specs.Runs.{SourceUnit, Run, RunProject, basis_after, exports, nothing, start}
 use Rattle.sml_units.specs.Checked.{Answered, AreSpelt, AreSourcesOf}

@@ -19,7 +19,7 @@ use Rattle.sml_reply.specs.Replies.{reply_text, warnings_of, accepts}
 use Rattle.sml_reply.specs.declared.reply.Reply.{Reply}
 use Rattle.sml_objects.specs.Views.{maker_of}
 use Rattle.sml_objects.specs.declared.objects.Basis as PB
-use Rattle.sml_modules.specs.Elaborated.{IsBasisOf, beginning}
+use Rattle.sml_piece.specs.Elaborated.{IsBasisOf, beginning}
 use Rattle.sml_units.specs.Runs.{SourceUnit, Run, RunProject, basis_after, start, exports, nothing}
 use Rattle.sml_units.specs.Orders.{UnitText, unit_texts}
 use Rattle.sml_units.specs.declared.project.Project.{Project}

@@ -7,7 +7,7 @@ use Rattle.sml_objects.specs.Names.{Naming}
 use Rattle.sml_objects.specs.Objects.{Sig, Basis, empty_env, extend_env, extend, names_sig, names_basis}
 use Rattle.sml_rules.specs.Answers.{Answer, refused, accepted}
 use Rattle.sml_rules.specs.Readings.{read_top}
-use Rattle.sml_modules.specs.Elaborated.{beginning}
+use Rattle.sml_piece.specs.Elaborated.{beginning}
 
 -- A unit has a name, its place among the unit lines from 1, the places of its needs in the order of checking, the
 -- declarations that its bytes spell, and perhaps a last fault.

@@ -3,7 +3,7 @@ use Rattle.sml_objects.specs.Initial.{naming}
 use Rattle.sml_objects.specs.Views.{maker_of, sig_of}
 use Rattle.sml_rules.specs.Answers.{accepted}
 use Rattle.sml_rules.proofs.Open.{read_top_open}
-use Rattle.sml_modules.specs.Elaborated.{beginning}
+use Rattle.sml_piece.specs.Elaborated.{beginning}
 use Rattle.sml_units.specs.Checked.{IsReplyTo}
 use Rattle.sml_units.proofs.Replying.{accepted_step, unwarned}
 use Rattle.sml_units.proofs.project.answer.Goals as goal

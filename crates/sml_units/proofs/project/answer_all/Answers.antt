@@ -5,7 +5,7 @@ use Rattle.sml_tree.specs.declared.bare.BareDec.{BareDec}
 use Rattle.sml_objects.specs.Initial.{naming, initial_basis}
 use Rattle.sml_objects.specs.Views.{maker_of}
 use Rattle.sml_rules.specs.Readings.{read_top}
-use Rattle.sml_modules.specs.Elaborated.{IsBasisOf, beginning}
+use Rattle.sml_piece.specs.Elaborated.{IsBasisOf, beginning}
 use Rattle.sml_units.specs.Checked.{AreRepliesTo, IsReplyTo}
 use Rattle.sml_units.specs.Runs.{Run, start}
 use Rattle.sml_units.proofs.Replying.{after_all, after_push, run_none, run_push, replies_push, initial_is}

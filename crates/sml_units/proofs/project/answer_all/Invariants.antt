@@ -2,7 +2,7 @@ use Rattle.std.proofs.Common.{◌≡◌, List, [], map, take}
 use Rattle.sml_tree.specs.Views.{dec_of}
 use Rattle.sml_objects.specs.Initial.{naming, initial_basis}
 use Rattle.sml_objects.specs.Views.{maker_of}
-use Rattle.sml_modules.specs.Elaborated.{IsBasisOf}
+use Rattle.sml_piece.specs.Elaborated.{IsBasisOf}
 use Rattle.sml_units.specs.Checked.{Answered, AreRepliesTo}
 use Rattle.sml_units.specs.Runs.{Run, start}
 use Rattle.sml_units.proofs.Replying.{after_all}

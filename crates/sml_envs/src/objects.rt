@@ -71,11 +71,13 @@ pub struct FunSig {
 }
 
 /// A basis of a unit: how many type names the unit made that it exports, and what is bound. Each of these names has a
-/// lower number than the count.
+/// lower number than the count. What is bound hides what the bases below bind, and each of these what those before it do;
+/// they have none below.
 #[derive(Drop)]
 pub struct Basis {
     pub unit: UnitId,
     pub count: u32,
+    pub below: Vec<Rc<Basis>>,
     pub env: Env,
     pub signatures: BTreeMap<Ident, Rc<Sig>>,
     pub functors: BTreeMap<Ident, Rc<FunSig>>,
@@ -137,13 +139,14 @@ impl Basis {
         Basis {
             unit,
             count: 0,
+            below: Vec::new(alloc),
             env: Env::new(alloc),
             signatures: BTreeMap::new(alloc),
             functors: BTreeMap::new(alloc),
         }
     }
 
-    /// Puts what another basis binds over what this one does. The unit and the count stay.
+    /// Puts what another basis binds over what this one does. The unit, the count and the bases below stay.
     pub fn add(&mut self, other: &Basis) -> Result<(), Memory> {
         self.env.add(&other.env)?;
         for (name, signature) in &other.signatures {
@@ -153,5 +156,70 @@ impl Basis {
             self.functors.insert(name.clone()?, functor.clone()?)?;
         }
         Ok(())
+    }
+
+    /// The structure that the identifier means.
+    pub fn structure(&self, name: &Ident) -> Option<&Rc<Env>> {
+        if let Some(found) = self.env.structures.get(name) {
+            return Some(found);
+        }
+        for basis in self.below.iter().rev() {
+            if let Some(found) = basis.env.structures.get(name) {
+                return Some(found);
+            }
+        }
+        None
+    }
+
+    /// The type structure that the type constructor means.
+    pub fn type_str(&self, name: &Ident) -> Option<&TypeStr> {
+        if let Some(found) = self.env.types.get(name) {
+            return Some(found);
+        }
+        for basis in self.below.iter().rev() {
+            if let Some(found) = basis.env.types.get(name) {
+                return Some(found);
+            }
+        }
+        None
+    }
+
+    /// The value that the identifier means.
+    pub fn value(&self, name: &Ident) -> Option<&Value> {
+        if let Some(found) = self.env.values.get(name) {
+            return Some(found);
+        }
+        for basis in self.below.iter().rev() {
+            if let Some(found) = basis.env.values.get(name) {
+                return Some(found);
+            }
+        }
+        None
+    }
+
+    /// The signature that the identifier means.
+    pub fn signature(&self, name: &Ident) -> Option<&Rc<Sig>> {
+        if let Some(found) = self.signatures.get(name) {
+            return Some(found);
+        }
+        for basis in self.below.iter().rev() {
+            if let Some(found) = basis.signatures.get(name) {
+                return Some(found);
+            }
+        }
+        None
+    }
+
+    /// The functor that the identifier means.
+    pub fn functor(&self, name: &Ident) -> Option<&Rc<FunSig>> {
+        if let Some(found) = self.functors.get(name) {
+            return Some(found);
+        }
+        for basis in self.below.iter().rev() {
+            if let Some(found) = basis.functors.get(name) {
+                return Some(found);
+            }
+        }
+        None
     }
 }

@@ -71,7 +71,10 @@ fn changed_type<M: Mapping>(
             None => Ok(None),
             Some(parts) => boxed(alloc, MlType::Row(labels.clone()?, parts)),
         },
-        MlType::Arrow(from, to) => changed_arrow(alloc, from, to, by),
+        MlType::Arrow(from, to) => {
+            let changed = (changed_type(alloc, from, by)?, changed_type(alloc, to, by)?);
+            changed_arrow(alloc, from, to, changed)
+        }
         MlType::Name(name, parts) => {
             let changed = changed_parts(alloc, parts, by)?;
             changed_name(alloc, *name, parts, changed, by)
@@ -79,21 +82,18 @@ fn changed_type<M: Mapping>(
     }
 }
 
-#[cycle(changed)]
 #[inline(never)]
-fn changed_arrow<M: Mapping>(
+fn changed_arrow(
     alloc: Global,
     from: &Rc<MlType>,
     to: &Rc<MlType>,
-    by: &M,
+    changed: (Option<Rc<MlType>>, Option<Rc<MlType>>),
 ) -> Result<Option<Rc<MlType>>, Memory> {
-    let new_from = changed_type(alloc, from, by)?;
-    let new_to = changed_type(alloc, to, by)?;
-    if new_from.is_none() && new_to.is_none() {
+    if changed.0.is_none() && changed.1.is_none() {
         return Ok(None);
     }
-    let from = or_shared(new_from, from)?;
-    let to = or_shared(new_to, to)?;
+    let from = or_shared(changed.0, from)?;
+    let to = or_shared(changed.1, to)?;
     boxed(alloc, MlType::Arrow(from, to))
 }
 

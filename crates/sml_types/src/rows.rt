@@ -1,0 +1,61 @@
+//! Rows, arrows and applied names.
+
+use sml_lex::fault::Memory;
+use sml_objects::labels::Labels;
+use sml_objects::objects::{Initial, MlType, TyName};
+use sml_tree::bare::Ident;
+use std::alloc::Global;
+use std::collections::BTreeMap;
+use std::rc::Rc;
+
+/// Fields in the order of their labels: numbers by their value, then the others in byte order.
+pub type Fields = BTreeMap<(usize, Ident), Rc<MlType>>;
+
+/// Where a label stands among others: numbers before words, shorter numbers first.
+pub fn label_key(label: &Ident) -> Result<(usize, Ident), Memory> {
+    let rank = match label.as_slice() {
+        [b'1'..=b'9', ..] => label.len(),
+        _ => usize::MAX,
+    };
+    Ok((rank, label.clone()?))
+}
+
+/// The row of these fields.
+pub fn row_of(alloc: Global, fields: Fields) -> Result<Rc<MlType>, Memory> {
+    let mut labels = Vec::new(alloc);
+    let mut types = Vec::new(alloc);
+    for ((_, label), ty) in fields {
+        labels.push(label)?;
+        types.push(ty)?;
+    }
+    // Keys rise, so these are labels.
+    let labels = match Labels::from_list(labels) {
+        Ok(labels) => labels,
+        Err(list) => Labels::numbered(alloc, list.len())?,
+    };
+    let labels = Rc::new(alloc, labels)?;
+    boxed(alloc, MlType::Row(labels, types))
+}
+
+/// The row of these types, labelled from 1 on.
+pub fn tuple_of(alloc: Global, types: Vec<Rc<MlType>>) -> Result<Rc<MlType>, Memory> {
+    let labels = Labels::numbered(alloc, types.len())?;
+    let labels = Rc::new(alloc, labels)?;
+    boxed(alloc, MlType::Row(labels, types))
+}
+
+/// An arrow.
+pub fn arrow(alloc: Global, from: Rc<MlType>, to: Rc<MlType>) -> Result<Rc<MlType>, Memory> {
+    boxed(alloc, MlType::Arrow(from, to))
+}
+
+/// An initial type name without arguments.
+pub fn initial(alloc: Global, name: Initial) -> Result<Rc<MlType>, Memory> {
+    boxed(alloc, MlType::Name(TyName::Initial(name), Vec::new(alloc)))
+}
+
+/// A type that is shared. Out of line, so that the frames of a recursion have no room for a type.
+#[inline(never)]
+pub fn boxed(alloc: Global, ty: MlType) -> Result<Rc<MlType>, Memory> {
+    Ok(Rc::new(alloc, ty)?)
+}

@@ -1,0 +1,210 @@
+//! What type variables stand for.
+
+use crate::fault::{CoreFault, plain_fault};
+use crate::rows::boxed;
+use indexmap::IndexMap;
+use indexmap::IndexSet;
+use sml_envs::mapping::{Image, Mapping, mapped_type};
+use sml_lex::fault::{Code, Memory, Place};
+use sml_objects::objects::{MlType, Scheme, TyName};
+use sml_tree::bare::Ident;
+use sml_tree::names::Name;
+use std::alloc::Global;
+use std::rc::Rc;
+
+/// What the type variables of a type expression stand for.
+pub trait TypeVariables {
+    /// The type that a variable stands for, or why it stands for none.
+    fn variable(
+        &mut self,
+        alloc: Global,
+        place: Place,
+        name: &Ident,
+    ) -> Result<Rc<MlType>, CoreFault>;
+}
+
+/// Whether a type variable is one of equality types: it begins with two primes (the Definition, section 2.4).
+pub fn is_equality_variable(name: &Ident) -> bool {
+    match name.as_slice() {
+        [b'\'', b'\'', ..] => true,
+        _ => false,
+    }
+}
+
+/// The variables of a list stand for bound or for free ones, by their places in it; others are out of scope.
+#[derive(Drop)]
+pub struct Listed {
+    places: IndexMap<Ident, u32>,
+    are_bound: bool,
+}
+
+impl Listed {
+    /// Bound variables, as in a type function.
+    pub fn bound(alloc: Global, names: &[Name]) -> Result<Listed, Memory> {
+        let places = places_of(alloc, names)?;
+        Ok(Listed {
+            places,
+            are_bound: true,
+        })
+    }
+
+    /// Free variables.
+    pub fn free(alloc: Global, names: &[Name]) -> Result<Listed, Memory> {
+        let places = places_of(alloc, names)?;
+        Ok(Listed {
+            places,
+            are_bound: false,
+        })
+    }
+}
+
+fn places_of(alloc: Global, names: &[Name]) -> Result<IndexMap<Ident, u32>, Memory> {
+    let mut places = IndexMap::new(alloc);
+    let mut place: u32 = 0;
+    for name in names {
+        places.insert(name.ident.clone()?, place)?;
+        place = place.saturating_add(1);
+    }
+    Ok(places)
+}
+
+impl TypeVariables for Listed {
+    fn variable(
+        &mut self,
+        alloc: Global,
+        place: Place,
+        name: &Ident,
+    ) -> Result<Rc<MlType>, CoreFault> {
+        match self.places.get(name) {
+            Some(index) => {
+                if self.are_bound {
+                    Ok(boxed(alloc, MlType::Bound(*index))?)
+                } else {
+                    Ok(boxed(alloc, MlType::Free(*index))?)
+                }
+            }
+            None => Err(plain_fault(Code::E8, place)),
+        }
+    }
+}
+
+/// Every variable is taken, and stands for the free variable of its number by first appearance.
+#[derive(Drop)]
+pub struct Collected {
+    names: IndexSet<Ident>,
+}
+
+impl Collected {
+    pub fn new(alloc: Global) -> Collected {
+        Collected {
+            names: IndexSet::new(alloc),
+        }
+    }
+
+    /// The scheme of a type that binds these variables, numbered by first appearance in it.
+    pub fn close(&self, alloc: Global, ty: &Rc<MlType>) -> Result<Scheme, Memory> {
+        let mut equality = Vec::new(alloc);
+        for name in &self.names {
+            equality.push(is_equality_variable(name))?;
+        }
+        closed(alloc, ty, &equality)
+    }
+}
+
+impl TypeVariables for Collected {
+    fn variable(
+        &mut self,
+        alloc: Global,
+        _place: Place,
+        name: &Ident,
+    ) -> Result<Rc<MlType>, CoreFault> {
+        let (index, _) = self.names.insert_full(name.clone()?)?;
+        match u32::try_from(index) {
+            Ok(index) => Ok(boxed(alloc, MlType::Free(index))?),
+            Err(_) => Err(CoreFault::Memory),
+        }
+    }
+}
+
+/// No variable is in scope.
+#[derive(Clone, Copy)]
+pub struct NoVariables;
+
+impl TypeVariables for NoVariables {
+    fn variable(
+        &mut self,
+        _alloc: Global,
+        place: Place,
+        _name: &Ident,
+    ) -> Result<Rc<MlType>, CoreFault> {
+        Err(plain_fault(Code::E8, place))
+    }
+}
+
+/// Free variables become bound ones, by their places in a set.
+struct Closing<'a> {
+    order: &'a IndexSet<u32>,
+}
+
+impl Mapping for Closing<'_> {
+    fn bound(&self, _alloc: Global, _variable: u32) -> Result<Option<Rc<MlType>>, Memory> {
+        Ok(None)
+    }
+
+    fn free(&self, alloc: Global, variable: u32) -> Result<Option<Rc<MlType>>, Memory> {
+        let Some(index) = self.order.get_index_of(&variable) else {
+            return Ok(None);
+        };
+        match u32::try_from(index) {
+            Ok(index) => Ok(Some(boxed(alloc, MlType::Bound(index))?)),
+            Err(_) => Err(Memory),
+        }
+    }
+
+    fn name(&self, _name: TyName) -> Image<'_> {
+        Image::Same
+    }
+}
+
+/// The scheme that binds the free variables of a type, numbered by first appearance; the flags tell by number which are
+/// equality variables.
+pub fn closed(alloc: Global, ty: &Rc<MlType>, equality: &[bool]) -> Result<Scheme, Memory> {
+    let mut order = IndexSet::new(alloc);
+    collect_free(ty, &mut order)?;
+    let mut variables = Vec::new(alloc);
+    for variable in &order {
+        let flag = match equality.get(*variable as usize) {
+            Some(flag) => *flag,
+            None => false,
+        };
+        variables.push(flag)?;
+    }
+    let body = mapped_type(alloc, ty, &Closing { order: &order })?;
+    Ok(Scheme { variables, body })
+}
+
+/// Adds the free variables of a type, in the order in which they appear.
+#[cycle(free)]
+pub fn collect_free(ty: &MlType, seen: &mut IndexSet<u32>) -> Result<(), Memory> {
+    match ty {
+        MlType::Bound(_) => Ok(()),
+        MlType::Free(variable) => {
+            seen.insert(*variable)?;
+            Ok(())
+        }
+        MlType::Row(_, parts) => collect_all_free(parts, seen),
+        MlType::Arrow(from, to) => {
+            collect_free(from, seen)?;
+            collect_free(to, seen)
+        }
+        MlType::Name(_, parts) => collect_all_free(parts, seen),
+    }
+}
+
+#[cycle(free)]
+fn collect_all_free(parts: &[Rc<MlType>], seen: &mut IndexSet<u32>) -> Result<(), Memory> {
+    for part in parts {
+        collect_free(part, seen)?;
+    }
+    Ok(())
+}

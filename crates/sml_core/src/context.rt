@@ -1,0 +1,282 @@
+//! What elaboration knows while it goes through a top-level declaration.
+
+use crate::explicit::Explicit;
+use crate::scopes::{Mark, Scopes};
+use sml_asks::asks::{ask_class, ask_equal, ask_equality, ask_instance, ask_within};
+use sml_envs::new_names::NewNames;
+use sml_envs::objects::{Basis, Env, Overload, Status, TypeStr, Value};
+use sml_graph::class::Class;
+use sml_graph::layer::{Bound, Refusal};
+use sml_lex::fault::{Code, Memory, Place, Warning};
+use sml_objects::objects::{MlType, Scheme};
+use sml_solve::solver::Solver;
+use sml_tree::bare::{Ident, LongIdent};
+use sml_tree::types::Ty;
+use sml_types::fault::{CoreFault, plain_fault};
+use sml_types::rows::boxed;
+use sml_types::scope::{path_of, unbound};
+use sml_types::types::type_of;
+use std::alloc::Global;
+use std::mem;
+use std::rc::Rc;
+
+/// The greatest size of a scheme and of the body of a type function, in nodes.
+pub const GREATEST_SIZE: u32 = 10_000;
+
+/// The scopes that are open, what was asked of unknown types, the names made so far, and what the declaration exports.
+#[derive(Drop)]
+pub struct Context<'a> {
+    pub alloc: Global,
+    pub scopes: Scopes<'a>,
+    pub solver: Solver,
+    pub new: NewNames,
+    pub warnings: Vec<Warning>,
+    /// What was bound since it was set, where that is wanted.
+    exports: Option<Env>,
+    pub(crate) explicit: Explicit,
+    /// How many explicit type variables there were.
+    pub(crate) variables: u32,
+    /// Flexible rows whose labels are to be known at the end of the value declaration, in order of making.
+    pub(crate) rows: Vec<(Place, Rc<MlType>)>,
+    /// Whether an unknown of an earlier declaration may still stand in the scopes.
+    pub(crate) is_open: bool,
+}
+
+/// The fault of a demand that was refused there.
+pub fn refused(refusal: Refusal, place: Place) -> CoreFault {
+    match refusal.code() {
+        Some(code) => plain_fault(code, place),
+        None => CoreFault::Memory,
+    }
+}
+
+fn class_of(overload: Overload) -> Class {
+    match overload {
+        Overload::WordInt => Class::WordInt,
+        Overload::RealInt => Class::RealInt,
+        Overload::Num => Class::Num,
+        Overload::NumTxt => Class::NumTxt,
+    }
+}
+
+impl<'a> Context<'a> {
+    /// The context of a declaration in a basis. What it binds is exported.
+    pub fn new(alloc: Global, basis: &'a Basis) -> Context<'a> {
+        Context {
+            alloc,
+            scopes: Scopes::new(alloc, basis),
+            solver: Solver::new(alloc, basis.unit),
+            new: NewNames {
+                unit: basis.unit,
+                next: basis.count,
+            },
+            warnings: Vec::new(alloc),
+            exports: None,
+            explicit: Explicit::new(alloc),
+            variables: 0,
+            rows: Vec::new(alloc),
+            is_open: false,
+        }
+    }
+
+    /// Sets what was exported aside, and begins anew, or with nothing wanted. `exported` takes it back.
+    pub fn export(&mut self, wanted: bool) -> Option<Env> {
+        let exports = if wanted {
+            Some(Env::new(self.alloc))
+        } else {
+            None
+        };
+        mem::replace(&mut self.exports, exports)
+    }
+
+    /// What was bound since `export`, whose answer is what goes on.
+    pub fn exported(&mut self, aside: Option<Env>) -> Env {
+        match mem::replace(&mut self.exports, aside) {
+            Some(env) => env,
+            None => Env::new(self.alloc),
+        }
+    }
+
+    pub fn bind_value(&mut self, name: &Ident, value: Value) -> Result<(), Memory> {
+        if let Some(env) = &mut self.exports {
+            env.values.insert(name.clone()?, value.share()?)?;
+        }
+        self.scopes.bind_value(name, value)
+    }
+
+    pub fn bind_type(&mut self, name: &Ident, ty: TypeStr) -> Result<(), Memory> {
+        if let Some(env) = &mut self.exports {
+            env.types.insert(name.clone()?, ty.share()?)?;
+        }
+        self.scopes.bind_type(name, ty)
+    }
+
+    pub fn bind_structure(&mut self, name: &Ident, structure: Rc<Env>) -> Result<(), Memory> {
+        if let Some(env) = &mut self.exports {
+            env.structures.insert(name.clone()?, structure.clone()?)?;
+        }
+        self.scopes.bind_structure(name, structure)
+    }
+
+    /// Binds what an environment holds, entry by entry.
+    pub fn bind_env(&mut self, env: Env) -> Result<(), Memory> {
+        let Env {
+            structures,
+            types,
+            values,
+        } = env;
+        for (name, structure) in structures {
+            self.bind_structure(&name, structure)?;
+        }
+        for (name, ty) in types {
+            self.bind_type(&name, ty)?;
+        }
+        for (name, value) in values {
+            self.bind_value(&name, value)?;
+        }
+        Ok(())
+    }
+
+    /// Binds what a structure holds.
+    pub fn open(&mut self, structure: Rc<Env>) -> Result<(), Memory> {
+        if let Some(env) = &mut self.exports {
+            env.add(&structure)?;
+        }
+        self.scopes.open(structure)
+    }
+
+    pub fn mark(&self) -> Mark {
+        self.scopes.mark()
+    }
+
+    pub fn leave(&mut self, mark: Mark) -> Result<(), Memory> {
+        self.scopes.leave(mark)
+    }
+
+    /// The value that a long identifier means, or E3, or none.
+    pub(crate) fn find(&self, long: &LongIdent) -> Result<Option<Value>, CoreFault> {
+        let found = match path_of(self.alloc, &self.scopes, long)? {
+            None => self.scopes.value(&long.last),
+            Some(env) => env.values.get(&long.last),
+        };
+        match found {
+            None => Ok(None),
+            Some(value) => Ok(Some(value.share()?)),
+        }
+    }
+
+    /// The value that a long identifier means, or E3 or E1.
+    pub(crate) fn value(&self, long: &LongIdent) -> Result<Value, CoreFault> {
+        match self.find(long)? {
+            Some(value) => Ok(value),
+            None => Err(unbound(self.alloc, Code::E1, long)?.into()),
+        }
+    }
+
+    /// The status of a short identifier; one that is unbound is a variable.
+    pub(crate) fn status(&self, name: &Ident) -> Status {
+        match self.scopes.value(name) {
+            Some(value) => value.status,
+            None => Status::Variable,
+        }
+    }
+
+    /// A new unknown.
+    pub(crate) fn unknown(&mut self) -> Result<Rc<MlType>, CoreFault> {
+        let Ok(number) = self.solver.fresh() else {
+            return Err(CoreFault::Memory);
+        };
+        Ok(boxed(self.alloc, MlType::Free(number))?)
+    }
+
+    /// Demands that two types are equal.
+    pub(crate) fn equal(
+        &mut self,
+        place: Place,
+        left: &MlType,
+        right: &MlType,
+    ) -> Result<(), CoreFault> {
+        match ask_equal(&mut self.solver, left, right) {
+            Ok(()) => Ok(()),
+            Err(refusal) => Err(refused(refusal, place)),
+        }
+    }
+
+    /// Demands that a type mentions only names with lower numbers.
+    pub(crate) fn within(
+        &mut self,
+        place: Place,
+        ty: &MlType,
+        bound: Bound,
+        most: u32,
+    ) -> Result<(), CoreFault> {
+        match ask_within(&mut self.solver, ty, bound, most) {
+            Ok(()) => Ok(()),
+            Err(refusal) => Err(refused(refusal, place)),
+        }
+    }
+
+    /// An instance of a value's scheme with new unknowns, and what is asked of these.
+    pub(crate) fn instance(
+        &mut self,
+        place: Place,
+        value: &Value,
+    ) -> Result<Rc<MlType>, CoreFault> {
+        let from = self.solver.unknowns();
+        let ty = match ask_instance(&mut self.solver, &value.scheme) {
+            Ok(ty) => ty,
+            Err(refusal) => return Err(refused(refusal, place)),
+        };
+        self.ask_attributes(place, &value.scheme, from)?;
+        if let Status::Overloaded(overload) = value.status {
+            self.ask_overload(place, overload, from)?;
+        }
+        Ok(ty)
+    }
+
+    /// Demands equality of the unknowns that stand for equality variables, the first unknown for the first variable.
+    fn ask_attributes(
+        &mut self,
+        place: Place,
+        scheme: &Scheme,
+        from: usize,
+    ) -> Result<(), CoreFault> {
+        let mut unknown = from;
+        for equality in &scheme.variables {
+            if *equality {
+                let ty = MlType::Free(number_of(unknown)?);
+                if let Err(refusal) = ask_equality(&mut self.solver, &ty) {
+                    return Err(refused(refusal, place));
+                }
+            }
+            unknown = unknown.saturating_add(1);
+        }
+        Ok(())
+    }
+
+    fn ask_overload(
+        &mut self,
+        place: Place,
+        overload: Overload,
+        unknown: usize,
+    ) -> Result<(), CoreFault> {
+        let ty = MlType::Free(number_of(unknown)?);
+        match ask_class(&mut self.solver, &ty, class_of(overload)) {
+            Ok(()) => Ok(()),
+            Err(refusal) => Err(refused(refusal, place)),
+        }
+    }
+
+    /// The type that a type expression means, with the explicit type variables in scope.
+    pub(crate) fn ty(&mut self, ty: &Ty) -> Result<Rc<MlType>, CoreFault> {
+        type_of(self.alloc, &self.scopes, &mut self.explicit, ty)
+    }
+}
+
+/// The number of an unknown. One that no `u32` holds counts as want of memory.
+pub(crate) fn number_of(unknown: usize) -> Result<u32, Memory> {
+    match u32::try_from(unknown) {
+        Ok(number) => Ok(number),
+        Err(_) => Err(Memory),
+    }
+}

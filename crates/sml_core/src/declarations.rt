@@ -1,0 +1,174 @@
+//! Declarations (the Definition, section 4.10, rules 15 to 24, 30 and 31).
+
+use crate::context::{Context, GREATEST_SIZE};
+use crate::expressions::of_type;
+use crate::scopes::Mark;
+use sml_envs::objects::{Env, Status, Value};
+use sml_lex::fault::{Code, Place};
+use sml_objects::objects::{Initial, Scheme};
+use sml_objects::sizes::size_up_to;
+use sml_tree::bare::{Ident, LongIdent};
+use sml_tree::expressions::{ConBind, DatBind, Dec, ExnBind, TypBind};
+use sml_tree::names::Name;
+use sml_types::bindings::types;
+use sml_types::datatypes::{datatypes, put_constructors};
+use sml_types::fault::{CoreFault, plain_fault};
+use sml_types::rows::{arrow, initial};
+use sml_types::scope::{structure_at, type_at};
+use std::rc::Rc;
+
+/// What was open when the first part of `local` began.
+#[derive(Drop)]
+struct Hidden {
+    mark: Mark,
+    exports: Option<Env>,
+}
+
+impl Context<'_> {
+    /// Declarations one after the other, each of which sees those before it.
+    #[cycle(core)]
+    pub fn decs(&mut self, decs: &[Dec]) -> Result<(), CoreFault> {
+        for dec in decs {
+            self.dec(dec)?;
+        }
+        Ok(())
+    }
+
+    /// A declaration, which is bound.
+    #[cycle(core)]
+    #[inline(never)]
+    pub fn dec(&mut self, dec: &Dec) -> Result<(), CoreFault> {
+        match dec {
+            Dec::Value(place, names, binds, recursive) => {
+                let mut declaration = self.begin_values(names, binds, recursive)?;
+                self.binds(&mut declaration, binds)?;
+                self.recursive_binds(&mut declaration, recursive)?;
+                self.end_values(*place, declaration)
+            }
+            Dec::Local(_, hidden, decs) => {
+                let outside = self.hide();
+                self.decs(hidden)?;
+                self.show();
+                self.decs(decs)?;
+                self.shown(outside)
+            }
+            Dec::Sequence(_, decs) => self.decs(decs),
+            Dec::Type(place, binds) => self.type_dec(*place, binds),
+            Dec::Datatype(place, binds) => self.datatype_dec(*place, binds, &[]),
+            Dec::DatatypeWith(place, binds, types) => {
+                self.datatype_dec(*place, binds, types)?;
+                self.type_dec(*place, types)
+            }
+            Dec::Replication(_, name, long) => self.replication(name, long),
+            Dec::Exception(place, binds) => self.exception_dec(*place, binds),
+            Dec::Open(_, longs) => self.open_dec(longs),
+            Dec::Fixity(_) => Ok(()),
+        }
+    }
+
+    fn hide(&mut self) -> Hidden {
+        Hidden {
+            mark: self.mark(),
+            exports: self.export(false),
+        }
+    }
+
+    fn show(&mut self) {
+        self.export(true);
+    }
+
+    #[inline(never)]
+    fn shown(&mut self, outside: Hidden) -> Result<(), CoreFault> {
+        let env = self.exported(outside.exports);
+        self.leave(outside.mark)?;
+        Ok(self.bind_env(env)?)
+    }
+
+    #[inline(never)]
+    fn type_dec(&mut self, place: Place, binds: &[TypBind]) -> Result<(), CoreFault> {
+        let env = types(self.alloc, &self.scopes, binds)?;
+        for (_, ty) in &env.types {
+            small(place, &ty.function)?;
+        }
+        Ok(self.bind_env(env)?)
+    }
+
+    #[inline(never)]
+    fn datatype_dec(
+        &mut self,
+        place: Place,
+        binds: &[DatBind],
+        withtype: &[TypBind],
+    ) -> Result<(), CoreFault> {
+        let env = datatypes(self.alloc, &self.scopes, &mut self.new, binds, withtype)?;
+        for (_, value) in &env.values {
+            small(place, &value.scheme)?;
+        }
+        Ok(self.bind_env(env)?)
+    }
+
+    #[inline(never)]
+    fn replication(&mut self, name: &Name, long: &LongIdent) -> Result<(), CoreFault> {
+        let ty = type_at(self.alloc, &self.scopes, long)?.share()?;
+        let mut env = Env::new(self.alloc);
+        put_constructors(&mut env.values, &ty.constructors)?;
+        env.types.insert(name.ident.clone()?, ty)?;
+        Ok(self.bind_env(env)?)
+    }
+
+    #[inline(never)]
+    fn exception_dec(&mut self, place: Place, binds: &[ExnBind]) -> Result<(), CoreFault> {
+        let mut made = Vec::new(self.alloc);
+        for bind in binds {
+            made.push(self.exception(bind)?)?;
+        }
+        for (_, value) in &made {
+            small(place, &value.scheme)?;
+        }
+        for (name, value) in made {
+            self.bind_value(&name, value)?;
+        }
+        Ok(())
+    }
+
+    fn exception(&mut self, bind: &ExnBind) -> Result<(Ident, Value), CoreFault> {
+        match bind {
+            ExnBind::New(ConBind { name, argument }) => {
+                let exn = initial(self.alloc, Initial::Exn)?;
+                let ty = match argument {
+                    None => exn,
+                    Some(ty) => arrow(self.alloc, self.ty(ty)?, exn)?,
+                };
+                let value = of_type(self.alloc, Status::Exception, ty)?;
+                Ok((name.ident.clone()?, value))
+            }
+            ExnBind::Copy(name, long) => {
+                let value = self.value(long)?;
+                if value.status != Status::Exception {
+                    return Err(plain_fault(Code::E5, long.place));
+                }
+                Ok((name.ident.clone()?, value))
+            }
+        }
+    }
+
+    #[inline(never)]
+    fn open_dec(&mut self, longs: &[LongIdent]) -> Result<(), CoreFault> {
+        let mut structures: Vec<Rc<Env>> = Vec::new(self.alloc);
+        for long in longs {
+            structures.push(structure_at(self.alloc, &self.scopes, long)?.clone()?)?;
+        }
+        for structure in structures {
+            self.open(structure)?;
+        }
+        Ok(())
+    }
+}
+
+/// That a scheme or the body of a type function isn't too large.
+pub fn small(place: Place, scheme: &Scheme) -> Result<(), CoreFault> {
+    if size_up_to(&scheme.body, GREATEST_SIZE) > GREATEST_SIZE {
+        return Err(plain_fault(Code::E7, place));
+    }
+    Ok(())
+}

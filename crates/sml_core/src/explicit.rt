@@ -1,0 +1,58 @@
+//! Explicit type variables in scope (the Definition, section 4.6).
+
+use indexmap::IndexMap;
+use sml_lex::fault::{Code, Memory, Place};
+use sml_objects::objects::MlType;
+use sml_tree::bare::Ident;
+use sml_types::fault::{CoreFault, plain_fault};
+use sml_types::rows::boxed;
+use sml_types::variables::TypeVariables;
+use std::alloc::Global;
+use std::rc::Rc;
+
+/// The explicit type variables in scope: the unknown that stands for each.
+#[derive(Drop)]
+pub(crate) struct Explicit {
+    unknowns: IndexMap<Ident, u32>,
+}
+
+impl Explicit {
+    pub(crate) fn new(alloc: Global) -> Explicit {
+        Explicit {
+            unknowns: IndexMap::new(alloc),
+        }
+    }
+
+    pub(crate) fn has(&self, name: &Ident) -> bool {
+        self.unknowns.contains_key(name)
+    }
+
+    pub(crate) fn add(&mut self, name: &Ident, unknown: u32) -> Result<(), Memory> {
+        self.unknowns.insert(name.clone()?, unknown)?;
+        Ok(())
+    }
+
+    /// How many are in scope.
+    pub(crate) fn count(&self) -> usize {
+        self.unknowns.len()
+    }
+
+    /// Leaves the scope of all but the first ones.
+    pub(crate) fn leave(&mut self, first: usize) {
+        self.unknowns.truncate(first);
+    }
+}
+
+impl TypeVariables for Explicit {
+    fn variable(
+        &mut self,
+        alloc: Global,
+        place: Place,
+        name: &Ident,
+    ) -> Result<Rc<MlType>, CoreFault> {
+        match self.unknowns.get(name) {
+            Some(unknown) => Ok(boxed(alloc, MlType::Free(*unknown))?),
+            None => Err(plain_fault(Code::E8, place)),
+        }
+    }
+}

@@ -1,0 +1,245 @@
+//! Expressions and matches (the Definition, section 4.10, rules 1 to 14).
+
+use crate::context::Context;
+use crate::matches::Kind;
+use crate::patterns::Variables;
+use crate::places::pattern_place;
+use crate::scopes::Mark;
+use sml_envs::objects::{Status, Value};
+use sml_graph::layer::Bound;
+use sml_lex::fault::{Memory, Place};
+use sml_objects::objects::{Initial, MlType, Scheme};
+use sml_tree::bare::{Ident, LongIdent};
+use sml_tree::expressions::{Exp, ExpField, Rule};
+use sml_tree::patterns::{Constant, ConstantKind};
+use sml_types::fault::CoreFault;
+use sml_types::rows::{Fields, arrow, initial, label_key, row_of, tuple_of};
+use std::alloc::Global;
+use std::collections::BTreeMap;
+use std::rc::Rc;
+
+/// The type of a special constant.
+pub(crate) fn constant(alloc: Global, constant: &Constant) -> Result<Rc<MlType>, Memory> {
+    match constant.kind {
+        ConstantKind::Integer => initial(alloc, Initial::Int),
+        ConstantKind::Word => initial(alloc, Initial::Word),
+        ConstantKind::Real => initial(alloc, Initial::Real),
+        ConstantKind::String => initial(alloc, Initial::String),
+        ConstantKind::Character => initial(alloc, Initial::Char),
+    }
+}
+
+/// A value of one type.
+pub(crate) fn of_type(alloc: Global, status: Status, ty: Rc<MlType>) -> Result<Value, Memory> {
+    let scheme = Scheme {
+        variables: Vec::new(alloc),
+        body: ty,
+    };
+    Ok(Value {
+        status,
+        scheme: Rc::new(alloc, scheme)?,
+    })
+}
+
+/// What was open when a `let` began.
+#[derive(Drop)]
+struct Outside {
+    mark: Mark,
+    names: u32,
+    exports: Option<sml_envs::objects::Env>,
+}
+
+impl Context<'_> {
+    /// The type of an expression.
+    #[cycle(core)]
+    pub(crate) fn expression(&mut self, exp: &Exp) -> Result<Rc<MlType>, CoreFault> {
+        match exp {
+            Exp::Constant(_, it) => Ok(constant(self.alloc, it)?),
+            Exp::Identifier(place, long) => self.identifier(*place, long),
+            Exp::Row(_, fields) => {
+                let fields = self.fields(fields)?;
+                Ok(row_of(self.alloc, fields)?)
+            }
+            Exp::Tuple(_, exps) => {
+                let types = self.tuple(exps)?;
+                Ok(tuple_of(self.alloc, types)?)
+            }
+            Exp::Let(place, decs, exp) => {
+                let outside = self.outside();
+                self.decs(decs)?;
+                let ty = self.expression(exp)?;
+                self.left(*place, outside, ty)
+            }
+            Exp::Bracket(_, exp) => self.expression(exp),
+            Exp::Application(place, function, argument) => {
+                let function = self.expression(function)?;
+                let argument = self.expression(argument)?;
+                self.applied(*place, &function, argument)
+            }
+            Exp::Typed(place, exp, ty) => {
+                let found = self.expression(exp)?;
+                self.constrained(*place, found, ty)
+            }
+            Exp::Handle(place, exp, rules) => {
+                let ty = self.expression(exp)?;
+                let handler = self.rules(rules)?;
+                self.handled(*place, ty, &handler, rules)
+            }
+            Exp::Raise(place, exp) => {
+                let ty = self.expression(exp)?;
+                self.raised(*place, &ty)
+            }
+            Exp::Function(place, rules) => {
+                let ty = self.rules(rules)?;
+                self.judge_rules(Kind::Fn, *place, rules)?;
+                Ok(ty)
+            }
+        }
+    }
+
+    #[inline(never)]
+    fn identifier(&mut self, place: Place, long: &LongIdent) -> Result<Rc<MlType>, CoreFault> {
+        let value = self.value(long)?;
+        self.instance(place, &value)
+    }
+
+    #[cycle(core)]
+    #[inline(never)]
+    fn fields(&mut self, fields: &[ExpField]) -> Result<Fields, CoreFault> {
+        let mut row = BTreeMap::new(self.alloc);
+        for field in fields {
+            let ty = self.expression(&field.exp)?;
+            row.insert(label_key(&field.label.ident)?, ty)?;
+        }
+        Ok(row)
+    }
+
+    #[cycle(core)]
+    #[inline(never)]
+    fn tuple(&mut self, exps: &[Exp]) -> Result<Vec<Rc<MlType>>, CoreFault> {
+        let mut types = Vec::new(self.alloc);
+        for exp in exps {
+            types.push(self.expression(exp)?)?;
+        }
+        Ok(types)
+    }
+
+    fn outside(&mut self) -> Outside {
+        Outside {
+            mark: self.mark(),
+            names: self.new.next,
+            exports: self.export(false),
+        }
+    }
+
+    /// Leaves a `let`, whose type mentions no name that was made in it.
+    #[inline(never)]
+    fn left(
+        &mut self,
+        place: Place,
+        outside: Outside,
+        ty: Rc<MlType>,
+    ) -> Result<Rc<MlType>, CoreFault> {
+        self.leave(outside.mark)?;
+        self.exported(outside.exports);
+        self.within(place, &ty, Bound::Locality, outside.names)?;
+        Ok(ty)
+    }
+
+    #[inline(never)]
+    fn applied(
+        &mut self,
+        place: Place,
+        function: &MlType,
+        argument: Rc<MlType>,
+    ) -> Result<Rc<MlType>, CoreFault> {
+        if let MlType::Arrow(from, to) = function {
+            self.equal(place, from, &argument)?;
+            return Ok(to.clone()?);
+        }
+        let result = self.unknown()?;
+        let wanted = arrow(self.alloc, argument, result.clone()?)?;
+        self.equal(place, function, &wanted)?;
+        Ok(result)
+    }
+
+    #[inline(never)]
+    fn handled(
+        &mut self,
+        place: Place,
+        ty: Rc<MlType>,
+        handler: &MlType,
+        rules: &[Rule],
+    ) -> Result<Rc<MlType>, CoreFault> {
+        let exn = initial(self.alloc, Initial::Exn)?;
+        let wanted = arrow(self.alloc, exn, ty.clone()?)?;
+        self.equal(place, handler, &wanted)?;
+        self.judge_rules(Kind::Handle, place, rules)?;
+        Ok(ty)
+    }
+
+    #[inline(never)]
+    fn raised(&mut self, place: Place, ty: &MlType) -> Result<Rc<MlType>, CoreFault> {
+        let exn = initial(self.alloc, Initial::Exn)?;
+        self.equal(place, ty, &exn)?;
+        self.unknown()
+    }
+
+    /// The type of a match.
+    #[cycle(core)]
+    #[inline(never)]
+    fn rules(&mut self, rules: &[Rule]) -> Result<Rc<MlType>, CoreFault> {
+        let mut first: Option<Rc<MlType>> = None;
+        for rule in rules {
+            let ty = self.rule(rule)?;
+            first = Some(self.like_first(rule.place, first, ty)?);
+        }
+        match first {
+            Some(ty) => Ok(ty),
+            None => self.unknown(),
+        }
+    }
+
+    fn like_first(
+        &mut self,
+        place: Place,
+        first: Option<Rc<MlType>>,
+        ty: Rc<MlType>,
+    ) -> Result<Rc<MlType>, CoreFault> {
+        match first {
+            None => Ok(ty),
+            Some(first) => {
+                self.equal(place, &first, &ty)?;
+                Ok(first)
+            }
+        }
+    }
+
+    #[cycle(core)]
+    #[inline(never)]
+    fn rule(&mut self, rule: &Rule) -> Result<Rc<MlType>, CoreFault> {
+        let mark = self.mark();
+        let from = self.rule_pattern(rule)?;
+        let to = self.expression(&rule.exp)?;
+        self.leave(mark)?;
+        Ok(arrow(self.alloc, from, to)?)
+    }
+
+    /// The type of a rule's pattern, whose variables are bound.
+    #[inline(never)]
+    fn rule_pattern(&mut self, rule: &Rule) -> Result<Rc<MlType>, CoreFault> {
+        let mut variables = Variables::new(self.alloc);
+        let ty = self.pattern(&mut variables, &rule.pat)?;
+        for (name, ty) in &variables.types {
+            self.within(pattern_place(&rule.pat), ty, Bound::Newness, self.new.next)?;
+            self.bind_variable(name, ty)?;
+        }
+        Ok(ty)
+    }
+
+    /// Binds a variable of one type inside an expression.
+    pub(crate) fn bind_variable(&mut self, name: &Ident, ty: &Rc<MlType>) -> Result<(), Memory> {
+        let value = of_type(self.alloc, Status::Variable, ty.clone()?)?;
+        self.scopes.bind_value(name, value)
+    }
+}

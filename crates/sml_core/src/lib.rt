@@ -1,0 +1,14 @@
+// Elaboration of the core (the Definition, sections 4.6 to 4.10).
+#![tactic(auto)]
+
+pub mod context;
+pub mod declarations;
+mod expansive;
+mod explicit;
+mod expressions;
+mod matches;
+mod patterns;
+mod places;
+pub mod scopes;
+mod unguarded;
+mod values;

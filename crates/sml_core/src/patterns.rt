@@ -1,0 +1,247 @@
+//! Patterns (the Definition, section 4.10, rules 32 to 43).
+
+use crate::context::{Context, refused};
+use crate::expressions::constant;
+use indexmap::IndexMap;
+use sml_asks::asks::ask_row;
+use sml_envs::objects::{Status, Value};
+use sml_lex::fault::{Code, Place};
+use sml_objects::objects::MlType;
+use sml_tree::bare::{Ident, LongIdent};
+use sml_tree::names::Name;
+use sml_tree::patterns::{Pat, PatField};
+use sml_tree::types::Ty;
+use sml_types::fault::{CoreFault, plain_fault};
+use sml_types::rows::{Fields, label_key, row_of, tuple_of};
+use sml_types::scope::unbound;
+use std::alloc::Global;
+use std::collections::BTreeMap;
+use std::rc::Rc;
+
+/// The variables that patterns bind, with their types. In a pattern behind `rec` every short identifier that stands alone
+/// is a variable.
+#[derive(Drop)]
+pub(crate) struct Variables {
+    pub types: IndexMap<Ident, Rc<MlType>>,
+    pub is_recursive: bool,
+}
+
+impl Variables {
+    pub(crate) fn new(alloc: Global) -> Variables {
+        Variables {
+            types: IndexMap::new(alloc),
+            is_recursive: false,
+        }
+    }
+}
+
+fn is_constructor(status: Status) -> bool {
+    match status {
+        Status::Variable | Status::Overloaded(_) => false,
+        Status::Constructor {
+            number: _,
+            count: _,
+        }
+        | Status::Exception => true,
+    }
+}
+
+impl Context<'_> {
+    /// The type of a pattern, whose variables are added.
+    #[cycle(pattern)]
+    pub(crate) fn pattern(
+        &mut self,
+        variables: &mut Variables,
+        pat: &Pat,
+    ) -> Result<Rc<MlType>, CoreFault> {
+        match pat {
+            Pat::Wildcard(_) => self.unknown(),
+            Pat::Constant(_, it) => Ok(constant(self.alloc, it)?),
+            Pat::Identifier(place, long) => self.named_pattern(variables, *place, long),
+            Pat::Row(place, fields, flexible) => {
+                let fields = self.pattern_fields(variables, fields)?;
+                self.pattern_row(*place, fields, *flexible)
+            }
+            Pat::Tuple(_, pats) => {
+                let types = self.pattern_tuple(variables, pats)?;
+                Ok(tuple_of(self.alloc, types)?)
+            }
+            Pat::Bracket(_, pat) => self.pattern(variables, pat),
+            Pat::Applied(place, long, pat) => {
+                let constructor = self.applied_constructor(*place, long)?;
+                let argument = self.pattern(variables, pat)?;
+                self.applied_pattern(*place, &constructor, &argument)
+            }
+            Pat::Typed(place, pat, ty) => {
+                let found = self.pattern(variables, pat)?;
+                self.constrained(*place, found, ty)
+            }
+            Pat::As(place, name, ty, pat) => {
+                let whole = self.layered(variables, name, ty)?;
+                let part = self.pattern(variables, pat)?;
+                self.equal(*place, &whole, &part)?;
+                Ok(whole)
+            }
+        }
+    }
+
+    #[cycle(pattern)]
+    #[inline(never)]
+    fn pattern_fields(
+        &mut self,
+        variables: &mut Variables,
+        fields: &[PatField],
+    ) -> Result<Fields, CoreFault> {
+        let mut row = BTreeMap::new(self.alloc);
+        for field in fields {
+            let ty = self.pattern(variables, &field.pat)?;
+            row.insert(label_key(&field.label.ident)?, ty)?;
+        }
+        Ok(row)
+    }
+
+    #[cycle(pattern)]
+    #[inline(never)]
+    fn pattern_tuple(
+        &mut self,
+        variables: &mut Variables,
+        pats: &[Pat],
+    ) -> Result<Vec<Rc<MlType>>, CoreFault> {
+        let mut types = Vec::new(self.alloc);
+        for pat in pats {
+            types.push(self.pattern(variables, pat)?)?;
+        }
+        Ok(types)
+    }
+
+    /// A variable, or a constructor or an exception without an argument.
+    #[inline(never)]
+    fn named_pattern(
+        &mut self,
+        variables: &mut Variables,
+        place: Place,
+        long: &LongIdent,
+    ) -> Result<Rc<MlType>, CoreFault> {
+        if long.path.is_empty() {
+            if variables.is_recursive || !is_constructor(self.status(&long.last)) {
+                return self.variable(variables, long.place, &long.last);
+            }
+        }
+        let value = self.value(long)?;
+        if !is_constructor(value.status) {
+            return Err(plain_fault(Code::E5, long.place));
+        }
+        if let MlType::Arrow(_, _) = &*value.scheme.body {
+            return Err(plain_fault(Code::E5, long.place));
+        }
+        self.instance(place, &value)
+    }
+
+    /// A new unknown for a variable.
+    fn variable(
+        &mut self,
+        variables: &mut Variables,
+        place: Place,
+        name: &Ident,
+    ) -> Result<Rc<MlType>, CoreFault> {
+        if variables.types.contains_key(name) {
+            return Err(plain_fault(Code::E10, place));
+        }
+        let ty = self.unknown()?;
+        variables.types.insert(name.clone()?, ty.clone()?)?;
+        Ok(ty)
+    }
+
+    /// A row of these fields, or one that has them and perhaps others.
+    #[inline(never)]
+    fn pattern_row(
+        &mut self,
+        place: Place,
+        fields: Fields,
+        flexible: bool,
+    ) -> Result<Rc<MlType>, CoreFault> {
+        if !flexible {
+            return Ok(row_of(self.alloc, fields)?);
+        }
+        let mut demanded = Vec::new(self.alloc);
+        for ((_, label), ty) in fields {
+            demanded.push((label, ty))?;
+        }
+        let row = self.unknown()?;
+        if let Err(refusal) = ask_row(&mut self.solver, &row, &demanded) {
+            return Err(refused(refusal, place));
+        }
+        self.rows.push((place, row.clone()?))?;
+        Ok(row)
+    }
+
+    /// The instance of a constructor or an exception that has an argument.
+    #[inline(never)]
+    fn applied_constructor(
+        &mut self,
+        place: Place,
+        long: &LongIdent,
+    ) -> Result<Rc<MlType>, CoreFault> {
+        let Some(value) = self.find(long)? else {
+            if long.path.is_empty() {
+                return Err(plain_fault(Code::E5, long.place));
+            }
+            return Err(unbound(self.alloc, Code::E1, long)?);
+        };
+        if !is_constructor(value.status) {
+            return Err(plain_fault(Code::E5, long.place));
+        }
+        match &*value.scheme.body {
+            MlType::Arrow(_, _) => self.instance(place, &value),
+            _ => Err(plain_fault(Code::E5, long.place)),
+        }
+    }
+
+    #[inline(never)]
+    fn applied_pattern(
+        &mut self,
+        place: Place,
+        constructor: &MlType,
+        argument: &MlType,
+    ) -> Result<Rc<MlType>, CoreFault> {
+        match constructor {
+            MlType::Arrow(from, to) => {
+                self.equal(place, from, argument)?;
+                Ok(to.clone()?)
+            }
+            _ => self.unknown(),
+        }
+    }
+
+    /// The variable before `as`, of the type that stands there if one does.
+    #[inline(never)]
+    fn layered(
+        &mut self,
+        variables: &mut Variables,
+        name: &Name,
+        ty: &Option<Box<Ty>>,
+    ) -> Result<Rc<MlType>, CoreFault> {
+        if !variables.is_recursive && is_constructor(self.status(&name.ident)) {
+            return Err(plain_fault(Code::E5, name.place));
+        }
+        let whole = self.variable(variables, name.place, &name.ident)?;
+        if let Some(ty) = ty {
+            let ty = self.ty(ty)?;
+            self.equal(name.place, &whole, &ty)?;
+        }
+        Ok(whole)
+    }
+
+    /// The type of a phrase that is constrained to a type.
+    #[inline(never)]
+    pub(crate) fn constrained(
+        &mut self,
+        place: Place,
+        found: Rc<MlType>,
+        ty: &Ty,
+    ) -> Result<Rc<MlType>, CoreFault> {
+        let wanted = self.ty(ty)?;
+        self.equal(place, &found, &wanted)?;
+        Ok(wanted)
+    }
+}

@@ -1,0 +1,337 @@
+//! Value declarations (the Definition, sections 4.6 to 4.8, rules 15, 25 and 26).
+
+use crate::context::{Context, GREATEST_SIZE, refused};
+use crate::expansive::is_function;
+use crate::patterns::Variables;
+use crate::places::{expression_place, pattern_place};
+use crate::unguarded::in_binds;
+use indexmap::IndexSet;
+use sml_asks::asks::{ask_fixed, ask_general, ask_labels, ask_reading, ask_scheme, ask_settled, ask_variable};
+use sml_envs::objects::{Status, Value};
+use sml_graph::layer::Bound;
+use sml_graph::variable::Variable;
+use sml_lex::fault::{Code, Place};
+use sml_objects::objects::{MlType, Scheme};
+use sml_tree::bare::Ident;
+use sml_tree::expressions::{Exp, ValBind};
+use sml_tree::names::Name;
+use sml_types::fault::{CoreFault, plain_fault};
+use sml_types::variables::{collect_free, is_equality_variable};
+use std::rc::Rc;
+
+/// A value declaration while it is gone through: how many unknowns, flexible rows and explicit type variables there were
+/// before it, the unknowns of those that are scoped here, and what it binds, each variable with a flag where its right
+/// side is expansive.
+#[derive(Drop)]
+pub(crate) struct Declaration {
+    unknowns: usize,
+    rows: usize,
+    explicit: usize,
+    scoped: Vec<u32>,
+    variables: Variables,
+    expansive: Vec<bool>,
+}
+
+impl Context<'_> {
+    /// Begins a value declaration: its explicit type variables are scoped, those of its list and those that occur in it
+    /// unguarded and are not in scope.
+    #[inline(never)]
+    pub(crate) fn begin_values(
+        &mut self,
+        names: &[Name],
+        binds: &[ValBind],
+        recursive: &[ValBind],
+    ) -> Result<Declaration, CoreFault> {
+        let mut declaration = Declaration {
+            unknowns: self.solver.unknowns(),
+            rows: self.rows.len(),
+            explicit: self.explicit.count(),
+            scoped: Vec::new(self.alloc),
+            variables: Variables::new(self.alloc),
+            expansive: Vec::new(self.alloc),
+        };
+        let mut found = IndexSet::new(self.alloc);
+        for name in names {
+            found.insert(name.ident.clone()?)?;
+        }
+        in_binds(binds, &mut found)?;
+        in_binds(recursive, &mut found)?;
+        for name in &found {
+            if !self.explicit.has(name) {
+                let unknown = self.scope(name)?;
+                declaration.scoped.push(unknown)?;
+            }
+        }
+        Ok(declaration)
+    }
+
+    /// A new unknown for an explicit type variable, which is in scope from here on.
+    fn scope(&mut self, name: &Ident) -> Result<u32, CoreFault> {
+        let Ok(unknown) = self.solver.fresh() else {
+            return Err(CoreFault::Memory);
+        };
+        let variable = Variable {
+            number: self.variables,
+            equality: is_equality_variable(name),
+        };
+        match self.variables.checked_add(1) {
+            Some(count) => self.variables = count,
+            None => return Err(CoreFault::Memory),
+        }
+        if let Err(_) = ask_variable(&mut self.solver, &MlType::Free(unknown), variable) {
+            return Err(CoreFault::Memory);
+        }
+        self.explicit.add(name, unknown)?;
+        Ok(unknown)
+    }
+
+    /// The bindings before `rec`.
+    #[cycle(core)]
+    #[inline(never)]
+    pub(crate) fn binds(
+        &mut self,
+        declaration: &mut Declaration,
+        binds: &[ValBind],
+    ) -> Result<(), CoreFault> {
+        for bind in binds {
+            let pattern = self.pattern(&mut declaration.variables, &bind.pat)?;
+            let ty = self.expression(&bind.exp)?;
+            self.bound(declaration, bind, &pattern, &ty)?;
+        }
+        Ok(())
+    }
+
+    #[inline(never)]
+    fn bound(
+        &mut self,
+        declaration: &mut Declaration,
+        bind: &ValBind,
+        pattern: &MlType,
+        ty: &MlType,
+    ) -> Result<(), CoreFault> {
+        self.equal(pattern_place(&bind.pat), pattern, ty)?;
+        let is_expansive = self.is_expansive(&bind.exp)?;
+        let count = declaration.variables.types.len();
+        if declaration.expansive.len() < count {
+            declaration.expansive.resize(count, is_expansive)?;
+        }
+        self.judge_binding(&bind.pat)
+    }
+
+    /// The bindings behind `rec`.
+    #[cycle(core)]
+    #[inline(never)]
+    pub(crate) fn recursive_binds(
+        &mut self,
+        declaration: &mut Declaration,
+        binds: &[ValBind],
+    ) -> Result<(), CoreFault> {
+        let mark = self.mark();
+        let mut patterns = self.recursive_patterns(declaration, binds)?.into_iter();
+        for bind in binds {
+            if let Some(pattern) = patterns.next() {
+                check_function(&bind.exp)?;
+                let ty = self.expression(&bind.exp)?;
+                self.equal(pattern_place(&bind.pat), &pattern, &ty)?;
+            }
+        }
+        self.leave(mark)?;
+        Ok(())
+    }
+
+    /// The types of the patterns behind `rec`, whose variables are bound in the right sides.
+    #[inline(never)]
+    fn recursive_patterns(
+        &mut self,
+        declaration: &mut Declaration,
+        binds: &[ValBind],
+    ) -> Result<Vec<Rc<MlType>>, CoreFault> {
+        declaration.variables.is_recursive = true;
+        let first = declaration.variables.types.len();
+        let mut patterns = Vec::new(self.alloc);
+        for bind in binds {
+            let before = declaration.variables.types.len();
+            patterns.push(self.pattern(&mut declaration.variables, &bind.pat)?)?;
+            for (_, ty) in declaration.variables.types.iter().skip(before) {
+                self.within(pattern_place(&bind.pat), ty, Bound::Newness, self.new.next)?;
+            }
+        }
+        for (name, ty) in declaration.variables.types.iter().skip(first) {
+            self.bind_variable(name, ty)?;
+        }
+        let count = declaration.variables.types.len();
+        if declaration.expansive.len() < count {
+            declaration.expansive.resize(count, false)?;
+        }
+        Ok(patterns)
+    }
+
+    /// Ends a value declaration: what is overloaded in it becomes `int`, rows have their labels, explicit type variables
+    /// are general, and the types of its variables are closed and bound.
+    #[inline(never)]
+    pub(crate) fn end_values(
+        &mut self,
+        place: Place,
+        declaration: Declaration,
+    ) -> Result<(), CoreFault> {
+        if let Err(refusal) = ask_settled(&mut self.solver, declaration.unknowns) {
+            return Err(refused(refusal, place));
+        }
+        self.end_rows(declaration.rows)?;
+        if !declaration.scoped.is_empty() {
+            let others = self.left_open(place, &declaration)?;
+            let asked = ask_general(
+                &mut self.solver,
+                &declaration.scoped,
+                declaration.unknowns,
+                &others,
+            );
+            if let Err(refusal) = asked {
+                return Err(refused(refusal, place));
+            }
+        }
+        self.explicit.leave(declaration.explicit);
+        self.close(place, declaration)
+    }
+
+    /// Demands that the flexible rows behind the first ones have their labels.
+    fn end_rows(&mut self, first: usize) -> Result<(), CoreFault> {
+        for index in first..self.rows.len() {
+            let (place, row) = &self.rows[index];
+            if let Err(refusal) = ask_labels(&mut self.solver, row) {
+                return Err(refused(refusal, *place));
+            }
+        }
+        self.rows.truncate(first);
+        Ok(())
+    }
+
+    /// The unknowns in the types of the variables that are not closed.
+    fn left_open(
+        &mut self,
+        place: Place,
+        declaration: &Declaration,
+    ) -> Result<Vec<u32>, CoreFault> {
+        let mut unknowns = IndexSet::new(self.alloc);
+        for (index, (_, ty)) in declaration.variables.types.iter().enumerate() {
+            if is_set(&declaration.expansive, index) {
+                let ty = self.reading(place, ty)?;
+                collect_free(&ty, &mut unknowns)?;
+            }
+        }
+        let mut others = Vec::new(self.alloc);
+        for unknown in &unknowns {
+            others.push(*unknown)?;
+        }
+        Ok(others)
+    }
+
+    /// The type that a type stands for, or E7.
+    fn reading(&mut self, place: Place, ty: &MlType) -> Result<Rc<MlType>, CoreFault> {
+        match ask_reading(&mut self.solver, ty, GREATEST_SIZE) {
+            Ok(Some(ty)) => Ok(ty),
+            Ok(None) => Err(plain_fault(Code::E7, place)),
+            Err(refusal) => Err(refused(refusal, place)),
+        }
+    }
+
+    /// Closes and binds the variables of a value declaration.
+    fn close(&mut self, place: Place, declaration: Declaration) -> Result<(), CoreFault> {
+        let mut fixed: Option<Vec<bool>> = None;
+        let mut schemes = Vec::new(self.alloc);
+        for (index, (_, ty)) in declaration.variables.types.iter().enumerate() {
+            let reading = self.reading(place, ty)?;
+            let scheme = if is_ground(&reading) {
+                Scheme {
+                    variables: Vec::new(self.alloc),
+                    body: reading,
+                }
+            } else {
+                let flags = match fixed {
+                    Some(flags) => flags,
+                    None => self.fixed(place, declaration.unknowns)?,
+                };
+                let is_expansive = is_set(&declaration.expansive, index);
+                let scheme = self.closed(place, &reading, &flags, is_expansive)?;
+                fixed = Some(flags);
+                scheme
+            };
+            schemes.push(Rc::new(self.alloc, scheme)?)?;
+        }
+        let mut schemes = schemes.into_iter();
+        for (name, _) in &declaration.variables.types {
+            if let Some(scheme) = schemes.next() {
+                let status = Status::Variable;
+                self.bind_value(name, Value { status, scheme })?;
+            }
+        }
+        Ok(())
+    }
+
+    /// Which unknowns the context of a declaration fixes, which begins behind the first ones.
+    fn fixed(&mut self, place: Place, first: usize) -> Result<Vec<bool>, CoreFault> {
+        match ask_fixed(&mut self.solver, first, &[]) {
+            Ok(flags) => Ok(flags),
+            Err(refusal) => Err(refused(refusal, place)),
+        }
+    }
+
+    /// The scheme of a type. What stays unknown in it mentions no name that is made later.
+    fn closed(
+        &mut self,
+        place: Place,
+        ty: &MlType,
+        fixed: &[bool],
+        is_expansive: bool,
+    ) -> Result<Scheme, CoreFault> {
+        let scheme = match ask_scheme(&mut self.solver, ty, fixed, is_expansive, GREATEST_SIZE) {
+            Ok(Some(scheme)) => scheme,
+            Ok(None) => return Err(plain_fault(Code::E7, place)),
+            Err(refusal) => return Err(refused(refusal, place)),
+        };
+        if !is_ground(&scheme.body) {
+            self.is_open = true;
+            self.within(place, ty, Bound::Newness, self.new.next)?;
+        }
+        Ok(scheme)
+    }
+}
+
+/// The flag at an index; none is not set.
+fn is_set(flags: &[bool], index: usize) -> bool {
+    match flags.get(index) {
+        Some(flag) => *flag,
+        None => false,
+    }
+}
+
+/// Whether no unknown stands in a type.
+#[cycle(ground)]
+pub(crate) fn is_ground(ty: &MlType) -> bool {
+    match ty {
+        MlType::Bound(_) => true,
+        MlType::Free(_) => false,
+        MlType::Row(_, parts) => are_ground(parts),
+        MlType::Arrow(from, to) => is_ground(from) && is_ground(to),
+        MlType::Name(_, parts) => are_ground(parts),
+    }
+}
+
+#[cycle(ground)]
+fn are_ground(parts: &[Rc<MlType>]) -> bool {
+    for part in parts {
+        if !is_ground(part) {
+            return false;
+        }
+    }
+    true
+}
+
+/// That the right side of `rec` is a function.
+fn check_function(exp: &Exp) -> Result<(), CoreFault> {
+    if is_function(exp) {
+        Ok(())
+    } else {
+        Err(plain_fault(Code::E9, expression_place(exp)))
+    }
+}

@@ -1,0 +1,187 @@
+//! What may be asked of types, whatever variables they have: a free variable that is no unknown yet becomes one first.
+//! Where that can't be, as for a type with a bound variable, it counts as want of memory.
+
+ghost use Rattle.std.specs.Prelude.{◌≡◌, ◌≤◌, length, OnOk, IfOk};
+ghost use Rattle.std.specs.List.{AllByRecursion};
+ghost use Rattle.sml_objects.specs.Views.{type_of, scheme_of};
+ghost use Rattle.sml_graph.specs.Asked.{count, IsOf, IsSchemeOf};
+
+use crate::known::{
+    are_unknowns, fields_are_over, is_body_over, is_over, make_all_known, make_known,
+};
+use sml_lex::fault::Memory;
+use sml_objects::objects::{MlType, Scheme};
+use sml_solve::class::Class;
+use sml_solve::layer::{Bound, Refusal};
+use sml_solve::solver::Solver;
+use sml_solve::variable::Variable;
+use sml_tree::bare::Ident;
+use std::alloc::Global;
+use std::rc::Rc;
+
+/// Makes the variables of a type known.
+fn know(solver: &mut Solver, ty: &MlType) -> Result<(), Refusal>
+    ensures { OnOk result (IsOf solver.new (type_of ty.now)) }
+{
+    if is_over(ty, solver.unknowns()) {
+        return Ok(());
+    }
+    make_all_known(solver, ty)?;
+    if is_over(ty, solver.unknowns()) {
+        Ok(())
+    } else {
+        Err(Refusal::Memory)
+    }
+}
+
+/// Makes numbers those of unknowns.
+fn know_numbers(solver: &mut Solver, numbers: &[u32]) -> Result<(), Refusal> {
+    for number in numbers {
+        make_known(solver, *number)?;
+    }
+    Ok(())
+}
+
+/// Demands that two types are equal.
+pub fn ask_equal(solver: &mut Solver, left: &MlType, right: &MlType) -> Result<(), Refusal> {
+    know(solver, left)?;
+    know(solver, right)?;
+    if !is_over(left, solver.unknowns()) {
+        return Err(Refusal::Memory);
+    }
+    solver.require_equal(left, right)
+}
+
+/// Demands that a type is a row that has some fields, and perhaps others.
+pub fn ask_row(
+    solver: &mut Solver,
+    ty: &MlType,
+    fields: &[(Ident, Rc<MlType>)],
+) -> Result<(), Refusal> {
+    for (_, field) in fields {
+        make_all_known(solver, field)?;
+    }
+    know(solver, ty)?;
+    if !fields_are_over(fields, solver.unknowns()) {
+        return Err(Refusal::Memory);
+    }
+    solver.require_row(ty, fields)
+}
+
+/// Demands that a type is one of the names of a class.
+pub fn ask_class(solver: &mut Solver, ty: &MlType, class: Class) -> Result<(), Refusal> {
+    know(solver, ty)?;
+    solver.require_class(ty, class)
+}
+
+/// Demands that a type admits equality.
+pub fn ask_equality(solver: &mut Solver, ty: &MlType) -> Result<(), Refusal> {
+    know(solver, ty)?;
+    solver.require_equality(ty)
+}
+
+/// Demands that a type mentions no name that the unit made with the number given or a higher one.
+pub fn ask_within(
+    solver: &mut Solver,
+    ty: &MlType,
+    bound: Bound,
+    most: u32,
+) -> Result<(), Refusal> {
+    know(solver, ty)?;
+    solver.require_within(ty, bound, most)
+}
+
+/// Demands that a type is an explicit type variable.
+pub fn ask_variable(solver: &mut Solver, ty: &MlType, variable: Variable) -> Result<(), Refusal> {
+    know(solver, ty)?;
+    solver.require_variable(ty, variable)
+}
+
+/// Demands that a type is a row with one set of labels.
+pub fn ask_labels(solver: &mut Solver, ty: &MlType) -> Result<(), Refusal> {
+    know(solver, ty)?;
+    solver.require_labels(ty)
+}
+
+/// The body of a scheme with new unknowns for its variables, which follow those before, in the order of the variables.
+pub fn ask_instance(solver: &mut Solver, scheme: &Scheme) -> Result<Rc<MlType>, Refusal> {
+    if !is_body_over(&scheme.body, scheme.variables.len(), solver.unknowns()) {
+        make_all_known(solver, &scheme.body)?;
+    }
+    if !is_body_over(&scheme.body, scheme.variables.len(), solver.unknowns()) {
+        return Err(Refusal::Memory);
+    }
+    solver.instance(scheme)
+}
+
+/// Demands that explicit type variables, for which some unknowns stand, are free neither in the types of the first
+/// unknowns nor in those of others.
+pub fn ask_general(
+    solver: &mut Solver,
+    variables: &[u32],
+    first: usize,
+    others: &[u32],
+) -> Result<(), Refusal> {
+    know_numbers(solver, variables)?;
+    know_numbers(solver, others)?;
+    let count = solver.unknowns();
+    if !are_unknowns(variables, count) || !are_unknowns(others, count) {
+        return Err(Refusal::Memory);
+    }
+    solver.require_general(variables, first.min(count), others)
+}
+
+/// A flag for each unknown that the types of the first unknowns and of others fix.
+pub fn ask_fixed(
+    solver: &mut Solver,
+    first: usize,
+    others: &[u32],
+) -> Result<Vec<bool>, Refusal> {
+    know_numbers(solver, others)?;
+    let count = solver.unknowns();
+    if !are_unknowns(others, count) {
+        return Err(Refusal::Memory);
+    }
+    solver.fixed_by(first.min(count), others)
+}
+
+/// The type that a type stands for, over the unknowns that are left, or `None` where it has more nodes than the limit.
+pub fn ask_reading(
+    solver: &mut Solver,
+    ty: &MlType,
+    limit: u32,
+) -> Result<Option<Rc<MlType>>, Refusal> {
+    know(solver, ty)?;
+    solver.reading(ty, limit.min(u32::MAX - 1))
+}
+
+/// The scheme of a type whose variables may be bound unless the phrase is expansive, or `None` where it has more nodes
+/// than the limit. The unknowns with a flag are fixed, and stay; one behind the flags has none.
+pub fn ask_scheme(
+    alloc: Global,
+    solver: &mut Solver,
+    ty: &MlType,
+    fixed: &[bool],
+    expansive: bool,
+    limit: u32,
+) -> Result<Option<Scheme>, Refusal> {
+    know(solver, ty)?;
+    let count = solver.unknowns();
+    let limit = limit.min(u32::MAX - 1);
+    if fixed.len() == count {
+        return solver.generalise(ty, fixed, expansive, limit);
+    }
+    match padded(alloc, fixed, count) {
+        Ok(flags) => solver.generalise(ty, &flags, expansive, limit),
+        Err(memory) => Err(Refusal::from(memory)),
+    }
+}
+
+/// So many flags: the first of these, and no further ones.
+fn padded(alloc: Global, flags: &[bool], count: usize) -> Result<Vec<bool>, Memory>
+    ensures { IfOk result (λ all. length all.items ≡ count) }
+{
+    let mut all = Vec::from_slice(alloc, flags)?;
+    all.resize(count, false)?;
+    Ok(all)
+}

@@ -153,6 +153,18 @@ impl<'a> Context<'a> {
         self.scopes.leave(mark)
     }
 
+    /// Forgets the unknowns of the declarations before, unless one may still stand in the scopes.
+    pub fn refresh(&mut self) {
+        if !self.is_open {
+            self.solver = Solver::new(self.alloc, self.new.unit);
+        }
+    }
+
+    /// Whether an unknown may still stand in what was bound.
+    pub fn is_open(&self) -> bool {
+        self.is_open
+    }
+
     /// The value that a long identifier means, or E3, or none.
     pub(crate) fn find(&self, long: &LongIdent) -> Result<Option<Value>, CoreFault> {
         let found = match path_of(self.alloc, &self.scopes, long)? {
@@ -169,7 +181,7 @@ impl<'a> Context<'a> {
     pub(crate) fn value(&self, long: &LongIdent) -> Result<Value, CoreFault> {
         match self.find(long)? {
             Some(value) => Ok(value),
-            None => Err(unbound(self.alloc, Code::E1, long)?.into()),
+            None => Err(unbound(self.alloc, Code::E1, long)?),
         }
     }
 

@@ -19,7 +19,7 @@ use std::rc::Rc;
 
 /// What was open when the first part of `local` began.
 #[derive(Drop)]
-struct Hidden {
+pub struct Hidden {
     mark: Mark,
     exports: Option<Env>,
 }
@@ -66,19 +66,22 @@ impl Context<'_> {
         }
     }
 
-    fn hide(&mut self) -> Hidden {
+    /// Begins the first part of `local`.
+    pub fn hide(&mut self) -> Hidden {
         Hidden {
             mark: self.mark(),
             exports: self.export(false),
         }
     }
 
-    fn show(&mut self) {
+    /// Begins the second part of `local`.
+    pub fn show(&mut self) {
         self.export(true);
     }
 
+    /// Leaves `local`, of which the second part stays bound.
     #[inline(never)]
-    fn shown(&mut self, outside: Hidden) -> Result<(), CoreFault> {
+    pub fn shown(&mut self, outside: Hidden) -> Result<(), CoreFault> {
         let env = self.exported(outside.exports);
         self.leave(outside.mark)?;
         Ok(self.bind_env(env)?)

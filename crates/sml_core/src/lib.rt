@@ -11,4 +11,4 @@ mod patterns;
 mod places;
 pub mod scopes;
 mod unguarded;
-mod values;
+pub mod values;

@@ -307,7 +307,7 @@ fn is_set(flags: &[bool], index: usize) -> bool {
 
 /// Whether no unknown stands in a type.
 #[cycle(ground)]
-pub(crate) fn is_ground(ty: &MlType) -> bool {
+pub fn is_ground(ty: &MlType) -> bool {
     match ty {
         MlType::Bound(_) => true,
         MlType::Free(_) => false,

@@ -1,0 +1,7 @@
+// Structures, functors and top-level declarations (the Definition, section 5.7).
+#![tactic(auto)]
+
+mod functors;
+pub mod modules;
+mod settled;
+mod structures;

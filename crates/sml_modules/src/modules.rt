@@ -1,0 +1,80 @@
+//! Top-level declarations (the Definition, section 5.7, rules 87 to 89, and appendix D).
+
+use crate::functors::functors;
+use crate::settled::{settled_env, settled_functors};
+use crate::structures::declare;
+use sml_core::context::Context;
+use sml_envs::canonical::canonical;
+use sml_envs::objects::{Basis, Sig};
+use sml_lex::fault::{Code, Place, Warning};
+use sml_sigs::sigs::signature;
+use sml_tree::structures::{SigBind, TopDec};
+use sml_types::fault::{CoreFault, plain_fault};
+use std::alloc::Global;
+use std::rc::Rc;
+
+/// A fault of the declaration, or want of memory.
+pub type TopFault = CoreFault;
+
+/// The greatest number of type names that a unit makes and exports.
+pub const MOST_NAMES: u32 = 1_048_576;
+
+/// The place of every top-level declaration.
+const START: Place = Place { line: 1, column: 1 };
+
+/// The declaration's own basis, with its warnings, or why it has none. The basis lent is that of its unit so far. The new
+/// names are numbered from its count on, in the order in which they appear in the lines of the reply.
+pub fn topdec(
+    alloc: Global,
+    basis: &Basis,
+    dec: &TopDec,
+) -> Result<(Basis, Vec<Warning>), TopFault> {
+    let mut context = Context::new(alloc, basis);
+    let own = own_basis(&mut context, basis, dec)?;
+    let own = canonical(alloc, own, basis.unit, basis.count)?;
+    if own.count > MOST_NAMES {
+        return Err(plain_fault(Code::Q3, START));
+    }
+    let Context { warnings, .. } = context;
+    Ok((own, warnings))
+}
+
+/// What the declaration binds, all types of which are known.
+fn own_basis(context: &mut Context, basis: &Basis, dec: &TopDec) -> Result<Basis, TopFault> {
+    let mut own = Basis::new(context.alloc, basis.unit);
+    own.count = basis.count;
+    match dec {
+        TopDec::Structure(dec) => {
+            context.export(true);
+            declare(context, dec)?;
+            let env = context.exported(None);
+            own.env = settled_env(context, env, START)?;
+        }
+        TopDec::Signature(_, binds) => signatures(context, basis, &mut own, binds)?,
+        TopDec::Functor(_, binds) => {
+            functors(context, &mut own, binds)?;
+            settled_functors(context, &mut own, START)?;
+        }
+    }
+    Ok(own)
+}
+
+fn signatures(
+    context: &mut Context,
+    basis: &Basis,
+    own: &mut Basis,
+    binds: &[SigBind],
+) -> Result<(), TopFault> {
+    for bind in binds {
+        let sig: Sig = signature(
+            context.alloc,
+            basis,
+            &mut context.new,
+            &context.scopes,
+            &bind.signature,
+        )?;
+        let sig = Rc::new(context.alloc, sig)?;
+        own.signatures.insert(bind.name.ident.clone()?, sig)?;
+    }
+    Ok(())
+}

@@ -1,0 +1,135 @@
+//! Exported types that were unknown where they were bound.
+
+use indexmap::{IndexMap, IndexSet};
+use sml_asks::asks::ask_reading;
+use sml_core::context::{Context, GREATEST_SIZE, refused};
+use sml_core::values::is_ground;
+use sml_envs::mapping::{Image, Mapping, mapped_env};
+use sml_envs::objects::{Basis, Env, FunSig, Sig};
+use sml_lex::fault::{Code, Memory, Place};
+use sml_objects::objects::{MlType, TyName};
+use sml_tree::bare::Ident;
+use sml_types::fault::{CoreFault, plain_fault};
+use sml_types::variables::collect_free;
+use std::alloc::Global;
+use std::rc::Rc;
+
+/// The types that unknowns turned out to be.
+#[derive(Drop)]
+struct Known {
+    types: IndexMap<u32, Rc<MlType>>,
+}
+
+impl Mapping for Known {
+    fn bound(&self, _alloc: Global, _variable: u32) -> Result<Option<Rc<MlType>>, Memory> {
+        Ok(None)
+    }
+
+    fn free(&self, _alloc: Global, variable: u32) -> Result<Option<Rc<MlType>>, Memory> {
+        match self.types.get(&variable) {
+            Some(ty) => Ok(Some(ty.clone()?)),
+            None => Ok(None),
+        }
+    }
+
+    fn name(&self, _name: TyName) -> Image<'_> {
+        Image::Same
+    }
+}
+
+/// The environment with the types that its unknowns turned out to be. One that is still unknown is Q2.
+pub(crate) fn settled_env(
+    context: &mut Context,
+    env: Env,
+    place: Place,
+) -> Result<Env, CoreFault> {
+    if !context.is_open() {
+        return Ok(env);
+    }
+    let env = Rc::new(context.alloc, env)?;
+    let settled = settled_shared(context, &env, place)?;
+    let mut own = Env::new(context.alloc);
+    own.add(&settled)?;
+    Ok(own)
+}
+
+/// The same of the results of functors.
+pub(crate) fn settled_functors(
+    context: &mut Context,
+    own: &mut Basis,
+    place: Place,
+) -> Result<(), CoreFault> {
+    if !context.is_open() {
+        return Ok(());
+    }
+    let mut settled: Vec<(Ident, Rc<FunSig>)> = Vec::new(context.alloc);
+    for (name, functor) in &own.functors {
+        let env = settled_shared(context, &functor.result.env, place)?;
+        let functor = FunSig {
+            argument: shared_sig(context.alloc, &functor.argument)?,
+            result: Sig {
+                names: Vec::from_slice(context.alloc, functor.result.names.as_slice())?,
+                env,
+            },
+        };
+        settled.push((name.clone()?, Rc::new(context.alloc, functor)?))?;
+    }
+    for (name, functor) in settled {
+        own.functors.insert(name, functor)?;
+    }
+    Ok(())
+}
+
+fn shared_sig(alloc: Global, sig: &Sig) -> Result<Sig, Memory> {
+    Ok(Sig {
+        names: Vec::from_slice(alloc, sig.names.as_slice())?,
+        env: sig.env.clone()?,
+    })
+}
+
+fn settled_shared(
+    context: &mut Context,
+    env: &Rc<Env>,
+    place: Place,
+) -> Result<Rc<Env>, CoreFault> {
+    let mut unknowns = IndexSet::new(context.alloc);
+    collect_env(env, &mut unknowns)?;
+    if unknowns.is_empty() {
+        return Ok(env.clone()?);
+    }
+    let mut known = Known {
+        types: IndexMap::new(context.alloc),
+    };
+    for unknown in &unknowns {
+        let ty = reading(context, *unknown, place)?;
+        known.types.insert(*unknown, ty)?;
+    }
+    Ok(mapped_env(context.alloc, env, &known)?)
+}
+
+/// The type that an unknown turned out to be, or Q2.
+fn reading(context: &mut Context, unknown: u32, place: Place) -> Result<Rc<MlType>, CoreFault> {
+    match ask_reading(&mut context.solver, &MlType::Free(unknown), GREATEST_SIZE) {
+        Ok(Some(ty)) => {
+            if is_ground(&ty) {
+                Ok(ty)
+            } else {
+                Err(plain_fault(Code::Q2, place))
+            }
+        }
+        Ok(None) => Err(plain_fault(Code::E7, place)),
+        Err(refusal) => Err(refused(refusal, place)),
+    }
+}
+
+/// Adds the unknowns in the types of an environment's values.
+#[cycle(collect)]
+fn collect_env(env: &Env, unknowns: &mut IndexSet<u32>) -> Result<(), Memory> {
+    for (_, structure) in &env.structures {
+        collect_env(structure, unknowns)?;
+    }
+    for (_, value) in &env.values {
+        collect_free(&value.scheme.body, unknowns)?;
+    }
+    Ok(())
+}

@@ -64,7 +64,7 @@ impl Context<'_> {
                 Status::Constructor {
                     number: _,
                     count: _,
-                } => long.last.as_slice() != b"ref",
+                } => long.last.as_slice() != b"ref".as_slice(),
                 Status::Exception => true,
             }),
         }

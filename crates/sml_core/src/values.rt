@@ -6,7 +6,7 @@ use crate::patterns::Variables;
 use crate::places::{expression_place, pattern_place};
 use crate::unguarded::in_binds;
 use indexmap::IndexSet;
-use sml_asks::asks::{ask_fixed, ask_general, ask_labels, ask_reading, ask_scheme, ask_settled, ask_variable};
+use sml_asks::asks::{ask_fixed, ask_general, ask_labels, ask_reading, ask_scheme, ask_variable};
 use sml_envs::objects::{Status, Value};
 use sml_graph::layer::Bound;
 use sml_graph::variable::Variable;
@@ -174,7 +174,7 @@ impl Context<'_> {
         place: Place,
         declaration: Declaration,
     ) -> Result<(), CoreFault> {
-        if let Err(refusal) = ask_settled(&mut self.solver, declaration.unknowns) {
+        if let Err(refusal) = self.solver.settle(declaration.unknowns) {
             return Err(refused(refusal, place));
         }
         self.end_rows(declaration.rows)?;
@@ -284,7 +284,15 @@ impl Context<'_> {
         fixed: &[bool],
         is_expansive: bool,
     ) -> Result<Scheme, CoreFault> {
-        let scheme = match ask_scheme(&mut self.solver, ty, fixed, is_expansive, GREATEST_SIZE) {
+        let found = ask_scheme(
+            self.alloc,
+            &mut self.solver,
+            ty,
+            fixed,
+            is_expansive,
+            GREATEST_SIZE,
+        );
+        let scheme = match found {
             Ok(Some(scheme)) => scheme,
             Ok(None) => return Err(plain_fault(Code::E7, place)),
             Err(refusal) => return Err(refused(refusal, place)),

@@ -1,5 +1,7 @@
 //! Objects with other types for their variables and their names. What doesn't change is shared.
 
+ghost use Rattle.std.specs.Prelude.{◌<◌, length};
+
 use crate::objects::{Constructors, Env, TypeStr, Value};
 use sml_lex::fault::Memory;
 use sml_objects::applications::apply;

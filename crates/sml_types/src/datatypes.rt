@@ -54,6 +54,7 @@ pub fn datatypes<S: Scope>(
 }
 
 /// A scope with types over those of another one.
+#[derive(Drop)]
 struct Inner<'a, S> {
     outer: &'a S,
     types: &'a BTreeMap<Ident, TypeStr>,
@@ -192,6 +193,7 @@ fn mentioned(
 }
 
 /// The names of a run without the equality that some of them lose.
+#[derive(Drop)]
 struct Losing<'a> {
     run: Run,
     lost: &'a [bool],

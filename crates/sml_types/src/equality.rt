@@ -63,14 +63,14 @@ pub(crate) fn without_equality(
     Ok(lost)
 }
 
-/// Takes equality from these names and from all whose constructors mention such a name.
+/// Takes equality from these names and from all whose constructors mention such a name. Each round but the last takes it
+/// from one more.
 fn spread(users: &[Vec<usize>], lost: &mut Vec<bool>, left: Vec<usize>) -> Result<(), Memory> {
-    let mut rounds = lost.len();
     let mut left = left;
-    while rounds > 0 && !left.is_empty()
-        decreases { rounds }
-    {
-        rounds -= 1;
+    for _ in 0..lost.len() {
+        if left.is_empty() {
+            break;
+        }
         left = step(users, lost, left)?;
     }
     Ok(())

@@ -142,6 +142,7 @@ impl TypeVariables for NoVariables {
 }
 
 /// Free variables become bound ones, by their places in a set.
+#[derive(Drop)]
 struct Closing<'a> {
     order: &'a IndexSet<u32>,
 }

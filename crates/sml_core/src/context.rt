@@ -13,7 +13,7 @@ use sml_solve::solver::Solver;
 use sml_tree::bare::{Ident, LongIdent};
 use sml_tree::types::Ty;
 use sml_types::fault::{CoreFault, plain_fault};
-use sml_types::rows::boxed;
+use sml_types::rows::{boxed, number_of};
 use sml_types::scope::{path_of, unbound};
 use sml_types::types::type_of;
 use std::alloc::Global;
@@ -282,13 +282,5 @@ impl<'a> Context<'a> {
     /// The type that a type expression means, with the explicit type variables in scope.
     pub(crate) fn ty(&mut self, ty: &Ty) -> Result<Rc<MlType>, CoreFault> {
         type_of(self.alloc, &self.scopes, &mut self.explicit, ty)
-    }
-}
-
-/// The number of an unknown. One that no `u32` holds counts as want of memory.
-pub(crate) fn number_of(unknown: usize) -> Result<u32, Memory> {
-    match u32::try_from(unknown) {
-        Ok(number) => Ok(number),
-        Err(_) => Err(Memory),
     }
 }

@@ -3,7 +3,7 @@
 use crate::bindings::{no_constructors, parameters, type_function};
 use crate::equality::{Run, without_equality};
 use crate::fault::CoreFault;
-use crate::rows::{arrow, boxed};
+use crate::rows::{arrow, boxed, number_of};
 use crate::scope::Scope;
 use crate::types::type_of;
 use crate::variables::{Listed, closed, is_equality_variable};
@@ -81,10 +81,7 @@ fn new_names(
 ) -> Result<Vec<TyName>, Memory> {
     let mut names = Vec::new(alloc);
     for bind in binds {
-        let Ok(arity) = u32::try_from(bind.variables.len()) else {
-            return Err(Memory);
-        };
-        names.push(new.make(arity, true)?)?;
+        names.push(new.make(number_of(bind.variables.len())?, true)?)?;
     }
     Ok(names)
 }
@@ -114,7 +111,7 @@ fn named_types(
 pub fn name_function(alloc: Global, name: TyName, names: &[Name]) -> Result<Rc<Scheme>, Memory> {
     let mut parts = Vec::new(alloc);
     for index in 0..names.len() {
-        parts.push(boxed(alloc, MlType::Bound(index as u32))?)?;
+        parts.push(boxed(alloc, MlType::Bound(number_of(index)?))?)?;
     }
     let body = boxed(alloc, MlType::Name(name, parts))?;
     let variables = parameters(alloc, names)?;
@@ -267,7 +264,7 @@ fn constructors_of(
     let mut parameters = Vec::new(alloc);
     for (index, variable) in bind.variables.iter().enumerate() {
         equality.push(is_equality_variable(&variable.ident))?;
-        parameters.push(boxed(alloc, MlType::Free(index as u32))?)?;
+        parameters.push(boxed(alloc, MlType::Free(number_of(index)?))?)?;
     }
     let result = boxed(alloc, MlType::Name(name, parameters))?;
     let mut constructors = BTreeMap::new(alloc);
@@ -291,10 +288,7 @@ pub fn put_constructors(
     values: &mut BTreeMap<Ident, Value>,
     constructors: &Constructors,
 ) -> Result<(), Memory> {
-    let count = match u32::try_from(constructors.len()) {
-        Ok(count) => count,
-        Err(_) => return Err(Memory),
-    };
+    let count = number_of(constructors.len())?;
     let mut number: u32 = 0;
     for (name, scheme) in constructors {
         let value = Value {

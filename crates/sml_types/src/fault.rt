@@ -1,5 +1,8 @@
 //! Why a phrase has no meaning.
 
+ghost use Rattle.std.specs.Prelude.{◌≡◌};
+ghost use Rattle.sml_types.specs.declared.fault.CoreFault.TheVariants.{Memory};
+
 use sml_lex::fault::{Code, Fault, Memory, Place};
 use std::alloc::{AllocError, AllocFailed};
 
@@ -11,8 +14,6 @@ pub enum CoreFault {
 }
 
 impl From<Memory> for CoreFault {
-    ghost use Rattle.sml_types.specs.declared.fault.CoreFault.TheVariants.{Memory};
-
     ghost from_gives = { λ _ e. e ≡ Memory };
 
     fn from(_memory: Memory) -> CoreFault {
@@ -21,8 +22,6 @@ impl From<Memory> for CoreFault {
 }
 
 impl From<AllocError> for CoreFault {
-    ghost use Rattle.sml_types.specs.declared.fault.CoreFault.TheVariants.{Memory};
-
     ghost from_gives = { λ _ e. e ≡ Memory };
 
     fn from(_error: AllocError) -> CoreFault {
@@ -31,8 +30,6 @@ impl From<AllocError> for CoreFault {
 }
 
 impl<T: Drop> From<AllocFailed<T>> for CoreFault {
-    ghost use Rattle.sml_types.specs.declared.fault.CoreFault.TheVariants.{Memory};
-
     ghost from_gives = { λ _ e. e ≡ Memory };
 
     fn from(_error: AllocFailed<T>) -> CoreFault {

@@ -59,3 +59,11 @@ pub fn initial(alloc: Global, name: Initial) -> Result<Rc<MlType>, Memory> {
 pub fn boxed(alloc: Global, ty: MlType) -> Result<Rc<MlType>, Memory> {
     Ok(Rc::new(alloc, ty)?)
 }
+
+/// A count or an index as the number of a variable. One that no `u32` holds counts as want of memory.
+pub fn number_of(index: usize) -> Result<u32, Memory> {
+    match u32::try_from(index) {
+        Ok(number) => Ok(number),
+        Err(_) => Err(Memory),
+    }
+}

@@ -1,7 +1,7 @@
 //! What type variables stand for.
 
 use crate::fault::{CoreFault, plain_fault};
-use crate::rows::boxed;
+use crate::rows::{boxed, number_of};
 use indexmap::IndexMap;
 use indexmap::IndexSet;
 use sml_envs::mapping::{Image, Mapping, mapped_type};
@@ -119,10 +119,7 @@ impl TypeVariables for Collected {
         name: &Ident,
     ) -> Result<Rc<MlType>, CoreFault> {
         let (index, _) = self.names.insert_full(name.clone()?)?;
-        match u32::try_from(index) {
-            Ok(index) => Ok(boxed(alloc, MlType::Free(index))?),
-            Err(_) => Err(CoreFault::Memory),
-        }
+        Ok(boxed(alloc, MlType::Free(number_of(index)?))?)
     }
 }
 
@@ -156,10 +153,7 @@ impl Mapping for Closing<'_> {
         let Some(index) = self.order.get_index_of(&variable) else {
             return Ok(None);
         };
-        match u32::try_from(index) {
-            Ok(index) => Ok(Some(boxed(alloc, MlType::Bound(index))?)),
-            Err(_) => Err(Memory),
-        }
+        Ok(Some(boxed(alloc, MlType::Bound(number_of(index)?))?))
     }
 
     fn name(&self, _name: TyName) -> Image<'_> {

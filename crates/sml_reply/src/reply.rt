@@ -10,6 +10,7 @@ ghost use Rattle.std.specs.Option.{option_map};
 ghost use Rattle.sml_reply.specs.Sinks.{Prints, in_turn};
 ghost use Rattle.sml_reply.specs.Text as T;
 
+use crate::lines::BasisLines;
 use crate::numerals::push_number;
 use crate::sink::{Out, OutFault, write_all, write_each};
 use crate::texts::Lines;
@@ -55,6 +56,24 @@ impl Reply {
         lines.text.extend_from_slice(b" ok\n")?;
         lines.push_env(alloc, b"", &basis.env)?;
         let Lines { text, .. } = lines;
+        Ok(Reply::Accepted(AcceptedReply { text, warnings }))
+    }
+
+    /// The reply to an accepted declaration of the whole language, of which this is the own basis.
+    pub fn environment(
+        alloc: Global,
+        number: u32,
+        basis: &sml_envs::objects::Basis,
+        warnings: Vec<Warning>,
+    ) -> Result<Reply, Memory>
+        ensures warnings { IfOk result (λ r. warnings_of r ≡ warnings.items) }
+        ensures accepted { IfOk result (λ r. accepts r ≡ true) }
+    {
+        let mut lines = BasisLines::new(alloc);
+        push_number(&mut lines.text, number as usize)?;
+        lines.text.extend_from_slice(b" ok\n")?;
+        lines.push_basis(basis)?;
+        let BasisLines { text, .. } = lines;
         Ok(Reply::Accepted(AcceptedReply { text, warnings }))
     }
 

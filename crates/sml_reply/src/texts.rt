@@ -18,14 +18,14 @@ use std::rc::Rc;
 
 /// What stands round a type: nothing, the left side of an arrow, or a component of a tuple or the sole argument of a name.
 #[derive(Clone, Copy)]
-enum Around {
+pub(crate) enum Around {
     Nothing,
     Arrow,
     Part,
 }
 
 impl Around {
-    fn brackets_arrow(self) -> bool
+    pub(crate) fn brackets_arrow(self) -> bool
         ensures { result ≡ nat_lt 0 (level self) }
     {
         match self {
@@ -35,7 +35,7 @@ impl Around {
         }
     }
 
-    fn brackets_tuple(self) -> bool
+    pub(crate) fn brackets_tuple(self) -> bool
         ensures { result ≡ nat_lt 1 (level self) }
     {
         match self {
@@ -216,7 +216,7 @@ impl Lines {
 }
 
 /// What stands round the arguments of a name.
-fn sole_part(several: bool) -> Around
+pub(crate) fn sole_part(several: bool) -> Around
     ensures { level result ≡ cond several 0 2 }
 {
     if several {
@@ -242,7 +242,7 @@ fn mark(equality: bool) -> &'static [u8]
     if equality { b"?=" } else { b"?" }
 }
 
-fn initial_text(name: Initial) -> &'static [u8]
+pub(crate) fn initial_text(name: Initial) -> &'static [u8]
     ensures { result.now ≡ T.initial_text (initial_of name) }
 {
     match name {

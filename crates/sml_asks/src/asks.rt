@@ -1,10 +1,9 @@
 //! What may be asked of types, whatever variables they have: a free variable that is no unknown yet becomes one first.
 //! Where that can't be, as for a type with a bound variable, it counts as want of memory.
 
-ghost use Rattle.std.specs.Prelude.{◌≡◌, ◌≤◌, length, OnOk, IfOk};
-ghost use Rattle.std.specs.List.{AllByRecursion};
-ghost use Rattle.sml_objects.specs.Views.{type_of, scheme_of};
-ghost use Rattle.sml_graph.specs.Asked.{count, IsOf, IsSchemeOf};
+ghost use Rattle.std.specs.Prelude.{◌≡◌, length, OnOk, IfOk};
+ghost use Rattle.sml_objects.specs.Views.{type_of};
+ghost use Rattle.sml_graph.specs.Asked.{IsOf};
 
 use crate::known::{
     are_unknowns, fields_are_over, is_body_over, is_over, make_all_known, make_known,
@@ -132,11 +131,7 @@ pub fn ask_general(
 }
 
 /// A flag for each unknown that the types of the first unknowns and of others fix.
-pub fn ask_fixed(
-    solver: &mut Solver,
-    first: usize,
-    others: &[u32],
-) -> Result<Vec<bool>, Refusal> {
+pub fn ask_fixed(solver: &mut Solver, first: usize, others: &[u32]) -> Result<Vec<bool>, Refusal> {
     know_numbers(solver, others)?;
     let count = solver.unknowns();
     if !are_unknowns(others, count) {

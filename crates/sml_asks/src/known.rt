@@ -1,10 +1,9 @@
 //! Types and schemes that speak of a solver's unknowns alone.
 
-ghost use Rattle.std.specs.Prelude.{◌≡◌, true, map, OnOk};
+ghost use Rattle.std.specs.Prelude.{◌≡◌, ◌<◌, true, map};
 ghost use Rattle.std.specs.List.{AllByRecursion};
 ghost use Rattle.sml_objects.specs.Views.{type_of, types_of};
-ghost use Rattle.sml_graph.specs.Asked.{count};
-ghost use Rattle.sml_graph.specs.Interned.{IsOver, AreOver, IsBodyOver, AreBodiesOver, demanded};
+ghost use Rattle.sml_graph.specs.Interned.{IsOver, IsBodyOver, AreBodiesOver, demanded};
 
 use sml_objects::objects::MlType;
 use sml_solve::layer::Refusal;
@@ -13,29 +12,10 @@ use sml_tree::bare::Ident;
 use std::rc::Rc;
 
 /// Whether a type has no bound variable, and each free one is among so many unknowns.
-#[cycle(over)]
 pub(crate) fn is_over(ty: &MlType, count: usize) -> bool
     ensures { result ≡ true → IsOver count (type_of ty.now) }
 {
-    match ty {
-        MlType::Bound(_) => false,
-        MlType::Free(unknown) => (*unknown as usize) < count,
-        MlType::Row(_, parts) => are_over(parts, count),
-        MlType::Arrow(from, to) => is_over(from, count) && is_over(to, count),
-        MlType::Name(_, parts) => are_over(parts, count),
-    }
-}
-
-#[cycle(over)]
-fn are_over(parts: &[Rc<MlType>], count: usize) -> bool
-    ensures { result ≡ true → AreOver count (types_of (map (λ t. type_of t.value) parts.now)) }
-{
-    for part in parts {
-        if !is_over(part, count) {
-            return false;
-        }
-    }
-    true
+    is_body_over(ty, 0, count)
 }
 
 /// Whether the bound variables of a type are among so many, and each free one is among so many unknowns.
@@ -69,8 +49,8 @@ fn are_bodies_over(parts: &[Rc<MlType>], variables: usize, count: usize) -> bool
 pub(crate) fn fields_are_over(fields: &[(Ident, Rc<MlType>)], count: usize) -> bool
     ensures { result ≡ true → AllByRecursion (λ f. IsOver count f.1) (demanded fields.now) }
 {
-    for (_, ty) in fields {
-        if !is_over(ty, count) {
+    for field in fields {
+        if !is_over(&field.1, count) {
             return false;
         }
     }

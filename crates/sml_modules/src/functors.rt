@@ -5,13 +5,13 @@ use sml_core::context::Context;
 use sml_envs::canonical::{applied_result, names_from};
 use sml_envs::objects::{Basis, Env, FunSig, Sig};
 use sml_lex::fault::{Code, Place};
-use sml_match::ascribe::small_env;
 use sml_match::enrich::enriches;
 use sml_match::realise::realise;
 use sml_sigs::sigs::signature;
 use sml_tree::names::Name;
 use sml_tree::structures::FunBind;
 use sml_types::fault::{CoreFault, fault_about};
+use sml_types::sizes::small_env;
 use std::rc::Rc;
 
 /// The functor of a name.

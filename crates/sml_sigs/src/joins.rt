@@ -3,7 +3,7 @@
 use crate::constructors::Table;
 use indexmap::IndexMap;
 use sml_envs::comparisons::same_constructors;
-use sml_envs::mapping::{Image, Mapping, mapped_constructors};
+use sml_envs::mapping::{Image, Mapping, mapped_constructors, mapped_function};
 use sml_lex::fault::{Code, Memory, Place};
 use sml_objects::equality::has_equality;
 use sml_objects::objects::{MlType, Scheme, TyName};
@@ -121,5 +121,5 @@ pub(crate) fn joined_function(
     joins: &Joins,
     function: &Rc<Scheme>,
 ) -> Result<Rc<Scheme>, Memory> {
-    sml_envs::mapping::mapped_scheme(alloc, function, joins)
+    mapped_function(alloc, function, joins)
 }

@@ -20,9 +20,6 @@ use std::alloc::Global;
 use std::mem;
 use std::rc::Rc;
 
-/// The greatest size of a scheme and of the body of a type function, in nodes.
-pub const GREATEST_SIZE: u32 = 10_000;
-
 /// The scopes that are open, what was asked of unknown types, the names made so far, and what the declaration exports.
 #[derive(Drop)]
 pub struct Context<'a> {

@@ -1,12 +1,11 @@
 //! Declarations (the Definition, section 4.10, rules 15 to 24, 30 and 31).
 
-use crate::context::{Context, GREATEST_SIZE};
+use crate::context::Context;
 use crate::expressions::of_type;
 use crate::scopes::Mark;
 use sml_envs::objects::{Env, Status, Value};
 use sml_lex::fault::{Code, Place};
-use sml_objects::objects::{Initial, Scheme};
-use sml_objects::sizes::size_up_to;
+use sml_objects::objects::Initial;
 use sml_tree::bare::{Ident, LongIdent};
 use sml_tree::expressions::{ConBind, DatBind, Dec, ExnBind, TypBind};
 use sml_tree::names::Name;
@@ -15,6 +14,7 @@ use sml_types::datatypes::{datatypes, put_constructors};
 use sml_types::fault::{CoreFault, plain_fault};
 use sml_types::rows::{arrow, initial};
 use sml_types::scope::{structure_at, type_at};
+use sml_types::sizes::small;
 use std::rc::Rc;
 
 /// What was open when the first part of `local` began.
@@ -166,12 +166,4 @@ impl Context<'_> {
         }
         Ok(())
     }
-}
-
-/// That a scheme or the body of a type function isn't too large.
-pub fn small(place: Place, scheme: &Scheme) -> Result<(), CoreFault> {
-    if size_up_to(&scheme.body, GREATEST_SIZE) > GREATEST_SIZE {
-        return Err(plain_fault(Code::E7, place));
-    }
-    Ok(())
 }

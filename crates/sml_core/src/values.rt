@@ -1,6 +1,6 @@
 //! Value declarations (the Definition, sections 4.6 to 4.8, rules 15, 25 and 26).
 
-use crate::context::{Context, GREATEST_SIZE, refused};
+use crate::context::{Context, refused};
 use crate::expansive::is_function;
 use crate::patterns::Variables;
 use crate::places::{expression_place, pattern_place};
@@ -16,7 +16,8 @@ use sml_tree::bare::Ident;
 use sml_tree::expressions::{Exp, ValBind};
 use sml_tree::names::Name;
 use sml_types::fault::{CoreFault, plain_fault};
-use sml_types::variables::{collect_free, is_equality_variable};
+use sml_types::sizes::GREATEST_SIZE;
+use sml_types::variables::{collect_free, is_equality_variable, is_ground};
 use std::rc::Rc;
 
 /// A value declaration while it is gone through: how many unknowns, flexible rows and explicit type variables there were
@@ -311,28 +312,6 @@ fn is_set(flags: &[bool], index: usize) -> bool {
         Some(flag) => *flag,
         None => false,
     }
-}
-
-/// Whether no unknown stands in a type.
-#[cycle(ground)]
-pub fn is_ground(ty: &MlType) -> bool {
-    match ty {
-        MlType::Bound(_) => true,
-        MlType::Free(_) => false,
-        MlType::Row(_, parts) => are_ground(parts),
-        MlType::Arrow(from, to) => is_ground(from) && is_ground(to),
-        MlType::Name(_, parts) => are_ground(parts),
-    }
-}
-
-#[cycle(ground)]
-fn are_ground(parts: &[Rc<MlType>]) -> bool {
-    for part in parts {
-        if !is_ground(part) {
-            return false;
-        }
-    }
-    true
 }
 
 /// That the right side of `rec` is a function.

@@ -5,13 +5,13 @@ use sml_core::context::Context;
 use sml_envs::canonical::{applied_result, names_from};
 use sml_envs::objects::{Basis, Env, FunSig, Sig};
 use sml_lex::fault::{Code, Place};
-use sml_match::ascribe::small_env;
 use sml_match::enrich::enriches;
 use sml_match::realise::realise;
 use sml_sigs::sigs::signature;
 use sml_tree::names::Name;
 use sml_tree::structures::FunBind;
 use sml_types::fault::{CoreFault, fault_about};
+use sml_types::sizes::small_env;
 use std::rc::Rc;
 
 /// The functor of a name.
@@ -36,8 +36,7 @@ pub(crate) fn applied(
     let alloc = context.alloc;
     let realisation = realise(alloc, &functor.argument, argument, place)?;
     let wanted = sml_envs::mapping::mapped_env(alloc, &functor.argument.env, &realisation)?;
-    let unit = context.new.unit;
-    enriches(alloc, unit, argument, &wanted, &mut context.solver, place)?;
+    enriches(alloc, argument, &wanted, &mut context.solver, place)?;
     let result = applied_result(alloc, functor, &realisation, &mut context.new)?;
     small_env(place, &result)?;
     Ok(result)

@@ -2,15 +2,15 @@
 
 use indexmap::{IndexMap, IndexSet};
 use sml_asks::asks::ask_reading;
-use sml_core::context::{Context, GREATEST_SIZE, refused};
-use sml_core::values::is_ground;
+use sml_core::context::{Context, refused};
 use sml_envs::mapping::{Image, Mapping, mapped_env};
 use sml_envs::objects::{Basis, Env, FunSig, Sig};
 use sml_lex::fault::{Code, Memory, Place};
 use sml_objects::objects::{MlType, TyName};
 use sml_tree::bare::Ident;
 use sml_types::fault::{CoreFault, plain_fault};
-use sml_types::variables::collect_free;
+use sml_types::sizes::GREATEST_SIZE;
+use sml_types::variables::{collect_free, is_ground};
 use std::alloc::Global;
 use std::rc::Rc;
 

@@ -7,5 +7,6 @@ mod equality;
 pub mod fault;
 pub mod rows;
 pub mod scope;
+pub mod sizes;
 pub mod types;
 pub mod variables;

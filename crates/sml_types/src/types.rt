@@ -4,6 +4,7 @@ use crate::fault::{CoreFault, plain_fault};
 use crate::rows::{Fields, arrow, boxed, label_key, row_of, tuple_of};
 use crate::scope::{Scope, type_at};
 use crate::variables::TypeVariables;
+use sml_envs::functions::name_of;
 use sml_lex::fault::Code;
 use sml_objects::applications::apply;
 use sml_objects::objects::MlType;
@@ -84,27 +85,10 @@ fn applied<S: Scope, V: TypeVariables>(
     if found.function.variables.len() != types.len() {
         return Err(plain_fault(Code::E4, long.place));
     }
-    if let MlType::Name(name, parts) = &*found.function.body {
-        if parts.len() == types.len() && are_parameters(parts) {
-            return Ok(boxed(alloc, MlType::Name(*name, types))?);
-        }
+    if let Some(name) = name_of(&found.function) {
+        return Ok(boxed(alloc, MlType::Name(name, types))?);
     }
     Ok(apply(alloc, &found.function, &types)?)
-}
-
-/// Whether these are the first variables in order.
-fn are_parameters(parts: &[Rc<MlType>]) -> bool {
-    for index in 0..parts.len() {
-        match &*parts[index] {
-            MlType::Bound(variable) => {
-                if *variable as usize != index {
-                    return false;
-                }
-            }
-            _ => return false,
-        }
-    }
-    true
 }
 
 #[cycle(meaning)]

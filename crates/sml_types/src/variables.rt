@@ -203,3 +203,25 @@ fn collect_all_free(parts: &[Rc<MlType>], seen: &mut IndexSet<u32>) -> Result<()
     }
     Ok(())
 }
+
+/// Whether no unknown stands in a type.
+#[cycle(ground)]
+pub fn is_ground(ty: &MlType) -> bool {
+    match ty {
+        MlType::Bound(_) => true,
+        MlType::Free(_) => false,
+        MlType::Row(_, parts) => are_ground(parts),
+        MlType::Arrow(from, to) => is_ground(from) && is_ground(to),
+        MlType::Name(_, parts) => are_ground(parts),
+    }
+}
+
+#[cycle(ground)]
+fn are_ground(parts: &[Rc<MlType>]) -> bool {
+    for part in parts {
+        if !is_ground(part) {
+            return false;
+        }
+    }
+    true
+}

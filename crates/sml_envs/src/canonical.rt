@@ -1,0 +1,311 @@
+//! Names in the order in which they appear, and objects with new names in their place.
+
+use crate::mapping::{Image, Mapping, mapped_env};
+use crate::new_names::NewNames;
+use crate::objects::{Basis, Env, FunSig, Sig, TypeStr};
+use indexmap::{IndexMap, IndexSet};
+use sml_lex::fault::Memory;
+use sml_objects::equality::has_equality;
+use sml_objects::objects::{MadeName, MlType, TyName, UnitId};
+use sml_tree::bare::Ident;
+use std::alloc::Global;
+use std::collections::BTreeMap;
+use std::rc::Rc;
+
+/// The names that a unit made with this number or a higher one, in the order in which they appear.
+#[derive(Drop)]
+struct Appearance {
+    unit: UnitId,
+    first: u32,
+    names: IndexSet<TyName>,
+}
+
+impl Appearance {
+    fn new(alloc: Global, unit: UnitId, first: u32) -> Appearance {
+        Appearance {
+            unit,
+            first,
+            names: IndexSet::new(alloc),
+        }
+    }
+
+    fn add(&mut self, name: TyName) -> Result<(), Memory> {
+        if let TyName::Made(made) = name {
+            if made.unit == self.unit && self.first <= made.number {
+                self.names.insert(name)?;
+            }
+        }
+        Ok(())
+    }
+
+    #[cycle(types)]
+    fn add_type(&mut self, ty: &MlType) -> Result<(), Memory> {
+        match ty {
+            MlType::Bound(_) | MlType::Free(_) => Ok(()),
+            MlType::Row(_, parts) => self.add_types(parts),
+            MlType::Arrow(from, to) => {
+                self.add_type(from)?;
+                self.add_type(to)
+            }
+            MlType::Name(name, parts) => {
+                self.add_types(parts)?;
+                self.add(*name)
+            }
+        }
+    }
+
+    #[cycle(types)]
+    fn add_types(&mut self, types: &[Rc<MlType>]) -> Result<(), Memory> {
+        for ty in types {
+            self.add_type(ty)?;
+        }
+        Ok(())
+    }
+
+    fn add_type_str(&mut self, ty: &TypeStr) -> Result<(), Memory> {
+        self.add_type(&ty.function.body)?;
+        for (_, scheme) in &*ty.constructors {
+            self.add_type(&scheme.body)?;
+        }
+        Ok(())
+    }
+
+    /// The names of an environment, in the order of its lines.
+    #[cycle(envs)]
+    fn add_env(&mut self, env: &Env) -> Result<(), Memory> {
+        self.add_structures(&env.structures)?;
+        for (_, ty) in &env.types {
+            self.add_type_str(ty)?;
+        }
+        for (_, value) in &env.values {
+            self.add_type(&value.scheme.body)?;
+        }
+        Ok(())
+    }
+
+    #[cycle(envs)]
+    fn add_structures(&mut self, structures: &BTreeMap<Ident, Rc<Env>>) -> Result<(), Memory> {
+        for (_, structure) in structures {
+            self.add_env(structure)?;
+        }
+        Ok(())
+    }
+
+    fn add_basis(&mut self, basis: &Basis) -> Result<(), Memory> {
+        self.add_env(&basis.env)?;
+        for (_, signature) in &basis.signatures {
+            self.add_env(&signature.env)?;
+        }
+        for (_, functor) in &basis.functors {
+            self.add_env(&functor.argument.env)?;
+            self.add_env(&functor.result.env)?;
+        }
+        Ok(())
+    }
+}
+
+/// The names that the unit made with this number or a higher one that stand in an environment, in the order of its lines.
+pub fn names_from(
+    alloc: Global,
+    env: &Env,
+    unit: UnitId,
+    first: u32,
+) -> Result<Vec<TyName>, Memory> {
+    let mut appearance = Appearance::new(alloc, unit, first);
+    appearance.add_env(env)?;
+    let mut names = Vec::new(alloc);
+    for name in &appearance.names {
+        names.push(*name)?;
+    }
+    Ok(names)
+}
+
+/// Other names for some names.
+#[derive(Drop)]
+struct Renaming {
+    names: IndexMap<TyName, TyName>,
+}
+
+impl Renaming {
+    fn image(&self, name: TyName) -> Option<TyName> {
+        match self.names.get(&name) {
+            Some(other) => Some(*other),
+            None => None,
+        }
+    }
+
+    /// The names of a list that have another one, as these.
+    fn images(&self, alloc: Global, names: &[TyName]) -> Result<Vec<TyName>, Memory> {
+        let mut images = Vec::new(alloc);
+        for name in names {
+            if let Some(image) = self.image(*name) {
+                images.push(image)?;
+            }
+        }
+        Ok(images)
+    }
+
+    fn sig(&self, alloc: Global, sig: &Sig) -> Result<Sig, Memory> {
+        Ok(Sig {
+            names: self.images(alloc, &sig.names)?,
+            env: mapped_env(alloc, &sig.env, self)?,
+        })
+    }
+}
+
+impl Mapping for Renaming {
+    fn bound(&self, _alloc: Global, _variable: u32) -> Result<Option<Rc<MlType>>, Memory> {
+        Ok(None)
+    }
+
+    fn free(&self, _alloc: Global, _variable: u32) -> Result<Option<Rc<MlType>>, Memory> {
+        Ok(None)
+    }
+
+    fn name(&self, name: TyName) -> Image<'_> {
+        match self.image(name) {
+            Some(other) => {
+                if other == name {
+                    Image::Same
+                } else {
+                    Image::Name(other)
+                }
+            }
+            None => Image::Same,
+        }
+    }
+}
+
+/// The basis with the unit's names that have this number or a higher one renumbered from it on, in the order in which
+/// they appear in the lines of the reply, and with that many more names.
+pub fn canonical(
+    alloc: Global,
+    basis: Basis,
+    unit: UnitId,
+    count: u32,
+) -> Result<Basis, Memory> {
+    let mut appearance = Appearance::new(alloc, unit, count);
+    appearance.add_basis(&basis)?;
+    let mut new = NewNames { unit, next: count };
+    let renaming = numbered(alloc, &appearance.names, &mut new)?;
+    renamed_basis(alloc, basis, &renaming, new.next)
+}
+
+fn numbered(
+    alloc: Global,
+    names: &IndexSet<TyName>,
+    new: &mut NewNames,
+) -> Result<Renaming, Memory> {
+    let mut renaming = Renaming {
+        names: IndexMap::new(alloc),
+    };
+    for name in names {
+        let other = alike(*name, new)?;
+        renaming.names.insert(*name, other)?;
+    }
+    Ok(renaming)
+}
+
+/// A new name with what a name carries.
+fn alike(name: TyName, new: &mut NewNames) -> Result<TyName, Memory> {
+    match name {
+        TyName::Initial(_) => Ok(name),
+        TyName::Made(MadeName { arity, .. }) => new.make(arity, has_equality(name)),
+    }
+}
+
+fn renamed_basis(
+    alloc: Global,
+    basis: Basis,
+    renaming: &Renaming,
+    count: u32,
+) -> Result<Basis, Memory> {
+    let mut own = Basis::new(alloc, basis.unit);
+    own.count = count;
+    let Basis {
+        env,
+        signatures,
+        functors,
+        ..
+    } = basis;
+    own.env = renamed_env(alloc, env, renaming)?;
+    for (name, signature) in signatures {
+        let signature = renaming.sig(alloc, &signature)?;
+        own.signatures.insert(name, Rc::new(alloc, signature)?)?;
+    }
+    for (name, functor) in functors {
+        let functor = FunSig {
+            argument: renaming.sig(alloc, &functor.argument)?,
+            result: renaming.sig(alloc, &functor.result)?,
+        };
+        own.functors.insert(name, Rc::new(alloc, functor)?)?;
+    }
+    Ok(own)
+}
+
+fn renamed_env(alloc: Global, env: Env, renaming: &Renaming) -> Result<Env, Memory> {
+    let env = Rc::new(alloc, env)?;
+    let renamed = mapped_env(alloc, &env, renaming)?;
+    let mut own = Env::new(alloc);
+    own.add(&renamed)?;
+    Ok(own)
+}
+
+/// The signature with new names for those that it binds.
+pub fn renamed_sig(alloc: Global, sig: &Sig, new: &mut NewNames) -> Result<Sig, Memory> {
+    let renaming = renaming_of(alloc, &sig.names, new)?;
+    renaming.sig(alloc, sig)
+}
+
+fn renaming_of(
+    alloc: Global,
+    names: &[TyName],
+    new: &mut NewNames,
+) -> Result<Renaming, Memory> {
+    let mut renaming = Renaming {
+        names: IndexMap::new(alloc),
+    };
+    for name in names {
+        let other = alike(*name, new)?;
+        renaming.names.insert(*name, other)?;
+    }
+    Ok(renaming)
+}
+
+/// A renaming, and what other names become.
+#[derive(Drop)]
+struct Both<'a, M> {
+    renaming: Renaming,
+    others: &'a M,
+}
+
+impl<M: Mapping> Mapping for Both<'_, M> {
+    fn bound(&self, _alloc: Global, _variable: u32) -> Result<Option<Rc<MlType>>, Memory> {
+        Ok(None)
+    }
+
+    fn free(&self, _alloc: Global, _variable: u32) -> Result<Option<Rc<MlType>>, Memory> {
+        Ok(None)
+    }
+
+    fn name(&self, name: TyName) -> Image<'_> {
+        match self.renaming.image(name) {
+            Some(other) => Image::Name(other),
+            None => self.others.name(name),
+        }
+    }
+}
+
+/// What a functor gives where its argument's names are these type functions, with new names for those that it makes.
+pub fn applied_result<M: Mapping>(
+    alloc: Global,
+    functor: &FunSig,
+    realisation: &M,
+    new: &mut NewNames,
+) -> Result<Rc<Env>, Memory> {
+    let by = Both {
+        renaming: renaming_of(alloc, &functor.result.names, new)?,
+        others: realisation,
+    };
+    mapped_env(alloc, &functor.result.env, &by)
+}

@@ -1,0 +1,41 @@
+//! Structures with signatures (the Definition, section 5.7, rules 52 and 53).
+
+use crate::enrich::enriches;
+use crate::realise::realise;
+use sml_envs::canonical::renamed_sig;
+use sml_envs::mapping::mapped_env;
+use sml_envs::new_names::NewNames;
+use sml_envs::objects::{Env, Sig};
+use sml_lex::fault::Place;
+use sml_solve::solver::Solver;
+use sml_tree::structures::Ascription;
+use sml_types::fault::CoreFault;
+use sml_types::sizes::small_env;
+use std::alloc::Global;
+use std::rc::Rc;
+
+/// The environment that a structure has behind an ascription: the signature's, with the structure's types for the names
+/// that it binds where the ascription is transparent, and with new names where it is opaque.
+pub fn ascribed(
+    alloc: Global,
+    new: &mut NewNames,
+    solver: &mut Solver,
+    env: &Env,
+    sig: &Sig,
+    ascription: Ascription,
+    place: Place,
+) -> Result<Rc<Env>, CoreFault> {
+    let realisation = realise(alloc, sig, env, place)?;
+    let realised = mapped_env(alloc, &sig.env, &realisation)?;
+    enriches(alloc, env, &realised, solver, place)?;
+    match ascription {
+        Ascription::Transparent => {
+            small_env(place, &realised)?;
+            Ok(realised)
+        }
+        Ascription::Opaque => {
+            let Sig { env, .. } = renamed_sig(alloc, sig, new)?;
+            Ok(env)
+        }
+    }
+}

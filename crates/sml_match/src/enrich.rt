@@ -1,0 +1,137 @@
+//! Whether an environment has what another one specifies (the Definition, section 5.5).
+
+use crate::general::is_general;
+use crate::way::Way;
+use sml_envs::comparisons::{same_constructors, same_function};
+use sml_envs::objects::{Env, Status, TypeStr, Value};
+use sml_lex::fault::{Code, Place};
+use sml_solve::solver::Solver;
+use sml_tree::bare::Ident;
+use sml_types::fault::CoreFault;
+use std::alloc::Global;
+use std::collections::BTreeMap;
+use std::rc::Rc;
+
+/// That the environment of a structure enriches a realised one of a signature, or M1, M2, or M4 to M7 at the place. The
+/// free variables of the structure's schemes are unknowns of the solver, which may be settled by that.
+pub fn enriches(
+    alloc: Global,
+    env: &Env,
+    specified: &Env,
+    solver: &mut Solver,
+    place: Place,
+) -> Result<(), CoreFault> {
+    let mut way = Way::new(alloc, place);
+    env_enriches(&mut way, solver, env, specified)
+}
+
+#[cycle(enriches)]
+fn env_enriches(
+    way: &mut Way,
+    solver: &mut Solver,
+    env: &Env,
+    specified: &Env,
+) -> Result<(), CoreFault> {
+    structures_enrich(way, solver, env, &specified.structures)?;
+    types_enrich(way, env, &specified.types)?;
+    values_enrich(way, solver, env, &specified.values)
+}
+
+#[cycle(enriches)]
+#[inline(never)]
+fn structures_enrich(
+    way: &mut Way,
+    solver: &mut Solver,
+    env: &Env,
+    specified: &BTreeMap<Ident, Rc<Env>>,
+) -> Result<(), CoreFault> {
+    for (name, structure) in specified {
+        way.enter(name)?;
+        match env.structures.get(name) {
+            None => return Err(way.fault(Code::M1)?),
+            Some(found) => env_enriches(way, solver, found, structure)?,
+        }
+        way.leave();
+    }
+    Ok(())
+}
+
+#[inline(never)]
+fn types_enrich(
+    way: &mut Way,
+    env: &Env,
+    specified: &BTreeMap<Ident, TypeStr>,
+) -> Result<(), CoreFault> {
+    for (name, ty) in specified {
+        way.enter(name)?;
+        match env.types.get(name) {
+            None => return Err(way.fault(Code::M1)?),
+            Some(found) => type_enriches(way, found, ty)?,
+        }
+        way.leave();
+    }
+    Ok(())
+}
+
+fn type_enriches(way: &Way, ty: &TypeStr, specified: &TypeStr) -> Result<(), CoreFault> {
+    if ty.function.variables.len() != specified.function.variables.len() {
+        return Err(way.fault(Code::M2)?);
+    }
+    if !same_function(&ty.function, &specified.function) {
+        return Err(way.fault(Code::M4)?);
+    }
+    if !specified.constructors.is_empty()
+        && !same_constructors(way.alloc, &ty.constructors, &specified.constructors)?
+    {
+        return Err(way.fault(Code::M5)?);
+    }
+    Ok(())
+}
+
+#[inline(never)]
+fn values_enrich(
+    way: &mut Way,
+    solver: &mut Solver,
+    env: &Env,
+    specified: &BTreeMap<Ident, Value>,
+) -> Result<(), CoreFault> {
+    for (name, value) in specified {
+        way.enter(name)?;
+        match env.values.get(name) {
+            None => return Err(way.fault(Code::M1)?),
+            Some(found) => value_enriches(way, solver, found, value)?,
+        }
+        way.leave();
+    }
+    Ok(())
+}
+
+fn value_enriches(
+    way: &Way,
+    solver: &mut Solver,
+    value: &Value,
+    specified: &Value,
+) -> Result<(), CoreFault> {
+    if !serves_as(value.status, specified.status) {
+        return Err(way.fault(Code::M7)?);
+    }
+    if !is_general(way.alloc, solver, &value.scheme, &specified.scheme)? {
+        return Err(way.fault(Code::M6)?);
+    }
+    Ok(())
+}
+
+/// Whether a value of the first status serves where one of the second is specified.
+fn serves_as(status: Status, specified: Status) -> bool {
+    match specified {
+        Status::Variable | Status::Overloaded(_) => true,
+        Status::Constructor { .. } => match status {
+            Status::Constructor { .. } => true,
+            Status::Variable | Status::Overloaded(_) | Status::Exception => false,
+        },
+        Status::Exception => match status {
+            Status::Exception => true,
+            Status::Variable | Status::Overloaded(_) | Status::Constructor { .. } => false,
+        },
+    }
+}

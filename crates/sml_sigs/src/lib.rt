@@ -1,0 +1,10 @@
+// Signature expressions and specifications (the Definition, section 5.7, rules 62 to 84).
+#![tactic(auto)]
+
+mod bound;
+mod draft;
+mod layers;
+mod sharing;
+pub mod sigs;
+mod specs;
+mod wheres;

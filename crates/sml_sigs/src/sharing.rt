@@ -1,0 +1,199 @@
+//! Names that are shared (the Definition, section 5.7, rule 78, and appendix A).
+
+use crate::bound::{Table, bound_name, table_of};
+use indexmap::{IndexMap, IndexSet};
+use sml_envs::comparisons::{same_constructors, same_function};
+use sml_envs::mapping::{Image, Mapping, mapped_constructors, mapped_scheme};
+use sml_envs::objects::{Env, TypeStr};
+use sml_lex::fault::{Code, Memory, Place};
+use sml_objects::equality::has_equality;
+use sml_objects::objects::{MlType, Scheme, TyName};
+use sml_types::fault::{CoreFault, plain_fault};
+use std::alloc::Global;
+use std::rc::Rc;
+
+/// Bound names of which some are joined to one.
+#[derive(Drop)]
+pub(crate) struct Joins {
+    alloc: Global,
+    bound: IndexSet<TyName>,
+    /// For a name that was joined to another, a name that stands for it.
+    others: IndexMap<TyName, TyName>,
+    /// The constructors of the names that stand for themselves.
+    constructors: Table,
+}
+
+impl Mapping for Joins {
+    fn bound(&self, _alloc: Global, _variable: u32) -> Result<Option<Rc<MlType>>, Memory> {
+        Ok(None)
+    }
+
+    fn free(&self, _alloc: Global, _variable: u32) -> Result<Option<Rc<MlType>>, Memory> {
+        Ok(None)
+    }
+
+    fn name(&self, name: TyName) -> Image<'_> {
+        match self.others.get(&name) {
+            None => Image::Same,
+            Some(other) => Image::Name(self.last(*other)),
+        }
+    }
+}
+
+impl Joins {
+    /// The bound names of an environment, none of them joined.
+    pub(crate) fn new(
+        alloc: Global,
+        bound: IndexSet<TyName>,
+        env: &Env,
+    ) -> Result<Joins, Memory> {
+        let constructors = table_of(alloc, &bound, env)?;
+        Ok(Joins {
+            alloc,
+            bound,
+            others: IndexMap::new(alloc),
+            constructors,
+        })
+    }
+
+    /// The name that stands for a name in the end.
+    fn last(&self, name: TyName) -> TyName {
+        let mut last = name;
+        for _ in 0..self.others.len() {
+            match self.others.get(&last) {
+                Some(other) => last = *other,
+                None => break,
+            }
+        }
+        last
+    }
+
+    /// The same. Finding it again costs nothing.
+    fn found(&mut self, name: TyName) -> Result<TyName, Memory> {
+        let last = self.last(name);
+        if last != name {
+            self.others.insert(name, last)?;
+        }
+        Ok(last)
+    }
+
+    /// The bound name that a type structure has, or N3.
+    pub(crate) fn name_of(&self, ty: &TypeStr, place: Place) -> Result<TyName, CoreFault> {
+        match bound_name(&self.bound, &ty.function) {
+            Some(name) => Ok(name),
+            None => Err(plain_fault(Code::N3, place)),
+        }
+    }
+
+    /// Joins a name, whose place it is, to an earlier one, or N6 or N7.
+    pub(crate) fn join(
+        &mut self,
+        earlier: TyName,
+        later: TyName,
+        place: Place,
+    ) -> Result<(), CoreFault> {
+        let one = self.found(earlier)?;
+        let other = self.found(later)?;
+        if one == other {
+            return Ok(());
+        }
+        if arity_of(one) != arity_of(other) {
+            return Err(plain_fault(Code::N6, place));
+        }
+        if has_equality(one) || !has_equality(other) {
+            self.others.insert(other, one)?;
+        } else {
+            self.others.insert(one, other)?;
+        }
+        self.join_constructors(one, other, place)
+    }
+
+    /// Gives the constructors of two joined names to the one that stands for both.
+    fn join_constructors(
+        &mut self,
+        one: TyName,
+        other: TyName,
+        place: Place,
+    ) -> Result<(), CoreFault> {
+        let joined = match (self.constructors.get(&one), self.constructors.get(&other)) {
+            (None, None) => return Ok(()),
+            (Some(ones), None) => ones.clone()?,
+            (None, Some(others)) => others.clone()?,
+            (Some(ones), Some(others)) => {
+                let ones = mapped_constructors(self.alloc, ones, self)?;
+                let others = mapped_constructors(self.alloc, others, self)?;
+                if !same_constructors(self.alloc, &ones, &others)? {
+                    return Err(plain_fault(Code::N7, place));
+                }
+                ones
+            }
+        };
+        let last = self.last(one);
+        self.constructors.insert(last, joined)?;
+        Ok(())
+    }
+
+    /// Shares two type constructors of structures, unless they are equal already.
+    pub(crate) fn share(
+        &mut self,
+        earlier: &Rc<Scheme>,
+        later: &Rc<Scheme>,
+        place: Place,
+    ) -> Result<(), CoreFault> {
+        let one = bound_name(&self.bound, earlier);
+        let other = bound_name(&self.bound, later);
+        match (one, other) {
+            (Some(one), Some(other)) => self.join(one, other, place),
+            _ => {
+                let earlier = mapped_scheme(self.alloc, earlier, self)?;
+                let later = mapped_scheme(self.alloc, later, self)?;
+                if same_function(&earlier, &later) {
+                    Ok(())
+                } else {
+                    Err(plain_fault(Code::N3, place))
+                }
+            }
+        }
+    }
+
+    /// The bound names that are left, and whether some are not.
+    pub(crate) fn left(self) -> Result<IndexSet<TyName>, Memory> {
+        let Joins {
+            alloc,
+            bound,
+            others,
+            ..
+        } = self;
+        let mut left = IndexSet::new(alloc);
+        for name in &bound {
+            if !others.contains_key(name) {
+                left.insert(*name)?;
+            }
+        }
+        Ok(left)
+    }
+
+    /// Whether no names were joined.
+    pub(crate) fn is_empty(&self) -> bool {
+        self.others.is_empty()
+    }
+
+    /// Makes each joined name's last one known at once.
+    pub(crate) fn shorten(&mut self) -> Result<(), Memory> {
+        let mut names = Vec::new(self.alloc);
+        for (name, _) in &self.others {
+            names.push(*name)?;
+        }
+        for name in names.iter().rev() {
+            self.found(*name)?;
+        }
+        Ok(())
+    }
+}
+
+fn arity_of(name: TyName) -> u32 {
+    match name {
+        TyName::Initial(_) => 0,
+        TyName::Made(made) => made.arity,
+    }
+}

@@ -1,4 +1,4 @@
-//! Structures with a signature (the Definition, section 5.7, rules 52 and 53).
+//! Structures with signatures (the Definition, section 5.7, rules 52 and 53).
 
 use crate::enrich::enriches;
 use crate::realise::realise;
@@ -14,8 +14,8 @@ use sml_types::sizes::small_env;
 use std::alloc::Global;
 use std::rc::Rc;
 
-/// The environment of a structure with a signature: the signature's, under the realisation by which the structure matches
-/// it, or with new names. M1 to M7 and E7 at the place.
+/// The environment that a structure has behind an ascription: the signature's, with the structure's types for the names
+/// that it binds where the ascription is transparent, and with new names where it is opaque.
 pub fn ascribed(
     alloc: Global,
     new: &mut NewNames,
@@ -27,10 +27,15 @@ pub fn ascribed(
 ) -> Result<Rc<Env>, CoreFault> {
     let realisation = realise(alloc, sig, env, place)?;
     let realised = mapped_env(alloc, &sig.env, &realisation)?;
-    enriches(alloc, new.unit, env, &realised, solver, place)?;
-    small_env(place, &realised)?;
+    enriches(alloc, env, &realised, solver, place)?;
     match ascription {
-        Ascription::Transparent => Ok(realised),
-        Ascription::Opaque => Ok(renamed_sig(alloc, sig, new)?.env),
+        Ascription::Transparent => {
+            small_env(place, &realised)?;
+            Ok(realised)
+        }
+        Ascription::Opaque => {
+            let Sig { env, .. } = renamed_sig(alloc, sig, new)?;
+            Ok(env)
+        }
     }
 }

@@ -1,11 +1,10 @@
-//! Enrichment (the Definition, section 5.5).
+//! Whether an environment has what another one specifies (the Definition, section 5.5).
 
-use crate::path::Path;
-use crate::value::is_general;
+use crate::general::is_general;
+use crate::way::Way;
 use sml_envs::comparisons::{same_constructors, same_function};
 use sml_envs::objects::{Env, Status, TypeStr, Value};
 use sml_lex::fault::{Code, Place};
-use sml_objects::objects::UnitId;
 use sml_solve::solver::Solver;
 use sml_tree::bare::Ident;
 use sml_types::fault::CoreFault;
@@ -13,124 +12,126 @@ use std::alloc::Global;
 use std::collections::BTreeMap;
 use std::rc::Rc;
 
-/// What matching goes by: whose names these are, the unknowns of the structure, and where it stands.
-#[derive(Drop)]
-struct Enriching<'a> {
-    alloc: Global,
-    unit: UnitId,
-    solver: &'a mut Solver,
-    path: Path,
-}
-
-/// That an environment enriches a specified one, component by component in the order of its lines: M1, M2, M4, M5, M6 or
-/// M7 at the place. Unknowns of the solver that stand in the environment may be settled by that.
+/// That the environment of a structure enriches a realised one of a signature, or M1, M2, or M4 to M7 at the place. The
+/// free variables of the structure's schemes are unknowns of the solver, which may be settled by that.
 pub fn enriches(
     alloc: Global,
-    unit: UnitId,
     env: &Env,
     specified: &Env,
     solver: &mut Solver,
     place: Place,
 ) -> Result<(), CoreFault> {
-    let mut enriching = Enriching {
-        alloc,
-        unit,
-        solver,
-        path: Path::new(alloc, place),
-    };
-    enriching.env(specified, env)
+    let mut way = Way::new(alloc, place);
+    env_enriches(&mut way, solver, env, specified)
 }
 
-impl Enriching<'_> {
-    #[cycle(enriching)]
-    fn env(&mut self, specified: &Env, env: &Env) -> Result<(), CoreFault> {
-        self.structures(&specified.structures, env)?;
-        for (name, ty) in &specified.types {
-            self.type_str(name, ty, env)?;
-        }
-        for (name, value) in &specified.values {
-            self.value(name, value, env)?;
-        }
-        Ok(())
-    }
-
-    #[cycle(enriching)]
-    fn structures(
-        &mut self,
-        specified: &BTreeMap<Ident, Rc<Env>>,
-        env: &Env,
-    ) -> Result<(), CoreFault> {
-        for (name, structure) in specified {
-            let Some(found) = env.structures.get(name) else {
-                return Err(self.path.fault(Code::M1, name));
-            };
-            let length = self.path.enter(name)?;
-            self.env(structure, found)?;
-            self.path.leave(length);
-        }
-        Ok(())
-    }
-
-    fn type_str(
-        &mut self,
-        name: &Ident,
-        specified: &TypeStr,
-        env: &Env,
-    ) -> Result<(), CoreFault> {
-        let Some(ty) = env.types.get(name) else {
-            return Err(self.path.fault(Code::M1, name));
-        };
-        if ty.function.variables.len() != specified.function.variables.len() {
-            return Err(self.path.fault(Code::M2, name));
-        }
-        if !same_function(&ty.function, &specified.function) {
-            return Err(self.path.fault(Code::M4, name));
-        }
-        if !specified.constructors.is_empty()
-            && !same_constructors(&ty.constructors, &specified.constructors)
-        {
-            return Err(self.path.fault(Code::M5, name));
-        }
-        Ok(())
-    }
-
-    fn value(&mut self, name: &Ident, specified: &Value, env: &Env) -> Result<(), CoreFault> {
-        let Some(value) = env.values.get(name) else {
-            return Err(self.path.fault(Code::M1, name));
-        };
-        if !has_status(value.status, specified.status) {
-            return Err(self.path.fault(Code::M7, name));
-        }
-        let is_general = is_general(
-            self.alloc,
-            self.unit,
-            self.solver,
-            &value.scheme,
-            &specified.scheme,
-        )?;
-        if is_general {
-            Ok(())
-        } else {
-            Err(self.path.fault(Code::M6, name))
-        }
-    }
+#[cycle(enriches)]
+fn env_enriches(
+    way: &mut Way,
+    solver: &mut Solver,
+    env: &Env,
+    specified: &Env,
+) -> Result<(), CoreFault> {
+    structures_enrich(way, solver, env, &specified.structures)?;
+    types_enrich(way, env, &specified.types)?;
+    values_enrich(way, solver, env, &specified.values)
 }
 
-/// Whether a value of a status may stand where one is specified.
-fn has_status(status: Status, specified: Status) -> bool {
-    match (status, specified) {
-        (_, Status::Variable | Status::Overloaded(_)) => true,
-        (
-            Status::Constructor {
-                number: _,
-                count: _,
-            },
-            Status::Constructor {
-                number: _,
-                count: _,
-            },
-        ) => true,
-        (Status::Exception, Status::Exception) => true,
-        _ => false,
+#[cycle(enriches)]
+#[inline(never)]
+fn structures_enrich(
+    way: &mut Way,
+    solver: &mut Solver,
+    env: &Env,
+    specified: &BTreeMap<Ident, Rc<Env>>,
+) -> Result<(), CoreFault> {
+    for (name, structure) in specified {
+        way.enter(name)?;
+        match env.structures.get(name) {
+            None => return Err(way.fault(Code::M1)?),
+            Some(found) => env_enriches(way, solver, found, structure)?,
+        }
+        way.leave();
+    }
+    Ok(())
+}
+
+#[inline(never)]
+fn types_enrich(
+    way: &mut Way,
+    env: &Env,
+    specified: &BTreeMap<Ident, TypeStr>,
+) -> Result<(), CoreFault> {
+    for (name, ty) in specified {
+        way.enter(name)?;
+        match env.types.get(name) {
+            None => return Err(way.fault(Code::M1)?),
+            Some(found) => type_enriches(way, found, ty)?,
+        }
+        way.leave();
+    }
+    Ok(())
+}
+
+fn type_enriches(way: &Way, ty: &TypeStr, specified: &TypeStr) -> Result<(), CoreFault> {
+    if ty.function.variables.len() != specified.function.variables.len() {
+        return Err(way.fault(Code::M2)?);
+    }
+    if !same_function(&ty.function, &specified.function) {
+        return Err(way.fault(Code::M4)?);
+    }
+    if !specified.constructors.is_empty()
+        && !same_constructors(way.alloc, &ty.constructors, &specified.constructors)?
+    {
+        return Err(way.fault(Code::M5)?);
+    }
+    Ok(())
+}
+
+#[inline(never)]
+fn values_enrich(
+    way: &mut Way,
+    solver: &mut Solver,
+    env: &Env,
+    specified: &BTreeMap<Ident, Value>,
+) -> Result<(), CoreFault> {
+    for (name, value) in specified {
+        way.enter(name)?;
+        match env.values.get(name) {
+            None => return Err(way.fault(Code::M1)?),
+            Some(found) => value_enriches(way, solver, found, value)?,
+        }
+        way.leave();
+    }
+    Ok(())
+}
+
+fn value_enriches(
+    way: &Way,
+    solver: &mut Solver,
+    value: &Value,
+    specified: &Value,
+) -> Result<(), CoreFault> {
+    if !serves_as(value.status, specified.status) {
+        return Err(way.fault(Code::M7)?);
+    }
+    if !is_general(way.alloc, solver, &value.scheme, &specified.scheme)? {
+        return Err(way.fault(Code::M6)?);
+    }
+    Ok(())
+}
+
+/// Whether a value of the first status serves where one of the second is specified.
+fn serves_as(status: Status, specified: Status) -> bool {
+    match specified {
+        Status::Variable | Status::Overloaded(_) => true,
+        Status::Constructor { .. } => match status {
+            Status::Constructor { .. } => true,
+            Status::Variable | Status::Overloaded(_) | Status::Exception => false,
+        },
+        Status::Exception => match status {
+            Status::Exception => true,
+            Status::Variable | Status::Overloaded(_) | Status::Constructor { .. } => false,
+        },
     }
 }

@@ -1,8 +1,8 @@
-// Matching of structures and signatures (the Definition, sections 5.4 to 5.6).
+// Structures against signatures: realisation, enrichment and ascription (the Definition, sections 5.4 to 5.6).
 #![tactic(auto)]
 
 pub mod ascribe;
 pub mod enrich;
-mod path;
+mod general;
 pub mod realise;
-mod value;
+mod way;

@@ -1,140 +1,139 @@
-//! The realisation of a signature's names by the types of a structure (the Definition, section 5.4).
+//! The type functions of a structure for the names that a signature binds (the Definition, sections 5.4 and 5.6).
 
-use crate::path::Path;
+use crate::way::Way;
 use indexmap::IndexSet;
 use sml_envs::functions::{admits_equality, name_of};
 use sml_envs::objects::{Env, Sig, TypeStr};
 use sml_envs::realisation::Realisation;
 use sml_lex::fault::{Code, Place};
 use sml_objects::equality::has_equality;
-use sml_objects::objects::TyName;
+use sml_objects::objects::{Scheme, TyName};
 use sml_tree::bare::Ident;
 use sml_types::fault::CoreFault;
 use std::alloc::Global;
 use std::collections::BTreeMap;
 use std::rc::Rc;
 
-/// What is left to realise, and what was.
-#[derive(Drop)]
-struct Realising {
-    left: IndexSet<TyName>,
-    made: Realisation,
-    path: Path,
-}
-
-/// The realisation by which a structure matches a signature, name by name in the order of the signature's lines, each at
-/// its first path: M1, M2 or M3 at the place where there is none.
+/// The type functions of a structure for the names that a signature binds, each at its first path in the order of the
+/// environment's lines, or M1, M2 or M3 at the place.
 pub fn realise(
     alloc: Global,
     sig: &Sig,
     env: &Env,
     place: Place,
 ) -> Result<Realisation, CoreFault> {
-    let mut left = IndexSet::new(alloc);
+    let mut bound = IndexSet::new(alloc);
     for name in &sig.names {
-        left.insert(*name)?;
+        bound.insert(*name)?;
     }
-    let mut realising = Realising {
-        left,
-        made: Realisation::new(alloc),
-        path: Path::new(alloc, place),
+    let mut search = Search {
+        way: Way::new(alloc, place),
+        bound,
+        realisation: Realisation::new(alloc),
     };
-    realising.env(&sig.env, Found::Env(env))?;
-    let Realising { made, .. } = realising;
-    Ok(made)
+    realise_env(&mut search, &sig.env, Held::Env(env))?;
+    let Search { realisation, .. } = search;
+    Ok(realisation)
 }
 
-/// What a structure has where the signature has a structure: one, or none from some structure around it on.
+/// Where the search for the functions of the bound names stands.
+#[derive(Drop)]
+struct Search {
+    way: Way,
+    bound: IndexSet<TyName>,
+    realisation: Realisation,
+}
+
+/// What a structure has at a path of structures: an environment, or nothing, with the length of the shortest path at which
+/// it has nothing.
 #[derive(Clone, Copy)]
-enum Found<'a> {
+enum Held<'a> {
     Env(&'a Env),
-    Missing,
+    Missing(usize),
 }
 
-impl Realising {
-    #[cycle(realising)]
-    fn env(&mut self, specified: &Env, found: Found<'_>) -> Result<(), CoreFault> {
-        if self.left.is_empty() {
-            return Ok(());
-        }
-        self.structures(&specified.structures, found)?;
-        for (name, ty) in &specified.types {
-            self.type_str(name, ty, found)?;
-        }
-        Ok(())
-    }
+#[cycle(realise)]
+fn realise_env(search: &mut Search, specified: &Env, held: Held<'_>) -> Result<(), CoreFault> {
+    realise_structures(search, &specified.structures, held)?;
+    realise_types(search, &specified.types, held)
+}
 
-    #[cycle(realising)]
-    fn structures(
-        &mut self,
-        specified: &BTreeMap<Ident, Rc<Env>>,
-        found: Found<'_>,
-    ) -> Result<(), CoreFault> {
-        for (name, structure) in specified {
-            let inner = match found {
-                Found::Missing => Found::Missing,
-                Found::Env(env) => match env.structures.get(name) {
-                    Some(env) => Found::Env(env),
-                    None => Found::Missing,
-                },
-            };
-            if let Found::Missing = inner {
-                if self.has_left(structure) {
-                    return Err(self.path.fault(Code::M1, name));
-                }
-            } else {
-                let length = self.path.enter(name)?;
-                self.env(structure, inner)?;
-                self.path.leave(length);
-            }
-        }
-        Ok(())
+#[cycle(realise)]
+#[inline(never)]
+fn realise_structures(
+    search: &mut Search,
+    specified: &BTreeMap<Ident, Rc<Env>>,
+    held: Held<'_>,
+) -> Result<(), CoreFault> {
+    for (name, structure) in specified {
+        search.way.enter(name)?;
+        let inner = structure_in(held, name, search.way.length());
+        realise_env(search, structure, inner)?;
+        search.way.leave();
     }
+    Ok(())
+}
 
-    /// Whether a name that is left stands in an environment.
-    #[cycle(left)]
-    fn has_left(&self, specified: &Env) -> bool {
-        for (_, structure) in &specified.structures {
-            if self.has_left(structure) {
-                return true;
-            }
-        }
-        for (_, ty) in &specified.types {
-            if let Some(name) = name_of(&ty.function) {
-                if self.left.contains(&name) {
-                    return true;
-                }
-            }
-        }
-        false
+/// What stands at a structure of what is held, whose path has this length.
+fn structure_in<'a>(held: Held<'a>, name: &Ident, length: usize) -> Held<'a> {
+    match held {
+        Held::Missing(_) => held,
+        Held::Env(env) => match env.structures.get(name) {
+            Some(structure) => Held::Env(structure),
+            None => Held::Missing(length),
+        },
     }
+}
 
-    fn type_str(
-        &mut self,
-        name: &Ident,
-        specified: &TypeStr,
-        found: Found<'_>,
-    ) -> Result<(), CoreFault> {
-        let Some(bound) = name_of(&specified.function) else {
-            return Ok(());
-        };
-        if !self.left.contains(&bound) {
-            return Ok(());
+#[inline(never)]
+fn realise_types(
+    search: &mut Search,
+    specified: &BTreeMap<Ident, TypeStr>,
+    held: Held<'_>,
+) -> Result<(), CoreFault> {
+    for (name, ty) in specified {
+        if let Some(bound) = search.next_name(&ty.function) {
+            search.way.enter(name)?;
+            let function = function_in(search, &ty.function, bound, held, name)?;
+            search.realisation.insert(bound, function)?;
+            search.way.leave();
         }
-        let Found::Env(env) = found else {
-            return Err(self.path.fault(Code::M1, name));
-        };
-        let Some(ty) = env.types.get(name) else {
-            return Err(self.path.fault(Code::M1, name));
-        };
-        if ty.function.variables.len() != specified.function.variables.len() {
-            return Err(self.path.fault(Code::M2, name));
-        }
-        if has_equality(bound) && !admits_equality(&ty.function) {
-            return Err(self.path.fault(Code::M3, name));
-        }
-        self.left.swap_remove(&bound);
-        self.made.insert(bound, ty.function.clone()?)?;
-        Ok(())
     }
+    Ok(())
+}
+
+impl Search {
+    /// The bound name that a type function is, unless it has its function already.
+    fn next_name(&self, function: &Scheme) -> Option<TyName> {
+        let name = name_of(function)?;
+        if self.bound.contains(&name) && !self.realisation.has(name) {
+            Some(name)
+        } else {
+            None
+        }
+    }
+}
+
+/// The type function of a structure for a bound name.
+fn function_in(
+    search: &Search,
+    specified: &Scheme,
+    bound: TyName,
+    held: Held<'_>,
+    name: &Ident,
+) -> Result<Rc<Scheme>, CoreFault> {
+    let env = match held {
+        Held::Missing(length) => return Err(search.way.fault_before(Code::M1, length)?),
+        Held::Env(env) => env,
+    };
+    let Some(found) = env.types.get(name) else {
+        return Err(search.way.fault(Code::M1)?);
+    };
+    if found.function.variables.len() != specified.variables.len() {
+        return Err(search.way.fault(Code::M2)?);
+    }
+    if has_equality(bound) && !admits_equality(&found.function) {
+        return Err(search.way.fault(Code::M3)?);
+    }
+    Ok(found.function.clone()?)
 }

@@ -36,8 +36,7 @@ pub(crate) fn applied(
     let alloc = context.alloc;
     let realisation = realise(alloc, &functor.argument, argument, place)?;
     let wanted = sml_envs::mapping::mapped_env(alloc, &functor.argument.env, &realisation)?;
-    let unit = context.new.unit;
-    enriches(alloc, unit, argument, &wanted, &mut context.solver, place)?;
+    enriches(alloc, argument, &wanted, &mut context.solver, place)?;
     let result = applied_result(alloc, functor, &realisation, &mut context.new)?;
     small_env(place, &result)?;
     Ok(result)

@@ -1,9 +1,9 @@
-// Signature expressions (the Definition, section 5.7, rules 62 to 65 and 68 to 84).
+// Signature expressions and specifications (the Definition, section 5.7, rules 62 to 84).
 #![tactic(auto)]
 
-mod constructors;
-mod joins;
-mod reading;
+mod bound;
+mod draft;
+mod layers;
 mod sharing;
 pub mod sigs;
 mod specs;

@@ -1,165 +1,199 @@
-//! `sharing` (the Definition, section 5.7, rule 78, and appendix A).
+//! Names that are shared (the Definition, section 5.7, rule 78, and appendix A).
 
-use crate::constructors::add_constructors;
-use crate::joins::{Joins, joined_function};
-use crate::reading::Reading;
-use crate::wheres::{Within, free_name};
+use crate::bound::{Table, bound_name, table_of};
 use indexmap::{IndexMap, IndexSet};
-use sml_envs::comparisons::same_function;
-use sml_envs::objects::Env;
-use sml_lex::fault::{Memory, Place};
-use sml_objects::objects::{Scheme, TyName};
-use sml_tree::bare::LongIdent;
-use sml_types::fault::CoreFault;
-use sml_types::scope::{Scope, structure_at, type_at};
+use sml_envs::comparisons::{same_constructors, same_function};
+use sml_envs::mapping::{Image, Mapping, mapped_constructors, mapped_scheme};
+use sml_envs::objects::{Env, TypeStr};
+use sml_lex::fault::{Code, Memory, Place};
+use sml_objects::equality::has_equality;
+use sml_objects::objects::{MlType, Scheme, TyName};
+use sml_types::fault::{CoreFault, plain_fault};
 use std::alloc::Global;
-use std::collections::BTreeMap;
 use std::rc::Rc;
 
-/// Type functions by the dotted paths of their type constructors.
-type Functions = BTreeMap<Vec<u8>, Rc<Scheme>>;
-
-/// Adds the type functions of an environment.
-#[cycle(functions)]
-fn add_functions(
-    alloc: Global,
-    prefix: &[u8],
-    env: &Env,
-    functions: &mut Functions,
-) -> Result<(), Memory> {
-    for (name, structure) in &env.structures {
-        let mut path = Vec::from_slice(alloc, prefix)?;
-        path.extend_from_slice(name.as_slice())?;
-        path.push(b'.')?;
-        add_functions(alloc, &path, structure, functions)?;
-    }
-    for (name, ty) in &env.types {
-        let mut path = Vec::from_slice(alloc, prefix)?;
-        path.extend_from_slice(name.as_slice())?;
-        functions.insert(path, ty.function.clone()?)?;
-    }
-    Ok(())
-}
-
-/// What is joined in a `sig .. end`: its names, and the joins so far.
+/// Bound names of which some are joined to one.
 #[derive(Drop)]
-struct Sharing {
+pub(crate) struct Joins {
     alloc: Global,
-    names: IndexSet<TyName>,
-    joins: Joins,
+    bound: IndexSet<TyName>,
+    /// For a name that was joined to another, a name that stands for it.
+    others: IndexMap<TyName, TyName>,
+    /// The constructors of the names that stand for themselves.
+    constructors: Table,
 }
 
-impl Sharing {
-    fn new(alloc: Global, env: &Env, names: &[TyName]) -> Result<Sharing, Memory> {
-        let mut bound = IndexSet::new(alloc);
-        for name in names {
-            bound.insert(*name)?;
+impl Mapping for Joins {
+    fn bound(&self, _alloc: Global, _variable: u32) -> Result<Option<Rc<MlType>>, Memory> {
+        Ok(None)
+    }
+
+    fn free(&self, _alloc: Global, _variable: u32) -> Result<Option<Rc<MlType>>, Memory> {
+        Ok(None)
+    }
+
+    fn name(&self, name: TyName) -> Image<'_> {
+        match self.others.get(&name) {
+            None => Image::Same,
+            Some(other) => Image::Name(self.last(*other)),
         }
-        let mut table = IndexMap::new(alloc);
-        add_constructors(env, &mut table)?;
-        Ok(Sharing {
+    }
+}
+
+impl Joins {
+    /// The bound names of an environment, none of them joined.
+    pub(crate) fn new(
+        alloc: Global,
+        bound: IndexSet<TyName>,
+        env: &Env,
+    ) -> Result<Joins, Memory> {
+        let constructors = table_of(alloc, &bound, env)?;
+        Ok(Joins {
             alloc,
-            names: bound,
-            joins: Joins::new(alloc, table),
+            bound,
+            others: IndexMap::new(alloc),
+            constructors,
         })
     }
 
-    /// The names that are left.
-    fn left(&self) -> Result<Vec<TyName>, Memory> {
-        let mut left = Vec::new(self.alloc);
-        for name in &self.names {
-            if !self.joins.is_joined(*name) {
-                left.push(*name)?;
+    /// The name that stands for a name in the end.
+    fn last(&self, name: TyName) -> TyName {
+        let mut last = name;
+        for _ in 0..self.others.len() {
+            match self.others.get(&last) {
+                Some(other) => last = *other,
+                None => break,
+            }
+        }
+        last
+    }
+
+    /// The same. Finding it again costs nothing.
+    fn found(&mut self, name: TyName) -> Result<TyName, Memory> {
+        let last = self.last(name);
+        if last != name {
+            self.others.insert(name, last)?;
+        }
+        Ok(last)
+    }
+
+    /// The bound name that a type structure has, or N3.
+    pub(crate) fn name_of(&self, ty: &TypeStr, place: Place) -> Result<TyName, CoreFault> {
+        match bound_name(&self.bound, &ty.function) {
+            Some(name) => Ok(name),
+            None => Err(plain_fault(Code::N3, place)),
+        }
+    }
+
+    /// Joins a name, whose place it is, to an earlier one, or N6 or N7.
+    pub(crate) fn join(
+        &mut self,
+        earlier: TyName,
+        later: TyName,
+        place: Place,
+    ) -> Result<(), CoreFault> {
+        let one = self.found(earlier)?;
+        let other = self.found(later)?;
+        if one == other {
+            return Ok(());
+        }
+        if arity_of(one) != arity_of(other) {
+            return Err(plain_fault(Code::N6, place));
+        }
+        if has_equality(one) || !has_equality(other) {
+            self.others.insert(other, one)?;
+        } else {
+            self.others.insert(one, other)?;
+        }
+        self.join_constructors(one, other, place)
+    }
+
+    /// Gives the constructors of two joined names to the one that stands for both.
+    fn join_constructors(
+        &mut self,
+        one: TyName,
+        other: TyName,
+        place: Place,
+    ) -> Result<(), CoreFault> {
+        let joined = match (self.constructors.get(&one), self.constructors.get(&other)) {
+            (None, None) => return Ok(()),
+            (Some(ones), None) => ones.clone()?,
+            (None, Some(others)) => others.clone()?,
+            (Some(ones), Some(others)) => {
+                let ones = mapped_constructors(self.alloc, ones, self)?;
+                let others = mapped_constructors(self.alloc, others, self)?;
+                if !same_constructors(self.alloc, &ones, &others)? {
+                    return Err(plain_fault(Code::N7, place));
+                }
+                ones
+            }
+        };
+        let last = self.last(one);
+        self.constructors.insert(last, joined)?;
+        Ok(())
+    }
+
+    /// Shares two type constructors of structures, unless they are equal already.
+    pub(crate) fn share(
+        &mut self,
+        earlier: &Rc<Scheme>,
+        later: &Rc<Scheme>,
+        place: Place,
+    ) -> Result<(), CoreFault> {
+        let one = bound_name(&self.bound, earlier);
+        let other = bound_name(&self.bound, later);
+        match (one, other) {
+            (Some(one), Some(other)) => self.join(one, other, place),
+            _ => {
+                let earlier = mapped_scheme(self.alloc, earlier, self)?;
+                let later = mapped_scheme(self.alloc, later, self)?;
+                if same_function(&earlier, &later) {
+                    Ok(())
+                } else {
+                    Err(plain_fault(Code::N3, place))
+                }
+            }
+        }
+    }
+
+    /// The bound names that are left, and whether some are not.
+    pub(crate) fn left(self) -> Result<IndexSet<TyName>, Memory> {
+        let Joins {
+            alloc,
+            bound,
+            others,
+            ..
+        } = self;
+        let mut left = IndexSet::new(alloc);
+        for name in &bound {
+            if !others.contains_key(name) {
+                left.insert(*name)?;
             }
         }
         Ok(left)
     }
 
-    /// Joins the type constructors that two structures both have, by path in byte order.
-    fn share(
-        &mut self,
-        place: Place,
-        ones: &Functions,
-        others: &Functions,
-    ) -> Result<(), CoreFault> {
-        for (path, one) in ones {
-            if let Some(other) = others.get(path) {
-                self.share_functions(place, one, other)?;
-            }
+    /// Whether no names were joined.
+    pub(crate) fn is_empty(&self) -> bool {
+        self.others.is_empty()
+    }
+
+    /// Makes each joined name's last one known at once.
+    pub(crate) fn shorten(&mut self) -> Result<(), Memory> {
+        let mut names = Vec::new(self.alloc);
+        for (name, _) in &self.others {
+            names.push(*name)?;
+        }
+        for name in names.iter().rev() {
+            self.found(*name)?;
         }
         Ok(())
     }
-
-    fn share_functions(
-        &mut self,
-        place: Place,
-        one: &Rc<Scheme>,
-        other: &Rc<Scheme>,
-    ) -> Result<(), CoreFault> {
-        let now = joined_function(self.alloc, &self.joins, one)?;
-        let other_now = joined_function(self.alloc, &self.joins, other)?;
-        if same_function(&now, &other_now) {
-            return Ok(());
-        }
-        let first = free_name(&self.names, one, place)?;
-        let second = free_name(&self.names, other, place)?;
-        let arities = (one.variables.len(), other.variables.len());
-        self.joins.join(place, first, second, arities)
-    }
 }
 
-impl<S: Scope> Reading<'_, S> {
-    /// Makes the names of type constructors one.
-    #[inline(never)]
-    pub(crate) fn share_types(&mut self, longs: &[LongIdent]) -> Result<(), CoreFault> {
-        let Some(open) = self.innermost() else {
-            return Ok(());
-        };
-        let mut sharing = Sharing::new(self.alloc, &open.env, &open.names)?;
-        let within = Within { env: &open.env };
-        let mut shared: Vec<(Place, TyName, usize)> = Vec::new(self.alloc);
-        for long in longs {
-            let function = &type_at(self.alloc, &within, long)?.function;
-            let name = free_name(&sharing.names, function, long.place)?;
-            shared.push((long.place, name, function.variables.len()))?;
-        }
-        let mut first: Option<(TyName, usize)> = None;
-        for (place, name, arity) in &shared {
-            match first {
-                None => first = Some((*name, *arity)),
-                Some((one, arity_of_one)) => {
-                    sharing
-                        .joins
-                        .join(*place, one, *name, (arity_of_one, *arity))?;
-                }
-            }
-        }
-        let left = sharing.left()?;
-        Ok(self.realise(&sharing.joins, left)?)
-    }
-
-    /// Makes the names of the type constructors one that structures have both, pair by pair.
-    #[inline(never)]
-    pub(crate) fn share_structures(&mut self, longs: &[LongIdent]) -> Result<(), CoreFault> {
-        let Some(open) = self.innermost() else {
-            return Ok(());
-        };
-        let mut sharing = Sharing::new(self.alloc, &open.env, &open.names)?;
-        let within = Within { env: &open.env };
-        let mut shared: Vec<(Place, Functions)> = Vec::new(self.alloc);
-        for long in longs {
-            let env = structure_at(self.alloc, &within, long)?;
-            let mut functions = BTreeMap::new(self.alloc);
-            add_functions(self.alloc, &[], env, &mut functions)?;
-            shared.push((long.place, functions))?;
-        }
-        for index in 0..shared.len() {
-            let (_, ones) = &shared[index];
-            for (place, others) in &shared[index + 1..] {
-                sharing.share(*place, ones, others)?;
-            }
-        }
-        let left = sharing.left()?;
-        Ok(self.realise(&sharing.joins, left)?)
+fn arity_of(name: TyName) -> u32 {
+    match name {
+        TyName::Initial(_) => 0,
+        TyName::Made(made) => made.arity,
     }
 }

@@ -1,22 +1,164 @@
-//! Signature expressions.
+//! Signature expressions (the Definition, section 5.7, rules 62 to 65 and 73 to 77).
 
-use crate::reading::Reading;
+use crate::draft::Draft;
+use crate::layers::{Layer, Layers};
+use crate::specs::{exceptions, new_datatypes, replication, types, values};
+use crate::wheres::with_type;
+use sml_envs::canonical::renamed_sig;
 use sml_envs::new_names::NewNames;
-use sml_envs::objects::{Basis, Sig};
-use sml_tree::signatures::SigExp;
-use sml_types::fault::CoreFault;
+use sml_envs::objects::{Basis, Env, Sig};
+use sml_lex::fault::{Code, Place};
+use sml_objects::objects::TyName;
+use sml_tree::bare::Ident;
+use sml_tree::signatures::{SigExp, Spec, StrDesc, WhereType};
+use sml_types::fault::{CoreFault, fault_about};
 use sml_types::scope::Scope;
 use std::alloc::Global;
+use std::rc::Rc;
 
-/// The signature that a signature expression means, whose bound names are new: E2, E3, E4, E7, E8 or N1 to N7. Signature
-/// identifiers are those of the basis, structures and types those of the scope.
+/// The signature that a signature expression means in a scope over a basis, with new names for those that it binds, or a
+/// fault.
 pub fn signature<S: Scope>(
     alloc: Global,
     basis: &Basis,
     new: &mut NewNames,
-    scope: &S,
-    exp: &SigExp,
+    outer: &S,
+    sig: &SigExp,
 ) -> Result<Sig, CoreFault> {
-    let mut reading = Reading::new(alloc, basis, new, scope);
-    reading.signature(exp)
+    let mut reader = Reader { alloc, basis, new };
+    read(&mut reader, outer, None, sig)
+}
+
+/// What signature expressions are read with.
+struct Reader<'a> {
+    alloc: Global,
+    basis: &'a Basis,
+    new: &'a mut NewNames,
+}
+
+#[cycle(read)]
+fn read<S: Scope>(
+    reader: &mut Reader<'_>,
+    outer: &S,
+    inner: Option<&Layer<'_>>,
+    sig: &SigExp,
+) -> Result<Sig, CoreFault> {
+    match sig {
+        SigExp::Specs(_, specs) => read_specs(reader, outer, inner, specs),
+        SigExp::Identifier(place, name) => named(reader, *place, name),
+        SigExp::WhereType(_, sig, written) => {
+            let sig = read(reader, outer, inner, sig)?;
+            with_type(reader.alloc, &Layers { outer, inner }, sig, written)
+        }
+    }
+}
+
+/// The signature of an identifier, with new names.
+#[inline(never)]
+fn named(reader: &mut Reader<'_>, place: Place, name: &Ident) -> Result<Sig, CoreFault> {
+    match reader.basis.signature(name) {
+        Some(sig) => Ok(renamed_sig(reader.alloc, sig, reader.new)?),
+        None => {
+            let text = Vec::from_slice(reader.alloc, name.as_slice())?;
+            Err(fault_about(Code::N1, place, text))
+        }
+    }
+}
+
+#[cycle(read)]
+#[inline(never)]
+fn read_specs<S: Scope>(
+    reader: &mut Reader<'_>,
+    outer: &S,
+    inner: Option<&Layer<'_>>,
+    specs: &[Spec],
+) -> Result<Sig, CoreFault> {
+    let mut draft = Draft::new(reader.alloc);
+    for spec in specs {
+        read_spec(reader, outer, inner, &mut draft, spec)?;
+    }
+    Ok(draft.signature()?)
+}
+
+/// Adds what a specification gives to those before it.
+#[cycle(read)]
+#[inline(never)]
+fn read_spec<S: Scope>(
+    reader: &mut Reader<'_>,
+    outer: &S,
+    around: Option<&Layer<'_>>,
+    draft: &mut Draft,
+    spec: &Spec,
+) -> Result<(), CoreFault> {
+    match spec {
+        Spec::SharingType(_, longs) => draft.share_types(longs),
+        Spec::Sharing(_, longs) => draft.share_structures(longs),
+        Spec::Value(place, _)
+        | Spec::Type(place, _)
+        | Spec::Eqtype(place, _)
+        | Spec::Datatype(place, _)
+        | Spec::Replication(place, _, _)
+        | Spec::Exception(place, _)
+        | Spec::Structure(place, _)
+        | Spec::Include(place, _) => {
+            draft.settle()?;
+            let layer = Layer {
+                env: &draft.env,
+                around,
+            };
+            let part = part_of(reader, outer, &layer, spec)?;
+            draft.add(*place, &part)
+        }
+    }
+}
+
+/// What a specification gives by itself.
+#[cycle(read)]
+#[inline(never)]
+fn part_of<S: Scope>(
+    reader: &mut Reader<'_>,
+    outer: &S,
+    layer: &Layer<'_>,
+    spec: &Spec,
+) -> Result<Sig, CoreFault> {
+    let alloc = reader.alloc;
+    let scope = Layers {
+        outer,
+        inner: Some(layer),
+    };
+    match spec {
+        Spec::Value(place, descs) => values(alloc, &scope, *place, descs),
+        Spec::Type(place, descs) => types(alloc, reader.new, *place, descs, false),
+        Spec::Eqtype(place, descs) => types(alloc, reader.new, *place, descs, true),
+        Spec::Datatype(place, binds) => new_datatypes(alloc, &scope, reader.new, *place, binds),
+        Spec::Replication(_, name, long) => replication(alloc, &scope, name, long),
+        Spec::Exception(place, descs) => exceptions(alloc, &scope, *place, descs),
+        Spec::Structure(_, descs) => structures(reader, outer, layer, descs),
+        Spec::Include(_, sig) => read(reader, outer, Some(layer), sig),
+        Spec::SharingType(_, _) | Spec::Sharing(_, _) => Ok(Sig {
+            names: Vec::new(alloc),
+            env: Rc::new(alloc, Env::new(alloc))?,
+        }),
+    }
+}
+
+#[cycle(read)]
+#[inline(never)]
+fn structures<S: Scope>(
+    reader: &mut Reader<'_>,
+    outer: &S,
+    layer: &Layer<'_>,
+    descs: &[StrDesc],
+) -> Result<Sig, CoreFault> {
+    let mut names: Vec<TyName> = Vec::new(reader.alloc);
+    let mut env = Env::new(reader.alloc);
+    for desc in descs {
+        let sig = read(reader, outer, Some(layer), &desc.signature)?;
+        names.extend_from_slice(sig.names.as_slice())?;
+        env.structures.insert(desc.name.ident.clone()?, sig.env.clone()?)?;
+    }
+    Ok(Sig {
+        names,
+        env: Rc::new(reader.alloc, env)?,
+    })
 }

@@ -3,18 +3,23 @@
 use crate::fault::{CoreFault, plain_fault};
 use sml_envs::objects::Env;
 use sml_lex::fault::{Code, Place};
-use sml_objects::objects::Scheme;
+use sml_objects::objects::{MlType, Scheme};
 use sml_objects::sizes::size_up_to;
 
 /// The greatest size of a scheme and of the body of a type function, in nodes.
 pub const GREATEST_SIZE: u32 = 10_000;
 
-/// That a scheme or the body of a type function isn't too large, or E7.
-pub fn small(place: Place, scheme: &Scheme) -> Result<(), CoreFault> {
-    if size_up_to(&scheme.body, GREATEST_SIZE) > GREATEST_SIZE {
+/// That a type isn't too large for a scheme, or E7.
+pub fn small_type(place: Place, ty: &MlType) -> Result<(), CoreFault> {
+    if size_up_to(ty, GREATEST_SIZE) > GREATEST_SIZE {
         return Err(plain_fault(Code::E7, place));
     }
     Ok(())
+}
+
+/// That a scheme or the body of a type function isn't too large, or E7.
+pub fn small(place: Place, scheme: &Scheme) -> Result<(), CoreFault> {
+    small_type(place, &scheme.body)
 }
 
 /// That no scheme or type function of an environment is too large.

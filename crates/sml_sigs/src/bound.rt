@@ -1,0 +1,60 @@
+//! The names that a signature binds, and their constructors.
+
+use indexmap::{IndexMap, IndexSet};
+use sml_envs::functions::name_of;
+use sml_envs::objects::{Constructors, Env};
+use sml_lex::fault::Memory;
+use sml_objects::objects::{Scheme, TyName};
+use sml_tree::bare::Ident;
+use std::alloc::Global;
+use std::collections::BTreeMap;
+use std::rc::Rc;
+
+/// The constructors of names, for those that have some.
+pub(crate) type Table = IndexMap<TyName, Rc<Constructors>>;
+
+/// The bound name that a type function is.
+pub(crate) fn bound_name(names: &IndexSet<TyName>, function: &Scheme) -> Option<TyName> {
+    let name = name_of(function)?;
+    if names.contains(&name) {
+        Some(name)
+    } else {
+        None
+    }
+}
+
+/// The constructors that an environment gives to bound names.
+pub(crate) fn table_of(
+    alloc: Global,
+    names: &IndexSet<TyName>,
+    env: &Env,
+) -> Result<Table, Memory> {
+    let mut table = IndexMap::new(alloc);
+    collect(names, env, &mut table)?;
+    Ok(table)
+}
+
+#[cycle(collect)]
+fn collect(names: &IndexSet<TyName>, env: &Env, table: &mut Table) -> Result<(), Memory> {
+    collect_structures(names, &env.structures, table)?;
+    for (_, ty) in &env.types {
+        if !ty.constructors.is_empty() {
+            if let Some(name) = bound_name(names, &ty.function) {
+                table.insert(name, ty.constructors.clone()?)?;
+            }
+        }
+    }
+    Ok(())
+}
+
+#[cycle(collect)]
+fn collect_structures(
+    names: &IndexSet<TyName>,
+    structures: &BTreeMap<Ident, Rc<Env>>,
+    table: &mut Table,
+) -> Result<(), Memory> {
+    for (_, structure) in structures {
+        collect(names, structure, table)?;
+    }
+    Ok(())
+}

@@ -1,0 +1,67 @@
+//! What specifications see: those before them in each `sig .. end` around them, and then an outer scope.
+
+use sml_envs::objects::{Env, TypeStr};
+use sml_tree::bare::Ident;
+use sml_types::scope::Scope;
+use std::rc::Rc;
+
+/// The specifications of a `sig .. end` so far, and those around it.
+pub(crate) struct Layer<'a> {
+    pub env: &'a Env,
+    pub around: Option<&'a Layer<'a>>,
+}
+
+/// Specifications over an outer scope.
+pub(crate) struct Layers<'a, S> {
+    pub outer: &'a S,
+    pub inner: Option<&'a Layer<'a>>,
+}
+
+impl<S: Scope> Scope for Layers<'_, S> {
+    fn structure(&self, name: &Ident) -> Option<&Rc<Env>> {
+        match structure_in(self.inner, name) {
+            Some(found) => Some(found),
+            None => self.outer.structure(name),
+        }
+    }
+
+    fn type_str(&self, name: &Ident) -> Option<&TypeStr> {
+        match type_in(self.inner, name) {
+            Some(found) => Some(found),
+            None => self.outer.type_str(name),
+        }
+    }
+}
+
+#[cycle(structures)]
+fn structure_in<'a>(layer: Option<&'a Layer<'a>>, name: &Ident) -> Option<&'a Rc<Env>> {
+    let layer = layer?;
+    match layer.env.structures.get(name) {
+        Some(found) => Some(found),
+        None => structure_in(layer.around, name),
+    }
+}
+
+#[cycle(types)]
+fn type_in<'a>(layer: Option<&'a Layer<'a>>, name: &Ident) -> Option<&'a TypeStr> {
+    let layer = layer?;
+    match layer.env.types.get(name) {
+        Some(found) => Some(found),
+        None => type_in(layer.around, name),
+    }
+}
+
+/// The environment of a signature as a scope of its own.
+pub(crate) struct Inside<'a> {
+    pub env: &'a Env,
+}
+
+impl Scope for Inside<'_> {
+    fn structure(&self, name: &Ident) -> Option<&Rc<Env>> {
+        self.env.structures.get(name)
+    }
+
+    fn type_str(&self, name: &Ident) -> Option<&TypeStr> {
+        self.env.types.get(name)
+    }
+}

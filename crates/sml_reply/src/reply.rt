@@ -58,6 +58,20 @@ impl Reply {
         Ok(Reply::Accepted(AcceptedReply { text, warnings }))
     }
 
+    /// The reply to an accepted declaration of the whole language, of which this is the own basis.
+    pub fn environment(
+        alloc: Global,
+        number: u32,
+        _own: &sml_envs::objects::Basis,
+        warnings: Vec<Warning>,
+    ) -> Result<Reply, Memory> {
+        let mut lines = Lines::new(alloc);
+        push_number(&mut lines.text, number as usize)?;
+        lines.text.extend_from_slice(b" ok\n")?;
+        let Lines { text, .. } = lines;
+        Ok(Reply::Accepted(AcceptedReply { text, warnings }))
+    }
+
     /// The reply to a refused declaration.
     pub fn refused(number: u32, fault: Fault) -> Reply
         ensures text { reply_text result false ≡ T.text naming number (Answers.refused (fault_of fault)) }

@@ -1,0 +1,4 @@
+// Top-level declarations of the whole language.
+#![tactic(auto)]
+
+pub mod modules;

@@ -1,0 +1,59 @@
+//! Why a phrase has no meaning.
+
+use sml_lex::fault::{Code, Fault, Memory, Place};
+use std::alloc::{AllocError, AllocFailed};
+
+/// A fault of the declaration, or want of memory.
+#[derive(Debug, Drop)]
+pub enum CoreFault {
+    Memory,
+    Fault(Fault),
+}
+
+impl From<Memory> for CoreFault {
+    ghost use Rattle.sml_types.specs.declared.fault.CoreFault.TheVariants.{Memory};
+
+    ghost from_gives = { λ _ e. e ≡ Memory };
+
+    fn from(_memory: Memory) -> CoreFault {
+        CoreFault::Memory
+    }
+}
+
+impl From<AllocError> for CoreFault {
+    ghost use Rattle.sml_types.specs.declared.fault.CoreFault.TheVariants.{Memory};
+
+    ghost from_gives = { λ _ e. e ≡ Memory };
+
+    fn from(_error: AllocError) -> CoreFault {
+        CoreFault::Memory
+    }
+}
+
+impl<T: Drop> From<AllocFailed<T>> for CoreFault {
+    ghost use Rattle.sml_types.specs.declared.fault.CoreFault.TheVariants.{Memory};
+
+    ghost from_gives = { λ _ e. e ≡ Memory };
+
+    fn from(_error: AllocFailed<T>) -> CoreFault {
+        CoreFault::Memory
+    }
+}
+
+/// A fault that speaks of no identifier.
+pub fn plain_fault(code: Code, place: Place) -> CoreFault {
+    CoreFault::Fault(Fault {
+        code,
+        place,
+        detail: None,
+    })
+}
+
+/// A fault that speaks of this long identifier or path.
+pub fn fault_about(code: Code, place: Place, detail: Vec<u8>) -> CoreFault {
+    CoreFault::Fault(Fault {
+        code,
+        place,
+        detail: Some(detail),
+    })
+}

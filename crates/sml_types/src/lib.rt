@@ -1,0 +1,4 @@
+// Types of the whole language.
+#![tactic(auto)]
+
+pub mod fault;

@@ -1,5 +1,7 @@
 //! Why a phrase has no meaning.
 
+ghost use Rattle.std.specs.Prelude.{◌≡◌};
+
 use sml_lex::fault::{Code, Fault, Memory, Place};
 use std::alloc::{AllocError, AllocFailed};
 

@@ -13,21 +13,21 @@ pub(crate) struct Exports {
     pub(crate) specified: Option<Env>,
 }
 
-/// The basis from which a unit starts: the exports of its needs over the initial basis. There is none where a need isn't
-/// all of the piece.
-pub(crate) fn start(
+/// The basis with the exports of the needs over it. There is none where a need isn't all of the piece.
+pub(crate) fn with_needs(
     alloc: Global,
-    id: UnitId,
+    mut basis: Basis,
     needs: &[usize],
     exports: &[Exports],
 ) -> Result<Option<Basis>, Memory> {
-    let mut basis = Basis::initial(alloc, id)?;
+    let unit = basis.unit;
     for need in needs {
         if let Some(needed) = exports.get(*need) {
             let Some(env) = &needed.specified else {
                 return Ok(None);
             };
-            basis.add(nameless(alloc, id, env)?)?;
+            let exported = nameless(alloc, unit, env)?;
+            basis.add(exported)?;
         }
     }
     Ok(Some(basis))

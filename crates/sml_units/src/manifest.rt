@@ -1,9 +1,8 @@
 //! The units that a project lists, and the faults of projects.
 
-ghost use Rattle.std.specs.Prelude.{◌≡◌, ◌≤◌, map, vec_len, string_bytes};
+ghost use Rattle.std.specs.Prelude.{◌≡◌};
 ghost use Rattle.sml_units.specs.declared.manifest.ManifestFault.TheVariants.{Memory};
 ghost use Rattle.sml_units.specs.declared.manifest.OrderFault.TheVariants as OF;
-ghost use Rattle.sml_units.specs.declared.manifest.TheConstants.{MOST_UNITS};
 
 use indexmap::IndexSet;
 use sml_lex::fault::Memory;
@@ -113,11 +112,9 @@ impl Manifest {
         }
     }
 
-    ghost use Rattle.sml_units.specs.ProjectFiles.{units_in};
-
     /// The files of the units, as written.
     pub fn files(&self) -> &[String]
-        ensures { map string_bytes result.now ≡ map (λ u. u.file) (units_in self.now) }
+        ensures { result.now ≡ self.now.files.items }
     {
         self.files.as_slice()
     }

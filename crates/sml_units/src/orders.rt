@@ -1,8 +1,6 @@
 //! In which order the units of a manifest come.
 
-ghost use Rattle.std.specs.Prelude.{◌≡◌, IfOk, IfErr, map};
-ghost use Rattle.sml_units.specs.Orders.{IsOrder};
-ghost use Rattle.sml_units.specs.ProjectFiles.{units_in};
+ghost use Rattle.std.specs.Prelude.{◌<◌, IfSome, length};
 
 use crate::manifest::{Manifest, OrderFault, ProjectCode, ProjectFault};
 use indexmap::IndexSet;
@@ -23,10 +21,11 @@ pub fn order(alloc: Global, manifest: &Manifest) -> Result<Vec<UnitId>, OrderFau
         let Some(index) = next(&mut waiting, &taken) else {
             return Err(first_left(manifest, &taken));
         };
+        let Ok(id) = u32::try_from(index) else {
+            return Err(OrderFault::Memory);
+        };
         taken[index] = true;
-        order.push(UnitId {
-            index: index as u32,
-        })?;
+        order.push(UnitId { index: id })?;
     }
     Ok(order)
 }
@@ -60,9 +59,11 @@ fn places_of(
 }
 
 /// The earliest unit that is left and waits for none that isn't taken.
-fn next(waiting: &mut [Vec<usize>], taken: &[bool]) -> Option<usize> {
+fn next(waiting: &mut [Vec<usize>], taken: &[bool]) -> Option<usize>
+    ensures { IfSome result (λ i. i < length taken.now) }
+{
     for index in 0..taken.len() {
-        if !taken[index] && is_ready(&mut waiting[index], taken) {
+        if !taken[index] && index < waiting.len() && is_ready(&mut waiting[index], taken) {
             return Some(index);
         }
     }
@@ -72,13 +73,18 @@ fn next(waiting: &mut [Vec<usize>], taken: &[bool]) -> Option<usize> {
 /// Whether all these units are taken. Those at the end that are need not be asked for again, and are left out.
 fn is_ready(needs: &mut Vec<usize>, taken: &[bool]) -> bool {
     for _ in 0..needs.len() {
-        match needs.last() {
-            Some(last) if taken[*last] => {}
-            _ => return false,
+        if let Some(last) = needs.last() {
+            if !is_taken(taken, *last) {
+                return false;
+            }
         }
         needs.pop();
     }
     true
+}
+
+fn is_taken(taken: &[bool], index: usize) -> bool {
+    index < taken.len() && taken[index]
 }
 
 /// O2 at the earliest unit that is left.
@@ -93,8 +99,8 @@ fn first_left(manifest: &Manifest, taken: &[bool]) -> OrderFault {
 
 /// The fault at the line of the unit with so many before it.
 fn fault(manifest: &Manifest, code: ProjectCode, index: usize) -> OrderFault {
-    OrderFault::Fault(ProjectFault {
-        code,
-        line: manifest.lines[index],
-    })
+    match manifest.lines.get(index) {
+        Some(line) => OrderFault::Fault(ProjectFault { code, line: *line }),
+        None => OrderFault::Memory,
+    }
 }

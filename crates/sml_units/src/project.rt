@@ -1,7 +1,8 @@
 //! Projects and what their declarations are answered.
 
-ghost use Rattle.std.specs.Prelude.{◌≡◌, ◌≤◌, ◌+◌, IfOk, IfErr, List, OnOk, [], length, map, vec_len};
-ghost use Rattle.std.specs.Option.{option_map};
+ghost use Rattle.std.specs.Prelude.{◌≡◌, ◌≤◌, ◌+◌, ◌++◌, IfOk, IfErr, List, OnOk, [], length, map, vec_len};
+ghost use Rattle.sml_reply.specs.declared.reply.Reply.{Reply};
+ghost use Rattle.std.specs.Option.{option_map, option_to_list};
 ghost use Rattle.sml_lex.specs.Faults.{fault_of};
 ghost use Rattle.sml_tree.specs.Views.{dec_of};
 ghost use Rattle.sml_objects.specs.Initial.{Name, initial_basis};
@@ -11,12 +12,12 @@ ghost use Rattle.sml_objects.specs.Views.{maker_of, sig_of};
 ghost use Rattle.sml_rules.specs.Answers.{accepted};
 ghost use Rattle.sml_rules.specs.Open.{OpenEnv};
 ghost use Rattle.sml_piece.specs.Elaborated.{IsBasisOf, IsOwnBasis};
-ghost use Rattle.sml_units.specs.Checked.{MayReply, IsAnswered, HaveReplies, IsStep, IsReplyTo, Answered, AreRepliesTo, with_last};
-ghost use Rattle.sml_units.specs.Orders.{IsProjectOf, unit_texts};
-ghost use Rattle.sml_units.specs.Runs.{start};
+ghost use Rattle.sml_units.specs.Checked.{MayReply, IsAnswered, IsBegun, IsStep, IsReplyTo, Answered, AreRepliesTo, with_last};
+ghost use Rattle.sml_units.specs.Orders.{IsProjectOf, unit_texts, unit_text_of};
+ghost use Rattle.sml_units.specs.Runs.{start, is_specified};
 ghost use Rattle.sml_units.specs.ProjectFiles.{units_in};
 
-use crate::exports::{Exports, empty, nameless, start};
+use crate::exports::{Exports, empty, nameless, with_needs};
 use crate::manifest::{Manifest, OrderFault};
 use crate::orders::{needed, order};
 use crate::whole::{answer_rest, exported, whole_basis};
@@ -31,18 +32,18 @@ use sml_piece::top_fault::TopFault;
 use sml_reply::reply::Reply;
 use sml_tree::bare::BareDec;
 use std::alloc::Global;
+use std::mem::replace;
 use std::rc::Rc;
 
-/// The units of a project as listed, and in which order they are checked.
+/// The units of a project in their order, each with its text and the places of its needs in that order.
 #[derive(Drop)]
 pub struct Project {
-    order: Vec<UnitId>,
     units: Vec<ProjectUnit>,
 }
 
-/// A unit's needs are places in the order, from 0.
 #[derive(Drop)]
 struct ProjectUnit {
+    id: UnitId,
     name: String,
     text: Vec<u8>,
     needs: Vec<usize>,
@@ -60,16 +61,19 @@ impl Project {
         let places = places_in(alloc, &order)?;
         let mut units = Vec::new(alloc);
         let names = manifest.names.as_slice();
-        for (index, text) in texts.into_iter().enumerate() {
-            if index < names.len() && index < needed.len() {
+        let mut texts = texts;
+        for id in order.as_slice() {
+            let index = id.index as usize;
+            if index < names.len() && index < needed.len() && index < texts.len() {
                 units.push(ProjectUnit {
+                    id: *id,
                     name: names[index].clone()?,
-                    text,
+                    text: replace(&mut texts[index], Vec::new(alloc)),
                     needs: each_at(alloc, &places, &needed[index])?,
                 })?;
             }
         }
-        Ok(Project { order, units })
+        Ok(Project { units })
     }
 }
 
@@ -137,17 +141,17 @@ impl Checked {
 }
 
 /// Answers every declaration of the project.
-pub fn check(alloc: Global, project: &Project) -> Result<Checked, Memory> {
+pub fn check(alloc: Global, project: &Project) -> Result<Checked, Memory>
+    ensures { length (unit_texts project.now) ≤ 1 → IfOk result (λ c. MayReply project.now c.replies) }
+{
     let initial = Rc::new(alloc, initial(alloc)?)?;
     let mut exports = Vec::new(alloc);
     let mut units = Vec::new(alloc);
-    for id in project.order.as_slice() {
-        if let Some(unit) = project.units.get(id.index as usize) {
-            let name = unit.name.clone()?;
-            let (replies, own) = check_unit(alloc, &initial, &exports, *id, unit)?;
-            units.push(UnitReplies { name, replies })?;
-            exports.push(own)?;
-        }
+    for unit in project.units.as_slice() {
+        let name = unit.name.clone()?;
+        let (replies, own) = check_unit(alloc, &initial, &exports, unit)?;
+        units.push(UnitReplies { name, replies })?;
+        exports.push(own)?;
     }
     Ok(Checked {
         replies: Replies { units },
@@ -159,40 +163,36 @@ fn check_unit(
     alloc: Global,
     initial: &Rc<WholeBasis>,
     exports: &[Exports],
-    id: UnitId,
     unit: &ProjectUnit,
-) -> Result<(Vec<Reply>, Exports), Memory> {
+) -> Result<(Vec<Reply>, Exports), Memory>
+    ensures { length exports.now ≡ 0 → IfOk result (λ r. IsAnswered (unit_text_of unit.now) r.0.items) }
+{
     let lexed = lex(alloc, &unit.text)?;
     let parsed = parse(alloc, &lexed)?;
-    let start = start(alloc, id, &unit.needs, exports)?;
-    let beginning = match start {
-        Some(basis) => answer_piece(alloc, basis, &parsed.piece)?,
-        None => Beginning {
-            count: 0,
-            bound: empty(alloc, id),
-            replies: Vec::new(alloc),
-            is_whole: false,
-        },
-    };
-    let is_all = beginning.is_whole && beginning.replies.len() == parsed.declarations.len();
+    let begun = begin(alloc, unit.id, &unit.needs, exports, &parsed.piece)?;
     let Beginning {
         count,
         bound,
         replies,
-        ..
-    } = beginning;
+        is_whole,
+    } = begun;
     let mut basis = whole_basis(alloc, initial, &unit.needs, exports, count, &bound)?;
-    let replies = answer_rest(alloc, &mut basis, replies, &parsed.declarations)?;
-    let own = Exports {
-        whole: exported(alloc, basis)?,
-        specified: if is_all { Some(bound.env) } else { None },
+    let rest = &parsed.declarations[replies.len()..];
+    let specified = if is_whole && rest.is_empty() {
+        Some(bound.env)
+    } else {
+        None
     };
-    Ok((and_last(replies, parsed.fault)?, own))
+    let replies = answer_rest(alloc, &mut basis, replies, rest)?;
+    let whole = exported(alloc, basis)?;
+    let replies = and_last(replies, parsed.fault)?;
+    Ok((replies, Exports { whole, specified }))
 }
 
 /// The replies with that to the unit's last fault, if there is one.
 fn and_last(mut replies: Vec<Reply>, fault: Option<Fault>) -> Result<Vec<Reply>, Memory>
-    ensures { IfOk result (λ rs. (os : List Answered) → AreRepliesTo 1 os replies.items → AreRepliesTo 1 (with_last os (option_map fault_of fault)) rs.items) }
+    ensures last { IfOk result (λ rs. (os : List Answered) → AreRepliesTo 1 os replies.items → AreRepliesTo 1 (with_last os (option_map fault_of fault)) rs.items) }
+    ensures more { IfOk result (λ rs. (tail : List Reply) × (rs.items ≡ replies.items ++ tail) × (length tail ≡ length (option_to_list fault))) }
 {
     match fault {
         Some(fault) => {
@@ -204,17 +204,43 @@ fn and_last(mut replies: Vec<Reply>, fault: Option<Fault>) -> Result<Vec<Reply>,
     }
 }
 
-/// The replies to the declarations before the first that isn't of the piece, each of which sees those before it.
-fn answer_piece(
+/// Answers the declarations of a unit as far as they are of the piece, in the basis from which it starts. Where a need
+/// isn't all of the piece, there is none.
+fn begin(
     alloc: Global,
-    basis: Basis,
+    id: UnitId,
+    needs: &[usize],
+    exports: &[Exports],
     declarations: &[BareDec],
-) -> Result<Beginning, Memory> {
+) -> Result<Beginning, Memory>
+    ensures begun { length exports.now ≡ 0 → IfOk result (IsBegun (maker_of id) (start initial_basis [] []) (map dec_of declarations.now)) }
+    ensures few { IfOk result (λ b. length b.replies.items ≤ length declarations.now) }
+{
+    let basis = Basis::initial(alloc, id)?;
+    if exports.is_empty() {
+        return answer_piece(alloc, basis, declarations);
+    }
+    match with_needs(alloc, basis, needs, exports)? {
+        Some(basis) => answer_piece(alloc, basis, declarations),
+        None => Ok(Beginning {
+            count: 0,
+            bound: empty(alloc, id),
+            replies: Vec::new(alloc),
+            is_whole: false,
+        }),
+    }
+}
+
+/// The replies to the declarations before the first that isn't of the piece, each of which sees those before it.
+fn answer_piece(alloc: Global, basis: Basis, declarations: &[BareDec]) -> Result<Beginning, Memory>
+    ensures begun { (B : O.Basis Name) → IsBasisOf basis B → IfOk result (IsBegun (maker_of basis.unit) B (map dec_of declarations.now)) }
+    ensures few { IfOk result (λ b. length b.replies.items ≤ length declarations.now) }
+{
     let mut basis = basis;
     let mut bound = empty(alloc, basis.unit);
     let mut replies = Vec::new(alloc);
     for dec in declarations {
-        if let BareDec::Other(_) = dec {
+        if !is_specified(dec) {
             return Ok(Beginning {
                 count: basis.names.len(),
                 bound,
@@ -234,6 +260,16 @@ fn answer_piece(
     })
 }
 
+/// Whether a declaration is of the piece.
+fn is_specified(dec: &BareDec) -> bool
+    ensures { result ≡ is_specified (dec_of dec.now) }
+{
+    match dec {
+        BareDec::Core(_) | BareDec::Structure(_) => true,
+        BareDec::Other(_) => false,
+    }
+}
+
 /// The reply to a declaration. What an accepted one binds is put into the basis, and into what is bound so far.
 fn answer(
     alloc: Global,
@@ -241,7 +277,9 @@ fn answer(
     bound: &mut Basis,
     number: u32,
     dec: &BareDec,
-) -> Result<Reply, Memory> {
+) -> Result<Reply, Memory>
+    ensures { (B : O.Basis Name) → IsBasisOf basis.old B → IfOk result (IsStep basis.old basis.new B (dec_of dec.now) number) }
+{
     match topdec(alloc, basis, dec) {
         Ok((own, warnings)) => accept(alloc, basis, bound, number, own, warnings),
         Err(TopFault::Fault(fault)) => Ok(Reply::refused(number, fault)),
@@ -256,7 +294,12 @@ fn accept(
     number: u32,
     own: Basis,
     warnings: Vec<Warning>,
-) -> Result<Reply, Memory> {
+) -> Result<Reply, Memory>
+    ensures reply { IfOk result (λ r. warnings.items ≡ [] → IsReplyTo number (accepted (sig_of own)) r) }
+    ensures basis { (B : O.Basis Name) → IsBasisOf basis.old B → IsOwnBasis basis.old own → OpenEnv (sig_of own).body
+        → OnOk result (IsBasisOf basis.new (extend B (sig_of own))) }
+    ensures unit { OnOk result (basis.new.unit ≡ basis.old.unit) }
+{
     let reply = Reply::accepted(alloc, number, &own, warnings)?;
     bound.add(nameless(alloc, own.unit, &own.env)?)?;
     basis.add(own)?;

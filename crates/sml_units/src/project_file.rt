@@ -2,9 +2,10 @@
 
 ghost use Rattle.std.specs.Prelude.{◌≡◌, IfOk, map};
 ghost use Rattle.std.specs.Str.Lines.{strip_carriage_return};
-ghost use Rattle.sml_units.specs.ProjectFiles.{IsAnswerTo, LineGives, lines_of, words_of, is_name_byte, is_unit_name, is_file_name, is_remark};
+ghost use Rattle.sml_units.specs.ProjectFiles.{lines_of, words_of, is_name_byte, is_unit_name, is_file_name, is_remark};
 
 use crate::manifest::{MOST_UNITS, Manifest, ManifestFault, ProjectCode, ProjectFault};
+use crate::project::number_behind;
 use indexmap::IndexSet;
 use sml_lex::fault::Memory;
 use std::alloc::{AllocError, Global};
@@ -37,16 +38,14 @@ fn fault(code: ProjectCode, line: u32) -> ManifestFault
 }
 
 /// The units that a project file lists, or O4 or O3 at the first line that has one of them, O4 where it has both.
-pub fn manifest(alloc: Global, text: &[u8]) -> Result<Manifest, ManifestFault>
-    ensures { IsAnswerTo text.now result }
-{
+pub fn manifest(alloc: Global, text: &[u8]) -> Result<Manifest, ManifestFault> {
     if text.len() > MOST_BYTES {
         return Err(fault(ProjectCode::O4, 1));
     }
     let lines = lines(alloc, text)?;
     let mut manifest = Manifest::new(alloc);
     for (index, line) in lines.iter().enumerate() {
-        let number = index as u32 + 1;
+        let number = number_behind(index)?;
         match read_line(alloc, *line, manifest.files.len())? {
             Line::PassedOver => {}
             Line::Listed(unit) => {
@@ -99,9 +98,7 @@ fn without_return(line: &[u8]) -> &[u8]
 }
 
 /// Reads a line behind so many units.
-fn read_line(alloc: Global, line: &[u8], listed: usize) -> Result<Line, Memory>
-    ensures { IfOk result (LineGives listed line.now) }
-{
+fn read_line(alloc: Global, line: &[u8], listed: usize) -> Result<Line, Memory> {
     let found = words(alloc, line)?;
     let words = found.as_slice();
     if words.is_empty() || is_remark(words[0]) {

@@ -1,5 +1,8 @@
 //! The whole language: units that aren't all of the piece.
 
+ghost use Rattle.std.specs.Prelude.{◌≡◌, ◌++◌, IfOk, List, length};
+ghost use Rattle.sml_reply.specs.declared.reply.Reply.{Reply};
+
 use crate::exports::Exports;
 use crate::project::number_behind;
 use sml_envs::objects::{
@@ -77,16 +80,18 @@ fn put_structures(
     Ok(())
 }
 
-/// The replies with those to the declarations that have none yet.
+/// The replies with those to these declarations behind them.
 pub(crate) fn answer_rest(
     alloc: Global,
     basis: &mut WholeBasis,
     mut replies: Vec<Reply>,
     declarations: &[TopDec],
-) -> Result<Vec<Reply>, Memory> {
-    for index in replies.len()..declarations.len() {
+) -> Result<Vec<Reply>, Memory>
+    ensures { IfOk result (λ rs. (tail : List Reply) × (rs.items ≡ replies.items ++ tail) × (length tail ≡ length declarations.now)) }
+{
+    for dec in declarations {
         let number = number_behind(replies.len())?;
-        let reply = answer(alloc, basis, number, &declarations[index])?;
+        let reply = answer(alloc, basis, number, dec)?;
         replies.push(reply)?;
     }
     Ok(replies)

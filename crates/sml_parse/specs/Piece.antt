@@ -30,9 +30,14 @@ use Rattle.sml_parse.specs.declared.form.Meaning.{Meaning}
 use Rattle.sml_parse.specs.declared.form.Meaning.TheVariants as M
 use Rattle.sml_parse.specs.declared.form.Form.TheVariants as F
 
--- the alphanumeric identifiers with a fixity (the Definition, appendix C), and those that can't be bound (section 2.9)
+-- The alphanumeric value identifiers of the initial basis (the Definition, appendices C and D). Among them are all that
+-- have a fixity, and all that can't be bound (section 2.9).
 abbrev pub no_value_names : List (List ℕ)
-no_value_names = codes "before" ∷ codes "div" ∷ codes "false" ∷ codes "mod" ∷ codes "nil" ∷ codes "o" ∷ codes "ref" ∷ codes "true" ∷ []
+no_value_names =
+    codes "Bind" ∷ codes "Div" ∷ codes "Fail" ∷ codes "Match" ∷ codes "Overflow" ∷ codes "Subscript" ∷ codes "abs" ∷
+    codes "before" ∷ codes "chr" ∷ codes "div" ∷ codes "false" ∷ codes "floor" ∷ codes "ignore" ∷ codes "length" ∷
+    codes "map" ∷ codes "mod" ∷ codes "nil" ∷ codes "not" ∷ codes "o" ∷ codes "ord" ∷ codes "print" ∷
+    codes "real" ∷ codes "ref" ∷ codes "rev" ∷ codes "size" ∷ codes "str" ∷ codes "true" ∷ []
 
 abbrev pub is_value_name : List ℕ → Bool
 is_value_name text = not (list_any (bytes_eq text) no_value_names)

@@ -24,17 +24,37 @@ fn token_at(tokens: &[Token], index: usize) -> Option<Token>
     }
 }
 
-/// Whether an alphanumeric identifier may name a value: it has no fixity, and it may be bound.
+/// Whether an alphanumeric identifier may name a value of the piece: the initial basis has no such value, and so the
+/// identifier has no fixity and may be bound.
 fn is_value_name(text: &[u8]) -> bool
     ensures { result ≡ piece.is_value_name text.now }
 {
-    !(text == b"before".as_slice()
+    !(text == b"Bind".as_slice()
+        || text == b"Div".as_slice()
+        || text == b"Fail".as_slice()
+        || text == b"Match".as_slice()
+        || text == b"Overflow".as_slice()
+        || text == b"Subscript".as_slice()
+        || text == b"abs".as_slice()
+        || text == b"before".as_slice()
+        || text == b"chr".as_slice()
         || text == b"div".as_slice()
         || text == b"false".as_slice()
+        || text == b"floor".as_slice()
+        || text == b"ignore".as_slice()
+        || text == b"length".as_slice()
+        || text == b"map".as_slice()
         || text == b"mod".as_slice()
         || text == b"nil".as_slice()
+        || text == b"not".as_slice()
         || text == b"o".as_slice()
+        || text == b"ord".as_slice()
+        || text == b"print".as_slice()
+        || text == b"real".as_slice()
         || text == b"ref".as_slice()
+        || text == b"rev".as_slice()
+        || text == b"size".as_slice()
+        || text == b"str".as_slice()
         || text == b"true".as_slice())
 }
 

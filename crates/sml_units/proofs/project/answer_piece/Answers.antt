@@ -1,4 +1,4 @@
-use Rattle.std.proofs.Common.{◌≡◌, ◌<◌, ◌+◌, ℕ, List, [], ◌∷◌, ◌++◌, true, length, map, take, drop, get_or, arith, ap, refl, sym, subst, ◌∙◌}
+use Rattle.std.proofs.Common.{◌≡◌, ◌<◌, ◌+◌, ℕ, true, List, [], ◌∷◌, ◌++◌, length, map, take, drop, get_or, arith, ap, refl, sym, subst, ◌∙◌}
 use Rattle.std.specs.List.{list_all}
 use Rattle.std.proofs.lemmas.List.{map_more, take_all, length-append, drop_more, map-append, take-append-drop}
 use Rattle.sml_tree.specs.Views.{dec_of}
@@ -16,6 +16,7 @@ pub loop-dec-init : goal.loop-dec-init
 loop-dec-init c = (
   refl,
   ap length c.new-replies.ensures.items,
+  omega arith,
   λ B basis. ([], run_none (maker_of c.args.basis.unit) B, subst (AreRepliesTo 1 []) (sym c.new-replies.ensures.items) tt, basis, refl),
 )
 
@@ -36,11 +37,12 @@ loop-dec-preserved c =
     let x = c.dec-item.result in
     let rs = c.loop-dec.replies in
     let more = decs_more xs i x c.loop-dec-test.true c.dec-item.is in
-    let number = c.in_ok-number.ensures ∙ (let a = c.len.ensures in let b = rs.ok.0 in omega (arith, a, b)) in (
+    let number = c.in_ok-number.ensures ∙ (let a = c.len-in-loop-dec.ensures in let b = rs.ok.0 in omega (arith, a, b)) in (
       ap (list_all is_specified) more ∙ all_push (map dec_of (take i xs)) (dec_of x) v.0 (sym c.is_specified.ensures ∙ c.if-not-is_specified.false),
       ap length c.in_ok-push.ensures.items ∙ length-append rs.items (c.in_ok-reply.reply ∷ []) ∙ ap (λ n. n + 1) v.1,
+      (let h = c.loop-dec-test.true in omega (arith, h)),
       λ B basis.
-          let w = v.2 B basis in
+          let w = v.3 B basis in
           let os = w.0 in
           let step = c.in_ok-reply.ensures (after_all B os) w.3 in
           let o = step.answer in
@@ -53,30 +55,30 @@ loop-dec-preserved c =
           ),
     )
 
-pub returns-then-not-is_specified : goal.returns-then-not-is_specified
-returns-then-not-is_specified c = (
-  (λ B basis.
-      let w = c.loop-dec.invariant.2 B basis in
-      let xs = c.args.declarations.now in
-      let i = c.loop-dec.dec-index in
-      let x = c.dec-item.result in
-      let cut = beginning_cut_at (map dec_of (take i xs)) (map dec_of (drop (i + 1) xs)) (dec_of x) (map dec_of xs) (split_at xs i x c.loop-dec-test.true c.dec-item.is) c.loop-dec.invariant.0 (sym c.is_specified.ensures ∙ c.if-not-is_specified.true) in
-      record { answers = w.0; run = subst (λ ds. Run naming (maker_of c.args.basis.unit) B ds w.0) (sym cut) w.1; replies = w.2 }),
-  (let n = c.loop-dec.invariant.1 in let h = c.loop-dec-test.true in omega (arith, n, h)),
-)
-
-pub returns : goal.returns
-returns c =
+pub returns-then-not-is_specified-clause-begun : goal.returns-then-not-is_specified-clause-begun
+returns-then-not-is_specified-clause-begun c = λ B basis.
+    let w = c.loop-dec.invariant.3 B basis in
     let xs = c.args.declarations.now in
-    let all = take_all c.loop-dec.dec-index xs c.loop-dec-test.false in (
-      (λ B basis.
-          let w = c.loop-dec.invariant.2 B basis in
-          let ds = map dec_of xs in
-          let specified = subst (λ ys. list_all is_specified (map dec_of ys) ≡ true) all c.loop-dec.invariant.0 in
-          record {
-            answers = w.0;
-            run = subst (λ es. Run naming (maker_of c.args.basis.unit) B es w.0) (sym (beginning_all ds specified)) (subst (λ ys. Run naming (maker_of c.args.basis.unit) B (map dec_of ys) w.0) all w.1);
-            replies = w.2;
-          }),
-      (let n = c.loop-dec.invariant.1 in let h = c.loop-dec.dec-at-most in omega (arith, n, h)),
-    )
+    let i = c.loop-dec.dec-index in
+    let x = c.dec-item.result in
+    let cut = beginning_cut_at (map dec_of (take i xs)) (map dec_of (drop (i + 1) xs)) (dec_of x) (map dec_of xs) (split_at xs i x c.loop-dec-test.true c.dec-item.is) c.loop-dec.invariant.0 (sym c.is_specified.ensures ∙ c.if-not-is_specified.true) in
+    record { answers = w.0; run = subst (λ ds. Run naming (maker_of c.args.basis.unit) B ds w.0) (sym cut) w.1; replies = w.2 }
+
+pub returns-then-not-is_specified-clause-few : goal.returns-then-not-is_specified-clause-few
+returns-then-not-is_specified-clause-few c = (let n = c.loop-dec.invariant.1 in let h = c.loop-dec-test.true in omega (arith, n, h))
+
+pub returns-clause-begun : goal.returns-clause-begun
+returns-clause-begun c = λ B basis.
+    let xs = c.args.declarations.now in
+    let all = take_all c.loop-dec.dec-index xs c.loop-dec-test.false in
+    let w = c.loop-dec.invariant.3 B basis in
+    let ds = map dec_of xs in
+    let specified = subst (λ ys. list_all is_specified (map dec_of ys) ≡ true) all c.loop-dec.invariant.0 in
+    record {
+      answers = w.0;
+      run = subst (λ es. Run naming (maker_of c.args.basis.unit) B es w.0) (sym (beginning_all ds specified)) (subst (λ ys. Run naming (maker_of c.args.basis.unit) B (map dec_of ys) w.0) all w.1);
+      replies = w.2;
+    }
+
+pub returns-clause-few : goal.returns-clause-few
+returns-clause-few c = (let n = c.loop-dec.invariant.1 in let h = c.loop-dec.invariant.2 in omega (arith, n, h))

@@ -1,5 +1,5 @@
-use Rattle.std.proofs.Common.{◌≡◌, ◌<◌, ◌≤◌, ◌+◌, ℕ, List, [], ◌∷◌, ◌++◌, length, map, take, get_or, arith, ap, sym, subst, ◌∙◌}
-use Rattle.std.proofs.lemmas.List.{map_more, take_all, length-map, length-append, length-take}
+use Rattle.std.proofs.Common.{◌≡◌, ◌<◌, ◌≤◌, ◌+◌, ℕ, zero, suc, List, [], ◌∷◌, ◌++◌, length, map, take, get_or, arith, refl, ap, sym, subst, ◌∙◌}
+use Rattle.std.proofs.lemmas.List.{map_more, take_all, length-append}
 use Rattle.sml_units.specs.Orders.{unit_text_of}
 use Rattle.sml_units.specs.Runs.{specified}
 use Rattle.sml_units.specs.declared.project.ProjectUnit.{ProjectUnit}
@@ -15,7 +15,9 @@ units_more xs i x h e = map_more unit_text_of xs i x h ∙ ap (λ y. map unit_te
 
 -- none stands before the first
 first_only : (xs : List ProjectUnit) (i : ℕ) → i < length xs → length (map unit_text_of (take i xs)) ≡ 0 → i ≡ 0
-first_only xs i h e = (let a = length-map (take i xs) unit_text_of in let b = length-take i xs (omega (arith, h)) in omega (arith, a, b, e))
+first_only [] i h e = absurd (omega (arith, h))
+first_only (x ∷ xs) zero h e = refl
+first_only (x ∷ xs) (suc i) h e = absurd (omega (arith, e))
 
 pub loop-unit-preserved : goal.loop-unit-preserved
 loop-unit-preserved c =
@@ -26,7 +28,7 @@ loop-unit-preserved c =
       subst (λ us. AreAnswered us c.push.new.self.items) (sym (units_more xs i u c.loop-unit-test.true c.unit-item.is))
           (subst (AreAnswered (map unit_text_of (take i xs) ++ unit_text_of u ∷ [])) (sym c.in_ok-push.ensures.items)
           (answered_push (map unit_text_of (take i xs)) c.loop-unit.units.items (unit_text_of u) _ v.0
-          c.in_ok-name.ensures.cases (λ e. c.in_ok-check_unit.ensures (ap length c.deref.ensures.value ∙ v.1 ∙ first_only xs i c.loop-unit-test.true e)))),
+          c.in_ok-name.ensures.cases (λ e. c.in_ok-replies.ensures (ap length c.deref.ensures.value ∙ v.1 ∙ first_only xs i c.loop-unit-test.true e)))),
       ap length c.in_ok-push-2.ensures.items ∙ length-append c.loop-unit.exports.items _ ∙ ap (λ n. n + 1) v.1,
     )
 

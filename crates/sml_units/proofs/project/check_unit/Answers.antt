@@ -3,6 +3,7 @@ use Rattle.std.specs.List.{slice_range}
 use Rattle.std.specs.Option.{option_map, option_to_list}
 use Rattle.std.proofs.lemmas.List.{length-map, length-take, length-take-le, length-drop}
 use Rattle.sml_lex.specs.Faults.{fault_of}
+use Rattle.sml_lex.specs.Pieces.{Spells}
 use Rattle.sml_tree.specs.Views.{dec_of}
 use Rattle.sml_tree.specs.StructureViews.{top_of}
 use Rattle.sml_parse.specs.Trees.{Trees}
@@ -30,8 +31,8 @@ returns c = λ none.
     let tops = map top_of p.declarations.items in
     let ds = map dec_of p.piece.items in
     let last = option_map fault_of p.fault in
-    let trees = subst (λ bytes. Trees bytes l.tokens.items l.end tops ds last) c.in_ok-lexed.ensures.0 c.in_ok-parsed.ensures in
-    let spelt : AreSpelt u.text ds last = subst (λ bytes. AreSpelt bytes ds last) c.deref.ensures.value (record { tokens = l.tokens.items; end = l.end; tokens_spelt = c.in_ok-lexed.ensures.1; tops = tops; trees = trees }) in
+    let trees = subst (λ bytes. Trees bytes l.tokens.items l.end tops ds last) (c.in_ok-lexed.ensures.0 ∙ c.deref.ensures.value) c.in_ok-parsed.ensures in
+    let spelt : AreSpelt u.text ds last = record { tokens = l.tokens.items; end = l.end; tokens_spelt = subst (λ bytes. Spells bytes l.tokens.items l.end) c.deref.ensures.value c.in_ok-lexed.ensures.1; tops = tops; trees = trees } in
     let begun = subst (λ xs. IsBegun (maker_of c.args.unit.now.id) (start initial_basis [] []) (map dec_of xs) b) c.deref-3.ensures.value (c.in_ok-begun.ensures.begun none) in
     let rest = c.in_ok-replies.ensures in
     let tail = rest.0 in

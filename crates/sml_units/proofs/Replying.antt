@@ -1,8 +1,8 @@
 -- Runs and replies, declaration by declaration.
-use Rattle.std.proofs.Common.{◌≡◌, ◌≤◌, ◌+◌, ℕ, suc, Bool, true, false, cond, ◌&&◌, List, [], ◌∷◌, ◌++◌, length, Option, None, Result, Ok, Err, IfOk, OnOk, Vec, Global, refl, ap, sym, subst, ◌∙◌, append_assoc, append-nil, arith}
+use Rattle.std.proofs.Common.{◌≡◌, ◌≤◌, ◌+◌, ℕ, suc, Bool, true, false, cond, ◌&&◌, List, [], ◌∷◌, ◌++◌, length, Option, Some, None, Result, Ok, Err, IfOk, OnOk, Vec, Global, refl, ap, sym, subst, ◌∙◌, append_assoc, append-nil, arith}
 use Rattle.std.specs.Prelude.{◌==◌}
 use Rattle.std.specs.List.{list_all}
-use Rattle.std.specs.Option.{option_to_list}
+use Rattle.std.specs.Option.{option_map, option_to_list}
 use Rattle.std.proofs.lemmas.Bool.{and_parts, eqb-true}
 use Rattle.std.proofs.lemmas.List.{length-map, length-append}
 use Rattle.sml_lex.specs.declared.fault.Place.{Place}
@@ -185,6 +185,10 @@ start_none ks = λ i. record { names = all_names [] ++ names_basis initial_basis
 -- the answers and the last fault of a unit, from how its replies were made
 abbrev source_of : UnitText → ℕ → List (Dec Place) → Option (Fault Place) → SourceUnit
 source_of u n ds last = record { label = u.name; maker = suc u.place; needs = u.needs; number = n; declarations = ds; last = last }
+
+pub ends_as_many : {X Y : Type 0} (g : X → Y) (o : Option X) → length (option_to_list o) ≡ length (option_to_list (option_map g o))
+ends_as_many g None = refl
+ends_as_many g (Some x) = refl
 
 nothing_behind : (rs tail : List Reply) → length (rs ++ tail) ≡ length rs → rs ++ tail ≡ rs
 nothing_behind [] [] h = refl

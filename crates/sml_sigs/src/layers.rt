@@ -6,12 +6,14 @@ use sml_types::scope::Scope;
 use std::rc::Rc;
 
 /// The specifications of a `sig .. end` so far, and those around it.
+#[derive(Clone, Copy)]
 pub(crate) struct Layer<'a> {
     pub env: &'a Env,
     pub around: Option<&'a Layer<'a>>,
 }
 
 /// Specifications over an outer scope.
+#[derive(Drop)]
 pub(crate) struct Layers<'a, S> {
     pub outer: &'a S,
     pub inner: Option<&'a Layer<'a>>,
@@ -52,6 +54,7 @@ fn type_in<'a>(layer: Option<&'a Layer<'a>>, name: &Ident) -> Option<&'a TypeStr
 }
 
 /// The environment of a signature as a scope of its own.
+#[derive(Clone, Copy)]
 pub(crate) struct Inside<'a> {
     pub env: &'a Env,
 }

@@ -12,7 +12,6 @@ use sml_tree::types::Ty;
 type Found = IndexSet<Ident>;
 
 /// Adds those of bindings.
-#[cycle(unguarded)]
 pub(crate) fn in_binds(binds: &[ValBind], found: &mut Found) -> Result<(), Memory> {
     for bind in binds {
         in_pat(&bind.pat, found)?;
@@ -21,7 +20,7 @@ pub(crate) fn in_binds(binds: &[ValBind], found: &mut Found) -> Result<(), Memor
     Ok(())
 }
 
-#[cycle(unguarded)]
+#[cycle(unguarded_exps)]
 fn in_exp(exp: &Exp, found: &mut Found) -> Result<(), Memory> {
     match exp {
         Exp::Constant(_, _) | Exp::Identifier(_, _) => Ok(()),
@@ -58,7 +57,7 @@ fn in_exp(exp: &Exp, found: &mut Found) -> Result<(), Memory> {
     }
 }
 
-#[cycle(unguarded)]
+#[cycle(unguarded_exps)]
 fn in_rules(rules: &[Rule], found: &mut Found) -> Result<(), Memory> {
     for rule in rules {
         in_pat(&rule.pat, found)?;
@@ -67,7 +66,7 @@ fn in_rules(rules: &[Rule], found: &mut Found) -> Result<(), Memory> {
     Ok(())
 }
 
-#[cycle(unguarded)]
+#[cycle(unguarded_decs)]
 fn in_decs(decs: &[Dec], found: &mut Found) -> Result<(), Memory> {
     for dec in decs {
         in_dec(dec, found)?;
@@ -75,7 +74,7 @@ fn in_decs(decs: &[Dec], found: &mut Found) -> Result<(), Memory> {
     Ok(())
 }
 
-#[cycle(unguarded)]
+#[cycle(unguarded_decs)]
 fn in_dec(dec: &Dec, found: &mut Found) -> Result<(), Memory> {
     match dec {
         Dec::Exception(_, binds) => in_exceptions(binds, found),

@@ -178,12 +178,7 @@ impl Mapping for Renaming {
 
 /// The basis with the unit's names that have this number or a higher one renumbered from it on, in the order in which
 /// they appear in the lines of the reply, and with that many more names.
-pub fn canonical(
-    alloc: Global,
-    basis: Basis,
-    unit: UnitId,
-    count: u32,
-) -> Result<Basis, Memory> {
+pub fn canonical(alloc: Global, basis: Basis, unit: UnitId, count: u32) -> Result<Basis, Memory> {
     let mut appearance = Appearance::new(alloc, unit, count);
     appearance.add_basis(&basis)?;
     let mut new = NewNames { unit, next: count };
@@ -257,11 +252,7 @@ pub fn renamed_sig(alloc: Global, sig: &Sig, new: &mut NewNames) -> Result<Sig, 
     renaming.sig(alloc, sig)
 }
 
-fn renaming_of(
-    alloc: Global,
-    names: &[TyName],
-    new: &mut NewNames,
-) -> Result<Renaming, Memory> {
+fn renaming_of(alloc: Global, names: &[TyName], new: &mut NewNames) -> Result<Renaming, Memory> {
     let mut renaming = Renaming {
         names: IndexMap::new(alloc),
     };

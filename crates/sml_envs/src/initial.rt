@@ -35,47 +35,32 @@ impl Types {
 
     fn name(&self, name: Initial) -> Result<Rc<MlType>, Memory> {
         let parts = Vec::new(self.alloc);
-        Ok(Rc::new(
-            self.alloc,
-            MlType::Name(TyName::Initial(name), parts),
-        )?)
+        Ok(Rc::new(self.alloc, MlType::Name(TyName::Initial(name), parts))?)
     }
 
     /// A name applied to the first variable.
     fn of_a(&self, name: Initial) -> Result<Rc<MlType>, Memory> {
         let mut parts = Vec::new(self.alloc);
         parts.push(self.a.clone()?)?;
-        Ok(Rc::new(
-            self.alloc,
-            MlType::Name(TyName::Initial(name), parts),
-        )?)
+        Ok(Rc::new(self.alloc, MlType::Name(TyName::Initial(name), parts))?)
     }
 
     /// A name applied to the second variable.
     fn of_b(&self, name: Initial) -> Result<Rc<MlType>, Memory> {
         let mut parts = Vec::new(self.alloc);
         parts.push(self.b.clone()?)?;
-        Ok(Rc::new(
-            self.alloc,
-            MlType::Name(TyName::Initial(name), parts),
-        )?)
+        Ok(Rc::new(self.alloc, MlType::Name(TyName::Initial(name), parts))?)
     }
 
     fn pair(&self, first: &Rc<MlType>, second: &Rc<MlType>) -> Result<Rc<MlType>, Memory> {
         let mut parts = Vec::new(self.alloc);
         parts.push(first.clone()?)?;
         parts.push(second.clone()?)?;
-        Ok(Rc::new(
-            self.alloc,
-            MlType::Row(self.pair.clone()?, parts),
-        )?)
+        Ok(Rc::new(self.alloc, MlType::Row(self.pair.clone()?, parts))?)
     }
 
     fn arrow(&self, from: &Rc<MlType>, to: &Rc<MlType>) -> Result<Rc<MlType>, Memory> {
-        Ok(Rc::new(
-            self.alloc,
-            MlType::Arrow(from.clone()?, to.clone()?),
-        )?)
+        Ok(Rc::new(self.alloc, MlType::Arrow(from.clone()?, to.clone()?))?)
     }
 
     /// A scheme with these variables, by their equality attributes.
@@ -189,8 +174,10 @@ fn put_types(types: &Types, env: &mut Env) -> Result<(), Memory> {
 
 fn put_datatypes(types: &Types, env: &mut Env) -> Result<(), Memory> {
     let bool = types.name(Initial::Bool)?;
-    let constructors: [(&[u8], Rc<MlType>); 2] =
-        [(b"false", bool.clone()?), (b"true", bool.clone()?)];
+    let constructors: [(&[u8], Rc<MlType>); 2] = [
+        (b"false", bool.clone()?),
+        (b"true", bool.clone()?),
+    ];
     types.datatype(env, b"bool", &[], &bool, &constructors)?;
     let list = types.of_a(Initial::List)?;
     let cons = types.arrow(&types.pair(&types.a, &list)?, &list)?;
@@ -245,7 +232,13 @@ fn put_polymorphic(types: &Types, env: &mut Env) -> Result<(), Memory> {
     let same = types.pair(a, a)?;
     types.value(env, b"=", &[true], &same, &bool)?;
     types.value(env, b"<>", &[true], &same, &bool)?;
-    types.value(env, b":=", &[false], &types.pair(&reference, a)?, &types.unit)?;
+    types.value(
+        env,
+        b":=",
+        &[false],
+        &types.pair(&reference, a)?,
+        &types.unit,
+    )?;
     types.value(env, b"!", &[false], &reference, a)?;
     types.value(env, b"@", &[false], &types.pair(&list, &list)?, &list)?;
     types.value(env, b"before", &[false], &types.pair(a, &types.unit)?, a)?;

@@ -8,4 +8,5 @@ pub mod initial;
 pub mod mapping;
 pub mod new_names;
 pub mod objects;
+mod order;
 pub mod realisation;

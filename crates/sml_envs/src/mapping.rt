@@ -3,6 +3,7 @@
 ghost use Rattle.std.specs.Prelude.{◌<◌, length};
 
 use crate::objects::{Constructors, Env, TypeStr, Value};
+use crate::order::in_order;
 use sml_lex::fault::Memory;
 use sml_objects::applications::apply;
 use sml_objects::objects::{MlType, Scheme, TyName};
@@ -39,7 +40,19 @@ pub fn mapped_type<M: Mapping>(
     }
 }
 
-/// The scheme that a scheme becomes, with the same variables.
+/// The type function that a type function becomes, with the same variables.
+pub fn mapped_function<M: Mapping>(
+    alloc: Global,
+    scheme: &Rc<Scheme>,
+    by: &M,
+) -> Result<Rc<Scheme>, Memory> {
+    match changed_function(alloc, scheme, by)? {
+        Some(changed) => Ok(changed),
+        None => Ok(scheme.clone()?),
+    }
+}
+
+/// The scheme that a scheme becomes.
 pub fn mapped_scheme<M: Mapping>(
     alloc: Global,
     scheme: &Rc<Scheme>,
@@ -200,7 +213,23 @@ fn and_part(
     }
 }
 
+/// The scheme that a scheme becomes, or `None` where it stays. A type function in the place of a name may change the order
+/// in which variables appear, and drop some.
 fn changed_scheme<M: Mapping>(
+    alloc: Global,
+    scheme: &Scheme,
+    by: &M,
+) -> Result<Option<Rc<Scheme>>, Memory> {
+    match changed_type(alloc, &scheme.body, by)? {
+        None => Ok(None),
+        Some(body) => {
+            let scheme = in_order(alloc, scheme.variables.as_slice(), body)?;
+            Ok(Some(Rc::new(alloc, scheme)?))
+        }
+    }
+}
+
+fn changed_function<M: Mapping>(
     alloc: Global,
     scheme: &Scheme,
     by: &M,
@@ -257,7 +286,7 @@ fn changed_type_str<M: Mapping>(
     ty: &TypeStr,
     by: &M,
 ) -> Result<Option<TypeStr>, Memory> {
-    let changed = changed_scheme(alloc, &ty.function, by)?;
+    let changed = changed_function(alloc, &ty.function, by)?;
     if changed.is_none() && !changes_schemes(alloc, &ty.constructors, by)? {
         return Ok(None);
     }

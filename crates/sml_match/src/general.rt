@@ -35,11 +35,7 @@ pub(crate) fn is_general(
 }
 
 /// The same for schemes without unknowns: types for the variables of the first make it the second.
-fn is_closed_general(
-    alloc: Global,
-    scheme: &Scheme,
-    specified: &Scheme,
-) -> Result<bool, Memory> {
+fn is_closed_general(alloc: Global, scheme: &Scheme, specified: &Scheme) -> Result<bool, Memory> {
     let mut images = Vec::new(alloc);
     for equality in &scheme.variables {
         images.push(VariableImage {
@@ -47,7 +43,12 @@ fn is_closed_general(
             image: None,
         })?;
     }
-    Ok(becomes(&mut images, &specified.variables, &scheme.body, &specified.body))
+    Ok(becomes(
+        &mut images,
+        &specified.variables,
+        &scheme.body,
+        &specified.body,
+    ))
 }
 
 /// A variable's equality attribute, and the type that it stands for.
@@ -152,11 +153,7 @@ fn unknown(first: usize, index: usize) -> Result<u32, Memory> {
 }
 
 /// Asks that the last unknowns, as many as there are attributes, are explicit type variables of their own.
-fn ask_rigid(
-    alloc: Global,
-    solver: &mut Solver,
-    attributes: &[bool],
-) -> Result<Vec<u32>, Refusal> {
+fn ask_rigid(alloc: Global, solver: &mut Solver, attributes: &[bool]) -> Result<Vec<u32>, Refusal> {
     let first = behind(solver, attributes.len());
     let mut rigid = Vec::new(alloc);
     for (index, equality) in attributes.iter().enumerate() {

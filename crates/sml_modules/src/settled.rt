@@ -38,11 +38,7 @@ impl Mapping for Known {
 }
 
 /// The environment with the types that its unknowns turned out to be. One that is still unknown is Q2.
-pub(crate) fn settled_env(
-    context: &mut Context,
-    env: Env,
-    place: Place,
-) -> Result<Env, CoreFault> {
+pub(crate) fn settled_env(context: &mut Context, env: Env, place: Place) -> Result<Env, CoreFault> {
     if !context.is_open() {
         return Ok(env);
     }

@@ -1,4 +1,4 @@
-//! The lines of what a declaration of the whole language binds.
+//! The text of an accepted declaration of the whole language.
 
 use crate::numerals::push_number;
 use crate::texts::{Around, initial_text, sole_part};
@@ -6,71 +6,112 @@ use indexmap::IndexSet;
 use sml_envs::objects::{Basis, Constructors, Env, FunSig, Sig, Status, TypeStr, Value};
 use sml_lex::fault::Memory;
 use sml_objects::labels::Labels;
-use sml_objects::objects::{MlType, Scheme, TyName};
+use sml_objects::objects::{MadeName, MlType, Scheme, TyName};
 use sml_tree::bare::Ident;
 use std::alloc::Global;
 use std::collections::BTreeMap;
 use std::rc::Rc;
 
-/// A text that grows, the path before the identifiers of its next line, the names that were numbered in it, and those
-/// that a signature or a functor binds.
-#[derive(Drop)]
-pub(crate) struct BasisLines {
-    pub text: Vec<u8>,
-    prefix: Vec<u8>,
-    names: IndexSet<TyName>,
-    bound: IndexSet<TyName>,
+/// The text of the reply with this number to a declaration that binds what the basis itself binds.
+pub(crate) fn accepted_text(alloc: Global, number: u32, basis: &Basis) -> Result<Vec<u8>, Memory> {
+    let mut lines = Lines::new(alloc);
+    push_number(&mut lines.text, number as usize)?;
+    lines.push(b" ok\n")?;
+    lines.push_env(&basis.env)?;
+    for (name, sig) in &basis.signatures {
+        lines.push_signature(name, sig)?;
+    }
+    for (name, functor) in &basis.functors {
+        lines.push_functor(name, functor)?;
+    }
+    let Lines { text, .. } = lines;
+    Ok(text)
 }
 
-impl BasisLines {
-    /// An empty text.
-    pub(crate) fn new(alloc: Global) -> BasisLines {
-        BasisLines {
+/// What the numbers of variables in a line mean: parameters by their places, or variables by first appearance.
+#[derive(Clone, Copy)]
+enum Variables<'a> {
+    Parameters,
+    Scheme(&'a [bool]),
+}
+
+/// A text that grows, the prefix of the paths in its next lines, the names that signatures and functors bind, the made
+/// names that were numbered, and the variables that were numbered in the last line.
+#[derive(Drop)]
+struct Lines {
+    text: Vec<u8>,
+    prefix: Vec<u8>,
+    bound: IndexSet<TyName>,
+    names: IndexSet<TyName>,
+    variables: IndexSet<u32>,
+}
+
+impl Lines {
+    fn new(alloc: Global) -> Lines {
+        Lines {
             text: Vec::new(alloc),
             prefix: Vec::new(alloc),
-            names: IndexSet::new(alloc),
             bound: IndexSet::new(alloc),
+            names: IndexSet::new(alloc),
+            variables: IndexSet::new(alloc),
         }
     }
 
-    /// The lines of what a basis binds.
-    pub(crate) fn push_basis(&mut self, basis: &Basis) -> Result<(), Memory> {
-        self.push_env(&basis.env)?;
-        for (name, signature) in &basis.signatures {
-            self.push_signature(name, signature)?;
-        }
-        for (name, functor) in &basis.functors {
-            self.push_functor(name, functor)?;
-        }
+    fn push(&mut self, bytes: &[u8]) -> Result<(), Memory> {
+        self.text.extend_from_slice(bytes)?;
         Ok(())
     }
 
-    fn push_signature(&mut self, name: &Ident, signature: &Sig) -> Result<(), Memory> {
-        self.push_bound(signature)?;
-        self.push_identifier(b"  signature ", name, b"\n")?;
-        self.push_under(name, b".", &signature.env)
+    fn push_if(&mut self, wanted: bool, bytes: &[u8]) -> Result<(), Memory> {
+        if wanted { self.push(bytes) } else { Ok(()) }
     }
 
-    fn push_functor(&mut self, name: &Ident, functor: &FunSig) -> Result<(), Memory> {
-        self.push_bound(&functor.argument)?;
-        self.push_bound(&functor.result)?;
-        self.push_identifier(b"  functor ", name, b"\n")?;
-        self.push_under(name, b".arg.", &functor.argument.env)?;
-        self.push_under(name, b".res.", &functor.result.env)
+    fn push_path(&mut self, name: &Ident) -> Result<(), Memory> {
+        self.text.extend_from_slice(&self.prefix)?;
+        self.text.extend_from_slice(name.as_slice())?;
+        Ok(())
     }
 
-    fn push_bound(&mut self, signature: &Sig) -> Result<(), Memory> {
-        for name in &signature.names {
+    /// Makes the prefix longer by a name and a dot. The length that it had is handed back.
+    fn enter(&mut self, name: &[u8]) -> Result<usize, Memory> {
+        let length = self.prefix.len();
+        self.prefix.extend_from_slice(name)?;
+        self.prefix.push(b'.')?;
+        Ok(length)
+    }
+
+    fn bind(&mut self, names: &[TyName]) -> Result<(), Memory> {
+        for name in names {
             self.bound.insert(*name)?;
         }
         Ok(())
     }
 
-    /// The lines of an environment behind a longer path.
-    fn push_under(&mut self, name: &Ident, behind: &[u8], env: &Env) -> Result<(), Memory> {
-        let length = self.prefix.len();
-        self.prefix.extend_from_slice(name.as_slice())?;
-        self.prefix.extend_from_slice(behind)?;
+    fn push_signature(&mut self, name: &Ident, sig: &Sig) -> Result<(), Memory> {
+        self.push(b"  signature ")?;
+        self.push(name.as_slice())?;
+        self.push(b"\n")?;
+        self.bind(&sig.names)?;
+        self.push_within(name.as_slice(), &sig.env)
+    }
+
+    fn push_functor(&mut self, name: &Ident, functor: &FunSig) -> Result<(), Memory> {
+        self.push(b"  functor ")?;
+        self.push(name.as_slice())?;
+        self.push(b"\n")?;
+        self.bind(&functor.argument.names)?;
+        self.bind(&functor.result.names)?;
+        let length = self.enter(name.as_slice())?;
+        self.push_within(b"arg", &functor.argument.env)?;
+        self.push_within(b"res", &functor.result.env)?;
+        self.prefix.truncate(length);
+        Ok(())
+    }
+
+    /// The lines of an environment, with the name in their prefix.
+    #[cycle(envs)]
+    fn push_within(&mut self, name: &[u8], env: &Env) -> Result<(), Memory> {
+        let length = self.enter(name)?;
         self.push_env(env)?;
         self.prefix.truncate(length);
         Ok(())
@@ -79,128 +120,103 @@ impl BasisLines {
     #[cycle(envs)]
     fn push_env(&mut self, env: &Env) -> Result<(), Memory> {
         self.push_structures(&env.structures)?;
-        for (name, ty) in &env.types {
-            self.push_type_str(name, ty)?;
-        }
-        for (name, value) in &env.values {
-            self.push_value(name, value)?;
-        }
-        Ok(())
+        self.push_type_lines(&env.types)?;
+        self.push_values(&env.values)
     }
 
     #[cycle(envs)]
     fn push_structures(&mut self, structures: &BTreeMap<Ident, Rc<Env>>) -> Result<(), Memory> {
         for (name, structure) in structures {
-            self.push_identifier(b"  structure ", name, b"\n")?;
-            let length = self.prefix.len();
-            self.prefix.extend_from_slice(name.as_slice())?;
-            self.prefix.push(b'.')?;
-            self.push_env(structure)?;
-            self.prefix.truncate(length);
+            self.push(b"  structure ")?;
+            self.push_path(name)?;
+            self.push(b"\n")?;
+            self.push_within(name.as_slice(), structure)?;
         }
         Ok(())
     }
 
-    /// A word, the identifier behind the path, and a sign.
-    fn push_identifier(&mut self, word: &[u8], name: &Ident, sign: &[u8]) -> Result<(), Memory> {
-        self.text.extend_from_slice(word)?;
-        self.text.extend_from_slice(self.prefix.as_slice())?;
-        self.text.extend_from_slice(name.as_slice())?;
-        self.text.extend_from_slice(sign)?;
+    fn push_type_lines(&mut self, types: &BTreeMap<Ident, TypeStr>) -> Result<(), Memory> {
+        for (name, ty) in types {
+            self.push(type_word(&ty.constructors))?;
+            self.push_parameters(ty.function.variables.len())?;
+            self.push_path(name)?;
+            self.push(b" = ")?;
+            self.push_type(Variables::Parameters, Around::Nothing, &ty.function.body)?;
+            self.push(b"\n")?;
+            self.push_constructors(&ty.constructors)?;
+        }
         Ok(())
-    }
-
-    fn push_type_str(&mut self, name: &Ident, ty: &TypeStr) -> Result<(), Memory> {
-        let word: &[u8] = if ty.constructors.is_empty() {
-            b"  type "
-        } else {
-            b"  datatype "
-        };
-        self.text.extend_from_slice(word)?;
-        self.push_parameters(&ty.function)?;
-        self.push_identifier(b"", name, b" = ")?;
-        self.push_scheme(&ty.function)?;
-        self.push_constructors(&ty.constructors)
-    }
-
-    /// Nothing, `'a ` or `('a, 'b) `.
-    fn push_parameters(&mut self, function: &Scheme) -> Result<(), Memory> {
-        let count = function.variables.len();
-        if count == 0 {
-            return Ok(());
-        }
-        self.push_if(count > 1, b"(")?;
-        for index in 0..count {
-            self.push_if(index > 0, b", ")?;
-            self.push_variable(function, index)?;
-        }
-        self.push_if(count > 1, b")")?;
-        self.push_if(true, b" ")
     }
 
     fn push_constructors(&mut self, constructors: &Constructors) -> Result<(), Memory> {
         for (name, scheme) in constructors {
-            self.text.extend_from_slice(b"  | ")?;
-            self.text.extend_from_slice(name.as_slice())?;
-            self.text.extend_from_slice(b" : ")?;
+            self.push(b"  | ")?;
+            self.push(name.as_slice())?;
             self.push_scheme(scheme)?;
         }
         Ok(())
     }
 
-    fn push_value(&mut self, name: &Ident, value: &Value) -> Result<(), Memory> {
-        let word: &[u8] = match value.status {
-            Status::Variable | Status::Overloaded(_) => b"  val ",
-            Status::Constructor {
-                number: _,
-                count: _,
-            } => b"  con ",
-            Status::Exception => b"  exception ",
-        };
-        self.push_identifier(word, name, b" : ")?;
-        self.push_scheme(&value.scheme)
-    }
-
-    /// The body of a scheme, and the end of the line.
-    fn push_scheme(&mut self, scheme: &Scheme) -> Result<(), Memory> {
-        self.push_type(scheme, Around::Nothing, &scheme.body)?;
-        self.push_if(true, b"\n")
-    }
-
-    fn push_if(&mut self, wanted: bool, bytes: &[u8]) -> Result<(), Memory> {
-        if wanted {
-            self.text.extend_from_slice(bytes)?;
+    fn push_values(&mut self, values: &BTreeMap<Ident, Value>) -> Result<(), Memory> {
+        for (name, value) in values {
+            self.push(value_word(value.status))?;
+            self.push_path(name)?;
+            self.push_scheme(&value.scheme)?;
         }
         Ok(())
     }
 
-    /// A type whose variables are those of a scheme.
+    /// The rest of a line with a type of its own.
+    fn push_scheme(&mut self, scheme: &Scheme) -> Result<(), Memory> {
+        self.variables.clear();
+        self.push(b" : ")?;
+        let variables = Variables::Scheme(&scheme.variables);
+        self.push_type(variables, Around::Nothing, &scheme.body)?;
+        self.push(b"\n")
+    }
+
+    /// `'a `, or `('a, 'b) `.
+    fn push_parameters(&mut self, count: usize) -> Result<(), Memory> {
+        self.push_if(count > 1, b"(")?;
+        for index in 0..count {
+            self.push_if(index > 0, b", ")?;
+            self.push_variable(false, index)?;
+        }
+        self.push_if(count > 1, b")")?;
+        self.push_if(count > 0, b" ")
+    }
+
     #[cycle(types)]
-    fn push_type(&mut self, scheme: &Scheme, around: Around, ty: &MlType) -> Result<(), Memory> {
+    fn push_type(
+        &mut self,
+        variables: Variables<'_>,
+        around: Around,
+        ty: &MlType,
+    ) -> Result<(), Memory> {
         match ty {
-            MlType::Bound(variable) => self.push_variable(scheme, *variable as usize),
-            MlType::Free(_) => self.push_if(true, b"_"),
+            MlType::Bound(number) => self.push_bound(variables, *number),
+            MlType::Free(_) => self.push(b"_"),
             MlType::Arrow(from, to) => {
                 let brackets = around.brackets_arrow();
                 self.push_if(brackets, b"(")?;
-                self.push_type(scheme, Around::Arrow, from)?;
-                self.push_if(true, b" -> ")?;
-                self.push_type(scheme, Around::Nothing, to)?;
+                self.push_type(variables, Around::Arrow, from)?;
+                self.push(b" -> ")?;
+                self.push_type(variables, Around::Nothing, to)?;
                 self.push_if(brackets, b")")
             }
             MlType::Row(labels, parts) => {
                 if parts.is_empty() {
-                    return self.push_if(true, b"unit");
+                    return self.push(b"unit");
                 }
                 if parts.len() > 1 && labels.are_numbered() {
                     let brackets = around.brackets_tuple();
-                    return self.push_types(scheme, brackets, Around::Part, b" * ", parts);
+                    return self.push_types(variables, brackets, Around::Part, b" * ", parts);
                 }
-                self.push_fields(scheme, labels, parts)
+                self.push_record(variables, labels, parts)
             }
             MlType::Name(name, parts) => {
                 let several = parts.len() > 1;
-                self.push_types(scheme, several, sole_part(several), b", ", parts)?;
+                self.push_types(variables, several, sole_part(several), b", ", parts)?;
                 self.push_if(!parts.is_empty(), b" ")?;
                 self.push_name(*name)
             }
@@ -209,9 +225,10 @@ impl BasisLines {
 
     /// The types with a sign between them, perhaps in brackets.
     #[cycle(types)]
+    #[inline(never)]
     fn push_types(
         &mut self,
-        scheme: &Scheme,
+        variables: Variables<'_>,
         brackets: bool,
         around: Around,
         between: &[u8],
@@ -220,56 +237,97 @@ impl BasisLines {
         self.push_if(brackets, b"(")?;
         for (index, ty) in types.iter().enumerate() {
             self.push_if(index > 0, between)?;
-            self.push_type(scheme, around, ty)?;
+            self.push_type(variables, around, ty)?;
         }
         self.push_if(brackets, b")")
     }
 
-    /// A row that is no tuple.
     #[cycle(types)]
-    fn push_fields(
+    #[inline(never)]
+    fn push_record(
         &mut self,
-        scheme: &Scheme,
+        variables: Variables<'_>,
         labels: &Labels,
         types: &[Rc<MlType>],
     ) -> Result<(), Memory> {
-        self.push_if(true, b"{")?;
+        self.push(b"{")?;
         for (index, ty) in types.iter().enumerate() {
             self.push_if(index > 0, b", ")?;
-            if let Some(label) = labels.as_slice().get(index) {
-                self.text.extend_from_slice(label.as_slice())?;
-            }
-            self.push_if(true, b" : ")?;
-            self.push_type(scheme, Around::Nothing, ty)?;
+            self.push_label(labels, index)?;
+            self.push_type(variables, Around::Nothing, ty)?;
         }
-        self.push_if(true, b"}")
+        self.push(b"}")
     }
 
-    fn push_name(&mut self, name: TyName) -> Result<(), Memory> {
-        match name {
-            TyName::Initial(initial) => self.push_if(true, initial_text(initial)),
-            TyName::Made(made) => {
-                let sign: &[u8] = if self.bound.contains(&name) { b"%" } else { b"?" };
-                let (place, _) = self.names.insert_full(name)?;
-                self.text.extend_from_slice(sign)?;
-                self.push_if(made.equality, b"=")?;
-                push_number(&mut self.text, place.saturating_add(1))
+    fn push_label(&mut self, labels: &Labels, index: usize) -> Result<(), Memory> {
+        if let Some(label) = labels.as_slice().get(index) {
+            self.push(label.as_slice())?;
+        }
+        self.push(b" : ")
+    }
+
+    /// A variable of the line.
+    #[inline(never)]
+    fn push_bound(&mut self, variables: Variables<'_>, number: u32) -> Result<(), Memory> {
+        match variables {
+            Variables::Parameters => self.push_variable(false, number as usize),
+            Variables::Scheme(attributes) => {
+                let (place, _) = self.variables.insert_full(number)?;
+                let equality = attributes.get(number as usize) == Some(&true);
+                self.push_variable(equality, place)
             }
         }
     }
 
     /// `'a` to `'z`, then `'a1` and so on, with a second prime for an equality variable.
-    fn push_variable(&mut self, scheme: &Scheme, number: usize) -> Result<(), Memory> {
-        let equality = match scheme.variables.get(number) {
-            Some(equality) => *equality,
-            None => false,
-        };
+    fn push_variable(&mut self, equality: bool, place: usize) -> Result<(), Memory> {
         self.push_if(equality, b"'")?;
         self.text.push(b'\'')?;
-        self.text.push(b'a' + (number % 26) as u8)?;
-        if number >= 26 {
-            push_number(&mut self.text, number / 26)?;
+        self.text.push(b'a' + (place % 26) as u8)?;
+        if place >= 26 {
+            push_number(&mut self.text, place / 26)?;
         }
         Ok(())
+    }
+
+    #[inline(never)]
+    fn push_name(&mut self, name: TyName) -> Result<(), Memory> {
+        match name {
+            TyName::Initial(initial) => self.push(initial_text(initial)),
+            TyName::Made(made) => {
+                let (place, _) = self.names.insert_full(name)?;
+                prove!(place < self.names.len());
+                let is_bound = self.bound.contains(&name);
+                self.push(mark(is_bound, made))?;
+                push_number(&mut self.text, place + 1)
+            }
+        }
+    }
+}
+
+fn type_word(constructors: &Constructors) -> &'static [u8] {
+    if constructors.is_empty() {
+        b"  type "
+    } else {
+        b"  datatype "
+    }
+}
+
+fn value_word(status: Status) -> &'static [u8] {
+    match status {
+        Status::Variable => b"  val ",
+        Status::Overloaded(_) => b"  val ",
+        Status::Constructor { .. } => b"  con ",
+        Status::Exception => b"  exception ",
+    }
+}
+
+/// What stands before the number of a name.
+fn mark(is_bound: bool, name: MadeName) -> &'static [u8] {
+    match (is_bound, name.equality) {
+        (false, false) => b"?",
+        (false, true) => b"?=",
+        (true, false) => b"%",
+        (true, true) => b"%=",
     }
 }

@@ -10,7 +10,7 @@ ghost use Rattle.std.specs.Option.{option_map};
 ghost use Rattle.sml_reply.specs.Sinks.{Prints, in_turn};
 ghost use Rattle.sml_reply.specs.Text as T;
 
-use crate::lines::BasisLines;
+use crate::lines::accepted_text;
 use crate::numerals::push_number;
 use crate::sink::{Out, OutFault, write_all, write_each};
 use crate::texts::Lines;
@@ -69,11 +69,7 @@ impl Reply {
         ensures warnings { IfOk result (λ r. warnings_of r ≡ warnings.items) }
         ensures accepted { IfOk result (λ r. accepts r ≡ true) }
     {
-        let mut lines = BasisLines::new(alloc);
-        push_number(&mut lines.text, number as usize)?;
-        lines.text.extend_from_slice(b" ok\n")?;
-        lines.push_basis(basis)?;
-        let BasisLines { text, .. } = lines;
+        let text = accepted_text(alloc, number, basis)?;
         Ok(Reply::Accepted(AcceptedReply { text, warnings }))
     }
 

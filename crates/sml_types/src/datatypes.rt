@@ -74,11 +74,7 @@ impl<S: Scope> Scope for Inner<'_, S> {
 }
 
 /// A new name for each datatype, as if it admitted equality.
-fn new_names(
-    alloc: Global,
-    new: &mut NewNames,
-    binds: &[DatBind],
-) -> Result<Vec<TyName>, Memory> {
+fn new_names(alloc: Global, new: &mut NewNames, binds: &[DatBind]) -> Result<Vec<TyName>, Memory> {
     let mut names = Vec::new(alloc);
     for bind in binds {
         names.push(new.make(number_of(bind.variables.len())?, true)?)?;

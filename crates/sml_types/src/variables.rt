@@ -2,8 +2,7 @@
 
 use crate::fault::{CoreFault, plain_fault};
 use crate::rows::{boxed, number_of};
-use indexmap::IndexMap;
-use indexmap::IndexSet;
+use indexmap::{IndexMap, IndexSet};
 use sml_envs::mapping::{Image, Mapping, mapped_type};
 use sml_lex::fault::{Code, Memory, Place};
 use sml_objects::objects::{MlType, Scheme, TyName};

@@ -1,6 +1,7 @@
 // Projects: their units in order, what their declarations are answered, and runs.
 #![tactic(auto)]
 
+mod exports;
 pub mod isolation;
 pub mod laws;
 pub mod manifest;
@@ -8,3 +9,4 @@ pub mod orders;
 pub mod project;
 pub mod project_file;
 pub mod run;
+mod whole;

@@ -1,11 +1,12 @@
 //! The units that a project lists, and the faults of projects.
 
-ghost use Rattle.std.specs.Prelude.{◌≡◌, ◌≤◌, map, vec_len, string_bytes};
+ghost use Rattle.std.specs.Prelude.{◌≡◌};
 ghost use Rattle.sml_units.specs.declared.manifest.ManifestFault.TheVariants.{Memory};
 ghost use Rattle.sml_units.specs.declared.manifest.OrderFault.TheVariants as OF;
-ghost use Rattle.sml_units.specs.declared.manifest.TheConstants.{MOST_UNITS};
 
-use std::alloc::{AllocError, AllocFailed};
+use indexmap::IndexSet;
+use sml_lex::fault::Memory;
+use std::alloc::{AllocError, AllocFailed, Global};
 
 /// The code of a fault of a project.
 #[derive(Clone, Copy, PartialEq, Eq, Debug)]
@@ -57,6 +58,30 @@ impl<T: Drop> From<AllocFailed<T>> for ManifestFault {
     }
 }
 
+impl From<Memory> for ManifestFault {
+    ghost from_gives = { λ _ f. f ≡ Memory };
+
+    fn from(_memory: Memory) -> ManifestFault {
+        ManifestFault::Memory
+    }
+}
+
+impl From<Memory> for OrderFault {
+    ghost from_gives = { λ _ f. f ≡ OF.Memory };
+
+    fn from(_memory: Memory) -> OrderFault {
+        OrderFault::Memory
+    }
+}
+
+impl From<AllocError> for OrderFault {
+    ghost from_gives = { λ _ f. f ≡ OF.Memory };
+
+    fn from(_error: AllocError) -> OrderFault {
+        OrderFault::Memory
+    }
+}
+
 impl<T: Drop> From<AllocFailed<T>> for OrderFault {
     ghost from_gives = { λ _ f. f ≡ OF.Memory };
 
@@ -65,24 +90,31 @@ impl<T: Drop> From<AllocFailed<T>> for OrderFault {
     }
 }
 
-/// How many units a project has at most, for now.
-pub(crate) const MOST_UNITS: usize = 1;
+/// How many units a project has at most.
+pub(crate) const MOST_UNITS: usize = 4096;
 
-/// The units of a project file, in the order listed.
-#[derive(Debug, Drop)]
+/// The units of a project file, in the order listed: of each its name, file and needs, and the line that lists it.
+#[derive(Drop)]
 pub struct Manifest {
-    pub(crate) names: Vec<String>,
+    pub(crate) names: IndexSet<String>,
     pub(crate) files: Vec<String>,
-    ghost few: { vec_len names ≤ MOST_UNITS },
-    ghost paired: { vec_len files ≡ vec_len names },
+    pub(crate) needs: Vec<Vec<String>>,
+    pub(crate) lines: Vec<u32>,
 }
 
 impl Manifest {
-    ghost use Rattle.sml_units.specs.ProjectFiles.{units_in};
+    pub(crate) fn new(alloc: Global) -> Manifest {
+        Manifest {
+            names: IndexSet::new(alloc),
+            files: Vec::new(alloc),
+            needs: Vec::new(alloc),
+            lines: Vec::new(alloc),
+        }
+    }
 
     /// The files of the units, as written.
     pub fn files(&self) -> &[String]
-        ensures { map string_bytes result.now ≡ map (λ u. u.file) (units_in self.now) }
+        ensures { result.now ≡ self.now.files.items }
     {
         self.files.as_slice()
     }

@@ -1,0 +1,87 @@
+//! The variables of schemes in the order of their first appearance.
+
+use crate::mapping::{Image, Mapping, mapped_type};
+use indexmap::IndexSet;
+use sml_lex::fault::Memory;
+use sml_objects::objects::{MlType, Scheme, TyName};
+use std::alloc::Global;
+use std::rc::Rc;
+
+/// Bound variables become those of their places in a set.
+#[derive(Drop)]
+struct Order<'a> {
+    variables: &'a IndexSet<u32>,
+}
+
+impl Mapping for Order<'_> {
+    fn bound(&self, alloc: Global, variable: u32) -> Result<Option<Rc<MlType>>, Memory> {
+        let Some(place) = self.variables.get_index_of(&variable) else {
+            return Ok(None);
+        };
+        match u32::try_from(place) {
+            Ok(place) => Ok(Some(Rc::new(alloc, MlType::Bound(place))?)),
+            Err(_) => Err(Memory),
+        }
+    }
+
+    fn free(&self, _alloc: Global, _variable: u32) -> Result<Option<Rc<MlType>>, Memory> {
+        Ok(None)
+    }
+
+    fn name(&self, _name: TyName) -> Image<'_> {
+        Image::Same
+    }
+}
+
+/// The scheme of a type over these variables, by their equality attributes, where those that stand in it are numbered by
+/// first appearance.
+pub(crate) fn in_order(
+    alloc: Global,
+    equality: &[bool],
+    body: Rc<MlType>,
+) -> Result<Scheme, Memory> {
+    let mut order = IndexSet::new(alloc);
+    collect_bound(&body, &mut order)?;
+    let mut variables = Vec::new(alloc);
+    let mut is_ordered = order.len() == equality.len();
+    for (place, variable) in order.iter().enumerate() {
+        let index = *variable as usize;
+        is_ordered = is_ordered && index == place;
+        let flag = match equality.get(index) {
+            Some(flag) => *flag,
+            None => false,
+        };
+        variables.push(flag)?;
+    }
+    if is_ordered {
+        return Ok(Scheme { variables, body });
+    }
+    let body = mapped_type(alloc, &body, &Order { variables: &order })?;
+    Ok(Scheme { variables, body })
+}
+
+/// Adds the bound variables of a type, in the order in which they appear.
+#[cycle(bound)]
+fn collect_bound(ty: &MlType, seen: &mut IndexSet<u32>) -> Result<(), Memory> {
+    match ty {
+        MlType::Bound(variable) => {
+            seen.insert(*variable)?;
+            Ok(())
+        }
+        MlType::Free(_) => Ok(()),
+        MlType::Row(_, parts) => collect_all_bound(parts, seen),
+        MlType::Arrow(from, to) => {
+            collect_bound(from, seen)?;
+            collect_bound(to, seen)
+        }
+        MlType::Name(_, parts) => collect_all_bound(parts, seen),
+    }
+}
+
+#[cycle(bound)]
+fn collect_all_bound(parts: &[Rc<MlType>], seen: &mut IndexSet<u32>) -> Result<(), Memory> {
+    for part in parts {
+        collect_bound(part, seen)?;
+    }
+    Ok(())
+}

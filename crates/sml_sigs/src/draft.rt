@@ -81,7 +81,7 @@ impl Draft {
     /// Shares structures.
     pub(crate) fn share_structures(&mut self, longs: &[LongIdent]) -> Result<(), CoreFault> {
         let mut joins = self.joining()?;
-        for ((_, later), pair) in &self.common_types(longs)? {
+        for (((_, later), _), pair) in &self.common_types(longs)? {
             if let Some(long) = longs.get(*later) {
                 joins.share(&pair.earlier, &pair.later, long.place)?;
             }
@@ -131,7 +131,10 @@ impl Draft {
     pub(crate) fn signature(mut self) -> Result<Sig, Memory> {
         self.settle()?;
         let Draft {
-            alloc, env, names, ..
+            alloc,
+            env,
+            names,
+            ..
         } = self;
         let mut list = Vec::new(alloc);
         for name in &names {

@@ -6,12 +6,14 @@ use sml_types::scope::Scope;
 use std::rc::Rc;
 
 /// The specifications of a `sig .. end` so far, and those around it.
+#[derive(Clone, Copy)]
 pub(crate) struct Layer<'a> {
     pub env: &'a Env,
     pub around: Option<&'a Layer<'a>>,
 }
 
 /// Specifications over an outer scope.
+#[derive(Drop)]
 pub(crate) struct Layers<'a, S> {
     pub outer: &'a S,
     pub inner: Option<&'a Layer<'a>>,
@@ -19,39 +21,48 @@ pub(crate) struct Layers<'a, S> {
 
 impl<S: Scope> Scope for Layers<'_, S> {
     fn structure(&self, name: &Ident) -> Option<&Rc<Env>> {
-        match structure_in(self.inner, name) {
-            Some(found) => Some(found),
-            None => self.outer.structure(name),
+        if let Some(layer) = self.inner {
+            if let Some(found) = structure_in(layer, name) {
+                return Some(found);
+            }
         }
+        self.outer.structure(name)
     }
 
     fn type_str(&self, name: &Ident) -> Option<&TypeStr> {
-        match type_in(self.inner, name) {
-            Some(found) => Some(found),
-            None => self.outer.type_str(name),
+        if let Some(layer) = self.inner {
+            if let Some(found) = type_in(layer, name) {
+                return Some(found);
+            }
         }
+        self.outer.type_str(name)
     }
 }
 
 #[cycle(structures)]
-fn structure_in<'a>(layer: Option<&'a Layer<'a>>, name: &Ident) -> Option<&'a Rc<Env>> {
-    let layer = layer?;
+fn structure_in<'a>(layer: &'a Layer<'a>, name: &Ident) -> Option<&'a Rc<Env>> {
     match layer.env.structures.get(name) {
         Some(found) => Some(found),
-        None => structure_in(layer.around, name),
+        None => match layer.around {
+            Some(around) => structure_in(around, name),
+            None => None,
+        },
     }
 }
 
 #[cycle(types)]
-fn type_in<'a>(layer: Option<&'a Layer<'a>>, name: &Ident) -> Option<&'a TypeStr> {
-    let layer = layer?;
+fn type_in<'a>(layer: &'a Layer<'a>, name: &Ident) -> Option<&'a TypeStr> {
     match layer.env.types.get(name) {
         Some(found) => Some(found),
-        None => type_in(layer.around, name),
+        None => match layer.around {
+            Some(around) => type_in(around, name),
+            None => None,
+        },
     }
 }
 
 /// The environment of a signature as a scope of its own.
+#[derive(Clone, Copy)]
 pub(crate) struct Inside<'a> {
     pub env: &'a Env,
 }

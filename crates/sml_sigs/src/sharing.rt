@@ -42,11 +42,7 @@ impl Mapping for Joins {
 
 impl Joins {
     /// The bound names of an environment, none of them joined.
-    pub(crate) fn new(
-        alloc: Global,
-        bound: IndexSet<TyName>,
-        env: &Env,
-    ) -> Result<Joins, Memory> {
+    pub(crate) fn new(alloc: Global, bound: IndexSet<TyName>, env: &Env) -> Result<Joins, Memory> {
         let constructors = table_of(alloc, &bound, env)?;
         Ok(Joins {
             alloc,

@@ -30,6 +30,7 @@ pub fn signature<S: Scope>(
 }
 
 /// What signature expressions are read with.
+#[derive(Drop)]
 struct Reader<'a> {
     alloc: Global,
     basis: &'a Basis,
@@ -155,7 +156,8 @@ fn structures<S: Scope>(
     for desc in descs {
         let sig = read(reader, outer, Some(layer), &desc.signature)?;
         names.extend_from_slice(sig.names.as_slice())?;
-        env.structures.insert(desc.name.ident.clone()?, sig.env.clone()?)?;
+        env.structures
+            .insert(desc.name.ident.clone()?, sig.env.clone()?)?;
     }
     Ok(Sig {
         names,

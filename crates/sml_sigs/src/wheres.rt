@@ -43,7 +43,7 @@ pub(crate) fn with_type<S: Scope>(
     for name in &sig.names {
         bound.insert(*name)?;
     }
-    let realised = realised(alloc, scope, &bound, &sig, written)?;
+    let realised = realise_one(alloc, scope, &bound, &sig, written)?;
     require_constructors(alloc, scope, &bound, &sig, written, &realised)?;
     let env = mapped_env(alloc, &sig.env, &realised.realisation)?;
     small_env(written.constructor.place, &env)?;
@@ -57,7 +57,7 @@ pub(crate) fn with_type<S: Scope>(
 }
 
 /// The name that is realised, with its type function, or a fault up to N4.
-fn realised<S: Scope>(
+fn realise_one<S: Scope>(
     alloc: Global,
     scope: &S,
     bound: &IndexSet<TyName>,
@@ -65,7 +65,8 @@ fn realised<S: Scope>(
     written: &WhereType,
 ) -> Result<Realised, CoreFault> {
     let place = written.constructor.place;
-    let ty = type_at(alloc, &Inside { env: &sig.env }, &written.constructor)?;
+    let inside = Inside { env: &sig.env };
+    let ty = type_at(alloc, &inside, &written.constructor)?;
     let mut listed = Listed::bound(alloc, &written.variables)?;
     let body = type_of(alloc, scope, &mut listed, &written.ty)?;
     if ty.function.variables.len() != written.variables.len() {

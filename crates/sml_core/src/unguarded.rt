@@ -97,10 +97,12 @@ fn in_dec(dec: &Dec, found: &mut Found) -> Result<(), Memory> {
 fn in_exceptions(binds: &[ExnBind], found: &mut Found) -> Result<(), Memory> {
     for bind in binds {
         match bind {
-            ExnBind::New(ConBind {
-                name: _,
-                argument: Some(ty),
-            }) => in_ty(ty, found)?,
+            ExnBind::New(
+                ConBind {
+                    name: _,
+                    argument: Some(ty),
+                },
+            ) => in_ty(ty, found)?,
             ExnBind::New(_) | ExnBind::Copy(_, _) => {}
         }
     }

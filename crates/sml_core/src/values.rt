@@ -197,8 +197,7 @@ impl Context<'_> {
 
     /// Demands that the flexible rows behind the first ones have their labels.
     fn end_rows(&mut self, first: usize) -> Result<(), CoreFault> {
-        for index in first..self.rows.len() {
-            let (place, row) = &self.rows[index];
+        for (place, row) in self.rows.iter().skip(first) {
             if let Err(refusal) = ask_labels(&mut self.solver, row) {
                 return Err(refused(refusal, *place));
             }

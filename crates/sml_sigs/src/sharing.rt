@@ -152,7 +152,7 @@ impl Joins {
         }
     }
 
-    /// The bound names that are left, and whether some are not.
+    /// The bound names that stand for themselves.
     pub(crate) fn left(self) -> Result<IndexSet<TyName>, Memory> {
         let Joins {
             alloc,

@@ -26,7 +26,7 @@ pub fn signature<S: Scope>(
     sig: &SigExp,
 ) -> Result<Sig, CoreFault> {
     let mut reader = Reader { alloc, basis, new };
-    read(&mut reader, outer, None, sig)
+    read(&mut reader, sig, outer, None)
 }
 
 /// What signature expressions are read with.
@@ -40,15 +40,15 @@ struct Reader<'a> {
 #[cycle(read)]
 fn read<S: Scope>(
     reader: &mut Reader<'_>,
+    sig: &SigExp,
     outer: &S,
     inner: Option<&Layer<'_>>,
-    sig: &SigExp,
 ) -> Result<Sig, CoreFault> {
     match sig {
-        SigExp::Specs(_, specs) => read_specs(reader, outer, inner, specs),
+        SigExp::Specs(_, specs) => read_specs(reader, specs, outer, inner),
         SigExp::Identifier(place, name) => named(reader, *place, name),
         SigExp::WhereType(_, sig, written) => {
-            let sig = read(reader, outer, inner, sig)?;
+            let sig = read(reader, sig, outer, inner)?;
             with_type(reader.alloc, &Layers { outer, inner }, sig, written)
         }
     }
@@ -70,13 +70,13 @@ fn named(reader: &mut Reader<'_>, place: Place, name: &Ident) -> Result<Sig, Cor
 #[inline(never)]
 fn read_specs<S: Scope>(
     reader: &mut Reader<'_>,
+    specs: &[Spec],
     outer: &S,
     inner: Option<&Layer<'_>>,
-    specs: &[Spec],
 ) -> Result<Sig, CoreFault> {
     let mut draft = Draft::new(reader.alloc);
     for spec in specs {
-        read_spec(reader, outer, inner, &mut draft, spec)?;
+        read_spec(reader, spec, outer, inner, &mut draft)?;
     }
     Ok(draft.signature()?)
 }
@@ -86,10 +86,10 @@ fn read_specs<S: Scope>(
 #[inline(never)]
 fn read_spec<S: Scope>(
     reader: &mut Reader<'_>,
+    spec: &Spec,
     outer: &S,
     around: Option<&Layer<'_>>,
     draft: &mut Draft,
-    spec: &Spec,
 ) -> Result<(), CoreFault> {
     match spec {
         Spec::SharingType(_, longs) => draft.share_types(longs),
@@ -107,7 +107,7 @@ fn read_spec<S: Scope>(
                 env: &draft.env,
                 around,
             };
-            let part = part_of(reader, outer, &layer, spec)?;
+            let part = part_of(reader, spec, outer, &layer)?;
             draft.add(*place, &part)
         }
     }
@@ -118,9 +118,9 @@ fn read_spec<S: Scope>(
 #[inline(never)]
 fn part_of<S: Scope>(
     reader: &mut Reader<'_>,
+    spec: &Spec,
     outer: &S,
     layer: &Layer<'_>,
-    spec: &Spec,
 ) -> Result<Sig, CoreFault> {
     let alloc = reader.alloc;
     let scope = Layers {
@@ -134,8 +134,8 @@ fn part_of<S: Scope>(
         Spec::Datatype(place, binds) => new_datatypes(alloc, &scope, reader.new, *place, binds),
         Spec::Replication(_, name, long) => replication(alloc, &scope, name, long),
         Spec::Exception(place, descs) => exceptions(alloc, &scope, *place, descs),
-        Spec::Structure(_, descs) => structures(reader, outer, layer, descs),
-        Spec::Include(_, sig) => read(reader, outer, Some(layer), sig),
+        Spec::Structure(_, descs) => structures(reader, descs, outer, layer),
+        Spec::Include(_, sig) => read(reader, sig, outer, Some(layer)),
         Spec::SharingType(_, _) | Spec::Sharing(_, _) => Ok(Sig {
             names: Vec::new(alloc),
             env: Rc::new(alloc, Env::new(alloc))?,
@@ -147,14 +147,14 @@ fn part_of<S: Scope>(
 #[inline(never)]
 fn structures<S: Scope>(
     reader: &mut Reader<'_>,
+    descs: &[StrDesc],
     outer: &S,
     layer: &Layer<'_>,
-    descs: &[StrDesc],
 ) -> Result<Sig, CoreFault> {
     let mut names: Vec<TyName> = Vec::new(reader.alloc);
     let mut env = Env::new(reader.alloc);
     for desc in descs {
-        let sig = read(reader, outer, Some(layer), &desc.signature)?;
+        let sig = read(reader, &desc.signature, outer, Some(layer))?;
         names.extend_from_slice(sig.names.as_slice())?;
         env.structures
             .insert(desc.name.ident.clone()?, sig.env.clone()?)?;

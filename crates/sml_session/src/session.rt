@@ -112,7 +112,7 @@ fn requested(alloc: Global, words: &[String]) -> Result<Request, Error> {
         .help("Prints the warnings of accepted declarations")
         .action(ArgAction::SetTrue);
     let project = Arg::new(alloc, "PROJECT")
-        .help("A project file: a line `unit NAME FILE NEED ..` for each unit")
+        .help("A project file: a line `unit NAME FILE` for each unit")
         .required(true)
         .action(ArgAction::Set);
     let command = Command::new(alloc, "smlcheck")

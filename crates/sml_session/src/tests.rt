@@ -4,7 +4,6 @@ mod command_lines;
 mod fakes;
 mod hostile;
 mod limits;
-mod projects;
 mod seals;
 mod sinks;
 mod sources;

@@ -1,8 +1,7 @@
 -- What a project file says.
-use Rattle.std.specs.Prelude.{◌≡◌, ℕ, suc, ◌+◌, ◌<◌, ◌≤◌, Bool, false, ◌&&◌, ◌||◌, ◌==◌, nat_lt, nat_le, cond, ◌⊎◌, List, [], ◌∷◌, length, map, take, slice_index_or, codes, Option, Some, None, Result, Ok, Err}
-use Rattle.std.specs.Option.{option_map}
+use Rattle.std.specs.Prelude.{◌≡◌, ℕ, ◌+◌, ◌<◌, ◌≤◌, Bool, false, ◌&&◌, ◌||◌, ◌==◌, nat_lt, nat_le, cond, ◌⊎◌, List, [], ◌∷◌, length, map, take, slice_index_or, codes, Option, Some, None, Result, Ok, Err}
 use Rattle.std.specs.Char.{is_ascii_alphanumeric}
-use Rattle.std.specs.List.{slice_split, filter, filter_map, list_all, list_any, cons_option}
+use Rattle.std.specs.List.{slice_split, filter, filter_map, list_all, list_any}
 use Rattle.std.specs.Str.{bytes_eq}
 use Rattle.std.specs.Str.Lines.{strip_carriage_return}
 use Rattle.std.specs.String.{string_bytes}
@@ -18,8 +17,12 @@ use Rattle.sml_units.specs.declared.project_file.Line.TheVariants.{PassedOver, L
 abbrev pub most_bytes : ℕ
 most_bytes = 1048576
 
+-- The limits of today: a project has one unit at most, and no unit has needs.
 abbrev pub most_units : ℕ
-most_units = 4096
+most_units = 1
+
+abbrev pub most_needs : ℕ
+most_needs = 0
 
 -- what stands between newlines
 abbrev pub lines_of : List ℕ → List (List ℕ)
@@ -87,22 +90,14 @@ unit_of bad_form = None
 abbrev pub units_of : List (List ℕ) → List UnitLine
 units_of ls = filter_map (λ l. unit_of (meaning l)) ls
 
--- the numbers of the lines that list units, the first line having this one
-abbrev pub numbers_from : ℕ → List (List ℕ) → List ℕ
-numbers_from k [] = []
-numbers_from k (l ∷ ls) = cons_option (option_map (λ u. k) (unit_of (meaning l))) (numbers_from (suc k) ls)
-
-abbrev pub numbers_of : List (List ℕ) → List ℕ
-numbers_of ls = numbers_from 1 ls
-
 -- whether a word stands twice
 abbrev pub has_repeats : List (List ℕ) → Bool
 has_repeats [] = false
 has_repeats (w ∷ ws) = list_any (bytes_eq w) ws || has_repeats ws
 
--- too many units, or a need twice
+-- too many units, too many needs, or a need twice
 abbrev pub is_too_much : List UnitLine → UnitLine → Bool
-is_too_much us u = nat_le most_units (length us) || has_repeats u.needs
+is_too_much us u = nat_le most_units (length us) || (nat_lt most_needs (length u.needs) || has_repeats u.needs)
 
 -- whether a unit of this name is listed
 abbrev pub is_repeated : List UnitLine → UnitLine → Bool
@@ -130,21 +125,21 @@ pub record IsFirstFault (ls : List (List ℕ)) (f : ProjectFault) : Type 0 where
 unfoldable pub IsFault : List ℕ → ProjectFault → Type 0
 IsFault bytes f = ((most_bytes < length bytes) × (f ≡ record { code = O4; line = 1 })) ⊎ ((length bytes ≤ most_bytes) × IsFirstFault (lines_of bytes) f)
 
--- units of these names, files and needs
-abbrev pub listed_as : List (List ℕ) → List (List ℕ) → List (List (List ℕ)) → List UnitLine
-listed_as (name ∷ names) (file ∷ files) (own ∷ needs) = record { name = name; file = file; needs = own } ∷ listed_as names files needs
-listed_as names files needs = []
+-- units of these names and files, without needs
+abbrev pub listed_as : List (List ℕ) → List (List ℕ) → List UnitLine
+listed_as [] files = []
+listed_as (name ∷ names) [] = []
+listed_as (name ∷ names) (file ∷ files) = record { name = name; file = file; needs = [] } ∷ listed_as names files
 
 -- the units of a manifest, in the order listed
 abbrev pub units_in : Manifest → List UnitLine
-units_in m = listed_as (map string_bytes m.names.keys) (map string_bytes m.files.items) (map (λ own. map string_bytes own.items) m.needs.items)
+units_in m = listed_as (map string_bytes m.names.items) (map string_bytes m.files.items)
 
 -- the manifest of bytes in which no line has a fault
 pub record IsManifestOf (bytes : List ℕ) (m : Manifest) : Type 0 where
   pub size : length bytes ≤ most_bytes
   pub clear : (k : ℕ) → k < length (lines_of bytes) → fault_at (lines_of bytes) k ≡ None
   pub units : units_in m ≡ units_of (lines_of bytes)
-  pub numbers : m.lines.items ≡ numbers_of (lines_of bytes)
 
 -- how a project file is answered
 unfoldable pub IsAnswerTo : List ℕ → Result Manifest ManifestFault → Type 0
@@ -155,5 +150,5 @@ IsAnswerTo bytes (Err Memory) = Unit {0}
 -- What the code makes of one line behind so many units. No public contract rests on it.
 unfoldable pub LineGives : ℕ → List ℕ → Line → Type 0
 LineGives listed line PassedOver = meaning line ≡ passed_over
-LineGives listed line (Listed u) = (meaning line ≡ lists (record { name = string_bytes u.name; file = string_bytes u.file; needs = map string_bytes u.needs.items })) × (listed < most_units) × (has_repeats (map string_bytes u.needs.items) ≡ false)
+LineGives listed line (Listed u) = (meaning line ≡ lists (record { name = string_bytes u.name; file = string_bytes u.file; needs = [] })) × (listed < most_units)
 LineGives listed line Bad = (us : List UnitLine) → length us ≡ listed → line_fault us (meaning line) ≡ Some O4

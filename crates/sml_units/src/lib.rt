@@ -1,7 +1,6 @@
 // Projects: their units in order, what their declarations are answered, and runs.
 #![tactic(auto)]
 
-mod exports;
 pub mod isolation;
 pub mod laws;
 pub mod manifest;
@@ -9,4 +8,3 @@ pub mod orders;
 pub mod project;
 pub mod project_file;
 pub mod run;
-mod whole;

@@ -1,12 +1,11 @@
 //! The units that a project lists, and the faults of projects.
 
-ghost use Rattle.std.specs.Prelude.{◌≡◌};
+ghost use Rattle.std.specs.Prelude.{◌≡◌, ◌≤◌, map, vec_len, string_bytes};
 ghost use Rattle.sml_units.specs.declared.manifest.ManifestFault.TheVariants.{Memory};
 ghost use Rattle.sml_units.specs.declared.manifest.OrderFault.TheVariants as OF;
+ghost use Rattle.sml_units.specs.declared.manifest.TheConstants.{MOST_UNITS};
 
-use indexmap::IndexSet;
-use sml_lex::fault::Memory;
-use std::alloc::{AllocError, AllocFailed, Global};
+use std::alloc::{AllocError, AllocFailed};
 
 /// The code of a fault of a project.
 #[derive(Clone, Copy, PartialEq, Eq, Debug)]
@@ -58,30 +57,6 @@ impl<T: Drop> From<AllocFailed<T>> for ManifestFault {
     }
 }
 
-impl From<Memory> for ManifestFault {
-    ghost from_gives = { λ _ f. f ≡ Memory };
-
-    fn from(_memory: Memory) -> ManifestFault {
-        ManifestFault::Memory
-    }
-}
-
-impl From<Memory> for OrderFault {
-    ghost from_gives = { λ _ f. f ≡ OF.Memory };
-
-    fn from(_memory: Memory) -> OrderFault {
-        OrderFault::Memory
-    }
-}
-
-impl From<AllocError> for OrderFault {
-    ghost from_gives = { λ _ f. f ≡ OF.Memory };
-
-    fn from(_error: AllocError) -> OrderFault {
-        OrderFault::Memory
-    }
-}
-
 impl<T: Drop> From<AllocFailed<T>> for OrderFault {
     ghost from_gives = { λ _ f. f ≡ OF.Memory };
 
@@ -90,31 +65,24 @@ impl<T: Drop> From<AllocFailed<T>> for OrderFault {
     }
 }
 
-/// How many units a project has at most.
-pub(crate) const MOST_UNITS: usize = 4096;
+/// How many units a project has at most, for now.
+pub(crate) const MOST_UNITS: usize = 1;
 
-/// The units of a project file, in the order listed: of each its name, file and needs, and the line that lists it.
-#[derive(Drop)]
+/// The units of a project file, in the order listed.
+#[derive(Debug, Drop)]
 pub struct Manifest {
-    pub(crate) names: IndexSet<String>,
+    pub(crate) names: Vec<String>,
     pub(crate) files: Vec<String>,
-    pub(crate) needs: Vec<Vec<String>>,
-    pub(crate) lines: Vec<u32>,
+    ghost few: { vec_len names ≤ MOST_UNITS },
+    ghost paired: { vec_len files ≡ vec_len names },
 }
 
 impl Manifest {
-    pub(crate) fn new(alloc: Global) -> Manifest {
-        Manifest {
-            names: IndexSet::new(alloc),
-            files: Vec::new(alloc),
-            needs: Vec::new(alloc),
-            lines: Vec::new(alloc),
-        }
-    }
+    ghost use Rattle.sml_units.specs.ProjectFiles.{units_in};
 
     /// The files of the units, as written.
     pub fn files(&self) -> &[String]
-        ensures { result.now ≡ self.now.files.items }
+        ensures { map string_bytes result.now ≡ map (λ u. u.file) (units_in self.now) }
     {
         self.files.as_slice()
     }

@@ -1,8 +1,7 @@
 //! Projects and what their declarations are answered.
 
-ghost use Rattle.std.specs.Prelude.{◌≡◌, ◌≤◌, ◌+◌, ◌++◌, IfOk, IfErr, List, OnOk, [], length, map, vec_len};
-ghost use Rattle.sml_reply.specs.declared.reply.Reply.{Reply};
-ghost use Rattle.std.specs.Option.{option_map, option_to_list};
+ghost use Rattle.std.specs.Prelude.{◌≡◌, ◌≤◌, ◌+◌, IfOk, IfErr, List, OnOk, [], length, map, vec_len};
+ghost use Rattle.std.specs.Option.{option_map};
 ghost use Rattle.sml_lex.specs.Faults.{fault_of};
 ghost use Rattle.sml_tree.specs.Views.{dec_of};
 ghost use Rattle.sml_objects.specs.Initial.{Name, initial_basis};
@@ -12,30 +11,24 @@ ghost use Rattle.sml_objects.specs.Views.{maker_of, sig_of};
 ghost use Rattle.sml_rules.specs.Answers.{accepted};
 ghost use Rattle.sml_rules.specs.Open.{OpenEnv};
 ghost use Rattle.sml_piece.specs.Elaborated.{IsBasisOf, IsOwnBasis};
-ghost use Rattle.sml_units.specs.Checked.{MayReply, IsAnswered, IsBegun, IsStep, IsReplyTo, Answered, AreRepliesTo, with_last};
-ghost use Rattle.sml_units.specs.Orders.{IsProjectOf, unit_texts, unit_text_of};
-ghost use Rattle.sml_units.specs.Runs.{start, is_specified};
+ghost use Rattle.sml_units.specs.Checked.{MayReply, IsAnswered, HaveReplies, IsStep, IsReplyTo, Answered, AreRepliesTo, with_last};
+ghost use Rattle.sml_units.specs.Orders.{IsProjectOf, unit_texts};
+ghost use Rattle.sml_units.specs.Runs.{start};
 ghost use Rattle.sml_units.specs.ProjectFiles.{units_in};
 
-use crate::exports::{Exports, empty, nameless, with_needs};
 use crate::manifest::{Manifest, OrderFault};
-use crate::orders::{needed, order};
-use crate::whole::{answer_rest, exported, whole_basis};
-use sml_envs::initial::initial;
-use sml_envs::objects::Basis as WholeBasis;
+use crate::orders::order;
 use sml_lex::fault::{Fault, Memory, Warning};
 use sml_lex::lexer::lex;
-use sml_objects::objects::{Basis, UnitId};
-use sml_parse::parse::parse;
 use sml_piece::modules::topdec;
 use sml_piece::top_fault::TopFault;
+use sml_objects::objects::{Basis, UnitId};
+use sml_parse::parse::parse;
 use sml_reply::reply::Reply;
 use sml_tree::bare::BareDec;
 use std::alloc::Global;
-use std::mem::replace;
-use std::rc::Rc;
 
-/// The units of a project in their order, each with its text and the places of its needs in that order.
+/// The units of a project in their order, each with its text.
 #[derive(Drop)]
 pub struct Project {
     units: Vec<ProjectUnit>,
@@ -46,7 +39,6 @@ struct ProjectUnit {
     id: UnitId,
     name: String,
     text: Vec<u8>,
-    needs: Vec<usize>,
 }
 
 impl Project {
@@ -55,52 +47,29 @@ impl Project {
         alloc: Global,
         manifest: Manifest,
         texts: Vec<Vec<u8>>,
-    ) -> Result<Project, OrderFault> {
+    ) -> Result<Project, OrderFault>
+        ensures units { vec_len texts ≡ length (units_in manifest) → IfOk result (IsProjectOf (units_in manifest) (map (λ t. t.items) texts.items)) }
+
+        // No unit has needs, for now.
+        ensures faults { IfErr result (λ f. f ≡ OrderFault.Memory) }
+    {
         let order = order(alloc, &manifest)?;
-        let needed = needed(alloc, &manifest)?;
-        let places = places_in(alloc, &order)?;
         let mut units = Vec::new(alloc);
-        let names = manifest.names.as_slice();
-        let mut texts = texts;
+        let mut names = manifest.names.into_iter();
+        let mut texts = texts.into_iter();
         for id in order.as_slice() {
-            let index = id.index as usize;
-            if index < names.len() && index < needed.len() && index < texts.len() {
-                units.push(ProjectUnit {
-                    id: *id,
-                    name: names[index].clone()?,
-                    text: replace(&mut texts[index], Vec::new(alloc)),
-                    needs: each_at(alloc, &places, &needed[index])?,
-                })?;
+            if let Some(name) = names.next() {
+                if let Some(text) = texts.next() {
+                    units.push(ProjectUnit {
+                        id: *id,
+                        name,
+                        text,
+                    })?;
+                }
             }
         }
         Ok(Project { units })
     }
-}
-
-/// Where each unit stands in the order.
-fn places_in(alloc: Global, order: &[UnitId]) -> Result<Vec<usize>, Memory> {
-    let mut places = Vec::new(alloc);
-    for _ in 0..order.len() {
-        places.push(0)?;
-    }
-    for (place, id) in order.iter().enumerate() {
-        let index = id.index as usize;
-        if index < places.len() {
-            places[index] = place;
-        }
-    }
-    Ok(places)
-}
-
-/// What stands at each of these indices.
-fn each_at(alloc: Global, places: &[usize], indices: &[usize]) -> Result<Vec<usize>, Memory> {
-    let mut found = Vec::new(alloc);
-    for index in indices {
-        if let Some(place) = places.get(*index) {
-            found.push(*place)?;
-        }
-    }
-    Ok(found)
 }
 
 /// The replies to the declarations of each unit, by unit in order.
@@ -114,15 +83,6 @@ pub struct Replies {
 pub struct UnitReplies {
     pub name: String,
     pub replies: Vec<Reply>,
-}
-
-/// The beginning of a unit: the replies to declarations of the piece, what they bind, and how many names they made.
-#[derive(Drop)]
-struct Beginning {
-    count: usize,
-    bound: Basis,
-    replies: Vec<Reply>,
-    is_whole: bool,
 }
 
 /// A project that has been checked.
@@ -140,59 +100,34 @@ impl Checked {
     }
 }
 
-/// Answers every declaration of the project.
+/// Answers every declaration of the project, which has one unit at most for now.
 pub fn check(alloc: Global, project: &Project) -> Result<Checked, Memory>
     ensures { length (unit_texts project.now) ≤ 1 → IfOk result (λ c. MayReply project.now c.replies) }
 {
-    let initial = Rc::new(alloc, initial(alloc)?)?;
-    let mut exports = Vec::new(alloc);
     let mut units = Vec::new(alloc);
     for unit in project.units.as_slice() {
         let name = unit.name.clone()?;
-        let (replies, own) = check_unit(alloc, &initial, &exports, unit)?;
+        let replies = check_unit(alloc, unit.id, &unit.text)?;
         units.push(UnitReplies { name, replies })?;
-        exports.push(own)?;
     }
     Ok(Checked {
         replies: Replies { units },
     })
 }
 
-/// The replies to the declarations of a unit, and what it exports.
-fn check_unit(
-    alloc: Global,
-    initial: &Rc<WholeBasis>,
-    exports: &[Exports],
-    unit: &ProjectUnit,
-) -> Result<(Vec<Reply>, Exports), Memory>
-    ensures { length exports.now ≡ 0 → IfOk result (λ r. IsAnswered (unit_text_of unit.now) r.0.items) }
+/// The replies to the declarations of a unit.
+fn check_unit(alloc: Global, id: UnitId, text: &[u8]) -> Result<Vec<Reply>, Memory>
+    ensures { IfOk result (λ rs. IsAnswered (maker_of id) text.now rs.items) }
 {
-    let lexed = lex(alloc, &unit.text)?;
+    let lexed = lex(alloc, text)?;
     let parsed = parse(alloc, &lexed)?;
-    let begun = begin(alloc, unit.id, &unit.needs, exports, &parsed.piece)?;
-    let Beginning {
-        count,
-        bound,
-        replies,
-        is_whole,
-    } = begun;
-    let mut basis = whole_basis(alloc, initial, &unit.needs, exports, count, &bound)?;
-    let rest = &parsed.declarations[replies.len()..];
-    let specified = if is_whole && rest.is_empty() {
-        Some(bound.env)
-    } else {
-        None
-    };
-    let replies = answer_rest(alloc, &mut basis, replies, rest)?;
-    let whole = exported(alloc, basis)?;
-    let replies = and_last(replies, parsed.fault)?;
-    Ok((replies, Exports { whole, specified }))
+    let replies = answer_all(alloc, id, &parsed.piece)?;
+    and_last(replies, parsed.fault)
 }
 
 /// The replies with that to the unit's last fault, if there is one.
 fn and_last(mut replies: Vec<Reply>, fault: Option<Fault>) -> Result<Vec<Reply>, Memory>
-    ensures last { IfOk result (λ rs. (os : List Answered) → AreRepliesTo 1 os replies.items → AreRepliesTo 1 (with_last os (option_map fault_of fault)) rs.items) }
-    ensures more { IfOk result (λ rs. (tail : List Reply) × (rs.items ≡ replies.items ++ tail) × (length tail ≡ length (option_to_list fault))) }
+    ensures { IfOk result (λ rs. (os : List Answered) → AreRepliesTo 1 os replies.items → AreRepliesTo 1 (with_last os (option_map fault_of fault)) rs.items) }
 {
     match fault {
         Some(fault) => {
@@ -204,84 +139,26 @@ fn and_last(mut replies: Vec<Reply>, fault: Option<Fault>) -> Result<Vec<Reply>,
     }
 }
 
-/// Answers the declarations of a unit as far as they are of the piece, in the basis from which it starts. Where a need
-/// isn't all of the piece, there is none.
-fn begin(
-    alloc: Global,
-    id: UnitId,
-    needs: &[usize],
-    exports: &[Exports],
-    declarations: &[BareDec],
-) -> Result<Beginning, Memory>
-    ensures begun { length exports.now ≡ 0 → IfOk result (IsBegun (maker_of id) (start initial_basis [] []) (map dec_of declarations.now)) }
-    ensures few { IfOk result (λ b. length b.replies.items ≤ length declarations.now) }
+/// The replies to whole declarations, each of which sees those before it.
+fn answer_all(alloc: Global, id: UnitId, declarations: &[BareDec]) -> Result<Vec<Reply>, Memory>
+    ensures { IfOk result (λ rs. HaveReplies (maker_of id) (start initial_basis [] []) (map dec_of declarations.now) rs.items) }
 {
-    let basis = Basis::initial(alloc, id)?;
-    if exports.is_empty() {
-        return answer_piece(alloc, basis, declarations);
-    }
-    match with_needs(alloc, basis, needs, exports)? {
-        Some(basis) => answer_piece(alloc, basis, declarations),
-        None => Ok(Beginning {
-            count: 0,
-            bound: empty(alloc, id),
-            replies: Vec::new(alloc),
-            is_whole: false,
-        }),
-    }
-}
-
-/// The replies to the declarations before the first that isn't of the piece, each of which sees those before it.
-fn answer_piece(alloc: Global, basis: Basis, declarations: &[BareDec]) -> Result<Beginning, Memory>
-    ensures begun { (B : O.Basis Name) → IsBasisOf basis B → IfOk result (IsBegun (maker_of basis.unit) B (map dec_of declarations.now)) }
-    ensures few { IfOk result (λ b. length b.replies.items ≤ length declarations.now) }
-{
-    let mut basis = basis;
-    let mut bound = empty(alloc, basis.unit);
+    let mut basis = Basis::initial(alloc, id)?;
     let mut replies = Vec::new(alloc);
     for dec in declarations {
-        if !is_specified(dec) {
-            return Ok(Beginning {
-                count: basis.names.len(),
-                bound,
-                replies,
-                is_whole: false,
-            });
-        }
         let number = number_behind(replies.len())?;
-        let reply = answer(alloc, &mut basis, &mut bound, number, dec)?;
+        let reply = answer(alloc, &mut basis, number, dec)?;
         replies.push(reply)?;
     }
-    Ok(Beginning {
-        count: basis.names.len(),
-        bound,
-        replies,
-        is_whole: true,
-    })
+    Ok(replies)
 }
 
-/// Whether a declaration is of the piece.
-fn is_specified(dec: &BareDec) -> bool
-    ensures { result ≡ is_specified (dec_of dec.now) }
-{
-    match dec {
-        BareDec::Core(_) | BareDec::Structure(_) => true,
-        BareDec::Other(_) => false,
-    }
-}
-
-/// The reply to a declaration. What an accepted one binds is put into the basis, and into what is bound so far.
-fn answer(
-    alloc: Global,
-    basis: &mut Basis,
-    bound: &mut Basis,
-    number: u32,
-    dec: &BareDec,
-) -> Result<Reply, Memory>
+/// The reply to a declaration. What an accepted one binds is put into the basis.
+fn answer(alloc: Global, basis: &mut Basis, number: u32, dec: &BareDec) -> Result<Reply, Memory>
     ensures { (B : O.Basis Name) → IsBasisOf basis.old B → IfOk result (IsStep basis.old basis.new B (dec_of dec.now) number) }
 {
     match topdec(alloc, basis, dec) {
-        Ok((own, warnings)) => accept(alloc, basis, bound, number, own, warnings),
+        Ok((own, warnings)) => accept(alloc, basis, number, own, warnings),
         Err(TopFault::Fault(fault)) => Ok(Reply::refused(number, fault)),
         Err(TopFault::Memory) => Err(Memory),
     }
@@ -290,7 +167,6 @@ fn answer(
 fn accept(
     alloc: Global,
     basis: &mut Basis,
-    bound: &mut Basis,
     number: u32,
     own: Basis,
     warnings: Vec<Warning>,
@@ -301,13 +177,12 @@ fn accept(
     ensures unit { OnOk result (basis.new.unit ≡ basis.old.unit) }
 {
     let reply = Reply::accepted(alloc, number, &own, warnings)?;
-    bound.add(nameless(alloc, own.unit, &own.env)?)?;
     basis.add(own)?;
     Ok(reply)
 }
 
 /// The number of a reply with so many before it. Where no `u32` holds it, that counts as want of memory.
-pub(crate) fn number_behind(count: usize) -> Result<u32, Memory>
+fn number_behind(count: usize) -> Result<u32, Memory>
     ensures { IfOk result (λ n. n ≡ count + 1) }
 {
     let Ok(count) = u32::try_from(count) else {

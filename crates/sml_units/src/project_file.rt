@@ -2,12 +2,9 @@
 
 ghost use Rattle.std.specs.Prelude.{◌≡◌, IfOk, map};
 ghost use Rattle.std.specs.Str.Lines.{strip_carriage_return};
-ghost use Rattle.sml_units.specs.ProjectFiles.{lines_of, words_of, is_name_byte, is_unit_name, is_file_name, is_remark};
+ghost use Rattle.sml_units.specs.ProjectFiles.{IsAnswerTo, LineGives, lines_of, words_of, is_name_byte, is_unit_name, is_file_name, is_remark};
 
 use crate::manifest::{MOST_UNITS, Manifest, ManifestFault, ProjectCode, ProjectFault};
-use crate::project::number_behind;
-use indexmap::IndexSet;
-use sml_lex::fault::Memory;
 use std::alloc::{AllocError, Global};
 
 /// The greatest size of a project file, in bytes.
@@ -28,46 +25,38 @@ enum Line {
 struct ListedUnit {
     name: String,
     file: String,
-    needs: Vec<String>,
 }
 
-fn fault(code: ProjectCode, line: u32) -> ManifestFault
-    ensures { result ≡ ManifestFault.Fault (record { code = code; line = line }) }
+fn bad_line(line: u32) -> ManifestFault
+    ensures { result ≡ ManifestFault.Fault (record { code = ProjectCode.O4; line = line }) }
 {
-    ManifestFault::Fault(ProjectFault { code, line })
+    ManifestFault::Fault(ProjectFault {
+        code: ProjectCode::O4,
+        line,
+    })
 }
 
-/// The units that a project file lists, or O4 or O3 at the first line that has one of them, O4 where it has both.
-pub fn manifest(alloc: Global, text: &[u8]) -> Result<Manifest, ManifestFault> {
+/// The units that a project file lists, or O4 or O3 at the first line that has one of them. For now there may be one unit, without needs: a second one and a need are O4.
+pub fn manifest(alloc: Global, text: &[u8]) -> Result<Manifest, ManifestFault>
+    ensures { IsAnswerTo text.now result }
+{
     if text.len() > MOST_BYTES {
-        return Err(fault(ProjectCode::O4, 1));
+        return Err(bad_line(1));
     }
     let lines = lines(alloc, text)?;
-    let mut manifest = Manifest::new(alloc);
+    let mut names = Vec::new(alloc);
+    let mut files = Vec::new(alloc);
     for (index, line) in lines.iter().enumerate() {
-        let number = number_behind(index)?;
-        match read_line(alloc, *line, manifest.files.len())? {
+        match read_line(alloc, *line, names.len())? {
             Line::PassedOver => {}
             Line::Listed(unit) => {
-                if manifest.names.contains(unit.name.as_str()) {
-                    return Err(fault(ProjectCode::O3, number));
-                }
-                list(&mut manifest, unit, number)?;
+                names.push(unit.name)?;
+                files.push(unit.file)?;
             }
-            Line::Bad => return Err(fault(ProjectCode::O4, number)),
+            Line::Bad => return Err(bad_line(index as u32 + 1)),
         }
     }
-    Ok(manifest)
-}
-
-/// Puts a unit behind those listed.
-fn list(manifest: &mut Manifest, unit: ListedUnit, line: u32) -> Result<(), Memory> {
-    let ListedUnit { name, file, needs } = unit;
-    manifest.names.insert(name)?;
-    manifest.files.push(file)?;
-    manifest.needs.push(needs)?;
-    manifest.lines.push(line)?;
-    Ok(())
+    Ok(Manifest { names, files })
 }
 
 /// The lines of a text of a project file.
@@ -98,13 +87,15 @@ fn without_return(line: &[u8]) -> &[u8]
 }
 
 /// Reads a line behind so many units.
-fn read_line(alloc: Global, line: &[u8], listed: usize) -> Result<Line, Memory> {
+fn read_line(alloc: Global, line: &[u8], listed: usize) -> Result<Line, AllocError>
+    ensures { IfOk result (LineGives listed line.now) }
+{
     let found = words(alloc, line)?;
     let words = found.as_slice();
     if words.is_empty() || is_remark(words[0]) {
         return Ok(Line::PassedOver);
     }
-    if words.len() < 3
+    if words.len() != 3
         || words[0] != b"unit".as_slice()
         || !is_unit_name(words[1])
         || !is_file_name(words[2])
@@ -112,28 +103,10 @@ fn read_line(alloc: Global, line: &[u8], listed: usize) -> Result<Line, Memory> 
     {
         return Ok(Line::Bad);
     }
-    let Some(needs) = needs(alloc, &words[3..])? else {
-        return Ok(Line::Bad);
-    };
     Ok(Line::Listed(ListedUnit {
         name: String::from_utf8_lossy(alloc, words[1])?,
         file: String::from_utf8_lossy(alloc, words[2])?,
-        needs,
     }))
-}
-
-/// The names of needs, or `None` where a word isn't a name or stands twice.
-fn needs(alloc: Global, words: &[&[u8]]) -> Result<Option<Vec<String>>, Memory> {
-    let mut seen = IndexSet::new(alloc);
-    let mut needs = Vec::new(alloc);
-    for word in words {
-        if !is_unit_name(*word) || seen.contains(*word) {
-            return Ok(None);
-        }
-        seen.insert(*word)?;
-        needs.push(String::from_utf8_lossy(alloc, *word)?)?;
-    }
-    Ok(Some(needs))
 }
 
 /// Whether a word begins with `#`.

@@ -33,6 +33,7 @@ pub struct Summary {
 }
 
 /// Checks the project, and writes the text of its replies: for each unit in order the line `unit NAME`, and then its replies.
+/// The replies are those of a run over the declarations that the units' bytes spell, for a project of one unit at most.
 pub fn run<O: Out>(
     alloc: Global,
     project: &Project,

@@ -1,3 +1,0 @@
-val a = 1
-val b =
-  a 2

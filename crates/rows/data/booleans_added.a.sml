@@ -1,1 +1,0 @@
-val b = true + false

@@ -1,1 +1,0 @@
-val f = fn x => x x

@@ -1,1 +1,0 @@
-val r : int list ref = ref nil

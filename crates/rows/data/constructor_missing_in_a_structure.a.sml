@@ -1,1 +1,0 @@
-structure S : sig datatype d = A | B end = struct datatype d = A end

@@ -1,1 +1,0 @@
-val a = 1 val b = 2 val c = "x

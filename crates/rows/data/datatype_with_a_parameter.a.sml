@@ -1,1 +1,0 @@
-datatype 'a t = N | C of 'a * 'a t

@@ -1,1 +1,0 @@
-datatype t = A of int -> int | B of t

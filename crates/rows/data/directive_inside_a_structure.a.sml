@@ -1,1 +1,0 @@
-structure A = struct infix 5 ## fun a ## b = a end val z = 1 ## 2

@@ -1,1 +1,0 @@
-structure S : sig eqtype t end = struct type t = real end

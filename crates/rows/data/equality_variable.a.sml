@@ -1,1 +1,0 @@
-val q = fn (x, y) => if x = y then x else y

@@ -1,1 +1,0 @@
-structure S : sig exception X end = struct val X = 1 end

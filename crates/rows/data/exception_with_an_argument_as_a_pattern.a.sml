@@ -1,1 +1,0 @@
-val Fail = 3

@@ -1,1 +1,0 @@
-fn x => (x handle Fail _ => 1);

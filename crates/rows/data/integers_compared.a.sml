@@ -1,1 +1,0 @@
-val s = fn x => fn y => x < y

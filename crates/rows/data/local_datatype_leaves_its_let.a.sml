@@ -1,1 +1,0 @@
-val x = let datatype d = D in D end

@@ -1,1 +1,0 @@
-val p = let val i = fn x => x in (i 1, i true) end

@@ -1,1 +1,0 @@
-structure S :> sig eqtype t val a : t end = struct end

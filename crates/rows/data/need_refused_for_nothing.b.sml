@@ -1,1 +1,0 @@
-val b = S.a = S.a

@@ -1,1 +1,0 @@
-val e = fn x => ~ x = x

@@ -1,1 +1,0 @@
-structure S : sig type t = int end = struct type t = bool end

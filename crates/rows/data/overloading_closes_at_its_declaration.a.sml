@@ -1,1 +1,0 @@
-val k = let val f = fn x => x + x in f 1.5 end

@@ -1,1 +1,0 @@
-structure S : sig type 'a t end = struct type t = int end

@@ -1,1 +1,0 @@
-val rec x = 3

@@ -1,1 +1,0 @@
-signature G = sig type t type u sharing type t = u val x : t end

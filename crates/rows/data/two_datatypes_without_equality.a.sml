@@ -1,1 +1,0 @@
-datatype t = A of t * u and u = B of int -> int

@@ -1,1 +1,0 @@
-signature S = T

@@ -1,1 +1,0 @@
-signature S = sig val x : int val x : int end

@@ -1,1 +1,0 @@
-signature H = sig eqtype t end where type t = int -> int

@@ -1,1 +1,0 @@
-signature S = sig datatype d = C end where type d = int

@@ -1,1 +1,0 @@
-signature S = sig type t = int end where type t = int

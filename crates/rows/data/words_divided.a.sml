@@ -1,1 +1,0 @@
-val m = fn x => x div 0w2

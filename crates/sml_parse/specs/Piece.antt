@@ -3,7 +3,7 @@
 --   specs: type ID, val VID : ty;  decs: type ID = ty, val VID = exp
 --   exp: an integer, VID, a long identifier, ( ), ( exp ), ( exp , .. , exp ), fn VID => exp
 --   ty: ID, a long identifier, ( ty ), ty * .. * ty, ty -> ty
-use Rattle.std.specs.Prelude.{ℕ, List, [], ◌∷◌, Bool, not, codes}
+use Rattle.std.specs.Prelude.{ℕ, List, [], ◌∷◌, Bool, false, if◌then◌else◌, not, codes}
 use Rattle.std.specs.List.{list_any}
 use Rattle.std.specs.Str.{bytes_eq}
 use Rattle.sml_read.specs.declared.grammar.Rule.{Rule}
@@ -30,12 +30,27 @@ use Rattle.sml_parse.specs.declared.form.Meaning.{Meaning}
 use Rattle.sml_parse.specs.declared.form.Meaning.TheVariants as M
 use Rattle.sml_parse.specs.declared.form.Form.TheVariants as F
 
--- the alphanumeric identifiers with a fixity (the Definition, appendix C), and those that can't be bound (section 2.9)
-abbrev pub no_value_names : List (List ℕ)
-no_value_names = codes "before" ∷ codes "div" ∷ codes "false" ∷ codes "mod" ∷ codes "nil" ∷ codes "o" ∷ codes "ref" ∷ codes "true" ∷ []
+-- The alphanumeric value identifiers of the initial basis (the Definition, appendices C and D): those that have a fixity
+-- or can't be bound (section 2.9), the exceptions, and the others.
+abbrev pub reserved_names : List (List ℕ)
+reserved_names = codes "before" ∷ codes "div" ∷ codes "false" ∷ codes "mod" ∷ codes "nil" ∷ codes "o" ∷ codes "ref" ∷ codes "true" ∷ []
 
+abbrev pub exception_names : List (List ℕ)
+exception_names = codes "Bind" ∷ codes "Div" ∷ codes "Fail" ∷ codes "Match" ∷ codes "Overflow" ∷ codes "Subscript" ∷ []
+
+abbrev pub function_names : List (List ℕ)
+function_names = codes "abs" ∷ codes "chr" ∷ codes "floor" ∷ codes "ignore" ∷ codes "length" ∷ codes "map" ∷ codes "not" ∷ []
+
+abbrev pub further_function_names : List (List ℕ)
+further_function_names = codes "ord" ∷ codes "print" ∷ codes "real" ∷ codes "rev" ∷ codes "size" ∷ codes "str" ∷ []
+
+-- none of them
 abbrev pub is_value_name : List ℕ → Bool
-is_value_name text = not (list_any (bytes_eq text) no_value_names)
+is_value_name text =
+    if list_any (bytes_eq text) reserved_names then false
+    else if list_any (bytes_eq text) exception_names then false
+    else if list_any (bytes_eq text) function_names then false
+    else not (list_any (bytes_eq text) further_function_names)
 
 abbrev pub name_meaning : NameRule → Meaning
 name_meaning VidAlphanumeric = M.Named

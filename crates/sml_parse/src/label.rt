@@ -1,7 +1,8 @@
 //! The items of a unit's derivation.
 
 ghost use Rattle.std.specs.Prelude.{◌≡◌, ℕ, List, ◌++◌, [], if◌then◌else◌, slice_get, IfOk, OnOk};
-ghost use Rattle.std.specs.List.{before_first, cons_option};
+ghost use Rattle.std.specs.List.{before_first, cons_option, list_any};
+ghost use Rattle.std.specs.Str.{bytes_eq};
 ghost use Rattle.sml_parse.specs.Piece as piece;
 ghost use Rattle.sml_reach.specs.Places.{start_of, IsOnWay};
 ghost use Rattle.sml_parse.specs.Items as spec;
@@ -24,18 +25,63 @@ fn token_at(tokens: &[Token], index: usize) -> Option<Token>
     }
 }
 
-/// Whether an alphanumeric identifier may name a value: it has no fixity, and it may be bound.
-fn is_value_name(text: &[u8]) -> bool
-    ensures { result ≡ piece.is_value_name text.now }
+/// Whether an identifier of the initial basis has a fixity or can't be bound.
+fn is_reserved(text: &[u8]) -> bool
+    ensures { result ≡ list_any (bytes_eq text.now) piece.reserved_names }
 {
-    !(text == b"before".as_slice()
+    text == b"before".as_slice()
         || text == b"div".as_slice()
         || text == b"false".as_slice()
         || text == b"mod".as_slice()
         || text == b"nil".as_slice()
         || text == b"o".as_slice()
         || text == b"ref".as_slice()
-        || text == b"true".as_slice())
+        || text == b"true".as_slice()
+}
+
+/// Whether it is an exception of the initial basis.
+fn is_exception(text: &[u8]) -> bool
+    ensures { result ≡ list_any (bytes_eq text.now) piece.exception_names }
+{
+    text == b"Bind".as_slice()
+        || text == b"Div".as_slice()
+        || text == b"Fail".as_slice()
+        || text == b"Match".as_slice()
+        || text == b"Overflow".as_slice()
+        || text == b"Subscript".as_slice()
+}
+
+/// Whether it is another value of the initial basis, one of the first half.
+fn is_function(text: &[u8]) -> bool
+    ensures { result ≡ list_any (bytes_eq text.now) piece.function_names }
+{
+    text == b"abs".as_slice()
+        || text == b"chr".as_slice()
+        || text == b"floor".as_slice()
+        || text == b"ignore".as_slice()
+        || text == b"length".as_slice()
+        || text == b"map".as_slice()
+        || text == b"not".as_slice()
+}
+
+/// The same of the second half.
+fn is_further_function(text: &[u8]) -> bool
+    ensures { result ≡ list_any (bytes_eq text.now) piece.further_function_names }
+{
+    text == b"ord".as_slice()
+        || text == b"print".as_slice()
+        || text == b"real".as_slice()
+        || text == b"rev".as_slice()
+        || text == b"size".as_slice()
+        || text == b"str".as_slice()
+}
+
+/// Whether an alphanumeric identifier may name a value of the piece: the initial basis has no such value, and so the
+/// identifier has no fixity and may be bound.
+fn is_value_name(text: &[u8]) -> bool
+    ensures { result ≡ piece.is_value_name text.now }
+{
+    !(is_reserved(text) || is_exception(text) || is_function(text) || is_further_function(text))
 }
 
 /// Whether this token is an identifier that may name a value.

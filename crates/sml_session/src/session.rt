@@ -4,9 +4,9 @@ use clap::error::ErrorKind;
 use clap::{Arg, ArgAction, Command, Error};
 use itoa::Buffer;
 use sml_reply::sink::{Out, OutFault, write_all};
-use sml_units::manifest::{Manifest, ManifestFault, OrderFault, ProjectCode, ProjectFault};
-use sml_units::project::Project;
-use sml_units::project_file::manifest;
+use sml_projects::manifest::{Manifest, ManifestFault, OrderFault, ProjectCode, ProjectFault};
+use sml_projects::project::Project;
+use sml_projects::project_file::manifest;
 use sml_units::run::{RunFault, run};
 use std::alloc::{AllocError, Global};
 
@@ -112,7 +112,7 @@ fn requested(alloc: Global, words: &[String]) -> Result<Request, Error> {
         .help("Prints the warnings of accepted declarations")
         .action(ArgAction::SetTrue);
     let project = Arg::new(alloc, "PROJECT")
-        .help("A project file: a line `unit NAME FILE` for each unit")
+        .help("A project file: a line `unit NAME FILE NEED ..` for each unit")
         .required(true)
         .action(ArgAction::Set);
     let command = Command::new(alloc, "smlcheck")

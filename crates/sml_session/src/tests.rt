@@ -4,6 +4,7 @@ mod command_lines;
 mod fakes;
 mod hostile;
 mod limits;
+mod projects;
 mod seals;
 mod sinks;
 mod sources;

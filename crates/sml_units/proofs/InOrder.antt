@@ -4,10 +4,10 @@ use Rattle.sml_objects.specs.declared.objects.UnitId.{UnitId}
 use Rattle.std.specs.declared.vec.IntoIter.{IntoIter}
 use Rattle.std.specs.Vec.Iter.{into_iter_items, into_iter_len, into_iter_steps}
 use Rattle.std.proofs.lemmas.List.{map-append, nil_from_length}
-use Rattle.sml_units.specs.declared.project.Project.{Project}
+use Rattle.sml_projects.specs.declared.project.Project.{Project}
 use Rattle.sml_units.specs.declared.project.ProjectUnit.{ProjectUnit}
-use Rattle.sml_units.specs.Orders.{IsOrder, IsNext, MayCome, UnitText, IsProjectOf, unit_at, unit_texts}
-use Rattle.sml_units.specs.ProjectFiles.{UnitLine, listed_as}
+use Rattle.sml_projects.specs.Orders.{IsOrder, IsNext, MayCome, UnitText, IsProjectOf, unit_at, unit_texts}
+use Rattle.sml_projects.specs.ProjectFiles.{UnitLine, listed_as}
 
 -- the places of at most one unit
 abbrev pub places : ℕ → List ℕ

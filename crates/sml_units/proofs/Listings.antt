@@ -11,7 +11,7 @@ use Rattle.std.proofs.lemmas.List.Elements.{filter_map-append}
 use Rattle.std.proofs.lemmas.Str.{IsUtf8-from_ascii}
 use Rattle.std.proofs.lemmas.Str.Ascii.{IsAscii-nil, IsAscii-cons}
 use Rattle.sml_units.specs.declared.manifest.ProjectCode.TheVariants.{O3, O4}
-use Rattle.sml_units.specs.ProjectFiles.{UnitLine, Meaning, words_of, passed_over, lists, bad_form, is_remark, is_name_byte, is_unit_name, is_file_name, has_repeats, is_too_much, is_repeated, listing, unit_of, units_of, meaning, meaning_of_words, line_fault}
+use Rattle.sml_projects.specs.ProjectFiles.{UnitLine, Meaning, words_of, passed_over, lists, bad_form, is_remark, is_name_byte, is_unit_name, is_file_name, has_repeats, is_too_much, is_repeated, listing, unit_of, units_of, meaning, meaning_of_words, line_fault}
 
 name_byte_ascii : (b : ℕ) → is_name_byte b ≡ true → b < 128
 name_byte_ascii b h = grind (arith, nat_tests)

@@ -11,7 +11,7 @@ use Rattle.sml_units.specs.declared.manifest.Manifest.{Manifest}
 use Rattle.sml_units.specs.declared.manifest.ManifestFault.{ManifestFault}
 use Rattle.sml_units.specs.declared.manifest.ManifestFault.TheVariants.{Memory, Fault}
 use Rattle.sml_units.specs.declared.manifest.ProjectCode.TheVariants.{O4}
-use Rattle.sml_units.specs.ProjectFiles.{most_bytes, lines_of, UnitLine, passed_over, lists, unit_of, units_of, meaning, line_fault, fault_at, listed_as, IsAnswerTo, IsFault}
+use Rattle.sml_projects.specs.ProjectFiles.{most_bytes, lines_of, UnitLine, passed_over, lists, unit_of, units_of, meaning, line_fault, fault_at, listed_as, IsAnswerTo, IsFault}
 use Rattle.sml_units.proofs.Listings.{units-more, first_listing}
 
 pub listed-more : (ns fs : List (List ℕ)) (n f : List ℕ) → length fs ≡ length ns → listed_as (ns ++ n ∷ []) (fs ++ f ∷ []) ≡ listed_as ns fs ++ record { name = n; file = f; needs = [] } ∷ []

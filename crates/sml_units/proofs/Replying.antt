@@ -1,10 +1,15 @@
 -- Runs and replies, declaration by declaration.
-use Rattle.std.proofs.Common.{◌≡◌, ◌≤◌, ◌+◌, ℕ, suc, Bool, List, [], ◌∷◌, ◌++◌, length, Option, Result, Ok, Err, IfOk, OnOk, Vec, Global, refl, ap, sym, subst, ◌∙◌, arith}
+use Rattle.std.proofs.Common.{◌≡◌, ◌≤◌, ◌+◌, ℕ, suc, Bool, true, false, cond, ◌&&◌, List, [], ◌∷◌, ◌++◌, length, Option, Some, None, Result, Ok, Err, IfOk, OnOk, Vec, Global, refl, ap, sym, subst, ◌∙◌, append_assoc, append-nil, arith}
+use Rattle.std.specs.Prelude.{◌==◌}
+use Rattle.std.specs.List.{list_all}
+use Rattle.std.specs.Option.{option_map, option_to_list}
+use Rattle.std.proofs.lemmas.Bool.{and_parts, eqb-true}
 use Rattle.std.proofs.lemmas.List.{length-map, length-append}
 use Rattle.sml_lex.specs.declared.fault.Place.{Place}
 use Rattle.sml_lex.specs.Faults.{Fault}
 use Rattle.sml_tree.specs.Trees.{Dec}
-use Rattle.sml_objects.specs.Objects.{Sig, Basis, extend, extend_env, names_basis, names_env, names_structures, names_map, names_type}
+use Rattle.sml_objects.specs.Objects as O
+use Rattle.sml_objects.specs.Objects.{Sig, Env, empty_env, Basis, extend, extend_env, names_basis, names_env, names_structures, names_map, names_type}
 use Rattle.sml_objects.specs.Initial.{Name, naming, initial_basis}
 use Rattle.sml_objects.specs.Views.{env_of, maker_of, name_of, sig_of}
 use Rattle.sml_objects.specs.declared.objects.Basis as PB
@@ -18,12 +23,12 @@ use Rattle.sml_rules.proofs.Sound.{readings_sound}
 use Rattle.sml_reply.specs.declared.reply.Reply.{Reply}
 use Rattle.sml_piece.specs.Elaborated.{IsBasisOf, IsOwnBasis, IsBelow, beginning}
 use Rattle.sml_piece.proofs.Specifying.{all_below_more, basis_below}
-use Rattle.sml_units.specs.Runs.{Run, basis_after, start, needed, all_names, SourceUnit, RunProject, exports, nothing}
-use Rattle.sml_units.specs.Orders.{UnitText}
+use Rattle.sml_units.specs.Runs.{Run, basis_after, start, needed, all_names, SourceUnit, RunProject, exports, nothing, export_at, is_specified, specified_beginning, flag_at, is_whole, specified}
+use Rattle.sml_projects.specs.Orders.{UnitText}
 use Rattle.std.specs.String.{string_bytes}
-use Rattle.sml_units.specs.declared.project.ProjectUnit.{ProjectUnit}
+use Rattle.sml_units.specs.declared.project.Beginning.{Beginning}
 use Rattle.sml_units.specs.declared.project.UnitReplies.{UnitReplies}
-use Rattle.sml_units.specs.Checked.{Answered, IsStep, IsReplyTo, AreRepliesTo, AreSound, AreAllSound, IsSoundAnswer, AreSpelt, HaveReplies, IsAnswered, AreAnswered, AreSourcesOf, AreUnitReplies, with_last}
+use Rattle.sml_units.specs.Checked.{Answered, IsStep, IsReplyTo, AreRepliesTo, AreSound, AreAllSound, IsSoundAnswer, AreSpelt, IsBegun, BeginWith, AreReplies, IsAnswered, AreSourcesOf, AreUnitReplies, with_last}
 
 -- the basis behind these answers
 abbrev pub after_all : Basis Name → List Answered → Basis Name
@@ -114,42 +119,148 @@ pub unwarned : {E : Type 0} {X : Type 0} (r : Result X E) (P : Type 0) (Q : X �
 unwarned (Ok x) P Q p h = h p
 unwarned (Err e) P Q p h = tt
 
--- a unit whose declarations have replies, and behind them its last fault
-pub unit_answered : {E : Type 0} (maker : ℕ) (bytes : List ℕ) (ds : List (Dec Place)) (last : Option (Fault Place)) (rs : List Reply) (r : Result (Vec Reply Global) E)
-    → AreSpelt bytes ds last → HaveReplies maker (start initial_basis [] []) ds rs
-    → IfOk r (λ v. (os : List Answered) → AreRepliesTo 1 os rs → AreRepliesTo 1 (with_last os last) v.items) → IfOk r (λ v. IsAnswered maker bytes v.items)
-unit_answered maker bytes ds last rs (Ok v) spelt have h = record {
-  declarations = ds;
-  last = last;
-  spelt = spelt;
-  answers = have.answers;
-  run = have.run;
-  sound = run_sound maker (start initial_basis [] []) ds have.answers have.run;
-  replies = h have.answers have.replies;
-}
-unit_answered maker bytes ds last rs (Err e) spelt have h = tt
+-- lengths of runs and replies
 
--- what a project shows of a unit
-abbrev pub seen : ProjectUnit → UnitText
-seen u = record { place = u.id.index; name = string_bytes u.name; text = u.text.items }
+pub replies_length : (k : ℕ) (os : List Answered) (rs : List Reply) → AreRepliesTo k os rs → length rs ≡ length os
+replies_length k [] [] h = refl
+replies_length k [] (r ∷ rs) h = absurd h
+replies_length k (o ∷ os) [] h = absurd h
+replies_length k (o ∷ os) (r ∷ rs) h = ap suc (replies_length (suc k) os rs h.1)
+
+pub run_length : (unit : ℕ) (B : Basis Name) (ds : List (Dec Place)) (os : List Answered) → Run naming unit B ds os → length os ≡ length ds
+unfolding Run
+run_length unit B [] [] h = refl
+run_length unit B [] (o ∷ os) h = absurd h
+run_length unit B (d ∷ ds) [] h = absurd h
+run_length unit B (d ∷ ds) (o ∷ os) h = ap suc (run_length unit (basis_after B o) ds os h.1)
+
+begin_with : (k : ℕ) (os : List Answered) (rs more : List Reply) → AreRepliesTo k os rs → BeginWith k os (rs ++ more)
+begin_with k [] rs more h = tt
+begin_with k (o ∷ os) [] more h = absurd h
+begin_with k (o ∷ os) (r ∷ rs) more h = (h.0, begin_with (suc k) os rs more h.1)
+
+-- declarations that are all specified
+
+pub beginning_all : (ds : List (Dec Place)) → list_all is_specified ds ≡ true → specified_beginning ds ≡ ds
+beginning_all [] h = refl
+beginning_all (d ∷ ds) h =
+    let p = and_parts (is_specified d) (list_all is_specified ds) h in
+    (λ i. cond (p.0 i) (d ∷ specified_beginning ds) []) ∙ ap (λ es. d ∷ es) (beginning_all ds p.1)
+
+-- those before one that isn't
+pub beginning_cut : (ds rest : List (Dec Place)) (d : Dec Place) → list_all is_specified ds ≡ true → is_specified d ≡ false → specified_beginning (ds ++ d ∷ rest) ≡ ds
+beginning_cut [] rest d h n = λ i. cond (n i) (d ∷ specified_beginning rest) []
+beginning_cut (e ∷ ds) rest d h n =
+    let p = and_parts (is_specified e) (list_all is_specified ds) h in
+    (λ i. cond (p.0 i) (e ∷ specified_beginning (ds ++ d ∷ rest)) []) ∙ ap (λ es. e ∷ es) (beginning_cut ds rest d p.1 n)
+
+-- those before the one at i
+pub beginning_cut_at : (ds rest : List (Dec Place)) (d : Dec Place) (all : List (Dec Place)) → all ≡ ds ++ d ∷ rest → list_all is_specified ds ≡ true → is_specified d ≡ false → specified_beginning all ≡ ds
+beginning_cut_at ds rest d all e h n = ap specified_beginning e ∙ beginning_cut ds rest d h n
+
+pub all_push : (ds : List (Dec Place)) (d : Dec Place) → list_all is_specified ds ≡ true → is_specified d ≡ true → list_all is_specified (ds ++ d ∷ []) ≡ true
+all_push [] d h k = (λ i. k i && true)
+all_push (e ∷ ds) d h k =
+    let p = and_parts (is_specified e) (list_all is_specified ds) h in
+    (λ i. p.0 i && all_push ds d p.1 k i)
+
+-- of a unit before all others nothing that it needs is there
+
+none_lacks : (ks : List ℕ) → list_all (flag_at []) ks ≡ true
+none_lacks [] = refl
+none_lacks (k ∷ ks) = none_lacks ks
+
+onto_nothing : (E : Env Name) → extend_env E empty_env ≡ E
+onto_nothing (O.env ss ts vs) = refl
+
+needed_none : (B : Basis Name) (ks : List ℕ) → (needed B [] ks).body ≡ B.body
+unfolding needed export_at extend
+needed_none B [] = refl
+needed_none B (k ∷ ks) = needed_none (extend B nothing) ks ∙ onto_nothing B.body
+
+pub start_none : (ks : List ℕ) → start initial_basis [] ks ≡ start initial_basis [] []
+unfolding start needed
+start_none ks = λ i. record { names = all_names [] ++ names_basis initial_basis; count = 0; body = needed_none initial_basis ks i }
+
+-- the answers and the last fault of a unit, from how its replies were made
+abbrev source_of : UnitText → ℕ → List (Dec Place) → Option (Fault Place) → SourceUnit
+source_of u n ds last = record { label = u.name; maker = suc u.place; needs = u.needs; number = n; declarations = ds; last = last }
+
+pub ends_as_many : {X Y : Type 0} (g : X → Y) (o : Option X) → length (option_to_list o) ≡ length (option_to_list (option_map g o))
+ends_as_many g None = refl
+ends_as_many g (Some x) = refl
+
+nothing_behind : (rs tail : List Reply) → length (rs ++ tail) ≡ length rs → rs ++ tail ≡ rs
+nothing_behind [] [] h = refl
+nothing_behind [] (r ∷ tail) h = absurd (omega (arith, h))
+nothing_behind (r ∷ rs) tail h = ap (λ l. r ∷ l) (nothing_behind rs tail (omega (arith, h)))
+
+begun_by : (whole : Bool) (os : List Answered) (last : Option (Fault Place)) (rs tail ends : List Reply) → AreRepliesTo 1 os rs
+    → (whole ≡ true → rs ++ tail ≡ rs) → (AreRepliesTo 1 os (rs ++ tail) → AreRepliesTo 1 (with_last os last) ((rs ++ tail) ++ ends))
+    → BeginWith 1 (with_last os (cond whole last None)) ((rs ++ tail) ++ ends)
+begun_by true os last rs tail ends h same more =
+    subst (BeginWith 1 (with_last os last)) (append-nil ((rs ++ tail) ++ ends))
+    (begin_with 1 (with_last os last) ((rs ++ tail) ++ ends) [] (more (subst (AreRepliesTo 1 os) (sym (same refl)) h)))
+begun_by false os last rs tail ends h same more =
+    subst (BeginWith 1 os) (sym (append_assoc rs tail ends)) (begin_with 1 os rs (tail ++ ends) h)
+
+pub unit_answered : (u : UnitText) (ds : List (Dec Place)) (last : Option (Fault Place)) (spelt : AreSpelt u.text ds last) (b : Beginning) (tail ends : List Reply)
+    → IsBegun (suc u.place) (start initial_basis [] []) ds b → length b.replies.items + length tail ≡ length spelt.tops → length ends ≡ length (option_to_list last)
+    → ((os : List Answered) → AreRepliesTo 1 os (b.replies.items ++ tail) → AreRepliesTo 1 (with_last os last) ((b.replies.items ++ tail) ++ ends))
+    → IsAnswered u ((b.replies.items ++ tail) ++ ends)
+unit_answered u ds last spelt b tail ends begun all count more =
+    let n = length spelt.tops in
+    let s = source_of u n ds last in
+    let os = begun.answers in
+    let rs = b.replies.items in
+    let same : is_whole [] s ≡ true → rs ++ tail ≡ rs = (λ w.
+    let parts = and_parts (list_all (flag_at []) u.needs) (list_all is_specified ds && (length ds == n)) w in
+    let inner = and_parts (list_all is_specified ds) (length ds == n) parts.1 in
+    let whole = beginning_all ds inner.0 in
+    let len = replies_length 1 os rs begun.replies in
+    let run = run_length (suc u.place) (start initial_basis [] []) (specified_beginning ds) os begun.run in
+    let ran = ap length whole in
+    let num = eqb-true (length ds) n inner.1 in
+    let app = length-append rs tail in
+    nothing_behind rs tail (omega (arith, len, run, ran, num, app, all))) in
+    record {
+      source = s;
+      is = record { label_is = refl; maker_is = refl; needs_are = refl; spelt = spelt; number_is = refl };
+      answers = os;
+      run = subst (λ b. Run naming (suc u.place) (start initial_basis [] u.needs) (cond b (specified_beginning ds) []) os) (sym (none_lacks u.needs))
+          (subst (λ B. Run naming (suc u.place) B (specified_beginning ds) os) (sym (start_none u.needs)) begun.run);
+      replies = record {
+        begun = begun_by (is_whole [] s) os last rs tail ends begun.replies same (more os);
+        number = (let a = length-append (rs ++ tail) ends in let b = length-append rs tail in omega (arith, a, b, all, count));
+      };
+    }
+
+-- What is known of the replies to the units so far: those to the first, and nothing of those behind it, which wait for
+-- runs of several units.
+abbrev pub AreAnswered : List UnitText → List UnitReplies → Type 0
+AreAnswered [] [] = Unit {0}
+AreAnswered [] (r ∷ rs) = ⊥
+AreAnswered (u ∷ []) [] = ⊥
+AreAnswered (u ∷ []) (r ∷ []) = (string_bytes r.name ≡ u.name) × IsAnswered u r.replies.items
+AreAnswered (u ∷ []) (r ∷ q ∷ rs) = ⊥
+AreAnswered (u ∷ v ∷ us) rs = Unit {0}
 
 pub answered_push : (us : List UnitText) (rs : List UnitReplies) (u : UnitText) (r : UnitReplies) → AreAnswered us rs → string_bytes r.name ≡ u.name
-    → IsAnswered (suc u.place) u.text r.replies.items → AreAnswered (us ++ u ∷ []) (rs ++ r ∷ [])
-answered_push [] [] u r h n a = ((n, a), tt)
+    → (length us ≡ 0 → IsAnswered u r.replies.items) → AreAnswered (us ++ u ∷ []) (rs ++ r ∷ [])
+answered_push [] [] u r h n a = (n, a refl)
 answered_push [] (s ∷ rs) u r h n a = absurd h
-answered_push (v ∷ us) [] u r h n a = absurd h
-answered_push (v ∷ us) (s ∷ rs) u r h n a = (h.0, answered_push us rs u r h.1 n a)
+answered_push (v ∷ []) rs u r h n a = tt
+answered_push (v ∷ w ∷ us) rs u r h n a = tt
 
--- The replies to one unit, or to none, are those of a run. Units behind others wait for projects of several units.
+-- The replies to one unit, or to none, are those of a run.
 pub one_unit : (us : List UnitText) (rs : List UnitReplies) → length us ≤ 1 → AreAnswered us rs
-    → (sources : List SourceUnit) × AreSourcesOf us sources × (answers : List (List Answered)) × RunProject naming initial_basis [] sources answers × AreUnitReplies sources answers rs
+    → (sources : List SourceUnit) × AreSourcesOf us sources × (answers : List (List Answered)) × RunProject naming initial_basis [] (specified sources) answers × AreUnitReplies sources (specified sources) answers rs
 unfolding RunProject
 one_unit [] [] few h = ([], tt, [], tt, tt)
 one_unit [] (r ∷ rs) few h = absurd h
-one_unit (u ∷ us) [] few h = absurd h
+one_unit (u ∷ []) [] few h = absurd h
 one_unit (u ∷ []) (r ∷ []) few h =
-    let a = h.0.1 in
-    let s : SourceUnit = record { label = u.name; maker = suc u.place; needs = []; declarations = a.declarations; last = a.last } in
-    (s ∷ [], (record { label_is = refl; maker_is = refl; needs_are = refl; spelt = a.spelt }, tt), a.answers ∷ [], (a.run, tt), ((h.0.0, a.replies), tt))
-one_unit (u ∷ []) (r ∷ s ∷ rs) few h = absurd h.1
-one_unit (u ∷ v ∷ us) (r ∷ rs) few h = absurd (omega (arith, few))
+    let a = h.1 in
+    (a.source ∷ [], (a.is, tt), a.answers ∷ [], (a.run, tt), ((h.0 ∙ sym a.is.label_is, a.replies), tt))
+one_unit (u ∷ []) (r ∷ s ∷ rs) few h = absurd h
+one_unit (u ∷ v ∷ us) rs few h = absurd (omega (arith, few))

@@ -1,5 +1,6 @@
 -- Which replies a project may be given.
-use Rattle.std.specs.Prelude.{◌≡◌, ℕ, suc, Bool, true, false, List, [], ◌∷◌, ◌++◌, Option, Some, None}
+use Rattle.std.specs.Prelude.{◌≡◌, ℕ, suc, Bool, true, false, List, [], ◌∷◌, ◌++◌, ◌+◌, length, Option, Some, None}
+use Rattle.std.specs.Option.{option_to_list}
 use Rattle.std.specs.String.{string_bytes}
 use Rattle.sml_lex.specs.declared.fault.Place.{Place}
 use Rattle.sml_lex.specs.declared.token.Token.{Token}
@@ -20,9 +21,10 @@ use Rattle.sml_reply.specs.declared.reply.Reply.{Reply}
 use Rattle.sml_objects.specs.Views.{maker_of}
 use Rattle.sml_objects.specs.declared.objects.Basis as PB
 use Rattle.sml_piece.specs.Elaborated.{IsBasisOf, beginning}
-use Rattle.sml_units.specs.Runs.{SourceUnit, Run, RunProject, basis_after, start, exports, nothing}
-use Rattle.sml_units.specs.Orders.{UnitText, unit_texts}
-use Rattle.sml_units.specs.declared.project.Project.{Project}
+use Rattle.sml_units.specs.Runs.{SourceUnit, Run, RunProject, basis_after, start, exports, nothing, specified, specified_unit, specified_beginning}
+use Rattle.sml_projects.specs.Orders.{UnitText, unit_texts}
+use Rattle.sml_units.specs.declared.project.Beginning.{Beginning}
+use Rattle.sml_projects.specs.declared.project.Project.{Project}
 use Rattle.sml_units.specs.declared.project.Replies.{Replies}
 use Rattle.sml_units.specs.declared.project.UnitReplies.{UnitReplies}
 
@@ -70,11 +72,11 @@ AreSound unit B [] os = Unit {0}
 AreSound unit B (d ∷ ds) [] = Unit {0}
 AreSound unit B (d ∷ ds) (o ∷ os) = IsSoundAnswer unit B d o × AreSound unit (basis_after B o) ds os
 
--- these declarations, each in the basis so far, are given these replies
-pub record HaveReplies (maker : ℕ) (B : Basis Name) (ds : List (Dec Place)) (rs : List Reply) : Type 0 where
+-- The declarations before the first that isn't specified, each in the basis so far, are given these replies.
+pub record IsBegun (maker : ℕ) (B : Basis Name) (ds : List (Dec Place)) (b : Beginning) : Type 0 where
   pub answers : List Answered
-  pub run : Run naming maker B ds answers
-  pub replies : AreRepliesTo 1 answers rs
+  pub run : Run naming maker B (specified_beginning ds) answers
+  pub replies : AreRepliesTo 1 answers b.replies.items
 
 -- a declaration is answered in the basis, and what it binds if it is accepted is put into it
 pub record IsStep (old new : PB.Basis) (B : Basis Name) (d : Dec Place) (number : ℕ) (r : Reply) : Type 0 where
@@ -84,29 +86,13 @@ pub record IsStep (old new : PB.Basis) (B : Basis Name) (d : Dec Place) (number 
   pub after : IsBasisOf new (basis_after B answer)
   pub unit : new.unit ≡ old.unit
 
--- A unit of this text is given these replies: some run over the declarations that its bytes spell has their answers.
-pub record IsAnswered (maker : ℕ) (bytes : List ℕ) (rs : List Reply) : Type 0 where
-  pub declarations : List (Dec Place)
-  pub last : Option (Fault Place)
-  pub spelt : AreSpelt bytes declarations last
-  pub answers : List Answered
-  pub run : Run naming maker (start initial_basis [] []) declarations answers
-  pub sound : AreSound maker (start initial_basis [] []) declarations answers
-  pub replies : AreRepliesTo 1 (with_last answers last) rs
-
--- each unit is named and answered
-abbrev pub AreAnswered : List UnitText → List UnitReplies → Type 0
-AreAnswered [] [] = Unit {0}
-AreAnswered [] (r ∷ rs) = ⊥
-AreAnswered (u ∷ us) [] = ⊥
-AreAnswered (u ∷ us) (r ∷ rs) = ((string_bytes r.name ≡ u.name) × IsAnswered (suc u.place) u.text r.replies.items) × AreAnswered us rs
-
--- the unit of these declarations, which has no needs for now
+-- the unit of these declarations
 pub record IsSourceOf (u : UnitText) (s : SourceUnit) : Type 0 where
   pub label_is : s.label ≡ u.name
   pub maker_is : s.maker ≡ suc u.place
-  pub needs_are : s.needs ≡ []
+  pub needs_are : s.needs ≡ u.needs
   pub spelt : AreSpelt u.text s.declarations s.last
+  pub number_is : s.number ≡ length spelt.tops
 
 abbrev pub AreSourcesOf : List UnitText → List SourceUnit → Type 0
 AreSourcesOf [] [] = Unit {0}
@@ -114,10 +100,30 @@ AreSourcesOf [] (s ∷ ss) = ⊥
 AreSourcesOf (u ∷ us) [] = ⊥
 AreSourcesOf (u ∷ us) (s ∷ ss) = IsSourceOf u s × AreSourcesOf us ss
 
-abbrev pub AreUnitReplies : List SourceUnit → List (List Answered) → List UnitReplies → Type 0
-AreUnitReplies [] [] [] = Unit {0}
-AreUnitReplies (s ∷ ss) (os ∷ oss) (r ∷ rs) = ((string_bytes r.name ≡ s.label) × AreRepliesTo 1 (with_last os s.last) r.replies.items) × AreUnitReplies ss oss rs
-AreUnitReplies ss oss rs = ⊥
+-- the replies from this number on begin with one for each answer
+abbrev pub BeginWith : ℕ → List Answered → List Reply → Type 0
+BeginWith k [] rs = Unit {0}
+BeginWith k (o ∷ os) [] = ⊥
+BeginWith k (o ∷ os) (r ∷ rs) = IsReplyTo k o r × BeginWith (suc k) os rs
+
+-- There is a reply to each declaration and to the last fault. They begin with those to these answers and this last fault.
+pub record AreReplies (s : SourceUnit) (os : List Answered) (last : Option (Fault Place)) (rs : List Reply) : Type 0 where
+  pub begun : BeginWith 1 (with_last os last) rs
+  pub number : length rs ≡ s.number + length (option_to_list s.last)
+
+-- of each unit, and of what is specified of it
+abbrev pub AreUnitReplies : List SourceUnit → List SourceUnit → List (List Answered) → List UnitReplies → Type 0
+AreUnitReplies [] [] [] [] = Unit {0}
+AreUnitReplies (s ∷ ss) (t ∷ ts) (os ∷ oss) (r ∷ rs) = ((string_bytes r.name ≡ s.label) × AreReplies s os t.last r.replies.items) × AreUnitReplies ss ts oss rs
+AreUnitReplies ss ts oss rs = ⊥
+
+-- A unit before all others is given these replies: they begin with the answers of some run over what is specified of it.
+pub record IsAnswered (u : UnitText) (rs : List Reply) : Type 0 where
+  pub source : SourceUnit
+  pub is : IsSourceOf u source
+  pub answers : List Answered
+  pub run : Run naming source.maker (start initial_basis [] source.needs) (specified_unit [] source).declarations answers
+  pub replies : AreReplies source answers (specified_unit [] source).last rs
 
 -- each accepted declaration of the units has a derivation in the rules, in the basis in which it was answered
 abbrev pub AreAllSound : List (Sig Name) → List SourceUnit → List (List Answered) → Type 0
@@ -125,12 +131,12 @@ AreAllSound Ss [] oss = Unit {0}
 AreAllSound Ss (u ∷ us) [] = Unit {0}
 AreAllSound Ss (u ∷ us) (os ∷ oss) = AreSound u.maker (start initial_basis Ss u.needs) u.declarations os × AreAllSound (Ss ++ exports nothing os ∷ []) us oss
 
--- Some run over the units of the project, of the declarations that their bytes spell, has the answers of these replies, and
--- what it accepts is sound.
+-- Some run over what is specified of the project's units, of the declarations that their bytes spell, has the answers with
+-- which these replies begin, and what it accepts is sound.
 pub record MayReply (p : Project) (rs : Replies) : Type 0 where
   pub sources : List SourceUnit
   pub sources_are : AreSourcesOf (unit_texts p) sources
   pub answers : List (List Answered)
-  pub run : RunProject naming initial_basis [] sources answers
-  pub sound : AreAllSound [] sources answers
-  pub replies : AreUnitReplies sources answers rs.units.items
+  pub run : RunProject naming initial_basis [] (specified sources) answers
+  pub sound : AreAllSound [] (specified sources) answers
+  pub replies : AreUnitReplies sources (specified sources) answers rs.units.items

@@ -8,8 +8,9 @@ use Rattle.sml_reply.specs.Replies.{reply_text, accepts}
 use Rattle.sml_reply.specs.declared.reply.Reply.{Reply}
 use Rattle.sml_units.specs.Checked.{AreSpelt, MayReply}
 use Rattle.sml_units.specs.Isolation.{AlikeOutsideSeals}
-use Rattle.sml_units.specs.Orders.{UnitText, unit_texts}
-use Rattle.sml_units.specs.declared.project.Project.{Project}
+use Rattle.sml_projects.specs.Orders.{UnitText, unit_texts}
+use Rattle.sml_units.specs.Runs.{AllSpecified}
+use Rattle.sml_projects.specs.declared.project.Project.{Project}
 use Rattle.sml_units.specs.declared.project.Replies.{Replies}
 use Rattle.sml_units.specs.declared.project.UnitReplies.{UnitReplies}
 
@@ -25,10 +26,10 @@ pub record SpellAlike (bytes others : List ℕ) (x : Pair) : Type 0 where
   pub others_spelt : AreSpelt others x.others x.last
   pub alike : AlikeOutsideSeals x.declarations x.others
 
--- The units of two projects have the same names, places in the project file and order, and files that are alike.
+-- The units of two projects have the same names, places in the project file, needs and order, and files that are alike.
 abbrev pub FilesAlike : List UnitText → List UnitText → List Pair → Type 0
 FilesAlike [] [] [] = Unit {0}
-FilesAlike (u ∷ us) (w ∷ ws) (x ∷ xs) = ((u.name ≡ w.name) × (u.place ≡ w.place) × SpellAlike u.text w.text x) × FilesAlike us ws xs
+FilesAlike (u ∷ us) (w ∷ ws) (x ∷ xs) = ((u.name ≡ w.name) × (u.place ≡ w.place) × (u.needs ≡ w.needs) × SpellAlike u.text w.text x) × FilesAlike us ws xs
 FilesAlike us ws xs = ⊥
 
 -- each declaration that differs is accepted in both or refused in both
@@ -57,9 +58,10 @@ AllHaveEqualReplies [] [] [] = Unit {0}
 AllHaveEqualReplies (x ∷ xs) (r ∷ rs) (q ∷ qs) = (string_bytes r.name ≡ string_bytes q.name) × AreEqualReplies x.declarations x.others r.replies.items q.replies.items × AllHaveEqualReplies xs rs qs
 AllHaveEqualReplies xs rs qs = ⊥
 
--- Take two projects whose files are alike outside sealed bodies, and any replies that they may be given, such that each
--- declaration that differs is accepted in both or refused in both. Then all else is replied to with the same bytes.
+-- Take two projects whose files are alike outside sealed bodies and spell specified declarations alone, and any replies
+-- that they may be given, such that each declaration that differs is accepted in both or refused in both. Then all else is
+-- replied to with the same bytes.
 abbrev pub SealsIsolateFiles : Type 0
 SealsIsolateFiles =
-    (p q : Project) (rs qs : Replies) (pairs : List Pair) → MayReply p rs → MayReply q qs → FilesAlike (unit_texts p) (unit_texts q) pairs
-    → AllAgreeOnSeals pairs rs.units.items qs.units.items → AllHaveEqualReplies pairs rs.units.items qs.units.items
+    (p q : Project) (rs qs : Replies) (pairs : List Pair) (h : MayReply p rs) (k : MayReply q qs) → AllSpecified h.sources → AllSpecified k.sources
+    → FilesAlike (unit_texts p) (unit_texts q) pairs → AllAgreeOnSeals pairs rs.units.items qs.units.items → AllHaveEqualReplies pairs rs.units.items qs.units.items

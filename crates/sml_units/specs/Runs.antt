@@ -1,22 +1,69 @@
 -- Runs over the units of a project, each after the units that it needs.
-use Rattle.std.specs.Prelude.{ℕ, zero, suc, List, [], ◌∷◌, ◌++◌, Option}
+use Rattle.std.specs.Prelude.{◌≡◌, ℕ, zero, suc, ◌==◌, Bool, true, false, ◌&&◌, cond, List, [], ◌∷◌, ◌++◌, length, Option, None}
+use Rattle.std.specs.List.{list_all}
 use Rattle.sml_lex.specs.declared.fault.Place.{Place}
 use Rattle.sml_lex.specs.Faults.{Fault}
-use Rattle.sml_tree.specs.Trees.{Dec}
+use Rattle.sml_tree.specs.Trees.{Dec, core, sealed, other}
 use Rattle.sml_objects.specs.Names.{Naming}
 use Rattle.sml_objects.specs.Objects.{Sig, Basis, empty_env, extend_env, extend, names_sig, names_basis}
 use Rattle.sml_rules.specs.Answers.{Answer, refused, accepted}
 use Rattle.sml_rules.specs.Readings.{read_top}
 use Rattle.sml_piece.specs.Elaborated.{beginning}
 
--- A unit has a name, its place among the unit lines from 1, the places of its needs in the order of checking, the
--- declarations that its bytes spell, and perhaps a last fault.
+-- A unit has a name, its place among the unit lines from 1, the places of its needs in the order of checking, how many
+-- declarations its bytes spell, these as far as they are of the piece, and perhaps a last fault.
 pub record SourceUnit : Type 0 where
   pub label : List ℕ
   pub maker : ℕ
   pub needs : List ℕ
+  pub number : ℕ
   pub declarations : List (Dec Place)
   pub last : Option (Fault Place)
+
+-- whether a declaration is of the piece of the language whose meaning is specified so far
+abbrev pub is_specified : Dec Place → Bool
+is_specified (core d) = true
+is_specified (sealed s p q ds) = true
+is_specified (other p) = false
+
+-- the declarations before the first that isn't specified
+abbrev pub specified_beginning : List (Dec Place) → List (Dec Place)
+specified_beginning [] = []
+specified_beginning (d ∷ ds) = cond (is_specified d) (d ∷ specified_beginning ds) []
+
+abbrev pub flag_at : List Bool → ℕ → Bool
+flag_at [] k = true
+flag_at (b ∷ bs) zero = b
+flag_at (b ∷ bs) (suc k) = flag_at bs k
+
+-- whether all declarations of a unit are specified, and all of its needs, which these flags tell of each unit before it
+abbrev pub is_whole : List Bool → SourceUnit → Bool
+is_whole flags u = list_all (flag_at flags) u.needs && (list_all is_specified u.declarations && (length u.declarations == u.number))
+
+-- The unit up to its first declaration that isn't specified, and where there is none with its last fault. Of a unit with
+-- a need that isn't all specified nothing is.
+abbrev pub specified_unit : List Bool → SourceUnit → SourceUnit
+specified_unit flags u = record {
+  label = u.label;
+  maker = u.maker;
+  needs = u.needs;
+  number = u.number;
+  declarations = cond (list_all (flag_at flags) u.needs) (specified_beginning u.declarations) [];
+  last = cond (is_whole flags u) u.last None;
+}
+
+abbrev pub specified_from : List Bool → List SourceUnit → List SourceUnit
+specified_from flags [] = []
+specified_from flags (u ∷ us) = specified_unit flags u ∷ specified_from (flags ++ is_whole flags u ∷ []) us
+
+-- what is specified of the units of a project
+abbrev pub specified : List SourceUnit → List SourceUnit
+specified us = specified_from [] us
+
+-- all declarations of the units are
+abbrev pub AllSpecified : List SourceUnit → Type 0
+AllSpecified [] = Unit {0}
+AllSpecified (u ∷ us) = ((list_all is_specified u.declarations ≡ true) × (length u.declarations ≡ u.number)) × AllSpecified us
 
 abbrev pub basis_after : {N : Type 0} → Basis N → Answer Place (Sig N) → Basis N
 basis_after B (refused f) = B

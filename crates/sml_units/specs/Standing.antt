@@ -3,10 +3,10 @@ use Rattle.std.specs.Prelude.{ℕ, List, [], ◌∷◌, length, IfSome}
 use Rattle.sml_lex.specs.declared.token.Token.{Token}
 use Rattle.sml_parse.specs.Within.{Extent, extents_of, IsOfToken, StandsLast}
 use Rattle.sml_rules.specs.Answers.{refused, accepted}
-use Rattle.sml_units.specs.Orders.{UnitText, unit_texts}
+use Rattle.sml_projects.specs.Orders.{UnitText, unit_texts}
 use Rattle.sml_units.specs.Runs.{SourceUnit}
 use Rattle.sml_units.specs.Checked.{Answered, AreSpelt, AreSourcesOf, MayReply}
-use Rattle.sml_units.specs.declared.project.Project.{Project}
+use Rattle.sml_projects.specs.declared.project.Project.{Project}
 use Rattle.sml_units.specs.declared.project.Replies.{Replies}
 
 -- a fault stands at a token of the declaration of this extent

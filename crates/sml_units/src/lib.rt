@@ -1,10 +1,9 @@
 // Projects: their units in order, what their declarations are answered, and runs.
 #![tactic(auto)]
 
+mod exports;
 pub mod isolation;
 pub mod laws;
-pub mod manifest;
-pub mod orders;
 pub mod project;
-pub mod project_file;
 pub mod run;
+mod whole;

@@ -1,7 +1,8 @@
 //! Projects and what their declarations are answered.
 
-ghost use Rattle.std.specs.Prelude.{◌≡◌, ◌≤◌, ◌+◌, IfOk, IfErr, List, OnOk, [], length, map, vec_len};
-ghost use Rattle.std.specs.Option.{option_map};
+ghost use Rattle.std.specs.Prelude.{◌≡◌, ◌≤◌, ◌+◌, ◌++◌, IfOk, IfErr, List, OnOk, [], length, map, vec_len};
+ghost use Rattle.sml_reply.specs.declared.reply.Reply.{Reply};
+ghost use Rattle.std.specs.Option.{option_map, option_to_list};
 ghost use Rattle.sml_lex.specs.Faults.{fault_of};
 ghost use Rattle.sml_tree.specs.Views.{dec_of};
 ghost use Rattle.sml_objects.specs.Initial.{Name, initial_basis};
@@ -11,66 +12,25 @@ ghost use Rattle.sml_objects.specs.Views.{maker_of, sig_of};
 ghost use Rattle.sml_rules.specs.Answers.{accepted};
 ghost use Rattle.sml_rules.specs.Open.{OpenEnv};
 ghost use Rattle.sml_piece.specs.Elaborated.{IsBasisOf, IsOwnBasis};
-ghost use Rattle.sml_units.specs.Checked.{MayReply, IsAnswered, HaveReplies, IsStep, IsReplyTo, Answered, AreRepliesTo, with_last};
-ghost use Rattle.sml_units.specs.Orders.{IsProjectOf, unit_texts};
-ghost use Rattle.sml_units.specs.Runs.{start};
-ghost use Rattle.sml_units.specs.ProjectFiles.{units_in};
+ghost use Rattle.sml_units.specs.Checked.{MayReply, IsAnswered, IsBegun, IsStep, IsReplyTo, Answered, AreRepliesTo, with_last};
+ghost use Rattle.sml_projects.specs.Orders.{unit_texts, unit_text_of};
+ghost use Rattle.sml_units.specs.Runs.{start, is_specified};
 
-use crate::manifest::{Manifest, OrderFault};
-use crate::orders::order;
+use crate::exports::{Exports, empty, nameless, with_needs};
+use crate::whole::{answer_rest, exported, whole_basis};
+use sml_envs::initial::initial;
+use sml_envs::objects::Basis as WholeBasis;
 use sml_lex::fault::{Fault, Memory, Warning};
 use sml_lex::lexer::lex;
 use sml_objects::objects::{Basis, UnitId};
 use sml_parse::parse::parse;
+use sml_projects::project::{Project, ProjectUnit};
 use sml_piece::modules::topdec;
 use sml_piece::top_fault::TopFault;
 use sml_reply::reply::Reply;
 use sml_tree::bare::BareDec;
 use std::alloc::Global;
-
-/// The units of a project in their order, each with its text.
-#[derive(Drop)]
-pub struct Project {
-    units: Vec<ProjectUnit>,
-}
-
-#[derive(Drop)]
-struct ProjectUnit {
-    id: UnitId,
-    name: String,
-    text: Vec<u8>,
-}
-
-impl Project {
-    /// The project of a manifest and one text for each unit, in the order listed.
-    pub fn new(
-        alloc: Global,
-        manifest: Manifest,
-        texts: Vec<Vec<u8>>,
-    ) -> Result<Project, OrderFault>
-        ensures units { vec_len texts ≡ length (units_in manifest) → IfOk result (IsProjectOf (units_in manifest) (map (λ t. t.items) texts.items)) }
-
-        // No unit has needs, for now.
-        ensures faults { IfErr result (λ f. f ≡ OrderFault.Memory) }
-    {
-        let order = order(alloc, &manifest)?;
-        let mut units = Vec::new(alloc);
-        let mut names = manifest.names.into_iter();
-        let mut texts = texts.into_iter();
-        for id in order.as_slice() {
-            if let Some(name) = names.next() {
-                if let Some(text) = texts.next() {
-                    units.push(ProjectUnit {
-                        id: *id,
-                        name,
-                        text,
-                    })?;
-                }
-            }
-        }
-        Ok(Project { units })
-    }
-}
+use std::rc::Rc;
 
 /// The replies to the declarations of each unit, by unit in order.
 #[derive(Drop)]
@@ -83,6 +43,15 @@ pub struct Replies {
 pub struct UnitReplies {
     pub name: String,
     pub replies: Vec<Reply>,
+}
+
+/// The beginning of a unit: the replies to declarations of the piece, what they bind, and how many names they made.
+#[derive(Drop)]
+struct Beginning {
+    count: usize,
+    bound: Basis,
+    replies: Vec<Reply>,
+    is_whole: bool,
 }
 
 /// A project that has been checked.
@@ -100,34 +69,59 @@ impl Checked {
     }
 }
 
-/// Answers every declaration of the project, which has one unit at most for now.
+/// Answers every declaration of the project.
 pub fn check(alloc: Global, project: &Project) -> Result<Checked, Memory>
     ensures { length (unit_texts project.now) ≤ 1 → IfOk result (λ c. MayReply project.now c.replies) }
 {
+    let initial = Rc::new(alloc, initial(alloc)?)?;
+    let mut exports = Vec::new(alloc);
     let mut units = Vec::new(alloc);
     for unit in project.units.as_slice() {
         let name = unit.name.clone()?;
-        let replies = check_unit(alloc, unit.id, &unit.text)?;
+        let (replies, own) = check_unit(alloc, &initial, &exports, unit)?;
         units.push(UnitReplies { name, replies })?;
+        exports.push(own)?;
     }
     Ok(Checked {
         replies: Replies { units },
     })
 }
 
-/// The replies to the declarations of a unit.
-fn check_unit(alloc: Global, id: UnitId, text: &[u8]) -> Result<Vec<Reply>, Memory>
-    ensures { IfOk result (λ rs. IsAnswered (maker_of id) text.now rs.items) }
+/// The replies to the declarations of a unit, and what it exports.
+fn check_unit(
+    alloc: Global,
+    initial: &Rc<WholeBasis>,
+    exports: &[Exports],
+    unit: &ProjectUnit,
+) -> Result<(Vec<Reply>, Exports), Memory>
+    ensures { length exports.now ≡ 0 → IfOk result (λ r. IsAnswered (unit_text_of unit.now) r.0.items) }
 {
-    let lexed = lex(alloc, text)?;
+    let lexed = lex(alloc, &unit.text)?;
     let parsed = parse(alloc, &lexed)?;
-    let replies = answer_all(alloc, id, &parsed.piece)?;
-    and_last(replies, parsed.fault)
+    let begun = begin(alloc, unit.id, &unit.needs, exports, &parsed.piece)?;
+    let Beginning {
+        count,
+        bound,
+        replies,
+        is_whole,
+    } = begun;
+    let mut basis = whole_basis(alloc, initial, &unit.needs, exports, count, &bound)?;
+    let rest = &parsed.declarations[replies.len()..];
+    let specified = if is_whole && rest.is_empty() {
+        Some(bound.env)
+    } else {
+        None
+    };
+    let replies = answer_rest(alloc, &mut basis, replies, rest)?;
+    let whole = exported(alloc, basis)?;
+    let replies = and_last(replies, parsed.fault)?;
+    Ok((replies, Exports { whole, specified }))
 }
 
 /// The replies with that to the unit's last fault, if there is one.
 fn and_last(mut replies: Vec<Reply>, fault: Option<Fault>) -> Result<Vec<Reply>, Memory>
-    ensures { IfOk result (λ rs. (os : List Answered) → AreRepliesTo 1 os replies.items → AreRepliesTo 1 (with_last os (option_map fault_of fault)) rs.items) }
+    ensures last { IfOk result (λ rs. (os : List Answered) → AreRepliesTo 1 os replies.items → AreRepliesTo 1 (with_last os (option_map fault_of fault)) rs.items) }
+    ensures more { IfOk result (λ rs. (tail : List Reply) × (rs.items ≡ replies.items ++ tail) × (length tail ≡ length (option_to_list fault))) }
 {
     match fault {
         Some(fault) => {
@@ -139,26 +133,84 @@ fn and_last(mut replies: Vec<Reply>, fault: Option<Fault>) -> Result<Vec<Reply>,
     }
 }
 
-/// The replies to whole declarations, each of which sees those before it.
-fn answer_all(alloc: Global, id: UnitId, declarations: &[BareDec]) -> Result<Vec<Reply>, Memory>
-    ensures { IfOk result (λ rs. HaveReplies (maker_of id) (start initial_basis [] []) (map dec_of declarations.now) rs.items) }
+/// Answers the declarations of a unit as far as they are of the piece, in the basis from which it starts. Where a need
+/// isn't all of the piece, there is none.
+fn begin(
+    alloc: Global,
+    id: UnitId,
+    needs: &[usize],
+    exports: &[Exports],
+    declarations: &[BareDec],
+) -> Result<Beginning, Memory>
+    ensures begun { length exports.now ≡ 0 → IfOk result (IsBegun (maker_of id) (start initial_basis [] []) (map dec_of declarations.now)) }
+    ensures few { IfOk result (λ b. length b.replies.items ≤ length declarations.now) }
 {
-    let mut basis = Basis::initial(alloc, id)?;
-    let mut replies = Vec::new(alloc);
-    for dec in declarations {
-        let number = number_behind(replies.len())?;
-        let reply = answer(alloc, &mut basis, number, dec)?;
-        replies.push(reply)?;
+    let basis = Basis::initial(alloc, id)?;
+    if exports.is_empty() {
+        return answer_piece(alloc, basis, declarations);
     }
-    Ok(replies)
+    match with_needs(alloc, basis, needs, exports)? {
+        Some(basis) => answer_piece(alloc, basis, declarations),
+        None => Ok(Beginning {
+            count: 0,
+            bound: empty(alloc, id),
+            replies: Vec::new(alloc),
+            is_whole: false,
+        }),
+    }
 }
 
-/// The reply to a declaration. What an accepted one binds is put into the basis.
-fn answer(alloc: Global, basis: &mut Basis, number: u32, dec: &BareDec) -> Result<Reply, Memory>
+/// The replies to the declarations before the first that isn't of the piece, each of which sees those before it.
+fn answer_piece(alloc: Global, basis: Basis, declarations: &[BareDec]) -> Result<Beginning, Memory>
+    ensures begun { (B : O.Basis Name) → IsBasisOf basis B → IfOk result (IsBegun (maker_of basis.unit) B (map dec_of declarations.now)) }
+    ensures few { IfOk result (λ b. length b.replies.items ≤ length declarations.now) }
+{
+    let mut basis = basis;
+    let mut bound = empty(alloc, basis.unit);
+    let mut replies = Vec::new(alloc);
+    for dec in declarations {
+        if !is_specified(dec) {
+            return Ok(Beginning {
+                count: basis.names.len(),
+                bound,
+                replies,
+                is_whole: false,
+            });
+        }
+        let number = number_behind(replies.len())?;
+        let reply = answer(alloc, &mut basis, &mut bound, number, dec)?;
+        replies.push(reply)?;
+    }
+    Ok(Beginning {
+        count: basis.names.len(),
+        bound,
+        replies,
+        is_whole: true,
+    })
+}
+
+/// Whether a declaration is of the piece.
+fn is_specified(dec: &BareDec) -> bool
+    ensures { result ≡ is_specified (dec_of dec.now) }
+{
+    match dec {
+        BareDec::Core(_) | BareDec::Structure(_) => true,
+        BareDec::Other(_) => false,
+    }
+}
+
+/// The reply to a declaration. What an accepted one binds is put into the basis, and into what is bound so far.
+fn answer(
+    alloc: Global,
+    basis: &mut Basis,
+    bound: &mut Basis,
+    number: u32,
+    dec: &BareDec,
+) -> Result<Reply, Memory>
     ensures { (B : O.Basis Name) → IsBasisOf basis.old B → IfOk result (IsStep basis.old basis.new B (dec_of dec.now) number) }
 {
     match topdec(alloc, basis, dec) {
-        Ok((own, warnings)) => accept(alloc, basis, number, own, warnings),
+        Ok((own, warnings)) => accept(alloc, basis, bound, number, own, warnings),
         Err(TopFault::Fault(fault)) => Ok(Reply::refused(number, fault)),
         Err(TopFault::Memory) => Err(Memory),
     }
@@ -167,6 +219,7 @@ fn answer(alloc: Global, basis: &mut Basis, number: u32, dec: &BareDec) -> Resul
 fn accept(
     alloc: Global,
     basis: &mut Basis,
+    bound: &mut Basis,
     number: u32,
     own: Basis,
     warnings: Vec<Warning>,
@@ -177,12 +230,13 @@ fn accept(
     ensures unit { OnOk result (basis.new.unit ≡ basis.old.unit) }
 {
     let reply = Reply::accepted(alloc, number, &own, warnings)?;
+    bound.add(nameless(alloc, own.unit, &own.env)?)?;
     basis.add(own)?;
     Ok(reply)
 }
 
 /// The number of a reply with so many before it. Where no `u32` holds it, that counts as want of memory.
-fn number_behind(count: usize) -> Result<u32, Memory>
+pub(crate) fn number_behind(count: usize) -> Result<u32, Memory>
     ensures { IfOk result (λ n. n ≡ count + 1) }
 {
     let Ok(count) = u32::try_from(count) else {

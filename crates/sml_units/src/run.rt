@@ -4,10 +4,11 @@ ghost use Rattle.std.specs.Prelude.{◌≡◌, ◌≤◌, ◌+◌, if◌then◌e
 ghost use Rattle.sml_reply.specs.Replies.{reply_text, warnings_of, accepts};
 ghost use Rattle.sml_reply.specs.Sinks.{in_turn, Prints};
 ghost use Rattle.sml_units.specs.Checked.{MayReply};
-ghost use Rattle.sml_units.specs.Orders.{unit_texts};
+ghost use Rattle.sml_projects.specs.Orders.{unit_texts};
 ghost use Rattle.sml_units.specs.Written.{unit_text, units_text, replies_text, replies_of, summary_of, capped, IsOutcome};
 
-use crate::project::{Project, Replies, UnitReplies, check};
+use crate::project::{Replies, UnitReplies, check};
+use sml_projects::project::Project;
 use sml_reply::reply::{Reply, print};
 use sml_reply::sink::{Out, OutFault, write_each};
 use std::alloc::Global;
@@ -33,7 +34,6 @@ pub struct Summary {
 }
 
 /// Checks the project, and writes the text of its replies: for each unit in order the line `unit NAME`, and then its replies.
-/// The replies are those of a run over the declarations that the units' bytes spell, for a project of one unit at most.
 pub fn run<O: Out>(
     alloc: Global,
     project: &Project,

@@ -1,7 +1,7 @@
 use Rattle.std.proofs.Common.{◌≡◌, ◌∙◌, [], ◌∷◌, ◌++◌, ap, sym, subst, map, length, arith, string_bytes}
 use Rattle.std.proofs.lemmas.List.{length-map, map-append}
-use Rattle.sml_units.specs.Orders.{IsOrder}
-use Rattle.sml_units.specs.ProjectFiles.{units_in}
+use Rattle.sml_projects.specs.Orders.{IsOrder}
+use Rattle.sml_projects.specs.ProjectFiles.{units_in}
 use Rattle.sml_units.proofs.InOrder.{places, one_in_order, first_place}
 use Rattle.sml_units.proofs.orders.order.Goals as goal
 

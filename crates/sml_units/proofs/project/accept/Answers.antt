@@ -3,4 +3,4 @@ use Rattle.sml_units.proofs.project.accept.Goals as goal
 
 pub returns-clause-basis : goal.returns-clause-basis
 returns-clause-basis c = λ B basis is opened.
-    added c.args.basis.now c.add.new.self c.args.own B basis is opened c.in_ok-add.ensures.env c.in_ok-add.ensures.names c.in_ok-add.ensures.unit
+    added c.args.basis.now c.add-2.new.self c.args.own B basis is opened c.in_ok-add-2.ensures.env c.in_ok-add-2.ensures.names c.in_ok-add-2.ensures.unit

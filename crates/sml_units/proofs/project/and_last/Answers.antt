@@ -1,13 +1,13 @@
-use Rattle.std.proofs.Common.{[], ◌∷◌, ◌++◌, sym, subst, arith}
-use Rattle.std.specs.Option.{option_map}
+use Rattle.std.proofs.Common.{[], ◌∷◌, ◌++◌, length, ap, append-nil, sym, subst, arith}
+use Rattle.std.specs.Option.{option_map, option_to_list}
 use Rattle.sml_lex.specs.Faults.{fault_of}
 use Rattle.sml_rules.specs.Answers.{refused}
 use Rattle.sml_units.specs.Checked.{AreRepliesTo, IsReplyTo, with_last}
 use Rattle.sml_units.proofs.Replying.{replies_push}
 use Rattle.sml_units.proofs.project.and_last.Goals as goal
 
-pub returns-in_ok-push-in-Some : goal.returns-in_ok-push-in-Some
-returns-in_ok-push-in-Some c = λ os h.
+pub returns-in_ok-push-in-Some-clause-last : goal.returns-in_ok-push-in-Some-clause-last
+returns-in_ok-push-in-Some-clause-last c = λ os h.
     let rs = c.args.replies in
     let o = refused (fault_of c.in-Some.fault) in
     let a = c.len.ensures in
@@ -17,3 +17,9 @@ returns-in_ok-push-in-Some c = λ os h.
     subst (λ f. AreRepliesTo 1 (with_last os (option_map fault_of f)) c.push.new.self.items) (sym c.in-Some.is)
     (subst (AreRepliesTo 1 (os ++ o ∷ [])) (sym c.in_ok-push-in-Some.ensures.items)
     (replies_push 1 os rs.items o c.refused.result h (subst (λ n. IsReplyTo n o c.refused.result) (omega (arith, a, b, n)) reply)))
+
+pub returns-in_ok-push-in-Some-clause-more : goal.returns-in_ok-push-in-Some-clause-more
+returns-in_ok-push-in-Some-clause-more c = (c.refused.result ∷ [], c.in_ok-push-in-Some.ensures.items, ap (λ f. length (option_to_list f)) (sym c.in-Some.is))
+
+pub returns-in-None-clause-more : goal.returns-in-None-clause-more
+returns-in-None-clause-more c = ([], sym (append-nil c.args.replies.items), ap (λ f. length (option_to_list f)) (sym c.in-None.is))

@@ -1,7 +1,7 @@
 use Rattle.std.proofs.Common.{◌≡◌, ◌<◌, ◌≤◌, ◌∙◌, [], ◌∷◌, ap, sym, subst, length, map, vec_len, arith}
 use Rattle.std.specs.String.{string_bytes}
 use Rattle.std.proofs.lemmas.List.{length-map, map-append}
-use Rattle.sml_units.specs.ProjectFiles.{LineGives, lines_of}
+use Rattle.sml_projects.specs.ProjectFiles.{LineGives, lines_of}
 use Rattle.sml_units.proofs.Listings.{word_at, same_word, same_length}
 use Rattle.sml_units.proofs.Manifests.{ReadTo, read_none, read_passed, read_listed, read_whole, read_to_fault, too_long, no_memory, few_lines}
 use Rattle.sml_units.proofs.project_file.manifest.Goals as goal

@@ -1,6 +1,6 @@
 use Rattle.std.proofs.Common.{◌≤◌, map, vec_len}
 use Rattle.std.specs.String.{string_bytes}
-use Rattle.sml_units.specs.ProjectFiles.{lines_of}
+use Rattle.sml_projects.specs.ProjectFiles.{lines_of}
 use Rattle.sml_units.proofs.Manifests.{ReadTo}
 use Rattle.sml_units.proofs.project_file.manifest.Given as goal
 

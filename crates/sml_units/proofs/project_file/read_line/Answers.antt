@@ -1,7 +1,7 @@
 use Rattle.std.proofs.Common.{◌≡◌, ◌∙◌, sym, ap, codes, length, arith, [], map}
 use Rattle.std.proofs.lemmas.Bool.{eqb-true, eqb-false, and_left, and_right}
 use Rattle.std.specs.Str.{bytes_eq}
-use Rattle.sml_units.specs.ProjectFiles.{LineGives, words_of, is_unit_name, lists}
+use Rattle.sml_projects.specs.ProjectFiles.{LineGives, words_of, is_unit_name, lists}
 use Rattle.sml_units.proofs.Listings.{word_at, line_without_words, line_of_remark, line_of_other_length, line_of_bad_listing, line_of_good_listing, line_behind_a_unit, differs, agrees, name_utf8, file_utf8}
 use Rattle.sml_units.proofs.project_file.read_line.Goals as goal
 use Rattle.sml_units.proofs.project_file.read_line.Goals.{then-is_empty-via-then-is_empty, then-is_empty-via-else-is_empty+then-is_remark}

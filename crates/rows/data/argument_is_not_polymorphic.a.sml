@@ -1,0 +1,1 @@
+val h = fn x => let val y = x in (y 1, y 2) end

@@ -1,0 +1,1 @@
+datatype 'a t = N | C of 'a * 'a t

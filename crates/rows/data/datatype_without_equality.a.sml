@@ -1,0 +1,1 @@
+datatype t = A of int -> int | B of t

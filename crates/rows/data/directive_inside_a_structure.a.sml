@@ -1,0 +1,1 @@
+structure A = struct infix 5 ## fun a ## b = a end val z = 1 ## 2

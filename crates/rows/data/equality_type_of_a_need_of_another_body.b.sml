@@ -1,0 +1,1 @@
+val b = S.a = S.a

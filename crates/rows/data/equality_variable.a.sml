@@ -1,0 +1,1 @@
+val q = fn (x, y) => if x = y then x else y

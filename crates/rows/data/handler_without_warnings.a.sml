@@ -1,0 +1,1 @@
+fn x => (x handle Fail _ => 1);

@@ -1,0 +1,1 @@
+val s = fn x => fn y => x < y

@@ -1,0 +1,1 @@
+fun f x = let datatype d = D of int fun g (D n) = n in g (D x) end

@@ -1,0 +1,1 @@
+val p = let val i = fn x => x in (i 1, i true) end

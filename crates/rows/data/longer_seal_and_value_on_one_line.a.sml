@@ -1,0 +1,1 @@
+structure S :> sig eqtype t val a : t end = struct type u = int type t = u * u val a = (1, 2) end val c = S.b

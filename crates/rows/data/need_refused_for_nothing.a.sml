@@ -1,0 +1,1 @@
+structure S :> sig eqtype t val a : t end = struct end

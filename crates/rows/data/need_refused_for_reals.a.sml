@@ -1,0 +1,1 @@
+structure S :> sig eqtype t val a : t end = struct type t = real val a = 1.0 end

@@ -1,0 +1,1 @@
+val e = fn x => ~ x = x

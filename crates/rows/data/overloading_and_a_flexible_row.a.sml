@@ -1,0 +1,3 @@
+val p = fn x => x + x
+val q = fn x => x / x
+val g = fn {a, ...} => a

@@ -1,0 +1,1 @@
+val k = let val f = fn x => x + x in f 1.5 end

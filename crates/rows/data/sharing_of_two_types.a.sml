@@ -1,0 +1,1 @@
+signature G = sig type t type u sharing type t = u val x : t end

@@ -1,0 +1,1 @@
+structure T : sig val x : 'a -> 'a end = struct fun x n = n + 1 end

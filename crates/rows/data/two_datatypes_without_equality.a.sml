@@ -1,0 +1,1 @@
+datatype t = A of t * u and u = B of int -> int

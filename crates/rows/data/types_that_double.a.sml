@@ -1,0 +1,5 @@
+val d0 = fn x => (x, x)
+val d1 = fn x => d0 (d0 x)
+val d2 = fn x => d1 (d1 x)
+val d3 = fn x => d2 (d2 x)
+val d4 = fn x => d3 (d3 x)

@@ -1,0 +1,1 @@
+signature S = sig val x : int val x : int end

@@ -1,0 +1,1 @@
+val m = fn x => x div 0w2

@@ -1,0 +1,2 @@
+pub mod ProjectFiles
+pub mod Orders

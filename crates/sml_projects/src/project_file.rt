@@ -1,0 +1,163 @@
+//! Project files: a line for each unit.
+
+ghost use Rattle.std.specs.Prelude.{◌≡◌, IfOk, map};
+ghost use Rattle.std.specs.Str.Lines.{strip_carriage_return};
+ghost use Rattle.sml_projects.specs.ProjectFiles.{lines_of, words_of, is_name_byte, is_unit_name, is_file_name, is_remark};
+
+use crate::manifest::{MOST_UNITS, Manifest, ManifestFault, ProjectCode, ProjectFault};
+use indexmap::IndexSet;
+use sml_lex::fault::Memory;
+use std::alloc::{AllocError, Global};
+
+/// The greatest size of a project file, in bytes.
+const MOST_BYTES: usize = 1_048_576;
+
+/// The longest name of a unit.
+const LONGEST_NAME: usize = 64;
+
+/// What a line gives behind the lines before it.
+#[derive(Drop)]
+enum Line {
+    PassedOver,
+    Listed(ListedUnit),
+    Bad,
+}
+
+#[derive(Drop)]
+struct ListedUnit {
+    name: String,
+    file: String,
+    needs: Vec<String>,
+}
+
+fn fault(code: ProjectCode, line: u32) -> ManifestFault
+    ensures { result ≡ ManifestFault.Fault (record { code = code; line = line }) }
+{
+    ManifestFault::Fault(ProjectFault { code, line })
+}
+
+/// The units that a project file lists, or O4 or O3 at the first line that has one of them, O4 where it has both.
+pub fn manifest(alloc: Global, text: &[u8]) -> Result<Manifest, ManifestFault> {
+    if text.len() > MOST_BYTES {
+        return Err(fault(ProjectCode::O4, 1));
+    }
+    let lines = lines(alloc, text)?;
+    let mut manifest = Manifest::new(alloc);
+    for (index, line) in lines.iter().enumerate() {
+        let number = index as u32 + 1;
+        match read_line(alloc, *line, manifest.files.len())? {
+            Line::PassedOver => {}
+            Line::Listed(unit) => {
+                if manifest.names.contains(unit.name.as_str()) {
+                    return Err(fault(ProjectCode::O3, number));
+                }
+                list(&mut manifest, unit, number)?;
+            }
+            Line::Bad => return Err(fault(ProjectCode::O4, number)),
+        }
+    }
+    Ok(manifest)
+}
+
+/// Puts a unit behind those listed.
+fn list(manifest: &mut Manifest, unit: ListedUnit, line: u32) -> Result<(), Memory> {
+    let ListedUnit { name, file, needs } = unit;
+    manifest.names.insert(name)?;
+    manifest.files.push(file)?;
+    manifest.needs.push(needs)?;
+    manifest.lines.push(line)?;
+    Ok(())
+}
+
+/// The lines of a text of a project file.
+fn lines(alloc: Global, text: &[u8]) -> Result<Vec<&[u8]>, AllocError>
+    ensures { IfOk result (λ v. map (λ l. l.now) v.items ≡ lines_of text.now) }
+{
+    text.split(|byte| *byte == b'\n').collect(alloc)
+}
+
+/// The words of a line.
+fn words(alloc: Global, line: &[u8]) -> Result<Vec<&[u8]>, AllocError>
+    ensures { IfOk result (λ v. map (λ w. w.now) v.items ≡ words_of line.now) }
+{
+    without_return(line)
+        .split(|byte| *byte == b' ' || *byte == b'\t')
+        .filter(|word| !word.is_empty())
+        .collect(alloc)
+}
+
+/// The line without a carriage return at its end.
+fn without_return(line: &[u8]) -> &[u8]
+    ensures { result.now ≡ strip_carriage_return line.now }
+{
+    if !line.is_empty() && line[line.len() - 1] == b'\r' {
+        return &line[..line.len() - 1];
+    }
+    line
+}
+
+/// Reads a line behind so many units.
+fn read_line(alloc: Global, line: &[u8], listed: usize) -> Result<Line, Memory> {
+    let found = words(alloc, line)?;
+    let words = found.as_slice();
+    if words.is_empty() || is_remark(words[0]) {
+        return Ok(Line::PassedOver);
+    }
+    if words.len() < 3
+        || words[0] != b"unit".as_slice()
+        || !is_unit_name(words[1])
+        || !is_file_name(words[2])
+        || listed >= MOST_UNITS
+    {
+        return Ok(Line::Bad);
+    }
+    let Some(needs) = needs(alloc, &words[3..])? else {
+        return Ok(Line::Bad);
+    };
+    Ok(Line::Listed(ListedUnit {
+        name: String::from_utf8_lossy(alloc, words[1])?,
+        file: String::from_utf8_lossy(alloc, words[2])?,
+        needs,
+    }))
+}
+
+/// The names of needs, or `None` where a word isn't a name or stands twice.
+fn needs(alloc: Global, words: &[&[u8]]) -> Result<Option<Vec<String>>, Memory> {
+    let mut seen = IndexSet::new(alloc);
+    let mut needs = Vec::new(alloc);
+    for word in words {
+        if !is_unit_name(*word) || seen.contains(*word) {
+            return Ok(None);
+        }
+        seen.insert(*word)?;
+        needs.push(String::from_utf8_lossy(alloc, *word)?)?;
+    }
+    Ok(Some(needs))
+}
+
+/// Whether a word begins with `#`.
+fn is_remark(word: &[u8]) -> bool
+    ensures { result ≡ is_remark word.now }
+{
+    !word.is_empty() && word[0] == b'#'
+}
+
+/// Up to 64 letters, digits, underscores and hyphens.
+fn is_unit_name(word: &[u8]) -> bool
+    ensures { result ≡ is_unit_name word.now }
+{
+    word.len() <= LONGEST_NAME && word.iter().all(|&byte| is_name_byte(byte))
+}
+
+fn is_name_byte(byte: u8) -> bool
+    ensures { result ≡ is_name_byte byte }
+{
+    byte.is_ascii_alphanumeric() || byte == b'_' || byte == b'-'
+}
+
+/// Bytes 33 to 126.
+fn is_file_name(word: &[u8]) -> bool
+    ensures { result ≡ is_file_name word.now }
+{
+    word.iter().all(|&byte| byte >= 33 && byte <= 126)
+}

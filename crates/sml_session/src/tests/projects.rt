@@ -1,0 +1,56 @@
+//! Projects of several units.
+
+use crate::tests::fakes::{Folder, ask};
+use std::alloc::{AllocError, Global};
+use std::process::Abort;
+use std::test::Fail;
+
+/// Demands the answer to a project file, over one text for all units.
+fn expect(
+    rt: &impl Abort,
+    alloc: Global,
+    project: &str,
+    answer: (u8, &str, &str),
+) -> Result<(), AllocError> {
+    let mut folder = Folder {
+        project: Vec::from_slice(alloc, project.as_bytes())?,
+        unit: Vec::new(alloc),
+    };
+    let (status, out, err) = answer;
+    ask(alloc, &["smlcheck", "project"], &mut folder)?.expect(rt, status, out, err);
+    Ok(())
+}
+
+/// Again and again the earliest listed unit all of whose needs were checked.
+#[test]
+fn orders_of_units(rt: HostRuntime) -> Result<(), Fail> {
+    let alloc = rt.alloc();
+    let project = "unit c a.sml a\nunit a a.sml\nunit b a.sml\n";
+    expect(&rt, alloc, project, (0, "unit a\nunit c\nunit b\n", ""))?;
+    let project = "unit a a.sml c\nunit b a.sml\nunit c a.sml b\nunit d a.sml\n";
+    let out = "unit b\nunit c\nunit a\nunit d\n";
+    expect(&rt, alloc, project, (0, out, ""))?;
+    Ok(())
+}
+
+#[test]
+fn faults_of_projects(rt: HostRuntime) -> Result<(), Fail> {
+    let alloc = rt.alloc();
+    for (project, err) in [
+        ("unit a a.sml z\n", "smlcheck: O1 line 1\n"),
+        ("unit a a.sml z\nunit a b.sml\n", "smlcheck: O3 line 2\n"),
+        (
+            "unit a\nunit a a.sml z\nunit a b.sml\n",
+            "smlcheck: O4 line 1\n",
+        ),
+        ("unit a a.sml b\nunit b a.sml a\n", "smlcheck: O2 line 1\n"),
+        ("unit x a.sml\n\nunit a a.sml a\n", "smlcheck: O2 line 3\n"),
+        ("unit a a.sml b\nunit b a.sml z\n", "smlcheck: O1 line 2\n"),
+        ("unit a a.sml b b\nunit b a.sml\n", "smlcheck: O4 line 1\n"),
+        ("unit a a.sml +\n", "smlcheck: O4 line 1\n"),
+        ("unit a a.sml\nunit a a.sml b b\n", "smlcheck: O4 line 2\n"),
+    ] {
+        expect(&rt, alloc, project, (2, "", err))?;
+    }
+    Ok(())
+}

@@ -219,3 +219,6 @@ pub fn parse(alloc: Global, lexed: &Lexed) -> Result<Parsed, Memory>
         fault,
     })
 }
+
+/// Lets trees go. Their dropping is proved in this crate, and need not be in a crate above that lets them go here.
+pub fn release(_declarations: Vec<TopDec>, _piece: Vec<BareDec>) {}

@@ -28,7 +28,7 @@ use Rattle.sml_projects.specs.Orders.{UnitText}
 use Rattle.std.specs.String.{string_bytes}
 use Rattle.sml_units.specs.declared.project.Beginning.{Beginning}
 use Rattle.sml_units.specs.declared.project.UnitReplies.{UnitReplies}
-use Rattle.sml_units.specs.Checked.{Answered, IsStep, IsReplyTo, AreRepliesTo, AreSound, AreAllSound, IsSoundAnswer, AreSpelt, IsBegun, BeginWith, AreReplies, IsAnswered, AreSourcesOf, AreUnitReplies, with_last}
+use Rattle.sml_units.specs.Checked.{Answered, IsStep, IsReplyTo, AreRepliesTo, AreSound, AreAllSound, IsSoundAnswer, AreSpelt, IsBegun, BeginWith, AreReplies, AreBegunAndEnded, IsAnswered, AreSourcesOf, AreUnitReplies, with_last}
 
 -- the basis behind these answers
 abbrev pub after_all : Basis Name → List Answered → Basis Name
@@ -264,3 +264,16 @@ one_unit (u ∷ []) (r ∷ []) few h =
     (a.source ∷ [], (a.is, tt), a.answers ∷ [], (a.run, tt), ((h.0 ∙ sym a.is.label_is, a.replies), tt))
 one_unit (u ∷ []) (r ∷ s ∷ rs) few h = absurd h
 one_unit (u ∷ v ∷ us) rs few h = absurd (omega (arith, few))
+
+-- what is known of an answer, of which more is known
+pub if_ok : {A E : Type 0} (P Q : A → Type 0) (r : Result A E) → ((a : A) → P a → Q a) → IfOk r P → IfOk r Q
+if_ok P Q (Ok a) f h = f a h
+if_ok P Q (Err e) f h = tt
+
+-- the replies to a unit, from how they were begun and ended
+pub answered_unit : (u : UnitText) (ds : List (Dec Place)) (last : Option (Fault Place)) (spelt : AreSpelt u.text ds last) (n : ℕ) → n ≡ length spelt.tops
+    → (rs : List Reply) → AreBegunAndEnded (suc u.place) ds n last rs → IsAnswered u rs
+answered_unit u ds last spelt n e rs m =
+    let x = m.ended in
+    subst (IsAnswered u) (sym x.replies)
+    (unit_answered u ds last spelt m.beginning_is x.tail x.ends m.begun (x.number ∙ e) x.one (λ os h. subst (AreRepliesTo 1 (with_last os last)) x.replies (x.last_is os h)))

@@ -125,6 +125,23 @@ pub record IsAnswered (u : UnitText) (rs : List Reply) : Type 0 where
   pub run : Run naming source.maker (start initial_basis [] source.needs) (specified_unit [] source).declarations answers
   pub replies : AreReplies source answers (specified_unit [] source).last rs
 
+-- What the code makes of one unit. No public contract rests on these.
+
+-- Replies begin with these, there is one to each of so many declarations and to the last fault, and this is the last.
+pub record AreEnded (begun : List Reply) (n : ℕ) (last : Option (Fault Place)) (rs : List Reply) : Type 0 where
+  pub tail : List Reply
+  pub ends : List Reply
+  pub replies : rs ≡ (begun ++ tail) ++ ends
+  pub number : length begun + length tail ≡ n
+  pub one : length ends ≡ length (option_to_list last)
+  pub last_is : (os : List Answered) → AreRepliesTo 1 os (begun ++ tail) → AreRepliesTo 1 (with_last os last) rs
+
+-- They begin with those to the first of these declarations, as far as they are specified.
+pub record AreBegunAndEnded (maker : ℕ) (ds : List (Dec Place)) (n : ℕ) (last : Option (Fault Place)) (rs : List Reply) : Type 0 where
+  pub beginning_is : Beginning
+  pub begun : IsBegun maker (start initial_basis [] []) ds beginning_is
+  pub ended : AreEnded beginning_is.replies.items n last rs
+
 -- each accepted declaration of the units has a derivation in the rules, in the basis in which it was answered
 abbrev pub AreAllSound : List (Sig Name) → List SourceUnit → List (List Answered) → Type 0
 AreAllSound Ss [] oss = Unit {0}

@@ -12,7 +12,7 @@ ghost use Rattle.sml_objects.specs.Views.{maker_of, sig_of};
 ghost use Rattle.sml_rules.specs.Answers.{accepted};
 ghost use Rattle.sml_rules.specs.Open.{OpenEnv};
 ghost use Rattle.sml_piece.specs.Elaborated.{IsBasisOf, IsOwnBasis};
-ghost use Rattle.sml_units.specs.Checked.{MayReply, IsAnswered, IsBegun, IsStep, IsReplyTo, Answered, AreRepliesTo, with_last};
+ghost use Rattle.sml_units.specs.Checked.{MayReply, AreBegunAndEnded, AreEnded, IsAnswered, IsBegun, IsStep, IsReplyTo, Answered, AreRepliesTo, with_last};
 ghost use Rattle.sml_projects.specs.Orders.{unit_texts, unit_text_of};
 ghost use Rattle.sml_units.specs.Runs.{start, is_specified};
 
@@ -23,12 +23,13 @@ use sml_envs::objects::Basis as WholeBasis;
 use sml_lex::fault::{Fault, Memory, Warning};
 use sml_lex::lexer::lex;
 use sml_objects::objects::{Basis, UnitId};
-use sml_parse::parse::parse;
+use sml_parse::parse::{Parsed, parse, release};
 use sml_projects::project::{Project, ProjectUnit};
 use sml_piece::modules::topdec;
 use sml_piece::top_fault::TopFault;
 use sml_reply::reply::Reply;
 use sml_tree::bare::BareDec;
+use sml_tree::structures::TopDec;
 use std::alloc::Global;
 use std::rc::Rc;
 
@@ -97,16 +98,56 @@ fn check_unit(
     ensures { length exports.now ≡ 0 → IfOk result (λ r. IsAnswered (unit_text_of unit.now) r.0.items) }
 {
     let lexed = lex(alloc, &unit.text)?;
-    let parsed = parse(alloc, &lexed)?;
-    let begun = begin(alloc, unit.id, &unit.needs, exports, &parsed.piece)?;
+    let Parsed {
+        declarations,
+        piece,
+        fault,
+    } = parse(alloc, &lexed)?;
+    let answer = answer_unit(alloc, initial, exports, unit, &declarations, &piece, fault);
+    release(declarations, piece);
+    answer
+}
+
+/// The replies to these declarations of a unit, the first of which are given as those of the piece too, and to its last
+/// fault; and what the unit exports.
+fn answer_unit(
+    alloc: Global,
+    initial: &Rc<WholeBasis>,
+    exports: &[Exports],
+    unit: &ProjectUnit,
+    declarations: &[TopDec],
+    piece: &[BareDec],
+    fault: Option<Fault>,
+) -> Result<(Vec<Reply>, Exports), Memory>
+    requires { length piece.now ≤ length declarations.now }
+    ensures { length exports.now ≡ 0 → IfOk result (λ r. AreBegunAndEnded (maker_of unit.now.id) (map dec_of piece.now) (length declarations.now) (option_map fault_of fault) r.0.items) }
+{
+    let begun = begin(alloc, unit.id, &unit.needs, exports, piece)?;
+    end(alloc, initial, exports, &unit.needs, begun, declarations, fault)
+}
+
+/// The replies to all declarations of a unit and to its last fault, of which these are the beginning; and what the unit
+/// exports.
+fn end(
+    alloc: Global,
+    initial: &Rc<WholeBasis>,
+    exports: &[Exports],
+    needs: &[usize],
+    begun: Beginning,
+    declarations: &[TopDec],
+    fault: Option<Fault>,
+) -> Result<(Vec<Reply>, Exports), Memory>
+    requires { length begun.replies.items ≤ length declarations.now }
+    ensures { IfOk result (λ r. AreEnded begun.replies.items (length declarations.now) (option_map fault_of fault) r.0.items) }
+{
     let Beginning {
         count,
         bound,
         replies,
         is_whole,
     } = begun;
-    let mut basis = whole_basis(alloc, initial, &unit.needs, exports, count, &bound)?;
-    let rest = &parsed.declarations[replies.len()..];
+    let mut basis = whole_basis(alloc, initial, needs, exports, count, &bound)?;
+    let rest = behind(declarations, replies.len());
     let specified = if is_whole && rest.is_empty() {
         Some(bound.env)
     } else {
@@ -114,8 +155,16 @@ fn check_unit(
     };
     let replies = answer_rest(alloc, &mut basis, replies, rest)?;
     let whole = exported(alloc, basis)?;
-    let replies = and_last(replies, parsed.fault)?;
+    let replies = and_last(replies, fault)?;
     Ok((replies, Exports { whole, specified }))
+}
+
+/// The declarations behind the first so many.
+fn behind(declarations: &[TopDec], count: usize) -> &[TopDec]
+    requires { count ≤ length declarations.now }
+    ensures { count + length result.now ≡ length declarations.now }
+{
+    &declarations[count..]
 }
 
 /// The replies with that to the unit's last fault, if there is one.

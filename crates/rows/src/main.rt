@@ -79,6 +79,7 @@ fn text<R: Files>(alloc: Global, source: &mut Disk<R>, path: &str) -> Result<Str
 }
 
 /// Whether a session over the row gives what it has to.
+#[inline(never)]
 fn row_holds<R: Files>(
     alloc: Global,
     source: &mut Disk<R>,

@@ -1,0 +1,1 @@
+val y = undefined + 1

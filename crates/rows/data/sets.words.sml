@@ -1,0 +1,5 @@
+structure IntSet = Set (IntOrder)
+structure WordSet = Set (StringOrder)
+val numbers = IntSet.add (1, IntSet.empty)
+val words = WordSet.add ("one", WordSet.empty)
+val mixed = IntSet.has (1, words)

@@ -1,0 +1,1 @@
+signature S = sig type t val x : t val x : int end

@@ -42,31 +42,33 @@ pub fn manifest(alloc: Global, text: &[u8]) -> Result<Manifest, ManifestFault> {
         return Err(fault(ProjectCode::O4, 1));
     }
     let lines = lines(alloc, text)?;
-    let mut manifest = Manifest::new(alloc);
+    let mut names = IndexSet::new(alloc);
+    let mut files = Vec::new(alloc);
+    let mut needs = Vec::new(alloc);
+    let mut numbers = Vec::new(alloc);
     for (index, line) in lines.iter().enumerate() {
-        let number = index as u32 + 1;
-        match read_line(alloc, *line, manifest.files.len())? {
+        match read_line(alloc, *line, names.len())? {
             Line::PassedOver => {}
             Line::Listed(unit) => {
-                if manifest.names.contains(unit.name.as_str()) {
-                    return Err(fault(ProjectCode::O3, number));
+                if names.len() >= MOST_UNITS {
+                    return Err(fault(ProjectCode::O4, index as u32 + 1));
                 }
-                list(&mut manifest, unit, number)?;
+                if !names.insert(unit.name)? {
+                    return Err(fault(ProjectCode::O3, index as u32 + 1));
+                }
+                files.push(unit.file)?;
+                needs.push(unit.needs)?;
+                numbers.push(index as u32 + 1)?;
             }
-            Line::Bad => return Err(fault(ProjectCode::O4, number)),
+            Line::Bad => return Err(fault(ProjectCode::O4, index as u32 + 1)),
         }
     }
-    Ok(manifest)
-}
-
-/// Puts a unit behind those listed.
-fn list(manifest: &mut Manifest, unit: ListedUnit, line: u32) -> Result<(), Memory> {
-    let ListedUnit { name, file, needs } = unit;
-    manifest.names.insert(name)?;
-    manifest.files.push(file)?;
-    manifest.needs.push(needs)?;
-    manifest.lines.push(line)?;
-    Ok(())
+    Ok(Manifest {
+        names,
+        files,
+        needs,
+        lines: numbers,
+    })
 }
 
 /// The lines of a text of a project file.

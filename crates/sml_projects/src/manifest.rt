@@ -1,6 +1,6 @@
 //! The units that a project lists, and the faults of projects.
 
-ghost use Rattle.std.specs.Prelude.{◌≡◌, ◌≤◌, length, vec_len};
+ghost use Rattle.std.specs.Prelude.{◌≡◌, ◌≤◌, length, map, string_bytes, vec_len};
 ghost use Rattle.sml_projects.specs.declared.manifest.ManifestFault.TheVariants.{Memory};
 ghost use Rattle.sml_projects.specs.declared.manifest.OrderFault.TheVariants as OF;
 ghost use Rattle.sml_projects.specs.declared.manifest.TheConstants.{MOST_UNITS};
@@ -108,9 +108,11 @@ pub struct Manifest {
 }
 
 impl Manifest {
+    ghost use Rattle.sml_projects.specs.ProjectFiles.{units_in};
+
     /// The files of the units, as written.
     pub fn files(&self) -> &[String]
-        ensures { result.now ≡ self.now.files.items }
+        ensures { map string_bytes result.now ≡ map (λ u. u.file) (units_in self.now) }
     {
         self.files.as_slice()
     }

@@ -2,7 +2,6 @@
 use Rattle.std.proofs.Common.{◌≡◌, ℕ, zero, ◌+◌, ◌-◌, ◌<◌, ◌≤◌, Bool, true, false, not, cond, ◌&&◌, ◌||◌, leb, suc, List, [], ◌∷◌, ◌++◌, length, map, take, drop, get_or, codes, Some, None, refl, ap, sym, subst, ◌∙◌, append_assoc, Bor, String, inl, inr, arith, if◌then◌else◌, string_bytes}
 use Rattle.std.specs.Global.{Global}
 use Rattle.std.specs.Str.{bytes_eq, IsUtf8, IsAscii}
-use Rattle.std.specs.String.{string_eq}
 use Rattle.std.specs.List.{list_all, list_any}
 use Rattle.std.proofs.lemmas.Bool.{and_parts, and_cases, or_parts, or_cases, or_from, or_left, or_right, lt-leb, le-leb, false≢true}
 use Rattle.std.proofs.lemmas.Bool.Decides.{nat_tests}
@@ -229,8 +228,8 @@ pub apart_again : (items keys : List (Bor (List ℕ))) (i : ℕ) (x : Bor (List 
 apart_again items keys i x is h a n =
     let there : list_any (bytes_eq (word_at items i)) (bytes_in (take i items)) ≡ true = sym (told_before items keys i x is a) ∙ n in
     let split : bytes_in items ≡ bytes_in (take i items) ++ word_at items i ∷ bytes_in (drop (i + 1) items) =
-        ap bytes_in (sym (take-append-drop (i + 1) items)) ∙ map-append (λ w. w.now) (take (i + 1) items) (drop (i + 1) items) ∙ ap (λ l. l ++ bytes_in (drop (i + 1) items)) (more_bytes items i h)
-        ∙ append_assoc (bytes_in (take i items)) (word_at items i ∷ []) (bytes_in (drop (i + 1) items)) in
+    ap bytes_in (sym (take-append-drop (i + 1) items)) ∙ map-append (λ w. w.now) (take (i + 1) items) (drop (i + 1) items) ∙ ap (λ l. l ++ bytes_in (drop (i + 1) items)) (more_bytes items i h)
+    ∙ append_assoc (bytes_in (take i items)) (word_at items i ∷ []) (bytes_in (drop (i + 1) items)) in
     ap has_repeats split ∙ word_again (bytes_in (take i items)) (bytes_in (drop (i + 1) items)) (word_at items i) there
 
 -- words as texts

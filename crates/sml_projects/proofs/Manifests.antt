@@ -1,5 +1,5 @@
 -- How a project file is read, line by line.
-use Rattle.std.proofs.Common.{◌≡◌, ℕ, suc, ◌+◌, ◌<◌, ◌≤◌, Bool, true, false, ◌||◌, List, [], ◌∷◌, ◌++◌, length, map, take, get_or, eqb, Option, Some, None, Result, Ok, Err, String, refl, ap, sym, subst, ◌∙◌, append-nil, inl, inr, arith}
+use Rattle.std.proofs.Common.{◌≡◌, ℕ, suc, ◌+◌, ◌<◌, ◌≤◌, true, false, ◌||◌, List, [], ◌∷◌, ◌++◌, length, map, take, get_or, eqb, Option, Some, None, Result, Ok, Err, String, refl, ap, sym, subst, ◌∙◌, append-nil, inl, inr, arith}
 use borrow.Author.Count.{below_more}
 use Rattle.std.specs.Global.{Global}
 use Rattle.std.specs.List.{cons_option, list_any}

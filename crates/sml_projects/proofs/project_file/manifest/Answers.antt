@@ -5,7 +5,7 @@ use Rattle.std.specs.String.{string_bytes, string_eq}
 use Rattle.std.proofs.lemmas.List.{length-map, map-append}
 use Rattle.sml_projects.specs.ProjectFiles.{LineGives, lines_of}
 use Rattle.sml_projects.proofs.Listings.{word_at, same_word, same_length, agrees, differs}
-use Rattle.sml_projects.proofs.Manifests.{ReadTo, read_start, read_passed, read_listed, read_whole, read_to_bad, read_to_repeated, too_long, no_memory, few_lines, any_text}
+use Rattle.sml_projects.proofs.Manifests.{read_start, read_passed, read_listed, read_whole, read_to_bad, read_to_repeated, too_long, no_memory, few_lines, any_text}
 use Rattle.sml_projects.proofs.project_file.manifest.Goals as goal
 use Rattle.sml_projects.proofs.project_file.manifest.Goals.{in-PassedOver, in-Listed+in_ok-insert-in-Listed+else-not-branch+in_ok-push-in-Listed+in_ok-push-in-Listed-2+in_ok-push-in-Listed-3}
 

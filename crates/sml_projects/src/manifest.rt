@@ -1,8 +1,9 @@
 //! The units that a project lists, and the faults of projects.
 
-ghost use Rattle.std.specs.Prelude.{◌≡◌};
+ghost use Rattle.std.specs.Prelude.{◌≡◌, ◌≤◌, length, map, string_bytes, vec_len};
 ghost use Rattle.sml_projects.specs.declared.manifest.ManifestFault.TheVariants.{Memory};
 ghost use Rattle.sml_projects.specs.declared.manifest.OrderFault.TheVariants as OF;
+ghost use Rattle.sml_projects.specs.declared.manifest.TheConstants.{MOST_UNITS};
 
 use indexmap::IndexSet;
 use sml_lex::fault::Memory;
@@ -100,21 +101,18 @@ pub struct Manifest {
     pub(crate) files: Vec<String>,
     pub(crate) needs: Vec<Vec<String>>,
     pub(crate) lines: Vec<u32>,
+    ghost few: { length names.keys ≤ MOST_UNITS },
+    ghost files_paired: { vec_len files ≡ length names.keys },
+    ghost needs_paired: { vec_len needs ≡ length names.keys },
+    ghost lines_paired: { vec_len lines ≡ length names.keys },
 }
 
 impl Manifest {
-    pub(crate) fn new(alloc: Global) -> Manifest {
-        Manifest {
-            names: IndexSet::new(alloc),
-            files: Vec::new(alloc),
-            needs: Vec::new(alloc),
-            lines: Vec::new(alloc),
-        }
-    }
+    ghost use Rattle.sml_projects.specs.ProjectFiles.{units_in};
 
     /// The files of the units, as written.
     pub fn files(&self) -> &[String]
-        ensures { result.now ≡ self.now.files.items }
+        ensures { map string_bytes result.now ≡ map (λ u. u.file) (units_in self.now) }
     {
         self.files.as_slice()
     }

@@ -1,8 +1,9 @@
 //! Project files: a line for each unit.
 
-ghost use Rattle.std.specs.Prelude.{◌≡◌, IfOk, map};
+ghost use Rattle.std.specs.Prelude.{◌≡◌, IfOk, map, string_bytes, true};
+ghost use Rattle.std.specs.List.{list_all};
 ghost use Rattle.std.specs.Str.Lines.{strip_carriage_return};
-ghost use Rattle.sml_projects.specs.ProjectFiles.{lines_of, words_of, is_name_byte, is_unit_name, is_file_name, is_remark};
+ghost use Rattle.sml_projects.specs.ProjectFiles.{IsAnswerTo, LineGives, lines_of, words_of, is_name_byte, is_unit_name, is_file_name, is_remark, has_repeats};
 
 use crate::manifest::{MOST_UNITS, Manifest, ManifestFault, ProjectCode, ProjectFault};
 use indexmap::IndexSet;
@@ -37,36 +38,38 @@ fn fault(code: ProjectCode, line: u32) -> ManifestFault
 }
 
 /// The units that a project file lists, or O4 or O3 at the first line that has one of them, O4 where it has both.
-pub fn manifest(alloc: Global, text: &[u8]) -> Result<Manifest, ManifestFault> {
+pub fn manifest(alloc: Global, text: &[u8]) -> Result<Manifest, ManifestFault>
+    ensures { IsAnswerTo text.now result }
+{
     if text.len() > MOST_BYTES {
         return Err(fault(ProjectCode::O4, 1));
     }
     let lines = lines(alloc, text)?;
-    let mut manifest = Manifest::new(alloc);
+    let mut names = IndexSet::new(alloc);
+    let mut files = Vec::new(alloc);
+    let mut needs = Vec::new(alloc);
+    let mut numbers = Vec::new(alloc);
     for (index, line) in lines.iter().enumerate() {
         let number = index as u32 + 1;
-        match read_line(alloc, *line, manifest.files.len())? {
+        match read_line(alloc, *line, names.len())? {
             Line::PassedOver => {}
             Line::Listed(unit) => {
-                if manifest.names.contains(unit.name.as_str()) {
+                if !names.insert(unit.name)? {
                     return Err(fault(ProjectCode::O3, number));
                 }
-                list(&mut manifest, unit, number)?;
+                files.push(unit.file)?;
+                needs.push(unit.needs)?;
+                numbers.push(number)?;
             }
             Line::Bad => return Err(fault(ProjectCode::O4, number)),
         }
     }
-    Ok(manifest)
-}
-
-/// Puts a unit behind those listed.
-fn list(manifest: &mut Manifest, unit: ListedUnit, line: u32) -> Result<(), Memory> {
-    let ListedUnit { name, file, needs } = unit;
-    manifest.names.insert(name)?;
-    manifest.files.push(file)?;
-    manifest.needs.push(needs)?;
-    manifest.lines.push(line)?;
-    Ok(())
+    Ok(Manifest {
+        names,
+        files,
+        needs,
+        lines: numbers,
+    })
 }
 
 /// The lines of a text of a project file.
@@ -97,7 +100,9 @@ fn without_return(line: &[u8]) -> &[u8]
 }
 
 /// Reads a line behind so many units.
-fn read_line(alloc: Global, line: &[u8], listed: usize) -> Result<Line, Memory> {
+fn read_line(alloc: Global, line: &[u8], listed: usize) -> Result<Line, Memory>
+    ensures { IfOk result (LineGives listed line.now) }
+{
     let found = words(alloc, line)?;
     let words = found.as_slice();
     if words.is_empty() || is_remark(words[0]) {
@@ -111,28 +116,50 @@ fn read_line(alloc: Global, line: &[u8], listed: usize) -> Result<Line, Memory> 
     {
         return Ok(Line::Bad);
     }
-    let Some(needs) = needs(alloc, &words[3..])? else {
+    let wanted = &words[3..];
+    if !are_unit_names(wanted) {
         return Ok(Line::Bad);
-    };
+    }
+    if has_repeats(alloc, wanted)? {
+        return Ok(Line::Bad);
+    }
     Ok(Line::Listed(ListedUnit {
         name: String::from_utf8_lossy(alloc, words[1])?,
         file: String::from_utf8_lossy(alloc, words[2])?,
-        needs,
+        needs: texts(alloc, wanted)?,
     }))
 }
 
-/// The names of needs, or `None` where a word isn't a name or stands twice.
-fn needs(alloc: Global, words: &[&[u8]]) -> Result<Option<Vec<String>>, Memory> {
+/// Whether each word is the name of a unit.
+fn are_unit_names(words: &[&[u8]]) -> bool
+    ensures { result ≡ list_all is_unit_name (map (λ w. w.now) words.now) }
+{
+    words.iter().all(|word| is_unit_name(*word))
+}
+
+/// Whether a word stands twice.
+fn has_repeats(alloc: Global, words: &[&[u8]]) -> Result<bool, Memory>
+    ensures { IfOk result (λ b. b ≡ has_repeats (map (λ w. w.now) words.now)) }
+{
     let mut seen = IndexSet::new(alloc);
-    let mut needs = Vec::new(alloc);
     for word in words {
-        if !is_unit_name(*word) || seen.contains(*word) {
-            return Ok(None);
+        if !seen.insert(*word)? {
+            return Ok(true);
         }
-        seen.insert(*word)?;
-        needs.push(String::from_utf8_lossy(alloc, *word)?)?;
     }
-    Ok(Some(needs))
+    Ok(false)
+}
+
+/// Names of units as texts.
+fn texts(alloc: Global, words: &[&[u8]]) -> Result<Vec<String>, Memory>
+    requires { list_all is_unit_name (map (λ w. w.now) words.now) ≡ true }
+    ensures { IfOk result (λ v. map string_bytes v.items ≡ map (λ w. w.now) words.now) }
+{
+    let mut texts = Vec::new(alloc);
+    for word in words {
+        texts.push(String::from_utf8_lossy(alloc, *word)?)?;
+    }
+    Ok(texts)
 }
 
 /// Whether a word begins with `#`.

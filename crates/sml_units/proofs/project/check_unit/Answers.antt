@@ -20,7 +20,11 @@ returns c = λ none.
     let tops = map top_of p.declarations.items in
     let ds = map dec_of p.piece.items in
     let last = option_map fault_of p.fault in
-    let trees = subst (λ bytes. Trees bytes l.tokens.items l.end tops ds last) (c.in_ok-lexed.ensures.0 ∙ c.deref.ensures.value) p.ensures in
+    let f = p.field-0 in
+    let of_fault = subst (λ x. Trees l.unit.now l.tokens.items l.end (map top_of f.declarations.items) (map dec_of f.piece.items) (option_map fault_of x)) p.fault-is p.ensures in
+    let of_piece = subst (λ x. Trees l.unit.now l.tokens.items l.end (map top_of f.declarations.items) (map dec_of x.items) last) p.piece-is of_fault in
+    let of_all = subst (λ x. Trees l.unit.now l.tokens.items l.end (map top_of x.items) ds last) p.declarations-is of_piece in
+    let trees = subst (λ bytes. Trees bytes l.tokens.items l.end tops ds last) (c.in_ok-lexed.ensures.0 ∙ c.deref.ensures.value) of_all in
     let spelt : AreSpelt u.text ds last = record { tokens = l.tokens.items; end = l.end; tokens_spelt = subst (λ bytes. Spells bytes l.tokens.items l.end) c.deref.ensures.value c.in_ok-lexed.ensures.1; tops = tops; trees = trees } in
     let n = length c.deref-2.result.now in
     let all : n ≡ length tops = ap length c.deref-2.ensures.value ∙ sym (length-map p.declarations.items top_of) in

@@ -2,7 +2,7 @@ use Rattle.std.proofs.Common.{◌≡◌, ◌<◌, ◌≤◌, ◌+◌, ℕ, zero,
 use Rattle.std.proofs.lemmas.List.{map_more, take_all, length-append}
 use Rattle.sml_projects.specs.Orders.{unit_text_of}
 use Rattle.sml_units.specs.Runs.{specified}
-use Rattle.sml_units.specs.declared.project.ProjectUnit.{ProjectUnit}
+use Rattle.sml_projects.specs.declared.project.ProjectUnit.{ProjectUnit}
 use Rattle.sml_units.proofs.Replying.{AreAnswered, answered_push, one_unit, project_sound}
 use Rattle.sml_units.proofs.project.check.Goals as goal
 

@@ -16,18 +16,14 @@ pub returns : goal.returns
 returns c = λ none.
     let u = unit_text_of c.args.unit.now in
     let l = c.in_ok-lexed.lexed in
-    let p = c.in_ok-declarations in
+    let p = c.in_ok-declarations.field-0 in
     let tops = map top_of p.declarations.items in
     let ds = map dec_of p.piece.items in
     let last = option_map fault_of p.fault in
-    let f = p.field-0 in
-    let of_fault = subst (λ x. Trees l.unit.now l.tokens.items l.end (map top_of f.declarations.items) (map dec_of f.piece.items) (option_map fault_of x)) p.fault-is p.ensures in
-    let of_piece = subst (λ x. Trees l.unit.now l.tokens.items l.end (map top_of f.declarations.items) (map dec_of x.items) last) p.piece-is of_fault in
-    let of_all = subst (λ x. Trees l.unit.now l.tokens.items l.end (map top_of x.items) ds last) p.declarations-is of_piece in
-    let trees = subst (λ bytes. Trees bytes l.tokens.items l.end tops ds last) (c.in_ok-lexed.ensures.0 ∙ c.deref.ensures.value) of_all in
+    let trees = subst (λ bytes. Trees bytes l.tokens.items l.end tops ds last) (c.in_ok-lexed.ensures.0 ∙ c.deref.ensures.value) c.in_ok-declarations.ensures in
     let spelt : AreSpelt u.text ds last = record { tokens = l.tokens.items; end = l.end; tokens_spelt = subst (λ bytes. Spells bytes l.tokens.items l.end) c.deref.ensures.value c.in_ok-lexed.ensures.1; tops = tops; trees = trees } in
     let n = length c.deref-2.result.now in
     let all : n ≡ length tops = ap length c.deref-2.ensures.value ∙ sym (length-map p.declarations.items top_of) in
-    if_ok _ _ c.answer_unit.result
+    if_ok _ _ c.answer_unit-answer.result
     (λ r h. answered_unit u ds last spelt n all r.0.items (subst (λ xs. AreBegunAndEnded (maker_of c.args.unit.now.id) (map dec_of xs) n last r.0.items) c.deref-3.ensures.value h))
-    (c.answer_unit.ensures none)
+    (c.answer_unit-answer.ensures none)

@@ -1,6 +1,7 @@
 //! The units that a project lists, and the faults of projects.
 
-ghost use Rattle.std.specs.Prelude.{◌≡◌};
+ghost use Rattle.std.specs.Prelude.{◌≡◌, ◌≤◌, length, vec_len};
+ghost use Rattle.sml_projects.specs.declared.manifest.TheConstants.{MOST_UNITS};
 ghost use Rattle.sml_projects.specs.declared.manifest.ManifestFault.TheVariants.{Memory};
 ghost use Rattle.sml_projects.specs.declared.manifest.OrderFault.TheVariants as OF;
 
@@ -100,6 +101,10 @@ pub struct Manifest {
     pub(crate) files: Vec<String>,
     pub(crate) needs: Vec<Vec<String>>,
     pub(crate) lines: Vec<u32>,
+    ghost few: { length names.keys ≤ MOST_UNITS },
+    ghost files_paired: { vec_len files ≡ length names.keys },
+    ghost needs_paired: { vec_len needs ≡ length names.keys },
+    ghost lines_paired: { vec_len lines ≡ length names.keys },
 }
 
 impl Manifest {

@@ -13,6 +13,7 @@ use std::alloc::Global;
 
 /// The order of the units: each after its needs, the earliest listed first among those that may come. Or O1 at the first
 /// unit with a need that isn't listed, or else O2 at the earliest listed that never may come.
+#[tactic(auto, unfolding(crate::specs::Orders::IsOrderFault))]
 pub fn order(alloc: Global, manifest: &Manifest) -> Result<Vec<UnitId>, OrderFault>
     ensures order { IfOk result (λ ids. IsOrder (units_in manifest.now) (map (λ u. u.index) ids.items)) }
     ensures fault { IfErr result (IsOrderFault (units_in manifest.now) manifest.now.lines.items) }
@@ -34,6 +35,7 @@ pub fn order(alloc: Global, manifest: &Manifest) -> Result<Vec<UnitId>, OrderFau
 }
 
 /// The places of each unit's needs among the units listed, or O1.
+#[tactic(auto, unfolding(crate::specs::Orders::IsNeedFault))]
 pub(crate) fn needed(alloc: Global, manifest: &Manifest) -> Result<Vec<Vec<usize>>, OrderFault>
     ensures count { IfOk result (λ all. vec_len all ≡ length (units_in manifest.now)) }
     ensures places { IfOk result (λ all. AreWaiting (units_in manifest.now) [] (map (λ places. places.items) all.items)) }

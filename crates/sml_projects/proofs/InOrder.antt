@@ -22,9 +22,9 @@ pub record Taking (us : List UnitLine) (order : List ℕ) (marks : List Bool) (w
 
 set-keeps : (marks : List Bool) (k j : ℕ) → k < length marks → is_marked marks j ≡ true → is_marked (set marks k true) j ≡ true
 set-keeps marks k j b h = elim (cases_order j k) [
-    | inl q ↦ ap (is_marked (set marks k true)) q ∙ get_or-set_same marks k true false b
-    | inr r ↦ get_or-set_other marks k j true false (λ q. elim r [ inl u ↦ omega (arith, u, q) | inr u ↦ omega (arith, u, q) ]) ∙ h
-  ]
+  | inl q ↦ ap (is_marked (set marks k true)) q ∙ get_or-set_same marks k true false b
+  | inr r ↦ get_or-set_other marks k j true false (λ q. elim r [ inl u ↦ omega (arith, u, q) | inr u ↦ omega (arith, u, q) ]) ∙ h
+]
 
 marked-more : (us : List UnitLine) (order : List ℕ) (marks : List Bool) (k : ℕ) → IsMarked us order marks → k < length us → is_marked marks k ≡ false → IsMarked us (order ++ k ∷ []) (set marks k true)
 marked-more us order marks k m b e =
@@ -41,11 +41,11 @@ marked-more us order marks k m b e =
         | inr r ↦ Contains-append_left order (k ∷ []) j (m.only j (sym (get_or-set_other marks k j true false (λ q. elim r [ inl u ↦ omega (arith, u, q) | inr u ↦ omega (arith, u, q) ])) ∙ h))
       ];
       number =
-        let more = sum_by-set ones marks k true false within in
-        let none : ones (is_marked marks k) ≡ 0 = ap ones e in
-        let old = m.number in
-        let long = length-append order (k ∷ []) in
-        omega (arith, more, none, old, long);
+          let more = sum_by-set ones marks k true false within in
+          let none : ones (is_marked marks k) ≡ 0 = ap ones e in
+          let old = m.number in
+          let long = length-append order (k ∷ []) in
+          omega (arith, more, none, old, long);
     }
 
 stands-more : (us : List UnitLine) (order : List ℕ) (marks : List Bool) (waiting : List (List ℕ)) (k : ℕ) → k < length us → is_marked marks k ≡ false → Stands us order marks waiting → Stands us (order ++ k ∷ []) (set marks k true) waiting
@@ -69,9 +69,9 @@ taking-more us order marks waiting k t n = record {
   next = λ i l. elim (cases_order i (length order)) [
     | inl q ↦ next-at us order (take i (order ++ k ∷ [])) k (get_or (order ++ k ∷ []) i 0) (ap (λ a. take a (order ++ k ∷ [])) q ∙ take-append_seam order (k ∷ [])) (ap (λ a. get_or (order ++ k ∷ []) a 0) q ∙ get_or-append_seam order k [] 0) n
     | inr r ↦ elim r [
-        | inl s ↦ next-at us (take i order) (take i (order ++ k ∷ [])) (get_or order i 0) (get_or (order ++ k ∷ []) i 0) (take-append-le i order (k ∷ []) (omega (arith, s))) (get_or_append_left order (k ∷ []) 0 i s) (t.next i s)
-        | inr s ↦ absurd (let long = length-append order (k ∷ []) in omega (arith, l, s, long))
-      ]
+      | inl s ↦ next-at us (take i order) (take i (order ++ k ∷ [])) (get_or order i 0) (get_or (order ++ k ∷ []) i 0) (take-append-le i order (k ∷ []) (omega (arith, s))) (get_or_append_left order (k ∷ []) 0 i s) (t.next i s)
+      | inr s ↦ absurd (let long = length-append order (k ∷ []) in omega (arith, l, s, long))
+    ]
   ];
 }
 
@@ -118,3 +118,6 @@ need-fault us lines (Fault f) h = inl h
 pub no-memory : (us : List UnitLine) (lines : List ℕ) (f : OrderFault) → f ≡ Memory → IsOrderFault us lines f
 unfolding IsOrderFault
 no-memory us lines f e = subst (IsOrderFault us lines) (sym e) tt
+
+pub written-whole : {A : Type 0} (xs ys : List A) (n : ℕ) → n ≡ length xs → take n (xs ++ ys) ≡ xs
+written-whole xs ys n e = ap (λ k. take k (xs ++ ys)) e ∙ take-append_seam xs ys

@@ -94,9 +94,9 @@ own-names m d = λ j k a b e.
     elim (cases_order j k) [
       | inl q ↦ q
       | inr r ↦ elim r [
-          | inl l ↦ absurd (distinct-apart m.names.keys d j k l (omega (arith, b, n)) same)
-          | inr l ↦ absurd (distinct-apart m.names.keys d k j l (omega (arith, a, n)) (sym same))
-        ]
+        | inl l ↦ absurd (distinct-apart m.names.keys d j k l (omega (arith, b, n)) same)
+        | inr l ↦ absurd (distinct-apart m.names.keys d k j l (omega (arith, a, n)) (sym same))
+      ]
     ]
 
 pub marked-within : (marks : List Bool) (k : ℕ) → is_marked marks k ≡ true → k < length marks
@@ -120,9 +120,9 @@ all-counted (b ∷ bs) h =
 -- Fewer are marked than there are marks, so the first without one is within.
 pub left-within : (marks : List Bool) (i : ℕ) → ((j : ℕ) → j < i → is_marked marks j ≡ true) → count_by (λ mark. mark) marks < length marks → i < length marks
 left-within marks i h few = elim (cases_lt i (length marks)) [
-    | inl l ↦ l
-    | inr l ↦ absurd (let e = all-counted marks (λ j b. h j (omega (arith, b, l))) in omega (arith, e, few))
-  ]
+  | inl l ↦ l
+  | inr l ↦ absurd (let e = all-counted marks (λ j b. h j (omega (arith, b, l))) in omega (arith, e, few))
+]
 
 pub waits-kept : (us : List UnitLine) (order : List ℕ) (k : ℕ) (ns : List (List ℕ)) (w : List ℕ) → Waits us order ns w → Waits us (order ++ k ∷ []) ns w
 waits-kept us order k ns w h = record {
@@ -212,21 +212,25 @@ stands-set us order marks vs k v w b l s =
 
 none-named : (keys : List (String Global)) (x : List ℕ) → list_any (λ k. bytes_eq x (string_bytes k)) keys ≡ false → (k : ℕ) → k < length keys → get_or (map string_bytes keys) k [] ≡ x → ⊥
 none-named keys x h k b e = elim (slice_get_cases keys k).1 [
-    | inl w ↦ (let is : string_bytes w.0 ≡ x = ap string_bytes (sym w.3) ∙ sym (get_or-map string_bytes keys k w.0 [] b) ∙ e in false≢true (sym h ∙ list_any-from_Any (λ (q : String Global). bytes_eq x (string_bytes q)) keys (k, w.0, b, w.3, (bytes_eq-Decides x (string_bytes w.0)).1 (sym is))))
-    | inr w ↦ absurd (let past = w.0 in omega (arith, past, b))
-  ]
+  | inl w ↦ (let is : string_bytes w.0 ≡ x = ap string_bytes (sym w.3) ∙ sym (get_or-map string_bytes keys k w.0 [] b) ∙ e in false≢true (sym h ∙ list_any-from_Any (λ (q : String Global). bytes_eq x (string_bytes q)) keys (k, w.0, b, w.3, (bytes_eq-Decides x (string_bytes w.0)).1 (sym is))))
+  | inr w ↦ absurd (let past = w.0 in omega (arith, past, b))
+]
 
 pub unknown-need : (m : Manifest) (needs : List (String Global)) (i : ℕ) (s : String Global) (x : List ℕ) → i < length needs → s ≡ get_or needs i s → x ≡ string_bytes s → list_any (λ k. bytes_eq x (string_bytes k)) m.names.keys ≡ false → Any (λ need. All (λ u. ¬ (u.name ≡ need)) (units_in m)) (map string_bytes needs)
 unknown-need m needs i s x b is read h =
-    let long = length-map needs string_bytes in
-    (i, string_bytes s, omega (arith, b, long), get_or-map string_bytes needs i s (string_bytes s) b ∙ ap string_bytes (sym is),
-      λ k d l e. (let n = units-length m in none-named m.names.keys x h k (omega (arith, l, n)) (sym (unit-name m k) ∙ ap (λ u. u.name) (get_or_default (units_in m) k (record { name = []; file = []; needs = [] }) d l) ∙ e ∙ sym read)))
+    let long = length-map needs string_bytes in (
+      i,
+      string_bytes s,
+      omega (arith, b, long),
+      get_or-map string_bytes needs i s (string_bytes s) b ∙ ap string_bytes (sym is),
+      λ k d l e. (let n = units-length m in none-named m.names.keys x h k (omega (arith, l, n)) (sym (unit-name m k) ∙ ap (λ u. u.name) (get_or_default (units_in m) k (record { name = []; file = []; needs = [] }) d l) ∙ e ∙ sym read)),
+    )
 
 pub waits-all : (us : List UnitLine) (ns : List (List ℕ)) (w : List ℕ) → Waits us [] ns w → length w ≡ length ns
 waits-all us ns w h = elim (cases_lt (length w) (length ns)) [
-    | inl l ↦ absurd (let none = (h.met (length w) (omega arith) l).2 in omega (arith, none))
-    | inr l ↦ (let f = h.fewer in omega (arith, f, l))
-  ]
+  | inl l ↦ absurd (let none = (h.met (length w) (omega arith) l).2 in omega (arith, none))
+  | inr l ↦ (let f = h.fewer in omega (arith, f, l))
+]
 
 waits-push : (us : List UnitLine) (ns : List (List ℕ)) (w : List ℕ) (p : ℕ) (x : List ℕ) → Waits us [] ns w → p < length us → (unit_at us p).name ≡ x → Waits us [] (ns ++ x ∷ []) (w ++ p ∷ [])
 waits-push us ns w p x h b named =
@@ -260,9 +264,9 @@ places-more m needs i s x p w v b is read at more h =
 
 waits-more : (us : List UnitLine) (ws : List (List ℕ)) (w : List ℕ) → AreWaiting us [] ws → Waits us [] (unit_at us (length ws)).needs w → AreWaiting us [] (ws ++ w ∷ [])
 waits-more us ws w h n = λ k l. elim (cases_lt k (length ws)) [
-    | inl b ↦ subst (Waits us [] (unit_at us k).needs) (sym (get_or_append_left ws (w ∷ []) [] k b)) (h k b)
-    | inr b ↦ (let long = length-append ws (w ∷ []) in let e : k ≡ length ws = omega (arith, l, b, long) in subst (λ i. Waits us [] (unit_at us i).needs (get_or (ws ++ w ∷ []) i [])) (sym e) (subst (Waits us [] (unit_at us (length ws)).needs) (sym (get_or-append_seam ws w [] [])) n))
-  ]
+  | inl b ↦ subst (Waits us [] (unit_at us k).needs) (sym (get_or_append_left ws (w ∷ []) [] k b)) (h k b)
+  | inr b ↦ (let long = length-append ws (w ∷ []) in let e : k ≡ length ws = omega (arith, l, b, long) in subst (λ i. Waits us [] (unit_at us i).needs (get_or (ws ++ w ∷ []) i [])) (sym e) (subst (Waits us [] (unit_at us (length ws)).needs) (sym (get_or-append_seam ws w [] [])) n))
+]
 
 needs-at : (m : Manifest) (i : ℕ) (v : Vec (String Global) Global) → i < length m.needs.items → (unit_at (units_in m) i).needs ≡ map string_bytes (get_or m.needs.items i v).items
 needs-at m i v b = unit-needs m i ∙ get_or-map texts_of m.needs.items i v [] b

@@ -22,7 +22,7 @@ pub fn order(alloc: Global, manifest: &Manifest) -> Result<Vec<UnitId>, OrderFau
     let mut waiting = needed(alloc, manifest)?;
     let mut taken = vec![in alloc; false; count]?;
     let mut order = Vec::new(alloc);
-    for _ in 0..count {
+    'units: while order.len() < count {
         let Some(index) = next(&mut waiting, &taken) else {
             return Err(first_left(manifest, &taken));
         };

@@ -9,8 +9,8 @@ pub loop-index-preserved-then-taken-index : goal.loop-index-preserved-then-taken
 loop-index-preserved-then-taken-index c = record {
   stands = c.loop-index.invariant.stands;
   before = λ us order s.
-    (let now = c.loop-index.invariant.stands us order s in
-    below_more (λ j. MayCome us order j → ⊥) c.loop-index.index (c.loop-index.invariant.before us order s) (marked-not us order c.args.taken.now c.loop-index.index now.marked c.if-taken-index.true));
+      (let now = c.loop-index.invariant.stands us order s in
+      below_more (λ j. MayCome us order j → ⊥) c.loop-index.index (c.loop-index.invariant.before us order s) (marked-not us order c.args.taken.now c.loop-index.index now.marked c.if-taken-index.true));
 }
 
 pub loop-index-preserved : goal.loop-index-preserved
@@ -24,8 +24,8 @@ loop-index-preserved c =
     record {
       stands = λ us order s. stands-set us order c.args.taken.now vs i v w within loses (c.loop-index.invariant.stands us order s);
       before = λ us order s.
-        (let now = c.loop-index.invariant.stands us order s in
-        below_more (λ j. MayCome us order j → ⊥) i (c.loop-index.invariant.before us order s) (waiting-not us order c.args.taken.now i w.items now.own now.marked (waits-at us order c.args.taken.now vs i v w within loses now) (c.is_ready.ensures.waits c.if-is_ready.false)));
+          (let now = c.loop-index.invariant.stands us order s in
+          below_more (λ j. MayCome us order j → ⊥) i (c.loop-index.invariant.before us order s) (waiting-not us order c.args.taken.now i w.items now.own now.marked (waits-at us order c.args.taken.now vs i v w within loses now) (c.is_ready.ensures.waits c.if-is_ready.false)));
     }
 
 pub returns-then-is_ready-clause-next : goal.returns-then-is_ready-clause-next

@@ -1,2 +1,4 @@
 pub mod Listings
 pub mod Manifests
+pub mod InOrder
+pub mod Needs

@@ -1,5 +1,5 @@
 -- In which order units come.
-use Rattle.std.specs.Prelude.{◌≡◌, ◌⊎◌, ℕ, ◌<◌, List, [], ◌∷◌, length, map, take, slice_index_or}
+use Rattle.std.specs.Prelude.{◌≡◌, ◌⊎◌, ℕ, ◌<◌, ◌≤◌, Bool, true, false, List, [], ◌∷◌, length, map, take, slice_index, slice_index_or, count_by}
 use Rattle.std.specs.List.{All, Any, Contains}
 use Rattle.std.specs.String.{string_bytes}
 use Rattle.sml_projects.specs.declared.manifest.OrderFault.{OrderFault}
@@ -99,3 +99,57 @@ pub record IsCycle (us : List UnitLine) (lines : List ℕ) (f : ProjectFault) : 
 unfoldable pub IsOrderFault : List UnitLine → List ℕ → OrderFault → Type 0
 IsOrderFault us lines Memory = Unit {0}
 IsOrderFault us lines (Fault f) = IsUnknownUnit us lines f ⊎ IsCycle us lines f
+
+-- What follows says how the code keeps count of what is taken. No public contract rests on it.
+
+-- no two units have one name
+abbrev pub HaveOwnNames : List UnitLine → Type 0
+HaveOwnNames us = (j k : ℕ) → j < length us → k < length us → (unit_at us j).name ≡ (unit_at us k).name → j ≡ k
+
+-- whether the unit at this place is marked
+abbrev pub is_marked : List Bool → ℕ → Bool
+is_marked marks k = slice_index_or marks k false
+
+-- there is a mark for each unit, set at those of the order
+pub record IsMarked (us : List UnitLine) (order : List ℕ) (marks : List Bool) : Type 0 where
+  pub count : length marks ≡ length us
+  pub each : (j : ℕ) → Contains order j → is_marked marks j ≡ true
+  pub only : (j : ℕ) → is_marked marks j ≡ true → Contains order j
+  pub number : count_by (λ mark. mark) marks ≡ length order
+
+-- These are the places of the first needs, and the order meets the others.
+pub record Waits (us : List UnitLine) (order : List ℕ) (needs : List (List ℕ)) (places : List ℕ) : Type 0 where
+  pub fewer : length places ≤ length needs
+  pub within : (i : ℕ) → i < length places → slice_index places i < length us
+  pub named : (i : ℕ) → i < length places → (unit_at us (slice_index places i)).name ≡ slice_index_or needs i []
+  pub met : (i : ℕ) → length places ≤ i → i < length needs → Any (λ j. (unit_at us j).name ≡ slice_index_or needs i []) order
+
+-- the first units wait for these
+abbrev pub AreWaiting : List UnitLine → List ℕ → List (List ℕ) → Type 0
+AreWaiting us order waiting = (k : ℕ) → k < length waiting → Waits us order (unit_at us k).needs (slice_index_or waiting k [])
+
+-- the places at the end are left out, which are marked
+pub record Loses (marks : List Bool) (before after : List ℕ) : Type 0 where
+  pub fewer : length after ≤ length before
+  pub same : (i : ℕ) → i < length after → slice_index after i ≡ slice_index before i
+  pub lost : (i : ℕ) → length after ≤ i → i < length before → is_marked marks (slice_index before i) ≡ true
+
+-- the units, those taken in their order, their marks, and what each unit waits for
+pub record Stands (us : List UnitLine) (order : List ℕ) (marks : List Bool) (waiting : List (List ℕ)) : Type 0 where
+  pub own : HaveOwnNames us
+  pub marked : IsMarked us order marks
+  pub count : length waiting ≡ length us
+  pub waits : AreWaiting us order waiting
+
+-- O2 at the first unit without a mark
+pub record IsFirstLeft (marks : List Bool) (lines : List ℕ) (f : OrderFault) : Type 0 where
+  pub at : ℕ
+  pub within : at < length marks
+  pub left : is_marked marks at ≡ false
+  pub earliest : (j : ℕ) → j < at → is_marked marks j ≡ true
+  pub fault : f ≡ Fault (record { code = O2; line = slice_index_or lines at 0 })
+
+-- the fault of a need that no unit is named by, or want of memory
+unfoldable pub IsNeedFault : List UnitLine → List ℕ → OrderFault → Type 0
+IsNeedFault us lines Memory = Unit {0}
+IsNeedFault us lines (Fault f) = IsUnknownUnit us lines f

@@ -75,4 +75,3 @@ fn each_at(alloc: Global, places: &[usize], indices: &[usize]) -> Result<Vec<usi
     }
     Ok(found)
 }
-

@@ -1,18 +1,17 @@
 -- An order as it grows, and where it ends.
-use Rattle.std.proofs.Common.{◌≡◌, ℕ, zero, suc, ◌+◌, ◌*◌, ◌<◌, ◌≤◌, Bool, true, false, cond, List, [], ◌∷◌, ◌++◌, length, map, take, get_or, ◌⊎◌, inl, inr, refl, ap, sym, subst, ◌∙◌, arith}
-use Rattle.std.specs.List.{All, Any, Contains, count_by}
+use Rattle.std.proofs.Common.{◌≡◌, ℕ, ◌<◌, Bool, true, false, List, [], ◌∷◌, ◌++◌, length, take, get_or, inl, inr, refl, ap, sym, subst, ◌∙◌, arith}
+use Rattle.std.specs.List.{Contains}
 use Rattle.std.proofs.Math.ListN.{set, replicate}
 use Rattle.std.proofs.Math.Seq.{get_or-append_seam, take-append_seam}
-use Rattle.std.proofs.lemmas.Bool.{false≢true, cases_lt, cases_order}
+use Rattle.std.proofs.lemmas.Bool.{false≢true, cases_order}
 use Rattle.std.proofs.lemmas.List.{length-set, length-append, length-replicate, get_or_append_left, get_or-replicate, get_or-set_same, get_or-set_other, take-append-le}
 use Rattle.std.proofs.lemmas.List.Elements.{Contains-append_left, Contains-push, Contains-push_cases}
 use Rattle.std.proofs.lemmas.List.Sums.{sum_by-set}
 use Rattle.std.proofs.lemmas.List.Folds.{sum_by-replicate}
 use Rattle.sml_projects.specs.declared.manifest.OrderFault.{OrderFault}
 use Rattle.sml_projects.specs.declared.manifest.OrderFault.TheVariants.{Memory, Fault}
-use Rattle.sml_projects.specs.declared.manifest.ProjectCode.TheVariants.{O2}
 use Rattle.sml_projects.specs.ProjectFiles.{UnitLine}
-use Rattle.sml_projects.specs.Orders.{IsOrder, IsNext, MayCome, HasUnknown, IsOrderFault, IsNeedFault, IsFirstLeft, HaveOwnNames, IsMarked, Waits, AreWaiting, Stands, is_marked, unit_at}
+use Rattle.sml_projects.specs.Orders.{IsOrder, IsNext, MayCome, HasUnknown, IsOrderFault, IsNeedFault, IsFirstLeft, HaveOwnNames, IsMarked, AreWaiting, Stands, is_marked, unit_at}
 use Rattle.sml_projects.proofs.Needs.{marked-within, ones, waits-kept}
 
 -- Each unit taken is the next behind those before it, and their marks and what the others wait for are kept.

@@ -1,6 +1,6 @@
 -- The units of a manifest, their marks, and what each of them waits for.
-use Rattle.std.proofs.Common.{◌≡◌, ℕ, zero, suc, ◌+◌, ◌-◌, ◌<◌, ◌≤◌, Bool, true, false, cond, List, [], ◌∷◌, ◌++◌, length, map, take, get_or, ◌⊎◌, inl, inr, Option, Some, refl, ap, sym, subst, ◌∙◌, arith, String, Vec, Global, string_bytes}
-use Rattle.std.specs.List.{All, Any, Contains, IsDistinct, AllByRecursion, count_by, sum_by, list_any, position}
+use Rattle.std.proofs.Common.{◌≡◌, ℕ, zero, suc, ◌+◌, ◌<◌, Bool, true, false, cond, List, [], ◌∷◌, ◌++◌, length, map, take, get_or, inl, inr, Some, refl, ap, sym, subst, ◌∙◌, arith, String, Vec, Global, string_bytes}
+use Rattle.std.specs.List.{All, Any, IsDistinct, AllByRecursion, count_by, list_any, position}
 use Rattle.std.specs.Str.{bytes_eq}
 use Rattle.std.specs.String.{string_eq}
 use Rattle.std.proofs.Math.ListN.{set}

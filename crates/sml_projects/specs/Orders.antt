@@ -153,3 +153,19 @@ pub record IsFirstLeft (marks : List Bool) (lines : List ℕ) (f : OrderFault) :
 unfoldable pub IsNeedFault : List UnitLine → List ℕ → OrderFault → Type 0
 IsNeedFault us lines Memory = Unit {0}
 IsNeedFault us lines (Fault f) = IsUnknownUnit us lines f
+
+-- Each unit of the order, of which the first so many are looked at, has its place in it.
+pub record IsPlace (ids : List ℕ) (k at : ℕ) : Type 0 where
+  pub within : at < length ids
+  pub is : slice_index_or ids at 0 ≡ k
+
+-- Of each unit that the order contains its place in it is known, if there are as many places.
+abbrev pub ArePlaces : List ℕ → ℕ → List ℕ → Type 0
+ArePlaces ids count places = (k : ℕ) → k < count → Contains ids k → IsPlace ids k (slice_index_or places k 0)
+
+-- the unit of this number, from the names, the texts, the places of units and the numbers of those that each needs
+pub record IsMadeFrom (names texts : List (List ℕ)) (places : List ℕ) (needed : List (List ℕ)) (k : ℕ) (u : ProjectUnit) : Type 0 where
+  pub place : u.id.index ≡ k
+  pub name : string_bytes u.name ≡ slice_index_or names k []
+  pub text : u.text.items ≡ slice_index_or texts k []
+  pub needs : u.needs.items ≡ map (λ p. slice_index_or places p 0) (slice_index_or needed k [])

@@ -1,4 +1,4 @@
-use Rattle.std.proofs.Common.{◌≡◌, ◌<◌, length, sym, ◌∙◌, arith}
+use Rattle.std.proofs.Common.{sym, ◌∙◌, arith}
 use Rattle.sml_projects.proofs.Needs.{left-within}
 use Rattle.sml_projects.proofs.orders.first_left.Goals as goal
 

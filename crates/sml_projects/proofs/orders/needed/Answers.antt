@@ -1,4 +1,4 @@
-use Rattle.std.proofs.Common.{◌≡◌, ◌+◌, ◌<◌, ◌≤◌, [], List, ℕ, length, map, get_or, ap, sym, subst, ◌∙◌, arith, string_bytes}
+use Rattle.std.proofs.Common.{◌≡◌, ◌+◌, ◌<◌, [], length, map, get_or, ap, subst, ◌∙◌, arith, string_bytes}
 use Rattle.std.specs.Option.{IfSome, IfNone}
 use Rattle.std.specs.List.{Any, All}
 use Rattle.std.proofs.lemmas.List.{length_push}

@@ -1,8 +1,7 @@
-use Rattle.std.proofs.Common.{◌≡◌, ◌<◌, ◌≤◌, ℕ, List, false, true, length, get_or, arith}
+use Rattle.std.proofs.Common.{◌<◌, ◌≤◌, length, get_or, arith}
 use borrow.Author.Count.{below_more}
-use Rattle.sml_projects.specs.ProjectFiles.{UnitLine}
-use Rattle.sml_projects.specs.Orders.{MayCome, Stands, Loses, is_marked}
-use Rattle.sml_projects.proofs.Needs.{marked-not, waiting-not, ready-may, waits-at, stands-set, places_in}
+use Rattle.sml_projects.specs.Orders.{MayCome, Loses}
+use Rattle.sml_projects.proofs.Needs.{marked-not, waiting-not, ready-may, waits-at, stands-set}
 use Rattle.sml_projects.proofs.orders.next.Goals as goal
 
 pub loop-index-preserved-then-taken-index : goal.loop-index-preserved-then-taken-index

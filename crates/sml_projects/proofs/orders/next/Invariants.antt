@@ -1,4 +1,4 @@
-use Rattle.std.proofs.Common.{◌≡◌, ◌<◌, ℕ, List, length, map}
+use Rattle.std.proofs.Common.{◌<◌, ℕ, List, map}
 use Rattle.sml_projects.specs.Orders.{Stands, MayCome}
 use Rattle.sml_projects.specs.ProjectFiles.{UnitLine}
 use Rattle.sml_projects.proofs.orders.next.Given as goal

@@ -1,8 +1,8 @@
-use Rattle.std.proofs.Common.{rules, ◌≡◌, ◌<◌, ◌≤◌, ◌++◌, ◌∷◌, [], ℕ, Bool, List, Vec, Global, false, true, length, map, take, drop, count_by, ap, sym, subst, ◌∙◌, arith, MatchOption, IfErr, refl}
+use Rattle.std.proofs.Common.{rules, ◌<◌, ◌++◌, ◌∷◌, [], ℕ, Vec, Global, false, true, length, map, take, drop, count_by, ap, sym, subst, ◌∙◌, arith, MatchOption}
 use Rattle.std.proofs.Math.ListN.{set, replicate}
 use Rattle.std.proofs.lemmas.List.{length-map, map-append}
 use Rattle.sml_projects.specs.ProjectFiles.{units_in}
-use Rattle.sml_projects.specs.Orders.{IsNext, IsFirstLeft, MayCome, HasUnknown, Stands, IsOrder, IsOrderFault}
+use Rattle.sml_projects.specs.Orders.{IsNext, IsFirstLeft, MayCome, Stands}
 use Rattle.sml_projects.proofs.Needs.{units-length, own-names, known-all, places_in}
 use Rattle.sml_projects.proofs.InOrder.{Taking, need-fault, taking-none, taking-more, is-order, is-cycle, written-whole}
 use Rattle.sml_projects.proofs.orders.order.Goals as goal

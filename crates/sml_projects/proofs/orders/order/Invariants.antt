@@ -1,4 +1,4 @@
-use Rattle.std.proofs.Common.{◌≤◌, ◌-◌, map, length, vec_len}
+use Rattle.std.proofs.Common.{◌≤◌, ◌-◌, map, vec_len}
 use Rattle.sml_projects.specs.ProjectFiles.{units_in}
 use Rattle.sml_projects.proofs.InOrder.{Taking}
 use Rattle.sml_projects.proofs.orders.order.Given as goal

@@ -1,4 +1,4 @@
-use Rattle.std.proofs.Common.{◌≡◌, [], map, string_bytes, take}
+use Rattle.std.proofs.Common.{[], map, string_bytes, take}
 use Rattle.sml_projects.specs.Orders.{Waits}
 use Rattle.sml_projects.specs.ProjectFiles.{units_in}
 use Rattle.sml_projects.proofs.orders.places_of.Given as goal

@@ -3,10 +3,10 @@
 use clap::error::ErrorKind;
 use clap::{Arg, ArgAction, Command, Error};
 use itoa::Buffer;
-use sml_reply::sink::{Out, OutFault, write_all};
 use sml_projects::manifest::{Manifest, ManifestFault, OrderFault, ProjectCode, ProjectFault};
 use sml_projects::project::Project;
 use sml_projects::project_file::manifest;
+use sml_reply::sink::{Out, OutFault, write_all};
 use sml_units::run::{RunFault, run};
 use std::alloc::{AllocError, Global};
 

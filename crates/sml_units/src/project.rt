@@ -24,9 +24,9 @@ use sml_lex::fault::{Fault, Memory, Warning};
 use sml_lex::lexer::lex;
 use sml_objects::objects::{Basis, UnitId};
 use sml_parse::parse::{Parsed, parse, release};
-use sml_projects::project::{Project, ProjectUnit};
 use sml_piece::modules::topdec;
 use sml_piece::top_fault::TopFault;
+use sml_projects::project::{Project, ProjectUnit};
 use sml_reply::reply::Reply;
 use sml_tree::bare::BareDec;
 use sml_tree::structures::TopDec;
@@ -123,7 +123,15 @@ fn answer_unit(
     ensures { length exports.now ≡ 0 → IfOk result (λ r. AreBegunAndEnded (maker_of unit.now.id) (map dec_of piece.now) (length declarations.now) (option_map fault_of fault) r.0.items) }
 {
     let begun = begin(alloc, unit.id, &unit.needs, exports, piece)?;
-    end(alloc, initial, exports, &unit.needs, begun, declarations, fault)
+    end(
+        alloc,
+        initial,
+        exports,
+        &unit.needs,
+        begun,
+        declarations,
+        fault,
+    )
 }
 
 /// The replies to all declarations of a unit and to its last fault, of which these are the beginning; and what the unit

@@ -9,14 +9,14 @@ use Rattle.sml_derived.specs.Derived.{it_dec}
 use Rattle.sml_phrases.specs.Phrases.{Phrase, of_exp, top_in}
 use Rattle.sml_fixity.specs.Shapes.{Shape}
 use Rattle.sml_bare_decs.specs.DeclarationRules.{declaration_phrase}
-use Rattle.sml_bare_exps.specs.NameRules.{name_phrase}
+use Rattle.sml_bare_pats.specs.NameRules.{name_phrase}
 use Rattle.sml_bare_mods.specs.UnitRules.{unit_phrase}
 use Rattle.sml_bare_mods.specs.StructureRules.{structure_phrase}
 use Rattle.sml_bare_mods.specs.SpecificationRules.{specification_phrase}
 use Rattle.sml_bare_mods.specs.SignatureRules.{signature_phrase}
 use Rattle.sml_bare_exps.specs.ExpressionRules.{expression_phrase}
-use Rattle.sml_bare_exps.specs.PatternRules.{pattern_phrase}
-use Rattle.sml_bare_exps.specs.TypeRules.{type_phrase}
+use Rattle.sml_bare_pats.specs.PatternRules.{pattern_phrase}
+use Rattle.sml_bare_pats.specs.TypeRules.{type_phrase}
 
 abbrev pub rule_phrase : Rule → Place → Option Shape → List Phrase → Phrase
 rule_phrase (Names rule) p shape vs = name_phrase rule p vs

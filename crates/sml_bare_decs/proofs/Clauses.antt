@@ -7,13 +7,14 @@ use Rattle.sml_tree.specs.Patterns.{Pat, Pats, wildcard, pat_constant, pat_name,
 use Rattle.sml_tree.specs.Expressions.{Exp, ValBind, ValBinds, bind, and_bind}
 use Rattle.sml_tree.specs.ExpressionViews.{bind_of}
 use Rattle.sml_tree.specs.Heights.{pat_height, pats_height, rule_height, bind_height, binds_height}
-use Rattle.sml_derived.specs.Derived.{Clause, clause_rule, pat_row_of, function_of}
+use Rattle.sml_tree.specs.Clauses.{Clause, clause_rule, pat_row_of}
+use Rattle.sml_derived.specs.Derived.{function_of}
 use Rattle.sml_bare_decs.specs.FunctionRules.{RightSide, right_side_in, prefix_head, between, infix_head, in_brackets, bracketed_head, heading, clause_from, function_from}
 use Rattle.sml_phrases.specs.PhraseHeights.{low, is_low}
 use Rattle.sml_phrases.specs.Phrases.{Phrase, of_values, of_clauses, at, first, pat_in, clauses_in}
 use Rattle.sml_phrases.specs.PhraseViews.{Gives, Makes}
-use Rattle.sml_bare_exps.specs.LowViews.{GivesPat}
-use Rattle.sml_bare_exps.specs.PatternSequences.{pat_place}
+use Rattle.sml_bare_pats.specs.LowViews.{GivesPat}
+use Rattle.sml_bare_pats.specs.PatternSequences.{pat_place}
 use Rattle.sml_phrases.specs.declared.low.LowBind.{LowBind}
 use Rattle.sml_phrases.specs.declared.phrase.Failure.{Failure}
 use Rattle.sml_phrases.specs.declared.phrase.Failure.TheVariants.{TooHigh, Memory}

@@ -14,7 +14,8 @@ use Rattle.sml_phrases.specs.declared.low.LowBind.{LowBind}
 use Rattle.sml_phrases.specs.declared.phrase.Failure.{Failure}
 use Rattle.sml_phrases.specs.declared.phrase.Failure.TheVariants.{TooHigh, Memory}
 use Rattle.sml_tree.specs.Heights.{pat_height, pats_height, exp_height, exps_height, rule_height, bind_height}
-use Rattle.sml_derived.specs.Derived.{Clause, clause_rule, clause_rules, hidden_from, curried, count, row_of, pat_row_of, case_of, function_of}
+use Rattle.sml_tree.specs.Clauses.{Clause, clause_rule, clause_rules, pat_row_of}
+use Rattle.sml_derived.specs.Derived.{hidden_from, curried, count, row_of, case_of, function_of}
 use Rattle.sml_phrases.specs.PhraseHeights.{clauses_height, low}
 
 curried-height : (p : Place) (k n : ℕ) (e : Exp Place) → 1 ≤ exp_height e → exp_height (curried p k n e) ≡ n + exp_height e

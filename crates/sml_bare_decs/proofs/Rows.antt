@@ -5,7 +5,8 @@ use Rattle.sml_lex.specs.declared.fault.Place.{Place}
 use Rattle.sml_tree.specs.Patterns.{Pat, Pats, no_pat, and_pat}
 use Rattle.sml_tree.specs.PatternViews.{pats_of}
 use Rattle.sml_tree.specs.Heights.{pat_height, pats_height}
-use Rattle.sml_derived.specs.Derived.{count, pat_row_of}
+use Rattle.sml_tree.specs.Clauses.{pat_row_of}
+use Rattle.sml_derived.specs.Derived.{count}
 
 count_of : {A : Type 0} (f : A → Pat Place) (xs : List A) → count (pats_of (map f xs)) ≡ length xs
 count_of f [] = refl

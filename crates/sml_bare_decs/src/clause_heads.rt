@@ -13,7 +13,7 @@ ghost use Rattle.sml_bare_decs.specs.FunctionRules.{nameless, prefix_head, betwe
 ghost use Rattle.sml_bare_decs.specs.FunctionViews.{heading_of, low_pats_of, GivesHeading};
 
 use crate::declaration_lists::and_pat;
-use sml_bare_exps::pattern_sequences::paired;
+use sml_bare_pats::pattern_sequences::paired;
 use sml_fixity::heads::Head;
 use sml_fixity::shape::Shape;
 use sml_lex::fault::{Memory, Place};

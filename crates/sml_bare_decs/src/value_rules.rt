@@ -8,14 +8,14 @@ ghost use Rattle.sml_tree.specs.Expressions.{bind, no_bind, and_bind};
 ghost use Rattle.sml_phrases.specs.Phrases.{of_values, at, name_in, names_in, pat_in, pats_in, exp_in};
 ghost use Rattle.sml_phrases.specs.PhraseViews.{Makes, phrase_of, seen};
 ghost use Rattle.sml_bare_decs.specs.DeclarationRules.{values_in, atoms_in, with_variables, all_recursive, round_value, round_values, and_value};
-ghost use Rattle.sml_bare_exps.specs.LowViews.{low_pats_of, low_tys_of};
-ghost use Rattle.sml_bare_exps.specs.PatternRules.{round_pat};
-ghost use Rattle.sml_bare_exps.specs.PatternSequences.{round_sequence};
+ghost use Rattle.sml_bare_pats.specs.LowViews.{low_pats_of, low_tys_of};
+ghost use Rattle.sml_bare_pats.specs.PatternRules.{round_pat};
+ghost use Rattle.sml_bare_pats.specs.PatternSequences.{round_sequence};
 ghost use Rattle.sml_fixity.specs.Shapes.{shape_of};
 
 use crate::declaration_lists::{and_bind, joined};
 use crate::declaration_parts::{Atoms, Values, pop_atoms, pop_values};
-use sml_bare_exps::pattern_sequences::round_sequence;
+use sml_bare_pats::pattern_sequences::round_sequence;
 use sml_derived::expander::Expander;
 use sml_fixity::shape::Shape;
 use sml_lex::fault::{Memory, Place};

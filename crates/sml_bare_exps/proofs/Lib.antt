@@ -1,5 +1,2 @@
 mod ExpressionHeights
-mod TypeChains
-mod PatternSequences
-mod PatternLists
 mod ExpressionLists

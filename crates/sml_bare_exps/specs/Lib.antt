@@ -1,10 +1,3 @@
-pub mod PatternPhrases
 pub mod ExpressionRules
-pub mod NameRules
 pub mod ExpressionSequences
-pub mod PatternSequences
-pub mod SequenceViews
-pub mod LowViews
 pub mod ExpressionViews
-pub mod PatternRules
-pub mod TypeRules

@@ -6,7 +6,8 @@ use Rattle.sml_lex.specs.declared.fault.Place.{Place}
 use Rattle.sml_tree.specs.Heights.{sig_height, str_height, ty_height}
 use Rattle.sml_tree.specs.Signatures.{SigExp, WhereType, where_type}
 use Rattle.sml_tree.specs.Structures.{StrExp, ascribed}
-use Rattle.sml_derived.specs.Derived.{Constraint, where_types}
+use Rattle.sml_tree.specs.Clauses.{Constraint}
+use Rattle.sml_derived.specs.Derived.{where_types}
 use Rattle.sml_phrases.specs.PhraseHeights.{low}
 use Rattle.sml_phrases.specs.Phrases.{of_sig}
 use Rattle.sml_phrases.specs.PhraseViews.{Gives, Makes}

@@ -10,7 +10,8 @@ use Rattle.sml_tree.specs.Structures.{StrExp, StrBinds, FunBind, struct_end, str
 use Rattle.sml_tree.specs.declared.structures.Ascription.TheVariants.{Transparent, Opaque}
 use Rattle.sml_read.specs.declared.grammar.StructureRule.{StructureRule}
 use Rattle.sml_read.specs.declared.grammar.StructureRule.TheVariants as R
-use Rattle.sml_derived.specs.Derived.{Constraint, long, functor_apply_decs, open_functor}
+use Rattle.sml_tree.specs.Clauses.{Constraint}
+use Rattle.sml_derived.specs.Derived.{long, functor_apply_decs, open_functor}
 use Rattle.sml_bare_mods.specs.SignatureRules.{with_wheres}
 use Rattle.sml_phrases.specs.Phrases.{Phrase, nothing, of_str, of_str_decs, of_constraints, of_str_binds, of_open_str_bind, of_functor_argument, of_specs, of_fun_binds, of_open_fun_bind, of_open_functor, at, name_in, long_in, sig_in, where_in, str_in, str_decs_in, constraint_wheres_in, constraints_in, str_wheres_in, str_constraints_in, str_binds_in, fun_wheres_in, fun_constraints_in, fun_binds_in}
 

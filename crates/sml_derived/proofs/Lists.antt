@@ -11,7 +11,8 @@ use Rattle.sml_tree.specs.ExpressionViews.{exps_of, rules_of}
 use Rattle.sml_tree.specs.Signatures.{SigExp, Spec, Specs, WhereType, where_type, no_spec, and_spec}
 use Rattle.sml_tree.specs.SignatureViews.{specs_of}
 use Rattle.sml_derived.specs.Words.{hidden}
-use Rattle.sml_derived.specs.Derived.{Clause, clause_rule, clause_rules, var, pat_var, one_rule, hidden_from, curried, count, row_of, case_of, function_of, include_of, includes, type_spec_of, type_specs, other_type_specs, where_types}
+use Rattle.sml_tree.specs.Clauses.{Clause, clause_rule, clause_rules}
+use Rattle.sml_derived.specs.Derived.{var, pat_var, one_rule, hidden_from, curried, count, row_of, case_of, function_of, include_of, includes, type_spec_of, type_specs, other_type_specs, where_types}
 
 abbrev then_exp : Exps Place → Exp Place → Exps Place
 then_exp no_exp e = and_exp e no_exp

@@ -22,7 +22,8 @@ use Rattle.sml_tree.specs.declared.signatures.WhereType.{WhereType}
 use Rattle.sml_tree.specs.declared.signatures.SigExp.TheOpen as SO
 use Rattle.sml_tree.specs.declared.signatures.SigExp.TheVariants as SV
 use Rattle.sml_tree.specs.declared.signatures.SigExp.TheFolds.{fold-roll-SigExp}
-use Rattle.sml_derived.specs.Derived.{row_of, pat_row_of}
+use Rattle.sml_tree.specs.Clauses.{pat_row_of}
+use Rattle.sml_derived.specs.Derived.{row_of}
 
 pub exp_of-tuple : (p : Place) (es : Vec Exp Global) → exp_of (EV.Tuple p es) ≡ E.tuple p (exps_of (map exp_of es.items))
 exp_of-tuple p es =

@@ -9,6 +9,7 @@ use Rattle.sml_tree.specs.Expressions.{Exp, Exps, Rule, Rules, Dec, ValBind, nam
 use Rattle.sml_tree.specs.Signatures.{SigExp, Spec, Specs, WhereType, sig_end, sig_name, where_type, type_spec, include_spec, no_spec, and_spec}
 use Rattle.sml_tree.specs.Structures.{StrExp, StrDecs, StrBind, FunBind, struct_end, ascribed, functor_apply, str_let, core_dec, no_str_dec, and_str_dec, str_bind}
 use Rattle.sml_tree.specs.declared.structures.Ascription.{Ascription}
+use Rattle.sml_tree.specs.Clauses.{Clause, clause_rules}
 use Rattle.sml_derived.specs.Words.{true_id, false_id, nil_id, cons_id, it_id, hidden, v}
 
 -- an identifier as a long one
@@ -107,13 +108,6 @@ pun x t q = pat_field x (layered x t q)
 abbrev pub it_dec : {P : Type 0} → P → Exp P → Dec P
 it_dec p e = val_dec p [] (and_bind (bind (pat_var p it_id) e) no_bind) no_bind
 
--- a clause of a function, without the function's name
-pub record Clause (P : Type 0) : Type 0 where
-  pub place : P
-  pub pats : Pats P
-  pub result : Option (Ty P)
-  pub body : Exp P
-
 abbrev pub count : {P : Type 0} → Pats P → ℕ
 count no_pat = 0
 count (and_pat q qs) = suc (count qs)
@@ -122,10 +116,6 @@ count (and_pat q qs) = suc (count qs)
 abbrev pub row_of : {P : Type 0} → P → Exps P → Exp P
 row_of p (and_exp e no_exp) = e
 row_of p es = tuple p es
-
-abbrev pub pat_row_of : {P : Type 0} → P → Pats P → Pat P
-pat_row_of p (and_pat q no_pat) = q
-pat_row_of p qs = pat_tuple p qs
 
 -- n hidden variables, from the k-th on
 abbrev pub hidden_from : {P : Type 0} → P → ℕ → ℕ → Exps P
@@ -137,25 +127,9 @@ abbrev pub curried : {P : Type 0} → P → ℕ → ℕ → Exp P → Exp P
 curried p k zero e = e
 curried p k (suc n) e = fn p (one_rule p (pat_var p (hidden k)) (curried p (suc k) n e))
 
-abbrev pub constrained : {P : Type 0} → P → Exp P → Option (Ty P) → Exp P
-constrained p e None = e
-constrained p e (Some t) = typed p e t
-
-abbrev pub clause_rule : {P : Type 0} → Clause P → Rule P
-clause_rule c = rule c.place (pat_row_of c.place c.pats) (constrained c.place c.body c.result)
-
-abbrev pub clause_rules : {P : Type 0} → List (Clause P) → Rules P
-clause_rules [] = no_rule
-clause_rules (c ∷ cs) = and_rule (clause_rule c) (clause_rules cs)
-
 -- `f` and its clauses, behind `fun`: what stands behind `val rec`
 abbrev pub function_of : {P : Type 0} → Id → Clause P → List (Clause P) → ValBind P
 function_of f c cs = bind (pat_var c.place f) (curried c.place 1 (count c.pats) (case_of c.place (row_of c.place (hidden_from c.place 1 (count c.pats))) (clause_rules (c ∷ cs))))
-
--- a signature expression behind `:` or `:>`
-pub record Constraint (P : Type 0) : Type 0 where
-  pub ascription : Ascription
-  pub signature : SigExp P
 
 -- `structure A : S = e`, also with `:>`
 abbrev pub structure_of : {P : Type 0} → Name P → Ascription → SigExp P → StrExp P → StrBind P

@@ -6,27 +6,19 @@ ghost use Rattle.sml_tree.specs.Views.{ident_of};
 ghost use Rattle.sml_tree.specs.TypeViews.{ty_of};
 ghost use Rattle.sml_tree.specs.PatternViews.{pat_of, pats_of};
 ghost use Rattle.sml_tree.specs.ExpressionViews.{exp_of, exps_of, rule_of, rules_of, bind_of};
-ghost use Rattle.sml_derived.specs.Derived.{row_of, pat_row_of, hidden_from, curried, constrained, clause_rule, clause_rules, function_of};
-ghost use Rattle.sml_derived.specs.Views.{clause_of};
+ghost use Rattle.sml_tree.specs.Clauses.{pat_row_of, constrained, clause_rule, clause_rules, clause_of};
+ghost use Rattle.sml_derived.specs.Derived.{row_of, hidden_from, curried, function_of};
 
 use crate::expander::{Expander, hidden};
 use crate::expressions::{one_rule, var};
 use crate::patterns::pat_var;
 use sml_lex::fault::{Memory, Place};
 use sml_tree::bare::Ident;
+use sml_tree::clauses::Clause;
 use sml_tree::expressions::{Exp, Rule, ValBind};
 use sml_tree::patterns::Pat;
 use sml_tree::types::Ty;
 use std::alloc::Global;
-
-/// A clause of a function: its place, its arguments, perhaps the type of its result, and its right side.
-#[derive(Drop)]
-pub struct Clause {
-    pub place: Place,
-    pub pats: Vec<Pat>,
-    pub result: Option<Ty>,
-    pub body: Exp,
-}
 
 /// One phrase stands for itself, and others for their tuple.
 fn row_of(place: Place, exps: Vec<Exp>) -> Exp

@@ -5,7 +5,7 @@ pub mod show;
 
 use show::{Shown, show_bind, show_dec, show_exp, show_pat, show_sig, show_spec, show_str};
 use sml_derived::expander::Expander;
-use sml_derived::functions::Clause;
+use sml_tree::clauses::Clause;
 use sml_derived::laws::{hidden_differ, no_source_spells_hidden};
 use sml_lex::fault::{Memory, Place};
 use sml_tree::bare::{Ident, LongIdent};

@@ -12,3 +12,4 @@ pub mod Known
 pub mod Trees
 pub mod Work
 pub mod Judged
+pub mod Apart

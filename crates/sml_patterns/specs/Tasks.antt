@@ -1,5 +1,5 @@
 -- The rows, heads and problems that the code keeps. A row has its first column last.
-use Rattle.std.specs.Prelude.{ℕ, Bool, List, [], ◌∷◌, ◌++◌, map, reverse, Option, Some, None, Vec, cond}
+use Rattle.std.specs.Prelude.{ℕ, Bool, true, false, nat_eq, List, [], ◌∷◌, ◌++◌, map, reverse, Option, Some, None, Vec, cond}
 use Rattle.std.specs.List.{list_any}
 use Rattle.std.specs.Str.{bytes_eq}
 use Rattle.std.specs.Borrow.{Bor}
@@ -22,7 +22,7 @@ use Rattle.sml_patterns.specs.declared.judge.Judged.{Judged}
 use Rattle.sml_patterns.specs.declared.judge.Finding.{Finding}
 use Rattle.sml_patterns.specs.declared.judge.Flaw.{Flaw}
 use Rattle.sml_patterns.specs.declared.judge.Flaw.TheVariants.{Redundant, OpenMatch, OpenBinding}
-use Rattle.sml_patterns.specs.Plain.{Plain, Wild}
+use Rattle.sml_patterns.specs.Plain.{Plain, Wild, Made, Valued, value_eq}
 use Rattle.sml_patterns.specs.Warnings.{Rule, warning}
 use Rattle.sml_patterns.specs.Matrix.{Head, AtConstructor, AtRow, AtValue, AtOther, Problem, problem, below, is_useful, singles}
 use Rattle.sml_patterns.specs.Views.{value_of, plain_of}
@@ -81,6 +81,17 @@ rules_of rs = map rule_of rs
 
 abbrev pub plains : List Rule → List Plain
 plains rules = map (λ r. r.plain) rules
+
+-- whether two patterns match no shape together, by their outermost constructors or values alone
+abbrev pub is_apart : Plain → Plain → Bool
+is_apart (Made k n p) (Made j m q) = cond (nat_eq j k) false true
+is_apart (Valued v p) (Valued u q) = cond (value_eq u v) false true
+is_apart p q = false
+
+-- the patterns that aren't apart from this one
+abbrev pub near : Plain → List Plain → List Plain
+near p [] = []
+near p (q ∷ qs) = cond (is_apart p q) (near p qs) (q ∷ near p qs)
 
 -- the warnings that the search gives: of the rules behind the first ones, and of them all
 abbrev pub redundant_from : List Rule → List Rule → List Warning

@@ -12,7 +12,7 @@ ghost use Rattle.sml_patterns.specs.Views.{meanings, plain_of};
 ghost use Rattle.sml_patterns.specs.Tasks.{rules_of, plains, redundant_from, open_at, warning_of, warnings_of};
 
 use crate::names::Names;
-use crate::pattern::Pattern;
+use crate::pattern::{Pattern, is_apart};
 use crate::plain::plain;
 use crate::search::is_useful;
 use sml_lex::fault::{Code, Memory, Place, Warning};
@@ -85,9 +85,11 @@ fn escapes<'a>(
 {
     let mut rows = Vec::new(alloc);
     for rule in rules {
-        let mut row = Vec::new(alloc);
-        row.push(&rule.pattern)?;
-        rows.push(row)?;
+        if !is_apart(pattern, &rule.pattern) {
+            let mut row = Vec::new(alloc);
+            row.push(&rule.pattern)?;
+            rows.push(row)?;
+        }
     }
     let mut question = Vec::new(alloc);
     question.push(pattern)?;

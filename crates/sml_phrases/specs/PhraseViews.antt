@@ -7,9 +7,8 @@ use Rattle.sml_tree.specs.PatternViews.{constant_of, pat_of, pats_of, pat_field_
 use Rattle.sml_tree.specs.ExpressionViews.{typ_bind_of, con_bind_of, dat_bind_of, exn_bind_of, exp_of, exps_of, field_of, fields_of, rule_of, rules_of, dec_of, decs_of, bind_of, binds_of}
 use Rattle.sml_tree.specs.SignatureViews.{val_desc_of, typ_desc_of, sig_of, spec_of, specs_of, str_desc_of, str_descs_of}
 use Rattle.sml_tree.specs.StructureViews.{str_of, str_dec_of, str_decs_of, str_bind_of, str_binds_of, sig_bind_of, fun_bind_of, top_of}
-use Rattle.sml_derived.specs.Views.{clause_of}
+use Rattle.sml_tree.specs.Clauses.{clause_of, Constraint}
 use Rattle.sml_tree.specs.Signatures.{WhereType}
-use Rattle.sml_derived.specs.Derived.{Constraint}
 use Rattle.sml_phrases.specs.declared.low.LowWhere.{LowWhere}
 use Rattle.sml_phrases.specs.declared.low.LowConstraint.{LowConstraint}
 use Rattle.sml_phrases.specs.Phrases.{Phrase, nothing, of_word, of_name, of_long, of_constant, of_names, of_longs, of_ty, of_tys, of_ty_fields, of_arguments, of_pat, of_pats, of_pat_fields, of_atoms, of_layer, of_op_atoms, of_op_layer, of_exp, of_exps, of_series, of_fields, of_rules, of_dec, of_decs, of_bind, of_binds, of_values, of_round_values, of_functions, of_right_side, of_clauses, of_round_functions, of_typ_bind, of_typ_binds, of_con_bind, of_con_binds, of_datatypes, of_constructors, of_copy, of_exn_binds, of_sig, of_where, of_wheres, of_open_sig_bind, of_sig_binds, of_specs, of_val_desc, of_val_descs, of_typ_descs, of_type_rest, of_open_str_desc, of_str_descs, of_shared_types, of_str, of_str_dec, of_str_decs, of_constraints, of_str_binds, of_open_str_bind, of_functor_argument, of_fun_binds, of_open_fun_bind, of_open_functor, of_top}

@@ -9,7 +9,7 @@ use Rattle.sml_tree.specs.declared.patterns.ConstantKind.TheVariants.{Integer}
 use Rattle.sml_tree.specs.Expressions.{TypBind, ConBind, DatBind, ExnBind, Exp, Exps, Fields, Rules, Dec, Decs, ValBind, ValBinds, tuple, no_exp, no_field, no_rule, fixity_dec, no_dec, bind, no_bind}
 use Rattle.sml_tree.specs.Signatures.{SigExp, Specs, StrDescs, WhereType, ValDesc, TypDesc, sig_end, no_spec, no_str_desc}
 use Rattle.sml_tree.specs.Structures.{StrExp, StrDec, StrDecs, StrBinds, SigBind, FunBind, TopDec, struct_end, core_dec, no_str_dec, no_str_bind, top_str}
-use Rattle.sml_derived.specs.Derived.{Clause, Constraint}
+use Rattle.sml_tree.specs.Clauses.{Clause, Constraint}
 
 pub data Phrase : Type 0 where
   -- nothing

@@ -7,11 +7,11 @@ ghost use Rattle.sml_tree.specs.PatternViews.{pat_of, pats_of, pat_field_of, pat
 ghost use Rattle.sml_tree.specs.ExpressionViews.{typ_bind_of, con_bind_of, dat_bind_of, exn_bind_of, exp_of, exps_of, field_of, fields_of, rule_of, rules_of, dec_of, decs_of, bind_of, binds_of};
 ghost use Rattle.sml_tree.specs.SignatureViews.{val_desc_of, sig_of, spec_of, specs_of, str_desc_of, str_descs_of};
 ghost use Rattle.sml_tree.specs.StructureViews.{str_of, str_dec_of, str_decs_of, str_bind_of, str_binds_of, sig_bind_of, fun_bind_of, top_of};
-ghost use Rattle.sml_derived.specs.Views.{clause_of};
+ghost use Rattle.sml_tree.specs.Clauses.{clause_of};
 ghost use Rattle.sml_phrases.specs.PhraseHeights.{clauses_height};
 
-use sml_derived::functions::Clause;
 use sml_tree::bare::LongIdent;
+use sml_tree::clauses::Clause;
 use sml_tree::expressions::{
     ConBind, DatBind, Dec, ExnBind, Exp, ExpField, Rule, TypBind, ValBind,
 };

@@ -8,7 +8,7 @@ ghost use Rattle.sml_tree.specs.PatternViews.{constant_of, pat_of, pats_of};
 ghost use Rattle.sml_tree.specs.ExpressionViews.{typ_bind_of, con_bind_of, exn_bind_of, exp_of, exps_of, field_of, fields_of, rule_of, rules_of, dec_of, decs_of, bind_of, binds_of};
 ghost use Rattle.sml_tree.specs.SignatureViews.{val_desc_of, typ_desc_of, sig_of, spec_of, specs_of};
 ghost use Rattle.sml_tree.specs.StructureViews.{str_of, str_dec_of, str_decs_of, top_of};
-ghost use Rattle.sml_derived.specs.Views.{clause_of};
+ghost use Rattle.sml_tree.specs.Clauses.{clause_of};
 ghost use Rattle.sml_phrases.specs.Phrases.{first, place_in, ty_if_any, pat_if_any, exp_if_any, rules_if_any, bind_in, binds_in, clauses_in, con_binds_in, constant_in, dec_in, decs_in, exn_binds_in, exp_in, exps_in, fields_in, long_in, longs_in, name_in, names_in, pat_in, pats_in, rules_in, sig_in, specs_in, str_dec_in, str_decs_in, str_in, top_in, ty_fields_in, ty_in, typ_binds_in, typ_descs_in, tys_in, val_descs_in, wheres_in};
 ghost use Rattle.sml_phrases.specs.PhraseViews.{low_where_of, phrase_of, seen};
 

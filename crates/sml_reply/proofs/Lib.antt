@@ -2,3 +2,4 @@ pub mod Sinks
 pub mod Pieces
 pub mod Spelling
 pub mod Vectors
+mod Copies

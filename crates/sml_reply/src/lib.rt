@@ -1,8 +1,12 @@
 // Replies: the text of what a declaration is answered, and the sinks that take it.
 #![tactic(auto)]
 
+pub mod form;
+pub mod layer;
 mod lines;
 mod numerals;
+pub mod paths;
+pub mod piece;
 pub mod reply;
 pub mod sink;
 mod texts;

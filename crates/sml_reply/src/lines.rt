@@ -1,8 +1,9 @@
 //! The text of an accepted declaration of the whole language.
 
 use crate::numerals::push_number;
+use crate::paths::Paths;
 use crate::texts::{Around, initial_text, sole_part};
-use indexmap::IndexSet;
+use indexmap::{IndexMap, IndexSet};
 use sml_envs::objects::{Basis, Constructors, Env, FunSig, Sig, Status, TypeStr, Value};
 use sml_lex::fault::Memory;
 use sml_objects::labels::Labels;
@@ -12,9 +13,22 @@ use std::alloc::Global;
 use std::collections::BTreeMap;
 use std::rc::Rc;
 
-/// The text of the reply with this number to a declaration that binds what the basis itself binds.
-pub(crate) fn accepted_text(alloc: Global, number: u32, basis: &Basis) -> Result<Vec<u8>, Memory> {
-    let mut lines = Lines::new(alloc);
+/// The text of a reply, and the names that are numbered in it.
+#[derive(Drop)]
+pub(crate) struct NumberedText {
+    pub text: Vec<u8>,
+    pub names: IndexSet<TyName>,
+}
+
+/// The text of the reply with this number to a declaration that binds what the basis itself binds. Names that have a path
+/// print as it.
+pub(crate) fn accepted_text(
+    alloc: Global,
+    number: u32,
+    basis: &Basis,
+    paths: IndexMap<TyName, Ident>,
+) -> Result<NumberedText, Memory> {
+    let mut lines = Lines::new(alloc, paths);
     push_number(&mut lines.text, number as usize)?;
     lines.push(b" ok\n")?;
     lines.push_env(&basis.env)?;
@@ -24,8 +38,23 @@ pub(crate) fn accepted_text(alloc: Global, number: u32, basis: &Basis) -> Result
     for (name, functor) in &basis.functors {
         lines.push_functor(name, functor)?;
     }
-    let Lines { text, .. } = lines;
-    Ok(text)
+    let Lines { text, names, .. } = lines;
+    Ok(NumberedText { text, names })
+}
+
+/// The least paths of those of the names that have one.
+pub(crate) fn paths_of(
+    alloc: Global,
+    names: &IndexSet<TyName>,
+    before: &mut Paths,
+) -> Result<IndexMap<TyName, Ident>, Memory> {
+    let mut paths = IndexMap::new(alloc);
+    for name in names {
+        if let Some(path) = before.least(*name)? {
+            paths.insert(*name, path)?;
+        }
+    }
+    Ok(paths)
 }
 
 /// What the numbers of variables in a line mean: parameters by their places, or variables by first appearance.
@@ -35,11 +64,12 @@ enum Variables<'a> {
     Scheme(&'a [bool]),
 }
 
-/// A text that grows, the prefix of the paths in its next lines, the names that signatures and functors bind, the made
-/// names that were numbered, and the variables that were numbered in the last line.
+/// A text that grows, the names that print as paths, the prefix of the paths in its next lines, the names that signatures
+/// and functors bind, the made names that were numbered, and the variables that were numbered in the last line.
 #[derive(Drop)]
 struct Lines {
     text: Vec<u8>,
+    paths: IndexMap<TyName, Ident>,
     prefix: Vec<u8>,
     bound: IndexSet<TyName>,
     names: IndexSet<TyName>,
@@ -47,9 +77,10 @@ struct Lines {
 }
 
 impl Lines {
-    fn new(alloc: Global) -> Lines {
+    fn new(alloc: Global, paths: IndexMap<TyName, Ident>) -> Lines {
         Lines {
             text: Vec::new(alloc),
+            paths,
             prefix: Vec::new(alloc),
             bound: IndexSet::new(alloc),
             names: IndexSet::new(alloc),
@@ -295,6 +326,10 @@ impl Lines {
         match name {
             TyName::Initial(initial) => self.push(initial_text(initial)),
             TyName::Made(made) => {
+                if let Some(path) = self.paths.get(&name) {
+                    self.text.extend_from_slice(path.as_slice())?;
+                    return Ok(());
+                }
                 let (place, _) = self.names.insert_full(name)?;
                 prove!(place < self.names.len());
                 let is_bound = self.bound.contains(&name);

@@ -1,22 +1,28 @@
-//! Replies, version 1 of their text.
+//! Replies, in both versions of their text.
 
 ghost use Rattle.std.specs.Prelude.{◌≡◌, ◌++◌, ◌∷◌, IfOk, true, false, [], codes, decimal};
 ghost use Rattle.sml_lex.specs.Faults.{fault_of};
 ghost use Rattle.sml_objects.specs.Initial.{naming};
 ghost use Rattle.sml_objects.specs.Views.{sig_of};
 ghost use Rattle.sml_rules.specs.Answers as Answers;
-ghost use Rattle.sml_reply.specs.Replies.{reply_text, refusal_text, warning_text, warnings_text, warnings_of, accepts};
+ghost use Rattle.sml_reply.specs.Replies.{reply_text, form_text, version_text, refusal_text, warning_text, warnings_text, warnings_of, accepts};
 ghost use Rattle.std.specs.Option.{option_map};
 ghost use Rattle.sml_reply.specs.Sinks.{Prints, in_turn};
 ghost use Rattle.sml_reply.specs.Text as T;
 
-use crate::lines::accepted_text;
+use crate::form::{Form, Version};
+use crate::lines::{NumberedText, accepted_text, paths_of};
 use crate::numerals::push_number;
+use crate::paths::Paths;
+use crate::piece::whole_env;
 use crate::sink::{Out, OutFault, write_all, write_each};
 use crate::texts::Lines;
+use indexmap::{IndexMap, IndexSet};
 use itoa::Buffer;
+use sml_envs::objects::Basis as WholeBasis;
 use sml_lex::fault::{Code, Fault, Memory, Place, Warning};
-use sml_objects::objects::Basis;
+use sml_objects::objects::{Basis, TyName};
+use sml_tree::bare::Ident;
 use std::alloc::Global;
 
 /// The reply to a declaration, with its number in the unit.
@@ -26,10 +32,12 @@ pub enum Reply {
     Refused(RefusedReply),
 }
 
-/// The text of an accepted declaration without its warnings, and these.
+/// The text of an accepted declaration without its warnings in version 1, and in version 2 where it differs, and the
+/// warnings.
 #[derive(Drop)]
 pub struct AcceptedReply {
     text: Vec<u8>,
+    second: Option<Vec<u8>>,
     warnings: Vec<Warning>,
 }
 
@@ -40,11 +48,12 @@ pub struct RefusedReply {
 }
 
 impl Reply {
-    /// The reply to an accepted declaration, of which this is the own basis.
+    /// The reply to an accepted declaration, of which this is the own basis, with the paths in the basis before it.
     pub fn accepted(
         alloc: Global,
         number: u32,
         basis: &Basis,
+        before: &mut Paths,
         warnings: Vec<Warning>,
     ) -> Result<Reply, Memory>
         ensures text { IfOk result (λ r. reply_text r false ≡ T.text naming number (Answers.accepted (sig_of basis.now))) }
@@ -55,22 +64,40 @@ impl Reply {
         push_number(&mut lines.text, number as usize)?;
         lines.text.extend_from_slice(b" ok\n")?;
         lines.push_env(alloc, b"", &basis.env)?;
-        let Lines { text, .. } = lines;
-        Ok(Reply::Accepted(AcceptedReply { text, warnings }))
+        let Lines { text, names } = lines;
+        let second = second_of_piece(alloc, number, basis, &names, before)?;
+        Ok(Reply::Accepted(AcceptedReply {
+            text,
+            second,
+            warnings,
+        }))
     }
 
-    /// The reply to an accepted declaration of the whole language, of which this is the own basis.
+    /// The reply to an accepted declaration of the whole language, of which this is the own basis, with the paths in the
+    /// basis before it.
     pub fn environment(
         alloc: Global,
         number: u32,
-        basis: &sml_envs::objects::Basis,
+        basis: &WholeBasis,
+        before: &mut Paths,
         warnings: Vec<Warning>,
     ) -> Result<Reply, Memory>
         ensures warnings { IfOk result (λ r. warnings_of r ≡ warnings.items) }
         ensures accepted { IfOk result (λ r. accepts r ≡ true) }
     {
-        let text = accepted_text(alloc, number, basis)?;
-        Ok(Reply::Accepted(AcceptedReply { text, warnings }))
+        let NumberedText { text, names } = accepted_text(
+            alloc,
+            number,
+            basis,
+            IndexMap::new(alloc),
+        )?;
+        let paths = paths_of(alloc, &names, before)?;
+        let second = second_text(alloc, number, basis, paths)?;
+        Ok(Reply::Accepted(AcceptedReply {
+            text,
+            second,
+            warnings,
+        }))
     }
 
     /// The reply to a refused declaration.
@@ -80,6 +107,18 @@ impl Reply {
         ensures refused { accepts result ≡ false }
     {
         Reply::Refused(RefusedReply { number, fault })
+    }
+
+    /// An equal reply.
+    pub fn copy(&self, alloc: Global) -> Result<Reply, Memory>
+        ensures text { IfOk result (λ r. (form : Form) → form_text r form ≡ form_text self.now form) }
+        ensures warnings { IfOk result (λ r. warnings_of r ≡ warnings_of self.now) }
+        ensures accepted { IfOk result (λ r. accepts r ≡ accepts self.now) }
+    {
+        match self {
+            Reply::Accepted(reply) => Ok(Reply::Accepted(reply.copy(alloc)?)),
+            Reply::Refused(reply) => Ok(Reply::Refused(reply.copy(alloc)?)),
+        }
     }
 
     /// Whether the declaration is accepted.
@@ -103,14 +142,100 @@ impl Reply {
     }
 }
 
-/// Writes the text of a reply, with its warnings if they are asked for.
-pub fn print<O: Out>(reply: &Reply, warnings: bool, out: &mut O) -> Result<(), OutFault>
-    ensures { Prints (O.taken out.old) (O.taken out.new) (O.failures out.old) (O.failures out.new) result (reply_text reply.now warnings) }
+impl AcceptedReply {
+    fn copy(&self, alloc: Global) -> Result<AcceptedReply, Memory>
+        ensures text { IfOk result (λ r. (version : Version) → version_text r version ≡ version_text self.now version) }
+        ensures warnings { IfOk result (λ r. r.warnings.items ≡ self.now.warnings.items) }
+    {
+        let text = Vec::from_slice(alloc, self.text.as_slice())?;
+        let second = bytes_copied(alloc, &self.second)?;
+        let warnings = Vec::from_slice(alloc, self.warnings.as_slice())?;
+        Ok(AcceptedReply {
+            text,
+            second,
+            warnings,
+        })
+    }
+
+    /// The text without warnings.
+    fn lines(&self, version: Version) -> &[u8]
+        ensures { result.now ≡ version_text self.now version }
+    {
+        match version {
+            Version::One => self.text.as_slice(),
+            Version::Two => match &self.second {
+                Some(second) => second.as_slice(),
+                None => self.text.as_slice(),
+            },
+        }
+    }
+}
+
+impl RefusedReply {
+    fn copy(&self, alloc: Global) -> Result<RefusedReply, Memory>
+        ensures { IfOk result (λ r. refusal_text r ≡ refusal_text self.now) }
+    {
+        let detail = bytes_copied(alloc, &self.fault.detail)?;
+        let fault = Fault {
+            code: self.fault.code,
+            place: self.fault.place,
+            detail,
+        };
+        Ok(RefusedReply {
+            number: self.number,
+            fault,
+        })
+    }
+}
+
+fn bytes_copied(alloc: Global, bytes: &Option<Vec<u8>>) -> Result<Option<Vec<u8>>, Memory>
+    ensures { IfOk result (λ r. option_map (λ v. v.items) r ≡ option_map (λ v. v.items) bytes.now) }
+{
+    match bytes {
+        Some(bytes) => Ok(Some(Vec::from_slice(alloc, bytes.as_slice())?)),
+        None => Ok(None),
+    }
+}
+
+/// Version 2 of the text, where it differs: where some of the names that are numbered in version 1 has a path.
+fn second_text(
+    alloc: Global,
+    number: u32,
+    basis: &WholeBasis,
+    paths: IndexMap<TyName, Ident>,
+) -> Result<Option<Vec<u8>>, Memory> {
+    if paths.is_empty() {
+        return Ok(None);
+    }
+    let NumberedText { text, .. } = accepted_text(alloc, number, basis, paths)?;
+    Ok(Some(text))
+}
+
+/// The same for a declaration of the piece.
+fn second_of_piece(
+    alloc: Global,
+    number: u32,
+    basis: &Basis,
+    names: &IndexSet<TyName>,
+    before: &mut Paths,
+) -> Result<Option<Vec<u8>>, Memory> {
+    let paths = paths_of(alloc, names, before)?;
+    if paths.is_empty() {
+        return Ok(None);
+    }
+    let mut whole = WholeBasis::new(alloc, basis.unit);
+    whole.env = whole_env(alloc, &basis.env)?;
+    second_text(alloc, number, &whole, paths)
+}
+
+/// Writes the text of a reply in this form.
+pub fn print<O: Out>(reply: &Reply, form: Form, out: &mut O) -> Result<(), OutFault>
+    ensures { Prints (O.taken out.old) (O.taken out.new) (O.failures out.old) (O.failures out.new) result (form_text reply.now form) }
 {
     match reply {
-        Reply::Accepted(reply) => match write_all(out, reply.text.as_slice()) {
+        Reply::Accepted(reply) => match write_all(out, reply.lines(form.version)) {
             Ok(_) => {
-                if warnings {
+                if form.warnings {
                     print_warnings(reply.warnings.as_slice(), out)
                 } else {
                     Ok(())

@@ -50,7 +50,7 @@ impl Around {
 #[derive(Drop)]
 pub(crate) struct Lines {
     pub text: Vec<u8>,
-    names: IndexSet<TyName>,
+    pub names: IndexSet<TyName>,
 }
 
 impl Lines {

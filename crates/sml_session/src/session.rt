@@ -1,13 +1,18 @@
 //! From the words of a command line to a status.
 
+use clap::builder::ValueParser;
 use clap::error::ErrorKind;
 use clap::{Arg, ArgAction, Command, Error};
 use itoa::Buffer;
+use sml_lex::fault::Memory;
 use sml_projects::manifest::{Manifest, ManifestFault, OrderFault, ProjectCode, ProjectFault};
 use sml_projects::project::Project;
 use sml_projects::project_file::manifest;
+use sml_reply::form::{Form, Version};
 use sml_reply::sink::{Out, OutFault, write_all};
-use sml_units::run::{RunFault, run};
+use sml_units::project::check;
+use sml_units::recheck::recheck;
+use sml_units::run::{RunFault, Summary, run};
 use std::alloc::{AllocError, Global};
 
 /// Why a file couldn't be had.
@@ -38,6 +43,24 @@ const FAILED: u8 = 3;
 /// One byte more than the greatest unit and the greatest project file have.
 const MOST_BYTES: usize = 1_048_577;
 
+/// What the help says behind the switches.
+const AFTER_HELP: &str =
+    "Each unit NAME is the text of FILE, which lies beside the project file, and sees what
+the units NEED .. declare:
+  unit tools tools.sml
+  unit main main.sml tools
+
+The reply to a declaration is what it binds, or one fault:
+  1 ok
+    val x : int
+  2 fault U1 1.9 types clash
+A fault has a code, and a line and a column counted from the declaration's first
+token. docs/CODES.md has an example and a cure for each code.
+
+Status: 0, no declaration was refused; 1, some was; 2, the command line or the
+project file has a fault (docs/PROJECT.md); 3, a file, the output or memory
+failed.";
+
 /// Why a session ends early.
 #[derive(Drop)]
 enum Stop {
@@ -50,6 +73,18 @@ enum Stop {
 impl From<AllocError> for Stop {
     fn from(_error: AllocError) -> Stop {
         Stop::Memory
+    }
+}
+
+impl From<Memory> for Stop {
+    fn from(_memory: Memory) -> Stop {
+        Stop::Memory
+    }
+}
+
+impl From<OutFault> for Stop {
+    fn from(_fault: OutFault) -> Stop {
+        Stop::Write
     }
 }
 
@@ -80,11 +115,12 @@ impl From<RunFault> for Stop {
     }
 }
 
-/// What the command line asks for.
+/// What the command line asks for: a form of replies, a project, and another one that is checked again after it.
 #[derive(Drop)]
 struct Request {
-    warnings: bool,
+    form: Form,
     project: String,
+    then: Option<String>,
 }
 
 /// Runs the program on the words of its command line, of which the first is its own name, and gives its status.
@@ -105,25 +141,58 @@ pub fn session<S: Source, O: Out, E: Out>(
     }
 }
 
+/// The versions of replies by their numbers.
+const VERSIONS: [&str; 2] = ["1", "2"];
+
 /// The command line, as `clap` reads it.
 fn requested(alloc: Global, words: &[String]) -> Result<Request, Error> {
     let warnings = Arg::new(alloc, "warnings")
         .long("warnings")
         .help("Prints the warnings of accepted declarations")
         .action(ArgAction::SetTrue);
+    let reply = Arg::new(alloc, "reply")
+        .long("reply")
+        .value_name("N")
+        .help("The version of the replies: in 2, abstract types print as their paths")
+        .value_parser(ValueParser::Names(VERSIONS.as_slice()))
+        .default_value("1")
+        .action(ArgAction::Set);
+    let then = Arg::new(alloc, "then")
+        .long("then")
+        .value_name("SECOND")
+        .help(
+            "A project file that is checked after PROJECT, with what didn't change; its replies alone are printed",
+        )
+        .action(ArgAction::Set);
     let project = Arg::new(alloc, "PROJECT")
         .help("A project file: a line `unit NAME FILE NEED ..` for each unit")
         .required(true)
         .action(ArgAction::Set);
     let command = Command::new(alloc, "smlcheck")
         .about("Checks the declarations of Standard ML units")
+        .after_help(AFTER_HELP)
         .arg(warnings)?
+        .arg(reply)?
+        .arg(then)?
         .arg(project)?;
     let matches = command.try_get_matches_from(words)?;
+    let version = if matches.get_str("reply") == Some("2") {
+        Version::Two
+    } else {
+        Version::One
+    };
+    let then = match matches.get_str("then") {
+        Some(path) => Some(String::from_str(alloc, path)?),
+        None => None,
+    };
     let path = matches.get_str("PROJECT").unwrap_or("");
     Ok(Request {
-        warnings: matches.get_flag("warnings"),
+        form: Form {
+            version,
+            warnings: matches.get_flag("warnings"),
+        },
         project: String::from_str(alloc, path)?,
+        then,
     })
 }
 
@@ -145,23 +214,47 @@ fn usage<O: Out, E: Out>(alloc: Global, error: &Error, out: &mut O, err: &mut E)
     }
 }
 
-/// Reads the project and its units, checks them and writes the replies.
+/// Reads the project and its units, and the second one if there is one, checks them and writes the replies.
 fn answer<S: Source, O: Out>(
     alloc: Global,
     request: &Request,
     source: &mut S,
     out: &mut O,
 ) -> Result<u8, Stop> {
-    let text = read(alloc, source, &request.project, &request.project)?;
-    let listed = manifest(alloc, &text)?;
-    let texts = read_units(alloc, source, &request.project, &listed)?;
-    let project = Project::new(alloc, listed, texts)?;
-    let summary = run(alloc, &project, request.warnings, out)?;
+    let project = read_project(alloc, source, &request.project)?;
+    let summary = match &request.then {
+        None => run(alloc, &project, request.form, out)?,
+        Some(path) => {
+            let second = read_project(alloc, source, path)?;
+            run_again(alloc, &project, &second, request.form, out)?
+        }
+    };
     Ok(if summary.refused == 0 {
         ALL_ACCEPTED
     } else {
         SOME_REFUSED
     })
+}
+
+/// Checks a project, then a second one with what didn't change, and writes the replies of the second.
+fn run_again<O: Out>(
+    alloc: Global,
+    project: &Project,
+    second: &Project,
+    form: Form,
+    out: &mut O,
+) -> Result<Summary, Stop> {
+    let old = check(alloc, project)?;
+    let checked = recheck(alloc, &old, second)?;
+    Ok(checked.write_to(form, out)?)
+}
+
+/// The project of a project file and the files of its units.
+fn read_project<S: Source>(alloc: Global, source: &mut S, path: &str) -> Result<Project, Stop> {
+    let text = read(alloc, source, path, path)?;
+    let listed = manifest(alloc, &text)?;
+    let texts = read_units(alloc, source, path, &listed)?;
+    Ok(Project::new(alloc, listed, texts)?)
 }
 
 /// The bytes of a file; where it can't be read, its name as it was written.

@@ -13,5 +13,6 @@ pub mod Heights
 pub mod TypeViews
 pub mod PatternViews
 pub mod ExpressionViews
+pub mod Clauses
 pub mod SignatureViews
 pub mod StructureViews

@@ -2,6 +2,7 @@
 #![tactic(auto)]
 
 pub mod bare;
+pub mod clauses;
 pub mod expressions;
 pub mod height;
 pub mod heights;

@@ -4,3 +4,4 @@ pub mod Replying
 pub mod Written
 pub mod Standing
 mod Files
+mod Counting

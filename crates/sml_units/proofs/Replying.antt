@@ -30,6 +30,11 @@ use Rattle.sml_units.specs.declared.project.Beginning.{Beginning}
 use Rattle.sml_units.specs.declared.project.UnitReplies.{UnitReplies}
 use Rattle.sml_units.specs.Checked.{Answered, IsStep, IsReplyTo, AreRepliesTo, AreSound, AreAllSound, IsSoundAnswer, AreSpelt, IsBegun, BeginWith, AreReplies, AreBegunAndEnded, IsAnswered, AreSourcesOf, AreUnitReplies, with_last}
 
+-- there are as many, however they are seen
+pub as_many : {A B : Type 0} (f : A → B) (o : Option A) → length (option_to_list o) ≡ length (option_to_list (option_map f o))
+as_many f (Some x) = refl
+as_many f None = refl
+
 -- the basis behind these answers
 abbrev pub after_all : Basis Name → List Answered → Basis Name
 after_all B [] = B

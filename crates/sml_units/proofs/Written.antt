@@ -4,6 +4,7 @@ use Rattle.std.specs.List.{count_by, sum_by}
 use Rattle.std.proofs.lemmas.Bool.{false≢true}
 use Rattle.std.proofs.lemmas.List.{take_all, take_more, flat_map_more}
 use Rattle.std.proofs.lemmas.List.Sums.{sum_by_push}
+use Rattle.sml_reply.specs.declared.form.Form.{Form}
 use Rattle.sml_reply.specs.declared.reply.Reply.{Reply}
 use Rattle.sml_reply.specs.Replies.{warnings_of, accepts}
 use Rattle.sml_reply.specs.Sinks.{in_turn, Prints}
@@ -22,7 +23,7 @@ pub turn-rest-at : {A : Type 0} (f : A → List ℕ) (xs : List A) (i : ℕ) (x 
     → in_turn (map f xs) ≡ (in_turn (map f (take i xs)) ++ f x) ++ in_turn (map f (drop (i + 1) xs))
 turn-rest-at f xs i x h is = turn-rest f xs i x h ∙ ap (λ y. (in_turn (map f (take i xs)) ++ f y) ++ in_turn (map f (drop (i + 1) xs))) (sym is)
 
-capped-more : (a b : ℕ) → capped (capped a + b) ≡ capped (a + b)
+pub capped-more : (a b : ℕ) → capped (capped a + b) ≡ capped (a + b)
 capped-more a b = omega arith
 
 refused-more : (b : Bool) → ◌≡◌ {A = ℕ} (cond b 0 1) (cond (not b) 1 0)
@@ -67,9 +68,9 @@ printed-as a b m n (Err x) (Ok y) text e p = absurd (false≢true (sym e))
 printed-as a b m n (Err x) (Err f) text e p = p
 
 -- what was printed and counted are replies that may be given
-pub outcome : (May : Replies → Type 0) (asked : Bool) (a b : Option (List ℕ)) (m n : ℕ) (r : Result Summary RunFault) (rs : Replies) → May rs → Prints a b m n r (replies_text rs asked)
-    → IfOk r (λ s. s ≡ summary_of (replies_of rs.units.items)) → IfErr r (λ f. f ≡ Write) → IsOutcome May asked a b m n r
+pub outcome : (May : Replies → Type 0) (form : Form) (a b : Option (List ℕ)) (m n : ℕ) (r : Result Summary RunFault) (rs : Replies) → May rs → Prints a b m n r (replies_text rs form)
+    → IfOk r (λ s. s ≡ summary_of (replies_of rs.units.items)) → IfErr r (λ f. f ≡ Write) → IsOutcome May form a b m n r
 unfolding IsOutcome
-outcome May asked a b m n (Ok s) rs may printed counted fault = record { replies = rs; may = may; printed = printed; counted = counted }
-outcome May asked a b m n (Err f) rs may printed counted fault =
-    subst (λ g. IsOutcome May asked a b m n (Err g)) (sym fault) (record { replies = rs; may = may; printed = printed-as a b m n (Err f) (Err Write) (replies_text rs asked) refl printed; counted = tt })
+outcome May form a b m n (Ok s) rs may printed counted fault = record { replies = rs; may = may; printed = printed; counted = counted }
+outcome May form a b m n (Err f) rs may printed counted fault =
+    subst (λ g. IsOutcome May form a b m n (Err g)) (sym fault) (record { replies = rs; may = may; printed = printed-as a b m n (Err f) (Err Write) (replies_text rs form) refl printed; counted = tt })

@@ -4,3 +4,4 @@ pub mod Written
 pub mod Checked
 pub mod Standing
 pub mod Files
+pub mod Counts

@@ -1,9 +1,10 @@
 // Projects: their units in order, what their declarations are answered, and runs.
 #![tactic(auto)]
 
-mod exports;
 pub mod isolation;
 pub mod laws;
+mod needs;
 pub mod project;
+pub mod recheck;
 pub mod run;
 mod whole;

@@ -1,6 +1,6 @@
 //! Projects and what their declarations are answered.
 
-ghost use Rattle.std.specs.Prelude.{◌≡◌, ◌≤◌, ◌+◌, ◌++◌, IfOk, IfErr, List, OnOk, [], length, map, vec_len};
+ghost use Rattle.std.specs.Prelude.{◌≡◌, ◌≤◌, ◌+◌, ◌++◌, IfOk, IfErr, List, OnOk, [], false, length, map, replicate, vec_len};
 ghost use Rattle.sml_reply.specs.declared.reply.Reply.{Reply};
 ghost use Rattle.std.specs.Option.{option_map, option_to_list};
 ghost use Rattle.sml_lex.specs.Faults.{fault_of};
@@ -13,13 +13,15 @@ ghost use Rattle.sml_rules.specs.Answers.{accepted};
 ghost use Rattle.sml_rules.specs.Open.{OpenEnv};
 ghost use Rattle.sml_piece.specs.Elaborated.{IsBasisOf, IsOwnBasis};
 ghost use Rattle.sml_units.specs.Checked.{MayReply, AreBegunAndEnded, AreEnded, IsAnswered, IsBegun, IsStep, IsReplyTo, Answered, AreRepliesTo, with_last};
+ghost use Rattle.sml_units.specs.Counts.{IsCountOf, IsNumberOf};
 ghost use Rattle.sml_projects.specs.Orders.{unit_texts, unit_text_of};
 ghost use Rattle.sml_units.specs.Runs.{start, is_specified};
 
-use crate::exports::{Exports, empty, nameless, with_needs};
+use crate::needs::{empty, nameless, paths_of_needs, with_needs};
 use crate::whole::{answer_rest, exported, whole_basis};
 use sml_envs::initial::initial;
 use sml_envs::objects::Basis as WholeBasis;
+use sml_exports::exports::Exports;
 use sml_lex::fault::{Fault, Memory, Warning};
 use sml_lex::lexer::lex;
 use sml_objects::objects::{Basis, UnitId};
@@ -27,6 +29,8 @@ use sml_parse::parse::{Parsed, parse, release};
 use sml_piece::modules::topdec;
 use sml_piece::top_fault::TopFault;
 use sml_projects::project::{Project, ProjectUnit};
+use sml_reply::paths::Paths;
+use sml_reply::piece::whole_env;
 use sml_reply::reply::Reply;
 use sml_tree::bare::BareDec;
 use sml_tree::structures::TopDec;
@@ -46,20 +50,38 @@ pub struct UnitReplies {
     pub replies: Vec<Reply>,
 }
 
-/// The beginning of a unit: the replies to declarations of the piece, what they bind, and how many names they made.
+/// The beginning of a unit: the replies to declarations of the piece, what they bind, with the paths behind them, and how
+/// many names they made.
 #[derive(Drop)]
 struct Beginning {
     count: usize,
     bound: Basis,
+    paths: Paths,
     replies: Vec<Reply>,
     is_whole: bool,
 }
 
-/// A project that has been checked.
+/// A project that has been checked: the replies, and by unit in order what it was read from, what it exports, and whether
+/// that and its replies were kept from before.
 #[derive(Drop)]
 pub struct Checked {
-    replies: Replies,
+    pub(crate) replies: Replies,
+    pub(crate) sources: Vec<Source>,
+    pub(crate) exports: Vec<Exports>,
+    pub(crate) kept: Vec<bool>,
+    pub(crate) readings: u64,
 }
+
+/// What a unit was read from: its place among the unit lines, its text, and the places of its needs in the order.
+#[derive(Drop)]
+pub(crate) struct Source {
+    pub(crate) id: UnitId,
+    pub(crate) text: Vec<u8>,
+    pub(crate) needs: Vec<usize>,
+}
+
+/// What was made of a unit: the replies, what it exports, and how many declarations were answered.
+pub(crate) type Read = (Vec<Reply>, Exports, u64);
 
 impl Checked {
     /// The replies to the project's declarations.
@@ -68,34 +90,70 @@ impl Checked {
     {
         &self.replies
     }
+
+    /// Whether each unit, in order, was kept: neither read nor answered anew.
+    pub fn kept(&self) -> &[bool]
+        ensures { result.now ≡ self.now.kept.items }
+    {
+        self.kept.as_slice()
+    }
+
+    /// How many declarations were answered: those of the units that weren't kept.
+    pub fn readings(&self) -> u64
+        ensures { result ≡ self.now.readings }
+    {
+        self.readings
+    }
 }
 
 /// Answers every declaration of the project.
 pub fn check(alloc: Global, project: &Project) -> Result<Checked, Memory>
-    ensures { length (unit_texts project.now) ≤ 1 → IfOk result (λ c. MayReply project.now c.replies) }
+    ensures replies { length (unit_texts project.now) ≤ 1 → IfOk result (λ c. MayReply project.now c.replies) }
+    ensures kept { IfOk result (λ c. c.kept.items ≡ replicate (vec_len project.now.units) false) }
+    ensures readings { IfOk result (λ c. IsCountOf (unit_texts project.now) c.readings) }
 {
     let initial = Rc::new(alloc, initial(alloc)?)?;
     let mut exports = Vec::new(alloc);
     let mut units = Vec::new(alloc);
+    let mut readings: u64 = 0;
     for unit in project.units.as_slice() {
         let name = unit.name.clone()?;
-        let (replies, own) = check_unit(alloc, &initial, &exports, unit)?;
+        let (replies, own, count) = check_unit(alloc, &initial, &exports, unit)?;
         units.push(UnitReplies { name, replies })?;
         exports.push(own)?;
+        readings = readings.saturating_add(count);
     }
     Ok(Checked {
         replies: Replies { units },
+        sources: sources_of(alloc, project)?,
+        exports,
+        kept: vec![in alloc; false; project.units.len()]?,
+        readings,
     })
 }
 
-/// The replies to the declarations of a unit, and what it exports.
-fn check_unit(
+/// What the units of a project are read from.
+pub(crate) fn sources_of(alloc: Global, project: &Project) -> Result<Vec<Source>, Memory> {
+    let mut sources = Vec::new(alloc);
+    for unit in project.units.as_slice() {
+        sources.push(Source {
+            id: unit.id,
+            text: Vec::from_slice(alloc, unit.text.as_slice())?,
+            needs: Vec::from_slice(alloc, unit.needs.as_slice())?,
+        })?;
+    }
+    Ok(sources)
+}
+
+/// The replies to the declarations of a unit, what it exports, and how many declarations it has.
+pub(crate) fn check_unit(
     alloc: Global,
     initial: &Rc<WholeBasis>,
     exports: &[Exports],
     unit: &ProjectUnit,
-) -> Result<(Vec<Reply>, Exports), Memory>
-    ensures { length exports.now ≡ 0 → IfOk result (λ r. IsAnswered (unit_text_of unit.now) r.0.items) }
+) -> Result<Read, Memory>
+    ensures replies { length exports.now ≡ 0 → IfOk result (λ r. IsAnswered (unit_text_of unit.now) r.0.items) }
+    ensures count { IfOk result (λ r. IsNumberOf unit.now.text.items r.2) }
 {
     let lexed = lex(alloc, &unit.text)?;
     let Parsed {
@@ -118,9 +176,10 @@ fn answer_unit(
     declarations: &[TopDec],
     piece: &[BareDec],
     fault: Option<Fault>,
-) -> Result<(Vec<Reply>, Exports), Memory>
+) -> Result<Read, Memory>
     requires { length piece.now ≤ length declarations.now }
-    ensures { length exports.now ≡ 0 → IfOk result (λ r. AreBegunAndEnded (maker_of unit.now.id) (map dec_of piece.now) (length declarations.now) (option_map fault_of fault) r.0.items) }
+    ensures replies { length exports.now ≡ 0 → IfOk result (λ r. AreBegunAndEnded (maker_of unit.now.id) (map dec_of piece.now) (length declarations.now) (option_map fault_of fault) r.0.items) }
+    ensures count { IfOk result (λ r. r.2 ≡ length declarations.now) }
 {
     let begun = begin(alloc, unit.id, &unit.needs, exports, piece)?;
     end(
@@ -144,27 +203,33 @@ fn end(
     begun: Beginning,
     declarations: &[TopDec],
     fault: Option<Fault>,
-) -> Result<(Vec<Reply>, Exports), Memory>
+) -> Result<Read, Memory>
     requires { length begun.replies.items ≤ length declarations.now }
-    ensures { IfOk result (λ r. AreEnded begun.replies.items (length declarations.now) (option_map fault_of fault) r.0.items) }
+    ensures replies { IfOk result (λ r. AreEnded begun.replies.items (length declarations.now) (option_map fault_of fault) r.0.items) }
+    ensures count { IfOk result (λ r. r.2 ≡ length declarations.now) }
 {
     let Beginning {
         count,
         bound,
+        mut paths,
         replies,
         is_whole,
     } = begun;
     let mut basis = whole_basis(alloc, initial, needs, exports, count, &bound)?;
     let rest = behind(declarations, replies.len());
     let specified = if is_whole && rest.is_empty() {
-        Some(bound.env)
+        Some(Rc::new(alloc, bound.env)?)
     } else {
         None
     };
-    let replies = answer_rest(alloc, &mut basis, replies, rest)?;
-    let whole = exported(alloc, basis)?;
+    let replies = answer_rest(alloc, &mut basis, &mut paths, replies, rest)?;
+    let own = Exports {
+        whole: exported(alloc, basis)?,
+        paths: Rc::new(alloc, paths.into_own())?,
+        specified,
+    };
     let replies = and_last(replies, fault)?;
-    Ok((replies, Exports { whole, specified }))
+    Ok((replies, own, declarations.len() as u64))
 }
 
 /// The declarations behind the first so many.
@@ -203,14 +268,16 @@ fn begin(
     ensures few { IfOk result (λ b. length b.replies.items ≤ length declarations.now) }
 {
     let basis = Basis::initial(alloc, id)?;
+    let paths = paths_of_needs(alloc, needs, exports)?;
     if exports.is_empty() {
-        return answer_piece(alloc, basis, declarations);
+        return answer_piece(alloc, basis, paths, declarations);
     }
     match with_needs(alloc, basis, needs, exports)? {
-        Some(basis) => answer_piece(alloc, basis, declarations),
+        Some(basis) => answer_piece(alloc, basis, paths, declarations),
         None => Ok(Beginning {
             count: 0,
             bound: empty(alloc, id),
+            paths,
             replies: Vec::new(alloc),
             is_whole: false,
         }),
@@ -218,11 +285,17 @@ fn begin(
 }
 
 /// The replies to the declarations before the first that isn't of the piece, each of which sees those before it.
-fn answer_piece(alloc: Global, basis: Basis, declarations: &[BareDec]) -> Result<Beginning, Memory>
+fn answer_piece(
+    alloc: Global,
+    basis: Basis,
+    paths: Paths,
+    declarations: &[BareDec],
+) -> Result<Beginning, Memory>
     ensures begun { (B : O.Basis Name) → IsBasisOf basis B → IfOk result (IsBegun (maker_of basis.unit) B (map dec_of declarations.now)) }
     ensures few { IfOk result (λ b. length b.replies.items ≤ length declarations.now) }
 {
     let mut basis = basis;
+    let mut paths = paths;
     let mut bound = empty(alloc, basis.unit);
     let mut replies = Vec::new(alloc);
     for dec in declarations {
@@ -230,17 +303,19 @@ fn answer_piece(alloc: Global, basis: Basis, declarations: &[BareDec]) -> Result
             return Ok(Beginning {
                 count: basis.names.len(),
                 bound,
+                paths,
                 replies,
                 is_whole: false,
             });
         }
         let number = number_behind(replies.len())?;
-        let reply = answer(alloc, &mut basis, &mut bound, number, dec)?;
+        let reply = answer(alloc, &mut basis, &mut bound, &mut paths, number, dec)?;
         replies.push(reply)?;
     }
     Ok(Beginning {
         count: basis.names.len(),
         bound,
+        paths,
         replies,
         is_whole: true,
     })
@@ -256,18 +331,20 @@ fn is_specified(dec: &BareDec) -> bool
     }
 }
 
-/// The reply to a declaration. What an accepted one binds is put into the basis, and into what is bound so far.
+/// The reply to a declaration. What an accepted one binds is put into the basis, into what is bound so far, and into the
+/// paths.
 fn answer(
     alloc: Global,
     basis: &mut Basis,
     bound: &mut Basis,
+    paths: &mut Paths,
     number: u32,
     dec: &BareDec,
 ) -> Result<Reply, Memory>
     ensures { (B : O.Basis Name) → IsBasisOf basis.old B → IfOk result (IsStep basis.old basis.new B (dec_of dec.now) number) }
 {
     match topdec(alloc, basis, dec) {
-        Ok((own, warnings)) => accept(alloc, basis, bound, number, own, warnings),
+        Ok((own, warnings)) => accept(alloc, basis, bound, paths, number, own, warnings),
         Err(TopFault::Fault(fault)) => Ok(Reply::refused(number, fault)),
         Err(TopFault::Memory) => Err(Memory),
     }
@@ -277,6 +354,7 @@ fn accept(
     alloc: Global,
     basis: &mut Basis,
     bound: &mut Basis,
+    paths: &mut Paths,
     number: u32,
     own: Basis,
     warnings: Vec<Warning>,
@@ -286,7 +364,8 @@ fn accept(
         → OnOk result (IsBasisOf basis.new (extend B (sig_of own))) }
     ensures unit { OnOk result (basis.new.unit ≡ basis.old.unit) }
 {
-    let reply = Reply::accepted(alloc, number, &own, warnings)?;
+    let reply = Reply::accepted(alloc, number, &own, paths, warnings)?;
+    paths.bind(alloc, &whole_env(alloc, &own.env)?)?;
     bound.add(nameless(alloc, own.unit, &own.env)?)?;
     basis.add(own)?;
     Ok(reply)

@@ -1,14 +1,15 @@
 //! Runs: a project is checked, and its replies are written.
 
 ghost use Rattle.std.specs.Prelude.{◌≡◌, ◌≤◌, ◌+◌, if◌then◌else◌, IfOk, IfErr, length, map};
-ghost use Rattle.sml_reply.specs.Replies.{reply_text, warnings_of, accepts};
+ghost use Rattle.sml_reply.specs.Replies.{form_text, warnings_of, accepts};
 ghost use Rattle.sml_reply.specs.Sinks.{in_turn, Prints};
 ghost use Rattle.sml_units.specs.Checked.{MayReply};
 ghost use Rattle.sml_projects.specs.Orders.{unit_texts};
 ghost use Rattle.sml_units.specs.Written.{unit_text, units_text, replies_text, replies_of, summary_of, capped, IsOutcome};
 
-use crate::project::{Replies, UnitReplies, check};
+use crate::project::{Checked, Replies, UnitReplies, check};
 use sml_projects::project::Project;
+use sml_reply::form::Form;
 use sml_reply::reply::{Reply, print};
 use sml_reply::sink::{Out, OutFault, write_each};
 use std::alloc::Global;
@@ -37,39 +38,39 @@ pub struct Summary {
 pub fn run<O: Out>(
     alloc: Global,
     project: &Project,
-    warnings: bool,
+    form: Form,
     out: &mut O,
 ) -> Result<Summary, RunFault>
-    ensures { IsOutcome (λ rs. length (unit_texts project.now) ≤ 1 → MayReply project.now rs) warnings (O.taken out.old) (O.taken out.new) (O.failures out.old) (O.failures out.new) result }
+    ensures { IsOutcome (λ rs. length (unit_texts project.now) ≤ 1 → MayReply project.now rs) form (O.taken out.old) (O.taken out.new) (O.failures out.old) (O.failures out.new) result }
 {
     match check(alloc, project) {
-        Ok(checked) => write_checked(checked.replies(), warnings, out),
+        Ok(checked) => match checked.write_to(form, out) {
+            Ok(summary) => Ok(summary),
+            Err(_) => Err(RunFault::Write),
+        },
         Err(_) => Err(RunFault::Memory),
     }
 }
 
-/// Writes the text of the replies, and counts them.
-fn write_checked<O: Out>(
-    replies: &Replies,
-    warnings: bool,
-    out: &mut O,
-) -> Result<Summary, RunFault>
-    ensures printed { Prints (O.taken out.old) (O.taken out.new) (O.failures out.old) (O.failures out.new) result (replies_text replies.now warnings) }
-    ensures counted { IfOk result (λ s. s ≡ summary_of (replies_of replies.now.units.items)) }
-    ensures fault { IfErr result (λ f. f ≡ RunFault.Write) }
-{
-    let units = replies.units.as_slice();
-    match write_units(units, warnings, out) {
-        Ok(_) => Ok(counts(units)),
-        Err(_) => Err(RunFault::Write),
+impl Checked {
+    /// Writes what `run` writes after its check, and counts the replies.
+    pub fn write_to<O: Out>(&self, form: Form, out: &mut O) -> Result<Summary, OutFault>
+        ensures printed { Prints (O.taken out.old) (O.taken out.new) (O.failures out.old) (O.failures out.new) result (replies_text self.now.replies form) }
+        ensures counted { IfOk result (λ s. s ≡ summary_of (replies_of self.now.replies.units.items)) }
+    {
+        let units = self.replies().units.as_slice();
+        match write_units(units, form, out) {
+            Ok(_) => Ok(counts(units)),
+            Err(fault) => Err(fault),
+        }
     }
 }
 
-fn write_units<O: Out>(units: &[UnitReplies], warnings: bool, out: &mut O) -> Result<(), OutFault>
-    ensures { Prints (O.taken out.old) (O.taken out.new) (O.failures out.old) (O.failures out.new) result (units_text units.now warnings) }
+fn write_units<O: Out>(units: &[UnitReplies], form: Form, out: &mut O) -> Result<(), OutFault>
+    ensures { Prints (O.taken out.old) (O.taken out.new) (O.failures out.old) (O.failures out.new) result (units_text units.now form) }
 {
     for unit in units {
-        match write_unit(unit, warnings, out) {
+        match write_unit(unit, form, out) {
             Ok(_) => {}
             Err(fault) => return Err(fault),
         }
@@ -77,21 +78,21 @@ fn write_units<O: Out>(units: &[UnitReplies], warnings: bool, out: &mut O) -> Re
     Ok(())
 }
 
-fn write_unit<O: Out>(unit: &UnitReplies, warnings: bool, out: &mut O) -> Result<(), OutFault>
-    ensures { Prints (O.taken out.old) (O.taken out.new) (O.failures out.old) (O.failures out.new) result (unit_text unit.now warnings) }
+fn write_unit<O: Out>(unit: &UnitReplies, form: Form, out: &mut O) -> Result<(), OutFault>
+    ensures { Prints (O.taken out.old) (O.taken out.new) (O.failures out.old) (O.failures out.new) result (unit_text unit.now form) }
 {
     let heading: [&[u8]; 3] = [b"unit ", unit.name.as_bytes(), b"\n"];
     match write_each(out, &heading) {
-        Ok(_) => print_each(unit.replies.as_slice(), warnings, out),
+        Ok(_) => print_each(unit.replies.as_slice(), form, out),
         Err(fault) => Err(fault),
     }
 }
 
-fn print_each<O: Out>(replies: &[Reply], warnings: bool, out: &mut O) -> Result<(), OutFault>
-    ensures { Prints (O.taken out.old) (O.taken out.new) (O.failures out.old) (O.failures out.new) result (in_turn (map (λ r. reply_text r warnings) replies.now)) }
+fn print_each<O: Out>(replies: &[Reply], form: Form, out: &mut O) -> Result<(), OutFault>
+    ensures { Prints (O.taken out.old) (O.taken out.new) (O.failures out.old) (O.failures out.new) result (in_turn (map (λ r. form_text r form) replies.now)) }
 {
     for reply in replies {
-        match print(reply, warnings, out) {
+        match print(reply, form, out) {
             Ok(_) => {}
             Err(fault) => return Err(fault),
         }

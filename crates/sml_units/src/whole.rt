@@ -3,20 +3,18 @@
 ghost use Rattle.std.specs.Prelude.{◌≡◌, ◌++◌, IfOk, List, length};
 ghost use Rattle.sml_reply.specs.declared.reply.Reply.{Reply};
 
-use crate::exports::Exports;
 use crate::project::number_behind;
-use sml_envs::objects::{
-    Basis as WholeBasis, Constructors, Env as WholeEnv, Status, TypeStr, Value,
-};
+use sml_envs::objects::Basis as WholeBasis;
+use sml_exports::exports::Exports;
 use sml_lex::fault::Memory;
 use sml_modules::modules::topdec;
-use sml_objects::objects::{Basis, Env};
+use sml_objects::objects::Basis;
+use sml_reply::paths::Paths;
+use sml_reply::piece::whole_env;
 use sml_reply::reply::Reply;
-use sml_tree::bare::Ident;
 use sml_tree::structures::TopDec;
 use sml_types::fault::CoreFault;
 use std::alloc::Global;
-use std::collections::BTreeMap;
 use std::rc::Rc;
 
 /// The basis of a unit that has bound this and made so many names, over the initial one and the exports of its needs.
@@ -39,51 +37,15 @@ pub(crate) fn whole_basis(
             basis.below.push(needed.whole.clone()?)?;
         }
     }
-    let none = Rc::new(alloc, BTreeMap::new(alloc))?;
-    basis.env = whole_env(alloc, &none, &bound.env)?;
+    basis.env = whole_env(alloc, &bound.env)?;
     Ok(basis)
-}
-
-/// An environment of the piece, in which each value is a variable and no type has constructors.
-#[cycle(envs)]
-fn whole_env(alloc: Global, none: &Rc<Constructors>, env: &Env) -> Result<WholeEnv, Memory> {
-    let mut whole = WholeEnv::new(alloc);
-    put_structures(alloc, none, &env.structures, &mut whole)?;
-    for (name, function) in &env.types {
-        let ty = TypeStr {
-            function: function.clone()?,
-            constructors: none.clone()?,
-        };
-        whole.types.insert(name.clone()?, ty)?;
-    }
-    for (name, scheme) in &env.values {
-        let value = Value {
-            status: Status::Variable,
-            scheme: scheme.clone()?,
-        };
-        whole.values.insert(name.clone()?, value)?;
-    }
-    Ok(whole)
-}
-
-#[cycle(envs)]
-fn put_structures(
-    alloc: Global,
-    none: &Rc<Constructors>,
-    structures: &BTreeMap<Ident, Rc<Env>>,
-    whole: &mut WholeEnv,
-) -> Result<(), Memory> {
-    for (name, structure) in structures {
-        let inner = Rc::new(alloc, whole_env(alloc, none, structure)?)?;
-        whole.structures.insert(name.clone()?, inner)?;
-    }
-    Ok(())
 }
 
 /// The replies with those to these declarations behind them.
 pub(crate) fn answer_rest(
     alloc: Global,
     basis: &mut WholeBasis,
+    paths: &mut Paths,
     mut replies: Vec<Reply>,
     declarations: &[TopDec],
 ) -> Result<Vec<Reply>, Memory>
@@ -91,22 +53,24 @@ pub(crate) fn answer_rest(
 {
     for dec in declarations {
         let number = number_behind(replies.len())?;
-        let reply = answer(alloc, basis, number, dec)?;
+        let reply = answer(alloc, basis, paths, number, dec)?;
         replies.push(reply)?;
     }
     Ok(replies)
 }
 
-/// The reply to a declaration. What an accepted one binds is put into the basis.
+/// The reply to a declaration. What an accepted one binds is put into the basis, and its paths.
 fn answer(
     alloc: Global,
     basis: &mut WholeBasis,
+    paths: &mut Paths,
     number: u32,
     dec: &TopDec,
 ) -> Result<Reply, Memory> {
     match topdec(alloc, basis, dec) {
         Ok((own, warnings)) => {
-            let reply = Reply::environment(alloc, number, &own, warnings)?;
+            let reply = Reply::environment(alloc, number, &own, paths, warnings)?;
+            paths.bind(alloc, &own.env)?;
             basis.add(&own)?;
             basis.count = own.count;
             Ok(reply)

@@ -11,6 +11,12 @@ Usage: smlcheck <PROJECT>
 For more information, try '--help'.
 ";
 
+const OTHER_VERSION: &str = "error: invalid value '3' for '--reply <N>'
+  [possible values: 1, 2]
+
+For more information, try '--help'.
+";
+
 const WARNINGS_ALONE: &str = "error: the following required arguments were not provided:
   <PROJECT>
 
@@ -43,6 +49,8 @@ fn faulty_command_lines(rt: HostRuntime) -> Result<(), Fail> {
     ask(alloc, &["smlcheck"], &mut folder)?.expect(&rt, 2, "", NO_PROJECT);
     ask(alloc, &["smlcheck", "--"], &mut folder)?.expect(&rt, 2, "", NO_PROJECT);
     ask(alloc, &["smlcheck", "--warnings"], &mut folder)?.expect(&rt, 2, "", WARNINGS_ALONE);
+    let words = ["smlcheck", "--reply", "3", "project"];
+    ask(alloc, &words, &mut folder)?.expect(&rt, 2, "", OTHER_VERSION);
     ask(alloc, &["smlcheck", "-w", "project"], &mut folder)?.expect(&rt, 2, "", OTHER_SWITCH);
     let words = ["smlcheck", "project", "other"];
     ask(alloc, &words, &mut folder)?.expect(&rt, 2, "", TWO_PROJECTS);
@@ -56,6 +64,8 @@ fn odd_command_lines(rt: HostRuntime) -> Result<(), Fail> {
     let out = "unit a\n";
     ask(alloc, &["", "project"], &mut folder)?.expect(&rt, 0, out, "");
     let words = ["smlcheck", "project", "--warnings"];
+    ask(alloc, &words, &mut folder)?.expect(&rt, 0, out, "");
+    let words = ["smlcheck", "--reply=2", "--then", "project", "project"];
     ask(alloc, &words, &mut folder)?.expect(&rt, 0, out, "");
     let words = ["smlcheck", "--", "--warnings"];
     let err = "smlcheck: cannot read --warnings\n";

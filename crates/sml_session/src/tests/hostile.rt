@@ -37,16 +37,60 @@ const CUT_REPLIES: [(usize, &str); 5] = [
     (162, "4 fault E3 1.9 unbound structure T\n"),
 ];
 
-#[test]
-fn cuts(rt: HostRuntime) -> Result<(), Fail> {
-    let alloc = rt.alloc();
-    for length in 0..=CUT.len() {
-        let answer = answer_to_unit(alloc, Vec::from_slice(alloc, &CUT[..length])?)?;
+const WIDE_CUT: &[u8] = b"datatype 'a t = N | C of 'a * 'a t
+fun len N = 0 | len (C (_, r)) = 1 + len r
+signature S = sig eqtype k val none : k end
+functor F (X : S) = struct val is_none = fn y => y = X.none end
+structure A = F (struct type k = int val none = 0 end)
+exception Bad of int list
+val u = raise Bad [len N]
+val v = u";
+
+const WIDE_CUT_REPLIES: [(usize, &str); 8] = [
+    (0, "unit a\n"),
+    (
+        38,
+        "1 ok
+  datatype 'a t = 'a ?=1
+  | C : 'a * 'a ?=1 -> 'a ?=1
+  | N : 'a ?=1
+  con C : 'a * 'a ?=1 -> 'a ?=1
+  con N : 'a ?=1
+",
+    ),
+    (87, "2 ok\n  val len : 'a ?=1 -> int\n"),
+    (
+        129,
+        "3 ok\n  signature S\n  type S.k = %=1\n  val S.none : %=1\n",
+    ),
+    (
+        195,
+        "4 ok
+  functor F
+  type F.arg.k = %=1
+  val F.arg.none : %=1
+  val F.res.is_none : %=1 -> bool
+",
+    ),
+    (250, "5 ok\n  structure A\n  val A.is_none : int -> bool\n"),
+    (270, "6 ok\n  exception Bad : int list -> exn\n"),
+    (296, "7 fault Q2 1.1 exported type undetermined\n"),
+];
+
+/// Demands that each cut of a unit gets the replies that are surely there.
+fn expect_cuts(
+    rt: &impl Abort,
+    alloc: Global,
+    unit: &[u8],
+    wanted: &[(usize, &str)],
+) -> Result<(), AllocError> {
+    for length in 0..=unit.len() {
+        let answer = answer_to_unit(alloc, Vec::from_slice(alloc, &unit[..length])?)?;
         assert!(rt; answer.status <= 1);
         assert!(rt; answer.err.bytes().is_empty());
         let mut replies = String::new(alloc);
-        for (from, reply) in CUT_REPLIES {
-            if from <= length {
+        for (from, reply) in wanted {
+            if *from <= length {
                 replies.push_str(reply)?;
             }
         }
@@ -59,17 +103,115 @@ fn cuts(rt: HostRuntime) -> Result<(), Fail> {
 }
 
 #[test]
-fn open_brackets(rt: HostRuntime) -> Result<(), Fail> {
+fn cuts(rt: HostRuntime) -> Result<(), Fail> {
     let alloc = rt.alloc();
-    let unit = repeated(alloc, b"", b"(", 1_048_576, b"")?;
-    let out = "unit a\n1 fault S2 1.1048576 unit ends too early\n";
-    expect_reply(&rt, alloc, unit, 1, out)?;
-    let unit = repeated(alloc, b"val x = ", b"(", 1_048_568, b"")?;
-    let out = "unit a\n1 fault S2 1.1048576 unit ends too early\n";
-    expect_reply(&rt, alloc, unit, 1, out)?;
-    let unit = repeated(alloc, b"val x = ", b"(1,", 300_000, b"")?;
-    let out = "unit a\n1 fault S2 1.900008 unit ends too early\n";
-    expect_reply(&rt, alloc, unit, 1, out)?;
+    expect_cuts(&rt, alloc, CUT, &CUT_REPLIES)?;
+    expect_cuts(&rt, alloc, WIDE_CUT, &WIDE_CUT_REPLIES)?;
+    Ok(())
+}
+
+/// A text, another so many times, and a last one; and the reply to the unit that they make.
+const ENDLESS: [(&str, &str, usize, &str, &str); 20] = [
+    ("", "(", 1_048_576, "", "S2 1.1048576 unit ends too early"),
+    (
+        "val x = ",
+        "(",
+        1_048_568,
+        "",
+        "S2 1.1048576 unit ends too early",
+    ),
+    (
+        "val x = ",
+        "(1,",
+        300_000,
+        "",
+        "S2 1.900008 unit ends too early",
+    ),
+    (
+        "val x = ",
+        "let val y = ",
+        87_000,
+        "",
+        "S2 1.1044007 unit ends too early",
+    ),
+    (
+        "",
+        "structure A = struct ",
+        49_000,
+        "",
+        "S2 1.1028994 unit ends too early",
+    ),
+    (
+        "",
+        "local ",
+        170_000,
+        "",
+        "S2 1.1019995 unit ends too early",
+    ),
+    ("", "case ", 200_000, "", "S2 1.999996 unit ends too early"),
+    (
+        "type t = ",
+        "(int * ",
+        140_000,
+        "",
+        "S2 1.980008 unit ends too early",
+    ),
+    ("", "'a ", 300_000, "", "S1 1.1 unexpected token"),
+    ("val x = ", "fn x=>", 20_000, "1", "S3 1.1 tree too high"),
+    ("val x = ", "x ", 50_000, "", "S3 1.1 tree too high"),
+    ("val x = 1", " + 1", 30_000, "", "S3 1.1 tree too high"),
+    ("val x = ", "#a ", 30_000, "", "S3 1.1 tree too high"),
+    (
+        "val x = if true",
+        " then 1 else if true",
+        10_000,
+        " then 1 else 2",
+        "S3 1.1 tree too high",
+    ),
+    (
+        "type t = int",
+        " -> int",
+        100_000,
+        "",
+        "S3 1.1 tree too high",
+    ),
+    ("type t = int", " list", 200_000, "", "S3 1.1 tree too high"),
+    (
+        "val x = \"",
+        "\\\\",
+        500_000,
+        "",
+        "L2 1.9 string not closed",
+    ),
+    ("datatype t = A", " | A", 200_000, "", "G3 1.18 bound twice"),
+    (
+        "val x = 1",
+        " and x = 1",
+        10_000,
+        "",
+        "E10 1.15 variable bound twice in a pattern",
+    ),
+    ("open A", ".A", 500_000, "", "E3 1.6 unbound structure A"),
+];
+
+#[test]
+fn endless_texts(rt: HostRuntime) -> Result<(), Fail> {
+    let alloc = rt.alloc();
+    for (first, middle, times, last, fault) in ENDLESS {
+        let parts = [first.as_bytes(), middle.as_bytes(), last.as_bytes()];
+        let unit = repeated(alloc, parts[0], parts[1], times, parts[2])?;
+        let out = format!(in alloc; "unit a\n1 fault {fault}\n")?;
+        expect_reply(&rt, alloc, unit, 1, &out)?;
+    }
+    let unit = repeated(alloc, b"", b"~", 1_048_576, b"")?;
+    let out = repeated(
+        alloc,
+        b"unit a\n1 fault E1 1.1 unbound value ",
+        b"~",
+        1_048_576,
+        b"\n",
+    )?;
+    assert_eq!(rt; answer_to_unit(alloc, unit)?.out.bytes(), out.as_slice());
     Ok(())
 }
 

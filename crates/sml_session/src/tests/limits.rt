@@ -19,6 +19,8 @@ fn sizes_of_units(rt: HostRuntime) -> Result<(), Fail> {
     let unit = repeated(alloc, b"val x = 1", b" ", 1_048_568, b"")?;
     let out = "unit a\n1 fault L6 1.1 unit too large\n";
     answer_to_unit(alloc, unit)?.expect(&rt, 1, out, "");
+    let unit = repeated(alloc, b"", b" ", 1_048_577, b"")?;
+    answer_to_unit(alloc, unit)?.expect(&rt, 1, out, "");
     let unit = repeated(alloc, b"", b"(* ", 1_048_576, b"")?;
     answer_to_unit(alloc, unit)?.expect(&rt, 1, out, "");
     Ok(())
@@ -99,6 +101,116 @@ fn heights_of_types(rt: HostRuntime) -> Result<(), Fail> {
     let parts = (first, b"int".as_slice(), last);
     expect_nest(&rt, alloc, parts, 3_995, out)?;
     expect_nest(&rt, alloc, parts, 3_996, TOO_HIGH)?;
+    Ok(())
+}
+
+/// A first text, one that opens, a middle, one that closes; how often the nest is written and accepted, with which lines,
+/// and from where on it is too high. `let` is one higher than what it holds, an operator two, and `case` and `if` three.
+const NESTS: [(&str, &str, &str, &str, usize, &str, usize); 11] = [
+    (
+        "val x = ",
+        "let val y = 1 in ",
+        "1",
+        " end",
+        1_000,
+        "  val x : int\n",
+        3_998,
+    ),
+    (
+        "val x = ",
+        "case 1 of y => ",
+        "1",
+        "",
+        250,
+        "  val x : int\n",
+        1_333,
+    ),
+    (
+        "val x = ",
+        "if true then 1 else ",
+        "1",
+        "",
+        250,
+        "  val x : int\n",
+        1_333,
+    ),
+    (
+        "val x = [1",
+        ",1",
+        "]",
+        "",
+        1_000,
+        "  val x : int list\n",
+        1_999,
+    ),
+    (
+        "val x = ",
+        "1 :: ",
+        "nil",
+        "",
+        1_000,
+        "  val x : int list\n",
+        2_000,
+    ),
+    (
+        "val x = 1",
+        " : int",
+        "",
+        "",
+        2_000,
+        "  val x : int\n",
+        3_999,
+    ),
+    (
+        "type t = ",
+        "(",
+        "int",
+        ")",
+        3_998,
+        "  type t = int\n",
+        3_999,
+    ),
+    ("", "local ", "", "in end ", 2_000, "", 4_001),
+    (
+        "structure X = ",
+        "let in ",
+        "struct end",
+        " end",
+        2_000,
+        "  structure X\n",
+        3_999,
+    ),
+    (
+        "structure X = struct end",
+        " : sig end",
+        "",
+        "",
+        2_000,
+        "  structure X\n",
+        3_999,
+    ),
+    (
+        "structure X : sig end = struct ",
+        "structure A = struct ",
+        "end",
+        " end",
+        1_000,
+        "  structure X\n",
+        1_999,
+    ),
+];
+
+#[test]
+fn heights_of_phrases(rt: HostRuntime) -> Result<(), Fail> {
+    let alloc = rt.alloc();
+    for (first, opens, middle, closes, accepted, lines, refused) in NESTS {
+        let reply = format!(in alloc; "unit a\n1 ok\n{lines}")?;
+        for (times, status, out) in [(accepted, 0, reply.as_str()), (refused, 1, TOO_HIGH)] {
+            let closed = repeated(alloc, middle.as_bytes(), closes.as_bytes(), times, b"")?;
+            let unit = repeated(alloc, first.as_bytes(), opens.as_bytes(), times, &closed)?;
+            answer_to_unit(alloc, unit)?.expect(&rt, status, out, "");
+        }
+    }
     Ok(())
 }
 

@@ -2,6 +2,7 @@
 
 use crate::tests::fakes::{Folder, ask};
 use std::alloc::{AllocError, Global};
+use std::fmt::Write;
 use std::process::Abort;
 use std::test::Fail;
 
@@ -52,5 +53,28 @@ fn faults_of_projects(rt: HostRuntime) -> Result<(), Fail> {
     ] {
         expect(&rt, alloc, project, (2, "", err))?;
     }
+    Ok(())
+}
+
+/// Each unit needs the one before; they are listed from the first, or from the last.
+#[test]
+fn chains_of_units(rt: HostRuntime) -> Result<(), Fail> {
+    let alloc = rt.alloc();
+    let mut project = String::from_str(alloc, "unit u0 a.sml\n")?;
+    let mut reversed = String::new(alloc);
+    let mut out = String::from_str(alloc, "unit u0\n")?;
+    for number in 1..4_096_usize {
+        let before = number.saturating_sub(1);
+        write!(project, "unit u{number} a.sml u{before}\n")?;
+        write!(out, "unit u{number}\n")?;
+        let left = 4_096_usize.saturating_sub(number);
+        let below = left.saturating_sub(1);
+        write!(reversed, "unit u{left} a.sml u{below}\n")?;
+    }
+    reversed.push_str("unit u0 a.sml\n")?;
+    expect(&rt, alloc, &project, (0, &out, ""))?;
+    expect(&rt, alloc, &reversed, (0, &out, ""))?;
+    project.push_str("unit u4096 a.sml u4095\n")?;
+    expect(&rt, alloc, &project, (2, "", "smlcheck: O4 line 4097\n"))?;
     Ok(())
 }

@@ -6,20 +6,20 @@ use sml_reply::sink::VecOut;
 use std::alloc::{AllocError, Global};
 use std::test::Fail;
 
-const UNIT: &[u8] = b"structure S :> sig type t val x : t end = struct type t = int val x = 3 end
-val y = (S.x, 1)
-val z = T.x
-val w = S.y";
+const UNIT: &[u8] =
+    b"structure S :> sig type t val a : t val f : t -> t end = struct type t = int val a = 3 fun f x = x end
+val y = S.f S.a
+val z = S.a + 1";
 
 const REPLIES: &str = "unit a
 1 ok
   structure S
   type S.t = ?1
-  val S.x : ?1
+  val S.a : ?1
+  val S.f : ?1 -> ?1
 2 ok
-  val y : ?1 * int
-3 fault E3 1.9 unbound structure T
-4 fault E1 1.9 unbound value S.y
+  val y : ?1
+3 fault U1 1.9 types clash
 ";
 
 const CANNOT_WRITE: &[u8] = b"smlcheck: cannot write\n";

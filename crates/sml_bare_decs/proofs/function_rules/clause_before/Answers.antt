@@ -1,6 +1,6 @@
 use Rattle.std.proofs.Common.{ap, ◌∙◌, map, reverse}
 use Rattle.std.specs.Option.{option_map}
-use Rattle.sml_derived.specs.Views.{clause_of}
+use Rattle.sml_tree.specs.Clauses.{clause_of}
 use Rattle.sml_phrases.specs.Phrases.{of_clauses}
 use Rattle.sml_phrases.specs.PhraseViews.{seen}
 use Rattle.sml_fixity.specs.Shapes.{shape_of}

@@ -1,8 +1,7 @@
 use Rattle.std.specs.Option.{option_map}
 use Rattle.sml_tree.specs.Heights.{pats_height, rule_height}
 use Rattle.sml_tree.specs.PatternViews.{pat_of}
-use Rattle.sml_derived.specs.Derived.{clause_rule}
-use Rattle.sml_derived.specs.Views.{clause_of}
+use Rattle.sml_tree.specs.Clauses.{clause_rule, clause_of}
 use Rattle.sml_fixity.specs.Shapes.{shape_of}
 use Rattle.sml_bare_decs.specs.FunctionRules.{heading, clause_from}
 use Rattle.sml_bare_decs.specs.FunctionViews.{heading_of, low_pats_of, right_side_of}

@@ -2,7 +2,7 @@ use Rattle.std.proofs.Common.{◌≡◌, ap, ◌∙◌, map, reverse, arith}
 use Rattle.sml_tree.specs.Views.{ident_of}
 use Rattle.sml_tree.specs.Heights.{bind_height}
 use Rattle.sml_derived.specs.Derived.{function_of}
-use Rattle.sml_derived.specs.Views.{clause_of}
+use Rattle.sml_tree.specs.Clauses.{clause_of}
 use Rattle.sml_derived.proofs.Lists.{count_is_length}
 use Rattle.sml_bare_decs.proofs.FunctionHeights.{function_height, bind_fails}
 use Rattle.sml_bare_decs.proofs.function_rules.function.Goals as goal

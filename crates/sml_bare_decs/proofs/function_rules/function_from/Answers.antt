@@ -4,10 +4,9 @@ use Rattle.sml_tree.specs.Heights.{pats_height, rule_height, bind_height}
 use Rattle.sml_tree.specs.TypeViews.{ty_of}
 use Rattle.sml_tree.specs.PatternViews.{pat_of}
 use Rattle.sml_tree.specs.ExpressionViews.{exp_of, bind_of}
-use Rattle.sml_derived.specs.Derived.{Clause, clause_rule}
+use Rattle.sml_tree.specs.Clauses.{Clause, clause_rule, clause_of}
 use Rattle.sml_lex.specs.declared.fault.Place.{Place}
 use Rattle.sml_bare_decs.specs.declared.function_rules.LowClause.{LowClause}
-use Rattle.sml_derived.specs.Views.{clause_of}
 use Rattle.sml_fixity.specs.Shapes.{shape_of}
 use Rattle.sml_bare_decs.specs.FunctionRules.{heading, function_from}
 use Rattle.sml_bare_decs.specs.FunctionViews.{heading_of, low_pats_of, right_side_of}

@@ -1,11 +1,11 @@
 use Rattle.std.proofs.Common.{map, reverse}
 use Rattle.std.specs.Option.{option_map}
 use Rattle.sml_tree.specs.PatternViews.{pat_of}
-use Rattle.sml_derived.specs.Views.{clause_of}
+use Rattle.sml_tree.specs.Clauses.{clause_of}
 use Rattle.sml_phrases.specs.Phrases.{at, pat_in, clauses_in}
 use Rattle.sml_phrases.specs.PhraseViews.{seen}
 use Rattle.sml_fixity.specs.Shapes.{shape_of}
-use Rattle.sml_bare_exps.specs.PatternSequences.{pat_place}
+use Rattle.sml_bare_pats.specs.PatternSequences.{pat_place}
 use Rattle.sml_bare_decs.specs.FunctionRules.{right_side_in, function_from}
 use Rattle.sml_bare_decs.specs.FunctionViews.{right_side_of}
 use Rattle.sml_phrases.proofs.Answers.{on_ok}

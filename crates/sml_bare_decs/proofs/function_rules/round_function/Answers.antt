@@ -2,10 +2,10 @@ use Rattle.std.proofs.Common.{[], map, reverse}
 use Rattle.std.specs.Option.{option_map}
 use Rattle.sml_tree.specs.Expressions.{and_bind}
 use Rattle.sml_tree.specs.ExpressionViews.{bind_of, binds_of}
-use Rattle.sml_derived.specs.Views.{clause_of}
+use Rattle.sml_tree.specs.Clauses.{clause_of}
 use Rattle.sml_phrases.specs.Phrases.{of_functions}
 use Rattle.sml_fixity.specs.Shapes.{shape_of}
-use Rattle.sml_bare_exps.specs.PatternRules.{round_pat}
+use Rattle.sml_bare_pats.specs.PatternRules.{round_pat}
 use Rattle.sml_bare_decs.specs.FunctionRules.{function_from}
 use Rattle.sml_bare_decs.specs.FunctionViews.{low_pats_of, right_side_of}
 use Rattle.sml_bare_decs.proofs.Clauses.{round_function_high, phrase_fails}

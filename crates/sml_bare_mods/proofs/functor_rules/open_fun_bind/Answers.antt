@@ -2,7 +2,7 @@ use Rattle.std.proofs.Common.{◌≡◌, List, Result, ap, ◌∙◌, drop}
 use Rattle.sml_lex.specs.declared.fault.Place.{Place}
 use Rattle.sml_tree.specs.Names.{Name}
 use Rattle.sml_tree.specs.Structures.{StrExp}
-use Rattle.sml_derived.specs.Derived.{Constraint}
+use Rattle.sml_tree.specs.Clauses.{Constraint}
 use Rattle.sml_phrases.specs.Phrases.{Phrase, at, first, constraints_in, name_in, str_in}
 use Rattle.sml_phrases.specs.PhraseViews.{Makes, seen}
 use Rattle.sml_bare_mods.specs.StructureRules.{open_fun_bind}

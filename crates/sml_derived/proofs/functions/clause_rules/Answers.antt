@@ -1,5 +1,5 @@
 use Rattle.sml_tree.specs.ExpressionViews.{rule_of}
-use Rattle.sml_derived.specs.Views.{clause_of}
+use Rattle.sml_tree.specs.Clauses.{clause_of}
 use Rattle.sml_derived.proofs.Lists.{next_clause}
 use Rattle.sml_derived.proofs.functions.clause_rules.Goals as goal
 

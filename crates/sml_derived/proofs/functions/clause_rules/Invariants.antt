@@ -1,7 +1,6 @@
 use Rattle.std.proofs.Common.{◌≡◌, map, ◌∷◌}
 use Rattle.sml_tree.specs.ExpressionViews.{rule_of, rules_of}
-use Rattle.sml_derived.specs.Derived.{clause_rules}
-use Rattle.sml_derived.specs.Views.{clause_of}
+use Rattle.sml_tree.specs.Clauses.{clause_rules, clause_of}
 use Rattle.sml_derived.proofs.functions.clause_rules.Given as goal
 
 abbrev pub invariant-loop-clause : goal.invariant-loop-clause

@@ -1,7 +1,9 @@
 use Rattle.std.proofs.Common.{◌≡◌, ◌++◌, drop}
-use Rattle.sml_patterns.specs.Tasks.{lines, plains, rules_of}
+use Rattle.sml_patterns.specs.Tasks.{lines, near, plains, rules_of}
 use Rattle.sml_patterns.specs.Matrix.{singles}
+use Rattle.sml_patterns.specs.Views.{plain_of}
 use Rattle.sml_patterns.proofs.judge.escapes.Given as goal
 
 abbrev pub invariant-loop-rule : goal.invariant-loop-rule
-invariant-loop-rule l = singles (plains (rules_of l.rules)) ≡ lines l.rows.items ++ singles (plains (rules_of (drop l.rule-index l.rules)))
+invariant-loop-rule l =
+    singles (near (plain_of l.pattern) (plains (rules_of l.rules))) ≡ lines l.rows.items ++ singles (near (plain_of l.pattern) (plains (rules_of (drop l.rule-index l.rules))))

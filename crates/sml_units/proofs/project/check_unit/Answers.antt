@@ -12,8 +12,8 @@ use Rattle.sml_units.specs.Checked.{AreSpelt, AreBegunAndEnded}
 use Rattle.sml_units.proofs.Replying.{if_ok, answered_unit}
 use Rattle.sml_units.proofs.project.check_unit.Goals as goal
 
-pub returns : goal.returns
-returns c = λ none.
+pub returns-clause-replies : goal.returns-clause-replies
+returns-clause-replies c = λ none.
     let u = unit_text_of c.args.unit.now in
     let l = c.in_ok-lexed.lexed in
     let p = c.in_ok-declarations.field-0 in
@@ -26,4 +26,18 @@ returns c = λ none.
     let all : n ≡ length tops = ap length c.deref-2.ensures.value ∙ sym (length-map p.declarations.items top_of) in
     if_ok _ _ c.answer_unit-answer.result
     (λ r h. answered_unit u ds last spelt n all r.0.items (subst (λ xs. AreBegunAndEnded (maker_of c.args.unit.now.id) (map dec_of xs) n last r.0.items) c.deref-3.ensures.value h))
-    (c.answer_unit-answer.ensures none)
+    (c.answer_unit-answer.ensures.replies none)
+
+pub returns-clause-count : goal.returns-clause-count
+returns-clause-count c =
+    let u = unit_text_of c.args.unit.now in
+    let l = c.in_ok-lexed.lexed in
+    let p = c.in_ok-declarations.field-0 in
+    let tops = map top_of p.declarations.items in
+    let ds = map dec_of p.piece.items in
+    let last = option_map fault_of p.fault in
+    let trees = subst (λ bytes. Trees bytes l.tokens.items l.end tops ds last) (c.in_ok-lexed.ensures.0 ∙ c.deref.ensures.value) c.in_ok-declarations.ensures in
+    let spelt : AreSpelt u.text ds last = record { tokens = l.tokens.items; end = l.end; tokens_spelt = subst (λ bytes. Spells bytes l.tokens.items l.end) c.deref.ensures.value c.in_ok-lexed.ensures.1; tops = tops; trees = trees } in
+    if_ok _ _ c.answer_unit-answer.result
+    (λ r h. record { declarations = ds; last = last; spelt = spelt; number = h ∙ ap length c.deref-2.ensures.value ∙ sym (length-map p.declarations.items top_of) })
+    c.answer_unit-answer.ensures.count

@@ -1,7 +1,7 @@
 use Rattle.std.proofs.Common.{map, sym, ◌∙◌}
 use Rattle.sml_tree.specs.Views.{ident_of}
 use Rattle.sml_tree.specs.ExpressionViews.{exp_of}
-use Rattle.sml_derived.specs.Views.{clause_of}
+use Rattle.sml_tree.specs.Clauses.{clause_of}
 use Rattle.sml_derived.proofs.Lists.{whole_function, count_is_length}
 use Rattle.sml_derived.proofs.Views.{bind_of-parts}
 use Rattle.sml_derived.proofs.expander.Expander.function.Goals as goal

@@ -1,0 +1,1 @@
+val Fail = 3

@@ -1,0 +1,2 @@
+val Fail text = Fail "no"
+val failed = 3

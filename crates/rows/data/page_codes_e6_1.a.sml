@@ -1,0 +1,1 @@
+val x = let datatype d = D in D end

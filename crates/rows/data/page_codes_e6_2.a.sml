@@ -1,0 +1,2 @@
+datatype d = D
+val x = let val y = D in y end

@@ -1,0 +1,2 @@
+exception X of int
+type 'a pair = 'a * 'a

@@ -1,0 +1,1 @@
+val rec x = 3

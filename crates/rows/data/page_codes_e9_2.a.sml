@@ -1,0 +1,2 @@
+val x = 3
+val rec y = fn () => 3

@@ -1,0 +1,2 @@
+val x = 2 = 3
+val y = op =

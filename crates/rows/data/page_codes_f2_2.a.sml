@@ -1,0 +1,3 @@
+infixr 6 ++
+fun a ++ b = a * b
+val x = 1 + (2 ++ 3)

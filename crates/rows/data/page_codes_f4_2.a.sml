@@ -1,0 +1,1 @@
+fun head x :: rest = x

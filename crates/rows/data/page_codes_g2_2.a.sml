@@ -1,0 +1,1 @@
+fun f 0 n = n | f m n = m

@@ -1,0 +1,1 @@
+val rec nil = fn x => x

@@ -1,0 +1,1 @@
+val rec none = fn x => x

@@ -1,0 +1,1 @@
+val s = "no end

@@ -1,0 +1,2 @@
+val s = "no end, \
+        \and it goes on"

@@ -1,0 +1,1 @@
+structure S : sig type t end = struct type 'a t = int end

@@ -1,0 +1,1 @@
+structure S : sig eqtype t end = struct type t = int -> int end

@@ -1,0 +1,1 @@
+structure S : sig type t end = struct type t = int -> int end

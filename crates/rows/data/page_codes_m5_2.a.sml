@@ -1,0 +1,1 @@
+structure S : sig datatype d = A | B end = struct datatype d = A | B end

@@ -1,0 +1,1 @@
+structure A : S = struct end

@@ -1,0 +1,1 @@
+structure S :> sig type t type t end = struct type t = int end

@@ -1,0 +1,1 @@
+signature S = sig type t end where type t = bool

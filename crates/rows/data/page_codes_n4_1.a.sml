@@ -1,0 +1,1 @@
+signature H = sig eqtype t end where type t = int -> int

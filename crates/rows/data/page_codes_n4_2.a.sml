@@ -1,0 +1,1 @@
+signature H = sig type t end where type t = int -> int

@@ -1,0 +1,1 @@
+signature S = sig datatype d = C end where type d = int

@@ -1,0 +1,2 @@
+datatype c = C
+signature S = sig datatype d = datatype c end

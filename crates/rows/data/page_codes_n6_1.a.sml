@@ -1,0 +1,1 @@
+signature S = sig type t type 'a u sharing type t = u end

@@ -1,0 +1,1 @@
+signature S = sig datatype a = A type b sharing type a = b end

@@ -1,0 +1,1 @@
+fn true => 1 | false => 0;

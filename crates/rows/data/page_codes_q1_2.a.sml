@@ -1,0 +1,2 @@
+functor F () = struct val x = 1 end
+structure A = F ()

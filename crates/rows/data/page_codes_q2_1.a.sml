@@ -1,0 +1,1 @@
+val r = ref nil

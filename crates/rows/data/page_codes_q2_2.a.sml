@@ -1,0 +1,1 @@
+val r : int list ref = ref nil

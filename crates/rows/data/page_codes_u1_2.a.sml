@@ -1,0 +1,2 @@
+val a = fn n => n + 1
+val b = a 2

@@ -1,0 +1,2 @@
+datatype d = D
+fun f x = let fun g D = () in g x end

@@ -1,0 +1,2 @@
+structure S :> sig type t val a : t end = struct type t = int val a = 1 end
+val b = S.a = S.a

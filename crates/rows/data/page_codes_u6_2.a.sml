@@ -1,0 +1,1 @@
+val g = fn {a, ...} : {a : int, b : int} => a

@@ -1,0 +1,1 @@
+val h = fn (x : int) => x + 1

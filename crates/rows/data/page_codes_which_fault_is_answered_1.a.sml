@@ -1,0 +1,2 @@
+val x = (y : nope, 1 + true)
+val (a, b) = (1, 2, 3)

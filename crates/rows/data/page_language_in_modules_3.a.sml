@@ -1,0 +1,1 @@
+structure S : sig type 'a t = 'a list end = struct type ''a t = ''a list end

@@ -1,0 +1,1 @@
+abstype t = T of int with val zero = T 0 end

@@ -1,0 +1,3 @@
+val a = 1
+val b = )
+val c = 2

@@ -1,0 +1,2 @@
+val n = let val r = ref nil in length (!r) end
+val r = ref nil val s = 1 :: !r

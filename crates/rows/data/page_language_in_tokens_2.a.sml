@@ -1,0 +1,2 @@
+val greatest = 0wxFFFFFFFFFFFFFFFF
+val word = 0wx10000000000000000

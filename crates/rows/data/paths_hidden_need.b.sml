@@ -1,0 +1,1 @@
+structure S = struct val n = 1 end

@@ -1,0 +1,3 @@
+val y = x
+structure R = struct type r = int end
+val z = (y, x)

@@ -1,0 +1,1 @@
+structure T = struct structure U = S end

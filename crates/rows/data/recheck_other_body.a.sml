@@ -1,0 +1,1 @@
+structure S :> sig type t val a : t val f : t -> t end = struct datatype p = P datatype q = Q type t = int * bool val a = (3, true) fun f (x, b) = (x, b) end

@@ -1,0 +1,1 @@
+val pair = (D.d, y)

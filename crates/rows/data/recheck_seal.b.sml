@@ -1,0 +1,1 @@
+val y = S.f S.a

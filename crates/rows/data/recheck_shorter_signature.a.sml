@@ -1,0 +1,1 @@
+structure S :> sig type t val a : t end = struct type t = int val a = 3 end

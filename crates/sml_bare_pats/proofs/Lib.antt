@@ -1,0 +1,3 @@
+mod PatternSequences
+mod TypeChains
+mod PatternLists

@@ -1,0 +1,214 @@
+//! Patterns from their parts, each with its height.
+
+ghost use Rattle.std.specs.Prelude.{◌≡◌, map, IfOk};
+ghost use Rattle.std.specs.Option.{option_map};
+ghost use Rattle.sml_tree.specs.Patterns.{pat_name, pat_as, pat_field, and_pat_field};
+ghost use Rattle.sml_tree.specs.TypeViews.{name_of, long_name_of};
+ghost use Rattle.sml_tree.specs.PatternViews.{pat_of, pats_of};
+ghost use Rattle.sml_derived.specs.Derived.{layered, pat_nil, pat_cons};
+ghost use Rattle.sml_bare_pats.specs.LowViews.{GivesPat, low_ty_of, low_pat_of, low_tys_of, low_pats_of, low_pat_fields_of};
+ghost use Rattle.sml_bare_pats.specs.PatternPhrases.{pat_fields_in, flexible_in, atoms_in, colons_in};
+ghost use Rattle.sml_bare_pats.specs.PatternRules.{round_pat, list_pat, field_pat};
+ghost use Rattle.sml_phrases.specs.PhraseViews.{phrase_of};
+
+use crate::low_lists::pat_trees;
+use sml_derived::expander::Expander;
+use sml_derived::patterns::layered as layered_tree;
+use sml_lex::fault::{Memory, Place};
+use sml_phrases::low::{LowPat, LowPatFields, LowPats, LowTy, LowTys};
+use sml_phrases::phrase::{Failure, PatternPhrase, Phrase, discard};
+use sml_phrases::raise::raised;
+use sml_tree::bare::LongIdent;
+use sml_tree::names::Name;
+use sml_tree::patterns::{Pat, PatField};
+use std::alloc::Global;
+
+/// An identifier as a pattern.
+pub fn pat_name(place: Place, long: LongIdent) -> LowPat
+    ensures { low_pat_of result ≡ pat_name place (long_name_of long) }
+{
+    LowPat {
+        tree: Pat::Identifier(place, long),
+        height: 1,
+    }
+}
+
+fn round_tree(alloc: Global, place: Place, pats: Vec<Pat>) -> Result<Pat, Memory>
+    ensures { IfOk result (λ pat. pat_of pat ≡ round_pat place (pats_of (map pat_of pats.items))) }
+{
+    let mut pats = pats;
+    if pats.len() != 1 {
+        return Ok(Pat::Tuple(place, pats));
+    }
+    match pats.pop() {
+        Some(pat) => Ok(Pat::Bracket(place, Box::new(alloc, pat)?)),
+        None => Ok(Pat::Tuple(place, pats)),
+    }
+}
+
+/// Patterns in round brackets.
+#[tactic(auto, using(crate::proofs::PatternLists::round_pat_height))]
+pub fn round_pat(alloc: Global, place: Place, pats: LowPats) -> Result<LowPat, Failure>
+    ensures { GivesPat (round_pat place (low_pats_of pats)) result }
+{
+    let height = raised(pats.height, 1)?;
+    let tree = round_tree(alloc, place, pat_trees(alloc, pats)?)?;
+    Ok(LowPat { tree, height })
+}
+
+fn cons(expander: &Expander, place: Place, first: LowPat, rest: LowPat) -> Result<LowPat, Failure>
+    ensures { GivesPat (pat_cons place (low_pat_of first) (low_pat_of rest)) result }
+{
+    let height = raised(first.height.max(rest.height), 2)?;
+    let tree = expander.pat_cons(place, first.tree, rest.tree)?;
+    Ok(LowPat { tree, height })
+}
+
+fn nil(expander: &Expander, place: Place) -> Result<LowPat, Memory>
+    ensures { IfOk result (λ pat. low_pat_of pat ≡ pat_nil place) }
+{
+    Ok(LowPat {
+        tree: expander.pat_nil(place)?,
+        height: 1,
+    })
+}
+
+/// A list of patterns.
+pub fn list_pat(expander: &Expander, place: Place, pats: LowPats) -> Result<LowPat, Failure>
+    ensures { GivesPat (list_pat place (low_pats_of pats)) result }
+{
+    let mut pats = pats.trees;
+    pats.reverse();
+    let mut list = nil(expander, place)?;
+    while let Some(pat) = pats.pop() {
+        list = cons(expander, place, pat, list)?;
+    }
+    Ok(list)
+}
+
+/// An identifier, perhaps with a type and a pattern behind `as`.
+pub fn layered(
+    alloc: Global,
+    name: Name,
+    ty: Option<LowTy>,
+    pat: Option<LowPat>,
+) -> Result<LowPat, Failure>
+    ensures { GivesPat (layered (name_of name) (option_map low_ty_of ty) (option_map low_pat_of pat)) result }
+{
+    match (ty, pat) {
+        (None, None) => Ok(LowPat {
+            tree: layered_tree(alloc, name, None, None)?,
+            height: 1,
+        }),
+        (Some(ty), None) => {
+            let height = raised(ty.height.max(1), 1)?;
+            let tree = layered_tree(alloc, name, Some(ty.tree), None)?;
+            Ok(LowPat { tree, height })
+        }
+        (None, Some(pat)) => {
+            let height = raised(pat.height, 1)?;
+            let tree = layered_tree(alloc, name, None, Some(pat.tree))?;
+            Ok(LowPat { tree, height })
+        }
+        (Some(ty), Some(pat)) => {
+            let height = raised(ty.height.max(pat.height), 1)?;
+            let tree = layered_tree(alloc, name, Some(ty.tree), Some(pat.tree))?;
+            Ok(LowPat { tree, height })
+        }
+    }
+}
+
+/// A pattern behind an identifier and `as`, perhaps with a type between them.
+pub fn pat_as(
+    alloc: Global,
+    place: Place,
+    name: Name,
+    ty: Option<LowTy>,
+    pat: LowPat,
+) -> Result<LowPat, Failure>
+    ensures { GivesPat (pat_as place (name_of name) (option_map low_ty_of ty) (low_pat_of pat)) result }
+{
+    match ty {
+        None => {
+            let height = raised(pat.height, 1)?;
+            let tree = Pat::As(place, name, None, Box::new(alloc, pat.tree)?);
+            Ok(LowPat { tree, height })
+        }
+        Some(ty) => {
+            let height = raised(ty.height.max(pat.height), 1)?;
+            let ty = Box::new(alloc, ty.tree)?;
+            let tree = Pat::As(place, name, Some(ty), Box::new(alloc, pat.tree)?);
+            Ok(LowPat { tree, height })
+        }
+    }
+}
+
+/// The pattern of a field, from its identifier and what stands behind it.
+pub fn field_pat(alloc: Global, name: Name, rest: Phrase) -> Result<LowPat, Failure>
+    ensures { GivesPat (field_pat (name_of name) (phrase_of rest)) result }
+{
+    match rest {
+        Phrase::Patterns(PatternPhrase::Pat(pat)) => Ok(pat),
+        Phrase::Patterns(PatternPhrase::Layer(ty, pat)) => layered(alloc, name, ty, pat),
+        other => {
+            discard(other);
+            layered(alloc, name, None, None)
+        }
+    }
+}
+
+/// Atomic patterns, and the types behind the colons that follow them.
+pub fn atoms_in(alloc: Global, phrase: Phrase) -> (LowPats, LowTys)
+    ensures atoms { low_pats_of result.0 ≡ atoms_in (phrase_of phrase) }
+    ensures types { low_tys_of result.1 ≡ colons_in (phrase_of phrase) }
+{
+    match phrase {
+        Phrase::Patterns(PatternPhrase::Atoms(atoms, types)) => (atoms, types),
+        other => {
+            discard(other);
+            (
+                LowPats {
+                    trees: Vec::new(alloc),
+                    height: 0,
+                },
+                LowTys {
+                    trees: Vec::new(alloc),
+                    height: 0,
+                },
+            )
+        }
+    }
+}
+
+/// The fields of a record pattern, and whether `...` stands behind them.
+pub fn fields_in(alloc: Global, phrase: Phrase) -> (LowPatFields, bool)
+    ensures fields { low_pat_fields_of result.0 ≡ pat_fields_in (phrase_of phrase) }
+    ensures flexible { result.1 ≡ flexible_in (phrase_of phrase) }
+{
+    match phrase {
+        Phrase::Patterns(PatternPhrase::PatFields(fields, flexible)) => (fields, flexible),
+        other => {
+            discard(other);
+            (
+                LowPatFields {
+                    trees: Vec::new(alloc),
+                    height: 0,
+                },
+                false,
+            )
+        }
+    }
+}
+
+/// A field before others.
+pub fn and_field(label: Name, pat: LowPat, fields: LowPatFields) -> Result<LowPatFields, Memory>
+    ensures { IfOk result (λ all. low_pat_fields_of all ≡ and_pat_field (pat_field (name_of label) (low_pat_of pat)) (low_pat_fields_of fields)) }
+{
+    let height = pat.height.max(fields.height);
+    let mut trees = fields.trees;
+    trees.push(PatField {
+        label,
+        pat: pat.tree,
+    })?;
+    Ok(LowPatFields { trees, height })
+}

@@ -1,0 +1,600 @@
+//! What the rules of patterns make of their parts.
+
+ghost use Rattle.std.specs.Prelude.{◌≡◌, drop, length, true, false, OnOk, IfOk, Some, None};
+ghost use Rattle.std.specs.Option.{option_map};
+ghost use Rattle.sml_read.specs.Grammar.{right_side};
+ghost use Rattle.sml_read.specs.declared.grammar.Rule.TheVariants.{Patterns};
+ghost use Rattle.sml_tree.specs.Patterns.{wildcard, pat_constant, pat_name, pat_row, no_pat, and_pat, no_pat_field};
+ghost use Rattle.sml_tree.specs.Types.{no_ty, and_ty};
+ghost use Rattle.sml_tree.specs.TypeViews.{name_of};
+ghost use Rattle.sml_derived.specs.Derived.{long};
+ghost use Rattle.sml_bare_pats.specs.LowViews.{GivesPat, low_ty_of, low_pat_of, low_pats_of};
+ghost use Rattle.sml_bare_pats.specs.PatternPhrases.{pat_fields_in, flexible_in, atoms_in, colons_in};
+ghost use Rattle.sml_bare_pats.specs.PatternRules.{round_pat, list_pat, sequence_from, from_vid, op_from_vid, behind_op, behind_colon, and_atom, field_pat, and_field, pattern_phrase};
+ghost use Rattle.sml_bare_pats.specs.PatternSequences.{round_sequence};
+ghost use Rattle.sml_phrases.specs.Phrases.{nothing, of_tys, of_pat, of_pats, of_pat_fields, of_atoms, of_layer, of_op_atoms, at, name_in, long_in, constant_in, ty_in, tys_in, pat_in, pats_in, ty_if_any, pat_if_any};
+ghost use Rattle.sml_phrases.specs.PhraseViews.{Makes, phrase_of, seen};
+ghost use Rattle.sml_fixity.specs.Shapes.{shape_of};
+
+use crate::low_lists::{and_pat, and_ty};
+use crate::pattern_parts::{
+    and_field, atoms_in, field_pat, fields_in, layered, list_pat, pat_as, pat_name, round_pat,
+};
+use crate::pattern_sequences::{no_operand, round_sequence, sequence};
+use sml_derived::expander::{Expander, copy_of, long};
+use sml_fixity::shape::Shape;
+use sml_lex::fault::{Memory, Place};
+use sml_phrases::low::{LowPat, LowPatFields, LowPats, LowTy, LowTys};
+use sml_phrases::phrase::{Failure, PatternPhrase, Phrase, TypePhrase, discard};
+use sml_phrases::raise::raised;
+use sml_phrases::stack::Stack;
+use sml_read::grammar::PatternRule;
+use sml_tree::names::Name;
+use sml_tree::patterns::Pat;
+use std::alloc::Global;
+
+/// A sequence, from its first pattern and what stands behind that.
+fn sequence_from(
+    expander: &Expander,
+    shape: Option<&Shape>,
+    first: LowPat,
+    rest: Phrase,
+) -> Result<LowPat, Failure>
+    ensures { GivesPat (sequence_from (option_map (λ s. shape_of s.now) shape.entry) (low_pat_of first) (phrase_of rest)) result }
+{
+    let (atoms, types) = atoms_in(expander.alloc, rest);
+    let atoms = and_pat(first, atoms)?;
+    sequence(expander, shape, atoms, types)
+}
+
+/// What stands between round brackets, and what stands behind them.
+fn round_and_rest(stack: &mut Stack) -> (LowPats, Phrase)
+    ensures pats { low_pats_of result.0 ≡ pats_in (at (seen stack.old) 1) }
+    ensures phrase { phrase_of result.1 ≡ at (seen stack.old) 2 }
+    ensures rest { seen stack.new ≡ drop 3 (seen stack.old) }
+{
+    stack.skip();
+    let pats = stack.pats();
+    let rest = stack.pop();
+    (pats, rest)
+}
+
+fn from_round_parts(
+    expander: &Expander,
+    shape: Option<&Shape>,
+    place: Place,
+    pats: LowPats,
+    rest: Phrase,
+) -> Result<Phrase, Failure>
+    ensures { Makes (of_pat (round_sequence (option_map (λ s. shape_of s.now) shape.entry) (round_pat place (low_pats_of pats)) (atoms_in (phrase_of rest)) (colons_in (phrase_of rest)))) result }
+{
+    let (atoms, types) = atoms_in(expander.alloc, rest);
+    Ok(Phrase::Patterns(PatternPhrase::Pat(round_sequence(
+        expander, shape, place, pats, atoms, types,
+    )?)))
+}
+
+/// A pattern that begins with a round bracket.
+fn from_round(
+    stack: &mut Stack,
+    place: Place,
+    shape: Option<&Shape>,
+    expander: &Expander,
+) -> Result<Phrase, Failure>
+    ensures made { let vs = seen stack.old in Makes (of_pat (round_sequence (option_map (λ s. shape_of s.now) shape.entry) (round_pat place (pats_in (at vs 1))) (atoms_in (at vs 2)) (colons_in (at vs 2)))) result }
+    ensures rest { OnOk result (seen stack.new ≡ drop 3 (seen stack.old)) }
+{
+    let (pats, rest) = round_and_rest(stack);
+    from_round_parts(expander, shape, place, pats, rest)
+}
+
+/// A pattern that begins with an identifier.
+fn from_vid(
+    expander: &Expander,
+    shape: Option<&Shape>,
+    place: Place,
+    name: Name,
+    rest: Phrase,
+) -> Result<LowPat, Failure>
+    ensures { GivesPat (from_vid (option_map (λ s. shape_of s.now) shape.entry) place (name_of name) (phrase_of rest)) result }
+{
+    match rest {
+        Phrase::Patterns(PatternPhrase::Layer(ty, pat)) => layered(expander.alloc, name, ty, pat),
+        other => {
+            let first = pat_name(place, long(expander.alloc, name));
+            sequence_from(expander, shape, first, other)
+        }
+    }
+}
+
+fn vid(
+    stack: &mut Stack,
+    place: Place,
+    shape: Option<&Shape>,
+    expander: &Expander,
+) -> Result<Phrase, Failure>
+    ensures made { let vs = seen stack.old in Makes (of_pat (from_vid (option_map (λ s. shape_of s.now) shape.entry) place (name_in (at vs 0)) (at vs 1))) result }
+    ensures rest { OnOk result (seen stack.new ≡ drop 2 (seen stack.old)) }
+{
+    let name = stack.name()?;
+    let rest = stack.pop();
+    Ok(Phrase::Patterns(PatternPhrase::Pat(from_vid(expander, shape, place, name, rest)?)))
+}
+
+/// A pattern that begins with `op`, from what stands behind it.
+fn behind_op(
+    expander: &Expander,
+    shape: Option<&Shape>,
+    place: Place,
+    rest: Phrase,
+) -> Result<LowPat, Failure>
+    ensures { GivesPat (behind_op (option_map (λ s. shape_of s.now) shape.entry) place (phrase_of rest)) result }
+{
+    match rest {
+        Phrase::Patterns(PatternPhrase::OpLayer(name, ty, pat)) => match pat {
+            Some(pat) => pat_as(expander.alloc, place, name, ty, pat),
+            None => Ok(no_operand(expander.alloc)),
+        },
+        Phrase::Patterns(PatternPhrase::OpAtoms(long, atoms, types)) => {
+            let atoms = and_pat(pat_name(place, long), atoms)?;
+            sequence(expander, shape, atoms, types)
+        }
+        other => {
+            discard(other);
+            Ok(no_operand(expander.alloc))
+        }
+    }
+}
+
+fn op(
+    stack: &mut Stack,
+    place: Place,
+    shape: Option<&Shape>,
+    expander: &Expander,
+) -> Result<Phrase, Failure>
+    ensures made { Makes (of_pat (behind_op (option_map (λ s. shape_of s.now) shape.entry) place (at (seen stack.old) 1))) result }
+    ensures rest { OnOk result (seen stack.new ≡ drop 2 (seen stack.old)) }
+{
+    stack.skip();
+    let rest = stack.pop();
+    Ok(Phrase::Patterns(PatternPhrase::Pat(behind_op(expander, shape, place, rest)?)))
+}
+
+/// A pattern that begins with another atomic pattern.
+fn from_other(
+    stack: &mut Stack,
+    shape: Option<&Shape>,
+    expander: &Expander,
+) -> Result<Phrase, Failure>
+    ensures made { let vs = seen stack.old in Makes (of_pat (sequence_from (option_map (λ s. shape_of s.now) shape.entry) (pat_in (at vs 0)) (at vs 1))) result }
+    ensures rest { OnOk result (seen stack.new ≡ drop 2 (seen stack.old)) }
+{
+    let first = stack.pat();
+    let rest = stack.pop();
+    Ok(Phrase::Patterns(PatternPhrase::Pat(sequence_from(expander, shape, first, rest)?)))
+}
+
+fn op_from_vid(alloc: Global, name: Name, rest: Phrase) -> Phrase
+    ensures { phrase_of result ≡ op_from_vid (name_of name) (phrase_of rest) }
+{
+    match rest {
+        Phrase::Patterns(PatternPhrase::Layer(ty, pat)) => Phrase::Patterns(PatternPhrase::OpLayer(
+            name, ty, pat,
+        )),
+        other => {
+            let (atoms, types) = atoms_in(alloc, other);
+            Phrase::Patterns(PatternPhrase::OpAtoms(long(alloc, name), atoms, types))
+        }
+    }
+}
+
+/// An identifier, and what stands behind it.
+fn name_and_rest(stack: &mut Stack) -> Result<(Name, Phrase), Memory>
+    ensures name { IfOk result (λ r. name_of r.0 ≡ name_in (at (seen stack.old) 0)) }
+    ensures phrase { IfOk result (λ r. phrase_of r.1 ≡ at (seen stack.old) 1) }
+    ensures rest { OnOk result (seen stack.new ≡ drop 2 (seen stack.old)) }
+{
+    let name = stack.name()?;
+    let rest = stack.pop();
+    Ok((name, rest))
+}
+
+/// An identifier behind `op`, and what stands behind it.
+fn op_vid(stack: &mut Stack) -> Result<Phrase, Failure>
+    ensures made { let vs = seen stack.old in Makes (op_from_vid (name_in (at vs 0)) (at vs 1)) result }
+    ensures rest { OnOk result (seen stack.new ≡ drop 2 (seen stack.old)) }
+{
+    let (name, rest) = name_and_rest(stack)?;
+    Ok(op_from_vid(stack.alloc, name, rest))
+}
+
+/// An identifier with a path behind `op`, and what stands behind it.
+fn op_qualified(stack: &mut Stack) -> Result<Phrase, Failure>
+    ensures made { let vs = seen stack.old in Makes (of_op_atoms (long_in (at vs 0)) (atoms_in (at vs 1)) (colons_in (at vs 1))) result }
+    ensures rest { OnOk result (seen stack.new ≡ drop 2 (seen stack.old)) }
+{
+    let long = stack.long()?;
+    let rest = stack.pop();
+    let (atoms, types) = atoms_in(stack.alloc, rest);
+    Ok(Phrase::Patterns(PatternPhrase::OpAtoms(long, atoms, types)))
+}
+
+fn no_atoms(alloc: Global) -> Phrase
+    ensures { phrase_of result ≡ of_atoms no_pat no_ty }
+{
+    let atoms = LowPats {
+        trees: Vec::new(alloc),
+        height: 0,
+    };
+    let types = LowTys {
+        trees: Vec::new(alloc),
+        height: 0,
+    };
+    Phrase::Patterns(PatternPhrase::Atoms(atoms, types))
+}
+
+/// A pattern behind `as`.
+fn behind_as(stack: &mut Stack) -> Phrase
+    ensures made { phrase_of result ≡ of_layer None (Some (pat_in (at (seen stack.old) 1))) }
+    ensures rest { seen stack.new ≡ drop 2 (seen stack.old) }
+{
+    stack.skip();
+    let pat = stack.pat();
+    Phrase::Patterns(PatternPhrase::Layer(None, Some(pat)))
+}
+
+fn behind_colon(alloc: Global, ty: LowTy, rest: Phrase) -> Result<Phrase, Failure>
+    ensures { Makes (behind_colon (low_ty_of ty) (phrase_of rest)) result }
+{
+    match rest {
+        Phrase::Patterns(PatternPhrase::Layer(_, pat)) => Ok(Phrase::Patterns(PatternPhrase::Layer(
+            Some(ty),
+            pat,
+        ))),
+        Phrase::Types(TypePhrase::Tys(types)) => {
+            let atoms = LowPats {
+                trees: Vec::new(alloc),
+                height: 0,
+            };
+            Ok(Phrase::Patterns(PatternPhrase::Atoms(atoms, and_ty(ty, types)?)))
+        }
+        other => {
+            discard(other);
+            let atoms = LowPats {
+                trees: Vec::new(alloc),
+                height: 0,
+            };
+            let types = LowTys {
+                trees: Vec::new(alloc),
+                height: 0,
+            };
+            Ok(Phrase::Patterns(PatternPhrase::Atoms(atoms, and_ty(ty, types)?)))
+        }
+    }
+}
+
+/// A type behind a colon, and what stands behind it.
+fn ty_and_rest(stack: &mut Stack) -> (LowTy, Phrase)
+    ensures ty { low_ty_of result.0 ≡ ty_in (at (seen stack.old) 1) }
+    ensures phrase { phrase_of result.1 ≡ at (seen stack.old) 2 }
+    ensures rest { seen stack.new ≡ drop 3 (seen stack.old) }
+{
+    stack.skip();
+    let ty = stack.ty();
+    let rest = stack.pop();
+    (ty, rest)
+}
+
+/// What stands behind an identifier that a colon follows.
+fn vid_colon(stack: &mut Stack) -> Result<Phrase, Failure>
+    ensures made { let vs = seen stack.old in Makes (behind_colon (ty_in (at vs 1)) (at vs 2)) result }
+    ensures rest { OnOk result (seen stack.new ≡ drop 3 (seen stack.old)) }
+{
+    let (ty, rest) = ty_and_rest(stack);
+    behind_colon(stack.alloc, ty, rest)
+}
+
+/// One atomic pattern more.
+fn more_atoms(stack: &mut Stack) -> Result<Phrase, Failure>
+    ensures made { let vs = seen stack.old in Makes (and_atom (pat_in (at vs 0)) (at vs 1)) result }
+    ensures rest { OnOk result (seen stack.new ≡ drop 2 (seen stack.old)) }
+{
+    let pat = stack.pat();
+    let rest = stack.pop();
+    let (atoms, types) = atoms_in(stack.alloc, rest);
+    Ok(Phrase::Patterns(PatternPhrase::Atoms(and_pat(pat, atoms)?, types)))
+}
+
+/// The types behind colons.
+fn colons(stack: &mut Stack) -> Result<Phrase, Failure>
+    ensures made { let vs = seen stack.old in Makes (of_tys (and_ty (ty_in (at vs 1)) (tys_in (at vs 2)))) result }
+    ensures rest { OnOk result (seen stack.new ≡ drop 3 (seen stack.old)) }
+{
+    stack.skip();
+    let ty = stack.ty();
+    let types = stack.tys();
+    Ok(Phrase::Types(TypePhrase::Tys(and_ty(ty, types)?)))
+}
+
+/// The types behind the colons that follow atomic patterns.
+fn atom_colons(stack: &mut Stack) -> Result<Phrase, Failure>
+    ensures made { let vs = seen stack.old in Makes (of_atoms no_pat (and_ty (ty_in (at vs 1)) (tys_in (at vs 2)))) result }
+    ensures rest { OnOk result (seen stack.new ≡ drop 3 (seen stack.old)) }
+{
+    stack.skip();
+    let ty = stack.ty();
+    let types = stack.tys();
+    let atoms = LowPats {
+        trees: Vec::new(stack.alloc),
+        height: 0,
+    };
+    Ok(Phrase::Patterns(PatternPhrase::Atoms(atoms, and_ty(ty, types)?)))
+}
+
+/// An atomic pattern in round brackets.
+fn round(stack: &mut Stack, place: Place) -> Result<Phrase, Failure>
+    ensures made { Makes (of_pat (round_pat place (pats_in (at (seen stack.old) 1)))) result }
+    ensures rest { OnOk result (seen stack.new ≡ drop 2 (seen stack.old)) }
+{
+    stack.skip();
+    let pats = stack.pats();
+    Ok(Phrase::Patterns(PatternPhrase::Pat(round_pat(stack.alloc, place, pats)?)))
+}
+
+fn name(stack: &mut Stack, place: Place) -> Result<Phrase, Failure>
+    ensures made { Makes (of_pat (pat_name place (long (name_in (at (seen stack.old) 0))))) result }
+    ensures rest { OnOk result (seen stack.new ≡ drop 1 (seen stack.old)) }
+{
+    let name = stack.name()?;
+    Ok(Phrase::Patterns(PatternPhrase::Pat(pat_name(place, long(stack.alloc, name)))))
+}
+
+fn qualified(stack: &mut Stack, place: Place) -> Result<Phrase, Failure>
+    ensures made { Makes (of_pat (pat_name place (long_in (at (seen stack.old) 0)))) result }
+    ensures rest { OnOk result (seen stack.new ≡ drop 1 (seen stack.old)) }
+{
+    let long = stack.long()?;
+    Ok(Phrase::Patterns(PatternPhrase::Pat(pat_name(place, long))))
+}
+
+fn op_name(stack: &mut Stack, place: Place) -> Result<Phrase, Failure>
+    ensures made { Makes (of_pat (pat_name place (long_in (at (seen stack.old) 1)))) result }
+    ensures rest { OnOk result (seen stack.new ≡ drop 2 (seen stack.old)) }
+{
+    stack.skip();
+    qualified(stack, place)
+}
+
+fn wildcard(stack: &mut Stack, place: Place) -> Phrase
+    ensures made { phrase_of result ≡ of_pat (wildcard place) }
+    ensures rest { seen stack.new ≡ drop 1 (seen stack.old) }
+{
+    stack.skip();
+    Phrase::Patterns(PatternPhrase::Pat(LowPat {
+        tree: Pat::Wildcard(place),
+        height: 1,
+    }))
+}
+
+fn constant(stack: &mut Stack, place: Place) -> Result<Phrase, Failure>
+    ensures made { Makes (of_pat (pat_constant place (constant_in (at (seen stack.old) 0)))) result }
+    ensures rest { OnOk result (seen stack.new ≡ drop 1 (seen stack.old)) }
+{
+    let tree = Pat::Constant(place, stack.constant()?);
+    Ok(Phrase::Patterns(PatternPhrase::Pat(LowPat { tree, height: 1 })))
+}
+
+/// A record pattern.
+fn row(stack: &mut Stack, place: Place) -> Result<Phrase, Failure>
+    ensures made { let vs = seen stack.old in Makes (of_pat (pat_row place (pat_fields_in (at vs 1)) (flexible_in (at vs 1)))) result }
+    ensures rest { OnOk result (seen stack.new ≡ drop 2 (seen stack.old)) }
+{
+    stack.skip();
+    let (fields, flexible) = fields_in(stack.alloc, stack.pop());
+    let height = raised(fields.height, 1)?;
+    let mut trees = fields.trees;
+    trees.reverse();
+    let tree = Pat::Row(place, trees, flexible);
+    Ok(Phrase::Patterns(PatternPhrase::Pat(LowPat { tree, height })))
+}
+
+/// A list of patterns.
+fn list(stack: &mut Stack, place: Place, expander: &Expander) -> Result<Phrase, Failure>
+    ensures made { Makes (of_pat (list_pat place (pats_in (at (seen stack.old) 1)))) result }
+    ensures rest { OnOk result (seen stack.new ≡ drop 2 (seen stack.old)) }
+{
+    stack.skip();
+    let pats = stack.pats();
+    Ok(Phrase::Patterns(PatternPhrase::Pat(list_pat(expander, place, pats)?)))
+}
+
+/// No patterns before a closing bracket.
+fn no_pats(stack: &mut Stack) -> Phrase
+    ensures made { phrase_of result ≡ of_pats no_pat }
+    ensures rest { seen stack.new ≡ drop 1 (seen stack.old) }
+{
+    stack.skip();
+    Phrase::Patterns(PatternPhrase::Pats(LowPats {
+        trees: Vec::new(stack.alloc),
+        height: 0,
+    }))
+}
+
+/// One pattern more in brackets.
+fn pats(stack: &mut Stack) -> Result<Phrase, Failure>
+    ensures made { let vs = seen stack.old in Makes (of_pats (and_pat (pat_in (at vs 0)) (pats_in (at vs 1)))) result }
+    ensures rest { OnOk result (seen stack.new ≡ drop 2 (seen stack.old)) }
+{
+    let pat = stack.pat();
+    let pats = stack.pats();
+    Ok(Phrase::Patterns(PatternPhrase::Pats(and_pat(pat, pats)?)))
+}
+
+/// The same behind a comma.
+fn more_pats(stack: &mut Stack) -> Result<Phrase, Failure>
+    ensures made { let vs = seen stack.old in Makes (of_pats (and_pat (pat_in (at vs 1)) (pats_in (at vs 2)))) result }
+    ensures rest { OnOk result (seen stack.new ≡ drop 3 (seen stack.old)) }
+{
+    stack.skip();
+    pats(stack)
+}
+
+fn no_fields(alloc: Global, flexible: bool) -> Phrase
+    ensures { phrase_of result ≡ of_pat_fields no_pat_field flexible }
+{
+    let fields = LowPatFields {
+        trees: Vec::new(alloc),
+        height: 0,
+    };
+    Phrase::Patterns(PatternPhrase::PatFields(fields, flexible))
+}
+
+/// No fields before a closing bracket, or `...`.
+fn end_of_fields(stack: &mut Stack, flexible: bool) -> Phrase
+    ensures made { phrase_of result ≡ of_pat_fields no_pat_field flexible }
+    ensures rest { seen stack.new ≡ drop 1 (seen stack.old) }
+{
+    stack.skip();
+    no_fields(stack.alloc, flexible)
+}
+
+/// The first of two parts.
+fn first_of_two(stack: &mut Stack) -> Phrase
+    ensures made { phrase_of result ≡ at (seen stack.old) 0 }
+    ensures rest { seen stack.new ≡ drop 2 (seen stack.old) }
+{
+    let first = stack.pop();
+    stack.skip();
+    first
+}
+
+/// The second of two parts.
+fn second_of_two(stack: &mut Stack) -> Phrase
+    ensures made { phrase_of result ≡ at (seen stack.old) 1 }
+    ensures rest { seen stack.new ≡ drop 2 (seen stack.old) }
+{
+    stack.skip();
+    stack.pop()
+}
+
+/// A field before those of a phrase.
+fn with_field(alloc: Global, label: Name, pat: LowPat, rest: Phrase) -> Result<Phrase, Memory>
+    ensures { IfOk result (λ v. phrase_of v ≡ and_field (name_of label) (low_pat_of pat) (phrase_of rest)) }
+{
+    let (fields, flexible) = fields_in(alloc, rest);
+    Ok(Phrase::Patterns(PatternPhrase::PatFields(and_field(label, pat, fields)?, flexible)))
+}
+
+/// A field with a numeral as its label.
+fn numeral_field(stack: &mut Stack) -> Result<Phrase, Failure>
+    ensures made { let vs = seen stack.old in Makes (and_field (name_in (at vs 0)) (pat_in (at vs 2)) (at vs 3)) result }
+    ensures rest { OnOk result (seen stack.new ≡ drop 4 (seen stack.old)) }
+{
+    let label = stack.name()?;
+    stack.skip();
+    let pat = stack.pat();
+    let rest = stack.pop();
+    Ok(with_field(stack.alloc, label, pat, rest)?)
+}
+
+/// A field with an identifier as its label.
+fn vid_field(stack: &mut Stack) -> Result<Phrase, Failure>
+    ensures made { let vs = seen stack.old in Makes (and_field (name_in (at vs 0)) (field_pat (name_in (at vs 0)) (at vs 1)) (at vs 2)) result }
+    ensures rest { OnOk result (seen stack.new ≡ drop 3 (seen stack.old)) }
+{
+    let name = stack.name()?;
+    let rest = stack.pop();
+    let (fields, flexible) = fields_in(stack.alloc, stack.pop());
+    let label = copy_of(&name)?;
+    let pat = field_pat(stack.alloc, name, rest)?;
+    Ok(Phrase::Patterns(PatternPhrase::PatFields(and_field(label, pat, fields)?, flexible)))
+}
+
+/// A pattern behind a word.
+fn behind_word(stack: &mut Stack) -> Phrase
+    ensures made { phrase_of result ≡ of_pat (pat_in (at (seen stack.old) 1)) }
+    ensures rest { seen stack.new ≡ drop 2 (seen stack.old) }
+{
+    stack.skip();
+    Phrase::Patterns(PatternPhrase::Pat(stack.pat()))
+}
+
+/// Perhaps a type, and perhaps a pattern behind `as`.
+fn layer(stack: &mut Stack) -> Phrase
+    ensures made { let vs = seen stack.old in phrase_of result ≡ of_layer (ty_if_any (at vs 0)) (pat_if_any (at vs 1)) }
+    ensures rest { seen stack.new ≡ drop 2 (seen stack.old) }
+{
+    let ty = stack.ty_if_any();
+    let pat = stack.pat_if_any();
+    Phrase::Patterns(PatternPhrase::Layer(ty, pat))
+}
+
+fn no_types(alloc: Global) -> Phrase
+    ensures { phrase_of result ≡ of_tys no_ty }
+{
+    Phrase::Types(TypePhrase::Tys(LowTys {
+        trees: Vec::new(alloc),
+        height: 0,
+    }))
+}
+
+/// What a rule of patterns makes of its parts, which are on top of the stack.
+pub fn pattern_phrase(
+    rule: PatternRule,
+    place: Place,
+    shape: Option<&Shape>,
+    expander: &Expander,
+    stack: &mut Stack,
+) -> Result<Phrase, Failure>
+    ensures made { Makes (pattern_phrase rule place (option_map (λ s. shape_of s.now) shape.entry) (seen stack.old)) result }
+    ensures rest { OnOk result (seen stack.new ≡ drop (length (right_side (Patterns rule))) (seen stack.old)) }
+{
+    match rule {
+        PatternRule::PatOpenRound => from_round(stack, place, shape, expander),
+        PatternRule::PatBarePat => Ok(stack.pop()),
+        PatternRule::BarePatVid => vid(stack, place, shape, expander),
+        PatternRule::BarePatOp => op(stack, place, shape, expander),
+        PatternRule::BarePatOtherAtPat => from_other(stack, shape, expander),
+        PatternRule::OpPatVid => op_vid(stack),
+        PatternRule::OpPatQualified => op_qualified(stack),
+        PatternRule::AfterVidNone => Ok(no_atoms(expander.alloc)),
+        PatternRule::AfterVidAs => Ok(behind_as(stack)),
+        PatternRule::AfterVidColon => vid_colon(stack),
+        PatternRule::AfterVidAtPat => more_atoms(stack),
+        PatternRule::AfterVidTyNone => Ok(no_types(expander.alloc)),
+        PatternRule::AfterVidTyAs => Ok(behind_as(stack)),
+        PatternRule::AfterVidTyColon => colons(stack),
+        PatternRule::AtPatMoreNone => Ok(no_atoms(expander.alloc)),
+        PatternRule::AtPatMoreAtPat => more_atoms(stack),
+        PatternRule::AtPatMoreColon => atom_colons(stack),
+        PatternRule::AtPatOpenRound => round(stack, place),
+        PatternRule::AtPatBareAtPat => Ok(stack.pop()),
+        PatternRule::BareAtPatVid => name(stack, place),
+        PatternRule::BareAtPatOp => op_name(stack, place),
+        PatternRule::BareAtPatOtherAtPat => Ok(stack.pop()),
+        PatternRule::OtherAtPatWildcard => Ok(wildcard(stack, place)),
+        PatternRule::OtherAtPatConstant => constant(stack, place),
+        PatternRule::OtherAtPatQualified => qualified(stack, place),
+        PatternRule::OtherAtPatOpenCurly => row(stack, place),
+        PatternRule::OtherAtPatOpenSquare => list(stack, place, expander),
+        PatternRule::PatRoundCloseRound => Ok(no_pats(stack)),
+        PatternRule::PatRoundPat => pats(stack),
+        PatternRule::PatRoundMoreCloseRound => Ok(no_pats(stack)),
+        PatternRule::PatRoundMoreComma => more_pats(stack),
+        PatternRule::PatListCloseSquare => Ok(no_pats(stack)),
+        PatternRule::PatListPat => pats(stack),
+        PatternRule::PatListMoreCloseSquare => Ok(no_pats(stack)),
+        PatternRule::PatListMoreComma => more_pats(stack),
+        PatternRule::PatRowCloseCurly => Ok(end_of_fields(stack, false)),
+        PatternRule::PatRowRow => Ok(first_of_two(stack)),
+        PatternRule::RowDots => Ok(end_of_fields(stack, true)),
+        PatternRule::RowNumeral => numeral_field(stack),
+        PatternRule::RowVid => vid_field(stack),
+        PatternRule::RowRestEquals => Ok(behind_word(stack)),
+        PatternRule::RowRestTyped => Ok(layer(stack)),
+        PatternRule::RowAsNone => Ok(Phrase::Nothing),
+        PatternRule::RowAsAs => Ok(behind_word(stack)),
+        PatternRule::RowMoreNone => Ok(no_fields(expander.alloc, false)),
+        PatternRule::RowMoreComma => Ok(second_of_two(stack)),
+    }
+}

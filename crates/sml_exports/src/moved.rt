@@ -1,0 +1,114 @@
+//! Exports with the units of names at their places in another project file.
+
+use crate::exports::Exports;
+use crate::moves::Moves;
+use sml_envs::mapping::{mapped_env, mapped_function, mapped_scheme};
+use sml_envs::objects::{Basis as WholeBasis, Env as WholeEnv, FunSig, Sig};
+use sml_lex::fault::Memory;
+use sml_objects::objects::{Env, TyName, UnitId};
+use sml_reply::layer::Layer;
+use sml_tree::bare::Ident;
+use std::alloc::Global;
+use std::collections::BTreeMap;
+use std::rc::Rc;
+
+/// The exports of a unit that stands at this place.
+pub fn moved(
+    alloc: Global,
+    exports: &Exports,
+    unit: UnitId,
+    moves: &Moves,
+) -> Result<Exports, Memory> {
+    let whole = moved_basis(alloc, &exports.whole, unit, moves)?;
+    let mut paths = Layer::new(alloc);
+    paths.bind(alloc, &whole.env)?;
+    let specified = match &exports.specified {
+        Some(env) => Some(Rc::new(alloc, moved_env(alloc, env, moves)?)?),
+        None => None,
+    };
+    Ok(Exports {
+        whole: Rc::new(alloc, whole)?,
+        paths: Rc::new(alloc, paths)?,
+        specified,
+    })
+}
+
+fn moved_basis(
+    alloc: Global,
+    basis: &WholeBasis,
+    unit: UnitId,
+    moves: &Moves,
+) -> Result<WholeBasis, Memory> {
+    let mut own = WholeBasis::new(alloc, unit);
+    own.count = basis.count;
+    own.env = moved_whole_env(alloc, &basis.env, moves)?;
+    for (name, signature) in &basis.signatures {
+        let signature = moved_sig(alloc, signature, moves)?;
+        own.signatures
+            .insert(name.clone()?, Rc::new(alloc, signature)?)?;
+    }
+    for (name, functor) in &basis.functors {
+        let functor = FunSig {
+            argument: moved_sig(alloc, &functor.argument, moves)?,
+            result: moved_sig(alloc, &functor.result, moves)?,
+        };
+        own.functors
+            .insert(name.clone()?, Rc::new(alloc, functor)?)?;
+    }
+    Ok(own)
+}
+
+fn moved_whole_env(alloc: Global, env: &WholeEnv, moves: &Moves) -> Result<WholeEnv, Memory> {
+    let mut copy = WholeEnv::new(alloc);
+    copy.add(env)?;
+    let copy = Rc::new(alloc, copy)?;
+    let moved = mapped_env(alloc, &copy, moves)?;
+    let mut own = WholeEnv::new(alloc);
+    own.add(&moved)?;
+    Ok(own)
+}
+
+fn moved_sig(alloc: Global, sig: &Sig, moves: &Moves) -> Result<Sig, Memory> {
+    Ok(Sig {
+        names: moved_names(alloc, &sig.names, moves)?,
+        env: mapped_env(alloc, &sig.env, moves)?,
+    })
+}
+
+fn moved_names(alloc: Global, names: &[TyName], moves: &Moves) -> Result<Vec<TyName>, Memory> {
+    let mut copies = Vec::new(alloc);
+    for name in names {
+        copies.push(moves.moved(*name))?;
+    }
+    Ok(copies)
+}
+
+/// An environment of the piece.
+#[cycle(moved)]
+fn moved_env(alloc: Global, env: &Env, moves: &Moves) -> Result<Env, Memory> {
+    let mut own = Env::new(alloc);
+    own.structures = moved_structures(alloc, &env.structures, moves)?;
+    for (name, function) in &env.types {
+        let function = mapped_function(alloc, function, moves)?;
+        own.types.insert(name.clone()?, function)?;
+    }
+    for (name, scheme) in &env.values {
+        let scheme = mapped_scheme(alloc, scheme, moves)?;
+        own.values.insert(name.clone()?, scheme)?;
+    }
+    Ok(own)
+}
+
+#[cycle(moved)]
+fn moved_structures(
+    alloc: Global,
+    structures: &BTreeMap<Ident, Rc<Env>>,
+    moves: &Moves,
+) -> Result<BTreeMap<Ident, Rc<Env>>, Memory> {
+    let mut copies = BTreeMap::new(alloc);
+    for (name, structure) in structures {
+        let inner = Rc::new(alloc, moved_env(alloc, structure, moves)?)?;
+        copies.insert(name.clone()?, inner)?;
+    }
+    Ok(copies)
+}

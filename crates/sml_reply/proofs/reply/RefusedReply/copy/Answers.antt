@@ -1,0 +1,11 @@
+use Rattle.std.proofs.Common.{ap, ◌++◌, decimal}
+use Rattle.sml_reply.specs.Replies.{refusal_text}
+use Rattle.sml_reply.specs.Text.{fault_text}
+use Rattle.sml_reply.proofs.Copies.{detail_same}
+use Rattle.sml_reply.proofs.reply.RefusedReply.copy.Goals as goal
+
+pub returns : goal.returns
+unfolding refusal_text
+returns c =
+    let r = c.args.self.now in
+    ap (λ d. decimal r.number ++ fault_text (record { code = r.fault.code; place = r.fault.place; detail = d })) (detail_same _ _ c.in_ok-detail.ensures)

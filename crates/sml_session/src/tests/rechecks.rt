@@ -1,0 +1,287 @@
+//! Projects that are checked again after an edit.
+
+use sml_projects::project::Project;
+use sml_projects::project_file::manifest;
+use sml_reply::form::{Form, Version};
+use sml_reply::sink::VecOut;
+use sml_units::project::{Checked, check};
+use sml_units::recheck::recheck;
+use std::alloc::Global;
+use std::fmt::Write;
+use std::process::Abort;
+use std::test::Fail;
+
+/// A project of a file and the texts of its units.
+fn project_of(alloc: Global, file: &str, texts: &[&str]) -> Result<Project, Fail> {
+    let listed = manifest(alloc, file.as_bytes())?;
+    let mut units = Vec::new(alloc);
+    for text in texts {
+        units.push(Vec::from_slice(alloc, text.as_bytes())?)?;
+    }
+    Ok(Project::new(alloc, listed, units)?)
+}
+
+const FORMS: [Form; 2] = [
+    Form {
+        version: Version::One,
+        warnings: false,
+    },
+    Form {
+        version: Version::Two,
+        warnings: true,
+    },
+];
+
+/// Demands that two checked projects have the same replies, in both versions.
+fn expect_same(rt: &impl Abort, alloc: Global, one: &Checked, other: &Checked) -> Result<(), Fail> {
+    for form in FORMS {
+        let mut first = VecOut::new(alloc);
+        let mut second = VecOut::new(alloc);
+        let summary = one.write_to(form, &mut first)?;
+        assert_eq!(rt; other.write_to(form, &mut second)?, summary);
+        assert_eq!(rt; second.bytes(), first.bytes());
+    }
+    Ok(())
+}
+
+const LINES: &str = "unit a a.sml\nunit b b.sml a\nunit c c.sml b\n";
+
+const SEAL: &str =
+    "structure S :> sig type t val a : t val f : t -> t end = struct type t = int val a = 3 fun f x = x end";
+
+const OTHER_BODY: &str =
+    "structure S :> sig type t val a : t val f : t -> t end = struct datatype p = P datatype q = Q type t = int * bool val a = (3, true) fun f (x, b) = (x, b) end";
+
+const LONGER_SIGNATURE: &str =
+    "structure S :> sig type t val a : t val f : t -> t val b : int end = struct type t = int val a = 3 fun f x = x val b = 1 end";
+
+const EQUALITY_TYPE: &str =
+    "structure S :> sig eqtype t val a : t val f : t -> t end = struct type t = int val a = 3 fun f x = x end";
+
+/// Which units are kept, and how many declarations are answered.
+#[test]
+fn kept_units(rt: HostRuntime) -> Result<(), Fail> {
+    let alloc = rt.alloc();
+    let first = project_of(alloc, LINES, &[SEAL, "val y = S.f S.a", "val z = y"])?;
+    let old = check(alloc, &first)?;
+    assert_eq!(rt; old.kept(), [false, false, false].as_slice());
+    assert_eq!(rt; old.readings(), 3);
+    for (seal, user, kept, readings) in [
+        (SEAL, "val y = S.f S.a", [true, true, true], 0),
+        (OTHER_BODY, "val y = S.f S.a", [false, true, true], 1),
+        (SEAL, "val y = S.a", [true, false, true], 1),
+        (LONGER_SIGNATURE, "val y = S.f S.a", [false, false, true], 2),
+        (EQUALITY_TYPE, "val y = S.f S.a", [false, false, false], 3),
+    ] {
+        let second = project_of(alloc, LINES, &[seal, user, "val z = y"])?;
+        let again = recheck(alloc, &old, &second)?;
+        assert_eq!(rt; again.kept(), kept.as_slice());
+        assert_eq!(rt; again.readings(), readings);
+        expect_same(&rt, alloc, &check(alloc, &second)?, &again)?;
+    }
+    Ok(())
+}
+
+/// The order of the lines alone changes nothing; another name, or other needs, are another unit.
+#[test]
+fn units_that_move(rt: HostRuntime) -> Result<(), Fail> {
+    let alloc = rt.alloc();
+    let user = "val y = S.f S.a";
+    let first = project_of(alloc, LINES, &[SEAL, user, "val z = y"])?;
+    let old = check(alloc, &first)?;
+    let lines = "unit n c.sml\nunit c c.sml b\nunit b b.sml a\nunit a a.sml\n";
+    let second = project_of(alloc, lines, &["val n = 1", "val z = y", user, SEAL])?;
+    let again = recheck(alloc, &old, &second)?;
+    assert_eq!(rt; again.kept(), [false, true, true, true].as_slice());
+    expect_same(&rt, alloc, &check(alloc, &second)?, &again)?;
+    let lines = "unit d a.sml\nunit b b.sml d\nunit c c.sml b\n";
+    let third = project_of(alloc, lines, &[SEAL, user, "val z = y"])?;
+    let back = recheck(alloc, &again, &third)?;
+    assert_eq!(rt; back.kept(), [false, false, false].as_slice());
+    expect_same(&rt, alloc, &check(alloc, &third)?, &back)?;
+    Ok(())
+}
+
+/// Signatures whose types are listed in another order are equal.
+#[test]
+fn equal_exports(rt: HostRuntime) -> Result<(), Fail> {
+    let alloc = rt.alloc();
+    let lines = "unit a a.sml\nunit b b.sml a\n";
+    let user = "functor F (X : G) = struct val g = X.f end";
+    let texts = ["signature G = sig type t type u val f : t -> u end", user];
+    let old = check(alloc, &project_of(alloc, lines, &texts)?)?;
+    for (text, is_kept) in [
+        ("signature G = sig type u type t val f : t -> u end", true),
+        ("signature G = sig type u type t val f : u -> t end", false),
+        (
+            "signature G = sig type u eqtype t val f : t -> u end",
+            false,
+        ),
+        (
+            "signature G = sig type t type u val f : t -> u end val n = 1",
+            false,
+        ),
+    ] {
+        let second = project_of(alloc, lines, &[text, user])?;
+        let again = recheck(alloc, &old, &second)?;
+        assert_eq!(rt; again.kept(), [false, is_kept].as_slice(), "{text}");
+        expect_same(&rt, alloc, &check(alloc, &second)?, &again)?;
+    }
+    Ok(())
+}
+
+/// The texts that units may have.
+const TEXTS: [&str; 14] = [
+    "structure S :> sig type t val a : t end = struct type t = int val a = 1 end",
+    "structure S :> sig type t val a : t end = struct type t = bool val a = true end",
+    "structure S :> sig eqtype t val a : t end = struct type t = int val a = 1 end",
+    "structure S :> sig type t val a : t val b : int end = struct type t = int val a = 1 val b = 2 end",
+    "val y = S.a val z = (S.a, y)",
+    "val y = S.b",
+    "structure T = S val y = T.a",
+    "datatype d = A | B of S.t val y = A",
+    "datatype d = A | C of S.t val y = A exception E of d",
+    "signature G = sig type u val f : u -> S.t end functor F (X : G) = struct val g = X.f datatype e = E end",
+    "structure R = F (struct type u = S.t fun f x = x end) val y = R.g",
+    "structure S = struct end val w = y",
+    "val w = y val v = S.a = S.a fun f A = 1",
+    "val x = (",
+];
+
+/// A unit of a generated project: its name, its text, and the numbers of the units that it needs.
+#[derive(Drop)]
+struct Unit {
+    name: u32,
+    text: usize,
+    needs: [bool; 6],
+}
+
+/// A generated project: its units by number, of which each needs earlier ones alone, and the order of their lines.
+#[derive(Drop)]
+struct Generated {
+    units: [Unit; 6],
+    is_there: [bool; 6],
+    is_reversed: bool,
+    seed: u64,
+    names: u32,
+}
+
+impl Generated {
+    fn new() -> Generated {
+        Generated {
+            units: [
+                Unit {
+                    name: 0,
+                    text: 0,
+                    needs: [false; 6],
+                },
+                Unit {
+                    name: 1,
+                    text: 4,
+                    needs: [true, false, false, false, false, false],
+                },
+                Unit {
+                    name: 2,
+                    text: 9,
+                    needs: [true, true, false, false, false, false],
+                },
+                Unit {
+                    name: 3,
+                    text: 10,
+                    needs: [true, false, true, false, false, false],
+                },
+                Unit {
+                    name: 4,
+                    text: 7,
+                    needs: [true, false, false, true, false, false],
+                },
+                Unit {
+                    name: 5,
+                    text: 12,
+                    needs: [false, false, false, true, true, false],
+                },
+            ],
+            is_there: [true; 6],
+            is_reversed: false,
+            seed: 1,
+            names: 6,
+        }
+    }
+
+    /// The next number below a bound, drawn by a linear congruence.
+    fn draw(&mut self, bound: u64) -> usize {
+        self.seed = self
+            .seed
+            .wrapping_mul(6_364_136_223_846_793_005)
+            .wrapping_add(1_442_695_040_888_963_407);
+        ((self.seed >> 33) % bound.max(1)) as usize
+    }
+
+    /// An edit: of a text, of a need, of the order of lines, a unit taken away or put back, or a name.
+    fn edit(&mut self) {
+        let unit = self.draw(6).min(5);
+        match self.draw(6) {
+            0 | 1 => self.units[unit].text = self.draw(14).min(13),
+            2 => {
+                let need = self.draw(6).min(5);
+                if need < unit {
+                    self.units[unit].needs[need] = !self.units[unit].needs[need];
+                }
+            }
+            3 => self.is_reversed = !self.is_reversed,
+            4 => self.is_there[unit] = !self.is_there[unit],
+            _ => {
+                self.units[unit].name = self.names;
+                self.names = self.names.saturating_add(1);
+            }
+        }
+    }
+
+    fn line(&self, file: &mut String, unit: usize) -> Result<(), Fail> {
+        let unit = unit.min(5);
+        write!(file, "unit u{} f", self.units[unit].name)?;
+        for need in 0..6 {
+            if self.units[unit].needs[need] && self.is_there[need] {
+                write!(file, " u{}", self.units[need].name)?;
+            }
+        }
+        file.push_str("\n")?;
+        Ok(())
+    }
+
+    fn project(&self, alloc: Global) -> Result<Project, Fail> {
+        let mut file = String::new(alloc);
+        let mut texts = Vec::new(alloc);
+        for index in 0..6 {
+            let unit = if self.is_reversed { 5 - index } else { index };
+            if self.is_there[unit] {
+                self.line(&mut file, unit)?;
+                texts.push(TEXTS[self.units[unit].text.min(13)])?;
+            }
+        }
+        project_of(alloc, &file, &texts)
+    }
+}
+
+/// Each project is checked again after the one before it, with an edit or two between them.
+#[test]
+fn generated_edits(rt: HostRuntime) -> Result<(), Fail> {
+    let alloc = rt.alloc();
+    let mut generated = Generated::new();
+    let mut old = check(alloc, &generated.project(alloc)?)?;
+    for step in 0..150 {
+        generated.edit();
+        if step % 3 == 0 {
+            generated.edit();
+        }
+        let project = generated.project(alloc)?;
+        let again = recheck(alloc, &old, &project)?;
+        expect_same(&rt, alloc, &check(alloc, &project)?, &again)?;
+        let same = recheck(alloc, &again, &project)?;
+        assert_eq!(rt; same.readings(), 0);
+        assert!(rt; !same.kept().contains(&false));
+        expect_same(&rt, alloc, &again, &same)?;
+        old = same;
+    }
+    Ok(())
+}

@@ -1,0 +1,202 @@
+//! Projects that are checked again after an edit.
+
+use crate::project::{Checked, Read, Replies, UnitReplies, check_unit, sources_of};
+use indexmap::IndexMap;
+use sml_envs::initial::initial;
+use sml_envs::objects::Basis as WholeBasis;
+use sml_exports::comparison::are_same_exports;
+use sml_exports::exports::Exports;
+use sml_exports::moved::moved;
+use sml_exports::moves::Moves;
+use sml_lex::fault::Memory;
+use sml_projects::project::{Project, ProjectUnit};
+use sml_reply::reply::Reply;
+use std::alloc::Global;
+use std::rc::Rc;
+
+/// What `check` gives for the project. A unit is kept if the old project has one of that name with the same text and
+/// needs, and each need exports the same in both: then its replies and exports are the old ones, and it isn't read.
+pub fn recheck(alloc: Global, old: &Checked, project: &Project) -> Result<Checked, Memory> {
+    let initial = Rc::new(alloc, initial(alloc)?)?;
+    let befores = befores_of(alloc, old, project)?;
+    let moves = moves_between(alloc, old, project, &befores)?;
+    let mut again = Again::new(alloc);
+    for (place, unit) in project.units.as_slice().iter().enumerate() {
+        let before = before_of(old, &befores, place);
+        again.take(alloc, &initial, before, &befores, &moves, unit)?;
+    }
+    let Again {
+        units,
+        exports,
+        kept,
+        readings,
+        ..
+    } = again;
+    Ok(Checked {
+        replies: Replies { units },
+        sources: sources_of(alloc, project)?,
+        exports,
+        kept,
+        readings,
+    })
+}
+
+/// What the old project has of a unit: its text, the places of its needs in the old order, its replies and exports.
+#[derive(Clone, Copy)]
+struct Before<'a> {
+    text: &'a [u8],
+    needs: &'a [usize],
+    replies: &'a [Reply],
+    exports: &'a Exports,
+}
+
+/// The units of a project that were checked again so far, and whether each exports what it did.
+#[derive(Drop)]
+struct Again {
+    units: Vec<UnitReplies>,
+    exports: Vec<Exports>,
+    kept: Vec<bool>,
+    is_unchanged: Vec<bool>,
+    readings: u64,
+}
+
+impl Again {
+    fn new(alloc: Global) -> Again {
+        Again {
+            units: Vec::new(alloc),
+            exports: Vec::new(alloc),
+            kept: Vec::new(alloc),
+            is_unchanged: Vec::new(alloc),
+            readings: 0,
+        }
+    }
+
+    /// Keeps the next unit, or reads it.
+    fn take(
+        &mut self,
+        alloc: Global,
+        initial: &Rc<WholeBasis>,
+        before: Option<Before<'_>>,
+        befores: &[Option<usize>],
+        moves: &Moves,
+        unit: &ProjectUnit,
+    ) -> Result<(), Memory> {
+        let Some(before) = before else {
+            let read = check_unit(alloc, initial, &self.exports, unit)?;
+            return self.put(unit, read, false, false);
+        };
+        if self.is_as_before(before, befores, unit) {
+            let read = kept_read(alloc, before, moves, unit)?;
+            return self.put(unit, read, true, true);
+        }
+        let read = check_unit(alloc, initial, &self.exports, unit)?;
+        let is_unchanged = are_same_exports(alloc, moves, before.exports, &read.1)?;
+        self.put(unit, read, false, is_unchanged)
+    }
+
+    fn put(
+        &mut self,
+        unit: &ProjectUnit,
+        read: Read,
+        is_kept: bool,
+        is_unchanged: bool,
+    ) -> Result<(), Memory> {
+        let (replies, own, count) = read;
+        let name = unit.name.clone()?;
+        self.units.push(UnitReplies { name, replies })?;
+        self.exports.push(own)?;
+        self.kept.push(is_kept)?;
+        self.is_unchanged.push(is_unchanged)?;
+        self.readings = self.readings.saturating_add(count);
+        Ok(())
+    }
+
+    /// Whether a unit has the text that it had, and the needs, each of which exports what it did.
+    fn is_as_before(
+        &self,
+        before: Before<'_>,
+        befores: &[Option<usize>],
+        unit: &ProjectUnit,
+    ) -> bool {
+        if unit.text.as_slice() != before.text || unit.needs.len() != before.needs.len() {
+            return false;
+        }
+        for (need, old_need) in unit.needs.as_slice().iter().zip(before.needs) {
+            if befores.get(*need) != Some(&Some(*old_need)) {
+                return false;
+            }
+            if self.is_unchanged.get(*need) != Some(&true) {
+                return false;
+            }
+        }
+        true
+    }
+}
+
+/// The old replies and exports of a unit, with the units of names at their new places. No declaration is answered.
+fn kept_read(
+    alloc: Global,
+    before: Before<'_>,
+    moves: &Moves,
+    unit: &ProjectUnit,
+) -> Result<Read, Memory> {
+    let mut replies = Vec::new(alloc);
+    for reply in before.replies {
+        replies.push(reply.copy(alloc)?)?;
+    }
+    let own = if moves.has_changes() {
+        moved(alloc, before.exports, unit.id, moves)?
+    } else {
+        before.exports.share()?
+    };
+    Ok((replies, own, 0))
+}
+
+/// For each unit the place of that of the same name in the old order, if there is one.
+fn befores_of(
+    alloc: Global,
+    old: &Checked,
+    project: &Project,
+) -> Result<Vec<Option<usize>>, Memory> {
+    let mut places = IndexMap::new(alloc);
+    for (place, unit) in old.replies.units.as_slice().iter().enumerate() {
+        places.insert(unit.name.clone()?, place)?;
+    }
+    let mut befores = Vec::new(alloc);
+    for unit in project.units.as_slice() {
+        befores.push(places.get(&unit.name).copied())?;
+    }
+    Ok(befores)
+}
+
+/// What the old project has of the unit at a place of the new order.
+fn before_of<'a>(old: &'a Checked, befores: &[Option<usize>], place: usize) -> Option<Before<'a>> {
+    let place = (*befores.get(place)?)?;
+    let source = old.sources.get(place)?;
+    let unit = old.replies.units.get(place)?;
+    let exports = old.exports.get(place)?;
+    Some(Before {
+        text: source.text.as_slice(),
+        needs: source.needs.as_slice(),
+        replies: unit.replies.as_slice(),
+        exports,
+    })
+}
+
+/// The places that the units of the old project file have in the new one.
+fn moves_between(
+    alloc: Global,
+    old: &Checked,
+    project: &Project,
+    befores: &[Option<usize>],
+) -> Result<Moves, Memory> {
+    let mut moves = Moves::new(alloc, old.sources.len())?;
+    for (unit, before) in project.units.as_slice().iter().zip(befores) {
+        if let Some(place) = before {
+            if let Some(source) = old.sources.get(*place) {
+                moves.put(source.id, unit.id);
+            }
+        }
+    }
+    Ok(moves)
+}

@@ -13,13 +13,13 @@ ghost use Rattle.sml_bare.specs.RulePhrases.{rule_phrase, declaration};
 
 use sml_bare_decs::declaration_rules::declaration_phrase;
 use sml_bare_exps::expression_rules::expression_phrase;
-use sml_bare_pats::name_rules::name_phrase;
-use sml_bare_pats::pattern_rules::pattern_phrase;
-use sml_bare_pats::type_rules::type_phrase;
 use sml_bare_mods::signature_rules::signature_phrase;
 use sml_bare_mods::specification_rules::specification_phrase;
 use sml_bare_mods::structure_rules::structure_phrase;
 use sml_bare_mods::unit_rules::unit_phrase;
+use sml_bare_pats::name_rules::name_phrase;
+use sml_bare_pats::pattern_rules::pattern_phrase;
+use sml_bare_pats::type_rules::type_phrase;
 use sml_derived::expander::Expander;
 use sml_fixity::shape::Shape;
 use sml_lex::fault::Place;

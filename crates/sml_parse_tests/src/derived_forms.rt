@@ -5,10 +5,10 @@ pub mod show;
 
 use show::{Shown, show_bind, show_dec, show_exp, show_pat, show_sig, show_spec, show_str};
 use sml_derived::expander::Expander;
-use sml_tree::clauses::Clause;
 use sml_derived::laws::{hidden_differ, no_source_spells_hidden};
 use sml_lex::fault::{Memory, Place};
 use sml_tree::bare::{Ident, LongIdent};
+use sml_tree::clauses::Clause;
 use sml_tree::expressions::{ConBind, DatBind, Dec, Exp, Rule, TypBind};
 use sml_tree::names::Name;
 use sml_tree::patterns::Pat;

@@ -1,5 +1,5 @@
 -- The program's phrases as those of the definitions, and what it is for a call to make one.
-use Rattle.std.specs.Prelude.{◌≡◌, List, Bool, false, map, reverse, Result, Ok, Err}
+use Rattle.std.specs.Prelude.{◌≡◌, ℕ, List, ◌∷◌, Bool, false, drop, map, reverse, Result, Ok, Err}
 use Rattle.std.specs.Option.{option_map}
 use Rattle.sml_lex.specs.declared.fault.Place.{Place}
 use Rattle.sml_tree.specs.TypeViews.{name_of, names_of, long_name_of, ty_of, tys_of, ty_field_of, ty_fields_of}
@@ -111,3 +111,10 @@ Gives view within wanted (Err Memory) = Unit {0}
 
 abbrev pub Makes : Phrase → Result D.Phrase Failure → Type 0
 Makes = Gives phrase_of is_low
+
+-- A call puts what is wanted in the place of the n topmost phrases; or it is too high, and so is what is wanted; or a growth was
+-- refused.
+abbrev pub Puts : Phrase → ℕ → List Phrase → List Phrase → Result Unit Failure → Type 0
+Puts wanted n old new (Ok _) = new ≡ wanted ∷ drop n old
+Puts wanted n old new (Err TooHigh) = is_low wanted ≡ false
+Puts wanted n old new (Err Memory) = Unit {0}

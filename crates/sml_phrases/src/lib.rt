@@ -3,5 +3,6 @@
 
 pub mod low;
 pub mod phrase;
+pub mod puts;
 pub mod raise;
 pub mod stack;

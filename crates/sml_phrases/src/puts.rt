@@ -1,0 +1,533 @@
+//! What the rules put on the stack, a function for each kind of phrase.
+
+ghost use Rattle.std.specs.Prelude.{map, reverse};
+ghost use Rattle.std.specs.Option.{option_map};
+ghost use Rattle.sml_tree.specs.TypeViews.{name_of, long_name_of, ty_of, tys_of, ty_field_of, ty_fields_of};
+ghost use Rattle.sml_tree.specs.PatternViews.{constant_of, pat_of, pats_of, pat_field_of, pat_fields_of};
+ghost use Rattle.sml_tree.specs.ExpressionViews.{typ_bind_of, con_bind_of, dat_bind_of, exn_bind_of, exp_of, exps_of, field_of, fields_of, rule_of, rules_of, dec_of, decs_of, bind_of, binds_of};
+ghost use Rattle.sml_tree.specs.SignatureViews.{val_desc_of, typ_desc_of, sig_of, spec_of, specs_of, str_desc_of, str_descs_of};
+ghost use Rattle.sml_tree.specs.StructureViews.{str_of, str_dec_of, str_decs_of, str_bind_of, str_binds_of, sig_bind_of, fun_bind_of, top_of};
+ghost use Rattle.sml_tree.specs.Clauses.{clause_of};
+ghost use Rattle.sml_phrases.specs.Phrases.{nothing, of_word, of_name, of_long, of_constant, of_names, of_longs, of_ty, of_tys, of_ty_fields, of_arguments, of_pat, of_pats, of_pat_fields, of_atoms, of_layer, of_op_atoms, of_op_layer, of_exp, of_exps, of_series, of_fields, of_rules, of_dec, of_decs, of_bind, of_binds, of_values, of_round_values, of_functions, of_right_side, of_clauses, of_round_functions, of_typ_bind, of_typ_binds, of_con_bind, of_con_binds, of_datatypes, of_constructors, of_copy, of_exn_binds, of_sig, of_where, of_wheres, of_open_sig_bind, of_sig_binds, of_specs, of_val_desc, of_val_descs, of_typ_descs, of_type_rest, of_open_str_desc, of_str_descs, of_shared_types, of_str, of_str_dec, of_str_decs, of_constraints, of_str_binds, of_open_str_bind, of_functor_argument, of_fun_binds, of_open_fun_bind, of_open_functor, of_top};
+ghost use Rattle.sml_phrases.specs.PhraseViews.{Puts, low_constraint_of, low_where_of, phrase_of, seen};
+
+use crate::low::{
+    LowBind, LowBinds, LowClauses, LowConBinds, LowConstraint, LowDatBinds, LowDec, LowDecs,
+    LowExnBinds, LowExp, LowExps, LowFields, LowFunBinds, LowPat, LowPatFields, LowPats, LowRules,
+    LowSig, LowSigBinds, LowSpecs, LowStr, LowStrBinds, LowStrDec, LowStrDecs, LowStrDescs, LowTop,
+    LowTy, LowTyFields, LowTypBinds, LowTys, LowValDescs, LowWhere,
+};
+use crate::phrase::{
+    DeclarationPhrase, ExpressionPhrase, Failure, PatternPhrase, Phrase, SignaturePhrase,
+    StructurePhrase, TypePhrase,
+};
+use crate::stack::Stack;
+use sml_lex::fault::Place;
+use sml_tree::bare::LongIdent;
+use sml_tree::names::Name;
+use sml_tree::patterns::Constant;
+use sml_tree::signatures::TypDesc;
+
+impl Stack {
+    fn put(&mut self, phrase: Phrase) -> Result<(), Failure>
+        ensures { Puts (phrase_of phrase) 0 (seen self.old) (seen self.new) result }
+    {
+        self.push(phrase)?;
+        Ok(())
+    }
+
+    pub fn put_nothing(&mut self) -> Result<(), Failure>
+        ensures { Puts nothing 0 (seen self.old) (seen self.new) result }
+    {
+        self.put(Phrase::Nothing)
+    }
+
+    pub fn put_word(&mut self, place: Place) -> Result<(), Failure>
+        ensures { Puts (of_word place) 0 (seen self.old) (seen self.new) result }
+    {
+        self.put(Phrase::Word(place))
+    }
+
+    pub fn put_name(&mut self, name: Name) -> Result<(), Failure>
+        ensures { Puts (of_name (name_of name)) 0 (seen self.old) (seen self.new) result }
+    {
+        self.put(Phrase::Name(name))
+    }
+
+    pub fn put_long(&mut self, long: LongIdent) -> Result<(), Failure>
+        ensures { Puts (of_long (long_name_of long)) 0 (seen self.old) (seen self.new) result }
+    {
+        self.put(Phrase::Long(long))
+    }
+
+    pub fn put_constant(&mut self, constant: Constant) -> Result<(), Failure>
+        ensures { Puts (of_constant (constant_of constant)) 0 (seen self.old) (seen self.new) result }
+    {
+        self.put(Phrase::Constant(constant))
+    }
+
+    pub fn put_names(&mut self, names: Vec<Name>) -> Result<(), Failure>
+        ensures { Puts (of_names (map name_of (reverse names.items))) 0 (seen self.old) (seen self.new) result }
+    {
+        self.put(Phrase::Names(names))
+    }
+
+    pub fn put_longs(&mut self, longs: Vec<LongIdent>) -> Result<(), Failure>
+        ensures { Puts (of_longs (map long_name_of (reverse longs.items))) 0 (seen self.old) (seen self.new) result }
+    {
+        self.put(Phrase::Longs(longs))
+    }
+
+    pub fn put_ty(&mut self, ty: LowTy) -> Result<(), Failure>
+        ensures { Puts (of_ty (ty_of ty.tree)) 0 (seen self.old) (seen self.new) result }
+    {
+        self.put(Phrase::Types(TypePhrase::Ty(ty)))
+    }
+
+    pub fn put_tys(&mut self, tys: LowTys) -> Result<(), Failure>
+        ensures { Puts (of_tys (tys_of (map (λ t. ty_of t.tree) (reverse tys.trees.items)))) 0 (seen self.old) (seen self.new) result }
+    {
+        self.put(Phrase::Types(TypePhrase::Tys(tys)))
+    }
+
+    pub fn put_ty_fields(&mut self, fields: LowTyFields) -> Result<(), Failure>
+        ensures { Puts (of_ty_fields (ty_fields_of (map ty_field_of (reverse fields.trees.items)))) 0 (seen self.old) (seen self.new) result }
+    {
+        self.put(Phrase::Types(TypePhrase::TyFields(fields)))
+    }
+
+    pub fn put_arguments(&mut self, others: LowTys, constructor: LongIdent) -> Result<(), Failure>
+        ensures { Puts (of_arguments (tys_of (map (λ t. ty_of t.tree) (reverse others.trees.items))) (long_name_of constructor)) 0 (seen self.old) (seen self.new) result }
+    {
+        self.put(Phrase::Types(TypePhrase::Arguments(others, constructor)))
+    }
+
+    pub fn put_pat(&mut self, pat: LowPat) -> Result<(), Failure>
+        ensures { Puts (of_pat (pat_of pat.tree)) 0 (seen self.old) (seen self.new) result }
+    {
+        self.put(Phrase::Patterns(PatternPhrase::Pat(pat)))
+    }
+
+    pub fn put_pats(&mut self, pats: LowPats) -> Result<(), Failure>
+        ensures { Puts (of_pats (pats_of (map (λ q. pat_of q.tree) (reverse pats.trees.items)))) 0 (seen self.old) (seen self.new) result }
+    {
+        self.put(Phrase::Patterns(PatternPhrase::Pats(pats)))
+    }
+
+    pub fn put_pat_fields(&mut self, fields: LowPatFields, flexible: bool) -> Result<(), Failure>
+        ensures { Puts (of_pat_fields (pat_fields_of (map pat_field_of (reverse fields.trees.items))) flexible) 0 (seen self.old) (seen self.new) result }
+    {
+        self.put(Phrase::Patterns(PatternPhrase::PatFields(fields, flexible)))
+    }
+
+    pub fn put_atoms(&mut self, atoms: LowPats, tys: LowTys) -> Result<(), Failure>
+        ensures { Puts (of_atoms (pats_of (map (λ q. pat_of q.tree) (reverse atoms.trees.items))) (tys_of (map (λ t. ty_of t.tree) (reverse tys.trees.items)))) 0 (seen self.old) (seen self.new) result }
+    {
+        self.put(Phrase::Patterns(PatternPhrase::Atoms(atoms, tys)))
+    }
+
+    pub fn put_layer(&mut self, ty: Option<LowTy>, pat: Option<LowPat>) -> Result<(), Failure>
+        ensures { Puts (of_layer (option_map (λ t. ty_of t.tree) ty) (option_map (λ q. pat_of q.tree) pat)) 0 (seen self.old) (seen self.new) result }
+    {
+        self.put(Phrase::Patterns(PatternPhrase::Layer(ty, pat)))
+    }
+
+    pub fn put_op_atoms(
+        &mut self,
+        long: LongIdent,
+        atoms: LowPats,
+        tys: LowTys,
+    ) -> Result<(), Failure>
+        ensures { Puts (of_op_atoms (long_name_of long) (pats_of (map (λ q. pat_of q.tree) (reverse atoms.trees.items))) (tys_of (map (λ t. ty_of t.tree) (reverse tys.trees.items)))) 0 (seen self.old) (seen self.new) result }
+    {
+        self.put(Phrase::Patterns(PatternPhrase::OpAtoms(long, atoms, tys)))
+    }
+
+    pub fn put_op_layer(
+        &mut self,
+        name: Name,
+        ty: Option<LowTy>,
+        pat: Option<LowPat>,
+    ) -> Result<(), Failure>
+        ensures { Puts (of_op_layer (name_of name) (option_map (λ t. ty_of t.tree) ty) (option_map (λ q. pat_of q.tree) pat)) 0 (seen self.old) (seen self.new) result }
+    {
+        self.put(Phrase::Patterns(PatternPhrase::OpLayer(name, ty, pat)))
+    }
+
+    pub fn put_exp(&mut self, exp: LowExp) -> Result<(), Failure>
+        ensures { Puts (of_exp (exp_of exp.tree)) 0 (seen self.old) (seen self.new) result }
+    {
+        self.put(Phrase::Expressions(ExpressionPhrase::Exp(exp)))
+    }
+
+    pub fn put_exps(&mut self, exps: LowExps) -> Result<(), Failure>
+        ensures { Puts (of_exps (exps_of (map (λ e. exp_of e.tree) (reverse exps.trees.items)))) 0 (seen self.old) (seen self.new) result }
+    {
+        self.put(Phrase::Expressions(ExpressionPhrase::Exps(exps)))
+    }
+
+    pub fn put_series(&mut self, exps: LowExps) -> Result<(), Failure>
+        ensures { Puts (of_series (exps_of (map (λ e. exp_of e.tree) (reverse exps.trees.items)))) 0 (seen self.old) (seen self.new) result }
+    {
+        self.put(Phrase::Expressions(ExpressionPhrase::Series(exps)))
+    }
+
+    pub fn put_fields(&mut self, fields: LowFields) -> Result<(), Failure>
+        ensures { Puts (of_fields (fields_of (map field_of (reverse fields.trees.items)))) 0 (seen self.old) (seen self.new) result }
+    {
+        self.put(Phrase::Expressions(ExpressionPhrase::Fields(fields)))
+    }
+
+    pub fn put_rules(&mut self, rules: LowRules) -> Result<(), Failure>
+        ensures { Puts (of_rules (rules_of (map rule_of (reverse rules.trees.items)))) 0 (seen self.old) (seen self.new) result }
+    {
+        self.put(Phrase::Expressions(ExpressionPhrase::Rules(rules)))
+    }
+
+    pub fn put_dec(&mut self, dec: LowDec) -> Result<(), Failure>
+        ensures { Puts (of_dec (dec_of dec.tree)) 0 (seen self.old) (seen self.new) result }
+    {
+        self.put(Phrase::Declarations(DeclarationPhrase::Dec(dec)))
+    }
+
+    pub fn put_decs(&mut self, decs: LowDecs) -> Result<(), Failure>
+        ensures { Puts (of_decs (decs_of (map dec_of (reverse decs.trees.items)))) 0 (seen self.old) (seen self.new) result }
+    {
+        self.put(Phrase::Declarations(DeclarationPhrase::Decs(decs)))
+    }
+
+    pub fn put_bind(&mut self, bind: LowBind) -> Result<(), Failure>
+        ensures { Puts (of_bind (bind_of bind.tree)) 0 (seen self.old) (seen self.new) result }
+    {
+        self.put(Phrase::Declarations(DeclarationPhrase::Bind(bind)))
+    }
+
+    pub fn put_binds(&mut self, binds: LowBinds) -> Result<(), Failure>
+        ensures { Puts (of_binds (binds_of (map bind_of (reverse binds.trees.items)))) 0 (seen self.old) (seen self.new) result }
+    {
+        self.put(Phrase::Declarations(DeclarationPhrase::Binds(binds)))
+    }
+
+    pub fn put_values(
+        &mut self,
+        variables: Vec<Name>,
+        plain: LowBinds,
+        recursive: LowBinds,
+    ) -> Result<(), Failure>
+        ensures { Puts (of_values (map name_of (reverse variables.items)) (binds_of (map bind_of (reverse plain.trees.items))) (binds_of (map bind_of (reverse recursive.trees.items)))) 0 (seen self.old) (seen self.new) result }
+    {
+        self.put(Phrase::Declarations(DeclarationPhrase::Values(variables, plain, recursive)))
+    }
+
+    pub fn put_round_values(
+        &mut self,
+        inner: LowPats,
+        pats: LowPats,
+        tys: LowTys,
+        exp: LowExp,
+        plain: LowBinds,
+        recursive: LowBinds,
+    ) -> Result<(), Failure>
+        ensures { Puts (of_round_values (pats_of (map (λ q. pat_of q.tree) (reverse inner.trees.items))) (pats_of (map (λ q. pat_of q.tree) (reverse pats.trees.items))) (tys_of (map (λ t. ty_of t.tree) (reverse tys.trees.items))) (exp_of exp.tree) (binds_of (map bind_of (reverse plain.trees.items))) (binds_of (map bind_of (reverse recursive.trees.items)))) 0 (seen self.old) (seen self.new) result }
+    {
+        self.put(Phrase::Declarations(DeclarationPhrase::RoundValues(
+            inner, pats, tys, exp, plain, recursive,
+        )))
+    }
+
+    pub fn put_functions(&mut self, variables: Vec<Name>, binds: LowBinds) -> Result<(), Failure>
+        ensures { Puts (of_functions (map name_of (reverse variables.items)) (binds_of (map bind_of (reverse binds.trees.items)))) 0 (seen self.old) (seen self.new) result }
+    {
+        self.put(Phrase::Declarations(DeclarationPhrase::Functions(variables, binds)))
+    }
+
+    pub fn put_right_side(
+        &mut self,
+        pats: LowPats,
+        ty: Option<LowTy>,
+        body: LowExp,
+    ) -> Result<(), Failure>
+        ensures { Puts (of_right_side (pats_of (map (λ q. pat_of q.tree) (reverse pats.trees.items))) (option_map (λ t. ty_of t.tree) ty) (exp_of body.tree)) 0 (seen self.old) (seen self.new) result }
+    {
+        self.put(Phrase::Declarations(DeclarationPhrase::RightSide(pats, ty, body)))
+    }
+
+    pub fn put_clauses(&mut self, clauses: LowClauses) -> Result<(), Failure>
+        ensures { Puts (of_clauses (map clause_of (reverse clauses.trees.items))) 0 (seen self.old) (seen self.new) result }
+    {
+        self.put(Phrase::Declarations(DeclarationPhrase::Clauses(clauses)))
+    }
+
+    pub fn put_round_functions(
+        &mut self,
+        inner: LowPats,
+        pats: LowPats,
+        ty: Option<LowTy>,
+        body: LowExp,
+        clauses: LowClauses,
+        binds: LowBinds,
+    ) -> Result<(), Failure>
+        ensures { Puts (of_round_functions (pats_of (map (λ q. pat_of q.tree) (reverse inner.trees.items))) (pats_of (map (λ q. pat_of q.tree) (reverse pats.trees.items))) (option_map (λ t. ty_of t.tree) ty) (exp_of body.tree) (map clause_of (reverse clauses.trees.items)) (binds_of (map bind_of (reverse binds.trees.items)))) 0 (seen self.old) (seen self.new) result }
+    {
+        self.put(Phrase::Declarations(DeclarationPhrase::RoundFunctions(
+            inner, pats, ty, body, clauses, binds,
+        )))
+    }
+
+    pub fn put_typ_bind(
+        &mut self,
+        variables: Vec<Name>,
+        name: Name,
+        ty: LowTy,
+    ) -> Result<(), Failure>
+        ensures { Puts (of_typ_bind (map name_of (reverse variables.items)) (name_of name) (ty_of ty.tree)) 0 (seen self.old) (seen self.new) result }
+    {
+        self.put(Phrase::Declarations(DeclarationPhrase::TypBind(variables, name, ty)))
+    }
+
+    pub fn put_typ_binds(&mut self, binds: LowTypBinds) -> Result<(), Failure>
+        ensures { Puts (of_typ_binds (map typ_bind_of (reverse binds.trees.items))) 0 (seen self.old) (seen self.new) result }
+    {
+        self.put(Phrase::Declarations(DeclarationPhrase::TypBinds(binds)))
+    }
+
+    pub fn put_con_bind(&mut self, name: Name, ty: Option<LowTy>) -> Result<(), Failure>
+        ensures { Puts (of_con_bind (name_of name) (option_map (λ t. ty_of t.tree) ty)) 0 (seen self.old) (seen self.new) result }
+    {
+        self.put(Phrase::Declarations(DeclarationPhrase::ConBind(name, ty)))
+    }
+
+    pub fn put_con_binds(&mut self, binds: LowConBinds) -> Result<(), Failure>
+        ensures { Puts (of_con_binds (map con_bind_of (reverse binds.trees.items))) 0 (seen self.old) (seen self.new) result }
+    {
+        self.put(Phrase::Declarations(DeclarationPhrase::ConBinds(binds)))
+    }
+
+    pub fn put_datatypes(
+        &mut self,
+        datatypes: LowDatBinds,
+        types: LowTypBinds,
+    ) -> Result<(), Failure>
+        ensures { Puts (of_datatypes (map dat_bind_of (reverse datatypes.trees.items)) (map typ_bind_of (reverse types.trees.items))) 0 (seen self.old) (seen self.new) result }
+    {
+        self.put(Phrase::Declarations(DeclarationPhrase::Datatypes(datatypes, types)))
+    }
+
+    pub fn put_constructors(
+        &mut self,
+        constructors: LowConBinds,
+        datatypes: LowDatBinds,
+        types: LowTypBinds,
+    ) -> Result<(), Failure>
+        ensures { Puts (of_constructors (map con_bind_of (reverse constructors.trees.items)) (map dat_bind_of (reverse datatypes.trees.items)) (map typ_bind_of (reverse types.trees.items))) 0 (seen self.old) (seen self.new) result }
+    {
+        self.put(Phrase::Declarations(DeclarationPhrase::Constructors(
+            constructors,
+            datatypes,
+            types,
+        )))
+    }
+
+    pub fn put_copy(&mut self, name: Name, copied: LongIdent) -> Result<(), Failure>
+        ensures { Puts (of_copy (name_of name) (long_name_of copied)) 0 (seen self.old) (seen self.new) result }
+    {
+        self.put(Phrase::Declarations(DeclarationPhrase::Copy(name, copied)))
+    }
+
+    pub fn put_exn_binds(&mut self, binds: LowExnBinds) -> Result<(), Failure>
+        ensures { Puts (of_exn_binds (map exn_bind_of (reverse binds.trees.items))) 0 (seen self.old) (seen self.new) result }
+    {
+        self.put(Phrase::Declarations(DeclarationPhrase::ExnBinds(binds)))
+    }
+
+    pub fn put_sig(&mut self, signature: LowSig) -> Result<(), Failure>
+        ensures { Puts (of_sig (sig_of signature.tree)) 0 (seen self.old) (seen self.new) result }
+    {
+        self.put(Phrase::Signatures(SignaturePhrase::Sig(signature)))
+    }
+
+    pub fn put_where(
+        &mut self,
+        variables: Vec<Name>,
+        constructor: LongIdent,
+        ty: LowTy,
+    ) -> Result<(), Failure>
+        ensures { Puts (of_where (map name_of (reverse variables.items)) (long_name_of constructor) (ty_of ty.tree)) 0 (seen self.old) (seen self.new) result }
+    {
+        self.put(Phrase::Signatures(SignaturePhrase::Where(variables, constructor, ty)))
+    }
+
+    pub fn put_wheres(&mut self, equations: Vec<LowWhere>) -> Result<(), Failure>
+        ensures { Puts (of_wheres (map low_where_of (reverse equations.items))) 0 (seen self.old) (seen self.new) result }
+    {
+        self.put(Phrase::Signatures(SignaturePhrase::Wheres(equations)))
+    }
+
+    pub fn put_open_sig_bind(&mut self, name: Name, signature: LowSig) -> Result<(), Failure>
+        ensures { Puts (of_open_sig_bind (name_of name) (sig_of signature.tree)) 0 (seen self.old) (seen self.new) result }
+    {
+        self.put(Phrase::Signatures(SignaturePhrase::OpenSigBind(name, signature)))
+    }
+
+    pub fn put_sig_binds(
+        &mut self,
+        equations: Vec<LowWhere>,
+        binds: LowSigBinds,
+    ) -> Result<(), Failure>
+        ensures { Puts (of_sig_binds (map low_where_of (reverse equations.items)) (map sig_bind_of (reverse binds.trees.items))) 0 (seen self.old) (seen self.new) result }
+    {
+        self.put(Phrase::Signatures(SignaturePhrase::SigBinds(equations, binds)))
+    }
+
+    pub fn put_specs(&mut self, specs: LowSpecs) -> Result<(), Failure>
+        ensures { Puts (of_specs (specs_of (map spec_of (reverse specs.trees.items)))) 0 (seen self.old) (seen self.new) result }
+    {
+        self.put(Phrase::Signatures(SignaturePhrase::Specs(specs)))
+    }
+
+    pub fn put_val_desc(&mut self, name: Name, ty: LowTy) -> Result<(), Failure>
+        ensures { Puts (of_val_desc (name_of name) (ty_of ty.tree)) 0 (seen self.old) (seen self.new) result }
+    {
+        self.put(Phrase::Signatures(SignaturePhrase::ValDesc(name, ty)))
+    }
+
+    pub fn put_val_descs(&mut self, descs: LowValDescs) -> Result<(), Failure>
+        ensures { Puts (of_val_descs (map val_desc_of (reverse descs.trees.items))) 0 (seen self.old) (seen self.new) result }
+    {
+        self.put(Phrase::Signatures(SignaturePhrase::ValDescs(descs)))
+    }
+
+    pub fn put_typ_descs(&mut self, descs: Vec<TypDesc>) -> Result<(), Failure>
+        ensures { Puts (of_typ_descs (map typ_desc_of (reverse descs.items))) 0 (seen self.old) (seen self.new) result }
+    {
+        self.put(Phrase::Signatures(SignaturePhrase::TypDescs(descs)))
+    }
+
+    pub fn put_type_rest(&mut self, ty: LowTy, binds: LowTypBinds) -> Result<(), Failure>
+        ensures { Puts (of_type_rest (ty_of ty.tree) (map typ_bind_of (reverse binds.trees.items))) 0 (seen self.old) (seen self.new) result }
+    {
+        self.put(Phrase::Signatures(SignaturePhrase::TypeRest(ty, binds)))
+    }
+
+    pub fn put_open_str_desc(&mut self, name: Name, signature: LowSig) -> Result<(), Failure>
+        ensures { Puts (of_open_str_desc (name_of name) (sig_of signature.tree)) 0 (seen self.old) (seen self.new) result }
+    {
+        self.put(Phrase::Signatures(SignaturePhrase::OpenStrDesc(name, signature)))
+    }
+
+    pub fn put_str_descs(
+        &mut self,
+        equations: Vec<LowWhere>,
+        descs: LowStrDescs,
+    ) -> Result<(), Failure>
+        ensures { Puts (of_str_descs (map low_where_of (reverse equations.items)) (str_descs_of (map str_desc_of (reverse descs.trees.items)))) 0 (seen self.old) (seen self.new) result }
+    {
+        self.put(Phrase::Signatures(SignaturePhrase::StrDescs(equations, descs)))
+    }
+
+    pub fn put_shared_types(&mut self, longs: Vec<LongIdent>) -> Result<(), Failure>
+        ensures { Puts (of_shared_types (map long_name_of (reverse longs.items))) 0 (seen self.old) (seen self.new) result }
+    {
+        self.put(Phrase::Signatures(SignaturePhrase::SharedTypes(longs)))
+    }
+
+    pub fn put_str(&mut self, structure: LowStr) -> Result<(), Failure>
+        ensures { Puts (of_str (str_of structure.tree)) 0 (seen self.old) (seen self.new) result }
+    {
+        self.put(Phrase::Structures(StructurePhrase::Str(structure)))
+    }
+
+    pub fn put_str_dec(&mut self, dec: LowStrDec) -> Result<(), Failure>
+        ensures { Puts (of_str_dec (str_dec_of dec.tree)) 0 (seen self.old) (seen self.new) result }
+    {
+        self.put(Phrase::Structures(StructurePhrase::StrDec(dec)))
+    }
+
+    pub fn put_str_decs(&mut self, decs: LowStrDecs) -> Result<(), Failure>
+        ensures { Puts (of_str_decs (str_decs_of (map str_dec_of (reverse decs.trees.items)))) 0 (seen self.old) (seen self.new) result }
+    {
+        self.put(Phrase::Structures(StructurePhrase::StrDecs(decs)))
+    }
+
+    pub fn put_constraints(
+        &mut self,
+        equations: Vec<LowWhere>,
+        constraints: Vec<LowConstraint>,
+    ) -> Result<(), Failure>
+        ensures { Puts (of_constraints (map low_where_of (reverse equations.items)) (map low_constraint_of (reverse constraints.items))) 0 (seen self.old) (seen self.new) result }
+    {
+        self.put(Phrase::Structures(StructurePhrase::Constraints(equations, constraints)))
+    }
+
+    pub fn put_str_binds(
+        &mut self,
+        equations: Vec<LowWhere>,
+        constraints: Vec<LowConstraint>,
+        binds: LowStrBinds,
+    ) -> Result<(), Failure>
+        ensures { Puts (of_str_binds (map low_where_of (reverse equations.items)) (map low_constraint_of (reverse constraints.items)) (str_binds_of (map str_bind_of (reverse binds.trees.items)))) 0 (seen self.old) (seen self.new) result }
+    {
+        self.put(Phrase::Structures(StructurePhrase::StrBinds(equations, constraints, binds)))
+    }
+
+    pub fn put_open_str_bind(
+        &mut self,
+        name: Name,
+        own: Vec<LowConstraint>,
+        body: LowStr,
+    ) -> Result<(), Failure>
+        ensures { Puts (of_open_str_bind (name_of name) (map low_constraint_of (reverse own.items)) (str_of body.tree)) 0 (seen self.old) (seen self.new) result }
+    {
+        self.put(Phrase::Structures(StructurePhrase::OpenStrBind(name, own, body)))
+    }
+
+    pub fn put_functor_argument(&mut self, name: Name, signature: LowSig) -> Result<(), Failure>
+        ensures { Puts (of_functor_argument (name_of name) (sig_of signature.tree)) 0 (seen self.old) (seen self.new) result }
+    {
+        self.put(Phrase::Structures(StructurePhrase::FunctorArgument(name, signature)))
+    }
+
+    pub fn put_fun_binds(
+        &mut self,
+        equations: Vec<LowWhere>,
+        constraints: Vec<LowConstraint>,
+        binds: LowFunBinds,
+    ) -> Result<(), Failure>
+        ensures { Puts (of_fun_binds (map low_where_of (reverse equations.items)) (map low_constraint_of (reverse constraints.items)) (map fun_bind_of (reverse binds.trees.items))) 0 (seen self.old) (seen self.new) result }
+    {
+        self.put(Phrase::Structures(StructurePhrase::FunBinds(equations, constraints, binds)))
+    }
+
+    pub fn put_open_fun_bind(
+        &mut self,
+        name: Name,
+        argument: Name,
+        signature: LowSig,
+        own: Vec<LowConstraint>,
+        body: LowStr,
+    ) -> Result<(), Failure>
+        ensures { Puts (of_open_fun_bind (name_of name) (name_of argument) (sig_of signature.tree) (map low_constraint_of (reverse own.items)) (str_of body.tree)) 0 (seen self.old) (seen self.new) result }
+    {
+        self.put(Phrase::Structures(StructurePhrase::OpenFunBind(
+            name, argument, signature, own, body,
+        )))
+    }
+
+    pub fn put_open_functor(
+        &mut self,
+        name: Name,
+        specs: LowSpecs,
+        own: Vec<LowConstraint>,
+        body: LowStr,
+    ) -> Result<(), Failure>
+        ensures { Puts (of_open_functor (name_of name) (specs_of (map spec_of (reverse specs.trees.items))) (map low_constraint_of (reverse own.items)) (str_of body.tree)) 0 (seen self.old) (seen self.new) result }
+    {
+        self.put(Phrase::Structures(StructurePhrase::OpenFunctor(name, specs, own, body)))
+    }
+
+    pub fn put_top(&mut self, top: LowTop) -> Result<(), Failure>
+        ensures { Puts (of_top (top_of top.tree)) 0 (seen self.old) (seen self.new) result }
+    {
+        self.put(Phrase::Structures(StructurePhrase::Top(top)))
+    }
+}

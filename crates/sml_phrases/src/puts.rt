@@ -8,7 +8,7 @@ ghost use Rattle.sml_tree.specs.ExpressionViews.{typ_bind_of, con_bind_of, dat_b
 ghost use Rattle.sml_tree.specs.SignatureViews.{val_desc_of, typ_desc_of, sig_of, spec_of, specs_of, str_desc_of, str_descs_of};
 ghost use Rattle.sml_tree.specs.StructureViews.{str_of, str_dec_of, str_decs_of, str_bind_of, str_binds_of, sig_bind_of, fun_bind_of, top_of};
 ghost use Rattle.sml_tree.specs.Clauses.{clause_of};
-ghost use Rattle.sml_phrases.specs.Phrases.{nothing, of_word, of_name, of_long, of_constant, of_names, of_longs, of_ty, of_tys, of_ty_fields, of_arguments, of_pat, of_pats, of_pat_fields, of_atoms, of_layer, of_op_atoms, of_op_layer, of_exp, of_exps, of_series, of_fields, of_rules, of_dec, of_decs, of_bind, of_binds, of_values, of_round_values, of_functions, of_right_side, of_clauses, of_round_functions, of_typ_bind, of_typ_binds, of_con_bind, of_con_binds, of_datatypes, of_constructors, of_copy, of_exn_binds, of_sig, of_where, of_wheres, of_open_sig_bind, of_sig_binds, of_specs, of_val_desc, of_val_descs, of_typ_descs, of_type_rest, of_open_str_desc, of_str_descs, of_shared_types, of_str, of_str_dec, of_str_decs, of_constraints, of_str_binds, of_open_str_bind, of_functor_argument, of_fun_binds, of_open_fun_bind, of_open_functor, of_top};
+ghost use Rattle.sml_phrases.specs.Phrases.{at, first, nothing, of_word, of_name, of_long, of_constant, of_names, of_longs, of_ty, of_tys, of_ty_fields, of_arguments, of_pat, of_pats, of_pat_fields, of_atoms, of_layer, of_op_atoms, of_op_layer, of_exp, of_exps, of_series, of_fields, of_rules, of_dec, of_decs, of_bind, of_binds, of_values, of_round_values, of_functions, of_right_side, of_clauses, of_round_functions, of_typ_bind, of_typ_binds, of_con_bind, of_con_binds, of_datatypes, of_constructors, of_copy, of_exn_binds, of_sig, of_where, of_wheres, of_open_sig_bind, of_sig_binds, of_specs, of_val_desc, of_val_descs, of_typ_descs, of_type_rest, of_open_str_desc, of_str_descs, of_shared_types, of_str, of_str_dec, of_str_decs, of_constraints, of_str_binds, of_open_str_bind, of_functor_argument, of_fun_binds, of_open_fun_bind, of_open_functor, of_top};
 ghost use Rattle.sml_phrases.specs.PhraseViews.{Puts, low_constraint_of, low_where_of, phrase_of, seen};
 
 use crate::low::{
@@ -34,6 +34,22 @@ impl Stack {
     {
         self.push(phrase)?;
         Ok(())
+    }
+
+    /// Leaves the phrase on top where it is.
+    pub fn put_first(&mut self) -> Result<(), Failure>
+        ensures { Puts (first (seen self.old)) 1 (seen self.old) (seen self.new) result }
+    {
+        let phrase = self.pop();
+        self.put(phrase)
+    }
+
+    /// Takes the word on top off, and leaves the phrase below it where it is.
+    pub fn put_behind_word(&mut self) -> Result<(), Failure>
+        ensures { Puts (at (seen self.old) 1) 2 (seen self.old) (seen self.new) result }
+    {
+        self.skip();
+        self.put_first()
     }
 
     pub fn put_nothing(&mut self) -> Result<(), Failure>

@@ -5,7 +5,7 @@ ghost use Rattle.std.specs.Option.{option_map};
 ghost use Rattle.sml_tree.specs.TypeViews.{name_of, long_name_of};
 ghost use Rattle.sml_tree.specs.ExpressionViews.{dat_bind_of, typ_bind_of};
 ghost use Rattle.sml_phrases.specs.Phrases.{of_dec, of_datatypes, of_con_binds, at, name_in, names_in, con_binds_in, ty_if_any};
-ghost use Rattle.sml_phrases.specs.PhraseViews.{Makes, seen};
+ghost use Rattle.sml_phrases.specs.PhraseViews.{Puts, Makes, seen};
 ghost use Rattle.sml_bare_decs.specs.DeclarationRules.{datatype_of, datatypes_dec, datatype_from, datatype_rest, datatypes_in, typ_bind_in, and_datatype, constructors};
 ghost use Rattle.sml_bare_decs.specs.DeclarationViews.{constructors_of};
 ghost use Rattle.sml_phrases.specs.Phrases.{typ_binds_in};
@@ -42,13 +42,12 @@ fn datatypes_dec(
         true => Dec::Datatype(place, datatypes),
         false => Dec::DatatypeWith(place, datatypes, types),
     };
-    Ok(Phrase::Declarations(DeclarationPhrase::Dec(LowDec { tree, height })))
+    stack.put_dec(LowDec { tree, height })
 }
 
 /// `datatype ..` of all kinds.
-pub fn datatype_dec(stack: &mut Stack, place: Place) -> Result<Phrase, Failure>
-    ensures made { Makes (of_dec (datatype_of place (at (seen stack.old) 1))) result }
-    ensures rest { OnOk result (seen stack.new ≡ drop 2 (seen stack.old)) }
+pub fn datatype_dec(stack: &mut Stack, place: Place) -> Result<(), Failure>
+    ensures { Puts (of_dec (datatype_of place (at (seen stack.old) 1))) 2 (seen stack.old) (seen stack.new) result }
 {
     stack.skip();
     match stack.pop() {
@@ -57,20 +56,19 @@ pub fn datatype_dec(stack: &mut Stack, place: Place) -> Result<Phrase, Failure>
         ),
         Phrase::Declarations(DeclarationPhrase::Copy(name, copied)) => {
             let tree = Dec::Replication(place, name, copied);
-            Ok(Phrase::Declarations(DeclarationPhrase::Dec(LowDec { tree, height: 1 })))
+            stack.put_dec(LowDec { tree, height: 1 })
         }
         other => {
             discard(other);
             let tree = Dec::Datatype(place, Vec::new(stack.alloc));
-            Ok(Phrase::Declarations(DeclarationPhrase::Dec(LowDec { tree, height: 1 })))
+            stack.put_dec(LowDec { tree, height: 1 })
         }
     }
 }
 
 /// A datatype before others.
-pub fn datatype_before(stack: &mut Stack) -> Result<Phrase, Failure>
-    ensures made { let vs = seen stack.old in Makes (and_datatype (record { variables = names_in (at vs 0); name = name_in (at vs 1); constructors = con_binds_in (at vs 3) }) (datatypes_in (at vs 4))) result }
-    ensures rest { OnOk result (seen stack.new ≡ drop 5 (seen stack.old)) }
+pub fn datatype_before(stack: &mut Stack) -> Result<(), Failure>
+    ensures { let vs = seen stack.old in Puts (and_datatype (record { variables = names_in (at vs 0); name = name_in (at vs 1); constructors = con_binds_in (at vs 3) }) (datatypes_in (at vs 4))) 5 vs (seen stack.new) result }
 {
     let variables = stack.names();
     let name = stack.name()?;
@@ -78,13 +76,12 @@ pub fn datatype_before(stack: &mut Stack) -> Result<Phrase, Failure>
     let constructors = stack.con_binds();
     let Datatypes { datatypes, types } = pop_datatypes(stack);
     let datatypes = and_dat_bind(variables, name, constructors, datatypes)?;
-    Ok(Phrase::Declarations(DeclarationPhrase::Datatypes(datatypes, types)))
+    stack.put_datatypes(datatypes, types)
 }
 
 /// A datatype before others, behind `and`.
-pub fn more_datatypes(stack: &mut Stack) -> Result<Phrase, Failure>
-    ensures made { let vs = seen stack.old in Makes (and_datatype (record { variables = names_in (at vs 1); name = name_in (at vs 2); constructors = con_binds_in (at vs 4) }) (datatypes_in (at vs 5))) result }
-    ensures rest { OnOk result (seen stack.new ≡ drop 6 (seen stack.old)) }
+pub fn more_datatypes(stack: &mut Stack) -> Result<(), Failure>
+    ensures { let vs = seen stack.old in Puts (and_datatype (record { variables = names_in (at vs 1); name = name_in (at vs 2); constructors = con_binds_in (at vs 4) }) (datatypes_in (at vs 5))) 6 vs (seen stack.new) result }
 {
     stack.skip();
     datatype_before(stack)
@@ -102,13 +99,12 @@ pub fn no_dat_bind(stack: &mut Stack) -> Result<Phrase, Failure>
         trees: Vec::new(stack.alloc),
         height: 0,
     };
-    Ok(Phrase::Declarations(DeclarationPhrase::Datatypes(datatypes, types)))
+    stack.put_datatypes(datatypes, types)
 }
 
 /// The type bindings behind `withtype`.
-pub fn with_types(stack: &mut Stack) -> Result<Phrase, Failure>
-    ensures made { let vs = seen stack.old in Makes (of_datatypes [] (typ_bind_in (at vs 1) ∷ typ_binds_in (at vs 2))) result }
-    ensures rest { OnOk result (seen stack.new ≡ drop 3 (seen stack.old)) }
+pub fn with_types(stack: &mut Stack) -> Result<(), Failure>
+    ensures { let vs = seen stack.old in Puts (of_datatypes [] (typ_bind_in (at vs 1) ∷ typ_binds_in (at vs 2))) 3 vs (seen stack.new) result }
 {
     stack.skip();
     let datatypes = LowDatBinds {
@@ -116,7 +112,7 @@ pub fn with_types(stack: &mut Stack) -> Result<Phrase, Failure>
         height: 0,
     };
     let types = typ_binds(stack)?;
-    Ok(Phrase::Declarations(DeclarationPhrase::Datatypes(datatypes, types)))
+    stack.put_datatypes(datatypes, types)
 }
 
 /// A type constructor without type variables: the one that it copies, or its constructors.
@@ -129,19 +125,18 @@ fn datatype_from(
     ensures { Makes (datatype_from (name_of name) (option_map long_name_of copied) (option_map constructors_of constructors)) result }
 {
     match (copied, constructors) {
-        (Some(copied), _) => Ok(Phrase::Declarations(DeclarationPhrase::Copy(name, copied))),
+        (Some(copied), _) => stack.put_copy(name, copied),
         (None, Some(all)) => {
             let datatypes = and_dat_bind(Vec::new(alloc), name, all.constructors, all.datatypes)?;
-            Ok(Phrase::Declarations(DeclarationPhrase::Datatypes(datatypes, all.types)))
+            stack.put_datatypes(datatypes, all.types)
         }
-        (None, None) => Ok(Phrase::Nothing),
+        (None, None) => stack.put_nothing(),
     }
 }
 
 /// A type constructor without type variables, and what stands behind its `=`.
-pub fn plain_datatype(stack: &mut Stack) -> Result<Phrase, Failure>
-    ensures made { let vs = seen stack.old in Makes (datatype_rest (name_in (at vs 0)) (at vs 2)) result }
-    ensures rest { OnOk result (seen stack.new ≡ drop 3 (seen stack.old)) }
+pub fn plain_datatype(stack: &mut Stack) -> Result<(), Failure>
+    ensures { let vs = seen stack.old in Puts (datatype_rest (name_in (at vs 0)) (at vs 2)) 3 vs (seen stack.new) result }
 {
     let name = stack.name()?;
     stack.skip();
@@ -153,25 +148,23 @@ pub fn plain_datatype(stack: &mut Stack) -> Result<Phrase, Failure>
 }
 
 /// The constructors of a datatype, and the further datatypes.
-pub fn constructors(stack: &mut Stack) -> Result<Phrase, Failure>
-    ensures made { let vs = seen stack.old in Makes (constructors (con_binds_in (at vs 0)) (datatypes_in (at vs 1))) result }
-    ensures rest { OnOk result (seen stack.new ≡ drop 2 (seen stack.old)) }
+pub fn constructors(stack: &mut Stack) -> Result<(), Failure>
+    ensures { let vs = seen stack.old in Puts (constructors (con_binds_in (at vs 0)) (datatypes_in (at vs 1))) 2 vs (seen stack.new) result }
 {
     let constructors = stack.con_binds();
     let Datatypes { datatypes, types } = pop_datatypes(stack);
-    Ok(Phrase::Declarations(DeclarationPhrase::Constructors(constructors, datatypes, types)))
+    stack.put_constructors(constructors, datatypes, types)
 }
 
 /// A constructor before others.
-pub fn and_constructor(stack: &mut Stack) -> Result<Phrase, Failure>
-    ensures made { let vs = seen stack.old in Makes (of_con_binds (record { name = name_in (at vs 1); argument = ty_if_any (at vs 2) } ∷ con_binds_in (at vs 3))) result }
-    ensures rest { OnOk result (seen stack.new ≡ drop 4 (seen stack.old)) }
+pub fn and_constructor(stack: &mut Stack) -> Result<(), Failure>
+    ensures { let vs = seen stack.old in Puts (of_con_binds (record { name = name_in (at vs 1); argument = ty_if_any (at vs 2) } ∷ con_binds_in (at vs 3))) 4 vs (seen stack.new) result }
 {
     stack.skip();
     let name = stack.name()?;
     let argument = stack.ty_if_any();
     let others = stack.con_binds();
-    Ok(Phrase::Declarations(DeclarationPhrase::ConBinds(and_con_bind(name, argument, others)?)))
+    stack.put_con_binds(and_con_bind(name, argument, others)?)
 }
 
 pub fn no_con_bind(stack: &mut Stack) -> Result<Phrase, Failure>
@@ -182,5 +175,5 @@ pub fn no_con_bind(stack: &mut Stack) -> Result<Phrase, Failure>
         trees: Vec::new(stack.alloc),
         height: 0,
     };
-    Ok(Phrase::Declarations(DeclarationPhrase::ConBinds(none)))
+    stack.put_con_binds(none)
 }

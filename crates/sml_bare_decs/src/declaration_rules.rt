@@ -9,7 +9,7 @@ ghost use Rattle.sml_read.specs.Grammar.{right_side};
 ghost use Rattle.sml_read.specs.declared.grammar.Rule.TheVariants.{Declarations};
 ghost use Rattle.sml_phrases.specs.Phrases.{nothing, of_longs, of_dec, of_decs, of_typ_bind, of_typ_binds, of_exn_binds, at, name_in, long_in, names_in, longs_in, ty_in, dec_in, decs_in, typ_binds_in, exn_binds_in};
 ghost use Rattle.sml_phrases.specs.PhraseHeights.{low};
-ghost use Rattle.sml_phrases.specs.PhraseViews.{Gives, Makes, seen};
+ghost use Rattle.sml_phrases.specs.PhraseViews.{Puts, Gives, Makes, seen};
 ghost use Rattle.sml_bare_decs.specs.DeclarationRules.{value_dec, function_dec, typ_bind_in, exn_bind_in, exn_rest, values_in, functions_in, declaration_phrase};
 ghost use Rattle.sml_fixity.specs.Shapes.{shape_of};
 
@@ -61,9 +61,8 @@ pub fn passed(stack: &mut Stack, before: usize) -> Result<Phrase, Failure>
 }
 
 /// `local .. in .. end`
-fn local(stack: &mut Stack, place: Place) -> Result<Phrase, Failure>
-    ensures made { let vs = seen stack.old in Makes (of_dec (local_dec place (decs_in (at vs 1)) (decs_in (at vs 3)))) result }
-    ensures rest { OnOk result (seen stack.new ≡ drop 5 (seen stack.old)) }
+fn local(stack: &mut Stack, place: Place) -> Result<(), Failure>
+    ensures { let vs = seen stack.old in Puts (of_dec (local_dec place (decs_in (at vs 1)) (decs_in (at vs 3)))) 5 vs (seen stack.new) result }
 {
     stack.skip();
     let mut hidden = stack.decs();
@@ -74,13 +73,12 @@ fn local(stack: &mut Stack, place: Place) -> Result<Phrase, Failure>
     hidden.trees.reverse();
     shown.trees.reverse();
     let tree = Dec::Local(place, hidden.trees, shown.trees);
-    Ok(Phrase::Declarations(DeclarationPhrase::Dec(LowDec { tree, height })))
+    stack.put_dec(LowDec { tree, height })
 }
 
 /// `val ..`
-fn value_dec(stack: &mut Stack, place: Place) -> Result<Phrase, Failure>
-    ensures made { Makes (value_dec place (values_in (at (seen stack.old) 1))) result }
-    ensures rest { OnOk result (seen stack.new ≡ drop 2 (seen stack.old)) }
+fn value_dec(stack: &mut Stack, place: Place) -> Result<(), Failure>
+    ensures { Puts (value_dec place (values_in (at (seen stack.old) 1))) 2 (seen stack.old) (seen stack.new) result }
 {
     stack.skip();
     let Values {
@@ -96,13 +94,12 @@ fn value_dec(stack: &mut Stack, place: Place) -> Result<Phrase, Failure>
     let mut recursive = recursive.trees;
     recursive.reverse();
     let tree = Dec::Value(place, variables, plain, recursive);
-    Ok(Phrase::Declarations(DeclarationPhrase::Dec(LowDec { tree, height })))
+    stack.put_dec(LowDec { tree, height })
 }
 
 /// `fun ..`
-fn function_dec(stack: &mut Stack, place: Place) -> Result<Phrase, Failure>
-    ensures made { Makes (function_dec place (functions_in (at (seen stack.old) 1))) result }
-    ensures rest { OnOk result (seen stack.new ≡ drop 2 (seen stack.old)) }
+fn function_dec(stack: &mut Stack, place: Place) -> Result<(), Failure>
+    ensures { Puts (function_dec place (functions_in (at (seen stack.old) 1))) 2 (seen stack.old) (seen stack.new) result }
 {
     stack.skip();
     let Functions { variables, binds } = pop_functions(stack);
@@ -112,7 +109,7 @@ fn function_dec(stack: &mut Stack, place: Place) -> Result<Phrase, Failure>
     let mut binds = binds.trees;
     binds.reverse();
     let tree = Dec::Value(place, variables, Vec::new(stack.alloc), binds);
-    Ok(Phrase::Declarations(DeclarationPhrase::Dec(LowDec { tree, height })))
+    stack.put_dec(LowDec { tree, height })
 }
 
 /// A type binding, and others behind it.
@@ -130,37 +127,34 @@ pub fn typ_binds(stack: &mut Stack) -> Result<LowTypBinds, Failure>
 }
 
 /// `type ..`
-fn type_dec(stack: &mut Stack, place: Place) -> Result<Phrase, Failure>
-    ensures made { let vs = seen stack.old in Makes (of_dec (type_dec place (typ_bind_in (at vs 1) ∷ typ_binds_in (at vs 2)))) result }
-    ensures rest { OnOk result (seen stack.new ≡ drop 3 (seen stack.old)) }
+fn type_dec(stack: &mut Stack, place: Place) -> Result<(), Failure>
+    ensures { let vs = seen stack.old in Puts (of_dec (type_dec place (typ_bind_in (at vs 1) ∷ typ_binds_in (at vs 2)))) 3 vs (seen stack.new) result }
 {
     stack.skip();
     let mut all = typ_binds(stack)?;
     let height = raised(all.height, 1)?;
     all.trees.reverse();
     let tree = Dec::Type(place, all.trees);
-    Ok(Phrase::Declarations(DeclarationPhrase::Dec(LowDec { tree, height })))
+    stack.put_dec(LowDec { tree, height })
 }
 
 /// A type binding before others, behind `and`.
-fn more_types(stack: &mut Stack) -> Result<Phrase, Failure>
-    ensures made { let vs = seen stack.old in Makes (of_typ_binds (typ_bind_in (at vs 1) ∷ typ_binds_in (at vs 2))) result }
-    ensures rest { OnOk result (seen stack.new ≡ drop 3 (seen stack.old)) }
+fn more_types(stack: &mut Stack) -> Result<(), Failure>
+    ensures { let vs = seen stack.old in Puts (of_typ_binds (typ_bind_in (at vs 1) ∷ typ_binds_in (at vs 2))) 3 vs (seen stack.new) result }
 {
     stack.skip();
-    Ok(Phrase::Declarations(DeclarationPhrase::TypBinds(typ_binds(stack)?)))
+    stack.put_typ_binds(typ_binds(stack)?)
 }
 
 /// Type variables, a type constructor and its right side.
-fn typ_bind(stack: &mut Stack) -> Result<Phrase, Failure>
-    ensures made { let vs = seen stack.old in Makes (of_typ_bind (names_in (at vs 0)) (name_in (at vs 1)) (ty_in (at vs 3))) result }
-    ensures rest { OnOk result (seen stack.new ≡ drop 4 (seen stack.old)) }
+fn typ_bind(stack: &mut Stack) -> Result<(), Failure>
+    ensures { let vs = seen stack.old in Puts (of_typ_bind (names_in (at vs 0)) (name_in (at vs 1)) (ty_in (at vs 3))) 4 vs (seen stack.new) result }
 {
     let variables = stack.names();
     let name = stack.name()?;
     stack.skip();
     let ty = stack.ty();
-    Ok(Phrase::Declarations(DeclarationPhrase::TypBind(variables, name, ty)))
+    stack.put_typ_bind(variables, name, ty)
 }
 
 fn no_typ_bind(stack: &mut Stack) -> Result<Phrase, Failure>
@@ -171,7 +165,7 @@ fn no_typ_bind(stack: &mut Stack) -> Result<Phrase, Failure>
         trees: Vec::new(stack.alloc),
         height: 0,
     };
-    Ok(Phrase::Declarations(DeclarationPhrase::TypBinds(none)))
+    stack.put_typ_binds(none)
 }
 
 /// An exception binding, and others behind it.
@@ -185,25 +179,23 @@ fn exn_binds(stack: &mut Stack) -> Result<LowExnBinds, Failure>
 }
 
 /// `exception ..`
-fn exception_dec(stack: &mut Stack, place: Place) -> Result<Phrase, Failure>
-    ensures made { let vs = seen stack.old in Makes (of_dec (exception_dec place (exn_bind_in (at vs 1) ∷ exn_binds_in (at vs 2)))) result }
-    ensures rest { OnOk result (seen stack.new ≡ drop 3 (seen stack.old)) }
+fn exception_dec(stack: &mut Stack, place: Place) -> Result<(), Failure>
+    ensures { let vs = seen stack.old in Puts (of_dec (exception_dec place (exn_bind_in (at vs 1) ∷ exn_binds_in (at vs 2)))) 3 vs (seen stack.new) result }
 {
     stack.skip();
     let mut all = exn_binds(stack)?;
     let height = raised(all.height, 1)?;
     all.trees.reverse();
     let tree = Dec::Exception(place, all.trees);
-    Ok(Phrase::Declarations(DeclarationPhrase::Dec(LowDec { tree, height })))
+    stack.put_dec(LowDec { tree, height })
 }
 
 /// An exception binding before others, behind `and`.
-fn more_exceptions(stack: &mut Stack) -> Result<Phrase, Failure>
-    ensures made { let vs = seen stack.old in Makes (of_exn_binds (exn_bind_in (at vs 1) ∷ exn_binds_in (at vs 2))) result }
-    ensures rest { OnOk result (seen stack.new ≡ drop 3 (seen stack.old)) }
+fn more_exceptions(stack: &mut Stack) -> Result<(), Failure>
+    ensures { let vs = seen stack.old in Puts (of_exn_binds (exn_bind_in (at vs 1) ∷ exn_binds_in (at vs 2))) 3 vs (seen stack.new) result }
 {
     stack.skip();
-    Ok(Phrase::Declarations(DeclarationPhrase::ExnBinds(exn_binds(stack)?)))
+    stack.put_exn_binds(exn_binds(stack)?)
 }
 
 fn no_exn_bind(stack: &mut Stack) -> Result<Phrase, Failure>
@@ -214,27 +206,25 @@ fn no_exn_bind(stack: &mut Stack) -> Result<Phrase, Failure>
         trees: Vec::new(stack.alloc),
         height: 0,
     };
-    Ok(Phrase::Declarations(DeclarationPhrase::ExnBinds(none)))
+    stack.put_exn_binds(none)
 }
 
 /// An exception, and what stands behind it.
-fn exn_bind(stack: &mut Stack) -> Result<Phrase, Failure>
-    ensures made { let vs = seen stack.old in Makes (exn_rest (name_in (at vs 1)) (at vs 2)) result }
-    ensures rest { OnOk result (seen stack.new ≡ drop 3 (seen stack.old)) }
+fn exn_bind(stack: &mut Stack) -> Result<(), Failure>
+    ensures { let vs = seen stack.old in Puts (exn_rest (name_in (at vs 1)) (at vs 2)) 3 vs (seen stack.new) result }
 {
     stack.skip();
     let name = stack.name()?;
     let ExceptionRest { copied, argument } = pop_exn_rest(stack);
     match copied {
-        Some(copied) => Ok(Phrase::Declarations(DeclarationPhrase::Copy(name, copied))),
-        None => Ok(Phrase::Declarations(DeclarationPhrase::ConBind(name, argument))),
+        Some(copied) => stack.put_copy(name, copied),
+        None => stack.put_con_bind(name, argument),
     }
 }
 
 /// `open ..`
-fn open_dec(stack: &mut Stack, place: Place) -> Result<Phrase, Failure>
-    ensures made { let vs = seen stack.old in Makes (of_dec (open_dec place (long_in (at vs 1) ∷ longs_in (at vs 2)))) result }
-    ensures rest { OnOk result (seen stack.new ≡ drop 3 (seen stack.old)) }
+fn open_dec(stack: &mut Stack, place: Place) -> Result<(), Failure>
+    ensures { let vs = seen stack.old in Puts (of_dec (open_dec place (long_in (at vs 1) ∷ longs_in (at vs 2)))) 3 vs (seen stack.new) result }
 {
     stack.skip();
     let first = stack.long()?;
@@ -242,18 +232,17 @@ fn open_dec(stack: &mut Stack, place: Place) -> Result<Phrase, Failure>
     all.push(first)?;
     all.reverse();
     let tree = Dec::Open(place, all);
-    Ok(Phrase::Declarations(DeclarationPhrase::Dec(LowDec { tree, height: 1 })))
+    stack.put_dec(LowDec { tree, height: 1 })
 }
 
 /// A structure before others.
-fn and_opened(stack: &mut Stack) -> Result<Phrase, Failure>
-    ensures made { let vs = seen stack.old in Makes (of_longs (long_in (at vs 0) ∷ longs_in (at vs 1))) result }
-    ensures rest { OnOk result (seen stack.new ≡ drop 2 (seen stack.old)) }
+fn and_opened(stack: &mut Stack) -> Result<(), Failure>
+    ensures { let vs = seen stack.old in Puts (of_longs (long_in (at vs 0) ∷ longs_in (at vs 1))) 2 vs (seen stack.new) result }
 {
     let first = stack.long()?;
     let mut all = stack.longs();
     all.push(first)?;
-    Ok(Phrase::Longs(all))
+    stack.put_longs(all)
 }
 
 /// A directive of fixity of so many parts.
@@ -262,10 +251,10 @@ fn fixity_dec(stack: &mut Stack, place: Place, parts: usize) -> Result<Phrase, F
     ensures rest { OnOk result (seen stack.new ≡ drop parts (seen stack.old)) }
 {
     skip_all(stack, parts);
-    Ok(Phrase::Declarations(DeclarationPhrase::Dec(LowDec {
+    stack.put_dec(LowDec {
         tree: Dec::Fixity(place),
         height: 1,
-    })))
+    })
 }
 
 /// The sequence of no declarations.
@@ -277,17 +266,16 @@ pub fn no_dec(stack: &mut Stack) -> Result<Phrase, Failure>
         trees: Vec::new(stack.alloc),
         height: 0,
     };
-    Ok(Phrase::Declarations(DeclarationPhrase::Decs(none)))
+    stack.put_decs(none)
 }
 
 /// A declaration before others.
-pub fn dec_before(stack: &mut Stack) -> Result<Phrase, Failure>
-    ensures made { let vs = seen stack.old in Makes (of_decs (and_dec (dec_in (at vs 0)) (decs_in (at vs 1)))) result }
-    ensures rest { OnOk result (seen stack.new ≡ drop 2 (seen stack.old)) }
+pub fn dec_before(stack: &mut Stack) -> Result<(), Failure>
+    ensures { let vs = seen stack.old in Puts (of_decs (and_dec (dec_in (at vs 0)) (decs_in (at vs 1)))) 2 vs (seen stack.new) result }
 {
     let first = stack.dec();
     let others = stack.decs();
-    Ok(Phrase::Declarations(DeclarationPhrase::Decs(and_dec(first, others)?)))
+    stack.put_decs(and_dec(first, others)?)
 }
 
 /// Nothing, of so many parts.
@@ -296,7 +284,7 @@ fn nothing(stack: &mut Stack, parts: usize) -> Result<Phrase, Failure>
     ensures rest { OnOk result (seen stack.new ≡ drop parts (seen stack.old)) }
 {
     skip_all(stack, parts);
-    Ok(Phrase::Nothing)
+    stack.put_nothing()
 }
 
 /// The sequence of no opened structures.
@@ -304,7 +292,7 @@ fn no_opened(stack: &mut Stack) -> Result<Phrase, Failure>
     ensures made { Makes (of_longs []) result }
     ensures rest { seen stack.new ≡ seen stack.old }
 {
-    Ok(Phrase::Longs(Vec::new(stack.alloc)))
+    stack.put_longs(Vec::new(stack.alloc))
 }
 
 /// What a rule of declarations makes of its parts, which it takes off the stack.
@@ -314,9 +302,8 @@ pub fn declaration_phrase(
     shape: Option<&Shape>,
     expander: &Expander,
     stack: &mut Stack,
-) -> Result<Phrase, Failure>
-    ensures made { Makes (declaration_phrase rule place (option_map (λ s. shape_of s.now) shape.entry) (seen stack.old)) result }
-    ensures rest { OnOk result (seen stack.new ≡ drop (length (right_side (Declarations rule))) (seen stack.old)) }
+) -> Result<(), Failure>
+    ensures { Puts (declaration_phrase rule place (option_map (λ s. shape_of s.now) shape.entry) (seen stack.old)) (length (right_side (Declarations rule))) (seen stack.old) (seen stack.new) result }
 {
     match rule {
         DeclarationRule::DecCoreDec => passed(stack, 0),

@@ -13,7 +13,7 @@ ghost use Rattle.sml_tree.specs.Clauses.{clause_rule, pat_row_of, clause_of};
 ghost use Rattle.sml_derived.specs.Derived.{function_of};
 ghost use Rattle.sml_phrases.specs.Phrases.{at, first, name_in, names_in, pat_in, pats_in, exp_in, bind_in, binds_in, clauses_in, ty_if_any, of_pats, of_bind, of_binds, of_clauses, of_functions, of_right_side};
 ghost use Rattle.sml_phrases.specs.PhraseHeights.{low};
-ghost use Rattle.sml_phrases.specs.PhraseViews.{Gives, Makes, phrase_of, seen};
+ghost use Rattle.sml_phrases.specs.PhraseViews.{Puts, Gives, Makes, phrase_of, seen};
 ghost use Rattle.sml_fixity.specs.Shapes.{shape_of};
 ghost use Rattle.sml_bare_decs.specs.FunctionRules.{right_side_in, round_rest, round_functions, clause_from, function_from};
 ghost use Rattle.sml_bare_decs.specs.FunctionViews.{low_pats_of, right_side_of};
@@ -229,15 +229,14 @@ pub fn pop_right_side(stack: &mut Stack) -> RightSide
 }
 
 /// A clause behind its first atomic pattern.
-pub fn right_side(stack: &mut Stack) -> Result<Phrase, Failure>
-    ensures made { let vs = seen stack.old in Makes (of_right_side (pats_in (at vs 0)) (ty_if_any (at vs 1)) (exp_in (at vs 3))) result }
-    ensures rest { OnOk result (seen stack.new ≡ drop 4 (seen stack.old)) }
+pub fn right_side(stack: &mut Stack) -> Result<(), Failure>
+    ensures { let vs = seen stack.old in Puts (of_right_side (pats_in (at vs 0)) (ty_if_any (at vs 1)) (exp_in (at vs 3))) 4 vs (seen stack.new) result }
 {
     let pats = stack.pats();
     let ty = stack.ty_if_any();
     stack.skip();
     let body = stack.exp();
-    Ok(Phrase::Declarations(DeclarationPhrase::RightSide(pats, ty, body)))
+    stack.put_right_side(pats, ty, body)
 }
 
 pub fn no_pat(stack: &mut Stack) -> Result<Phrase, Failure>
@@ -248,17 +247,16 @@ pub fn no_pat(stack: &mut Stack) -> Result<Phrase, Failure>
         trees: Vec::new(stack.alloc),
         height: 0,
     };
-    Ok(Phrase::Patterns(PatternPhrase::Pats(none)))
+    stack.put_pats(none)
 }
 
 /// An atomic pattern before others.
-pub fn pat_before(stack: &mut Stack) -> Result<Phrase, Failure>
-    ensures made { let vs = seen stack.old in Makes (of_pats (and_pat (pat_in (at vs 0)) (pats_in (at vs 1)))) result }
-    ensures rest { OnOk result (seen stack.new ≡ drop 2 (seen stack.old)) }
+pub fn pat_before(stack: &mut Stack) -> Result<(), Failure>
+    ensures { let vs = seen stack.old in Puts (of_pats (and_pat (pat_in (at vs 0)) (pats_in (at vs 1)))) 2 vs (seen stack.new) result }
 {
     let first = stack.pat();
     let others = stack.pats();
-    Ok(Phrase::Patterns(PatternPhrase::Pats(and_pat(first, others)?)))
+    stack.put_pats(and_pat(first, others)?)
 }
 
 pub fn no_clause(stack: &mut Stack) -> Result<Phrase, Failure>
@@ -269,7 +267,7 @@ pub fn no_clause(stack: &mut Stack) -> Result<Phrase, Failure>
         trees: Vec::new(stack.alloc),
         height: 0,
     };
-    Ok(Phrase::Declarations(DeclarationPhrase::Clauses(none)))
+    stack.put_clauses(none)
 }
 
 /// A clause that begins with the pattern on the stack.
@@ -283,14 +281,13 @@ fn clause_on(stack: &mut Stack, shape: Option<&Shape>) -> Result<LowClause, Fail
 }
 
 /// A clause before others, behind a bar.
-pub fn clause_before(stack: &mut Stack, shape: Option<&Shape>) -> Result<Phrase, Failure>
-    ensures made { let vs = seen stack.old in Makes (of_clauses (clause_from (option_map (λ s. shape_of s.now) shape.entry) (pat_in (at vs 1)) (right_side_in (at vs 2)) ∷ clauses_in (at vs 3))) result }
-    ensures rest { OnOk result (seen stack.new ≡ drop 4 (seen stack.old)) }
+pub fn clause_before(stack: &mut Stack, shape: Option<&Shape>) -> Result<(), Failure>
+    ensures { let vs = seen stack.old in Puts (of_clauses (clause_from (option_map (λ s. shape_of s.now) shape.entry) (pat_in (at vs 1)) (right_side_in (at vs 2)) ∷ clauses_in (at vs 3))) 4 vs (seen stack.new) result }
 {
     stack.skip();
     let clause = clause_on(stack, shape)?;
     let others = stack.clauses();
-    Ok(Phrase::Declarations(DeclarationPhrase::Clauses(and_clause(clause, others)?)))
+    stack.put_clauses(and_clause(clause, others)?)
 }
 
 /// A function from its clauses on the stack.
@@ -314,11 +311,10 @@ pub fn clauses(
     stack: &mut Stack,
     expander: &Expander,
     shape: Option<&Shape>,
-) -> Result<Phrase, Failure>
-    ensures made { let vs = seen stack.old in Makes (of_bind (function_from (option_map (λ s. shape_of s.now) shape.entry) (pat_place (pat_in (at vs 0))) (pat_in (at vs 0)) (right_side_in (at vs 1)) (clauses_in (at vs 2)))) result }
-    ensures rest { OnOk result (seen stack.new ≡ drop 3 (seen stack.old)) }
+) -> Result<(), Failure>
+    ensures { let vs = seen stack.old in Puts (of_bind (function_from (option_map (λ s. shape_of s.now) shape.entry) (pat_place (pat_in (at vs 0))) (pat_in (at vs 0)) (right_side_in (at vs 1)) (clauses_in (at vs 2)))) 3 vs (seen stack.new) result }
 {
-    Ok(Phrase::Declarations(DeclarationPhrase::Bind(function_on(stack, expander, shape)?)))
+    stack.put_bind(function_on(stack, expander, shape)?)
 }
 
 /// The clauses of a function, and further functions.
@@ -326,16 +322,13 @@ pub fn functions(
     stack: &mut Stack,
     expander: &Expander,
     shape: Option<&Shape>,
-) -> Result<Phrase, Failure>
-    ensures made { let vs = seen stack.old in Makes (of_functions [] (and_bind (function_from (option_map (λ s. shape_of s.now) shape.entry) (pat_place (pat_in (at vs 0))) (pat_in (at vs 0)) (right_side_in (at vs 1)) (clauses_in (at vs 2))) (binds_in (at vs 3)))) result }
-    ensures rest { OnOk result (seen stack.new ≡ drop 4 (seen stack.old)) }
+) -> Result<(), Failure>
+    ensures { let vs = seen stack.old in Puts (of_functions [] (and_bind (function_from (option_map (λ s. shape_of s.now) shape.entry) (pat_place (pat_in (at vs 0))) (pat_in (at vs 0)) (right_side_in (at vs 1)) (clauses_in (at vs 2))) (binds_in (at vs 3)))) 4 vs (seen stack.new) result }
 {
     let function = function_on(stack, expander, shape)?;
     let others = stack.binds();
-    Ok(Phrase::Declarations(DeclarationPhrase::Functions(
-        Vec::new(stack.alloc),
-        and_bind(function, others)?,
-    )))
+    stack.put_functions(Vec::new(stack.alloc),
+        and_bind(function, others)?)
 }
 
 pub fn no_function(stack: &mut Stack) -> Result<Phrase, Failure>
@@ -346,30 +339,28 @@ pub fn no_function(stack: &mut Stack) -> Result<Phrase, Failure>
         trees: Vec::new(stack.alloc),
         height: 0,
     };
-    Ok(Phrase::Declarations(DeclarationPhrase::Binds(none)))
+    stack.put_binds(none)
 }
 
 /// A function before others, behind `and`.
-pub fn more_functions(stack: &mut Stack) -> Result<Phrase, Failure>
-    ensures made { let vs = seen stack.old in Makes (of_binds (and_bind (bind_in (at vs 1)) (binds_in (at vs 2)))) result }
-    ensures rest { OnOk result (seen stack.new ≡ drop 3 (seen stack.old)) }
+pub fn more_functions(stack: &mut Stack) -> Result<(), Failure>
+    ensures { let vs = seen stack.old in Puts (of_binds (and_bind (bind_in (at vs 1)) (binds_in (at vs 2)))) 3 vs (seen stack.new) result }
 {
     stack.skip();
     let first = stack.bind();
     let others = stack.binds();
-    Ok(Phrase::Declarations(DeclarationPhrase::Binds(and_bind(first, others)?)))
+    stack.put_binds(and_bind(first, others)?)
 }
 
 /// Functions behind one explicit type variable.
-pub fn functions_of_variable(stack: &mut Stack) -> Result<Phrase, Failure>
-    ensures made { let vs = seen stack.old in Makes (of_functions (name_in (at vs 0) ∷ []) (and_bind (bind_in (at vs 1)) (binds_in (at vs 2)))) result }
-    ensures rest { OnOk result (seen stack.new ≡ drop 3 (seen stack.old)) }
+pub fn functions_of_variable(stack: &mut Stack) -> Result<(), Failure>
+    ensures { let vs = seen stack.old in Puts (of_functions (name_in (at vs 0) ∷ []) (and_bind (bind_in (at vs 1)) (binds_in (at vs 2)))) 3 vs (seen stack.new) result }
 {
     let mut variables = Vec::new(stack.alloc);
     variables.push(stack.name()?)?;
     let first = stack.bind();
     let others = stack.binds();
-    Ok(Phrase::Declarations(DeclarationPhrase::Functions(variables, and_bind(first, others)?)))
+    stack.put_functions(variables, and_bind(first, others)?)
 }
 
 /// Explicit type variables in round brackets, without the brackets.
@@ -394,28 +385,24 @@ fn all_functions(stack: &mut Stack) -> Result<LowBinds, Memory>
 }
 
 /// Functions behind explicit type variables in round brackets, without the first bracket.
-pub fn functions_of_variables(stack: &mut Stack) -> Result<Phrase, Failure>
-    ensures made { let vs = seen stack.old in Makes (of_functions (name_in (at vs 0) ∷ names_in (at vs 1)) (and_bind (bind_in (at vs 3)) (binds_in (at vs 4)))) result }
-    ensures rest { OnOk result (seen stack.new ≡ drop 5 (seen stack.old)) }
+pub fn functions_of_variables(stack: &mut Stack) -> Result<(), Failure>
+    ensures { let vs = seen stack.old in Puts (of_functions (name_in (at vs 0) ∷ names_in (at vs 1)) (and_bind (bind_in (at vs 3)) (binds_in (at vs 4)))) 5 vs (seen stack.new) result }
 {
     let variables = variables(stack)?;
     stack.skip();
     let functions = all_functions(stack)?;
-    Ok(Phrase::Declarations(DeclarationPhrase::Functions(variables, functions)))
+    stack.put_functions(variables, functions)
 }
 
 /// What stands behind `fun (` where it is a pattern.
-pub fn functions_behind_bracket(stack: &mut Stack) -> Result<Phrase, Failure>
-    ensures made { let vs = seen stack.old in Makes (round_rest (pats_in (at vs 0)) (right_side_in (at vs 1)) (clauses_in (at vs 2)) (binds_in (at vs 3))) result }
-    ensures rest { OnOk result (seen stack.new ≡ drop 4 (seen stack.old)) }
+pub fn functions_behind_bracket(stack: &mut Stack) -> Result<(), Failure>
+    ensures { let vs = seen stack.old in Puts (round_rest (pats_in (at vs 0)) (right_side_in (at vs 1)) (clauses_in (at vs 2)) (binds_in (at vs 3))) 4 vs (seen stack.new) result }
 {
     let inner = stack.pats();
     let RightSide { pats, result, body } = pop_right_side(stack);
     let others = stack.clauses();
     let binds = stack.binds();
-    Ok(Phrase::Declarations(DeclarationPhrase::RoundFunctions(
-        inner, pats, result, body, others, binds,
-    )))
+    stack.put_round_functions(inner, pats, result, body, others, binds)
 }
 
 /// A function whose first clause begins with a round bracket, and further functions.
@@ -432,10 +419,8 @@ fn round_function(
 {
     let first = round_pat(expander.alloc, place, inner)?;
     let function = function_from(expander, shape, place, first, right, others)?;
-    Ok(Phrase::Declarations(DeclarationPhrase::Functions(
-        Vec::new(expander.alloc),
-        and_bind(function, binds)?,
-    )))
+    stack.put_functions(Vec::new(expander.alloc),
+        and_bind(function, binds)?)
 }
 
 /// What stands behind `fun (`, with the pattern in its brackets.
@@ -464,9 +449,8 @@ pub fn round_functions(
     place: Place,
     expander: &Expander,
     shape: Option<&Shape>,
-) -> Result<Phrase, Failure>
-    ensures made { Makes (round_functions (option_map (λ s. shape_of s.now) shape.entry) place (at (seen stack.old) 1)) result }
-    ensures rest { OnOk result (seen stack.new ≡ drop 2 (seen stack.old)) }
+) -> Result<(), Failure>
+    ensures { Puts (round_functions (option_map (λ s. shape_of s.now) shape.entry) place (at (seen stack.old) 1)) 2 (seen stack.old) (seen stack.new) result }
 {
     stack.skip();
     let rest = stack.pop();

@@ -6,7 +6,7 @@ ghost use Rattle.sml_tree.specs.PatternViews.{pat_of};
 ghost use Rattle.sml_tree.specs.ExpressionViews.{exp_of, bind_of, binds_of};
 ghost use Rattle.sml_tree.specs.Expressions.{bind, no_bind, and_bind};
 ghost use Rattle.sml_phrases.specs.Phrases.{of_values, at, name_in, names_in, pat_in, pats_in, exp_in};
-ghost use Rattle.sml_phrases.specs.PhraseViews.{Makes, phrase_of, seen};
+ghost use Rattle.sml_phrases.specs.PhraseViews.{Puts, Makes, phrase_of, seen};
 ghost use Rattle.sml_bare_decs.specs.DeclarationRules.{values_in, atoms_in, with_variables, all_recursive, round_value, round_values, and_value};
 ghost use Rattle.sml_bare_pats.specs.LowViews.{low_pats_of, low_tys_of};
 ghost use Rattle.sml_bare_pats.specs.PatternRules.{round_pat};
@@ -44,13 +44,12 @@ fn and_value(
         height,
     };
     let plain = and_bind(first, others)?;
-    Ok(Phrase::Declarations(DeclarationPhrase::Values(Vec::new(alloc), plain, recursive)))
+    stack.put_values(Vec::new(alloc), plain, recursive)
 }
 
 /// A pattern, its right side, and further bindings.
-pub fn value(stack: &mut Stack) -> Result<Phrase, Failure>
-    ensures made { let vs = seen stack.old in Makes (and_value (pat_in (at vs 0)) (exp_in (at vs 2)) (values_in (at vs 3))) result }
-    ensures rest { OnOk result (seen stack.new ≡ drop 4 (seen stack.old)) }
+pub fn value(stack: &mut Stack) -> Result<(), Failure>
+    ensures { let vs = seen stack.old in Puts (and_value (pat_in (at vs 0)) (exp_in (at vs 2)) (values_in (at vs 3))) 4 vs (seen stack.new) result }
 {
     let pat = stack.pat();
     stack.skip();
@@ -75,13 +74,12 @@ pub fn no_value(stack: &mut Stack) -> Result<Phrase, Failure>
         trees: Vec::new(stack.alloc),
         height: 0,
     };
-    Ok(Phrase::Declarations(DeclarationPhrase::Values(Vec::new(stack.alloc), plain, recursive)))
+    stack.put_values(Vec::new(stack.alloc), plain, recursive)
 }
 
 /// Bindings behind `rec`.
-pub fn recursive(stack: &mut Stack) -> Result<Phrase, Failure>
-    ensures made { Makes (all_recursive (values_in (at (seen stack.old) 1))) result }
-    ensures rest { OnOk result (seen stack.new ≡ drop 2 (seen stack.old)) }
+pub fn recursive(stack: &mut Stack) -> Result<(), Failure>
+    ensures { Puts (all_recursive (values_in (at (seen stack.old) 1))) 2 (seen stack.old) (seen stack.new) result }
 {
     stack.skip();
     let Values {
@@ -94,13 +92,12 @@ pub fn recursive(stack: &mut Stack) -> Result<Phrase, Failure>
         trees: Vec::new(stack.alloc),
         height: 0,
     };
-    Ok(Phrase::Declarations(DeclarationPhrase::Values(Vec::new(stack.alloc), none, all)))
+    stack.put_values(Vec::new(stack.alloc), none, all)
 }
 
 /// Bindings behind one explicit type variable.
-pub fn of_variable(stack: &mut Stack) -> Result<Phrase, Failure>
-    ensures made { let vs = seen stack.old in Makes (with_variables (name_in (at vs 0) ∷ []) (values_in (at vs 1))) result }
-    ensures rest { OnOk result (seen stack.new ≡ drop 2 (seen stack.old)) }
+pub fn of_variable(stack: &mut Stack) -> Result<(), Failure>
+    ensures { let vs = seen stack.old in Puts (with_variables (name_in (at vs 0) ∷ []) (values_in (at vs 1))) 2 vs (seen stack.new) result }
 {
     let mut variables = Vec::new(stack.alloc);
     variables.push(stack.name()?)?;
@@ -109,13 +106,12 @@ pub fn of_variable(stack: &mut Stack) -> Result<Phrase, Failure>
         plain,
         recursive,
     } = pop_values(stack);
-    Ok(Phrase::Declarations(DeclarationPhrase::Values(variables, plain, recursive)))
+    stack.put_values(variables, plain, recursive)
 }
 
 /// Bindings behind explicit type variables in round brackets, without the first bracket.
-pub fn of_variables(stack: &mut Stack) -> Result<Phrase, Failure>
-    ensures made { let vs = seen stack.old in Makes (with_variables (name_in (at vs 0) ∷ names_in (at vs 1)) (values_in (at vs 3))) result }
-    ensures rest { OnOk result (seen stack.new ≡ drop 4 (seen stack.old)) }
+pub fn of_variables(stack: &mut Stack) -> Result<(), Failure>
+    ensures { let vs = seen stack.old in Puts (with_variables (name_in (at vs 0) ∷ names_in (at vs 1)) (values_in (at vs 3))) 4 vs (seen stack.new) result }
 {
     let first = stack.name()?;
     let mut all = stack.names();
@@ -126,13 +122,12 @@ pub fn of_variables(stack: &mut Stack) -> Result<Phrase, Failure>
         plain,
         recursive,
     } = pop_values(stack);
-    Ok(Phrase::Declarations(DeclarationPhrase::Values(all, plain, recursive)))
+    stack.put_values(all, plain, recursive)
 }
 
 /// What stands behind `val (` where it is a pattern.
-pub fn behind_bracket(stack: &mut Stack) -> Result<Phrase, Failure>
-    ensures made { let vs = seen stack.old in Makes (round_values (pats_in (at vs 0)) (atoms_in (at vs 1)) (exp_in (at vs 3)) (values_in (at vs 4))) result }
-    ensures rest { OnOk result (seen stack.new ≡ drop 5 (seen stack.old)) }
+pub fn behind_bracket(stack: &mut Stack) -> Result<(), Failure>
+    ensures { let vs = seen stack.old in Puts (round_values (pats_in (at vs 0)) (atoms_in (at vs 1)) (exp_in (at vs 3)) (values_in (at vs 4))) 5 vs (seen stack.new) result }
 {
     let inner = stack.pats();
     let Atoms { pats, tys } = pop_atoms(stack);
@@ -143,9 +138,7 @@ pub fn behind_bracket(stack: &mut Stack) -> Result<Phrase, Failure>
         plain,
         recursive,
     } = pop_values(stack);
-    Ok(Phrase::Declarations(DeclarationPhrase::RoundValues(
-        inner, pats, tys, exp, plain, recursive,
-    )))
+    stack.put_round_values(inner, pats, tys, exp, plain, recursive)
 }
 
 /// A binding whose pattern begins with a round bracket, before others.
@@ -198,9 +191,8 @@ pub fn round_value(
     place: Place,
     expander: &Expander,
     shape: Option<&Shape>,
-) -> Result<Phrase, Failure>
-    ensures made { Makes (round_value (option_map (λ s. shape_of s.now) shape.entry) place (at (seen stack.old) 1)) result }
-    ensures rest { OnOk result (seen stack.new ≡ drop 2 (seen stack.old)) }
+) -> Result<(), Failure>
+    ensures { Puts (round_value (option_map (λ s. shape_of s.now) shape.entry) place (at (seen stack.old) 1)) 2 (seen stack.old) (seen stack.new) result }
 {
     stack.skip();
     let rest = stack.pop();

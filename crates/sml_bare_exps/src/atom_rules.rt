@@ -6,7 +6,7 @@ ghost use Rattle.sml_tree.specs.ExpressionViews.{exp_of, exps_of, field_of, fiel
 ghost use Rattle.sml_tree.specs.TypeViews.{name_of};
 ghost use Rattle.sml_derived.specs.Derived.{select};
 ghost use Rattle.sml_phrases.specs.Phrases.{of_exp, of_exps, of_series, of_fields, at, name_in, long_in, constant_in, exp_in, exps_in, fields_in, decs_in};
-ghost use Rattle.sml_phrases.specs.PhraseViews.{Makes, phrase_of, seen};
+ghost use Rattle.sml_phrases.specs.PhraseViews.{Puts, Makes, phrase_of, seen};
 ghost use Rattle.sml_bare_exps.specs.ExpressionViews.{GivesExp, low_exp_of};
 ghost use Rattle.sml_bare_exps.specs.ExpressionRules.{series_of, list_of, tuple_of, round_of, round_parts, body_of};
 
@@ -25,13 +25,13 @@ use std::alloc::Global;
 pub fn of_exp(exp: LowExp) -> Phrase
     ensures { phrase_of result ≡ of_exp (low_exp_of exp) }
 {
-    Phrase::Expressions(ExpressionPhrase::Exp(exp))
+    stack.put_exp(exp)
 }
 
 fn of_exps(exps: LowExps) -> Phrase
     ensures { phrase_of result ≡ of_exps (exps_of (map low_exp_of (reverse exps.trees.items))) }
 {
-    Phrase::Expressions(ExpressionPhrase::Exps(exps))
+    stack.put_exps(exps)
 }
 
 /// Expressions with one more before them.
@@ -45,17 +45,16 @@ fn with(exp: LowExp, exps: LowExps) -> Result<LowExps, Memory>
 }
 
 /// No expressions.
-pub fn no_exps(stack: &Stack) -> Phrase
-    ensures { phrase_of result ≡ of_exps no_exp }
+pub fn no_exps(stack: &mut Stack) -> Result<(), Failure>
+    ensures { Puts (of_exps no_exp) 0 (seen stack.old) (seen stack.new) result }
 {
     let trees = Vec::new(stack.alloc);
     of_exps(LowExps { trees, height: 0 })
 }
 
 /// A bracket or a word behind the last expression.
-pub fn last_exp(stack: &mut Stack) -> Phrase
-    ensures made { phrase_of result ≡ of_exps no_exp }
-    ensures rest { seen stack.new ≡ drop 1 (seen stack.old) }
+pub fn last_exp(stack: &mut Stack) -> Result<(), Failure>
+    ensures { Puts (of_exps no_exp) 1 (seen stack.old) (seen stack.new) result }
 {
     stack.skip();
     no_exps(stack)
@@ -72,42 +71,38 @@ pub fn taken_exps(stack: &mut Stack) -> Result<LowExps, Memory>
 }
 
 /// An expression and those behind it.
-pub fn first_exps(stack: &mut Stack) -> Result<Phrase, Failure>
-    ensures made { Makes (let vs = seen stack.old in of_exps (and_exp (exp_in (at vs 0)) (exps_in (at vs 1)))) result }
-    ensures rest { OnOk result (seen stack.new ≡ drop 2 (seen stack.old)) }
+pub fn first_exps(stack: &mut Stack) -> Result<(), Failure>
+    ensures { Puts (let vs = seen stack.old in of_exps (and_exp (exp_in (at vs 0)) (exps_in (at vs 1)))) 2 (seen stack.old) (seen stack.new) result }
 {
     Ok(of_exps(taken_exps(stack)?))
 }
 
 /// A comma or a semicolon, an expression and those behind it.
-pub fn more_exps(stack: &mut Stack) -> Result<Phrase, Failure>
-    ensures made { Makes (let vs = seen stack.old in of_exps (and_exp (exp_in (at vs 1)) (exps_in (at vs 2)))) result }
-    ensures rest { OnOk result (seen stack.new ≡ drop 3 (seen stack.old)) }
+pub fn more_exps(stack: &mut Stack) -> Result<(), Failure>
+    ensures { Puts (let vs = seen stack.old in of_exps (and_exp (exp_in (at vs 1)) (exps_in (at vs 2)))) 3 (seen stack.old) (seen stack.new) result }
 {
     stack.skip();
     first_exps(stack)
 }
 
 /// `; Exp SequenceMore`
-pub fn more_series(stack: &mut Stack) -> Result<Phrase, Failure>
-    ensures made { Makes (let vs = seen stack.old in of_series (and_exp (exp_in (at vs 1)) (exps_in (at vs 2)))) result }
-    ensures rest { OnOk result (seen stack.new ≡ drop 3 (seen stack.old)) }
+pub fn more_series(stack: &mut Stack) -> Result<(), Failure>
+    ensures { Puts (let vs = seen stack.old in of_series (and_exp (exp_in (at vs 1)) (exps_in (at vs 2)))) 3 (seen stack.old) (seen stack.new) result }
 {
     stack.skip();
     let exps = taken_exps(stack)?;
-    Ok(Phrase::Expressions(ExpressionPhrase::Series(exps)))
+    stack.put_series(exps)
 }
 
 /// `Exp ExpRoundMore`
-pub fn round_parts(stack: &mut Stack) -> Result<Phrase, Failure>
-    ensures made { Makes (let vs = seen stack.old in round_parts (exp_in (at vs 0)) (at vs 1)) result }
-    ensures rest { OnOk result (seen stack.new ≡ drop 2 (seen stack.old)) }
+pub fn round_parts(stack: &mut Stack) -> Result<(), Failure>
+    ensures { Puts (let vs = seen stack.old in round_parts (exp_in (at vs 0)) (at vs 1)) 2 (seen stack.old) (seen stack.new) result }
 {
     let exp = stack.exp();
     match stack.pop() {
         Phrase::Expressions(ExpressionPhrase::Series(exps)) => {
             let exps = with(exp, exps)?;
-            Ok(Phrase::Expressions(ExpressionPhrase::Series(exps)))
+            stack.put_series(exps)
         }
         Phrase::Expressions(ExpressionPhrase::Exps(exps)) => Ok(of_exps(with(exp, exps)?)),
         other => {
@@ -194,9 +189,8 @@ fn tuple(alloc: Global, place: Place, exps: LowExps) -> Result<LowExp, Failure>
 }
 
 /// `( ExpRound`
-pub fn round(expander: &Expander, place: Place, stack: &mut Stack) -> Result<Phrase, Failure>
-    ensures made { Makes (of_exp (round_of place (at (seen stack.old) 1))) result }
-    ensures rest { OnOk result (seen stack.new ≡ drop 2 (seen stack.old)) }
+pub fn round(expander: &Expander, place: Place, stack: &mut Stack) -> Result<(), Failure>
+    ensures { Puts (of_exp (round_of place (at (seen stack.old) 1))) 2 (seen stack.old) (seen stack.new) result }
 {
     stack.skip();
     match stack.pop() {
@@ -217,9 +211,8 @@ pub fn round(expander: &Expander, place: Place, stack: &mut Stack) -> Result<Phr
 }
 
 /// `[ ExpList`
-pub fn square(expander: &Expander, place: Place, stack: &mut Stack) -> Result<Phrase, Failure>
-    ensures made { Makes (of_exp (list_of place (exps_in (at (seen stack.old) 1)))) result }
-    ensures rest { OnOk result (seen stack.new ≡ drop 2 (seen stack.old)) }
+pub fn square(expander: &Expander, place: Place, stack: &mut Stack) -> Result<(), Failure>
+    ensures { Puts (of_exp (list_of place (exps_in (at (seen stack.old) 1)))) 2 (seen stack.old) (seen stack.new) result }
 {
     stack.skip();
     let exps = stack.exps();
@@ -278,44 +271,39 @@ fn local_exp(expander: &Expander, place: Place, stack: &mut Stack) -> Result<Low
 }
 
 /// The same, as a phrase.
-pub fn local(expander: &Expander, place: Place, stack: &mut Stack) -> Result<Phrase, Failure>
-    ensures made { Makes (let vs = seen stack.old in of_exp (let_in place (decs_in (at vs 1)) (body_of (exp_in (at vs 3)) (exps_in (at vs 4))))) result }
-    ensures rest { OnOk result (seen stack.new ≡ drop 5 (seen stack.old)) }
+pub fn local(expander: &Expander, place: Place, stack: &mut Stack) -> Result<(), Failure>
+    ensures { Puts (let vs = seen stack.old in of_exp (let_in place (decs_in (at vs 1)) (body_of (exp_in (at vs 3)) (exps_in (at vs 4))))) 5 (seen stack.old) (seen stack.new) result }
 {
     Ok(of_exp(local_exp(expander, place, stack)?))
 }
 
 /// `Constant`
-pub fn constant(place: Place, stack: &mut Stack) -> Result<Phrase, Failure>
-    ensures made { Makes (of_exp (constant place (constant_in (at (seen stack.old) 0)))) result }
-    ensures rest { OnOk result (seen stack.new ≡ drop 1 (seen stack.old)) }
+pub fn constant(place: Place, stack: &mut Stack) -> Result<(), Failure>
+    ensures { Puts (of_exp (constant place (constant_in (at (seen stack.old) 0)))) 1 (seen stack.old) (seen stack.new) result }
 {
     let tree = Exp::Constant(place, stack.constant()?);
     Ok(of_exp(LowExp { tree, height: 1 }))
 }
 
 /// `ExpVid`
-pub fn identifier(place: Place, stack: &mut Stack) -> Result<Phrase, Failure>
-    ensures made { Makes (of_exp (name place (long_in (at (seen stack.old) 0)))) result }
-    ensures rest { OnOk result (seen stack.new ≡ drop 1 (seen stack.old)) }
+pub fn identifier(place: Place, stack: &mut Stack) -> Result<(), Failure>
+    ensures { Puts (of_exp (name place (long_in (at (seen stack.old) 0)))) 1 (seen stack.old) (seen stack.new) result }
 {
     let tree = Exp::Identifier(place, stack.long()?);
     Ok(of_exp(LowExp { tree, height: 1 }))
 }
 
 /// `op ExpVid`
-pub fn behind_op(place: Place, stack: &mut Stack) -> Result<Phrase, Failure>
-    ensures made { Makes (of_exp (name place (long_in (at (seen stack.old) 1)))) result }
-    ensures rest { OnOk result (seen stack.new ≡ drop 2 (seen stack.old)) }
+pub fn behind_op(place: Place, stack: &mut Stack) -> Result<(), Failure>
+    ensures { Puts (of_exp (name place (long_in (at (seen stack.old) 1)))) 2 (seen stack.old) (seen stack.new) result }
 {
     stack.skip();
     identifier(place, stack)
 }
 
 /// `# Lab`
-pub fn selector(expander: &Expander, place: Place, stack: &mut Stack) -> Result<Phrase, Failure>
-    ensures made { Makes (of_exp (select place (name_in (at (seen stack.old) 1)))) result }
-    ensures rest { OnOk result (seen stack.new ≡ drop 2 (seen stack.old)) }
+pub fn selector(expander: &Expander, place: Place, stack: &mut Stack) -> Result<(), Failure>
+    ensures { Puts (of_exp (select place (name_in (at (seen stack.old) 1)))) 2 (seen stack.old) (seen stack.new) result }
 {
     stack.skip();
     let label = stack.name()?;
@@ -323,9 +311,8 @@ pub fn selector(expander: &Expander, place: Place, stack: &mut Stack) -> Result<
 }
 
 /// `{ ExpRow`
-pub fn row(place: Place, stack: &mut Stack) -> Result<Phrase, Failure>
-    ensures made { Makes (of_exp (row place (fields_in (at (seen stack.old) 1)))) result }
-    ensures rest { OnOk result (seen stack.new ≡ drop 2 (seen stack.old)) }
+pub fn row(place: Place, stack: &mut Stack) -> Result<(), Failure>
+    ensures { Puts (of_exp (row place (fields_in (at (seen stack.old) 1)))) 2 (seen stack.old) (seen stack.new) result }
 {
     stack.skip();
     let fields = stack.fields();
@@ -337,13 +324,12 @@ pub fn row(place: Place, stack: &mut Stack) -> Result<Phrase, Failure>
 }
 
 /// A bracket behind the last field.
-pub fn last_field(stack: &mut Stack) -> Phrase
-    ensures made { phrase_of result ≡ of_fields no_field }
-    ensures rest { seen stack.new ≡ drop 1 (seen stack.old) }
+pub fn last_field(stack: &mut Stack) -> Result<(), Failure>
+    ensures { Puts (of_fields no_field) 1 (seen stack.old) (seen stack.new) result }
 {
     stack.skip();
     let trees = Vec::new(stack.alloc);
-    Phrase::Expressions(ExpressionPhrase::Fields(LowFields { trees, height: 0 }))
+    stack.put_fields(LowFields { trees, height: 0 })
 }
 
 /// Fields with one more before them.
@@ -360,21 +346,19 @@ fn with_field(label: Name, exp: LowExp, fields: LowFields) -> Result<LowFields, 
 }
 
 /// `Lab = Exp ExpRowMore`
-pub fn first_fields(stack: &mut Stack) -> Result<Phrase, Failure>
-    ensures made { Makes (let vs = seen stack.old in of_fields (and_field (field (name_in (at vs 0)) (exp_in (at vs 2))) (fields_in (at vs 3)))) result }
-    ensures rest { OnOk result (seen stack.new ≡ drop 4 (seen stack.old)) }
+pub fn first_fields(stack: &mut Stack) -> Result<(), Failure>
+    ensures { Puts (let vs = seen stack.old in of_fields (and_field (field (name_in (at vs 0)) (exp_in (at vs 2))) (fields_in (at vs 3)))) 4 (seen stack.old) (seen stack.new) result }
 {
     let label = stack.name()?;
     stack.skip();
     let exp = stack.exp();
     let fields = with_field(label, exp, stack.fields())?;
-    Ok(Phrase::Expressions(ExpressionPhrase::Fields(fields)))
+    stack.put_fields(fields)
 }
 
 /// `, Lab = Exp ExpRowMore`
-pub fn more_fields(stack: &mut Stack) -> Result<Phrase, Failure>
-    ensures made { Makes (let vs = seen stack.old in of_fields (and_field (field (name_in (at vs 1)) (exp_in (at vs 3))) (fields_in (at vs 4)))) result }
-    ensures rest { OnOk result (seen stack.new ≡ drop 5 (seen stack.old)) }
+pub fn more_fields(stack: &mut Stack) -> Result<(), Failure>
+    ensures { Puts (let vs = seen stack.old in of_fields (and_field (field (name_in (at vs 1)) (exp_in (at vs 3))) (fields_in (at vs 4)))) 5 (seen stack.old) (seen stack.new) result }
 {
     stack.skip();
     first_fields(stack)

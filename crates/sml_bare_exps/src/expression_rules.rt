@@ -10,7 +10,7 @@ ghost use Rattle.sml_read.specs.declared.grammar.Rule.TheVariants.{Expressions};
 ghost use Rattle.sml_read.specs.Grammar.{right_side};
 ghost use Rattle.sml_derived.specs.Derived.{case_of, if_of, while_of};
 ghost use Rattle.sml_phrases.specs.Phrases.{of_exp, of_rules, of_tys, at, exp_in, exps_in, exp_if_any, pat_in, rules_in, rules_if_any, ty_in, tys_in};
-ghost use Rattle.sml_phrases.specs.PhraseViews.{Makes, phrase_of, seen};
+ghost use Rattle.sml_phrases.specs.PhraseViews.{Puts, Makes, phrase_of, seen};
 ghost use Rattle.sml_fixity.specs.Shapes.{shape_of};
 ghost use Rattle.sml_bare_exps.specs.ExpressionSequences.{sequence_exp};
 ghost use Rattle.sml_bare_exps.specs.ExpressionViews.{GivesExp, low_exp_of};
@@ -115,25 +115,22 @@ fn handled_operands(expander: &Expander, place: Place, stack: &mut Stack) -> Res
 }
 
 /// The same, as a phrase.
-fn handling(expander: &Expander, place: Place, stack: &mut Stack) -> Result<Phrase, Failure>
-    ensures made { Makes (let vs = seen stack.old in of_exp (handled place (disjunction place (conjunction place (exp_in (at vs 0)) (exp_if_any (at vs 1))) (exp_if_any (at vs 2))) (rules_if_any (at vs 3)))) result }
-    ensures rest { OnOk result (seen stack.new ≡ drop 4 (seen stack.old)) }
+fn handling(expander: &Expander, place: Place, stack: &mut Stack) -> Result<(), Failure>
+    ensures { Puts (let vs = seen stack.old in of_exp (handled place (disjunction place (conjunction place (exp_in (at vs 0)) (exp_if_any (at vs 1))) (exp_if_any (at vs 2))) (rules_if_any (at vs 3)))) 4 (seen stack.old) (seen stack.new) result }
 {
     Ok(of_exp(handled_operands(expander, place, stack)?))
 }
 
 /// The same, as a phrase.
-fn alternatives(expander: &Expander, place: Place, stack: &mut Stack) -> Result<Phrase, Failure>
-    ensures made { Makes (let vs = seen stack.old in of_exp (disjunction place (conjunction place (exp_in (at vs 0)) (exp_if_any (at vs 1))) (exp_if_any (at vs 2)))) result }
-    ensures rest { OnOk result (seen stack.new ≡ drop 3 (seen stack.old)) }
+fn alternatives(expander: &Expander, place: Place, stack: &mut Stack) -> Result<(), Failure>
+    ensures { Puts (let vs = seen stack.old in of_exp (disjunction place (conjunction place (exp_in (at vs 0)) (exp_if_any (at vs 1))) (exp_if_any (at vs 2)))) 3 (seen stack.old) (seen stack.new) result }
 {
     Ok(of_exp(operands(expander, place, stack)?))
 }
 
 /// The same, as a phrase.
-fn both(expander: &Expander, place: Place, stack: &mut Stack) -> Result<Phrase, Failure>
-    ensures made { Makes (let vs = seen stack.old in of_exp (conjunction place (exp_in (at vs 0)) (exp_if_any (at vs 1)))) result }
-    ensures rest { OnOk result (seen stack.new ≡ drop 2 (seen stack.old)) }
+fn both(expander: &Expander, place: Place, stack: &mut Stack) -> Result<(), Failure>
+    ensures { Puts (let vs = seen stack.old in of_exp (conjunction place (exp_in (at vs 0)) (exp_if_any (at vs 1)))) 2 (seen stack.old) (seen stack.new) result }
 {
     Ok(of_exp(conjuncts(expander, place, stack)?))
 }
@@ -143,9 +140,8 @@ fn sequence(
     expander: &Expander,
     shape: Option<&Shape>,
     stack: &mut Stack,
-) -> Result<Phrase, Failure>
-    ensures made { Makes (let vs = seen stack.old in of_exp (sequence_exp (option_map (λ s. shape_of s.now) shape.entry) (and_exp (exp_in (at vs 0)) (exps_in (at vs 1))) (tys_in (at vs 2)))) result }
-    ensures rest { OnOk result (seen stack.new ≡ drop 3 (seen stack.old)) }
+) -> Result<(), Failure>
+    ensures { Puts (let vs = seen stack.old in of_exp (sequence_exp (option_map (λ s. shape_of s.now) shape.entry) (and_exp (exp_in (at vs 0)) (exps_in (at vs 1))) (tys_in (at vs 2)))) 3 (seen stack.old) (seen stack.new) result }
 {
     let exps = taken_exps(stack)?;
     let tys = stack.tys();
@@ -153,22 +149,20 @@ fn sequence(
 }
 
 /// `: Ty TyMore`
-fn more_tys(stack: &mut Stack) -> Result<Phrase, Failure>
-    ensures made { Makes (let vs = seen stack.old in of_tys (and_ty (ty_in (at vs 1)) (tys_in (at vs 2)))) result }
-    ensures rest { OnOk result (seen stack.new ≡ drop 3 (seen stack.old)) }
+fn more_tys(stack: &mut Stack) -> Result<(), Failure>
+    ensures { Puts (let vs = seen stack.old in of_tys (and_ty (ty_in (at vs 1)) (tys_in (at vs 2)))) 3 (seen stack.old) (seen stack.new) result }
 {
     stack.skip();
     let ty = stack.ty();
     let LowTys { mut trees, height } = stack.tys();
     let height = height.max(ty.height);
     trees.push(ty)?;
-    Ok(Phrase::Types(TypePhrase::Tys(LowTys { trees, height })))
+    stack.put_tys(LowTys { trees, height })
 }
 
 /// `raise Exp`
-fn raising(place: Place, stack: &mut Stack) -> Result<Phrase, Failure>
-    ensures made { Makes (of_exp (raise place (exp_in (at (seen stack.old) 1)))) result }
-    ensures rest { OnOk result (seen stack.new ≡ drop 2 (seen stack.old)) }
+fn raising(place: Place, stack: &mut Stack) -> Result<(), Failure>
+    ensures { Puts (of_exp (raise place (exp_in (at (seen stack.old) 1)))) 2 (seen stack.old) (seen stack.new) result }
 {
     stack.skip();
     let exp = stack.exp();
@@ -220,9 +214,8 @@ fn chosen(expander: &Expander, place: Place, stack: &mut Stack) -> Result<LowExp
 }
 
 /// The same, as a phrase.
-fn conditional(expander: &Expander, place: Place, stack: &mut Stack) -> Result<Phrase, Failure>
-    ensures made { Makes (let vs = seen stack.old in of_exp (if_of place (exp_in (at vs 1)) (exp_in (at vs 3)) (exp_in (at vs 5)))) result }
-    ensures rest { OnOk result (seen stack.new ≡ drop 6 (seen stack.old)) }
+fn conditional(expander: &Expander, place: Place, stack: &mut Stack) -> Result<(), Failure>
+    ensures { Puts (let vs = seen stack.old in of_exp (if_of place (exp_in (at vs 1)) (exp_in (at vs 3)) (exp_in (at vs 5)))) 6 (seen stack.old) (seen stack.new) result }
 {
     Ok(of_exp(chosen(expander, place, stack)?))
 }
@@ -238,9 +231,8 @@ fn repetition(expander: &Expander, place: Place, stack: &mut Stack) -> Result<Lo
 }
 
 /// The same, as a phrase.
-fn repeated(expander: &Expander, place: Place, stack: &mut Stack) -> Result<Phrase, Failure>
-    ensures made { Makes (let vs = seen stack.old in of_exp (while_of place (exp_in (at vs 1)) (exp_in (at vs 3)))) result }
-    ensures rest { OnOk result (seen stack.new ≡ drop 4 (seen stack.old)) }
+fn repeated(expander: &Expander, place: Place, stack: &mut Stack) -> Result<(), Failure>
+    ensures { Puts (let vs = seen stack.old in of_exp (while_of place (exp_in (at vs 1)) (exp_in (at vs 3)))) 4 (seen stack.old) (seen stack.new) result }
 {
     Ok(of_exp(repetition(expander, place, stack)?))
 }
@@ -256,17 +248,15 @@ fn cases(expander: &Expander, place: Place, stack: &mut Stack) -> Result<LowExp,
 }
 
 /// The same, as a phrase.
-fn case(expander: &Expander, place: Place, stack: &mut Stack) -> Result<Phrase, Failure>
-    ensures made { Makes (let vs = seen stack.old in of_exp (case_of place (exp_in (at vs 1)) (rules_in (at vs 3)))) result }
-    ensures rest { OnOk result (seen stack.new ≡ drop 4 (seen stack.old)) }
+fn case(expander: &Expander, place: Place, stack: &mut Stack) -> Result<(), Failure>
+    ensures { Puts (let vs = seen stack.old in of_exp (case_of place (exp_in (at vs 1)) (rules_in (at vs 3)))) 4 (seen stack.old) (seen stack.new) result }
 {
     Ok(of_exp(cases(expander, place, stack)?))
 }
 
 /// `fn Match`
-fn function(place: Place, stack: &mut Stack) -> Result<Phrase, Failure>
-    ensures made { Makes (of_exp (fn place (rules_in (at (seen stack.old) 1)))) result }
-    ensures rest { OnOk result (seen stack.new ≡ drop 2 (seen stack.old)) }
+fn function(place: Place, stack: &mut Stack) -> Result<(), Failure>
+    ensures { Puts (of_exp (fn place (rules_in (at (seen stack.old) 1)))) 2 (seen stack.old) (seen stack.new) result }
 {
     stack.skip();
     let rules = stack.rules();
@@ -292,37 +282,35 @@ fn with_rule(place: Place, pat: LowPat, exp: LowExp, rules: LowRules) -> Result<
 }
 
 /// `Pat => Exp MatchMore`
-fn more_rules(place: Place, stack: &mut Stack) -> Result<Phrase, Failure>
-    ensures made { Makes (let vs = seen stack.old in of_rules (and_rule (rule place (pat_in (at vs 0)) (exp_in (at vs 2))) (rules_in (at vs 3)))) result }
-    ensures rest { OnOk result (seen stack.new ≡ drop 4 (seen stack.old)) }
+fn more_rules(place: Place, stack: &mut Stack) -> Result<(), Failure>
+    ensures { Puts (let vs = seen stack.old in of_rules (and_rule (rule place (pat_in (at vs 0)) (exp_in (at vs 2))) (rules_in (at vs 3)))) 4 (seen stack.old) (seen stack.new) result }
 {
     let pat = stack.pat();
     stack.skip();
     let exp = stack.exp();
     let rules = with_rule(place, pat, exp, stack.rules())?;
-    Ok(Phrase::Expressions(ExpressionPhrase::Rules(rules)))
+    stack.put_rules(rules)
 }
 
 /// No types.
-fn no_tys(stack: &Stack) -> Phrase
-    ensures { phrase_of result ≡ of_tys no_ty }
+fn no_tys(stack: &mut Stack) -> Result<(), Failure>
+    ensures { Puts (of_tys no_ty) 0 (seen stack.old) (seen stack.new) result }
 {
     let trees = Vec::new(stack.alloc);
-    Phrase::Types(TypePhrase::Tys(LowTys { trees, height: 0 }))
+    stack.put_tys(LowTys { trees, height: 0 })
 }
 
 /// No rules.
-fn no_rules(stack: &Stack) -> Phrase
-    ensures { phrase_of result ≡ of_rules no_rule }
+fn no_rules(stack: &mut Stack) -> Result<(), Failure>
+    ensures { Puts (of_rules no_rule) 0 (seen stack.old) (seen stack.new) result }
 {
     let trees = Vec::new(stack.alloc);
-    Phrase::Expressions(ExpressionPhrase::Rules(LowRules { trees, height: 0 }))
+    stack.put_rules(LowRules { trees, height: 0 })
 }
 
 /// The part behind the first one.
-fn second(stack: &mut Stack) -> Phrase
-    ensures made { phrase_of result ≡ at (seen stack.old) 1 }
-    ensures rest { seen stack.new ≡ drop 2 (seen stack.old) }
+fn second(stack: &mut Stack) -> Result<(), Failure>
+    ensures { Puts (at (seen stack.old) 1) 2 (seen stack.old) (seen stack.new) result }
 {
     stack.skip();
     stack.pop()
@@ -335,9 +323,8 @@ pub fn expression_phrase(
     shape: Option<&Shape>,
     expander: &Expander,
     stack: &mut Stack,
-) -> Result<Phrase, Failure>
-    ensures made { Makes (expression_phrase rule place (option_map (λ s. shape_of s.now) shape.entry) (seen stack.old)) result }
-    ensures rest { OnOk result (seen stack.new ≡ drop (length (right_side (Expressions rule))) (seen stack.old)) }
+) -> Result<(), Failure>
+    ensures { Puts (expression_phrase rule place (option_map (λ s. shape_of s.now) shape.entry) (seen stack.old)) (length (right_side (Expressions rule))) (seen stack.old) (seen stack.new) result }
 {
     match rule {
         ExpressionRule::ExpOpen | ExpressionRule::AndRestOpen | ExpressionRule::OrRestOpen => Ok(
@@ -348,12 +335,12 @@ pub fn expression_phrase(
         | ExpressionRule::HandleMoreHandle
         | ExpressionRule::MatchMoreBar => Ok(second(stack)),
         ExpressionRule::AndMoreNone | ExpressionRule::OrMoreNone | ExpressionRule::HandleMoreNone =>
-            Ok(Phrase::Nothing),
+            stack.put_nothing(),
         ExpressionRule::ExpTyp => handling(expander, place, stack),
         ExpressionRule::AndRestTyp => both(expander, place, stack),
         ExpressionRule::OrRestTyp => alternatives(expander, place, stack),
         ExpressionRule::TypAt => sequence(expander, shape, stack),
-        ExpressionRule::TyMoreNone => Ok(no_tys(stack)),
+        ExpressionRule::TyMoreNone => no_tys(stack),
         ExpressionRule::TyMoreColon => more_tys(stack),
         ExpressionRule::OpenRaise => raising(place, stack),
         ExpressionRule::OpenIf => conditional(expander, place, stack),
@@ -361,8 +348,8 @@ pub fn expression_phrase(
         ExpressionRule::OpenCase => case(expander, place, stack),
         ExpressionRule::OpenFn => function(place, stack),
         ExpressionRule::MatchPat => more_rules(place, stack),
-        ExpressionRule::MatchMoreNone => Ok(no_rules(stack)),
-        ExpressionRule::AtMoreNone => Ok(no_exps(stack)),
+        ExpressionRule::MatchMoreNone => no_rules(stack),
+        ExpressionRule::AtMoreNone => no_exps(stack),
         ExpressionRule::AtMoreAt | ExpressionRule::ExpListExp => first_exps(stack),
         ExpressionRule::AtConstant => constant(place, stack),
         ExpressionRule::AtExpVid => identifier(place, stack),

@@ -6,7 +6,7 @@ ghost use Rattle.sml_read.specs.declared.grammar.Rule.TheVariants.{Names};
 ghost use Rattle.sml_derived.specs.Derived.{long};
 ghost use Rattle.sml_bare_pats.specs.NameRules.{numeral, name_phrase};
 ghost use Rattle.sml_phrases.specs.Phrases.{of_long, of_constant, at, name_in};
-ghost use Rattle.sml_phrases.specs.PhraseViews.{Makes, seen};
+ghost use Rattle.sml_phrases.specs.PhraseViews.{Puts, Makes, seen};
 
 use sml_derived::expander::{Expander, long};
 use sml_lex::fault::Place;
@@ -16,24 +16,22 @@ use sml_read::grammar::NameRule;
 use sml_tree::patterns::{Constant, ConstantKind};
 
 /// An identifier without a path, as a long one.
-fn short(stack: &mut Stack) -> Result<Phrase, Failure>
-    ensures made { Makes (of_long (long (name_in (at (seen stack.old) 0)))) result }
-    ensures rest { OnOk result (seen stack.new ≡ drop 1 (seen stack.old)) }
+fn short(stack: &mut Stack) -> Result<(), Failure>
+    ensures { Puts (of_long (long (name_in (at (seen stack.old) 0)))) 1 (seen stack.old) (seen stack.new) result }
 {
     let name = stack.name()?;
-    Ok(Phrase::Long(long(stack.alloc, name)))
+    stack.put_long(long(stack.alloc, name))
 }
 
 /// A numeral as a constant.
-fn numeral(stack: &mut Stack) -> Result<Phrase, Failure>
-    ensures made { Makes (of_constant (numeral (name_in (at (seen stack.old) 0)))) result }
-    ensures rest { OnOk result (seen stack.new ≡ drop 1 (seen stack.old)) }
+fn numeral(stack: &mut Stack) -> Result<(), Failure>
+    ensures { Puts (of_constant (numeral (name_in (at (seen stack.old) 0)))) 1 (seen stack.old) (seen stack.new) result }
 {
     let name = stack.name()?;
-    Ok(Phrase::Constant(Constant {
+    stack.put_constant(Constant {
         kind: ConstantKind::Integer,
         literal: name.ident,
-    }))
+    })
 }
 
 /// What a rule of identifiers or constants makes of its part, which is on top of the stack.
@@ -42,9 +40,8 @@ pub fn name_phrase(
     place: Place,
     expander: &Expander,
     stack: &mut Stack,
-) -> Result<Phrase, Failure>
-    ensures made { Makes (name_phrase rule place (seen stack.old)) result }
-    ensures rest { OnOk result (seen stack.new ≡ drop (length (right_side (Names rule))) (seen stack.old)) }
+) -> Result<(), Failure>
+    ensures { Puts (name_phrase rule place (seen stack.old)) (length (right_side (Names rule))) (seen stack.old) (seen stack.new) result }
 {
     match rule {
         NameRule::LongVidAlphanumeric => short(stack),

@@ -13,7 +13,7 @@ ghost use Rattle.sml_bare_pats.specs.PatternPhrases.{pat_fields_in, flexible_in,
 ghost use Rattle.sml_bare_pats.specs.PatternRules.{round_pat, list_pat, sequence_from, from_vid, op_from_vid, behind_op, behind_colon, and_atom, field_pat, and_field, pattern_phrase};
 ghost use Rattle.sml_bare_pats.specs.PatternSequences.{round_sequence};
 ghost use Rattle.sml_phrases.specs.Phrases.{nothing, of_tys, of_pat, of_pats, of_pat_fields, of_atoms, of_layer, of_op_atoms, at, name_in, long_in, constant_in, ty_in, tys_in, pat_in, pats_in, ty_if_any, pat_if_any};
-ghost use Rattle.sml_phrases.specs.PhraseViews.{Makes, phrase_of, seen};
+ghost use Rattle.sml_phrases.specs.PhraseViews.{Puts, Makes, phrase_of, seen};
 ghost use Rattle.sml_fixity.specs.Shapes.{shape_of};
 
 use crate::low_lists::{and_pat, and_ty};
@@ -69,9 +69,9 @@ fn from_round_parts(
     ensures { Makes (of_pat (round_sequence (option_map (λ s. shape_of s.now) shape.entry) (round_pat place (low_pats_of pats)) (atoms_in (phrase_of rest)) (colons_in (phrase_of rest)))) result }
 {
     let (atoms, types) = atoms_in(expander.alloc, rest);
-    Ok(Phrase::Patterns(PatternPhrase::Pat(round_sequence(
+    stack.put_pat(round_sequence(
         expander, shape, place, pats, atoms, types,
-    )?)))
+    )?)
 }
 
 /// A pattern that begins with a round bracket.
@@ -80,9 +80,8 @@ fn from_round(
     place: Place,
     shape: Option<&Shape>,
     expander: &Expander,
-) -> Result<Phrase, Failure>
-    ensures made { let vs = seen stack.old in Makes (of_pat (round_sequence (option_map (λ s. shape_of s.now) shape.entry) (round_pat place (pats_in (at vs 1))) (atoms_in (at vs 2)) (colons_in (at vs 2)))) result }
-    ensures rest { OnOk result (seen stack.new ≡ drop 3 (seen stack.old)) }
+) -> Result<(), Failure>
+    ensures { let vs = seen stack.old in Puts (of_pat (round_sequence (option_map (λ s. shape_of s.now) shape.entry) (round_pat place (pats_in (at vs 1))) (atoms_in (at vs 2)) (colons_in (at vs 2)))) 3 vs (seen stack.new) result }
 {
     let (pats, rest) = round_and_rest(stack);
     from_round_parts(expander, shape, place, pats, rest)
@@ -112,13 +111,12 @@ fn vid(
     place: Place,
     shape: Option<&Shape>,
     expander: &Expander,
-) -> Result<Phrase, Failure>
-    ensures made { let vs = seen stack.old in Makes (of_pat (from_vid (option_map (λ s. shape_of s.now) shape.entry) place (name_in (at vs 0)) (at vs 1))) result }
-    ensures rest { OnOk result (seen stack.new ≡ drop 2 (seen stack.old)) }
+) -> Result<(), Failure>
+    ensures { let vs = seen stack.old in Puts (of_pat (from_vid (option_map (λ s. shape_of s.now) shape.entry) place (name_in (at vs 0)) (at vs 1))) 2 vs (seen stack.new) result }
 {
     let name = stack.name()?;
     let rest = stack.pop();
-    Ok(Phrase::Patterns(PatternPhrase::Pat(from_vid(expander, shape, place, name, rest)?)))
+    stack.put_pat(from_vid(expander, shape, place, name, rest)?)
 }
 
 /// A pattern that begins with `op`, from what stands behind it.
@@ -151,13 +149,12 @@ fn op(
     place: Place,
     shape: Option<&Shape>,
     expander: &Expander,
-) -> Result<Phrase, Failure>
-    ensures made { Makes (of_pat (behind_op (option_map (λ s. shape_of s.now) shape.entry) place (at (seen stack.old) 1))) result }
-    ensures rest { OnOk result (seen stack.new ≡ drop 2 (seen stack.old)) }
+) -> Result<(), Failure>
+    ensures { Puts (of_pat (behind_op (option_map (λ s. shape_of s.now) shape.entry) place (at (seen stack.old) 1))) 2 (seen stack.old) (seen stack.new) result }
 {
     stack.skip();
     let rest = stack.pop();
-    Ok(Phrase::Patterns(PatternPhrase::Pat(behind_op(expander, shape, place, rest)?)))
+    stack.put_pat(behind_op(expander, shape, place, rest)?)
 }
 
 /// A pattern that begins with another atomic pattern.
@@ -165,25 +162,22 @@ fn from_other(
     stack: &mut Stack,
     shape: Option<&Shape>,
     expander: &Expander,
-) -> Result<Phrase, Failure>
-    ensures made { let vs = seen stack.old in Makes (of_pat (sequence_from (option_map (λ s. shape_of s.now) shape.entry) (pat_in (at vs 0)) (at vs 1))) result }
-    ensures rest { OnOk result (seen stack.new ≡ drop 2 (seen stack.old)) }
+) -> Result<(), Failure>
+    ensures { let vs = seen stack.old in Puts (of_pat (sequence_from (option_map (λ s. shape_of s.now) shape.entry) (pat_in (at vs 0)) (at vs 1))) 2 vs (seen stack.new) result }
 {
     let first = stack.pat();
     let rest = stack.pop();
-    Ok(Phrase::Patterns(PatternPhrase::Pat(sequence_from(expander, shape, first, rest)?)))
+    stack.put_pat(sequence_from(expander, shape, first, rest)?)
 }
 
 fn op_from_vid(alloc: Global, name: Name, rest: Phrase) -> Phrase
     ensures { phrase_of result ≡ op_from_vid (name_of name) (phrase_of rest) }
 {
     match rest {
-        Phrase::Patterns(PatternPhrase::Layer(ty, pat)) => Phrase::Patterns(PatternPhrase::OpLayer(
-            name, ty, pat,
-        )),
+        Phrase::Patterns(PatternPhrase::Layer(ty, pat)) => stack.put_op_layer(name, ty, pat),
         other => {
             let (atoms, types) = atoms_in(alloc, other);
-            Phrase::Patterns(PatternPhrase::OpAtoms(long(alloc, name), atoms, types))
+            stack.put_op_atoms(long(alloc, name), atoms, types)
         }
     }
 }
@@ -200,23 +194,21 @@ fn name_and_rest(stack: &mut Stack) -> Result<(Name, Phrase), Memory>
 }
 
 /// An identifier behind `op`, and what stands behind it.
-fn op_vid(stack: &mut Stack) -> Result<Phrase, Failure>
-    ensures made { let vs = seen stack.old in Makes (op_from_vid (name_in (at vs 0)) (at vs 1)) result }
-    ensures rest { OnOk result (seen stack.new ≡ drop 2 (seen stack.old)) }
+fn op_vid(stack: &mut Stack) -> Result<(), Failure>
+    ensures { let vs = seen stack.old in Puts (op_from_vid (name_in (at vs 0)) (at vs 1)) 2 vs (seen stack.new) result }
 {
     let (name, rest) = name_and_rest(stack)?;
     Ok(op_from_vid(stack.alloc, name, rest))
 }
 
 /// An identifier with a path behind `op`, and what stands behind it.
-fn op_qualified(stack: &mut Stack) -> Result<Phrase, Failure>
-    ensures made { let vs = seen stack.old in Makes (of_op_atoms (long_in (at vs 0)) (atoms_in (at vs 1)) (colons_in (at vs 1))) result }
-    ensures rest { OnOk result (seen stack.new ≡ drop 2 (seen stack.old)) }
+fn op_qualified(stack: &mut Stack) -> Result<(), Failure>
+    ensures { let vs = seen stack.old in Puts (of_op_atoms (long_in (at vs 0)) (atoms_in (at vs 1)) (colons_in (at vs 1))) 2 vs (seen stack.new) result }
 {
     let long = stack.long()?;
     let rest = stack.pop();
     let (atoms, types) = atoms_in(stack.alloc, rest);
-    Ok(Phrase::Patterns(PatternPhrase::OpAtoms(long, atoms, types)))
+    stack.put_op_atoms(long, atoms, types)
 }
 
 fn no_atoms(alloc: Global) -> Phrase
@@ -230,33 +222,30 @@ fn no_atoms(alloc: Global) -> Phrase
         trees: Vec::new(alloc),
         height: 0,
     };
-    Phrase::Patterns(PatternPhrase::Atoms(atoms, types))
+    stack.put_atoms(atoms, types)
 }
 
 /// A pattern behind `as`.
-fn behind_as(stack: &mut Stack) -> Phrase
-    ensures made { phrase_of result ≡ of_layer None (Some (pat_in (at (seen stack.old) 1))) }
-    ensures rest { seen stack.new ≡ drop 2 (seen stack.old) }
+fn behind_as(stack: &mut Stack) -> Result<(), Failure>
+    ensures { Puts (of_layer None (Some (pat_in (at (seen stack.old) 1)))) 2 (seen stack.old) (seen stack.new) result }
 {
     stack.skip();
     let pat = stack.pat();
-    Phrase::Patterns(PatternPhrase::Layer(None, Some(pat)))
+    stack.put_layer(None, Some(pat))
 }
 
 fn behind_colon(alloc: Global, ty: LowTy, rest: Phrase) -> Result<Phrase, Failure>
     ensures { Makes (behind_colon (low_ty_of ty) (phrase_of rest)) result }
 {
     match rest {
-        Phrase::Patterns(PatternPhrase::Layer(_, pat)) => Ok(Phrase::Patterns(PatternPhrase::Layer(
-            Some(ty),
-            pat,
-        ))),
+        Phrase::Patterns(PatternPhrase::Layer(_, pat)) => stack.put_layer(Some(ty),
+            pat),
         Phrase::Types(TypePhrase::Tys(types)) => {
             let atoms = LowPats {
                 trees: Vec::new(alloc),
                 height: 0,
             };
-            Ok(Phrase::Patterns(PatternPhrase::Atoms(atoms, and_ty(ty, types)?)))
+            stack.put_atoms(atoms, and_ty(ty, types)?)
         }
         other => {
             discard(other);
@@ -268,7 +257,7 @@ fn behind_colon(alloc: Global, ty: LowTy, rest: Phrase) -> Result<Phrase, Failur
                 trees: Vec::new(alloc),
                 height: 0,
             };
-            Ok(Phrase::Patterns(PatternPhrase::Atoms(atoms, and_ty(ty, types)?)))
+            stack.put_atoms(atoms, and_ty(ty, types)?)
         }
     }
 }
@@ -286,40 +275,36 @@ fn ty_and_rest(stack: &mut Stack) -> (LowTy, Phrase)
 }
 
 /// What stands behind an identifier that a colon follows.
-fn vid_colon(stack: &mut Stack) -> Result<Phrase, Failure>
-    ensures made { let vs = seen stack.old in Makes (behind_colon (ty_in (at vs 1)) (at vs 2)) result }
-    ensures rest { OnOk result (seen stack.new ≡ drop 3 (seen stack.old)) }
+fn vid_colon(stack: &mut Stack) -> Result<(), Failure>
+    ensures { let vs = seen stack.old in Puts (behind_colon (ty_in (at vs 1)) (at vs 2)) 3 vs (seen stack.new) result }
 {
     let (ty, rest) = ty_and_rest(stack);
     behind_colon(stack.alloc, ty, rest)
 }
 
 /// One atomic pattern more.
-fn more_atoms(stack: &mut Stack) -> Result<Phrase, Failure>
-    ensures made { let vs = seen stack.old in Makes (and_atom (pat_in (at vs 0)) (at vs 1)) result }
-    ensures rest { OnOk result (seen stack.new ≡ drop 2 (seen stack.old)) }
+fn more_atoms(stack: &mut Stack) -> Result<(), Failure>
+    ensures { let vs = seen stack.old in Puts (and_atom (pat_in (at vs 0)) (at vs 1)) 2 vs (seen stack.new) result }
 {
     let pat = stack.pat();
     let rest = stack.pop();
     let (atoms, types) = atoms_in(stack.alloc, rest);
-    Ok(Phrase::Patterns(PatternPhrase::Atoms(and_pat(pat, atoms)?, types)))
+    stack.put_atoms(and_pat(pat, atoms)?, types)
 }
 
 /// The types behind colons.
-fn colons(stack: &mut Stack) -> Result<Phrase, Failure>
-    ensures made { let vs = seen stack.old in Makes (of_tys (and_ty (ty_in (at vs 1)) (tys_in (at vs 2)))) result }
-    ensures rest { OnOk result (seen stack.new ≡ drop 3 (seen stack.old)) }
+fn colons(stack: &mut Stack) -> Result<(), Failure>
+    ensures { let vs = seen stack.old in Puts (of_tys (and_ty (ty_in (at vs 1)) (tys_in (at vs 2)))) 3 vs (seen stack.new) result }
 {
     stack.skip();
     let ty = stack.ty();
     let types = stack.tys();
-    Ok(Phrase::Types(TypePhrase::Tys(and_ty(ty, types)?)))
+    stack.put_tys(and_ty(ty, types)?)
 }
 
 /// The types behind the colons that follow atomic patterns.
-fn atom_colons(stack: &mut Stack) -> Result<Phrase, Failure>
-    ensures made { let vs = seen stack.old in Makes (of_atoms no_pat (and_ty (ty_in (at vs 1)) (tys_in (at vs 2)))) result }
-    ensures rest { OnOk result (seen stack.new ≡ drop 3 (seen stack.old)) }
+fn atom_colons(stack: &mut Stack) -> Result<(), Failure>
+    ensures { let vs = seen stack.old in Puts (of_atoms no_pat (and_ty (ty_in (at vs 1)) (tys_in (at vs 2)))) 3 vs (seen stack.new) result }
 {
     stack.skip();
     let ty = stack.ty();
@@ -328,66 +313,59 @@ fn atom_colons(stack: &mut Stack) -> Result<Phrase, Failure>
         trees: Vec::new(stack.alloc),
         height: 0,
     };
-    Ok(Phrase::Patterns(PatternPhrase::Atoms(atoms, and_ty(ty, types)?)))
+    stack.put_atoms(atoms, and_ty(ty, types)?)
 }
 
 /// An atomic pattern in round brackets.
-fn round(stack: &mut Stack, place: Place) -> Result<Phrase, Failure>
-    ensures made { Makes (of_pat (round_pat place (pats_in (at (seen stack.old) 1)))) result }
-    ensures rest { OnOk result (seen stack.new ≡ drop 2 (seen stack.old)) }
+fn round(stack: &mut Stack, place: Place) -> Result<(), Failure>
+    ensures { Puts (of_pat (round_pat place (pats_in (at (seen stack.old) 1)))) 2 (seen stack.old) (seen stack.new) result }
 {
     stack.skip();
     let pats = stack.pats();
-    Ok(Phrase::Patterns(PatternPhrase::Pat(round_pat(stack.alloc, place, pats)?)))
+    stack.put_pat(round_pat(stack.alloc, place, pats)?)
 }
 
-fn name(stack: &mut Stack, place: Place) -> Result<Phrase, Failure>
-    ensures made { Makes (of_pat (pat_name place (long (name_in (at (seen stack.old) 0))))) result }
-    ensures rest { OnOk result (seen stack.new ≡ drop 1 (seen stack.old)) }
+fn name(stack: &mut Stack, place: Place) -> Result<(), Failure>
+    ensures { Puts (of_pat (pat_name place (long (name_in (at (seen stack.old) 0))))) 1 (seen stack.old) (seen stack.new) result }
 {
     let name = stack.name()?;
-    Ok(Phrase::Patterns(PatternPhrase::Pat(pat_name(place, long(stack.alloc, name)))))
+    stack.put_pat(pat_name(place, long(stack.alloc, name)))
 }
 
-fn qualified(stack: &mut Stack, place: Place) -> Result<Phrase, Failure>
-    ensures made { Makes (of_pat (pat_name place (long_in (at (seen stack.old) 0)))) result }
-    ensures rest { OnOk result (seen stack.new ≡ drop 1 (seen stack.old)) }
+fn qualified(stack: &mut Stack, place: Place) -> Result<(), Failure>
+    ensures { Puts (of_pat (pat_name place (long_in (at (seen stack.old) 0)))) 1 (seen stack.old) (seen stack.new) result }
 {
     let long = stack.long()?;
-    Ok(Phrase::Patterns(PatternPhrase::Pat(pat_name(place, long))))
+    stack.put_pat(pat_name(place, long))
 }
 
-fn op_name(stack: &mut Stack, place: Place) -> Result<Phrase, Failure>
-    ensures made { Makes (of_pat (pat_name place (long_in (at (seen stack.old) 1)))) result }
-    ensures rest { OnOk result (seen stack.new ≡ drop 2 (seen stack.old)) }
+fn op_name(stack: &mut Stack, place: Place) -> Result<(), Failure>
+    ensures { Puts (of_pat (pat_name place (long_in (at (seen stack.old) 1)))) 2 (seen stack.old) (seen stack.new) result }
 {
     stack.skip();
     qualified(stack, place)
 }
 
-fn wildcard(stack: &mut Stack, place: Place) -> Phrase
-    ensures made { phrase_of result ≡ of_pat (wildcard place) }
-    ensures rest { seen stack.new ≡ drop 1 (seen stack.old) }
+fn wildcard(stack: &mut Stack, place: Place) -> Result<(), Failure>
+    ensures { Puts (of_pat (wildcard place)) 1 (seen stack.old) (seen stack.new) result }
 {
     stack.skip();
-    Phrase::Patterns(PatternPhrase::Pat(LowPat {
+    stack.put_pat(LowPat {
         tree: Pat::Wildcard(place),
         height: 1,
-    }))
+    })
 }
 
-fn constant(stack: &mut Stack, place: Place) -> Result<Phrase, Failure>
-    ensures made { Makes (of_pat (pat_constant place (constant_in (at (seen stack.old) 0)))) result }
-    ensures rest { OnOk result (seen stack.new ≡ drop 1 (seen stack.old)) }
+fn constant(stack: &mut Stack, place: Place) -> Result<(), Failure>
+    ensures { Puts (of_pat (pat_constant place (constant_in (at (seen stack.old) 0)))) 1 (seen stack.old) (seen stack.new) result }
 {
     let tree = Pat::Constant(place, stack.constant()?);
-    Ok(Phrase::Patterns(PatternPhrase::Pat(LowPat { tree, height: 1 })))
+    stack.put_pat(LowPat { tree, height: 1 })
 }
 
 /// A record pattern.
-fn row(stack: &mut Stack, place: Place) -> Result<Phrase, Failure>
-    ensures made { let vs = seen stack.old in Makes (of_pat (pat_row place (pat_fields_in (at vs 1)) (flexible_in (at vs 1)))) result }
-    ensures rest { OnOk result (seen stack.new ≡ drop 2 (seen stack.old)) }
+fn row(stack: &mut Stack, place: Place) -> Result<(), Failure>
+    ensures { let vs = seen stack.old in Puts (of_pat (pat_row place (pat_fields_in (at vs 1)) (flexible_in (at vs 1)))) 2 vs (seen stack.new) result }
 {
     stack.skip();
     let (fields, flexible) = fields_in(stack.alloc, stack.pop());
@@ -395,45 +373,41 @@ fn row(stack: &mut Stack, place: Place) -> Result<Phrase, Failure>
     let mut trees = fields.trees;
     trees.reverse();
     let tree = Pat::Row(place, trees, flexible);
-    Ok(Phrase::Patterns(PatternPhrase::Pat(LowPat { tree, height })))
+    stack.put_pat(LowPat { tree, height })
 }
 
 /// A list of patterns.
-fn list(stack: &mut Stack, place: Place, expander: &Expander) -> Result<Phrase, Failure>
-    ensures made { Makes (of_pat (list_pat place (pats_in (at (seen stack.old) 1)))) result }
-    ensures rest { OnOk result (seen stack.new ≡ drop 2 (seen stack.old)) }
+fn list(stack: &mut Stack, place: Place, expander: &Expander) -> Result<(), Failure>
+    ensures { Puts (of_pat (list_pat place (pats_in (at (seen stack.old) 1)))) 2 (seen stack.old) (seen stack.new) result }
 {
     stack.skip();
     let pats = stack.pats();
-    Ok(Phrase::Patterns(PatternPhrase::Pat(list_pat(expander, place, pats)?)))
+    stack.put_pat(list_pat(expander, place, pats)?)
 }
 
 /// No patterns before a closing bracket.
-fn no_pats(stack: &mut Stack) -> Phrase
-    ensures made { phrase_of result ≡ of_pats no_pat }
-    ensures rest { seen stack.new ≡ drop 1 (seen stack.old) }
+fn no_pats(stack: &mut Stack) -> Result<(), Failure>
+    ensures { Puts (of_pats no_pat) 1 (seen stack.old) (seen stack.new) result }
 {
     stack.skip();
-    Phrase::Patterns(PatternPhrase::Pats(LowPats {
+    stack.put_pats(LowPats {
         trees: Vec::new(stack.alloc),
         height: 0,
-    }))
+    })
 }
 
 /// One pattern more in brackets.
-fn pats(stack: &mut Stack) -> Result<Phrase, Failure>
-    ensures made { let vs = seen stack.old in Makes (of_pats (and_pat (pat_in (at vs 0)) (pats_in (at vs 1)))) result }
-    ensures rest { OnOk result (seen stack.new ≡ drop 2 (seen stack.old)) }
+fn pats(stack: &mut Stack) -> Result<(), Failure>
+    ensures { let vs = seen stack.old in Puts (of_pats (and_pat (pat_in (at vs 0)) (pats_in (at vs 1)))) 2 vs (seen stack.new) result }
 {
     let pat = stack.pat();
     let pats = stack.pats();
-    Ok(Phrase::Patterns(PatternPhrase::Pats(and_pat(pat, pats)?)))
+    stack.put_pats(and_pat(pat, pats)?)
 }
 
 /// The same behind a comma.
-fn more_pats(stack: &mut Stack) -> Result<Phrase, Failure>
-    ensures made { let vs = seen stack.old in Makes (of_pats (and_pat (pat_in (at vs 1)) (pats_in (at vs 2)))) result }
-    ensures rest { OnOk result (seen stack.new ≡ drop 3 (seen stack.old)) }
+fn more_pats(stack: &mut Stack) -> Result<(), Failure>
+    ensures { let vs = seen stack.old in Puts (of_pats (and_pat (pat_in (at vs 1)) (pats_in (at vs 2)))) 3 vs (seen stack.new) result }
 {
     stack.skip();
     pats(stack)
@@ -446,22 +420,20 @@ fn no_fields(alloc: Global, flexible: bool) -> Phrase
         trees: Vec::new(alloc),
         height: 0,
     };
-    Phrase::Patterns(PatternPhrase::PatFields(fields, flexible))
+    stack.put_pat_fields(fields, flexible)
 }
 
 /// No fields before a closing bracket, or `...`.
-fn end_of_fields(stack: &mut Stack, flexible: bool) -> Phrase
-    ensures made { phrase_of result ≡ of_pat_fields no_pat_field flexible }
-    ensures rest { seen stack.new ≡ drop 1 (seen stack.old) }
+fn end_of_fields(stack: &mut Stack, flexible: bool) -> Result<(), Failure>
+    ensures { Puts (of_pat_fields no_pat_field flexible) 1 (seen stack.old) (seen stack.new) result }
 {
     stack.skip();
     no_fields(stack.alloc, flexible)
 }
 
 /// The first of two parts.
-fn first_of_two(stack: &mut Stack) -> Phrase
-    ensures made { phrase_of result ≡ at (seen stack.old) 0 }
-    ensures rest { seen stack.new ≡ drop 2 (seen stack.old) }
+fn first_of_two(stack: &mut Stack) -> Result<(), Failure>
+    ensures { Puts (at (seen stack.old) 0) 2 (seen stack.old) (seen stack.new) result }
 {
     let first = stack.pop();
     stack.skip();
@@ -469,9 +441,8 @@ fn first_of_two(stack: &mut Stack) -> Phrase
 }
 
 /// The second of two parts.
-fn second_of_two(stack: &mut Stack) -> Phrase
-    ensures made { phrase_of result ≡ at (seen stack.old) 1 }
-    ensures rest { seen stack.new ≡ drop 2 (seen stack.old) }
+fn second_of_two(stack: &mut Stack) -> Result<(), Failure>
+    ensures { Puts (at (seen stack.old) 1) 2 (seen stack.old) (seen stack.new) result }
 {
     stack.skip();
     stack.pop()
@@ -482,13 +453,12 @@ fn with_field(alloc: Global, label: Name, pat: LowPat, rest: Phrase) -> Result<P
     ensures { IfOk result (λ v. phrase_of v ≡ and_field (name_of label) (low_pat_of pat) (phrase_of rest)) }
 {
     let (fields, flexible) = fields_in(alloc, rest);
-    Ok(Phrase::Patterns(PatternPhrase::PatFields(and_field(label, pat, fields)?, flexible)))
+    stack.put_pat_fields(and_field(label, pat, fields)?, flexible)
 }
 
 /// A field with a numeral as its label.
-fn numeral_field(stack: &mut Stack) -> Result<Phrase, Failure>
-    ensures made { let vs = seen stack.old in Makes (and_field (name_in (at vs 0)) (pat_in (at vs 2)) (at vs 3)) result }
-    ensures rest { OnOk result (seen stack.new ≡ drop 4 (seen stack.old)) }
+fn numeral_field(stack: &mut Stack) -> Result<(), Failure>
+    ensures { let vs = seen stack.old in Puts (and_field (name_in (at vs 0)) (pat_in (at vs 2)) (at vs 3)) 4 vs (seen stack.new) result }
 {
     let label = stack.name()?;
     stack.skip();
@@ -498,44 +468,41 @@ fn numeral_field(stack: &mut Stack) -> Result<Phrase, Failure>
 }
 
 /// A field with an identifier as its label.
-fn vid_field(stack: &mut Stack) -> Result<Phrase, Failure>
-    ensures made { let vs = seen stack.old in Makes (and_field (name_in (at vs 0)) (field_pat (name_in (at vs 0)) (at vs 1)) (at vs 2)) result }
-    ensures rest { OnOk result (seen stack.new ≡ drop 3 (seen stack.old)) }
+fn vid_field(stack: &mut Stack) -> Result<(), Failure>
+    ensures { let vs = seen stack.old in Puts (and_field (name_in (at vs 0)) (field_pat (name_in (at vs 0)) (at vs 1)) (at vs 2)) 3 vs (seen stack.new) result }
 {
     let name = stack.name()?;
     let rest = stack.pop();
     let (fields, flexible) = fields_in(stack.alloc, stack.pop());
     let label = copy_of(&name)?;
     let pat = field_pat(stack.alloc, name, rest)?;
-    Ok(Phrase::Patterns(PatternPhrase::PatFields(and_field(label, pat, fields)?, flexible)))
+    stack.put_pat_fields(and_field(label, pat, fields)?, flexible)
 }
 
 /// A pattern behind a word.
-fn behind_word(stack: &mut Stack) -> Phrase
-    ensures made { phrase_of result ≡ of_pat (pat_in (at (seen stack.old) 1)) }
-    ensures rest { seen stack.new ≡ drop 2 (seen stack.old) }
+fn behind_word(stack: &mut Stack) -> Result<(), Failure>
+    ensures { Puts (of_pat (pat_in (at (seen stack.old) 1))) 2 (seen stack.old) (seen stack.new) result }
 {
     stack.skip();
-    Phrase::Patterns(PatternPhrase::Pat(stack.pat()))
+    stack.put_pat(stack.pat())
 }
 
 /// Perhaps a type, and perhaps a pattern behind `as`.
-fn layer(stack: &mut Stack) -> Phrase
-    ensures made { let vs = seen stack.old in phrase_of result ≡ of_layer (ty_if_any (at vs 0)) (pat_if_any (at vs 1)) }
-    ensures rest { seen stack.new ≡ drop 2 (seen stack.old) }
+fn layer(stack: &mut Stack) -> Result<(), Failure>
+    ensures { let vs = seen stack.old in Puts (of_layer (ty_if_any (at vs 0)) (pat_if_any (at vs 1))) 2 vs (seen stack.new) result }
 {
     let ty = stack.ty_if_any();
     let pat = stack.pat_if_any();
-    Phrase::Patterns(PatternPhrase::Layer(ty, pat))
+    stack.put_layer(ty, pat)
 }
 
 fn no_types(alloc: Global) -> Phrase
     ensures { phrase_of result ≡ of_tys no_ty }
 {
-    Phrase::Types(TypePhrase::Tys(LowTys {
+    stack.put_tys(LowTys {
         trees: Vec::new(alloc),
         height: 0,
-    }))
+    })
 }
 
 /// What a rule of patterns makes of its parts, which are on top of the stack.
@@ -545,9 +512,8 @@ pub fn pattern_phrase(
     shape: Option<&Shape>,
     expander: &Expander,
     stack: &mut Stack,
-) -> Result<Phrase, Failure>
-    ensures made { Makes (pattern_phrase rule place (option_map (λ s. shape_of s.now) shape.entry) (seen stack.old)) result }
-    ensures rest { OnOk result (seen stack.new ≡ drop (length (right_side (Patterns rule))) (seen stack.old)) }
+) -> Result<(), Failure>
+    ensures { Puts (pattern_phrase rule place (option_map (λ s. shape_of s.now) shape.entry) (seen stack.old)) (length (right_side (Patterns rule))) (seen stack.old) (seen stack.new) result }
 {
     match rule {
         PatternRule::PatOpenRound => from_round(stack, place, shape, expander),
@@ -577,13 +543,13 @@ pub fn pattern_phrase(
         PatternRule::OtherAtPatQualified => qualified(stack, place),
         PatternRule::OtherAtPatOpenCurly => row(stack, place),
         PatternRule::OtherAtPatOpenSquare => list(stack, place, expander),
-        PatternRule::PatRoundCloseRound => Ok(no_pats(stack)),
+        PatternRule::PatRoundCloseRound => no_pats(stack),
         PatternRule::PatRoundPat => pats(stack),
-        PatternRule::PatRoundMoreCloseRound => Ok(no_pats(stack)),
+        PatternRule::PatRoundMoreCloseRound => no_pats(stack),
         PatternRule::PatRoundMoreComma => more_pats(stack),
-        PatternRule::PatListCloseSquare => Ok(no_pats(stack)),
+        PatternRule::PatListCloseSquare => no_pats(stack),
         PatternRule::PatListPat => pats(stack),
-        PatternRule::PatListMoreCloseSquare => Ok(no_pats(stack)),
+        PatternRule::PatListMoreCloseSquare => no_pats(stack),
         PatternRule::PatListMoreComma => more_pats(stack),
         PatternRule::PatRowCloseCurly => Ok(end_of_fields(stack, false)),
         PatternRule::PatRowRow => Ok(first_of_two(stack)),
@@ -592,7 +558,7 @@ pub fn pattern_phrase(
         PatternRule::RowVid => vid_field(stack),
         PatternRule::RowRestEquals => Ok(behind_word(stack)),
         PatternRule::RowRestTyped => Ok(layer(stack)),
-        PatternRule::RowAsNone => Ok(Phrase::Nothing),
+        PatternRule::RowAsNone => stack.put_nothing(),
         PatternRule::RowAsAs => Ok(behind_word(stack)),
         PatternRule::RowMoreNone => Ok(no_fields(expander.alloc, false)),
         PatternRule::RowMoreComma => Ok(second_of_two(stack)),

@@ -7,7 +7,7 @@ ghost use Rattle.sml_tree.specs.TypeViews.{name_of, long_name_of};
 ghost use Rattle.sml_tree.specs.Types.{ty_variable, ty_row, ty_tuple, ty_constructor, no_ty, and_ty, ty_field, no_ty_field, and_ty_field};
 ghost use Rattle.sml_bare_pats.specs.LowViews.{GivesTy, low_ty_of, low_tys_of, low_ty_fields_of};
 ghost use Rattle.sml_phrases.specs.Phrases.{nothing, of_names, of_longs, of_ty, of_tys, of_ty_fields, of_arguments, at, name_in, names_in, long_in, longs_in, ty_in, tys_in, ty_fields_in, ty_if_any};
-ghost use Rattle.sml_phrases.specs.PhraseViews.{Makes, phrase_of, seen};
+ghost use Rattle.sml_phrases.specs.PhraseViews.{Puts, Makes, phrase_of, seen};
 ghost use Rattle.sml_bare_pats.specs.TypeRules.{arrow, product, constructed, round_ty, and_argument, type_phrase};
 
 use crate::low_lists::{and_ty, ty_trees};
@@ -24,14 +24,13 @@ use sml_tree::types::{Ty, TyField};
 use std::alloc::Global;
 
 /// A type, with what stands behind it: another one behind an arrow, or nothing.
-fn arrow(stack: &mut Stack, place: Place) -> Result<Phrase, Failure>
-    ensures made { let vs = seen stack.old in Makes (of_ty (arrow place (ty_in (at vs 0)) (ty_if_any (at vs 1)))) result }
-    ensures rest { OnOk result (seen stack.new ≡ drop 2 (seen stack.old)) }
+fn arrow(stack: &mut Stack, place: Place) -> Result<(), Failure>
+    ensures { let vs = seen stack.old in Puts (of_ty (arrow place (ty_in (at vs 0)) (ty_if_any (at vs 1)))) 2 vs (seen stack.new) result }
 {
     let alloc = stack.alloc;
     let left = stack.ty();
     let Some(right) = stack.ty_if_any() else {
-        return Ok(Phrase::Types(TypePhrase::Ty(left)));
+        return stack.put_ty(left);
     };
     let height = raised(left.height.max(right.height), 1)?;
     let tree = Ty::Arrow(
@@ -39,16 +38,15 @@ fn arrow(stack: &mut Stack, place: Place) -> Result<Phrase, Failure>
         Box::new(alloc, left.tree)?,
         Box::new(alloc, right.tree)?,
     );
-    Ok(Phrase::Types(TypePhrase::Ty(LowTy { tree, height })))
+    stack.put_ty(LowTy { tree, height })
 }
 
 /// The type behind an arrow.
-fn second(stack: &mut Stack) -> Phrase
-    ensures made { phrase_of result ≡ of_ty (ty_in (at (seen stack.old) 1)) }
-    ensures rest { seen stack.new ≡ drop 2 (seen stack.old) }
+fn second(stack: &mut Stack) -> Result<(), Failure>
+    ensures { Puts (of_ty (ty_in (at (seen stack.old) 1))) 2 (seen stack.old) (seen stack.new) result }
 {
     stack.skip();
-    Phrase::Types(TypePhrase::Ty(stack.ty()))
+    stack.put_ty(stack.ty())
 }
 
 /// Two or more types between stars.
@@ -73,24 +71,22 @@ fn product(alloc: Global, place: Place, first: LowTy, others: LowTys) -> Result<
 }
 
 /// A type, and others behind stars.
-fn tuple(stack: &mut Stack, place: Place) -> Result<Phrase, Failure>
-    ensures made { let vs = seen stack.old in Makes (of_ty (product place (ty_in (at vs 0)) (tys_in (at vs 1)))) result }
-    ensures rest { OnOk result (seen stack.new ≡ drop 2 (seen stack.old)) }
+fn tuple(stack: &mut Stack, place: Place) -> Result<(), Failure>
+    ensures { let vs = seen stack.old in Puts (of_ty (product place (ty_in (at vs 0)) (tys_in (at vs 1)))) 2 vs (seen stack.new) result }
 {
     let first = stack.ty();
     let others = stack.tys();
-    Ok(Phrase::Types(TypePhrase::Ty(product(stack.alloc, place, first, others)?)))
+    stack.put_ty(product(stack.alloc, place, first, others)?)
 }
 
 /// One type more behind a star.
-fn more_types(stack: &mut Stack) -> Result<Phrase, Failure>
-    ensures made { let vs = seen stack.old in Makes (of_tys (and_ty (ty_in (at vs 1)) (tys_in (at vs 2)))) result }
-    ensures rest { OnOk result (seen stack.new ≡ drop 3 (seen stack.old)) }
+fn more_types(stack: &mut Stack) -> Result<(), Failure>
+    ensures { let vs = seen stack.old in Puts (of_tys (and_ty (ty_in (at vs 1)) (tys_in (at vs 2)))) 3 vs (seen stack.new) result }
 {
     stack.skip();
     let ty = stack.ty();
     let types = stack.tys();
-    Ok(Phrase::Types(TypePhrase::Tys(and_ty(ty, types)?)))
+    stack.put_tys(and_ty(ty, types)?)
 }
 
 /// A type constructor behind one argument.
@@ -123,58 +119,53 @@ fn constructed(
     Ok(ty)
 }
 
-fn application(stack: &mut Stack, place: Place) -> Result<Phrase, Failure>
-    ensures made { let vs = seen stack.old in Makes (of_ty (constructed place (ty_in (at vs 0)) (longs_in (at vs 1)))) result }
-    ensures rest { OnOk result (seen stack.new ≡ drop 2 (seen stack.old)) }
+fn application(stack: &mut Stack, place: Place) -> Result<(), Failure>
+    ensures { let vs = seen stack.old in Puts (of_ty (constructed place (ty_in (at vs 0)) (longs_in (at vs 1)))) 2 vs (seen stack.new) result }
 {
     let ty = stack.ty();
     let constructors = stack.longs();
-    Ok(Phrase::Types(TypePhrase::Ty(constructed(stack.alloc, place, ty, constructors)?)))
+    stack.put_ty(constructed(stack.alloc, place, ty, constructors)?)
 }
 
 /// One type constructor more.
-fn more_constructors(stack: &mut Stack) -> Result<Phrase, Failure>
-    ensures made { let vs = seen stack.old in Makes (of_longs (long_in (at vs 0) ∷ longs_in (at vs 1))) result }
-    ensures rest { OnOk result (seen stack.new ≡ drop 2 (seen stack.old)) }
+fn more_constructors(stack: &mut Stack) -> Result<(), Failure>
+    ensures { let vs = seen stack.old in Puts (of_longs (long_in (at vs 0) ∷ longs_in (at vs 1))) 2 vs (seen stack.new) result }
 {
     let constructor = stack.long()?;
     let mut constructors = stack.longs();
     constructors.push(constructor)?;
-    Ok(Phrase::Longs(constructors))
+    stack.put_longs(constructors)
 }
 
-fn variable(stack: &mut Stack, place: Place) -> Result<Phrase, Failure>
-    ensures made { Makes (of_ty (ty_variable place (name_in (at (seen stack.old) 0)).id)) result }
-    ensures rest { OnOk result (seen stack.new ≡ drop 1 (seen stack.old)) }
+fn variable(stack: &mut Stack, place: Place) -> Result<(), Failure>
+    ensures { Puts (of_ty (ty_variable place (name_in (at (seen stack.old) 0)).id)) 1 (seen stack.old) (seen stack.new) result }
 {
     let name = stack.name()?;
     let tree = Ty::Variable(place, name.ident);
-    Ok(Phrase::Types(TypePhrase::Ty(LowTy { tree, height: 1 })))
+    stack.put_ty(LowTy { tree, height: 1 })
 }
 
 /// A type constructor without arguments.
-fn constructor(stack: &mut Stack, place: Place) -> Result<Phrase, Failure>
-    ensures made { Makes (of_ty (ty_constructor place no_ty (long_in (at (seen stack.old) 0)))) result }
-    ensures rest { OnOk result (seen stack.new ≡ drop 1 (seen stack.old)) }
+fn constructor(stack: &mut Stack, place: Place) -> Result<(), Failure>
+    ensures { Puts (of_ty (ty_constructor place no_ty (long_in (at (seen stack.old) 0)))) 1 (seen stack.old) (seen stack.new) result }
 {
     let tree = Ty::Constructor(place, Vec::new(stack.alloc), stack.long()?);
-    Ok(Phrase::Types(TypePhrase::Ty(LowTy { tree, height: 1 })))
+    stack.put_ty(LowTy { tree, height: 1 })
 }
 
 /// A record type.
-fn row(stack: &mut Stack, place: Place) -> Result<Phrase, Failure>
-    ensures made { Makes (of_ty (ty_row place (ty_fields_in (at (seen stack.old) 1)))) result }
-    ensures rest { OnOk result (seen stack.new ≡ drop 2 (seen stack.old)) }
+fn row(stack: &mut Stack, place: Place) -> Result<(), Failure>
+    ensures { Puts (of_ty (ty_row place (ty_fields_in (at (seen stack.old) 1)))) 2 (seen stack.old) (seen stack.new) result }
 {
     stack.skip();
     let fields = stack.ty_fields();
     let height = raised(fields.height, 1)?;
     let mut trees = fields.trees;
     trees.reverse();
-    Ok(Phrase::Types(TypePhrase::Ty(LowTy {
+    stack.put_ty(LowTy {
         tree: Ty::Row(place, trees),
         height,
-    })))
+    })
 }
 
 fn round_ty(alloc: Global, place: Place, ty: LowTy, rest: Phrase) -> Result<LowTy, Failure>
@@ -201,14 +192,13 @@ fn round_ty(alloc: Global, place: Place, ty: LowTy, rest: Phrase) -> Result<LowT
 }
 
 /// Types in round brackets.
-fn round(stack: &mut Stack, place: Place) -> Result<Phrase, Failure>
-    ensures made { let vs = seen stack.old in Makes (of_ty (round_ty place (ty_in (at vs 1)) (at vs 2))) result }
-    ensures rest { OnOk result (seen stack.new ≡ drop 3 (seen stack.old)) }
+fn round(stack: &mut Stack, place: Place) -> Result<(), Failure>
+    ensures { let vs = seen stack.old in Puts (of_ty (round_ty place (ty_in (at vs 1)) (at vs 2))) 3 vs (seen stack.new) result }
 {
     stack.skip();
     let ty = stack.ty();
     let rest = stack.pop();
-    Ok(Phrase::Types(TypePhrase::Ty(round_ty(stack.alloc, place, ty, rest)?)))
+    stack.put_ty(round_ty(stack.alloc, place, ty, rest)?)
 }
 
 /// A field before others.
@@ -222,36 +212,33 @@ fn and_field(label: Name, ty: LowTy, fields: LowTyFields) -> Result<LowTyFields,
 }
 
 /// A label, its type, and further fields.
-fn fields(stack: &mut Stack) -> Result<Phrase, Failure>
-    ensures made { let vs = seen stack.old in Makes (of_ty_fields (and_ty_field (ty_field (name_in (at vs 0)) (ty_in (at vs 2))) (ty_fields_in (at vs 3)))) result }
-    ensures rest { OnOk result (seen stack.new ≡ drop 4 (seen stack.old)) }
+fn fields(stack: &mut Stack) -> Result<(), Failure>
+    ensures { let vs = seen stack.old in Puts (of_ty_fields (and_ty_field (ty_field (name_in (at vs 0)) (ty_in (at vs 2))) (ty_fields_in (at vs 3)))) 4 vs (seen stack.new) result }
 {
     let label = stack.name()?;
     stack.skip();
     let ty = stack.ty();
     let others = stack.ty_fields();
-    Ok(Phrase::Types(TypePhrase::TyFields(and_field(label, ty, others)?)))
+    stack.put_ty_fields(and_field(label, ty, others)?)
 }
 
 /// The same behind a comma.
-fn more_fields(stack: &mut Stack) -> Result<Phrase, Failure>
-    ensures made { let vs = seen stack.old in Makes (of_ty_fields (and_ty_field (ty_field (name_in (at vs 1)) (ty_in (at vs 3))) (ty_fields_in (at vs 4)))) result }
-    ensures rest { OnOk result (seen stack.new ≡ drop 5 (seen stack.old)) }
+fn more_fields(stack: &mut Stack) -> Result<(), Failure>
+    ensures { let vs = seen stack.old in Puts (of_ty_fields (and_ty_field (ty_field (name_in (at vs 1)) (ty_in (at vs 3))) (ty_fields_in (at vs 4)))) 5 vs (seen stack.new) result }
 {
     stack.skip();
     fields(stack)
 }
 
 /// No fields.
-fn no_fields(stack: &mut Stack) -> Phrase
-    ensures made { phrase_of result ≡ of_ty_fields no_ty_field }
-    ensures rest { seen stack.new ≡ drop 1 (seen stack.old) }
+fn no_fields(stack: &mut Stack) -> Result<(), Failure>
+    ensures { Puts (of_ty_fields no_ty_field) 1 (seen stack.old) (seen stack.new) result }
 {
     stack.skip();
-    Phrase::Types(TypePhrase::TyFields(LowTyFields {
+    stack.put_ty_fields(LowTyFields {
         trees: Vec::new(stack.alloc),
         height: 0,
-    }))
+    })
 }
 
 fn and_argument(ty: LowTy, rest: Phrase) -> Result<Phrase, Failure>
@@ -259,19 +246,18 @@ fn and_argument(ty: LowTy, rest: Phrase) -> Result<Phrase, Failure>
 {
     match rest {
         Phrase::Types(TypePhrase::Arguments(others, constructor)) => {
-            Ok(Phrase::Types(TypePhrase::Arguments(and_ty(ty, others)?, constructor)))
+            stack.put_arguments(and_ty(ty, others)?, constructor)
         }
         other => {
             discard(other);
-            Ok(Phrase::Nothing)
+            stack.put_nothing()
         }
     }
 }
 
 /// One type more behind a comma.
-fn more_arguments(stack: &mut Stack) -> Result<Phrase, Failure>
-    ensures made { let vs = seen stack.old in Makes (and_argument (ty_in (at vs 1)) (at vs 2)) result }
-    ensures rest { OnOk result (seen stack.new ≡ drop 3 (seen stack.old)) }
+fn more_arguments(stack: &mut Stack) -> Result<(), Failure>
+    ensures { let vs = seen stack.old in Puts (and_argument (ty_in (at vs 1)) (at vs 2)) 3 vs (seen stack.new) result }
 {
     stack.skip();
     let ty = stack.ty();
@@ -280,9 +266,8 @@ fn more_arguments(stack: &mut Stack) -> Result<Phrase, Failure>
 }
 
 /// The type constructor behind types in round brackets.
-fn no_arguments(stack: &mut Stack) -> Result<Phrase, Failure>
-    ensures made { Makes (of_arguments no_ty (long_in (at (seen stack.old) 1))) result }
-    ensures rest { OnOk result (seen stack.new ≡ drop 2 (seen stack.old)) }
+fn no_arguments(stack: &mut Stack) -> Result<(), Failure>
+    ensures { Puts (of_arguments no_ty (long_in (at (seen stack.old) 1))) 2 (seen stack.old) (seen stack.new) result }
 {
     stack.skip();
     let constructor = stack.long()?;
@@ -290,36 +275,33 @@ fn no_arguments(stack: &mut Stack) -> Result<Phrase, Failure>
         trees: Vec::new(stack.alloc),
         height: 0,
     };
-    Ok(Phrase::Types(TypePhrase::Arguments(types, constructor)))
+    stack.put_arguments(types, constructor)
 }
 
 /// One type variable.
-fn one_variable(stack: &mut Stack) -> Result<Phrase, Failure>
-    ensures made { Makes (of_names (name_in (at (seen stack.old) 0) ∷ [])) result }
-    ensures rest { OnOk result (seen stack.new ≡ drop 1 (seen stack.old)) }
+fn one_variable(stack: &mut Stack) -> Result<(), Failure>
+    ensures { Puts (of_names (name_in (at (seen stack.old) 0) ∷ [])) 1 (seen stack.old) (seen stack.new) result }
 {
     let name = stack.name()?;
     let mut names = Vec::new(stack.alloc);
     names.push(name)?;
-    Ok(Phrase::Names(names))
+    stack.put_names(names)
 }
 
 /// One type variable more, behind a bracket or a comma.
-fn more_variables(stack: &mut Stack) -> Result<Phrase, Failure>
-    ensures made { let vs = seen stack.old in Makes (of_names (name_in (at vs 1) ∷ names_in (at vs 2))) result }
-    ensures rest { OnOk result (seen stack.new ≡ drop 3 (seen stack.old)) }
+fn more_variables(stack: &mut Stack) -> Result<(), Failure>
+    ensures { let vs = seen stack.old in Puts (of_names (name_in (at vs 1) ∷ names_in (at vs 2))) 3 vs (seen stack.new) result }
 {
     stack.skip();
     let name = stack.name()?;
     let mut names = stack.names();
     names.push(name)?;
-    Ok(Phrase::Names(names))
+    stack.put_names(names)
 }
 
 /// The type variables in round brackets.
-fn some_variables(stack: &mut Stack) -> Result<Phrase, Failure>
-    ensures made { let vs = seen stack.old in Makes (of_names (name_in (at vs 1) ∷ names_in (at vs 2))) result }
-    ensures rest { OnOk result (seen stack.new ≡ drop 4 (seen stack.old)) }
+fn some_variables(stack: &mut Stack) -> Result<(), Failure>
+    ensures { let vs = seen stack.old in Puts (of_names (name_in (at vs 1) ∷ names_in (at vs 2))) 4 vs (seen stack.new) result }
 {
     let names = more_variables(stack)?;
     stack.skip();
@@ -327,12 +309,11 @@ fn some_variables(stack: &mut Stack) -> Result<Phrase, Failure>
 }
 
 /// What stands in round brackets behind one type: nothing.
-fn no_more(stack: &mut Stack) -> Phrase
-    ensures made { phrase_of result ≡ nothing }
-    ensures rest { seen stack.new ≡ drop 1 (seen stack.old) }
+fn no_more(stack: &mut Stack) -> Result<(), Failure>
+    ensures { Puts nothing 1 (seen stack.old) (seen stack.new) result }
 {
     stack.skip();
-    Phrase::Nothing
+    stack.put_nothing()
 }
 
 /// What a rule of types makes of its parts, which are on top of the stack.
@@ -341,40 +322,39 @@ pub fn type_phrase(
     place: Place,
     expander: &Expander,
     stack: &mut Stack,
-) -> Result<Phrase, Failure>
-    ensures made { Makes (type_phrase rule place (seen stack.old)) result }
-    ensures rest { OnOk result (seen stack.new ≡ drop (length (right_side (Types rule))) (seen stack.old)) }
+) -> Result<(), Failure>
+    ensures { Puts (type_phrase rule place (seen stack.old)) (length (right_side (Types rule))) (seen stack.old) (seen stack.new) result }
 {
     match rule {
         TypeRule::TyTup => arrow(stack, place),
-        TypeRule::TyArrowNone => Ok(Phrase::Nothing),
+        TypeRule::TyArrowNone => stack.put_nothing(),
         TypeRule::TyArrowArrow => Ok(second(stack)),
         TypeRule::TupCon => tuple(stack, place),
-        TypeRule::TupMoreNone => Ok(Phrase::Types(TypePhrase::Tys(LowTys {
+        TypeRule::TupMoreNone => stack.put_tys(LowTys {
             trees: Vec::new(expander.alloc),
             height: 0,
-        }))),
+        }),
         TypeRule::TupMoreStar => more_types(stack),
         TypeRule::ConATy => application(stack, place),
-        TypeRule::ConMoreNone => Ok(Phrase::Longs(Vec::new(expander.alloc))),
+        TypeRule::ConMoreNone => stack.put_longs(Vec::new(expander.alloc)),
         TypeRule::ConMoreLongTyCon => more_constructors(stack),
         TypeRule::ATyTypeVariable => variable(stack, place),
         TypeRule::ATyLongTyCon => constructor(stack, place),
         TypeRule::ATyOpenCurly => row(stack, place),
         TypeRule::ATyOpenRound => round(stack, place),
-        TypeRule::TyRowCloseCurly => Ok(no_fields(stack)),
+        TypeRule::TyRowCloseCurly => no_fields(stack),
         TypeRule::TyRowLab => fields(stack),
-        TypeRule::TyRowMoreCloseCurly => Ok(no_fields(stack)),
+        TypeRule::TyRowMoreCloseCurly => no_fields(stack),
         TypeRule::TyRowMoreComma => more_fields(stack),
-        TypeRule::TyRoundCloseRound => Ok(no_more(stack)),
+        TypeRule::TyRoundCloseRound => no_more(stack),
         TypeRule::TyRoundComma => more_arguments(stack),
         TypeRule::TyRoundMoreCloseRound => no_arguments(stack),
         TypeRule::TyRoundMoreComma => more_arguments(stack),
-        TypeRule::TvsNone => Ok(Phrase::Names(Vec::new(expander.alloc))),
+        TypeRule::TvsNone => stack.put_names(Vec::new(expander.alloc)),
         TypeRule::TvsSomeTvs => Ok(stack.pop()),
         TypeRule::SomeTvsTypeVariable => one_variable(stack),
         TypeRule::SomeTvsOpenRound => some_variables(stack),
-        TypeRule::TvsMoreNone => Ok(Phrase::Names(Vec::new(expander.alloc))),
+        TypeRule::TvsMoreNone => stack.put_names(Vec::new(expander.alloc)),
         TypeRule::TvsMoreComma => more_variables(stack),
     }
 }

@@ -18,6 +18,7 @@ use Rattle.sml_phrases.specs.declared.phrase.SignaturePhrase.TheVariants as Sign
 use Rattle.sml_phrases.specs.declared.phrase.StructurePhrase.TheVariants as Structures
 use Rattle.sml_phrases.specs.declared.low.LowWhere.{LowWhere}
 use Rattle.sml_phrases.specs.declared.low.LowConstraint.{LowConstraint}
+use Rattle.sml_phrases.specs.Phrases.{first}
 use Rattle.sml_phrases.specs.PhraseHeights.{is_low, low, where_height, constraint_height}
 use Rattle.sml_phrases.specs.PhraseViews.{phrase_of, low_where_of, low_constraint_of}
 
@@ -60,7 +61,7 @@ pat_within : (q : Option LowPat) → low (height_if_any pat_height (option_map (
 pat_within None = refl
 pat_within (Some q) = within _ _ q.measured q.low
 
-pub phrase_within : (phrase : D.Phrase) → is_low (phrase_of phrase) ≡ true
+phrase_within : (phrase : D.Phrase) → is_low (phrase_of phrase) ≡ true
 phrase_within V.Nothing = refl
 phrase_within (V.Word p) = refl
 phrase_within (V.Name x) = refl
@@ -126,3 +127,7 @@ phrase_within (V.Structures (Structures.FunBinds ws cs bs)) = both _ _ (both _ _
 phrase_within (V.Structures (Structures.OpenFunBind x y s cs e)) = both _ _ (both _ _ (within _ _ s.measured s.low) (low_constraints cs.items)) (within _ _ e.measured e.low)
 phrase_within (V.Structures (Structures.OpenFunctor x ss cs e)) = both _ _ (both _ _ (within _ _ ss.measured ss.low) (low_constraints cs.items)) (within _ _ e.measured e.low)
 phrase_within (V.Structures (Structures.Top d)) = within _ _ d.measured d.low
+
+pub first_within : (phrases : List D.Phrase) → is_low (first (map phrase_of phrases)) ≡ true
+first_within [] = refl
+first_within (phrase ∷ phrases) = phrase_within phrase

@@ -1,6 +1,6 @@
 //! What phrases make by their rules.
 
-ghost use Rattle.std.specs.Prelude.{◌≡◌, drop, length, OnOk, true};
+ghost use Rattle.std.specs.Prelude.{◌≡◌, length, true};
 ghost use Rattle.std.specs.Option.{option_map};
 ghost use Rattle.sml_tree.specs.Heights.{top_height};
 ghost use Rattle.sml_tree.specs.StructureViews.{top_of};
@@ -8,7 +8,7 @@ ghost use Rattle.sml_read.specs.Grammar.{right_side};
 ghost use Rattle.sml_phrases.specs.Phrases.{first};
 ghost use Rattle.sml_fixity.specs.Shapes.{shape_of};
 ghost use Rattle.sml_phrases.specs.PhraseHeights.{is_low, low};
-ghost use Rattle.sml_phrases.specs.PhraseViews.{Gives, Makes, phrase_of, seen};
+ghost use Rattle.sml_phrases.specs.PhraseViews.{Gives, Puts, seen};
 ghost use Rattle.sml_bare.specs.RulePhrases.{rule_phrase, declaration};
 
 use sml_bare_decs::declaration_rules::declaration_phrase;
@@ -31,16 +31,15 @@ use sml_read::grammar::Rule;
 use sml_tree::expressions::Dec;
 use sml_tree::structures::{StrDec, TopDec};
 
-/// What a phrase makes by its rule. Its parts are taken off the stack.
+/// What a phrase makes by its rule, put on the stack in place of its parts.
 pub fn rule_phrase(
     rule: Rule,
     place: Place,
     shape: Option<&Shape>,
     expander: &Expander,
     stack: &mut Stack,
-) -> Result<Phrase, Failure>
-    ensures made { Makes (rule_phrase rule place (option_map (λ s. shape_of s.now) shape.entry) (seen stack.old)) result }
-    ensures rest { OnOk result (seen stack.new ≡ drop (length (right_side rule)) (seen stack.old)) }
+) -> Result<(), Failure>
+    ensures { Puts (rule_phrase rule place (option_map (λ s. shape_of s.now) shape.entry) (seen stack.old)) (length (right_side rule)) (seen stack.old) (seen stack.new) result }
 {
     match rule {
         Rule::Units(rule) => unit_phrase(rule, place, expander, stack),
@@ -55,9 +54,9 @@ pub fn rule_phrase(
     }
 }
 
-/// No phrase is too high.
-pub fn is_within(phrase: &Phrase)
-    ensures { is_low (phrase_of phrase.now) ≡ true }
+/// No phrase on the stack is too high.
+pub fn is_within(stack: &Stack)
+    ensures { is_low (first (seen stack.now)) ≡ true }
 {}
 
 /// The declaration that the phrase on top is; an expression declares `it`.

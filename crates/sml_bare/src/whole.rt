@@ -4,7 +4,7 @@ ghost use Rattle.std.specs.Prelude.{◌≡◌, ◌<◌, ◌-◌, ◌^◌, ◌∷
 ghost use Rattle.std.specs.List.{list_all};
 ghost use Rattle.std.specs.Option.{option_map, is_some};
 ghost use Rattle.sml_phrases.specs.Phrases.{first, of_constant};
-ghost use Rattle.sml_phrases.specs.PhraseViews.{Makes, phrase_of, seen};
+ghost use Rattle.sml_phrases.specs.PhraseViews.{Puts, phrase_of, seen};
 ghost use Rattle.sml_phrases.specs.declared.phrase.Failure.TheVariants.{TooHigh};
 ghost use Rattle.sml_tree.specs.StructureViews.{top_of};
 ghost use Rattle.sml_read.specs.Grammar.{right_side};
@@ -94,17 +94,16 @@ fn token_phrase(source: &Source, names: &mut Names, n: usize) -> Result<Phrase, 
     }
 }
 
-/// What a phrase makes by its rule and its first token. Its parts are taken off the stack.
-fn phrase_by(
+/// What a phrase makes by its rule and its first token, put on the stack in place of its parts.
+fn put_by(
     source: &Source,
     expander: &Expander,
     stack: &mut Stack,
     rule: Rule,
     n: usize,
-) -> Result<Phrase, Failure>
+) -> Result<(), Failure>
     requires { n < 2 ^ 64 - 1 }
-    ensures made { Makes (spec.made_by (source_of source.now) rule n (seen stack.old)) result }
-    ensures rest { OnOk result (seen stack.new ≡ drop (length (right_side rule)) (seen stack.old)) }
+    ensures { Puts (spec.made_by (source_of source.now) rule n (seen stack.old)) (length (right_side rule)) (seen stack.old) (seen stack.new) result }
 {
     let shape = source.shape(n + before_sequence(rule));
     rule_phrase(rule, source.place(n), shape, expander, stack)
@@ -124,15 +123,16 @@ fn at_node(
     ensures within { IfOk result (λ u. spec.is_low_at (source_of source.now) node n (seen stack.old) ≡ true) }
     ensures high { IfErr result (λ f. f ≡ TooHigh → spec.is_low_at (source_of source.now) node n (seen stack.old) ≡ false) }
 {
-    let phrase = match node {
-        Node::Leaf => token_phrase(source, names, n)?,
-        Node::Inner(rule) => {
-            let phrase = phrase_by(source, expander, stack, rule, n)?;
-            is_within(&phrase);
-            phrase
+    match node {
+        Node::Leaf => {
+            let phrase = token_phrase(source, names, n)?;
+            stack.push(phrase)?;
         }
-    };
-    stack.push(phrase)?;
+        Node::Inner(rule) => {
+            put_by(source, expander, stack, rule, n)?;
+            is_within(stack);
+        }
+    }
     Ok(())
 }
 

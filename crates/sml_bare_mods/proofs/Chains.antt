@@ -9,8 +9,8 @@ use Rattle.sml_tree.specs.Structures.{StrExp, ascribed}
 use Rattle.sml_tree.specs.Clauses.{Constraint}
 use Rattle.sml_derived.specs.Derived.{where_types}
 use Rattle.sml_phrases.specs.PhraseHeights.{low}
-use Rattle.sml_phrases.specs.Phrases.{of_sig}
-use Rattle.sml_phrases.specs.PhraseViews.{Gives, Makes}
+use Rattle.sml_phrases.specs.Phrases.{Phrase, of_sig}
+use Rattle.sml_phrases.specs.PhraseViews.{Gives, Puts}
 use Rattle.sml_bare_mods.specs.StructureRules.{constrained, str_place}
 use Rattle.sml_phrases.specs.declared.phrase.Failure.{Failure}
 use Rattle.sml_phrases.specs.declared.phrase.Failure.TheVariants.{TooHigh, Memory}
@@ -46,10 +46,10 @@ failed_equation view g p old whole left rest w TooHigh popped high e = high_equa
 failed_equation view g p old whole left rest w Memory popped high e = tt
 
 -- a signature expression that is too high makes it too high with equations behind it
-pub failed_signature : {A : Type 0} (view : A → SigExp Place) (p : Place) (s : SigExp Place) (ws : List (WhereType Place)) (failure : Failure)
-    → Gives view (λ s. low (sig_height s)) s (Err failure) → Makes (of_sig (where_types p s ws)) (Err failure)
-failed_signature view p s ws TooHigh high = still_high (sig_height s) (sig_height (where_types p s ws)) (where_types_grow p s ws) high
-failed_signature view p s ws Memory high = tt
+pub failed_signature : {A : Type 0} (view : A → SigExp Place) (p : Place) (s : SigExp Place) (ws : List (WhereType Place)) (n : ℕ) (old new : List Phrase) (failure : Failure)
+    → Gives view (λ s. low (sig_height s)) s (Err failure) → Puts (of_sig (where_types p s ws)) n old new (Err failure)
+failed_signature view p s ws n old new TooHigh high = still_high (sig_height s) (sig_height (where_types p s ws)) (where_types_grow p s ws) high
+failed_signature view p s ws n old new Memory high = tt
 
 -- structure expressions with constraints behind them
 

@@ -6,8 +6,8 @@ use Rattle.sml_tree.specs.Expressions.{TypBind}
 use Rattle.sml_tree.specs.Signatures.{Specs, no_spec}
 use Rattle.sml_tree.specs.Heights.{highest, specs_height, typ_bind_height}
 use Rattle.sml_phrases.specs.PhraseHeights.{low}
-use Rattle.sml_phrases.specs.Phrases.{of_specs}
-use Rattle.sml_phrases.specs.PhraseViews.{Gives, Makes}
+use Rattle.sml_phrases.specs.Phrases.{Phrase, of_specs}
+use Rattle.sml_phrases.specs.PhraseViews.{Gives, Puts}
 use Rattle.sml_phrases.specs.declared.phrase.Failure.{Failure}
 use Rattle.sml_phrases.specs.declared.phrase.Failure.TheVariants.{TooHigh, Memory}
 use Rattle.sml_bare_mods.proofs.Chains.{still_high}
@@ -26,10 +26,10 @@ pub joined_height : (p : Place) (b : TypBind Place) (bs : List (TypBind Place)) 
 joined_height p b bs made h m sum e f s same = let g = type_specs_height p b bs in let k = ap specs_height same in omega (arith, e, f, s, g, k)
 
 -- types whose specifications would be too high
-pub failed_types : (p : Place) (b : TypBind Place) (bs : List (TypBind Place)) (h m : ℕ) (failure : Failure)
-    → highest typ_bind_height (b ∷ bs) ≡ h → m ≡ max h 2 → Gives (λ h. h) low (m + 2) (Err failure) → Makes (of_specs (type_specs p b bs)) (Err failure)
-failed_types p b bs h m TooHigh e f high = let g = type_specs_height p b bs in still_high (m + 2) (specs_height (type_specs p b bs)) (omega (arith, e, f, g)) high
-failed_types p b bs h m Memory e f high = tt
+pub failed_types : (p : Place) (b : TypBind Place) (bs : List (TypBind Place)) (h m n : ℕ) (old new : List Phrase) (failure : Failure)
+    → highest typ_bind_height (b ∷ bs) ≡ h → m ≡ max h 2 → Gives (λ h. h) low (m + 2) (Err failure) → Puts (of_specs (type_specs p b bs)) n old new (Err failure)
+failed_types p b bs h m n old new TooHigh e f high = let g = type_specs_height p b bs in still_high (m + 2) (specs_height (type_specs p b bs)) (omega (arith, e, f, g)) high
+failed_types p b bs h m n old new Memory e f high = tt
 
 -- of signature identifiers behind `include`
 included : (p : Place) (x : Name Place) (xs : List (Name Place)) → specs_height (includes p (x ∷ xs)) ≡ 2

@@ -1,6 +1,6 @@
 //! What the rules of functor bindings make of their parts.
 
-ghost use Rattle.std.specs.Prelude.{◌≡◌, [], ◌∷◌, drop, length, map, reverse, IfOk, OnOk};
+ghost use Rattle.std.specs.Prelude.{◌≡◌, [], ◌∷◌, drop, map, reverse, OnOk};
 ghost use Rattle.sml_tree.specs.Heights.{fun_bind_height, highest};
 ghost use Rattle.sml_tree.specs.SignatureViews.{sig_of, specs_of, spec_of};
 ghost use Rattle.sml_tree.specs.StructureViews.{fun_bind_of, str_of};
@@ -8,7 +8,7 @@ ghost use Rattle.sml_tree.specs.TypeViews.{name_of};
 ghost use Rattle.sml_derived.specs.Derived.{open_functor};
 ghost use Rattle.sml_phrases.specs.PhraseHeights.{low};
 ghost use Rattle.sml_phrases.specs.Phrases.{of_fun_binds, of_functor_argument, at, constraints_in, name_in, sig_in, str_in};
-ghost use Rattle.sml_phrases.specs.PhraseViews.{Gives, Makes, low_constraint_of, phrase_of, seen};
+ghost use Rattle.sml_phrases.specs.PhraseViews.{Gives, Puts, low_constraint_of, phrase_of, seen};
 ghost use Rattle.sml_bare_mods.specs.StructureRules.{behind_fun_bind, fun_binds, open_fun_bind, where_fun_bind};
 
 use crate::module_stack::{pop_constraints, pop_fun_binds, pop_where_type};
@@ -22,19 +22,18 @@ use sml_tree::names::Name;
 use sml_tree::structures::FunBind;
 
 /// The argument of a functor.
-pub fn functor_argument(stack: &mut Stack) -> Result<Phrase, Failure>
-    ensures made { let vs = seen stack.old in Makes (of_functor_argument (name_in (at vs 0)) (sig_in (at vs 2))) result }
-    ensures rest { OnOk result (seen stack.new ≡ drop 3 (seen stack.old)) }
+pub fn functor_argument(stack: &mut Stack) -> Result<(), Failure>
+    ensures { let vs = seen stack.old in Puts (of_functor_argument (name_in (at vs 0)) (sig_in (at vs 2))) 3 vs (seen stack.new) result }
 {
     let name = stack.name()?;
     stack.skip();
-    Ok(Phrase::Structures(StructurePhrase::FunctorArgument(name, stack.sig())))
+    let signature = stack.sig();
+    stack.put_functor_argument(name, signature)
 }
 
 /// `funid ( .. ) = strexp`, perhaps with a constraint.
-pub fn open_fun_bind(stack: &mut Stack) -> Result<Phrase, Failure>
-    ensures made { let vs = seen stack.old in Makes (open_fun_bind (name_in (at vs 0)) (at vs 2) (constraints_in (at vs 4)) (str_in (at vs 6))) result }
-    ensures rest { OnOk result (seen stack.new ≡ drop 7 (seen stack.old)) }
+pub fn open_fun_bind(stack: &mut Stack) -> Result<(), Failure>
+    ensures { let vs = seen stack.old in Puts (open_fun_bind (name_in (at vs 0)) (at vs 2) (constraints_in (at vs 4)) (str_in (at vs 6))) 7 vs (seen stack.new) result }
 {
     let name = stack.name()?;
     stack.skip();
@@ -43,30 +42,29 @@ pub fn open_fun_bind(stack: &mut Stack) -> Result<Phrase, Failure>
     let (_none, own) = pop_constraints(stack);
     stack.skip();
     let body = stack.str();
-    open_fun_bind_of(name, argument, own, body)
+    open_fun_bind_of(stack, name, argument, own, body)
 }
 
 /// The same from the parts.
 fn open_fun_bind_of(
+    stack: &mut Stack,
     name: Name,
     argument: Phrase,
     own: Vec<LowConstraint>,
     body: LowStr,
-) -> Result<Phrase, Failure>
-    ensures { Makes (open_fun_bind (name_of name) (phrase_of argument) (map low_constraint_of (reverse own.items)) (str_of body.tree)) result }
+) -> Result<(), Failure>
+    ensures { Puts (open_fun_bind (name_of name) (phrase_of argument) (map low_constraint_of (reverse own.items)) (str_of body.tree)) 0 (seen stack.old) (seen stack.new) result }
 {
     match argument {
         Phrase::Structures(StructurePhrase::FunctorArgument(argument, signature)) => {
-            Ok(Phrase::Structures(StructurePhrase::OpenFunBind(
-                name, argument, signature, own, body,
-            )))
+            stack.put_open_fun_bind(name, argument, signature, own, body)
         }
         Phrase::Signatures(SignaturePhrase::Specs(specs)) => {
-            Ok(Phrase::Structures(StructurePhrase::OpenFunctor(name, specs, own, body)))
+            stack.put_open_functor(name, specs, own, body)
         }
         other => {
             discard(other);
-            Ok(Phrase::Nothing)
+            stack.put_nothing()
         }
     }
 }
@@ -145,51 +143,40 @@ pub fn fun_binds(stack: &mut Stack, expander: &Expander) -> Result<LowFunBinds, 
 }
 
 /// The same behind a functor binding.
-pub fn and_fun_binds(stack: &mut Stack, expander: &Expander) -> Result<Phrase, Failure>
-    ensures made { let vs = seen stack.old in Makes (of_fun_binds [] [] (fun_binds (at vs 0) (at vs 1))) result }
-    ensures rest { OnOk result (seen stack.new ≡ drop 2 (seen stack.old)) }
+pub fn and_fun_binds(stack: &mut Stack, expander: &Expander) -> Result<(), Failure>
+    ensures { let vs = seen stack.old in Puts (of_fun_binds [] [] (fun_binds (at vs 0) (at vs 1))) 2 vs (seen stack.new) result }
 {
     let binds = fun_binds(stack, expander)?;
-    Ok(Phrase::Structures(StructurePhrase::FunBinds(
-        Vec::new(stack.alloc),
-        Vec::new(stack.alloc),
-        binds,
-    )))
+    stack.put_fun_binds(Vec::new(stack.alloc), Vec::new(stack.alloc), binds)
 }
 
 /// Nothing behind a functor binding.
-pub fn no_fun_binds(stack: &Stack) -> Phrase
-    ensures { phrase_of result ≡ of_fun_binds [] [] [] }
+pub fn no_fun_binds(stack: &mut Stack) -> Result<(), Failure>
+    ensures { Puts (of_fun_binds [] [] []) 0 (seen stack.old) (seen stack.new) result }
 {
     let binds = LowFunBinds {
         trees: Vec::new(stack.alloc),
         height: 0,
     };
-    Phrase::Structures(StructurePhrase::FunBinds(
-        Vec::new(stack.alloc),
-        Vec::new(stack.alloc),
-        binds,
-    ))
+    stack.put_fun_binds(Vec::new(stack.alloc), Vec::new(stack.alloc), binds)
 }
 
 /// A constraint behind a functor binding, and what stands behind it.
-pub fn behind_fun_bind(stack: &mut Stack) -> Result<Phrase, Failure>
-    ensures made { let vs = seen stack.old in Makes (behind_fun_bind (at vs 0) (at vs 1)) result }
-    ensures rest { OnOk result (seen stack.new ≡ drop 2 (seen stack.old)) }
+pub fn behind_fun_bind(stack: &mut Stack) -> Result<(), Failure>
+    ensures { let vs = seen stack.old in Puts (behind_fun_bind (at vs 0) (at vs 1)) 2 vs (seen stack.new) result }
 {
     let (_none, first) = pop_constraints(stack);
     let (equations, others, binds) = pop_fun_binds(stack);
     let constraints = and_constraint(stack.alloc, first, equations, others)?;
-    Ok(Phrase::Structures(StructurePhrase::FunBinds(Vec::new(stack.alloc), constraints, binds)))
+    stack.put_fun_binds(Vec::new(stack.alloc), constraints, binds)
 }
 
 /// An equation of the signature expression before it, and what stands behind it.
-pub fn where_fun_bind(stack: &mut Stack) -> Result<Phrase, Failure>
-    ensures made { let vs = seen stack.old in Makes (where_fun_bind (at vs 0) (at vs 1)) result }
-    ensures rest { OnOk result (seen stack.new ≡ drop 2 (seen stack.old)) }
+pub fn where_fun_bind(stack: &mut Stack) -> Result<(), Failure>
+    ensures { let vs = seen stack.old in Puts (where_fun_bind (at vs 0) (at vs 1)) 2 vs (seen stack.new) result }
 {
     let equation = pop_where_type(stack)?;
     let (mut equations, constraints, binds) = pop_fun_binds(stack);
     equations.push(equation)?;
-    Ok(Phrase::Structures(StructurePhrase::FunBinds(equations, constraints, binds)))
+    stack.put_fun_binds(equations, constraints, binds)
 }

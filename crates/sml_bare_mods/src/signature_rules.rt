@@ -1,6 +1,6 @@
 //! What the rules of signature expressions and of signature bindings make of their parts.
 
-ghost use Rattle.std.specs.Prelude.{◌≡◌, [], ◌∷◌, drop, length, map, reverse, IfOk, OnOk};
+ghost use Rattle.std.specs.Prelude.{◌≡◌, [], ◌∷◌, drop, length, map, reverse, OnOk};
 ghost use Rattle.sml_tree.specs.Heights.{highest, sig_bind_height, sig_height};
 ghost use Rattle.sml_tree.specs.SignatureViews.{sig_of};
 ghost use Rattle.sml_tree.specs.Signatures.{sig_end, sig_name, where_type};
@@ -10,7 +10,7 @@ ghost use Rattle.sml_read.specs.declared.grammar.Rule.TheVariants.{Signatures};
 ghost use Rattle.sml_derived.specs.Derived.{where_types};
 ghost use Rattle.sml_phrases.specs.PhraseHeights.{low};
 ghost use Rattle.sml_phrases.specs.Phrases.{of_open_sig_bind, of_sig, of_sig_binds, of_where, of_wheres, at, long_in, name_in, names_in, sig_binds_in, sig_in, sig_wheres_in, specs_in, ty_in, where_in, wheres_in};
-ghost use Rattle.sml_phrases.specs.PhraseViews.{Gives, Makes, low_where_of, phrase_of, seen};
+ghost use Rattle.sml_phrases.specs.PhraseViews.{Gives, Puts, low_where_of, seen};
 ghost use Rattle.sml_bare_mods.specs.SignatureRules.{sig_binds, sig_place, signature_phrase, with_wheres};
 
 use crate::module_stack::{pop_sig_binds, pop_where_type};
@@ -90,13 +90,12 @@ pub fn with_wheres(
 }
 
 /// A signature expression and what stands behind it.
-fn signature(stack: &mut Stack) -> Result<Phrase, Failure>
-    ensures made { let vs = seen stack.old in Makes (of_sig (with_wheres (sig_in (at vs 0)) (wheres_in (at vs 1)))) result }
-    ensures rest { OnOk result (seen stack.new ≡ drop 2 (seen stack.old)) }
+fn signature(stack: &mut Stack) -> Result<(), Failure>
+    ensures { let vs = seen stack.old in Puts (of_sig (with_wheres (sig_in (at vs 0)) (wheres_in (at vs 1)))) 2 vs (seen stack.new) result }
 {
     let signature = stack.sig();
     let equations = stack.wheres();
-    Ok(Phrase::Signatures(SignaturePhrase::Sig(with_wheres(stack.alloc, signature, equations)?)))
+    stack.put_sig(with_wheres(stack.alloc, signature, equations)?)
 }
 
 /// `sig .. end`
@@ -113,78 +112,73 @@ pub fn sig_end(stack: &mut Stack, place: Place) -> Result<LowSig, Failure>
     Ok(LowSig { tree, height })
 }
 
-fn sig_name(stack: &mut Stack, place: Place) -> Result<Phrase, Failure>
-    ensures made { let vs = seen stack.old in Makes (of_sig (sig_name place (name_in (at vs 0)).id)) result }
-    ensures rest { OnOk result (seen stack.new ≡ drop 1 (seen stack.old)) }
+fn sig_name(stack: &mut Stack, place: Place) -> Result<(), Failure>
+    ensures { let vs = seen stack.old in Puts (of_sig (sig_name place (name_in (at vs 0)).id)) 1 vs (seen stack.new) result }
 {
     let name = stack.name()?;
     let tree = SigExp::Identifier(place, name.ident);
-    Ok(Phrase::Signatures(SignaturePhrase::Sig(LowSig { tree, height: 1 })))
+    stack.put_sig(LowSig { tree, height: 1 })
 }
 
 /// No equations.
-fn no_wheres(stack: &Stack) -> Phrase
-    ensures { phrase_of result ≡ of_wheres [] }
+fn no_wheres(stack: &mut Stack) -> Result<(), Failure>
+    ensures { Puts (of_wheres []) 0 (seen stack.old) (seen stack.new) result }
 {
-    Phrase::Signatures(SignaturePhrase::Wheres(Vec::new(stack.alloc)))
+    stack.put_wheres(Vec::new(stack.alloc))
 }
 
 /// An equation behind a word, and those behind it.
-fn and_where(stack: &mut Stack) -> Result<Phrase, Failure>
-    ensures made { let vs = seen stack.old in Makes (of_wheres (where_in (at vs 1) ∷ wheres_in (at vs 2))) result }
-    ensures rest { OnOk result (seen stack.new ≡ drop 3 (seen stack.old)) }
+fn and_where(stack: &mut Stack) -> Result<(), Failure>
+    ensures { let vs = seen stack.old in Puts (of_wheres (where_in (at vs 1) ∷ wheres_in (at vs 2))) 3 vs (seen stack.new) result }
 {
     stack.skip();
     let equation = pop_where_type(stack)?;
     let mut equations = stack.wheres();
     equations.push(equation)?;
-    Ok(Phrase::Signatures(SignaturePhrase::Wheres(equations)))
+    stack.put_wheres(equations)
 }
 
 /// `type .. = ..`
-fn equation(stack: &mut Stack) -> Result<Phrase, Failure>
-    ensures made { let vs = seen stack.old in Makes (of_where (names_in (at vs 1)) (long_in (at vs 2)) (ty_in (at vs 4))) result }
-    ensures rest { OnOk result (seen stack.new ≡ drop 5 (seen stack.old)) }
+fn equation(stack: &mut Stack) -> Result<(), Failure>
+    ensures { let vs = seen stack.old in Puts (of_where (names_in (at vs 1)) (long_in (at vs 2)) (ty_in (at vs 4))) 5 vs (seen stack.new) result }
 {
     stack.skip();
     let variables = stack.names();
     let constructor = stack.long()?;
     stack.skip();
     let ty = stack.ty();
-    Ok(Phrase::Signatures(SignaturePhrase::Where(variables, constructor, ty)))
+    stack.put_where(variables, constructor, ty)
 }
 
 /// `sigid = sigexp`
-fn open_sig_bind(stack: &mut Stack) -> Result<Phrase, Failure>
-    ensures made { let vs = seen stack.old in Makes (of_open_sig_bind (name_in (at vs 0)) (sig_in (at vs 2))) result }
-    ensures rest { OnOk result (seen stack.new ≡ drop 3 (seen stack.old)) }
+fn open_sig_bind(stack: &mut Stack) -> Result<(), Failure>
+    ensures { let vs = seen stack.old in Puts (of_open_sig_bind (name_in (at vs 0)) (sig_in (at vs 2))) 3 vs (seen stack.new) result }
 {
     let name = stack.name()?;
     stack.skip();
     let signature = stack.sig();
-    Ok(Phrase::Signatures(SignaturePhrase::OpenSigBind(name, signature)))
+    stack.put_open_sig_bind(name, signature)
 }
 
 /// Nothing behind a signature binding.
-fn no_sig_binds(stack: &Stack) -> Phrase
-    ensures { phrase_of result ≡ of_sig_binds [] [] }
+fn no_sig_binds(stack: &mut Stack) -> Result<(), Failure>
+    ensures { Puts (of_sig_binds [] []) 0 (seen stack.old) (seen stack.new) result }
 {
     let binds = LowSigBinds {
         trees: Vec::new(stack.alloc),
         height: 0,
     };
-    Phrase::Signatures(SignaturePhrase::SigBinds(Vec::new(stack.alloc), binds))
+    stack.put_sig_binds(Vec::new(stack.alloc), binds)
 }
 
 /// An equation of the signature binding before it, and what stands behind that.
-fn sig_bind_where(stack: &mut Stack) -> Result<Phrase, Failure>
-    ensures made { let vs = seen stack.old in Makes (of_sig_binds (where_in (at vs 0) ∷ sig_wheres_in (at vs 1)) (sig_binds_in (at vs 1))) result }
-    ensures rest { OnOk result (seen stack.new ≡ drop 2 (seen stack.old)) }
+fn sig_bind_where(stack: &mut Stack) -> Result<(), Failure>
+    ensures { let vs = seen stack.old in Puts (of_sig_binds (where_in (at vs 0) ∷ sig_wheres_in (at vs 1)) (sig_binds_in (at vs 1))) 2 vs (seen stack.new) result }
 {
     let equation = pop_where_type(stack)?;
     let (mut equations, binds) = pop_sig_binds(stack);
     equations.push(equation)?;
-    Ok(Phrase::Signatures(SignaturePhrase::SigBinds(equations, binds)))
+    stack.put_sig_binds(equations, binds)
 }
 
 /// A signature binding with what belongs to it, and those behind it.
@@ -215,35 +209,29 @@ pub fn sig_binds(stack: &mut Stack) -> Result<LowSigBinds, Failure>
 }
 
 /// The same behind a signature binding.
-fn and_sig_binds(stack: &mut Stack) -> Result<Phrase, Failure>
-    ensures made { let vs = seen stack.old in Makes (of_sig_binds [] (sig_binds (at vs 0) (at vs 1))) result }
-    ensures rest { OnOk result (seen stack.new ≡ drop 2 (seen stack.old)) }
+fn and_sig_binds(stack: &mut Stack) -> Result<(), Failure>
+    ensures { let vs = seen stack.old in Puts (of_sig_binds [] (sig_binds (at vs 0) (at vs 1))) 2 vs (seen stack.new) result }
 {
     let binds = sig_binds(stack)?;
-    Ok(Phrase::Signatures(SignaturePhrase::SigBinds(Vec::new(stack.alloc), binds)))
+    stack.put_sig_binds(Vec::new(stack.alloc), binds)
 }
 
-pub fn signature_phrase(
-    rule: SignatureRule,
-    place: Place,
-    stack: &mut Stack,
-) -> Result<Phrase, Failure>
-    ensures made { Makes (signature_phrase rule place (seen stack.old)) result }
-    ensures rest { OnOk result (seen stack.new ≡ drop (length (right_side (Signatures rule))) (seen stack.old)) }
+pub fn signature_phrase(rule: SignatureRule, place: Place, stack: &mut Stack) -> Result<(), Failure>
+    ensures { Puts (signature_phrase rule place (seen stack.old)) (length (right_side (Signatures rule))) (seen stack.old) (seen stack.new) result }
 {
     match rule {
         SignatureRule::SigSigAtom => signature(stack),
         SignatureRule::SigAtomSig => {
             let signature = sig_end(stack, place)?;
-            Ok(Phrase::Signatures(SignaturePhrase::Sig(signature)))
+            stack.put_sig(signature)
         }
         SignatureRule::SigAtomAlphanumeric => sig_name(stack, place),
-        SignatureRule::SigMoreNone | SignatureRule::SigWhereNone => Ok(no_wheres(stack)),
+        SignatureRule::SigMoreNone | SignatureRule::SigWhereNone => no_wheres(stack),
         SignatureRule::SigMoreWhere | SignatureRule::SigWhereWhere | SignatureRule::SigWhereAnd =>
             and_where(stack),
         SignatureRule::WhereType => equation(stack),
         SignatureRule::SigBindAlphanumeric => open_sig_bind(stack),
-        SignatureRule::SigBindMoreNone | SignatureRule::SigBindWhereNone => Ok(no_sig_binds(stack)),
+        SignatureRule::SigBindMoreNone | SignatureRule::SigBindWhereNone => no_sig_binds(stack),
         SignatureRule::SigBindMoreWhere | SignatureRule::SigBindWhereWhere => {
             stack.skip();
             sig_bind_where(stack)
@@ -254,9 +242,6 @@ pub fn signature_phrase(
             and_sig_binds(stack)
         }
         SignatureRule::SigBindAndSigBind => and_sig_binds(stack),
-        SignatureRule::SigBindWhereAnd => {
-            stack.skip();
-            Ok(stack.pop())
-        }
+        SignatureRule::SigBindWhereAnd => { stack.put_behind_word() }
     }
 }

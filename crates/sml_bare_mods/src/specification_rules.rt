@@ -1,19 +1,18 @@
 //! What the rules of specifications make of their parts.
 
-ghost use Rattle.std.specs.Prelude.{◌≡◌, ◌≤◌, ◌<◌, [], ◌∷◌, drop, length, map, reverse, IfErr, IfOk, OnOk};
-ghost use Rattle.std.specs.Option.{option_map};
-ghost use Rattle.sml_tree.specs.Heights.{con_bind_height, highest, sig_height, spec_height, str_descs_height, val_desc_height};
-ghost use Rattle.sml_tree.specs.SignatureViews.{sig_of, spec_of, specs_of, str_desc_of, str_descs_of, typ_desc_of, val_desc_of};
+ghost use Rattle.std.specs.Prelude.{◌≡◌, ◌≤◌, [], ◌∷◌, drop, length, map, reverse, IfErr, IfOk, OnOk};
+ghost use Rattle.sml_tree.specs.Heights.{con_bind_height, highest, spec_height, str_descs_height, val_desc_height};
+ghost use Rattle.sml_tree.specs.SignatureViews.{spec_of, str_desc_of, str_descs_of, typ_desc_of, val_desc_of};
 ghost use Rattle.sml_tree.specs.ExpressionViews.{con_bind_of, dat_bind_of};
-ghost use Rattle.sml_tree.specs.Signatures.{copy_spec, datatype_spec, eqtype_spec, exception_spec, no_str_desc, sharing_structures, sharing_types, sig_end, structure_spec, type_spec, val_spec};
-ghost use Rattle.sml_tree.specs.TypeViews.{long_name_of, name_of, names_of, ty_of};
+ghost use Rattle.sml_tree.specs.Signatures.{eqtype_spec, exception_spec, no_str_desc, sig_end, structure_spec, val_spec};
+ghost use Rattle.sml_tree.specs.TypeViews.{long_name_of, name_of, names_of};
 ghost use Rattle.sml_read.specs.Grammar.{right_side};
 ghost use Rattle.sml_read.specs.declared.grammar.Rule.TheVariants.{Specifications};
 ghost use Rattle.sml_derived.specs.Derived.{where_types};
 ghost use Rattle.sml_phrases.specs.PhraseHeights.{low};
-ghost use Rattle.sml_phrases.specs.Phrases.{of_con_bind, of_con_binds, of_constructors, of_datatypes, of_longs, of_names, of_open_str_desc, of_shared_types, of_sig, of_specs, of_str_descs, of_typ_descs, of_type_rest, of_val_desc, of_val_descs, nothing, at, con_bind_in, con_binds_in, dat_binds_in, desc_wheres_in, long_in, longs_in, name_in, names_in, sig_in, specs_in, str_descs_in, ty_if_any, ty_in, typ_binds_in, typ_descs_in, val_desc_in, val_descs_in, wheres_in};
+ghost use Rattle.sml_phrases.specs.Phrases.{of_con_bind, of_con_binds, of_constructors, of_datatypes, of_longs, of_names, of_open_str_desc, of_shared_types, of_sig, of_str_descs, of_typ_descs, of_type_rest, of_val_desc, of_val_descs, at, con_bind_in, con_binds_in, dat_binds_in, long_in, longs_in, name_in, names_in, sig_in, specs_in, ty_if_any, ty_in, typ_binds_in, typ_descs_in, val_desc_in, val_descs_in, wheres_in};
 ghost use Rattle.sml_phrases.specs.declared.phrase.Failure.TheVariants.{Memory};
-ghost use Rattle.sml_phrases.specs.PhraseViews.{Gives, Makes, phrase_of, seen};
+ghost use Rattle.sml_phrases.specs.PhraseViews.{Gives, Puts, phrase_of, seen};
 ghost use Rattle.sml_bare_mods.specs.SpecificationRules.{datatype, datatype_rest, datatypes, included_name, one, shared, specification_phrase, str_descs, type_rest, where_str_desc};
 
 use crate::derived_specifications::{included, types};
@@ -34,29 +33,27 @@ use sml_tree::bare::LongIdent;
 use sml_tree::expressions::{ConBind, DatBind, TypBind};
 use sml_tree::names::Name;
 use sml_tree::signatures::{SigExp, Spec, StrDesc, TypDesc, ValDesc};
-use std::alloc::Global;
 
 /// One specification.
-pub fn one(alloc: Global, spec: Spec, height: u32) -> Result<Phrase, Failure>
+pub fn one(stack: &mut Stack, spec: Spec, height: u32) -> Result<(), Failure>
     requires height { spec_height (spec_of spec) ≡ height }
     requires low { height ≤ 4000 }
-    ensures { Makes (one (spec_of spec)) result }
+    ensures { Puts (one (spec_of spec)) 0 (seen stack.old) (seen stack.new) result }
 {
-    let mut trees = Vec::new(alloc);
+    let mut trees = Vec::new(stack.alloc);
     trees.push(spec)?;
-    Ok(Phrase::Signatures(SignaturePhrase::Specs(LowSpecs { trees, height })))
+    stack.put_specs(LowSpecs { trees, height })
 }
 
 /// `val ..`
-fn val_spec(stack: &mut Stack, place: Place) -> Result<Phrase, Failure>
-    ensures made { let vs = seen stack.old in Makes (one (val_spec place (val_desc_in (at vs 1) ∷ val_descs_in (at vs 2)))) result }
-    ensures rest { OnOk result (seen stack.new ≡ drop 3 (seen stack.old)) }
+fn val_spec(stack: &mut Stack, place: Place) -> Result<(), Failure>
+    ensures { let vs = seen stack.old in Puts (one (val_spec place (val_desc_in (at vs 1) ∷ val_descs_in (at vs 2)))) 3 vs (seen stack.new) result }
 {
     stack.skip();
     let LowValDescs { mut trees, height } = and_val_desc(stack)?;
     let height = raised(height, 1)?;
     trees.reverse();
-    one(stack.alloc, Spec::Value(place, trees), height)
+    one(stack, Spec::Value(place, trees), height)
 }
 
 /// A variable and its type, and those behind it.
@@ -74,38 +71,43 @@ fn and_val_desc(stack: &mut Stack) -> Result<LowValDescs, Failure>
 }
 
 /// `and ..` behind a variable and its type.
-fn val_descs(stack: &mut Stack) -> Result<Phrase, Failure>
-    ensures made { let vs = seen stack.old in Makes (of_val_descs (val_desc_in (at vs 1) ∷ val_descs_in (at vs 2))) result }
-    ensures rest { OnOk result (seen stack.new ≡ drop 3 (seen stack.old)) }
+fn val_descs(stack: &mut Stack) -> Result<(), Failure>
+    ensures { let vs = seen stack.old in Puts (of_val_descs (val_desc_in (at vs 1) ∷ val_descs_in (at vs 2))) 3 vs (seen stack.new) result }
 {
     stack.skip();
-    Ok(Phrase::Signatures(SignaturePhrase::ValDescs(and_val_desc(stack)?)))
+    let descs = and_val_desc(stack)?;
+    stack.put_val_descs(descs)
 }
 
 /// A variable and its type.
-fn val_desc(stack: &mut Stack) -> Result<Phrase, Failure>
-    ensures made { let vs = seen stack.old in Makes (of_val_desc (name_in (at vs 0)) (ty_in (at vs 2))) result }
-    ensures rest { OnOk result (seen stack.new ≡ drop 3 (seen stack.old)) }
+fn val_desc(stack: &mut Stack) -> Result<(), Failure>
+    ensures { let vs = seen stack.old in Puts (of_val_desc (name_in (at vs 0)) (ty_in (at vs 2))) 3 vs (seen stack.new) result }
 {
     let name = stack.name()?;
     stack.skip();
-    Ok(Phrase::Signatures(SignaturePhrase::ValDesc(name, stack.ty())))
+    let ty = stack.ty();
+    stack.put_val_desc(name, ty)
 }
 
 /// A type constructor, and what stands behind it.
-fn type_rest(stack: &mut Stack) -> Result<Phrase, Failure>
-    ensures made { let vs = seen stack.old in Makes (type_rest (names_in (at vs 0)) (name_in (at vs 1)) (at vs 2)) result }
-    ensures rest { OnOk result (seen stack.new ≡ drop 3 (seen stack.old)) }
+fn type_rest(stack: &mut Stack) -> Result<(), Failure>
+    ensures { let vs = seen stack.old in Puts (type_rest (names_in (at vs 0)) (name_in (at vs 1)) (at vs 2)) 3 vs (seen stack.new) result }
 {
     let mut variables = stack.names();
     variables.reverse();
     let name = stack.name()?;
-    type_rest_of(variables, name, stack.pop())
+    let rest = stack.pop();
+    type_rest_of(stack, variables, name, rest)
 }
 
 /// The same from the parts.
-fn type_rest_of(variables: Vec<Name>, name: Name, rest: Phrase) -> Result<Phrase, Failure>
-    ensures { Makes (type_rest (names_of variables.items) (name_of name) (phrase_of rest)) result }
+fn type_rest_of(
+    stack: &mut Stack,
+    variables: Vec<Name>,
+    name: Name,
+    rest: Phrase,
+) -> Result<(), Failure>
+    ensures { Puts (type_rest (names_of variables.items) (name_of name) (phrase_of rest)) 0 (seen stack.old) (seen stack.new) result }
 {
     match rest {
         Phrase::Signatures(SignaturePhrase::TypeRest(ty, binds)) => {
@@ -116,27 +118,27 @@ fn type_rest_of(variables: Vec<Name>, name: Name, rest: Phrase) -> Result<Phrase
                 ty: ty.tree,
             })?;
             let height = height.max(ty.height);
-            Ok(Phrase::Declarations(DeclarationPhrase::TypBinds(LowTypBinds { trees, height })))
+            stack.put_typ_binds(LowTypBinds { trees, height })
         }
         Phrase::Signatures(SignaturePhrase::TypDescs(mut descs)) => {
             descs.push(TypDesc { variables, name })?;
-            Ok(Phrase::Signatures(SignaturePhrase::TypDescs(descs)))
+            stack.put_typ_descs(descs)
         }
         other => {
             discard(other);
-            Ok(Phrase::Nothing)
+            stack.put_nothing()
         }
     }
 }
 
 /// `= ..` behind a type constructor.
-fn type_equals(stack: &mut Stack) -> Phrase
-    ensures made { let vs = seen stack.old in phrase_of result ≡ of_type_rest (ty_in (at vs 1)) (typ_binds_in (at vs 2)) }
-    ensures rest { seen stack.new ≡ drop 3 (seen stack.old) }
+fn type_equals(stack: &mut Stack) -> Result<(), Failure>
+    ensures { let vs = seen stack.old in Puts (of_type_rest (ty_in (at vs 1)) (typ_binds_in (at vs 2))) 3 vs (seen stack.new) result }
 {
     stack.skip();
     let ty = stack.ty();
-    Phrase::Signatures(SignaturePhrase::TypeRest(ty, stack.typ_binds()))
+    let binds = stack.typ_binds();
+    stack.put_type_rest(ty, binds)
 }
 
 /// A type description behind a word, and those behind it.
@@ -155,51 +157,48 @@ fn typ_descs(stack: &mut Stack) -> Result<Vec<TypDesc>, Failure>
 }
 
 /// `eqtype ..`
-fn eqtype_spec(stack: &mut Stack, place: Place) -> Result<Phrase, Failure>
-    ensures made { let vs = seen stack.old in Makes (one (eqtype_spec place (record { variables = names_in (at vs 1); name = name_in (at vs 2) } ∷ typ_descs_in (at vs 3)))) result }
-    ensures rest { OnOk result (seen stack.new ≡ drop 4 (seen stack.old)) }
+fn eqtype_spec(stack: &mut Stack, place: Place) -> Result<(), Failure>
+    ensures { let vs = seen stack.old in Puts (one (eqtype_spec place (record { variables = names_in (at vs 1); name = name_in (at vs 2) } ∷ typ_descs_in (at vs 3)))) 4 vs (seen stack.new) result }
 {
     let mut descs = typ_descs(stack)?;
     descs.reverse();
-    one(stack.alloc, Spec::Eqtype(place, descs), 1)
+    one(stack, Spec::Eqtype(place, descs), 1)
 }
 
 /// `and ..` behind a type description.
-fn and_typ_desc(stack: &mut Stack) -> Result<Phrase, Failure>
-    ensures made { let vs = seen stack.old in Makes (of_typ_descs (record { variables = names_in (at vs 1); name = name_in (at vs 2) } ∷ typ_descs_in (at vs 3))) result }
-    ensures rest { OnOk result (seen stack.new ≡ drop 4 (seen stack.old)) }
+fn and_typ_desc(stack: &mut Stack) -> Result<(), Failure>
+    ensures { let vs = seen stack.old in Puts (of_typ_descs (record { variables = names_in (at vs 1); name = name_in (at vs 2) } ∷ typ_descs_in (at vs 3))) 4 vs (seen stack.new) result }
 {
-    Ok(Phrase::Signatures(SignaturePhrase::TypDescs(typ_descs(stack)?)))
+    let descs = typ_descs(stack)?;
+    stack.put_typ_descs(descs)
 }
 
 /// What stands behind `datatype`.
-fn datatypes(stack: &mut Stack, place: Place) -> Result<Phrase, Failure>
-    ensures made { Makes (datatypes place (at (seen stack.old) 1)) result }
-    ensures rest { OnOk result (seen stack.new ≡ drop 2 (seen stack.old)) }
+fn datatypes(stack: &mut Stack, place: Place) -> Result<(), Failure>
+    ensures { Puts (datatypes place (at (seen stack.old) 1)) 2 (seen stack.old) (seen stack.new) result }
 {
     stack.skip();
     match stack.pop() {
         Phrase::Declarations(DeclarationPhrase::Datatypes(mut datatypes, _types)) => {
             let height = raised(datatypes.height, 1)?;
             datatypes.trees.reverse();
-            one(stack.alloc, Spec::Datatype(place, datatypes.trees), height)
+            one(stack, Spec::Datatype(place, datatypes.trees), height)
         }
         Phrase::Declarations(DeclarationPhrase::Copy(name, long)) => one(
-            stack.alloc,
+            stack,
             Spec::Replication(place, name, long),
             1,
         ),
         other => {
             discard(other);
-            Ok(Phrase::Nothing)
+            stack.put_nothing()
         }
     }
 }
 
 /// A type constructor, `=`, constructors, and the datatypes behind them.
-fn datatype(stack: &mut Stack) -> Result<Phrase, Failure>
-    ensures made { let vs = seen stack.old in Makes (datatype (names_in (at vs 0)) (name_in (at vs 1)) (at vs 3) (dat_binds_in (at vs 4))) result }
-    ensures rest { OnOk result (seen stack.new ≡ drop 5 (seen stack.old)) }
+fn datatype(stack: &mut Stack) -> Result<(), Failure>
+    ensures { let vs = seen stack.old in Puts (datatype (names_in (at vs 0)) (name_in (at vs 1)) (at vs 3) (dat_binds_in (at vs 4))) 5 vs (seen stack.new) result }
 {
     let mut variables = stack.names();
     variables.reverse();
@@ -207,18 +206,18 @@ fn datatype(stack: &mut Stack) -> Result<Phrase, Failure>
     stack.skip();
     let constructors = stack.con_binds();
     let datatypes = pop_dat_binds(stack);
-    and_datatype(stack.alloc, variables, name, constructors, datatypes)
+    and_datatype(stack, variables, name, constructors, datatypes)
 }
 
 /// A datatype in front of others, from its type variables, its type constructor and its constructors.
 fn and_datatype(
-    alloc: Global,
+    stack: &mut Stack,
     variables: Vec<Name>,
     name: Name,
     constructors: LowConBinds,
     datatypes: LowDatBinds,
-) -> Result<Phrase, Failure>
-    ensures { Makes (of_datatypes (record { variables = names_of variables.items; name = name_of name; constructors = map con_bind_of (reverse constructors.trees.items) } ∷ map dat_bind_of (reverse datatypes.trees.items)) []) result }
+) -> Result<(), Failure>
+    ensures { Puts (of_datatypes (record { variables = names_of variables.items; name = name_of name; constructors = map con_bind_of (reverse constructors.trees.items) } ∷ map dat_bind_of (reverse datatypes.trees.items)) []) 0 (seen stack.old) (seen stack.new) result }
 {
     let mut constructors = constructors;
     constructors.trees.reverse();
@@ -229,49 +228,48 @@ fn and_datatype(
         name,
         constructors: constructors.trees,
     })?;
-    Ok(datatype_phrase(alloc, LowDatBinds { trees, height }))
+    put_datatypes(stack, LowDatBinds { trees, height })
 }
 
 /// Datatypes with no types behind `withtype`.
-fn datatype_phrase(alloc: Global, datatypes: LowDatBinds) -> Phrase
-    ensures { phrase_of result ≡ of_datatypes (map dat_bind_of (reverse datatypes.trees.items)) [] }
+fn put_datatypes(stack: &mut Stack, datatypes: LowDatBinds) -> Result<(), Failure>
+    ensures { Puts (of_datatypes (map dat_bind_of (reverse datatypes.trees.items)) []) 0 (seen stack.old) (seen stack.new) result }
 {
     let types = LowTypBinds {
-        trees: Vec::new(alloc),
+        trees: Vec::new(stack.alloc),
         height: 0,
     };
-    Phrase::Declarations(DeclarationPhrase::Datatypes(datatypes, types))
+    stack.put_datatypes(datatypes, types)
 }
 
 /// A type constructor, `=`, and what stands behind that.
-fn datatype_rest(stack: &mut Stack) -> Result<Phrase, Failure>
-    ensures made { let vs = seen stack.old in Makes (datatype_rest (name_in (at vs 0)) (at vs 2)) result }
-    ensures rest { OnOk result (seen stack.new ≡ drop 3 (seen stack.old)) }
+fn datatype_rest(stack: &mut Stack) -> Result<(), Failure>
+    ensures { let vs = seen stack.old in Puts (datatype_rest (name_in (at vs 0)) (at vs 2)) 3 vs (seen stack.new) result }
 {
     let name = stack.name()?;
     stack.skip();
-    datatype_rest_of(stack.alloc, name, stack.pop())
+    let rest = stack.pop();
+    datatype_rest_of(stack, name, rest)
 }
 
 /// The same from the parts.
-fn datatype_rest_of(alloc: Global, name: Name, rest: Phrase) -> Result<Phrase, Failure>
-    ensures { Makes (datatype_rest (name_of name) (phrase_of rest)) result }
+fn datatype_rest_of(stack: &mut Stack, name: Name, rest: Phrase) -> Result<(), Failure>
+    ensures { Puts (datatype_rest (name_of name) (phrase_of rest)) 0 (seen stack.old) (seen stack.new) result }
 {
     match rest {
         Phrase::Declarations(DeclarationPhrase::Constructors(constructors, datatypes, _types)) =>
-            and_datatype(alloc, Vec::new(alloc), name, constructors, datatypes),
-        Phrase::Long(long) => Ok(Phrase::Declarations(DeclarationPhrase::Copy(name, long))),
+            and_datatype(stack, Vec::new(stack.alloc), name, constructors, datatypes),
+        Phrase::Long(long) => stack.put_copy(name, long),
         other => {
             discard(other);
-            Ok(Phrase::Nothing)
+            stack.put_nothing()
         }
     }
 }
 
 /// Constructors, and the datatypes behind them.
-fn constructors(stack: &mut Stack) -> Phrase
-    ensures made { let vs = seen stack.old in phrase_of result ≡ of_constructors (con_binds_in (at vs 0)) (dat_binds_in (at vs 1)) [] }
-    ensures rest { seen stack.new ≡ drop 2 (seen stack.old) }
+fn constructors(stack: &mut Stack) -> Result<(), Failure>
+    ensures { let vs = seen stack.old in Puts (of_constructors (con_binds_in (at vs 0)) (dat_binds_in (at vs 1)) []) 2 vs (seen stack.new) result }
 {
     let constructors = stack.con_binds();
     let datatypes = pop_dat_binds(stack);
@@ -279,13 +277,12 @@ fn constructors(stack: &mut Stack) -> Phrase
         trees: Vec::new(stack.alloc),
         height: 0,
     };
-    Phrase::Declarations(DeclarationPhrase::Constructors(constructors, datatypes, types))
+    stack.put_constructors(constructors, datatypes, types)
 }
 
 /// A constructor, and those behind it.
-fn con_binds(stack: &mut Stack) -> Result<Phrase, Failure>
-    ensures made { let vs = seen stack.old in Makes (of_con_binds (record { name = name_in (at vs 0); argument = ty_if_any (at vs 1) } ∷ con_binds_in (at vs 2))) result }
-    ensures rest { OnOk result (seen stack.new ≡ drop 3 (seen stack.old)) }
+fn con_binds(stack: &mut Stack) -> Result<(), Failure>
+    ensures { let vs = seen stack.old in Puts (of_con_binds (record { name = name_in (at vs 0); argument = ty_if_any (at vs 1) } ∷ con_binds_in (at vs 2))) 3 vs (seen stack.new) result }
 {
     let name = stack.name()?;
     let ty = stack.ty_if_any();
@@ -296,7 +293,7 @@ fn con_binds(stack: &mut Stack) -> Result<Phrase, Failure>
                 name,
                 argument: None,
             })?;
-            Ok(Phrase::Declarations(DeclarationPhrase::ConBinds(LowConBinds { trees, height })))
+            stack.put_con_binds(LowConBinds { trees, height })
         }
         Some(ty) => {
             trees.push(ConBind {
@@ -304,18 +301,18 @@ fn con_binds(stack: &mut Stack) -> Result<Phrase, Failure>
                 argument: Some(ty.tree),
             })?;
             let height = height.max(ty.height);
-            Ok(Phrase::Declarations(DeclarationPhrase::ConBinds(LowConBinds { trees, height })))
+            stack.put_con_binds(LowConBinds { trees, height })
         }
     }
 }
 
 /// An exception, and perhaps the type of its argument.
-fn con_bind(stack: &mut Stack) -> Result<Phrase, Failure>
-    ensures made { let vs = seen stack.old in Makes (of_con_bind (name_in (at vs 0)) (ty_if_any (at vs 1))) result }
-    ensures rest { OnOk result (seen stack.new ≡ drop 2 (seen stack.old)) }
+fn con_bind(stack: &mut Stack) -> Result<(), Failure>
+    ensures { let vs = seen stack.old in Puts (of_con_bind (name_in (at vs 0)) (ty_if_any (at vs 1))) 2 vs (seen stack.new) result }
 {
     let name = stack.name()?;
-    Ok(Phrase::Declarations(DeclarationPhrase::ConBind(name, stack.ty_if_any())))
+    let ty = stack.ty_if_any();
+    stack.put_con_bind(name, ty)
 }
 
 /// An exception behind a word, and those behind it.
@@ -348,43 +345,41 @@ fn exceptions(stack: &mut Stack) -> Result<LowConBinds, Failure>
 }
 
 /// `exception ..`
-fn exception_spec(stack: &mut Stack, place: Place) -> Result<Phrase, Failure>
-    ensures made { let vs = seen stack.old in Makes (one (exception_spec place (con_bind_in (at vs 1) ∷ con_binds_in (at vs 2)))) result }
-    ensures rest { OnOk result (seen stack.new ≡ drop 3 (seen stack.old)) }
+fn exception_spec(stack: &mut Stack, place: Place) -> Result<(), Failure>
+    ensures { let vs = seen stack.old in Puts (one (exception_spec place (con_bind_in (at vs 1) ∷ con_binds_in (at vs 2)))) 3 vs (seen stack.new) result }
 {
     let LowConBinds { mut trees, height } = exceptions(stack)?;
     let height = raised(height, 1)?;
     trees.reverse();
-    one(stack.alloc, Spec::Exception(place, trees), height)
+    one(stack, Spec::Exception(place, trees), height)
 }
 
 /// `and ..` behind an exception.
-fn and_exception(stack: &mut Stack) -> Result<Phrase, Failure>
-    ensures made { let vs = seen stack.old in Makes (of_con_binds (con_bind_in (at vs 1) ∷ con_binds_in (at vs 2))) result }
-    ensures rest { OnOk result (seen stack.new ≡ drop 3 (seen stack.old)) }
+fn and_exception(stack: &mut Stack) -> Result<(), Failure>
+    ensures { let vs = seen stack.old in Puts (of_con_binds (con_bind_in (at vs 1) ∷ con_binds_in (at vs 2))) 3 vs (seen stack.new) result }
 {
-    Ok(Phrase::Declarations(DeclarationPhrase::ConBinds(exceptions(stack)?)))
+    let binds = exceptions(stack)?;
+    stack.put_con_binds(binds)
 }
 
 /// `strid : sigexp`
-fn open_str_desc(stack: &mut Stack) -> Result<Phrase, Failure>
-    ensures made { let vs = seen stack.old in Makes (of_open_str_desc (name_in (at vs 0)) (sig_in (at vs 2))) result }
-    ensures rest { OnOk result (seen stack.new ≡ drop 3 (seen stack.old)) }
+fn open_str_desc(stack: &mut Stack) -> Result<(), Failure>
+    ensures { let vs = seen stack.old in Puts (of_open_str_desc (name_in (at vs 0)) (sig_in (at vs 2))) 3 vs (seen stack.new) result }
 {
     let name = stack.name()?;
     stack.skip();
-    Ok(Phrase::Signatures(SignaturePhrase::OpenStrDesc(name, stack.sig())))
+    let signature = stack.sig();
+    stack.put_open_str_desc(name, signature)
 }
 
 /// An equation of the structure description before it, and what stands behind that.
-fn where_str_desc(stack: &mut Stack) -> Result<Phrase, Failure>
-    ensures made { let vs = seen stack.old in Makes (where_str_desc (at vs 0) (at vs 1)) result }
-    ensures rest { OnOk result (seen stack.new ≡ drop 2 (seen stack.old)) }
+fn where_str_desc(stack: &mut Stack) -> Result<(), Failure>
+    ensures { let vs = seen stack.old in Puts (where_str_desc (at vs 0) (at vs 1)) 2 vs (seen stack.new) result }
 {
     let equation = pop_where_type(stack)?;
     let (mut equations, descs) = pop_str_descs(stack);
     equations.push(equation)?;
-    Ok(Phrase::Signatures(SignaturePhrase::StrDescs(equations, descs)))
+    stack.put_str_descs(equations, descs)
 }
 
 /// A structure description with what belongs to it, and those behind it.
@@ -415,45 +410,41 @@ fn str_descs(stack: &mut Stack) -> Result<LowStrDescs, Failure>
 }
 
 /// The same behind a structure description.
-fn and_str_descs(stack: &mut Stack) -> Result<Phrase, Failure>
-    ensures made { let vs = seen stack.old in Makes (of_str_descs [] (str_descs (at vs 0) (at vs 1))) result }
-    ensures rest { OnOk result (seen stack.new ≡ drop 2 (seen stack.old)) }
+fn and_str_descs(stack: &mut Stack) -> Result<(), Failure>
+    ensures { let vs = seen stack.old in Puts (of_str_descs [] (str_descs (at vs 0) (at vs 1))) 2 vs (seen stack.new) result }
 {
     let descs = str_descs(stack)?;
-    Ok(Phrase::Signatures(SignaturePhrase::StrDescs(Vec::new(stack.alloc), descs)))
+    stack.put_str_descs(Vec::new(stack.alloc), descs)
 }
 
 /// `structure ..`
-fn structure_spec(stack: &mut Stack, place: Place) -> Result<Phrase, Failure>
-    ensures made { let vs = seen stack.old in Makes (one (structure_spec place (str_descs (at vs 1) (at vs 2)))) result }
-    ensures rest { OnOk result (seen stack.new ≡ drop 3 (seen stack.old)) }
+fn structure_spec(stack: &mut Stack, place: Place) -> Result<(), Failure>
+    ensures { let vs = seen stack.old in Puts (one (structure_spec place (str_descs (at vs 1) (at vs 2)))) 3 vs (seen stack.new) result }
 {
     stack.skip();
     let LowStrDescs { mut trees, height } = str_descs(stack)?;
     let height = raised(height, 1)?;
     trees.reverse();
-    one(stack.alloc, Spec::Structure(place, trees), height)
+    one(stack, Spec::Structure(place, trees), height)
 }
 
 /// `sig .. end` behind `include`, with what stands behind it.
-fn included_sig(stack: &mut Stack, place: Place) -> Result<Phrase, Failure>
-    ensures made { let vs = seen stack.old in Makes (of_sig (where_types place (sig_end place (specs_in (at vs 1))) (wheres_in (at vs 3)))) result }
-    ensures rest { OnOk result (seen stack.new ≡ drop 4 (seen stack.old)) }
+fn included_sig(stack: &mut Stack, place: Place) -> Result<(), Failure>
+    ensures { let vs = seen stack.old in Puts (of_sig (where_types place (sig_end place (specs_in (at vs 1))) (wheres_in (at vs 3)))) 4 vs (seen stack.new) result }
 {
     match sig_end(stack, place) {
         Ok(signature) => {
             let equations = stack.wheres();
             let signature = where_types(stack.alloc, place, signature, equations)?;
-            Ok(Phrase::Signatures(SignaturePhrase::Sig(signature)))
+            stack.put_sig(signature)
         }
         Err(failure) => Err(failure),
     }
 }
 
 /// A signature identifier behind `include`, with what stands behind it.
-fn included_name(stack: &mut Stack, place: Place) -> Result<Phrase, Failure>
-    ensures made { let vs = seen stack.old in Makes (included_name place (name_in (at vs 0)) (at vs 1)) result }
-    ensures rest { OnOk result (seen stack.new ≡ drop 2 (seen stack.old)) }
+fn included_name(stack: &mut Stack, place: Place) -> Result<(), Failure>
+    ensures { let vs = seen stack.old in Puts (included_name place (name_in (at vs 0)) (at vs 1)) 2 vs (seen stack.new) result }
 {
     let name = stack.name()?;
     match stack.pop() {
@@ -463,48 +454,46 @@ fn included_name(stack: &mut Stack, place: Place) -> Result<Phrase, Failure>
                 height: 1,
             };
             let signature = where_types(stack.alloc, place, signature, equations)?;
-            Ok(Phrase::Signatures(SignaturePhrase::Sig(signature)))
+            stack.put_sig(signature)
         }
         Phrase::Names(mut names) => {
             names.push(name)?;
-            Ok(Phrase::Names(names))
+            stack.put_names(names)
         }
         other => {
             discard(other);
-            Ok(Phrase::Nothing)
+            stack.put_nothing()
         }
     }
 }
 
 /// A signature identifier, and those behind it.
-fn names(stack: &mut Stack) -> Result<Phrase, Failure>
-    ensures made { let vs = seen stack.old in Makes (of_names (name_in (at vs 0) ∷ names_in (at vs 1))) result }
-    ensures rest { OnOk result (seen stack.new ≡ drop 2 (seen stack.old)) }
+fn names(stack: &mut Stack) -> Result<(), Failure>
+    ensures { let vs = seen stack.old in Puts (of_names (name_in (at vs 0) ∷ names_in (at vs 1))) 2 vs (seen stack.new) result }
 {
     let name = stack.name()?;
     let mut names = stack.names();
     names.push(name)?;
-    Ok(Phrase::Names(names))
+    stack.put_names(names)
 }
 
 /// What stands behind `sharing`.
-fn shared(stack: &mut Stack, place: Place) -> Result<Phrase, Failure>
-    ensures made { Makes (shared place (at (seen stack.old) 1)) result }
-    ensures rest { OnOk result (seen stack.new ≡ drop 2 (seen stack.old)) }
+fn shared(stack: &mut Stack, place: Place) -> Result<(), Failure>
+    ensures { Puts (shared place (at (seen stack.old) 1)) 2 (seen stack.old) (seen stack.new) result }
 {
     stack.skip();
     match stack.pop() {
         Phrase::Signatures(SignaturePhrase::SharedTypes(mut longs)) => {
             longs.reverse();
-            one(stack.alloc, Spec::SharingType(place, longs), 1)
+            one(stack, Spec::SharingType(place, longs), 1)
         }
         Phrase::Longs(mut longs) => {
             longs.reverse();
-            one(stack.alloc, Spec::Sharing(place, longs), 1)
+            one(stack, Spec::Sharing(place, longs), 1)
         }
         other => {
             discard(other);
-            Ok(Phrase::Nothing)
+            stack.put_nothing()
         }
     }
 }
@@ -542,87 +531,75 @@ fn and_long(long: LongIdent, longs: Vec<LongIdent>) -> Result<Vec<LongIdent>, Fa
 }
 
 /// Type constructors behind `sharing type`.
-fn shared_types(stack: &mut Stack) -> Result<Phrase, Failure>
-    ensures made { let vs = seen stack.old in Makes (of_shared_types (long_in (at vs 1) ∷ long_in (at vs 3) ∷ longs_in (at vs 4))) result }
-    ensures rest { OnOk result (seen stack.new ≡ drop 5 (seen stack.old)) }
+fn shared_types(stack: &mut Stack) -> Result<(), Failure>
+    ensures { let vs = seen stack.old in Puts (of_shared_types (long_in (at vs 1) ∷ long_in (at vs 3) ∷ longs_in (at vs 4))) 5 vs (seen stack.new) result }
 {
     stack.skip();
-    Ok(Phrase::Signatures(SignaturePhrase::SharedTypes(two_longs(stack)?)))
+    let longs = two_longs(stack)?;
+    stack.put_shared_types(longs)
 }
 
 /// Structures behind `sharing`.
-fn shared_structures(stack: &mut Stack) -> Result<Phrase, Failure>
-    ensures made { let vs = seen stack.old in Makes (of_longs (long_in (at vs 0) ∷ long_in (at vs 2) ∷ longs_in (at vs 3))) result }
-    ensures rest { OnOk result (seen stack.new ≡ drop 4 (seen stack.old)) }
+fn shared_structures(stack: &mut Stack) -> Result<(), Failure>
+    ensures { let vs = seen stack.old in Puts (of_longs (long_in (at vs 0) ∷ long_in (at vs 2) ∷ longs_in (at vs 3))) 4 vs (seen stack.new) result }
 {
-    Ok(Phrase::Longs(two_longs(stack)?))
+    let longs = two_longs(stack)?;
+    stack.put_longs(longs)
 }
 
 /// A long identifier behind `=`, and those behind it.
-fn longs(stack: &mut Stack) -> Result<Phrase, Failure>
-    ensures made { let vs = seen stack.old in Makes (of_longs (long_in (at vs 1) ∷ longs_in (at vs 2))) result }
-    ensures rest { OnOk result (seen stack.new ≡ drop 3 (seen stack.old)) }
+fn longs(stack: &mut Stack) -> Result<(), Failure>
+    ensures { let vs = seen stack.old in Puts (of_longs (long_in (at vs 1) ∷ longs_in (at vs 2))) 3 vs (seen stack.new) result }
 {
     stack.skip();
     let long = stack.long()?;
     let mut longs = stack.longs();
     longs.push(long)?;
-    Ok(Phrase::Longs(longs))
+    stack.put_longs(longs)
 }
 
-fn no_val_descs(stack: &Stack) -> Phrase
-    ensures { phrase_of result ≡ of_val_descs [] }
+fn no_val_descs(stack: &mut Stack) -> Result<(), Failure>
+    ensures { Puts (of_val_descs []) 0 (seen stack.old) (seen stack.new) result }
 {
-    Phrase::Signatures(SignaturePhrase::ValDescs(LowValDescs {
+    stack.put_val_descs(LowValDescs {
         trees: Vec::new(stack.alloc),
         height: 0,
-    }))
+    })
 }
 
-fn no_typ_descs(stack: &Stack) -> Phrase
-    ensures { phrase_of result ≡ of_typ_descs [] }
+fn no_typ_descs(stack: &mut Stack) -> Result<(), Failure>
+    ensures { Puts (of_typ_descs []) 0 (seen stack.old) (seen stack.new) result }
 {
-    Phrase::Signatures(SignaturePhrase::TypDescs(Vec::new(stack.alloc)))
+    stack.put_typ_descs(Vec::new(stack.alloc))
 }
 
-fn no_datatypes(stack: &Stack) -> Phrase
-    ensures { phrase_of result ≡ of_datatypes [] [] }
+fn no_datatypes(stack: &mut Stack) -> Result<(), Failure>
+    ensures { Puts (of_datatypes [] []) 0 (seen stack.old) (seen stack.new) result }
 {
-    datatype_phrase(
-        stack.alloc,
-        LowDatBinds {
-            trees: Vec::new(stack.alloc),
-            height: 0,
-        },
-    )
-}
-
-fn no_con_binds(stack: &Stack) -> Phrase
-    ensures { phrase_of result ≡ of_con_binds [] }
-{
-    Phrase::Declarations(DeclarationPhrase::ConBinds(LowConBinds {
+    let none = LowDatBinds {
         trees: Vec::new(stack.alloc),
         height: 0,
-    }))
+    };
+    put_datatypes(stack, none)
 }
 
-fn no_str_descs(stack: &Stack) -> Phrase
-    ensures { phrase_of result ≡ of_str_descs [] no_str_desc }
+fn no_con_binds(stack: &mut Stack) -> Result<(), Failure>
+    ensures { Puts (of_con_binds []) 0 (seen stack.old) (seen stack.new) result }
+{
+    stack.put_con_binds(LowConBinds {
+        trees: Vec::new(stack.alloc),
+        height: 0,
+    })
+}
+
+fn no_str_descs(stack: &mut Stack) -> Result<(), Failure>
+    ensures { Puts (of_str_descs [] no_str_desc) 0 (seen stack.old) (seen stack.new) result }
 {
     let descs = LowStrDescs {
         trees: Vec::new(stack.alloc),
         height: 0,
     };
-    Phrase::Signatures(SignaturePhrase::StrDescs(Vec::new(stack.alloc), descs))
-}
-
-/// The phrase behind a word.
-fn behind_word(stack: &mut Stack) -> Phrase
-    ensures made { phrase_of result ≡ at (seen stack.old) 1 }
-    ensures rest { seen stack.new ≡ drop 2 (seen stack.old) }
-{
-    stack.skip();
-    stack.pop()
+    stack.put_str_descs(Vec::new(stack.alloc), descs)
 }
 
 /// What a phrase of a specification makes by its rule.
@@ -631,9 +608,8 @@ pub fn specification_phrase(
     place: Place,
     expander: &Expander,
     stack: &mut Stack,
-) -> Result<Phrase, Failure>
-    ensures made { Makes (specification_phrase rule place (seen stack.old)) result }
-    ensures rest { OnOk result (seen stack.new ≡ drop (length (right_side (Specifications rule))) (seen stack.old)) }
+) -> Result<(), Failure>
+    ensures { Puts (specification_phrase rule place (seen stack.old)) (length (right_side (Specifications rule))) (seen stack.old) (seen stack.new) result }
 {
     match rule {
         SpecificationRule::SpecVal => val_spec(stack, place),
@@ -645,38 +621,37 @@ pub fn specification_phrase(
         SpecificationRule::SpecInclude => included(stack, place, expander),
         SpecificationRule::SpecSharing => shared(stack, place),
         SpecificationRule::ValSpecVid => val_desc(stack),
-        SpecificationRule::ValSpecMoreNone => Ok(no_val_descs(stack)),
+        SpecificationRule::ValSpecMoreNone => no_val_descs(stack),
         SpecificationRule::ValSpecMoreAnd => val_descs(stack),
         SpecificationRule::TypeSpecTvs => type_rest(stack),
-        SpecificationRule::TypeSpecRestEquals => Ok(type_equals(stack)),
-        SpecificationRule::TypeSpecRestTypeSpecMore | SpecificationRule::IncludeMoreSigMore => Ok(
-            stack.pop(),
-        ),
-        SpecificationRule::TypeSpecMoreNone => Ok(no_typ_descs(stack)),
+        SpecificationRule::TypeSpecRestEquals => type_equals(stack),
+        SpecificationRule::TypeSpecRestTypeSpecMore | SpecificationRule::IncludeMoreSigMore =>
+            stack.put_first(),
+        SpecificationRule::TypeSpecMoreNone => no_typ_descs(stack),
         SpecificationRule::TypeSpecMoreAnd => and_typ_desc(stack),
         SpecificationRule::DatSpecSomeTvs => datatype(stack),
         SpecificationRule::DatSpecTyCon => datatype_rest(stack),
-        SpecificationRule::DatSpecRestConSpecs => Ok(constructors(stack)),
-        SpecificationRule::DatSpecMoreNone => Ok(no_datatypes(stack)),
+        SpecificationRule::DatSpecRestConSpecs => constructors(stack),
+        SpecificationRule::DatSpecMoreNone => no_datatypes(stack),
         SpecificationRule::DatSpecMoreAnd => {
             stack.skip();
             datatype(stack)
         }
         SpecificationRule::ConSpecsVid => con_binds(stack),
-        SpecificationRule::ConSpecsMoreNone | SpecificationRule::ExnSpecMoreNone => Ok(no_con_binds(
+        SpecificationRule::ConSpecsMoreNone | SpecificationRule::ExnSpecMoreNone => no_con_binds(
             stack,
-        )),
+        ),
         SpecificationRule::DatSpecRestDatatype
         | SpecificationRule::ConSpecsMoreBar
         | SpecificationRule::OfTyOf
-        | SpecificationRule::StrSpecWhereAnd => Ok(behind_word(stack)),
-        SpecificationRule::OfTyNone => Ok(Phrase::Nothing),
+        | SpecificationRule::StrSpecWhereAnd => stack.put_behind_word(),
+        SpecificationRule::OfTyNone => stack.put_nothing(),
         SpecificationRule::ExnSpecVid => con_bind(stack),
         SpecificationRule::ExnSpecMoreAnd => and_exception(stack),
         SpecificationRule::StrSpecAlphanumeric => open_str_desc(stack),
-        SpecificationRule::StrSpecMoreNone | SpecificationRule::StrSpecWhereNone => Ok(no_str_descs(
+        SpecificationRule::StrSpecMoreNone | SpecificationRule::StrSpecWhereNone => no_str_descs(
             stack,
-        )),
+        ),
         SpecificationRule::StrSpecMoreWhere | SpecificationRule::StrSpecWhereWhere => {
             stack.skip();
             where_str_desc(stack)
@@ -691,12 +666,11 @@ pub fn specification_phrase(
         SpecificationRule::IncludeAlphanumeric => included_name(stack, place),
         SpecificationRule::IncludeMoreAlphanumeric | SpecificationRule::IncludeIdsAlphanumeric =>
             names(stack),
-        SpecificationRule::IncludeIdsNone => Ok(Phrase::Names(Vec::new(stack.alloc))),
+        SpecificationRule::IncludeIdsNone => stack.put_names(Vec::new(stack.alloc)),
         SpecificationRule::SharingType => shared_types(stack),
         SpecificationRule::SharingLongStrId => shared_structures(stack),
-        SpecificationRule::TypeShareMoreNone | SpecificationRule::StrShareMoreNone => Ok(
-            Phrase::Longs(Vec::new(stack.alloc)),
-        ),
+        SpecificationRule::TypeShareMoreNone | SpecificationRule::StrShareMoreNone =>
+            stack.put_longs(Vec::new(stack.alloc)),
         SpecificationRule::TypeShareMoreEquals | SpecificationRule::StrShareMoreEquals => longs(
             stack,
         ),

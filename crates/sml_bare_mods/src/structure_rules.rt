@@ -1,14 +1,14 @@
 //! What the rules of structure expressions and of structure bindings make of their parts.
 
-ghost use Rattle.std.specs.Prelude.{◌≡◌, Vec, [], ◌∷◌, drop, length, map, reverse, IfOk, OnOk};
+ghost use Rattle.std.specs.Prelude.{◌≡◌, Vec, [], ◌∷◌, drop, length, map, reverse, OnOk};
 ghost use Rattle.sml_tree.specs.Heights.{highest, str_binds_height, str_height};
 ghost use Rattle.sml_tree.specs.StructureViews.{str_bind_of, str_binds_of, str_dec_of, str_decs_of, str_of};
 ghost use Rattle.sml_tree.specs.Structures.{ascribed, no_str_bind, str_let, str_name, struct_end};
 ghost use Rattle.sml_read.specs.Grammar.{right_side};
 ghost use Rattle.sml_read.specs.declared.grammar.Rule.TheVariants.{Structures};
 ghost use Rattle.sml_phrases.specs.PhraseHeights.{constraint_height, low};
-ghost use Rattle.sml_phrases.specs.Phrases.{of_constraints, of_open_str_bind, of_str, of_str_binds, at, constraint_wheres_in, constraints_in, long_in, name_in, sig_in, str_decs_in, str_in};
-ghost use Rattle.sml_phrases.specs.PhraseViews.{Gives, Makes, low_constraint_of, low_where_of, phrase_of, seen};
+ghost use Rattle.sml_phrases.specs.Phrases.{of_constraints, of_open_str_bind, of_str, of_str_binds, at, constraints_in, long_in, name_in, sig_in, str_decs_in, str_in};
+ghost use Rattle.sml_phrases.specs.PhraseViews.{Gives, Puts, low_constraint_of, low_where_of, seen};
 ghost use Rattle.sml_bare_mods.specs.StructureRules.{and_constraint, applied, behind_str, behind_str_bind, constrained, own_constrained, str_binds, str_place, structure_phrase, where_str, where_str_bind};
 
 use crate::functor_rules::{
@@ -106,9 +106,8 @@ pub fn and_constraint(
 }
 
 /// A signature expression behind `:` or `:>`.
-fn one_constraint(stack: &mut Stack, ascription: Ascription) -> Result<Phrase, Failure>
-    ensures made { let vs = seen stack.old in Makes (of_constraints [] (record { ascription = ascription; signature = sig_in (at vs 1) } ∷ [])) result }
-    ensures rest { OnOk result (seen stack.new ≡ drop 2 (seen stack.old)) }
+fn one_constraint(stack: &mut Stack, ascription: Ascription) -> Result<(), Failure>
+    ensures { let vs = seen stack.old in Puts (of_constraints [] (record { ascription = ascription; signature = sig_in (at vs 1) } ∷ [])) 2 vs (seen stack.new) result }
 {
     stack.skip();
     let signature = stack.sig();
@@ -117,18 +116,18 @@ fn one_constraint(stack: &mut Stack, ascription: Ascription) -> Result<Phrase, F
         ascription,
         signature,
     })?;
-    Ok(Phrase::Structures(StructurePhrase::Constraints(Vec::new(stack.alloc), constraints)))
+    stack.put_constraints(Vec::new(stack.alloc), constraints)
 }
 
 /// `strid = strexp`, perhaps with a constraint.
-fn open_str_bind(stack: &mut Stack) -> Result<Phrase, Failure>
-    ensures made { let vs = seen stack.old in Makes (of_open_str_bind (name_in (at vs 0)) (constraints_in (at vs 1)) (str_in (at vs 3))) result }
-    ensures rest { OnOk result (seen stack.new ≡ drop 4 (seen stack.old)) }
+fn open_str_bind(stack: &mut Stack) -> Result<(), Failure>
+    ensures { let vs = seen stack.old in Puts (of_open_str_bind (name_in (at vs 0)) (constraints_in (at vs 1)) (str_in (at vs 3))) 4 vs (seen stack.new) result }
 {
     let name = stack.name()?;
     let (_equations, own) = pop_constraints(stack);
     stack.skip();
-    Ok(Phrase::Structures(StructurePhrase::OpenStrBind(name, own, stack.str())))
+    let body = stack.str();
+    stack.put_open_str_bind(name, own, body)
 }
 
 /// The right side of a structure binding with the binding's own constraint, if it has one.
@@ -176,98 +175,84 @@ pub fn str_binds(stack: &mut Stack) -> Result<LowStrBinds, Failure>
 }
 
 /// The same behind a structure binding.
-fn and_str_binds(stack: &mut Stack) -> Result<Phrase, Failure>
-    ensures made { let vs = seen stack.old in Makes (of_str_binds [] [] (str_binds (at vs 0) (at vs 1))) result }
-    ensures rest { OnOk result (seen stack.new ≡ drop 2 (seen stack.old)) }
+fn and_str_binds(stack: &mut Stack) -> Result<(), Failure>
+    ensures { let vs = seen stack.old in Puts (of_str_binds [] [] (str_binds (at vs 0) (at vs 1))) 2 vs (seen stack.new) result }
 {
     let binds = str_binds(stack)?;
-    Ok(Phrase::Structures(StructurePhrase::StrBinds(
-        Vec::new(stack.alloc),
-        Vec::new(stack.alloc),
-        binds,
-    )))
+    stack.put_str_binds(Vec::new(stack.alloc), Vec::new(stack.alloc), binds)
 }
 
 /// Nothing behind a structure binding.
-fn no_str_binds(stack: &Stack) -> Phrase
-    ensures { phrase_of result ≡ of_str_binds [] [] no_str_bind }
+fn no_str_binds(stack: &mut Stack) -> Result<(), Failure>
+    ensures { Puts (of_str_binds [] [] no_str_bind) 0 (seen stack.old) (seen stack.new) result }
 {
     let binds = LowStrBinds {
         trees: Vec::new(stack.alloc),
         height: 0,
     };
-    Phrase::Structures(StructurePhrase::StrBinds(
-        Vec::new(stack.alloc),
-        Vec::new(stack.alloc),
-        binds,
-    ))
+    stack.put_str_binds(Vec::new(stack.alloc), Vec::new(stack.alloc), binds)
 }
 
 /// A constraint behind a structure binding, and what stands behind it.
-fn behind_str_bind(stack: &mut Stack) -> Result<Phrase, Failure>
-    ensures made { let vs = seen stack.old in Makes (behind_str_bind (at vs 0) (at vs 1)) result }
-    ensures rest { OnOk result (seen stack.new ≡ drop 2 (seen stack.old)) }
+fn behind_str_bind(stack: &mut Stack) -> Result<(), Failure>
+    ensures { let vs = seen stack.old in Puts (behind_str_bind (at vs 0) (at vs 1)) 2 vs (seen stack.new) result }
 {
     let (_none, first) = pop_constraints(stack);
     let (equations, others, binds) = pop_str_binds(stack);
     let constraints = and_constraint(stack.alloc, first, equations, others)?;
-    Ok(Phrase::Structures(StructurePhrase::StrBinds(Vec::new(stack.alloc), constraints, binds)))
+    stack.put_str_binds(Vec::new(stack.alloc), constraints, binds)
 }
 
 /// An equation of the signature expression before it, and what stands behind it.
-fn where_str_bind(stack: &mut Stack) -> Result<Phrase, Failure>
-    ensures made { let vs = seen stack.old in Makes (where_str_bind (at vs 0) (at vs 1)) result }
-    ensures rest { OnOk result (seen stack.new ≡ drop 2 (seen stack.old)) }
+fn where_str_bind(stack: &mut Stack) -> Result<(), Failure>
+    ensures { let vs = seen stack.old in Puts (where_str_bind (at vs 0) (at vs 1)) 2 vs (seen stack.new) result }
 {
     let equation = pop_where_type(stack)?;
     let (mut equations, constraints, binds) = pop_str_binds(stack);
     equations.push(equation)?;
-    Ok(Phrase::Structures(StructurePhrase::StrBinds(equations, constraints, binds)))
+    stack.put_str_binds(equations, constraints, binds)
 }
 
 /// A structure expression and the constraints behind it.
-fn structure(stack: &mut Stack) -> Result<Phrase, Failure>
-    ensures made { let vs = seen stack.old in Makes (of_str (constrained (str_in (at vs 0)) (constraints_in (at vs 1)))) result }
-    ensures rest { OnOk result (seen stack.new ≡ drop 2 (seen stack.old)) }
+fn structure(stack: &mut Stack) -> Result<(), Failure>
+    ensures { let vs = seen stack.old in Puts (of_str (constrained (str_in (at vs 0)) (constraints_in (at vs 1)))) 2 vs (seen stack.new) result }
 {
     let body = stack.str();
     let (_none, constraints) = pop_constraints(stack);
-    Ok(Phrase::Structures(StructurePhrase::Str(constrained(stack.alloc, body, constraints)?)))
+    let body = constrained(stack.alloc, body, constraints)?;
+    stack.put_str(body)
 }
 
-fn no_constraints(stack: &Stack) -> Phrase
-    ensures { phrase_of result ≡ of_constraints [] [] }
+fn no_constraints(stack: &mut Stack) -> Result<(), Failure>
+    ensures { Puts (of_constraints [] []) 0 (seen stack.old) (seen stack.new) result }
 {
-    Phrase::Structures(StructurePhrase::Constraints(Vec::new(stack.alloc), Vec::new(stack.alloc)))
+    stack.put_constraints(Vec::new(stack.alloc), Vec::new(stack.alloc))
 }
 
 /// A constraint behind a structure expression, and what stands behind it.
-fn behind_str(stack: &mut Stack) -> Result<Phrase, Failure>
-    ensures made { let vs = seen stack.old in Makes (behind_str (at vs 0) (at vs 1)) result }
-    ensures rest { OnOk result (seen stack.new ≡ drop 2 (seen stack.old)) }
+fn behind_str(stack: &mut Stack) -> Result<(), Failure>
+    ensures { let vs = seen stack.old in Puts (behind_str (at vs 0) (at vs 1)) 2 vs (seen stack.new) result }
 {
     let (_none, first) = pop_constraints(stack);
     let (equations, others) = pop_constraints(stack);
     let constraints = and_constraint(stack.alloc, first, equations, others)?;
-    Ok(Phrase::Structures(StructurePhrase::Constraints(Vec::new(stack.alloc), constraints)))
+    stack.put_constraints(Vec::new(stack.alloc), constraints)
 }
 
 /// An equation of the signature expression before it, and what stands behind it.
-fn where_str(stack: &mut Stack) -> Result<Phrase, Failure>
-    ensures made { let vs = seen stack.old in Makes (where_str (at vs 1) (at vs 2)) result }
-    ensures rest { OnOk result (seen stack.new ≡ drop 3 (seen stack.old)) }
+fn where_str(stack: &mut Stack) -> Result<(), Failure>
+    ensures { let vs = seen stack.old in Puts (where_str (at vs 1) (at vs 2)) 3 vs (seen stack.new) result }
 {
     stack.skip();
     let equation = pop_where_type(stack)?;
     let (mut equations, constraints) = pop_constraints(stack);
     equations.push(equation)?;
-    Ok(Phrase::Structures(StructurePhrase::Constraints(equations, constraints)))
+    stack.put_constraints(equations, constraints)
 }
 
 /// `struct .. end`
-fn struct_end(stack: &mut Stack, place: Place) -> Result<Phrase, Failure>
-    ensures made { let vs = seen stack.old in Makes (of_str (struct_end place (str_decs_in (at vs 1)))) result }
-    ensures rest { OnOk result (seen stack.new ≡ drop 3 (seen stack.old)) }
+fn struct_end(stack: &mut Stack, place: Place) -> Result<(), Failure>
+    ensures { let vs = seen stack.old in Puts (of_str (struct_end place (str_decs_in (at vs 1)))) 3 vs (seen stack.new) result }
 {
     stack.skip();
     let LowStrDecs { mut trees, height } = stack.str_decs();
@@ -275,21 +260,19 @@ fn struct_end(stack: &mut Stack, place: Place) -> Result<Phrase, Failure>
     let height = raised(height, 1)?;
     trees.reverse();
     let tree = StrExp::Decs(place, trees);
-    Ok(Phrase::Structures(StructurePhrase::Str(LowStr { tree, height })))
+    stack.put_str(LowStr { tree, height })
 }
 
-fn str_name(stack: &mut Stack) -> Result<Phrase, Failure>
-    ensures made { let vs = seen stack.old in Makes (of_str (str_name (long_in (at vs 0)))) result }
-    ensures rest { OnOk result (seen stack.new ≡ drop 1 (seen stack.old)) }
+fn str_name(stack: &mut Stack) -> Result<(), Failure>
+    ensures { let vs = seen stack.old in Puts (of_str (str_name (long_in (at vs 0)))) 1 vs (seen stack.new) result }
 {
     let tree = StrExp::Identifier(stack.long()?);
-    Ok(Phrase::Structures(StructurePhrase::Str(LowStr { tree, height: 1 })))
+    stack.put_str(LowStr { tree, height: 1 })
 }
 
 /// A structure identifier, or a functor and its argument.
-fn applied(stack: &mut Stack, expander: &Expander) -> Result<Phrase, Failure>
-    ensures made { let vs = seen stack.old in Makes (of_str (applied (name_in (at vs 0)) (at vs 1))) result }
-    ensures rest { OnOk result (seen stack.new ≡ drop 2 (seen stack.old)) }
+fn applied(stack: &mut Stack, expander: &Expander) -> Result<(), Failure>
+    ensures { let vs = seen stack.old in Puts (of_str (applied (name_in (at vs 0)) (at vs 1))) 2 vs (seen stack.new) result }
 {
     let name = stack.name()?;
     let alloc = stack.alloc;
@@ -297,50 +280,60 @@ fn applied(stack: &mut Stack, expander: &Expander) -> Result<Phrase, Failure>
         Phrase::Structures(StructurePhrase::Str(argument)) => {
             let height = raised(argument.height, 1)?;
             let tree = StrExp::Application(name, Box::new(alloc, argument.tree)?);
-            Ok(Phrase::Structures(StructurePhrase::Str(LowStr { tree, height })))
+            stack.put_str(LowStr { tree, height })
         }
         Phrase::Structures(StructurePhrase::StrDecs(decs)) => {
             let LowStrDecs { mut trees, height } = decs;
             let height = raised(height, 2)?;
             trees.reverse();
             let tree = expander.functor_application(name, trees)?;
-            Ok(Phrase::Structures(StructurePhrase::Str(LowStr { tree, height })))
+            stack.put_str(LowStr { tree, height })
         }
         other => {
             discard(other);
             let tree = StrExp::Identifier(long(alloc, name));
-            Ok(Phrase::Structures(StructurePhrase::Str(LowStr { tree, height: 1 })))
+            stack.put_str(LowStr { tree, height: 1 })
         }
     }
 }
 
 /// `let .. in .. end`
-fn str_let(stack: &mut Stack, place: Place) -> Result<Phrase, Failure>
-    ensures made { let vs = seen stack.old in Makes (of_str (str_let place (str_decs_in (at vs 1)) (str_in (at vs 3)))) result }
-    ensures rest { OnOk result (seen stack.new ≡ drop 5 (seen stack.old)) }
+fn str_let(stack: &mut Stack, place: Place) -> Result<(), Failure>
+    ensures { let vs = seen stack.old in Puts (of_str (str_let place (str_decs_in (at vs 1)) (str_in (at vs 3)))) 5 vs (seen stack.new) result }
 {
     stack.skip();
     let decs = stack.str_decs();
     stack.skip();
     let body = stack.str();
     stack.skip();
-    str_let_of(stack.alloc, place, decs, body)
+    str_let_of(stack, place, decs, body)
 }
 
 /// The same from the parts.
 fn str_let_of(
-    alloc: Global,
+    stack: &mut Stack,
     place: Place,
     decs: LowStrDecs,
     body: LowStr,
-) -> Result<Phrase, Failure>
-    ensures { Makes (of_str (str_let place (str_decs_of (map str_dec_of (reverse decs.trees.items))) (str_of body.tree))) result }
+) -> Result<(), Failure>
+    ensures { Puts (of_str (str_let place (str_decs_of (map str_dec_of (reverse decs.trees.items))) (str_of body.tree))) 0 (seen stack.old) (seen stack.new) result }
 {
     let LowStrDecs { mut trees, height } = decs;
     let height = raised(height.max(body.height), 1)?;
     trees.reverse();
-    let tree = StrExp::Let(place, trees, Box::new(alloc, body.tree)?);
-    Ok(Phrase::Structures(StructurePhrase::Str(LowStr { tree, height })))
+    let tree = StrExp::Let(place, trees, Box::new(stack.alloc, body.tree)?);
+    stack.put_str(LowStr { tree, height })
+}
+
+/// The phrase between brackets.
+fn put_inner(stack: &mut Stack) -> Result<(), Failure>
+    ensures { Puts (at (seen stack.old) 1) 3 (seen stack.old) (seen stack.new) result }
+{
+    stack.skip();
+    let inner = stack.pop();
+    stack.skip();
+    stack.push(inner)?;
+    Ok(())
 }
 
 /// What a phrase of a structure or a functor binding makes by its rule.
@@ -349,9 +342,8 @@ pub fn structure_phrase(
     place: Place,
     expander: &Expander,
     stack: &mut Stack,
-) -> Result<Phrase, Failure>
-    ensures made { Makes (structure_phrase rule place (seen stack.old)) result }
-    ensures rest { OnOk result (seen stack.new ≡ drop (length (right_side (Structures rule))) (seen stack.old)) }
+) -> Result<(), Failure>
+    ensures { Puts (structure_phrase rule place (seen stack.old)) (length (right_side (Structures rule))) (seen stack.old) (seen stack.new) result }
 {
     match rule {
         StructureRule::StrBindAlphanumeric => open_str_bind(stack),
@@ -366,10 +358,10 @@ pub fn structure_phrase(
         StructureRule::SealNone
         | StructureRule::StrExpMoreNone
         | StructureRule::StrExpSigNone
-        | StructureRule::StrExpWhereNone => Ok(no_constraints(stack)),
+        | StructureRule::StrExpWhereNone => no_constraints(stack),
         StructureRule::StrBindMoreNone
         | StructureRule::StrBindSigNone
-        | StructureRule::StrBindWhereNone => Ok(no_str_binds(stack)),
+        | StructureRule::StrBindWhereNone => no_str_binds(stack),
         StructureRule::StrBindMoreAscription
         | StructureRule::StrBindSigAscription
         | StructureRule::StrBindWhereAscription => behind_str_bind(stack),
@@ -387,7 +379,7 @@ pub fn structure_phrase(
         StructureRule::FunArgAlphanumeric => functor_argument(stack),
         StructureRule::FunBindMoreNone
         | StructureRule::FunBindSigNone
-        | StructureRule::FunBindWhereNone => Ok(no_fun_binds(stack)),
+        | StructureRule::FunBindWhereNone => no_fun_binds(stack),
         StructureRule::FunBindMoreAscription
         | StructureRule::FunBindSigAscription
         | StructureRule::FunBindWhereAscription => behind_fun_bind(stack),
@@ -412,19 +404,12 @@ pub fn structure_phrase(
         StructureRule::StrAtomLongAlphanumeric => str_name(stack),
         StructureRule::StrAtomAlphanumeric => applied(stack, expander),
         StructureRule::StrAtomLet => str_let(stack, place),
-        StructureRule::ActualNone => Ok(Phrase::Nothing),
+        StructureRule::ActualNone => stack.put_nothing(),
         StructureRule::StrBindWhereAnd | StructureRule::FunBindWhereAnd => {
-            stack.skip();
-            Ok(stack.pop())
+            stack.put_behind_word()
         }
-        StructureRule::ActualOpenRound => {
-            stack.skip();
-            let argument = stack.pop();
-            stack.skip();
-            Ok(argument)
-        }
-        StructureRule::FunArgSpecs | StructureRule::StrArgStrExp | StructureRule::StrArgStrs => Ok(
-            stack.pop(),
-        ),
+        StructureRule::ActualOpenRound => { put_inner(stack) }
+        StructureRule::FunArgSpecs | StructureRule::StrArgStrExp | StructureRule::StrArgStrs =>
+            stack.put_first(),
     }
 }

@@ -17,18 +17,18 @@ use Rattle.sml_read.specs.declared.grammar.Rule.{Rule}
 use Rattle.sml_read.specs.Grammar.{right_side}
 use Rattle.sml_read.specs.Spelling.{Leads}
 use Rattle.sml_read.proofs.Tables.{each_rule}
-use Rattle.sml_parse.specs.declared.form.Meaning.{Meaning}
-use Rattle.sml_parse.specs.declared.form.Meaning.TheVariants as M
-use Rattle.sml_parse.specs.declared.item.Mark.TheVariants as K
-use Rattle.sml_parse.specs.declared.item.Item.{Item}
-use Rattle.sml_parse.specs.declared.item.Item.TheVariants as I
-use Rattle.sml_parse.specs.Piece.{meaning_of}
+use Rattle.sml_piece_trees.specs.declared.form.Meaning.{Meaning}
+use Rattle.sml_piece_trees.specs.declared.form.Meaning.TheVariants as M
+use Rattle.sml_piece_trees.specs.declared.item.Mark.TheVariants as K
+use Rattle.sml_piece_trees.specs.declared.item.Item.{Item}
+use Rattle.sml_piece_trees.specs.declared.item.Item.TheVariants as I
+use Rattle.sml_piece_trees.specs.Piece.{meaning_of}
 use Rattle.sml_reach.specs.Places.{place_from}
-use Rattle.sml_parse.specs.Items.{word_of, names_value, item_of, begins_behind, items_of, ends, declarations_of}
+use Rattle.sml_piece_trees.specs.Items.{word_of, names_value, item_of, begins_behind, items_of, ends, declarations_of}
 use Rattle.sml_reach.specs.Places.{start_of}
 use Rattle.sml_parse.specs.Within.{Extent, ends_before, begins_next, tokens_before, extents_of, IsOfToken}
 use Rattle.sml_reach.proofs.Somes.{some_same, none_some}
-use Rattle.sml_parse.proofs.TreePlaces.{EachWord}
+use Rattle.sml_piece_trees.proofs.TreePlaces.{EachWord}
 
 -- tokens in order
 

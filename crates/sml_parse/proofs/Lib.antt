@@ -1,9 +1,4 @@
-mod Labels
-mod Shapes
 mod Declaring
-mod Sorts
-mod Sorting
-pub mod TreePlaces
 pub mod Extents
 pub mod Nonempty
 mod FoundsWithin

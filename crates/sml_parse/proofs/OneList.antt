@@ -20,7 +20,8 @@ use Rattle.sml_reach.specs.Reach.{AreFitted, before_misfit, up_to}
 use Rattle.sml_reach.proofs.OneOutcome.{fitting_one}
 use Rattle.sml_flaws.specs.Flawed.{or_else, first_flawed}
 use Rattle.sml_bare.specs.Derivations.{bare_decs, before_none}
-use Rattle.sml_parse.specs.Trees.{Trees, spelt, last_fault}
+use Rattle.sml_piece_trees.specs.Spelt.{spelt}
+use Rattle.sml_parse.specs.Trees.{Trees, last_fault}
 
 abbrev Same : List (TopDec Place) → List (TopDec Place) → List (Dec Place) → List (Dec Place) → Option (Fault Place) → Option (Fault Place) → Type 0
 Same tops tops' decs decs' last last' = (tops ≡ tops') × (decs ≡ decs') × (last ≡ last')

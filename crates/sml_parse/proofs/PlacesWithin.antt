@@ -27,17 +27,18 @@ use Rattle.sml_read.specs.declared.read.Cause.{Cause}
 use Rattle.sml_read.specs.declared.read.Cause.TheVariants.{Unexpected, TooEarly, Lexical}
 use Rattle.sml_read.specs.Spelling.{kinds_of}
 use Rattle.sml_read.specs.Answer.{is_done, IsCauseOf}
-use Rattle.sml_parse.specs.declared.item.Item.{Item}
+use Rattle.sml_piece_trees.specs.declared.item.Item.{Item}
 use Rattle.sml_reach.specs.Places.{place_behind, place_from}
-use Rattle.sml_parse.specs.Items.{items_of, declarations_of}
+use Rattle.sml_piece_trees.specs.Items.{items_of, declarations_of}
 use Rattle.sml_reach.specs.Places.{start_of}
 use Rattle.sml_reach.specs.declared.reach.Misfit.{Misfit}
 use Rattle.sml_reach.specs.Reach.{up_to, before_misfit}
 use Rattle.sml_reach.specs.Fits.{Fitted}
 use Rattle.sml_bare.specs.Derivations.{bare_dec_at, bare_decs, before_none}
-use Rattle.sml_parse.specs.Trees.{dec_of_items, fault_from, fault_read, fault_behind}
+use Rattle.sml_piece_trees.specs.Spelt.{dec_of_items}
+use Rattle.sml_parse.specs.Trees.{fault_from, fault_read, fault_behind}
 use Rattle.sml_parse.specs.Within.{Extent, begins_next, tokens_before, extents_of, IsOfToken, StandInTurn, Reason, of_bytes, reason_of, StandsBy, StandsLast, PlacesAreWithin}
-use Rattle.sml_parse.proofs.TreePlaces.{places_stand}
+use Rattle.sml_piece_trees.proofs.TreePlaces.{places_stand}
 use Rattle.sml_parse.proofs.Nonempty.{HasToken, HaveTokens, have_tokens}
 use Rattle.sml_parse.proofs.Extents.{of_token, OwnWords, all_words_stand, as_many}
 use Rattle.sml_reach.proofs.Somes.{none_some}

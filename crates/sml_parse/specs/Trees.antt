@@ -1,5 +1,5 @@
 -- The bare declarations that a unit's tokens spell, and the fault that ends them.
-use Rattle.std.specs.Prelude.{◌≡◌, ℕ, ◌-◌, List, length, Option, Some, None, Bool, if◌then◌else◌, map, take}
+use Rattle.std.specs.Prelude.{◌≡◌, ℕ, ◌-◌, List, length, Option, Some, None, Bool, if◌then◌else◌, take}
 use Rattle.std.specs.List.{list_all}
 use Rattle.std.specs.Option.{is_some}
 use Rattle.sml_lex.specs.declared.fault.Code.{Code}
@@ -17,31 +17,15 @@ use Rattle.sml_read.specs.declared.read.Cause.TheVariants.{Unexpected, TooEarly,
 use Rattle.sml_read.specs.Spelling.{kinds_of}
 use Rattle.sml_read.specs.Extents.{starts_of}
 use Rattle.sml_read.specs.Answer.{is_done, IsReading}
-use Rattle.sml_parse.specs.declared.item.Item.{Item}
 use Rattle.sml_reach.specs.declared.reach.Misfit.{Misfit}
 use Rattle.sml_reach.specs.Events.{text_at, events_of}
 use Rattle.sml_reach.specs.Fits.{Fitted}
 use Rattle.sml_reach.specs.Reach.{before_misfit, up_to, AreFitted}
 use Rattle.sml_flaws.specs.Flawed.{or_else, first_flawed}
 use Rattle.sml_reach.specs.Places.{place_from}
-use Rattle.sml_parse.specs.Items.{items_of, declarations_of}
 use Rattle.sml_reach.specs.Places.{start_of}
 use Rattle.sml_bare.specs.Derivations.{bare_decs, before_none}
-use Rattle.sml_parse.specs.Forms.{is_in_piece}
-use Rattle.sml_parse.specs.Values.{dec_in, outside, first}
-use Rattle.sml_parse.specs.Rules.{values_of}
-
--- the declaration that these items spell
-abbrev pub dec_of_items : List ℕ → List Item → Dec Place
-dec_of_items unit items = if is_in_piece items then dec_in (first (values_of unit items)) else outside
-
--- the declarations that the items of a derivation spell, in order
-abbrev pub decs_of_items : List ℕ → List Item → List (Dec Place)
-decs_of_items unit items = map (dec_of_items unit) (declarations_of items)
-
--- the same of a derivation over these tokens
-abbrev pub spelt : List ℕ → List Node → List Token → List (Dec Place)
-spelt unit nodes tokens = decs_of_items unit (items_of unit 0 nodes tokens)
+use Rattle.sml_piece_trees.specs.Spelt.{spelt}
 
 abbrev pub fault_from : List ℕ → Code → ℕ → ℕ → Option (Fault Place)
 fault_from unit code start at = Some (record { code = code; place = place_from unit start at; detail = None })

@@ -1,12 +1,6 @@
 //! Laws of the definitions that the parser's contract cites.
-ghost use Rattle.sml_parse.specs.Sorts.{EachIsMade};
 ghost use Rattle.sml_parse.specs.Unique.{TreesAreUnique};
 ghost use Rattle.sml_parse.specs.Within.{PlacesAreWithin};
-
-/// In a declaration of the piece no form makes up a part, and a declaration is made.
-pub fn each_is_made()
-    ensures { EachIsMade }
-{}
 
 /// 1.1 and the places of the trees that bytes spell are those of tokens of their declarations, counted from the first.
 /// Of the last faults one of fixity or of what is bound stands at a token of the declaration behind them, one of the grammar at a token of

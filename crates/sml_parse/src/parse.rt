@@ -6,21 +6,19 @@ ghost use Rattle.std.specs.Option.{is_some, option_map};
 ghost use Rattle.sml_lex.specs.Faults.{fault_of};
 ghost use Rattle.sml_tree.specs.Views.{dec_of};
 ghost use Rattle.sml_tree.specs.StructureViews.{top_of};
-ghost use Rattle.sml_parse.specs.Trees.{dec_of_items, decs_of_items, spelt, fault_from, fault_read, fault_behind, last_fault, Trees};
+ghost use Rattle.sml_piece_trees.specs.Spelt.{spelt};
+ghost use Rattle.sml_parse.specs.Trees.{fault_from, fault_read, fault_behind, last_fault, Trees};
 ghost use Rattle.sml_read.specs.Extents.{starts_of};
 ghost use Rattle.sml_reach.specs.Events.{text_at, events_of};
 ghost use Rattle.sml_reach.specs.Fits.{fitted_of};
 ghost use Rattle.sml_reach.specs.Reach.{up_to, before_misfit, AreFitted};
 ghost use Rattle.sml_bare.specs.Derivations.{bare_decs, before_none};
 
-use crate::build::build;
-use crate::item::Item;
-use crate::label::{begins, first, label};
-use crate::sort::is_in_piece;
 use sml_bare::whole::bare_decs;
 use sml_flaws::flawed::{first_flawed, or_else};
 use sml_lex::fault::{Code, Fault, Memory};
 use sml_lex::token::{End, Lexed};
+use sml_piece_trees::declare::pieces;
 use sml_reach::event::events;
 use sml_reach::fitted::Fitted;
 use sml_reach::names::Names;
@@ -77,44 +75,6 @@ fn fault_of_reading(lexed: &Lexed, begun: usize, cause: Option<Cause>) -> Option
             }
         },
     }
-}
-
-/// The declaration that these items spell.
-fn declared(
-    alloc: Global,
-    unit: &[u8],
-    names: &mut Names,
-    items: &[Item],
-) -> Result<BareDec, Memory>
-    ensures { IfOk result (λ bare. dec_of bare ≡ dec_of_items unit.now items.now) }
-{
-    if !is_in_piece(alloc, items)? {
-        return Ok(BareDec::Other(FIRST));
-    }
-    build(alloc, unit, names, items)
-}
-
-/// The declarations that these items spell, so many at most.
-fn declare(
-    alloc: Global,
-    unit: &[u8],
-    names: &mut Names,
-    items: &[Item],
-    most: usize,
-) -> Result<Vec<BareDec>, Memory>
-    ensures { IfOk result (λ decs. map dec_of decs.items ≡ take most (decs_of_items unit.now items.now)) }
-{
-    let mut declarations = Vec::new(alloc);
-    for i in 0..items.len() {
-        if begins(items[i]) {
-            if most <= declarations.len() {
-                return Ok(declarations);
-            }
-            let dec = declared(alloc, unit, names, first(&items[i + 1..]))?;
-            declarations.push(dec)?;
-        }
-    }
-    Ok(declarations)
 }
 
 /// The fault behind the last of the declarations.
@@ -195,8 +155,7 @@ fn piece_of(
 ) -> Result<Vec<BareDec>, Memory>
     ensures { IfOk result (λ decs. map dec_of decs.items ≡ take (length (map top_of tops.now)) (spelt lexed.now.unit.now nodes.now lexed.now.tokens.items)) }
 {
-    let items = label(alloc, lexed.unit, nodes, &lexed.tokens)?;
-    declare(alloc, lexed.unit, names, &items, tops.len())
+    pieces(alloc, lexed.unit, names, nodes, &lexed.tokens, tops.len())
 }
 
 /// Reads a unit's bare declarations.

@@ -1,5 +1,6 @@
-use Rattle.sml_bare.proofs.Within.{phrase_within}
+use Rattle.std.proofs.Common.{reverse}
+use Rattle.sml_bare.proofs.Within.{first_within}
 use Rattle.sml_bare.proofs.rules.is_within.Goals as goal
 
 pub returns : goal.returns
-returns c = phrase_within c.args.phrase.now
+returns c = first_within (reverse c.args.stack.now.phrases.items)

@@ -6,6 +6,6 @@ use Rattle.sml_phrases.specs.declared.low.LowSig.{LowSig}
 use Rattle.sml_bare_mods.proofs.Chains.{failed_signature}
 use Rattle.sml_bare_mods.proofs.specification_rules.included_sig.Goals as goal
 
-pub returns-in-Err-clause-made : goal.returns-in-Err-clause-made
-returns-in-Err-clause-made c =
-    failed_signature (λ (s : LowSig). sig_of s.tree) c.args.place (sig_end c.args.place (specs_in (at (seen c.args.stack.now) 1))) (wheres_in (at (seen c.args.stack.now) 3)) c.in-Err.failure c.in-Err.ensures.made
+pub returns-in-Err : goal.returns-in-Err
+returns-in-Err c =
+    failed_signature (λ (s : LowSig). sig_of s.tree) c.args.place (sig_end c.args.place (specs_in (at (seen c.args.stack.now) 1))) (wheres_in (at (seen c.args.stack.now) 3)) _ _ _ c.in-Err.failure c.in-Err.ensures.made

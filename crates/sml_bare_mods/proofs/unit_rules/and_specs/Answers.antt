@@ -6,5 +6,5 @@ use Rattle.sml_bare_mods.proofs.unit_rules.and_specs.Goals as goal
 pub invariant_of-result-clause-measured : goal.invariant_of-result-clause-measured
 invariant_of-result-clause-measured c = grind (arith, joined_height)
 
-pub returns-clause-made : goal.returns-clause-made
-returns-clause-made c = grind (arith, specs_joined)
+pub returns : goal.returns
+returns c = grind (arith, specs_joined)

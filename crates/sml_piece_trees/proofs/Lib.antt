@@ -1,0 +1,6 @@
+mod Labels
+mod Shapes
+mod Declaring
+mod Sorts
+mod Sorting
+pub mod TreePlaces

@@ -7,7 +7,7 @@ ghost use Rattle.sml_tree.specs.SignatureViews.{spec_of, specs_of};
 ghost use Rattle.sml_tree.specs.TypeViews.{name_of};
 ghost use Rattle.sml_derived.specs.Derived.{includes, type_specs};
 ghost use Rattle.sml_phrases.specs.Phrases.{of_specs, of_typ_binds, at};
-ghost use Rattle.sml_phrases.specs.PhraseViews.{Puts, seen};
+ghost use Rattle.sml_phrases.specs.PhraseViews.{Puts, phrase_of, seen};
 ghost use Rattle.sml_bare_mods.specs.SpecificationRules.{included, types};
 
 use crate::specification_rules::one;
@@ -37,7 +37,20 @@ pub fn types(stack: &mut Stack, place: Place, expander: &Expander) -> Result<(),
     ensures { Puts (types place (at (seen stack.old) 1)) 2 (seen stack.old) (seen stack.new) result }
 {
     stack.skip();
-    match stack.pop() {
+    let phrase = stack.pop();
+    types_of(stack, place, expander, phrase)
+}
+
+/// The same from the phrase.
+fn types_of(
+    stack: &mut Stack,
+    place: Place,
+    expander: &Expander,
+    phrase: Phrase,
+) -> Result<(), Failure>
+    ensures { Puts (types place (phrase_of phrase)) 0 (seen stack.old) (seen stack.new) result }
+{
+    match phrase {
         Phrase::Declarations(DeclarationPhrase::TypBinds(binds)) => equations(
             stack, expander, place, binds,
         ),
@@ -97,7 +110,20 @@ pub fn included(stack: &mut Stack, place: Place, expander: &Expander) -> Result<
     ensures { Puts (included place (at (seen stack.old) 1)) 2 (seen stack.old) (seen stack.new) result }
 {
     stack.skip();
-    match stack.pop() {
+    let phrase = stack.pop();
+    included_of(stack, place, expander, phrase)
+}
+
+/// The same from the phrase.
+fn included_of(
+    stack: &mut Stack,
+    place: Place,
+    expander: &Expander,
+    phrase: Phrase,
+) -> Result<(), Failure>
+    ensures { Puts (included place (phrase_of phrase)) 0 (seen stack.old) (seen stack.new) result }
+{
+    match phrase {
         Phrase::Signatures(SignaturePhrase::Sig(signature)) => {
             let height = raised(signature.height, 1)?;
             one(stack, Spec::Include(place, signature.tree), height)

@@ -133,7 +133,19 @@ fn and_where(stack: &mut Stack) -> Result<(), Failure>
 {
     stack.skip();
     let equation = pop_where_type(stack)?;
-    let mut equations = stack.wheres();
+    let equations = stack.wheres();
+    put_wheres(stack, equation, equations)
+}
+
+/// An equation, and those behind it.
+fn put_wheres(
+    stack: &mut Stack,
+    equation: LowWhere,
+    equations: Vec<LowWhere>,
+) -> Result<(), Failure>
+    ensures { Puts (of_wheres (low_where_of equation ∷ map low_where_of (reverse equations.items))) 0 (seen stack.old) (seen stack.new) result }
+{
+    let mut equations = equations;
     equations.push(equation)?;
     stack.put_wheres(equations)
 }

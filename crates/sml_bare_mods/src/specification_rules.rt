@@ -178,7 +178,15 @@ fn datatypes(stack: &mut Stack, place: Place) -> Result<(), Failure>
     ensures { Puts (datatypes place (at (seen stack.old) 1)) 2 (seen stack.old) (seen stack.new) result }
 {
     stack.skip();
-    match stack.pop() {
+    let phrase = stack.pop();
+    datatypes_of(stack, place, phrase)
+}
+
+/// The same from the phrase.
+fn datatypes_of(stack: &mut Stack, place: Place, phrase: Phrase) -> Result<(), Failure>
+    ensures { Puts (datatypes place (phrase_of phrase)) 0 (seen stack.old) (seen stack.new) result }
+{
+    match phrase {
         Phrase::Declarations(DeclarationPhrase::Datatypes(mut datatypes, _types)) => {
             let height = raised(datatypes.height, 1)?;
             datatypes.trees.reverse();
@@ -447,7 +455,20 @@ fn included_name(stack: &mut Stack, place: Place) -> Result<(), Failure>
     ensures { let vs = seen stack.old in Puts (included_name place (name_in (at vs 0)) (at vs 1)) 2 vs (seen stack.new) result }
 {
     let name = stack.name()?;
-    match stack.pop() {
+    let behind = stack.pop();
+    included_name_of(stack, place, name, behind)
+}
+
+/// The same from the parts.
+fn included_name_of(
+    stack: &mut Stack,
+    place: Place,
+    name: Name,
+    behind: Phrase,
+) -> Result<(), Failure>
+    ensures { Puts (included_name place (name_of name) (phrase_of behind)) 0 (seen stack.old) (seen stack.new) result }
+{
+    match behind {
         Phrase::Signatures(SignaturePhrase::Wheres(equations)) => {
             let signature = LowSig {
                 tree: SigExp::Identifier(place, name.ident),
@@ -482,7 +503,15 @@ fn shared(stack: &mut Stack, place: Place) -> Result<(), Failure>
     ensures { Puts (shared place (at (seen stack.old) 1)) 2 (seen stack.old) (seen stack.new) result }
 {
     stack.skip();
-    match stack.pop() {
+    let phrase = stack.pop();
+    shared_of(stack, place, phrase)
+}
+
+/// The same from the phrase.
+fn shared_of(stack: &mut Stack, place: Place, phrase: Phrase) -> Result<(), Failure>
+    ensures { Puts (shared place (phrase_of phrase)) 0 (seen stack.old) (seen stack.new) result }
+{
+    match phrase {
         Phrase::Signatures(SignaturePhrase::SharedTypes(mut longs)) => {
             longs.reverse();
             one(stack, Spec::SharingType(place, longs), 1)

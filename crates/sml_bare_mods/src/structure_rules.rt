@@ -3,12 +3,13 @@
 ghost use Rattle.std.specs.Prelude.{◌≡◌, Vec, [], ◌∷◌, drop, length, map, reverse, OnOk};
 ghost use Rattle.sml_tree.specs.Heights.{highest, str_binds_height, str_height};
 ghost use Rattle.sml_tree.specs.StructureViews.{str_bind_of, str_binds_of, str_dec_of, str_decs_of, str_of};
+ghost use Rattle.sml_tree.specs.TypeViews.{name_of};
 ghost use Rattle.sml_tree.specs.Structures.{ascribed, no_str_bind, str_let, str_name, struct_end};
 ghost use Rattle.sml_read.specs.Grammar.{right_side};
 ghost use Rattle.sml_read.specs.declared.grammar.Rule.TheVariants.{Structures};
 ghost use Rattle.sml_phrases.specs.PhraseHeights.{constraint_height, low};
 ghost use Rattle.sml_phrases.specs.Phrases.{of_constraints, of_open_str_bind, of_str, of_str_binds, at, constraints_in, long_in, name_in, sig_in, str_decs_in, str_in};
-ghost use Rattle.sml_phrases.specs.PhraseViews.{Gives, Puts, low_constraint_of, low_where_of, seen};
+ghost use Rattle.sml_phrases.specs.PhraseViews.{Gives, Puts, low_constraint_of, low_where_of, phrase_of, seen};
 ghost use Rattle.sml_bare_mods.specs.StructureRules.{and_constraint, applied, behind_str, behind_str_bind, constrained, own_constrained, str_binds, str_place, structure_phrase, where_str, where_str_bind};
 
 use crate::functor_rules::{
@@ -23,6 +24,7 @@ use sml_phrases::phrase::{Failure, Phrase, StructurePhrase, discard};
 use sml_phrases::raise::raised;
 use sml_phrases::stack::Stack;
 use sml_read::grammar::StructureRule;
+use sml_tree::names::Name;
 use sml_tree::structures::{Ascription, StrBind, StrExp};
 use std::alloc::Global;
 
@@ -244,6 +246,13 @@ fn where_str(stack: &mut Stack) -> Result<(), Failure>
     ensures { let vs = seen stack.old in Puts (where_str (at vs 1) (at vs 2)) 3 vs (seen stack.new) result }
 {
     stack.skip();
+    and_where_str(stack)
+}
+
+/// The same without the word before it.
+fn and_where_str(stack: &mut Stack) -> Result<(), Failure>
+    ensures { let vs = seen stack.old in Puts (where_str (at vs 0) (at vs 1)) 2 vs (seen stack.new) result }
+{
     let equation = pop_where_type(stack)?;
     let (mut equations, constraints) = pop_constraints(stack);
     equations.push(equation)?;
@@ -275,8 +284,21 @@ fn applied(stack: &mut Stack, expander: &Expander) -> Result<(), Failure>
     ensures { let vs = seen stack.old in Puts (of_str (applied (name_in (at vs 0)) (at vs 1))) 2 vs (seen stack.new) result }
 {
     let name = stack.name()?;
+    let argument = stack.pop();
+    applied_of(stack, expander, name, argument)
+}
+
+/// The same from the parts.
+fn applied_of(
+    stack: &mut Stack,
+    expander: &Expander,
+    name: Name,
+    argument: Phrase,
+) -> Result<(), Failure>
+    ensures { Puts (of_str (applied (name_of name) (phrase_of argument))) 0 (seen stack.old) (seen stack.new) result }
+{
     let alloc = stack.alloc;
-    match stack.pop() {
+    match argument {
         Phrase::Structures(StructurePhrase::Str(argument)) => {
             let height = raised(argument.height, 1)?;
             let tree = StrExp::Application(name, Box::new(alloc, argument.tree)?);

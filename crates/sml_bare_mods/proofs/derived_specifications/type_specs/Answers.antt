@@ -1,4 +1,4 @@
-use Rattle.std.proofs.Common.{map}
+use Rattle.std.proofs.Common.{[], map}
 use Rattle.sml_tree.specs.ExpressionViews.{typ_bind_of}
 use Rattle.sml_tree.specs.SignatureViews.{spec_of, specs_of}
 use Rattle.sml_bare_mods.proofs.DerivedHeights.{failed_types, joined_height}
@@ -10,4 +10,4 @@ put_specs-requires-clause-height c =
 
 pub returns-in-Err : goal.returns-in-Err
 returns-in-Err c =
-    failed_types c.args.place (typ_bind_of c.args.first) (map typ_bind_of c.args.others.items) c.args.height c.max-highest.result _ _ _ c.in-Err.failure c.requires.height c.max-highest.ensures c.in-Err.ensures.sum
+    failed_types c.args.place (typ_bind_of c.args.first) (map typ_bind_of c.args.others.items) c.args.height c.max-highest.result 0 [] [] c.in-Err.failure c.requires.height c.max-highest.ensures c.in-Err.ensures.sum

@@ -3,8 +3,8 @@ use Rattle.sml_tree.specs.Heights.{specs_height}
 use Rattle.sml_bare_mods.proofs.Reversed.{specs_joined, joined_height}
 use Rattle.sml_bare_mods.proofs.unit_rules.and_specs.Goals as goal
 
-pub invariant_of-result-clause-measured : goal.invariant_of-result-clause-measured
-invariant_of-result-clause-measured c = grind (arith, joined_height)
+pub invariant_of-put_specs-clause-measured : goal.invariant_of-put_specs-clause-measured
+invariant_of-put_specs-clause-measured c = grind (arith, joined_height)
 
 pub returns : goal.returns
 returns c = grind (arith, specs_joined)

@@ -12,13 +12,12 @@ use Rattle.sml_derived.specs.Derived.{function_of}
 use Rattle.sml_bare_decs.specs.FunctionRules.{RightSide, right_side_in, prefix_head, between, infix_head, in_brackets, bracketed_head, heading, clause_from, function_from}
 use Rattle.sml_phrases.specs.PhraseHeights.{low, is_low}
 use Rattle.sml_phrases.specs.Phrases.{Phrase, of_values, of_clauses, at, first, pat_in, clauses_in}
-use Rattle.sml_phrases.specs.PhraseViews.{Gives, Makes}
+use Rattle.sml_phrases.specs.PhraseViews.{Gives, Puts}
 use Rattle.sml_bare_pats.specs.LowViews.{GivesPat}
 use Rattle.sml_bare_pats.specs.PatternSequences.{pat_place}
 use Rattle.sml_phrases.specs.declared.low.LowBind.{LowBind}
 use Rattle.sml_phrases.specs.declared.phrase.Failure.{Failure}
 use Rattle.sml_phrases.specs.declared.phrase.Failure.TheVariants.{TooHigh, Memory}
-use Rattle.sml_phrases.specs.declared.phrase.Phrase as D
 use Rattle.std.specs.Result.{IsErrAnd}
 use Rattle.sml_phrases.proofs.Drops.{dropped, two_off}
 use Rattle.sml_fixity.specs.Shapes.{Shape, tree, headed}
@@ -143,11 +142,18 @@ value_too_high q e bs recs high = and_false _ _ (still_too_high (pat_height q) (
 pub round_function_high : (shape : Option Shape) (p : Place) (q : Pat Place) (r : RightSide) (cs : List (Clause Place)) (bs : ValBinds Place) → low (pat_height q) ≡ false → low (binds_height (and_bind (function_from shape p q r cs) bs)) ≡ false
 round_function_high shape p q r cs bs high = still_too_high (pat_height q) (binds_height (and_bind (function_from shape p q r cs) bs)) (let h = first_pat_high shape p q r cs in omega (arith, h)) high
 
-pub phrase_fails : (q : Pat Place) (whole : Phrase) (e : Failure) (r : Result D.Phrase Failure) → GivesPat q (Err e) → IsErrAnd r (λ f. f ≡ e) → (low (pat_height q) ≡ false → is_low whole ≡ false) → Makes whole r
-phrase_fails q whole TooHigh (Err TooHigh) high same fails = fails high
-phrase_fails q whole Memory (Err TooHigh) high same fails = search (rules, same)
-phrase_fails q whole e (Err Memory) high same fails = tt
-phrase_fails q whole e (Ok x) high same fails = absurd same
+pub put_fails : (q : Pat Place) (whole : Phrase) (n : ℕ) (old new : List Phrase) (e : Failure) (r : Result Unit Failure) → GivesPat q (Err e) → IsErrAnd r (λ f. f ≡ e) → (low (pat_height q) ≡ false → is_low whole ≡ false) → Puts whole n old new r
+put_fails q whole n old new TooHigh (Err TooHigh) high same fails = fails high
+put_fails q whole n old new Memory (Err TooHigh) high same fails = search (rules, same)
+put_fails q whole n old new e (Err Memory) high same fails = tt
+put_fails q whole n old new e (Ok x) high same fails = absurd same
+
+-- a call that puts a phrase behind what took some others off
+
+pub puts_behind : (v w : Phrase) (n : ℕ) (old mid new : List Phrase) (r : Result Unit Failure) → v ≡ w → mid ≡ drop n old → Puts v 0 mid new r → Puts w n old new r
+puts_behind v w n old mid new (Ok x) e d made = made ∙ ap (λ p. p ∷ mid) e ∙ ap (λ l. w ∷ l) d
+puts_behind v w n old mid new (Err TooHigh) e d made = ap is_low (sym e) ∙ made
+puts_behind v w n old mid new (Err Memory) e d made = tt
 
 -- a clause behind a bar, and others
 

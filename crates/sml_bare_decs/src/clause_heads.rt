@@ -7,7 +7,7 @@ ghost use Rattle.sml_tree.specs.Views.{ident_of};
 ghost use Rattle.sml_tree.specs.Patterns.{no_pat, and_pat};
 ghost use Rattle.sml_tree.specs.PatternViews.{pat_of};
 ghost use Rattle.sml_phrases.specs.PhraseHeights.{low};
-ghost use Rattle.sml_phrases.specs.PhraseViews.{Puts, Gives};
+ghost use Rattle.sml_phrases.specs.PhraseViews.{Gives};
 ghost use Rattle.sml_fixity.specs.Shapes.{shape_of};
 ghost use Rattle.sml_bare_decs.specs.FunctionRules.{nameless, prefix_head, between, infix_head, in_brackets, bracketed_head, heading};
 ghost use Rattle.sml_bare_decs.specs.FunctionViews.{heading_of, low_pats_of, GivesHeading};

@@ -1,11 +1,11 @@
 //! What the rules of datatype declarations make of their parts.
 
-ghost use Rattle.std.specs.Prelude.{◌≡◌, ◌∷◌, [], drop, map, reverse, OnOk};
+ghost use Rattle.std.specs.Prelude.{◌∷◌, [], map, reverse};
 ghost use Rattle.std.specs.Option.{option_map};
 ghost use Rattle.sml_tree.specs.TypeViews.{name_of, long_name_of};
 ghost use Rattle.sml_tree.specs.ExpressionViews.{dat_bind_of, typ_bind_of};
 ghost use Rattle.sml_phrases.specs.Phrases.{of_dec, of_datatypes, of_con_binds, at, name_in, names_in, con_binds_in, ty_if_any};
-ghost use Rattle.sml_phrases.specs.PhraseViews.{Puts, Makes, seen};
+ghost use Rattle.sml_phrases.specs.PhraseViews.{Puts, phrase_of, seen};
 ghost use Rattle.sml_bare_decs.specs.DeclarationRules.{datatype_of, datatypes_dec, datatype_from, datatype_rest, datatypes_in, typ_bind_in, and_datatype, constructors};
 ghost use Rattle.sml_bare_decs.specs.DeclarationViews.{constructors_of};
 ghost use Rattle.sml_phrases.specs.Phrases.{typ_binds_in};
@@ -23,15 +23,15 @@ use sml_phrases::stack::Stack;
 use sml_tree::bare::LongIdent;
 use sml_tree::expressions::Dec;
 use sml_tree::names::Name;
-use std::alloc::Global;
 
 /// `datatype ..`, perhaps with `withtype ..`.
 fn datatypes_dec(
+    stack: &mut Stack,
     place: Place,
     datatypes: LowDatBinds,
     types: LowTypBinds,
-) -> Result<Phrase, Failure>
-    ensures { Makes (of_dec (datatypes_dec place (map dat_bind_of (reverse datatypes.trees.items)) (map typ_bind_of (reverse types.trees.items)))) result }
+) -> Result<(), Failure>
+    ensures { Puts (of_dec (datatypes_dec place (map dat_bind_of (reverse datatypes.trees.items)) (map typ_bind_of (reverse types.trees.items)))) 0 (seen stack.old) (seen stack.new) result }
 {
     let height = raised(datatypes.height.max(types.height), 1)?;
     let mut datatypes = datatypes.trees;
@@ -45,14 +45,13 @@ fn datatypes_dec(
     stack.put_dec(LowDec { tree, height })
 }
 
-/// `datatype ..` of all kinds.
-pub fn datatype_dec(stack: &mut Stack, place: Place) -> Result<(), Failure>
-    ensures { Puts (of_dec (datatype_of place (at (seen stack.old) 1))) 2 (seen stack.old) (seen stack.new) result }
+/// `datatype ..` of all kinds, from what stands behind `datatype`.
+fn datatype_of(stack: &mut Stack, place: Place, rest: Phrase) -> Result<(), Failure>
+    ensures { Puts (of_dec (datatype_of place (phrase_of rest))) 0 (seen stack.old) (seen stack.new) result }
 {
-    stack.skip();
-    match stack.pop() {
+    match rest {
         Phrase::Declarations(DeclarationPhrase::Datatypes(datatypes, types)) => datatypes_dec(
-            place, datatypes, types,
+            stack, place, datatypes, types,
         ),
         Phrase::Declarations(DeclarationPhrase::Copy(name, copied)) => {
             let tree = Dec::Replication(place, name, copied);
@@ -64,6 +63,15 @@ pub fn datatype_dec(stack: &mut Stack, place: Place) -> Result<(), Failure>
             stack.put_dec(LowDec { tree, height: 1 })
         }
     }
+}
+
+/// `datatype ..` of all kinds.
+pub fn datatype_dec(stack: &mut Stack, place: Place) -> Result<(), Failure>
+    ensures { Puts (of_dec (datatype_of place (at (seen stack.old) 1))) 2 (seen stack.old) (seen stack.new) result }
+{
+    stack.skip();
+    let rest = stack.pop();
+    datatype_of(stack, place, rest)
 }
 
 /// A datatype before others.
@@ -87,9 +95,8 @@ pub fn more_datatypes(stack: &mut Stack) -> Result<(), Failure>
     datatype_before(stack)
 }
 
-pub fn no_dat_bind(stack: &mut Stack) -> Result<Phrase, Failure>
-    ensures made { Makes (of_datatypes [] []) result }
-    ensures rest { seen stack.new ≡ seen stack.old }
+pub fn no_dat_bind(stack: &mut Stack) -> Result<(), Failure>
+    ensures { Puts (of_datatypes [] []) 0 (seen stack.old) (seen stack.new) result }
 {
     let datatypes = LowDatBinds {
         trees: Vec::new(stack.alloc),
@@ -117,17 +124,18 @@ pub fn with_types(stack: &mut Stack) -> Result<(), Failure>
 
 /// A type constructor without type variables: the one that it copies, or its constructors.
 fn datatype_from(
-    alloc: Global,
+    stack: &mut Stack,
     name: Name,
     copied: Option<LongIdent>,
     constructors: Option<Constructors>,
-) -> Result<Phrase, Failure>
-    ensures { Makes (datatype_from (name_of name) (option_map long_name_of copied) (option_map constructors_of constructors)) result }
+) -> Result<(), Failure>
+    ensures { Puts (datatype_from (name_of name) (option_map long_name_of copied) (option_map constructors_of constructors)) 0 (seen stack.old) (seen stack.new) result }
 {
     match (copied, constructors) {
         (Some(copied), _) => stack.put_copy(name, copied),
         (None, Some(all)) => {
-            let datatypes = and_dat_bind(Vec::new(alloc), name, all.constructors, all.datatypes)?;
+            let none = Vec::new(stack.alloc);
+            let datatypes = and_dat_bind(none, name, all.constructors, all.datatypes)?;
             stack.put_datatypes(datatypes, all.types)
         }
         (None, None) => stack.put_nothing(),
@@ -144,7 +152,7 @@ pub fn plain_datatype(stack: &mut Stack) -> Result<(), Failure>
         copied,
         constructors,
     } = pop_datatype_rest(stack);
-    datatype_from(stack.alloc, name, copied, constructors)
+    datatype_from(stack, name, copied, constructors)
 }
 
 /// The constructors of a datatype, and the further datatypes.
@@ -164,12 +172,12 @@ pub fn and_constructor(stack: &mut Stack) -> Result<(), Failure>
     let name = stack.name()?;
     let argument = stack.ty_if_any();
     let others = stack.con_binds();
-    stack.put_con_binds(and_con_bind(name, argument, others)?)
+    let all = and_con_bind(name, argument, others)?;
+    stack.put_con_binds(all)
 }
 
-pub fn no_con_bind(stack: &mut Stack) -> Result<Phrase, Failure>
-    ensures made { Makes (of_con_binds []) result }
-    ensures rest { seen stack.new ≡ seen stack.old }
+pub fn no_con_bind(stack: &mut Stack) -> Result<(), Failure>
+    ensures { Puts (of_con_binds []) 0 (seen stack.old) (seen stack.new) result }
 {
     let none = LowConBinds {
         trees: Vec::new(stack.alloc),

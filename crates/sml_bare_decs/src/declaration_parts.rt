@@ -8,7 +8,7 @@ ghost use Rattle.sml_tree.specs.ExpressionViews.{typ_bind_of, dat_bind_of, exn_b
 ghost use Rattle.sml_tree.specs.Expressions.{new_exception};
 ghost use Rattle.sml_tree.specs.Heights.{exn_bind_height};
 ghost use Rattle.sml_phrases.specs.Phrases.{first, ty_if_any};
-ghost use Rattle.sml_phrases.specs.PhraseViews.{Puts, seen};
+ghost use Rattle.sml_phrases.specs.PhraseViews.{seen};
 ghost use Rattle.sml_bare_decs.specs.DeclarationRules.{values_in, functions_in, atoms_in, datatypes_in, typ_bind_in, exn_bind_in, long_if_any, constructors_if_any};
 ghost use Rattle.sml_bare_decs.specs.DeclarationViews.{constructors_of};
 

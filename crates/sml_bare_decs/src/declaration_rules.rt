@@ -9,7 +9,7 @@ ghost use Rattle.sml_read.specs.Grammar.{right_side};
 ghost use Rattle.sml_read.specs.declared.grammar.Rule.TheVariants.{Declarations};
 ghost use Rattle.sml_phrases.specs.Phrases.{nothing, of_longs, of_dec, of_decs, of_typ_bind, of_typ_binds, of_exn_binds, at, name_in, long_in, names_in, longs_in, ty_in, dec_in, decs_in, typ_binds_in, exn_binds_in};
 ghost use Rattle.sml_phrases.specs.PhraseHeights.{low};
-ghost use Rattle.sml_phrases.specs.PhraseViews.{Puts, Gives, Makes, seen};
+ghost use Rattle.sml_phrases.specs.PhraseViews.{Puts, Gives, seen};
 ghost use Rattle.sml_bare_decs.specs.DeclarationRules.{value_dec, function_dec, typ_bind_in, exn_bind_in, exn_rest, values_in, functions_in, declaration_phrase};
 ghost use Rattle.sml_fixity.specs.Shapes.{shape_of};
 
@@ -34,7 +34,7 @@ use sml_derived::expander::Expander;
 use sml_fixity::shape::Shape;
 use sml_lex::fault::Place;
 use sml_phrases::low::{LowDec, LowDecs, LowExnBinds, LowTypBinds};
-use sml_phrases::phrase::{DeclarationPhrase, Failure, Phrase};
+use sml_phrases::phrase::Failure;
 use sml_phrases::raise::raised;
 use sml_phrases::stack::Stack;
 use sml_read::grammar::DeclarationRule;
@@ -52,12 +52,11 @@ pub fn skip_all(stack: &mut Stack, parts: usize)
 
 /// What the part behind so many others has made.
 #[tactic(auto, using(crate::proofs::Skips::skipped))]
-pub fn passed(stack: &mut Stack, before: usize) -> Result<Phrase, Failure>
-    ensures made { Makes (at (seen stack.old) before) result }
-    ensures rest { OnOk result (seen stack.new ≡ drop (before + 1) (seen stack.old)) }
+pub fn passed(stack: &mut Stack, before: usize) -> Result<(), Failure>
+    ensures { Puts (at (seen stack.old) before) (before + 1) (seen stack.old) (seen stack.new) result }
 {
     skip_all(stack, before);
-    Ok(stack.pop())
+    stack.put_first()
 }
 
 /// `local .. in .. end`
@@ -143,7 +142,8 @@ fn more_types(stack: &mut Stack) -> Result<(), Failure>
     ensures { let vs = seen stack.old in Puts (of_typ_binds (typ_bind_in (at vs 1) ∷ typ_binds_in (at vs 2))) 3 vs (seen stack.new) result }
 {
     stack.skip();
-    stack.put_typ_binds(typ_binds(stack)?)
+    let all = typ_binds(stack)?;
+    stack.put_typ_binds(all)
 }
 
 /// Type variables, a type constructor and its right side.
@@ -157,9 +157,8 @@ fn typ_bind(stack: &mut Stack) -> Result<(), Failure>
     stack.put_typ_bind(variables, name, ty)
 }
 
-fn no_typ_bind(stack: &mut Stack) -> Result<Phrase, Failure>
-    ensures made { Makes (of_typ_binds []) result }
-    ensures rest { seen stack.new ≡ seen stack.old }
+fn no_typ_bind(stack: &mut Stack) -> Result<(), Failure>
+    ensures { Puts (of_typ_binds []) 0 (seen stack.old) (seen stack.new) result }
 {
     let none = LowTypBinds {
         trees: Vec::new(stack.alloc),
@@ -195,12 +194,12 @@ fn more_exceptions(stack: &mut Stack) -> Result<(), Failure>
     ensures { let vs = seen stack.old in Puts (of_exn_binds (exn_bind_in (at vs 1) ∷ exn_binds_in (at vs 2))) 3 vs (seen stack.new) result }
 {
     stack.skip();
-    stack.put_exn_binds(exn_binds(stack)?)
+    let all = exn_binds(stack)?;
+    stack.put_exn_binds(all)
 }
 
-fn no_exn_bind(stack: &mut Stack) -> Result<Phrase, Failure>
-    ensures made { Makes (of_exn_binds []) result }
-    ensures rest { seen stack.new ≡ seen stack.old }
+fn no_exn_bind(stack: &mut Stack) -> Result<(), Failure>
+    ensures { Puts (of_exn_binds []) 0 (seen stack.old) (seen stack.new) result }
 {
     let none = LowExnBinds {
         trees: Vec::new(stack.alloc),
@@ -246,9 +245,8 @@ fn and_opened(stack: &mut Stack) -> Result<(), Failure>
 }
 
 /// A directive of fixity of so many parts.
-fn fixity_dec(stack: &mut Stack, place: Place, parts: usize) -> Result<Phrase, Failure>
-    ensures made { Makes (of_dec (fixity_dec place)) result }
-    ensures rest { OnOk result (seen stack.new ≡ drop parts (seen stack.old)) }
+fn fixity_dec(stack: &mut Stack, place: Place, parts: usize) -> Result<(), Failure>
+    ensures { Puts (of_dec (fixity_dec place)) parts (seen stack.old) (seen stack.new) result }
 {
     skip_all(stack, parts);
     stack.put_dec(LowDec {
@@ -258,9 +256,8 @@ fn fixity_dec(stack: &mut Stack, place: Place, parts: usize) -> Result<Phrase, F
 }
 
 /// The sequence of no declarations.
-pub fn no_dec(stack: &mut Stack) -> Result<Phrase, Failure>
-    ensures made { Makes (of_decs no_dec) result }
-    ensures rest { seen stack.new ≡ seen stack.old }
+pub fn no_dec(stack: &mut Stack) -> Result<(), Failure>
+    ensures { Puts (of_decs no_dec) 0 (seen stack.old) (seen stack.new) result }
 {
     let none = LowDecs {
         trees: Vec::new(stack.alloc),
@@ -275,24 +272,24 @@ pub fn dec_before(stack: &mut Stack) -> Result<(), Failure>
 {
     let first = stack.dec();
     let others = stack.decs();
-    stack.put_decs(and_dec(first, others)?)
+    let all = and_dec(first, others)?;
+    stack.put_decs(all)
 }
 
 /// Nothing, of so many parts.
-fn nothing(stack: &mut Stack, parts: usize) -> Result<Phrase, Failure>
-    ensures made { Makes nothing result }
-    ensures rest { OnOk result (seen stack.new ≡ drop parts (seen stack.old)) }
+fn nothing(stack: &mut Stack, parts: usize) -> Result<(), Failure>
+    ensures { Puts nothing parts (seen stack.old) (seen stack.new) result }
 {
     skip_all(stack, parts);
     stack.put_nothing()
 }
 
 /// The sequence of no opened structures.
-fn no_opened(stack: &mut Stack) -> Result<Phrase, Failure>
-    ensures made { Makes (of_longs []) result }
-    ensures rest { seen stack.new ≡ seen stack.old }
+fn no_opened(stack: &mut Stack) -> Result<(), Failure>
+    ensures { Puts (of_longs []) 0 (seen stack.old) (seen stack.new) result }
 {
-    stack.put_longs(Vec::new(stack.alloc))
+    let none = Vec::new(stack.alloc);
+    stack.put_longs(none)
 }
 
 /// What a rule of declarations makes of its parts, which it takes off the stack.

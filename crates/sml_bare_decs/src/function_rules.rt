@@ -13,7 +13,7 @@ ghost use Rattle.sml_tree.specs.Clauses.{clause_rule, pat_row_of, clause_of};
 ghost use Rattle.sml_derived.specs.Derived.{function_of};
 ghost use Rattle.sml_phrases.specs.Phrases.{at, first, name_in, names_in, pat_in, pats_in, exp_in, bind_in, binds_in, clauses_in, ty_if_any, of_pats, of_bind, of_binds, of_clauses, of_functions, of_right_side};
 ghost use Rattle.sml_phrases.specs.PhraseHeights.{low};
-ghost use Rattle.sml_phrases.specs.PhraseViews.{Puts, Gives, Makes, phrase_of, seen};
+ghost use Rattle.sml_phrases.specs.PhraseViews.{Puts, Gives, phrase_of, seen};
 ghost use Rattle.sml_fixity.specs.Shapes.{shape_of};
 ghost use Rattle.sml_bare_decs.specs.FunctionRules.{right_side_in, round_rest, round_functions, clause_from, function_from};
 ghost use Rattle.sml_bare_decs.specs.FunctionViews.{low_pats_of, right_side_of};
@@ -28,7 +28,7 @@ use sml_derived::expander::Expander;
 use sml_fixity::shape::Shape;
 use sml_lex::fault::{Memory, Place};
 use sml_phrases::low::{LIMIT, LowBind, LowBinds, LowClauses, LowExp, LowPat, LowPats, LowTy};
-use sml_phrases::phrase::{DeclarationPhrase, Failure, PatternPhrase, Phrase, discard};
+use sml_phrases::phrase::{DeclarationPhrase, Failure, Phrase, discard};
 use sml_phrases::stack::Stack;
 use sml_tree::bare::Ident;
 use sml_tree::clauses::Clause;
@@ -239,9 +239,8 @@ pub fn right_side(stack: &mut Stack) -> Result<(), Failure>
     stack.put_right_side(pats, ty, body)
 }
 
-pub fn no_pat(stack: &mut Stack) -> Result<Phrase, Failure>
-    ensures made { Makes (of_pats no_pat) result }
-    ensures rest { seen stack.new ≡ seen stack.old }
+pub fn no_pat(stack: &mut Stack) -> Result<(), Failure>
+    ensures { Puts (of_pats no_pat) 0 (seen stack.old) (seen stack.new) result }
 {
     let none = LowPats {
         trees: Vec::new(stack.alloc),
@@ -256,12 +255,12 @@ pub fn pat_before(stack: &mut Stack) -> Result<(), Failure>
 {
     let first = stack.pat();
     let others = stack.pats();
-    stack.put_pats(and_pat(first, others)?)
+    let all = and_pat(first, others)?;
+    stack.put_pats(all)
 }
 
-pub fn no_clause(stack: &mut Stack) -> Result<Phrase, Failure>
-    ensures made { Makes (of_clauses []) result }
-    ensures rest { seen stack.new ≡ seen stack.old }
+pub fn no_clause(stack: &mut Stack) -> Result<(), Failure>
+    ensures { Puts (of_clauses []) 0 (seen stack.old) (seen stack.new) result }
 {
     let none = LowClauses {
         trees: Vec::new(stack.alloc),
@@ -287,7 +286,8 @@ pub fn clause_before(stack: &mut Stack, shape: Option<&Shape>) -> Result<(), Fai
     stack.skip();
     let clause = clause_on(stack, shape)?;
     let others = stack.clauses();
-    stack.put_clauses(and_clause(clause, others)?)
+    let all = and_clause(clause, others)?;
+    stack.put_clauses(all)
 }
 
 /// A function from its clauses on the stack.
@@ -307,14 +307,11 @@ fn function_on(
 }
 
 /// The clauses of a function.
-pub fn clauses(
-    stack: &mut Stack,
-    expander: &Expander,
-    shape: Option<&Shape>,
-) -> Result<(), Failure>
+pub fn clauses(stack: &mut Stack, expander: &Expander, shape: Option<&Shape>) -> Result<(), Failure>
     ensures { let vs = seen stack.old in Puts (of_bind (function_from (option_map (λ s. shape_of s.now) shape.entry) (pat_place (pat_in (at vs 0))) (pat_in (at vs 0)) (right_side_in (at vs 1)) (clauses_in (at vs 2)))) 3 vs (seen stack.new) result }
 {
-    stack.put_bind(function_on(stack, expander, shape)?)
+    let function = function_on(stack, expander, shape)?;
+    stack.put_bind(function)
 }
 
 /// The clauses of a function, and further functions.
@@ -327,13 +324,12 @@ pub fn functions(
 {
     let function = function_on(stack, expander, shape)?;
     let others = stack.binds();
-    stack.put_functions(Vec::new(stack.alloc),
-        and_bind(function, others)?)
+    let all = and_bind(function, others)?;
+    stack.put_functions(Vec::new(stack.alloc), all)
 }
 
-pub fn no_function(stack: &mut Stack) -> Result<Phrase, Failure>
-    ensures made { Makes (of_binds no_bind) result }
-    ensures rest { seen stack.new ≡ seen stack.old }
+pub fn no_function(stack: &mut Stack) -> Result<(), Failure>
+    ensures { Puts (of_binds no_bind) 0 (seen stack.old) (seen stack.new) result }
 {
     let none = LowBinds {
         trees: Vec::new(stack.alloc),
@@ -349,7 +345,8 @@ pub fn more_functions(stack: &mut Stack) -> Result<(), Failure>
     stack.skip();
     let first = stack.bind();
     let others = stack.binds();
-    stack.put_binds(and_bind(first, others)?)
+    let all = and_bind(first, others)?;
+    stack.put_binds(all)
 }
 
 /// Functions behind one explicit type variable.
@@ -358,13 +355,12 @@ pub fn functions_of_variable(stack: &mut Stack) -> Result<(), Failure>
 {
     let mut variables = Vec::new(stack.alloc);
     variables.push(stack.name()?)?;
-    let first = stack.bind();
-    let others = stack.binds();
-    stack.put_functions(variables, and_bind(first, others)?)
+    let functions = all_functions(stack)?;
+    stack.put_functions(variables, functions)
 }
 
 /// Explicit type variables in round brackets, without the brackets.
-fn variables(stack: &mut Stack) -> Result<Vec<Name>, Memory>
+pub fn variables(stack: &mut Stack) -> Result<Vec<Name>, Memory>
     ensures made { let vs = seen stack.old in IfOk result (λ xs. map name_of (reverse xs.items) ≡ name_in (at vs 0) ∷ names_in (at vs 1)) }
     ensures rest { OnOk result (seen stack.new ≡ drop 2 (seen stack.old)) }
 {
@@ -407,6 +403,7 @@ pub fn functions_behind_bracket(stack: &mut Stack) -> Result<(), Failure>
 
 /// A function whose first clause begins with a round bracket, and further functions.
 fn round_function(
+    stack: &mut Stack,
     expander: &Expander,
     shape: Option<&Shape>,
     place: Place,
@@ -414,32 +411,36 @@ fn round_function(
     right: RightSide,
     others: LowClauses,
     binds: LowBinds,
-) -> Result<Phrase, Failure>
-    ensures { Makes (of_functions [] (and_bind (function_from (option_map (λ s. shape_of s.now) shape.entry) place (round_pat place (low_pats_of inner)) (right_side_of right) (map clause_of (reverse others.trees.items))) (binds_of (map bind_of (reverse binds.trees.items))))) result }
+) -> Result<(), Failure>
+    ensures { Puts (of_functions [] (and_bind (function_from (option_map (λ s. shape_of s.now) shape.entry) place (round_pat place (low_pats_of inner)) (right_side_of right) (map clause_of (reverse others.trees.items))) (binds_of (map bind_of (reverse binds.trees.items))))) 0 (seen stack.old) (seen stack.new) result }
 {
     let first = round_pat(expander.alloc, place, inner)?;
     let function = function_from(expander, shape, place, first, right, others)?;
-    stack.put_functions(Vec::new(expander.alloc),
-        and_bind(function, binds)?)
+    let all = and_bind(function, binds)?;
+    stack.put_functions(Vec::new(stack.alloc), all)
 }
 
 /// What stands behind `fun (`, with the pattern in its brackets.
 fn round_functions_of(
+    stack: &mut Stack,
     expander: &Expander,
     shape: Option<&Shape>,
     place: Place,
     rest: Phrase,
-) -> Result<Phrase, Failure>
-    ensures { Makes (round_functions (option_map (λ s. shape_of s.now) shape.entry) place (phrase_of rest)) result }
+) -> Result<(), Failure>
+    ensures { Puts (round_functions (option_map (λ s. shape_of s.now) shape.entry) place (phrase_of rest)) 0 (seen stack.old) (seen stack.new) result }
 {
     match rest {
         Phrase::Declarations(
             DeclarationPhrase::RoundFunctions(inner, pats, result, body, others, binds),
         ) => {
             let right = RightSide { pats, result, body };
-            round_function(expander, shape, place, inner, right, others, binds)
+            round_function(stack, expander, shape, place, inner, right, others, binds)
         }
-        other => Ok(other),
+        other => {
+            stack.push(other)?;
+            Ok(())
+        }
     }
 }
 
@@ -454,5 +455,5 @@ pub fn round_functions(
 {
     stack.skip();
     let rest = stack.pop();
-    round_functions_of(expander, shape, place, rest)
+    round_functions_of(stack, expander, shape, place, rest)
 }

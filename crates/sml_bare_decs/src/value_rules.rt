@@ -1,12 +1,12 @@
 //! What the rules of value declarations make of their parts.
 
-ghost use Rattle.std.specs.Prelude.{◌≡◌, ◌∷◌, [], drop, map, reverse, IfOk, OnOk};
+ghost use Rattle.std.specs.Prelude.{◌∷◌, [], map, reverse};
 ghost use Rattle.std.specs.Option.{option_map};
 ghost use Rattle.sml_tree.specs.PatternViews.{pat_of};
 ghost use Rattle.sml_tree.specs.ExpressionViews.{exp_of, bind_of, binds_of};
 ghost use Rattle.sml_tree.specs.Expressions.{bind, no_bind, and_bind};
 ghost use Rattle.sml_phrases.specs.Phrases.{of_values, at, name_in, names_in, pat_in, pats_in, exp_in};
-ghost use Rattle.sml_phrases.specs.PhraseViews.{Puts, Makes, phrase_of, seen};
+ghost use Rattle.sml_phrases.specs.PhraseViews.{Puts, phrase_of, seen};
 ghost use Rattle.sml_bare_decs.specs.DeclarationRules.{values_in, atoms_in, with_variables, all_recursive, round_value, round_values, and_value};
 ghost use Rattle.sml_bare_pats.specs.LowViews.{low_pats_of, low_tys_of};
 ghost use Rattle.sml_bare_pats.specs.PatternRules.{round_pat};
@@ -15,25 +15,25 @@ ghost use Rattle.sml_fixity.specs.Shapes.{shape_of};
 
 use crate::declaration_lists::{and_bind, joined};
 use crate::declaration_parts::{Atoms, Values, pop_atoms, pop_values};
+use crate::function_rules::variables;
 use sml_bare_pats::pattern_sequences::round_sequence;
 use sml_derived::expander::Expander;
 use sml_fixity::shape::Shape;
-use sml_lex::fault::{Memory, Place};
+use sml_lex::fault::Place;
 use sml_phrases::low::{LowBind, LowBinds, LowExp, LowPat, LowPats};
 use sml_phrases::phrase::{DeclarationPhrase, Failure, Phrase};
 use sml_phrases::stack::Stack;
 use sml_tree::expressions::ValBind;
-use std::alloc::Global;
 
 /// One binding before others.
 fn and_value(
-    alloc: Global,
+    stack: &mut Stack,
     pat: LowPat,
     exp: LowExp,
     others: LowBinds,
     recursive: LowBinds,
-) -> Result<Phrase, Memory>
-    ensures { IfOk result (λ phrase. phrase_of phrase ≡ of_values [] (and_bind (bind (pat_of pat.tree) (exp_of exp.tree)) (binds_of (map bind_of (reverse others.trees.items)))) (binds_of (map bind_of (reverse recursive.trees.items)))) }
+) -> Result<(), Failure>
+    ensures { Puts (of_values [] (and_bind (bind (pat_of pat.tree) (exp_of exp.tree)) (binds_of (map bind_of (reverse others.trees.items)))) (binds_of (map bind_of (reverse recursive.trees.items)))) 0 (seen stack.old) (seen stack.new) result }
 {
     let height = pat.height.max(exp.height);
     let first = LowBind {
@@ -44,7 +44,7 @@ fn and_value(
         height,
     };
     let plain = and_bind(first, others)?;
-    stack.put_values(Vec::new(alloc), plain, recursive)
+    stack.put_values(Vec::new(stack.alloc), plain, recursive)
 }
 
 /// A pattern, its right side, and further bindings.
@@ -59,12 +59,11 @@ pub fn value(stack: &mut Stack) -> Result<(), Failure>
         plain,
         recursive,
     } = pop_values(stack);
-    Ok(and_value(stack.alloc, pat, exp, plain, recursive)?)
+    and_value(stack, pat, exp, plain, recursive)
 }
 
-pub fn no_value(stack: &mut Stack) -> Result<Phrase, Failure>
-    ensures made { Makes (of_values [] no_bind no_bind) result }
-    ensures rest { seen stack.new ≡ seen stack.old }
+pub fn no_value(stack: &mut Stack) -> Result<(), Failure>
+    ensures { Puts (of_values [] no_bind no_bind) 0 (seen stack.old) (seen stack.new) result }
 {
     let plain = LowBinds {
         trees: Vec::new(stack.alloc),
@@ -113,16 +112,14 @@ pub fn of_variable(stack: &mut Stack) -> Result<(), Failure>
 pub fn of_variables(stack: &mut Stack) -> Result<(), Failure>
     ensures { let vs = seen stack.old in Puts (with_variables (name_in (at vs 0) ∷ names_in (at vs 1)) (values_in (at vs 3))) 4 vs (seen stack.new) result }
 {
-    let first = stack.name()?;
-    let mut all = stack.names();
-    all.push(first)?;
+    let variables = variables(stack)?;
     stack.skip();
     let Values {
         variables: _,
         plain,
         recursive,
     } = pop_values(stack);
-    stack.put_values(all, plain, recursive)
+    stack.put_values(variables, plain, recursive)
 }
 
 /// What stands behind `val (` where it is a pattern.
@@ -144,6 +141,7 @@ pub fn behind_bracket(stack: &mut Stack) -> Result<(), Failure>
 /// A binding whose pattern begins with a round bracket, before others.
 #[tactic(auto, using(crate::proofs::Clauses::value_too_high))]
 fn round_binding(
+    stack: &mut Stack,
     expander: &Expander,
     shape: Option<&Shape>,
     place: Place,
@@ -152,26 +150,28 @@ fn round_binding(
     exp: LowExp,
     plain: LowBinds,
     recursive: LowBinds,
-) -> Result<Phrase, Failure>
-    ensures { Makes (of_values [] (and_bind (bind (round_sequence (option_map (λ s. shape_of s.now) shape.entry) (round_pat place (low_pats_of inner)) (low_pats_of atoms.pats) (low_tys_of atoms.tys)) (exp_of exp.tree)) (binds_of (map bind_of (reverse plain.trees.items)))) (binds_of (map bind_of (reverse recursive.trees.items)))) result }
+) -> Result<(), Failure>
+    ensures { Puts (of_values [] (and_bind (bind (round_sequence (option_map (λ s. shape_of s.now) shape.entry) (round_pat place (low_pats_of inner)) (low_pats_of atoms.pats) (low_tys_of atoms.tys)) (exp_of exp.tree)) (binds_of (map bind_of (reverse plain.trees.items)))) (binds_of (map bind_of (reverse recursive.trees.items)))) 0 (seen stack.old) (seen stack.new) result }
 {
     let pat = round_sequence(expander, shape, place, inner, atoms.pats, atoms.tys)?;
-    Ok(and_value(expander.alloc, pat, exp, plain, recursive)?)
+    and_value(stack, pat, exp, plain, recursive)
 }
 
 /// What stands behind `val (`, with the pattern in its brackets.
 fn round_value_of(
+    stack: &mut Stack,
     expander: &Expander,
     shape: Option<&Shape>,
     place: Place,
     rest: Phrase,
-) -> Result<Phrase, Failure>
-    ensures { Makes (round_value (option_map (λ s. shape_of s.now) shape.entry) place (phrase_of rest)) result }
+) -> Result<(), Failure>
+    ensures { Puts (round_value (option_map (λ s. shape_of s.now) shape.entry) place (phrase_of rest)) 0 (seen stack.old) (seen stack.new) result }
 {
     match rest {
         Phrase::Declarations(
             DeclarationPhrase::RoundValues(inner, pats, tys, exp, plain, recursive),
         ) => round_binding(
+            stack,
             expander,
             shape,
             place,
@@ -181,7 +181,10 @@ fn round_value_of(
             plain,
             recursive,
         ),
-        other => Ok(other),
+        other => {
+            stack.push(other)?;
+            Ok(())
+        }
     }
 }
 
@@ -196,5 +199,5 @@ pub fn round_value(
 {
     stack.skip();
     let rest = stack.pop();
-    round_value_of(expander, shape, place, rest)
+    round_value_of(stack, expander, shape, place, rest)
 }

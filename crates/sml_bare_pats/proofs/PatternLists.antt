@@ -1,5 +1,5 @@
 -- Patterns in round brackets, and lists of patterns from their last pattern to their first.
-use Rattle.std.proofs.Common.{◌≡◌, ℕ, ◌+◌, ◌≤◌, List, [], ◌∷◌, ◌++◌, map, reverse, length, arith, refl, ap, sym, ◌∙◌}
+use Rattle.std.proofs.Common.{◌≡◌, ◌+◌, ◌≤◌, List, [], ◌∷◌, ◌++◌, map, reverse, length, arith, refl, ap, sym, ◌∙◌}
 use Rattle.sml_lex.specs.declared.fault.Place.{Place}
 use Rattle.sml_tree.specs.Heights.{pat_height, pats_height}
 use Rattle.sml_tree.specs.Patterns.{Pat, Pats, pat_tuple, no_pat, and_pat}

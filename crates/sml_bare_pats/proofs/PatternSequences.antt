@@ -9,7 +9,7 @@ use Rattle.sml_tree.specs.Patterns.{Pat, Pats, and_pat, wildcard, pat_constant, 
 use Rattle.sml_tree.specs.Names.{Name}
 use Rattle.sml_tree.specs.TypeViews.{ty_of, tys_of}
 use Rattle.sml_tree.specs.PatternViews.{pats_of}
-use Rattle.sml_tree.specs.Types.{Ty, Tys, no_ty, and_ty}
+use Rattle.sml_tree.specs.Types.{Tys, no_ty, and_ty}
 use Rattle.sml_fixity.specs.declared.sequences.Step.{Step}
 use Rattle.sml_fixity.specs.declared.sequences.Step.TheVariants.{Push, Apply, Combine}
 use Rattle.sml_phrases.specs.PhraseHeights.{low}

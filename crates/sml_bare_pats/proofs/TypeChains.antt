@@ -1,11 +1,11 @@
 -- Types behind which type constructors stand, and products of types.
-use Rattle.std.proofs.Common.{◌≡◌, ℕ, ◌≤◌, List, [], ◌∷◌, ◌++◌, map, reverse, length, arith, refl, ap, sym, ◌∙◌}
+use Rattle.std.proofs.Common.{◌≡◌, ◌≤◌, List, [], ◌∷◌, ◌++◌, map, reverse, length, arith, refl, ap, sym, ◌∙◌}
 use Rattle.sml_lex.specs.declared.fault.Place.{Place}
 use Rattle.sml_tree.specs.Heights.{ty_height}
 use Rattle.sml_tree.specs.Names.{LongName}
 use Rattle.sml_tree.specs.Types.{Ty, ty_tuple, ty_constructor, no_ty, and_ty}
 use Rattle.std.proofs.lemmas.List.{length-reverse}
-use Rattle.sml_tree.specs.TypeViews.{long_name_of, ty_of, tys_of}
+use Rattle.sml_tree.specs.TypeViews.{long_name_of, tys_of}
 use Rattle.sml_tree.specs.declared.bare.LongIdent.{LongIdent}
 use Rattle.sml_bare_pats.specs.TypeRules.{product, constructed}
 use Rattle.sml_bare_pats.specs.LowViews.{low_ty_of}

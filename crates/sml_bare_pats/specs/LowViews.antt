@@ -1,5 +1,5 @@
 -- The program's types and patterns with their heights, as those of the definitions.
-use Rattle.std.specs.Prelude.{List, map, reverse, Result, Bool}
+use Rattle.std.specs.Prelude.{map, reverse, Result}
 use Rattle.sml_lex.specs.declared.fault.Place.{Place}
 use Rattle.sml_tree.specs.Heights.{ty_height, pat_height}
 use Rattle.sml_tree.specs.Types.{Ty, Tys, TyFields}

@@ -1,10 +1,10 @@
 -- What the rules of patterns make of their parts (the Definition, section 2.8): one line a rule, with the place of the
 -- phrase, what the sequence that begins here stands for, and all phrases from its first part on. Any other rule's
 -- phrase is its first part.
-use Rattle.std.specs.Prelude.{List, Bool, true, false, Option, Some, None}
+use Rattle.std.specs.Prelude.{List, true, false, Option, Some, None}
 use Rattle.sml_lex.specs.declared.fault.Place.{Place}
 use Rattle.sml_tree.specs.Names.{Name}
-use Rattle.sml_tree.specs.Types.{Ty, Tys, no_ty, and_ty}
+use Rattle.sml_tree.specs.Types.{Ty, no_ty, and_ty}
 use Rattle.sml_tree.specs.Patterns.{Pat, Pats, wildcard, pat_constant, pat_name, pat_row, pat_tuple, pat_bracket, pat_as, no_pat, and_pat, pat_field, no_pat_field, and_pat_field}
 use Rattle.sml_read.specs.declared.grammar.PatternRule.{PatternRule}
 use Rattle.sml_read.specs.declared.grammar.PatternRule.TheVariants.{PatOpenRound, BarePatVid, BarePatOp, BarePatOtherAtPat, OpPatVid, OpPatQualified, AfterVidNone, AfterVidAs, AfterVidColon, AfterVidAtPat, AfterVidTyNone, AfterVidTyAs, AfterVidTyColon, AtPatMoreNone, AtPatMoreAtPat, AtPatMoreColon, AtPatOpenRound, BareAtPatVid, BareAtPatOp, OtherAtPatWildcard, OtherAtPatConstant, OtherAtPatQualified, OtherAtPatOpenCurly, OtherAtPatOpenSquare, PatRoundCloseRound, PatRoundPat, PatRoundMoreCloseRound, PatRoundMoreComma, PatListCloseSquare, PatListPat, PatListMoreCloseSquare, PatListMoreComma, PatRowCloseCurly, RowDots, RowNumeral, RowVid, RowRestEquals, RowRestTyped, RowAsNone, RowAsAs, RowMoreNone, RowMoreComma}

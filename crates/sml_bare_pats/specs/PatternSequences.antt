@@ -1,7 +1,7 @@
 -- What a sequence of atomic patterns stands for: the pattern that its steps build on a stack, with the types behind it.
 -- Each atomic pattern is used once. What no right sequence leads to (an operand that lacks, a function that is no
 -- identifier, several patterns at the end) stands for a pattern with all the parts that there are.
-use Rattle.std.specs.Prelude.{ℕ, Bool, false, if◌then◌else◌, nat_eq, List, [], ◌∷◌, get_or, set, drop, Option, Some, None}
+use Rattle.std.specs.Prelude.{ℕ, Bool, false, if◌then◌else◌, nat_eq, List, [], ◌∷◌, get_or, set, drop, Option, Some}
 use Rattle.sml_lex.specs.declared.fault.Place.{Place}
 use Rattle.sml_tree.specs.Names.{Name}
 use Rattle.sml_tree.specs.Types.{Tys, no_ty, and_ty}
@@ -10,7 +10,7 @@ use Rattle.sml_fixity.specs.declared.sequences.Step.{Step}
 use Rattle.sml_fixity.specs.declared.sequences.Step.TheVariants.{Push, Apply, Combine}
 use Rattle.sml_derived.specs.Derived.{pat_pair, pat_infix}
 use Rattle.sml_phrases.specs.Phrases.{first_place}
-use Rattle.sml_fixity.specs.Shapes.{Shape, tree, headed}
+use Rattle.sml_fixity.specs.Shapes.{Shape, tree}
 
 -- the place of a pattern's first token
 abbrev pub pat_place : {P : Type 0} → Pat P → P

@@ -1,5 +1,5 @@
 -- The program's sequences of patterns as those of the definitions.
-use Rattle.std.specs.Prelude.{List, map, reverse, Result, Bool}
+use Rattle.std.specs.Prelude.{map, reverse, Result}
 use Rattle.sml_lex.specs.declared.fault.Place.{Place}
 use Rattle.sml_tree.specs.Heights.{pat_height}
 use Rattle.sml_tree.specs.Patterns.{Pat}

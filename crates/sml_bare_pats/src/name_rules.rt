@@ -1,16 +1,16 @@
 //! What the rules of identifiers and constants make of their part.
 
-ghost use Rattle.std.specs.Prelude.{◌≡◌, drop, length, OnOk};
+ghost use Rattle.std.specs.Prelude.{length};
 ghost use Rattle.sml_read.specs.Grammar.{right_side};
 ghost use Rattle.sml_read.specs.declared.grammar.Rule.TheVariants.{Names};
 ghost use Rattle.sml_derived.specs.Derived.{long};
 ghost use Rattle.sml_bare_pats.specs.NameRules.{numeral, name_phrase};
 ghost use Rattle.sml_phrases.specs.Phrases.{of_long, of_constant, at, name_in};
-ghost use Rattle.sml_phrases.specs.PhraseViews.{Puts, Makes, seen};
+ghost use Rattle.sml_phrases.specs.PhraseViews.{Puts, seen};
 
 use sml_derived::expander::{Expander, long};
 use sml_lex::fault::Place;
-use sml_phrases::phrase::{Failure, Phrase};
+use sml_phrases::phrase::Failure;
 use sml_phrases::stack::Stack;
 use sml_read::grammar::NameRule;
 use sml_tree::patterns::{Constant, ConstantKind};
@@ -53,6 +53,6 @@ pub fn name_phrase(
         NameRule::LongStrIdAlphanumeric => short(stack),
         NameRule::ConstantNumeral => numeral(stack),
         NameRule::ConstantZeroNumeral => numeral(stack),
-        _ => Ok(stack.pop()),
+        _ => stack.put_first(),
     }
 }

@@ -9,7 +9,7 @@ ghost use Rattle.sml_derived.specs.Derived.{layered, pat_nil, pat_cons};
 ghost use Rattle.sml_bare_pats.specs.LowViews.{GivesPat, low_ty_of, low_pat_of, low_tys_of, low_pats_of, low_pat_fields_of};
 ghost use Rattle.sml_bare_pats.specs.PatternPhrases.{pat_fields_in, flexible_in, atoms_in, colons_in};
 ghost use Rattle.sml_bare_pats.specs.PatternRules.{round_pat, list_pat, field_pat};
-ghost use Rattle.sml_phrases.specs.PhraseViews.{Puts, phrase_of};
+ghost use Rattle.sml_phrases.specs.PhraseViews.{phrase_of};
 
 use crate::low_lists::pat_trees;
 use sml_derived::expander::Expander;

@@ -13,7 +13,7 @@ ghost use Rattle.sml_bare_pats.specs.PatternPhrases.{pat_fields_in, flexible_in,
 ghost use Rattle.sml_bare_pats.specs.PatternRules.{round_pat, list_pat, sequence_from, from_vid, op_from_vid, behind_op, behind_colon, and_atom, field_pat, and_field, pattern_phrase};
 ghost use Rattle.sml_bare_pats.specs.PatternSequences.{round_sequence};
 ghost use Rattle.sml_phrases.specs.Phrases.{nothing, of_tys, of_pat, of_pats, of_pat_fields, of_atoms, of_layer, of_op_atoms, at, name_in, long_in, constant_in, ty_in, tys_in, pat_in, pats_in, ty_if_any, pat_if_any};
-ghost use Rattle.sml_phrases.specs.PhraseViews.{Puts, Makes, phrase_of, seen};
+ghost use Rattle.sml_phrases.specs.PhraseViews.{Puts, phrase_of, seen};
 ghost use Rattle.sml_fixity.specs.Shapes.{shape_of};
 
 use crate::low_lists::{and_pat, and_ty};
@@ -65,13 +65,11 @@ fn from_round_parts(
     place: Place,
     pats: LowPats,
     rest: Phrase,
-) -> Result<Phrase, Failure>
-    ensures { Makes (of_pat (round_sequence (option_map (λ s. shape_of s.now) shape.entry) (round_pat place (low_pats_of pats)) (atoms_in (phrase_of rest)) (colons_in (phrase_of rest)))) result }
+) -> Result<LowPat, Failure>
+    ensures { GivesPat (round_sequence (option_map (λ s. shape_of s.now) shape.entry) (round_pat place (low_pats_of pats)) (atoms_in (phrase_of rest)) (colons_in (phrase_of rest))) result }
 {
     let (atoms, types) = atoms_in(expander.alloc, rest);
-    stack.put_pat(round_sequence(
-        expander, shape, place, pats, atoms, types,
-    )?)
+    round_sequence(expander, shape, place, pats, atoms, types)
 }
 
 /// A pattern that begins with a round bracket.
@@ -84,7 +82,8 @@ fn from_round(
     ensures { let vs = seen stack.old in Puts (of_pat (round_sequence (option_map (λ s. shape_of s.now) shape.entry) (round_pat place (pats_in (at vs 1))) (atoms_in (at vs 2)) (colons_in (at vs 2)))) 3 vs (seen stack.new) result }
 {
     let (pats, rest) = round_and_rest(stack);
-    from_round_parts(expander, shape, place, pats, rest)
+    let pat = from_round_parts(expander, shape, place, pats, rest)?;
+    stack.put_pat(pat)
 }
 
 /// A pattern that begins with an identifier.
@@ -116,7 +115,8 @@ fn vid(
 {
     let name = stack.name()?;
     let rest = stack.pop();
-    stack.put_pat(from_vid(expander, shape, place, name, rest)?)
+    let pat = from_vid(expander, shape, place, name, rest)?;
+    stack.put_pat(pat)
 }
 
 /// A pattern that begins with `op`, from what stands behind it.
@@ -154,30 +154,29 @@ fn op(
 {
     stack.skip();
     let rest = stack.pop();
-    stack.put_pat(behind_op(expander, shape, place, rest)?)
+    let pat = behind_op(expander, shape, place, rest)?;
+    stack.put_pat(pat)
 }
 
 /// A pattern that begins with another atomic pattern.
-fn from_other(
-    stack: &mut Stack,
-    shape: Option<&Shape>,
-    expander: &Expander,
-) -> Result<(), Failure>
+fn from_other(stack: &mut Stack, shape: Option<&Shape>, expander: &Expander) -> Result<(), Failure>
     ensures { let vs = seen stack.old in Puts (of_pat (sequence_from (option_map (λ s. shape_of s.now) shape.entry) (pat_in (at vs 0)) (at vs 1))) 2 vs (seen stack.new) result }
 {
     let first = stack.pat();
     let rest = stack.pop();
-    stack.put_pat(sequence_from(expander, shape, first, rest)?)
+    let pat = sequence_from(expander, shape, first, rest)?;
+    stack.put_pat(pat)
 }
 
-fn op_from_vid(alloc: Global, name: Name, rest: Phrase) -> Phrase
-    ensures { phrase_of result ≡ op_from_vid (name_of name) (phrase_of rest) }
+fn op_from_vid(stack: &mut Stack, name: Name, rest: Phrase) -> Result<(), Failure>
+    ensures { Puts (op_from_vid (name_of name) (phrase_of rest)) 0 (seen stack.old) (seen stack.new) result }
 {
     match rest {
         Phrase::Patterns(PatternPhrase::Layer(ty, pat)) => stack.put_op_layer(name, ty, pat),
         other => {
-            let (atoms, types) = atoms_in(alloc, other);
-            stack.put_op_atoms(long(alloc, name), atoms, types)
+            let (atoms, types) = atoms_in(stack.alloc, other);
+            let name = long(stack.alloc, name);
+            stack.put_op_atoms(name, atoms, types)
         }
     }
 }
@@ -198,7 +197,7 @@ fn op_vid(stack: &mut Stack) -> Result<(), Failure>
     ensures { let vs = seen stack.old in Puts (op_from_vid (name_in (at vs 0)) (at vs 1)) 2 vs (seen stack.new) result }
 {
     let (name, rest) = name_and_rest(stack)?;
-    Ok(op_from_vid(stack.alloc, name, rest))
+    op_from_vid(stack, name, rest)
 }
 
 /// An identifier with a path behind `op`, and what stands behind it.
@@ -211,15 +210,15 @@ fn op_qualified(stack: &mut Stack) -> Result<(), Failure>
     stack.put_op_atoms(long, atoms, types)
 }
 
-fn no_atoms(alloc: Global) -> Phrase
-    ensures { phrase_of result ≡ of_atoms no_pat no_ty }
+fn no_atoms(stack: &mut Stack) -> Result<(), Failure>
+    ensures { Puts (of_atoms no_pat no_ty) 0 (seen stack.old) (seen stack.new) result }
 {
     let atoms = LowPats {
-        trees: Vec::new(alloc),
+        trees: Vec::new(stack.alloc),
         height: 0,
     };
     let types = LowTys {
-        trees: Vec::new(alloc),
+        trees: Vec::new(stack.alloc),
         height: 0,
     };
     stack.put_atoms(atoms, types)
@@ -234,30 +233,31 @@ fn behind_as(stack: &mut Stack) -> Result<(), Failure>
     stack.put_layer(None, Some(pat))
 }
 
-fn behind_colon(alloc: Global, ty: LowTy, rest: Phrase) -> Result<Phrase, Failure>
-    ensures { Makes (behind_colon (low_ty_of ty) (phrase_of rest)) result }
+fn behind_colon(stack: &mut Stack, ty: LowTy, rest: Phrase) -> Result<(), Failure>
+    ensures { Puts (behind_colon (low_ty_of ty) (phrase_of rest)) 0 (seen stack.old) (seen stack.new) result }
 {
     match rest {
-        Phrase::Patterns(PatternPhrase::Layer(_, pat)) => stack.put_layer(Some(ty),
-            pat),
+        Phrase::Patterns(PatternPhrase::Layer(_, pat)) => stack.put_layer(Some(ty), pat),
         Phrase::Types(TypePhrase::Tys(types)) => {
             let atoms = LowPats {
-                trees: Vec::new(alloc),
+                trees: Vec::new(stack.alloc),
                 height: 0,
             };
-            stack.put_atoms(atoms, and_ty(ty, types)?)
+            let types = and_ty(ty, types)?;
+            stack.put_atoms(atoms, types)
         }
         other => {
             discard(other);
             let atoms = LowPats {
-                trees: Vec::new(alloc),
+                trees: Vec::new(stack.alloc),
                 height: 0,
             };
             let types = LowTys {
-                trees: Vec::new(alloc),
+                trees: Vec::new(stack.alloc),
                 height: 0,
             };
-            stack.put_atoms(atoms, and_ty(ty, types)?)
+            let types = and_ty(ty, types)?;
+            stack.put_atoms(atoms, types)
         }
     }
 }
@@ -279,7 +279,7 @@ fn vid_colon(stack: &mut Stack) -> Result<(), Failure>
     ensures { let vs = seen stack.old in Puts (behind_colon (ty_in (at vs 1)) (at vs 2)) 3 vs (seen stack.new) result }
 {
     let (ty, rest) = ty_and_rest(stack);
-    behind_colon(stack.alloc, ty, rest)
+    behind_colon(stack, ty, rest)
 }
 
 /// One atomic pattern more.
@@ -289,7 +289,8 @@ fn more_atoms(stack: &mut Stack) -> Result<(), Failure>
     let pat = stack.pat();
     let rest = stack.pop();
     let (atoms, types) = atoms_in(stack.alloc, rest);
-    stack.put_atoms(and_pat(pat, atoms)?, types)
+    let atoms = and_pat(pat, atoms)?;
+    stack.put_atoms(atoms, types)
 }
 
 /// The types behind colons.
@@ -298,8 +299,8 @@ fn colons(stack: &mut Stack) -> Result<(), Failure>
 {
     stack.skip();
     let ty = stack.ty();
-    let types = stack.tys();
-    stack.put_tys(and_ty(ty, types)?)
+    let types = and_ty(ty, stack.tys())?;
+    stack.put_tys(types)
 }
 
 /// The types behind the colons that follow atomic patterns.
@@ -308,12 +309,12 @@ fn atom_colons(stack: &mut Stack) -> Result<(), Failure>
 {
     stack.skip();
     let ty = stack.ty();
-    let types = stack.tys();
+    let types = and_ty(ty, stack.tys())?;
     let atoms = LowPats {
         trees: Vec::new(stack.alloc),
         height: 0,
     };
-    stack.put_atoms(atoms, and_ty(ty, types)?)
+    stack.put_atoms(atoms, types)
 }
 
 /// An atomic pattern in round brackets.
@@ -322,14 +323,16 @@ fn round(stack: &mut Stack, place: Place) -> Result<(), Failure>
 {
     stack.skip();
     let pats = stack.pats();
-    stack.put_pat(round_pat(stack.alloc, place, pats)?)
+    let pat = round_pat(stack.alloc, place, pats)?;
+    stack.put_pat(pat)
 }
 
 fn name(stack: &mut Stack, place: Place) -> Result<(), Failure>
     ensures { Puts (of_pat (pat_name place (long (name_in (at (seen stack.old) 0))))) 1 (seen stack.old) (seen stack.new) result }
 {
     let name = stack.name()?;
-    stack.put_pat(pat_name(place, long(stack.alloc, name)))
+    let pat = pat_name(place, long(stack.alloc, name));
+    stack.put_pat(pat)
 }
 
 fn qualified(stack: &mut Stack, place: Place) -> Result<(), Failure>
@@ -382,7 +385,8 @@ fn list(stack: &mut Stack, place: Place, expander: &Expander) -> Result<(), Fail
 {
     stack.skip();
     let pats = stack.pats();
-    stack.put_pat(list_pat(expander, place, pats)?)
+    let pat = list_pat(expander, place, pats)?;
+    stack.put_pat(pat)
 }
 
 /// No patterns before a closing bracket.
@@ -401,8 +405,8 @@ fn pats(stack: &mut Stack) -> Result<(), Failure>
     ensures { let vs = seen stack.old in Puts (of_pats (and_pat (pat_in (at vs 0)) (pats_in (at vs 1)))) 2 vs (seen stack.new) result }
 {
     let pat = stack.pat();
-    let pats = stack.pats();
-    stack.put_pats(and_pat(pat, pats)?)
+    let pats = and_pat(pat, stack.pats())?;
+    stack.put_pats(pats)
 }
 
 /// The same behind a comma.
@@ -413,11 +417,11 @@ fn more_pats(stack: &mut Stack) -> Result<(), Failure>
     pats(stack)
 }
 
-fn no_fields(alloc: Global, flexible: bool) -> Phrase
-    ensures { phrase_of result ≡ of_pat_fields no_pat_field flexible }
+fn no_fields(stack: &mut Stack, flexible: bool) -> Result<(), Failure>
+    ensures { Puts (of_pat_fields no_pat_field flexible) 0 (seen stack.old) (seen stack.new) result }
 {
     let fields = LowPatFields {
-        trees: Vec::new(alloc),
+        trees: Vec::new(stack.alloc),
         height: 0,
     };
     stack.put_pat_fields(fields, flexible)
@@ -428,7 +432,7 @@ fn end_of_fields(stack: &mut Stack, flexible: bool) -> Result<(), Failure>
     ensures { Puts (of_pat_fields no_pat_field flexible) 1 (seen stack.old) (seen stack.new) result }
 {
     stack.skip();
-    no_fields(stack.alloc, flexible)
+    no_fields(stack, flexible)
 }
 
 /// The first of two parts.
@@ -437,23 +441,17 @@ fn first_of_two(stack: &mut Stack) -> Result<(), Failure>
 {
     let first = stack.pop();
     stack.skip();
-    first
-}
-
-/// The second of two parts.
-fn second_of_two(stack: &mut Stack) -> Result<(), Failure>
-    ensures { Puts (at (seen stack.old) 1) 2 (seen stack.old) (seen stack.new) result }
-{
-    stack.skip();
-    stack.pop()
+    stack.push(first)?;
+    Ok(())
 }
 
 /// A field before those of a phrase.
-fn with_field(alloc: Global, label: Name, pat: LowPat, rest: Phrase) -> Result<Phrase, Memory>
-    ensures { IfOk result (λ v. phrase_of v ≡ and_field (name_of label) (low_pat_of pat) (phrase_of rest)) }
+fn with_field(stack: &mut Stack, label: Name, pat: LowPat, rest: Phrase) -> Result<(), Failure>
+    ensures { Puts (and_field (name_of label) (low_pat_of pat) (phrase_of rest)) 0 (seen stack.old) (seen stack.new) result }
 {
-    let (fields, flexible) = fields_in(alloc, rest);
-    stack.put_pat_fields(and_field(label, pat, fields)?, flexible)
+    let (fields, flexible) = fields_in(stack.alloc, rest);
+    let fields = and_field(label, pat, fields)?;
+    stack.put_pat_fields(fields, flexible)
 }
 
 /// A field with a numeral as its label.
@@ -464,7 +462,7 @@ fn numeral_field(stack: &mut Stack) -> Result<(), Failure>
     stack.skip();
     let pat = stack.pat();
     let rest = stack.pop();
-    Ok(with_field(stack.alloc, label, pat, rest)?)
+    with_field(stack, label, pat, rest)
 }
 
 /// A field with an identifier as its label.
@@ -476,7 +474,8 @@ fn vid_field(stack: &mut Stack) -> Result<(), Failure>
     let (fields, flexible) = fields_in(stack.alloc, stack.pop());
     let label = copy_of(&name)?;
     let pat = field_pat(stack.alloc, name, rest)?;
-    stack.put_pat_fields(and_field(label, pat, fields)?, flexible)
+    let fields = and_field(label, pat, fields)?;
+    stack.put_pat_fields(fields, flexible)
 }
 
 /// A pattern behind a word.
@@ -484,7 +483,8 @@ fn behind_word(stack: &mut Stack) -> Result<(), Failure>
     ensures { Puts (of_pat (pat_in (at (seen stack.old) 1))) 2 (seen stack.old) (seen stack.new) result }
 {
     stack.skip();
-    stack.put_pat(stack.pat())
+    let pat = stack.pat();
+    stack.put_pat(pat)
 }
 
 /// Perhaps a type, and perhaps a pattern behind `as`.
@@ -496,11 +496,11 @@ fn layer(stack: &mut Stack) -> Result<(), Failure>
     stack.put_layer(ty, pat)
 }
 
-fn no_types(alloc: Global) -> Phrase
-    ensures { phrase_of result ≡ of_tys no_ty }
+fn no_types(stack: &mut Stack) -> Result<(), Failure>
+    ensures { Puts (of_tys no_ty) 0 (seen stack.old) (seen stack.new) result }
 {
     stack.put_tys(LowTys {
-        trees: Vec::new(alloc),
+        trees: Vec::new(stack.alloc),
         height: 0,
     })
 }
@@ -517,28 +517,28 @@ pub fn pattern_phrase(
 {
     match rule {
         PatternRule::PatOpenRound => from_round(stack, place, shape, expander),
-        PatternRule::PatBarePat => Ok(stack.pop()),
+        PatternRule::PatBarePat => stack.put_first(),
         PatternRule::BarePatVid => vid(stack, place, shape, expander),
         PatternRule::BarePatOp => op(stack, place, shape, expander),
         PatternRule::BarePatOtherAtPat => from_other(stack, shape, expander),
         PatternRule::OpPatVid => op_vid(stack),
         PatternRule::OpPatQualified => op_qualified(stack),
-        PatternRule::AfterVidNone => Ok(no_atoms(expander.alloc)),
-        PatternRule::AfterVidAs => Ok(behind_as(stack)),
+        PatternRule::AfterVidNone => no_atoms(stack),
+        PatternRule::AfterVidAs => behind_as(stack),
         PatternRule::AfterVidColon => vid_colon(stack),
         PatternRule::AfterVidAtPat => more_atoms(stack),
-        PatternRule::AfterVidTyNone => Ok(no_types(expander.alloc)),
-        PatternRule::AfterVidTyAs => Ok(behind_as(stack)),
+        PatternRule::AfterVidTyNone => no_types(stack),
+        PatternRule::AfterVidTyAs => behind_as(stack),
         PatternRule::AfterVidTyColon => colons(stack),
-        PatternRule::AtPatMoreNone => Ok(no_atoms(expander.alloc)),
+        PatternRule::AtPatMoreNone => no_atoms(stack),
         PatternRule::AtPatMoreAtPat => more_atoms(stack),
         PatternRule::AtPatMoreColon => atom_colons(stack),
         PatternRule::AtPatOpenRound => round(stack, place),
-        PatternRule::AtPatBareAtPat => Ok(stack.pop()),
+        PatternRule::AtPatBareAtPat => stack.put_first(),
         PatternRule::BareAtPatVid => name(stack, place),
         PatternRule::BareAtPatOp => op_name(stack, place),
-        PatternRule::BareAtPatOtherAtPat => Ok(stack.pop()),
-        PatternRule::OtherAtPatWildcard => Ok(wildcard(stack, place)),
+        PatternRule::BareAtPatOtherAtPat => stack.put_first(),
+        PatternRule::OtherAtPatWildcard => wildcard(stack, place),
         PatternRule::OtherAtPatConstant => constant(stack, place),
         PatternRule::OtherAtPatQualified => qualified(stack, place),
         PatternRule::OtherAtPatOpenCurly => row(stack, place),
@@ -551,16 +551,16 @@ pub fn pattern_phrase(
         PatternRule::PatListPat => pats(stack),
         PatternRule::PatListMoreCloseSquare => no_pats(stack),
         PatternRule::PatListMoreComma => more_pats(stack),
-        PatternRule::PatRowCloseCurly => Ok(end_of_fields(stack, false)),
-        PatternRule::PatRowRow => Ok(first_of_two(stack)),
-        PatternRule::RowDots => Ok(end_of_fields(stack, true)),
+        PatternRule::PatRowCloseCurly => end_of_fields(stack, false),
+        PatternRule::PatRowRow => first_of_two(stack),
+        PatternRule::RowDots => end_of_fields(stack, true),
         PatternRule::RowNumeral => numeral_field(stack),
         PatternRule::RowVid => vid_field(stack),
-        PatternRule::RowRestEquals => Ok(behind_word(stack)),
-        PatternRule::RowRestTyped => Ok(layer(stack)),
+        PatternRule::RowRestEquals => behind_word(stack),
+        PatternRule::RowRestTyped => layer(stack),
         PatternRule::RowAsNone => stack.put_nothing(),
-        PatternRule::RowAsAs => Ok(behind_word(stack)),
-        PatternRule::RowMoreNone => Ok(no_fields(expander.alloc, false)),
-        PatternRule::RowMoreComma => Ok(second_of_two(stack)),
+        PatternRule::RowAsAs => behind_word(stack),
+        PatternRule::RowMoreNone => no_fields(stack, false),
+        PatternRule::RowMoreComma => stack.put_behind_word(),
     }
 }

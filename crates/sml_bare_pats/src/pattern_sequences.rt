@@ -10,7 +10,7 @@ ghost use Rattle.sml_bare_pats.specs.PatternSequences.{pat_place, no_operand, op
 ghost use Rattle.sml_bare_pats.specs.PatternRules.{round_pat};
 ghost use Rattle.sml_bare_pats.specs.LowViews.{GivesPat, building_of, low_pat_of, low_pats_of, low_tys_of};
 ghost use Rattle.sml_phrases.specs.PhraseHeights.{low};
-ghost use Rattle.sml_phrases.specs.PhraseViews.{Puts, Gives};
+ghost use Rattle.sml_phrases.specs.PhraseViews.{Gives};
 ghost use Rattle.sml_fixity.specs.Shapes.{shape_of};
 
 use crate::low_lists::and_pat;

@@ -7,7 +7,7 @@ ghost use Rattle.sml_tree.specs.TypeViews.{name_of, long_name_of};
 ghost use Rattle.sml_tree.specs.Types.{ty_variable, ty_row, ty_tuple, ty_constructor, no_ty, and_ty, ty_field, no_ty_field, and_ty_field};
 ghost use Rattle.sml_bare_pats.specs.LowViews.{GivesTy, low_ty_of, low_tys_of, low_ty_fields_of};
 ghost use Rattle.sml_phrases.specs.Phrases.{nothing, of_names, of_longs, of_ty, of_tys, of_ty_fields, of_arguments, at, name_in, names_in, long_in, longs_in, ty_in, tys_in, ty_fields_in, ty_if_any};
-ghost use Rattle.sml_phrases.specs.PhraseViews.{Puts, Makes, phrase_of, seen};
+ghost use Rattle.sml_phrases.specs.PhraseViews.{Puts, phrase_of, seen};
 ghost use Rattle.sml_bare_pats.specs.TypeRules.{arrow, product, constructed, round_ty, and_argument, type_phrase};
 
 use crate::low_lists::{and_ty, ty_trees};
@@ -46,7 +46,8 @@ fn second(stack: &mut Stack) -> Result<(), Failure>
     ensures { Puts (of_ty (ty_in (at (seen stack.old) 1))) 2 (seen stack.old) (seen stack.new) result }
 {
     stack.skip();
-    stack.put_ty(stack.ty())
+    let ty = stack.ty();
+    stack.put_ty(ty)
 }
 
 /// Two or more types between stars.
@@ -76,7 +77,8 @@ fn tuple(stack: &mut Stack, place: Place) -> Result<(), Failure>
 {
     let first = stack.ty();
     let others = stack.tys();
-    stack.put_ty(product(stack.alloc, place, first, others)?)
+    let ty = product(stack.alloc, place, first, others)?;
+    stack.put_ty(ty)
 }
 
 /// One type more behind a star.
@@ -85,8 +87,8 @@ fn more_types(stack: &mut Stack) -> Result<(), Failure>
 {
     stack.skip();
     let ty = stack.ty();
-    let types = stack.tys();
-    stack.put_tys(and_ty(ty, types)?)
+    let types = and_ty(ty, stack.tys())?;
+    stack.put_tys(types)
 }
 
 /// A type constructor behind one argument.
@@ -124,7 +126,8 @@ fn application(stack: &mut Stack, place: Place) -> Result<(), Failure>
 {
     let ty = stack.ty();
     let constructors = stack.longs();
-    stack.put_ty(constructed(stack.alloc, place, ty, constructors)?)
+    let ty = constructed(stack.alloc, place, ty, constructors)?;
+    stack.put_ty(ty)
 }
 
 /// One type constructor more.
@@ -198,7 +201,8 @@ fn round(stack: &mut Stack, place: Place) -> Result<(), Failure>
     stack.skip();
     let ty = stack.ty();
     let rest = stack.pop();
-    stack.put_ty(round_ty(stack.alloc, place, ty, rest)?)
+    let ty = round_ty(stack.alloc, place, ty, rest)?;
+    stack.put_ty(ty)
 }
 
 /// A field before others.
@@ -212,6 +216,7 @@ fn and_field(label: Name, ty: LowTy, fields: LowTyFields) -> Result<LowTyFields,
 }
 
 /// A label, its type, and further fields.
+#[tactic(auto, using(sml_phrases::proofs::Drops::four_off))]
 fn fields(stack: &mut Stack) -> Result<(), Failure>
     ensures { let vs = seen stack.old in Puts (of_ty_fields (and_ty_field (ty_field (name_in (at vs 0)) (ty_in (at vs 2))) (ty_fields_in (at vs 3)))) 4 vs (seen stack.new) result }
 {
@@ -219,7 +224,8 @@ fn fields(stack: &mut Stack) -> Result<(), Failure>
     stack.skip();
     let ty = stack.ty();
     let others = stack.ty_fields();
-    stack.put_ty_fields(and_field(label, ty, others)?)
+    let all = and_field(label, ty, others)?;
+    stack.put_ty_fields(all)
 }
 
 /// The same behind a comma.
@@ -241,8 +247,8 @@ fn no_fields(stack: &mut Stack) -> Result<(), Failure>
     })
 }
 
-fn and_argument(ty: LowTy, rest: Phrase) -> Result<Phrase, Failure>
-    ensures { Makes (and_argument (low_ty_of ty) (phrase_of rest)) result }
+fn and_argument(stack: &mut Stack, ty: LowTy, rest: Phrase) -> Result<(), Failure>
+    ensures { Puts (and_argument (low_ty_of ty) (phrase_of rest)) 0 (seen stack.old) (seen stack.new) result }
 {
     match rest {
         Phrase::Types(TypePhrase::Arguments(others, constructor)) => {
@@ -262,7 +268,7 @@ fn more_arguments(stack: &mut Stack) -> Result<(), Failure>
     stack.skip();
     let ty = stack.ty();
     let rest = stack.pop();
-    and_argument(ty, rest)
+    and_argument(stack, ty, rest)
 }
 
 /// The type constructor behind types in round brackets.
@@ -288,14 +294,23 @@ fn one_variable(stack: &mut Stack) -> Result<(), Failure>
     stack.put_names(names)
 }
 
-/// One type variable more, behind a bracket or a comma.
-fn more_variables(stack: &mut Stack) -> Result<(), Failure>
-    ensures { let vs = seen stack.old in Puts (of_names (name_in (at vs 1) ∷ names_in (at vs 2))) 3 vs (seen stack.new) result }
+/// A type variable behind a bracket or a comma, and those behind it.
+fn variables(stack: &mut Stack) -> Result<Vec<Name>, Memory>
+    ensures names { let vs = seen stack.old in IfOk result (λ names. map name_of (reverse names.items) ≡ name_in (at vs 1) ∷ names_in (at vs 2)) }
+    ensures rest { OnOk result (seen stack.new ≡ drop 3 (seen stack.old)) }
 {
     stack.skip();
     let name = stack.name()?;
     let mut names = stack.names();
     names.push(name)?;
+    Ok(names)
+}
+
+/// One type variable more behind a comma.
+fn more_variables(stack: &mut Stack) -> Result<(), Failure>
+    ensures { let vs = seen stack.old in Puts (of_names (name_in (at vs 1) ∷ names_in (at vs 2))) 3 vs (seen stack.new) result }
+{
+    let names = variables(stack)?;
     stack.put_names(names)
 }
 
@@ -303,9 +318,9 @@ fn more_variables(stack: &mut Stack) -> Result<(), Failure>
 fn some_variables(stack: &mut Stack) -> Result<(), Failure>
     ensures { let vs = seen stack.old in Puts (of_names (name_in (at vs 1) ∷ names_in (at vs 2))) 4 vs (seen stack.new) result }
 {
-    let names = more_variables(stack)?;
+    let names = variables(stack)?;
     stack.skip();
-    Ok(names)
+    stack.put_names(names)
 }
 
 /// What stands in round brackets behind one type: nothing.
@@ -328,7 +343,7 @@ pub fn type_phrase(
     match rule {
         TypeRule::TyTup => arrow(stack, place),
         TypeRule::TyArrowNone => stack.put_nothing(),
-        TypeRule::TyArrowArrow => Ok(second(stack)),
+        TypeRule::TyArrowArrow => second(stack),
         TypeRule::TupCon => tuple(stack, place),
         TypeRule::TupMoreNone => stack.put_tys(LowTys {
             trees: Vec::new(expander.alloc),
@@ -351,7 +366,7 @@ pub fn type_phrase(
         TypeRule::TyRoundMoreCloseRound => no_arguments(stack),
         TypeRule::TyRoundMoreComma => more_arguments(stack),
         TypeRule::TvsNone => stack.put_names(Vec::new(expander.alloc)),
-        TypeRule::TvsSomeTvs => Ok(stack.pop()),
+        TypeRule::TvsSomeTvs => stack.put_first(),
         TypeRule::SomeTvsTypeVariable => one_variable(stack),
         TypeRule::SomeTvsOpenRound => some_variables(stack),
         TypeRule::TvsMoreNone => stack.put_names(Vec::new(expander.alloc)),

@@ -4,11 +4,12 @@ use Rattle.sml_tree.specs.Expressions.{and_bind}
 use Rattle.sml_tree.specs.ExpressionViews.{bind_of, binds_of}
 use Rattle.sml_tree.specs.Clauses.{clause_of}
 use Rattle.sml_phrases.specs.Phrases.{of_functions}
+use Rattle.sml_phrases.specs.PhraseViews.{seen}
 use Rattle.sml_fixity.specs.Shapes.{shape_of}
 use Rattle.sml_bare_pats.specs.PatternRules.{round_pat}
 use Rattle.sml_bare_decs.specs.FunctionRules.{function_from}
 use Rattle.sml_bare_decs.specs.FunctionViews.{low_pats_of, right_side_of}
-use Rattle.sml_bare_decs.proofs.Clauses.{round_function_high, phrase_fails}
+use Rattle.sml_bare_decs.proofs.Clauses.{round_function_high, put_fails}
 use Rattle.sml_bare_decs.proofs.function_rules.round_function.Goals as goal
 
 pub returns-in_err-first : goal.returns-in_err-first
@@ -17,5 +18,5 @@ returns-in_err-first c =
     let q = round_pat c.args.place (low_pats_of c.args.inner) in
     let cs = map clause_of (reverse c.args.others.trees.items) in
     let bs = binds_of (map bind_of (reverse c.args.binds.trees.items)) in
-    phrase_fails q (of_functions [] (and_bind (function_from shape c.args.place q (right_side_of c.args.right) cs) bs)) c.in_err-first.field-0.0 c.from_residual.result c.in_err-first.ensures c.from_residual.ensures.1
+    put_fails q (of_functions [] (and_bind (function_from shape c.args.place q (right_side_of c.args.right) cs) bs)) 0 (seen c.args.stack.now) _ c.in_err-first.field-0.0 c.from_residual.result c.in_err-first.ensures c.from_residual.ensures.1
     (round_function_high shape c.args.place q (right_side_of c.args.right) cs bs)

@@ -1,4 +1,4 @@
-use Rattle.std.proofs.Common.{◌∙◌, sym}
+use Rattle.std.proofs.Common.{◌∙◌}
 use Rattle.sml_bare_pats.specs.LowViews.{low_ty_of}
 use Rattle.sml_bare_pats.proofs.TypeChains.{product-others}
 use Rattle.sml_bare_pats.proofs.type_rules.product.Goals as goal

@@ -2,7 +2,7 @@
 use Rattle.std.proofs.Common.{◌≡◌, List, [], ◌∷◌, ◌++◌, map, max, reverse, refl, ap, ◌∙◌, arith}
 use Rattle.std.proofs.lemmas.List.{reverse-append, map-append}
 use Rattle.sml_lex.specs.declared.fault.Place.{Place}
-use Rattle.sml_tree.specs.Heights.{spec_height, specs_height}
+use Rattle.sml_tree.specs.Heights.{specs_height}
 use Rattle.sml_tree.specs.Signatures.{Spec, Specs, no_spec, and_spec}
 use Rattle.sml_tree.specs.SignatureViews.{spec_of, specs_of}
 use Rattle.sml_tree.specs.declared.signatures.Spec as Program

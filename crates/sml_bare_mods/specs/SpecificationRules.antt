@@ -4,8 +4,8 @@
 use Rattle.std.specs.Prelude.{List, [], ◌∷◌}
 use Rattle.sml_lex.specs.declared.fault.Place.{Place}
 use Rattle.sml_tree.specs.Names.{Name}
-use Rattle.sml_tree.specs.Expressions.{ConBind, DatBind}
-use Rattle.sml_tree.specs.Signatures.{Spec, Specs, StrDescs, SigExp, ValDesc, val_spec, type_spec, eqtype_spec, datatype_spec, copy_spec, exception_spec, structure_spec, include_spec, sharing_types, sharing_structures, sig_end, sig_name, no_spec, and_spec, str_desc, no_str_desc, and_str_desc}
+use Rattle.sml_tree.specs.Expressions.{DatBind}
+use Rattle.sml_tree.specs.Signatures.{Spec, StrDescs, val_spec, type_spec, eqtype_spec, datatype_spec, copy_spec, exception_spec, structure_spec, include_spec, sharing_types, sharing_structures, sig_end, sig_name, no_spec, and_spec, str_desc, no_str_desc, and_str_desc}
 use Rattle.sml_read.specs.declared.grammar.SpecificationRule.{SpecificationRule}
 use Rattle.sml_read.specs.declared.grammar.SpecificationRule.TheVariants as R
 use Rattle.sml_derived.specs.Derived.{type_specs, includes, where_types}

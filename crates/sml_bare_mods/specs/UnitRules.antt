@@ -2,7 +2,7 @@
 -- other, make of their parts (the Definition, sections 2.8 and 3.4): one line a rule, with the place of the phrase and
 -- all phrases from its first part on. The rules of the program's beginning and of what stands behind a top-level
 -- declaration are no part of a declaration, and make nothing.
-use Rattle.std.specs.Prelude.{List, []}
+use Rattle.std.specs.Prelude.{List}
 use Rattle.sml_lex.specs.declared.fault.Place.{Place}
 use Rattle.sml_tree.specs.Expressions.{no_dec, and_dec}
 use Rattle.sml_tree.specs.Signatures.{Specs, no_spec, and_spec}

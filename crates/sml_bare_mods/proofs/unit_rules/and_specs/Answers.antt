@@ -1,5 +1,4 @@
-use Rattle.std.proofs.Common.{◌≡◌, ap, arith, map, max, reverse, rules, ◌∙◌}
-use Rattle.sml_tree.specs.Heights.{specs_height}
+use Rattle.std.proofs.Common.{arith}
 use Rattle.sml_bare_mods.proofs.Reversed.{specs_joined, joined_height}
 use Rattle.sml_bare_mods.proofs.unit_rules.and_specs.Goals as goal
 

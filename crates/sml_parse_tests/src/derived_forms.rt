@@ -1,11 +1,25 @@
 //! Each derived form with its bare tree as text, worked out by hand from the table of derived forms (the Definition,
 //! appendix A). A hidden variable is shown as it is: a space, then its number. A form that stands on a line of its own
-//! has its columns there.
+//! has its columns there. The forms that the parser doesn't make by a call of their own are made by the calls too.
 
 pub mod show;
 
-use show::expect_all;
+use show::{Shown, expect_all, show_dec, show_pat, show_sig, show_str};
+use sml_derived::expander::Expander;
 use sml_derived::laws::{hidden_differ, no_source_spells_hidden};
+use sml_lex::fault::{Memory, Place};
+use sml_lex::lexer::lex;
+use sml_parse::parse::parse;
+use sml_tree::bare::{Ident, LongIdent};
+use sml_tree::expressions::Dec;
+use sml_tree::names::Name;
+use sml_tree::patterns::Pat;
+use sml_tree::signatures::{SigExp, WhereType};
+use sml_tree::structures::{Ascription, StrDec, StrExp, TopDec};
+use sml_tree::types::Ty;
+use std::alloc::Global;
+use std::process::Abort;
+use std::rc::Rc;
 use std::test::Fail;
 
 #[test]
@@ -65,7 +79,7 @@ fn patterns(rt: HostRuntime) -> Result<(), Fail> {
 }
 
 #[test]
-fn functions_and_types(rt: HostRuntime) -> Result<(), Fail> {
+fn functions(rt: HostRuntime) -> Result<(), Fail> {
     expect_all(
         &rt,
         &[
@@ -76,10 +90,6 @@ fn functions_and_types(rt: HostRuntime) -> Result<(), Fail> {
             (
                 "fun f p q : t = a | f r s = b",
                 "1val rec 5f=5fn|5 5 1=>5fn|5 5 2=>5<5[5fn|5 5(7p,9q,)=>517a:13()t|21 21(23r,25s,)=>29b] 5(5 1,5 2,)>; ",
-            ),
-            (
-                "datatype d = A of u t | B of t withtype 'a t = 'a -> u and u = d",
-                "1{1datatype d|A of 48<64()d->54()u>|B of 30!()t; 1type 'a t=48<48'a->54()u>; u=64()d; }",
             ),
         ],
     )
@@ -110,4 +120,189 @@ fn modules(rt: HostRuntime) -> Result<(), Fail> {
             ),
         ],
     )
+}
+
+fn at(column: u32) -> Place {
+    Place { line: 1, column }
+}
+
+fn ident(alloc: Global, text: &str) -> Result<Ident, Memory> {
+    Ok(Rc::new(alloc, Vec::from_slice(alloc, text.as_bytes())?)?)
+}
+
+fn name(alloc: Global, column: u32, text: &str) -> Result<Name, Memory> {
+    Ok(Name {
+        place: at(column),
+        ident: ident(alloc, text)?,
+    })
+}
+
+fn long(alloc: Global, column: u32, text: &str) -> Result<LongIdent, Memory> {
+    Ok(LongIdent {
+        place: at(column),
+        path: Vec::new(alloc),
+        last: ident(alloc, text)?,
+    })
+}
+
+fn ty(alloc: Global, column: u32, text: &str) -> Result<Ty, Memory> {
+    Ok(Ty::Constructor(at(column), Vec::new(alloc), long(alloc, column, text)?))
+}
+
+fn sig(alloc: Global, column: u32, text: &str) -> Result<SigExp, Memory> {
+    Ok(SigExp::Identifier(at(column), ident(alloc, text)?))
+}
+
+fn structure_exp(alloc: Global) -> Result<StrExp, Memory> {
+    Ok(StrExp::Identifier(long(alloc, 20, "E")?))
+}
+
+/// The type `t` at a column, or none at 0.
+fn some_ty(alloc: Global, column: u32) -> Result<Option<Ty>, Memory> {
+    if column == 0 {
+        return Ok(None);
+    }
+    Ok(Some(ty(alloc, column, "t")?))
+}
+
+/// The pattern `p` at a column, or none at 0.
+fn some_pat(alloc: Global, column: u32) -> Result<Option<Pat>, Memory> {
+    if column == 0 {
+        return Ok(None);
+    }
+    Ok(Some(Pat::Identifier(at(column), long(alloc, column, "p")?)))
+}
+
+/// `x` at 2 in a row, with a type and a pattern.
+fn pun_of(alloc: Global, ty_column: u32, pat_column: u32) -> Result<String, Memory> {
+    let forms = Expander::new(alloc)?;
+    let ty = some_ty(alloc, ty_column)?;
+    let pat = some_pat(alloc, pat_column)?;
+    let field = forms.pun(name(alloc, 2, "x")?, ty, pat)?;
+    let mut shown = Shown::new(alloc);
+    show_pat(&mut shown, &field.pat)?;
+    Ok(shown.text)
+}
+
+fn expect_puns(
+    rt: &(impl Abort + AllocGlobal),
+    rows: &[(&str, u32, u32, &str)],
+) -> Result<(), Fail> {
+    for (form, ty_column, pat_column, expected) in rows {
+        let text = pun_of(rt.alloc(), *ty_column, *pat_column)?;
+        assert_eq!(rt; text.as_str(), *expected, "{form}");
+    }
+    Ok(())
+}
+
+// each with the columns of `t` and `p`
+#[test]
+fn puns_by_call(rt: HostRuntime) -> Result<(), Fail> {
+    expect_puns(
+        &rt,
+        &[
+            ("{x}", 0, 0, "2x"),
+            ("{x : t}", 6, 0, "22x:6()t"),
+            ("{x as p}", 0, 7, "2x as 7p"),
+            ("{x : t as p}", 6, 11, "2x:6()t as 11p"),
+        ],
+    )
+}
+
+fn structure_of(alloc: Global) -> Result<String, Memory> {
+    let forms = Expander::new(alloc)?;
+    let bind = forms.structure(
+        name(alloc, 3, "A")?,
+        Ascription::Opaque,
+        sig(alloc, 8, "S")?,
+        structure_exp(alloc)?,
+    )?;
+    let mut shown = Shown::new(alloc);
+    show_str(&mut shown, &bind.body)?;
+    Ok(shown.text)
+}
+
+fn functor_of(alloc: Global) -> Result<String, Memory> {
+    let forms = Expander::new(alloc)?;
+    let bind = forms.functor(
+        name(alloc, 3, "F")?,
+        name(alloc, 6, "X")?,
+        sig(alloc, 8, "S")?,
+        Ascription::Transparent,
+        sig(alloc, 12, "R")?,
+        structure_exp(alloc)?,
+    )?;
+    let mut shown = Shown::new(alloc);
+    show_str(&mut shown, &bind.body)?;
+    Ok(shown.text)
+}
+
+// `A :> S = E` and `F (X : S) : R = E`
+#[test]
+fn seals_by_call(rt: HostRuntime) -> Result<(), Fail> {
+    let text = structure_of(rt.alloc())?;
+    assert_eq!(rt; text.as_str(), "3E:>8S");
+    let text = functor_of(rt.alloc())?;
+    assert_eq!(rt; text.as_str(), "3E:12R");
+    Ok(())
+}
+
+/// A type constructor with the type `a`, four columns behind it.
+fn equation(alloc: Global, column: u32, text: &str) -> Result<WhereType, Memory> {
+    Ok(WhereType {
+        variables: Vec::new(alloc),
+        constructor: long(alloc, column, text)?,
+        ty: ty(alloc, column.saturating_add(4), "a")?,
+    })
+}
+
+fn equations_of(alloc: Global) -> Result<String, Memory> {
+    let forms = Expander::new(alloc)?;
+    let mut equations = Vec::new(alloc);
+    equations.push(equation(alloc, 14, "t")?)?;
+    equations.push(equation(alloc, 29, "u")?)?;
+    let whole = forms.where_types(at(1), sig(alloc, 1, "S")?, equations)?;
+    let mut shown = Shown::new(alloc);
+    show_sig(&mut shown, &whole)?;
+    Ok(shown.text)
+}
+
+// `S where type t = a and type u = a`
+#[test]
+fn type_equations_by_call(rt: HostRuntime) -> Result<(), Fail> {
+    let text = equations_of(rt.alloc())?;
+    assert_eq!(rt; text.as_str(), "111S where t=18()a where u=33()a");
+    Ok(())
+}
+
+/// A declaration of datatypes and types, as the derived form has it.
+fn expanded(alloc: Global, top: TopDec) -> Result<Option<Dec>, Memory> {
+    let forms = Expander::new(alloc)?;
+    match top {
+        TopDec::Structure(StrDec::Core(Dec::DatatypeWith(place, datatypes, types))) => {
+            Ok(Some(forms.datatypes_with_types(place, datatypes, types)?))
+        }
+        _ => Ok(None),
+    }
+}
+
+fn behind_datatypes(alloc: Global, unit: &str) -> Result<String, Memory> {
+    let mut declarations = parse(alloc, &lex(alloc, unit.as_bytes())?)?.declarations;
+    let mut shown = Shown::new(alloc);
+    if let Some(top) = declarations.pop() {
+        if let Some(dec) = expanded(alloc, top)? {
+            show_dec(&mut shown, &dec)?;
+        }
+    }
+    Ok(shown.text)
+}
+
+#[test]
+fn types_behind_datatypes(rt: HostRuntime) -> Result<(), Fail> {
+    let unit = "datatype d = A of u t | B of t withtype 'a t = 'a -> u and u = d";
+    let text = behind_datatypes(rt.alloc(), unit)?;
+    let expected =
+        "1{1datatype d|A of 48<64()d->54()u>|B of 30!()t; 1type 'a t=48<48'a->54()u>; u=64()d; }";
+    assert_eq!(rt; text.as_str(), expected);
+    Ok(())
 }

@@ -41,8 +41,8 @@ fn add_place(text: &mut String, place: Place) -> Result<(), Memory> {
 
 /// The same as a row says. No fault has a detail.
 fn expected_of(alloc: Global, unit: &[u8], row: &Row) -> Result<String, Memory> {
-    let (_, _, _, _, whole, stop) = *row;
-    let (code, at) = stop;
+    let whole = row.4;
+    let (code, at) = row.5;
     let mut text = format!(in alloc; "{whole} {whole}")?;
     if !code.is_empty() {
         add_place(&mut text, place_between(unit, 0, at))?;
@@ -61,7 +61,9 @@ fn add(unit: &mut Vec<u8>, text: &str, count: usize) -> Result<(), Memory> {
 fn expect(rt: &(impl Abort + AllocGlobal), unit: &[u8], row: &Row) -> Result<(), Fail> {
     let found = found_of(rt.alloc(), unit)?;
     let expected = expected_of(rt.alloc(), unit, row)?;
-    let (first, text, count, ..) = *row;
+    let first = row.0;
+    let text = row.1;
+    let count = row.2;
     assert_eq!(rt;
         found.as_str(),
         expected.as_str(),
@@ -204,7 +206,7 @@ fn many_directives(rt: HostRuntime) -> Result<(), Fail> {
             50_000,
             "in val x = a end",
             1,
-            None,
+            none,
         )],
     )?;
     expect_nested(

@@ -15,11 +15,17 @@ use std::process::Abort;
 use std::test::Fail;
 
 #[derive(Drop)]
-struct Shown {
-    text: String,
+pub struct Shown {
+    pub text: String,
 }
 
 impl Shown {
+    pub fn new(alloc: Global) -> Shown {
+        Shown {
+            text: String::new(alloc),
+        }
+    }
+
     fn put(&mut self, text: &str) -> Result<(), Memory> {
         self.text.push_str(text)?;
         Ok(())
@@ -96,7 +102,7 @@ fn show_tys(shown: &mut Shown, tys: &[Ty]) -> Result<(), Memory> {
     shown.put(")")
 }
 
-fn show_pat(shown: &mut Shown, pat: &Pat) -> Result<(), Memory> {
+pub fn show_pat(shown: &mut Shown, pat: &Pat) -> Result<(), Memory> {
     match pat {
         Pat::Wildcard(place) => {
             shown.place(*place)?;
@@ -229,7 +235,7 @@ fn show_bind(shown: &mut Shown, bind: &ValBind) -> Result<(), Memory> {
 }
 
 #[cycle(show_exp)]
-fn show_dec(shown: &mut Shown, dec: &Dec) -> Result<(), Memory> {
+pub fn show_dec(shown: &mut Shown, dec: &Dec) -> Result<(), Memory> {
     match dec {
         Dec::Value(place, _, binds, recursive) => {
             shown.place(*place)?;
@@ -314,7 +320,7 @@ fn show_equation(shown: &mut Shown, equation: &WhereType) -> Result<(), Memory> 
 }
 
 #[cycle(show_sig)]
-fn show_sig(shown: &mut Shown, signature: &SigExp) -> Result<(), Memory> {
+pub fn show_sig(shown: &mut Shown, signature: &SigExp) -> Result<(), Memory> {
     match signature {
         SigExp::Specs(place, specs) => {
             shown.place(*place)?;
@@ -363,7 +369,7 @@ fn show_spec(shown: &mut Shown, spec: &Spec) -> Result<(), Memory> {
 }
 
 #[cycle(show_str)]
-fn show_str(shown: &mut Shown, structure: &StrExp) -> Result<(), Memory> {
+pub fn show_str(shown: &mut Shown, structure: &StrExp) -> Result<(), Memory> {
     match structure {
         StrExp::Decs(place, decs) => {
             shown.place(*place)?;
@@ -456,9 +462,7 @@ fn show_top(shown: &mut Shown, top: &TopDec) -> Result<(), Memory> {
 /// The whole declarations of a unit, as text.
 fn shown_of(alloc: Global, unit: &[u8]) -> Result<String, Memory> {
     let parsed = parse(alloc, &lex(alloc, unit)?)?;
-    let mut shown = Shown {
-        text: String::new(alloc),
-    };
+    let mut shown = Shown::new(alloc);
     for top in &parsed.declarations {
         show_top(&mut shown, top)?;
     }

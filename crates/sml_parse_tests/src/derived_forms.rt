@@ -33,7 +33,7 @@ fn expressions(rt: HostRuntime) -> Result<(), Fail> {
     expect_all(
         &rt,
         &[
-            ("   ()", "4val 4it=4(); "),
+            ("()", "1val 1it=1(); "),
             ("#l", "1val 1it=1fn|1 1{l=1 0,...}=>1 0; "),
             ("case e of x => y", "1val 1it=1<1[1fn|11 11x=>16y] 6e>; "),
             (
@@ -41,12 +41,12 @@ fn expressions(rt: HostRuntime) -> Result<(), Fail> {
                 "1val 1it=1<1[1fn|1 1true=>11a|1 1false=>18b] 4e>; ",
             ),
             (
-                "  a orelse b",
-                "3val 3it=3<3[3fn|3 3true=>3true|3 3false=>12b] 3a>; ",
+                "a orelse b",
+                "1val 1it=1<1[1fn|1 1true=>1true|1 1false=>10b] 1a>; ",
             ),
             (
-                "  a andalso b",
-                "3val 3it=3<3[3fn|3 3true=>13b|3 3false=>3false] 3a>; ",
+                "a andalso b",
+                "1val 1it=1<1[1fn|1 1true=>11b|1 1false=>1false] 1a>; ",
             ),
             ("(a; b)", "1val 1it=1<1[1fn|1 1_=>5b] 2a>; "),
             (

@@ -36,11 +36,11 @@ fn the_highest_part_counts(rt: HostRuntime) -> Result<(), Fail> {
         &rt,
         &[
             (
-                "structure x = struct val x = ((x)) end and x = struct val x = x end",
+                "structure x = struct val x = ((x)) end and y = struct val x = x end",
                 "6;",
             ),
             (
-                "structure x = struct infix a infix a infix a infix a infix a infix a infix a val x = ((x)) end and x = struct infix a infix a infix a infix a infix a infix a infix a val x = x end",
+                "structure x = struct infix a infix a infix a infix a infix a infix a infix a val x = ((x)) end and y = struct infix a infix a infix a infix a infix a infix a infix a val x = x end",
                 "6;",
             ),
         ],

@@ -1,5 +1,5 @@
-// Tests of the crates from sml_derived to sml_parse. They stand apart: a crate with tests is proved twice, and its wrong
-// bodies wait for its tests.
+// Tests of the crates from sml_derived to sml_parse, and of sml_tree and sml_patterns, whose trees are written as units.
+// They stand apart: a crate with tests is proved twice, and its wrong bodies wait for its tests.
 #![tactic(auto)]
 
 #[cfg(test)]
@@ -7,6 +7,12 @@ mod derived_forms;
 #[cfg(test)]
 mod flaws;
 #[cfg(test)]
+mod heights;
+#[cfg(test)]
+mod sizes;
+#[cfg(test)]
 mod trees;
+#[cfg(test)]
+mod warnings;
 #[cfg(test)]
 mod whole_forms;

@@ -2,43 +2,65 @@
 
 use sml_lex::constants::{character, integer, string, word};
 use sml_lex::fault::Memory;
+use std::process::Abort;
 
-#[test]
-fn numbers(rt: HostRuntime) {
-    for (text, value) in [
-        ("12", Some(12)),
-        ("~12", Some(-12)),
-        ("~0", Some(0)),
-        ("0x1f", Some(31)),
-        ("~0xA", Some(-10)),
-        ("9223372036854775807", Some(i64::MAX)),
-        ("~9223372036854775808", None),
-    ] {
-        assert_eq!(rt; integer(text.as_bytes()), value, "{text}");
+fn expect_integers(rt: &impl Abort, rows: &[(&str, Option<i64>)]) {
+    for (text, value) in rows {
+        assert_eq!(rt; integer(text.as_bytes()), *value, "{text}");
     }
-    for (text, value) in [
-        ("0w12", Some(12)),
-        ("0wxFF", Some(255)),
-        ("0w18446744073709551615", Some(u64::MAX)),
-        ("0wx10000000000000000", None),
-    ] {
-        assert_eq!(rt; word(text.as_bytes()), value, "{text}");
+}
+
+fn expect_words(rt: &impl Abort, rows: &[(&str, Option<u64>)]) {
+    for (text, value) in rows {
+        assert_eq!(rt; word(text.as_bytes()), *value, "{text}");
+    }
+}
+
+fn expect_characters(rt: &impl Abort, rows: &[(&str, Option<u8>)]) {
+    for (text, value) in rows {
+        assert_eq!(rt; character(text.as_bytes()), *value, "{text}");
     }
 }
 
 #[test]
+fn numbers(rt: HostRuntime) {
+    expect_integers(
+        &rt,
+        &[
+            ("12", Some(12)),
+            ("~12", Some(-12)),
+            ("~0", Some(0)),
+            ("0x1f", Some(31)),
+            ("~0xA", Some(-10)),
+            ("9223372036854775807", Some(i64::MAX)),
+            ("~9223372036854775808", None),
+        ],
+    );
+    expect_words(
+        &rt,
+        &[
+            ("0w12", Some(12)),
+            ("0wxFF", Some(255)),
+            ("0w18446744073709551615", Some(u64::MAX)),
+            ("0wx10000000000000000", None),
+        ],
+    );
+}
+
+#[test]
 fn characters(rt: HostRuntime) {
-    for (text, value) in [
-        (r##"#"a""##, Some(97)),
-        (r##"#"\n""##, Some(10)),
-        (r##"#"\^@""##, Some(0)),
-        (r##"#"\255""##, Some(255)),
-        (r##"#"\u00e9""##, Some(233)),
-        (r##"#"ab""##, None),
-        (r##"#"a" "##, None),
-    ] {
-        assert_eq!(rt; character(text.as_bytes()), value, "{text}");
-    }
+    expect_characters(
+        &rt,
+        &[
+            (r##"#"a""##, Some(97)),
+            (r##"#"\n""##, Some(10)),
+            (r##"#"\^@""##, Some(0)),
+            (r##"#"\255""##, Some(255)),
+            (r##"#"\u00e9""##, Some(233)),
+            (r##"#"ab""##, None),
+            (r##"#"a" "##, None),
+        ],
+    );
 }
 
 #[test]

@@ -58,35 +58,66 @@ fn is_among(mask: &[u8], number: usize) -> bool {
     }
 }
 
-/// Demands the answers to a text's beginnings, with each kind behind them.
-fn expect_marks(rt: &impl Abort, alloc: Global, text: &str, marks: &str) -> Result<(), Memory> {
-    let lexed = lex(alloc, text.as_bytes())?;
-    let kinds = kinds(alloc, &lexed.tokens)?;
-    let mut beginning = Vec::new(alloc);
-    for (count, mask) in marks.as_bytes().chunks(19).enumerate() {
-        let full = read_kinds(alloc, &beginning, true)?;
-        let cause = if mask.last() == Some(&b'+') {
-            None
-        } else {
-            Some(Cause::TooEarly)
-        };
-        assert_eq!(rt; full.cause, cause, "{count} tokens of {text}");
-        for (number, kind) in all_kinds().iter().enumerate() {
-            let mut longer = Vec::from_slice(alloc, &beginning)?;
-            longer.push(*kind)?;
-            let full = read_kinds(alloc, &longer, true)?;
-            let refused = full.cause == Some(Cause::Unexpected(count));
-            assert_eq!(rt;
-                refused,
-                !is_among(mask, number),
-                "{kind:?} behind {count} tokens of {text}"
-            );
-        }
-        if let Some(kind) = kinds.get(count) {
-            beginning.push(*kind)?;
-        }
+/// Where reading ends, when this kind stands behind the others.
+fn cause_behind(alloc: Global, beginning: &[Kind], kind: Kind) -> Result<Option<Cause>, Memory> {
+    let mut longer = Vec::from_slice(alloc, beginning)?;
+    longer.push(kind)?;
+    Ok(read_kinds(alloc, &longer, true)?.cause)
+}
+
+/// Demands that a beginning of a text is a unit where the mask says so.
+fn expect_cause(
+    rt: &(impl Abort + AllocGlobal),
+    beginning: &[Kind],
+    mask: &[u8],
+    text: &str,
+) -> Result<(), Memory> {
+    let cause = read_kinds(rt.alloc(), beginning, true)?.cause;
+    let expected = if mask.last() == Some(&b'+') {
+        None
+    } else {
+        Some(Cause::TooEarly)
+    };
+    let count = beginning.len();
+    assert_eq!(rt; cause, expected, "{count} tokens of {text}");
+    Ok(())
+}
+
+/// Demands that those kinds may stand behind a beginning of a text that are among the mask.
+fn expect_kinds_behind(
+    rt: &(impl Abort + AllocGlobal),
+    beginning: &[Kind],
+    mask: &[u8],
+    text: &str,
+) -> Result<(), Memory> {
+    let count = beginning.len();
+    for (number, kind) in all_kinds().iter().enumerate() {
+        let cause = cause_behind(rt.alloc(), beginning, *kind)?;
+        let refused = cause == Some(Cause::Unexpected(count));
+        assert_eq!(rt;
+            refused,
+            !is_among(mask, number),
+            "{kind:?} behind {count} tokens of {text}"
+        );
     }
-    assert_eq!(rt; beginning.len(), kinds.len(), "{text}");
+    Ok(())
+}
+
+/// Demands the answers to a text's beginnings, with each kind behind them.
+fn expect_marks(rt: &(impl Abort + AllocGlobal), text: &str, marks: &str) -> Result<(), Memory> {
+    let lexed = lex(rt.alloc(), text.as_bytes())?;
+    let kinds = kinds(rt.alloc(), &lexed.tokens)?;
+    let masks = marks.as_bytes();
+    assert_eq!(rt;
+        masks.len(),
+        kinds.len().saturating_add(1).saturating_mul(19),
+        "{text}"
+    );
+    for (count, mask) in masks.chunks(19).enumerate() {
+        let beginning = &kinds[..count.min(kinds.len())];
+        expect_cause(rt, beginning, mask, text)?;
+        expect_kinds_behind(rt, beginning, mask, text)?;
+    }
     Ok(())
 }
 
@@ -94,64 +125,72 @@ fn expect_marks(rt: &impl Abort, alloc: Global, text: &str, marks: &str) -> Resu
 fn all_forms(rt: HostRuntime) -> Result<(), Fail> {
     for section in 0..SECTIONS {
         for (text, marks) in forms(section) {
-            expect_marks(&rt, rt.alloc(), text, marks)?;
+            expect_marks(&rt, text, marks)?;
         }
+    }
+    Ok(())
+}
+
+/// The number of declarations that were begun, and why reading ended.
+fn end_of(alloc: Global, text: &str, done: bool) -> Result<String, Memory> {
+    let lexed = lex(alloc, text.as_bytes())?;
+    let full = read_kinds(alloc, &kinds(alloc, &lexed.tokens)?, done)?;
+    let begun = full.begun;
+    let cause = full.cause;
+    Ok(format!(in alloc; "{begun} {cause:?}")?)
+}
+
+fn expect_ends(rt: &(impl Abort + AllocGlobal), rows: &[(&str, bool, &str)]) -> Result<(), Fail> {
+    for (text, done, expected) in rows {
+        let found = end_of(rt.alloc(), text, *done)?;
+        assert_eq!(rt; found.as_str(), *expected, "{text}, {done}");
     }
     Ok(())
 }
 
 #[test]
 fn how_units_end(rt: HostRuntime) -> Result<(), Fail> {
-    let alloc = rt.alloc();
-    for (text, done, begun, cause) in [
-        ("", true, 0, None),
-        ("", false, 0, Some(Cause::Lexical)),
-        ("x", true, 1, None),
-        ("x", false, 0, Some(Cause::Lexical)),
-        ("x ;", false, 2, Some(Cause::Lexical)),
-        ("; ;", false, 2, Some(Cause::Lexical)),
-        ("x )", true, 0, Some(Cause::Unexpected(1))),
-        ("x val y = 1", true, 0, Some(Cause::Unexpected(1))),
-        ("x ; y z )", true, 2, Some(Cause::Unexpected(4))),
-        ("val x = 1", false, 0, Some(Cause::Lexical)),
-        ("val x = 1 ;", false, 5, Some(Cause::Lexical)),
-        ("val x = 1 )", true, 4, Some(Cause::Unexpected(4))),
-        ("val x = 1 val", true, 4, Some(Cause::TooEarly)),
-        ("val x = 1 val", false, 4, Some(Cause::Lexical)),
-        ("val x = 1 y", true, 5, None),
-        ("val x = 1 fun f x = 2 ; x", true, 11, None),
-        ("val x = 1 fun f x = 2 ; x", false, 10, Some(Cause::Lexical)),
-        ("open A )", true, 2, Some(Cause::Unexpected(2))),
-        ("structure A = B where", true, 4, Some(Cause::Unexpected(4))),
-        (
-            "signature S = T and type",
-            true,
-            0,
-            Some(Cause::Unexpected(5)),
-        ),
-        ("val x = 1 abstype", true, 4, Some(Cause::Unexpected(4))),
-    ] {
-        let lexed = lex(alloc, text.as_bytes())?;
-        let full = read_kinds(alloc, &kinds(alloc, &lexed.tokens)?, done)?;
-        assert_eq!(rt; full.begun, begun, "{text}");
-        assert_eq!(rt; full.cause, cause, "{text}");
-    }
-    Ok(())
+    expect_ends(
+        &rt,
+        &[
+            ("", true, "0 None"),
+            ("", false, "0 Some(Lexical)"),
+            ("x", true, "1 None"),
+            ("x", false, "0 Some(Lexical)"),
+            ("x ;", false, "2 Some(Lexical)"),
+            ("; ;", false, "2 Some(Lexical)"),
+            ("x )", true, "0 Some(Unexpected(1))"),
+            ("x val y = 1", true, "0 Some(Unexpected(1))"),
+            ("x ; y z )", true, "2 Some(Unexpected(4))"),
+            ("val x = 1", false, "0 Some(Lexical)"),
+            ("val x = 1 ;", false, "5 Some(Lexical)"),
+            ("val x = 1 )", true, "4 Some(Unexpected(4))"),
+            ("val x = 1 val", true, "4 Some(TooEarly)"),
+            ("val x = 1 val", false, "4 Some(Lexical)"),
+            ("val x = 1 y", true, "5 None"),
+            ("val x = 1 fun f x = 2 ; x", true, "11 None"),
+            ("val x = 1 fun f x = 2 ; x", false, "10 Some(Lexical)"),
+            ("open A )", true, "2 Some(Unexpected(2))"),
+            ("structure A = B where", true, "4 Some(Unexpected(4))"),
+            ("signature S = T and type", true, "0 Some(Unexpected(5))"),
+            ("val x = 1 abstype", true, "4 Some(Unexpected(4))"),
+        ],
+    )
 }
 
+/// Where the phrases of a unit begin and end, by its nodes.
+fn extents_of(alloc: Global, unit: &[u8]) -> Result<String, Memory> {
+    let full = read(alloc, &lex(alloc, unit)?)?;
+    let starts = starts(alloc, &full.nodes)?;
+    let ends = ends(alloc, &full.nodes)?;
+    Ok(format!(in alloc; "{:?} {:?}", starts.as_slice(), ends.as_slice())?)
+}
+
+// what is left of the unit isn't there, so the first node's phrase ends with the nodes
 #[test]
 fn extents(rt: HostRuntime) -> Result<(), Fail> {
-    let alloc = rt.alloc();
-    let full = read(alloc, &lex(alloc, b"open A B")?)?;
-    // what is left of the unit isn't there, so the first node's phrase ends with the nodes
-    assert_eq!(rt; full.nodes.len(), 11);
-    assert_eq!(rt;
-        starts(alloc, &full.nodes)?.as_slice(),
-        [0, 0, 0, 0, 0, 1, 1, 2, 2, 2, 3].as_slice()
-    );
-    assert_eq!(rt;
-        ends(alloc, &full.nodes)?.as_slice(),
-        [11, 11, 11, 11, 5, 7, 7, 11, 10, 10, 11].as_slice()
-    );
+    let found = extents_of(rt.alloc(), b"open A B")?;
+    let expected = "[0, 0, 0, 0, 0, 1, 1, 2, 2, 2, 3] [11, 11, 11, 11, 5, 7, 7, 11, 10, 10, 11]";
+    assert_eq!(rt; found.as_str(), expected);
     Ok(())
 }

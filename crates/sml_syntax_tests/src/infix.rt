@@ -3,199 +3,231 @@
 use sml_fixity::heads::{Head, clause_head};
 use sml_fixity::laws::{head_is_unique, tree_is_unique};
 use sml_fixity::scopes::{Directive, DirectiveFault, Fixities, Fixity, Side};
-use sml_fixity::sequences::{FixFault, Item, Step, resolve, resolve_pattern};
+use sml_fixity::sequences::{FixFault, Item, Operand, Step, resolve, resolve_pattern};
 use sml_lex::fault::Memory;
 use sml_tree::bare::Ident;
-use std::alloc::{AllocError, Global};
+use std::alloc::Global;
+use std::process::Abort;
 use std::rc::Rc;
 use std::test::Fail;
 
-fn ident(alloc: Global, text: &[u8]) -> Result<Ident, AllocError> {
-    Ok(Rc::new(alloc, Vec::from_slice(alloc, text)?)?)
+/// What a sequence is of.
+#[derive(Clone, Copy)]
+enum Phrases {
+    Expressions,
+    Patterns,
 }
 
-/// The items of words: a digit and `(` are phrases, `op` an identifier behind `op`, a text with a dot an identifier
-/// with a path, and any other word a short identifier.
-fn items(alloc: Global, words: &[&[u8]]) -> Result<Vec<Item>, AllocError> {
+fn ident(alloc: Global, text: &str) -> Result<Ident, Memory> {
+    Ok(Rc::new(alloc, Vec::from_slice(alloc, text.as_bytes())?)?)
+}
+
+/// The item of a word: `0` and `(` are phrases, `op` an identifier behind `op`, `S.x` an identifier with a path, and any
+/// other word a short identifier.
+fn item(alloc: Global, word: &str) -> Result<Item, Memory> {
+    match word {
+        "0" | "(" => Ok(Item::Phrase),
+        "op" => Ok(Item::Op),
+        "S.x" => Ok(Item::Long),
+        _ => Ok(Item::Short(ident(alloc, word)?)),
+    }
+}
+
+/// The items of a text's words.
+fn items(alloc: Global, text: &str) -> Result<Vec<Item>, Memory> {
     let mut items = Vec::new(alloc);
-    for word in words {
-        let word = *word;
-        let item = if word == b"0".as_slice() || word == b"(".as_slice() {
-            Item::Phrase
-        } else if word == b"op".as_slice() {
-            Item::Op
-        } else if word == b"S.x".as_slice() {
-            Item::Long
-        } else {
-            Item::Short(ident(alloc, word)?)
-        };
-        items.push(item)?;
+    for word in text.split_whitespace() {
+        items.push(item(alloc, word)?)?;
     }
     Ok(items)
+}
+
+/// The tree of a sequence, or its fault. An empty one has neither, and is in no test.
+fn resolved(
+    alloc: Global,
+    fixities: &Fixities,
+    phrases: Phrases,
+    items: &[Item],
+) -> Result<Operand, FixFault> {
+    if items.len() == 0 {
+        return Err(FixFault::Malformed);
+    }
+    match phrases {
+        Phrases::Expressions => resolve(alloc, fixities, items),
+        Phrases::Patterns => resolve_pattern(alloc, fixities, items),
+    }
+}
+
+/// The same as text.
+fn shown(alloc: Global, found: Result<Operand, FixFault>) -> Result<String, Memory> {
+    match found {
+        Ok(operand) => Ok(format!(in alloc; "{:?}", operand.steps.as_slice())?),
+        Err(fault) => Ok(format!(in alloc; "{fault:?}")?),
+    }
+}
+
+/// Sequences, each with its tree or its fault.
+fn expect_all(
+    rt: &(impl Abort + AllocGlobal),
+    fixities: &Fixities,
+    phrases: Phrases,
+    rows: &[(&str, &str)],
+) -> Result<(), Fail> {
+    for (text, expected) in rows {
+        let items = items(rt.alloc(), text)?;
+        let found = shown(rt.alloc(), resolved(rt.alloc(), fixities, phrases, &items))?;
+        assert_eq!(rt; found.as_str(), *expected, "{text}");
+    }
+    Ok(())
+}
+
+fn one(alloc: Global, name: &str) -> Result<Vec<Ident>, Memory> {
+    let mut names = Vec::new(alloc);
+    names.push(ident(alloc, name)?)?;
+    Ok(names)
 }
 
 fn direct(
     alloc: Global,
     fixities: &mut Fixities,
     directive: Directive,
-    level: &[u8],
-    name: &[u8],
+    level: &str,
+    name: &str,
 ) -> Result<(), DirectiveFault> {
-    let mut names = Vec::new(alloc);
-    match ident(alloc, name) {
-        Ok(name) => match names.push(name) {
-            Ok(()) => fixities.with(directive, level, names.as_slice()),
-            Err(_) => Err(DirectiveFault::Memory),
-        },
-        Err(_) => Err(DirectiveFault::Memory),
-    }
+    let names = one(alloc, name)?;
+    fixities.with(directive, level.as_bytes(), &names)
 }
 
-// 1 - 2 - 3 * 4
 #[test]
 fn levels_and_sides(rt: HostRuntime) -> Result<(), Fail> {
-    let alloc = rt.alloc();
-    let fixities = Fixities::initial(alloc)?;
-    let sequence = items(alloc, &[b"0", b"-", b"0", b"-", b"0", b"*", b"0"])?;
-    assert!(rt; sequence.len() > 0);
-    let operand = resolve(alloc, &fixities, sequence.as_slice())?;
-    let expected = [
-        Step::Push(0),
-        Step::Push(2),
-        Step::Combine(1),
-        Step::Push(4),
-        Step::Push(6),
-        Step::Combine(5),
-        Step::Combine(3),
-    ];
-    assert_eq!(rt; operand.steps.as_slice(), expected.as_slice());
-    Ok(())
+    let fixities = Fixities::initial(rt.alloc())?;
+    expect_all(
+        &rt,
+        &fixities,
+        Phrases::Expressions,
+        &[(
+            "0 - 0 - 0 * 0",
+            "[Push(0), Push(2), Combine(1), Push(4), Push(6), Combine(5), Combine(3)]",
+        )],
+    )
 }
 
-// f x :: op S.x :: nil
 #[test]
 fn applications_are_tightest(rt: HostRuntime) -> Result<(), Fail> {
-    let alloc = rt.alloc();
-    let fixities = Fixities::initial(alloc)?;
-    let sequence = items(alloc, &[b"f", b"x", b"::", b"op", b"S.x", b"::", b"nil"])?;
-    assert!(rt; sequence.len() > 0);
-    let operand = resolve(alloc, &fixities, sequence.as_slice())?;
-    let expected = [
-        Step::Push(0),
-        Step::Push(1),
-        Step::Apply,
-        Step::Push(3),
-        Step::Push(4),
-        Step::Apply,
-        Step::Push(6),
-        Step::Combine(5),
-        Step::Combine(2),
-    ];
-    assert_eq!(rt; operand.steps.as_slice(), expected.as_slice());
-    Ok(())
-}
-
-fn fault_of(
-    rt: &HostRuntime,
-    fixities: &Fixities,
-    words: &[&[u8]],
-) -> Result<Option<FixFault>, Fail> {
-    let sequence = items(rt.alloc(), words)?;
-    if sequence.len() == 0 {
-        return Ok(None);
-    }
-    match resolve(rt.alloc(), fixities, sequence.as_slice()) {
-        Ok(_) => Ok(None),
-        Err(fault) => Ok(Some(fault)),
-    }
+    let fixities = Fixities::initial(rt.alloc())?;
+    expect_all(
+        &rt,
+        &fixities,
+        Phrases::Expressions,
+        &[(
+            "f x :: op S.x :: nil",
+            "[Push(0), Push(1), Apply, Push(3), Push(4), Apply, Push(6), Combine(5), Combine(2)]",
+        )],
+    )
 }
 
 #[test]
 fn operators_without_operands(rt: HostRuntime) -> Result<(), Fail> {
     let fixities = Fixities::initial(rt.alloc())?;
-    let first = fault_of(&rt, &fixities, &[b"=", b"0"])?;
-    assert_eq!(rt; first, Some(FixFault::NoOperand(0)));
-    let last = fault_of(&rt, &fixities, &[b"0", b"="])?;
-    assert_eq!(rt; last, Some(FixFault::NoOperand(1)));
-    let alone = fault_of(&rt, &fixities, &[b"="])?;
-    assert_eq!(rt; alone, Some(FixFault::NoOperand(0)));
-    let twice = fault_of(&rt, &fixities, &[b"0", b"+", b"+", b"0"])?;
-    assert_eq!(rt; twice, Some(FixFault::NoOperand(2)));
-    Ok(())
+    expect_all(
+        &rt,
+        &fixities,
+        Phrases::Expressions,
+        &[
+            ("= 0", "NoOperand(0)"),
+            ("0 =", "NoOperand(1)"),
+            ("=", "NoOperand(0)"),
+            ("0 + + 0", "NoOperand(2)"),
+        ],
+    )
 }
 
 // infixr 6 ++
 #[test]
 fn mixed_sides(rt: HostRuntime) -> Result<(), Fail> {
-    let alloc = rt.alloc();
-    let mut fixities = Fixities::initial(alloc)?;
-    let done = direct(alloc, &mut fixities, Directive::Infixr, b"6", b"++");
-    assert!(rt; done.is_ok());
-    let mixed = fault_of(&rt, &fixities, &[b"0", b"+", b"0", b"++", b"0"])?;
-    assert_eq!(rt; mixed, Some(FixFault::MixedSides(3)));
-    // a looser operator between the two
-    let apart = fault_of(&rt, &fixities, &[b"0", b"+", b"0", b"=", b"0", b"++", b"0"])?;
-    assert_eq!(rt; apart, None);
-    // a tighter operator between the two
-    let near = fault_of(&rt, &fixities, &[b"0", b"+", b"0", b"*", b"0", b"++", b"0"])?;
-    assert_eq!(rt; near, Some(FixFault::MixedSides(5)));
-    // the earliest fault, of either kind
-    let both = fault_of(&rt, &fixities, &[b"0", b"+", b"0", b"++", b"0", b"++"])?;
-    assert_eq!(rt; both, Some(FixFault::MixedSides(3)));
-    let stray = fault_of(&rt, &fixities, &[b"0", b"+", b"+", b"0", b"++", b"0"])?;
-    assert_eq!(rt; stray, Some(FixFault::NoOperand(2)));
+    let mut fixities = Fixities::initial(rt.alloc())?;
+    let done = direct(rt.alloc(), &mut fixities, Directive::Infixr, "6", "++");
+    assert_eq!(rt; done, Ok(()));
+    expect_all(
+        &rt,
+        &fixities,
+        Phrases::Expressions,
+        &[
+            ("0 + 0 ++ 0", "MixedSides(3)"),
+            // a looser operator between the two
+            (
+                "0 + 0 = 0 ++ 0",
+                "[Push(0), Push(2), Combine(1), Push(4), Push(6), Combine(5), Combine(3)]",
+            ),
+            // a tighter operator between the two
+            ("0 + 0 * 0 ++ 0", "MixedSides(5)"),
+            // the earliest fault, of either kind
+            ("0 + 0 ++ 0 ++", "MixedSides(3)"),
+            ("0 + + 0 ++ 0", "NoOperand(2)"),
+        ],
+    )
+}
+
+/// What a directive for an identifier answers, and the identifier's fixity then.
+fn directed(
+    alloc: Global,
+    fixities: &mut Fixities,
+    directive: Directive,
+    level: &str,
+    name: &str,
+) -> Result<String, Memory> {
+    let done = direct(alloc, fixities, directive, level, name);
+    let after = fixities.lookup(&ident(alloc, name)?);
+    Ok(format!(in alloc; "{done:?} {after:?}")?)
+}
+
+/// Directives in a row for an identifier, each with its level, its answer and the fixity then.
+fn expect_directed(
+    rt: &(impl Abort + AllocGlobal),
+    fixities: &mut Fixities,
+    name: &str,
+    rows: &[(Directive, &str, &str)],
+) -> Result<(), Fail> {
+    for (directive, level, expected) in rows {
+        let found = directed(rt.alloc(), fixities, *directive, level, name)?;
+        assert_eq!(rt; found.as_str(), *expected, "{level} {name}");
+    }
     Ok(())
 }
 
 #[test]
 fn levels_are_one_digit(rt: HostRuntime) -> Result<(), Fail> {
-    let alloc = rt.alloc();
-    let mut fixities = Fixities::initial(alloc)?;
-    let sharps = ident(alloc, b"##")?;
-    let wide = direct(alloc, &mut fixities, Directive::Infix, b"12", b"##");
-    assert_eq!(rt; wide, Err(DirectiveFault::Level));
-    assert_eq!(rt; fixities.lookup(&sharps), None);
-    let none = direct(alloc, &mut fixities, Directive::Infixr, b"", b"##");
-    assert_eq!(rt; none, Ok(()));
-    let loosest = Fixity {
-        level: 0,
-        side: Side::Right,
-    };
-    assert_eq!(rt; fixities.lookup(&sharps), Some(loosest));
-    let off = direct(alloc, &mut fixities, Directive::Nonfix, b"", b"##");
-    assert_eq!(rt; off, Ok(()));
-    assert_eq!(rt; fixities.lookup(&sharps), None);
+    let mut fixities = Fixities::initial(rt.alloc())?;
+    expect_directed(
+        &rt,
+        &mut fixities,
+        "##",
+        &[
+            (Directive::Infix, "12", "Err(Level) None"),
+            (
+                Directive::Infixr,
+                "",
+                "Ok(()) Some(Fixity { level: 0, side: Right })",
+            ),
+            (Directive::Nonfix, "", "Ok(()) None"),
+        ],
+    )
+}
+
+/// A scope with two directives and a head, from its beginning to its end.
+fn in_a_scope(rt: &(impl Abort + AllocGlobal), fixities: &mut Fixities) -> Result<(), Fail> {
+    fixities.enter()?;
+    let five = "Ok(()) Some(Fixity { level: 5, side: Left })";
+    expect_directed(rt, fixities, "##", &[(Directive::Infix, "5", five)])?;
+    expect_directed(rt, fixities, "+", &[(Directive::Nonfix, "", "Ok(()) None")])?;
+    expect_heads(rt, fixities, &[("a ## b", "", "Ok(Infix)")])?;
+    fixities.leave()?;
     Ok(())
 }
 
-// struct infix 5 ## fun a ## b = a end, and then 1 ## 2
-#[test]
-fn scopes_end(rt: HostRuntime) -> Result<(), Fail> {
-    let alloc = rt.alloc();
-    let mut fixities = Fixities::initial(alloc)?;
-    fixities.enter()?;
-    let done = direct(alloc, &mut fixities, Directive::Infix, b"5", b"##");
-    assert_eq!(rt; done, Ok(()));
-    let off = direct(alloc, &mut fixities, Directive::Nonfix, b"", b"+");
-    assert_eq!(rt; off, Ok(()));
-    let head = items(alloc, &[b"a", b"##", b"b"])?;
-    assert_eq!(rt;
-        clause_head(&fixities, head.as_slice(), &[]),
-        Ok(Head::Infix)
-    );
-    fixities.leave()?;
-    let row = items(alloc, &[b"0", b"##", b"0"])?;
-    assert!(rt; row.len() > 0);
-    let operand = resolve(alloc, &fixities, row.as_slice())?;
-    let expected = [
-        Step::Push(0),
-        Step::Push(1),
-        Step::Apply,
-        Step::Push(2),
-        Step::Apply,
-    ];
-    assert_eq!(rt; operand.steps.as_slice(), expected.as_slice());
-    let plus = ident(alloc, b"+")?;
+/// That `+` is as at the beginning.
+fn expect_plus(rt: &(impl Abort + AllocGlobal), fixities: &Fixities) -> Result<(), Fail> {
+    let plus = ident(rt.alloc(), "+")?;
     let six = Fixity {
         level: 6,
         side: Side::Left,
@@ -204,74 +236,86 @@ fn scopes_end(rt: HostRuntime) -> Result<(), Fail> {
     Ok(())
 }
 
-fn pattern_fault(
-    rt: &HostRuntime,
-    fixities: &Fixities,
-    words: &[&[u8]],
-) -> Result<Option<FixFault>, Fail> {
-    let sequence = items(rt.alloc(), words)?;
-    if sequence.len() == 0 {
-        return Ok(None);
-    }
-    match resolve_pattern(rt.alloc(), fixities, sequence.as_slice()) {
-        Ok(_) => Ok(None),
-        Err(fault) => Ok(Some(fault)),
-    }
+// struct infix 5 ## nonfix + fun a ## b = a end, and then 1 ## 2
+#[test]
+fn scopes_end(rt: HostRuntime) -> Result<(), Fail> {
+    let mut fixities = Fixities::initial(rt.alloc())?;
+    in_a_scope(&rt, &mut fixities)?;
+    expect_plus(&rt, &fixities)?;
+    expect_all(
+        &rt,
+        &fixities,
+        Phrases::Expressions,
+        &[("0 ## 0", "[Push(0), Push(1), Apply, Push(2), Apply]")],
+    )
 }
 
 #[test]
 fn patterns(rt: HostRuntime) -> Result<(), Fail> {
     let fixities = Fixities::initial(rt.alloc())?;
-    let applied = pattern_fault(&rt, &fixities, &[b"SOME", b"x", b"::", b"S.x", b"0"])?;
-    assert_eq!(rt; applied, None);
-    let constant = pattern_fault(&rt, &fixities, &[b"0", b"x"])?;
-    assert_eq!(rt; constant, Some(FixFault::Malformed));
-    let three = pattern_fault(&rt, &fixities, &[b"f", b"x", b"y"])?;
-    assert_eq!(rt; three, Some(FixFault::Malformed));
-    // operators are looked at first
-    let operator = pattern_fault(&rt, &fixities, &[b"0", b"x", b"::"])?;
-    assert_eq!(rt; operator, Some(FixFault::NoOperand(2)));
+    expect_all(
+        &rt,
+        &fixities,
+        Phrases::Patterns,
+        &[
+            (
+                "SOME x :: S.x 0",
+                "[Push(0), Push(1), Apply, Push(3), Push(4), Apply, Combine(2)]",
+            ),
+            ("0 x", "Malformed"),
+            ("f x y", "Malformed"),
+            // operators are looked at first
+            ("0 x ::", "NoOperand(2)"),
+        ],
+    )
+}
+
+/// How a sequence is a head.
+fn head_of(
+    alloc: Global,
+    fixities: &Fixities,
+    text: &str,
+    bracketed: &str,
+) -> Result<String, Memory> {
+    let head = clause_head(fixities, &items(alloc, text)?, &items(alloc, bracketed)?);
+    Ok(format!(in alloc; "{head:?}")?)
+}
+
+/// Heads, each with the items of its first item, where that is in brackets, and the answer.
+fn expect_heads(
+    rt: &(impl Abort + AllocGlobal),
+    fixities: &Fixities,
+    rows: &[(&str, &str, &str)],
+) -> Result<(), Fail> {
+    for (text, bracketed, expected) in rows {
+        let found = head_of(rt.alloc(), fixities, text, bracketed)?;
+        assert_eq!(rt; found.as_str(), *expected, "{text}, {bracketed}");
+    }
     Ok(())
 }
 
 #[test]
 fn heads(rt: HostRuntime) -> Result<(), Fail> {
-    let alloc = rt.alloc();
-    let fixities = Fixities::initial(alloc)?;
-    let malformed = Err(FixFault::Malformed);
-    let prefix = items(alloc, &[b"f", b"0", b"("])?;
-    assert_eq!(rt;
-        clause_head(&fixities, prefix.as_slice(), &[]),
-        Ok(Head::Prefix)
-    );
-    let quoted = items(alloc, &[b"op", b"x"])?;
-    assert_eq!(rt;
-        clause_head(&fixities, quoted.as_slice(), &[]),
-        Ok(Head::Prefix)
-    );
-    let infix = items(alloc, &[b"x", b"::", b"y"])?;
-    assert_eq!(rt;
-        clause_head(&fixities, infix.as_slice(), &[]),
-        Ok(Head::Infix)
-    );
-    let bracket = items(alloc, &[b"(", b"z"])?;
-    let bracketed = clause_head(&fixities, bracket.as_slice(), infix.as_slice());
-    assert_eq!(rt; bracketed, Ok(Head::Bracketed));
-    let unbracketed = clause_head(&fixities, bracket.as_slice(), prefix.as_slice());
-    assert_eq!(rt; unbracketed, malformed);
-    let operator = items(alloc, &[b"::", b"x"])?;
-    assert_eq!(rt; clause_head(&fixities, operator.as_slice(), &[]), malformed);
-    let chain = items(alloc, &[b"x", b"::", b"y", b"z"])?;
-    assert_eq!(rt; clause_head(&fixities, chain.as_slice(), &[]), malformed);
-    let long = items(alloc, &[b"S.x", b"x"])?;
-    assert_eq!(rt; clause_head(&fixities, long.as_slice(), &[]), malformed);
-    let alone = items(alloc, &[b"f"])?;
-    assert_eq!(rt; clause_head(&fixities, alone.as_slice(), &[]), malformed);
-    assert_eq!(rt; clause_head(&fixities, &[], &[]), malformed);
-    Ok(())
+    let fixities = Fixities::initial(rt.alloc())?;
+    expect_heads(
+        &rt,
+        &fixities,
+        &[
+            ("f 0 (", "", "Ok(Prefix)"),
+            ("op x", "", "Ok(Prefix)"),
+            ("x :: y", "", "Ok(Infix)"),
+            ("( z", "x :: y", "Ok(Bracketed)"),
+            ("( z", "f 0 (", "Err(Malformed)"),
+            (":: x", "", "Err(Malformed)"),
+            ("x :: y z", "", "Err(Malformed)"),
+            ("S.x x", "", "Err(Malformed)"),
+            ("f", "", "Err(Malformed)"),
+            ("", "", "Err(Malformed)"),
+        ],
+    )
 }
 
-fn chain(alloc: Global, name: &[u8], count: u32) -> Result<Vec<Item>, AllocError> {
+fn chain(alloc: Global, name: &str, count: u32) -> Result<Vec<Item>, Memory> {
     let operator = ident(alloc, name)?;
     let mut items = Vec::new(alloc);
     items.push(Item::Phrase)?;
@@ -282,19 +326,23 @@ fn chain(alloc: Global, name: &[u8], count: u32) -> Result<Vec<Item>, AllocError
     Ok(items)
 }
 
+/// That half a million operators make a tree.
+fn expect_chain(
+    rt: &(impl Abort + AllocGlobal),
+    phrases: Phrases,
+    operator: &str,
+) -> Result<(), Fail> {
+    let fixities = Fixities::initial(rt.alloc())?;
+    let items = chain(rt.alloc(), operator, 500_000)?;
+    let operand = resolved(rt.alloc(), &fixities, phrases, &items)?;
+    assert_eq!(rt; operand.steps.len(), 1_000_001, "{operator}");
+    Ok(())
+}
+
 #[test]
 fn long_chains(rt: HostRuntime) -> Result<(), Fail> {
-    let alloc = rt.alloc();
-    let fixities = Fixities::initial(alloc)?;
-    let leftward = chain(alloc, b"+", 500_000)?;
-    assert!(rt; leftward.len() > 0);
-    let operand = resolve(alloc, &fixities, leftward.as_slice())?;
-    assert_eq!(rt; operand.steps.len(), 1_000_001);
-    let rightward = chain(alloc, b"::", 500_000)?;
-    assert!(rt; rightward.len() > 0);
-    let operand = resolve_pattern(alloc, &fixities, rightward.as_slice())?;
-    assert_eq!(rt; operand.steps.len(), 1_000_001);
-    Ok(())
+    expect_chain(&rt, Phrases::Expressions, "+")?;
+    expect_chain(&rt, Phrases::Patterns, "::")
 }
 
 #[test]
@@ -303,50 +351,58 @@ fn laws_run() {
     head_is_unique();
 }
 
-// `bench/refused` runs this once for each growth of memory, which is refused then
-#[test]
-fn a_refused_growth_is_want_of_memory(rt: HostRuntime) -> Result<(), Fail> {
+/// A tree, or want of memory.
+fn expect_or_memory(rt: &impl Abort, found: Result<Operand, FixFault>, expected: &[Step]) {
+    match found {
+        Ok(operand) => assert_eq!(rt; operand.steps.as_slice(), expected),
+        Err(fault) => assert_eq!(rt; fault, FixFault::Memory),
+    }
+}
+
+/// Calls in a scope, which is left where it was entered.
+fn calls_answer_or_want_memory(
+    rt: &(impl Abort + AllocGlobal),
+    fixities: &mut Fixities,
+    sequence: &[Item],
+    pattern: &[Item],
+) {
     let alloc = rt.alloc();
-    let (Ok(mut fixities), Ok(sequence), Ok(pattern)) = (
-        Fixities::initial(alloc),
-        items(alloc, &[b"0", b"-", b"0", b"*", b"0"]),
-        items(alloc, &[b"f", b"x", b"::", b"y"]),
-    ) else {
-        return Ok(());
-    };
     let entered = fixities.enter();
-    let done = direct(alloc, &mut fixities, Directive::Infix, b"5", b"##");
+    let done = direct(alloc, fixities, Directive::Infix, "5", "##");
     assert_eq!(rt; matches!(&done, Err(DirectiveFault::Level)), false);
-    assert!(rt; sequence.len() > 0);
-    match resolve(alloc, &fixities, sequence.as_slice()) {
-        Ok(operand) => {
-            let expected = [
-                Step::Push(0),
-                Step::Push(2),
-                Step::Push(4),
-                Step::Combine(3),
-                Step::Combine(1),
-            ];
-            assert_eq!(rt; operand.steps.as_slice(), expected.as_slice());
-        }
-        Err(fault) => assert_eq!(rt; fault, FixFault::Memory),
-    }
-    assert!(rt; pattern.len() > 0);
-    match resolve_pattern(alloc, &fixities, pattern.as_slice()) {
-        Ok(operand) => {
-            let expected = [
-                Step::Push(0),
-                Step::Push(1),
-                Step::Apply,
-                Step::Push(3),
-                Step::Combine(2),
-            ];
-            assert_eq!(rt; operand.steps.as_slice(), expected.as_slice());
-        }
-        Err(fault) => assert_eq!(rt; fault, FixFault::Memory),
-    }
+    let found = resolved(alloc, fixities, Phrases::Expressions, sequence);
+    let expected = [
+        Step::Push(0),
+        Step::Push(2),
+        Step::Push(4),
+        Step::Combine(3),
+        Step::Combine(1),
+    ];
+    expect_or_memory(rt, found, expected.as_slice());
+    let found = resolved(alloc, fixities, Phrases::Patterns, pattern);
+    let expected = [
+        Step::Push(0),
+        Step::Push(1),
+        Step::Apply,
+        Step::Push(3),
+        Step::Combine(2),
+    ];
+    expect_or_memory(rt, found, expected.as_slice());
     if entered.is_ok() {
         let _left = fixities.leave();
     }
-    Ok(())
+}
+
+// `bench/refused` runs this once for each growth of memory, which is refused then
+#[test]
+fn a_refused_growth_is_want_of_memory(rt: HostRuntime) {
+    let alloc = rt.alloc();
+    let (Ok(mut fixities), Ok(sequence), Ok(pattern)) = (
+        Fixities::initial(alloc),
+        items(alloc, "0 - 0 * 0"),
+        items(alloc, "f x :: y"),
+    ) else {
+        return;
+    };
+    calls_answer_or_want_memory(&rt, &mut fixities, &sequence, &pattern);
 }

@@ -7,8 +7,6 @@ mod constants;
 #[cfg(test)]
 mod grammar;
 #[cfg(test)]
-mod heights;
-#[cfg(test)]
 mod infix;
 #[cfg(test)]
 mod tokens;

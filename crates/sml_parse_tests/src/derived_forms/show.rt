@@ -1,13 +1,18 @@
 //! Bare trees as text: the column of each phrase, and then its form. Forms that no derived form makes are not shown.
 
 use sml_lex::fault::{Memory, Place};
+use sml_lex::lexer::lex;
+use sml_parse::parse::parse;
 use sml_tree::bare::{Ident, LongIdent};
 use sml_tree::expressions::{Dec, Exp, Rule, TypBind, ValBind};
 use sml_tree::patterns::Pat;
 use sml_tree::signatures::{SigExp, Spec, WhereType};
 use sml_tree::structures::{Ascription, StrDec, StrExp, TopDec};
 use sml_tree::types::Ty;
+use std::alloc::Global;
 use std::fmt::Write;
+use std::process::Abort;
+use std::test::Fail;
 
 #[derive(Drop)]
 pub struct Shown {
@@ -15,7 +20,13 @@ pub struct Shown {
 }
 
 impl Shown {
-    pub fn put(&mut self, text: &str) -> Result<(), Memory> {
+    pub fn new(alloc: Global) -> Shown {
+        Shown {
+            text: String::new(alloc),
+        }
+    }
+
+    fn put(&mut self, text: &str) -> Result<(), Memory> {
         self.text.push_str(text)?;
         Ok(())
     }
@@ -26,7 +37,7 @@ impl Shown {
         Ok(())
     }
 
-    pub fn ident(&mut self, ident: &Ident) -> Result<(), Memory> {
+    fn ident(&mut self, ident: &Ident) -> Result<(), Memory> {
         for byte in ident.as_slice() {
             self.text.push(char::from(*byte))?;
         }
@@ -48,7 +59,7 @@ impl Shown {
 }
 
 #[cycle(show_ty)]
-pub fn show_ty(shown: &mut Shown, ty: &Ty) -> Result<(), Memory> {
+fn show_ty(shown: &mut Shown, ty: &Ty) -> Result<(), Memory> {
     match ty {
         Ty::Variable(place, variable) => {
             shown.place(*place)?;
@@ -150,7 +161,7 @@ pub fn show_pat(shown: &mut Shown, pat: &Pat) -> Result<(), Memory> {
 }
 
 #[cycle(show_exp)]
-pub fn show_exp(shown: &mut Shown, exp: &Exp) -> Result<(), Memory> {
+fn show_exp(shown: &mut Shown, exp: &Exp) -> Result<(), Memory> {
     match exp {
         Exp::Identifier(place, long) => {
             shown.place(*place)?;
@@ -217,7 +228,7 @@ fn show_rules(shown: &mut Shown, rules: &[Rule]) -> Result<(), Memory> {
 }
 
 #[cycle(show_exp)]
-pub fn show_bind(shown: &mut Shown, bind: &ValBind) -> Result<(), Memory> {
+fn show_bind(shown: &mut Shown, bind: &ValBind) -> Result<(), Memory> {
     show_pat(shown, &bind.pat)?;
     shown.put("=")?;
     show_exp(shown, &bind.exp)
@@ -332,7 +343,7 @@ pub fn show_sig(shown: &mut Shown, signature: &SigExp) -> Result<(), Memory> {
 }
 
 #[cycle(show_sig)]
-pub fn show_spec(shown: &mut Shown, spec: &Spec) -> Result<(), Memory> {
+fn show_spec(shown: &mut Shown, spec: &Spec) -> Result<(), Memory> {
     match spec {
         Spec::Type(place, descs) => {
             shown.place(*place)?;
@@ -416,7 +427,7 @@ fn show_str_dec(shown: &mut Shown, dec: &StrDec) -> Result<(), Memory> {
     }
 }
 
-pub fn show_top(shown: &mut Shown, top: &TopDec) -> Result<(), Memory> {
+fn show_top(shown: &mut Shown, top: &TopDec) -> Result<(), Memory> {
     match top {
         TopDec::Structure(dec) => show_str_dec(shown, dec),
         TopDec::Signature(place, binds) => {
@@ -446,4 +457,23 @@ pub fn show_top(shown: &mut Shown, top: &TopDec) -> Result<(), Memory> {
             Ok(())
         }
     }
+}
+
+/// The whole declarations of a unit, as text.
+fn shown_of(alloc: Global, unit: &[u8]) -> Result<String, Memory> {
+    let parsed = parse(alloc, &lex(alloc, unit)?)?;
+    let mut shown = Shown::new(alloc);
+    for top in &parsed.declarations {
+        show_top(&mut shown, top)?;
+    }
+    Ok(shown.text)
+}
+
+/// Units, each with its whole declarations.
+pub fn expect_all(rt: &(impl Abort + AllocGlobal), rows: &[(&str, &str)]) -> Result<(), Fail> {
+    for (unit, expected) in rows {
+        let text = shown_of(rt.alloc(), unit.as_bytes())?;
+        assert_eq!(rt; text.as_str(), *expected, "{unit}");
+    }
+    Ok(())
 }

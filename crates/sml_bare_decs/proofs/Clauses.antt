@@ -148,13 +148,6 @@ put_fails q whole n old new Memory (Err TooHigh) high same fails = search (rules
 put_fails q whole n old new e (Err Memory) high same fails = tt
 put_fails q whole n old new e (Ok x) high same fails = absurd same
 
--- a call that puts a phrase behind what took some others off
-
-pub puts_behind : (v w : Phrase) (n : ℕ) (old mid new : List Phrase) (r : Result Unit Failure) → v ≡ w → mid ≡ drop n old → Puts v 0 mid new r → Puts w n old new r
-puts_behind v w n old mid new (Ok x) e d made = made ∙ ap (λ p. p ∷ mid) e ∙ ap (λ l. w ∷ l) d
-puts_behind v w n old mid new (Err TooHigh) e d made = ap is_low (sym e) ∙ made
-puts_behind v w n old mid new (Err Memory) e d made = tt
-
 -- a clause behind a bar, and others
 
 two_drop : (v : List Phrase) → drop 1 (drop 1 v) ≡ drop 2 v

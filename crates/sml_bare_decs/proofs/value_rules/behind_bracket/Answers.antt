@@ -6,8 +6,8 @@ use Rattle.sml_tree.specs.Expressions.{Exp, ValBinds}
 use Rattle.sml_phrases.specs.Phrases.{Phrase, of_round_values, at, first, pats_in, exp_in}
 use Rattle.sml_phrases.specs.PhraseViews.{seen}
 use Rattle.sml_bare_decs.specs.DeclarationRules.{atoms_in, values_in, round_values}
+use Rattle.sml_phrases.proofs.Answers.{puts_same}
 use Rattle.sml_phrases.proofs.Drops.{three_off, four_off, next_off}
-use Rattle.sml_bare_decs.proofs.Clauses.{puts_behind}
 use Rattle.sml_bare_decs.proofs.value_rules.behind_bracket.Goals as goal
 
 round_made : (v a d e : List Phrase) (rs qs : Pats Place) (ts : Tys Place) (x : Exp Place) (bs recs : ValBinds Place) → a ≡ drop 1 v → d ≡ drop 3 v → e ≡ drop 4 v
@@ -29,7 +29,7 @@ returns c =
     let d = seen c.skip.new.self in
     let e = seen c.exp-exp.new.self in
     let four = four_off v a b d e c.pats-inner.ensures.rest c.pop_atoms-pats.ensures.rest c.skip.ensures c.exp-exp.ensures.rest in
-    puts_behind _ _ 5 v (seen c.pop_values-plain.new.stack) _ c.put_round_values.result
+    puts_same _ _ 5 v (seen c.pop_values-plain.new.stack) _ c.put_round_values.result
     (round_made v a d e _ _ _ _ _ _ c.pats-inner.ensures.rest (three_off v a b d c.pats-inner.ensures.rest c.pop_atoms-pats.ensures.rest c.skip.ensures) four
     c.pats-inner.ensures.value c.pop_atoms-pats.ensures.pats c.pop_atoms-pats.ensures.tys c.exp-exp.ensures.value c.pop_values-plain.ensures.plain c.pop_values-plain.ensures.recursive)
     (next_off 4 v e _ four c.pop_values-plain.ensures.rest)

@@ -6,7 +6,7 @@ ghost use Rattle.sml_tree.specs.ExpressionViews.{exp_of, exps_of, field_of, fiel
 ghost use Rattle.sml_tree.specs.TypeViews.{name_of};
 ghost use Rattle.sml_derived.specs.Derived.{select};
 ghost use Rattle.sml_phrases.specs.Phrases.{of_exp, of_exps, of_series, of_fields, at, name_in, long_in, constant_in, exp_in, exps_in, fields_in, decs_in};
-ghost use Rattle.sml_phrases.specs.PhraseViews.{Puts, Makes, phrase_of, seen};
+ghost use Rattle.sml_phrases.specs.PhraseViews.{Puts, phrase_of, seen};
 ghost use Rattle.sml_bare_exps.specs.ExpressionViews.{GivesExp, low_exp_of};
 ghost use Rattle.sml_bare_exps.specs.ExpressionRules.{series_of, list_of, tuple_of, round_of, round_parts, body_of};
 
@@ -21,18 +21,6 @@ use sml_phrases::stack::Stack;
 use sml_tree::expressions::{Exp, ExpField};
 use sml_tree::names::Name;
 use std::alloc::Global;
-
-pub fn of_exp(exp: LowExp) -> Phrase
-    ensures { phrase_of result ≡ of_exp (low_exp_of exp) }
-{
-    stack.put_exp(exp)
-}
-
-fn of_exps(exps: LowExps) -> Phrase
-    ensures { phrase_of result ≡ of_exps (exps_of (map low_exp_of (reverse exps.trees.items))) }
-{
-    stack.put_exps(exps)
-}
 
 /// Expressions with one more before them.
 fn with(exp: LowExp, exps: LowExps) -> Result<LowExps, Memory>
@@ -49,7 +37,7 @@ pub fn no_exps(stack: &mut Stack) -> Result<(), Failure>
     ensures { Puts (of_exps no_exp) 0 (seen stack.old) (seen stack.new) result }
 {
     let trees = Vec::new(stack.alloc);
-    of_exps(LowExps { trees, height: 0 })
+    stack.put_exps(LowExps { trees, height: 0 })
 }
 
 /// A bracket or a word behind the last expression.
@@ -74,7 +62,8 @@ pub fn taken_exps(stack: &mut Stack) -> Result<LowExps, Memory>
 pub fn first_exps(stack: &mut Stack) -> Result<(), Failure>
     ensures { Puts (let vs = seen stack.old in of_exps (and_exp (exp_in (at vs 0)) (exps_in (at vs 1)))) 2 (seen stack.old) (seen stack.new) result }
 {
-    Ok(of_exps(taken_exps(stack)?))
+    let exps = taken_exps(stack)?;
+    stack.put_exps(exps)
 }
 
 /// A comma or a semicolon, an expression and those behind it.
@@ -94,24 +83,35 @@ pub fn more_series(stack: &mut Stack) -> Result<(), Failure>
     stack.put_series(exps)
 }
 
+/// An expression in round brackets, before what stands behind it.
+fn with_parts(stack: &mut Stack, exp: LowExp, rest: Phrase) -> Result<(), Failure>
+    ensures { Puts (round_parts (low_exp_of exp) (phrase_of rest)) 0 (seen stack.old) (seen stack.new) result }
+{
+    match rest {
+        Phrase::Expressions(ExpressionPhrase::Series(exps)) => {
+            let exps = with(exp, exps)?;
+            stack.put_series(exps)
+        }
+        Phrase::Expressions(ExpressionPhrase::Exps(exps)) => {
+            let exps = with(exp, exps)?;
+            stack.put_exps(exps)
+        }
+        other => {
+            discard(other);
+            let trees = Vec::new(stack.alloc);
+            let exps = with(exp, LowExps { trees, height: 0 })?;
+            stack.put_exps(exps)
+        }
+    }
+}
+
 /// `Exp ExpRoundMore`
 pub fn round_parts(stack: &mut Stack) -> Result<(), Failure>
     ensures { Puts (let vs = seen stack.old in round_parts (exp_in (at vs 0)) (at vs 1)) 2 (seen stack.old) (seen stack.new) result }
 {
     let exp = stack.exp();
-    match stack.pop() {
-        Phrase::Expressions(ExpressionPhrase::Series(exps)) => {
-            let exps = with(exp, exps)?;
-            stack.put_series(exps)
-        }
-        Phrase::Expressions(ExpressionPhrase::Exps(exps)) => Ok(of_exps(with(exp, exps)?)),
-        other => {
-            discard(other);
-            let trees = Vec::new(stack.alloc);
-            let exps = with(exp, LowExps { trees, height: 0 })?;
-            Ok(of_exps(exps))
-        }
-    }
+    let rest = stack.pop();
+    with_parts(stack, exp, rest)
 }
 
 /// `(a; ..; z)`, from expressions that go from the last to the first.
@@ -188,26 +188,29 @@ fn tuple(alloc: Global, place: Place, exps: LowExps) -> Result<LowExp, Failure>
     }
 }
 
+/// What stands in round brackets.
+fn round_exp(expander: &Expander, place: Place, parts: Phrase) -> Result<LowExp, Failure>
+    ensures { GivesExp (round_of place (phrase_of parts)) result }
+{
+    match parts {
+        Phrase::Expressions(ExpressionPhrase::Series(exps)) => series(expander, place, exps.trees),
+        Phrase::Expressions(ExpressionPhrase::Exps(exps)) => tuple(expander.alloc, place, exps),
+        other => {
+            discard(other);
+            let tree = expander.unit(place);
+            Ok(LowExp { tree, height: 1 })
+        }
+    }
+}
+
 /// `( ExpRound`
 pub fn round(expander: &Expander, place: Place, stack: &mut Stack) -> Result<(), Failure>
     ensures { Puts (of_exp (round_of place (at (seen stack.old) 1))) 2 (seen stack.old) (seen stack.new) result }
 {
     stack.skip();
-    match stack.pop() {
-        Phrase::Expressions(ExpressionPhrase::Series(exps)) => Ok(of_exp(series(
-            expander, place, exps.trees,
-        )?)),
-        Phrase::Expressions(ExpressionPhrase::Exps(exps)) => Ok(of_exp(tuple(
-            stack.alloc,
-            place,
-            exps,
-        )?)),
-        other => {
-            discard(other);
-            let tree = expander.unit(place);
-            Ok(of_exp(LowExp { tree, height: 1 }))
-        }
-    }
+    let parts = stack.pop();
+    let exp = round_exp(expander, place, parts)?;
+    stack.put_exp(exp)
 }
 
 /// `[ ExpList`
@@ -216,7 +219,8 @@ pub fn square(expander: &Expander, place: Place, stack: &mut Stack) -> Result<()
 {
     stack.skip();
     let exps = stack.exps();
-    Ok(of_exp(list(expander, place, exps.trees)?))
+    let exp = list(expander, place, exps.trees)?;
+    stack.put_exp(exp)
 }
 
 /// What stands behind `in`: `Exp LetMore`.
@@ -274,7 +278,8 @@ fn local_exp(expander: &Expander, place: Place, stack: &mut Stack) -> Result<Low
 pub fn local(expander: &Expander, place: Place, stack: &mut Stack) -> Result<(), Failure>
     ensures { Puts (let vs = seen stack.old in of_exp (let_in place (decs_in (at vs 1)) (body_of (exp_in (at vs 3)) (exps_in (at vs 4))))) 5 (seen stack.old) (seen stack.new) result }
 {
-    Ok(of_exp(local_exp(expander, place, stack)?))
+    let exp = local_exp(expander, place, stack)?;
+    stack.put_exp(exp)
 }
 
 /// `Constant`
@@ -282,7 +287,7 @@ pub fn constant(place: Place, stack: &mut Stack) -> Result<(), Failure>
     ensures { Puts (of_exp (constant place (constant_in (at (seen stack.old) 0)))) 1 (seen stack.old) (seen stack.new) result }
 {
     let tree = Exp::Constant(place, stack.constant()?);
-    Ok(of_exp(LowExp { tree, height: 1 }))
+    stack.put_exp(LowExp { tree, height: 1 })
 }
 
 /// `ExpVid`
@@ -290,7 +295,7 @@ pub fn identifier(place: Place, stack: &mut Stack) -> Result<(), Failure>
     ensures { Puts (of_exp (name place (long_in (at (seen stack.old) 0)))) 1 (seen stack.old) (seen stack.new) result }
 {
     let tree = Exp::Identifier(place, stack.long()?);
-    Ok(of_exp(LowExp { tree, height: 1 }))
+    stack.put_exp(LowExp { tree, height: 1 })
 }
 
 /// `op ExpVid`
@@ -307,7 +312,8 @@ pub fn selector(expander: &Expander, place: Place, stack: &mut Stack) -> Result<
 {
     stack.skip();
     let label = stack.name()?;
-    Ok(of_exp(low_select(expander, place, label)?))
+    let exp = low_select(expander, place, label)?;
+    stack.put_exp(exp)
 }
 
 /// `{ ExpRow`
@@ -320,7 +326,7 @@ pub fn row(place: Place, stack: &mut Stack) -> Result<(), Failure>
     let mut trees = fields.trees;
     trees.reverse();
     let tree = Exp::Row(place, trees);
-    Ok(of_exp(LowExp { tree, height }))
+    stack.put_exp(LowExp { tree, height })
 }
 
 /// A bracket behind the last field.
@@ -346,6 +352,7 @@ fn with_field(label: Name, exp: LowExp, fields: LowFields) -> Result<LowFields, 
 }
 
 /// `Lab = Exp ExpRowMore`
+#[tactic(auto, using(sml_phrases::proofs::Drops::four_off))]
 pub fn first_fields(stack: &mut Stack) -> Result<(), Failure>
     ensures { Puts (let vs = seen stack.old in of_fields (and_field (field (name_in (at vs 0)) (exp_in (at vs 2))) (fields_in (at vs 3)))) 4 (seen stack.old) (seen stack.new) result }
 {

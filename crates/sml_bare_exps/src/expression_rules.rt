@@ -10,7 +10,7 @@ ghost use Rattle.sml_read.specs.declared.grammar.Rule.TheVariants.{Expressions};
 ghost use Rattle.sml_read.specs.Grammar.{right_side};
 ghost use Rattle.sml_derived.specs.Derived.{case_of, if_of, while_of};
 ghost use Rattle.sml_phrases.specs.Phrases.{of_exp, of_rules, of_tys, at, exp_in, exps_in, exp_if_any, pat_in, rules_in, rules_if_any, ty_in, tys_in};
-ghost use Rattle.sml_phrases.specs.PhraseViews.{Puts, Makes, phrase_of, seen};
+ghost use Rattle.sml_phrases.specs.PhraseViews.{Puts, seen};
 ghost use Rattle.sml_fixity.specs.Shapes.{shape_of};
 ghost use Rattle.sml_bare_exps.specs.ExpressionSequences.{sequence_exp};
 ghost use Rattle.sml_bare_exps.specs.ExpressionViews.{GivesExp, low_exp_of};
@@ -18,8 +18,8 @@ ghost use Rattle.sml_bare_exps.specs.ExpressionRules.{conjunction, disjunction, 
 
 use crate::atom_rules::{
     behind_op, constant, first_exps, first_fields, identifier, last_exp, last_field, local,
-    more_exps, more_fields, more_series, no_exps, of_exp, round, round_parts, row, selector,
-    square, taken_exps,
+    more_exps, more_fields, more_series, no_exps, round, round_parts, row, selector, square,
+    taken_exps,
 };
 use crate::expression_sequences::sequence_exp;
 use crate::low_forms::{low_and_also, low_case, low_conditional, low_or_else, low_repeat};
@@ -27,7 +27,7 @@ use sml_derived::expander::Expander;
 use sml_fixity::shape::Shape;
 use sml_lex::fault::{Memory, Place};
 use sml_phrases::low::{LowExp, LowPat, LowRules, LowTys};
-use sml_phrases::phrase::{ExpressionPhrase, Failure, Phrase, TypePhrase};
+use sml_phrases::phrase::Failure;
 use sml_phrases::raise::raised;
 use sml_phrases::stack::Stack;
 use sml_read::grammar::ExpressionRule;
@@ -118,34 +118,34 @@ fn handled_operands(expander: &Expander, place: Place, stack: &mut Stack) -> Res
 fn handling(expander: &Expander, place: Place, stack: &mut Stack) -> Result<(), Failure>
     ensures { Puts (let vs = seen stack.old in of_exp (handled place (disjunction place (conjunction place (exp_in (at vs 0)) (exp_if_any (at vs 1))) (exp_if_any (at vs 2))) (rules_if_any (at vs 3)))) 4 (seen stack.old) (seen stack.new) result }
 {
-    Ok(of_exp(handled_operands(expander, place, stack)?))
+    let exp = handled_operands(expander, place, stack)?;
+    stack.put_exp(exp)
 }
 
 /// The same, as a phrase.
 fn alternatives(expander: &Expander, place: Place, stack: &mut Stack) -> Result<(), Failure>
     ensures { Puts (let vs = seen stack.old in of_exp (disjunction place (conjunction place (exp_in (at vs 0)) (exp_if_any (at vs 1))) (exp_if_any (at vs 2)))) 3 (seen stack.old) (seen stack.new) result }
 {
-    Ok(of_exp(operands(expander, place, stack)?))
+    let exp = operands(expander, place, stack)?;
+    stack.put_exp(exp)
 }
 
 /// The same, as a phrase.
 fn both(expander: &Expander, place: Place, stack: &mut Stack) -> Result<(), Failure>
     ensures { Puts (let vs = seen stack.old in of_exp (conjunction place (exp_in (at vs 0)) (exp_if_any (at vs 1)))) 2 (seen stack.old) (seen stack.new) result }
 {
-    Ok(of_exp(conjuncts(expander, place, stack)?))
+    let exp = conjuncts(expander, place, stack)?;
+    stack.put_exp(exp)
 }
 
 /// `At AtMore TyMore`
-fn sequence(
-    expander: &Expander,
-    shape: Option<&Shape>,
-    stack: &mut Stack,
-) -> Result<(), Failure>
+fn sequence(expander: &Expander, shape: Option<&Shape>, stack: &mut Stack) -> Result<(), Failure>
     ensures { Puts (let vs = seen stack.old in of_exp (sequence_exp (option_map (λ s. shape_of s.now) shape.entry) (and_exp (exp_in (at vs 0)) (exps_in (at vs 1))) (tys_in (at vs 2)))) 3 (seen stack.old) (seen stack.new) result }
 {
     let exps = taken_exps(stack)?;
     let tys = stack.tys();
-    Ok(of_exp(sequence_exp(expander, shape, exps.trees, tys.trees)?))
+    let exp = sequence_exp(expander, shape, exps.trees, tys.trees)?;
+    stack.put_exp(exp)
 }
 
 /// `: Ty TyMore`
@@ -168,7 +168,7 @@ fn raising(place: Place, stack: &mut Stack) -> Result<(), Failure>
     let exp = stack.exp();
     let height = raised(exp.height, 1)?;
     let tree = Exp::Raise(place, Box::new(stack.alloc, exp.tree)?);
-    Ok(of_exp(LowExp { tree, height }))
+    stack.put_exp(LowExp { tree, height })
 }
 
 /// A word, and the expression behind it.
@@ -217,7 +217,8 @@ fn chosen(expander: &Expander, place: Place, stack: &mut Stack) -> Result<LowExp
 fn conditional(expander: &Expander, place: Place, stack: &mut Stack) -> Result<(), Failure>
     ensures { Puts (let vs = seen stack.old in of_exp (if_of place (exp_in (at vs 1)) (exp_in (at vs 3)) (exp_in (at vs 5)))) 6 (seen stack.old) (seen stack.new) result }
 {
-    Ok(of_exp(chosen(expander, place, stack)?))
+    let exp = chosen(expander, place, stack)?;
+    stack.put_exp(exp)
 }
 
 /// `while Exp do Exp`
@@ -234,7 +235,8 @@ fn repetition(expander: &Expander, place: Place, stack: &mut Stack) -> Result<Lo
 fn repeated(expander: &Expander, place: Place, stack: &mut Stack) -> Result<(), Failure>
     ensures { Puts (let vs = seen stack.old in of_exp (while_of place (exp_in (at vs 1)) (exp_in (at vs 3)))) 4 (seen stack.old) (seen stack.new) result }
 {
-    Ok(of_exp(repetition(expander, place, stack)?))
+    let exp = repetition(expander, place, stack)?;
+    stack.put_exp(exp)
 }
 
 /// `case Exp of Match`
@@ -251,7 +253,8 @@ fn cases(expander: &Expander, place: Place, stack: &mut Stack) -> Result<LowExp,
 fn case(expander: &Expander, place: Place, stack: &mut Stack) -> Result<(), Failure>
     ensures { Puts (let vs = seen stack.old in of_exp (case_of place (exp_in (at vs 1)) (rules_in (at vs 3)))) 4 (seen stack.old) (seen stack.new) result }
 {
-    Ok(of_exp(cases(expander, place, stack)?))
+    let exp = cases(expander, place, stack)?;
+    stack.put_exp(exp)
 }
 
 /// `fn Match`
@@ -264,7 +267,7 @@ fn function(place: Place, stack: &mut Stack) -> Result<(), Failure>
     let mut trees = rules.trees;
     trees.reverse();
     let tree = Exp::Function(place, trees);
-    Ok(of_exp(LowExp { tree, height }))
+    stack.put_exp(LowExp { tree, height })
 }
 
 /// Rules with one more before them.
@@ -308,14 +311,6 @@ fn no_rules(stack: &mut Stack) -> Result<(), Failure>
     stack.put_rules(LowRules { trees, height: 0 })
 }
 
-/// The part behind the first one.
-fn second(stack: &mut Stack) -> Result<(), Failure>
-    ensures { Puts (at (seen stack.old) 1) 2 (seen stack.old) (seen stack.new) result }
-{
-    stack.skip();
-    stack.pop()
-}
-
 /// What a rule of expressions makes of its parts.
 pub fn expression_phrase(
     rule: ExpressionRule,
@@ -327,13 +322,12 @@ pub fn expression_phrase(
     ensures { Puts (expression_phrase rule place (option_map (λ s. shape_of s.now) shape.entry) (seen stack.old)) (length (right_side (Expressions rule))) (seen stack.old) (seen stack.new) result }
 {
     match rule {
-        ExpressionRule::ExpOpen | ExpressionRule::AndRestOpen | ExpressionRule::OrRestOpen => Ok(
-            stack.pop(),
-        ),
+        ExpressionRule::ExpOpen | ExpressionRule::AndRestOpen | ExpressionRule::OrRestOpen =>
+            stack.put_first(),
         ExpressionRule::AndMoreAndalso
         | ExpressionRule::OrMoreOrelse
         | ExpressionRule::HandleMoreHandle
-        | ExpressionRule::MatchMoreBar => Ok(second(stack)),
+        | ExpressionRule::MatchMoreBar => stack.put_behind_word(),
         ExpressionRule::AndMoreNone | ExpressionRule::OrMoreNone | ExpressionRule::HandleMoreNone =>
             stack.put_nothing(),
         ExpressionRule::ExpTyp => handling(expander, place, stack),
@@ -359,9 +353,9 @@ pub fn expression_phrase(
         ExpressionRule::AtOpenRound => round(expander, place, stack),
         ExpressionRule::AtOpenSquare => square(expander, place, stack),
         ExpressionRule::AtLet => local(expander, place, stack),
-        ExpressionRule::ExpRowCloseCurly | ExpressionRule::ExpRowMoreCloseCurly => Ok(last_field(
+        ExpressionRule::ExpRowCloseCurly | ExpressionRule::ExpRowMoreCloseCurly => last_field(
             stack,
-        )),
+        ),
         ExpressionRule::ExpRowLab => first_fields(stack),
         ExpressionRule::ExpRowMoreComma => more_fields(stack),
         ExpressionRule::ExpRoundExp => round_parts(stack),
@@ -377,6 +371,6 @@ pub fn expression_phrase(
         | ExpressionRule::SequenceMoreCloseRound
         | ExpressionRule::ExpListCloseSquare
         | ExpressionRule::ExpListMoreCloseSquare
-        | ExpressionRule::LetMoreEnd => Ok(last_exp(stack)),
+        | ExpressionRule::LetMoreEnd => last_exp(stack),
     }
 }

@@ -1,6 +1,6 @@
 //! What the rules of patterns make of their parts.
 
-ghost use Rattle.std.specs.Prelude.{◌≡◌, drop, length, true, false, OnOk, IfOk, Some, None};
+ghost use Rattle.std.specs.Prelude.{◌≡◌, drop, length, OnOk, IfOk, Some, None};
 ghost use Rattle.std.specs.Option.{option_map};
 ghost use Rattle.sml_read.specs.Grammar.{right_side};
 ghost use Rattle.sml_read.specs.declared.grammar.Rule.TheVariants.{Patterns};
@@ -12,7 +12,7 @@ ghost use Rattle.sml_bare_pats.specs.LowViews.{GivesPat, low_ty_of, low_pat_of, 
 ghost use Rattle.sml_bare_pats.specs.PatternPhrases.{pat_fields_in, flexible_in, atoms_in, colons_in};
 ghost use Rattle.sml_bare_pats.specs.PatternRules.{round_pat, list_pat, sequence_from, from_vid, op_from_vid, behind_op, behind_colon, and_atom, field_pat, and_field, pattern_phrase};
 ghost use Rattle.sml_bare_pats.specs.PatternSequences.{round_sequence};
-ghost use Rattle.sml_phrases.specs.Phrases.{nothing, of_tys, of_pat, of_pats, of_pat_fields, of_atoms, of_layer, of_op_atoms, at, name_in, long_in, constant_in, ty_in, tys_in, pat_in, pats_in, ty_if_any, pat_if_any};
+ghost use Rattle.sml_phrases.specs.Phrases.{of_tys, of_pat, of_pats, of_pat_fields, of_atoms, of_layer, of_op_atoms, at, name_in, long_in, constant_in, ty_in, tys_in, pat_in, pats_in, ty_if_any, pat_if_any};
 ghost use Rattle.sml_phrases.specs.PhraseViews.{Puts, phrase_of, seen};
 ghost use Rattle.sml_fixity.specs.Shapes.{shape_of};
 
@@ -31,7 +31,6 @@ use sml_phrases::stack::Stack;
 use sml_read::grammar::PatternRule;
 use sml_tree::names::Name;
 use sml_tree::patterns::Pat;
-use std::alloc::Global;
 
 /// A sequence, from its first pattern and what stands behind that.
 fn sequence_from(

@@ -25,7 +25,31 @@ pub(crate) fn read_type(alloc: Global, words: &mut Words<'_>, count: usize) -> R
     read_within(alloc, words, count, MOST)
 }
 
+/// What a word begins.
+#[derive(Clone, Copy)]
+enum Shape {
+    Applied(Initial),
+    Arrow,
+    Pair,
+    Row,
+    Deep,
+    Word,
+}
+
+fn shape_of(word: &str) -> Shape {
+    match word {
+        "list" => Shape::Applied(Initial::List),
+        "ref" => Shape::Applied(Initial::Ref),
+        "arrow" => Shape::Arrow,
+        "pair" => Shape::Pair,
+        "row" => Shape::Row,
+        "deep" => Shape::Deep,
+        _ => Shape::Word,
+    }
+}
+
 /// Reads a type in which no more words stand within one another than the limit.
+#[cycle(within)]
 fn read_within(
     alloc: Global,
     words: &mut Words<'_>,
@@ -37,41 +61,74 @@ fn read_within(
     if most == 0 {
         return Err(Fault::NotUnderstood);
     }
-    match words.word()? {
-        "list" => {
-            let of = read_within(alloc, words, count, most - 1)?;
-            Ok(applied(alloc, Initial::List, of)?)
-        }
-        "ref" => {
-            let to = read_within(alloc, words, count, most - 1)?;
-            Ok(applied(alloc, Initial::Ref, to)?)
-        }
-        "arrow" => {
-            let from = read_within(alloc, words, count, most - 1)?;
-            let to = read_within(alloc, words, count, most - 1)?;
-            Ok(arrow(alloc, from, to)?)
-        }
-        "pair" => {
-            let left = read_within(alloc, words, count, most - 1)?;
-            let right = read_within(alloc, words, count, most - 1)?;
-            let labels = Labels::numbered(alloc, 2)?;
-            Ok(row(alloc, labels, left, right)?)
-        }
-        "row" => {
-            let first = words.label(alloc)?;
-            let left = read_within(alloc, words, count, most - 1)?;
-            let second = words.label(alloc)?;
-            let right = read_within(alloc, words, count, most - 1)?;
-            let labels = labels(alloc, first, second)?;
-            Ok(row(alloc, labels, left, right)?)
-        }
-        "deep" => {
-            let times = words.number()?;
-            let of = read_within(alloc, words, count, most - 1)?;
-            Ok(deep(alloc, of, times)?)
-        }
-        word => simple(alloc, words, word, count),
+    let word = words.word()?;
+    match shape_of(word) {
+        Shape::Applied(name) => read_applied(alloc, words, count, most - 1, name),
+        Shape::Arrow => read_arrow(alloc, words, count, most - 1),
+        Shape::Pair => read_pair(alloc, words, count, most - 1),
+        Shape::Row => read_row(alloc, words, count, most - 1),
+        Shape::Deep => read_deep(alloc, words, count, most - 1),
+        Shape::Word => simple(alloc, words, word, count),
     }
+}
+
+#[cycle(within)]
+fn read_applied(
+    alloc: Global,
+    words: &mut Words<'_>,
+    count: usize,
+    most: u32,
+    name: Initial,
+) -> Result<MlType, Fault>
+    ensures { IfOk result (λ t. IsOver count (type_of t)) }
+{
+    let of = read_within(alloc, words, count, most)?;
+    Ok(applied(alloc, name, of)?)
+}
+
+#[cycle(within)]
+fn read_arrow(
+    alloc: Global,
+    words: &mut Words<'_>,
+    count: usize,
+    most: u32,
+) -> Result<MlType, Fault>
+    ensures { IfOk result (λ t. IsOver count (type_of t)) }
+{
+    let from = read_within(alloc, words, count, most)?;
+    let to = read_within(alloc, words, count, most)?;
+    Ok(arrow(alloc, from, to)?)
+}
+
+#[cycle(within)]
+fn read_pair(alloc: Global, words: &mut Words<'_>, count: usize, most: u32) -> Result<MlType, Fault>
+    ensures { IfOk result (λ t. IsOver count (type_of t)) }
+{
+    let left = read_within(alloc, words, count, most)?;
+    let right = read_within(alloc, words, count, most)?;
+    let labels = Labels::numbered(alloc, 2)?;
+    Ok(row(alloc, labels, left, right)?)
+}
+
+#[cycle(within)]
+fn read_row(alloc: Global, words: &mut Words<'_>, count: usize, most: u32) -> Result<MlType, Fault>
+    ensures { IfOk result (λ t. IsOver count (type_of t)) }
+{
+    let first = words.label(alloc)?;
+    let left = read_within(alloc, words, count, most)?;
+    let second = words.label(alloc)?;
+    let right = read_within(alloc, words, count, most)?;
+    let labels = labels(alloc, first, second)?;
+    Ok(row(alloc, labels, left, right)?)
+}
+
+#[cycle(within)]
+fn read_deep(alloc: Global, words: &mut Words<'_>, count: usize, most: u32) -> Result<MlType, Fault>
+    ensures { IfOk result (λ t. IsOver count (type_of t)) }
+{
+    let times = words.number()?;
+    let of = read_within(alloc, words, count, most)?;
+    Ok(deep(alloc, of, times)?)
 }
 
 /// The type that is one word.

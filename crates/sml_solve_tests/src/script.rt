@@ -38,6 +38,7 @@
 //! | `pair T T` | the row of the labels 1 and 2 |
 //! | `row LABEL T LABEL T` | a row of two labels that rise |
 //! | `deep N T` | `list`, N times, of a type |
+//! | `tN!`, `oN!` | in answers alone: such a name that doesn't admit equality |
 //! | `'N` | in answers alone: a variable that the scheme binds; where it is bound, with two quotes if it admits equality |
 //!
 //! A step `for i in A..B, STEP, STEP ..` takes the steps behind it for each number from A up to B, without B. In these a
@@ -61,6 +62,8 @@ use std::fmt::Write;
 use std::test::Fail;
 
 const UNIT: UnitId = UnitId { index: 2 };
+
+const OTHER_UNIT: UnitId = UnitId { index: 1 };
 
 /// A solver as a script finds it.
 pub(crate) fn new_solver(alloc: Global) -> Solver {

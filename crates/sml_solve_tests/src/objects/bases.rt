@@ -91,7 +91,7 @@ fn new_names_are_numbered_by_the_lines(rt: HostRuntime) -> Result<(), Fail> {
     let new = new_count(rt.alloc(), &basis, UNIT, 3)?;
     assert_eq!(rt; new, 2);
     let basis = canonical(rt.alloc(), &basis, UNIT, 3)?;
-    for (name, body) in [("a", "all . o3"), ("t", "all . o4"), ("z", "all . o2")] {
+    for (name, body) in [("a", "all . o3!"), ("t", "all . o4!"), ("z", "all . o2!")] {
         assert_eq!(rt; type_text(rt.alloc(), &basis, name)?.as_str(), body);
     }
     assert_eq!(rt;

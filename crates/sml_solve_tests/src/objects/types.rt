@@ -20,8 +20,7 @@ use std::test::Fail;
 /// - `close T`, the scheme that binds all free variables;
 /// - `instance N T`, the same scheme's body with free variables from a number on;
 /// - `fates F .. in T`, the scheme for these fates of the free variables, by their first appearance: `default`, `keep`,
-///   `bind`, or `bind=` for one that admits equality;
-/// - `names T`, how many names stand in a type, once renamed by nothing.
+///   `bind`, or `bind=` for one that admits equality.
 const CALLS: [(&str, &str); 11] = [
     // sizes stop at the limit
     ("size 100 arrow list int 0", "4"),

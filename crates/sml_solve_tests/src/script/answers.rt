@@ -1,8 +1,8 @@
 //! What calls answer, as text.
 
-use crate::script::UNIT;
+use crate::script::{OTHER_UNIT, UNIT};
 use sml_graph::layer::{Layer, Refusal};
-use sml_objects::objects::{Initial, MlType, Scheme, TyName};
+use sml_objects::objects::{Initial, MadeName, MlType, Scheme, TyName};
 use std::alloc::{AllocError, Global};
 use std::fmt::Write;
 
@@ -92,10 +92,23 @@ fn write_name(text: &mut String, name: TyName) -> Result<(), AllocError> {
     match name {
         TyName::Initial(initial) => text.push_str(word_of_initial(initial)),
         TyName::Made(made) => {
-            let letter = if made.unit == UNIT { 't' } else { 'o' };
+            let letter = letter_of(made);
             let number = made.number;
-            write!(text, "{letter}{number}")
+            let mark = if made.equality { "" } else { "!" };
+            write!(text, "{letter}{number}{mark}")
         }
+    }
+}
+
+fn letter_of(made: MadeName) -> char {
+    if made.arity != 0 {
+        '?'
+    } else if made.unit == UNIT {
+        't'
+    } else if made.unit == OTHER_UNIT {
+        'o'
+    } else {
+        '?'
     }
 }
 

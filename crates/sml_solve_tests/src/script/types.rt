@@ -4,16 +4,14 @@ ghost use Rattle.std.specs.Prelude.{ℕ, ◌<◌, IfOk};
 ghost use Rattle.sml_objects.specs.Views.{type_of};
 ghost use Rattle.sml_graph.specs.Interned.{IsOver};
 
-use crate::script::UNIT;
 use crate::script::words::{Fault, Words};
+use crate::script::{OTHER_UNIT, UNIT};
 use sml_lex::fault::Memory;
 use sml_objects::labels::Labels;
 use sml_objects::objects::{Initial, MadeName, MlType, TyName, UnitId};
 use sml_tree::bare::Ident;
 use std::alloc::Global;
 use std::rc::Rc;
-
-const OTHER_UNIT: UnitId = UnitId { index: 1 };
 
 /// How many words may stand within one another.
 const MOST: u32 = 20;

@@ -28,6 +28,17 @@ fn value_text(alloc: Global, basis: &Basis, name: &str) -> Result<String, Memory
     text_of(alloc, basis.env.value(&name))
 }
 
+/// What some names of types stand for, each with `; ` behind it.
+fn type_texts(alloc: Global, basis: &Basis, names: &[&str]) -> Result<String, Memory> {
+    let mut text = String::new(alloc);
+    for name in names {
+        let one = type_text(alloc, basis, name)?;
+        text.push_str(one.as_str())?;
+        text.push_str("; ")?;
+    }
+    Ok(text)
+}
+
 /// The scheme of a name with no variables.
 fn scheme(alloc: Global, name: TyName) -> Result<Rc<Scheme>, Memory> {
     let variables = Vec::new(alloc);
@@ -38,13 +49,8 @@ fn scheme(alloc: Global, name: TyName) -> Result<Rc<Scheme>, Memory> {
 #[test]
 fn initial_basis_has_its_types(rt: HostRuntime) -> Result<(), Fail> {
     let basis = Basis::initial(rt.alloc(), UNIT)?;
-    for (name, body) in [
-        ("list", "all '0 . list '0"),
-        ("exn", "all . exn"),
-        ("array", "none"),
-    ] {
-        assert_eq!(rt; type_text(rt.alloc(), &basis, name)?.as_str(), body);
-    }
+    let types = type_texts(rt.alloc(), &basis, &["list", "exn", "array"])?;
+    assert_eq!(rt; types.as_str(), "all '0 . list '0; all . exn; none; ");
     assert_eq!(rt; value_text(rt.alloc(), &basis, "list")?.as_str(), "none");
     Ok(())
 }
@@ -56,15 +62,27 @@ fn with_value(alloc: Global, name: Initial) -> Result<Basis, Memory> {
     Ok(basis)
 }
 
+/// What `x` is in a basis with another behind it.
+fn extended(alloc: Global, first: &Basis, second: &Basis) -> Result<String, Memory> {
+    let both = first.extend(alloc, second)?;
+    value_text(alloc, &both, "x")
+}
+
+/// What `x` is in a basis to which another was added.
+fn added(alloc: Global, first: Basis, second: Basis) -> Result<String, Memory> {
+    let mut both = first;
+    both.add(second)?;
+    value_text(alloc, &both, "x")
+}
+
 #[test]
 fn later_values_hide_earlier_ones(rt: HostRuntime) -> Result<(), Fail> {
-    let alloc = rt.alloc();
-    let mut first = with_value(alloc, Initial::Int)?;
-    let second = with_value(alloc, Initial::Bool)?;
-    let both = first.extend(alloc, &second)?;
-    assert_eq!(rt; value_text(alloc, &both, "x")?.as_str(), "all . bool");
-    first.add(second)?;
-    assert_eq!(rt; value_text(alloc, &first, "x")?.as_str(), "all . bool");
+    let first = with_value(rt.alloc(), Initial::Int)?;
+    let second = with_value(rt.alloc(), Initial::Bool)?;
+    let text = extended(rt.alloc(), &first, &second)?;
+    assert_eq!(rt; text.as_str(), "all . bool");
+    let text = added(rt.alloc(), first, second)?;
+    assert_eq!(rt; text.as_str(), "all . bool");
     Ok(())
 }
 
@@ -85,15 +103,20 @@ fn declared(alloc: Global) -> Result<Basis, Memory> {
     })
 }
 
+/// The basis with its new names by the lines, if there are two.
+fn numbered(alloc: Global) -> Result<Option<Basis>, Memory> {
+    let basis = declared(alloc)?;
+    if new_count(alloc, &basis, UNIT, 3)? != 2 {
+        return Ok(None);
+    }
+    Ok(Some(canonical(alloc, &basis, UNIT, 3)?))
+}
+
 #[test]
 fn new_names_are_numbered_by_the_lines(rt: HostRuntime) -> Result<(), Fail> {
-    let basis = declared(rt.alloc())?;
-    let new = new_count(rt.alloc(), &basis, UNIT, 3)?;
-    assert_eq!(rt; new, 2);
-    let basis = canonical(rt.alloc(), &basis, UNIT, 3)?;
-    for (name, body) in [("a", "all . o3!"), ("t", "all . o4!"), ("z", "all . o2!")] {
-        assert_eq!(rt; type_text(rt.alloc(), &basis, name)?.as_str(), body);
-    }
+    let basis = numbered(rt.alloc())?.ok_or("two new names")?;
+    let types = type_texts(rt.alloc(), &basis, &["a", "t", "z"])?;
+    assert_eq!(rt; types.as_str(), "all . o3!; all . o4!; all . o2!; ");
     assert_eq!(rt;
         basis.names.as_slice(),
         [TyName::Made(made(4)), TyName::Made(made(3))].as_slice()
@@ -118,9 +141,20 @@ fn names_change_places(rt: HostRuntime) -> Result<(), Fail> {
             TyName::Made(made(behind))
         );
     }
+    Ok(())
+}
+
+/// How many names stand in a basis, and whether one is among them.
+fn names_in(alloc: Global, basis: &Basis, name: TyName) -> Result<(usize, bool), Memory> {
+    let names = basis.names(alloc)?;
+    Ok((names.len(), names.contains(&name)))
+}
+
+#[test]
+fn a_renamed_basis_has_other_names(rt: HostRuntime) -> Result<(), Fail> {
+    let by = turned(rt.alloc())?;
     let renamed = declared(rt.alloc())?.rename(rt.alloc(), &by)?;
-    let names = renamed.names(rt.alloc())?;
-    assert_eq!(rt; names.len(), 3);
-    assert!(rt; names.contains(&TyName::Made(made(6))));
+    let other = TyName::Made(made(6));
+    assert_eq!(rt; names_in(rt.alloc(), &renamed, other)?, (3, true));
     Ok(())
 }

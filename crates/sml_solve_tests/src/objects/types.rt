@@ -2,14 +2,16 @@
 
 use crate::script::words::{Fault, Words};
 use crate::script::{answers, read_type};
+use sml_lex::fault::Memory;
 use sml_objects::equality::admits_equality;
 use sml_objects::fates::{Fate, close_as, free_variables};
 use sml_objects::named::Named;
-use sml_objects::objects::{MlType, TyName};
+use sml_objects::objects::{MlType, Scheme};
 use sml_objects::renamings::Renaming;
 use sml_objects::schemes::{close, instantiate};
 use sml_objects::sizes::size_up_to;
 use std::alloc::Global;
+use std::fmt::Write;
 use std::rc::Rc;
 use std::test::Fail;
 
@@ -110,16 +112,39 @@ fn fates(alloc: Global, words: &mut Words<'_>) -> Result<Vec<Fate>, Fault> {
 fn closed_as(alloc: Global, words: &mut Words<'_>) -> Result<String, Fault> {
     let fates = fates(alloc, words)?;
     let ty = read(alloc, words)?;
-    let places = free_variables(alloc, &ty)?;
-    let scheme = close_as(alloc, &ty, &places, &fates)?;
+    let scheme = scheme_of(alloc, &ty, &fates)?;
     Ok(answers::scheme(alloc, &scheme)?)
+}
+
+fn scheme_of(alloc: Global, ty: &MlType, fates: &[Fate]) -> Result<Scheme, Memory> {
+    let places = free_variables(alloc, ty)?;
+    close_as(alloc, ty, &places, fates)
+}
+
+/// What a call answers, where it is something else than wanted.
+fn wrong_answer(alloc: Global, text: &str, wanted: &str) -> Result<Option<String>, Fault> {
+    match call(alloc, text) {
+        Ok(answer) if answer.as_str() == wanted => Ok(None),
+        Ok(answer) => Ok(Some(answer)),
+        Err(Fault::NotUnderstood) => Ok(Some(String::from_str(alloc, "not understood")?)),
+        Err(Fault::Memory) => Err(Fault::Memory),
+    }
+}
+
+/// A line for each call that answers something else.
+fn faults(alloc: Global) -> Result<String, Fault> {
+    let mut lines = String::new(alloc);
+    for (text, wanted) in CALLS {
+        if let Some(answer) = wrong_answer(alloc, text, wanted)? {
+            writeln!(lines, "{text}: {answer}")?;
+        }
+    }
+    Ok(lines)
 }
 
 #[test]
 fn calls_of_types(rt: HostRuntime) -> Result<(), Fail> {
-    for (text, answer) in CALLS {
-        assert_eq!(rt; call(rt.alloc(), text)?.as_str(), answer, "{text}");
-    }
+    assert_eq!(rt; faults(rt.alloc())?.as_str(), "");
     Ok(())
 }
 
@@ -137,13 +162,19 @@ fn sizes_of_shared_types_are_found_soon(rt: HostRuntime) -> Result<(), Fail> {
     Ok(())
 }
 
-/// How many variables the scheme of a type binds, and how many names stand in an instance of it that is renamed.
-fn counted(alloc: Global, ty: &Rc<MlType>) -> Result<(usize, usize), Fault> {
-    let scheme = close(alloc, ty)?;
-    let instance = instantiate(alloc, &scheme, 0)?;
+/// How many names stand in an instance of a scheme, once it is renamed.
+fn names_of_instance(alloc: Global, scheme: &Scheme) -> Result<usize, Memory> {
+    let instance = instantiate(alloc, scheme, 0)?;
     let by = Renaming::new(alloc);
     let renamed = instance.rename(alloc, &by)?;
-    Ok((scheme.variables.len(), renamed.names(alloc)?.len()))
+    Ok(renamed.names(alloc)?.len())
+}
+
+/// How many variables the scheme of a type binds, and how many names stand in an instance of it that is renamed.
+fn counted(alloc: Global, ty: &Rc<MlType>) -> Result<(usize, usize), Memory> {
+    let scheme = close(alloc, ty)?;
+    let names = names_of_instance(alloc, &scheme)?;
+    Ok((scheme.variables.len(), names))
 }
 
 /// A variable in 10,000 lists.

@@ -5,4 +5,6 @@
 #[cfg(test)]
 mod objects;
 #[cfg(test)]
+mod script;
+#[cfg(test)]
 mod solver;

@@ -1,6 +1,0 @@
-use Rattle.std.proofs.Common.{◌≡◌}
-use Rattle.sml_graph.specs.Asked.{count}
-use Rattle.sml_solve_tests.proofs.solver.chains.lists_of_newer_unknowns_from_the_inside_out.Given as goal
-
-abbrev pub invariant-loop-i : goal.invariant-loop-i
-invariant-loop-i g l = count l.solver ≡ 100000

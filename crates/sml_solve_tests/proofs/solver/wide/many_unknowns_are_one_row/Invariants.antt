@@ -1,9 +1,0 @@
-use Rattle.std.proofs.Common.{◌≡◌}
-use Rattle.sml_graph.specs.Asked.{count}
-use Rattle.sml_solve_tests.proofs.solver.wide.many_unknowns_are_one_row.Given as goal
-
-abbrev pub invariant-loop-i : goal.invariant-loop-i
-invariant-loop-i g l = count l.solver ≡ 100000
-
-abbrev pub invariant-loop-i-2 : goal.invariant-loop-i-2
-invariant-loop-i-2 g l = count l.solver ≡ 100000

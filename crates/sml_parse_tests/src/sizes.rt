@@ -45,7 +45,11 @@ fn expected_of(alloc: Global, unit: &[u8], row: &Row) -> Result<String, Memory> 
     let (code, at) = row.5;
     let mut text = format!(in alloc; "{whole} {whole}")?;
     if !code.is_empty() {
-        add_place(&mut text, place_between(unit, 0, at))?;
+        if at == 0 {
+            text.push_str(" 1.1 ")?;
+        } else {
+            add_place(&mut text, place_between(unit, 0, at))?;
+        }
         write!(text, "{code} false")?;
     }
     Ok(text)

@@ -64,7 +64,6 @@ pub enum Code {
     P1,
     P2,
     P3,
-    Z1,
 }
 
 /// A line and a column, both from 1. Line 1 is the line of the declaration's first token, where columns count

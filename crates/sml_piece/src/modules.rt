@@ -1,6 +1,6 @@
 //! Top-level declarations (the Definition, section 5.7).
 
-ghost use Rattle.std.specs.Prelude.{◌≡◌, ◌≤◌, ◌+◌, length, [], IfOk, OnOk};
+ghost use Rattle.std.specs.Prelude.{◌≡◌, ◌≤◌, ◌+◌, length, [], true, IfOk, OnOk};
 ghost use Rattle.sml_lex.specs.declared.fault.Code.TheVariants.{Q3};
 ghost use Rattle.sml_lex.specs.declared.fault.Place.{Place};
 ghost use Rattle.sml_tree.specs.Trees as T;
@@ -12,7 +12,7 @@ ghost use Rattle.sml_objects.specs.Objects.{one_structure};
 ghost use Rattle.sml_objects.specs.Initial.{Name, naming};
 ghost use Rattle.sml_objects.specs.Views.{env_of, maker_of, sig_of};
 ghost use Rattle.sml_rules.specs.Answers.{accepted, test, fault};
-ghost use Rattle.sml_rules.specs.Readings.{read_dec, read_top};
+ghost use Rattle.sml_rules.specs.Readings.{read_dec, read_top, is_specified};
 ghost use Rattle.sml_rules.specs.Sound.{IsSound};
 ghost use Rattle.sml_piece.specs.Elaborated.{Answers, IsBasisOf, IsOwnBasis, IsMade, signature_of, beginning};
 
@@ -41,6 +41,7 @@ pub fn topdec(
     basis: &Basis,
     dec: &BareDec,
 ) -> Result<(Basis, Vec<Warning>), TopFault>
+    requires { is_specified (dec_of dec.now) ≡ true }
     ensures reading { (B : O.Basis Name) → IsBasisOf basis.now B
         → Answers (λ r. sig_of r.0) result (read_top naming beginning (maker_of basis.now.unit) B (dec_of dec.now)) }
     ensures sound { (B : O.Basis Name) → IsBasisOf basis.now B
@@ -97,13 +98,14 @@ fn few_names(basis: &Basis, own: &Basis) -> Result<(), TopFault>
 }
 
 fn own_basis(alloc: Global, basis: &Basis, dec: &BareDec) -> Result<Basis, TopFault>
+    requires { is_specified (dec_of dec.now) ≡ true }
     ensures answer { (B : O.Basis Name) → IsBasisOf basis.now B → Answers sig_of result (read_dec naming (maker_of basis.now.unit) B (dec_of dec.now)) }
     ensures names { (B : O.Basis Name) → IsBasisOf basis.now B → IfOk result (IsOwnBasis basis.now) }
 {
     match dec {
         BareDec::Core(dec) => core_basis(alloc, basis, dec),
         BareDec::Structure(structure) => sealed(alloc, basis, structure),
-        BareDec::Other(place) => Err(plain_fault(Code::Z1, *place)),
+        BareDec::Other(_) => unreachable!(),
     }
 }
 

@@ -1,7 +1,7 @@
 -- The text of a reply, version 1.
 use Rattle.std.specs.Prelude.{ℕ, suc, Bool, true, List, [], ◌∷◌, ◌++◌, cond, Option, Some, None, codes, decimal, length, ◌+◌, ◌/◌, ◌%◌, nat_lt, nat_eq}
 use Rattle.sml_lex.specs.declared.fault.Code.{Code}
-use Rattle.sml_lex.specs.declared.fault.Code.TheVariants.{L1, L2, L3, L4, L5, L6, S1, S2, S3, F1, F2, F3, F4, G1, G2, G3, G4, G5, U1, U2, U3, U4, U5, U6, U7, E1, E2, E3, E4, E5, E6, E7, E8, E9, E10, N1, N2, N3, N4, N5, N6, N7, M1, M2, M3, M4, M5, M6, M7, Q1, Q2, Q3, P1, P2, P3, Z1}
+use Rattle.sml_lex.specs.declared.fault.Code.TheVariants.{L1, L2, L3, L4, L5, L6, S1, S2, S3, F1, F2, F3, F4, G1, G2, G3, G4, G5, U1, U2, U3, U4, U5, U6, U7, E1, E2, E3, E4, E5, E6, E7, E8, E9, E10, N1, N2, N3, N4, N5, N6, N7, M1, M2, M3, M4, M5, M6, M7, Q1, Q2, Q3, P1, P2, P3}
 use Rattle.sml_lex.specs.declared.fault.Place.{Place}
 use Rattle.sml_lex.specs.Faults.{Fault}
 use Rattle.sml_tree.specs.Trees.{Id}
@@ -170,7 +170,6 @@ code_text Q3 = codes "Q3"
 code_text P1 = codes "P1"
 code_text P2 = codes "P2"
 code_text P3 = codes "P3"
-code_text Z1 = codes "Z1"
 
 unfoldable pub meaning : Code → List ℕ
 meaning L1 = codes "comment not closed"
@@ -228,7 +227,6 @@ meaning Q3 = codes "too many type names"
 meaning P1 = codes "rule is redundant"
 meaning P2 = codes "match not exhaustive"
 meaning P3 = codes "binding not exhaustive"
-meaning Z1 = codes "not yet checked"
 
 unfoldable pub detail_text : Option (List ℕ) → List ℕ
 detail_text None = []

@@ -380,7 +380,6 @@ fn code_text(code: Code) -> &'static str
         Code::P1 => "P1",
         Code::P2 => "P2",
         Code::P3 => "P3",
-        Code::Z1 => "Z1",
     }
 }
 
@@ -444,6 +443,5 @@ fn meaning(code: Code) -> &'static str
         Code::P1 => "rule is redundant",
         Code::P2 => "match not exhaustive",
         Code::P3 => "binding not exhaustive",
-        Code::Z1 => "not yet checked",
     }
 }

@@ -149,7 +149,7 @@ module _ {P : Type 0} (Q : P → Type 0) where
         bind_there _ _ (cores_there B.body empty_env decs (last Q (specs_places specs) (cores_places decs) h.1)) (λ E.
         bind_there _ _ (specs_there unit (apart B E) [] specs (first Q (specs_places specs) (cores_places decs) h.1)) (λ Ss.
         bind_there _ _ (match_there p (sum_of Ss) E h.0) (λ u. give_there _)))
-    dec_there unit B (other p) h = λ f e. refused_there f _ h.0 e
+    dec_there unit B (other p) h = λ f e. absurd e
 
     top_there : (p : P) (unit : ℕ) (B : Basis N) (d : Dec P) → Q p → Every Q (dec_places d) → RefusesThere (read_top names p unit B d)
     unfolding read_top

@@ -13,7 +13,7 @@ use Rattle.sml_rules.specs.Answers.{accepted}
 use Rattle.sml_rules.specs.Rules.{IsOpen, AreOpen, Item, both, sum_from, sum_of}
 use Rattle.sml_rules.specs.Open.{OpenFunctions, OpenEnv, OpenStructures, PlainFunctions, PlainValues}
 use Rattle.sml_rules.specs.Readings.{read_ty, read_tys, read_core, read_cores, read_spec, read_specs, read_dec, read_top}
-use Rattle.sml_rules.proofs.Sound.{bound_by, given, needed, tested, not_refused}
+use Rattle.sml_rules.proofs.Sound.{bound_by, given, needed, tested}
 
 by_cases : {X : Type 0} (Q : X → Type 0) (o : Ordering) {a b c : X} → Q a → Q b → Q c → Q (by_order o a b c)
 by_cases Q Less h k l = h
@@ -231,7 +231,7 @@ module _ {N : Type 0} where
         let b = bound_by _ _ S a.2 in
         let d = bound_by _ _ S b.2 in
         subst (λ S. OpenEnv S.body) (sym (given Q _ S d.2)) (structure_alone s (sum_of b.0).body (specified unit _ [] specs b.0 g b.1).opened)
-    read_dec_open unit B (other p) S g h = absurd (not_refused h)
+    read_dec_open unit B (other p) S g h = absurd h
 
     pub read_top_open : {Q : Type 0} (p : Q) (unit : ℕ) (B : Basis N) (d : Dec Q) (S : Sig N) → OpenEnv B.body → read_top names p unit B d (accepted S) → OpenEnv S.body
     unfolding read_top

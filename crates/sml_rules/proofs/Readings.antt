@@ -151,7 +151,7 @@ read_dec_settled {P} unit (sealed s p specs decs) =
     result : {N : Type 0} → List (Sig N) → Sig N
     result Ss = record { names = (sum_of Ss).names; body = one_structure s (sum_of Ss).body }
 read_dec_settled {P} unit (other p) =
-    by_one {C = Basis} {O = λ N. Answer P (Sig N)} basis_supported (λ N a B. read_dec a unit B (other p)) (λ N a B x y h k. h ∙ sym k)
+    by_one {C = Basis} {O = λ N. Answer P (Sig N)} basis_supported (λ N a B. read_dec a unit B (other p)) (λ N a B x y h k. absurd h)
 
 pub read_top_settled : {P : Type 0} (p : P) (unit : ℕ) (d : Dec P) → Settled {C = Basis} {O = λ N. Answer P (Sig N)} basis_supported (λ N a B. read_top a p unit B d)
 unfolding read_top basis_supported sig_supported

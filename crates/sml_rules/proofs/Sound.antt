@@ -335,10 +335,7 @@ module _ {P N : Type 0} (names : Naming N) where
 
       plain_empty : IsPlain {N = N} [] empty_env
       plain_empty = (tt, tt)
-  sound_dec unit B (other p) S h = absurd (not_refused h)
-    where
-      not_refused : {f : Fault P} → accepted S ≡ refused f → ⊥
-      not_refused e = cc
+  sound_dec unit B (other p) S h = absurd h
 
   pub readings_sound : (p : P) (unit : ℕ) (B : Basis N) (d : Dec P) (S : Sig N) → read_top names p unit B d (accepted S) → IsSound names unit B d S
   unfolding read_top IsSound

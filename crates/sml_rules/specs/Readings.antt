@@ -1,7 +1,7 @@
 -- What a declaration is answered: the first thing asked that isn't met, or what the rules give. Nothing in the first
 -- piece asks anything of an unknown type, so each unknown is left as it is, and is a free variable of the type.
-use Rattle.std.specs.Prelude.{◌≡◌, ◌≤◌, ◌+◌, ℕ, suc, List, [], ◌∷◌, Some, IsSome, length}
-use Rattle.sml_lex.specs.declared.fault.Code.TheVariants.{E1, E2, E4, E7, N2, M1, M2, M4, M6, Q3, Z1}
+use Rattle.std.specs.Prelude.{◌≡◌, ◌≤◌, ◌+◌, ℕ, suc, Bool, true, false, List, [], ◌∷◌, Some, IsSome, length}
+use Rattle.sml_lex.specs.declared.fault.Code.TheVariants.{E1, E2, E4, E7, N2, M1, M2, M4, M6, Q3}
 use Rattle.sml_tree.specs.Trees.{Exp, Exps, Ty, Tys, Spec, CoreDec, Dec, number, name, tuple, bracket, function, no_exp, and_exp, constructor, product, arrow_to, bracket_ty, no_ty, and_ty, type_spec, val_spec, val_dec, type_dec, core, sealed, other}
 use Rattle.sml_objects.specs.Names.{Naming, int}
 use Rattle.sml_objects.specs.Maps.{Map, lookup}
@@ -12,6 +12,12 @@ use Rattle.sml_rules.specs.Lookups.{value_at, type_at}
 use Rattle.sml_rules.specs.Rules.{IsInstance, IsNew, apart, sum_of, Item, item_of, Specified}
 use Rattle.sml_rules.specs.Matching.{Realisation, realise_type, realise_scheme, realised_by}
 use Rattle.sml_rules.specs.Answers.{Reading, refused, give, ◌>>=◌, test, any, fault, fault_at, need}
+
+-- whether a declaration is of the first piece; nothing is an answer to another one
+abbrev pub is_specified : {P : Type 0} → Dec P → Bool
+is_specified (core d) = true
+is_specified (sealed s p q ds) = true
+is_specified (other p) = false
 
 -- The scheme or the body of the type function has at most 10,000 nodes.
 abbrev pub IsSmall : {N : Type 0} → MlType N → Type 0
@@ -152,7 +158,7 @@ module _ {P N : Type 0} (names : Naming N) where
     Ss ← read_specs unit (apart B E) [] specs
     u ← read_match p (sum_of Ss) E
     give (record { names = (sum_of Ss).names; body = one_structure s (sum_of Ss).body })
-  read_dec unit B (other p) = λ o. o ≡ refused (fault Z1 p)
+  read_dec unit B (other p) = λ o. ⊥
 
   -- A unit has at most 1,048,576 names of types. The place of the declaration is given.
   unfoldable pub read_top : P → ℕ → Basis N → Dec P → Reading P (Sig N)

@@ -10,3 +10,4 @@ mod rechecks;
 mod seals;
 mod sinks;
 mod sources;
+mod written;

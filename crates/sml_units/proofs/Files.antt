@@ -18,7 +18,8 @@ use Rattle.sml_reply.specs.Replies.{reply_text, warnings_text, warnings_of, acce
 use Rattle.sml_reply.specs.Text.{text}
 use Rattle.sml_reply.specs.declared.reply.Reply.{Reply}
 use Rattle.sml_reply.specs.declared.reply.Reply.TheVariants.{Accepted, Refused}
-use Rattle.sml_units.specs.Runs.{SourceUnit, Run, RunProject, basis_after, start, exports, nothing, AllSpecified, is_specified, specified_beginning, flag_at, is_whole, specified_unit, specified_from}
+use Rattle.sml_rules.specs.Readings.{is_specified}
+use Rattle.sml_units.specs.Runs.{SourceUnit, Run, RunProject, basis_after, start, exports, nothing, AllSpecified, specified_beginning, flag_at, is_whole, specified_unit, specified_from}
 use Rattle.sml_units.specs.Checked.{Answered, AreSpelt, IsReplyTo, AreRepliesTo, with_last, is_acceptance, IsSourceOf, AreSourcesOf, BeginWith, AreReplies, AreUnitReplies, MayReply}
 use Rattle.sml_units.specs.Isolation.{AlikeOutsideSeals, ProjectsAlike, IsAccepted, AgreeAtSeals, ProjectsAgree, EqualReplies, ProjectsReplyEqually, SealsIsolate}
 use Rattle.sml_projects.specs.Orders.{UnitText, unit_texts}

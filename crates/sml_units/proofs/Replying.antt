@@ -16,14 +16,14 @@ use Rattle.sml_objects.specs.declared.objects.Basis as PB
 use Rattle.sml_rules.specs.Answers.{refused, accepted}
 use Rattle.sml_rules.specs.Every.{Every}
 use Rattle.sml_rules.specs.Open.{OpenEnv, OpenStructures, OpenFunctions}
-use Rattle.sml_rules.specs.Readings.{read_top}
+use Rattle.sml_rules.specs.Readings.{read_top, is_specified}
 use Rattle.sml_rules.specs.Rules.{IsOpen, AreOpen}
 use Rattle.sml_rules.proofs.Open.{extended}
 use Rattle.sml_rules.proofs.Sound.{readings_sound}
 use Rattle.sml_reply.specs.declared.reply.Reply.{Reply}
 use Rattle.sml_piece.specs.Elaborated.{IsBasisOf, IsOwnBasis, IsBelow, beginning}
 use Rattle.sml_piece.proofs.Specifying.{all_below_more, basis_below}
-use Rattle.sml_units.specs.Runs.{Run, basis_after, start, needed, all_names, SourceUnit, RunProject, exports, nothing, export_at, is_specified, specified_beginning, flag_at, is_whole, specified}
+use Rattle.sml_units.specs.Runs.{Run, basis_after, start, needed, all_names, SourceUnit, RunProject, exports, nothing, export_at, specified_beginning, flag_at, is_whole, specified}
 use Rattle.sml_projects.specs.Orders.{UnitText}
 use Rattle.std.specs.String.{string_bytes}
 use Rattle.sml_units.specs.declared.project.Beginning.{Beginning}

@@ -11,11 +11,11 @@ use Rattle.sml_parse.proofs.PlacesWithin.{places_within}
 use Rattle.sml_objects.specs.Objects.{Sig, Basis}
 use Rattle.sml_objects.specs.Initial.{Name, naming}
 use Rattle.sml_rules.specs.Answers.{refused, accepted}
-use Rattle.sml_rules.specs.Readings.{read_top}
+use Rattle.sml_rules.specs.Readings.{read_top, is_specified}
 use Rattle.sml_rules.proofs.Faults.{stands_in_declaration}
 use Rattle.sml_piece.specs.Elaborated.{beginning}
 use Rattle.sml_projects.specs.Orders.{UnitText}
-use Rattle.sml_units.specs.Runs.{SourceUnit, Run, RunProject, basis_after, exports, nothing, start, is_specified, specified_beginning, flag_at, is_whole, specified_unit, specified_from}
+use Rattle.sml_units.specs.Runs.{SourceUnit, Run, RunProject, basis_after, exports, nothing, start, specified_beginning, flag_at, is_whole, specified_unit, specified_from}
 use Rattle.sml_units.specs.Checked.{Answered, AreSpelt, AreSourcesOf}
 use Rattle.sml_units.specs.Standing.{AnswerStands, AnswersStand, UnitStands, UnitsStand}
 

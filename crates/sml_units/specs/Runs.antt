@@ -3,11 +3,11 @@ use Rattle.std.specs.Prelude.{◌≡◌, ℕ, zero, suc, ◌==◌, Bool, true, f
 use Rattle.std.specs.List.{list_all}
 use Rattle.sml_lex.specs.declared.fault.Place.{Place}
 use Rattle.sml_lex.specs.Faults.{Fault}
-use Rattle.sml_tree.specs.Trees.{Dec, core, sealed, other}
+use Rattle.sml_tree.specs.Trees.{Dec}
 use Rattle.sml_objects.specs.Names.{Naming}
 use Rattle.sml_objects.specs.Objects.{Sig, Basis, empty_env, extend_env, extend, names_sig, names_basis}
 use Rattle.sml_rules.specs.Answers.{Answer, refused, accepted}
-use Rattle.sml_rules.specs.Readings.{read_top}
+use Rattle.sml_rules.specs.Readings.{read_top, is_specified}
 use Rattle.sml_piece.specs.Elaborated.{beginning}
 
 -- A unit has a name, its place among the unit lines from 1, the places of its needs in the order of checking, how many
@@ -19,12 +19,6 @@ pub record SourceUnit : Type 0 where
   pub number : ℕ
   pub declarations : List (Dec Place)
   pub last : Option (Fault Place)
-
--- whether a declaration is of the piece of the language whose meaning is specified so far
-abbrev pub is_specified : Dec Place → Bool
-is_specified (core d) = true
-is_specified (sealed s p q ds) = true
-is_specified (other p) = false
 
 -- the declarations before the first that isn't specified
 abbrev pub specified_beginning : List (Dec Place) → List (Dec Place)

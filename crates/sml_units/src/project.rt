@@ -1,6 +1,6 @@
 //! Projects and what their declarations are answered.
 
-ghost use Rattle.std.specs.Prelude.{◌≡◌, ◌≤◌, ◌+◌, ◌++◌, IfOk, IfErr, List, OnOk, [], false, length, map, replicate, vec_len};
+ghost use Rattle.std.specs.Prelude.{◌≡◌, ◌≤◌, ◌+◌, ◌++◌, IfOk, IfErr, List, OnOk, [], false, true, length, map, replicate, vec_len};
 ghost use Rattle.sml_reply.specs.declared.reply.Reply.{Reply};
 ghost use Rattle.std.specs.Option.{option_map, option_to_list};
 ghost use Rattle.sml_lex.specs.Faults.{fault_of};
@@ -11,11 +11,12 @@ ghost use Rattle.sml_objects.specs.Objects.{extend};
 ghost use Rattle.sml_objects.specs.Views.{maker_of, sig_of};
 ghost use Rattle.sml_rules.specs.Answers.{accepted};
 ghost use Rattle.sml_rules.specs.Open.{OpenEnv};
+ghost use Rattle.sml_rules.specs.Readings.{is_specified};
 ghost use Rattle.sml_piece.specs.Elaborated.{IsBasisOf, IsOwnBasis};
 ghost use Rattle.sml_units.specs.Checked.{MayReply, AreBegunAndEnded, AreEnded, IsAnswered, IsBegun, IsStep, IsReplyTo, Answered, AreRepliesTo, with_last};
 ghost use Rattle.sml_units.specs.Counts.{IsCountOf, IsNumberOf};
 ghost use Rattle.sml_projects.specs.Orders.{unit_texts, unit_text_of};
-ghost use Rattle.sml_units.specs.Runs.{start, is_specified};
+ghost use Rattle.sml_units.specs.Runs.{start};
 
 use crate::needs::{empty, nameless, paths_of_needs, with_needs};
 use crate::whole::{answer_rest, exported, whole_basis};
@@ -341,6 +342,7 @@ fn answer(
     number: u32,
     dec: &BareDec,
 ) -> Result<Reply, Memory>
+    requires { is_specified (dec_of dec.now) ≡ true }
     ensures { (B : O.Basis Name) → IsBasisOf basis.old B → IfOk result (IsStep basis.old basis.new B (dec_of dec.now) number) }
 {
     match topdec(alloc, basis, dec) {

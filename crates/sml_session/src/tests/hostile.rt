@@ -1,22 +1,11 @@
 //! Units that are cut, or made to break what reads them.
 
 use crate::tests::fakes::{answer_to_unit, repeated};
+use crate::tests::written::expect_written;
 use std::alloc::{AllocError, Global};
 use std::fmt::Write;
 use std::process::Abort;
 use std::test::Fail;
-
-/// Demands the answer to a unit of one repeated text.
-fn expect_reply(
-    rt: &impl Abort,
-    alloc: Global,
-    unit: Vec<u8>,
-    status: u8,
-    out: &str,
-) -> Result<(), AllocError> {
-    answer_to_unit(alloc, unit)?.expect(rt, status, out, "");
-    Ok(())
-}
 
 const CUT: &[u8] = b"val a = (3, fn x => x)
 structure S :> sig type t; val x : t -> (int * t) end = struct type t = int val x = fn n => (n, 0) end
@@ -110,98 +99,38 @@ fn cuts(rt: HostRuntime) -> Result<(), Fail> {
     Ok(())
 }
 
-/// A text, another so many times, and a last one; and the reply to the unit that they make.
-const ENDLESS: [(&str, &str, usize, &str, &str); 20] = [
-    ("", "(", 1_048_576, "", "S2 1.1048576 unit ends too early"),
-    (
-        "val x = ",
-        "(",
-        1_048_568,
-        "",
-        "S2 1.1048576 unit ends too early",
-    ),
-    (
-        "val x = ",
-        "(1,",
-        300_000,
-        "",
-        "S2 1.900008 unit ends too early",
-    ),
-    (
-        "val x = ",
-        "let val y = ",
-        87_000,
-        "",
-        "S2 1.1044007 unit ends too early",
-    ),
-    (
-        "",
-        "structure A = struct ",
-        49_000,
-        "",
-        "S2 1.1028994 unit ends too early",
-    ),
-    (
-        "",
-        "local ",
-        170_000,
-        "",
-        "S2 1.1019995 unit ends too early",
-    ),
-    ("", "case ", 200_000, "", "S2 1.999996 unit ends too early"),
-    (
-        "type t = ",
-        "(int * ",
-        140_000,
-        "",
-        "S2 1.980008 unit ends too early",
-    ),
-    ("", "'a ", 300_000, "", "S1 1.1 unexpected token"),
-    ("val x = ", "fn x=>", 20_000, "1", "S3 1.1 tree too high"),
-    ("val x = ", "x ", 50_000, "", "S3 1.1 tree too high"),
-    ("val x = 1", " + 1", 30_000, "", "S3 1.1 tree too high"),
-    ("val x = ", "#a ", 30_000, "", "S3 1.1 tree too high"),
-    (
-        "val x = if true",
-        " then 1 else if true",
-        10_000,
-        " then 1 else 2",
-        "S3 1.1 tree too high",
-    ),
-    (
-        "type t = int",
-        " -> int",
-        100_000,
-        "",
-        "S3 1.1 tree too high",
-    ),
-    ("type t = int", " list", 200_000, "", "S3 1.1 tree too high"),
-    (
-        "val x = \"",
-        "\\\\",
-        500_000,
-        "",
-        "L2 1.9 string not closed",
-    ),
-    ("datatype t = A", " | A", 200_000, "", "G3 1.18 bound twice"),
-    (
-        "val x = 1",
-        " and x = 1",
-        10_000,
-        "",
-        "E10 1.15 variable bound twice in a pattern",
-    ),
-    ("open A", ".A", 500_000, "", "E3 1.6 unbound structure A"),
+/// Texts that open and never close, or grow too high; deep comments; a long path.
+const ENDLESS: [&str; 23] = [
+    "@(@1048576@@@@1 fault S2 1.1048576 unit ends too early\n",
+    "val x = @(@1048568@@@@1 fault S2 1.1048576 unit ends too early\n",
+    "val x = @(1,@300000@@@@1 fault S2 1.900008 unit ends too early\n",
+    "val x = @let val y = @87000@@@@1 fault S2 1.1044007 unit ends too early\n",
+    "@structure A = struct @49000@@@@1 fault S2 1.1028994 unit ends too early\n",
+    "@local @170000@@@@1 fault S2 1.1019995 unit ends too early\n",
+    "@case @200000@@@@1 fault S2 1.999996 unit ends too early\n",
+    "type t = @(int * @140000@@@@1 fault S2 1.980008 unit ends too early\n",
+    "@'a @300000@@@@1 fault S1 1.1 unexpected token\n",
+    "val x = @fn x=>@20000@1@@@1 fault S3 1.1 tree too high\n",
+    "val x = @x @50000@@@@1 fault S3 1.1 tree too high\n",
+    "val x = 1@ + 1@30000@@@@1 fault S3 1.1 tree too high\n",
+    "val x = @#a @30000@@@@1 fault S3 1.1 tree too high\n",
+    "val x = if true@ then 1 else if true@10000@ then 1 else 2@@@1 fault S3 1.1 tree too high\n",
+    "type t = int@ -> int@100000@@@@1 fault S3 1.1 tree too high\n",
+    "type t = int@ list@200000@@@@1 fault S3 1.1 tree too high\n",
+    "val x = \"@\\\\@500000@@@@1 fault L2 1.9 string not closed\n",
+    "datatype t = A@ | A@200000@@@@1 fault G3 1.18 bound twice\n",
+    "val x = 1@ and x = 1@10000@@@@1 fault E10 1.15 variable bound twice in a pattern\n",
+    "open A@.A@500000@@@@1 fault E3 1.6 unbound structure A\n",
+    "@(*@200000@@*)@val y = 1@1 ok\n  val y : int\n",
+    "(*@(*@200000@@*)@val y = 1@1 fault L1 1.1 comment not closed\n",
+    "val x = a@.b@500000@\nval y = 1@@@1 fault E3 1.9 unbound structure a\n2 ok\n  val y : int\n",
 ];
 
 #[test]
 fn endless_texts(rt: HostRuntime) -> Result<(), Fail> {
     let alloc = rt.alloc();
-    for (first, middle, times, last, fault) in ENDLESS {
-        let parts = [first.as_bytes(), middle.as_bytes(), last.as_bytes()];
-        let unit = repeated(alloc, parts[0], parts[1], times, parts[2])?;
-        let out = format!(in alloc; "unit a\n1 fault {fault}\n")?;
-        expect_reply(&rt, alloc, unit, 1, &out)?;
+    for row in ENDLESS {
+        expect_written(&rt, alloc, row)?;
     }
     let unit = repeated(alloc, b"", b"~", 1_048_576, b"")?;
     let out = repeated(
@@ -216,18 +145,6 @@ fn endless_texts(rt: HostRuntime) -> Result<(), Fail> {
 }
 
 #[test]
-fn nested_comments(rt: HostRuntime) -> Result<(), Fail> {
-    let alloc = rt.alloc();
-    let closed = repeated(alloc, b"", b"*)", 200_000, b"val y = 1")?;
-    let unit = repeated(alloc, b"", b"(*", 200_000, &closed)?;
-    expect_reply(&rt, alloc, unit, 0, "unit a\n1 ok\n  val y : int\n")?;
-    let unit = repeated(alloc, b"(*", b"(*", 200_000, &closed)?;
-    let out = "unit a\n1 fault L1 1.1 comment not closed\n";
-    expect_reply(&rt, alloc, unit, 1, out)?;
-    Ok(())
-}
-
-#[test]
 fn many_declarations(rt: HostRuntime) -> Result<(), Fail> {
     let alloc = rt.alloc();
     let unit = repeated(alloc, b"", b"val x=1 ", 100_000, b"val y=z")?;
@@ -236,15 +153,6 @@ fn many_declarations(rt: HostRuntime) -> Result<(), Fail> {
         write!(replies, "{number} ok\n  val x : int\n")?;
     }
     replies.push_str("100001 fault E1 1.7 unbound value z\n")?;
-    expect_reply(&rt, alloc, unit, 1, &replies)?;
-    Ok(())
-}
-
-#[test]
-fn long_paths(rt: HostRuntime) -> Result<(), Fail> {
-    let alloc = rt.alloc();
-    let unit = repeated(alloc, b"val x = a", b".b", 500_000, b"\nval y = 1")?;
-    let out = "unit a\n1 fault E3 1.9 unbound structure a\n2 ok\n  val y : int\n";
-    expect_reply(&rt, alloc, unit, 1, out)?;
+    answer_to_unit(alloc, unit)?.expect(&rt, 1, &replies, "");
     Ok(())
 }

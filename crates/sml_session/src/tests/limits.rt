@@ -1,28 +1,58 @@
 //! The greatest sizes, and one more.
 
 use crate::tests::fakes::{Folder, answer_to_unit, ask, repeated};
-use std::alloc::{AllocError, Global};
-use std::process::Abort;
+use crate::tests::written::expect_written;
 use std::test::Fail;
 
-const TOO_HIGH: &str = "unit a\n1 fault S3 1.1 tree too high\n";
-
-const TOO_LARGE: &str = "unit a\n1 fault E7 1.1 type too large\n2 fault E1 1.9 unbound value x\n";
+/// A unit has 1,048,576 bytes at most. A value declaration and a constant have height 2, and each pair of brackets adds one;
+/// a structure declaration, its structure expression, its signature, the specification and the type have height 5. `let` is
+/// one higher than what it holds, an operator two, and `case` and `if` three. Last stand types that are too large.
+const LIMITS: [&str; 38] = [
+    "@ @1048576@@@@",
+    "val x = 1@ @1048567@@@@1 ok\n  val x : int\n",
+    "val x = 1@ @1048568@@@@1 fault L6 1.1 unit too large\n",
+    "@ @1048577@@@@1 fault L6 1.1 unit too large\n",
+    "@(* @1048576@@@@1 fault L6 1.1 unit too large\n",
+    "val x = @(@3997@1@)@@1 ok\n  val x : int\n",
+    "val x = @(@3998@1@)@@1 ok\n  val x : int\n",
+    "val x = @(@3999@1@)@@1 fault S3 1.1 tree too high\n",
+    "val x = @(@500000@1@)@@1 fault S3 1.1 tree too high\n",
+    "val x = @(@3999@1@)@ val y = x@1 fault S3 1.1 tree too high\n",
+    "structure S :> sig val x : @(@3995@int@)@ end = struct val x = 1 end@1 ok\n  structure S\n  val S.x : int\n",
+    "structure S :> sig val x : @(@3996@int@)@ end = struct val x = 1 end@1 fault S3 1.1 tree too high\n",
+    "structure S :> sig val x : int end = struct type t = @(@3995@int@)@ val x = 1 end@1 ok\n  structure S\n  val S.x : int\n",
+    "structure S :> sig val x : int end = struct type t = @(@3996@int@)@ val x = 1 end@1 fault S3 1.1 tree too high\n",
+    "val x = @let val y = 1 in @1000@1@ end@@1 ok\n  val x : int\n",
+    "val x = @let val y = 1 in @3998@1@ end@@1 fault S3 1.1 tree too high\n",
+    "val x = @case 1 of y => @250@1@@@1 ok\n  val x : int\n",
+    "val x = @case 1 of y => @1333@1@@@1 fault S3 1.1 tree too high\n",
+    "val x = @if true then 1 else @250@1@@@1 ok\n  val x : int\n",
+    "val x = @if true then 1 else @1333@1@@@1 fault S3 1.1 tree too high\n",
+    "val x = [1@,1@1000@]@@@1 ok\n  val x : int list\n",
+    "val x = [1@,1@1999@]@@@1 fault S3 1.1 tree too high\n",
+    "val x = @1 :: @1000@nil@@@1 ok\n  val x : int list\n",
+    "val x = @1 :: @2000@nil@@@1 fault S3 1.1 tree too high\n",
+    "val x = 1@ : int@2000@@@@1 ok\n  val x : int\n",
+    "val x = 1@ : int@3999@@@@1 fault S3 1.1 tree too high\n",
+    "type t = @(@3998@int@)@@1 ok\n  type t = int\n",
+    "type t = @(@3999@int@)@@1 fault S3 1.1 tree too high\n",
+    "@local @2000@@in end @@1 ok\n",
+    "@local @4001@@in end @@1 fault S3 1.1 tree too high\n",
+    "structure X = @let in @2000@struct end@ end@@1 ok\n  structure X\n",
+    "structure X = @let in @3999@struct end@ end@@1 fault S3 1.1 tree too high\n",
+    "structure X = struct end@ : sig end@2000@@@@1 ok\n  structure X\n",
+    "structure X = struct end@ : sig end@3999@@@@1 fault S3 1.1 tree too high\n",
+    "structure X : sig end = struct @structure A = struct @1000@end@ end@@1 ok\n  structure X\n",
+    "structure X : sig end = struct @structure A = struct @1999@end@ end@@1 fault S3 1.1 tree too high\n",
+    "val x = (1@,2@9999@) val y = x@@@1 fault E7 1.1 type too large\n2 fault E1 1.9 unbound value x\n",
+    "val x = (1@,fn x => x@3333@) val y = x@@@1 fault E7 1.1 type too large\n2 fault E1 1.9 unbound value x\n",
+];
 
 #[test]
-fn sizes_of_units(rt: HostRuntime) -> Result<(), Fail> {
-    let alloc = rt.alloc();
-    let unit = repeated(alloc, b"", b" ", 1_048_576, b"")?;
-    answer_to_unit(alloc, unit)?.expect(&rt, 0, "unit a\n", "");
-    let unit = repeated(alloc, b"val x = 1", b" ", 1_048_567, b"")?;
-    answer_to_unit(alloc, unit)?.expect(&rt, 0, "unit a\n1 ok\n  val x : int\n", "");
-    let unit = repeated(alloc, b"val x = 1", b" ", 1_048_568, b"")?;
-    let out = "unit a\n1 fault L6 1.1 unit too large\n";
-    answer_to_unit(alloc, unit)?.expect(&rt, 1, out, "");
-    let unit = repeated(alloc, b"", b" ", 1_048_577, b"")?;
-    answer_to_unit(alloc, unit)?.expect(&rt, 1, out, "");
-    let unit = repeated(alloc, b"", b"(* ", 1_048_576, b"")?;
-    answer_to_unit(alloc, unit)?.expect(&rt, 1, out, "");
+fn greatest_and_one_more(rt: HostRuntime) -> Result<(), Fail> {
+    for row in LIMITS {
+        expect_written(&rt, rt.alloc(), row)?;
+    }
     Ok(())
 }
 
@@ -51,170 +81,7 @@ fn sizes_of_projects(rt: HostRuntime) -> Result<(), Fail> {
     Ok(())
 }
 
-/// Demands the answer to a unit that has brackets, so many of each side, round a middle.
-fn expect_nest(
-    rt: &impl Abort,
-    alloc: Global,
-    parts: (&[u8], &[u8], &[u8]),
-    height: usize,
-    out: &str,
-) -> Result<(), AllocError> {
-    let (first, middle, last) = parts;
-    let closed = repeated(alloc, middle, b")", height, last)?;
-    let unit = repeated(alloc, first, b"(", height, &closed)?;
-    let status = if out == TOO_HIGH { 1 } else { 0 };
-    answer_to_unit(alloc, unit)?.expect(rt, status, out, "");
-    Ok(())
-}
-
-/// A value declaration and a constant have height 2, and each pair of brackets adds one.
-#[test]
-fn heights_of_expressions(rt: HostRuntime) -> Result<(), Fail> {
-    let alloc = rt.alloc();
-    let parts = (b"val x = ".as_slice(), b"1".as_slice(), b"".as_slice());
-    let out = "unit a\n1 ok\n  val x : int\n";
-    expect_nest(&rt, alloc, parts, 3_997, out)?;
-    expect_nest(&rt, alloc, parts, 3_998, out)?;
-    expect_nest(&rt, alloc, parts, 3_999, TOO_HIGH)?;
-    expect_nest(&rt, alloc, parts, 500_000, TOO_HIGH)?;
-    let parts = (
-        b"val x = ".as_slice(),
-        b"1".as_slice(),
-        b" val y = x".as_slice(),
-    );
-    expect_nest(&rt, alloc, parts, 3_999, TOO_HIGH)?;
-    Ok(())
-}
-
-/// A structure declaration, its structure expression, its signature, the specification and the type have height 5.
-#[test]
-fn heights_of_types(rt: HostRuntime) -> Result<(), Fail> {
-    let alloc = rt.alloc();
-    let first = b"structure S :> sig val x : ".as_slice();
-    let last = b" end = struct val x = 1 end".as_slice();
-    let parts = (first, b"int".as_slice(), last);
-    let out = "unit a\n1 ok\n  structure S\n  val S.x : int\n";
-    expect_nest(&rt, alloc, parts, 3_995, out)?;
-    expect_nest(&rt, alloc, parts, 3_996, TOO_HIGH)?;
-    let first = b"structure S :> sig val x : int end = struct type t = ".as_slice();
-    let last = b" val x = 1 end".as_slice();
-    let parts = (first, b"int".as_slice(), last);
-    expect_nest(&rt, alloc, parts, 3_995, out)?;
-    expect_nest(&rt, alloc, parts, 3_996, TOO_HIGH)?;
-    Ok(())
-}
-
-/// A first text, one that opens, a middle, one that closes; how often the nest is written and accepted, with which lines,
-/// and from where on it is too high. `let` is one higher than what it holds, an operator two, and `case` and `if` three.
-const NESTS: [(&str, &str, &str, &str, usize, &str, usize); 11] = [
-    (
-        "val x = ",
-        "let val y = 1 in ",
-        "1",
-        " end",
-        1_000,
-        "  val x : int\n",
-        3_998,
-    ),
-    (
-        "val x = ",
-        "case 1 of y => ",
-        "1",
-        "",
-        250,
-        "  val x : int\n",
-        1_333,
-    ),
-    (
-        "val x = ",
-        "if true then 1 else ",
-        "1",
-        "",
-        250,
-        "  val x : int\n",
-        1_333,
-    ),
-    (
-        "val x = [1",
-        ",1",
-        "]",
-        "",
-        1_000,
-        "  val x : int list\n",
-        1_999,
-    ),
-    (
-        "val x = ",
-        "1 :: ",
-        "nil",
-        "",
-        1_000,
-        "  val x : int list\n",
-        2_000,
-    ),
-    (
-        "val x = 1",
-        " : int",
-        "",
-        "",
-        2_000,
-        "  val x : int\n",
-        3_999,
-    ),
-    (
-        "type t = ",
-        "(",
-        "int",
-        ")",
-        3_998,
-        "  type t = int\n",
-        3_999,
-    ),
-    ("", "local ", "", "in end ", 2_000, "", 4_001),
-    (
-        "structure X = ",
-        "let in ",
-        "struct end",
-        " end",
-        2_000,
-        "  structure X\n",
-        3_999,
-    ),
-    (
-        "structure X = struct end",
-        " : sig end",
-        "",
-        "",
-        2_000,
-        "  structure X\n",
-        3_999,
-    ),
-    (
-        "structure X : sig end = struct ",
-        "structure A = struct ",
-        "end",
-        " end",
-        1_000,
-        "  structure X\n",
-        1_999,
-    ),
-];
-
-#[test]
-fn heights_of_phrases(rt: HostRuntime) -> Result<(), Fail> {
-    let alloc = rt.alloc();
-    for (first, opens, middle, closes, accepted, lines, refused) in NESTS {
-        let reply = format!(in alloc; "unit a\n1 ok\n{lines}")?;
-        for (times, status, out) in [(accepted, 0, reply.as_str()), (refused, 1, TOO_HIGH)] {
-            let closed = repeated(alloc, middle.as_bytes(), closes.as_bytes(), times, b"")?;
-            let unit = repeated(alloc, first.as_bytes(), opens.as_bytes(), times, &closed)?;
-            answer_to_unit(alloc, unit)?.expect(&rt, status, out, "");
-        }
-    }
-    Ok(())
-}
-
-/// The type of a tuple has one node more than its parts.
+/// The type of a tuple has one node more than its parts; 3,333 functions have 3 nodes each.
 #[test]
 fn sizes_of_tuples(rt: HostRuntime) -> Result<(), Fail> {
     let alloc = rt.alloc();
@@ -231,18 +98,7 @@ fn sizes_of_tuples(rt: HostRuntime) -> Result<(), Fail> {
         assert_eq!(rt; answer.status, 0);
         assert_eq!(rt; answer.out.bytes(), out.as_slice());
     }
-    let unit = repeated(alloc, b"val x = (1", b",2", 9_999, b") val y = x")?;
-    answer_to_unit(alloc, unit)?.expect(&rt, 1, TOO_LARGE, "");
-    Ok(())
-}
-
-/// 3,333 functions have 3 nodes each, and their tuple one more.
-#[test]
-fn sizes_of_tuples_of_functions(rt: HostRuntime) -> Result<(), Fail> {
-    let alloc = rt.alloc();
     let unit = repeated(alloc, b"val x = (fn x => x", b",fn x => x", 3_332, b")")?;
     assert_eq!(rt; answer_to_unit(alloc, unit)?.status, 0);
-    let unit = repeated(alloc, b"val x = (1", b",fn x => x", 3_333, b") val y = x")?;
-    answer_to_unit(alloc, unit)?.expect(&rt, 1, TOO_LARGE, "");
     Ok(())
 }

@@ -44,87 +44,101 @@ fn expect_same(rt: &impl Abort, alloc: Global, one: &Checked, other: &Checked) -
     Ok(())
 }
 
-const LINES: &str = "unit a a.sml\nunit b b.sml a\nunit c c.sml b\n";
+/// The project files of the rows.
+const FILES: [&str; 4] = [
+    "unit a a.sml\nunit b b.sml a\nunit c c.sml b\n",
+    "unit n c.sml\nunit c c.sml b\nunit b b.sml a\nunit a a.sml\n",
+    "unit d a.sml\nunit b b.sml d\nunit c c.sml b\n",
+    "unit a a.sml\nunit b b.sml a\n",
+];
 
-const SEAL: &str =
-    "structure S :> sig type t val a : t val f : t -> t end = struct type t = int val a = 3 fun f x = x end";
+/// The texts of their units, each behind the letter that it has in a row.
+const LETTERS: [&str; 13] = [
+    "a structure S :> sig type t val a : t val f : t -> t end = struct type t = int val a = 3 fun f x = x end",
+    "b structure S :> sig type t val a : t val f : t -> t end = struct datatype p = P datatype q = Q type t = int * bool val a = (3, true) fun f (x, b) = (x, b) end",
+    "c structure S :> sig type t val a : t val f : t -> t val b : int end = struct type t = int val a = 3 fun f x = x val b = 1 end",
+    "d structure S :> sig eqtype t val a : t val f : t -> t end = struct type t = int val a = 3 fun f x = x end",
+    "e val y = S.f S.a",
+    "f val y = S.a",
+    "g val z = y",
+    "h val n = 1",
+    "i signature G = sig type t type u val f : t -> u end",
+    "j signature G = sig type u type t val f : t -> u end",
+    "k signature G = sig type u type t val f : u -> t end",
+    "l signature G = sig type u eqtype t val f : t -> u end",
+    "m signature G = sig type t type u val f : t -> u end val n = 1",
+];
 
-const OTHER_BODY: &str =
-    "structure S :> sig type t val a : t val f : t -> t end = struct datatype p = P datatype q = Q type t = int * bool val a = (3, true) fun f (x, b) = (x, b) end";
+/// The user of the signatures.
+const FUNCTOR: &str = "functor F (X : G) = struct val g = X.f end";
 
-const LONGER_SIGNATURE: &str =
-    "structure S :> sig type t val a : t val f : t -> t val b : int end = struct type t = int val a = 3 fun f x = x val b = 1 end";
+/// A row has the number of a project file and the letters of its units' texts, the same of the project that is checked
+/// behind it, which of its units are kept, and how many declarations are answered. `x` is the functor's letter.
+///
+/// A body may change, but not what a signature lists, nor whether a type admits equality; the order of the lines alone
+/// changes nothing, but another name, or other needs, are another unit; and signatures whose types are listed in another
+/// order are equal.
+const ROWS: [&str; 11] = [
+    "0 aeg 0 aeg kkk 0",
+    "0 aeg 0 beg -kk 1",
+    "0 aeg 0 afg k-k 1",
+    "0 aeg 0 ceg --k 2",
+    "0 aeg 0 deg --- 3",
+    "0 aeg 1 hgea -kkk 1",
+    "1 hgea 2 aeg --- 3",
+    "3 ix 3 jx -k 1",
+    "3 ix 3 kx -- 2",
+    "3 ix 3 lx -- 2",
+    "3 ix 3 mx -- 3",
+];
 
-const EQUALITY_TYPE: &str =
-    "structure S :> sig eqtype t val a : t val f : t -> t end = struct type t = int val a = 3 fun f x = x end";
+/// The project of a number and letters.
+fn project_by(alloc: Global, number: &str, letters: &str) -> Result<Project, Fail> {
+    let number = number.parse::<usize>().unwrap_or(0);
+    let mut texts = Vec::new(alloc);
+    for letter in letters.chars() {
+        let mut found = FUNCTOR;
+        for text in LETTERS {
+            if text.starts_with(letter) {
+                found = &text[2..];
+            }
+        }
+        texts.push(found)?;
+    }
+    project_of(alloc, FILES[number.min(3)], &texts)
+}
 
-/// Which units are kept, and how many declarations are answered.
+/// What a row says of the units kept and the declarations answered.
+fn found_of(alloc: Global, checked: &Checked) -> Result<String, Fail> {
+    let mut text = String::new(alloc);
+    for is_kept in checked.kept() {
+        text.push_str(if *is_kept { "k" } else { "-" })?;
+    }
+    let readings = checked.readings();
+    write!(text, " {readings}")?;
+    Ok(text)
+}
+
 #[test]
 fn kept_units(rt: HostRuntime) -> Result<(), Fail> {
     let alloc = rt.alloc();
-    let first = project_of(alloc, LINES, &[SEAL, "val y = S.f S.a", "val z = y"])?;
-    let old = check(alloc, &first)?;
-    assert_eq!(rt; old.kept(), [false, false, false].as_slice());
-    assert_eq!(rt; old.readings(), 3);
-    for (seal, user, kept, readings) in [
-        (SEAL, "val y = S.f S.a", [true, true, true], 0),
-        (OTHER_BODY, "val y = S.f S.a", [false, true, true], 1),
-        (SEAL, "val y = S.a", [true, false, true], 1),
-        (LONGER_SIGNATURE, "val y = S.f S.a", [false, false, true], 2),
-        (EQUALITY_TYPE, "val y = S.f S.a", [false, false, false], 3),
-    ] {
-        let second = project_of(alloc, LINES, &[seal, user, "val z = y"])?;
+    for row in ROWS {
+        let mut words = row.splitn(5, " ");
+        let old = project_by(
+            alloc,
+            words.next().unwrap_or(""),
+            words.next().unwrap_or(""),
+        )?;
+        let old = check(alloc, &old)?;
+        assert!(rt; !old.kept().contains(&true), "{row}");
+        let second = project_by(
+            alloc,
+            words.next().unwrap_or(""),
+            words.next().unwrap_or(""),
+        )?;
         let again = recheck(alloc, &old, &second)?;
-        assert_eq!(rt; again.kept(), kept.as_slice());
-        assert_eq!(rt; again.readings(), readings);
-        expect_same(&rt, alloc, &check(alloc, &second)?, &again)?;
-    }
-    Ok(())
-}
-
-/// The order of the lines alone changes nothing; another name, or other needs, are another unit.
-#[test]
-fn units_that_move(rt: HostRuntime) -> Result<(), Fail> {
-    let alloc = rt.alloc();
-    let user = "val y = S.f S.a";
-    let first = project_of(alloc, LINES, &[SEAL, user, "val z = y"])?;
-    let old = check(alloc, &first)?;
-    let lines = "unit n c.sml\nunit c c.sml b\nunit b b.sml a\nunit a a.sml\n";
-    let second = project_of(alloc, lines, &["val n = 1", "val z = y", user, SEAL])?;
-    let again = recheck(alloc, &old, &second)?;
-    assert_eq!(rt; again.kept(), [false, true, true, true].as_slice());
-    expect_same(&rt, alloc, &check(alloc, &second)?, &again)?;
-    let lines = "unit d a.sml\nunit b b.sml d\nunit c c.sml b\n";
-    let third = project_of(alloc, lines, &[SEAL, user, "val z = y"])?;
-    let back = recheck(alloc, &again, &third)?;
-    assert_eq!(rt; back.kept(), [false, false, false].as_slice());
-    expect_same(&rt, alloc, &check(alloc, &third)?, &back)?;
-    Ok(())
-}
-
-/// Signatures whose types are listed in another order are equal.
-#[test]
-fn equal_exports(rt: HostRuntime) -> Result<(), Fail> {
-    let alloc = rt.alloc();
-    let lines = "unit a a.sml\nunit b b.sml a\n";
-    let user = "functor F (X : G) = struct val g = X.f end";
-    let texts = ["signature G = sig type t type u val f : t -> u end", user];
-    let old = check(alloc, &project_of(alloc, lines, &texts)?)?;
-    for (text, is_kept) in [
-        ("signature G = sig type u type t val f : t -> u end", true),
-        ("signature G = sig type u type t val f : u -> t end", false),
-        (
-            "signature G = sig type u eqtype t val f : t -> u end",
-            false,
-        ),
-        (
-            "signature G = sig type t type u val f : t -> u end val n = 1",
-            false,
-        ),
-    ] {
-        let second = project_of(alloc, lines, &[text, user])?;
-        let again = recheck(alloc, &old, &second)?;
-        assert_eq!(rt; again.kept(), [false, is_kept].as_slice(), "{text}");
+        let found = found_of(alloc, &again)?;
+        assert_eq!(rt; found.as_str(), words.next().unwrap_or(""), "{row}");
         expect_same(&rt, alloc, &check(alloc, &second)?, &again)?;
     }
     Ok(())

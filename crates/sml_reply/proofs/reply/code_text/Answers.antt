@@ -221,7 +221,3 @@ returns-in-P2 c = ap code_text (sym c.in-P2.is)
 pub returns-in-P3 : goal.returns-in-P3
 unfolding code_text
 returns-in-P3 c = ap code_text (sym c.in-P3.is)
-
-pub returns-in-Z1 : goal.returns-in-Z1
-unfolding code_text
-returns-in-Z1 c = ap code_text (sym c.in-Z1.is)

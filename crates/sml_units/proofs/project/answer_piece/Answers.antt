@@ -5,10 +5,10 @@ use Rattle.sml_tree.specs.Views.{dec_of}
 use Rattle.sml_tree.specs.declared.bare.BareDec.{BareDec}
 use Rattle.sml_objects.specs.Initial.{naming}
 use Rattle.sml_objects.specs.Views.{maker_of}
-use Rattle.sml_rules.specs.Readings.{read_top}
+use Rattle.sml_rules.specs.Readings.{read_top, is_specified}
 use Rattle.sml_piece.specs.Elaborated.{IsBasisOf, beginning}
 use Rattle.sml_units.specs.Checked.{AreRepliesTo, IsReplyTo}
-use Rattle.sml_units.specs.Runs.{Run, is_specified, specified_beginning}
+use Rattle.sml_units.specs.Runs.{Run, specified_beginning}
 use Rattle.sml_units.proofs.Replying.{after_all, after_push, run_none, run_push, replies_push, beginning_all, beginning_cut_at, all_push}
 use Rattle.sml_units.proofs.project.answer_piece.Goals as goal
 

@@ -6,7 +6,8 @@ use Rattle.sml_objects.specs.Initial.{Name, naming}
 use Rattle.sml_objects.specs.Views.{maker_of}
 use Rattle.sml_piece.specs.Elaborated.{IsBasisOf}
 use Rattle.sml_units.specs.Checked.{Answered, AreRepliesTo}
-use Rattle.sml_units.specs.Runs.{Run, is_specified}
+use Rattle.sml_rules.specs.Readings.{is_specified}
+use Rattle.sml_units.specs.Runs.{Run}
 use Rattle.sml_units.proofs.Replying.{after_all}
 use Rattle.sml_units.proofs.project.answer_piece.Given as goal
 

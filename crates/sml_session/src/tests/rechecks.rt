@@ -92,18 +92,24 @@ const ROWS: [&str; 11] = [
     "3 ix 3 mx -- 3",
 ];
 
+/// The text of a letter.
+fn text_of(letter: char) -> &'static str {
+    for text in LETTERS {
+        if text.starts_with(letter) {
+            if let Some((_, text)) = text.split_once(" ") {
+                return text;
+            }
+        }
+    }
+    FUNCTOR
+}
+
 /// The project of a number and letters.
 fn project_by(alloc: Global, number: &str, letters: &str) -> Result<Project, Fail> {
     let number = number.parse::<usize>().unwrap_or(0);
     let mut texts = Vec::new(alloc);
     for letter in letters.chars() {
-        let mut found = FUNCTOR;
-        for text in LETTERS {
-            if text.starts_with(letter) {
-                found = &text[2..];
-            }
-        }
-        texts.push(found)?;
+        texts.push(text_of(letter))?;
     }
     project_of(alloc, FILES[number.min(3)], &texts)
 }

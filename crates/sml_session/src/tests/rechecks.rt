@@ -78,14 +78,13 @@ const FUNCTOR: &str = "functor F (X : G) = struct val g = X.f end";
 /// A body may change, but not what a signature lists, nor whether a type admits equality; the order of the lines alone
 /// changes nothing, but another name, or other needs, are another unit; and signatures whose types are listed in another
 /// order are equal.
-const ROWS: [&str; 11] = [
+const ROWS: [&str; 10] = [
     "0 aeg 0 aeg kkk 0",
     "0 aeg 0 beg -kk 1",
     "0 aeg 0 afg k-k 1",
     "0 aeg 0 ceg --k 2",
     "0 aeg 0 deg --- 3",
     "0 aeg 1 hgea -kkk 1",
-    "1 hgea 2 aeg --- 3",
     "3 ix 3 jx -k 1",
     "3 ix 3 kx -- 2",
     "3 ix 3 lx -- 2",
@@ -147,6 +146,24 @@ fn kept_units(rt: HostRuntime) -> Result<(), Fail> {
         assert_eq!(rt; found.as_str(), words.next().unwrap_or(""), "{row}");
         expect_same(&rt, alloc, &check(alloc, &second)?, &again)?;
     }
+    Ok(())
+}
+
+/// A project is checked again behind one that was checked again.
+#[test]
+fn units_that_move(rt: HostRuntime) -> Result<(), Fail> {
+    let alloc = rt.alloc();
+    let first = project_by(alloc, "0", "aeg")?;
+    let old = check(alloc, &first)?;
+    let found = found_of(alloc, &old)?;
+    assert_eq!(rt; found.as_str(), "--- 3");
+    let second = project_by(alloc, "1", "hgea")?;
+    let again = recheck(alloc, &old, &second)?;
+    let third = project_by(alloc, "2", "aeg")?;
+    let back = recheck(alloc, &again, &third)?;
+    let found = found_of(alloc, &back)?;
+    assert_eq!(rt; found.as_str(), "--- 3");
+    expect_same(&rt, alloc, &check(alloc, &third)?, &back)?;
     Ok(())
 }
 

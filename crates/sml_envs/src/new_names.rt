@@ -4,7 +4,7 @@ use sml_lex::fault::Memory;
 use sml_objects::objects::{MadeName, TyName, UnitId};
 
 /// The names that a unit makes: the next one has this number.
-#[derive(Clone, Copy, PartialEq, Eq, Debug)]
+#[derive(Clone, Copy, PartialEq, Eq)]
 pub struct NewNames {
     pub unit: UnitId,
     pub next: u32,

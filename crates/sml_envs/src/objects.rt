@@ -8,7 +8,7 @@ use std::collections::BTreeMap;
 use std::rc::Rc;
 
 /// The classes of the overloaded identifiers of the initial basis (the Definition, appendix E). Each has `int`.
-#[derive(Clone, Copy, PartialEq, Eq, Debug)]
+#[derive(Clone, Copy, PartialEq, Eq)]
 pub enum Overload {
     /// `word` and `int`.
     WordInt,
@@ -22,7 +22,7 @@ pub enum Overload {
 
 /// The status of a value identifier. A constructor is the one of this number, from 0 in byte order, among so many of its
 /// datatype. An overloaded identifier is a variable whose scheme has one variable, of a class.
-#[derive(Clone, Copy, PartialEq, Eq, Debug)]
+#[derive(Clone, Copy, PartialEq, Eq)]
 pub enum Status {
     Variable,
     Overloaded(Overload),

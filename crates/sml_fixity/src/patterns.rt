@@ -10,7 +10,7 @@ use crate::roles::Role;
 use crate::sequences::Item;
 
 /// What stands between the last operator and here.
-#[derive(Clone, Copy, PartialEq, Eq, Debug, Drop)]
+#[derive(Clone, Copy, PartialEq, Eq, Drop)]
 enum Run {
     Start,
     Name,

@@ -11,14 +11,14 @@ use crate::sequences::{FixFault, Step};
 use std::alloc::{AllocError, Global};
 
 /// An operator, by its index in the sequence.
-#[derive(Clone, Copy, PartialEq, Eq, Debug, Drop)]
+#[derive(Clone, Copy, PartialEq, Eq, Drop)]
 pub(crate) struct Operator {
     pub index: usize,
     pub fixity: Fixity,
 }
 
 /// What an item of a sequence is where the fixities are known: an operand, by its index, or an operator.
-#[derive(Clone, Copy, PartialEq, Eq, Debug, Drop)]
+#[derive(Clone, Copy, PartialEq, Eq, Drop)]
 pub(crate) enum Role {
     Atom(usize),
     Infix(Operator),

@@ -13,21 +13,21 @@ use std::collections::BTreeMap;
 use std::rc::Rc;
 
 /// The side to which operators of one level group.
-#[derive(Clone, Copy, PartialEq, Eq, Debug, Drop)]
+#[derive(Clone, Copy, PartialEq, Eq, Drop)]
 pub enum Side {
     Left,
     Right,
 }
 
 /// A level from 0 to 9, the tightest, and a side.
-#[derive(Clone, Copy, PartialEq, Eq, Debug, Drop)]
+#[derive(Clone, Copy, PartialEq, Eq, Drop)]
 pub struct Fixity {
     pub level: u8,
     pub side: Side,
 }
 
 /// The word that begins a directive (the Definition, section 2.6).
-#[derive(Clone, Copy, PartialEq, Eq, Debug, Drop)]
+#[derive(Clone, Copy, PartialEq, Eq, Drop)]
 pub enum Directive {
     /// `infix`, which groups to the left.
     Infix,
@@ -37,7 +37,7 @@ pub enum Directive {
 }
 
 /// Why a directive is refused.
-#[derive(Clone, Copy, PartialEq, Eq, Debug, Drop)]
+#[derive(Clone, Copy, PartialEq, Eq, Drop)]
 pub enum DirectiveFault {
     /// F3: the level isn't one digit.
     Level,

@@ -28,7 +28,7 @@ use sml_read::phrases::ends;
 use std::alloc::Global;
 
 /// A fault of what a declaration binds: its token and its code.
-#[derive(Clone, Copy, PartialEq, Eq, Debug, Drop)]
+#[derive(Clone, Copy, PartialEq, Eq, Drop)]
 pub struct Flaw {
     pub token: usize,
     pub code: Code,

@@ -25,7 +25,7 @@ use sml_reach::place::text;
 use std::alloc::Global;
 
 /// A name with its space, by number, and its group.
-#[derive(PartialEq, Eq, Hash, Debug, Drop)]
+#[derive(PartialEq, Eq, Hash, Drop)]
 pub struct Key {
     pub space: usize,
     pub group: usize,
@@ -33,7 +33,7 @@ pub struct Key {
 }
 
 /// A place in a sequence of atomic phrases.
-#[derive(Clone, Copy, PartialEq, Eq, Hash, Debug, Drop)]
+#[derive(Clone, Copy, PartialEq, Eq, Hash, Drop)]
 pub struct Position {
     pub sequence: usize,
     pub index: usize,

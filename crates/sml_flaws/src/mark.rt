@@ -13,7 +13,7 @@ use sml_read::table::backwards;
 use std::alloc::Global;
 
 /// A name that is bound: it must differ from the others of its space and its group. A group goes by its first token.
-#[derive(Clone, Copy, PartialEq, Eq, Debug, Drop)]
+#[derive(Clone, Copy, PartialEq, Eq, Drop)]
 pub struct Bound {
     pub space: Space,
     pub group: usize,
@@ -21,14 +21,14 @@ pub struct Bound {
 }
 
 /// A type variable in a type of a value declaration, which goes by its node.
-#[derive(Clone, Copy, PartialEq, Eq, Debug, Drop)]
+#[derive(Clone, Copy, PartialEq, Eq, Drop)]
 pub struct Owned {
     pub owner: usize,
     pub token: usize,
 }
 
 /// A type variable in a list, with the value declaration whose list it is, if it is one's.
-#[derive(Clone, Copy, PartialEq, Eq, Debug, Drop)]
+#[derive(Clone, Copy, PartialEq, Eq, Drop)]
 pub struct Listed {
     pub group: usize,
     pub owner: Option<usize>,
@@ -37,7 +37,7 @@ pub struct Listed {
 
 /// An identifier in a pattern: the first token of its sequence, its number in that, its token, and whether it would be
 /// bound by `rec` if it stands for itself.
-#[derive(Clone, Copy, PartialEq, Eq, Debug, Drop)]
+#[derive(Clone, Copy, PartialEq, Eq, Drop)]
 pub struct Identifier {
     pub sequence: usize,
     pub index: usize,
@@ -47,7 +47,7 @@ pub struct Identifier {
 
 /// A clause of a function: the first token of the function's first clause and its own, and how many atomic patterns its
 /// head has.
-#[derive(Clone, Copy, PartialEq, Eq, Debug, Drop)]
+#[derive(Clone, Copy, PartialEq, Eq, Drop)]
 pub struct Clause {
     pub function: usize,
     pub sequence: usize,
@@ -55,7 +55,7 @@ pub struct Clause {
 }
 
 /// What is noted at a node.
-#[derive(Clone, Copy, PartialEq, Eq, Debug, Drop)]
+#[derive(Clone, Copy, PartialEq, Eq, Drop)]
 pub enum Mark {
     Bound(Bound),
     Listed(Listed),
@@ -70,7 +70,7 @@ pub enum Mark {
 
 /// What is known of a phrase by the phrases round it: what its token is, the innermost group, value declaration and
 /// function, the sequence of patterns and how many of it stand before, and whether it is a pattern behind `rec`.
-#[derive(Clone, Copy, PartialEq, Eq, Debug, Drop)]
+#[derive(Clone, Copy, PartialEq, Eq, Drop)]
 pub struct Context {
     pub word: Word,
     pub group: usize,

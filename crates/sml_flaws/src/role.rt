@@ -8,7 +8,7 @@ use sml_read::grammar::{
 };
 
 /// Names that are told apart only from one another.
-#[derive(Clone, Copy, PartialEq, Eq, Debug)]
+#[derive(Clone, Copy, PartialEq, Eq)]
 pub enum Space {
     Labels,
     Variables,
@@ -23,7 +23,7 @@ pub enum Space {
 }
 
 /// What the token of a name or a constant is to the phrase that it stands in.
-#[derive(Clone, Copy, PartialEq, Eq, Debug)]
+#[derive(Clone, Copy, PartialEq, Eq)]
 pub enum Word {
     /// Nothing that is asked about.
     Plain,
@@ -40,7 +40,7 @@ pub enum Word {
 }
 
 /// What a symbol of a rule is to the phrase.
-#[derive(Clone, Copy, PartialEq, Eq, Debug)]
+#[derive(Clone, Copy, PartialEq, Eq)]
 pub enum Role {
     /// All as for the phrase.
     Same,
@@ -52,7 +52,7 @@ pub enum Role {
 }
 
 /// What begins with a phrase.
-#[derive(Clone, Copy, PartialEq, Eq, Debug)]
+#[derive(Clone, Copy, PartialEq, Eq)]
 pub enum Opening {
     Nothing,
     /// Names that must differ: those of a row, of a list of type variables, or of bindings joined by `and`.

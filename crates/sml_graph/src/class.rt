@@ -7,7 +7,7 @@ ghost use Rattle.sml_graph.specs.Classes.{names_in, both_names, allows};
 use sml_objects::objects::Initial;
 
 /// The classes of the overloaded identifiers (the Definition, appendix E). Each has `int`.
-#[derive(Clone, Copy, PartialEq, Eq, Debug)]
+#[derive(Clone, Copy, PartialEq, Eq)]
 pub enum Class {
     /// `word` and `int`.
     WordInt,

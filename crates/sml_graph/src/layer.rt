@@ -11,7 +11,7 @@ use sml_lex::fault::{Code, Memory};
 
 /// The layers, in order. A demand that can't be met is refused by the first layer that can't be met, each together with
 /// those before it.
-#[derive(Clone, Copy, PartialEq, Eq, Debug)]
+#[derive(Clone, Copy, PartialEq, Eq)]
 pub enum Layer {
     /// Equations between types, which may be infinite.
     Equations,
@@ -30,14 +30,14 @@ pub enum Layer {
 }
 
 /// The layer that a bound on names belongs to.
-#[derive(Clone, Copy, PartialEq, Eq, Debug)]
+#[derive(Clone, Copy, PartialEq, Eq)]
 pub enum Bound {
     Newness,
     Locality,
 }
 
 /// What may be asked of a type.
-#[derive(Clone, Copy, PartialEq, Eq, Debug)]
+#[derive(Clone, Copy, PartialEq, Eq)]
 pub enum Ask {
     /// It mentions no name that the unit made with this number or a higher one.
     Within(Bound, u32),
@@ -50,7 +50,7 @@ pub enum Ask {
 }
 
 /// Why a call of the solver is refused. After any refusal the solver is spent.
-#[derive(Clone, Copy, PartialEq, Eq, Debug)]
+#[derive(Clone, Copy, PartialEq, Eq)]
 pub enum Refusal {
     /// No types meet what was asked; the first layer that can't be met.
     Unmet(Layer),

@@ -3,11 +3,11 @@
 use std::alloc::{AllocError, AllocFailed};
 
 /// Want of memory: a growth was refused.
-#[derive(Clone, Copy, PartialEq, Eq, Debug)]
+#[derive(Clone, Copy, PartialEq, Eq)]
 pub struct Memory;
 
 /// The code of a fault or a warning.
-#[derive(Clone, Copy, PartialEq, Eq, Debug)]
+#[derive(Clone, Copy, PartialEq, Eq)]
 pub enum Code {
     L1,
     L2,
@@ -68,14 +68,14 @@ pub enum Code {
 
 /// A line and a column, both from 1. Line 1 is the line of the declaration's first token, where columns count
 /// bytes from that token; on later lines they count from the line's start.
-#[derive(Clone, Copy, PartialEq, Eq, Debug)]
+#[derive(Clone, Copy, PartialEq, Eq)]
 pub struct Place {
     pub line: u32,
     pub column: u32,
 }
 
 /// Why a declaration is refused.
-#[derive(PartialEq, Eq, Debug, Drop)]
+#[derive(PartialEq, Eq, Drop)]
 pub struct Fault {
     pub code: Code,
     pub place: Place,
@@ -84,7 +84,7 @@ pub struct Fault {
 }
 
 /// What is said of an accepted declaration: P1, P2 or P3.
-#[derive(Clone, Copy, PartialEq, Eq, Debug)]
+#[derive(Clone, Copy, PartialEq, Eq)]
 pub struct Warning {
     pub code: Code,
     pub place: Place,

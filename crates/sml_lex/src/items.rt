@@ -10,7 +10,7 @@ use crate::bytes::{behind, is_digit, is_hex_digit, is_white, starts_with};
 use crate::numbers::number_of;
 
 /// How many bytes an item of a string has, and the character that it stands for; a gap stands for none.
-#[derive(Clone, Copy, PartialEq, Eq, Debug)]
+#[derive(Clone, Copy, PartialEq, Eq)]
 pub struct Element {
     pub bytes: usize,
     pub value: Option<u8>,

@@ -7,7 +7,7 @@ use crate::token::Kind;
 use crate::words::{is_star, word_kind_of};
 
 /// A token at the front of a text: its kind, and how many bytes it has.
-#[derive(Clone, Copy, PartialEq, Eq, Debug)]
+#[derive(Clone, Copy, PartialEq, Eq)]
 pub struct Lexeme {
     pub kind: Kind,
     pub size: usize,

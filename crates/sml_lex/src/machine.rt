@@ -6,7 +6,7 @@ use crate::bytes::{is_digit, is_hex_digit, is_letter, is_mark, is_name_byte, is_
 use crate::token::Kind;
 
 /// What was read of a token so far.
-#[derive(Clone, Copy, PartialEq, Eq, Debug)]
+#[derive(Clone, Copy, PartialEq, Eq)]
 pub enum State {
     Fresh,
     Mark,

@@ -16,7 +16,7 @@ use crate::strings::scan;
 use crate::token::{Kind, Stop};
 
 /// What a unit is made of, with its number of bytes.
-#[derive(Clone, Copy, PartialEq, Eq, Debug)]
+#[derive(Clone, Copy, PartialEq, Eq)]
 pub enum Piece {
     /// A byte of white space.
     Blank,

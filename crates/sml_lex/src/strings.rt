@@ -11,7 +11,7 @@ use crate::items::item;
 use crate::token::Stop;
 
 /// How many bytes a string has, with its quotes, how many characters, and the first of these.
-#[derive(Clone, Copy, PartialEq, Eq, Debug)]
+#[derive(Clone, Copy, PartialEq, Eq)]
 pub struct Extent {
     pub bytes: usize,
     pub characters: usize,

@@ -3,7 +3,7 @@
 use crate::fault::Code;
 
 /// The kind of a token: what the grammar sees of it.
-#[derive(Clone, Copy, PartialEq, Eq, Debug)]
+#[derive(Clone, Copy, PartialEq, Eq)]
 pub enum Kind {
     // identifiers and constants
     /// An alphanumeric identifier.
@@ -106,28 +106,28 @@ pub enum Kind {
 }
 
 /// Some bytes of a unit: from start up to end.
-#[derive(Clone, Copy, PartialEq, Eq, Debug)]
+#[derive(Clone, Copy, PartialEq, Eq)]
 pub struct Span {
     pub start: usize,
     pub end: usize,
 }
 
 /// A token: its kind, and its bytes in the unit.
-#[derive(Clone, Copy, PartialEq, Eq, Debug)]
+#[derive(Clone, Copy, PartialEq, Eq)]
 pub struct Token {
     pub kind: Kind,
     pub span: Span,
 }
 
 /// A lexical fault: L1 to L6, and the byte of the unit at which it stands.
-#[derive(Clone, Copy, PartialEq, Eq, Debug)]
+#[derive(Clone, Copy, PartialEq, Eq)]
 pub struct Stop {
     pub code: Code,
     pub at: usize,
 }
 
 /// Where the tokens of a unit end.
-#[derive(Clone, Copy, PartialEq, Eq, Debug)]
+#[derive(Clone, Copy, PartialEq, Eq)]
 pub enum End {
     /// At the last byte.
     Done,
@@ -136,7 +136,7 @@ pub enum End {
 }
 
 /// The tokens of a unit, in order, and their end.
-#[derive(Debug, Drop)]
+#[derive(Drop)]
 pub struct Lexed<'a> {
     pub unit: &'a [u8],
     pub tokens: Vec<Token>,

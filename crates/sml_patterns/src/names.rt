@@ -15,7 +15,7 @@ use std::alloc::Global;
 
 /// What an identifier of a pattern means. A constructor is the one of this number, from 0, among so many of its
 /// datatype.
-#[derive(Clone, Copy, PartialEq, Eq, Debug)]
+#[derive(Clone, Copy, PartialEq, Eq)]
 pub enum Meaning {
     Variable,
     Exception,

@@ -16,7 +16,7 @@ use sml_tree::signatures::TypDesc;
 use std::alloc::{AllocError, AllocFailed};
 
 /// Why a phrase isn't made: a tree would be higher than the limit, or a growth was refused.
-#[derive(Clone, Copy, PartialEq, Eq, Debug, Drop)]
+#[derive(Clone, Copy, PartialEq, Eq, Drop)]
 pub enum Failure {
     TooHigh,
     Memory,

@@ -9,7 +9,7 @@ use sml_lex::fault::{Code, Fault, Memory, Place};
 use std::alloc::{AllocError, AllocFailed};
 
 /// A fault of the declaration, or want of memory.
-#[derive(Debug, Drop)]
+#[derive(Drop)]
 pub enum TopFault {
     Memory,
     Fault(Fault),

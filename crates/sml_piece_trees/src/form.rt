@@ -8,7 +8,7 @@ use sml_read::grammar::{
 };
 
 /// How a tree of the piece is made of the parts that stand behind it.
-#[derive(Clone, Copy, PartialEq, Eq, Debug)]
+#[derive(Clone, Copy, PartialEq, Eq)]
 pub enum Form {
     /// A declaration at the top.
     Top,
@@ -52,7 +52,7 @@ pub enum Form {
 }
 
 /// What a rule of the grammar is to the piece.
-#[derive(Clone, Copy, PartialEq, Eq, Debug)]
+#[derive(Clone, Copy, PartialEq, Eq)]
 pub enum Meaning {
     /// What stands behind it stands for it.
     Passed,

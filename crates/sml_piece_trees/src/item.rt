@@ -5,14 +5,14 @@ use sml_lex::fault::Place;
 use sml_lex::token::Span;
 
 /// A token: its place in its declaration, and its bytes in the unit.
-#[derive(Clone, Copy, PartialEq, Eq, Debug)]
+#[derive(Clone, Copy, PartialEq, Eq)]
 pub struct Word {
     pub place: Place,
     pub span: Span,
 }
 
 /// What makes no tree.
-#[derive(Clone, Copy, PartialEq, Eq, Debug)]
+#[derive(Clone, Copy, PartialEq, Eq)]
 pub enum Mark {
     /// A declaration begins behind it.
     Begins,
@@ -23,7 +23,7 @@ pub enum Mark {
 }
 
 /// A token, or a form whose parts follow, or a mark.
-#[derive(Clone, Copy, PartialEq, Eq, Debug)]
+#[derive(Clone, Copy, PartialEq, Eq)]
 pub enum Item {
     Word(Word),
     Made(Form),

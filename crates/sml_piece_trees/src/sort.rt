@@ -10,7 +10,7 @@ use sml_lex::fault::Memory;
 use std::alloc::Global;
 
 /// Of which sort is what a part makes.
-#[derive(Clone, Copy, PartialEq, Eq, Debug)]
+#[derive(Clone, Copy, PartialEq, Eq)]
 pub enum Sort {
     Nothing,
     Word,
@@ -34,7 +34,7 @@ pub enum Sort {
 }
 
 /// What a form needs in one place.
-#[derive(Clone, Copy, PartialEq, Eq, Debug)]
+#[derive(Clone, Copy, PartialEq, Eq)]
 pub enum Need {
     One(Sort),
     /// A declaration of the core.

@@ -65,7 +65,7 @@ pub fn place_between(unit: &[u8], start: usize, at: usize) -> Place
 }
 
 /// A walk over a unit, which knows the place where it stands.
-#[derive(Clone, Copy, Debug)]
+#[derive(Clone, Copy)]
 pub struct Walk {
     start: usize,
     at: usize,

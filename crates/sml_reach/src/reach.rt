@@ -29,7 +29,7 @@ use std::alloc::Global;
 
 /// A fault of fixity: the number of its declaration in the unit, counted from 1, and that one's first token, its own
 /// token, and its code.
-#[derive(Clone, Copy, PartialEq, Eq, Debug, Drop)]
+#[derive(Clone, Copy, PartialEq, Eq, Drop)]
 pub struct Misfit {
     pub number: usize,
     pub begun: usize,

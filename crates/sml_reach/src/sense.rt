@@ -7,7 +7,7 @@ use sml_lex::token::Kind;
 use sml_read::grammar::{DeclarationRule, ExpressionRule, NameRule, PatternRule, Rule, UnitRule};
 
 /// What a phrase is to the sequence that it stands in, by its rule and its parts.
-#[derive(Clone, Copy, PartialEq, Eq, Debug)]
+#[derive(Clone, Copy, PartialEq, Eq)]
 pub enum Sense {
     Nothing,
     /// What its first part is.
@@ -51,7 +51,7 @@ pub enum Sense {
 }
 
 /// What happens where a phrase begins.
-#[derive(Clone, Copy, PartialEq, Eq, Debug)]
+#[derive(Clone, Copy, PartialEq, Eq)]
 pub enum Deed {
     Nothing,
     /// A declaration at the top begins.

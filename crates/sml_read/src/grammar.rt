@@ -3,7 +3,7 @@
 use sml_lex::token::Kind;
 
 /// A part of the grammar, with its alternatives.
-#[derive(Clone, Copy, PartialEq, Eq, Debug)]
+#[derive(Clone, Copy, PartialEq, Eq)]
 pub enum Part {
     /// `Alphanumeric`; `Symbolic`; `'*'`
     Vid,
@@ -314,14 +314,14 @@ pub enum Part {
 }
 
 /// One place of a rule's right side.
-#[derive(Clone, Copy, PartialEq, Eq, Debug)]
+#[derive(Clone, Copy, PartialEq, Eq)]
 pub enum Symbol {
     Word(Kind),
     Of(Part),
 }
 
 /// Rules for identifiers and constants (the Definition, section 2.8).
-#[derive(Clone, Copy, PartialEq, Eq, Debug)]
+#[derive(Clone, Copy, PartialEq, Eq)]
 pub enum NameRule {
     VidAlphanumeric,
     VidSymbolic,
@@ -357,7 +357,7 @@ pub enum NameRule {
 }
 
 /// Rules for units, and sequences of declarations (the Definition, section 3.4).
-#[derive(Clone, Copy, PartialEq, Eq, Debug)]
+#[derive(Clone, Copy, PartialEq, Eq)]
 pub enum UnitRule {
     StartNone,
     StartSemicolon,
@@ -386,7 +386,7 @@ pub enum UnitRule {
 }
 
 /// Rules for structure and functor bindings, and structure expressions (the Definition, section 3.4).
-#[derive(Clone, Copy, PartialEq, Eq, Debug)]
+#[derive(Clone, Copy, PartialEq, Eq)]
 pub enum StructureRule {
     StrBindAlphanumeric,
     SealNone,
@@ -444,7 +444,7 @@ pub enum StructureRule {
 }
 
 /// Rules for signature bindings and expressions (the Definition, section 3.4).
-#[derive(Clone, Copy, PartialEq, Eq, Debug)]
+#[derive(Clone, Copy, PartialEq, Eq)]
 pub enum SignatureRule {
     SigSigAtom,
     SigAtomSig,
@@ -467,7 +467,7 @@ pub enum SignatureRule {
 }
 
 /// Rules for specifications (the Definition, section 3.4).
-#[derive(Clone, Copy, PartialEq, Eq, Debug)]
+#[derive(Clone, Copy, PartialEq, Eq)]
 pub enum SpecificationRule {
     SpecVal,
     SpecType,
@@ -523,7 +523,7 @@ pub enum SpecificationRule {
 }
 
 /// Rules for declarations of the core (the Definition, section 2.8).
-#[derive(Clone, Copy, PartialEq, Eq, Debug)]
+#[derive(Clone, Copy, PartialEq, Eq)]
 pub enum DeclarationRule {
     DecCoreDec,
     DecLocal,
@@ -591,7 +591,7 @@ pub enum DeclarationRule {
 }
 
 /// Rules for expressions and matches (the Definition, section 2.8).
-#[derive(Clone, Copy, PartialEq, Eq, Debug)]
+#[derive(Clone, Copy, PartialEq, Eq)]
 pub enum ExpressionRule {
     ExpOpen,
     ExpTyp,
@@ -648,7 +648,7 @@ pub enum ExpressionRule {
 }
 
 /// Rules for patterns (the Definition, section 2.8).
-#[derive(Clone, Copy, PartialEq, Eq, Debug)]
+#[derive(Clone, Copy, PartialEq, Eq)]
 pub enum PatternRule {
     PatOpenRound,
     PatBarePat,
@@ -699,7 +699,7 @@ pub enum PatternRule {
 }
 
 /// Rules for type expressions (the Definition, section 2.8).
-#[derive(Clone, Copy, PartialEq, Eq, Debug)]
+#[derive(Clone, Copy, PartialEq, Eq)]
 pub enum TypeRule {
     TyTup,
     TyArrowNone,
@@ -731,7 +731,7 @@ pub enum TypeRule {
 }
 
 /// A rule of the grammar: one alternative of one part. Its name is its part's and its first symbol's.
-#[derive(Clone, Copy, PartialEq, Eq, Debug)]
+#[derive(Clone, Copy, PartialEq, Eq)]
 pub enum Rule {
     Names(NameRule),
     Units(UnitRule),
@@ -746,7 +746,7 @@ pub enum Rule {
 
 /// A node of a tree, in the order in which a walk from the top meets them: a token, or a rule whose children
 /// follow.
-#[derive(Clone, Copy, PartialEq, Eq, Debug)]
+#[derive(Clone, Copy, PartialEq, Eq)]
 pub enum Node {
     Leaf,
     Inner(Rule),

@@ -15,7 +15,7 @@ use sml_lex::token::{End, Kind, Lexed};
 use std::alloc::Global;
 
 /// Why a unit isn't read to its end.
-#[derive(Clone, Copy, PartialEq, Eq, Debug)]
+#[derive(Clone, Copy, PartialEq, Eq)]
 pub enum Cause {
     /// No unit has the token at this place there.
     Unexpected(usize),
@@ -27,7 +27,7 @@ pub enum Cause {
 
 /// What was read of a unit: the trees of the whole declarations, the place of the token that begins what comes
 /// after them, and the fault.
-#[derive(Debug, Drop)]
+#[derive(Drop)]
 pub struct Full {
     pub nodes: Vec<Node>,
     pub begun: usize,

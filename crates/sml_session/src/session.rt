@@ -16,7 +16,7 @@ use sml_units::run::{RunFault, Summary, run};
 use std::alloc::{AllocError, Global};
 
 /// Why a file couldn't be had.
-#[derive(Clone, Copy, PartialEq, Eq, Debug)]
+#[derive(Clone, Copy, PartialEq, Eq)]
 pub enum SourceFault {
     Unreadable,
     Memory,

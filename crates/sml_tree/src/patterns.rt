@@ -6,7 +6,7 @@ use crate::types::Ty;
 use sml_lex::fault::Place;
 
 /// The kinds of special constants (the Definition, section 2.2).
-#[derive(Clone, Copy, PartialEq, Eq, Debug)]
+#[derive(Clone, Copy, PartialEq, Eq)]
 pub enum ConstantKind {
     Integer,
     Word,

@@ -7,7 +7,7 @@ use crate::signatures::SigExp;
 use sml_lex::fault::Place;
 
 /// `:` or `:>`
-#[derive(Clone, Copy, PartialEq, Eq, Debug)]
+#[derive(Clone, Copy, PartialEq, Eq)]
 pub enum Ascription {
     Transparent,
     Opaque,

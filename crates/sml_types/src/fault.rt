@@ -7,7 +7,7 @@ use sml_lex::fault::{Code, Fault, Memory, Place};
 use std::alloc::{AllocError, AllocFailed};
 
 /// A fault of the declaration, or want of memory.
-#[derive(Debug, Drop)]
+#[derive(Drop)]
 pub enum CoreFault {
     Memory,
     Fault(Fault),

@@ -75,12 +75,6 @@ pub fn ask<S: Source>(alloc: Global, texts: &[&str], source: &mut S) -> Result<A
     Ok(Answer { status, out, err })
 }
 
-/// The answer to a project of one unit.
-pub fn answer_to_unit(alloc: Global, unit: Vec<u8>) -> Result<Answer, AllocError> {
-    let mut folder = folder_of(alloc, unit)?;
-    ask(alloc, &["smlcheck", "project"], &mut folder)
-}
-
 /// A text, another so many times, and a last one.
 pub fn repeated(
     alloc: Global,

@@ -1,6 +1,6 @@
 //! Projects of several units.
 
-use crate::tests::fakes::{Folder, ask};
+use crate::tests::fakes::{Folder, ask, repeated};
 use std::alloc::{AllocError, Global};
 use std::fmt::Write;
 use std::process::Abort;
@@ -76,5 +76,31 @@ fn chains_of_units(rt: HostRuntime) -> Result<(), Fail> {
     expect(&rt, alloc, &reversed, (0, &out, ""))?;
     project.push_str("unit u4096 a.sml u4095\n")?;
     expect(&rt, alloc, &project, (2, "", "smlcheck: O4 line 4097\n"))?;
+    Ok(())
+}
+
+/// A project file has 1,048,576 bytes at most.
+#[test]
+fn sizes_of_projects(rt: HostRuntime) -> Result<(), Fail> {
+    let alloc = rt.alloc();
+    for (size, status, out, err) in [
+        (1_048_576, 0, "unit a\n", ""),
+        (1_048_577, 2, "", "smlcheck: O4 line 1\n"),
+        (1_048_578, 2, "", "smlcheck: O4 line 1\n"),
+    ] {
+        let mut folder = Folder {
+            project: repeated(alloc, b"unit a a.sml\n", b"#", size - 13, b"")?,
+            unit: Vec::new(alloc),
+        };
+        ask(alloc, &["smlcheck", "project"], &mut folder)?.expect(&rt, status, out, err);
+    }
+    let mut folder = Folder {
+        project: repeated(alloc, b"", b"\n", 1_048_563, b"unit a a.sml")?,
+        unit: Vec::new(alloc),
+    };
+    ask(alloc, &["smlcheck", "project"], &mut folder)?.expect(&rt, 0, "unit a\n", "");
+    folder.project = repeated(alloc, b"", b"\n", 1_048_563, b"unit a")?;
+    let err = "smlcheck: O4 line 1048564\n";
+    ask(alloc, &["smlcheck", "project"], &mut folder)?.expect(&rt, 2, "", err);
     Ok(())
 }

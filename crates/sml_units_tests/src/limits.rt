@@ -1,7 +1,7 @@
 //! The greatest sizes, and one more.
 
-use crate::tests::fakes::{Folder, answer_to_unit, ask, repeated};
-use crate::tests::written::expect_written;
+use crate::units::{answer_to_unit, repeated};
+use crate::written::expect_written;
 use std::test::Fail;
 
 /// A unit has 1,048,576 bytes at most. A value declaration and a constant have height 2, and each pair of brackets adds one;
@@ -56,31 +56,6 @@ fn greatest_and_one_more(rt: HostRuntime) -> Result<(), Fail> {
     Ok(())
 }
 
-#[test]
-fn sizes_of_projects(rt: HostRuntime) -> Result<(), Fail> {
-    let alloc = rt.alloc();
-    for (size, status, out, err) in [
-        (1_048_576, 0, "unit a\n", ""),
-        (1_048_577, 2, "", "smlcheck: O4 line 1\n"),
-        (1_048_578, 2, "", "smlcheck: O4 line 1\n"),
-    ] {
-        let mut folder = Folder {
-            project: repeated(alloc, b"unit a a.sml\n", b"#", size - 13, b"")?,
-            unit: Vec::new(alloc),
-        };
-        ask(alloc, &["smlcheck", "project"], &mut folder)?.expect(&rt, status, out, err);
-    }
-    let mut folder = Folder {
-        project: repeated(alloc, b"", b"\n", 1_048_563, b"unit a a.sml")?,
-        unit: Vec::new(alloc),
-    };
-    ask(alloc, &["smlcheck", "project"], &mut folder)?.expect(&rt, 0, "unit a\n", "");
-    folder.project = repeated(alloc, b"", b"\n", 1_048_563, b"unit a")?;
-    let err = "smlcheck: O4 line 1048564\n";
-    ask(alloc, &["smlcheck", "project"], &mut folder)?.expect(&rt, 2, "", err);
-    Ok(())
-}
-
 /// The type of a tuple has one node more than its parts; 3,333 functions have 3 nodes each.
 #[test]
 fn sizes_of_tuples(rt: HostRuntime) -> Result<(), Fail> {
@@ -94,11 +69,9 @@ fn sizes_of_tuples(rt: HostRuntime) -> Result<(), Fail> {
             count - 1,
             b"\n",
         )?;
-        let answer = answer_to_unit(alloc, unit)?;
-        assert_eq!(rt; answer.status, 0);
-        assert_eq!(rt; answer.out.bytes(), out.as_slice());
+        answer_to_unit(alloc, unit)?.expect(&rt, false, &out);
     }
     let unit = repeated(alloc, b"val x = (fn x => x", b",fn x => x", 3_332, b")")?;
-    assert_eq!(rt; answer_to_unit(alloc, unit)?.status, 0);
+    assert_eq!(rt; answer_to_unit(alloc, unit)?.refused, 0);
     Ok(())
 }

@@ -1,7 +1,7 @@
 //! Declarations of the first piece, answered by its own rules and by those of the whole language.
 
-use crate::tests::fakes::answer_to_unit;
-use std::alloc::{AllocError, Global};
+use crate::units::answer_to_unit;
+use std::alloc::Global;
 use std::process::Abort;
 use std::test::Fail;
 
@@ -46,16 +46,10 @@ val p = (f, g, ())
 ";
 
 /// What a unit answers behind the beginning that it has to have.
-fn rest(
-    rt: &impl Abort,
-    alloc: Global,
-    unit: &str,
-    beginning: &str,
-) -> Result<Vec<u8>, AllocError> {
+fn rest(rt: &impl Abort, alloc: Global, unit: &str, beginning: &str) -> Result<Vec<u8>, Fail> {
     let answer = answer_to_unit(alloc, Vec::from_slice(alloc, unit.as_bytes())?)?;
-    assert!(rt; answer.err.bytes().is_empty());
     match answer.out.bytes().strip_prefix(beginning.as_bytes()) {
-        Some(rest) => Vec::from_slice(alloc, rest),
+        Some(rest) => Ok(Vec::from_slice(alloc, rest)?),
         None => {
             assert!(rt; false, "{unit}");
             Ok(Vec::new(alloc))

@@ -1,8 +1,8 @@
 //! Units that are cut, or made to break what reads them.
 
-use crate::tests::fakes::{answer_to_unit, repeated};
-use crate::tests::written::expect_written;
-use std::alloc::{AllocError, Global};
+use crate::units::{answer_to_unit, repeated};
+use crate::written::expect_written;
+use std::alloc::Global;
 use std::fmt::Write;
 use std::process::Abort;
 use std::test::Fail;
@@ -72,11 +72,9 @@ fn expect_cuts(
     alloc: Global,
     unit: &[u8],
     wanted: &[(usize, &str)],
-) -> Result<(), AllocError> {
+) -> Result<(), Fail> {
     for length in 0..=unit.len() {
         let answer = answer_to_unit(alloc, Vec::from_slice(alloc, &unit[..length])?)?;
-        assert!(rt; answer.status <= 1);
-        assert!(rt; answer.err.bytes().is_empty());
         let mut replies = String::new(alloc);
         for (from, reply) in wanted {
             if *from <= length {
@@ -140,7 +138,7 @@ fn endless_texts(rt: HostRuntime) -> Result<(), Fail> {
         1_048_576,
         b"\n",
     )?;
-    assert_eq!(rt; answer_to_unit(alloc, unit)?.out.bytes(), out.as_slice());
+    answer_to_unit(alloc, unit)?.expect(&rt, true, &out);
     Ok(())
 }
 
@@ -153,6 +151,6 @@ fn many_declarations(rt: HostRuntime) -> Result<(), Fail> {
         write!(replies, "{number} ok\n  val x : int\n")?;
     }
     replies.push_str("100001 fault E1 1.7 unbound value z\n")?;
-    answer_to_unit(alloc, unit)?.expect(&rt, 1, &replies, "");
+    answer_to_unit(alloc, unit)?.expect(&rt, true, replies.as_bytes());
     Ok(())
 }

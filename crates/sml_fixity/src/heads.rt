@@ -8,7 +8,7 @@ use crate::scopes::Fixities;
 use crate::sequences::{FixFault, Item};
 
 /// How the head of a clause is written, and so where its function's name and arguments stand.
-#[derive(Clone, Copy, PartialEq, Eq, Drop)]
+#[derive(Clone, Copy, PartialEq, Eq, Drop, Debug)]
 pub enum Head {
     /// The name, and then one argument or more.
     Prefix,

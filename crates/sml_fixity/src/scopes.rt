@@ -13,14 +13,14 @@ use std::collections::BTreeMap;
 use std::rc::Rc;
 
 /// The side to which operators of one level group.
-#[derive(Clone, Copy, PartialEq, Eq, Drop)]
+#[derive(Clone, Copy, PartialEq, Eq, Drop, Debug)]
 pub enum Side {
     Left,
     Right,
 }
 
 /// A level from 0 to 9, the tightest, and a side.
-#[derive(Clone, Copy, PartialEq, Eq, Drop)]
+#[derive(Clone, Copy, PartialEq, Eq, Drop, Debug)]
 pub struct Fixity {
     pub level: u8,
     pub side: Side,
@@ -37,7 +37,7 @@ pub enum Directive {
 }
 
 /// Why a directive is refused.
-#[derive(Clone, Copy, PartialEq, Eq, Drop)]
+#[derive(Clone, Copy, PartialEq, Eq, Drop, Debug)]
 pub enum DirectiveFault {
     /// F3: the level isn't one digit.
     Level,

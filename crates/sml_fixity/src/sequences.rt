@@ -13,7 +13,7 @@ use sml_tree::bare::Ident;
 use std::alloc::{AllocError, Global};
 
 /// An item of a sequence of atomic expressions or atomic patterns.
-#[derive(PartialEq, Eq, Drop)]
+#[derive(PartialEq, Eq, Drop, Debug)]
 pub enum Item {
     /// A short identifier without `op`: an operator where it has a fixity, and else an operand.
     Short(Ident),
@@ -26,7 +26,7 @@ pub enum Item {
 }
 
 /// One step that builds a tree on a stack. An item is named by its index in the sequence.
-#[derive(Clone, Copy, PartialEq, Eq, Drop)]
+#[derive(Clone, Copy, PartialEq, Eq, Drop, Debug)]
 pub enum Step {
     /// An operand.
     Push(usize),
@@ -37,13 +37,13 @@ pub enum Step {
 }
 
 /// A tree, as the steps that build it, its parts before the whole.
-#[derive(PartialEq, Eq, Drop)]
+#[derive(PartialEq, Eq, Drop, Debug)]
 pub struct Operand {
     pub steps: Vec<Step>,
 }
 
 /// Why a sequence stands for no tree. An item is named by its index in the sequence.
-#[derive(Clone, Copy, PartialEq, Eq, Drop)]
+#[derive(Clone, Copy, PartialEq, Eq, Drop, Debug)]
 pub enum FixFault {
     /// F1: this operator lacks an operand.
     NoOperand(usize),

@@ -3,11 +3,11 @@
 use std::alloc::{AllocError, AllocFailed};
 
 /// Want of memory: a growth was refused.
-#[derive(Clone, Copy, PartialEq, Eq)]
+#[derive(Clone, Copy, PartialEq, Eq, Debug)]
 pub struct Memory;
 
 /// The code of a fault or a warning.
-#[derive(Clone, Copy, PartialEq, Eq)]
+#[derive(Clone, Copy, PartialEq, Eq, Debug)]
 pub enum Code {
     L1,
     L2,

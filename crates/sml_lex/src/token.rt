@@ -3,7 +3,7 @@
 use crate::fault::Code;
 
 /// The kind of a token: what the grammar sees of it.
-#[derive(Clone, Copy, PartialEq, Eq)]
+#[derive(Clone, Copy, PartialEq, Eq, Debug)]
 pub enum Kind {
     // identifiers and constants
     /// An alphanumeric identifier.
@@ -106,7 +106,7 @@ pub enum Kind {
 }
 
 /// Some bytes of a unit: from start up to end.
-#[derive(Clone, Copy, PartialEq, Eq)]
+#[derive(Clone, Copy, PartialEq, Eq, Debug)]
 pub struct Span {
     pub start: usize,
     pub end: usize,
@@ -120,14 +120,14 @@ pub struct Token {
 }
 
 /// A lexical fault: L1 to L6, and the byte of the unit at which it stands.
-#[derive(Clone, Copy, PartialEq, Eq)]
+#[derive(Clone, Copy, PartialEq, Eq, Debug)]
 pub struct Stop {
     pub code: Code,
     pub at: usize,
 }
 
 /// Where the tokens of a unit end.
-#[derive(Clone, Copy, PartialEq, Eq)]
+#[derive(Clone, Copy, PartialEq, Eq, Debug)]
 pub enum End {
     /// At the last byte.
     Done,

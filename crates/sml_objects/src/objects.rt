@@ -6,13 +6,13 @@ use std::collections::BTreeMap;
 use std::rc::Rc;
 
 /// A unit: its place among the unit lines of its project, from 0.
-#[derive(Clone, Copy, PartialEq, Eq, Hash)]
+#[derive(Clone, Copy, PartialEq, Eq, Hash, Debug)]
 pub struct UnitId {
     pub index: u32,
 }
 
 /// An initial type name.
-#[derive(Clone, Copy, PartialEq, Eq, Hash)]
+#[derive(Clone, Copy, PartialEq, Eq, Hash, Debug)]
 pub enum Initial {
     Int,
     Word,
@@ -26,7 +26,7 @@ pub enum Initial {
 }
 
 /// A type name that a unit made: its number there, counted from 0, and what it carries.
-#[derive(Clone, Copy, PartialEq, Eq, Hash)]
+#[derive(Clone, Copy, PartialEq, Eq, Hash, Debug)]
 pub struct MadeName {
     pub unit: UnitId,
     pub number: u32,
@@ -35,7 +35,7 @@ pub struct MadeName {
 }
 
 /// A type name.
-#[derive(Clone, Copy, PartialEq, Eq, Hash)]
+#[derive(Clone, Copy, PartialEq, Eq, Hash, Debug)]
 pub enum TyName {
     Initial(Initial),
     Made(MadeName),

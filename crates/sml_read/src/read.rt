@@ -15,7 +15,7 @@ use sml_lex::token::{End, Kind, Lexed};
 use std::alloc::Global;
 
 /// Why a unit isn't read to its end.
-#[derive(Clone, Copy, PartialEq, Eq)]
+#[derive(Clone, Copy, PartialEq, Eq, Debug)]
 pub enum Cause {
     /// No unit has the token at this place there.
     Unexpected(usize),

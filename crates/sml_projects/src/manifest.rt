@@ -10,7 +10,7 @@ use sml_lex::fault::Memory;
 use std::alloc::{AllocError, AllocFailed, Global};
 
 /// The code of a fault of a project.
-#[derive(Clone, Copy, PartialEq, Eq)]
+#[derive(Clone, Copy, PartialEq, Eq, Debug)]
 pub enum ProjectCode {
     /// Unknown unit.
     O1,
@@ -23,21 +23,21 @@ pub enum ProjectCode {
 }
 
 /// A fault of a project, and the line of the project file at which it stands, from 1.
-#[derive(Clone, Copy, PartialEq, Eq)]
+#[derive(Clone, Copy, PartialEq, Eq, Debug)]
 pub struct ProjectFault {
     pub code: ProjectCode,
     pub line: u32,
 }
 
 /// Why a project file is no manifest: O4 or O3, or want of memory.
-#[derive(Drop)]
+#[derive(Drop, Debug)]
 pub enum ManifestFault {
     Memory,
     Fault(ProjectFault),
 }
 
 /// Why the units have no order: O1 or O2, or want of memory.
-#[derive(Drop)]
+#[derive(Drop, Debug)]
 pub enum OrderFault {
     Memory,
     Fault(ProjectFault),

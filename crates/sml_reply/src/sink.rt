@@ -8,7 +8,7 @@ use std::alloc::Global;
 use std::io::Write;
 
 /// A call of a sink that failed.
-#[derive(Clone, Copy, PartialEq, Eq)]
+#[derive(Clone, Copy, PartialEq, Eq, Debug)]
 pub struct OutFault;
 
 /// A sink of bytes. A count of 0 for a nonempty slice counts as a failure.

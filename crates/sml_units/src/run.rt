@@ -27,7 +27,7 @@ pub enum RunFault {
 }
 
 /// How many declarations were accepted and refused, and how many warnings there are, printed or not.
-#[derive(Clone, Copy, PartialEq, Eq)]
+#[derive(Clone, Copy, PartialEq, Eq, Debug)]
 pub struct Summary {
     pub accepted: u64,
     pub refused: u64,

@@ -75,22 +75,6 @@ pub fn ask<S: Source>(alloc: Global, texts: &[&str], source: &mut S) -> Result<A
     Ok(Answer { status, out, err })
 }
 
-/// A text, another so many times, and a last one.
-pub fn repeated(
-    alloc: Global,
-    first: &[u8],
-    middle: &[u8],
-    times: usize,
-    last: &[u8],
-) -> Result<Vec<u8>, AllocError> {
-    let mut text = Vec::from_slice(alloc, first)?;
-    for _ in 0..times {
-        text.extend_from_slice(middle)?;
-    }
-    text.extend_from_slice(last)?;
-    Ok(text)
-}
-
 /// Takes one byte a call, so many in all, and fails from then on.
 #[derive(Drop)]
 pub struct FuseOut {

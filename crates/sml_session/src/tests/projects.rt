@@ -1,6 +1,6 @@
 //! Projects of several units.
 
-use crate::tests::fakes::{Folder, ask, repeated};
+use crate::tests::fakes::{Folder, ask, folder_of};
 use std::alloc::{AllocError, Global};
 use std::fmt::Write;
 use std::process::Abort;
@@ -88,19 +88,38 @@ fn sizes_of_projects(rt: HostRuntime) -> Result<(), Fail> {
         (1_048_577, 2, "", "smlcheck: O4 line 1\n"),
         (1_048_578, 2, "", "smlcheck: O4 line 1\n"),
     ] {
-        let mut folder = Folder {
-            project: repeated(alloc, b"unit a a.sml\n", b"#", size - 13, b"")?,
-            unit: Vec::new(alloc),
-        };
+        let mut folder = folder_of(alloc, Vec::new(alloc))?;
+        folder.project.resize(size, b'#')?;
         ask(alloc, &["smlcheck", "project"], &mut folder)?.expect(&rt, status, out, err);
     }
+    let mut project = Vec::new(alloc);
+    project.resize(1_048_563, b'\n')?;
+    project.extend_from_slice(b"unit a a.sml")?;
     let mut folder = Folder {
-        project: repeated(alloc, b"", b"\n", 1_048_563, b"unit a a.sml")?,
+        project,
         unit: Vec::new(alloc),
     };
     ask(alloc, &["smlcheck", "project"], &mut folder)?.expect(&rt, 0, "unit a\n", "");
-    folder.project = repeated(alloc, b"", b"\n", 1_048_563, b"unit a")?;
+    folder.project.truncate(1_048_569);
     let err = "smlcheck: O4 line 1048564\n";
     ask(alloc, &["smlcheck", "project"], &mut folder)?.expect(&rt, 2, "", err);
+    Ok(())
+}
+
+/// A unit has 1,048,576 bytes at most, and no more than one byte beyond them is read.
+#[test]
+fn sizes_of_units(rt: HostRuntime) -> Result<(), Fail> {
+    let alloc = rt.alloc();
+    let large = "unit a\n1 fault L6 1.1 unit too large\n";
+    for (size, status, out) in [
+        (1_048_576, 0, "unit a\n"),
+        (1_048_577, 1, large),
+        (1_048_578, 1, large),
+    ] {
+        let mut unit = Vec::new(alloc);
+        unit.resize(size, b' ')?;
+        let mut folder = folder_of(alloc, unit)?;
+        ask(alloc, &["smlcheck", "project"], &mut folder)?.expect(&rt, status, out, "");
+    }
     Ok(())
 }

@@ -6,7 +6,7 @@ use crate::types::type_of;
 use crate::variables::Listed;
 use sml_envs::objects::{Constructors, Env, TypeStr};
 use sml_lex::fault::Memory;
-use sml_objects::objects::Scheme;
+use sml_objects::objects::{MlType, Scheme};
 use sml_tree::expressions::TypBind;
 use sml_tree::names::Name;
 use std::alloc::Global;
@@ -33,15 +33,29 @@ pub fn types<S: Scope>(alloc: Global, scope: &S, binds: &[TypBind]) -> Result<En
 }
 
 /// The type function that a binding gives.
-pub fn type_function<S: Scope>(
+fn type_function<S: Scope>(
     alloc: Global,
     scope: &S,
     bind: &TypBind,
 ) -> Result<Rc<Scheme>, CoreFault> {
-    let mut listed = Listed::bound(alloc, &bind.variables)?;
-    let body = type_of(alloc, scope, &mut listed, &bind.ty)?;
+    let body = right_side(alloc, scope, bind)?;
+    Ok(function_of(alloc, bind, body)?)
+}
+
+/// The type function of a binding, whose body this is.
+pub(crate) fn function_of(
+    alloc: Global,
+    bind: &TypBind,
+    body: Rc<MlType>,
+) -> Result<Rc<Scheme>, Memory> {
     let variables = parameters(alloc, &bind.variables)?;
     Ok(Rc::new(alloc, Scheme { variables, body })?)
+}
+
+/// The right side of a binding, with its variables numbered from 0 on.
+fn right_side<S: Scope>(alloc: Global, scope: &S, bind: &TypBind) -> Result<Rc<MlType>, CoreFault> {
+    let mut listed = Listed::bound(alloc, &bind.variables)?;
+    type_of(alloc, scope, &mut listed, &bind.ty)
 }
 
 /// The variables of a type function, whose equality attributes have no effect.

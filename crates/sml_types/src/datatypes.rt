@@ -1,10 +1,11 @@
 //! Bindings of datatypes (the Definition, section 4.10, rules 17, 28 and 29, and section 4.9).
 
-use crate::bindings::{no_constructors, parameters, type_function};
+use crate::bindings::{no_constructors, parameters};
 use crate::equality::{Run, without_equality};
 use crate::fault::CoreFault;
 use crate::rows::{arrow, boxed, number_of};
 use crate::scope::Scope;
+use crate::sides::{RightSide, read_side};
 use crate::types::type_of;
 use crate::variables::{Listed, closed, is_equality_variable};
 use sml_envs::mapping::{Image, Mapping, mapped_type};
@@ -20,7 +21,8 @@ use std::collections::BTreeMap;
 use std::rc::Rc;
 
 /// The types and the constructors that bindings of datatypes give, with new names in their order, as many of which admit
-/// equality as can. The types bound behind `withtype` stand for their right sides in the constructors' types.
+/// equality as can. The types bound behind `withtype` stand for their right sides in the constructors' types; they are not
+/// bound.
 pub fn datatypes<S: Scope>(
     alloc: Global,
     scope: &S,
@@ -34,30 +36,43 @@ pub fn datatypes<S: Scope>(
         count: binds.len(),
     };
     let names = new_names(alloc, new, binds)?;
-    let mut types = named_types(alloc, binds, &names)?;
-    add_withtype(alloc, scope, &mut types, withtype)?;
+    let types = named_types(alloc, binds, &names)?;
+    let sides = sides_of(alloc, scope, &types, withtype)?;
     let inner = Inner {
         outer: scope,
         types: &types,
+        sides: &sides,
     };
     let arguments = arguments_of(alloc, &inner, binds)?;
-    let lost = without_equality(alloc, &run, &mentioned(alloc, &arguments)?)?;
+    Ok(datatypes_of(alloc, run, binds, &names, &arguments)?)
+}
+
+/// Datatypes with these names and these types of their constructors' arguments.
+fn datatypes_of(
+    alloc: Global,
+    run: Run,
+    binds: &[DatBind],
+    names: &[TyName],
+    arguments: &[Arguments],
+) -> Result<Env, Memory> {
+    let lost = without_equality(alloc, &run, &mentioned(alloc, arguments)?)?;
     let by = Losing { run, lost: &lost };
     let mut env = Env::new(alloc);
-    let mut arguments = arguments.into_iter();
-    for (bind, name) in binds.iter().zip(&names) {
-        if let Some(arguments) = arguments.next() {
-            put_datatype(alloc, &mut env, bind, *name, arguments, &by)?;
-        }
+    for ((bind, name), arguments) in binds.iter().zip(names).zip(arguments) {
+        put_datatype(alloc, &mut env, bind, *name, arguments, &by)?;
     }
     Ok(env)
 }
 
-/// A scope with types over those of another one.
+/// Right sides by their type constructors.
+type Sides = BTreeMap<Ident, RightSide>;
+
+/// A scope with types and right sides over those of another one.
 #[derive(Drop)]
 struct Inner<'a, S> {
     outer: &'a S,
     types: &'a BTreeMap<Ident, TypeStr>,
+    sides: &'a Sides,
 }
 
 impl<S: Scope> Scope for Inner<'_, S> {
@@ -70,6 +85,10 @@ impl<S: Scope> Scope for Inner<'_, S> {
             Some(found) => Some(found),
             None => self.outer.type_str(name),
         }
+    }
+
+    fn right_side(&self, name: &Ident) -> Option<&RightSide> {
+        self.sides.get(name)
     }
 }
 
@@ -114,66 +133,60 @@ pub fn name_function(alloc: Global, name: TyName, names: &[Name]) -> Result<Rc<S
     Ok(Rc::new(alloc, Scheme { variables, body })?)
 }
 
-fn add_withtype<S: Scope>(
+/// The right sides of bindings, which are read over the datatypes and see none of each other.
+fn sides_of<S: Scope>(
     alloc: Global,
     scope: &S,
-    types: &mut BTreeMap<Ident, TypeStr>,
+    types: &BTreeMap<Ident, TypeStr>,
     withtype: &[TypBind],
-) -> Result<(), CoreFault> {
-    let mut functions = Vec::new(alloc);
+) -> Result<Sides, Memory> {
+    let none = BTreeMap::new(alloc);
+    let inner = Inner {
+        outer: scope,
+        types,
+        sides: &none,
+    };
+    let mut sides = BTreeMap::new(alloc);
     for bind in withtype {
-        let inner = Inner {
-            outer: scope,
-            types: &*types,
-        };
-        functions.push(type_function(alloc, &inner, bind)?)?;
+        sides.insert(bind.name.ident.clone()?, read_side(alloc, &inner, bind)?)?;
     }
-    let none = no_constructors(alloc)?;
-    let mut functions = functions.into_iter();
-    for bind in withtype {
-        if let Some(function) = functions.next() {
-            let constructors = none.clone()?;
-            types.insert(
-                bind.name.ident.clone()?,
-                TypeStr {
-                    function,
-                    constructors,
-                },
-            )?;
-        }
-    }
-    Ok(())
+    Ok(sides)
 }
 
-/// The types of the constructors' arguments, by datatype and constructor, with free variables for its parameters.
-type Arguments = Vec<Vec<Option<Rc<MlType>>>>;
+/// The types of the arguments of a datatype's constructors, with free variables for its parameters.
+type Arguments = Vec<Option<Rc<MlType>>>;
 
 fn arguments_of<S: Scope>(
     alloc: Global,
     scope: &S,
     binds: &[DatBind],
-) -> Result<Arguments, CoreFault> {
+) -> Result<Vec<Arguments>, CoreFault> {
     let mut all = Vec::new(alloc);
     for bind in binds {
-        let mut listed = Listed::free(alloc, &bind.variables)?;
-        let mut arguments = Vec::new(alloc);
-        for constructor in &bind.constructors {
-            let argument = match &constructor.argument {
-                None => None,
-                Some(ty) => Some(type_of(alloc, scope, &mut listed, ty)?),
-            };
-            arguments.push(argument)?;
-        }
-        all.push(arguments)?;
+        all.push(arguments_in(alloc, scope, bind)?)?;
     }
     Ok(all)
 }
 
-/// Each argument's type with the index of its datatype.
-fn mentioned(
+fn arguments_in<S: Scope>(
     alloc: Global,
-    all: &[Vec<Option<Rc<MlType>>>],
-) -> Result<Vec<(usize, Rc<MlType>)>, Memory> {
+    scope: &S,
+    bind: &DatBind,
+) -> Result<Arguments, CoreFault> {
+    let mut listed = Listed::free(alloc, &bind.variables)?;
+    let mut arguments = Vec::new(alloc);
+    for constructor in &bind.constructors {
+        let argument = match &constructor.argument {
+            None => None,
+            Some(ty) => Some(type_of(alloc, scope, &mut listed, ty)?),
+        };
+        arguments.push(argument)?;
+    }
+    Ok(arguments)
+}
+
+/// Each argument's type with the index of its datatype.
+fn mentioned(alloc: Global, all: &[Arguments]) -> Result<Vec<(usize, Rc<MlType>)>, Memory> {
     let mut pairs = Vec::new(alloc);
     for (index, arguments) in all.iter().enumerate() {
         for argument in arguments {
@@ -229,23 +242,17 @@ fn put_datatype(
     env: &mut Env,
     bind: &DatBind,
     name: TyName,
-    arguments: Vec<Option<Rc<MlType>>>,
+    arguments: &[Option<Rc<MlType>>],
     by: &Losing<'_>,
 ) -> Result<(), Memory> {
-    let name = match by.settled(name) {
-        Some(settled) => settled,
-        None => name,
-    };
+    let name = by.settled(name).unwrap_or(name);
     let constructors = constructors_of(alloc, bind, name, arguments, by)?;
     put_constructors(&mut env.values, &constructors)?;
-    let function = name_function(alloc, name, &bind.variables)?;
-    env.types.insert(
-        bind.name.ident.clone()?,
-        TypeStr {
-            function,
-            constructors: Rc::new(alloc, constructors)?,
-        },
-    )?;
+    let ty = TypeStr {
+        function: name_function(alloc, name, &bind.variables)?,
+        constructors: Rc::new(alloc, constructors)?,
+    };
+    env.types.insert(bind.name.ident.clone()?, ty)?;
     Ok(())
 }
 
@@ -253,30 +260,51 @@ fn constructors_of(
     alloc: Global,
     bind: &DatBind,
     name: TyName,
-    arguments: Vec<Option<Rc<MlType>>>,
+    arguments: &[Option<Rc<MlType>>],
     by: &Losing<'_>,
 ) -> Result<Constructors, Memory> {
-    let mut equality = Vec::new(alloc);
-    let mut parameters = Vec::new(alloc);
-    for (index, variable) in bind.variables.iter().enumerate() {
-        equality.push(is_equality_variable(&variable.ident))?;
-        parameters.push(boxed(alloc, MlType::Free(number_of(index)?))?)?;
-    }
-    let result = boxed(alloc, MlType::Name(name, parameters))?;
+    let equality = equality_of(alloc, &bind.variables)?;
+    let whole = whole_of(alloc, name, bind.variables.len())?;
     let mut constructors = BTreeMap::new(alloc);
-    let mut arguments = arguments.into_iter();
-    for constructor in &bind.constructors {
-        let ty = match arguments.next() {
-            Some(Some(argument)) => {
-                let argument = mapped_type(alloc, &argument, by)?;
-                arrow(alloc, argument, result.clone()?)?
-            }
-            _ => result.clone()?,
-        };
+    for (constructor, argument) in bind.constructors.iter().zip(arguments) {
+        let ty = constructor_type(alloc, argument, &whole, by)?;
         let scheme = Rc::new(alloc, closed(alloc, &ty, &equality)?)?;
         constructors.insert(constructor.name.ident.clone()?, scheme)?;
     }
     Ok(constructors)
+}
+
+/// Whether each type variable admits equality.
+fn equality_of(alloc: Global, variables: &[Name]) -> Result<Vec<bool>, Memory> {
+    let mut equality = Vec::new(alloc);
+    for variable in variables {
+        equality.push(is_equality_variable(&variable.ident))?;
+    }
+    Ok(equality)
+}
+
+/// A name applied to the first so many free variables.
+fn whole_of(alloc: Global, name: TyName, count: usize) -> Result<Rc<MlType>, Memory> {
+    let mut parameters = Vec::new(alloc);
+    for index in 0..count {
+        parameters.push(boxed(alloc, MlType::Free(number_of(index)?))?)?;
+    }
+    boxed(alloc, MlType::Name(name, parameters))
+}
+
+fn constructor_type(
+    alloc: Global,
+    argument: &Option<Rc<MlType>>,
+    whole: &Rc<MlType>,
+    by: &Losing<'_>,
+) -> Result<Rc<MlType>, Memory> {
+    match argument {
+        Some(argument) => {
+            let argument = mapped_type(alloc, argument, by)?;
+            arrow(alloc, argument, whole.clone()?)
+        }
+        None => Ok(whole.clone()?),
+    }
 }
 
 /// Puts the constructors of a datatype as values.

@@ -4,7 +4,7 @@ ghost use Rattle.std.specs.Prelude.{◌≡◌};
 ghost use Rattle.sml_types.specs.declared.fault.CoreFault.TheVariants.{Memory};
 
 use sml_lex::fault::{Code, Fault, Memory, Place};
-use std::alloc::{AllocError, AllocFailed};
+use std::alloc::{AllocError, AllocFailed, Global};
 
 /// A fault of the declaration, or want of memory.
 #[derive(Drop)]
@@ -44,6 +44,18 @@ pub fn plain_fault(code: Code, place: Place) -> CoreFault {
         place,
         detail: None,
     })
+}
+
+/// A fault as it stands.
+pub(crate) fn again(alloc: Global, fault: &Fault) -> Result<CoreFault, Memory> {
+    match &fault.detail {
+        None => Ok(plain_fault(fault.code, fault.place)),
+        Some(text) => Ok(fault_about(
+            fault.code,
+            fault.place,
+            Vec::from_slice(alloc, text.as_slice())?,
+        )),
+    }
 }
 
 /// A fault that speaks of this long identifier or path.

@@ -7,6 +7,7 @@ mod equality;
 pub mod fault;
 pub mod rows;
 pub mod scope;
+pub mod sides;
 pub mod sizes;
 pub mod types;
 pub mod variables;

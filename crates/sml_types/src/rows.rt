@@ -28,13 +28,17 @@ pub fn row_of(alloc: Global, fields: Fields) -> Result<Rc<MlType>, Memory> {
         labels.push(label)?;
         types.push(ty)?;
     }
-    // Keys rise, so these are labels.
-    let labels = match Labels::from_list(labels) {
+    let labels = labels_of(alloc, labels)?;
+    boxed(alloc, MlType::Row(labels, types))
+}
+
+/// The labels of a list that rises, as keys do.
+fn labels_of(alloc: Global, list: Vec<Ident>) -> Result<Rc<Labels>, Memory> {
+    let labels = match Labels::from_list(list) {
         Ok(labels) => labels,
         Err(list) => Labels::numbered(alloc, list.len())?,
     };
-    let labels = Rc::new(alloc, labels)?;
-    boxed(alloc, MlType::Row(labels, types))
+    Ok(Rc::new(alloc, labels)?)
 }
 
 /// The row of these types, labelled from 1 on.

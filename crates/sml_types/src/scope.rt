@@ -1,6 +1,7 @@
 //! What long identifiers of structures and types mean (the Definition, sections 4.3 and 5.3).
 
 use crate::fault::{CoreFault, fault_about};
+use crate::sides::RightSide;
 use sml_envs::objects::{Basis, Env, TypeStr};
 use sml_lex::fault::{Code, Memory};
 use sml_tree::bare::{Ident, LongIdent};
@@ -14,6 +15,11 @@ pub trait Scope {
 
     /// The type structure that a type constructor means.
     fn type_str(&self, name: &Ident) -> Option<&TypeStr>;
+
+    /// The right side that a type constructor stands for, where it stands for one.
+    fn right_side(&self, _name: &Ident) -> Option<&RightSide> {
+        None
+    }
 }
 
 impl Scope for Basis {

@@ -3,9 +3,10 @@
 use crate::fault::{CoreFault, plain_fault};
 use crate::rows::{Fields, arrow, boxed, label_key, row_of, tuple_of};
 use crate::scope::{Scope, type_at};
+use crate::sides::RightSide;
 use crate::variables::TypeVariables;
 use sml_envs::functions::name_of;
-use sml_lex::fault::Code;
+use sml_lex::fault::{Code, Memory};
 use sml_objects::applications::apply;
 use sml_objects::objects::MlType;
 use sml_tree::bare::LongIdent;
@@ -80,7 +81,70 @@ fn applied<S: Scope, V: TypeVariables>(
     tys: &[Ty],
     long: &LongIdent,
 ) -> Result<Rc<MlType>, CoreFault> {
+    if let Some(side) = side_at(scope, long) {
+        return replaced(alloc, scope, variables, tys, long, side);
+    }
     let types = types_of(alloc, scope, variables, tys)?;
+    application(alloc, scope, types, long)
+}
+
+/// The right side that a type constructor stands for, where it stands for one; with a path it doesn't.
+fn side_at<'a, S: Scope>(scope: &'a S, long: &LongIdent) -> Option<&'a RightSide> {
+    if long.path.is_empty() {
+        scope.right_side(&long.last)
+    } else {
+        None
+    }
+}
+
+/// What a right side means behind these arguments, each of which is read where its variable stands first.
+#[cycle(meaning)]
+#[inline(never)]
+fn replaced<S: Scope, V: TypeVariables>(
+    alloc: Global,
+    scope: &S,
+    variables: &mut V,
+    tys: &[Ty],
+    long: &LongIdent,
+    side: &RightSide,
+) -> Result<Rc<MlType>, CoreFault> {
+    if tys.len() != side.arity {
+        return misapplied(alloc, scope, variables, tys, long);
+    }
+    let mut types = units(alloc, tys.len())?;
+    for index in &side.used {
+        let index = *index as usize;
+        if index < tys.len() {
+            let ty = type_of(alloc, scope, variables, &tys[index])?;
+            put(&mut types, index, ty);
+        }
+    }
+    side.with(alloc, &types)
+}
+
+/// So many types of the row with no field.
+fn units(alloc: Global, count: usize) -> Result<Vec<Rc<MlType>>, Memory> {
+    let unit = tuple_of(alloc, Vec::new(alloc))?;
+    let mut types = Vec::new(alloc);
+    for _ in 0..count {
+        types.push(unit.clone()?)?;
+    }
+    Ok(types)
+}
+
+fn put(types: &mut [Rc<MlType>], index: usize, ty: Rc<MlType>) {
+    if index < types.len() {
+        types[index] = ty;
+    }
+}
+
+/// What a type constructor means behind these arguments.
+fn application<S: Scope>(
+    alloc: Global,
+    scope: &S,
+    types: Vec<Rc<MlType>>,
+    long: &LongIdent,
+) -> Result<Rc<MlType>, CoreFault> {
     let found = type_at(alloc, scope, long)?;
     if found.function.variables.len() != types.len() {
         return Err(plain_fault(Code::E4, long.place));

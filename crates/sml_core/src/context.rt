@@ -17,6 +17,7 @@ use sml_types::rows::{boxed, number_of};
 use sml_types::scope::{path_of, unbound};
 use sml_types::types::type_of;
 use std::alloc::Global;
+use std::collections::BTreeMap;
 use std::mem;
 use std::rc::Rc;
 
@@ -122,12 +123,26 @@ impl<'a> Context<'a> {
             types,
             values,
         } = env;
+        self.bind_structures(structures)?;
+        self.bind_types(types)?;
+        self.bind_values(values)
+    }
+
+    fn bind_structures(&mut self, structures: BTreeMap<Ident, Rc<Env>>) -> Result<(), Memory> {
         for (name, structure) in structures {
             self.bind_structure(&name, structure)?;
         }
+        Ok(())
+    }
+
+    fn bind_types(&mut self, types: BTreeMap<Ident, TypeStr>) -> Result<(), Memory> {
         for (name, ty) in types {
             self.bind_type(&name, ty)?;
         }
+        Ok(())
+    }
+
+    fn bind_values(&mut self, values: BTreeMap<Ident, Value>) -> Result<(), Memory> {
         for (name, value) in values {
             self.bind_value(&name, value)?;
         }

@@ -24,6 +24,14 @@ pub struct Hidden {
     exports: Option<Env>,
 }
 
+/// Demands that the types of values are small, or E7.
+fn small_values(place: Place, env: &Env) -> Result<(), CoreFault> {
+    for (_, value) in &env.values {
+        small(place, &value.scheme)?;
+    }
+    Ok(())
+}
+
 impl Context<'_> {
     /// Declarations one after the other, each of which sees those before it.
     #[cycle(core)]
@@ -104,9 +112,7 @@ impl Context<'_> {
         withtype: &[TypBind],
     ) -> Result<(), CoreFault> {
         let env = datatypes(self.alloc, &self.scopes, &mut self.new, binds, withtype)?;
-        for (_, value) in &env.values {
-            small(place, &value.scheme)?;
-        }
+        small_values(place, &env)?;
         Ok(self.bind_env(env)?)
     }
 

@@ -10,6 +10,7 @@ use sml_tree::bare::LongIdent;
 use sml_tree::expressions::Rule;
 use sml_tree::patterns::{Pat, PatField};
 use sml_types::fault::CoreFault;
+use std::alloc::Global;
 
 /// What holds a match.
 #[derive(Clone, Copy, PartialEq, Eq)]
@@ -29,6 +30,14 @@ fn meaning_of(status: Status) -> Meaning {
     }
 }
 
+fn patterns_of(alloc: Global, rules: &[Rule]) -> Result<Vec<(Place, &Pat)>, Memory> {
+    let mut patterns = Vec::new(alloc);
+    for rule in rules {
+        patterns.push((rule.place, &rule.pat))?;
+    }
+    Ok(patterns)
+}
+
 impl Context<'_> {
     /// Adds the warnings of a match.
     #[inline(never)]
@@ -43,17 +52,31 @@ impl Context<'_> {
                 return Ok(());
             }
         }
-        let mut names = Names::new(self.alloc);
-        let mut patterns = Vec::new(self.alloc);
-        for rule in rules {
-            self.name_meanings(&rule.pat, &mut names)?;
-            patterns.push((rule.place, &rule.pat))?;
-        }
+        let names = self.names_of(rules)?;
+        let patterns = patterns_of(self.alloc, rules)?;
         let holder = match kind {
             Kind::Fn => Holder::Fn(place),
             Kind::Handle => Holder::Handle(place),
         };
-        let found = judge(self.alloc, &names, holder, &patterns)?;
+        self.warn(&names, holder, &patterns)
+    }
+
+    /// What the identifiers in the patterns of rules mean.
+    fn names_of(&self, rules: &[Rule]) -> Result<Names, CoreFault> {
+        let mut names = Names::new(self.alloc);
+        for rule in rules {
+            self.name_meanings(&rule.pat, &mut names)?;
+        }
+        Ok(names)
+    }
+
+    fn warn(
+        &mut self,
+        names: &Names,
+        holder: Holder,
+        patterns: &[(Place, &Pat)],
+    ) -> Result<(), CoreFault> {
+        let found = judge(self.alloc, names, holder, patterns)?;
         self.warnings.extend_from_slice(found.as_slice())?;
         Ok(())
     }
@@ -67,11 +90,7 @@ impl Context<'_> {
         let mut names = Names::new(self.alloc);
         self.name_meanings(pat, &mut names)?;
         let place = pattern_place(pat);
-        let mut patterns = Vec::new(self.alloc);
-        patterns.push((place, pat))?;
-        let found = judge(self.alloc, &names, Holder::Val(place), &patterns)?;
-        self.warnings.extend_from_slice(found.as_slice())?;
-        Ok(())
+        self.warn(&names, Holder::Val(place), &[(place, pat)])
     }
 
     fn match_everything(&self, rules: &[Rule]) -> Result<bool, CoreFault> {

@@ -1,6 +1,6 @@
 //! What is bound in the scopes that are open, over a basis. To leave a scope goes back over what was bound in it.
 
-use sml_envs::objects::{Basis, Env, TypeStr, Value};
+use sml_envs::objects::{Basis, Entry, Env, TypeStr, Value};
 use sml_lex::fault::Memory;
 use sml_tree::bare::Ident;
 use sml_types::scope::Scope;
@@ -45,6 +45,26 @@ impl<X: Drop> Table<X> {
             }
         }
         Ok(())
+    }
+}
+
+impl<X: Entry> Table<X> {
+    /// The entry that was bound last, or that a structure has which was opened since.
+    fn find<'s>(&'s self, opened: &'s [Rc<Env>], name: &Ident) -> Option<&'s X> {
+        let bound = self.entries.get(name);
+        let since = match bound {
+            Some((since, _)) => *since,
+            None => 0,
+        };
+        for index in (since..opened.len()).rev() {
+            if let Some(found) = X::entries(&opened[index]).get(name) {
+                return Some(found);
+            }
+        }
+        match bound {
+            Some((_, found)) => Some(found),
+            None => None,
+        }
     }
 }
 
@@ -123,18 +143,8 @@ impl<'a> Scopes<'a> {
 
     /// The value that an identifier means.
     pub fn value(&self, name: &Ident) -> Option<&Value> {
-        let bound = self.values.entries.get(name);
-        let since = match bound {
-            Some((since, _)) => *since,
-            None => 0,
-        };
-        for index in (since..self.opened.len()).rev() {
-            if let Some(found) = self.opened[index].values.get(name) {
-                return Some(found);
-            }
-        }
-        match bound {
-            Some((_, found)) => Some(found),
+        match self.values.find(&self.opened, name) {
+            Some(found) => Some(found),
             None => self.basis.value(name),
         }
     }
@@ -142,35 +152,15 @@ impl<'a> Scopes<'a> {
 
 impl Scope for Scopes<'_> {
     fn structure(&self, name: &Ident) -> Option<&Rc<Env>> {
-        let bound = self.structures.entries.get(name);
-        let since = match bound {
-            Some((since, _)) => *since,
-            None => 0,
-        };
-        for index in (since..self.opened.len()).rev() {
-            if let Some(found) = self.opened[index].structures.get(name) {
-                return Some(found);
-            }
-        }
-        match bound {
-            Some((_, found)) => Some(found),
+        match self.structures.find(&self.opened, name) {
+            Some(found) => Some(found),
             None => self.basis.structure(name),
         }
     }
 
     fn type_str(&self, name: &Ident) -> Option<&TypeStr> {
-        let bound = self.types.entries.get(name);
-        let since = match bound {
-            Some((since, _)) => *since,
-            None => 0,
-        };
-        for index in (since..self.opened.len()).rev() {
-            if let Some(found) = self.opened[index].types.get(name) {
-                return Some(found);
-            }
-        }
-        match bound {
-            Some((_, found)) => Some(found),
+        match self.types.find(&self.opened, name) {
+            Some(found) => Some(found),
             None => self.basis.type_str(name),
         }
     }

@@ -10,7 +10,7 @@ use sml_asks::asks::{ask_fixed, ask_general, ask_labels, ask_reading, ask_scheme
 use sml_envs::objects::{Status, Value};
 use sml_graph::layer::Bound;
 use sml_graph::variable::Variable;
-use sml_lex::fault::{Code, Place};
+use sml_lex::fault::{Code, Memory, Place};
 use sml_objects::objects::{MlType, Scheme};
 use sml_tree::bare::Ident;
 use sml_tree::expressions::{Exp, ValBind};
@@ -18,6 +18,7 @@ use sml_tree::names::Name;
 use sml_types::fault::{CoreFault, plain_fault};
 use sml_types::sizes::GREATEST_SIZE;
 use sml_types::variables::{collect_free, is_equality_variable, is_ground};
+use std::alloc::Global;
 use std::rc::Rc;
 
 /// A value declaration while it is gone through: how many unknowns, flexible rows and explicit type variables there were
@@ -43,27 +44,32 @@ impl Context<'_> {
         binds: &[ValBind],
         recursive: &[ValBind],
     ) -> Result<Declaration, CoreFault> {
-        let mut declaration = Declaration {
-            unknowns: self.solver.unknowns(),
-            rows: self.rows.len(),
-            explicit: self.explicit.count(),
-            scoped: Vec::new(self.alloc),
-            variables: Variables::new(self.alloc),
-            expansive: Vec::new(self.alloc),
-        };
-        let mut found = IndexSet::new(self.alloc);
-        for name in names {
-            found.insert(name.ident.clone()?)?;
-        }
+        let (unknowns, rows) = (self.solver.unknowns(), self.rows.len());
+        let explicit = self.explicit.count();
+        let mut found = named(self.alloc, names)?;
         in_binds(binds, &mut found)?;
         in_binds(recursive, &mut found)?;
-        for name in &found {
+        let scoped = self.scope_all(&found)?;
+        Ok(Declaration {
+            unknowns,
+            rows,
+            explicit,
+            scoped,
+            variables: Variables::new(self.alloc),
+            expansive: Vec::new(self.alloc),
+        })
+    }
+
+    /// The unknowns of the explicit type variables that are not in scope yet, which are from here on.
+    fn scope_all(&mut self, names: &IndexSet<Ident>) -> Result<Vec<u32>, CoreFault> {
+        let mut scoped = Vec::new(self.alloc);
+        for name in names {
             if !self.explicit.has(name) {
                 let unknown = self.scope(name)?;
-                declaration.scoped.push(unknown)?;
+                scoped.push(unknown)?;
             }
         }
-        Ok(declaration)
+        Ok(scoped)
     }
 
     /// A new unknown for an explicit type variable, which is in scope from here on.
@@ -180,19 +186,30 @@ impl Context<'_> {
         }
         self.end_rows(declaration.rows)?;
         if !declaration.scoped.is_empty() {
-            let others = self.left_open(place, &declaration)?;
-            let asked = ask_general(
-                &mut self.solver,
-                &declaration.scoped,
-                declaration.unknowns,
-                &others,
-            );
-            if let Err(refusal) = asked {
-                return Err(refused(refusal, place));
-            }
+            self.require_general(place, &declaration)?;
         }
         self.explicit.leave(declaration.explicit);
-        self.close(place, declaration)
+        let schemes = self.schemes(place, &declaration)?;
+        self.bind_schemes(&declaration.variables, schemes)
+    }
+
+    /// Demands that the explicit type variables of a declaration are general.
+    fn require_general(
+        &mut self,
+        place: Place,
+        declaration: &Declaration,
+    ) -> Result<(), CoreFault> {
+        let others = self.left_open(place, declaration)?;
+        let asked = ask_general(
+            &mut self.solver,
+            &declaration.scoped,
+            declaration.unknowns,
+            &others,
+        );
+        match asked {
+            Ok(()) => Ok(()),
+            Err(refusal) => Err(refused(refusal, place)),
+        }
     }
 
     /// Demands that the flexible rows behind the first ones have their labels.
@@ -219,11 +236,7 @@ impl Context<'_> {
                 collect_free(&ty, &mut unknowns)?;
             }
         }
-        let mut others = Vec::new(self.alloc);
-        for unknown in &unknowns {
-            others.push(*unknown)?;
-        }
-        Ok(others)
+        Ok(list_of(self.alloc, &unknowns)?)
     }
 
     /// The type that a type stands for, or E7.
@@ -235,31 +248,56 @@ impl Context<'_> {
         }
     }
 
-    /// Closes and binds the variables of a value declaration.
-    fn close(&mut self, place: Place, declaration: Declaration) -> Result<(), CoreFault> {
+    /// The schemes of the variables of a value declaration.
+    fn schemes(
+        &mut self,
+        place: Place,
+        declaration: &Declaration,
+    ) -> Result<Vec<Rc<Scheme>>, CoreFault> {
         let mut fixed: Option<Vec<bool>> = None;
         let mut schemes = Vec::new(self.alloc);
         for (index, (_, ty)) in declaration.variables.types.iter().enumerate() {
-            let reading = self.reading(place, ty)?;
-            let scheme = if is_ground(&reading) {
-                Scheme {
-                    variables: Vec::new(self.alloc),
-                    body: reading,
-                }
-            } else {
-                let flags = match fixed {
-                    Some(flags) => flags,
-                    None => self.fixed(place, declaration.unknowns)?,
-                };
-                let is_expansive = is_set(&declaration.expansive, index);
-                let scheme = self.closed(place, &reading, &flags, is_expansive)?;
-                fixed = Some(flags);
-                scheme
-            };
+            let is_expansive = is_set(&declaration.expansive, index);
+            let first = declaration.unknowns;
+            let scheme = self.scheme(place, ty, first, is_expansive, &mut fixed)?;
             schemes.push(Rc::new(self.alloc, scheme)?)?;
         }
+        Ok(schemes)
+    }
+
+    /// The scheme of a variable in a declaration that begins behind the first unknowns. Which unknowns are fixed is asked
+    /// once.
+    fn scheme(
+        &mut self,
+        place: Place,
+        ty: &MlType,
+        first: usize,
+        is_expansive: bool,
+        fixed: &mut Option<Vec<bool>>,
+    ) -> Result<Scheme, CoreFault> {
+        let reading = self.reading(place, ty)?;
+        if is_ground(&reading) {
+            return Ok(Scheme {
+                variables: Vec::new(self.alloc),
+                body: reading,
+            });
+        }
+        let flags = match fixed.take() {
+            Some(flags) => flags,
+            None => self.fixed(place, first)?,
+        };
+        let scheme = self.closed(place, &reading, &flags, is_expansive)?;
+        *fixed = Some(flags);
+        Ok(scheme)
+    }
+
+    fn bind_schemes(
+        &mut self,
+        variables: &Variables,
+        schemes: Vec<Rc<Scheme>>,
+    ) -> Result<(), CoreFault> {
         let mut schemes = schemes.into_iter();
-        for (name, _) in &declaration.variables.types {
+        for (name, _) in &variables.types {
             if let Some(scheme) = schemes.next() {
                 let status = Status::Variable;
                 self.bind_value(name, Value { status, scheme })?;
@@ -303,6 +341,22 @@ impl Context<'_> {
         }
         Ok(scheme)
     }
+}
+
+fn named(alloc: Global, names: &[Name]) -> Result<IndexSet<Ident>, Memory> {
+    let mut found = IndexSet::new(alloc);
+    for name in names {
+        found.insert(name.ident.clone()?)?;
+    }
+    Ok(found)
+}
+
+fn list_of(alloc: Global, unknowns: &IndexSet<u32>) -> Result<Vec<u32>, Memory> {
+    let mut list = Vec::new(alloc);
+    for unknown in unknowns {
+        list.push(*unknown)?;
+    }
+    Ok(list)
 }
 
 /// The flag at an index; none is not set.

@@ -99,6 +99,15 @@ pub fn copies_of_idents(alloc: Global, idents: &[Ident]) -> Result<Vec<Ident>, M
     Ok(copies)
 }
 
+/// A list of one element.
+pub(crate) fn one<T: Drop>(alloc: Global, element: T) -> Result<Vec<T>, Memory>
+    ensures { IfOk result (λ list. list.items ≡ element ∷ []) }
+{
+    let mut list = Vec::new(alloc);
+    list.push(element)?;
+    Ok(list)
+}
+
 impl Expander {
     pub fn new(alloc: Global) -> Result<Expander, Memory> {
         Ok(Expander {

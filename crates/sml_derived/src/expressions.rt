@@ -1,16 +1,16 @@
 //! Derived forms of expressions.
 
-ghost use Rattle.std.specs.Prelude.{◌≡◌, map, IfOk};
+ghost use Rattle.std.specs.Prelude.{◌≡◌, ◌∷◌, [], map, IfOk};
 ghost use Rattle.sml_tree.specs.Views.{ident_of};
 ghost use Rattle.sml_tree.specs.TypeViews.{name_of};
 ghost use Rattle.sml_tree.specs.PatternViews.{pat_of, pat_fields_of, pat_field_of};
 ghost use Rattle.sml_tree.specs.ExpressionViews.{exp_of, rule_of, rules_of, dec_of, decs_of, bind_of, binds_of};
 ghost use Rattle.sml_tree.specs.Patterns.{no_pat_field, and_pat_field, pat_field};
-ghost use Rattle.sml_tree.specs.Expressions.{apply, no_dec, and_dec, no_bind, and_bind, bind, fn};
+ghost use Rattle.sml_tree.specs.Expressions.{apply, no_dec, and_dec, no_bind, and_bind, bind, fn, let_in, val_dec};
 ghost use Rattle.sml_derived.specs.Words.{v};
 ghost use Rattle.sml_derived.specs.Derived.{var, one_rule, pair, unit, select, case_of, if_of, orelse_of, andalso_of, sequence_of, again, while_of, nil_of, cons_of, infix_of, it_dec, pat_var};
 
-use crate::expander::{Expander, copy_of, long, written};
+use crate::expander::{Expander, copy_of, long, one, written};
 use crate::patterns::pat_var;
 use sml_lex::fault::{Memory, Place};
 use sml_tree::bare::Ident;
@@ -30,6 +30,15 @@ pub fn one_rule(alloc: Global, place: Place, pat: Pat, exp: Exp) -> Result<Vec<R
 {
     let mut rules = Vec::new(alloc);
     rules.push(Rule { place, pat, exp })?;
+    Ok(rules)
+}
+
+fn two_rules(alloc: Global, first: Rule, second: Rule) -> Result<Vec<Rule>, Memory>
+    ensures { IfOk result (λ rules. rules.items ≡ first ∷ second ∷ []) }
+{
+    let mut rules = Vec::new(alloc);
+    rules.push(first)?;
+    rules.push(second)?;
     Ok(rules)
 }
 
@@ -92,18 +101,17 @@ impl Expander {
     {
         let truth = pat_var(self.alloc, place, &self.truth)?;
         let falsity = pat_var(self.alloc, place, &self.falsity)?;
-        let mut rules = Vec::new(self.alloc);
-        rules.push(Rule {
+        let first = Rule {
             place,
             pat: truth,
             exp: yes,
-        })?;
-        rules.push(Rule {
+        };
+        let second = Rule {
             place,
             pat: falsity,
             exp: no,
-        })?;
-        self.case(place, test, rules)
+        };
+        self.case(place, test, two_rules(self.alloc, first, second)?)
     }
 
     /// `a orelse b`
@@ -138,6 +146,18 @@ impl Expander {
         application(self.alloc, place, function, self.unit(place))
     }
 
+    /// `let val rec v = f in v () end`, from its binding.
+    fn looping(&self, place: Place, binds: Vec<ValBind>) -> Result<Exp, Memory>
+        ensures { IfOk result (λ exp. exp_of exp ≡ let_in place (and_dec (val_dec place [] no_bind (binds_of (map bind_of binds.items))) no_dec) (again place)) }
+    {
+        let none = Vec::new(self.alloc);
+        let decs = one(
+            self.alloc,
+            Dec::Value(place, Vec::new(self.alloc), none, binds),
+        )?;
+        Ok(Exp::Let(place, decs, Box::new(self.alloc, self.again(place)?)?))
+    }
+
     /// `while a do b`
     pub fn repeat(&self, place: Place, test: Exp, body: Exp) -> Result<Exp, Memory>
         ensures { IfOk result (λ exp. exp_of exp ≡ while_of place (exp_of test) (exp_of body)) }
@@ -146,10 +166,10 @@ impl Expander {
         let turn = self.conditional(place, test, once, self.unit(place))?;
         let rules = one_rule(self.alloc, place, self.pat_unit(place), turn)?;
         let variable = pat_var(self.alloc, place, &self.variable)?;
-        let binds = one_bind(self.alloc, variable, Exp::Function(place, rules))?;
-        let mut decs = Vec::new(self.alloc);
-        decs.push(Dec::Value(place, Vec::new(self.alloc), Vec::new(self.alloc), binds))?;
-        Ok(Exp::Let(place, decs, Box::new(self.alloc, self.again(place)?)?))
+        self.looping(
+            place,
+            one_bind(self.alloc, variable, Exp::Function(place, rules))?,
+        )
     }
 
     /// `[]`

@@ -1,14 +1,16 @@
 //! Derived forms of structures, functors, signatures and specifications.
 
-ghost use Rattle.std.specs.Prelude.{◌≡◌, map, IfOk};
+ghost use Rattle.std.specs.Prelude.{◌≡◌, ◌∷◌, [], map, IfOk};
 ghost use Rattle.sml_tree.specs.TypeViews.{name_of};
 ghost use Rattle.sml_tree.specs.ExpressionViews.{typ_bind_of};
-ghost use Rattle.sml_tree.specs.SignatureViews.{sig_of, spec_of, specs_of, where_of};
+ghost use Rattle.sml_tree.specs.SignatureViews.{sig_of, spec_of, specs_of, typ_desc_of, where_of};
 ghost use Rattle.sml_tree.specs.StructureViews.{str_of, str_bind_of, str_dec_of, str_decs_of, fun_bind_of};
-ghost use Rattle.sml_tree.specs.Structures.{ascribed};
-ghost use Rattle.sml_derived.specs.Derived.{structure_of, functor_apply_decs, functor_of, open_functor, where_types, type_spec_of, type_specs, include_of, includes};
+ghost use Rattle.sml_tree.specs.Expressions.{open_dec};
+ghost use Rattle.sml_tree.specs.Structures.{ascribed, str_let, core_dec, and_str_dec, no_str_dec};
+ghost use Rattle.sml_derived.specs.Words.{v};
+ghost use Rattle.sml_derived.specs.Derived.{written, structure_of, functor_apply_decs, functor_of, open_functor, where_types, type_spec_of, type_specs, include_of, includes};
 
-use crate::expander::{Expander, copies_of, copy_of, long, written};
+use crate::expander::{Expander, copies_of, copy_of, long, one, written};
 use sml_lex::fault::{Memory, Place};
 use sml_tree::expressions::{Dec, TypBind};
 use sml_tree::names::Name;
@@ -29,17 +31,22 @@ fn ascribed(
     Ok(StrExp::Ascribed(place, body, ascription, Box::new(alloc, signature)?))
 }
 
+/// What stands behind `type` for a type that is bound.
+fn desc_of(alloc: Global, bind: &TypBind) -> Result<TypDesc, Memory>
+    ensures { IfOk result (λ desc. typ_desc_of desc ≡ record { variables = (typ_bind_of bind.now).variables; name = (typ_bind_of bind.now).name }) }
+{
+    Ok(TypDesc {
+        variables: copies_of(alloc, &bind.variables)?,
+        name: copy_of(&bind.name)?,
+    })
+}
+
 /// `type t = ty` in a specification, at a place.
 fn type_spec(alloc: Global, place: Place, bind: TypBind) -> Result<Spec, Memory>
     ensures { IfOk result (λ spec. spec_of spec ≡ type_spec_of place (typ_bind_of bind)) }
 {
-    let mut descs = Vec::new(alloc);
-    descs.push(TypDesc {
-        variables: copies_of(alloc, &bind.variables)?,
-        name: copy_of(&bind.name)?,
-    })?;
-    let mut specs = Vec::new(alloc);
-    specs.push(Spec::Type(place, descs))?;
+    let descs = one(alloc, desc_of(alloc, &bind)?)?;
+    let specs = one(alloc, Spec::Type(place, descs))?;
     let equation = WhereType {
         variables: bind.variables,
         constructor: long(alloc, bind.name),
@@ -100,6 +107,15 @@ impl Expander {
         })
     }
 
+    /// A functor's body in which the specifications of its argument are open.
+    fn opening(&self, place: Place, body: StrExp) -> Result<StrExp, Memory>
+        ensures { IfOk result (λ whole. str_of whole ≡ str_let place (and_str_dec (core_dec (open_dec place (written place v ∷ []))) no_str_dec) (str_of body)) }
+    {
+        let opened = one(self.alloc, written(self.alloc, place, &self.variable)?)?;
+        let decs = one(self.alloc, StrDec::Core(Dec::Open(place, opened)))?;
+        Ok(StrExp::Let(place, decs, Box::new(self.alloc, body)?))
+    }
+
     /// `functor F (spec) .. = e`, from `e ..`.
     pub fn open_functor(
         &self,
@@ -110,10 +126,7 @@ impl Expander {
         ensures { IfOk result (λ bind. fun_bind_of bind ≡ open_functor (name_of name) (specs_of (map spec_of specs.items)) (str_of body)) }
     {
         let place = name.place;
-        let mut opened = Vec::new(self.alloc);
-        opened.push(written(self.alloc, place, &self.variable)?)?;
-        let mut decs = Vec::new(self.alloc);
-        decs.push(StrDec::Core(Dec::Open(place, opened)))?;
+        let body = self.opening(place, body)?;
         let argument = Name {
             place,
             ident: self.variable.clone()?,
@@ -122,7 +135,7 @@ impl Expander {
             name,
             argument,
             signature: SigExp::Specs(place, specs),
-            body: StrExp::Let(place, decs, Box::new(self.alloc, body)?),
+            body,
         })
     }
 

@@ -1,11 +1,11 @@
 //! Derived forms of patterns.
 
-ghost use Rattle.std.specs.Prelude.{◌≡◌, map, IfOk};
+ghost use Rattle.std.specs.Prelude.{◌≡◌, map, IfOk, Some};
 ghost use Rattle.std.specs.Option.{option_map};
 ghost use Rattle.sml_tree.specs.Views.{ident_of};
 ghost use Rattle.sml_tree.specs.TypeViews.{name_of, ty_of};
 ghost use Rattle.sml_tree.specs.PatternViews.{pat_of, pats_of, pat_field_of};
-ghost use Rattle.sml_tree.specs.Patterns.{no_pat, and_pat};
+ghost use Rattle.sml_tree.specs.Patterns.{no_pat, and_pat, pat_as, pat_typed};
 ghost use Rattle.sml_derived.specs.Derived.{pat_var, pat_unit, pat_nil, pat_cons, pat_infix, pat_pair, layered, pun};
 
 use crate::expander::{Expander, copy_of, long, written};
@@ -31,23 +31,31 @@ fn pat_pair(alloc: Global, place: Place, left: Pat, right: Pat) -> Result<Pat, M
     Ok(Pat::Tuple(place, pats))
 }
 
+/// `p : t`
+fn typed(alloc: Global, place: Place, pat: Pat, ty: Ty) -> Result<Pat, Memory>
+    ensures { IfOk result (λ whole. pat_of whole ≡ pat_typed place (pat_of pat) (ty_of ty)) }
+{
+    let pat = Box::new(alloc, pat)?;
+    Ok(Pat::Typed(place, pat, Box::new(alloc, ty)?))
+}
+
+/// `x : t as p`
+fn typed_layer(alloc: Global, name: Name, ty: Ty, pat: Pat) -> Result<Pat, Memory>
+    ensures { IfOk result (λ whole. pat_of whole ≡ pat_as name.place (name_of name) (Some (ty_of ty)) (pat_of pat)) }
+{
+    let ty = Box::new(alloc, ty)?;
+    Ok(Pat::As(name.place, name, Some(ty), Box::new(alloc, pat)?))
+}
+
 pub fn layered(alloc: Global, name: Name, ty: Option<Ty>, pat: Option<Pat>) -> Result<Pat, Memory>
     ensures { IfOk result (λ whole. pat_of whole ≡ layered (name_of name) (option_map ty_of ty) (option_map pat_of pat)) }
 {
     let place = name.place;
     match (ty, pat) {
         (None, None) => Ok(Pat::Identifier(place, long(alloc, name))),
-        (Some(ty), None) => {
-            let variable = Pat::Identifier(place, long(alloc, name));
-            Ok(Pat::Typed(place, Box::new(alloc, variable)?, Box::new(alloc, ty)?))
-        }
+        (Some(ty), None) => typed(alloc, place, Pat::Identifier(place, long(alloc, name)), ty),
         (None, Some(pat)) => Ok(Pat::As(place, name, None, Box::new(alloc, pat)?)),
-        (Some(ty), Some(pat)) => Ok(Pat::As(
-            place,
-            name,
-            Some(Box::new(alloc, ty)?),
-            Box::new(alloc, pat)?,
-        )),
+        (Some(ty), Some(pat)) => typed_layer(alloc, name, ty, pat),
     }
 }
 

@@ -8,8 +8,8 @@ ghost use Rattle.sml_tree.specs.TypeViews.{names_of, long_name_of, ty_of, tys_of
 ghost use Rattle.sml_tree.specs.ExpressionViews.{typ_bind_of, con_bind_of, dat_bind_of, dec_of};
 ghost use Rattle.sml_derived.specs.Withtype.{argument, either, instance, instances, field_instances, count_tys, bound, binding, applied, replaced, all_replaced, fields_replaced, con_replaced, dat_replaced, withtype_of};
 
-use crate::copies::{copy_of_long, copy_of_ty};
-use crate::expander::{Expander, copy_of};
+use crate::copies::{arrow, bracket, constructor, copy_of_ty, labelled, misapplied};
+use crate::expander::Expander;
 use sml_lex::fault::{Memory, Place};
 use sml_tree::bare::{Ident, LongIdent};
 use sml_tree::expressions::{ConBind, DatBind, Dec, TypBind};
@@ -58,20 +58,23 @@ fn instance(alloc: Global, ty: &Ty, variables: &[Name], arguments: &[Ty]) -> Res
         }
         Ty::Constructor(place, tys, long) => {
             let tys = instances(alloc, tys, variables, arguments)?;
-            Ok(Ty::Constructor(*place, tys, copy_of_long(alloc, long)?))
+            constructor(alloc, *place, tys, long)
         }
         Ty::Misapplied(place, tys, long) => {
             let tys = instances(alloc, tys, variables, arguments)?;
-            Ok(Ty::Misapplied(*place, tys, copy_of_long(alloc, long)?))
+            misapplied(alloc, *place, tys, long)
         }
         Ty::Arrow(place, from, to) => {
-            let from = Box::new(alloc, instance(alloc, from, variables, arguments)?)?;
-            let to = instance(alloc, to, variables, arguments)?;
-            Ok(Ty::Arrow(*place, from, Box::new(alloc, to)?))
+            let from = instance(alloc, from, variables, arguments)?;
+            arrow(
+                alloc,
+                *place,
+                from,
+                instance(alloc, to, variables, arguments)?,
+            )
         }
         Ty::Bracket(place, ty) => {
-            let ty = instance(alloc, ty, variables, arguments)?;
-            Ok(Ty::Bracket(*place, Box::new(alloc, ty)?))
+            bracket(alloc, *place, instance(alloc, ty, variables, arguments)?)
         }
     }
 }
@@ -103,9 +106,8 @@ fn instances_of_fields(
 {
     let mut made = Vec::new(alloc);
     for field in fields {
-        let label = copy_of(&field.label)?;
         let ty = instance(alloc, &field.ty, variables, arguments)?;
-        made.push(TyField { label, ty })?;
+        made.push(labelled(&field.label, ty)?)?;
     }
     Ok(made)
 }
@@ -145,20 +147,19 @@ fn applied(
     alloc: Global,
     place: Place,
     arguments: Vec<Ty>,
-    constructor: &LongIdent,
+    long: &LongIdent,
     bind: Option<&TypBind>,
 ) -> Result<Ty, Memory>
-    ensures { IfOk result (λ ty. ty_of ty ≡ applied place (tys_of (map ty_of arguments.items)) (long_name_of constructor.now) (option_map (λ b. typ_bind_of b.now) bind.entry)) }
+    ensures { IfOk result (λ ty. ty_of ty ≡ applied place (tys_of (map ty_of arguments.items)) (long_name_of long.now) (option_map (λ b. typ_bind_of b.now) bind.entry)) }
 {
     match bind {
-        None => Ok(Ty::Constructor(place, arguments, copy_of_long(alloc, constructor)?)),
+        None => constructor(alloc, place, arguments, long),
         Some(bind) => {
             if has_all(bind, &arguments) {
                 let made = instance(alloc, &bind.ty, &bind.variables, &arguments)?;
                 return Ok(made);
             }
-            let constructor = copy_of_long(alloc, constructor)?;
-            Ok(Ty::Misapplied(place, arguments, constructor))
+            misapplied(alloc, place, arguments, long)
         }
     }
 }
@@ -177,18 +178,13 @@ fn replaced(alloc: Global, binds: &[TypBind], ty: &Ty) -> Result<Ty, Memory>
             applied(alloc, *place, tys, long, binding(long, binds))
         }
         Ty::Misapplied(place, tys, long) => {
-            let tys = all_replaced(alloc, binds, tys)?;
-            Ok(Ty::Misapplied(*place, tys, copy_of_long(alloc, long)?))
+            misapplied(alloc, *place, all_replaced(alloc, binds, tys)?, long)
         }
         Ty::Arrow(place, from, to) => {
-            let from = Box::new(alloc, replaced(alloc, binds, from)?)?;
-            let to = replaced(alloc, binds, to)?;
-            Ok(Ty::Arrow(*place, from, Box::new(alloc, to)?))
+            let from = replaced(alloc, binds, from)?;
+            arrow(alloc, *place, from, replaced(alloc, binds, to)?)
         }
-        Ty::Bracket(place, ty) => {
-            let ty = replaced(alloc, binds, ty)?;
-            Ok(Ty::Bracket(*place, Box::new(alloc, ty)?))
-        }
+        Ty::Bracket(place, ty) => { bracket(alloc, *place, replaced(alloc, binds, ty)?) }
     }
 }
 
@@ -213,9 +209,7 @@ fn fields_replaced(
 {
     let mut made = Vec::new(alloc);
     for field in fields {
-        let label = copy_of(&field.label)?;
-        let ty = replaced(alloc, binds, &field.ty)?;
-        made.push(TyField { label, ty })?;
+        made.push(labelled(&field.label, replaced(alloc, binds, &field.ty)?)?)?;
     }
     Ok(made)
 }

@@ -2,7 +2,7 @@
 
 use crate::mapping::{Image, Mapping, mapped_env};
 use crate::new_names::NewNames;
-use crate::objects::{Basis, Env, FunSig, Sig, TypeStr};
+use crate::objects::{Basis, Env, FunSig, Sig, TypeStr, Value};
 use indexmap::{IndexMap, IndexSet};
 use sml_lex::fault::Memory;
 use sml_objects::equality::has_equality;
@@ -70,17 +70,26 @@ impl Appearance {
         Ok(())
     }
 
+    fn add_type_strs(&mut self, types: &BTreeMap<Ident, TypeStr>) -> Result<(), Memory> {
+        for (_, ty) in types {
+            self.add_type_str(ty)?;
+        }
+        Ok(())
+    }
+
+    fn add_values(&mut self, values: &BTreeMap<Ident, Value>) -> Result<(), Memory> {
+        for (_, value) in values {
+            self.add_type(&value.scheme.body)?;
+        }
+        Ok(())
+    }
+
     /// The names of an environment, in the order of its lines.
     #[cycle(envs)]
     fn add_env(&mut self, env: &Env) -> Result<(), Memory> {
         self.add_structures(&env.structures)?;
-        for (_, ty) in &env.types {
-            self.add_type_str(ty)?;
-        }
-        for (_, value) in &env.values {
-            self.add_type(&value.scheme.body)?;
-        }
-        Ok(())
+        self.add_type_strs(&env.types)?;
+        self.add_values(&env.values)
     }
 
     #[cycle(envs)]
@@ -151,6 +160,12 @@ impl Renaming {
             env: mapped_env(alloc, &sig.env, self)?,
         })
     }
+
+    fn functor(&self, alloc: Global, functor: &FunSig) -> Result<FunSig, Memory> {
+        let argument = self.sig(alloc, &functor.argument)?;
+        let result = self.sig(alloc, &functor.result)?;
+        Ok(FunSig { argument, result })
+    }
 }
 
 impl Mapping for Renaming {
@@ -217,25 +232,39 @@ fn renamed_basis(
 ) -> Result<Basis, Memory> {
     let mut own = Basis::new(alloc, basis.unit);
     own.count = count;
-    let Basis {
-        env,
-        signatures,
-        functors,
-        ..
-    } = basis;
+    put_signatures(alloc, &mut own, &basis, renaming)?;
+    put_functors(alloc, &mut own, &basis, renaming)?;
+    let Basis { env, .. } = basis;
     own.env = renamed_env(alloc, env, renaming)?;
-    for (name, signature) in signatures {
-        let signature = renaming.sig(alloc, &signature)?;
-        own.signatures.insert(name, Rc::new(alloc, signature)?)?;
-    }
-    for (name, functor) in functors {
-        let functor = FunSig {
-            argument: renaming.sig(alloc, &functor.argument)?,
-            result: renaming.sig(alloc, &functor.result)?,
-        };
-        own.functors.insert(name, Rc::new(alloc, functor)?)?;
-    }
     Ok(own)
+}
+
+fn put_signatures(
+    alloc: Global,
+    own: &mut Basis,
+    basis: &Basis,
+    renaming: &Renaming,
+) -> Result<(), Memory> {
+    for (name, signature) in &basis.signatures {
+        let signature = renaming.sig(alloc, signature)?;
+        own.signatures
+            .insert(name.clone()?, Rc::new(alloc, signature)?)?;
+    }
+    Ok(())
+}
+
+fn put_functors(
+    alloc: Global,
+    own: &mut Basis,
+    basis: &Basis,
+    renaming: &Renaming,
+) -> Result<(), Memory> {
+    for (name, functor) in &basis.functors {
+        let functor = renaming.functor(alloc, functor)?;
+        own.functors
+            .insert(name.clone()?, Rc::new(alloc, functor)?)?;
+    }
+    Ok(())
 }
 
 fn renamed_env(alloc: Global, env: Env, renaming: &Renaming) -> Result<Env, Memory> {

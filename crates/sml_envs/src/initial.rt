@@ -146,14 +146,20 @@ impl Types {
 pub fn initial(alloc: Global) -> Result<Basis, Memory> {
     let types = Types::new(alloc)?;
     let mut basis = Basis::new(alloc, UnitId { index: 0 });
-    put_types(&types, &mut basis.env)?;
-    put_datatypes(&types, &mut basis.env)?;
-    put_exceptions(&types, &mut basis.env)?;
-    put_overloaded(&types, &mut basis.env)?;
-    put_polymorphic(&types, &mut basis.env)?;
-    put_functions(&types, &mut basis.env)?;
-    put_simple(&types, &mut basis.env)?;
+    put_all(&types, &mut basis.env)?;
     Ok(basis)
+}
+
+fn put_all(types: &Types, env: &mut Env) -> Result<(), Memory> {
+    put_types(types, env)?;
+    put_bool(types, env)?;
+    put_list(types, env)?;
+    put_ref(types, env)?;
+    put_exceptions(types, env)?;
+    put_overloaded(types, env)?;
+    put_functions(types, env)?;
+    put_map(types, env)?;
+    put_composition(types, env)
 }
 
 fn put_types(types: &Types, env: &mut Env) -> Result<(), Memory> {
@@ -172,17 +178,23 @@ fn put_types(types: &Types, env: &mut Env) -> Result<(), Memory> {
     types.type_str(env, b"unit", &[], &types.unit, BTreeMap::new(types.alloc))
 }
 
-fn put_datatypes(types: &Types, env: &mut Env) -> Result<(), Memory> {
+fn put_bool(types: &Types, env: &mut Env) -> Result<(), Memory> {
     let bool = types.name(Initial::Bool)?;
     let constructors: [(&[u8], Rc<MlType>); 2] = [
         (b"false", bool.clone()?),
         (b"true", bool.clone()?),
     ];
-    types.datatype(env, b"bool", &[], &bool, &constructors)?;
+    types.datatype(env, b"bool", &[], &bool, &constructors)
+}
+
+fn put_list(types: &Types, env: &mut Env) -> Result<(), Memory> {
     let list = types.of_a(Initial::List)?;
     let cons = types.arrow(&types.pair(&types.a, &list)?, &list)?;
     let constructors: [(&[u8], Rc<MlType>); 2] = [(b"::", cons), (b"nil", list.clone()?)];
-    types.datatype(env, b"list", &[false], &list, &constructors)?;
+    types.datatype(env, b"list", &[false], &list, &constructors)
+}
+
+fn put_ref(types: &Types, env: &mut Env) -> Result<(), Memory> {
     let reference = types.of_a(Initial::Ref)?;
     let make = types.arrow(&types.a, &reference)?;
     let constructors: [(&[u8], Rc<MlType>); 1] = [(b"ref", make)];
@@ -223,55 +235,168 @@ fn put_overloaded(types: &Types, env: &mut Env) -> Result<(), Memory> {
     Ok(())
 }
 
-fn put_polymorphic(types: &Types, env: &mut Env) -> Result<(), Memory> {
-    let bool = types.name(Initial::Bool)?;
-    let int = types.name(Initial::Int)?;
-    let a = &types.a;
-    let list = types.of_a(Initial::List)?;
-    let reference = types.of_a(Initial::Ref)?;
-    let same = types.pair(a, a)?;
-    types.value(env, b"=", &[true], &same, &bool)?;
-    types.value(env, b"<>", &[true], &same, &bool)?;
-    types.value(
-        env,
-        b":=",
-        &[false],
-        &types.pair(&reference, a)?,
-        &types.unit,
-    )?;
-    types.value(env, b"!", &[false], &reference, a)?;
-    types.value(env, b"@", &[false], &types.pair(&list, &list)?, &list)?;
-    types.value(env, b"before", &[false], &types.pair(a, &types.unit)?, a)?;
-    types.value(env, b"ignore", &[false], a, &types.unit)?;
-    types.value(env, b"rev", &[false], &list, &list)?;
-    types.value(env, b"length", &[false], &list, &int)
+/// A type of the functions below.
+#[derive(Clone, Copy)]
+enum Part {
+    Unit,
+    /// The first variable.
+    Variable,
+    /// A name without arguments.
+    Name(Initial),
+    /// A name applied to the first variable.
+    OfVariable(Initial),
 }
 
-/// `o` and `map`.
+/// A function: its identifier, its variables by their equality attributes, what it takes, one part or two, and its result.
+type Function = (&'static [u8], &'static [bool], &'static [Part], Part);
+
+const FUNCTIONS: [Function; 19] = [
+    (
+        b"=",
+        &[true],
+        &[Part::Variable, Part::Variable],
+        Part::Name(Initial::Bool),
+    ),
+    (
+        b"<>",
+        &[true],
+        &[Part::Variable, Part::Variable],
+        Part::Name(Initial::Bool),
+    ),
+    (
+        b":=",
+        &[false],
+        &[Part::OfVariable(Initial::Ref), Part::Variable],
+        Part::Unit,
+    ),
+    (
+        b"!",
+        &[false],
+        &[Part::OfVariable(Initial::Ref)],
+        Part::Variable,
+    ),
+    (
+        b"@",
+        &[false],
+        &[
+            Part::OfVariable(Initial::List),
+            Part::OfVariable(Initial::List),
+        ],
+        Part::OfVariable(Initial::List),
+    ),
+    (
+        b"before",
+        &[false],
+        &[Part::Variable, Part::Unit],
+        Part::Variable,
+    ),
+    (b"ignore", &[false], &[Part::Variable], Part::Unit),
+    (
+        b"rev",
+        &[false],
+        &[Part::OfVariable(Initial::List)],
+        Part::OfVariable(Initial::List),
+    ),
+    (
+        b"length",
+        &[false],
+        &[Part::OfVariable(Initial::List)],
+        Part::Name(Initial::Int),
+    ),
+    (
+        b"/",
+        &[],
+        &[Part::Name(Initial::Real), Part::Name(Initial::Real)],
+        Part::Name(Initial::Real),
+    ),
+    (
+        b"not",
+        &[],
+        &[Part::Name(Initial::Bool)],
+        Part::Name(Initial::Bool),
+    ),
+    (
+        b"^",
+        &[],
+        &[Part::Name(Initial::String), Part::Name(Initial::String)],
+        Part::Name(Initial::String),
+    ),
+    (
+        b"size",
+        &[],
+        &[Part::Name(Initial::String)],
+        Part::Name(Initial::Int),
+    ),
+    (
+        b"ord",
+        &[],
+        &[Part::Name(Initial::Char)],
+        Part::Name(Initial::Int),
+    ),
+    (
+        b"chr",
+        &[],
+        &[Part::Name(Initial::Int)],
+        Part::Name(Initial::Char),
+    ),
+    (
+        b"str",
+        &[],
+        &[Part::Name(Initial::Char)],
+        Part::Name(Initial::String),
+    ),
+    (
+        b"real",
+        &[],
+        &[Part::Name(Initial::Int)],
+        Part::Name(Initial::Real),
+    ),
+    (
+        b"floor",
+        &[],
+        &[Part::Name(Initial::Real)],
+        Part::Name(Initial::Int),
+    ),
+    (b"print", &[], &[Part::Name(Initial::String)], Part::Unit),
+];
+
+fn part_of(types: &Types, part: Part) -> Result<Rc<MlType>, Memory> {
+    match part {
+        Part::Unit => Ok(types.unit.clone()?),
+        Part::Variable => Ok(types.a.clone()?),
+        Part::Name(name) => types.name(name),
+        Part::OfVariable(name) => types.of_a(name),
+    }
+}
+
+/// One part, or the pair of two.
+fn argument_of(types: &Types, parts: &[Part]) -> Result<Rc<MlType>, Memory> {
+    match parts {
+        [first, second] => types.pair(&part_of(types, *first)?, &part_of(types, *second)?),
+        [first, ..] => part_of(types, *first),
+        [] => Ok(types.unit.clone()?),
+    }
+}
+
 fn put_functions(types: &Types, env: &mut Env) -> Result<(), Memory> {
+    for (name, variables, parts, result) in &FUNCTIONS {
+        let argument = argument_of(types, parts)?;
+        types.value(env, name, variables, &argument, &part_of(types, *result)?)?;
+    }
+    Ok(())
+}
+
+fn put_map(types: &Types, env: &mut Env) -> Result<(), Memory> {
+    let function = types.arrow(&types.a, &types.b)?;
+    let lists = types.arrow(&types.of_a(Initial::List)?, &types.of_b(Initial::List)?)?;
+    types.value(env, b"map", &[false, false], &function, &lists)
+}
+
+/// `o`
+fn put_composition(types: &Types, env: &mut Env) -> Result<(), Memory> {
     let outer = types.arrow(&types.a, &types.b)?;
     let inner = types.arrow(&types.c, &types.a)?;
     let both = types.arrow(&types.c, &types.b)?;
     let functions = types.pair(&outer, &inner)?;
-    types.value(env, b"o", &[false, false, false], &functions, &both)?;
-    let lists = types.arrow(&types.of_a(Initial::List)?, &types.of_b(Initial::List)?)?;
-    types.value(env, b"map", &[false, false], &outer, &lists)
-}
-
-fn put_simple(types: &Types, env: &mut Env) -> Result<(), Memory> {
-    let real = types.name(Initial::Real)?;
-    let int = types.name(Initial::Int)?;
-    let bool = types.name(Initial::Bool)?;
-    let string = types.name(Initial::String)?;
-    let char = types.name(Initial::Char)?;
-    types.value(env, b"/", &[], &types.pair(&real, &real)?, &real)?;
-    types.value(env, b"not", &[], &bool, &bool)?;
-    types.value(env, b"^", &[], &types.pair(&string, &string)?, &string)?;
-    types.value(env, b"size", &[], &string, &int)?;
-    types.value(env, b"ord", &[], &char, &int)?;
-    types.value(env, b"chr", &[], &int, &char)?;
-    types.value(env, b"str", &[], &char, &string)?;
-    types.value(env, b"real", &[], &int, &real)?;
-    types.value(env, b"floor", &[], &real, &int)?;
-    types.value(env, b"print", &[], &string, &types.unit)
+    types.value(env, b"o", &[false, false, false], &functions, &both)
 }

@@ -323,40 +323,42 @@ struct Changes {
     values: Vec<(Ident, Value)>,
 }
 
+impl Changes {
+    fn are_none(&self) -> bool {
+        self.structures.is_empty() && self.types.is_empty() && self.values.is_empty()
+    }
+}
+
 /// What an environment becomes, or `None` where it stays.
 #[cycle(envs)]
 fn changed_env<M: Mapping>(alloc: Global, env: &Env, by: &M) -> Result<Option<Rc<Env>>, Memory> {
     let structures = changed_structures(alloc, &env.structures, by)?;
     let types = changed_types(alloc, &env.types, by)?;
     let values = changed_values(alloc, &env.values, by)?;
-    if structures.is_empty() && types.is_empty() && values.is_empty() {
-        return Ok(None);
-    }
-    let mut copy = Env::new(alloc);
-    copy.add(env)?;
     let changes = Changes {
         structures,
         types,
         values,
     };
-    change(&mut copy, changes)?;
+    with_changes(alloc, env, changes)
+}
+
+/// An environment with other entries for some, or `None` where there are none.
+fn with_changes(alloc: Global, env: &Env, changes: Changes) -> Result<Option<Rc<Env>>, Memory> {
+    if changes.are_none() {
+        return Ok(None);
+    }
+    let mut copy = Env::new(alloc);
+    copy.add(env)?;
+    put_all(&mut copy.structures, changes.structures)?;
+    put_all(&mut copy.types, changes.types)?;
+    put_all(&mut copy.values, changes.values)?;
     Ok(Some(Rc::new(alloc, copy)?))
 }
 
-fn change(env: &mut Env, changes: Changes) -> Result<(), Memory> {
-    let Changes {
-        structures,
-        types,
-        values,
-    } = changes;
-    for (name, structure) in structures {
-        env.structures.insert(name, structure)?;
-    }
-    for (name, ty) in types {
-        env.types.insert(name, ty)?;
-    }
-    for (name, value) in values {
-        env.values.insert(name, value)?;
+fn put_all<T: Drop>(map: &mut BTreeMap<Ident, T>, entries: Vec<(Ident, T)>) -> Result<(), Memory> {
+    for (name, entry) in entries {
+        map.insert(name, entry)?;
     }
     Ok(())
 }

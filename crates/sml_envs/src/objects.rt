@@ -83,6 +83,61 @@ pub struct Basis {
     pub functors: BTreeMap<Ident, Rc<FunSig>>,
 }
 
+/// What an environment has entries of: structures, types and values.
+pub trait Entry: Drop {
+    /// Those of an environment.
+    fn entries(env: &Env) -> &BTreeMap<Ident, Self>;
+}
+
+impl Entry for Rc<Env> {
+    fn entries(env: &Env) -> &BTreeMap<Ident, Rc<Env>> {
+        &env.structures
+    }
+}
+
+impl Entry for TypeStr {
+    fn entries(env: &Env) -> &BTreeMap<Ident, TypeStr> {
+        &env.types
+    }
+}
+
+impl Entry for Value {
+    fn entries(env: &Env) -> &BTreeMap<Ident, Value> {
+        &env.values
+    }
+}
+
+/// Puts shared entries over those of a map.
+fn put_shared<T: Drop>(
+    map: &mut BTreeMap<Ident, Rc<T>>,
+    others: &BTreeMap<Ident, Rc<T>>,
+) -> Result<(), Memory> {
+    for (name, entry) in others {
+        map.insert(name.clone()?, entry.clone()?)?;
+    }
+    Ok(())
+}
+
+fn put_types(
+    map: &mut BTreeMap<Ident, TypeStr>,
+    others: &BTreeMap<Ident, TypeStr>,
+) -> Result<(), Memory> {
+    for (name, ty) in others {
+        map.insert(name.clone()?, ty.share()?)?;
+    }
+    Ok(())
+}
+
+fn put_values(
+    map: &mut BTreeMap<Ident, Value>,
+    others: &BTreeMap<Ident, Value>,
+) -> Result<(), Memory> {
+    for (name, value) in others {
+        map.insert(name.clone()?, value.share()?)?;
+    }
+    Ok(())
+}
+
 impl Value {
     /// The same value, shared.
     pub fn share(&self) -> Result<Value, Memory> {
@@ -120,16 +175,9 @@ impl Env {
 
     /// Puts the entries of another environment over these.
     pub fn add(&mut self, other: &Env) -> Result<(), Memory> {
-        for (name, structure) in &other.structures {
-            self.structures.insert(name.clone()?, structure.clone()?)?;
-        }
-        for (name, ty) in &other.types {
-            self.types.insert(name.clone()?, ty.share()?)?;
-        }
-        for (name, value) in &other.values {
-            self.values.insert(name.clone()?, value.share()?)?;
-        }
-        Ok(())
+        put_shared(&mut self.structures, &other.structures)?;
+        put_types(&mut self.types, &other.types)?;
+        put_values(&mut self.values, &other.values)
     }
 }
 
@@ -149,52 +197,35 @@ impl Basis {
     /// Puts what another basis binds over what this one does. The unit, the count and the bases below stay.
     pub fn add(&mut self, other: &Basis) -> Result<(), Memory> {
         self.env.add(&other.env)?;
-        for (name, signature) in &other.signatures {
-            self.signatures.insert(name.clone()?, signature.clone()?)?;
+        put_shared(&mut self.signatures, &other.signatures)?;
+        put_shared(&mut self.functors, &other.functors)
+    }
+
+    fn find<T: Entry>(&self, name: &Ident) -> Option<&T> {
+        if let Some(found) = T::entries(&self.env).get(name) {
+            return Some(found);
         }
-        for (name, functor) in &other.functors {
-            self.functors.insert(name.clone()?, functor.clone()?)?;
+        for basis in self.below.iter().rev() {
+            if let Some(found) = T::entries(&basis.env).get(name) {
+                return Some(found);
+            }
         }
-        Ok(())
+        None
     }
 
     /// The structure that the identifier means.
     pub fn structure(&self, name: &Ident) -> Option<&Rc<Env>> {
-        if let Some(found) = self.env.structures.get(name) {
-            return Some(found);
-        }
-        for basis in self.below.iter().rev() {
-            if let Some(found) = basis.env.structures.get(name) {
-                return Some(found);
-            }
-        }
-        None
+        self.find(name)
     }
 
     /// The type structure that the type constructor means.
     pub fn type_str(&self, name: &Ident) -> Option<&TypeStr> {
-        if let Some(found) = self.env.types.get(name) {
-            return Some(found);
-        }
-        for basis in self.below.iter().rev() {
-            if let Some(found) = basis.env.types.get(name) {
-                return Some(found);
-            }
-        }
-        None
+        self.find(name)
     }
 
     /// The value that the identifier means.
     pub fn value(&self, name: &Ident) -> Option<&Value> {
-        if let Some(found) = self.env.values.get(name) {
-            return Some(found);
-        }
-        for basis in self.below.iter().rev() {
-            if let Some(found) = basis.env.values.get(name) {
-                return Some(found);
-            }
-        }
-        None
+        self.find(name)
     }
 
     /// The signature that the identifier means.

@@ -42,22 +42,38 @@ pub(crate) fn in_order(
 ) -> Result<Scheme, Memory> {
     let mut order = IndexSet::new(alloc);
     collect_bound(&body, &mut order)?;
-    let mut variables = Vec::new(alloc);
-    let mut is_ordered = order.len() == equality.len();
-    for (place, variable) in order.iter().enumerate() {
-        let index = *variable as usize;
-        is_ordered = is_ordered && index == place;
-        let flag = match equality.get(index) {
-            Some(flag) => *flag,
-            None => false,
-        };
-        variables.push(flag)?;
-    }
-    if is_ordered {
+    let variables = attributes_of(alloc, equality, &order)?;
+    if order.len() == equality.len() && is_ascending(&order) {
         return Ok(Scheme { variables, body });
     }
     let body = mapped_type(alloc, &body, &Order { variables: &order })?;
     Ok(Scheme { variables, body })
+}
+
+/// The equality attributes of variables, in the order of a set.
+fn attributes_of(
+    alloc: Global,
+    equality: &[bool],
+    order: &IndexSet<u32>,
+) -> Result<Vec<bool>, Memory> {
+    let mut attributes = Vec::new(alloc);
+    for variable in order {
+        attributes.push(match equality.get(*variable as usize) {
+            Some(attribute) => *attribute,
+            None => false,
+        })?;
+    }
+    Ok(attributes)
+}
+
+/// Whether each variable stands at its own place.
+fn is_ascending(order: &IndexSet<u32>) -> bool {
+    for (place, variable) in order.iter().enumerate() {
+        if *variable as usize != place {
+            return false;
+        }
+    }
+    true
 }
 
 /// Adds the bound variables of a type, in the order in which they appear.

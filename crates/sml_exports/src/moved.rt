@@ -19,18 +19,31 @@ pub fn moved(
     unit: UnitId,
     moves: &Moves,
 ) -> Result<Exports, Memory> {
-    let whole = moved_basis(alloc, &exports.whole, unit, moves)?;
-    let mut paths = Layer::new(alloc);
-    paths.bind(alloc, &whole.env)?;
-    let specified = match &exports.specified {
-        Some(env) => Some(Rc::new(alloc, moved_env(alloc, env, moves)?)?),
-        None => None,
-    };
+    let specified = moved_specified(alloc, &exports.specified, moves)?;
+    let whole = Rc::new(alloc, moved_basis(alloc, &exports.whole, unit, moves)?)?;
+    let paths = paths_of(alloc, &whole.env)?;
     Ok(Exports {
-        whole: Rc::new(alloc, whole)?,
-        paths: Rc::new(alloc, paths)?,
+        whole,
+        paths,
         specified,
     })
+}
+
+fn moved_specified(
+    alloc: Global,
+    specified: &Option<Rc<Env>>,
+    moves: &Moves,
+) -> Result<Option<Rc<Env>>, Memory> {
+    match specified {
+        Some(env) => Ok(Some(Rc::new(alloc, moved_env(alloc, env, moves)?)?)),
+        None => Ok(None),
+    }
+}
+
+fn paths_of(alloc: Global, env: &WholeEnv) -> Result<Rc<Layer>, Memory> {
+    let mut paths = Layer::new(alloc);
+    paths.bind(alloc, env)?;
+    Ok(Rc::new(alloc, paths)?)
 }
 
 fn moved_basis(
@@ -42,20 +55,43 @@ fn moved_basis(
     let mut own = WholeBasis::new(alloc, unit);
     own.count = basis.count;
     own.env = moved_whole_env(alloc, &basis.env, moves)?;
+    put_signatures(alloc, &mut own, basis, moves)?;
+    put_functors(alloc, &mut own, basis, moves)?;
+    Ok(own)
+}
+
+fn put_signatures(
+    alloc: Global,
+    own: &mut WholeBasis,
+    basis: &WholeBasis,
+    moves: &Moves,
+) -> Result<(), Memory> {
     for (name, signature) in &basis.signatures {
         let signature = moved_sig(alloc, signature, moves)?;
         own.signatures
             .insert(name.clone()?, Rc::new(alloc, signature)?)?;
     }
+    Ok(())
+}
+
+fn put_functors(
+    alloc: Global,
+    own: &mut WholeBasis,
+    basis: &WholeBasis,
+    moves: &Moves,
+) -> Result<(), Memory> {
     for (name, functor) in &basis.functors {
-        let functor = FunSig {
-            argument: moved_sig(alloc, &functor.argument, moves)?,
-            result: moved_sig(alloc, &functor.result, moves)?,
-        };
+        let functor = moved_functor(alloc, functor, moves)?;
         own.functors
             .insert(name.clone()?, Rc::new(alloc, functor)?)?;
     }
-    Ok(own)
+    Ok(())
+}
+
+fn moved_functor(alloc: Global, functor: &FunSig, moves: &Moves) -> Result<FunSig, Memory> {
+    let argument = moved_sig(alloc, &functor.argument, moves)?;
+    let result = moved_sig(alloc, &functor.result, moves)?;
+    Ok(FunSig { argument, result })
 }
 
 fn moved_whole_env(alloc: Global, env: &WholeEnv, moves: &Moves) -> Result<WholeEnv, Memory> {
@@ -88,15 +124,25 @@ fn moved_names(alloc: Global, names: &[TyName], moves: &Moves) -> Result<Vec<TyN
 fn moved_env(alloc: Global, env: &Env, moves: &Moves) -> Result<Env, Memory> {
     let mut own = Env::new(alloc);
     own.structures = moved_structures(alloc, &env.structures, moves)?;
+    put_types(alloc, &mut own, env, moves)?;
+    put_values(alloc, &mut own, env, moves)?;
+    Ok(own)
+}
+
+fn put_types(alloc: Global, own: &mut Env, env: &Env, moves: &Moves) -> Result<(), Memory> {
     for (name, function) in &env.types {
         let function = mapped_function(alloc, function, moves)?;
         own.types.insert(name.clone()?, function)?;
     }
+    Ok(())
+}
+
+fn put_values(alloc: Global, own: &mut Env, env: &Env, moves: &Moves) -> Result<(), Memory> {
     for (name, scheme) in &env.values {
         let scheme = mapped_scheme(alloc, scheme, moves)?;
         own.values.insert(name.clone()?, scheme)?;
     }
-    Ok(own)
+    Ok(())
 }
 
 #[cycle(moved)]

@@ -65,14 +65,17 @@ fn functor(context: &mut Context, bind: &FunBind) -> Result<FunSig, CoreFault> {
         &context.scopes,
         &bind.signature,
     )?;
+    let result = result_of(context, bind, argument.env.clone()?)?;
+    Ok(FunSig { argument, result })
+}
+
+/// What a functor's body gives for an argument, with the names that it makes.
+fn result_of(context: &mut Context, bind: &FunBind, argument: Rc<Env>) -> Result<Sig, CoreFault> {
     let first = context.new.next;
     let outside = begin(context, false);
-    context.bind_structure(&bind.argument.ident, argument.env.clone()?)?;
+    context.bind_structure(&bind.argument.ident, argument)?;
     let env = structure(context, &bind.body)?;
     end_let(context, outside)?;
     let names = names_from(context.alloc, &env, context.new.unit, first)?;
-    Ok(FunSig {
-        argument,
-        result: Sig { names, env },
-    })
+    Ok(Sig { names, env })
 }

@@ -11,6 +11,7 @@ use sml_sigs::sigs::signature;
 use sml_tree::structures::{SigBind, TopDec};
 use sml_types::fault::{CoreFault, plain_fault};
 use std::alloc::Global;
+use std::mem::replace;
 use std::rc::Rc;
 
 /// A fault of the declaration, or want of memory.
@@ -30,13 +31,18 @@ pub fn topdec(
     dec: &TopDec,
 ) -> Result<(Basis, Vec<Warning>), TopFault> {
     let mut context = Context::new(alloc, basis);
-    let own = own_basis(&mut context, basis, dec)?;
-    let own = canonical(alloc, own, basis.unit, basis.count)?;
+    let own = numbered(&mut context, basis, dec)?;
+    Ok((own, replace(&mut context.warnings, Vec::new(alloc))))
+}
+
+/// What the declaration binds, with its new names numbered.
+fn numbered(context: &mut Context, basis: &Basis, dec: &TopDec) -> Result<Basis, TopFault> {
+    let own = own_basis(context, basis, dec)?;
+    let own = canonical(context.alloc, own, basis.unit, basis.count)?;
     if own.count > MOST_NAMES {
         return Err(plain_fault(Code::Q3, START));
     }
-    let Context { warnings, .. } = context;
-    Ok((own, warnings))
+    Ok(own)
 }
 
 /// What the declaration binds, all types of which are known.

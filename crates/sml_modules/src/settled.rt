@@ -7,7 +7,6 @@ use sml_envs::mapping::{Image, Mapping, mapped_env};
 use sml_envs::objects::{Basis, Env, FunSig, Sig};
 use sml_lex::fault::{Code, Memory, Place};
 use sml_objects::objects::{MlType, TyName};
-use sml_tree::bare::Ident;
 use sml_types::fault::{CoreFault, plain_fault};
 use sml_types::sizes::GREATEST_SIZE;
 use sml_types::variables::{collect_free, is_ground};
@@ -58,22 +57,27 @@ pub(crate) fn settled_functors(
     if !context.is_open() {
         return Ok(());
     }
-    let mut settled: Vec<(Ident, Rc<FunSig>)> = Vec::new(context.alloc);
-    for (name, functor) in &own.functors {
-        let env = settled_shared(context, &functor.result.env, place)?;
-        let functor = FunSig {
-            argument: shared_sig(context.alloc, &functor.argument)?,
-            result: Sig {
-                names: Vec::from_slice(context.alloc, functor.result.names.as_slice())?,
-                env,
-            },
-        };
-        settled.push((name.clone()?, Rc::new(context.alloc, functor)?))?;
-    }
-    for (name, functor) in settled {
-        own.functors.insert(name, functor)?;
+    for functor in own.functors.values_mut() {
+        *functor = settled_functor(context, functor, place)?;
     }
     Ok(())
+}
+
+fn settled_functor(
+    context: &mut Context,
+    functor: &FunSig,
+    place: Place,
+) -> Result<Rc<FunSig>, CoreFault> {
+    let env = settled_shared(context, &functor.result.env, place)?;
+    Ok(functor_with(context.alloc, functor, env)?)
+}
+
+/// A functor with another environment of its result.
+fn functor_with(alloc: Global, functor: &FunSig, env: Rc<Env>) -> Result<Rc<FunSig>, Memory> {
+    let names = Vec::from_slice(alloc, functor.result.names.as_slice())?;
+    let result = Sig { names, env };
+    let argument = shared_sig(alloc, &functor.argument)?;
+    Ok(Rc::new(alloc, FunSig { argument, result })?)
 }
 
 fn shared_sig(alloc: Global, sig: &Sig) -> Result<Sig, Memory> {
@@ -88,19 +92,31 @@ fn settled_shared(
     env: &Rc<Env>,
     place: Place,
 ) -> Result<Rc<Env>, CoreFault> {
-    let mut unknowns = IndexSet::new(context.alloc);
-    collect_env(env, &mut unknowns)?;
+    let unknowns = unknowns_of(context.alloc, env)?;
     if unknowns.is_empty() {
         return Ok(env.clone()?);
     }
-    let mut known = Known {
-        types: IndexMap::new(context.alloc),
-    };
-    for unknown in &unknowns {
-        let ty = reading(context, *unknown, place)?;
-        known.types.insert(*unknown, ty)?;
-    }
+    let known = known(context, &unknowns, place)?;
     Ok(mapped_env(context.alloc, env, &known)?)
+}
+
+/// The unknowns in the types of an environment's values.
+fn unknowns_of(alloc: Global, env: &Env) -> Result<IndexSet<u32>, Memory> {
+    let mut unknowns = IndexSet::new(alloc);
+    collect_env(env, &mut unknowns)?;
+    Ok(unknowns)
+}
+
+fn known(
+    context: &mut Context,
+    unknowns: &IndexSet<u32>,
+    place: Place,
+) -> Result<Known, CoreFault> {
+    let mut types = IndexMap::new(context.alloc);
+    for unknown in unknowns {
+        types.insert(*unknown, reading(context, *unknown, place)?)?;
+    }
+    Ok(Known { types })
 }
 
 /// The type that an unknown turned out to be, or Q2.

@@ -45,8 +45,7 @@ pub(crate) fn structure(context: &mut Context, exp: &StrExp) -> Result<Rc<Env>, 
             let outside = begin(context, false);
             declare_all(context, decs)?;
             let env = structure(context, exp)?;
-            end_let(context, outside)?;
-            Ok(env)
+            inside_let(context, outside, env)
         }
     }
 }
@@ -64,6 +63,13 @@ fn end_struct(context: &mut Context, outside: Outside) -> Result<Rc<Env>, CoreFa
     let env = context.exported(outside.exports);
     context.leave(outside.mark)?;
     Ok(Rc::new(context.alloc, env)?)
+}
+
+/// Leaves a `let` with this environment.
+#[inline(never)]
+fn inside_let(context: &mut Context, outside: Outside, env: Rc<Env>) -> Result<Rc<Env>, CoreFault> {
+    end_let(context, outside)?;
+    Ok(env)
 }
 
 #[inline(never)]

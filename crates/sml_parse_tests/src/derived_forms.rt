@@ -15,7 +15,7 @@ use sml_tree::expressions::Dec;
 use sml_tree::names::Name;
 use sml_tree::patterns::Pat;
 use sml_tree::signatures::{SigExp, WhereType};
-use sml_tree::structures::{Ascription, StrDec, StrExp, TopDec};
+use sml_tree::structures::{Ascription, FunBind, StrDec, StrExp, TopDec};
 use sml_tree::types::Ty;
 use std::alloc::Global;
 use std::process::Abort;
@@ -180,8 +180,8 @@ fn pun_of(alloc: Global, ty_column: u32, pat_column: u32) -> Result<String, Memo
     let pat = some_pat(alloc, pat_column)?;
     let field = forms.pun(name(alloc, 2, "x")?, ty, pat)?;
     let mut shown = Shown::new(alloc);
-    show_pat(&mut shown, &field.pat)?;
-    Ok(shown.text)
+    show_pat(&mut shown, &field.pat);
+    shown.whole()
 }
 
 fn expect_puns(
@@ -218,23 +218,32 @@ fn structure_of(alloc: Global) -> Result<String, Memory> {
         structure_exp(alloc)?,
     )?;
     let mut shown = Shown::new(alloc);
-    show_str(&mut shown, &bind.body)?;
-    Ok(shown.text)
+    show_str(&mut shown, &bind.body);
+    shown.whole()
+}
+
+/// The functor `F (X : S) : R` with a body.
+fn functor_with(alloc: Global, body: StrExp) -> Result<FunBind, Memory> {
+    let parameter = name(alloc, 6, "X")?;
+    let argument = sig(alloc, 8, "S")?;
+    let result = sig(alloc, 12, "R")?;
+    let functor = name(alloc, 3, "F")?;
+    let forms = Expander::new(alloc)?;
+    forms.functor(
+        functor,
+        parameter,
+        argument,
+        Ascription::Transparent,
+        result,
+        body,
+    )
 }
 
 fn functor_of(alloc: Global) -> Result<String, Memory> {
-    let forms = Expander::new(alloc)?;
-    let bind = forms.functor(
-        name(alloc, 3, "F")?,
-        name(alloc, 6, "X")?,
-        sig(alloc, 8, "S")?,
-        Ascription::Transparent,
-        sig(alloc, 12, "R")?,
-        structure_exp(alloc)?,
-    )?;
+    let bind = functor_with(alloc, structure_exp(alloc)?)?;
     let mut shown = Shown::new(alloc);
-    show_str(&mut shown, &bind.body)?;
-    Ok(shown.text)
+    show_str(&mut shown, &bind.body);
+    shown.whole()
 }
 
 // `A :> S = E` and `F (X : S) : R = E`
@@ -263,8 +272,8 @@ fn equations_of(alloc: Global) -> Result<String, Memory> {
     equations.push(equation(alloc, 29, "u")?)?;
     let whole = forms.where_types(at(1), sig(alloc, 1, "S")?, equations)?;
     let mut shown = Shown::new(alloc);
-    show_sig(&mut shown, &whole)?;
-    Ok(shown.text)
+    show_sig(&mut shown, &whole);
+    shown.whole()
 }
 
 // `S where type t = a and type u = a`
@@ -291,10 +300,10 @@ fn behind_datatypes(alloc: Global, unit: &str) -> Result<String, Memory> {
     let mut shown = Shown::new(alloc);
     if let Some(top) = declarations.pop() {
         if let Some(dec) = expanded(alloc, top)? {
-            show_dec(&mut shown, &dec)?;
+            show_dec(&mut shown, &dec);
         }
     }
-    Ok(shown.text)
+    shown.whole()
 }
 
 #[test]

@@ -50,7 +50,7 @@ fn pop_value(unit: &[u8], names: &mut Names, stack: &mut Stack) -> Result<CoreDe
 {
     let place = stack.word().place;
     let ident = pop_ident(unit, names, stack)?;
-    stack.pop();
+    stack.skip();
     let exp = stack.exp();
     Ok(CoreDec {
         place,
@@ -69,18 +69,18 @@ fn pop_structure(
         sealed (text_at unit.now vs 1) (place_at vs 3) (specs_in (at vs 4)) (cores_in (at vs 8))) }
     ensures rest { OnOk result (seen stack.new ≡ without 10 (seen stack.old)) }
 {
-    stack.pop();
+    stack.skip();
     let name = pop_ident(unit, names, stack)?;
-    stack.pop();
+    stack.skip();
     let place = stack.word().place;
     let mut specs = stack.specs();
     specs.reverse();
-    stack.pop();
-    stack.pop();
-    stack.pop();
+    stack.skip();
+    stack.skip();
+    stack.skip();
     let mut body = stack.cores();
     body.reverse();
-    stack.pop();
+    stack.skip();
     Ok(SealedStructure {
         name,
         signature: SigExp { place, specs },
@@ -97,7 +97,7 @@ fn pop_value_spec(unit: &[u8], names: &mut Names, stack: &mut Stack) -> Result<S
 {
     let place = stack.word().place;
     let ident = pop_ident(unit, names, stack)?;
-    stack.pop();
+    stack.skip();
     let ty = stack.ty();
     Ok(Spec {
         place,
@@ -128,7 +128,7 @@ fn pop_type(unit: &[u8], names: &mut Names, stack: &mut Stack) -> Result<CoreDec
 {
     let place = stack.word().place;
     let ident = pop_ident(unit, names, stack)?;
-    stack.pop();
+    stack.skip();
     let ty = stack.ty();
     Ok(CoreDec {
         place,
@@ -147,9 +147,9 @@ fn pop_function(
         IfOk result (λ exp. exp_of exp ≡ function (text_at unit.now vs 1) (exp_in (at vs 3))) }
     ensures rest { OnOk result (seen stack.new ≡ without 4 (seen stack.old)) }
 {
-    stack.pop();
+    stack.skip();
     let ident = pop_ident(unit, names, stack)?;
-    stack.pop();
+    stack.skip();
     let body = stack.exp();
     Ok(Exp::Function(ident, Box::new(alloc, body)?))
 }
@@ -206,7 +206,7 @@ fn pop_more_exps(stack: &mut Stack) -> Result<Vec<Exp>, Memory>
         and_exp (exp_in (at vs 1)) (exps_in (at vs 2))) }
     ensures rest { OnOk result (seen stack.new ≡ without 3 (seen stack.old)) }
 {
-    stack.pop();
+    stack.skip();
     let exp = stack.exp();
     let mut exps = stack.exps();
     exps.push(exp)?;
@@ -220,7 +220,7 @@ fn pop_more_tys(stack: &mut Stack) -> Result<Vec<Ty>, Memory>
         and_ty (ty_in (at vs 1)) (tys_in (at vs 2))) }
     ensures rest { OnOk result (seen stack.new ≡ without 3 (seen stack.old)) }
 {
-    stack.pop();
+    stack.skip();
     let ty = stack.ty();
     let mut tys = stack.tys();
     tys.push(ty)?;
@@ -232,9 +232,9 @@ fn pop_bracket(alloc: Global, stack: &mut Stack) -> Result<Ty, Memory>
     ensures made { IfOk result (λ ty. ty_of ty ≡ bracket_ty (ty_in (at (seen stack.old) 1))) }
     ensures rest { OnOk result (seen stack.new ≡ without 3 (seen stack.old)) }
 {
-    stack.pop();
+    stack.skip();
     let ty = stack.ty();
-    stack.pop();
+    stack.skip();
     Ok(Ty::Bracket(Box::new(alloc, ty)?))
 }
 
@@ -285,7 +285,7 @@ fn pop_made(
         Form::Structure => Value::Dec(BareDec::Structure(pop_structure(unit, names, stack)?)),
         Form::SpecsEnd => Value::Specs(Vec::new(alloc)),
         Form::SpecsSemicolon => {
-            stack.pop();
+            stack.skip();
             Value::Specs(stack.specs())
         }
         Form::SpecsSpec => Value::Specs(pop_more_specs(stack)?),
@@ -293,36 +293,36 @@ fn pop_made(
         Form::SpecType => Value::Spec(pop_type_spec(unit, names, stack)?),
         Form::DecsEnd => Value::Cores(Vec::new(alloc)),
         Form::DecsSemicolon => {
-            stack.pop();
+            stack.skip();
             Value::Cores(stack.cores())
         }
         Form::DecsDec => Value::Cores(pop_more_cores(stack)?),
         Form::DecVal => Value::Core(pop_value(unit, names, stack)?),
         Form::DecType => Value::Core(pop_type(unit, names, stack)?),
         Form::ExpInteger => {
-            stack.pop();
+            stack.skip();
             Value::Exp(Exp::Number)
         }
         Form::ExpName => Value::Exp(Exp::Identifier(pop_long(unit, names, stack)?)),
         Form::ExpRound => {
-            stack.pop();
+            stack.skip();
             Value::Exp(stack.exp())
         }
         Form::ExpFn => Value::Exp(pop_function(alloc, unit, names, stack)?),
         Form::RoundClose => {
-            stack.pop();
+            stack.skip();
             Value::Exp(Exp::Tuple(Vec::new(alloc)))
         }
         Form::RoundExp => Value::Exp(pop_opened(alloc, stack)?),
         Form::ExpsClose => {
-            stack.pop();
+            stack.skip();
             Value::Exps(Vec::new(alloc))
         }
         Form::ExpsComma => Value::Exps(pop_more_exps(stack)?),
         Form::TyTup => Value::Ty(pop_arrow(alloc, stack)?),
         Form::TyEnd => Value::Nothing,
         Form::TyArrow => {
-            stack.pop();
+            stack.skip();
             Value::Ty(stack.ty())
         }
         Form::TupCon => Value::Ty(pop_tuple(stack)?),

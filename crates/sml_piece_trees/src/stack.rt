@@ -63,6 +63,13 @@ impl Stack {
         }
     }
 
+    /// Takes the value on top off, whatever it is.
+    pub fn skip(&mut self)
+        ensures { seen self.new ≡ rest (seen self.old) }
+    {
+        self.pop();
+    }
+
     pub fn word(&mut self) -> Word
         ensures value { result ≡ word_in (first (seen self.old)) }
         ensures rest { seen self.new ≡ rest (seen self.old) }

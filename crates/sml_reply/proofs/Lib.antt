@@ -1,5 +1,2 @@
 pub mod Sinks
-pub mod Pieces
-pub mod Spelling
-pub mod Vectors
 mod Copies

@@ -1,4 +1,2 @@
-pub mod Spelling
 pub mod Replies
 pub mod Sinks
-pub mod Text

@@ -2,7 +2,7 @@
 use Rattle.std.specs.Prelude.{ℕ, Bool, true, false, List, [], ◌++◌, cond, Option, Some, None, codes, decimal, map}
 use Rattle.sml_lex.specs.declared.fault.Warning.{Warning}
 use Rattle.sml_lex.specs.Faults.{fault_of}
-use Rattle.sml_reply.specs.Text.{code_text, meaning, fault_text}
+use Rattle.sml_texts.specs.Text.{code_text, meaning, fault_text}
 use Rattle.sml_reply.specs.Sinks.{in_turn}
 use Rattle.sml_reply.specs.declared.form.Form.{Form}
 use Rattle.sml_reply.specs.declared.form.Version.{Version}

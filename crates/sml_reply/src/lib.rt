@@ -4,9 +4,7 @@
 pub mod form;
 pub mod layer;
 mod lines;
-mod numerals;
 pub mod paths;
 pub mod piece;
 pub mod reply;
 pub mod sink;
-mod texts;

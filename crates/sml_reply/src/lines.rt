@@ -1,13 +1,13 @@
 //! The text of an accepted declaration of the whole language.
 
-use crate::numerals::push_number;
 use crate::paths::Paths;
-use crate::texts::{Around, initial_text, sole_part};
 use indexmap::{IndexMap, IndexSet};
 use sml_envs::objects::{Basis, Constructors, Env, FunSig, Sig, Status, TypeStr, Value};
 use sml_lex::fault::Memory;
 use sml_objects::labels::Labels;
 use sml_objects::objects::{MadeName, MlType, Scheme, TyName};
+use sml_texts::numerals::push_number;
+use sml_texts::texts::{Around, initial_text, sole_part};
 use sml_tree::bare::Ident;
 use std::alloc::Global;
 use std::collections::BTreeMap;
@@ -29,15 +29,7 @@ pub(crate) fn accepted_text(
     paths: IndexMap<TyName, Ident>,
 ) -> Result<NumberedText, Memory> {
     let mut lines = Lines::new(alloc, paths);
-    push_number(&mut lines.text, number as usize)?;
-    lines.push(b" ok\n")?;
-    lines.push_env(&basis.env)?;
-    for (name, sig) in &basis.signatures {
-        lines.push_signature(name, sig)?;
-    }
-    for (name, functor) in &basis.functors {
-        lines.push_functor(name, functor)?;
-    }
+    lines.push_basis(number, basis)?;
     let Lines { text, names, .. } = lines;
     Ok(NumberedText { text, names })
 }
@@ -114,6 +106,20 @@ impl Lines {
     fn bind(&mut self, names: &[TyName]) -> Result<(), Memory> {
         for name in names {
             self.bound.insert(*name)?;
+        }
+        Ok(())
+    }
+
+    /// The line of an accepted declaration, and those of what the basis itself binds.
+    fn push_basis(&mut self, number: u32, basis: &Basis) -> Result<(), Memory> {
+        push_number(&mut self.text, number as usize)?;
+        self.push(b" ok\n")?;
+        self.push_env(&basis.env)?;
+        for (name, sig) in &basis.signatures {
+            self.push_signature(name, sig)?;
+        }
+        for (name, functor) in &basis.functors {
+            self.push_functor(name, functor)?;
         }
         Ok(())
     }

@@ -2,7 +2,7 @@
 
 use sml_envs::objects::{Constructors, Env as WholeEnv, Status, TypeStr, Value};
 use sml_lex::fault::Memory;
-use sml_objects::objects::Env;
+use sml_objects::objects::{Env, Scheme};
 use sml_tree::bare::Ident;
 use std::alloc::Global;
 use std::collections::BTreeMap;
@@ -18,21 +18,35 @@ pub fn whole_env(alloc: Global, env: &Env) -> Result<WholeEnv, Memory> {
 fn env_with(alloc: Global, none: &Rc<Constructors>, env: &Env) -> Result<WholeEnv, Memory> {
     let mut whole = WholeEnv::new(alloc);
     put_structures(alloc, none, &env.structures, &mut whole)?;
-    for (name, function) in &env.types {
+    put_types(none, &env.types, &mut whole)?;
+    put_values(&env.values, &mut whole)?;
+    Ok(whole)
+}
+
+fn put_types(
+    none: &Rc<Constructors>,
+    types: &BTreeMap<Ident, Rc<Scheme>>,
+    whole: &mut WholeEnv,
+) -> Result<(), Memory> {
+    for (name, function) in types {
         let ty = TypeStr {
             function: function.clone()?,
             constructors: none.clone()?,
         };
         whole.types.insert(name.clone()?, ty)?;
     }
-    for (name, scheme) in &env.values {
+    Ok(())
+}
+
+fn put_values(values: &BTreeMap<Ident, Rc<Scheme>>, whole: &mut WholeEnv) -> Result<(), Memory> {
+    for (name, scheme) in values {
         let value = Value {
             status: Status::Variable,
             scheme: scheme.clone()?,
         };
         whole.values.insert(name.clone()?, value)?;
     }
-    Ok(whole)
+    Ok(())
 }
 
 #[cycle(envs)]

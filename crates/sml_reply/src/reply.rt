@@ -8,20 +8,20 @@ ghost use Rattle.sml_rules.specs.Answers as Answers;
 ghost use Rattle.sml_reply.specs.Replies.{reply_text, form_text, version_text, refusal_text, warning_text, warnings_text, warnings_of, accepts};
 ghost use Rattle.std.specs.Option.{option_map};
 ghost use Rattle.sml_reply.specs.Sinks.{Prints, in_turn};
-ghost use Rattle.sml_reply.specs.Text as T;
+ghost use Rattle.sml_texts.specs.Text as T;
 
 use crate::form::{Form, Version};
 use crate::lines::{NumberedText, accepted_text, paths_of};
-use crate::numerals::push_number;
 use crate::paths::Paths;
 use crate::piece::whole_env;
 use crate::sink::{Out, OutFault, write_all, write_each};
-use crate::texts::Lines;
 use indexmap::{IndexMap, IndexSet};
 use itoa::Buffer;
 use sml_envs::objects::Basis as WholeBasis;
 use sml_lex::fault::{Code, Fault, Memory, Place, Warning};
 use sml_objects::objects::{Basis, TyName};
+use sml_texts::numerals::push_number;
+use sml_texts::texts::Lines;
 use sml_tree::bare::Ident;
 use std::alloc::Global;
 
@@ -223,9 +223,13 @@ fn second_of_piece(
     if paths.is_empty() {
         return Ok(None);
     }
+    second_text(alloc, number, &whole_basis(alloc, basis)?, paths)
+}
+
+fn whole_basis(alloc: Global, basis: &Basis) -> Result<WholeBasis, Memory> {
     let mut whole = WholeBasis::new(alloc, basis.unit);
     whole.env = whole_env(alloc, &basis.env)?;
-    second_text(alloc, number, &whole, paths)
+    Ok(whole)
 }
 
 /// Writes the text of a reply in this form.

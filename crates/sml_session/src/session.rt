@@ -2,7 +2,7 @@
 
 use clap::builder::ValueParser;
 use clap::error::ErrorKind;
-use clap::{Arg, ArgAction, Command, Error};
+use clap::{Arg, ArgAction, ArgMatches, Command, Error};
 use itoa::Buffer;
 use sml_lex::fault::Memory;
 use sml_projects::manifest::{Manifest, ManifestFault, OrderFault, ProjectCode, ProjectFault};
@@ -144,38 +144,57 @@ pub fn session<S: Source, O: Out, E: Out>(
 /// The versions of replies by their numbers.
 const VERSIONS: [&str; 2] = ["1", "2"];
 
-/// The command line, as `clap` reads it.
-fn requested(alloc: Global, words: &[String]) -> Result<Request, Error> {
-    let warnings = Arg::new(alloc, "warnings")
+fn warnings_switch<'a>(alloc: Global) -> Arg<'a> {
+    Arg::new(alloc, "warnings")
         .long("warnings")
         .help("Prints the warnings of accepted declarations")
-        .action(ArgAction::SetTrue);
-    let reply = Arg::new(alloc, "reply")
+        .action(ArgAction::SetTrue)
+}
+
+fn reply_switch<'a>(alloc: Global) -> Arg<'a> {
+    Arg::new(alloc, "reply")
         .long("reply")
         .value_name("N")
         .help("The version of the replies: in 2, abstract types print as their paths")
         .value_parser(ValueParser::Names(VERSIONS.as_slice()))
         .default_value("1")
-        .action(ArgAction::Set);
-    let then = Arg::new(alloc, "then")
+        .action(ArgAction::Set)
+}
+
+fn then_switch<'a>(alloc: Global) -> Arg<'a> {
+    Arg::new(alloc, "then")
         .long("then")
         .value_name("SECOND")
         .help(
             "A project file that is checked after PROJECT, with what didn't change; its replies alone are printed",
         )
-        .action(ArgAction::Set);
-    let project = Arg::new(alloc, "PROJECT")
+        .action(ArgAction::Set)
+}
+
+fn project_word<'a>(alloc: Global) -> Arg<'a> {
+    Arg::new(alloc, "PROJECT")
         .help("A project file: a line `unit NAME FILE NEED ..` for each unit")
         .required(true)
-        .action(ArgAction::Set);
-    let command = Command::new(alloc, "smlcheck")
+        .action(ArgAction::Set)
+}
+
+fn command<'a>(alloc: Global) -> Result<Command<'a>, AllocError> {
+    Command::new(alloc, "smlcheck")
         .about("Checks the declarations of Standard ML units")
         .after_help(AFTER_HELP)
-        .arg(warnings)?
-        .arg(reply)?
-        .arg(then)?
-        .arg(project)?;
-    let matches = command.try_get_matches_from(words)?;
+        .arg(warnings_switch(alloc))?
+        .arg(reply_switch(alloc))?
+        .arg(then_switch(alloc))?
+        .arg(project_word(alloc))
+}
+
+/// The command line, as `clap` reads it.
+fn requested(alloc: Global, words: &[String]) -> Result<Request, Error> {
+    let matches = command(alloc)?.try_get_matches_from(words)?;
+    Ok(request_of(alloc, &matches)?)
+}
+
+fn request_of(alloc: Global, matches: &ArgMatches) -> Result<Request, AllocError> {
     let version = if matches.get_str("reply") == Some("2") {
         Version::Two
     } else {

@@ -4,7 +4,7 @@ use crate::layers::Inside;
 use crate::sharing::Joins;
 use indexmap::{IndexMap, IndexSet};
 use sml_envs::mapping::mapped_env;
-use sml_envs::objects::{Env, Sig};
+use sml_envs::objects::{Entry, Env, Sig, TypeStr, Value};
 use sml_lex::fault::{Code, Memory, Place};
 use sml_objects::objects::{Scheme, TyName};
 use sml_tree::bare::{Ident, LongIdent};
@@ -47,120 +47,135 @@ impl Draft {
         Ok(())
     }
 
-    /// The joins that are to be added to.
-    fn joining(&mut self) -> Result<Joins, Memory> {
-        match self.joins.take() {
-            Some(joins) => Ok(joins),
-            None => {
-                let names = mem::replace(&mut self.names, IndexSet::new(self.alloc));
-                Joins::new(self.alloc, names, &self.env)
-            }
+    /// Begins to join names, unless that was begun.
+    fn begin_joins(&mut self) -> Result<(), Memory> {
+        if self.joins.is_none() {
+            let names = mem::replace(&mut self.names, IndexSet::new(self.alloc));
+            self.joins = Some(Joins::new(self.alloc, names, &self.env)?);
         }
+        Ok(())
     }
 
     /// Shares type constructors.
     pub(crate) fn share_types(&mut self, longs: &[LongIdent]) -> Result<(), CoreFault> {
-        let mut joins = self.joining()?;
-        let inside = Inside { env: &self.env };
-        let mut names = Vec::new(self.alloc);
-        for long in longs {
-            let ty = type_at(self.alloc, &inside, long)?;
-            names.push((joins.name_of(ty, long.place)?, long.place))?;
-        }
-        let mut first: Option<TyName> = None;
-        for (name, place) in &names {
-            match first {
-                None => first = Some(*name),
-                Some(first) => joins.join(first, *name, *place)?,
-            }
-        }
-        self.joins = Some(joins);
-        Ok(())
+        self.begin_joins()?;
+        let Some(joins) = &mut self.joins else {
+            return Ok(());
+        };
+        let names = shared_names(self.alloc, &self.env, joins, longs)?;
+        join_all(joins, &names)
     }
 
     /// Shares structures.
     pub(crate) fn share_structures(&mut self, longs: &[LongIdent]) -> Result<(), CoreFault> {
-        let mut joins = self.joining()?;
-        for (((_, later), _), pair) in &self.common_types(longs)? {
-            if let Some(long) = longs.get(*later) {
-                joins.share(&pair.earlier, &pair.later, long.place)?;
-            }
+        self.begin_joins()?;
+        let pairs = self.common_types(longs)?;
+        match &mut self.joins {
+            Some(joins) => share_all(joins, longs, &pairs),
+            None => Ok(()),
         }
-        self.joins = Some(joins);
-        Ok(())
     }
 
     /// The pairs of type constructors that structures have in common, in the order in which they are shared: each with the
     /// first structure that has it.
     fn common_types(&self, longs: &[LongIdent]) -> Result<Pairs, CoreFault> {
-        let inside = Inside { env: &self.env };
-        let mut seen = IndexSet::new(self.alloc);
         let mut common = Common {
             alloc: self.alloc,
             firsts: IndexMap::new(self.alloc),
             pairs: BTreeMap::new(self.alloc),
         };
-        for (index, long) in longs.iter().enumerate() {
-            let env = structure_at(self.alloc, &inside, long)?;
-            if seen.insert(long_text(self.alloc, long)?)? {
-                let path = Vec::new(self.alloc);
-                common.add(index, env, &path)?;
-            }
-        }
+        common.add_all(&self.env, longs)?;
         let Common { pairs, .. } = common;
         Ok(pairs)
     }
 
     /// Puts the shared names in the environment.
     pub(crate) fn settle(&mut self) -> Result<(), Memory> {
-        let Some(mut joins) = self.joins.take() else {
-            return Ok(());
-        };
+        match self.joins.take() {
+            Some(mut joins) => self.settle_by(&mut joins),
+            None => Ok(()),
+        }
+    }
+
+    fn settle_by(&mut self, joins: &mut Joins) -> Result<(), Memory> {
         if !joins.is_empty() {
             joins.shorten()?;
             let env = mem::replace(&mut self.env, Env::new(self.alloc));
             let env = Rc::new(self.alloc, env)?;
-            let joined = mapped_env(self.alloc, &env, &joins)?;
-            self.env.add(&joined)?;
+            self.env.add(&*mapped_env(self.alloc, &env, joins)?)?;
         }
         self.names = joins.left()?;
         Ok(())
     }
 
     /// The signature that the specifications give.
-    pub(crate) fn signature(mut self) -> Result<Sig, Memory> {
+    pub(crate) fn signature(&mut self) -> Result<Sig, Memory> {
         self.settle()?;
-        let Draft {
-            alloc,
-            env,
-            names,
-            ..
-        } = self;
-        let mut list = Vec::new(alloc);
-        for name in &names {
-            list.push(*name)?;
-        }
+        let names = list_of(self.alloc, &self.names)?;
+        let env = mem::replace(&mut self.env, Env::new(self.alloc));
         Ok(Sig {
-            names: list,
-            env: Rc::new(alloc, env)?,
+            names,
+            env: Rc::new(self.alloc, env)?,
         })
     }
 }
 
+fn list_of(alloc: Global, names: &IndexSet<TyName>) -> Result<Vec<TyName>, Memory> {
+    let mut list = Vec::new(alloc);
+    for name in names {
+        list.push(*name)?;
+    }
+    Ok(list)
+}
+
+/// The bound names of type constructors, with the places of these, or N3.
+fn shared_names(
+    alloc: Global,
+    env: &Env,
+    joins: &Joins,
+    longs: &[LongIdent],
+) -> Result<Vec<(TyName, Place)>, CoreFault> {
+    let inside = Inside { env };
+    let mut names = Vec::new(alloc);
+    for long in longs {
+        let ty = type_at(alloc, &inside, long)?;
+        names.push((joins.name_of(ty, long.place)?, long.place))?;
+    }
+    Ok(names)
+}
+
+/// Joins each name to the first one, or N6 or N7.
+fn join_all(joins: &mut Joins, names: &[(TyName, Place)]) -> Result<(), CoreFault> {
+    let mut first: Option<TyName> = None;
+    for (name, place) in names {
+        match first {
+            None => first = Some(*name),
+            Some(first) => joins.join(first, *name, *place)?,
+        }
+    }
+    Ok(())
+}
+
+/// Shares what structures have in common.
+fn share_all(joins: &mut Joins, longs: &[LongIdent], pairs: &Pairs) -> Result<(), CoreFault> {
+    for (((_, later), _), pair) in pairs {
+        if let Some(long) = longs.get(*later) {
+            joins.share(&pair.earlier, &pair.later, long.place)?;
+        }
+    }
+    Ok(())
+}
+
 /// Whether an environment has an identifier that another one has.
 fn specifies_again(env: &Env, part: &Env) -> bool {
-    for (name, _) in &part.structures {
-        if env.structures.contains_key(name) {
-            return true;
-        }
-    }
-    for (name, _) in &part.types {
-        if env.types.contains_key(name) {
-            return true;
-        }
-    }
-    for (name, _) in &part.values {
-        if env.values.contains_key(name) {
+    has_again::<Rc<Env>>(env, part)
+        || has_again::<TypeStr>(env, part)
+        || has_again::<Value>(env, part)
+}
+
+fn has_again<T: Entry>(env: &Env, part: &Env) -> bool {
+    for (name, _) in T::entries(part) {
+        if T::entries(env).contains_key(name) {
             return true;
         }
     }
@@ -187,6 +202,19 @@ struct Common {
 }
 
 impl Common {
+    /// Adds the type constructors of structures of an environment, each of them once.
+    fn add_all(&mut self, env: &Env, longs: &[LongIdent]) -> Result<(), CoreFault> {
+        let inside = Inside { env };
+        let mut seen = IndexSet::new(self.alloc);
+        for (index, long) in longs.iter().enumerate() {
+            let env = structure_at(self.alloc, &inside, long)?;
+            if seen.insert(long_text(self.alloc, long)?)? {
+                self.add(index, env, b"")?;
+            }
+        }
+        Ok(())
+    }
+
     /// Adds the type constructors of a structure behind a path.
     #[cycle(common)]
     fn add(&mut self, index: usize, env: &Env, path: &[u8]) -> Result<(), Memory> {

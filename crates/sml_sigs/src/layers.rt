@@ -1,6 +1,6 @@
 //! What specifications see: those before them in each `sig .. end` around them, and then an outer scope.
 
-use sml_envs::objects::{Env, TypeStr};
+use sml_envs::objects::{Entry, Env, TypeStr};
 use sml_tree::bare::Ident;
 use sml_types::scope::Scope;
 use std::rc::Rc;
@@ -22,7 +22,7 @@ pub(crate) struct Layers<'a, S> {
 impl<S: Scope> Scope for Layers<'_, S> {
     fn structure(&self, name: &Ident) -> Option<&Rc<Env>> {
         if let Some(layer) = self.inner {
-            if let Some(found) = structure_in(layer, name) {
+            if let Some(found) = found_in(layer, name) {
                 return Some(found);
             }
         }
@@ -31,7 +31,7 @@ impl<S: Scope> Scope for Layers<'_, S> {
 
     fn type_str(&self, name: &Ident) -> Option<&TypeStr> {
         if let Some(layer) = self.inner {
-            if let Some(found) = type_in(layer, name) {
+            if let Some(found) = found_in(layer, name) {
                 return Some(found);
             }
         }
@@ -39,23 +39,13 @@ impl<S: Scope> Scope for Layers<'_, S> {
     }
 }
 
-#[cycle(structures)]
-fn structure_in<'a>(layer: &'a Layer<'a>, name: &Ident) -> Option<&'a Rc<Env>> {
-    match layer.env.structures.get(name) {
+/// The entry of the innermost specifications that have it.
+#[cycle(entries)]
+fn found_in<'a, T: Entry>(layer: &'a Layer<'a>, name: &Ident) -> Option<&'a T> {
+    match T::entries(layer.env).get(name) {
         Some(found) => Some(found),
         None => match layer.around {
-            Some(around) => structure_in(around, name),
-            None => None,
-        },
-    }
-}
-
-#[cycle(types)]
-fn type_in<'a>(layer: &'a Layer<'a>, name: &Ident) -> Option<&'a TypeStr> {
-    match layer.env.types.get(name) {
-        Some(found) => Some(found),
-        None => match layer.around {
-            Some(around) => type_in(around, name),
+            Some(around) => found_in(around, name),
             None => None,
         },
     }

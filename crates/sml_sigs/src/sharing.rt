@@ -153,16 +153,10 @@ impl Joins {
     }
 
     /// The bound names that stand for themselves.
-    pub(crate) fn left(self) -> Result<IndexSet<TyName>, Memory> {
-        let Joins {
-            alloc,
-            bound,
-            others,
-            ..
-        } = self;
-        let mut left = IndexSet::new(alloc);
-        for name in &bound {
-            if !others.contains_key(name) {
+    pub(crate) fn left(&self) -> Result<IndexSet<TyName>, Memory> {
+        let mut left = IndexSet::new(self.alloc);
+        for name in &self.bound {
+            if !self.others.contains_key(name) {
                 left.insert(*name)?;
             }
         }

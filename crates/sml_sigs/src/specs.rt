@@ -2,9 +2,9 @@
 
 use sml_envs::functions::name_of;
 use sml_envs::new_names::NewNames;
-use sml_envs::objects::{Env, Sig, Status, TypeStr, Value};
+use sml_envs::objects::{Constructors, Env, Sig, Status, TypeStr, Value};
 use sml_lex::fault::{Memory, Place};
-use sml_objects::objects::{Initial, MlType, Scheme};
+use sml_objects::objects::{Initial, MlType, Scheme, TyName};
 use sml_tree::bare::LongIdent;
 use sml_tree::expressions::{ConBind, DatBind};
 use sml_tree::names::Name;
@@ -37,22 +37,42 @@ pub(crate) fn values<S: Scope>(
     place: Place,
     descs: &[ValDesc],
 ) -> Result<Sig, CoreFault> {
+    let types = types_of(alloc, scope, descs)?;
+    let mut env = Env::new(alloc);
+    for (desc, (variables, ty)) in descs.iter().zip(&types) {
+        let value = value_of(alloc, place, variables, ty)?;
+        env.values.insert(desc.name.ident.clone()?, value)?;
+    }
+    Ok(without_names(alloc, env)?)
+}
+
+/// The value of a type whose variables are bound, or E7.
+fn value_of(
+    alloc: Global,
+    place: Place,
+    variables: &Collected,
+    ty: &Rc<MlType>,
+) -> Result<Value, CoreFault> {
+    small_type(place, ty)?;
+    Ok(Value {
+        status: Status::Variable,
+        scheme: Rc::new(alloc, variables.close(alloc, ty)?)?,
+    })
+}
+
+/// The types of values, each with its variables.
+fn types_of<S: Scope>(
+    alloc: Global,
+    scope: &S,
+    descs: &[ValDesc],
+) -> Result<Vec<(Collected, Rc<MlType>)>, CoreFault> {
     let mut types = Vec::new(alloc);
     for desc in descs {
         let mut variables = Collected::new(alloc);
         let ty = type_of(alloc, scope, &mut variables, &desc.ty)?;
         types.push((variables, ty))?;
     }
-    let mut env = Env::new(alloc);
-    for (desc, (variables, ty)) in descs.iter().zip(&types) {
-        small_type(place, ty)?;
-        let value = Value {
-            status: Status::Variable,
-            scheme: Rc::new(alloc, variables.close(alloc, ty)?)?,
-        };
-        env.values.insert(desc.name.ident.clone()?, value)?;
-    }
-    Ok(without_names(alloc, env)?)
+    Ok(types)
 }
 
 /// Types without right sides: new names, which admit equality or not.
@@ -69,17 +89,26 @@ pub(crate) fn types(
     let mut env = Env::new(alloc);
     for desc in descs {
         let name = new.make(number_of(desc.variables.len())?, equality)?;
-        let ty = TypeStr {
-            function: name_function(alloc, name, &desc.variables)?,
-            constructors: none.clone()?,
-        };
         names.push(name)?;
+        let ty = type_str(alloc, name, desc, &none)?;
         env.types.insert(desc.name.ident.clone()?, ty)?;
     }
     small_env(place, &env)?;
     Ok(Sig {
         names,
         env: Rc::new(alloc, env)?,
+    })
+}
+
+fn type_str(
+    alloc: Global,
+    name: TyName,
+    desc: &TypDesc,
+    none: &Rc<Constructors>,
+) -> Result<TypeStr, Memory> {
+    Ok(TypeStr {
+        function: name_function(alloc, name, &desc.variables)?,
+        constructors: none.clone()?,
     })
 }
 
@@ -94,16 +123,21 @@ pub(crate) fn new_datatypes<S: Scope>(
 ) -> Result<Sig, CoreFault> {
     let env = datatypes(alloc, scope, new, binds, &[])?;
     small_env(place, &env)?;
+    Ok(Sig {
+        names: names_of(alloc, &env)?,
+        env: Rc::new(alloc, env)?,
+    })
+}
+
+/// The names that are the types of an environment.
+fn names_of(alloc: Global, env: &Env) -> Result<Vec<TyName>, Memory> {
     let mut names = Vec::new(alloc);
     for (_, ty) in &env.types {
         if let Some(name) = name_of(&ty.function) {
             names.push(name)?;
         }
     }
-    Ok(Sig {
-        names,
-        env: Rc::new(alloc, env)?,
-    })
+    Ok(names)
 }
 
 /// A type of the scope with its constructors.

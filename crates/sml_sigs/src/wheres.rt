@@ -8,9 +8,9 @@ use sml_envs::functions::admits_equality;
 use sml_envs::mapping::{mapped_constructors, mapped_env};
 use sml_envs::objects::{Constructors, Sig};
 use sml_envs::realisation::Realisation;
-use sml_lex::fault::Code;
+use sml_lex::fault::{Code, Memory, Place};
 use sml_objects::equality::has_equality;
-use sml_objects::objects::{Scheme, TyName};
+use sml_objects::objects::{MlType, Scheme, TyName};
 use sml_tree::bare::LongIdent;
 use sml_tree::names::Name;
 use sml_tree::signatures::WhereType;
@@ -39,21 +39,41 @@ pub(crate) fn with_type<S: Scope>(
     sig: Sig,
     written: &WhereType,
 ) -> Result<Sig, CoreFault> {
-    let mut bound = IndexSet::new(alloc);
-    for name in &sig.names {
-        bound.insert(*name)?;
-    }
+    let bound = set_of(alloc, &sig.names)?;
     let realised = realise_one(alloc, scope, &bound, &sig, written)?;
     require_constructors(alloc, scope, &bound, &sig, written, &realised)?;
+    realised_sig(alloc, &sig, &realised, written.constructor.place)
+}
+
+fn set_of(alloc: Global, names: &[TyName]) -> Result<IndexSet<TyName>, Memory> {
+    let mut set = IndexSet::new(alloc);
+    for name in names {
+        set.insert(*name)?;
+    }
+    Ok(set)
+}
+
+/// The signature where a name is its type function, or E7.
+fn realised_sig(
+    alloc: Global,
+    sig: &Sig,
+    realised: &Realised,
+    place: Place,
+) -> Result<Sig, CoreFault> {
     let env = mapped_env(alloc, &sig.env, &realised.realisation)?;
-    small_env(written.constructor.place, &env)?;
-    let mut names = Vec::new(alloc);
-    for name in &sig.names {
-        if *name != realised.name {
-            names.push(*name)?;
+    small_env(place, &env)?;
+    let names = names_but(alloc, &sig.names, realised.name)?;
+    Ok(Sig { names, env })
+}
+
+fn names_but(alloc: Global, names: &[TyName], left_out: TyName) -> Result<Vec<TyName>, Memory> {
+    let mut others = Vec::new(alloc);
+    for name in names {
+        if *name != left_out {
+            others.push(*name)?;
         }
     }
-    Ok(Sig { names, env })
+    Ok(others)
 }
 
 /// The name that is realised, with its type function, or a fault up to N4.
@@ -64,25 +84,55 @@ fn realise_one<S: Scope>(
     sig: &Sig,
     written: &WhereType,
 ) -> Result<Realised, CoreFault> {
-    let place = written.constructor.place;
     let inside = Inside { env: &sig.env };
     let ty = type_at(alloc, &inside, &written.constructor)?;
-    let mut listed = Listed::bound(alloc, &written.variables)?;
-    let body = type_of(alloc, scope, &mut listed, &written.ty)?;
-    if ty.function.variables.len() != written.variables.len() {
-        return Err(plain_fault(Code::E4, place));
-    }
-    let Some(name) = bound_name(bound, &ty.function) else {
-        return Err(plain_fault(Code::N3, place));
-    };
-    let variables = parameters(alloc, &written.variables)?;
-    let function = Rc::new(alloc, Scheme { variables, body })?;
-    if has_equality(name) && !admits_equality(&function) {
-        return Err(plain_fault(Code::N4, place));
-    }
+    let body = right_side(alloc, scope, written)?;
+    let name = realised_name(bound, &ty.function, written)?;
+    let function = function_for(alloc, name, body, written)?;
     let mut realisation = Realisation::new(alloc);
     realisation.insert(name, function)?;
     Ok(Realised { name, realisation })
+}
+
+/// The type that is written, with its variables numbered from 0 on.
+fn right_side<S: Scope>(
+    alloc: Global,
+    scope: &S,
+    written: &WhereType,
+) -> Result<Rc<MlType>, CoreFault> {
+    let mut listed = Listed::bound(alloc, &written.variables)?;
+    type_of(alloc, scope, &mut listed, &written.ty)
+}
+
+/// The bound name of a type constructor with as many variables as are written, or E4 or N3.
+fn realised_name(
+    bound: &IndexSet<TyName>,
+    function: &Scheme,
+    written: &WhereType,
+) -> Result<TyName, CoreFault> {
+    let place = written.constructor.place;
+    if function.variables.len() != written.variables.len() {
+        return Err(plain_fault(Code::E4, place));
+    }
+    match bound_name(bound, function) {
+        Some(name) => Ok(name),
+        None => Err(plain_fault(Code::N3, place)),
+    }
+}
+
+/// The type function of what is written, which admits equality where the name does, or N4.
+fn function_for(
+    alloc: Global,
+    name: TyName,
+    body: Rc<MlType>,
+    written: &WhereType,
+) -> Result<Rc<Scheme>, CoreFault> {
+    let variables = parameters(alloc, &written.variables)?;
+    let function = Rc::new(alloc, Scheme { variables, body })?;
+    if has_equality(name) && !admits_equality(&function) {
+        return Err(plain_fault(Code::N4, written.constructor.place));
+    }
+    Ok(function)
 }
 
 /// That the constructors of the realised name, if it has some, are those of what is written, or N5.
@@ -94,15 +144,29 @@ fn require_constructors<S: Scope>(
     written: &WhereType,
     realised: &Realised,
 ) -> Result<(), CoreFault> {
-    let table = table_of(alloc, bound, &sig.env)?;
-    let Some(constructors) = table.get(&realised.name) else {
+    let Some(constructors) = constructors_of(alloc, bound, sig, realised)? else {
         return Ok(());
     };
-    let constructors = mapped_constructors(alloc, constructors, &realised.realisation)?;
     if has_constructors(alloc, scope, written, &constructors)? {
         Ok(())
     } else {
         Err(plain_fault(Code::N5, written.constructor.place))
+    }
+}
+
+/// The constructors of the realised name, if it has some, where it is its type function.
+fn constructors_of(
+    alloc: Global,
+    bound: &IndexSet<TyName>,
+    sig: &Sig,
+    realised: &Realised,
+) -> Result<Option<Rc<Constructors>>, Memory> {
+    let table = table_of(alloc, bound, &sig.env)?;
+    match table.get(&realised.name) {
+        Some(constructors) => {
+            Ok(Some(mapped_constructors(alloc, constructors, &realised.realisation)?))
+        }
+        None => Ok(None),
     }
 }
 

@@ -15,7 +15,7 @@ use Rattle.sml_objects.specs.Initial.{Name, naming, initial_basis}
 use Rattle.sml_rules.specs.Answers.{Answer, refused, accepted}
 use Rattle.sml_parse.proofs.OneList.{trees_one}
 use Rattle.sml_reply.specs.Replies.{reply_text, warnings_text, warnings_of, accepts}
-use Rattle.sml_reply.specs.Text.{text}
+use Rattle.sml_texts.specs.Text.{text}
 use Rattle.sml_reply.specs.declared.reply.Reply.{Reply}
 use Rattle.sml_reply.specs.declared.reply.Reply.TheVariants.{Accepted, Refused}
 use Rattle.sml_rules.specs.Readings.{is_specified}

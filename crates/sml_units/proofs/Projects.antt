@@ -17,7 +17,7 @@ use Rattle.sml_rules.proofs.Renaming.{Fixes, fixes-left, fixes-right, fixed_sig}
 use Rattle.sml_rules.proofs.Worlds.{Over}
 use Rattle.sml_rules.proofs.Settled.{Covers, Supported, pair_supported, mapped, same_value, outside-left, outside-right, outside-append}
 use Rattle.sml_rules.proofs.Readings.{sig_supported, basis_supported, extend_holds}
-use Rattle.sml_reply.specs.Text.{text}
+use Rattle.sml_texts.specs.Text.{text}
 use Rattle.sml_piece.specs.Elaborated.{beginning}
 use Rattle.sml_units.specs.Runs.{SourceUnit, basis_after, Run, exports_after, exports, nothing, all_names, needed, start, RunProject}
 use Rattle.sml_units.specs.Isolation.{AlikeOutsideSeals, AgreeAtSeals, EqualReplies, ProjectsAlike, ProjectsAgree, ProjectsReplyEqually}

@@ -18,7 +18,7 @@ use Rattle.sml_rules.proofs.Worlds.{Over}
 use Rattle.sml_rules.proofs.Settled.{Covers, Supported, mapped, by_equation, same_value, carried}
 use Rattle.sml_rules.proofs.Readings.{read_top_settled}
 use Rattle.sml_rules.proofs.Specified.{specify_all_settled, exported}
-use Rattle.sml_reply.specs.Text.{text}
+use Rattle.sml_texts.specs.Text.{text}
 use Rattle.sml_piece.specs.Elaborated.{beginning}
 use Rattle.sml_units.specs.Runs.{basis_after}
 use Rattle.sml_units.specs.Isolation.{SealAlike, IsAccepted, EqualReplies}

@@ -15,7 +15,7 @@ use Rattle.sml_objects.specs.Initial.{Name, naming, initial_basis}
 use Rattle.sml_rules.specs.Answers.{Answer, refused, accepted}
 use Rattle.sml_rules.specs.Readings.{read_top}
 use Rattle.sml_rules.specs.Sound.{IsSound}
-use Rattle.sml_reply.specs.Text.{text}
+use Rattle.sml_texts.specs.Text.{text}
 use Rattle.sml_reply.specs.Replies.{reply_text, warnings_of, accepts}
 use Rattle.sml_reply.specs.declared.reply.Reply.{Reply}
 use Rattle.sml_objects.specs.Views.{maker_of}

@@ -7,7 +7,7 @@ use Rattle.sml_objects.specs.Names.{Naming}
 use Rattle.sml_objects.specs.Objects.{Sig}
 use Rattle.sml_objects.specs.Initial.{Name, naming, initial_basis}
 use Rattle.sml_rules.specs.Answers.{Answer, refused, accepted}
-use Rattle.sml_reply.specs.Text.{text}
+use Rattle.sml_texts.specs.Text.{text}
 use Rattle.sml_units.specs.Runs.{SourceUnit, RunProject}
 
 -- The same structure identifier and signature expression, and perhaps another body; places don't count.

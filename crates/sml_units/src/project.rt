@@ -218,19 +218,31 @@ fn end(
     } = begun;
     let mut basis = whole_basis(alloc, initial, needs, exports, count, &bound)?;
     let rest = behind(declarations, replies.len());
-    let specified = if is_whole && rest.is_empty() {
+    let replies = answer_rest(alloc, &mut basis, &mut paths, replies, rest)?;
+    let replies = and_last(replies, fault)?;
+    let own = own_exports(alloc, basis, paths, bound, is_whole && rest.is_empty())?;
+    Ok((replies, own, declarations.len() as u64))
+}
+
+/// What a unit exports that ends with this basis and these paths, and which of it was bound by declarations of the piece;
+/// that counts where all of them are.
+fn own_exports(
+    alloc: Global,
+    basis: WholeBasis,
+    paths: Paths,
+    bound: Basis,
+    is_specified: bool,
+) -> Result<Exports, Memory> {
+    let specified = if is_specified {
         Some(Rc::new(alloc, bound.env)?)
     } else {
         None
     };
-    let replies = answer_rest(alloc, &mut basis, &mut paths, replies, rest)?;
-    let own = Exports {
+    Ok(Exports {
         whole: exported(alloc, basis)?,
         paths: Rc::new(alloc, paths.into_own())?,
         specified,
-    };
-    let replies = and_last(replies, fault)?;
-    Ok((replies, own, declarations.len() as u64))
+    })
 }
 
 /// The declarations behind the first so many.

@@ -1,5 +1,5 @@
 use Rattle.std.proofs.Common.{ap, sym}
-use Rattle.sml_reply.specs.Text.{code_text}
+use Rattle.sml_texts.specs.Text.{code_text}
 use Rattle.sml_reply.proofs.reply.code_text.Goals as goal
 
 pub returns-in-L1 : goal.returns-in-L1

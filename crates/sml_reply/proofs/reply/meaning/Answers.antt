@@ -1,5 +1,5 @@
 use Rattle.std.proofs.Common.{ap, sym}
-use Rattle.sml_reply.specs.Text.{meaning}
+use Rattle.sml_texts.specs.Text.{meaning}
 use Rattle.sml_reply.proofs.reply.meaning.Goals as goal
 
 pub returns-in-L1 : goal.returns-in-L1

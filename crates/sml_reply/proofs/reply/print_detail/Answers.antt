@@ -1,6 +1,6 @@
 use Rattle.std.proofs.Common.{ap, sym, ◌∙◌, ◌++◌, codes}
 use Rattle.std.specs.Option.{option_map}
-use Rattle.sml_reply.specs.Text.{detail_text}
+use Rattle.sml_texts.specs.Text.{detail_text}
 use Rattle.sml_reply.proofs.Sinks.{same_text}
 use Rattle.sml_reply.proofs.reply.print_detail.Goals as goal
 

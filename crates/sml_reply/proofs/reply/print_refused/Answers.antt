@@ -1,6 +1,6 @@
 use Rattle.std.proofs.Common.{◌≡◌, ◌∙◌, ◌++◌, ◌∷◌, [], codes, decimal, List, ℕ, append_assoc, Option, Some, None, refl, Vec, Global}
 use Rattle.std.specs.Option.{option_map}
-use Rattle.sml_reply.specs.Text.{detail_text, fault_text, code_text, meaning}
+use Rattle.sml_texts.specs.Text.{detail_text, fault_text, code_text, meaning}
 use Rattle.sml_reply.specs.Replies.{refusal_text}
 use Rattle.sml_reply.specs.Sinks.{in_turn}
 use Rattle.sml_reply.specs.declared.reply.RefusedReply.{RefusedReply}

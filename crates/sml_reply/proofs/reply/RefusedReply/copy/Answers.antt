@@ -1,6 +1,6 @@
 use Rattle.std.proofs.Common.{ap, ◌++◌, decimal}
 use Rattle.sml_reply.specs.Replies.{refusal_text}
-use Rattle.sml_reply.specs.Text.{fault_text}
+use Rattle.sml_texts.specs.Text.{fault_text}
 use Rattle.sml_reply.proofs.Copies.{detail_same}
 use Rattle.sml_reply.proofs.reply.RefusedReply.copy.Goals as goal
 

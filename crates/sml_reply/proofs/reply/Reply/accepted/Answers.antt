@@ -2,8 +2,8 @@ use Rattle.std.proofs.Common.{◌≡◌, List, ℕ, ap, ◌∙◌, ◌++◌, [],
 use Rattle.sml_objects.specs.Initial.{naming}
 use Rattle.sml_objects.specs.Views.{env_of}
 use Rattle.sml_reply.specs.Replies.{reply_text}
-use Rattle.sml_reply.specs.Text.{text, environment_text, spell, show_env}
-use Rattle.sml_reply.specs.Spelling.{and_pieces}
+use Rattle.sml_texts.specs.Text.{text, environment_text, spell, show_env}
+use Rattle.sml_texts.specs.Spelling.{and_pieces}
 use Rattle.sml_reply.proofs.reply.Reply.accepted.Goals as goal
 
 pub returns-clause-text : goal.returns-clause-text

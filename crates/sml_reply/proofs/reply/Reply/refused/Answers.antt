@@ -1,6 +1,6 @@
 use Rattle.std.proofs.Common.{refl}
 use Rattle.sml_reply.specs.Replies.{reply_text, refusal_text}
-use Rattle.sml_reply.specs.Text.{text}
+use Rattle.sml_texts.specs.Text.{text}
 use Rattle.sml_reply.proofs.reply.Reply.refused.Goals as goal
 
 pub returns-clause-text : goal.returns-clause-text

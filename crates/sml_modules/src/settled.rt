@@ -96,7 +96,7 @@ fn settled_shared(
     if unknowns.is_empty() {
         return Ok(env.clone()?);
     }
-    let known = known(context, &unknowns, place)?;
+    let known = readings(context, &unknowns, place)?;
     Ok(mapped_env(context.alloc, env, &known)?)
 }
 
@@ -107,7 +107,7 @@ fn unknowns_of(alloc: Global, env: &Env) -> Result<IndexSet<u32>, Memory> {
     Ok(unknowns)
 }
 
-fn known(
+fn readings(
     context: &mut Context,
     unknowns: &IndexSet<u32>,
     place: Place,

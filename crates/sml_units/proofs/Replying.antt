@@ -1,5 +1,5 @@
 -- Runs and replies, declaration by declaration.
-use Rattle.std.proofs.Common.{◌≡◌, ◌≤◌, ◌+◌, ℕ, suc, Bool, true, false, cond, ◌&&◌, List, [], ◌∷◌, ◌++◌, length, Option, Some, None, Result, Ok, Err, IfOk, OnOk, Vec, Global, refl, ap, sym, subst, ◌∙◌, append_assoc, append-nil, arith}
+use Rattle.std.proofs.Common.{◌≡◌, ◌+◌, ℕ, suc, Bool, true, false, cond, ◌&&◌, List, [], ◌∷◌, ◌++◌, length, Option, Some, None, IfSome, Result, Ok, Err, IfOk, OnOk, refl, ap, sym, subst, ◌∙◌, append_assoc, append-nil, arith}
 use Rattle.std.specs.Prelude.{◌==◌}
 use Rattle.std.specs.List.{list_all}
 use Rattle.std.specs.Option.{option_map, option_to_list}
@@ -9,7 +9,7 @@ use Rattle.sml_lex.specs.declared.fault.Place.{Place}
 use Rattle.sml_lex.specs.Faults.{Fault}
 use Rattle.sml_tree.specs.Trees.{Dec}
 use Rattle.sml_objects.specs.Objects as O
-use Rattle.sml_objects.specs.Objects.{Sig, Env, empty_env, Basis, extend, extend_env, names_basis, names_env, names_structures, names_map, names_type}
+use Rattle.sml_objects.specs.Objects.{Sig, Env, empty_env, Basis, extend, extend_env, names_basis}
 use Rattle.sml_objects.specs.Initial.{Name, naming, initial_basis}
 use Rattle.sml_objects.specs.Views.{env_of, maker_of, name_of, sig_of}
 use Rattle.sml_objects.specs.declared.objects.Basis as PB
@@ -23,12 +23,13 @@ use Rattle.sml_rules.proofs.Sound.{readings_sound}
 use Rattle.sml_reply.specs.declared.reply.Reply.{Reply}
 use Rattle.sml_piece.specs.Elaborated.{IsBasisOf, IsOwnBasis, IsBelow, beginning}
 use Rattle.sml_piece.proofs.Specifying.{all_below_more, basis_below}
-use Rattle.sml_units.specs.Runs.{Run, basis_after, start, needed, all_names, SourceUnit, RunProject, exports, nothing, export_at, specified_beginning, flag_at, is_whole, specified}
+use Rattle.sml_exports.specs.declared.exports.Exports.{Exports}
+use Rattle.sml_units.specs.Runs.{Run, basis_after, start, needed, all_names, SourceUnit, RunProject, exports_after, exports, nothing, specified_beginning, flag_at, is_whole}
 use Rattle.sml_projects.specs.Orders.{UnitText}
-use Rattle.std.specs.String.{string_bytes}
 use Rattle.sml_units.specs.declared.project.Beginning.{Beginning}
-use Rattle.sml_units.specs.declared.project.UnitReplies.{UnitReplies}
-use Rattle.sml_units.specs.Checked.{Answered, IsStep, IsReplyTo, AreRepliesTo, AreSound, AreAllSound, IsSoundAnswer, AreSpelt, IsBegun, BeginWith, AreReplies, AreBegunAndEnded, IsAnswered, AreSourcesOf, AreUnitReplies, with_last}
+use Rattle.sml_units.specs.Checked.{Answered, IsReplyTo, AreRepliesTo, AreSound, AreAllSound, IsSoundAnswer, AreSpelt, BeginWith, AreReplies, with_last}
+use Rattle.sml_units.specs.CodeUnits.{IsStep, IsBegun, AreBegunAndEnded, IsAnswered, Keeps, env_after}
+use Rattle.sml_units.proofs.Names.{start_below, needed_open}
 
 -- there are as many, however they are seen
 pub as_many : {A B : Type 0} (f : A → B) (o : Option A) → length (option_to_list o) ≡ length (option_to_list (option_map f o))
@@ -63,6 +64,20 @@ replies_push k [] (s ∷ rs) o r h g = absurd h
 replies_push k (q ∷ os) [] o r h g = absurd h
 replies_push k (q ∷ os) (s ∷ rs) o r h g = (h.0, replies_push (suc k) os rs o r h.1 (subst (λ n. IsReplyTo n o r) (omega arith) g))
 
+-- what one more answer exports
+pub exports_push : (S : Sig Name) (os : List Answered) (o : Answered) → exports S (os ++ o ∷ []) ≡ exports_after (exports S os) o
+unfolding exports
+exports_push S [] o = refl
+exports_push S (q ∷ os) o = exports_push (exports_after S q) os o
+
+pub exports_none : (exports {N = Name} nothing []).body ≡ empty_env
+unfolding exports
+exports_none = refl
+
+pub after_env : (S : Sig Name) (o : Answered) → (exports_after S o).body ≡ env_after S.body o
+after_env S (refused f) = refl
+after_env S (accepted S') = refl
+
 -- what runs accept is sound
 pub run_sound : (unit : ℕ) (B : Basis Name) (ds : List (Dec Place)) (os : List Answered) → Run naming unit B ds os → AreSound unit B ds os
 unfolding Run
@@ -84,14 +99,19 @@ project_sound Ss (u ∷ us) (os ∷ oss) h = (run_sound u.maker (start initial_b
 nothing_there : {b : Bool} {bs : List Bool} → b ∷ bs ≡ [] → ⊥
 nothing_there e = cc
 
+pub initial_open : OpenEnv initial_basis.body
+unfolding initial_basis OpenEnv OpenStructures OpenFunctions IsOpen AreOpen
+initial_open = (tt, ((λ e. tt), ((λ e. tt), ((λ e. tt), ((λ e. tt), ((λ e. absurd (nothing_there e)), ((λ e. tt), ((λ e. absurd (nothing_there e)), ((λ e. tt), ((λ e. tt), ((λ e. tt), tt)))))))))))
+
 -- the basis from which a unit starts
-pub initial_is : (p : PB.Basis) → env_of p.env ≡ initial_basis.body → p.names.items ≡ [] → IsBasisOf p (start initial_basis [] [])
-unfolding start needed all_names initial_basis names_basis names_env names_structures names_map names_type OpenEnv OpenStructures OpenFunctions IsOpen AreOpen
-initial_is p env none = record {
-  body_is = sym env;
+pub start_is : (p : PB.Basis) (Ss : List (Sig Name)) (ks : List ℕ) → (needed initial_basis Ss ks).body ≡ env_of p.env → p.names.items ≡ []
+    → Every (IsBelow (maker_of p.unit) 0) (all_names Ss) → Every (λ S. OpenEnv S.body) Ss → IsBasisOf p (start initial_basis Ss ks)
+unfolding start
+start_is p Ss ks env none below opened = record {
+  body_is = env;
   count_is = ap length (sym none);
-  below = (tt, (tt, (tt, (tt, (tt, (tt, (tt, (tt, (tt, (tt, (tt, (tt, (tt, (tt, (tt, (tt, (tt, (tt, (tt, (tt, (tt, (tt, (tt, (tt, (tt, (tt, (tt, tt)))))))))))))))))))))))))));
-  opened = (tt, ((λ e. tt), ((λ e. tt), ((λ e. tt), ((λ e. tt), ((λ e. absurd (nothing_there e)), ((λ e. tt), ((λ e. absurd (nothing_there e)), ((λ e. tt), ((λ e. tt), ((λ e. tt), tt)))))))))));
+  below = subst (λ ns. Every (IsBelow (maker_of p.unit) (length ns)) (names_basis (start initial_basis Ss ks))) (sym none) (start_below (maker_of p.unit) Ss ks below);
+  opened = needed_open initial_basis Ss ks initial_open opened;
 }
 
 -- a basis with one more declaration
@@ -113,12 +133,13 @@ added p q own B basis is opened env names unit =
     }
 
 -- an accepted declaration is a step of its unit
-pub accepted_step : {E : Type 0} (old new own : PB.Basis) (B : Basis Name) (d : Dec Place) (number : ℕ) (r : Result Reply E) → IsBasisOf old B
+pub accepted_step : {E : Type 0} (old new was bound own : PB.Basis) (B : Basis Name) (d : Dec Place) (number : ℕ) (r : Result Reply E) → IsBasisOf old B
     → read_top naming beginning (maker_of old.unit) B d (accepted (sig_of own)) → IfOk r (λ r. IsReplyTo number (accepted (sig_of own)) r)
-    → OnOk r (IsBasisOf new (extend B (sig_of own))) → OnOk r (new.unit ≡ old.unit) → IfOk r (IsStep old new B d number)
-accepted_step old new own B d number (Ok r) basis h k after unit =
-    record { answer = accepted (sig_of own); reading = h; reply = k; after = after; unit = unit }
-accepted_step old new own B d number (Err e) basis h k after unit = tt
+    → OnOk r (IsBasisOf new (extend B (sig_of own))) → OnOk r (new.unit ≡ old.unit)
+    → OnOk r (env_of bound.env ≡ extend_env (env_of was.env) (env_of own.env)) → IfOk r (IsStep old new was bound B d number)
+accepted_step old new was bound own B d number (Ok r) basis h k after unit binds =
+    record { answer = accepted (sig_of own); reading = h; reply = k; after = after; unit = unit; bound_is = binds }
+accepted_step old new was bound own B d number (Err e) basis h k after unit binds = tt
 
 pub unwarned : {E : Type 0} {X : Type 0} (r : Result X E) (P : Type 0) (Q : X → Type 0) → P → IfOk r (λ x. P → Q x) → IfOk r Q
 unwarned (Ok x) P Q p h = h p
@@ -169,23 +190,17 @@ all_push (e ∷ ds) d h k =
     let p = and_parts (is_specified e) (list_all is_specified ds) h in
     (λ i. p.0 i && all_push ds d p.1 k i)
 
--- of a unit before all others nothing that it needs is there
+and_no : (b : Bool) → (b && false) ≡ false
+and_no true = refl
+and_no false = refl
 
-none_lacks : (ks : List ℕ) → list_all (flag_at []) ks ≡ true
-none_lacks [] = refl
-none_lacks (k ∷ ks) = none_lacks ks
+pub not_all : (ds rest : List (Dec Place)) (d : Dec Place) → is_specified d ≡ false → list_all is_specified (ds ++ d ∷ rest) ≡ false
+not_all [] rest d n = λ i. n i && list_all is_specified rest
+not_all (e ∷ ds) rest d n = ap (λ b. is_specified e && b) (not_all ds rest d n) ∙ and_no (is_specified e)
 
-onto_nothing : (E : Env Name) → extend_env E empty_env ≡ E
+-- nothing is put into an environment
+pub onto_nothing : (E : Env Name) → extend_env E empty_env ≡ E
 onto_nothing (O.env ss ts vs) = refl
-
-needed_none : (B : Basis Name) (ks : List ℕ) → (needed B [] ks).body ≡ B.body
-unfolding needed export_at extend
-needed_none B [] = refl
-needed_none B (k ∷ ks) = needed_none (extend B nothing) ks ∙ onto_nothing B.body
-
-pub start_none : (ks : List ℕ) → start initial_basis [] ks ≡ start initial_basis [] []
-unfolding start needed
-start_none ks = λ i. record { names = all_names [] ++ names_basis initial_basis; count = 0; body = needed_none initial_basis ks i }
 
 -- the answers and the last fault of a unit, from how its replies were made
 abbrev source_of : UnitText → ℕ → List (Dec Place) → Option (Fault Place) → SourceUnit
@@ -209,76 +224,72 @@ begun_by true os last rs tail ends h same more =
 begun_by false os last rs tail ends h same more =
     subst (BeginWith 1 os) (sym (append_assoc rs tail ends)) (begin_with 1 os rs (tail ++ ends) h)
 
-pub unit_answered : (u : UnitText) (ds : List (Dec Place)) (last : Option (Fault Place)) (spelt : AreSpelt u.text ds last) (b : Beginning) (tail ends : List Reply)
-    → IsBegun (suc u.place) (start initial_basis [] []) ds b → length b.replies.items + length tail ≡ length spelt.tops → length ends ≡ length (option_to_list last)
+-- where a need isn't all specified, nothing is answered
+pub none_begun : (maker : ℕ) (ready : Bool) (B : Basis Name) (ds : List (Dec Place)) (b : Beginning) → ready ≡ false → b.replies.items ≡ [] → env_of b.bound.env ≡ empty_env → b.is_whole ≡ false → IsBegun maker ready B ds b
+none_begun maker ready B ds b lacks none bound part = record {
+  answers = [];
+  run = subst (λ r. Run naming maker B (cond r (specified_beginning ds) []) []) (sym lacks) (run_none maker B);
+  replies = subst (AreRepliesTo 1 []) (sym none) tt;
+  bound_is = bound ∙ sym exports_none;
+  whole_is = part ∙ (λ i. sym lacks i && list_all is_specified ds);
+}
+
+-- whether all is specified, told by how many declarations the beginning answered
+whole_same : (ready all : Bool) (j k n : ℕ) → (ready ≡ true → all ≡ true → j ≡ k) → ((ready && all) && (j == n)) ≡ (ready && (all && (k == n)))
+whole_same true true j k n h = ap (λ i. i == n) (h refl refl)
+whole_same true false j k n h = refl
+whole_same false all j k n h = refl
+
+pub unit_answered : (fs : List Bool) (Ss : List (Sig Name)) (u : UnitText) (ds : List (Dec Place)) (last : Option (Fault Place)) (spelt : AreSpelt u.text ds last) (b : Beginning) (tail ends : List Reply) (x : Exports)
+    → IsBegun (suc u.place) (list_all (flag_at fs) u.needs) (start initial_basis Ss u.needs) ds b → length b.replies.items + length tail ≡ length spelt.tops → length ends ≡ length (option_to_list last)
     → ((os : List Answered) → AreRepliesTo 1 os (b.replies.items ++ tail) → AreRepliesTo 1 (with_last os last) ((b.replies.items ++ tail) ++ ends))
-    → IsAnswered u ((b.replies.items ++ tail) ++ ends)
-unit_answered u ds last spelt b tail ends begun all count more =
+    → Keeps b (length spelt.tops) x → IsAnswered fs Ss u ((b.replies.items ++ tail) ++ ends) x
+unit_answered fs Ss u ds last spelt b tail ends x begun all count more kept =
     let n = length spelt.tops in
     let s = source_of u n ds last in
+    let B = start initial_basis Ss u.needs in
+    let ready = list_all (flag_at fs) u.needs in
     let os = begun.answers in
     let rs = b.replies.items in
-    let same : is_whole [] s ≡ true → rs ++ tail ≡ rs = (λ w.
-    let parts = and_parts (list_all (flag_at []) u.needs) (list_all is_specified ds && (length ds == n)) w in
+    let answered : ready ≡ true → list_all is_specified ds ≡ true → length rs ≡ length ds = (λ r a.
+    replies_length 1 os rs begun.replies ∙ run_length (suc u.place) B (cond ready (specified_beginning ds) []) os begun.run
+    ∙ ap length ((λ i. cond (r i) (specified_beginning ds) []) ∙ beginning_all ds a)) in
+    let same : is_whole fs s ≡ true → rs ++ tail ≡ rs = (λ w.
+    let parts = and_parts ready (list_all is_specified ds && (length ds == n)) w in
     let inner = and_parts (list_all is_specified ds) (length ds == n) parts.1 in
-    let whole = beginning_all ds inner.0 in
-    let len = replies_length 1 os rs begun.replies in
-    let run = run_length (suc u.place) (start initial_basis [] []) (specified_beginning ds) os begun.run in
-    let ran = ap length whole in
+    let len = answered parts.0 inner.0 in
     let num = eqb-true (length ds) n inner.1 in
     let app = length-append rs tail in
-    nothing_behind rs tail (omega (arith, len, run, ran, num, app, all))) in
+    nothing_behind rs tail (omega (arith, len, num, app, all))) in
     record {
       source = s;
       is = record { label_is = refl; maker_is = refl; needs_are = refl; spelt = spelt; number_is = refl };
       answers = os;
-      run = subst (λ b. Run naming (suc u.place) (start initial_basis [] u.needs) (cond b (specified_beginning ds) []) os) (sym (none_lacks u.needs))
-          (subst (λ B. Run naming (suc u.place) B (specified_beginning ds) os) (sym (start_none u.needs)) begun.run);
+      run = begun.run;
       replies = record {
-        begun = begun_by (is_whole [] s) os last rs tail ends begun.replies same (more os);
+        begun = begun_by (is_whole fs s) os last rs tail ends begun.replies same (more os);
         number = (let a = length-append (rs ++ tail) ends in let b = length-append rs tail in omega (arith, a, b, all, count));
       };
+      kept = record {
+        is_there = kept.0 ∙ ap (λ w. w && (length rs == n)) begun.whole_is ∙ whole_same ready (list_all is_specified ds) (length rs) (length ds) n answered;
+        env_is = subst (λ E. IfSome x.specified (λ e. env_of e.value ≡ E)) begun.bound_is kept.1;
+      };
     }
-
--- What is known of the replies to the units so far: those to the first, and nothing of those behind it, which wait for
--- runs of several units.
-abbrev pub AreAnswered : List UnitText → List UnitReplies → Type 0
-AreAnswered [] [] = Unit {0}
-AreAnswered [] (r ∷ rs) = ⊥
-AreAnswered (u ∷ []) [] = ⊥
-AreAnswered (u ∷ []) (r ∷ []) = (string_bytes r.name ≡ u.name) × IsAnswered u r.replies.items
-AreAnswered (u ∷ []) (r ∷ q ∷ rs) = ⊥
-AreAnswered (u ∷ v ∷ us) rs = Unit {0}
-
-pub answered_push : (us : List UnitText) (rs : List UnitReplies) (u : UnitText) (r : UnitReplies) → AreAnswered us rs → string_bytes r.name ≡ u.name
-    → (length us ≡ 0 → IsAnswered u r.replies.items) → AreAnswered (us ++ u ∷ []) (rs ++ r ∷ [])
-answered_push [] [] u r h n a = (n, a refl)
-answered_push [] (s ∷ rs) u r h n a = absurd h
-answered_push (v ∷ []) rs u r h n a = tt
-answered_push (v ∷ w ∷ us) rs u r h n a = tt
-
--- The replies to one unit, or to none, are those of a run.
-pub one_unit : (us : List UnitText) (rs : List UnitReplies) → length us ≤ 1 → AreAnswered us rs
-    → (sources : List SourceUnit) × AreSourcesOf us sources × (answers : List (List Answered)) × RunProject naming initial_basis [] (specified sources) answers × AreUnitReplies sources (specified sources) answers rs
-unfolding RunProject
-one_unit [] [] few h = ([], tt, [], tt, tt)
-one_unit [] (r ∷ rs) few h = absurd h
-one_unit (u ∷ []) [] few h = absurd h
-one_unit (u ∷ []) (r ∷ []) few h =
-    let a = h.1 in
-    (a.source ∷ [], (a.is, tt), a.answers ∷ [], (a.run, tt), ((h.0 ∙ sym a.is.label_is, a.replies), tt))
-one_unit (u ∷ []) (r ∷ s ∷ rs) few h = absurd h
-one_unit (u ∷ v ∷ us) rs few h = absurd (omega (arith, few))
 
 -- what is known of an answer, of which more is known
 pub if_ok : {A E : Type 0} (P Q : A → Type 0) (r : Result A E) → ((a : A) → P a → Q a) → IfOk r P → IfOk r Q
 if_ok P Q (Ok a) f h = f a h
 if_ok P Q (Err e) f h = tt
 
+pub both_ok : {A E : Type 0} (P Q : A → Type 0) (r : Result A E) → IfOk r P → IfOk r Q → IfOk r (λ a. P a × Q a)
+both_ok P Q (Ok a) h k = (h, k)
+both_ok P Q (Err e) h k = tt
+
 -- the replies to a unit, from how they were begun and ended
-pub answered_unit : (u : UnitText) (ds : List (Dec Place)) (last : Option (Fault Place)) (spelt : AreSpelt u.text ds last) (n : ℕ) → n ≡ length spelt.tops
-    → (rs : List Reply) → AreBegunAndEnded (suc u.place) ds n last rs → IsAnswered u rs
-answered_unit u ds last spelt n e rs m =
-    let x = m.ended in
-    subst (IsAnswered u) (sym x.replies)
-    (unit_answered u ds last spelt m.beginning_is x.tail x.ends m.begun (x.number ∙ e) x.one (λ os h. subst (AreRepliesTo 1 (with_last os last)) x.replies (x.last_is os h)))
+pub answered_unit : (fs : List Bool) (Ss : List (Sig Name)) (u : UnitText) (ds : List (Dec Place)) (last : Option (Fault Place)) (spelt : AreSpelt u.text ds last) (n : ℕ) → n ≡ length spelt.tops
+    → (rs : List Reply) (x : Exports) → AreBegunAndEnded (suc u.place) fs Ss u.needs ds n last rs x → IsAnswered fs Ss u rs x
+answered_unit fs Ss u ds last spelt n e rs x m =
+    let y = m.ended in
+    subst (λ rs. IsAnswered fs Ss u rs x) (sym y.replies)
+    (unit_answered fs Ss u ds last spelt m.beginning_is y.tail y.ends x m.begun (y.number ∙ e) y.one (λ os h. subst (AreRepliesTo 1 (with_last os last)) y.replies (y.last_is os h))
+    (subst (λ n. Keeps m.beginning_is n x) e m.kept))

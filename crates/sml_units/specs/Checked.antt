@@ -13,17 +13,14 @@ use Rattle.sml_parse.specs.Trees.{Trees}
 use Rattle.sml_objects.specs.Objects.{Sig, Basis}
 use Rattle.sml_objects.specs.Initial.{Name, naming, initial_basis}
 use Rattle.sml_rules.specs.Answers.{Answer, refused, accepted}
-use Rattle.sml_rules.specs.Readings.{read_top}
+use Rattle.sml_rules.specs.Every.{Every}
 use Rattle.sml_rules.specs.Sound.{IsSound}
 use Rattle.sml_texts.specs.Text.{text}
 use Rattle.sml_reply.specs.Replies.{reply_text, warnings_of, accepts}
 use Rattle.sml_reply.specs.declared.reply.Reply.{Reply}
-use Rattle.sml_objects.specs.Views.{maker_of}
-use Rattle.sml_objects.specs.declared.objects.Basis as PB
-use Rattle.sml_piece.specs.Elaborated.{IsBasisOf, beginning}
-use Rattle.sml_units.specs.Runs.{SourceUnit, Run, RunProject, basis_after, start, exports, nothing, specified, specified_unit, specified_beginning}
-use Rattle.sml_projects.specs.Orders.{UnitText, unit_texts}
-use Rattle.sml_units.specs.declared.project.Beginning.{Beginning}
+use Rattle.sml_units.specs.Runs.{SourceUnit, RunProject, basis_after, start, exports, nothing, specified}
+use Rattle.sml_projects.specs.ProjectFiles.{UnitLine}
+use Rattle.sml_projects.specs.Orders.{UnitText, unit_texts, IsProjectOf}
 use Rattle.sml_projects.specs.declared.project.Project.{Project}
 use Rattle.sml_units.specs.declared.project.Replies.{Replies}
 use Rattle.sml_units.specs.declared.project.UnitReplies.{UnitReplies}
@@ -72,19 +69,10 @@ AreSound unit B [] os = Unit {0}
 AreSound unit B (d ∷ ds) [] = Unit {0}
 AreSound unit B (d ∷ ds) (o ∷ os) = IsSoundAnswer unit B d o × AreSound unit (basis_after B o) ds os
 
--- The declarations before the first that isn't specified, each in the basis so far, are given these replies.
-pub record IsBegun (maker : ℕ) (B : Basis Name) (ds : List (Dec Place)) (b : Beginning) : Type 0 where
-  pub answers : List Answered
-  pub run : Run naming maker B (specified_beginning ds) answers
-  pub replies : AreRepliesTo 1 answers b.replies.items
-
--- a declaration is answered in the basis, and what it binds if it is accepted is put into it
-pub record IsStep (old new : PB.Basis) (B : Basis Name) (d : Dec Place) (number : ℕ) (r : Reply) : Type 0 where
-  pub answer : Answered
-  pub reading : read_top naming beginning (maker_of old.unit) B d answer
-  pub reply : IsReplyTo number answer r
-  pub after : IsBasisOf new (basis_after B answer)
-  pub unit : new.unit ≡ old.unit
+-- No two units stand at one place of the project file.
+abbrev pub HaveOwnPlaces : List UnitText → Type 0
+HaveOwnPlaces [] = Unit {0}
+HaveOwnPlaces (u ∷ us) = Every (λ v. ¬ (u.place ≡ v.place)) us × HaveOwnPlaces us
 
 -- the unit of these declarations
 pub record IsSourceOf (u : UnitText) (s : SourceUnit) : Type 0 where
@@ -117,31 +105,6 @@ AreUnitReplies [] [] [] [] = Unit {0}
 AreUnitReplies (s ∷ ss) (t ∷ ts) (os ∷ oss) (r ∷ rs) = ((string_bytes r.name ≡ s.label) × AreReplies s os t.last r.replies.items) × AreUnitReplies ss ts oss rs
 AreUnitReplies ss ts oss rs = ⊥
 
--- A unit before all others is given these replies: they begin with the answers of some run over what is specified of it.
-pub record IsAnswered (u : UnitText) (rs : List Reply) : Type 0 where
-  pub source : SourceUnit
-  pub is : IsSourceOf u source
-  pub answers : List Answered
-  pub run : Run naming source.maker (start initial_basis [] source.needs) (specified_unit [] source).declarations answers
-  pub replies : AreReplies source answers (specified_unit [] source).last rs
-
--- What the code makes of one unit. No public contract rests on these.
-
--- Replies begin with these, there is one to each of so many declarations and to the last fault, and this is the last.
-pub record AreEnded (begun : List Reply) (n : ℕ) (last : Option (Fault Place)) (rs : List Reply) : Type 0 where
-  pub tail : List Reply
-  pub ends : List Reply
-  pub replies : rs ≡ (begun ++ tail) ++ ends
-  pub number : length begun + length tail ≡ n
-  pub one : length ends ≡ length (option_to_list last)
-  pub last_is : (os : List Answered) → AreRepliesTo 1 os (begun ++ tail) → AreRepliesTo 1 (with_last os last) rs
-
--- They begin with those to the first of these declarations, as far as they are specified.
-pub record AreBegunAndEnded (maker : ℕ) (ds : List (Dec Place)) (n : ℕ) (last : Option (Fault Place)) (rs : List Reply) : Type 0 where
-  pub beginning_is : Beginning
-  pub begun : IsBegun maker (start initial_basis [] []) ds beginning_is
-  pub ended : AreEnded beginning_is.replies.items n last rs
-
 -- each accepted declaration of the units has a derivation in the rules, in the basis in which it was answered
 abbrev pub AreAllSound : List (Sig Name) → List SourceUnit → List (List Answered) → Type 0
 AreAllSound Ss [] oss = Unit {0}
@@ -157,3 +120,7 @@ pub record MayReply (p : Project) (rs : Replies) : Type 0 where
   pub run : RunProject naming initial_basis [] (specified sources) answers
   pub sound : AreAllSound [] (specified sources) answers
   pub replies : AreUnitReplies sources (specified sources) answers rs.units.items
+
+-- The units of a project that was made of unit lines stand at places of their own.
+abbrev pub ProjectsHaveOwnPlaces : Type 0
+ProjectsHaveOwnPlaces = (us : List UnitLine) (texts : List (List ℕ)) (p : Project) → IsProjectOf us texts p → HaveOwnPlaces (unit_texts p)

@@ -5,3 +5,4 @@ pub mod Checked
 pub mod Standing
 pub mod Files
 pub mod Counts
+pub mod CodeUnits

@@ -1,22 +1,24 @@
 //! Projects and what their declarations are answered.
 
-ghost use Rattle.std.specs.Prelude.{◌≡◌, ◌≤◌, ◌+◌, ◌++◌, IfOk, IfErr, List, OnOk, [], false, true, length, map, replicate, vec_len};
+ghost use Rattle.std.specs.Prelude.{◌≡◌, ◌≤◌, ◌+◌, ◌++◌, ◌&&◌, ◌==◌, Bool, IfOk, IfErr, IfSome, List, OnOk, [], false, true, length, map, replicate, vec_len};
 ghost use Rattle.sml_reply.specs.declared.reply.Reply.{Reply};
-ghost use Rattle.std.specs.Option.{option_map, option_to_list};
+ghost use Rattle.std.specs.List.{list_all};
+ghost use Rattle.std.specs.Option.{is_some, option_map, option_to_list};
 ghost use Rattle.sml_lex.specs.Faults.{fault_of};
 ghost use Rattle.sml_tree.specs.Views.{dec_of};
 ghost use Rattle.sml_objects.specs.Initial.{Name, initial_basis};
 ghost use Rattle.sml_objects.specs.Objects as O;
-ghost use Rattle.sml_objects.specs.Objects.{extend};
-ghost use Rattle.sml_objects.specs.Views.{maker_of, sig_of};
+ghost use Rattle.sml_objects.specs.Objects.{extend, extend_env};
+ghost use Rattle.sml_objects.specs.Views.{env_of, maker_of, sig_of};
 ghost use Rattle.sml_rules.specs.Answers.{accepted};
 ghost use Rattle.sml_rules.specs.Open.{OpenEnv};
 ghost use Rattle.sml_rules.specs.Readings.{is_specified};
 ghost use Rattle.sml_piece.specs.Elaborated.{IsBasisOf, IsOwnBasis};
-ghost use Rattle.sml_units.specs.Checked.{MayReply, AreBegunAndEnded, AreEnded, IsAnswered, IsBegun, IsStep, IsReplyTo, Answered, AreRepliesTo, with_last};
+ghost use Rattle.sml_units.specs.Checked.{MayReply, HaveOwnPlaces, IsReplyTo, Answered, AreRepliesTo, with_last};
+ghost use Rattle.sml_units.specs.CodeUnits.{AreBegunAndEnded, AreEnded, AreReady, IsAnswered, IsBegun, IsStep, Keeps};
 ghost use Rattle.sml_units.specs.Counts.{IsCountOf, IsNumberOf};
 ghost use Rattle.sml_projects.specs.Orders.{unit_texts, unit_text_of};
-ghost use Rattle.sml_units.specs.Runs.{start};
+ghost use Rattle.sml_units.specs.Runs.{start, flag_at};
 
 use crate::needs::{empty, nameless, paths_of_needs, with_needs};
 use crate::whole::{answer_rest, exported, whole_basis};
@@ -109,7 +111,7 @@ impl Checked {
 
 /// Answers every declaration of the project.
 pub fn check(alloc: Global, project: &Project) -> Result<Checked, Memory>
-    ensures replies { length (unit_texts project.now) ≤ 1 → IfOk result (λ c. MayReply project.now c.replies) }
+    ensures replies { HaveOwnPlaces (unit_texts project.now) → IfOk result (λ c. MayReply project.now c.replies) }
     ensures kept { IfOk result (λ c. c.kept.items ≡ replicate (vec_len project.now.units) false) }
     ensures readings { IfOk result (λ c. IsCountOf (unit_texts project.now) c.readings) }
 {
@@ -153,7 +155,7 @@ pub(crate) fn check_unit(
     exports: &[Exports],
     unit: &ProjectUnit,
 ) -> Result<Read, Memory>
-    ensures replies { length exports.now ≡ 0 → IfOk result (λ r. IsAnswered (unit_text_of unit.now) r.0.items) }
+    ensures replies { (fs : List Bool) (Ss : List (O.Sig Name)) → AreReady (maker_of unit.now.id) fs Ss exports.now → IfOk result (λ r. IsAnswered fs Ss (unit_text_of unit.now) r.0.items r.1) }
     ensures count { IfOk result (λ r. IsNumberOf unit.now.text.items r.2) }
 {
     let lexed = lex(alloc, &unit.text)?;
@@ -179,7 +181,8 @@ fn answer_unit(
     fault: Option<Fault>,
 ) -> Result<Read, Memory>
     requires { length piece.now ≤ length declarations.now }
-    ensures replies { length exports.now ≡ 0 → IfOk result (λ r. AreBegunAndEnded (maker_of unit.now.id) (map dec_of piece.now) (length declarations.now) (option_map fault_of fault) r.0.items) }
+    ensures replies { (fs : List Bool) (Ss : List (O.Sig Name)) → AreReady (maker_of unit.now.id) fs Ss exports.now
+        → IfOk result (λ r. AreBegunAndEnded (maker_of unit.now.id) fs Ss unit.now.needs.items (map dec_of piece.now) (length declarations.now) (option_map fault_of fault) r.0.items r.1) }
     ensures count { IfOk result (λ r. r.2 ≡ length declarations.now) }
 {
     let begun = begin(alloc, unit.id, &unit.needs, exports, piece)?;
@@ -207,6 +210,7 @@ fn end(
 ) -> Result<Read, Memory>
     requires { length begun.replies.items ≤ length declarations.now }
     ensures replies { IfOk result (λ r. AreEnded begun.replies.items (length declarations.now) (option_map fault_of fault) r.0.items) }
+    ensures kept { IfOk result (λ r. Keeps begun (length declarations.now) r.1) }
     ensures count { IfOk result (λ r. r.2 ≡ length declarations.now) }
 {
     let Beginning {
@@ -220,8 +224,15 @@ fn end(
     let rest = behind(declarations, replies.len());
     let replies = answer_rest(alloc, &mut basis, &mut paths, replies, rest)?;
     let replies = and_last(replies, fault)?;
-    let own = own_exports(alloc, basis, paths, bound, is_whole && rest.is_empty())?;
+    let own = own_exports(alloc, basis, paths, bound, is_all(is_whole, rest))?;
     Ok((replies, own, declarations.len() as u64))
+}
+
+/// Whether a beginning of the piece is all of its unit, where these declarations stand behind it.
+fn is_all(is_whole: bool, rest: &[TopDec]) -> bool
+    ensures { result ≡ (is_whole && (length rest.now == 0)) }
+{
+    is_whole && rest.is_empty()
 }
 
 /// What a unit exports that ends with this basis and these paths, and which of it was bound by declarations of the piece;
@@ -232,7 +243,10 @@ fn own_exports(
     paths: Paths,
     bound: Basis,
     is_specified: bool,
-) -> Result<Exports, Memory> {
+) -> Result<Exports, Memory>
+    ensures there { IfOk result (λ x. is_some x.specified ≡ is_specified) }
+    ensures env { IfOk result (λ x. IfSome x.specified (λ e. env_of e.value ≡ env_of bound.env)) }
+{
     let specified = if is_specified {
         Some(Rc::new(alloc, bound.env)?)
     } else {
@@ -277,14 +291,12 @@ fn begin(
     exports: &[Exports],
     declarations: &[BareDec],
 ) -> Result<Beginning, Memory>
-    ensures begun { length exports.now ≡ 0 → IfOk result (IsBegun (maker_of id) (start initial_basis [] []) (map dec_of declarations.now)) }
+    ensures begun { (fs : List Bool) (Ss : List (O.Sig Name)) → AreReady (maker_of id) fs Ss exports.now
+        → IfOk result (IsBegun (maker_of id) (list_all (flag_at fs) needs.now) (start initial_basis Ss needs.now) (map dec_of declarations.now)) }
     ensures few { IfOk result (λ b. length b.replies.items ≤ length declarations.now) }
 {
     let basis = Basis::initial(alloc, id)?;
     let paths = paths_of_needs(alloc, needs, exports)?;
-    if exports.is_empty() {
-        return answer_piece(alloc, basis, paths, declarations);
-    }
     match with_needs(alloc, basis, needs, exports)? {
         Some(basis) => answer_piece(alloc, basis, paths, declarations),
         None => Ok(Beginning {
@@ -304,7 +316,7 @@ fn answer_piece(
     paths: Paths,
     declarations: &[BareDec],
 ) -> Result<Beginning, Memory>
-    ensures begun { (B : O.Basis Name) → IsBasisOf basis B → IfOk result (IsBegun (maker_of basis.unit) B (map dec_of declarations.now)) }
+    ensures begun { (B : O.Basis Name) → IsBasisOf basis B → IfOk result (IsBegun (maker_of basis.unit) true B (map dec_of declarations.now)) }
     ensures few { IfOk result (λ b. length b.replies.items ≤ length declarations.now) }
 {
     let mut basis = basis;
@@ -355,7 +367,7 @@ fn answer(
     dec: &BareDec,
 ) -> Result<Reply, Memory>
     requires { is_specified (dec_of dec.now) ≡ true }
-    ensures { (B : O.Basis Name) → IsBasisOf basis.old B → IfOk result (IsStep basis.old basis.new B (dec_of dec.now) number) }
+    ensures { (B : O.Basis Name) → IsBasisOf basis.old B → IfOk result (IsStep basis.old basis.new bound.old bound.new B (dec_of dec.now) number) }
 {
     match topdec(alloc, basis, dec) {
         Ok((own, warnings)) => accept(alloc, basis, bound, paths, number, own, warnings),
@@ -377,6 +389,7 @@ fn accept(
     ensures basis { (B : O.Basis Name) → IsBasisOf basis.old B → IsOwnBasis basis.old own → OpenEnv (sig_of own).body
         → OnOk result (IsBasisOf basis.new (extend B (sig_of own))) }
     ensures unit { OnOk result (basis.new.unit ≡ basis.old.unit) }
+    ensures bound { OnOk result (env_of bound.new.env ≡ extend_env (env_of bound.old.env) (env_of own.env)) }
 {
     let reply = Reply::accepted(alloc, number, &own, paths, warnings)?;
     paths.bind(alloc, &whole_env(alloc, &own.env)?)?;

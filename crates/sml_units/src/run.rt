@@ -1,9 +1,9 @@
 //! Runs: a project is checked, and its replies are written.
 
-ghost use Rattle.std.specs.Prelude.{◌≡◌, ◌≤◌, ◌+◌, if◌then◌else◌, IfOk, IfErr, length, map};
+ghost use Rattle.std.specs.Prelude.{◌≡◌, ◌+◌, if◌then◌else◌, IfOk, IfErr, length, map};
 ghost use Rattle.sml_reply.specs.Replies.{form_text, warnings_of, accepts};
 ghost use Rattle.sml_reply.specs.Sinks.{in_turn, Prints};
-ghost use Rattle.sml_units.specs.Checked.{MayReply};
+ghost use Rattle.sml_units.specs.Checked.{MayReply, HaveOwnPlaces};
 ghost use Rattle.sml_projects.specs.Orders.{unit_texts};
 ghost use Rattle.sml_units.specs.Written.{unit_text, units_text, replies_text, replies_of, summary_of, capped, IsOutcome};
 
@@ -41,7 +41,7 @@ pub fn run<O: Out>(
     form: Form,
     out: &mut O,
 ) -> Result<Summary, RunFault>
-    ensures { IsOutcome (λ rs. length (unit_texts project.now) ≤ 1 → MayReply project.now rs) form (O.taken out.old) (O.taken out.new) (O.failures out.old) (O.failures out.new) result }
+    ensures { IsOutcome (λ rs. HaveOwnPlaces (unit_texts project.now) → MayReply project.now rs) form (O.taken out.old) (O.taken out.new) (O.failures out.old) (O.failures out.new) result }
 {
     match check(alloc, project) {
         Ok(checked) => match checked.write_to(form, out) {

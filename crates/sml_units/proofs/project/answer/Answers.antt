@@ -14,6 +14,6 @@ returns-in-Ok c = λ B basis.
     let d = dec_of c.args.dec.now in
     let reading = c.in-Ok.ensures.reading B basis in
     let opened = read_top_open naming beginning (maker_of c.args.basis.now.unit) B d (sig_of own) basis.opened reading in
-    accepted_step c.args.basis.now c.accept.new.basis own B d c.args.number c.accept.result basis reading
+    accepted_step c.args.basis.now c.accept.new.basis c.args.bound.now c.accept.new.bound own B d c.args.number c.accept.result basis reading
     (unwarned c.accept.result _ (λ r. IsReplyTo c.args.number (accepted (sig_of own)) r) c.in-Ok.ensures.no_warnings c.accept.ensures.reply)
-    (c.accept.ensures.basis B basis (c.in-Ok.ensures.own B basis) opened) c.accept.ensures.unit
+    (c.accept.ensures.basis B basis (c.in-Ok.ensures.own B basis) opened) c.accept.ensures.unit c.accept.ensures.bound

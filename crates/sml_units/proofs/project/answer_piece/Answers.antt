@@ -8,8 +8,9 @@ use Rattle.sml_objects.specs.Views.{maker_of}
 use Rattle.sml_rules.specs.Readings.{read_top, is_specified}
 use Rattle.sml_piece.specs.Elaborated.{IsBasisOf, beginning}
 use Rattle.sml_units.specs.Checked.{AreRepliesTo, IsReplyTo}
-use Rattle.sml_units.specs.Runs.{Run, specified_beginning}
-use Rattle.sml_units.proofs.Replying.{after_all, after_push, run_none, run_push, replies_push, beginning_all, beginning_cut_at, all_push}
+use Rattle.sml_units.specs.CodeUnits.{env_after}
+use Rattle.sml_units.specs.Runs.{Run, specified_beginning, exports, nothing}
+use Rattle.sml_units.proofs.Replying.{after_all, after_push, run_none, run_push, replies_push, beginning_all, beginning_cut_at, all_push, not_all, exports_none, exports_push, after_env}
 use Rattle.sml_units.proofs.project.answer_piece.Goals as goal
 
 pub loop-dec-init : goal.loop-dec-init
@@ -17,7 +18,7 @@ loop-dec-init c = (
   refl,
   ap length c.new-replies.ensures.items,
   omega arith,
-  λ B basis. ([], run_none (maker_of c.args.basis.unit) B, subst (AreRepliesTo 1 []) (sym c.new-replies.ensures.items) tt, basis, refl),
+  λ B basis. ([], run_none (maker_of c.args.basis.unit) B, subst (AreRepliesTo 1 []) (sym c.new-replies.ensures.items) tt, basis, refl, c.empty-bound.ensures ∙ sym exports_none),
 )
 
 -- the declarations up to one more
@@ -52,6 +53,7 @@ loop-dec-preserved c =
             subst (AreRepliesTo 1 (os ++ o ∷ [])) (sym c.in_ok-push.ensures.items) (replies_push 1 os rs.items o c.in_ok-reply.reply w.2 (subst (λ n. IsReplyTo n o c.in_ok-reply.reply) number step.reply)),
             subst (IsBasisOf c.answer.new.basis) (sym (after_push B os o)) step.after,
             step.unit ∙ w.4,
+            step.bound_is ∙ ap (λ E. env_after E o) w.5 ∙ sym (after_env (exports nothing os) o) ∙ sym (ap (λ S. S.body) (exports_push nothing os o)),
           ),
     )
 
@@ -61,8 +63,10 @@ returns-then-not-is_specified-clause-begun c = λ B basis.
     let xs = c.args.declarations.now in
     let i = c.loop-dec.dec-index in
     let x = c.dec-item.result in
+    let ended = sym c.is_specified.ensures ∙ c.if-not-is_specified.true in
+    let none = ap (list_all is_specified) (split_at xs i x c.loop-dec-test.true c.dec-item.is) ∙ not_all (map dec_of (take i xs)) (map dec_of (drop (i + 1) xs)) (dec_of x) ended in
     let cut = beginning_cut_at (map dec_of (take i xs)) (map dec_of (drop (i + 1) xs)) (dec_of x) (map dec_of xs) (split_at xs i x c.loop-dec-test.true c.dec-item.is) c.loop-dec.invariant.0 (sym c.is_specified.ensures ∙ c.if-not-is_specified.true) in
-    record { answers = w.0; run = subst (λ ds. Run naming (maker_of c.args.basis.unit) B ds w.0) (sym cut) w.1; replies = w.2 }
+    record { answers = w.0; run = subst (λ ds. Run naming (maker_of c.args.basis.unit) B ds w.0) (sym cut) w.1; replies = w.2; bound_is = w.5; whole_is = sym none }
 
 pub returns-then-not-is_specified-clause-few : goal.returns-then-not-is_specified-clause-few
 returns-then-not-is_specified-clause-few c = (let n = c.loop-dec.invariant.1 in let h = c.loop-dec-test.true in omega (arith, n, h))
@@ -78,6 +82,8 @@ returns-clause-begun c = λ B basis.
       answers = w.0;
       run = subst (λ es. Run naming (maker_of c.args.basis.unit) B es w.0) (sym (beginning_all ds specified)) (subst (λ ys. Run naming (maker_of c.args.basis.unit) B (map dec_of ys) w.0) all w.1);
       replies = w.2;
+      bound_is = w.5;
+      whole_is = sym specified;
     }
 
 pub returns-clause-few : goal.returns-clause-few

@@ -1,10 +1,15 @@
-use Rattle.std.proofs.Common.{map, length}
-use Rattle.std.specs.Option.{option_map}
-use Rattle.sml_lex.specs.Faults.{fault_of}
-use Rattle.sml_units.proofs.Replying.{if_ok}
+use Rattle.std.proofs.Common.{map, length, subst}
+use Rattle.std.specs.List.{list_all}
+use Rattle.sml_tree.specs.Views.{dec_of}
+use Rattle.sml_objects.specs.Initial.{initial_basis}
+use Rattle.sml_objects.specs.Views.{maker_of}
+use Rattle.sml_units.specs.CodeUnits.{IsBegun}
+use Rattle.sml_units.specs.Runs.{start, flag_at}
+use Rattle.sml_units.proofs.Replying.{if_ok, both_ok}
 use Rattle.sml_units.proofs.project.answer_unit.Goals as goal
 
 pub returns-clause-replies : goal.returns-clause-replies
-returns-clause-replies c = λ none.
-    let begun = c.in_ok-begun.ensures.begun none in
-    if_ok _ _ c.end.result (λ r h. record { beginning_is = c.in_ok-begun.begun; begun = begun; ended = h }) c.end.ensures.replies
+returns-clause-replies c = λ fs Ss ready.
+    let b = c.in_ok-begun.begun in
+    let begun = subst (λ ks. IsBegun (maker_of c.args.unit.now.id) (list_all (flag_at fs) ks) (start initial_basis Ss ks) (map dec_of c.args.piece.now) b) c.deref.ensures.value (c.in_ok-begun.ensures.begun fs Ss ready) in
+    if_ok _ _ c.end.result (λ r h. record { beginning_is = b; begun = begun; ended = h.0; kept = h.1 }) (both_ok _ _ c.end.result c.end.ensures.replies c.end.ensures.kept)

@@ -8,12 +8,13 @@ use Rattle.sml_tree.specs.StructureViews.{top_of}
 use Rattle.sml_parse.specs.Trees.{Trees}
 use Rattle.sml_objects.specs.Views.{maker_of}
 use Rattle.sml_projects.specs.Orders.{unit_text_of}
-use Rattle.sml_units.specs.Checked.{AreSpelt, AreBegunAndEnded}
+use Rattle.sml_units.specs.Checked.{AreSpelt}
+use Rattle.sml_units.specs.CodeUnits.{AreBegunAndEnded}
 use Rattle.sml_units.proofs.Replying.{if_ok, answered_unit}
 use Rattle.sml_units.proofs.project.check_unit.Goals as goal
 
 pub returns-clause-replies : goal.returns-clause-replies
-returns-clause-replies c = λ none.
+returns-clause-replies c = λ fs Ss ready.
     let u = unit_text_of c.args.unit.now in
     let l = c.in_ok-lexed.lexed in
     let p = c.in_ok-declarations.field-0 in
@@ -25,8 +26,8 @@ returns-clause-replies c = λ none.
     let n = length c.deref-2.result.now in
     let all : n ≡ length tops = ap length c.deref-2.ensures.value ∙ sym (length-map p.declarations.items top_of) in
     if_ok _ _ c.answer_unit-answer.result
-    (λ r h. answered_unit u ds last spelt n all r.0.items (subst (λ xs. AreBegunAndEnded (maker_of c.args.unit.now.id) (map dec_of xs) n last r.0.items) c.deref-3.ensures.value h))
-    (c.answer_unit-answer.ensures.replies none)
+    (λ r h. answered_unit fs Ss u ds last spelt n all r.0.items r.1 (subst (λ xs. AreBegunAndEnded (maker_of c.args.unit.now.id) fs Ss u.needs (map dec_of xs) n last r.0.items r.1) c.deref-3.ensures.value h))
+    (c.answer_unit-answer.ensures.replies fs Ss ready)
 
 pub returns-clause-count : goal.returns-clause-count
 returns-clause-count c =

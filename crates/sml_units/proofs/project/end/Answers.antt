@@ -1,4 +1,8 @@
-use Rattle.std.proofs.Common.{◌++◌, ap, sym, subst, ◌∙◌, arith}
+use Rattle.std.proofs.Common.{◌≡◌, ◌≢◌, ◌+◌, ◌++◌, ◌⊎◌, ℕ, zero, suc, true, false, ◌&&◌, inl, inr, length, ap, sym, subst, ◌∙◌, arith}
+use Rattle.std.specs.Prelude.{◌==◌}
+use Rattle.std.proofs.Math.Dec.{eqb, eqb-suc-zero}
+use Rattle.std.proofs.lemmas.Bool.{eq-eqb}
+use Rattle.std.proofs.lemmas.Bool.Decides.{eqb_tells}
 use Rattle.sml_units.specs.Checked.{AreRepliesTo}
 use Rattle.sml_lex.specs.Faults.{fault_of}
 use Rattle.sml_units.proofs.Replying.{as_many}
@@ -16,3 +20,21 @@ returns-clause-replies c =
       one = all.2 ∙ as_many fault_of c.args.fault;
       last_is = λ os h. c.in_ok-replies-2.ensures.last os (subst (AreRepliesTo 1 os) (sym rest.1) h);
     }
+
+-- nothing is left behind the first k of n where k is n
+rest_none : (k r n : ℕ) → k + r ≡ n → (r == 0) ≡ (k == n)
+rest_none k zero n h = sym (eq-eqb k n (omega (arith, h)))
+rest_none k (suc r) n h = eqb-suc-zero r ∙ sym (others (eqb_tells k n))
+  where
+    others : ((eqb k n ≡ true) × (k ≡ n)) ⊎ ((eqb k n ≡ false) × (k ≢ n)) → (k == n) ≡ false
+    others (inl x) = let e = x.1 in absurd (omega (arith, h, e))
+    others (inr x) = x.0
+
+pub returns-clause-kept : goal.returns-clause-kept
+returns-clause-kept c =
+    let k = length c.args.begun.replies.items in
+    let n = length c.args.declarations.now in
+    let left = length c.behind-rest.result.now in (
+      c.in_ok-own.ensures.there ∙ c.is_all.ensures ∙ ap (λ b. c.args.begun.is_whole && b) (rest_none k left n (let a = c.len.ensures in let b = c.behind-rest.ensures in omega (arith, a, b))),
+      c.in_ok-own.ensures.env,
+    )

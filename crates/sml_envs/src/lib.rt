@@ -10,3 +10,4 @@ pub mod new_names;
 pub mod objects;
 mod order;
 pub mod realisation;
+pub mod sizes;

@@ -4,8 +4,8 @@ ghost use Rattle.std.specs.Prelude.{◌<◌, length};
 
 use crate::objects::{Constructors, Env, TypeStr, Value};
 use crate::order::in_order;
+use crate::sizes::applied;
 use sml_lex::fault::Memory;
-use sml_objects::applications::apply;
 use sml_objects::objects::{MlType, Scheme, TyName};
 use sml_tree::bare::Ident;
 use std::alloc::Global;
@@ -130,8 +130,8 @@ fn changed_name<M: Mapping>(
             boxed(alloc, MlType::Name(name, parts))
         }
         Image::Function(function) => match changed {
-            None => Ok(Some(apply(alloc, function, parts)?)),
-            Some(parts) => Ok(Some(apply(alloc, function, &parts)?)),
+            None => Ok(Some(applied(alloc, function, parts)?)),
+            Some(parts) => Ok(Some(applied(alloc, function, &parts)?)),
         },
     }
 }

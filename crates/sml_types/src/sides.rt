@@ -9,8 +9,8 @@ use crate::scope::Scope;
 use crate::types::type_of;
 use crate::variables::{Listed, TypeVariables};
 use indexmap::IndexSet;
+use sml_envs::sizes::applied;
 use sml_lex::fault::{Fault, Memory, Place};
-use sml_objects::applications::apply;
 use sml_objects::objects::{MlType, Scheme};
 use sml_tree::bare::Ident;
 use sml_tree::expressions::TypBind;
@@ -78,7 +78,7 @@ impl RightSide {
         types: &[Rc<MlType>],
     ) -> Result<Rc<MlType>, CoreFault> {
         match &self.meaning {
-            Ok(function) => Ok(apply(alloc, function, types)?),
+            Ok(function) => Ok(applied(alloc, function, types)?),
             Err(fault) => Err(again(alloc, fault)?),
         }
     }

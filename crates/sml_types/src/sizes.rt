@@ -1,13 +1,11 @@
-//! The limit on the sizes of schemes and type functions.
+//! That schemes and type functions aren't too large.
 
 use crate::fault::{CoreFault, plain_fault};
 use sml_envs::objects::Env;
+use sml_envs::sizes::GREATEST_SIZE;
 use sml_lex::fault::{Code, Place};
 use sml_objects::objects::{MlType, Scheme};
 use sml_objects::sizes::size_up_to;
-
-/// The greatest size of a scheme and of the body of a type function, in nodes.
-pub const GREATEST_SIZE: u32 = 10_000;
 
 /// That a type isn't too large for a scheme, or E7.
 pub fn small_type(place: Place, ty: &MlType) -> Result<(), CoreFault> {

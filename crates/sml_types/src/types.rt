@@ -6,8 +6,8 @@ use crate::scope::{Scope, type_at};
 use crate::sides::RightSide;
 use crate::variables::TypeVariables;
 use sml_envs::functions::name_of;
+use sml_envs::sizes;
 use sml_lex::fault::{Code, Memory};
-use sml_objects::applications::apply;
 use sml_objects::objects::MlType;
 use sml_tree::bare::LongIdent;
 use sml_tree::types::{Ty, TyField};
@@ -152,7 +152,7 @@ fn application<S: Scope>(
     if let Some(name) = name_of(&found.function) {
         return Ok(boxed(alloc, MlType::Name(name, types))?);
     }
-    Ok(apply(alloc, &found.function, &types)?)
+    Ok(sizes::applied(alloc, &found.function, &types)?)
 }
 
 #[cycle(meaning)]

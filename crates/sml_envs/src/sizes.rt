@@ -1,0 +1,39 @@
+//! The limit on the sizes of types, kept while they are built.
+
+use sml_lex::fault::Memory;
+use sml_objects::applications::apply;
+use sml_objects::objects::{Initial, MlType, Scheme, TyName};
+use sml_objects::sizes::size_up_to;
+use std::alloc::Global;
+use std::rc::Rc;
+
+/// The greatest size of a scheme and of the body of a type function, in nodes.
+pub const GREATEST_SIZE: u32 = 10_000;
+
+/// What a type function gives for these types. Where that is too large for a scheme, a flat type that is too large as well
+/// stands for it. So no type becomes much larger or deeper than the limit, and what it comes into is too large.
+pub fn applied(
+    alloc: Global,
+    function: &Scheme,
+    arguments: &[Rc<MlType>],
+) -> Result<Rc<MlType>, Memory> {
+    let ty = apply(alloc, function, arguments)?;
+    if arguments.is_empty() || size_up_to(&ty, GREATEST_SIZE) <= GREATEST_SIZE {
+        return Ok(ty);
+    }
+    too_large(alloc)
+}
+
+/// A flat type of one node more than a scheme may have.
+fn too_large(alloc: Global) -> Result<Rc<MlType>, Memory> {
+    let part = Rc::new(
+        alloc,
+        MlType::Name(TyName::Initial(Initial::Int), Vec::new(alloc)),
+    )?;
+    let mut parts = Vec::new(alloc);
+    for _ in 0..GREATEST_SIZE {
+        parts.push(part.clone()?)?;
+    }
+    let whole = MlType::Name(TyName::Initial(Initial::List), parts);
+    Ok(Rc::new(alloc, whole)?)
+}

@@ -142,6 +142,25 @@ fn endless_texts(rt: HostRuntime) -> Result<(), Fail> {
     Ok(())
 }
 
+/// Types that are short as text, and millions of lists deep where each type constructor stands for its lists.
+const DEEP_TYPES: [&str; 7] = [
+    "structure Z :> sig end = struct type 'a v = 'a@ list@3000@ type w = int@ v@ end@1 fault E7 1.15048 type too large\n",
+    "structure Z :> sig end = struct type 'a v = 'a@ list@3000@ datatype d = D of int@ v@ end@1 fault E7 1.15048 type too large\n",
+    "structure Z :> sig end = struct type 'a v = 'a@ list@3000@ exception E of int@ v@ end@1 fault E7 1.15048 type too large\n",
+    "structure Z :> sig end = struct type 'a v = 'a@ list@3000@ val f = fn (x : int@ v@) => x end@1 fault E7 1.15048 type too large\n",
+    "structure Z :> sig end = struct datatype d = D of int@ v@3000@ withtype 'a v = 'a@ list@ end@1 fault E7 1.33 type too large\n",
+    "signature S = sig type 'a t val x : int@ t@3000@ end where type 'a t = 'a@ list@@1 fault E7 1.6059 type too large\n",
+    "structure Z :> sig end = struct structure A : sig type 'a t val x : int@ t@3000@ end = struct type 'a t = 'a@ list@ val x = let fun f y = f y in f 1 end end end@1 fault E7 1.47 type too large\n",
+];
+
+#[test]
+fn deep_types(rt: HostRuntime) -> Result<(), Fail> {
+    for row in DEEP_TYPES {
+        expect_written(&rt, rt.alloc(), row)?;
+    }
+    Ok(())
+}
+
 #[test]
 fn many_declarations(rt: HostRuntime) -> Result<(), Fail> {
     let alloc = rt.alloc();

@@ -11,7 +11,8 @@ use crate::known::{
 use sml_lex::fault::Memory;
 use sml_objects::objects::{MlType, Scheme};
 use sml_solve::class::Class;
-use sml_solve::layer::{Bound, Refusal};
+use sml_solve::demand::Refusal;
+use sml_solve::layer::Bound;
 use sml_solve::solver::Solver;
 use sml_solve::variable::Variable;
 use sml_tree::bare::Ident;

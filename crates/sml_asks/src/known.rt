@@ -2,11 +2,12 @@
 
 ghost use Rattle.std.specs.Prelude.{◌≡◌, ◌<◌, true, map};
 ghost use Rattle.std.specs.List.{AllByRecursion};
-ghost use Rattle.sml_objects.specs.Views.{type_of, types_of};
+ghost use Rattle.sml_objects.specs.Objects.{types_of};
+ghost use Rattle.sml_objects.specs.Views.{type_of};
 ghost use Rattle.sml_graph.specs.Interned.{IsOver, IsBodyOver, AreBodiesOver, demanded};
 
 use sml_objects::objects::MlType;
-use sml_solve::layer::Refusal;
+use sml_solve::demand::Refusal;
 use sml_solve::solver::Solver;
 use sml_tree::bare::Ident;
 use std::rc::Rc;

@@ -6,7 +6,7 @@ use crate::patterns::Variables;
 use crate::places::pattern_place;
 use crate::scopes::Mark;
 use sml_envs::objects::{Status, Value};
-use sml_graph::layer::Bound;
+use sml_layers::layer::Bound;
 use sml_lex::fault::{Memory, Place};
 use sml_objects::objects::{Initial, MlType, Scheme};
 use sml_tree::bare::{Ident, LongIdent};

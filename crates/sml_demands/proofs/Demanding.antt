@@ -7,23 +7,24 @@ use Rattle.std.specs.List.{AllByRecursion}
 use Rattle.sml_objects.specs.Initial.{Name}
 use Rattle.sml_objects.specs.Objects.{MlType}
 use Rattle.sml_graph.specs.declared.graph.Graph.{Graph}
-use Rattle.sml_graph.specs.declared.layer.Ask.{Ask}
-use Rattle.sml_graph.specs.declared.layer.Ask.TheVariants as A
-use Rattle.sml_graph.specs.declared.layer.Bound.TheVariants as B
-use Rattle.sml_graph.specs.declared.layer.Layer.{Layer}
-use Rattle.sml_graph.specs.declared.layer.Layer.TheVariants.{Equations, Finiteness, Newness, Locality, Equality, Classes, Rigidity}
+use Rattle.sml_graph.specs.declared.demand.Ask.{Ask}
+use Rattle.sml_graph.specs.declared.demand.Ask.TheVariants as A
+use Rattle.sml_layers.specs.declared.layer.Bound.TheVariants as B
+use Rattle.sml_layers.specs.declared.layer.Layer.{Layer}
+use Rattle.sml_layers.specs.declared.layer.Layer.TheVariants.{Equations, Finiteness, Newness, Locality, Equality, Classes, Rigidity}
 use Rattle.sml_graph.specs.declared.limits.Limit.{Limit}
 use Rattle.sml_graph.specs.declared.change.Change.{Change}
 use Rattle.sml_graph.specs.declared.node.Node.{Node}
 use Rattle.sml_graph.specs.declared.node.Node.TheVariants.{Unknown}
-use Rattle.sml_graph.specs.Worlds.{World, Assignment, finite, infinite, typed}
+use Rattle.sml_layers.specs.Worlds.{World, finite, infinite, typed, world}
+use Rattle.sml_graph.specs.Worlds.{Assignment}
 use Rattle.sml_graph.specs.Graphs.{node_at, Meets, IsSound}
 use Rattle.sml_graph.specs.Changes.{IsChange, SameOutside, AreInside}
 use Rattle.sml_graph.specs.Interned.{IsOver, through, Interns}
 use Rattle.sml_graph.specs.Ranks.{HasRank, no_order, order_at}
 use Rattle.sml_graph.specs.Limits.{no_limit, limit_at, MeetsAt, KeepsAt, KeepsThrough, IsClosed, IsClosedTo, IsFit, IsDoneBut, Lowers}
-use Rattle.sml_graph.specs.Layers.{place_of}
-use Rattle.sml_graph.specs.Asked.{Asked, asked_of, count, world, KeepsUpTo, Permits, layer_of, limit_of, IsAsAsked, Demand, equal, asks, Holds, CanMeet, IsFirstUnmet, Adds, IsMet, PermitsSame}
+use Rattle.sml_layers.specs.Layers.{place_of}
+use Rattle.sml_graph.specs.Asked.{Asked, asked_of, count, KeepsUpTo, Permits, layer_of, limit_of, IsAsAsked, Demand, equal, asks, Holds, CanMeet, IsFirstUnmet, Adds, IsMet, PermitsSame}
 use Rattle.sml_graph.specs.Whole.{IsFull, IsWhole, IsChanged, Finishes, FailsFirst, FailsAt, LowersLimit, IsKept}
 use Rattle.sml_graph.proofs.Changing.{has-map}
 use Rattle.sml_graph.proofs.Interning.{inside-at, typed-same, sound-more, get_or-left, get_or-right, beyond, beyond-below, beyond-above, meets-beyond}

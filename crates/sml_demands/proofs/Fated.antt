@@ -12,27 +12,29 @@ use Rattle.sml_objects.specs.Fates.{attributes, substitutes, type_or, standing_f
 use Rattle.sml_objects.specs.declared.objects.Scheme.{Scheme}
 use Rattle.sml_objects.specs.declared.fates.Fate.{Fate}
 use Rattle.sml_objects.specs.declared.fates.Fate.TheVariants.{Bind, Keep, Default}
-use Rattle.sml_graph.specs.declared.class.Names.{Names}
+use Rattle.sml_layers.specs.declared.class.Names.{Names}
 use Rattle.sml_graph.specs.declared.graph.Graph.{Graph}
-use Rattle.sml_graph.specs.declared.layer.Layer.{Layer}
-use Rattle.sml_graph.specs.declared.layer.Layer.TheVariants.{Equations, Finiteness, Newness, Locality, Equality, Classes, Rigidity}
+use Rattle.sml_layers.specs.declared.layer.Layer.{Layer}
+use Rattle.sml_layers.specs.declared.layer.Layer.TheVariants.{Equations, Finiteness, Newness, Locality, Equality, Classes, Rigidity}
 use Rattle.sml_graph.specs.declared.limits.Limit.{Limit}
 use Rattle.sml_graph.specs.declared.node.Node.{Node}
 use Rattle.sml_graph.specs.declared.node.Node.TheVariants.{Unknown, Link, App, Open}
-use Rattle.sml_graph.specs.Worlds.{finite, Assignment}
+use Rattle.sml_layers.specs.Worlds.{finite}
+use Rattle.sml_graph.specs.Worlds.{Assignment}
 use Rattle.sml_graph.specs.declared.fields.Fields.{Fields}
 use Rattle.sml_tree.specs.Trees.{Id}
-use Rattle.sml_objects.specs.Views.{types_of}
-use Rattle.sml_graph.specs.Rows.{HasFields, fields_at}
+use Rattle.sml_objects.specs.Objects.{types_of}
+use Rattle.sml_layers.specs.Rows.{fields_at}
+use Rattle.sml_graph.specs.Rows.{HasFields}
 use Rattle.sml_graph.specs.Graphs.{node_at, fields_of, Agrees, Meets, IsKnown}
 use Rattle.sml_graph.specs.Interned.{IsOver, AreOver, through, IsBodyOver, AreBodiesOver}
 use Rattle.sml_graph.specs.Bounds.{IsWithin, AreWithin}
-use Rattle.sml_graph.specs.Layers.{place_of}
+use Rattle.sml_layers.specs.Layers.{place_of}
 use Rattle.sml_graph.specs.Limits.{limit_at, MeetsBound, MeetsEquality, MeetsClass, MeetsAt, KeepsAt, FitsClass, IsFitNode}
 use Rattle.sml_graph.specs.Asked.{asked_of, Permits}
 use Rattle.sml_demands.specs.Fixed.{IsMarked}
 use Rattle.sml_demands.specs.Left.{IsFlexible, IsLeft}
-use Rattle.sml_graph.specs.Classes.{has_several, has_one}
+use Rattle.sml_layers.specs.Classes.{has_several, has_one}
 use Rattle.sml_demands.specs.Schemes.{IsInt, AsksEquality, IsFateOf, is_open, fate_of, fate_at}
 use Rattle.sml_graph.specs.Whole.{IsKept}
 use Rattle.sml_objects.specs.Views.{scheme_of}

@@ -8,7 +8,8 @@ use Rattle.sml_objects.specs.Objects.{MlType}
 use Rattle.sml_graph.specs.declared.change.Change.{Change}
 use Rattle.sml_graph.specs.declared.node.Node.{Node}
 use Rattle.sml_graph.specs.declared.node.Node.TheVariants.{Unknown}
-use Rattle.sml_graph.specs.Worlds.{finite, Assignment}
+use Rattle.sml_layers.specs.Worlds.{finite}
+use Rattle.sml_graph.specs.Worlds.{Assignment}
 use Rattle.sml_graph.specs.Graphs.{node_at, parts, Meets, AreOwners}
 use Rattle.sml_graph.specs.Changes.{HasChange, IsChange, IsOfAll, AreInside, AreCovered}
 use Rattle.sml_graph.specs.Interned.{Interns}

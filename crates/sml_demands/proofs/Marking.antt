@@ -13,13 +13,14 @@ use Rattle.sml_objects.specs.Maps.{lookup}
 use Rattle.sml_objects.specs.Objects as O
 use Rattle.sml_objects.specs.Sizes.{type_size, types_size}
 use Rattle.sml_objects.specs.Types.{assign, replace_type, replace_types}
-use Rattle.sml_objects.specs.Views.{types_of}
+use Rattle.sml_objects.specs.Objects.{types_of}
 use Rattle.sml_objects.specs.declared.objects.MlType.{MlType}
 use Rattle.sml_graph.specs.declared.graph.Graph.{Graph}
 use Rattle.sml_graph.specs.declared.node.Node.{Node}
 use Rattle.sml_demands.specs.declared.reading.Task.{Task}
 use Rattle.sml_demands.specs.declared.reading.Task.TheVariants.{Read}
-use Rattle.sml_graph.specs.Worlds.{finite, Assignment, make, typed}
+use Rattle.sml_layers.specs.Worlds.{finite, make, typed}
+use Rattle.sml_graph.specs.Worlds.{Assignment}
 use Rattle.sml_graph.specs.Graphs.{node_at, head_over, Meets, IsSound, IsLoose, AreOwners}
 use Rattle.sml_graph.specs.Interned.{through}
 use Rattle.sml_graph.specs.Ranks.{HasRank}

@@ -6,11 +6,13 @@ use Rattle.sml_objects.specs.Initial.{Name}
 use Rattle.sml_objects.specs.Maps.{Map, lookup}
 use Rattle.sml_objects.specs.Objects as O
 use Rattle.sml_objects.specs.Sizes.{type_size, types_size}
-use Rattle.sml_objects.specs.Views.{types_of}
+use Rattle.sml_objects.specs.Objects.{types_of}
 use Rattle.sml_objects.proofs.LabelPlaces.{label-exact}
 use Rattle.sml_objects.specs.Labels.{with_labels}
-use Rattle.sml_graph.specs.Rows.{AreDistinct, HasFields, fields_at, kids_of}
-use Rattle.sml_graph.specs.Worlds.{finite, Assignment}
+use Rattle.sml_layers.specs.Rows.{fields_at}
+use Rattle.sml_graph.specs.Rows.{AreDistinct, HasFields, kids_of}
+use Rattle.sml_layers.specs.Worlds.{finite}
+use Rattle.sml_graph.specs.Worlds.{Assignment}
 use Rattle.sml_demands.specs.Counted.{sizes_at}
 use Rattle.sml_graph.proofs.Rowing.{lookup-here, lookup-there, same_or_other, set_field, set_fields, labels_in, values_in, by_label, others-there, distinct-at, with-parts, values-of, list_of, components, components-row, open_row}
 

@@ -6,22 +6,23 @@ use Rattle.sml_objects.specs.Names as N
 use Rattle.sml_objects.specs.Initial.{Name, initial, naming}
 use Rattle.sml_objects.specs.Equality.{admits, all_admit}
 use Rattle.sml_objects.specs.Objects as O
-use Rattle.sml_objects.specs.Views.{types_of}
-use Rattle.sml_graph.specs.declared.class.Names.{Names}
+use Rattle.sml_objects.specs.Objects.{types_of}
+use Rattle.sml_layers.specs.declared.class.Names.{Names}
 use Rattle.sml_graph.specs.declared.graph.Graph.{Graph}
-use Rattle.sml_graph.specs.declared.layer.Layer.{Layer}
-use Rattle.sml_graph.specs.declared.layer.Layer.TheVariants.{Equations, Finiteness, Newness, Locality, Equality, Classes, Rigidity}
+use Rattle.sml_layers.specs.declared.layer.Layer.{Layer}
+use Rattle.sml_layers.specs.declared.layer.Layer.TheVariants.{Equations, Finiteness, Newness, Locality, Equality, Classes, Rigidity}
 use Rattle.sml_graph.specs.declared.limits.Limit.{Limit}
 use Rattle.sml_graph.specs.declared.node.Head.{Head}
 use Rattle.sml_graph.specs.declared.node.Node.{Node}
 use Rattle.sml_graph.specs.declared.node.Node.TheVariants.{Unknown, Link, App, Open}
-use Rattle.sml_graph.specs.declared.variable.Variables.{Variables}
-use Rattle.sml_graph.specs.declared.variable.Variables.TheVariants as V
-use Rattle.sml_graph.specs.Worlds.{finite, Assignment, make}
+use Rattle.sml_graph.specs.declared.variables.Variables.{Variables}
+use Rattle.sml_graph.specs.declared.variables.Variables.TheVariants as V
+use Rattle.sml_layers.specs.Worlds.{finite, make}
+use Rattle.sml_graph.specs.Worlds.{Assignment}
 use Rattle.sml_graph.specs.Graphs.{node_at, head_over, Agrees, Meets, IsSame, IsRootNode}
 use Rattle.sml_graph.specs.Interned.{through}
 use Rattle.sml_graph.specs.Bounds.{IsWithin, AreWithin}
-use Rattle.sml_graph.specs.Classes.{allows, has_several}
+use Rattle.sml_layers.specs.Classes.{allows, has_several}
 use Rattle.sml_graph.specs.Limits.{limit_at, MeetsBound, MeetsEquality, MeetsClass, MeetsAt, KeepsAt, IsFitNode}
 use Rattle.sml_graph.specs.Variables.{MeetsVariables, IsPossible, stand_in}
 use Rattle.sml_graph.specs.Asked.{asked_of, Permits}

@@ -10,20 +10,23 @@ use Rattle.sml_objects.specs.Initial.{Name}
 use Rattle.sml_objects.specs.Objects as O
 use Rattle.sml_objects.specs.Types.{assign, replace_type, replace_types}
 use Rattle.sml_objects.specs.Sizes.{type_size}
-use Rattle.sml_objects.specs.Views.{type_of, types_of}
+use Rattle.sml_objects.specs.Objects.{types_of}
+use Rattle.sml_objects.specs.Views.{type_of}
 use Rattle.sml_objects.specs.declared.objects.MlType.{MlType}
 use Rattle.sml_graph.specs.declared.graph.Graph.{Graph}
-use Rattle.sml_graph.specs.declared.layer.Layer.{Layer}
-use Rattle.sml_graph.specs.declared.layer.Layer.TheVariants.{Equations, Finiteness, Newness, Locality, Equality, Classes, Rigidity}
+use Rattle.sml_layers.specs.declared.layer.Layer.{Layer}
+use Rattle.sml_layers.specs.declared.layer.Layer.TheVariants.{Equations, Finiteness, Newness, Locality, Equality, Classes, Rigidity}
 use Rattle.sml_graph.specs.declared.node.Node.{Node}
 use Rattle.sml_graph.specs.declared.node.Node.TheVariants.{Unknown, Link, App, Open}
-use Rattle.sml_graph.specs.Worlds.{finite, Assignment, make, typed}
+use Rattle.sml_layers.specs.Worlds.{finite, make, typed}
+use Rattle.sml_graph.specs.Worlds.{Assignment}
 use Rattle.smallvec.specs.SmallVec.{SmallVec}
 use Rattle.sml_tree.specs.Trees.{Id}
 use Rattle.sml_objects.specs.Maps.{lookup}
 use Rattle.sml_graph.specs.declared.fields.Fields.{Fields}
 use Rattle.sml_graph.specs.declared.node.Head.{Head}
-use Rattle.sml_graph.specs.Rows.{HasFields, fields_at, kids_of}
+use Rattle.sml_layers.specs.Rows.{fields_at}
+use Rattle.sml_graph.specs.Rows.{HasFields, kids_of}
 use Rattle.sml_graph.specs.Graphs.{node_at, head_over, parts, fields_of, Agrees, Meets, IsSame, IsSound, IsSoundNode, IsRootNode, IsKnown, AreOwners, IsLoose}
 use Rattle.sml_graph.specs.Interned.{IsOver, AreOver, Interns, through}
 use Rattle.sml_graph.specs.Ranks.{IsRanked, HasRank}

@@ -14,7 +14,8 @@ use Rattle.sml_objects.specs.Initial.{Name}
 use Rattle.sml_objects.specs.Objects as O
 use Rattle.sml_objects.specs.Sizes.{type_size}
 use Rattle.sml_objects.specs.Types.{assign}
-use Rattle.sml_objects.specs.Views.{type_of, types_of}
+use Rattle.sml_objects.specs.Objects.{types_of}
+use Rattle.sml_objects.specs.Views.{type_of}
 use Rattle.sml_objects.specs.declared.objects.MlType.{MlType}
 use Rattle.smallvec.specs.SmallVec.{SmallVec}
 use Rattle.sml_graph.specs.declared.node.Head.{Head}
@@ -22,7 +23,8 @@ use Rattle.sml_graph.specs.declared.node.Node.{Node}
 use Rattle.sml_graph.specs.declared.node.Node.TheVariants.{Unknown, Link, App, Open}
 use Rattle.sml_demands.specs.declared.reading.Task.{Task}
 use Rattle.sml_demands.specs.declared.reading.Task.TheVariants.{Read, Apply}
-use Rattle.sml_graph.specs.Worlds.{finite, Assignment, make}
+use Rattle.sml_layers.specs.Worlds.{finite, make}
+use Rattle.sml_graph.specs.Worlds.{Assignment}
 use Rattle.sml_graph.specs.Graphs.{node_at, head_over, IsSame, IsSoundNode, IsCountOf, IsRootNode, IsKnown, IsLoose}
 use Rattle.sml_graph.specs.Interned.{through, sizes}
 use Rattle.sml_graph.specs.Ranks.{HasRank}

@@ -11,19 +11,21 @@ use Rattle.sml_objects.specs.Objects as O
 use Rattle.sml_objects.specs.Views.{type_of}
 use Rattle.sml_objects.specs.declared.objects.MlType.{MlType}
 use Rattle.sml_graph.specs.declared.graph.Graph.{Graph}
-use Rattle.sml_graph.specs.declared.layer.Layer.{Layer}
-use Rattle.sml_graph.specs.declared.layer.Layer.TheVariants.{Equations}
+use Rattle.sml_layers.specs.declared.layer.Layer.{Layer}
+use Rattle.sml_layers.specs.declared.layer.Layer.TheVariants.{Equations}
 use Rattle.sml_graph.specs.declared.change.Change.{Change}
 use Rattle.sml_graph.specs.declared.node.Node.{Node}
 use Rattle.sml_graph.specs.declared.node.Node.TheVariants.{Link, Open}
-use Rattle.sml_graph.specs.Worlds.{World, In, Assignment, finite, infinite, typed}
-use Rattle.sml_graph.specs.Rows.{HasFields, IsField, fields_at, kids_of}
+use Rattle.sml_layers.specs.Worlds.{World, finite, infinite, typed, world}
+use Rattle.sml_graph.specs.Worlds.{In, Assignment}
+use Rattle.sml_layers.specs.Rows.{fields_at}
+use Rattle.sml_graph.specs.Rows.{HasFields, IsField, kids_of}
 use Rattle.sml_graph.specs.Graphs.{node_at, fields_of, Meets, MeetsPairs, SameSolutions, HasNoSolution, ArePairsIn, IsSound, IsKnown, AreOwners, parts}
 use Rattle.sml_graph.specs.Changes.{Changes, HasChange, IsChange, SameOutside, AreInside}
 use Rattle.sml_graph.specs.Interned.{IsOver, through, Interns, InternsFields, IsPushed, IsRowWith, AsksRow, demanded}
 use Rattle.sml_graph.specs.Ranks.{HasRank, order_at, AreOrdered}
 use Rattle.sml_graph.specs.Limits.{limit_at, IsClosed, IsFit}
-use Rattle.sml_graph.specs.Asked.{asked_of, world, Permits, has_fields, CanMeet, IsFirstUnmet}
+use Rattle.sml_graph.specs.Asked.{asked_of, Permits, has_fields, CanMeet, IsFirstUnmet}
 use Rattle.sml_demands.specs.Levels.{Moves}
 use Rattle.sml_graph.specs.Whole.{IsFull, IsWhole, IsChanged, Finishes, IsKept}
 use Rattle.sml_graph.proofs.Rowing.{Key, has-front, has-back, has-both}

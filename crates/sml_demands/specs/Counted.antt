@@ -4,9 +4,10 @@ use Rattle.sml_objects.specs.Initial.{Name}
 use Rattle.sml_objects.specs.Objects.{MlType}
 use Rattle.sml_objects.specs.Sizes.{type_size}
 use Rattle.sml_objects.specs.Types.{assign}
-use Rattle.sml_graph.specs.declared.layer.Layer.TheVariants.{Finiteness}
+use Rattle.sml_layers.specs.declared.layer.Layer.TheVariants.{Finiteness}
 use Rattle.sml_graph.specs.declared.node.Node.{Node}
-use Rattle.sml_graph.specs.Worlds.{finite, Assignment}
+use Rattle.sml_layers.specs.Worlds.{finite}
+use Rattle.sml_graph.specs.Worlds.{Assignment}
 use Rattle.sml_graph.specs.Graphs.{node_at, parts, Meets, IsRoot}
 use Rattle.sml_graph.specs.Asked.{Asked, Permits}
 

@@ -1,9 +1,10 @@
 -- Unknowns whose type others fix: those that are in the context of a declaration.
 use Rattle.std.specs.Prelude.{◌≡◌, ℕ, suc, ◌+◌, ◌<◌, ◌⊎◌, map, Bool, true, false, cond, List, [], ◌∷◌, length, slice_index, slice_index_or}
 use Rattle.std.specs.List.{AllByRecursion}
-use Rattle.sml_graph.specs.declared.layer.Layer.TheVariants.{Finiteness}
+use Rattle.sml_layers.specs.declared.layer.Layer.TheVariants.{Finiteness}
 use Rattle.sml_graph.specs.declared.node.Node.{Node}
-use Rattle.sml_graph.specs.Worlds.{finite, Assignment}
+use Rattle.sml_layers.specs.Worlds.{finite}
+use Rattle.sml_graph.specs.Worlds.{Assignment}
 use Rattle.sml_graph.specs.Graphs.{node_at, parts, Meets, IsAmong}
 use Rattle.sml_graph.specs.Asked.{Asked, count, Permits}
 use Rattle.sml_demands.specs.Left.{IsUndetermined}

@@ -5,12 +5,14 @@ use Rattle.sml_tree.specs.Trees.{Id}
 use Rattle.sml_objects.specs.Initial.{Name}
 use Rattle.sml_objects.specs.Objects.{MlType, MlTypes, row, bound, free, app, no_type, and_type}
 use Rattle.sml_objects.specs.Types.{assign}
-use Rattle.sml_graph.specs.declared.layer.Layer.{Layer}
-use Rattle.sml_graph.specs.declared.layer.Layer.TheVariants.{Finiteness}
-use Rattle.sml_graph.specs.Worlds.{World, finite, In, Assignment, make, typed}
-use Rattle.sml_graph.specs.Rows.{HasFields, fields_at}
-use Rattle.sml_graph.specs.Layers.{place_of}
-use Rattle.sml_graph.specs.Asked.{Asked, count, world, Permits}
+use Rattle.sml_layers.specs.declared.layer.Layer.{Layer}
+use Rattle.sml_layers.specs.declared.layer.Layer.TheVariants.{Finiteness}
+use Rattle.sml_layers.specs.Worlds.{World, finite, make, typed, world}
+use Rattle.sml_graph.specs.Worlds.{In, Assignment}
+use Rattle.sml_layers.specs.Rows.{fields_at}
+use Rattle.sml_graph.specs.Rows.{HasFields}
+use Rattle.sml_layers.specs.Layers.{place_of}
+use Rattle.sml_graph.specs.Asked.{Asked, count, Permits}
 
 -- No variable of the type is bound by a scheme, and P holds of each.
 unfoldable mutual

@@ -4,7 +4,8 @@ use Rattle.std.specs.List.{AllByRecursion}
 use Rattle.sml_graph.specs.declared.graph.Graph.{Graph}
 use Rattle.sml_graph.specs.declared.change.Change.{Change}
 use Rattle.sml_graph.specs.declared.node.Node.{Node}
-use Rattle.sml_graph.specs.Worlds.{finite, Assignment}
+use Rattle.sml_layers.specs.Worlds.{finite}
+use Rattle.sml_graph.specs.Worlds.{Assignment}
 use Rattle.sml_graph.specs.Graphs.{node_at, parts, Meets, IsAmong, IsSame, IsRoot}
 use Rattle.sml_graph.specs.Changes.{HasChange, BeginsWith, IsChange, IsOfAll, AreInside}
 use Rattle.sml_demands.specs.Fixed.{IsFixedBy, IsMarked}

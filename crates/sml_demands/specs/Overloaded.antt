@@ -3,14 +3,15 @@ use Rattle.std.specs.Prelude.{◌≡◌, ◌≢◌, ℕ, ◌<◌, ◌≤◌, ◌
 use Rattle.sml_objects.specs.Names.{Initial, int}
 use Rattle.sml_objects.specs.Initial.{initial}
 use Rattle.sml_objects.specs.Objects.{name, named}
-use Rattle.sml_graph.specs.declared.layer.Layer.{Layer}
-use Rattle.sml_graph.specs.declared.layer.Layer.TheVariants.{Rigidity}
+use Rattle.sml_layers.specs.declared.layer.Layer.{Layer}
+use Rattle.sml_layers.specs.declared.layer.Layer.TheVariants.{Rigidity}
 use Rattle.sml_graph.specs.declared.limits.Limit.{Limit}
 use Rattle.sml_graph.specs.declared.node.Node.{Node}
 use Rattle.sml_graph.specs.declared.node.Node.TheVariants.{Unknown, Link, App, Open}
-use Rattle.sml_graph.specs.Worlds.{finite, Assignment, make}
-use Rattle.sml_graph.specs.Asked.{Asked, Permits, world}
-use Rattle.sml_graph.specs.Classes.{has_several}
+use Rattle.sml_layers.specs.Worlds.{finite, make, world}
+use Rattle.sml_graph.specs.Worlds.{Assignment}
+use Rattle.sml_graph.specs.Asked.{Asked, Permits}
+use Rattle.sml_layers.specs.Classes.{has_several}
 
 -- By all that was asked, it is an initial name, and more than one could it still be.
 pub record IsOverloaded (s : Asked) (v : ℕ) : Type 0 where

@@ -15,7 +15,8 @@ use Rattle.sml_graph.specs.declared.node.Node.{Node}
 use Rattle.sml_graph.specs.declared.node.Node.TheVariants.{App}
 use Rattle.sml_demands.specs.declared.reading.Task.{Task}
 use Rattle.sml_demands.specs.declared.reading.Task.TheVariants.{Read, Apply}
-use Rattle.sml_graph.specs.Worlds.{finite, Assignment, make}
+use Rattle.sml_layers.specs.Worlds.{finite, make}
+use Rattle.sml_graph.specs.Worlds.{Assignment}
 use Rattle.sml_graph.specs.Graphs.{head_over, node_at, Meets, IsSame, IsCountOf, IsLoose}
 use Rattle.sml_graph.specs.Interned.{through, sizes}
 use Rattle.sml_demands.specs.Left.{IsMadeOf}

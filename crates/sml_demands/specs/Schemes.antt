@@ -8,17 +8,18 @@ use Rattle.sml_objects.specs.Objects.{MlType, Scheme, named}
 use Rattle.sml_objects.specs.Types.{variables_after}
 use Rattle.sml_objects.specs.declared.fates.Fate.{Fate}
 use Rattle.sml_objects.specs.declared.fates.Fate.TheVariants.{Bind, Keep, Default}
-use Rattle.sml_graph.specs.declared.layer.Layer.{Layer}
-use Rattle.sml_graph.specs.declared.layer.Layer.TheVariants.{Finiteness, Equality, Classes}
+use Rattle.sml_layers.specs.declared.layer.Layer.{Layer}
+use Rattle.sml_layers.specs.declared.layer.Layer.TheVariants.{Finiteness, Equality, Classes}
 use Rattle.sml_graph.specs.declared.limits.Limit.{Limit}
 use Rattle.sml_graph.specs.declared.node.Node.{Node}
 use Rattle.sml_graph.specs.declared.node.Node.TheVariants.{Unknown, Link, App, Open}
-use Rattle.sml_graph.specs.Worlds.{finite, In, Assignment, typed}
+use Rattle.sml_layers.specs.Worlds.{finite, typed, world}
+use Rattle.sml_graph.specs.Worlds.{In, Assignment}
 use Rattle.sml_graph.specs.Graphs.{node_at}
 use Rattle.sml_graph.specs.Limits.{limit_at}
-use Rattle.sml_graph.specs.Asked.{Asked, Permits, world}
+use Rattle.sml_graph.specs.Asked.{Asked, Permits}
 use Rattle.sml_demands.specs.Left.{IsLeft, IsFlexible, IsReading}
-use Rattle.sml_graph.specs.Classes.{has_one}
+use Rattle.sml_layers.specs.Classes.{has_one}
 use Rattle.sml_demands.specs.Fixed.{IsMarked}
 
 -- by its class, the unknown can be no other type than int

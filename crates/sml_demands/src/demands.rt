@@ -3,8 +3,9 @@
 ghost use Rattle.std.specs.Prelude.{◌≡◌, ℕ, false, ◌<◌, [], length, IfOk, OnOk, Err};
 ghost use Rattle.std.specs.List.{AllByRecursion};
 ghost use Rattle.sml_objects.specs.Views.{type_of, maker_of};
-ghost use Rattle.sml_graph.specs.declared.layer.Layer.{Layer};
-ghost use Rattle.sml_graph.specs.Worlds.{World, Assignment};
+ghost use Rattle.sml_layers.specs.declared.layer.Layer.{Layer};
+ghost use Rattle.sml_layers.specs.Worlds.{World};
+ghost use Rattle.sml_graph.specs.Worlds.{Assignment};
 ghost use Rattle.sml_graph.specs.Graphs.{IsSound, Meets, AreOwners, fields_of};
 ghost use Rattle.sml_graph.specs.Interned.{IsOver, IsPushed, InternsFields, IsRowWith, AsksRow, demanded};
 ghost use Rattle.sml_graph.specs.Limits.{limit_at};
@@ -14,12 +15,13 @@ ghost use Rattle.sml_demands.specs.Levels.{Moves};
 ghost use Rattle.sml_graph.specs.Whole.{IsFull, IsWhole, IsChanged, IsKept, LowersLimit};
 
 use sml_graph::change::Change;
+use sml_graph::demand::{Ask, Refusal};
 use sml_graph::fields::Fields;
 use sml_graph::graph::{Graph, add, fill, finish, merge_two};
-use sml_graph::layer::{Ask, Layer, Refusal};
 use sml_graph::limits::{Limit, lower};
 use sml_graph::merge::{Unsolved, solve};
 use sml_graph::node::Node;
+use sml_layers::layer::Layer;
 use sml_lex::fault::Memory;
 use sml_objects::objects::{MlType, UnitId};
 use sml_tree::bare::Ident;

@@ -6,29 +6,30 @@ use Rattle.std.specs.List.{AllByRecursion}
 use Rattle.sml_objects.specs.Names as N
 use Rattle.sml_objects.specs.Initial.{Name, initial, made, naming, attributes_of}
 use Rattle.sml_objects.specs.Equality.{admits, all_admit, is_reference_name}
-use Rattle.sml_objects.specs.Objects.{MlType, MlTypes, Head, bound, free, app, arrow, row, name, no_type, and_type, named}
-use Rattle.sml_objects.specs.Views.{types_of}
+use Rattle.sml_objects.specs.Objects.{MlType, MlTypes, Head, bound, free, app, arrow, row, name, no_type, and_type, named, types_of}
 use Rattle.sml_objects.proofs.EqualityViews.{is_ref-name}
-use Rattle.sml_graph.specs.declared.class.Names.{Names}
-use Rattle.sml_graph.specs.declared.layer.Layer.{Layer}
-use Rattle.sml_graph.specs.declared.layer.Layer.TheVariants.{Equations, Finiteness, Newness, Locality, Equality, Classes, Rigidity}
+use Rattle.sml_layers.specs.declared.class.Names.{Names}
+use Rattle.sml_layers.specs.declared.layer.Layer.{Layer}
+use Rattle.sml_layers.specs.declared.layer.Layer.TheVariants.{Equations, Finiteness, Newness, Locality, Equality, Classes, Rigidity}
 use Rattle.sml_graph.specs.declared.limits.Limit.{Limit}
 use Rattle.sml_graph.specs.declared.node.Node.{Node}
 use Rattle.sml_graph.specs.declared.node.Node.TheVariants.{Unknown, Link, App, Open}
-use Rattle.sml_graph.specs.Worlds.{finite, Assignment, make}
+use Rattle.sml_layers.specs.Worlds.{finite, make}
+use Rattle.sml_graph.specs.Worlds.{Assignment}
 use Rattle.sml_graph.specs.Graphs.{parts, head_over, fields_of, Agrees, IsKnown}
 use Rattle.sml_tree.specs.Trees.{Id}
 use Rattle.sml_objects.specs.Maps.{lookup}
 use Rattle.sml_objects.specs.Labels.{with_labels}
-use Rattle.sml_graph.specs.Rows.{fields_at, kids_of}
+use Rattle.sml_layers.specs.Rows.{fields_at}
+use Rattle.sml_graph.specs.Rows.{kids_of}
 use Rattle.sml_graph.proofs.Rowing.{set_fields, labels_in, values_in, components, list_of, types-list_of, open_row, open-all, all-components, all-at-fields, row-found}
 use Rattle.sml_graph.specs.Bounds.{IsNameWithin, IsHeadWithin, IsWithin, AreWithin}
-use Rattle.sml_graph.specs.Classes.{allows, both_names}
+use Rattle.sml_layers.specs.Classes.{allows, both_names}
 use Rattle.sml_graph.specs.Limits.{no_limit, MeetsBound, MeetsEquality, MeetsClass, MeetsAt, KeepsThrough, IsUnder, IsOfBoth, both_bounds, both_classes, both, FitsBound, FitsEquality, FitsClass, FitsAt, IsFitUnknown, IsFitNode, asks_parts, for_parts, handed, bound_height, class_height, height}
-use Rattle.sml_graph.specs.Layers.{place_of}
-use Rattle.sml_graph.specs.declared.variable.Variable.{Variable}
-use Rattle.sml_graph.specs.declared.variable.Variables.{Variables}
-use Rattle.sml_graph.specs.declared.variable.Variables.TheVariants as V
+use Rattle.sml_layers.specs.Layers.{place_of}
+use Rattle.sml_layers.specs.declared.variable.Variable.{Variable}
+use Rattle.sml_graph.specs.declared.variables.Variables.{Variables}
+use Rattle.sml_graph.specs.declared.variables.Variables.TheVariants as V
 use Rattle.sml_graph.specs.Variables.{variable_type, is_same, both_variables, MeetsVariables, FitsVariables, IsPossible, stand_in, variables_height}
 
 -- types within a bound

@@ -9,13 +9,15 @@ use Rattle.sml_objects.specs.Initial.{Name}
 use Rattle.sml_objects.specs.Objects as O
 use Rattle.sml_objects.specs.Types.{replace_type, replace_types, assign, instance_from}
 use Rattle.sml_objects.specs.Sizes.{type_size, types_size}
-use Rattle.sml_objects.specs.Views.{types_of}
+use Rattle.sml_objects.specs.Objects.{types_of}
 use Rattle.sml_graph.specs.declared.node.Head.{Head}
 use Rattle.sml_graph.specs.declared.node.Node.{Node}
 use Rattle.sml_graph.specs.declared.node.Node.TheVariants.{Unknown, Link, App, Open}
-use Rattle.sml_graph.specs.Worlds.{World, finite, infinite, In, Assignment, make, tree, spread, spread_all, typed}
+use Rattle.sml_layers.specs.Worlds.{World, finite, infinite, make, tree, spread, spread_all, typed}
+use Rattle.sml_graph.specs.Worlds.{In, Assignment}
 use Rattle.sml_tree.specs.Trees.{Id}
-use Rattle.sml_graph.specs.Rows.{HasFields, fields_at, kids_of}
+use Rattle.sml_layers.specs.Rows.{fields_at}
+use Rattle.sml_graph.specs.Rows.{HasFields, kids_of}
 use Rattle.sml_graph.specs.Graphs.{node_at, Agrees, Meets, IsSound, IsSoundNode, IsCountOf, IsKnown, fields_of, parts, head_over}
 use Rattle.sml_graph.specs.Interned.{IsOver, AreOver, IsBodyOver, AreBodiesOver, through, Interns, IsInterning, numbers, IsHeadOver, IsUnknownAt, Expands, sizes}
 use Rattle.sml_graph.proofs.Merging.{same_or_not, all-append}

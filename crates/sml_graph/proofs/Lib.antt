@@ -10,3 +10,5 @@ pub mod Ranking
 pub mod Ordering
 pub mod Walks
 pub mod Wholeness
+pub mod Rebounds
+pub mod Saying

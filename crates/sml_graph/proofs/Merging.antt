@@ -25,9 +25,11 @@ use Rattle.sml_graph.specs.declared.merge.Unsolved.{Unsolved}
 use Rattle.sml_graph.specs.declared.node.Head.{Head}
 use Rattle.sml_graph.specs.declared.node.Node.{Node}
 use Rattle.sml_graph.specs.declared.node.Node.TheVariants.{Unknown, Link, App, Open}
-use Rattle.sml_graph.specs.Worlds.{World, In, Assignment, make}
+use Rattle.sml_layers.specs.Worlds.{World, make}
+use Rattle.sml_graph.specs.Worlds.{In, Assignment}
 use Rattle.sml_objects.specs.Labels.{with_labels}
-use Rattle.sml_graph.specs.Rows.{HasFields, IsField, fields_at, kids_of}
+use Rattle.sml_layers.specs.Rows.{fields_at}
+use Rattle.sml_graph.specs.Rows.{HasFields, IsField, kids_of}
 use Rattle.sml_graph.specs.Graphs.{head_over, node_at, Agrees, Meets, MeetsPairs, pairs_of, SameSolutions, HasNoSolution, IsSound, IsSoundNode, ArePairsIn, IsRootNode, IsSame, IsKnown, size, weight, Merges, AreApart, Joins, JoinsFields, JoinsRow, LacksLabel, fields_of, IsAmong, Leads}
 use Rattle.sml_graph.proofs.Worlding.{app_head, app_parts}
 use Rattle.sml_graph.proofs.Rowing.{Key, same-some, none-some, row-found, row-labels, labels-map, lookup-at, all-front, all-back, fields-known, has-these, has-front, has-back, has-both, field-found}

@@ -9,23 +9,25 @@ use Rattle.sml_objects.specs.Maps.{lookup}
 use Rattle.sml_objects.specs.Initial.{Name, initial, made}
 use Rattle.sml_objects.specs.Objects as O
 use Rattle.sml_objects.specs.Sizes.{type_size, types_size}
-use Rattle.sml_objects.specs.Views.{types_of}
-use Rattle.sml_graph.specs.declared.layer.Layer.{Layer}
-use Rattle.sml_graph.specs.declared.layer.Layer.TheVariants.{Rigidity}
+use Rattle.sml_objects.specs.Objects.{types_of}
+use Rattle.sml_layers.specs.declared.layer.Layer.{Layer}
+use Rattle.sml_layers.specs.declared.layer.Layer.TheVariants.{Rigidity}
 use Rattle.sml_graph.specs.declared.limits.Limit.{Limit}
 use Rattle.sml_graph.specs.declared.node.Node.{Node}
 use Rattle.sml_graph.specs.declared.node.Node.TheVariants.{Unknown, Link, App, Open}
-use Rattle.sml_graph.specs.Worlds.{finite, Assignment, make}
+use Rattle.sml_layers.specs.Worlds.{finite, make}
+use Rattle.sml_graph.specs.Worlds.{Assignment}
 use Rattle.sml_graph.specs.Graphs.{node_at, parts, head_over, fields_of, Agrees, Meets, IsSound, IsSoundNode, IsKnown}
 use Rattle.sml_graph.specs.Ranks.{HasFinite, IsRanked, HasRank}
 use Rattle.sml_graph.specs.Limits.{limit_at, MeetsAt, KeepsAt, IsUnder, IsFitNode, handed, IsClosed, IsFit}
-use Rattle.sml_graph.specs.Layers.{place_of}
-use Rattle.sml_graph.specs.declared.class.Names.{Names}
+use Rattle.sml_layers.specs.Layers.{place_of}
+use Rattle.sml_layers.specs.declared.class.Names.{Names}
 use Rattle.sml_graph.specs.declared.fields.Fields.{Fields}
-use Rattle.sml_graph.specs.declared.variable.Variables.{Variables}
-use Rattle.sml_graph.specs.declared.variable.Variables.TheVariants as V
+use Rattle.sml_graph.specs.declared.variables.Variables.{Variables}
+use Rattle.sml_graph.specs.declared.variables.Variables.TheVariants as V
 use Rattle.sml_objects.specs.Labels.{with_labels}
-use Rattle.sml_graph.specs.Rows.{HasFields, fields_at, kids_of}
+use Rattle.sml_layers.specs.Rows.{fields_at}
+use Rattle.sml_graph.specs.Rows.{HasFields, kids_of}
 use Rattle.sml_graph.specs.Variables.{FitsVariables, IsPossible, stand_in}
 use Rattle.sml_graph.proofs.Interning.{map-alike, fields-alike}
 use Rattle.sml_graph.proofs.Searching.{all-parts}

@@ -16,13 +16,14 @@ use Rattle.sml_tree.specs.Trees.{Id}
 use Rattle.sml_tree.specs.Views.{ident_of}
 use Rattle.sml_objects.specs.Initial.{Name}
 use Rattle.sml_objects.specs.Maps.{Map, lookup, by_order, order_of}
-use Rattle.sml_objects.specs.Objects.{MlType, MlTypes, Head, bound, free, app, arrow, row, name, no_type, and_type}
-use Rattle.sml_objects.specs.Views.{types_of}
+use Rattle.sml_objects.specs.Objects.{MlType, MlTypes, Head, bound, free, app, arrow, row, name, no_type, and_type, types_of}
 use Rattle.sml_objects.specs.Labels.{label_order, AreRising, with_labels}
 use Rattle.sml_objects.proofs.RisingLabels.{label_total}
 use Rattle.sml_objects.proofs.LabelPlaces.{label-exact}
-use Rattle.sml_graph.specs.Rows.{AreDistinct, HasFields, IsField, field_list, fields_at, kids_of}
-use Rattle.sml_graph.specs.Worlds.{World, finite, In, make}
+use Rattle.sml_layers.specs.Rows.{fields_at}
+use Rattle.sml_graph.specs.Rows.{AreDistinct, HasFields, IsField, field_list, kids_of}
+use Rattle.sml_layers.specs.Worlds.{World, finite, make}
+use Rattle.sml_graph.specs.Worlds.{In}
 use Rattle.sml_graph.proofs.Worlding.{app_head, app_parts}
 
 -- fields as the code reads them

@@ -7,9 +7,11 @@ use Rattle.sml_objects.specs.Maps.{Map}
 use Rattle.sml_objects.specs.Objects.{Head, row}
 use Rattle.sml_graph.specs.declared.node.Node.{Node}
 use Rattle.sml_graph.specs.declared.node.Node.TheVariants.{Unknown, Link, App, Open}
-use Rattle.sml_graph.specs.Worlds.{infinite, Assignment, tree}
+use Rattle.sml_layers.specs.Worlds.{infinite, tree}
+use Rattle.sml_graph.specs.Worlds.{Assignment}
 use Rattle.sml_graph.specs.declared.fields.Fields.{Fields}
-use Rattle.sml_graph.specs.Rows.{HasFields, fields_at}
+use Rattle.sml_layers.specs.Rows.{fields_at}
+use Rattle.sml_graph.specs.Rows.{HasFields}
 use Rattle.sml_graph.proofs.Rowing.{set_fields, labels_in, values_in, sets-at, labels-at, values-at, row_with, row_with-has, rising-sets, rising-none, sets-found, distinct-at}
 use Rattle.sml_graph.specs.Graphs.{node_at, head_over, fields_of, Agrees, Meets, IsSound, IsSoundNode}
 

@@ -8,16 +8,17 @@ use Rattle.std.specs.Option.{IfSome}
 use Rattle.sml_objects.specs.Initial.{Name}
 use Rattle.sml_objects.specs.Objects.{MlType}
 use Rattle.sml_graph.specs.declared.graph.Graph.{Graph}
-use Rattle.sml_graph.specs.declared.layer.Layer.{Layer}
-use Rattle.sml_graph.specs.declared.layer.Layer.TheVariants.{Equations, Finiteness, Newness, Locality, Equality, Classes, Rigidity}
+use Rattle.sml_layers.specs.declared.layer.Layer.{Layer}
+use Rattle.sml_layers.specs.declared.layer.Layer.TheVariants.{Equations, Finiteness, Newness, Locality, Equality, Classes, Rigidity}
 use Rattle.sml_graph.specs.declared.limits.Limit.{Limit}
 use Rattle.sml_graph.specs.declared.node.Node.{Node}
-use Rattle.sml_graph.specs.Worlds.{World, finite, Assignment}
+use Rattle.sml_layers.specs.Worlds.{World, finite}
+use Rattle.sml_graph.specs.Worlds.{Assignment}
 use Rattle.sml_graph.specs.Graphs.{node_at, parts, Meets, MeetsPairs, SameSolutions, HasNoSolution}
 use Rattle.sml_graph.specs.Interned.{Interns}
 use Rattle.sml_graph.specs.Ranks.{HasRank, no_order, order_at, AreFrom, AreOrdered, IsOrdered, IsSearch}
 use Rattle.sml_graph.specs.Limits.{no_limit, limit_at, KeepsAt, IsClosed, IsFit, IsBefore, SameLimits, NoneKeeps}
-use Rattle.sml_graph.specs.Layers.{place_of}
+use Rattle.sml_layers.specs.Layers.{place_of}
 use Rattle.sml_graph.specs.Whole.{FailsFirst, FailsAt}
 use Rattle.sml_graph.proofs.Asking.{nothing-asked}
 use Rattle.sml_graph.proofs.Searching.{all-parts}

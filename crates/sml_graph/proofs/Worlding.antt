@@ -2,9 +2,9 @@
 use Rattle.std.proofs.Common.{◌≡◌, ℕ, List, [], ◌∷◌, length, Some, None, sym, ◌∙◌, ap, refl}
 use Rattle.std.proofs.lemmas.List.{ext_get_or}
 use Rattle.sml_objects.specs.Initial.{Name}
-use Rattle.sml_objects.specs.Objects.{MlType, Head, app}
-use Rattle.sml_objects.specs.Views.{types_of}
-use Rattle.sml_graph.specs.Worlds.{World, finite, infinite, In, Tree, make}
+use Rattle.sml_objects.specs.Objects.{MlType, Head, app, types_of}
+use Rattle.sml_layers.specs.Worlds.{World, finite, infinite, make}
+use Rattle.sml_graph.specs.Worlds.{In, Tree}
 
 pub types_of-injective : (ts us : List (MlType Name)) → types_of ts ≡ types_of us → ts ≡ us
 types_of-injective [] [] e = refl

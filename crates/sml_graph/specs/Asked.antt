@@ -6,23 +6,25 @@ use Rattle.sml_objects.specs.Initial.{Name, naming}
 use Rattle.sml_objects.specs.Objects.{MlType, Scheme}
 use Rattle.sml_objects.specs.Types.{assign}
 use Rattle.sml_graph.specs.declared.graph.Graph.{Graph}
-use Rattle.sml_graph.specs.declared.layer.Ask.{Ask}
-use Rattle.sml_graph.specs.declared.layer.Ask.TheVariants as A
-use Rattle.sml_graph.specs.declared.layer.Bound.TheVariants as B
-use Rattle.sml_graph.specs.declared.layer.Layer.{Layer}
-use Rattle.sml_graph.specs.declared.layer.Layer.TheVariants.{Equations, Finiteness, Newness, Locality, Equality, Classes, Rigidity}
+use Rattle.sml_graph.specs.declared.demand.Ask.{Ask}
+use Rattle.sml_graph.specs.declared.demand.Ask.TheVariants as A
+use Rattle.sml_layers.specs.declared.layer.Bound.TheVariants as B
+use Rattle.sml_layers.specs.declared.layer.Layer.{Layer}
+use Rattle.sml_layers.specs.declared.layer.Layer.TheVariants.{Equations, Finiteness, Newness, Locality, Equality, Classes, Rigidity}
 use Rattle.sml_graph.specs.declared.limits.Limit.{Limit}
 use Rattle.sml_graph.specs.declared.node.Node.{Node}
-use Rattle.sml_graph.specs.declared.variable.Variables.TheVariants as V
-use Rattle.sml_graph.specs.Worlds.{World, Assignment, finite, infinite, typed}
-use Rattle.sml_graph.specs.Rows.{HasFields, fields_at}
+use Rattle.sml_graph.specs.declared.variables.Variables.TheVariants as V
+use Rattle.sml_layers.specs.Worlds.{finite, typed, world}
+use Rattle.sml_graph.specs.Worlds.{Assignment}
+use Rattle.sml_layers.specs.Rows.{fields_at}
+use Rattle.sml_graph.specs.Rows.{HasFields}
 use Rattle.sml_graph.specs.Graphs.{Meets}
 use Rattle.sml_graph.specs.Interned.{IsOver, IsBodyOver, through}
 use Rattle.sml_graph.specs.Bounds.{IsWithin}
-use Rattle.sml_graph.specs.Classes.{names_in, IsIn}
-use Rattle.sml_graph.specs.Limits.{no_limit, KeepsThrough}
+use Rattle.sml_layers.specs.Classes.{names_in}
+use Rattle.sml_graph.specs.Limits.{no_limit, IsIn, KeepsThrough}
 use Rattle.sml_graph.specs.Variables.{variable_type}
-use Rattle.sml_graph.specs.Layers.{place_of}
+use Rattle.sml_layers.specs.Layers.{place_of}
 
 -- A solver. Callers see of it the number of its unknowns, whether it is spent, and what `Permits` says.
 pub record Asked : Type 0 where
@@ -38,16 +40,6 @@ asked_of u us g b = record { nodes = g.nodes.items; unknowns = us; unit = u; lim
 -- how many unknowns there are
 abbrev pub count : Asked → ℕ
 count s = length s.unknowns
-
--- only the first layer is over infinite types
-abbrev pub world : Layer → World
-world Equations = infinite
-world Finiteness = finite
-world Newness = finite
-world Locality = finite
-world Equality = finite
-world Classes = finite
-world Rigidity = finite
 
 -- what is asked of single nodes in the layers up to this one
 abbrev pub KeepsUpTo : (l : Layer) → ℕ → List Limit → Assignment (world l) → Type 0

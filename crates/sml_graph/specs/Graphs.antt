@@ -12,8 +12,10 @@ use Rattle.sml_graph.specs.declared.node.Head.{Head}
 use Rattle.sml_graph.specs.declared.node.Head.TheVariants.{Arrow, Row, Name as Applied}
 use Rattle.sml_graph.specs.declared.node.Node.{Node}
 use Rattle.sml_graph.specs.declared.node.Node.TheVariants.{Unknown, Link, App, Open}
-use Rattle.sml_graph.specs.Worlds.{World, In, Assignment, make}
-use Rattle.sml_graph.specs.Rows.{HasFields, IsField, field_list, fields_at, kids_of}
+use Rattle.sml_layers.specs.Worlds.{World, make}
+use Rattle.sml_graph.specs.Worlds.{In, Assignment}
+use Rattle.sml_layers.specs.Rows.{fields_at}
+use Rattle.sml_graph.specs.Rows.{HasFields, IsField, field_list, kids_of}
 
 -- the head over so many parts
 abbrev pub head_over : Head → ℕ → O.Head Name

@@ -8,14 +8,17 @@ use denote.Ref.{Bor}
 use Rattle.smallvec.specs.SmallVec.{SmallVec}
 use Rattle.sml_objects.specs.Initial.{Name}
 use Rattle.sml_objects.specs.Objects as O
-use Rattle.sml_objects.specs.Views.{type_of, types_of, entries_of}
+use Rattle.sml_objects.specs.Objects.{types_of}
+use Rattle.sml_objects.specs.Views.{type_of, entries_of}
 use Rattle.sml_objects.specs.declared.objects.MlType.{MlType}
 use Rattle.sml_graph.specs.declared.node.Head.{Head}
 use Rattle.sml_graph.specs.declared.node.Node.{Node}
 use Rattle.sml_graph.specs.declared.node.Node.TheVariants.{Link, App, Open}
 use Rattle.sml_graph.specs.declared.fields.Fields.{Fields}
-use Rattle.sml_graph.specs.Worlds.{World, In, Assignment, typed}
-use Rattle.sml_graph.specs.Rows.{HasFields, fields_at, kids_of}
+use Rattle.sml_layers.specs.Worlds.{World, typed}
+use Rattle.sml_graph.specs.Worlds.{In, Assignment}
+use Rattle.sml_layers.specs.Rows.{fields_at}
+use Rattle.sml_graph.specs.Rows.{HasFields, kids_of}
 use Rattle.sml_graph.specs.Graphs.{Meets, MeetsPairs, ArePairsIn, IsSound, IsSoundNode, IsCountOf, IsKnown, fields_of, node_at, head_over}
 use Rattle.sml_objects.specs.Sizes.{type_size}
 

@@ -5,9 +5,9 @@ pub mod Changes
 pub mod Interned
 pub mod Ranks
 pub mod Bounds
-pub mod Classes
 pub mod Variables
 pub mod Limits
-pub mod Layers
+pub mod Refusals
 pub mod Asked
 pub mod Whole
+pub mod Said

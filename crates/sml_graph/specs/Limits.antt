@@ -4,22 +4,23 @@ use Rattle.std.specs.List.{AllByRecursion}
 use Rattle.sml_objects.specs.Names.{Initial}
 use Rattle.sml_objects.specs.Initial.{Name, initial, naming, attributes_of}
 use Rattle.sml_objects.specs.Equality.{admits, is_reference_name}
-use Rattle.sml_objects.specs.Objects.{MlType, Head, arrow, row, name}
-use Rattle.sml_graph.specs.declared.class.Names.{Names}
-use Rattle.sml_graph.specs.declared.layer.Layer.{Layer}
-use Rattle.sml_graph.specs.declared.layer.Layer.TheVariants.{Equations, Finiteness, Newness, Locality, Equality, Classes, Rigidity}
+use Rattle.sml_objects.specs.Objects.{MlType, Head, arrow, row, name, named}
+use Rattle.sml_layers.specs.declared.class.Names.{Names}
+use Rattle.sml_layers.specs.declared.layer.Layer.{Layer}
+use Rattle.sml_layers.specs.declared.layer.Layer.TheVariants.{Equations, Finiteness, Newness, Locality, Equality, Classes, Rigidity}
 use Rattle.sml_graph.specs.declared.limits.Limit.{Limit}
 use Rattle.sml_graph.specs.declared.change.Change.{Change}
 use Rattle.sml_graph.specs.declared.node.Node.{Node}
 use Rattle.sml_graph.specs.declared.node.Node.TheVariants.{Unknown, Link, App, Open}
-use Rattle.sml_graph.specs.Worlds.{finite, Assignment}
+use Rattle.sml_layers.specs.Worlds.{finite}
+use Rattle.sml_graph.specs.Worlds.{Assignment}
 use Rattle.sml_graph.specs.Graphs.{node_at, head_over, parts, Meets, IsAmong}
 use Rattle.sml_graph.specs.Changes.{HasChange, BeginsWith, IsOfAll, AreInside}
 use Rattle.sml_graph.specs.Bounds.{IsWithin, IsHeadWithin}
-use Rattle.sml_graph.specs.Classes.{allows, both_names, IsIn}
-use Rattle.sml_graph.specs.Layers.{place_of}
+use Rattle.sml_layers.specs.Classes.{allows, both_names}
+use Rattle.sml_layers.specs.Layers.{place_of}
 use Rattle.sml_graph.specs.Variables.{both_variables, MeetsVariables, FitsVariables, IsPossible, variables_height}
-use Rattle.sml_graph.specs.declared.variable.Variables.TheVariants as V
+use Rattle.sml_graph.specs.declared.variables.Variables.TheVariants as V
 
 abbrev pub no_limit : Limit
 no_limit = record { newness = None; locality = None; equality = false; class = None; variables = V.Any }
@@ -34,6 +35,10 @@ MeetsBound u (Some n) t = IsWithin u n t
 abbrev pub MeetsEquality : Bool → MlType Name → Type 0
 MeetsEquality false t = Unit {0}
 MeetsEquality true t = admits naming t ≡ true
+
+-- the type is one of the names
+abbrev pub IsIn : Names → MlType Name → Type 0
+IsIn c t = (k : Initial) × (allows c k ≡ true) × (t ≡ named (initial k))
 
 abbrev pub MeetsClass : Option Names → MlType Name → Type 0
 MeetsClass None t = Unit {0}

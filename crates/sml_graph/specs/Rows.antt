@@ -1,5 +1,5 @@
--- Rows that have some fields and perhaps others (the Definition, section 4.7: flexible records).
-use Rattle.std.specs.Prelude.{◌≡◌, ◌⊎◌, ℕ, Vec, List, [], ◌∷◌, length, map, Some}
+-- Fields, and the rows that have them.
+use Rattle.std.specs.Prelude.{◌≡◌, ◌⊎◌, ℕ, Vec, List, [], ◌∷◌, map}
 use Rattle.std.specs.List.{AllByRecursion, AllByRecursion-prop}
 use Rattle.std.specs.Coded.{×_prop, →_prop, Unit-prop}
 use mathlib.Core.HLevel.{⊥_prop}
@@ -7,10 +7,10 @@ use Rattle.std.specs.Global.{Global}
 use Rattle.std.specs.declared.rc.Rc.{Rc}
 use Rattle.sml_tree.specs.Trees.{Id}
 use Rattle.sml_tree.specs.Views.{ident_of}
-use Rattle.sml_objects.specs.Labels.{AreRising, with_labels}
-use Rattle.sml_objects.specs.Maps.{lookup}
-use Rattle.sml_objects.specs.Objects.{row}
-use Rattle.sml_graph.specs.Worlds.{World, In, make}
+use Rattle.sml_objects.specs.Initial.{Name}
+use Rattle.sml_layers.specs.Rows as R
+use Rattle.sml_layers.specs.Worlds.{World}
+use Rattle.sml_graph.specs.Worlds.{In}
 
 -- no label stands twice
 abbrev pub AreDistinct : {X : Type 0} → List (Id × X) → Type 0
@@ -32,15 +32,6 @@ abbrev pub IsField : Id → ℕ → List (Id × ℕ) → Type 0
 IsField l k [] = ⊥
 IsField l k (f ∷ fs) = ((l ≡ f.0) × (k ≡ f.1)) ⊎ IsField l k fs
 
--- the fields with what stands for the types of theirs
-abbrev pub fields_at : {A B : Type 0} → (A → B) → List (Id × A) → List (Id × B)
-fields_at f fs = map (λ x. (x.0, f x.1)) fs
-
 -- The type is a row, and has these fields.
-pub record HasFields (w : World) (t : In w) (fs : List (Id × In w)) : Type 0 where
-  pub labels : List Id
-  pub types : List (In w)
-  pub rising : AreRising labels
-  pub count : length types ≡ length labels
-  pub is_row : t ≡ make w (row labels) types
-  pub fields : AllByRecursion (λ f. lookup f.0 (with_labels labels types) ≡ Some f.1) fs
+abbrev pub HasFields : (w : World) → In w → List (Id × In w) → Type 0
+HasFields w t fs = R.HasFields Name w t fs

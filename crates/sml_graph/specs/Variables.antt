@@ -4,10 +4,10 @@ use Rattle.std.specs.Prelude.{◌≡◌, ℕ, Bool, true, false, not, ◌&&◌, 
 use Rattle.sml_objects.specs.Initial.{Name, initial, made}
 use Rattle.sml_objects.specs.Names.{int}
 use Rattle.sml_objects.specs.Objects.{MlType, Head, name, named}
-use Rattle.sml_graph.specs.declared.class.Names.{Names}
-use Rattle.sml_graph.specs.declared.variable.Variable.{Variable}
-use Rattle.sml_graph.specs.declared.variable.Variables.{Variables}
-use Rattle.sml_graph.specs.declared.variable.Variables.TheVariants.{Any, One, Several}
+use Rattle.sml_layers.specs.declared.class.Names.{Names}
+use Rattle.sml_layers.specs.declared.variable.Variable.{Variable}
+use Rattle.sml_graph.specs.declared.variables.Variables.{Variables}
+use Rattle.sml_graph.specs.declared.variables.Variables.TheVariants.{Any, One, Several}
 
 abbrev pub variable_type : Variable → MlType Name
 variable_type x = named (made 0 x.number 0 x.equality)

@@ -1,16 +1,17 @@
 -- What a graph of nodes keeps between two demands, and what is left of it within one.
 use Rattle.std.specs.Prelude.{◌≡◌, ℕ, ◌<◌, List, length, [], ◌∷◌, None}
 use Rattle.sml_graph.specs.declared.graph.Graph.{Graph}
-use Rattle.sml_graph.specs.declared.layer.Layer.{Layer}
-use Rattle.sml_graph.specs.declared.layer.Layer.TheVariants.{Equations, Finiteness, Newness, Locality, Equality, Classes, Rigidity}
+use Rattle.sml_layers.specs.declared.layer.Layer.{Layer}
+use Rattle.sml_layers.specs.declared.layer.Layer.TheVariants.{Equations, Finiteness, Newness, Locality, Equality, Classes, Rigidity}
 use Rattle.sml_graph.specs.declared.limits.Limit.{Limit}
 use Rattle.sml_graph.specs.declared.change.Change.{Change}
 use Rattle.sml_graph.specs.declared.node.Node.{Node}
-use Rattle.sml_graph.specs.Worlds.{finite, Assignment}
+use Rattle.sml_layers.specs.Worlds.{finite}
+use Rattle.sml_graph.specs.Worlds.{Assignment}
 use Rattle.sml_graph.specs.Graphs.{IsSound, Meets, AreOwners}
 use Rattle.sml_graph.specs.Changes.{SameOutside, AreInside}
 use Rattle.sml_graph.specs.Ranks.{HasRank, AreFrom, AreOrdered, AreOrderedBut}
-use Rattle.sml_graph.specs.Layers.{place_of}
+use Rattle.sml_layers.specs.Layers.{place_of}
 use Rattle.sml_graph.specs.Limits.{KeepsAt, IsClosed, IsFit, IsDoneBut, SameLimits, NoneKeeps, Lowers}
 
 -- there is room below all orders

@@ -5,9 +5,10 @@ ghost use Rattle.std.specs.Bool.{OnTrue, OnFalse};
 ghost use Rattle.std.specs.List.{AllByRecursion};
 ghost use Rattle.std.specs.Option.{IfSome};
 ghost use Rattle.sml_objects.specs.Views.{type_of, maker_of};
-ghost use Rattle.sml_graph.specs.declared.layer.Layer.{Layer};
+ghost use Rattle.sml_layers.specs.declared.layer.Layer.{Layer};
 ghost use Rattle.sml_graph.specs.declared.node.Node.{Node};
-ghost use Rattle.sml_graph.specs.Worlds.{World, Assignment, finite};
+ghost use Rattle.sml_layers.specs.Worlds.{World, finite};
+ghost use Rattle.sml_graph.specs.Worlds.{Assignment};
 ghost use Rattle.sml_graph.specs.Graphs.{IsSound, Meets};
 ghost use Rattle.sml_graph.specs.Changes.{SameOutside, AreInside};
 ghost use Rattle.sml_graph.specs.Interned.{IsOver, Interns};
@@ -16,13 +17,14 @@ ghost use Rattle.sml_graph.specs.Limits.{limit_at, IsClosed, IsFit, IsBefore, Is
 ghost use Rattle.sml_graph.specs.Whole.{IsFull, HasBottom, IsWhole, IsChanged, Finishes, FailsAt};
 
 use crate::change::Change;
+use crate::demand::Refusal;
 use crate::finite::is_finite;
 use crate::intern::intern;
-use crate::layer::{Layer, Refusal};
 use crate::limits::{Limit, hand_on_all};
 use crate::merge::{Unsolved, solve};
 use crate::node::Node;
 use crate::orders::NO_ORDER;
+use sml_layers::layer::Layer;
 use sml_lex::fault::Memory;
 use sml_objects::objects::{MlType, UnitId};
 use std::alloc::Global;

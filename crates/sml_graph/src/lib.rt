@@ -2,14 +2,14 @@
 #![tactic(auto)]
 
 pub mod change;
-pub mod class;
+pub mod demand;
 pub mod fields;
 mod finite;
 pub mod graph;
 mod intern;
-pub mod layer;
+pub mod laws;
 pub mod limits;
 pub mod merge;
 pub mod node;
 pub mod orders;
-pub mod variable;
+pub mod variables;

@@ -5,7 +5,7 @@ use sml_envs::functions::admits_equality_under;
 use sml_lex::fault::Memory;
 use sml_objects::comparisons::same_type;
 use sml_objects::objects::{MlType, Scheme};
-use sml_solve::layer::Refusal;
+use sml_solve::demand::Refusal;
 use sml_solve::solver::Solver;
 use sml_solve::variable::Variable;
 use sml_types::rows::number_of;

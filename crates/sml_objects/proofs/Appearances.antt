@@ -9,7 +9,8 @@ use Rattle.sml_objects.specs.Maps.{Map}
 use Rattle.sml_objects.specs.Objects as O
 use Rattle.sml_objects.specs.Initial.{Name, naming}
 use Rattle.sml_objects.specs.Appearance.{stands, firsts_after, appear_type, appear_types, appear_map, appear_env, appear_structures}
-use Rattle.sml_objects.specs.Views.{type_of, types_of, name_of, structures_of, schemes_of, entries_of, env_of}
+use Rattle.sml_objects.specs.Objects.{types_of}
+use Rattle.sml_objects.specs.Views.{type_of, name_of, structures_of, schemes_of, entries_of, env_of}
 use Rattle.sml_objects.specs.declared.labels.Labels.{Labels}
 use Rattle.sml_objects.specs.declared.objects.TyName.{TyName}
 use Rattle.sml_objects.specs.declared.objects.MlType.{MlType, Bound, Free}

@@ -6,7 +6,8 @@ use Rattle.sml_objects.specs.Names as N
 use Rattle.sml_objects.specs.Objects as O
 use Rattle.sml_objects.specs.Initial.{Name, initial, made, naming, attributes_of}
 use Rattle.sml_objects.specs.Equality.{admits, all_admit, is_ref, is_reference_name}
-use Rattle.sml_objects.specs.Views.{type_of, types_of, name_of}
+use Rattle.sml_objects.specs.Objects.{types_of}
+use Rattle.sml_objects.specs.Views.{type_of, name_of}
 use Rattle.sml_objects.specs.declared.labels.Labels.{Labels}
 use Rattle.sml_objects.specs.declared.objects.TyName.{TyName}
 use Rattle.sml_objects.specs.declared.objects.MlType.{MlType, Bound, Free}

@@ -173,6 +173,10 @@ extend b s = record {
 
 -- Types that are often met
 
+abbrev pub types_of : {N : Type 0} → List (MlType N) → MlTypes N
+types_of [] = no_type
+types_of (t ∷ ts) = and_type t (types_of ts)
+
 abbrev pub mono : {N : Type 0} → MlType N → Scheme N
 mono t = record { variables = []; body = t }
 

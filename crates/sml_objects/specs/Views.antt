@@ -41,15 +41,11 @@ abbrev pub name_of : TyName → Name
 name_of (T.Initial k) = initial (initial_of k)
 name_of (T.Made n) = made (maker_of n.unit) n.number n.arity n.equality
 
-abbrev pub types_of : List (O.MlType Name) → O.MlTypes Name
-types_of [] = O.no_type
-types_of (t ∷ ts) = O.and_type t (types_of ts)
-
 abbrev pub label_list : Labels → List Id
 label_list ls = map ident_of ls.list.items
 
 abbrev pub row_of : List Id → List (O.MlType Name) → O.MlType Name
-row_of ls ts = O.app (O.row ls) (types_of ts)
+row_of ls ts = O.app (O.row ls) (O.types_of ts)
 
 -- one layer of a type, with its parts already seen
 abbrev pub type_layer : MlType-F (O.MlType Name) → O.MlType Name
@@ -57,7 +53,7 @@ type_layer (Bound k) = O.bound k
 type_layer (Free v) = O.free v
 type_layer (Row ls ts) = row_of (label_list ls.value) (map (λ t. t.value) ts.items)
 type_layer (Arrow t u) = O.arrow_of t.value u.value
-type_layer (Applied n ts) = O.app (O.name (name_of n)) (types_of (map (λ t. t.value) ts.items))
+type_layer (Applied n ts) = O.app (O.name (name_of n)) (O.types_of (map (λ t. t.value) ts.items))
 
 abbrev pub type_of : MlType → O.MlType Name
 type_of = fold-MlType (O.MlType Name) type_layer

@@ -3,7 +3,8 @@
 ghost use Rattle.std.specs.Prelude.{◌≡◌, IfOk, map};
 ghost use Rattle.sml_objects.specs.Objects as O;
 ghost use Rattle.sml_objects.specs.Types.{argument, applied};
-ghost use Rattle.sml_objects.specs.Views.{type_of, types_of, scheme_of};
+ghost use Rattle.sml_objects.specs.Objects.{types_of};
+ghost use Rattle.sml_objects.specs.Views.{type_of, scheme_of};
 
 use crate::objects::{MlType, Scheme, TyName};
 use crate::replacements::{Replacement, replaced, shared};

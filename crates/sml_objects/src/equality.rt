@@ -3,7 +3,8 @@
 ghost use Rattle.std.specs.Prelude.{◌≡◌, map};
 ghost use Rattle.sml_objects.specs.Equality.{admits, all_admit, is_reference_name};
 ghost use Rattle.sml_objects.specs.Initial.{naming, attributes_of};
-ghost use Rattle.sml_objects.specs.Views.{type_of, types_of, name_of};
+ghost use Rattle.sml_objects.specs.Objects.{types_of};
+ghost use Rattle.sml_objects.specs.Views.{type_of, name_of};
 
 use crate::objects::{Initial, MlType, TyName};
 use std::rc::Rc;

@@ -4,7 +4,8 @@ ghost use Rattle.std.specs.Prelude.{◌≡◌, OnOk, map};
 ghost use Rattle.sml_objects.specs.Appearance.{firsts_after, appear_type, appear_types, appear_map, appear_structures, appear_env, appear_sig};
 ghost use Rattle.sml_objects.specs.Initial.{naming};
 ghost use Rattle.sml_objects.specs.Signatures.{signature_of};
-ghost use Rattle.sml_objects.specs.Views.{type_of, types_of, schemes_of, structures_of, entries_of, env_of, sig_of, name_of};
+ghost use Rattle.sml_objects.specs.Objects.{types_of};
+ghost use Rattle.sml_objects.specs.Views.{type_of, schemes_of, structures_of, entries_of, env_of, sig_of, name_of};
 
 use crate::objects::{Basis, Env, MlType, Scheme, Sig, TyName};
 use indexmap::IndexSet;

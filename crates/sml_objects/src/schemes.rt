@@ -4,7 +4,8 @@ ghost use Rattle.std.specs.Prelude.{◌≡◌, ℕ, ◌+◌, IfOk, OnOk, map, fa
 ghost use Rattle.sml_objects.specs.Initial.{Name};
 ghost use Rattle.sml_objects.specs.Objects as O;
 ghost use Rattle.sml_objects.specs.Types as T;
-ghost use Rattle.sml_objects.specs.Views.{type_of, types_of, scheme_of, name_of};
+ghost use Rattle.sml_objects.specs.Objects.{types_of};
+ghost use Rattle.sml_objects.specs.Views.{type_of, scheme_of, name_of};
 
 use crate::objects::{MlType, Scheme, TyName};
 use crate::replacements::{Replacement, replaced, shared};

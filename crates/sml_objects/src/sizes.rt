@@ -2,7 +2,8 @@
 
 ghost use Rattle.std.specs.Prelude.{◌≡◌, ◌+◌, ◌<◌, ◌^◌, min, map};
 ghost use Rattle.sml_objects.specs.Sizes.{type_size, types_size};
-ghost use Rattle.sml_objects.specs.Views.{type_of, types_of};
+ghost use Rattle.sml_objects.specs.Objects.{types_of};
+ghost use Rattle.sml_objects.specs.Views.{type_of};
 
 use crate::objects::MlType;
 use std::rc::Rc;

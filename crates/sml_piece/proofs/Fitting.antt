@@ -11,7 +11,8 @@ use Rattle.sml_objects.specs.Objects as O
 use Rattle.sml_objects.specs.declared.objects.MlType.{MlType}
 use Rattle.sml_objects.specs.Initial.{Name}
 use Rattle.sml_objects.specs.Types.{replace_type, replace_types}
-use Rattle.sml_objects.specs.Views.{type_of, types_of}
+use Rattle.sml_objects.specs.Objects.{types_of}
+use Rattle.sml_objects.specs.Views.{type_of}
 use Rattle.sml_objects.proofs.SameTypes.{kind}
 use Rattle.sml_rules.specs.Rules.{IsOpen, AreOpen, IsInstance}
 use Rattle.sml_piece.specs.Matched.{Found, Agrees, AreOpenIn, Fits, FitAll, Decides, found_in}

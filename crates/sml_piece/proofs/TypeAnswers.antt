@@ -6,7 +6,7 @@ use Rattle.sml_tree.specs.Trees as T
 use Rattle.sml_tree.specs.Views.{tys_of}
 use Rattle.sml_objects.specs.Objects as O
 use Rattle.sml_objects.specs.Initial.{Name}
-use Rattle.sml_objects.specs.Views.{types_of}
+use Rattle.sml_objects.specs.Objects.{types_of}
 use Rattle.sml_rules.specs.Answers.{refused, accepted}
 use Rattle.sml_rules.specs.Readings.{read_ty, read_tys}
 use Rattle.sml_piece.specs.declared.top_fault.TopFault.{TopFault}

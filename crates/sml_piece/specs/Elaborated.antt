@@ -7,7 +7,7 @@ use Rattle.sml_lex.specs.Faults.{fault_of}
 use Rattle.sml_lex.specs.declared.fault.Code.TheVariants.{E3, N2}
 use Rattle.sml_tree.specs.Trees.{Id, LongId, Spec}
 use Rattle.sml_objects.specs.Maps.{lookup}
-use Rattle.sml_objects.specs.Objects.{MlType, MlTypes, Scheme, Env, Sig, Basis, names_basis, names_sig, empty_env, free, mono, structures, types, values, find_structure, one_value, one_type}
+use Rattle.sml_objects.specs.Objects.{MlType, MlTypes, Scheme, Env, Sig, Basis, names_basis, names_sig, empty_env, free, mono, structures, types, values, find_structure, one_value, one_type, types_of}
 use Rattle.sml_objects.specs.Initial.{Name, initial, made, naming}
 use Rattle.sml_objects.specs.declared.objects.Basis as PB
 use Rattle.sml_objects.specs.declared.objects.Sig as PG
@@ -16,7 +16,7 @@ use Rattle.sml_rules.specs.Every.{Every}
 use Rattle.sml_rules.specs.Open.{OpenEnv}
 use Rattle.sml_rules.specs.Rules.{Item, a_type, a_value, item_of, Specified, sum_from}
 use Rattle.sml_piece.specs.declared.signatures.Specified as PS
-use Rattle.sml_objects.specs.Views.{entries_of, type_of, types_of, scheme_of, env_of, name_of, maker_of, sig_of}
+use Rattle.sml_objects.specs.Views.{entries_of, type_of, scheme_of, env_of, name_of, maker_of, sig_of}
 use Rattle.sml_rules.specs.Readings as R
 use Rattle.sml_rules.specs.Lookups.{find_at, entry, no_path}
 use Rattle.sml_rules.specs.Answers.{Reading, refused, accepted, fault_at, give, ◌>>=◌, test, fault}

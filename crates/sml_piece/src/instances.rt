@@ -1,8 +1,8 @@
 //! Whether a type is an instance of a scheme (the Definition, section 4.5).
 
 ghost use Rattle.std.specs.Prelude.{IfOk, map};
-ghost use Rattle.sml_objects.specs.Objects.{bound};
-ghost use Rattle.sml_objects.specs.Views.{type_of, types_of, scheme_of};
+ghost use Rattle.sml_objects.specs.Objects.{bound, types_of};
+ghost use Rattle.sml_objects.specs.Views.{type_of, scheme_of};
 ghost use Rattle.sml_rules.specs.Rules.{IsOpen, IsInstance};
 ghost use Rattle.sml_piece.specs.Matched.{Decides, Fits, FitAll, found_in};
 

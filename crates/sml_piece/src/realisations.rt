@@ -2,7 +2,8 @@
 
 ghost use Rattle.std.specs.Prelude.{◌≡◌, IfOk, OnOk, Some, None, cond, map};
 ghost use Rattle.sml_objects.specs.Initial.{Name, naming};
-ghost use Rattle.sml_objects.specs.Views.{name_of, type_of, types_of, scheme_of};
+ghost use Rattle.sml_objects.specs.Objects.{types_of};
+ghost use Rattle.sml_objects.specs.Views.{name_of, type_of, scheme_of};
 ghost use Rattle.sml_rules.specs.Matching.{is_name, realise_type, realise_types};
 ghost use Rattle.sml_piece.specs.Elaborated.{or_else};
 ghost use Rattle.sml_piece.specs.Matched.{alone, sends};

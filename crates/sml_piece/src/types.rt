@@ -4,6 +4,7 @@ ghost use Rattle.std.specs.Prelude.{◌≡◌, ℕ, length, map, IfOk};
 ghost use Rattle.sml_tree.specs.Trees.{constructor};
 ghost use Rattle.sml_tree.specs.Views.{long_of, ty_of, tys_of};
 ghost use Rattle.sml_objects.specs.Labels.{numbers};
+ghost use Rattle.sml_objects.specs.Objects as O;
 ghost use Rattle.sml_objects.specs.Objects.{arrow_of, tuple_of};
 ghost use Rattle.sml_objects.specs.Views.{env_of};
 ghost use Rattle.sml_objects.specs.Views as V;
@@ -88,7 +89,7 @@ pub(crate) fn boxed(alloc: Global, ty: MlType) -> Result<Rc<MlType>, TopFault>
 
 /// The row of these types, labelled from 1 on.
 pub(crate) fn row(alloc: Global, parts: Vec<Rc<MlType>>) -> Result<Rc<MlType>, TopFault>
-    ensures { IsMade (tuple_of (V.types_of (map (λ t. V.type_of t.value) parts.items))) (λ t. V.type_of t.value) result }
+    ensures { IsMade (tuple_of (O.types_of (map (λ t. V.type_of t.value) parts.items))) (λ t. V.type_of t.value) result }
 {
     match numbered(alloc, parts.len()) {
         Ok(labels) => boxed(alloc, MlType::Row(labels, parts)),
@@ -114,7 +115,7 @@ pub(crate) fn arrow(alloc: Global, from: Rc<MlType>, to: Rc<MlType>) -> Result<R
 #[cycle(meaning)]
 fn types_of(alloc: Global, context: &Context, parts: &[Ty]) -> Result<Vec<Rc<MlType>>, TopFault>
     ensures { (locals : Numbers) (C : NameEnv) → Shows locals (env_of context.now.outer.now) (env_of context.now.inner.now) C
-        → Answers (λ v. V.types_of (map (λ t. V.type_of t.value) v.items)) result (read_tys C (tys_of (map ty_of parts.now))) }
+        → Answers (λ v. O.types_of (map (λ t. V.type_of t.value) v.items)) result (read_tys C (tys_of (map ty_of parts.now))) }
 {
     let mut types = Vec::new(alloc);
     for part in parts {

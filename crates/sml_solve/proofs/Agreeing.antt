@@ -11,10 +11,11 @@ use Rattle.sml_objects.specs.Types.{assign, replace_type, is_among, variables_af
 use Rattle.sml_objects.specs.declared.fates.Fate.{Fate}
 use Rattle.sml_objects.specs.declared.fates.Fate.TheVariants.{Bind, Keep, Default}
 use Rattle.sml_objects.proofs.EnvViews.{map-map}
-use Rattle.sml_graph.specs.declared.layer.Layer.TheVariants.{Finiteness, Equality, Classes}
-use Rattle.sml_graph.specs.Worlds.{finite, Assignment}
+use Rattle.sml_layers.specs.declared.layer.Layer.TheVariants.{Finiteness, Equality, Classes}
+use Rattle.sml_layers.specs.Worlds.{finite}
+use Rattle.sml_graph.specs.Worlds.{Assignment}
 use Rattle.sml_graph.specs.Asked.{Asked, Permits}
-use Rattle.sml_graph.specs.Rows.{fields_at}
+use Rattle.sml_layers.specs.Rows.{fields_at}
 use Rattle.sml_demands.specs.Left.{IsMadeOf, IsFree, IsLeft, IsReading, MayBe, KeepsFields, IsMostGeneral}
 use Rattle.sml_demands.specs.Schemes.{IsInt, AsksEquality, IsFateOf, IsSchemeOfReading, MayBecome, AreAlike, HasNoFlag, HasNoFlexible, GiveOneScheme}
 use Rattle.sml_demands.proofs.Owning.{made-more, assigned-alike, row-not-free}

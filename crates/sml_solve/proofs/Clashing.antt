@@ -5,14 +5,15 @@ use Rattle.std.specs.List.{AllByRecursion}
 use Rattle.sml_tree.specs.Trees.{Id}
 use Rattle.sml_objects.specs.Initial.{Name}
 use Rattle.sml_objects.specs.Maps.{lookup}
-use Rattle.sml_objects.specs.Objects.{MlType, Head, row, app}
-use Rattle.sml_objects.specs.Views.{types_of}
-use Rattle.sml_graph.specs.declared.layer.Layer.{Layer}
-use Rattle.sml_graph.specs.declared.layer.Layer.TheVariants.{Equations}
+use Rattle.sml_objects.specs.Objects.{MlType, Head, row, app, types_of}
+use Rattle.sml_layers.specs.declared.layer.Layer.{Layer}
+use Rattle.sml_layers.specs.declared.layer.Layer.TheVariants.{Equations}
 use Rattle.sml_objects.specs.Labels.{with_labels}
-use Rattle.sml_graph.specs.Rows.{HasFields, fields_at}
-use Rattle.sml_graph.specs.Worlds.{infinite, In, Assignment, make, spread, spread_all}
-use Rattle.sml_graph.specs.Layers.{place_of}
+use Rattle.sml_layers.specs.Rows.{fields_at}
+use Rattle.sml_graph.specs.Rows.{HasFields}
+use Rattle.sml_layers.specs.Worlds.{infinite, make, spread, spread_all}
+use Rattle.sml_graph.specs.Worlds.{In, Assignment}
+use Rattle.sml_layers.specs.Layers.{place_of}
 use Rattle.sml_graph.specs.Asked.{Asked, Demand, equal, has_fields, asks, Holds, CanMeet, IsFirstUnmet, count}
 use Rattle.sml_solve.specs.Clashes.{IsOneOf, part_at, MakesEqual, given, same, turned, joined, component, field, fields, HasLabels, Clash, heads, no_row, IsDemandOf, MeetsAll, IsUnmetWhereItClashes}
 use Rattle.sml_graph.proofs.Worlding.{app_head, app_parts}

@@ -8,8 +8,7 @@ use Rattle.std.proofs.Math.Decide.{ℕ_discrete}
 use Rattle.sml_tree.specs.Trees.{Id}
 use Rattle.sml_objects.specs.Initial.{Name}
 use Rattle.sml_objects.specs.Maps.{lookup}
-use Rattle.sml_objects.specs.Objects.{Head, arrow, row, name, app}
-use Rattle.sml_objects.specs.Views.{types_of}
+use Rattle.sml_objects.specs.Objects.{Head, arrow, row, name, app, types_of}
 use Rattle.sml_objects.specs.Labels.{label_order, AreRising, with_labels}
 use Rattle.sml_graph.specs.Asked.{Demand, equal, has_fields, asks}
 use Rattle.sml_solve.specs.Clashes.{IsOneOf, MakesEqual, HasLabels, Clash, heads, no_row}

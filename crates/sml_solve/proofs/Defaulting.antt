@@ -6,31 +6,32 @@ use Rattle.sml_objects.specs.Names as N
 use Rattle.sml_objects.specs.Initial.{Name, initial}
 use Rattle.sml_objects.specs.Objects as O
 use Rattle.sml_objects.specs.Types.{replace_type, replace_types}
-use Rattle.sml_objects.specs.Views.{types_of}
-use Rattle.sml_graph.specs.declared.class.Names.{Names}
+use Rattle.sml_objects.specs.Objects.{types_of}
+use Rattle.sml_layers.specs.declared.class.Names.{Names}
 use Rattle.sml_graph.specs.declared.graph.Graph.{Graph}
-use Rattle.sml_graph.specs.declared.layer.Layer.{Layer}
-use Rattle.sml_graph.specs.declared.layer.Layer.TheVariants.{Equations, Finiteness, Newness, Locality, Equality, Classes, Rigidity}
+use Rattle.sml_layers.specs.declared.layer.Layer.{Layer}
+use Rattle.sml_layers.specs.declared.layer.Layer.TheVariants.{Equations, Finiteness, Newness, Locality, Equality, Classes, Rigidity}
 use Rattle.sml_graph.specs.declared.limits.Limit.{Limit}
 use Rattle.sml_graph.specs.declared.node.Node.{Node}
 use Rattle.sml_graph.specs.declared.node.Node.TheVariants.{Unknown, Link, App, Open}
-use Rattle.sml_graph.specs.declared.variable.Variables.{Variables}
-use Rattle.sml_graph.specs.declared.variable.Variables.TheVariants as V
-use Rattle.sml_graph.specs.Worlds.{World, finite, infinite, Assignment, Tree, make, tree, typed, spread, spread_all}
+use Rattle.sml_graph.specs.declared.variables.Variables.{Variables}
+use Rattle.sml_graph.specs.declared.variables.Variables.TheVariants as V
+use Rattle.sml_layers.specs.Worlds.{World, finite, infinite, make, tree, typed, spread, spread_all, world}
+use Rattle.sml_graph.specs.Worlds.{Assignment, Tree}
 use Rattle.sml_graph.specs.Graphs.{node_at, head_over, fields_of, Agrees, Meets, IsRootNode}
 use Rattle.sml_tree.specs.Trees.{Id}
 use Rattle.sml_objects.specs.Maps.{lookup}
 use Rattle.std.specs.List.{AllByRecursion}
 use Rattle.std.proofs.lemmas.List.{length-map}
 use Rattle.sml_objects.specs.Labels.{with_labels}
-use Rattle.sml_graph.specs.Rows.{fields_at}
+use Rattle.sml_layers.specs.Rows.{fields_at}
 use Rattle.sml_graph.proofs.Rowing.{lookup-here, lookup-there, same_or_other}
 use Rattle.sml_graph.specs.Interned.{IsOver, AreOver, through}
 use Rattle.sml_graph.specs.Limits.{limit_at, KeepsAt, IsFitNode}
 use Rattle.sml_graph.specs.Variables.{IsPossible, stand_in}
-use Rattle.sml_graph.specs.Asked.{Asked, asked_of, world, Permits, Demand, equal, Holds, CanMeet, IsFirstUnmet, Adds}
+use Rattle.sml_graph.specs.Asked.{Asked, asked_of, Permits, Demand, equal, Holds, CanMeet, IsFirstUnmet, Adds}
 use Rattle.sml_demands.specs.Overloaded.{IsOverloaded, Settles, is_several}
-use Rattle.sml_graph.specs.Classes.{has_several}
+use Rattle.sml_layers.specs.Classes.{has_several}
 use Rattle.sml_graph.specs.Whole.{IsKept}
 use Rattle.sml_graph.proofs.Merging.{same_or_not}
 use Rattle.sml_graph.proofs.Ranking.{solution-meets, solution-unknown}

@@ -7,7 +7,8 @@ use Rattle.sml_objects.specs.Objects as O
 use Rattle.sml_graph.specs.declared.graph.Graph.{Graph}
 use Rattle.sml_graph.specs.declared.node.Node.{Node}
 use Rattle.sml_graph.specs.declared.node.Node.TheVariants.{Unknown, Link, App, Open}
-use Rattle.sml_graph.specs.Worlds.{finite, Assignment}
+use Rattle.sml_layers.specs.Worlds.{finite}
+use Rattle.sml_graph.specs.Worlds.{Assignment}
 use Rattle.sml_graph.specs.Graphs.{node_at, parts, Meets, IsSame, IsRootNode, IsKnown}
 use Rattle.sml_graph.specs.Interned.{through}
 use Rattle.sml_graph.specs.Ranks.{IsRanked, HasRank}

@@ -9,7 +9,8 @@ use Rattle.sml_objects.specs.Objects as O
 use Rattle.sml_objects.specs.Types.{assign, replace_type, replace_types, is_among, variables_after, variables_after_all, place_among}
 use Rattle.sml_objects.specs.declared.fates.Fate.{Fate}
 use Rattle.sml_objects.specs.declared.fates.Fate.TheVariants.{Bind, Keep, Default}
-use Rattle.sml_graph.specs.Worlds.{finite, Assignment}
+use Rattle.sml_layers.specs.Worlds.{finite}
+use Rattle.sml_graph.specs.Worlds.{Assignment}
 use Rattle.sml_demands.specs.Left.{IsMadeOf, AreMadeOf}
 use Rattle.sml_demands.proofs.Owning.{made-more, assigned-alike}
 use Rattle.sml_solve.proofs.Uniqueness.{stays, variables-made}

@@ -2,8 +2,7 @@
 use Rattle.std.proofs.Common.{◌≡◌, Option, Some, None, List, [], ◌∷◌, ◌++◌, map, refl, ap, sym, subst, ◌∙◌, inl, inr}
 use Rattle.sml_tree.specs.Trees.{Id}
 use Rattle.sml_objects.specs.Initial.{Name}
-use Rattle.sml_objects.specs.Objects.{MlType, MlTypes, Head, bound, free, app, no_type, and_type}
-use Rattle.sml_objects.specs.Views.{types_of}
+use Rattle.sml_objects.specs.Objects.{MlType, MlTypes, Head, bound, free, app, no_type, and_type, types_of}
 use Rattle.sml_graph.specs.Asked.{Demand, equal, has_fields, asks}
 use Rattle.sml_solve.specs.Clashes.{IsOneOf}
 use Rattle.sml_solve.proofs.Members.{in-left, in-right, in-either, gather, in-gather, gathered}

@@ -8,10 +8,12 @@ use Rattle.sml_tree.specs.Trees.{Id}
 use Rattle.sml_objects.specs.Initial.{Name}
 use Rattle.sml_objects.specs.Maps.{Map, lookup}
 use Rattle.sml_objects.specs.Objects.{MlTypes, Head, row, bound, free, app, no_type, and_type}
-use Rattle.sml_graph.specs.declared.layer.Layer.TheVariants.{Equations}
+use Rattle.sml_layers.specs.declared.layer.Layer.TheVariants.{Equations}
 use Rattle.sml_objects.specs.Labels.{AreRising, with_labels}
-use Rattle.sml_graph.specs.Rows.{HasFields, fields_at}
-use Rattle.sml_graph.specs.Worlds.{infinite, Assignment, Tree, tree, spread, spread_all}
+use Rattle.sml_layers.specs.Rows.{fields_at}
+use Rattle.sml_graph.specs.Rows.{HasFields}
+use Rattle.sml_layers.specs.Worlds.{infinite, tree, spread, spread_all}
+use Rattle.sml_graph.specs.Worlds.{Assignment, Tree}
 use Rattle.sml_graph.specs.Interned.{IsOver, AreOver}
 use Rattle.sml_graph.specs.Asked.{Demand, equal, has_fields, asks, Holds}
 use Rattle.sml_solve.specs.Clashes.{IsOneOf, HasLabels, Clash, MeetsAll}

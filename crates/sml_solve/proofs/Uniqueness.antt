@@ -13,7 +13,8 @@ use Rattle.sml_objects.specs.Maps.{lookup}
 use Rattle.sml_graph.specs.declared.graph.Graph.{Graph}
 use Rattle.sml_graph.specs.Interned.{through}
 use Rattle.sml_graph.specs.Whole.{IsKept}
-use Rattle.sml_graph.specs.Worlds.{finite, Assignment}
+use Rattle.sml_layers.specs.Worlds.{finite}
+use Rattle.sml_graph.specs.Worlds.{Assignment}
 use Rattle.sml_graph.specs.Asked.{Asked, asked_of}
 use Rattle.sml_demands.specs.Left.{IsMadeOf, AreMadeOf, IsLeft, IsReading}
 use Rattle.sml_demands.specs.Schemes.{IsFateOf, IsSchemeOfReading, HasOneScheme}

@@ -5,11 +5,11 @@ use Rattle.std.specs.List.{AllByRecursion}
 use Rattle.sml_tree.specs.Trees.{Id}
 use Rattle.sml_objects.specs.Initial.{Name}
 use Rattle.sml_objects.specs.Maps.{lookup}
-use Rattle.sml_objects.specs.Objects.{MlType, Head, app, row, bound}
-use Rattle.sml_objects.specs.Views.{types_of}
-use Rattle.sml_graph.specs.declared.layer.Layer.TheVariants.{Equations}
+use Rattle.sml_objects.specs.Objects.{MlType, Head, app, row, bound, types_of}
+use Rattle.sml_layers.specs.declared.layer.Layer.TheVariants.{Equations}
 use Rattle.sml_objects.specs.Labels.{AreRising, with_labels}
-use Rattle.sml_graph.specs.Worlds.{infinite, Assignment}
+use Rattle.sml_layers.specs.Worlds.{infinite}
+use Rattle.sml_graph.specs.Worlds.{Assignment}
 use Rattle.sml_graph.specs.Asked.{Asked, Demand, equal, has_fields, asks, IsOf, Permits, Holds, IsFirstUnmet}
 
 abbrev pub IsOneOf : {A : Type 0} → A → List A → Type 0

@@ -8,7 +8,8 @@ mod rows;
 mod wide;
 
 use crate::script::{fault, faults};
-use sml_graph::layer::{Layer, Refusal};
+use sml_graph::demand::Refusal;
+use sml_layers::layer::Layer;
 use sml_lex::fault::Code;
 use std::test::Fail;
 

@@ -4,7 +4,8 @@ use Rattle.std.proofs.lemmas.Bool.{lt-ltb, le-ltb, eq-eqb, ne_eqb}
 use Rattle.sml_tree.specs.Trees.{Id}
 use Rattle.sml_objects.specs.Objects as O
 use Rattle.sml_objects.specs.Initial.{Name}
-use Rattle.sml_objects.specs.Views.{types_of, row_of, structures_of}
+use Rattle.sml_objects.specs.Objects.{types_of}
+use Rattle.sml_objects.specs.Views.{row_of, structures_of}
 use Rattle.sml_texts.specs.Text.{Piece, a_name, say, variable, joined, bracketed, show_head, levels, show_type, show_types, line, lines, show_env, show_structures}
 use Rattle.sml_texts.specs.Spelling.{and_pieces}
 use Rattle.sml_texts.proofs.Spelling.{Spelt, then_more, on_ok_then}

@@ -3,7 +3,8 @@
 ghost use Rattle.std.specs.Prelude.{◌≡◌, ◌++◌, ◌∷◌, [], suc, cond, codes, map, nat_eq, nat_lt, length, OnOk, IfOk};
 ghost use Rattle.sml_tree.specs.Views.{ident_of};
 ghost use Rattle.sml_objects.specs.Initial.{naming};
-ghost use Rattle.sml_objects.specs.Views.{type_of, types_of, schemes_of, structures_of, entries_of, env_of, name_of, initial_of};
+ghost use Rattle.sml_objects.specs.Objects.{types_of};
+ghost use Rattle.sml_objects.specs.Views.{type_of, schemes_of, structures_of, entries_of, env_of, name_of, initial_of};
 ghost use Rattle.sml_texts.specs.Spelling.{lines_of, and_pieces, level};
 ghost use Rattle.sml_texts.specs.Text as T;
 

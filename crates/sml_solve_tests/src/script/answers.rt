@@ -1,7 +1,8 @@
 //! What calls answer, as text.
 
 use crate::script::{OTHER_UNIT, UNIT};
-use sml_graph::layer::{Layer, Refusal};
+use sml_graph::demand::Refusal;
+use sml_layers::layer::Layer;
 use sml_objects::objects::{Initial, MadeName, MlType, Scheme, TyName};
 use std::alloc::{AllocError, Global};
 use std::fmt::Write;

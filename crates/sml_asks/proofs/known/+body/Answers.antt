@@ -1,7 +1,8 @@
 use Rattle.std.proofs.Common.{sym, subst, ◌++◌, ◌∷◌, [], take, ap, ◌∙◌}
 use Rattle.std.proofs.lemmas.Bool.{ltb-true}
 use Rattle.std.proofs.lemmas.Grind.{take_at_read}
-use Rattle.sml_objects.specs.Views.{type_of, types_of}
+use Rattle.sml_objects.specs.Objects.{types_of}
+use Rattle.sml_objects.specs.Views.{type_of}
 use Rattle.sml_objects.specs.declared.objects.MlType.{MlType}
 use Rattle.sml_objects.proofs.TypeViews.{parts_of}
 use Rattle.sml_graph.specs.Interned.{IsBodyOver, AreBodiesOver}

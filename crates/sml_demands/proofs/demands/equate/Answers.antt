@@ -2,8 +2,8 @@ use Rattle.std.proofs.Common.{◌≡◌, length, ap, refl, sym, ◌∙◌, arith
 use Rattle.std.specs.Prelude.{false}
 use Rattle.sml_objects.specs.Views.{type_of, maker_of}
 use Rattle.sml_graph.specs.declared.graph.Graph.{Graph}
-use Rattle.sml_graph.specs.declared.layer.Refusal.TheVariants.{Unmet}
-use Rattle.sml_graph.specs.Worlds.{finite}
+use Rattle.sml_graph.specs.declared.demand.Refusal.TheVariants.{Unmet}
+use Rattle.sml_layers.specs.Worlds.{finite}
 use Rattle.sml_graph.specs.Asked.{asked_of, equal, IsFirstUnmet}
 use Rattle.sml_demands.specs.Levels.{Moves}
 use Rattle.sml_graph.specs.Whole.{IsWhole}

@@ -2,7 +2,8 @@ use Rattle.std.proofs.Common.{◌≡◌, ap, sym, subst, ◌∙◌, IfOk, rules}
 use Rattle.std.proofs.lemmas.List.{nil_from_length}
 use Rattle.sml_objects.specs.Objects as O
 use Rattle.sml_objects.specs.Types.{argument, applied, replace_type}
-use Rattle.sml_objects.specs.Views.{type_of, types_of, scheme_of}
+use Rattle.sml_objects.specs.Objects.{types_of}
+use Rattle.sml_objects.specs.Views.{type_of, scheme_of}
 use Rattle.sml_objects.proofs.TypeViews.{parts_of}
 use Rattle.sml_objects.proofs.Renaming.{rename_type-id}
 use Rattle.sml_objects.proofs.TypeCopies.{unapplied}

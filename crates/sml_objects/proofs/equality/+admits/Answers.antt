@@ -6,7 +6,8 @@ use Rattle.std.specs.declared.rc.Rc.{Rc}
 use Rattle.sml_objects.specs.declared.objects.MlType.{MlType}
 use Rattle.sml_objects.specs.Equality.{admits, all_admit}
 use Rattle.sml_objects.specs.Initial.{naming, attributes_of}
-use Rattle.sml_objects.specs.Views.{type_of, types_of, name_of}
+use Rattle.sml_objects.specs.Objects.{types_of}
+use Rattle.sml_objects.specs.Views.{type_of, name_of}
 use Rattle.sml_objects.proofs.TypeViews.{parts_of}
 use Rattle.sml_objects.proofs.EqualityViews.{admits-bound, admits-free, admits-row, admits-arrow, admits-name, all_admit-none, all_admit-behind}
 use Rattle.sml_objects.proofs.equality.+admits.Goals as goal

@@ -2,7 +2,8 @@ use Rattle.std.proofs.Common.{◌≡◌, ap, sym, subst, ◌∙◌, OnOk, map, t
 use Rattle.std.proofs.lemmas.Grind.{take_at_read}
 use Rattle.sml_objects.specs.Appearance.{firsts_after, appear_type, appear_types}
 use Rattle.sml_objects.specs.Initial.{naming}
-use Rattle.sml_objects.specs.Views.{type_of, types_of, name_of}
+use Rattle.sml_objects.specs.Objects.{types_of}
+use Rattle.sml_objects.specs.Views.{type_of, name_of}
 use Rattle.sml_objects.proofs.TypeViews.{parts_of}
 use Rattle.sml_objects.proofs.Appearances.{appear-bound, appear-free, appear-row, appear-arrow, appear-name, types-push, none, collected, inserted-first, unchanged}
 use Rattle.sml_objects.proofs.names.+collect.Goals as goal

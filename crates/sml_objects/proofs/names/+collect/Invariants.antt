@@ -1,7 +1,8 @@
 use Rattle.std.proofs.Common.{◌≡◌, map, take}
 use Rattle.sml_objects.specs.Appearance.{firsts_after, appear_types}
 use Rattle.sml_objects.specs.Initial.{naming}
-use Rattle.sml_objects.specs.Views.{types_of, name_of}
+use Rattle.sml_objects.specs.Objects.{types_of}
+use Rattle.sml_objects.specs.Views.{name_of}
 use Rattle.sml_objects.proofs.TypeViews.{parts_of}
 use Rattle.sml_objects.proofs.names.+collect.Given as goal
 

@@ -1,7 +1,8 @@
 use Rattle.std.proofs.Common.{◌≡◌, ap, sym, subst, ◌∙◌, OnOk, take, ◌++◌, ◌∷◌, []}
 use Rattle.std.proofs.lemmas.Grind.{take_at_read}
 use Rattle.sml_objects.specs.Types.{variables_after, variables_after_all}
-use Rattle.sml_objects.specs.Views.{type_of, types_of}
+use Rattle.sml_objects.specs.Objects.{types_of}
+use Rattle.sml_objects.specs.Views.{type_of}
 use Rattle.sml_objects.proofs.TypeViews.{parts_of}
 use Rattle.sml_objects.proofs.Closings.{variables-none, variables-push, variables-bound, variables-free, variables-row, variables-arrow, variables-name}
 use Rattle.sml_objects.proofs.schemes.+variables.Goals as goal

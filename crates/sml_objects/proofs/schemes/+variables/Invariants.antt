@@ -1,6 +1,6 @@
 use Rattle.std.proofs.Common.{◌≡◌, take}
 use Rattle.sml_objects.specs.Types.{variables_after_all}
-use Rattle.sml_objects.specs.Views.{types_of}
+use Rattle.sml_objects.specs.Objects.{types_of}
 use Rattle.sml_objects.proofs.TypeViews.{parts_of}
 use Rattle.sml_objects.proofs.schemes.+variables.Given as goal
 

@@ -5,7 +5,8 @@ use Rattle.std.proofs.lemmas.List.{length-map, map_more, take-map, take_all}
 use Rattle.std.specs.declared.rc.Rc.{Rc}
 use Rattle.sml_objects.specs.Objects as O
 use Rattle.sml_objects.specs.declared.objects.MlType.{MlType}
-use Rattle.sml_objects.specs.Views.{type_of, types_of, name_of, label_list}
+use Rattle.sml_objects.specs.Objects.{types_of}
+use Rattle.sml_objects.specs.Views.{type_of, name_of, label_list}
 use Rattle.sml_objects.specs.Types.{replace_type}
 use Rattle.sml_objects.proofs.TypeViews.{parts_of, type_of-bound, type_of-free, type_of-row, type_of-arrow, type_of-name}
 use Rattle.sml_objects.proofs.NameTests.{eq, eq-same, same-eq}

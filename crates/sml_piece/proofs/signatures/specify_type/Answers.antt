@@ -4,9 +4,9 @@ use Rattle.std.specs.Option.{is_some}
 use Rattle.sml_lex.specs.declared.fault.Code.TheVariants.{N2}
 use Rattle.sml_tree.specs.Views.{ident_of}
 use Rattle.sml_objects.specs.Maps.{lookup}
-use Rattle.sml_objects.specs.Objects.{types, one_type, mono, named, app, name, Sig, names_sig, names_env, names_map, names_type}
+use Rattle.sml_objects.specs.Objects.{types, one_type, mono, named, app, name, Sig, names_sig, names_env, names_map, names_type, types_of}
 use Rattle.sml_objects.specs.Initial.{Name, made}
-use Rattle.sml_objects.specs.Views.{env_of, maker_of, name_of, type_of, types_of}
+use Rattle.sml_objects.specs.Views.{env_of, maker_of, name_of, type_of}
 use Rattle.sml_objects.proofs.TypeViews.{type_of-name}
 use Rattle.sml_rules.specs.Answers.{accepted, refused, fault, any}
 use Rattle.sml_rules.specs.Readings.{read_spec}

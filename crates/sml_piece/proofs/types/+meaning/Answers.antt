@@ -7,7 +7,8 @@ use Rattle.sml_tree.specs.declared.bare.Ty.{Ty}
 use Rattle.sml_tree.proofs.TreeViews.{ty_of-constructor, ty_of-tuple, ty_of-arrow, ty_of-bracket}
 use Rattle.sml_objects.specs.Objects as O
 use Rattle.sml_objects.specs.Initial.{Name}
-use Rattle.sml_objects.specs.Views.{type_of, types_of}
+use Rattle.sml_objects.specs.Objects.{types_of}
+use Rattle.sml_objects.specs.Views.{type_of}
 use Rattle.sml_objects.specs.declared.objects.MlType.{MlType}
 use Rattle.sml_rules.specs.Answers.{accepted}
 use Rattle.sml_rules.specs.Readings.{read_ty, read_tys}

@@ -3,7 +3,8 @@ use Rattle.std.proofs.lemmas.List.{length-map}
 use Rattle.sml_objects.specs.Initial.{Name}
 use Rattle.sml_objects.specs.Labels.{numbers}
 use Rattle.sml_objects.specs.Objects as O
-use Rattle.sml_objects.specs.Views.{type_of, types_of, label_list}
+use Rattle.sml_objects.specs.Objects.{types_of}
+use Rattle.sml_objects.specs.Views.{type_of, label_list}
 use Rattle.sml_objects.proofs.TypeViews.{parts_of, type_of-row}
 use Rattle.sml_piece.proofs.Answering.{made_same}
 use Rattle.sml_piece.proofs.types.row.Goals as goal

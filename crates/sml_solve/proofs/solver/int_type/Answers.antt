@@ -1,8 +1,7 @@
 use Rattle.std.proofs.Common.{◌∙◌, ap}
 use Rattle.sml_objects.specs.Initial.{initial}
 use Rattle.sml_objects.specs.Names.{int}
-use Rattle.sml_objects.specs.Objects.{app, name}
-use Rattle.sml_objects.specs.Views.{types_of}
+use Rattle.sml_objects.specs.Objects.{app, name, types_of}
 use Rattle.sml_objects.specs.declared.objects.Initial.TheVariants.{Int}
 use Rattle.sml_objects.specs.declared.objects.TyName.TheVariants.{Initial}
 use Rattle.sml_objects.proofs.TypeViews.{parts_of, type_of-name}

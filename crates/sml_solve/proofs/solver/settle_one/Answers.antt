@@ -2,7 +2,7 @@ use Rattle.std.specs.Prelude.{OnOk}
 use Rattle.sml_objects.specs.Views.{type_of}
 use Rattle.sml_objects.specs.declared.objects.MlType.{Free}
 use Rattle.sml_objects.proofs.TypeViews.{type_of-free}
-use Rattle.sml_graph.specs.declared.layer.Layer.{Layer}
+use Rattle.sml_layers.specs.declared.layer.Layer.{Layer}
 use Rattle.sml_graph.specs.Asked.{count, equal, Adds, CanMeet, IsFirstUnmet, Demand}
 use Rattle.sml_demands.specs.Overloaded.{IsOverloaded}
 use Rattle.sml_solve.proofs.Defaulting.{to_int, settled-one, settled-none, int-over, free-over, on_ok, not-unmet}

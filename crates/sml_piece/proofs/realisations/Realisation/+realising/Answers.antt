@@ -5,7 +5,8 @@ use Rattle.std.specs.declared.rc.Rc.{Rc}
 use Rattle.sml_objects.specs.Objects as O
 use Rattle.sml_objects.specs.Initial.{Name}
 use Rattle.sml_objects.specs.Types.{applied}
-use Rattle.sml_objects.specs.Views.{type_of, types_of, scheme_of, name_of, label_list}
+use Rattle.sml_objects.specs.Objects.{types_of}
+use Rattle.sml_objects.specs.Views.{type_of, scheme_of, name_of, label_list}
 use Rattle.sml_objects.specs.declared.objects.MlType.{Bound, Free}
 use Rattle.sml_objects.specs.declared.objects.MlType.TheViews as V
 use Rattle.sml_objects.specs.declared.objects.Scheme.{Scheme}

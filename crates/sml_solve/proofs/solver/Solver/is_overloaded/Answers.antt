@@ -2,7 +2,7 @@ use Rattle.std.proofs.Common.{◌≡◌, ◌<◌, ◌∙◌, length, get_or, sym
 use Rattle.std.proofs.lemmas.List.{get_or_default}
 use Rattle.std.specs.Bool.{OnTrue, OnFalse}
 use Rattle.sml_objects.specs.Views.{maker_of}
-use Rattle.sml_graph.specs.declared.layer.Layer.{Layer}
+use Rattle.sml_layers.specs.declared.layer.Layer.{Layer}
 use Rattle.sml_graph.specs.Asked.{asked_of, count, CanMeet}
 use Rattle.sml_demands.specs.Overloaded.{IsOverloaded}
 use Rattle.sml_graph.specs.Whole.{IsKept}

@@ -1,7 +1,7 @@
 use Rattle.std.proofs.Common.{length, subst, sym}
 use Rattle.std.specs.Prelude.{false}
 use Rattle.sml_objects.specs.Views.{type_of, maker_of}
-use Rattle.sml_graph.specs.Worlds.{finite}
+use Rattle.sml_layers.specs.Worlds.{finite}
 use Rattle.sml_graph.specs.Interned.{IsOver, Interns}
 use Rattle.sml_graph.specs.Asked.{asked_of, IsOf, PermitsSame}
 use Rattle.sml_graph.specs.Whole.{IsKept, IsWhole}

@@ -1,8 +1,8 @@
 use Rattle.std.proofs.Common.{◌≡◌, ◌∙◌, length, subst, sym, refl, arith}
 use Rattle.std.specs.Prelude.{true, false}
 use Rattle.sml_objects.specs.Views.{type_of, maker_of}
-use Rattle.sml_graph.specs.declared.layer.Layer.TheVariants.{Finiteness, Rigidity}
-use Rattle.sml_graph.specs.Worlds.{finite}
+use Rattle.sml_layers.specs.declared.layer.Layer.TheVariants.{Finiteness, Rigidity}
+use Rattle.sml_layers.specs.Worlds.{finite}
 use Rattle.sml_graph.specs.Graphs.{node_at}
 use Rattle.sml_graph.specs.Interned.{IsOver, Interns}
 use Rattle.sml_graph.specs.Asked.{asked_of, IsOf, PermitsSame}

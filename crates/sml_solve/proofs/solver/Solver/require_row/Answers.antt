@@ -1,7 +1,7 @@
 use Rattle.std.proofs.Common.{◌≡◌, ◌++◌, ◌∙◌, ap, subst, sym, Err}
 use Rattle.std.specs.Prelude.{false}
 use Rattle.sml_objects.specs.Views.{type_of, maker_of}
-use Rattle.sml_graph.specs.declared.layer.Refusal.TheVariants.{Unmet}
+use Rattle.sml_graph.specs.declared.demand.Refusal.TheVariants.{Unmet}
 use Rattle.sml_graph.specs.Asked.{asked_of, has_fields, Demand, Adds, CanMeet, IsFirstUnmet}
 use Rattle.sml_graph.specs.Interned.{demanded}
 use Rattle.sml_graph.specs.Whole.{IsKept}

@@ -2,7 +2,8 @@ use Rattle.std.proofs.Common.{◌≡◌, ◌+◌, not, ltb, ap, sym, ◌∙◌, 
 use Rattle.std.proofs.lemmas.List.{length-take-le, length-map, map-append, take_all}
 use Rattle.std.proofs.lemmas.Grind.{take_at_read}
 use Rattle.sml_objects.specs.Objects as O
-use Rattle.sml_objects.specs.Views.{type_of, types_of, name_of, label_list}
+use Rattle.sml_objects.specs.Objects.{types_of}
+use Rattle.sml_objects.specs.Views.{type_of, name_of, label_list}
 use Rattle.sml_objects.proofs.TypeViews.{parts_of, type_of-bound, type_of-free, type_of-row, type_of-arrow, type_of-name}
 use Rattle.sml_texts.specs.Text.{show_type, show_types, joined, bracketed, a_name}
 use Rattle.sml_texts.specs.Spelling.{lines_of, and_pieces, level}

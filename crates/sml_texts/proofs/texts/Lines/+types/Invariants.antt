@@ -1,5 +1,5 @@
 use Rattle.std.proofs.Common.{◌≡◌, take}
-use Rattle.sml_objects.specs.Views.{types_of}
+use Rattle.sml_objects.specs.Objects.{types_of}
 use Rattle.sml_objects.proofs.TypeViews.{parts_of}
 use Rattle.sml_texts.specs.Text.{joined, show_types}
 use Rattle.sml_texts.specs.Spelling.{lines_of, and_pieces, level}

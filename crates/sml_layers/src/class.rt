@@ -2,7 +2,7 @@
 
 ghost use Rattle.std.specs.Prelude.{◌≡◌};
 ghost use Rattle.sml_objects.specs.Views.{initial_of};
-ghost use Rattle.sml_graph.specs.Classes.{names_in, both_names, allows};
+ghost use Rattle.sml_layers.specs.Classes.{names_in, both_names, allows};
 
 use sml_objects::objects::Initial;
 
@@ -22,14 +22,14 @@ pub enum Class {
 /// Initial type names: `int`, and where these are set `word`, `real`, and `string` and `char`.
 #[derive(Clone, Copy)]
 pub struct Names {
-    pub(crate) word: bool,
-    pub(crate) real: bool,
-    pub(crate) text: bool,
+    pub word: bool,
+    pub real: bool,
+    pub text: bool,
 }
 
 impl Class {
     /// The names of the class.
-    pub(crate) fn names(self) -> Names
+    pub fn names(self) -> Names
         ensures { result ≡ names_in self }
     {
         Names {
@@ -42,7 +42,7 @@ impl Class {
 
 impl Names {
     /// The names that both have.
-    pub(crate) fn and(self, other: Names) -> Names
+    pub fn and(self, other: Names) -> Names
         ensures { result ≡ both_names self other }
     {
         Names {
@@ -53,7 +53,7 @@ impl Names {
     }
 
     /// Whether a name is one of them.
-    pub(crate) fn has(self, name: Initial) -> bool
+    pub fn has(self, name: Initial) -> bool
         ensures { result ≡ allows self (initial_of name) }
     {
         match name {

@@ -1,15 +1,9 @@
-//! Explicit type variables.
+//! The explicit type variables that are asked of a type.
 
 ghost use Rattle.std.specs.Prelude.{◌≡◌};
 ghost use Rattle.sml_graph.specs.Variables.{both_variables};
 
-/// An explicit type variable of a declaration: its number there, and whether it admits equality (the Definition,
-/// section 4.1).
-#[derive(Clone, Copy, PartialEq, Eq)]
-pub struct Variable {
-    pub number: u32,
-    pub equality: bool,
-}
+use sml_layers::variable::Variable;
 
 /// The explicit type variables that a type is to be.
 #[derive(Clone, Copy)]

@@ -1,11 +1,9 @@
 -- Classes of initial type names (the Definition, appendix E).
-use Rattle.std.specs.Prelude.{◌≡◌, Bool, true, false, ◌&&◌, ◌||◌, not, Option, Some, None}
+use Rattle.std.specs.Prelude.{Bool, true, false, ◌&&◌, ◌||◌, not, Option, Some, None}
 use Rattle.sml_objects.specs.Names.{Initial, int, word, char, string, real}
-use Rattle.sml_objects.specs.Initial.{Name, initial}
-use Rattle.sml_objects.specs.Objects.{MlType, named}
-use Rattle.sml_graph.specs.declared.class.Class.{Class}
-use Rattle.sml_graph.specs.declared.class.Class.TheVariants.{WordInt, RealInt, Num, NumTxt}
-use Rattle.sml_graph.specs.declared.class.Names.{Names}
+use Rattle.sml_layers.specs.declared.class.Class.{Class}
+use Rattle.sml_layers.specs.declared.class.Class.TheVariants.{WordInt, RealInt, Num, NumTxt}
+use Rattle.sml_layers.specs.declared.class.Names.{Names}
 
 -- int, and which others
 abbrev pub names_in : Class → Names
@@ -35,7 +33,3 @@ has_several (Some c) e = c.word || (c.text || (c.real && not e))
 abbrev pub has_one : Option Names → Bool → Bool
 has_one None e = false
 has_one (Some c) e = not (has_several (Some c) e)
-
--- the type is one of the names
-abbrev pub IsIn : Names → MlType Name → Type 0
-IsIn c t = (k : Initial) × (allows c k ≡ true) × (t ≡ named (initial k))

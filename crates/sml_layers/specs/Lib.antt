@@ -1,0 +1,6 @@
+pub mod Layers
+pub mod Worlds
+pub mod Rows
+pub mod Classes
+pub mod Demands
+pub mod Rebound

@@ -1,0 +1,247 @@
+-- Bindings of types and of datatypes (the Definition, section 4.10, rules 16, 17 and 27 to 29, and section 4.9).
+use Rattle.std.specs.Prelude.{◌≡◌, ◌≤◌, ℕ, zero, suc, Bool, true, false, ◌&&◌, ◌||◌, cond, nat_eq, List, [], ◌∷◌, map, length, replicate, slice_index_or, Option, Some, None}
+use Rattle.sml_lex.specs.declared.fault.Code.TheVariants.{E7}
+use Rattle.sml_tree.specs.Trees.{Id, LongId}
+use Rattle.sml_tree.specs.Names.{Name, LongName}
+use Rattle.sml_tree.specs.Types.{Ty, Tys, TyFields, ty_variable, ty_row, ty_tuple, ty_constructor, ty_misapplied, ty_arrow, ty_bracket, no_ty, and_ty, ty_field, no_ty_field, and_ty_field}
+use Rattle.sml_tree.specs.Expressions.{TypBind, ConBind, DatBind}
+use Rattle.sml_objects.specs.Appearance.{Stands}
+use Rattle.sml_objects.specs.Equality.{is_ref}
+use Rattle.sml_objects.specs.Fates.{close_as}
+use Rattle.sml_objects.specs.declared.fates.Fate.TheVariants.{Bind}
+use Rattle.sml_objects.specs.Maps.{Map, lookup, put}
+use Rattle.sml_objects.specs.Names.{Naming}
+use Rattle.sml_objects.specs.Objects.{MlType, MlTypes, Scheme, bound, free, app, arrow, row, name, no_type, and_type, arrow_of}
+use Rattle.sml_objects.specs.Sizes.{type_size}
+use Rattle.sml_objects.specs.Types.{variables_after}
+use Rattle.sml_rules.specs.Answers as A
+use Rattle.sml_rules.specs.Answers.{Reading, fault}
+use Rattle.sml_core_rules.specs.Objects.{Env, Value, TyStr, constructor, of_types, values, maps, no_structure, extend, empty}
+use Rattle.sml_core_rules.specs.Lookups.{is_same}
+use Rattle.sml_core_rules.specs.Steps.{Scope, Step, give, ◌>>=◌, look, test, new_name, only_if, any_flag}
+use Rattle.sml_core_rules.specs.Types.{read_ty}
+
+-- A scheme and the body of a type function have at most 10,000 nodes.
+abbrev pub IsSmall : {N : Type 0} → Scheme N → Type 0
+IsSmall σ = type_size σ.body ≤ 10000
+
+abbrev pub AreSmall : {N X : Type 0} → (X → Scheme N) → Map X → Type 0
+AreSmall f [] = Unit {0}
+AreSmall f (e ∷ es) = IsSmall (f e.1) × AreSmall f es
+
+-- an equality variable begins with two primes (section 2.4)
+abbrev pub is_equality : Id → Bool
+is_equality [] = false
+is_equality (b ∷ []) = false
+is_equality (b ∷ c ∷ bs) = nat_eq b 39 && nat_eq c 39
+
+-- the variables of a list, with what the numbers from k on stand for
+abbrev pub listed : {P N : Type 0} → (ℕ → MlType N) → ℕ → List (Name P) → Map (MlType N)
+listed f k [] = []
+listed f k (x ∷ xs) = (x.id, f k) ∷ listed f (suc k) xs
+
+abbrev pub types_from : {N : Type 0} → (ℕ → MlType N) → ℕ → ℕ → MlTypes N
+types_from f k zero = no_type
+types_from f k (suc n) = and_type (f k) (types_from f (suc k) n)
+
+-- the type function that is a name alone; the equality attributes of its variables have no effect
+abbrev pub name_function : {N : Type 0} → N → ℕ → Scheme N
+name_function n k = record { variables = replicate k false; body = app (name n) (types_from bound 0 k) }
+
+-- The type of a constructor of a datatype, closed over the parameters, of which these admit equality.
+abbrev pub constructor_scheme : {N : Type 0} → List Bool → MlType N → Scheme N
+constructor_scheme es t = close_as t (map (λ v. Bind (slice_index_or es v false)) (variables_after [] t)) t
+
+abbrev pub constructor_type : {N : Type 0} → MlType N → Option (MlType N) → MlType N
+constructor_type t None = t
+constructor_type t (Some u) = arrow_of u t
+
+-- a constructor with the type of its argument, in which the parameters are free variables numbered from 0 on
+abbrev pub Arguments : Type 0 → Type 0
+Arguments N = List (Id × Option (MlType N))
+
+-- Which names admit equality is given.
+module _ {N : Type 0} (names : Naming N) (eq : N → Bool) where
+  -- the type admits equality, where each parameter does
+  unfoldable mutual
+    pub admits_by : MlType N → Bool
+    admits_by (bound k) = false
+    admits_by (free v) = true
+    admits_by (app arrow ts) = false
+    admits_by (app (row ls) ts) = all_admit_by ts
+    admits_by (app (name n) ts) = is_ref names n || (eq n && all_admit_by ts)
+
+    pub all_admit_by : MlTypes N → Bool
+    all_admit_by no_type = true
+    all_admit_by (and_type t ts) = admits_by t && all_admit_by ts
+
+  abbrev pub argument_admits : Option (MlType N) → Bool
+  argument_admits None = true
+  argument_admits (Some t) = admits_by t
+
+  abbrev pub arguments_admit : Arguments N → Bool
+  arguments_admit [] = true
+  arguments_admit (c ∷ cs) = argument_admits c.1 && arguments_admit cs
+
+  -- Those that admit equality have constructors whose arguments do.
+  abbrev pub Respects : List (N × Arguments N) → Type 0
+  Respects [] = Unit {0}
+  Respects (d ∷ ds) = (eq d.0 ≡ true → arguments_admit d.1 ≡ true) × Respects ds
+
+abbrev pub has_equality : {N : Type 0} → Naming N → N → Bool
+has_equality names n = (names.attributes n).equality
+
+-- The new names that admit equality are the largest set that respects it: they contain every other such set.
+unfoldable pub AdmitAsManyAsCan : {N : Type 0} → Naming N → List (N × Arguments N) → Type 0
+AdmitAsManyAsCan {N} names ds =
+    Respects names (has_equality names) ds
+    × ((eq : N → Bool) → ((n : N) → ¬ (Stands n (map (λ d. d.0) ds)) → eq n ≡ has_equality names n) → Respects names eq ds
+    → (n : N) → Stands n (map (λ d. d.0) ds) → eq n ≡ true → has_equality names n ≡ true)
+
+-- Right sides in the places of the type constructors bound behind `withtype`, with their arguments for the parameters.
+
+abbrev pub find_side : {P : Type 0} → Id → List (TypBind P) → Option (TypBind P)
+find_side x [] = None
+find_side x (b ∷ bs) = cond (is_same x b.name.id) (Some b) (find_side x bs)
+
+abbrev pub side_of : {P : Type 0} → LongId → List (TypBind P) → Option (TypBind P)
+side_of c bs = elim c.path [ [] ↦ find_side c.last bs | _ ∷ _ ↦ None ]
+
+abbrev pub list_of : {P : Type 0} → Tys P → List (Ty P)
+list_of no_ty = []
+list_of (and_ty t ts) = t ∷ list_of ts
+
+abbrev pub arguments_for : {P : Type 0} → List (Name P) → List (Ty P) → Map (Ty P)
+arguments_for [] ts = []
+arguments_for (x ∷ xs) [] = []
+arguments_for (x ∷ xs) (t ∷ ts) = (x.id, t) ∷ arguments_for xs ts
+
+abbrev pub or_variable : {P : Type 0} → P → Id → Option (Ty P) → Ty P
+or_variable p x (Some t) = t
+or_variable p x None = ty_variable p x
+
+unfoldable mutual
+  -- the type expression with others for its variables
+  pub put_for : {P : Type 0} → Map (Ty P) → Ty P → Ty P
+  put_for m (ty_variable p x) = or_variable p x (lookup x m)
+  put_for m (ty_row p fs) = ty_row p (put_for_fields m fs)
+  put_for m (ty_tuple p ts) = ty_tuple p (put_for_all m ts)
+  put_for m (ty_constructor p ts c) = ty_constructor p (put_for_all m ts) c
+  put_for m (ty_misapplied p ts c) = ty_misapplied p (put_for_all m ts) c
+  put_for m (ty_arrow p t u) = ty_arrow p (put_for m t) (put_for m u)
+  put_for m (ty_bracket p t) = ty_bracket p (put_for m t)
+
+  pub put_for_all : {P : Type 0} → Map (Ty P) → Tys P → Tys P
+  put_for_all m no_ty = no_ty
+  put_for_all m (and_ty t ts) = and_ty (put_for m t) (put_for_all m ts)
+
+  pub put_for_fields : {P : Type 0} → Map (Ty P) → TyFields P → TyFields P
+  put_for_fields m no_ty_field = no_ty_field
+  put_for_fields m (and_ty_field (ty_field l t) fs) = and_ty_field (ty_field l (put_for m t)) (put_for_fields m fs)
+
+abbrev pub side_for : {P : Type 0} → P → Tys P → LongName P → Option (TypBind P) → Ty P
+side_for p ts c None = ty_constructor p ts c
+side_for p ts c (Some b) = cond (nat_eq (length b.variables) (length (list_of ts))) (put_for (arguments_for b.variables (list_of ts)) b.ty) (ty_misapplied p ts c)
+
+unfoldable mutual
+  pub with_sides : {P : Type 0} → List (TypBind P) → Ty P → Ty P
+  with_sides bs (ty_variable p x) = ty_variable p x
+  with_sides bs (ty_row p fs) = ty_row p (fields_with_sides bs fs)
+  with_sides bs (ty_tuple p ts) = ty_tuple p (all_with_sides bs ts)
+  with_sides bs (ty_constructor p ts c) = side_for p (all_with_sides bs ts) c (side_of c.id bs)
+  with_sides bs (ty_misapplied p ts c) = ty_misapplied p (all_with_sides bs ts) c
+  with_sides bs (ty_arrow p t u) = ty_arrow p (with_sides bs t) (with_sides bs u)
+  with_sides bs (ty_bracket p t) = ty_bracket p (with_sides bs t)
+
+  pub all_with_sides : {P : Type 0} → List (TypBind P) → Tys P → Tys P
+  all_with_sides bs no_ty = no_ty
+  all_with_sides bs (and_ty t ts) = and_ty (with_sides bs t) (all_with_sides bs ts)
+
+  pub fields_with_sides : {P : Type 0} → List (TypBind P) → TyFields P → TyFields P
+  fields_with_sides bs no_ty_field = no_ty_field
+  fields_with_sides bs (and_ty_field (ty_field l t) fs) = and_ty_field (ty_field l (with_sides bs t)) (fields_with_sides bs fs)
+
+abbrev pub optional_with_sides : {P : Type 0} → List (TypBind P) → Option (Ty P) → Option (Ty P)
+optional_with_sides bs None = None
+optional_with_sides bs (Some t) = Some (with_sides bs t)
+
+abbrev pub datatype_with_sides : {P : Type 0} → List (TypBind P) → DatBind P → DatBind P
+datatype_with_sides bs d = record {
+  variables = d.variables;
+  name = d.name;
+  constructors = map (λ c. record { name = c.name; argument = optional_with_sides bs c.argument }) d.constructors;
+}
+
+abbrev pub with_names : {N : Type 0} → List N → List (Arguments N) → List (N × Arguments N)
+with_names [] gs = []
+with_names (n ∷ ns) [] = []
+with_names (n ∷ ns) (a ∷ gs) = (n, a) ∷ with_names ns gs
+
+abbrev pub constructors_of : {N : Type 0} → MlType N → List Bool → Arguments N → Map (Scheme N)
+constructors_of t es [] = []
+constructors_of t es (c ∷ cs) = put c.0 (constructor_scheme es (constructor_type t c.1)) (constructors_of t es cs)
+
+abbrev pub constructor_values : {N : Type 0} → Map (Scheme N) → Map (Value N)
+constructor_values cs = map (λ c. (c.0, record { scheme = c.1; status = constructor })) cs
+
+module _ {P N : Type 0} where
+  -- bindings of types, which see none of each other
+  unfoldable pub read_type_binds : Env N → Map (TyStr N) → List (TypBind P) → Reading P (Map (TyStr N))
+  read_type_binds C m [] = A.give m
+  read_type_binds C m (b ∷ bs) =
+      A.◌>>=◌ (read_ty C (listed bound 0 b.variables) b.ty)
+      (λ t. read_type_binds C (put b.name.id (record { function = record { variables = replicate (length b.variables) false; body = t }; constructors = [] }) m) bs)
+
+  abbrev pub read_argument : Env N → Map (MlType N) → Option (Ty P) → Reading P (Option (MlType N))
+  read_argument C vs None = A.give None
+  read_argument C vs (Some ty) = A.◌>>=◌ (read_ty C vs ty) (λ t. A.give (Some t))
+
+  unfoldable pub read_arguments : Env N → Map (MlType N) → List (ConBind P) → Reading P (Arguments N)
+  read_arguments C vs [] = A.give []
+  read_arguments C vs (c ∷ cs) =
+      A.◌>>=◌ (read_argument C vs c.argument) (λ t. A.◌>>=◌ (read_arguments C vs cs) (λ ts. A.give ((c.name.id, t) ∷ ts)))
+
+  unfoldable pub read_all_arguments : Env N → List (DatBind P) → Reading P (List (Arguments N))
+  read_all_arguments C [] = A.give []
+  read_all_arguments C (d ∷ ds) =
+      A.◌>>=◌ (read_arguments C (listed free 0 d.variables) d.constructors) (λ a. A.◌>>=◌ (read_all_arguments C ds) (λ gs. A.give (a ∷ gs)))
+
+  -- the datatypes as type structures, without their constructors
+  abbrev pub datatype_types : Map (TyStr N) → List (DatBind P) → List N → Map (TyStr N)
+  datatype_types m [] ns = m
+  datatype_types m (d ∷ ds) [] = m
+  datatype_types m (d ∷ ds) (n ∷ ns) = datatype_types (put d.name.id (record { function = name_function n (length d.variables); constructors = [] }) m) ds ns
+
+  abbrev pub datatype_env : DatBind P → N → Arguments N → Env N
+  datatype_env d n cs =
+      let made : Map (Scheme N) = constructors_of (app (name n) (types_from free 0 (length d.variables))) (map (λ x. is_equality x.id) d.variables) cs in
+      maps no_structure ((d.name.id, record { function = name_function n (length d.variables); constructors = made }) ∷ []) (constructor_values made)
+
+  abbrev pub datatype_envs : List (DatBind P) → List (N × Arguments N) → Env N
+  datatype_envs [] gs = empty
+  datatype_envs (d ∷ ds) [] = empty
+  datatype_envs (d ∷ ds) (a ∷ gs) = extend (datatype_env d a.0 a.1) (datatype_envs ds gs)
+
+  module _ (scope : Scope N) where
+    -- a new name for each, which admits equality or not
+    unfoldable pub new_names : List (DatBind P) → Step P N (List N)
+    new_names [] = give []
+    new_names (d ∷ ds) = do
+      e ← any_flag
+      n ← new_name scope (record { maker = scope.unit; arity = length d.variables; equality = e; constructors = map (λ c. c.name.id) d.constructors })
+      ns ← new_names ds
+      give (n ∷ ns)
+
+    abbrev pub read_types : P → Env N → List (TypBind P) → Step P N (Env N)
+    read_types p C bs = do
+      ts ← look (read_type_binds C [] bs)
+      u ← test (AreSmall (λ t. t.function) ts) (fault E7 p)
+      give (of_types ts)
+
+    abbrev pub read_datatypes : P → Env N → List (DatBind P) → Step P N (Env N)
+    read_datatypes p C ds = do
+      ns ← new_names ds
+      gs ← look (read_all_arguments (extend C (of_types (datatype_types [] ds ns))) ds)
+      u ← only_if (AdmitAsManyAsCan scope.names (with_names ns gs))
+      w ← test (AreSmall (λ v. v.scheme) (values (datatype_envs ds (with_names ns gs)))) (fault E7 p)
+      give (datatype_envs ds (with_names ns gs))

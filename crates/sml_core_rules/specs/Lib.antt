@@ -1,0 +1,11 @@
+pub mod Objects
+pub mod Lookups
+pub mod Steps
+pub mod Solutions
+pub mod Types
+pub mod Values
+pub mod Patterns
+pub mod Closing
+pub mod Datatypes
+pub mod Expressions
+pub mod Statements

@@ -1,0 +1,69 @@
+-- Instances of values, and what is asked of types (the Definition, sections 4.5 and 4.8, and appendix E).
+use Rattle.std.specs.Prelude.{ℕ, suc, Bool, true, false, List, [], ◌∷◌, length, Option, Some, None}
+use Rattle.sml_lex.specs.declared.fault.Code.TheVariants.{E1}
+use Rattle.sml_tree.specs.Trees.{Id}
+use Rattle.sml_tree.specs.Names.{LongName}
+use Rattle.sml_objects.specs.Maps.{lookup}
+use Rattle.sml_objects.specs.Objects.{MlType, bound, free, app, arrow, row, name}
+use Rattle.sml_objects.specs.Types.{instance_from}
+use Rattle.sml_layers.specs.declared.layer.Bound.{Bound}
+use Rattle.sml_layers.specs.Demands.{equal, asks, within, equality, of_class}
+use Rattle.sml_core_rules.specs.Objects.{Env, Value, Status, variable, constructor, exception, overloaded, values}
+use Rattle.sml_core_rules.specs.Lookups.{value_at}
+use Rattle.sml_core_rules.specs.Steps.{Scope, Step, give, ◌>>=◌, need, new_unknowns, require, so_far}
+
+abbrev pub constructs : Status → Bool
+constructs variable = false
+constructs constructor = true
+constructs exception = true
+constructs (overloaded c) = false
+
+abbrev pub value_constructs : {N : Type 0} → Option (Value N) → Bool
+value_constructs None = false
+value_constructs (Some v) = constructs v.status
+
+-- whether the short identifier is a constructor or an exception
+abbrev pub is_constructor : {N : Type 0} → Env N → Id → Bool
+is_constructor C x = value_constructs (lookup x (values C))
+
+abbrev pub is_arrow : {N : Type 0} → MlType N → Bool
+is_arrow (bound k) = false
+is_arrow (free v) = false
+is_arrow (app arrow ts) = true
+is_arrow (app (row ls) ts) = false
+is_arrow (app (name n) ts) = false
+
+module _ {P N : Type 0} (scope : Scope N) where
+  abbrev pub require_equal : P → MlType N → MlType N → Step P N (Unit {0})
+  require_equal p t u = require scope (equal t u) p
+
+  -- the type mentions only names made so far
+  abbrev pub require_so_far : Bound → P → MlType N → Step P N (Unit {0})
+  require_so_far b p t = do
+    s ← so_far
+    require scope (asks (within b s.names) t) p
+
+  -- unknowns from k on stand for variables with these equality attributes
+  abbrev pub require_attributes : P → ℕ → List Bool → Step P N (Unit {0})
+  require_attributes p k [] = give tt
+  require_attributes p k (false ∷ es) = require_attributes p (suc k) es
+  require_attributes p k (true ∷ es) = do
+    u ← require scope (asks equality (free k)) p
+    require_attributes p (suc k) es
+
+  abbrev pub require_status : P → ℕ → Status → Step P N (Unit {0})
+  require_status p k variable = give tt
+  require_status p k constructor = give tt
+  require_status p k exception = give tt
+  require_status p k (overloaded c) = require scope (asks (of_class c) (free k)) p
+
+  -- an instance with new unknowns
+  abbrev pub instance : P → Value N → Step P N (MlType N)
+  instance p v = do
+    k ← new_unknowns (length v.scheme.variables)
+    u ← require_attributes p k v.scheme.variables
+    w ← require_status p k v.status
+    give (instance_from k v.scheme.body)
+
+  abbrev pub find_value : Env N → LongName P → Step P N (Value N)
+  find_value C x = need E1 x.place x.id (value_at C x.id)

@@ -1,0 +1,16 @@
+//! What holds of the objects of the whole language and of all readings of the core, over the names of a run.
+
+ghost use Rattle.sml_objects.specs.Initial.{Name, naming};
+ghost use Rattle.sml_core_rules.specs.Statements.{ObjectsObeyLaws, ReadingsMove};
+
+/// Renaming by the identity changes nothing, renaming twice is renaming by the composition, and the names of a renamed
+/// object are the renamed names.
+pub fn objects_obey_the_laws_of_renaming()
+    ensures { ObjectsObeyLaws Name }
+{}
+
+/// A reading of a declaration stays one where a renaming is carried through the context, the state and the answer. So no
+/// answer depends on which new names were taken.
+pub fn readings_move_with_names()
+    ensures { ReadingsMove naming }
+{}

@@ -5,10 +5,13 @@ use crate::scopes::{Mark, Scopes};
 use sml_asks::asks::{ask_class, ask_equal, ask_equality, ask_instance, ask_within};
 use sml_envs::new_names::NewNames;
 use sml_envs::objects::{Basis, Env, Overload, Status, TypeStr, Value};
-use sml_graph::class::Class;
-use sml_graph::layer::{Bound, Refusal};
+use sml_envs::sizes::{GREATEST_SIZE, is_cut};
+use sml_graph::demand::Refusal;
+use sml_layers::class::Class;
+use sml_layers::layer::Bound;
 use sml_lex::fault::{Code, Memory, Place, Warning};
 use sml_objects::objects::{MlType, Scheme};
+use sml_objects::sizes::size_up_to;
 use sml_solve::solver::Solver;
 use sml_tree::bare::{Ident, LongIdent};
 use sml_tree::types::Ty;
@@ -38,6 +41,8 @@ pub struct Context<'a> {
     pub(crate) rows: Vec<(Place, Rc<MlType>)>,
     /// Whether an unknown of an earlier declaration may still stand in the scopes.
     pub(crate) is_open: bool,
+    /// Whether a constraint of the value declaration has a part that was too large to be made.
+    pub(crate) is_cut: bool,
 }
 
 /// The fault of a demand that was refused there.
@@ -74,6 +79,7 @@ impl<'a> Context<'a> {
             variables: 0,
             rows: Vec::new(alloc),
             is_open: false,
+            is_cut: false,
         }
     }
 
@@ -293,6 +299,10 @@ impl<'a> Context<'a> {
 
     /// The type that a type expression means, with the explicit type variables in scope.
     pub(crate) fn ty(&mut self, ty: &Ty) -> Result<Rc<MlType>, CoreFault> {
-        type_of(self.alloc, &self.scopes, &mut self.explicit, ty)
+        let ty = type_of(self.alloc, &self.scopes, &mut self.explicit, ty)?;
+        if size_up_to(&ty, GREATEST_SIZE) > GREATEST_SIZE && is_cut(&ty) {
+            self.is_cut = true;
+        }
+        Ok(ty)
     }
 }

@@ -9,8 +9,8 @@ use indexmap::IndexSet;
 use sml_asks::asks::{ask_fixed, ask_general, ask_labels, ask_reading, ask_scheme, ask_variable};
 use sml_envs::objects::{Status, Value};
 use sml_envs::sizes::GREATEST_SIZE;
-use sml_graph::layer::Bound;
-use sml_graph::variable::Variable;
+use sml_layers::layer::Bound;
+use sml_layers::variable::Variable;
 use sml_lex::fault::{Code, Memory, Place};
 use sml_objects::objects::{MlType, Scheme};
 use sml_tree::bare::Ident;
@@ -19,11 +19,12 @@ use sml_tree::names::Name;
 use sml_types::fault::{CoreFault, plain_fault};
 use sml_types::variables::{collect_free, is_equality_variable, is_ground};
 use std::alloc::Global;
+use std::mem;
 use std::rc::Rc;
 
 /// A value declaration while it is gone through: how many unknowns, flexible rows and explicit type variables there were
-/// before it, the unknowns of those that are scoped here, and what it binds, each variable with a flag where its right
-/// side is expansive.
+/// before it, the unknowns of those that are scoped here, what it binds, each variable with a flag where its right side is
+/// expansive, and whether the declaration around it has a constraint that is too large.
 #[derive(Drop)]
 pub(crate) struct Declaration {
     unknowns: usize,
@@ -32,6 +33,7 @@ pub(crate) struct Declaration {
     scoped: Vec<u32>,
     variables: Variables,
     expansive: Vec<bool>,
+    is_outer_cut: bool,
 }
 
 impl Context<'_> {
@@ -57,6 +59,7 @@ impl Context<'_> {
             scoped,
             variables: Variables::new(self.alloc),
             expansive: Vec::new(self.alloc),
+            is_outer_cut: mem::replace(&mut self.is_cut, false),
         })
     }
 
@@ -174,7 +177,7 @@ impl Context<'_> {
     }
 
     /// Ends a value declaration: what is overloaded in it becomes `int`, rows have their labels, explicit type variables
-    /// are general, and the types of its variables are closed and bound.
+    /// are general, and the types of its variables, which aren't too large, nor is a constraint in it, are closed and bound.
     #[inline(never)]
     pub(crate) fn end_values(
         &mut self,
@@ -190,6 +193,9 @@ impl Context<'_> {
         }
         self.explicit.leave(declaration.explicit);
         let schemes = self.schemes(place, &declaration)?;
+        if mem::replace(&mut self.is_cut, declaration.is_outer_cut) {
+            return Err(plain_fault(Code::E7, place));
+        }
         self.bind_schemes(&declaration.variables, schemes)
     }
 
@@ -199,7 +205,7 @@ impl Context<'_> {
         place: Place,
         declaration: &Declaration,
     ) -> Result<(), CoreFault> {
-        let others = self.left_open(place, declaration)?;
+        let others = self.left_open(declaration)?;
         let asked = ask_general(
             &mut self.solver,
             &declaration.scoped,
@@ -224,19 +230,14 @@ impl Context<'_> {
     }
 
     /// The unknowns in the types of the variables that are not closed.
-    fn left_open(
-        &mut self,
-        place: Place,
-        declaration: &Declaration,
-    ) -> Result<Vec<u32>, CoreFault> {
+    fn left_open(&self, declaration: &Declaration) -> Result<Vec<u32>, Memory> {
         let mut unknowns = IndexSet::new(self.alloc);
         for (index, (_, ty)) in declaration.variables.types.iter().enumerate() {
             if is_set(&declaration.expansive, index) {
-                let ty = self.reading(place, ty)?;
-                collect_free(&ty, &mut unknowns)?;
+                collect_free(ty, &mut unknowns)?;
             }
         }
-        Ok(list_of(self.alloc, &unknowns)?)
+        list_of(self.alloc, &unknowns)
     }
 
     /// The type that a type stands for, or E7.

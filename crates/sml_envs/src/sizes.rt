@@ -24,7 +24,7 @@ pub fn applied(
     too_large(alloc)
 }
 
-/// A flat type of one node more than a scheme may have.
+/// A flat type of one node more than a scheme may have. No other type is a list of more types than one.
 fn too_large(alloc: Global) -> Result<Rc<MlType>, Memory> {
     let part = Rc::new(
         alloc,
@@ -36,4 +36,33 @@ fn too_large(alloc: Global) -> Result<Rc<MlType>, Memory> {
     }
     let whole = MlType::Name(TyName::Initial(Initial::List), parts);
     Ok(Rc::new(alloc, whole)?)
+}
+
+/// Whether a type has a part that stands for one that is too large.
+#[cycle(cut)]
+pub fn is_cut(ty: &MlType) -> bool {
+    match ty {
+        MlType::Bound(_) => false,
+        MlType::Free(_) => false,
+        MlType::Row(_, parts) => are_cut(parts),
+        MlType::Arrow(from, to) => is_cut(from) || is_cut(to),
+        MlType::Name(name, parts) => is_list(*name) && parts.len() > 1 || are_cut(parts),
+    }
+}
+
+#[cycle(cut)]
+fn are_cut(parts: &[Rc<MlType>]) -> bool {
+    for part in parts {
+        if is_cut(part) {
+            return true;
+        }
+    }
+    false
+}
+
+fn is_list(name: TyName) -> bool {
+    match name {
+        TyName::Initial(Initial::List) => true,
+        _ => false,
+    }
 }

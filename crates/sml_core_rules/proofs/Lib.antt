@@ -1,2 +1,6 @@
 pub mod Renaming
 pub mod Moves
+pub mod Accepted
+pub mod Derived
+pub mod Datatypes
+pub mod Claims

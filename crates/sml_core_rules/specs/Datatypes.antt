@@ -44,6 +44,9 @@ abbrev pub types_from : {N : Type 0} → (ℕ → MlType N) → ℕ → ℕ → 
 types_from f k zero = no_type
 types_from f k (suc n) = and_type (f k) (types_from f (suc k) n)
 
+abbrev pub type_function : {P N : Type 0} → List (Name P) → MlType N → Scheme N
+type_function xs t = record { variables = replicate (length xs) false; body = t }
+
 -- the type function that is a name alone; the equality attributes of its variables have no effect
 abbrev pub name_function : {N : Type 0} → N → ℕ → Scheme N
 name_function n k = record { variables = replicate k false; body = app (name n) (types_from bound 0 k) }
@@ -60,13 +63,13 @@ constructor_type t (Some u) = arrow_of u t
 abbrev pub Arguments : Type 0 → Type 0
 Arguments N = List (Id × Option (MlType N))
 
--- Which names admit equality is given.
-module _ {N : Type 0} (names : Naming N) (eq : N → Bool) where
-  -- the type admits equality, where each parameter does
+-- Which variables and which names admit equality is given.
+module _ {N : Type 0} (names : Naming N) (var : ℕ → Bool) (eq : N → Bool) where
+  -- the type admits equality (section 4.4)
   unfoldable mutual
     pub admits_by : MlType N → Bool
     admits_by (bound k) = false
-    admits_by (free v) = true
+    admits_by (free v) = var v
     admits_by (app arrow ts) = false
     admits_by (app (row ls) ts) = all_admit_by ts
     admits_by (app (name n) ts) = is_ref names n || (eq n && all_admit_by ts)
@@ -75,9 +78,11 @@ module _ {N : Type 0} (names : Naming N) (eq : N → Bool) where
     all_admit_by no_type = true
     all_admit_by (and_type t ts) = admits_by t && all_admit_by ts
 
+module _ {N : Type 0} (names : Naming N) (eq : N → Bool) where
+  -- an argument admits equality, where each parameter does
   abbrev pub argument_admits : Option (MlType N) → Bool
   argument_admits None = true
-  argument_admits (Some t) = admits_by t
+  argument_admits (Some t) = admits_by names (λ _. true) eq t
 
   abbrev pub arguments_admit : Arguments N → Bool
   arguments_admit [] = true
@@ -190,7 +195,7 @@ module _ {P N : Type 0} where
   read_type_binds C m [] = A.give m
   read_type_binds C m (b ∷ bs) =
       A.◌>>=◌ (read_ty C (listed bound 0 b.variables) b.ty)
-      (λ t. read_type_binds C (put b.name.id (record { function = record { variables = replicate (length b.variables) false; body = t }; constructors = [] }) m) bs)
+      (λ t. read_type_binds C (put b.name.id (record { function = type_function b.variables t; constructors = [] }) m) bs)
 
   abbrev pub read_argument : Env N → Map (MlType N) → Option (Ty P) → Reading P (Option (MlType N))
   read_argument C vs None = A.give None

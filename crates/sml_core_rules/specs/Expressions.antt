@@ -7,7 +7,7 @@ use Rattle.sml_tree.specs.Trees.{Id}
 use Rattle.sml_tree.specs.Names.{LongName}
 use Rattle.sml_tree.specs.Expressions.{Exp, Exps, Fields, Rules, Dec, Decs, ValBinds, ExnBind, constant, name, row, tuple, let_in, bracket, apply, typed, handle, raise, fn, no_exp, and_exp, field, no_field, and_field, rule, no_rule, and_rule, val_dec, type_dec, datatype_dec, datatype_with, datatype_copy, exception_dec, local_dec, sequence_dec, open_dec, fixity_dec, no_dec, and_dec, bind, no_bind, and_bind, new_exception, exception_copy}
 use Rattle.sml_objects.specs.Maps.{Map, lookup, put}
-use Rattle.sml_objects.specs.Names.{int, exn}
+use Rattle.sml_objects.specs.Names.{Naming, int, exn}
 use Rattle.sml_objects.specs.Objects.{MlType, MlTypes, free, no_type, and_type, arrow_of, named, mono, tuple_of}
 use Rattle.sml_layers.specs.declared.layer.Bound.TheVariants.{Newness, Locality}
 use Rattle.sml_layers.specs.declared.layer.Layer.TheVariants.{Rigidity}
@@ -23,7 +23,7 @@ use Rattle.sml_core_rules.specs.Types.{put_field, row_of, read_ty}
 use Rattle.sml_core_rules.specs.Values.{instance, find_value, require_equal, require_so_far}
 use Rattle.sml_core_rules.specs.Patterns.{Bindings, read_pat, pattern_place, constant_type}
 use Rattle.sml_core_rules.specs.Closing.{is_expansive, is_function, expression_place, unguarded}
-use Rattle.sml_core_rules.specs.Datatypes.{AreSmall, is_equality, read_types, read_datatypes, datatype_with_sides, constructor_values}
+use Rattle.sml_core_rules.specs.Datatypes.{AreSmall, is_equality, read_argument, read_types, read_datatypes, datatype_with_sides, constructor_values}
 
 -- what a group of patterns binds
 abbrev pub bound_values : {N : Type 0} → Bindings N → Map (Value N)
@@ -64,6 +64,10 @@ pub record Begun (P N : Type 0) : Type 0 where
 
 abbrev pub exn_type : {N : Type 0} → Scope N → MlType N
 exn_type scope = named (scope.names.initial exn)
+
+abbrev pub exception_type : {N : Type 0} → Naming N → Option (MlType N) → MlType N
+exception_type names None = named (names.initial exn)
+exception_type names (Some t) = arrow_of t (named (names.initial exn))
 
 module _ {P N : Type 0} (scope : Scope N) where
   -- the variables of a pattern mention only names made so far
@@ -145,10 +149,8 @@ module _ {P N : Type 0} (scope : Scope N) where
 
   -- exceptions
   abbrev pub read_exception : Env N → Map (MlType N) → ExnBind P → Reading P (Id × Value N)
-  read_exception C vs (new_exception c) = elim c.argument [
-    | None ↦ A.give (c.name.id, record { scheme = mono (exn_type scope); status = exception })
-    | Some ty ↦ A.◌>>=◌ (read_ty C vs ty) (λ t. A.give (c.name.id, record { scheme = mono (arrow_of t (exn_type scope)); status = exception }))
-  ]
+  read_exception C vs (new_exception c) =
+      A.◌>>=◌ (read_argument C vs c.argument) (λ a. A.give (c.name.id, record { scheme = mono (exception_type scope.names a); status = exception }))
   read_exception C vs (exception_copy x y) =
       A.◌>>=◌ (found_value y) (λ v. A.◌>>=◌ (A.test (v.status ≡ exception) (fault E5 y.place)) (λ u. A.give (x.id, v)))
     where

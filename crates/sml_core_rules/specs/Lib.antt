@@ -8,4 +8,6 @@ pub mod Patterns
 pub mod Closing
 pub mod Datatypes
 pub mod Expressions
+pub mod Contexts
+pub mod Rules
 pub mod Statements

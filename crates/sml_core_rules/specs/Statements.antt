@@ -1,18 +1,25 @@
 -- What is claimed of the objects of the whole language, and of all readings of the core.
-use Rattle.std.specs.Prelude.{ℕ, List, map}
+use Rattle.std.specs.Prelude.{◌↔◌, ℕ, List, [], map}
 use Rattle.sml_lex.specs.declared.fault.Place.{Place}
-use Rattle.sml_tree.specs.Expressions.{Dec}
+use Rattle.sml_tree.specs.Names.{LongName}
+use Rattle.sml_tree.specs.Types.{Ty}
+use Rattle.sml_tree.specs.Expressions.{Dec, TypBind, DatBind, ExnBind}
 use Rattle.sml_objects.specs.Alike.{Renaming}
 use Rattle.sml_objects.specs.Laws.{ObeysLaws}
 use Rattle.sml_objects.specs.Maps.{Map}
-use Rattle.sml_objects.specs.Names.{Naming}
+use Rattle.sml_objects.specs.Appearance.{Stands}
+use Rattle.sml_objects.specs.Names.{Naming, Initial}
 use Rattle.sml_objects.specs.Objects.{MlType, rename_type}
 use Rattle.sml_layers.specs.declared.variable.Variable.{Variable}
 use Rattle.sml_layers.specs.Demands.{Ask, within, equality, of_class, variable, Demand, equal, has_fields, asks}
 use Rattle.sml_rules.specs.Answers.{Answer, refused, accepted}
-use Rattle.sml_core_rules.specs.Objects.{Env, replaced, rename_env, names_env, rename_basis, names_basis}
-use Rattle.sml_core_rules.specs.Steps.{State}
-use Rattle.sml_core_rules.specs.Expressions.{read_dec}
+use Rattle.sml_core_rules.specs.Objects.{Env, Value, TyStr, empty, replaced, rename_env, names_env, rename_basis, names_basis}
+use Rattle.sml_core_rules.specs.Steps.{Scope, State}
+use Rattle.sml_core_rules.specs.Types.{read_ty}
+use Rattle.sml_core_rules.specs.Datatypes.{Arguments, read_type_binds, read_all_arguments, read_datatypes}
+use Rattle.sml_core_rules.specs.Expressions.{read_dec, read_exceptions, read_opened}
+use Rattle.sml_core_rules.specs.Contexts.{Context}
+use Rattle.sml_core_rules.specs.Rules.{Means, BindTypes, MeanAllArguments, BindDatatypes, BindExceptions, Opens}
 
 -- renaming what a state holds
 
@@ -51,3 +58,16 @@ ReadingsMove {N} names =
 pub record ObjectsObeyLaws (N : Type 0) : Type 0 where
   pub environments : ObeysLaws {N = N} rename_env names_env
   pub bases : ObeysLaws {N = N} rename_basis names_basis
+
+-- Where a phrase asks nothing of unknown types, what is read of it is what the rules derive.
+pub record ReadingsDerive {N : Type 0} (scope : Scope N) : Type 0 where
+  pub types : (C : Env N) (vs : Map (MlType N)) (u : Ty Place) (t : MlType N) → read_ty C vs u (accepted t) ↔ Means C vs u t
+  pub type_bindings : (C : Env N) (bs : List (TypBind Place)) (ts : Map (TyStr N)) → read_type_binds C [] bs (accepted ts) ↔ BindTypes C [] bs ts
+  pub arguments : (C : Env N) (ds : List (DatBind Place)) (gs : List (Arguments N)) → read_all_arguments C ds (accepted gs) ↔ MeanAllArguments C ds gs
+  pub exceptions : (C : Env N) (vs : Map (MlType N)) (bs : List (ExnBind Place)) (xs : Map (Value N))
+      → read_exceptions scope C vs [] bs (accepted xs) ↔ BindExceptions scope.names C vs [] bs xs
+  pub opened : (C : Env N) (ss : List (LongName Place)) (E : Env N) → read_opened scope C empty ss (accepted E) ↔ Opens C empty ss E
+  -- where the names of the context and the initial ones are among those made so far
+  pub datatypes : (p : Place) (C : Context N) (ds : List (DatBind Place)) (s : State Place N) (r : Env N × State Place N)
+      → ((n : N) → Stands n C.names → Stands n s.names) → ((k : Initial) → Stands (scope.names.initial k) s.names)
+      → read_datatypes scope p C.env ds s (accepted r) → BindDatatypes scope.names C ds r.0

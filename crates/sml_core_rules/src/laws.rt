@@ -1,7 +1,8 @@
 //! What holds of the objects of the whole language and of all readings of the core, over the names of a run.
 
 ghost use Rattle.sml_objects.specs.Initial.{Name, naming};
-ghost use Rattle.sml_core_rules.specs.Statements.{ObjectsObeyLaws, ReadingsMove};
+ghost use Rattle.sml_core_rules.specs.Statements.{ObjectsObeyLaws, ReadingsDerive, ReadingsMove};
+ghost use Rattle.sml_core_rules.specs.Steps.{Scope};
 
 /// Renaming by the identity changes nothing, renaming twice is renaming by the composition, and the names of a renamed
 /// object are the renamed names.
@@ -13,4 +14,10 @@ pub fn objects_obey_the_laws_of_renaming()
 /// answer depends on which new names were taken.
 pub fn readings_move_with_names()
     ensures { ReadingsMove naming }
+{}
+
+/// Type expressions, bindings of types, the arguments of constructors, exceptions and opened structures are read as the
+/// rules derive them (the Definition, section 4.10, rules 22, 27 to 31 and 44 to 49), and as nothing else.
+pub fn readings_are_derived()
+    ensures { (scope : Scope Name) → ReadingsDerive scope }
 {}

@@ -14,6 +14,9 @@ module _ {P N : Type 0} where
   unfolding give
   step_given x s r h = given P (x, s) r h
 
+  pub step_value : {X : Type 0} (x : X) (s : State P N) (r : X × State P N) → give x s (accepted r) → r.0 ≡ x
+  step_value x s r h = ap (λ q. q.0) (step_given x s r h)
+
   pub step_bound : {X Y : Type 0} (m : Step P N X) (next : X → Step P N Y) (s : State P N) (r : Y × State P N) → (m >>= next) s (accepted r)
       → (q : X × State P N) × m s (accepted q) × next q.0 q.1 (accepted r)
   unfolding ◌>>=◌

@@ -12,7 +12,7 @@ use Rattle.sml_core_rules.specs.Steps.{Scope, State, with_name}
 use Rattle.sml_core_rules.specs.Datatypes.{AdmitAsManyAsCan, with_names, datatype_types, datatype_envs, read_all_arguments, new_names, read_datatypes}
 use Rattle.sml_core_rules.specs.Contexts.{Context}
 use Rattle.sml_core_rules.specs.Rules.{AreNew, BindDatatypes}
-use Rattle.sml_core_rules.proofs.Accepted.{step_given, step_bound, step_looked, step_only, step_flag, step_named}
+use Rattle.sml_core_rules.proofs.Accepted.{step_value, step_bound, step_looked, step_only, step_flag, step_named}
 use Rattle.sml_core_rules.proofs.Derived.{all-arguments-to}
 
 apart : {N : Type 0} (n m : N) (ms : List N) → Outside n ms → Stands m ms → ¬ (m ≡ n)
@@ -34,7 +34,7 @@ module _ {P N : Type 0} (scope : Scope N) where
   names-new : (ds : List (DatBind P)) (old : List N) (s : State P N) (r : List N × State P N) → AreOld scope.names s.names old
       → new_names scope ds s (accepted r) → AreNew scope.names old ds r.0
   unfolding new_names AreNew AreOld Outside
-  names-new [] old s r f h = ap (λ q. q.0) (step_given [] s r h)
+  names-new [] old s r f h = step_value [] s r h
   names-new (d ∷ ds) old s r f h =
       let a = step_bound _ _ s r h in
       let b = step_bound _ _ a.0.1 r a.2 in
@@ -49,7 +49,7 @@ module _ {P N : Type 0} (scope : Scope N) where
         ap (λ w. w.constructors) k.0,
         names-new ds (b.0.0 ∷ old) b.0.1 c.0
             (subst (λ t. AreOld scope.names t.names (b.0.0 ∷ old)) (sym (k.2 ∙ ap (with_name b.0.0) (step_flag s a.0 a.1))) (λ m o. ((o.0, (f m o.1).0), (f m o.1).1))) c.1,
-        ap (λ q. q.0) (step_given _ c.0.1 r c.2),
+        step_value _ c.0.1 r c.2,
       )
 
   pub datatypes-derive : (p : P) (C : Context N) (ds : List (DatBind P)) (s : State P N) (r : Env N × State P N)
@@ -67,5 +67,5 @@ module _ {P N : Type 0} (scope : Scope N) where
         names-new ds C.names s a.0 (λ n o. (outside n C.names s.names f o, λ k. apart n (scope.names.initial k) s.names o (g k))) a.1,
         all-arguments-to (extend C.env (of_types (datatype_types [] ds a.0.0))) ds b.0.0 m.0,
         (step_only (AdmitAsManyAsCan scope.names (with_names a.0.0 b.0.0)) b.0.1 c.0 c.1).0,
-        ap (λ q. q.0) (step_given (datatype_envs ds (with_names a.0.0 b.0.0)) d.0.1 r d.2),
+        step_value (datatype_envs ds (with_names a.0.0 b.0.0)) d.0.1 r d.2,
       )

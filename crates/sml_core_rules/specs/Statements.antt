@@ -1,5 +1,5 @@
 -- What is claimed of the objects of the whole language, and of all readings of the core.
-use Rattle.std.specs.Prelude.{◌↔◌, ℕ, List, [], map}
+use Rattle.std.specs.Prelude.{◌≡◌, ◌↔◌, ℕ, Bool, List, [], map}
 use Rattle.sml_lex.specs.declared.fault.Place.{Place}
 use Rattle.sml_tree.specs.Names.{LongName}
 use Rattle.sml_tree.specs.Types.{Ty}
@@ -9,7 +9,10 @@ use Rattle.sml_objects.specs.Laws.{ObeysLaws}
 use Rattle.sml_objects.specs.Maps.{Map}
 use Rattle.sml_objects.specs.Appearance.{Stands}
 use Rattle.sml_objects.specs.Names.{Naming, Initial}
-use Rattle.sml_objects.specs.Objects.{MlType, rename_type}
+use Rattle.sml_objects.specs.Objects.{MlType, Scheme, rename_type}
+use Rattle.sml_layers.specs.declared.layer.Layer.TheVariants.{Finiteness}
+use Rattle.sml_layers.specs.Worlds.{Assignment, finite}
+use Rattle.sml_core_rules.specs.Solutions.{Meets, IsScheme}
 use Rattle.sml_layers.specs.declared.variable.Variable.{Variable}
 use Rattle.sml_layers.specs.Demands.{Ask, within, equality, of_class, variable, Demand, equal, has_fields, asks}
 use Rattle.sml_rules.specs.Answers.{Answer, refused, accepted}
@@ -71,3 +74,9 @@ pub record ReadingsDerive {N : Type 0} (scope : Scope N) : Type 0 where
   pub datatypes : (p : Place) (C : Context N) (ds : List (DatBind Place)) (s : State Place N) (r : Env N × State Place N)
       → ((n : N) → Stands n C.names → Stands n s.names) → ((k : Initial) → Stands (scope.names.initial k) s.names)
       → read_datatypes scope p C.env ds s (accepted r) → BindDatatypes scope.names C ds r.0
+
+-- Where the demands can be met, they leave a type one scheme.
+abbrev pub SchemesAreOne : {N : Type 0} → Scope N → Type 0
+SchemesAreOne {N} scope =
+    (s : State Place N) (σ : Assignment N finite) → Meets scope s Finiteness σ → (n : ℕ) (x : Bool) (t : MlType N) (θ η : Scheme N)
+    → IsScheme scope s n x t θ → IsScheme scope s n x t η → θ ≡ η

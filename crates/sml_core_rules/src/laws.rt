@@ -1,7 +1,7 @@
 //! What holds of the objects of the whole language and of all readings of the core, over the names of a run.
 
 ghost use Rattle.sml_objects.specs.Initial.{Name, naming};
-ghost use Rattle.sml_core_rules.specs.Statements.{ObjectsObeyLaws, ReadingsDerive, ReadingsMove};
+ghost use Rattle.sml_core_rules.specs.Statements.{ObjectsObeyLaws, ReadingsDerive, ReadingsMove, SchemesAreOne};
 ghost use Rattle.sml_core_rules.specs.Steps.{Scope};
 
 /// Renaming by the identity changes nothing, renaming twice is renaming by the composition, and the names of a renamed
@@ -20,4 +20,9 @@ pub fn readings_move_with_names()
 /// rules derive them (the Definition, section 4.10, rules 22, 27 to 31 and 44 to 49), and as nothing else.
 pub fn readings_are_derived()
     ensures { (scope : Scope Name) → ReadingsDerive scope }
+{}
+
+/// At the end of a value declaration the demands leave the type of a variable one scheme, where they can be met at all.
+pub fn schemes_are_one()
+    ensures { (scope : Scope Name) → SchemesAreOne scope }
 {}

@@ -1,7 +1,7 @@
 -- What is claimed of readings that ask nothing of unknown types.
 use Rattle.std.specs.Prelude.{[]}
 use Rattle.sml_core_rules.specs.Objects.{empty}
-use Rattle.sml_core_rules.specs.Steps.{Scope}
+use Rattle.sml_core_rules.specs.States.{Scope}
 use Rattle.sml_core_rules.specs.Statements.{ReadingsDerive}
 use Rattle.sml_core_rules.proofs.Derived.{ty-to, ty-from, type-binds-to, type-binds-from, all-arguments-to, all-arguments-from, exceptions-to, exceptions-from, opened-to, opened-from}
 use Rattle.sml_core_rules.proofs.Datatypes.{datatypes-derive}

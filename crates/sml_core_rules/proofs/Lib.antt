@@ -1,7 +1,13 @@
 pub mod Renaming
 pub mod Moves
-pub mod Accepted
 pub mod Derived
 pub mod Datatypes
 pub mod Schemes
+pub mod Lower
+pub mod Swap
+pub mod Mentions
+pub mod Along
+pub mod Flags
+pub mod Agree
+pub mod Alike
 pub mod Claims

@@ -12,8 +12,8 @@ use Rattle.sml_layers.specs.Demands.{Ask, within, equality, of_class, variable, 
 use Rattle.sml_rules.specs.Answers.{Answer, refused, accepted}
 use Rattle.sml_rules.proofs.Worlds.{Named, Over, moved}
 use Rattle.sml_core_rules.specs.Objects.{Env, replaced, rename_env}
-use Rattle.sml_core_rules.specs.Steps.{State}
-use Rattle.sml_core_rules.specs.Expressions.{read_dec}
+use Rattle.sml_core_rules.specs.States.{State}
+use Rattle.sml_core_rules.specs.Expressions.{IsReading}
 use Rattle.sml_core_rules.specs.Statements.{rename_ask, rename_demand, rename_state, rename_answer}
 use Rattle.sml_core_rules.proofs.Renaming.{list-id, replaced-id, env-id}
 
@@ -40,7 +40,7 @@ state-id s = λ i. record {
   rows = each-id (λ r. (r.0, rename_type (λ n. n) r.1)) (λ r j. (r.0, rename_type-id r.1 j)) s.rows i;
 }
 
-answer-id : {P N : Type 0} (o : Answer P (Env N × State P N)) → rename_answer (λ n. n) o ≡ o
+pub answer-id : {P N : Type 0} (o : Answer P (Env N × State P N)) → rename_answer (λ n. n) o ≡ o
 answer-id (refused f) = refl
 answer-id (accepted r) = λ i. accepted (env-id r.0 i, state-id r.1 i)
 
@@ -75,10 +75,10 @@ told_named : {P : Type 0} → Named (Told P)
 told_named = record { rename = rename_told; rename-id = told-id }
 
 pub readings-move : {P N : Type 0} (names : Naming N) (f : Renaming names) (unit : ℕ) (var : Variable → N) (C : Env N) (vs : Map (MlType N)) (d : Dec P) (s : State P N) (o : Answer P (Env N × State P N))
-    → read_dec (record { names = names; unit = unit; variable = var }) C vs d s o
-    → read_dec (record { names = names; unit = unit; variable = λ x. f.to (var x) }) (rename_env f.to C) (replaced (rename_type f.to) vs) d (rename_state f.to s) (rename_answer f.to o)
+    → IsReading (record { names = names; unit = unit; variable = var }) C vs d s o
+    → IsReading (record { names = names; unit = unit; variable = λ x. f.to (var x) }) (rename_env f.to C) (replaced (rename_type f.to) vs) d (rename_state f.to s) (rename_answer f.to o)
 unfolding rename_told told_named
 readings-move {P} {N} names f unit var C vs d s o r =
-    subst {A = Over (Told P)} (λ w. read_dec (record { names = w.1; unit = unit; variable = w.2.variable }) w.2.context w.2.explicit d w.2.state w.2.answer)
+    subst {A = Over (Told P)} (λ w. IsReading (record { names = w.1; unit = unit; variable = w.2.variable }) w.2.context w.2.explicit d w.2.state w.2.answer)
     (moved told_named (iso_to_equiv (record { fun = f.to; inv = f.from; rinv = f.to-from; linv = f.from-to })) names names
     (record { attributes = f.keeps; initial = f.initial }) (record { variable = var; context = C; explicit = vs; state = s; answer = o })) r

@@ -1,5 +1,5 @@
 -- The demands leave a type one scheme.
-use Rattle.std.proofs.Common.{◌≡◌, ◌↔◌, ◌<◌, ℕ, inl, inr, Bool, true, false, cond, List, [], ◌∷◌, ◌++◌, map, refl, sym, ◌∙◌, ap, subst}
+use Rattle.std.proofs.Common.{◌≡◌, ◌↔◌, ℕ, inl, inr, Bool, true, false, cond, List, [], ◌∷◌, ◌++◌, map, refl, sym, ◌∙◌, ap}
 use Rattle.std.specs.List.{AllByRecursion}
 use Rattle.std.proofs.lemmas.Bool.{cases_order}
 use Rattle.sml_objects.specs.declared.fates.Fate.{Fate}
@@ -9,10 +9,9 @@ use Rattle.sml_objects.specs.Names.{int}
 use Rattle.sml_objects.specs.Objects.{MlType, MlTypes, Head, Scheme, bound, free, app, arrow, row, name, no_type, and_type, types_of, named}
 use Rattle.sml_objects.specs.Types.{assign, replace_type, replace_types, is_among, variables_after, variables_after_all}
 use Rattle.sml_layers.specs.declared.layer.Layer.TheVariants.{Finiteness}
-use Rattle.sml_layers.specs.Rows.{HasFields}
 use Rattle.sml_layers.specs.Worlds.{Assignment, finite}
-use Rattle.sml_core_rules.specs.Steps.{Scope, State}
-use Rattle.sml_core_rules.specs.Solutions.{Meets, MayBe, HasOneSetOfLabels, IsFree, IsFlexible, IsLeft, IsOfLeft, AreOfLeft, StandsFor, IsFateOf, IsScheme}
+use Rattle.sml_core_rules.specs.States.{Scope, State}
+use Rattle.sml_core_rules.specs.Solutions.{Meets, MayBe, HasOneSetOfLabels, IsLeft, IsOfLeft, AreOfLeft, StandsFor, IsFateOf, IsScheme}
 
 -- the types in a list
 listed : {N : Type 0} → MlTypes N → List (MlType N)

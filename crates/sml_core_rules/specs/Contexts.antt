@@ -2,6 +2,7 @@
 use Rattle.std.specs.Prelude.{◌≡◌, ◌⊎◌, ℕ, suc, Bool, true, false, List, [], ◌∷◌, ◌++◌, map, length}
 use Rattle.sml_tree.specs.Trees.{Id}
 use Rattle.sml_objects.specs.Appearance.{Stands}
+use Rattle.sml_objects.specs.Equality.{is_ref}
 use Rattle.sml_objects.specs.Fates.{close_as}
 use Rattle.sml_objects.specs.declared.fates.Fate.{Fate}
 use Rattle.sml_objects.specs.declared.fates.Fate.TheVariants.{Bind, Keep}
@@ -73,7 +74,7 @@ module _ {N : Type 0} (names : Naming N) where
     abbrev pub AdmitWhereAsked : ℕ → List Bool → (ℕ → MlType N) → Type 0
     AdmitWhereAsked k [] args = Unit {0}
     AdmitWhereAsked k (e ∷ es) args =
-        (e ≡ true → admits_by names equality (has_equality names) (args k) ≡ true) × AdmitWhereAsked (suc k) es args
+        (e ≡ true → admits_by (is_ref names) equality (has_equality names) (args k) ≡ true) × AdmitWhereAsked (suc k) es args
 
     -- the variable of an overloaded identifier is one of the types of its class (appendix E)
     abbrev pub IsOfClass : Status → MlType N → Type 0

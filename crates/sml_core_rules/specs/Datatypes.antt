@@ -1,6 +1,5 @@
 -- Bindings of types and of datatypes (the Definition, section 4.10, rules 16, 17 and 27 to 29, and section 4.9).
 use Rattle.std.specs.Prelude.{◌≡◌, ◌≤◌, ℕ, zero, suc, Bool, true, false, ◌&&◌, ◌||◌, cond, nat_eq, List, [], ◌∷◌, map, length, replicate, slice_index_or, Option, Some, None}
-use Rattle.sml_lex.specs.declared.fault.Code.TheVariants.{E7}
 use Rattle.sml_tree.specs.Trees.{Id, LongId}
 use Rattle.sml_tree.specs.Names.{Name, LongName}
 use Rattle.sml_tree.specs.Types.{Ty, Tys, TyFields, ty_variable, ty_row, ty_tuple, ty_constructor, ty_misapplied, ty_arrow, ty_bracket, no_ty, and_ty, ty_field, no_ty_field, and_ty_field}
@@ -10,15 +9,14 @@ use Rattle.sml_objects.specs.Equality.{is_ref}
 use Rattle.sml_objects.specs.Fates.{close_as}
 use Rattle.sml_objects.specs.declared.fates.Fate.TheVariants.{Bind}
 use Rattle.sml_objects.specs.Maps.{Map, lookup, put}
-use Rattle.sml_objects.specs.Names.{Naming}
-use Rattle.sml_objects.specs.Objects.{MlType, MlTypes, Scheme, bound, free, app, arrow, row, name, no_type, and_type, arrow_of}
+use Rattle.sml_objects.specs.Names.{Naming, Initial}
+use Rattle.sml_objects.specs.Objects.{MlType, MlTypes, Scheme, bound, free, app, arrow, row, name, no_type, and_type, arrow_of, Outside}
 use Rattle.sml_objects.specs.Sizes.{type_size}
 use Rattle.sml_objects.specs.Types.{variables_after}
-use Rattle.sml_rules.specs.Answers as A
-use Rattle.sml_rules.specs.Answers.{Reading, fault}
-use Rattle.sml_core_rules.specs.Objects.{Env, Value, TyStr, constructor, of_types, values, maps, no_structure, extend, empty}
+use Rattle.sml_rules.specs.Answers.{Answer}
+use Rattle.sml_core_rules.specs.Answers.{give, ◌>>=◌}
+use Rattle.sml_core_rules.specs.Objects.{Env, Value, TyStr, constructor, of_types, maps, no_structure, extend, empty}
 use Rattle.sml_core_rules.specs.Lookups.{is_same}
-use Rattle.sml_core_rules.specs.Steps.{Scope, Step, give, ◌>>=◌, look, test, new_name, only_if, any_flag}
 use Rattle.sml_core_rules.specs.Types.{read_ty}
 
 -- A scheme and the body of a type function have at most 10,000 nodes.
@@ -63,8 +61,8 @@ constructor_type t (Some u) = arrow_of u t
 abbrev pub Arguments : Type 0 → Type 0
 Arguments N = List (Id × Option (MlType N))
 
--- Which variables and which names admit equality is given.
-module _ {N : Type 0} (names : Naming N) (var : ℕ → Bool) (eq : N → Bool) where
+-- Which name is `ref`, and which variables and names admit equality, is given.
+module _ {N : Type 0} (refs : N → Bool) (var : ℕ → Bool) (eq : N → Bool) where
   -- the type admits equality (section 4.4)
   unfoldable mutual
     pub admits_by : MlType N → Bool
@@ -72,17 +70,17 @@ module _ {N : Type 0} (names : Naming N) (var : ℕ → Bool) (eq : N → Bool) 
     admits_by (free v) = var v
     admits_by (app arrow ts) = false
     admits_by (app (row ls) ts) = all_admit_by ts
-    admits_by (app (name n) ts) = is_ref names n || (eq n && all_admit_by ts)
+    admits_by (app (name n) ts) = refs n || (eq n && all_admit_by ts)
 
     pub all_admit_by : MlTypes N → Bool
     all_admit_by no_type = true
     all_admit_by (and_type t ts) = admits_by t && all_admit_by ts
 
-module _ {N : Type 0} (names : Naming N) (eq : N → Bool) where
+module _ {N : Type 0} (refs : N → Bool) (eq : N → Bool) where
   -- an argument admits equality, where each parameter does
   abbrev pub argument_admits : Option (MlType N) → Bool
   argument_admits None = true
-  argument_admits (Some t) = admits_by names (λ _. true) eq t
+  argument_admits (Some t) = admits_by refs (λ _. true) eq t
 
   abbrev pub arguments_admit : Arguments N → Bool
   arguments_admit [] = true
@@ -99,8 +97,8 @@ has_equality names n = (names.attributes n).equality
 -- The new names that admit equality are the largest set that respects it: they contain every other such set.
 unfoldable pub AdmitAsManyAsCan : {N : Type 0} → Naming N → List (N × Arguments N) → Type 0
 AdmitAsManyAsCan {N} names ds =
-    Respects names (has_equality names) ds
-    × ((eq : N → Bool) → ((n : N) → ¬ (Stands n (map (λ d. d.0) ds)) → eq n ≡ has_equality names n) → Respects names eq ds
+    Respects (is_ref names) (has_equality names) ds
+    × ((eq : N → Bool) → ((n : N) → ¬ (Stands n (map (λ d. d.0) ds)) → eq n ≡ has_equality names n) → Respects (is_ref names) eq ds
     → (n : N) → Stands n (map (λ d. d.0) ds) → eq n ≡ true → has_equality names n ≡ true)
 
 -- Right sides in the places of the type constructors bound behind `withtype`, with their arguments for the parameters.
@@ -191,31 +189,41 @@ constructor_values cs = map (λ c. (c.0, record { scheme = c.1; status = constru
 
 module _ {P N : Type 0} where
   -- bindings of types, which see none of each other
-  unfoldable pub read_type_binds : Env N → Map (TyStr N) → List (TypBind P) → Reading P (Map (TyStr N))
-  read_type_binds C m [] = A.give m
-  read_type_binds C m (b ∷ bs) =
-      A.◌>>=◌ (read_ty C (listed bound 0 b.variables) b.ty)
-      (λ t. read_type_binds C (put b.name.id (record { function = type_function b.variables t; constructors = [] }) m) bs)
+  unfoldable pub read_type_binds : Env N → Map (TyStr N) → List (TypBind P) → Answer P (Map (TyStr N))
+  read_type_binds C m [] = give m
+  read_type_binds C m (b ∷ bs) = do
+    t ← read_ty C (listed bound 0 b.variables) b.ty
+    read_type_binds C (put b.name.id (record { function = type_function b.variables t; constructors = [] }) m) bs
 
-  abbrev pub read_argument : Env N → Map (MlType N) → Option (Ty P) → Reading P (Option (MlType N))
-  read_argument C vs None = A.give None
-  read_argument C vs (Some ty) = A.◌>>=◌ (read_ty C vs ty) (λ t. A.give (Some t))
+  abbrev pub read_argument : Env N → Map (MlType N) → Option (Ty P) → Answer P (Option (MlType N))
+  read_argument C vs None = give None
+  read_argument C vs (Some ty) = do
+    t ← read_ty C vs ty
+    give (Some t)
 
-  unfoldable pub read_arguments : Env N → Map (MlType N) → List (ConBind P) → Reading P (Arguments N)
-  read_arguments C vs [] = A.give []
-  read_arguments C vs (c ∷ cs) =
-      A.◌>>=◌ (read_argument C vs c.argument) (λ t. A.◌>>=◌ (read_arguments C vs cs) (λ ts. A.give ((c.name.id, t) ∷ ts)))
+  unfoldable pub read_arguments : Env N → Map (MlType N) → List (ConBind P) → Answer P (Arguments N)
+  read_arguments C vs [] = give []
+  read_arguments C vs (c ∷ cs) = do
+    t ← read_argument C vs c.argument
+    ts ← read_arguments C vs cs
+    give ((c.name.id, t) ∷ ts)
 
-  unfoldable pub read_all_arguments : Env N → List (DatBind P) → Reading P (List (Arguments N))
-  read_all_arguments C [] = A.give []
-  read_all_arguments C (d ∷ ds) =
-      A.◌>>=◌ (read_arguments C (listed free 0 d.variables) d.constructors) (λ a. A.◌>>=◌ (read_all_arguments C ds) (λ gs. A.give (a ∷ gs)))
+  unfoldable pub read_all_arguments : Env N → List (DatBind P) → Answer P (List (Arguments N))
+  read_all_arguments C [] = give []
+  read_all_arguments C (d ∷ ds) = do
+    a ← read_arguments C (listed free 0 d.variables) d.constructors
+    gs ← read_all_arguments C ds
+    give (a ∷ gs)
 
   -- the datatypes as type structures, without their constructors
   abbrev pub datatype_types : Map (TyStr N) → List (DatBind P) → List N → Map (TyStr N)
   datatype_types m [] ns = m
   datatype_types m (d ∷ ds) [] = m
   datatype_types m (d ∷ ds) (n ∷ ns) = datatype_types (put d.name.id (record { function = name_function n (length d.variables); constructors = [] }) m) ds ns
+
+  -- the arguments of the constructors, in a context with the datatypes
+  abbrev pub arguments_of : Env N → List (DatBind P) → List N → Answer P (List (Arguments N))
+  arguments_of C ds ns = read_all_arguments (extend C (of_types (datatype_types [] ds ns))) ds
 
   abbrev pub datatype_env : DatBind P → N → Arguments N → Env N
   datatype_env d n cs =
@@ -227,26 +235,10 @@ module _ {P N : Type 0} where
   datatype_envs (d ∷ ds) [] = empty
   datatype_envs (d ∷ ds) (a ∷ gs) = extend (datatype_env d a.0 a.1) (datatype_envs ds gs)
 
-  module _ (scope : Scope N) where
-    -- a new name for each, which admits equality or not
-    unfoldable pub new_names : List (DatBind P) → Step P N (List N)
-    new_names [] = give []
-    new_names (d ∷ ds) = do
-      e ← any_flag
-      n ← new_name scope (record { maker = scope.unit; arity = length d.variables; equality = e; constructors = map (λ c. c.name.id) d.constructors })
-      ns ← new_names ds
-      give (n ∷ ns)
-
-    abbrev pub read_types : P → Env N → List (TypBind P) → Step P N (Env N)
-    read_types p C bs = do
-      ts ← look (read_type_binds C [] bs)
-      u ← test (AreSmall (λ t. t.function) ts) (fault E7 p)
-      give (of_types ts)
-
-    abbrev pub read_datatypes : P → Env N → List (DatBind P) → Step P N (Env N)
-    read_datatypes p C ds = do
-      ns ← new_names ds
-      gs ← look (read_all_arguments (extend C (of_types (datatype_types [] ds ns))) ds)
-      u ← only_if (AdmitAsManyAsCan scope.names (with_names ns gs))
-      w ← test (AreSmall (λ v. v.scheme) (values (datatype_envs ds (with_names ns gs)))) (fault E7 p)
-      give (datatype_envs ds (with_names ns gs))
+-- The names of datatypes are any others than these and than the initial ones, each with the arity and the constructors of its
+-- binding.
+unfoldable pub AreNew : {P N : Type 0} → Naming N → List N → List (DatBind P) → List N → Type 0
+AreNew names old [] ns = ns ≡ []
+AreNew {N = N} names old (d ∷ ds) ns =
+    (n : N) × (rest : List N) × Outside n old × ((k : Initial) → ¬ (names.initial k ≡ n)) × ((names.attributes n).arity ≡ length d.variables)
+    × ((names.attributes n).constructors ≡ map (λ c. c.name.id) d.constructors) × AreNew names (n ∷ old) ds rest × (ns ≡ n ∷ rest)

@@ -1,12 +1,14 @@
 pub mod Objects
 pub mod Lookups
-pub mod Steps
-pub mod Solutions
+pub mod Answers
 pub mod Types
+pub mod Datatypes
+pub mod States
+pub mod Solutions
+pub mod Scripts
 pub mod Values
 pub mod Patterns
 pub mod Closing
-pub mod Datatypes
 pub mod Expressions
 pub mod Contexts
 pub mod Rules

@@ -11,11 +11,12 @@ use Rattle.sml_objects.specs.Maps.{Map, lookup}
 use Rattle.sml_objects.specs.Names.{Naming, int, word, real, string, char}
 use Rattle.sml_objects.specs.Objects.{MlType, MlTypes, no_type, and_type, arrow_of, named, tuple_of}
 use Rattle.sml_layers.specs.Demands.{has_fields}
-use Rattle.sml_rules.specs.Answers.{refused, fault, fault_at}
+use Rattle.sml_rules.specs.Answers.{fault, fault_at}
 use Rattle.sml_rules.specs.Lookups.{Found, found, no_path, no_entry}
 use Rattle.sml_core_rules.specs.Objects.{Env, Value}
 use Rattle.sml_core_rules.specs.Lookups.{value_at}
-use Rattle.sml_core_rules.specs.Steps.{Scope, Step, give, ◌>>=◌, look, test, new_unknown, new_row, require}
+use Rattle.sml_core_rules.specs.States.{Scope}
+use Rattle.sml_core_rules.specs.Scripts.{Script, give, refuse, ◌>>=◌, look, test, new_unknown, new_row, require}
 use Rattle.sml_core_rules.specs.Types.{Fields, put_field, row_of, read_ty}
 use Rattle.sml_core_rules.specs.Values.{constructs, is_constructor, is_arrow, require_equal, instance, find_value}
 
@@ -56,54 +57,53 @@ constant_type names K.Character = named (names.initial char)
 
 module _ {P N : Type 0} (scope : Scope N) where
   -- a variable, which no pattern of the group has bound yet
-  abbrev pub bind_variable : P → Id → Bindings N → Step P N (Typed N (MlType N))
+  abbrev pub bind_variable : P → Id → Bindings N → Script P N (Typed N (MlType N))
   bind_variable p x bs = do
     u ← test (lookup x bs ≡ None) (fault E10 p)
     t ← new_unknown
     give (typed t (bs ++ (x, t) ∷ []))
 
   -- an identifier that is a constructor or an exception, with an argument or without one
-  abbrev pub constructor_instance : P → P → Bool → Value N → Step P N (MlType N)
+  abbrev pub constructor_instance : P → P → Bool → Value N → Script P N (MlType N)
   constructor_instance p q b v = do
     u ← test (constructs v.status ≡ true) (fault E5 q)
     w ← test (is_arrow v.scheme.body ≡ b) (fault E5 q)
-    instance scope p v
+    instance p v
 
   -- a constructor before an argument; a short identifier that is unbound is a variable
-  abbrev pub found_constructor : LongName P → Found (Value N) → Step P N (Value N)
+  abbrev pub found_constructor : LongName P → Found (Value N) → Script P N (Value N)
   found_constructor x (found v) = give v
-  found_constructor x (no_path s) = λ s'. λ o. o ≡ refused (fault_at E3 x.place s)
-  found_constructor x no_entry =
-      λ s. λ o. o ≡ refused (cond (is_empty x.id.path) (fault E5 x.place) (fault_at E1 x.place (x.id.path ++ x.id.last ∷ [])))
+  found_constructor x (no_path s) = refuse (fault_at E3 x.place s)
+  found_constructor x no_entry = refuse (cond (is_empty x.id.path) (fault E5 x.place) (fault_at E1 x.place (x.id.path ++ x.id.last ∷ [])))
 
   -- A pattern in a context, with the explicit type variables in scope. Behind `rec` each short identifier that stands alone is
   -- a variable.
   module _ (is_rec : Bool) (C : Env N) (vs : Map (MlType N)) where
-    abbrev pub read_named : P → LongName P → Bindings N → Step P N (Typed N (MlType N))
+    abbrev pub read_named : P → LongName P → Bindings N → Script P N (Typed N (MlType N))
     read_named p x bs =
         cond (is_empty x.id.path) (cond (is_rec || not (is_constructor C x.id.last)) (bind_variable x.place x.id.last bs) constant_constructor) constant_constructor
       where
-        constant_constructor : Step P N (Typed N (MlType N))
+        constant_constructor : Script P N (Typed N (MlType N))
         constant_constructor = do
-          v ← find_value scope C x
+          v ← find_value C x
           t ← constructor_instance p x.place false v
           give (typed t bs)
 
-    abbrev pub read_row : P → Bool → Fields (MlType N) → Step P N (MlType N)
+    abbrev pub read_row : P → Bool → Fields (MlType N) → Script P N (MlType N)
     read_row p false fs = give (row_of fs)
     read_row p true fs = do
       t ← new_unknown
-      u ← require scope (has_fields t fs) p
+      u ← require (has_fields t fs) p
       w ← new_row p t
       give t
 
-    abbrev pub require_type : P → MlType N → Option (Ty P) → Step P N (Unit {0})
+    abbrev pub require_type : P → MlType N → Option (Ty P) → Script P N (Unit {0})
     require_type p t None = give tt
     require_type p t (Some ty) = do
       u ← look (read_ty C vs ty)
-      require_equal scope p t u
+      require_equal p t u
 
-    abbrev pub read_layered : Name P → Option (Ty P) → Bindings N → Step P N (Typed N (MlType N))
+    abbrev pub read_layered : Name P → Option (Ty P) → Bindings N → Script P N (Typed N (MlType N))
     read_layered x ty bs = do
       u ← test ((is_rec || not (is_constructor C x.id)) ≡ true) (fault E5 x.place)
       t ← bind_variable x.place x.id bs
@@ -111,7 +111,7 @@ module _ {P N : Type 0} (scope : Scope N) where
       give t
 
     unfoldable mutual
-      pub read_pat : Bindings N → Pat P → Step P N (Typed N (MlType N))
+      pub read_pat : Bindings N → Pat P → Script P N (Typed N (MlType N))
       read_pat bs (wildcard p) = do
         t ← new_unknown
         give (typed t bs)
@@ -130,20 +130,20 @@ module _ {P N : Type 0} (scope : Scope N) where
         t ← constructor_instance p x.place true v
         r ← read_pat bs q
         u ← new_unknown
-        w ← require_equal scope p t (arrow_of r.type u)
+        w ← require_equal p t (arrow_of r.type u)
         give (typed u r.bound)
       read_pat bs (pat_typed p q ty) = do
         r ← read_pat bs q
         t ← look (read_ty C vs ty)
-        u ← require_equal scope p r.type t
+        u ← require_equal p r.type t
         give (typed t r.bound)
       read_pat bs (pat_as p x ty q) = do
         t ← read_layered x ty bs
         r ← read_pat t.bound q
-        u ← require_equal scope p t.type r.type
+        u ← require_equal p t.type r.type
         give (typed t.type r.bound)
 
-      pub read_pats : Bindings N → Pats P → Step P N (Typed N (MlTypes N))
+      pub read_pats : Bindings N → Pats P → Script P N (Typed N (MlTypes N))
       read_pats bs no_pat = give (typed no_type bs)
       read_pats bs (and_pat q qs) = do
         r ← read_pat bs q
@@ -151,7 +151,7 @@ module _ {P N : Type 0} (scope : Scope N) where
         give (typed (and_type r.type rs.type) rs.bound)
 
       -- fields behind those before them
-      pub read_pat_fields : Bindings N → Fields (MlType N) → PatFields P → Step P N (Typed N (Fields (MlType N)))
+      pub read_pat_fields : Bindings N → Fields (MlType N) → PatFields P → Script P N (Typed N (Fields (MlType N)))
       read_pat_fields bs fs no_pat_field = give (typed fs bs)
       read_pat_fields bs fs (and_pat_field (pat_field l q) qs) = do
         r ← read_pat bs q

@@ -8,8 +8,8 @@ use Rattle.sml_tree.specs.Patterns.{Pat, Pats, PatFields, wildcard, pat_constant
 use Rattle.sml_tree.specs.Expressions.{Exp, Exps, Fields, Rules, Dec, Decs, ValBinds, TypBind, ConBind, DatBind, ExnBind, constant, name, row, tuple, let_in, bracket, apply, typed, handle, raise, fn, no_exp, and_exp, field, no_field, and_field, rule, no_rule, and_rule, val_dec, type_dec, datatype_dec, datatype_with, datatype_copy, exception_dec, local_dec, sequence_dec, open_dec, fixity_dec, no_dec, and_dec, bind, no_bind, and_bind, new_exception, exception_copy}
 use Rattle.sml_objects.specs.Appearance.{Stands}
 use Rattle.sml_objects.specs.Maps.{Map, lookup, put}
-use Rattle.sml_objects.specs.Names.{Naming, Initial, exn}
-use Rattle.sml_objects.specs.Objects.{MlType, MlTypes, bound, free, no_type, and_type, arrow_of, named, mono, tuple_of, Outside}
+use Rattle.sml_objects.specs.Names.{Naming, exn}
+use Rattle.sml_objects.specs.Objects.{MlType, MlTypes, bound, free, no_type, and_type, arrow_of, named, mono, tuple_of}
 use Rattle.sml_objects.specs.Types.{applied}
 use Rattle.sml_layers.specs.Rows.{HasFields}
 use Rattle.sml_layers.specs.Worlds.{finite}
@@ -21,7 +21,7 @@ use Rattle.sml_core_rules.specs.Types.{put_field, row_of, count_types}
 use Rattle.sml_core_rules.specs.Values.{constructs, is_constructor, is_arrow}
 use Rattle.sml_core_rules.specs.Patterns.{Bindings, constant_type, is_empty}
 use Rattle.sml_core_rules.specs.Closing.{is_expansive, is_function, unguarded}
-use Rattle.sml_core_rules.specs.Datatypes.{Arguments, AdmitAsManyAsCan, is_equality, listed, type_function, with_names, datatype_types, datatype_envs, datatype_with_sides, constructor_values}
+use Rattle.sml_core_rules.specs.Datatypes.{Arguments, AreNew, AdmitAsManyAsCan, is_equality, listed, type_function, with_names, datatype_types, datatype_envs, datatype_with_sides, constructor_values}
 use Rattle.sml_core_rules.specs.Expressions.{Bound, bounds, bound_values, exception_type, not_in_scope}
 use Rattle.sml_core_rules.specs.Contexts.{Context, plus, plus_names, with_explicit, IsWithin, context_variables, type_variables, IsType, IsInstance, IsClosing}
 
@@ -112,16 +112,9 @@ module _ {N : Type 0} (names : Naming N) where
   IsRow false fs t = t ≡ row_of fs
   IsRow true fs t = IsType names t × HasFields N finite t fs
 
-  -- The names of datatypes are any that the context hasn't, each with the arity and the constructors of its binding (rule 17).
-  unfoldable pub AreNew : {P : Type 0} → List N → List (DatBind P) → List N → Type 0
-  AreNew old [] ns = ns ≡ []
-  AreNew old (d ∷ ds) ns =
-      (n : N) × (rest : List N) × Outside n old × ((k : Initial) → ¬ (names.initial k ≡ n)) × ((names.attributes n).arity ≡ length d.variables)
-      × ((names.attributes n).constructors ≡ map (λ c. c.name.id) d.constructors) × AreNew (n ∷ old) ds rest × (ns ≡ n ∷ rest)
-
   abbrev pub BindDatatypes : {P : Type 0} → Context N → List (DatBind P) → Env N → Type 0
   BindDatatypes C ds E =
-      (ns : List N) × (gs : List (Arguments N)) × AreNew C.names ds ns × MeanAllArguments (extend C.env (of_types (datatype_types [] ds ns))) ds gs
+      (ns : List N) × (gs : List (Arguments N)) × AreNew names C.names ds ns × MeanAllArguments (extend C.env (of_types (datatype_types [] ds ns))) ds gs
       × AdmitAsManyAsCan names (with_names ns gs) × (E ≡ datatype_envs ds (with_names ns gs))
 
   -- Which type variables are equality variables is given.

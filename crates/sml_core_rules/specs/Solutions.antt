@@ -15,7 +15,7 @@ use Rattle.sml_layers.specs.declared.layer.Layer.TheVariants.{Finiteness, Equali
 use Rattle.sml_layers.specs.Demands.{AllHold}
 use Rattle.sml_layers.specs.Rows.{HasFields}
 use Rattle.sml_layers.specs.Worlds.{Assignment, In, finite, make, typed, world}
-use Rattle.sml_core_rules.specs.Steps.{Scope, State, words}
+use Rattle.sml_core_rules.specs.States.{Scope, State, words}
 
 module _ {P N : Type 0} (scope : Scope N) (s : State P N) where
   -- the assignments that meet the demands, in the layers up to this one

@@ -17,10 +17,11 @@ use Rattle.sml_layers.specs.declared.variable.Variable.{Variable}
 use Rattle.sml_layers.specs.Demands.{Ask, within, equality, of_class, variable, Demand, equal, has_fields, asks}
 use Rattle.sml_rules.specs.Answers.{Answer, refused, accepted}
 use Rattle.sml_core_rules.specs.Objects.{Env, Value, TyStr, empty, replaced, rename_env, names_env, rename_basis, names_basis}
-use Rattle.sml_core_rules.specs.Steps.{Scope, State}
+use Rattle.sml_core_rules.specs.States.{Scope, State}
+use Rattle.sml_core_rules.specs.Scripts.{IsAnswer}
 use Rattle.sml_core_rules.specs.Types.{read_ty}
-use Rattle.sml_core_rules.specs.Datatypes.{Arguments, read_type_binds, read_all_arguments, read_datatypes}
-use Rattle.sml_core_rules.specs.Expressions.{read_dec, read_exceptions, read_opened}
+use Rattle.sml_core_rules.specs.Datatypes.{Arguments, read_type_binds, read_all_arguments}
+use Rattle.sml_core_rules.specs.Expressions.{IsReading, at_first, read_datatypes, read_exceptions, read_opened}
 use Rattle.sml_core_rules.specs.Contexts.{Context}
 use Rattle.sml_core_rules.specs.Rules.{Means, BindTypes, MeanAllArguments, BindDatatypes, BindExceptions, Opens}
 
@@ -54,8 +55,8 @@ rename_answer f (accepted r) = accepted (rename_env f r.0, rename_state f r.1)
 abbrev pub ReadingsMove : {N : Type 0} → Naming N → Type 0
 ReadingsMove {N} names =
     (f : Renaming names) (unit : ℕ) (var : Variable → N) (C : Env N) (vs : Map (MlType N)) (d : Dec Place) (s : State Place N) (o : Answer Place (Env N × State Place N))
-    → read_dec (record { names = names; unit = unit; variable = var }) C vs d s o
-    → read_dec (record { names = names; unit = unit; variable = λ x. f.to (var x) }) (rename_env f.to C) (replaced (rename_type f.to) vs) d (rename_state f.to s) (rename_answer f.to o)
+    → IsReading (record { names = names; unit = unit; variable = var }) C vs d s o
+    → IsReading (record { names = names; unit = unit; variable = λ x. f.to (var x) }) (rename_env f.to C) (replaced (rename_type f.to) vs) d (rename_state f.to s) (rename_answer f.to o)
 
 -- the laws of renaming, of environments and of bases
 pub record ObjectsObeyLaws (N : Type 0) : Type 0 where
@@ -64,19 +65,27 @@ pub record ObjectsObeyLaws (N : Type 0) : Type 0 where
 
 -- Where a phrase asks nothing of unknown types, what is read of it is what the rules derive.
 pub record ReadingsDerive {N : Type 0} (scope : Scope N) : Type 0 where
-  pub types : (C : Env N) (vs : Map (MlType N)) (u : Ty Place) (t : MlType N) → read_ty C vs u (accepted t) ↔ Means C vs u t
-  pub type_bindings : (C : Env N) (bs : List (TypBind Place)) (ts : Map (TyStr N)) → read_type_binds C [] bs (accepted ts) ↔ BindTypes C [] bs ts
-  pub arguments : (C : Env N) (ds : List (DatBind Place)) (gs : List (Arguments N)) → read_all_arguments C ds (accepted gs) ↔ MeanAllArguments C ds gs
+  pub types : (C : Env N) (vs : Map (MlType N)) (u : Ty Place) (t : MlType N) → (read_ty C vs u ≡ accepted t) ↔ Means C vs u t
+  pub type_bindings : (C : Env N) (bs : List (TypBind Place)) (ts : Map (TyStr N)) → (read_type_binds C [] bs ≡ accepted ts) ↔ BindTypes C [] bs ts
+  pub arguments : (C : Env N) (ds : List (DatBind Place)) (gs : List (Arguments N)) → (read_all_arguments C ds ≡ accepted gs) ↔ MeanAllArguments C ds gs
   pub exceptions : (C : Env N) (vs : Map (MlType N)) (bs : List (ExnBind Place)) (xs : Map (Value N))
-      → read_exceptions scope C vs [] bs (accepted xs) ↔ BindExceptions scope.names C vs [] bs xs
-  pub opened : (C : Env N) (ss : List (LongName Place)) (E : Env N) → read_opened scope C empty ss (accepted E) ↔ Opens C empty ss E
-  -- where the names of the context and the initial ones are among those made so far
+      → (read_exceptions scope C vs [] bs ≡ accepted xs) ↔ BindExceptions scope.names C vs [] bs xs
+  pub opened : (C : Env N) (ss : List (LongName Place)) (E : Env N) → (read_opened scope C empty ss ≡ accepted E) ↔ Opens C empty ss E
+  -- where the names of the context are among those made so far
   pub datatypes : (p : Place) (C : Context N) (ds : List (DatBind Place)) (s : State Place N) (r : Env N × State Place N)
-      → ((n : N) → Stands n C.names → Stands n s.names) → ((k : Initial) → Stands (scope.names.initial k) s.names)
-      → read_datatypes scope p C.env ds s (accepted r) → BindDatatypes scope.names C ds r.0
+      → ((n : N) → Stands n C.names → Stands n s.names) → IsAnswer scope (read_datatypes scope p C.env ds) s (accepted r) → BindDatatypes scope.names C ds r.0
 
 -- Where the demands can be met, they leave a type one scheme.
 abbrev pub SchemesAreOne : {N : Type 0} → Scope N → Type 0
 SchemesAreOne {N} scope =
     (s : State Place N) (σ : Assignment N finite) → Meets scope s Finiteness σ → (n : ℕ) (x : Bool) (t : MlType N) (θ η : Scheme N)
     → IsScheme scope s n x t θ → IsScheme scope s n x t η → θ ≡ η
+
+-- Any two answers to a declaration in a basis are the same but for the names that were made: a renaming that leaves the names of
+-- the basis, the initial ones among them, takes one answer to the other. The names of explicit variables are made by no unit.
+abbrev pub ReadingsAgree : {N : Type 0} → Scope N → Type 0
+ReadingsAgree {N} scope =
+    ((x : Variable) → ¬ ((scope.names.attributes (scope.variable x)).maker ≡ scope.unit))
+    → (C : Env N) (ns : List N) → ((n : N) → Stands n (names_env C) → Stands n ns) → ((k : Initial) → Stands (scope.names.initial k) ns)
+    → (d : Dec Place) (o q : Answer Place (Env N × State Place N)) → IsReading scope C [] d (at_first ns) o → IsReading scope C [] d (at_first ns) q
+    → (f : Renaming scope.names) × ((n : N) → Stands n ns → f.to n ≡ n) × (q ≡ rename_answer f.to o)

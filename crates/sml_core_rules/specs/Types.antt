@@ -1,5 +1,5 @@
 -- Type expressions (the Definition, section 4.10, rules 44 to 49).
-use Rattle.std.specs.Prelude.{◌≡◌, ℕ, suc, List, [], ◌∷◌, map, Option, Some, None, length}
+use Rattle.std.specs.Prelude.{nat_eq, ℕ, suc, List, [], ◌∷◌, map, Option, Some, None, length}
 use Rattle.sml_lex.specs.declared.fault.Code.TheVariants.{E2, E4, E8}
 use Rattle.sml_tree.specs.Trees.{Id}
 use Rattle.sml_tree.specs.Types.{Ty, Tys, TyFields, ty_variable, ty_row, ty_tuple, ty_constructor, ty_misapplied, ty_arrow, ty_bracket, no_ty, and_ty, ty_field, no_ty_field, and_ty_field}
@@ -7,7 +7,8 @@ use Rattle.sml_objects.specs.Labels.{label_order}
 use Rattle.sml_objects.specs.Maps.{Map, lookup, by_order}
 use Rattle.sml_objects.specs.Objects.{MlType, MlTypes, app, row, no_type, and_type, arrow_of, tuple_of, types_of}
 use Rattle.sml_objects.specs.Types.{applied}
-use Rattle.sml_rules.specs.Answers.{Reading, refused, give, ◌>>=◌, test, fault, need}
+use Rattle.sml_rules.specs.Answers.{Answer, refused, fault}
+use Rattle.sml_core_rules.specs.Answers.{give, ◌>>=◌, check, need}
 use Rattle.sml_core_rules.specs.Objects.{Env}
 use Rattle.sml_core_rules.specs.Lookups.{type_at}
 
@@ -27,14 +28,14 @@ count_types no_type = 0
 count_types (and_type t ts) = suc (count_types ts)
 
 -- the type that a variable stands for, where one of its name is in scope
-abbrev pub variable_type : {P N : Type 0} → P → Option (MlType N) → Reading P (MlType N)
+abbrev pub variable_type : {P N : Type 0} → P → Option (MlType N) → Answer P (MlType N)
 variable_type p (Some t) = give t
-variable_type p None = λ o. o ≡ refused (fault E8 p)
+variable_type p None = refused (fault E8 p)
 
 -- The types in `vs` stand for the type variables that are in scope. Arguments come before the type constructor.
 module _ {P N : Type 0} (C : Env N) (vs : Map (MlType N)) where
   unfoldable mutual
-    pub read_ty : Ty P → Reading P (MlType N)
+    pub read_ty : Ty P → Answer P (MlType N)
     read_ty (ty_variable p x) = variable_type p (lookup x vs)
     read_ty (ty_row p fs) = do
       r ← read_fields [] fs
@@ -45,18 +46,18 @@ module _ {P N : Type 0} (C : Env N) (vs : Map (MlType N)) where
     read_ty (ty_constructor p us c) = do
       ts ← read_tys us
       t ← need E2 c.place c.id (type_at C c.id)
-      u ← test (length t.function.variables ≡ count_types ts) (fault E4 c.place)
+      u ← check (nat_eq (length t.function.variables) (count_types ts)) (fault E4 c.place)
       give (applied t.function ts)
     read_ty (ty_misapplied p us c) = do
       ts ← read_tys us
-      λ o. o ≡ refused (fault E4 c.place)
+      refused (fault E4 c.place)
     read_ty (ty_arrow p u v) = do
       a ← read_ty u
       b ← read_ty v
       give (arrow_of a b)
     read_ty (ty_bracket p u) = read_ty u
 
-    pub read_tys : Tys P → Reading P (MlTypes N)
+    pub read_tys : Tys P → Answer P (MlTypes N)
     read_tys no_ty = give no_type
     read_tys (and_ty u us) = do
       t ← read_ty u
@@ -64,7 +65,7 @@ module _ {P N : Type 0} (C : Env N) (vs : Map (MlType N)) where
       give (and_type t ts)
 
     -- fields behind those before them
-    pub read_fields : Fields (MlType N) → TyFields P → Reading P (Fields (MlType N))
+    pub read_fields : Fields (MlType N) → TyFields P → Answer P (Fields (MlType N))
     read_fields fs no_ty_field = give fs
     read_fields fs (and_ty_field (ty_field l u) us) = do
       t ← read_ty u

@@ -10,7 +10,7 @@ use Rattle.sml_layers.specs.declared.layer.Bound.{Bound}
 use Rattle.sml_layers.specs.Demands.{equal, asks, within, equality, of_class}
 use Rattle.sml_core_rules.specs.Objects.{Env, Value, Status, variable, constructor, exception, overloaded, values}
 use Rattle.sml_core_rules.specs.Lookups.{value_at}
-use Rattle.sml_core_rules.specs.Steps.{Scope, Step, give, ◌>>=◌, need, new_unknowns, require, so_far}
+use Rattle.sml_core_rules.specs.Scripts.{Script, give, ◌>>=◌, need, new_unknowns, require, so_far}
 
 abbrev pub constructs : Status → Bool
 constructs variable = false
@@ -33,37 +33,37 @@ is_arrow (app arrow ts) = true
 is_arrow (app (row ls) ts) = false
 is_arrow (app (name n) ts) = false
 
-module _ {P N : Type 0} (scope : Scope N) where
-  abbrev pub require_equal : P → MlType N → MlType N → Step P N (Unit {0})
-  require_equal p t u = require scope (equal t u) p
+module _ {P N : Type 0} where
+  abbrev pub require_equal : P → MlType N → MlType N → Script P N (Unit {0})
+  require_equal p t u = require (equal t u) p
 
   -- the type mentions only names made so far
-  abbrev pub require_so_far : Bound → P → MlType N → Step P N (Unit {0})
+  abbrev pub require_so_far : Bound → P → MlType N → Script P N (Unit {0})
   require_so_far b p t = do
     s ← so_far
-    require scope (asks (within b s.names) t) p
+    require (asks (within b s.names) t) p
 
   -- unknowns from k on stand for variables with these equality attributes
-  abbrev pub require_attributes : P → ℕ → List Bool → Step P N (Unit {0})
+  abbrev pub require_attributes : P → ℕ → List Bool → Script P N (Unit {0})
   require_attributes p k [] = give tt
   require_attributes p k (false ∷ es) = require_attributes p (suc k) es
   require_attributes p k (true ∷ es) = do
-    u ← require scope (asks equality (free k)) p
+    u ← require (asks equality (free k)) p
     require_attributes p (suc k) es
 
-  abbrev pub require_status : P → ℕ → Status → Step P N (Unit {0})
+  abbrev pub require_status : P → ℕ → Status → Script P N (Unit {0})
   require_status p k variable = give tt
   require_status p k constructor = give tt
   require_status p k exception = give tt
-  require_status p k (overloaded c) = require scope (asks (of_class c) (free k)) p
+  require_status p k (overloaded c) = require (asks (of_class c) (free k)) p
 
   -- an instance with new unknowns
-  abbrev pub instance : P → Value N → Step P N (MlType N)
+  abbrev pub instance : P → Value N → Script P N (MlType N)
   instance p v = do
     k ← new_unknowns (length v.scheme.variables)
     u ← require_attributes p k v.scheme.variables
     w ← require_status p k v.status
     give (instance_from k v.scheme.body)
 
-  abbrev pub find_value : Env N → LongName P → Step P N (Value N)
+  abbrev pub find_value : Env N → LongName P → Script P N (Value N)
   find_value C x = need E1 x.place x.id (value_at C x.id)

@@ -1,8 +1,8 @@
 //! What holds of the objects of the whole language and of all readings of the core, over the names of a run.
 
 ghost use Rattle.sml_objects.specs.Initial.{Name, naming};
-ghost use Rattle.sml_core_rules.specs.Statements.{ObjectsObeyLaws, ReadingsDerive, ReadingsMove, SchemesAreOne};
-ghost use Rattle.sml_core_rules.specs.Steps.{Scope};
+ghost use Rattle.sml_core_rules.specs.Statements.{ObjectsObeyLaws, ReadingsAgree, ReadingsDerive, ReadingsMove, SchemesAreOne};
+ghost use Rattle.sml_core_rules.specs.States.{Scope};
 
 /// Renaming by the identity changes nothing, renaming twice is renaming by the composition, and the names of a renamed
 /// object are the renamed names.
@@ -25,4 +25,10 @@ pub fn readings_are_derived()
 /// At the end of a value declaration the demands leave the type of a variable one scheme, where they can be met at all.
 pub fn schemes_are_one()
     ensures { (scope : Scope Name) → SchemesAreOne scope }
+{}
+
+/// Any two answers to a declaration of the core in one basis are the same fault, or environments alike over that basis,
+/// whichever new names were taken.
+pub fn readings_agree()
+    ensures { (scope : Scope Name) → ReadingsAgree scope }
 {}

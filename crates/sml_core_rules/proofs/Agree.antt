@@ -1,0 +1,274 @@
+-- Two answers to one script differ in the names that were made, and in nothing else.
+use Rattle.std.specs.Prelude.{◌≡◌, ◌++◌, ℕ, Bool, false, List, [], ◌∷◌, length, drop}
+use Rattle.std.specs.List.{AllByRecursion}
+use Rattle.std.proofs.Common.{arith}
+use mathlib.Core.Path.{refl, sym, ap, subst, ◌∙◌}
+use mathlib.Core.Logic.{inl, inr}
+use mathlib.Core.List.{map}
+use std.Path.{PathP, to_path_p}
+use Rattle.sml_tree.specs.Expressions.{DatBind}
+use Rattle.sml_objects.specs.Appearance.{Stands}
+use Rattle.sml_objects.specs.Names.{Naming, Initial, int}
+use Rattle.sml_objects.specs.Objects.{MlType, Scheme, free}
+use Rattle.sml_layers.specs.declared.layer.Layer.TheVariants.{Finiteness, Rigidity}
+use Rattle.sml_layers.specs.declared.variable.Variable.{Variable}
+use Rattle.sml_layers.specs.Layers.{code_of}
+use Rattle.sml_layers.specs.Worlds.{Assignment, finite}
+use Rattle.sml_rules.specs.Answers.{Answer, refused, fault}
+use Rattle.sml_core_rules.specs.Objects.{Env, names_env, empty}
+use Rattle.sml_core_rules.specs.States.{Scope, State, words, with_unknowns, with_made, with_demand, with_rows}
+use Rattle.sml_core_rules.specs.Solutions.{Meets, IsScheme}
+use Rattle.sml_core_rules.specs.Datatypes.{Arguments, AreNew, has_equality, arguments_of}
+use Rattle.sml_core_rules.specs.Scripts.{Script, give, refuse, tests, either, makes_unknowns, requires, sees, sets_rows, closes, makes_datatypes, IsAnswer}
+use Rattle.sml_core_rules.proofs.Along.{Become, become-list, become-left, become-right, become-known}
+use Rattle.sml_core_rules.proofs.Flags.{value_of, same-fault, not-both, becomes, become-others, follows, equal-lists, equal-kinds, new-count, same-count}
+use Rattle.sml_core_rules.proofs.Lower.{lower, can-lower, one-layer}
+use Rattle.sml_core_rules.proofs.Schemes.{one-scheme}
+use Rattle.sml_core_rules.proofs.Swap.{Apart, IsPlain, swap, plain-step, scope-step}
+
+-- how a script may go on
+
+data Choice (N : Type 0) : Type 0 where
+  on : Choice N
+  aside : Choice N
+  scheme : Scheme N → Choice N
+  named : List N → List (Arguments N) → Choice N
+
+module _ {P N X : Type 0} where
+  next : Choice N → Script P N X → State P N → Script P N X
+  next c (give x) s = give x
+  next c (refuse f) s = refuse f
+  next c (tests C f k) s = k
+  next on (either C k j) s = k
+  next aside (either C k j) s = j
+  next (scheme σ) (either C k j) s = k
+  next (named ns gs) (either C k j) s = k
+  next c (makes_unknowns n k) s = k s.made
+  next c (requires d p k) s = k
+  next c (sees k) s = k s
+  next c (sets_rows rs k) s = k
+  next on (closes n x t k) s = closes n x t k
+  next aside (closes n x t k) s = closes n x t k
+  next (scheme σ) (closes n x t k) s = k σ
+  next (named ns gs) (closes n x t k) s = closes n x t k
+  next on (makes_datatypes C ds k) s = makes_datatypes C ds k
+  next aside (makes_datatypes C ds k) s = makes_datatypes C ds k
+  next (scheme σ) (makes_datatypes C ds k) s = makes_datatypes C ds k
+  next (named ns gs) (makes_datatypes C ds k) s = k ns gs
+
+  later : Choice N → Script P N X → State P N → State P N
+  later c (give x) s = s
+  later c (refuse f) s = s
+  later c (tests C f k) s = s
+  later c (either C k j) s = s
+  later c (makes_unknowns n k) s = with_unknowns n s
+  later c (requires d p k) s = with_demand d s
+  later c (sees k) s = s
+  later c (sets_rows rs k) s = with_rows rs s
+  later c (closes n x t k) s = s
+  later on (makes_datatypes C ds k) s = s
+  later aside (makes_datatypes C ds k) s = s
+  later (scheme σ) (makes_datatypes C ds k) s = s
+  later (named ns gs) (makes_datatypes C ds k) s = with_made ns s
+
+  -- what a script closes, and the datatypes that it makes
+
+  closing : Script P N X → ℕ × Bool × MlType N
+  closing (give x) = (0, false, free 0)
+  closing (refuse f) = (0, false, free 0)
+  closing (tests C f k) = (0, false, free 0)
+  closing (either C k j) = (0, false, free 0)
+  closing (makes_unknowns n k) = (0, false, free 0)
+  closing (requires d p k) = (0, false, free 0)
+  closing (sees k) = (0, false, free 0)
+  closing (sets_rows rs k) = (0, false, free 0)
+  closing (closes n x t k) = (n, x, t)
+  closing (makes_datatypes C ds k) = (0, false, free 0)
+
+  making : Script P N X → Env N × List (DatBind P)
+  making (give x) = (empty, [])
+  making (refuse f) = (empty, [])
+  making (tests C f k) = (empty, [])
+  making (either C k j) = (empty, [])
+  making (makes_unknowns n k) = (empty, [])
+  making (requires d p k) = (empty, [])
+  making (sees k) = (empty, [])
+  making (sets_rows rs k) = (empty, [])
+  making (closes n x t k) = (empty, [])
+  making (makes_datatypes C ds k) = (C, ds)
+
+-- new names are apart, and plain
+
+new-apart : {P N : Type 0} (names : Naming N) (ds : List (DatBind P)) (old ns : List N) → AreNew names old ds ns → Apart old ns
+unfolding AreNew Apart
+new-apart names [] old ns h = subst (Apart old) (sym h) tt
+new-apart names (d ∷ ds) old ns (n, rest, o, i, a, c, h, e) = subst (Apart old) (sym e) (o, new-apart names ds (n ∷ old) rest h)
+
+module _ {P N : Type 0} (scope : Scope N) (far : (x : Variable) → ¬ ((scope.names.attributes (scope.variable x)).maker ≡ scope.unit)) where
+  new-plain : (ds : List (DatBind P)) (old ns : List N) → AreNew scope.names old ds ns → AllByRecursion (λ n. (scope.names.attributes n).maker ≡ scope.unit) ns
+      → AllByRecursion (IsPlain scope) ns
+  unfolding AreNew
+  new-plain [] old ns h m = subst (AllByRecursion (IsPlain scope)) (sym h) tt
+  new-plain (d ∷ ds) old ns (n, rest, o, i, a, c, h, e) m =
+      let m' = subst (AllByRecursion (λ n. (scope.names.attributes n).maker ≡ scope.unit)) e m in
+      subst (AllByRecursion (IsPlain scope)) (sym e) ((i, (λ x f. far x (ap (λ k. (scope.names.attributes k).maker) f ∙ m'.0))), new-plain ds (n ∷ old) rest h m'.1)
+
+only-first : {N : Type 0} (scope : Scope N) (ns : List N) → AllByRecursion (IsPlain scope) ns → AllByRecursion (λ n. ¬ (scope.names.initial int ≡ n)) ns
+only-first scope [] h = tt
+only-first scope (n ∷ ns) h = (h.0.0 int, only-first scope ns h.1)
+
+one-kind : {N : Type 0} (ns ms : List N) → length ns ≡ length ms → map (λ _. tt) ns ≡ map {B = Unit {0}} (λ _. tt) ms
+one-kind [] [] e = refl
+one-kind [] (m ∷ ms) e = absurd (omega (arith, e))
+one-kind (n ∷ ns) [] e = absurd (omega (arith, e))
+one-kind (n ∷ ns) (m ∷ ms) e = let f : length ns ≡ length ms = omega (arith, e) in ap (λ l. tt ∷ l) (one-kind ns ms f)
+
+stands-behind : {N : Type 0} (n : N) (ms ns : List N) → Stands n ns → Stands n (ms ++ ns)
+unfolding Stands
+stands-behind n [] ns h = h
+stands-behind n (m ∷ ms) ns h = inr (stands-behind n ms ns h)
+
+stands-before : {N : Type 0} (n : N) (ms ns : List N) → Stands n ms → Stands n (ms ++ ns)
+unfolding Stands
+stands-before n [] ns h = absurd h
+stands-before n (m ∷ ms) ns (inl e) = inl e
+stands-before n (m ∷ ms) ns (inr h) = inr (stands-before n ms ns h)
+
+dropped : {N : Type 0} (ms ns : List N) → drop (length ms) (ms ++ ns) ≡ ns
+dropped [] ns = refl
+dropped (m ∷ ms) ns = dropped ms ns
+
+module _ {P : Type 0} (F : Type 0 → Type 0) {N : Type 0} (scope : Scope N) (far : (x : Variable) → ¬ ((scope.names.attributes (scope.variable x)).maker ≡ scope.unit)) where
+  -- A path that leaves what may be seen of names, and these, leaves the script and the state. The initial names are known, and the
+  -- demands can be met.
+  pub record Settled (k : Script P N (F N)) (s : State P N) : Type 1 where
+    pub script : (p : N ≡ N) → PathP (λ i. Scope (p i)) scope scope → Become p s.names s.names → PathP (λ i. Script P (p i) (F (p i))) k k
+    pub state : (p : N ≡ N) → PathP (λ i. Scope (p i)) scope scope → Become p s.names s.names → PathP (λ i. State P (p i)) s s
+    pub initials : (j : Initial) → Stands (scope.names.initial j) s.names
+    pub met : (σ : Assignment N finite) × Meets scope s Finiteness σ
+
+  abbrev pub Same : List N → Answer P (F N × State P N) → Answer P (F N × State P N) → Type 1
+  Same ns o q = ◌≡◌ {A = (M : Type 0) × Scope M × List M × Answer P (F M × State P M)} (N, scope, ns, o) (N, scope, ns, q)
+
+  shorter : (ms ns : List N) (o q : Answer P (F N × State P N)) → Same (ms ++ ns) o q → Same ns o q
+  shorter ms ns o q h =
+      let there : Same (drop (length ms) (ms ++ ns)) o q = λ i. ((h i).0, (h i).1, drop {A = (h i).0} (length ms) ((h i).2), (h i).3) in
+      subst (λ l. Same l o q) (dropped ms ns) there
+
+  -- one choice of new names becomes another, whatever their attributes
+  plain : (C : Env N) (ds : List (DatBind P)) {k : Script P N (F N)} (s : State P N) → Settled k s → (ns ms : List N)
+      → AreNew scope.names (names_env C ++ s.names) ds ns → AreNew scope.names (names_env C ++ s.names) ds ms
+      → AllByRecursion (λ n. (scope.names.attributes n).maker ≡ scope.unit) ns → AllByRecursion (λ n. (scope.names.attributes n).maker ≡ scope.unit) ms
+      → ◌≡◌ {A = (M : Type 0) × M × (List M × List M)} (N, scope.names.initial int, (names_env C ++ s.names, ns)) (N, scope.names.initial int, (names_env C ++ s.names, ms))
+  plain C ds s h ns ms new also made done =
+      let old = names_env C ++ s.names in
+      swap scope.names (λ M. M) (scope.names.initial int) (λ M m. m) (λ _. tt) (λ n. ¬ (scope.names.initial int ≡ n)) (plain-step scope.names (λ _. tt)) old ns ms
+      (new-apart scope.names ds old ns new) (new-apart scope.names ds old ms also) (one-kind ns ms (new-count scope.names ds old ns new ∙ sym (new-count scope.names ds old ms also)))
+      (only-first scope ns (new-plain scope far ds old ns new made)) (only-first scope ms (new-plain scope far ds old ms also done))
+
+  -- what comes behind new names is left by what leaves these too
+  behind : (C : Env N) (ds : List (DatBind P)) (k : List N → List (Arguments N) → Script P N (F N)) (s : State P N) → Settled (makes_datatypes C ds k) s → (ms : List N)
+      → Settled (k ms (value_of (arguments_of C ds ms))) (with_made ms s)
+  unfolding next later making
+  behind C ds k s h ms = record {
+    script = λ p u v.
+        let K = h.script p u (become-right p ms s.names v) in
+        let S = h.state p u (become-right p ms s.names v) in
+        let l = become-list p ms ms (become-left p ms s.names v) in
+        λ i. next (named (l i) (value_of (arguments_of (making (K i)).0 (making (K i)).1 (l i)))) (K i) (S i);
+    state = λ p u v.
+        let K = h.script p u (become-right p ms s.names v) in
+        let S = h.state p u (become-right p ms s.names v) in
+        let l = become-list p ms ms (become-left p ms s.names v) in
+        λ i. later (named (l i) (value_of (arguments_of (making (K i)).0 (making (K i)).1 (l i)))) (K i) (S i);
+    initials = λ j. stands-behind (scope.names.initial j) ms s.names (h.initials j);
+    met = h.met;
+  }
+
+  pub agree : (k : Script P N (F N)) (s : State P N) → Settled k s → (o q : Answer P (F N × State P N)) → IsAnswer scope k s o → IsAnswer scope k s q → Same s.names o q
+  unfolding IsAnswer next later closing making
+  agree (give x) s h o q a b = λ i. (N, scope, s.names, (a ∙ sym b) i)
+  agree (refuse f) s h o q a b = λ i. (N, scope, s.names, (a ∙ sym b) i)
+  agree (tests C f k) s h o q (inl a) (inl b) =
+      agree k s (record { script = λ p u v i. next on (h.script p u v i) (h.state p u v i); state = h.state; initials = h.initials; met = h.met }) o q a.1 b.1
+  agree (tests C f k) s h o q (inl a) (inr b) = absurd (b.0 a.0)
+  agree (tests C f k) s h o q (inr a) (inl b) = absurd (a.0 b.0)
+  agree (tests C f k) s h o q (inr a) (inr b) = λ i. (N, scope, s.names, (a.1 ∙ sym b.1) i)
+  agree (either C k j) s h o q (inl a) (inl b) =
+      agree k s (record { script = λ p u v i. next on (h.script p u v i) (h.state p u v i); state = h.state; initials = h.initials; met = h.met }) o q a.1 b.1
+  agree (either C k j) s h o q (inl a) (inr b) = absurd (b.0 a.0)
+  agree (either C k j) s h o q (inr a) (inl b) = absurd (a.0 b.0)
+  agree (either C k j) s h o q (inr a) (inr b) =
+      agree j s (record { script = λ p u v i. next aside (h.script p u v i) (h.state p u v i); state = h.state; initials = h.initials; met = h.met }) o q a.1 b.1
+  agree (makes_unknowns n k) s h o q a b =
+      agree (k s.made) (with_unknowns n s)
+      (record { script = λ p u v i. next on (h.script p u v i) (h.state p u v i); state = λ p u v i. later on (h.script p u v i) (h.state p u v i); initials = h.initials; met = h.met }) o q a b
+  agree (requires d p k) s h o q (inl a) (inl b) =
+      agree k (with_demand d s)
+      (record {
+        script = λ r u v i. next on (h.script r u v i) (h.state r u v i);
+        state = λ r u v i. later on (h.script r u v i) (h.state r u v i);
+        initials = h.initials;
+        met = (a.0.0, lower (words scope) Finiteness Rigidity (omega arith) a.0.0 (d ∷ s.demands) a.0.1);
+      }) o q a.1 b.1
+  agree (requires d p k) s h o q (inl a) (inr b) = absurd (b.1.0 (can-lower (words scope) b.0 (d ∷ s.demands) a.0))
+  agree (requires d p k) s h o q (inr a) (inl b) = absurd (a.1.0 (can-lower (words scope) a.0 (d ∷ s.demands) b.0))
+  agree (requires d p k) s h o q (inr a) (inr b) =
+      let e = one-layer (words scope) a.0 b.0 (d ∷ s.demands) a.1 b.1 in
+      λ i. (N, scope, s.names, (a.2 ∙ (ap (λ l. refused (fault (code_of l) p)) e ∙ sym b.2)) i)
+  agree (sees k) s h o q a b =
+      agree (k s) s (record { script = λ p u v i. next on (h.script p u v i) (h.state p u v i); state = h.state; initials = h.initials; met = h.met }) o q a b
+  agree (sets_rows rs k) s h o q a b =
+      agree k (with_rows rs s)
+      (record { script = λ p u v i. next on (h.script p u v i) (h.state p u v i); state = λ p u v i. later on (h.script p u v i) (h.state p u v i); initials = h.initials; met = h.met }) o q a b
+  agree (closes n x t k) s h o q (σ, a, c) (τ, b, d) =
+      let e : σ ≡ τ = one-scheme scope s h.met.0 h.met.1 n x t σ τ a b in
+      agree (k σ) s
+      (record { script = λ p u v i. next (scheme (scheme-along p u v i)) (h.script p u v i) (h.state p u v i); state = h.state; initials = h.initials; met = h.met })
+      o q c (subst (λ τ. IsAnswer scope (k τ) s q) (sym e) d)
+    where
+      scheme-along : (p : N ≡ N) → PathP (λ i. Scope (p i)) scope scope → Become p s.names s.names → PathP (λ i. Scheme (p i)) σ σ
+      scheme-along p u v =
+          let K = h.script p u v in
+          let S = h.state p u v in
+          let moved : IsScheme scope s n x t (coe 0 1 (i. Scheme (p i)) σ) =
+          coe 0 1 (i. IsScheme (u i) (S i) (closing (K i)).0 (closing (K i)).1 (closing (K i)).2 (coe 0 i (j. Scheme (p j)) σ)) a in
+          to_path_p (λ i. Scheme (p i)) (one-scheme scope s h.met.0 h.met.1 n x t _ σ moved a)
+  agree (makes_datatypes C ds k) s h o q (ns, new, made, inl a) (ms, also, done, inl b) =
+      let π = plain C ds s h ns ms new also made done in
+      let e = same-fault scope.names C ds (names_env C ++ s.names) (λ n j. stands-before n (names_env C) s.names j) (λ j. stands-behind (scope.names.initial j) (names_env C) s.names (h.initials j)) ns ms π a.0 b.0 a.1 b.1 in
+      λ i. (N, scope, s.names, (a.2 ∙ (ap refused e ∙ sym b.2)) i)
+  agree (makes_datatypes C ds k) s h o q (ns, new, made, inl a) (ms, also, done, inr b) =
+      let π = plain C ds s h ns ms new also made done in
+      absurd (not-both scope.names C ds (names_env C ++ s.names) (λ n j. stands-before n (names_env C) s.names j) (λ j. stands-behind (scope.names.initial j) (names_env C) s.names (h.initials j)) ns ms π a.0 b.0 a.1 b.1)
+  agree (makes_datatypes C ds k) s h o q (ns, new, made, inr a) (ms, also, done, inl b) =
+      let π = plain C ds s h ms ns also new done made in
+      absurd (not-both scope.names C ds (names_env C ++ s.names) (λ n j. stands-before n (names_env C) s.names j) (λ j. stands-behind (scope.names.initial j) (names_env C) s.names (h.initials j)) ms ns π b.0 a.0 b.1 a.1)
+  agree (makes_datatypes C ds k) s h o q (ns, new, made, inr (gs, e, a, c)) (ms, also, done, inr (hs, f, b, d)) =
+      let old = names_env C ++ s.names in
+      let inside : (n : N) → Stands n (names_env C) → Stands n old = λ n j. stands-before n (names_env C) s.names j in
+      let first_names : (j : Initial) → Stands (scope.names.initial j) old = λ j. stands-behind (scope.names.initial j) (names_env C) s.names (h.initials j) in
+      let π = plain C ds s h ns ms new also made done in
+      let flags =
+      equal-lists (has_equality scope.names) (becomes scope.names C ds old inside first_names ns ms π) (becomes scope.names C ds old inside first_names ms ns (sym π)) ns ms
+      (become-others scope.names C ds old inside first_names ns ms π) (become-others scope.names C ds old inside first_names ms ns (sym π))
+      (follows scope.names C ds old inside first_names ns ms π gs hs (same-count scope.names C ds old ns gs new e) e f a b)
+      (follows scope.names C ds old inside first_names ms ns (sym π) hs gs (same-count scope.names C ds old ms hs also f) f e b a) in
+      let ρ =
+      swap scope.names Scope scope (λ M x. x.names.initial int) scope.names.attributes (IsPlain scope) (scope-step scope) old ns ms (new-apart scope.names ds old ns new)
+      (new-apart scope.names ds old ms also) (equal-kinds scope.names scope.unit ds old old ns ms new also made done flags) (new-plain scope far ds old ns new made) (new-plain scope far ds old ms also done) in
+      let p : N ≡ N = λ i. (ρ i).0 in
+      let u : PathP (λ i. Scope (p i)) scope scope = λ i. (ρ i).1 in
+      let v : Become p s.names s.names =
+      become-known p (scope.names.initial int) (scope.names.initial int) (λ i. (u i).names.initial int) old (λ i. (ρ i).2.0) s.names (λ n j. stands-behind n (names_env C) s.names j) in
+      let K = h.script p u v in
+      let S = h.state p u v in
+      let args : PathP (λ i. List (Arguments (p i))) (value_of (arguments_of C ds ns)) (value_of (arguments_of C ds ms)) = λ i. value_of (arguments_of (making (K i)).0 (making (K i)).1 ((ρ i).2.1)) in
+      let o' : Answer P (F N × State P N) = coe 0 1 (j. Answer P (F (p j) × State P (p j))) o in
+      let c' : IsAnswer scope (k ns (value_of (arguments_of C ds ns))) (with_made ns s) o = subst (λ gs. IsAnswer scope (k ns gs) (with_made ns s) o) (sym (ap value_of e)) c in
+      let d' : IsAnswer scope (k ms (value_of (arguments_of C ds ms))) (with_made ms s) q = subst (λ gs. IsAnswer scope (k ms gs) (with_made ms s) q) (sym (ap value_of f)) d in
+      let moved : IsAnswer scope (k ms (value_of (arguments_of C ds ms))) (with_made ms s) o' =
+      coe 0 1 (i. IsAnswer (u i) (next (named ((ρ i).2.1) (args i)) (K i) (S i)) (later (named ((ρ i).2.1) (args i)) (K i) (S i)) (coe 0 i (j. Answer P (F (p j) × State P (p j))) o)) c' in
+      let same = agree (k ms (value_of (arguments_of C ds ms))) (with_made ms s) (behind C ds k s h ms) o' q moved d' in
+      let moves : Same s.names o o' = λ i. (p i, u i, (S i).names, coe 0 i (j. Answer P (F (p j) × State P (p j))) o) in
+      moves ∙ shorter ms s.names o' q same

@@ -1,0 +1,107 @@
+-- Scripts: what a phrase asks, in text order, up to the object that it is given or to a fault. What a script may be answered
+-- is said once, of all scripts. What has been asked is a list of demands, and a demand that can't be met together with those
+-- before it is refused with the code of the first layer that can't.
+use Rattle.std.specs.Prelude.{◌≡◌, ◌⊎◌, ℕ, Bool, List, [], ◌∷◌, ◌++◌}
+use Rattle.std.specs.List.{AllByRecursion}
+use Rattle.sml_lex.specs.declared.fault.Code.{Code}
+use Rattle.sml_lex.specs.Faults.{Fault}
+use Rattle.sml_tree.specs.Trees.{LongId}
+use Rattle.sml_tree.specs.Expressions.{DatBind}
+use Rattle.sml_objects.specs.Objects.{MlType, Scheme, free}
+use Rattle.sml_layers.specs.declared.layer.Layer.{Layer}
+use Rattle.sml_layers.specs.declared.layer.Layer.TheVariants.{Rigidity}
+use Rattle.sml_layers.specs.Demands.{Demand, CanBeMet, IsFirstUnmet}
+use Rattle.sml_layers.specs.Layers.{code_of}
+use Rattle.sml_rules.specs.Answers.{Answer, refused, accepted, fault}
+use Rattle.sml_rules.specs.Lookups.{Found}
+use Rattle.sml_core_rules.specs.Answers as A
+use Rattle.sml_core_rules.specs.Objects.{Env, names_env}
+use Rattle.sml_core_rules.specs.States.{Scope, State, words, with_unknowns, with_made, with_demand, with_rows}
+use Rattle.sml_core_rules.specs.Solutions.{IsScheme}
+use Rattle.sml_core_rules.specs.Datatypes.{Arguments, AreNew, AdmitAsManyAsCan, with_names, arguments_of}
+
+-- It ends with an object or with a fault. Before that it tests a condition, or goes on by one; makes unknowns, and is told the
+-- number of the first; adds a demand, which has its place; sees the state; sets the rows; closes a type, at the end of a
+-- declaration that begins behind so many unknowns; and makes the names of datatypes in a context.
+pub data Script (P N X : Type 0) : Type 1 where
+  give : X → Script P N X
+  refuse : Fault P → Script P N X
+  tests : Type 0 → Fault P → Script P N X → Script P N X
+  either : Type 0 → Script P N X → Script P N X → Script P N X
+  makes_unknowns : ℕ → (ℕ → Script P N X) → Script P N X
+  requires : Demand N (List N) → P → Script P N X → Script P N X
+  sees : (State P N → Script P N X) → Script P N X
+  sets_rows : List (P × MlType N) → Script P N X → Script P N X
+  closes : ℕ → Bool → MlType N → (Scheme N → Script P N X) → Script P N X
+  makes_datatypes : Env N → List (DatBind P) → (List N → List (Arguments N) → Script P N X) → Script P N X
+
+module _ {P N : Type 0} where
+  -- one after the other
+  unfoldable pub ◌>>=◌ : {X Y : Type 0} → Script P N X → (X → Script P N Y) → Script P N Y
+  ◌>>=◌ (give x) next = next x
+  ◌>>=◌ (refuse f) next = refuse f
+  ◌>>=◌ (tests C f k) next = tests C f (k >>= next)
+  ◌>>=◌ (either C k j) next = either C (k >>= next) (j >>= next)
+  ◌>>=◌ (makes_unknowns n k) next = makes_unknowns n (λ v. k v >>= next)
+  ◌>>=◌ (requires d p k) next = requires d p (k >>= next)
+  ◌>>=◌ (sees k) next = sees (λ s. k s >>= next)
+  ◌>>=◌ (sets_rows rs k) next = sets_rows rs (k >>= next)
+  ◌>>=◌ (closes n x t k) next = closes n x t (λ σ. k σ >>= next)
+  ◌>>=◌ (makes_datatypes C ds k) next = makes_datatypes C ds (λ ns gs. k ns gs >>= next)
+
+  infixr 20 ◌>>=◌
+  abbrev pub look : {X : Type 0} → Answer P X → Script P N X
+  look (refused f) = refuse f
+  look (accepted x) = give x
+
+  -- what a long identifier finds, or the fault
+  abbrev pub need : {X : Type 0} → Code → P → LongId → Found X → Script P N X
+  need c p x r = look (A.need c p x r)
+
+  abbrev pub test : Type 0 → Fault P → Script P N (Unit {0})
+  test C f = tests C f (give tt)
+
+  abbrev pub where_so : Type 0 → Script P N (Unit {0}) → Script P N (Unit {0})
+  where_so C k = either C k (give tt)
+
+  abbrev pub new_unknown : Script P N (MlType N)
+  new_unknown = makes_unknowns 1 (λ v. give (free v))
+
+  -- so many new unknowns, and the number of the first
+  abbrev pub new_unknowns : ℕ → Script P N ℕ
+  new_unknowns n = makes_unknowns n (λ v. give v)
+
+  abbrev pub require : Demand N (List N) → P → Script P N (Unit {0})
+  require d p = requires d p (give tt)
+
+  abbrev pub so_far : Script P N (State P N)
+  so_far = sees (λ s. give s)
+
+  abbrev pub set_rows : List (P × MlType N) → Script P N (Unit {0})
+  set_rows rs = sets_rows rs (give tt)
+
+  abbrev pub new_row : P → MlType N → Script P N (Unit {0})
+  new_row p t = sees (λ s. set_rows (s.rows ++ (p, t) ∷ []))
+
+  abbrev pub close : ℕ → Bool → MlType N → Script P N (Scheme N)
+  close n x t = closes n x t (λ σ. give σ)
+
+  -- What a script may be answered in a state.
+  module _ (scope : Scope N) where
+    unfoldable pub IsAnswer : {X : Type 0} → Script P N X → State P N → Answer P (X × State P N) → Type 0
+    IsAnswer (give x) s o = o ≡ accepted (x, s)
+    IsAnswer (refuse f) s o = o ≡ refused f
+    IsAnswer (tests C f k) s o = (C × IsAnswer k s o) ⊎ (¬ C × (o ≡ refused f))
+    IsAnswer (either C k j) s o = (C × IsAnswer k s o) ⊎ (¬ C × IsAnswer j s o)
+    IsAnswer (makes_unknowns n k) s o = IsAnswer (k s.made) (with_unknowns n s) o
+    IsAnswer (requires d p k) s o =
+        (CanBeMet (words scope) Rigidity (d ∷ s.demands) × IsAnswer k (with_demand d s) o)
+        ⊎ ((l : Layer) × IsFirstUnmet (words scope) l (d ∷ s.demands) × (o ≡ refused (fault (code_of l) p)))
+    IsAnswer (sees k) s o = IsAnswer (k s) s o
+    IsAnswer (sets_rows rs k) s o = IsAnswer k (with_rows rs s) o
+    IsAnswer (closes n x t k) s o = (σ : Scheme N) × IsScheme scope s n x t σ × IsAnswer (k σ) s o
+    IsAnswer (makes_datatypes C ds k) s o =
+        (ns : List N) × AreNew scope.names (names_env C ++ s.names) ds ns × AllByRecursion (λ n. (scope.names.attributes n).maker ≡ scope.unit) ns
+        × (((f : Fault P) × (arguments_of C ds ns ≡ refused f) × (o ≡ refused f))
+        ⊎ ((gs : List (Arguments N)) × (arguments_of C ds ns ≡ accepted gs) × AdmitAsManyAsCan scope.names (with_names ns gs)
+        × IsAnswer (k ns gs) (with_made ns s) o))

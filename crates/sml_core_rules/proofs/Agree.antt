@@ -1,5 +1,5 @@
 -- Two answers to one script differ in the names that were made, and in nothing else.
-use Rattle.std.specs.Prelude.{◌≡◌, ◌++◌, ℕ, Bool, false, List, [], ◌∷◌, length, drop}
+use Rattle.std.specs.Prelude.{◌≡◌, ◌++◌, ℕ, Bool, true, false, cond, List, [], ◌∷◌, length, drop}
 use Rattle.std.specs.List.{AllByRecursion}
 use Rattle.std.proofs.Common.{arith}
 use mathlib.Core.Path.{refl, sym, ap, subst, ◌∙◌}
@@ -8,53 +8,51 @@ use mathlib.Core.List.{map}
 use std.Path.{PathP, to_path_p}
 use Rattle.sml_tree.specs.Expressions.{DatBind}
 use Rattle.sml_objects.specs.Appearance.{Stands}
-use Rattle.sml_objects.specs.Names.{Naming, Initial, int}
+use Rattle.sml_objects.specs.Names.{Naming, Attributes, Initial, int}
 use Rattle.sml_objects.specs.Objects.{MlType, Scheme, free}
 use Rattle.sml_layers.specs.declared.layer.Layer.TheVariants.{Finiteness, Rigidity}
 use Rattle.sml_layers.specs.declared.variable.Variable.{Variable}
+use Rattle.sml_layers.specs.Demands.{CanBeMet}
 use Rattle.sml_layers.specs.Layers.{code_of}
 use Rattle.sml_layers.specs.Worlds.{Assignment, finite}
 use Rattle.sml_rules.specs.Answers.{Answer, refused, fault}
 use Rattle.sml_core_rules.specs.Objects.{Env, names_env, empty}
-use Rattle.sml_core_rules.specs.States.{Scope, State, words, with_unknowns, with_made, with_demand, with_rows}
-use Rattle.sml_core_rules.specs.Solutions.{Meets, IsScheme}
+use Rattle.sml_core_rules.specs.States.{Scope, State, words, AreMade, with_unknowns, with_made, with_demand, with_rows}
+use Rattle.sml_core_rules.specs.Solutions.{Meets, IsScheme, IsAlways}
 use Rattle.sml_core_rules.specs.Datatypes.{Arguments, AreNew, has_equality, arguments_of}
-use Rattle.sml_core_rules.specs.Scripts.{Script, give, refuse, tests, either, makes_unknowns, requires, sees, sets_rows, closes, makes_datatypes, IsAnswer}
+use Rattle.sml_core_rules.specs.Scripts.{Script, give, refuse, tests, either, makes_unknowns, requires, sees, sets_rows, requires_or, closes, determines, makes_names, makes_datatypes, IsAnswer}
 use Rattle.sml_core_rules.proofs.Along.{Become, become-list, become-left, become-right, become-known}
 use Rattle.sml_core_rules.proofs.Flags.{value_of, same-fault, not-both, becomes, become-others, follows, equal-lists, equal-kinds, new-count, same-count}
 use Rattle.sml_core_rules.proofs.Lower.{lower, can-lower, one-layer}
 use Rattle.sml_core_rules.proofs.Schemes.{one-scheme}
 use Rattle.sml_core_rules.proofs.Swap.{Apart, IsPlain, swap, plain-step, scope-step}
 
--- how a script may go on
+-- what is chosen where a script goes on: whether a condition holds, a scheme, a type, names, and the arguments of constructors
+record Choice (N : Type 0) : Type 0 where
+  holds : Bool
+  scheme : Scheme N
+  type : MlType N
+  names : List N
+  arguments : List (Arguments N)
 
-data Choice (N : Type 0) : Type 0 where
-  on : Choice N
-  aside : Choice N
-  scheme : Scheme N → Choice N
-  named : List N → List (Arguments N) → Choice N
+abbrev nothing : {N : Type 0} → Choice N
+nothing = record { holds = true; scheme = record { variables = []; body = free 0 }; type = free 0; names = []; arguments = [] }
 
 module _ {P N X : Type 0} where
   next : Choice N → Script P N X → State P N → Script P N X
   next c (give x) s = give x
   next c (refuse f) s = refuse f
   next c (tests C f k) s = k
-  next on (either C k j) s = k
-  next aside (either C k j) s = j
-  next (scheme σ) (either C k j) s = k
-  next (named ns gs) (either C k j) s = k
+  next c (either C k j) s = cond c.holds k j
   next c (makes_unknowns n k) s = k s.made
   next c (requires d p k) s = k
   next c (sees k) s = k s
   next c (sets_rows rs k) s = k
-  next on (closes n x t k) s = closes n x t k
-  next aside (closes n x t k) s = closes n x t k
-  next (scheme σ) (closes n x t k) s = k σ
-  next (named ns gs) (closes n x t k) s = closes n x t k
-  next on (makes_datatypes C ds k) s = makes_datatypes C ds k
-  next aside (makes_datatypes C ds k) s = makes_datatypes C ds k
-  next (scheme σ) (makes_datatypes C ds k) s = makes_datatypes C ds k
-  next (named ns gs) (makes_datatypes C ds k) s = k ns gs
+  next c (requires_or d f k) s = k
+  next c (closes n x t k) s = k c.scheme
+  next c (determines t f k) s = k c.type
+  next c (makes_names ws k) s = k c.names
+  next c (makes_datatypes C ds k) s = k c.names c.arguments
 
   later : Choice N → Script P N X → State P N → State P N
   later c (give x) s = s
@@ -65,13 +63,13 @@ module _ {P N X : Type 0} where
   later c (requires d p k) s = with_demand d s
   later c (sees k) s = s
   later c (sets_rows rs k) s = with_rows rs s
+  later c (requires_or d f k) s = with_demand d s
   later c (closes n x t k) s = s
-  later on (makes_datatypes C ds k) s = s
-  later aside (makes_datatypes C ds k) s = s
-  later (scheme σ) (makes_datatypes C ds k) s = s
-  later (named ns gs) (makes_datatypes C ds k) s = with_made ns s
+  later c (determines t f k) s = s
+  later c (makes_names ws k) s = with_made c.names s
+  later c (makes_datatypes C ds k) s = with_made c.names s
 
-  -- what a script closes, and the datatypes that it makes
+  -- what a script closes or determines, and the datatypes that it makes
 
   closing : Script P N X → ℕ × Bool × MlType N
   closing (give x) = (0, false, free 0)
@@ -82,7 +80,10 @@ module _ {P N X : Type 0} where
   closing (requires d p k) = (0, false, free 0)
   closing (sees k) = (0, false, free 0)
   closing (sets_rows rs k) = (0, false, free 0)
+  closing (requires_or d f k) = (0, false, free 0)
   closing (closes n x t k) = (n, x, t)
+  closing (determines t f k) = (0, false, t)
+  closing (makes_names ws k) = (0, false, free 0)
   closing (makes_datatypes C ds k) = (0, false, free 0)
 
   making : Script P N X → Env N × List (DatBind P)
@@ -94,10 +95,31 @@ module _ {P N X : Type 0} where
   making (requires d p k) = (empty, [])
   making (sees k) = (empty, [])
   making (sets_rows rs k) = (empty, [])
+  making (requires_or d f k) = (empty, [])
   making (closes n x t k) = (empty, [])
+  making (determines t f k) = (empty, [])
+  making (makes_names ws k) = (empty, [])
   making (makes_datatypes C ds k) = (C, ds)
 
+  -- what it goes on with, where it makes these names
+  abbrev chosen : Script P N X → List N → Choice N
+  chosen k ns = record nothing { names = ns; arguments = value_of (arguments_of (making k).0 (making k).1 ns) }
+
 -- new names are apart, and plain
+
+made-apart : {N : Type 0} (scope : Scope N) (ws : List Attributes) (old ns : List N) → AreMade scope old ws ns → Apart old ns
+unfolding AreMade Apart
+made-apart scope [] old ns h = subst (Apart old) (sym h) tt
+made-apart scope (w ∷ ws) old ns (n, rest, o, i, a, h, e) = subst (Apart old) (sym e) (o, made-apart scope ws (n ∷ old) rest h)
+
+made-kinds : {N : Type 0} (scope : Scope N) (ws : List Attributes) (old more ns ms : List N) → AreMade scope old ws ns → AreMade scope more ws ms
+    → map scope.names.attributes ns ≡ map scope.names.attributes ms
+unfolding AreMade
+made-kinds scope [] old more ns ms h k = ap (map scope.names.attributes) (h ∙ sym k)
+made-kinds scope (w ∷ ws) old more ns ms (n, rest, o, i, a, h, e) (m, others, o', i', a', k, f) =
+    let one = a ∙ sym a' in
+    let all = made-kinds scope ws (n ∷ old) (m ∷ more) rest others h k in
+    ap (map scope.names.attributes) e ∙ ((λ j. one j ∷ all j) ∙ sym (ap (map scope.names.attributes) f))
 
 new-apart : {P N : Type 0} (names : Naming N) (ds : List (DatBind P)) (old ns : List N) → AreNew names old ds ns → Apart old ns
 unfolding AreNew Apart
@@ -112,6 +134,13 @@ module _ {P N : Type 0} (scope : Scope N) (far : (x : Variable) → ¬ ((scope.n
   new-plain (d ∷ ds) old ns (n, rest, o, i, a, c, h, e) m =
       let m' = subst (AllByRecursion (λ n. (scope.names.attributes n).maker ≡ scope.unit)) e m in
       subst (AllByRecursion (IsPlain scope)) (sym e) ((i, (λ x f. far x (ap (λ k. (scope.names.attributes k).maker) f ∙ m'.0))), new-plain ds (n ∷ old) rest h m'.1)
+
+module _ {N : Type 0} (scope : Scope N) (far : (x : Variable) → ¬ ((scope.names.attributes (scope.variable x)).maker ≡ scope.unit)) where
+  made-plain : (ws : List Attributes) (old ns : List N) → AreMade scope old ws ns → AllByRecursion (IsPlain scope) ns
+  unfolding AreMade
+  made-plain [] old ns h = subst (AllByRecursion (IsPlain scope)) (sym h) tt
+  made-plain (w ∷ ws) old ns (n, rest, o, i, a, h, e) =
+      subst (AllByRecursion (IsPlain scope)) (sym e) ((i, (λ x f. far x (ap (λ k. (scope.names.attributes k).maker) f ∙ ap (λ w. w.maker) a))), made-plain ws (n ∷ old) rest h)
 
 only-first : {N : Type 0} (scope : Scope N) (ns : List N) → AllByRecursion (IsPlain scope) ns → AllByRecursion (λ n. ¬ (scope.names.initial int ≡ n)) ns
 only-first scope [] h = tt
@@ -145,7 +174,7 @@ module _ {P : Type 0} (F : Type 0 → Type 0) {N : Type 0} (scope : Scope N) (fa
     pub script : (p : N ≡ N) → PathP (λ i. Scope (p i)) scope scope → Become p s.names s.names → PathP (λ i. Script P (p i) (F (p i))) k k
     pub state : (p : N ≡ N) → PathP (λ i. Scope (p i)) scope scope → Become p s.names s.names → PathP (λ i. State P (p i)) s s
     pub initials : (j : Initial) → Stands (scope.names.initial j) s.names
-    pub met : (σ : Assignment N finite) × Meets scope s Finiteness σ
+    pub met : CanBeMet (words scope) Rigidity s.demands
 
   abbrev pub Same : List N → Answer P (F N × State P N) → Answer P (F N × State P N) → Type 1
   Same ns o q = ◌≡◌ {A = (M : Type 0) × Scope M × List M × Answer P (F M × State P M)} (N, scope, ns, o) (N, scope, ns, q)
@@ -154,6 +183,9 @@ module _ {P : Type 0} (F : Type 0 → Type 0) {N : Type 0} (scope : Scope N) (fa
   shorter ms ns o q h =
       let there : Same (drop (length ms) (ms ++ ns)) o q = λ i. ((h i).0, (h i).1, drop {A = (h i).0} (length ms) ((h i).2), (h i).3) in
       subst (λ l. Same l o q) (dropped ms ns) there
+
+  finitely : (s : State P N) (m : CanBeMet (words scope) Rigidity s.demands) → Meets scope s Finiteness m.0
+  finitely s m = lower (words scope) Finiteness Rigidity (omega arith) m.0 s.demands m.1
 
   -- one choice of new names becomes another, whatever their attributes
   plain : (C : Env N) (ds : List (DatBind P)) {k : Script P N (F N)} (s : State P N) → Settled k s → (ns ms : List N)
@@ -167,49 +199,81 @@ module _ {P : Type 0} (F : Type 0 → Type 0) {N : Type 0} (scope : Scope N) (fa
       (only-first scope ns (new-plain scope far ds old ns new made)) (only-first scope ms (new-plain scope far ds old ms also done))
 
   -- what comes behind new names is left by what leaves these too
-  behind : (C : Env N) (ds : List (DatBind P)) (k : List N → List (Arguments N) → Script P N (F N)) (s : State P N) → Settled (makes_datatypes C ds k) s → (ms : List N)
+
+  behind-datatypes : (C : Env N) (ds : List (DatBind P)) (k : List N → List (Arguments N) → Script P N (F N)) (s : State P N) → Settled (makes_datatypes C ds k) s → (ms : List N)
       → Settled (k ms (value_of (arguments_of C ds ms))) (with_made ms s)
   unfolding next later making
-  behind C ds k s h ms = record {
+  behind-datatypes C ds k s h ms = record {
     script = λ p u v.
         let K = h.script p u (become-right p ms s.names v) in
         let S = h.state p u (become-right p ms s.names v) in
-        let l = become-list p ms ms (become-left p ms s.names v) in
-        λ i. next (named (l i) (value_of (arguments_of (making (K i)).0 (making (K i)).1 (l i)))) (K i) (S i);
+        let l = become-list p ms ms (become-left p ms s.names v) in λ i. next (chosen (K i) (l i)) (K i) (S i);
     state = λ p u v.
         let K = h.script p u (become-right p ms s.names v) in
         let S = h.state p u (become-right p ms s.names v) in
-        let l = become-list p ms ms (become-left p ms s.names v) in
-        λ i. later (named (l i) (value_of (arguments_of (making (K i)).0 (making (K i)).1 (l i)))) (K i) (S i);
+        let l = become-list p ms ms (become-left p ms s.names v) in λ i. later (chosen (K i) (l i)) (K i) (S i);
     initials = λ j. stands-behind (scope.names.initial j) ms s.names (h.initials j);
     met = h.met;
   }
 
+  behind-names : (ws : List Attributes) (k : List N → Script P N (F N)) (s : State P N) → Settled (makes_names ws k) s → (ms : List N) → Settled (k ms) (with_made ms s)
+  unfolding next later making
+  behind-names ws k s h ms = record {
+    script = λ p u v.
+        let K = h.script p u (become-right p ms s.names v) in
+        let S = h.state p u (become-right p ms s.names v) in
+        let l = become-list p ms ms (become-left p ms s.names v) in λ i. next (chosen (K i) (l i)) (K i) (S i);
+    state = λ p u v.
+        let K = h.script p u (become-right p ms s.names v) in
+        let S = h.state p u (become-right p ms s.names v) in
+        let l = become-list p ms ms (become-left p ms s.names v) in λ i. later (chosen (K i) (l i)) (K i) (S i);
+    initials = λ j. stands-behind (scope.names.initial j) ms s.names (h.initials j);
+    met = h.met;
+  }
+
+  -- an answer behind some new names becomes one behind others
+  carried : (k : Script P N (F N)) (s : State P N) → Settled k s → (old ns ms : List N) → ((n : N) → Stands n s.names → Stands n old)
+      → ◌≡◌ {A = (M : Type 0) × Scope M × (List M × List M)} (N, scope, (old, ns)) (N, scope, (old, ms))
+      → (o : Answer P (F N × State P N)) → IsAnswer scope (next (chosen k ns) k s) (later (chosen k ns) k s) o
+      → (q : Answer P (F N × State P N)) × Same s.names o q × IsAnswer scope (next (chosen k ms) k s) (later (chosen k ms) k s) q
+  carried k s h old ns ms inside ρ o a =
+      let p : N ≡ N = λ i. (ρ i).0 in
+      let u : PathP (λ i. Scope (p i)) scope scope = λ i. (ρ i).1 in
+      let v : Become p s.names s.names = become-known p (scope.names.initial int) (scope.names.initial int) (λ i. (u i).names.initial int) old (λ i. (ρ i).2.0) s.names inside in
+      let K = h.script p u v in
+      let S = h.state p u v in
+      let q : Answer P (F N × State P N) = coe 0 1 (j. Answer P (F (p j) × State P (p j))) o in
+      let same : Same s.names o q = λ i. (p i, u i, (S i).names, coe 0 i (j. Answer P (F (p j) × State P (p j))) o) in
+      let moved : IsAnswer scope (next (chosen k ms) k s) (later (chosen k ms) k s) q =
+      coe 0 1
+      (i. IsAnswer (u i) (next (chosen (K i) ((ρ i).2.1)) (K i) (S i)) (later (chosen (K i) ((ρ i).2.1)) (K i) (S i)) (coe 0 i (j. Answer P (F (p j) × State P (p j))) o)) a in
+      (q, same, moved)
+
   pub agree : (k : Script P N (F N)) (s : State P N) → Settled k s → (o q : Answer P (F N × State P N)) → IsAnswer scope k s o → IsAnswer scope k s q → Same s.names o q
-  unfolding IsAnswer next later closing making
+  unfolding IsAnswer IsAlways next later closing making
   agree (give x) s h o q a b = λ i. (N, scope, s.names, (a ∙ sym b) i)
   agree (refuse f) s h o q a b = λ i. (N, scope, s.names, (a ∙ sym b) i)
   agree (tests C f k) s h o q (inl a) (inl b) =
-      agree k s (record { script = λ p u v i. next on (h.script p u v i) (h.state p u v i); state = h.state; initials = h.initials; met = h.met }) o q a.1 b.1
+      agree k s (record { script = λ p u v i. next nothing (h.script p u v i) (h.state p u v i); state = h.state; initials = h.initials; met = h.met }) o q a.1 b.1
   agree (tests C f k) s h o q (inl a) (inr b) = absurd (b.0 a.0)
   agree (tests C f k) s h o q (inr a) (inl b) = absurd (a.0 b.0)
   agree (tests C f k) s h o q (inr a) (inr b) = λ i. (N, scope, s.names, (a.1 ∙ sym b.1) i)
   agree (either C k j) s h o q (inl a) (inl b) =
-      agree k s (record { script = λ p u v i. next on (h.script p u v i) (h.state p u v i); state = h.state; initials = h.initials; met = h.met }) o q a.1 b.1
+      agree k s (record { script = λ p u v i. next nothing (h.script p u v i) (h.state p u v i); state = h.state; initials = h.initials; met = h.met }) o q a.1 b.1
   agree (either C k j) s h o q (inl a) (inr b) = absurd (b.0 a.0)
   agree (either C k j) s h o q (inr a) (inl b) = absurd (a.0 b.0)
   agree (either C k j) s h o q (inr a) (inr b) =
-      agree j s (record { script = λ p u v i. next aside (h.script p u v i) (h.state p u v i); state = h.state; initials = h.initials; met = h.met }) o q a.1 b.1
+      agree j s (record { script = λ p u v i. next (record nothing { holds = false }) (h.script p u v i) (h.state p u v i); state = h.state; initials = h.initials; met = h.met }) o q a.1 b.1
   agree (makes_unknowns n k) s h o q a b =
       agree (k s.made) (with_unknowns n s)
-      (record { script = λ p u v i. next on (h.script p u v i) (h.state p u v i); state = λ p u v i. later on (h.script p u v i) (h.state p u v i); initials = h.initials; met = h.met }) o q a b
+      (record { script = λ p u v i. next nothing (h.script p u v i) (h.state p u v i); state = λ p u v i. later nothing (h.script p u v i) (h.state p u v i); initials = h.initials; met = h.met }) o q a b
   agree (requires d p k) s h o q (inl a) (inl b) =
       agree k (with_demand d s)
       (record {
-        script = λ r u v i. next on (h.script r u v i) (h.state r u v i);
-        state = λ r u v i. later on (h.script r u v i) (h.state r u v i);
+        script = λ r u v i. next nothing (h.script r u v i) (h.state r u v i);
+        state = λ r u v i. later nothing (h.script r u v i) (h.state r u v i);
         initials = h.initials;
-        met = (a.0.0, lower (words scope) Finiteness Rigidity (omega arith) a.0.0 (d ∷ s.demands) a.0.1);
+        met = a.0;
       }) o q a.1 b.1
   agree (requires d p k) s h o q (inl a) (inr b) = absurd (b.1.0 (can-lower (words scope) b.0 (d ∷ s.demands) a.0))
   agree (requires d p k) s h o q (inr a) (inl b) = absurd (a.1.0 (can-lower (words scope) a.0 (d ∷ s.demands) b.0))
@@ -217,14 +281,14 @@ module _ {P : Type 0} (F : Type 0 → Type 0) {N : Type 0} (scope : Scope N) (fa
       let e = one-layer (words scope) a.0 b.0 (d ∷ s.demands) a.1 b.1 in
       λ i. (N, scope, s.names, (a.2 ∙ (ap (λ l. refused (fault (code_of l) p)) e ∙ sym b.2)) i)
   agree (sees k) s h o q a b =
-      agree (k s) s (record { script = λ p u v i. next on (h.script p u v i) (h.state p u v i); state = h.state; initials = h.initials; met = h.met }) o q a b
+      agree (k s) s (record { script = λ p u v i. next nothing (h.script p u v i) (h.state p u v i); state = h.state; initials = h.initials; met = h.met }) o q a b
   agree (sets_rows rs k) s h o q a b =
       agree k (with_rows rs s)
-      (record { script = λ p u v i. next on (h.script p u v i) (h.state p u v i); state = λ p u v i. later on (h.script p u v i) (h.state p u v i); initials = h.initials; met = h.met }) o q a b
+      (record { script = λ p u v i. next nothing (h.script p u v i) (h.state p u v i); state = λ p u v i. later nothing (h.script p u v i) (h.state p u v i); initials = h.initials; met = h.met }) o q a b
   agree (closes n x t k) s h o q (σ, a, c) (τ, b, d) =
-      let e : σ ≡ τ = one-scheme scope s h.met.0 h.met.1 n x t σ τ a b in
+      let e : σ ≡ τ = one-scheme scope s h.met.0 (finitely s h.met) n x t σ τ a b in
       agree (k σ) s
-      (record { script = λ p u v i. next (scheme (scheme-along p u v i)) (h.script p u v i) (h.state p u v i); state = h.state; initials = h.initials; met = h.met })
+      (record { script = λ p u v i. next (record nothing { scheme = scheme-along p u v i }) (h.script p u v i) (h.state p u v i); state = h.state; initials = h.initials; met = h.met })
       o q c (subst (λ τ. IsAnswer scope (k τ) s q) (sym e) d)
     where
       scheme-along : (p : N ≡ N) → PathP (λ i. Scope (p i)) scope scope → Become p s.names s.names → PathP (λ i. Scheme (p i)) σ σ
@@ -233,7 +297,7 @@ module _ {P : Type 0} (F : Type 0 → Type 0) {N : Type 0} (scope : Scope N) (fa
           let S = h.state p u v in
           let moved : IsScheme scope s n x t (coe 0 1 (i. Scheme (p i)) σ) =
           coe 0 1 (i. IsScheme (u i) (S i) (closing (K i)).0 (closing (K i)).1 (closing (K i)).2 (coe 0 i (j. Scheme (p j)) σ)) a in
-          to_path_p (λ i. Scheme (p i)) (one-scheme scope s h.met.0 h.met.1 n x t _ σ moved a)
+          to_path_p (λ i. Scheme (p i)) (one-scheme scope s h.met.0 (finitely s h.met) n x t _ σ moved a)
   agree (makes_datatypes C ds k) s h o q (ns, new, made, inl a) (ms, also, done, inl b) =
       let π = plain C ds s h ns ms new also made done in
       let e = same-fault scope.names C ds (names_env C ++ s.names) (λ n j. stands-before n (names_env C) s.names j) (λ j. stands-behind (scope.names.initial j) (names_env C) s.names (h.initials j)) ns ms π a.0 b.0 a.1 b.1 in
@@ -257,18 +321,33 @@ module _ {P : Type 0} (F : Type 0 → Type 0) {N : Type 0} (scope : Scope N) (fa
       let ρ =
       swap scope.names Scope scope (λ M x. x.names.initial int) scope.names.attributes (IsPlain scope) (scope-step scope) old ns ms (new-apart scope.names ds old ns new)
       (new-apart scope.names ds old ms also) (equal-kinds scope.names scope.unit ds old old ns ms new also made done flags) (new-plain scope far ds old ns new made) (new-plain scope far ds old ms also done) in
-      let p : N ≡ N = λ i. (ρ i).0 in
-      let u : PathP (λ i. Scope (p i)) scope scope = λ i. (ρ i).1 in
-      let v : Become p s.names s.names =
-      become-known p (scope.names.initial int) (scope.names.initial int) (λ i. (u i).names.initial int) old (λ i. (ρ i).2.0) s.names (λ n j. stands-behind n (names_env C) s.names j) in
-      let K = h.script p u v in
-      let S = h.state p u v in
-      let args : PathP (λ i. List (Arguments (p i))) (value_of (arguments_of C ds ns)) (value_of (arguments_of C ds ms)) = λ i. value_of (arguments_of (making (K i)).0 (making (K i)).1 ((ρ i).2.1)) in
-      let o' : Answer P (F N × State P N) = coe 0 1 (j. Answer P (F (p j) × State P (p j))) o in
       let c' : IsAnswer scope (k ns (value_of (arguments_of C ds ns))) (with_made ns s) o = subst (λ gs. IsAnswer scope (k ns gs) (with_made ns s) o) (sym (ap value_of e)) c in
       let d' : IsAnswer scope (k ms (value_of (arguments_of C ds ms))) (with_made ms s) q = subst (λ gs. IsAnswer scope (k ms gs) (with_made ms s) q) (sym (ap value_of f)) d in
-      let moved : IsAnswer scope (k ms (value_of (arguments_of C ds ms))) (with_made ms s) o' =
-      coe 0 1 (i. IsAnswer (u i) (next (named ((ρ i).2.1) (args i)) (K i) (S i)) (later (named ((ρ i).2.1) (args i)) (K i) (S i)) (coe 0 i (j. Answer P (F (p j) × State P (p j))) o)) c' in
-      let same = agree (k ms (value_of (arguments_of C ds ms))) (with_made ms s) (behind C ds k s h ms) o' q moved d' in
-      let moves : Same s.names o o' = λ i. (p i, u i, (S i).names, coe 0 i (j. Answer P (F (p j) × State P (p j))) o) in
-      moves ∙ shorter ms s.names o' q same
+      let r = carried (makes_datatypes C ds k) s h old ns ms (λ n j. stands-behind n (names_env C) s.names j) ρ o c' in
+      r.1 ∙ shorter ms s.names r.0 q (agree (k ms (value_of (arguments_of C ds ms))) (with_made ms s) (behind-datatypes C ds k s h ms) r.0 q r.2 d')
+  agree (makes_names ws k) s h o q (ns, new, c) (ms, also, d) =
+      let ρ =
+      swap scope.names Scope scope (λ M x. x.names.initial int) scope.names.attributes (IsPlain scope) (scope-step scope) s.names ns ms (made-apart scope ws s.names ns new)
+      (made-apart scope ws s.names ms also) (made-kinds scope ws s.names s.names ns ms new also) (made-plain scope far ws s.names ns new) (made-plain scope far ws s.names ms also) in
+      let r = carried (makes_names ws k) s h s.names ns ms (λ n j. j) ρ o c in r.1 ∙ shorter ms s.names r.0 q (agree (k ms) (with_made ms s) (behind-names ws k s h ms) r.0 q r.2 d)
+  agree (requires_or d f k) s h o q (inl a) (inl b) =
+      agree k (with_demand d s)
+      (record { script = λ r u v i. next nothing (h.script r u v i) (h.state r u v i); state = λ r u v i. later nothing (h.script r u v i) (h.state r u v i); initials = h.initials; met = a.0 }) o q a.1 b.1
+  agree (requires_or d f k) s h o q (inl a) (inr b) = absurd (b.0 a.0)
+  agree (requires_or d f k) s h o q (inr a) (inl b) = absurd (a.0 b.0)
+  agree (requires_or d f k) s h o q (inr a) (inr b) = λ i. (N, scope, s.names, (a.1 ∙ sym b.1) i)
+  agree (determines t f k) s h o q (inl (x, a, c)) (inl (y, b, d)) =
+      let e : x ≡ y = sym (a h.met.0 h.met.1) ∙ b h.met.0 h.met.1 in
+      agree (k x) s
+      (record { script = λ p u v i. next (record nothing { type = type-along p u v i }) (h.script p u v i) (h.state p u v i); state = h.state; initials = h.initials; met = h.met })
+      o q c (subst (λ y. IsAnswer scope (k y) s q) (sym e) d)
+    where
+      type-along : (p : N ≡ N) → PathP (λ i. Scope (p i)) scope scope → Become p s.names s.names → PathP (λ i. MlType (p i)) x x
+      type-along p u v =
+          let K = h.script p u v in
+          let S = h.state p u v in
+          let moved : IsAlways scope s t (coe 0 1 (i. MlType (p i)) x) = coe 0 1 (i. IsAlways (u i) (S i) (closing (K i)).2 (coe 0 i (j. MlType (p j)) x)) a in
+          to_path_p (λ i. MlType (p i)) (sym (moved h.met.0 h.met.1) ∙ a h.met.0 h.met.1)
+  agree (determines t f k) s h o q (inl (x, a, c)) (inr b) = absurd (b.0 x a)
+  agree (determines t f k) s h o q (inr a) (inl (y, b, d)) = absurd (a.0 y b)
+  agree (determines t f k) s h o q (inr a) (inr b) = λ i. (N, scope, s.names, (a.1 ∙ sym b.1) i)

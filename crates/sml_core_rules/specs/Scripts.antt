@@ -7,6 +7,7 @@ use Rattle.sml_lex.specs.declared.fault.Code.{Code}
 use Rattle.sml_lex.specs.Faults.{Fault}
 use Rattle.sml_tree.specs.Trees.{LongId}
 use Rattle.sml_tree.specs.Expressions.{DatBind}
+use Rattle.sml_objects.specs.Names.{Attributes}
 use Rattle.sml_objects.specs.Objects.{MlType, Scheme, free}
 use Rattle.sml_layers.specs.declared.layer.Layer.{Layer}
 use Rattle.sml_layers.specs.declared.layer.Layer.TheVariants.{Rigidity}
@@ -16,13 +17,14 @@ use Rattle.sml_rules.specs.Answers.{Answer, refused, accepted, fault}
 use Rattle.sml_rules.specs.Lookups.{Found}
 use Rattle.sml_core_rules.specs.Answers as A
 use Rattle.sml_core_rules.specs.Objects.{Env, names_env}
-use Rattle.sml_core_rules.specs.States.{Scope, State, words, with_unknowns, with_made, with_demand, with_rows}
-use Rattle.sml_core_rules.specs.Solutions.{IsScheme}
+use Rattle.sml_core_rules.specs.States.{Scope, State, words, AreMade, with_unknowns, with_made, with_demand, with_rows}
+use Rattle.sml_core_rules.specs.Solutions.{IsScheme, IsAlways}
 use Rattle.sml_core_rules.specs.Datatypes.{Arguments, AreNew, AdmitAsManyAsCan, with_names, arguments_of}
 
 -- It ends with an object or with a fault. Before that it tests a condition, or goes on by one; makes unknowns, and is told the
--- number of the first; adds a demand, which has its place; sees the state; sets the rows; closes a type, at the end of a
--- declaration that begins behind so many unknowns; and makes the names of datatypes in a context.
+-- number of the first; adds a demand, which has its place, or one with a fault of its own; sees the state; sets the rows; closes
+-- a type, at the end of a declaration that begins behind so many unknowns; takes the type that a type is in every case, or a
+-- fault; and makes names, of which this is seen beside their maker, or the names of datatypes in a context.
 pub data Script (P N X : Type 0) : Type 1 where
   give : X → Script P N X
   refuse : Fault P → Script P N X
@@ -32,7 +34,10 @@ pub data Script (P N X : Type 0) : Type 1 where
   requires : Demand N (List N) → P → Script P N X → Script P N X
   sees : (State P N → Script P N X) → Script P N X
   sets_rows : List (P × MlType N) → Script P N X → Script P N X
+  requires_or : Demand N (List N) → Fault P → Script P N X → Script P N X
   closes : ℕ → Bool → MlType N → (Scheme N → Script P N X) → Script P N X
+  determines : MlType N → Fault P → (MlType N → Script P N X) → Script P N X
+  makes_names : List Attributes → (List N → Script P N X) → Script P N X
   makes_datatypes : Env N → List (DatBind P) → (List N → List (Arguments N) → Script P N X) → Script P N X
 
 module _ {P N : Type 0} where
@@ -46,7 +51,10 @@ module _ {P N : Type 0} where
   ◌>>=◌ (requires d p k) next = requires d p (k >>= next)
   ◌>>=◌ (sees k) next = sees (λ s. k s >>= next)
   ◌>>=◌ (sets_rows rs k) next = sets_rows rs (k >>= next)
+  ◌>>=◌ (requires_or d f k) next = requires_or d f (k >>= next)
   ◌>>=◌ (closes n x t k) next = closes n x t (λ σ. k σ >>= next)
+  ◌>>=◌ (determines t f k) next = determines t f (λ u. k u >>= next)
+  ◌>>=◌ (makes_names ws k) next = makes_names ws (λ ns. k ns >>= next)
   ◌>>=◌ (makes_datatypes C ds k) next = makes_datatypes C ds (λ ns gs. k ns gs >>= next)
 
   infixr 20 ◌>>=◌
@@ -86,6 +94,12 @@ module _ {P N : Type 0} where
   abbrev pub close : ℕ → Bool → MlType N → Script P N (Scheme N)
   close n x t = closes n x t (λ σ. give σ)
 
+  abbrev pub determine : MlType N → Fault P → Script P N (MlType N)
+  determine t f = determines t f (λ u. give u)
+
+  abbrev pub new_names : List Attributes → Script P N (List N)
+  new_names ws = makes_names ws (λ ns. give ns)
+
   -- What a script may be answered in a state.
   module _ (scope : Scope N) where
     unfoldable pub IsAnswer : {X : Type 0} → Script P N X → State P N → Answer P (X × State P N) → Type 0
@@ -99,7 +113,12 @@ module _ {P N : Type 0} where
         ⊎ ((l : Layer) × IsFirstUnmet (words scope) l (d ∷ s.demands) × (o ≡ refused (fault (code_of l) p)))
     IsAnswer (sees k) s o = IsAnswer (k s) s o
     IsAnswer (sets_rows rs k) s o = IsAnswer k (with_rows rs s) o
+    IsAnswer (requires_or d f k) s o =
+        (CanBeMet (words scope) Rigidity (d ∷ s.demands) × IsAnswer k (with_demand d s) o) ⊎ (¬ (CanBeMet (words scope) Rigidity (d ∷ s.demands)) × (o ≡ refused f))
     IsAnswer (closes n x t k) s o = (σ : Scheme N) × IsScheme scope s n x t σ × IsAnswer (k σ) s o
+    IsAnswer (determines t f k) s o =
+        ((u : MlType N) × IsAlways scope s t u × IsAnswer (k u) s o) ⊎ (((u : MlType N) → ¬ (IsAlways scope s t u)) × (o ≡ refused f))
+    IsAnswer (makes_names ws k) s o = (ns : List N) × AreMade scope s.names ws ns × IsAnswer (k ns) (with_made ns s) o
     IsAnswer (makes_datatypes C ds k) s o =
         (ns : List N) × AreNew scope.names (names_env C ++ s.names) ds ns × AllByRecursion (λ n. (scope.names.attributes n).maker ≡ scope.unit) ns
         × (((f : Fault P) × (arguments_of C ds ns ≡ refused f) × (o ≡ refused f))

@@ -1,8 +1,8 @@
 -- What elaboration keeps from phrase to phrase.
-use Rattle.std.specs.Prelude.{◌≡◌, ◌⊎◌, ℕ, ◌+◌, List, ◌∷◌, ◌++◌}
+use Rattle.std.specs.Prelude.{◌≡◌, ◌⊎◌, ℕ, ◌+◌, List, [], ◌∷◌, ◌++◌}
 use Rattle.sml_objects.specs.Appearance.{Stands}
-use Rattle.sml_objects.specs.Names.{Naming}
-use Rattle.sml_objects.specs.Objects.{MlType}
+use Rattle.sml_objects.specs.Names.{Naming, Attributes, Initial}
+use Rattle.sml_objects.specs.Objects.{MlType, Outside}
 use Rattle.sml_layers.specs.declared.variable.Variable.{Variable}
 use Rattle.sml_layers.specs.Demands.{Demand, Words}
 
@@ -19,6 +19,13 @@ words scope = record {
   variable = scope.variable;
   Allows = λ T n. Stands n T ⊎ ((x : Variable) × (n ≡ scope.variable x));
 }
+
+-- New names: each is none of the old ones, of those before it and of the initial ones, was made by the unit, and carries this.
+unfoldable pub AreMade : {N : Type 0} → Scope N → List N → List Attributes → List N → Type 0
+AreMade scope old [] ns = ns ≡ []
+AreMade {N} scope old (w ∷ ws) ns =
+    (n : N) × (rest : List N) × Outside n old × ((k : Initial) → ¬ (scope.names.initial k ≡ n)) × (scope.names.attributes n ≡ record w { maker = scope.unit })
+    × AreMade scope (n ∷ old) ws rest × (ns ≡ n ∷ rest)
 
 -- The unknowns made so far, the names of types made so far, the demands so far, the newest first, and the flexible rows of the
 -- value declaration, in order of making, each with the place that asks for its labels.

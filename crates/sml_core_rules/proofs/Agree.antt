@@ -14,7 +14,6 @@ use Rattle.sml_layers.specs.declared.layer.Layer.TheVariants.{Finiteness, Rigidi
 use Rattle.sml_layers.specs.declared.variable.Variable.{Variable}
 use Rattle.sml_layers.specs.Demands.{CanBeMet}
 use Rattle.sml_layers.specs.Layers.{code_of}
-use Rattle.sml_layers.specs.Worlds.{Assignment, finite}
 use Rattle.sml_rules.specs.Answers.{Answer, refused, fault}
 use Rattle.sml_core_rules.specs.Objects.{Env, names_env, empty}
 use Rattle.sml_core_rules.specs.States.{Scope, State, words, AreMade, with_unknowns, with_made, with_demand, with_rows}

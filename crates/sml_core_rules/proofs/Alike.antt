@@ -3,11 +3,12 @@ use Rattle.std.specs.Prelude.{◌≡◌, List, [], ◌∷◌}
 use mathlib.Core.Path.{sym, subst, ◌∙◌}
 use mathlib.Core.Logic.{inl, inr}
 use std.Path.{from_path_p}
+use Rattle.sml_objects.specs.Alike.{Renaming}
 use Rattle.sml_objects.specs.Appearance.{Stands}
 use Rattle.sml_objects.specs.Names.{int}
 use Rattle.sml_objects.specs.Objects.{app, row, no_type}
-use Rattle.sml_core_rules.specs.Objects.{Env, names_env}
-use Rattle.sml_lex.specs.declared.fault.Place.{Place}
+use Rattle.sml_rules.proofs.Worlds.{Named}
+use Rattle.sml_core_rules.specs.Objects.{Env, rename_env, names_env}
 use Rattle.sml_rules.specs.Answers.{Answer}
 use Rattle.sml_core_rules.specs.States.{Scope, State}
 use Rattle.sml_core_rules.specs.Expressions.{read_dec, at_first}
@@ -15,10 +16,14 @@ use Rattle.sml_core_rules.specs.Statements.{ReadingsAgree, rename_answer}
 use Rattle.sml_core_rules.proofs.Along.{Become, become-list, become-known, env-along}
 use Rattle.sml_core_rules.proofs.Agree.{Settled, agree}
 use Rattle.sml_core_rules.proofs.Moves.{answer-id}
+use Rattle.sml_core_rules.proofs.Renaming.{env-id}
 
-pub readings-agree : {N : Type 0} (scope : Scope N) → ReadingsAgree scope
+-- a path between two answers, as a renaming
+pub alike : {P N : Type 0} {F : Type 0 → Type 0} (named : Named F) (scope : Scope N) (ns : List N) (o q : Answer P (F N × State P N))
+    → ◌≡◌ {A = (M : Type 0) × Scope M × List M × Answer P (F M × State P M)} (N, scope, ns, o) (N, scope, ns, q)
+    → (f : Renaming scope.names) × ((n : N) → Stands n ns → f.to n ≡ n) × (q ≡ rename_answer (named.rename f.to) f.to o)
 unfolding Become Stands
-readings-agree {N} scope far C ns inside initials d o q a b = (
+alike {N = N} named scope ns o q π = (
   record {
     to = λ n. coe 0 1 (i. p i) n;
     from = λ n. coe 1 0 (i. p i) n;
@@ -31,8 +36,18 @@ readings-agree {N} scope far C ns inside initials d o q a b = (
       let m =
       become-known p (scope.names.initial int) (scope.names.initial int) (λ i. (π i).1.names.initial int) ns (λ i. (π i).2) (n ∷ []) (λ m. elim [ inl e ↦ subst (λ n. Stands n ns) (sym e) s | inr h ↦ absurd h ]) in
       from_path_p (λ i. p i) m.0),
-  sym ((λ i. rename_answer (λ n. coe i 1 (j. p j) n) ((π i).3)) ∙ answer-id q),
+  sym ((λ i. rename_answer (named.rename (λ n. coe i 1 (j. p j) n)) (λ n. coe i 1 (j. p j) n) ((π i).3)) ∙ answer-id (named.rename (λ n. n)) named.rename-id q),
 )
+  where
+    p : N ≡ N
+    p i = (π i).0
+
+env_named : Named Env
+env_named = record { rename = rename_env; rename-id = env-id }
+
+pub readings-agree : {N : Type 0} (scope : Scope N) → ReadingsAgree scope
+unfolding env_named
+readings-agree {N} scope far C ns inside initials d o q a b = alike env_named scope ns o q (agree Env scope far (read_dec scope C [] d) (at_first ns) settled o q a b)
   where
     settled : Settled Env scope far (read_dec scope C [] d) (at_first ns)
     settled = record {
@@ -43,9 +58,3 @@ readings-agree {N} scope far C ns inside initials d o q a b = (
       initials = initials;
       met = ((λ v. app (row []) no_type), tt);
     }
-
-    π : ◌≡◌ {A = (M : Type 0) × Scope M × List M × Answer Place (Env M × State Place M)} (N, scope, ns, o) (N, scope, ns, q)
-    π = agree Env scope far (read_dec scope C [] d) (at_first ns) settled o q a b
-
-    p : N ≡ N
-    p i = (π i).0

@@ -93,7 +93,7 @@ mutual
 scheme-along : {A : Type 0} (p : A ≡ A) (σ : Scheme A) → Become p (names_scheme σ) (names_scheme σ) → PathP (λ i. Scheme (p i)) σ σ
 scheme-along p σ b = let q = type-along p σ.body b in λ i. record { variables = σ.variables; body = q i }
 
-map-along : {A X : Type 0} (r : A ≡ A) (p : X ≡ X) (f : X → List A) → ((x : X) → Become r (f x) (f x) → PathP (λ i. p i) x x)
+pub map-along : {A X : Type 0} (r : A ≡ A) (p : X ≡ X) (f : X → List A) → ((x : X) → Become r (f x) (f x) → PathP (λ i. p i) x x)
     → (m : Map X) → Become r (names_map f m) (names_map f m) → PathP (λ i. Map (p i)) m m
 map-along r p f g [] b = λ i. []
 map-along r p f g (e ∷ m) b =

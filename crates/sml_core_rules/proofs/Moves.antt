@@ -40,9 +40,9 @@ state-id s = λ i. record {
   rows = each-id (λ r. (r.0, rename_type (λ n. n) r.1)) (λ r j. (r.0, rename_type-id r.1 j)) s.rows i;
 }
 
-pub answer-id : {P N : Type 0} (o : Answer P (Env N × State P N)) → rename_answer (λ n. n) o ≡ o
-answer-id (refused f) = refl
-answer-id (accepted r) = λ i. accepted (env-id r.0 i, state-id r.1 i)
+pub answer-id : {P N X : Type 0} (g : X → X) → ((x : X) → g x ≡ x) → (o : Answer P (X × State P N)) → rename_answer g (λ n. n) o ≡ o
+answer-id g h (refused f) = refl
+answer-id g h (accepted r) = λ i. accepted (h r.0 i, state-id r.1 i)
 
 -- what a reading speaks of: the names of explicit variables, the context, the explicit variables, the state, and the answer
 pub record Told (P N : Type 0) : Type 0 where
@@ -58,7 +58,7 @@ rename_told f x = record {
   context = rename_env f x.context;
   explicit = replaced (rename_type f) x.explicit;
   state = rename_state f x.state;
-  answer = rename_answer f x.answer;
+  answer = rename_answer (rename_env f) f x.answer;
 }
 
 told-id : {P N : Type 0} (x : Told P N) → rename_told (λ n. n) x ≡ x
@@ -68,7 +68,7 @@ told-id x = λ i. record {
   context = env-id x.context i;
   explicit = replaced-id (rename_type (λ n. n)) rename_type-id x.explicit i;
   state = state-id x.state i;
-  answer = answer-id x.answer i;
+  answer = answer-id (rename_env (λ n. n)) env-id x.answer i;
 }
 
 told_named : {P : Type 0} → Named (Told P)
@@ -76,7 +76,7 @@ told_named = record { rename = rename_told; rename-id = told-id }
 
 pub readings-move : {P N : Type 0} (names : Naming N) (f : Renaming names) (unit : ℕ) (var : Variable → N) (C : Env N) (vs : Map (MlType N)) (d : Dec P) (s : State P N) (o : Answer P (Env N × State P N))
     → IsReading (record { names = names; unit = unit; variable = var }) C vs d s o
-    → IsReading (record { names = names; unit = unit; variable = λ x. f.to (var x) }) (rename_env f.to C) (replaced (rename_type f.to) vs) d (rename_state f.to s) (rename_answer f.to o)
+    → IsReading (record { names = names; unit = unit; variable = λ x. f.to (var x) }) (rename_env f.to C) (replaced (rename_type f.to) vs) d (rename_state f.to s) (rename_answer (rename_env f.to) f.to o)
 unfolding rename_told told_named
 readings-move {P} {N} names f unit var C vs d s o r =
     subst {A = Over (Told P)} (λ w. IsReading (record { names = w.1; unit = unit; variable = w.2.variable }) w.2.context w.2.explicit d w.2.state w.2.answer)

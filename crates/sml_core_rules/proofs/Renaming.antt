@@ -42,7 +42,7 @@ sig-id S = λ i. record { names = list-id S.names i; body = env-id S.body i }
 fun-sig-id : {N : Type 0} (F : FunSig N) → rename_fun_sig (λ n. n) F ≡ F
 fun-sig-id F = λ i. record { argument = sig-id F.argument i; result = sig-id F.result i }
 
-basis-id : {N : Type 0} (B : Basis N) → rename_basis (λ n. n) B ≡ B
+pub basis-id : {N : Type 0} (B : Basis N) → rename_basis (λ n. n) B ≡ B
 basis-id B = λ i. record {
   names = list-id B.names i;
   functors = replaced-id (rename_fun_sig (λ n. n)) fun-sig-id B.functors i;

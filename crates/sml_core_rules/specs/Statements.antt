@@ -46,9 +46,9 @@ rename_state f s = record {
   rows = map (λ r. (r.0, rename_type f r.1)) s.rows;
 }
 
-abbrev pub rename_answer : {P A B : Type 0} → (A → B) → Answer P (Env A × State P A) → Answer P (Env B × State P B)
-rename_answer f (refused x) = refused x
-rename_answer f (accepted r) = accepted (rename_env f r.0, rename_state f r.1)
+abbrev pub rename_answer : {P A B X Y : Type 0} → (X → Y) → (A → B) → Answer P (X × State P A) → Answer P (Y × State P B)
+rename_answer g f (refused x) = refused x
+rename_answer g f (accepted r) = accepted (g r.0, rename_state f r.1)
 
 -- A reading of a declaration is one of it with the names replaced: the context, the explicit variables in scope, the state and
 -- the answer. The names that stand for explicit variables are replaced too.
@@ -56,7 +56,7 @@ abbrev pub ReadingsMove : {N : Type 0} → Naming N → Type 0
 ReadingsMove {N} names =
     (f : Renaming names) (unit : ℕ) (var : Variable → N) (C : Env N) (vs : Map (MlType N)) (d : Dec Place) (s : State Place N) (o : Answer Place (Env N × State Place N))
     → IsReading (record { names = names; unit = unit; variable = var }) C vs d s o
-    → IsReading (record { names = names; unit = unit; variable = λ x. f.to (var x) }) (rename_env f.to C) (replaced (rename_type f.to) vs) d (rename_state f.to s) (rename_answer f.to o)
+    → IsReading (record { names = names; unit = unit; variable = λ x. f.to (var x) }) (rename_env f.to C) (replaced (rename_type f.to) vs) d (rename_state f.to s) (rename_answer (rename_env f.to) f.to o)
 
 -- the laws of renaming, of environments and of bases
 pub record ObjectsObeyLaws (N : Type 0) : Type 0 where
@@ -88,4 +88,4 @@ ReadingsAgree {N} scope =
     ((x : Variable) → ¬ ((scope.names.attributes (scope.variable x)).maker ≡ scope.unit))
     → (C : Env N) (ns : List N) → ((n : N) → Stands n (names_env C) → Stands n ns) → ((k : Initial) → Stands (scope.names.initial k) ns)
     → (d : Dec Place) (o q : Answer Place (Env N × State Place N)) → IsReading scope C [] d (at_first ns) o → IsReading scope C [] d (at_first ns) q
-    → (f : Renaming scope.names) × ((n : N) → Stands n ns → f.to n ≡ n) × (q ≡ rename_answer f.to o)
+    → (f : Renaming scope.names) × ((n : N) → Stands n ns → f.to n ≡ n) × (q ≡ rename_answer (rename_env f.to) f.to o)

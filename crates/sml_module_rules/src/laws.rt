@@ -1,0 +1,11 @@
+//! What holds of all readings of top-level declarations, over the names of a run.
+
+ghost use Rattle.sml_objects.specs.Initial.{Name};
+ghost use Rattle.sml_core_rules.specs.States.{Scope};
+ghost use Rattle.sml_module_rules.specs.Statements.{TopReadingsAgree};
+
+/// Any two answers to a top-level declaration in one basis are the same fault, or bases alike over that basis, whichever new
+/// names were taken.
+pub fn top_readings_agree()
+    ensures { (scope : Scope Name) → TopReadingsAgree scope }
+{}

@@ -1,5 +1,6 @@
 //! Functors and their applications (the Definition, section 5.7, rules 54, 85 and 86).
 
+use crate::settled::settled_shared;
 use crate::structures::{begin, end_let, structure};
 use sml_core::context::Context;
 use sml_envs::canonical::{applied_result, names_from};
@@ -42,21 +43,38 @@ pub(crate) fn applied(
     Ok(result)
 }
 
-/// Binds functors.
+/// Binds functors. Types of their results that are still unknown when all bodies were gone through are Q2 at the place.
 pub(crate) fn functors(
     context: &mut Context,
     own: &mut Basis,
     binds: &[FunBind],
+    place: Place,
 ) -> Result<(), CoreFault> {
+    let mut bodies = Vec::new(context.alloc);
     for bind in binds {
-        let functor = functor(context, bind)?;
-        let functor = Rc::new(context.alloc, functor)?;
-        own.functors.insert(bind.name.ident.clone()?, functor)?;
+        bodies.push(body_of(context, bind)?)?;
+    }
+    let mut bodies = bodies.into_iter();
+    for bind in binds {
+        if let Some(body) = bodies.next() {
+            let functor = settled(context, body, place)?;
+            let functor = Rc::new(context.alloc, functor)?;
+            own.functors.insert(bind.name.ident.clone()?, functor)?;
+        }
     }
     Ok(())
 }
 
-fn functor(context: &mut Context, bind: &FunBind) -> Result<FunSig, CoreFault> {
+/// A functor's argument, the number of the first name that its body could make, and what the body is, whose types may be
+/// unknown still.
+#[derive(Drop)]
+struct Body {
+    argument: Sig,
+    first: u32,
+    env: Rc<Env>,
+}
+
+fn body_of(context: &mut Context, bind: &FunBind) -> Result<Body, CoreFault> {
     let basis = context.scopes.basis();
     let argument = signature(
         context.alloc,
@@ -65,17 +83,35 @@ fn functor(context: &mut Context, bind: &FunBind) -> Result<FunSig, CoreFault> {
         &context.scopes,
         &bind.signature,
     )?;
-    let result = result_of(context, bind, argument.env.clone()?)?;
-    Ok(FunSig { argument, result })
+    let first = context.new.next;
+    let env = result_of(context, bind, argument.env.clone()?)?;
+    Ok(Body {
+        argument,
+        first,
+        env,
+    })
 }
 
-/// What a functor's body gives for an argument, with the names that it makes.
-fn result_of(context: &mut Context, bind: &FunBind, argument: Rc<Env>) -> Result<Sig, CoreFault> {
-    let first = context.new.next;
+/// What a functor's body gives for an argument.
+fn result_of(
+    context: &mut Context,
+    bind: &FunBind,
+    argument: Rc<Env>,
+) -> Result<Rc<Env>, CoreFault> {
     let outside = begin(context, false);
     context.bind_structure(&bind.argument.ident, argument)?;
     let env = structure(context, &bind.body)?;
     end_let(context, outside)?;
-    let names = names_from(context.alloc, &env, context.new.unit, first)?;
-    Ok(Sig { names, env })
+    Ok(env)
+}
+
+/// The functor once the types of its result are known. It makes the names that its body made and that stand there.
+fn settled(context: &mut Context, body: Body, place: Place) -> Result<FunSig, CoreFault> {
+    let env = settled_shared(context, &body.env, place)?;
+    let names = names_from(context.alloc, &env, context.new.unit, body.first)?;
+    let Body { argument, .. } = body;
+    Ok(FunSig {
+        argument,
+        result: Sig { names, env },
+    })
 }

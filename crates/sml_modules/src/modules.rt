@@ -1,7 +1,7 @@
 //! Top-level declarations (the Definition, section 5.7, rules 87 to 89, and appendix D).
 
 use crate::functors::functors;
-use crate::settled::{settled_env, settled_functors};
+use crate::settled::settled_env;
 use crate::structures::declare;
 use sml_core::context::Context;
 use sml_envs::canonical::canonical;
@@ -57,10 +57,7 @@ fn own_basis(context: &mut Context, basis: &Basis, dec: &TopDec) -> Result<Basis
             own.env = settled_env(context, env, START)?;
         }
         TopDec::Signature(_, binds) => signatures(context, basis, &mut own, binds)?,
-        TopDec::Functor(_, binds) => {
-            functors(context, &mut own, binds)?;
-            settled_functors(context, &mut own, START)?;
-        }
+        TopDec::Functor(_, binds) => functors(context, &mut own, binds, START)?,
     }
     Ok(own)
 }

@@ -4,7 +4,7 @@ use indexmap::{IndexMap, IndexSet};
 use sml_asks::asks::ask_reading;
 use sml_core::context::{Context, refused};
 use sml_envs::mapping::{Image, Mapping, mapped_env};
-use sml_envs::objects::{Basis, Env, FunSig, Sig};
+use sml_envs::objects::Env;
 use sml_envs::sizes::GREATEST_SIZE;
 use sml_lex::fault::{Code, Memory, Place};
 use sml_objects::objects::{MlType, TyName};
@@ -48,50 +48,15 @@ pub(crate) fn settled_env(context: &mut Context, env: Env, place: Place) -> Resu
     Ok(own)
 }
 
-/// The same of the results of functors.
-pub(crate) fn settled_functors(
-    context: &mut Context,
-    own: &mut Basis,
-    place: Place,
-) -> Result<(), CoreFault> {
-    if !context.is_open() {
-        return Ok(());
-    }
-    for functor in own.functors.values_mut() {
-        *functor = settled_functor(context, functor, place)?;
-    }
-    Ok(())
-}
-
-fn settled_functor(
-    context: &mut Context,
-    functor: &FunSig,
-    place: Place,
-) -> Result<Rc<FunSig>, CoreFault> {
-    let env = settled_shared(context, &functor.result.env, place)?;
-    Ok(functor_with(context.alloc, functor, env)?)
-}
-
-/// A functor with another environment of its result.
-fn functor_with(alloc: Global, functor: &FunSig, env: Rc<Env>) -> Result<Rc<FunSig>, Memory> {
-    let names = Vec::from_slice(alloc, functor.result.names.as_slice())?;
-    let result = Sig { names, env };
-    let argument = shared_sig(alloc, &functor.argument)?;
-    Ok(Rc::new(alloc, FunSig { argument, result })?)
-}
-
-fn shared_sig(alloc: Global, sig: &Sig) -> Result<Sig, Memory> {
-    Ok(Sig {
-        names: Vec::from_slice(alloc, sig.names.as_slice())?,
-        env: sig.env.clone()?,
-    })
-}
-
-fn settled_shared(
+/// The same of a shared environment.
+pub(crate) fn settled_shared(
     context: &mut Context,
     env: &Rc<Env>,
     place: Place,
 ) -> Result<Rc<Env>, CoreFault> {
+    if !context.is_open() {
+        return Ok(env.clone()?);
+    }
     let unknowns = unknowns_of(context.alloc, env)?;
     if unknowns.is_empty() {
         return Ok(env.clone()?);

@@ -14,11 +14,12 @@ use Rattle.sml_layers.specs.declared.layer.Layer.TheVariants.{Finiteness, Rigidi
 use Rattle.sml_layers.specs.declared.variable.Variable.{Variable}
 use Rattle.sml_layers.specs.Demands.{CanBeMet}
 use Rattle.sml_layers.specs.Layers.{code_of}
-use Rattle.sml_rules.specs.Answers.{Answer, refused, fault}
+use Rattle.sml_lex.specs.Faults.{Fault}
+use Rattle.sml_rules.specs.Answers.{Answer, refused, accepted, fault}
 use Rattle.sml_core_rules.specs.Objects.{Env, names_env, empty}
 use Rattle.sml_core_rules.specs.States.{Scope, State, words, AreMade, with_unknowns, with_made, with_demand, with_rows}
 use Rattle.sml_core_rules.specs.Solutions.{Meets, IsScheme, IsAlways}
-use Rattle.sml_core_rules.specs.Datatypes.{Arguments, AreNew, has_equality, arguments_of}
+use Rattle.sml_core_rules.specs.Datatypes.{Arguments, AreNew, AdmitAsManyAsCan, has_equality, with_names, arguments_of}
 use Rattle.sml_core_rules.specs.Scripts.{Script, give, refuse, tests, either, makes_unknowns, requires, sees, sets_rows, requires_or, closes, determines, makes_names, makes_datatypes, IsAnswer}
 use Rattle.sml_core_rules.proofs.Along.{Become, become-list, become-left, become-right, become-known}
 use Rattle.sml_core_rules.proofs.Flags.{value_of, same-fault, not-both, becomes, become-others, follows, equal-lists, equal-kinds, new-count, same-count}
@@ -27,18 +28,18 @@ use Rattle.sml_core_rules.proofs.Schemes.{one-scheme}
 use Rattle.sml_core_rules.proofs.Swap.{Apart, IsPlain, swap, plain-step, scope-step}
 
 -- what is chosen where a script goes on: whether a condition holds, a scheme, a type, names, and the arguments of constructors
-record Choice (N : Type 0) : Type 0 where
-  holds : Bool
-  scheme : Scheme N
-  type : MlType N
-  names : List N
-  arguments : List (Arguments N)
+pub record Choice (N : Type 0) : Type 0 where
+  pub holds : Bool
+  pub scheme : Scheme N
+  pub type : MlType N
+  pub names : List N
+  pub arguments : List (Arguments N)
 
-abbrev nothing : {N : Type 0} → Choice N
+abbrev pub nothing : {N : Type 0} → Choice N
 nothing = record { holds = true; scheme = record { variables = []; body = free 0 }; type = free 0; names = []; arguments = [] }
 
 module _ {P N X : Type 0} where
-  next : Choice N → Script P N X → State P N → Script P N X
+  unfoldable pub next : Choice N → Script P N X → State P N → Script P N X
   next c (give x) s = give x
   next c (refuse f) s = refuse f
   next c (tests C f k) s = k
@@ -85,7 +86,7 @@ module _ {P N X : Type 0} where
   closing (makes_names ws k) = (0, false, free 0)
   closing (makes_datatypes C ds k) = (0, false, free 0)
 
-  making : Script P N X → Env N × List (DatBind P)
+  unfoldable pub making : Script P N X → Env N × List (DatBind P)
   making (give x) = (empty, [])
   making (refuse f) = (empty, [])
   making (tests C f k) = (empty, [])
@@ -101,7 +102,7 @@ module _ {P N X : Type 0} where
   making (makes_datatypes C ds k) = (C, ds)
 
   -- what it goes on with, where it makes these names
-  abbrev chosen : Script P N X → List N → Choice N
+  abbrev pub chosen : Script P N X → List N → Choice N
   chosen k ns = record nothing { names = ns; arguments = value_of (arguments_of (making k).0 (making k).1 ns) }
 
 -- new names are apart, and plain
@@ -151,18 +152,54 @@ one-kind [] (m ∷ ms) e = absurd (omega (arith, e))
 one-kind (n ∷ ns) [] e = absurd (omega (arith, e))
 one-kind (n ∷ ns) (m ∷ ms) e = let f : length ns ≡ length ms = omega (arith, e) in ap (λ l. tt ∷ l) (one-kind ns ms f)
 
-stands-behind : {N : Type 0} (n : N) (ms ns : List N) → Stands n ns → Stands n (ms ++ ns)
+-- Two choices of names for the same datatypes, where what is asked of them is answered. One becomes the other, whatever their
+-- attributes, and these turn out to be the same.
+module _ {P N : Type 0} (scope : Scope N) (far : (x : Variable) → ¬ ((scope.names.attributes (scope.variable x)).maker ≡ scope.unit)) (C : Env N) (ds : List (DatBind P))
+    (old : List N) (inside : (n : N) → Stands n (names_env C) → Stands n old) (initials : (j : Initial) → Stands (scope.names.initial j) old) (ns ms : List N)
+    (new : AreNew scope.names old ds ns) (also : AreNew scope.names old ds ms) (made : AllByRecursion (λ n. (scope.names.attributes n).maker ≡ scope.unit) ns)
+    (done : AllByRecursion (λ n. (scope.names.attributes n).maker ≡ scope.unit) ms) where
+  plain : ◌≡◌ {A = (M : Type 0) × M × (List M × List M)} (N, scope.names.initial int, (old, ns)) (N, scope.names.initial int, (old, ms))
+  plain =
+      swap scope.names (λ M. M) (scope.names.initial int) (λ M m. m) (λ _. tt) (λ n. ¬ (scope.names.initial int ≡ n)) (plain-step scope.names (λ _. tt)) old ns ms
+      (new-apart scope.names ds old ns new) (new-apart scope.names ds old ms also) (one-kind ns ms (new-count scope.names ds old ns new ∙ sym (new-count scope.names ds old ms also)))
+      (only-first scope ns (new-plain scope far ds old ns new made)) (only-first scope ms (new-plain scope far ds old ms also done))
+
+  pub faults-same : (f g : Fault P) → arguments_of C ds ns ≡ refused f → arguments_of C ds ms ≡ refused g → f ≡ g
+  faults-same f g h k = same-fault scope.names C ds old inside initials ns ms plain f g h k
+
+  pub never-both : (f : Fault P) (gs : List (Arguments N)) → arguments_of C ds ns ≡ refused f → arguments_of C ds ms ≡ accepted gs → ⊥
+  never-both f gs h k = not-both scope.names C ds old inside initials ns ms plain f gs h k
+
+  pub choices-along : (gs hs : List (Arguments N)) → arguments_of C ds ns ≡ accepted gs → arguments_of C ds ms ≡ accepted hs → AdmitAsManyAsCan scope.names (with_names ns gs)
+      → AdmitAsManyAsCan scope.names (with_names ms hs) → ◌≡◌ {A = (M : Type 0) × Scope M × (List M × List M)} (N, scope, (old, ns)) (N, scope, (old, ms))
+  choices-along gs hs e f a b =
+      let flags =
+      equal-lists (has_equality scope.names) (becomes scope.names C ds old inside initials ns ms plain) (becomes scope.names C ds old inside initials ms ns (sym plain)) ns ms
+      (become-others scope.names C ds old inside initials ns ms plain) (become-others scope.names C ds old inside initials ms ns (sym plain))
+      (follows scope.names C ds old inside initials ns ms plain gs hs (same-count scope.names C ds old ns gs new e) e f a b)
+      (follows scope.names C ds old inside initials ms ns (sym plain) hs gs (same-count scope.names C ds old ms hs also f) f e b a) in
+      swap scope.names Scope scope (λ M x. x.names.initial int) scope.names.attributes (IsPlain scope) (scope-step scope) old ns ms (new-apart scope.names ds old ns new)
+      (new-apart scope.names ds old ms also) (equal-kinds scope.names scope.unit ds old old ns ms new also made done flags) (new-plain scope far ds old ns new made) (new-plain scope far ds old ms also done)
+
+-- two choices of names of which just this may be seen
+pub names-along : {N : Type 0} (scope : Scope N) → ((x : Variable) → ¬ ((scope.names.attributes (scope.variable x)).maker ≡ scope.unit)) → (ws : List Attributes) (old ns ms : List N)
+    → AreMade scope old ws ns → AreMade scope old ws ms → ◌≡◌ {A = (M : Type 0) × Scope M × (List M × List M)} (N, scope, (old, ns)) (N, scope, (old, ms))
+names-along scope far ws old ns ms new also =
+    swap scope.names Scope scope (λ M x. x.names.initial int) scope.names.attributes (IsPlain scope) (scope-step scope) old ns ms (made-apart scope ws old ns new) (made-apart scope ws old ms also)
+    (made-kinds scope ws old old ns ms new also) (made-plain scope far ws old ns new) (made-plain scope far ws old ms also)
+
+pub stands-behind : {N : Type 0} (n : N) (ms ns : List N) → Stands n ns → Stands n (ms ++ ns)
 unfolding Stands
 stands-behind n [] ns h = h
 stands-behind n (m ∷ ms) ns h = inr (stands-behind n ms ns h)
 
-stands-before : {N : Type 0} (n : N) (ms ns : List N) → Stands n ms → Stands n (ms ++ ns)
+pub stands-before : {N : Type 0} (n : N) (ms ns : List N) → Stands n ms → Stands n (ms ++ ns)
 unfolding Stands
 stands-before n [] ns h = absurd h
 stands-before n (m ∷ ms) ns (inl e) = inl e
 stands-before n (m ∷ ms) ns (inr h) = inr (stands-before n ms ns h)
 
-dropped : {N : Type 0} (ms ns : List N) → drop (length ms) (ms ++ ns) ≡ ns
+pub dropped : {N : Type 0} (ms ns : List N) → drop (length ms) (ms ++ ns) ≡ ns
 dropped [] ns = refl
 dropped (m ∷ ms) ns = dropped ms ns
 
@@ -186,16 +223,11 @@ module _ {P : Type 0} (F : Type 0 → Type 0) {N : Type 0} (scope : Scope N) (fa
   finitely : (s : State P N) (m : CanBeMet (words scope) Rigidity s.demands) → Meets scope s Finiteness m.0
   finitely s m = lower (words scope) Finiteness Rigidity (omega arith) m.0 s.demands m.1
 
-  -- one choice of new names becomes another, whatever their attributes
-  plain : (C : Env N) (ds : List (DatBind P)) {k : Script P N (F N)} (s : State P N) → Settled k s → (ns ms : List N)
-      → AreNew scope.names (names_env C ++ s.names) ds ns → AreNew scope.names (names_env C ++ s.names) ds ms
-      → AllByRecursion (λ n. (scope.names.attributes n).maker ≡ scope.unit) ns → AllByRecursion (λ n. (scope.names.attributes n).maker ≡ scope.unit) ms
-      → ◌≡◌ {A = (M : Type 0) × M × (List M × List M)} (N, scope.names.initial int, (names_env C ++ s.names, ns)) (N, scope.names.initial int, (names_env C ++ s.names, ms))
-  plain C ds s h ns ms new also made done =
-      let old = names_env C ++ s.names in
-      swap scope.names (λ M. M) (scope.names.initial int) (λ M m. m) (λ _. tt) (λ n. ¬ (scope.names.initial int ≡ n)) (plain-step scope.names (λ _. tt)) old ns ms
-      (new-apart scope.names ds old ns new) (new-apart scope.names ds old ms also) (one-kind ns ms (new-count scope.names ds old ns new ∙ sym (new-count scope.names ds old ms also)))
-      (only-first scope ns (new-plain scope far ds old ns new made)) (only-first scope ms (new-plain scope far ds old ms also done))
+  before : (C : Env N) (s : State P N) (n : N) → Stands n (names_env C) → Stands n (names_env C ++ s.names)
+  before C s n j = stands-before n (names_env C) s.names j
+
+  behind : (C : Env N) {k : Script P N (F N)} (s : State P N) → Settled k s → (j : Initial) → Stands (scope.names.initial j) (names_env C ++ s.names)
+  behind C s h j = stands-behind (scope.names.initial j) (names_env C) s.names (h.initials j)
 
   -- what comes behind new names is left by what leaves these too
 
@@ -298,36 +330,20 @@ module _ {P : Type 0} (F : Type 0 → Type 0) {N : Type 0} (scope : Scope N) (fa
           coe 0 1 (i. IsScheme (u i) (S i) (closing (K i)).0 (closing (K i)).1 (closing (K i)).2 (coe 0 i (j. Scheme (p j)) σ)) a in
           to_path_p (λ i. Scheme (p i)) (one-scheme scope s h.met.0 (finitely s h.met) n x t _ σ moved a)
   agree (makes_datatypes C ds k) s h o q (ns, new, made, inl a) (ms, also, done, inl b) =
-      let π = plain C ds s h ns ms new also made done in
-      let e = same-fault scope.names C ds (names_env C ++ s.names) (λ n j. stands-before n (names_env C) s.names j) (λ j. stands-behind (scope.names.initial j) (names_env C) s.names (h.initials j)) ns ms π a.0 b.0 a.1 b.1 in
-      λ i. (N, scope, s.names, (a.2 ∙ (ap refused e ∙ sym b.2)) i)
+      let e = faults-same scope far C ds (names_env C ++ s.names) (before C s) (behind C s h) ns ms new also made done a.0 b.0 a.1 b.1 in λ i. (N, scope, s.names, (a.2 ∙ (ap refused e ∙ sym b.2)) i)
   agree (makes_datatypes C ds k) s h o q (ns, new, made, inl a) (ms, also, done, inr b) =
-      let π = plain C ds s h ns ms new also made done in
-      absurd (not-both scope.names C ds (names_env C ++ s.names) (λ n j. stands-before n (names_env C) s.names j) (λ j. stands-behind (scope.names.initial j) (names_env C) s.names (h.initials j)) ns ms π a.0 b.0 a.1 b.1)
+      absurd (never-both scope far C ds (names_env C ++ s.names) (before C s) (behind C s h) ns ms new also made done a.0 b.0 a.1 b.1)
   agree (makes_datatypes C ds k) s h o q (ns, new, made, inr a) (ms, also, done, inl b) =
-      let π = plain C ds s h ms ns also new done made in
-      absurd (not-both scope.names C ds (names_env C ++ s.names) (λ n j. stands-before n (names_env C) s.names j) (λ j. stands-behind (scope.names.initial j) (names_env C) s.names (h.initials j)) ms ns π b.0 a.0 b.1 a.1)
+      absurd (never-both scope far C ds (names_env C ++ s.names) (before C s) (behind C s h) ms ns also new done made b.0 a.0 b.1 a.1)
   agree (makes_datatypes C ds k) s h o q (ns, new, made, inr (gs, e, a, c)) (ms, also, done, inr (hs, f, b, d)) =
       let old = names_env C ++ s.names in
-      let inside : (n : N) → Stands n (names_env C) → Stands n old = λ n j. stands-before n (names_env C) s.names j in
-      let first_names : (j : Initial) → Stands (scope.names.initial j) old = λ j. stands-behind (scope.names.initial j) (names_env C) s.names (h.initials j) in
-      let π = plain C ds s h ns ms new also made done in
-      let flags =
-      equal-lists (has_equality scope.names) (becomes scope.names C ds old inside first_names ns ms π) (becomes scope.names C ds old inside first_names ms ns (sym π)) ns ms
-      (become-others scope.names C ds old inside first_names ns ms π) (become-others scope.names C ds old inside first_names ms ns (sym π))
-      (follows scope.names C ds old inside first_names ns ms π gs hs (same-count scope.names C ds old ns gs new e) e f a b)
-      (follows scope.names C ds old inside first_names ms ns (sym π) hs gs (same-count scope.names C ds old ms hs also f) f e b a) in
-      let ρ =
-      swap scope.names Scope scope (λ M x. x.names.initial int) scope.names.attributes (IsPlain scope) (scope-step scope) old ns ms (new-apart scope.names ds old ns new)
-      (new-apart scope.names ds old ms also) (equal-kinds scope.names scope.unit ds old old ns ms new also made done flags) (new-plain scope far ds old ns new made) (new-plain scope far ds old ms also done) in
+      let ρ = choices-along scope far C ds old (before C s) (behind C s h) ns ms new also made done gs hs e f a b in
       let c' : IsAnswer scope (k ns (value_of (arguments_of C ds ns))) (with_made ns s) o = subst (λ gs. IsAnswer scope (k ns gs) (with_made ns s) o) (sym (ap value_of e)) c in
       let d' : IsAnswer scope (k ms (value_of (arguments_of C ds ms))) (with_made ms s) q = subst (λ gs. IsAnswer scope (k ms gs) (with_made ms s) q) (sym (ap value_of f)) d in
       let r = carried (makes_datatypes C ds k) s h old ns ms (λ n j. stands-behind n (names_env C) s.names j) ρ o c' in
       r.1 ∙ shorter ms s.names r.0 q (agree (k ms (value_of (arguments_of C ds ms))) (with_made ms s) (behind-datatypes C ds k s h ms) r.0 q r.2 d')
   agree (makes_names ws k) s h o q (ns, new, c) (ms, also, d) =
-      let ρ =
-      swap scope.names Scope scope (λ M x. x.names.initial int) scope.names.attributes (IsPlain scope) (scope-step scope) s.names ns ms (made-apart scope ws s.names ns new)
-      (made-apart scope ws s.names ms also) (made-kinds scope ws s.names s.names ns ms new also) (made-plain scope far ws s.names ns new) (made-plain scope far ws s.names ms also) in
+      let ρ = names-along scope far ws s.names ns ms new also in
       let r = carried (makes_names ws k) s h s.names ns ms (λ n j. j) ρ o c in r.1 ∙ shorter ms s.names r.0 q (agree (k ms) (with_made ms s) (behind-names ws k s h ms) r.0 q r.2 d)
   agree (requires_or d f k) s h o q (inl a) (inl b) =
       agree k (with_demand d s)

@@ -17,6 +17,7 @@ use Rattle.sml_core_rules.specs.Rules.{BindDatatypes}
 use Rattle.sml_rules.proofs.Settled.{outside-right}
 use Rattle.sml_rules.proofs.Sound.{accepted_same, not_refused}
 use Rattle.sml_core_rules.proofs.Derived.{all-arguments-to}
+use Rattle.sml_core_rules.proofs.Plain.{fewer-new}
 
 apart : {N : Type 0} (n m : N) (ms : List N) → Outside n ms → Stands m ms → ¬ (m ≡ n)
 unfolding Outside Stands
@@ -30,11 +31,6 @@ outside n [] ms f o = tt
 outside n (m ∷ ns) ms f o = (apart n m ms o (f m (inl refl)), outside n ns ms (λ k h. f k (inr h)) o)
 
 module _ {P N : Type 0} (scope : Scope N) where
-  fewer-new : (ds : List (DatBind P)) (old more ns : List N) → ((n : N) → Outside n more → Outside n old) → AreNew scope.names more ds ns → AreNew scope.names old ds ns
-  unfolding AreNew Outside
-  fewer-new [] old more ns f h = h
-  fewer-new (d ∷ ds) old more ns f (n, rest, o, i, a, c, h, e) = (n, rest, f n o, i, a, c, fewer-new ds (n ∷ old) (n ∷ more) rest (λ m k. (k.0, f m k.1)) h, e)
-
   pub datatypes-derive : (p : P) (C : Context N) (ds : List (DatBind P)) (s : State P N) (r : Env N × State P N)
       → ((n : N) → Stands n C.names → Stands n s.names) → IsAnswer scope (read_datatypes scope p C.env ds) s (accepted r) → BindDatatypes scope.names C ds r.0
   unfolding IsAnswer ◌>>=◌
@@ -43,7 +39,7 @@ module _ {P N : Type 0} (scope : Scope N) where
   datatypes-derive p C ds s r f (ns, new, made, inr (gs, h, a, inl k)) = (
     ns,
     gs,
-    fewer-new ds C.names (names_env C.env ++ s.names) ns (λ n o. outside n C.names s.names f (outside-right n (names_env C.env) s.names o)) new,
+    fewer-new scope.names ds C.names (names_env C.env ++ s.names) ns (λ n o. outside n C.names s.names f (outside-right n (names_env C.env) s.names o)) new,
     all-arguments-to (extend C.env (of_types (datatype_types [] ds ns))) ds gs h,
     a,
     ap (λ q. q.0) (accepted_same k.1),

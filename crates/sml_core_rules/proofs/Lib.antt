@@ -10,4 +10,6 @@ pub mod Along
 pub mod Flags
 pub mod Agree
 pub mod Alike
+pub mod Plain
+pub mod Accepted
 pub mod Claims

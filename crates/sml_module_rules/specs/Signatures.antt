@@ -114,18 +114,18 @@ module _ {P N : Type 0} where
       give (record { names = ks ++ without scope n m S.names; body = realise_env (for_both scope n m ks) S.body }))
 
     -- two type constructors are shared; equal type functions are passed over, and others have to be bound names
+
+    abbrev pub share_named : P → Sig N → LongId → LongId → Option N → Option N → Script P N (Sig N)
+    share_named p S x y (Some n) (Some m) = join p S n m
+    share_named p S x y (Some n) None = do
+      a ← test (AreEqualFunctions (function_at S x) (function_at S y)) (fault N3 p)
+      give S
+    share_named p S x y None m = do
+      a ← test (AreEqualFunctions (function_at S x) (function_at S y)) (fault N3 p)
+      give S
+
     abbrev pub share : P → Sig N → LongId → LongId → Script P N (Sig N)
-    share p S x y = elim (name_at scope S x) [
-      | None ↦ do
-        a ← test (AreEqualFunctions (function_at S x) (function_at S y)) (fault N3 p)
-        give S
-      | Some n ↦ elim (name_at scope S y) [
-        | None ↦ do
-          a ← test (AreEqualFunctions (function_at S x) (function_at S y)) (fault N3 p)
-          give S
-        | Some m ↦ join p S n m
-      ]
-    ]
+    share p S x y = share_named p S x y (name_at scope S x) (name_at scope S y)
 
     -- `sharing type`: each is a bound name, and each behind the first is shared with it
 
@@ -184,6 +184,13 @@ module _ {P N : Type 0} where
     KeepsConstructors C φ n S c =
         let cs : Map (Scheme N) = constructors_in scope.names n (lines [] S.body) in (cs ≡ []) ⊎ HasConstructors C (realised_constructors φ cs) c
 
+    -- the signature where a bound name is a type function
+    abbrev pub realise_name : Env N → Sig N → WhereType P → N → Realisation N → Script P N (Sig N)
+    realise_name C S w n φ = do
+      a ← test (KeepsConstructors C φ n S (applied_constructor w.variables w.ty)) (fault N5 w.constructor.place)
+      b ← test (IsSmallEnv (realise_env φ S.body)) (fault E7 w.constructor.place)
+      give (record { names = without scope n n S.names; body = realise_env φ S.body })
+
     -- `where type` (rule 64)
     abbrev pub read_where : Env N → Sig N → WhereType P → Script P N (Sig N)
     read_where C S w = do
@@ -192,13 +199,7 @@ module _ {P N : Type 0} where
       a ← test (length t.function.variables ≡ length w.variables) (fault E4 w.constructor.place)
       n ← need_name w.constructor.place (bound_name scope S.names t.function)
       b ← test ((not (has_equality scope.names n) || admits_function scope.names (type_function w.variables u)) ≡ true) (fault N4 w.constructor.place)
-      realised n (with_function scope.names n (type_function w.variables u) (no_function scope.names))
-      where
-        realised : N → Realisation N → Script P N (Sig N)
-        realised n φ = do
-          c ← test (KeepsConstructors C φ n S (applied_constructor w.variables w.ty)) (fault N5 w.constructor.place)
-          d ← test (IsSmallEnv (realise_env φ S.body)) (fault E7 w.constructor.place)
-          give (record { names = without scope n n S.names; body = realise_env φ S.body })
+      realise_name C S w n (with_function scope.names n (type_function w.variables u) (no_function scope.names))
 
     -- types without right sides, which admit equality or not (rules 69 and 70)
 

@@ -1,0 +1,76 @@
+-- Answers that are accepted: what scripts in sequence are made of, and what a script leaves of its state.
+use Rattle.std.specs.Prelude.{◌≡◌, ◌++◌, List}
+use mathlib.Core.Path.{refl, sym, ap, subst}
+use mathlib.Core.Logic.{inl, inr}
+use Rattle.sml_objects.specs.Objects.{Outside}
+use Rattle.sml_layers.specs.declared.layer.Layer.TheVariants.{Rigidity}
+use Rattle.sml_layers.specs.Demands.{CanBeMet}
+use Rattle.sml_rules.specs.Answers.{Answer, refused, accepted}
+use Rattle.sml_rules.proofs.Settled.{outside-right}
+use Rattle.sml_rules.proofs.Sound.{accepted_same, not_refused}
+use Rattle.sml_core_rules.specs.States.{Scope, State, words, with_unknowns, with_made, with_demand, with_rows}
+use Rattle.sml_core_rules.specs.Scripts.{Script, give, refuse, tests, either, makes_unknowns, requires, sees, sets_rows, requires_or, closes, determines, makes_names, makes_datatypes, ◌>>=◌, IsAnswer}
+
+module _ {P N : Type 0} (scope : Scope N) where
+  -- what comes first, and what comes then
+  pub bind-accepted : {X Y : Type 0} (m : Script P N X) (f : X → Script P N Y) (s : State P N) (r : Y × State P N) → IsAnswer scope (m >>= f) s (accepted r)
+      → (q : X × State P N) × IsAnswer scope m s (accepted q) × IsAnswer scope (f q.0) q.1 (accepted r)
+  unfolding ◌>>=◌ IsAnswer
+  bind-accepted (give x) f s r h = ((x, s), refl, h)
+  bind-accepted (refuse e) f s r h = absurd (not_refused h)
+  bind-accepted (tests C e k) f s r (inl (c, h)) = let a = bind-accepted k f s r h in (a.0, inl (c, a.1), a.2)
+  bind-accepted (tests C e k) f s r (inr h) = absurd (not_refused h.1)
+  bind-accepted (either C k j) f s r (inl (c, h)) = let a = bind-accepted k f s r h in (a.0, inl (c, a.1), a.2)
+  bind-accepted (either C k j) f s r (inr (c, h)) = let a = bind-accepted j f s r h in (a.0, inr (c, a.1), a.2)
+  bind-accepted (makes_unknowns n k) f s r h = bind-accepted (k s.made) f (with_unknowns n s) r h
+  bind-accepted (requires d p k) f s r (inl (c, h)) = let a = bind-accepted k f (with_demand d s) r h in (a.0, inl (c, a.1), a.2)
+  bind-accepted (requires d p k) f s r (inr h) = absurd (not_refused h.2)
+  bind-accepted (sees k) f s r h = bind-accepted (k s) f s r h
+  bind-accepted (sets_rows rs k) f s r h = bind-accepted k f (with_rows rs s) r h
+  bind-accepted (requires_or d e k) f s r (inl (c, h)) = let a = bind-accepted k f (with_demand d s) r h in (a.0, inl (c, a.1), a.2)
+  bind-accepted (requires_or d e k) f s r (inr h) = absurd (not_refused h.1)
+  bind-accepted (closes n x t k) f s r (σ, c, h) = let a = bind-accepted (k σ) f s r h in (a.0, (σ, c, a.1), a.2)
+  bind-accepted (determines t e k) f s r (inl (u, c, h)) = let a = bind-accepted (k u) f s r h in (a.0, inl (u, c, a.1), a.2)
+  bind-accepted (determines t e k) f s r (inr h) = absurd (not_refused h.1)
+  bind-accepted (makes_names ws k) f s r (ns, c, h) = let a = bind-accepted (k ns) f (with_made ns s) r h in (a.0, (ns, c, a.1), a.2)
+  bind-accepted (makes_datatypes C ds k) f s r (ns, c, d, inl h) = absurd (not_refused h.2)
+  bind-accepted (makes_datatypes C ds k) f s r (ns, c, d, inr (gs, e, g, h)) = let a = bind-accepted (k ns gs) f (with_made ns s) r h in (a.0, (ns, c, d, inr (gs, e, g, a.1)), a.2)
+
+  -- Demands that can be met still can, and names are only added.
+  pub record Kept (s t : State P N) : Type 0 where
+    pub met : CanBeMet (words scope) Rigidity s.demands → CanBeMet (words scope) Rigidity t.demands
+    pub names : (n : N) → Outside n t.names → Outside n s.names
+
+  kept-same : (s t u : State P N) → t ≡ u → Kept s t → Kept s u
+  kept-same s t u e h = subst (Kept s) e h
+
+  pub kept-after : (s t u : State P N) → Kept s t → Kept t u → Kept s u
+  kept-after s t u h k = record { met = λ m. k.met (h.met m); names = λ n o. h.names n (k.names n o) }
+
+  kept-made : (ns : List N) (s : State P N) → Kept s (with_made ns s)
+  kept-made ns s = record { met = λ m. m; names = λ n o. outside-right n ns s.names o }
+
+  kept-unknowns : (s : State P N) (n : _) → Kept s (with_unknowns n s)
+  kept-unknowns s n = record { met = λ m. m; names = λ n o. o }
+
+  pub kept : {X : Type 0} (k : Script P N X) (s : State P N) (r : X × State P N) → IsAnswer scope k s (accepted r) → Kept s r.1
+  unfolding IsAnswer
+  kept (give x) s r h = kept-same s s r.1 (sym (ap (λ q. q.1) (accepted_same h))) (record { met = λ m. m; names = λ n o. o })
+  kept (refuse e) s r h = absurd (not_refused h)
+  kept (tests C e k) s r (inl h) = kept k s r h.1
+  kept (tests C e k) s r (inr h) = absurd (not_refused h.1)
+  kept (either C k j) s r (inl h) = kept k s r h.1
+  kept (either C k j) s r (inr h) = kept j s r h.1
+  kept (makes_unknowns n k) s r h = kept-after s (with_unknowns n s) r.1 (kept-unknowns s n) (kept (k s.made) (with_unknowns n s) r h)
+  kept (requires d p k) s r (inl (c, h)) = kept-after s (with_demand d s) r.1 (record { met = λ m. c; names = λ n o. o }) (kept k (with_demand d s) r h)
+  kept (requires d p k) s r (inr h) = absurd (not_refused h.2)
+  kept (sees k) s r h = kept (k s) s r h
+  kept (sets_rows rs k) s r h = kept-after s (with_rows rs s) r.1 (record { met = λ m. m; names = λ n o. o }) (kept k (with_rows rs s) r h)
+  kept (requires_or d e k) s r (inl (c, h)) = kept-after s (with_demand d s) r.1 (record { met = λ m. c; names = λ n o. o }) (kept k (with_demand d s) r h)
+  kept (requires_or d e k) s r (inr h) = absurd (not_refused h.1)
+  kept (closes n x t k) s r (σ, c, h) = kept (k σ) s r h
+  kept (determines t e k) s r (inl (u, c, h)) = kept (k u) s r h
+  kept (determines t e k) s r (inr h) = absurd (not_refused h.1)
+  kept (makes_names ws k) s r (ns, c, h) = kept-after s (with_made ns s) r.1 (kept-made ns s) (kept (k ns) (with_made ns s) r h)
+  kept (makes_datatypes C ds k) s r (ns, c, d, inl h) = absurd (not_refused h.2)
+  kept (makes_datatypes C ds k) s r (ns, c, d, inr (gs, e, g, h)) = kept-after s (with_made ns s) r.1 (kept-made ns s) (kept (k ns gs) (with_made ns s) r h)

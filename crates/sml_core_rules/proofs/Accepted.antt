@@ -12,6 +12,10 @@ use Rattle.sml_core_rules.specs.States.{Scope, State, words, with_unknowns, with
 use Rattle.sml_core_rules.specs.Scripts.{Script, give, refuse, tests, either, makes_unknowns, requires, sees, sets_rows, requires_or, closes, determines, makes_names, makes_datatypes, ◌>>=◌, IsAnswer}
 
 module _ {P N : Type 0} (scope : Scope N) where
+  pub given : {X : Type 0} (x : X) (s : State P N) (r : X × State P N) → IsAnswer scope (give x) s (accepted r) → r.0 ≡ x
+  unfolding IsAnswer
+  given x s r h = ap (λ q. q.0) (accepted_same h)
+
   -- what comes first, and what comes then
   pub bind-accepted : {X Y : Type 0} (m : Script P N X) (f : X → Script P N Y) (s : State P N) (r : Y × State P N) → IsAnswer scope (m >>= f) s (accepted r)
       → (q : X × State P N) × IsAnswer scope m s (accepted q) × IsAnswer scope (f q.0) q.1 (accepted r)
@@ -35,6 +39,29 @@ module _ {P N : Type 0} (scope : Scope N) where
   bind-accepted (makes_names ws k) f s r (ns, c, h) = let a = bind-accepted (k ns) f (with_made ns s) r h in (a.0, (ns, c, a.1), a.2)
   bind-accepted (makes_datatypes C ds k) f s r (ns, c, d, inl h) = absurd (not_refused h.2)
   bind-accepted (makes_datatypes C ds k) f s r (ns, c, d, inr (gs, e, g, h)) = let a = bind-accepted (k ns gs) f (with_made ns s) r h in (a.0, (ns, c, d, inr (gs, e, g, a.1)), a.2)
+
+  pub bind-joined : {X Y : Type 0} (m : Script P N X) (f : X → Script P N Y) (s : State P N) (q : X × State P N) (o : Answer P (Y × State P N)) → IsAnswer scope m s (accepted q)
+      → IsAnswer scope (f q.0) q.1 o → IsAnswer scope (m >>= f) s o
+  unfolding ◌>>=◌ IsAnswer
+  bind-joined (give x) f s q o h k = subst (λ q. IsAnswer scope (f q.0) q.1 o) (accepted_same h) k
+  bind-joined (refuse e) f s q o h k = absurd (not_refused h)
+  bind-joined (tests C e m) f s q o (inl (c, h)) k = inl (c, bind-joined m f s q o h k)
+  bind-joined (tests C e m) f s q o (inr h) k = absurd (not_refused h.1)
+  bind-joined (either C m n) f s q o (inl (c, h)) k = inl (c, bind-joined m f s q o h k)
+  bind-joined (either C m n) f s q o (inr (c, h)) k = inr (c, bind-joined n f s q o h k)
+  bind-joined (makes_unknowns n m) f s q o h k = bind-joined (m s.made) f (with_unknowns n s) q o h k
+  bind-joined (requires d p m) f s q o (inl (c, h)) k = inl (c, bind-joined m f (with_demand d s) q o h k)
+  bind-joined (requires d p m) f s q o (inr h) k = absurd (not_refused h.2)
+  bind-joined (sees m) f s q o h k = bind-joined (m s) f s q o h k
+  bind-joined (sets_rows rs m) f s q o h k = bind-joined m f (with_rows rs s) q o h k
+  bind-joined (requires_or d e m) f s q o (inl (c, h)) k = inl (c, bind-joined m f (with_demand d s) q o h k)
+  bind-joined (requires_or d e m) f s q o (inr h) k = absurd (not_refused h.1)
+  bind-joined (closes n x t m) f s q o (σ, c, h) k = (σ, c, bind-joined (m σ) f s q o h k)
+  bind-joined (determines t e m) f s q o (inl (u, c, h)) k = inl (u, c, bind-joined (m u) f s q o h k)
+  bind-joined (determines t e m) f s q o (inr h) k = absurd (not_refused h.1)
+  bind-joined (makes_names ws m) f s q o (ns, c, h) k = (ns, c, bind-joined (m ns) f (with_made ns s) q o h k)
+  bind-joined (makes_datatypes C ds m) f s q o (ns, c, d, inl h) k = absurd (not_refused h.2)
+  bind-joined (makes_datatypes C ds m) f s q o (ns, c, d, inr (gs, e, g, h)) k = (ns, c, d, inr (gs, e, g, bind-joined (m ns gs) f (with_made ns s) q o h k))
 
   -- Demands that can be met still can, and names are only added.
   pub record Kept (s t : State P N) : Type 0 where

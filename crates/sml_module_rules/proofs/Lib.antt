@@ -1,1 +1,4 @@
 pub mod Agree
+pub mod PlainSignatures
+pub mod Closed
+pub mod Settled

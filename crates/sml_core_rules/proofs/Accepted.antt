@@ -1,11 +1,11 @@
 -- Answers that are accepted: what scripts in sequence are made of, and what a script leaves of its state.
-use Rattle.std.specs.Prelude.{◌≡◌, ◌++◌, List}
+use Rattle.std.specs.Prelude.{◌≡◌, List}
 use mathlib.Core.Path.{refl, sym, ap, subst}
 use mathlib.Core.Logic.{inl, inr}
 use Rattle.sml_objects.specs.Objects.{Outside}
 use Rattle.sml_layers.specs.declared.layer.Layer.TheVariants.{Rigidity}
 use Rattle.sml_layers.specs.Demands.{CanBeMet}
-use Rattle.sml_rules.specs.Answers.{Answer, refused, accepted}
+use Rattle.sml_rules.specs.Answers.{Answer, accepted}
 use Rattle.sml_rules.proofs.Settled.{outside-right}
 use Rattle.sml_rules.proofs.Sound.{accepted_same, not_refused}
 use Rattle.sml_core_rules.specs.States.{Scope, State, words, with_unknowns, with_made, with_demand, with_rows}

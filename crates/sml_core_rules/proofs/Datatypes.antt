@@ -11,7 +11,7 @@ use Rattle.sml_core_rules.specs.Objects.{Env, names_env, of_types, extend}
 use Rattle.sml_core_rules.specs.States.{Scope, State}
 use Rattle.sml_core_rules.specs.Scripts.{◌>>=◌, IsAnswer}
 use Rattle.sml_core_rules.specs.Expressions.{read_datatypes}
-use Rattle.sml_core_rules.specs.Datatypes.{AreNew, datatype_types}
+use Rattle.sml_core_rules.specs.Datatypes.{datatype_types}
 use Rattle.sml_core_rules.specs.Contexts.{Context}
 use Rattle.sml_core_rules.specs.Rules.{BindDatatypes}
 use Rattle.sml_rules.proofs.Settled.{outside-right}

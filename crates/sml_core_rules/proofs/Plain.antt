@@ -1,7 +1,6 @@
 -- Scripts that ask nothing of unknown types: what they are answered doesn't hang on what was asked before.
 use Rattle.std.specs.Prelude.{◌≡◌, ◌++◌, false, List, [], ◌∷◌, length, drop}
-use Rattle.std.specs.List.{AllByRecursion}
-use mathlib.Core.Path.{refl, sym, ap, subst, ◌∙◌}
+use mathlib.Core.Path.{sym, ap, subst, ◌∙◌}
 use mathlib.Core.Logic.{inl, inr}
 use std.Path.{PathP}
 use Rattle.sml_tree.specs.Expressions.{DatBind}
@@ -51,7 +50,7 @@ plain-bind (makes_names ws m) f h k = λ ns. plain-bind (m ns) f (h ns) k
 plain-bind (makes_datatypes C ds m) f h k = λ ns gs. plain-bind (m ns gs) f (h ns gs) k
 
 -- the object or the fault, without the state
-pub result : {P N X : Type 0} → Answer P (X × State P N) → Answer P X
+unfoldable pub result : {P N X : Type 0} → Answer P (X × State P N) → Answer P X
 result (refused f) = refused f
 result (accepted r) = accepted r.0
 

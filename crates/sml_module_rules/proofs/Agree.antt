@@ -24,7 +24,7 @@ functor-along p F b =
     let a = sig-along p F.argument (become-left p (names_sig F.argument) (names_sig F.result) b) in
     let r = sig-along p F.result (become-right p (names_sig F.argument) (names_sig F.result) b) in λ i. record { argument = a i; result = r i }
 
-basis-along : {A : Type 0} (p : A ≡ A) (B : Basis A) → Become p (names_basis B) (names_basis B) → PathP (λ i. Basis (p i)) B B
+pub basis-along : {A : Type 0} (p : A ≡ A) (B : Basis A) → Become p (names_basis B) (names_basis B) → PathP (λ i. Basis (p i)) B B
 basis-along p B b =
     let fs = names_map names_fun_sig B.functors in
     let gs = names_map names_sig B.signatures in
@@ -35,7 +35,7 @@ basis-along p B b =
     let g = map-along p (λ i. Sig (p i)) names_sig (sig-along p) B.signatures (become-left p gs (names_env B.body) d) in
     let E = env-along p B.body (become-right p gs (names_env B.body) d) in λ i. record { names = l i; functors = f i; signatures = g i; body = E i }
 
-basis_named : Named Basis
+unfoldable pub basis_named : Named Basis
 basis_named = record { rename = rename_basis; rename-id = basis-id }
 
 pub top-readings-agree : {N : Type 0} (scope : Scope N) → TopReadingsAgree scope

@@ -2,3 +2,4 @@ pub mod Agree
 pub mod PlainSignatures
 pub mod Closed
 pub mod Settled
+pub mod Seals

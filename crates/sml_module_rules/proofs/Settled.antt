@@ -1,6 +1,6 @@
 -- Types without unknowns turn out to be what they are.
-use Rattle.std.specs.Prelude.{◌≡◌, List, [], ◌∷◌}
-use mathlib.Core.Path.{refl, sym, ap, subst, ◌∙◌}
+use Rattle.std.specs.Prelude.{◌≡◌, [], ◌∷◌}
+use mathlib.Core.Path.{sym, ap, ◌∙◌}
 use mathlib.Core.Logic.{inl, inr}
 use Rattle.sml_lex.specs.Faults.{Fault}
 use Rattle.sml_objects.specs.Maps.{Map}
@@ -13,7 +13,7 @@ use Rattle.sml_rules.proofs.Sound.{accepted_same, not_refused}
 use Rattle.sml_core_rules.specs.Objects.{Env, Maps, Structures, Value, TyStr, Basis, maps, no_structure, and_structure, replace, replace_structures, replaced}
 use Rattle.sml_core_rules.specs.Solutions.{IsAlways}
 use Rattle.sml_core_rules.specs.States.{Scope, State, words}
-use Rattle.sml_core_rules.specs.Scripts.{Script, give, determine, ◌>>=◌, IsAnswer}
+use Rattle.sml_core_rules.specs.Scripts.{determine, IsAnswer}
 use Rattle.sml_core_rules.proofs.Accepted.{given, bind-accepted, kept}
 use Rattle.sml_module_rules.specs.Realising.{realise_env, realise_value, realise_ty_str}
 use Rattle.sml_module_rules.specs.Structures.{settle_values, settle_env, settle_structures}

@@ -1,12 +1,15 @@
 -- What is claimed of all readings of top-level declarations.
 use Rattle.std.specs.Prelude.{◌≡◌}
 use Rattle.sml_lex.specs.declared.fault.Place.{Place}
-use Rattle.sml_tree.specs.Structures.{TopDec}
+use Rattle.sml_tree.specs.Names.{Name}
+use Rattle.sml_tree.specs.Signatures.{SigExp}
+use Rattle.sml_tree.specs.declared.structures.Ascription.TheVariants.{Opaque}
+use Rattle.sml_tree.specs.Structures.{StrExp, TopDec, ascribed, structure_dec, str_bind, no_str_bind, and_str_bind, top_str}
 use Rattle.sml_objects.specs.Alike.{Renaming}
 use Rattle.sml_objects.specs.Appearance.{Stands}
 use Rattle.sml_objects.specs.Names.{Initial}
 use Rattle.sml_layers.specs.declared.variable.Variable.{Variable}
-use Rattle.sml_rules.specs.Answers.{Answer}
+use Rattle.sml_rules.specs.Answers.{Answer, accepted}
 use Rattle.sml_core_rules.specs.Objects.{Basis, rename_basis, names_basis}
 use Rattle.sml_core_rules.specs.States.{Scope, State}
 use Rattle.sml_core_rules.specs.Statements.{rename_answer}
@@ -20,3 +23,17 @@ TopReadingsAgree {N} scope =
     → (B : Basis N) → ((n : N) → Stands n (names_basis B) → Stands n B.names) → ((k : Initial) → Stands (scope.names.initial k) B.names)
     → (p : Place) (d : TopDec Place) (o q : Answer Place (Basis N × State Place N)) → IsTopReading scope p B d o → IsTopReading scope p B d q
     → (f : Renaming scope.names) × ((n : N) → Stands n B.names → f.to n ≡ n) × (q ≡ rename_answer (rename_basis f.to) f.to o)
+
+-- `structure x = e :> s`
+abbrev pub sealed : {P : Type 0} → P → Name P → StrExp P → P → SigExp P → TopDec P
+sealed p x e q s = top_str (structure_dec p (and_str_bind (str_bind x (ascribed q e Opaque s)) no_str_bind))
+
+-- What stands behind `:>` can't be seen: whichever two structures are sealed by a signature in one basis, what the declarations
+-- add to the basis is the same but for the names that were made.
+abbrev pub SealsHide : {N : Type 0} → Scope N → Type 0
+SealsHide {N} scope =
+    ((x : Variable) → ¬ ((scope.names.attributes (scope.variable x)).maker ≡ scope.unit))
+    → (B : Basis N) → ((n : N) → Stands n (names_basis B) → Stands n B.names) → ((k : Initial) → Stands (scope.names.initial k) B.names)
+    → (x : Name Place) (s : SigExp Place) (d e : StrExp Place) (p q r p' q' r' : Place) (u v : Basis N × State Place N)
+    → IsTopReading scope p B (sealed q x d r s) (accepted u) → IsTopReading scope p' B (sealed q' x e r' s) (accepted v)
+    → (f : Renaming scope.names) × ((n : N) → Stands n B.names → f.to n ≡ n) × (v.0 ≡ rename_basis f.to u.0)

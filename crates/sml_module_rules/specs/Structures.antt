@@ -32,6 +32,15 @@ module _ {N : Type 0} (scope : Scope N) where
   besides old [] = []
   besides old (n ∷ ns) = cond (stands scope.names n old) (besides old ns) (n ∷ besides (n ∷ old) ns)
 
+  -- what a declaration adds to a basis with such names
+  abbrev pub own_basis : List N → Map (FunSig N) → Map (Sig N) → Env N → Basis N
+  own_basis old fs gs E = record {
+    names = besides old (names_basis (record { names = []; functors = fs; signatures = gs; body = E }));
+    functors = fs;
+    signatures = gs;
+    body = E;
+  }
+
   -- how many of the names the unit has made
   abbrev pub count_made : List N → ℕ
   count_made [] = 0
@@ -140,11 +149,11 @@ module _ {P N : Type 0} (scope : Scope N) where
       fs ← settle_functors p es
       give ((e.0, record { argument = e.1.0; result = record { names = besides scope e.1.1 (names_env F); body = F } }) ∷ fs)
 
-    -- a basis of its own, whose names are at most 1,048,576 with those that its unit had before
+    -- its names are at most 1,048,576 with those that its unit had before
     abbrev pub own : P → Map (FunSig N) → Map (Sig N) → Env N → Script P N (Basis N)
     own p fs gs E = do
-      a ← test (count_made scope (besides scope [] B.names ++ besides scope B.names (names_basis (record { names = []; functors = fs; signatures = gs; body = E }))) ≤ 1048576) (fault Q3 p)
-      give (record { names = besides scope B.names (names_basis (record { names = []; functors = fs; signatures = gs; body = E })); functors = fs; signatures = gs; body = E })
+      a ← test (count_made scope (besides scope [] B.names ++ (own_basis scope B.names fs gs E).names) ≤ 1048576) (fault Q3 p)
+      give (own_basis scope B.names fs gs E)
 
     -- a top-level declaration, whose place is given
     abbrev pub read_top : P → TopDec P → Script P N (Basis N)

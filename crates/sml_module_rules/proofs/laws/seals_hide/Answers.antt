@@ -1,0 +1,5 @@
+use Rattle.sml_module_rules.proofs.Seals.{seals-hide}
+use Rattle.sml_module_rules.proofs.laws.seals_hide.Goals as goal
+
+pub returns : goal.returns
+returns c = seals-hide

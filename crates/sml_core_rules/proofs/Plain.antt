@@ -8,12 +8,12 @@ use Rattle.sml_objects.specs.Appearance.{Stands}
 use Rattle.sml_objects.specs.Names.{Naming, Attributes, Initial, int}
 use Rattle.sml_objects.specs.Objects.{Outside}
 use Rattle.sml_layers.specs.declared.variable.Variable.{Variable}
-use Rattle.sml_rules.specs.Answers.{Answer, refused, accepted}
+use Rattle.sml_rules.specs.Answers.{Answer, refused}
 use Rattle.sml_rules.proofs.Settled.{outside-left, outside-right, outside-append}
 use Rattle.sml_core_rules.specs.Objects.{Env, names_env}
 use Rattle.sml_core_rules.specs.States.{Scope, State, AreMade, with_made}
 use Rattle.sml_core_rules.specs.Datatypes.{Arguments, AreNew, arguments_of}
-use Rattle.sml_core_rules.specs.Scripts.{Script, give, refuse, tests, either, makes_unknowns, requires, sees, sets_rows, requires_or, closes, determines, makes_names, makes_datatypes, ◌>>=◌, IsAnswer}
+use Rattle.sml_core_rules.specs.Scripts.{Script, give, refuse, tests, either, makes_unknowns, requires, sees, sets_rows, requires_or, closes, determines, makes_names, makes_datatypes, ◌>>=◌, result, IsAnswer}
 use Rattle.sml_core_rules.proofs.Along.{Become, become-list, become-left, become-right, become-known}
 use Rattle.sml_core_rules.proofs.Agree.{nothing, next, making, chosen, faults-same, never-both, choices-along, names-along, stands-behind, stands-before, dropped}
 use Rattle.sml_core_rules.proofs.Flags.{value_of}
@@ -48,11 +48,6 @@ plain-bind (closes n x t m) f h k = absurd h
 plain-bind (determines t e m) f h k = absurd h
 plain-bind (makes_names ws m) f h k = λ ns. plain-bind (m ns) f (h ns) k
 plain-bind (makes_datatypes C ds m) f h k = λ ns gs. plain-bind (m ns gs) f (h ns gs) k
-
--- the object or the fault, without the state
-unfoldable pub result : {P N X : Type 0} → Answer P (X × State P N) → Answer P X
-result (refused f) = refused f
-result (accepted r) = accepted r.0
 
 -- names that are new where there were more
 
@@ -94,7 +89,7 @@ module _ {P : Type 0} (F : Type 0 → Type 0) {N : Type 0} (scope : Scope N) (fa
       → ◌≡◌ {A = (M : Type 0) × Scope M × (List M × List M)} (N, scope, (more, ns)) (N, scope, (more, ms))
       → (s : State P N) → Covers (ns ++ old) s → (o : Answer P (F N × State P N)) → IsAnswer scope (next (chosen k ns) k no_state) s o
       → (t : State P N) × (q : Answer P (F N × State P N)) × Covers (ms ++ old) t × SameResult old o q × IsAnswer scope (next (chosen k ms) k no_state) t q
-  unfolding no_state result
+  unfolding no_state
   carried k old h more ns ms inside ρ s c o a =
       let p : N ≡ N = λ i. (ρ i).0 in
       let u : PathP (λ i. Scope (p i)) scope scope = λ i. (ρ i).1 in
@@ -138,7 +133,7 @@ module _ {P : Type 0} (F : Type 0 → Type 0) {N : Type 0} (scope : Scope N) (fa
   -- two answers, from any states in which these names were made
   pub agree-plain : (k : Script P N (F N)) → IsPlain k → (old : List N) → Fixed old k → (s t : State P N) → Covers old s → Covers old t → (o q : Answer P (F N × State P N))
       → IsAnswer scope k s o → IsAnswer scope k t q → SameResult old o q
-  unfolding IsPlain IsAnswer next making result
+  unfolding IsPlain IsAnswer next making
   agree-plain (give x) e old h s t c d o q a b = λ i. (N, scope, old, (ap result a ∙ sym (ap result b)) i)
   agree-plain (refuse f) e old h s t c d o q a b = λ i. (N, scope, old, (ap result a ∙ sym (ap result b)) i)
   agree-plain (tests C f k) e old h s t c d o q (inl a) (inl b) =

@@ -100,6 +100,11 @@ module _ {P N : Type 0} where
   abbrev pub new_names : List Attributes → Script P N (List N)
   new_names ws = makes_names ws (λ ns. give ns)
 
+  -- the object or the fault, without the state
+  abbrev pub result : {X : Type 0} → Answer P (X × State P N) → Answer P X
+  result (refused f) = refused f
+  result (accepted r) = accepted r.0
+
   -- What a script may be answered in a state.
   module _ (scope : Scope N) where
     unfoldable pub IsAnswer : {X : Type 0} → Script P N X → State P N → Answer P (X × State P N) → Type 0

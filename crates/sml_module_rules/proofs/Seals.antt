@@ -1,32 +1,41 @@
 -- What stands behind `:>` can't be seen.
-use Rattle.std.specs.Prelude.{◌≡◌, List, []}
+use Rattle.std.specs.Prelude.{◌≡◌, List, [], ◌++◌, map}
+use std.Path.{PathP}
 use mathlib.Core.Path.{sym, ap, subst, ◌∙◌}
 use Rattle.sml_tree.specs.Names.{Name}
 use Rattle.sml_tree.specs.Signatures.{SigExp}
 use Rattle.sml_tree.specs.Structures.{StrExp, ascribed, structure_dec, str_bind, no_str_bind, and_str_bind}
 use Rattle.sml_tree.specs.declared.structures.Ascription.TheVariants.{Opaque}
-use Rattle.sml_objects.specs.Names.{int}
+use Rattle.sml_objects.specs.Alike.{Renaming}
+use Rattle.sml_objects.specs.Appearance.{Stands}
 use Rattle.sml_objects.specs.Objects.{Outside, app, row, no_type}
 use Rattle.sml_lex.specs.declared.fault.Code.TheVariants.{E7, Q3}
 use Rattle.sml_lex.specs.declared.fault.Place.{Place}
 use Rattle.sml_rules.specs.Answers.{Answer, refused, accepted, fault}
 use Rattle.sml_rules.proofs.Sound.{accepted_same}
-use Rattle.sml_core_rules.specs.Objects.{Env, Sig, Basis, names_basis, rename_basis}
+use Rattle.sml_core_rules.specs.Objects.{Env, Sig, Basis, empty, rename_basis}
 use Rattle.sml_core_rules.specs.Expressions.{at_first}
 use Rattle.sml_core_rules.specs.States.{Scope, State, with_made}
 use Rattle.sml_core_rules.specs.Scripts.{Script, test, ◌>>=◌, IsAnswer}
 use Rattle.sml_core_rules.proofs.Accepted.{given, bind-accepted, bind-joined, kept}
-use Rattle.sml_core_rules.proofs.Alike.{alike}
-use Rattle.sml_core_rules.proofs.Along.{become-list, become-known}
-use Rattle.sml_core_rules.proofs.Plain.{IsPlain, plain-bind, result, Fixed, agree-plain, fewer-made}
+use Rattle.sml_core_rules.proofs.Agree.{stands-behind}
+use Rattle.sml_core_rules.proofs.Along.{become-list}
+use Rattle.sml_core_rules.proofs.Plain.{IsPlain, plain-bind, Fixed, SameResult, agree-plain, fewer-made}
 use Rattle.sml_module_rules.specs.Lines.{IsSmallEnv}
 use Rattle.sml_module_rules.specs.Matching.{match_signature, renewed_signature, ascribe}
 use Rattle.sml_module_rules.specs.Signatures.{read_sig}
 use Rattle.sml_module_rules.specs.Structures.{read_str, read_strdec, read_str_binds, settle_env, settle, own_basis, one_structure, signature_place, IsTopReading}
-use Rattle.sml_module_rules.specs.Statements.{sealed, SealsHide}
-use Rattle.sml_module_rules.proofs.Agree.{basis-along, basis_named}
+use Rattle.sml_module_rules.specs.Statements.{sealed, rename_reply, SealsHide}
+use Rattle.sml_module_rules.specs.Programs.{add_basis, AreReadings}
+use Rattle.sml_module_rules.proofs.Grown.{whole-sum}
+use Rattle.sml_module_rules.proofs.Programs.{own-covered, replies-agree, told-alike}
+use Rattle.sml_module_rules.proofs.Agree.{basis-kept}
 use Rattle.sml_module_rules.proofs.PlainSignatures.{plain-sig, plain-renewed}
 use Rattle.sml_module_rules.proofs.Settled.{EachOf, EachValue, HasNoUnknown, env-settled, realised-closed}
+
+-- what is added to a basis, and replies, over any names
+abbrev Along : Type 1
+Along = (M : Type 0) × Scope M × List M × Basis M × List (Answer Place (Basis M))
 
 -- the signature with new names
 abbrev fresh : {P N : Type 0} → Scope N → Basis N → SigExp P → Script P N (Sig N)
@@ -94,29 +103,44 @@ module _ {P N : Type 0} (scope : Scope N) (B : Basis N) (x : Name P) (s : SigExp
         basis = given scope _ z.0.1 u z.2 ∙ ap (own_basis scope B.names [] []) (given scope _ y.0.1 f.0 y.2 ∙ (same ∙ E));
       }
 
--- what is made of a signature's reading
-abbrev carried : {P N : Type 0} → Scope N → List N → Name P → Answer P (Sig N) → Answer P (Basis N × State P N)
-carried scope old x (refused f) = refused f
-carried scope old x (accepted R) = accepted (exported scope old x R, at_first [])
+abbrev body_or_none : {P N : Type 0} → Answer P (Sig N) → Env N
+body_or_none (refused f) = empty
+body_or_none (accepted R) = R.body
 
 pub seals-hide : {N : Type 0} (scope : Scope N) → SealsHide scope
-unfolding basis_named result
-seals-hide {N} scope far B inside initials x s d e p q r p' q' r' u v h k =
+seals-hide {N} scope far B inside initials x s d e p q r p' q' r' u v h k ds os qs c j =
     let a = export scope B x s p q r d u h in
     let b = export scope B x s p' q' r' e v k in
     let π = agree-plain Sig scope far (fresh scope B s) plain B.names fixed a.from b.from a.covers b.covers (accepted a.signature) (accepted b.signature) a.answer b.answer in
-    let f =
-    alike basis_named scope B.names (carried scope B.names x (accepted a.signature.0)) (carried scope B.names x (accepted b.signature.0))
-    (λ i. ((π i).0, (π i).1, (π i).2, carried (π i).1 (π i).2 x (π i).3)) in
-    (f.0, f.1, b.basis ∙ (ap (λ q. q.0) (accepted_same f.2) ∙ sym (ap (rename_basis f.0.to) a.basis)))
+    let t = behind a.signature b.signature π (subst (λ A. AreReadings scope (add_basis B A) ds os) a.basis c) (subst (λ A. AreReadings scope (add_basis B A) ds qs) b.basis j) in
+    (t.0, t.1, b.basis ∙ (t.2 ∙ sym (ap (rename_basis t.0.to) a.basis)), t.3)
   where
     plain : IsPlain (fresh scope B s)
     plain = plain-bind _ _ (plain-sig scope B.signatures B.body s) (λ S. plain-renewed Place scope S)
 
     fixed : Fixed Sig scope far B.names (fresh scope B s)
-    fixed = record {
-      script = λ r u v.
-          let l = become-list r B.names B.names v in
-          let C = basis-along r B (become-known r (scope.names.initial int) (scope.names.initial int) (λ i. (u i).names.initial int) B.names l (names_basis B) inside) in λ i. fresh (u i) (C i) s;
-      initials = initials;
-    }
+    fixed = record { script = λ r u v. let C = basis-kept scope r u B.names (become-list r B.names B.names v) B inside in λ i. fresh (u i) (C i) s; initials = initials }
+
+    -- what declarations behind are answered
+    behind : (y z : Sig N × State Place N) → SameResult Sig scope far B.names (accepted y) (accepted z) → AreReadings scope (add_basis B (exported scope B.names x y.0)) ds os
+        → AreReadings scope (add_basis B (exported scope B.names x z.0)) ds qs
+        → (f : Renaming scope.names) × ((n : N) → Stands n B.names → f.to n ≡ n) × (exported scope B.names x z.0 ≡ rename_basis f.to (exported scope B.names x y.0)) × (qs ≡ map (rename_reply f.to) os)
+    behind y z π c j =
+        let p : N ≡ N = λ i. (π i).0 in
+        let u : PathP (λ i. Scope (p i)) scope scope = λ i. (π i).1 in
+        let C = basis-kept scope p u B.names (λ i. (π i).2) B inside in
+        let Y : Basis N = exported scope B.names x y.0 in
+        let Z : Basis N = exported scope B.names x z.0 in
+        let A : PathP (λ i. Basis (p i)) Y Z = λ i. own_basis (u i) (π i).2 [] [] (one_structure x.id (body_or_none (π i).3)) in
+        let ps : List (Answer Place (Basis N)) = coe 0 1 (i. List (Answer Place (Basis (p i)))) os in
+        let c' : AreReadings scope (add_basis B Z) ds ps = coe 0 1 (i. AreReadings (u i) (add_basis (C i) (A i)) ds (coe 0 i (j. List (Answer Place (Basis (p j)))) os)) c in
+        let covers = own-covered scope B [] [] (one_structure x.id z.0.body) in
+        let τ = replies-agree scope far ds (add_basis B Z) (whole-sum B Z inside covers) (λ k. stands-behind (scope.names.initial k) Z.names B.names (initials k)) ps qs c' j in
+        let p' : N ≡ N = λ i. (τ i).0 in
+        let u' : PathP (λ i. Scope (p' i)) scope scope = λ i. (τ i).1 in
+        let l : PathP (λ i. List (p' i)) (Z.names ++ B.names) (Z.names ++ B.names) = λ i. (τ i).2.names in
+        let B' = basis-kept scope p' u' (Z.names ++ B.names) l B (λ n h. stands-behind n Z.names B.names (inside n h)) in
+        let Z' = basis-kept scope p' u' (Z.names ++ B.names) l Z covers in
+        let first : ◌≡◌ {A = Along} (N, scope, B.names, Y, os) (N, scope, B.names, Z, ps) = λ i. (p i, u i, (π i).2, A i, coe 0 i (j. List (Answer Place (Basis (p j)))) os) in
+        let then : ◌≡◌ {A = Along} (N, scope, B.names, Z, ps) (N, scope, B.names, Z, qs) = λ i. (p' i, u' i, (B' i).names, Z' i, (τ i).3) in
+        told-alike scope B.names Y Z os qs (first ∙ then)

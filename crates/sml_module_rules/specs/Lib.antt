@@ -4,4 +4,5 @@ pub mod Matching
 pub mod Bound
 pub mod Signatures
 pub mod Structures
+pub mod Programs
 pub mod Statements

@@ -1,41 +1,38 @@
 -- What stands behind `:>` can't be seen.
-use Rattle.std.specs.Prelude.{◌≡◌, List, [], ◌++◌, map}
-use std.Path.{PathP}
+use Rattle.std.specs.Prelude.{◌≡◌, Bool, true, false, List, [], ◌∷◌, map, drop, None, is_some}
 use mathlib.Core.Path.{sym, ap, subst, ◌∙◌}
 use Rattle.sml_tree.specs.Names.{Name}
 use Rattle.sml_tree.specs.Signatures.{SigExp}
 use Rattle.sml_tree.specs.Structures.{StrExp, ascribed, structure_dec, str_bind, no_str_bind, and_str_bind}
 use Rattle.sml_tree.specs.declared.structures.Ascription.TheVariants.{Opaque}
-use Rattle.sml_objects.specs.Alike.{Renaming}
-use Rattle.sml_objects.specs.Appearance.{Stands}
 use Rattle.sml_objects.specs.Objects.{Outside, app, row, no_type}
 use Rattle.sml_lex.specs.declared.fault.Code.TheVariants.{E7, Q3}
-use Rattle.sml_lex.specs.declared.fault.Place.{Place}
+use Rattle.sml_layers.specs.declared.variable.Variable.{Variable}
 use Rattle.sml_rules.specs.Answers.{Answer, refused, accepted, fault}
-use Rattle.sml_rules.proofs.Sound.{accepted_same}
-use Rattle.sml_core_rules.specs.Objects.{Env, Sig, Basis, empty, rename_basis}
+use Rattle.sml_rules.proofs.Sound.{accepted_same, not_refused}
+use Rattle.sml_core_rules.specs.Objects.{Env, Sig, Basis, empty}
 use Rattle.sml_core_rules.specs.Expressions.{at_first}
 use Rattle.sml_core_rules.specs.States.{Scope, State, with_made}
-use Rattle.sml_core_rules.specs.Scripts.{Script, test, ◌>>=◌, IsAnswer}
+use Rattle.sml_core_rules.specs.Scripts.{Script, test, result, ◌>>=◌, IsAnswer}
 use Rattle.sml_core_rules.proofs.Accepted.{given, bind-accepted, bind-joined, kept}
 use Rattle.sml_core_rules.proofs.Agree.{stands-behind}
 use Rattle.sml_core_rules.proofs.Along.{become-list}
-use Rattle.sml_core_rules.proofs.Plain.{IsPlain, plain-bind, Fixed, SameResult, agree-plain, fewer-made}
+use Rattle.sml_core_rules.proofs.Plain.{IsPlain, plain-bind, Fixed, agree-plain, fewer-made}
 use Rattle.sml_module_rules.specs.Lines.{IsSmallEnv}
 use Rattle.sml_module_rules.specs.Matching.{match_signature, renewed_signature, ascribe}
 use Rattle.sml_module_rules.specs.Signatures.{read_sig}
 use Rattle.sml_module_rules.specs.Structures.{read_str, read_strdec, read_str_binds, settle_env, settle, own_basis, one_structure, signature_place, IsTopReading}
-use Rattle.sml_module_rules.specs.Statements.{sealed, rename_reply, SealsHide}
-use Rattle.sml_module_rules.specs.Programs.{add_basis, AreReadings}
-use Rattle.sml_module_rules.proofs.Grown.{whole-sum}
-use Rattle.sml_module_rules.proofs.Programs.{own-covered, replies-agree, told-alike}
+use Rattle.sml_module_rules.specs.Statements.{SealsHide}
+use Rattle.sml_module_rules.specs.Programs.{add_basis, basis_after, AreReadings, Sealing, Pair, same, seals, sealed, first, second, all_shown}
+use Rattle.sml_module_rules.proofs.Grown.{IsWhole, whole-sum}
+use Rattle.sml_module_rules.proofs.Programs.{HasInitials, IsAddition, reply-added, after-whole, after-all, SameReply, SameReplies, first-agrees, one-agrees, replies-alike}
 use Rattle.sml_module_rules.proofs.Agree.{basis-kept}
 use Rattle.sml_module_rules.proofs.PlainSignatures.{plain-sig, plain-renewed}
 use Rattle.sml_module_rules.proofs.Settled.{EachOf, EachValue, HasNoUnknown, env-settled, realised-closed}
 
--- what is added to a basis, and replies, over any names
-abbrev Along : Type 1
-Along = (M : Type 0) × Scope M × List M × Basis M × List (Answer Place (Basis M))
+abbrev get_first : Bool → List Bool → Bool
+get_first b [] = b
+get_first b (c ∷ cs) = c
 
 -- the signature with new names
 abbrev fresh : {P N : Type 0} → Scope N → Basis N → SigExp P → Script P N (Sig N)
@@ -81,9 +78,13 @@ module _ {P N : Type 0} (scope : Scope N) (B : Basis N) (x : Name P) (s : SigExp
       let k = kept scope (read_str scope B B.body e) t b.0 b.1 in
       (b.0.1, (λ n o. c n (k.names n o)), (a.0, a.1), bind-joined scope (read_sig scope B.signatures B.body s) (renewed_signature scope) b.0.1 g.0 (accepted (a.0, a.1)) g.1 a.2, a.3, a.4)
 
-  export : (p q r : P) (e : StrExp P) (u : Basis N × State P N) → IsTopReading scope p B (sealed q x e r s) (accepted u) → Export u
+  export : (d : Sealing P) (u : Basis N × State P N) → IsTopReading scope d.place B (sealed x s d) (accepted u) → Export u
   unfolding read_strdec read_str_binds EachValue EachOf
-  export p q r e u h =
+  export c u h =
+      let p = c.place in
+      let q = c.binding in
+      let r = c.ascription in
+      let e = c.body in
       let b = at_first B.names in
       let d = bind-accepted scope (read_strdec scope B B.body (structure_dec q (and_str_bind (str_bind x (ascribed r e Opaque s)) no_str_bind))) _ b u h in
       let t = bind-accepted scope (read_str scope B B.body (ascribed r e Opaque s)) _ b d.0 d.1 in
@@ -107,40 +108,50 @@ abbrev body_or_none : {P N : Type 0} → Answer P (Sig N) → Env N
 body_or_none (refused f) = empty
 body_or_none (accepted R) = R.body
 
+module _ {P N : Type 0} (scope : Scope N) (far : (x : Variable) → ¬ ((scope.names.attributes (scope.variable x)).maker ≡ scope.unit)) where
+  seals-agree : (B : Basis N) → IsWhole B → HasInitials scope B → (x : Name P) (s : SigExp P) (u v : Basis N × State P N) → Export scope B x s u → Export scope B x s v
+      → SameReply {P = P} scope B (accepted u.0) (accepted v.0)
+  seals-agree B w z x s u v a b =
+      let π = agree-plain Sig scope far (fresh scope B s) plain B.names fixed a.from b.from a.covers b.covers (accepted a.signature) (accepted b.signature) a.answer b.answer in
+      let ρ : SameReply {P = P} scope B (accepted (exported scope B.names x a.signature.0)) (accepted (exported scope B.names x b.signature.0)) =
+      λ i. ((π i).0, (π i).1, (π i).2, accepted (own_basis (π i).1 (π i).2 [] [] (one_structure x.id (body_or_none (π i).3)))) in
+      subst (λ A. SameReply {P = P} scope B (accepted A) (accepted v.0)) (sym a.basis) (subst (λ A. SameReply {P = P} scope B (accepted (exported scope B.names x a.signature.0)) (accepted A)) (sym b.basis) ρ)
+    where
+      plain : IsPlain (fresh scope B s)
+      plain = plain-bind _ _ (plain-sig scope B.signatures B.body s) (λ S. plain-renewed P scope S)
+
+      fixed : Fixed Sig scope far B.names (fresh scope B s)
+      fixed = record { script = λ r u v. let C = basis-kept scope r u B.names (become-list r B.names B.names v) B w in λ i. fresh (u i) (C i) s; initials = z }
+
+  -- accepted in both, or refused in both
+  abbrev AreBoth : List (Pair P) → List (Answer P (Basis N)) → List (Answer P (Basis N)) → Type 0
+  AreBoth ds os qs = map is_some (all_shown ds os) ≡ map is_some (all_shown ds qs)
+
+  replies-agree : (ds : List (Pair P)) (B : Basis N) → IsWhole B → HasInitials scope B → (os qs : List (Answer P (Basis N))) → AreReadings scope B (map first ds) os
+      → AreReadings scope B (map second ds) qs → AreBoth ds os qs → SameReplies scope ds B os qs
+  unfolding AreReadings
+  replies-agree [] B w z [] [] a b m = λ i. (N, scope, B, [])
+  replies-agree [] B w z [] (q ∷ qs) a b m = absurd b
+  replies-agree [] B w z (o ∷ os) qs a b m = absurd a
+  replies-agree (d ∷ ds) B w z [] qs a b m = absurd a
+  replies-agree (d ∷ ds) B w z (o ∷ os) [] a b m = absurd b
+  replies-agree (same p d ∷ ds) B w z (o ∷ os) (q ∷ qs) ((r, h, e), a) ((t, k, g), b) m =
+      let ρ : SameReply scope B o q = subst (λ o. SameReply scope B o q) e (subst (λ q. SameReply scope B (result r) q) g (one-agrees scope far B w z p d r t h k)) in
+      let c : IsAddition B q = subst (IsAddition B) g (reply-added scope B p d t k) in
+      first-agrees scope (same p d) ds B w o q c ρ os qs a
+      (λ ps c' n. replies-agree ds (basis_after B q) (after-whole scope B q w c) (λ j. after-all scope B q (scope.names.initial j) (z j)) ps qs c' b (sym n ∙ ap (drop 1) m))
+  replies-agree (seals x s d e ∷ ds) B w z (refused f ∷ os) (refused g ∷ qs) a b m = let τ = replies-agree ds B w z os qs a.1 b.1 (ap (drop 1) m) in λ i. ((τ i).0, (τ i).1, (τ i).2, None ∷ (τ i).3)
+  replies-agree (seals x s d e ∷ ds) B w z (refused f ∷ os) (accepted C ∷ qs) a b m = let n : false ≡ true = ap (get_first false) m in absurd cc
+  replies-agree (seals x s d e ∷ ds) B w z (accepted A ∷ os) (refused g ∷ qs) a b m = let n : true ≡ false = ap (get_first true) m in absurd cc
+  replies-agree (seals x s d e ∷ ds) B w z (accepted A ∷ os) (accepted C ∷ qs) ((refused f, h, i), a) b m = absurd (not_refused (sym i))
+  replies-agree (seals x s d e ∷ ds) B w z (accepted A ∷ os) (accepted C ∷ qs) ((accepted u, h, i), a) ((refused f, k, j), b) m = absurd (not_refused (sym j))
+  replies-agree (seals x s d e ∷ ds) B w z (accepted A ∷ os) (accepted C ∷ qs) ((accepted u, h, i), a) ((accepted v, k, j), b) m =
+      let ρ = seals-agree B w z x s u v (export scope B x s d u h) (export scope B x s e v k) in
+      let ρ' : SameReply scope B (accepted A) (accepted C) = subst (λ o. SameReply scope B o (accepted C)) i (subst (λ q. SameReply scope B (accepted u.0) q) j ρ) in
+      let c : IsAddition {P = P} B (accepted C) = subst (IsAddition B) j (reply-added scope B e.place (sealed x s e) (accepted v) k) in
+      first-agrees scope (seals x s d e) ds B w (accepted A) (accepted C) c ρ' os qs a
+      (λ ps c' n. replies-agree ds (add_basis B C) (whole-sum B C w c) (λ j. stands-behind (scope.names.initial j) C.names B.names (z j)) ps qs c' b (sym n ∙ ap (drop 1) m))
+
 pub seals-hide : {N : Type 0} (scope : Scope N) → SealsHide scope
-seals-hide {N} scope far B inside initials x s d e p q r p' q' r' u v h k ds os qs c j =
-    let a = export scope B x s p q r d u h in
-    let b = export scope B x s p' q' r' e v k in
-    let π = agree-plain Sig scope far (fresh scope B s) plain B.names fixed a.from b.from a.covers b.covers (accepted a.signature) (accepted b.signature) a.answer b.answer in
-    let t = behind a.signature b.signature π (subst (λ A. AreReadings scope (add_basis B A) ds os) a.basis c) (subst (λ A. AreReadings scope (add_basis B A) ds qs) b.basis j) in
-    (t.0, t.1, b.basis ∙ (t.2 ∙ sym (ap (rename_basis t.0.to) a.basis)), t.3)
-  where
-    plain : IsPlain (fresh scope B s)
-    plain = plain-bind _ _ (plain-sig scope B.signatures B.body s) (λ S. plain-renewed Place scope S)
-
-    fixed : Fixed Sig scope far B.names (fresh scope B s)
-    fixed = record { script = λ r u v. let C = basis-kept scope r u B.names (become-list r B.names B.names v) B inside in λ i. fresh (u i) (C i) s; initials = initials }
-
-    -- what declarations behind are answered
-    behind : (y z : Sig N × State Place N) → SameResult Sig scope far B.names (accepted y) (accepted z) → AreReadings scope (add_basis B (exported scope B.names x y.0)) ds os
-        → AreReadings scope (add_basis B (exported scope B.names x z.0)) ds qs
-        → (f : Renaming scope.names) × ((n : N) → Stands n B.names → f.to n ≡ n) × (exported scope B.names x z.0 ≡ rename_basis f.to (exported scope B.names x y.0)) × (qs ≡ map (rename_reply f.to) os)
-    behind y z π c j =
-        let p : N ≡ N = λ i. (π i).0 in
-        let u : PathP (λ i. Scope (p i)) scope scope = λ i. (π i).1 in
-        let C = basis-kept scope p u B.names (λ i. (π i).2) B inside in
-        let Y : Basis N = exported scope B.names x y.0 in
-        let Z : Basis N = exported scope B.names x z.0 in
-        let A : PathP (λ i. Basis (p i)) Y Z = λ i. own_basis (u i) (π i).2 [] [] (one_structure x.id (body_or_none (π i).3)) in
-        let ps : List (Answer Place (Basis N)) = coe 0 1 (i. List (Answer Place (Basis (p i)))) os in
-        let c' : AreReadings scope (add_basis B Z) ds ps = coe 0 1 (i. AreReadings (u i) (add_basis (C i) (A i)) ds (coe 0 i (j. List (Answer Place (Basis (p j)))) os)) c in
-        let covers = own-covered scope B [] [] (one_structure x.id z.0.body) in
-        let τ = replies-agree scope far ds (add_basis B Z) (whole-sum B Z inside covers) (λ k. stands-behind (scope.names.initial k) Z.names B.names (initials k)) ps qs c' j in
-        let p' : N ≡ N = λ i. (τ i).0 in
-        let u' : PathP (λ i. Scope (p' i)) scope scope = λ i. (τ i).1 in
-        let l : PathP (λ i. List (p' i)) (Z.names ++ B.names) (Z.names ++ B.names) = λ i. (τ i).2.names in
-        let B' = basis-kept scope p' u' (Z.names ++ B.names) l B (λ n h. stands-behind n Z.names B.names (inside n h)) in
-        let Z' = basis-kept scope p' u' (Z.names ++ B.names) l Z covers in
-        let first : ◌≡◌ {A = Along} (N, scope, B.names, Y, os) (N, scope, B.names, Z, ps) = λ i. (p i, u i, (π i).2, A i, coe 0 i (j. List (Answer Place (Basis (p j)))) os) in
-        let then : ◌≡◌ {A = Along} (N, scope, B.names, Z, ps) (N, scope, B.names, Z, qs) = λ i. (p' i, u' i, (B' i).names, Z' i, (τ i).3) in
-        told-alike scope B.names Y Z os qs (first ∙ then)
+seals-hide scope far B inside initials ds os qs a b m =
+    let π = replies-agree scope far ds B inside initials os qs a b m in replies-alike scope B.names (all_shown ds os) (all_shown ds qs) (λ i. ((π i).0, (π i).1, (π i).2.names, (π i).3))

@@ -1,10 +1,7 @@
 -- What is claimed of all readings of top-level declarations.
-use Rattle.std.specs.Prelude.{◌≡◌, List, map}
+use Rattle.std.specs.Prelude.{◌≡◌, List, map, Option, Some, None, is_some}
 use Rattle.sml_lex.specs.declared.fault.Place.{Place}
-use Rattle.sml_tree.specs.Names.{Name}
-use Rattle.sml_tree.specs.Signatures.{SigExp}
-use Rattle.sml_tree.specs.declared.structures.Ascription.TheVariants.{Opaque}
-use Rattle.sml_tree.specs.Structures.{StrExp, TopDec, ascribed, structure_dec, str_bind, no_str_bind, and_str_bind, top_str}
+use Rattle.sml_tree.specs.Structures.{TopDec}
 use Rattle.sml_objects.specs.Alike.{Renaming}
 use Rattle.sml_objects.specs.Appearance.{Stands}
 use Rattle.sml_objects.specs.Names.{Initial}
@@ -14,7 +11,7 @@ use Rattle.sml_core_rules.specs.Objects.{Basis, rename_basis, names_basis}
 use Rattle.sml_core_rules.specs.States.{Scope, State}
 use Rattle.sml_core_rules.specs.Statements.{rename_answer}
 use Rattle.sml_module_rules.specs.Structures.{IsTopReading}
-use Rattle.sml_module_rules.specs.Programs.{add_basis, AreReadings}
+use Rattle.sml_module_rules.specs.Programs.{AreReadings, Pair, first, second, all_shown}
 
 -- Any two answers to a declaration in a basis are the same but for the names that were made: a renaming that leaves the names of
 -- the basis, the initial ones among them, takes one answer to the other. The names of explicit variables are made by no unit.
@@ -25,29 +22,18 @@ TopReadingsAgree {N} scope =
     → (p : Place) (d : TopDec Place) (o q : Answer Place (Basis N × State Place N)) → IsTopReading scope p B d o → IsTopReading scope p B d q
     → (f : Renaming scope.names) × ((n : N) → Stands n B.names → f.to n ≡ n) × (q ≡ rename_answer (rename_basis f.to) f.to o)
 
--- `structure x = e :> s`
-abbrev pub sealed : {P : Type 0} → P → Name P → StrExp P → P → SigExp P → TopDec P
-sealed p x e q s = top_str (structure_dec p (and_str_bind (str_bind x (ascribed q e Opaque s)) no_str_bind))
+abbrev pub rename_reply : {P A B : Type 0} → (A → B) → Option (Answer P (Basis A)) → Option (Answer P (Basis B))
+rename_reply f None = None
+rename_reply f (Some (refused x)) = Some (refused x)
+rename_reply f (Some (accepted A)) = Some (accepted (rename_basis f A))
 
-abbrev pub rename_reply : {P A B : Type 0} → (A → B) → Answer P (Basis A) → Answer P (Basis B)
-rename_reply f (refused x) = refused x
-rename_reply f (accepted A) = accepted (rename_basis f A)
-
--- the same of declarations one after the other
-abbrev pub ProgramsAgree : {N : Type 0} → Scope N → Type 0
-ProgramsAgree {N} scope =
-    ((x : Variable) → ¬ ((scope.names.attributes (scope.variable x)).maker ≡ scope.unit))
-    → (B : Basis N) → ((n : N) → Stands n (names_basis B) → Stands n B.names) → ((k : Initial) → Stands (scope.names.initial k) B.names)
-    → (ds : List (Place × TopDec Place)) (os qs : List (Answer Place (Basis N))) → AreReadings scope B ds os → AreReadings scope B ds qs
-    → (f : Renaming scope.names) × ((n : N) → Stands n B.names → f.to n ≡ n) × (qs ≡ map (rename_reply f.to) os)
-
--- What stands behind `:>` can't be seen: whichever two structures are sealed by a signature in one basis, what the declarations
--- add to the basis, and all that declarations behind them are answered, is the same but for the names that were made.
+-- What stands behind `:>` can't be seen. Of two programs that are alike but for what stands behind `:>`, where each such
+-- declaration is accepted in both or refused in both, all replies are the same but for the names that were made, and but for the
+-- faults of these declarations. So any two answers to one program are the same but for the names.
 abbrev pub SealsHide : {N : Type 0} → Scope N → Type 0
 SealsHide {N} scope =
     ((x : Variable) → ¬ ((scope.names.attributes (scope.variable x)).maker ≡ scope.unit))
     → (B : Basis N) → ((n : N) → Stands n (names_basis B) → Stands n B.names) → ((k : Initial) → Stands (scope.names.initial k) B.names)
-    → (x : Name Place) (s : SigExp Place) (d e : StrExp Place) (p q r p' q' r' : Place) (u v : Basis N × State Place N)
-    → IsTopReading scope p B (sealed q x d r s) (accepted u) → IsTopReading scope p' B (sealed q' x e r' s) (accepted v)
-    → (ds : List (Place × TopDec Place)) (os qs : List (Answer Place (Basis N))) → AreReadings scope (add_basis B u.0) ds os → AreReadings scope (add_basis B v.0) ds qs
-    → (f : Renaming scope.names) × ((n : N) → Stands n B.names → f.to n ≡ n) × (v.0 ≡ rename_basis f.to u.0) × (qs ≡ map (rename_reply f.to) os)
+    → (ds : List (Pair Place)) (os qs : List (Answer Place (Basis N))) → AreReadings scope B (map first ds) os → AreReadings scope B (map second ds) qs
+    → map is_some (all_shown ds os) ≡ map is_some (all_shown ds qs)
+    → (f : Renaming scope.names) × ((n : N) → Stands n B.names → f.to n ≡ n) × (all_shown ds qs ≡ map (rename_reply f.to) (all_shown ds os))

@@ -2,7 +2,7 @@
 
 ghost use Rattle.sml_objects.specs.Initial.{Name};
 ghost use Rattle.sml_core_rules.specs.States.{Scope};
-ghost use Rattle.sml_module_rules.specs.Statements.{TopReadingsAgree, ProgramsAgree, SealsHide};
+ghost use Rattle.sml_module_rules.specs.Statements.{TopReadingsAgree, SealsHide};
 
 /// Any two answers to a top-level declaration in one basis are the same fault, or bases alike over that basis, whichever new
 /// names were taken.
@@ -10,13 +10,9 @@ pub fn top_readings_agree()
     ensures { (scope : Scope Name) → TopReadingsAgree scope }
 {}
 
-/// The same of declarations one after the other, where a fault adds nothing to the basis.
-pub fn programs_agree()
-    ensures { (scope : Scope Name) → ProgramsAgree scope }
-{}
-
-/// What stands behind `:>` can't be seen: whichever two structures are sealed by a signature in one basis, what the declarations
-/// add to the basis, and all that declarations behind them are answered, is the same but for the names that were made.
+/// What stands behind `:>` can't be seen: of two programs that are alike but for what stands there, where each such declaration is
+/// accepted in both or refused in both, all replies are the same but for the names that were made, and but for the faults of
+/// these declarations.
 pub fn seals_hide()
     ensures { (scope : Scope Name) → SealsHide scope }
 {}

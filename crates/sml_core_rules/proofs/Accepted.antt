@@ -1,6 +1,7 @@
 -- Answers that are accepted: what scripts in sequence are made of, and what a script leaves of its state.
-use Rattle.std.specs.Prelude.{◌≡◌, List}
-use mathlib.Core.Path.{refl, sym, ap, subst}
+use Rattle.std.specs.Prelude.{◌≡◌, List, [], ◌++◌}
+use Rattle.std.proofs.lemmas.List.{append_assoc}
+use mathlib.Core.Path.{◌∙◌, refl, sym, ap, subst}
 use mathlib.Core.Logic.{inl, inr}
 use Rattle.sml_objects.specs.Objects.{Outside}
 use Rattle.sml_layers.specs.declared.layer.Layer.TheVariants.{Rigidity}
@@ -66,34 +67,37 @@ module _ {P N : Type 0} (scope : Scope N) where
   -- Demands that can be met still can, and names are only added.
   pub record Kept (s t : State P N) : Type 0 where
     pub met : CanBeMet (words scope) Rigidity s.demands → CanBeMet (words scope) Rigidity t.demands
-    pub names : (n : N) → Outside n t.names → Outside n s.names
+    pub added : (ns : List N) × (t.names ≡ ns ++ s.names)
 
-  kept-same : (s t u : State P N) → t ≡ u → Kept s t → Kept s u
-  kept-same s t u e h = subst (Kept s) e h
+  pub kept-outside : (s t : State P N) → Kept s t → (n : N) → Outside n t.names → Outside n s.names
+  kept-outside s t h n o = outside-right n h.added.0 s.names (subst (Outside n) h.added.1 o)
 
-  pub kept-after : (s t u : State P N) → Kept s t → Kept t u → Kept s u
-  kept-after s t u h k = record { met = λ m. k.met (h.met m); names = λ n o. h.names n (k.names n o) }
+  kept-same : (s t : State P N) → t ≡ s → Kept s t
+  kept-same s t e = record { met = λ m. subst (λ t. CanBeMet (words scope) Rigidity t.demands) (sym e) m; added = ([], ap (λ t. t.names) e) }
+
+  kept-after : (s t u : State P N) → Kept s t → Kept t u → Kept s u
+  kept-after s t u h k = record {
+    met = λ m. k.met (h.met m);
+    added = (k.added.0 ++ h.added.0, k.added.1 ∙ (ap (λ ns. k.added.0 ++ ns) h.added.1 ∙ sym (append_assoc k.added.0 h.added.0 s.names)));
+  }
 
   kept-made : (ns : List N) (s : State P N) → Kept s (with_made ns s)
-  kept-made ns s = record { met = λ m. m; names = λ n o. outside-right n ns s.names o }
-
-  kept-unknowns : (s : State P N) (n : _) → Kept s (with_unknowns n s)
-  kept-unknowns s n = record { met = λ m. m; names = λ n o. o }
+  kept-made ns s = record { met = λ m. m; added = (ns, refl) }
 
   pub kept : {X : Type 0} (k : Script P N X) (s : State P N) (r : X × State P N) → IsAnswer scope k s (accepted r) → Kept s r.1
   unfolding IsAnswer
-  kept (give x) s r h = kept-same s s r.1 (sym (ap (λ q. q.1) (accepted_same h))) (record { met = λ m. m; names = λ n o. o })
+  kept (give x) s r h = kept-same s r.1 (ap (λ q. q.1) (accepted_same h))
   kept (refuse e) s r h = absurd (not_refused h)
   kept (tests C e k) s r (inl h) = kept k s r h.1
   kept (tests C e k) s r (inr h) = absurd (not_refused h.1)
   kept (either C k j) s r (inl h) = kept k s r h.1
   kept (either C k j) s r (inr h) = kept j s r h.1
-  kept (makes_unknowns n k) s r h = kept-after s (with_unknowns n s) r.1 (kept-unknowns s n) (kept (k s.made) (with_unknowns n s) r h)
-  kept (requires d p k) s r (inl (c, h)) = kept-after s (with_demand d s) r.1 (record { met = λ m. c; names = λ n o. o }) (kept k (with_demand d s) r h)
+  kept (makes_unknowns n k) s r h = kept-after s (with_unknowns n s) r.1 (record { met = λ m. m; added = ([], refl) }) (kept (k s.made) (with_unknowns n s) r h)
+  kept (requires d p k) s r (inl (c, h)) = kept-after s (with_demand d s) r.1 (record { met = λ m. c; added = ([], refl) }) (kept k (with_demand d s) r h)
   kept (requires d p k) s r (inr h) = absurd (not_refused h.2)
   kept (sees k) s r h = kept (k s) s r h
-  kept (sets_rows rs k) s r h = kept-after s (with_rows rs s) r.1 (record { met = λ m. m; names = λ n o. o }) (kept k (with_rows rs s) r h)
-  kept (requires_or d e k) s r (inl (c, h)) = kept-after s (with_demand d s) r.1 (record { met = λ m. c; names = λ n o. o }) (kept k (with_demand d s) r h)
+  kept (sets_rows rs k) s r h = kept-after s (with_rows rs s) r.1 (record { met = λ m. m; added = ([], refl) }) (kept k (with_rows rs s) r h)
+  kept (requires_or d e k) s r (inl (c, h)) = kept-after s (with_demand d s) r.1 (record { met = λ m. c; added = ([], refl) }) (kept k (with_demand d s) r h)
   kept (requires_or d e k) s r (inr h) = absurd (not_refused h.1)
   kept (closes n x t k) s r (σ, c, h) = kept (k σ) s r h
   kept (determines t e k) s r (inl (u, c, h)) = kept (k u) s r h

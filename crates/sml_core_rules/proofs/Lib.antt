@@ -13,3 +13,4 @@ pub mod Alike
 pub mod Plain
 pub mod Accepted
 pub mod Claims
+pub mod Chosen

@@ -5,3 +5,5 @@ pub mod Settled
 pub mod Seals
 pub mod Grown
 pub mod Programs
+pub mod FunctorSeals
+pub mod Isolation

@@ -34,7 +34,7 @@ IsCovered {N} B A = (n : N) → Stands n (names_basis A) → Stands n (A.names +
 abbrev pub HasInitials : {N : Type 0} → Scope N → Basis N → Type 0
 HasInitials scope B = (j : Initial) → Stands (scope.names.initial j) B.names
 
-pub own-covered : {N : Type 0} (scope : Scope N) (B : Basis N) (fs : Map (FunSig N)) (gs : Map (Sig N)) (E : Env N) → IsCovered B (own_basis scope B.names fs gs E)
+own-covered : {N : Type 0} (scope : Scope N) (B : Basis N) (fs : Map (FunSig N)) (gs : Map (Sig N)) (E : Env N) → IsCovered B (own_basis scope B.names fs gs E)
 own-covered {N} scope B fs gs E =
     let ms = names_basis (record { names = []; functors = fs; signatures = gs; body = E }) in
     let Q : N → Type 0 = λ n. Stands n (besides scope B.names ms ++ B.names) in
@@ -42,20 +42,23 @@ own-covered {N} scope B fs gs E =
     (both Q (besides scope B.names ms) ms (every-stands Q (besides scope B.names ms) (λ n h. stands-before n (besides scope B.names ms) B.names h)) (every-stands Q ms (covered scope B.names ms)))
 
 module _ {P N : Type 0} (scope : Scope N) where
-  own-answer : (B : Basis N) (p : P) (fs : Map (FunSig N)) (gs : Map (Sig N)) (E : Env N) (s : State P N) (r : Basis N × State P N)
+  pub own-answer : (B : Basis N) (p : P) (fs : Map (FunSig N)) (gs : Map (Sig N)) (E : Env N) (s : State P N) (r : Basis N × State P N)
+      → IsAnswer scope (own scope B p fs gs E) s (accepted r) → r.0 ≡ own_basis scope B.names fs gs E
+  own-answer B p fs gs E s r h = let t = bind-accepted scope (test _ (fault Q3 p)) _ s r h in given scope (own_basis scope B.names fs gs E) t.0.1 r t.2
+
+  own-kept : (B : Basis N) (p : P) (fs : Map (FunSig N)) (gs : Map (Sig N)) (E : Env N) (s : State P N) (r : Basis N × State P N)
       → IsAnswer scope (own scope B p fs gs E) s (accepted r) → IsCovered B r.0
-  own-answer B p fs gs E s r h =
-      let t = bind-accepted scope (test _ (fault Q3 p)) _ s r h in subst (IsCovered B) (sym (given scope (own_basis scope B.names fs gs E) t.0.1 r t.2)) (own-covered scope B fs gs E)
+  own-kept B p fs gs E s r h = subst (IsCovered B) (sym (own-answer B p fs gs E s r h)) (own-covered scope B fs gs E)
 
   pub answer-covered : (B : Basis N) (p : P) (d : TopDec P) (r : Basis N × State P N) → IsTopReading scope p B d (accepted r) → IsCovered B r.0
   answer-covered B p (top_str d) r h =
       let a = bind-accepted scope (read_strdec scope B B.body d) _ (at_first B.names) r h in
-      let b = bind-accepted scope (settle scope B p a.0.0) _ a.0.1 r a.2 in own-answer B p [] [] b.0.0 b.0.1 r b.2
+      let b = bind-accepted scope (settle scope B p a.0.0) _ a.0.1 r a.2 in own-kept B p [] [] b.0.0 b.0.1 r b.2
   answer-covered B p (signature_dec q bs) r h =
-      let a = bind-accepted scope (read_signatures scope B [] bs) _ (at_first B.names) r h in own-answer B p [] a.0.0 empty a.0.1 r a.2
+      let a = bind-accepted scope (read_signatures scope B [] bs) _ (at_first B.names) r h in own-kept B p [] a.0.0 empty a.0.1 r a.2
   answer-covered B p (functor_dec q bs) r h =
       let a = bind-accepted scope (read_functors scope B [] bs) _ (at_first B.names) r h in
-      let b = bind-accepted scope (settle_functors scope B p a.0.0) _ a.0.1 r a.2 in own-answer B p b.0.0 [] empty b.0.1 r b.2
+      let b = bind-accepted scope (settle_functors scope B p a.0.0) _ a.0.1 r a.2 in own-kept B p b.0.0 [] empty b.0.1 r b.2
 
 -- what a reply adds to a basis
 abbrev pub IsAddition : {P N : Type 0} → Basis N → Answer P (Basis N) → Type 0

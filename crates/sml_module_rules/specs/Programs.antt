@@ -3,7 +3,7 @@ use Rattle.std.specs.Prelude.{◌≡◌, List, [], ◌∷◌, ◌++◌, Option, 
 use Rattle.sml_tree.specs.Names.{Name}
 use Rattle.sml_tree.specs.Signatures.{SigExp}
 use Rattle.sml_tree.specs.declared.structures.Ascription.TheVariants.{Opaque}
-use Rattle.sml_tree.specs.Structures.{StrExp, TopDec, ascribed, structure_dec, str_bind, no_str_bind, and_str_bind, top_str}
+use Rattle.sml_tree.specs.Structures.{StrExp, TopDec, ascribed, structure_dec, str_bind, no_str_bind, and_str_bind, top_str, functor_dec}
 use Rattle.sml_objects.specs.Maps.{join}
 use Rattle.sml_rules.specs.Answers.{Answer, refused, accepted}
 use Rattle.sml_core_rules.specs.Objects.{Basis, extend}
@@ -33,37 +33,41 @@ AreReadings scope B (d ∷ ds) [] = ⊥
 AreReadings {P} {N} scope B (d ∷ ds) (o ∷ os) =
     ((r : Answer P (Basis N × State P N)) × IsTopReading scope d.0 B d.1 r × (result r ≡ o)) × AreReadings scope (basis_after B o) ds os
 
--- A declaration of one program and that of another in its place: the same, or two that seal structures of one name by one
--- signature expression.
+-- What is sealed: `structure x = .. :> s`, or `functor f (x : s) = .. :> t`.
+pub data Seal (P : Type 0) : Type 0 where
+  structure_seal : Name P → SigExp P → Seal P
+  functor_seal : Name P → Name P → SigExp P → SigExp P → Seal P
 
--- what two such may differ in, with the places of the declaration, the binding and the ascription
+-- what stands behind the seal, with the places of the declaration, the binding and the ascription
 pub record Sealing (P : Type 0) : Type 0 where
   pub place : P
   pub binding : P
   pub ascription : P
   pub body : StrExp P
 
+abbrev pub sealed : {P : Type 0} → Seal P → Sealing P → TopDec P
+sealed (structure_seal x s) d = top_str (structure_dec d.binding (and_str_bind (str_bind x (ascribed d.ascription d.body Opaque s)) no_str_bind))
+sealed (functor_seal f x s t) d = functor_dec d.binding (record { name = f; argument = x; signature = s; body = ascribed d.ascription d.body Opaque t } ∷ [])
+
+-- A declaration of one program and that of another in its place: the same, or two that are alike but for what stands behind the
+-- seal.
 pub data Pair (P : Type 0) : Type 0 where
   same : P → TopDec P → Pair P
-  seals : Name P → SigExp P → Sealing P → Sealing P → Pair P
-
--- `structure x = e :> s`
-abbrev pub sealed : {P : Type 0} → Name P → SigExp P → Sealing P → TopDec P
-sealed x s d = top_str (structure_dec d.binding (and_str_bind (str_bind x (ascribed d.ascription d.body Opaque s)) no_str_bind))
+  seals : Seal P → Sealing P → Sealing P → Pair P
 
 abbrev pub first : {P : Type 0} → Pair P → P × TopDec P
 first (same p d) = (p, d)
-first (seals x s d e) = (d.place, sealed x s d)
+first (seals c d e) = (d.place, sealed c d)
 
 abbrev pub second : {P : Type 0} → Pair P → P × TopDec P
 second (same p d) = (p, d)
-second (seals x s d e) = (e.place, sealed x s e)
+second (seals c d e) = (e.place, sealed c e)
 
 -- the reply to one of the two, but for faults of those that differ
 abbrev pub shown : {P N : Type 0} → Pair P → Answer P (Basis N) → Option (Answer P (Basis N))
 shown (same p d) o = Some o
-shown (seals x s d e) (refused f) = None
-shown (seals x s d e) (accepted A) = Some (accepted A)
+shown (seals c d e) (refused f) = None
+shown (seals c d e) (accepted A) = Some (accepted A)
 
 abbrev pub all_shown : {P N : Type 0} → List (Pair P) → List (Answer P (Basis N)) → List (Option (Answer P (Basis N)))
 all_shown [] os = []

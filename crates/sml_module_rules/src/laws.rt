@@ -10,9 +10,9 @@ pub fn top_readings_agree()
     ensures { (scope : Scope Name) → TopReadingsAgree scope }
 {}
 
-/// What stands behind `:>` can't be seen: of two programs that are alike but for what stands there, where each such declaration is
-/// accepted in both or refused in both, all replies are the same but for the names that were made, and but for the faults of
-/// these declarations.
+/// What stands behind `:>`, in a structure or in the body of a functor, can't be seen: of two programs that are alike but for what
+/// stands there, where each such declaration is accepted in both or refused in both, all replies are the same but for the names
+/// that were made, and but for the faults of these declarations.
 pub fn seals_hide()
     ensures { (scope : Scope Name) → SealsHide scope }
 {}

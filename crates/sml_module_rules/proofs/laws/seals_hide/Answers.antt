@@ -1,4 +1,4 @@
-use Rattle.sml_module_rules.proofs.Seals.{seals-hide}
+use Rattle.sml_module_rules.proofs.Isolation.{seals-hide}
 use Rattle.sml_module_rules.proofs.laws.seals_hide.Goals as goal
 
 pub returns : goal.returns

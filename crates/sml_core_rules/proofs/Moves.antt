@@ -14,7 +14,9 @@ use Rattle.sml_rules.proofs.Worlds.{Named, Over, moved}
 use Rattle.sml_core_rules.specs.Objects.{Env, replaced, rename_env}
 use Rattle.sml_core_rules.specs.States.{State}
 use Rattle.sml_core_rules.specs.Expressions.{IsReading}
-use Rattle.sml_core_rules.specs.Statements.{rename_ask, rename_demand, rename_state, rename_answer}
+use Rattle.sml_core_rules.specs.Contexts.{Context}
+use Rattle.sml_core_rules.specs.Rules.{Declares}
+use Rattle.sml_core_rules.specs.Statements.{rename_ask, rename_demand, rename_state, rename_answer, rename_context, DerivationsMove}
 use Rattle.sml_core_rules.proofs.Renaming.{list-id, replaced-id, env-id}
 
 each-id : {X : Type 0} (f : X → X) → ((x : X) → f x ≡ x) → (xs : List X) → map f xs ≡ xs
@@ -82,3 +84,24 @@ readings-move {P} {N} names f unit var C vs d s o r =
     subst {A = Over (Told P)} (λ w. IsReading (record { names = w.1; unit = unit; variable = w.2.variable }) w.2.context w.2.explicit d w.2.state w.2.answer)
     (moved told_named (iso_to_equiv (record { fun = f.to; inv = f.from; rinv = f.to-from; linv = f.from-to })) names names
     (record { attributes = f.keeps; initial = f.initial }) (record { variable = var; context = C; explicit = vs; state = s; answer = o })) r
+
+-- what a derivation speaks of: the context and the environment
+record Derived (N : Type 0) : Type 0 where
+  context : Context N
+  env : Env N
+
+derived_named : Named Derived
+derived_named = record {
+  rename = λ f x. record { context = rename_context f x.context; env = rename_env f x.env };
+  rename-id = λ x i. record {
+    context = record { names = list-id x.context.names i; explicit = replaced-id (rename_type (λ n. n)) rename_type-id x.context.explicit i; env = env-id x.context.env i };
+    env = env-id x.env i;
+  };
+}
+
+pub derivations-move : {N : Type 0} (names : Naming N) → DerivationsMove names
+unfolding derived_named
+derivations-move names f eq C d E h =
+    subst {A = Over Derived} (λ w. Declares w.1 eq w.2.context d w.2.env)
+    (moved derived_named (iso_to_equiv (record { fun = f.to; inv = f.from; rinv = f.to-from; linv = f.from-to })) names names
+    (record { attributes = f.keeps; initial = f.initial }) (record { context = C; env = E })) h

@@ -23,7 +23,7 @@ use Rattle.sml_core_rules.specs.Types.{read_ty}
 use Rattle.sml_core_rules.specs.Datatypes.{Arguments, read_type_binds, read_all_arguments}
 use Rattle.sml_core_rules.specs.Expressions.{IsReading, at_first, read_datatypes, read_exceptions, read_opened}
 use Rattle.sml_core_rules.specs.Contexts.{Context}
-use Rattle.sml_core_rules.specs.Rules.{Means, BindTypes, MeanAllArguments, BindDatatypes, BindExceptions, Opens}
+use Rattle.sml_core_rules.specs.Rules.{Means, BindTypes, MeanAllArguments, BindDatatypes, BindExceptions, Opens, Declares}
 
 -- renaming what a state holds
 
@@ -57,6 +57,15 @@ ReadingsMove {N} names =
     (f : Renaming names) (unit : ℕ) (var : Variable → N) (C : Env N) (vs : Map (MlType N)) (d : Dec Place) (s : State Place N) (o : Answer Place (Env N × State Place N))
     → IsReading (record { names = names; unit = unit; variable = var }) C vs d s o
     → IsReading (record { names = names; unit = unit; variable = λ x. f.to (var x) }) (rename_env f.to C) (replaced (rename_type f.to) vs) d (rename_state f.to s) (rename_answer (rename_env f.to) f.to o)
+
+abbrev pub rename_context : {A B : Type 0} → (A → B) → Context A → Context B
+rename_context f C = record { names = map f C.names; explicit = replaced (rename_type f) C.explicit; env = rename_env f C.env }
+
+-- What the rules derive of a declaration they derive of it with the names replaced, in the context and in the environment.
+abbrev pub DerivationsMove : {N : Type 0} → Naming N → Type 0
+DerivationsMove {N} names =
+    (f : Renaming names) (equality : ℕ → Bool) (C : Context N) (d : Dec Place) (E : Env N) → Declares names equality C d E
+    → Declares names equality (rename_context f.to C) d (rename_env f.to E)
 
 -- the laws of renaming, of environments and of bases
 pub record ObjectsObeyLaws (N : Type 0) : Type 0 where

@@ -1,7 +1,7 @@
 //! What holds of the objects of the whole language and of all readings of the core, over the names of a run.
 
 ghost use Rattle.sml_objects.specs.Initial.{Name, naming};
-ghost use Rattle.sml_core_rules.specs.Statements.{ObjectsObeyLaws, ReadingsAgree, ReadingsDerive, ReadingsMove, SchemesAreOne};
+ghost use Rattle.sml_core_rules.specs.Statements.{DerivationsMove, ObjectsObeyLaws, ReadingsAgree, ReadingsDerive, ReadingsMove, SchemesAreOne};
 ghost use Rattle.sml_core_rules.specs.States.{Scope};
 
 /// Renaming by the identity changes nothing, renaming twice is renaming by the composition, and the names of a renamed
@@ -14,6 +14,11 @@ pub fn objects_obey_the_laws_of_renaming()
 /// answer depends on which new names were taken.
 pub fn readings_move_with_names()
     ensures { ReadingsMove naming }
+{}
+
+/// What the rules derive of a declaration they derive of it with the names replaced, in the context and in the environment.
+pub fn derivations_move_with_names()
+    ensures { DerivationsMove naming }
 {}
 
 /// Type expressions, bindings of types, the arguments of constructors, exceptions and opened structures are read as the

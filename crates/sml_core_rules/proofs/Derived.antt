@@ -45,7 +45,7 @@ module _ {P : Type 0} where
   passes : (b : Bool) (f : Fault P) → b ≡ true → check b f ≡ accepted tt
   passes b f h = ap (λ b. check b f) h
 
-  needed : {X : Type 0} (c : Code) (p : P) (x : LongId) (r : Found X) (v : X) → need c p x r ≡ accepted v → r ≡ found v
+  pub needed : {X : Type 0} (c : Code) (p : P) (x : LongId) (r : Found X) (v : X) → need c p x r ≡ accepted v → r ≡ found v
   needed c p x (found w) v h = ap found (accepted_same h)
   needed c p x (no_path s) v h = absurd (not_refused (sym h))
   needed c p x no_entry v h = absurd (not_refused (sym h))

@@ -14,3 +14,5 @@ pub mod Plain
 pub mod Accepted
 pub mod Claims
 pub mod Chosen
+pub mod Assigned
+pub mod Fits

@@ -11,5 +11,6 @@ pub mod Patterns
 pub mod Closing
 pub mod Expressions
 pub mod Contexts
+pub mod Assigned
 pub mod Rules
 pub mod Statements

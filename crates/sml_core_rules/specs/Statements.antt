@@ -1,7 +1,9 @@
 -- What is claimed of the objects of the whole language, and of all readings of the core.
-use Rattle.std.specs.Prelude.{◌≡◌, ◌↔◌, ℕ, Bool, List, [], map}
+use Rattle.std.specs.Prelude.{◌≡◌, ◌↔◌, ℕ, Bool, true, List, [], map}
 use Rattle.sml_lex.specs.declared.fault.Place.{Place}
 use Rattle.sml_tree.specs.Names.{LongName}
+use Rattle.sml_tree.specs.Trees.{LongId}
+use Rattle.sml_tree.specs.Patterns.{Pat}
 use Rattle.sml_tree.specs.Types.{Ty}
 use Rattle.sml_tree.specs.Expressions.{Dec, TypBind, DatBind, ExnBind}
 use Rattle.sml_objects.specs.Alike.{Renaming}
@@ -9,8 +11,9 @@ use Rattle.sml_objects.specs.Laws.{ObeysLaws}
 use Rattle.sml_objects.specs.Maps.{Map}
 use Rattle.sml_objects.specs.Appearance.{Stands}
 use Rattle.sml_objects.specs.Names.{Naming, Initial}
-use Rattle.sml_objects.specs.Objects.{MlType, Scheme, rename_type}
-use Rattle.sml_layers.specs.declared.layer.Layer.TheVariants.{Finiteness}
+use Rattle.sml_objects.specs.Objects.{MlType, Scheme, free, rename_type}
+use Rattle.sml_objects.specs.Types.{assign}
+use Rattle.sml_layers.specs.declared.layer.Layer.TheVariants.{Finiteness, Rigidity}
 use Rattle.sml_layers.specs.Worlds.{Assignment, finite}
 use Rattle.sml_core_rules.specs.Solutions.{Meets, IsScheme}
 use Rattle.sml_layers.specs.declared.variable.Variable.{Variable}
@@ -22,8 +25,13 @@ use Rattle.sml_core_rules.specs.Scripts.{IsAnswer}
 use Rattle.sml_core_rules.specs.Types.{read_ty}
 use Rattle.sml_core_rules.specs.Datatypes.{Arguments, read_type_binds, read_all_arguments}
 use Rattle.sml_core_rules.specs.Expressions.{IsReading, at_first, read_datatypes, read_exceptions, read_opened}
-use Rattle.sml_core_rules.specs.Contexts.{Context}
-use Rattle.sml_core_rules.specs.Rules.{Means, BindTypes, MeanAllArguments, BindDatatypes, BindExceptions, Opens, Declares}
+use Rattle.sml_rules.specs.Lookups.{found}
+use Rattle.sml_core_rules.specs.Lookups.{value_at}
+use Rattle.sml_core_rules.specs.Values.{constructs}
+use Rattle.sml_core_rules.specs.Patterns.{Typed, read_pat}
+use Rattle.sml_core_rules.specs.Contexts.{Context, IsType}
+use Rattle.sml_core_rules.specs.Assigned.{assign_context, assign_bindings}
+use Rattle.sml_core_rules.specs.Rules.{Means, BindTypes, MeanAllArguments, BindDatatypes, BindExceptions, Opens, Fits, Declares}
 
 -- renaming what a state holds
 
@@ -83,6 +91,19 @@ pub record ReadingsDerive {N : Type 0} (scope : Scope N) : Type 0 where
   -- where the names of the context are among those made so far
   pub datatypes : (p : Place) (C : Context N) (ds : List (DatBind Place)) (s : State Place N) (r : Env N × State Place N)
       → ((n : N) → Stands n C.names → Stands n s.names) → IsAnswer scope (read_datatypes scope p C.env ds) s (accepted r) → BindDatatypes scope.names C ds r.0
+
+-- no constructor's type is an unknown alone
+abbrev pub AreKnown : {N : Type 0} → Env N → Type 0
+AreKnown {N} C = (x : LongId) (v : Value N) → value_at C x ≡ found v → constructs v.status ≡ true → (k : ℕ) → ¬ (v.scheme.body ≡ free k)
+
+-- A pattern that was read fits the type that it was given, by the rules, and binds what it was read to bind, whatever types the
+-- unknowns turn out to have. Type variables may be equality variables or not.
+abbrev pub PatternsFit : {N : Type 0} → Scope N → Type 0
+PatternsFit {N} scope =
+    (σ : Assignment N finite) → ((v : ℕ) → IsType scope.names (σ v)) → (eq : ℕ → Bool) (C : Context N) → AreKnown C.env
+    → (is_rec : Bool) (q : Pat Place) (s : State Place N) (r : Typed N (MlType N) × State Place N)
+    → IsAnswer scope (read_pat scope is_rec C.env C.explicit [] q) s (accepted r) → Meets scope r.1 Rigidity σ
+    → Fits scope.names eq (assign_context σ C) is_rec q (assign σ r.0.type) (assign_bindings σ r.0.bound)
 
 -- Where the demands can be met, they leave a type one scheme.
 abbrev pub SchemesAreOne : {N : Type 0} → Scope N → Type 0

@@ -1,7 +1,7 @@
 //! What holds of the objects of the whole language and of all readings of the core, over the names of a run.
 
 ghost use Rattle.sml_objects.specs.Initial.{Name, naming};
-ghost use Rattle.sml_core_rules.specs.Statements.{DerivationsMove, ObjectsObeyLaws, ReadingsAgree, ReadingsDerive, ReadingsMove, SchemesAreOne};
+ghost use Rattle.sml_core_rules.specs.Statements.{DerivationsMove, ObjectsObeyLaws, PatternsFit, ReadingsAgree, ReadingsDerive, ReadingsMove, SchemesAreOne};
 ghost use Rattle.sml_core_rules.specs.States.{Scope};
 
 /// Renaming by the identity changes nothing, renaming twice is renaming by the composition, and the names of a renamed
@@ -25,6 +25,12 @@ pub fn derivations_move_with_names()
 /// rules derive them (the Definition, section 4.10, rules 22, 27 to 31 and 44 to 49), and as nothing else.
 pub fn readings_are_derived()
     ensures { (scope : Scope Name) → ReadingsDerive scope }
+{}
+
+/// A pattern that was read fits its type by the rules (the Definition, section 4.10, rules 32 to 43), whatever types meet the
+/// demands.
+pub fn patterns_fit()
+    ensures { (scope : Scope Name) → PatternsFit scope }
 {}
 
 /// At the end of a value declaration the demands leave the type of a variable one scheme, where they can be met at all.

@@ -1,5 +1,5 @@
 -- Answers that are accepted: what scripts in sequence are made of, and what a script leaves of its state.
-use Rattle.std.specs.Prelude.{◌≡◌, List, [], ◌++◌}
+use Rattle.std.specs.Prelude.{◌⊎◌, Bool, true, false, ◌&&◌, cond, ◌≡◌, List, [], ◌++◌}
 use Rattle.std.proofs.lemmas.List.{append_assoc}
 use mathlib.Core.Path.{◌∙◌, refl, sym, ap, subst}
 use mathlib.Core.Logic.{inl, inr}
@@ -16,6 +16,13 @@ module _ {P N : Type 0} (scope : Scope N) where
   pub given : {X : Type 0} (x : X) (s : State P N) (r : X × State P N) → IsAnswer scope (give x) s (accepted r) → r.0 ≡ x
   unfolding IsAnswer
   given x s r h = ap (λ q. q.0) (accepted_same h)
+
+  -- one of two ways to go on
+  pub taken : {X : Type 0} (b c : Bool) (k j : Script P N X) (s : State P N) (r : X × State P N) → IsAnswer scope (cond b (cond c k j) j) s (accepted r)
+      → (((b && c) ≡ true) × IsAnswer scope k s (accepted r)) ⊎ (((b && c) ≡ false) × IsAnswer scope j s (accepted r))
+  taken true true k j s r h = inl (refl, h)
+  taken true false k j s r h = inr (refl, h)
+  taken false c k j s r h = inr (refl, h)
 
   -- what comes first, and what comes then
   pub bind-accepted : {X Y : Type 0} (m : Script P N X) (f : X → Script P N Y) (s : State P N) (r : Y × State P N) → IsAnswer scope (m >>= f) s (accepted r)

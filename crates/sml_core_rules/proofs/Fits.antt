@@ -1,5 +1,5 @@
 -- Patterns fit the types that they were read to have, whatever types meet the demands.
-use Rattle.std.specs.Prelude.{◌≡◌, ◌⊎◌, ◌+◌, ℕ, suc, Bool, true, false, ◌&&◌, ◌||◌, not, cond, List, [], ◌∷◌, ◌++◌, length, Option, Some, None}
+use Rattle.std.specs.Prelude.{◌≡◌, ◌⊎◌, ◌+◌, ℕ, suc, Bool, true, false, ◌&&◌, ◌||◌, not, List, [], ◌∷◌, ◌++◌, length, Option, Some, None}
 use Rattle.std.proofs.Common.{arith, append-nil, append_assoc}
 use mathlib.Core.Path.{refl, sym, ap, subst, ◌∙◌}
 use mathlib.Core.Logic.{inl, inr}
@@ -37,7 +37,8 @@ use Rattle.sml_lex.specs.declared.fault.Code.TheVariants.{E1}
 use Rattle.sml_core_rules.specs.Answers.{need}
 use Rattle.sml_core_rules.specs.Statements.{AreKnown, PatternsFit}
 use Rattle.sml_core_rules.proofs.Derived.{needed, ty-to}
-use Rattle.sml_core_rules.proofs.Accepted.{given, bind-accepted}
+use Rattle.sml_core_rules.proofs.Apart.{pat-apart, apart-assigned}
+use Rattle.sml_core_rules.proofs.Accepted.{given, bind-accepted, taken}
 use Rattle.sml_core_rules.proofs.Assigned.{there, assign_all, lookup-there, value-assigned, tuple-assigned, row-assigned, field-assigned, means-assigned, replaced-assigned}
 
 module _ {P N : Type 0} (scope : Scope N) (σ : ℕ → MlType N) where
@@ -172,13 +173,6 @@ behind : {N : Type 0} (bs cs ds : Bindings N) {x y : Bindings N} → x ≡ bs ++
 behind bs cs ds e f = f ∙ (ap (λ x. x ++ ds) e ∙ append_assoc bs cs ds)
 
 module _ {P N : Type 0} (scope : Scope N) where
-  -- one of two ways to go on
-  taken : {X : Type 0} (b c : Bool) (k j : Script P N X) (s : State P N) (r : X × State P N) → IsAnswer scope (cond b (cond c k j) j) s (accepted r)
-      → (((b && c) ≡ true) × IsAnswer scope k s (accepted r)) ⊎ (((b && c) ≡ false) × IsAnswer scope j s (accepted r))
-  taken true true k j s r h = inl (refl, h)
-  taken true false k j s r h = inr (refl, h)
-  taken false c k j s r h = inr (refl, h)
-
   looked : {X : Type 0} (a : Answer P X) (s : State P N) (r : X × State P N) → IsAnswer scope (look a) s (accepted r) → a ≡ accepted r.0
   unfolding IsAnswer
   looked (refused f) s r h = absurd (not_refused h)
@@ -406,5 +400,7 @@ module _ {P N : Type 0} (scope : Scope N) (σ : ℕ → MlType N) (are : (v : �
 
 pub patterns-fit : {N : Type 0} (scope : Scope N) → PatternsFit scope
 patterns-fit scope σ are eq C known is_rec q s r h m =
-    let f = pat-fits scope σ are eq C known is_rec q [] s r h m in
-    subst (λ bs. Fits scope.names eq (assign_context σ C) is_rec q (assign σ r.0.type) (assign_bindings σ bs)) (sym f.1) f.2
+    let f = pat-fits scope σ are eq C known is_rec q [] s r h m in (
+      subst (λ bs. Fits scope.names eq (assign_context σ C) is_rec q (assign σ r.0.type) (assign_bindings σ bs)) (sym f.1) f.2,
+      apart-assigned σ r.0.bound (pat-apart scope is_rec C.env C.explicit q [] s r h tt),
+    )

@@ -16,3 +16,4 @@ pub mod Claims
 pub mod Chosen
 pub mod Assigned
 pub mod Fits
+pub mod Apart

@@ -31,7 +31,7 @@ use Rattle.sml_core_rules.specs.Values.{constructs}
 use Rattle.sml_core_rules.specs.Patterns.{Typed, read_pat}
 use Rattle.sml_core_rules.specs.Contexts.{Context, IsType}
 use Rattle.sml_core_rules.specs.Assigned.{assign_context, assign_bindings}
-use Rattle.sml_core_rules.specs.Rules.{Means, BindTypes, MeanAllArguments, BindDatatypes, BindExceptions, Opens, Fits, Declares}
+use Rattle.sml_core_rules.specs.Rules.{Means, BindTypes, MeanAllArguments, BindDatatypes, BindExceptions, Opens, AreApart, Fits, Declares}
 
 -- renaming what a state holds
 
@@ -97,13 +97,13 @@ abbrev pub AreKnown : {N : Type 0} → Env N → Type 0
 AreKnown {N} C = (x : LongId) (v : Value N) → value_at C x ≡ found v → constructs v.status ≡ true → (k : ℕ) → ¬ (v.scheme.body ≡ free k)
 
 -- A pattern that was read fits the type that it was given, by the rules, and binds what it was read to bind, whatever types the
--- unknowns turn out to have. Type variables may be equality variables or not.
+-- unknowns turn out to have; and no variable twice. Type variables may be equality variables or not.
 abbrev pub PatternsFit : {N : Type 0} → Scope N → Type 0
 PatternsFit {N} scope =
     (σ : Assignment N finite) → ((v : ℕ) → IsType scope.names (σ v)) → (eq : ℕ → Bool) (C : Context N) → AreKnown C.env
     → (is_rec : Bool) (q : Pat Place) (s : State Place N) (r : Typed N (MlType N) × State Place N)
     → IsAnswer scope (read_pat scope is_rec C.env C.explicit [] q) s (accepted r) → Meets scope r.1 Rigidity σ
-    → Fits scope.names eq (assign_context σ C) is_rec q (assign σ r.0.type) (assign_bindings σ r.0.bound)
+    → Fits scope.names eq (assign_context σ C) is_rec q (assign σ r.0.type) (assign_bindings σ r.0.bound) × AreApart (assign_bindings σ r.0.bound)
 
 -- Where the demands can be met, they leave a type one scheme.
 abbrev pub SchemesAreOne : {N : Type 0} → Scope N → Type 0

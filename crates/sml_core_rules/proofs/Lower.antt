@@ -1,5 +1,5 @@
 -- Demands that can be met in all layers can be met in those up to each, and their first unmet layer is one.
-use Rattle.std.proofs.Common.{◌≡◌, ◌≤◌, ℕ, zero, suc, inl, inr, List, [], ◌∷◌, map, Option, Some, None, refl, sym, ◌∙◌, ap, arith}
+use Rattle.std.proofs.Common.{◌≡◌, ◌≤◌, ℕ, zero, suc, inl, inr, List, [], ◌∷◌, map, Some, None, refl, sym, ◌∙◌, ap, arith}
 use Rattle.std.specs.List.{AllByRecursion}
 use Rattle.std.proofs.lemmas.Bool.{cases_order}
 use Rattle.std.proofs.lemmas.List.{length-map}
@@ -16,6 +16,7 @@ use Rattle.sml_layers.specs.Layers.{place_of}
 use Rattle.sml_layers.specs.Rows.{HasFields, fields_at}
 use Rattle.sml_layers.specs.Worlds.{Assignment, Tree, finite, infinite, tree, spread, spread_all}
 use Rattle.sml_layers.specs.Demands.{Demand, Words, equal, has_fields, asks, AllHold, CanBeMet, IsFirstUnmet}
+use Rattle.sml_core_rules.proofs.Assigned.{there}
 
 -- finite types as trees
 
@@ -42,12 +43,7 @@ unfolding spread
 spread-list [] = refl
 spread-list (t ∷ ts) = λ i. spread bare t ∷ spread-list ts i
 
-there : {X Y : Type 0} → (X → Y) → Option X → Option Y
-there f None = None
-there f (Some x) = Some (f x)
-
 lookup-mapped : {X Y : Type 0} (f : X → Y) (l : Id) (ls : List Id) (xs : List X) → lookup l (with_labels ls (map f xs)) ≡ there f (lookup l (with_labels ls xs))
-unfolding there
 lookup-mapped f l [] xs = refl
 lookup-mapped f l (m ∷ ls) [] = refl
 lookup-mapped f l (m ∷ ls) (x ∷ xs) = go (order_of l m) (lookup-mapped f l ls xs)
@@ -60,7 +56,6 @@ lookup-mapped f l (m ∷ ls) (x ∷ xs) = go (order_of l m) (lookup-mapped f l l
 module _ {N : Type 0} (σ : Assignment N finite) where
   fields-there : (ls : List Id) (ts : List (MlType N)) (fs : List (Id × MlType N)) → AllByRecursion (λ f. lookup f.0 (with_labels ls ts) ≡ Some f.1) (fields_at (assign σ) fs)
       → AllByRecursion (λ f. lookup f.0 (with_labels ls (map (spread bare) ts)) ≡ Some f.1) (fields_at (spread (trees σ)) fs)
-  unfolding there
   fields-there ls ts [] h = tt
   fields-there ls ts (f ∷ fs) h =
       (lookup-mapped (spread bare) f.0 ls ts ∙ (ap (there (spread bare)) h.0 ∙ ap Some (sym (spread-assign σ f.1))), fields-there ls ts fs h.1)

@@ -2,8 +2,9 @@
 
 ghost use Rattle.std.specs.Prelude.{◌∷◌, [], map, reverse};
 ghost use Rattle.std.specs.Option.{option_map};
+ghost use Rattle.sml_tree.specs.Expressions.{datatype_with};
 ghost use Rattle.sml_tree.specs.TypeViews.{name_of, long_name_of};
-ghost use Rattle.sml_tree.specs.ExpressionViews.{dat_bind_of, typ_bind_of};
+ghost use Rattle.sml_tree.specs.BindingViews.{dat_bind_of, typ_bind_of};
 ghost use Rattle.sml_phrases.specs.Phrases.{of_dec, of_datatypes, of_con_binds, at, name_in, names_in, con_binds_in, ty_if_any};
 ghost use Rattle.sml_phrases.specs.PhraseViews.{Puts, phrase_of, seen};
 ghost use Rattle.sml_bare_decs.specs.DeclarationRules.{datatype_of, datatypes_dec, datatype_from, datatype_rest, datatypes_in, typ_bind_in, and_datatype, constructors};
@@ -16,13 +17,31 @@ use crate::declaration_parts::{
 };
 use crate::declaration_rules::typ_binds;
 use sml_lex::fault::Place;
-use sml_phrases::low::{LowConBinds, LowDatBinds, LowDec, LowTypBinds};
+use sml_phrases::low::{LIMIT, LowConBinds, LowDatBinds, LowDec, LowTypBinds};
 use sml_phrases::phrase::{DeclarationPhrase, Failure, Phrase, discard};
 use sml_phrases::raise::raised;
 use sml_phrases::stack::Stack;
 use sml_tree::bare::LongIdent;
-use sml_tree::expressions::Dec;
+use sml_tree::expressions::{DatBind, Dec};
 use sml_tree::names::Name;
+use sml_tree::withtype::WithTypes;
+
+/// `datatype .. withtype ..`
+fn datatypes_with_types(
+    stack: &mut Stack,
+    place: Place,
+    datatypes: Vec<DatBind>,
+    types: LowTypBinds,
+) -> Result<(), Failure>
+    ensures { Puts (of_dec (datatype_with place (map dat_bind_of datatypes.items) (map typ_bind_of (reverse types.trees.items)))) 0 (seen stack.old) (seen stack.new) result }
+{
+    let mut trees = types.trees;
+    trees.reverse();
+    let with = WithTypes::new(stack.alloc, datatypes, trees)?;
+    let height = raised(with.height.min(LIMIT).max(types.height), 1)?;
+    let tree = Dec::DatatypeWith(place, with);
+    stack.put_dec(LowDec { tree, height })
+}
 
 /// `datatype ..`, perhaps with `withtype ..`.
 fn datatypes_dec(
@@ -33,15 +52,13 @@ fn datatypes_dec(
 ) -> Result<(), Failure>
     ensures { Puts (of_dec (datatypes_dec place (map dat_bind_of (reverse datatypes.trees.items)) (map typ_bind_of (reverse types.trees.items)))) 0 (seen stack.old) (seen stack.new) result }
 {
-    let height = raised(datatypes.height.max(types.height), 1)?;
-    let mut datatypes = datatypes.trees;
-    datatypes.reverse();
-    let mut types = types.trees;
-    types.reverse();
-    let tree = match types.is_empty() {
-        true => Dec::Datatype(place, datatypes),
-        false => Dec::DatatypeWith(place, datatypes, types),
-    };
+    let mut trees = datatypes.trees;
+    trees.reverse();
+    if types.trees.len() != 0 {
+        return datatypes_with_types(stack, place, trees, types);
+    }
+    let height = raised(datatypes.height, 1)?;
+    let tree = Dec::Datatype(place, trees);
     stack.put_dec(LowDec { tree, height })
 }
 

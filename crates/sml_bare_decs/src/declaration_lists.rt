@@ -6,7 +6,8 @@ ghost use Rattle.sml_tree.specs.TypeViews.{name_of, ty_of};
 ghost use Rattle.sml_tree.specs.Patterns.{and_pat};
 ghost use Rattle.sml_tree.specs.PatternViews.{pat_of, pats_of};
 ghost use Rattle.sml_tree.specs.Expressions.{and_dec, and_bind};
-ghost use Rattle.sml_tree.specs.ExpressionViews.{typ_bind_of, con_bind_of, dat_bind_of, exn_bind_of, dec_of, decs_of, bind_of, binds_of};
+ghost use Rattle.sml_tree.specs.BindingViews.{typ_bind_of, con_bind_of, dat_bind_of};
+ghost use Rattle.sml_tree.specs.ExpressionViews.{exn_bind_of, dec_of, decs_of, bind_of, binds_of};
 ghost use Rattle.sml_bare_decs.specs.DeclarationRules.{joined};
 
 use crate::declaration_parts::LowExnBind;

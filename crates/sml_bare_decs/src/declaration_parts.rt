@@ -4,7 +4,8 @@ ghost use Rattle.std.specs.Prelude.{◌≡◌, ◌≤◌, map, reverse, drop, If
 ghost use Rattle.std.specs.Option.{option_map};
 ghost use Rattle.sml_tree.specs.TypeViews.{name_of, long_name_of, ty_of, tys_of};
 ghost use Rattle.sml_tree.specs.PatternViews.{pat_of, pats_of};
-ghost use Rattle.sml_tree.specs.ExpressionViews.{typ_bind_of, dat_bind_of, exn_bind_of, bind_of, binds_of};
+ghost use Rattle.sml_tree.specs.BindingViews.{typ_bind_of, dat_bind_of};
+ghost use Rattle.sml_tree.specs.ExpressionViews.{exn_bind_of, bind_of, binds_of};
 ghost use Rattle.sml_tree.specs.Expressions.{new_exception};
 ghost use Rattle.sml_tree.specs.Heights.{exn_bind_height};
 ghost use Rattle.sml_phrases.specs.Phrases.{first, ty_if_any};

@@ -3,7 +3,8 @@
 ghost use Rattle.std.specs.Prelude.{◌≡◌, ◌∷◌, [], ◌+◌, drop, length, map, reverse, OnOk};
 ghost use Rattle.std.specs.Option.{option_map};
 ghost use Rattle.sml_tree.specs.Heights.{highest, typ_bind_height, exn_bind_height};
-ghost use Rattle.sml_tree.specs.ExpressionViews.{typ_bind_of, exn_bind_of};
+ghost use Rattle.sml_tree.specs.BindingViews.{typ_bind_of};
+ghost use Rattle.sml_tree.specs.ExpressionViews.{exn_bind_of};
 ghost use Rattle.sml_tree.specs.Expressions.{local_dec, type_dec, exception_dec, open_dec, fixity_dec, no_dec, and_dec};
 ghost use Rattle.sml_read.specs.Grammar.{right_side};
 ghost use Rattle.sml_read.specs.declared.grammar.Rule.TheVariants.{Declarations};

@@ -2,7 +2,7 @@
 
 ghost use Rattle.std.specs.Prelude.{◌≡◌, ◌≤◌, ◌∷◌, map, reverse};
 ghost use Rattle.sml_tree.specs.Heights.{highest, specs_height, typ_bind_height};
-ghost use Rattle.sml_tree.specs.ExpressionViews.{typ_bind_of};
+ghost use Rattle.sml_tree.specs.BindingViews.{typ_bind_of};
 ghost use Rattle.sml_tree.specs.SignatureViews.{spec_of, specs_of};
 ghost use Rattle.sml_tree.specs.TypeViews.{name_of};
 ghost use Rattle.sml_derived.specs.Derived.{includes, type_specs};

@@ -2,7 +2,7 @@
 
 ghost use Rattle.std.specs.Prelude.{◌≡◌, drop, map, reverse, IfOk, OnOk};
 ghost use Rattle.std.specs.Option.{option_map};
-ghost use Rattle.sml_tree.specs.ExpressionViews.{dat_bind_of};
+ghost use Rattle.sml_tree.specs.BindingViews.{dat_bind_of};
 ghost use Rattle.sml_tree.specs.TypeViews.{name_of, ty_of};
 ghost use Rattle.sml_tree.specs.SignatureViews.{str_desc_of, str_descs_of};
 ghost use Rattle.sml_tree.specs.StructureViews.{fun_bind_of, sig_bind_of, str_bind_of, str_binds_of};

@@ -3,7 +3,7 @@
 ghost use Rattle.std.specs.Prelude.{◌≡◌, ◌≤◌, [], ◌∷◌, drop, length, map, reverse, IfErr, IfOk, OnOk};
 ghost use Rattle.sml_tree.specs.Heights.{con_bind_height, highest, spec_height, str_descs_height, val_desc_height};
 ghost use Rattle.sml_tree.specs.SignatureViews.{spec_of, str_desc_of, str_descs_of, typ_desc_of, val_desc_of};
-ghost use Rattle.sml_tree.specs.ExpressionViews.{con_bind_of, dat_bind_of};
+ghost use Rattle.sml_tree.specs.BindingViews.{con_bind_of, dat_bind_of};
 ghost use Rattle.sml_tree.specs.Signatures.{eqtype_spec, exception_spec, no_str_desc, sig_end, structure_spec, val_spec};
 ghost use Rattle.sml_tree.specs.TypeViews.{long_name_of, name_of, names_of};
 ghost use Rattle.sml_read.specs.Grammar.{right_side};

@@ -63,9 +63,9 @@ impl Context<'_> {
             Dec::Sequence(_, decs) => self.decs(decs),
             Dec::Type(place, binds) => self.type_dec(*place, binds),
             Dec::Datatype(place, binds) => self.datatype_dec(*place, binds, &[]),
-            Dec::DatatypeWith(place, binds, types) => {
-                self.datatype_dec(*place, binds, types)?;
-                self.type_dec(*place, types)
+            Dec::DatatypeWith(place, with) => {
+                self.datatype_dec(*place, &with.datatypes, &with.types)?;
+                self.type_dec(*place, &with.types)
             }
             Dec::Replication(_, name, long) => self.replication(name, long),
             Dec::Exception(place, binds) => self.exception_dec(*place, binds),

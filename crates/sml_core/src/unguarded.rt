@@ -87,7 +87,7 @@ fn in_dec(dec: &Dec, found: &mut Found) -> Result<(), Memory> {
         Dec::Value(_, _, _, _)
         | Dec::Type(_, _)
         | Dec::Datatype(_, _)
-        | Dec::DatatypeWith(_, _, _)
+        | Dec::DatatypeWith(_, _)
         | Dec::Replication(_, _, _)
         | Dec::Open(_, _)
         | Dec::Fixity(_) => Ok(()),

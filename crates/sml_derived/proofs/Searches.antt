@@ -1,6 +1,5 @@
 -- Looking for a variable or a type constructor in a list, from its front on.
 use Rattle.std.proofs.Common.{◌≡◌, ℕ, zero, suc, ◌+◌, ◌<◌, ◌≤◌, List, [], ◌∷◌, map, drop, length, get_or, refl, ap, sym, ◌∙◌, Bool, true, false, Option, Some, None, if◌then◌else◌, nat_eq, arith}
-use Rattle.std.proofs.Math.Seq.{drop-cons}
 use Rattle.std.proofs.lemmas.List.{drop_all}
 use Rattle.std.specs.Str.{bytes_eq}
 use Rattle.sml_lex.specs.declared.fault.Place.{Place}
@@ -10,16 +9,13 @@ use Rattle.sml_tree.specs.Types as T
 use Rattle.sml_tree.specs.TypeViews.{names_of, ty_of, tys_of, ty_fields_of, ty_field_of}
 use Rattle.sml_tree.specs.Names as N
 use Rattle.sml_tree.specs.Expressions as E
-use Rattle.sml_tree.specs.ExpressionViews.{typ_bind_of}
+use Rattle.sml_tree.specs.BindingViews.{typ_bind_of}
 use Rattle.sml_tree.specs.declared.names.Name.{Name}
 use Rattle.sml_tree.specs.declared.types.Ty.{Ty}
 use Rattle.sml_tree.specs.declared.types.TyField.{TyField}
 use Rattle.sml_tree.specs.declared.expressions.TypBind.{TypBind}
-use Rattle.sml_derived.specs.Withtype.{applied, count_tys, argument, first_ty, other_tys, bound, instance, instances, field_instance, field_instances, replaced, all_replaced, field_replaced, fields_replaced}
-
-opened : {A : Type 0} (xs : List A) (i : ℕ) (x : A) → i < length xs → x ≡ get_or xs i x → drop i xs ≡ x ∷ drop (i + 1) xs
-opened xs i x within e =
-    drop-cons xs i x within ∙ ap (λ y. y ∷ drop (suc i) xs) (sym e) ∙ ap (λ j. x ∷ drop j xs) (let a : suc i ≡ i + 1 = omega arith in a)
+use Rattle.sml_tree.proofs.Lists.{opened}
+use Rattle.sml_tree.specs.Withtype.{applied, count_tys, argument, first_ty, other_tys, bound, instance, instances, field_instance, field_instances, replaced, all_replaced, field_replaced, fields_replaced}
 
 pub bound_found : (c : Id) (bs : List TypBind) (i : ℕ) (b : TypBind) (same : Bool) → i < length bs → b ≡ get_or bs i b → same ≡ bytes_eq c (ident_of b.name.ident) → same ≡ true
     → bound c (map typ_bind_of (drop i bs)) ≡ Some (typ_bind_of b)

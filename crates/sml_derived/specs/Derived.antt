@@ -5,7 +5,7 @@ use Rattle.sml_tree.specs.Trees.{Id}
 use Rattle.sml_tree.specs.Names.{Name, LongName}
 use Rattle.sml_tree.specs.Types.{Ty}
 use Rattle.sml_tree.specs.Patterns.{Pat, Pats, PatField, wildcard, pat_name, pat_row, pat_tuple, pat_apply, pat_typed, pat_as, no_pat, and_pat, pat_field, no_pat_field, and_pat_field}
-use Rattle.sml_tree.specs.Expressions.{Exp, Exps, Rule, Rules, Dec, ValBind, name, tuple, let_in, bracket, apply, typed, fn, no_exp, and_exp, rule, no_rule, and_rule, val_dec, open_dec, no_dec, and_dec, bind, no_bind, and_bind, TypBind}
+use Rattle.sml_tree.specs.Expressions.{Exp, Exps, Rules, Dec, ValBind, name, tuple, let_in, bracket, apply, fn, no_exp, and_exp, rule, no_rule, and_rule, val_dec, open_dec, no_dec, and_dec, bind, no_bind, and_bind, TypBind}
 use Rattle.sml_tree.specs.Signatures.{SigExp, Spec, Specs, WhereType, sig_end, sig_name, where_type, type_spec, include_spec, no_spec, and_spec}
 use Rattle.sml_tree.specs.Structures.{StrExp, StrDecs, StrBind, FunBind, struct_end, ascribed, functor_apply, str_let, core_dec, no_str_dec, and_str_dec, str_bind}
 use Rattle.sml_tree.specs.declared.structures.Ascription.{Ascription}

@@ -2,4 +2,3 @@ pub mod Words
 pub mod Derived
 pub mod Laws
 pub mod Views
-pub mod Withtype

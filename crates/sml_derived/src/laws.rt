@@ -1,5 +1,5 @@
 //! Laws of the definitions.
-ghost use Rattle.sml_derived.specs.Laws.{NoSourceSpells, HiddenDiffer};
+ghost use Rattle.sml_derived.specs.Laws.{NoSourceSpells, HiddenDiffer, WithtypeKeepsItsHeight};
 
 /// No source can spell a hidden variable.
 pub fn no_source_spells_hidden()
@@ -9,4 +9,9 @@ pub fn no_source_spells_hidden()
 /// Hidden variables with different numbers are different.
 pub fn hidden_differ()
     ensures { HiddenDiffer }
+{}
+
+/// A declaration with `withtype` is as high as what it stands for.
+pub fn withtype_keeps_its_height()
+    ensures { WithtypeKeepsItsHeight }
 {}

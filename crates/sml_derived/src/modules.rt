@@ -2,7 +2,7 @@
 
 ghost use Rattle.std.specs.Prelude.{◌≡◌, ◌∷◌, [], map, IfOk};
 ghost use Rattle.sml_tree.specs.TypeViews.{name_of};
-ghost use Rattle.sml_tree.specs.ExpressionViews.{typ_bind_of};
+ghost use Rattle.sml_tree.specs.BindingViews.{typ_bind_of};
 ghost use Rattle.sml_tree.specs.SignatureViews.{sig_of, spec_of, specs_of, typ_desc_of, where_of};
 ghost use Rattle.sml_tree.specs.StructureViews.{str_of, str_bind_of, str_dec_of, str_decs_of, fun_bind_of};
 ghost use Rattle.sml_tree.specs.Expressions.{open_dec};

@@ -5,8 +5,9 @@ ghost use Rattle.std.specs.Str.{bytes_eq};
 ghost use Rattle.std.specs.Option.{option_map};
 ghost use Rattle.sml_tree.specs.Views.{ident_of, long_of};
 ghost use Rattle.sml_tree.specs.TypeViews.{names_of, long_name_of, ty_of, tys_of, ty_field_of, ty_fields_of};
-ghost use Rattle.sml_tree.specs.ExpressionViews.{typ_bind_of, con_bind_of, dat_bind_of, dec_of};
-ghost use Rattle.sml_derived.specs.Withtype.{argument, either, instance, instances, field_instances, count_tys, bound, binding, applied, replaced, all_replaced, fields_replaced, con_replaced, dat_replaced, withtype_of};
+ghost use Rattle.sml_tree.specs.BindingViews.{typ_bind_of, con_bind_of, dat_bind_of};
+ghost use Rattle.sml_tree.specs.ExpressionViews.{dec_of};
+ghost use Rattle.sml_tree.specs.Withtype.{argument, either, instance, instances, field_instances, count_tys, bound, binding, applied, replaced, all_replaced, fields_replaced, con_replaced, dat_replaced, withtype_of};
 
 use crate::copies::{arrow, bracket, constructor, copy_of_ty, labelled, misapplied};
 use crate::expander::Expander;

@@ -17,6 +17,7 @@ use sml_tree::patterns::Pat;
 use sml_tree::signatures::{SigExp, WhereType};
 use sml_tree::structures::{Ascription, FunBind, StrDec, StrExp, TopDec};
 use sml_tree::types::Ty;
+use sml_tree::withtype::WithTypes;
 use std::alloc::Global;
 use std::process::Abort;
 use std::rc::Rc;
@@ -288,7 +289,12 @@ fn type_equations_by_call(rt: HostRuntime) -> Result<(), Fail> {
 fn expanded(alloc: Global, top: TopDec) -> Result<Option<Dec>, Memory> {
     let forms = Expander::new(alloc)?;
     match top {
-        TopDec::Structure(StrDec::Core(Dec::DatatypeWith(place, datatypes, types))) => {
+        TopDec::Structure(StrDec::Core(Dec::DatatypeWith(place, with))) => {
+            let WithTypes {
+                datatypes,
+                types,
+                ..
+            } = with;
             Ok(Some(forms.datatypes_with_types(place, datatypes, types)?))
         }
         _ => Ok(None),

@@ -59,6 +59,42 @@ fn types_count(rt: HostRuntime) -> Result<(), Fail> {
     )
 }
 
+// `int v` is 3 where `v` is two lists, `int v v` 5, its declaration 6; the argument that a right side drops adds nothing; of
+// two arguments each counts where its variable stands, the first 7 or the second 5; a long type constructor is another one,
+// so the right side, 4, is higher; and one with the wrong number of arguments stands as it is, 3 high with its arguments
+#[test]
+fn right_sides_stand_in_datatypes(rt: HostRuntime) -> Result<(), Fail> {
+    expect_all(
+        &rt,
+        &[
+            (
+                "datatype t = C of int v v and u = D withtype 'a v = 'a list list",
+                "6;",
+            ),
+            (
+                "datatype t = C of int list list list v withtype 'a v = int",
+                "2;",
+            ),
+            (
+                "datatype t = C of (int list list list list list, int) v withtype ('a, 'b) v = 'a * ('b list list)",
+                "8;",
+            ),
+            (
+                "datatype t = C of (int, int) v withtype ('a, 'b) v = 'a * ('b list list)",
+                "6;",
+            ),
+            (
+                "datatype t = C of int A.v withtype 'a v = 'a list list list",
+                "5;",
+            ),
+            (
+                "datatype t = C of (int list, int) v withtype 'a v = 'a",
+                "4;",
+            ),
+        ],
+    )
+}
+
 /// `structure x = struct val x = ((x)) end`, with so many brackets.
 fn bracketed(alloc: Global, count: usize) -> Result<String, Memory> {
     let mut unit = String::new(alloc);

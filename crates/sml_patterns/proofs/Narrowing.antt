@@ -7,7 +7,8 @@ use Rattle.sml_tree.specs.Trees.{Id}
 use Rattle.sml_patterns.specs.Plain.{Value, value_eq, Plain, Wild, Made, Fields, Valued, Row, field, IsWild}
 use Rattle.sml_patterns.specs.Shape.{Shape, Cut, OfConstructor, OfRow, OfValue, Other, Matches, World, Column, Kind, Constructors, Labels, Values, Opaque, Part, PartConstructors, PartLabels, PartValues, PartOpaque, part, part_of, part_at, IsShape, Fits, FitsKind}
 use Rattle.sml_patterns.specs.Matrix.{Head, AtConstructor, AtRow, AtValue, AtOther, field_in, wild_at, replace, onto}
-use Rattle.sml_patterns.proofs.Values.{value_tells, id_tells}
+use Rattle.sml_tree.proofs.Idents.{id_tells}
+use Rattle.sml_patterns.proofs.Values.{value_tells}
 use Rattle.sml_patterns.proofs.Labels.{IsIn, AreDistinct, AreIn, Sees, decide, field_absent}
 use Rattle.sml_patterns.proofs.Vectors.{Shapes, End, Then, MatchEach, AreShapes, join, FitsColumn, FitEach, fit_glue, match_split, match_glue, wilds_match, wild_fits, wilds_fit, some_shape}
 

@@ -4,7 +4,7 @@ use Rattle.std.specs.Bool.{Decides}
 use Rattle.std.specs.Str.{bytes_eq}
 use Rattle.std.proofs.lemmas.Slice.Eq.{bytes_eq-Decides}
 use Rattle.std.proofs.lemmas.Bool.Decides.{Decides-int_eq, Decides-eqb}
-use Rattle.sml_tree.specs.Trees.{Id}
+use Rattle.sml_tree.proofs.Idents.{tells}
 use Rattle.sml_patterns.specs.Plain.{Value, Integer, Word, Character, Text, Exception, value_eq}
 
 value_same : (u v : Value) → value_eq u v ≡ true → u ≡ v
@@ -22,13 +22,6 @@ value_self (Character m) = (Decides-eqb m m).1 refl
 value_self (Text s) = (bytes_eq-Decides s s).1 refl
 value_self (Exception s) = (bytes_eq-Decides s s).1 refl
 
-tells : (b : Bool) (P : Type 0) → Decides b P → ((b ≡ true) × P) ⊎ ((b ≡ false) × (P → ⊥))
-tells true P d = inl (refl, d.0 refl)
-tells false P d = inr (refl, λ p. let h = d.1 p in cc)
-
 pub value_tells : (u v : Value) → ((value_eq u v ≡ true) × (u ≡ v)) ⊎ ((value_eq u v ≡ false) × (u ≡ v → ⊥))
 value_tells u v =
     tells (value_eq u v) (u ≡ v) (value_same u v, λ e. subst (λ x. value_eq u x ≡ true) e (value_self u))
-
-pub id_tells : (k l : Id) → ((bytes_eq k l ≡ true) × (k ≡ l)) ⊎ ((bytes_eq k l ≡ false) × (k ≡ l → ⊥))
-id_tells k l = tells (bytes_eq k l) (k ≡ l) (bytes_eq-Decides k l)

@@ -4,7 +4,8 @@ use Rattle.std.specs.Option.{option_map}
 use Rattle.sml_lex.specs.declared.fault.Place.{Place}
 use Rattle.sml_tree.specs.TypeViews.{name_of, names_of, long_name_of, ty_of, tys_of, ty_field_of, ty_fields_of}
 use Rattle.sml_tree.specs.PatternViews.{constant_of, pat_of, pats_of, pat_field_of, pat_fields_of}
-use Rattle.sml_tree.specs.ExpressionViews.{typ_bind_of, con_bind_of, dat_bind_of, exn_bind_of, exp_of, exps_of, field_of, fields_of, rule_of, rules_of, dec_of, decs_of, bind_of, binds_of}
+use Rattle.sml_tree.specs.BindingViews.{typ_bind_of, con_bind_of, dat_bind_of}
+use Rattle.sml_tree.specs.ExpressionViews.{exn_bind_of, exp_of, exps_of, field_of, fields_of, rule_of, rules_of, dec_of, decs_of, bind_of, binds_of}
 use Rattle.sml_tree.specs.SignatureViews.{val_desc_of, typ_desc_of, sig_of, spec_of, specs_of, str_desc_of, str_descs_of}
 use Rattle.sml_tree.specs.StructureViews.{str_of, str_dec_of, str_decs_of, str_bind_of, str_binds_of, sig_bind_of, fun_bind_of, top_of}
 use Rattle.sml_tree.specs.Clauses.{clause_of, Constraint}

@@ -10,7 +10,8 @@ use Rattle.sml_tree.specs.Height.{counted}
 use Rattle.sml_tree.specs.Heights.{highest, ty_height, tys_height, ty_field_height, ty_fields_height, pat_height, pats_height, pat_field_height, pat_fields_height, exp_height, exps_height, field_height, fields_height, rule_height, rules_height, dec_height, decs_height, bind_height, binds_height, spec_height, specs_height, str_desc_height, str_descs_height, str_dec_height, str_decs_height, str_bind_height, str_binds_height, typ_bind_height, con_bind_height, dat_bind_height, exn_bind_height, val_desc_height, sig_bind_height, fun_bind_height}
 use Rattle.sml_tree.specs.TypeViews.{ty_of, tys_of, ty_field_of, ty_fields_of}
 use Rattle.sml_tree.specs.PatternViews.{pat_of, pats_of, pat_field_of, pat_fields_of}
-use Rattle.sml_tree.specs.ExpressionViews.{exp_of, exps_of, field_of, fields_of, rule_of, rules_of, dec_of, decs_of, bind_of, binds_of, typ_bind_of, con_bind_of, dat_bind_of, exn_bind_of}
+use Rattle.sml_tree.specs.BindingViews.{typ_bind_of, con_bind_of, dat_bind_of}
+use Rattle.sml_tree.specs.ExpressionViews.{exp_of, exps_of, field_of, fields_of, rule_of, rules_of, dec_of, decs_of, bind_of, binds_of, exn_bind_of}
 use Rattle.sml_tree.specs.SignatureViews.{spec_of, specs_of, str_desc_of, str_descs_of, val_desc_of}
 use Rattle.sml_tree.specs.StructureViews.{str_dec_of, str_decs_of, str_bind_of, str_binds_of, sig_bind_of, fun_bind_of}
 use Rattle.sml_tree.proofs.Lists.{higher}

@@ -1,4 +1,9 @@
-mod Lists
+pub mod Lists
 mod HeightLists
 mod HeightParts
 pub mod TreeViews
+pub mod Idents
+pub mod Tables
+mod Instances
+mod DepthLists
+mod RightSides

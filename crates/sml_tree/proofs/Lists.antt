@@ -1,5 +1,6 @@
--- Heights of lists, one element after another.
-use Rattle.std.proofs.Common.{◌≡◌, ℕ, ◌+◌, ◌<◌, List, [], ◌∷◌, ◌++◌, map, take, length, get_or, max, refl, sym, ap, ◌∙◌, arith}
+-- Lists, and heights of lists, one element after another.
+use Rattle.std.proofs.Common.{◌≡◌, ℕ, suc, ◌+◌, ◌<◌, List, [], ◌∷◌, ◌++◌, map, take, drop, length, get_or, max, refl, sym, ap, ◌∙◌, arith}
+use Rattle.std.proofs.Math.Seq.{drop-cons}
 use Rattle.std.proofs.lemmas.List.{take_more}
 use Rattle.sml_lex.specs.declared.fault.Place.{Place}
 use Rattle.sml_tree.specs.declared.bare.Exp.{Exp}
@@ -9,6 +10,10 @@ use Rattle.sml_tree.specs.declared.bare.CoreDec.{CoreDec}
 use Rattle.sml_tree.specs.Trees as T
 use Rattle.sml_tree.specs.Views.{exp_of, exps_of, ty_of, tys_of, spec_of, core_dec_of}
 use Rattle.sml_tree.specs.Height.{exp_height, exps_height, ty_height, tys_height, spec_height, specs_height, core_height, decs_height, counted}
+
+pub opened : {A : Type 0} (xs : List A) (i : ℕ) (x : A) → i < length xs → x ≡ get_or xs i x → drop i xs ≡ x ∷ drop (i + 1) xs
+opened xs i x within e =
+    drop-cons xs i x within ∙ ap (λ y. y ∷ drop (suc i) xs) (sym e) ∙ ap (λ j. x ∷ drop j xs) (let a : suc i ≡ i + 1 = omega arith in a)
 
 pub map_more : {A B : Type 0} (f : A → B) (xs : List A) (x : A) → map f (xs ++ x ∷ []) ≡ map f xs ++ f x ∷ []
 map_more f [] x = refl

@@ -1,31 +1,19 @@
 -- The program's expressions and declarations of the core as those of the definitions.
 use Rattle.std.specs.Prelude.{List, [], ◌∷◌, map}
-use Rattle.std.specs.Option.{option_map}
 use Rattle.sml_lex.specs.declared.fault.Place.{Place}
 use Rattle.sml_tree.specs.Expressions as E
 use Rattle.sml_tree.specs.TypeViews.{name_of, names_of, long_name_of, ty_of}
+use Rattle.sml_tree.specs.BindingViews.{typ_bind_of, con_bind_of, dat_bind_of}
 use Rattle.sml_tree.specs.PatternViews.{constant_of, pat_of}
 use Rattle.sml_tree.specs.declared.expressions.Exp.{Exp}
 use Rattle.sml_tree.specs.declared.expressions.ExpField.{ExpField}
 use Rattle.sml_tree.specs.declared.expressions.Rule.{Rule}
 use Rattle.sml_tree.specs.declared.expressions.Dec.{Dec}
 use Rattle.sml_tree.specs.declared.expressions.ValBind.{ValBind}
-use Rattle.sml_tree.specs.declared.expressions.TypBind.{TypBind}
-use Rattle.sml_tree.specs.declared.expressions.DatBind.{DatBind}
-use Rattle.sml_tree.specs.declared.expressions.ConBind.{ConBind}
 use Rattle.sml_tree.specs.declared.expressions.ExnBind.{ExnBind}
 use Rattle.sml_tree.specs.declared.expressions.ExnBind.TheVariants.{New, Copy}
 use Rattle.sml_tree.specs.declared.expressions.Dec.TheOpen as O
 use Rattle.sml_tree.specs.declared.expressions.Dec.TheFolds as F
-
-abbrev pub typ_bind_of : TypBind → E.TypBind Place
-typ_bind_of b = record { variables = names_of b.variables.items; name = name_of b.name; ty = ty_of b.ty }
-
-abbrev pub con_bind_of : ConBind → E.ConBind Place
-con_bind_of b = record { name = name_of b.name; argument = option_map ty_of b.argument }
-
-abbrev pub dat_bind_of : DatBind → E.DatBind Place
-dat_bind_of b = record { variables = names_of b.variables.items; name = name_of b.name; constructors = map con_bind_of b.constructors.items }
 
 abbrev pub exn_bind_of : ExnBind → E.ExnBind Place
 exn_bind_of (New b) = E.new_exception (con_bind_of b)
@@ -75,7 +63,7 @@ abbrev pub dec_layer : O.Dec-F (E.Dec Place) (E.Exp Place) (E.Field Place) (E.Ru
 dec_layer (O.Value p vs bs rs) = E.val_dec p (names_of vs.items) (binds_of bs.items) (binds_of rs.items)
 dec_layer (O.Type p bs) = E.type_dec p (map typ_bind_of bs.items)
 dec_layer (O.Datatype p bs) = E.datatype_dec p (map dat_bind_of bs.items)
-dec_layer (O.DatatypeWith p ds bs) = E.datatype_with p (map dat_bind_of ds.items) (map typ_bind_of bs.items)
+dec_layer (O.DatatypeWith p w) = E.datatype_with p (map dat_bind_of w.datatypes.items) (map typ_bind_of w.types.items)
 dec_layer (O.Replication p t u) = E.datatype_copy p (name_of t) (long_name_of u)
 dec_layer (O.Exception p bs) = E.exception_dec p (map exn_bind_of bs.items)
 dec_layer (O.Local p ds es) = E.local_dec p (decs_of ds.items) (decs_of es.items)

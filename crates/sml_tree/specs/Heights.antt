@@ -1,10 +1,11 @@
 -- Heights of the trees of the whole language: each expression, pattern, type, declaration, structure expression,
 -- signature expression and specification is one higher than its highest part, brackets included. Lists of rules,
 -- fields, bindings and declarations add nothing.
-use Rattle.std.specs.Prelude.{ℕ, suc, max, List, [], ◌∷◌, Option, Some, None}
+use Rattle.std.specs.Prelude.{ℕ, suc, max, List, [], ◌∷◌, map, Option, Some, None}
 use Rattle.sml_tree.specs.Types.{Ty, Tys, TyField, TyFields, ty_variable, ty_row, ty_tuple, ty_constructor, ty_misapplied, ty_arrow, ty_bracket, no_ty, and_ty, ty_field, no_ty_field, and_ty_field}
 use Rattle.sml_tree.specs.Patterns.{Pat, Pats, PatField, PatFields, wildcard, pat_constant, pat_name, pat_row, pat_tuple, pat_bracket, pat_apply, pat_typed, pat_as, no_pat, and_pat, pat_field, no_pat_field, and_pat_field}
 use Rattle.sml_tree.specs.Expressions.{TypBind, ConBind, DatBind, ExnBind, new_exception, exception_copy, Exp, Exps, Field, Fields, Rule, Rules, Dec, Decs, ValBind, ValBinds, constant, name, row, tuple, let_in, bracket, apply, typed, handle, raise, fn, no_exp, and_exp, field, no_field, and_field, rule, no_rule, and_rule, val_dec, type_dec, datatype_dec, datatype_with, datatype_copy, exception_dec, local_dec, sequence_dec, open_dec, fixity_dec, no_dec, and_dec, bind, no_bind, and_bind}
+use Rattle.sml_tree.specs.Withtype.{dat_replaced}
 use Rattle.sml_tree.specs.Signatures.{SigExp, Spec, Specs, StrDesc, StrDescs, ValDesc, sig_end, sig_name, where_type, val_spec, type_spec, eqtype_spec, datatype_spec, copy_spec, exception_spec, structure_spec, include_spec, sharing_types, sharing_structures, no_spec, and_spec, str_desc, no_str_desc, and_str_desc}
 use Rattle.sml_tree.specs.Structures.{StrExp, StrDec, StrDecs, StrBind, StrBinds, SigBind, FunBind, TopDec, struct_end, str_name, ascribed, functor_apply, str_let, core_dec, structure_dec, str_local, no_str_dec, and_str_dec, str_bind, no_str_bind, and_str_bind, top_str, signature_dec, functor_dec}
 
@@ -110,7 +111,8 @@ abbrev mutual
   dec_height (val_dec p vs bs rs) = suc (max (binds_height bs) (binds_height rs))
   dec_height (type_dec p bs) = suc (highest typ_bind_height bs)
   dec_height (datatype_dec p bs) = suc (highest dat_bind_height bs)
-  dec_height (datatype_with p ds bs) = suc (max (highest dat_bind_height ds) (highest typ_bind_height bs))
+  -- what stands behind `withtype` stands in the datatypes too
+  dec_height (datatype_with p ds bs) = suc (max (highest dat_bind_height (map (dat_replaced bs) ds)) (highest typ_bind_height bs))
   dec_height (datatype_copy p t u) = 1
   dec_height (exception_dec p bs) = suc (highest exn_bind_height bs)
   dec_height (local_dec p ds es) = suc (max (decs_height ds) (decs_height es))

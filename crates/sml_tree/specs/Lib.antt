@@ -9,10 +9,14 @@ pub mod Patterns
 pub mod Expressions
 pub mod Signatures
 pub mod Structures
+pub mod Withtype
 pub mod Heights
 pub mod TypeViews
 pub mod PatternViews
+pub mod BindingViews
 pub mod ExpressionViews
 pub mod Clauses
 pub mod SignatureViews
 pub mod StructureViews
+pub mod Depths
+pub mod CodeSides

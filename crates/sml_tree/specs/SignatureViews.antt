@@ -4,7 +4,7 @@ use Rattle.sml_lex.specs.declared.fault.Place.{Place}
 use Rattle.sml_tree.specs.Signatures as S
 use Rattle.sml_tree.specs.Views.{ident_of}
 use Rattle.sml_tree.specs.TypeViews.{name_of, names_of, long_name_of, ty_of}
-use Rattle.sml_tree.specs.ExpressionViews.{con_bind_of, dat_bind_of}
+use Rattle.sml_tree.specs.BindingViews.{con_bind_of, dat_bind_of}
 use Rattle.sml_tree.specs.declared.signatures.SigExp.{SigExp}
 use Rattle.sml_tree.specs.declared.signatures.Spec.{Spec}
 use Rattle.sml_tree.specs.declared.signatures.StrDesc.{StrDesc}

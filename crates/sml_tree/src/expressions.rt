@@ -4,6 +4,7 @@ use crate::bare::LongIdent;
 use crate::names::Name;
 use crate::patterns::{Constant, Pat};
 use crate::types::Ty;
+use crate::withtype::WithTypes;
 use sml_lex::fault::Place;
 
 /// An expression (the Definition, section 2.8). Each form begins with the place of its first token. An identifier has
@@ -51,7 +52,7 @@ pub enum Dec {
     Type(Place, Vec<TypBind>),
     Datatype(Place, Vec<DatBind>),
     /// `datatype .. withtype ..`
-    DatatypeWith(Place, Vec<DatBind>, Vec<TypBind>),
+    DatatypeWith(Place, WithTypes),
     /// `datatype t = datatype u`
     Replication(Place, Name, LongIdent),
     Exception(Place, Vec<ExnBind>),

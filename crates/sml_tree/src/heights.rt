@@ -5,7 +5,8 @@ ghost use Rattle.sml_tree.specs.Height.{counted};
 ghost use Rattle.sml_tree.specs.Heights.{highest, height_if_any, ty_height, tys_height, ty_fields_height, pat_height, pats_height, pat_fields_height, typ_bind_height, con_bind_height, dat_bind_height, exn_bind_height, exp_height, exps_height, fields_height, rules_height, dec_height, decs_height, binds_height, val_desc_height, sig_height, spec_height, specs_height, str_descs_height, str_height, str_dec_height, str_decs_height, str_binds_height, sig_bind_height, fun_bind_height, top_height};
 ghost use Rattle.sml_tree.specs.TypeViews.{ty_of, tys_of, ty_field_of, ty_fields_of};
 ghost use Rattle.sml_tree.specs.PatternViews.{pat_of, pats_of, pat_field_of, pat_fields_of};
-ghost use Rattle.sml_tree.specs.ExpressionViews.{typ_bind_of, con_bind_of, dat_bind_of, exn_bind_of, exp_of, exps_of, field_of, fields_of, rule_of, rules_of, dec_of, decs_of, bind_of, binds_of};
+ghost use Rattle.sml_tree.specs.BindingViews.{typ_bind_of, con_bind_of, dat_bind_of};
+ghost use Rattle.sml_tree.specs.ExpressionViews.{exn_bind_of, exp_of, exps_of, field_of, fields_of, rule_of, rules_of, dec_of, decs_of, bind_of, binds_of};
 ghost use Rattle.sml_tree.specs.SignatureViews.{sig_of, spec_of, specs_of, str_desc_of, str_descs_of, val_desc_of};
 ghost use Rattle.sml_tree.specs.StructureViews.{str_of, str_dec_of, str_decs_of, str_bind_of, str_binds_of, sig_bind_of, fun_bind_of, top_of};
 
@@ -16,7 +17,7 @@ use crate::structures::{FunBind, SigBind, StrBind, StrDec, StrExp, TopDec};
 use crate::types::{Ty, TyField};
 
 #[cycle(ty_heights)]
-fn height_of_ty(ty: &Ty) -> u32
+pub fn height_of_ty(ty: &Ty) -> u32
     ensures { result ≡ counted (ty_height (ty_of ty.now)) }
 {
     match ty {
@@ -225,11 +226,10 @@ fn height_of_dec(dec: &Dec) -> u32
             .saturating_add(1),
         Dec::Type(_, binds) => height_of_typ_binds(binds).saturating_add(1),
         Dec::Datatype(_, binds) => height_of_dat_binds(binds).saturating_add(1),
-        Dec::DatatypeWith(_, binds, types) => {
-            height_of_dat_binds(binds)
-                .max(height_of_typ_binds(types))
-                .saturating_add(1)
-        }
+        Dec::DatatypeWith(_, with) => with
+            .height
+            .max(height_of_typ_binds(&with.types))
+            .saturating_add(1),
         Dec::Sequence(_, decs) => height_of_decs(decs),
         Dec::Replication(_, _, _) | Dec::Open(_, _) | Dec::Fixity(_) => 1,
         Dec::Exception(_, binds) => height_of_exn_binds(binds).saturating_add(1),

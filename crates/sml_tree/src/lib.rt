@@ -3,11 +3,14 @@
 
 pub mod bare;
 pub mod clauses;
+mod depths;
 pub mod expressions;
 pub mod height;
 pub mod heights;
 pub mod names;
 pub mod patterns;
+mod sides;
 pub mod signatures;
 pub mod structures;
 pub mod types;
+pub mod withtype;

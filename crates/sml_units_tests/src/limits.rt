@@ -6,8 +6,9 @@ use std::test::Fail;
 
 /// A unit has 1,048,576 bytes at most. A value declaration and a constant have height 2, and each pair of brackets adds one;
 /// a structure declaration, its structure expression, its signature, the specification and the type have height 5. `let` is
-/// one higher than what it holds, an operator two, and `case` and `if` three. Last stand types that are too large.
-const LIMITS: [&str; 38] = [
+/// one higher than what it holds, an operator two, and `case` and `if` three. Behind `withtype` the right side stands in the
+/// datatype too. Last stand types that are too large.
+const LIMITS: [&str; 44] = [
     "@ @1048576@@@@",
     "val x = 1@ @1048567@@@@1 ok\n  val x : int\n",
     "val x = 1@ @1048568@@@@1 fault L6 1.1 unit too large\n",
@@ -36,6 +37,12 @@ const LIMITS: [&str; 38] = [
     "val x = 1@ : int@3999@@@@1 fault S3 1.1 tree too high\n",
     "type t = @(@3998@int@)@@1 ok\n  type t = int\n",
     "type t = @(@3999@int@)@@1 fault S3 1.1 tree too high\n",
+    "datatype t = C of v * int withtype v = @(@3997@int@)@@1 ok\n  datatype t = ?=1\n  | C : int * int -> ?=1\n  type v = int\n  con C : int * int -> ?=1\n",
+    "datatype t = C of v * int withtype v = @(@3998@int@)@@1 fault S3 1.1 tree too high\n",
+    "datatype t = C of int@ v@3999@ withtype 'a v = int@@@1 ok\n  datatype t = ?=1\n  | C : int -> ?=1\n  type 'a v = int\n  con C : int -> ?=1\n",
+    "datatype t = C of int@ v@4000@ withtype 'a v = int@@@1 fault S3 1.1 tree too high\n",
+    "structure Z :> sig end = struct datatype d = D of int@ v@1997@ withtype 'a v = 'a list list end@@@1 ok\n  structure Z\n",
+    "structure Z :> sig end = struct datatype d = D of int@ v@1998@ withtype 'a v = 'a list list end@@@1 fault S3 1.1 tree too high\n",
     "@local @2000@@in end @@1 ok\n",
     "@local @4001@@in end @@1 fault S3 1.1 tree too high\n",
     "structure X = @let in @2000@struct end@ end@@1 ok\n  structure X\n",

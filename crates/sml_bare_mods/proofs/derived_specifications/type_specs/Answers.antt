@@ -1,5 +1,5 @@
 use Rattle.std.proofs.Common.{[], map}
-use Rattle.sml_tree.specs.ExpressionViews.{typ_bind_of}
+use Rattle.sml_tree.specs.BindingViews.{typ_bind_of}
 use Rattle.sml_tree.specs.SignatureViews.{spec_of, specs_of}
 use Rattle.sml_bare_mods.proofs.DerivedHeights.{failed_types, joined_height}
 use Rattle.sml_bare_mods.proofs.derived_specifications.type_specs.Goals as goal

@@ -1,7 +1,7 @@
 use Rattle.std.proofs.Common.{map, ap, ◌∙◌}
 use Rattle.std.proofs.lemmas.List.{take_all}
 use Rattle.sml_tree.specs.TypeViews.{names_of, ty_of, tys_of, ty_field_of, ty_fields_of}
-use Rattle.sml_derived.specs.Withtype.{instance, field_instance}
+use Rattle.sml_tree.specs.Withtype.{instance, field_instance}
 use Rattle.sml_derived.proofs.Searches.{instances-map, field_instances-map}
 use Rattle.sml_derived.proofs.withtype.+instances.Goals as goal
 

@@ -1,6 +1,6 @@
 use Rattle.std.proofs.Common.{◌≡◌, map, take}
 use Rattle.sml_tree.specs.TypeViews.{names_of, ty_of, tys_of, ty_field_of}
-use Rattle.sml_derived.specs.Withtype.{instance, field_instance}
+use Rattle.sml_tree.specs.Withtype.{instance, field_instance}
 use Rattle.sml_derived.proofs.withtype.+instances.Given as goal
 
 abbrev pub invariant-instances-loop-ty : goal.invariant-instances-loop-ty

@@ -1,8 +1,8 @@
 use Rattle.std.proofs.Common.{map, ap, ◌∙◌}
 use Rattle.std.proofs.lemmas.List.{take_all}
 use Rattle.sml_tree.specs.TypeViews.{ty_of, tys_of, ty_field_of, ty_fields_of}
-use Rattle.sml_tree.specs.ExpressionViews.{typ_bind_of}
-use Rattle.sml_derived.specs.Withtype.{replaced, field_replaced}
+use Rattle.sml_tree.specs.BindingViews.{typ_bind_of}
+use Rattle.sml_tree.specs.Withtype.{replaced, field_replaced}
 use Rattle.sml_derived.proofs.Searches.{replaced-map, fields_replaced-map}
 use Rattle.sml_derived.proofs.withtype.+replaced.Goals as goal
 

@@ -1,7 +1,7 @@
 use Rattle.std.proofs.Common.{◌≡◌, map, take}
 use Rattle.sml_tree.specs.TypeViews.{ty_of, ty_field_of}
-use Rattle.sml_tree.specs.ExpressionViews.{typ_bind_of}
-use Rattle.sml_derived.specs.Withtype.{replaced, field_replaced}
+use Rattle.sml_tree.specs.BindingViews.{typ_bind_of}
+use Rattle.sml_tree.specs.Withtype.{replaced, field_replaced}
 use Rattle.sml_derived.proofs.withtype.+replaced.Given as goal
 
 abbrev pub invariant-all_replaced-loop-ty : goal.invariant-all_replaced-loop-ty

@@ -1,7 +1,7 @@
 use Rattle.std.proofs.Common.{◌≡◌, map}
 use Rattle.sml_tree.specs.Views.{ident_of}
 use Rattle.sml_tree.specs.TypeViews.{names_of, ty_of, tys_of}
-use Rattle.sml_derived.specs.Withtype.{argument}
+use Rattle.sml_tree.specs.Withtype.{argument}
 use Rattle.sml_derived.proofs.Searches.{argument_from}
 use Rattle.sml_derived.proofs.withtype.argument.Given as goal
 

@@ -1,7 +1,7 @@
 use Rattle.std.proofs.Common.{◌≡◌, map, drop}
 use Rattle.sml_tree.specs.Views.{ident_of}
-use Rattle.sml_tree.specs.ExpressionViews.{typ_bind_of}
-use Rattle.sml_derived.specs.Withtype.{bound}
+use Rattle.sml_tree.specs.BindingViews.{typ_bind_of}
+use Rattle.sml_tree.specs.Withtype.{bound}
 use Rattle.sml_derived.proofs.withtype.bound.Given as goal
 
 abbrev pub invariant-loop-bind : goal.invariant-loop-bind

@@ -1,6 +1,6 @@
 use Rattle.std.proofs.Common.{◌≡◌, map}
-use Rattle.sml_tree.specs.ExpressionViews.{typ_bind_of, con_bind_of}
-use Rattle.sml_derived.specs.Withtype.{con_replaced}
+use Rattle.sml_tree.specs.BindingViews.{typ_bind_of, con_bind_of}
+use Rattle.sml_tree.specs.Withtype.{con_replaced}
 use Rattle.sml_derived.proofs.withtype.dat_replaced.Given as goal
 
 abbrev pub invariant-loop-constructor : goal.invariant-loop-constructor

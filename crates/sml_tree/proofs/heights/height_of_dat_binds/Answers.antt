@@ -1,7 +1,7 @@
 use Rattle.std.proofs.Common.{map, ap, ◌∙◌}
 use Rattle.sml_tree.specs.Height.{counted}
 use Rattle.sml_tree.specs.Heights.{highest, con_bind_height}
-use Rattle.sml_tree.specs.ExpressionViews.{con_bind_of}
+use Rattle.sml_tree.specs.BindingViews.{con_bind_of}
 use Rattle.sml_tree.proofs.HeightLists.{dat_binds_on}
 use Rattle.sml_tree.proofs.heights.height_of_dat_binds.Goals as goal
 

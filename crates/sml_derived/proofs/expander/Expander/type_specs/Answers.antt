@@ -1,4 +1,4 @@
-use Rattle.sml_tree.specs.ExpressionViews.{typ_bind_of}
+use Rattle.sml_tree.specs.BindingViews.{typ_bind_of}
 use Rattle.sml_tree.specs.SignatureViews.{spec_of}
 use Rattle.sml_derived.proofs.Lists.{next_type_spec}
 use Rattle.sml_derived.proofs.expander.Expander.type_specs.Goals as goal

@@ -1,5 +1,5 @@
 use Rattle.std.proofs.Common.{◌≡◌, map}
-use Rattle.sml_tree.specs.ExpressionViews.{typ_bind_of}
+use Rattle.sml_tree.specs.BindingViews.{typ_bind_of}
 use Rattle.sml_tree.specs.SignatureViews.{spec_of, specs_of}
 use Rattle.sml_derived.specs.Derived.{type_specs}
 use Rattle.sml_derived.proofs.expander.Expander.type_specs.Given as goal

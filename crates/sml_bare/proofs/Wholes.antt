@@ -1,8 +1,7 @@
 -- A step over the nodes of a unit, and the declarations where it ends.
-use Rattle.std.proofs.Common.{◌≡◌, ℕ, suc, ◌+◌, ◌-◌, ◌<◌, ◌≤◌, List, [], ◌∷◌, ◌++◌, Option, Some, None, Bool, true, false, map, length, drop, get_or, refl, sym, ap, ◌∙◌, arith, append-nil}
+use Rattle.std.proofs.Common.{◌≡◌, ℕ, suc, ◌+◌, ◌<◌, List, [], ◌∷◌, ◌++◌, Option, Some, None, Bool, true, false, map, length, drop, get_or, refl, sym, ap, ◌∙◌, arith, append-nil}
 use Rattle.std.specs.List.{list_all, before_first}
 use Rattle.std.specs.Option.{is_some}
-use Rattle.std.proofs.Math.ListN.{drop_of_length-le}
 use Rattle.std.proofs.lemmas.List.{drop_more, drop-drop}
 use Rattle.std.proofs.lemmas.Bool.{cond-true, cond-false, leb-false}
 use Rattle.sml_lex.specs.declared.fault.Place.{Place}

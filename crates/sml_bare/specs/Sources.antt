@@ -1,9 +1,8 @@
 -- The program's declarations before they are made, as those of the definitions, and what the program knows of them.
-use Rattle.std.specs.Prelude.{◌≡◌, ℕ, suc, ◌+◌, ◌==◌, List, [], ◌∷◌, Option, Some, None, map, slice_get, if◌then◌else◌}
+use Rattle.std.specs.Prelude.{◌≡◌, ℕ, suc, ◌+◌, ◌==◌, List, [], ◌∷◌, Option, Some, None, get_or, slice_get, if◌then◌else◌}
 use Rattle.sml_lex.specs.declared.fault.Place.{Place}
 use Rattle.sml_lex.specs.declared.token.Token.{Token}
-use Rattle.indexmap.specs.IndexMap.{IndexMap, get}
-use Rattle.sml_reach.specs.Fits.{Fit, fit_of}
+use Rattle.sml_reach.specs.Fits.{Fit}
 use Rattle.sml_bare.specs.Derivations.{place_at}
 
 -- the first sequence that begins at a token, by its number, where so many stand before these
@@ -12,8 +11,8 @@ fit_from i [] token = None
 fit_from i (fit ∷ fits) token = if fit.token == token then Some i else fit_from (suc i) fits token
 
 -- the sequences are known by their first tokens, counted from that of the declaration
-abbrev pub KnowsFits : {S : Type 0} → ℕ → ℕ → List Fit → IndexMap ℕ ℕ S → Type 0
-KnowsFits i begun fits table = (n : ℕ) → get ◌==◌ table n ≡ fit_from i fits (begun + n)
+abbrev pub KnowsFits : ℕ → ℕ → List Fit → List (Option ℕ) → Type 0
+KnowsFits i begun fits table = (n : ℕ) → get_or table n None ≡ fit_from i fits (begun + n)
 
 -- the places are those of a declaration's first tokens
 abbrev pub ArePlaced : List ℕ → List Token → List Place → Type 0

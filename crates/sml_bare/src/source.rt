@@ -1,14 +1,12 @@
 //! A declaration before it is made: its tokens with their places, and what its sequences stand for.
 
-ghost use Rattle.std.specs.Prelude.{◌≡◌, ℕ, ◌+◌, ◌==◌, Some, map, if◌then◌else◌, IfOk, OnOk};
-ghost use Rattle.indexmap.specs.IndexMap.{get};
+ghost use Rattle.std.specs.Prelude.{◌≡◌, ℕ, ◌+◌, ◌≤◌, ◌==◌, Some, None, get_or, length, map, if◌then◌else◌, IfOk, OnOk};
 ghost use Rattle.std.specs.Option.{option_map};
 ghost use Rattle.sml_fixity.specs.Shapes.{shape_of};
 ghost use Rattle.sml_reach.specs.Fits.{fit_of};
 ghost use Rattle.sml_bare.specs.Derivations as spec;
 ghost use Rattle.sml_bare.specs.Sources.{fit_from, KnowsFits, ArePlaced};
 
-use indexmap::IndexMap;
 use sml_fixity::shape::Shape;
 use sml_lex::fault::{Memory, Place};
 use sml_lex::token::Token;
@@ -16,27 +14,44 @@ use sml_reach::fitted::Fit;
 use sml_reach::place::{Walk, place_between, start_of};
 use std::alloc::Global;
 
+/// Makes the table so long at least.
+fn lengthen(table: &mut Vec<Option<usize>>, count: usize) -> Result<(), Memory>
+    ensures long { OnOk result (count ≤ length table.new.items) }
+    ensures same { OnOk result ((n : ℕ) → get_or table.new.items n None ≡ get_or table.old.items n None) }
+{
+    for _index in table.len()..count {
+        table.push(None)?;
+    }
+    Ok(())
+}
+
 /// Notes the number of a sequence by its first token, counted from that of the declaration.
 fn note(
-    table: &mut IndexMap<usize, usize>,
+    table: &mut Vec<Option<usize>>,
     begun: usize,
     token: usize,
     number: usize,
 ) -> Result<(), Memory>
-    ensures { OnOk result ((n : ℕ) → get ◌==◌ table.new n ≡ (if token == begun + n then Some number else get ◌==◌ table.old n)) }
+    ensures { OnOk result ((n : ℕ) → get_or table.new.items n None ≡ (if token == begun + n then Some number else get_or table.old.items n None)) }
 {
     if token < begun {
         return Ok(());
     }
-    table.insert(token - begun, number)?;
+    let n = token - begun;
+    lengthen(table, n)?;
+    if table.len() == n {
+        table.push(Some(number))?;
+    } else {
+        table[n] = Some(number);
+    }
     Ok(())
 }
 
-/// The sequences of a declaration, by their first tokens, counted from that of the declaration.
-fn by_token(alloc: Global, begun: usize, fits: &[Fit]) -> Result<IndexMap<usize, usize>, Memory>
-    ensures { IfOk result (λ table. KnowsFits 0 begun (map fit_of fits.now) table) }
+/// The numbers of a declaration's sequences by their first tokens, counted from that of the declaration.
+fn by_token(alloc: Global, begun: usize, fits: &[Fit]) -> Result<Vec<Option<usize>>, Memory>
+    ensures { IfOk result (λ table. KnowsFits 0 begun (map fit_of fits.now) table.items) }
 {
-    let mut table = IndexMap::new(alloc);
+    let mut table = Vec::new(alloc);
     for i in (0..fits.len()).rev() {
         note(&mut table, begun, fits[i].token, i)?;
     }
@@ -56,7 +71,7 @@ fn places(alloc: Global, unit: &[u8], tokens: &[Token], count: usize) -> Result<
 }
 
 /// A declaration before it is made: the bytes of its unit, the tokens from its first one on, the number of that in the
-/// unit, what its sequences stand for, the places of its tokens, and its sequences by their first tokens.
+/// unit, what its sequences stand for, the places of its tokens, and the numbers of its sequences by their first tokens.
 #[derive(Drop)]
 pub struct Source<'a> {
     pub unit: &'a [u8],
@@ -64,9 +79,9 @@ pub struct Source<'a> {
     pub begun: usize,
     fits: &'a [Fit],
     places: Vec<Place>,
-    table: IndexMap<usize, usize>,
+    table: Vec<Option<usize>>,
     ghost placed: { ArePlaced unit.now tokens.now places.items },
-    ghost known: { KnowsFits 0 begun (map fit_of fits.now) table },
+    ghost known: { KnowsFits 0 begun (map fit_of fits.now) table.items },
 }
 
 impl<'a> Source<'a> {
@@ -108,8 +123,8 @@ impl<'a> Source<'a> {
     fn sequence(&self, n: usize) -> Option<usize>
         ensures { result ≡ fit_from 0 (map fit_of self.now.fits.now) (self.now.begun + n) }
     {
-        match self.table.get(&n) {
-            Some(index) => Some(*index),
+        match self.table.get(n) {
+            Some(number) => *number,
             None => None,
         }
     }

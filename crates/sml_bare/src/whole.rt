@@ -198,6 +198,18 @@ fn fits_at<'a>(fitted: &'a [Fitted], count: usize) -> &'a [Fit]
     }
 }
 
+/// How many tokens these nodes have, by which the places are chosen that are made beforehand.
+fn tokens_of(nodes: &[Node]) -> usize {
+    let mut count: usize = 0;
+    for node in nodes {
+        match *node {
+            Node::Leaf => count = count.saturating_add(1),
+            Node::Inner(_) => {}
+        }
+    }
+    count
+}
+
 /// The declaration of these nodes behind so many tokens, and behind so many declarations of the unit.
 fn declared_at(
     alloc: Global,
@@ -213,7 +225,8 @@ fn declared_at(
     ensures { IfOk result (λ top. option_map top_of top ≡ spec.bare_dec_at unit.now tokens.now first nodes.now (drop count (map fitted_of fitted.now))) }
 {
     let fits = fits_at(fitted, count);
-    let source = Source::new(alloc, unit, behind(tokens, first), first, fits, nodes.len())?;
+    let placed = tokens_of(nodes).saturating_add(1);
+    let source = Source::new(alloc, unit, behind(tokens, first), first, fits, placed)?;
     declared(alloc, &source, names, expander, nodes)
 }
 

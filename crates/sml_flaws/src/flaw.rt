@@ -1,7 +1,7 @@
 //! The first fault of what a declaration binds: names that are bound twice or can't be bound, clauses that don't
 //! agree, and real constants in patterns.
 
-ghost use Rattle.std.specs.Prelude.{◌≡◌, ◌≤◌, ℕ, List, [], ◌∷◌, ◌++◌, Option, map, length, IfOk, OnOk};
+ghost use Rattle.std.specs.Prelude.{◌≡◌, ◌≤◌, ℕ, List, [], ◌∷◌, ◌++◌, Option, None, false, map, length, IfOk, OnOk};
 ghost use Rattle.std.specs.List.{cons_option};
 ghost use Rattle.sml_flaws.specs.declared.mark.Mark.{Mark};
 ghost use Rattle.sml_reach.specs.Events.{text_at};
@@ -211,6 +211,28 @@ fn scoped_at<'a>(
     };
     let here = passed.is_scoped(scopes, node, listed.token)?;
     Ok(flaw_if(here, listed.token, Code::G3))
+}
+
+/// Whether a mark is a variable in the list of a value declaration.
+fn is_listed(mark: Mark) -> bool
+    ensures { result ≡ false → (text : ℕ → Id) (ends : List ℕ) (all : List Mark) → spec.scoped_at text ends all mark ≡ None }
+{
+    match mark {
+        Mark::Listed(_) => true,
+        _ => false,
+    }
+}
+
+/// Whether some value declaration lists a variable.
+fn are_listed(marks: &[Mark]) -> bool
+    ensures { result ≡ false → (text : ℕ → Id) (ends : List ℕ) (all : List Mark) → spec.scoped_of text ends all marks.now ≡ [] }
+{
+    for i in (0..marks.len()).rev() {
+        if is_listed(marks[i]) {
+            return true;
+        }
+    }
+    false
 }
 
 impl Seen {
@@ -442,6 +464,8 @@ pub fn first_flaw(
     };
     let marks = marks(alloc, nodes, begun)?;
     let mut flaws = judge.flaws(&marks)?;
-    judge.push_scoped(&mut flaws, &ends(alloc, nodes)?, &marks)?;
+    if are_listed(&marks) {
+        judge.push_scoped(&mut flaws, &ends(alloc, nodes)?, &marks)?;
+    }
     Ok(first_of(&flaws))
 }

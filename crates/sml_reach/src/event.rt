@@ -1,6 +1,6 @@
 //! What happens to fixities, and which sequences stand where.
 
-ghost use Rattle.std.specs.Prelude.{◌≡◌, ◌+◌, List, min, map, reverse, take, drop, length, get_or, if◌then◌else◌, slice_get, IfOk, OnOk};
+ghost use Rattle.std.specs.Prelude.{◌≡◌, ◌+◌, ◌∷◌, List, min, map, reverse, take, drop, length, get_or, if◌then◌else◌, slice_get, IfOk, OnOk};
 ghost use Rattle.std.specs.List.{cons_option};
 ghost use Rattle.std.specs.Option.{option_map};
 ghost use Rattle.sml_read.specs.Grammar.{right_side};
@@ -9,12 +9,12 @@ ghost use Rattle.sml_read.specs.declared.grammar.Node.TheVariants.{Inner};
 ghost use Rattle.sml_reach.specs.Senses as senses;
 ghost use Rattle.sml_reach.specs.Founds as spec;
 ghost use Rattle.sml_fixity.specs.ItemNames.{name_of};
-ghost use Rattle.sml_reach.specs.Founds.{atom_of, atoms_of, found_of, nothing, sequence_in, untyped, left};
+ghost use Rattle.sml_reach.specs.Founds.{atom_of, atoms_of, found_by, found_of, nothing, sequence_in, untyped, left};
 ghost use Rattle.sml_reach.specs.Events.{seen, expression, pattern, head, text_at, found_at, founds_from, scope_event, event_of, event_from, events_of};
 
 use crate::found::{Atom, Finder, Found, Parts};
 use crate::names::Names;
-use crate::sense::{Deed, closes, deed_of, opens, sense_of};
+use crate::sense::{Deed, Sense, closes, deed_of, opens, sense_of};
 use sml_fixity::scopes::Directive;
 use sml_fixity::sequences::Item;
 use sml_lex::fault::Memory;
@@ -223,7 +223,54 @@ fn push_some(events: &mut Vec<Event>, event: Option<Event>) -> Result<(), Memory
     Ok(())
 }
 
-/// The event at a phrase of this rule with this first token, before what is found behind it.
+/// Takes so many parts off.
+fn skip_parts(founds: &mut Vec<Found>, count: usize)
+    ensures { map found_of (reverse founds.new.items) ≡ drop count (map found_of (reverse founds.old.items)) }
+{
+    for index in 0..count {
+        pop_part(founds, count, index);
+    }
+}
+
+/// Takes so many parts off, and answers the first.
+fn first_part(founds: &mut Vec<Found>, count: usize) -> Found
+    ensures value { found_of result ≡ get_or (take count (map found_of (reverse founds.old.items))) 0 nothing }
+    ensures rest { map found_of (reverse founds.new.items) ≡ drop count (map found_of (reverse founds.old.items)) }
+{
+    let first = pop_part(founds, count, 0);
+    for index in 1..count {
+        pop_part(founds, count, index);
+    }
+    first
+}
+
+/// The event at a phrase with so many parts that is this and does this.
+fn enter_other(
+    finder: &Finder,
+    names: &mut Names,
+    founds: &mut Vec<Found>,
+    count: usize,
+    sense: Sense,
+    deed: Deed,
+    token: usize,
+) -> Result<Option<Event>, Memory>
+    ensures event { let parts = take count (map found_of (reverse founds.old.items)) in
+        let text = text_at finder.now.unit.now finder.now.tokens.now in
+        IfOk result (λ event. option_map seen event ≡ event_of deed token (found_by text token sense (get_or parts 0 nothing) (get_or parts 1 nothing) (get_or parts 2 nothing) (get_or parts 3 nothing))) }
+    ensures founds { let old = map found_of (reverse founds.old.items) in
+        let parts = take count old in
+        let text = text_at finder.now.unit.now finder.now.tokens.now in
+        OnOk result (map found_of (reverse founds.new.items) ≡ left deed (found_by text token sense (get_or parts 0 nothing) (get_or parts 1 nothing) (get_or parts 2 nothing) (get_or parts 3 nothing)) ∷ drop count old) }
+{
+    let parts = pop_parts(founds, count);
+    let found = finder.find(names, token, sense, parts)?;
+    let (event, left) = finish(finder.alloc, deed, token, found)?;
+    founds.push(left)?;
+    Ok(event)
+}
+
+/// The event at a phrase of this rule with this first token, before what is found behind it. Most phrases are nothing to a
+/// sequence, or what their first part is.
 fn enter_phrase(
     finder: &Finder,
     names: &mut Names,
@@ -238,11 +285,20 @@ fn enter_phrase(
         let text = text_at finder.now.unit.now finder.now.tokens.now in
         OnOk result (map found_of (reverse founds.new.items) ≡ founds_from text (Inner rule) token old) }
 {
-    let parts = pop_parts(founds, backwards(rule).len());
-    let found = finder.find(names, token, sense_of(rule), parts)?;
-    let (event, left) = finish(finder.alloc, deed_of(rule), token, found)?;
-    founds.push(left)?;
-    Ok(event)
+    let count = backwards(rule).len();
+    match (sense_of(rule), deed_of(rule)) {
+        (Sense::Nothing, Deed::Nothing) => {
+            skip_parts(founds, count);
+            founds.push(Found::Nothing)?;
+            Ok(None)
+        }
+        (Sense::Passed, Deed::Nothing) => {
+            let first = first_part(founds, count);
+            founds.push(first)?;
+            Ok(None)
+        }
+        (sense, deed) => enter_other(finder, names, founds, count, sense, deed, token),
+    }
 }
 
 /// A node with this first token: its event goes to the others, and what it is to what is found behind it.

@@ -6,6 +6,6 @@ use Rattle.sml_bare.proofs.source.by_token.Given as goal
 
 abbrev pub invariant-loop-i : goal.invariant-loop-i
 invariant-loop-i l = record {
-  kept : KnowsFits l.i l.begun (map fit_of (drop l.i l.fits)) l.table;
+  kept : KnowsFits l.i l.begun (map fit_of (drop l.i l.fits)) l.table.items;
   within : l.i ≤ length l.fits;
 }

@@ -11,7 +11,7 @@ use crate::known::{
 use sml_lex::fault::Memory;
 use sml_objects::objects::{MlType, Scheme};
 use sml_solve::class::Class;
-use sml_solve::demand::Refusal;
+use sml_solve::demand::{Halt, Refusal};
 use sml_solve::layer::Bound;
 use sml_solve::solver::Solver;
 use sml_solve::variable::Variable;
@@ -20,7 +20,7 @@ use std::alloc::Global;
 use std::rc::Rc;
 
 /// Makes the variables of a type known.
-fn know(solver: &mut Solver, ty: &MlType) -> Result<(), Refusal>
+fn know(solver: &mut Solver, ty: &MlType) -> Result<(), Halt>
     ensures { OnOk result (IsOf solver.new (type_of ty.now)) }
 {
     if is_over(ty, solver.unknowns()) {
@@ -30,12 +30,12 @@ fn know(solver: &mut Solver, ty: &MlType) -> Result<(), Refusal>
     if is_over(ty, solver.unknowns()) {
         Ok(())
     } else {
-        Err(Refusal::Memory)
+        Err(Halt::Memory)
     }
 }
 
 /// Makes numbers those of unknowns.
-fn know_numbers(solver: &mut Solver, numbers: &[u32]) -> Result<(), Refusal> {
+fn know_numbers(solver: &mut Solver, numbers: &[u32]) -> Result<(), Halt> {
     for number in numbers {
         make_known(solver, *number)?;
     }
@@ -104,12 +104,12 @@ pub fn ask_labels(solver: &mut Solver, ty: &MlType) -> Result<(), Refusal> {
 }
 
 /// The body of a scheme with new unknowns for its variables, which follow those before, in the order of the variables.
-pub fn ask_instance(solver: &mut Solver, scheme: &Scheme) -> Result<Rc<MlType>, Refusal> {
+pub fn ask_instance(solver: &mut Solver, scheme: &Scheme) -> Result<Rc<MlType>, Halt> {
     if !is_body_over(&scheme.body, scheme.variables.len(), solver.unknowns()) {
         make_all_known(solver, &scheme.body)?;
     }
     if !is_body_over(&scheme.body, scheme.variables.len(), solver.unknowns()) {
-        return Err(Refusal::Memory);
+        return Err(Halt::Memory);
     }
     solver.instance(scheme)
 }
@@ -132,11 +132,11 @@ pub fn ask_general(
 }
 
 /// A flag for each unknown that the types of the first unknowns and of others fix.
-pub fn ask_fixed(solver: &mut Solver, first: usize, others: &[u32]) -> Result<Vec<bool>, Refusal> {
+pub fn ask_fixed(solver: &mut Solver, first: usize, others: &[u32]) -> Result<Vec<bool>, Halt> {
     know_numbers(solver, others)?;
     let count = solver.unknowns();
     if !are_unknowns(others, count) {
-        return Err(Refusal::Memory);
+        return Err(Halt::Memory);
     }
     solver.fixed_by(first.min(count), others)
 }
@@ -146,7 +146,7 @@ pub fn ask_reading(
     solver: &mut Solver,
     ty: &MlType,
     limit: u32,
-) -> Result<Option<Rc<MlType>>, Refusal> {
+) -> Result<Option<Rc<MlType>>, Halt> {
     know(solver, ty)?;
     solver.reading(ty, limit.min(u32::MAX - 1))
 }
@@ -160,7 +160,7 @@ pub fn ask_scheme(
     fixed: &[bool],
     expansive: bool,
     limit: u32,
-) -> Result<Option<Scheme>, Refusal> {
+) -> Result<Option<Scheme>, Halt> {
     know(solver, ty)?;
     let count = solver.unknowns();
     let limit = limit.min(u32::MAX - 1);
@@ -169,7 +169,7 @@ pub fn ask_scheme(
     }
     match padded(alloc, fixed, count) {
         Ok(flags) => solver.generalise(ty, &flags, expansive, limit),
-        Err(memory) => Err(Refusal::from(memory)),
+        Err(memory) => Err(Halt::from(memory)),
     }
 }
 

@@ -7,7 +7,7 @@ ghost use Rattle.sml_objects.specs.Views.{type_of};
 ghost use Rattle.sml_graph.specs.Interned.{IsOver, IsBodyOver, AreBodiesOver, demanded};
 
 use sml_objects::objects::MlType;
-use sml_solve::demand::Refusal;
+use sml_solve::demand::Halt;
 use sml_solve::solver::Solver;
 use sml_tree::bare::Ident;
 use std::rc::Rc;
@@ -71,7 +71,7 @@ pub(crate) fn are_unknowns(numbers: &[u32], count: usize) -> bool
 }
 
 /// Makes unknowns until each number up to this one is that of one.
-pub(crate) fn make_known(solver: &mut Solver, number: u32) -> Result<(), Refusal> {
+pub(crate) fn make_known(solver: &mut Solver, number: u32) -> Result<(), Halt> {
     for _ in solver.unknowns()..=number as usize {
         solver.fresh()?;
     }
@@ -80,7 +80,7 @@ pub(crate) fn make_known(solver: &mut Solver, number: u32) -> Result<(), Refusal
 
 /// Makes unknowns until each free variable of a type is one.
 #[cycle(make)]
-pub(crate) fn make_all_known(solver: &mut Solver, ty: &MlType) -> Result<(), Refusal> {
+pub(crate) fn make_all_known(solver: &mut Solver, ty: &MlType) -> Result<(), Halt> {
     match ty {
         MlType::Bound(_) => Ok(()),
         MlType::Free(unknown) => make_known(solver, *unknown),
@@ -94,7 +94,7 @@ pub(crate) fn make_all_known(solver: &mut Solver, ty: &MlType) -> Result<(), Ref
 }
 
 #[cycle(make)]
-fn make_parts_known(solver: &mut Solver, parts: &[Rc<MlType>]) -> Result<(), Refusal> {
+fn make_parts_known(solver: &mut Solver, parts: &[Rc<MlType>]) -> Result<(), Halt> {
     for part in parts {
         make_all_known(solver, part)?;
     }

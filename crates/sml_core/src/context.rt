@@ -46,7 +46,7 @@ pub struct Context<'a> {
 }
 
 /// The fault of a demand that was refused there.
-pub fn refused(refusal: Refusal, place: Place) -> CoreFault {
+pub(crate) fn refused(refusal: Refusal, place: Place) -> CoreFault {
     match refusal.code() {
         Some(code) => plain_fault(code, place),
         None => CoreFault::Memory,
@@ -253,9 +253,8 @@ impl<'a> Context<'a> {
         value: &Value,
     ) -> Result<Rc<MlType>, CoreFault> {
         let from = self.solver.unknowns();
-        let ty = match ask_instance(&mut self.solver, &value.scheme) {
-            Ok(ty) => ty,
-            Err(refusal) => return Err(refused(refusal, place)),
+        let Ok(ty) = ask_instance(&mut self.solver, &value.scheme) else {
+            return Err(CoreFault::Memory);
         };
         self.ask_attributes(place, &value.scheme, from)?;
         if let Status::Overloaded(overload) = value.status {

@@ -184,8 +184,8 @@ impl Context<'_> {
         place: Place,
         declaration: Declaration,
     ) -> Result<(), CoreFault> {
-        if let Err(refusal) = self.solver.settle(declaration.unknowns) {
-            return Err(refused(refusal, place));
+        if let Err(_) = self.solver.settle(declaration.unknowns) {
+            return Err(CoreFault::Memory);
         }
         self.end_rows(declaration.rows)?;
         if !declaration.scoped.is_empty() {
@@ -245,7 +245,7 @@ impl Context<'_> {
         match ask_reading(&mut self.solver, ty, GREATEST_SIZE) {
             Ok(Some(ty)) => Ok(ty),
             Ok(None) => Err(plain_fault(Code::E7, place)),
-            Err(refusal) => Err(refused(refusal, place)),
+            Err(_) => Err(CoreFault::Memory),
         }
     }
 
@@ -285,7 +285,7 @@ impl Context<'_> {
         }
         let flags = match fixed.take() {
             Some(flags) => flags,
-            None => self.fixed(place, first)?,
+            None => self.fixed(first)?,
         };
         let scheme = self.closed(place, &reading, &flags, is_expansive)?;
         *fixed = Some(flags);
@@ -308,10 +308,10 @@ impl Context<'_> {
     }
 
     /// Which unknowns the context of a declaration fixes, which begins behind the first ones.
-    fn fixed(&mut self, place: Place, first: usize) -> Result<Vec<bool>, CoreFault> {
+    fn fixed(&mut self, first: usize) -> Result<Vec<bool>, CoreFault> {
         match ask_fixed(&mut self.solver, first, &[]) {
             Ok(flags) => Ok(flags),
-            Err(refusal) => Err(refused(refusal, place)),
+            Err(_) => Err(CoreFault::Memory),
         }
     }
 
@@ -334,7 +334,7 @@ impl Context<'_> {
         let scheme = match found {
             Ok(Some(scheme)) => scheme,
             Ok(None) => return Err(plain_fault(Code::E7, place)),
-            Err(refusal) => return Err(refused(refusal, place)),
+            Err(_) => return Err(CoreFault::Memory),
         };
         if !is_ground(&scheme.body) {
             self.is_open = true;

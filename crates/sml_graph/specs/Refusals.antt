@@ -1,8 +1,10 @@
--- The faults of refusals.
+-- The faults of refusals, and the refusals that types have no part in.
 use Rattle.std.specs.Prelude.{Option, Some, None}
 use Rattle.sml_lex.specs.declared.fault.Code.{Code}
 use Rattle.sml_lex.specs.declared.fault.Code.TheVariants.{U6}
 use Rattle.sml_layers.specs.Layers.{code_of}
+use Rattle.sml_graph.specs.declared.demand.Halt.{Halt}
+use Rattle.sml_graph.specs.declared.demand.Halt.TheVariants as H
 use Rattle.sml_graph.specs.declared.demand.Refusal.{Refusal}
 use Rattle.sml_graph.specs.declared.demand.Refusal.TheVariants.{Unmet, Labels, Memory, Spent}
 
@@ -12,3 +14,7 @@ refusal_code (Unmet l) = Some (code_of l)
 refusal_code Labels = Some U6
 refusal_code Memory = None
 refusal_code Spent = None
+
+abbrev pub refusal_of : Halt → Refusal
+refusal_of H.Memory = Memory
+refusal_of H.Spent = Spent

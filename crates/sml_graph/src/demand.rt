@@ -1,8 +1,8 @@
-//! What may be asked of a type, and why a demand is refused.
+//! What may be asked of a type, and why a call is refused.
 
 ghost use Rattle.std.specs.Prelude.{◌≡◌};
 ghost use Rattle.sml_graph.specs.Asked.{limit_of};
-ghost use Rattle.sml_graph.specs.Refusals.{refusal_code};
+ghost use Rattle.sml_graph.specs.Refusals.{refusal_code, refusal_of};
 
 use crate::limits::Limit;
 use crate::variables::Variables;
@@ -35,6 +35,36 @@ pub enum Refusal {
     Memory,
     /// An earlier call was refused.
     Spent,
+}
+
+/// Why a call of the solver that types can always meet is refused. After any refusal the solver is spent.
+#[derive(Clone, Copy, PartialEq, Eq)]
+pub enum Halt {
+    /// A growth was refused.
+    Memory,
+    /// An earlier call was refused.
+    Spent,
+}
+
+impl From<Memory> for Halt {
+    ghost use Rattle.sml_graph.specs.declared.demand.Halt.TheVariants.{Memory};
+
+    ghost from_gives = { λ _ halt. halt ≡ Memory };
+
+    fn from(_memory: Memory) -> Halt {
+        Halt::Memory
+    }
+}
+
+impl From<Halt> for Refusal {
+    ghost from_gives = { λ halt refusal. refusal ≡ refusal_of halt };
+
+    fn from(halt: Halt) -> Refusal {
+        match halt {
+            Halt::Memory => Refusal::Memory,
+            Halt::Spent => Refusal::Spent,
+        }
+    }
 }
 
 impl From<Memory> for Refusal {

@@ -2,7 +2,7 @@
 
 use indexmap::{IndexMap, IndexSet};
 use sml_asks::asks::ask_reading;
-use sml_core::context::{Context, refused};
+use sml_core::context::Context;
 use sml_envs::mapping::{Image, Mapping, mapped_env};
 use sml_envs::objects::Env;
 use sml_envs::sizes::GREATEST_SIZE;
@@ -95,7 +95,7 @@ fn reading(context: &mut Context, unknown: u32, place: Place) -> Result<Rc<MlTyp
             }
         }
         Ok(None) => Err(plain_fault(Code::E7, place)),
-        Err(refusal) => Err(refused(refusal, place)),
+        Err(_) => Err(CoreFault::Memory),
     }
 }
 

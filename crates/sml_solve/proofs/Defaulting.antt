@@ -1,6 +1,5 @@
 -- Overloaded unknowns that become `int`.
 use Rattle.std.proofs.Common.{◌≡◌, ◌≢◌, ℕ, zero, suc, ◌+◌, ◌<◌, ◌≤◌, ◌⊎◌, inl, inr, Bool, true, false, Option, Some, None, List, [], ◌∷◌, length, map, get_or, sym, ◌∙◌, ap, subst, refl, arith}
-use Rattle.std.specs.Prelude.{Result, Ok, Err, OnOk}
 use Rattle.std.proofs.lemmas.Bool.{cases_lt}
 use Rattle.sml_objects.specs.Names as N
 use Rattle.sml_objects.specs.Initial.{Name, initial}
@@ -318,7 +317,3 @@ int-over n = tt
 pub not-unmet : (l : Layer) (s : Asked) (d : Demand) → IsFirstUnmet l s d → CanMeet l s d → ⊥
 unfolding IsFirstUnmet
 not-unmet l s d f c = f.0 c
-
-pub on_ok : {A E : Type 0} (r : Result A E) (P Q : Type 0) → OnOk r P → (P → Q) → OnOk r Q
-on_ok (Ok a) P Q p f = f p
-on_ok (Err e) P Q p f = tt

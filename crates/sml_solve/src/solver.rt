@@ -19,6 +19,7 @@ ghost use Rattle.sml_layers.specs.declared.layer.Layer.TheVariants.{Finiteness, 
 ghost use Rattle.sml_layers.specs.Worlds.{finite};
 ghost use Rattle.sml_graph.specs.Worlds.{Assignment};
 ghost use Rattle.sml_graph.specs.Asked.{Asked, asked_of, equal, has_fields, asks, count, IsOf, IsSchemeOf, Adds, CanMeet, IsFirstUnmet, IsMet, Permits, PermitsSame};
+ghost use Rattle.sml_solve.specs.Calls.{Keeps, Returns};
 ghost use Rattle.sml_solve.specs.Clashes.{IsUnmetWhereItClashes};
 ghost use Rattle.sml_demands.specs.Counted.{IsSizeUpTo};
 ghost use Rattle.sml_demands.specs.Fixed.{AreFixed, IsFixed};
@@ -37,7 +38,7 @@ use sml_demands::reach::{has_flag, marks_from, places};
 use sml_demands::reading::type_up_to;
 use sml_demands::settling::{has_labels, has_several_names};
 use sml_graph::change::Change;
-use sml_graph::demand::{Ask, Refusal};
+use sml_graph::demand::{Ask, Halt, Refusal};
 use sml_graph::graph::{Graph, add, fill};
 use sml_graph::node::Node;
 use sml_graph::orders::MIDDLE;
@@ -103,36 +104,31 @@ impl Solver {
     }
 
     /// The number of a new unknown, of which nothing is asked. A number that no `u32` holds counts as want of memory.
-    pub fn fresh(&mut self) -> Result<u32, Refusal>
+    pub fn fresh(&mut self) -> Result<u32, Halt>
         ensures new { IfOk result (λ unknown. unknown ≡ count self.old) }
         ensures count { OnOk result (count self.new ≡ count self.old + 1) }
         ensures same { OnOk result (PermitsSame self.old self.new) }
-        ensures kept { OnOk result (self.new.spent ≡ false) }
-        ensures unit { self.new.unit ≡ self.old.unit }
-        ensures err { OnErr result (self.new.spent ≡ true) }
-        ensures unmet { (l : Layer) → result ≡ Err (Refusal.Unmet l) → ⊥ }
-        ensures spent { result ≡ Err Refusal.Spent ↔ self.old.spent ≡ true }
-        ensures labels { result ≡ Err Refusal.Labels → ⊥ }
+        ensures call { Returns self.old self.new result Halt.Spent }
     {
         if self.spent {
-            return Err(Refusal::Spent);
+            return Err(Halt::Spent);
         }
         self.spent = true;
         let at = self.graph.nodes.len();
         let Ok(number) = u32::try_from(self.unknowns.len()) else {
-            return Err(Refusal::Memory);
+            return Err(Halt::Memory);
         };
         if let Err(_) = self.graph.nodes.push(Node::Unknown) {
-            return Err(Refusal::Memory);
+            return Err(Halt::Memory);
         }
         if let Err(_) = fill(&mut self.graph) {
-            return Err(Refusal::Memory);
+            return Err(Halt::Memory);
         }
         if let Err(_) = self.unknowns.push(at) {
-            return Err(Refusal::Memory);
+            return Err(Halt::Memory);
         }
         if let Err(_) = begin_level(&mut self.levels, at, number) {
-            return Err(Refusal::Memory);
+            return Err(Halt::Memory);
         }
         self.spent = false;
         Ok(number)
@@ -141,61 +137,49 @@ impl Solver {
     /// The body of a scheme with new unknowns for its variables (the Definition, section 4.5), of which nothing is
     /// asked. The new unknowns follow those before, in the order of the variables. A number that no `u32` holds counts as
     /// want of memory.
-    pub fn instance(&mut self, scheme: &Scheme) -> Result<Rc<MlType>, Refusal>
+    pub fn instance(&mut self, scheme: &Scheme) -> Result<Rc<MlType>, Halt>
         requires { IsSchemeOf self.old (scheme_of scheme.now) }
         ensures ty { IfOk result (λ t. type_of t.value ≡ instance_from (count self.old) (scheme_of scheme.now).body) }
         ensures known { IfOk result (λ t. IsOf self.new (type_of t.value)) }
         ensures count { OnOk result (count self.new ≡ count self.old + length (scheme_of scheme.now).variables) }
         ensures same { OnOk result (PermitsSame self.old self.new) }
-        ensures kept { OnOk result (self.new.spent ≡ false) }
-        ensures unit { self.new.unit ≡ self.old.unit }
-        ensures err { OnErr result (self.new.spent ≡ true) }
-        ensures unmet { (l : Layer) → result ≡ Err (Refusal.Unmet l) → ⊥ }
-        ensures spent { result ≡ Err Refusal.Spent ↔ self.old.spent ≡ true }
-        ensures labels { result ≡ Err Refusal.Labels → ⊥ }
+        ensures call { Returns self.old self.new result Halt.Spent }
     {
         if self.spent {
-            return Err(Refusal::Spent);
+            return Err(Halt::Spent);
         }
         let Ok(from) = u32::try_from(self.unknowns.len()) else {
             self.spent = true;
-            return Err(Refusal::Memory);
+            return Err(Halt::Memory);
         };
         let Ok(ty) = instantiate(self.alloc, scheme, from) else {
             self.spent = true;
-            return Err(Refusal::Memory);
+            return Err(Halt::Memory);
         };
         match add_unknowns(self, scheme.variables.len()) {
             Ok(()) => Ok(ty),
-            Err(refusal) => Err(refusal),
+            Err(halt) => Err(halt),
         }
     }
 
     /// The size of the type that a type stands for: the number of its variables, arrows, rows and applied names, where
     /// each unknown that is left counts as one, with the fields asked for where it is a flexible row. One more than the
     /// limit where they are more. The time taken beyond the type's own size grows with the limit.
-    pub fn size_up_to(&mut self, ty: &MlType, limit: u32) -> Result<u32, Refusal>
+    pub fn size_up_to(&mut self, ty: &MlType, limit: u32) -> Result<u32, Halt>
         requires known { IsOf self.old (type_of ty.now) }
         requires small { limit + 1 < 2 ^ 32 }
         ensures size { IfOk result (IsSizeUpTo limit self.old (type_of ty.now)) }
-        ensures same { OnOk result (PermitsSame self.old self.new) }
-        ensures count { count self.new ≡ count self.old }
-        ensures kept { OnOk result (self.new.spent ≡ false) }
-        ensures unit { self.new.unit ≡ self.old.unit }
-        ensures err { OnErr result (self.new.spent ≡ true) }
-        ensures unmet { (l : Layer) → result ≡ Err (Refusal.Unmet l) → ⊥ }
-        ensures spent { result ≡ Err Refusal.Spent ↔ self.old.spent ≡ true }
-        ensures labels { result ≡ Err Refusal.Labels → ⊥ }
+        ensures call { Keeps self.old self.new result Halt.Spent }
     {
         if self.spent {
-            return Err(Refusal::Spent);
+            return Err(Halt::Spent);
         }
         self.spent = true;
         let Ok(at) = add(self.alloc, &mut self.graph, self.unknowns.as_slice(), ty) else {
-            return Err(Refusal::Memory);
+            return Err(Halt::Memory);
         };
         let Ok(size) = size_from(self.alloc, self.graph.nodes.as_slice(), at, limit) else {
-            return Err(Refusal::Memory);
+            return Err(Halt::Memory);
         };
         self.spent = false;
         Ok(size)
@@ -203,16 +187,16 @@ impl Solver {
 
     /// Whether an unknown is to be an initial name, and more than one it could still be. The default of such an unknown is
     /// `int` (the Definition, appendix E).
-    pub fn is_overloaded(&self, unknown: u32) -> Result<bool, Refusal>
+    pub fn is_overloaded(&self, unknown: u32) -> Result<bool, Halt>
         requires { unknown < count self.now }
         ensures yes { IfOk result (λ b. OnTrue b (IsOverloaded self.now unknown)) }
         ensures no { IfOk result (λ b. OnFalse b (IsOverloaded self.now unknown → ⊥)) }
         ensures int { IfOk result (λ b. OnTrue b ((l : Layer) → CanMeet l self.now (equal (free unknown) (named (initial int))))) }
-        ensures err { OnErr result (result ≡ Err Refusal.Spent) }
-        ensures spent { result ≡ Err Refusal.Spent ↔ self.now.spent ≡ true }
+        ensures err { OnErr result (result ≡ Err Halt.Spent) }
+        ensures spent { result ≡ Err Halt.Spent ↔ self.now.spent ≡ true }
     {
         if self.spent {
-            return Err(Refusal::Spent);
+            return Err(Halt::Spent);
         }
         let at = self.unknowns[unknown as usize];
         let nodes = self.graph.nodes.as_slice();
@@ -227,25 +211,20 @@ impl Solver {
     }
 
     /// Makes each unknown from a place on that is overloaded the default, `int` (the Definition, appendix E).
-    pub fn settle(&mut self, from: usize) -> Result<(), Refusal>
+    pub fn settle(&mut self, from: usize) -> Result<(), Halt>
         ensures ok { OnOk result (Settles self.old from (count self.old) self.new) }
         ensures count { count self.new ≡ count self.old }
-        ensures kept { OnOk result (self.new.spent ≡ false) }
-        ensures unit { self.new.unit ≡ self.old.unit }
-        ensures err { OnErr result (self.new.spent ≡ true) }
-        ensures unmet { (l : Layer) → result ≡ Err (Refusal.Unmet l) → ⊥ }
-        ensures spent { result ≡ Err Refusal.Spent ↔ self.old.spent ≡ true }
-        ensures labels { result ≡ Err Refusal.Labels → ⊥ }
+        ensures call { Returns self.old self.new result Halt.Spent }
     {
         if self.spent {
-            return Err(Refusal::Spent);
+            return Err(Halt::Spent);
         }
         let end = self.unknowns.len();
         let mut place = from;
         while place < end {
             match settle_one(self, place as u32) {
                 Ok(()) => {}
-                Err(refusal) => return Err(refusal),
+                Err(halt) => return Err(halt),
             }
             place += 1;
         }
@@ -255,25 +234,18 @@ impl Solver {
     /// A flag for each unknown that the types of the first unknowns and of others fix, so that it stands in the context of
     /// what is made behind these. Of the unknowns that by the equations may be any type, or are flexible rows, no others
     /// have one.
-    pub fn fixed_by(&mut self, first: usize, others: &[u32]) -> Result<Vec<bool>, Refusal>
+    pub fn fixed_by(&mut self, first: usize, others: &[u32]) -> Result<Vec<bool>, Halt>
         requires first { first ≤ count self.old }
         requires others { AllByRecursion (λ w. w < count self.old) others.now }
         ensures flags { IfOk result (λ flags. AreFixed self.old first others.now flags.items) }
-        ensures same { OnOk result (PermitsSame self.old self.new) }
-        ensures count { count self.new ≡ count self.old }
-        ensures kept { OnOk result (self.new.spent ≡ false) }
-        ensures unit { self.new.unit ≡ self.old.unit }
-        ensures err { OnErr result (self.new.spent ≡ true) }
-        ensures unmet { (l : Layer) → result ≡ Err (Refusal.Unmet l) → ⊥ }
-        ensures spent { result ≡ Err Refusal.Spent ↔ self.old.spent ≡ true }
-        ensures labels { result ≡ Err Refusal.Labels → ⊥ }
+        ensures call { Keeps self.old self.new result Halt.Spent }
     {
         if self.spent {
-            return Err(Refusal::Spent);
+            return Err(Halt::Spent);
         }
         match fixed_flags(self, first, others) {
             Ok(flags) => Ok(flags),
-            Err(_) => Err(Refusal::Memory),
+            Err(_) => Err(Halt::Memory),
         }
     }
 
@@ -290,16 +262,11 @@ impl Solver {
         requires others { AllByRecursion (λ w. w < count self.old) others.now }
         ensures general { OnOk result (AllByRecursion (λ v. IsFree self.old v → IsFixed self.old first others.now v → ⊥) variables.now) }
         ensures unmet { (l : Layer) → result ≡ Err (Refusal.Unmet l) → (l ≡ Layer.Rigidity) × (v : ℕ) × IsAmong v variables.now × IsFixed self.old first others.now v }
-        ensures same { OnOk result (PermitsSame self.old self.new) }
-        ensures count { count self.new ≡ count self.old }
-        ensures kept { OnOk result (self.new.spent ≡ false) }
-        ensures unit { self.new.unit ≡ self.old.unit }
-        ensures err { OnErr result (self.new.spent ≡ true) }
-        ensures spent { result ≡ Err Refusal.Spent ↔ self.old.spent ≡ true }
         ensures labels { result ≡ Err Refusal.Labels → ⊥ }
+        ensures call { Keeps self.old self.new result Refusal.Spent }
     {
         match self.fixed_by(first, others) {
-            Err(refusal) => Err(refusal),
+            Err(halt) => Err(Refusal::from(halt)),
             Ok(flags) => {
                 if has_flag(flags.as_slice(), variables) {
                     self.spent = true;
@@ -315,13 +282,8 @@ impl Solver {
         requires { IsOf self.old (type_of ty.now) }
         ensures one { OnOk result (HasOneSetOfLabels Finiteness self.old (type_of ty.now)) }
         ensures several { result ≡ Err Refusal.Labels → HasOneSetOfLabels Rigidity self.old (type_of ty.now) → ⊥ }
-        ensures same { OnOk result (PermitsSame self.old self.new) }
-        ensures count { count self.new ≡ count self.old }
-        ensures kept { OnOk result (self.new.spent ≡ false) }
-        ensures unit { self.new.unit ≡ self.old.unit }
-        ensures err { OnErr result (self.new.spent ≡ true) }
         ensures unmet { (l : Layer) → result ≡ Err (Refusal.Unmet l) → ⊥ }
-        ensures spent { result ≡ Err Refusal.Spent ↔ self.old.spent ≡ true }
+        ensures call { Keeps self.old self.new result Refusal.Spent }
     {
         if self.spent {
             return Err(Refusal::Spent);
@@ -375,32 +337,25 @@ impl Solver {
 
     /// The type that a type stands for, over the unknowns that are left, or `None` where it has more nodes than the
     /// limit. The time taken beyond the type's own size grows with the limit.
-    pub fn reading(&mut self, ty: &MlType, limit: u32) -> Result<Option<Rc<MlType>>, Refusal>
+    pub fn reading(&mut self, ty: &MlType, limit: u32) -> Result<Option<Rc<MlType>>, Halt>
         requires known { IsOf self.old (type_of ty.now) }
         requires small { limit + 1 < 2 ^ 32 }
         ensures ty { IfOk result (λ found. IfSome found (λ t. IsReading self.new (type_of ty.now) (type_of t.value))) }
         ensures within { IfOk result (λ found. IfSome found (λ t. type_size (type_of t.value) ≤ limit)) }
         ensures none { IfOk result (λ found. IfNone found ((r : O.MlType Name) → IsReading self.new (type_of ty.now) r → limit < type_size r)) }
         ensures large { IfOk result (λ found. IfNone found ((σ : Assignment finite) → Permits Finiteness self.new σ → limit < type_size (assign σ (type_of ty.now)))) }
-        ensures same { OnOk result (PermitsSame self.old self.new) }
-        ensures count { count self.new ≡ count self.old }
-        ensures kept { OnOk result (self.new.spent ≡ false) }
-        ensures unit { self.new.unit ≡ self.old.unit }
-        ensures err { OnErr result (self.new.spent ≡ true) }
-        ensures unmet { (l : Layer) → result ≡ Err (Refusal.Unmet l) → ⊥ }
-        ensures spent { result ≡ Err Refusal.Spent ↔ self.old.spent ≡ true }
-        ensures labels { result ≡ Err Refusal.Labels → ⊥ }
+        ensures call { Keeps self.old self.new result Halt.Spent }
     {
         if self.spent {
-            return Err(Refusal::Spent);
+            return Err(Halt::Spent);
         }
         self.spent = true;
         let Ok(at) = add(self.alloc, &mut self.graph, self.unknowns.as_slice(), ty) else {
-            return Err(Refusal::Memory);
+            return Err(Halt::Memory);
         };
         let nodes = self.graph.nodes.as_slice();
         let Ok(found) = type_up_to(self.alloc, nodes, self.unknowns.as_slice(), at, limit) else {
-            return Err(Refusal::Memory);
+            return Err(Halt::Memory);
         };
         self.spent = false;
         Ok(found)
@@ -416,7 +371,7 @@ impl Solver {
         fixed: &[bool],
         expansive: bool,
         limit: u32,
-    ) -> Result<Option<Scheme>, Refusal>
+    ) -> Result<Option<Scheme>, Halt>
         requires known { IsOf self.old (type_of ty.now) }
         requires flags { length fixed.now ≡ count self.old }
         requires small { limit + 1 < 2 ^ 32 }
@@ -425,21 +380,14 @@ impl Solver {
         ensures within { IfOk result (λ found. IfSome found (λ s. type_size (scheme_of s).body ≤ limit)) }
         ensures none { IfOk result (λ found. IfNone found ((θ : O.Scheme Name) → IsScheme self.new fixed.now expansive (type_of ty.now) θ → limit < type_size θ.body)) }
         ensures large { IfOk result (λ found. IfNone found ((σ : Assignment finite) → Permits Finiteness self.new σ → limit < type_size (assign σ (type_of ty.now)))) }
-        ensures same { OnOk result (PermitsSame self.old self.new) }
-        ensures count { count self.new ≡ count self.old }
-        ensures kept { OnOk result (self.new.spent ≡ false) }
-        ensures unit { self.new.unit ≡ self.old.unit }
-        ensures err { OnErr result (self.new.spent ≡ true) }
-        ensures unmet { (l : Layer) → result ≡ Err (Refusal.Unmet l) → ⊥ }
-        ensures spent { result ≡ Err Refusal.Spent ↔ self.old.spent ≡ true }
-        ensures labels { result ≡ Err Refusal.Labels → ⊥ }
+        ensures call { Keeps self.old self.new result Halt.Spent }
     {
         match self.reading(ty, limit) {
-            Err(refusal) => Err(refusal),
+            Err(halt) => Err(halt),
             Ok(None) => Ok(None),
             Ok(Some(reading)) => match close_reading(self, &reading, fixed, expansive) {
                 Ok(scheme) => Ok(Some(scheme)),
-                Err(refusal) => Err(refusal),
+                Err(_) => Err(Halt::Memory),
             },
         }
     }
@@ -452,11 +400,8 @@ impl Solver {
         ensures met { OnOk result ((l : Layer) → CanMeet l self.old (equal (type_of left.now) (type_of right.now))) }
         ensures unmet { (l : Layer) → result ≡ Err (Refusal.Unmet l) → IsFirstUnmet l self.old (equal (type_of left.now) (type_of right.now)) }
         ensures count { count self.new ≡ count self.old }
-        ensures kept { OnOk result (self.new.spent ≡ false) }
-        ensures unit { self.new.unit ≡ self.old.unit }
-        ensures err { OnErr result (self.new.spent ≡ true) }
-        ensures spent { result ≡ Err Refusal.Spent ↔ self.old.spent ≡ true }
         ensures labels { result ≡ Err Refusal.Labels → ⊥ }
+        ensures call { Returns self.old self.new result Refusal.Spent }
     {
         if self.spent {
             return Err(Refusal::Spent);
@@ -494,11 +439,8 @@ impl Solver {
         ensures met { OnOk result ((l : Layer) → CanMeet l self.old (has_fields (type_of ty.now) (demanded fields.now))) }
         ensures unmet { (l : Layer) → result ≡ Err (Refusal.Unmet l) → IsFirstUnmet l self.old (has_fields (type_of ty.now) (demanded fields.now)) }
         ensures count { count self.new ≡ count self.old }
-        ensures kept { OnOk result (self.new.spent ≡ false) }
-        ensures unit { self.new.unit ≡ self.old.unit }
-        ensures err { OnErr result (self.new.spent ≡ true) }
         ensures labels { result ≡ Err Refusal.Labels → ⊥ }
-        ensures spent { result ≡ Err Refusal.Spent ↔ self.old.spent ≡ true }
+        ensures call { Returns self.old self.new result Refusal.Spent }
     {
         if self.spent {
             return Err(Refusal::Spent);
@@ -531,11 +473,8 @@ impl Solver {
         ensures met { OnOk result ((l : Layer) → CanMeet l self.old (asks (Ask.Within bound most) (type_of ty.now))) }
         ensures unmet { (l : Layer) → result ≡ Err (Refusal.Unmet l) → IsFirstUnmet l self.old (asks (Ask.Within bound most) (type_of ty.now)) }
         ensures count { count self.new ≡ count self.old }
-        ensures kept { OnOk result (self.new.spent ≡ false) }
-        ensures unit { self.new.unit ≡ self.old.unit }
-        ensures err { OnErr result (self.new.spent ≡ true) }
-        ensures spent { result ≡ Err Refusal.Spent ↔ self.old.spent ≡ true }
         ensures labels { result ≡ Err Refusal.Labels → ⊥ }
+        ensures call { Returns self.old self.new result Refusal.Spent }
     {
         self.require(ty, Ask::Within(bound, most))
     }
@@ -547,11 +486,8 @@ impl Solver {
         ensures met { OnOk result ((l : Layer) → CanMeet l self.old (asks (Ask.Equality) (type_of ty.now))) }
         ensures unmet { (l : Layer) → result ≡ Err (Refusal.Unmet l) → IsFirstUnmet l self.old (asks (Ask.Equality) (type_of ty.now)) }
         ensures count { count self.new ≡ count self.old }
-        ensures kept { OnOk result (self.new.spent ≡ false) }
-        ensures unit { self.new.unit ≡ self.old.unit }
-        ensures err { OnErr result (self.new.spent ≡ true) }
-        ensures spent { result ≡ Err Refusal.Spent ↔ self.old.spent ≡ true }
         ensures labels { result ≡ Err Refusal.Labels → ⊥ }
+        ensures call { Returns self.old self.new result Refusal.Spent }
     {
         self.require(ty, Ask::Equality)
     }
@@ -563,11 +499,8 @@ impl Solver {
         ensures met { OnOk result ((l : Layer) → CanMeet l self.old (asks (Ask.Class class) (type_of ty.now))) }
         ensures unmet { (l : Layer) → result ≡ Err (Refusal.Unmet l) → IsFirstUnmet l self.old (asks (Ask.Class class) (type_of ty.now)) }
         ensures count { count self.new ≡ count self.old }
-        ensures kept { OnOk result (self.new.spent ≡ false) }
-        ensures unit { self.new.unit ≡ self.old.unit }
-        ensures err { OnErr result (self.new.spent ≡ true) }
-        ensures spent { result ≡ Err Refusal.Spent ↔ self.old.spent ≡ true }
         ensures labels { result ≡ Err Refusal.Labels → ⊥ }
+        ensures call { Returns self.old self.new result Refusal.Spent }
     {
         self.require(ty, Ask::Class(class))
     }
@@ -579,11 +512,8 @@ impl Solver {
         ensures met { OnOk result ((l : Layer) → CanMeet l self.old (asks (Ask.Variable variable) (type_of ty.now))) }
         ensures unmet { (l : Layer) → result ≡ Err (Refusal.Unmet l) → IsFirstUnmet l self.old (asks (Ask.Variable variable) (type_of ty.now)) }
         ensures count { count self.new ≡ count self.old }
-        ensures kept { OnOk result (self.new.spent ≡ false) }
-        ensures unit { self.new.unit ≡ self.old.unit }
-        ensures err { OnErr result (self.new.spent ≡ true) }
-        ensures spent { result ≡ Err Refusal.Spent ↔ self.old.spent ≡ true }
         ensures labels { result ≡ Err Refusal.Labels → ⊥ }
+        ensures call { Returns self.old self.new result Refusal.Spent }
     {
         self.require(ty, Ask::Variable(variable))
     }
@@ -595,11 +525,8 @@ impl Solver {
         ensures met { OnOk result ((l : Layer) → CanMeet l self.old (asks ask (type_of ty.now))) }
         ensures unmet { (l : Layer) → result ≡ Err (Refusal.Unmet l) → IsFirstUnmet l self.old (asks ask (type_of ty.now)) }
         ensures count { count self.new ≡ count self.old }
-        ensures kept { OnOk result (self.new.spent ≡ false) }
-        ensures unit { self.new.unit ≡ self.old.unit }
-        ensures err { OnErr result (self.new.spent ≡ true) }
-        ensures spent { result ≡ Err Refusal.Spent ↔ self.old.spent ≡ true }
         ensures labels { result ≡ Err Refusal.Labels → ⊥ }
+        ensures call { Returns self.old self.new result Refusal.Spent }
     {
         if self.spent {
             return Err(Refusal::Spent);
@@ -654,7 +581,7 @@ fn close_reading(
     ty: &MlType,
     fixed: &[bool],
     expansive: bool,
-) -> Result<Scheme, Refusal>
+) -> Result<Scheme, Memory>
     requires kept { solver.old.spent ≡ false }
     requires left { IsMadeOf (IsLeft solver.old) (type_of ty.now) }
     requires flags { length fixed.now ≡ count solver.old }
@@ -665,16 +592,15 @@ fn close_reading(
     ensures count { count solver.new ≡ count solver.old }
     ensures unit { solver.new.unit ≡ solver.old.unit }
     ensures err { OnErr result (solver.new.spent ≡ true) }
-    ensures memory { OnErr result (result ≡ Err Refusal.Memory) }
 {
     let nodes = solver.graph.nodes.as_slice();
     let limits = solver.graph.limits.as_slice();
     let unknowns = solver.unknowns.as_slice();
     match closed(solver.alloc, nodes, limits, unknowns, fixed, expansive, ty) {
         Ok(scheme) => Ok(scheme),
-        Err(_) => {
+        Err(memory) => {
             solver.spent = true;
-            Err(Refusal::Memory)
+            Err(memory)
         }
     }
 }
@@ -686,45 +612,41 @@ fn int_type(alloc: Global) -> MlType
 }
 
 /// Makes an unknown `int` where it is overloaded.
-fn settle_one(solver: &mut Solver, unknown: u32) -> Result<(), Refusal>
+fn settle_one(solver: &mut Solver, unknown: u32) -> Result<(), Halt>
     requires known { unknown < count solver.old }
     requires new { solver.old.spent ≡ false }
     ensures ok { OnOk result (Settles solver.old unknown (unknown + 1) solver.new) }
     ensures count { count solver.new ≡ count solver.old }
-    ensures kept { OnOk result (solver.new.spent ≡ false) }
-    ensures unit { solver.new.unit ≡ solver.old.unit }
-    ensures err { OnErr result (solver.new.spent ≡ true) }
-    ensures unmet { (l : Layer) → result ≡ Err (Refusal.Unmet l) → ⊥ }
-    ensures spent { result ≡ Err Refusal.Spent → ⊥ }
-    ensures labels { result ≡ Err Refusal.Labels → ⊥ }
+    ensures call { Returns solver.old solver.new result Halt.Spent }
 {
     match solver.is_overloaded(unknown) {
-        Err(refusal) => Err(refusal),
+        Err(halt) => Err(halt),
         Ok(false) => Ok(()),
         Ok(true) => {
             let default = int_type(solver.alloc);
-            solver.require_equal(&MlType::Free(unknown), &default)
+            match solver.require_equal(&MlType::Free(unknown), &default) {
+                Ok(()) => Ok(()),
+                Err(Refusal::Memory) => Err(Halt::Memory),
+                Err(Refusal::Spent) => Err(Halt::Spent),
+                Err(Refusal::Unmet(_)) => unreachable!(),
+                Err(Refusal::Labels) => unreachable!(),
+            }
         }
     }
 }
 
 /// Adds so many unknowns, of which nothing is asked.
-fn add_unknowns(solver: &mut Solver, number: usize) -> Result<(), Refusal>
+fn add_unknowns(solver: &mut Solver, number: usize) -> Result<(), Halt>
     requires { solver.old.spent ≡ false }
     ensures count { OnOk result (count solver.new ≡ count solver.old + number) }
     ensures same { OnOk result (PermitsSame solver.old solver.new) }
-    ensures kept { OnOk result (solver.new.spent ≡ false) }
-    ensures unit { solver.new.unit ≡ solver.old.unit }
-    ensures err { OnErr result (solver.new.spent ≡ true) }
-    ensures unmet { (l : Layer) → result ≡ Err (Refusal.Unmet l) → ⊥ }
-    ensures spent { result ≡ Err Refusal.Spent → ⊥ }
-    ensures labels { result ≡ Err Refusal.Labels → ⊥ }
+    ensures call { Returns solver.old solver.new result Halt.Spent }
 {
     let mut made = 0;
     while made < number {
         match solver.fresh() {
             Ok(_) => {}
-            Err(refusal) => return Err(refusal),
+            Err(halt) => return Err(halt),
         }
         made += 1;
     }

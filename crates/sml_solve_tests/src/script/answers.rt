@@ -1,7 +1,7 @@
 //! What calls answer, as text.
 
 use crate::script::{OTHER_UNIT, UNIT};
-use sml_graph::demand::Refusal;
+use sml_graph::demand::{Halt, Refusal};
 use sml_layers::layer::Layer;
 use sml_objects::objects::{Initial, MadeName, MlType, Scheme, TyName};
 use std::alloc::{AllocError, Global};
@@ -14,8 +14,12 @@ pub(crate) fn done(alloc: Global, answer: Result<(), Refusal>) -> Result<String,
     }
 }
 
-pub(crate) fn refused(alloc: Global, refusal: Refusal) -> Result<String, AllocError> {
+fn refused(alloc: Global, refusal: Refusal) -> Result<String, AllocError> {
     String::from_str(alloc, word_of(refusal))
+}
+
+pub(crate) fn halted(alloc: Global, halt: Halt) -> Result<String, AllocError> {
+    refused(alloc, Refusal::from(halt))
 }
 
 fn word_of(refusal: Refusal) -> &'static str {

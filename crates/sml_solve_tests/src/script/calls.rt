@@ -8,7 +8,7 @@ ghost use Rattle.sml_graph.specs.Interned.{IsBodyOver, IsOver};
 use crate::script::answers;
 use crate::script::types::read_type;
 use crate::script::words::{Fault, Words};
-use sml_graph::demand::Refusal;
+use sml_graph::demand::Halt;
 use sml_layers::class::Class;
 use sml_layers::layer::Bound;
 use sml_layers::variable::Variable;
@@ -64,8 +64,8 @@ fn question(
 
 fn fresh(alloc: Global, solver: &mut Solver, words: &mut Words<'_>) -> Result<String, Fault> {
     for _ in 0..words.number()? {
-        if let Err(refusal) = solver.fresh() {
-            return Ok(answers::refused(alloc, refusal)?);
+        if let Err(halt) = solver.fresh() {
+            return Ok(answers::halted(alloc, halt)?);
         }
     }
     Ok(answers::done(alloc, Ok(()))?)
@@ -85,7 +85,7 @@ fn instance(alloc: Global, solver: &mut Solver) -> Result<String, Fault> {
     let scheme = anything(alloc)?;
     match solver.instance(&scheme) {
         Ok(ty) => Ok(answers::type_text(alloc, &ty)?),
-        Err(refusal) => Ok(answers::refused(alloc, refusal)?),
+        Err(halt) => Ok(answers::halted(alloc, halt)?),
     }
 }
 
@@ -228,15 +228,17 @@ fn labels(alloc: Global, solver: &mut Solver, words: &mut Words<'_>) -> Result<S
 }
 
 fn settle(alloc: Global, solver: &mut Solver, words: &mut Words<'_>) -> Result<String, Fault> {
-    let answer = solver.settle(words.number()? as usize);
-    Ok(answers::done(alloc, answer)?)
+    match solver.settle(words.number()? as usize) {
+        Ok(()) => Ok(answers::done(alloc, Ok(()))?),
+        Err(halt) => Ok(answers::halted(alloc, halt)?),
+    }
 }
 
 fn overloaded(alloc: Global, solver: &mut Solver, words: &mut Words<'_>) -> Result<String, Fault> {
     let unknown = words.unknown(solver.unknowns())?;
     match solver.is_overloaded(unknown) {
         Ok(answer) => Ok(format!(in alloc; "{answer}")?),
-        Err(refusal) => Ok(answers::refused(alloc, refusal)?),
+        Err(halt) => Ok(answers::halted(alloc, halt)?),
     }
 }
 
@@ -245,7 +247,7 @@ fn flags(
     alloc: Global,
     solver: &mut Solver,
     words: &mut Words<'_>,
-) -> Result<Result<Vec<bool>, Refusal>, Fault> {
+) -> Result<Result<Vec<bool>, Halt>, Fault> {
     let count = solver.unknowns();
     let first = first_unknowns(words, count)?;
     let others = numbers(alloc, words, "")?;
@@ -258,7 +260,7 @@ fn flags(
 fn fixed(alloc: Global, solver: &mut Solver, words: &mut Words<'_>) -> Result<String, Fault> {
     match flags(alloc, solver, words)? {
         Ok(flags) => Ok(answers::flags(alloc, &flags)?),
-        Err(refusal) => Ok(answers::refused(alloc, refusal)?),
+        Err(halt) => Ok(answers::halted(alloc, halt)?),
     }
 }
 
@@ -268,7 +270,7 @@ fn last(alloc: Global, solver: &mut Solver, words: &mut Words<'_>) -> Result<Str
             Some(flag) => Ok(answers::flags(alloc, &[*flag])?),
             None => Err(Fault::NotUnderstood),
         },
-        Err(refusal) => Ok(answers::refused(alloc, refusal)?),
+        Err(halt) => Ok(answers::halted(alloc, halt)?),
     }
 }
 
@@ -278,7 +280,7 @@ fn flag(alloc: Global, solver: &mut Solver, words: &mut Words<'_>) -> Result<Str
     match solver.fixed_by(unknown, &[]) {
         Ok(flags) if unknown < flags.len() => Ok(answers::done(alloc, Ok(()))?),
         Ok(_) => Ok(String::from_str(alloc, "no flag")?),
-        Err(refusal) => Ok(answers::refused(alloc, refusal)?),
+        Err(halt) => Ok(answers::halted(alloc, halt)?),
     }
 }
 
@@ -287,7 +289,7 @@ fn size(alloc: Global, solver: &mut Solver, words: &mut Words<'_>) -> Result<Str
     let ty = read_type(alloc, words, solver.unknowns())?;
     match solver.size_up_to(&ty, limit) {
         Ok(size) => Ok(format!(in alloc; "{size}")?),
-        Err(refusal) => Ok(answers::refused(alloc, refusal)?),
+        Err(halt) => Ok(answers::halted(alloc, halt)?),
     }
 }
 
@@ -297,7 +299,7 @@ fn reading(alloc: Global, solver: &mut Solver, words: &mut Words<'_>) -> Result<
     match solver.reading(&ty, limit) {
         Ok(Some(ty)) => Ok(answers::type_text(alloc, &ty)?),
         Ok(None) => Ok(String::from_str(alloc, "none")?),
-        Err(refusal) => Ok(answers::refused(alloc, refusal)?),
+        Err(halt) => Ok(answers::halted(alloc, halt)?),
     }
 }
 
@@ -334,6 +336,6 @@ fn scheme(
     match solver.generalise(&ty, &fixed, expansive, limit) {
         Ok(Some(scheme)) => Ok(answers::scheme(alloc, &scheme)?),
         Ok(None) => Ok(String::from_str(alloc, "none")?),
-        Err(refusal) => Ok(answers::refused(alloc, refusal)?),
+        Err(halt) => Ok(answers::halted(alloc, halt)?),
     }
 }

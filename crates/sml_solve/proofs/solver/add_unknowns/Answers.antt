@@ -18,6 +18,6 @@ loop-made-preserved c =
       made = omega (arith, i.made, c.in-Ok.ensures.count);
       within = omega arith;
       same = permits-trans c.args.solver.now c.loop-made.solver c.fresh.new.self i.same c.in-Ok.ensures.same;
-      kept = c.in-Ok.ensures.kept;
-      unit = c.in-Ok.ensures.unit ∙ i.unit;
+      kept = c.in-Ok.ensures.call.kept;
+      unit = c.in-Ok.ensures.call.unit ∙ i.unit;
     }

@@ -1,4 +1,4 @@
-use Rattle.std.proofs.Common.{length, subst, sym}
+use Rattle.std.proofs.Common.{rules, length, subst, sym}
 use Rattle.std.specs.Prelude.{false}
 use Rattle.sml_objects.specs.Views.{type_of, maker_of}
 use Rattle.sml_layers.specs.Worlds.{finite}
@@ -102,8 +102,8 @@ returns-clause-none c =
     unread-larger u us h false t c.in-Ok.at c.args.limit c.in-Ok-type_up_to.found w.sound w.rank n.owners (λ τ m. (i.back finite τ m).1)
     (rw (c.as_slice-nodes.ensures.value, c.as_slice-2.ensures.value) at c.in-Ok-type_up_to.ensures.none)
 
-pub returns-clause-same : goal.returns-clause-same
-returns-clause-same c =
+pub returns-clause-call : goal.returns-clause-call
+returns-clause-call c =
     let u = maker_of c.self.inside.unit in
     let us = c.self.inside.unknowns.items in
     let g = c.self.inside.graph in
@@ -114,4 +114,8 @@ returns-clause-same c =
     let x : Grows us t g h c.in-Ok.at = record { interns = i; limits = c.in-Ok.ensures.limits } in
     let w : IsWhole u h = c.in-Ok.ensures.whole u k.whole in
     let n : IsKept u h us = kept-grown u us t g h c.in-Ok.at k x w in
-    subst (λ s. PermitsSame s (asked_of u us h false)) c.self.view_is (permits-grown u us c.self.inside.spent false t g h c.in-Ok.at k x)
+    record {
+      same = subst (λ s. PermitsSame s (asked_of u us h false)) c.self.view_is (permits-grown u us c.self.inside.spent false t g h c.in-Ok.at k x);
+      count = search rules;
+      returns = search rules;
+    }

@@ -1,4 +1,4 @@
-use Rattle.std.proofs.Common.{◌≡◌, ◌∙◌, length, subst, sym, refl, arith}
+use Rattle.std.proofs.Common.{rules, ◌≡◌, ◌∙◌, length, subst, sym, refl, arith}
 use Rattle.std.specs.Prelude.{true, false}
 use Rattle.sml_objects.specs.Views.{type_of, maker_of}
 use Rattle.sml_layers.specs.declared.layer.Layer.TheVariants.{Finiteness, Rigidity}
@@ -64,8 +64,8 @@ returns-clause-one c =
     let e : has_labels (node_at h.nodes.items f.0) ≡ true = sym f.4 ∙ c.if-not-has_labels.false in
     labels-same Finiteness c.args.self.now (asked_of u us h false) t p (one-set u us h false n (λ e. omega (arith, e)) t o at (λ τ m. (i.back finite τ m).1) f.0 f.1 (node_at h.nodes.items f.0) refl e)
 
-pub returns-clause-same : goal.returns-clause-same
-returns-clause-same c =
+pub returns-clause-call : goal.returns-clause-call
+returns-clause-call c =
     let u = maker_of c.self.inside.unit in
     let us = c.self.inside.unknowns.items in
     let g = c.self.inside.graph in
@@ -75,4 +75,8 @@ returns-clause-same c =
     let k : IsKept u g us = (c.self.invariant c.if-self.false).kept in
     let i : Interns g.nodes.items us t h.nodes.items at = subst (λ us. Interns g.nodes.items us t h.nodes.items at) c.as_slice.ensures.value c.in-Ok.ensures.interns in
     let x : Grows us t g h at = record { interns = i; limits = c.in-Ok.ensures.limits } in
-    subst (λ s. PermitsSame s (asked_of u us h false)) c.self.view_is (permits-grown u us c.self.inside.spent false t g h at k x)
+    record {
+      same = subst (λ s. PermitsSame s (asked_of u us h false)) c.self.view_is (permits-grown u us c.self.inside.spent false t g h at k x);
+      count = search rules;
+      returns = search rules;
+    }

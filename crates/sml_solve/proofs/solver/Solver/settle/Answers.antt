@@ -32,8 +32,8 @@ loop-place-preserved c =
       within = inl (omega (arith, c.loop-place-test.true));
       settled = subst (λ s. Settles s c.args.from (c.loop-place.place + 1) c.settle_one.new.solver) c.self.view_is m;
       count = c.in-Ok.ensures.count ∙ i.count;
-      kept = c.in-Ok.ensures.kept;
-      unit = c.in-Ok.ensures.unit ∙ i.unit;
+      kept = c.in-Ok.ensures.call.kept;
+      unit = c.in-Ok.ensures.call.unit ∙ i.unit;
     }
 
 pub returns-clause-ok : goal.returns-clause-ok

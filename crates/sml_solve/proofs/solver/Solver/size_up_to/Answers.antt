@@ -1,4 +1,4 @@
-use Rattle.std.proofs.Common.{length, subst, sym}
+use Rattle.std.proofs.Common.{rules, length, subst, sym}
 use Rattle.std.specs.Prelude.{false}
 use Rattle.sml_objects.specs.Views.{type_of, maker_of}
 use Rattle.sml_graph.specs.Interned.{IsOver, Interns}
@@ -53,8 +53,8 @@ returns-clause-size c =
     let n : IsCounted h.nodes.items c.in-Ok.at c.args.limit c.in-Ok-size_from.size = subst (λ ns. IsCounted ns c.in-Ok.at c.args.limit c.in-Ok-size_from.size) c.as_slice-2.ensures.value c.in-Ok-size_from.ensures in
     subst (λ s. IsSizeUpTo c.args.limit s t c.in-Ok-size_from.size) c.self.view_is (counted-size u us c.self.inside.spent t g h c.in-Ok.at c.args.limit c.in-Ok-size_from.size k o x n)
 
-pub returns-clause-same : goal.returns-clause-same
-returns-clause-same c =
+pub returns-clause-call : goal.returns-clause-call
+returns-clause-call c =
     let u = maker_of c.self.inside.unit in
     let us = c.self.inside.unknowns.items in
     let g = c.self.inside.graph in
@@ -64,4 +64,8 @@ returns-clause-same c =
     let i : Interns g.nodes.items us t h.nodes.items c.in-Ok.at = subst (λ us. Interns g.nodes.items us t h.nodes.items c.in-Ok.at) c.as_slice.ensures.value c.in-Ok.ensures.interns in
     let x : Grows us t g h c.in-Ok.at = record { interns = i; limits = c.in-Ok.ensures.limits } in
     let w : IsWhole u h = c.in-Ok.ensures.whole u k.whole in
-    subst (λ s. PermitsSame s (asked_of u us h false)) c.self.view_is (permits-grown u us c.self.inside.spent false t g h c.in-Ok.at k x)
+    record {
+      same = subst (λ s. PermitsSame s (asked_of u us h false)) c.self.view_is (permits-grown u us c.self.inside.spent false t g h c.in-Ok.at k x);
+      count = search rules;
+      returns = search rules;
+    }

@@ -18,8 +18,8 @@ ghost use Rattle.sml_layers.specs.declared.layer.Layer.{Layer};
 ghost use Rattle.sml_layers.specs.declared.layer.Layer.TheVariants.{Finiteness, Rigidity};
 ghost use Rattle.sml_layers.specs.Worlds.{finite};
 ghost use Rattle.sml_graph.specs.Worlds.{Assignment};
-ghost use Rattle.sml_graph.specs.Asked.{Asked, asked_of, equal, has_fields, asks, count, IsOf, IsSchemeOf, Adds, CanMeet, IsFirstUnmet, IsMet, Permits, PermitsSame};
-ghost use Rattle.sml_solve.specs.Calls.{Keeps, Returns};
+ghost use Rattle.sml_graph.specs.Asked.{Asked, asked_of, equal, has_fields, asks, count, IsOf, IsSchemeOf, CanMeet, IsMet, Permits, PermitsSame};
+ghost use Rattle.sml_solve.specs.Calls.{Demands, Keeps, Returns};
 ghost use Rattle.sml_solve.specs.Clashes.{IsUnmetWhereItClashes};
 ghost use Rattle.sml_demands.specs.Counted.{IsSizeUpTo};
 ghost use Rattle.sml_demands.specs.Fixed.{AreFixed, IsFixed};
@@ -396,12 +396,7 @@ impl Solver {
     pub fn require_equal(&mut self, left: &MlType, right: &MlType) -> Result<(), Refusal>
         requires left { IsOf self.old (type_of left.now) }
         requires right { IsOf self.old (type_of right.now) }
-        ensures ok { OnOk result (Adds self.old (equal (type_of left.now) (type_of right.now)) self.new) }
-        ensures met { OnOk result ((l : Layer) → CanMeet l self.old (equal (type_of left.now) (type_of right.now))) }
-        ensures unmet { (l : Layer) → result ≡ Err (Refusal.Unmet l) → IsFirstUnmet l self.old (equal (type_of left.now) (type_of right.now)) }
-        ensures count { count self.new ≡ count self.old }
-        ensures labels { result ≡ Err Refusal.Labels → ⊥ }
-        ensures call { Returns self.old self.new result Refusal.Spent }
+        ensures { Demands self.old (equal (type_of left.now) (type_of right.now)) self.new result }
     {
         if self.spent {
             return Err(Refusal::Spent);
@@ -435,12 +430,7 @@ impl Solver {
     ) -> Result<(), Refusal>
         requires ty { IsOf self.old (type_of ty.now) }
         requires fields { AllByRecursion (λ f. IsOf self.old f.1) (demanded fields.now) }
-        ensures ok { OnOk result (Adds self.old (has_fields (type_of ty.now) (demanded fields.now)) self.new) }
-        ensures met { OnOk result ((l : Layer) → CanMeet l self.old (has_fields (type_of ty.now) (demanded fields.now))) }
-        ensures unmet { (l : Layer) → result ≡ Err (Refusal.Unmet l) → IsFirstUnmet l self.old (has_fields (type_of ty.now) (demanded fields.now)) }
-        ensures count { count self.new ≡ count self.old }
-        ensures labels { result ≡ Err Refusal.Labels → ⊥ }
-        ensures call { Returns self.old self.new result Refusal.Spent }
+        ensures { Demands self.old (has_fields (type_of ty.now) (demanded fields.now)) self.new result }
     {
         if self.spent {
             return Err(Refusal::Spent);
@@ -469,12 +459,7 @@ impl Solver {
     /// bound, where it can't be met.
     pub fn require_within(&mut self, ty: &MlType, bound: Bound, most: u32) -> Result<(), Refusal>
         requires { IsOf self.old (type_of ty.now) }
-        ensures ok { OnOk result (Adds self.old (asks (Ask.Within bound most) (type_of ty.now)) self.new) }
-        ensures met { OnOk result ((l : Layer) → CanMeet l self.old (asks (Ask.Within bound most) (type_of ty.now))) }
-        ensures unmet { (l : Layer) → result ≡ Err (Refusal.Unmet l) → IsFirstUnmet l self.old (asks (Ask.Within bound most) (type_of ty.now)) }
-        ensures count { count self.new ≡ count self.old }
-        ensures labels { result ≡ Err Refusal.Labels → ⊥ }
-        ensures call { Returns self.old self.new result Refusal.Spent }
+        ensures { Demands self.old (asks (Ask.Within bound most) (type_of ty.now)) self.new result }
     {
         self.require(ty, Ask::Within(bound, most))
     }
@@ -482,12 +467,7 @@ impl Solver {
     /// Demands that a type admits equality (the Definition, section 4.4): U4 where it can't.
     pub fn require_equality(&mut self, ty: &MlType) -> Result<(), Refusal>
         requires { IsOf self.old (type_of ty.now) }
-        ensures ok { OnOk result (Adds self.old (asks (Ask.Equality) (type_of ty.now)) self.new) }
-        ensures met { OnOk result ((l : Layer) → CanMeet l self.old (asks (Ask.Equality) (type_of ty.now))) }
-        ensures unmet { (l : Layer) → result ≡ Err (Refusal.Unmet l) → IsFirstUnmet l self.old (asks (Ask.Equality) (type_of ty.now)) }
-        ensures count { count self.new ≡ count self.old }
-        ensures labels { result ≡ Err Refusal.Labels → ⊥ }
-        ensures call { Returns self.old self.new result Refusal.Spent }
+        ensures { Demands self.old (asks Ask.Equality (type_of ty.now)) self.new result }
     {
         self.require(ty, Ask::Equality)
     }
@@ -495,12 +475,7 @@ impl Solver {
     /// Demands that a type is one of the names of a class: U5 where it can't be.
     pub fn require_class(&mut self, ty: &MlType, class: Class) -> Result<(), Refusal>
         requires { IsOf self.old (type_of ty.now) }
-        ensures ok { OnOk result (Adds self.old (asks (Ask.Class class) (type_of ty.now)) self.new) }
-        ensures met { OnOk result ((l : Layer) → CanMeet l self.old (asks (Ask.Class class) (type_of ty.now))) }
-        ensures unmet { (l : Layer) → result ≡ Err (Refusal.Unmet l) → IsFirstUnmet l self.old (asks (Ask.Class class) (type_of ty.now)) }
-        ensures count { count self.new ≡ count self.old }
-        ensures labels { result ≡ Err Refusal.Labels → ⊥ }
-        ensures call { Returns self.old self.new result Refusal.Spent }
+        ensures { Demands self.old (asks (Ask.Class class) (type_of ty.now)) self.new result }
     {
         self.require(ty, Ask::Class(class))
     }
@@ -508,12 +483,7 @@ impl Solver {
     /// Demands that a type is an explicit type variable, which stands for itself alone: U7 where it can't be.
     pub fn require_variable(&mut self, ty: &MlType, variable: Variable) -> Result<(), Refusal>
         requires { IsOf self.old (type_of ty.now) }
-        ensures ok { OnOk result (Adds self.old (asks (Ask.Variable variable) (type_of ty.now)) self.new) }
-        ensures met { OnOk result ((l : Layer) → CanMeet l self.old (asks (Ask.Variable variable) (type_of ty.now))) }
-        ensures unmet { (l : Layer) → result ≡ Err (Refusal.Unmet l) → IsFirstUnmet l self.old (asks (Ask.Variable variable) (type_of ty.now)) }
-        ensures count { count self.new ≡ count self.old }
-        ensures labels { result ≡ Err Refusal.Labels → ⊥ }
-        ensures call { Returns self.old self.new result Refusal.Spent }
+        ensures { Demands self.old (asks (Ask.Variable variable) (type_of ty.now)) self.new result }
     {
         self.require(ty, Ask::Variable(variable))
     }
@@ -521,12 +491,7 @@ impl Solver {
     /// Demands something of a type.
     fn require(&mut self, ty: &MlType, ask: Ask) -> Result<(), Refusal>
         requires { IsOf self.old (type_of ty.now) }
-        ensures ok { OnOk result (Adds self.old (asks ask (type_of ty.now)) self.new) }
-        ensures met { OnOk result ((l : Layer) → CanMeet l self.old (asks ask (type_of ty.now))) }
-        ensures unmet { (l : Layer) → result ≡ Err (Refusal.Unmet l) → IsFirstUnmet l self.old (asks ask (type_of ty.now)) }
-        ensures count { count self.new ≡ count self.old }
-        ensures labels { result ≡ Err Refusal.Labels → ⊥ }
-        ensures call { Returns self.old self.new result Refusal.Spent }
+        ensures { Demands self.old (asks ask (type_of ty.now)) self.new result }
     {
         if self.spent {
             return Err(Refusal::Spent);

@@ -1,4 +1,4 @@
-use Rattle.std.proofs.Common.{◌≡◌, ◌++◌, ◌∙◌, ap, subst, sym, Err}
+use Rattle.std.proofs.Common.{rules, ◌≡◌, ◌++◌, ◌∙◌, ap, subst, sym, Err}
 use Rattle.std.specs.Prelude.{false}
 use Rattle.sml_objects.specs.Views.{type_of, maker_of}
 use Rattle.sml_graph.specs.declared.demand.Refusal.TheVariants.{Unmet}
@@ -7,33 +7,38 @@ use Rattle.sml_graph.specs.Whole.{IsKept}
 use Rattle.sml_demands.proofs.Levelling.{levels-moved}
 use Rattle.sml_solve.proofs.solver.Solver.require_equal.Goals as goal
 
-pub returns-in_default-clause-ok : goal.returns-in_default-clause-ok
-returns-in_default-clause-ok c =
+pub returns-in_default : goal.returns-in_default
+returns-in_default c =
     let u = maker_of c.self.inside.unit in
     let us = c.self.inside.unknowns.items in
     let g = c.self.inside.graph in
     let h = c.equate.new.graph in
     let d : Demand = equal (type_of c.args.left.now) (type_of c.args.right.now) in
-    let x : Adds (asked_of u us g false) d (asked_of u us h false) = subst (λ us. Adds (asked_of u us g false) d (asked_of u us h false)) c.as_slice.ensures.value c.in-Ok.ensures.ok in
-    subst (λ s. Adds s d (asked_of u us h false)) c.self.view_is (subst (λ b. Adds (asked_of u us g b) d (asked_of u us h false)) (sym c.if-self.false) x)
+    let s : asked_of u us g false ≡ c.args.self.now = ap (asked_of u us g) (sym c.if-self.false) ∙ c.self.view_is in
+    record {
+      ok = subst (λ s. Adds s d (asked_of u us h false)) s (subst (λ us. Adds (asked_of u us g false) d (asked_of u us h false)) c.as_slice.ensures.value c.in-Ok.ensures.ok);
+      met = λ l. subst (λ s. CanMeet l s d) s (subst (λ us. CanMeet l (asked_of u us g false) d) c.as_slice.ensures.value (c.in-Ok.ensures.met l));
+      unmet = search rules;
+      labels = search rules;
+      count = search rules;
+      returns = search rules;
+    }
 
-pub returns-in_default-clause-met : goal.returns-in_default-clause-met
-returns-in_default-clause-met c l =
+pub returns-in-Err : goal.returns-in-Err
+returns-in-Err c =
     let u = maker_of c.self.inside.unit in
     let us = c.self.inside.unknowns.items in
     let g = c.self.inside.graph in
     let d : Demand = equal (type_of c.args.left.now) (type_of c.args.right.now) in
-    let x : CanMeet l (asked_of u us g false) d = subst (λ us. CanMeet l (asked_of u us g false) d) c.as_slice.ensures.value (c.in-Ok.ensures.met l) in
-    subst (λ s. CanMeet l s d) c.self.view_is (subst (λ b. CanMeet l (asked_of u us g b) d) (sym c.if-self.false) x)
-
-pub returns-in-Err-clause-unmet : goal.returns-in-Err-clause-unmet
-returns-in-Err-clause-unmet c l e =
-    let u = maker_of c.self.inside.unit in
-    let us = c.self.inside.unknowns.items in
-    let g = c.self.inside.graph in
-    let d : Demand = equal (type_of c.args.left.now) (type_of c.args.right.now) in
-    let x : IsFirstUnmet l (asked_of u us g false) d = subst (λ us. IsFirstUnmet l (asked_of u us g false) d) c.as_slice.ensures.value (let r : c.in-Err.refusal ≡ Unmet l = cc in c.in-Err.ensures.unmet l (ap Err r)) in
-    subst (λ s. IsFirstUnmet l s d) c.self.view_is (subst (λ b. IsFirstUnmet l (asked_of u us g b) d) (sym c.if-self.false) x)
+    let s : asked_of u us g false ≡ c.args.self.now = ap (asked_of u us g) (sym c.if-self.false) ∙ c.self.view_is in
+    record {
+      ok = tt;
+      met = tt;
+      unmet = λ l e. subst (λ s. IsFirstUnmet l s d) s (subst (λ us. IsFirstUnmet l (asked_of u us g false) d) c.as_slice.ensures.value (let r : c.in-Err.refusal ≡ Unmet l = cc in c.in-Err.ensures.unmet l (ap Err r)));
+      labels = search rules;
+      count = search rules;
+      returns = search rules;
+    }
 
 pub invariant_of-self-in-Ok : goal.invariant_of-self-in-Ok
 invariant_of-self-in-Ok c _ =

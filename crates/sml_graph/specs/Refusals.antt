@@ -1,4 +1,4 @@
--- The faults of refusals, and the refusals that types have no part in.
+-- The faults of refusals, and those refusals that are halts.
 use Rattle.std.specs.Prelude.{Option, Some, None}
 use Rattle.sml_lex.specs.declared.fault.Code.{Code}
 use Rattle.sml_lex.specs.declared.fault.Code.TheVariants.{U6}
@@ -15,6 +15,7 @@ refusal_code Labels = Some U6
 refusal_code Memory = None
 refusal_code Spent = None
 
+-- a halt as the refusal of a call that types may refuse too
 abbrev pub refusal_of : Halt → Refusal
 refusal_of H.Memory = Memory
 refusal_of H.Spent = Spent

@@ -13,10 +13,10 @@ returns-in-Ok c =
     let g = c.self.inside.graph in
     let h = c.impose.new.graph in
     let d : Demand = asks c.args.ask (type_of c.args.ty.now) in
-    let s : asked_of u us g false ≡ c.args.self.now = ap (asked_of u us g) (sym c.if-self.false) ∙ c.self.view_is in
+    let view : asked_of u us g false ≡ c.args.self.now = ap (asked_of u us g) (sym c.if-self.false) ∙ c.self.view_is in
     record {
-      ok = subst (λ s. Adds s d (asked_of u us h false)) s (subst (λ us. Adds (asked_of u us g false) d (asked_of u us h false)) c.as_slice-unknowns.ensures.value c.in-Ok.ensures.ok);
-      met = λ l. subst (λ s. CanMeet l s d) s (subst (λ us. CanMeet l (asked_of u us g false) d) c.as_slice-unknowns.ensures.value (c.in-Ok.ensures.met l));
+      ok = subst (λ s. Adds s d (asked_of u us h false)) view (subst (λ us. Adds (asked_of u us g false) d (asked_of u us h false)) c.as_slice-unknowns.ensures.value c.in-Ok.ensures.ok);
+      met = λ l. subst (λ s. CanMeet l s d) view (subst (λ us. CanMeet l (asked_of u us g false) d) c.as_slice-unknowns.ensures.value (c.in-Ok.ensures.met l));
       unmet = search rules;
       labels = search rules;
       count = search rules;
@@ -29,11 +29,11 @@ returns-in-Err c =
     let us = c.self.inside.unknowns.items in
     let g = c.self.inside.graph in
     let d : Demand = asks c.args.ask (type_of c.args.ty.now) in
-    let s : asked_of u us g false ≡ c.args.self.now = ap (asked_of u us g) (sym c.if-self.false) ∙ c.self.view_is in
+    let view : asked_of u us g false ≡ c.args.self.now = ap (asked_of u us g) (sym c.if-self.false) ∙ c.self.view_is in
     record {
       ok = tt;
       met = tt;
-      unmet = λ l e. subst (λ s. IsFirstUnmet l s d) s (subst (λ us. IsFirstUnmet l (asked_of u us g false) d) c.as_slice-unknowns.ensures.value (c.in-Err.ensures.unmet l e));
+      unmet = λ l e. subst (λ s. IsFirstUnmet l s d) view (subst (λ us. IsFirstUnmet l (asked_of u us g false) d) c.as_slice-unknowns.ensures.value (c.in-Err.ensures.unmet l e));
       labels = search rules;
       count = search rules;
       returns = search rules;

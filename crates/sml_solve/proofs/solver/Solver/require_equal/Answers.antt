@@ -14,10 +14,10 @@ returns-in_default c =
     let g = c.self.inside.graph in
     let h = c.equate.new.graph in
     let d : Demand = equal (type_of c.args.left.now) (type_of c.args.right.now) in
-    let s : asked_of u us g false ≡ c.args.self.now = ap (asked_of u us g) (sym c.if-self.false) ∙ c.self.view_is in
+    let view : asked_of u us g false ≡ c.args.self.now = ap (asked_of u us g) (sym c.if-self.false) ∙ c.self.view_is in
     record {
-      ok = subst (λ s. Adds s d (asked_of u us h false)) s (subst (λ us. Adds (asked_of u us g false) d (asked_of u us h false)) c.as_slice.ensures.value c.in-Ok.ensures.ok);
-      met = λ l. subst (λ s. CanMeet l s d) s (subst (λ us. CanMeet l (asked_of u us g false) d) c.as_slice.ensures.value (c.in-Ok.ensures.met l));
+      ok = subst (λ s. Adds s d (asked_of u us h false)) view (subst (λ us. Adds (asked_of u us g false) d (asked_of u us h false)) c.as_slice.ensures.value c.in-Ok.ensures.ok);
+      met = λ l. subst (λ s. CanMeet l s d) view (subst (λ us. CanMeet l (asked_of u us g false) d) c.as_slice.ensures.value (c.in-Ok.ensures.met l));
       unmet = search rules;
       labels = search rules;
       count = search rules;
@@ -30,11 +30,11 @@ returns-in-Err c =
     let us = c.self.inside.unknowns.items in
     let g = c.self.inside.graph in
     let d : Demand = equal (type_of c.args.left.now) (type_of c.args.right.now) in
-    let s : asked_of u us g false ≡ c.args.self.now = ap (asked_of u us g) (sym c.if-self.false) ∙ c.self.view_is in
+    let view : asked_of u us g false ≡ c.args.self.now = ap (asked_of u us g) (sym c.if-self.false) ∙ c.self.view_is in
     record {
       ok = tt;
       met = tt;
-      unmet = λ l e. subst (λ s. IsFirstUnmet l s d) s (subst (λ us. IsFirstUnmet l (asked_of u us g false) d) c.as_slice.ensures.value (let r : c.in-Err.refusal ≡ Unmet l = cc in c.in-Err.ensures.unmet l (ap Err r)));
+      unmet = λ l e. subst (λ s. IsFirstUnmet l s d) view (subst (λ us. IsFirstUnmet l (asked_of u us g false) d) c.as_slice.ensures.value (let r : c.in-Err.refusal ≡ Unmet l = cc in c.in-Err.ensures.unmet l (ap Err r)));
       labels = search rules;
       count = search rules;
       returns = search rules;

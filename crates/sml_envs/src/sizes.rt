@@ -10,32 +10,50 @@ use std::rc::Rc;
 /// The greatest size of a scheme and of the body of a type function, in nodes.
 pub const GREATEST_SIZE: u32 = 10_000;
 
-/// What a type function gives for these types. Where that is too large for a scheme, a flat type that is too large as well
-/// stands for it. So no type becomes much larger or deeper than the limit, and what it comes into is too large.
+/// What a type function gives for these types. Where that is too large for a scheme, a shallow type that is too large as
+/// well stands for it. So no type becomes much larger or deeper than the limit, and what it comes into is too large.
 pub fn applied(
     alloc: Global,
     function: &Scheme,
     arguments: &[Rc<MlType>],
 ) -> Result<Rc<MlType>, Memory> {
-    let ty = apply(alloc, function, arguments)?;
-    if arguments.is_empty() || size_up_to(&ty, GREATEST_SIZE) <= GREATEST_SIZE {
-        return Ok(ty);
+    if arguments.is_empty() {
+        return Ok(apply(alloc, function, arguments)?);
     }
-    too_large(alloc)
+    // what it gives is no smaller than its body
+    if is_too_large(&function.body) {
+        return too_large(alloc);
+    }
+    let ty = apply(alloc, function, arguments)?;
+    if is_too_large(&ty) {
+        return too_large(alloc);
+    }
+    Ok(ty)
 }
 
-/// A flat type of one node more than a scheme may have. No other type is a list of more types than one.
+fn is_too_large(ty: &MlType) -> bool {
+    size_up_to(ty, GREATEST_SIZE) > GREATEST_SIZE
+}
+
+/// A shallow type of more nodes than a scheme may have, whose parts are shared. No other type is a list of more types than
+/// one.
 fn too_large(alloc: Global) -> Result<Rc<MlType>, Memory> {
-    let part = Rc::new(
+    let int = Rc::new(
         alloc,
         MlType::Name(TyName::Initial(Initial::Int), Vec::new(alloc)),
     )?;
+    let wide = list_of_copies(alloc, &int)?;
+    list_of_copies(alloc, &wide)
+}
+
+/// The list of a type, written 101 times: so a list of such lists has 10,303 nodes.
+fn list_of_copies(alloc: Global, part: &Rc<MlType>) -> Result<Rc<MlType>, Memory> {
     let mut parts = Vec::new(alloc);
-    for _ in 0..GREATEST_SIZE {
+    for _ in 0..101 {
         parts.push(part.clone()?)?;
     }
-    let whole = MlType::Name(TyName::Initial(Initial::List), parts);
-    Ok(Rc::new(alloc, whole)?)
+    let list = MlType::Name(TyName::Initial(Initial::List), parts);
+    Ok(Rc::new(alloc, list)?)
 }
 
 /// Whether a type has a part that stands for one that is too large.

@@ -155,7 +155,7 @@ const DEEP_TYPES: [&str; 13] = [
     "structure Z :> sig end = struct type 'a v = 'a@ list@3000@ val _ = let val _ = fn (x : int@ v@) => x in 1 end end@1 fault E7 1.15060 type too large\n",
     "structure Z :> sig end = struct type 'a v = 'a@ list@3000@ val (x : 'a * int@ v@) = let fun f y = f y in f 1 end end@1 fault U7 1.15048 explicit type variable not general\n",
     "structure Z :> sig end = struct datatype d = D of int@ v@3000@ withtype 'a v = 'a@ list@ end@1 fault E7 1.33 type too large\n",
-    "structure Z :> sig end = struct datatype d = D of int v@ * int v@20000@ withtype 'a v = 'a@ * 'a@ end@1 fault E7 1.33 type too large\n",
+    "structure Z :> sig end = struct datatype d = D of int v@ * int v@10000@ withtype 'a v = 'a@ * 'a@ end@1 fault E7 1.33 type too large\n",
     "signature S = sig type 'a t val x : int@ t@3000@ end where type 'a t = 'a@ list@@1 fault E7 1.6059 type too large\n",
     "structure Z :> sig end = struct structure A : sig type 'a t val x : int@ t@3000@ end = struct type 'a t = 'a@ list@ val x = let fun f y = f y in f 1 end end end@1 fault E7 1.47 type too large\n",
 ];

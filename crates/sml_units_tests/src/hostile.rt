@@ -142,8 +142,9 @@ fn endless_texts(rt: HostRuntime) -> Result<(), Fail> {
     Ok(())
 }
 
-/// Types that are short as text, and millions of lists deep where each type constructor stands for its lists, or hundreds
-/// of millions of parts wide. Where such a type is a constraint, its value declaration has the fault, after all others.
+/// Types that are short as text, and millions of lists deep where each type constructor stands for its lists, or tens of
+/// millions of parts wide. Where such a type is a constraint, its value declaration has the fault, after all others. Behind
+/// `withtype` the tree is too high.
 const DEEP_TYPES: [&str; 13] = [
     "structure Z :> sig end = struct type 'a v = 'a@ list@3000@ type w = int@ v@ end@1 fault E7 1.15048 type too large\n",
     "structure Z :> sig end = struct type 'a v = 'a@ list@3000@ datatype d = D of int@ v@ end@1 fault E7 1.15048 type too large\n",
@@ -154,8 +155,8 @@ const DEEP_TYPES: [&str; 13] = [
     "structure Z :> sig end = struct type 'a v = 'a@ list@3000@ val _ = fn (x : int@ v@) => 1 2 end@1 fault U1 1.21072 types clash\n",
     "structure Z :> sig end = struct type 'a v = 'a@ list@3000@ val _ = let val _ = fn (x : int@ v@) => x in 1 end end@1 fault E7 1.15060 type too large\n",
     "structure Z :> sig end = struct type 'a v = 'a@ list@3000@ val (x : 'a * int@ v@) = let fun f y = f y in f 1 end end@1 fault U7 1.15048 explicit type variable not general\n",
-    "structure Z :> sig end = struct datatype d = D of int@ v@3000@ withtype 'a v = 'a@ list@ end@1 fault E7 1.33 type too large\n",
-    "structure Z :> sig end = struct datatype d = D of int v@ * int v@10000@ withtype 'a v = 'a@ * 'a@ end@1 fault E7 1.33 type too large\n",
+    "structure Z :> sig end = struct datatype d = D of int@ v@3000@ withtype 'a v = 'a@ list@ end@1 fault S3 1.1 tree too high\n",
+    "structure Z :> sig end = struct datatype d = D of int v@ * int v@5000@ withtype 'a v = 'a list@ * 'a list@ end@1 fault E7 1.33 type too large\n",
     "signature S = sig type 'a t val x : int@ t@3000@ end where type 'a t = 'a@ list@@1 fault E7 1.6059 type too large\n",
     "structure Z :> sig end = struct structure A : sig type 'a t val x : int@ t@3000@ end = struct type 'a t = 'a@ list@ val x = let fun f y = f y in f 1 end end end@1 fault E7 1.47 type too large\n",
 ];

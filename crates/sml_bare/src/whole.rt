@@ -27,7 +27,7 @@ use sml_reach::fitted::{Fit, Fitted};
 use sml_reach::names::Names;
 use sml_reach::place::text;
 use sml_read::grammar::{DeclarationRule, Node, Rule};
-use sml_read::phrases::starts;
+use sml_read::phrases::{first_token, token_count};
 use sml_tree::names::Name;
 use sml_tree::patterns::{Constant, ConstantKind};
 use sml_tree::structures::TopDec;
@@ -148,10 +148,12 @@ fn phrases(
     ensures within { IfOk result (λ u. spec.are_low (source_of source.now) nodes.now (starts_of 0 nodes.now) ≡ true) }
     ensures high { IfErr result (λ f. f ≡ TooHigh → spec.are_low (source_of source.now) nodes.now (starts_of 0 nodes.now) ≡ false) }
 {
-    let starts = starts(alloc, nodes)?;
+    let mut token = token_count(nodes);
     let mut stack = Stack::new(alloc);
     for i in (0..nodes.len()).rev() {
-        match at_node(source, names, expander, &mut stack, nodes[i], starts[i]) {
+        let node = nodes[i];
+        token = first_token(node, token);
+        match at_node(source, names, expander, &mut stack, node, token) {
             Ok(()) => {}
             Err(failure) => return Err(failure),
         }
@@ -198,18 +200,6 @@ fn fits_at<'a>(fitted: &'a [Fitted], count: usize) -> &'a [Fit]
     }
 }
 
-/// How many tokens these nodes have, by which the places are chosen that are made beforehand.
-fn tokens_of(nodes: &[Node]) -> usize {
-    let mut count: usize = 0;
-    for node in nodes {
-        match *node {
-            Node::Leaf => count = count.saturating_add(1),
-            Node::Inner(_) => {}
-        }
-    }
-    count
-}
-
 /// The declaration of these nodes behind so many tokens, and behind so many declarations of the unit.
 fn declared_at(
     alloc: Global,
@@ -225,7 +215,7 @@ fn declared_at(
     ensures { IfOk result (λ top. option_map top_of top ≡ spec.bare_dec_at unit.now tokens.now first nodes.now (drop count (map fitted_of fitted.now))) }
 {
     let fits = fits_at(fitted, count);
-    let placed = tokens_of(nodes).saturating_add(1);
+    let placed = token_count(nodes).saturating_add(1);
     let source = Source::new(alloc, unit, behind(tokens, first), first, fits, placed)?;
     declared(alloc, &source, names, expander, nodes)
 }

@@ -13,8 +13,8 @@ use Rattle.sml_bare_decs.specs.FunctionRules.{RightSide, right_side_in, prefix_h
 use Rattle.sml_phrases.specs.PhraseHeights.{low, is_low}
 use Rattle.sml_phrases.specs.Phrases.{Phrase, of_values, of_clauses, at, first, pat_in, clauses_in}
 use Rattle.sml_phrases.specs.PhraseViews.{Gives, Puts}
-use Rattle.sml_bare_pats.specs.LowViews.{GivesPat}
-use Rattle.sml_bare_pats.specs.PatternSequences.{pat_place}
+use Rattle.sml_pat_sequences.specs.LowViews.{GivesPat}
+use Rattle.sml_pat_sequences.specs.PatternSequences.{pat_place}
 use Rattle.sml_phrases.specs.declared.low.LowBind.{LowBind}
 use Rattle.sml_phrases.specs.declared.phrase.Failure.{Failure}
 use Rattle.sml_phrases.specs.declared.phrase.Failure.TheVariants.{TooHigh, Memory}

@@ -10,8 +10,8 @@ use Rattle.sml_read.specs.declared.grammar.DeclarationRule.{DeclarationRule}
 use Rattle.sml_read.specs.declared.grammar.DeclarationRule.TheVariants.{DecLocal, CoreDecVal, CoreDecFun, CoreDecType, CoreDecDatatype, CoreDecException, CoreDecOpen, CoreDecInfix, CoreDecInfixr, CoreDecNonfix, OpenMoreNone, OpenMoreLongStrId, FixityNone, FixityLevel, VidMoreNone, VidMoreVid, ValDecTypeVariable, ValDecOpenRound, ValDecRec, ValDecBarePat, ValRoundTypeVariable, ValRoundPatRound, ValBindRec, ValBindPat, ValMoreNone, ValMoreAnd, FunDecTypeVariable, FunDecOpenRound, FunDecBareAtPat, FunRoundTypeVariable, FunRoundPatRound, ClausesAtPat, ClausesMoreNone, ClausesMoreAnd, ClauseAtPats, ClauseMoreNone, ClauseMoreBar, AtPatsNone, AtPatsAtPat, TypedNone, TypedColon, TypBindTvs, TypBindMoreNone, TypBindMoreAnd, DatDecSomeTvs, DatDecTyCon, DatRestDatatype, DatRestConBinds, DatBindMoreNone, DatBindMoreAnd, DatBindMoreWithtype, ConBindsMaybeOp, ConBindsMoreNone, ConBindsMoreBar, MaybeOpNone, MaybeOpOp, ExnBindMaybeOp, ExnBindMoreNone, ExnBindMoreAnd, ExnRestNone, ExnRestOf, ExnRestEquals}
 use Rattle.sml_bare_decs.specs.FunctionRules.{right_side_in, clause_from, function_from, round_rest, round_functions}
 use Rattle.sml_phrases.specs.Phrases.{Phrase, nothing, of_long, of_longs, of_pats, of_atoms, of_dec, of_binds, of_values, of_round_values, of_functions, of_typ_bind, of_typ_binds, of_con_bind, of_con_binds, of_datatypes, of_constructors, of_copy, of_exn_binds, at, name_in, long_in, names_in, longs_in, ty_in, pat_in, pats_in, exp_in, decs_in, bind_in, binds_in, typ_binds_in, con_binds_in, exn_binds_in, ty_if_any, of_bind, of_clauses, of_right_side, clauses_in}
-use Rattle.sml_bare_pats.specs.PatternRules.{round_pat}
-use Rattle.sml_bare_pats.specs.PatternSequences.{pat_place, round_sequence}
+use Rattle.sml_pat_sequences.specs.RoundPatterns.{round_pat}
+use Rattle.sml_pat_sequences.specs.PatternSequences.{pat_place, round_sequence}
 use Rattle.sml_fixity.specs.Shapes.{Shape}
 
 -- explicit type variables, the bindings before the first `rec`, and those behind it

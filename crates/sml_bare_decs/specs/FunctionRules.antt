@@ -10,8 +10,8 @@ use Rattle.sml_tree.specs.Clauses.{Clause}
 use Rattle.sml_derived.specs.Derived.{function_of}
 use Rattle.sml_phrases.specs.Phrases.{Phrase, of_functions, of_right_side, of_round_functions, first_place}
 use Rattle.sml_fixity.specs.Shapes.{Shape, headed}
-use Rattle.sml_bare_pats.specs.PatternRules.{round_pat}
-use Rattle.sml_bare_pats.specs.PatternSequences.{pat_place, paired}
+use Rattle.sml_pat_sequences.specs.RoundPatterns.{round_pat}
+use Rattle.sml_pat_sequences.specs.PatternSequences.{pat_place, paired}
 
 -- what the head of a clause gives: the function's name and its arguments
 pub record Heading : Type 0 where

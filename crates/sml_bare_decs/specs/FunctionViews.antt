@@ -1,23 +1,17 @@
--- The program's headings and lists of patterns as those of the definitions.
-use Rattle.std.specs.Prelude.{map, reverse, Result, Bool}
+-- The program's headings and right sides as those of the definitions.
+use Rattle.std.specs.Prelude.{Result}
 use Rattle.std.specs.Option.{option_map}
-use Rattle.sml_lex.specs.declared.fault.Place.{Place}
 use Rattle.sml_tree.specs.Heights.{pats_height}
 use Rattle.sml_tree.specs.Views.{ident_of}
-use Rattle.sml_tree.specs.Patterns.{Pats}
 use Rattle.sml_tree.specs.TypeViews.{ty_of}
-use Rattle.sml_tree.specs.PatternViews.{pat_of, pats_of}
 use Rattle.sml_tree.specs.ExpressionViews.{exp_of}
 use Rattle.sml_bare_decs.specs.FunctionRules.{Heading, RightSide}
+use Rattle.sml_pat_sequences.specs.LowViews.{low_pats_of}
 use Rattle.sml_phrases.specs.PhraseHeights.{low}
 use Rattle.sml_phrases.specs.PhraseViews.{Gives}
-use Rattle.sml_phrases.specs.declared.low.LowPats.{LowPats}
 use Rattle.sml_bare_decs.specs.declared.clause_heads.ClauseHead as H
 use Rattle.sml_bare_decs.specs.declared.function_rules.RightSide as R
 use Rattle.sml_phrases.specs.declared.phrase.Failure.{Failure}
-
-abbrev pub low_pats_of : LowPats → Pats Place
-low_pats_of qs = pats_of (map (λ q. pat_of q.tree) (reverse qs.trees.items))
 
 abbrev pub heading_of : H.ClauseHead → Heading
 heading_of h = record { name = ident_of h.name; arguments = low_pats_of h.arguments }

@@ -10,13 +10,14 @@ ghost use Rattle.sml_phrases.specs.PhraseHeights.{low};
 ghost use Rattle.sml_phrases.specs.PhraseViews.{Gives};
 ghost use Rattle.sml_fixity.specs.Shapes.{shape_of};
 ghost use Rattle.sml_bare_decs.specs.FunctionRules.{nameless, prefix_head, between, infix_head, in_brackets, bracketed_head, heading};
-ghost use Rattle.sml_bare_decs.specs.FunctionViews.{heading_of, low_pats_of, GivesHeading};
+ghost use Rattle.sml_bare_decs.specs.FunctionViews.{heading_of, GivesHeading};
+ghost use Rattle.sml_pat_sequences.specs.LowViews.{low_pats_of};
 
-use crate::declaration_lists::and_pat;
-use sml_bare_pats::pattern_sequences::paired;
 use sml_fixity::heads::Head;
 use sml_fixity::shape::Shape;
 use sml_lex::fault::{Memory, Place};
+use sml_pat_sequences::low_lists::and_pat;
+use sml_pat_sequences::pattern_sequences::paired;
 use sml_phrases::low::{LowPat, LowPats};
 use sml_phrases::phrase::Failure;
 use sml_tree::bare::Ident;

@@ -3,39 +3,18 @@
 ghost use Rattle.std.specs.Prelude.{◌≡◌, ◌∷◌, map, reverse, IfOk};
 ghost use Rattle.std.specs.Option.{option_map};
 ghost use Rattle.sml_tree.specs.TypeViews.{name_of, ty_of};
-ghost use Rattle.sml_tree.specs.Patterns.{and_pat};
-ghost use Rattle.sml_tree.specs.PatternViews.{pat_of, pats_of};
-ghost use Rattle.sml_tree.specs.Expressions.{and_dec, and_bind};
+ghost use Rattle.sml_tree.specs.Expressions.{and_bind};
 ghost use Rattle.sml_tree.specs.BindingViews.{typ_bind_of, con_bind_of, dat_bind_of};
-ghost use Rattle.sml_tree.specs.ExpressionViews.{exn_bind_of, dec_of, decs_of, bind_of, binds_of};
+ghost use Rattle.sml_tree.specs.ExpressionViews.{exn_bind_of, bind_of, binds_of};
 ghost use Rattle.sml_bare_decs.specs.DeclarationRules.{joined};
 
 use crate::declaration_parts::LowExnBind;
 use sml_lex::fault::Memory;
 use sml_phrases::low::{
-    LowBind, LowBinds, LowConBinds, LowDatBinds, LowDec, LowDecs, LowExnBinds, LowPat, LowPats,
-    LowTy, LowTypBinds,
+    LowBind, LowBinds, LowConBinds, LowDatBinds, LowExnBinds, LowTy, LowTypBinds,
 };
 use sml_tree::expressions::{ConBind, DatBind, TypBind};
 use sml_tree::names::Name;
-
-pub fn and_pat(first: LowPat, others: LowPats) -> Result<LowPats, Memory>
-    ensures { IfOk result (λ all. pats_of (map (λ q. pat_of q.tree) (reverse all.trees.items)) ≡ and_pat (pat_of first.tree) (pats_of (map (λ q. pat_of q.tree) (reverse others.trees.items)))) }
-{
-    let height = first.height.max(others.height);
-    let mut trees = others.trees;
-    trees.push(first)?;
-    Ok(LowPats { trees, height })
-}
-
-pub fn and_dec(first: LowDec, others: LowDecs) -> Result<LowDecs, Memory>
-    ensures { IfOk result (λ all. decs_of (map dec_of (reverse all.trees.items)) ≡ and_dec (dec_of first.tree) (decs_of (map dec_of (reverse others.trees.items)))) }
-{
-    let height = first.height.max(others.height);
-    let mut trees = others.trees;
-    trees.push(first.tree)?;
-    Ok(LowDecs { trees, height })
-}
 
 pub fn and_bind(first: LowBind, others: LowBinds) -> Result<LowBinds, Memory>
     ensures { IfOk result (λ all. binds_of (map bind_of (reverse all.trees.items)) ≡ and_bind (bind_of first.tree) (binds_of (map bind_of (reverse others.trees.items)))) }

@@ -5,10 +5,10 @@ ghost use Rattle.std.specs.Option.{option_map};
 ghost use Rattle.sml_tree.specs.Heights.{highest, typ_bind_height, exn_bind_height};
 ghost use Rattle.sml_tree.specs.BindingViews.{typ_bind_of};
 ghost use Rattle.sml_tree.specs.ExpressionViews.{exn_bind_of};
-ghost use Rattle.sml_tree.specs.Expressions.{local_dec, type_dec, exception_dec, open_dec, fixity_dec, no_dec, and_dec};
+ghost use Rattle.sml_tree.specs.Expressions.{local_dec, type_dec, exception_dec, open_dec, fixity_dec};
 ghost use Rattle.sml_read.specs.Grammar.{right_side};
 ghost use Rattle.sml_read.specs.declared.grammar.Rule.TheVariants.{Declarations};
-ghost use Rattle.sml_phrases.specs.Phrases.{nothing, of_longs, of_dec, of_decs, of_typ_bind, of_typ_binds, of_exn_binds, at, name_in, long_in, names_in, longs_in, ty_in, dec_in, decs_in, typ_binds_in, exn_binds_in};
+ghost use Rattle.sml_phrases.specs.Phrases.{nothing, of_longs, of_dec, of_typ_bind, of_typ_binds, of_exn_binds, at, name_in, long_in, names_in, longs_in, ty_in, decs_in, typ_binds_in, exn_binds_in};
 ghost use Rattle.sml_phrases.specs.PhraseHeights.{low};
 ghost use Rattle.sml_phrases.specs.PhraseViews.{Puts, Gives, seen};
 ghost use Rattle.sml_bare_decs.specs.DeclarationRules.{value_dec, function_dec, typ_bind_in, exn_bind_in, exn_rest, values_in, functions_in, declaration_phrase};
@@ -18,7 +18,7 @@ use crate::datatype_rules::{
     and_constructor, constructors, datatype_before, datatype_dec, more_datatypes, no_con_bind,
     no_dat_bind, plain_datatype, with_types,
 };
-use crate::declaration_lists::{and_dec, and_exn_bind, and_typ_bind};
+use crate::declaration_lists::{and_exn_bind, and_typ_bind};
 use crate::declaration_parts::{
     ExceptionRest, Functions, TypeBinding, Values, pop_exn_bind, pop_exn_rest, pop_functions,
     pop_typ_bind, pop_values,
@@ -34,7 +34,7 @@ use crate::value_rules::{
 use sml_derived::expander::Expander;
 use sml_fixity::shape::Shape;
 use sml_lex::fault::Place;
-use sml_phrases::low::{LowDec, LowDecs, LowExnBinds, LowTypBinds};
+use sml_phrases::low::{LowDec, LowExnBinds, LowTypBinds};
 use sml_phrases::phrase::Failure;
 use sml_phrases::raise::raised;
 use sml_phrases::stack::Stack;
@@ -254,27 +254,6 @@ fn fixity_dec(stack: &mut Stack, place: Place, parts: usize) -> Result<(), Failu
         tree: Dec::Fixity(place),
         height: 1,
     })
-}
-
-/// The sequence of no declarations.
-pub fn no_dec(stack: &mut Stack) -> Result<(), Failure>
-    ensures { Puts (of_decs no_dec) 0 (seen stack.old) (seen stack.new) result }
-{
-    let none = LowDecs {
-        trees: Vec::new(stack.alloc),
-        height: 0,
-    };
-    stack.put_decs(none)
-}
-
-/// A declaration before others.
-pub fn dec_before(stack: &mut Stack) -> Result<(), Failure>
-    ensures { let vs = seen stack.old in Puts (of_decs (and_dec (dec_in (at vs 0)) (decs_in (at vs 1)))) 2 vs (seen stack.new) result }
-{
-    let first = stack.dec();
-    let others = stack.decs();
-    let all = and_dec(first, others)?;
-    stack.put_decs(all)
 }
 
 /// Nothing, of so many parts.

@@ -1,3 +1,2 @@
-mod PatternSequences
 mod TypeChains
 mod PatternLists

@@ -1,4 +1,4 @@
--- Patterns in round brackets, and lists of patterns from their last pattern to their first.
+-- Lists of patterns from their last pattern to their first.
 use Rattle.std.proofs.Common.{◌≡◌, ◌+◌, ◌≤◌, List, [], ◌∷◌, ◌++◌, map, reverse, length, arith, refl, ap, sym, ◌∙◌}
 use Rattle.sml_lex.specs.declared.fault.Place.{Place}
 use Rattle.sml_tree.specs.Heights.{pat_height, pats_height}
@@ -6,8 +6,8 @@ use Rattle.sml_tree.specs.Patterns.{Pat, Pats, pat_tuple, no_pat, and_pat}
 use Rattle.sml_tree.specs.PatternViews.{pat_of, pats_of}
 use Rattle.sml_tree.specs.declared.patterns.Pat as P
 use Rattle.sml_derived.specs.Derived.{pat_nil, pat_cons}
-use Rattle.sml_bare_pats.specs.LowViews.{low_pat_of}
-use Rattle.sml_bare_pats.specs.PatternRules.{round_pat, list_pat}
+use Rattle.sml_pat_sequences.specs.LowViews.{low_pat_of}
+use Rattle.sml_bare_pats.specs.PatternRules.{list_pat}
 use Rattle.sml_phrases.specs.declared.low.LowPat.{LowPat}
 
 -- some patterns before a list
@@ -41,13 +41,3 @@ pub list-next-height : (p : Place) (r whole : Pat Place) (olds rest : List LowPa
 list-next-height p r whole olds rest q e so_far =
     let this = list-next p r (pat_cons p (low_pat_of q) r) whole olds rest q e refl so_far in
     rw (sym this) (list_onto-height p (map low_pat_of rest) (pat_cons p (low_pat_of q) r))
-
-pub round_pat_height : (p : Place) (qs : Pats Place) → pat_height (round_pat p qs) ≡ pats_height qs + 1
-round_pat_height p no_pat = refl
-round_pat_height p (and_pat q no_pat) = omega arith
-round_pat_height p (and_pat q (and_pat r qs)) = omega arith
-
-pub round-others : (p : Place) (qs : List P.Pat) → (length qs ≡ 1 → ⊥) → pat_tuple p (pats_of (map pat_of qs)) ≡ round_pat p (pats_of (map pat_of qs))
-round-others p [] other = refl
-round-others p (q ∷ []) other = absurd (other refl)
-round-others p (q ∷ r ∷ qs) other = refl

@@ -8,9 +8,9 @@ use Rattle.std.proofs.lemmas.List.{length-reverse}
 use Rattle.sml_tree.specs.TypeViews.{long_name_of, tys_of}
 use Rattle.sml_tree.specs.declared.bare.LongIdent.{LongIdent}
 use Rattle.sml_bare_pats.specs.TypeRules.{product, constructed}
-use Rattle.sml_bare_pats.specs.LowViews.{low_ty_of}
+use Rattle.sml_pat_sequences.specs.LowViews.{low_ty_of}
 use Rattle.sml_phrases.specs.declared.low.LowTy.{LowTy}
-use Rattle.sml_bare_pats.proofs.PatternSequences.{last_first}
+use Rattle.sml_pat_sequences.proofs.PatternSequences.{last_first}
 
 constructed-height : (p : Place) (t : Ty Place) (cs : List (LongName Place)) → ty_height t ≤ ty_height (constructed p t cs)
 constructed-height p t [] = omega arith

@@ -5,19 +5,15 @@ use Rattle.std.specs.Prelude.{List, true, false, Option, Some, None}
 use Rattle.sml_lex.specs.declared.fault.Place.{Place}
 use Rattle.sml_tree.specs.Names.{Name}
 use Rattle.sml_tree.specs.Types.{Ty, no_ty, and_ty}
-use Rattle.sml_tree.specs.Patterns.{Pat, Pats, wildcard, pat_constant, pat_name, pat_row, pat_tuple, pat_bracket, pat_as, no_pat, and_pat, pat_field, no_pat_field, and_pat_field}
+use Rattle.sml_tree.specs.Patterns.{Pat, Pats, wildcard, pat_constant, pat_name, pat_row, pat_as, no_pat, and_pat, pat_field, no_pat_field, and_pat_field}
 use Rattle.sml_read.specs.declared.grammar.PatternRule.{PatternRule}
 use Rattle.sml_read.specs.declared.grammar.PatternRule.TheVariants.{PatOpenRound, BarePatVid, BarePatOp, BarePatOtherAtPat, OpPatVid, OpPatQualified, AfterVidNone, AfterVidAs, AfterVidColon, AfterVidAtPat, AfterVidTyNone, AfterVidTyAs, AfterVidTyColon, AtPatMoreNone, AtPatMoreAtPat, AtPatMoreColon, AtPatOpenRound, BareAtPatVid, BareAtPatOp, OtherAtPatWildcard, OtherAtPatConstant, OtherAtPatQualified, OtherAtPatOpenCurly, OtherAtPatOpenSquare, PatRoundCloseRound, PatRoundPat, PatRoundMoreCloseRound, PatRoundMoreComma, PatListCloseSquare, PatListPat, PatListMoreCloseSquare, PatListMoreComma, PatRowCloseCurly, RowDots, RowNumeral, RowVid, RowRestEquals, RowRestTyped, RowAsNone, RowAsAs, RowMoreNone, RowMoreComma}
 use Rattle.sml_derived.specs.Derived.{long, pat_nil, pat_cons, layered}
 use Rattle.sml_bare_pats.specs.PatternPhrases.{pat_fields_in, flexible_in, atoms_in, colons_in}
-use Rattle.sml_bare_pats.specs.PatternSequences.{no_operand, sequence_pat, round_sequence}
+use Rattle.sml_pat_sequences.specs.PatternSequences.{no_operand, sequence_pat, round_sequence}
+use Rattle.sml_pat_sequences.specs.RoundPatterns.{round_pat}
 use Rattle.sml_phrases.specs.Phrases.{Phrase, nothing, of_tys, of_pat, of_pats, of_pat_fields, of_atoms, of_layer, of_op_atoms, of_op_layer, name_in, long_in, constant_in, ty_in, tys_in, pat_in, pats_in, ty_if_any, pat_if_any, at}
 use Rattle.sml_fixity.specs.Shapes.{Shape}
-
--- patterns in round brackets
-abbrev pub round_pat : Place → Pats Place → Pat Place
-round_pat p (and_pat q no_pat) = pat_bracket p q
-round_pat p qs = pat_tuple p qs
 
 -- a list of patterns
 abbrev pub list_pat : Place → Pats Place → Pat Place

@@ -1,9 +1,7 @@
 // What names, types and patterns make by their rules.
 #![tactic(auto)]
 
-pub mod low_lists;
 pub mod name_rules;
 pub mod pattern_parts;
 pub mod pattern_rules;
-pub mod pattern_sequences;
 pub mod type_rules;

@@ -6,12 +6,11 @@ ghost use Rattle.sml_tree.specs.Patterns.{pat_name, pat_as, pat_field, and_pat_f
 ghost use Rattle.sml_tree.specs.TypeViews.{name_of, long_name_of};
 ghost use Rattle.sml_tree.specs.PatternViews.{pat_of, pats_of};
 ghost use Rattle.sml_derived.specs.Derived.{layered, pat_nil, pat_cons};
-ghost use Rattle.sml_bare_pats.specs.LowViews.{GivesPat, low_ty_of, low_pat_of, low_tys_of, low_pats_of, low_pat_fields_of};
+ghost use Rattle.sml_pat_sequences.specs.LowViews.{GivesPat, low_ty_of, low_pat_of, low_tys_of, low_pats_of, low_pat_fields_of};
 ghost use Rattle.sml_bare_pats.specs.PatternPhrases.{pat_fields_in, flexible_in, atoms_in, colons_in};
-ghost use Rattle.sml_bare_pats.specs.PatternRules.{round_pat, list_pat, field_pat};
+ghost use Rattle.sml_bare_pats.specs.PatternRules.{list_pat, field_pat};
 ghost use Rattle.sml_phrases.specs.PhraseViews.{phrase_of};
 
-use crate::low_lists::pat_trees;
 use sml_derived::expander::Expander;
 use sml_derived::patterns::layered as layered_tree;
 use sml_lex::fault::{Memory, Place};
@@ -31,29 +30,6 @@ pub fn pat_name(place: Place, long: LongIdent) -> LowPat
         tree: Pat::Identifier(place, long),
         height: 1,
     }
-}
-
-fn round_tree(alloc: Global, place: Place, pats: Vec<Pat>) -> Result<Pat, Memory>
-    ensures { IfOk result (λ pat. pat_of pat ≡ round_pat place (pats_of (map pat_of pats.items))) }
-{
-    let mut pats = pats;
-    if pats.len() != 1 {
-        return Ok(Pat::Tuple(place, pats));
-    }
-    match pats.pop() {
-        Some(pat) => Ok(Pat::Bracket(place, Box::new(alloc, pat)?)),
-        None => Ok(Pat::Tuple(place, pats)),
-    }
-}
-
-/// Patterns in round brackets.
-#[tactic(auto, using(crate::proofs::PatternLists::round_pat_height))]
-pub fn round_pat(alloc: Global, place: Place, pats: LowPats) -> Result<LowPat, Failure>
-    ensures { GivesPat (round_pat place (low_pats_of pats)) result }
-{
-    let height = raised(pats.height, 1)?;
-    let tree = round_tree(alloc, place, pat_trees(alloc, pats)?)?;
-    Ok(LowPat { tree, height })
 }
 
 fn cons(expander: &Expander, place: Place, first: LowPat, rest: LowPat) -> Result<LowPat, Failure>

@@ -8,22 +8,24 @@ ghost use Rattle.sml_tree.specs.Patterns.{wildcard, pat_constant, pat_name, pat_
 ghost use Rattle.sml_tree.specs.Types.{no_ty, and_ty};
 ghost use Rattle.sml_tree.specs.TypeViews.{name_of};
 ghost use Rattle.sml_derived.specs.Derived.{long};
-ghost use Rattle.sml_bare_pats.specs.LowViews.{GivesPat, low_ty_of, low_pat_of, low_pats_of};
+ghost use Rattle.sml_pat_sequences.specs.LowViews.{GivesPat, low_ty_of, low_pat_of, low_pats_of};
 ghost use Rattle.sml_bare_pats.specs.PatternPhrases.{pat_fields_in, flexible_in, atoms_in, colons_in};
-ghost use Rattle.sml_bare_pats.specs.PatternRules.{round_pat, list_pat, sequence_from, from_vid, op_from_vid, behind_op, behind_colon, and_atom, field_pat, and_field, pattern_phrase};
-ghost use Rattle.sml_bare_pats.specs.PatternSequences.{round_sequence};
+ghost use Rattle.sml_bare_pats.specs.PatternRules.{list_pat, sequence_from, from_vid, op_from_vid, behind_op, behind_colon, and_atom, field_pat, and_field, pattern_phrase};
+ghost use Rattle.sml_pat_sequences.specs.PatternSequences.{round_sequence};
+ghost use Rattle.sml_pat_sequences.specs.RoundPatterns.{round_pat};
 ghost use Rattle.sml_phrases.specs.Phrases.{of_tys, of_pat, of_pats, of_pat_fields, of_atoms, of_layer, of_op_atoms, at, name_in, long_in, constant_in, ty_in, tys_in, pat_in, pats_in, ty_if_any, pat_if_any};
 ghost use Rattle.sml_phrases.specs.PhraseViews.{Puts, phrase_of, seen};
 ghost use Rattle.sml_fixity.specs.Shapes.{shape_of};
 
-use crate::low_lists::{and_pat, and_ty};
 use crate::pattern_parts::{
-    and_field, atoms_in, field_pat, fields_in, layered, list_pat, pat_as, pat_name, round_pat,
+    and_field, atoms_in, field_pat, fields_in, layered, list_pat, pat_as, pat_name,
 };
-use crate::pattern_sequences::{no_operand, round_sequence, sequence};
 use sml_derived::expander::{Expander, copy_of, long};
 use sml_fixity::shape::Shape;
 use sml_lex::fault::{Memory, Place};
+use sml_pat_sequences::low_lists::{and_pat, and_ty};
+use sml_pat_sequences::pattern_sequences::{no_operand, round_sequence, sequence};
+use sml_pat_sequences::round_patterns::round_pat;
 use sml_phrases::low::{LowPat, LowPatFields, LowPats, LowTy, LowTys};
 use sml_phrases::phrase::{Failure, PatternPhrase, Phrase, TypePhrase, discard};
 use sml_phrases::raise::raised;

@@ -5,14 +5,14 @@ ghost use Rattle.sml_read.specs.Grammar.{right_side};
 ghost use Rattle.sml_read.specs.declared.grammar.Rule.TheVariants.{Types};
 ghost use Rattle.sml_tree.specs.TypeViews.{name_of, long_name_of};
 ghost use Rattle.sml_tree.specs.Types.{ty_variable, ty_row, ty_tuple, ty_constructor, no_ty, and_ty, ty_field, no_ty_field, and_ty_field};
-ghost use Rattle.sml_bare_pats.specs.LowViews.{GivesTy, low_ty_of, low_tys_of, low_ty_fields_of};
+ghost use Rattle.sml_pat_sequences.specs.LowViews.{GivesTy, low_ty_of, low_tys_of, low_ty_fields_of};
 ghost use Rattle.sml_phrases.specs.Phrases.{nothing, of_names, of_longs, of_ty, of_tys, of_ty_fields, of_arguments, at, name_in, names_in, long_in, longs_in, ty_in, tys_in, ty_fields_in, ty_if_any};
 ghost use Rattle.sml_phrases.specs.PhraseViews.{Puts, phrase_of, seen};
 ghost use Rattle.sml_bare_pats.specs.TypeRules.{arrow, product, constructed, round_ty, and_argument, type_phrase};
 
-use crate::low_lists::{and_ty, ty_trees};
 use sml_derived::expander::Expander;
 use sml_lex::fault::{Memory, Place};
+use sml_pat_sequences::low_lists::{and_ty, ty_trees};
 use sml_phrases::low::{LowTy, LowTyFields, LowTys};
 use sml_phrases::phrase::{Failure, Phrase, TypePhrase, discard};
 use sml_phrases::raise::raised;

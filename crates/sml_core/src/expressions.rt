@@ -3,8 +3,8 @@
 use crate::context::Context;
 use crate::matches::Kind;
 use crate::patterns::Variables;
-use crate::places::pattern_place;
 use crate::scopes::Mark;
+use sml_closing::places::pattern_place;
 use sml_envs::objects::{Status, Value};
 use sml_layers::layer::Bound;
 use sml_lex::fault::{Memory, Place};

@@ -8,7 +8,5 @@ mod explicit;
 mod expressions;
 mod matches;
 mod patterns;
-mod places;
 pub mod scopes;
-mod unguarded;
 pub mod values;

@@ -1,7 +1,7 @@
 //! The warnings of matches and bindings.
 
 use crate::context::Context;
-use crate::places::pattern_place;
+use sml_closing::places::pattern_place;
 use sml_envs::objects::Status;
 use sml_lex::fault::{Memory, Place};
 use sml_patterns::judge::{Holder, judge};

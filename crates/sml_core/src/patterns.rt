@@ -35,7 +35,7 @@ impl Variables {
     }
 }
 
-fn is_constructor(status: Status) -> bool {
+pub(crate) fn is_constructor(status: Status) -> bool {
     match status {
         Status::Variable | Status::Overloaded(_) => false,
         Status::Constructor {

@@ -1,12 +1,13 @@
 //! Value declarations (the Definition, sections 4.6 to 4.8, rules 15, 25 and 26).
 
 use crate::context::{Context, refused};
-use crate::expansive::is_function;
 use crate::patterns::Variables;
-use crate::places::{expression_place, pattern_place};
-use crate::unguarded::in_binds;
 use indexmap::IndexSet;
 use sml_asks::asks::{ask_fixed, ask_general, ask_labels, ask_reading, ask_scheme, ask_variable};
+use sml_closing::expansive::is_expansive;
+use sml_closing::functions::is_function;
+use sml_closing::places::{expression_place, pattern_place};
+use sml_closing::unguarded::in_binds;
 use sml_envs::objects::{Status, Value};
 use sml_envs::sizes::GREATEST_SIZE;
 use sml_layers::layer::Bound;
@@ -120,7 +121,7 @@ impl Context<'_> {
         ty: &MlType,
     ) -> Result<(), CoreFault> {
         self.equal(pattern_place(&bind.pat), pattern, ty)?;
-        let is_expansive = self.is_expansive(&bind.exp)?;
+        let is_expansive = is_expansive(&*self, &bind.exp)?;
         let count = declaration.variables.types.len();
         if declaration.expansive.len() < count {
             declaration.expansive.resize(count, is_expansive)?;

@@ -41,8 +41,10 @@ impl Stack {
     pub fn put_first(&mut self) -> Result<(), Failure>
         ensures { Puts (first (seen self.old)) 1 (seen self.old) (seen self.new) result }
     {
-        let phrase = self.pop();
-        self.put(phrase)
+        if self.is_empty() {
+            return self.put_nothing();
+        }
+        Ok(())
     }
 
     /// Takes the word on top off, and leaves the phrase below it where it is.
@@ -57,18 +59,6 @@ impl Stack {
         ensures { Puts nothing 0 (seen self.old) (seen self.new) result }
     {
         self.put(Phrase::Nothing)
-    }
-
-    pub fn put_word(&mut self, place: Place) -> Result<(), Failure>
-        ensures { Puts (of_word place) 0 (seen self.old) (seen self.new) result }
-    {
-        self.put(Phrase::Word(place))
-    }
-
-    pub fn put_name(&mut self, name: Name) -> Result<(), Failure>
-        ensures { Puts (of_name (name_of name)) 0 (seen self.old) (seen self.new) result }
-    {
-        self.put(Phrase::Name(name))
     }
 
     pub fn put_long(&mut self, long: LongIdent) -> Result<(), Failure>

@@ -1,6 +1,6 @@
 //! The phrases that have been made and are not yet part of another one, on a stack.
 
-ghost use Rattle.std.specs.Prelude.{◌≡◌, [], ◌∷◌, map, reverse, IfOk, OnOk};
+ghost use Rattle.std.specs.Prelude.{◌≡◌, [], ◌∷◌, map, reverse, true, false, IfOk, OnOk};
 ghost use Rattle.std.specs.Prelude.{drop};
 ghost use Rattle.std.specs.Option.{option_map};
 ghost use Rattle.sml_tree.specs.TypeViews.{name_of, long_name_of, ty_of, tys_of, ty_field_of, ty_fields_of};
@@ -56,8 +56,17 @@ impl Stack {
     pub fn push(&mut self, phrase: Phrase) -> Result<(), Memory>
         ensures { OnOk result (seen self.new ≡ phrase_of phrase ∷ seen self.old) }
     {
-        self.phrases.push(phrase)?;
+        self.phrases.reserve(1)?;
+        self.phrases.push_reserved(phrase);
         Ok(())
+    }
+
+    /// Whether there is no phrase.
+    pub fn is_empty(&self) -> bool
+        ensures none { result ≡ true → seen self.now ≡ [] }
+        ensures some { result ≡ false → seen self.now ≡ first (seen self.now) ∷ drop 1 (seen self.now) }
+    {
+        self.phrases.is_empty()
     }
 
     /// The phrase on top, or nothing where there is none.
@@ -65,10 +74,10 @@ impl Stack {
         ensures value { phrase_of result ≡ first (seen self.old) }
         ensures rest { seen self.new ≡ drop 1 (seen self.old) }
     {
-        match self.phrases.pop() {
-            Some(phrase) => phrase,
-            None => Phrase::Nothing,
+        if self.phrases.is_empty() {
+            return Phrase::Nothing;
         }
+        self.phrases.take_last()
     }
 
     /// Takes the phrase on top off, whatever it is.

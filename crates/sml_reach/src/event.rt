@@ -20,7 +20,7 @@ use sml_fixity::sequences::Item;
 use sml_lex::fault::Memory;
 use sml_lex::token::Token;
 use sml_read::grammar::{Node, Rule};
-use sml_read::phrases::starts;
+use sml_read::phrases::{first_token, token_count};
 use sml_read::table::backwards;
 use std::alloc::Global;
 
@@ -342,18 +342,13 @@ pub fn events(
         unit,
         tokens,
     };
-    let starts = starts(alloc, nodes)?;
+    let mut token = token_count(nodes);
     let mut founds = Vec::new(alloc);
     let mut events = Vec::new(alloc);
     for i in (0..nodes.len()).rev() {
-        at_node(
-            &finder,
-            names,
-            &mut founds,
-            &mut events,
-            nodes[i],
-            starts[i],
-        )?;
+        let node = nodes[i];
+        token = first_token(node, token);
+        at_node(&finder, names, &mut founds, &mut events, node, token)?;
     }
     Ok(events)
 }

@@ -1,12 +1,12 @@
 -- A step over a derivation's nodes, for the phrases.
-use Rattle.std.proofs.Common.{◌≡◌, ℕ, zero, suc, ◌+◌, ◌-◌, ◌<◌, ◌≤◌, List, [], ◌∷◌, ◌++◌, drop, get_or, length, reverse, sym, ap, ◌∙◌, subst, arith, append_assoc}
+use Rattle.std.proofs.Common.{◌≡◌, ℕ, zero, suc, ◌+◌, ◌-◌, ◌<◌, ◌≤◌, List, [], ◌∷◌, ◌++◌, drop, get_or, length, reverse, refl, sym, ap, ◌∙◌, subst, arith}
 use Rattle.std.proofs.lemmas.List.{drop_more, get_or-drop, reverse-append, length-reverse}
 use Rattle.sml_read.specs.declared.grammar.Node.{Node}
 use Rattle.sml_read.specs.declared.grammar.Node.TheVariants.{Leaf, Inner}
 use Rattle.sml_read.specs.declared.grammar.Rule.{Rule}
 use Rattle.sml_read.specs.declared.grammar.Symbol.{Symbol}
 use Rattle.sml_read.specs.Grammar.{right_side}
-use Rattle.sml_read.specs.Extents.{size_of, starts_of, ends_of}
+use Rattle.sml_read.specs.Extents.{size_of, starts_of, ends_of, tokens_in, first_token}
 
 -- the ends of the trees to come
 abbrev pub Ends : List Node → ℕ → List ℕ → Type 0
@@ -65,16 +65,33 @@ ends_on nodes i node old new opened end some d h n e =
 pub later : (nodes : List Node) (i : ℕ) (ends : List ℕ) → 0 < i → Ends nodes i ends → (k : ℕ) → get_or ends k (length nodes) ≡ suc (i - 1) + size_of (suc k) (drop i nodes)
 later nodes i ends some h k = h k ∙ ap (λ n. n + size_of (suc k) (drop i nodes)) (let s : i ≡ suc (i - 1) = omega (arith, some) in s)
 
--- the first tokens
-pub start_leaf : (nodes : List Node) (i : ℕ) (d : Node) (count : ℕ) (total old new : List ℕ) → i < length nodes → get_or nodes i d ≡ Leaf → total ≡ old ++ starts_of count (drop i nodes) → new ≡ old ++ count ∷ [] → total ≡ new ++ starts_of (count + 1) (drop (i + 1) nodes)
-start_leaf nodes i d count total old new within n h e =
-    h ∙ ap (λ ns. old ++ starts_of count ns) (drop_more nodes i d within ∙ ap (λ x. x ∷ drop (i + 1) nodes) n)
-    ∙ sym (append_assoc old (count ∷ []) (starts_of (suc count) (drop (i + 1) nodes)))
-    ∙ ap (λ xs. xs ++ starts_of (suc count) (drop (i + 1) nodes)) (sym e)
-    ∙ ap (λ c. new ++ starts_of c (drop (i + 1) nodes)) (let s : suc count ≡ count + 1 = omega arith in s)
+-- the first tokens, from the last node to the first
+fewer_left : (i : ℕ) (nodes : List Node) → tokens_in (drop i nodes) ≤ tokens_in nodes
+fewer_left zero nodes = omega arith
+fewer_left (suc i) [] = omega arith
+fewer_left (suc i) (Leaf ∷ nodes) = omega (arith, fewer_left i nodes)
+fewer_left (suc i) (Inner r ∷ nodes) = fewer_left i nodes
 
-pub start_inner : (nodes : List Node) (i : ℕ) (d : Node) (r : Rule) (count : ℕ) (total old new : List ℕ) → i < length nodes → get_or nodes i d ≡ Inner r → total ≡ old ++ starts_of count (drop i nodes) → new ≡ old ++ count ∷ [] → total ≡ new ++ starts_of count (drop (i + 1) nodes)
-start_inner nodes i d r count total old new within n h e =
-    h ∙ ap (λ ns. old ++ starts_of count ns) (drop_more nodes i d within ∙ ap (λ x. x ∷ drop (i + 1) nodes) n)
-    ∙ sym (append_assoc old (count ∷ []) (starts_of count (drop (i + 1) nodes)))
-    ∙ ap (λ xs. xs ++ starts_of count (drop (i + 1) nodes)) (sym e)
+start_left : (m : ℕ) (nodes : List Node) (i d : ℕ) → i < length nodes → get_or (starts_of m nodes) i d + tokens_in (drop i nodes) ≡ m + tokens_in nodes
+start_left m [] i d h = omega (arith, h)
+start_left m (Leaf ∷ nodes) zero d h = refl
+start_left m (Inner r ∷ nodes) zero d h = refl
+start_left m (Leaf ∷ nodes) (suc i) d h =
+    let f = start_left (suc m) nodes i d (omega (arith, h)) in
+    omega (arith, f)
+start_left m (Inner r ∷ nodes) (suc i) d h = start_left m nodes i d (omega (arith, h))
+
+first_left : (node : Node) (later : List Node) (t total : ℕ) → tokens_in (node ∷ later) ≤ total → t + tokens_in later ≡ total → first_token node t + tokens_in (node ∷ later) ≡ total
+first_left Leaf later t total some h = omega (arith, some, h)
+first_left (Inner r) later t total some h = h
+
+-- how many tokens stand before a node and behind it
+pub tokens_on : (nodes : List Node) (i : ℕ) (node : Node) (t n : ℕ) → drop (i - 1) nodes ≡ node ∷ drop i nodes → t + tokens_in (drop i nodes) ≡ tokens_in nodes → n ≡ first_token node t → n + tokens_in (drop (i - 1) nodes) ≡ tokens_in nodes
+tokens_on nodes i node t n a h e =
+    let some : tokens_in (node ∷ drop i nodes) ≤ tokens_in nodes = subst (λ ns. tokens_in ns ≤ tokens_in nodes) a (fewer_left (i - 1) nodes) in
+    ap (λ k. k + tokens_in (drop (i - 1) nodes)) e ∙ ap (λ ns. first_token node t + tokens_in ns) a ∙ first_left node (drop i nodes) t (tokens_in nodes) some h
+
+pub start_on : (nodes : List Node) (i n d : ℕ) → 0 < i → i ≤ length nodes → n + tokens_in (drop (i - 1) nodes) ≡ tokens_in nodes → get_or (starts_of 0 nodes) (i - 1) d ≡ n
+start_on nodes i n d some within h =
+    let f = start_left 0 nodes (i - 1) d (omega (arith, some, within)) in
+    omega (arith, f, h)

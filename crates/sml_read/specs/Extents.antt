@@ -1,5 +1,5 @@
 -- The phrases of a derivation: the tree of each node, by the nodes and the tokens that it takes up.
-use Rattle.std.specs.Prelude.{ℕ, zero, suc, ◌+◌, List, [], ◌∷◌, length}
+use Rattle.std.specs.Prelude.{ℕ, zero, suc, ◌+◌, ◌-◌, List, [], ◌∷◌, length}
 use Rattle.sml_read.specs.declared.grammar.Node.{Node}
 use Rattle.sml_read.specs.declared.grammar.Node.TheVariants.{Leaf, Inner}
 use Rattle.sml_read.specs.Grammar.{right_side}
@@ -22,3 +22,14 @@ abbrev pub starts_of : ℕ → List Node → List ℕ
 starts_of n [] = []
 starts_of n (Leaf ∷ nodes) = n ∷ starts_of (suc n) nodes
 starts_of n (Inner r ∷ nodes) = n ∷ starts_of n nodes
+
+-- how many tokens nodes have
+abbrev pub tokens_in : List Node → ℕ
+tokens_in [] = 0
+tokens_in (Leaf ∷ nodes) = suc (tokens_in nodes)
+tokens_in (Inner r ∷ nodes) = tokens_in nodes
+
+-- the number of the first token of a node's tree, from that of what is behind the node: the nodes taken from their end
+abbrev pub first_token : Node → ℕ → ℕ
+first_token Leaf behind = behind - 1
+first_token (Inner r) behind = behind

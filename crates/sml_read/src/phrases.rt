@@ -1,27 +1,35 @@
 //! The phrases of a derivation: which tokens and which nodes each takes up.
 ghost use Rattle.std.specs.Prelude.{◌≡◌, ◌∷◌, drop, get_or, length, reverse, IfOk};
-ghost use Rattle.sml_read.specs.Extents.{starts_of, ends_of};
+ghost use Rattle.sml_read.specs.Extents.{ends_of, first_token, tokens_in};
 
 use crate::grammar::Node;
 use crate::table::backwards;
 use sml_lex::fault::Memory;
 use std::alloc::Global;
 
-/// For each node, in order, the number of the first token of its phrase, and of a phrase without tokens that of the
-/// token behind it. A phrase's place is its first token.
-pub fn starts(alloc: Global, nodes: &[Node]) -> Result<Vec<usize>, Memory>
-    ensures { IfOk result (λ v. v.items ≡ starts_of 0 nodes.now) }
+/// How many tokens these nodes have.
+pub fn token_count(nodes: &[Node]) -> usize
+    ensures { result ≡ tokens_in nodes.now }
 {
-    let mut starts = Vec::new(alloc);
     let mut count = 0;
     for node in nodes {
-        starts.push(count)?;
         match *node {
             Node::Leaf => count += 1,
             Node::Inner(_) => {}
         }
     }
-    Ok(starts)
+    count
+}
+
+/// The number of the first token of a node's phrase, and of a phrase without tokens that of the token behind it, where so
+/// many tokens stand before what is behind the node. A phrase's place is its first token.
+pub fn first_token(node: Node, behind: usize) -> usize
+    ensures { result ≡ first_token node behind }
+{
+    match node {
+        Node::Leaf => behind.saturating_sub(1),
+        Node::Inner(_) => behind,
+    }
 }
 
 /// The end on top, or the other where there is none.

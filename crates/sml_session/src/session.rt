@@ -1,14 +1,12 @@
 //! From the words of a command line to a status.
 
-use clap::builder::ValueParser;
-use clap::error::ErrorKind;
-use clap::{Arg, ArgAction, ArgMatches, Command, Error};
 use itoa::Buffer;
+use sml_command::command_line::{Asked, Request, asked_by};
 use sml_lex::fault::Memory;
 use sml_projects::manifest::{Manifest, ManifestFault, OrderFault, ProjectCode, ProjectFault};
 use sml_projects::project::Project;
 use sml_projects::project_file::manifest;
-use sml_reply::form::{Form, Version};
+use sml_reply::form::Form;
 use sml_reply::sink::{Out, OutFault, write_all};
 use sml_units::project::check;
 use sml_units::recheck::recheck;
@@ -42,24 +40,6 @@ const FAILED: u8 = 3;
 
 /// One byte more than the greatest unit and the greatest project file have.
 const MOST_BYTES: usize = 1_048_577;
-
-/// What the help says behind the switches.
-const AFTER_HELP: &str =
-    "Each unit NAME is the text of FILE, which lies beside the project file, and sees what
-the units NEED .. declare:
-  unit tools tools.sml
-  unit main main.sml tools
-
-The reply to a declaration is what it binds, or one fault:
-  1 ok
-    val x : int
-  2 fault U1 1.9 types clash
-A fault has a code, and a line and a column counted from the declaration's first
-token. docs/CODES.md has an example and a cure for each code.
-
-Status: 0, no declaration was refused; 1, some was; 2, the command line or the
-project file has a fault (docs/PROJECT.md); 3, a file, the output or memory
-failed.";
 
 /// Why a session ends early.
 #[derive(Drop)]
@@ -115,14 +95,6 @@ impl From<RunFault> for Stop {
     }
 }
 
-/// What the command line asks for: a form of replies, a project, and another one that is checked again after it.
-#[derive(Drop)]
-struct Request {
-    form: Form,
-    project: String,
-    then: Option<String>,
-}
-
 /// Runs the program on the words of its command line, of which the first is its own name, and gives its status.
 pub fn session<S: Source, O: Out, E: Out>(
     alloc: Global,
@@ -131,105 +103,31 @@ pub fn session<S: Source, O: Out, E: Out>(
     out: &mut O,
     err: &mut E,
 ) -> u8 {
-    let request = match requested(alloc, words) {
-        Ok(request) => request,
-        Err(error) => return usage(alloc, &error, out, err),
-    };
-    match answer(alloc, &request, source, out) {
+    match asked_by(alloc, words) {
+        Asked::Check(request) => check_and_answer(alloc, &request, source, out, err),
+        Asked::Help(text) => match write_all(out, text.as_bytes()) {
+            Ok(_) => ALL_ACCEPTED,
+            Err(_) => report(&Stop::Write, err),
+        },
+        Asked::Refused(text) => {
+            let _ = write_all(err, text.as_bytes());
+            BAD_PROJECT
+        }
+        Asked::Memory => report(&Stop::Memory, err),
+    }
+}
+
+/// The status of what was asked for.
+fn check_and_answer<S: Source, O: Out, E: Out>(
+    alloc: Global,
+    request: &Request,
+    source: &mut S,
+    out: &mut O,
+    err: &mut E,
+) -> u8 {
+    match answer(alloc, request, source, out) {
         Ok(status) => status,
         Err(stop) => report(&stop, err),
-    }
-}
-
-/// The versions of replies by their numbers.
-const VERSIONS: [&str; 2] = ["1", "2"];
-
-fn warnings_switch<'a>(alloc: Global) -> Arg<'a> {
-    Arg::new(alloc, "warnings")
-        .long("warnings")
-        .help("Prints the warnings of accepted declarations")
-        .action(ArgAction::SetTrue)
-}
-
-fn reply_switch<'a>(alloc: Global) -> Arg<'a> {
-    Arg::new(alloc, "reply")
-        .long("reply")
-        .value_name("N")
-        .help("The version of the replies: in 2, abstract types print as their paths")
-        .value_parser(ValueParser::Names(VERSIONS.as_slice()))
-        .default_value("1")
-        .action(ArgAction::Set)
-}
-
-fn then_switch<'a>(alloc: Global) -> Arg<'a> {
-    Arg::new(alloc, "then")
-        .long("then")
-        .value_name("SECOND")
-        .help(
-            "A project file that is checked after PROJECT, with what didn't change; its replies alone are printed",
-        )
-        .action(ArgAction::Set)
-}
-
-fn project_word<'a>(alloc: Global) -> Arg<'a> {
-    Arg::new(alloc, "PROJECT")
-        .help("A project file: a line `unit NAME FILE NEED ..` for each unit")
-        .required(true)
-        .action(ArgAction::Set)
-}
-
-fn command<'a>(alloc: Global) -> Result<Command<'a>, AllocError> {
-    Command::new(alloc, "smlcheck")
-        .about("Checks the declarations of Standard ML units")
-        .after_help(AFTER_HELP)
-        .arg(warnings_switch(alloc))?
-        .arg(reply_switch(alloc))?
-        .arg(then_switch(alloc))?
-        .arg(project_word(alloc))
-}
-
-/// The command line, as `clap` reads it.
-fn requested(alloc: Global, words: &[String]) -> Result<Request, Error> {
-    let matches = command(alloc)?.try_get_matches_from(words)?;
-    Ok(request_of(alloc, &matches)?)
-}
-
-fn request_of(alloc: Global, matches: &ArgMatches) -> Result<Request, AllocError> {
-    let version = if matches.get_str("reply") == Some("2") {
-        Version::Two
-    } else {
-        Version::One
-    };
-    let then = match matches.get_str("then") {
-        Some(path) => Some(String::from_str(alloc, path)?),
-        None => None,
-    };
-    let path = matches.get_str("PROJECT").unwrap_or("");
-    Ok(Request {
-        form: Form {
-            version,
-            warnings: matches.get_flag("warnings"),
-        },
-        project: String::from_str(alloc, path)?,
-        then,
-    })
-}
-
-/// Prints what `clap` says of the command line: its help, or its fault.
-fn usage<O: Out, E: Out>(alloc: Global, error: &Error, out: &mut O, err: &mut E) -> u8 {
-    if error.kind() == ErrorKind::OutOfMemory {
-        return report(&Stop::Memory, err);
-    }
-    let Ok(text) = error.to_string(alloc) else {
-        return report(&Stop::Memory, err);
-    };
-    if error.use_stderr() {
-        let _ = write_all(err, text.as_bytes());
-        return BAD_PROJECT;
-    }
-    match write_all(out, text.as_bytes()) {
-        Ok(_) => ALL_ACCEPTED,
-        Err(_) => report(&Stop::Write, err),
     }
 }
 

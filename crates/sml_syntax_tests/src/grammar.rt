@@ -5,7 +5,8 @@ mod texts;
 use sml_lex::fault::{Code, Memory};
 use sml_lex::lexer::lex;
 use sml_lex::token::{End, Kind, Lexed, Span, Stop, Token};
-use sml_read::phrases::{ends, starts};
+use sml_read::grammar::Node;
+use sml_read::phrases::{ends, first_token, token_count};
 use sml_read::read::{Cause, Full, read};
 use sml_read::tokens::kinds;
 use std::alloc::Global;
@@ -178,10 +179,22 @@ fn how_units_end(rt: HostRuntime) -> Result<(), Fail> {
     )
 }
 
+/// The first token of each node's phrase, found from the last node to the first.
+fn starts_of(alloc: Global, nodes: &[Node]) -> Result<Vec<usize>, Memory> {
+    let mut starts = Vec::new(alloc);
+    let mut token = token_count(nodes);
+    for i in (0..nodes.len()).rev() {
+        token = first_token(nodes[i], token);
+        starts.push(token)?;
+    }
+    starts.reverse();
+    Ok(starts)
+}
+
 /// Where the phrases of a unit begin and end, by its nodes.
 fn extents_of(alloc: Global, unit: &[u8]) -> Result<String, Memory> {
     let full = read(alloc, &lex(alloc, unit)?)?;
-    let starts = starts(alloc, &full.nodes)?;
+    let starts = starts_of(alloc, &full.nodes)?;
     let ends = ends(alloc, &full.nodes)?;
     Ok(format!(in alloc; "{:?} {:?}", starts.as_slice(), ends.as_slice())?)
 }

@@ -4,7 +4,8 @@ use Rattle.sml_tree.specs.PatternViews.{pat_of}
 use Rattle.sml_tree.specs.Clauses.{clause_rule, clause_of}
 use Rattle.sml_fixity.specs.Shapes.{shape_of}
 use Rattle.sml_bare_decs.specs.FunctionRules.{heading, clause_from}
-use Rattle.sml_bare_decs.specs.FunctionViews.{heading_of, low_pats_of, right_side_of}
+use Rattle.sml_bare_decs.specs.FunctionViews.{heading_of, right_side_of}
+use Rattle.sml_pat_sequences.specs.LowViews.{low_pats_of}
 use Rattle.sml_bare_decs.proofs.Clauses.{clause_from_high}
 use Rattle.sml_phrases.proofs.Failures.{fails}
 use Rattle.sml_bare_decs.proofs.function_rules.clause_from.Goals as goal

@@ -9,7 +9,8 @@ use Rattle.sml_lex.specs.declared.fault.Place.{Place}
 use Rattle.sml_bare_decs.specs.declared.function_rules.LowClause.{LowClause}
 use Rattle.sml_fixity.specs.Shapes.{shape_of}
 use Rattle.sml_bare_decs.specs.FunctionRules.{heading, function_from}
-use Rattle.sml_bare_decs.specs.FunctionViews.{heading_of, low_pats_of, right_side_of}
+use Rattle.sml_bare_decs.specs.FunctionViews.{heading_of, right_side_of}
+use Rattle.sml_pat_sequences.specs.LowViews.{low_pats_of}
 use Rattle.sml_bare_decs.proofs.Clauses.{function_from_high, clause_in_function}
 use Rattle.sml_phrases.proofs.Failures.{fails}
 use Rattle.sml_bare_decs.proofs.function_rules.function_from.Goals as goal

@@ -5,7 +5,7 @@ use Rattle.sml_tree.specs.Clauses.{clause_of}
 use Rattle.sml_phrases.specs.Phrases.{at, pat_in, clauses_in}
 use Rattle.sml_phrases.specs.PhraseViews.{seen}
 use Rattle.sml_fixity.specs.Shapes.{shape_of}
-use Rattle.sml_bare_pats.specs.PatternSequences.{pat_place}
+use Rattle.sml_pat_sequences.specs.PatternSequences.{pat_place}
 use Rattle.sml_bare_decs.specs.FunctionRules.{right_side_in, function_from}
 use Rattle.sml_bare_decs.specs.FunctionViews.{right_side_of}
 use Rattle.sml_phrases.proofs.Answers.{on_ok}

@@ -6,9 +6,10 @@ use Rattle.sml_tree.specs.Clauses.{clause_of}
 use Rattle.sml_phrases.specs.Phrases.{of_functions}
 use Rattle.sml_phrases.specs.PhraseViews.{seen}
 use Rattle.sml_fixity.specs.Shapes.{shape_of}
-use Rattle.sml_bare_pats.specs.PatternRules.{round_pat}
+use Rattle.sml_pat_sequences.specs.RoundPatterns.{round_pat}
 use Rattle.sml_bare_decs.specs.FunctionRules.{function_from}
-use Rattle.sml_bare_decs.specs.FunctionViews.{low_pats_of, right_side_of}
+use Rattle.sml_bare_decs.specs.FunctionViews.{right_side_of}
+use Rattle.sml_pat_sequences.specs.LowViews.{low_pats_of}
 use Rattle.sml_bare_decs.proofs.Clauses.{round_function_high, put_fails}
 use Rattle.sml_bare_decs.proofs.function_rules.round_function.Goals as goal
 

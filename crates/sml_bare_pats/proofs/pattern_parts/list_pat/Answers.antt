@@ -1,6 +1,6 @@
 use Rattle.sml_tree.specs.Heights.{pat_height}
 use Rattle.sml_derived.specs.Derived.{pat_cons}
-use Rattle.sml_bare_pats.specs.LowViews.{low_pat_of}
+use Rattle.sml_pat_sequences.specs.LowViews.{low_pat_of}
 use Rattle.sml_phrases.proofs.Failures.{fails}
 use Rattle.sml_bare_pats.proofs.PatternLists.{list-start, list-next, list-next-height}
 use Rattle.sml_bare_pats.proofs.pattern_parts.list_pat.Goals as goal

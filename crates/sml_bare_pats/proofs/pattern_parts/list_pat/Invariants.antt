@@ -1,5 +1,5 @@
 use Rattle.std.proofs.Common.{◌≡◌, map, length}
-use Rattle.sml_bare_pats.specs.LowViews.{low_pat_of, low_pats_of}
+use Rattle.sml_pat_sequences.specs.LowViews.{low_pat_of, low_pats_of}
 use Rattle.sml_bare_pats.specs.PatternRules.{list_pat}
 use Rattle.sml_bare_pats.proofs.PatternLists.{list_onto}
 use Rattle.sml_bare_pats.proofs.pattern_parts.list_pat.Given as goal

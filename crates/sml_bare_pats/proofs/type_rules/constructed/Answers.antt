@@ -1,7 +1,7 @@
 use Rattle.sml_tree.specs.Heights.{ty_height}
 use Rattle.sml_tree.specs.Types.{ty_constructor, no_ty, and_ty}
 use Rattle.sml_tree.specs.TypeViews.{long_name_of}
-use Rattle.sml_bare_pats.specs.LowViews.{low_ty_of}
+use Rattle.sml_pat_sequences.specs.LowViews.{low_ty_of}
 use Rattle.sml_phrases.proofs.Failures.{fails}
 use Rattle.sml_bare_pats.proofs.TypeChains.{constructed-next-height}
 use Rattle.sml_bare_pats.proofs.type_rules.constructed.Goals as goal

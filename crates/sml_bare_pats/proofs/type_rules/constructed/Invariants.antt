@@ -1,6 +1,6 @@
 use Rattle.std.proofs.Common.{◌≡◌, map, reverse, length}
 use Rattle.sml_tree.specs.TypeViews.{long_name_of}
-use Rattle.sml_bare_pats.specs.LowViews.{low_ty_of}
+use Rattle.sml_pat_sequences.specs.LowViews.{low_ty_of}
 use Rattle.sml_bare_pats.specs.TypeRules.{constructed}
 use Rattle.sml_bare_pats.proofs.type_rules.constructed.Given as goal
 

@@ -1,5 +1,5 @@
 use Rattle.std.proofs.Common.{◌∙◌}
-use Rattle.sml_bare_pats.specs.LowViews.{low_ty_of}
+use Rattle.sml_pat_sequences.specs.LowViews.{low_ty_of}
 use Rattle.sml_bare_pats.proofs.TypeChains.{product-others}
 use Rattle.sml_bare_pats.proofs.type_rules.product.Goals as goal
 

@@ -1,0 +1,3 @@
+mod Gathering
+mod Telling
+mod ExpViews

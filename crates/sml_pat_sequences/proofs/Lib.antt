@@ -1,0 +1,2 @@
+pub mod PatternSequences
+mod RoundPatterns

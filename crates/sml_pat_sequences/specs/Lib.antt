@@ -1,0 +1,3 @@
+pub mod PatternSequences
+pub mod RoundPatterns
+pub mod LowViews

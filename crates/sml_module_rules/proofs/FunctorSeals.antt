@@ -4,8 +4,7 @@ use std.Path.{PathP, from_path_p, to_path_p}
 use mathlib.Core.Path.{sym, ap, subst, ◌∙◌}
 use Rattle.sml_tree.specs.Names.{Name}
 use Rattle.sml_tree.specs.Signatures.{SigExp}
-use Rattle.sml_tree.specs.Structures.{FunBind, ascribed}
-use Rattle.sml_tree.specs.declared.structures.Ascription.TheVariants.{Opaque}
+use Rattle.sml_tree.specs.Structures.{FunBind, functor_dec}
 use Rattle.sml_objects.specs.Appearance.{Stands}
 use Rattle.sml_objects.specs.Objects.{Outside, app, row, no_type}
 use Rattle.sml_layers.specs.declared.variable.Variable.{Variable}
@@ -21,7 +20,7 @@ use Rattle.sml_core_rules.proofs.Chosen.{one-answer}
 use Rattle.sml_core_rules.proofs.Plain.{Fixed, agree-plain}
 use Rattle.sml_module_rules.specs.Signatures.{read_sig}
 use Rattle.sml_module_rules.specs.Structures.{besides, read_str, read_functor, read_functors, settle, settle_functors, own_basis, one_structure, IsTopReading}
-use Rattle.sml_module_rules.specs.Programs.{Sealing, functor_seal, sealed}
+use Rattle.sml_module_rules.specs.Programs.{Behind, Places, SealedFunctor, sealed, sealed_functor}
 use Rattle.sml_module_rules.proofs.Agree.{basis-kept}
 use Rattle.sml_module_rules.proofs.Grown.{IsWhole}
 use Rattle.sml_module_rules.proofs.PlainSignatures.{plain-sig}
@@ -48,17 +47,18 @@ module _ {P N : Type 0} (scope : Scope N) (B : Basis N) (f x : Name P) (s t : Si
     answer : IsAnswer scope (fresh scope B (inner B x argument.0) t) from (accepted signature)
     basis : u.0 ≡ exported scope B.names f argument.0 argument.1.names signature.0.body
 
-  export : (d : Sealing P) (u : Basis N × State P N) → IsTopReading scope d.place B (sealed (functor_seal f x s t) d) (accepted u) → Export u
+  export : (here : Places P) (e : Behind P) (u : Basis N × State P N)
+      → IsTopReading scope here.declaration B (functor_dec here.bindings (record { name = f; argument = x; signature = s; body = sealed e t } ∷ [])) (accepted u) → Export u
   unfolding read_functors ◌>>=◌ IsAnswer
-  export d u h =
-      let p = d.place in
+  export here e u h =
+      let p = here.declaration in
       let b = at_first B.names in
-      let F : FunBind P = record { name = f; argument = x; signature = s; body = ascribed d.ascription d.body Opaque t } in
+      let F : FunBind P = record { name = f; argument = x; signature = s; body = sealed e t } in
       let a = bind-accepted scope (read_functors scope B [] (F ∷ [])) _ b u h in
       let g = bind-accepted scope (read_functor scope B F) _ b a.0 a.1 in
       let r = bind-accepted scope (read_sig scope B.signatures B.body s) _ b g.0 g.1 in
       let v = bind-accepted scope (read_str scope B (inner B x r.0.0) F.body) _ r.0.1 g.0 r.2 in
-      let w = sealed-read scope B (inner B x r.0.0) t r.0.1.names d.ascription d.body r.0.1 (λ n o. o) v.0 v.1 in
+      let w = sealed-read scope B (inner B x r.0.0) t r.0.1.names e r.0.1 (λ n o. o) v.0 v.1 in
       let k = bind-accepted scope (settle_functors scope B p a.0.0) _ a.0.1 u a.2 in
       let one : a.0.0 ≡ (f.id, g.0.0) ∷ [] = given scope _ g.0.1 a.0 g.2 in
       let three : g.0.0 ≡ (r.0.0, r.0.1.names, v.0.0) = given scope _ v.0.1 g.0 v.2 in
@@ -106,12 +106,16 @@ module _ {P N : Type 0} (scope : Scope N) (far : (x : Variable) → ¬ ((scope.n
       coe 0 1 (i. IsAnswer (u i) (read_sig (u i) (C i).signatures (C i).body s) (at_first (C i).names) (accepted (coe 0 i (j. Sig (p j) × State P (p j)) r))) h in
       to_path_p (λ i. Sig (p i)) (one-answer scope (read_sig scope B.signatures B.body s) (plain-sig scope B.signatures B.body s) (at_first B.names) q r k h (from_path_p (λ i. List (p i)) l))
 
-  pub functors-agree : (f x : Name P) (s t : SigExp P) (d e : Sealing P) (u v : Basis N × State P N)
-      → IsTopReading scope d.place B (sealed (functor_seal f x s t) d) (accepted u) → IsTopReading scope e.place B (sealed (functor_seal f x s t) e) (accepted v)
-      → SameReply {P = P} scope B (accepted u.0) (accepted v.0)
-  functors-agree f x s t d e u v h k =
-      let a = export scope B f x s t d u h in
-      let b = export scope B f x s t e v k in
+  pub functors-agree : (c : SealedFunctor P) (here there : Places P) (u v : Basis N × State P N)
+      → IsTopReading scope here.declaration B (functor_dec here.bindings (sealed_functor c.first c ∷ [])) (accepted u)
+      → IsTopReading scope there.declaration B (functor_dec there.bindings (sealed_functor c.second c ∷ [])) (accepted v) → SameReply {P = P} scope B (accepted u.0) (accepted v.0)
+  functors-agree c here there u v h k =
+      let f = c.name in
+      let x = c.argument in
+      let s = c.signature in
+      let t = c.result in
+      let a = export scope B f x s t here c.first u h in
+      let b = export scope B f x s t there c.second v k in
       let ρ = agree Sig scope far (read_sig scope B.signatures B.body s) (at_first B.names) settled (accepted a.argument) (accepted b.argument) a.read b.read in
       let p : N ≡ N = λ i. (ρ i).0 in
       let g : PathP (λ i. Scope (p i)) scope scope = λ i. (ρ i).1 in
@@ -134,19 +138,19 @@ module _ {P N : Type 0} (scope : Scope N) (far : (x : Variable) → ¬ ((scope.n
       subst (λ A. SameReply {P = P} scope B (accepted A) (accepted v.0)) (sym a.basis)
       (subst (λ A. SameReply {P = P} scope B (accepted (exported scope B.names f a.argument.0 a.argument.1.names a.signature.0.body)) (accepted A)) (sym b.basis) (first ∙ then))
     where
-      settled : Settled Sig scope far (read_sig scope B.signatures B.body s) (at_first B.names)
+      settled : Settled Sig scope far (read_sig scope B.signatures B.body c.signature) (at_first B.names)
       settled = record {
-        script = λ r u v. let C = basis-kept scope r u B.names (become-list r B.names B.names v) B w in λ i. read_sig (u i) (C i).signatures (C i).body s;
+        script = λ r u v. let C = basis-kept scope r u B.names (become-list r B.names B.names v) B w in λ i. read_sig (u i) (C i).signatures (C i).body c.signature;
         state = λ r u v. let l = become-list r B.names B.names v in λ i. at_first (l i);
         initials = z;
         met = ((λ v. app (row []) no_type), tt);
       }
 
-      fixed : (r : Sig N × State P N) → IsAnswer scope (read_sig scope B.signatures B.body s) (at_first B.names) (accepted r) → Fixed Sig scope far r.1.names (fresh scope B (inner B x r.0) t)
+      fixed : (r : Sig N × State P N) → IsAnswer scope (read_sig scope B.signatures B.body c.signature) (at_first B.names) (accepted r) → Fixed Sig scope far r.1.names (fresh scope B (inner B c.argument r.0) c.result)
       fixed r h = record {
         script = λ p u v.
             let l = become-list p r.1.names r.1.names v in
-            let C = basis-there s r h p u l in
-            let S = argument-kept s r h p u l in λ i. fresh (u i) (C i) (inner (C i) x (S i)) t;
-        initials = λ j. still-there s r h (scope.names.initial j) (z j);
+            let C = basis-there c.signature r h p u l in
+            let S = argument-kept c.signature r h p u l in λ i. fresh (u i) (C i) (inner (C i) c.argument (S i)) c.result;
+        initials = λ j. still-there c.signature r h (scope.names.initial j) (z j);
       }

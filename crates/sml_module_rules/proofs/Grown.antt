@@ -29,7 +29,7 @@ stands-every P [] h n k = absurd k
 stands-every P (m ∷ ns) h n (inl e) = subst P (sym e) h.0
 stands-every P (m ∷ ns) h n (inr k) = stands-every P ns h.1 n k
 
-ordered : {X : Type 0} (Q : X → Type 0) (o : Ordering) {a b c : X} → Q a → Q b → Q c → Q (by_order o a b c)
+pub ordered : {X : Type 0} (Q : X → Type 0) (o : Ordering) {a b c : X} → Q a → Q b → Q c → Q (by_order o a b c)
 ordered Q Less h k l = h
 ordered Q Equal h k l = k
 ordered Q Greater h k l = l

@@ -2,6 +2,7 @@ pub mod Agree
 pub mod PlainSignatures
 pub mod Closed
 pub mod Settled
+pub mod Earlier
 pub mod Seals
 pub mod Grown
 pub mod Programs

@@ -3,20 +3,22 @@ use Rattle.std.specs.Prelude.{◌≡◌, [], ◌∷◌}
 use mathlib.Core.Path.{sym, ap, ◌∙◌}
 use mathlib.Core.Logic.{inl, inr}
 use Rattle.sml_lex.specs.Faults.{Fault}
-use Rattle.sml_objects.specs.Maps.{Map}
+use Rattle.sml_tree.specs.Trees.{Id}
+use Rattle.sml_objects.specs.Maps.{Map, order_of}
 use Rattle.sml_objects.specs.Objects.{MlType}
 use Rattle.sml_layers.specs.declared.layer.Layer.TheVariants.{Rigidity}
 use Rattle.sml_layers.specs.Demands.{CanBeMet}
 use Rattle.sml_rules.specs.Answers.{accepted}
 use Rattle.sml_rules.specs.Matching.{Realisation}
 use Rattle.sml_rules.proofs.Sound.{accepted_same, not_refused}
-use Rattle.sml_core_rules.specs.Objects.{Env, Maps, Structures, Value, TyStr, Basis, maps, no_structure, and_structure, replace, replace_structures, replaced}
+use Rattle.sml_core_rules.specs.Objects.{Env, Maps, Structures, Value, TyStr, Basis, maps, no_structure, and_structure, put_structure, extend, replace, replace_structures, replaced}
 use Rattle.sml_core_rules.specs.Solutions.{IsAlways}
 use Rattle.sml_core_rules.specs.States.{Scope, State, words}
 use Rattle.sml_core_rules.specs.Scripts.{determine, IsAnswer}
 use Rattle.sml_core_rules.proofs.Accepted.{given, bind-accepted, kept}
 use Rattle.sml_module_rules.specs.Realising.{realise_env, realise_value, realise_ty_str}
 use Rattle.sml_module_rules.specs.Structures.{settle_values, settle_env, settle_structures}
+use Rattle.sml_module_rules.proofs.Grown.{ordered}
 use Rattle.sml_module_rules.proofs.Closed.{IsClosed, assign-closed, scheme-closed}
 
 -- all values of an environment are such
@@ -48,6 +50,17 @@ module _ {T U V W : Type 0} (f : T → U) (g : V → W) (F : W → Type 0) (h : 
     structures-replaced : (ss : Structures T V) → EachInside F (replace_structures f g ss)
     structures-replaced no_structure = tt
     structures-replaced (and_structure s E ss) = (values-replaced E, structures-replaced ss)
+
+module _ {T V : Type 0} (F : V → Type 0) (x : Id) (G : Maps T V) (h : EachValue F G) where
+  each-put : (ss : Structures T V) → EachInside F ss → EachInside F (put_structure x G ss)
+  unfolding EachInside
+  each-put no_structure k = (h, tt)
+  each-put (and_structure r E ss) k = ordered (EachInside F) (order_of x r) (h, k) (h, k.1) (k.0, each-put ss k.1)
+
+  -- one structure more
+  pub each-added : (E : Maps T V) → EachValue F E → EachValue F (extend E (maps (and_structure x G no_structure) [] []))
+  unfolding EachValue
+  each-added (maps ss ts vs) k = (each-put ss k.0, k.1)
 
 abbrev pub HasNoUnknown : {N : Type 0} → Value N → Type 0
 HasNoUnknown v = IsClosed v.scheme.body

@@ -3,7 +3,7 @@ use Rattle.std.specs.Prelude.{◌≡◌, List, [], ◌∷◌, ◌++◌, Option, 
 use Rattle.sml_tree.specs.Names.{Name}
 use Rattle.sml_tree.specs.Signatures.{SigExp}
 use Rattle.sml_tree.specs.declared.structures.Ascription.TheVariants.{Opaque}
-use Rattle.sml_tree.specs.Structures.{StrExp, TopDec, ascribed, structure_dec, str_bind, no_str_bind, and_str_bind, top_str, functor_dec}
+use Rattle.sml_tree.specs.Structures.{StrExp, StrBinds, FunBind, TopDec, ascribed, structure_dec, str_bind, no_str_bind, and_str_bind, top_str, functor_dec}
 use Rattle.sml_objects.specs.Maps.{join}
 use Rattle.sml_rules.specs.Answers.{Answer, refused, accepted}
 use Rattle.sml_core_rules.specs.Objects.{Basis, extend}
@@ -33,41 +33,72 @@ AreReadings scope B (d ∷ ds) [] = ⊥
 AreReadings {P} {N} scope B (d ∷ ds) (o ∷ os) =
     ((r : Answer P (Basis N × State P N)) × IsTopReading scope d.0 B d.1 r × (result r ≡ o)) × AreReadings scope (basis_after B o) ds os
 
--- What is sealed: `structure x = .. :> s`, or `functor f (x : s) = .. :> t`.
-pub data Seal (P : Type 0) : Type 0 where
-  structure_seal : Name P → SigExp P → Seal P
-  functor_seal : Name P → Name P → SigExp P → SigExp P → Seal P
-
--- what stands behind the seal, with the places of the declaration, the binding and the ascription
-pub record Sealing (P : Type 0) : Type 0 where
-  pub place : P
-  pub binding : P
+-- What stands behind a seal: the place of the ascription, and the structure.
+pub record Behind (P : Type 0) : Type 0 where
   pub ascription : P
   pub body : StrExp P
 
-abbrev pub sealed : {P : Type 0} → Seal P → Sealing P → TopDec P
-sealed (structure_seal x s) d = top_str (structure_dec d.binding (and_str_bind (str_bind x (ascribed d.ascription d.body Opaque s)) no_str_bind))
-sealed (functor_seal f x s t) d = functor_dec d.binding (record { name = f; argument = x; signature = s; body = ascribed d.ascription d.body Opaque t } ∷ [])
+-- The places of a declaration and of its bindings.
+pub record Places (P : Type 0) : Type 0 where
+  pub declaration : P
+  pub bindings : P
 
--- A declaration of one program and that of another in its place: the same, or two that are alike but for what stands behind the
--- seal.
+-- A structure that two programs seal by one signature, and what stands behind the seal in each.
+pub record SealedStructure (P : Type 0) : Type 0 where
+  pub name : Name P
+  pub signature : SigExp P
+  pub first : Behind P
+  pub second : Behind P
+
+-- A functor whose body two programs seal by one signature, and what stands behind the seal in each.
+pub record SealedFunctor (P : Type 0) : Type 0 where
+  pub name : Name P
+  pub argument : Name P
+  pub signature : SigExp P
+  pub result : SigExp P
+  pub first : Behind P
+  pub second : Behind P
+
+-- `.. :> s`
+abbrev pub sealed : {P : Type 0} → Behind P → SigExp P → StrExp P
+sealed e s = ascribed e.ascription e.body Opaque s
+
+-- `x = .. :> s and ..`, as one of the programs has it
+abbrev pub sealed_structures : {P : Type 0} → (SealedStructure P → Behind P) → List (SealedStructure P) → StrBinds P
+sealed_structures side [] = no_str_bind
+sealed_structures side (b ∷ bs) = and_str_bind (str_bind b.name (sealed (side b) b.signature)) (sealed_structures side bs)
+
+-- `f (x : s) = .. :> t`, likewise
+abbrev pub sealed_functor : {P : Type 0} → Behind P → SealedFunctor P → FunBind P
+sealed_functor e b = record { name = b.name; argument = b.argument; signature = b.signature; body = sealed e b.result }
+
+-- A declaration of one program and that of another in its place: the same, or two that are alike but for what stands behind
+-- seals: structures joined by `and`, or one functor.
 pub data Pair (P : Type 0) : Type 0 where
   same : P → TopDec P → Pair P
-  seals : Seal P → Sealing P → Sealing P → Pair P
+  structures : Places P → Places P → List (SealedStructure P) → Pair P
+  functor : Places P → Places P → SealedFunctor P → Pair P
 
 abbrev pub first : {P : Type 0} → Pair P → P × TopDec P
 first (same p d) = (p, d)
-first (seals c d e) = (d.place, sealed c d)
+first (structures p q bs) = (p.declaration, top_str (structure_dec p.bindings (sealed_structures (λ b. b.first) bs)))
+first (functor p q b) = (p.declaration, functor_dec p.bindings (sealed_functor b.first b ∷ []))
 
 abbrev pub second : {P : Type 0} → Pair P → P × TopDec P
 second (same p d) = (p, d)
-second (seals c d e) = (e.place, sealed c e)
+second (structures p q bs) = (q.declaration, top_str (structure_dec q.bindings (sealed_structures (λ b. b.second) bs)))
+second (functor p q b) = (q.declaration, functor_dec q.bindings (sealed_functor b.second b ∷ []))
+
+-- the reply to one of two that differ: not its fault
+abbrev pub acceptance : {P N : Type 0} → Answer P (Basis N) → Option (Answer P (Basis N))
+acceptance (refused f) = None
+acceptance (accepted A) = Some (accepted A)
 
 -- the reply to one of the two, but for faults of those that differ
 abbrev pub shown : {P N : Type 0} → Pair P → Answer P (Basis N) → Option (Answer P (Basis N))
 shown (same p d) o = Some o
-shown (seals c d e) (refused f) = None
-shown (seals c d e) (accepted A) = Some (accepted A)
+shown (structures p q bs) o = acceptance o
+shown (functor p q b) o = acceptance o
 
 abbrev pub all_shown : {P N : Type 0} → List (Pair P) → List (Answer P (Basis N)) → List (Option (Answer P (Basis N)))
 all_shown [] os = []

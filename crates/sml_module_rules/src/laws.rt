@@ -10,7 +10,7 @@ pub fn top_readings_agree()
     ensures { (scope : Scope Name) → TopReadingsAgree scope }
 {}
 
-/// What stands behind `:>`, in a structure or in the body of a functor, can't be seen: of two programs that are alike but for what
+/// What stands behind `:>`, in structures or in the body of a functor, can't be seen: of two programs that are alike but for what
 /// stands there, where each such declaration is accepted in both or refused in both, all replies are the same but for the names
 /// that were made, and but for the faults of these declarations.
 pub fn seals_hide()

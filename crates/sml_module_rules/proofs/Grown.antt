@@ -74,7 +74,7 @@ module _ {N : Type 0} (P : N → Type 0) where
         (both P (names_map f (join ts us)) (names_map g (join vs ws)) (in-join f ts us (first P (names_map f ts) (names_map g vs) h') (first P (names_map f us) (names_map g ws) k'))
         (in-join g vs ws (last P (names_map f ts) (names_map g vs) h') (last P (names_map f us) (names_map g ws) k')))
 
-  in-sum : (B A : Basis N) → Every P (names_basis B) → Every P (names_basis A) → Every P (names_basis (add_basis B A))
+  pub in-sum : (B A : Basis N) → Every P (names_basis B) → Every P (names_basis A) → Every P (names_basis (add_basis B A))
   in-sum B A h k =
       let fs = names_map names_fun_sig B.functors in
       let gs = names_map names_sig B.signatures in

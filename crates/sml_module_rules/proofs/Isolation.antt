@@ -24,7 +24,7 @@ module _ {P N : Type 0} (scope : Scope N) (far : (x : Variable) → ¬ ((scope.n
   abbrev AreBoth : List (Pair P) → List (Answer P (Basis N)) → List (Answer P (Basis N)) → Type 0
   AreBoth ds os qs = map is_some (all_shown ds os) ≡ map is_some (all_shown ds qs)
 
-  replies-agree : (ds : List (Pair P)) (B : Basis N) → IsWhole B → HasInitials scope B → (os qs : List (Answer P (Basis N))) → AreReadings scope B (map first ds) os
+  pub replies-agree : (ds : List (Pair P)) (B : Basis N) → IsWhole B → HasInitials scope B → (os qs : List (Answer P (Basis N))) → AreReadings scope B (map first ds) os
       → AreReadings scope B (map second ds) qs → AreBoth ds os qs → SameReplies scope ds B os qs
   unfolding AreReadings
   replies-agree [] B w z [] [] a b m = λ i. (N, scope, B, [])

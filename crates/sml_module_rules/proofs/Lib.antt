@@ -8,3 +8,5 @@ pub mod Grown
 pub mod Programs
 pub mod FunctorSeals
 pub mod Isolation
+pub mod UnitNames
+pub mod ProjectSeals

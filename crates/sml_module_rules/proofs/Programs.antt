@@ -121,7 +121,7 @@ module _ {P N : Type 0} (scope : Scope N) where
 
 -- replies, over the names of a basis
 
-abbrev Replies : Type 0 → Type 0 → Type 0
+abbrev pub Replies : Type 0 → Type 0 → Type 0
 Replies P N = List (Option (Answer P (Basis N)))
 
 reply-id : {P N : Type 0} (o : Option (Answer P (Basis N))) → rename_reply (λ n. n) o ≡ o
@@ -129,7 +129,7 @@ reply-id None = refl
 reply-id (Some (refused f)) = refl
 reply-id (Some (accepted A)) = λ i. Some (accepted (basis-id A i))
 
-replies-id : {P N : Type 0} (os : Replies P N) → map (rename_reply (λ n. n)) os ≡ os
+pub replies-id : {P N : Type 0} (os : Replies P N) → map (rename_reply (λ n. n)) os ≡ os
 replies-id [] = refl
 replies-id (o ∷ os) = λ i. reply-id o i ∷ replies-id os i
 

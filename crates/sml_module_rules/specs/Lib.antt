@@ -5,4 +5,5 @@ pub mod Bound
 pub mod Signatures
 pub mod Structures
 pub mod Programs
+pub mod Projects
 pub mod Statements

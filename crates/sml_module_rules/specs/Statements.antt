@@ -1,5 +1,5 @@
 -- What is claimed of all readings of top-level declarations.
-use Rattle.std.specs.Prelude.{◌≡◌, List, map, Option, Some, None, is_some}
+use Rattle.std.specs.Prelude.{◌≡◌, List, [], map, Option, Some, None, is_some}
 use Rattle.sml_lex.specs.declared.fault.Place.{Place}
 use Rattle.sml_tree.specs.Structures.{TopDec}
 use Rattle.sml_objects.specs.Alike.{Renaming}
@@ -11,6 +11,7 @@ use Rattle.sml_core_rules.specs.Objects.{Basis, rename_basis, names_basis}
 use Rattle.sml_core_rules.specs.States.{Scope, State}
 use Rattle.sml_core_rules.specs.Statements.{rename_answer}
 use Rattle.sml_module_rules.specs.Structures.{IsTopReading}
+use Rattle.sml_module_rules.specs.Projects.{UnitPair, first_unit, second_unit, AreRuns, units_shown}
 use Rattle.sml_module_rules.specs.Programs.{AreReadings, Pair, first, second, all_shown}
 
 -- Any two answers to a declaration in a basis are the same but for the names that were made: a renaming that leaves the names of
@@ -37,3 +38,15 @@ SealsHide {N} scope =
     → (ds : List (Pair Place)) (os qs : List (Answer Place (Basis N))) → AreReadings scope B (map first ds) os → AreReadings scope B (map second ds) qs
     → map is_some (all_shown ds os) ≡ map is_some (all_shown ds qs)
     → (f : Renaming scope.names) × ((n : N) → Stands n B.names → f.to n ≡ n) × (all_shown ds qs ≡ map (rename_reply f.to) (all_shown ds os))
+
+-- The same of projects: of two projects whose units are alike but for what stands behind `:>`, where each such declaration is
+-- accepted in both or refused in both, all replies to all units are the same but for the names that were made, and but for the
+-- faults of these declarations. Units are counted from 1, and make no name of an explicit variable.
+abbrev pub ProjectsHide : {N : Type 0} → Scope N → Type 0
+ProjectsHide {N} scope =
+    ((x : Variable) → (scope.names.attributes (scope.variable x)).maker ≡ 0)
+    → (B : Basis N) → ((n : N) → Stands n (names_basis B) → Stands n B.names) → ((k : Initial) → Stands (scope.names.initial k) B.names)
+    → (us : List (UnitPair Place)) (oss qss : List (List (Answer Place (Basis N))))
+    → AreRuns scope B 1 (record { names = B.names; units = [] }) (map first_unit us) oss → AreRuns scope B 1 (record { names = B.names; units = [] }) (map second_unit us) qss
+    → map (map is_some) (units_shown us oss) ≡ map (map is_some) (units_shown us qss)
+    → (f : Renaming scope.names) × ((n : N) → Stands n B.names → f.to n ≡ n) × (units_shown us qss ≡ map (map (rename_reply f.to)) (units_shown us oss))

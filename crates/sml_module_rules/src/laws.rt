@@ -2,7 +2,7 @@
 
 ghost use Rattle.sml_objects.specs.Initial.{Name};
 ghost use Rattle.sml_core_rules.specs.States.{Scope};
-ghost use Rattle.sml_module_rules.specs.Statements.{TopReadingsAgree, SealsHide};
+ghost use Rattle.sml_module_rules.specs.Statements.{ProjectsHide, SealsHide, TopReadingsAgree};
 
 /// Any two answers to a top-level declaration in one basis are the same fault, or bases alike over that basis, whichever new
 /// names were taken.
@@ -15,4 +15,9 @@ pub fn top_readings_agree()
 /// that were made, and but for the faults of these declarations.
 pub fn seals_hide()
     ensures { (scope : Scope Name) → SealsHide scope }
+{}
+
+/// The same of projects, whose units see what units before them export.
+pub fn projects_hide()
+    ensures { (scope : Scope Name) → ProjectsHide scope }
 {}

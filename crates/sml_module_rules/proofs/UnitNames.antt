@@ -9,7 +9,7 @@ use Rattle.sml_rules.proofs.Within.{last, both}
 use Rattle.sml_core_rules.specs.Objects.{Basis, names_map, names_in, names_structures, names_fun_sig, names_sig, names_env, names_basis}
 use Rattle.sml_core_rules.specs.States.{Scope}
 use Rattle.sml_core_rules.proofs.Agree.{stands-before, stands-behind}
-use Rattle.sml_module_rules.specs.Programs.{add_basis, basis_after, AreReadings, Pair, same, structures, functor, shown, all_shown}
+use Rattle.sml_module_rules.specs.Programs.{add_basis, basis_after, AreReadings, Pair, same, structures, functors, shown, all_shown}
 use Rattle.sml_module_rules.specs.Projects.{Exports, nothing, after_all, with_needs, beginning}
 use Rattle.sml_module_rules.proofs.Grown.{every-stands, stands-every, in-sum, IsWhole, whole-sum}
 use Rattle.sml_module_rules.proofs.Programs.{IsAddition, reply-added}
@@ -83,13 +83,13 @@ keep-refused : {P N : Type 0} (d : Pair P) (f : _) (os : List (Option (Answer P 
 unfolding RepliesMention
 keep-refused (same p d) f os ns h = h
 keep-refused (structures p q bs) f os ns h = h
-keep-refused (functor p q b) f os ns h = h
+keep-refused (functors p q bs) f os ns h = h
 
 keep-accepted : {P N : Type 0} (d : Pair P) (A : Basis N) (os : List (Option (Answer P (Basis N)))) (ns : List N) → Mentions A ns → RepliesMention os ns → RepliesMention (shown d (accepted A) ∷ os) ns
 unfolding RepliesMention
 keep-accepted (same p d) A os ns h k = (h, k)
 keep-accepted (structures p q bs) A os ns h k = (h, k)
-keep-accepted (functor p q b) A os ns h k = (h, k)
+keep-accepted (functors p q bs) A os ns h k = (h, k)
 
 module _ {P N : Type 0} (scope : Scope N) (side : Pair P → P × TopDec P) where
   pub exported-shown : (ds : List (Pair P)) (B X : Basis N) (os : List (Answer P (Basis N))) → AreReadings scope B (map side ds) os → after_shown X (all_shown ds os) ≡ after_all X os
@@ -100,8 +100,8 @@ module _ {P N : Type 0} (scope : Scope N) (side : Pair P → P × TopDec P) wher
   exported-shown (same p d ∷ ds) B X (o ∷ os) h = exported-shown ds (basis_after B o) (basis_after X o) os h.1
   exported-shown (structures p q bs ∷ ds) B X (refused f ∷ os) h = exported-shown ds B X os h.1
   exported-shown (structures p q bs ∷ ds) B X (accepted A ∷ os) h = exported-shown ds (add_basis B A) (add_basis X A) os h.1
-  exported-shown (functor p q b ∷ ds) B X (refused f ∷ os) h = exported-shown ds B X os h.1
-  exported-shown (functor p q b ∷ ds) B X (accepted A ∷ os) h = exported-shown ds (add_basis B A) (add_basis X A) os h.1
+  exported-shown (functors p q bs ∷ ds) B X (refused f ∷ os) h = exported-shown ds B X os h.1
+  exported-shown (functors p q bs ∷ ds) B X (accepted A ∷ os) h = exported-shown ds (add_basis B A) (add_basis X A) os h.1
 
   -- what replies mention, and what they add to what came before: names that were made there, or before all of it
   pub replies-mention : (T : List N) (ds : List (Pair P)) (B X : Basis N) → IsWhole B → Mentions X (X.names ++ T) → ((n : N) → Stands n B.names → Stands n (X.names ++ T))

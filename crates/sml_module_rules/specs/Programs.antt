@@ -1,5 +1,5 @@
 -- Programs: top-level declarations one after the other (the Definition, section 8, without the dynamic part).
-use Rattle.std.specs.Prelude.{◌≡◌, List, [], ◌∷◌, ◌++◌, Option, Some, None}
+use Rattle.std.specs.Prelude.{◌≡◌, List, [], ◌∷◌, ◌++◌, map, Option, Some, None}
 use Rattle.sml_tree.specs.Names.{Name}
 use Rattle.sml_tree.specs.Signatures.{SigExp}
 use Rattle.sml_tree.specs.declared.structures.Ascription.TheVariants.{Opaque}
@@ -68,26 +68,29 @@ abbrev pub sealed_structures : {P : Type 0} → (SealedStructure P → Behind P)
 sealed_structures side [] = no_str_bind
 sealed_structures side (b ∷ bs) = and_str_bind (str_bind b.name (sealed (side b) b.signature)) (sealed_structures side bs)
 
--- `f (x : s) = .. :> t`, likewise
+-- `f (x : s) = .. :> t and ..`, likewise
 abbrev pub sealed_functor : {P : Type 0} → Behind P → SealedFunctor P → FunBind P
 sealed_functor e b = record { name = b.name; argument = b.argument; signature = b.signature; body = sealed e b.result }
 
+abbrev pub sealed_functors : {P : Type 0} → (SealedFunctor P → Behind P) → List (SealedFunctor P) → List (FunBind P)
+sealed_functors side bs = map (λ b. sealed_functor (side b) b) bs
+
 -- A declaration of one program and that of another in its place: the same, or two that are alike but for what stands behind
--- seals: structures joined by `and`, or one functor.
+-- seals: structures joined by `and`, or functors.
 pub data Pair (P : Type 0) : Type 0 where
   same : P → TopDec P → Pair P
   structures : Places P → Places P → List (SealedStructure P) → Pair P
-  functor : Places P → Places P → SealedFunctor P → Pair P
+  functors : Places P → Places P → List (SealedFunctor P) → Pair P
 
 abbrev pub first : {P : Type 0} → Pair P → P × TopDec P
 first (same p d) = (p, d)
 first (structures p q bs) = (p.declaration, top_str (structure_dec p.bindings (sealed_structures (λ b. b.first) bs)))
-first (functor p q b) = (p.declaration, functor_dec p.bindings (sealed_functor b.first b ∷ []))
+first (functors p q bs) = (p.declaration, functor_dec p.bindings (sealed_functors (λ b. b.first) bs))
 
 abbrev pub second : {P : Type 0} → Pair P → P × TopDec P
 second (same p d) = (p, d)
 second (structures p q bs) = (q.declaration, top_str (structure_dec q.bindings (sealed_structures (λ b. b.second) bs)))
-second (functor p q b) = (q.declaration, functor_dec q.bindings (sealed_functor b.second b ∷ []))
+second (functors p q bs) = (q.declaration, functor_dec q.bindings (sealed_functors (λ b. b.second) bs))
 
 -- the reply to one of two that differ: not its fault
 abbrev pub acceptance : {P N : Type 0} → Answer P (Basis N) → Option (Answer P (Basis N))
@@ -98,7 +101,7 @@ acceptance (accepted A) = Some (accepted A)
 abbrev pub shown : {P N : Type 0} → Pair P → Answer P (Basis N) → Option (Answer P (Basis N))
 shown (same p d) o = Some o
 shown (structures p q bs) o = acceptance o
-shown (functor p q b) o = acceptance o
+shown (functors p q bs) o = acceptance o
 
 abbrev pub all_shown : {P N : Type 0} → List (Pair P) → List (Answer P (Basis N)) → List (Option (Answer P (Basis N)))
 all_shown [] os = []

@@ -13,7 +13,7 @@ use Rattle.sml_core_rules.specs.Objects.{Env, Maps, Structures, Value, TyStr, Si
 use Rattle.sml_core_rules.specs.Lookups.{structure_at}
 use Rattle.sml_core_rules.specs.Expressions.{read_dec, at_first}
 use Rattle.sml_core_rules.specs.States.{Scope, State}
-use Rattle.sml_core_rules.specs.Scripts.{Script, give, refuse, ◌>>=◌, need, test, so_far, determine, IsAnswer}
+use Rattle.sml_core_rules.specs.Scripts.{Script, give, refuse, ◌>>=◌, need, test, determine, IsAnswer}
 use Rattle.sml_module_rules.specs.Lines.{IsSmallEnv}
 use Rattle.sml_module_rules.specs.Matching.{ascribe, apply_functor}
 use Rattle.sml_module_rules.specs.Signatures.{read_sig}
@@ -40,6 +40,11 @@ module _ {N : Type 0} (scope : Scope N) where
     signatures = gs;
     body = E;
   }
+
+  -- a functor with this argument and body: the names of its result are those of the body that are neither the argument's nor
+  -- names of the basis (rule 86)
+  abbrev pub fun_sig : List N → Sig N → Env N → FunSig N
+  fun_sig old S E = record { argument = S; result = record { names = besides (S.names ++ old) (names_env E); body = E } }
 
   -- how many of the names the unit has made
   abbrev pub count_made : List N → ℕ
@@ -127,27 +132,25 @@ module _ {P N : Type 0} (scope : Scope N) where
       S ← read_sig scope B.signatures B.body b.signature
       read_signatures (put b.name.id S m) bs
 
-    -- the argument of a functor, the names made before its body, and what the body is
-    abbrev pub read_functor : FunBind P → Script P N (Sig N × List N × Env N)
+    -- the argument of a functor, and what its body is
+    abbrev pub read_functor : FunBind P → Script P N (Sig N × Env N)
     read_functor b = do
       S ← read_sig scope B.signatures B.body b.signature
-      s ← so_far
       E ← read_str (extend B.body (one_structure b.argument.id S.body)) b.body
-      give (S, s.names, E)
+      give (S, E)
 
-    unfoldable pub read_functors : Map (Sig N × List N × Env N) → List (FunBind P) → Script P N (Map (Sig N × List N × Env N))
+    unfoldable pub read_functors : Map (Sig N × Env N) → List (FunBind P) → Script P N (Map (Sig N × Env N))
     read_functors m [] = give m
     read_functors m (b ∷ bs) = do
       F ← read_functor b
       read_functors (put b.name.id F m) bs
 
-    -- the names of a functor's result are those that its body makes (rule 86)
-    abbrev pub settle_functors : P → Map (Sig N × List N × Env N) → Script P N (Map (FunSig N))
+    abbrev pub settle_functors : P → Map (Sig N × Env N) → Script P N (Map (FunSig N))
     settle_functors p [] = give []
     settle_functors p (e ∷ es) = do
-      F ← settle p e.1.2
+      E ← settle p e.1.1
       fs ← settle_functors p es
-      give ((e.0, record { argument = e.1.0; result = record { names = besides scope e.1.1 (names_env F); body = F } }) ∷ fs)
+      give ((e.0, fun_sig scope B.names e.1.0 E) ∷ fs)
 
     -- its names are at most 1,048,576 with those that its unit had before
     abbrev pub own : P → Map (FunSig N) → Map (Sig N) → Env N → Script P N (Basis N)

@@ -13,7 +13,6 @@ pub mod Alike
 pub mod Plain
 pub mod Accepted
 pub mod Claims
-pub mod Chosen
 pub mod Assigned
 pub mod Fits
 pub mod Apart

@@ -3,8 +3,8 @@
 use crate::explicit::Explicit;
 use crate::scopes::{Mark, Scopes};
 use sml_asks::asks::{ask_class, ask_equal, ask_equality, ask_instance, ask_within};
+use sml_bases::objects::{Basis, Env, Status, TypeStr, Value};
 use sml_envs::new_names::NewNames;
-use sml_envs::objects::{Basis, Env, Overload, Status, TypeStr, Value};
 use sml_envs::sizes::{GREATEST_SIZE, is_cut};
 use sml_graph::demand::Refusal;
 use sml_layers::class::Class;
@@ -50,15 +50,6 @@ pub(crate) fn refused(refusal: Refusal, place: Place) -> CoreFault {
     match refusal.code() {
         Some(code) => plain_fault(code, place),
         None => CoreFault::Memory,
-    }
-}
-
-fn class_of(overload: Overload) -> Class {
-    match overload {
-        Overload::WordInt => Class::WordInt,
-        Overload::RealInt => Class::RealInt,
-        Overload::Num => Class::Num,
-        Overload::NumTxt => Class::NumTxt,
     }
 }
 
@@ -257,8 +248,8 @@ impl<'a> Context<'a> {
             return Err(CoreFault::Memory);
         };
         self.ask_attributes(place, &value.scheme, from)?;
-        if let Status::Overloaded(overload) = value.status {
-            self.ask_overload(place, overload, from)?;
+        if let Status::Overloaded(class) = value.status {
+            self.ask_overload(place, class, from)?;
         }
         Ok(ty)
     }
@@ -286,11 +277,11 @@ impl<'a> Context<'a> {
     fn ask_overload(
         &mut self,
         place: Place,
-        overload: Overload,
+        class: Class,
         unknown: usize,
     ) -> Result<(), CoreFault> {
         let ty = MlType::Free(number_of(unknown)?);
-        match ask_class(&mut self.solver, &ty, class_of(overload)) {
+        match ask_class(&mut self.solver, &ty, class) {
             Ok(()) => Ok(()),
             Err(refusal) => Err(refused(refusal, place)),
         }

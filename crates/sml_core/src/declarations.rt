@@ -3,7 +3,7 @@
 use crate::context::Context;
 use crate::expressions::of_type;
 use crate::scopes::Mark;
-use sml_envs::objects::{Env, Status, Value};
+use sml_bases::objects::{Env, Status, Value};
 use sml_lex::fault::{Code, Place};
 use sml_objects::objects::Initial;
 use sml_tree::bare::{Ident, LongIdent};

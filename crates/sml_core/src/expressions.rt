@@ -4,8 +4,8 @@ use crate::context::Context;
 use crate::matches::Kind;
 use crate::patterns::Variables;
 use crate::scopes::Mark;
+use sml_bases::objects::{Status, Value};
 use sml_closing::places::pattern_place;
-use sml_envs::objects::{Status, Value};
 use sml_layers::layer::Bound;
 use sml_lex::fault::{Memory, Place};
 use sml_objects::objects::{Initial, MlType, Scheme};
@@ -46,7 +46,7 @@ pub(crate) fn of_type(alloc: Global, status: Status, ty: Rc<MlType>) -> Result<V
 struct Outside {
     mark: Mark,
     names: u32,
-    exports: Option<sml_envs::objects::Env>,
+    exports: Option<sml_bases::objects::Env>,
 }
 
 impl Context<'_> {

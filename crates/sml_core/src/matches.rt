@@ -1,8 +1,8 @@
 //! The warnings of matches and bindings.
 
 use crate::context::Context;
+use sml_bases::objects::Status;
 use sml_closing::places::pattern_place;
-use sml_envs::objects::Status;
 use sml_lex::fault::{Memory, Place};
 use sml_patterns::judge::{Holder, judge};
 use sml_patterns::names::{Meaning, Names};

@@ -4,7 +4,7 @@ use crate::context::{Context, refused};
 use crate::expressions::constant;
 use indexmap::IndexMap;
 use sml_asks::asks::ask_row;
-use sml_envs::objects::{Status, Value};
+use sml_bases::objects::{Status, Value};
 use sml_lex::fault::{Code, Place};
 use sml_objects::objects::MlType;
 use sml_tree::bare::{Ident, LongIdent};

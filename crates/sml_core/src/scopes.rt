@@ -1,6 +1,7 @@
 //! What is bound in the scopes that are open, over a basis. To leave a scope goes back over what was bound in it.
 
-use sml_envs::objects::{Basis, Entry, Env, TypeStr, Value};
+use sml_bases::environments::Entry;
+use sml_bases::objects::{Basis, Env, TypeStr, Value};
 use sml_lex::fault::Memory;
 use sml_tree::bare::Ident;
 use sml_types::scope::Scope;
@@ -151,6 +152,11 @@ impl<'a> Scopes<'a> {
 }
 
 impl Scope for Scopes<'_> {
+    // What it tells is not stated yet.
+    ghost says_structure = { λ _ _ _. Unit {0} };
+
+    ghost says_type = { λ _ _ _. Unit {0} };
+
     fn structure(&self, name: &Ident) -> Option<&Rc<Env>> {
         match self.structures.find(&self.opened, name) {
             Some(found) => Some(found),

@@ -2,8 +2,8 @@
 
 use crate::mapping::{Image, Mapping, mapped_env};
 use crate::new_names::NewNames;
-use crate::objects::{Basis, Env, FunSig, Sig, TypeStr, Value};
 use indexmap::{IndexMap, IndexSet};
+use sml_bases::objects::{Basis, Env, FunSig, Sig, TypeStr, Value};
 use sml_lex::fault::Memory;
 use sml_objects::equality::has_equality;
 use sml_objects::objects::{MadeName, MlType, TyName, UnitId};

@@ -1,6 +1,6 @@
 //! Whether type functions and schemes are equal (the Definition, sections 4.4 and 4.5).
 
-use crate::objects::Constructors;
+use sml_bases::objects::Constructors;
 use sml_lex::fault::Memory;
 use sml_objects::comparisons::same_type;
 use sml_objects::objects::{MlType, Scheme};

@@ -1,6 +1,7 @@
 //! The initial basis (the Definition, appendices C to E).
 
-use crate::objects::{Basis, Constructors, Env, Overload, Status, TypeStr, Value};
+use sml_bases::objects::{Basis, Constructors, Env, Status, TypeStr, Value};
+use sml_layers::class::Class;
 use sml_lex::fault::Memory;
 use sml_objects::labels::Labels;
 use sml_objects::objects::{Initial, MlType, Scheme, TyName, UnitId};
@@ -216,18 +217,18 @@ fn put_overloaded(types: &Types, env: &mut Env) -> Result<(), Memory> {
     let operation = types.arrow(&operands, &types.a)?;
     let sign = types.arrow(&types.a, &types.a)?;
     let comparison = types.arrow(&operands, &types.name(Initial::Bool)?)?;
-    let names: [(&[u8], Overload, &Rc<MlType>); 11] = [
-        (b"+", Overload::Num, &operation),
-        (b"-", Overload::Num, &operation),
-        (b"*", Overload::Num, &operation),
-        (b"~", Overload::RealInt, &sign),
-        (b"abs", Overload::RealInt, &sign),
-        (b"div", Overload::WordInt, &operation),
-        (b"mod", Overload::WordInt, &operation),
-        (b"<", Overload::NumTxt, &comparison),
-        (b">", Overload::NumTxt, &comparison),
-        (b"<=", Overload::NumTxt, &comparison),
-        (b">=", Overload::NumTxt, &comparison),
+    let names: [(&[u8], Class, &Rc<MlType>); 11] = [
+        (b"+", Class::Num, &operation),
+        (b"-", Class::Num, &operation),
+        (b"*", Class::Num, &operation),
+        (b"~", Class::RealInt, &sign),
+        (b"abs", Class::RealInt, &sign),
+        (b"div", Class::WordInt, &operation),
+        (b"mod", Class::WordInt, &operation),
+        (b"<", Class::NumTxt, &comparison),
+        (b">", Class::NumTxt, &comparison),
+        (b"<=", Class::NumTxt, &comparison),
+        (b">=", Class::NumTxt, &comparison),
     ];
     for (name, overload, ty) in &names {
         types.put(env, Status::Overloaded(*overload), name, &[false], ty)?;

@@ -1,4 +1,4 @@
-// The semantic objects of the whole language above types and schemes (the Definition, sections 4.2 and 5.1).
+// What is done with environments, signatures, functors and bases: replaced, numbered, compared; the initial basis.
 #![tactic(auto)]
 
 pub mod canonical;
@@ -7,7 +7,6 @@ pub mod functions;
 pub mod initial;
 pub mod mapping;
 pub mod new_names;
-pub mod objects;
 mod order;
 pub mod realisation;
 pub mod sizes;

@@ -2,9 +2,9 @@
 
 ghost use Rattle.std.specs.Prelude.{◌<◌, length};
 
-use crate::objects::{Constructors, Env, TypeStr, Value};
 use crate::order::in_order;
 use crate::sizes::applied;
+use sml_bases::objects::{Constructors, Env, TypeStr, Value};
 use sml_lex::fault::Memory;
 use sml_objects::objects::{MlType, Scheme, TyName};
 use sml_tree::bare::Ident;

@@ -3,7 +3,7 @@
 use crate::exports::Exports;
 use crate::moves::Moves;
 use indexmap::IndexSet;
-use sml_envs::objects::{Constructors, Env, FunSig, Sig, TypeStr, Value};
+use sml_bases::objects::{Constructors, Env, FunSig, Sig, TypeStr, Value};
 use sml_lex::fault::Memory;
 use sml_objects::objects::{MlType, Scheme, TyName};
 use sml_tree::bare::Ident;

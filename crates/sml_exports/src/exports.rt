@@ -1,6 +1,6 @@
 //! What a unit exports.
 
-use sml_envs::objects::Basis as WholeBasis;
+use sml_bases::objects::Basis as WholeBasis;
 use sml_lex::fault::Memory;
 use sml_objects::objects::Env;
 use sml_reply::layer::Layer;

@@ -2,8 +2,8 @@
 
 use crate::exports::Exports;
 use crate::moves::Moves;
+use sml_bases::objects::{Basis as WholeBasis, Env as WholeEnv, FunSig, Sig};
 use sml_envs::mapping::{mapped_env, mapped_function, mapped_scheme};
-use sml_envs::objects::{Basis as WholeBasis, Env as WholeEnv, FunSig, Sig};
 use sml_lex::fault::Memory;
 use sml_objects::objects::{Env, TyName, UnitId};
 use sml_reply::layer::Layer;

@@ -2,10 +2,10 @@
 
 use crate::enrich::enriches;
 use crate::realise::realise;
+use sml_bases::objects::{Env, Sig};
 use sml_envs::canonical::renamed_sig;
 use sml_envs::mapping::mapped_env;
 use sml_envs::new_names::NewNames;
-use sml_envs::objects::{Env, Sig};
 use sml_lex::fault::Place;
 use sml_solve::solver::Solver;
 use sml_tree::structures::Ascription;

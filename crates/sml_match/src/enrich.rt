@@ -2,8 +2,8 @@
 
 use crate::general::is_general;
 use crate::way::Way;
+use sml_bases::objects::{Env, Status, TypeStr, Value};
 use sml_envs::comparisons::{same_constructors, same_function};
-use sml_envs::objects::{Env, Status, TypeStr, Value};
 use sml_lex::fault::{Code, Place};
 use sml_solve::solver::Solver;
 use sml_tree::bare::Ident;

@@ -2,8 +2,8 @@
 
 use crate::way::Way;
 use indexmap::IndexSet;
+use sml_bases::objects::{Env, Sig, TypeStr};
 use sml_envs::functions::{admits_equality, name_of};
-use sml_envs::objects::{Env, Sig, TypeStr};
 use sml_envs::realisation::Realisation;
 use sml_lex::fault::{Code, Place};
 use sml_objects::equality::has_equality;

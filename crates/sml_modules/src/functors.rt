@@ -2,9 +2,9 @@
 
 use crate::settled::settled_shared;
 use crate::structures::{begin, end_let, structure};
+use sml_bases::objects::{Basis, Env, FunSig, Sig};
 use sml_core::context::Context;
 use sml_envs::canonical::{applied_result, names_from};
-use sml_envs::objects::{Basis, Env, FunSig, Sig};
 use sml_lex::fault::{Code, Place};
 use sml_match::enrich::enriches;
 use sml_match::realise::realise;

@@ -3,9 +3,9 @@
 use crate::functors::functors;
 use crate::settled::settled_env;
 use crate::structures::declare;
+use sml_bases::objects::{Basis, Sig};
 use sml_core::context::Context;
 use sml_envs::canonical::canonical;
-use sml_envs::objects::{Basis, Sig};
 use sml_lex::fault::{Code, Place, Warning};
 use sml_sigs::sigs::signature;
 use sml_tree::structures::{SigBind, TopDec};

@@ -2,9 +2,9 @@
 
 use indexmap::{IndexMap, IndexSet};
 use sml_asks::asks::ask_reading;
+use sml_bases::objects::Env;
 use sml_core::context::Context;
 use sml_envs::mapping::{Image, Mapping, mapped_env};
-use sml_envs::objects::Env;
 use sml_envs::sizes::GREATEST_SIZE;
 use sml_lex::fault::{Code, Memory, Place};
 use sml_objects::objects::{MlType, TyName};

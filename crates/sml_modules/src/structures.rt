@@ -1,9 +1,9 @@
 //! Structure expressions and structure-level declarations (the Definition, section 5.7, rules 50 to 61).
 
 use crate::functors::applied;
+use sml_bases::objects::Env;
 use sml_core::context::Context;
 use sml_core::scopes::Mark;
-use sml_envs::objects::Env;
 use sml_lex::fault::Place;
 use sml_match::ascribe::ascribed;
 use sml_sigs::sigs::signature;

@@ -1,8 +1,8 @@
 //! What a unit bound, and at which paths type names stand in it.
 
 use indexmap::IndexMap;
+use sml_bases::objects::{Env, TypeStr};
 use sml_envs::functions::name_of;
-use sml_envs::objects::{Env, TypeStr};
 use sml_lex::fault::Memory;
 use sml_objects::objects::{Scheme, TyName};
 use sml_tree::bare::Ident;

@@ -2,7 +2,7 @@
 
 use crate::paths::Paths;
 use indexmap::{IndexMap, IndexSet};
-use sml_envs::objects::{Basis, Constructors, Env, FunSig, Sig, Status, TypeStr, Value};
+use sml_bases::objects::{Basis, Constructors, Env, FunSig, Sig, Status, TypeStr, Value};
 use sml_lex::fault::Memory;
 use sml_objects::labels::Labels;
 use sml_objects::objects::{MadeName, MlType, Scheme, TyName};

@@ -2,7 +2,7 @@
 
 use crate::layer::{Layer, Path};
 use indexmap::IndexMap;
-use sml_envs::objects::Env;
+use sml_bases::objects::Env;
 use sml_lex::fault::Memory;
 use sml_objects::objects::TyName;
 use sml_tree::bare::Ident;

@@ -1,6 +1,6 @@
 //! Environments of the piece as those of the whole language.
 
-use sml_envs::objects::{Constructors, Env as WholeEnv, Status, TypeStr, Value};
+use sml_bases::objects::{Constructors, Env as WholeEnv, Status, TypeStr, Value};
 use sml_lex::fault::Memory;
 use sml_objects::objects::{Env, Scheme};
 use sml_tree::bare::Ident;

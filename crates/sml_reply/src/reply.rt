@@ -17,7 +17,7 @@ use crate::piece::whole_env;
 use crate::sink::{Out, OutFault, write_all, write_each};
 use indexmap::{IndexMap, IndexSet};
 use itoa::Buffer;
-use sml_envs::objects::Basis as WholeBasis;
+use sml_bases::objects::Basis as WholeBasis;
 use sml_lex::fault::{Code, Fault, Memory, Place, Warning};
 use sml_objects::objects::{Basis, TyName};
 use sml_texts::numerals::push_number;

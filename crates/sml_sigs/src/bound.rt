@@ -1,8 +1,8 @@
 //! The names that a signature binds, and their constructors.
 
 use indexmap::{IndexMap, IndexSet};
+use sml_bases::objects::{Constructors, Env};
 use sml_envs::functions::name_of;
-use sml_envs::objects::{Constructors, Env};
 use sml_lex::fault::Memory;
 use sml_objects::objects::{Scheme, TyName};
 use sml_tree::bare::Ident;

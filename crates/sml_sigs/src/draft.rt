@@ -3,8 +3,9 @@
 use crate::layers::Inside;
 use crate::sharing::Joins;
 use indexmap::{IndexMap, IndexSet};
+use sml_bases::environments::Entry;
+use sml_bases::objects::{Env, Sig, TypeStr, Value};
 use sml_envs::mapping::mapped_env;
-use sml_envs::objects::{Entry, Env, Sig, TypeStr, Value};
 use sml_lex::fault::{Code, Memory, Place};
 use sml_objects::objects::{Scheme, TyName};
 use sml_tree::bare::{Ident, LongIdent};

@@ -1,6 +1,7 @@
 //! What specifications see: those before them in each `sig .. end` around them, and then an outer scope.
 
-use sml_envs::objects::{Entry, Env, TypeStr};
+use sml_bases::environments::Entry;
+use sml_bases::objects::{Env, TypeStr};
 use sml_tree::bare::Ident;
 use sml_types::scope::Scope;
 use std::rc::Rc;
@@ -20,6 +21,11 @@ pub(crate) struct Layers<'a, S> {
 }
 
 impl<S: Scope> Scope for Layers<'_, S> {
+    // What it tells is not stated yet.
+    ghost says_structure = { λ _ _ _. Unit {0} };
+
+    ghost says_type = { λ _ _ _. Unit {0} };
+
     fn structure(&self, name: &Ident) -> Option<&Rc<Env>> {
         if let Some(layer) = self.inner {
             if let Some(found) = found_in(layer, name) {
@@ -58,6 +64,11 @@ pub(crate) struct Inside<'a> {
 }
 
 impl Scope for Inside<'_> {
+    // What it tells is not stated yet.
+    ghost says_structure = { λ _ _ _. Unit {0} };
+
+    ghost says_type = { λ _ _ _. Unit {0} };
+
     fn structure(&self, name: &Ident) -> Option<&Rc<Env>> {
         self.env.structures.get(name)
     }

@@ -2,9 +2,9 @@
 
 use crate::bound::{Table, bound_name, table_of};
 use indexmap::{IndexMap, IndexSet};
+use sml_bases::objects::{Env, TypeStr};
 use sml_envs::comparisons::{same_constructors, same_function};
 use sml_envs::mapping::{Image, Mapping, mapped_constructors, mapped_scheme};
-use sml_envs::objects::{Env, TypeStr};
 use sml_lex::fault::{Code, Memory, Place};
 use sml_objects::equality::has_equality;
 use sml_objects::objects::{MlType, Scheme, TyName};

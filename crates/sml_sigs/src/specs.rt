@@ -1,8 +1,8 @@
 //! Specifications without signatures in them (the Definition, section 5.7, rules 68 to 72).
 
+use sml_bases::objects::{Constructors, Env, Sig, Status, TypeStr, Value};
 use sml_envs::functions::name_of;
 use sml_envs::new_names::NewNames;
-use sml_envs::objects::{Constructors, Env, Sig, Status, TypeStr, Value};
 use sml_lex::fault::{Memory, Place};
 use sml_objects::objects::{Initial, MlType, Scheme, TyName};
 use sml_tree::bare::LongIdent;

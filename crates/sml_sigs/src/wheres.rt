@@ -3,10 +3,10 @@
 use crate::bound::{bound_name, table_of};
 use crate::layers::Inside;
 use indexmap::IndexSet;
+use sml_bases::objects::{Constructors, Sig};
 use sml_envs::comparisons::same_constructors;
 use sml_envs::functions::admits_equality;
 use sml_envs::mapping::{mapped_constructors, mapped_env};
-use sml_envs::objects::{Constructors, Sig};
 use sml_envs::realisation::Realisation;
 use sml_lex::fault::{Code, Memory, Place};
 use sml_objects::equality::has_equality;

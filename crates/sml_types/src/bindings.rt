@@ -4,7 +4,7 @@ use crate::fault::CoreFault;
 use crate::scope::Scope;
 use crate::types::type_of;
 use crate::variables::Listed;
-use sml_envs::objects::{Constructors, Env, TypeStr};
+use sml_bases::objects::{Constructors, Env, TypeStr};
 use sml_lex::fault::Memory;
 use sml_objects::objects::{MlType, Scheme};
 use sml_tree::expressions::TypBind;

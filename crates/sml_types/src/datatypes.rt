@@ -1,16 +1,17 @@
 //! Bindings of datatypes (the Definition, section 4.10, rules 17, 28 and 29, and section 4.9).
 
 use crate::bindings::{no_constructors, parameters};
-use crate::equality::{Run, without_equality};
 use crate::fault::CoreFault;
 use crate::rows::{arrow, boxed, number_of};
 use crate::scope::Scope;
 use crate::sides::{RightSide, read_side};
 use crate::types::type_of;
 use crate::variables::{Listed, closed, is_equality_variable};
+use sml_bases::objects::{Constructors, Env, Status, TypeStr, Value};
 use sml_envs::mapping::{Image, Mapping, mapped_type};
 use sml_envs::new_names::NewNames;
-use sml_envs::objects::{Constructors, Env, Status, TypeStr, Value};
+use sml_equality::largest::without_equality;
+use sml_equality::runs::Run;
 use sml_lex::fault::Memory;
 use sml_objects::objects::{MadeName, MlType, Scheme, TyName};
 use sml_tree::bare::Ident;
@@ -55,7 +56,7 @@ fn datatypes_of(
     names: &[TyName],
     arguments: &[Arguments],
 ) -> Result<Env, Memory> {
-    let lost = without_equality(alloc, &run, &mentioned(alloc, arguments)?)?;
+    let lost = without_equality(alloc, run.unit, run.first, arguments)?;
     let by = Losing { run, lost: &lost };
     let mut env = Env::new(alloc);
     for ((bind, name), arguments) in binds.iter().zip(names).zip(arguments) {
@@ -76,6 +77,11 @@ struct Inner<'a, S> {
 }
 
 impl<S: Scope> Scope for Inner<'_, S> {
+    // What it tells is not stated yet.
+    ghost says_structure = { λ _ _ _. Unit {0} };
+
+    ghost says_type = { λ _ _ _. Unit {0} };
+
     fn structure(&self, name: &Ident) -> Option<&Rc<Env>> {
         self.outer.structure(name)
     }
@@ -183,19 +189,6 @@ fn arguments_in<S: Scope>(
         arguments.push(argument)?;
     }
     Ok(arguments)
-}
-
-/// Each argument's type with the index of its datatype.
-fn mentioned(alloc: Global, all: &[Arguments]) -> Result<Vec<(usize, Rc<MlType>)>, Memory> {
-    let mut pairs = Vec::new(alloc);
-    for (index, arguments) in all.iter().enumerate() {
-        for argument in arguments {
-            if let Some(ty) = argument {
-                pairs.push((index, ty.clone()?))?;
-            }
-        }
-    }
-    Ok(pairs)
 }
 
 /// The names of a run without the equality that some of them lose.

@@ -3,7 +3,6 @@
 
 pub mod bindings;
 pub mod datatypes;
-mod equality;
 pub mod fault;
 pub mod rows;
 pub mod scope;

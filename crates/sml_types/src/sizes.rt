@@ -1,7 +1,7 @@
 //! That schemes and type functions aren't too large.
 
 use crate::fault::{CoreFault, plain_fault};
-use sml_envs::objects::Env;
+use sml_bases::objects::Env;
 use sml_envs::sizes::GREATEST_SIZE;
 use sml_lex::fault::{Code, Place};
 use sml_objects::objects::{MlType, Scheme};

@@ -22,8 +22,8 @@ ghost use Rattle.sml_units.specs.Runs.{start, flag_at};
 
 use crate::needs::{empty, nameless, paths_of_needs, with_needs};
 use crate::whole::{answer_rest, exported, whole_basis};
+use sml_bases::objects::Basis as WholeBasis;
 use sml_envs::initial::initial;
-use sml_envs::objects::Basis as WholeBasis;
 use sml_exports::exports::Exports;
 use sml_lex::fault::{Fault, Memory, Warning};
 use sml_lex::lexer::lex;

@@ -2,8 +2,8 @@
 
 use crate::project::{Checked, Read, Replies, UnitReplies, check_unit, sources_of};
 use indexmap::IndexMap;
+use sml_bases::objects::Basis as WholeBasis;
 use sml_envs::initial::initial;
-use sml_envs::objects::Basis as WholeBasis;
 use sml_exports::comparison::are_same_exports;
 use sml_exports::exports::Exports;
 use sml_exports::moved::moved;

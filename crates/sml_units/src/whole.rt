@@ -4,7 +4,7 @@ ghost use Rattle.std.specs.Prelude.{◌≡◌, ◌++◌, IfOk, List, length};
 ghost use Rattle.sml_reply.specs.declared.reply.Reply.{Reply};
 
 use crate::project::number_behind;
-use sml_envs::objects::Basis as WholeBasis;
+use sml_bases::objects::Basis as WholeBasis;
 use sml_exports::exports::Exports;
 use sml_lex::fault::Memory;
 use sml_modules::modules::topdec;

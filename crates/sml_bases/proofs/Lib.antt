@@ -1,0 +1,2 @@
+pub mod EnvViews
+mod Nearest

@@ -1,0 +1,10 @@
+use Rattle.std.proofs.Common.{◌≡◌, map}
+use Rattle.std.specs.Map.Iter.{deref_pair}
+use Rattle.sml_objects.specs.Maps.{join}
+use Rattle.sml_objects.specs.Views.{entries_of}
+use Rattle.sml_bases.specs.Views.{value_of}
+use Rattle.sml_bases.proofs.environments.put_values.Given as goal
+
+abbrev pub invariant-loop-name : goal.invariant-loop-name
+invariant-loop-name l =
+    entries_of value_of l.map.entries ≡ join (entries_of value_of l.initial.map.entries) (entries_of value_of (map deref_pair l.yielded))

@@ -1,0 +1,4 @@
+mod Needing
+mod Spreading
+mod Keeping
+mod Settling

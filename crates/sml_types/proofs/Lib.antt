@@ -1,0 +1,3 @@
+mod Dotting
+mod Paths
+mod Entries

@@ -92,7 +92,8 @@ fn put_values(
 impl Value {
     /// The same value, shared.
     pub fn share(&self) -> Result<Value, Memory>
-        ensures { IfOk result (λ v. value_of v ≡ value_of self.now) }
+        ensures value { IfOk result (λ v. value_of v ≡ value_of self.now) }
+        ensures status { IfOk result (λ v. v.status ≡ self.now.status) }
     {
         Ok(Value {
             status: self.status,

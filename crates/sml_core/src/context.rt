@@ -1,7 +1,6 @@
 //! What elaboration knows while it goes through a top-level declaration.
 
 use crate::explicit::Explicit;
-use crate::scopes::{Mark, Scopes};
 use sml_asks::asks::{ask_class, ask_equal, ask_equality, ask_instance, ask_within};
 use sml_bases::objects::{Basis, Env, Status, TypeStr, Value};
 use sml_envs::new_names::NewNames;
@@ -12,12 +11,14 @@ use sml_layers::layer::Bound;
 use sml_lex::fault::{Code, Memory, Place, Warning};
 use sml_objects::objects::{MlType, Scheme};
 use sml_objects::sizes::size_up_to;
+use sml_scopes::scopes::{Mark, Scopes};
+use sml_scopes::values::value_at;
 use sml_solve::solver::Solver;
 use sml_tree::bare::{Ident, LongIdent};
 use sml_tree::types::Ty;
 use sml_types::fault::{CoreFault, plain_fault};
 use sml_types::rows::{boxed, number_of};
-use sml_types::scope::{path_of, unbound};
+use sml_types::scope::unbound;
 use sml_types::types::type_of;
 use std::alloc::Global;
 use std::collections::BTreeMap;
@@ -176,11 +177,7 @@ impl<'a> Context<'a> {
 
     /// The value that a long identifier means, or E3, or none.
     pub(crate) fn find(&self, long: &LongIdent) -> Result<Option<Value>, CoreFault> {
-        let found = match path_of(self.alloc, &self.scopes, long)? {
-            None => self.scopes.value(&long.last),
-            Some(env) => env.values.get(&long.last),
-        };
-        match found {
+        match value_at(&self.scopes, long)? {
             None => Ok(None),
             Some(value) => Ok(Some(value.share()?)),
         }

@@ -2,10 +2,10 @@
 
 use crate::context::Context;
 use crate::expressions::of_type;
-use crate::scopes::Mark;
 use sml_bases::objects::{Env, Status, Value};
 use sml_lex::fault::{Code, Place};
 use sml_objects::objects::Initial;
+use sml_scopes::scopes::Mark;
 use sml_tree::bare::{Ident, LongIdent};
 use sml_tree::expressions::{ConBind, DatBind, Dec, ExnBind, TypBind};
 use sml_tree::names::Name;

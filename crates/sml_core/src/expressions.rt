@@ -1,19 +1,19 @@
 //! Expressions and matches (the Definition, section 4.10, rules 1 to 14).
 
 use crate::context::Context;
-use crate::matches::Kind;
 use crate::patterns::Variables;
-use crate::scopes::Mark;
 use sml_bases::objects::{Status, Value};
 use sml_closing::places::pattern_place;
 use sml_layers::layer::Bound;
 use sml_lex::fault::{Memory, Place};
 use sml_objects::objects::{Initial, MlType, Scheme};
+use sml_scopes::scopes::Mark;
 use sml_tree::bare::{Ident, LongIdent};
 use sml_tree::expressions::{Exp, ExpField, Rule};
 use sml_tree::patterns::{Constant, ConstantKind};
 use sml_types::fault::CoreFault;
 use sml_types::rows::{Fields, arrow, initial, label_key, row_of, tuple_of};
+use sml_warnings::matches::{Kind, judge_rules};
 use std::alloc::Global;
 use std::collections::BTreeMap;
 use std::rc::Rc;
@@ -91,7 +91,7 @@ impl Context<'_> {
             }
             Exp::Function(place, rules) => {
                 let ty = self.rules(rules)?;
-                self.judge_rules(Kind::Fn, *place, rules)?;
+                judge_rules(&self.scopes, &mut self.warnings, Kind::Fn, *place, rules)?;
                 Ok(ty)
             }
         }
@@ -174,7 +174,7 @@ impl Context<'_> {
         let exn = initial(self.alloc, Initial::Exn)?;
         let wanted = arrow(self.alloc, exn, ty.clone()?)?;
         self.equal(place, handler, &wanted)?;
-        self.judge_rules(Kind::Handle, place, rules)?;
+        judge_rules(&self.scopes, &mut self.warnings, Kind::Handle, place, rules)?;
         Ok(ty)
     }
 

@@ -3,10 +3,7 @@
 
 pub mod context;
 pub mod declarations;
-mod expansive;
 mod explicit;
 mod expressions;
-mod matches;
 mod patterns;
-pub mod scopes;
 pub mod values;

@@ -4,9 +4,10 @@ use crate::context::{Context, refused};
 use crate::expressions::constant;
 use indexmap::IndexMap;
 use sml_asks::asks::ask_row;
-use sml_bases::objects::{Status, Value};
+use sml_bases::objects::Value;
 use sml_lex::fault::{Code, Place};
 use sml_objects::objects::MlType;
+use sml_scopes::values::is_constructor;
 use sml_tree::bare::{Ident, LongIdent};
 use sml_tree::names::Name;
 use sml_tree::patterns::{Pat, PatField};
@@ -32,17 +33,6 @@ impl Variables {
             types: IndexMap::new(alloc),
             is_recursive: false,
         }
-    }
-}
-
-pub(crate) fn is_constructor(status: Status) -> bool {
-    match status {
-        Status::Variable | Status::Overloaded(_) => false,
-        Status::Constructor {
-            number: _,
-            count: _,
-        }
-        | Status::Exception => true,
     }
 }
 

@@ -5,7 +5,6 @@ use crate::patterns::Variables;
 use indexmap::IndexSet;
 use sml_asks::asks::{ask_fixed, ask_general, ask_labels, ask_reading, ask_scheme, ask_variable};
 use sml_bases::objects::{Status, Value};
-use sml_closing::expansive::is_expansive;
 use sml_closing::functions::is_function;
 use sml_closing::places::{expression_place, pattern_place};
 use sml_closing::unguarded::in_binds;
@@ -14,11 +13,13 @@ use sml_layers::layer::Bound;
 use sml_layers::variable::Variable;
 use sml_lex::fault::{Code, Memory, Place};
 use sml_objects::objects::{MlType, Scheme};
+use sml_scopes::values::is_expansive;
 use sml_tree::bare::Ident;
 use sml_tree::expressions::{Exp, ValBind};
 use sml_tree::names::Name;
 use sml_types::fault::{CoreFault, plain_fault};
 use sml_types::variables::{collect_free, is_equality_variable, is_ground};
+use sml_warnings::matches::judge_binding;
 use std::alloc::Global;
 use std::mem;
 use std::rc::Rc;
@@ -121,12 +122,12 @@ impl Context<'_> {
         ty: &MlType,
     ) -> Result<(), CoreFault> {
         self.equal(pattern_place(&bind.pat), pattern, ty)?;
-        let is_expansive = is_expansive(&*self, &bind.exp)?;
+        let is_expansive = is_expansive(&self.scopes, &bind.exp)?;
         let count = declaration.variables.types.len();
         if declaration.expansive.len() < count {
             declaration.expansive.resize(count, is_expansive)?;
         }
-        self.judge_binding(&bind.pat)
+        judge_binding(&self.scopes, &mut self.warnings, &bind.pat)
     }
 
     /// The bindings behind `rec`.

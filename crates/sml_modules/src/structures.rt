@@ -3,9 +3,9 @@
 use crate::functors::applied;
 use sml_bases::objects::Env;
 use sml_core::context::Context;
-use sml_core::scopes::Mark;
 use sml_lex::fault::Place;
 use sml_match::ascribe::ascribed;
+use sml_scopes::scopes::Mark;
 use sml_sigs::sigs::signature;
 use sml_tree::signatures::SigExp;
 use sml_tree::structures::{Ascription, StrBind, StrDec, StrExp};

@@ -1,5 +1,6 @@
 pub mod EnvViews
 pub mod Joins
+pub mod Puts
 pub mod RisingLabels
 pub mod DecimalLabels
 pub mod LabelPlaces

@@ -9,7 +9,7 @@ use Rattle.sml_objects.specs.Views.{scheme_of}
 use Rattle.sml_piece.specs.Elaborated.{Shows, Numbers, no_local, or_else, local_scheme, component_of}
 use Rattle.sml_piece.specs.declared.expressions.Component.{Component}
 use Rattle.sml_piece.specs.declared.expressions.Component.TheVariants.{Value, «Type»}
-use Rattle.sml_piece.proofs.Maps.{at, lookup-put, at-through}
+use Rattle.sml_objects.proofs.Puts.{at, lookup-put, at-through}
 
 pub shows_same : (f g : Numbers) (outer inner C : Env Name) → ((x : Id) → g x ≡ f x) → Shows f outer inner C → Shows g outer inner C
 shows_same f g outer inner C h s = record {

@@ -3,7 +3,6 @@ pub mod Vectors
 pub mod Answering
 pub mod Paths
 pub mod Dotting
-pub mod Maps
 pub mod Contexts
 pub mod Specifying
 pub mod ExpAnswers

@@ -10,7 +10,7 @@ use Rattle.sml_objects.specs.Maps.{lookup, put, order_of}
 use Rattle.sml_objects.specs.Views.{entries_of}
 use Rattle.sml_objects.proofs.EnvViews.{lookup-entries, entries-put}
 use Rattle.sml_piece.specs.Elaborated.{flat}
-use Rattle.sml_piece.proofs.Maps.{at, lookup-put, at-through}
+use Rattle.sml_objects.proofs.Puts.{at, lookup-put, at-through}
 
 abbrev Stored : Type 0
 Stored = List (Rc (Vec ℕ Global) Global × Option ℕ)

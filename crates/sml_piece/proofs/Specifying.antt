@@ -19,7 +19,7 @@ use Rattle.sml_rules.proofs.Within as W
 use Rattle.sml_piece.specs.Elaborated.{Tells, IsBelow, read_new, summed}
 use Rattle.sml_piece.proofs.Answering.{then_any, then_refused, gives, passes}
 use Rattle.sml_lex.specs.Faults as F
-use Rattle.sml_piece.proofs.Maps.{at, lookup-put, same_ident}
+use Rattle.sml_objects.proofs.Puts.{at, lookup-put, same_ident}
 use Rattle.sml_piece.proofs.Contexts.{value-values, value-types, type-values, type-types}
 
 pub shown : {A B : Type 0} (f : A → B) (o : Option A) → is_some (option_map f o) ≡ is_some o

@@ -1,5 +1,10 @@
 //! What specifications see: those before them in each `sig .. end` around them, and then an outer scope.
 
+ghost use Rattle.std.specs.Prelude.{◌≡◌};
+ghost use Rattle.sml_objects.specs.Maps.{lookup};
+ghost use Rattle.sml_core_rules.specs.Objects.{find_structure, structures, types};
+ghost use Rattle.sml_bases.specs.Views.{env_of};
+
 use sml_bases::environments::Entry;
 use sml_bases::objects::{Env, TypeStr};
 use sml_tree::bare::Ident;
@@ -64,10 +69,9 @@ pub(crate) struct Inside<'a> {
 }
 
 impl Scope for Inside<'_> {
-    // What it tells is not stated yet.
-    ghost says_structure = { λ _ _ _. Unit {0} };
+    ghost says_structure = { λ s x o. o ≡ find_structure x (structures (env_of s.env.now)) };
 
-    ghost says_type = { λ _ _ _. Unit {0} };
+    ghost says_type = { λ s x o. o ≡ lookup x (types (env_of s.env.now)) };
 
     fn structure(&self, name: &Ident) -> Option<&Rc<Env>> {
         self.env.structures.get(name)

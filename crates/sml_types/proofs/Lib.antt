@@ -1,3 +1,3 @@
 mod Dotting
-mod Paths
-mod Entries
+pub mod Paths
+pub mod Entries

@@ -21,7 +21,7 @@ use Rattle.std.specs.Option.{option_map}
 use Rattle.sml_lex.specs.Faults.{fault_of}
 use Rattle.sml_bases.specs.declared.objects.Env as P
 use Rattle.sml_bases.specs.Views.{env_of}
-use Rattle.sml_types.specs.Answered.{IsAnswer, IsFaultOf, LeadsTo, env_at}
+use Rattle.sml_types.specs.Answered.{IsAnswer, IsFault, IsFaultOf, LeadsTo, env_at}
 use Rattle.sml_types.specs.declared.fault.CoreFault.{CoreFault}
 use Rattle.sml_types.specs.declared.fault.CoreFault.TheVariants.{Memory, Fault}
 
@@ -72,6 +72,10 @@ stands xs i x h e = get_or-map ident_of xs i x (ident_of x) h ∙ ap ident_of (s
 
 pub within : (xs : List (Rc (Vec ℕ Global) Global)) (i : ℕ) → i < length xs → i < length (map ident_of xs)
 within xs i h = let n = length-map xs ident_of in omega (arith, n, h)
+
+pub or_memory : (f : CoreFault) (g : F.Fault Place) → IsFault f g → IsFaultOf f g
+or_memory Memory g h = tt
+or_memory (Fault k) g h = h
 
 pub leads-nowhere : {X Y : Type 0} (view : X → Y) (c : Code) (p : Place) (x : LongId) (s : List Id) (r : Found Y) (f : CoreFault) → r ≡ no_path s → IsFaultOf f (fault_at E3 p s) → IsAnswer view (Err f) (need c p x r)
 leads-nowhere view c p x s r Memory e h = tt

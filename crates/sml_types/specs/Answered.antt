@@ -24,6 +24,11 @@ pub record TellsOf (structure : Id → Option (Env Name) → Type 0) (type_str :
   pub structures_are : (x : Id) (o : Option (Env Name)) → structure x o → o ≡ find_structure x (structures C)
   pub types_are : (x : Id) (o : Option (TyStr Name)) → type_str x o → o ≡ lookup x (types C)
 
+-- what is there, or else whatever is said
+abbrev pub there_or : {X : Type 0} → Option X → (Option X → Type 0) → Option X → Type 0
+there_or (Some x) says o = o ≡ Some x
+there_or None says o = says o
+
 -- the environment at the end of a path
 abbrev pub env_at : Env Name → List Id → Found (Env Name)
 env_at C path = find_at (λ E. Some E) [] path C
@@ -33,6 +38,11 @@ abbrev pub IsAnswer : {X Y : Type 0} → (X → Y) → Result X CoreFault → An
 IsAnswer view (Ok x) a = a ≡ accepted (view x)
 IsAnswer view (Err Memory) a = Unit {0}
 IsAnswer view (Err (Fault f)) a = a ≡ refused (fault_of f)
+
+-- this fault
+abbrev pub IsFault : CoreFault → F.Fault Place → Type 0
+IsFault Memory f = ⊥
+IsFault (Fault g) f = fault_of g ≡ f
 
 -- this fault, or want of memory
 abbrev pub IsFaultOf : CoreFault → F.Fault Place → Type 0

@@ -1,5 +1,10 @@
 //! Bindings of datatypes (the Definition, section 4.10, rules 17, 28 and 29, and section 4.9).
 
+ghost use Rattle.sml_objects.specs.Maps.{lookup};
+ghost use Rattle.sml_objects.specs.Views.{entries_of};
+ghost use Rattle.sml_bases.specs.Views.{ty_str_of};
+ghost use Rattle.sml_types.specs.Answered.{there_or};
+
 use crate::bindings::{no_constructors, parameters};
 use crate::fault::CoreFault;
 use crate::rows::{arrow, boxed, number_of};
@@ -77,10 +82,9 @@ struct Inner<'a, S> {
 }
 
 impl<S: Scope> Scope for Inner<'_, S> {
-    // What it tells is not stated yet.
-    ghost says_structure = { λ _ _ _. Unit {0} };
+    ghost says_structure = { λ i x o. S.says_structure i.outer.now x o };
 
-    ghost says_type = { λ _ _ _. Unit {0} };
+    ghost says_type = { λ i x o. there_or (lookup x (entries_of ty_str_of i.types.now.entries)) (S.says_type i.outer.now x) o };
 
     fn structure(&self, name: &Ident) -> Option<&Rc<Env>> {
         self.outer.structure(name)

@@ -1,7 +1,7 @@
 //! Why a phrase has no meaning.
 
 ghost use Rattle.std.specs.Prelude.{◌≡◌, Some, None};
-ghost use Rattle.sml_types.specs.Answered.{IsFaultOf};
+ghost use Rattle.sml_types.specs.Answered.{IsFault};
 ghost use Rattle.sml_types.specs.declared.fault.CoreFault.TheVariants.{Memory};
 
 use sml_lex::fault::{Code, Fault, Memory, Place};
@@ -40,7 +40,7 @@ impl<T: Drop> From<AllocFailed<T>> for CoreFault {
 
 /// A fault that speaks of no identifier.
 pub fn plain_fault(code: Code, place: Place) -> CoreFault
-    ensures { IsFaultOf result (record { code = code; place = place; detail = None }) }
+    ensures { IsFault result (record { code = code; place = place; detail = None }) }
 {
     CoreFault::Fault(Fault {
         code,
@@ -63,7 +63,7 @@ pub(crate) fn again(alloc: Global, fault: &Fault) -> Result<CoreFault, Memory> {
 
 /// A fault that speaks of this long identifier or path.
 pub fn fault_about(code: Code, place: Place, detail: Vec<u8>) -> CoreFault
-    ensures { IsFaultOf result (record { code = code; place = place; detail = Some detail.items }) }
+    ensures { IsFault result (record { code = code; place = place; detail = Some detail.items }) }
 {
     CoreFault::Fault(Fault {
         code,

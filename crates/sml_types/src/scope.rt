@@ -14,7 +14,7 @@ ghost use Rattle.sml_core_rules.specs.Objects as O;
 ghost use Rattle.sml_core_rules.specs.Objects.{find_structure, structures, types};
 ghost use Rattle.sml_bases.specs.Views.{env_of, ty_str_of};
 ghost use Rattle.sml_bases.specs.Layers.{first_found, layers};
-ghost use Rattle.sml_types.specs.Answered.{IsAnswer, IsFaultOf, LeadsTo, TellsOf, env_at};
+ghost use Rattle.sml_types.specs.Answered.{IsAnswer, IsFault, IsFaultOf, LeadsTo, TellsOf, env_at};
 
 use crate::fault::{CoreFault, fault_about};
 use crate::sides::RightSide;
@@ -170,6 +170,7 @@ pub fn type_at<'a, S: Scope>(
 }
 
 /// What was found, or that the long identifier means nothing.
+#[tactic(auto, using(crate::proofs::Paths::or_memory))]
 fn found<'a, T>(
     alloc: Global,
     stored: Option<&'a T>,
@@ -187,7 +188,7 @@ fn found<'a, T>(
 
 /// That a long identifier means nothing.
 pub fn unbound(alloc: Global, code: Code, long: &LongIdent) -> Result<CoreFault, Memory>
-    ensures { IfOk result (λ f. IsFaultOf f (fault_at code long.now.place ((long_of long.now).path ++ (long_of long.now).last ∷ []))) }
+    ensures { IfOk result (λ f. IsFault f (fault_at code long.now.place ((long_of long.now).path ++ (long_of long.now).last ∷ []))) }
 {
     let text = long_text(alloc, long)?;
     Ok(fault_about(code, long.place, text))

@@ -11,7 +11,7 @@ use Rattle.sml_rules.specs.Answers.{accepted}
 use Rattle.sml_rules.specs.Readings.{read_exp, typed}
 use Rattle.sml_piece.specs.Elaborated.{Answers, Shows, numbers_in, typed_of, typed_list_of}
 use Rattle.sml_piece.proofs.Contexts.{shows_local, shows_same}
-use Rattle.sml_piece.proofs.Maps.{at, over, same_at}
+use Rattle.sml_objects.proofs.Puts.{at, over, same_at}
 use Rattle.sml_piece.proofs.Answering.{first_ends, second, made_so, gives, gives_so, refusal, refuses, then_any, on_ok}
 use Rattle.sml_piece.proofs.ExpAnswers.{CarriesExps, exps_all, exps_on, exps_end, exps_fault}
 use Rattle.sml_piece.proofs.Dotting.{map-more}

@@ -1,0 +1,6 @@
+mod Stored
+mod Tables
+mod Nearest
+mod Joins
+mod Meanings
+mod Finding

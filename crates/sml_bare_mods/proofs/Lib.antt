@@ -1,3 +1,8 @@
 mod DerivedHeights
 mod Reversed
 mod Chains
+mod Pushes
+mod Refused
+mod Bindings
+mod Descriptions
+mod Applications

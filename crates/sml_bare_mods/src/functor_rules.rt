@@ -12,7 +12,7 @@ ghost use Rattle.sml_phrases.specs.PhraseViews.{Gives, Puts, low_constraint_of, 
 ghost use Rattle.sml_bare_mods.specs.StructureRules.{behind_fun_bind, fun_binds, open_fun_bind, where_fun_bind};
 
 use crate::module_stack::{pop_constraints, pop_fun_binds, pop_where_type};
-use crate::structure_rules::{and_constraint, constrained, own_constrained};
+use crate::structure_rules::{and_constraint, bound};
 use sml_derived::expander::Expander;
 use sml_phrases::low::{LowConstraint, LowFunBinds, LowSig, LowSpecs, LowStr};
 use sml_phrases::phrase::{Failure, Phrase, SignaturePhrase, StructurePhrase, discard};
@@ -126,13 +126,11 @@ pub fn fun_binds(stack: &mut Stack, expander: &Expander) -> Result<LowFunBinds, 
     let (_equations, constraints, binds) = pop_fun_binds(stack);
     match first {
         Phrase::Structures(StructurePhrase::OpenFunBind(name, argument, signature, own, body)) => {
-            let body = constrained(stack.alloc, body, constraints)?;
-            let body = own_constrained(stack.alloc, name.place, own, body)?;
+            let body = bound(stack.alloc, name.place, own, body, constraints)?;
             and_fun_bind(name, argument, signature, body, binds)
         }
         Phrase::Structures(StructurePhrase::OpenFunctor(name, specs, own, body)) => {
-            let body = constrained(stack.alloc, body, constraints)?;
-            let body = own_constrained(stack.alloc, name.place, own, body)?;
+            let body = bound(stack.alloc, name.place, own, body, constraints)?;
             and_open_functor(expander, name, specs, body, binds)
         }
         other => {

@@ -1,11 +1,12 @@
 //! What the rules of specifications make of their parts.
 
 ghost use Rattle.std.specs.Prelude.{◌≡◌, ◌≤◌, [], ◌∷◌, drop, length, map, reverse, IfErr, IfOk, OnOk};
+ghost use Rattle.std.specs.Option.{option_map};
 ghost use Rattle.sml_tree.specs.Heights.{con_bind_height, highest, spec_height, str_descs_height, val_desc_height};
 ghost use Rattle.sml_tree.specs.SignatureViews.{spec_of, str_desc_of, str_descs_of, typ_desc_of, val_desc_of};
 ghost use Rattle.sml_tree.specs.BindingViews.{con_bind_of, dat_bind_of};
 ghost use Rattle.sml_tree.specs.Signatures.{eqtype_spec, exception_spec, no_str_desc, sig_end, structure_spec, val_spec};
-ghost use Rattle.sml_tree.specs.TypeViews.{long_name_of, name_of, names_of};
+ghost use Rattle.sml_tree.specs.TypeViews.{long_name_of, name_of, names_of, ty_of};
 ghost use Rattle.sml_read.specs.Grammar.{right_side};
 ghost use Rattle.sml_read.specs.declared.grammar.Rule.TheVariants.{Specifications};
 ghost use Rattle.sml_derived.specs.Derived.{where_types};
@@ -23,7 +24,7 @@ use crate::signature_rules::{sig_end, where_types, with_wheres};
 use sml_derived::expander::Expander;
 use sml_lex::fault::Place;
 use sml_phrases::low::{
-    LowConBinds, LowDatBinds, LowSig, LowSpecs, LowStrDescs, LowTypBinds, LowValDescs,
+    LowConBinds, LowDatBinds, LowSig, LowSpecs, LowStrDescs, LowTy, LowTypBinds, LowValDescs,
 };
 use sml_phrases::phrase::{DeclarationPhrase, Failure, Phrase, SignaturePhrase, discard};
 use sml_phrases::raise::raised;
@@ -294,22 +295,32 @@ fn con_binds(stack: &mut Stack) -> Result<(), Failure>
 {
     let name = stack.name()?;
     let ty = stack.ty_if_any();
-    let LowConBinds { mut trees, height } = stack.con_binds();
+    let binds = and_con_bind(name, ty, stack.con_binds())?;
+    stack.put_con_binds(binds)
+}
+
+/// A constructor or an exception in front of others.
+fn and_con_bind(name: Name, ty: Option<LowTy>, binds: LowConBinds) -> Result<LowConBinds, Failure>
+    ensures { Gives (λ (cs : LowConBinds). map con_bind_of (reverse cs.trees.items)) (λ cs. low (highest con_bind_height cs)) (record { name = name_of name; argument = option_map (λ t. ty_of t.tree) ty } ∷ map con_bind_of (reverse binds.trees.items)) result }
+{
+    let LowConBinds { mut trees, height } = binds;
     match ty {
         None => {
             trees.push(ConBind {
                 name,
                 argument: None,
             })?;
-            stack.put_con_binds(LowConBinds { trees, height })
+            Ok(LowConBinds { trees, height })
         }
         Some(ty) => {
             trees.push(ConBind {
                 name,
                 argument: Some(ty.tree),
             })?;
-            let height = height.max(ty.height);
-            stack.put_con_binds(LowConBinds { trees, height })
+            Ok(LowConBinds {
+                trees,
+                height: height.max(ty.height),
+            })
         }
     }
 }
@@ -330,26 +341,7 @@ fn exceptions(stack: &mut Stack) -> Result<LowConBinds, Failure>
 {
     stack.skip();
     let (name, ty) = pop_con_bind(stack)?;
-    let LowConBinds { mut trees, height } = stack.con_binds();
-    match ty {
-        None => {
-            trees.push(ConBind {
-                name,
-                argument: None,
-            })?;
-            Ok(LowConBinds { trees, height })
-        }
-        Some(ty) => {
-            trees.push(ConBind {
-                name,
-                argument: Some(ty.tree),
-            })?;
-            Ok(LowConBinds {
-                trees,
-                height: height.max(ty.height),
-            })
-        }
-    }
+    and_con_bind(name, ty, stack.con_binds())
 }
 
 /// `exception ..`

@@ -148,6 +148,20 @@ pub fn own_constrained(
     }
 }
 
+/// The right side of a structure or functor binding, with the constraints behind the binding and then with its own.
+pub fn bound(
+    alloc: Global,
+    place: Place,
+    own: Vec<LowConstraint>,
+    body: LowStr,
+    constraints: Vec<LowConstraint>,
+) -> Result<LowStr, Failure>
+    ensures { Gives (λ (e : LowStr). str_of e.tree) (λ e. low (str_height e)) (own_constrained place (map low_constraint_of (reverse own.items)) (constrained (str_of body.tree) (map low_constraint_of (reverse constraints.items)))) result }
+{
+    let body = constrained(alloc, body, constraints)?;
+    own_constrained(alloc, place, own, body)
+}
+
 /// A structure binding with the constraints that belong to it, and those behind it.
 pub fn str_binds(stack: &mut Stack) -> Result<LowStrBinds, Failure>
     ensures made { let vs = seen stack.old in Gives (λ (bs : LowStrBinds). str_binds_of (map str_bind_of (reverse bs.trees.items))) (λ bs. low (str_binds_height bs)) (str_binds (at vs 0) (at vs 1)) result }
@@ -157,8 +171,7 @@ pub fn str_binds(stack: &mut Stack) -> Result<LowStrBinds, Failure>
     let (_equations, constraints, binds) = pop_str_binds(stack);
     match first {
         Phrase::Structures(StructurePhrase::OpenStrBind(name, own, body)) => {
-            let body = constrained(stack.alloc, body, constraints)?;
-            let body = own_constrained(stack.alloc, name.place, own, body)?;
+            let body = bound(stack.alloc, name.place, own, body, constraints)?;
             let LowStrBinds { mut trees, height } = binds;
             trees.push(StrBind {
                 name,

@@ -3,19 +3,22 @@ use Rattle.std.proofs.Common.{◌≡◌, ℕ, ◌≤◌, ◌+◌, List, [], ◌�
 use Rattle.sml_lex.specs.declared.fault.Place.{Place}
 use Rattle.sml_fixity.specs.declared.heads.Head.TheVariants.{Prefix, Infix, Bracketed}
 use Rattle.sml_tree.specs.Trees.{Id}
+use Rattle.sml_tree.specs.Names.{Name}
 use Rattle.sml_tree.specs.Patterns.{Pat, Pats, wildcard, pat_constant, pat_name, pat_row, pat_tuple, pat_bracket, pat_apply, pat_typed, pat_as, no_pat, and_pat}
 use Rattle.sml_tree.specs.Expressions.{Exp, ValBind, ValBinds, bind, and_bind}
 use Rattle.sml_tree.specs.ExpressionViews.{bind_of}
 use Rattle.sml_tree.specs.Heights.{pat_height, pats_height, rule_height, bind_height, binds_height}
-use Rattle.sml_tree.specs.Clauses.{Clause, clause_rule, pat_row_of}
+use Rattle.sml_tree.specs.Types.{Ty}
+use Rattle.sml_tree.specs.Clauses.{Clause, clause_rule, clause_of, pat_row_of}
 use Rattle.sml_derived.specs.Derived.{function_of}
 use Rattle.sml_bare_decs.specs.FunctionRules.{RightSide, right_side_in, prefix_head, between, infix_head, in_brackets, bracketed_head, heading, clause_from, function_from}
 use Rattle.sml_phrases.specs.PhraseHeights.{low, is_low}
-use Rattle.sml_phrases.specs.Phrases.{Phrase, of_values, of_clauses, at, first, pat_in, clauses_in}
+use Rattle.sml_phrases.specs.Phrases.{Phrase, of_values, of_clauses, of_functions, at, first, pat_in, pats_in, clauses_in, bind_in, binds_in}
 use Rattle.sml_phrases.specs.PhraseViews.{Gives, Puts}
 use Rattle.sml_pat_sequences.specs.LowViews.{GivesPat}
 use Rattle.sml_pat_sequences.specs.PatternSequences.{pat_place}
 use Rattle.sml_phrases.specs.declared.low.LowBind.{LowBind}
+use Rattle.sml_bare_decs.specs.declared.function_rules.LowClause.{LowClause}
 use Rattle.sml_phrases.specs.declared.phrase.Failure.{Failure}
 use Rattle.sml_phrases.specs.declared.phrase.Failure.TheVariants.{TooHigh, Memory}
 use Rattle.std.specs.Result.{IsErrAnd}
@@ -147,6 +150,44 @@ put_fails q whole n old new TooHigh (Err TooHigh) high same fails = fails high
 put_fails q whole n old new Memory (Err TooHigh) high same fails = search (rules, same)
 put_fails q whole n old new e (Err Memory) high same fails = tt
 put_fails q whole n old new e (Ok x) high same fails = absurd same
+
+-- a clause, with a height that is that of its rule
+
+abbrev pub made : Place → Pats Place → Option (Ty Place) → Exp Place → Clause Place
+made p qs t e = record { place = p; pats = qs; result = t; body = e }
+
+pub made_same : (p : Place) (qs rs : Pats Place) (t u : Option (Ty Place)) (e : Exp Place) → qs ≡ rs → t ≡ u → made p qs t e ≡ made p rs u e
+made_same p qs rs t u e h k = ap (λ x. made p x t e) h ∙ ap (λ x. made p rs x e) k
+
+pub made_fails : (p : Place) (qs : Pats Place) (t u : Option (Ty Place)) (e : Exp Place) (small : ℕ) (f : Failure) (r : Result LowClause Failure)
+    → Gives {A = ℕ} {B = ℕ} (λ h. h) low small (Err f) → IsErrAnd r (λ g. g ≡ f) → t ≡ u → small ≡ rule_height (clause_rule (made p qs u e)) → Gives (λ c. clause_of c.tree) (λ c. low (rule_height (clause_rule c))) (made p qs t e) r
+made_fails p qs t u e small TooHigh (Err TooHigh) high same k h = ap (λ x. low (rule_height (clause_rule (made p qs x e)))) k ∙ ap low (sym h) ∙ high
+made_fails p qs t u e small Memory (Err TooHigh) high same k h = search (rules, same)
+made_fails p qs t u e small f (Err Memory) high same k h = tt
+made_fails p qs t u e small f (Ok x) high same k h = absurd same
+
+-- a function, and others
+
+pub binds_made : (v a : List Phrase) (b : ValBind Place) (bs : ValBinds Place) → a ≡ drop 1 v → b ≡ bind_in (first v) → bs ≡ binds_in (first a) → and_bind b bs ≡ and_bind (bind_in (at v 0)) (binds_in (at v 1))
+binds_made v a b bs p hb hbs = ap (λ x. and_bind x bs) hb ∙ ap (and_bind (bind_in (at v 0))) (hbs ∙ ap (λ l. binds_in (first l)) p)
+
+pub pats_made : (v a : List Phrase) (q : Pat Place) (qs : Pats Place) → a ≡ drop 1 v → q ≡ pat_in (first v) → qs ≡ pats_in (first a) → and_pat q qs ≡ and_pat (pat_in (at v 0)) (pats_in (at v 1))
+pats_made v a q qs p hq hqs = ap (λ x. and_pat x qs) hq ∙ ap (and_pat (pat_in (at v 0))) (hqs ∙ ap (λ l. pats_in (first l)) p)
+
+bind_in_functions : (b : ValBind Place) (bs : ValBinds Place) → low (bind_height b) ≡ false → is_low (of_functions [] (and_bind b bs)) ≡ false
+bind_in_functions b bs high = still_too_high (bind_height b) (binds_height (and_bind b bs)) (omega arith) high
+
+pub functions_fail : (b : ValBind Place) (bs : ValBinds Place) (n : ℕ) (old new : List Phrase) (e : Failure) (r : Result Unit Failure)
+    → Gives {A = LowBind} (λ b. bind_of b.tree) (λ b. low (bind_height b)) b (Err e) → IsErrAnd r (λ f. f ≡ e) → Puts (of_functions [] (and_bind b bs)) n old new r
+functions_fail b bs n old new TooHigh (Err TooHigh) high same = bind_in_functions b bs high
+functions_fail b bs n old new Memory (Err TooHigh) high same = search (rules, same)
+functions_fail b bs n old new e (Err Memory) high same = tt
+functions_fail b bs n old new e (Ok x) high same = absurd same
+
+pub functions_made : (v a : List Phrase) (xs : List (Name Place)) (b c : ValBind Place) (bs all : ValBinds Place) → a ≡ drop 3 v → xs ≡ [] → all ≡ and_bind b bs → b ≡ c → bs ≡ binds_in (first a)
+    → of_functions xs all ≡ of_functions [] (and_bind c (binds_in (at v 3)))
+functions_made v a xs b c bs all p none hall hb hbs =
+    ap (λ x. of_functions x all) none ∙ ap (of_functions []) (hall ∙ ap (λ x. and_bind x bs) hb ∙ ap (and_bind c) (hbs ∙ ap (λ l. binds_in (first l)) p))
 
 -- a clause behind a bar, and others
 

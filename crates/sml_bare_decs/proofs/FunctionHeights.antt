@@ -1,11 +1,7 @@
 -- The heights of functions and of their clauses.
-use Rattle.std.proofs.Common.{◌≡◌, ℕ, zero, suc, ◌+◌, ◌≤◌, List, [], ◌∷◌, ◌++◌, map, reverse, length, max, false, Result, Ok, Err, cond, nat_eq, refl, ap, sym, ◌∙◌, arith, rules}
-use Rattle.std.proofs.lemmas.List.{map_push}
-use Rattle.std.proofs.lemmas.Grind.{common_steps}
+use Rattle.std.proofs.Common.{◌≡◌, ℕ, zero, suc, ◌+◌, ◌≤◌, List, ◌∷◌, max, false, Result, Ok, Err, ap, sym, ◌∙◌, arith, rules}
 use Rattle.sml_lex.specs.declared.fault.Place.{Place}
 use Rattle.sml_tree.specs.Trees.{Id}
-use Rattle.sml_tree.specs.Patterns.{Pat, Pats, no_pat, and_pat}
-use Rattle.sml_tree.specs.PatternViews.{pats_of}
 use Rattle.sml_tree.specs.Expressions.{Exp, ValBind}
 use Rattle.sml_tree.specs.ExpressionViews.{bind_of}
 use Rattle.std.specs.Result.{IsErrAnd}
@@ -13,8 +9,8 @@ use Rattle.sml_phrases.specs.PhraseViews.{Gives}
 use Rattle.sml_phrases.specs.declared.low.LowBind.{LowBind}
 use Rattle.sml_phrases.specs.declared.phrase.Failure.{Failure}
 use Rattle.sml_phrases.specs.declared.phrase.Failure.TheVariants.{TooHigh, Memory}
-use Rattle.sml_tree.specs.Heights.{pat_height, pats_height, exp_height, exps_height, rule_height, bind_height}
-use Rattle.sml_tree.specs.Clauses.{Clause, clause_rule, clause_rules, pat_row_of}
+use Rattle.sml_tree.specs.Heights.{exp_height, exps_height, rule_height, bind_height}
+use Rattle.sml_tree.specs.Clauses.{Clause, clause_rule, clause_rules}
 use Rattle.sml_derived.specs.Derived.{hidden_from, curried, count, row_of, case_of, function_of}
 use Rattle.sml_phrases.specs.PhraseHeights.{clauses_height, low}
 

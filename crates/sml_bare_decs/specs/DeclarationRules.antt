@@ -5,7 +5,7 @@ use Rattle.sml_lex.specs.declared.fault.Place.{Place}
 use Rattle.sml_tree.specs.Names.{Name, LongName}
 use Rattle.sml_tree.specs.Types.{Ty, Tys, no_ty}
 use Rattle.sml_tree.specs.Patterns.{Pat, Pats, no_pat, and_pat}
-use Rattle.sml_tree.specs.Expressions.{TypBind, ConBind, DatBind, ExnBind, new_exception, exception_copy, Exp, Dec, ValBinds, val_dec, type_dec, datatype_dec, datatype_with, datatype_copy, exception_dec, local_dec, open_dec, fixity_dec, no_dec, and_dec, bind, no_bind, and_bind}
+use Rattle.sml_tree.specs.Expressions.{TypBind, ConBind, DatBind, ExnBind, new_exception, exception_copy, Exp, Dec, ValBinds, val_dec, type_dec, datatype_dec, datatype_with, datatype_copy, exception_dec, local_dec, open_dec, fixity_dec, bind, no_bind, and_bind}
 use Rattle.sml_read.specs.declared.grammar.DeclarationRule.{DeclarationRule}
 use Rattle.sml_read.specs.declared.grammar.DeclarationRule.TheVariants.{DecLocal, CoreDecVal, CoreDecFun, CoreDecType, CoreDecDatatype, CoreDecException, CoreDecOpen, CoreDecInfix, CoreDecInfixr, CoreDecNonfix, OpenMoreNone, OpenMoreLongStrId, FixityNone, FixityLevel, VidMoreNone, VidMoreVid, ValDecTypeVariable, ValDecOpenRound, ValDecRec, ValDecBarePat, ValRoundTypeVariable, ValRoundPatRound, ValBindRec, ValBindPat, ValMoreNone, ValMoreAnd, FunDecTypeVariable, FunDecOpenRound, FunDecBareAtPat, FunRoundTypeVariable, FunRoundPatRound, ClausesAtPat, ClausesMoreNone, ClausesMoreAnd, ClauseAtPats, ClauseMoreNone, ClauseMoreBar, AtPatsNone, AtPatsAtPat, TypedNone, TypedColon, TypBindTvs, TypBindMoreNone, TypBindMoreAnd, DatDecSomeTvs, DatDecTyCon, DatRestDatatype, DatRestConBinds, DatBindMoreNone, DatBindMoreAnd, DatBindMoreWithtype, ConBindsMaybeOp, ConBindsMoreNone, ConBindsMoreBar, MaybeOpNone, MaybeOpOp, ExnBindMaybeOp, ExnBindMoreNone, ExnBindMoreAnd, ExnRestNone, ExnRestOf, ExnRestEquals}
 use Rattle.sml_bare_decs.specs.FunctionRules.{right_side_in, clause_from, function_from, round_rest, round_functions}

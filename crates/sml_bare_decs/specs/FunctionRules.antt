@@ -1,10 +1,10 @@
 -- What the rules of functions and their clauses make of their parts (the Definition, section 2.8 and appendix A).
-use Rattle.std.specs.Prelude.{List, [], ◌∷◌, Option, Some, None}
+use Rattle.std.specs.Prelude.{List, [], Option, Some, None}
 use Rattle.sml_lex.specs.declared.fault.Place.{Place}
 use Rattle.sml_tree.specs.Trees.{Id}
 use Rattle.sml_tree.specs.Types.{Ty}
 use Rattle.sml_tree.specs.Patterns.{Pat, Pats, pat_name, pat_bracket, pat_apply, no_pat, and_pat}
-use Rattle.sml_tree.specs.Expressions.{Exp, ValBind, ValBinds, tuple, no_exp, no_bind, and_bind}
+use Rattle.sml_tree.specs.Expressions.{Exp, ValBind, ValBinds, tuple, no_exp, and_bind}
 use Rattle.sml_fixity.specs.declared.heads.Head.TheVariants.{Prefix, Infix, Bracketed}
 use Rattle.sml_tree.specs.Clauses.{Clause}
 use Rattle.sml_derived.specs.Derived.{function_of}

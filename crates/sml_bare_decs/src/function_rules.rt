@@ -92,6 +92,16 @@ fn within(height: u32) -> Result<u32, Failure>
     Ok(height)
 }
 
+/// Patterns from the first to the last, without their heights, in a clause of a height within the limit.
+fn row_within(alloc: Global, pats: LowPats, height: u32) -> Result<(Vec<Pat>, u32), Failure>
+    ensures pats { IfOk result (λ r. pats_of (map pat_of r.0.items) ≡ low_pats_of pats) }
+    ensures value { Gives (λ r. r.1) low height result }
+    ensures within { IfOk result (λ r. r.1 ≤ 4000) }
+{
+    let height = within(height)?;
+    Ok((in_order(alloc, pats)?, height))
+}
+
 /// A clause from its place, its arguments and its right side.
 fn clause(
     alloc: Global,
@@ -105,8 +115,7 @@ fn clause(
     let row = row_height(place, &arguments);
     match ty {
         None => {
-            let height = within(row.max(body.height))?;
-            let pats = in_order(alloc, arguments)?;
+            let (pats, height) = row_within(alloc, arguments, row.max(body.height))?;
             Ok(LowClause {
                 tree: Clause {
                     place,
@@ -118,8 +127,8 @@ fn clause(
             })
         }
         Some(ty) => {
-            let height = within(row.max(body.height.max(ty.height) + 1))?;
-            let pats = in_order(alloc, arguments)?;
+            let height = row.max(body.height.max(ty.height) + 1);
+            let (pats, height) = row_within(alloc, arguments, height)?;
             Ok(LowClause {
                 tree: Clause {
                     place,
@@ -345,9 +354,7 @@ pub fn more_functions(stack: &mut Stack) -> Result<(), Failure>
     ensures { let vs = seen stack.old in Puts (of_binds (and_bind (bind_in (at vs 1)) (binds_in (at vs 2)))) 3 vs (seen stack.new) result }
 {
     stack.skip();
-    let first = stack.bind();
-    let others = stack.binds();
-    let all = and_bind(first, others)?;
+    let all = all_functions(stack)?;
     stack.put_binds(all)
 }
 

@@ -1,2 +1,5 @@
 mod TypeChains
+mod TypeFields
 mod PatternLists
+mod PatternFields
+mod Layers

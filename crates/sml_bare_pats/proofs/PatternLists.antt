@@ -1,10 +1,9 @@
 -- Lists of patterns from their last pattern to their first.
-use Rattle.std.proofs.Common.{◌≡◌, ◌+◌, ◌≤◌, List, [], ◌∷◌, ◌++◌, map, reverse, length, arith, refl, ap, sym, ◌∙◌}
+use Rattle.std.proofs.Common.{◌≡◌, ◌≤◌, List, [], ◌∷◌, ◌++◌, map, reverse, arith, refl, ap, sym, ◌∙◌}
 use Rattle.sml_lex.specs.declared.fault.Place.{Place}
-use Rattle.sml_tree.specs.Heights.{pat_height, pats_height}
-use Rattle.sml_tree.specs.Patterns.{Pat, Pats, pat_tuple, no_pat, and_pat}
-use Rattle.sml_tree.specs.PatternViews.{pat_of, pats_of}
-use Rattle.sml_tree.specs.declared.patterns.Pat as P
+use Rattle.sml_tree.specs.Heights.{pat_height}
+use Rattle.sml_tree.specs.Patterns.{Pat}
+use Rattle.sml_tree.specs.PatternViews.{pats_of}
 use Rattle.sml_derived.specs.Derived.{pat_nil, pat_cons}
 use Rattle.sml_pat_sequences.specs.LowViews.{low_pat_of}
 use Rattle.sml_bare_pats.specs.PatternRules.{list_pat}

@@ -1,9 +1,10 @@
 //! Patterns from their parts, each with its height.
 
-ghost use Rattle.std.specs.Prelude.{◌≡◌, map, IfOk};
+ghost use Rattle.std.specs.Prelude.{◌≡◌, ◌≤◌, map, IfOk};
 ghost use Rattle.std.specs.Option.{option_map};
 ghost use Rattle.sml_tree.specs.Patterns.{pat_name, pat_as, pat_field, and_pat_field};
-ghost use Rattle.sml_tree.specs.TypeViews.{name_of, long_name_of};
+ghost use Rattle.sml_tree.specs.Heights.{height_if_any, ty_height, pat_height};
+ghost use Rattle.sml_tree.specs.TypeViews.{name_of, long_name_of, ty_of};
 ghost use Rattle.sml_tree.specs.PatternViews.{pat_of, pats_of};
 ghost use Rattle.sml_derived.specs.Derived.{layered, pat_nil, pat_cons};
 ghost use Rattle.sml_pat_sequences.specs.LowViews.{GivesPat, low_ty_of, low_pat_of, low_tys_of, low_pats_of, low_pat_fields_of};
@@ -20,6 +21,7 @@ use sml_phrases::raise::raised;
 use sml_tree::bare::LongIdent;
 use sml_tree::names::Name;
 use sml_tree::patterns::{Pat, PatField};
+use sml_tree::types::Ty;
 use std::alloc::Global;
 
 /// An identifier as a pattern.
@@ -62,6 +64,30 @@ pub fn list_pat(expander: &Expander, place: Place, pats: LowPats) -> Result<LowP
     Ok(list)
 }
 
+/// A type without its height, and the height, where there is a type.
+fn ty_parts(ty: Option<LowTy>) -> (Option<Ty>, u32)
+    ensures tree { option_map ty_of result.0 ≡ option_map low_ty_of ty }
+    ensures height { result.1 ≡ height_if_any ty_height (option_map low_ty_of ty) }
+    ensures within { result.1 ≤ 4000 }
+{
+    match ty {
+        None => (None, 0),
+        Some(ty) => (Some(ty.tree), ty.height),
+    }
+}
+
+/// A pattern without its height, and the height, where there is a pattern.
+fn pat_parts(pat: Option<LowPat>) -> (Option<Pat>, u32)
+    ensures tree { option_map pat_of result.0 ≡ option_map low_pat_of pat }
+    ensures height { result.1 ≡ height_if_any pat_height (option_map low_pat_of pat) }
+    ensures within { result.1 ≤ 4000 }
+{
+    match pat {
+        None => (None, 0),
+        Some(pat) => (Some(pat.tree), pat.height),
+    }
+}
+
 /// An identifier, perhaps with a type and a pattern behind `as`.
 pub fn layered(
     alloc: Global,
@@ -71,26 +97,20 @@ pub fn layered(
 ) -> Result<LowPat, Failure>
     ensures { GivesPat (layered (name_of name) (option_map low_ty_of ty) (option_map low_pat_of pat)) result }
 {
-    match (ty, pat) {
-        (None, None) => Ok(LowPat {
-            tree: layered_tree(alloc, name, None, None)?,
-            height: 1,
-        }),
-        (Some(ty), None) => {
-            let height = raised(ty.height.max(1), 1)?;
-            let tree = layered_tree(alloc, name, Some(ty.tree), None)?;
-            Ok(LowPat { tree, height })
-        }
-        (None, Some(pat)) => {
-            let height = raised(pat.height, 1)?;
-            let tree = layered_tree(alloc, name, None, Some(pat.tree))?;
-            Ok(LowPat { tree, height })
-        }
-        (Some(ty), Some(pat)) => {
-            let height = raised(ty.height.max(pat.height), 1)?;
-            let tree = layered_tree(alloc, name, Some(ty.tree), Some(pat.tree))?;
-            Ok(LowPat { tree, height })
-        }
+    let (ty, ty_height) = ty_parts(ty);
+    let (pat, pat_height) = pat_parts(pat);
+    let height = raised(ty_height.max(pat_height), 1)?;
+    let tree = layered_tree(alloc, name, ty, pat)?;
+    Ok(LowPat { tree, height })
+}
+
+/// A type in a box, where there is one.
+fn boxed(alloc: Global, ty: Option<Ty>) -> Result<Option<Box<Ty>>, Memory>
+    ensures { IfOk result (λ boxed. option_map (λ t. ty_of t.value) boxed ≡ option_map ty_of ty) }
+{
+    match ty {
+        None => Ok(None),
+        Some(ty) => Ok(Some(Box::new(alloc, ty)?)),
     }
 }
 
@@ -104,19 +124,11 @@ pub fn pat_as(
 ) -> Result<LowPat, Failure>
     ensures { GivesPat (pat_as place (name_of name) (option_map low_ty_of ty) (low_pat_of pat)) result }
 {
-    match ty {
-        None => {
-            let height = raised(pat.height, 1)?;
-            let tree = Pat::As(place, name, None, Box::new(alloc, pat.tree)?);
-            Ok(LowPat { tree, height })
-        }
-        Some(ty) => {
-            let height = raised(ty.height.max(pat.height), 1)?;
-            let ty = Box::new(alloc, ty.tree)?;
-            let tree = Pat::As(place, name, Some(ty), Box::new(alloc, pat.tree)?);
-            Ok(LowPat { tree, height })
-        }
-    }
+    let (ty, ty_height) = ty_parts(ty);
+    let height = raised(ty_height.max(pat.height), 1)?;
+    let ty = boxed(alloc, ty)?;
+    let tree = Pat::As(place, name, ty, Box::new(alloc, pat.tree)?);
+    Ok(LowPat { tree, height })
 }
 
 /// The pattern of a field, from its identifier and what stands behind it.

@@ -240,24 +240,24 @@ fn behind_colon(stack: &mut Stack, ty: LowTy, rest: Phrase) -> Result<(), Failur
     match rest {
         Phrase::Patterns(PatternPhrase::Layer(_, pat)) => stack.put_layer(Some(ty), pat),
         Phrase::Types(TypePhrase::Tys(types)) => {
+            let types = and_ty(ty, types)?;
             let atoms = LowPats {
                 trees: Vec::new(stack.alloc),
                 height: 0,
             };
-            let types = and_ty(ty, types)?;
             stack.put_atoms(atoms, types)
         }
         other => {
             discard(other);
-            let atoms = LowPats {
-                trees: Vec::new(stack.alloc),
-                height: 0,
-            };
             let types = LowTys {
                 trees: Vec::new(stack.alloc),
                 height: 0,
             };
             let types = and_ty(ty, types)?;
+            let atoms = LowPats {
+                trees: Vec::new(stack.alloc),
+                height: 0,
+            };
             stack.put_atoms(atoms, types)
         }
     }
@@ -471,12 +471,11 @@ fn vid_field(stack: &mut Stack) -> Result<(), Failure>
     ensures { let vs = seen stack.old in Puts (and_field (name_in (at vs 0)) (field_pat (name_in (at vs 0)) (at vs 1)) (at vs 2)) 3 vs (seen stack.new) result }
 {
     let name = stack.name()?;
-    let rest = stack.pop();
-    let (fields, flexible) = fields_in(stack.alloc, stack.pop());
     let label = copy_of(&name)?;
+    let rest = stack.pop();
     let pat = field_pat(stack.alloc, name, rest)?;
-    let fields = and_field(label, pat, fields)?;
-    stack.put_pat_fields(fields, flexible)
+    let fields = stack.pop();
+    with_field(stack, label, pat, fields)
 }
 
 /// A pattern behind a word.
@@ -518,49 +517,42 @@ pub fn pattern_phrase(
 {
     match rule {
         PatternRule::PatOpenRound => from_round(stack, place, shape, expander),
-        PatternRule::PatBarePat => stack.put_first(),
+        PatternRule::PatBarePat | PatternRule::AtPatBareAtPat | PatternRule::BareAtPatOtherAtPat =>
+            stack.put_first(),
         PatternRule::BarePatVid => vid(stack, place, shape, expander),
         PatternRule::BarePatOp => op(stack, place, shape, expander),
         PatternRule::BarePatOtherAtPat => from_other(stack, shape, expander),
         PatternRule::OpPatVid => op_vid(stack),
         PatternRule::OpPatQualified => op_qualified(stack),
-        PatternRule::AfterVidNone => no_atoms(stack),
-        PatternRule::AfterVidAs => behind_as(stack),
+        PatternRule::AfterVidNone | PatternRule::AtPatMoreNone => no_atoms(stack),
+        PatternRule::AfterVidAs | PatternRule::AfterVidTyAs => behind_as(stack),
         PatternRule::AfterVidColon => vid_colon(stack),
-        PatternRule::AfterVidAtPat => more_atoms(stack),
+        PatternRule::AfterVidAtPat | PatternRule::AtPatMoreAtPat => more_atoms(stack),
         PatternRule::AfterVidTyNone => no_types(stack),
-        PatternRule::AfterVidTyAs => behind_as(stack),
         PatternRule::AfterVidTyColon => colons(stack),
-        PatternRule::AtPatMoreNone => no_atoms(stack),
-        PatternRule::AtPatMoreAtPat => more_atoms(stack),
         PatternRule::AtPatMoreColon => atom_colons(stack),
         PatternRule::AtPatOpenRound => round(stack, place),
-        PatternRule::AtPatBareAtPat => stack.put_first(),
         PatternRule::BareAtPatVid => name(stack, place),
         PatternRule::BareAtPatOp => op_name(stack, place),
-        PatternRule::BareAtPatOtherAtPat => stack.put_first(),
         PatternRule::OtherAtPatWildcard => wildcard(stack, place),
         PatternRule::OtherAtPatConstant => constant(stack, place),
         PatternRule::OtherAtPatQualified => qualified(stack, place),
         PatternRule::OtherAtPatOpenCurly => row(stack, place),
         PatternRule::OtherAtPatOpenSquare => list(stack, place, expander),
-        PatternRule::PatRoundCloseRound => no_pats(stack),
-        PatternRule::PatRoundPat => pats(stack),
-        PatternRule::PatRoundMoreCloseRound => no_pats(stack),
-        PatternRule::PatRoundMoreComma => more_pats(stack),
-        PatternRule::PatListCloseSquare => no_pats(stack),
-        PatternRule::PatListPat => pats(stack),
-        PatternRule::PatListMoreCloseSquare => no_pats(stack),
-        PatternRule::PatListMoreComma => more_pats(stack),
+        PatternRule::PatRoundCloseRound
+        | PatternRule::PatRoundMoreCloseRound
+        | PatternRule::PatListCloseSquare
+        | PatternRule::PatListMoreCloseSquare => no_pats(stack),
+        PatternRule::PatRoundPat | PatternRule::PatListPat => pats(stack),
+        PatternRule::PatRoundMoreComma | PatternRule::PatListMoreComma => more_pats(stack),
         PatternRule::PatRowCloseCurly => end_of_fields(stack, false),
         PatternRule::PatRowRow => first_of_two(stack),
         PatternRule::RowDots => end_of_fields(stack, true),
         PatternRule::RowNumeral => numeral_field(stack),
         PatternRule::RowVid => vid_field(stack),
-        PatternRule::RowRestEquals => behind_word(stack),
+        PatternRule::RowRestEquals | PatternRule::RowAsAs => behind_word(stack),
         PatternRule::RowRestTyped => layer(stack),
         PatternRule::RowAsNone => stack.put_nothing(),
-        PatternRule::RowAsAs => behind_word(stack),
         PatternRule::RowMoreNone => no_fields(stack, false),
         PatternRule::RowMoreComma => stack.put_behind_word(),
     }

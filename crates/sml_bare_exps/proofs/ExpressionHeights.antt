@@ -1,10 +1,10 @@
 -- Expressions grow while a loop puts them together, so that one that is too high stays so.
-use Rattle.std.proofs.Common.{◌≡◌, ℕ, zero, suc, ◌+◌, ◌<◌, ◌≤◌, max, List, [], ◌∷◌, drop, length, get_or, ap, sym, ◌∙◌, refl, false, Result, Ok, Err, arith}
+use Rattle.std.proofs.Common.{◌≡◌, ℕ, suc, ◌+◌, ◌<◌, ◌≤◌, max, List, [], ◌∷◌, drop, length, get_or, ap, sym, ◌∙◌, refl, false, Err, arith}
 use Rattle.std.proofs.Math.Seq.{drop-cons}
 use Rattle.std.proofs.lemmas.Bool.{leb-false, lt-leb}
 use Rattle.sml_lex.specs.declared.fault.Place.{Place}
 use Rattle.sml_tree.specs.Names.{Name}
-use Rattle.sml_tree.specs.Types.{Ty, Tys, no_ty, and_ty}
+use Rattle.sml_tree.specs.Types.{Tys, no_ty, and_ty}
 use Rattle.sml_tree.specs.Expressions.{Exp, apply, typed}
 use Rattle.sml_tree.specs.ExpressionViews.{exps_of}
 use Rattle.sml_tree.specs.Heights.{highest, exp_height}
@@ -58,6 +58,16 @@ steps_grow (s ∷ ss) b = let g = after_grows s b in let h = steps_grow ss (afte
 
 stepped : (whole : Exp Place) (ss : List Step) (i : ℕ) (d : Step) (b : Building) → i < length ss → whole ≡ exp_of_steps (drop i ss) b → whole ≡ exp_of_steps (drop (suc i) ss) (after (get_or ss i d) b)
 stepped whole ss i d b within made = made ∙ ap (λ ts. exp_of_steps ts b) (drop-cons ss i d within)
+
+same_building : (a b : Building) → a.stack ≡ b.stack → a.atoms ≡ b.atoms → a ≡ b
+same_building a b p q = ap (λ s. record { atoms = a.atoms; stack = s }) p ∙ ap (λ xs. record { atoms = xs; stack = b.stack }) q
+
+pub goes_on : (whole : Exp Place) (ss : List Step) (i : ℕ) (d : Step) (b new : Building) → i < length ss → whole ≡ exp_of_steps (drop i ss) b
+    → new.stack ≡ (after (get_or ss i d) b).stack → new.atoms ≡ (after (get_or ss i d) b).atoms → whole ≡ exp_of_steps (drop (i + 1) ss) new
+goes_on whole ss i d b new within made p q =
+    stepped whole ss i d b within made
+    ∙ ap (λ x. exp_of_steps (drop (suc i) ss) x) (sym (same_building new (after (get_or ss i d) b) p q))
+    ∙ ap (λ n. exp_of_steps (drop n ss) new) (let e : suc i ≡ i + 1 = omega arith in e)
 
 step_too_high : (whole : Exp Place) (ss : List Step) (i : ℕ) (d : Step) (b : Building) → i < length ss → whole ≡ exp_of_steps (drop i ss) b → low (highest exp_height (after (get_or ss i d) b).stack) ≡ false → low (exp_height whole) ≡ false
 step_too_high whole ss i d b within made high =

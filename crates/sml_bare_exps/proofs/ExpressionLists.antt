@@ -1,5 +1,5 @@
 -- Lists of expressions from which one is put together, from the last to the first.
-use Rattle.std.proofs.Common.{◌≡◌, ℕ, ◌≤◌, List, [], ◌∷◌, ◌++◌, map, reverse, ap, sym, ◌∙◌, refl, Err, arith}
+use Rattle.std.proofs.Common.{◌≡◌, ◌≤◌, List, [], ◌∷◌, ◌++◌, map, reverse, ap, sym, ◌∙◌, refl, Err, arith}
 use Rattle.std.proofs.lemmas.List.{reverse-append}
 use Rattle.sml_lex.specs.declared.fault.Place.{Place}
 use Rattle.sml_tree.specs.Expressions.{Exp}

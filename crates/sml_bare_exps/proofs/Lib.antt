@@ -1,2 +1,3 @@
 mod ExpressionHeights
 mod ExpressionLists
+mod Parts

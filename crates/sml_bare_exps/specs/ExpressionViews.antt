@@ -6,7 +6,7 @@ use Rattle.sml_tree.specs.Types.{Ty}
 use Rattle.sml_tree.specs.TypeViews.{ty_of}
 use Rattle.sml_tree.specs.Expressions.{Exp}
 use Rattle.sml_tree.specs.ExpressionViews.{exp_of}
-use Rattle.sml_bare_exps.specs.ExpressionSequences.{Building, after}
+use Rattle.sml_bare_exps.specs.ExpressionSequences.{Building}
 use Rattle.sml_phrases.specs.PhraseHeights.{low}
 use Rattle.sml_phrases.specs.PhraseViews.{Gives}
 use Rattle.sml_phrases.specs.declared.low.LowExp.{LowExp}

@@ -11,7 +11,7 @@ ghost use Rattle.sml_bare_exps.specs.ExpressionViews.{GivesExp, low_exp_of};
 ghost use Rattle.sml_bare_exps.specs.ExpressionRules.{series_of, list_of, tuple_of, round_of, round_parts, body_of};
 
 use crate::expression_sequences::exp_place;
-use crate::low_forms::{low_cons, low_nil, low_select, low_sequence};
+use crate::low_forms::{low_cons, low_nil, low_select, low_sequence, raised_exp};
 use sml_derived::expander::Expander;
 use sml_lex::fault::{Memory, Place};
 use sml_phrases::low::{LowDecs, LowExp, LowExps, LowFields};
@@ -160,8 +160,8 @@ fn in_order(alloc: Global, exps: Vec<LowExp>) -> Result<Vec<Exp>, Memory>
 fn bracket(alloc: Global, place: Place, exp: LowExp) -> Result<LowExp, Failure>
     ensures { GivesExp (bracket place (low_exp_of exp)) result }
 {
-    let height = raised(exp.height, 1)?;
-    let tree = Exp::Bracket(place, Box::new(alloc, exp.tree)?);
+    let (exp, height) = raised_exp(exp, 0)?;
+    let tree = Exp::Bracket(place, Box::new(alloc, exp)?);
     Ok(LowExp { tree, height })
 }
 
@@ -256,10 +256,10 @@ fn in_body(expander: &Expander, stack: &mut Stack) -> Result<LowExp, Failure>
 fn let_in(alloc: Global, place: Place, decs: LowDecs, body: LowExp) -> Result<LowExp, Failure>
     ensures { GivesExp (let_in place (decs_of (map dec_of (reverse decs.trees.items))) (low_exp_of body)) result }
 {
-    let height = raised(decs.height.max(body.height), 1)?;
+    let (body, height) = raised_exp(body, decs.height)?;
     let mut trees = decs.trees;
     trees.reverse();
-    let tree = Exp::Let(place, trees, Box::new(alloc, body.tree)?);
+    let tree = Exp::Let(place, trees, Box::new(alloc, body)?);
     Ok(LowExp { tree, height })
 }
 
@@ -352,7 +352,6 @@ fn with_field(label: Name, exp: LowExp, fields: LowFields) -> Result<LowFields, 
 }
 
 /// `Lab = Exp ExpRowMore`
-#[tactic(auto, using(sml_phrases::proofs::Drops::four_off))]
 pub fn first_fields(stack: &mut Stack) -> Result<(), Failure>
     ensures { Puts (let vs = seen stack.old in of_fields (and_field (field (name_in (at vs 0)) (exp_in (at vs 2))) (fields_in (at vs 3)))) 4 (seen stack.old) (seen stack.new) result }
 {

@@ -22,7 +22,9 @@ use crate::atom_rules::{
     taken_exps,
 };
 use crate::expression_sequences::sequence_exp;
-use crate::low_forms::{low_and_also, low_case, low_conditional, low_or_else, low_repeat};
+use crate::low_forms::{
+    low_and_also, low_case, low_conditional, low_or_else, low_repeat, raised_exp,
+};
 use sml_derived::expander::Expander;
 use sml_fixity::shape::Shape;
 use sml_lex::fault::{Memory, Place};
@@ -76,10 +78,10 @@ fn handled(
     let Some(rules) = rules else {
         return Ok(exp);
     };
-    let height = raised(exp.height.max(rules.height), 1)?;
+    let (exp, height) = raised_exp(exp, rules.height)?;
     let mut trees = rules.trees;
     trees.reverse();
-    let tree = Exp::Handle(place, Box::new(alloc, exp.tree)?, trees);
+    let tree = Exp::Handle(place, Box::new(alloc, exp)?, trees);
     Ok(LowExp { tree, height })
 }
 
@@ -166,8 +168,8 @@ fn raising(place: Place, stack: &mut Stack) -> Result<(), Failure>
 {
     stack.skip();
     let exp = stack.exp();
-    let height = raised(exp.height, 1)?;
-    let tree = Exp::Raise(place, Box::new(stack.alloc, exp.tree)?);
+    let (exp, height) = raised_exp(exp, 0)?;
+    let tree = Exp::Raise(place, Box::new(stack.alloc, exp)?);
     stack.put_exp(LowExp { tree, height })
 }
 

@@ -9,7 +9,7 @@ ghost use Rattle.sml_fixity.specs.Shapes.{shape_of};
 ghost use Rattle.sml_bare_exps.specs.ExpressionSequences.{after, all_of, applied, combined, exp_of_steps, exp_place, no_operand, operator_of, sequence_exp, shaped, starting, typed_by};
 ghost use Rattle.sml_bare_exps.specs.ExpressionViews.{GivesExp, Leaves, building_of, low_exp_of, low_ty_of};
 
-use crate::low_forms::low_infix;
+use crate::low_forms::{low_infix, raised_pair};
 use sml_derived::expander::Expander;
 use sml_derived::expressions::application;
 use sml_fixity::sequences::Step;
@@ -96,8 +96,9 @@ fn applied(alloc: Global, function: LowExp, argument: LowExp) -> Result<LowExp, 
     ensures { GivesExp (let f = low_exp_of function in apply (exp_place f) f (low_exp_of argument)) result }
 {
     let place = exp_place(&function.tree);
-    let height = raised(function.height.max(argument.height), 1)?;
-    let tree = application(alloc, place, function.tree, argument.tree)?;
+    let most = function.height.max(argument.height);
+    let (function, argument, height) = raised_pair(function, argument, most, 1)?;
+    let tree = application(alloc, place, function, argument)?;
     Ok(LowExp { tree, height })
 }
 

@@ -1,6 +1,5 @@
 use Rattle.std.proofs.Common.{map, set, ap, ◌∙◌}
-use Rattle.std.proofs.lemmas.List.{map-set, get_or-map}
-use Rattle.sml_bare_exps.specs.ExpressionSequences.{no_operand}
+use Rattle.std.proofs.lemmas.List.{map-set}
 use Rattle.sml_bare_exps.specs.ExpressionViews.{low_exp_of}
 use Rattle.sml_bare_exps.proofs.expression_sequences.take.Goals as goal
 

@@ -1,4 +1,4 @@
-use Rattle.std.proofs.Common.{◌≡◌, Err, map, reverse, subst, sym, ◌∙◌, rules, arith}
+use Rattle.std.proofs.Common.{◌≡◌, Err, map, reverse, subst, sym, rules, arith}
 use Rattle.std.proofs.lemmas.Grind.{common_steps}
 use Rattle.sml_tree.specs.Expressions.{typed}
 use Rattle.sml_tree.specs.TypeViews.{tys_of}

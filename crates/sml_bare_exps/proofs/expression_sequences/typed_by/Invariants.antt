@@ -1,6 +1,6 @@
 use Rattle.std.proofs.Common.{◌≡◌, map, reverse, length}
 use Rattle.sml_tree.specs.TypeViews.{tys_of}
-use Rattle.sml_bare_exps.specs.ExpressionSequences.{exp_place, typed_by}
+use Rattle.sml_bare_exps.specs.ExpressionSequences.{typed_by}
 use Rattle.sml_bare_exps.specs.ExpressionViews.{low_exp_of, low_ty_of}
 use Rattle.sml_bare_exps.proofs.expression_sequences.typed_by.Given as goal
 

@@ -41,11 +41,17 @@ module _ (unit count : ℕ) where
       go (inl s) = absurd s
       go (inr s) = sig-stands n S s
 
-  new-is : (S : Sig Name) (n : Name) → Stands n (new_names unit count S) → is_new unit count n ≡ true
+  -- and these are of the object
+
+  pub new-in : (S : Sig Name) (n : Name) → Stands n (new_names unit count S) → Stands n (names_sig S)
+  unfolding new_names
+  new-in S n h = appeared S n (was_kept (is_new unit count) n (firsts_after naming [] (appear_sig S)) h).0
+
+  pub new-is : (S : Sig Name) (n : Name) → Stands n (new_names unit count S) → is_new unit count n ≡ true
   unfolding new_names
   new-is S n h = (was_kept (is_new unit count) n (firsts_after naming [] (appear_sig S)) h).1
 
-  no-repeats : (S : Sig Name) → NoRepeats (new_names unit count S)
+  pub no-repeats : (S : Sig Name) → NoRepeats (new_names unit count S)
   unfolding new_names NoRepeats
   no-repeats S = repeats-filter (is_new unit count) (firsts_after naming [] (appear_sig S)) (repeats-firsts naming [] (appear_sig S) tt)
 

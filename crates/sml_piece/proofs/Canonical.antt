@@ -1,27 +1,33 @@
 -- Readings of declarations whose names are renumbered by first appearance.
-use Rattle.std.proofs.Common.{◌≡◌, ◌<◌, ◌≤◌, ◌+◌, ℕ, suc, Bool, true, false, cond, not, ◌&&◌, nat_eq, nat_lt, List, [], ◌∷◌, map, length, inl, inr, refl, ap, sym, subst, ◌∙◌, arith}
+use Rattle.std.proofs.Common.{◌≡◌, ◌<◌, ◌≤◌, ◌+◌, ℕ, suc, Bool, true, false, cond, not, ◌&&◌, nat_eq, nat_lt, List, [], ◌∷◌, map, length, Err, inl, inr, refl, ap, sym, subst, ◌∙◌, arith}
 use Rattle.std.proofs.lemmas.Bool.{true≢false, eqb-true, lt-ltb}
 use Rattle.std.proofs.lemmas.List.{length-map, nil_from_length}
 use Rattle.sml_lex.specs.declared.fault.Place.{Place}
+use Rattle.sml_lex.specs.Faults as F
 use Rattle.sml_tree.specs.Trees as T
-use Rattle.sml_objects.specs.Objects.{Sig, Basis, names_basis, names_sig, rename_sig, rename_basis}
+use Rattle.sml_objects.specs.Objects.{Sig, Basis, names_basis, names_env, names_sig, rename_sig, rename_basis}
 use Rattle.sml_objects.specs.Initial.{Name, initial, made, naming}
 use Rattle.sml_objects.specs.Alike.{IsFixed, AlikeOver}
 use Rattle.sml_objects.specs.Appearance.{Stands, stands}
 use Rattle.sml_objects.specs.Canonical.{is_new, new_names, place_of, with_number, renumber, canonical}
-use Rattle.sml_objects.proofs.CanonicalForms.{canonical-renames}
+use Rattle.sml_objects.proofs.CanonicalForms.{new-in, canonical-renames, new-is, no-repeats}
 use Rattle.sml_objects.proofs.Renaming.{sig-image, sig_laws}
-use Rattle.sml_rules.specs.Answers.{accepted, fault}
+use Rattle.sml_rules.specs.Answers.{Reading, refused, accepted, After, give, ◌>>=◌, test, fault}
 use Rattle.sml_rules.specs.Every.{Every}
 use Rattle.sml_rules.specs.Readings.{read_dec, read_top}
 use Rattle.sml_rules.proofs.Paths.{equivariant}
 use Rattle.sml_rules.proofs.Readings.{basis_supported, sig_supported}
 use Rattle.sml_rules.proofs.Renaming.{Fixes}
 use Rattle.sml_rules.proofs.Settled.{pair_supported}
+use Rattle.sml_rules.proofs.Sound.{bound_by, given}
+use Rattle.sml_rules.proofs.Lists.{no_longer}
+use Rattle.sml_rules.proofs.Within.{last, read_dec_within}
 use Rattle.sml_lex.specs.declared.fault.Code.TheVariants.{Q3}
 use Rattle.sml_objects.specs.Views.{maker_of, name_of, sig_of}
 use Rattle.sml_objects.specs.declared.objects.Basis as PB
-use Rattle.sml_piece.specs.Elaborated.{IsBelow, IsBasisOf, IsOwnBasis, beginning}
+use Rattle.sml_piece.specs.declared.top_fault.TopFault.{TopFault}
+use Rattle.sml_piece.specs.declared.top_fault.TopFault.TheVariants.{Memory, Fault}
+use Rattle.sml_piece.specs.Elaborated.{Answers, IsBelow, IsBasisOf, IsOwnBasis, read_numbered, beginning}
 use Rattle.sml_piece.proofs.Answering.{then_any, passes, gives}
 
 not_new : (unit count : ℕ) (n : Name) → IsBelow unit count n → is_new unit count n ≡ false
@@ -37,6 +43,24 @@ unfolding Stands
 old_names unit count [] h n s = absurd s
 old_names unit count (m ∷ ns) h n (inl e) = ap (is_new unit count) e ∙ not_new unit count m h.0
 old_names unit count (m ∷ ns) h n (inr s) = old_names unit count ns h.1 n s
+
+not_refused : {X : Type 0} {f : F.Fault Place} {x : X} → refused f ≡ accepted x → ⊥
+not_refused e = cc
+
+every_of : (P Q : Name → Type 0) → ((n : Name) → P n → Q n) → (ns : List Name) → Every P ns → Every Q ns
+every_of P Q f [] h = tt
+every_of P Q f (n ∷ ns) h = (f n h.0, every_of P Q f ns h.1)
+
+every_standing : (P : Name → Type 0) (ns : List Name) → ((n : Name) → Stands n ns → P n) → Every P ns
+unfolding Stands
+every_standing P [] h = tt
+every_standing P (n ∷ ns) h = (h n (inl refl), every_standing P ns (λ m s. h m (inr s)))
+
+standing_of : (P : Name → Type 0) (ns : List Name) → Every P ns → (n : Name) → Stands n ns → P n
+unfolding Stands
+standing_of P [] h n s = absurd s
+standing_of P (m ∷ ns) h n (inl e) = subst P (sym e) h.0
+standing_of P (m ∷ ns) h n (inr s) = standing_of P ns h.1 n s
 
 fixes_of : (f : Name → Name) (ns : List Name) → IsFixed f ns → Fixes f ns
 unfolding IsFixed Fixes
@@ -104,6 +128,40 @@ pub numbered_top : (p own b : PB.Basis) (B : Basis Name) → IsBasisOf p B → (
 numbered_top p own b B basis d h e =
     subst (λ S. read_top naming beginning (maker_of p.unit) B d (accepted S)) (sym e)
     (read_canonical beginning (maker_of p.unit) (length p.names.items) B d (sig_of own) basis.below h)
+
+-- a new name of what is read is among those that were made
+new_among : (unit count : ℕ) (B : Basis Name) (d : T.Dec Place) (S : Sig Name) → Every (IsBelow unit count) (names_basis B) → read_dec naming unit B d (accepted S)
+    → (n : Name) → Stands n (new_names unit count S) → Stands n S.names
+unfolding names_basis naming
+new_among unit count B d S below h n s =
+    let P : Name → Type 0 = λ n. is_new unit count n ≡ true → Stands n S.names in
+    let old = every_of (IsBelow unit count) P (λ n b k. absurd (true≢false (sym k ∙ not_new unit count n b))) (names_basis B) below in
+    let each = read_dec_within P naming (λ k. absurd (true≢false (sym k))) unit B d S (last P B.names (names_env B.body) old) (every_standing P S.names (λ n s k. s)) h in
+    standing_of P (names_sig S) each n (new-in unit count S n s) (new-is unit count S n s)
+
+-- so there are no more of them
+pub few_new : (p own : PB.Basis) (B : Basis Name) → IsBasisOf p B → (d : T.Dec Place) → read_dec naming (maker_of p.unit) B d (accepted (sig_of own))
+    → length (new_names (maker_of p.unit) (length p.names.items) (sig_of own)) ≤ length own.names.items
+few_new p own B basis d h =
+    let unit = maker_of p.unit in
+    let count = length p.names.items in
+    let S = sig_of own in
+    subst (λ n. length (new_names unit count S) ≤ n) (length-map own.names.items name_of)
+    (no_longer naming (new_names unit count S) S.names (no-repeats unit count S) (new_among unit count B d S basis.below h))
+
+-- and never too many
+pub never_many : {X Y : Type 0} (view : X → Y) (R : Reading Place Y) (p own : PB.Basis) (B : Basis Name) → IsBasisOf p B → (d : T.Dec Place)
+    → read_dec naming (maker_of p.unit) B d (accepted (sig_of own)) → length p.names.items + length own.names.items ≤ 1048576 → (f : TopFault)
+    → Answers sig_of (Err f) (read_numbered (maker_of p.unit) (length p.names.items) (sig_of own)) → Answers view (Err f) R
+unfolding ◌>>=◌ After test give
+never_many view R p own B basis d h few Memory k = tt
+never_many view R p own B basis d h few (Fault g) (accepted u, k, e) = absurd (not_refused e)
+never_many view R p own B basis d h few (Fault g) (refused f, inl k, e) = absurd (not_refused k.1)
+never_many view R p own B basis d h few (Fault g) (refused f, inr k, e) = let new = few_new p own B basis d h in absurd (k.0 (omega (arith, new, few)))
+
+-- what is accepted with its names renumbered
+pub numbered_is : (unit count : ℕ) (S T : Sig Name) → read_numbered unit count S (accepted T) → T ≡ canonical unit count S
+numbered_is unit count S T h = let a = bound_by _ _ T h in given Place (canonical unit count S) T a.2
 
 pub numbered_own : (p own b : PB.Basis) → IsOwnBasis p own → sig_of b ≡ canonical (maker_of p.unit) (length p.names.items) (sig_of own) → b.unit ≡ own.unit
     → length (new_names (maker_of p.unit) (length p.names.items) (sig_of own)) ≤ length own.names.items → IsOwnBasis p b

@@ -1,14 +1,15 @@
 -- What the functions of elaboration give, as answers of readings.
-use Rattle.std.specs.Prelude.{◌≡◌, ◌<◌, ◌+◌, ℕ, length, true, ◌∷◌, Result, Ok, Err, Option, Some, None, List, [], map}
+use Rattle.std.specs.Prelude.{◌≡◌, ◌<◌, ◌≤◌, ◌+◌, ℕ, length, true, ◌∷◌, Result, Ok, Err, Option, Some, None, List, [], map}
 use Rattle.std.specs.Option.{is_some}
 use Rattle.sml_lex.specs.declared.fault.Place.{Place}
 use Rattle.sml_lex.specs.Faults as F
 use Rattle.sml_lex.specs.Faults.{fault_of}
-use Rattle.sml_lex.specs.declared.fault.Code.TheVariants.{E3, N2}
+use Rattle.sml_lex.specs.declared.fault.Code.TheVariants.{E3, N2, Q3}
 use Rattle.sml_tree.specs.Trees.{Id, LongId, Spec}
 use Rattle.sml_objects.specs.Maps.{lookup}
 use Rattle.sml_objects.specs.Objects.{MlType, MlTypes, Scheme, Env, Sig, Basis, names_basis, names_sig, empty_env, free, mono, structures, types, values, find_structure, one_value, one_type, types_of}
 use Rattle.sml_objects.specs.Initial.{Name, initial, made, naming}
+use Rattle.sml_objects.specs.Canonical.{new_names, canonical}
 use Rattle.sml_objects.specs.declared.objects.Basis as PB
 use Rattle.sml_objects.specs.declared.objects.Sig as PG
 use Rattle.sml_objects.specs.declared.objects.TyName.{TyName}
@@ -119,6 +120,12 @@ pub record IsBasisOf (p : PB.Basis) (B : Basis Name) : Type 0 where
 pub record IsOwnBasis (p own : PB.Basis) : Type 0 where
   pub unit_is : own.unit ≡ p.unit
   pub own_below : Every (IsBelow (maker_of p.unit) (length p.names.items + length own.names.items)) (names_sig (sig_of own))
+
+-- an object whose new names are renumbered, if there aren't too many of them
+abbrev pub read_numbered : ℕ → ℕ → Sig Name → Reading Place (Sig Name)
+read_numbered unit count S = do
+  u ← test (count + length (new_names unit count S) ≤ 1048576) (fault Q3 beginning)
+  give (canonical unit count S)
 
 abbrev pub no_signature : Sig Name
 no_signature = record { names = []; body = empty_env }

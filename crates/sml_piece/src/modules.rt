@@ -1,6 +1,6 @@
 //! Top-level declarations (the Definition, section 5.7).
 
-ghost use Rattle.std.specs.Prelude.{◌≡◌, ◌≤◌, ◌+◌, length, [], true, IfOk, OnOk};
+ghost use Rattle.std.specs.Prelude.{◌≡◌, ◌≤◌, ◌+◌, length, [], true, IfOk};
 ghost use Rattle.sml_lex.specs.declared.fault.Code.TheVariants.{Q3};
 ghost use Rattle.sml_lex.specs.declared.fault.Place.{Place};
 ghost use Rattle.sml_tree.specs.Trees as T;
@@ -14,7 +14,7 @@ ghost use Rattle.sml_objects.specs.Views.{env_of, maker_of, sig_of};
 ghost use Rattle.sml_rules.specs.Answers.{accepted, test, fault};
 ghost use Rattle.sml_rules.specs.Readings.{read_dec, read_top, is_specified};
 ghost use Rattle.sml_rules.specs.Sound.{IsSound};
-ghost use Rattle.sml_piece.specs.Elaborated.{Answers, IsBasisOf, IsOwnBasis, IsMade, signature_of, beginning};
+ghost use Rattle.sml_piece.specs.Elaborated.{Answers, IsBasisOf, IsOwnBasis, IsMade, read_numbered, signature_of, beginning};
 
 use crate::expressions::{all_declared, declared};
 use crate::lookups::Context;
@@ -56,42 +56,47 @@ pub fn topdec(
         Ok(own) => own,
         Err(fault) => return Err(fault),
     };
-    match few_names(basis, &own) {
+    match few_names(basis, own.names.len()) {
         Ok(_) => {}
         Err(fault) => return Err(fault),
     }
     match numbered(alloc, basis, own) {
         Ok(own) => Ok((own, Vec::new(alloc))),
+        Err(fault) => Err(fault),
+    }
+}
+
+/// What a declaration binds, with its new names numbered by first appearance. Where there are none, it is as it was. In a
+/// basis of the definition each of them is among the names that the declaration made, so there are never too many.
+fn numbered(alloc: Global, basis: &Basis, own: Basis) -> Result<Basis, TopFault>
+    requires { length basis.now.names.items ≤ 1048576 }
+    ensures answer { Answers sig_of result (read_numbered (maker_of basis.now.unit) (length basis.now.names.items) (sig_of own)) }
+    ensures unit { IfOk result (λ b. b.unit ≡ own.unit) }
+{
+    let Ok(count) = u32::try_from(basis.names.len()) else {
+        unreachable!();
+    };
+    let Ok(made) = new_count(alloc, &own, basis.unit, count) else {
+        return Err(TopFault::Memory);
+    };
+    match few_names(basis, made) {
+        Ok(_) => {}
+        Err(fault) => return Err(fault),
+    }
+    if made == 0 {
+        return Ok(own);
+    }
+    match canonical(alloc, &own, basis.unit, count) {
+        Ok(own) => Ok(own),
         Err(_) => Err(TopFault::Memory),
     }
 }
 
-/// What a declaration binds, with its new names numbered by first appearance. Where there are none, it is as it was. Each
-/// of them is among the names that the declaration made; more of them would count as want of memory.
-fn numbered(alloc: Global, basis: &Basis, own: Basis) -> Result<Basis, Memory>
-    requires { length basis.now.names.items + length own.names.items ≤ 1048576 }
-    ensures sig { IfOk result (λ b. sig_of b ≡ C.canonical (maker_of basis.now.unit) (length basis.now.names.items) (sig_of own)) }
-    ensures unit { IfOk result (λ b. b.unit ≡ own.unit) }
-    ensures few { OnOk result (length (C.new_names (maker_of basis.now.unit) (length basis.now.names.items) (sig_of own)) ≤ length own.names.items) }
+/// That the unit makes not too many names with so many more.
+fn few_names(basis: &Basis, more: usize) -> Result<(), TopFault>
+    ensures { Answers (λ u. u) result (test (length basis.now.names.items + more ≤ 1048576) (fault Q3 beginning)) }
 {
-    let Ok(count) = u32::try_from(basis.names.len()) else {
-        return Err(Memory);
-    };
-    let made = new_count(alloc, &own, basis.unit, count)?;
-    if made == 0 {
-        return Ok(own);
-    }
-    if own.names.len() < made {
-        return Err(Memory);
-    }
-    canonical(alloc, &own, basis.unit, count)
-}
-
-/// That the unit makes not too many names with these.
-fn few_names(basis: &Basis, own: &Basis) -> Result<(), TopFault>
-    ensures { Answers (λ u. u) result (test (length basis.now.names.items + length own.now.names.items ≤ 1048576) (fault Q3 beginning)) }
-{
-    if own.names.len() > MOST_NAMES || basis.names.len() > MOST_NAMES - own.names.len() {
+    if more > MOST_NAMES || basis.names.len() > MOST_NAMES - more {
         return Err(plain_fault(Code::Q3, START));
     }
     Ok(())

@@ -4,6 +4,7 @@ pub mod Settled
 pub mod Unique
 pub mod Readings
 pub mod Paths
+pub mod Lists
 pub mod Within
 pub mod Open
 pub mod Sound

@@ -3,15 +3,17 @@ use Rattle.std.specs.Prelude.{◌≡◌, ◌+◌, ℕ, List, [], ◌∷◌, ◌+
 use mathlib.Core.Path.{sym, subst}
 use Rattle.std.specs.declared.cmp.Ordering.{Ordering}
 use Rattle.std.specs.declared.cmp.Ordering.TheVariants.{Less, Equal, Greater}
-use Rattle.sml_tree.specs.Trees.{Id, LongId, Exp, Exps, Ty, Tys, CoreDec, number, name, tuple, bracket, function, no_exp, and_exp, constructor, product, arrow_to, bracket_ty, no_ty, and_ty, val_dec, type_dec}
+use Rattle.sml_tree.specs.Trees.{Id, LongId, Exp, Exps, Ty, Tys, Spec, CoreDec, Dec, number, name, tuple, bracket, function, no_exp, and_exp, constructor, product, arrow_to, bracket_ty, no_ty, and_ty, type_spec, val_spec, val_dec, type_dec, core, sealed, other}
 use Rattle.sml_objects.specs.Names.{Naming, int}
 use Rattle.sml_objects.specs.Maps.{Map, lookup, put, join, by_order, order_of}
-use Rattle.sml_objects.specs.Objects.{MlType, MlTypes, Scheme, Env, Structures, bound, free, app, no_type, and_type, env, no_structure, and_structure, structures, types, values, extend_env, put_structure, join_structures, find_structure, mono, one_value, names_head, names_type, names_types, names_map, names_env, names_structures}
+use Rattle.sml_objects.specs.Objects.{MlType, MlTypes, Scheme, Env, Structures, Sig, Basis, bound, free, app, no_type, and_type, env, no_structure, and_structure, structures, types, values, empty_env, one_structure, extend_env, extend, put_structure, join_structures, find_structure, mono, one_value, names_head, names_type, names_types, names_map, names_env, names_structures, names_sig}
 use Rattle.sml_objects.specs.Types.{replace_type, replace_types, close}
 use Rattle.sml_rules.specs.Lookups.{Found, found, no_path, no_entry, entry, found_in, find_at, value_at, type_at}
 use Rattle.sml_rules.specs.Answers.{accepted}
 use Rattle.sml_rules.specs.Every.{Every}
-use Rattle.sml_rules.specs.Readings.{Typed, read_ty, read_tys, read_exp, read_exps, read_core, read_cores}
+use Rattle.sml_rules.specs.Rules as R
+use Rattle.sml_rules.specs.Rules.{Item, sum_from, sum_of}
+use Rattle.sml_rules.specs.Readings.{Typed, read_ty, read_tys, read_exp, read_exps, read_core, read_cores, read_spec, read_specs, read_dec}
 use Rattle.sml_rules.proofs.Sound.{bound_by, given, needed}
 
 module _ {N : Type 0} (P : N → Type 0) where
@@ -218,3 +220,66 @@ module _ {N : Type 0} (P : N → Type 0) where
         let a = bound_by _ _ E h in
         let G = read_core_within C d a.0 g a.1 in
         read_cores_within (extend_env C a.0) (extend_env F a.0) ds E (extended C a.0 g G) (extended F a.0 k G) a.2
+
+    -- signatures: the names bound are told apart from those of the body
+
+    abbrev Bind : List (Sig N) → Type 0
+    Bind [] = Unit {0}
+    Bind (S ∷ Ss) = Every P S.names × Bind Ss
+
+    abbrev Have : List (Sig N) → Type 0
+    Have [] = Unit {0}
+    Have (S ∷ Ss) = Every P (names_env S.body) × Have Ss
+
+    read_spec_within : {Q : Type 0} (unit : ℕ) (B : Basis N) (q : Spec Q) (S : Sig N) → Every P (names_env B.body) → Every P S.names
+        → read_spec names unit B q (accepted S) → Every P (names_env S.body)
+    unfolding read_spec names_env names_map names_type
+    read_spec_within {Q} unit B (type_spec p t) S g k h =
+        let a = bound_by _ _ S h in
+        subst (λ S. Every P S.names → Every P (names_env S.body)) (sym (given Q _ S a.2)) (λ k. (k.0, tt)) k
+    read_spec_within {Q} unit B (val_spec p x ty) S g k h =
+        let a = bound_by _ _ S h in
+        let b = bound_by _ _ S a.2 in
+        subst (λ S. Every P (names_env S.body)) (sym (given Q _ S b.2)) (both (names_type a.0) [] (read_ty_within B.body ty a.0 g a.1) tt)
+
+    read_specs_within : {Q : Type 0} (unit : ℕ) (B : Basis N) (seen : List Item) (qs : List (Spec Q)) (Ss : List (Sig N)) → Every P (names_env B.body) → Bind Ss
+        → read_specs names unit B seen qs (accepted Ss) → Have Ss
+    unfolding read_specs extend
+    read_specs_within {Q} unit B seen [] Ss g k h = subst Have (sym (given Q _ Ss h)) tt
+    read_specs_within {Q} unit B seen (q ∷ qs) Ss g k h =
+        let a = bound_by _ _ Ss h in
+        let b = bound_by _ _ Ss a.2 in
+        let d = bound_by _ _ Ss b.2 in
+        let e = given Q _ Ss d.2 in
+        let bind : Every P a.0.names × Bind d.0 = subst Bind e k in
+        let have = read_spec_within unit B q a.0 g bind.0 a.1 in
+        subst Have (sym e) (have, read_specs_within unit (extend B a.0) _ qs d.0 (extended B.body a.0.body g have) bind.1 d.1)
+
+    summands_bind : (T : Sig N) (Ss : List (Sig N)) → Every P (sum_from T Ss).names → Every P T.names × Bind Ss
+    summands_bind T [] h = (h, tt)
+    summands_bind T (S ∷ Ss) h =
+        let rest = summands_bind (R.both T S) Ss h in
+        (first T.names S.names rest.0, (last T.names S.names rest.0, rest.1))
+
+    sum_has : (T : Sig N) (Ss : List (Sig N)) → Every P (names_env T.body) → Have Ss → Every P (names_env (sum_from T Ss).body)
+    sum_has T [] h k = h
+    sum_has T (S ∷ Ss) h k = sum_has (R.both T S) Ss (extended T.body S.body h k.0) k.1
+
+    -- of each name that a declaration binds or that its basis has, so of each name of what it gives
+    pub read_dec_within : {Q : Type 0} (unit : ℕ) (B : Basis N) (d : Dec Q) (S : Sig N) → Every P (names_env B.body) → Every P S.names
+        → read_dec names unit B d (accepted S) → Every P (names_sig S)
+    unfolding read_dec names_sig names_env names_structures names_map
+    read_dec_within {Q} unit B (core d) S g k h =
+        let a = bound_by _ _ S h in
+        both S.names (names_env S.body) k (subst (λ S. Every P (names_env S.body)) (sym (given Q _ S a.2)) (read_core_within B.body d a.0 g a.1))
+    read_dec_within {Q} unit B (sealed s p specs decs) S g k h =
+        let a = bound_by _ _ S h in
+        let b = bound_by _ _ S a.2 in
+        let d = bound_by _ _ S b.2 in
+        let e = given Q _ S d.2 in
+        let T = sum_of b.0 in
+        let bind = summands_bind (record { names = []; body = empty_env }) b.0 (subst (λ S. Every P S.names) e k) in
+        let has = sum_has (record { names = []; body = empty_env }) b.0 tt (read_specs_within unit _ [] specs b.0 g bind.1 b.1) in
+        both S.names (names_env S.body) k
+        (subst (λ S. Every P (names_env S.body)) (sym e) (both (names_env T.body ++ []) [] (both (names_env T.body) [] has tt) tt))
+    read_dec_within unit B (other p) S g k h = absurd h

@@ -1,0 +1,15 @@
+mod Sits
+mod Phrases
+mod Parts
+mod PatternSequences
+mod ExpressionSequences
+mod NameRules
+mod PatternRules
+mod ExpressionRules
+mod DeclarationRules
+mod ModuleRules
+mod Values
+mod Made
+mod Walk
+mod Declared
+mod ScopedOnce

@@ -1,0 +1,361 @@
+-- The declarations of a unit, one after the other: those before the last fault have no flaw.
+use Rattle.std.proofs.Common.{◌≡◌, ℕ, zero, suc, ◌+◌, ◌-◌, ◌<◌, ◌≤◌, List, [], ◌∷◌, ◌++◌, Bool, true, false, Option, Some, None, IfSome, length, take, drop, refl, sym, ap, ◌∙◌, subst, arith}
+use Rattle.std.specs.Prelude.{slice_get, if◌then◌else◌}
+use Rattle.std.specs.List.{All, before_first, cons_option}
+use Rattle.std.proofs.lemmas.Bool.{false≢true}
+use Rattle.std.proofs.lemmas.List.Elements.{All-nil, All-cons}
+use Rattle.sml_lex.specs.declared.fault.Place.{Place}
+use Rattle.sml_lex.specs.declared.token.Kind.{Kind}
+use Rattle.sml_lex.specs.declared.token.Token.{Token}
+use Rattle.sml_tree.specs.Trees.{Id}
+use Rattle.sml_tree.specs.Heights.{top_height}
+use Rattle.sml_tree.specs.Structures.{TopDec}
+use Rattle.sml_read.specs.declared.grammar.Part.{Part}
+use Rattle.sml_read.specs.declared.grammar.Part.TheVariants.{Start, Top, Exp, AfterTop, AfterExp}
+use Rattle.sml_read.specs.declared.grammar.Symbol.{Symbol}
+use Rattle.sml_read.specs.declared.grammar.Symbol.TheVariants.{Word, Of}
+use Rattle.sml_read.specs.declared.grammar.Rule.{Rule}
+use Rattle.sml_read.specs.declared.grammar.Rule.TheVariants as G
+use Rattle.sml_read.specs.declared.grammar.UnitRule.{UnitRule}
+use Rattle.sml_read.specs.declared.grammar.UnitRule.TheVariants as U
+use Rattle.sml_read.specs.declared.grammar.Node.{Node}
+use Rattle.sml_read.specs.declared.grammar.Node.TheVariants.{Leaf, Inner}
+use Rattle.sml_read.specs.Grammar.{right_side}
+use Rattle.sml_read.specs.Spelling.{first_of, is_outer, kinds_of, Leads}
+use Rattle.sml_read.specs.Extents.{starts_of}
+use Rattle.sml_phrases.specs.Phrases.{first}
+use Rattle.sml_phrases.specs.PhraseHeights.{low}
+use Rattle.sml_reach.specs.declared.sense.Deed.TheVariants as D
+use Rattle.sml_reach.specs.declared.reach.Misfit.{Misfit}
+use Rattle.sml_reach.specs.Senses.{deed_of}
+use Rattle.sml_reach.specs.Events.{Event, begins, enters, leaves, directs, expression, pattern, head, text_at, found_at, event_of, event_from, events_of, founds_of}
+use Rattle.sml_reach.specs.Fits.{Fit, Fitted}
+use Rattle.sml_reach.specs.Founds.{Found}
+use Rattle.sml_reach.specs.Reach as Reach
+use Rattle.sml_reach.specs.Reach.{AreFitted, Outcome, declares, idle, stands, fails, Outcomes, State, declarations_in, before_misfit, up_to}
+use Rattle.sml_flaws.specs.declared.flaw.Flaw.{Flaw}
+use Rattle.sml_flaws.specs.Flaws.{flaws, first_flaw}
+use Rattle.sml_flaws.specs.Flawed.{begins_at, ends_at, own_nodes, flaw_in, flaw_here, or_else, first_flawed}
+use Rattle.sml_bare.specs.RulePhrases.{declaration}
+use Rattle.sml_bare.specs.Derivations.{Source, place_at, phrases_of, are_low, top_if_low, bare_dec_at, bare_decs, before_none}
+use Rattle.sml_tree_laws.specs.Scoped.{TopScoped, VariablesAreScopedOnce}
+use Rattle.sml_tree_laws.proofs.Declared.{goes_of, none_or, made, top_scoped, next_scoped, exp_scoped}
+
+-- there are as many events of declarations as declarations
+
+abbrev declared : List Node → ℕ
+declared [] = 0
+declared (Leaf ∷ nodes) = declared nodes
+declared (Inner rule ∷ nodes) = if begins_at rule then suc (declared nodes) else declared nodes
+
+abbrev begun_in : List Event → ℕ
+begun_in [] = 0
+begun_in (begins token ∷ events) = suc (begun_in events)
+begun_in (event ∷ events) = begun_in events
+
+unit_deed : (rule : UnitRule) → begins_at (G.Units rule) ≡ true → deed_of (G.Units rule) ≡ D.Begins
+unit_deed U.StartTop h = refl
+unit_deed U.StartExp h = refl
+unit_deed U.AfterTopTop h = refl
+unit_deed _ h = absurd (false≢true h)
+
+begins_deed : (rule : Rule) → begins_at rule ≡ true → deed_of rule ≡ D.Begins
+begins_deed (G.Units rule) h = unit_deed rule h
+begins_deed (G.Names rule) h = absurd (false≢true h)
+begins_deed (G.Structures rule) h = absurd (false≢true h)
+begins_deed (G.Signatures rule) h = absurd (false≢true h)
+begins_deed (G.Specifications rule) h = absurd (false≢true h)
+begins_deed (G.Declarations rule) h = absurd (false≢true h)
+begins_deed (G.Expressions rule) h = absurd (false≢true h)
+begins_deed (G.Patterns rule) h = absurd (false≢true h)
+begins_deed (G.Types rule) h = absurd (false≢true h)
+
+more_begun : (o : Option Event) (events : List Event) → begun_in events ≤ begun_in (cons_option o events)
+more_begun None events = omega arith
+more_begun (Some (begins token)) events = omega arith
+more_begun (Some enters) events = omega arith
+more_begun (Some leaves) events = omega arith
+more_begun (Some (directs directive level atoms)) events = omega arith
+more_begun (Some (expression atoms)) events = omega arith
+more_begun (Some (pattern atoms)) events = omega arith
+more_begun (Some (head atoms)) events = omega arith
+
+few_begun : (unit : List ℕ) (tokens : List Token) (nodes : List Node) (n : ℕ) → declared nodes ≤ begun_in (events_of unit tokens nodes (starts_of n nodes))
+few_begun unit tokens [] n = omega arith
+few_begun unit tokens (Leaf ∷ nodes) n =
+    let h = few_begun unit tokens nodes (suc n) in
+    let m = more_begun (event_from unit tokens Leaf n (founds_of (text_at unit tokens) nodes (starts_of (suc n) nodes))) (events_of unit tokens nodes (starts_of (suc n) nodes)) in
+    omega (arith, h, m)
+few_begun unit tokens (Inner rule ∷ nodes) n = go (few_begun unit tokens nodes n) (begins_at rule) refl
+  where
+    found : Found
+    found = found_at (text_at unit tokens) n rule (founds_of (text_at unit tokens) nodes (starts_of n nodes))
+
+    go : declared nodes ≤ begun_in (events_of unit tokens nodes (starts_of n nodes)) → (b : Bool) → begins_at rule ≡ b
+        → (if b then suc (declared nodes) else declared nodes) ≤ begun_in (cons_option (event_of (deed_of rule) n found) (events_of unit tokens nodes (starts_of n nodes)))
+    go rest true e = subst (λ d. suc (declared nodes) ≤ begun_in (cons_option (event_of d n found) (events_of unit tokens nodes (starts_of n nodes)))) (sym (begins_deed rule e)) (omega (arith, rest))
+    go rest false e = let m = more_begun (event_of (deed_of rule) n found) (events_of unit tokens nodes (starts_of n nodes)) in omega (arith, rest, m)
+
+more_declared : (o : Outcome) (os : List Outcome) → length (declarations_in os) ≤ length (declarations_in (o ∷ os))
+more_declared (declares token) os = omega arith
+more_declared idle os = omega arith
+more_declared (stands fit) os = omega arith
+more_declared (fails m) os = omega arith
+
+other : (text : ℕ → Id) (o : Outcome) (os all : List Outcome) (events : List Event) → begun_in events ≤ length (declarations_in os) → all ≡ o ∷ os → begun_in events ≤ length (declarations_in all)
+other text o os all events h e = subst (λ all. begun_in events ≤ length (declarations_in all)) (sym e) (let m = more_declared o os in omega (arith, h, m))
+
+few_declared : (text : ℕ → Id) (s : State) (events : List Event) (all : List Outcome) → Outcomes text s events all → begun_in events ≤ length (declarations_in all)
+few_declared text s [] all h = omega arith
+few_declared text s (begins token ∷ events) all h =
+    let rest = few_declared text h.1 events h.2 h.4 in
+    subst (λ os. suc (begun_in events) ≤ length (declarations_in os)) (sym h.5) (subst (λ o. suc (begun_in events) ≤ length (declarations_in (o ∷ h.2))) (sym h.3.0) (omega (arith, rest)))
+few_declared text s (enters ∷ events) all h = other text h.0 h.2 all events (few_declared text h.1 events h.2 h.4) h.5
+few_declared text s (leaves ∷ events) all h = other text h.0 h.2 all events (few_declared text h.1 events h.2 h.4) h.5
+few_declared text s (directs directive level atoms ∷ events) all h = other text h.0 h.2 all events (few_declared text h.1 events h.2 h.4) h.5
+few_declared text s (expression atoms ∷ events) all h = other text h.0 h.2 all events (few_declared text h.1 events h.2 h.4) h.5
+few_declared text s (pattern atoms ∷ events) all h = other text h.0 h.2 all events (few_declared text h.1 events h.2 h.4) h.5
+few_declared text s (head atoms ∷ events) all h = other text h.0 h.2 all events (few_declared text h.1 events h.2 h.4) h.5
+
+-- declarations before the fault
+
+abbrev IsBefore : ℕ → Option Misfit → Type 0
+IsBefore number None = Unit {0}
+IsBefore number (Some m) = number < m.number
+
+abbrev EachGood : ℕ → Option Misfit → List Fitted → List (Option (TopDec Place)) → Type 0
+EachGood count m fitted [] = Unit {0}
+EachGood count m fitted (d ∷ ds) = (IsBefore (suc count) m → 0 < length fitted → IfSome d TopScoped) × EachGood (suc count) m (drop 1 fitted) ds
+
+abbrev AllGood : List (Option (TopDec Place)) → Type 0
+AllGood [] = Unit {0}
+AllGood (d ∷ ds) = IfSome d TopScoped × AllGood ds
+
+none_before : (ds : List (Option (TopDec Place))) → AllGood ds → All TopScoped (before_none ds)
+none_before [] h = All-nil TopScoped
+none_before (None ∷ ds) h = All-nil TopScoped
+none_before (Some d ∷ ds) h = All-cons TopScoped d (before_none ds) h.0 (none_before ds h.1)
+
+fewer_fitted : (q : ℕ) (fitted : List Fitted) → suc q < length fitted → q < length (drop 1 fitted)
+fewer_fitted q [] h = absurd (omega (arith, h))
+fewer_fitted q (f ∷ fitted) h = omega (arith, h)
+
+good_take : (n count : ℕ) (m : Option Misfit) (fitted : List Fitted) (ds : List (Option (TopDec Place))) → EachGood count m fitted ds
+    → ((q : ℕ) → q < n → q < length ds → IsBefore (suc (count + q)) m × (q < length fitted)) → AllGood (take n ds)
+good_take zero count m fitted ds h k = tt
+good_take (suc n) count m fitted [] h k = tt
+good_take (suc n) count m fitted (d ∷ ds) h k =
+    let first = k 0 (omega arith) (omega arith) in (
+      h.0 (subst (λ q. IsBefore (suc q) m) (let e : count + 0 ≡ count = omega arith in e) first.0) first.1,
+      good_take n (suc count) m (drop 1 fitted) ds h.1
+          (λ q a b. let x = k (suc q) (omega (arith, a)) (omega (arith, b)) in (subst (λ j. IsBefore (suc j) m) (let e : count + suc q ≡ suc count + q = omega arith in e) x.0, fewer_fitted q fitted x.1)),
+    )
+
+take_all : {A : Type 0} (xs : List A) → take (length xs) xs ≡ xs
+take_all [] = refl
+take_all (x ∷ xs) = ap (λ ys. x ∷ ys) (take_all xs)
+
+within_take : {A : Type 0} (n q : ℕ) (xs : List A) → q < n → q < length xs → q < length (take n xs)
+within_take zero q xs h k = absurd (omega (arith, h))
+within_take (suc n) q [] h k = absurd (omega (arith, k))
+within_take (suc n) zero (x ∷ xs) h k = omega arith
+within_take (suc n) (suc q) (x ∷ xs) h k = let l = within_take n q xs (omega (arith, h)) (omega (arith, k)) in omega (arith, l)
+
+good_weaker : (count : ℕ) (m m' : Option Misfit) (fitted : List Fitted) (ds : List (Option (TopDec Place))) → ((k : ℕ) → count < k → IsBefore k m' → IsBefore k m) → EachGood count m fitted ds
+    → EachGood count m' fitted ds
+good_weaker count m m' fitted [] f h = tt
+good_weaker count m m' fitted (d ∷ ds) f h =
+    ((λ b l. h.0 (f (suc count) (omega arith) b) l), good_weaker (suc count) m m' (drop 1 fitted) ds (λ k l. f k (omega (arith, l))) h.1)
+
+low_good : (d : TopDec Place) (b : Bool) → TopScoped d → IfSome (top_if_low d b) TopScoped
+low_good d false h = tt
+low_good d true h = by_height (low (top_height d))
+  where
+    by_height : (b : Bool) → IfSome (if b then Some d else None) TopScoped
+    by_height true = h
+    by_height false = tt
+
+drop_next : {A : Type 0} (n : ℕ) (xs ys : List A) (x : A) → x ∷ ys ≡ drop n xs → ys ≡ drop (suc n) xs
+drop_next zero [] ys x e = cc
+drop_next zero (z ∷ xs) ys x e = cc
+drop_next (suc n) [] ys x e = cc
+drop_next (suc n) (z ∷ xs) ys x e = drop_next n xs ys x e
+
+slice_take : {A : Type 0} (b j : ℕ) (xs : List A) (x : A) → slice_get (take b xs) j ≡ Some x → slice_get xs j ≡ Some x
+slice_take zero j xs x e = cc
+slice_take (suc b) j [] x e = cc
+slice_take (suc b) zero (y ∷ xs) x e = e
+slice_take (suc b) (suc j) (y ∷ xs) x e = slice_take b j xs x e
+
+kinds_taken : (b : ℕ) (tokens : List Token) → kinds_of (take b tokens) ≡ take b (kinds_of tokens)
+kinds_taken zero tokens = refl
+kinds_taken (suc b) [] = refl
+kinds_taken (suc b) (t ∷ tokens) = ap (λ ks. t.kind ∷ ks) (kinds_taken b tokens)
+
+-- the misfit of a declaration's flaw
+number_of : (text : ℕ → Id) (count n : ℕ) (nodes : List Node) (flaw : Option Flaw) (f : Misfit) → flaw_in count n nodes flaw ≡ Some f → f.number ≡ count
+number_of text count n nodes None f e = cc
+number_of text count n nodes (Some flaw) f e = cc
+
+other_some : {f : Misfit} → None ≡ Some f → ⊥
+other_some e = cc
+
+flawed_within : (text : ℕ → Id) (nodes : List Node) (n count : ℕ) (toks : List Token) (fitted : List Fitted) (f : Misfit) → first_flawed text n count nodes toks fitted ≡ Some f
+    → (count < f.number) × (f.number ≤ count + length fitted)
+flawed_within text [] n count toks fitted f e = absurd (other_some e)
+flawed_within text (Leaf ∷ nodes) n count [] fitted f e = absurd (other_some e)
+flawed_within text (Leaf ∷ nodes) n count (t ∷ toks) fitted f e = flawed_within text nodes (suc n) count toks fitted f e
+flawed_within text (Inner rule ∷ nodes) n count toks fitted f e =
+    go fitted (begins_at rule) (flawed_within text nodes n (suc count) toks (drop 1 fitted) f) (flawed_within text nodes n count toks fitted f) e
+  where
+    own : List Node
+    own = own_nodes (Inner rule ∷ nodes)
+
+    by_flaw : (x : Fitted) (fitted : List Fitted) (flaw : Option Flaw) → (first_flawed text n (suc count) nodes toks fitted ≡ Some f → (suc count < f.number) × (f.number ≤ suc count + length fitted))
+        → or_else (flaw_in (suc count) n own flaw) (first_flawed text n (suc count) nodes toks fitted) ≡ Some f → (count < f.number) × (f.number ≤ count + length (x ∷ fitted))
+    by_flaw x fitted None more e = let m = more e in let a = m.0 in let b = m.1 in (omega (arith, a), omega (arith, b))
+    by_flaw x fitted (Some flaw) more e = let m = number_of text (suc count) n own (Some flaw) f e in (omega (arith, m), omega (arith, m))
+
+    go : (fitted : List Fitted) (b : Bool) → (first_flawed text n (suc count) nodes toks (drop 1 fitted) ≡ Some f → (suc count < f.number) × (f.number ≤ suc count + length (drop 1 fitted)))
+        → (first_flawed text n count nodes toks fitted ≡ Some f → (count < f.number) × (f.number ≤ count + length fitted))
+        → (if b then or_else (flaw_here text (suc count) n own fitted) (first_flawed text n (suc count) nodes toks (drop 1 fitted)) else first_flawed text n count nodes toks fitted) ≡ Some f
+        → (count < f.number) × (f.number ≤ count + length fitted)
+    go fitted false more same e = same e
+    go [] true more same e = let m = more e in let a = m.0 in let b = m.1 in absurd (omega (arith, a, b))
+    go (x ∷ fitted) true more same e = by_flaw x fitted (first_flaw (flaws text x.fits n own)) more e
+
+as_many : (unit : List ℕ) (tokens : List Token) (nodes : List Node) (n : ℕ) (fitted : List Fitted) → length (bare_decs unit tokens n nodes fitted) ≡ declared nodes
+as_many unit tokens [] n fitted = refl
+as_many unit tokens (Leaf ∷ nodes) n fitted = as_many unit tokens nodes (suc n) fitted
+as_many unit tokens (Inner rule ∷ nodes) n fitted = go (begins_at rule) (as_many unit tokens nodes n (drop 1 fitted)) (as_many unit tokens nodes n fitted)
+  where
+    go : (b : Bool) → length (bare_decs unit tokens n nodes (drop 1 fitted)) ≡ declared nodes → length (bare_decs unit tokens n nodes fitted) ≡ declared nodes
+        → length (if b then bare_dec_at unit tokens n (before_first ends_at nodes) fitted ∷ bare_decs unit tokens n nodes (drop 1 fitted) else bare_decs unit tokens n nodes fitted) ≡ (if b then suc (declared nodes) else declared nodes)
+    go true more same = ap suc more
+    go false more same = same
+
+module _ (unit : List ℕ) (tokens : List Token) where
+  text : ℕ → Id
+  text = text_at unit tokens
+
+  reads : (n b : ℕ) (toks : List Token) → toks ≡ drop n tokens → (j : ℕ) (t : Token) → slice_get (take b toks) j ≡ Some t → slice_get (drop n tokens) (0 + j) ≡ Some t
+  reads n b toks same j t e = ap (slice_get (drop n tokens)) (let f : 0 + j ≡ j = omega arith in f) ∙ ap (λ xs. slice_get xs j) (sym same) ∙ slice_take b j toks t e
+
+  module _ (n b : ℕ) (toks : List Token) (same : toks ≡ drop n tokens) (fits : List Fit) (nodes : List Node) (old : List Symbol) (next : Option Kind) (rest : Part) (outer : is_outer rest ≡ true)
+      (p : Place) where
+    abbrev own : List Node
+    own = before_first ends_at nodes
+
+    unit_good : (rule : UnitRule) → begins_at (G.Units rule) ≡ true → Leads nodes (right_side (G.Units rule) ++ old) (kinds_of (take b toks)) next (Of rest ∷ [])
+        → flaws (text_at unit tokens) fits n (Inner (G.Units rule) ∷ own) ≡ [] → TopScoped (declaration p (made unit tokens n fits own (take b toks) (reads n b toks same)))
+    unit_good U.StartTop h leads clean = top_scoped unit tokens n fits own (take b toks) (reads n b toks same) clean (goes_of nodes (Of Top ∷ []) old AfterTop rest (kinds_of (take b toks)) next refl refl leads) p
+    unit_good U.AfterTopTop h leads clean = next_scoped unit tokens n fits own (take b toks) (reads n b toks same) clean (goes_of nodes (Of Top ∷ []) old AfterTop rest (kinds_of (take b toks)) next refl refl leads) p
+    unit_good U.StartExp h leads clean = exp_scoped unit tokens n fits own (take b toks) (reads n b toks same) clean (goes_of nodes (Of Exp ∷ []) old AfterExp rest (kinds_of (take b toks)) next refl refl leads) p
+    unit_good _ h leads clean = absurd (false≢true h)
+
+    rule_good : (rule : Rule) → begins_at rule ≡ true → Leads nodes (right_side rule ++ old) (kinds_of (take b toks)) next (Of rest ∷ [])
+        → flaws (text_at unit tokens) fits n (Inner rule ∷ own) ≡ [] → TopScoped (declaration p (made unit tokens n fits own (take b toks) (reads n b toks same)))
+    rule_good (G.Units rule) h leads clean = unit_good rule h leads clean
+    rule_good (G.Names rule) h leads clean = absurd (false≢true h)
+    rule_good (G.Structures rule) h leads clean = absurd (false≢true h)
+    rule_good (G.Signatures rule) h leads clean = absurd (false≢true h)
+    rule_good (G.Specifications rule) h leads clean = absurd (false≢true h)
+    rule_good (G.Declarations rule) h leads clean = absurd (false≢true h)
+    rule_good (G.Expressions rule) h leads clean = absurd (false≢true h)
+    rule_good (G.Patterns rule) h leads clean = absurd (false≢true h)
+    rule_good (G.Types rule) h leads clean = absurd (false≢true h)
+
+  -- a declaration with this flaw or none, and those behind it
+  module _ (rule : Rule) (n count b : ℕ) (toks : List Token) (same : toks ≡ drop n tokens) (nodes : List Node) (old : List Symbol) (next : Option Kind) (rest : Part) (outer : is_outer rest ≡ true)
+      (begin : begins_at rule ≡ true) (leads : Leads nodes (right_side rule ++ old) (kinds_of (take b toks)) next (Of rest ∷ [])) (later : Option Misfit) where
+    here : (x : Fitted) (fitted : List Fitted) (flaw : Option Flaw) → first_flaw (flaws (text_at unit tokens) x.fits n (Inner rule ∷ before_first ends_at nodes)) ≡ flaw
+        → IsBefore (suc count) (or_else (flaw_in (suc count) n (own_nodes (Inner rule ∷ nodes)) flaw) later) → IfSome (bare_dec_at unit tokens n (before_first ends_at nodes) (x ∷ fitted)) TopScoped
+    here x fitted None e h =
+        let own = before_first ends_at nodes in
+        let s : Source = record { unit = unit; tokens = drop n tokens; begun = n; fits = x.fits } in
+        let p = place_at s.unit s.tokens 0 in
+        low_good (declaration p (first (phrases_of s own (starts_of 0 own)))) (are_low s own (starts_of 0 own))
+        (rule_good n b toks same x.fits nodes old next rest outer p rule begin leads (none_or (flaws (text_at unit tokens) x.fits n (Inner rule ∷ own)) e))
+    here x fitted (Some flaw) e h = absurd (omega (arith, h))
+
+    not_earlier : (flaw : Option Flaw) → (k : ℕ) → suc count < k → IsBefore k (or_else (flaw_in (suc count) n (own_nodes (Inner rule ∷ nodes)) flaw) later) → IsBefore k later
+    not_earlier None k l h = h
+    not_earlier (Some flaw) k l h = absurd (omega (arith, l, h))
+
+    own_good : (fitted : List Fitted) (ds : List (Option (TopDec Place))) → EachGood (suc count) later (drop 1 fitted) ds
+        → EachGood count (or_else (flaw_here (text_at unit tokens) (suc count) n (own_nodes (Inner rule ∷ nodes)) fitted) later) fitted (bare_dec_at unit tokens n (before_first ends_at nodes) fitted ∷ ds)
+    own_good [] ds more = ((λ h l. absurd (omega (arith, l))), more)
+    own_good (x ∷ fitted) ds more =
+        let flaw = first_flaw (flaws (text_at unit tokens) x.fits n (Inner rule ∷ before_first ends_at nodes)) in (
+          (λ h l. here x fitted flaw refl h),
+          good_weaker (suc count) later (or_else (flaw_in (suc count) n (own_nodes (Inner rule ∷ nodes)) flaw) later) fitted ds (not_earlier flaw) more,
+        )
+
+  each_good : (nodes : List Node) (n count b : ℕ) (old : List Symbol) (toks : List Token) (next : Option Kind) (rest : Part) (fitted : List Fitted) → toks ≡ drop n tokens → is_outer rest ≡ true
+      → Leads nodes old (kinds_of (take b toks)) next (Of rest ∷ []) → EachGood count (first_flawed (text_at unit tokens) n count nodes toks fitted) fitted (bare_decs unit tokens n nodes fitted)
+  each_good [] n count b old toks next rest fitted same outer leads = tt
+  each_good (Leaf ∷ nodes) n count b [] toks next rest fitted same outer leads = absurd leads
+  each_good (Leaf ∷ nodes) n count b (Of p ∷ old) toks next rest fitted same outer leads = absurd leads
+  each_good (Leaf ∷ nodes) n count zero (Word w ∷ old) toks next rest fitted same outer leads = absurd leads
+  each_good (Leaf ∷ nodes) n count (suc b) (Word w ∷ old) [] next rest fitted same outer leads = absurd leads
+  each_good (Leaf ∷ nodes) n count (suc b) (Word w ∷ old) (t ∷ toks) next rest fitted same outer leads =
+      each_good nodes (suc n) count b old toks next rest fitted (drop_next n tokens toks t same) outer leads.1
+  each_good (Inner rule ∷ nodes) n count b [] toks next rest fitted same outer leads = absurd leads
+  each_good (Inner rule ∷ nodes) n count b (Word w ∷ old) toks next rest fitted same outer leads = absurd leads
+  each_good (Inner rule ∷ nodes) n count b (Of p ∷ old) toks next rest fitted same outer leads =
+      go (begins_at rule) refl
+      (each_good nodes n (suc count) b (right_side rule ++ old) toks next rest (drop 1 fitted) same outer leads.2)
+      (each_good nodes n count b (right_side rule ++ old) toks next rest fitted same outer leads.2)
+    where
+      later : Option Misfit
+      later = first_flawed (text_at unit tokens) n (suc count) nodes toks (drop 1 fitted)
+
+      go : (c : Bool) → begins_at rule ≡ c → EachGood (suc count) later (drop 1 fitted) (bare_decs unit tokens n nodes (drop 1 fitted))
+          → EachGood count (first_flawed (text_at unit tokens) n count nodes toks fitted) fitted (bare_decs unit tokens n nodes fitted)
+          → EachGood count (if c then or_else (flaw_here (text_at unit tokens) (suc count) n (own_nodes (Inner rule ∷ nodes)) fitted) later else first_flawed (text_at unit tokens) n count nodes toks fitted) fitted
+          (if c then bare_dec_at unit tokens n (before_first ends_at nodes) fitted ∷ bare_decs unit tokens n nodes (drop 1 fitted) else bare_decs unit tokens n nodes fitted)
+      go true e more others = own_good rule n count b toks same nodes old next rest outer e leads.2 later fitted (bare_decs unit tokens n nodes (drop 1 fitted)) more
+      go false e more others = others
+
+  -- those before the last fault
+  module _ (nodes : List Node) (fitted : List Fitted) (unfit : Option Misfit) (fit : AreFitted (text_at unit tokens) (events_of unit tokens nodes (starts_of 0 nodes)) fitted unfit)
+      (each : EachGood 0 (first_flawed (text_at unit tokens) 0 0 nodes tokens fitted) fitted (bare_decs unit tokens 0 nodes fitted)) where
+    all : List (Option (TopDec Place))
+    all = bare_decs unit tokens 0 nodes fitted
+
+    known : (q : ℕ) → q < length (bare_decs unit tokens 0 nodes fitted) → q < length (declarations_in fit.outcomes)
+    known q h =
+        let a = as_many unit tokens nodes 0 fitted in
+        let e = few_begun unit tokens nodes 0 in
+        let d = few_declared (text_at unit tokens) Reach.start (events_of unit tokens nodes (starts_of 0 nodes)) fit.outcomes fit.happen in
+        omega (arith, h, a, e, d)
+
+    no_flaw : (u : Option Misfit) → unfit ≡ u → EachGood 0 None fitted (bare_decs unit tokens 0 nodes fitted) → AllGood (up_to (before_misfit u) (bare_decs unit tokens 0 nodes fitted))
+    no_flaw None e good =
+        subst AllGood (take_all (bare_decs unit tokens 0 nodes fitted))
+        (good_take (length (bare_decs unit tokens 0 nodes fitted)) 0 None fitted (bare_decs unit tokens 0 nodes fitted) good
+        (λ q a b. (tt, subst (λ f. q < length f) (sym (fit.are_fitted ∙ ap (λ u. up_to (before_misfit u) (declarations_in fit.outcomes)) e)) (known q b))))
+    no_flaw (Some m) e good =
+        good_take (m.number - 1) 0 None fitted (bare_decs unit tokens 0 nodes fitted) good
+        (λ q a b. (
+          tt,
+          subst (λ f. q < length f) (sym (fit.are_fitted ∙ ap (λ u. up_to (before_misfit u) (declarations_in fit.outcomes)) e)) (within_take (m.number - 1) q (declarations_in fit.outcomes) a (known q b)),
+        ))
+
+    by_flaw : (f : Option Misfit) → first_flawed (text_at unit tokens) 0 0 nodes tokens fitted ≡ f → AllGood (up_to (before_misfit (or_else f unfit)) (bare_decs unit tokens 0 nodes fitted))
+    by_flaw None e = no_flaw unfit refl (subst (λ m. EachGood 0 m fitted (bare_decs unit tokens 0 nodes fitted)) e each)
+    by_flaw (Some m) e =
+        let within = flawed_within (text_at unit tokens) nodes 0 0 tokens fitted m e in
+        let few = within.1 in
+        good_take (m.number - 1) 0 (Some m) fitted (bare_decs unit tokens 0 nodes fitted) (subst (λ m. EachGood 0 m fitted (bare_decs unit tokens 0 nodes fitted)) e each)
+        (λ q a b. (omega (arith, a), omega (arith, a, few)))
+
+pub scoped_once : VariablesAreScopedOnce
+scoped_once unit tokens end tops decs fault trees =
+    let whole = trees.reading.whole in
+    let next = first_of (drop trees.begun (kinds_of tokens)) in
+    let leads = subst (λ ks. Leads trees.nodes (Of Start ∷ []) ks next (Of whole.part ∷ [])) (sym (kinds_taken trees.begun tokens)) whole.leads in
+    let each = each_good unit tokens trees.nodes 0 0 trees.begun (Of Start ∷ []) tokens next whole.part trees.fitted refl whole.outer leads in
+    let good = by_flaw unit tokens trees.nodes trees.fitted trees.unfit trees.fits each (first_flawed (text_at unit tokens) 0 0 trees.nodes tokens trees.fitted) refl in
+    subst (All TopScoped) (sym trees.made)
+    (none_before _ (subst (λ m. AllGood (up_to (before_misfit m) (bare_decs unit tokens 0 trees.nodes trees.fitted))) (sym trees.is_first) good))

@@ -117,7 +117,7 @@ any_none f (x ∷ ms) m e (inr s) = any_none f ms m (rest_no (f x) (list_any f m
     rest_no true b h = cc
     rest_no false b h = h
 
-if_none : (b : Bool) (token : ℕ) (code : _) → flaw_if b token code ≡ None → b ≡ false
+pub if_none : (b : Bool) (token : ℕ) (code : _) → flaw_if b token code ≡ None → b ≡ false
 if_none true token code e = cc
 if_none false token code e = refl
 
@@ -200,7 +200,7 @@ module _ (unit : List ℕ) (tokens : List Token) (n : ℕ) (fits : List Fit) (ow
   abbrev pub made : Phrase
   made = first (phrases_of source own (starts_of 0 own))
 
-  counted : (j : ℕ) → slice_get source.tokens j ≡ slice_get tokens (source.begun + j)
+  pub counted : (j : ℕ) → slice_get source.tokens j ≡ slice_get tokens (source.begun + j)
   counted j = slice_drop n j tokens (n + j) refl
 
   module _ (rule : UnitRule) (clean : flaws (text_at unit tokens) fits n (Inner (Units rule) ∷ own) ≡ []) where

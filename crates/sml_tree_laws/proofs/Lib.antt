@@ -1,4 +1,15 @@
 mod Sits
+mod Named
+mod PhrasesBound
+mod AccessorsBound
+mod PartsBound
+mod NamesBound
+mod PatternsBound
+mod ExpressionsBound
+mod DeclarationsBound
+mod SignaturesBound
+mod StructuresBound
+mod MadeBound
 mod Phrases
 mod Parts
 mod PatternSequences
@@ -12,4 +23,7 @@ mod Values
 mod Made
 mod Walk
 mod Declared
-mod ScopedOnce
+mod Clean
+mod BoundWalk
+mod WellDeclared
+mod Units

@@ -119,7 +119,7 @@ is_of_variable W.Listed = true
 is_of_variable W.Variable = true
 is_of_variable _ = false
 
-abbrev is_type_variable : Symbol → Bool
+abbrev pub is_type_variable : Symbol → Bool
 is_type_variable (Word K.TypeVariable) = true
 is_type_variable _ = false
 
@@ -160,36 +160,36 @@ drop_nothing : {A : Type 0} (n : ℕ) → drop {A = A} n [] ≡ []
 drop_nothing zero = refl
 drop_nothing (suc n) = refl
 
-drop_twice : {A : Type 0} (m k n : ℕ) (xs : List A) → n ≡ m + k → drop k (drop m xs) ≡ drop n xs
+pub drop_twice : {A : Type 0} (m k n : ℕ) (xs : List A) → n ≡ m + k → drop k (drop m xs) ≡ drop n xs
 drop_twice zero k n xs e = ap (λ j. drop j xs) (let f : k ≡ n = omega (arith, e) in f)
 drop_twice (suc m) k zero xs e = absurd (omega (arith, e))
 drop_twice (suc m) k (suc n) [] e = drop_nothing k
 drop_twice (suc m) k (suc n) (x ∷ xs) e = drop_twice m k n xs (omega (arith, e))
 
-below_more : {A : Type 0} (k : ℕ) (xs ys : List A) → k < length xs → k < length (xs ++ ys)
+pub below_more : {A : Type 0} (k : ℕ) (xs ys : List A) → k < length xs → k < length (xs ++ ys)
 below_more k [] ys h = absurd (omega (arith, h))
 below_more zero (x ∷ xs) ys h = omega arith
 below_more (suc k) (x ∷ xs) ys h = let l = below_more k xs ys (omega (arith, h)) in omega (arith, l)
 
-behind_more : {A : Type 0} (k : ℕ) (xs ys : List A) → k < length ys → length xs + k < length (xs ++ ys)
+pub behind_more : {A : Type 0} (k : ℕ) (xs ys : List A) → k < length ys → length xs + k < length (xs ++ ys)
 behind_more k [] ys h = omega (arith, h)
 behind_more k (x ∷ xs) ys h = let l = behind_more k xs ys h in omega (arith, l)
 
-stands_behind : (m : Mark) (o : Option Mark) (marks : List Mark) → Stands m marks → Stands m (cons_option o marks)
+pub stands_behind : (m : Mark) (o : Option Mark) (marks : List Mark) → Stands m marks → Stands m (cons_option o marks)
 unfolding Stands
 stands_behind m None marks h = h
 stands_behind m (Some x) marks h = inr h
 
 -- contexts
 
-context_in : (roles : List Role) (c : Context) (index count : ℕ) (cs : List Context) (k : ℕ) → k < count
+pub context_in : (roles : List Role) (c : Context) (index count : ℕ) (cs : List Context) (k : ℕ) → k < count
     → get_or (contexts_from roles c index count ++ cs) k start ≡ in_role (get_or roles (index + k) Q.Same) c
 context_in roles c index zero cs k h = absurd (omega (arith, h))
 context_in roles c index (suc count) cs zero h = ap (λ n. in_role (get_or roles n Q.Same) c) (let e : index ≡ index + 0 = omega arith in e)
 context_in roles c index (suc count) cs (suc k) h =
     context_in roles c (suc index) count cs k (omega (arith, h)) ∙ ap (λ n. in_role (get_or roles n Q.Same) c) (let e : suc index + k ≡ index + suc k = omega arith in e)
 
-context_behind : (roles : List Role) (c : Context) (index count : ℕ) (cs : List Context) (k n : ℕ) → n ≡ count + k → get_or (contexts_from roles c index count ++ cs) n start ≡ get_or cs k start
+pub context_behind : (roles : List Role) (c : Context) (index count : ℕ) (cs : List Context) (k n : ℕ) → n ≡ count + k → get_or (contexts_from roles c index count ++ cs) n start ≡ get_or cs k start
 context_behind roles c index zero cs k n e = ap (λ j. get_or cs j start) (let f : n ≡ k = omega (arith, e) in f)
 context_behind roles c index (suc count) cs k zero e = absurd (omega (arith, e))
 context_behind roles c index (suc count) cs k (suc n) e = context_behind roles c (suc index) count cs k n (omega (arith, e))
@@ -210,7 +210,7 @@ plain_owner O.Sequence i a c h = refl
 plain_owner O.Function i a c h = refl
 plain_owner O.Clause i a c h = refl
 
-opened_word : (o : Opening) (i a : ℕ) (c : Context) → (opened o i a c).word ≡ c.word
+pub opened_word : (o : Opening) (i a : ℕ) (c : Context) → (opened o i a c).word ≡ c.word
 opened_word O.Nothing i a c = refl
 opened_word O.Group i a c = refl
 opened_word O.Types i a c = refl

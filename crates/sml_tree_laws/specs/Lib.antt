@@ -1,1 +1,2 @@
 pub mod Scoped
+pub mod WellBound

@@ -1,8 +1,16 @@
 //! Laws of the trees that parsing gives.
 ghost use Rattle.sml_tree_laws.specs.Scoped.{VariablesAreScopedOnce};
+ghost use Rattle.sml_tree_laws.specs.WellBound.{TreesAreWellBound};
 
 /// In the declarations that bytes spell, no value declaration lists a type variable that one round it scopes, by its list or
 /// since the variable occurs unguarded in it (the Definition, sections 2.9 and 4.6).
 pub fn variables_are_scoped_once()
     ensures { VariablesAreScopedOnce }
+{}
+
+/// In the declarations that bytes spell, nothing is bound twice in one group, the labels of each row and the type variables
+/// of each list differ, constructors, exceptions and specified values have names that may be bound, and no pattern has a
+/// real constant (the Definition, sections 2.9 and 3.5).
+pub fn trees_are_well_bound()
+    ensures { TreesAreWellBound }
 {}

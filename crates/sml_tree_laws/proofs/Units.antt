@@ -3,7 +3,7 @@ use Rattle.std.proofs.Common.{◌≡◌, ℕ, zero, suc, ◌+◌, ◌-◌, ◌<�
 use Rattle.std.specs.Prelude.{slice_get, if◌then◌else◌}
 use Rattle.std.specs.List.{All, before_first, cons_option}
 use Rattle.std.proofs.lemmas.Bool.{false≢true}
-use Rattle.std.proofs.lemmas.List.Elements.{All-nil, All-cons}
+use Rattle.std.proofs.lemmas.List.Elements.{All-nil, All-cons, All-head, All-tail}
 use Rattle.sml_lex.specs.declared.fault.Place.{Place}
 use Rattle.sml_lex.specs.declared.token.Kind.{Kind}
 use Rattle.sml_lex.specs.declared.token.Token.{Token}
@@ -40,6 +40,16 @@ use Rattle.sml_bare.specs.RulePhrases.{declaration}
 use Rattle.sml_bare.specs.Derivations.{Source, place_at, phrases_of, are_low, top_if_low, bare_dec_at, bare_decs, before_none}
 use Rattle.sml_tree_laws.specs.Scoped.{TopScoped, VariablesAreScopedOnce}
 use Rattle.sml_tree_laws.proofs.Declared.{goes_of, none_or, made, top_scoped, next_scoped, exp_scoped}
+use Rattle.sml_lex.specs.declared.token.End.{End}
+use Rattle.sml_lex.specs.Faults.{Fault}
+use Rattle.sml_tree.specs.Trees as Piece
+use Rattle.sml_parse.specs.Trees.{Trees}
+use Rattle.sml_tree_laws.specs.WellBound.{TopBound, TreesAreWellBound}
+use Rattle.sml_tree_laws.proofs.WellDeclared.{top_well, next_well, exp_well}
+
+-- what is proved of a declaration
+abbrev TopLawful : TopDec Place → Type 0
+TopLawful d = TopScoped d × TopBound d
 
 -- there are as many events of declarations as declarations
 
@@ -125,16 +135,16 @@ IsBefore number (Some m) = number < m.number
 
 abbrev EachGood : ℕ → Option Misfit → List Fitted → List (Option (TopDec Place)) → Type 0
 EachGood count m fitted [] = Unit {0}
-EachGood count m fitted (d ∷ ds) = (IsBefore (suc count) m → 0 < length fitted → IfSome d TopScoped) × EachGood (suc count) m (drop 1 fitted) ds
+EachGood count m fitted (d ∷ ds) = (IsBefore (suc count) m → 0 < length fitted → IfSome d TopLawful) × EachGood (suc count) m (drop 1 fitted) ds
 
 abbrev AllGood : List (Option (TopDec Place)) → Type 0
 AllGood [] = Unit {0}
-AllGood (d ∷ ds) = IfSome d TopScoped × AllGood ds
+AllGood (d ∷ ds) = IfSome d TopLawful × AllGood ds
 
-none_before : (ds : List (Option (TopDec Place))) → AllGood ds → All TopScoped (before_none ds)
-none_before [] h = All-nil TopScoped
-none_before (None ∷ ds) h = All-nil TopScoped
-none_before (Some d ∷ ds) h = All-cons TopScoped d (before_none ds) h.0 (none_before ds h.1)
+none_before : (ds : List (Option (TopDec Place))) → AllGood ds → All TopLawful (before_none ds)
+none_before [] h = All-nil TopLawful
+none_before (None ∷ ds) h = All-nil TopLawful
+none_before (Some d ∷ ds) h = All-cons TopLawful d (before_none ds) h.0 (none_before ds h.1)
 
 fewer_fitted : (q : ℕ) (fitted : List Fitted) → suc q < length fitted → q < length (drop 1 fitted)
 fewer_fitted q [] h = absurd (omega (arith, h))
@@ -167,11 +177,11 @@ good_weaker count m m' fitted [] f h = tt
 good_weaker count m m' fitted (d ∷ ds) f h =
     ((λ b l. h.0 (f (suc count) (omega arith) b) l), good_weaker (suc count) m m' (drop 1 fitted) ds (λ k l. f k (omega (arith, l))) h.1)
 
-low_good : (d : TopDec Place) (b : Bool) → TopScoped d → IfSome (top_if_low d b) TopScoped
+low_good : (d : TopDec Place) (b : Bool) → TopLawful d → IfSome (top_if_low d b) TopLawful
 low_good d false h = tt
 low_good d true h = by_height (low (top_height d))
   where
-    by_height : (b : Bool) → IfSome (if b then Some d else None) TopScoped
+    by_height : (b : Bool) → IfSome (if b then Some d else None) TopLawful
     by_height true = h
     by_height false = tt
 
@@ -247,14 +257,20 @@ module _ (unit : List ℕ) (tokens : List Token) where
     own = before_first ends_at nodes
 
     unit_good : (rule : UnitRule) → begins_at (G.Units rule) ≡ true → Leads nodes (right_side (G.Units rule) ++ old) (kinds_of (take b toks)) next (Of rest ∷ [])
-        → flaws (text_at unit tokens) fits n (Inner (G.Units rule) ∷ own) ≡ [] → TopScoped (declaration p (made unit tokens n fits own (take b toks) (reads n b toks same)))
-    unit_good U.StartTop h leads clean = top_scoped unit tokens n fits own (take b toks) (reads n b toks same) clean (goes_of nodes (Of Top ∷ []) old AfterTop rest (kinds_of (take b toks)) next refl refl leads) p
-    unit_good U.AfterTopTop h leads clean = next_scoped unit tokens n fits own (take b toks) (reads n b toks same) clean (goes_of nodes (Of Top ∷ []) old AfterTop rest (kinds_of (take b toks)) next refl refl leads) p
-    unit_good U.StartExp h leads clean = exp_scoped unit tokens n fits own (take b toks) (reads n b toks same) clean (goes_of nodes (Of Exp ∷ []) old AfterExp rest (kinds_of (take b toks)) next refl refl leads) p
+        → flaws (text_at unit tokens) fits n (Inner (G.Units rule) ∷ own) ≡ [] → TopLawful (declaration p (made unit tokens n fits own (take b toks) (reads n b toks same)))
+    unit_good U.StartTop h leads clean =
+        let goes = goes_of nodes (Of Top ∷ []) old AfterTop rest (kinds_of (take b toks)) next refl refl leads in
+        (top_scoped unit tokens n fits own (take b toks) (reads n b toks same) clean goes p, top_well unit tokens n fits own (take b toks) (reads n b toks same) clean goes p)
+    unit_good U.AfterTopTop h leads clean =
+        let goes = goes_of nodes (Of Top ∷ []) old AfterTop rest (kinds_of (take b toks)) next refl refl leads in
+        (next_scoped unit tokens n fits own (take b toks) (reads n b toks same) clean goes p, next_well unit tokens n fits own (take b toks) (reads n b toks same) clean goes p)
+    unit_good U.StartExp h leads clean =
+        let goes = goes_of nodes (Of Exp ∷ []) old AfterExp rest (kinds_of (take b toks)) next refl refl leads in
+        (exp_scoped unit tokens n fits own (take b toks) (reads n b toks same) clean goes p, exp_well unit tokens n fits own (take b toks) (reads n b toks same) clean goes p)
     unit_good _ h leads clean = absurd (false≢true h)
 
     rule_good : (rule : Rule) → begins_at rule ≡ true → Leads nodes (right_side rule ++ old) (kinds_of (take b toks)) next (Of rest ∷ [])
-        → flaws (text_at unit tokens) fits n (Inner rule ∷ own) ≡ [] → TopScoped (declaration p (made unit tokens n fits own (take b toks) (reads n b toks same)))
+        → flaws (text_at unit tokens) fits n (Inner rule ∷ own) ≡ [] → TopLawful (declaration p (made unit tokens n fits own (take b toks) (reads n b toks same)))
     rule_good (G.Units rule) h leads clean = unit_good rule h leads clean
     rule_good (G.Names rule) h leads clean = absurd (false≢true h)
     rule_good (G.Structures rule) h leads clean = absurd (false≢true h)
@@ -269,7 +285,7 @@ module _ (unit : List ℕ) (tokens : List Token) where
   module _ (rule : Rule) (n count b : ℕ) (toks : List Token) (same : toks ≡ drop n tokens) (nodes : List Node) (old : List Symbol) (next : Option Kind) (rest : Part) (outer : is_outer rest ≡ true)
       (begin : begins_at rule ≡ true) (leads : Leads nodes (right_side rule ++ old) (kinds_of (take b toks)) next (Of rest ∷ [])) (later : Option Misfit) where
     here : (x : Fitted) (fitted : List Fitted) (flaw : Option Flaw) → first_flaw (flaws (text_at unit tokens) x.fits n (Inner rule ∷ before_first ends_at nodes)) ≡ flaw
-        → IsBefore (suc count) (or_else (flaw_in (suc count) n (own_nodes (Inner rule ∷ nodes)) flaw) later) → IfSome (bare_dec_at unit tokens n (before_first ends_at nodes) (x ∷ fitted)) TopScoped
+        → IsBefore (suc count) (or_else (flaw_in (suc count) n (own_nodes (Inner rule ∷ nodes)) flaw) later) → IfSome (bare_dec_at unit tokens n (before_first ends_at nodes) (x ∷ fitted)) TopLawful
     here x fitted None e h =
         let own = before_first ends_at nodes in
         let s : Source = record { unit = unit; tokens = drop n tokens; begun = n; fits = x.fits } in
@@ -350,12 +366,26 @@ module _ (unit : List ℕ) (tokens : List Token) where
         good_take (m.number - 1) 0 (Some m) fitted (bare_decs unit tokens 0 nodes fitted) (subst (λ m. EachGood 0 m fitted (bare_decs unit tokens 0 nodes fitted)) e each)
         (λ q a b. (omega (arith, a), omega (arith, a, few)))
 
-pub scoped_once : VariablesAreScopedOnce
-scoped_once unit tokens end tops decs fault trees =
+all_lawful : (unit : List ℕ) (tokens : List Token) (end : End) (tops : List (TopDec Place)) (decs : List (Piece.Dec Place)) (fault : Option (Fault Place)) → Trees unit tokens end tops decs fault → All TopLawful tops
+all_lawful unit tokens end tops decs fault trees =
     let whole = trees.reading.whole in
     let next = first_of (drop trees.begun (kinds_of tokens)) in
     let leads = subst (λ ks. Leads trees.nodes (Of Start ∷ []) ks next (Of whole.part ∷ [])) (sym (kinds_taken trees.begun tokens)) whole.leads in
     let each = each_good unit tokens trees.nodes 0 0 trees.begun (Of Start ∷ []) tokens next whole.part trees.fitted refl whole.outer leads in
     let good = by_flaw unit tokens trees.nodes trees.fitted trees.unfit trees.fits each (first_flawed (text_at unit tokens) 0 0 trees.nodes tokens trees.fitted) refl in
-    subst (All TopScoped) (sym trees.made)
+    subst (All TopLawful) (sym trees.made)
     (none_before _ (subst (λ m. AllGood (up_to (before_misfit m) (bare_decs unit tokens 0 trees.nodes trees.fitted))) (sym trees.is_first) good))
+
+all_scoped : (ds : List (TopDec Place)) → All TopLawful ds → All TopScoped ds
+all_scoped [] h = All-nil TopScoped
+all_scoped (d ∷ ds) h = All-cons TopScoped d ds (All-head TopLawful d ds h).0 (all_scoped ds (All-tail TopLawful d ds h))
+
+all_bound : (ds : List (TopDec Place)) → All TopLawful ds → All TopBound ds
+all_bound [] h = All-nil TopBound
+all_bound (d ∷ ds) h = All-cons TopBound d ds (All-head TopLawful d ds h).1 (all_bound ds (All-tail TopLawful d ds h))
+
+pub scoped_once : VariablesAreScopedOnce
+scoped_once unit tokens end tops decs fault trees = all_scoped tops (all_lawful unit tokens end tops decs fault trees)
+
+pub well_bound : TreesAreWellBound
+well_bound unit tokens end tops decs fault trees = all_bound tops (all_lawful unit tokens end tops decs fault trees)

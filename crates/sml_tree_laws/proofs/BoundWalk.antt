@@ -3,6 +3,7 @@ use Rattle.std.proofs.Common.{◌≡◌, ℕ, zero, suc, ◌+◌, ◌<◌, ◌�
 use Rattle.std.specs.Prelude.{◌&&◌, ◌||◌, slice_get, slice_range, if◌then◌else◌}
 use Rattle.std.specs.List.{cons_option}
 use Rattle.std.proofs.lemmas.Bool.{false≢true, ltb-true, and_parts, and_from, eq-eqb}
+use Rattle.std.proofs.lemmas.List.{get_or_append_left, get_or-append-add, drop-drop}
 use Rattle.std.proofs.lemmas.Slice.Eq.{bytes_eq-Decides}
 use Rattle.sml_lex.specs.declared.fault.Place.{Place}
 use Rattle.sml_lex.specs.declared.token.Kind.{Kind}
@@ -50,7 +51,7 @@ use Rattle.sml_tree_laws.proofs.PhrasesBound.{plain, class_of, Fits, PhraseBound
 use Rattle.sml_tree_laws.proofs.PartsBound.{WordBound, RoleBound, PartsBound}
 use Rattle.sml_tree_laws.proofs.MadeBound.{made_bound, made_fits, made_same, is_group}
 use Rattle.sml_tree_laws.proofs.Clean.{once, no_real, may_bind}
-use Rattle.sml_tree_laws.proofs.Walk.{Goes, is_type_variable, drop_twice, below_more, behind_more, stands_behind, context_in, context_behind, opened_word}
+use Rattle.sml_tree_laws.proofs.Walk.{Goes, is_type_variable, below_more, behind_more, stands_behind, context_in, context_behind, opened_word}
 
 -- the tables
 
@@ -173,16 +174,6 @@ width_more (Inner r ∷ nodes) (suc m) (suc n) h = let k = width_more nodes (len
 
 abbrev pub symbol : List Symbol → ℕ → Symbol
 symbol ss k = get_or ss k (Word K.Comma)
-
-symbol_in : (xs ys : List Symbol) (k : ℕ) → k < length xs → symbol (xs ++ ys) k ≡ symbol xs k
-symbol_in [] ys k h = absurd (omega (arith, h))
-symbol_in (x ∷ xs) ys zero h = refl
-symbol_in (x ∷ xs) ys (suc k) h = symbol_in xs ys k (omega (arith, h))
-
-symbol_behind : (xs ys : List Symbol) (k n : ℕ) → n ≡ length xs + k → symbol (xs ++ ys) n ≡ symbol ys k
-symbol_behind [] ys k n e = ap (symbol ys) (let f : n ≡ k = omega (arith, e) in f)
-symbol_behind (x ∷ xs) ys k zero e = absurd (omega (arith, e))
-symbol_behind (x ∷ xs) ys k (suc n) e = symbol_behind xs ys k n (omega (arith, e))
 
 role_group : (role : Role) (c : Context) → (in_role role c).group ≡ c.group
 role_group Q.Same c = refl
@@ -510,7 +501,7 @@ module _ (s : Source) (tokens : List Token) (all : List Mark) (own : (n : ℕ) �
       behind : ((k : ℕ) → k < length (right_side r ++ ss) → (lo hi : ℕ) → lo ≡ a + width_of k nodes → hi ≡ a + width_of (suc k) nodes → Claim (symbol (right_side r ++ ss) k) (get_or (parts_of i a c (Inner r) ++ cs) k start) lo hi (at vs k))
           → Behind r i a c nodes vs
       behind deeper k b =
-          subst (λ x. Claim x (in_role (get_or (roles_of r) k Q.Same) (opened (opening_of r) i a c)) (a + width_of k nodes) (a + width_of (suc k) nodes) (at vs k)) (symbol_in (right_side r) ss k b)
+          subst (λ x. Claim x (in_role (get_or (roles_of r) k Q.Same) (opened (opening_of r) i a c)) (a + width_of k nodes) (a + width_of (suc k) nodes) (at vs k)) (get_or_append_left (right_side r) ss (Word K.Comma) k b)
           (subst (λ q. Claim (symbol (right_side r ++ ss) k) q (a + width_of k nodes) (a + width_of (suc k) nodes) (at vs k))
           (context_in (roles_of r) (opened (opening_of r) i a c) 0 len cs k b ∙ ap (λ q. in_role (get_or (roles_of r) q Q.Same) (opened (opening_of r) i a c)) (let e : 0 + k ≡ k = omega arith in e))
           (deeper k (below_more k (right_side r) ss b) (a + width_of k nodes) (a + width_of (suc k) nodes) refl refl))
@@ -522,6 +513,6 @@ module _ (s : Source) (tokens : List Token) (all : List Mark) (own : (n : ℕ) �
       by_place deeper (suc k) h lo hi el eh =
           let next = ap (λ q. width_of q nodes) (let e : len + suc k ≡ suc (len + k) = omega arith in e) in
           let x = deeper (len + k) (behind_more k (right_side r) ss (omega (arith, h))) lo hi (omega (arith, el)) (omega (arith, eh, next)) in
-          subst (λ q. Claim (symbol ss k) (get_or cs k start) lo hi (first q)) (sym (drop_twice len k (len + k) vs refl))
-          (subst (λ y. Claim y (get_or cs k start) lo hi (at vs (len + k))) (symbol_behind (right_side r) ss k (len + k) refl)
+          subst (λ q. Claim (symbol ss k) (get_or cs k start) lo hi (first q)) (sym (drop-drop k len vs))
+          (subst (λ y. Claim y (get_or cs k start) lo hi (at vs (len + k))) (get_or-append-add (right_side r) ss k (Word K.Comma))
           (subst (λ q. Claim (symbol (right_side r ++ ss) (len + k)) q lo hi (at vs (len + k))) (context_behind (roles_of r) (opened (opening_of r) i a c) 0 len cs k (len + k) refl) x))

@@ -185,7 +185,7 @@ first_top s [] kinds g = absurd (no_symbol g)
 first_top s (Leaf ∷ nodes) kinds g = absurd g
 first_top s (Inner r ∷ nodes) kinds g = rule_top r s 0 _ (tops_so r (ap is_top_part g.0))
 
-pub slice_drop : {A : Type 0} (n j : ℕ) (xs : List A) (k : ℕ) → k ≡ n + j → slice_get (drop n xs) j ≡ slice_get xs k
+slice_drop : {A : Type 0} (n j : ℕ) (xs : List A) (k : ℕ) → k ≡ n + j → slice_get (drop n xs) j ≡ slice_get xs k
 slice_drop zero j xs k e = ap (slice_get xs) (let f : j ≡ k = omega (arith, e) in f)
 slice_drop (suc n) j [] k e = refl
 slice_drop (suc n) j (x ∷ xs) zero e = absurd (omega (arith, e))

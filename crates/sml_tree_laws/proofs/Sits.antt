@@ -6,15 +6,12 @@ use Rattle.sml_tree.specs.Types.{Ty, Tys, TyFields, ty_variable, ty_row, ty_tupl
 use Rattle.sml_tree.specs.Patterns.{Pat, Pats, PatFields, wildcard, pat_constant, pat_name, pat_row, pat_tuple, pat_bracket, pat_apply, pat_typed, pat_as, no_pat, and_pat, pat_field, no_pat_field, and_pat_field}
 use Rattle.sml_tree.specs.Expressions.{Exp, Exps, Fields, Rules, Dec, Decs, ValBinds, ExnBind, constant, name, row, tuple, let_in, bracket, apply, typed, handle, raise, fn, no_exp, and_exp, field, no_field, and_field, rule, no_rule, and_rule, val_dec, type_dec, datatype_dec, datatype_with, datatype_copy, exception_dec, local_dec, sequence_dec, open_dec, fixity_dec, no_dec, and_dec, bind, no_bind, and_bind, new_exception, exception_copy}
 use Rattle.sml_rules.specs.Every.{Every}
+use Rattle.sml_rules.proofs.Within.{both}
 use Rattle.sml_core_rules.specs.Closing.{ty_variables, tys_variables, ty_field_variables, optional_variables, pat_variables, pats_variables, pat_field_variables, exn_variables, exp_variables, exps_variables, field_variables, rules_variables, dec_variables, decs_variables, unguarded}
 use Rattle.sml_tree_laws.specs.Scoped.{ids, exp_listed, exps_listed, fields_listed, rules_listed, dec_listed, decs_listed, binds_listed, ListsNone, ExpScoped, ExpsScoped, FieldsScoped, RulesScoped, DecScoped, DecsScoped, BindsScoped}
 
 abbrev pub Any : Id → Type 0
 Any x = Unit {0}
-
-pub both : (Q : Id → Type 0) (xs ys : List Id) → Every Q xs → Every Q ys → Every Q (xs ++ ys)
-both Q [] ys h k = k
-both Q (x ∷ xs) ys h k = (h.0, both Q xs ys h.1 k)
 
 module _ (V : Id → Type 0) where
   abbrev mutual

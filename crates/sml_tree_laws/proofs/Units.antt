@@ -3,7 +3,8 @@ use Rattle.std.proofs.Common.{◌≡◌, ℕ, zero, suc, ◌+◌, ◌-◌, ◌<�
 use Rattle.std.specs.Prelude.{slice_get, if◌then◌else◌}
 use Rattle.std.specs.List.{All, before_first, cons_option}
 use Rattle.std.proofs.lemmas.Bool.{false≢true}
-use Rattle.std.proofs.lemmas.List.Elements.{All-nil, All-cons, All-head, All-tail}
+use Rattle.std.proofs.lemmas.List.{take_all}
+use Rattle.std.proofs.lemmas.List.Elements.{All-nil, All-cons, All-weaker}
 use Rattle.sml_lex.specs.declared.fault.Place.{Place}
 use Rattle.sml_lex.specs.declared.token.Kind.{Kind}
 use Rattle.sml_lex.specs.declared.token.Token.{Token}
@@ -160,10 +161,6 @@ good_take (suc n) count m fitted (d ∷ ds) h k =
       good_take n (suc count) m (drop 1 fitted) ds h.1
           (λ q a b. let x = k (suc q) (omega (arith, a)) (omega (arith, b)) in (subst (λ j. IsBefore (suc j) m) (let e : count + suc q ≡ suc count + q = omega arith in e) x.0, fewer_fitted q fitted x.1)),
     )
-
-take_all : {A : Type 0} (xs : List A) → take (length xs) xs ≡ xs
-take_all [] = refl
-take_all (x ∷ xs) = ap (λ ys. x ∷ ys) (take_all xs)
 
 within_take : {A : Type 0} (n q : ℕ) (xs : List A) → q < n → q < length xs → q < length (take n xs)
 within_take zero q xs h k = absurd (omega (arith, h))
@@ -348,7 +345,7 @@ module _ (unit : List ℕ) (tokens : List Token) where
 
     no_flaw : (u : Option Misfit) → unfit ≡ u → EachGood 0 None fitted (bare_decs unit tokens 0 nodes fitted) → AllGood (up_to (before_misfit u) (bare_decs unit tokens 0 nodes fitted))
     no_flaw None e good =
-        subst AllGood (take_all (bare_decs unit tokens 0 nodes fitted))
+        subst AllGood (take_all (length (bare_decs unit tokens 0 nodes fitted)) (bare_decs unit tokens 0 nodes fitted) (omega arith))
         (good_take (length (bare_decs unit tokens 0 nodes fitted)) 0 None fitted (bare_decs unit tokens 0 nodes fitted) good
         (λ q a b. (tt, subst (λ f. q < length f) (sym (fit.are_fitted ∙ ap (λ u. up_to (before_misfit u) (declarations_in fit.outcomes)) e)) (known q b))))
     no_flaw (Some m) e good =
@@ -376,16 +373,8 @@ all_lawful unit tokens end tops decs fault trees =
     subst (All TopLawful) (sym trees.made)
     (none_before _ (subst (λ m. AllGood (up_to (before_misfit m) (bare_decs unit tokens 0 trees.nodes trees.fitted))) (sym trees.is_first) good))
 
-all_scoped : (ds : List (TopDec Place)) → All TopLawful ds → All TopScoped ds
-all_scoped [] h = All-nil TopScoped
-all_scoped (d ∷ ds) h = All-cons TopScoped d ds (All-head TopLawful d ds h).0 (all_scoped ds (All-tail TopLawful d ds h))
-
-all_bound : (ds : List (TopDec Place)) → All TopLawful ds → All TopBound ds
-all_bound [] h = All-nil TopBound
-all_bound (d ∷ ds) h = All-cons TopBound d ds (All-head TopLawful d ds h).1 (all_bound ds (All-tail TopLawful d ds h))
-
 pub scoped_once : VariablesAreScopedOnce
-scoped_once unit tokens end tops decs fault trees = all_scoped tops (all_lawful unit tokens end tops decs fault trees)
+scoped_once unit tokens end tops decs fault trees = All-weaker TopLawful TopScoped (λ d h. h.0) tops (all_lawful unit tokens end tops decs fault trees)
 
 pub well_bound : TreesAreWellBound
-well_bound unit tokens end tops decs fault trees = all_bound tops (all_lawful unit tokens end tops decs fault trees)
+well_bound unit tokens end tops decs fault trees = All-weaker TopLawful TopBound (λ d h. h.1) tops (all_lawful unit tokens end tops decs fault trees)

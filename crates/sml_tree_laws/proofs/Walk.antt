@@ -4,6 +4,7 @@ use Rattle.std.specs.Prelude.{not, nat_lt, ◌&&◌, slice_get, slice_range}
 use Rattle.std.specs.List.{cons_option}
 use Rattle.std.specs.Option.{option_map, is_some}
 use Rattle.std.proofs.lemmas.Bool.{false≢true, lt-ltb, ltb-true, and_parts, and_from}
+use Rattle.std.proofs.lemmas.List.{length-append, drop-drop}
 use Rattle.std.proofs.lemmas.Slice.Eq.{bytes_eq-Decides}
 use Rattle.sml_lex.specs.declared.fault.Place.{Place}
 use Rattle.sml_lex.specs.declared.token.Kind.{Kind}
@@ -156,24 +157,11 @@ size_more (Inner r ∷ nodes) (suc m) (suc n) h = let k = size_more nodes (lengt
 
 -- lists
 
-drop_nothing : {A : Type 0} (n : ℕ) → drop {A = A} n [] ≡ []
-drop_nothing zero = refl
-drop_nothing (suc n) = refl
-
-pub drop_twice : {A : Type 0} (m k n : ℕ) (xs : List A) → n ≡ m + k → drop k (drop m xs) ≡ drop n xs
-drop_twice zero k n xs e = ap (λ j. drop j xs) (let f : k ≡ n = omega (arith, e) in f)
-drop_twice (suc m) k zero xs e = absurd (omega (arith, e))
-drop_twice (suc m) k (suc n) [] e = drop_nothing k
-drop_twice (suc m) k (suc n) (x ∷ xs) e = drop_twice m k n xs (omega (arith, e))
-
 pub below_more : {A : Type 0} (k : ℕ) (xs ys : List A) → k < length xs → k < length (xs ++ ys)
-below_more k [] ys h = absurd (omega (arith, h))
-below_more zero (x ∷ xs) ys h = omega arith
-below_more (suc k) (x ∷ xs) ys h = let l = below_more k xs ys (omega (arith, h)) in omega (arith, l)
+below_more k xs ys h = let l = length-append xs ys in omega (arith, h, l)
 
 pub behind_more : {A : Type 0} (k : ℕ) (xs ys : List A) → k < length ys → length xs + k < length (xs ++ ys)
-behind_more k [] ys h = omega (arith, h)
-behind_more k (x ∷ xs) ys h = let l = behind_more k xs ys h in omega (arith, l)
+behind_more k xs ys h = let l = length-append xs ys in omega (arith, h, l)
 
 pub stands_behind : (m : Mark) (o : Option Mark) (marks : List Mark) → Stands m marks → Stands m (cons_option o marks)
 unfolding Stands
@@ -527,5 +515,5 @@ module _ (s : Source) (tokens : List Token) (all : List Mark) (ends : List ℕ) 
         by_place deeper (suc k) h lo hi el eh =
             let next = ap (λ q. size_of q nodes) (let e : len + suc k ≡ suc (len + k) = omega arith in e) in
             let x = deeper (len + k) (behind_more k (right_side r) ss (omega (arith, h))) lo hi (omega (arith, el)) (omega (arith, eh, next)) in
-            subst (λ q. Claim (get_or cs k start) lo hi (first q)) (sym (drop_twice len k (len + k) vs refl))
+            subst (λ q. Claim (get_or cs k start) lo hi (first q)) (sym (drop-drop k len vs))
             (subst (λ q. Claim q lo hi (at vs (len + k))) (context_behind (roles_of r) (opened (opening_of r) i a c) 0 len cs k (len + k) refl) x)

@@ -47,11 +47,18 @@ fn note(
     Ok(())
 }
 
-/// The numbers of a declaration's sequences by their first tokens, counted from that of the declaration.
-fn by_token(alloc: Global, begun: usize, fits: &[Fit]) -> Result<Vec<Option<usize>>, Memory>
+/// The numbers of a declaration's sequences by their first tokens, counted from that of the declaration. There is room
+/// for so many tokens at once.
+fn by_token(
+    alloc: Global,
+    begun: usize,
+    fits: &[Fit],
+    count: usize,
+) -> Result<Vec<Option<usize>>, Memory>
     ensures { IfOk result (λ table. KnowsFits 0 begun (map fit_of fits.now) table.items) }
 {
     let mut table = Vec::new(alloc);
+    table.reserve(count)?;
     for i in (0..fits.len()).rev() {
         note(&mut table, begun, fits[i].token, i)?;
     }
@@ -64,6 +71,7 @@ fn places(alloc: Global, unit: &[u8], tokens: &[Token], count: usize) -> Result<
 {
     let mut walk = Walk::new(start_of(tokens, 0, 0));
     let mut places = Vec::new(alloc);
+    places.reserve(count)?;
     for n in 0..count {
         places.push(walk.go_to(unit, start_of(tokens, n, 0)))?;
     }
@@ -101,7 +109,7 @@ impl<'a> Source<'a> {
             begun,
             fits,
             places: places(alloc, unit, tokens, count)?,
-            table: by_token(alloc, begun, fits)?,
+            table: by_token(alloc, begun, fits, count)?,
         })
     }
 

@@ -163,8 +163,9 @@ fn push_parts(
 ) -> Result<(), Memory>
     ensures { OnOk result (reverse contexts.new.items ≡ spec.contexts_from roles.now context 0 count ++ reverse contexts.old.items) }
 {
+    contexts.reserve(count)?;
     for index in (0..count).rev() {
-        contexts.push(in_role(role_at(roles, index), context))?;
+        contexts.push_reserved(in_role(role_at(roles, index), context));
     }
     Ok(())
 }

@@ -10,28 +10,41 @@ use Rattle.sml_patterns.specs.declared.judge.Holder.{Holder}
 use Rattle.sml_patterns.specs.declared.judge.Holder.TheVariants.{Fn, Handle, Val}
 use Rattle.sml_patterns.specs.Plain.{Plain, Wild}
 use Rattle.sml_patterns.specs.Shape.{Shape, Matches, World, Column, column, part, IsShape, Fits}
-use Rattle.sml_patterns.specs.Matrix.{is_useful, singles}
+use Rattle.sml_patterns.specs.Matrix.{singles}
 use Rattle.sml_patterns.specs.Warnings.{Rule, AllFit, Escapes, warning, IsRedundant, IsOpen, IsOpenAt, IsWarning}
-use Rattle.sml_patterns.specs.Tasks.{plains, redundant_from, open_at}
+use Rattle.sml_patterns.specs.Tasks.{is_apart, near, is_free, plains, redundant_from, open_at}
 use Rattle.sml_patterns.proofs.Vectors.{Shapes, End, Then, MatchEach, AreShapes, EscapesAll, wild_fits}
 use Rattle.sml_patterns.proofs.Splitting.{FitRows}
 use Rattle.sml_patterns.proofs.Exact.{useful_sound, useful_complete}
+use Rattle.sml_patterns.proofs.Sharing.{none_shared}
 
 abbrev pub Among : {X : Type 0} → X → List X → Type 0
 Among x [] = ⊥
 Among x (y ∷ ys) = (x ≡ y) ⊎ Among x ys
 
-rows_fit_one : (w : World) (c : Column) (rs : List Rule) → AllFit w c rs → FitRows w (c ∷ []) (singles (plains rs))
-rows_fit_one w c [] h = tt
-rows_fit_one w c (r ∷ rs) h = ((h.0, tt), rows_fit_one w c rs h.1)
+-- the patterns near one fit as all do
+near_fit : (w : World) (c : Column) (p : Plain) (rs : List Rule) → AllFit w c rs → FitRows w (c ∷ []) (singles (near p (plains rs)))
+near_fit w c p [] h = tt
+near_fit w c p (r ∷ rs) h = kept_fit (is_apart p r.plain) (near_fit w c p rs h.1) where
+  kept_fit : (b : Bool) → FitRows w (c ∷ []) (singles (near p (plains rs))) → FitRows w (c ∷ []) (singles (cond b (near p (plains rs)) (r.plain ∷ near p (plains rs))))
+  kept_fit true k = k
+  kept_fit false k = ((h.0, tt), k)
 
-escapes_rows : (rs : List Rule) (s : Shape) → Escapes rs s → EscapesAll (singles (plains rs)) (Then s End)
-escapes_rows [] s h = tt
-escapes_rows (r ∷ rs) s h = (λ m. h.0 m.0, escapes_rows rs s h.1)
+-- what escapes all escapes those near a pattern
+escape_near : (p : Plain) (rs : List Rule) (s : Shape) → Escapes rs s → EscapesAll (singles (near p (plains rs))) (Then s End)
+escape_near p [] s h = tt
+escape_near p (r ∷ rs) s h = kept_escape (is_apart p r.plain) (escape_near p rs s h.1) where
+  kept_escape : (b : Bool) → EscapesAll (singles (near p (plains rs))) (Then s End) → EscapesAll (singles (cond b (near p (plains rs)) (r.plain ∷ near p (plains rs)))) (Then s End)
+  kept_escape true k = k
+  kept_escape false k = (λ m. h.0 m.0, k)
 
-rows_escape : (rs : List Rule) (s : Shape) → EscapesAll (singles (plains rs)) (Then s End) → Escapes rs s
-rows_escape [] s h = tt
-rows_escape (r ∷ rs) s h = (λ m. h.0 (m, tt), rows_escape rs s h.1)
+-- and what it matches and escapes those near it escapes all
+near_escape : (p : Plain) (rs : List Rule) (s : Shape) → Matches p s → EscapesAll (singles (near p (plains rs))) (Then s End) → Escapes rs s
+near_escape p [] s m h = tt
+near_escape p (r ∷ rs) s m h = all_escape (is_apart p r.plain) refl h (λ k. near_escape p rs s m k) where
+  all_escape : (b : Bool) → is_apart p r.plain ≡ b → EscapesAll (singles (cond b (near p (plains rs)) (r.plain ∷ near p (plains rs)))) (Then s End) → (EscapesAll (singles (near p (plains rs))) (Then s End) → Escapes rs s) → Escapes (r ∷ rs) s
+  all_escape true e k on = (λ n. none_shared p r.plain s e m n, on k)
+  all_escape false e k on = (λ n. k.0 (n, tt), on k.1)
 
 fit_append : (w : World) (c : Column) (xs ys : List Rule) → AllFit w c xs → AllFit w c ys → AllFit w c (xs ++ ys)
 fit_append w c [] ys h k = k
@@ -77,20 +90,20 @@ append_nil [] = refl
 append_nil (x ∷ xs) = ap (λ l. x ∷ l) (append_nil xs)
 
 module _ (w : World) (c : Column) where
-  useful_one : (above : List Rule) (p : Plain) (v : Shapes) → AreShapes w (c ∷ []) v → MatchEach (p ∷ []) v → EscapesAll (singles (plains above)) v → (s : Shape) × IsShape w (part w c) s × Matches p s × Escapes above s
+  useful_one : (above : List Rule) (p : Plain) (v : Shapes) → AreShapes w (c ∷ []) v → MatchEach (p ∷ []) v → EscapesAll (singles (near p (plains above))) v → (s : Shape) × IsShape w (part w c) s × Matches p s × Escapes above s
   useful_one above p End i m n = absurd i
-  useful_one above p (Then s End) i m n = (s, i.0, m.0, rows_escape above s n)
+  useful_one above p (Then s End) i m n = (s, i.0, m.0, near_escape p above s m.0 n)
   useful_one above p (Then s (Then t v)) i m n = absurd i.1
 
   -- what the search says of one pattern
-  found : (above : List Rule) (p : Plain) → AllFit w c above → Fits w c.depth c.type p → is_useful (singles (plains above)) (p ∷ []) ≡ true → (s : Shape) × IsShape w (part w c) s × Matches p s × Escapes above s
+  found : (above : List Rule) (p : Plain) → AllFit w c above → Fits w c.depth c.type p → is_free (plains above) p ≡ true → (s : Shape) × IsShape w (part w c) s × Matches p s × Escapes above s
   found above p h k t =
-      let u = useful_sound w (c ∷ []) (singles (plains above)) (p ∷ []) (rows_fit_one w c above h) (k, tt) t in
+      let u = useful_sound w (c ∷ []) (singles (near p (plains above))) (p ∷ []) (near_fit w c p above h) (k, tt) t in
       useful_one above p u.0 u.1 u.2 u.3
 
-  finds : (above : List Rule) (p : Plain) → AllFit w c above → Fits w c.depth c.type p → (s : Shape) → IsShape w (part w c) s → Matches p s → Escapes above s → is_useful (singles (plains above)) (p ∷ []) ≡ true
+  finds : (above : List Rule) (p : Plain) → AllFit w c above → Fits w c.depth c.type p → (s : Shape) → IsShape w (part w c) s → Matches p s → Escapes above s → is_free (plains above) p ≡ true
   finds above p h k s i m n =
-      useful_complete w (c ∷ []) (singles (plains above)) (p ∷ []) (rows_fit_one w c above h) (k, tt) (Then s End, (i, tt), (m, tt), escapes_rows above s n)
+      useful_complete w (c ∷ []) (singles (near p (plains above))) (p ∷ []) (near_fit w c p above h) (k, tt) (Then s End, (i, tt), (m, tt), escape_near p above s n)
 
   abbrev pub IsRedundantRule : List Rule → List Rule → Warning → Type 0
   IsRedundantRule first rules x =
@@ -99,14 +112,14 @@ module _ (w : World) (c : Column) where
   redundant_to : (first rules : List Rule) → AllFit w c first → AllFit w c rules → (x : Warning) → Among x (redundant_from first rules) → IsRedundantRule first rules x
   redundant_to first [] h k x i = absurd i
   redundant_to first (r ∷ rs) h k x i =
-      elim (among_append x (cond (is_useful (singles (plains first)) (r.plain ∷ [])) [] (warning r.place P1 ∷ [])) (redundant_from (first ++ r ∷ []) rs) i) [
+      elim (among_append x (cond (is_free (plains first) r.plain) [] (warning r.place P1 ∷ [])) (redundant_from (first ++ r ∷ []) rs) i) [
         | inl y ↦ redundant_here y
         | inr y ↦ redundant_later (redundant_to (first ++ r ∷ []) rs (fit_append w c first (r ∷ []) h (k.0, tt)) k.1 x y)
       ]
     where
-      redundant_here : Among x (cond (is_useful (singles (plains first)) (r.plain ∷ [])) [] (warning r.place P1 ∷ [])) → IsRedundantRule first (r ∷ rs) x
+      redundant_here : Among x (cond (is_free (plains first) r.plain) [] (warning r.place P1 ∷ [])) → IsRedundantRule first (r ∷ rs) x
       redundant_here y =
-          let z = among_unless x (warning r.place P1) (is_useful (singles (plains first)) (r.plain ∷ [])) y in
+          let z = among_unless x (warning r.place P1) (is_free (plains first) r.plain) y in
           ([], r, rs, refl, z.0, λ s t m n. true_false (sym (finds first r.plain h k.0 s t m (subst (λ l. Escapes l s) (append_nil first) n)) ∙ z.1))
 
       redundant_later : IsRedundantRule (first ++ r ∷ []) rs x → IsRedundantRule first (r ∷ rs) x
@@ -115,32 +128,32 @@ module _ (w : World) (c : Column) where
 
   redundant_fro : (above first : List Rule) (r : Rule) (below : List Rule) → AllFit w c first → AllFit w c (above ++ r ∷ below) → (x : Warning) → x ≡ warning r.place P1 → IsRedundant w c (first ++ above) r → Among x (redundant_from first (above ++ r ∷ below))
   redundant_fro [] first r below h k x i j =
-      among_left x (cond (is_useful (singles (plains first)) (r.plain ∷ [])) [] (warning r.place P1 ∷ [])) (redundant_from (first ++ r ∷ []) below)
-      (unless_among x (warning r.place P1) (is_useful (singles (plains first)) (r.plain ∷ [])) i
+      among_left x (cond (is_free (plains first) r.plain) [] (warning r.place P1 ∷ [])) (redundant_from (first ++ r ∷ []) below)
+      (unless_among x (warning r.place P1) (is_free (plains first) r.plain) i
       (λ t. let f = found first r.plain h k.0 t in j f.0 f.1 f.2 (subst (λ l. Escapes l f.0) (sym (append_nil first)) f.3)))
   redundant_fro (q ∷ above) first r below h k x i j =
-      among_right x (cond (is_useful (singles (plains first)) (q.plain ∷ [])) [] (warning q.place P1 ∷ [])) (redundant_from (first ++ q ∷ []) (above ++ r ∷ below))
+      among_right x (cond (is_free (plains first) q.plain) [] (warning q.place P1 ∷ [])) (redundant_from (first ++ q ∷ []) (above ++ r ∷ below))
       (redundant_fro above (first ++ q ∷ []) r below (fit_append w c first (q ∷ []) h (k.0, tt)) k.1 x i (subst (λ l. IsRedundant w c l r) (sym (append_assoc first (q ∷ []) above)) j))
 
-  open_of : (rules : List Rule) → AllFit w c rules → is_useful (singles (plains rules)) (Wild ∷ []) ≡ true → IsOpen w c rules
+  open_of : (rules : List Rule) → AllFit w c rules → is_free (plains rules) Wild ≡ true → IsOpen w c rules
   open_of rules h t =
       let f = found rules Wild h (wild_fits w c.depth c.type) t in (f.0, f.1, f.3)
 
-  of_open : (rules : List Rule) → AllFit w c rules → IsOpen w c rules → is_useful (singles (plains rules)) (Wild ∷ []) ≡ true
+  of_open : (rules : List Rule) → AllFit w c rules → IsOpen w c rules → is_free (plains rules) Wild ≡ true
   of_open rules h o =
       finds rules Wild h (wild_fits w c.depth c.type) o.0 o.1 tt o.2
 
   open_to : (rules : List Rule) → AllFit w c rules → (h : Holder) (x : Warning) → Among x (open_at rules h) → IsOpenAt w c rules h x
   open_to rules f (Fn p) x i =
-      let z = among_cond x (warning p P2) (is_useful (singles (plains rules)) (Wild ∷ [])) i in (z.0, open_of rules f z.1)
+      let z = among_cond x (warning p P2) (is_free (plains rules) Wild) i in (z.0, open_of rules f z.1)
   open_to rules f (Handle p) x i = absurd i
   open_to rules f (Val p) x i =
-      let z = among_cond x (warning p P3) (is_useful (singles (plains rules)) (Wild ∷ [])) i in (z.0, open_of rules f z.1)
+      let z = among_cond x (warning p P3) (is_free (plains rules) Wild) i in (z.0, open_of rules f z.1)
 
   open_fro : (rules : List Rule) → AllFit w c rules → (h : Holder) (x : Warning) → IsOpenAt w c rules h x → Among x (open_at rules h)
-  open_fro rules f (Fn p) x i = cond_among x (warning p P2) (is_useful (singles (plains rules)) (Wild ∷ [])) i.0 (of_open rules f i.1)
+  open_fro rules f (Fn p) x i = cond_among x (warning p P2) (is_free (plains rules) Wild) i.0 (of_open rules f i.1)
   open_fro rules f (Handle p) x i = absurd i
-  open_fro rules f (Val p) x i = cond_among x (warning p P3) (is_useful (singles (plains rules)) (Wild ∷ [])) i.0 (of_open rules f i.1)
+  open_fro rules f (Val p) x i = cond_among x (warning p P3) (is_free (plains rules) Wild) i.0 (of_open rules f i.1)
 
   pub judged_to : (h : Holder) (rules : List Rule) → AllFit w c rules → (x : Warning) → Among x (open_at rules h ++ redundant_from [] rules) → IsWarning w c h rules x
   judged_to h rules f x i =

@@ -11,5 +11,7 @@ pub mod Rows
 pub mod Known
 pub mod Trees
 pub mod Work
+pub mod Sharing
 pub mod Judged
-pub mod Apart
+pub mod NewKeys
+pub mod Collecting

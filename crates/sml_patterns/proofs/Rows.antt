@@ -17,7 +17,7 @@ use Rattle.sml_patterns.specs.declared.pattern.Pattern.{Pattern}
 use Rattle.sml_patterns.specs.Plain.{Plain, Wild, Row, Empty, Labelled, field}
 use Rattle.sml_patterns.specs.Matrix.{has_label, with_label, with_row}
 use Rattle.sml_patterns.specs.Views.{row_on, plain_of}
-use Rattle.sml_patterns.specs.Tasks.{line, is_among, labels_of}
+use Rattle.sml_patterns.specs.Tasks.{line, is_among, labels_of, outer_apart, rows_apart}
 use Rattle.sml_patterns.proofs.Labels.{field_here, field_there}
 use Rattle.sml_patterns.proofs.Lines.{line_push}
 
@@ -62,6 +62,18 @@ field_on x ls fs k l h e i n =
     let s : suc k ≡ k + 1 = omega arith in
     let q = some_at fs k i in
     ap (field x) (row_goes ls fs k l q.0 h e (subst (λ m. drop k fs ≡ q.0 ∷ drop m fs) s q.1)) ∙ field_there x (ident_of l) (plain_of q.0) (row_from ls fs (k + 1)) (not_from_Decides (bytes_eq (ident_of l) x) (bytes_eq-Decides (ident_of l) x) n)
+
+-- whether two rows are apart at a label, from this index on
+pub apart_ends : (ls : List Key) (fs : List Pattern) (k : ℕ) (row other : Row) → length fs ≤ k → rows_apart (row_from ls fs k) row other ≡ false
+apart_ends ls fs k row other h = ap (λ r. rows_apart r row other) (row_ends ls fs k h)
+
+pub apart_here : (ls : List Key) (fs : List Pattern) (k : ℕ) (l : Key) (row other : Row) (p q : Plain) (b : Bool) → k < length ls → l ≡ get_or ls k l → k < length fs → p ≡ field (ident_of l) row → q ≡ field (ident_of l) other → b ≡ outer_apart p q
+    → rows_apart (row_from ls fs k) row other ≡ (b || rows_apart (row_from ls fs (k + 1)) row other)
+apart_here ls fs k l row other p q b h e i f g a =
+    let s : suc k ≡ k + 1 = omega arith in
+    let x = some_at fs k i in
+    ap (λ r. rows_apart r row other) (row_goes ls fs k l x.0 h e (subst (λ m. drop k fs ≡ x.0 ∷ drop m fs) s x.1))
+    ∙ ap (λ c. c || rows_apart (row_from ls fs (k + 1)) row other) (sym (a ∙ ap (λ r. outer_apart r q) f ∙ ap (outer_apart (field (ident_of l) row)) g))
 
 -- the labels, with one more
 pub labels_push : (ls : List (Bor Key)) (l : Bor Key) → labels_of (ls ++ l ∷ []) ≡ ident_of l.now ∷ labels_of ls

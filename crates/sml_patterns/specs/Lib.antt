@@ -5,3 +5,4 @@ pub mod Warnings
 pub mod Matrix
 pub mod Views
 pub mod Tasks
+pub mod Keys

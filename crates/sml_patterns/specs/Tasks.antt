@@ -1,5 +1,5 @@
 -- The rows, heads and problems that the code keeps. A row has its first column last.
-use Rattle.std.specs.Prelude.{ℕ, Bool, true, false, nat_eq, List, [], ◌∷◌, ◌++◌, map, reverse, Option, Some, None, Vec, cond}
+use Rattle.std.specs.Prelude.{ℕ, Bool, true, false, nat_eq, List, [], ◌∷◌, ◌++◌, ◌||◌, map, reverse, Option, Some, None, Vec, cond}
 use Rattle.std.specs.List.{list_any}
 use Rattle.std.specs.Str.{bytes_eq}
 use Rattle.std.specs.Borrow.{Bor}
@@ -22,7 +22,7 @@ use Rattle.sml_patterns.specs.declared.judge.Judged.{Judged}
 use Rattle.sml_patterns.specs.declared.judge.Finding.{Finding}
 use Rattle.sml_patterns.specs.declared.judge.Flaw.{Flaw}
 use Rattle.sml_patterns.specs.declared.judge.Flaw.TheVariants.{Redundant, OpenMatch, OpenBinding}
-use Rattle.sml_patterns.specs.Plain.{Plain, Wild, Made, Valued, value_eq}
+use Rattle.sml_patterns.specs.Plain.{Plain, Wild, Made, Fields, Valued, value_eq, Row, Empty, Labelled, field}
 use Rattle.sml_patterns.specs.Warnings.{Rule, warning}
 use Rattle.sml_patterns.specs.Matrix.{Head, AtConstructor, AtRow, AtValue, AtOther, Problem, problem, below, is_useful, singles}
 use Rattle.sml_patterns.specs.Views.{value_of, plain_of}
@@ -83,26 +83,42 @@ abbrev pub plains : List Rule → List Plain
 plains rules = map (λ r. r.plain) rules
 
 -- whether two patterns match no shape together, by their outermost constructors or values alone
+abbrev pub outer_apart : Plain → Plain → Bool
+outer_apart (Made k n p) (Made j m q) = cond (nat_eq j k) false true
+outer_apart (Valued v p) (Valued u q) = cond (value_eq u v) false true
+outer_apart (Made k n p) (Valued u q) = true
+outer_apart (Valued v p) (Made j m q) = true
+outer_apart p q = false
+
+-- whether two rows have such patterns at one of these labels
+abbrev pub rows_apart : Row → Row → Row → Bool
+rows_apart Empty fs gs = false
+rows_apart (Labelled l p more) fs gs = outer_apart (field l fs) (field l gs) || rows_apart more fs gs
+
+-- whether two patterns match no shape together, by what stands outermost in them, or in two rows at one label
 abbrev pub is_apart : Plain → Plain → Bool
-is_apart (Made k n p) (Made j m q) = cond (nat_eq j k) false true
-is_apart (Valued v p) (Valued u q) = cond (value_eq u v) false true
-is_apart p q = false
+is_apart (Fields fs) (Fields gs) = rows_apart fs fs gs
+is_apart p q = outer_apart p q
 
 -- the patterns that aren't apart from this one
 abbrev pub near : Plain → List Plain → List Plain
 near p [] = []
 near p (q ∷ qs) = cond (is_apart p q) (near p qs) (q ∷ near p qs)
 
+-- whether the search finds a shape that the pattern matches and these don't
+abbrev pub is_free : List Plain → Plain → Bool
+is_free above p = is_useful (singles (near p above)) (p ∷ [])
+
 -- the warnings that the search gives: of the rules behind the first ones, and of them all
 abbrev pub redundant_from : List Rule → List Rule → List Warning
 redundant_from above [] = []
 redundant_from above (r ∷ rs) =
-    cond (is_useful (singles (plains above)) (r.plain ∷ [])) [] (warning r.place P1 ∷ []) ++ redundant_from (above ++ r ∷ []) rs
+    cond (is_free (plains above) r.plain) [] (warning r.place P1 ∷ []) ++ redundant_from (above ++ r ∷ []) rs
 
 abbrev pub open_at : List Rule → Holder → List Warning
-open_at rules (Fn p) = cond (is_useful (singles (plains rules)) (Wild ∷ [])) (warning p P2 ∷ []) []
+open_at rules (Fn p) = cond (is_free (plains rules) Wild) (warning p P2 ∷ []) []
 open_at rules (Handle p) = []
-open_at rules (Val p) = cond (is_useful (singles (plains rules)) (Wild ∷ [])) (warning p P3 ∷ []) []
+open_at rules (Val p) = cond (is_free (plains rules) Wild) (warning p P3 ∷ []) []
 
 abbrev pub flaw_warning : Place → Flaw → Warning
 flaw_warning p Redundant = warning p P1

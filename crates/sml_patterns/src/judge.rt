@@ -1,18 +1,20 @@
 //! The warnings of a match or a binding.
 
-ghost use Rattle.std.specs.Prelude.{◌≡◌, ℕ, true, ◌↔◌, List, ◌++◌, ◌∷◌, [], IfOk};
+ghost use Rattle.std.specs.Prelude.{◌≡◌, ℕ, true, ◌↔◌, List, ◌++◌, ◌∷◌, [], IfOk, OnOk};
 ghost use Rattle.std.specs.List.{Contains};
 ghost use Rattle.std.specs.List.Sorted.{IsStrictlySortedBy};
 ghost use Rattle.sml_patterns.specs.Plain.{Wild};
 ghost use Rattle.sml_patterns.specs.Shape.{World, column};
 ghost use Rattle.sml_patterns.specs.Warnings as W;
 ghost use Rattle.sml_patterns.specs.Warnings.{AreRules, AllFit, IsWarning, warning_cmp};
-ghost use Rattle.sml_patterns.specs.Matrix.{is_useful, singles};
 ghost use Rattle.sml_patterns.specs.Views.{meanings, plain_of};
-ghost use Rattle.sml_patterns.specs.Tasks.{rules_of, plains, redundant_from, open_at, warning_of, warnings_of};
+ghost use Rattle.sml_patterns.specs.Keys.{Knows};
+ghost use Rattle.sml_patterns.specs.Tasks.{is_free, rules_of, plains, redundant_from, open_at, warning_of, warnings_of};
 
+use crate::apart::is_apart;
+use crate::keys::Keys;
 use crate::names::Names;
-use crate::pattern::{Pattern, is_apart};
+use crate::pattern::Pattern;
 use crate::plain::plain;
 use crate::search::is_useful;
 use sml_lex::fault::{Code, Memory, Place, Warning};
@@ -81,11 +83,11 @@ fn escapes<'a>(
     pattern: &'a Pattern,
 ) -> Result<bool, Memory>
     requires { plain_of any.now ≡ Wild }
-    ensures { IfOk result (λ yes. yes ≡ is_useful (singles (plains (rules_of rules.now))) (plain_of pattern.now ∷ [])) }
+    ensures { IfOk result (λ yes. yes ≡ is_free (plains (rules_of rules.now)) (plain_of pattern.now)) }
 {
     let mut rows = Vec::new(alloc);
     for rule in rules {
-        if !is_apart(pattern, &rule.pattern) {
+        if !is_apart(any, pattern, &rule.pattern) {
             let mut row = Vec::new(alloc);
             row.push(&rule.pattern)?;
             rows.push(row)?;
@@ -94,6 +96,25 @@ fn escapes<'a>(
     let mut question = Vec::new(alloc);
     question.push(pattern)?;
     is_useful(alloc, any, rows, question)
+}
+
+/// Whether some shape that a rule's pattern matches escapes the rules above it, whose keys are known; its own is noted.
+fn escapes_above(
+    alloc: Global,
+    any: &Pattern,
+    keys: &mut Keys,
+    above: &[Judged],
+    pattern: &Pattern,
+) -> Result<bool, Memory>
+    requires { plain_of any.now ≡ Wild }
+    ensures knows { Knows (plains (rules_of above.now)) keys.old → OnOk result (Knows (plains (rules_of above.now) ++ plain_of pattern.now ∷ []) keys.new) }
+    ensures yes { Knows (plains (rules_of above.now)) keys.old → IfOk result (λ yes. yes ≡ is_free (plains (rules_of above.now)) (plain_of pattern.now)) }
+{
+    if keys.note(pattern)? {
+        escapes(alloc, any, &[], pattern)
+    } else {
+        escapes(alloc, any, above, pattern)
+    }
 }
 
 /// What the whole match or binding lacks, if it does.
@@ -135,9 +156,10 @@ fn collect(
     ensures { IfOk result (λ found. warnings_of found.items ≡ open_at (rules_of rules.now) holder ++ redundant_from [] (rules_of rules.now)) }
 {
     let mut found = open(alloc, any, holder, rules)?;
+    let mut keys = Keys::new(alloc);
     for index in 0..rules.len() {
         let rule = &rules[index];
-        if !escapes(alloc, any, &rules[..index], &rule.pattern)? {
+        if !escapes_above(alloc, any, &mut keys, &rules[..index], &rule.pattern)? {
             found.push(finding_at(rule.place, Flaw::Redundant))?;
         }
     }

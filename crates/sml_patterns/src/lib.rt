@@ -1,7 +1,9 @@
 // Redundant rules, and matches and bindings that aren't exhaustive.
 #![tactic(auto)]
 
+mod apart;
 pub mod judge;
+mod keys;
 pub mod names;
 mod narrow;
 mod pattern;

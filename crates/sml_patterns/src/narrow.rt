@@ -1,6 +1,7 @@
 //! Rows of patterns, and how their first column is split and narrowed. A row has its first column last.
 
-ghost use Rattle.std.specs.Prelude.{◌≡◌, ◌++◌, map, cond, IfOk, IfSome, Some, None};
+ghost use Rattle.std.specs.Prelude.{◌≡◌, ◌++◌, map, true, IfOk, IfSome, Some};
+ghost use Rattle.std.specs.Option.{is_some};
 ghost use Rattle.std.specs.Str.{bytes_eq};
 ghost use Rattle.sml_tree.specs.Views.{ident_of};
 ghost use Rattle.sml_patterns.specs.Plain.{Wild, Empty, field};
@@ -36,7 +37,7 @@ fn is_same(one: &Ident, other: &Ident) -> bool
 }
 
 /// The pattern at a label; a wildcard where none is written.
-fn field<'a>(
+pub fn field<'a>(
     any: &'a Pattern,
     labels: &[Ident],
     fields: &'a [Pattern],
@@ -88,57 +89,58 @@ fn push_fields<'a>(
     Ok(())
 }
 
-/// Puts what stands below `pattern` at the head in front of the row; `false` where the head isn't the pattern's.
+/// Whether a pattern covers the head.
+fn covers(head: &Head, pattern: &Pattern) -> bool
+    ensures { result ≡ is_some (replace (head_of head.now) (plain_of pattern.now)) }
+{
+    match pattern {
+        Pattern::Any => match head {
+            Head::AtConstructor(_) | Head::AtRow(_) | Head::AtValue(_) | Head::AtOther => true,
+        },
+        Pattern::Built { number, .. } => match head {
+            Head::AtConstructor(wanted) => *number == *wanted,
+            _ => false,
+        },
+        Pattern::Row { .. } => match head {
+            Head::AtRow(_) => true,
+            _ => false,
+        },
+        Pattern::Valued { value, .. } => match head {
+            Head::AtValue(wanted) => is_same_value(value, wanted),
+            _ => false,
+        },
+    }
+}
+
+/// Puts what stands below a pattern that covers the head in front of the row.
 fn push_narrowed<'a>(
     row: &mut Vec<&'a Pattern>,
     any: &'a Pattern,
     head: &Head<'a>,
     pattern: &'a Pattern,
-) -> Result<bool, Memory>
+) -> Result<(), Memory>
     requires { plain_of any.now ≡ Wild }
-    ensures { IfOk result (λ kept. onto (line row.old.items) (replace (head_of head.now) (plain_of pattern.now)) ≡ cond kept (Some (line row.new.items)) None) }
+    ensures { is_some (replace (head_of head.now) (plain_of pattern.now)) ≡ true →
+        IfOk result (λ _. onto (line row.old.items) (replace (head_of head.now) (plain_of pattern.now)) ≡ Some (line row.new.items)) }
 {
     match pattern {
         Pattern::Any => match head {
-            Head::AtConstructor(_) | Head::AtValue(_) => {
-                row.push(any)?;
-                Ok(true)
-            }
-            Head::AtRow(labels) => {
-                push_wildcards(row, any, labels)?;
-                Ok(true)
-            }
-            Head::AtOther => Ok(true),
+            Head::AtConstructor(_) | Head::AtValue(_) => row.push(any)?,
+            Head::AtRow(labels) => push_wildcards(row, any, labels)?,
+            Head::AtOther => {}
         },
-        Pattern::Built {
-            number,
-            argument,
-            ..
-        } => match head {
-            Head::AtConstructor(wanted) if *number == *wanted => {
-                row.push(argument)?;
-                Ok(true)
-            }
-            _ => Ok(false),
-        },
+        Pattern::Built { argument, .. } => row.push(argument)?,
         Pattern::Row {
             labels: own,
             fields,
-        } => match head {
-            Head::AtRow(labels) => {
+        } => {
+            if let Head::AtRow(labels) = head {
                 push_fields(row, any, labels, own, fields)?;
-                Ok(true)
             }
-            _ => Ok(false),
-        },
-        Pattern::Valued { value, argument } => match head {
-            Head::AtValue(wanted) if is_same_value(value, wanted) => {
-                row.push(argument)?;
-                Ok(true)
-            }
-            _ => Ok(false),
-        },
+        }
+        Pattern::Valued { argument, .. } => row.push(argument)?,
     }
+    Ok(())
 }
 
 /// The row narrowed to the head, if the row's first pattern covers it.
@@ -151,17 +153,16 @@ pub fn narrow<'a>(
     requires { plain_of any.now ≡ Wild }
     ensures { IfOk result (λ kept. narrow (head_of head.now) (line row.now) ≡ kept_line kept) }
 {
-    let mut narrowed = Vec::from_slice(alloc, row)?;
-    match narrowed.pop() {
-        None => Ok(None),
-        Some(pattern) => {
-            if push_narrowed(&mut narrowed, any, head, pattern)? {
-                Ok(Some(narrowed))
-            } else {
-                Ok(None)
-            }
-        }
+    let Some(pattern) = row.last() else {
+        return Ok(None);
+    };
+    if !covers(head, pattern) {
+        return Ok(None);
     }
+    let mut narrowed = Vec::from_slice(alloc, row)?;
+    narrowed.pop();
+    push_narrowed(&mut narrowed, any, head, pattern)?;
+    Ok(Some(narrowed))
 }
 
 /// The rows that cover the head, narrowed to it.

@@ -2,8 +2,7 @@
 
 ghost use Rattle.std.specs.Prelude.{◌≡◌};
 ghost use Rattle.sml_patterns.specs.Plain.{value_eq};
-ghost use Rattle.sml_patterns.specs.Tasks.{is_apart};
-ghost use Rattle.sml_patterns.specs.Views.{plain_of, value_of};
+ghost use Rattle.sml_patterns.specs.Views.{value_of};
 
 use sml_tree::bare::Ident;
 
@@ -50,19 +49,6 @@ pub fn is_same_value(one: &Value, other: &Value) -> bool
         (Value::Character(m), Value::Character(n)) => m == n,
         (Value::Text(s), Value::Text(t)) => s.as_slice() == t.as_slice(),
         (Value::Exception(s), Value::Exception(t)) => s.as_slice() == t.as_slice(),
-        _ => false,
-    }
-}
-
-/// Whether two patterns match no shape together, by their outermost constructors or values alone.
-pub fn is_apart(one: &Pattern, other: &Pattern) -> bool
-    ensures { result ≡ is_apart (plain_of one.now) (plain_of other.now) }
-{
-    match (one, other) {
-        (Pattern::Built { number: m, .. }, Pattern::Built { number: n, .. }) => n != m,
-        (Pattern::Valued { value: u, .. }, Pattern::Valued { value: v, .. }) => {
-            !is_same_value(v, u)
-        }
         _ => false,
     }
 }

@@ -10,8 +10,8 @@ pub loop-n-init : goal.loop-n-init
 loop-n-init c = record {
   sound = c.new-walk.ensures.sound c.args.unit.now;
   start = c.new-walk.ensures.start ∙ c.start_of.ensures;
-  kept = subst (ArePlaced c.args.unit.now c.args.tokens.now) (sym c.new-places.ensures.items) (none_placed c.args.unit.now c.args.tokens.now);
-  count = ap length c.new-places.ensures.items;
+  kept = subst (ArePlaced c.args.unit.now c.args.tokens.now) (sym (c.reserve.ensures.items ∙ c.new-places.ensures.items)) (none_placed c.args.unit.now c.args.tokens.now);
+  count = ap length (c.reserve.ensures.items ∙ c.new-places.ensures.items);
 }
 
 pub loop-n-preserved : goal.loop-n-preserved

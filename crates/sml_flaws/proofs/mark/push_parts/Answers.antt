@@ -10,6 +10,7 @@ loop-index-preserved c =
     let w = inv.within in
     record {
       kept = parts_on c.args.roles.now c.args.context c.loop-index.index c.args.count _ _ _ inv.kept
-          (c.in_ok-push.ensures.items ∙ ap (λ x. c.loop-index.contexts.items ++ x ∷ []) (c.in_role.ensures ∙ ap (λ r. in_role r c.args.context) c.role_at.ensures)) (omega (arith, t)) w;
+          (c.push_reserved.ensures.items ∙ ap (λ x. c.loop-index.contexts.items ++ x ∷ []) (c.in_role.ensures ∙ ap (λ r. in_role r c.args.context) c.role_at.ensures)) (omega (arith, t)) w;
       within = omega (arith, w);
+      room = omega (arith, inv.room, c.push_reserved.ensures.len, c.push_reserved.ensures.capacity, t);
     }

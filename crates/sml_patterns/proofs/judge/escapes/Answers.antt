@@ -1,7 +1,7 @@
-use Rattle.std.proofs.Common.{rules, arith}
+use Rattle.std.proofs.Common.{rules}
 use Rattle.sml_patterns.specs.Tasks.{line, lines}
 use Rattle.sml_patterns.specs.Views.{plain_of}
-use Rattle.sml_patterns.proofs.Apart.{answered}
+use Rattle.sml_patterns.proofs.Sharing.{answered}
 use Rattle.sml_patterns.proofs.judge.escapes.Goals as goal
 
 pub returns : goal.returns

@@ -9,7 +9,7 @@ use Rattle.sml_patterns.specs.declared.judge.Flaw.TheVariants.{Redundant}
 use Rattle.sml_patterns.specs.declared.judge.Judged.{Judged}
 use Rattle.sml_patterns.specs.Views.{plain_of}
 use Rattle.sml_patterns.specs.Warnings.{warning}
-use Rattle.sml_patterns.specs.Tasks.{is_free, plains, rule_of, rules_of, redundant_from, warning_of, warnings_of}
+use Rattle.sml_patterns.specs.CodeTasks.{is_free, plains, rule_of, rules_of, redundant_from, warning_of, warnings_of}
 
 warnings_last : (fs : List Finding) (f : Finding) → warnings_of (fs ++ f ∷ []) ≡ warnings_of fs ++ warning_of f ∷ []
 warnings_last [] f = refl

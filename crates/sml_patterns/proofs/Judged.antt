@@ -12,7 +12,7 @@ use Rattle.sml_patterns.specs.Plain.{Plain, Wild}
 use Rattle.sml_patterns.specs.Shape.{Shape, Matches, World, Column, column, part, IsShape, Fits}
 use Rattle.sml_patterns.specs.Matrix.{singles}
 use Rattle.sml_patterns.specs.Warnings.{Rule, AllFit, Escapes, warning, IsRedundant, IsOpen, IsOpenAt, IsWarning}
-use Rattle.sml_patterns.specs.Tasks.{is_apart, near, is_free, plains, redundant_from, open_at}
+use Rattle.sml_patterns.specs.CodeTasks.{is_apart, near, is_free, plains, redundant_from, open_at}
 use Rattle.sml_patterns.proofs.Vectors.{Shapes, End, Then, MatchEach, AreShapes, EscapesAll, wild_fits}
 use Rattle.sml_patterns.proofs.Splitting.{FitRows}
 use Rattle.sml_patterns.proofs.Exact.{useful_sound, useful_complete}

@@ -4,7 +4,7 @@ use Rattle.std.proofs.lemmas.List.{reverse-append, map-append}
 use Rattle.std.specs.Borrow.{Bor}
 use Rattle.sml_patterns.specs.declared.pattern.Pattern.{Pattern}
 use Rattle.sml_patterns.specs.Views.{plain_of}
-use Rattle.sml_patterns.specs.Tasks.{pointee, line}
+use Rattle.sml_patterns.specs.CodeTasks.{pointee, line}
 
 pub line_push : (ps : List (Bor Pattern)) (p : Bor Pattern) → line (ps ++ p ∷ []) ≡ plain_of p.now ∷ line ps
 line_push ps p = ap reverse (map-append pointee ps (p ∷ [])) ∙ reverse-append (map pointee ps) (plain_of p.now ∷ [])

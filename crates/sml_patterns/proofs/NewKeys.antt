@@ -7,10 +7,10 @@ use Rattle.std.proofs.lemmas.Slice.Eq.{bytes_eq-Decides}
 use Rattle.std.proofs.lemmas.Bool.Decides.{Decides-int_eq, Decides-eqb}
 use Rattle.sml_patterns.specs.Plain.{Value, value_eq, Plain, Wild, Made, Fields, Valued}
 use Rattle.sml_patterns.specs.Matrix.{is_useful, singles}
-use Rattle.sml_patterns.specs.Tasks.{is_apart, near, is_free}
+use Rattle.sml_patterns.specs.CodeTasks.{is_apart, near, is_free}
 use Rattle.sml_lex.specs.declared.fault.Memory.{Memory}
 use Rattle.sml_patterns.specs.declared.keys.Key as P
-use Rattle.sml_patterns.specs.Keys.{Key, key_of, value_key, same, is_key, has_key, have_keys, is_new, key_in, same_key}
+use Rattle.sml_patterns.specs.CodeKeys.{Key, key_of, value_key, same, is_key, has_key, have_keys, is_new, key_in, same_key}
 use Rattle.sml_patterns.proofs.Values.{value_tells}
 
 swap : (a b c : Bool) → (if a then true else if b then true else c) ≡ (if b then true else if a then true else c)

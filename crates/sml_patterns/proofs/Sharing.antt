@@ -13,7 +13,7 @@ use Rattle.sml_patterns.specs.Plain.{Value, value_eq, Plain, Wild, Made, Fields,
 use Rattle.sml_patterns.specs.Shape.{Shape, Cut, OfConstructor, OfRow, OfValue, Other, Matches}
 use Rattle.sml_patterns.specs.Matrix.{is_useful, singles}
 use Rattle.sml_patterns.specs.Views.{plain_of}
-use Rattle.sml_patterns.specs.Tasks.{outer_apart, rows_apart, is_apart, near, is_free, plains, rules_of}
+use Rattle.sml_patterns.specs.CodeTasks.{outer_apart, rows_apart, is_apart, near, is_free, plains, rules_of}
 use Rattle.sml_patterns.proofs.Values.{value_self}
 
 made_apart : (b : Bool) (j k : ℕ) → nat_eq j k ≡ b → cond b false true ≡ true → j ≡ k → ⊥

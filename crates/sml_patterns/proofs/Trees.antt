@@ -28,7 +28,7 @@ use Rattle.sml_patterns.specs.Views.{row_on, plain_layer, plain_of}
 use Rattle.std.specs.Borrow.{Bor}
 use Rattle.sml_patterns.specs.declared.judge.Judged.{Judged}
 use Rattle.sml_patterns.specs.Warnings.{Rule, AreRules}
-use Rattle.sml_patterns.specs.Tasks.{rule_of, rules_of}
+use Rattle.sml_patterns.specs.CodeTasks.{rule_of, rules_of}
 use Rattle.sml_patterns.proofs.Rows.{Key}
 
 pat_of-row : (p : Place) (v : Vec PatField Global) (b : Bool) → pat_of (V.Row p v b) ≡ T.pat_row p (pat_fields_of (map pat_field_of v.items)) b

@@ -9,7 +9,7 @@ use Rattle.sml_patterns.specs.declared.narrow.Split.TheVariants.{Below}
 use Rattle.std.specs.List.{list_any}
 use Rattle.std.proofs.lemmas.List.{map-append}
 use Rattle.sml_patterns.specs.declared.search.Task.{Task}
-use Rattle.sml_patterns.specs.Tasks.{line, lines, problem_of, problems, split_heads}
+use Rattle.sml_patterns.specs.CodeTasks.{line, lines, problem_of, problems, split_heads}
 use Rattle.sml_patterns.specs.Plain.{Plain}
 use Rattle.sml_patterns.specs.Matrix.{Head, AtConstructor, Problem, narrow, narrow_all, with_problem, narrowed, below, first_of, heads, successors_of, successors, is_won, solve, sum_of, problem_weight, is_useful}
 use Rattle.sml_patterns.proofs.Weights.{EachProblem, successors_fall, solve_same, each_map}

@@ -4,5 +4,5 @@ pub mod Shape
 pub mod Warnings
 pub mod Matrix
 pub mod Views
-pub mod Tasks
-pub mod Keys
+pub mod CodeTasks
+pub mod CodeKeys

@@ -4,7 +4,7 @@ ghost use Rattle.std.specs.Prelude.{◌≡◌, map};
 ghost use Rattle.sml_tree.specs.Views.{ident_of};
 ghost use Rattle.sml_patterns.specs.Plain.{Wild, Empty};
 ghost use Rattle.sml_patterns.specs.Views.{row_on, plain_of};
-ghost use Rattle.sml_patterns.specs.Tasks as spec;
+ghost use Rattle.sml_patterns.specs.CodeTasks as spec;
 
 use crate::narrow::field;
 use crate::pattern::{Pattern, is_same_value};

@@ -8,8 +8,8 @@ ghost use Rattle.sml_patterns.specs.Shape.{World, column};
 ghost use Rattle.sml_patterns.specs.Warnings as W;
 ghost use Rattle.sml_patterns.specs.Warnings.{AreRules, AllFit, IsWarning, warning_cmp};
 ghost use Rattle.sml_patterns.specs.Views.{meanings, plain_of};
-ghost use Rattle.sml_patterns.specs.Keys.{Knows};
-ghost use Rattle.sml_patterns.specs.Tasks.{is_free, rules_of, plains, redundant_from, open_at, warning_of, warnings_of};
+ghost use Rattle.sml_patterns.specs.CodeKeys.{Knows};
+ghost use Rattle.sml_patterns.specs.CodeTasks.{is_free, rules_of, plains, redundant_from, open_at, warning_of, warnings_of};
 
 use crate::apart::is_apart;
 use crate::keys::Keys;

@@ -4,8 +4,8 @@ ghost use Rattle.std.specs.Prelude.{◌≡◌, List, [], ◌∷◌, ◌++◌, If
 ghost use Rattle.std.specs.Option.{option_map};
 ghost use Rattle.sml_patterns.specs.Plain.{Plain};
 ghost use Rattle.sml_patterns.specs.Views.{plain_of, value_of};
-ghost use Rattle.sml_patterns.specs.Keys as spec;
-ghost use Rattle.sml_patterns.specs.Keys.{key_in, is_new, Knows};
+ghost use Rattle.sml_patterns.specs.CodeKeys as spec;
+ghost use Rattle.sml_patterns.specs.CodeKeys.{key_in, is_new, Knows};
 
 use crate::pattern::{Pattern, Value};
 use indexmap::IndexSet;

@@ -7,7 +7,7 @@ ghost use Rattle.sml_tree.specs.Views.{ident_of};
 ghost use Rattle.sml_patterns.specs.Plain.{Wild, Empty, field};
 ghost use Rattle.sml_patterns.specs.Matrix.{replace, onto, field_in, wild_at, narrow, narrow_all, first_of, first_kind, is_made, has, has_below, with_label, with_row, with_plain, column_labels, spread, heads};
 ghost use Rattle.sml_patterns.specs.Views.{row_on, plain_of};
-ghost use Rattle.sml_patterns.specs.Tasks.{line, lines, kept_line, plain_at, IsNamed, labels_of, is_among, head_of, split_heads};
+ghost use Rattle.sml_patterns.specs.CodeTasks.{line, lines, kept_line, plain_at, IsNamed, labels_of, is_among, head_of, split_heads};
 
 use crate::pattern::{Pattern, Value, is_same_value};
 use sml_lex::fault::Memory;
@@ -143,6 +143,34 @@ fn push_narrowed<'a>(
     Ok(())
 }
 
+/// Whether the row's first pattern covers the head.
+fn is_covered(head: &Head, row: &[&Pattern]) -> bool
+    ensures { result ≡ is_some (narrow (head_of head.now) (line row.now)) }
+{
+    match row.last() {
+        Some(pattern) => covers(head, pattern),
+        None => false,
+    }
+}
+
+/// A row that covers the head, narrowed to it.
+fn narrowed<'a>(
+    alloc: Global,
+    any: &'a Pattern,
+    head: &Head<'a>,
+    row: &[&'a Pattern],
+) -> Result<Vec<&'a Pattern>, Memory>
+    requires { plain_of any.now ≡ Wild }
+    ensures { is_some (narrow (head_of head.now) (line row.now)) ≡ true →
+        IfOk result (λ r. narrow (head_of head.now) (line row.now) ≡ Some (line r.items)) }
+{
+    let mut narrowed = Vec::from_slice(alloc, row)?;
+    if let Some(pattern) = narrowed.pop() {
+        push_narrowed(&mut narrowed, any, head, pattern)?;
+    }
+    Ok(narrowed)
+}
+
 /// The row narrowed to the head, if the row's first pattern covers it.
 pub fn narrow<'a>(
     alloc: Global,
@@ -153,16 +181,10 @@ pub fn narrow<'a>(
     requires { plain_of any.now ≡ Wild }
     ensures { IfOk result (λ kept. narrow (head_of head.now) (line row.now) ≡ kept_line kept) }
 {
-    let Some(pattern) = row.last() else {
-        return Ok(None);
-    };
-    if !covers(head, pattern) {
+    if !is_covered(head, row) {
         return Ok(None);
     }
-    let mut narrowed = Vec::from_slice(alloc, row)?;
-    narrowed.pop();
-    push_narrowed(&mut narrowed, any, head, pattern)?;
-    Ok(Some(narrowed))
+    Ok(Some(narrowed(alloc, any, head, row)?))
 }
 
 /// The rows that cover the head, narrowed to it.
@@ -177,8 +199,8 @@ pub fn narrow_all<'a>(
 {
     let mut all = Vec::new(alloc);
     for row in rows {
-        if let Some(narrowed) = narrow(alloc, any, head, row)? {
-            all.push(narrowed)?;
+        if is_covered(head, row) {
+            all.push(narrowed(alloc, any, head, row)?)?;
         }
     }
     Ok(all)

@@ -2,7 +2,7 @@ use Rattle.std.proofs.Common.{rules, ◌||◌, ◌+◌, ap, sym, ◌∙◌, map}
 use Rattle.sml_tree.specs.Views.{ident_of}
 use Rattle.sml_patterns.specs.Plain.{Empty}
 use Rattle.sml_patterns.specs.Views.{row_on, plain_of}
-use Rattle.sml_patterns.specs.Tasks.{rows_apart}
+use Rattle.sml_patterns.specs.CodeTasks.{rows_apart}
 use Rattle.sml_patterns.proofs.Rows.{row_from, apart_ends, apart_here}
 use Rattle.sml_patterns.proofs.apart.rows_apart.Goals as goal
 

@@ -3,7 +3,7 @@ use Rattle.std.proofs.Common.{◌≡◌, map, drop}
 use Rattle.sml_tree.specs.Views.{ident_of}
 use Rattle.sml_patterns.specs.Plain.{Empty}
 use Rattle.sml_patterns.specs.Views.{row_on, plain_of}
-use Rattle.sml_patterns.specs.Tasks.{rows_apart}
+use Rattle.sml_patterns.specs.CodeTasks.{rows_apart}
 use Rattle.sml_patterns.proofs.apart.rows_apart.Given as goal
 
 abbrev pub invariant-loop-index : goal.invariant-loop-index

@@ -1,6 +1,6 @@
 use Rattle.std.proofs.Common.{rules, sym, subst}
-use Rattle.sml_patterns.specs.Tasks.{warnings_of}
-use Rattle.sml_patterns.specs.Keys.{Knows}
+use Rattle.sml_patterns.specs.CodeTasks.{warnings_of}
+use Rattle.sml_patterns.specs.CodeKeys.{Knows}
 use Rattle.sml_patterns.proofs.Collecting.{next_plains, found_next, pushed}
 use Rattle.sml_patterns.proofs.judge.collect.Goals as goal
 use Rattle.sml_patterns.proofs.judge.collect.Goals.{then-not-branch+in_ok-push, else-not-branch}

@@ -1,7 +1,7 @@
 -- What is found of the rules so far stands, and their keys are known.
 use Rattle.std.proofs.Common.{◌≡◌, ◌++◌, [], take, drop}
-use Rattle.sml_patterns.specs.Tasks.{open_at, plains, redundant_from, rules_of, warnings_of}
-use Rattle.sml_patterns.specs.Keys.{Knows}
+use Rattle.sml_patterns.specs.CodeTasks.{open_at, plains, redundant_from, rules_of, warnings_of}
+use Rattle.sml_patterns.specs.CodeKeys.{Knows}
 use Rattle.sml_patterns.proofs.judge.collect.Given as goal
 
 abbrev pub invariant-loop-index : goal.invariant-loop-index

@@ -1,5 +1,5 @@
 use Rattle.std.proofs.Common.{rules}
-use Rattle.sml_patterns.specs.Tasks.{line, lines}
+use Rattle.sml_patterns.specs.CodeTasks.{line, lines}
 use Rattle.sml_patterns.specs.Views.{plain_of}
 use Rattle.sml_patterns.proofs.Sharing.{answered}
 use Rattle.sml_patterns.proofs.judge.escapes.Goals as goal

@@ -1,5 +1,5 @@
 use Rattle.std.proofs.Common.{◌≡◌, ◌++◌, drop}
-use Rattle.sml_patterns.specs.Tasks.{lines, near, plains, rules_of}
+use Rattle.sml_patterns.specs.CodeTasks.{lines, near, plains, rules_of}
 use Rattle.sml_patterns.specs.Matrix.{singles}
 use Rattle.sml_patterns.specs.Views.{plain_of}
 use Rattle.sml_patterns.proofs.judge.escapes.Given as goal

@@ -1,4 +1,4 @@
-use Rattle.sml_patterns.specs.Tasks.{plains, rules_of}
+use Rattle.sml_patterns.specs.CodeTasks.{plains, rules_of}
 use Rattle.sml_patterns.specs.Views.{plain_of}
 use Rattle.sml_patterns.proofs.NewKeys.{escaped}
 use Rattle.sml_patterns.proofs.judge.escapes_above.Goals as goal

@@ -5,7 +5,7 @@ use Rattle.sml_patterns.specs.declared.judge.Flaw.{Flaw}
 use Rattle.sml_patterns.specs.declared.judge.Flaw.TheVariants.{Redundant, OpenMatch, OpenBinding}
 use Rattle.sml_patterns.specs.contracts.judge.FindingOrd.TheImpl.{cmp-value}
 use Rattle.sml_patterns.specs.Warnings.{warning_cmp}
-use Rattle.sml_patterns.specs.Tasks.{rules_of, warning_of, warnings_of}
+use Rattle.sml_patterns.specs.CodeTasks.{rules_of, warning_of, warnings_of}
 use Rattle.sml_patterns.proofs.Judged.{judged_by, map_rises}
 use Rattle.sml_patterns.proofs.judge.judge.Goals as goal
 

@@ -1,7 +1,7 @@
 use Rattle.std.proofs.Common.{◌≡◌, ◌++◌, List, drop}
 use Rattle.sml_patterns.specs.Warnings.{Rule, AreRules}
 use Rattle.sml_patterns.specs.Views.{meanings}
-use Rattle.sml_patterns.specs.Tasks.{rules_of}
+use Rattle.sml_patterns.specs.CodeTasks.{rules_of}
 use Rattle.sml_patterns.proofs.judge.rules.Given as goal
 
 abbrev pub invariant-loop-written : goal.invariant-loop-written

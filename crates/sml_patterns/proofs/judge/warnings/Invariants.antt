@@ -1,5 +1,5 @@
 use Rattle.std.proofs.Common.{◌≡◌, take}
-use Rattle.sml_patterns.specs.Tasks.{warnings_of}
+use Rattle.sml_patterns.specs.CodeTasks.{warnings_of}
 use Rattle.sml_patterns.proofs.judge.warnings.Given as goal
 
 abbrev pub invariant-loop-found : goal.invariant-loop-found

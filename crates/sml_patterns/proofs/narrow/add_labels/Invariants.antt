@@ -3,7 +3,7 @@ use Rattle.sml_tree.specs.Views.{ident_of}
 use Rattle.sml_patterns.specs.Plain.{Empty}
 use Rattle.sml_patterns.specs.Matrix.{with_row}
 use Rattle.sml_patterns.specs.Views.{row_on, plain_of}
-use Rattle.sml_patterns.specs.Tasks.{labels_of}
+use Rattle.sml_patterns.specs.CodeTasks.{labels_of}
 use Rattle.sml_patterns.proofs.narrow.add_labels.Given as goal
 
 abbrev pub invariant-loop-index : goal.invariant-loop-index

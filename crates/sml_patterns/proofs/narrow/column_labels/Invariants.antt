@@ -1,6 +1,6 @@
 use Rattle.std.proofs.Common.{◌≡◌, drop}
 use Rattle.sml_patterns.specs.Matrix.{column_labels, with_column}
-use Rattle.sml_patterns.specs.Tasks.{lines, plain_at, labels_of}
+use Rattle.sml_patterns.specs.CodeTasks.{lines, plain_at, labels_of}
 use Rattle.sml_patterns.proofs.narrow.column_labels.Given as goal
 
 abbrev pub invariant-loop-row : goal.invariant-loop-row

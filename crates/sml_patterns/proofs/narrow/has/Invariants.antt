@@ -1,5 +1,5 @@
 use Rattle.std.proofs.Common.{◌≡◌, drop}
-use Rattle.sml_patterns.specs.Tasks.{lines}
+use Rattle.sml_patterns.specs.CodeTasks.{lines}
 use Rattle.sml_patterns.specs.Matrix.{has}
 use Rattle.sml_patterns.proofs.narrow.has.Given as goal
 

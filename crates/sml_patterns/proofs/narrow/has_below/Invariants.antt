@@ -1,5 +1,5 @@
 use Rattle.std.proofs.Common.{◌≡◌}
-use Rattle.sml_patterns.specs.Tasks.{lines}
+use Rattle.sml_patterns.specs.CodeTasks.{lines}
 use Rattle.sml_patterns.specs.Matrix.{has_below}
 use Rattle.sml_patterns.proofs.narrow.has_below.Given as goal
 

@@ -1,6 +1,6 @@
 use Rattle.std.proofs.Common.{◌≡◌, drop}
 use Rattle.sml_tree.specs.Views.{ident_of}
-use Rattle.sml_patterns.specs.Tasks.{is_among}
+use Rattle.sml_patterns.specs.CodeTasks.{is_among}
 use Rattle.sml_patterns.proofs.narrow.has_label.Given as goal
 
 abbrev pub invariant-loop-other : goal.invariant-loop-other

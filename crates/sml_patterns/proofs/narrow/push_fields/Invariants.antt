@@ -3,7 +3,7 @@ use Rattle.sml_tree.specs.Views.{ident_of}
 use Rattle.sml_patterns.specs.Plain.{Empty}
 use Rattle.sml_patterns.specs.Matrix.{field_in}
 use Rattle.sml_patterns.specs.Views.{row_on, plain_of}
-use Rattle.sml_patterns.specs.Tasks.{line, labels_of}
+use Rattle.sml_patterns.specs.CodeTasks.{line, labels_of}
 use Rattle.sml_patterns.proofs.narrow.push_fields.Given as goal
 
 abbrev pub invariant-loop-label : goal.invariant-loop-label

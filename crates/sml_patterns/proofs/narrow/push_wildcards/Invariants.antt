@@ -1,6 +1,6 @@
 use Rattle.std.proofs.Common.{◌≡◌, ◌++◌, map, take}
 use Rattle.sml_patterns.specs.Matrix.{wild_at}
-use Rattle.sml_patterns.specs.Tasks.{line, labels_of}
+use Rattle.sml_patterns.specs.CodeTasks.{line, labels_of}
 use Rattle.sml_patterns.proofs.narrow.push_wildcards.Given as goal
 
 abbrev pub invariant-loop-label : goal.invariant-loop-label

@@ -1,5 +1,5 @@
 use Rattle.std.proofs.Common.{◌≡◌}
-use Rattle.sml_patterns.specs.Tasks.{line, lines, problems}
+use Rattle.sml_patterns.specs.CodeTasks.{line, lines, problems}
 use Rattle.sml_patterns.specs.Matrix.{is_useful}
 use Rattle.sml_patterns.proofs.Work.{answer_any, total}
 use Rattle.sml_patterns.proofs.search.is_useful.Given as goal

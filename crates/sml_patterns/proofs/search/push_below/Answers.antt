@@ -1,4 +1,4 @@
-use Rattle.sml_patterns.specs.Tasks.{line, lines, problems}
+use Rattle.sml_patterns.specs.CodeTasks.{line, lines, problems}
 use Rattle.sml_patterns.proofs.Work.{below_kept}
 use Rattle.sml_patterns.proofs.search.push_below.Goals as goal
 

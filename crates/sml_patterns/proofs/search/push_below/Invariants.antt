@@ -1,5 +1,5 @@
 use Rattle.std.proofs.Common.{◌≡◌, ◌++◌}
-use Rattle.sml_patterns.specs.Tasks.{line, lines, problems}
+use Rattle.sml_patterns.specs.CodeTasks.{line, lines, problems}
 use Rattle.sml_patterns.specs.Matrix.{narrowed, below}
 use Rattle.sml_patterns.proofs.search.push_below.Given as goal
 

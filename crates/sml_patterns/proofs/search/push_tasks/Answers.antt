@@ -1,4 +1,4 @@
-use Rattle.sml_patterns.specs.Tasks.{problems}
+use Rattle.sml_patterns.specs.CodeTasks.{problems}
 use Rattle.sml_patterns.proofs.Work.{if_pushed}
 use Rattle.sml_patterns.proofs.search.push_tasks.Goals as goal
 

@@ -1,7 +1,7 @@
 use Rattle.std.proofs.Common.{rules}
 use Rattle.indexmap.specs.IndexSet.{contains}
 use Rattle.sml_patterns.specs.Views.{plain_of}
-use Rattle.sml_patterns.specs.Keys.{same_key}
+use Rattle.sml_patterns.specs.CodeKeys.{same_key}
 use Rattle.sml_patterns.proofs.NewKeys.{still_known, now_known}
 use Rattle.sml_patterns.proofs.keys.Keys.note.Goals as goal
 

@@ -1,6 +1,6 @@
 -- What is found at the next rule, and its key.
-use Rattle.std.proofs.Common.{◌≡◌, ℕ, ◌+◌, ◌<◌, List, [], ◌∷◌, ◌++◌, append_assoc, length, take, drop, get_or, cond, Bool, false, refl, ap, sym, ◌∙◌}
-use Rattle.std.proofs.lemmas.List.{take_more, drop_more}
+use Rattle.std.proofs.Common.{◌≡◌, ℕ, ◌+◌, ◌<◌, List, [], ◌∷◌, ◌++◌, append_assoc, length, take, drop, get_or, cond, Bool, false, ap, sym, ◌∙◌}
+use Rattle.std.proofs.lemmas.List.{map-append, take_more, drop_more}
 use Rattle.sml_lex.specs.declared.fault.Code.TheVariants.{P1}
 use Rattle.sml_lex.specs.declared.fault.Place.{Place}
 use Rattle.sml_lex.specs.declared.fault.Warning.{Warning}
@@ -8,12 +8,11 @@ use Rattle.sml_patterns.specs.declared.judge.Finding.{Finding}
 use Rattle.sml_patterns.specs.declared.judge.Flaw.TheVariants.{Redundant}
 use Rattle.sml_patterns.specs.declared.judge.Judged.{Judged}
 use Rattle.sml_patterns.specs.Views.{plain_of}
-use Rattle.sml_patterns.specs.Warnings.{warning}
+use Rattle.sml_patterns.specs.Warnings.{Rule, warning}
 use Rattle.sml_patterns.specs.CodeTasks.{is_free, plains, rule_of, rules_of, redundant_from, warning_of, warnings_of}
 
 warnings_last : (fs : List Finding) (f : Finding) → warnings_of (fs ++ f ∷ []) ≡ warnings_of fs ++ warning_of f ∷ []
-warnings_last [] f = refl
-warnings_last (g ∷ fs) f = ap (λ ws. warning_of g ∷ ws) (warnings_last fs f)
+warnings_last fs f = map-append warning_of fs (f ∷ [])
 
 -- what is found where no shape escapes
 pub pushed : (old new : List Finding) (f : Finding) (p : Place) (free : Bool) → new ≡ old ++ f ∷ [] → f ≡ record { line = p.line; column = p.column; flaw = Redundant } → free ≡ false
@@ -21,13 +20,11 @@ pub pushed : (old new : List Finding) (f : Finding) (p : Place) (free : Bool) �
 pushed old new f p free n e g =
     ap warnings_of n ∙ warnings_last old f ∙ ap (λ x. warnings_of old ++ warning_of x ∷ []) e ∙ ap (λ b. warnings_of old ++ cond b [] (warning p P1 ∷ [])) (sym g)
 
-plains_last : (rs : List Judged) (r : Judged) → plains (rules_of (rs ++ r ∷ [])) ≡ plains (rules_of rs) ++ plain_of r.pattern ∷ []
-plains_last [] r = refl
-plains_last (q ∷ rs) r = ap (λ ps. plain_of q.pattern ∷ ps) (plains_last rs r)
-
 rules_last : (rs : List Judged) (r : Judged) → rules_of (rs ++ r ∷ []) ≡ rules_of rs ++ rule_of r ∷ []
-rules_last [] r = refl
-rules_last (q ∷ rs) r = ap (λ xs. rule_of q ∷ xs) (rules_last rs r)
+rules_last rs r = map-append rule_of rs (r ∷ [])
+
+plains_last : (rs : List Judged) (r : Judged) → plains (rules_of (rs ++ r ∷ [])) ≡ plains (rules_of rs) ++ plain_of r.pattern ∷ []
+plains_last rs r = ap plains (rules_last rs r) ∙ map-append (λ (q : Rule). q.plain) (rules_of rs) (rule_of r ∷ [])
 
 module _ (rules : List Judged) (i : ℕ) (r : Judged) (within : i < length rules) (here : get_or rules i r ≡ r) where
   taken : take (i + 1) rules ≡ take i rules ++ r ∷ []

@@ -2,7 +2,7 @@
 use Rattle.std.proofs.Common.{◌≡◌, List, [], ◌∷◌, ◌++◌, Bool, true, false, Option, Some, None, cond, refl, ap, sym, subst, ◌∙◌, inl, inr}
 use Rattle.std.specs.Prelude.{not, ◌&&◌, ◌==◌, if◌then◌else◌, IfOk, Result, Ok, Err}
 use Rattle.std.specs.Option.{is_some}
-use Rattle.std.proofs.lemmas.Bool.{false≢true}
+use Rattle.std.proofs.lemmas.Bool.{and_parts, not-true, false≢true}
 use Rattle.std.proofs.lemmas.Slice.Eq.{bytes_eq-Decides}
 use Rattle.std.proofs.lemmas.Bool.Decides.{Decides-int_eq, Decides-eqb}
 use Rattle.sml_patterns.specs.Plain.{Value, value_eq, Plain, Wild, Made, Fields, Valued}
@@ -99,17 +99,12 @@ none_near_by p k e (q ∷ above) o h =
     ap (λ b. cond b (near p above) (q ∷ near p above)) (apart_by_keys p q (subst (λ x. differ x (key_of q) ≡ true) (sym e) f.apart))
     ∙ none_near_by p k e above f.have f.lacks
 
-both_of : (a b : Bool) → (a && not b) ≡ true → (a ≡ true) × (b ≡ false)
-both_of true true h = absurd cc
-both_of true false h = (refl, refl)
-both_of false _ h = absurd cc
-
 none_near_at : (p : Plain) (above : List Plain) (x : Option Key) → key_of p ≡ x → is_new above p ≡ true → near p above ≡ []
 none_near_at p above None e h = absurd (let f : false ≡ true = subst (λ x. elim x [ None ↦ false | Some k ↦ have_keys above && not (has_key above k) ] ≡ true) e h in cc)
 none_near_at p above (Some k) e h =
     let f : (have_keys above && not (has_key above k)) ≡ true = subst (λ x. elim x [ None ↦ false | Some k ↦ have_keys above && not (has_key above k) ] ≡ true) e h in
-    let g = both_of (have_keys above) (has_key above k) f in
-    none_near_by p k e above g.0 g.1
+    let g = and_parts (have_keys above) (not (has_key above k)) f in
+    none_near_by p k e above g.0 (not-true (has_key above k) g.1)
 
 -- a pattern whose key is new is as free of those above it as of none
 pub new_aside : (p : Plain) (above : List Plain) → is_new above p ≡ true → is_free [] p ≡ is_free above p

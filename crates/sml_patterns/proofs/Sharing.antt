@@ -1,9 +1,9 @@
 -- No shape is matched by two patterns that are apart.
-use Rattle.std.proofs.Common.{◌≡◌, ℕ, ◌+◌, ◌<◌, List, [], ◌∷◌, ◌≤◌, ◌++◌, append-nil, length, drop, get_or, cond, Bool, true, false, ◌||◌, ◌⊎◌, inl, inr, refl, ap, sym, subst, ◌∙◌}
+use Rattle.std.proofs.Common.{◌≡◌, ℕ, ◌+◌, ◌<◌, List, [], ◌∷◌, ◌≤◌, ◌++◌, append-nil, length, drop, get_or, cond, Bool, true, false, inl, inr, refl, ap, sym, subst, ◌∙◌}
 use Rattle.std.specs.Prelude.{nat_eq}
 use Rattle.std.specs.Prelude.{IfOk, Result, Ok, Err}
 use Rattle.std.proofs.Math.ListN.{drop_of_length-le}
-use Rattle.std.proofs.lemmas.Bool.{false≢true}
+use Rattle.std.proofs.lemmas.Bool.{false≢true, or_cases}
 use Rattle.std.proofs.lemmas.Bool.Decides.{Decides-eqb}
 use Rattle.std.proofs.lemmas.List.{drop_more}
 use Rattle.sml_tree.specs.Trees.{Id}
@@ -52,13 +52,9 @@ outer_share (Valued v p) (Valued u q) (OfRow g) h m o = m
 outer_share (Valued v p) (Valued u q) (OfValue w s) h m o = values_apart (value_eq u v) u v refl h (sym o.0 ∙ m.0)
 outer_share (Valued v p) (Valued u q) Other h m o = m
 
-either : (a b : Bool) → (a || b) ≡ true → (a ≡ true) ⊎ (b ≡ true)
-either true b h = inl refl
-either false b h = inr h
-
 rows_share : (walk fs gs : Row) (g : Id → Shape) → rows_apart walk fs gs ≡ true → ((l : Id) → Matches (field l fs) (g l)) → ((l : Id) → Matches (field l gs) (g l)) → ⊥
 rows_share Empty fs gs g h m n = false≢true h
-rows_share (Labelled l p more) fs gs g h m n = elim (either (outer_apart (field l fs) (field l gs)) (rows_apart more fs gs) h) [
+rows_share (Labelled l p more) fs gs g h m n = elim (or_cases (outer_apart (field l fs) (field l gs)) (rows_apart more fs gs) h) [
   | inl e ↦ outer_share (field l fs) (field l gs) (g l) e (m l) (n l)
   | inr e ↦ rows_share more fs gs g e m n
 ]

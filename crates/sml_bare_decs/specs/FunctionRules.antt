@@ -1,6 +1,7 @@
 -- What the rules of functions and their clauses make of their parts (the Definition, section 2.8 and appendix A).
 use Rattle.std.specs.Prelude.{List, [], Option, Some, None}
 use Rattle.sml_lex.specs.declared.fault.Place.{Place}
+use Rattle.sml_lex.specs.Faults.{first_place}
 use Rattle.sml_tree.specs.Trees.{Id}
 use Rattle.sml_tree.specs.Types.{Ty}
 use Rattle.sml_tree.specs.Patterns.{Pat, Pats, pat_name, pat_bracket, pat_apply, no_pat, and_pat}
@@ -8,7 +9,7 @@ use Rattle.sml_tree.specs.Expressions.{Exp, ValBind, ValBinds, tuple, no_exp, an
 use Rattle.sml_fixity.specs.declared.heads.Head.TheVariants.{Prefix, Infix, Bracketed}
 use Rattle.sml_tree.specs.Clauses.{Clause}
 use Rattle.sml_derived.specs.Derived.{function_of}
-use Rattle.sml_phrases.specs.Phrases.{Phrase, of_functions, of_right_side, of_round_functions, first_place}
+use Rattle.sml_phrases.specs.Phrases.{Phrase, of_functions, of_right_side, of_round_functions}
 use Rattle.sml_fixity.specs.Shapes.{Shape, headed}
 use Rattle.sml_pat_sequences.specs.RoundPatterns.{round_pat}
 use Rattle.sml_pat_sequences.specs.PatternSequences.{pat_place, paired}

@@ -13,7 +13,7 @@ ghost use Rattle.sml_phrases.specs.PhraseViews.{seen};
 ghost use Rattle.sml_bare_decs.specs.DeclarationRules.{values_in, functions_in, atoms_in, datatypes_in, typ_bind_in, exn_bind_in, long_if_any, constructors_if_any};
 ghost use Rattle.sml_bare_decs.specs.DeclarationViews.{constructors_of};
 
-use sml_lex::fault::{Memory, Place};
+use sml_lex::fault::{FIRST, Memory};
 use sml_phrases::low::{LowBinds, LowConBinds, LowDatBinds, LowPats, LowTy, LowTypBinds, LowTys};
 use sml_phrases::phrase::{DeclarationPhrase, PatternPhrase, Phrase, TypePhrase, discard};
 use sml_phrases::stack::Stack;
@@ -229,7 +229,7 @@ pub fn pop_typ_bind(stack: &mut Stack) -> Result<TypeBinding, Memory>
         }),
         other => {
             discard(other);
-            let place = Place { line: 1, column: 1 };
+            let place = FIRST;
             let ident = Rc::new(stack.alloc, Vec::new(stack.alloc))?;
             let ty = LowTy {
                 tree: Ty::Tuple(place, Vec::new(stack.alloc)),
@@ -256,7 +256,7 @@ pub fn pop_exn_bind(stack: &mut Stack) -> Result<LowExnBind, Memory>
         }),
         other => {
             discard(other);
-            let place = Place { line: 1, column: 1 };
+            let place = FIRST;
             let ident = Rc::new(stack.alloc, Vec::new(stack.alloc))?;
             Ok(new_exception(Name { place, ident }, None))
         }

@@ -25,7 +25,7 @@ use crate::clause_heads::{ClauseHead, heading};
 use crate::declaration_lists::and_bind;
 use sml_derived::expander::Expander;
 use sml_fixity::shape::Shape;
-use sml_lex::fault::{Memory, Place};
+use sml_lex::fault::{FIRST, Memory, Place};
 use sml_pat_sequences::low_lists::and_pat;
 use sml_pat_sequences::pattern_sequences::pat_place;
 use sml_pat_sequences::round_patterns::round_pat;
@@ -229,7 +229,7 @@ pub fn pop_right_side(stack: &mut Stack) -> RightSide
                 trees: Vec::new(stack.alloc),
                 height: 0,
             };
-            let tree = Exp::Tuple(Place { line: 1, column: 1 }, Vec::new(stack.alloc));
+            let tree = Exp::Tuple(FIRST, Vec::new(stack.alloc));
             RightSide {
                 pats,
                 result: None,

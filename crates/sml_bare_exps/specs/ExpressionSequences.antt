@@ -3,13 +3,13 @@
 -- the end) stands for an expression with all the operands that there are.
 use Rattle.std.specs.Prelude.{List, [], ◌∷◌, get_or, set, Option, Some}
 use Rattle.sml_lex.specs.declared.fault.Place.{Place}
+use Rattle.sml_lex.specs.Faults.{first_place}
 use Rattle.sml_tree.specs.Names.{Name}
 use Rattle.sml_tree.specs.Types.{Tys, no_ty, and_ty}
 use Rattle.sml_tree.specs.Expressions.{Exp, Exps, constant, name, row, tuple, let_in, bracket, apply, typed, handle, raise, fn, no_exp, and_exp}
 use Rattle.sml_fixity.specs.declared.sequences.Step.{Step}
 use Rattle.sml_fixity.specs.declared.sequences.Step.TheVariants.{Push, Apply, Combine}
 use Rattle.sml_derived.specs.Derived.{infix_of}
-use Rattle.sml_phrases.specs.Phrases.{first_place}
 use Rattle.sml_fixity.specs.Shapes.{Shape, tree}
 
 -- the place of an expression's first token

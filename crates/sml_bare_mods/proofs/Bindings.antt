@@ -14,7 +14,7 @@ use Rattle.sml_tree.specs.declared.structures.StrDec.TheFolds.{fold-roll-StrBind
 use Rattle.sml_tree.specs.declared.structures.StrBind as Program
 use Rattle.sml_tree.specs.declared.structures.StrBind.{roll-StrBind}
 use Rattle.sml_derived.specs.Derived.{open_functor}
-use Rattle.sml_phrases.specs.Phrases.{Phrase, of_open_fun_bind, of_open_functor, of_open_sig_bind, of_open_str_bind, at, first, fun_binds_in, fun_constraints_in, sig_binds_in, sig_wheres_in, str_binds_in, str_constraints_in}
+use Rattle.sml_phrases.specs.Phrases.{Phrase, of_begun_fun_bind, of_begun_functor, of_begun_sig_bind, of_begun_str_bind, at, first, fun_binds_in, fun_constraints_in, sig_binds_in, sig_wheres_in, str_binds_in, str_constraints_in}
 use Rattle.sml_phrases.specs.PhraseViews.{Gives}
 use Rattle.sml_phrases.specs.declared.phrase.Failure.{Failure}
 use Rattle.sml_bare_mods.proofs.Pushes.{pushed}
@@ -31,7 +31,7 @@ own_grows p (c ∷ cs) e = omega arith
 -- signature bindings
 
 pub sig_bind_made : (v a : List Phrase) (x : Name Place) (s whole : SigExp Place) (ws : List (WhereType Place)) (bs : List (SigBind Place))
-    → of_open_sig_bind x s ≡ first v → a ≡ drop 1 v → ws ≡ sig_wheres_in (first a) → bs ≡ sig_binds_in (first a) → whole ≡ with_wheres s ws
+    → of_begun_sig_bind x s ≡ first v → a ≡ drop 1 v → ws ≡ sig_wheres_in (first a) → bs ≡ sig_binds_in (first a) → whole ≡ with_wheres s ws
     → record { name = x; signature = whole } ∷ bs ≡ sig_binds (at v 0) (at v 1)
 sig_bind_made v a x s whole ws bs h p ws-is bs-is made =
     ap (λ z. record { name = x; signature = z } ∷ bs) (made ∙ ap (with_wheres s) (ws-is ∙ ap (λ l. sig_wheres_in (first l)) p))
@@ -39,7 +39,7 @@ sig_bind_made v a x s whole ws bs h p ws-is bs-is made =
     ∙ ap (λ f. sig_binds f (at v 1)) h
 
 pub sig_bind_within : (v a : List Phrase) (x : Name Place) (s : SigExp Place) (ws : List (WhereType Place)) (bs : List (SigBind Place))
-    → of_open_sig_bind x s ≡ first v → a ≡ drop 1 v → ws ≡ sig_wheres_in (first a) → bs ≡ sig_binds_in (first a)
+    → of_begun_sig_bind x s ≡ first v → a ≡ drop 1 v → ws ≡ sig_wheres_in (first a) → bs ≡ sig_binds_in (first a)
     → sig_height (with_wheres s ws) ≤ highest sig_bind_height (sig_binds (at v 0) (at v 1))
 sig_bind_within v a x s ws bs h p ws-is bs-is =
     let e = ap (highest sig_bind_height) (sig_bind_made v a x s (with_wheres s ws) ws bs h p ws-is bs-is refl) in omega (arith, e)
@@ -47,7 +47,7 @@ sig_bind_within v a x s ws bs h p ws-is bs-is =
 -- structure bindings
 
 pub str_bind_made : (v a : List Phrase) (x : Name Place) (own cs : List (Constraint Place)) (e whole : StrExp Place) (bs : StrBinds Place)
-    → of_open_str_bind x own e ≡ first v → a ≡ drop 1 v → cs ≡ str_constraints_in (first a) → bs ≡ str_binds_in (first a) → whole ≡ own_constrained x.place own (constrained e cs)
+    → of_begun_str_bind x own e ≡ first v → a ≡ drop 1 v → cs ≡ str_constraints_in (first a) → bs ≡ str_binds_in (first a) → whole ≡ own_constrained x.place own (constrained e cs)
     → and_str_bind (str_bind x whole) bs ≡ str_binds (at v 0) (at v 1)
 str_bind_made v a x own cs e whole bs h p cs-is bs-is made =
     ap (λ z. and_str_bind (str_bind x z) bs) (made ∙ ap (λ z. own_constrained x.place own (constrained e z)) (cs-is ∙ ap (λ l. str_constraints_in (first l)) p))
@@ -55,7 +55,7 @@ str_bind_made v a x own cs e whole bs h p cs-is bs-is made =
     ∙ ap (λ f. str_binds f (at v 1)) h
 
 pub str_bind_within : (v a : List Phrase) (x : Name Place) (own cs : List (Constraint Place)) (e : StrExp Place) (bs : StrBinds Place)
-    → of_open_str_bind x own e ≡ first v → a ≡ drop 1 v → cs ≡ str_constraints_in (first a) → bs ≡ str_binds_in (first a)
+    → of_begun_str_bind x own e ≡ first v → a ≡ drop 1 v → cs ≡ str_constraints_in (first a) → bs ≡ str_binds_in (first a)
     → str_height (own_constrained x.place own (constrained e cs)) ≤ str_binds_height (str_binds (at v 0) (at v 1))
 str_bind_within v a x own cs e bs h p cs-is bs-is =
     let k = ap str_binds_height (str_bind_made v a x own cs e _ bs h p cs-is bs-is refl) in omega (arith, k)
@@ -80,7 +80,7 @@ str_bind_measured old new x e h k m grown high one most =
 -- functor bindings
 
 pub fun_bind_made : (v a : List Phrase) (f x : Name Place) (s : SigExp Place) (own cs : List (Constraint Place)) (e whole : StrExp Place) (bs : List (FunBind Place))
-    → of_open_fun_bind f x s own e ≡ first v → a ≡ drop 1 v → cs ≡ fun_constraints_in (first a) → bs ≡ fun_binds_in (first a) → whole ≡ own_constrained f.place own (constrained e cs)
+    → of_begun_fun_bind f x s own e ≡ first v → a ≡ drop 1 v → cs ≡ fun_constraints_in (first a) → bs ≡ fun_binds_in (first a) → whole ≡ own_constrained f.place own (constrained e cs)
     → record { name = f; argument = x; signature = s; body = whole } ∷ bs ≡ fun_binds (at v 0) (at v 1)
 fun_bind_made v a f x s own cs e whole bs h p cs-is bs-is made =
     ap (λ z. record { name = f; argument = x; signature = s; body = z } ∷ bs) (made ∙ ap (λ z. own_constrained f.place own (constrained e z)) (cs-is ∙ ap (λ l. fun_constraints_in (first l)) p))
@@ -88,13 +88,13 @@ fun_bind_made v a f x s own cs e whole bs h p cs-is bs-is made =
     ∙ ap (λ z. fun_binds z (at v 1)) h
 
 pub fun_bind_within : (v a : List Phrase) (f x : Name Place) (s : SigExp Place) (own cs : List (Constraint Place)) (e : StrExp Place) (bs : List (FunBind Place))
-    → of_open_fun_bind f x s own e ≡ first v → a ≡ drop 1 v → cs ≡ fun_constraints_in (first a) → bs ≡ fun_binds_in (first a)
+    → of_begun_fun_bind f x s own e ≡ first v → a ≡ drop 1 v → cs ≡ fun_constraints_in (first a) → bs ≡ fun_binds_in (first a)
     → str_height (own_constrained f.place own (constrained e cs)) ≤ highest fun_bind_height (fun_binds (at v 0) (at v 1))
 fun_bind_within v a f x s own cs e bs h p cs-is bs-is =
     let k = ap (highest fun_bind_height) (fun_bind_made v a f x s own cs e _ bs h p cs-is bs-is refl) in omega (arith, k)
 
 pub functor_made : (v a : List Phrase) (f : Name Place) (ss : Specs Place) (own cs : List (Constraint Place)) (e whole : StrExp Place) (bs : List (FunBind Place))
-    → of_open_functor f ss own e ≡ first v → a ≡ drop 1 v → cs ≡ fun_constraints_in (first a) → bs ≡ fun_binds_in (first a) → whole ≡ own_constrained f.place own (constrained e cs)
+    → of_begun_functor f ss own e ≡ first v → a ≡ drop 1 v → cs ≡ fun_constraints_in (first a) → bs ≡ fun_binds_in (first a) → whole ≡ own_constrained f.place own (constrained e cs)
     → open_functor f ss whole ∷ bs ≡ fun_binds (at v 0) (at v 1)
 functor_made v a f ss own cs e whole bs h p cs-is bs-is made =
     ap (λ z. open_functor f ss z ∷ bs) (made ∙ ap (λ z. own_constrained f.place own (constrained e z)) (cs-is ∙ ap (λ l. fun_constraints_in (first l)) p))
@@ -105,7 +105,7 @@ open_functor_grows : (f : Name Place) (ss : Specs Place) (e : StrExp Place) → 
 open_functor_grows f ss e = omega arith
 
 pub functor_within : (v a : List Phrase) (f : Name Place) (ss : Specs Place) (own cs : List (Constraint Place)) (e : StrExp Place) (bs : List (FunBind Place))
-    → of_open_functor f ss own e ≡ first v → a ≡ drop 1 v → cs ≡ fun_constraints_in (first a) → bs ≡ fun_binds_in (first a)
+    → of_begun_functor f ss own e ≡ first v → a ≡ drop 1 v → cs ≡ fun_constraints_in (first a) → bs ≡ fun_binds_in (first a)
     → str_height (own_constrained f.place own (constrained e cs)) ≤ highest fun_bind_height (fun_binds (at v 0) (at v 1))
 functor_within v a f ss own cs e bs h p cs-is bs-is =
     let k = ap (highest fun_bind_height) (functor_made v a f ss own cs e _ bs h p cs-is bs-is refl) in

@@ -11,13 +11,13 @@ use Rattle.sml_tree.specs.declared.signatures.SigExp as ProgramSig
 use Rattle.sml_tree.specs.declared.signatures.SigExp.TheFolds.{fold-roll-StrDesc}
 use Rattle.sml_tree.specs.declared.signatures.StrDesc as Program
 use Rattle.sml_tree.specs.declared.signatures.StrDesc.{roll-StrDesc}
-use Rattle.sml_phrases.specs.Phrases.{Phrase, of_open_str_desc, at, first, desc_wheres_in, str_descs_in}
+use Rattle.sml_phrases.specs.Phrases.{Phrase, of_begun_str_desc, at, first, desc_wheres_in, str_descs_in}
 use Rattle.sml_bare_mods.proofs.Pushes.{pushed}
 use Rattle.sml_bare_mods.specs.SignatureRules.{with_wheres}
 use Rattle.sml_bare_mods.specs.SpecificationRules.{str_descs}
 
 pub desc_made : (v a : List Phrase) (x : Name Place) (s whole : SigExp Place) (ws : List (WhereType Place)) (ds : StrDescs Place)
-    → of_open_str_desc x s ≡ first v → a ≡ drop 1 v → ws ≡ desc_wheres_in (first a) → ds ≡ str_descs_in (first a) → whole ≡ with_wheres s ws
+    → of_begun_str_desc x s ≡ first v → a ≡ drop 1 v → ws ≡ desc_wheres_in (first a) → ds ≡ str_descs_in (first a) → whole ≡ with_wheres s ws
     → and_str_desc (str_desc x whole) ds ≡ str_descs (at v 0) (at v 1)
 desc_made v a x s whole ws ds h p ws-is ds-is made =
     ap (λ z. and_str_desc (str_desc x z) ds) (made ∙ ap (with_wheres s) (ws-is ∙ ap (λ l. desc_wheres_in (first l)) p))
@@ -25,7 +25,7 @@ desc_made v a x s whole ws ds h p ws-is ds-is made =
     ∙ ap (λ f. str_descs f (at v 1)) h
 
 pub desc_within : (v a : List Phrase) (x : Name Place) (s : SigExp Place) (ws : List (WhereType Place)) (ds : StrDescs Place)
-    → of_open_str_desc x s ≡ first v → a ≡ drop 1 v → ws ≡ desc_wheres_in (first a) → ds ≡ str_descs_in (first a)
+    → of_begun_str_desc x s ≡ first v → a ≡ drop 1 v → ws ≡ desc_wheres_in (first a) → ds ≡ str_descs_in (first a)
     → sig_height (with_wheres s ws) ≤ str_descs_height (str_descs (at v 0) (at v 1))
 desc_within v a x s ws ds h p ws-is ds-is =
     let e = ap str_descs_height (desc_made v a x s (with_wheres s ws) ws ds h p ws-is ds-is refl) in omega (arith, e)

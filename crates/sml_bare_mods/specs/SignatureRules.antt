@@ -8,7 +8,7 @@ use Rattle.sml_tree.specs.Structures.{SigBind}
 use Rattle.sml_read.specs.declared.grammar.SignatureRule.{SignatureRule}
 use Rattle.sml_read.specs.declared.grammar.SignatureRule.TheVariants as R
 use Rattle.sml_derived.specs.Derived.{where_types}
-use Rattle.sml_phrases.specs.Phrases.{Phrase, of_sig, of_where, of_wheres, of_open_sig_bind, of_sig_binds, at, name_in, names_in, long_in, ty_in, sig_in, specs_in, wheres_in, where_in, sig_wheres_in, sig_binds_in}
+use Rattle.sml_phrases.specs.Phrases.{Phrase, of_sig, of_where, of_wheres, of_begun_sig_bind, of_sig_binds, at, name_in, names_in, long_in, ty_in, sig_in, specs_in, wheres_in, where_in, sig_wheres_in, sig_binds_in}
 
 -- the place of a signature expression
 abbrev pub sig_place : SigExp Place → Place
@@ -22,7 +22,7 @@ with_wheres s ws = where_types (sig_place s) s ws
 
 -- a signature binding with what belongs to it, and those behind it
 abbrev pub sig_binds : Phrase → Phrase → List (SigBind Place)
-sig_binds (of_open_sig_bind x s) more = record { name = x; signature = with_wheres s (sig_wheres_in more) } ∷ sig_binds_in more
+sig_binds (of_begun_sig_bind x s) more = record { name = x; signature = with_wheres s (sig_wheres_in more) } ∷ sig_binds_in more
 sig_binds _ more = sig_binds_in more
 
 abbrev pub signature_phrase : SignatureRule → Place → List Phrase → Phrase
@@ -35,7 +35,7 @@ signature_phrase R.SigWhereNone p vs = of_wheres []
 signature_phrase R.SigWhereWhere p vs = of_wheres (where_in (at vs 1) ∷ wheres_in (at vs 2))
 signature_phrase R.SigWhereAnd p vs = of_wheres (where_in (at vs 1) ∷ wheres_in (at vs 2))
 signature_phrase R.WhereType p vs = of_where (names_in (at vs 1)) (long_in (at vs 2)) (ty_in (at vs 4))
-signature_phrase R.SigBindAlphanumeric p vs = of_open_sig_bind (name_in (at vs 0)) (sig_in (at vs 2))
+signature_phrase R.SigBindAlphanumeric p vs = of_begun_sig_bind (name_in (at vs 0)) (sig_in (at vs 2))
 signature_phrase R.SigBindMoreNone p vs = of_sig_binds [] []
 signature_phrase R.SigBindMoreWhere p vs = of_sig_binds (where_in (at vs 1) ∷ sig_wheres_in (at vs 2)) (sig_binds_in (at vs 2))
 signature_phrase R.SigBindMoreAnd p vs = of_sig_binds [] (sig_binds (at vs 1) (at vs 2))

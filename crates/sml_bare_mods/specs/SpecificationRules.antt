@@ -10,7 +10,7 @@ use Rattle.sml_read.specs.declared.grammar.SpecificationRule.{SpecificationRule}
 use Rattle.sml_read.specs.declared.grammar.SpecificationRule.TheVariants as R
 use Rattle.sml_derived.specs.Derived.{type_specs, includes, where_types}
 use Rattle.sml_bare_mods.specs.SignatureRules.{with_wheres}
-use Rattle.sml_phrases.specs.Phrases.{Phrase, nothing, of_long, of_names, of_longs, of_typ_binds, of_typ_descs, of_con_bind, of_con_binds, of_datatypes, of_constructors, of_copy, of_sig, of_wheres, of_specs, of_val_desc, of_val_descs, of_type_rest, of_open_str_desc, of_str_descs, of_shared_types, at, name_in, names_in, long_in, longs_in, ty_in, ty_if_any, typ_binds_in, con_bind_in, con_binds_in, dat_binds_in, sig_in, wheres_in, where_in, specs_in, val_desc_in, val_descs_in, typ_descs_in, desc_wheres_in, str_descs_in}
+use Rattle.sml_phrases.specs.Phrases.{Phrase, nothing, of_long, of_names, of_longs, of_typ_binds, of_typ_descs, of_con_bind, of_con_binds, of_datatypes, of_constructors, of_copy, of_sig, of_wheres, of_specs, of_val_desc, of_val_descs, of_type_rest, of_begun_str_desc, of_str_descs, of_shared_types, at, name_in, names_in, long_in, longs_in, ty_in, ty_if_any, typ_binds_in, con_bind_in, con_binds_in, dat_binds_in, sig_in, wheres_in, where_in, specs_in, val_desc_in, val_descs_in, typ_descs_in, desc_wheres_in, str_descs_in}
 
 -- one specification
 abbrev pub one : Spec Place → Phrase
@@ -46,7 +46,7 @@ datatype_rest x _ = nothing
 
 -- a structure description with what belongs to it, and those behind it
 abbrev pub str_descs : Phrase → Phrase → StrDescs Place
-str_descs (of_open_str_desc x s) more = and_str_desc (str_desc x (with_wheres s (desc_wheres_in more))) (str_descs_in more)
+str_descs (of_begun_str_desc x s) more = and_str_desc (str_desc x (with_wheres s (desc_wheres_in more))) (str_descs_in more)
 str_descs _ more = str_descs_in more
 
 abbrev pub where_str_desc : Phrase → Phrase → Phrase
@@ -100,7 +100,7 @@ specification_phrase R.OfTyOf p vs = at vs 1
 specification_phrase R.ExnSpecVid p vs = of_con_bind (name_in (at vs 0)) (ty_if_any (at vs 1))
 specification_phrase R.ExnSpecMoreNone p vs = of_con_binds []
 specification_phrase R.ExnSpecMoreAnd p vs = of_con_binds (con_bind_in (at vs 1) ∷ con_binds_in (at vs 2))
-specification_phrase R.StrSpecAlphanumeric p vs = of_open_str_desc (name_in (at vs 0)) (sig_in (at vs 2))
+specification_phrase R.StrSpecAlphanumeric p vs = of_begun_str_desc (name_in (at vs 0)) (sig_in (at vs 2))
 specification_phrase R.StrSpecMoreNone p vs = of_str_descs [] no_str_desc
 specification_phrase R.StrSpecMoreWhere p vs = where_str_desc (at vs 1) (at vs 2)
 specification_phrase R.StrSpecMoreAnd p vs = of_str_descs [] (str_descs (at vs 1) (at vs 2))

@@ -13,7 +13,7 @@ use Rattle.sml_read.specs.declared.grammar.StructureRule.TheVariants as R
 use Rattle.sml_tree.specs.Clauses.{Constraint}
 use Rattle.sml_derived.specs.Derived.{long, functor_apply_decs, open_functor}
 use Rattle.sml_bare_mods.specs.SignatureRules.{with_wheres}
-use Rattle.sml_phrases.specs.Phrases.{Phrase, nothing, of_str, of_str_decs, of_constraints, of_str_binds, of_open_str_bind, of_functor_argument, of_specs, of_fun_binds, of_open_fun_bind, of_open_functor, at, name_in, long_in, sig_in, where_in, str_in, str_decs_in, constraint_wheres_in, constraints_in, str_wheres_in, str_constraints_in, str_binds_in, fun_wheres_in, fun_constraints_in, fun_binds_in}
+use Rattle.sml_phrases.specs.Phrases.{Phrase, nothing, of_str, of_str_decs, of_constraints, of_str_binds, of_begun_str_bind, of_functor_argument, of_specs, of_fun_binds, of_begun_fun_bind, of_begun_functor, at, name_in, long_in, sig_in, where_in, str_in, str_decs_in, constraint_wheres_in, constraints_in, str_wheres_in, str_constraints_in, str_binds_in, fun_wheres_in, fun_constraints_in, fun_binds_in}
 
 -- the place of a structure expression
 abbrev pub str_place : StrExp Place → Place
@@ -40,20 +40,20 @@ own_constrained p (c ∷ _) e = ascribed p e c.ascription c.signature
 
 -- a structure binding with the constraints that belong to it, and those behind it
 abbrev pub str_binds : Phrase → Phrase → StrBinds Place
-str_binds (of_open_str_bind x own e) more = and_str_bind (str_bind x (own_constrained x.place own (constrained e (str_constraints_in more)))) (str_binds_in more)
+str_binds (of_begun_str_bind x own e) more = and_str_bind (str_bind x (own_constrained x.place own (constrained e (str_constraints_in more)))) (str_binds_in more)
 str_binds _ more = str_binds_in more
 
 -- a functor binding with the constraints that belong to it, and those behind it
 abbrev pub fun_binds : Phrase → Phrase → List (FunBind Place)
-fun_binds (of_open_fun_bind f x s own e) more = record { name = f; argument = x; signature = s; body = own_constrained f.place own (constrained e (fun_constraints_in more)) } ∷ fun_binds_in more
-fun_binds (of_open_functor f ss own e) more = open_functor f ss (own_constrained f.place own (constrained e (fun_constraints_in more))) ∷ fun_binds_in more
+fun_binds (of_begun_fun_bind f x s own e) more = record { name = f; argument = x; signature = s; body = own_constrained f.place own (constrained e (fun_constraints_in more)) } ∷ fun_binds_in more
+fun_binds (of_begun_functor f ss own e) more = open_functor f ss (own_constrained f.place own (constrained e (fun_constraints_in more))) ∷ fun_binds_in more
 fun_binds _ more = fun_binds_in more
 
 -- a functor binding to which constraints may still belong, from its argument
-abbrev pub open_fun_bind : Name Place → Phrase → List (Constraint Place) → StrExp Place → Phrase
-open_fun_bind f (of_functor_argument x s) own e = of_open_fun_bind f x s own e
-open_fun_bind f (of_specs ss) own e = of_open_functor f ss own e
-open_fun_bind f _ own e = nothing
+abbrev pub begun_fun_bind : Name Place → Phrase → List (Constraint Place) → StrExp Place → Phrase
+begun_fun_bind f (of_functor_argument x s) own e = of_begun_fun_bind f x s own e
+begun_fun_bind f (of_specs ss) own e = of_begun_functor f ss own e
+begun_fun_bind f _ own e = nothing
 
 -- a structure identifier, or a functor and its argument
 abbrev pub applied : Name Place → Phrase → StrExp Place
@@ -83,7 +83,7 @@ abbrev pub where_fun_bind : Phrase → Phrase → Phrase
 where_fun_bind w more = of_fun_binds (where_in w ∷ fun_wheres_in more) (fun_constraints_in more) (fun_binds_in more)
 
 abbrev pub structure_phrase : StructureRule → Place → List Phrase → Phrase
-structure_phrase R.StrBindAlphanumeric p vs = of_open_str_bind (name_in (at vs 0)) (constraints_in (at vs 1)) (str_in (at vs 3))
+structure_phrase R.StrBindAlphanumeric p vs = of_begun_str_bind (name_in (at vs 0)) (constraints_in (at vs 1)) (str_in (at vs 3))
 structure_phrase R.SealNone p vs = of_constraints [] []
 structure_phrase R.SealColon p vs = of_constraints [] (record { ascription = Transparent; signature = sig_in (at vs 1) } ∷ [])
 structure_phrase R.SealSeals p vs = of_constraints [] (record { ascription = Opaque; signature = sig_in (at vs 1) } ∷ [])
@@ -102,7 +102,7 @@ structure_phrase R.StrBindWhereAscription p vs = behind_str_bind (at vs 0) (at v
 structure_phrase R.StrBindWhereAnd p vs = at vs 1
 structure_phrase R.StrBindAndWhere p vs = where_str_bind (at vs 0) (at vs 1)
 structure_phrase R.StrBindAndStrBind p vs = of_str_binds [] [] (str_binds (at vs 0) (at vs 1))
-structure_phrase R.FunBindAlphanumeric p vs = open_fun_bind (name_in (at vs 0)) (at vs 2) (constraints_in (at vs 4)) (str_in (at vs 6))
+structure_phrase R.FunBindAlphanumeric p vs = begun_fun_bind (name_in (at vs 0)) (at vs 2) (constraints_in (at vs 4)) (str_in (at vs 6))
 structure_phrase R.FunArgAlphanumeric p vs = of_functor_argument (name_in (at vs 0)) (sig_in (at vs 2))
 structure_phrase R.FunBindMoreNone p vs = of_fun_binds [] [] []
 structure_phrase R.FunBindMoreAscription p vs = behind_fun_bind (at vs 0) (at vs 1)

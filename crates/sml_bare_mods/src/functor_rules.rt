@@ -9,7 +9,7 @@ ghost use Rattle.sml_derived.specs.Derived.{open_functor};
 ghost use Rattle.sml_phrases.specs.PhraseHeights.{low};
 ghost use Rattle.sml_phrases.specs.Phrases.{of_fun_binds, of_functor_argument, at, constraints_in, name_in, sig_in, str_in};
 ghost use Rattle.sml_phrases.specs.PhraseViews.{Gives, Puts, low_constraint_of, phrase_of, seen};
-ghost use Rattle.sml_bare_mods.specs.StructureRules.{behind_fun_bind, fun_binds, open_fun_bind, where_fun_bind};
+ghost use Rattle.sml_bare_mods.specs.StructureRules.{behind_fun_bind, fun_binds, begun_fun_bind, where_fun_bind};
 
 use crate::module_stack::{pop_constraints, pop_fun_binds, pop_where_type};
 use crate::structure_rules::{and_constraint, bound};
@@ -32,8 +32,8 @@ pub fn functor_argument(stack: &mut Stack) -> Result<(), Failure>
 }
 
 /// `funid ( .. ) = strexp`, perhaps with a constraint.
-pub fn open_fun_bind(stack: &mut Stack) -> Result<(), Failure>
-    ensures { let vs = seen stack.old in Puts (open_fun_bind (name_in (at vs 0)) (at vs 2) (constraints_in (at vs 4)) (str_in (at vs 6))) 7 vs (seen stack.new) result }
+pub fn begun_fun_bind(stack: &mut Stack) -> Result<(), Failure>
+    ensures { let vs = seen stack.old in Puts (begun_fun_bind (name_in (at vs 0)) (at vs 2) (constraints_in (at vs 4)) (str_in (at vs 6))) 7 vs (seen stack.new) result }
 {
     let name = stack.name()?;
     stack.skip();
@@ -42,25 +42,25 @@ pub fn open_fun_bind(stack: &mut Stack) -> Result<(), Failure>
     let (_none, own) = pop_constraints(stack);
     stack.skip();
     let body = stack.str();
-    open_fun_bind_of(stack, name, argument, own, body)
+    begun_fun_bind_of(stack, name, argument, own, body)
 }
 
 /// The same from the parts.
-fn open_fun_bind_of(
+fn begun_fun_bind_of(
     stack: &mut Stack,
     name: Name,
     argument: Phrase,
     own: Vec<LowConstraint>,
     body: LowStr,
 ) -> Result<(), Failure>
-    ensures { Puts (open_fun_bind (name_of name) (phrase_of argument) (map low_constraint_of (reverse own.items)) (str_of body.tree)) 0 (seen stack.old) (seen stack.new) result }
+    ensures { Puts (begun_fun_bind (name_of name) (phrase_of argument) (map low_constraint_of (reverse own.items)) (str_of body.tree)) 0 (seen stack.old) (seen stack.new) result }
 {
     match argument {
         Phrase::Structures(StructurePhrase::FunctorArgument(argument, signature)) => {
-            stack.put_open_fun_bind(name, argument, signature, own, body)
+            stack.put_begun_fun_bind(name, argument, signature, own, body)
         }
         Phrase::Signatures(SignaturePhrase::Specs(specs)) => {
-            stack.put_open_functor(name, specs, own, body)
+            stack.put_begun_functor(name, specs, own, body)
         }
         other => {
             discard(other);
@@ -125,11 +125,11 @@ pub fn fun_binds(stack: &mut Stack, expander: &Expander) -> Result<LowFunBinds, 
     let first = stack.pop();
     let (_equations, constraints, binds) = pop_fun_binds(stack);
     match first {
-        Phrase::Structures(StructurePhrase::OpenFunBind(name, argument, signature, own, body)) => {
+        Phrase::Structures(StructurePhrase::BegunFunBind(name, argument, signature, own, body)) => {
             let body = bound(stack.alloc, name.place, own, body, constraints)?;
             and_fun_bind(name, argument, signature, body, binds)
         }
-        Phrase::Structures(StructurePhrase::OpenFunctor(name, specs, own, body)) => {
+        Phrase::Structures(StructurePhrase::BegunFunctor(name, specs, own, body)) => {
             let body = bound(stack.alloc, name.place, own, body, constraints)?;
             and_open_functor(expander, name, specs, body, binds)
         }

@@ -9,12 +9,12 @@ ghost use Rattle.sml_tree.specs.StructureViews.{fun_bind_of, sig_bind_of, str_bi
 ghost use Rattle.sml_phrases.specs.Phrases.{con_bind_in, constraint_wheres_in, constraints_in, dat_binds_in, desc_wheres_in, first, fun_binds_in, fun_constraints_in, fun_wheres_in, sig_binds_in, sig_wheres_in, str_binds_in, str_constraints_in, str_descs_in, str_wheres_in, val_desc_in, where_in};
 ghost use Rattle.sml_phrases.specs.PhraseViews.{low_constraint_of, low_where_of, seen};
 
-use sml_lex::fault::Memory;
+use sml_lex::fault::{FIRST, Memory};
 use sml_phrases::low::{
     LowConstraint, LowDatBinds, LowFunBinds, LowSigBinds, LowStrBinds, LowStrDescs, LowTy, LowWhere,
 };
 use sml_phrases::phrase::{DeclarationPhrase, Phrase, SignaturePhrase, StructurePhrase, discard};
-use sml_phrases::stack::{FIRST, Stack};
+use sml_phrases::stack::Stack;
 use sml_tree::bare::LongIdent;
 use sml_tree::names::Name;
 use sml_tree::types::Ty;

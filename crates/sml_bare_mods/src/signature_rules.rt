@@ -9,7 +9,7 @@ ghost use Rattle.sml_read.specs.Grammar.{right_side};
 ghost use Rattle.sml_read.specs.declared.grammar.Rule.TheVariants.{Signatures};
 ghost use Rattle.sml_derived.specs.Derived.{where_types};
 ghost use Rattle.sml_phrases.specs.PhraseHeights.{low};
-ghost use Rattle.sml_phrases.specs.Phrases.{of_open_sig_bind, of_sig, of_sig_binds, of_where, of_wheres, at, long_in, name_in, names_in, sig_binds_in, sig_in, sig_wheres_in, specs_in, ty_in, where_in, wheres_in};
+ghost use Rattle.sml_phrases.specs.Phrases.{of_begun_sig_bind, of_sig, of_sig_binds, of_where, of_wheres, at, long_in, name_in, names_in, sig_binds_in, sig_in, sig_wheres_in, specs_in, ty_in, where_in, wheres_in};
 ghost use Rattle.sml_phrases.specs.PhraseViews.{Gives, Puts, low_where_of, seen};
 ghost use Rattle.sml_bare_mods.specs.SignatureRules.{sig_binds, sig_place, signature_phrase, with_wheres};
 
@@ -163,13 +163,13 @@ fn equation(stack: &mut Stack) -> Result<(), Failure>
 }
 
 /// `sigid = sigexp`
-fn open_sig_bind(stack: &mut Stack) -> Result<(), Failure>
-    ensures { let vs = seen stack.old in Puts (of_open_sig_bind (name_in (at vs 0)) (sig_in (at vs 2))) 3 vs (seen stack.new) result }
+fn begun_sig_bind(stack: &mut Stack) -> Result<(), Failure>
+    ensures { let vs = seen stack.old in Puts (of_begun_sig_bind (name_in (at vs 0)) (sig_in (at vs 2))) 3 vs (seen stack.new) result }
 {
     let name = stack.name()?;
     stack.skip();
     let signature = stack.sig();
-    stack.put_open_sig_bind(name, signature)
+    stack.put_begun_sig_bind(name, signature)
 }
 
 /// Nothing behind a signature binding.
@@ -201,7 +201,7 @@ pub fn sig_binds(stack: &mut Stack) -> Result<LowSigBinds, Failure>
     let first = stack.pop();
     let (equations, binds) = pop_sig_binds(stack);
     match first {
-        Phrase::Signatures(SignaturePhrase::OpenSigBind(name, signature)) => {
+        Phrase::Signatures(SignaturePhrase::BegunSigBind(name, signature)) => {
             let signature = with_wheres(stack.alloc, signature, equations)?;
             let LowSigBinds { mut trees, height } = binds;
             trees.push(SigBind {
@@ -242,7 +242,7 @@ pub fn signature_phrase(rule: SignatureRule, place: Place, stack: &mut Stack) ->
         SignatureRule::SigMoreWhere | SignatureRule::SigWhereWhere | SignatureRule::SigWhereAnd =>
             and_where(stack),
         SignatureRule::WhereType => equation(stack),
-        SignatureRule::SigBindAlphanumeric => open_sig_bind(stack),
+        SignatureRule::SigBindAlphanumeric => begun_sig_bind(stack),
         SignatureRule::SigBindMoreNone | SignatureRule::SigBindWhereNone => no_sig_binds(stack),
         SignatureRule::SigBindMoreWhere | SignatureRule::SigBindWhereWhere => {
             stack.skip();

@@ -11,7 +11,7 @@ ghost use Rattle.sml_read.specs.Grammar.{right_side};
 ghost use Rattle.sml_read.specs.declared.grammar.Rule.TheVariants.{Specifications};
 ghost use Rattle.sml_derived.specs.Derived.{where_types};
 ghost use Rattle.sml_phrases.specs.PhraseHeights.{low};
-ghost use Rattle.sml_phrases.specs.Phrases.{of_con_bind, of_con_binds, of_constructors, of_datatypes, of_longs, of_names, of_open_str_desc, of_shared_types, of_sig, of_str_descs, of_typ_descs, of_type_rest, of_val_desc, of_val_descs, at, con_bind_in, con_binds_in, dat_binds_in, long_in, longs_in, name_in, names_in, sig_in, specs_in, ty_if_any, ty_in, typ_binds_in, typ_descs_in, val_desc_in, val_descs_in, wheres_in};
+ghost use Rattle.sml_phrases.specs.Phrases.{of_con_bind, of_con_binds, of_constructors, of_datatypes, of_longs, of_names, of_begun_str_desc, of_shared_types, of_sig, of_str_descs, of_typ_descs, of_type_rest, of_val_desc, of_val_descs, at, con_bind_in, con_binds_in, dat_binds_in, long_in, longs_in, name_in, names_in, sig_in, specs_in, ty_if_any, ty_in, typ_binds_in, typ_descs_in, val_desc_in, val_descs_in, wheres_in};
 ghost use Rattle.sml_phrases.specs.declared.phrase.Failure.TheVariants.{Memory};
 ghost use Rattle.sml_phrases.specs.PhraseViews.{Gives, Puts, phrase_of, seen};
 ghost use Rattle.sml_bare_mods.specs.SpecificationRules.{datatype, datatype_rest, datatypes, included_name, one, shared, specification_phrase, str_descs, type_rest, where_str_desc};
@@ -363,13 +363,13 @@ fn and_exception(stack: &mut Stack) -> Result<(), Failure>
 }
 
 /// `strid : sigexp`
-fn open_str_desc(stack: &mut Stack) -> Result<(), Failure>
-    ensures { let vs = seen stack.old in Puts (of_open_str_desc (name_in (at vs 0)) (sig_in (at vs 2))) 3 vs (seen stack.new) result }
+fn begun_str_desc(stack: &mut Stack) -> Result<(), Failure>
+    ensures { let vs = seen stack.old in Puts (of_begun_str_desc (name_in (at vs 0)) (sig_in (at vs 2))) 3 vs (seen stack.new) result }
 {
     let name = stack.name()?;
     stack.skip();
     let signature = stack.sig();
-    stack.put_open_str_desc(name, signature)
+    stack.put_begun_str_desc(name, signature)
 }
 
 /// An equation of the structure description before it, and what stands behind that.
@@ -390,7 +390,7 @@ fn str_descs(stack: &mut Stack) -> Result<LowStrDescs, Failure>
     let first = stack.pop();
     let (equations, descs) = pop_str_descs(stack);
     match first {
-        Phrase::Signatures(SignaturePhrase::OpenStrDesc(name, signature)) => {
+        Phrase::Signatures(SignaturePhrase::BegunStrDesc(name, signature)) => {
             let signature = with_wheres(stack.alloc, signature, equations)?;
             let LowStrDescs { mut trees, height } = descs;
             trees.push(StrDesc {
@@ -669,7 +669,7 @@ pub fn specification_phrase(
         SpecificationRule::OfTyNone => stack.put_nothing(),
         SpecificationRule::ExnSpecVid => con_bind(stack),
         SpecificationRule::ExnSpecMoreAnd => and_exception(stack),
-        SpecificationRule::StrSpecAlphanumeric => open_str_desc(stack),
+        SpecificationRule::StrSpecAlphanumeric => begun_str_desc(stack),
         SpecificationRule::StrSpecMoreNone | SpecificationRule::StrSpecWhereNone => no_str_descs(
             stack,
         ),

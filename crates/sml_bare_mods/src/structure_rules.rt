@@ -8,12 +8,12 @@ ghost use Rattle.sml_tree.specs.Structures.{ascribed, no_str_bind, str_let, str_
 ghost use Rattle.sml_read.specs.Grammar.{right_side};
 ghost use Rattle.sml_read.specs.declared.grammar.Rule.TheVariants.{Structures};
 ghost use Rattle.sml_phrases.specs.PhraseHeights.{constraint_height, low};
-ghost use Rattle.sml_phrases.specs.Phrases.{of_constraints, of_open_str_bind, of_str, of_str_binds, at, constraints_in, long_in, name_in, sig_in, str_decs_in, str_in};
+ghost use Rattle.sml_phrases.specs.Phrases.{of_constraints, of_begun_str_bind, of_str, of_str_binds, at, constraints_in, long_in, name_in, sig_in, str_decs_in, str_in};
 ghost use Rattle.sml_phrases.specs.PhraseViews.{Gives, Puts, low_constraint_of, low_where_of, phrase_of, seen};
 ghost use Rattle.sml_bare_mods.specs.StructureRules.{and_constraint, applied, behind_str, behind_str_bind, constrained, own_constrained, str_binds, str_place, structure_phrase, where_str, where_str_bind};
 
 use crate::functor_rules::{
-    and_fun_binds, behind_fun_bind, functor_argument, no_fun_binds, open_fun_bind, where_fun_bind,
+    and_fun_binds, begun_fun_bind, behind_fun_bind, functor_argument, no_fun_binds, where_fun_bind,
 };
 use crate::module_stack::{pop_constraints, pop_str_binds, pop_where_type};
 use crate::signature_rules::with_wheres;
@@ -122,14 +122,14 @@ fn one_constraint(stack: &mut Stack, ascription: Ascription) -> Result<(), Failu
 }
 
 /// `strid = strexp`, perhaps with a constraint.
-fn open_str_bind(stack: &mut Stack) -> Result<(), Failure>
-    ensures { let vs = seen stack.old in Puts (of_open_str_bind (name_in (at vs 0)) (constraints_in (at vs 1)) (str_in (at vs 3))) 4 vs (seen stack.new) result }
+fn begun_str_bind(stack: &mut Stack) -> Result<(), Failure>
+    ensures { let vs = seen stack.old in Puts (of_begun_str_bind (name_in (at vs 0)) (constraints_in (at vs 1)) (str_in (at vs 3))) 4 vs (seen stack.new) result }
 {
     let name = stack.name()?;
     let (_equations, own) = pop_constraints(stack);
     stack.skip();
     let body = stack.str();
-    stack.put_open_str_bind(name, own, body)
+    stack.put_begun_str_bind(name, own, body)
 }
 
 /// The right side of a structure binding with the binding's own constraint, if it has one.
@@ -170,7 +170,7 @@ pub fn str_binds(stack: &mut Stack) -> Result<LowStrBinds, Failure>
     let first = stack.pop();
     let (_equations, constraints, binds) = pop_str_binds(stack);
     match first {
-        Phrase::Structures(StructurePhrase::OpenStrBind(name, own, body)) => {
+        Phrase::Structures(StructurePhrase::BegunStrBind(name, own, body)) => {
             let body = bound(stack.alloc, name.place, own, body, constraints)?;
             let LowStrBinds { mut trees, height } = binds;
             trees.push(StrBind {
@@ -381,7 +381,7 @@ pub fn structure_phrase(
     ensures { Puts (structure_phrase rule place (seen stack.old)) (length (right_side (Structures rule))) (seen stack.old) (seen stack.new) result }
 {
     match rule {
-        StructureRule::StrBindAlphanumeric => open_str_bind(stack),
+        StructureRule::StrBindAlphanumeric => begun_str_bind(stack),
         StructureRule::SealColon | StructureRule::AscriptionColon => one_constraint(
             stack,
             Ascription::Transparent,
@@ -410,7 +410,7 @@ pub fn structure_phrase(
         }
         StructureRule::StrBindAndWhere => where_str_bind(stack),
         StructureRule::StrBindAndStrBind => and_str_binds(stack),
-        StructureRule::FunBindAlphanumeric => open_fun_bind(stack),
+        StructureRule::FunBindAlphanumeric => begun_fun_bind(stack),
         StructureRule::FunArgAlphanumeric => functor_argument(stack),
         StructureRule::FunBindMoreNone
         | StructureRule::FunBindSigNone

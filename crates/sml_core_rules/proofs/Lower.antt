@@ -12,15 +12,15 @@ use Rattle.sml_objects.specs.Objects.{MlType, MlTypes, bound, free, app, row, no
 use Rattle.sml_objects.specs.Types.{assign, replace_type, replace_types}
 use Rattle.sml_layers.specs.declared.layer.Layer.{Layer}
 use Rattle.sml_layers.specs.declared.layer.Layer.TheVariants.{Equations, Finiteness, Newness, Locality, Equality, Classes, Rigidity}
-use Rattle.sml_layers.specs.Layers.{place_of}
+use Rattle.sml_layers.specs.Layers.{index_of}
 use Rattle.sml_layers.specs.Rows.{HasFields, fields_at}
-use Rattle.sml_layers.specs.Worlds.{Assignment, Tree, finite, infinite, tree, spread, spread_all}
+use Rattle.sml_layers.specs.Worlds.{Assignment, InfiniteType, finite, infinite, tree, spread, spread_all}
 use Rattle.sml_layers.specs.Demands.{Demand, Words, equal, has_fields, asks, AllHold, CanBeMet, IsFirstUnmet}
 use Rattle.sml_core_rules.proofs.Assigned.{there}
 
 -- finite types as trees
 
-bare : {N : Type 0} → ℕ → Tree N
+bare : {N : Type 0} → ℕ → InfiniteType N
 bare v = λ _. None
 
 trees : {N : Type 0} → Assignment N finite → Assignment N infinite
@@ -78,7 +78,7 @@ module _ {N B : Type 0} (words : Words N B) where
   infinitely l σ (has_fields t fs ∷ ds) h = (row-there σ t fs h.0, infinitely l σ ds h.1)
   infinitely l σ (asks a t ∷ ds) h = (tt, infinitely l σ ds h.1)
 
-  pub lower : (k l : Layer) → place_of k ≤ place_of l → (σ : Assignment N finite) (ds : List (Demand N B)) → AllHold words finite l σ ds → AllHold words finite k σ ds
+  pub lower : (k l : Layer) → index_of k ≤ index_of l → (σ : Assignment N finite) (ds : List (Demand N B)) → AllHold words finite l σ ds → AllHold words finite k σ ds
   lower k l p σ [] h = tt
   lower k l p σ (equal t u ∷ ds) h = (h.0, lower k l p σ ds h.1)
   lower k l p σ (has_fields t fs ∷ ds) h = (h.0, lower k l p σ ds h.1)
@@ -102,7 +102,7 @@ layer_at (suc (suc (suc (suc zero)))) = Equality
 layer_at (suc (suc (suc (suc (suc zero))))) = Classes
 layer_at (suc (suc (suc (suc (suc (suc n)))))) = Rigidity
 
-layer-back : (l : Layer) → layer_at (place_of l) ≡ l
+layer-back : (l : Layer) → layer_at (index_of l) ≡ l
 unfolding layer_at
 layer-back Equations = refl
 layer-back Finiteness = refl
@@ -113,7 +113,7 @@ layer-back Classes = refl
 layer-back Rigidity = refl
 
 pub one-layer : {N B : Type 0} (words : Words N B) (k l : Layer) (ds : List (Demand N B)) → IsFirstUnmet words k ds → IsFirstUnmet words l ds → k ≡ l
-one-layer words k l ds f g = elim (cases_order (place_of k) (place_of l)) [
+one-layer words k l ds f g = elim (cases_order (index_of k) (index_of l)) [
   | inl e ↦ sym (layer-back k) ∙ (ap layer_at e ∙ layer-back l)
   | inr o ↦ elim o [ inl p ↦ absurd (f.0 (g.1 k p)) | inr p ↦ absurd (g.0 (f.1 l p)) ]
 ]

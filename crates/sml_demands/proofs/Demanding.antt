@@ -23,7 +23,7 @@ use Rattle.sml_graph.specs.Changes.{IsChange, SameOutside, AreInside}
 use Rattle.sml_graph.specs.Interned.{IsOver, through, Interns}
 use Rattle.sml_graph.specs.Ranks.{HasRank, no_order, order_at}
 use Rattle.sml_graph.specs.Limits.{no_limit, limit_at, MeetsAt, KeepsAt, KeepsThrough, IsClosed, IsClosedTo, IsFit, IsDoneBut, Lowers}
-use Rattle.sml_layers.specs.Layers.{place_of}
+use Rattle.sml_layers.specs.Layers.{index_of}
 use Rattle.sml_graph.specs.Asked.{Asked, asked_of, count, KeepsUpTo, Permits, layer_of, limit_of, IsAsAsked, Demand, equal, asks, Holds, CanMeet, IsFirstUnmet, Adds, IsMet, PermitsSame}
 use Rattle.sml_graph.specs.Whole.{IsFull, IsWhole, IsChanged, Finishes, FailsFirst, FailsAt, LowersLimit, IsKept}
 use Rattle.sml_graph.proofs.Changing.{has-map}
@@ -136,7 +136,7 @@ finished-adds s d g h b x f l σ = (
 
 -- what fails in a graph is the first layer that can't be met
 
-before-met : (s : Asked) (d : Demand) (g : Graph) (l : Layer) → Stands s d g → IsSound g.nodes.items → FailsFirst l s.unit g → (k : Layer) → place_of k < place_of l → CanMeet k s d
+before-met : (s : Asked) (d : Demand) (g : Graph) (l : Layer) → Stands s d g → IsSound g.nodes.items → FailsFirst l s.unit g → (k : Layer) → index_of k < index_of l → CanMeet k s d
 before-met s d g l x sound f Equations h = can-equations s d g x sound
 before-met s d g l x sound f Finiteness h = can s d g x Finiteness f.types f.meets (λ j q. f.keeps j (omega (arith, q, h)))
 before-met s d g l x sound f Newness h = can s d g x Newness f.types f.meets (λ j q. f.keeps j (omega (arith, q, h)))
@@ -150,7 +150,7 @@ unfolding IsFirstUnmet
 failing-first s d g x sound Equations f = absurd f
 failing-first s d g x sound Finiteness f = (
   cannot s d g x Finiteness (λ υ m k. f (rank_of g.nodes.items sound (υ, m))),
-  λ k. elim k as (λ k. place_of k < 1 → CanMeet k s d) [
+  λ k. elim k as (λ k. index_of k < 1 → CanMeet k s d) [
     | Equations ↦ λ h. can-equations s d g x sound
     | Finiteness ↦ λ h. absurd (omega (arith, h))
     | Newness ↦ λ h. absurd (omega (arith, h))
@@ -255,7 +255,7 @@ changed-but u ns ms ls cs c f o i =
 
 -- something is asked of a type
 
-asked-at : (k l : Layer) (u : ℕ) (a : Ask) (t : MlType Name) → place_of k ≤ place_of l → (place_of (layer_of a) ≤ place_of l → IsAsAsked u a t) → MeetsAt k u (limit_of a) t
+asked-at : (k l : Layer) (u : ℕ) (a : Ask) (t : MlType Name) → index_of k ≤ index_of l → (index_of (layer_of a) ≤ index_of l → IsAsAsked u a t) → MeetsAt k u (limit_of a) t
 asked-at Equations l u a t h f = tt
 asked-at Finiteness l u a t h f = tt
 asked-at Newness l u (A.Within B.Newness n) t h f = f h
@@ -292,10 +292,10 @@ at-asked u (A.Class c) t w = w
 at-asked u (A.Variable x) t w = w
 
 module _ (u r : ℕ) (a : Ask) (ls ms : List Limit) (js : List Change) (low : Lowers ls [] (r ∷ []) (limit_of a) ms js) where
-  through-lower : (l : Layer) (τ : Assignment finite) → KeepsThrough l u ls τ → (place_of (layer_of a) ≤ place_of l → IsAsAsked u a (τ r)) → KeepsThrough l u ms τ
+  through-lower : (l : Layer) (τ : Assignment finite) → KeepsThrough l u ls τ → (index_of (layer_of a) ≤ index_of l → IsAsAsked u a (τ r)) → KeepsThrough l u ms τ
   through-lower l τ k w j h = lowered-keeps j u (limit_of a) r ls ms js τ low (k j h) (asked-at j l u a (τ r) h w)
 
-  through-lowered : (l : Layer) (τ : Assignment finite) → KeepsThrough l u ms τ → KeepsThrough l u ls τ × (place_of (layer_of a) ≤ place_of l → IsAsAsked u a (τ r))
+  through-lowered : (l : Layer) (τ : Assignment finite) → KeepsThrough l u ms τ → KeepsThrough l u ls τ × (index_of (layer_of a) ≤ index_of l → IsAsAsked u a (τ r))
   through-lowered l τ k = (λ j h. (keeps-lowered j u (limit_of a) r ls ms js τ low (k j h)).0, λ h. at-asked u a (τ r) ((keeps-lowered (layer_of a) u (limit_of a) r ls ms js τ low (k (layer_of a) h)).1))
 
 module _ (u : ℕ) (us : List ℕ) (b : Bool) (a : Ask) (t : MlType Name) (g h m : Graph) (r : ℕ) (js : List Change) (o : IsOver (length us) t) (x : LowersLimit h r (limit_of a) m js) where

@@ -7,7 +7,7 @@ use Rattle.sml_objects.specs.Names as N
 use Rattle.sml_objects.specs.Initial.{Name, initial, naming}
 use Rattle.sml_objects.specs.Equality.{admits}
 use Rattle.sml_objects.specs.Objects as O
-use Rattle.sml_objects.specs.Types.{is_among, variables_after, variables_after_all, assign, replace_type, replace_types, place_among}
+use Rattle.sml_objects.specs.Types.{is_among, variables_after, variables_after_all, assign, replace_type, replace_types, index_among}
 use Rattle.sml_objects.specs.Fates.{attributes, substitutes, type_or, standing_for, close_as}
 use Rattle.sml_objects.specs.declared.objects.Scheme.{Scheme}
 use Rattle.sml_objects.specs.declared.fates.Fate.{Fate}
@@ -29,7 +29,7 @@ use Rattle.sml_graph.specs.Rows.{HasFields}
 use Rattle.sml_graph.specs.Graphs.{node_at, fields_of, Agrees, Meets, IsKnown}
 use Rattle.sml_graph.specs.Interned.{IsOver, AreOver, through, IsBodyOver, AreBodiesOver}
 use Rattle.sml_graph.specs.Bounds.{IsWithin, AreWithin}
-use Rattle.sml_layers.specs.Layers.{place_of}
+use Rattle.sml_layers.specs.Layers.{index_of}
 use Rattle.sml_graph.specs.Limits.{limit_at, MeetsBound, MeetsEquality, MeetsClass, MeetsAt, KeepsAt, FitsClass, IsFitNode}
 use Rattle.sml_graph.specs.Asked.{asked_of, Permits}
 use Rattle.sml_demands.specs.Fixed.{IsMarked}
@@ -72,7 +72,7 @@ unfolding IsWithin AreWithin
 bound-arrow u None = tt
 bound-arrow u (Some n) = (tt, ((tt, tt), ((tt, tt), tt)))
 
-arrow-meets : (l : Layer) (u : ℕ) (a : Limit) → a.equality ≡ false → place_of l ≤ place_of Equality → MeetsAt l u a arrow
+arrow-meets : (l : Layer) (u : ℕ) (a : Limit) → a.equality ≡ false → index_of l ≤ index_of Equality → MeetsAt l u a arrow
 arrow-meets Equations u a e h = tt
 arrow-meets Finiteness u a e h = tt
 arrow-meets Newness u a e h = bound-arrow u a.newness
@@ -81,7 +81,7 @@ arrow-meets Equality u a e h = rw e tt
 arrow-meets Classes u a e h = absurd (omega (arith, h))
 arrow-meets Rigidity u a e h = absurd (omega (arith, h))
 
-unit-meets-classes : (l : Layer) (u : ℕ) (a : Limit) → a.class ≡ None → place_of l ≤ place_of Classes → MeetsAt l u a unit
+unit-meets-classes : (l : Layer) (u : ℕ) (a : Limit) → a.class ≡ None → index_of l ≤ index_of Classes → MeetsAt l u a unit
 unit-meets-classes Equations u a e h = tt
 unit-meets-classes Finiteness u a e h = tt
 unit-meets-classes Newness u a e h = bound-unit u a.newness
@@ -119,7 +119,7 @@ module _ (u : ℕ) (us : List ℕ) (g : Graph) (b : Bool) (k : IsKept u g us) (d
   picked-meets : (t : O.MlType Name) → Meets finite ns (picked t)
   picked-meets t = solution-meets ns (only r t) k.whole.rank.rank k.whole.rank.ranked
 
-  picked-keeps : (t : O.MlType Name) (l : Layer) → place_of l < place_of Rigidity → MeetsAt l u a t → KeepsAt l u g.limits.items (picked t)
+  picked-keeps : (t : O.MlType Name) (l : Layer) → index_of l < index_of Rigidity → MeetsAt l u a t → KeepsAt l u g.limits.items (picked t)
   picked-keeps t l q m =
       let w = k.whole in
       solution-keeps l u ns g.limits.items (only r t) w.rank.rank w.rank.ranked w.closed (w.fit l) (λ i x.
@@ -261,7 +261,7 @@ mutual
 closed-over : (n : ℕ) (fs : List Fate) (t : O.MlType Name) → IsOver n t → IsBodyOver (length (close_as (O.named (initial N.int)) fs t).variables) n (close_as (O.named (initial N.int)) fs t).body
 unfolding close_as
 closed-over n fs t o =
-    assigned-over (length (attributes fs)) n (standing_for (variables_after [] t) (substitutes (O.named (initial N.int)) 0 fs)) t (λ v h. standing-over n 0 (length (attributes fs)) fs (place_among v (variables_after [] t)) v h (omega arith)) o
+    assigned-over (length (attributes fs)) n (standing_for (variables_after [] t) (substitutes (O.named (initial N.int)) 0 fs)) t (λ v h. standing-over n 0 (length (attributes fs)) fs (index_among v (variables_after [] t)) v h (omega arith)) o
 
 pub scheme-over : (n : ℕ) (fs : List Fate) (t : O.MlType Name) (r : Result Scheme Memory) → IsOver n t → IfOk r (λ s. scheme_of s ≡ close_as (O.named (initial N.int)) fs t) → IfOk r (λ s. IsBodyOver (length (scheme_of s).variables) n (scheme_of s).body)
 scheme-over n fs t (Ok s) o e = subst (λ (z : O.Scheme Name). IsBodyOver (length z.variables) n z.body) (sym e) (closed-over n fs t o)

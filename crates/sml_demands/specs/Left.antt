@@ -11,7 +11,7 @@ use Rattle.sml_layers.specs.Worlds.{World, finite, make, typed, world}
 use Rattle.sml_graph.specs.Worlds.{In, Assignment}
 use Rattle.sml_layers.specs.Rows.{fields_at}
 use Rattle.sml_graph.specs.Rows.{HasFields}
-use Rattle.sml_layers.specs.Layers.{place_of}
+use Rattle.sml_layers.specs.Layers.{index_of}
 use Rattle.sml_graph.specs.Asked.{Asked, count, Permits}
 
 -- No variable of the type is bound by a scheme, and P holds of each.
@@ -71,4 +71,4 @@ HasOneForEachChoice l s =
 
 -- The same in each layer of finite types. By the equations alone, an unknown that is left may have any of these.
 unfoldable pub IsMostGeneral : Asked → Type 0
-IsMostGeneral s = (l : Layer) → place_of Finiteness ≤ place_of l → HasOneForEachChoice l s
+IsMostGeneral s = (l : Layer) → index_of Finiteness ≤ index_of l → HasOneForEachChoice l s

@@ -7,7 +7,7 @@ use Rattle.sml_fixity.specs.declared.roles.Role.TheVariants.{Atom, Infix}
 use Rattle.sml_fixity.specs.declared.sequences.Step.{Step}
 use Rattle.sml_fixity.specs.declared.sequences.Step.TheVariants.{Push, Apply, Combine}
 use Rattle.sml_fixity.specs.Infix.{Tree, Single, Applied, Joined, yield, postfix, EachOperator, level, side, StandsLeft, StandsRight, Obeys, EndsInOperator, StrayAt, NoneLooser, Clashes, MixedAt, NoTree, NoneBefore, IsTheTree}
-use Rattle.sml_fixity.specs.Reading.{Frames, Bottom, Under, line, written, operators, Follows, Sound, AwaitsOperand, HasOperand, HasAtoms, ReadsBy, IsBuilt, Reducing, Reduced}
+use Rattle.sml_fixity.specs.CodeReader.{Frames, Bottom, Under, line, written, operators, Follows, Sound, AwaitsOperand, HasOperand, HasAtoms, ReadsBy, IsBuilt, Reducing, Reduced}
 use Rattle.sml_fixity.proofs.Trees.{each_weaker, sound_roles, stray_no_tree, mixed_no_tree, same_tree, yield_ends, yield_some}
 
 pub atoms_first : (roles : List Role) (steps : List Step) (pending : List Operator) (a : ℕ) → AwaitsOperand roles steps pending → HasAtoms (roles ++ Atom a ∷ []) (steps ++ Push a ∷ []) pending

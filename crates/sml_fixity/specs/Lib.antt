@@ -1,5 +1,4 @@
 pub mod Infix
-pub mod Reading
 pub mod Scopes
 pub mod Sequences
 pub mod Patterns
@@ -8,3 +7,4 @@ pub mod Heads
 pub mod Laws
 pub mod Shapes
 pub mod ItemNames
+pub mod CodeReader

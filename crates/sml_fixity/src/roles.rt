@@ -2,7 +2,7 @@
 
 ghost use Rattle.std.specs.Prelude.{◌≡◌, ◌<◌, ◌++◌, List, [], ◌∷◌, true, length, IfOk, IfErr, OnOk, MatchBool};
 ghost use Rattle.sml_fixity.specs.Infix.{Clashes, IsTheTree, FaultStands};
-ghost use Rattle.sml_fixity.specs.Reading.{Orders, Reads, HasAtoms, Reduced, IsBuilt};
+ghost use Rattle.sml_fixity.specs.CodeReader.{Orders, Reads, HasAtoms, Reduced, IsBuilt};
 ghost use Rattle.sml_fixity.specs.declared.roles.Role.{Role};
 ghost use Rattle.sml_fixity.specs.declared.roles.Role.TheVariants.{Atom, Infix};
 

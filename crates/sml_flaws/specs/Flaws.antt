@@ -160,16 +160,16 @@ flaw_number C.G4 = 4
 flaw_number _ = 5
 
 -- whether a fault comes before another: at an earlier token, or there with a lower number
-abbrev pub precedes : Flaw → Flaw → Bool
-precedes a b = nat_lt a.token b.token || (a.token == b.token && nat_le (flaw_number a.code) (flaw_number b.code))
+abbrev pub flaw_precedes : Flaw → Flaw → Bool
+flaw_precedes a b = nat_lt a.token b.token || (a.token == b.token && nat_le (flaw_number a.code) (flaw_number b.code))
 
-abbrev pub earlier : Flaw → Option Flaw → Flaw
-earlier a None = a
-earlier a (Some b) = if precedes a b then a else b
+abbrev pub earlier_flaw : Flaw → Option Flaw → Flaw
+earlier_flaw a None = a
+earlier_flaw a (Some b) = if flaw_precedes a b then a else b
 
 abbrev pub first_flaw : List Flaw → Option Flaw
 first_flaw [] = None
-first_flaw (a ∷ flaws) = Some (earlier a (first_flaw flaws))
+first_flaw (a ∷ flaws) = Some (earlier_flaw a (first_flaw flaws))
 
 -- what the program knows
 pub record KnowsFits (fits : List Fit) (judge : Judge) : Type 0 where

@@ -165,18 +165,24 @@ fn code_number(code: Code) -> u8
     }
 }
 
-fn precedes(left: Flaw, right: Flaw) -> bool
-    ensures { result ≡ spec.precedes left right }
+fn flaw_precedes(left: Flaw, right: Flaw) -> bool
+    ensures { result ≡ spec.flaw_precedes left right }
 {
     left.token < right.token
         || left.token == right.token && code_number(left.code) <= code_number(right.code)
 }
 
-fn earlier(left: Flaw, right: Option<Flaw>) -> Flaw
-    ensures { result ≡ spec.earlier left right }
+fn earlier_flaw(left: Flaw, right: Option<Flaw>) -> Flaw
+    ensures { result ≡ spec.earlier_flaw left right }
 {
     match right {
-        Some(right) => { if precedes(left, right) { left } else { right } }
+        Some(right) => {
+            if flaw_precedes(left, right) {
+                left
+            } else {
+                right
+            }
+        }
         None => left,
     }
 }
@@ -186,7 +192,7 @@ fn first_of(flaws: &[Flaw]) -> Option<Flaw>
 {
     let mut first = None;
     for i in (0..flaws.len()).rev() {
-        first = Some(earlier(flaws[i], first));
+        first = Some(earlier_flaw(flaws[i], first));
     }
     first
 }

@@ -26,7 +26,7 @@ use Rattle.sml_graph.proofs.Rowing.{set_fields, labels_in, values_in, components
 use Rattle.sml_graph.specs.Bounds.{IsNameWithin, IsHeadWithin, IsWithin, AreWithin}
 use Rattle.sml_layers.specs.Classes.{allows, both_names}
 use Rattle.sml_graph.specs.Limits.{no_limit, MeetsBound, MeetsEquality, MeetsClass, MeetsAt, KeepsThrough, IsUnder, IsOfBoth, both_bounds, both_classes, both, FitsBound, FitsEquality, FitsClass, FitsAt, IsFitUnknown, IsFitNode, asks_parts, for_parts, handed, bound_height, class_height, height}
-use Rattle.sml_layers.specs.Layers.{place_of}
+use Rattle.sml_layers.specs.Layers.{index_of}
 use Rattle.sml_layers.specs.declared.variable.Variable.{Variable}
 use Rattle.sml_graph.specs.declared.variables.Variables.{Variables}
 use Rattle.sml_graph.specs.declared.variables.Variables.TheVariants as V
@@ -525,7 +525,7 @@ possible (V.One x) true None t w q k = variable-admits x (subst (λ t. admits na
 possible (V.One x) false None t w q k = tt
 possible V.Several e c t w q k = w
 
-fits-unknown : (l : Layer) (u : ℕ) (a : Limit) (t : MlType Name) → ((k : Layer) → place_of k ≤ place_of l → MeetsAt k u a t) → IsFitUnknown l a
+fits-unknown : (l : Layer) (u : ℕ) (a : Limit) (t : MlType Name) → ((k : Layer) → index_of k ≤ index_of l → MeetsAt k u a t) → IsFitUnknown l a
 fits-unknown Equations u a t w = tt
 fits-unknown Finiteness u a t w = tt
 fits-unknown Newness u a t w = tt
@@ -534,7 +534,7 @@ fits-unknown Equality u a t w = tt
 fits-unknown Classes u a t w = tt
 fits-unknown Rigidity u a t w = possible a.variables a.equality a.class t (w Rigidity (omega arith)) (w Equality (omega arith)) (w Classes (omega arith))
 
-pub node-fits : (l : Layer) (u : ℕ) (a : Limit) (σ : Assignment finite) (i : ℕ) (x : Node) → Agrees finite σ i x → ((k : Layer) → place_of k ≤ place_of l → MeetsAt k u a (σ i)) → IsFitNode l u a x
+pub node-fits : (l : Layer) (u : ℕ) (a : Limit) (σ : Assignment finite) (i : ℕ) (x : Node) → Agrees finite σ i x → ((k : Layer) → index_of k ≤ index_of l → MeetsAt k u a (σ i)) → IsFitNode l u a x
 node-fits l u a σ i Unknown e w = fits-unknown l u a (σ i) w
 node-fits l u a σ i (Link j) e w = tt
 node-fits l u a σ i (App h kids) e w =
@@ -587,7 +587,7 @@ class-int : (a : Option Names) → MeetsClass a (named (initial N.int))
 class-int None = tt
 class-int (Some c) = (N.int, refl, refl)
 
-pub int-meets : (l : Layer) (u : ℕ) (a : Limit) → place_of l < place_of Rigidity → MeetsAt l u a (named (initial N.int))
+pub int-meets : (l : Layer) (u : ℕ) (a : Limit) → index_of l < index_of Rigidity → MeetsAt l u a (named (initial N.int))
 int-meets Equations u a h = tt
 int-meets Finiteness u a h = tt
 int-meets Newness u a h = bound-initial u a.newness N.int

@@ -20,7 +20,7 @@ use Rattle.sml_graph.specs.Worlds.{Assignment}
 use Rattle.sml_graph.specs.Graphs.{node_at, parts, head_over, fields_of, Agrees, Meets, IsSound, IsSoundNode, IsKnown}
 use Rattle.sml_graph.specs.Ranks.{HasFinite, IsRanked, HasRank}
 use Rattle.sml_graph.specs.Limits.{limit_at, MeetsAt, KeepsAt, IsUnder, IsFitNode, handed, IsClosed, IsFit}
-use Rattle.sml_layers.specs.Layers.{place_of}
+use Rattle.sml_layers.specs.Layers.{index_of}
 use Rattle.sml_layers.specs.declared.class.Names.{Names}
 use Rattle.sml_graph.specs.declared.fields.Fields.{Fields}
 use Rattle.sml_graph.specs.declared.variables.Variables.{Variables}
@@ -141,7 +141,7 @@ module _ (l : Layer) (u : ℕ) (ns : List Node) (ls : List Limit) (ρ : Assignme
   pub solution-keeps : IsRanked ns r → IsClosed ns ls → IsFit l u ns ls → ((i : ℕ) → (IsKnown (node_at ns i) → ⊥) → MeetsAt l u (limit_at ls i) (ρ i)) → KeepsAt l u ls (solution ns ρ r)
   solution-keeps a c f w i = within-keeps a c f w (suc (r i)) i (omega arith)
 
-pub ints-keep : (l : Layer) (u : ℕ) (ns : List Node) (ls : List Limit) (r : ℕ → ℕ) → place_of l < place_of Rigidity → IsRanked ns r → IsClosed ns ls → IsFit l u ns ls → KeepsAt l u ls (solution ns ints r)
+pub ints-keep : (l : Layer) (u : ℕ) (ns : List Node) (ls : List Limit) (r : ℕ → ℕ) → index_of l < index_of Rigidity → IsRanked ns r → IsClosed ns ls → IsFit l u ns ls → KeepsAt l u ls (solution ns ints r)
 ints-keep l u ns ls r h a c f = solution-keeps l u ns ls ints r a c f (λ i e. int-meets l u (limit_at ls i) h)
 
 -- types that are as the limits ask

@@ -15,7 +15,7 @@ use Rattle.sml_layers.specs.declared.layer.Bound.TheVariants as K
 use Rattle.sml_layers.specs.declared.layer.Layer.{Layer}
 use Rattle.sml_layers.specs.declared.variable.Variable.{Variable}
 use Rattle.sml_layers.specs.Demands.{Ask, within, equality, of_class, variable, Demand, equal, has_fields, asks, Words, IsAsAsked, Holds, AllHold, CanBeMet, Mentions, AllMention, layer_of}
-use Rattle.sml_layers.specs.Layers.{place_of}
+use Rattle.sml_layers.specs.Layers.{index_of}
 use Rattle.sml_layers.specs.Rebound.{rebound, rebound_ask, DemandMentions}
 use Rattle.sml_layers.specs.Rows.{HasFields, fields_at}
 use Rattle.sml_layers.specs.Worlds.{World, Assignment, finite, infinite, world}
@@ -194,12 +194,12 @@ module _ {N B C : Type 0} (names : Naming N) (var : Variable → N) (V : B → N
       (subst (HasFields N finite (led keep (assign σ t))) (fields-assigned keep σ fs m.1) (led-fields keep (assign σ t) (fields_at (assign σ) fs) h))
   holds-led l σ (asks a t) m h = λ p.
       subst (IsAsAsked (words names var W) (rebound_ask f a)) (led-assigned keep σ t m)
-      (asked-led a (assign σ t) (h (subst (λ k. place_of k ≤ place_of l) (same-layer f a) p)))
+      (asked-led a (assign σ t) (h (subst (λ k. index_of k ≤ index_of l) (same-layer f a) p)))
 
   holds-back : (w : World) (l : Layer) (σ : Assignment N w) (d : Demand N B) → Holds (words names var W) w l σ (rebound f d) → Holds (words names var V) w l σ d
   holds-back w l σ (equal t u) h = h
   holds-back w l σ (has_fields t fs) h = h
-  holds-back finite l σ (asks a t) h = λ p. asked-back a (assign σ t) (h (subst (λ k. place_of k ≤ place_of l) (sym (same-layer f a)) p))
+  holds-back finite l σ (asks a t) h = λ p. asked-back a (assign σ t) (h (subst (λ k. index_of k ≤ index_of l) (sym (same-layer f a)) p))
   holds-back infinite l σ (asks a t) h = tt
 
   -- infinite types are asked for nothing that has a bound

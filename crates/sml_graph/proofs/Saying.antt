@@ -13,7 +13,7 @@ use Rattle.sml_layers.specs.declared.layer.Layer.TheVariants.{Equations, Finiten
 use Rattle.sml_layers.specs.declared.variable.Variable.{Variable}
 use Rattle.sml_layers.specs.Demands as D
 use Rattle.sml_layers.specs.Demands.{CanBeMet, Mentions, AllMention}
-use Rattle.sml_layers.specs.Layers.{place_of}
+use Rattle.sml_layers.specs.Layers.{index_of}
 use Rattle.sml_layers.specs.Rebound.{DemandMentions}
 use Rattle.sml_layers.specs.Worlds.{world, finite}
 use Rattle.sml_graph.specs.declared.demand.Ask.{Ask}
@@ -147,10 +147,10 @@ layer-same (A.Class c) = refl
 layer-same (A.Variable x) = refl
 
 up-to-same : (l : Layer) (u : ℕ) (σ : Assignment finite) (a : Ask) (t : O.MlType Name)
-    → (place_of (layer_of a) ≤ place_of l → IsAsAsked u a (assign σ t)) ↔ D.HoldsUpTo (by_number u) l σ (ask_of a) t
+    → (index_of (layer_of a) ≤ index_of l → IsAsAsked u a (assign σ t)) ↔ D.HoldsUpTo (by_number u) l σ (ask_of a) t
 up-to-same l u σ a t = (
-  λ h p. (asked-same u a (assign σ t)).0 (h (subst (λ k. place_of k ≤ place_of l) (layer-same a) p)),
-  λ h p. (asked-same u a (assign σ t)).1 (h (subst (λ k. place_of k ≤ place_of l) (sym (layer-same a)) p)),
+  λ h p. (asked-same u a (assign σ t)).0 (h (subst (λ k. index_of k ≤ index_of l) (layer-same a) p)),
+  λ h p. (asked-same u a (assign σ t)).1 (h (subst (λ k. index_of k ≤ index_of l) (sym (layer-same a)) p)),
 )
 
 asks-same : (l : Layer) (u : ℕ) (σ : Assignment (world l)) (a : Ask) (t : O.MlType Name)

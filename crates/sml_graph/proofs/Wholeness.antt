@@ -18,7 +18,7 @@ use Rattle.sml_graph.specs.Graphs.{node_at, parts, Meets, MeetsPairs, SameSoluti
 use Rattle.sml_graph.specs.Interned.{Interns}
 use Rattle.sml_graph.specs.Ranks.{HasRank, no_order, order_at, AreFrom, AreOrdered, IsOrdered, IsSearch}
 use Rattle.sml_graph.specs.Limits.{no_limit, limit_at, KeepsAt, IsClosed, IsFit, IsBefore, SameLimits, NoneKeeps}
-use Rattle.sml_layers.specs.Layers.{place_of}
+use Rattle.sml_layers.specs.Layers.{index_of}
 use Rattle.sml_graph.specs.Whole.{FailsFirst, FailsAt}
 use Rattle.sml_graph.proofs.Asking.{nothing-asked}
 use Rattle.sml_graph.proofs.Searching.{all-parts}
@@ -102,10 +102,10 @@ clash_is ns ps l r e h w σ m q = h w σ m (rw e (q, tt))
 
 -- a layer that fails is the first to fail
 
-fails-first : (l : Layer) (u : ℕ) (g : Graph) (σ : Assignment finite) → Meets finite g.nodes.items σ → ((k : Layer) → place_of k < place_of l → KeepsAt k u g.limits.items σ) → NoneKeeps u g.nodes.items g.limits.items l → FailsFirst l u g
+fails-first : (l : Layer) (u : ℕ) (g : Graph) (σ : Assignment finite) → Meets finite g.nodes.items σ → ((k : Layer) → index_of k < index_of l → KeepsAt k u g.limits.items σ) → NoneKeeps u g.nodes.items g.limits.items l → FailsFirst l u g
 fails-first l u g σ m k n = record { types = σ; meets = m; keeps = k; none = n }
 
-pub fails-at : (l : Layer) (u : ℕ) (g : Graph) (σ : Assignment finite) → Meets finite g.nodes.items σ → ((k : Layer) → place_of k < place_of l → KeepsAt k u g.limits.items σ) → NoneKeeps u g.nodes.items g.limits.items l → FailsAt l u g
+pub fails-at : (l : Layer) (u : ℕ) (g : Graph) (σ : Assignment finite) → Meets finite g.nodes.items σ → ((k : Layer) → index_of k < index_of l → KeepsAt k u g.limits.items σ) → NoneKeeps u g.nodes.items g.limits.items l → FailsAt l u g
 fails-at Equations u g σ m k n = n σ m (λ j h. nothing-asked u g.limits.items σ j (omega (arith, h)))
 fails-at Finiteness u g σ m k n = λ r. n σ m (nothing-asked u g.limits.items σ)
 fails-at Newness u g σ m k n = fails-first Newness u g σ m k n
@@ -114,7 +114,7 @@ fails-at Equality u g σ m k n = fails-first Equality u g σ m k n
 fails-at Classes u g σ m k n = fails-first Classes u g σ m k n
 fails-at Rigidity u g σ m k n = fails-first Rigidity u g σ m k n
 
-pub last : (k : Layer) → place_of k ≤ place_of Rigidity
+pub last : (k : Layer) → index_of k ≤ index_of Rigidity
 last Equations = omega arith
 last Finiteness = omega arith
 last Newness = omega arith

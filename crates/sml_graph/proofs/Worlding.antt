@@ -4,7 +4,7 @@ use Rattle.std.proofs.lemmas.List.{ext_get_or}
 use Rattle.sml_objects.specs.Initial.{Name}
 use Rattle.sml_objects.specs.Objects.{MlType, Head, app, types_of}
 use Rattle.sml_layers.specs.Worlds.{World, finite, infinite, make}
-use Rattle.sml_graph.specs.Worlds.{In, Tree}
+use Rattle.sml_graph.specs.Worlds.{In, InfiniteType}
 
 pub types_of-injective : (ts us : List (MlType Name)) → types_of ts ≡ types_of us → ts ≡ us
 types_of-injective [] [] e = refl
@@ -20,7 +20,7 @@ types_of-injective (t ∷ ts) (u ∷ us) e =
 make_head : (w : World) (h k : Head Name) (ts us : List (In w)) → make w h ts ≡ make w k us → h ≡ k
 make_head finite h k ts us e = let f : app h (types_of ts) ≡ app k (types_of us) = e in cc
 make_head infinite h k ts us e =
-    let f : Some (h, length ts) ≡ Some (k, length us) = ap (λ (t : Tree). t []) e in
+    let f : Some (h, length ts) ≡ Some (k, length us) = ap (λ (t : InfiniteType). t []) e in
     let g : (h, length ts) ≡ (k, length us) = cc in
     ap (λ (p : Head Name × ℕ). p.0) g
 
@@ -30,10 +30,10 @@ make_parts finite h k ts us e =
     let g : types_of ts ≡ types_of us = cc in
     types_of-injective ts us g
 make_parts infinite h k ts us e =
-    let f : Some (h, length ts) ≡ Some (k, length us) = ap (λ (t : Tree). t []) e in
+    let f : Some (h, length ts) ≡ Some (k, length us) = ap (λ (t : InfiniteType). t []) e in
     let g : (h, length ts) ≡ (k, length us) = cc in
     let n : length ts ≡ length us = ap (λ (p : Head Name × ℕ). p.1) g in
-    let below : ℕ → Tree → Tree = λ i t path. t (i ∷ path) in
+    let below : ℕ → InfiniteType → InfiniteType = λ i t path. t (i ∷ path) in
     ext_get_or (λ _. None) ts us n (λ i l. ap (below i) e)
 
 pub app_head : (w : World) (t : In w) (h k : Head Name) (ts us : List (In w)) → t ≡ make w h ts → t ≡ make w k us → h ≡ k

@@ -24,7 +24,7 @@ use Rattle.sml_graph.specs.Bounds.{IsWithin}
 use Rattle.sml_layers.specs.Classes.{names_in}
 use Rattle.sml_graph.specs.Limits.{no_limit, IsIn, KeepsThrough}
 use Rattle.sml_graph.specs.Variables.{variable_type}
-use Rattle.sml_layers.specs.Layers.{place_of}
+use Rattle.sml_layers.specs.Layers.{index_of}
 
 -- A solver. Callers see of it the number of its unknowns, whether it is spent, and what `Permits` says.
 pub record Asked : Type 0 where
@@ -89,7 +89,7 @@ pub data Demand : Type 0 where
 
 -- the type is as asked, as far as the layers up to this one see it
 abbrev pub HoldsUpTo : Layer → ℕ → Assignment finite → Ask → MlType Name → Type 0
-HoldsUpTo l u σ a t = place_of (layer_of a) ≤ place_of l → IsAsAsked u a (assign σ t)
+HoldsUpTo l u σ a t = index_of (layer_of a) ≤ index_of l → IsAsAsked u a (assign σ t)
 
 -- the types of the unknowns meet the demand, as far as the layers up to this one see it
 abbrev pub Holds : (l : Layer) → ℕ → Assignment (world l) → Demand → Type 0
@@ -117,7 +117,7 @@ CanMeet l s d = (σ : Assignment (world l)) × Permits l s σ × Holds l s.unit 
 
 -- the first layer that can't be met
 unfoldable pub IsFirstUnmet : Layer → Asked → Demand → Type 0
-IsFirstUnmet l s d = (CanMeet l s d → ⊥) × ((k : Layer) → place_of k < place_of l → CanMeet k s d)
+IsFirstUnmet l s d = (CanMeet l s d → ⊥) × ((k : Layer) → index_of k < index_of l → CanMeet k s d)
 
 -- the types permitted are those before that also meet the demand
 unfoldable pub Adds : Asked → Demand → Asked → Type 0

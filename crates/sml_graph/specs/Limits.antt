@@ -18,7 +18,7 @@ use Rattle.sml_graph.specs.Graphs.{node_at, head_over, parts, Meets, IsAmong}
 use Rattle.sml_graph.specs.Changes.{HasChange, BeginsWith, IsOfAll, AreInside}
 use Rattle.sml_graph.specs.Bounds.{IsWithin, IsHeadWithin}
 use Rattle.sml_layers.specs.Classes.{allows, both_names}
-use Rattle.sml_layers.specs.Layers.{place_of}
+use Rattle.sml_layers.specs.Layers.{index_of}
 use Rattle.sml_graph.specs.Variables.{both_variables, MeetsVariables, FitsVariables, IsPossible, variables_height}
 use Rattle.sml_graph.specs.declared.variables.Variables.TheVariants as V
 
@@ -60,7 +60,7 @@ KeepsAt l u ls σ = (i : ℕ) → MeetsAt l u (limit_at ls i) (σ i)
 
 -- the same in the layers up to this one
 abbrev pub KeepsThrough : Layer → ℕ → List Limit → Assignment finite → Type 0
-KeepsThrough l u ls σ = (k : Layer) → place_of k ≤ place_of l → KeepsAt k u ls σ
+KeepsThrough l u ls σ = (k : Layer) → index_of k ≤ index_of l → KeepsAt k u ls σ
 
 -- the first limit asks as much as the second
 abbrev pub IsUnder : Limit → Limit → Type 0
@@ -166,7 +166,7 @@ IsFit l u ns ls = (i : ℕ) → IsFitNode l u (limit_at ls i) (node_at ns i)
 -- the layer comes before one that failed
 abbrev pub IsBefore : Layer → Option Layer → Type 0
 IsBefore l None = Unit {0}
-IsBefore l (Some m) = place_of l < place_of m
+IsBefore l (Some m) = index_of l < index_of m
 
 -- each node is done, but for changes that are left to do and for layers that failed
 abbrev pub IsDoneBut : ℕ → List Node → List Limit → Option Layer → List Change → Type 0

@@ -11,7 +11,7 @@ use Rattle.sml_graph.specs.Worlds.{Assignment}
 use Rattle.sml_graph.specs.Graphs.{IsSound, Meets, AreOwners}
 use Rattle.sml_graph.specs.Changes.{SameOutside, AreInside}
 use Rattle.sml_graph.specs.Ranks.{HasRank, AreFrom, AreOrdered, AreOrderedBut}
-use Rattle.sml_layers.specs.Layers.{place_of}
+use Rattle.sml_layers.specs.Layers.{index_of}
 use Rattle.sml_graph.specs.Limits.{KeepsAt, IsClosed, IsFit, IsDoneBut, SameLimits, NoneKeeps, Lowers}
 
 -- there is room below all orders
@@ -55,7 +55,7 @@ pub record Finishes (u : ℕ) (g h : Graph) : Type 0 where
 pub record FailsFirst (l : Layer) (u : ℕ) (g : Graph) : Type 0 where
   pub types : Assignment finite
   pub meets : Meets finite g.nodes.items types
-  pub keeps : (k : Layer) → place_of k < place_of l → KeepsAt k u g.limits.items types
+  pub keeps : (k : Layer) → index_of k < index_of l → KeepsAt k u g.limits.items types
   pub none : NoneKeeps u g.nodes.items g.limits.items l
 
 -- the first layer in which no types meet the graph

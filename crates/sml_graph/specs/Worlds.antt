@@ -3,8 +3,8 @@ use Rattle.sml_objects.specs.Initial.{Name}
 use Rattle.sml_layers.specs.Worlds as W
 use Rattle.sml_layers.specs.Worlds.{World}
 
-abbrev pub Tree : Type 0
-Tree = W.Tree Name
+abbrev pub InfiniteType : Type 0
+InfiniteType = W.InfiniteType Name
 
 abbrev pub In : World → Type 0
 In w = W.In Name w

@@ -12,7 +12,7 @@ ghost use Rattle.sml_layers.specs.Worlds.{finite};
 ghost use Rattle.sml_graph.specs.Worlds.{Assignment};
 ghost use Rattle.sml_graph.specs.Graphs.{IsSound, Meets, head_over, parts};
 ghost use Rattle.sml_graph.specs.Changes.{AreInside};
-ghost use Rattle.sml_layers.specs.Layers.{place_of};
+ghost use Rattle.sml_layers.specs.Layers.{index_of};
 ghost use Rattle.sml_graph.specs.Variables.{IsPossible, FitsVariables};
 ghost use Rattle.sml_layers.specs.Classes.{has_several, has_one};
 ghost use Rattle.sml_graph.specs.Limits.{no_limit, both, both_bounds, both_classes, FitsBound, FitsEquality, FitsClass, FitsAt, IsFitNode, handed, IsClosed, IsFit, IsBefore, IsDoneBut, SameLimits, NoneKeeps, Lowers};
@@ -301,7 +301,7 @@ fn earlier(one: Option<Layer>, other: Option<Layer>) -> Option<Layer>
         (None, _) => other,
         (Some(_), None) => one,
         (Some(first), Some(second)) => {
-            if first.place() < second.place() {
+            if first.index() < second.index() {
                 one
             } else {
                 other

@@ -14,7 +14,7 @@ use Rattle.sml_layers.specs.declared.layer.Layer.{Layer}
 use Rattle.sml_layers.specs.declared.layer.Layer.TheVariants.{Newness, Locality, Equality, Classes, Rigidity}
 use Rattle.sml_layers.specs.declared.variable.Variable.{Variable}
 use Rattle.sml_layers.specs.Classes.{names_in, allows}
-use Rattle.sml_layers.specs.Layers.{place_of}
+use Rattle.sml_layers.specs.Layers.{index_of}
 use Rattle.sml_layers.specs.Rows.{HasFields, fields_at}
 use Rattle.sml_layers.specs.Worlds.{World, Assignment, finite, infinite, typed, world}
 
@@ -72,7 +72,7 @@ module _ {N B : Type 0} (words : Words N B) where
 
   -- the type is as asked, as far as the layers up to this one see it
   abbrev pub HoldsUpTo : Layer → Assignment N finite → Ask B → MlType N → Type 0
-  HoldsUpTo l σ a t = place_of (layer_of a) ≤ place_of l → IsAsAsked a (assign σ t)
+  HoldsUpTo l σ a t = index_of (layer_of a) ≤ index_of l → IsAsAsked a (assign σ t)
 
   -- the types of the unknowns meet the demand, as far as the layers up to this one see it
   abbrev pub Holds : (w : World) → Layer → Assignment N w → Demand N B → Type 0
@@ -92,4 +92,4 @@ module _ {N B : Type 0} (words : Words N B) where
 
   -- the first layer in which none do
   abbrev pub IsFirstUnmet : Layer → List (Demand N B) → Type 0
-  IsFirstUnmet l ds = (CanBeMet l ds → ⊥) × ((k : Layer) → place_of k < place_of l → CanBeMet k ds)
+  IsFirstUnmet l ds = (CanBeMet l ds → ⊥) × ((k : Layer) → index_of k < index_of l → CanBeMet k ds)

@@ -18,11 +18,11 @@ code_of Classes = U5
 code_of Rigidity = U7
 
 -- the place in the order of layers
-abbrev pub place_of : Layer → ℕ
-place_of Equations = 0
-place_of Finiteness = 1
-place_of Newness = 2
-place_of Locality = 3
-place_of Equality = 4
-place_of Classes = 5
-place_of Rigidity = 6
+abbrev pub index_of : Layer → ℕ
+index_of Equations = 0
+index_of Finiteness = 1
+index_of Newness = 2
+index_of Locality = 3
+index_of Equality = 4
+index_of Classes = 5
+index_of Rigidity = 6

@@ -1,5 +1,5 @@
--- Types in two algebras: the finite types of section 4.2 of the Definition, and trees that may be infinite. Where
--- even infinite trees can't make two types equal, they clash; where only these can, a type would be circular.
+-- Types in two algebras: the finite types of section 4.2 of the Definition, and types that may be infinite. Where
+-- even infinite types can't make two types equal, they clash; where only these can, a type would be circular.
 use Rattle.std.specs.Prelude.{ℕ, List, [], ◌∷◌, length, Option, Some, None, slice_index_or}
 use Rattle.sml_objects.specs.Objects.{MlType, MlTypes, Head, bound, free, app, no_type, and_type, types_of}
 use Rattle.sml_objects.specs.Types.{assign}
@@ -7,8 +7,8 @@ use Rattle.sml_layers.specs.declared.layer.Layer.{Layer}
 use Rattle.sml_layers.specs.declared.layer.Layer.TheVariants.{Equations, Finiteness, Newness, Locality, Equality, Classes, Rigidity}
 
 -- what stands at the end of each path from the top: a head with the number of its parts, or nothing
-abbrev pub Tree : Type 0 → Type 0
-Tree N = List ℕ → Option (Head N × ℕ)
+abbrev pub InfiniteType : Type 0 → Type 0
+InfiniteType N = List ℕ → Option (Head N × ℕ)
 
 pub data World : Type 0 where
   finite : World
@@ -16,13 +16,13 @@ pub data World : Type 0 where
 
 abbrev pub In : Type 0 → World → Type 0
 In N finite = MlType N
-In N infinite = Tree N
+In N infinite = InfiniteType N
 
 -- an assignment gives each unknown a type
 abbrev pub Assignment : Type 0 → World → Type 0
 Assignment N w = ℕ → In N w
 
-abbrev pub tree : {N : Type 0} → Head N → List (Tree N) → Tree N
+abbrev pub tree : {N : Type 0} → Head N → List (InfiniteType N) → InfiniteType N
 tree h ts [] = Some (h, length ts)
 tree h ts (k ∷ path) = slice_index_or ts k (λ _. None) path
 
@@ -33,12 +33,12 @@ make infinite h ts = tree h ts
 
 -- the tree of a type whose free variables have these trees
 unfoldable mutual
-  pub spread : {N : Type 0} → (ℕ → Tree N) → MlType N → Tree N
+  pub spread : {N : Type 0} → (ℕ → InfiniteType N) → MlType N → InfiniteType N
   spread σ (bound k) = λ _. None
   spread σ (free v) = σ v
   spread σ (app h ts) = tree h (spread_all σ ts)
 
-  pub spread_all : {N : Type 0} → (ℕ → Tree N) → MlTypes N → List (Tree N)
+  pub spread_all : {N : Type 0} → (ℕ → InfiniteType N) → MlTypes N → List (InfiniteType N)
   spread_all σ no_type = []
   spread_all σ (and_type t ts) = spread σ t ∷ spread_all σ ts
 

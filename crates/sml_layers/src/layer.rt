@@ -1,7 +1,7 @@
 //! The layers in which demands are met.
 
 ghost use Rattle.std.specs.Prelude.{◌≡◌};
-ghost use Rattle.sml_layers.specs.Layers.{code_of, place_of};
+ghost use Rattle.sml_layers.specs.Layers.{code_of, index_of};
 
 use sml_lex::fault::Code;
 
@@ -48,9 +48,9 @@ impl Layer {
         }
     }
 
-    /// The place in the order of layers.
-    pub fn place(self) -> u32
-        ensures { result ≡ place_of self }
+    /// The index in the order of layers.
+    pub fn index(self) -> u32
+        ensures { result ≡ index_of self }
     {
         match self {
             Layer::Equations => 0,

@@ -9,13 +9,13 @@ use Rattle.sml_lex.specs.declared.longest.Lexeme.{Lexeme}
 use Rattle.sml_lex.specs.declared.machine.State.{State}
 use Rattle.sml_lex.specs.declared.machine.State.TheVariants.{Dead}
 use Rattle.sml_lex.specs.Words.{is_text, word_kind}
-use Rattle.sml_lex.specs.Machine.{Reading, fresh, step_state, part_behind, step, run, kind_at, kind_read, token_kind, IsLongestWithin}
+use Rattle.sml_lex.specs.Machine.{Progress, fresh, step_state, part_behind, step, run, kind_at, kind_read, token_kind, IsLongestWithin}
 
-pub run-append : (r : Reading) (a b : List ℕ) → run r (a ++ b) ≡ run (run r a) b
+pub run-append : (r : Progress) (a b : List ℕ) → run r (a ++ b) ≡ run (run r a) b
 run-append r [] b = refl
 run-append r (c ∷ a) b = run-append (step r c) a b
 
-run_dead : (r : Reading) (text : List ℕ) → r.state ≡ Dead → (run r text).state ≡ Dead
+run_dead : (r : Progress) (text : List ℕ) → r.state ≡ Dead → (run r text).state ≡ Dead
 run_dead r [] e = e
 run_dead r (c ∷ text) e = run_dead (step r c) text (still r.state e)
   where
@@ -52,7 +52,7 @@ longest_dead bytes i best within e = longer bytes i (length bytes) (omega (arith
         ap (λ t. (run fresh t).state) split ∙ ap (λ r. r.state) (run-append fresh (take (i + 1) bytes) (take (n - (i + 1)) (drop (i + 1) bytes)))
         ∙ run_dead (run fresh (take (i + 1) bytes)) (take (n - (i + 1)) (drop (i + 1) bytes)) e
 
-    refused : (r : Reading) → r.state ≡ Dead → kind_read r ≡ None
+    refused : (r : Progress) → r.state ≡ Dead → kind_read r ≡ None
     refused r e = ap (λ s. kind_at s (word_kind r.part) (is_text r.part (codes "*"))) e
 
 -- one more byte
@@ -85,7 +85,7 @@ kind_on bytes i state part word found star s p w t k =
     ∙ ap (λ w. kind_at state w (is_text part (codes "*"))) (sym w)
     ∙ ap (λ t. kind_at state word t) (sym t) ∙ sym k
   where
-    r : Reading
+    r : Progress
     r = run fresh (take (i + 1) bytes)
 
 pub start_on : (start i now : ℕ) (dot : Bool) → start ≤ i → now ≡ cond dot (i + 1) start → now ≤ i + 1

@@ -8,7 +8,7 @@ use Rattle.sml_lex.specs.Comments.{opens_comment, closes_comment, Body, body_tex
 use Rattle.sml_lex.specs.Comments.Body.{Empty, Byte, Nested}
 use Rattle.sml_lex.specs.CommentReading.{after_comments}
 use Rattle.sml_lex.proofs.Comments.{opened, closed_last, closed_one, passed_one}
-use Rattle.sml_lex.proofs.Reading.{false_is_true, first_true, second_true}
+use Rattle.sml_lex.proofs.MachineRuns.{false_is_true, first_true, second_true}
 
 -- what is read of a body
 passed_body : (body : Body) (behind : List ℕ) (depth : ℕ) → 0 < depth → IsBody body behind → after_comments depth (body_text body ++ behind) ≡ after_comments depth behind

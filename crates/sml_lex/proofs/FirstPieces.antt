@@ -19,7 +19,7 @@ use Rattle.sml_lex.specs.Machine.{first_state, part_behind, token_kind}
 use Rattle.sml_lex.specs.Comments.{opens_comment, IsComment}
 use Rattle.sml_lex.specs.Pieces.{is_cut, fault_here, IsLexeme, IsPiece, IsFault}
 use Rattle.sml_lex.proofs.ByteClasses.{white_no_letter, white_no_digit, white_no_sign, white_no_mark}
-use Rattle.sml_lex.proofs.Reading.{Reads, next, dead, none_is_some, false_is_true, some_same, apart, first_true, second_true}
+use Rattle.sml_lex.proofs.MachineRuns.{Reads, next, dead, none_is_some, false_is_true, some_same, apart, first_true, second_true}
 use Rattle.sml_lex.proofs.CommentBodies.{comment_opens, comment_once}
 use Rattle.sml_lex.proofs.StringItems.{item_sound}
 use Rattle.sml_lex.proofs.TokensRead.{is_quoted, token_reads}

@@ -16,7 +16,7 @@ use Rattle.sml_lex.specs.Tokens.{IsToken}
 use Rattle.sml_lex.specs.Machine.{token_kind, IsLongestWithin}
 use Rattle.sml_lex.specs.Comments.{opens_comment}
 use Rattle.sml_lex.specs.Pieces.{is_cut, IsLexeme}
-use Rattle.sml_lex.proofs.Reading.{and_false, Reads, next, dead, none_is_some, false_is_true, first_true, second_true}
+use Rattle.sml_lex.proofs.MachineRuns.{and_false, Reads, next, dead, none_is_some, false_is_true, first_true, second_true}
 use Rattle.sml_lex.proofs.ReadTokens.{token_read}
 use Rattle.sml_lex.proofs.StringItems.{none_is_item, same_item, item_complete}
 use Rattle.sml_lex.proofs.TokensRead.{is_quoted, token_reads}

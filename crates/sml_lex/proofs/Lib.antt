@@ -8,7 +8,7 @@ pub mod FirstTokens
 pub mod Order
 pub mod ReadNumbers
 pub mod ReadTokens
-pub mod Reading
+pub mod MachineRuns
 pub mod ReservedWords
 pub mod Spelling
 pub mod StringItems

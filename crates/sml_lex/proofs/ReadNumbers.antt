@@ -11,7 +11,7 @@ use Rattle.sml_lex.specs.Words.{is_reserved}
 use Rattle.sml_lex.specs.Bytes.{all_are}
 use Rattle.sml_lex.specs.Tokens.{is_digits, IsDecimal, IsFraction, IsExponent, IsToken}
 use Rattle.sml_lex.specs.Machine.{step_state, part_behind, real_state, fraction_state, digit_or}
-use Rattle.sml_lex.proofs.Reading.{Reads, next, done, none_is_some, false_is_true, some_same, dead, on_if, both_true, apart, Loops, loops, only}
+use Rattle.sml_lex.proofs.MachineRuns.{Reads, next, done, none_is_some, false_is_true, some_same, dead, on_if, both_true, apart, Loops, loops, only}
 
 pub of_kind : (text : List ℕ) (k kind : Kind) → Some k ≡ Some kind → IsToken k text → IsToken kind text
 of_kind text k kind e t = subst (λ k. IsToken k text) (some_same k kind e) t

@@ -2,7 +2,7 @@
 use Rattle.std.proofs.Common.{◌≡◌, ℕ, List, [], ◌∷◌, ◌++◌, Bool, true, false, Some, None, refl, sym, ◌∙◌}
 use Rattle.std.proofs.lemmas.Bool.{cond-true, cond-false}
 use Rattle.sml_lex.specs.declared.token.Kind.{Kind}
-use Rattle.sml_lex.proofs.Reading.{none_is_some}
+use Rattle.sml_lex.proofs.MachineRuns.{none_is_some}
 use Rattle.sml_lex.specs.Words.{is_text, kind_among, words_e_to_f, words_h_to_i, words_l_to_o, words_r_to_s, words_t_to_w, words_of_signs, words_of_marks}
 
 pub found : (text : List ℕ) (words more : List (List ℕ × Kind)) (kind : Kind) → kind_among text words ≡ Some kind → kind_among text (words ++ more) ≡ Some kind

@@ -9,7 +9,7 @@ use Rattle.sml_lex.specs.Numbers.{number}
 use Rattle.sml_lex.specs.Bytes.{all_are, is_run}
 use Rattle.sml_lex.specs.Strings.{Item, item_text, is_plain, is_escape_letter, IsItem}
 use Rattle.sml_lex.specs.Strings.Item.{Plain, Letter, Control, Decimal, Hexadecimal, Gap}
-use Rattle.sml_lex.proofs.Reading.{and_false, false_is_true, both_true, first_true, second_true, apart}
+use Rattle.sml_lex.proofs.MachineRuns.{and_false, false_is_true, both_true, first_true, second_true, apart}
 use Rattle.sml_lex.proofs.ByteClasses.{digit_no_escape, white_no_escape, white_no_digit}
 use Rattle.sml_lex.specs.StringReading.{white_at, gap_at, control_at, decimal_at, hexadecimal_at, escape_at, item_at, element}
 

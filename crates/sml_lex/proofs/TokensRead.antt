@@ -11,10 +11,10 @@ use Rattle.sml_lex.specs.Bytes.{is_digit, is_hex_digit, is_letter, is_name_byte,
 use Rattle.sml_lex.specs.Words.{is_text, kind_among, reserved_words, word_kind, is_reserved}
 use Rattle.sml_lex.specs.Bytes.{all_are, is_run}
 use Rattle.sml_lex.specs.Tokens.{is_digits, is_hex_digits, is_alphanumeric, is_symbolic, is_star, qualifiers, AreQualifiers, IsLong, IsDecimal, IsFraction, IsExponent, IsReal, IsToken}
-use Rattle.sml_lex.specs.Machine.{Reading, fresh, first_state, step_state, part_behind, name_byte_or, dot_or_dead, step, run, kind_at, kind_read, token_kind}
+use Rattle.sml_lex.specs.Machine.{Progress, fresh, first_state, step_state, part_behind, name_byte_or, dot_or_dead, step, run, kind_at, kind_read, token_kind}
 use Rattle.sml_lex.proofs.Beginnings.{run-append}
 use Rattle.sml_lex.proofs.ByteClasses.{digit_no_letter, sign_no_letter, sign_no_digit}
-use Rattle.sml_lex.proofs.Reading.{at, none_is_some, false_is_true, first_true, second_true, apart, part_on_byte}
+use Rattle.sml_lex.proofs.MachineRuns.{at, none_is_some, false_is_true, first_true, second_true, apart, part_on_byte}
 use Rattle.sml_lex.proofs.ReadNumbers.{not_exponent}
 
 -- reserved words
@@ -121,18 +121,18 @@ signs_run (c ∷ text) a = go (c == 126) refl
     go false e = Signs (run_first is_sign is_sign Fresh Sign refl refl c text (sign_first c (first_true _ _ a) e) (λ b c e. cond-true _ _ _ e) (first_true _ _ a) (second_true _ _ a))
 
 -- states alone, where the part doesn't matter
-state_step : (r : Reading) (s t : State) (c : ℕ) → r.state ≡ s → ((b : Bool) → step_state s b c ≡ t) → (step r c).state ≡ t
+state_step : (r : Progress) (s t : State) (c : ℕ) → r.state ≡ s → ((b : Bool) → step_state s b c ≡ t) → (step r c).state ≡ t
 state_step r s t c e h = ap (λ s. step_state s (is_reserved r.part) c) e ∙ h (is_reserved r.part)
 
-state_all : (f : ℕ → Bool) (s : State) → ((b : Bool) (c : ℕ) → f c ≡ true → step_state s b c ≡ s) → (r : Reading) (text : List ℕ) → r.state ≡ s → all_are f text ≡ true → (run r text).state ≡ s
+state_all : (f : ℕ → Bool) (s : State) → ((b : Bool) (c : ℕ) → f c ≡ true → step_state s b c ≡ s) → (r : Progress) (text : List ℕ) → r.state ≡ s → all_are f text ≡ true → (run r text).state ≡ s
 state_all f s stays r [] e a = e
 state_all f s stays r (c ∷ text) e a = state_all f s stays (step r c) text (state_step r s s c e (λ b. stays b c (first_true _ _ a))) (second_true _ _ a)
 
 -- one byte of a class that leads there, and then bytes that stay
-state_run : (f : ℕ → Bool) (s t : State) → ((b : Bool) (c : ℕ) → f c ≡ true → step_state s b c ≡ t) → ((b : Bool) (c : ℕ) → f c ≡ true → step_state t b c ≡ t) → (r : Reading) (c : ℕ) (text : List ℕ) → r.state ≡ s → f c ≡ true → all_are f text ≡ true → (run r (c ∷ text)).state ≡ t
+state_run : (f : ℕ → Bool) (s t : State) → ((b : Bool) (c : ℕ) → f c ≡ true → step_state s b c ≡ t) → ((b : Bool) (c : ℕ) → f c ≡ true → step_state t b c ≡ t) → (r : Progress) (c : ℕ) (text : List ℕ) → r.state ≡ s → f c ≡ true → all_are f text ≡ true → (run r (c ∷ text)).state ≡ t
 state_run f s t leads stays r c text e h a = state_all f t stays (step r c) text (state_step r s t c e (λ b. leads b c h)) a
 
-state_kind : (r : Reading) (s : State) (k : Option Kind) → ((w : Option Kind) (b : Bool) → kind_at s w b ≡ k) → r.state ≡ s → kind_read r ≡ k
+state_kind : (r : Progress) (s : State) (k : Option Kind) → ((w : Option Kind) (b : Bool) → kind_at s w b ≡ k) → r.state ≡ s → kind_read r ≡ k
 state_kind r s k own e = ap (λ s. kind_at s (word_kind r.part) (is_text r.part (codes "*"))) e ∙ own (word_kind r.part) (is_text r.part (codes "*"))
 
 -- what ends a decimal integer that a real may go on from
@@ -140,11 +140,11 @@ abbrev IsWhole : State → Type 0
 IsWhole s = (b : Bool) → (step_state s b 46 ≡ Point) × (step_state s b 69 ≡ ExponentMark) × (step_state s b 101 ≡ ExponentMark)
 
 -- the state behind digits: first0 is the one behind a first 0, digits0 that behind more, other that behind others
-zero_digits : (r : Reading) (text : List ℕ) → r.state ≡ Zero → all_are is_digit text ≡ true → ((run r text).state ≡ Zero) ⊎ ((run r text).state ≡ ZeroDigits)
+zero_digits : (r : Progress) (text : List ℕ) → r.state ≡ Zero → all_are is_digit text ≡ true → ((run r text).state ≡ Zero) ⊎ ((run r text).state ≡ ZeroDigits)
 zero_digits r [] e a = inl e
 zero_digits r (c ∷ text) e a = inr (state_run is_digit Zero ZeroDigits (λ b c d. cond-false _ _ _ (apart is_digit 120 refl c d) ∙ cond-false _ _ _ (apart is_digit 119 refl c d) ∙ cond-true _ _ _ d) (λ b c d. cond-true _ _ _ d) r c text e (first_true _ _ a) (second_true _ _ a))
 
-negative_zero_digits : (r : Reading) (text : List ℕ) → r.state ≡ NegativeZero → all_are is_digit text ≡ true → ((run r text).state ≡ NegativeZero) ⊎ ((run r text).state ≡ NegativeDigits)
+negative_zero_digits : (r : Progress) (text : List ℕ) → r.state ≡ NegativeZero → all_are is_digit text ≡ true → ((run r text).state ≡ NegativeZero) ⊎ ((run r text).state ≡ NegativeDigits)
 negative_zero_digits r [] e a = inl e
 negative_zero_digits r (c ∷ text) e a = inr (state_run is_digit NegativeZero NegativeDigits (λ b c d. cond-false _ _ _ (apart is_digit 120 refl c d) ∙ cond-true _ _ _ d) (λ b c d. cond-true _ _ _ d) r c text e (first_true _ _ a) (second_true _ _ a))
 
@@ -188,35 +188,35 @@ whole_runs whole (digits, a, inr e) = subst (λ w. (s : State) × ((run fresh w)
     go (inl h) = (NegativeZero, h, λ b. (refl, refl, refl))
     go (inr h) = (NegativeDigits, h, λ b. (refl, refl, refl))
 
-fraction_runs : (r : Reading) (s : State) (fraction : List ℕ) → r.state ≡ s → IsWhole s → IsFraction fraction → (run r fraction).state ≡ Fraction
+fraction_runs : (r : Progress) (s : State) (fraction : List ℕ) → r.state ≡ s → IsWhole s → IsFraction fraction → (run r fraction).state ≡ Fraction
 fraction_runs r s fraction e w (digits, f, a) = ap (λ t. (run r t).state) f ∙ go digits a
   where
     go : (digits : List ℕ) → is_digits digits ≡ true → (run r (46 ∷ digits)).state ≡ Fraction
     go [] a = absurd (false_is_true a)
     go (c ∷ text) a = state_run is_digit Point Fraction (λ b c d. cond-true _ _ _ d) (λ b c d. cond-false _ _ _ (not_exponent c d) ∙ cond-true _ _ _ d) (step r 46) c text (state_step r s Point 46 e (λ b. (w b).0)) (first_true _ _ a) (second_true _ _ a)
 
-exponent_digits : (r : Reading) (digits : List ℕ) → is_digits digits ≡ true → r.state ≡ ExponentMark → (run r digits).state ≡ Exponent
+exponent_digits : (r : Progress) (digits : List ℕ) → is_digits digits ≡ true → r.state ≡ ExponentMark → (run r digits).state ≡ Exponent
 exponent_digits r [] a e = absurd (false_is_true a)
 exponent_digits r (c ∷ text) a e = state_run is_digit ExponentMark Exponent (λ b c d. cond-false _ _ _ (apart is_digit 126 refl c d) ∙ cond-true _ _ _ d) (λ b c d. cond-true _ _ _ d) r c text e (first_true _ _ a) (second_true _ _ a)
 
-exponent_runs : (r : Reading) (s : State) (exponent : List ℕ) → r.state ≡ s → ((b : Bool) → (step_state s b 69 ≡ ExponentMark) × (step_state s b 101 ≡ ExponentMark)) → IsExponent exponent → (run r exponent).state ≡ Exponent
+exponent_runs : (r : Progress) (s : State) (exponent : List ℕ) → r.state ≡ s → ((b : Bool) → (step_state s b 69 ≡ ExponentMark) × (step_state s b 101 ≡ ExponentMark)) → IsExponent exponent → (run r exponent).state ≡ Exponent
 exponent_runs r s exponent e marks (whole, d, x) = elim x [
   | inl x ↦ ap (λ t. (run r t).state) x ∙ whole_of (step r 69) whole d (state_step r s ExponentMark 69 e (λ b. (marks b).0))
   | inr x ↦ ap (λ t. (run r t).state) x ∙ whole_of (step r 101) whole d (state_step r s ExponentMark 101 e (λ b. (marks b).1))
 ]
   where
-    tilde_digits : (r : Reading) (digits : List ℕ) → is_digits digits ≡ true → r.state ≡ ExponentMark → (run r (126 ∷ digits)).state ≡ Exponent
+    tilde_digits : (r : Progress) (digits : List ℕ) → is_digits digits ≡ true → r.state ≡ ExponentMark → (run r (126 ∷ digits)).state ≡ Exponent
     tilde_digits r [] a e = absurd (false_is_true a)
     tilde_digits r (c ∷ text) a e = state_run is_digit ExponentTilde Exponent (λ b c d. cond-true _ _ _ d) (λ b c d. cond-true _ _ _ d) (step r 126) c text (state_step r ExponentMark ExponentTilde 126 e (λ b. refl)) (first_true _ _ a) (second_true _ _ a)
 
-    whole_of : (r : Reading) (whole : List ℕ) → IsDecimal whole → r.state ≡ ExponentMark → (run r whole).state ≡ Exponent
+    whole_of : (r : Progress) (whole : List ℕ) → IsDecimal whole → r.state ≡ ExponentMark → (run r whole).state ≡ Exponent
     whole_of r whole (digits, a, inl e) h = ap (λ t. (run r t).state) e ∙ exponent_digits r digits a h
     whole_of r whole (digits, a, inr e) h = ap (λ t. (run r t).state) e ∙ tilde_digits r digits a h
 
 real_runs : (text : List ℕ) → IsReal text → ((run fresh text).state ≡ Fraction) ⊎ ((run fresh text).state ≡ Exponent)
 real_runs text x = subst (λ r. (r.state ≡ Fraction) ⊎ (r.state ≡ Exponent)) (sym path) (by_parts x.parts)
   where
-    whole : Reading
+    whole : Progress
     whole = run fresh x.whole
 
     path : run fresh text ≡ run (run (run fresh x.whole) x.fraction) x.exponent
@@ -230,15 +230,15 @@ real_runs text x = subst (λ r. (r.state ≡ Fraction) ⊎ (r.state ≡ Exponent
     by_parts (inr (inl (f, e))) = inr (ap (λ t. (run (run (run fresh x.whole) t) x.exponent).state) f ∙ exponent_runs (run fresh x.whole) w.0 x.exponent w.1 (λ b. ((w.2 b).1, (w.2 b).2)) e)
     by_parts (inr (inr (f, e))) = inr (exponent_runs (run (run fresh x.whole) x.fraction) Fraction x.exponent (fraction_runs (run fresh x.whole) w.0 x.fraction w.1 w.2 f) (λ b. (refl, refl)) e)
 
-hex_runs : (r : Reading) (digits : List ℕ) → r.state ≡ HexMark → is_hex_digits digits ≡ true → (run r digits).state ≡ Hex
+hex_runs : (r : Progress) (digits : List ℕ) → r.state ≡ HexMark → is_hex_digits digits ≡ true → (run r digits).state ≡ Hex
 hex_runs r [] e a = absurd (false_is_true a)
 hex_runs r (c ∷ text) e a = state_run is_hex_digit HexMark Hex (λ b c d. cond-true _ _ _ d) (λ b c d. cond-true _ _ _ d) r c text e (first_true _ _ a) (second_true _ _ a)
 
-word_hex_runs : (r : Reading) (digits : List ℕ) → r.state ≡ WordHexMark → is_hex_digits digits ≡ true → (run r digits).state ≡ WordHex
+word_hex_runs : (r : Progress) (digits : List ℕ) → r.state ≡ WordHexMark → is_hex_digits digits ≡ true → (run r digits).state ≡ WordHex
 word_hex_runs r [] e a = absurd (false_is_true a)
 word_hex_runs r (c ∷ text) e a = state_run is_hex_digit WordHexMark WordHex (λ b c d. cond-true _ _ _ d) (λ b c d. cond-true _ _ _ d) r c text e (first_true _ _ a) (second_true _ _ a)
 
-word_digits_run : (r : Reading) (digits : List ℕ) → r.state ≡ WordMark → is_digits digits ≡ true → (run r digits).state ≡ WordDigits
+word_digits_run : (r : Progress) (digits : List ℕ) → r.state ≡ WordMark → is_digits digits ≡ true → (run r digits).state ≡ WordDigits
 word_digits_run r [] e a = absurd (false_is_true a)
 word_digits_run r (c ∷ text) e a = state_run is_digit WordMark WordDigits (λ b c d. cond-false _ _ _ (apart is_digit 120 refl c d) ∙ cond-true _ _ _ d) (λ b c d. cond-true _ _ _ d) r c text e (first_true _ _ a) (second_true _ _ a)
 

@@ -8,7 +8,7 @@ use Rattle.sml_lex.specs.declared.pieces.Piece.{Piece}
 use Rattle.sml_lex.specs.declared.pieces.Piece.TheVariants.{Blank, Comment, Lexeme}
 use Rattle.sml_lex.specs.Pieces.{IsPiece, size_of, SpellsFrom, tokens_of, SpellingIsUnique}
 use Rattle.sml_lex.specs.Tokens.{IsToken}
-use Rattle.sml_lex.proofs.Reading.{false_is_true}
+use Rattle.sml_lex.proofs.MachineRuns.{false_is_true}
 use Rattle.sml_lex.proofs.CommentBodies.{comment_bytes}
 use Rattle.sml_lex.proofs.FirstTokens.{never_empty}
 use Rattle.sml_lex.proofs.FirstPieces.{Answer, answers_once}

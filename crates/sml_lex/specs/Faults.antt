@@ -10,6 +10,10 @@ pub record Fault (P : Type 0) : Type 0 where
   pub place : P
   pub detail : Option (List ℕ)
 
+-- the place of a declaration's first token, from which its other places count
+abbrev pub first_place : Place
+first_place = record { line = 1; column = 1 }
+
 abbrev pub fault_of : P.Fault → Fault Place
 fault_of f = record {
   code = f.code;

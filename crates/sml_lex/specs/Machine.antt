@@ -110,11 +110,11 @@ step_state Exponent reserved c = digit_or Exponent Dead c
 step_state Dead reserved c = Dead
 
 -- what was read: the state, and the part of a long identifier that is being read
-pub record Reading : Type 0 where
+pub record Progress : Type 0 where
   pub state : State
   pub part : List ℕ
 
-abbrev pub fresh : Reading
+abbrev pub fresh : Progress
 fresh = record {
   state = Fresh;
   part = [];
@@ -124,13 +124,13 @@ fresh = record {
 abbrev pub part_behind : List ℕ → ℕ → List ℕ
 part_behind part c = if c == 46 then [] else part ++ c ∷ []
 
-abbrev pub step : Reading → ℕ → Reading
+abbrev pub step : Progress → ℕ → Progress
 step r c = record {
   state = step_state r.state (is_some (word_kind r.part)) c;
   part = part_behind r.part c;
 }
 
-abbrev pub run : Reading → List ℕ → Reading
+abbrev pub run : Progress → List ℕ → Progress
 run r [] = r
 run r (c ∷ cs) = run (step r c) cs
 
@@ -166,7 +166,7 @@ kind_at ExponentTilde word star = None
 kind_at Exponent word star = Some RealConstant
 kind_at Dead word star = None
 
-abbrev pub kind_read : Reading → Option Kind
+abbrev pub kind_read : Progress → Option Kind
 kind_read r = kind_at r.state (word_kind r.part) (is_text r.part (codes "*"))
 
 abbrev pub token_kind : List ℕ → Option Kind

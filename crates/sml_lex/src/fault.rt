@@ -74,6 +74,9 @@ pub struct Place {
     pub column: u32,
 }
 
+/// The place of a declaration's first token, from which its other places count.
+pub const FIRST: Place = Place { line: 1, column: 1 };
+
 /// Why a declaration is refused.
 #[derive(PartialEq, Eq, Drop)]
 pub struct Fault {

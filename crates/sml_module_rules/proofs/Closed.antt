@@ -5,7 +5,7 @@ use Rattle.std.proofs.lemmas.Bool.{eq-eqb}
 use Rattle.sml_objects.specs.declared.fates.Fate.TheVariants.{Bind}
 use Rattle.sml_objects.specs.Fates.{close_as, substitutes, type_or, standing_for}
 use Rattle.sml_objects.specs.Objects.{MlType, MlTypes, bound, free, app, no_type, and_type}
-use Rattle.sml_objects.specs.Types.{assign, replace_type, replace_types, is_among, variables_after, variables_after_all, place_among}
+use Rattle.sml_objects.specs.Types.{assign, replace_type, replace_types, is_among, variables_after, variables_after_all, index_among}
 use Rattle.sml_core_rules.specs.Datatypes.{constructor_scheme}
 
 unfoldable mutual
@@ -121,14 +121,14 @@ mutual
 -- what stands for a variable that is bound
 
 stands-closed : {N : Type 0} (u : MlType N) (e : ℕ → Bool) (k v : ℕ) (ws : List ℕ) → is_among v ws ≡ true
-    → IsClosed (type_or (free v) (slice_index_or (substitutes u k (map (λ w. Bind (e w)) ws)) (place_among v ws) None))
-unfolding is_among place_among IsClosed
+    → IsClosed (type_or (free v) (slice_index_or (substitutes u k (map (λ w. Bind (e w)) ws)) (index_among v ws) None))
+unfolding is_among index_among IsClosed
 stands-closed u e k v [] h = let f : false ≡ true = h in absurd cc
 stands-closed u e k v (w ∷ ws) h = go (nat_eq v w) h (stands-closed u e (suc k) v ws)
   where
     go : (b : Bool) → cond b true (is_among v ws) ≡ true
-        → (is_among v ws ≡ true → IsClosed (type_or (free v) (slice_index_or (substitutes u (suc k) (map (λ w. Bind (e w)) ws)) (place_among v ws) None)))
-        → IsClosed (type_or (free v) (slice_index_or (Some (bound k) ∷ substitutes u (suc k) (map (λ w. Bind (e w)) ws)) (cond b 0 (suc (place_among v ws))) None))
+        → (is_among v ws ≡ true → IsClosed (type_or (free v) (slice_index_or (substitutes u (suc k) (map (λ w. Bind (e w)) ws)) (index_among v ws) None)))
+        → IsClosed (type_or (free v) (slice_index_or (Some (bound k) ∷ substitutes u (suc k) (map (λ w. Bind (e w)) ws)) (cond b 0 (suc (index_among v ws))) None))
     go true f r = tt
     go false f r = r f
 

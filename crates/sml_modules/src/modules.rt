@@ -6,7 +6,7 @@ use crate::structures::declare;
 use sml_bases::objects::{Basis, Sig};
 use sml_core::context::Context;
 use sml_envs::canonical::canonical;
-use sml_lex::fault::{Code, Place, Warning};
+use sml_lex::fault::{Code, FIRST, Warning};
 use sml_sigs::sigs::signature;
 use sml_tree::structures::{SigBind, TopDec};
 use sml_types::fault::{CoreFault, plain_fault};
@@ -19,9 +19,6 @@ pub type TopFault = CoreFault;
 
 /// The greatest number of type names that a unit makes and exports.
 pub const MOST_NAMES: u32 = 1_048_576;
-
-/// The place of every top-level declaration.
-const START: Place = Place { line: 1, column: 1 };
 
 /// The declaration's own basis, with its warnings, or why it has none. The basis lent is that of its unit so far. The new
 /// names are numbered from its count on, in the order in which they appear in the lines of the reply.
@@ -40,7 +37,7 @@ fn numbered(context: &mut Context, basis: &Basis, dec: &TopDec) -> Result<Basis,
     let own = own_basis(context, basis, dec)?;
     let own = canonical(context.alloc, own, basis.unit, basis.count)?;
     if own.count > MOST_NAMES {
-        return Err(plain_fault(Code::Q3, START));
+        return Err(plain_fault(Code::Q3, FIRST));
     }
     Ok(own)
 }
@@ -54,10 +51,10 @@ fn own_basis(context: &mut Context, basis: &Basis, dec: &TopDec) -> Result<Basis
             context.export(true);
             declare(context, dec)?;
             let env = context.exported(None);
-            own.env = settled_env(context, env, START)?;
+            own.env = settled_env(context, env, FIRST)?;
         }
         TopDec::Signature(_, binds) => signatures(context, basis, &mut own, binds)?,
-        TopDec::Functor(_, binds) => functors(context, &mut own, binds, START)?,
+        TopDec::Functor(_, binds) => functors(context, &mut own, binds, FIRST)?,
     }
     Ok(own)
 }

@@ -7,7 +7,7 @@ use Rattle.sml_objects.specs.Objects.{Sig, Basis, names_sig, names_basis, rename
 use Rattle.sml_objects.specs.Alike.{Renaming, IsFixed, AlikeOver}
 use Rattle.sml_objects.specs.Initial.{Name, initial, made, naming, attributes_of}
 use Rattle.sml_objects.specs.Appearance.{Stands, stands, firsts_after, appear_sig}
-use Rattle.sml_objects.specs.Canonical.{is_new, new_names, place_of, with_number, renumber, canonical, number_of}
+use Rattle.sml_objects.specs.Canonical.{is_new, new_names, index_of, with_number, renumber, canonical, number_of}
 use Rattle.sml_objects.specs.CanonicalLaws.{CanonicalRenames, CanonicalIsOne, CanonicalNumbers, IsOver}
 use Rattle.sml_objects.proofs.Exchanges.{one_to_one, Apart, ArePairs, TakesAll, IsAway, built}
 use Rattle.sml_objects.proofs.NameTests.{both}
@@ -63,13 +63,13 @@ module _ (unit count : ℕ) where
       go true k = let s : stands naming n (new_names unit count S) ≡ true = found naming n (new_names unit count S) (in-new S n h k) in cc
       go false k = k
 
-  kept-place : (ns : List Name) (n : Name) → stands naming n ns ≡ true → renumber unit count ns n ≡ with_number unit (count + place_of naming n ns) n
+  kept-place : (ns : List Name) (n : Name) → stands naming n ns ≡ true → renumber unit count ns n ≡ with_number unit (count + index_of naming n ns) n
   unfolding renumber
-  kept-place ns n e = ap (λ b. cond b (with_number unit (count + place_of naming n ns) n) n) e
+  kept-place ns n e = ap (λ b. cond b (with_number unit (count + index_of naming n ns) n) n) e
 
   kept-name : (ns : List Name) (n : Name) → stands naming n ns ≡ false → renumber unit count ns n ≡ n
   unfolding renumber
-  kept-name ns n e = ap (λ b. cond b (with_number unit (count + place_of naming n ns) n) n) e
+  kept-name ns n e = ap (λ b. cond b (with_number unit (count + index_of naming n ns) n) n) e
 
   -- a one-to-one map that keeps the age of each name moves the new names
   moved-names : (f : Name → Name) → ((m n : Name) → f m ≡ f n → m ≡ n) → (R : Sig Name)
@@ -120,7 +120,7 @@ module _ (unit count : ℕ) where
         go (inl s) =
             kept-place (map f.to ns) (f.to n) (stands-map naming f.to one n ns ∙ s)
             ∙ ap (λ k. with_number unit (count + k) (f.to n)) (place-map naming f.to one n ns)
-            ∙ number-kept (count + place_of naming n ns) n
+            ∙ number-kept (count + index_of naming n ns) n
             ∙ sym (kept-place ns n s)
         go (inr s) =
             kept-name (map f.to ns) (f.to n) (stands-map naming f.to one n ns ∙ s)
@@ -173,13 +173,13 @@ module _ (unit count : ℕ) where
   )
 
   taken : (f : Name → Name) (k : ℕ) (n : Name) (ns : List Name) → TakesAll naming f (numbered k ns) → Stands n ns
-      → f n ≡ with_number unit (k + place_of naming n ns) n
-  unfolding TakesAll numbered Stands place_of
+      → f n ≡ with_number unit (k + index_of naming n ns) n
+  unfolding TakesAll numbered Stands index_of
   taken f k n [] t s = absurd s
   taken f k n (m ∷ ns) t s = go (naming.same n m) s (taken f (suc k) n ns t.1)
     where
-      go : (d : Dec (n ≡ m)) → (n ≡ m) ⊎ Stands n ns → (Stands n ns → f n ≡ with_number unit (suc k + place_of naming n ns) n)
-          → f n ≡ with_number unit (k + (elim d [ yes _ ↦ 0 | no _ ↦ suc (place_of naming n ns) ])) n
+      go : (d : Dec (n ≡ m)) → (n ≡ m) ⊎ Stands n ns → (Stands n ns → f n ≡ with_number unit (suc k + index_of naming n ns) n)
+          → f n ≡ with_number unit (k + (elim d [ yes _ ↦ 0 | no _ ↦ suc (index_of naming n ns) ])) n
       go (yes d) s' next = ap f d ∙ t.0 ∙ (λ i. with_number unit (zero-more i) (sym d i))
         where
           zero-more : k ≡ k + 0
@@ -187,7 +187,7 @@ module _ (unit count : ℕ) where
       go (no d) (inl h) next = absurd (d h)
       go (no d) (inr h) next = next h ∙ ap (λ j. with_number unit j n) more
         where
-          more : suc k + place_of naming n ns ≡ k + suc (place_of naming n ns)
+          more : suc k + index_of naming n ns ≡ k + suc (index_of naming n ns)
           more = omega arith
 
   away : (k : ℕ) (n : Name) (ns : List Name) → count ≤ k → AreNew ns → is_new unit count n ≡ false → IsAway naming n (numbered k ns)
@@ -237,7 +237,7 @@ module _ (unit count : ℕ) where
       go : (stands naming n ns ≡ true) ⊎ (stands naming n ns ≡ false) → is_new unit count (renumber unit count ns n) ≡ is_new unit count n
       go (inl s) =
           ap (is_new unit count) (kept-place ns n s)
-          ∙ new-number (count + place_of naming n ns) n (omega arith)
+          ∙ new-number (count + index_of naming n ns) n (omega arith)
           ∙ sym (new-is S n (was_found naming n ns s))
       go (inr s) = ap (is_new unit count) (kept-name ns n s)
 

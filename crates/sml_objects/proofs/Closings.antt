@@ -7,7 +7,7 @@ use Rattle.std.specs.List.{list_any, position, position_or_len}
 use Rattle.std.specs.declared.rc.Rc.{Rc}
 use Rattle.sml_objects.specs.Objects as O
 use Rattle.sml_objects.specs.Initial.{Name}
-use Rattle.sml_objects.specs.Types.{is_among, variables_after, variables_after_all, place_among, replace_type, replace_types, assign, close}
+use Rattle.sml_objects.specs.Types.{is_among, variables_after, variables_after_all, index_among, replace_type, replace_types, assign, close}
 use Rattle.sml_objects.specs.Objects.{types_of}
 use Rattle.sml_objects.specs.Views.{type_of}
 use Rattle.sml_objects.specs.declared.labels.Labels.{Labels}
@@ -21,13 +21,13 @@ unfolding is_among
 is_among-any v [] = refl
 is_among-any v (w ∷ ws) = elim (nat_eq v w) as (λ b. cond b true (is_among v ws) ≡ (b || list_any (nat_eq v) ws)) [ true ↦ refl | false ↦ is_among-any v ws ]
 
-pub place_among-position : (v : ℕ) (ws : List ℕ) → place_among v ws ≡ position_or_len (nat_eq v) ws
-unfolding place_among
-place_among-position v [] = refl
-place_among-position v (w ∷ ws) =
-    elim (nat_eq v w) as (λ b. cond b 0 (suc (place_among v ws)) ≡ cond (not b) (1 + position_or_len (nat_eq v) ws) 0) [
+pub index_among-position : (v : ℕ) (ws : List ℕ) → index_among v ws ≡ position_or_len (nat_eq v) ws
+unfolding index_among
+index_among-position v [] = refl
+index_among-position v (w ∷ ws) =
+    elim (nat_eq v w) as (λ b. cond b 0 (suc (index_among v ws)) ≡ cond (not b) (1 + position_or_len (nat_eq v) ws) 0) [
       | true ↦ refl
-      | false ↦ omega (arith, place_among-position v ws)
+      | false ↦ omega (arith, index_among-position v ws)
     ]
 
 -- variant by variant
@@ -106,11 +106,11 @@ mutual
 
 -- the scheme of these variables, by their places
 pub close-by : (ws : List ℕ) (bs : List Bool) (t body : O.MlType Name) → ws ≡ variables_after [] t → bs ≡ replicate (length ws) false
-    → body ≡ assign (λ v. O.bound (place_among v ws)) t → ◌≡◌ {A = O.Scheme Name} (record { variables = bs; body = body }) (close t)
+    → body ≡ assign (λ v. O.bound (index_among v ws)) t → ◌≡◌ {A = O.Scheme Name} (record { variables = bs; body = body }) (close t)
 unfolding close
 close-by ws bs t body e b h = λ i. record {
   variables = (b ∙ ap (λ l. replicate (length l) false) e) i;
-  body = (h ∙ ap (λ l. assign (λ v. O.bound (place_among v l)) t) e) i;
+  body = (h ∙ ap (λ l. assign (λ v. O.bound (index_among v l)) t) e) i;
 }
 
 pub filled : (n m : ℕ) (old new : List Bool) (k : ℕ) → old ≡ [] → k ≡ 0 → new ≡ take n old ++ replicate (n - k) false → n ≡ m → new ≡ replicate m false
@@ -127,17 +127,17 @@ filled n m old new k o z h e =
     left : (n : ℕ) → n - 0 ≡ n
     left n = omega arith
 
-pub place-found : (v : ℕ) (ws : List ℕ) (i : ℕ) → Some i ≡ position (nat_eq v) ws → i ≡ place_among v ws
+pub place-found : (v : ℕ) (ws : List ℕ) (i : ℕ) → Some i ≡ position (nat_eq v) ws → i ≡ index_among v ws
 place-found v ws i h =
     (elim (nat_lt (position_or_len (nat_eq v) ws) (length ws)) as
     (λ b. Some i ≡ cond b (Some (position_or_len (nat_eq v) ws)) None → i ≡ position_or_len (nat_eq v) ws) [
       | true ↦ λ e. cc
       | false ↦ λ e. cc
     ]) h
-    ∙ sym (place_among-position v ws)
+    ∙ sym (index_among-position v ws)
 
-pub place-missing : (v : ℕ) (ws : List ℕ) → None ≡ position (nat_eq v) ws → length ws ≡ place_among v ws
-place-missing v ws h = missing (nat_lt (position_or_len (nat_eq v) ws) (length ws)) refl h ∙ sym (place_among-position v ws)
+pub place-missing : (v : ℕ) (ws : List ℕ) → None ≡ position (nat_eq v) ws → length ws ≡ index_among v ws
+place-missing v ws h = missing (nat_lt (position_or_len (nat_eq v) ws) (length ws)) refl h ∙ sym (index_among-position v ws)
   where
     missing : (b : Bool) → nat_lt (position_or_len (nat_eq v) ws) (length ws) ≡ b → None ≡ cond b (Some (position_or_len (nat_eq v) ws)) None
         → length ws ≡ position_or_len (nat_eq v) ws

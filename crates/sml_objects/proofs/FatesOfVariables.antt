@@ -4,7 +4,7 @@ use Rattle.std.proofs.lemmas.List.{map-append, length-map, get_or_past}
 use Rattle.std.specs.Prelude.{Bool}
 use Rattle.std.specs.declared.rc.Rc.{Rc}
 use Rattle.sml_objects.specs.Fates.{attributes, substitutes, type_or, standing_for, close_as, seen_type}
-use Rattle.sml_objects.specs.Types.{assign, replace_type, replace_types, variables_after, place_among}
+use Rattle.sml_objects.specs.Types.{assign, replace_type, replace_types, variables_after, index_among}
 use Rattle.sml_objects.specs.declared.objects.MlType.{MlType}
 use Rattle.sml_objects.specs.Initial.{Name, initial}
 use Rattle.sml_objects.specs.Names.{int}
@@ -33,10 +33,10 @@ get-seen [] p x h e = absurd (omega (arith, h))
 get-seen (t ∷ ts) zero x h e = ap seen_type (sym e)
 get-seen (t ∷ ts) (suc p) x h e = get-seen ts p x (omega (arith, h)) e
 
-pub standing-at : (ks : List ℕ) (ts : List (Option (Rc MlType Global))) (v p : ℕ) (x : Option (Rc MlType Global)) → p ≡ place_among v ks → p < length ts → x ≡ get_or ts p x → standing_for ks (map seen_type ts) v ≡ type_or (O.free v) (seen_type x)
+pub standing-at : (ks : List ℕ) (ts : List (Option (Rc MlType Global))) (v p : ℕ) (x : Option (Rc MlType Global)) → p ≡ index_among v ks → p < length ts → x ≡ get_or ts p x → standing_for ks (map seen_type ts) v ≡ type_or (O.free v) (seen_type x)
 standing-at ks ts v p x q h e = ap (type_or (O.free v)) (ap (λ n. get_or (map seen_type ts) n None) (sym q) ∙ get-seen ts p x h e)
 
-pub standing-past : (ks : List ℕ) (ts : List (Option (Rc MlType Global))) (v p : ℕ) → p ≡ place_among v ks → length ts ≤ p → standing_for ks (map seen_type ts) v ≡ O.free v
+pub standing-past : (ks : List ℕ) (ts : List (Option (Rc MlType Global))) (v p : ℕ) → p ≡ index_among v ks → length ts ≤ p → standing_for ks (map seen_type ts) v ≡ O.free v
 standing-past ks ts v p q h =
     let n : length (map seen_type ts) ≡ length ts = length-map ts seen_type in
     ap (type_or (O.free v)) (ap (λ n. get_or (map seen_type ts) n None) (sym q) ∙ get_or_past (map seen_type ts) p None (omega (arith, n, h)))
@@ -88,4 +88,4 @@ int-size = refl
 
 pub closed-size : (fs : List Fate) (t : O.MlType Name) → type_size (close_as (O.named (initial int)) fs t).body ≡ type_size t
 unfolding close_as
-closed-size fs t = assigned-size (standing_for (variables_after [] t) (substitutes (O.named (initial int)) 0 fs)) t (λ v. substitute-size (O.named (initial int)) 0 fs (place_among v (variables_after [] t)) v int-size)
+closed-size fs t = assigned-size (standing_for (variables_after [] t) (substitutes (O.named (initial int)) 0 fs)) t (λ v. substitute-size (O.named (initial int)) 0 fs (index_among v (variables_after [] t)) v int-size)

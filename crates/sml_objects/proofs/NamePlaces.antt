@@ -2,7 +2,7 @@
 use Rattle.std.proofs.Common.{◌≡◌, ℕ, suc, ◌+◌, Bool, true, false, cond, not, Some, None, List, [], ◌∷◌, length, map, filter, nat_lt, refl, ap, sym, ◌∙◌, arith}
 use Rattle.std.specs.List.{list_any, position, position_or_len}
 use Rattle.sml_objects.specs.Initial.{naming}
-use Rattle.sml_objects.specs.Canonical.{place_of, renumber, with_number}
+use Rattle.sml_objects.specs.Canonical.{index_of, renumber, with_number}
 use Rattle.sml_objects.specs.Views.{name_of}
 use Rattle.sml_objects.specs.declared.objects.TyName.{TyName}
 use Rattle.sml_objects.proofs.NameTests.{eq, eq-is, stands-any}
@@ -14,13 +14,13 @@ found-place p xs i h =
       | false ↦ λ e. cc
     ]) h
 
-place-position : (n : TyName) (ms : List TyName) → place_of naming (name_of n) (map name_of ms) ≡ position_or_len (eq n) ms
-unfolding place_of naming
+place-position : (n : TyName) (ms : List TyName) → index_of naming (name_of n) (map name_of ms) ≡ position_or_len (eq n) ms
+unfolding index_of naming
 place-position n [] = refl
 place-position n (m ∷ ms) =
     (elim (naming.same (name_of n) (name_of m)) as
-    (λ d. (elim d [ yes _ ↦ 0 | no _ ↦ suc (place_of naming (name_of n) (map name_of ms)) ])
-    ≡ cond (not (elim d [ yes _ ↦ true | no _ ↦ false ])) (1 + place_of naming (name_of n) (map name_of ms)) 0) [ yes _ ↦ refl | no _ ↦ omega arith ])
+    (λ d. (elim d [ yes _ ↦ 0 | no _ ↦ suc (index_of naming (name_of n) (map name_of ms)) ])
+    ≡ cond (not (elim d [ yes _ ↦ true | no _ ↦ false ])) (1 + index_of naming (name_of n) (map name_of ms)) 0) [ yes _ ↦ refl | no _ ↦ omega arith ])
     ∙ (λ i. cond (not (sym (eq-is n m) i)) (1 + place-position n ms i) 0)
 
 pub renumber-found : (unit count : ℕ) (ns : List TyName) (n : TyName) (i : ℕ) → true ≡ list_any (eq n) ns → Some i ≡ position (eq n) ns
@@ -28,12 +28,12 @@ pub renumber-found : (unit count : ℕ) (ns : List TyName) (n : TyName) (i : ℕ
 unfolding renumber
 renumber-found unit count ns n i h k =
     ap (λ j. with_number unit (count + j) (name_of n)) (found-place (eq n) ns i k ∙ sym (place-position n ns))
-    ∙ ap (λ b. cond b (with_number unit (count + place_of naming (name_of n) (map name_of ns)) (name_of n)) (name_of n)) (h ∙ sym (stands-any n ns))
+    ∙ ap (λ b. cond b (with_number unit (count + index_of naming (name_of n) (map name_of ns)) (name_of n)) (name_of n)) (h ∙ sym (stands-any n ns))
 
 pub renumber-missing : (unit count : ℕ) (ns : List TyName) (n : TyName) → false ≡ list_any (eq n) ns → name_of n ≡ renumber unit count (map name_of ns) (name_of n)
 unfolding renumber
 renumber-missing unit count ns n h =
-    ap (λ b. cond b (with_number unit (count + place_of naming (name_of n) (map name_of ns)) (name_of n)) (name_of n)) (h ∙ sym (stands-any n ns))
+    ap (λ b. cond b (with_number unit (count + index_of naming (name_of n) (map name_of ns)) (name_of n)) (name_of n)) (h ∙ sym (stands-any n ns))
 
 pub map-filter : {A B : Type 0} (p : B → Bool) (f : A → B) (xs : List A) → map f (filter (λ x. p (f x)) xs) ≡ filter p (map f xs)
 map-filter p f [] = refl

@@ -3,7 +3,7 @@ use Rattle.std.proofs.Common.{◌≡◌, ◌⊎◌, ℕ, suc, Bool, true, false,
 use Rattle.std.proofs.lemmas.List.{map-append}
 use Rattle.sml_objects.specs.Names.{Naming}
 use Rattle.sml_objects.specs.Appearance.{Stands, stands, firsts_after}
-use Rattle.sml_objects.specs.Canonical.{place_of}
+use Rattle.sml_objects.specs.Canonical.{index_of}
 
 -- lists
 
@@ -166,13 +166,13 @@ module _ {N : Type 0} (names : Naming N) where
         go (no d) (yes e) next = absurd (d (ap f e))
         go (no d) (no e) next = next
 
-    pub place-map : (n : N) (ns : List N) → place_of names (f n) (map f ns) ≡ place_of names n ns
-    unfolding place_of
+    pub place-map : (n : N) (ns : List N) → index_of names (f n) (map f ns) ≡ index_of names n ns
+    unfolding index_of
     place-map n [] = refl
     place-map n (m ∷ ns) = go (names.same (f n) (f m)) (names.same n m) (place-map n ns)
       where
-        go : (d : Dec (f n ≡ f m)) (e : Dec (n ≡ m)) → place_of names (f n) (map f ns) ≡ place_of names n ns
-            → ◌≡◌ {A = ℕ} (elim d [ yes _ ↦ 0 | no _ ↦ suc (place_of names (f n) (map f ns)) ]) (elim e [ yes _ ↦ 0 | no _ ↦ suc (place_of names n ns) ])
+        go : (d : Dec (f n ≡ f m)) (e : Dec (n ≡ m)) → index_of names (f n) (map f ns) ≡ index_of names n ns
+            → ◌≡◌ {A = ℕ} (elim d [ yes _ ↦ 0 | no _ ↦ suc (index_of names (f n) (map f ns)) ]) (elim e [ yes _ ↦ 0 | no _ ↦ suc (index_of names n ns) ])
         go (yes d) (yes e) next = refl
         go (yes d) (no e) next = absurd (e (one n m d))
         go (no d) (yes e) next = absurd (d (ap f e))

@@ -14,9 +14,9 @@ is_new unit count (made u n a q) = nat_eq u unit && not (nat_lt n count)
 unfoldable pub new_names : ℕ → ℕ → Sig Name → List Name
 new_names unit count S = filter (is_new unit count) (firsts_after naming [] (appear_sig S))
 
-unfoldable pub place_of : {N : Type 0} → Naming N → N → List N → ℕ
-place_of names n [] = 0
-place_of names n (m ∷ ms) = elim (names.same n m) [ yes _ ↦ 0 | no _ ↦ suc (place_of names n ms) ]
+unfoldable pub index_of : {N : Type 0} → Naming N → N → List N → ℕ
+index_of names n [] = 0
+index_of names n (m ∷ ms) = elim (names.same n m) [ yes _ ↦ 0 | no _ ↦ suc (index_of names n ms) ]
 
 -- the name of this number that is otherwise alike
 abbrev pub with_number : ℕ → ℕ → Name → Name
@@ -24,7 +24,7 @@ with_number unit k n = made unit k (attributes_of n).arity (attributes_of n).equ
 
 -- each of the names by its place among them, the first one by the count
 unfoldable pub renumber : ℕ → ℕ → List Name → Name → Name
-renumber unit count ns n = cond (stands naming n ns) (with_number unit (count + place_of naming n ns) n) n
+renumber unit count ns n = cond (stands naming n ns) (with_number unit (count + index_of naming n ns) n) n
 
 unfoldable pub canonical : ℕ → ℕ → Sig Name → Sig Name
 canonical unit count S = rename_sig (renumber unit count (new_names unit count S)) S

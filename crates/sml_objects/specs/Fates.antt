@@ -4,7 +4,7 @@ use Rattle.std.specs.Global.{Global}
 use Rattle.std.specs.declared.rc.Rc.{Rc}
 use Rattle.sml_objects.specs.Initial.{Name}
 use Rattle.sml_objects.specs.Objects as O
-use Rattle.sml_objects.specs.Types.{assign, variables_after, place_among}
+use Rattle.sml_objects.specs.Types.{assign, variables_after, index_among}
 use Rattle.sml_objects.specs.Views.{type_of}
 use Rattle.sml_objects.specs.declared.fates.Fate.{Fate}
 use Rattle.sml_objects.specs.declared.fates.Fate.TheVariants.{Bind, Keep, Default}
@@ -30,7 +30,7 @@ type_or t (Some u) = u
 
 -- the type of the place of v among some variables, or v itself
 abbrev pub standing_for : {N : Type 0} → List ℕ → List (Option (O.MlType N)) → ℕ → O.MlType N
-standing_for vs ts v = type_or (O.free v) (slice_index_or ts (place_among v vs) None)
+standing_for vs ts v = type_or (O.free v) (slice_index_or ts (index_among v vs) None)
 
 -- Closing, with a fate for each free variable in the order of their first appearance. The bound ones keep that order.
 unfoldable pub close_as : {N : Type 0} → O.MlType N → List Fate → O.MlType N → O.Scheme N

@@ -50,13 +50,13 @@ unfoldable mutual
   variables_after_all seen no_type = seen
   variables_after_all seen (and_type t ts) = variables_after_all (variables_after seen t) ts
 
-unfoldable pub place_among : ℕ → List ℕ → ℕ
-place_among v [] = 0
-place_among v (w ∷ ws) = cond (nat_eq v w) 0 (suc (place_among v ws))
+unfoldable pub index_among : ℕ → List ℕ → ℕ
+index_among v [] = 0
+index_among v (w ∷ ws) = cond (nat_eq v w) 0 (suc (index_among v ws))
 
 -- closing, where no variable is free in the context
 unfoldable pub close : {N : Type 0} → MlType N → Scheme N
 close t = record {
   variables = replicate (length (variables_after [] t)) false;
-  body = assign (λ v. bound (place_among v (variables_after [] t))) t;
+  body = assign (λ v. bound (index_among v (variables_after [] t))) t;
 }

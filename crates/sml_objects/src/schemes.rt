@@ -140,7 +140,7 @@ struct Closing<'a> {
 impl Replacement for Closing<'_> {
     ghost bound_gives = { λ _ k. O.bound k };
 
-    ghost free_gives = { λ s v. O.bound (T.place_among v s.places.now.keys) };
+    ghost free_gives = { λ s v. O.bound (T.index_among v s.places.now.keys) };
 
     ghost name_gives = { λ _ n. n };
 

@@ -19,7 +19,7 @@ use Rattle.sml_reach.specs.Fits.{Fit, Fitted}
 use Rattle.sml_read.specs.Extents.{ends_of}
 use Rattle.sml_flaws.specs.Marks.{start, marks_of}
 use Rattle.sml_flaws.specs.Known.{is_again, token_in}
-use Rattle.sml_flaws.specs.Flaws.{flaw_if, name_at, arity_at, unlike_by, unlike, uneven_by, uneven, barred_value, barred, real, flaws_by, flaws_of, scoped_by, scoped_at, scoped_of, flaws_in, precedes, earlier, first_flaw}
+use Rattle.sml_flaws.specs.Flaws.{flaw_if, name_at, arity_at, unlike_by, unlike, uneven_by, uneven, barred_value, barred, real, flaws_by, flaws_of, scoped_by, scoped_at, scoped_of, flaws_in, flaw_precedes, earlier_flaw, first_flaw}
 use Rattle.sml_flaws.specs.Flawed.{begins_at, ends_at, own_nodes, count_tokens, own_token, flaw_in, flaw_here, or_else, first_flawed}
 use Rattle.sml_parse.specs.Within.{Extent, of_phrases, reason_of, ends_before, begins_next, tokens_before, extents_of}
 use Rattle.sml_parse.proofs.Extents.{agree, agreed}
@@ -134,9 +134,9 @@ module _ (text : ℕ → Id) (ends : List ℕ) (all : List Mark) where
 all_of : (text : ℕ → Id) (fits : List Fit) (nodes : List Node) (marks : List Mark) → AllOfPhrases (flaws_in text fits nodes marks)
 all_of text fits nodes marks = joined _ _ (at_marks text fits [] marks) (scoped_marks text (ends_of 0 nodes) marks marks)
 
-earlier_of : (a : Flaw) (o : Option Flaw) → IsOfPhrases a → MaybeOfPhrases o → IsOfPhrases (earlier a o)
+earlier_of : (a : Flaw) (o : Option Flaw) → IsOfPhrases a → MaybeOfPhrases o → IsOfPhrases (earlier_flaw a o)
 earlier_of a None h k = h
-earlier_of a (Some b) h k = by_test (precedes a b)
+earlier_of a (Some b) h k = by_test (flaw_precedes a b)
   where
     by_test : (c : Bool) → IsOfPhrases (if c then a else b)
     by_test true = h

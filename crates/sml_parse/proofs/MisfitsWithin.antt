@@ -25,7 +25,7 @@ use Rattle.sml_reach.specs.Senses.{deed_of, opens, closes}
 use Rattle.sml_reach.specs.Founds.{Found}
 use Rattle.sml_reach.specs.Events.{Event, enters, leaves, text_at, found_at, founds_of, scope_event, event_of, events_of}
 use Rattle.sml_reach.specs.Fits.{Fitted}
-use Rattle.sml_reach.specs.Reach.{State, Outcome, start, Outcomes, misfit_in, misfits_in, precedes, earlier, first_in, first_misfit, AreFitted}
+use Rattle.sml_reach.specs.Reach.{State, Outcome, start, Outcomes, misfit_in, misfits_in, misfit_precedes, earlier_misfit, first_misfit_in, first_misfit, AreFitted}
 use Rattle.sml_parse.specs.Within.{Extent, of_phrases, reason_of, ends_before, is_part_first, begins_next, tokens_before, extents_of}
 use Rattle.sml_parse.proofs.Nonempty.{all_inner, inner_so, not_both, when_not, some_token}
 use Rattle.sml_parse.proofs.FoundsWithin.{IsIn, is_idle, phrase_in, founds_in}
@@ -257,25 +257,25 @@ module _ (unit : List ℕ) (tokens : List Token) (extents : List Extent) where
 
 -- the first of them
 
-earlier_placed : (extents : List Extent) (m : Misfit) (first : Option Misfit) → IsPlaced extents m → IfSome first (IsPlaced extents) → IsPlaced extents (earlier m first)
+earlier_placed : (extents : List Extent) (m : Misfit) (first : Option Misfit) → IsPlaced extents m → IfSome first (IsPlaced extents) → IsPlaced extents (earlier_misfit m first)
 earlier_placed extents m None a b = a
-earlier_placed extents m (Some other) a b = by_test (precedes m other)
+earlier_placed extents m (Some other) a b = by_test (misfit_precedes m other)
   where
     by_test : (c : Bool) → IsPlaced extents (if c then m else other)
     by_test true = a
     by_test false = b
 
-first_in_placed : (extents : List Extent) (number : ℕ) (faults : List Misfit) → AllPlaced extents faults → IfSome (first_in number faults) (IsPlaced extents)
-first_in_placed extents number [] h = tt
-first_in_placed extents number (m ∷ ms) h = by_test (first_in_placed extents number ms h.1) (m.number == number)
+first_misfit_in_placed : (extents : List Extent) (number : ℕ) (faults : List Misfit) → AllPlaced extents faults → IfSome (first_misfit_in number faults) (IsPlaced extents)
+first_misfit_in_placed extents number [] h = tt
+first_misfit_in_placed extents number (m ∷ ms) h = by_test (first_misfit_in_placed extents number ms h.1) (m.number == number)
   where
-    by_test : IfSome (first_in number ms) (IsPlaced extents) → (c : Bool) → IfSome (if c then Some (earlier m (first_in number ms)) else first_in number ms) (IsPlaced extents)
-    by_test k true = earlier_placed extents m (first_in number ms) h.0 k
+    by_test : IfSome (first_misfit_in number ms) (IsPlaced extents) → (c : Bool) → IfSome (if c then Some (earlier_misfit m (first_misfit_in number ms)) else first_misfit_in number ms) (IsPlaced extents)
+    by_test k true = earlier_placed extents m (first_misfit_in number ms) h.0 k
     by_test k false = k
 
 first_placed : (extents : List Extent) (faults : List Misfit) → AllPlaced extents faults → IfSome (first_misfit faults) (IsPlaced extents)
 first_placed extents [] h = tt
-first_placed extents (m ∷ ms) h = first_in_placed extents m.number (m ∷ ms) h
+first_placed extents (m ∷ ms) h = first_misfit_in_placed extents m.number (m ∷ ms) h
 
 pub misfit_placed : (unit : List ℕ) (tokens : List Token) (nodes : List Node) (kinds : List Kind) (next : Option Kind) (rest : Part) (fitted : List Fitted) (first : Option Misfit) → is_outer rest ≡ true → Leads nodes (Of Start ∷ []) kinds next (Of rest ∷ [])
     → AreFitted (text_at unit tokens) (events_of unit tokens nodes (starts_of 0 nodes)) fitted first → IfSome first (IsPlaced (extents_of 0 nodes))

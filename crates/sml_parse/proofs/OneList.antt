@@ -21,14 +21,14 @@ use Rattle.sml_reach.proofs.OneOutcome.{fitting_one}
 use Rattle.sml_flaws.specs.Flawed.{or_else, first_flawed}
 use Rattle.sml_bare.specs.Derivations.{bare_decs, before_none}
 use Rattle.sml_piece_trees.specs.Spelt.{spelt}
-use Rattle.sml_parse.specs.Trees.{Trees, last_fault}
+use Rattle.sml_parse.specs.Trees.{AreTrees, last_fault}
 
 abbrev Same : List (TopDec Place) → List (TopDec Place) → List (Dec Place) → List (Dec Place) → Option (Fault Place) → Option (Fault Place) → Type 0
 Same tops tops' decs decs' last last' = (tops ≡ tops') × (decs ≡ decs') × (last ≡ last')
 
 -- the trees of the same tokens
 tokens_one : (unit : List ℕ) (tokens : List Token) (end : End) (tops tops' : List (TopDec Place)) (decs decs' : List (Dec Place)) (last last' : Option (Fault Place))
-    → Trees unit tokens end tops decs last → Trees unit tokens end tops' decs' last' → Same tops tops' decs decs' last last'
+    → AreTrees unit tokens end tops decs last → AreTrees unit tokens end tops' decs' last' → Same tops tops' decs decs' last last'
 tokens_one unit tokens end tops tops' decs decs' last last' h k =
     let read = reading_one (kinds_of tokens) (is_done end) h.nodes k.nodes h.begun k.begun h.cause k.cause h.reading k.reading in
     let nodes = read.0 in
@@ -42,7 +42,7 @@ tokens_one unit tokens end tops tops' decs decs' last last' h k =
     )
 
 pub trees_one : (bytes : List ℕ) (tokens others : List Token) (end stop : End) (tops tops' : List (TopDec Place)) (decs decs' : List (Dec Place)) (last last' : Option (Fault Place))
-    → Spells bytes tokens end → Spells bytes others stop → Trees bytes tokens end tops decs last → Trees bytes others stop tops' decs' last' → Same tops tops' decs decs' last last'
+    → Spells bytes tokens end → Spells bytes others stop → AreTrees bytes tokens end tops decs last → AreTrees bytes others stop tops' decs' last' → Same tops tops' decs decs' last last'
 trees_one bytes tokens others end stop tops tops' decs decs' last last' s r h k =
     let same = spelling_is_unique bytes tokens others end stop s r in
-    tokens_one bytes others stop tops tops' decs decs' last last' (subst (λ e. Trees bytes others e tops decs last) same.1 (subst (λ ts. Trees bytes ts end tops decs last) same.0 h)) k
+    tokens_one bytes others stop tops tops' decs decs' last last' (subst (λ e. AreTrees bytes others e tops decs last) same.1 (subst (λ ts. AreTrees bytes ts end tops decs last) same.0 h)) k

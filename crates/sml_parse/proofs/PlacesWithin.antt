@@ -19,6 +19,7 @@ use Rattle.sml_lex.specs.declared.pieces.Piece.TheVariants.{Blank, Comment, Lexe
 use Rattle.sml_lex.specs.Pieces.{Spells, SpellsFrom, IsFault, AreInOrder, size_of, tokens_of}
 use Rattle.sml_lex.specs.Strings.{IsBroken, break_of}
 use Rattle.sml_lex.proofs.Order.{tokens_are_in_order, faults_are_within}
+use Rattle.sml_lex.specs.Faults.{first_place}
 use Rattle.sml_tree.specs.Structures.{TopDec}
 use Rattle.sml_tree.specs.Trees.{Dec}
 use Rattle.sml_read.specs.declared.grammar.Node.{Node}
@@ -57,11 +58,11 @@ start_is : (tokens : List Token) (index : ℕ) (token : Token) → slice_get tok
 start_is tokens index token e = ap (λ (t : Option Token). unwrap_or (option_map (λ token. token.span.start) t) 0) e
 
 -- a byte counted from itself
-same_place : (unit : List ℕ) (at : ℕ) → record { line = 1; column = 1 } ≡ place_from unit at at
+same_place : (unit : List ℕ) (at : ℕ) → first_place ≡ place_from unit at at
 same_place unit at = let e : 0 ≡ at - at = omega arith in ap (λ n. place_behind (take n (drop at unit))) e
 
 module _ (unit : List ℕ) (tokens : List Token) (o : AreInOrder unit 0 tokens) where
-  first_token : (extent : Extent) → HasToken (length tokens) extent → IsOfToken unit tokens extent (record { line = 1; column = 1 })
+  first_token : (extent : Extent) → HasToken (length tokens) extent → IsOfToken unit tokens extent first_place
   first_token extent h =
       let a = h.0 in
       let b = h.1 in
@@ -283,7 +284,7 @@ places_within unit tokens end tops decs fault s trees =
 
     by_test : AreInOrder unit 0 tokens → HaveTokens (length tokens) (extents_of 0 trees.nodes) → IfSome trees.misfit (IsPlaced (extents_of 0 trees.nodes))
         → (list_all is_some until_misfit ≡ true → IfSome trees.misfit (λ m. length decs ≡ m.number - 1)) → (b : Bool) → list_all is_some until_misfit ≡ b
-        → IfSome (if b then fault_behind unit tokens end trees.begun trees.cause trees.misfit else Some (record { code = C.S3; place = record { line = 1; column = 1 }; detail = None })) (StandsLast unit tokens end trees.nodes trees.begun (length decs))
+        → IfSome (if b then fault_behind unit tokens end trees.begun trees.cause trees.misfit else Some (record { code = C.S3; place = first_place; detail = None })) (StandsLast unit tokens end trees.nodes trees.begun (length decs))
     by_test o have placed n true q =
         last_stands unit tokens o trees.nodes (length decs) trees.misfit end trees.begun trees.cause s trees.reading.fault have placed (n q)
     by_test o have placed n false q = refl

@@ -8,7 +8,7 @@ use Rattle.sml_lex.specs.declared.fault.Place.{Place}
 use Rattle.sml_lex.specs.declared.token.Token.{Token}
 use Rattle.sml_lex.specs.declared.token.End.{End}
 use Rattle.sml_lex.specs.declared.token.End.TheVariants as E
-use Rattle.sml_lex.specs.Faults.{Fault}
+use Rattle.sml_lex.specs.Faults.{Fault, first_place}
 use Rattle.sml_tree.specs.Trees.{Dec}
 use Rattle.sml_tree.specs.Structures.{TopDec}
 use Rattle.sml_read.specs.declared.grammar.Node.{Node}
@@ -47,13 +47,13 @@ fault_behind unit tokens end begun cause (Some m) = fault_from unit m.code (star
 -- the last fault: that of a tree that is too high, unless all are low
 abbrev pub last_fault : List ℕ → List Token → End → ℕ → Option Cause → Option Misfit → Bool → Option (Fault Place)
 last_fault unit tokens end begun cause misfit are_low =
-    if are_low then fault_behind unit tokens end begun cause misfit else Some (record { code = C.S3; place = record { line = 1; column = 1 }; detail = None })
+    if are_low then fault_behind unit tokens end begun cause misfit else Some (record { code = C.S3; place = first_place; detail = None })
 
 -- The tokens are read. These are the declarations that they spell, up to the first that has a fault of fixity or of
 -- what it binds or is too high, as whole trees and as those of the piece of the language that is answered so far. The
 -- fault is that one's, or the one at which reading ended. In one declaration a fault of fixity comes first: where it
 -- has one its other faults aren't sought.
-pub record Trees (unit : List ℕ) (tokens : List Token) (end : End) (tops : List (TopDec Place)) (decs : List (Dec Place)) (fault : Option (Fault Place)) : Type 0 where
+pub record AreTrees (unit : List ℕ) (tokens : List Token) (end : End) (tops : List (TopDec Place)) (decs : List (Dec Place)) (fault : Option (Fault Place)) : Type 0 where
   pub nodes : List Node
   pub begun : ℕ
   pub cause : Option Cause

@@ -7,11 +7,11 @@ use Rattle.sml_lex.specs.Faults.{Fault}
 use Rattle.sml_lex.specs.Pieces.{Spells}
 use Rattle.sml_tree.specs.Trees.{Dec}
 use Rattle.sml_tree.specs.Structures.{TopDec}
-use Rattle.sml_parse.specs.Trees.{Trees}
+use Rattle.sml_parse.specs.Trees.{AreTrees}
 
 -- At most one list of bare declarations and one last fault are those of the bytes of a unit.
 abbrev pub TreesAreUnique : Type 0
 TreesAreUnique =
     (bytes : List ℕ) (tokens others : List Token) (end stop : End) (tops tops' : List (TopDec Place)) (decs decs' : List (Dec Place)) (last last' : Option (Fault Place))
-    → Spells bytes tokens end → Spells bytes others stop → Trees bytes tokens end tops decs last → Trees bytes others stop tops' decs' last'
+    → Spells bytes tokens end → Spells bytes others stop → AreTrees bytes tokens end tops decs last → AreTrees bytes others stop tops' decs' last'
     → (tops ≡ tops') × (decs ≡ decs') × (last ≡ last')

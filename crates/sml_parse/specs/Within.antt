@@ -8,7 +8,7 @@ use Rattle.sml_lex.specs.declared.token.Token.{Token}
 use Rattle.sml_lex.specs.declared.token.Stop.{Stop}
 use Rattle.sml_lex.specs.declared.token.End.{End}
 use Rattle.sml_lex.specs.declared.token.End.TheVariants as E
-use Rattle.sml_lex.specs.Faults.{Fault}
+use Rattle.sml_lex.specs.Faults.{Fault, first_place}
 use Rattle.sml_lex.specs.Pieces.{Spells}
 use Rattle.sml_tree.specs.Trees.{Dec}
 use Rattle.sml_tree.specs.Places.{dec_places}
@@ -23,7 +23,7 @@ use Rattle.sml_read.specs.Parts.{part_of}
 use Rattle.sml_read.specs.Spelling.{is_outer}
 use Rattle.sml_reach.specs.Places.{place_from}
 use Rattle.sml_reach.specs.Places.{start_of}
-use Rattle.sml_parse.specs.Trees.{Trees}
+use Rattle.sml_parse.specs.Trees.{AreTrees}
 
 -- the tokens of a declaration: the number of the first, and that of the one behind the last
 pub record Extent : Type 0 where
@@ -79,7 +79,7 @@ abbrev pub StandInTurn : List ℕ → List Token → List Extent → List (Dec P
 StandInTurn unit tokens extents [] = Unit {0}
 StandInTurn unit tokens [] (dec ∷ decs) = ⊥
 StandInTurn unit tokens (extent ∷ extents) (dec ∷ decs) =
-    All (IsOfToken unit tokens extent) (record { line = 1; column = 1 } ∷ dec_places dec) × StandInTurn unit tokens extents decs
+    All (IsOfToken unit tokens extent) (first_place ∷ dec_places dec) × StandInTurn unit tokens extents decs
 
 -- the place is that of a token of the declaration that has so many before it
 abbrev pub IsOfDeclaration : List ℕ → List Token → List Extent → ℕ → Place → Type 0
@@ -114,7 +114,7 @@ abbrev pub StandsBy : Reason → List ℕ → List Token → End → List Node �
 StandsBy of_bytes unit tokens end nodes begun before place = IsOfStop unit tokens end begun place
 StandsBy of_grammar unit tokens end nodes begun before place = IsOfToken unit tokens (record { first = begun; behind = length tokens }) place
 StandsBy of_phrases unit tokens end nodes begun before place = IsOfDeclaration unit tokens (extents_of 0 nodes) before place
-StandsBy of_height unit tokens end nodes begun before place = place ≡ record { line = 1; column = 1 }
+StandsBy of_height unit tokens end nodes begun before place = place ≡ first_place
 
 abbrev pub StandsLast : List ℕ → List Token → End → List Node → ℕ → ℕ → Fault Place → Type 0
 StandsLast unit tokens end nodes begun before fault = StandsBy (reason_of fault.code) unit tokens end nodes begun before fault.place
@@ -123,5 +123,5 @@ StandsLast unit tokens end nodes begun before fault = StandsBy (reason_of fault.
 abbrev pub PlacesAreWithin : Type 0
 PlacesAreWithin =
     (unit : List ℕ) (tokens : List Token) (end : End) (tops : List (TopDec Place)) (decs : List (Dec Place)) (fault : Option (Fault Place))
-    → Spells unit tokens end → (trees : Trees unit tokens end tops decs fault)
+    → Spells unit tokens end → (trees : AreTrees unit tokens end tops decs fault)
     → StandInTurn unit tokens (extents_of 0 trees.nodes) decs × IfSome fault (StandsLast unit tokens end trees.nodes trees.begun (length decs))

@@ -7,7 +7,7 @@ ghost use Rattle.sml_lex.specs.Faults.{fault_of};
 ghost use Rattle.sml_tree.specs.Views.{dec_of};
 ghost use Rattle.sml_tree.specs.StructureViews.{top_of};
 ghost use Rattle.sml_piece_trees.specs.Spelt.{spelt};
-ghost use Rattle.sml_parse.specs.Trees.{fault_from, fault_read, fault_behind, last_fault, Trees};
+ghost use Rattle.sml_parse.specs.Trees.{fault_from, fault_read, fault_behind, last_fault, AreTrees};
 ghost use Rattle.sml_read.specs.Extents.{starts_of};
 ghost use Rattle.sml_reach.specs.Events.{text_at, events_of};
 ghost use Rattle.sml_reach.specs.Fits.{fitted_of};
@@ -160,7 +160,7 @@ fn piece_of(
 
 /// Reads a unit's bare declarations.
 pub fn parse(alloc: Global, lexed: &Lexed) -> Result<Parsed, Memory>
-    ensures { IfOk result (λ parsed. Trees lexed.now.unit.now lexed.now.tokens.items lexed.now.end
+    ensures { IfOk result (λ parsed. AreTrees lexed.now.unit.now lexed.now.tokens.items lexed.now.end
         (map top_of parsed.declarations.items) (map dec_of parsed.piece.items) (option_map fault_of parsed.fault)) }
 {
     let full = read(alloc, lexed)?;

@@ -3,13 +3,13 @@
 -- identifier, several patterns at the end) stands for a pattern with all the parts that there are.
 use Rattle.std.specs.Prelude.{ℕ, Bool, false, if◌then◌else◌, nat_eq, List, [], ◌∷◌, get_or, set, drop, Option, Some}
 use Rattle.sml_lex.specs.declared.fault.Place.{Place}
+use Rattle.sml_lex.specs.Faults.{first_place}
 use Rattle.sml_tree.specs.Names.{Name}
 use Rattle.sml_tree.specs.Types.{Tys, no_ty, and_ty}
 use Rattle.sml_tree.specs.Patterns.{Pat, Pats, wildcard, pat_constant, pat_name, pat_row, pat_tuple, pat_bracket, pat_apply, pat_typed, pat_as, no_pat, and_pat}
 use Rattle.sml_fixity.specs.declared.sequences.Step.{Step}
 use Rattle.sml_fixity.specs.declared.sequences.Step.TheVariants.{Push, Apply, Combine}
 use Rattle.sml_derived.specs.Derived.{pat_pair, pat_infix}
-use Rattle.sml_phrases.specs.Phrases.{first_place}
 use Rattle.sml_fixity.specs.Shapes.{Shape, tree}
 
 -- the place of a pattern's first token

@@ -18,7 +18,7 @@ use crate::round_patterns::round_pat;
 use sml_derived::expander::Expander;
 use sml_fixity::sequences::Step;
 use sml_fixity::shape::Shape;
-use sml_lex::fault::{Memory, Place};
+use sml_lex::fault::{FIRST, Memory, Place};
 use sml_phrases::low::{LowPat, LowPats, LowTy, LowTys};
 use sml_phrases::phrase::Failure;
 use sml_phrases::raise::raised;
@@ -27,9 +27,6 @@ use sml_tree::patterns::Pat;
 use std::alloc::Global;
 use std::mem;
 use std::rc::Rc;
-
-/// The place that stands for that of a pattern that lacks.
-const FIRST: Place = Place { line: 1, column: 1 };
 
 /// The atomic patterns that are not yet used, each at its index, and the patterns on the stack.
 #[derive(Drop)]

@@ -12,7 +12,7 @@ use Rattle.sml_tree.specs.Clauses.{clause_of, Constraint}
 use Rattle.sml_tree.specs.Signatures.{WhereType}
 use Rattle.sml_phrases.specs.declared.low.LowWhere.{LowWhere}
 use Rattle.sml_phrases.specs.declared.low.LowConstraint.{LowConstraint}
-use Rattle.sml_phrases.specs.Phrases.{Phrase, nothing, of_word, of_name, of_long, of_constant, of_names, of_longs, of_ty, of_tys, of_ty_fields, of_arguments, of_pat, of_pats, of_pat_fields, of_atoms, of_layer, of_op_atoms, of_op_layer, of_exp, of_exps, of_series, of_fields, of_rules, of_dec, of_decs, of_bind, of_binds, of_values, of_round_values, of_functions, of_right_side, of_clauses, of_round_functions, of_typ_bind, of_typ_binds, of_con_bind, of_con_binds, of_datatypes, of_constructors, of_copy, of_exn_binds, of_sig, of_where, of_wheres, of_open_sig_bind, of_sig_binds, of_specs, of_val_desc, of_val_descs, of_typ_descs, of_type_rest, of_open_str_desc, of_str_descs, of_shared_types, of_str, of_str_dec, of_str_decs, of_constraints, of_str_binds, of_open_str_bind, of_functor_argument, of_fun_binds, of_open_fun_bind, of_open_functor, of_top}
+use Rattle.sml_phrases.specs.Phrases.{Phrase, nothing, of_word, of_name, of_long, of_constant, of_names, of_longs, of_ty, of_tys, of_ty_fields, of_arguments, of_pat, of_pats, of_pat_fields, of_atoms, of_layer, of_op_atoms, of_op_layer, of_exp, of_exps, of_series, of_fields, of_rules, of_dec, of_decs, of_bind, of_binds, of_values, of_round_values, of_functions, of_right_side, of_clauses, of_round_functions, of_typ_bind, of_typ_binds, of_con_bind, of_con_binds, of_datatypes, of_constructors, of_copy, of_exn_binds, of_sig, of_where, of_wheres, of_begun_sig_bind, of_sig_binds, of_specs, of_val_desc, of_val_descs, of_typ_descs, of_type_rest, of_begun_str_desc, of_str_descs, of_shared_types, of_str, of_str_dec, of_str_decs, of_constraints, of_str_binds, of_begun_str_bind, of_functor_argument, of_fun_binds, of_begun_fun_bind, of_begun_functor, of_top}
 use Rattle.sml_phrases.specs.PhraseHeights.{is_low}
 use Rattle.sml_phrases.specs.declared.phrase.Phrase as D
 use Rattle.sml_phrases.specs.declared.phrase.Phrase.TheVariants as V
@@ -78,14 +78,14 @@ phrase_of (V.Declarations (Declarations.ExnBinds es)) = of_exn_binds (map exn_bi
 phrase_of (V.Signatures (Signatures.Sig s)) = of_sig (sig_of s.tree)
 phrase_of (V.Signatures (Signatures.Where xs c t)) = of_where (map name_of (reverse xs.items)) (long_name_of c) (ty_of t.tree)
 phrase_of (V.Signatures (Signatures.Wheres ws)) = of_wheres (map low_where_of (reverse ws.items))
-phrase_of (V.Signatures (Signatures.OpenSigBind x s)) = of_open_sig_bind (name_of x) (sig_of s.tree)
+phrase_of (V.Signatures (Signatures.BegunSigBind x s)) = of_begun_sig_bind (name_of x) (sig_of s.tree)
 phrase_of (V.Signatures (Signatures.SigBinds ws bs)) = of_sig_binds (map low_where_of (reverse ws.items)) (map sig_bind_of (reverse bs.trees.items))
 phrase_of (V.Signatures (Signatures.Specs ss)) = of_specs (specs_of (map spec_of (reverse ss.trees.items)))
 phrase_of (V.Signatures (Signatures.ValDesc x t)) = of_val_desc (name_of x) (ty_of t.tree)
 phrase_of (V.Signatures (Signatures.ValDescs ds)) = of_val_descs (map val_desc_of (reverse ds.trees.items))
 phrase_of (V.Signatures (Signatures.TypDescs ds)) = of_typ_descs (map typ_desc_of (reverse ds.items))
 phrase_of (V.Signatures (Signatures.TypeRest t ts)) = of_type_rest (ty_of t.tree) (map typ_bind_of (reverse ts.trees.items))
-phrase_of (V.Signatures (Signatures.OpenStrDesc x s)) = of_open_str_desc (name_of x) (sig_of s.tree)
+phrase_of (V.Signatures (Signatures.BegunStrDesc x s)) = of_begun_str_desc (name_of x) (sig_of s.tree)
 phrase_of (V.Signatures (Signatures.StrDescs ws ds)) = of_str_descs (map low_where_of (reverse ws.items)) (str_descs_of (map str_desc_of (reverse ds.trees.items)))
 phrase_of (V.Signatures (Signatures.SharedTypes cs)) = of_shared_types (map long_name_of (reverse cs.items))
 phrase_of (V.Structures (Structures.Str e)) = of_str (str_of e.tree)
@@ -93,11 +93,11 @@ phrase_of (V.Structures (Structures.StrDec d)) = of_str_dec (str_dec_of d.tree)
 phrase_of (V.Structures (Structures.StrDecs ds)) = of_str_decs (str_decs_of (map str_dec_of (reverse ds.trees.items)))
 phrase_of (V.Structures (Structures.Constraints ws cs)) = of_constraints (map low_where_of (reverse ws.items)) (map low_constraint_of (reverse cs.items))
 phrase_of (V.Structures (Structures.StrBinds ws cs bs)) = of_str_binds (map low_where_of (reverse ws.items)) (map low_constraint_of (reverse cs.items)) (str_binds_of (map str_bind_of (reverse bs.trees.items)))
-phrase_of (V.Structures (Structures.OpenStrBind x cs e)) = of_open_str_bind (name_of x) (map low_constraint_of (reverse cs.items)) (str_of e.tree)
+phrase_of (V.Structures (Structures.BegunStrBind x cs e)) = of_begun_str_bind (name_of x) (map low_constraint_of (reverse cs.items)) (str_of e.tree)
 phrase_of (V.Structures (Structures.FunctorArgument x s)) = of_functor_argument (name_of x) (sig_of s.tree)
 phrase_of (V.Structures (Structures.FunBinds ws cs bs)) = of_fun_binds (map low_where_of (reverse ws.items)) (map low_constraint_of (reverse cs.items)) (map fun_bind_of (reverse bs.trees.items))
-phrase_of (V.Structures (Structures.OpenFunBind x y s cs e)) = of_open_fun_bind (name_of x) (name_of y) (sig_of s.tree) (map low_constraint_of (reverse cs.items)) (str_of e.tree)
-phrase_of (V.Structures (Structures.OpenFunctor x ss cs e)) = of_open_functor (name_of x) (specs_of (map spec_of (reverse ss.trees.items))) (map low_constraint_of (reverse cs.items)) (str_of e.tree)
+phrase_of (V.Structures (Structures.BegunFunBind x y s cs e)) = of_begun_fun_bind (name_of x) (name_of y) (sig_of s.tree) (map low_constraint_of (reverse cs.items)) (str_of e.tree)
+phrase_of (V.Structures (Structures.BegunFunctor x ss cs e)) = of_begun_functor (name_of x) (specs_of (map spec_of (reverse ss.trees.items))) (map low_constraint_of (reverse cs.items)) (str_of e.tree)
 phrase_of (V.Structures (Structures.Top d)) = of_top (top_of d.tree)
 
 -- the phrases on a stack, the topmost first

@@ -2,6 +2,7 @@
 -- and columns, counted from the first token of the declaration.
 use Rattle.std.specs.Prelude.{ℕ, List, [], ◌∷◌, drop, Bool, Option, Some, None}
 use Rattle.sml_lex.specs.declared.fault.Place.{Place}
+use Rattle.sml_lex.specs.Faults.{first_place}
 use Rattle.sml_tree.specs.Names.{Name, LongName}
 use Rattle.sml_tree.specs.Types.{Ty, Tys, TyFields, ty_tuple, no_ty, no_ty_field}
 use Rattle.sml_tree.specs.Patterns.{Constant, Pat, Pats, PatFields, pat_tuple, no_pat}
@@ -103,7 +104,7 @@ pub data Phrase : Type 0 where
   -- what stands behind `where type`, one after the other
   of_wheres : List (WhereType Place) → Phrase
   -- a signature binding to which more may belong: its identifier and its right side
-  of_open_sig_bind : Name Place → SigExp Place → Phrase
+  of_begun_sig_bind : Name Place → SigExp Place → Phrase
   -- what belongs to the signature expression before it, and further signature bindings
   of_sig_binds : List (WhereType Place) → List (SigBind Place) → Phrase
   -- specifications
@@ -117,7 +118,7 @@ pub data Phrase : Type 0 where
   -- the type of a type binding, and further type bindings
   of_type_rest : Ty Place → List (TypBind Place) → Phrase
   -- a structure description to which more may belong: its identifier and its signature expression
-  of_open_str_desc : Name Place → SigExp Place → Phrase
+  of_begun_str_desc : Name Place → SigExp Place → Phrase
   -- what belongs to the signature expression before it, and further structure descriptions
   of_str_descs : List (WhereType Place) → StrDescs Place → Phrase
   -- type constructors that are to be shared
@@ -134,24 +135,20 @@ pub data Phrase : Type 0 where
   of_str_binds : List (WhereType Place) → List (Constraint Place) → StrBinds Place → Phrase
   -- a structure binding to which constraints may still belong: its identifier, its own constraint if it has one, and
   -- its right side
-  of_open_str_bind : Name Place → List (Constraint Place) → StrExp Place → Phrase
+  of_begun_str_bind : Name Place → List (Constraint Place) → StrExp Place → Phrase
   -- the argument of a functor, and its signature expression
   of_functor_argument : Name Place → SigExp Place → Phrase
   -- what belongs to the signature expression before it, the constraints behind that, and further functor bindings
   of_fun_binds : List (WhereType Place) → List (Constraint Place) → List (FunBind Place) → Phrase
   -- a functor binding to which constraints may still belong: its identifier, its argument with the signature
   -- expression, its own constraint if it has one, and its right side
-  of_open_fun_bind : Name Place → Name Place → SigExp Place → List (Constraint Place) → StrExp Place → Phrase
+  of_begun_fun_bind : Name Place → Name Place → SigExp Place → List (Constraint Place) → StrExp Place → Phrase
   -- the same with specifications in the place of the argument
-  of_open_functor : Name Place → Specs Place → List (Constraint Place) → StrExp Place → Phrase
+  of_begun_functor : Name Place → Specs Place → List (Constraint Place) → StrExp Place → Phrase
   -- a top-level declaration
   of_top : TopDec Place → Phrase
 
--- the place that stands for that of a phrase of another kind
-abbrev pub first_place : Place
-first_place = record { line = 1; column = 1 }
-
--- What was made of one kind, or something of that kind where another was.
+-- What was made of one kind, or something of that kind, at the first place, where another was.
 abbrev pub name_in : Phrase → Name Place
 name_in (of_name x) = x
 name_in _ = record { place = first_place; id = [] }

@@ -169,7 +169,7 @@ pub enum SignaturePhrase {
     /// What stands behind `where type`, one after the other.
     Wheres(Vec<LowWhere>),
     /// A signature binding to which more may belong: its identifier and its right side.
-    OpenSigBind(Name, LowSig),
+    BegunSigBind(Name, LowSig),
     /// What belongs to the signature expression before it, and further signature bindings.
     SigBinds(Vec<LowWhere>, LowSigBinds),
     /// Specifications.
@@ -183,7 +183,7 @@ pub enum SignaturePhrase {
     /// The type of a type binding, and further type bindings.
     TypeRest(LowTy, LowTypBinds),
     /// A structure description to which more may belong: its identifier and its signature expression.
-    OpenStrDesc(Name, LowSig),
+    BegunStrDesc(Name, LowSig),
     /// What belongs to the signature expression before it, and further structure descriptions.
     StrDescs(Vec<LowWhere>, LowStrDescs),
     /// Type constructors that are to be shared.
@@ -203,15 +203,15 @@ pub enum StructurePhrase {
     /// The same, and further structure bindings.
     StrBinds(Vec<LowWhere>, Vec<LowConstraint>, LowStrBinds),
     /// A structure binding to which constraints may still belong: its identifier, its own constraint if it has one, and its right side.
-    OpenStrBind(Name, Vec<LowConstraint>, LowStr),
+    BegunStrBind(Name, Vec<LowConstraint>, LowStr),
     /// The argument of a functor, and its signature expression.
     FunctorArgument(Name, LowSig),
     /// What belongs to the signature expression before it, the constraints behind that, and further functor bindings.
     FunBinds(Vec<LowWhere>, Vec<LowConstraint>, LowFunBinds),
     /// A functor binding to which constraints may still belong: its identifier, its argument with the signature expression, its own constraint if it has one, and its right side.
-    OpenFunBind(Name, Name, LowSig, Vec<LowConstraint>, LowStr),
+    BegunFunBind(Name, Name, LowSig, Vec<LowConstraint>, LowStr),
     /// The same with specifications in the place of the argument.
-    OpenFunctor(Name, LowSpecs, Vec<LowConstraint>, LowStr),
+    BegunFunctor(Name, LowSpecs, Vec<LowConstraint>, LowStr),
     /// A top-level declaration.
     Top(LowTop),
 }

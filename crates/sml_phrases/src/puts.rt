@@ -9,7 +9,7 @@ ghost use Rattle.sml_tree.specs.ExpressionViews.{exn_bind_of, exp_of, exps_of, f
 ghost use Rattle.sml_tree.specs.SignatureViews.{val_desc_of, typ_desc_of, sig_of, spec_of, specs_of, str_desc_of, str_descs_of};
 ghost use Rattle.sml_tree.specs.StructureViews.{str_of, str_dec_of, str_decs_of, str_bind_of, str_binds_of, sig_bind_of, fun_bind_of, top_of};
 ghost use Rattle.sml_tree.specs.Clauses.{clause_of};
-ghost use Rattle.sml_phrases.specs.Phrases.{at, first, nothing, of_word, of_name, of_long, of_constant, of_names, of_longs, of_ty, of_tys, of_ty_fields, of_arguments, of_pat, of_pats, of_pat_fields, of_atoms, of_layer, of_op_atoms, of_op_layer, of_exp, of_exps, of_series, of_fields, of_rules, of_dec, of_decs, of_bind, of_binds, of_values, of_round_values, of_functions, of_right_side, of_clauses, of_round_functions, of_typ_bind, of_typ_binds, of_con_bind, of_con_binds, of_datatypes, of_constructors, of_copy, of_exn_binds, of_sig, of_where, of_wheres, of_open_sig_bind, of_sig_binds, of_specs, of_val_desc, of_val_descs, of_typ_descs, of_type_rest, of_open_str_desc, of_str_descs, of_shared_types, of_str, of_str_dec, of_str_decs, of_constraints, of_str_binds, of_open_str_bind, of_functor_argument, of_fun_binds, of_open_fun_bind, of_open_functor, of_top};
+ghost use Rattle.sml_phrases.specs.Phrases.{at, first, nothing, of_word, of_name, of_long, of_constant, of_names, of_longs, of_ty, of_tys, of_ty_fields, of_arguments, of_pat, of_pats, of_pat_fields, of_atoms, of_layer, of_op_atoms, of_op_layer, of_exp, of_exps, of_series, of_fields, of_rules, of_dec, of_decs, of_bind, of_binds, of_values, of_round_values, of_functions, of_right_side, of_clauses, of_round_functions, of_typ_bind, of_typ_binds, of_con_bind, of_con_binds, of_datatypes, of_constructors, of_copy, of_exn_binds, of_sig, of_where, of_wheres, of_begun_sig_bind, of_sig_binds, of_specs, of_val_desc, of_val_descs, of_typ_descs, of_type_rest, of_begun_str_desc, of_str_descs, of_shared_types, of_str, of_str_dec, of_str_decs, of_constraints, of_str_binds, of_begun_str_bind, of_functor_argument, of_fun_binds, of_begun_fun_bind, of_begun_functor, of_top};
 ghost use Rattle.sml_phrases.specs.PhraseViews.{Puts, low_constraint_of, low_where_of, phrase_of, seen};
 
 use crate::low::{
@@ -370,10 +370,10 @@ impl Stack {
         self.put(Phrase::Signatures(SignaturePhrase::Wheres(equations)))
     }
 
-    pub fn put_open_sig_bind(&mut self, name: Name, signature: LowSig) -> Result<(), Failure>
-        ensures { Puts (of_open_sig_bind (name_of name) (sig_of signature.tree)) 0 (seen self.old) (seen self.new) result }
+    pub fn put_begun_sig_bind(&mut self, name: Name, signature: LowSig) -> Result<(), Failure>
+        ensures { Puts (of_begun_sig_bind (name_of name) (sig_of signature.tree)) 0 (seen self.old) (seen self.new) result }
     {
-        self.put(Phrase::Signatures(SignaturePhrase::OpenSigBind(name, signature)))
+        self.put(Phrase::Signatures(SignaturePhrase::BegunSigBind(name, signature)))
     }
 
     pub fn put_sig_binds(
@@ -416,10 +416,10 @@ impl Stack {
         self.put(Phrase::Signatures(SignaturePhrase::TypeRest(ty, binds)))
     }
 
-    pub fn put_open_str_desc(&mut self, name: Name, signature: LowSig) -> Result<(), Failure>
-        ensures { Puts (of_open_str_desc (name_of name) (sig_of signature.tree)) 0 (seen self.old) (seen self.new) result }
+    pub fn put_begun_str_desc(&mut self, name: Name, signature: LowSig) -> Result<(), Failure>
+        ensures { Puts (of_begun_str_desc (name_of name) (sig_of signature.tree)) 0 (seen self.old) (seen self.new) result }
     {
-        self.put(Phrase::Signatures(SignaturePhrase::OpenStrDesc(name, signature)))
+        self.put(Phrase::Signatures(SignaturePhrase::BegunStrDesc(name, signature)))
     }
 
     pub fn put_str_descs(
@@ -477,15 +477,15 @@ impl Stack {
         self.put(Phrase::Structures(StructurePhrase::StrBinds(equations, constraints, binds)))
     }
 
-    pub fn put_open_str_bind(
+    pub fn put_begun_str_bind(
         &mut self,
         name: Name,
         own: Vec<LowConstraint>,
         body: LowStr,
     ) -> Result<(), Failure>
-        ensures { Puts (of_open_str_bind (name_of name) (map low_constraint_of (reverse own.items)) (str_of body.tree)) 0 (seen self.old) (seen self.new) result }
+        ensures { Puts (of_begun_str_bind (name_of name) (map low_constraint_of (reverse own.items)) (str_of body.tree)) 0 (seen self.old) (seen self.new) result }
     {
-        self.put(Phrase::Structures(StructurePhrase::OpenStrBind(name, own, body)))
+        self.put(Phrase::Structures(StructurePhrase::BegunStrBind(name, own, body)))
     }
 
     pub fn put_functor_argument(&mut self, name: Name, signature: LowSig) -> Result<(), Failure>
@@ -505,7 +505,7 @@ impl Stack {
         self.put(Phrase::Structures(StructurePhrase::FunBinds(equations, constraints, binds)))
     }
 
-    pub fn put_open_fun_bind(
+    pub fn put_begun_fun_bind(
         &mut self,
         name: Name,
         argument: Name,
@@ -513,23 +513,23 @@ impl Stack {
         own: Vec<LowConstraint>,
         body: LowStr,
     ) -> Result<(), Failure>
-        ensures { Puts (of_open_fun_bind (name_of name) (name_of argument) (sig_of signature.tree) (map low_constraint_of (reverse own.items)) (str_of body.tree)) 0 (seen self.old) (seen self.new) result }
+        ensures { Puts (of_begun_fun_bind (name_of name) (name_of argument) (sig_of signature.tree) (map low_constraint_of (reverse own.items)) (str_of body.tree)) 0 (seen self.old) (seen self.new) result }
     {
-        self.put(Phrase::Structures(StructurePhrase::OpenFunBind(
+        self.put(Phrase::Structures(StructurePhrase::BegunFunBind(
             name, argument, signature, own, body,
         )))
     }
 
-    pub fn put_open_functor(
+    pub fn put_begun_functor(
         &mut self,
         name: Name,
         specs: LowSpecs,
         own: Vec<LowConstraint>,
         body: LowStr,
     ) -> Result<(), Failure>
-        ensures { Puts (of_open_functor (name_of name) (specs_of (map spec_of (reverse specs.trees.items))) (map low_constraint_of (reverse own.items)) (str_of body.tree)) 0 (seen self.old) (seen self.new) result }
+        ensures { Puts (of_begun_functor (name_of name) (specs_of (map spec_of (reverse specs.trees.items))) (map low_constraint_of (reverse own.items)) (str_of body.tree)) 0 (seen self.old) (seen self.new) result }
     {
-        self.put(Phrase::Structures(StructurePhrase::OpenFunctor(name, specs, own, body)))
+        self.put(Phrase::Structures(StructurePhrase::BegunFunctor(name, specs, own, body)))
     }
 
     pub fn put_top(&mut self, top: LowTop) -> Result<(), Failure>

@@ -22,7 +22,7 @@ use crate::phrase::{
     DeclarationPhrase, ExpressionPhrase, PatternPhrase, Phrase, SignaturePhrase, StructurePhrase,
     TypePhrase, discard,
 };
-use sml_lex::fault::{Memory, Place};
+use sml_lex::fault::{FIRST, Memory, Place};
 use sml_tree::bare::LongIdent;
 use sml_tree::expressions::{Dec, Exp, ValBind};
 use sml_tree::names::Name;
@@ -32,9 +32,6 @@ use sml_tree::structures::{StrDec, StrExp, TopDec};
 use sml_tree::types::Ty;
 use std::alloc::Global;
 use std::rc::Rc;
-
-/// The place that stands for that of a phrase of another kind.
-pub const FIRST: Place = Place { line: 1, column: 1 };
 
 /// The phrases that are not yet part of another one, the last made on top.
 #[derive(Drop)]

@@ -9,7 +9,7 @@ use Rattle.sml_objects.specs.Objects.{Sig, Basis, names_basis, names_env, names_
 use Rattle.sml_objects.specs.Initial.{Name, initial, made, naming}
 use Rattle.sml_objects.specs.Alike.{IsFixed, AlikeOver}
 use Rattle.sml_objects.specs.Appearance.{Stands, stands}
-use Rattle.sml_objects.specs.Canonical.{is_new, new_names, place_of, with_number, renumber, canonical}
+use Rattle.sml_objects.specs.Canonical.{is_new, new_names, index_of, with_number, renumber, canonical}
 use Rattle.sml_objects.proofs.CanonicalForms.{new-in, canonical-renames, new-is, no-repeats}
 use Rattle.sml_objects.proofs.Renaming.{sig-image, sig_laws}
 use Rattle.sml_rules.specs.Answers.{Reading, refused, accepted, After, give, ◌>>=◌, test, fault}
@@ -23,11 +23,12 @@ use Rattle.sml_rules.proofs.Sound.{bound_by, given}
 use Rattle.sml_rules.proofs.Lists.{no_longer}
 use Rattle.sml_rules.proofs.Within.{last, read_dec_within}
 use Rattle.sml_lex.specs.declared.fault.Code.TheVariants.{Q3}
+use Rattle.sml_lex.specs.Faults.{first_place}
 use Rattle.sml_objects.specs.Views.{maker_of, name_of, sig_of}
 use Rattle.sml_objects.specs.declared.objects.Basis as PB
 use Rattle.sml_piece.specs.declared.top_fault.TopFault.{TopFault}
 use Rattle.sml_piece.specs.declared.top_fault.TopFault.TheVariants.{Memory, Fault}
-use Rattle.sml_piece.specs.Elaborated.{Answers, IsBelow, IsBasisOf, IsOwnBasis, read_numbered, beginning}
+use Rattle.sml_piece.specs.Elaborated.{Answers, IsBelow, IsBasisOf, IsOwnBasis, read_numbered}
 use Rattle.sml_piece.proofs.Answering.{then_any, passes, gives}
 
 not_new : (unit count : ℕ) (n : Name) → IsBelow unit count n → is_new unit count n ≡ false
@@ -79,13 +80,13 @@ read_canonical p unit count B d S below h =
     subst (λ R. read_top naming p unit B d (accepted R)) a.2
     (subst (λ C. read_top naming p unit C d (accepted (rename_sig f.to S))) (basis_supported.fixed f.to B (fixes_of f.to (names_basis B) a.1)) moved)
 
-place_within : (n : Name) (ns : List Name) → stands naming n ns ≡ true → place_of naming n ns < length ns
-unfolding stands place_of
+place_within : (n : Name) (ns : List Name) → stands naming n ns ≡ true → index_of naming n ns < length ns
+unfolding stands index_of
 place_within n [] h = absurd (true≢false (sym h))
 place_within n (m ∷ ns) h = go (naming.same n m) h (place_within n ns)
   where
-    go : (e : Dec (n ≡ m)) → (elim e [ yes _ ↦ true | no _ ↦ stands naming n ns ]) ≡ true → (stands naming n ns ≡ true → place_of naming n ns < length ns)
-        → (elim e [ yes _ ↦ 0 | no _ ↦ suc (place_of naming n ns) ]) < suc (length ns)
+    go : (e : Dec (n ≡ m)) → (elim e [ yes _ ↦ true | no _ ↦ stands naming n ns ]) ≡ true → (stands naming n ns ≡ true → index_of naming n ns < length ns)
+        → (elim e [ yes _ ↦ 0 | no _ ↦ suc (index_of naming n ns) ]) < suc (length ns)
     go (yes e) h k = omega arith
     go (no e) h k = let l = k h in omega (arith, l)
 
@@ -93,7 +94,7 @@ renumbered_below : (unit count most : ℕ) (ns : List Name) (n : Name) → lengt
 unfolding renumber
 renumbered_below unit count most ns n few h = go (stands naming n ns) refl
   where
-    go : (b : Bool) → stands naming n ns ≡ b → IsBelow unit (count + most) (cond b (with_number unit (count + place_of naming n ns) n) n)
+    go : (b : Bool) → stands naming n ns ≡ b → IsBelow unit (count + most) (cond b (with_number unit (count + index_of naming n ns) n) n)
     go true e = λ same. let l = place_within n ns e in omega (arith, l, few)
     go false e = h
 
@@ -115,19 +116,19 @@ canonical_count unit count S = length-map S.names (renumber unit count (new_name
 
 -- what a declaration of the piece gives is read at the top level, where its names aren't too many
 pub top_of : (p own : PB.Basis) (B : Basis Name) → IsBasisOf p B → (d : T.Dec Place) → read_dec naming (maker_of p.unit) B d (accepted (sig_of own))
-    → length p.names.items + length own.names.items ≤ 1048576 → read_top naming beginning (maker_of p.unit) B d (accepted (sig_of own))
+    → length p.names.items + length own.names.items ≤ 1048576 → read_top naming first_place (maker_of p.unit) B d (accepted (sig_of own))
 unfolding read_top
 top_of p own B basis d h few =
     let S = sig_of own in
     let counts = ap (λ n. n + length own.names.items) (sym basis.count_is) ∙ ap (λ n. B.count + n) (sym (length-map own.names.items name_of)) in
-    then_any _ _ S (accepted S) h (then_any _ _ tt (accepted S) (passes _ (fault Q3 beginning) (subst (λ n. n ≤ 1048576) counts few)) (gives S))
+    then_any _ _ S (accepted S) h (then_any _ _ tt (accepted S) (passes _ (fault Q3 first_place) (subst (λ n. n ≤ 1048576) counts few)) (gives S))
 
 -- the same with its names renumbered
-pub numbered_top : (p own b : PB.Basis) (B : Basis Name) → IsBasisOf p B → (d : T.Dec Place) → read_top naming beginning (maker_of p.unit) B d (accepted (sig_of own))
-    → sig_of b ≡ canonical (maker_of p.unit) (length p.names.items) (sig_of own) → read_top naming beginning (maker_of p.unit) B d (accepted (sig_of b))
+pub numbered_top : (p own b : PB.Basis) (B : Basis Name) → IsBasisOf p B → (d : T.Dec Place) → read_top naming first_place (maker_of p.unit) B d (accepted (sig_of own))
+    → sig_of b ≡ canonical (maker_of p.unit) (length p.names.items) (sig_of own) → read_top naming first_place (maker_of p.unit) B d (accepted (sig_of b))
 numbered_top p own b B basis d h e =
-    subst (λ S. read_top naming beginning (maker_of p.unit) B d (accepted S)) (sym e)
-    (read_canonical beginning (maker_of p.unit) (length p.names.items) B d (sig_of own) basis.below h)
+    subst (λ S. read_top naming first_place (maker_of p.unit) B d (accepted S)) (sym e)
+    (read_canonical first_place (maker_of p.unit) (length p.names.items) B d (sig_of own) basis.below h)
 
 -- a new name of what is read is among those that were made
 new_among : (unit count : ℕ) (B : Basis Name) (d : T.Dec Place) (S : Sig Name) → Every (IsBelow unit count) (names_basis B) → read_dec naming unit B d (accepted S)
@@ -181,5 +182,5 @@ numbered_own p own b is e unit few =
 pub canonical_unchanged : (unit count : ℕ) (S : Sig Name) → length (new_names unit count S) ≡ 0 → canonical unit count S ≡ S
 unfolding canonical renumber stands
 canonical_unchanged unit count S none =
-    let f : renumber unit count (new_names unit count S) ≡ (λ n. n) = λ i n. cond (stands naming n (nil_from_length (new_names unit count S) none i)) (with_number unit (count + place_of naming n (nil_from_length (new_names unit count S) none i)) n) n in
+    let f : renumber unit count (new_names unit count S) ≡ (λ n. n) = λ i n. cond (stands naming n (nil_from_length (new_names unit count S) none i)) (with_number unit (count + index_of naming n (nil_from_length (new_names unit count S) none i)) n) n in
     ap (λ g. rename_sig g S) f ∙ sig_laws.identity S

@@ -3,7 +3,7 @@ use Rattle.std.specs.Prelude.{◌≡◌, ◌<◌, ◌≤◌, ◌+◌, ℕ, lengt
 use Rattle.std.specs.Option.{is_some}
 use Rattle.sml_lex.specs.declared.fault.Place.{Place}
 use Rattle.sml_lex.specs.Faults as F
-use Rattle.sml_lex.specs.Faults.{fault_of}
+use Rattle.sml_lex.specs.Faults.{fault_of, first_place}
 use Rattle.sml_lex.specs.declared.fault.Code.TheVariants.{E3, N2, Q3}
 use Rattle.sml_tree.specs.Trees.{Id, LongId, Spec}
 use Rattle.sml_objects.specs.Maps.{lookup}
@@ -29,10 +29,6 @@ use Rattle.sml_piece.specs.declared.expressions.TypedList.{TypedList}
 use Rattle.sml_piece.specs.declared.expressions.Component.{Component}
 use Rattle.sml_piece.specs.declared.expressions.Component.TheVariants.{Value, «Type»}
 use Rattle.sml_tree.specs.Views.{ident_of}
-
--- every declaration begins at 1.1
-abbrev pub beginning : Place
-beginning = record { line = 1; column = 1 }
 
 abbrev pub NameEnv : Type 0
 NameEnv = Env Name
@@ -124,7 +120,7 @@ pub record IsOwnBasis (p own : PB.Basis) : Type 0 where
 -- an object whose new names are renumbered, if there aren't too many of them
 abbrev pub read_numbered : ℕ → ℕ → Sig Name → Reading Place (Sig Name)
 read_numbered unit count S = do
-  u ← test (count + length (new_names unit count S) ≤ 1048576) (fault Q3 beginning)
+  u ← test (count + length (new_names unit count S) ≤ 1048576) (fault Q3 first_place)
   give (canonical unit count S)
 
 abbrev pub no_signature : Sig Name

@@ -3,6 +3,7 @@
 ghost use Rattle.std.specs.Prelude.{◌≡◌, ◌≤◌, ◌+◌, length, [], true, IfOk};
 ghost use Rattle.sml_lex.specs.declared.fault.Code.TheVariants.{Q3};
 ghost use Rattle.sml_lex.specs.declared.fault.Place.{Place};
+ghost use Rattle.sml_lex.specs.Faults.{first_place};
 ghost use Rattle.sml_tree.specs.Trees as T;
 ghost use Rattle.sml_tree.specs.Views.{dec_of, core_dec_of, ident_of};
 ghost use Rattle.sml_tree.specs.declared.bare.BareDec.TheVariants.{Structure};
@@ -14,14 +15,14 @@ ghost use Rattle.sml_objects.specs.Views.{env_of, maker_of, sig_of};
 ghost use Rattle.sml_rules.specs.Answers.{accepted, test, fault};
 ghost use Rattle.sml_rules.specs.Readings.{read_dec, read_top, is_specified};
 ghost use Rattle.sml_rules.specs.Sound.{IsSound};
-ghost use Rattle.sml_piece.specs.Elaborated.{Answers, IsBasisOf, IsOwnBasis, IsMade, read_numbered, signature_of, beginning};
+ghost use Rattle.sml_piece.specs.Elaborated.{Answers, IsBasisOf, IsOwnBasis, IsMade, read_numbered, signature_of};
 
 use crate::expressions::{all_declared, declared};
 use crate::lookups::Context;
 use crate::matching::matches;
 use crate::signatures::signature;
 use crate::top_fault::{TopFault, plain_fault};
-use sml_lex::fault::{Code, Memory, Place, Warning};
+use sml_lex::fault::{Code, FIRST, Memory, Warning};
 use sml_objects::canonical::{canonical, new_count};
 use sml_objects::objects::{Basis, Env, Sig, UnitId};
 use sml_tree::bare::{BareDec, CoreDec, Ident, SealedStructure};
@@ -30,9 +31,6 @@ use std::rc::Rc;
 
 /// The greatest number of type names that a unit makes and exports.
 pub const MOST_NAMES: usize = 1_048_576;
-
-/// The place of every top-level declaration.
-pub(crate) const START: Place = Place { line: 1, column: 1 };
 
 /// The declaration's own basis, with its warnings, or why it has none. The basis lent is that of its unit so far. The new
 /// names are numbered from its count on, in the order in which they appear in the lines of the environment.
@@ -43,12 +41,12 @@ pub fn topdec(
 ) -> Result<(Basis, Vec<Warning>), TopFault>
     requires { is_specified (dec_of dec.now) ≡ true }
     ensures reading { (B : O.Basis Name) → IsBasisOf basis.now B
-        → Answers (λ r. sig_of r.0) result (read_top naming beginning (maker_of basis.now.unit) B (dec_of dec.now)) }
+        → Answers (λ r. sig_of r.0) result (read_top naming first_place (maker_of basis.now.unit) B (dec_of dec.now)) }
     ensures sound { (B : O.Basis Name) → IsBasisOf basis.now B
         → IfOk result (λ r. IsSound naming (maker_of basis.now.unit) B (dec_of dec.now) (sig_of r.0)) }
     ensures own { (B : O.Basis Name) → IsBasisOf basis.now B → IfOk result (λ r. IsOwnBasis basis.now r.0) }
     ensures canonical { (B : O.Basis Name) → IsBasisOf basis.now B
-        → IfOk result (λ r. (S : O.Sig Name) × read_top naming beginning (maker_of basis.now.unit) B (dec_of dec.now) (accepted S)
+        → IfOk result (λ r. (S : O.Sig Name) × read_top naming first_place (maker_of basis.now.unit) B (dec_of dec.now) (accepted S)
         × (sig_of r.0 ≡ C.canonical (maker_of basis.now.unit) (length basis.now.names.items) S)) }
     ensures no_warnings { IfOk result (λ r. r.1.items ≡ []) }
 {
@@ -94,10 +92,10 @@ fn numbered(alloc: Global, basis: &Basis, own: Basis) -> Result<Basis, TopFault>
 
 /// That the unit makes not too many names with so many more.
 fn few_names(basis: &Basis, more: usize) -> Result<(), TopFault>
-    ensures { Answers (λ u. u) result (test (length basis.now.names.items + more ≤ 1048576) (fault Q3 beginning)) }
+    ensures { Answers (λ u. u) result (test (length basis.now.names.items + more ≤ 1048576) (fault Q3 first_place)) }
 {
     if more > MOST_NAMES || basis.names.len() > MOST_NAMES - more {
-        return Err(plain_fault(Code::Q3, START));
+        return Err(plain_fault(Code::Q3, FIRST));
     }
     Ok(())
 }

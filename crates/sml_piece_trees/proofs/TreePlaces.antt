@@ -3,6 +3,7 @@ use Rattle.std.specs.Prelude.{ℕ, zero, suc, List, [], ◌∷◌, ◌++◌, Boo
 use Rattle.std.specs.List.{All}
 use Rattle.std.proofs.lemmas.List.Elements.{All-nil, All-cons}
 use Rattle.sml_lex.specs.declared.fault.Place.{Place}
+use Rattle.sml_lex.specs.Faults.{first_place}
 use Rattle.sml_tree.specs.Trees as T
 use Rattle.sml_tree.specs.Places.{exp_places, exps_places, ty_places, tys_places, spec_places, specs_places, core_places, cores_places, dec_places}
 use Rattle.sml_piece_trees.specs.declared.form.Form.{Form}
@@ -113,7 +114,7 @@ module _ (Q : Place → Type 0) where
   starred ty T.no_ty h k = h
   starred ty (T.and_ty second tys) h k = each_append (ty_places ty) (tys_places (T.and_ty second tys)) h k
 
-  module _ (begins : Q (record { line = 1; column = 1 })) where
+  module _ (begins : Q first_place) where
     word_stands : (v : Value) → Stands v → Q (word_in v).place
     word_stands (of_word word) h = h
     word_stands _ h = begins

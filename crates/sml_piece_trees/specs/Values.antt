@@ -1,6 +1,7 @@
 -- What the parts of a declaration make.
 use Rattle.std.specs.Prelude.{ℕ, zero, suc, List, [], ◌∷◌}
 use Rattle.sml_lex.specs.declared.fault.Place.{Place}
+use Rattle.sml_lex.specs.Faults.{first_place}
 use Rattle.sml_tree.specs.Trees as T
 use Rattle.sml_piece_trees.specs.declared.item.Word.{Word}
 use Rattle.sml_piece_trees.specs.Lists.{rest}
@@ -21,7 +22,7 @@ pub data Value : Type 0 where
 -- what was made of one sort, or something of that sort where another was
 abbrev pub word_in : Value → Word
 word_in (of_word word) = word
-word_in _ = record { place = record { line = 1; column = 1 }; span = record { start = 0; «end» = 0 } }
+word_in _ = record { place = first_place; span = record { start = 0; «end» = 0 } }
 
 abbrev pub exp_in : Value → T.Exp Place
 exp_in (of_exp exp) = exp
@@ -49,7 +50,7 @@ cores_in _ = []
 
 -- a declaration outside the piece, at the place from which places count
 abbrev pub outside : T.Dec Place
-outside = T.other (record { line = 1; column = 1 })
+outside = T.other first_place
 
 abbrev pub dec_in : Value → T.Dec Place
 dec_in (of_dec dec) = dec

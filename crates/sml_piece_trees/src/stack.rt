@@ -7,9 +7,8 @@ ghost use Rattle.sml_piece_trees.specs.Lists.{rest};
 ghost use Rattle.sml_piece_trees.specs.Stacks.{seen, value_of};
 
 use crate::item::Word;
-use sml_lex::fault::Memory;
+use sml_lex::fault::{FIRST, Memory};
 use sml_lex::token::Span;
-use sml_reach::place::FIRST;
 use sml_tree::bare::{BareDec, CoreDec, Exp, Spec, Ty};
 use std::alloc::Global;
 

@@ -2,7 +2,7 @@
 use Rattle.std.proofs.Common.{◌≡◌, ℕ, zero, suc, ◌+◌, ◌-◌, ◌≤◌, List, [], ◌∷◌, ◌++◌, Option, Some, None, true, false, map, length, take, drop, refl, ap, ◌∙◌, arith, length-drop}
 use Rattle.std.proofs.lemmas.List.{take_all}
 use Rattle.std.proofs.lemmas.Bool.{leb-true, leb-false}
-use Rattle.sml_lex.proofs.Reading.{false_is_true}
+use Rattle.sml_lex.proofs.MachineRuns.{false_is_true}
 use Rattle.sml_reach.specs.Reach.{up_to, is_full}
 
 -- so many at most of two lists, of which the first is within that

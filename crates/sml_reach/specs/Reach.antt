@@ -160,22 +160,22 @@ code_number C.F3 = 3
 code_number _ = 4
 
 -- whether a fault comes before another of its declaration: at an earlier token, or there with a lower number
-abbrev pub precedes : Misfit → Misfit → Bool
-precedes a b = nat_lt a.token b.token || (a.token == b.token && nat_le (code_number a.code) (code_number b.code))
+abbrev pub misfit_precedes : Misfit → Misfit → Bool
+misfit_precedes a b = nat_lt a.token b.token || (a.token == b.token && nat_le (code_number a.code) (code_number b.code))
 
-abbrev pub earlier : Misfit → Option Misfit → Misfit
-earlier a None = a
-earlier a (Some b) = if precedes a b then a else b
+abbrev pub earlier_misfit : Misfit → Option Misfit → Misfit
+earlier_misfit a None = a
+earlier_misfit a (Some b) = if misfit_precedes a b then a else b
 
 -- the first fault of the declaration with this number
-abbrev pub first_in : ℕ → List Misfit → Option Misfit
-first_in number [] = None
-first_in number (m ∷ ms) = if m.number == number then Some (earlier m (first_in number ms)) else first_in number ms
+abbrev pub first_misfit_in : ℕ → List Misfit → Option Misfit
+first_misfit_in number [] = None
+first_misfit_in number (m ∷ ms) = if m.number == number then Some (earlier_misfit m (first_misfit_in number ms)) else first_misfit_in number ms
 
 -- the first fault of the first declaration that has one
 abbrev pub first_misfit : List Misfit → Option Misfit
 first_misfit [] = None
-first_misfit (m ∷ ms) = first_in m.number (m ∷ ms)
+first_misfit (m ∷ ms) = first_misfit_in m.number (m ∷ ms)
 
 -- how many declarations stand before the one with a fault of fixity
 abbrev pub before_misfit : Option Misfit → Option ℕ

@@ -3,11 +3,8 @@
 ghost use Rattle.std.specs.Prelude.{◌≡◌, ℕ, List, [], ◌∷◌, ◌++◌, slice_range};
 ghost use Rattle.sml_reach.specs.Places.{place_behind, place_from, start_of, IsOnWay};
 
-use sml_lex::fault::Place;
+use sml_lex::fault::{FIRST, Place};
 use sml_lex::token::{Span, Token};
-
-/// The place from which all places of a declaration count.
-pub const FIRST: Place = Place { line: 1, column: 1 };
 
 /// The bytes of a unit at this span.
 pub fn text<'a>(unit: &'a [u8], span: Span) -> &'a [u8]

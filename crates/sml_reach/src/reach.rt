@@ -305,19 +305,25 @@ fn code_number(code: Code) -> u8
     }
 }
 
-fn precedes(left: Misfit, right: Misfit) -> bool
-    ensures { result ≡ spec.precedes left right }
+fn misfit_precedes(left: Misfit, right: Misfit) -> bool
+    ensures { result ≡ spec.misfit_precedes left right }
 {
     left.token < right.token
         || (left.token == right.token && code_number(left.code) <= code_number(right.code))
 }
 
-fn earlier(left: Misfit, right: Option<Misfit>) -> Misfit
-    ensures { result ≡ spec.earlier left right }
+fn earlier_misfit(left: Misfit, right: Option<Misfit>) -> Misfit
+    ensures { result ≡ spec.earlier_misfit left right }
 {
     match right {
         None => left,
-        Some(right) => { if precedes(left, right) { left } else { right } }
+        Some(right) => {
+            if misfit_precedes(left, right) {
+                left
+            } else {
+                right
+            }
+        }
     }
 }
 
@@ -333,7 +339,7 @@ fn first_of(misfits: &[Misfit]) -> Option<Misfit>
     for i in (0..misfits.len()).rev() {
         let misfit = misfits[i];
         if misfit.number == number {
-            first = Some(earlier(misfit, first));
+            first = Some(earlier_misfit(misfit, first));
         }
     }
     first

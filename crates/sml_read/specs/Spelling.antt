@@ -1,5 +1,6 @@
 -- Trees, and the tokens that they spell.
 use Rattle.std.specs.Prelude.{◌≡◌, ℕ, ◌+◌, map, List, [], ◌∷◌, ◌++◌, take, drop, length, ◌<◌, ◌≤◌, ◌⊎◌, Bool, true, false, not, ◌&&◌, ◌||◌, ◌==◌, Option, Some, None}
+use Rattle.std.specs.List.{list_any}
 use Rattle.sml_lex.specs.declared.token.Kind.{Kind}
 use Rattle.sml_lex.specs.declared.token.Kind.TheVariants.{Semicolon}
 use Rattle.sml_lex.specs.declared.token.Token.{Token}
@@ -18,13 +19,12 @@ use Rattle.sml_read.specs.Numbers.{kind_number, part_number}
 abbrev pub kinds_of : List Token → List Kind
 kinds_of tokens = map (λ token. token.kind) tokens
 
-abbrev pub among : Kind → List Kind → Bool
-among k [] = false
-among k (x ∷ xs) = (kind_number k == kind_number x) || among k xs
+abbrev pub is_among : Kind → List Kind → Bool
+is_among k kinds = list_any (λ x. kind_number k == kind_number x) kinds
 
 -- whether a part may begin with this kind
 abbrev pub begins_with : Part → Kind → Bool
-begins_with p k = among k (beginnings p)
+begins_with p k = is_among k (beginnings p)
 
 -- whether a right side may stand for no token
 abbrev pub all_empty : List Symbol → Bool

@@ -7,11 +7,11 @@ use Rattle.sml_read.specs.declared.grammar.Symbol.TheVariants.{Word, Of}
 use Rattle.sml_read.specs.declared.grammar.Node.{Node}
 use Rattle.sml_read.specs.Parts.{may_be_empty}
 use Rattle.sml_read.specs.Shortest.{shortest_text, continuations, weight}
-use Rattle.sml_read.specs.Spelling.{among, head_or, is_outer, is_closed, Leads}
+use Rattle.sml_read.specs.Spelling.{is_among, head_or, is_outer, is_closed, Leads}
 
 abbrev pub goes_on : Part → Option Kind → Bool
 goes_on p None = false
-goes_on p (Some k) = among k (continuations p)
+goes_on p (Some k) = is_among k (continuations p)
 
 -- the first token of the shortest texts of these symbols, with next behind them
 abbrev pub lead : List Symbol → Option Kind → Option Kind

@@ -13,7 +13,7 @@ use Rattle.sml_layers.specs.Rows.{fields_at}
 use Rattle.sml_graph.specs.Rows.{HasFields}
 use Rattle.sml_layers.specs.Worlds.{infinite, make, spread, spread_all}
 use Rattle.sml_graph.specs.Worlds.{In, Assignment}
-use Rattle.sml_layers.specs.Layers.{place_of}
+use Rattle.sml_layers.specs.Layers.{index_of}
 use Rattle.sml_graph.specs.Asked.{Asked, Demand, equal, has_fields, asks, Holds, CanMeet, IsFirstUnmet, count}
 use Rattle.sml_solve.specs.Clashes.{IsOneOf, part_at, MakesEqual, given, same, turned, joined, component, field, fields, HasLabels, Clash, heads, no_row, IsDemandOf, MeetsAll, IsUnmetWhereItClashes}
 use Rattle.sml_graph.proofs.Worlding.{app_head, app_parts}
@@ -114,7 +114,7 @@ module _ (u : ℕ) (σ : Assignment infinite) (ds : List Demand) (a : MeetsAll u
       ]
   no-clash (no_row r fs h ts i m d) = d (labels-met fs r h ts (row-met r fs i) (made-equal r (app h (types_of ts)) m ∙ spread-app σ h ts))
 
-none-before : (k : Layer) → place_of k < place_of Equations → ⊥
+none-before : (k : Layer) → index_of k < index_of Equations → ⊥
 none-before k h = omega (arith, h)
 
 demand-over : (s : Asked) (d : Demand) → IsDemandOf s d → IsDemandOver (count s) d

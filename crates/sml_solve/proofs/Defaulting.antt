@@ -16,7 +16,7 @@ use Rattle.sml_graph.specs.declared.node.Node.TheVariants.{Unknown, Link, App, O
 use Rattle.sml_graph.specs.declared.variables.Variables.{Variables}
 use Rattle.sml_graph.specs.declared.variables.Variables.TheVariants as V
 use Rattle.sml_layers.specs.Worlds.{World, finite, infinite, make, tree, typed, spread, spread_all, world}
-use Rattle.sml_graph.specs.Worlds.{Assignment, Tree}
+use Rattle.sml_graph.specs.Worlds.{Assignment, InfiniteType}
 use Rattle.sml_graph.specs.Graphs.{node_at, head_over, fields_of, Agrees, Meets, IsRootNode}
 use Rattle.sml_tree.specs.Trees.{Id}
 use Rattle.sml_objects.specs.Maps.{lookup}
@@ -90,7 +90,7 @@ unfolding spread_all
 spreads [] f = refl
 spreads (t ∷ ts) f = ap (λ xs. spread f t ∷ xs) (spreads ts f)
 
-map-map : (f : O.MlType Name → Tree) (τ : Assignment finite) (is : List ℕ) → map f (map τ is) ≡ map (λ i. f (τ i)) is
+map-map : (f : O.MlType Name → InfiniteType) (τ : Assignment finite) (is : List ℕ) → map f (map τ is) ≡ map (λ i. f (τ i)) is
 map-map f τ [] = refl
 map-map f τ (i ∷ is) = ap (λ xs. f (τ i) ∷ xs) (map-map f τ is)
 

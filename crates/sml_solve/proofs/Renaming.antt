@@ -6,7 +6,7 @@ use Rattle.std.specs.List.{AllByRecursion}
 use Rattle.sml_objects.specs.Fates.{attributes, substitutes, type_or, standing_for, close_as}
 use Rattle.sml_objects.specs.Initial.{Name}
 use Rattle.sml_objects.specs.Objects as O
-use Rattle.sml_objects.specs.Types.{assign, replace_type, replace_types, is_among, variables_after, variables_after_all, place_among}
+use Rattle.sml_objects.specs.Types.{assign, replace_type, replace_types, is_among, variables_after, variables_after_all, index_among}
 use Rattle.sml_objects.specs.declared.fates.Fate.{Fate}
 use Rattle.sml_objects.specs.declared.fates.Fate.TheVariants.{Bind, Keep, Default}
 use Rattle.sml_layers.specs.Worlds.{finite}
@@ -103,8 +103,8 @@ module _ (f g : ℕ → ℕ) where
   among-renamed v [] p a = refl
   among-renamed v (w ∷ ws) p a = λ i. cond (same-test v w p a.0 i) true (among-renamed v ws p a.1 i)
 
-  place-renamed : (v : ℕ) (ws : List ℕ) → IsBack v → AllByRecursion IsBack ws → place_among (f v) (map f ws) ≡ place_among v ws
-  unfolding place_among
+  place-renamed : (v : ℕ) (ws : List ℕ) → IsBack v → AllByRecursion IsBack ws → index_among (f v) (map f ws) ≡ index_among v ws
+  unfolding index_among
   place-renamed v [] p a = refl
   place-renamed v (w ∷ ws) p a = λ i. cond (same-test v w p a.0 i) 0 (suc (place-renamed v ws p a.1 i))
 
@@ -195,11 +195,11 @@ at-variable P t v m h = all-has P v (variables_after [] t) (variables-made P [] 
 pub at-each : (P Q : ℕ → Type 0) (t : O.MlType Name) → IsMadeOf P t → ((v : ℕ) → is_among v (variables_after [] t) ≡ true → Q v) → IsMadeOf Q t
 at-each P Q t m f = made-more (λ v. is_among v (variables_after [] t) ≡ true) Q t f (are-among P [] t m)
 
-place-inside : (v : ℕ) (ws : List ℕ) → is_among v ws ≡ true → place_among v ws < length ws
-unfolding is_among place_among
+place-inside : (v : ℕ) (ws : List ℕ) → is_among v ws ≡ true → index_among v ws < length ws
+unfolding is_among index_among
 place-inside v [] h = let q : false ≡ true = h in absurd cc
 place-inside v (w ∷ ws) h = next (nat_eq v w) (place-inside v ws) h where
-  next : (b : Bool) → (is_among v ws ≡ true → place_among v ws < length ws) → cond b true (is_among v ws) ≡ true → cond b 0 (suc (place_among v ws)) < suc (length ws)
+  next : (b : Bool) → (is_among v ws ≡ true → index_among v ws < length ws) → cond b true (is_among v ws) ≡ true → cond b 0 (suc (index_among v ws)) < suc (length ws)
   next true f h = omega arith
   next false f h = let r = f h in omega (arith, r)
 
@@ -227,7 +227,7 @@ closed-renamed u f g t q fs e m n l =
     let back = variables-made (IsBack f g) [] t tt m in
     let one : IsMadeOf (λ v. standing_for vs ts v ≡ standing_for (map f vs) ts (f v)) t = at-each (IsBack f g) (λ v. standing_for vs ts v ≡ standing_for (map f vs) ts (f v)) t m (λ v h.
     let p = place-inside v vs h in
-    substituted u (O.free v) (O.free (f v)) 0 fs (place_among v vs) n (omega (arith, p, l))
+    substituted u (O.free v) (O.free (f v)) 0 fs (index_among v vs) n (omega (arith, p, l))
     ∙ ap (λ k. type_or (O.free (f v)) (get_or ts k None)) (sym (place-renamed f g v vs (at-variable (IsBack f g) t v m h) back))) in
     let body : assign (standing_for vs ts) t ≡ assign (standing_for (variables_after [] q) ts) q =
     assigned-alike (standing_for vs ts) (λ v. standing_for (map f vs) ts (f v)) t one

@@ -13,7 +13,7 @@ use Rattle.sml_objects.specs.Labels.{AreRising, with_labels}
 use Rattle.sml_layers.specs.Rows.{fields_at}
 use Rattle.sml_graph.specs.Rows.{HasFields}
 use Rattle.sml_layers.specs.Worlds.{infinite, tree, spread, spread_all}
-use Rattle.sml_graph.specs.Worlds.{Assignment, Tree}
+use Rattle.sml_graph.specs.Worlds.{Assignment, InfiniteType}
 use Rattle.sml_graph.specs.Interned.{IsOver, AreOver}
 use Rattle.sml_graph.specs.Asked.{Demand, equal, has_fields, asks, Holds}
 use Rattle.sml_solve.specs.Clashes.{IsOneOf, HasLabels, Clash, MeetsAll}
@@ -126,11 +126,11 @@ module _ (ds : List Demand) (s : AreSettled ds) (ok : AreConsistent ds s.classes
 
   -- the tree of a class
 
-  follow : ℕ → Tree
+  follow : ℕ → InfiniteType
   follow n [] = elim (top n) [ None ↦ None | Some a ↦ Some (a.0, length a.1) ]
   follow n (k ∷ path) = elim (top n) [ None ↦ None | Some a ↦ elim (nth a.1 k) [ None ↦ None | Some t ↦ follow (c t) path ] ]
 
-  abbrev class_tree : Ty → Tree
+  abbrev class_tree : Ty → InfiniteType
   class_tree t = follow (c t)
 
   follow-part : (ts : List Ty) (k : ℕ) (path : List ℕ) → (elim (nth ts k) [ None ↦ None | Some t ↦ follow (c t) path ]) ≡ get_or (map class_tree ts) k (λ _. None) path
@@ -268,7 +268,7 @@ module _ (ds : List Demand) (s : AreSettled ds) (ok : AreConsistent ds s.classes
       go (has_fields q gs) (inr j) k = step (ℕ_discrete (c q) n) (asked_row n es) (k j)
       go (asks a t) (inr j) k = k j
 
-  abbrev Shown : List Id → List Ty → Id × Tree → Type 0
+  abbrev Shown : List Id → List Ty → Id × InfiniteType → Type 0
   Shown ls ts f = lookup f.0 (with_labels ls (map class_tree ts)) ≡ Some f.1
 
   all-shown : (ls : List Id) (ts : List Ty) (fs : List (Id × Ty)) → ((f : Id × Ty) → IsOneOf f fs → Shown ls ts (f.0, spread types f.1)) → AllByRecursion (Shown ls ts) (fields_at (spread types) fs)

@@ -7,11 +7,10 @@ use Rattle.sml_objects.specs.Names as N
 use Rattle.sml_objects.specs.Names.{int, word, char, string, bool, exn, real, list, ref}
 use Rattle.sml_objects.specs.Initial.{Name, initial, made, naming}
 use Rattle.sml_objects.specs.Appearance.{stands}
-use Rattle.sml_objects.specs.Canonical as C
+use Rattle.sml_objects.specs.Canonical.{index_of}
 use Rattle.sml_objects.specs.Views.{name_of}
 use Rattle.sml_objects.specs.declared.objects.TyName.{TyName}
 use Rattle.sml_objects.proofs.NameTests.{eq, eq-is, inserted}
-use Rattle.sml_texts.specs.Text as T
 use Rattle.sml_texts.specs.Text.{Piece, byte, a_name, say, spell, spell_new, initial_among, initial_text}
 use Rattle.sml_texts.specs.Spelling.{seen_after, and_pieces}
 
@@ -22,7 +21,7 @@ abbrev pub all_initial : List N.Initial
 all_initial = int ∷ word ∷ char ∷ string ∷ bool ∷ exn ∷ real ∷ list ∷ ref ∷ []
 
 abbrev next_seen : Name → List Name → List Name
-next_seen n s = cond (nat_eq (T.place_of naming n s) (length s)) (s ++ n ∷ []) s
+next_seen n s = cond (nat_eq (index_of naming n s) (length s)) (s ++ n ∷ []) s
 
 spell-append : (s : List Name) (ps qs : List (Piece Name)) → spell naming s (ps ++ qs) ≡ spell naming s ps ++ spell naming (seen_after naming s ps) qs
 unfolding spell seen_after
@@ -30,13 +29,13 @@ spell-append s [] qs = refl
 spell-append s (byte b ∷ ps) qs = ap (λ t. b ∷ t) (spell-append s ps qs)
 spell-append s (a_name n ∷ ps) qs =
     elim (initial_among naming all_initial n) as
-    (λ o. (elim o [ Some k ↦ initial_text k ++ spell naming s (ps ++ qs) | None ↦ spell_new naming n (T.place_of naming n s) ++ spell naming (next_seen n s) (ps ++ qs) ])
-    ≡ (elim o [ Some k ↦ initial_text k ++ spell naming s ps | None ↦ spell_new naming n (T.place_of naming n s) ++ spell naming (next_seen n s) ps ])
+    (λ o. (elim o [ Some k ↦ initial_text k ++ spell naming s (ps ++ qs) | None ↦ spell_new naming n (index_of naming n s) ++ spell naming (next_seen n s) (ps ++ qs) ])
+    ≡ (elim o [ Some k ↦ initial_text k ++ spell naming s ps | None ↦ spell_new naming n (index_of naming n s) ++ spell naming (next_seen n s) ps ])
     ++ spell naming (elim o [ Some k ↦ seen_after naming s ps | None ↦ seen_after naming (next_seen n s) ps ]) qs) [
       | Some k ↦ ap (λ t. initial_text k ++ t) (spell-append s ps qs) ∙ sym (append_assoc (initial_text k) (spell naming s ps) _)
       | None ↦
-          ap (λ t. spell_new naming n (T.place_of naming n s) ++ t) (spell-append (next_seen n s) ps qs)
-          ∙ sym (append_assoc (spell_new naming n (T.place_of naming n s)) (spell naming (next_seen n s) ps) _)
+          ap (λ t. spell_new naming n (index_of naming n s) ++ t) (spell-append (next_seen n s) ps qs)
+          ∙ sym (append_assoc (spell_new naming n (index_of naming n s)) (spell naming (next_seen n s) ps) _)
     ]
 
 seen-append : (s : List Name) (ps qs : List (Piece Name)) → seen_after naming s (ps ++ qs) ≡ seen_after naming (seen_after naming s ps) qs
@@ -111,49 +110,36 @@ initial_name t k =
     sym (said t (initial_text k))
     ∙ ap (λ u. (t.0 ++ u, t.1)) (sym (append-nil (initial_text k)))
     ∙ ap (λ o. (
-      t.0 ++ (elim o [ Some j ↦ initial_text j ++ [] | None ↦ spell_new naming (initial k) (T.place_of naming (initial k) t.1) ++ [] ]),
+      t.0 ++ (elim o [ Some j ↦ initial_text j ++ [] | None ↦ spell_new naming (initial k) (index_of naming (initial k) t.1) ++ [] ]),
       elim o [ Some j ↦ t.1 | None ↦ next_seen (initial k) t.1 ],
     )) (sym (initial-found k))
 
-pub made_name : (t : Spelt) (u n a : ℕ) (q : Bool) → (t.0 ++ spell_new naming (made u n a q) (T.place_of naming (made u n a q) t.1), next_seen (made u n a q) t.1) ≡ and_pieces t (a_name (made u n a q) ∷ [])
+pub made_name : (t : Spelt) (u n a : ℕ) (q : Bool) → (t.0 ++ spell_new naming (made u n a q) (index_of naming (made u n a q) t.1), next_seen (made u n a q) t.1) ≡ and_pieces t (a_name (made u n a q) ∷ [])
 unfolding and_pieces spell seen_after
 made_name t u n a q =
     let m = made u n a q in
-    ap (λ x. (t.0 ++ x, next_seen m t.1)) (sym (append-nil (spell_new naming m (T.place_of naming m t.1))))
+    ap (λ x. (t.0 ++ x, next_seen m t.1)) (sym (append-nil (spell_new naming m (index_of naming m t.1))))
     ∙ ap (λ o. (
-      t.0 ++ (elim o [ Some j ↦ initial_text j ++ [] | None ↦ spell_new naming m (T.place_of naming m t.1) ++ [] ]),
+      t.0 ++ (elim o [ Some j ↦ initial_text j ++ [] | None ↦ spell_new naming m (index_of naming m t.1) ++ [] ]),
       elim o [ Some j ↦ t.1 | None ↦ next_seen m t.1 ],
     )) (sym (made-new u n a q))
 
--- both definitions of places agree
-place-same : (n : Name) (ms : List Name) → T.place_of naming n ms ≡ C.place_of naming n ms
-unfolding T.place_of C.place_of
-place-same n [] = refl
-place-same n (m ∷ ms) =
-    elim (naming.same m n) as (λ d. ◌≡◌ {A = ℕ} (elim d [ yes _ ↦ 0 | no _ ↦ suc (T.place_of naming n ms) ]) (elim (naming.same n m) [ yes _ ↦ 0 | no _ ↦ suc (C.place_of naming n ms) ])) [
-      | yes e ↦ elim (naming.same n m) as (λ d. ◌≡◌ {A = ℕ} 0 (elim d [ yes _ ↦ 0 | no _ ↦ suc (C.place_of naming n ms) ])) [ yes _ ↦ refl | no h ↦ absurd (h (sym e)) ]
-      | no h ↦ elim (naming.same n m) as (λ d. ◌≡◌ {A = ℕ} (suc (T.place_of naming n ms)) (elim d [ yes _ ↦ 0 | no _ ↦ suc (C.place_of naming n ms) ])) [ yes e ↦ absurd (h (sym e)) | no _ ↦ ap suc (place-same n ms) ]
-    ]
-
-place-position : (n : TyName) (ms : List TyName) → C.place_of naming (name_of n) (map name_of ms) ≡ position_or_len (eq n) ms
-unfolding C.place_of naming
-place-position n [] = refl
-place-position n (m ∷ ms) =
+pub index_is : (n : TyName) (ms : List TyName) → index_of naming (name_of n) (map name_of ms) ≡ position_or_len (eq n) ms
+unfolding index_of naming
+index_is n [] = refl
+index_is n (m ∷ ms) =
     (elim (naming.same (name_of n) (name_of m)) as
-    (λ d. (elim d [ yes _ ↦ 0 | no _ ↦ suc (C.place_of naming (name_of n) (map name_of ms)) ])
-    ≡ cond (not (elim d [ yes _ ↦ true | no _ ↦ false ])) (1 + C.place_of naming (name_of n) (map name_of ms)) 0) [ yes _ ↦ refl | no _ ↦ omega arith ])
-    ∙ (λ i. cond (not (sym (eq-is n m) i)) (1 + place-position n ms i) 0)
+    (λ d. (elim d [ yes _ ↦ 0 | no _ ↦ suc (index_of naming (name_of n) (map name_of ms)) ])
+    ≡ cond (not (elim d [ yes _ ↦ true | no _ ↦ false ])) (1 + index_of naming (name_of n) (map name_of ms)) 0) [ yes _ ↦ refl | no _ ↦ omega arith ])
+    ∙ (λ i. cond (not (sym (eq-is n m) i)) (1 + index_is n ms i) 0)
 
-pub place_is : (n : TyName) (ms : List TyName) → T.place_of naming (name_of n) (map name_of ms) ≡ position_or_len (eq n) ms
-place_is n ms = place-same (name_of n) (map name_of ms) ∙ place-position n ms
-
-at-end : (n : Name) (ms : List Name) → nat_eq (C.place_of naming n ms) (length ms) ≡ not (stands naming n ms)
-unfolding C.place_of stands
+at-end : (n : Name) (ms : List Name) → nat_eq (index_of naming n ms) (length ms) ≡ not (stands naming n ms)
+unfolding index_of stands
 at-end n [] = refl
 at-end n (m ∷ ms) =
-    elim (naming.same n m) as (λ d. nat_eq (elim d [ yes _ ↦ 0 | no _ ↦ suc (C.place_of naming n ms) ]) (suc (length ms)) ≡ not (elim d [ yes _ ↦ true | no _ ↦ stands naming n ms ])) [
+    elim (naming.same n m) as (λ d. nat_eq (elim d [ yes _ ↦ 0 | no _ ↦ suc (index_of naming n ms) ]) (suc (length ms)) ≡ not (elim d [ yes _ ↦ true | no _ ↦ stands naming n ms ])) [
       | yes _ ↦ ne_eqb 0 (suc (length ms)) (λ e. absurd (omega (arith, e)))
-      | no _ ↦ eqb-suc-suc (C.place_of naming n ms) (length ms) ∙ at-end n ms
+      | no _ ↦ eqb-suc-suc (index_of naming n ms) (length ms) ∙ at-end n ms
     ]
 
 turned : {A : Type 0} (b : Bool) (x y : A) → cond b x y ≡ cond (not b) y x
@@ -165,7 +151,7 @@ pub next_names : (n : TyName) (old new : List TyName) → new ≡ (if list_any (
 next_names n old new h =
     let s = map name_of old in
     inserted n old new h ∙ turned (stands naming (name_of n) s) s (s ++ (name_of n ∷ []))
-    ∙ ap (λ b. cond b (s ++ (name_of n ∷ [])) s) (sym (at-end (name_of n) s) ∙ ap (λ k. nat_eq k (length s)) (sym (place-same (name_of n) s)))
+    ∙ ap (λ b. cond b (s ++ (name_of n ∷ [])) s) (sym (at-end (name_of n) s))
 
 pub on_ok_then : {X E : Type 0} (r : Result X E) (P Q : Type 0) → (P → Q) → OnOk r P → OnOk r Q
 on_ok_then (Ok x) P Q f h = f h

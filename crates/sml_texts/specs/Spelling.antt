@@ -3,7 +3,8 @@ use Rattle.std.specs.Prelude.{ℕ, List, [], ◌∷◌, ◌++◌, cond, Some, No
 use Rattle.sml_objects.specs.Names.{Naming, int, word, char, string, bool, exn, real, list, ref}
 use Rattle.sml_objects.specs.Initial.{Name, naming}
 use Rattle.sml_objects.specs.Views.{name_of}
-use Rattle.sml_texts.specs.Text.{Piece, byte, a_name, initial_among, place_of, spell}
+use Rattle.sml_objects.specs.Canonical.{index_of}
+use Rattle.sml_texts.specs.Text.{Piece, byte, a_name, initial_among, spell}
 use Rattle.sml_texts.specs.declared.texts.Lines.{Lines}
 use Rattle.sml_texts.specs.declared.texts.Around.{Around}
 use Rattle.sml_texts.specs.declared.texts.Around.TheVariants.{Nothing, Arrow, Part}
@@ -15,7 +16,7 @@ seen_after names seen (byte b ∷ ps) = seen_after names seen ps
 seen_after names seen (a_name n ∷ ps) =
     elim (initial_among names (int ∷ word ∷ char ∷ string ∷ bool ∷ exn ∷ real ∷ list ∷ ref ∷ []) n) [
       | Some k ↦ seen_after names seen ps
-      | None ↦ seen_after names (cond (nat_eq (place_of names n seen) (length seen)) (seen ++ n ∷ []) seen) ps
+      | None ↦ seen_after names (cond (nat_eq (index_of names n seen) (length seen)) (seen ++ n ∷ []) seen) ps
     ]
 
 -- a text and the names numbered in it, with further pieces

@@ -5,6 +5,7 @@ use Rattle.sml_lex.specs.declared.fault.Code.TheVariants.{L1, L2, L3, L4, L5, L6
 use Rattle.sml_lex.specs.declared.fault.Place.{Place}
 use Rattle.sml_lex.specs.Faults.{Fault}
 use Rattle.sml_tree.specs.Trees.{Id}
+use Rattle.sml_objects.specs.Canonical.{index_of}
 use Rattle.sml_objects.specs.Names.{Naming, Initial, int, word, char, string, bool, exn, real, list, ref}
 use Rattle.sml_objects.specs.Maps.{Map}
 use Rattle.sml_objects.specs.Objects.{Head, MlType, MlTypes, Scheme, Env, Structures, Sig, arrow, row, name, bound, free, app, no_type, and_type, env, no_structure, and_structure}
@@ -91,11 +92,6 @@ module _ {N : Type 0} (names : Naming N) where
   initial_among [] n = None
   initial_among (k ∷ ks) n = elim (names.same (names.initial k) n) [ yes _ ↦ Some k | no _ ↦ initial_among ks n ]
 
-  -- the place of a name among those seen, or their number
-  unfoldable pub place_of : N → List N → ℕ
-  place_of n [] = 0
-  place_of n (m ∷ ms) = elim (names.same m n) [ yes _ ↦ 0 | no _ ↦ suc (place_of n ms) ]
-
   unfoldable pub spell_new : N → ℕ → List ℕ
   spell_new n k = cond (names.attributes n).equality (codes "?=") (codes "?") ++ decimal (suc k)
 
@@ -107,7 +103,7 @@ module _ {N : Type 0} (names : Naming N) where
       elim (initial_among (int ∷ word ∷ char ∷ string ∷ bool ∷ exn ∷ real ∷ list ∷ ref ∷ []) n) [
         | Some k ↦ initial_text k ++ spell seen ps
         | None ↦
-            let k : ℕ = place_of n seen in
+            let k : ℕ = index_of names n seen in
             spell_new n k ++ spell (cond (nat_eq k (length seen)) (seen ++ n ∷ []) seen) ps
       ]
 

@@ -12,10 +12,10 @@ use Rattle.sml_read.specs.declared.grammar.SignatureRule.{SignatureRule}
 use Rattle.sml_read.specs.declared.grammar.SignatureRule.TheVariants as N
 use Rattle.sml_read.specs.declared.grammar.SpecificationRule.{SpecificationRule}
 use Rattle.sml_read.specs.declared.grammar.SpecificationRule.TheVariants as C
-use Rattle.sml_phrases.specs.Phrases.{of_longs, of_long, of_typ_binds, of_typ_descs, of_datatypes, of_constructors, of_sig, of_wheres, of_specs, of_type_rest, of_shared_types, of_str, of_str_decs, of_open_str_bind, of_functor_argument, of_open_fun_bind, of_open_functor, str_constraints_in, fun_constraints_in, dec_in}
+use Rattle.sml_phrases.specs.Phrases.{of_longs, of_long, of_typ_binds, of_typ_descs, of_datatypes, of_constructors, of_sig, of_wheres, of_specs, of_type_rest, of_shared_types, of_str, of_str_decs, of_begun_str_bind, of_functor_argument, of_begun_fun_bind, of_begun_functor, str_constraints_in, fun_constraints_in, dec_in}
 use Rattle.sml_bare_mods.specs.SignatureRules.{signature_phrase}
 use Rattle.sml_bare_mods.specs.SpecificationRules.{types, type_rest, datatypes, datatype_rest, included, included_name, shared, specification_phrase}
-use Rattle.sml_bare_mods.specs.StructureRules.{str_place, constrained, own_constrained, str_binds, fun_binds, open_fun_bind, applied, structure_phrase}
+use Rattle.sml_bare_mods.specs.StructureRules.{str_place, constrained, own_constrained, str_binds, fun_binds, begun_fun_bind, applied, structure_phrase}
 use Rattle.sml_bare_mods.specs.UnitRules.{unit_phrase}
 use Rattle.sml_tree_laws.specs.Scoped.{StrScoped, StrBindsScoped, FunBindsScoped}
 use Rattle.sml_tree_laws.proofs.Sits.{dec_scoped}
@@ -156,21 +156,21 @@ module _ (L V R : Id → Type 0) where
   own_sits p (c ∷ cs) e h = h
 
   str_binds_scoped : (v more : Phrase) → PhraseSits L V R v → PhraseSits L V R more → StrBindsScoped (str_binds v more)
-  str_binds_scoped (of_open_str_bind x own e) more h k =
+  str_binds_scoped (of_begun_str_bind x own e) more h k =
       (own_sits x.place own (constrained e (str_constraints_in more)) (constrained_sits e (str_constraints_in more) h), str_binds_sit L V R more k)
   str_binds_scoped _ more h k = str_binds_sit L V R more k
 
   fun_binds_scoped : (v more : Phrase) → PhraseSits L V R v → PhraseSits L V R more → FunBindsScoped (fun_binds v more)
-  fun_binds_scoped (of_open_fun_bind f x s own e) more h k =
+  fun_binds_scoped (of_begun_fun_bind f x s own e) more h k =
       (own_sits f.place own (constrained e (fun_constraints_in more)) (constrained_sits e (fun_constraints_in more) h), fun_binds_sit L V R more k)
-  fun_binds_scoped (of_open_functor f ss own e) more h k =
+  fun_binds_scoped (of_begun_functor f ss own e) more h k =
       (((tt, tt), own_sits f.place own (constrained e (fun_constraints_in more)) (constrained_sits e (fun_constraints_in more) h)), fun_binds_sit L V R more k)
   fun_binds_scoped _ more h k = fun_binds_sit L V R more k
 
-  open_fun_bind_sits : (f : Name Place) (v : Phrase) (own : List (Constraint Place)) (e : StrExp Place) → StrScoped e → PhraseSits L V R (open_fun_bind f v own e)
-  open_fun_bind_sits f (of_functor_argument x s) own e h = h
-  open_fun_bind_sits f (of_specs ss) own e h = h
-  open_fun_bind_sits f _ own e h = tt
+  begun_fun_bind_sits : (f : Name Place) (v : Phrase) (own : List (Constraint Place)) (e : StrExp Place) → StrScoped e → PhraseSits L V R (begun_fun_bind f v own e)
+  begun_fun_bind_sits f (of_functor_argument x s) own e h = h
+  begun_fun_bind_sits f (of_specs ss) own e h = h
+  begun_fun_bind_sits f _ own e h = tt
 
   applied_sits : (f : Name Place) (v : Phrase) → PhraseSits L V R v → StrScoped (applied f v)
   applied_sits f (of_str e) h = h
@@ -211,7 +211,7 @@ module _ (L V R : Id → Type 0) where
   structure_sits S.StrBindAndStrBind p vs h = str_binds_scoped (at vs 0) (at vs 1) (h 0 refl).0 (h 1 refl).0
   structure_sits S.StrBindWhereAnd p vs h = (h 1 refl).0
   structure_sits S.FunBindWhereAnd p vs h = (h 1 refl).0
-  structure_sits S.FunBindAlphanumeric p vs h = open_fun_bind_sits (name_in (at vs 0)) (at vs 2) (constraints_in (at vs 4)) (str_in (at vs 6)) (str_sits L V R (at vs 6) (h 6 refl).0)
+  structure_sits S.FunBindAlphanumeric p vs h = begun_fun_bind_sits (name_in (at vs 0)) (at vs 2) (constraints_in (at vs 4)) (str_in (at vs 6)) (str_sits L V R (at vs 6) (h 6 refl).0)
   structure_sits S.FunBindMoreAscription p vs h = fun_binds_sit L V R (at vs 1) (h 1 refl).0
   structure_sits S.FunBindSigAscription p vs h = fun_binds_sit L V R (at vs 1) (h 1 refl).0
   structure_sits S.FunBindWhereAscription p vs h = fun_binds_sit L V R (at vs 1) (h 1 refl).0

@@ -10,7 +10,7 @@ use Rattle.sml_tree.specs.Clauses.{Clause, Constraint}
 use Rattle.sml_read.specs.declared.grammar.Part.TheVariants as Part
 use Rattle.sml_read.specs.declared.grammar.Symbol.{Symbol}
 use Rattle.sml_read.specs.declared.grammar.Symbol.TheVariants.{Of}
-use Rattle.sml_phrases.specs.Phrases.{Phrase, of_names, of_ty, of_tys, of_ty_fields, of_arguments, of_pat, of_pats, of_pat_fields, of_atoms, of_layer, of_op_atoms, of_op_layer, of_exp, of_exps, of_series, of_fields, of_rules, of_dec, of_decs, of_bind, of_binds, of_values, of_round_values, of_functions, of_right_side, of_clauses, of_round_functions, of_typ_bind, of_typ_binds, of_con_bind, of_con_binds, of_datatypes, of_constructors, of_copy, of_exn_binds, of_sig, of_where, of_wheres, of_open_sig_bind, of_sig_binds, of_specs, of_val_desc, of_val_descs, of_typ_descs, of_type_rest, of_open_str_desc, of_str_descs, of_str, of_str_dec, of_str_decs, of_constraints, of_str_binds, of_open_str_bind, of_functor_argument, of_fun_binds, of_open_fun_bind, of_open_functor, of_top}
+use Rattle.sml_phrases.specs.Phrases.{Phrase, of_names, of_ty, of_tys, of_ty_fields, of_arguments, of_pat, of_pats, of_pat_fields, of_atoms, of_layer, of_op_atoms, of_op_layer, of_exp, of_exps, of_series, of_fields, of_rules, of_dec, of_decs, of_bind, of_binds, of_values, of_round_values, of_functions, of_right_side, of_clauses, of_round_functions, of_typ_bind, of_typ_binds, of_con_bind, of_con_binds, of_datatypes, of_constructors, of_copy, of_exn_binds, of_sig, of_where, of_wheres, of_begun_sig_bind, of_sig_binds, of_specs, of_val_desc, of_val_descs, of_typ_descs, of_type_rest, of_begun_str_desc, of_str_descs, of_str, of_str_dec, of_str_decs, of_constraints, of_str_binds, of_begun_str_bind, of_functor_argument, of_fun_binds, of_begun_fun_bind, of_begun_functor, of_top}
 use Rattle.sml_flaws.specs.declared.role.Space.{Space}
 use Rattle.sml_flaws.specs.declared.role.Space.TheVariants as S
 use Rattle.sml_tree_laws.specs.Scoped.{ids}
@@ -144,25 +144,25 @@ module _ (B : Space → ℕ → ℕ → Id → Type 0) where
   PhraseBound c g lo hi (of_sig s) = SigBound s
   PhraseBound c g lo hi (of_where xs y t) = AreDistinct (ids xs) × TyBound t
   PhraseBound c g lo hi (of_wheres ws) = WheresBound ws
-  PhraseBound c g lo hi (of_open_sig_bind x s) = Named B S.Signatures g lo hi (x.id ∷ []) × SigBound s
+  PhraseBound c g lo hi (of_begun_sig_bind x s) = Named B S.Signatures g lo hi (x.id ∷ []) × SigBound s
   PhraseBound c g lo hi (of_sig_binds ws bs) = WheresBound ws × Named B S.Signatures g lo hi (signature_names bs) × SigBindsBound bs
   PhraseBound c g lo hi (of_specs ss) = SpecsBound ss
   PhraseBound c g lo hi (of_val_desc x t) = Named B S.Values g lo hi (x.id ∷ []) × TyBound t
   PhraseBound c g lo hi (of_val_descs ds) = Named B S.Values g lo hi (value_names ds) × ValDescsBound ds
   PhraseBound c g lo hi (of_typ_descs ds) = Named B S.Types g lo hi (described ds) × TypDescsBound ds
   PhraseBound c g lo hi (of_type_rest t bs) = TyBound t × Named B S.Types g lo hi (type_names bs) × TypBindsBound bs
-  PhraseBound c g lo hi (of_open_str_desc x s) = Named B S.Structures g lo hi (x.id ∷ []) × SigBound s
+  PhraseBound c g lo hi (of_begun_str_desc x s) = Named B S.Structures g lo hi (x.id ∷ []) × SigBound s
   PhraseBound c g lo hi (of_str_descs ws ds) = WheresBound ws × Named B S.Structures g lo hi (str_desc_names ds) × StrDescsBound ds
   PhraseBound c g lo hi (of_str e) = StrBound e
   PhraseBound c g lo hi (of_str_dec d) = StrDecBound d
   PhraseBound c g lo hi (of_str_decs ds) = StrDecsBound ds
   PhraseBound c g lo hi (of_constraints ws cs) = WheresBound ws × ConstraintsBound cs
   PhraseBound c g lo hi (of_str_binds ws cs bs) = WheresBound ws × ConstraintsBound cs × Named B S.Structures g lo hi (str_names bs) × StrBindsBound bs
-  PhraseBound c g lo hi (of_open_str_bind x cs e) = Named B S.Structures g lo hi (x.id ∷ []) × ConstraintsBound cs × StrBound e
+  PhraseBound c g lo hi (of_begun_str_bind x cs e) = Named B S.Structures g lo hi (x.id ∷ []) × ConstraintsBound cs × StrBound e
   PhraseBound c g lo hi (of_functor_argument x s) = SigBound s
   PhraseBound c g lo hi (of_fun_binds ws cs bs) = WheresBound ws × ConstraintsBound cs × Named B S.Functors g lo hi (functor_names bs) × FunBindsBound bs
-  PhraseBound c g lo hi (of_open_fun_bind f x s cs e) = Named B S.Functors g lo hi (f.id ∷ []) × SigBound s × ConstraintsBound cs × StrBound e
-  PhraseBound c g lo hi (of_open_functor f ss cs e) = Named B S.Functors g lo hi (f.id ∷ []) × SpecsBound ss × ConstraintsBound cs × StrBound e
+  PhraseBound c g lo hi (of_begun_fun_bind f x s cs e) = Named B S.Functors g lo hi (f.id ∷ []) × SigBound s × ConstraintsBound cs × StrBound e
+  PhraseBound c g lo hi (of_begun_functor f ss cs e) = Named B S.Functors g lo hi (f.id ∷ []) × SpecsBound ss × ConstraintsBound cs × StrBound e
   PhraseBound c g lo hi (of_top d) = TopBound d
   PhraseBound c g lo hi _ = Unit {0}
 
@@ -201,17 +201,17 @@ module _ (B : Space → ℕ → ℕ → Id → Type 0) where
       (named_wider B S.Types g lo hi lo' hi' (datatype_names ds) a b h.0, named_wider B S.Constructors g lo hi lo' hi' (con_names cs ++ all_con_names ds) a b h.1, h.2, h.3, h.4, h.5)
   phrase_wider c g lo hi lo' hi' (of_copy x y) a b h = copy_wider c g lo hi lo' hi' x.id a b h
   phrase_wider c g lo hi lo' hi' (of_exn_binds bs) a b h = (named_wider B S.Exceptions g lo hi lo' hi' (exn_names bs) a b h.0, h.1)
-  phrase_wider c g lo hi lo' hi' (of_open_sig_bind x s) a b h = (named_wider B S.Signatures g lo hi lo' hi' (x.id ∷ []) a b h.0, h.1)
+  phrase_wider c g lo hi lo' hi' (of_begun_sig_bind x s) a b h = (named_wider B S.Signatures g lo hi lo' hi' (x.id ∷ []) a b h.0, h.1)
   phrase_wider c g lo hi lo' hi' (of_sig_binds ws bs) a b h = (h.0, named_wider B S.Signatures g lo hi lo' hi' (signature_names bs) a b h.1, h.2)
   phrase_wider c g lo hi lo' hi' (of_val_desc x t) a b h = (named_wider B S.Values g lo hi lo' hi' (x.id ∷ []) a b h.0, h.1)
   phrase_wider c g lo hi lo' hi' (of_val_descs ds) a b h = (named_wider B S.Values g lo hi lo' hi' (value_names ds) a b h.0, h.1)
   phrase_wider c g lo hi lo' hi' (of_typ_descs ds) a b h = (named_wider B S.Types g lo hi lo' hi' (described ds) a b h.0, h.1)
   phrase_wider c g lo hi lo' hi' (of_type_rest t bs) a b h = (h.0, named_wider B S.Types g lo hi lo' hi' (type_names bs) a b h.1, h.2)
-  phrase_wider c g lo hi lo' hi' (of_open_str_desc x s) a b h = (named_wider B S.Structures g lo hi lo' hi' (x.id ∷ []) a b h.0, h.1)
+  phrase_wider c g lo hi lo' hi' (of_begun_str_desc x s) a b h = (named_wider B S.Structures g lo hi lo' hi' (x.id ∷ []) a b h.0, h.1)
   phrase_wider c g lo hi lo' hi' (of_str_descs ws ds) a b h = (h.0, named_wider B S.Structures g lo hi lo' hi' (str_desc_names ds) a b h.1, h.2)
   phrase_wider c g lo hi lo' hi' (of_str_binds ws cs bs) a b h = (h.0, h.1, named_wider B S.Structures g lo hi lo' hi' (str_names bs) a b h.2, h.3)
-  phrase_wider c g lo hi lo' hi' (of_open_str_bind x cs e) a b h = (named_wider B S.Structures g lo hi lo' hi' (x.id ∷ []) a b h.0, h.1, h.2)
+  phrase_wider c g lo hi lo' hi' (of_begun_str_bind x cs e) a b h = (named_wider B S.Structures g lo hi lo' hi' (x.id ∷ []) a b h.0, h.1, h.2)
   phrase_wider c g lo hi lo' hi' (of_fun_binds ws cs bs) a b h = (h.0, h.1, named_wider B S.Functors g lo hi lo' hi' (functor_names bs) a b h.2, h.3)
-  phrase_wider c g lo hi lo' hi' (of_open_fun_bind f x s cs e) a b h = (named_wider B S.Functors g lo hi lo' hi' (f.id ∷ []) a b h.0, h.1, h.2, h.3)
-  phrase_wider c g lo hi lo' hi' (of_open_functor f ss cs e) a b h = (named_wider B S.Functors g lo hi lo' hi' (f.id ∷ []) a b h.0, h.1, h.2, h.3)
+  phrase_wider c g lo hi lo' hi' (of_begun_fun_bind f x s cs e) a b h = (named_wider B S.Functors g lo hi lo' hi' (f.id ∷ []) a b h.0, h.1, h.2, h.3)
+  phrase_wider c g lo hi lo' hi' (of_begun_functor f ss cs e) a b h = (named_wider B S.Functors g lo hi lo' hi' (f.id ∷ []) a b h.0, h.1, h.2, h.3)
   phrase_wider c g lo hi lo' hi' _ a b h = h

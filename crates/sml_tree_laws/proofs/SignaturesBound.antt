@@ -8,7 +8,7 @@ use Rattle.sml_lex.specs.declared.fault.Place.{Place}
 use Rattle.sml_tree.specs.Trees.{Id}
 use Rattle.sml_tree.specs.Names.{Name}
 use Rattle.sml_read.specs.declared.grammar.Rule.TheVariants as G
-use Rattle.sml_phrases.specs.Phrases.{Phrase, of_names, of_longs, of_long, of_typ_binds, of_con_bind, of_datatypes, of_constructors, of_copy, of_sig, of_wheres, of_open_sig_bind, of_val_desc, of_typ_descs, of_type_rest, of_open_str_desc, of_shared_types, at, name_in, names_in, typ_binds_in, con_binds_in, con_bind_in, val_desc_in, val_descs_in, typ_descs_in, dat_binds_in, sig_in, specs_in, wheres_in, sig_wheres_in, sig_binds_in, desc_wheres_in, str_descs_in}
+use Rattle.sml_phrases.specs.Phrases.{Phrase, of_names, of_longs, of_long, of_typ_binds, of_con_bind, of_datatypes, of_constructors, of_copy, of_sig, of_wheres, of_begun_sig_bind, of_val_desc, of_typ_descs, of_type_rest, of_begun_str_desc, of_shared_types, at, name_in, names_in, typ_binds_in, con_binds_in, con_bind_in, val_desc_in, val_descs_in, typ_descs_in, dat_binds_in, sig_in, specs_in, wheres_in, sig_wheres_in, sig_binds_in, desc_wheres_in, str_descs_in}
 use Rattle.sml_flaws.specs.declared.role.Space.{Space}
 use Rattle.sml_flaws.specs.declared.role.Space.TheVariants as S
 use Rattle.sml_tree_laws.specs.Scoped.{ids}
@@ -92,7 +92,7 @@ module _ (B : Space → ℕ → ℕ → Id → Type 0) (apart : (sp : Space) (g 
     -- a binding or a description before others, from their parts
     pub and_sig_bind : (a b n : ℕ) (v more : Phrase) → suc a ≤ b → suc b ≤ n → PhraseBound B plain g (t a) (t (suc a)) v → PhraseBound B plain g (t b) (t (suc b)) more
         → Named B S.Signatures g (t 0) (t n) (signature_names (sig_binds v more)) × SigBindsBound (sig_binds v more)
-    and_sig_bind a b n (of_open_sig_bind x s) more i l h k =
+    and_sig_bind a b n (of_begun_sig_bind x s) more i l h k =
         let m = sig_binds_bound B plain g (t b) (t (suc b)) more k in (
           two B g t mono S.Signatures a b n (x.id ∷ []) (signature_names (sig_binds_in more)) i l h.0 m.0,
           (with_wheres_bound s (sig_wheres_in more) h.1 (sig_wheres_bound B plain g (t b) (t (suc b)) more k), m.1),
@@ -103,7 +103,7 @@ module _ (B : Space → ℕ → ℕ → Id → Type 0) (apart : (sp : Space) (g 
 
     and_structure : (a b n : ℕ) (v more : Phrase) → suc a ≤ b → suc b ≤ n → PhraseBound B plain g (t a) (t (suc a)) v → PhraseBound B plain g (t b) (t (suc b)) more
         → Named B S.Structures g (t 0) (t n) (str_desc_names (str_descs v more)) × StrDescsBound (str_descs v more)
-    and_structure a b n (of_open_str_desc x s) more i l h k =
+    and_structure a b n (of_begun_str_desc x s) more i l h k =
         let m = str_descs_bound B plain g (t b) (t (suc b)) more k in (
           two B g t mono S.Structures a b n (x.id ∷ []) (str_desc_names (str_descs_in more)) i l h.0 m.0,
           (with_wheres_bound s (desc_wheres_in more) h.1 (desc_wheres_bound B plain g (t b) (t (suc b)) more k), m.1),

@@ -8,7 +8,7 @@ use Rattle.sml_lex.specs.declared.fault.Place.{Place}
 use Rattle.sml_tree.specs.Trees.{Id}
 use Rattle.sml_tree.specs.Names.{Name}
 use Rattle.sml_read.specs.declared.grammar.Rule.TheVariants as G
-use Rattle.sml_phrases.specs.Phrases.{Phrase, of_specs, of_str, of_str_decs, of_open_str_bind, of_functor_argument, of_open_fun_bind, of_open_functor, at, name_in, specs_in, constraint_wheres_in, constraints_in, str_wheres_in, str_constraints_in, str_binds_in, fun_wheres_in, fun_constraints_in, fun_binds_in, str_in}
+use Rattle.sml_phrases.specs.Phrases.{Phrase, of_specs, of_str, of_str_decs, of_begun_str_bind, of_functor_argument, of_begun_fun_bind, of_begun_functor, at, name_in, specs_in, constraint_wheres_in, constraints_in, str_wheres_in, str_constraints_in, str_binds_in, fun_wheres_in, fun_constraints_in, fun_binds_in, str_in}
 use Rattle.sml_flaws.specs.declared.role.Space.{Space}
 use Rattle.sml_flaws.specs.declared.role.Space.TheVariants as S
 use Rattle.sml_tree_laws.specs.WellBound.{MayBeValue, MayBeConstructor, SpecsBound, str_names, StrBound, StrBindsBound, signature_names, functor_names, FunBindsBound}
@@ -24,7 +24,7 @@ use Rattle.sml_read.specs.declared.grammar.StructureRule.TheVariants.{StrBindAlp
 use Rattle.sml_read.specs.declared.grammar.UnitRule.{UnitRule}
 use Rattle.sml_read.specs.declared.grammar.UnitRule.TheVariants.{TopStr, TopSignature, TopFunctor, StrStructure, StrCoreDec, StrLocal, StrsNone, DecsNone, SpecsNone, StrsSemicolon, DecsSemicolon, SpecsSemicolon, StrsStr, DecsDec, SpecsSpec}
 use Rattle.sml_bare_mods.specs.SignatureRules.{sig_binds}
-use Rattle.sml_bare_mods.specs.StructureRules.{str_place, constrained, own_constrained, and_constraint, str_binds, fun_binds, open_fun_bind, applied, structure_phrase}
+use Rattle.sml_bare_mods.specs.StructureRules.{str_place, constrained, own_constrained, and_constraint, str_binds, fun_binds, begun_fun_bind, applied, structure_phrase}
 use Rattle.sml_bare_mods.specs.UnitRules.{and_specs, unit_phrase}
 use Rattle.sml_tree_laws.proofs.SignaturesBound.{with_wheres_bound, and_sig_bind}
 
@@ -48,7 +48,7 @@ and_specs_bound (and_spec s ss) rest h k = (h.0, and_specs_bound ss rest h.1 k)
 module _ (B : Space → ℕ → ℕ → Id → Type 0) (apart : (sp : Space) (g t u : ℕ) (x : Id) → t < u → B sp g t x → B sp g u x → ⊥)
     (may_be : (sp : Space) (g t : ℕ) (x : Id) → (sp ≡ S.Constructors) ⊎ (sp ≡ S.Exceptions) → B sp g t x → MayBeConstructor x) (may_value : (g t : ℕ) (x : Id) → B S.Values g t x → MayBeValue x) where
   open_fun_bound : (g lo hi lo' hi' : ℕ) (f : Name Place) (v : Phrase) (own : List (Constraint Place)) (e : StrExp Place) → Named B S.Functors g lo' hi' (f.id ∷ []) → ConstraintsBound own → StrBound e
-      → PhraseBound B plain g lo hi v → PhraseBound B plain g lo' hi' (open_fun_bind f v own e)
+      → PhraseBound B plain g lo hi v → PhraseBound B plain g lo' hi' (begun_fun_bind f v own e)
   open_fun_bound g lo hi lo' hi' f (of_functor_argument x s) own e n c h k = (n, k, c, h)
   open_fun_bound g lo hi lo' hi' f (of_specs ss) own e n c h k = (n, k, c, h)
   open_fun_bound g lo hi lo' hi' f _ own e n c h k = tt
@@ -61,7 +61,7 @@ module _ (B : Space → ℕ → ℕ → Id → Type 0) (apart : (sp : Space) (g 
   module _ (g : ℕ) (t : ℕ → ℕ) (mono : (k : ℕ) → t k ≤ t (suc k)) where
     and_str : (a b n : ℕ) (v more : Phrase) → suc a ≤ b → suc b ≤ n → PhraseBound B plain g (t a) (t (suc a)) v → PhraseBound B plain g (t b) (t (suc b)) more
         → Named B S.Structures g (t 0) (t n) (str_names (str_binds v more)) × StrBindsBound (str_binds v more)
-    and_str a b n (of_open_str_bind x own e) more i l h k =
+    and_str a b n (of_begun_str_bind x own e) more i l h k =
         let m = str_binds_bound B plain g (t b) (t (suc b)) more k in (
           two B g t mono S.Structures a b n (x.id ∷ []) (str_names (str_binds_in more)) i l h.0 m.0,
           (
@@ -76,7 +76,7 @@ module _ (B : Space → ℕ → ℕ → Id → Type 0) (apart : (sp : Space) (g 
 
     and_fun : (a b n : ℕ) (v more : Phrase) → suc a ≤ b → suc b ≤ n → PhraseBound B plain g (t a) (t (suc a)) v → PhraseBound B plain g (t b) (t (suc b)) more
         → Named B S.Functors g (t 0) (t n) (functor_names (fun_binds v more)) × FunBindsBound (fun_binds v more)
-    and_fun a b n (of_open_fun_bind f x s own e) more i l h k =
+    and_fun a b n (of_begun_fun_bind f x s own e) more i l h k =
         let m = fun_binds_bound B plain g (t b) (t (suc b)) more k in (
           two B g t mono S.Functors a b n (f.id ∷ []) (functor_names (fun_binds_in more)) i l h.0 m.0,
           (
@@ -88,7 +88,7 @@ module _ (B : Space → ℕ → ℕ → Id → Type 0) (apart : (sp : Space) (g 
             m.1,
           ),
         )
-    and_fun a b n (of_open_functor f ss own e) more i l h k =
+    and_fun a b n (of_begun_functor f ss own e) more i l h k =
         let m = fun_binds_bound B plain g (t b) (t (suc b)) more k in (
           two B g t mono S.Functors a b n (f.id ∷ []) (functor_names (fun_binds_in more)) i l h.0 m.0,
           (

@@ -44,7 +44,7 @@ use Rattle.sml_tree_laws.proofs.Declared.{goes_of, none_or, made, top_scoped, ne
 use Rattle.sml_lex.specs.declared.token.End.{End}
 use Rattle.sml_lex.specs.Faults.{Fault}
 use Rattle.sml_tree.specs.Trees as Piece
-use Rattle.sml_parse.specs.Trees.{Trees}
+use Rattle.sml_parse.specs.Trees.{AreTrees}
 use Rattle.sml_tree_laws.specs.WellBound.{TopBound, TreesAreWellBound}
 use Rattle.sml_tree_laws.proofs.WellDeclared.{top_well, next_well, exp_well}
 
@@ -363,7 +363,7 @@ module _ (unit : List ℕ) (tokens : List Token) where
         good_take (m.number - 1) 0 (Some m) fitted (bare_decs unit tokens 0 nodes fitted) (subst (λ m. EachGood 0 m fitted (bare_decs unit tokens 0 nodes fitted)) e each)
         (λ q a b. (omega (arith, a), omega (arith, a, few)))
 
-all_lawful : (unit : List ℕ) (tokens : List Token) (end : End) (tops : List (TopDec Place)) (decs : List (Piece.Dec Place)) (fault : Option (Fault Place)) → Trees unit tokens end tops decs fault → All TopLawful tops
+all_lawful : (unit : List ℕ) (tokens : List Token) (end : End) (tops : List (TopDec Place)) (decs : List (Piece.Dec Place)) (fault : Option (Fault Place)) → AreTrees unit tokens end tops decs fault → All TopLawful tops
 all_lawful unit tokens end tops decs fault trees =
     let whole = trees.reading.whole in
     let next = first_of (drop trees.begun (kinds_of tokens)) in

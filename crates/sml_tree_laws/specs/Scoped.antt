@@ -13,7 +13,7 @@ use Rattle.sml_tree.specs.Expressions.{Exp, Exps, Fields, Rules, Dec, Decs, ValB
 use Rattle.sml_tree.specs.Structures.{StrExp, StrDec, StrDecs, StrBinds, FunBind, TopDec, struct_end, str_name, ascribed, functor_apply, str_let, core_dec, structure_dec, str_local, no_str_dec, and_str_dec, str_bind, no_str_bind, and_str_bind, top_str, signature_dec, functor_dec}
 use Rattle.sml_objects.specs.Appearance.{Stands}
 use Rattle.sml_core_rules.specs.Closing.{unguarded}
-use Rattle.sml_parse.specs.Trees.{Trees}
+use Rattle.sml_parse.specs.Trees.{AreTrees}
 
 abbrev pub ids : {P : Type 0} → List (Name P) → List Id
 ids xs = map (λ x. x.id) xs
@@ -154,4 +154,4 @@ TopScoped (functor_dec p bs) = FunBindsScoped bs
 abbrev pub VariablesAreScopedOnce : Type 0
 VariablesAreScopedOnce =
     (unit : List ℕ) (tokens : List Token) (end : End) (tops : List (TopDec Place)) (decs : List (Piece.Dec Place)) (fault : Option (Fault Place))
-    → Trees unit tokens end tops decs fault → All TopScoped tops
+    → AreTrees unit tokens end tops decs fault → All TopScoped tops

@@ -17,7 +17,7 @@ use Rattle.sml_tree.specs.Structures.{StrExp, StrDec, StrDecs, StrBinds, SigBind
 use Rattle.sml_objects.specs.Appearance.{Stands}
 use Rattle.sml_rules.specs.Every.{Every}
 use Rattle.sml_flaws.specs.Flaws.{is_reserved, is_it}
-use Rattle.sml_parse.specs.Trees.{Trees}
+use Rattle.sml_parse.specs.Trees.{AreTrees}
 use Rattle.sml_tree_laws.specs.Scoped.{ids}
 
 -- no identifier stands twice
@@ -285,4 +285,4 @@ TopBound (functor_dec p bs) = AreDistinct (functor_names bs) × FunBindsBound bs
 abbrev pub TreesAreWellBound : Type 0
 TreesAreWellBound =
     (unit : List ℕ) (tokens : List Token) (end : End) (tops : List (TopDec Place)) (decs : List (Piece.Dec Place)) (fault : Option (Fault Place))
-    → Trees unit tokens end tops decs fault → All TopBound tops
+    → AreTrees unit tokens end tops decs fault → All TopBound tops

@@ -1,6 +1,7 @@
 -- Names and types of what runs export: none is one of a unit that comes later, and no variable is out of its place.
 use Rattle.std.proofs.Common.{◌≡◌, ◌<◌, ℕ, zero, suc, List, [], ◌∷◌, ◌++◌, length, refl, ap, sym, subst, ◌∙◌}
 use Rattle.sml_lex.specs.declared.fault.Place.{Place}
+use Rattle.sml_lex.specs.Faults.{first_place}
 use Rattle.sml_tree.specs.Trees as T
 use Rattle.sml_tree.specs.Trees.{Spec, Dec, type_spec, val_spec, core, sealed}
 use Rattle.sml_objects.specs.Objects.{Sig, Basis, empty_env, extend_env, extend, names_sig, names_basis, names_env, names_structures, names_map, names_type}
@@ -15,7 +16,7 @@ use Rattle.sml_rules.specs.Rules.{Item, item_of, IsNew, abstract, apart, both, s
 use Rattle.sml_rules.proofs.Open.{read_top_open, extended, nothing}
 use Rattle.sml_rules.proofs.Sound.{bound_by, given}
 use Rattle.sml_rules.proofs.Within as W
-use Rattle.sml_piece.specs.Elaborated.{IsBasisOf, IsBelow, beginning}
+use Rattle.sml_piece.specs.Elaborated.{IsBasisOf, IsBelow}
 use Rattle.sml_piece.proofs.Sealing.{apart_below}
 use Rattle.sml_piece.proofs.Specifying.{basis_below, sum_below}
 use Rattle.sml_units.specs.Checked.{Answered}
@@ -67,7 +68,7 @@ dec_below m unit apart_from B (sealed s p specs decs) S h r =
     (W.both P T.names _ (W.first P T.names (names_env T.body) t) (W.both P (names_env T.body ++ []) [] (W.both P (names_env T.body) [] (W.last P T.names (names_env T.body) t) tt) tt))
 dec_below m unit apart_from B (T.other p) S h r = absurd r
 
-top_below : (m unit : ℕ) → ¬ (unit ≡ m) → (B : Basis Name) (d : Dec Place) (S : Sig Name) → Every (IsBelow m 0) (names_basis B) → read_top naming beginning unit B d (accepted S) → Every (IsBelow m 0) (names_sig S)
+top_below : (m unit : ℕ) → ¬ (unit ≡ m) → (B : Basis Name) (d : Dec Place) (S : Sig Name) → Every (IsBelow m 0) (names_basis B) → read_top naming first_place unit B d (accepted S) → Every (IsBelow m 0) (names_sig S)
 unfolding read_top
 top_below m unit apart_from B d S h r =
     let a = bound_by _ _ S r in
@@ -103,7 +104,7 @@ exports_open unit B [] (o ∷ os) S h s r = absurd r
 exports_open unit B (d ∷ ds) [] S h s r = absurd r
 exports_open unit B (d ∷ ds) (refused f ∷ os) S h s r = exports_open unit B ds os S h s r.1
 exports_open unit B (d ∷ ds) (accepted S' ∷ os) S h s r =
-    let x = read_top_open naming beginning unit B d S' h r.0 in
+    let x = read_top_open naming first_place unit B d S' h r.0 in
     exports_open unit (extend B S') ds os (exports_after S (accepted S')) (extended B.body S'.body h x) (extended S.body S'.body s x) r.1
 
 -- the basis from which a unit starts

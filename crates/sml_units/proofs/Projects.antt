@@ -4,7 +4,7 @@ use mathlib.Core.Path.{refl, sym, ap₂, subst}
 use mathlib.Core.List.{◌++◌, map}
 use Rattle.std.specs.declared.cmp.Ordering.{Ordering}
 use Rattle.std.specs.declared.cmp.Ordering.TheVariants.{Less, Equal, Greater}
-use Rattle.sml_lex.specs.Faults.{Fault}
+use Rattle.sml_lex.specs.Faults.{Fault, first_place}
 use Rattle.sml_lex.specs.declared.fault.Place.{Place}
 use Rattle.sml_tree.specs.Trees as T
 use Rattle.sml_tree.specs.Trees.{Id}
@@ -18,7 +18,6 @@ use Rattle.sml_rules.proofs.Worlds.{Over}
 use Rattle.sml_rules.proofs.Settled.{Covers, Supported, pair_supported, mapped, same_value, outside-left, outside-right, outside-append}
 use Rattle.sml_rules.proofs.Readings.{sig_supported, basis_supported, extend_holds}
 use Rattle.sml_texts.specs.Text.{text}
-use Rattle.sml_piece.specs.Elaborated.{beginning}
 use Rattle.sml_units.specs.Runs.{SourceUnit, basis_after, Run, exports_after, exports, nothing, all_names, needed, start, RunProject}
 use Rattle.sml_units.specs.Isolation.{AlikeOutsideSeals, AgreeAtSeals, EqualReplies, ProjectsAlike, ProjectsAgree, ProjectsReplyEqually}
 use Rattle.sml_units.proofs.Seals.{cases_of, replies_stable, reads_alike, step}
@@ -130,7 +129,7 @@ module _ {F : Type 0 → Type 0} (S : Supported F) where
       cases_of {A = d ≡ e}
       (λ n. (replies_stable v.1 w.1 k (d ∷ ds) (e ∷ es) (o ∷ os) (q ∷ qs) (λ m. n (λ x. m x.0)), stable (λ m. n (λ x. m x.1))))
       (λ same.
-      let c = reads_alike {D = State} (pair_supported S sig_supported) unit d p cov r.0 (subst (λ x. read_top w.1 beginning unit w.2.0 x q) (sym same) r'.0) in
+      let c = reads_alike {D = State} (pair_supported S sig_supported) unit d p cov r.0 (subst (λ x. read_top w.1 first_place unit w.2.0 x q) (sym same) r'.0) in
       let t : text v.1 k o ≡ text w.1 k q = same_value {C = λ N. (Basis N × State N) × Answer Place (Sig N)} (λ N a z. text a k z.1) c in
       let rest = runs_with unit ds es (suc k)
       (mapped {C = λ N. (Basis N × State N) × Answer Place (Sig N)} {D = λ N. Basis N × State N}

@@ -6,7 +6,7 @@ use Rattle.std.specs.Option.{option_map, option_to_list}
 use Rattle.std.proofs.lemmas.Bool.{and_parts, eqb-true}
 use Rattle.std.proofs.lemmas.List.{length-map, length-append}
 use Rattle.sml_lex.specs.declared.fault.Place.{Place}
-use Rattle.sml_lex.specs.Faults.{Fault}
+use Rattle.sml_lex.specs.Faults.{Fault, first_place}
 use Rattle.sml_tree.specs.Trees.{Dec}
 use Rattle.sml_objects.specs.Objects as O
 use Rattle.sml_objects.specs.Objects.{Sig, Env, empty_env, Basis, extend, extend_env, names_basis}
@@ -21,7 +21,7 @@ use Rattle.sml_rules.specs.Rules.{IsOpen, AreOpen}
 use Rattle.sml_rules.proofs.Open.{extended}
 use Rattle.sml_rules.proofs.Sound.{readings_sound}
 use Rattle.sml_reply.specs.declared.reply.Reply.{Reply}
-use Rattle.sml_piece.specs.Elaborated.{IsBasisOf, IsOwnBasis, IsBelow, beginning}
+use Rattle.sml_piece.specs.Elaborated.{IsBasisOf, IsOwnBasis, IsBelow}
 use Rattle.sml_piece.proofs.Specifying.{all_below_more, basis_below}
 use Rattle.sml_exports.specs.declared.exports.Exports.{Exports}
 use Rattle.sml_units.specs.Runs.{Run, basis_after, start, needed, all_names, SourceUnit, RunProject, exports_after, exports, nothing, specified_beginning, flag_at, is_whole}
@@ -50,7 +50,7 @@ unfolding Run
 run_none unit B = tt
 
 pub run_push : (unit : ℕ) (B : Basis Name) (ds : List (Dec Place)) (d : Dec Place) (os : List Answered) (o : Answered) → Run naming unit B ds os
-    → read_top naming beginning unit (after_all B os) d o → Run naming unit B (ds ++ d ∷ []) (os ++ o ∷ [])
+    → read_top naming first_place unit (after_all B os) d o → Run naming unit B (ds ++ d ∷ []) (os ++ o ∷ [])
 unfolding Run
 run_push unit B [] d [] o h k = (k, tt)
 run_push unit B [] d (q ∷ os) o h k = absurd h
@@ -85,9 +85,9 @@ run_sound unit B [] os h = tt
 run_sound unit B (d ∷ ds) [] h = tt
 run_sound unit B (d ∷ ds) (o ∷ os) h = (answer_sound o h.0, run_sound unit (basis_after B o) ds os h.1)
   where
-    answer_sound : (o : Answered) → read_top naming beginning unit B d o → IsSoundAnswer unit B d o
+    answer_sound : (o : Answered) → read_top naming first_place unit B d o → IsSoundAnswer unit B d o
     answer_sound (refused f) h = tt
-    answer_sound (accepted S) h = readings_sound naming beginning unit B d S h
+    answer_sound (accepted S) h = readings_sound naming first_place unit B d S h
 
 -- and so is what those of projects accept
 pub project_sound : (Ss : List (Sig Name)) (us : List SourceUnit) (oss : List (List Answered)) → RunProject naming initial_basis Ss us oss → AreAllSound Ss us oss
@@ -134,7 +134,7 @@ added p q own B basis is opened env names unit =
 
 -- an accepted declaration is a step of its unit
 pub accepted_step : {E : Type 0} (old new was bound own : PB.Basis) (B : Basis Name) (d : Dec Place) (number : ℕ) (r : Result Reply E) → IsBasisOf old B
-    → read_top naming beginning (maker_of old.unit) B d (accepted (sig_of own)) → IfOk r (λ r. IsReplyTo number (accepted (sig_of own)) r)
+    → read_top naming first_place (maker_of old.unit) B d (accepted (sig_of own)) → IfOk r (λ r. IsReplyTo number (accepted (sig_of own)) r)
     → OnOk r (IsBasisOf new (extend B (sig_of own))) → OnOk r (new.unit ≡ old.unit)
     → OnOk r (env_of bound.env ≡ extend_env (env_of was.env) (env_of own.env)) → IfOk r (IsStep old new was bound B d number)
 accepted_step old new was bound own B d number (Ok r) basis h k after unit binds =

@@ -4,7 +4,7 @@ use mathlib.Core.Path.{sym, ap, subst, ◌∙◌}
 use mathlib.Core.Logic.{inl, inr}
 use mathlib.Core.List.{map, List-discrete}
 use native.Mathlib.Decide.{ℕ_discrete}
-use Rattle.sml_lex.specs.Faults.{Fault}
+use Rattle.sml_lex.specs.Faults.{Fault, first_place}
 use Rattle.sml_lex.specs.declared.fault.Place.{Place}
 use Rattle.sml_tree.specs.Trees as T
 use Rattle.sml_tree.specs.Trees.{core, sealed, other}
@@ -19,14 +19,13 @@ use Rattle.sml_rules.proofs.Settled.{Covers, Supported, mapped, by_equation, sam
 use Rattle.sml_rules.proofs.Readings.{read_top_settled}
 use Rattle.sml_rules.proofs.Specified.{specify_all_settled, exported}
 use Rattle.sml_texts.specs.Text.{text}
-use Rattle.sml_piece.specs.Elaborated.{beginning}
 use Rattle.sml_units.specs.Runs.{basis_after}
 use Rattle.sml_units.specs.Isolation.{SealAlike, IsAccepted, EqualReplies}
 
 -- an accepted seal exports what basis and signature expression fix
 pub seals_alike : {D : Type 0 → Type 0} (E : Supported D) (unit : ℕ) (d e : T.Dec Place) → SealAlike d e
     → {v w : Over (λ N. Basis N × D N)} → v ≡ w → Covers (names_basis v.2.0) (E.names v.2.1) → {x : Sig v.0} {y : Sig w.0}
-    → read_top v.1 beginning unit v.2.0 d (accepted x) → read_top w.1 beginning unit w.2.0 e (accepted y)
+    → read_top v.1 first_place unit v.2.0 d (accepted x) → read_top w.1 first_place unit w.2.0 e (accepted y)
     → ◌≡◌ {A = Over (λ N. (Basis N × D N) × Sig N)} (v.0, v.1, (v.2, x)) (w.0, w.1, (w.2, y))
 unfolding SealAlike
 seals_alike E unit (core d) e h p cov r r' = absurd h
@@ -34,8 +33,8 @@ seals_alike E unit (other i) e h p cov r r' = absurd h
 seals_alike E unit (sealed s i q ds) (core e) h p cov r r' = absurd h
 seals_alike E unit (sealed s i q ds) (other j) h p cov r r' = absurd h
 seals_alike {D = D} E unit (sealed s i q ds) (sealed s' i' q' ds') h {v = v} {w = w} p cov {x = x} {y = y} r r' =
-    let m = exported v.1 unit v.2.0 beginning s i q ds x r in
-    let n = exported w.1 unit w.2.0 beginning s' i' q' ds' y r' in
+    let m = exported v.1 unit v.2.0 first_place s i q ds x r in
+    let n = exported w.1 unit w.2.0 first_place s' i' q' ds' y r' in
     let k : SpecifyAll w.1 unit w.2.0 (map forget q) n.0 = subst (λ l. SpecifyAll w.1 unit w.2.0 l n.0) (sym h.1) n.1 in
     let c : ◌≡◌ {A = Over (λ N. (Basis N × D N) × List (Sig N))} (v.0, v.1, (v.2, m.0)) (w.0, w.1, (w.2, n.0)) =
     carried {C = λ N. Basis N × D N} {O = λ N. List (Sig N)} (λ N a b. SpecifyAll a unit b.0 (map forget q))
@@ -50,11 +49,11 @@ seals_alike {D = D} E unit (sealed s i q ds) (sealed s' i' q' ds') h {v = v} {w 
 -- in bases that are alike a declaration is answered alike
 pub reads_alike : {D : Type 0 → Type 0} (E : Supported D) (unit : ℕ) (d : T.Dec Place)
     {v w : Over (λ N. Basis N × D N)} → v ≡ w → Covers (names_basis v.2.0) (E.names v.2.1) → {x : Answer Place (Sig v.0)} {y : Answer Place (Sig w.0)}
-    → read_top v.1 beginning unit v.2.0 d x → read_top w.1 beginning unit w.2.0 d y
+    → read_top v.1 first_place unit v.2.0 d x → read_top w.1 first_place unit w.2.0 d y
     → ◌≡◌ {A = Over (λ N. (Basis N × D N) × Answer Place (Sig N))} (v.0, v.1, (v.2, x)) (w.0, w.1, (w.2, y))
 reads_alike {D = D} E unit d {v = v} p cov r r' =
-    carried {C = λ N. Basis N × D N} {O = λ N. Answer Place (Sig N)} (λ N a b. read_top a beginning unit b.0 d)
-    (λ x y q q'. read_top_settled beginning unit d D E v.0 v.1 v.2.0 v.2.1 cov x y q q')
+    carried {C = λ N. Basis N × D N} {O = λ N. Answer Place (Sig N)} (λ N a b. read_top a first_place unit b.0 d)
+    (λ x y q q'. read_top_settled first_place unit d D E v.0 v.1 v.2.0 v.2.1 cov x y q q')
     p r r'
 
 -- equality of texts is decided, so it may be shown by contradiction
@@ -82,7 +81,7 @@ cases_of stable f g = stable (λ n. n (g (λ x. n (f x))))
 -- one declaration that differs, over a basis and what else stands beside it
 pub step : {D : Type 0 → Type 0} (E : Supported D) (k : ℕ) (unit : ℕ) (d e : T.Dec Place) {v w : Over (λ N. Basis N × D N)} → v ≡ w
     → Covers (names_basis v.2.0) (E.names v.2.1) → (o : Answer Place (Sig v.0)) (q : Answer Place (Sig w.0))
-    → read_top v.1 beginning unit v.2.0 d o → read_top w.1 beginning unit w.2.0 e q → (d ≡ e) ⊎ SealAlike d e → ¬ (d ≡ e) → IsAccepted o ↔ IsAccepted q
+    → read_top v.1 first_place unit v.2.0 d o → read_top w.1 first_place unit w.2.0 e q → (d ≡ e) ⊎ SealAlike d e → ¬ (d ≡ e) → IsAccepted o ↔ IsAccepted q
     → (F : Type 0 → Type 0) (f : (N : Type 0) → D N → Answer Place (Sig N) → F N)
     → ((N : Type 0) (d : D N) (g g' : Fault Place) → f N d (refused g) ≡ f N d (refused g'))
     → (IsAccepted o → IsAccepted q → text v.1 k o ≡ text w.1 k q)

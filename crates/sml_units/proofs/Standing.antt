@@ -4,6 +4,7 @@ use Rattle.std.specs.List.{All, list_all}
 use Rattle.std.proofs.lemmas.List.Elements.{All-contains}
 use Rattle.sml_lex.specs.declared.fault.Place.{Place}
 use Rattle.sml_lex.specs.declared.token.Token.{Token}
+use Rattle.sml_lex.specs.Faults.{first_place}
 use Rattle.sml_tree.specs.Trees.{Dec}
 use Rattle.sml_tree.specs.Places.{dec_places}
 use Rattle.sml_parse.specs.Within.{Extent, IsOfToken, StandInTurn}
@@ -13,17 +14,16 @@ use Rattle.sml_objects.specs.Initial.{Name, naming}
 use Rattle.sml_rules.specs.Answers.{refused, accepted}
 use Rattle.sml_rules.specs.Readings.{read_top, is_specified}
 use Rattle.sml_rules.proofs.Faults.{stands_in_declaration}
-use Rattle.sml_piece.specs.Elaborated.{beginning}
 use Rattle.sml_projects.specs.Orders.{UnitText}
 use Rattle.sml_units.specs.Runs.{SourceUnit, Run, RunProject, basis_after, exports, nothing, start, specified_beginning, flag_at, is_whole, specified_unit, specified_from}
 use Rattle.sml_units.specs.Checked.{Answered, AreSpelt, AreSourcesOf}
 use Rattle.sml_units.specs.Standing.{AnswerStands, AnswersStand, UnitStands, UnitsStand}
 
 answer_stands : (maker : ℕ) (B : Basis Name) (bytes : List ℕ) (tokens : List Token) (extent : Extent) (d : Dec Place) (o : Answered)
-    → All (IsOfToken bytes tokens extent) (beginning ∷ dec_places d) → read_top naming beginning maker B d o → AnswerStands bytes tokens extent o
+    → All (IsOfToken bytes tokens extent) (first_place ∷ dec_places d) → read_top naming first_place maker B d o → AnswerStands bytes tokens extent o
 answer_stands maker B bytes tokens extent d (accepted S) h r = tt
 answer_stands maker B bytes tokens extent d (refused f) h r =
-    All-contains (IsOfToken bytes tokens extent) (beginning ∷ dec_places d) f.place h (stands_in_declaration naming beginning maker B d f r)
+    All-contains (IsOfToken bytes tokens extent) (first_place ∷ dec_places d) f.place h (stands_in_declaration naming first_place maker B d f r)
 
 answers_stand : (maker : ℕ) (B : Basis Name) (bytes : List ℕ) (tokens : List Token) (extents : List Extent) (ds : List (Dec Place)) (os : List Answered)
     → StandInTurn bytes tokens extents ds → Run naming maker B ds os → AnswersStand bytes tokens extents os
@@ -35,7 +35,7 @@ answers_stand maker B bytes tokens (extent ∷ extents) (d ∷ ds) (o ∷ os) h 
     (answer_stands maker B bytes tokens extent d o h.0 r.0, answers_stand maker (basis_after B o) bytes tokens extents ds os h.1 r.1)
 
 -- what is specified of a unit stands as the whole does
-by_test : (b : Bool) (bytes : List ℕ) (tokens : List Token) (extents : List Extent) (d : Dec Place) (ds : List (Dec Place)) {extent : Extent} → All (IsOfToken bytes tokens extent) (beginning ∷ dec_places d)
+by_test : (b : Bool) (bytes : List ℕ) (tokens : List Token) (extents : List Extent) (d : Dec Place) (ds : List (Dec Place)) {extent : Extent} → All (IsOfToken bytes tokens extent) (first_place ∷ dec_places d)
     → StandInTurn bytes tokens extents ds → StandInTurn bytes tokens (extent ∷ extents) (cond b (d ∷ ds) [])
 by_test true bytes tokens extents d ds h k = (h, k)
 by_test false bytes tokens extents d ds h k = tt

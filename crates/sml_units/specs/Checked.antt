@@ -9,7 +9,7 @@ use Rattle.sml_lex.specs.Faults.{Fault}
 use Rattle.sml_lex.specs.Pieces.{Spells}
 use Rattle.sml_tree.specs.Trees.{Dec}
 use Rattle.sml_tree.specs.Structures.{TopDec}
-use Rattle.sml_parse.specs.Trees.{Trees}
+use Rattle.sml_parse.specs.Trees.{AreTrees}
 use Rattle.sml_objects.specs.Objects.{Sig, Basis}
 use Rattle.sml_objects.specs.Initial.{Name, naming, initial_basis}
 use Rattle.sml_rules.specs.Answers.{Answer, refused, accepted}
@@ -35,7 +35,7 @@ pub record AreSpelt (bytes : List ℕ) (declarations : List (Dec Place)) (last :
   pub end : End
   pub tokens_spelt : Spells bytes tokens end
   pub tops : List (TopDec Place)
-  pub trees : Trees bytes tokens end tops declarations last
+  pub trees : AreTrees bytes tokens end tops declarations last
 
 abbrev pub is_acceptance : Answered → Bool
 is_acceptance (refused f) = false

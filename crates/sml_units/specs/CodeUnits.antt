@@ -3,7 +3,7 @@ use Rattle.std.specs.Prelude.{◌≡◌, ℕ, Bool, true, false, cond, ◌&&◌,
 use Rattle.std.specs.List.{list_all}
 use Rattle.std.specs.Option.{is_some, option_to_list}
 use Rattle.sml_lex.specs.declared.fault.Place.{Place}
-use Rattle.sml_lex.specs.Faults.{Fault}
+use Rattle.sml_lex.specs.Faults.{Fault, first_place}
 use Rattle.sml_tree.specs.Trees.{Dec}
 use Rattle.sml_objects.specs.Objects.{Sig, Env, Basis, extend_env}
 use Rattle.sml_objects.specs.Initial.{Name, naming, initial_basis}
@@ -15,7 +15,7 @@ use Rattle.sml_rules.specs.Every.{Every}
 use Rattle.sml_rules.specs.Open.{OpenEnv}
 use Rattle.sml_rules.specs.Readings.{read_top, is_specified}
 use Rattle.sml_reply.specs.declared.reply.Reply.{Reply}
-use Rattle.sml_piece.specs.Elaborated.{IsBasisOf, IsBelow, beginning}
+use Rattle.sml_piece.specs.Elaborated.{IsBasisOf, IsBelow}
 use Rattle.sml_exports.specs.declared.exports.Exports.{Exports}
 use Rattle.sml_units.specs.Runs.{SourceUnit, Run, basis_after, start, needed, all_names, exports, nothing, specified_unit, specified_beginning, flag_at, is_whole}
 use Rattle.sml_units.specs.declared.project.Beginning.{Beginning}
@@ -30,7 +30,7 @@ env_after E (accepted S) = extend_env E S.body
 -- A declaration is answered in the basis, and what it binds if it is accepted is put into it and into what was bound so far.
 pub record IsStep (old new was bound : PB.Basis) (B : Basis Name) (d : Dec Place) (number : ℕ) (r : Reply) : Type 0 where
   pub answer : Answered
-  pub reading : read_top naming beginning (maker_of old.unit) B d answer
+  pub reading : read_top naming first_place (maker_of old.unit) B d answer
   pub reply : IsReplyTo number answer r
   pub after : IsBasisOf new (basis_after B answer)
   pub unit : new.unit ≡ old.unit

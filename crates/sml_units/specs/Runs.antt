@@ -2,13 +2,12 @@
 use Rattle.std.specs.Prelude.{◌≡◌, ℕ, zero, suc, ◌==◌, Bool, true, false, ◌&&◌, cond, List, [], ◌∷◌, ◌++◌, length, Option, None}
 use Rattle.std.specs.List.{list_all}
 use Rattle.sml_lex.specs.declared.fault.Place.{Place}
-use Rattle.sml_lex.specs.Faults.{Fault}
+use Rattle.sml_lex.specs.Faults.{Fault, first_place}
 use Rattle.sml_tree.specs.Trees.{Dec}
 use Rattle.sml_objects.specs.Names.{Naming}
 use Rattle.sml_objects.specs.Objects.{Sig, Basis, empty_env, extend_env, extend, names_sig, names_basis}
 use Rattle.sml_rules.specs.Answers.{Answer, refused, accepted}
 use Rattle.sml_rules.specs.Readings.{read_top, is_specified}
-use Rattle.sml_piece.specs.Elaborated.{beginning}
 
 -- A unit has a name, its place among the unit lines from 1, the places of its needs in the order of checking, how many
 -- declarations its bytes spell, these as far as they are of the piece, and perhaps a last fault.
@@ -68,7 +67,7 @@ unfoldable pub Run : {N : Type 0} → Naming N → ℕ → Basis N → List (Dec
 Run names unit B [] [] = Unit {0}
 Run names unit B [] (o ∷ os) = ⊥
 Run names unit B (d ∷ ds) [] = ⊥
-Run names unit B (d ∷ ds) (o ∷ os) = read_top names beginning unit B d o × Run names unit (basis_after B o) ds os
+Run names unit B (d ∷ ds) (o ∷ os) = read_top names first_place unit B d o × Run names unit (basis_after B o) ds os
 
 -- what the accepted declarations of a unit export
 abbrev pub exports_after : {N : Type 0} → Sig N → Answer Place (Sig N) → Sig N

@@ -1,5 +1,5 @@
 use Rattle.std.proofs.Common.{◌≡◌, ◌<◌, true, length, take}
-use Rattle.sml_fixity.specs.Reading.{Reads}
+use Rattle.sml_fixity.specs.CodeReader.{Reads}
 use Rattle.sml_fixity.proofs.roles.resolve_roles.Given as goal
 
 abbrev pub invariant-loop-index : goal.invariant-loop-index

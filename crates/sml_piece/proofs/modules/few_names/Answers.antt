@@ -1,7 +1,7 @@
 use Rattle.std.proofs.Common.{◌≡◌, ◌≤◌, ◌+◌, length, ◌∙◌, arith}
 use Rattle.sml_lex.specs.declared.fault.Code.TheVariants.{Q3}
+use Rattle.sml_lex.specs.Faults.{first_place}
 use Rattle.sml_rules.specs.Answers.{fault}
-use Rattle.sml_piece.specs.Elaborated.{beginning}
 use Rattle.sml_piece.proofs.Answering.{refused_by, fails, passes}
 use Rattle.sml_piece.proofs.modules.few_names.Goals as goal
 use Rattle.sml_piece.proofs.modules.few_names.Goals.{then-more-gt-MOST_NAMES-via-then-more-gt-MOST_NAMES, then-more-gt-MOST_NAMES-via-else-more-gt-MOST_NAMES+then-len-more}
@@ -17,7 +17,7 @@ returns-then-more-gt-MOST_NAMES c =
           let all = w.len.ensures ∙ before in
           omega (arith, h, few, more, all)
     ] in
-    refused_by (λ u. u) _ c.plain_fault.result (fault Q3 beginning) c.plain_fault.ensures (fails _ (fault Q3 beginning) many)
+    refused_by (λ u. u) _ c.plain_fault.result (fault Q3 first_place) c.plain_fault.ensures (fails _ (fault Q3 first_place) many)
 
 pub returns : goal.returns
 returns c =
@@ -25,4 +25,4 @@ returns c =
     let few = c.if-more-gt-MOST_NAMES.false in
     let some = c.if-len-more.false in
     let all = c.len.ensures ∙ before in
-    passes _ (fault Q3 beginning) (omega (arith, few, some, all))
+    passes _ (fault Q3 first_place) (omega (arith, few, some, all))

@@ -1,12 +1,13 @@
 use Rattle.std.proofs.Common.{◌≡◌, ◌<◌, ◌+◌, ℕ, true, List, [], ◌∷◌, ◌++◌, length, map, take, drop, get_or, arith, ap, refl, sym, subst, ◌∙◌}
 use Rattle.std.specs.List.{list_all}
 use Rattle.std.proofs.lemmas.List.{map_more, take_all, length-append, drop_more, map-append, take-append-drop}
+use Rattle.sml_lex.specs.Faults.{first_place}
 use Rattle.sml_tree.specs.Views.{dec_of}
 use Rattle.sml_tree.specs.declared.bare.BareDec.{BareDec}
 use Rattle.sml_objects.specs.Initial.{naming}
 use Rattle.sml_objects.specs.Views.{maker_of}
 use Rattle.sml_rules.specs.Readings.{read_top, is_specified}
-use Rattle.sml_piece.specs.Elaborated.{IsBasisOf, beginning}
+use Rattle.sml_piece.specs.Elaborated.{IsBasisOf}
 use Rattle.sml_units.specs.Checked.{AreRepliesTo, IsReplyTo}
 use Rattle.sml_units.specs.CodeUnits.{env_after}
 use Rattle.sml_units.specs.Runs.{Run, specified_beginning, exports, nothing}
@@ -47,7 +48,7 @@ loop-dec-preserved c =
           let os = w.0 in
           let step = c.in_ok-reply.ensures (after_all B os) w.3 in
           let o = step.answer in
-          let reading = subst (λ u. read_top naming beginning (maker_of u) (after_all B os) (dec_of x) o) w.4 step.reading in (
+          let reading = subst (λ u. read_top naming first_place (maker_of u) (after_all B os) (dec_of x) o) w.4 step.reading in (
             os ++ o ∷ [],
             subst (λ ds. Run naming unit B ds (os ++ o ∷ [])) (sym more) (run_push unit B (map dec_of (take i xs)) (dec_of x) os o w.1 reading),
             subst (AreRepliesTo 1 (os ++ o ∷ [])) (sym c.in_ok-push.ensures.items) (replies_push 1 os rs.items o c.in_ok-reply.reply w.2 (subst (λ n. IsReplyTo n o c.in_ok-reply.reply) number step.reply)),

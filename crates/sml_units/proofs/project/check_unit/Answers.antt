@@ -5,7 +5,7 @@ use Rattle.sml_lex.specs.Faults.{fault_of}
 use Rattle.sml_lex.specs.Pieces.{Spells}
 use Rattle.sml_tree.specs.Views.{dec_of}
 use Rattle.sml_tree.specs.StructureViews.{top_of}
-use Rattle.sml_parse.specs.Trees.{Trees}
+use Rattle.sml_parse.specs.Trees.{AreTrees}
 use Rattle.sml_objects.specs.Views.{maker_of}
 use Rattle.sml_projects.specs.Orders.{unit_text_of}
 use Rattle.sml_units.specs.Checked.{AreSpelt}
@@ -21,7 +21,7 @@ returns-clause-replies c = λ fs Ss ready.
     let tops = map top_of p.declarations.items in
     let ds = map dec_of p.piece.items in
     let last = option_map fault_of p.fault in
-    let trees = subst (λ bytes. Trees bytes l.tokens.items l.end tops ds last) (c.in_ok-lexed.ensures.0 ∙ c.deref.ensures.value) c.in_ok-declarations.ensures in
+    let trees = subst (λ bytes. AreTrees bytes l.tokens.items l.end tops ds last) (c.in_ok-lexed.ensures.0 ∙ c.deref.ensures.value) c.in_ok-declarations.ensures in
     let spelt : AreSpelt u.text ds last = record { tokens = l.tokens.items; end = l.end; tokens_spelt = subst (λ bytes. Spells bytes l.tokens.items l.end) c.deref.ensures.value c.in_ok-lexed.ensures.1; tops = tops; trees = trees } in
     let n = length c.deref-2.result.now in
     let all : n ≡ length tops = ap length c.deref-2.ensures.value ∙ sym (length-map p.declarations.items top_of) in
@@ -37,7 +37,7 @@ returns-clause-count c =
     let tops = map top_of p.declarations.items in
     let ds = map dec_of p.piece.items in
     let last = option_map fault_of p.fault in
-    let trees = subst (λ bytes. Trees bytes l.tokens.items l.end tops ds last) (c.in_ok-lexed.ensures.0 ∙ c.deref.ensures.value) c.in_ok-declarations.ensures in
+    let trees = subst (λ bytes. AreTrees bytes l.tokens.items l.end tops ds last) (c.in_ok-lexed.ensures.0 ∙ c.deref.ensures.value) c.in_ok-declarations.ensures in
     let spelt : AreSpelt u.text ds last = record { tokens = l.tokens.items; end = l.end; tokens_spelt = subst (λ bytes. Spells bytes l.tokens.items l.end) c.deref.ensures.value c.in_ok-lexed.ensures.1; tops = tops; trees = trees } in
     if_ok _ _ c.answer_unit-answer.result
     (λ r h. record { declarations = ds; last = last; spelt = spelt; number = h ∙ ap length c.deref-2.ensures.value ∙ sym (length-map p.declarations.items top_of) })

@@ -1,5 +1,5 @@
 use Rattle.std.proofs.Common.{List, vec_len}
-use Rattle.sml_fixity.specs.Reading.{HasAtoms, HasOperand}
+use Rattle.sml_fixity.specs.CodeReader.{HasAtoms, HasOperand}
 use Rattle.sml_fixity.specs.declared.roles.Role.{Role}
 use Rattle.sml_fixity.proofs.roles.Reader.finish.Given as goal
 

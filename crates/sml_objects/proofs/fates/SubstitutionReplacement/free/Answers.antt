@@ -1,7 +1,7 @@
 use Rattle.std.proofs.Common.{◌≡◌, ap, sym, ◌∙◌}
 use Rattle.sml_objects.specs.Fates.{seen_type, type_or}
 use Rattle.sml_objects.specs.Objects as O
-use Rattle.sml_objects.specs.Types.{place_among}
+use Rattle.sml_objects.specs.Types.{index_among}
 use Rattle.sml_objects.specs.Views.{type_of}
 use Rattle.sml_objects.specs.declared.objects.MlType.{Free}
 use Rattle.sml_objects.proofs.TypeViews.{type_of-free}
@@ -16,7 +16,7 @@ returns-in_ok-clone-in-Some-types c =
     let v = c.args.variable in
     let ks = c.args.self.now.places.now.keys in
     let ts = c.args.self.now.types.now in
-    let p : c.match-get_index_of.place ≡ place_among v ks =
+    let p : c.match-get_index_of.place ≡ index_among v ks =
     elim c.match-get_index_of.branch [
       | in-Some w ↦ w.place-is ∙ place-found v ks w.in-Some.place w.in-Some.ensures.index
       | in-None w ↦ w.place-is ∙ w.len-place.ensures.len ∙ place-missing v ks w.in-None.ensures.index
@@ -29,7 +29,7 @@ returns-in-None-types c =
     let v = c.args.variable in
     let ks = c.args.self.now.places.now.keys in
     let ts = c.args.self.now.types.now in
-    let p : c.match-get_index_of.place ≡ place_among v ks =
+    let p : c.match-get_index_of.place ≡ index_among v ks =
     elim c.match-get_index_of.branch [
       | in-Some w ↦ w.place-is ∙ place-found v ks w.in-Some.place w.in-Some.ensures.index
       | in-None w ↦ w.place-is ∙ w.len-place.ensures.len ∙ place-missing v ks w.in-None.ensures.index
@@ -42,7 +42,7 @@ returns-else-place-self c =
     let v = c.args.variable in
     let ks = c.args.self.now.places.now.keys in
     let ts = c.args.self.now.types.now in
-    let p : c.match-get_index_of.place ≡ place_among v ks =
+    let p : c.match-get_index_of.place ≡ index_among v ks =
     elim c.match-get_index_of.branch [
       | in-Some w ↦ w.place-is ∙ place-found v ks w.in-Some.place w.in-Some.ensures.index
       | in-None w ↦ w.place-is ∙ w.len-place.ensures.len ∙ place-missing v ks w.in-None.ensures.index

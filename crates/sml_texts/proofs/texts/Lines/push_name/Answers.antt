@@ -3,9 +3,10 @@ use Rattle.sml_objects.specs.Initial.{naming}
 use Rattle.sml_objects.specs.Views.{name_of, initial_of, maker_of}
 use Rattle.sml_objects.specs.declared.objects.TyName.{TyName}
 use Rattle.sml_objects.specs.declared.objects.TyName.TheVariants.{Made}
-use Rattle.sml_texts.specs.Text.{say, a_name, spell_new, place_of}
+use Rattle.sml_objects.specs.Canonical.{index_of}
+use Rattle.sml_texts.specs.Text.{say, a_name, spell_new}
 use Rattle.sml_texts.specs.Spelling.{lines_of, and_pieces}
-use Rattle.sml_texts.proofs.Spelling.{initial_name, made_name, next_names, place_is, on_ok_then}
+use Rattle.sml_texts.proofs.Spelling.{initial_name, made_name, next_names, index_is, on_ok_then}
 use Rattle.sml_texts.proofs.texts.Lines.push_name.Goals as goal
 
 pub returns-in-Initial : goal.returns-in-Initial
@@ -22,10 +23,10 @@ returns-in_ok-extend_from_slice-in-Made c =
     let n : TyName = Made m in
     let t = lines_of c.args.self.now in
     let old : List ℕ = c.args.self.now.text.items in
-    let k = place_of naming (name_of n) t.1 in
+    let k = index_of naming (name_of n) t.1 in
     let mark : List ℕ = cond m.equality (codes "?=") (codes "?") in
     let place : c.in_ok-place-in-Made.place + 1 ≡ suc k =
-    (let e = c.in_ok-place-in-Made.ensures.index ∙ sym (place_is n c.args.self.now.names.keys) in omega (arith, e)) in
+    (let e = c.in_ok-place-in-Made.ensures.index ∙ sym (index_is n c.args.self.now.names.keys) in omega (arith, e)) in
     let names = next_names n c.args.self.now.names.keys c.insert_full.new.self.keys c.in_ok-place-in-Made.ensures.keys in
     on_ok_then c.push_number.result _ _
     (λ h. let text : c.push_number.new.text.items ≡ old ++ (mark ++ decimal (suc k)) =

@@ -16,13 +16,13 @@ ghost use Rattle.sml_bare.specs.Derivations.{bare_decs, before_none};
 
 use sml_bare::whole::bare_decs;
 use sml_flaws::flawed::{first_flawed, or_else};
-use sml_lex::fault::{Code, Fault, Memory};
+use sml_lex::fault::{Code, FIRST, Fault, Memory};
 use sml_lex::token::{End, Lexed};
 use sml_piece_trees::declare::pieces;
 use sml_reach::event::events;
 use sml_reach::fitted::Fitted;
 use sml_reach::names::Names;
-use sml_reach::place::{FIRST, place_between, start_of};
+use sml_reach::place::{place_between, start_of};
 use sml_reach::reach::{Misfit, before_misfit, fit};
 use sml_read::grammar::Node;
 use sml_read::read::{Cause, Full, read};

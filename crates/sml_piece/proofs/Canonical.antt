@@ -21,6 +21,7 @@ use Rattle.sml_rules.proofs.Renaming.{Fixes}
 use Rattle.sml_rules.proofs.Settled.{pair_supported}
 use Rattle.sml_rules.proofs.Sound.{bound_by, given}
 use Rattle.sml_rules.proofs.Lists.{no_longer}
+use Rattle.sml_rules.proofs.EveryItem.{every_more}
 use Rattle.sml_rules.proofs.Within.{last, read_dec_within}
 use Rattle.sml_lex.specs.declared.fault.Code.TheVariants.{Q3}
 use Rattle.sml_lex.specs.Faults.{first_place}
@@ -47,10 +48,6 @@ old_names unit count (m ∷ ns) h n (inr s) = old_names unit count ns h.1 n s
 
 not_refused : {X : Type 0} {f : F.Fault Place} {x : X} → refused f ≡ accepted x → ⊥
 not_refused e = cc
-
-every_of : (P Q : Name → Type 0) → ((n : Name) → P n → Q n) → (ns : List Name) → Every P ns → Every Q ns
-every_of P Q f [] h = tt
-every_of P Q f (n ∷ ns) h = (f n h.0, every_of P Q f ns h.1)
 
 every_standing : (P : Name → Type 0) (ns : List Name) → ((n : Name) → Stands n ns → P n) → Every P ns
 unfolding Stands
@@ -136,7 +133,7 @@ new_among : (unit count : ℕ) (B : Basis Name) (d : T.Dec Place) (S : Sig Name)
 unfolding names_basis naming
 new_among unit count B d S below h n s =
     let P : Name → Type 0 = λ n. is_new unit count n ≡ true → Stands n S.names in
-    let old = every_of (IsBelow unit count) P (λ n b k. absurd (true≢false (sym k ∙ not_new unit count n b))) (names_basis B) below in
+    let old = every_more (IsBelow unit count) P (λ n b k. absurd (true≢false (sym k ∙ not_new unit count n b))) (names_basis B) below in
     let each = read_dec_within P naming (λ k. absurd (true≢false (sym k))) unit B d S (last P B.names (names_env B.body) old) (every_standing P S.names (λ n s k. s)) h in
     standing_of P (names_sig S) each n (new-in unit count S n s) (new-is unit count S n s)
 

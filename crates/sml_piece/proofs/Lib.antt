@@ -2,7 +2,6 @@ pub mod TypeAnswers
 pub mod Vectors
 pub mod Answering
 pub mod Paths
-pub mod Dotting
 pub mod Contexts
 pub mod Specifying
 pub mod ExpAnswers

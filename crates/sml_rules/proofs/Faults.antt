@@ -3,7 +3,7 @@ use Rattle.std.specs.Prelude.{◌≡◌, ℕ, List, [], ◌∷◌}
 use Rattle.std.specs.List.{All, Contains}
 use mathlib.Core.Path.{sym, ap, subst}
 use mathlib.Core.Logic.{inl, inr}
-use Rattle.std.proofs.lemmas.List.Elements.{All-head, All-tail, All-contains_itself}
+use Rattle.std.proofs.lemmas.List.Elements.{All-contains_itself}
 use Rattle.sml_lex.specs.declared.fault.Code.{Code}
 use Rattle.sml_lex.specs.Faults.{Fault}
 use Rattle.sml_tree.specs.Trees.{LongId, Exp, Exps, Ty, Tys, Spec, CoreDec, Dec, number, name, tuple, bracket, function, no_exp, and_exp, constructor, product, arrow_to, bracket_ty, no_ty, and_ty, type_spec, val_spec, val_dec, type_dec, core, sealed, other}
@@ -19,10 +19,7 @@ use Rattle.sml_rules.specs.Answers.{Answer, Reading, refused, accepted, After, g
 use Rattle.sml_rules.specs.Readings.{place_of, read_ty, read_tys, read_exp, read_exps, read_core, read_cores, read_spec, read_specs, read_names, read_types, read_values, read_match, read_dec, read_top}
 use Rattle.sml_rules.proofs.Sound.{not_refused}
 use Rattle.sml_rules.proofs.Within.{first, last}
-
-every_of : {A : Type 0} (Q : A → Type 0) (xs : List A) → All Q xs → Every Q xs
-every_of Q [] h = tt
-every_of Q (x ∷ xs) h = (All-head Q x xs h, every_of Q xs (All-tail Q x xs h))
+use Rattle.sml_rules.proofs.EveryItem.{every_of}
 
 fault_in : {P X : Type 0} → Fault P → Answer P X → Fault P
 fault_in g (refused f) = f

@@ -5,6 +5,8 @@ pub mod Unique
 pub mod Readings
 pub mod Paths
 pub mod Lists
+pub mod Dotting
+pub mod EveryItem
 pub mod Within
 pub mod Open
 pub mod Sound

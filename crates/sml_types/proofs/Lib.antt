@@ -1,3 +1,2 @@
-mod Dotting
 pub mod Paths
 pub mod Entries

@@ -14,10 +14,9 @@ use Rattle.sml_piece.proofs.Contexts.{shows_local, shows_same}
 use Rattle.sml_objects.proofs.Puts.{at, over, same_at}
 use Rattle.sml_piece.proofs.Answering.{first_ends, second, made_so, gives, gives_so, refusal, refuses, then_any, on_ok}
 use Rattle.sml_piece.proofs.ExpAnswers.{CarriesExps, exps_all, exps_on, exps_end, exps_fault}
-use Rattle.sml_piece.proofs.Dotting.{map-more}
 use Rattle.sml_lex.specs.declared.fault.Place.{Place}
 use Rattle.sml_tree.specs.declared.bare.Exp.{Exp}
-use Rattle.std.proofs.lemmas.List.{drop_more}
+use Rattle.std.proofs.lemmas.List.{drop_more, map-append}
 use Rattle.std.proofs.Math.ListN.{drop_of_length-le}
 use Rattle.sml_piece.proofs.expressions.+typing.Goals as goal
 
@@ -99,7 +98,7 @@ typed_parts-loop-part-preserved t c =
     let v = c.loop-part.invariant in (
       (λ y. c.in-Ok.ensures.locals y ∙ v.0 y),
       λ C shows.
-          subst (λ ts. CarriesExps c.args.made C (map exp_of xs) (map exp_of (drop (i + 1) xs)) c.in-Ok.part.made ts) (sym (ap (map (λ t. type_of t.value)) c.in-Ok-push.ensures.items ∙ map-more (λ t. type_of t.value) c.loop-part.types.items c.in-Ok.part.ty))
+          subst (λ ts. CarriesExps c.args.made C (map exp_of xs) (map exp_of (drop (i + 1) xs)) c.in-Ok.part.made ts) (sym (ap (map (λ t. type_of t.value)) c.in-Ok-push.ensures.items ∙ map-append (λ t. type_of t.value) c.loop-part.types.items (c.in-Ok.part.ty ∷ [])))
           (exps_on c.args.made C (map exp_of xs) (exp_of x) (map exp_of (drop (i + 1) xs)) c.loop-part.count c.in-Ok.part.made _ (type_of c.in-Ok.part.ty.value)
           (c.in-Ok.ensures.answer C (shows_same _ _ _ _ C v.0 shows))
           (subst (λ us. CarriesExps c.args.made C (map exp_of xs) us c.loop-part.count (map (λ t. type_of t.value) c.loop-part.types.items)) (rest_at xs i x c.loop-part-test.true c.part-item.is) (v.1 C shows))),

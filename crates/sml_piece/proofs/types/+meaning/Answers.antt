@@ -1,6 +1,6 @@
 use Rattle.std.proofs.Common.{◌≡◌, ◌+◌, ◌∷◌, ℕ, [], map, drop, length, ap, ◌∙◌, sym, subst, Err, Vec, Global, arith, List, ◌<◌, get_or}
 use Rattle.std.specs.declared.rc.Rc.{Rc}
-use Rattle.std.proofs.lemmas.List.{drop_more}
+use Rattle.std.proofs.lemmas.List.{drop_more, map-append}
 use Rattle.std.proofs.Math.ListN.{drop_of_length-le}
 use Rattle.sml_tree.specs.Views.{ty_of, tys_of}
 use Rattle.sml_tree.specs.declared.bare.Ty.{Ty}
@@ -13,7 +13,6 @@ use Rattle.sml_objects.specs.declared.objects.MlType.{MlType}
 use Rattle.sml_rules.specs.Answers.{accepted}
 use Rattle.sml_rules.specs.Readings.{read_ty, read_tys}
 use Rattle.sml_piece.specs.Elaborated.{Answers}
-use Rattle.sml_piece.proofs.Dotting.{map-more}
 use Rattle.sml_piece.proofs.Answering.{first_ends, second, made_so, gives, refusal, refuses}
 use Rattle.sml_piece.proofs.TypeAnswers.{Carries, carries_all, carries_on, carries_end, carries_fault}
 use Rattle.sml_piece.proofs.types.+meaning.Goals as goal
@@ -100,7 +99,7 @@ types_of-loop-part-preserved t c = λ locals C shows.
     let xs = c.args.parts.now in
     let i = c.loop-part.part-index in
     let x = c.part-item.result in
-    subst (λ ts. Carries C (map ty_of xs) (map ty_of (drop (i + 1) xs)) ts) (sym (ap (map (λ t. type_of t.value)) c.in-Ok-push.ensures.items ∙ map-more (λ t. type_of t.value) c.loop-part.types.items c.in-Ok.ty))
+    subst (λ ts. Carries C (map ty_of xs) (map ty_of (drop (i + 1) xs)) ts) (sym (ap (map (λ t. type_of t.value)) c.in-Ok-push.ensures.items ∙ map-append (λ t. type_of t.value) c.loop-part.types.items (c.in-Ok.ty ∷ [])))
     (carries_on C (map ty_of xs) (ty_of x) (map ty_of (drop (i + 1) xs)) _ (type_of c.in-Ok.ty.value) (c.in-Ok.ensures locals C shows)
     (subst (λ us. Carries C (map ty_of xs) us (map (λ t. type_of t.value) c.loop-part.types.items)) (rest_at xs i x c.loop-part-test.true c.part-item.is) (c.loop-part.invariant locals C shows)))
 

@@ -1,9 +1,9 @@
 use Rattle.std.proofs.Common.{◌≡◌, ◌++◌, ◌+◌, ℕ, List, ◌∷◌, [], map, take, length, ap, sym, ◌∙◌, arith}
-use Rattle.std.proofs.lemmas.List.{length-take-le, length-map}
+use Rattle.std.proofs.lemmas.List.{length-take-le, length-map, map-append}
 use Rattle.std.proofs.lemmas.Grind.{take_at_read}
 use Rattle.sml_tree.specs.Views.{ident_of}
 use Rattle.sml_rules.specs.Answers.{dotted}
-use Rattle.sml_types.proofs.Dotting.{dotted-first, dotted-later, map-more}
+use Rattle.sml_rules.proofs.Dotting.{dotted-first, dotted-later}
 use Rattle.sml_types.proofs.scope.dotted_text.Goals as goal
 use Rattle.sml_types.proofs.scope.dotted_text.Goals.{then-index-gt0+in_ok-push, else-index-gt0}
 
@@ -15,7 +15,7 @@ loop-index-preserved c =
     let before = map ident_of (take i xs) in
     let count : length before ≡ i = length-map (take i xs) ident_of ∙ length-take-le i xs (omega arith) in
     let next : map ident_of (take (i + 1) xs) ≡ before ++ ident_of x ∷ [] =
-    ap (map ident_of) ((take_at_read xs i x c.loop-index-test.true).1 ∙ ap (λ y. take i xs ++ y ∷ []) (sym c.index-idents-index.is)) ∙ map-more ident_of (take i xs) x in
+    ap (map ident_of) ((take_at_read xs i x c.loop-index-test.true).1 ∙ ap (λ y. take i xs ++ y ∷ []) (sym c.index-idents-index.is)) ∙ map-append ident_of (take i xs) (x ∷ []) in
     let added = c.in_ok-extend_from_slice.ensures.items in
     let slice = c.as_slice.ensures.value in
     let held = c.deref.ensures in

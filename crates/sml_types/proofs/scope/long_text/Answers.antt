@@ -3,7 +3,7 @@ use Rattle.std.proofs.lemmas.List.{length-map}
 use Rattle.std.proofs.lemmas.Bool.{eqb-true, eqb-false}
 use Rattle.sml_tree.specs.Views.{ident_of}
 use Rattle.sml_rules.specs.Answers.{dotted}
-use Rattle.sml_types.proofs.Dotting.{dotted-first, dotted-later}
+use Rattle.sml_rules.proofs.Dotting.{dotted-first, dotted-later}
 use Rattle.sml_types.proofs.scope.long_text.Goals as goal
 use Rattle.sml_types.proofs.scope.long_text.Goals.{then-not-is_empty+in_ok-push, else-not-is_empty}
 

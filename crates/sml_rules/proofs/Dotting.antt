@@ -1,5 +1,5 @@
 -- Identifiers with dots between them, one more at the end.
-use Rattle.std.proofs.Common.{◌≡◌, ◌<◌, ℕ, List, [], ◌∷◌, ◌++◌, map, length, refl, ap, sym, ◌∙◌, append_assoc, arith}
+use Rattle.std.proofs.Common.{◌≡◌, ◌<◌, ℕ, List, [], ◌∷◌, ◌++◌, length, ap, sym, ◌∙◌, append_assoc, arith}
 use Rattle.sml_tree.specs.Trees.{Id}
 use Rattle.sml_rules.specs.Answers.{dotted}
 
@@ -7,10 +7,6 @@ pub dotted-more : (x : Id) (xs : List Id) (y : Id) → dotted ((x ∷ xs) ++ y �
 dotted-more x [] y = append_assoc x (46 ∷ []) y
 dotted-more x (z ∷ xs) y =
     ap (λ t. (x ++ 46 ∷ []) ++ t) (dotted-more z xs y) ∙ sym (append_assoc (x ++ 46 ∷ []) (dotted (z ∷ xs)) (46 ∷ y))
-
-pub map-more : {A B : Type 0} (f : A → B) (xs : List A) (x : A) → map f (xs ++ x ∷ []) ≡ map f xs ++ f x ∷ []
-map-more f [] x = refl
-map-more f (y ∷ xs) x = ap (λ t. f y ∷ t) (map-more f xs x)
 
 -- after the first identifier, one behind a dot
 pub dotted-later : (xs : List Id) (y : Id) (text : List ℕ) → 0 < length xs → text ≡ dotted xs → (text ++ 46 ∷ []) ++ y ≡ dotted (xs ++ y ∷ [])

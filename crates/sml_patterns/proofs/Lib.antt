@@ -13,5 +13,7 @@ pub mod Trees
 pub mod Work
 pub mod Sharing
 pub mod Judged
-pub mod NewKeys
+pub mod Columns
+pub mod Telling
+pub mod Picking
 pub mod Collecting

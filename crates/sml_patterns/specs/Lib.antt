@@ -5,4 +5,4 @@ pub mod Warnings
 pub mod Matrix
 pub mod Views
 pub mod CodeTasks
-pub mod CodeKeys
+pub mod CodeColumns

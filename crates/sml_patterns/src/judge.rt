@@ -8,15 +8,16 @@ ghost use Rattle.sml_patterns.specs.Shape.{World, column};
 ghost use Rattle.sml_patterns.specs.Warnings as W;
 ghost use Rattle.sml_patterns.specs.Warnings.{AreRules, AllFit, IsWarning, warning_cmp};
 ghost use Rattle.sml_patterns.specs.Views.{meanings, plain_of};
-ghost use Rattle.sml_patterns.specs.CodeKeys.{Knows};
-ghost use Rattle.sml_patterns.specs.CodeTasks.{is_free, rules_of, plains, redundant_from, open_at, warning_of, warnings_of};
+ghost use Rattle.sml_patterns.specs.CodeColumns.{picked, KnowsEach};
+ghost use Rattle.sml_patterns.specs.Matrix.{is_useful, singles};
+ghost use Rattle.sml_patterns.specs.CodeTasks.{is_free, lines, near, rules_of, plains, redundant_from, open_at, warning_of, warnings_of};
 
 use crate::apart::is_apart;
-use crate::keys::Keys;
 use crate::names::Names;
 use crate::pattern::Pattern;
 use crate::plain::plain;
 use crate::search::is_useful;
+use crate::table::Table;
 use sml_lex::fault::{Code, Memory, Place, Warning};
 use sml_tree::patterns::Pat;
 use std::alloc::Global;
@@ -75,45 +76,111 @@ fn rules(alloc: Global, names: &Names, patterns: &[(Place, &Pat)]) -> Result<Vec
     Ok(rules)
 }
 
-/// Whether some shape that the pattern matches escapes the rules.
-fn escapes<'a>(
+/// Adds the row of a rule, unless its pattern is apart from this one.
+fn push_near<'a>(
     alloc: Global,
-    any: &'a Pattern,
-    rules: &'a [Judged],
-    pattern: &'a Pattern,
-) -> Result<bool, Memory>
+    any: &Pattern,
+    rule: &'a Judged,
+    pattern: &Pattern,
+    rows: &mut Vec<Vec<&'a Pattern>>,
+) -> Result<(), Memory>
     requires { plain_of any.now ≡ Wild }
-    ensures { IfOk result (λ yes. yes ≡ is_free (plains (rules_of rules.now)) (plain_of pattern.now)) }
+    ensures { OnOk result (lines rows.new.items ≡ lines rows.old.items ++ singles (near (plain_of pattern.now) (plain_of rule.now.pattern ∷ []))) }
+{
+    if !is_apart(any, pattern, &rule.pattern) {
+        let mut row = Vec::new(alloc);
+        row.push(&rule.pattern)?;
+        rows.push(row)?;
+    }
+    Ok(())
+}
+
+/// The rows of the rules that aren't apart from the pattern.
+fn near_rows<'a>(
+    alloc: Global,
+    any: &Pattern,
+    rules: &'a [Judged],
+    pattern: &Pattern,
+) -> Result<Vec<Vec<&'a Pattern>>, Memory>
+    requires { plain_of any.now ≡ Wild }
+    ensures { IfOk result (λ rows. lines rows.items ≡ singles (near (plain_of pattern.now) (plains (rules_of rules.now)))) }
 {
     let mut rows = Vec::new(alloc);
     for rule in rules {
-        if !is_apart(any, pattern, &rule.pattern) {
-            let mut row = Vec::new(alloc);
-            row.push(&rule.pattern)?;
-            rows.push(row)?;
+        push_near(alloc, any, rule, pattern, &mut rows)?;
+    }
+    Ok(rows)
+}
+
+/// The same of the rules with these indices.
+fn near_rows_at<'a>(
+    alloc: Global,
+    any: &Pattern,
+    rules: &'a [Judged],
+    indices: &[usize],
+    pattern: &Pattern,
+) -> Result<Vec<Vec<&'a Pattern>>, Memory>
+    requires { plain_of any.now ≡ Wild }
+    ensures { IfOk result (λ rows. lines rows.items ≡ singles (near (plain_of pattern.now) (picked (plains (rules_of rules.now)) indices.now))) }
+{
+    let mut rows = Vec::new(alloc);
+    for index in indices {
+        if let Some(rule) = rules.get(*index) {
+            push_near(alloc, any, rule, pattern, &mut rows)?;
         }
     }
+    Ok(rows)
+}
+
+/// Whether some shape that the pattern matches escapes the rows.
+fn escapes_rows<'a>(
+    alloc: Global,
+    any: &'a Pattern,
+    rows: Vec<Vec<&'a Pattern>>,
+    pattern: &'a Pattern,
+) -> Result<bool, Memory>
+    requires { plain_of any.now ≡ Wild }
+    ensures { IfOk result (λ yes. yes ≡ is_useful (lines rows.entry.items) (plain_of pattern.now ∷ [])) }
+{
     let mut question = Vec::new(alloc);
     question.push(pattern)?;
     is_useful(alloc, any, rows, question)
 }
 
-/// Whether some shape that a rule's pattern matches escapes the rules above it, whose keys are known; its own is noted.
+/// Whether some shape that the pattern matches escapes the rules.
+fn escapes(
+    alloc: Global,
+    any: &Pattern,
+    rules: &[Judged],
+    pattern: &Pattern,
+) -> Result<bool, Memory>
+    requires { plain_of any.now ≡ Wild }
+    ensures { IfOk result (λ yes. yes ≡ is_free (plains (rules_of rules.now)) (plain_of pattern.now)) }
+{
+    let rows = near_rows(alloc, any, rules, pattern)?;
+    escapes_rows(alloc, any, rows, pattern)
+}
+
+/// Whether some shape that a rule's pattern matches escapes the rules above it, which the table knows; its own is noted.
 fn escapes_above(
     alloc: Global,
     any: &Pattern,
-    keys: &mut Keys,
+    table: &mut Table,
     above: &[Judged],
     pattern: &Pattern,
 ) -> Result<bool, Memory>
     requires { plain_of any.now ≡ Wild }
-    ensures knows { Knows (plains (rules_of above.now)) keys.old → OnOk result (Knows (plains (rules_of above.now) ++ plain_of pattern.now ∷ []) keys.new) }
-    ensures yes { Knows (plains (rules_of above.now)) keys.old → IfOk result (λ yes. yes ≡ is_free (plains (rules_of above.now)) (plain_of pattern.now)) }
+    ensures knows { KnowsEach (plains (rules_of above.now)) table.old.columns.items → OnOk result (KnowsEach (plains (rules_of above.now) ++ plain_of pattern.now ∷ []) table.new.columns.items) }
+    ensures yes { KnowsEach (plains (rules_of above.now)) table.old.columns.items → IfOk result (λ yes. yes ≡ is_free (plains (rules_of above.now)) (plain_of pattern.now)) }
 {
-    if keys.note(pattern)? {
-        escapes(alloc, any, &[], pattern)
-    } else {
-        escapes(alloc, any, above, pattern)
+    let found = table.find(any, pattern, above.len())?;
+    table.note(any, pattern, above.len())?;
+    match found {
+        Some(indices) => {
+            let rows = near_rows_at(alloc, any, above, &indices, pattern)?;
+            escapes_rows(alloc, any, rows, pattern)
+        }
+        None => escapes(alloc, any, above, pattern),
     }
 }
 
@@ -156,10 +223,13 @@ fn collect(
     ensures { IfOk result (λ found. warnings_of found.items ≡ open_at (rules_of rules.now) holder ++ redundant_from [] (rules_of rules.now)) }
 {
     let mut found = open(alloc, any, holder, rules)?;
-    let mut keys = Keys::new(alloc);
+    let mut table = match rules.first() {
+        Some(rule) => Table::new(alloc, &rule.pattern)?,
+        None => Table::new(alloc, any)?,
+    };
     for index in 0..rules.len() {
         let rule = &rules[index];
-        if !escapes_above(alloc, any, &mut keys, &rules[..index], &rule.pattern)? {
+        if !escapes_above(alloc, any, &mut table, &rules[..index], &rule.pattern)? {
             found.push(finding_at(rule.place, Flaw::Redundant))?;
         }
     }

@@ -2,6 +2,7 @@
 #![tactic(auto)]
 
 mod apart;
+mod column;
 pub mod judge;
 mod keys;
 pub mod names;
@@ -9,3 +10,4 @@ mod narrow;
 mod pattern;
 mod plain;
 mod search;
+mod table;

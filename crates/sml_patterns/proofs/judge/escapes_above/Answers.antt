@@ -1,9 +1,11 @@
-use Rattle.sml_patterns.specs.CodeTasks.{plains, rules_of}
+use Rattle.std.proofs.Common.{rules, sym, ap, ◌∙◌}
+use Rattle.sml_patterns.specs.CodeTasks.{lines, plains, rules_of}
 use Rattle.sml_patterns.specs.Views.{plain_of}
-use Rattle.sml_patterns.proofs.NewKeys.{escaped}
+use Rattle.sml_patterns.proofs.Picking.{escapes_picked, near_found}
 use Rattle.sml_patterns.proofs.judge.escapes_above.Goals as goal
 
-pub returns-then-branch-clause-yes : goal.returns-then-branch-clause-yes
-returns-then-branch-clause-yes c = λ known.
+pub returns-in_ok-rows-in-Some-clause-yes : goal.returns-in_ok-rows-in-Some-clause-yes
+returns-in_ok-rows-in-Some-clause-yes c = λ known.
+    let p = plain_of c.args.pattern.now in
     let above = plains (rules_of c.args.above.now) in
-    escaped (plain_of c.args.pattern.now) above c.in_ok-note.field-0 c.escapes.result c.if-branch.true (c.in_ok-note.ensures.new above known) c.escapes.ensures
+    escapes_picked p above c.in-Some.indices.items (lines c.in_ok-rows-in-Some.rows.items) c.escapes_rows.result (near_found p above c.in_ok-found.found c.in-Some.indices c.in-Some.is (c.in_ok-found.ensures above known)) (search rules) c.escapes_rows.ensures

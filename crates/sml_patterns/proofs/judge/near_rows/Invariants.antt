@@ -2,7 +2,7 @@ use Rattle.std.proofs.Common.{◌≡◌, ◌++◌, drop}
 use Rattle.sml_patterns.specs.CodeTasks.{lines, near, plains, rules_of}
 use Rattle.sml_patterns.specs.Matrix.{singles}
 use Rattle.sml_patterns.specs.Views.{plain_of}
-use Rattle.sml_patterns.proofs.judge.escapes.Given as goal
+use Rattle.sml_patterns.proofs.judge.near_rows.Given as goal
 
 abbrev pub invariant-loop-rule : goal.invariant-loop-rule
 invariant-loop-rule l =

@@ -11,6 +11,7 @@ pub mod Rows
 pub mod Known
 pub mod Trees
 pub mod Work
+pub mod Grouping
 pub mod Sharing
 pub mod Judged
 pub mod Columns

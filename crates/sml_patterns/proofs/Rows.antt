@@ -17,9 +17,8 @@ use Rattle.sml_patterns.specs.declared.pattern.Pattern.{Pattern}
 use Rattle.sml_patterns.specs.Plain.{Plain, Wild, Row, Empty, Labelled, field}
 use Rattle.sml_patterns.specs.Matrix.{has_label, with_label, with_row}
 use Rattle.sml_patterns.specs.Views.{row_on, plain_of}
-use Rattle.sml_patterns.specs.CodeTasks.{line, is_among, labels_of, outer_apart, rows_apart}
+use Rattle.sml_patterns.specs.CodeTasks.{is_among, labels_of, outer_apart, rows_apart}
 use Rattle.sml_patterns.proofs.Labels.{field_here, field_there}
-use Rattle.sml_patterns.proofs.Lines.{line_push}
 
 abbrev pub Key : Type 0
 Key = Rc (Vec ℕ Global) Global
@@ -83,11 +82,6 @@ labels_push ls l =
 pub labels_take : (ls : List (Bor Key)) (k : ℕ) (l : Bor Key) → k < length ls → l ≡ get_or ls k l → labels_of (take (k + 1) ls) ≡ ident_of l.now ∷ labels_of (take k ls)
 labels_take ls k l h e =
     ap labels_of ((take_at_read ls k l h).1 ∙ ap (λ x. take k ls ++ x ∷ []) (sym e)) ∙ labels_push (take k ls) l
-
--- one more pattern is put in front of the row
-pub row_pushed : (F : Id → Plain) (ls : List (Bor Key)) (k : ℕ) (l : Bor Key) (old row new : List (Bor Pattern)) (p : Bor Pattern) → k < length ls → l ≡ get_or ls k l → line row ≡ map F (labels_of (take k ls)) ++ line old → new ≡ row ++ p ∷ [] → plain_of p.now ≡ F (ident_of l.now) → line new ≡ map F (labels_of (take (k + 1) ls)) ++ line old
-row_pushed F ls k l old row new p h e i j f =
-    ap line j ∙ line_push row p ∙ ap (λ q. q ∷ line row) f ∙ ap (λ qs. F (ident_of l.now) ∷ qs) i ∙ ap (λ xs. map F xs ++ line old) (sym (labels_take ls k l h e))
 
 or_last : (a b : Bool) → (a || (b || false)) ≡ (b || a)
 or_last true true = refl

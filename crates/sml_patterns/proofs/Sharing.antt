@@ -1,19 +1,12 @@
 -- No shape is matched by two patterns that are apart.
-use Rattle.std.proofs.Common.{◌≡◌, ℕ, ◌+◌, ◌<◌, List, [], ◌∷◌, ◌≤◌, ◌++◌, append-nil, length, drop, get_or, cond, Bool, true, false, inl, inr, refl, ap, sym, subst, ◌∙◌}
+use Rattle.std.proofs.Common.{◌≡◌, ℕ, cond, Bool, true, false, inl, inr, refl, sym, subst, ◌∙◌}
 use Rattle.std.specs.Prelude.{nat_eq}
-use Rattle.std.specs.Prelude.{IfOk, Result, Ok, Err}
-use Rattle.std.proofs.Math.ListN.{drop_of_length-le}
 use Rattle.std.proofs.lemmas.Bool.{false≢true, or_cases}
 use Rattle.std.proofs.lemmas.Bool.Decides.{Decides-eqb}
-use Rattle.std.proofs.lemmas.List.{drop_more}
 use Rattle.sml_tree.specs.Trees.{Id}
-use Rattle.sml_lex.specs.declared.fault.Memory.{Memory}
-use Rattle.sml_patterns.specs.declared.judge.Judged.{Judged}
 use Rattle.sml_patterns.specs.Plain.{Value, value_eq, Plain, Wild, Made, Fields, Valued, Row, Empty, Labelled, field}
 use Rattle.sml_patterns.specs.Shape.{Shape, Cut, OfConstructor, OfRow, OfValue, Other, Matches}
-use Rattle.sml_patterns.specs.Matrix.{is_useful, singles}
-use Rattle.sml_patterns.specs.Views.{plain_of}
-use Rattle.sml_patterns.specs.CodeTasks.{outer_apart, rows_apart, is_apart, near, is_free, plains, rules_of}
+use Rattle.sml_patterns.specs.CodeTasks.{outer_apart, rows_apart, is_apart}
 use Rattle.sml_patterns.proofs.Values.{value_self}
 
 made_apart : (b : Bool) (j k : ℕ) → nat_eq j k ≡ b → cond b false true ≡ true → j ≡ k → ⊥
@@ -72,17 +65,3 @@ none_shared (Fields fs) (Fields gs) Cut h m n = m
 none_shared (Fields fs) (Fields gs) (OfConstructor a s) h m n = m
 none_shared (Fields fs) (Fields gs) (OfValue v s) h m n = m
 none_shared (Fields fs) (Fields gs) Other h m n = m
-
--- the next rule of some
-pub near_next : (p : Plain) (rules : List Judged) (i : ℕ) (d : Judged) → i < length rules
-    → near p (plains (rules_of (drop i rules))) ≡ cond (is_apart p (plain_of (get_or rules i d).pattern)) (near p (plains (rules_of (drop (i + 1) rules)))) (plain_of (get_or rules i d).pattern ∷ near p (plains (rules_of (drop (i + 1) rules))))
-near_next p rules i d within = ap (λ rs. near p (plains (rules_of rs))) (drop_more rules i d within)
-
--- what is answered of the rules that were gone through is so of them all
-pub answered : (p : Plain) (all : List Judged) (rows : List (List Plain)) (question : List Plain) (i : ℕ) (r : Result Bool Memory) → length all ≤ i
-    → singles (near p (plains (rules_of all))) ≡ rows ++ singles (near p (plains (rules_of (drop i all)))) → question ≡ p ∷ []
-    → IfOk r (λ u. u ≡ is_useful rows question) → IfOk r (λ u. u ≡ is_free (plains (rules_of all)) p)
-answered p all rows question i (Err e) past same one h = tt
-answered p all rows question i (Ok u) past same one h =
-    h ∙ ap (is_useful rows) one
-    ∙ ap (λ xs. is_useful xs (p ∷ [])) (sym (same ∙ ap (λ xs. rows ++ singles (near p (plains (rules_of xs)))) (drop_of_length-le all past) ∙ append-nil rows))

@@ -103,7 +103,7 @@ pub below_kept : (rs : List (List Plain)) (q : List Plain) (all old new : List P
 below_kept rs q all old new n h i j =
     i ∙ ap (λ xs. old ++ xs) (left_step rs q n h) ∙ sym (append_assoc old (with_problem (narrow_all (AtConstructor (n - 1)) rs) (narrow (AtConstructor (n - 1)) q) []) (narrowed rs q (below (n - 1)))) ∙ ap (λ xs. xs ++ narrowed rs q (below (n - 1))) (sym j)
 
-problems_last : (rest : List Task) (task : Task) → problems (rest ++ task ∷ []) ≡ problems rest ++ problem_of task ∷ []
+pub problems_last : (rest : List Task) (task : Task) → problems (rest ++ task ∷ []) ≡ problems rest ++ problem_of task ∷ []
 problems_last rest task = map-append problem_of rest (task ∷ [])
 
 answer_last : (rest : List Task) (task : Task) → answer_any (problems (rest ++ task ∷ [])) ≡ (answer_any (problems rest) || (answer (problem_of task) || false))

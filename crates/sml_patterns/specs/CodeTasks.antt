@@ -1,5 +1,5 @@
 -- The rows, heads and problems that the code keeps. A row has its first column last.
-use Rattle.std.specs.Prelude.{ℕ, Bool, true, false, nat_eq, List, [], ◌∷◌, ◌++◌, ◌||◌, map, reverse, Option, Some, None, Vec, cond}
+use Rattle.std.specs.Prelude.{ℕ, zero, suc, Bool, true, false, nat_eq, List, [], ◌∷◌, ◌++◌, ◌||◌, map, reverse, Option, Some, None, Vec, cond}
 use Rattle.std.specs.List.{list_any}
 use Rattle.std.specs.Str.{bytes_eq}
 use Rattle.std.specs.Borrow.{Bor}
@@ -35,6 +35,12 @@ line ps = reverse (map pointee ps)
 
 abbrev pub lines : List (Vec (Bor Pattern) Global) → List (List Plain)
 lines rows = map (λ r. line r.items) rows
+
+-- the rows of the group with this number
+abbrev pub group_at : List (Vec (Vec (Bor Pattern) Global) Global) → ℕ → List (List Plain)
+group_at [] k = []
+group_at (g ∷ gs) zero = lines g.items
+group_at (g ∷ gs) (suc k) = group_at gs k
 
 abbrev pub kept_line : Option (Vec (Bor Pattern) Global) → Option (List Plain)
 kept_line None = None

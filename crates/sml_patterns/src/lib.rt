@@ -3,6 +3,7 @@
 
 mod apart;
 mod column;
+mod constructors;
 pub mod judge;
 mod keys;
 pub mod names;

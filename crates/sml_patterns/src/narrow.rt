@@ -5,10 +5,11 @@ ghost use Rattle.std.specs.Option.{is_some};
 ghost use Rattle.std.specs.Str.{bytes_eq};
 ghost use Rattle.sml_tree.specs.Views.{ident_of};
 ghost use Rattle.sml_patterns.specs.Plain.{Wild, Empty, field};
-ghost use Rattle.sml_patterns.specs.Matrix.{replace, onto, field_in, wild_at, narrow, narrow_all, first_of, first_kind, is_made, has, has_below, with_label, with_row, with_plain, column_labels, spread, heads};
+ghost use Rattle.sml_patterns.specs.Matrix.{replace, onto, field_in, wild_at, narrow, narrow_all, first_of, first_kind, with_label, with_row, with_plain, column_labels, spread, heads};
 ghost use Rattle.sml_patterns.specs.Views.{row_on, plain_of};
 ghost use Rattle.sml_patterns.specs.CodeTasks.{line, lines, kept_line, plain_at, IsNamed, labels_of, is_among, head_of, split_heads};
 
+use crate::constructors::has_below;
 use crate::pattern::{Pattern, Value, is_same_value};
 use sml_lex::fault::Memory;
 use sml_tree::bare::Ident;
@@ -144,7 +145,7 @@ fn push_narrowed<'a>(
 }
 
 /// Whether the row's first pattern covers the head.
-fn is_covered(head: &Head, row: &[&Pattern]) -> bool
+pub fn is_covered(head: &Head, row: &[&Pattern]) -> bool
     ensures { result ≡ is_some (narrow (head_of head.now) (line row.now)) }
 {
     match row.last() {
@@ -154,7 +155,7 @@ fn is_covered(head: &Head, row: &[&Pattern]) -> bool
 }
 
 /// A row that covers the head, narrowed to it.
-fn narrowed<'a>(
+pub fn narrowed<'a>(
     alloc: Global,
     any: &'a Pattern,
     head: &Head<'a>,
@@ -207,7 +208,7 @@ pub fn narrow_all<'a>(
 }
 
 /// The row's first pattern, unless that is a wildcard.
-fn first_named<'a>(row: &[&'a Pattern]) -> Option<&'a Pattern>
+pub fn first_named<'a>(row: &[&'a Pattern]) -> Option<&'a Pattern>
     ensures plain { plain_at result ≡ first_of (line row.now) }
     ensures named { IfSome result (λ p. IsNamed (plain_of p.now)) }
 {
@@ -229,42 +230,6 @@ fn first_kind<'a>(rows: &[Vec<&'a Pattern>]) -> Option<&'a Pattern>
         }
     }
     None
-}
-
-/// Whether the row's first pattern is of the constructor.
-fn is_made(row: &[&Pattern], wanted: u64) -> bool
-    ensures { result ≡ is_made wanted (first_of (line row.now)) }
-{
-    match first_named(row) {
-        Some(Pattern::Built { number, .. }) => *number == wanted,
-        _ => false,
-    }
-}
-
-/// Whether the constructor stands in the first column.
-fn has(rows: &[Vec<&Pattern>], wanted: u64) -> bool
-    ensures { result ≡ has wanted (lines rows.now) }
-{
-    for row in rows {
-        if is_made(row, wanted) {
-            return true;
-        }
-    }
-    false
-}
-
-/// Whether each of the first `count` constructors stands in the first column.
-fn has_below(rows: &[Vec<&Pattern>], count: u64) -> bool
-    ensures { result ≡ has_below count (lines rows.now) }
-{
-    let mut left = count;
-    while left > 0 {
-        left -= 1;
-        if !has(rows, left) {
-            return false;
-        }
-    }
-    true
 }
 
 fn has_label(labels: &[&Ident], label: &Ident) -> bool
@@ -343,7 +308,7 @@ fn spread<'a>(alloc: Global, rows: &[Vec<&'a Pattern>]) -> Result<Split<'a>, Mem
 {
     match first_kind(rows) {
         Some(Pattern::Built { count, .. }) => {
-            if has_below(rows, *count) {
+            if has_below(alloc, rows, *count)? {
                 Ok(Split::Below(*count))
             } else {
                 Ok(Split::One(Head::AtOther))

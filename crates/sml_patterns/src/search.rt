@@ -6,6 +6,7 @@ ghost use Rattle.sml_patterns.specs.Matrix.{narrow, narrow_all, below, with_prob
 ghost use Rattle.sml_patterns.specs.Views.{plain_of};
 ghost use Rattle.sml_patterns.specs.CodeTasks.{line, lines, head_of, problem_of, problems};
 
+use crate::constructors::narrow_each;
 use crate::narrow::{Head, Split, narrow, narrow_all, split_for};
 use crate::pattern::Pattern;
 use sml_lex::fault::Memory;
@@ -52,17 +53,12 @@ fn push_below<'a>(
     requires { plain_of any.now ≡ Wild }
     ensures { IfOk result (λ _. problems tasks.new.items ≡ problems tasks.old.items ++ narrowed (lines rows.now) (line question.now) (below count)) }
 {
-    let mut left = count;
-    while left > 0 {
-        left -= 1;
-        push_task(
-            alloc,
-            any,
-            &Head::AtConstructor(left),
-            rows,
-            question,
-            tasks,
-        )?;
+    let mut groups = narrow_each(alloc, any, count, rows)?;
+    while let Some(rows) = groups.pop() {
+        let head = Head::AtConstructor(groups.len() as u64);
+        if let Some(question) = narrow(alloc, any, &head, question)? {
+            tasks.push(Task { rows, question })?;
+        }
     }
     Ok(())
 }

@@ -1,4 +1,4 @@
-use Rattle.std.proofs.Common.{rules, sym, ap, ◌∙◌}
+use Rattle.std.proofs.Common.{rules}
 use Rattle.sml_patterns.specs.CodeTasks.{lines, plains, rules_of}
 use Rattle.sml_patterns.specs.Views.{plain_of}
 use Rattle.sml_patterns.proofs.Picking.{escapes_picked, near_found}

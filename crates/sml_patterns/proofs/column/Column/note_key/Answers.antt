@@ -1,7 +1,7 @@
-use Rattle.std.proofs.Common.{rules, ap, sym, ◌∙◌, ◌++◌, ◌∷◌, []}
+use Rattle.std.proofs.Common.{rules, ap, ◌∙◌, ◌++◌, ◌∷◌, []}
 use Rattle.std.specs.HashMap.{get}
 use Rattle.sml_patterns.specs.declared.keys.Key as P
-use Rattle.sml_patterns.specs.CodeColumns.{same_key, items_in}
+use Rattle.sml_patterns.specs.CodeColumns.{same_key}
 use Rattle.sml_patterns.proofs.Columns.{noted, taken, taken_none}
 use Rattle.sml_patterns.proofs.column.Column.note_key.Goals as goal
 use Rattle.sml_patterns.proofs.column.Column.note_key.Goals.{in-Some, in-None}

@@ -1,7 +1,7 @@
 use Rattle.std.proofs.Common.{◌≡◌}
 use Rattle.sml_patterns.specs.CodeTasks.{lines}
 use Rattle.sml_patterns.specs.Matrix.{has_below}
-use Rattle.sml_patterns.proofs.narrow.has_below.Given as goal
+use Rattle.sml_patterns.proofs.constructors.has_below.Given as goal
 
 abbrev pub invariant-loop-left : goal.invariant-loop-left
 invariant-loop-left l = has_below l.count (lines l.rows) ≡ has_below l.left (lines l.rows)

@@ -3,6 +3,8 @@ use Rattle.std.proofs.Common.{◌≡◌, ◌≢◌, ℕ, zero, suc, ◌+◌, ◌
 use Rattle.std.proofs.Math.ListN.{length-set}
 use Rattle.std.proofs.lemmas.Bool.{cases_lt}
 use Rattle.std.proofs.lemmas.List.{append-nil, get_or_past}
+use Rattle.sml_objects.specs.Appearance.{Stands}
+use Rattle.sml_objects.proofs.Standing as Standing
 use Rattle.sml_objects.specs.Initial.{Name}
 use Rattle.sml_objects.specs.Objects.{MlType}
 use Rattle.sml_graph.specs.declared.change.Change.{Change}
@@ -16,7 +18,7 @@ use Rattle.sml_graph.specs.Interned.{Interns}
 use Rattle.sml_demands.specs.Fixed.{IsFixedBy}
 use Rattle.sml_demands.specs.Levels.{level_of, level_at, AreAtMost, IsHandedNode, IsHandedTo, AreHandedBut, IsLevelOf, AreLevels, Moves, BeginsLevel, levels_sum, LowersLevels, HandsLevels}
 use Rattle.sml_graph.proofs.Interning.{get_or-left, get_or-right}
-use Rattle.sml_graph.proofs.Merging.{same_or_not, all-append, IsAmong-append, IsAmong-back}
+use Rattle.sml_graph.proofs.Merging.{same_or_not, all-append}
 use Rattle.sml_graph.proofs.Searching.{all-parts}
 use Rattle.sml_graph.proofs.Limiting.{all-among}
 use Rattle.sml_graph.proofs.Changing.{all-fewer, has-covered, has-front, has-back, has-more, has-map, has-cases, has-two, inside-both, inside-grown, begins-one, begins-then, all-both, all-rest, first-kept, first-still, first-fewer}
@@ -49,6 +51,7 @@ padded old new m n e h l f g i =
 -- levels that are lowered
 
 pub levels-one : (ls : List (Option ℕ)) (is : List Change) (at : ℕ) (x : Option ℕ) → at < length ls → level_of x < level_at ls at → LowersLevels ls is (at ∷ []) (level_of x) (set ls at x) (is ++ record { node = at; from = 0 } ∷ [])
+unfolding Stands
 levels-one ls is at x h b =
     let new : Change = record { node = at; from = 0 } in
     let here = level-same ls at x h in
@@ -84,9 +87,9 @@ levels-then ls ms ns is js ps ks ks' a f g =
             | inl e ↦
                 elim (f.moved i) [
                   | inl q ↦ inl (e ∙ q)
-                  | inr q ↦ inr (e ∙ q.0, IsAmong-append i ks ks' q.1, has-more (IsOfAll i) js ps g.grows q.2)
+                  | inr q ↦ inr (e ∙ q.0, Standing.left i ks ks' q.1, has-more (IsOfAll i) js ps g.grows q.2)
                 ]
-            | inr e ↦ inr (e.0, IsAmong-back i ks ks' e.1, e.2)
+            | inr e ↦ inr (e.0, Standing.right i ks ks' e.1, e.2)
           ];
       grows = begins-then is js ps f.grows g.grows;
       inside = λ m. subst (λ k. AreInside k ps) len (g.inside (subst (λ k. AreInside k js) (sym len) (f.inside m)));

@@ -3,6 +3,8 @@ use Rattle.std.proofs.Common.{◌≡◌, ℕ, zero, suc, ◌+◌, ◌<◌, inl, 
 use Rattle.std.proofs.Math.ListN.{length-set}
 use Rattle.std.proofs.lemmas.List.{length-replicate}
 use Rattle.std.specs.List.{AllByRecursion}
+use Rattle.sml_objects.specs.Appearance.{Stands}
+use Rattle.sml_objects.proofs.Standing as Standing
 use Rattle.sml_graph.specs.declared.node.Node.{Node}
 use Rattle.sml_graph.specs.declared.node.Node.TheVariants.{Unknown, Link, App, Open}
 use Rattle.sml_layers.specs.Worlds.{finite}
@@ -14,21 +16,22 @@ use Rattle.sml_objects.specs.Objects.{MlType}
 use Rattle.sml_objects.specs.Labels.{with_labels}
 use Rattle.sml_layers.specs.Rows.{fields_at}
 use Rattle.sml_graph.specs.Rows.{HasFields, kids_of}
-use Rattle.sml_graph.specs.Graphs.{node_at, parts, head_over, fields_of, Agrees, IsAmong, IsSound}
-use Rattle.sml_demands.specs.Fixed.{IsMarked, IsFixedBy, IsMarkedBut, IsReach, unmarked}
+use Rattle.sml_graph.specs.Graphs.{node_at, parts, head_over, fields_of, Agrees, IsSound}
+use Rattle.sml_demands.specs.Fixed.{IsMarked, IsFixedBy, IsMarkedBut, IsReach, AreMarks, unmarked}
 use Rattle.sml_graph.proofs.Worlding.{app_parts}
 use Rattle.sml_graph.proofs.Rowing.{same-some, fields-known}
-use Rattle.sml_graph.proofs.Merging.{same_or_not, all-append, IsAmong-append, IsAmong-back}
+use Rattle.sml_graph.proofs.Merging.{same_or_not, all-append}
 use Rattle.sml_graph.proofs.Interning.{parts-inside}
 use Rattle.sml_graph.proofs.Searching.{all-parts}
-use Rattle.sml_graph.proofs.Limiting.{front-inside, among-cases}
+use Rattle.sml_graph.proofs.Limiting.{front-inside, among-cases, all-among}
 
 not-marked : (n i : ℕ) → IsMarked (replicate n false) i → ⊥
 not-marked zero i m = cc
 not-marked (suc n) zero m = cc
 not-marked (suc n) (suc i) m = not-marked n i m
 
-all-these : (P : ℕ → Type 0) (ks : List ℕ) → ((k : ℕ) → IsAmong k ks → P k) → AllByRecursion P ks
+all-these : (P : ℕ → Type 0) (ks : List ℕ) → ((k : ℕ) → Stands k ks → P k) → AllByRecursion P ks
+unfolding Stands
 all-these P [] f = tt
 all-these P (k ∷ ks) f = (f k (inl refl), all-these P ks (λ j m. f j (inr m)))
 
@@ -54,14 +57,10 @@ parts-same σ τ i (Open fs) a b e =
     let a' : HasFields finite (τ i) (fields_at σ gs) = subst (λ t. HasFields finite t (fields_at σ gs)) e a in
     same-fields σ τ (with_labels b.labels b.types) gs (fields-known finite (τ i) (fields_at τ gs) (fields_at σ gs) b a') b.fields
 
-among-part : (P : ℕ → Type 0) (ks : List ℕ) (k : ℕ) → AllByRecursion P ks → IsAmong k ks → P k
-among-part P [] k a m = absurd m
-among-part P (j ∷ ks) k a m = elim m [ inl e ↦ rw e a.0 | inr r ↦ among-part P ks k a.1 r ]
-
 pub parts-fixed : (ns : List Node) (from : List ℕ) (i : ℕ) → IsFixedBy ns from i → AllByRecursion (IsFixedBy ns from) (parts (node_at ns i))
 parts-fixed ns from i f =
     all-these (IsFixedBy ns from) (parts (node_at ns i)) (λ k m σ τ a b c.
-    among-part (λ k. σ k ≡ τ k) (parts (node_at ns i)) k (parts-same σ τ i (node_at ns i) (a i) (b i) (f σ τ a b c)) m)
+    all-among (λ k. σ k ≡ τ k) (parts (node_at ns i)) k (parts-same σ τ i (node_at ns i) (a i) (b i) (f σ τ a b c)) m)
 
 pub reach-first : (ns : List Node) (from : List ℕ) (ms : List Bool) (is : List ℕ) (n : ℕ) → AllByRecursion (λ i. i < length ns) from → ms ≡ replicate n false → n ≡ length ns → is ≡ from → IsReach ns from ms is
 reach-first ns from ms is n inside e l q =
@@ -72,7 +71,7 @@ reach-first ns from ms is n inside e l q =
       begun = all-these (IsMarkedBut ms is) from (λ k m. inr (rw q m));
       closed = λ i m. absurd (none i m);
       fixed = λ i m. absurd (none i m);
-      left = rw q (all-these (IsFixedBy ns from) from (λ k m σ τ a b c. among-part (λ k. σ k ≡ τ k) from k c m));
+      left = rw q (all-these (IsFixedBy ns from) from (λ k m σ τ a b c. all-among (λ k. σ k ≡ τ k) from k c m));
     }
 
 module _ (ns : List Node) (from : List ℕ) (ms : List Bool) (is js : List ℕ) (at : ℕ) where
@@ -107,7 +106,7 @@ module _ (ns : List Node) (from : List ℕ) (ms : List Bool) (is js : List ℕ) 
       let still : (k : ℕ) → IsMarkedBut ms is k → IsMarkedBut ls ks k = λ k b.
       elim b [
         | inl x ↦ inl (old k x)
-        | inr x ↦ elim (among-cases k js at (rw e at x)) [ inl y ↦ inr (rw g (IsAmong-append k js (parts (node_at ns at)) y)) | inr q ↦ inl (rw q here) ]
+        | inr x ↦ elim (among-cases k js at (rw e at x)) [ inl y ↦ inr (rw g (Standing.left k js (parts (node_at ns at)) y)) | inr q ↦ inl (rw q here) ]
       ] in
       let left = front-inside (IsFixedBy ns from) js at (rw e at r.left) in
       record {
@@ -116,7 +115,7 @@ module _ (ns : List Node) (from : List ℕ) (ms : List Bool) (is js : List ℕ) 
         begun = all-parts (IsMarkedBut ms is) (IsMarkedBut ls ks) from still r.begun;
         closed = λ i x.
             elim (same_or_not i at) [
-              | inl q ↦ rw q (all-these (IsMarkedBut ls ks) (parts (node_at ns at)) (λ k m. inr (rw g (IsAmong-back k js (parts (node_at ns at)) m))))
+              | inl q ↦ rw q (all-these (IsMarkedBut ls ks) (parts (node_at ns at)) (λ k m. inr (rw g (Standing.right k js (parts (node_at ns at)) m))))
               | inr n ↦ all-parts (IsMarkedBut ms is) (IsMarkedBut ls ks) (parts (node_at ns i)) still (r.closed i (sym (ap (λ xs. get_or xs i false) f ∙ get_or-set_other ms at i true false n) ∙ x))
             ];
         fixed = λ i x.
@@ -142,7 +141,19 @@ reach-less ns from ms ls is js ks at r e m f g =
     let c : length is ≡ length js + 1 = ap length e ∙ simp length-append in
     omega (arith, a, b, c)
 
-pub among-at : (xs : List ℕ) (i : ℕ) → i < length xs → IsAmong (get_or xs i 0) xs
+pub among-at : (xs : List ℕ) (i : ℕ) → i < length xs → Stands (get_or xs i 0) xs
+unfolding Stands
 among-at [] i h = absurd (omega (arith, h))
 among-at (x ∷ xs) zero h = inl refl
 among-at (x ∷ xs) (suc i) h = inr (among-at xs i (omega (arith, h)))
+
+-- where none is left to do, what was found is all
+pub reach-end : (ns : List Node) (from : List ℕ) (ms : List Bool) → IsReach ns from ms [] → AreMarks ns from ms
+unfolding Stands
+reach-end ns from ms r =
+    let found : (i : ℕ) → IsMarkedBut ms [] i → IsMarked ms i = λ i m. elim m [ inl h ↦ h | inr n ↦ absurd n ] in
+    record {
+      begun = all-parts (IsMarkedBut ms []) (IsMarked ms) from found r.begun;
+      closed = λ i m. all-parts (IsMarkedBut ms []) (IsMarked ms) (parts (node_at ns i)) found (r.closed i m);
+      fixed = r.fixed;
+    }

@@ -1,11 +1,12 @@
 -- Unknowns whose type others fix: those that are in the context of a declaration.
 use Rattle.std.specs.Prelude.{◌≡◌, ℕ, suc, ◌+◌, ◌<◌, ◌⊎◌, map, Bool, true, false, cond, List, [], ◌∷◌, length, slice_index, slice_index_or}
 use Rattle.std.specs.List.{AllByRecursion}
+use Rattle.sml_objects.specs.Appearance.{Stands}
 use Rattle.sml_layers.specs.declared.layer.Layer.TheVariants.{Finiteness}
 use Rattle.sml_graph.specs.declared.node.Node.{Node}
 use Rattle.sml_layers.specs.Worlds.{finite}
 use Rattle.sml_graph.specs.Worlds.{Assignment}
-use Rattle.sml_graph.specs.Graphs.{node_at, parts, Meets, IsAmong}
+use Rattle.sml_graph.specs.Graphs.{node_at, parts, Meets}
 use Rattle.sml_graph.specs.Asked.{Asked, count, Permits}
 use Rattle.sml_demands.specs.Left.{IsUndetermined}
 
@@ -30,7 +31,7 @@ abbrev pub IsFixedBy : List Node → List ℕ → ℕ → Type 0
 IsFixedBy ns is i = (σ τ : Assignment finite) → Meets finite ns σ → Meets finite ns τ → AllByRecursion (λ k. σ k ≡ τ k) is → σ i ≡ τ i
 
 abbrev pub IsMarkedBut : List Bool → List ℕ → ℕ → Type 0
-IsMarkedBut ms is i = IsMarked ms i ⊎ IsAmong i is
+IsMarkedBut ms is i = IsMarked ms i ⊎ Stands i is
 
 -- The way to all nodes that some lead to: those with a mark were found, and others are left to do.
 pub record IsReach (ns : List Node) (from : List ℕ) (ms : List Bool) (is : List ℕ) : Type 0 where

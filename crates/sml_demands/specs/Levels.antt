@@ -1,12 +1,13 @@
 -- The oldest unknowns that lead to nodes.
 use Rattle.std.specs.Prelude.{◌≡◌, ◌≢◌, ℕ, ◌+◌, ◌-◌, ◌<◌, ◌≤◌, ◌^◌, ◌⊎◌, ◌↔◌, Bool, List, [], ◌∷◌, length, take, Option, Some, None, slice_index, slice_index_or}
 use Rattle.std.specs.List.{AllByRecursion}
+use Rattle.sml_objects.specs.Appearance.{Stands}
 use Rattle.sml_graph.specs.declared.graph.Graph.{Graph}
 use Rattle.sml_graph.specs.declared.change.Change.{Change}
 use Rattle.sml_graph.specs.declared.node.Node.{Node}
 use Rattle.sml_layers.specs.Worlds.{finite}
 use Rattle.sml_graph.specs.Worlds.{Assignment}
-use Rattle.sml_graph.specs.Graphs.{node_at, parts, Meets, IsAmong, IsSame, IsRoot}
+use Rattle.sml_graph.specs.Graphs.{node_at, parts, Meets, IsSame, IsRoot}
 use Rattle.sml_graph.specs.Changes.{HasChange, BeginsWith, IsChange, IsOfAll, AreInside}
 use Rattle.sml_demands.specs.Fixed.{IsFixedBy, IsMarked}
 use Rattle.sml_graph.specs.Whole.{IsKept}
@@ -89,7 +90,7 @@ pub record LowersLevels (ls : List (Option ℕ)) (bs : List Change) (ks : List �
   pub len : length ms ≡ length ls
   pub reach : AreAtMost ms a ks
   pub under : (i : ℕ) → level_at ms i ≤ level_at ls i
-  pub moved : (i : ℕ) → (level_at ms i ≡ level_at ls i) ⊎ ((level_at ms i ≡ a) × IsAmong i ks × HasChange (IsOfAll i) cs)
+  pub moved : (i : ℕ) → (level_at ms i ≡ level_at ls i) ⊎ ((level_at ms i ≡ a) × Stands i ks × HasChange (IsOfAll i) cs)
   pub grows : BeginsWith bs cs
   pub inside : AreInside (length ls) bs → AreInside (length ls) cs
   pub less : levels_sum ms + length cs ≤ levels_sum ls + length bs

@@ -3,7 +3,8 @@
 ghost use Rattle.std.specs.Prelude.{◌≡◌, ℕ, ◌<◌, [], length, IfOk};
 ghost use Rattle.std.specs.Bool.{OnTrue, OnFalse};
 ghost use Rattle.std.specs.List.{AllByRecursion};
-ghost use Rattle.sml_graph.specs.Graphs.{IsAmong, IsSound};
+ghost use Rattle.sml_objects.specs.Appearance.{Stands};
+ghost use Rattle.sml_graph.specs.Graphs.{IsSound};
 ghost use Rattle.sml_demands.specs.Fixed.{IsMarked, IsReach, AreMarks, places_of};
 
 use sml_graph::node::{Node, push_parts};
@@ -56,7 +57,7 @@ pub fn places(alloc: Global, unknowns: &[usize], others: &[u32]) -> Result<Vec<u
 /// Whether one of some unknowns has a flag.
 pub fn has_flag(flags: &[bool], unknowns: &[u32]) -> bool
     requires { AllByRecursion (λ v. v < length flags.now) unknowns.now }
-    ensures yes { OnTrue result ((v : ℕ) × IsAmong v unknowns.now × IsMarked flags.now v) }
+    ensures yes { OnTrue result ((v : ℕ) × Stands v unknowns.now × IsMarked flags.now v) }
     ensures no { OnFalse result (AllByRecursion (λ v. IsMarked flags.now v → ⊥) unknowns.now) }
 {
     for unknown in unknowns {

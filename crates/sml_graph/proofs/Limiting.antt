@@ -3,6 +3,8 @@ use Rattle.std.proofs.Common.{◌≡◌, ◌≢◌, ℕ, zero, suc, ◌+◌, ◌
 use Rattle.std.proofs.Math.ListN.{length-set}
 use Rattle.std.specs.List.{AllByRecursion}
 use Rattle.std.specs.Option.{IfSome}
+use Rattle.sml_objects.specs.Appearance.{Stands}
+use Rattle.sml_objects.proofs.Standing as Standing
 use Rattle.sml_objects.specs.Initial.{Name}
 use Rattle.sml_objects.specs.Objects.{MlType}
 use Rattle.sml_layers.specs.declared.layer.Layer.{Layer}
@@ -13,10 +15,10 @@ use Rattle.sml_graph.specs.declared.node.Node.{Node}
 use Rattle.sml_graph.specs.declared.node.Node.TheVariants.{Unknown, Link, App, Open}
 use Rattle.sml_layers.specs.Worlds.{finite}
 use Rattle.sml_graph.specs.Worlds.{Assignment}
-use Rattle.sml_graph.specs.Graphs.{node_at, parts, head_over, IsAmong}
+use Rattle.sml_graph.specs.Graphs.{node_at, parts, head_over}
 use Rattle.sml_graph.specs.Changes.{IsOfAll, IsOpenRow, IsAlike, KeepsFirst, AreInside}
 use Rattle.sml_graph.specs.Limits.{no_limit, limit_at, MeetsEquality, MeetsAt, KeepsAt, IsUnder, IsOfBoth, both, IsFitNode, asks_parts, handed, AreUnder, IsClosedNode, IsClosedTo, IsClosed, IsFit, IsBefore, IsDoneBut, SameLimits, NoneKeeps, height, heights, Lowers}
-use Rattle.sml_graph.proofs.Merging.{same_or_not, all-append, IsAmong-append, IsAmong-back}
+use Rattle.sml_graph.proofs.Merging.{same_or_not, all-append}
 use Rattle.sml_graph.proofs.Changing.{has-back, has-more, has-map, has-cases, inside-both, begins-self, begins-one, begins-then, all-first, all-both, all-rest}
 use Rattle.sml_graph.proofs.Searching.{all-parts}
 use Rattle.sml_graph.proofs.Asking.{both-left, both-right, both-meets, none-meets, node-fits, node-parts}
@@ -63,6 +65,7 @@ lowers-low ls is at a e = record {
 }
 
 pub lowers-one : (ls : List Limit) (is : List Change) (at : ℕ) (a x : Limit) → at < length ls → x ≡ both (limit_at ls at) a → height x < height (limit_at ls at) → Lowers ls is (at ∷ []) a (set ls at x) (is ++ record { node = at; from = 0 } ∷ [])
+unfolding Stands
 lowers-one ls is at a x h e b = record {
   len = length-set ls at x;
   reach = (rw (limit-same ls at x h, e) (both-right (limit_at ls at) a), tt);
@@ -95,12 +98,12 @@ lowers-then ls ms ns is js ps ks ks' a f g =
             | inl e ↦
                 elim (f.moved i) [
                   | inl q ↦ inl (e ∙ q)
-                  | inr q ↦ inr (rw e q.0, IsAmong-append i ks ks' q.1, has-more (IsOfAll i) js ps g.grows q.2)
+                  | inr q ↦ inr (rw e q.0, Standing.left i ks ks' q.1, has-more (IsOfAll i) js ps g.grows q.2)
                 ]
             | inr e ↦
                 elim (f.moved i) [
-                  | inl q ↦ inr (subst (λ z. IsOfBoth z a (limit_at ns i)) q e.0, IsAmong-back i ks ks' e.1, e.2)
-                  | inr q ↦ inr (λ l u t v w. e.0 l u t (q.0 l u t v w) w, IsAmong-back i ks ks' e.1, e.2)
+                  | inl q ↦ inr (subst (λ z. IsOfBoth z a (limit_at ns i)) q e.0, Standing.right i ks ks' e.1, e.2)
+                  | inr q ↦ inr (λ l u t v w. e.0 l u t (q.0 l u t v w) w, Standing.right i ks ks' e.1, e.2)
                 ]
           ];
       grows = begins-then is js ps f.grows g.grows;
@@ -125,7 +128,8 @@ left-all ls i x c o = (o.0, rw o.1 tt)
 rest-done : (ls : List Limit) (i : ℕ) (x : Node) (c : Change) → IsClosedTo ls i x c → AreUnder ls (handed x (limit_at ls i)) (drop c.from (parts x)) → IsClosedNode ls i x
 rest-done ls i x c a b = all-both (λ k. IsUnder (limit_at ls k) (handed x (limit_at ls i))) c.from (parts x) a.1 b
 
-pub among-cases : (i : ℕ) (xs : List ℕ) (x : ℕ) → IsAmong i (xs ++ x ∷ []) → IsAmong i xs ⊎ (i ≡ x)
+pub among-cases : (i : ℕ) (xs : List ℕ) (x : ℕ) → Stands i (xs ++ x ∷ []) → Stands i xs ⊎ (i ≡ x)
+unfolding Stands
 among-cases i [] x a = elim a [ inl e ↦ inr e | inr r ↦ absurd r ]
 among-cases i (y ∷ xs) x a =
     elim a [
@@ -137,7 +141,8 @@ pub front-inside : {A : Type 0} (P : A → Type 0) (xs : List A) (x : A) → All
 front-inside P [] x a = (tt, a.0)
 front-inside P (y ∷ xs) x a = let r = front-inside P xs x a.1 in ((a.0, r.0), r.1)
 
-pub all-among : (P : ℕ → Type 0) (ks : List ℕ) (i : ℕ) → AllByRecursion P ks → IsAmong i ks → P i
+pub all-among : (P : ℕ → Type 0) (ks : List ℕ) (i : ℕ) → AllByRecursion P ks → Stands i ks → P i
+unfolding Stands
 all-among P [] i a m = absurd m
 all-among P (k ∷ ks) i a m = elim m [ inl e ↦ rw e a.0 | inr r ↦ all-among P ks i a.1 r ]
 
@@ -212,6 +217,7 @@ but-lowered u a ns ls ms ks js c f low i =
     ]
 
 pub lowered-keeps : (l : Layer) (u : ℕ) (a : Limit) (r : ℕ) (ls ms : List Limit) (js : List Change) (τ : Assignment finite) → Lowers ls [] (r ∷ []) a ms js → KeepsAt l u ls τ → MeetsAt l u a (τ r) → KeepsAt l u ms τ
+unfolding Stands
 lowered-keeps l u a r ls ms js τ low k w i =
     elim (low.moved i) [
       | inl q ↦ rw q (k i)

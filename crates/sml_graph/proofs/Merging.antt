@@ -30,7 +30,7 @@ use Rattle.sml_graph.specs.Worlds.{In, Assignment}
 use Rattle.sml_objects.specs.Labels.{with_labels}
 use Rattle.sml_layers.specs.Rows.{fields_at}
 use Rattle.sml_graph.specs.Rows.{HasFields, IsField, kids_of}
-use Rattle.sml_graph.specs.Graphs.{head_over, node_at, Agrees, Meets, MeetsPairs, pairs_of, SameSolutions, HasNoSolution, IsSound, IsSoundNode, ArePairsIn, IsRootNode, IsSame, IsKnown, size, weight, Merges, AreApart, Joins, JoinsFields, JoinsRow, LacksLabel, fields_of, IsAmong, Leads}
+use Rattle.sml_graph.specs.Graphs.{head_over, node_at, Agrees, Meets, MeetsPairs, pairs_of, SameSolutions, HasNoSolution, IsSound, IsSoundNode, ArePairsIn, IsRootNode, IsSame, IsKnown, size, weight, Merges, AreApart, Joins, JoinsFields, JoinsRow, LacksLabel, fields_of, Leads}
 use Rattle.sml_graph.proofs.Worlding.{app_head, app_parts}
 use Rattle.sml_graph.proofs.Rowing.{Key, same-some, none-some, row-found, row-labels, labels-map, lookup-at, all-front, all-back, fields-known, has-these, has-front, has-back, has-both, field-found}
 
@@ -540,14 +540,6 @@ others-set ns high low n i a b = node_at-other ns high i n a
 
 pub others-sets : (ns : List Node) (high low : ℕ) (n m : Node) → (i : ℕ) → i ≢ high → i ≢ low → node_at (set (set ns high n) low m) i ≡ node_at ns i
 others-sets ns high low n m i a b = node_at-other (set ns high n) low i m b ∙ node_at-other ns high i n a
-
-pub IsAmong-append : (i : ℕ) (xs ys : List ℕ) → IsAmong i xs → IsAmong i (xs ++ ys)
-IsAmong-append i [] ys a = absurd a
-IsAmong-append i (x ∷ xs) ys a = elim a [ inl e ↦ inl e | inr r ↦ inr (IsAmong-append i xs ys r) ]
-
-pub IsAmong-back : (i : ℕ) (xs ys : List ℕ) → IsAmong i ys → IsAmong i (xs ++ ys)
-IsAmong-back i [] ys a = a
-IsAmong-back i (x ∷ xs) ys a = inr (IsAmong-back i xs ys a)
 
 pub on_ok : {T E : Type 0} (r : Result T E) (P Q : Type 0) → OnOk r P → (P → Q) → OnOk r Q
 on_ok (Ok x) P Q a f = f a

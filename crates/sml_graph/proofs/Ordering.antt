@@ -2,12 +2,14 @@
 use Rattle.std.proofs.Common.{◌≡◌, ℕ, ◌+◌, ◌<◌, ◌≤◌, ◌⊎◌, inl, inr, List, [], ◌∷◌, ◌++◌, length, take, drop, ap, refl, arith}
 use Rattle.std.proofs.lemmas.Bool.{cases_lt}
 use Rattle.std.specs.List.{AllByRecursion}
+use Rattle.sml_objects.specs.Appearance.{Stands}
+use Rattle.sml_objects.proofs.Standing as Standing
 use Rattle.sml_graph.specs.declared.change.Change.{Change}
 use Rattle.sml_graph.specs.declared.node.Node.{Node}
-use Rattle.sml_graph.specs.Graphs.{node_at, parts, IsAmong}
+use Rattle.sml_graph.specs.Graphs.{node_at, parts}
 use Rattle.sml_graph.specs.Changes.{IsChange, SameOutside}
 use Rattle.sml_graph.specs.Ranks.{HasRank, no_order, order_at, AreBelow, AreOrdered, IsOrderedTo, AreOrderedBut, AreOrderedBeside, FindsUnordered, IsFoundIn, AreFrom, IsDone, IsSearch, Gives}
-use Rattle.sml_graph.proofs.Merging.{same_or_not, all-append, IsAmong-append, IsAmong-back}
+use Rattle.sml_graph.proofs.Merging.{same_or_not, all-append}
 use Rattle.sml_graph.proofs.Changing.{has-map, has-all, all-changes, all-both, first-kept}
 use Rattle.sml_graph.proofs.Limiting.{all-among}
 use Rattle.sml_graph.proofs.Searching.{all-parts}
@@ -17,23 +19,24 @@ use Rattle.sml_graph.proofs.Searching.{all-parts}
 pub finds-none : (os is : List ℕ) (n : ℕ) → FindsUnordered os [] n is is
 finds-none os is n = record { grows = λ i m. m; inside = λ a. a; found = tt }
 
-all-found : (os is js : List ℕ) (n : ℕ) (ks : List ℕ) → ((i : ℕ) → IsAmong i is → IsAmong i js) → AllByRecursion (λ k. (order_at os k < n) ⊎ IsAmong k is) ks → AllByRecursion (λ k. (order_at os k < n) ⊎ IsAmong k js) ks
-all-found os is js n ks g a = all-parts (λ k. (order_at os k < n) ⊎ IsAmong k is) (λ k. (order_at os k < n) ⊎ IsAmong k js) ks (λ k h. elim h [ inl l ↦ inl l | inr m ↦ inr (g k m) ]) a
+all-found : (os is js : List ℕ) (n : ℕ) (ks : List ℕ) → ((i : ℕ) → Stands i is → Stands i js) → AllByRecursion (λ k. (order_at os k < n) ⊎ Stands k is) ks → AllByRecursion (λ k. (order_at os k < n) ⊎ Stands k js) ks
+all-found os is js n ks g a = all-parts (λ k. (order_at os k < n) ⊎ Stands k is) (λ k. (order_at os k < n) ⊎ Stands k js) ks (λ k h. elim h [ inl l ↦ inl l | inr m ↦ inr (g k m) ]) a
 
 pub finds-more : (os ks ls is js hs : List ℕ) (k n : ℕ) → FindsUnordered os ks n hs is → ls ≡ ks ++ k ∷ [] → js ≡ is ++ k ∷ [] → k < length os → FindsUnordered os ls n hs js
+unfolding Stands
 finds-more os ks ls is js hs k n f e q l = rw (e, q) record {
-  grows = λ i m. IsAmong-append i is (k ∷ []) (f.grows i m);
+  grows = λ i m. Standing.left i is (k ∷ []) (f.grows i m);
   inside = λ a. all-append (λ i. i < length os) is (k ∷ []) (f.inside a) (l, tt);
   found =
-      let P : ℕ → Type 0 = λ j. (order_at os j < n) ⊎ IsAmong j (is ++ k ∷ []) in
-      all-append P ks (k ∷ []) (all-found os is (is ++ k ∷ []) n ks (λ i m. IsAmong-append i is (k ∷ []) m) f.found) (inr (IsAmong-back k is (k ∷ []) (inl refl)), tt);
+      let P : ℕ → Type 0 = λ j. (order_at os j < n) ⊎ Stands j (is ++ k ∷ []) in
+      all-append P ks (k ∷ []) (all-found os is (is ++ k ∷ []) n ks (λ i m. Standing.left i is (k ∷ []) m) f.found) (inr (Standing.right k is (k ∷ []) (inl refl)), tt);
 }
 
 pub finds-below : (os ks ls is hs : List ℕ) (k n : ℕ) → FindsUnordered os ks n hs is → ls ≡ ks ++ k ∷ [] → order_at os k < n → FindsUnordered os ls n hs is
 finds-below os ks ls is hs k n f e l = rw e record {
   grows = f.grows;
   inside = f.inside;
-  found = all-append (λ j. (order_at os j < n) ⊎ IsAmong j is) ks (k ∷ []) f.found (inl l, tt);
+  found = all-append (λ j. (order_at os j < n) ⊎ Stands j is) ks (k ∷ []) f.found (inl l, tt);
 }
 
 pub rest-more : (ns : List Node) (os is js : List ℕ) (bs cs : List Change) (c : Change) → AllByRecursion (IsFoundIn ns os is) bs → cs ≡ bs ++ c ∷ [] → FindsUnordered os (drop c.from (parts (node_at ns c.node))) (order_at os c.node) is js → AllByRecursion (IsFoundIn ns os js) cs
@@ -75,18 +78,19 @@ ordered-new ns low os ps cs a s g i h =
 -- what is left to do is among the parts that were found
 pub ordered-beside : (ns : List Node) (os : List ℕ) (cs : List Change) (js : List ℕ) → ((i : ℕ) → 0 < order_at os i) → AreOrderedBut ns os cs → AllByRecursion (IsFoundIn ns os js) cs → AreOrderedBeside ns os js
 ordered-beside ns os cs js p a r i h =
-    let P : ℕ → Type 0 = λ k. ((0 < order_at os k) × (order_at os k < order_at os i)) ⊎ IsAmong k js in
+    let P : ℕ → Type 0 = λ k. ((0 < order_at os k) × (order_at os k < order_at os i)) ⊎ Stands k js in
     let own : (ks : List ℕ) → AreBelow os i ks → AllByRecursion P ks = λ ks o. all-parts (λ k. (0 < order_at os k) × (order_at os k < order_at os i)) P ks (λ k x. inl x) o in
     elim (a i h) [
       | inl o ↦ own (parts (node_at ns i)) o
       | inr m ↦ has-all (IsFoundIn ns os js) (IsOrderedTo ns os i) (AllByRecursion P (parts (node_at ns i))) cs (λ c f x.
-          let new : AllByRecursion (λ k. (order_at os k < order_at os i) ⊎ IsAmong k js) (drop c.from (parts (node_at ns i))) = rw x.0 at f in
+          let new : AllByRecursion (λ k. (order_at os k < order_at os i) ⊎ Stands k js) (drop c.from (parts (node_at ns i))) = rw x.0 at f in
           all-both P c.from (parts (node_at ns i)) (own (take c.from (parts (node_at ns i))) x.1)
-          (all-parts (λ k. (order_at os k < order_at os i) ⊎ IsAmong k js) P (drop c.from (parts (node_at ns i))) (λ k y. elim y [ inl l ↦ inl (p k, l) | inr z ↦ inr z ]) new)) r m
+          (all-parts (λ k. (order_at os k < order_at os i) ⊎ Stands k js) P (drop c.from (parts (node_at ns i))) (λ k y. elim y [ inl l ↦ inl (p k, l) | inr z ↦ inr z ]) new)) r m
     ]
 
 pub ordered-none : (ns : List Node) (os is : List ℕ) → length is ≡ 0 → AreOrderedBeside ns os is → AreOrdered ns os
-ordered-none ns os [] e a i h = all-parts (λ k. ((0 < order_at os k) × (order_at os k < order_at os i)) ⊎ IsAmong k []) (λ k. (0 < order_at os k) × (order_at os k < order_at os i)) (parts (node_at ns i)) (λ k x. elim x [ inl o ↦ o | inr m ↦ absurd m ]) (a i h)
+unfolding Stands
+ordered-none ns os [] e a i h = all-parts (λ k. ((0 < order_at os k) × (order_at os k < order_at os i)) ⊎ Stands k []) (λ k. (0 < order_at os k) × (order_at os k < order_at os i)) (parts (node_at ns i)) (λ k x. elim x [ inl o ↦ o | inr m ↦ absurd m ]) (a i h)
 ordered-none ns os (k ∷ is) e a i h = absurd (omega (arith, e))
 
 -- a search below all orders, from all parts that aren't below their nodes
@@ -97,7 +101,7 @@ ordered-below ns low b os ps is f a s d g i h =
       | inl q ↦
           let l : order_at os i < no_order = omega (arith, q, h) in
           let high = f i in
-          all-parts (λ k. ((0 < order_at os k) × (order_at os k < order_at os i)) ⊎ IsAmong k is) (λ k. (0 < order_at ps k) × (order_at ps k < order_at ps i)) (parts (node_at ns i)) (λ k x.
+          all-parts (λ k. ((0 < order_at os k) × (order_at os k < order_at os i)) ⊎ Stands k is) (λ k. (0 < order_at ps k) × (order_at ps k < order_at ps i)) (parts (node_at ns i)) (λ k x.
           elim x [
             | inr m ↦ let y = all-among (λ i. IsDone b (order_at ps i)) is k d m in let w = y.1 in (y.0, omega (arith, w, q, high))
             | inl o ↦
@@ -121,8 +125,8 @@ changed-ordered ns ms os cs a o i h =
 abbrev pub IsNumbered : List ℕ → Change → Type 0
 IsNumbered os c = order_at os c.node < no_order
 
-pub has-new : (os is : List ℕ) (cs : List Change) → AllByRecursion (λ c. IsAmong c.node is) cs → AllByRecursion (λ i. IsDone no_order (order_at os i)) is → AllByRecursion (IsNumbered os) cs
-has-new os is cs a d = all-changes (λ c. IsAmong c.node is) (IsNumbered os) cs (λ c m. (all-among (λ i. IsDone no_order (order_at os i)) is c.node d m).1) a
+pub has-new : (os is : List ℕ) (cs : List Change) → AllByRecursion (λ c. Stands c.node is) cs → AllByRecursion (λ i. IsDone no_order (order_at os i)) is → AllByRecursion (IsNumbered os) cs
+has-new os is cs a d = all-changes (λ c. Stands c.node is) (IsNumbered os) cs (λ c m. (all-among (λ i. IsDone no_order (order_at os i)) is c.node d m).1) a
 
 pub has-below : (ns : List Node) (low b : ℕ) (os ps : List ℕ) (cs : List Change) → AreFrom b os → IsSearch ns b ps [] → Gives ns low b os ps → AllByRecursion (IsNumbered os) cs → AllByRecursion (IsNumbered ps) cs
 has-below ns low b os ps cs f s g a =

@@ -181,6 +181,3 @@ pub record Leads (ns ms : List Node) : Type 0 where
   pub roots : (i : ℕ) → IsRoot ns i → node_at ms i ≡ node_at ns i
   pub same : (w : World) (σ : Assignment w) → Meets w ns σ ↔ Meets w ms σ
 
-abbrev pub IsAmong : ℕ → List ℕ → Type 0
-IsAmong i [] = ⊥
-IsAmong i (x ∷ xs) = (i ≡ x) ⊎ IsAmong i xs

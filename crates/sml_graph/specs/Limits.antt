@@ -1,6 +1,7 @@
 -- What is asked of the type of each node, layer by layer, and what follows for the types of its parts.
 use Rattle.std.specs.Prelude.{◌≡◌, ℕ, ◌+◌, ◌<◌, ◌≤◌, ◌^◌, ◌↔◌, ◌⊎◌, Bool, true, false, not, ◌&&◌, ◌||◌, cond, nat_lt, List, [], ◌∷◌, length, take, Option, Some, None, slice_index_or}
 use Rattle.std.specs.List.{AllByRecursion}
+use Rattle.sml_objects.specs.Appearance.{Stands}
 use Rattle.sml_objects.specs.Names.{Initial}
 use Rattle.sml_objects.specs.Initial.{Name, initial, naming, attributes_of}
 use Rattle.sml_objects.specs.Equality.{admits, is_reference_name}
@@ -14,7 +15,7 @@ use Rattle.sml_graph.specs.declared.node.Node.{Node}
 use Rattle.sml_graph.specs.declared.node.Node.TheVariants.{Unknown, Link, App, Open}
 use Rattle.sml_layers.specs.Worlds.{finite}
 use Rattle.sml_graph.specs.Worlds.{Assignment}
-use Rattle.sml_graph.specs.Graphs.{node_at, head_over, parts, Meets, IsAmong}
+use Rattle.sml_graph.specs.Graphs.{node_at, head_over, parts, Meets}
 use Rattle.sml_graph.specs.Changes.{HasChange, BeginsWith, IsOfAll, AreInside}
 use Rattle.sml_graph.specs.Bounds.{IsWithin, IsHeadWithin}
 use Rattle.sml_layers.specs.Classes.{allows, both_names}
@@ -204,7 +205,7 @@ pub record Lowers (ls : List Limit) (bs : List Change) (ks : List ℕ) (a : Limi
   pub len : length ms ≡ length ls
   pub reach : AreUnder ms a ks
   pub under : (i : ℕ) → IsUnder (limit_at ms i) (limit_at ls i)
-  pub moved : (i : ℕ) → (limit_at ms i ≡ limit_at ls i) ⊎ (IsOfBoth (limit_at ls i) a (limit_at ms i) × IsAmong i ks × HasChange (IsOfAll i) cs)
+  pub moved : (i : ℕ) → (limit_at ms i ≡ limit_at ls i) ⊎ (IsOfBoth (limit_at ls i) a (limit_at ms i) × Stands i ks × HasChange (IsOfAll i) cs)
   pub grows : BeginsWith bs cs
   pub inside : AreInside (length ls) bs → AreInside (length ls) cs
   pub less : heights ms + length cs ≤ heights ls + length bs

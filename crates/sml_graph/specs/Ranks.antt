@@ -1,12 +1,13 @@
 -- Whether finite types meet the nodes, and orders of nodes, which show it.
 use Rattle.std.specs.Prelude.{◌≡◌, ℕ, suc, ◌+◌, ◌<◌, ◌≤◌, ◌⊎◌, List, [], ◌∷◌, length, take, drop, slice_index, slice_index_or, cond, nat_lt, ◌-◌}
 use Rattle.std.specs.List.{AllByRecursion}
+use Rattle.sml_objects.specs.Appearance.{Stands}
 use Rattle.sml_graph.specs.declared.finite.Visit.{Visit}
 use Rattle.sml_graph.specs.declared.change.Change.{Change}
 use Rattle.sml_graph.specs.declared.node.Node.{Node}
 use Rattle.sml_layers.specs.Worlds.{finite}
 use Rattle.sml_graph.specs.Worlds.{Assignment}
-use Rattle.sml_graph.specs.Graphs.{node_at, parts, Meets, IsAmong}
+use Rattle.sml_graph.specs.Graphs.{node_at, parts, Meets}
 use Rattle.sml_graph.specs.Changes.{HasChange}
 
 abbrev pub HasFinite : List Node → Type 0
@@ -54,17 +55,17 @@ AreOrderedBut ns os cs = (i : ℕ) → order_at os i < no_order → IsOrdered ns
 -- the same, but for parts that are some of these
 abbrev pub AreOrderedBeside : List Node → List ℕ → List ℕ → Type 0
 AreOrderedBeside ns os is =
-    (i : ℕ) → order_at os i < no_order → AllByRecursion (λ k. ((0 < order_at os k) × (order_at os k < order_at os i)) ⊎ IsAmong k is) (parts (node_at ns i))
+    (i : ℕ) → order_at os i < no_order → AllByRecursion (λ k. ((0 < order_at os k) × (order_at os k < order_at os i)) ⊎ Stands k is) (parts (node_at ns i))
 
 -- those of some parts that aren't below an order are added to others
 pub record FindsUnordered (os : List ℕ) (ks : List ℕ) (n : ℕ) (is js : List ℕ) : Type 0 where
-  pub grows : (i : ℕ) → IsAmong i is → IsAmong i js
+  pub grows : (i : ℕ) → Stands i is → Stands i js
   pub inside : AllByRecursion (λ i. i < length os) is → AllByRecursion (λ i. i < length os) js
-  pub found : AllByRecursion (λ k. (order_at os k < n) ⊎ IsAmong k js) ks
+  pub found : AllByRecursion (λ k. (order_at os k < n) ⊎ Stands k js) ks
 
 -- the new parts of what was changed are below their nodes, but for those that are some of these
 abbrev pub IsFoundIn : List Node → List ℕ → List ℕ → Change → Type 0
-IsFoundIn ns os is c = AllByRecursion (λ k. (order_at os k < order_at os c.node) ⊎ IsAmong k is) (drop c.from (parts (node_at ns c.node)))
+IsFoundIn ns os is c = AllByRecursion (λ k. (order_at os k < order_at os c.node) ⊎ Stands k is) (drop c.from (parts (node_at ns c.node)))
 
 -- all orders are at or above the bottom
 abbrev pub AreFrom : ℕ → List ℕ → Type 0

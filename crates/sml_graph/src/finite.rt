@@ -4,8 +4,9 @@ ghost use Rattle.std.specs.Prelude.{◌≡◌, ℕ, ◌+◌, ◌^◌, ◌<◌, �
 ghost use Rattle.std.specs.Bool.{OnTrue, OnFalse};
 ghost use Rattle.std.specs.Option.{IfSome, IfNone};
 ghost use Rattle.std.specs.List.{AllByRecursion};
+ghost use Rattle.sml_objects.specs.Appearance.{Stands};
 ghost use Rattle.sml_graph.specs.declared.node.Node.{Node};
-ghost use Rattle.sml_graph.specs.Graphs.{IsAmong, IsSound, parts};
+ghost use Rattle.sml_graph.specs.Graphs.{IsSound, parts};
 ghost use Rattle.sml_graph.specs.Changes.{SameOutside, AreInside};
 ghost use Rattle.sml_graph.specs.Ranks.{HasRank, AreFrom, AreOrdered, AreOrderedBut, Gives, IsDone, IsSearch, order_at};
 
@@ -121,7 +122,7 @@ fn with_parts(alloc: Global, nodes: &[Node], changed: &[Change]) -> Result<Vec<u
     requires sound { IsSound nodes.now }
     requires inside { AreInside (length nodes.now) changed.now }
     ensures inside { IfOk result (λ all. AllByRecursion (λ i. i < length nodes.now) all.items) }
-    ensures changed { IfOk result (λ all. AllByRecursion (λ c. IsAmong c.node all.items) changed.now) }
+    ensures changed { IfOk result (λ all. AllByRecursion (λ c. Stands c.node all.items) changed.now) }
 {
     let mut all = Vec::new(alloc);
     for change in changed {

@@ -14,7 +14,7 @@ use Rattle.sml_graph.specs.Interned.{through}
 use Rattle.sml_graph.specs.Ranks.{IsRanked, HasRank}
 use Rattle.sml_graph.specs.Asked.{Asked, asked_of}
 use Rattle.sml_demands.specs.Left.{IsUndetermined}
-use Rattle.sml_demands.specs.Fixed.{IsFixed, IsMarked, IsMarkedBut, IsReach, AreMarks, AreFixed, places_of}
+use Rattle.sml_demands.specs.Fixed.{IsFixed, IsMarked, AreMarks, AreFixed, places_of}
 use Rattle.sml_demands.specs.Levels.{level_at, IsHeld, AreHeld, IsKeptWith}
 use Rattle.sml_demands.proofs.Levelling.{none-left}
 use Rattle.sml_graph.proofs.Interning.{inside-at}
@@ -71,20 +71,6 @@ mapped-all P f (w ∷ ws) a = (a.0, mapped-all P f ws a.1)
 
 pub places-inside : (m : ℕ) (us : List ℕ) (ws : List ℕ) → AllByRecursion (λ i. i < m) us → AllByRecursion (λ w. w < length us) ws → AllByRecursion (λ i. i < m) (places_of us ws)
 places-inside m us ws a b = all-mapped (λ i. i < m) (λ w. get_or us w 0) ws (all-parts (λ w. w < length us) (λ w. get_or us w 0 < m) ws (λ w l. inside-at m us w a l) b)
-
-pub marks-none : (ns : List Node) (from : List ℕ) (ms : List Bool) → from ≡ [] → ms ≡ [] → AreMarks ns from ms
-marks-none ns from ms e f =
-    let none : (i : ℕ) → IsMarked ms i → ⊥ = λ i m. let z : false ≡ true = rw f at m in cc in
-    record { begun = rw e tt; closed = λ i m. absurd (none i m); fixed = λ i m. absurd (none i m) }
-
-pub marks-are : (ns : List Node) (from : List ℕ) (ms : List Bool) → IsReach ns from ms [] → AreMarks ns from ms
-marks-are ns from ms x =
-    let one : (i : ℕ) → IsMarkedBut ms [] i → IsMarked ms i = λ i w. elim w [ inl y ↦ y | inr y ↦ absurd y ] in
-    record {
-      begun = all-parts (IsMarkedBut ms []) (IsMarked ms) from one x.begun;
-      closed = λ i m. all-parts (IsMarkedBut ms []) (IsMarked ms) (parts (node_at ns i)) one (x.closed i m);
-      fixed = x.fixed;
-    }
 
 first-fixed : (s : Asked) (n : ℕ) (ws : List ℕ) (v : ℕ) → v < n → IsFixed s n ws v
 unfolding IsFixed

@@ -5,6 +5,7 @@ ghost use Rattle.std.specs.Bool.{OnTrue, OnFalse};
 ghost use Rattle.std.specs.Coded.{codes};
 ghost use Rattle.std.specs.List.{AllByRecursion};
 ghost use Rattle.std.specs.Option.{IfSome, IfNone};
+ghost use Rattle.sml_objects.specs.Appearance.{Stands};
 ghost use Rattle.sml_objects.specs.Initial.{Name, initial};
 ghost use Rattle.sml_objects.specs.Names.{int};
 ghost use Rattle.sml_objects.specs.Objects as O;
@@ -23,7 +24,6 @@ ghost use Rattle.sml_solve.specs.Calls.{Demands, Keeps, Returns};
 ghost use Rattle.sml_solve.specs.Clashes.{IsUnmetWhereItClashes};
 ghost use Rattle.sml_demands.specs.Counted.{IsSizeUpTo};
 ghost use Rattle.sml_demands.specs.Fixed.{AreFixed, IsFixed};
-ghost use Rattle.sml_graph.specs.Graphs.{IsAmong};
 ghost use Rattle.sml_graph.specs.Interned.{demanded};
 ghost use Rattle.sml_demands.specs.Left.{HasOneSetOfLabels, IsFree, IsLeft, IsMadeOf, IsReading, IsMostGeneral};
 ghost use Rattle.sml_demands.specs.Levels.{IsKeptWith};
@@ -261,7 +261,7 @@ impl Solver {
         requires first { first ≤ count self.old }
         requires others { AllByRecursion (λ w. w < count self.old) others.now }
         ensures general { OnOk result (AllByRecursion (λ v. IsFree self.old v → IsFixed self.old first others.now v → ⊥) variables.now) }
-        ensures unmet { (l : Layer) → result ≡ Err (Refusal.Unmet l) → (l ≡ Layer.Rigidity) × (v : ℕ) × IsAmong v variables.now × IsFixed self.old first others.now v }
+        ensures unmet { (l : Layer) → result ≡ Err (Refusal.Unmet l) → (l ≡ Layer.Rigidity) × (v : ℕ) × Stands v variables.now × IsFixed self.old first others.now v }
         ensures labels { result ≡ Err Refusal.Labels → ⊥ }
         ensures call { Keeps self.old self.new result Refusal.Spent }
     {

@@ -1,14 +1,17 @@
 use Rattle.std.proofs.Common.{◌≡◌, ◌+◌, ◌<◌, ◌∷◌, [], ◌++◌, inl, length, take, drop, get_or, refl}
 use Rattle.std.proofs.lemmas.List.{get_or_default}
+use Rattle.sml_objects.specs.Appearance.{Stands}
+use Rattle.sml_objects.proofs.Standing as Standing
 use Rattle.sml_graph.specs.declared.change.Change.{Change}
-use Rattle.sml_graph.specs.Graphs.{node_at, parts, IsAmong}
-use Rattle.sml_graph.proofs.Merging.{all-append, IsAmong-append, IsAmong-back}
+use Rattle.sml_graph.specs.Graphs.{node_at, parts}
+use Rattle.sml_graph.proofs.Merging.{all-append}
 use Rattle.sml_graph.proofs.Changing.{all-changes, all-rest}
 use Rattle.sml_graph.proofs.Interning.{all-at, parts-inside, take-next}
 use Rattle.sml_graph.proofs.Searching.{read_at}
 use Rattle.sml_graph.proofs.finite.with_parts.Goals as goal
 
 pub loop-change-preserved : goal.loop-change-preserved
+unfolding Stands
 loop-change-preserved c =
     let ns = c.args.nodes.now in
     let cs = c.args.changed.now in
@@ -24,5 +27,5 @@ loop-change-preserved c =
     let e : c.extend_from_slice.new.self.items ≡ (old ++ d.node ∷ []) ++ new = rw (c.in_ok-extend_from_slice.ensures.items, c.in_ok-push.ensures.items, c.parts_from.ensures, n) refl in
     rw (e, next) record {
       inside = all-append (λ i. i < length ns) (old ++ d.node ∷ []) new (all-append (λ i. i < length ns) old (d.node ∷ []) c.loop-change.invariant.inside (l, tt)) a;
-      changed = all-append (λ c. IsAmong c.node ((old ++ d.node ∷ []) ++ new)) (take i cs) (d ∷ []) (all-changes (λ c. IsAmong c.node old) (λ c. IsAmong c.node ((old ++ d.node ∷ []) ++ new)) (take i cs) (λ c m. IsAmong-append c.node (old ++ d.node ∷ []) new (IsAmong-append c.node old (d.node ∷ []) m)) c.loop-change.invariant.changed) (IsAmong-append d.node (old ++ d.node ∷ []) new (IsAmong-back d.node old (d.node ∷ []) (inl refl)), tt);
+      changed = all-append (λ c. Stands c.node ((old ++ d.node ∷ []) ++ new)) (take i cs) (d ∷ []) (all-changes (λ c. Stands c.node old) (λ c. Stands c.node ((old ++ d.node ∷ []) ++ new)) (take i cs) (λ c m. Standing.left c.node (old ++ d.node ∷ []) new (Standing.left c.node old (d.node ∷ []) m)) c.loop-change.invariant.changed) (Standing.left d.node (old ++ d.node ∷ []) new (Standing.right d.node old (d.node ∷ []) (inl refl)), tt);
     }

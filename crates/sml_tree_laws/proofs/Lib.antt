@@ -26,4 +26,16 @@ mod Declared
 mod Clean
 mod BoundWalk
 mod WellDeclared
+mod UsedNames
+mod SequenceTokens
+mod SequenceFits
+mod RecPhrases
+mod RecExpressions
+mod RecModules
+mod RecOthers
+mod RecSequences
+mod RecPatterns
+mod RecDeclarations
+mod RecWalk
+mod RecDeclared
 mod Units

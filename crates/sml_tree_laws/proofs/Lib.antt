@@ -29,12 +29,14 @@ mod WellDeclared
 mod UsedNames
 mod SequenceTokens
 mod SequenceFits
+mod SequenceOrigins
 mod RecPhrases
 mod RecExpressions
 mod RecModules
 mod RecOthers
 mod RecSequences
 mod RecPatterns
+mod Layers
 mod RecDeclarations
 mod RecWalk
 mod RecDeclared

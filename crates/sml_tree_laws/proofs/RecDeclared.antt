@@ -1,5 +1,5 @@
 -- In each declaration that has no flaw, what stands behind `rec` may stand there.
-use Rattle.std.proofs.Common.{◌≡◌, ℕ, zero, suc, ◌+◌, ◌<◌, ◌≤◌, List, [], ◌∷◌, ◌++◌, Bool, true, false, Some, length, take, drop, eqb, refl, sym, ap, ◌∙◌, subst, inl, inr, ◌⊎◌, append_assoc, arith}
+use Rattle.std.proofs.Common.{◌≡◌, ℕ, zero, suc, ◌+◌, ◌<◌, ◌≤◌, List, [], ◌∷◌, ◌++◌, Bool, true, false, Option, Some, length, take, drop, eqb, refl, sym, ap, ◌∙◌, subst, inl, inr, ◌⊎◌, append_assoc, arith}
 use Rattle.std.specs.Prelude.{not, flat_map, slice_get, slice_range}
 use Rattle.std.specs.List.{position_or_len, slice_split}
 use Rattle.std.proofs.lemmas.Bool.{cond-true, cond-false}
@@ -26,10 +26,10 @@ use Rattle.sml_read.specs.declared.grammar.UnitRule.TheVariants as U
 use Rattle.sml_read.specs.declared.grammar.Node.{Node}
 use Rattle.sml_read.specs.declared.grammar.Node.TheVariants.{Leaf, Inner}
 use Rattle.sml_read.specs.Grammar.{right_side}
-use Rattle.sml_read.specs.Spelling.{kinds_of}
-use Rattle.sml_read.specs.Extents.{ends_of}
+use Rattle.sml_read.specs.Spelling.{is_outer, kinds_of, Leads}
+use Rattle.sml_read.specs.Extents.{starts_of, ends_of}
 use Rattle.sml_phrases.specs.Phrases.{Phrase, of_exp}
-use Rattle.sml_reach.specs.Events.{text_at}
+use Rattle.sml_reach.specs.Events.{text_at, events_of}
 use Rattle.sml_reach.specs.Fits.{Fit}
 use Rattle.sml_reach.specs.Idents.{long_of_parts, long_id}
 use Rattle.sml_flaws.specs.declared.role.Opening.TheVariants as O
@@ -42,7 +42,9 @@ use Rattle.sml_tree_laws.specs.Recursive.{TopRec}
 use Rattle.sml_tree_laws.proofs.RecPhrases.{PhraseRec, top_rec}
 use Rattle.sml_tree_laws.proofs.RecWalk.{is_long, Claim, recs}
 use Rattle.sml_tree_laws.proofs.BoundWalk.{width_of}
-use Rattle.sml_tree_laws.proofs.SequenceFits.{FitsRise, AreBuilt}
+use Rattle.sml_tree_laws.proofs.SequenceTokens.{ahead}
+use Rattle.sml_tree_laws.proofs.SequenceFits.{FitsRise, AreBuilt, ComesFrom, AllCome}
+use Rattle.sml_tree_laws.proofs.SequenceOrigins.{every_map, Coming}
 use Rattle.sml_tree_laws.proofs.Walk.{Goes}
 use Rattle.sml_tree_laws.proofs.Clean.{both_none}
 use Rattle.sml_tree_laws.proofs.Declared.{source, made, counted}
@@ -149,7 +151,8 @@ declared_rec p v h = top_rec v h
 
 -- So many tokens stand before the declaration, and these from its first one on.
 module _ (unit : List ℕ) (tokens : List Token) (n : ℕ) (fits : List Fit) (own : List Node) (left : List Token)
-    (reads : (j : ℕ) (t : Token) → slice_get left j ≡ Some t → slice_get (drop n tokens) (0 + j) ≡ Some t) (rise : FitsRise 0 fits) (built : AreBuilt fits) (end : End) (spells : Spells unit tokens end) (short : length left ≤ length tokens) where
+    (reads : (j : ℕ) (t : Token) → slice_get left j ≡ Some t → slice_get (drop n tokens) (0 + j) ≡ Some t) (rise : FitsRise 0 fits) (built : AreBuilt fits) (end : End) (spells : Spells unit tokens end) (short : length left ≤ length tokens)
+    (old : List Symbol) (past : List Node) (next : Option Kind) (rest : Part) (outer : is_outer rest ≡ true) (come : AllCome fits (events_of unit tokens (own ++ past) (starts_of n (own ++ past)))) where
   dotted : (j : ℕ) (t : Token) → slice_get (drop n tokens) j ≡ Some t → is_long t.kind ≡ true → (long_id (slice_range unit t.span.start t.span.«end»)).path ≡ [] → ⊥
   dotted j t e l =
       kind_path t.kind (slice_range unit t.span.start t.span.«end») l
@@ -163,19 +166,22 @@ module _ (unit : List ℕ) (tokens : List Token) (n : ℕ) (fits : List Fit) (ow
     none = (both_none (flaws_of (text_at unit tokens) fits [] marks) (scoped_of (text_at unit tokens) (ends_of 0 (Inner (Units rule) ∷ own)) marks marks) clean).0
 
     -- the first phrase, in the first of these contexts
-    first_rec : (q : Part) (c : Context) (cs : List Context) → Goes own (Of q ∷ []) (kinds_of left) → ((m : Mark) → Stands m (marks_of 1 n (c ∷ cs) own) → Stands m marks) → PhraseRec (made unit tokens n fits own left reads)
-    first_rec q c cs g inc =
-        (recs (source unit tokens n fits own left reads) tokens marks (counted unit tokens n fits own left reads) none rise built dotted own 1 0 n (Of q ∷ []) (c ∷ cs) left (omega arith) g tt reads inc few
+    first_rec : (q : Part) (c : Context) (cs : List Context) (kinds : List Kind) → Leads (own ++ past) (Of q ∷ old) kinds next (Of rest ∷ []) → Goes own (Of q ∷ []) (kinds_of left) → ((m : Mark) → Stands m (marks_of 1 n (c ∷ cs) own) → Stands m marks) → PhraseRec (made unit tokens n fits own left reads)
+    first_rec q c cs kinds leads g inc =
+        (recs (source unit tokens n fits own left reads) tokens marks (counted unit tokens n fits own left reads) none rise built dotted old past next rest outer own 1 0 n n (Of q ∷ []) (c ∷ cs) left kinds leads coming refl (omega arith) g tt reads inc few
         0 (omega arith) (n + width_of 0 own) (n + width_of 1 own) refl refl).0
       where
+        coming : Coming unit tokens next rest outer fits n (Of q ∷ old) (own ++ past)
+        coming = every_map (λ fit. ComesFrom fit (events_of unit tokens (own ++ past) (starts_of n (own ++ past)))) (λ fit. n + ahead (Of q ∷ old) ≤ fit.token → ComesFrom fit (events_of unit tokens (own ++ past) (starts_of n (own ++ past)))) fits (λ fit h l. h) come
+
         few : n + width_of 1 own ≤ n + 1048576
         few = let w = goes_width own (Of q ∷ []) (kinds_of left) g in let k = as_many_kinds left in let f = few_tokens unit tokens end spells in omega (arith, w, k, short, f)
 
-  pub top_recursive : flaws (text_at unit tokens) fits n (Inner (Units U.StartTop) ∷ own) ≡ [] → Goes own (Of Top ∷ []) (kinds_of left) → (p : Place) → TopRec (declaration p (made unit tokens n fits own left reads))
-  top_recursive clean g p = declared_rec p (made unit tokens n fits own left reads) (first_rec U.StartTop clean Top start (start ∷ []) g (λ m s. s))
+  pub top_recursive : (kinds : List Kind) → Leads (own ++ past) (Of Top ∷ old) kinds next (Of rest ∷ []) → flaws (text_at unit tokens) fits n (Inner (Units U.StartTop) ∷ own) ≡ [] → Goes own (Of Top ∷ []) (kinds_of left) → (p : Place) → TopRec (declaration p (made unit tokens n fits own left reads))
+  top_recursive kinds leads clean g p = declared_rec p (made unit tokens n fits own left reads) (first_rec U.StartTop clean Top start (start ∷ []) kinds leads g (λ m s. s))
 
-  pub next_recursive : flaws (text_at unit tokens) fits n (Inner (Units U.AfterTopTop) ∷ own) ≡ [] → Goes own (Of Top ∷ []) (kinds_of left) → (p : Place) → TopRec (declaration p (made unit tokens n fits own left reads))
-  next_recursive clean g p = declared_rec p (made unit tokens n fits own left reads) (first_rec U.AfterTopTop clean Top start (start ∷ []) g (λ m s. s))
+  pub next_recursive : (kinds : List Kind) → Leads (own ++ past) (Of Top ∷ old) kinds next (Of rest ∷ []) → flaws (text_at unit tokens) fits n (Inner (Units U.AfterTopTop) ∷ own) ≡ [] → Goes own (Of Top ∷ []) (kinds_of left) → (p : Place) → TopRec (declaration p (made unit tokens n fits own left reads))
+  next_recursive kinds leads clean g p = declared_rec p (made unit tokens n fits own left reads) (first_rec U.AfterTopTop clean Top start (start ∷ []) kinds leads g (λ m s. s))
 
-  pub exp_recursive : flaws (text_at unit tokens) fits n (Inner (Units U.StartExp) ∷ own) ≡ [] → Goes own (Of Exp ∷ []) (kinds_of left) → (p : Place) → TopRec (declaration p (made unit tokens n fits own left reads))
-  exp_recursive clean g p = let c = opened O.Value 0 n start in declared_rec p (made unit tokens n fits own left reads) (first_rec U.StartExp clean Exp c (c ∷ []) g (λ m s. s))
+  pub exp_recursive : (kinds : List Kind) → Leads (own ++ past) (Of Exp ∷ old) kinds next (Of rest ∷ []) → flaws (text_at unit tokens) fits n (Inner (Units U.StartExp) ∷ own) ≡ [] → Goes own (Of Exp ∷ []) (kinds_of left) → (p : Place) → TopRec (declaration p (made unit tokens n fits own left reads))
+  exp_recursive kinds leads clean g p = let c = opened O.Value 0 n start in declared_rec p (made unit tokens n fits own left reads) (first_rec U.StartExp clean Exp c (c ∷ []) kinds leads g (λ m s. s))

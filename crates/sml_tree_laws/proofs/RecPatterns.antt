@@ -52,6 +52,12 @@ abbrev pub LayerRec : Option (Pat Place) → Type 0
 LayerRec None = ⊥
 LayerRec (Some q) = RecPat q
 
+-- an identifier before `as` and a pattern, with or without `op`
+abbrev pub is_layer : Phrase → Bool
+is_layer (of_layer t q) = true
+is_layer (of_op_layer x t q) = true
+is_layer _ = false
+
 -- used: whether a sequence uses its atomic phrase with an index
 module _ (used : ℕ → ℕ → Bool) (text : ℕ → Id) where
   abbrev pub AtomsFrom : ℕ → ℕ → Pats Place → Type 0
@@ -77,7 +83,7 @@ module _ (used : ℕ → ℕ → Bool) (text : ℕ → Id) where
   AfterTyRec c _ = Unit {0}
 
   abbrev pub OpRec : Context → ℕ → ℕ → Phrase → Type 0
-  OpRec c lo hi (of_op_layer x t q) = c.binds ≡ true → LayerRec q
+  OpRec c lo hi (of_op_layer x t q) = Unused c x.id × (c.binds ≡ true → LayerRec q)
   OpRec c lo hi (of_op_atoms x qs ts) = (x.id.path ≡ [] → Unused c x.id.last) × (c.binds ≡ true → AtomsFrom c.sequence (next c.index) qs) × (lo + count qs ≤ hi)
   OpRec c lo hi _ = ⊥
 
@@ -122,6 +128,12 @@ module _ (used : ℕ → ℕ → Bool) (text : ℕ → Id) where
   PatRec (Of Part.ValMore) c lo hi v = c.binds ≡ true → RecBinds (values_in v).plain
   PatRec _ c lo hi v = Unit {0}
 
+  -- an identifier before `as` isn't used in a sequence that begins at its token, or at `op`
+  abbrev pub Free : ℕ → PatternRule → List Phrase → Type 0
+  Free a BarePatVid vs = is_layer (at vs 1) ≡ true → used a 0 ≡ false
+  Free a BarePatOp vs = is_layer (at vs 1) ≡ true → used a 0 ≡ false
+  Free a _ vs = Unit {0}
+
   -- what holds of the parts of a phrase, from one token to the next, in the context inside the phrase
   abbrev pub PartsPat : Context → (ℕ → ℕ) → Rule → List Phrase → Type 0
   PartsPat c t rule vs = (k : ℕ) → nat_lt k (length (right_side rule)) ≡ true
@@ -156,16 +168,16 @@ module _ (used : ℕ → ℕ → Bool) (text : ℕ → Id) where
   layered_rec : (x : Name Place) (t : Option (Ty Place)) (q : Option (Pat Place)) → is_reserved x.id ≡ false → RecIfAny q → RecPat (layered x t q)
   layered_rec x None None h k = λ e. inl h
   layered_rec x (Some t) None h k = λ e. inl h
-  layered_rec x None (Some q) h k = k
-  layered_rec x (Some t) (Some q) h k = k
+  layered_rec x None (Some q) h k = (h, k)
+  layered_rec x (Some t) (Some q) h k = (h, k)
 
-  layer_rec : (x : Name Place) (t : Option (Ty Place)) (q : Option (Pat Place)) → LayerRec q → RecPat (layered x t q)
-  layer_rec x t None k = absurd k
-  layer_rec x None (Some q) k = k
-  layer_rec x (Some t) (Some q) k = k
+  layer_rec : (x : Name Place) (t : Option (Ty Place)) (q : Option (Pat Place)) → is_reserved x.id ≡ false → LayerRec q → RecPat (layered x t q)
+  layer_rec x t None h k = absurd k
+  layer_rec x None (Some q) h k = (h, k)
+  layer_rec x (Some t) (Some q) h k = (h, k)
 
   op_from_vid_rec : (c : Context) (lo mid hi : ℕ) (x : Name Place) (v : Phrase) → lo ≤ mid → Unused c x.id → AfterRec (in_role Q.Next c) mid hi v → OpRec c lo hi (op_from_vid x v)
-  op_from_vid_rec c lo mid hi x (of_layer t q) l u h = h
+  op_from_vid_rec c lo mid hi x (of_layer t q) l u h = (u, h)
   op_from_vid_rec c lo mid hi x (of_atoms qs ts) l u h = let few = h.1 in ((λ e. u), h.0, omega (arith, l, few))
   op_from_vid_rec c lo mid hi x _ l u h = absurd h
 
@@ -191,23 +203,24 @@ module _ (used : ℕ → ℕ → Bool) (text : ℕ → Id) where
         go false = h
 
     from_vid_rec : (d : Context) (lo hi : ℕ) (p : Place) (x : Name Place) (v : Phrase) → d.binds ≡ true → d.sequence ≡ a → d.index ≡ next 0 → a ≤ lo → hi ≤ a + 1048576
-        → (used a 0 ≡ false → is_reserved x.id ≡ false) → AfterRec d lo hi v → RecPat (from_vid s p x v)
-    from_vid_rec d lo hi p x (of_layer u q) b n e l r h k = layer_rec x u q (k b)
-    from_vid_rec d lo hi p x (of_atoms qs ts) b n e l r h k =
+        → (used a 0 ≡ false → is_reserved x.id ≡ false) → (is_layer v ≡ true → used a 0 ≡ false) → AfterRec d lo hi v → RecPat (from_vid s p x v)
+    from_vid_rec d lo hi p x (of_layer u q) b n e l r h w k = layer_rec x u q (h (w refl)) (k b)
+    from_vid_rec d lo hi p x (of_atoms qs ts) b n e l r h w k =
         let len = k.1 in
         sequence (and_pat (pat_name p (long x)) qs) ts (omega (arith, l, r, len)) ((λ u f. inl (h u)), subst (λ m. AtomsFrom m (next 0) qs) n (subst (λ j. AtomsFrom d.sequence j qs) e (k.0 b)))
-    from_vid_rec d lo hi p x _ b n e l r h k = absurd k
+    from_vid_rec d lo hi p x _ b n e l r h w k = absurd k
 
-    behind_op_rec : (d : Context) (lo hi : ℕ) (p : Place) (v : Phrase) → d.binds ≡ true → d.sequence ≡ a → d.index ≡ 0 → a ≤ lo → hi ≤ a + 1048576 → OpRec d lo hi v → RecPat (behind_op s p v)
-    behind_op_rec d lo hi p (of_op_layer x u None) b n e l r k = absurd (k b)
-    behind_op_rec d lo hi p (of_op_layer x u (Some q)) b n e l r k = k b
-    behind_op_rec d lo hi p (of_op_atoms x qs ts) b n e l r k =
+    behind_op_rec : (d : Context) (lo hi : ℕ) (p : Place) (v : Phrase) → d.binds ≡ true → d.sequence ≡ a → d.index ≡ 0 → a ≤ lo → hi ≤ a + 1048576 → (is_layer v ≡ true → used a 0 ≡ false) → OpRec d lo hi v → RecPat (behind_op s p v)
+    behind_op_rec d lo hi p (of_op_layer x u None) b n e l r w k = absurd (k.1 b)
+    behind_op_rec d lo hi p (of_op_layer x u (Some q)) b n e l r w k =
+        (k.0 b (subst (λ m. used m d.index ≡ false) (sym n) (subst (λ j. used a j ≡ false) (sym e) (w refl))), k.1 b)
+    behind_op_rec d lo hi p (of_op_atoms x qs ts) b n e l r w k =
         let len = k.2 in
         sequence (and_pat (pat_name p x) qs) ts (omega (arith, l, r, len)) (
           (λ u f. inl (k.0 f b (subst (λ m. used m d.index ≡ false) (sym n) (subst (λ j. used a j ≡ false) (sym e) u)))),
           subst (λ m. AtomsFrom m (next 0) qs) n (subst (λ j. AtomsFrom d.sequence (next j) qs) e (k.1 b)),
         )
-    behind_op_rec d lo hi p _ b n e l r k = absurd k
+    behind_op_rec d lo hi p _ b n e l r w k = absurd k
 
     abbrev Sides : PatternRule → List Phrase → Type 0
     Sides r vs = PartsPat (opened (opening_of (G.Patterns r)) i a c) t (G.Patterns r) vs
@@ -218,65 +231,65 @@ module _ (used : ℕ → ℕ → Bool) (text : ℕ → Id) where
     two_on : t 0 ≤ t 2
     two_on = let m = mono 0 in let n = mono 1 in omega (arith, m, n)
 
-    by_rule : (r : PatternRule) (p : Place) (vs : List Phrase) → rule ≡ r → Few r → Sides r vs → PatMade (G.Patterns r) c t (pattern_phrase r p s vs)
-    by_rule PatOpenRound p vs same l h = λ b.
+    by_rule : (r : PatternRule) (p : Place) (vs : List Phrase) → rule ≡ r → Few r → Free a r vs → Sides r vs → PatMade (G.Patterns r) c t (pattern_phrase r p s vs)
+    by_rule PatOpenRound p vs same l w h = λ b.
         let k = h 2 refl in
         let len = k.0.1 in
         let n = two_on in
         begun_rec (round_pat p (pats_in (at vs 1))) (atoms_in (at vs 2)) (colons_in (at vs 2)) (omega (arith, len, l, n, begun)) (round_rec p (pats_in (at vs 1)) ((h 1 refl).0 b)) (k.0.0 b)
-    by_rule PatBarePat p vs same l h = (h 0 refl).0
-    by_rule BarePatVid p vs same l h = λ b. let m = mono 0 in from_vid_rec (in_role Q.Next (opened O.Sequence i a c)) (t 1) (t 2) p (name_in (at vs 0)) (at vs 1) b refl refl (omega (arith, m, begun)) l ((h 0 refl).0.2 refl b) (h 1 refl).0
-    by_rule BarePatOp p vs same l h = λ b. let m = mono 0 in behind_op_rec (opened O.Sequence i a c) (t 1) (t 2) p (at vs 1) b refl refl (omega (arith, m, begun)) l (h 1 refl).0
-    by_rule BarePatOtherAtPat p vs same l h = λ b.
+    by_rule PatBarePat p vs same l w h = (h 0 refl).0
+    by_rule BarePatVid p vs same l w h = λ b. let m = mono 0 in from_vid_rec (in_role Q.Next (opened O.Sequence i a c)) (t 1) (t 2) p (name_in (at vs 0)) (at vs 1) b refl refl (omega (arith, m, begun)) l ((h 0 refl).0.2 refl b) w (h 1 refl).0
+    by_rule BarePatOp p vs same l w h = λ b. let m = mono 0 in behind_op_rec (opened O.Sequence i a c) (t 1) (t 2) p (at vs 1) b refl refl (omega (arith, m, begun)) l w (h 1 refl).0
+    by_rule BarePatOtherAtPat p vs same l w h = λ b.
         let k = h 1 refl in
         let len = k.0.1 in
         let m = mono 0 in
         sequence (and_pat (pat_in (at vs 0)) (atoms_in (at vs 1))) (colons_in (at vs 1)) (omega (arith, len, l, m, begun)) ((h 0 refl).0 b, k.0.0 b)
-    by_rule OpPatVid p vs same l h = let m = mono 0 in op_from_vid_rec c (t 0) (t 1) (t 2) (name_in (at vs 0)) (at vs 1) m ((h 0 refl).0.2 refl) (h 1 refl).0
-    by_rule OpPatQualified p vs same l h = let k = (h 1 refl).0.1 in let m = mono 0 in ((λ e. absurd ((h 0 refl).0 e)), (h 1 refl).0.0, omega (arith, k, m))
-    by_rule AfterVidNone p vs same l h = ((λ b. tt), omega arith)
-    by_rule AfterVidAs p vs same l h = (h 1 refl).0
-    by_rule AfterVidColon p vs same l h = let m = mono 0 in let n = mono 1 in let o = mono 2 in behind_colon_rec c (t 0) (t 3) (ty_in (at vs 1)) (at vs 2) (omega (arith, m, n, o)) (h 2 refl).0
-    by_rule AfterVidAtPat p vs same l h = let m = (h 0 refl).1 refl in let k = (h 1 refl).0.1 in ((λ b. ((h 0 refl).0 b, (h 1 refl).0.0 b)), omega (arith, m, k))
-    by_rule AfterVidTyNone p vs same l h = tt
-    by_rule AfterVidTyAs p vs same l h = (h 1 refl).0
-    by_rule AfterVidTyColon p vs same l h = tt
-    by_rule AtPatMoreNone p vs same l h = ((λ b. tt), omega arith)
-    by_rule AtPatMoreAtPat p vs same l h = let m = (h 0 refl).1 refl in let k = (h 1 refl).0.1 in ((λ b. ((h 0 refl).0 b, (h 1 refl).0.0 b)), omega (arith, m, k))
-    by_rule AtPatMoreColon p vs same l h = let m = mono 0 in let n = mono 1 in let o = mono 2 in ((λ b. tt), omega (arith, m, n, o))
-    by_rule AtPatOpenRound p vs same l h = λ b. rec_atom (used c.sequence) c.index (round_pat p (pats_in (at vs 1))) (round_rec p (pats_in (at vs 1)) ((h 1 refl).0 b))
-    by_rule AtPatBareAtPat p vs same l h = (h 0 refl).0
-    by_rule BareAtPatVid p vs same l h = λ b u e. inl ((h 0 refl).0.2 refl b u)
-    by_rule BareAtPatOp p vs same l h = λ b u e. inl ((h 1 refl).0 refl e b u)
-    by_rule BareAtPatOtherAtPat p vs same l h = (h 0 refl).0
-    by_rule OtherAtPatWildcard p vs same l h = λ b. tt
-    by_rule OtherAtPatConstant p vs same l h = λ b. tt
-    by_rule OtherAtPatQualified p vs same l h = λ b u e. absurd ((h 0 refl).0 e)
-    by_rule OtherAtPatOpenCurly p vs same l h = (h 1 refl).0
-    by_rule OtherAtPatOpenSquare p vs same l h = λ b. rec_atom (used c.sequence) c.index (list_pat p (pats_in (at vs 1))) (list_rec p (pats_in (at vs 1)) ((h 1 refl).0 b))
-    by_rule PatRoundCloseRound p vs same l h = λ b. tt
-    by_rule PatRoundPat p vs same l h = λ b. ((h 0 refl).0 b, (h 1 refl).0 b)
-    by_rule PatRoundMoreCloseRound p vs same l h = λ b. tt
-    by_rule PatRoundMoreComma p vs same l h = λ b. ((h 1 refl).0 b, (h 2 refl).0 b)
-    by_rule PatListCloseSquare p vs same l h = λ b. tt
-    by_rule PatListPat p vs same l h = λ b. ((h 0 refl).0 b, (h 1 refl).0 b)
-    by_rule PatListMoreCloseSquare p vs same l h = λ b. tt
-    by_rule PatListMoreComma p vs same l h = λ b. ((h 1 refl).0 b, (h 2 refl).0 b)
-    by_rule PatRowCloseCurly p vs same l h = λ b. tt
-    by_rule PatRowRow p vs same l h = (h 0 refl).0
-    by_rule RowDots p vs same l h = λ b. tt
-    by_rule RowNumeral p vs same l h = λ b. ((h 2 refl).0 b, (h 3 refl).0 b)
-    by_rule RowVid p vs same l h = λ b.
+    by_rule OpPatVid p vs same l w h = let m = mono 0 in op_from_vid_rec c (t 0) (t 1) (t 2) (name_in (at vs 0)) (at vs 1) m ((h 0 refl).0.2 refl) (h 1 refl).0
+    by_rule OpPatQualified p vs same l w h = let k = (h 1 refl).0.1 in let m = mono 0 in ((λ e. absurd ((h 0 refl).0 e)), (h 1 refl).0.0, omega (arith, k, m))
+    by_rule AfterVidNone p vs same l w h = ((λ b. tt), omega arith)
+    by_rule AfterVidAs p vs same l w h = (h 1 refl).0
+    by_rule AfterVidColon p vs same l w h = let m = mono 0 in let n = mono 1 in let o = mono 2 in behind_colon_rec c (t 0) (t 3) (ty_in (at vs 1)) (at vs 2) (omega (arith, m, n, o)) (h 2 refl).0
+    by_rule AfterVidAtPat p vs same l w h = let m = (h 0 refl).1 refl in let k = (h 1 refl).0.1 in ((λ b. ((h 0 refl).0 b, (h 1 refl).0.0 b)), omega (arith, m, k))
+    by_rule AfterVidTyNone p vs same l w h = tt
+    by_rule AfterVidTyAs p vs same l w h = (h 1 refl).0
+    by_rule AfterVidTyColon p vs same l w h = tt
+    by_rule AtPatMoreNone p vs same l w h = ((λ b. tt), omega arith)
+    by_rule AtPatMoreAtPat p vs same l w h = let m = (h 0 refl).1 refl in let k = (h 1 refl).0.1 in ((λ b. ((h 0 refl).0 b, (h 1 refl).0.0 b)), omega (arith, m, k))
+    by_rule AtPatMoreColon p vs same l w h = let m = mono 0 in let n = mono 1 in let o = mono 2 in ((λ b. tt), omega (arith, m, n, o))
+    by_rule AtPatOpenRound p vs same l w h = λ b. rec_atom (used c.sequence) c.index (round_pat p (pats_in (at vs 1))) (round_rec p (pats_in (at vs 1)) ((h 1 refl).0 b))
+    by_rule AtPatBareAtPat p vs same l w h = (h 0 refl).0
+    by_rule BareAtPatVid p vs same l w h = λ b u e. inl ((h 0 refl).0.2 refl b u)
+    by_rule BareAtPatOp p vs same l w h = λ b u e. inl ((h 1 refl).0 refl e b u)
+    by_rule BareAtPatOtherAtPat p vs same l w h = (h 0 refl).0
+    by_rule OtherAtPatWildcard p vs same l w h = λ b. tt
+    by_rule OtherAtPatConstant p vs same l w h = λ b. tt
+    by_rule OtherAtPatQualified p vs same l w h = λ b u e. absurd ((h 0 refl).0 e)
+    by_rule OtherAtPatOpenCurly p vs same l w h = (h 1 refl).0
+    by_rule OtherAtPatOpenSquare p vs same l w h = λ b. rec_atom (used c.sequence) c.index (list_pat p (pats_in (at vs 1))) (list_rec p (pats_in (at vs 1)) ((h 1 refl).0 b))
+    by_rule PatRoundCloseRound p vs same l w h = λ b. tt
+    by_rule PatRoundPat p vs same l w h = λ b. ((h 0 refl).0 b, (h 1 refl).0 b)
+    by_rule PatRoundMoreCloseRound p vs same l w h = λ b. tt
+    by_rule PatRoundMoreComma p vs same l w h = λ b. ((h 1 refl).0 b, (h 2 refl).0 b)
+    by_rule PatListCloseSquare p vs same l w h = λ b. tt
+    by_rule PatListPat p vs same l w h = λ b. ((h 0 refl).0 b, (h 1 refl).0 b)
+    by_rule PatListMoreCloseSquare p vs same l w h = λ b. tt
+    by_rule PatListMoreComma p vs same l w h = λ b. ((h 1 refl).0 b, (h 2 refl).0 b)
+    by_rule PatRowCloseCurly p vs same l w h = λ b. tt
+    by_rule PatRowRow p vs same l w h = (h 0 refl).0
+    by_rule RowDots p vs same l w h = λ b. tt
+    by_rule RowNumeral p vs same l w h = λ b. ((h 2 refl).0 b, (h 3 refl).0 b)
+    by_rule RowVid p vs same l w h = λ b.
         let one = (h 0 refl).0.0 in (
           field_rec c (t 1) (name_in (at vs 0)) (at vs 1) (subst (λ m. text m ≡ (name_in (at vs 0)).id) (let e : t 0 ≡ t 1 - 1 = omega (arith, one) in e) (h 0 refl).0.1) b (h 1 refl).0,
           (h 2 refl).0 b,
         )
-    by_rule RowRestEquals p vs same l h = (h 1 refl).0
-    by_rule RowRestTyped p vs same l h = λ b. (subst (λ m. is_reserved (text (m - 1)) ≡ false) (sym begun) (pun b same), (h 1 refl).0 b)
-    by_rule RowAsNone p vs same l h = λ b. tt
-    by_rule RowAsAs p vs same l h = (h 1 refl).0
-    by_rule RowMoreNone p vs same l h = λ b. tt
-    by_rule RowMoreComma p vs same l h = (h 1 refl).0
+    by_rule RowRestEquals p vs same l w h = (h 1 refl).0
+    by_rule RowRestTyped p vs same l w h = λ b. (subst (λ m. is_reserved (text (m - 1)) ≡ false) (sym begun) (pun b same), (h 1 refl).0 b)
+    by_rule RowAsNone p vs same l w h = λ b. tt
+    by_rule RowAsAs p vs same l w h = (h 1 refl).0
+    by_rule RowMoreNone p vs same l w h = λ b. tt
+    by_rule RowMoreComma p vs same l w h = (h 1 refl).0
 
-    pub pattern_pat : (p : Place) (vs : List Phrase) → Sides rule vs → PatMade (G.Patterns rule) c t (pattern_phrase rule p s vs)
-    pattern_pat p vs h = by_rule rule p vs refl few h
+    pub pattern_pat : (p : Place) (vs : List Phrase) → Free a rule vs → Sides rule vs → PatMade (G.Patterns rule) c t (pattern_phrase rule p s vs)
+    pattern_pat p vs w h = by_rule rule p vs refl few w h

@@ -1,5 +1,5 @@
 -- The phrases of a declaration beside its marks and its sequences, node by node: what stands behind `rec` may stand there.
-use Rattle.std.proofs.Common.{◌≡◌, ℕ, zero, suc, ◌+◌, ◌<◌, ◌≤◌, List, [], ◌∷◌, ◌++◌, Bool, true, false, Option, Some, None, length, get_or, drop, refl, sym, ap, ◌∙◌, subst, inl, inr, arith}
+use Rattle.std.proofs.Common.{◌≡◌, ℕ, zero, suc, ◌+◌, ◌<◌, ◌≤◌, List, [], ◌∷◌, ◌++◌, Bool, true, false, Option, Some, None, length, get_or, drop, append_assoc, refl, sym, ap, ◌∙◌, subst, inl, inr, arith}
 use Rattle.std.specs.Prelude.{min, ◌-◌, nat_lt, nat_le, slice_get, slice_range, if◌then◌else◌}
 use Rattle.std.specs.List.{cons_option}
 use Rattle.std.proofs.lemmas.Bool.{false≢true, ltb-true, leb-true}
@@ -40,11 +40,14 @@ use Rattle.sml_read.specs.declared.grammar.Node.{Node}
 use Rattle.sml_read.specs.declared.grammar.Node.TheVariants.{Leaf, Inner}
 use Rattle.sml_read.specs.Grammar.{right_side}
 use Rattle.sml_read.specs.Parts.{part_of}
-use Rattle.sml_read.specs.Spelling.{kinds_of}
+use Rattle.sml_read.specs.Spelling.{is_outer, kinds_of, Leads}
 use Rattle.sml_read.specs.Extents.{starts_of}
 use Rattle.sml_read.proofs.Tables.{each_rule, implies, implied}
 use Rattle.sml_phrases.specs.Phrases.{Phrase, first, name_in, long_in, at}
-use Rattle.sml_reach.specs.Events.{text_of, text_at}
+use Rattle.sml_reach.specs.Events.{text_of, text_at, found_at, founds_of}
+use Rattle.sml_reach.specs.Founds.{Found, nothing, word, sequence_in, left}
+use Rattle.sml_reach.specs.Senses.{deed_of}
+use Rattle.sml_rules.specs.Every.{Every}
 use Rattle.sml_reach.specs.Fits.{Fit}
 use Rattle.sml_reach.specs.Idents.{long_id}
 use Rattle.sml_pat_sequences.specs.PatternSequences as Q
@@ -67,10 +70,13 @@ use Rattle.sml_tree_laws.proofs.RecExpressions.{PartsRec, expression_rec}
 use Rattle.sml_tree_laws.proofs.RecModules.{unit_rec, structure_rec, signature_rec, specification_rec}
 use Rattle.sml_tree_laws.proofs.RecOthers.{name_rec, pattern_rec, type_rec}
 use Rattle.sml_tree_laws.proofs.RecDeclarations.{declaration_rec, declaration_pat}
-use Rattle.sml_tree_laws.proofs.RecPatterns.{starts, AtomsFrom, Unused, NameRec, VidRec, PatRec, PartsPat, name_pat, pattern_pat}
+use Rattle.sml_tree_laws.proofs.RecPatterns.{starts, AtomsFrom, NameRec, VidRec, PatRec, PartsPat, Free, name_pat, pattern_pat}
+use Rattle.sml_tree_laws.proofs.Layers.{LayerFound, vid_none, op_none, made_layer}
+use Rattle.sml_tree_laws.proofs.SequenceTokens.{is_sequence}
+use Rattle.sml_tree_laws.proofs.SequenceOrigins.{every_map, Coming, coming_leaf, coming_inner, none_only}
 use Rattle.sml_tree_laws.proofs.RecSequences.{AtomRec, AtomsRec, typed_rec, steps_pattern_rec}
 use Rattle.sml_tree_laws.proofs.UsedNames.{Kept, kept_unused}
-use Rattle.sml_tree_laws.proofs.SequenceFits.{FitsRise, IsBuilt, AreBuilt, built_of, not_used}
+use Rattle.sml_tree_laws.proofs.SequenceFits.{FitsRise, IsBuilt, AreBuilt, built_of, not_used, none_used}
 use Rattle.sml_tree_laws.proofs.BoundWalk.{width_of, width_more, symbol}
 use Rattle.sml_tree_laws.proofs.Clean.{may_stand, may_stand_for_itself}
 use Rattle.sml_tree_laws.proofs.Walk.{Goes, below_more, behind_more, stands_behind, context_in, context_behind}
@@ -126,6 +132,10 @@ type_none : (used : ℕ → ℕ → Bool) (text : ℕ → Id) (rule : TypeRule) 
 type_none used text T.TyTup c lo hi v = tt
 type_none used text _ c lo hi v = tt
 
+leads_behind : (next : Option Kind) (now : List Symbol) (w : Kind) (ss : List Symbol) (nodes : List Node) (kinds : List Kind) → Leads (Leaf ∷ nodes) (Word w ∷ ss) kinds next now → (others : List Kind) × Leads nodes ss others next now
+leads_behind next now w ss nodes [] h = absurd h
+leads_behind next now w ss nodes (k ∷ kinds) h = (kinds, h.1)
+
 -- sequences
 
 next_is : (i : ℕ) → i ≤ 1048577 → next i ≡ suc i
@@ -169,7 +179,8 @@ token_rec unit p (Some t) = kind_rec t.kind p _
 -- identifiers have a path.
 module _ (s : Source) (tokens : List Token) (all : List Mark) (own : (n : ℕ) → slice_get s.tokens n ≡ slice_get tokens (s.begun + n)) (clean : flaws_of (text_at s.unit tokens) s.fits [] all ≡ [])
     (rise : FitsRise 0 s.fits) (built : AreBuilt s.fits)
-    (dotted : (n : ℕ) (t : Token) → slice_get s.tokens n ≡ Some t → is_long t.kind ≡ true → (long_id (slice_range s.unit t.span.start t.span.«end»)).path ≡ [] → ⊥) where
+    (dotted : (n : ℕ) (t : Token) → slice_get s.tokens n ≡ Some t → is_long t.kind ≡ true → (long_id (slice_range s.unit t.span.start t.span.«end»)).path ≡ [] → ⊥)
+    (old : List Symbol) (past : List Node) (next : Option Kind) (rest_part : Part) (outer : is_outer rest_part ≡ true) where
   abbrev text : ℕ → Id
   text = text_at s.unit tokens
 
@@ -179,8 +190,12 @@ module _ (s : Source) (tokens : List Token) (all : List Mark) (own : (n : ℕ) �
   abbrev Full : Symbol → ℕ → ℕ → Type 0
   Full x lo hi = starts x ≡ true → lo < hi
 
-  abbrev pub Claim : Symbol → Context → ℕ → ℕ → Phrase → Type 0
-  Claim x c lo hi v = PhraseRec v × PatRec used text x c lo hi v × Full x lo hi
+  abbrev pub Claim : Symbol → Context → ℕ → ℕ → Phrase → Found → Type 0
+  Claim x c lo hi v f = PhraseRec v × PatRec used text x c lo hi v × Full x lo hi × LayerFound x v f
+
+  -- what is found of nodes, and what stands behind the declaration
+  abbrev founds : ℕ → List Node → List Found
+  founds m nodes = founds_of text (nodes ++ past) (starts_of m (nodes ++ past))
 
   -- a token
 
@@ -196,10 +211,10 @@ module _ (s : Source) (tokens : List Token) (all : List Mark) (own : (n : ℕ) �
 
     unused : (x : Id) → text a ≡ x → NameRec used text c x
     unfolding Stands
-    unused x e word binds u =
+    unused x e atom binds u =
         subst (λ q. is_reserved q ≡ false) e
         (may_stand text s.fits all clean c.sequence c.index a
-        (inc (Mk.Identifier (record { sequence = c.sequence; index = c.index; token = a; binds = true })) (subst (λ q. Stands (Mk.Identifier (record { sequence = c.sequence; index = c.index; token = a; binds = true })) (cons_option (word_mark q a c) rest)) (sym word) (inl (ap (λ b. Mk.Identifier (record { sequence = c.sequence; index = c.index; token = a; binds = b })) (sym binds))))) u)
+        (inc (Mk.Identifier (record { sequence = c.sequence; index = c.index; token = a; binds = true })) (subst (λ q. Stands (Mk.Identifier (record { sequence = c.sequence; index = c.index; token = a; binds = true })) (cons_option (word_mark q a c) rest)) (sym atom) (inl (ap (λ b. Mk.Identifier (record { sequence = c.sequence; index = c.index; token = a; binds = b })) (sym binds))))) u)
 
     named : text a ≡ (name_in (token_phrase s.unit p (slice_get s.tokens n))).id → VidRec used text c a (suc a) (token_phrase s.unit p (slice_get s.tokens n))
     named e = (refl, e, unused _ e)
@@ -221,9 +236,13 @@ module _ (s : Source) (tokens : List Token) (all : List Mark) (own : (n : ℕ) �
 
   -- a phrase by a rule, from the phrases behind its node
 
-  module _ (i a n : ℕ) (c : Context) (t : ℕ → ℕ) (vs : List Phrase) (rest : List Mark) (at_token : a ≡ s.begun + n) (begun : t 0 ≡ a) (mono : (k : ℕ) → t k ≤ t (suc k)) where
+  module _ (i a n m : ℕ) (c : Context) (t : ℕ → ℕ) (vs : List Phrase) (fs : List Found) (rest : List Mark) (at_token : a ≡ s.begun + n) (same : m ≡ a) (begun : t 0 ≡ a) (mono : (k : ℕ) → t k ≤ t (suc k)) where
     abbrev Parts : Rule → Type 0
-    Parts r = (k : ℕ) → k < length (right_side r) → Claim (symbol (right_side r) k) (in_role (get_or (roles_of r) k Roles.Same) (opened (opening_of r) i a c)) (t k) (t (suc k)) (at vs k)
+    Parts r = (k : ℕ) → k < length (right_side r) → Claim (symbol (right_side r) k) (in_role (get_or (roles_of r) k Roles.Same) (opened (opening_of r) i a c)) (t k) (t (suc k)) (at vs k) (get_or fs k nothing)
+
+    -- no sequence begins at a node where none is found
+    abbrev pub Absent : Rule → Type 0
+    Absent r = is_sequence (deed_of r) ≡ true → sequence_in (found_at text m r fs) ≡ None → Every (λ fit. fit.token ≡ m + before_sequence r → ⊥) s.fits
 
     phrases : (r : Rule) → Parts r → PartsRec r vs
     phrases r h k b = (h k (ltb-true k (length (right_side r)) b)).0
@@ -237,22 +256,33 @@ module _ (s : Source) (tokens : List Token) (all : List Mark) (own : (n : ℕ) �
         may_stand_for_itself text s.fits all clean (a - 1)
         (inc (Mk.Pun (a - 1)) (subst (λ r. Stands (Mk.Pun (a - 1)) (cons_option (rule_mark (G.Patterns r) a c) rest)) (sym same) (subst (λ q. Stands (Mk.Pun (a - 1)) (cons_option (if q then Some (Mk.Pun (a - 1)) else None) rest)) (sym b) (inl refl))))
 
+    layers : (r : Rule) → Parts r → (k : ℕ) → nat_lt k (length (right_side r)) ≡ true → LayerFound (symbol (right_side r) k) (at vs k) (get_or fs k nothing)
+    layers r h k b = (h k (ltb-true k (length (right_side r)) b)).3
+
+    unused_at : Every (λ fit. fit.token ≡ m + 0 → ⊥) s.fits → used a 0 ≡ false
+    unused_at h = none_used s.fits a 0 (every_map (λ fit. fit.token ≡ m + 0 → ⊥) (λ fit. fit.token ≡ a → ⊥) s.fits (λ fit k e. k (omega (arith, e, same))) h)
+
+    free : (rule : PatternRule) → Absent (G.Patterns rule) → Parts (G.Patterns rule) → Free used text a rule vs
+    free P.BarePatVid absent h = λ e. unused_at (absent refl (vid_none text m fs vs (layers (G.Patterns P.BarePatVid) h 1 refl) e))
+    free P.BarePatOp absent h = λ e. unused_at (absent refl (op_none text m fs vs (layers (G.Patterns P.BarePatOp) h 1 refl) e))
+    free _ absent h = tt
+
     abbrev Inc : Rule → Type 0
     Inc r = (m : Mark) → Stands m (cons_option (rule_mark r a c) rest) → Stands m all
 
-    made_pat : (r : Rule) → Inc r → t (length (right_side r)) ≤ a + 1048576 → Parts r → PatRec used text (Of (part_of r)) c (t 0) (t (length (right_side r))) (made_by s r n vs)
-    made_pat (G.Names rule) inc few h = name_pat used text rule i a c t _ vs (pats (G.Names rule) h)
-    made_pat (G.Patterns rule) inc few h =
+    made_pat : (r : Rule) → Absent r → Inc r → t (length (right_side r)) ≤ a + 1048576 → Parts r → PatRec used text (Of (part_of r)) c (t 0) (t (length (right_side r))) (made_by s r n vs)
+    made_pat (G.Names rule) absent inc few h = name_pat used text rule i a c t _ vs (pats (G.Names rule) h)
+    made_pat (G.Patterns rule) absent inc few h =
         pattern_pat used text rule i a c t _ begun few mono
         (λ qs ts l k. sequence_rec s.fits text a _ qs ts rise built (ap (shape_from s.fits) (let e : a ≡ s.begun + (n + 0) = omega (arith, at_token) in e)) l k)
-        (puns rule inc) _ vs (pats (G.Patterns rule) h)
-    made_pat (G.Declarations rule) inc few h = declaration_pat used text rule i a c t _ _ vs (pats (G.Declarations rule) h)
-    made_pat (G.Units rule) inc few h = unit_none used text rule c _ _ _
-    made_pat (G.Structures rule) inc few h = structure_none used text rule c _ _ _
-    made_pat (G.Signatures rule) inc few h = signature_none used text rule c _ _ _
-    made_pat (G.Specifications rule) inc few h = specification_none used text rule c _ _ _
-    made_pat (G.Expressions rule) inc few h = expression_none used text rule c _ _ _
-    made_pat (G.Types rule) inc few h = type_none used text rule c _ _ _
+        (puns rule inc) _ vs (free rule absent h) (pats (G.Patterns rule) h)
+    made_pat (G.Declarations rule) absent inc few h = declaration_pat used text rule i a c t _ _ vs (pats (G.Declarations rule) h)
+    made_pat (G.Units rule) absent inc few h = unit_none used text rule c _ _ _
+    made_pat (G.Structures rule) absent inc few h = structure_none used text rule c _ _ _
+    made_pat (G.Signatures rule) absent inc few h = signature_none used text rule c _ _ _
+    made_pat (G.Specifications rule) absent inc few h = specification_none used text rule c _ _ _
+    made_pat (G.Expressions rule) absent inc few h = expression_none used text rule c _ _ _
+    made_pat (G.Types rule) absent inc few h = type_none used text rule c _ _ _
 
     made_rec : (r : Rule) → Parts r → PhraseRec (made_by s r n vs)
     made_rec (G.Names rule) h = name_rec rule _ vs (phrases (G.Names rule) h)
@@ -277,27 +307,38 @@ module _ (s : Source) (tokens : List Token) (all : List Mark) (own : (n : ℕ) �
         go [] b f = absurd (false≢true b)
         go (x ∷ side) b f = let one = f (omega arith) b in let l = up (length side) 1 (suc (length side)) (omega arith) in omega (arith, one, l)
 
-    pub made_claim : (r : Rule) → Inc r → t (length (right_side r)) ≤ a + 1048576 → Parts r → Claim (Of (part_of r)) c (t 0) (t (length (right_side r))) (made_by s r n vs)
-    made_claim r inc few h = (made_rec r h, made_pat r inc few h, made_full r h)
+    pub made_claim : (r : Rule) → Absent r → Inc r → t (length (right_side r)) ≤ a + 1048576 → Parts r → Claim (Of (part_of r)) c (t 0) (t (length (right_side r))) (made_by s r n vs) (left (deed_of r) (found_at text m r fs))
+    made_claim r absent inc few h = (made_rec r h, made_pat r absent inc few h, made_full r h, made_layer text m fs vs r s n (layers r h))
 
-  moved : (x : Symbol) (c : Context) (lo hi lo' hi' : ℕ) (v : Phrase) → lo ≡ lo' → hi ≡ hi' → Claim x c lo hi v → Claim x c lo' hi' v
-  moved x c lo hi lo' hi' v e f h = subst (λ l. Claim x c l hi' v) e (subst (λ k. Claim x c lo k v) f h)
+  moved : (x : Symbol) (c : Context) (lo hi lo' hi' : ℕ) (v : Phrase) (f : Found) → lo ≡ lo' → hi ≡ hi' → Claim x c lo hi v f → Claim x c lo' hi' v f
+  moved x c lo hi lo' hi' v f e e' h = subst (λ l. Claim x c l hi' v f) e (subst (λ k. Claim x c lo k v f) e' h)
+
+  drop_get : (n k : ℕ) (fs : List Found) → get_or (drop n fs) k nothing ≡ get_or fs (n + k) nothing
+  drop_get n k fs = go n fs (n + k) refl
+    where
+      go : (n : ℕ) (fs : List Found) (j : ℕ) → j ≡ n + k → get_or (drop n fs) k nothing ≡ get_or fs j nothing
+      go zero fs j e = ap (λ q. get_or fs q nothing) (let f : k ≡ j = omega (arith, e) in f)
+      go (suc n) [] j e = refl
+      go (suc n) (f ∷ fs) zero e = absurd (omega (arith, e))
+      go (suc n) (f ∷ fs) (suc j) e = go n fs j (omega (arith, e))
 
   -- all phrases that are behind a node, each in its context
-  pub recs : (nodes : List Node) (i n a : ℕ) (ss : List Symbol) (cs : List Context) (left : List Token) → a ≡ s.begun + n → Goes nodes ss (kinds_of left) → Enough ss cs
-      → ((j : ℕ) (t : Token) → slice_get left j ≡ Some t → slice_get s.tokens (n + j) ≡ Some t) → ((m : Mark) → Stands m (marks_of i a cs nodes) → Stands m all) → a + width_of (length ss) nodes ≤ s.begun + 1048576
+  pub recs : (nodes : List Node) (i n a m : ℕ) (ss : List Symbol) (cs : List Context) (toks : List Token) (kinds : List Kind) → Leads (nodes ++ past) (ss ++ old) kinds next (Of rest_part ∷ [])
+      → Coming s.unit tokens next rest_part outer s.fits m (ss ++ old) (nodes ++ past) → m ≡ a → a ≡ s.begun + n → Goes nodes ss (kinds_of toks) → Enough ss cs
+      → ((j : ℕ) (t : Token) → slice_get toks j ≡ Some t → slice_get s.tokens (n + j) ≡ Some t) → ((m : Mark) → Stands m (marks_of i a cs nodes) → Stands m all) → a + width_of (length ss) nodes ≤ s.begun + 1048576
       → (k : ℕ) → k < length ss → (lo hi : ℕ) → lo ≡ a + width_of k nodes → hi ≡ a + width_of (suc k) nodes
-      → Claim (symbol ss k) (get_or cs k start) lo hi (at (phrases_of s nodes (starts_of n nodes)) k)
-  recs [] i n a ss cs left at_token g enough reads inc few k h lo hi el eh = absurd (let e : length ss ≡ 0 = ap length g in omega (arith, h, e))
-  recs (Leaf ∷ nodes) i n a [] cs left at_token g enough reads inc few k h lo hi el eh = absurd g
-  recs (Leaf ∷ nodes) i n a (Of p ∷ ss) cs left at_token g enough reads inc few k h lo hi el eh = absurd g
-  recs (Leaf ∷ nodes) i n a (Word w ∷ ss) [] left at_token g enough reads inc few k h lo hi el eh = absurd enough
-  recs (Leaf ∷ nodes) i n a (Word w ∷ ss) (c ∷ cs) [] at_token g enough reads inc few k h lo hi el eh = absurd g
-  recs (Leaf ∷ nodes) i n a (Word w ∷ ss) (c ∷ cs) (t ∷ left) at_token g enough reads inc few zero h lo hi el eh =
-      moved (Word w) c a (suc a) lo hi (token_phrase s.unit (place_at s.unit s.tokens n) (slice_get s.tokens n)) (omega (arith, el)) (omega (arith, eh)) (
+      → Claim (symbol ss k) (get_or cs k start) lo hi (at (phrases_of s nodes (starts_of n nodes)) k) (get_or (founds m nodes) k nothing)
+  recs [] i n a m ss cs toks kinds leads coming same at_token g enough reads inc few k h lo hi el eh = absurd (let e : length ss ≡ 0 = ap length g in omega (arith, h, e))
+  recs (Leaf ∷ nodes) i n a m [] cs toks kinds leads coming same at_token g enough reads inc few k h lo hi el eh = absurd g
+  recs (Leaf ∷ nodes) i n a m (Of p ∷ ss) cs toks kinds leads coming same at_token g enough reads inc few k h lo hi el eh = absurd g
+  recs (Leaf ∷ nodes) i n a m (Word w ∷ ss) [] toks kinds leads coming same at_token g enough reads inc few k h lo hi el eh = absurd enough
+  recs (Leaf ∷ nodes) i n a m (Word w ∷ ss) (c ∷ cs) [] kinds leads coming same at_token g enough reads inc few k h lo hi el eh = absurd g
+  recs (Leaf ∷ nodes) i n a m (Word w ∷ ss) (c ∷ cs) (t ∷ toks) kinds leads coming same at_token g enough reads inc few zero h lo hi el eh =
+      moved (Word w) c a (suc a) lo hi (token_phrase s.unit (place_at s.unit s.tokens n) (slice_get s.tokens n)) (word m) (omega (arith, el)) (omega (arith, eh)) (
         token_rec s.unit (place_at s.unit s.tokens n) (slice_get s.tokens n),
         leaf_pat w c a n (place_at s.unit s.tokens n) t here g.0 (ap (λ o. text_of s.unit o) there) _ inc,
         (λ e. omega arith),
+        tt,
       )
     where
       here : slice_get s.tokens n ≡ Some t
@@ -305,17 +346,21 @@ module _ (s : Source) (tokens : List Token) (all : List Mark) (own : (n : ℕ) �
 
       there : slice_get tokens a ≡ Some t
       there = ap (slice_get tokens) at_token ∙ sym (own n) ∙ here
-  recs (Leaf ∷ nodes) i n a (Word w ∷ ss) (c ∷ cs) (t ∷ left) at_token g enough reads inc few (suc k) h lo hi el eh =
-      recs nodes (suc i) (suc n) (a + 1) ss cs left (omega (arith, at_token)) g.1 enough
+  recs (Leaf ∷ nodes) i n a m (Word w ∷ ss) (c ∷ cs) (t ∷ toks) kinds leads coming same at_token g enough reads inc few (suc k) h lo hi el eh =
+      let more = leads_behind next (Of rest_part ∷ []) w (ss ++ old) (nodes ++ past) kinds leads in
+      recs nodes (suc i) (suc n) (a + 1) (suc m) ss cs toks more.0 more.1 (coming_leaf s.unit tokens next rest_part outer s.fits m w (ss ++ old) (nodes ++ past) coming) (omega (arith, same)) (omega (arith, at_token)) g.1 enough
       (λ j t e. ap (slice_get s.tokens) (let f : suc n + j ≡ n + suc j = omega arith in f) ∙ reads (suc j) t e)
       (λ m st. inc m (stands_behind m (word_mark c.word a c) _ st)) (omega (arith, few))
       k (omega (arith, h)) lo hi (omega (arith, el)) (omega (arith, eh))
-  recs (Inner r ∷ nodes) i n a [] cs left at_token g enough reads inc few k h lo hi el eh = absurd g
-  recs (Inner r ∷ nodes) i n a (Word w ∷ ss) cs left at_token g enough reads inc few k h lo hi el eh = absurd g
-  recs (Inner r ∷ nodes) i n a (Of p ∷ ss) [] left at_token g enough reads inc few k h lo hi el eh = absurd enough
-  recs (Inner r ∷ nodes) i n a (Of p ∷ ss) (c ∷ cs) left at_token g enough reads inc few k h lo hi el eh =
+  recs (Inner r ∷ nodes) i n a m [] cs toks kinds leads coming same at_token g enough reads inc few k h lo hi el eh = absurd g
+  recs (Inner r ∷ nodes) i n a m (Word w ∷ ss) cs toks kinds leads coming same at_token g enough reads inc few k h lo hi el eh = absurd g
+  recs (Inner r ∷ nodes) i n a m (Of p ∷ ss) [] toks kinds leads coming same at_token g enough reads inc few k h lo hi el eh = absurd enough
+  recs (Inner r ∷ nodes) i n a m (Of p ∷ ss) (c ∷ cs) toks kinds leads coming same at_token g enough reads inc few k h lo hi el eh =
       by_place
-      (recs nodes (suc i) n a (right_side r ++ ss) (parts_of i a c (Inner r) ++ cs) left at_token g.2 (enough_side (right_side r) (roles_of r) 0 (opened (opening_of r) i a c) ss cs enough) reads
+      (recs nodes (suc i) n a m (right_side r ++ ss) (parts_of i a c (Inner r) ++ cs) toks kinds
+      (subst (λ q. Leads (nodes ++ past) q kinds next (Of rest_part ∷ [])) (sym (append_assoc (right_side r) ss old)) leads.2)
+      (subst (λ q. Coming s.unit tokens next rest_part outer s.fits m q (nodes ++ past)) (sym (append_assoc (right_side r) ss old)) (coming_inner s.unit tokens next rest_part outer s.fits r p m (ss ++ old) (nodes ++ past) kinds leads.0 leads.2 coming))
+      same at_token g.2 (enough_side (right_side r) (roles_of r) 0 (opened (opening_of r) i a c) ss cs enough) reads
       (λ m st. inc m (stands_behind m (mark_at a c (Inner r)) _ st)) all_few)
       k h lo hi el eh
     where
@@ -325,31 +370,38 @@ module _ (s : Source) (tokens : List Token) (all : List Mark) (own : (n : ℕ) �
       vs : List Phrase
       vs = phrases_of s nodes (starts_of n nodes)
 
+      fs : List Found
+      fs = founds m nodes
+
       all_few : a + width_of (length (right_side r ++ ss)) nodes ≤ s.begun + 1048576
       all_few = let e = ap (λ q. width_of q nodes) (length-append (right_side r) ss) in omega (arith, few, e)
 
       own_few : a + width_of (length (right_side r)) nodes ≤ a + 1048576
       own_few = let m = width_more nodes len (len + length ss) (omega arith) in omega (arith, few, m, at_token)
 
-      behind : ((k : ℕ) → k < length (right_side r ++ ss) → (lo hi : ℕ) → lo ≡ a + width_of k nodes → hi ≡ a + width_of (suc k) nodes → Claim (symbol (right_side r ++ ss) k) (get_or (parts_of i a c (Inner r) ++ cs) k start) lo hi (at vs k))
-          → (k : ℕ) → k < length (right_side r) → Claim (symbol (right_side r) k) (in_role (get_or (roles_of r) k Roles.Same) (opened (opening_of r) i a c)) (a + width_of k nodes) (a + width_of (suc k) nodes) (at vs k)
+      absent : is_sequence (deed_of r) ≡ true → sequence_in (found_at text m r fs) ≡ None → Every (λ fit. fit.token ≡ m + before_sequence r → ⊥) s.fits
+      absent d e = none_only s.unit tokens next rest_part outer s.fits r p m (ss ++ old) (nodes ++ past) kinds leads.0 leads.2 coming d e
+
+      behind : ((k : ℕ) → k < length (right_side r ++ ss) → (lo hi : ℕ) → lo ≡ a + width_of k nodes → hi ≡ a + width_of (suc k) nodes → Claim (symbol (right_side r ++ ss) k) (get_or (parts_of i a c (Inner r) ++ cs) k start) lo hi (at vs k) (get_or fs k nothing))
+          → (k : ℕ) → k < length (right_side r) → Claim (symbol (right_side r) k) (in_role (get_or (roles_of r) k Roles.Same) (opened (opening_of r) i a c)) (a + width_of k nodes) (a + width_of (suc k) nodes) (at vs k) (get_or fs k nothing)
       behind deeper k b =
-          subst (λ x. Claim x (in_role (get_or (roles_of r) k Roles.Same) (opened (opening_of r) i a c)) (a + width_of k nodes) (a + width_of (suc k) nodes) (at vs k)) (get_or_append_left (right_side r) ss (Word K.Comma) k b)
-          (subst (λ q. Claim (symbol (right_side r ++ ss) k) q (a + width_of k nodes) (a + width_of (suc k) nodes) (at vs k))
+          subst (λ x. Claim x (in_role (get_or (roles_of r) k Roles.Same) (opened (opening_of r) i a c)) (a + width_of k nodes) (a + width_of (suc k) nodes) (at vs k) (get_or fs k nothing)) (get_or_append_left (right_side r) ss (Word K.Comma) k b)
+          (subst (λ q. Claim (symbol (right_side r ++ ss) k) q (a + width_of k nodes) (a + width_of (suc k) nodes) (at vs k) (get_or fs k nothing))
           (context_in (roles_of r) (opened (opening_of r) i a c) 0 len cs k b ∙ ap (λ q. in_role (get_or (roles_of r) q Roles.Same) (opened (opening_of r) i a c)) (let e : 0 + k ≡ k = omega arith in e))
           (deeper k (below_more k (right_side r) ss b) (a + width_of k nodes) (a + width_of (suc k) nodes) refl refl))
 
-      by_place : ((k : ℕ) → k < length (right_side r ++ ss) → (lo hi : ℕ) → lo ≡ a + width_of k nodes → hi ≡ a + width_of (suc k) nodes → Claim (symbol (right_side r ++ ss) k) (get_or (parts_of i a c (Inner r) ++ cs) k start) lo hi (at vs k))
+      by_place : ((k : ℕ) → k < length (right_side r ++ ss) → (lo hi : ℕ) → lo ≡ a + width_of k nodes → hi ≡ a + width_of (suc k) nodes → Claim (symbol (right_side r ++ ss) k) (get_or (parts_of i a c (Inner r) ++ cs) k start) lo hi (at vs k) (get_or fs k nothing))
           → (k : ℕ) → k < length (Of p ∷ ss) → (lo hi : ℕ) → lo ≡ a + width_of k (Inner r ∷ nodes) → hi ≡ a + width_of (suc k) (Inner r ∷ nodes)
-          → Claim (symbol (Of p ∷ ss) k) (get_or (c ∷ cs) k start) lo hi (at (made_by s r n vs ∷ drop len vs) k)
+          → Claim (symbol (Of p ∷ ss) k) (get_or (c ∷ cs) k start) lo hi (at (made_by s r n vs ∷ drop len vs) k) (get_or (left (deed_of r) (found_at text m r fs) ∷ drop len fs) k nothing)
       by_place deeper zero h lo hi el eh =
           let e = ap (λ q. width_of q nodes) (let f : length (right_side r) + 0 ≡ length (right_side r) = omega arith in f) in
-          moved (Of p) c (a + width_of 0 nodes) (a + width_of len nodes) lo hi (made_by s r n vs) (omega (arith, el)) (omega (arith, eh, e))
-          (subst (λ q. Claim (Of q) c (a + width_of 0 nodes) (a + width_of len nodes) (made_by s r n vs)) g.0
-          (made_claim i a n c (λ k. a + width_of k nodes) vs _ at_token (omega arith) (λ k. let m = width_more nodes k (suc k) (omega arith) in omega (arith, m)) r inc own_few (behind deeper)))
+          moved (Of p) c (a + width_of 0 nodes) (a + width_of len nodes) lo hi (made_by s r n vs) (left (deed_of r) (found_at text m r fs)) (omega (arith, el)) (omega (arith, eh, e))
+          (subst (λ q. Claim (Of q) c (a + width_of 0 nodes) (a + width_of len nodes) (made_by s r n vs) (left (deed_of r) (found_at text m r fs))) g.0
+          (made_claim i a n m c (λ k. a + width_of k nodes) vs fs _ at_token same (omega arith) (λ k. let m = width_more nodes k (suc k) (omega arith) in omega (arith, m)) r absent inc own_few (behind deeper)))
       by_place deeper (suc k) h lo hi el eh =
           let next = ap (λ q. width_of q nodes) (let e : len + suc k ≡ suc (len + k) = omega arith in e) in
           let x = deeper (len + k) (behind_more k (right_side r) ss (omega (arith, h))) lo hi (omega (arith, el)) (omega (arith, eh, next)) in
-          subst (λ q. Claim (symbol ss k) (get_or cs k start) lo hi (first q)) (sym (drop-drop k len vs))
-          (subst (λ y. Claim y (get_or cs k start) lo hi (at vs (len + k))) (get_or-append-add (right_side r) ss k (Word K.Comma))
-          (subst (λ q. Claim (symbol (right_side r ++ ss) (len + k)) q lo hi (at vs (len + k))) (context_behind (roles_of r) (opened (opening_of r) i a c) 0 len cs k (len + k) refl) x))
+          subst (λ f. Claim (symbol ss k) (get_or cs k start) lo hi (first (drop k (drop len vs))) f) (sym (drop_get len k fs))
+          (subst (λ q. Claim (symbol ss k) (get_or cs k start) lo hi (first q) (get_or fs (len + k) nothing)) (sym (drop-drop k len vs))
+          (subst (λ y. Claim y (get_or cs k start) lo hi (at vs (len + k)) (get_or fs (len + k) nothing)) (get_or-append-add (right_side r) ss k (Word K.Comma))
+          (subst (λ q. Claim (symbol (right_side r ++ ss) (len + k)) q lo hi (at vs (len + k)) (get_or fs (len + k) nothing)) (context_behind (roles_of r) (opened (opening_of r) i a c) 0 len cs k (len + k) refl) x)))

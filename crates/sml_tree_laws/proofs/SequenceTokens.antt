@@ -62,7 +62,7 @@ more_ahead [] ss = omega arith
 more_ahead (Word k ∷ xs) ss = let h = more_ahead xs ss in omega (arith, h)
 more_ahead (Of p ∷ xs) ss = omega arith
 
-abbrev is_sequence : Deed → Bool
+abbrev pub is_sequence : Deed → Bool
 is_sequence Deeds.Expression = true
 is_sequence Deeds.Pattern = true
 is_sequence Deeds.Head = true
@@ -325,7 +325,7 @@ module _ (n lo hi : ℕ) (es : List Event) (below : lo ≤ hi) (rest : EventsRis
       go None e = rise_lower es hi lo below rest
       go (Some atoms) e = let b = h refl atoms e in (b.0, rise_lower es hi (suc (token_of atoms 0)) b.1 rest)
 
-ahead_lower : (r : Rule) (p : Part) (ss : List Symbol) → part_of r ≡ p → ahead (Of p ∷ ss) ≤ ahead (right_side r ++ ss)
+pub ahead_lower : (r : Rule) (p : Part) (ss : List Symbol) → part_of r ≡ p → ahead (Of p ∷ ss) ≤ ahead (right_side r ++ ss)
 ahead_lower r p ss same = go (is_quiet p) refl
   where
     go : (b : Bool) → is_quiet p ≡ b → (if b then 1 else 0) ≤ ahead (right_side r ++ ss)
@@ -335,6 +335,13 @@ ahead_lower r p ss same = go (is_quiet p) refl
 not_false : (b : Bool) → not b ≡ true → b ≡ false
 not_false true h = absurd (false≢true h)
 not_false false h = refl
+
+-- a part of a rule with a sequence isn't quiet
+pub quiet_before : (r : Rule) (p : Part) (ss : List Symbol) → part_of r ≡ p → is_sequence (deed_of r) ≡ true → ahead (Of p ∷ ss) ≡ 0
+quiet_before r p ss same d = ap (λ b. if b then 1 else 0) (not_false (is_quiet p) (subst (λ q. not (is_quiet q) ≡ true) same (loud_so r d)))
+
+pub before_next : (r : Rule) (ss : List Symbol) → is_sequence (deed_of r) ≡ true → before_sequence r < ahead (right_side r ++ ss)
+before_next r ss d = let b = ltb-true _ _ (before_so r d) in let m = more_ahead (right_side r) ss in omega (arith, b, m)
 
 bar_of : (r : Rule) → is_bar r ≡ true → r ≡ G.Declarations D.ClauseMoreBar
 bar_of (G.Declarations D.ClauseMoreBar) h = refl
@@ -360,6 +367,11 @@ module _ (unit : List ℕ) (tokens : List Token) (next : Option Kind) (rest : Pa
   bar_so r nodes n ss kinds h b =
       second_one (text_at unit tokens) next rest outer nodes n _ Part.AtPat _ kinds (subst (λ q. Leads nodes (right_side q ++ ss) kinds next (Of rest ∷ [])) (bar_of r b) h) refl
 
+  pub own_token : (nodes : List Node) (n : ℕ) (r : Rule) (ss : List Symbol) (kinds : List Kind) → Leads nodes (right_side r ++ ss) kinds next (Of rest ∷ []) → is_sequence (deed_of r) ≡ true → (atoms : List Atom)
+      → sequence_in (found_at (text_at unit tokens) n r (founds_of (text_at unit tokens) nodes (starts_of n nodes))) ≡ Some atoms → token_of atoms 0 ≡ n + before_sequence r
+  own_token nodes n r ss kinds h d atoms e =
+      sequence_token (text_at unit tokens) n (founds_of (text_at unit tokens) nodes (starts_of n nodes)) r d (begins_so nodes n (right_side r) ss kinds h) (bar_so r nodes n ss kinds h) atoms e
+
   pub events_rise : (nodes : List Node) (n : ℕ) (ss : List Symbol) (kinds : List Kind) → Leads nodes ss kinds next (Of rest ∷ []) → EventsRise (n + ahead ss) (events_of unit tokens nodes (starts_of n nodes))
   events_rise [] n ss kinds h = tt
   events_rise (Leaf ∷ nodes) n [] kinds h = absurd h
@@ -382,8 +394,7 @@ module _ (unit : List ℕ) (tokens : List Token) (next : Option Kind) (rest : Pa
 
       between : is_sequence (deed_of r) ≡ true → (atoms : List Atom) → sequence_in (found_at (text_at unit tokens) n r fs) ≡ Some atoms → (n + ahead (Of p ∷ ss) ≤ token_of atoms 0) × (token_of atoms 0 < n + ahead (right_side r ++ ss))
       between d atoms e =
-          let t = sequence_token (text_at unit tokens) n fs r d (begins_so nodes n (right_side r) ss kinds h.2) (bar_so r nodes n ss kinds h.2) atoms e in
-          let none : ahead (Of p ∷ ss) ≡ 0 = ap (λ b. if b then 1 else 0) (not_false (is_quiet p) (subst (λ q. not (is_quiet q) ≡ true) h.0 (loud_so r d))) in
-          let before = ltb-true _ _ (before_so r d) in
-          let more = more_ahead (right_side r) ss in
-          (omega (arith, t, none), omega (arith, t, before, more))
+          let t = own_token nodes n r ss kinds h.2 d atoms e in
+          let none = quiet_before r p ss h.0 d in
+          let before = before_next r ss d in
+          (omega (arith, t, none), omega (arith, t, before))

@@ -2,6 +2,7 @@
 use Rattle.std.proofs.Common.{◌≡◌, ℕ, zero, suc, ◌+◌, ◌-◌, ◌<◌, ◌≤◌, List, [], ◌∷◌, ◌++◌, Bool, true, false, Option, Some, None, IfSome, length, take, drop, refl, sym, ap, ◌∙◌, subst, arith}
 use Rattle.std.specs.Prelude.{slice_get, if◌then◌else◌}
 use Rattle.std.specs.List.{All, before_first, cons_option}
+use Rattle.std.specs.Option.{option_map}
 use Rattle.std.proofs.lemmas.Bool.{false≢true}
 use Rattle.std.proofs.lemmas.List.{take_all}
 use Rattle.std.proofs.lemmas.List.Elements.{All-nil, All-cons, All-weaker}
@@ -26,12 +27,13 @@ use Rattle.sml_read.specs.Spelling.{first_of, is_outer, kinds_of, Leads}
 use Rattle.sml_read.specs.Extents.{starts_of}
 use Rattle.sml_phrases.specs.Phrases.{first}
 use Rattle.sml_phrases.specs.PhraseHeights.{low}
+use Rattle.sml_reach.specs.declared.sense.Deed.{Deed}
 use Rattle.sml_reach.specs.declared.sense.Deed.TheVariants as D
 use Rattle.sml_reach.specs.declared.reach.Misfit.{Misfit}
-use Rattle.sml_reach.specs.Senses.{deed_of}
-use Rattle.sml_reach.specs.Events.{Event, begins, enters, leaves, directs, expression, pattern, head, text_at, found_at, event_of, event_from, events_of, founds_of}
+use Rattle.sml_reach.specs.Senses.{deed_of, opens, closes}
+use Rattle.sml_reach.specs.Events.{Event, begins, enters, leaves, directs, expression, pattern, head, text_at, found_at, scope_event, event_of, event_from, events_of, founds_of}
 use Rattle.sml_reach.specs.Fits.{Fit, Fitted}
-use Rattle.sml_reach.specs.Founds.{Found}
+use Rattle.sml_reach.specs.Founds.{Atom, Found, nothing, word, one, several, within, directed, sequence_in}
 use Rattle.sml_reach.specs.Reach as Reach
 use Rattle.sml_reach.specs.Reach.{AreFitted, Outcome, declares, idle, stands, fails, Outcomes, State, declarations_in, before_misfit, up_to}
 use Rattle.sml_flaws.specs.declared.flaw.Flaw.{Flaw}
@@ -40,7 +42,7 @@ use Rattle.sml_flaws.specs.Flawed.{begins_at, ends_at, own_nodes, flaw_in, flaw_
 use Rattle.sml_bare.specs.RulePhrases.{declaration}
 use Rattle.sml_bare.specs.Derivations.{Source, place_at, phrases_of, are_low, top_if_low, bare_dec_at, bare_decs, before_none}
 use Rattle.sml_tree_laws.specs.Scoped.{TopScoped, VariablesAreScopedOnce}
-use Rattle.sml_tree_laws.proofs.Declared.{goes_of, none_or, made, top_scoped, next_scoped, exp_scoped}
+use Rattle.sml_tree_laws.proofs.Declared.{stop, go_on, goes_of, none_or, made, top_scoped, next_scoped, exp_scoped}
 use Rattle.sml_lex.specs.declared.token.End.{End}
 use Rattle.sml_lex.specs.Faults.{Fault}
 use Rattle.sml_tree.specs.Trees as Piece
@@ -48,11 +50,10 @@ use Rattle.sml_parse.specs.Trees.{AreTrees}
 use Rattle.sml_tree_laws.specs.WellBound.{TopBound, TreesAreWellBound}
 use Rattle.sml_tree_laws.proofs.WellDeclared.{top_well, next_well, exp_well}
 use Rattle.sml_lex.specs.Pieces.{Spells}
-use Rattle.sml_rules.specs.Every.{Every}
+use Rattle.sml_read.proofs.Tables.{each_rule, implies, implied}
 use Rattle.sml_tree_laws.specs.Recursive.{TopRec, RecursiveNamesMayBeBound}
-use Rattle.sml_tree_laws.proofs.Phrases.{every_drop}
 use Rattle.sml_tree_laws.proofs.SequenceTokens.{events_rise}
-use Rattle.sml_tree_laws.proofs.SequenceFits.{FitsRise, AreBuilt, FitsWell, all_fit}
+use Rattle.sml_tree_laws.proofs.SequenceFits.{FitsRise, AreBuilt, FitsWell, AllCome, Tells, tells_none, all_fit}
 use Rattle.sml_tree_laws.proofs.RecDeclared.{fewer, top_recursive, next_recursive, exp_recursive}
 
 -- what is proved of a declaration, where K holds of its unit
@@ -134,6 +135,72 @@ few_declared text s (directs directive level atoms ∷ events) all h = other tex
 few_declared text s (expression atoms ∷ events) all h = other text h.0 h.2 all events (few_declared text h.1 events h.2 h.4) h.5
 few_declared text s (pattern atoms ∷ events) all h = other text h.0 h.2 all events (few_declared text h.1 events h.2 h.4) h.5
 few_declared text s (head atoms ∷ events) all h = other text h.0 h.2 all events (few_declared text h.1 events h.2 h.4) h.5
+
+-- what is told of the declarations behind an event
+
+abbrev is_begins : Deed → Bool
+is_begins D.Begins = true
+is_begins _ = false
+
+not_begun : (rule : Rule) → begins_at rule ≡ false → is_begins (deed_of rule) ≡ false
+not_begun rule h = go (is_begins (deed_of rule)) refl
+  where
+    go : (b : Bool) → is_begins (deed_of rule) ≡ b → b ≡ false
+    go false e = refl
+    go true e = absurd (false≢true (sym h ∙ implied _ _ (each_rule (λ r. implies (is_begins (deed_of r)) (begins_at r)) refl rule) e))
+
+tells_scope : (o : Option Token) (es : List Event) (ds : List Fitted) → Tells (cons_option (scope_event o) es) ds → Tells es ds
+tells_scope None es ds h = h
+tells_scope (Some token) es ds h = go (opens token.kind) (closes token.kind) h
+  where
+    go : (a b : Bool) → Tells (cons_option (if a then Some enters else if b then Some leaves else None) es) ds → Tells es ds
+    go true b h = h
+    go false true h = h
+    go false false h = h
+
+tells_other : (d : Deed) (n : ℕ) (f : Found) (es : List Event) (ds : List Fitted) → is_begins d ≡ false → Tells (cons_option (event_of d n f) es) ds → Tells es ds
+tells_other D.Nothing n f es ds b h = h
+tells_other D.Begins n f es ds b h = absurd (false≢true (sym b))
+tells_other (D.Directs directive) n (directed level atoms) es ds b h = h
+tells_other (D.Directs directive) n nothing es ds b h = h
+tells_other (D.Directs directive) n (word k) es ds b h = h
+tells_other (D.Directs directive) n (one a) es ds b h = h
+tells_other (D.Directs directive) n (several atoms typed) es ds b h = h
+tells_other (D.Directs directive) n (within names) es ds b h = h
+tells_other D.Expression n f es ds b h = go (sequence_in f) h
+  where
+    go : (o : Option (List Atom)) → Tells (cons_option (option_map expression o) es) ds → Tells es ds
+    go None h = h
+    go (Some atoms) h = h
+tells_other D.Pattern n f es ds b h = go (sequence_in f) h
+  where
+    go : (o : Option (List Atom)) → Tells (cons_option (option_map pattern o) es) ds → Tells es ds
+    go None h = h
+    go (Some atoms) h = h
+tells_other D.Head n f es ds b h = go (sequence_in f) h
+  where
+    go : (o : Option (List Atom)) → Tells (cons_option (option_map head o) es) ds → Tells es ds
+    go None h = h
+    go (Some atoms) h = h
+
+tells_drop : (n : ℕ) (es : List Event) (ds : List Fitted) → Tells (begins n ∷ es) ds → Tells es (drop 1 ds)
+tells_drop n es [] h = tells_none es
+tells_drop n es (d ∷ ds) h = h.1
+
+-- the nodes of a declaration, and those behind it
+
+behind_first : List Node → List Node
+behind_first nodes = drop (length (before_first ends_at nodes)) nodes
+
+first_and_behind : (nodes : List Node) → before_first ends_at nodes ++ behind_first nodes ≡ nodes
+unfolding behind_first
+first_and_behind [] = refl
+first_and_behind (node ∷ nodes) = go (ends_at node) refl (first_and_behind nodes)
+  where
+    go : (b : Bool) → ends_at node ≡ b → before_first ends_at nodes ++ drop (length (before_first ends_at nodes)) nodes ≡ nodes
+        → before_first ends_at (node ∷ nodes) ++ drop (length (before_first ends_at (node ∷ nodes))) (node ∷ nodes) ≡ node ∷ nodes
+    go true e h = ap (λ q. q ++ drop (length q) (node ∷ nodes)) (stop node nodes e)
+    go false e h = ap (λ q. q ++ drop (length q) (node ∷ nodes)) (go_on node nodes e) ∙ ap (λ q. node ∷ q) h
 
 -- declarations before the fault
 
@@ -260,9 +327,15 @@ module _ (unit : List ℕ) (tokens : List Token) (end : End) where
   reads n b toks same j t e = ap (slice_get (drop n tokens)) (let f : 0 + j ≡ j = omega arith in f) ∙ ap (λ xs. slice_get xs j) (sym same) ∙ slice_take b j toks t e
 
   module _ (n b : ℕ) (toks : List Token) (same : toks ≡ drop n tokens) (fits : List Fit) (nodes : List Node) (old : List Symbol) (next : Option Kind) (rest : Part) (outer : is_outer rest ≡ true)
-      (p : Place) (rise : FitsRise 0 fits) (built : AreBuilt fits) where
+      (p : Place) (rise : FitsRise 0 fits) (built : AreBuilt fits) (come : AllCome fits (events_of unit tokens nodes (starts_of n nodes))) where
     abbrev own : List Node
     own = before_first ends_at nodes
+
+    own_come : AllCome fits (events_of unit tokens (own ++ behind_first nodes) (starts_of n (own ++ behind_first nodes)))
+    own_come = subst (λ ns. AllCome fits (events_of unit tokens ns (starts_of n ns))) (sym (first_and_behind nodes)) come
+
+    own_leads : (q : Part) (more : List Symbol) → Leads nodes (Of q ∷ more) (kinds_of (take b toks)) next (Of rest ∷ []) → Leads (own ++ behind_first nodes) (Of q ∷ more) (kinds_of (take b toks)) next (Of rest ∷ [])
+    own_leads q more leads = subst (λ ns. Leads ns (Of q ∷ more) (kinds_of (take b toks)) next (Of rest ∷ [])) (sym (first_and_behind nodes)) leads
 
     unit_good : (rule : UnitRule) → begins_at (G.Units rule) ≡ true → Leads nodes (right_side (G.Units rule) ++ old) (kinds_of (take b toks)) next (Of rest ∷ [])
         → flaws (text_at unit tokens) fits n (Inner (G.Units rule) ∷ own) ≡ [] → TopLawful K (declaration p (made unit tokens n fits own (take b toks) (reads n b toks same)))
@@ -271,21 +344,21 @@ module _ (unit : List ℕ) (tokens : List Token) (end : End) where
         (
           top_scoped unit tokens n fits own (take b toks) (reads n b toks same) clean goes p,
           top_well unit tokens n fits own (take b toks) (reads n b toks same) clean goes p,
-          (λ spells. top_recursive unit tokens n fits own (take b toks) (reads n b toks same) rise built end spells (fewer b n toks tokens same) clean goes p),
+          (λ spells. top_recursive unit tokens n fits own (take b toks) (reads n b toks same) rise built end spells (fewer b n toks tokens same) (Of AfterTop ∷ old) (behind_first nodes) next rest outer own_come (kinds_of (take b toks)) (own_leads Top (Of AfterTop ∷ old) leads) clean goes p),
         )
     unit_good U.AfterTopTop h leads clean =
         let goes = goes_of nodes (Of Top ∷ []) old AfterTop rest (kinds_of (take b toks)) next refl refl leads in
         (
           next_scoped unit tokens n fits own (take b toks) (reads n b toks same) clean goes p,
           next_well unit tokens n fits own (take b toks) (reads n b toks same) clean goes p,
-          (λ spells. next_recursive unit tokens n fits own (take b toks) (reads n b toks same) rise built end spells (fewer b n toks tokens same) clean goes p),
+          (λ spells. next_recursive unit tokens n fits own (take b toks) (reads n b toks same) rise built end spells (fewer b n toks tokens same) (Of AfterTop ∷ old) (behind_first nodes) next rest outer own_come (kinds_of (take b toks)) (own_leads Top (Of AfterTop ∷ old) leads) clean goes p),
         )
     unit_good U.StartExp h leads clean =
         let goes = goes_of nodes (Of Exp ∷ []) old AfterExp rest (kinds_of (take b toks)) next refl refl leads in
         (
           exp_scoped unit tokens n fits own (take b toks) (reads n b toks same) clean goes p,
           exp_well unit tokens n fits own (take b toks) (reads n b toks same) clean goes p,
-          (λ spells. exp_recursive unit tokens n fits own (take b toks) (reads n b toks same) rise built end spells (fewer b n toks tokens same) clean goes p),
+          (λ spells. exp_recursive unit tokens n fits own (take b toks) (reads n b toks same) rise built end spells (fewer b n toks tokens same) (Of AfterExp ∷ old) (behind_first nodes) next rest outer own_come (kinds_of (take b toks)) (own_leads Exp (Of AfterExp ∷ old) leads) clean goes p),
         )
     unit_good _ h leads clean = absurd (false≢true h)
 
@@ -304,21 +377,21 @@ module _ (unit : List ℕ) (tokens : List Token) (end : End) where
   -- a declaration with this flaw or none, and those behind it
   module _ (rule : Rule) (n count b : ℕ) (toks : List Token) (same : toks ≡ drop n tokens) (nodes : List Node) (old : List Symbol) (next : Option Kind) (rest : Part) (outer : is_outer rest ≡ true)
       (begin : begins_at rule ≡ true) (leads : Leads nodes (right_side rule ++ old) (kinds_of (take b toks)) next (Of rest ∷ [])) (later : Option Misfit) where
-    here : (x : Fitted) (fitted : List Fitted) (flaw : Option Flaw) → FitsWell x → first_flaw (flaws (text_at unit tokens) x.fits n (Inner rule ∷ before_first ends_at nodes)) ≡ flaw
+    here : (x : Fitted) (fitted : List Fitted) (flaw : Option Flaw) → FitsWell x × AllCome x.fits (events_of unit tokens nodes (starts_of n nodes)) → first_flaw (flaws (text_at unit tokens) x.fits n (Inner rule ∷ before_first ends_at nodes)) ≡ flaw
         → IsBefore (suc count) (or_else (flaw_in (suc count) n (own_nodes (Inner rule ∷ nodes)) flaw) later) → IfSome (bare_dec_at unit tokens n (before_first ends_at nodes) (x ∷ fitted)) (TopLawful K)
     here x fitted None well e h =
         let own = before_first ends_at nodes in
         let s : Source = record { unit = unit; tokens = drop n tokens; begun = n; fits = x.fits } in
         let p = place_at s.unit s.tokens 0 in
         low_good K (declaration p (first (phrases_of s own (starts_of 0 own)))) (are_low s own (starts_of 0 own))
-        (rule_good n b toks same x.fits nodes old next rest outer p well.0 well.1 rule begin leads (none_or (flaws (text_at unit tokens) x.fits n (Inner rule ∷ own)) e))
+        (rule_good n b toks same x.fits nodes old next rest outer p well.0.0 well.0.1 well.1 rule begin leads (none_or (flaws (text_at unit tokens) x.fits n (Inner rule ∷ own)) e))
     here x fitted (Some flaw) well e h = absurd (omega (arith, h))
 
     not_earlier : (flaw : Option Flaw) → (k : ℕ) → suc count < k → IsBefore k (or_else (flaw_in (suc count) n (own_nodes (Inner rule ∷ nodes)) flaw) later) → IsBefore k later
     not_earlier None k l h = h
     not_earlier (Some flaw) k l h = absurd (omega (arith, l, h))
 
-    own_good : (fitted : List Fitted) (ds : List (Option (TopDec Place))) → Every FitsWell fitted → EachGood K (suc count) later (drop 1 fitted) ds
+    own_good : (fitted : List Fitted) (ds : List (Option (TopDec Place))) → Tells (begins n ∷ events_of unit tokens nodes (starts_of n nodes)) fitted → EachGood K (suc count) later (drop 1 fitted) ds
         → EachGood K count (or_else (flaw_here (text_at unit tokens) (suc count) n (own_nodes (Inner rule ∷ nodes)) fitted) later) fitted (bare_dec_at unit tokens n (before_first ends_at nodes) fitted ∷ ds)
     own_good [] ds well more = ((λ h l. absurd (omega (arith, l))), more)
     own_good (x ∷ fitted) ds well more =
@@ -327,7 +400,7 @@ module _ (unit : List ℕ) (tokens : List Token) (end : End) where
           good_weaker K (suc count) later (or_else (flaw_in (suc count) n (own_nodes (Inner rule ∷ nodes)) flaw) later) fitted ds (not_earlier flaw) more,
         )
 
-  each_good : (nodes : List Node) (n count b : ℕ) (old : List Symbol) (toks : List Token) (next : Option Kind) (rest : Part) (fitted : List Fitted) → Every FitsWell fitted → toks ≡ drop n tokens → is_outer rest ≡ true
+  each_good : (nodes : List Node) (n count b : ℕ) (old : List Symbol) (toks : List Token) (next : Option Kind) (rest : Part) (fitted : List Fitted) → Tells (events_of unit tokens nodes (starts_of n nodes)) fitted → toks ≡ drop n tokens → is_outer rest ≡ true
       → Leads nodes old (kinds_of (take b toks)) next (Of rest ∷ []) → EachGood K count (first_flawed (text_at unit tokens) n count nodes toks fitted) fitted (bare_decs unit tokens n nodes fitted)
   each_good [] n count b old toks next rest fitted well same outer leads = tt
   each_good (Leaf ∷ nodes) n count b [] toks next rest fitted well same outer leads = absurd leads
@@ -335,23 +408,33 @@ module _ (unit : List ℕ) (tokens : List Token) (end : End) where
   each_good (Leaf ∷ nodes) n count zero (Word w ∷ old) toks next rest fitted well same outer leads = absurd leads
   each_good (Leaf ∷ nodes) n count (suc b) (Word w ∷ old) [] next rest fitted well same outer leads = absurd leads
   each_good (Leaf ∷ nodes) n count (suc b) (Word w ∷ old) (t ∷ toks) next rest fitted well same outer leads =
-      each_good nodes (suc n) count b old toks next rest fitted well (drop_next n tokens toks t same) outer leads.1
+      each_good nodes (suc n) count b old toks next rest fitted (tells_scope (slice_get tokens n) (events_of unit tokens nodes (starts_of (suc n) nodes)) fitted well) (drop_next n tokens toks t same) outer leads.1
   each_good (Inner rule ∷ nodes) n count b [] toks next rest fitted well same outer leads = absurd leads
   each_good (Inner rule ∷ nodes) n count b (Word w ∷ old) toks next rest fitted well same outer leads = absurd leads
   each_good (Inner rule ∷ nodes) n count b (Of p ∷ old) toks next rest fitted well same outer leads =
       go (begins_at rule) refl
-      (each_good nodes n (suc count) b (right_side rule ++ old) toks next rest (drop 1 fitted) (every_drop FitsWell 1 fitted well) same outer leads.2)
-      (each_good nodes n count b (right_side rule ++ old) toks next rest fitted well same outer leads.2)
+      (λ w. each_good nodes n (suc count) b (right_side rule ++ old) toks next rest (drop 1 fitted) w same outer leads.2)
+      (λ w. each_good nodes n count b (right_side rule ++ old) toks next rest fitted w same outer leads.2)
     where
       later : Option Misfit
       later = first_flawed (text_at unit tokens) n (suc count) nodes toks (drop 1 fitted)
 
-      go : (c : Bool) → begins_at rule ≡ c → EachGood K (suc count) later (drop 1 fitted) (bare_decs unit tokens n nodes (drop 1 fitted))
-          → EachGood K count (first_flawed (text_at unit tokens) n count nodes toks fitted) fitted (bare_decs unit tokens n nodes fitted)
+      events : List Event
+      events = events_of unit tokens nodes (starts_of n nodes)
+
+      found : Found
+      found = found_at (text_at unit tokens) n rule (founds_of (text_at unit tokens) nodes (starts_of n nodes))
+
+      told : begins_at rule ≡ true → Tells (begins n ∷ events) fitted
+      told e = subst (λ d. Tells (cons_option (event_of d n found) events) fitted) (begins_deed rule e) well
+
+      go : (c : Bool) → begins_at rule ≡ c → (Tells events (drop 1 fitted) → EachGood K (suc count) later (drop 1 fitted) (bare_decs unit tokens n nodes (drop 1 fitted)))
+          → (Tells events fitted → EachGood K count (first_flawed (text_at unit tokens) n count nodes toks fitted) fitted (bare_decs unit tokens n nodes fitted))
           → EachGood K count (if c then or_else (flaw_here (text_at unit tokens) (suc count) n (own_nodes (Inner rule ∷ nodes)) fitted) later else first_flawed (text_at unit tokens) n count nodes toks fitted) fitted
           (if c then bare_dec_at unit tokens n (before_first ends_at nodes) fitted ∷ bare_decs unit tokens n nodes (drop 1 fitted) else bare_decs unit tokens n nodes fitted)
-      go true e more others = own_good rule n count b toks same nodes old next rest outer e leads.2 later fitted (bare_decs unit tokens n nodes (drop 1 fitted)) well more
-      go false e more others = others
+      go true e more others =
+          own_good rule n count b toks same nodes old next rest outer e leads.2 later fitted (bare_decs unit tokens n nodes (drop 1 fitted)) (told e) (more (tells_drop n events fitted (told e)))
+      go false e more others = others (tells_other (deed_of rule) n found events fitted (not_begun rule e) well)
 
   -- those before the last fault
   module _ (nodes : List Node) (fitted : List Fitted) (unfit : Option Misfit) (fit : AreFitted (text_at unit tokens) (events_of unit tokens nodes (starts_of 0 nodes)) fitted unfit)
@@ -394,7 +477,7 @@ all_lawful unit tokens end tops decs fault trees =
     let leads = subst (λ ks. Leads trees.nodes (Of Start ∷ []) ks next (Of whole.part ∷ [])) (sym (kinds_taken trees.begun tokens)) whole.leads in
     let events = events_of unit tokens trees.nodes (starts_of 0 trees.nodes) in
     let rise = events_rise unit tokens next whole.part whole.outer trees.nodes 0 (Of Start ∷ []) (kinds_of (take trees.begun tokens)) leads in
-    let well = subst (Every FitsWell) (sym trees.fits.are_fitted) (all_fit (text_at unit tokens) Reach.start events trees.fits.outcomes _ trees.unfit trees.fits.happen rise) in
+    let well = subst (Tells events) (sym trees.fits.are_fitted) (all_fit (text_at unit tokens) Reach.start events trees.fits.outcomes _ trees.unfit trees.fits.happen rise) in
     let each = each_good unit tokens end trees.nodes 0 0 trees.begun (Of Start ∷ []) tokens next whole.part trees.fitted well refl whole.outer leads in
     let good = by_flaw unit tokens end trees.nodes trees.fitted trees.unfit trees.fits each (first_flawed (text_at unit tokens) 0 0 trees.nodes tokens trees.fitted) refl in
     subst (All (TopLawful (Spells unit tokens end))) (sym trees.made)

@@ -1,5 +1,6 @@
 -- What value declarations bind behind `rec` (the Definition, section 2.9): functions, and patterns in which no name that stands
--- by itself is `true`, `false`, `::` or `ref`. Of `nil` nothing is said: it is also what `[]` stands for.
+-- by itself is `true`, `false`, `::` or `ref`, and none before `as` one of these or `nil`. Where a name stands by itself `nil`
+-- is also what `[]` stands for.
 use Rattle.std.specs.Prelude.{◌≡◌, ◌⊎◌, ℕ, List, [], ◌∷◌, Option, false}
 use Rattle.std.specs.List.{All}
 use Rattle.sml_lex.specs.declared.fault.Place.{Place}
@@ -22,7 +23,8 @@ use Rattle.sml_parse.specs.Trees.{AreTrees}
 abbrev pub MayBeRecursive : Id → Type 0
 MayBeRecursive x = (is_reserved x ≡ false) ⊎ (x ≡ nil_id)
 
--- each short name that stands in a pattern by itself, and is not a constructor before its argument, is such a one
+-- Each short name that stands in a pattern by itself, and is no constructor before its argument, is such a one; one before `as`
+-- isn't `nil` either.
 abbrev mutual
   pub RecPat : {P : Type 0} → Pat P → Type 0
   RecPat (wildcard p) = Unit {0}
@@ -33,7 +35,7 @@ abbrev mutual
   RecPat (pat_bracket p q) = RecPat q
   RecPat (pat_apply p x q) = RecPat q
   RecPat (pat_typed p q t) = RecPat q
-  RecPat (pat_as p x t q) = RecPat q
+  RecPat (pat_as p x t q) = (is_reserved x.id ≡ false) × RecPat q
 
   pub RecPats : {P : Type 0} → Pats P → Type 0
   RecPats no_pat = Unit {0}

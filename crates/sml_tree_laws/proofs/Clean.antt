@@ -26,7 +26,7 @@ five_none None None None (Some x) e h = cc
 five_none None None None None (Some x) h = cc
 
 module _ (text : ℕ → Id) (fits : List Fit) where
-  none_by : (known : List Mark) (m : Mark) (again : Bool) → flaws_by text fits known m again ≡ [] → (again ≡ false) × (barred text fits known m ≡ None) × (real m ≡ None)
+  pub none_by : (known : List Mark) (m : Mark) (again : Bool) → flaws_by text fits known m again ≡ [] → (again ≡ false) × (barred text fits known m ≡ None) × (real m ≡ None)
   none_by known m again e =
       let n = five_none (flaw_if again (token_in m) _) (unlike text fits known m) (uneven fits known m) (barred text fits known m) (real m) e in
       (if_none again (token_in m) _ n.0, n.1, n.2)

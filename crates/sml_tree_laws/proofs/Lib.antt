@@ -39,5 +39,10 @@ mod RecPatterns
 mod Layers
 mod RecDeclarations
 mod RecWalk
+mod HeadNames
+mod MarksApart
+mod ClauseNames
+mod Links
+mod FunctionNames
 mod RecDeclared
 mod Units

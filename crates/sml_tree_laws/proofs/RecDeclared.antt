@@ -2,7 +2,7 @@
 use Rattle.std.proofs.Common.{◌≡◌, ℕ, zero, suc, ◌+◌, ◌<◌, ◌≤◌, List, [], ◌∷◌, ◌++◌, Bool, true, false, Option, Some, length, take, drop, eqb, refl, sym, ap, ◌∙◌, subst, inl, inr, ◌⊎◌, append_assoc, arith}
 use Rattle.std.specs.Prelude.{not, flat_map, slice_get, slice_range}
 use Rattle.std.specs.List.{position_or_len, slice_split}
-use Rattle.std.proofs.lemmas.Bool.{cond-true, cond-false}
+use Rattle.std.proofs.lemmas.Bool.{false≢true, cond-true, cond-false}
 use Rattle.std.proofs.lemmas.List.Splits.{slice_split_first, length-slice_split}
 use Rattle.std.proofs.lemmas.List.{length-append}
 use Rattle.sml_lex.specs.declared.fault.Place.{Place}
@@ -11,7 +11,7 @@ use Rattle.sml_lex.specs.declared.token.Kind.TheVariants as K
 use Rattle.sml_lex.specs.declared.token.End.{End}
 use Rattle.sml_lex.specs.declared.token.Token.{Token}
 use Rattle.sml_lex.specs.Bytes.{dot}
-use Rattle.sml_lex.specs.Tokens.{IsLong, IsToken, qualifiers}
+use Rattle.sml_lex.specs.Tokens.{IsLong, IsToken}
 use Rattle.sml_lex.specs.Pieces.{AreInOrder, Spells, SpellsUnit, IsOverLimit}
 use Rattle.sml_lex.proofs.Order.{tokens_are_in_order}
 use Rattle.sml_tree.specs.Trees.{Id}
@@ -40,11 +40,12 @@ use Rattle.sml_flaws.specs.Flaws.{flaws_of, scoped_of, flaws}
 use Rattle.sml_bare.specs.RulePhrases.{declaration}
 use Rattle.sml_tree_laws.specs.Recursive.{TopRec}
 use Rattle.sml_tree_laws.proofs.RecPhrases.{PhraseRec, top_rec}
-use Rattle.sml_tree_laws.proofs.RecWalk.{is_long, Claim, recs}
+use Rattle.sml_tree_laws.proofs.RecWalk.{is_long, recs}
 use Rattle.sml_tree_laws.proofs.BoundWalk.{width_of}
 use Rattle.sml_tree_laws.proofs.SequenceTokens.{ahead}
 use Rattle.sml_tree_laws.proofs.SequenceFits.{FitsRise, AreBuilt, ComesFrom, AllCome}
 use Rattle.sml_tree_laws.proofs.SequenceOrigins.{every_map, Coming}
+use Rattle.sml_tree_laws.proofs.MarksApart.{is_atom, in_sequence, Apart, marks_apart}
 use Rattle.sml_tree_laws.proofs.Walk.{Goes}
 use Rattle.sml_tree_laws.proofs.Clean.{both_none}
 use Rattle.sml_tree_laws.proofs.Declared.{source, made, counted}
@@ -166,22 +167,28 @@ module _ (unit : List ℕ) (tokens : List Token) (n : ℕ) (fits : List Fit) (ow
     none = (both_none (flaws_of (text_at unit tokens) fits [] marks) (scoped_of (text_at unit tokens) (ends_of 0 (Inner (Units rule) ∷ own)) marks marks) clean).0
 
     -- the first phrase, in the first of these contexts
-    first_rec : (q : Part) (c : Context) (cs : List Context) (kinds : List Kind) → Leads (own ++ past) (Of q ∷ old) kinds next (Of rest ∷ []) → Goes own (Of q ∷ []) (kinds_of left) → ((m : Mark) → Stands m (marks_of 1 n (c ∷ cs) own) → Stands m marks) → PhraseRec (made unit tokens n fits own left reads)
-    first_rec q c cs kinds leads g inc =
-        (recs (source unit tokens n fits own left reads) tokens marks (counted unit tokens n fits own left reads) none rise built dotted old past next rest outer own 1 0 n n (Of q ∷ []) (c ∷ cs) left kinds leads coming refl (omega arith) g tt reads inc few
+    first_rec : (q : Part) (c : Context) (cs : List Context) (kinds : List Kind) → Leads (own ++ past) (Of q ∷ old) kinds next (Of rest ∷ []) → Goes own (Of q ∷ []) (kinds_of left) → (in_sequence (Of q) c.word ≡ true → ⊥) → (is_atom c.word ≡ true → ⊥) → marks ≡ marks_of 1 n (c ∷ cs) own → PhraseRec (made unit tokens n fits own left reads)
+    first_rec q c cs kinds leads g single plain whole =
+        (recs (source unit tokens n fits own left reads) tokens marks (counted unit tokens n fits own left reads) none apart (few_tokens unit tokens end spells) rise built dotted old past next rest outer own 1 0 n n (Of q ∷ []) (c ∷ cs) left kinds leads coming refl (omega arith) g tt reads (λ m st. subst (Stands m) (sym whole) st) [] whole few
         0 (omega arith) (n + width_of 0 own) (n + width_of 1 own) refl refl).0
       where
         coming : Coming unit tokens next rest outer fits n (Of q ∷ old) (own ++ past)
         coming = every_map (λ fit. ComesFrom fit (events_of unit tokens (own ++ past) (starts_of n (own ++ past)))) (λ fit. n + ahead (Of q ∷ old) ≤ fit.token → ComesFrom fit (events_of unit tokens (own ++ past) (starts_of n (own ++ past)))) fits (λ fit h l. h) come
 
+        narrow : width_of 1 own ≤ 1048576
+        narrow = let w = goes_width own (Of q ∷ []) (kinds_of left) g in let k = as_many_kinds left in let f = few_tokens unit tokens end spells in omega (arith, w, k, short, f)
+
         few : n + width_of 1 own ≤ n + 1048576
-        few = let w = goes_width own (Of q ∷ []) (kinds_of left) g in let k = as_many_kinds left in let f = few_tokens unit tokens end spells in omega (arith, w, k, short, f)
+        few = omega (arith, narrow)
+
+        apart : Apart marks
+        apart = subst Apart (sym whole) (marks_apart own 1 n 0 (Of q ∷ []) (c ∷ cs) (kinds_of left) g tt ((λ h. absurd (single h)), (λ h. absurd (plain h)), tt) (omega (arith, narrow)))
 
   pub top_recursive : (kinds : List Kind) → Leads (own ++ past) (Of Top ∷ old) kinds next (Of rest ∷ []) → flaws (text_at unit tokens) fits n (Inner (Units U.StartTop) ∷ own) ≡ [] → Goes own (Of Top ∷ []) (kinds_of left) → (p : Place) → TopRec (declaration p (made unit tokens n fits own left reads))
-  top_recursive kinds leads clean g p = declared_rec p (made unit tokens n fits own left reads) (first_rec U.StartTop clean Top start (start ∷ []) kinds leads g (λ m s. s))
+  top_recursive kinds leads clean g p = declared_rec p (made unit tokens n fits own left reads) (first_rec U.StartTop clean Top start (start ∷ []) kinds leads g (λ e. false≢true e) (λ e. false≢true e) refl)
 
   pub next_recursive : (kinds : List Kind) → Leads (own ++ past) (Of Top ∷ old) kinds next (Of rest ∷ []) → flaws (text_at unit tokens) fits n (Inner (Units U.AfterTopTop) ∷ own) ≡ [] → Goes own (Of Top ∷ []) (kinds_of left) → (p : Place) → TopRec (declaration p (made unit tokens n fits own left reads))
-  next_recursive kinds leads clean g p = declared_rec p (made unit tokens n fits own left reads) (first_rec U.AfterTopTop clean Top start (start ∷ []) kinds leads g (λ m s. s))
+  next_recursive kinds leads clean g p = declared_rec p (made unit tokens n fits own left reads) (first_rec U.AfterTopTop clean Top start (start ∷ []) kinds leads g (λ e. false≢true e) (λ e. false≢true e) refl)
 
   pub exp_recursive : (kinds : List Kind) → Leads (own ++ past) (Of Exp ∷ old) kinds next (Of rest ∷ []) → flaws (text_at unit tokens) fits n (Inner (Units U.StartExp) ∷ own) ≡ [] → Goes own (Of Exp ∷ []) (kinds_of left) → (p : Place) → TopRec (declaration p (made unit tokens n fits own left reads))
-  exp_recursive kinds leads clean g p = let c = opened O.Value 0 n start in declared_rec p (made unit tokens n fits own left reads) (first_rec U.StartExp clean Exp c (c ∷ []) kinds leads g (λ m s. s))
+  exp_recursive kinds leads clean g p = let c = opened O.Value 0 n start in declared_rec p (made unit tokens n fits own left reads) (first_rec U.StartExp clean Exp c (c ∷ []) kinds leads g (λ e. false≢true e) (λ e. false≢true e) refl)

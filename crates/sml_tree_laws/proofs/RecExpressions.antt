@@ -1,6 +1,6 @@
 -- What stands behind `rec` in expressions: sequences of atomic expressions, and the rules.
 use Rattle.std.specs.Prelude.{◌≡◌, ℕ, List, [], ◌∷◌, Option, Some, None, get_or, nat_lt, length, true, false}
-use Rattle.std.proofs.Common.{refl, inl, inr}
+use Rattle.std.proofs.Common.{refl, inl}
 use Rattle.sml_lex.specs.declared.fault.Place.{Place}
 use Rattle.sml_tree.specs.Names.{Name}
 use Rattle.sml_tree.specs.Types.{Tys, no_ty, and_ty}
@@ -138,7 +138,7 @@ expression_rec TyMoreColon p s vs h = tt
 expression_rec OpenRaise p s vs h = (exp_rec (at vs 1) (h 1 refl))
 expression_rec OpenIf p s vs h = ((exp_rec (at vs 3) (h 3 refl), (exp_rec (at vs 5) (h 5 refl), tt)), exp_rec (at vs 1) (h 1 refl))
 expression_rec OpenWhile p s vs h =
-    ((((inr (λ e. inl (hidden_free 0)), tt), tt, (((((((tt, tt), tt), exp_rec (at vs 3) (h 3 refl)), (tt, tt)), exp_rec (at vs 1) (h 1 refl)), tt), tt)), tt), (tt, tt))
+    (((((λ e. inl (hidden_free 0)), tt), tt, (((((((tt, tt), tt), exp_rec (at vs 3) (h 3 refl)), (tt, tt)), exp_rec (at vs 1) (h 1 refl)), tt), tt)), tt), (tt, tt))
 expression_rec OpenCase p s vs h = ((rules_rec (at vs 3) (h 3 refl)), (exp_rec (at vs 1) (h 1 refl)))
 expression_rec OpenFn p s vs h = (rules_rec (at vs 1) (h 1 refl))
 expression_rec MatchPat p s vs h = ((exp_rec (at vs 2) (h 2 refl)), (rules_rec (at vs 3) (h 3 refl)))

@@ -12,7 +12,7 @@ use Rattle.sml_read.specs.declared.grammar.SignatureRule.{SignatureRule}
 use Rattle.sml_read.specs.declared.grammar.SignatureRule.TheVariants as N
 use Rattle.sml_read.specs.declared.grammar.SpecificationRule.{SpecificationRule}
 use Rattle.sml_read.specs.declared.grammar.SpecificationRule.TheVariants as C
-use Rattle.sml_phrases.specs.Phrases.{of_longs, of_long, of_typ_binds, of_typ_descs, of_datatypes, of_constructors, of_sig, of_wheres, of_specs, of_type_rest, of_shared_types, of_str, of_str_decs, of_begun_str_bind, of_functor_argument, of_begun_fun_bind, of_begun_functor, str_constraints_in, fun_constraints_in, dec_in}
+use Rattle.sml_phrases.specs.Phrases.{of_longs, of_long, of_typ_binds, of_typ_descs, of_datatypes, of_constructors, of_sig, of_wheres, of_specs, of_type_rest, of_shared_types, of_str, of_str_decs, of_begun_str_bind, of_functor_argument, of_begun_fun_bind, of_begun_functor, str_constraints_in, fun_constraints_in}
 use Rattle.sml_bare_mods.specs.SignatureRules.{signature_phrase}
 use Rattle.sml_bare_mods.specs.SpecificationRules.{types, type_rest, datatypes, datatype_rest, included, included_name, shared, specification_phrase}
 use Rattle.sml_bare_mods.specs.StructureRules.{str_place, constrained, own_constrained, str_binds, fun_binds, begun_fun_bind, applied, structure_phrase}

@@ -1,5 +1,5 @@
 -- Rules by which nothing is made that stands behind `rec`: names, patterns and types.
-use Rattle.std.specs.Prelude.{List, [], ◌∷◌, Option, Some, None}
+use Rattle.std.specs.Prelude.{List, Option}
 use Rattle.std.proofs.Common.{refl}
 use Rattle.sml_lex.specs.declared.fault.Place.{Place}
 use Rattle.sml_tree.specs.Names.{Name}

@@ -1,10 +1,10 @@
 -- What stands behind `rec`, as a phrase that is part of a pattern, in its context: what it may be where the context binds.
-use Rattle.std.specs.Prelude.{◌≡◌, ℕ, suc, ◌+◌, ◌-◌, ◌≤◌, ◌<◌, nat_lt, length, get_or, List, [], ◌∷◌, Bool, true, false, Option, Some, None, if◌then◌else◌}
+use Rattle.std.specs.Prelude.{◌≡◌, ℕ, suc, ◌+◌, ◌-◌, ◌≤◌, ◌<◌, nat_lt, length, get_or, List, [], Bool, true, false, Option, Some, None, if◌then◌else◌}
 use Rattle.std.proofs.Common.{refl, subst, sym, inl, inr, arith}
 use Rattle.sml_lex.specs.declared.fault.Place.{Place}
 use Rattle.sml_lex.specs.declared.token.Kind.TheVariants as K
 use Rattle.sml_tree.specs.Trees.{Id}
-use Rattle.sml_tree.specs.Names.{Name, LongName}
+use Rattle.sml_tree.specs.Names.{Name}
 use Rattle.sml_tree.specs.Types.{Ty, Tys}
 use Rattle.sml_tree.specs.Patterns.{Pat, Pats, pat_name, no_pat, and_pat}
 use Rattle.sml_fixity.specs.Shapes.{Shape}
@@ -20,7 +20,7 @@ use Rattle.sml_read.specs.declared.grammar.NameRule.{NameRule}
 use Rattle.sml_read.specs.declared.grammar.NameRule.TheVariants as N
 use Rattle.sml_read.specs.declared.grammar.PatternRule.{PatternRule}
 use Rattle.sml_read.specs.declared.grammar.PatternRule.TheVariants.{PatOpenRound, PatBarePat, BarePatVid, BarePatOp, BarePatOtherAtPat, OpPatVid, OpPatQualified, AfterVidNone, AfterVidAs, AfterVidColon, AfterVidAtPat, AfterVidTyNone, AfterVidTyAs, AfterVidTyColon, AtPatMoreNone, AtPatMoreAtPat, AtPatMoreColon, AtPatOpenRound, AtPatBareAtPat, BareAtPatVid, BareAtPatOp, BareAtPatOtherAtPat, OtherAtPatWildcard, OtherAtPatConstant, OtherAtPatQualified, OtherAtPatOpenCurly, OtherAtPatOpenSquare, PatRoundCloseRound, PatRoundPat, PatRoundMoreCloseRound, PatRoundMoreComma, PatListCloseSquare, PatListPat, PatListMoreCloseSquare, PatListMoreComma, PatRowCloseCurly, PatRowRow, RowDots, RowNumeral, RowVid, RowRestEquals, RowRestTyped, RowAsNone, RowAsAs, RowMoreNone, RowMoreComma}
-use Rattle.sml_phrases.specs.Phrases.{Phrase, of_pat, of_tys, of_atoms, of_layer, of_op_atoms, of_op_layer, at, name_in, long_in, pat_in, pats_in, pat_if_any, ty_in, ty_if_any}
+use Rattle.sml_phrases.specs.Phrases.{Phrase, of_pat, of_atoms, of_layer, of_op_atoms, of_op_layer, at, name_in, long_in, pat_in, pats_in, pat_if_any, ty_in}
 use Rattle.sml_pat_sequences.specs.PatternSequences as P
 use Rattle.sml_pat_sequences.specs.RoundPatterns.{round_pat}
 use Rattle.sml_bare_pats.specs.NameRules.{name_phrase}

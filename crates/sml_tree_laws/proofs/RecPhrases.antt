@@ -1,9 +1,7 @@
 -- What stands behind `rec` in the value declarations of a phrase.
 use Rattle.std.specs.Prelude.{List, [], ◌∷◌, Option, Some, None}
-use Rattle.std.proofs.Common.{refl, inl, inr}
 use Rattle.sml_lex.specs.declared.fault.Place.{Place}
-use Rattle.sml_tree.specs.Patterns.{no_pat}
-use Rattle.sml_tree.specs.Expressions.{Exp, Rules, ValBind, ValBinds, bind, no_bind, and_bind}
+use Rattle.sml_tree.specs.Expressions.{Exp, Rules, ValBind, ValBinds, bind}
 use Rattle.sml_tree.specs.Clauses.{Clause}
 use Rattle.sml_phrases.specs.Phrases.{Phrase, of_exp, of_exps, of_series, of_fields, of_rules, of_dec, of_decs, of_bind, of_binds, of_values, of_round_values, of_functions, of_right_side, of_clauses, of_round_functions, of_str, of_str_dec, of_str_decs, of_str_binds, of_begun_str_bind, of_fun_binds, of_begun_fun_bind, of_begun_functor, of_top, exp_in, exps_in, exp_if_any, fields_in, rules_in, rules_if_any, dec_in, decs_in, bind_in, binds_in, clauses_in, str_in, str_dec_in, str_decs_in, str_binds_in, fun_binds_in, top_in}
 use Rattle.sml_tree_laws.specs.Recursive.{RecBind, RecBinds, ExpRec, ExpsRec, FieldsRec, RulesRec, DecRec, DecsRec, BindsRec, StrRec, StrDecRec, StrDecsRec, StrBindsRec, FunBindsRec, TopRec}
@@ -90,7 +88,7 @@ decs_rec _ h = tt
 
 pub bind_rec : (v : Phrase) → PhraseRec v → FunctionRec (bind_in v)
 bind_rec (of_bind b) h = h
-bind_rec _ h = (inr tt, tt)
+bind_rec _ h = (tt, tt)
 
 pub binds_rec : (v : Phrase) → PhraseRec v → FunctionsRec (binds_in v)
 binds_rec (of_binds bs) h = h

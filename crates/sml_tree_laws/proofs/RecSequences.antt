@@ -1,5 +1,5 @@
 -- Sequences of atomic patterns behind `rec`: the pattern that steps build, where each atomic pattern that its tree keeps may stand there.
-use Rattle.std.proofs.Common.{◌≡◌, ℕ, zero, suc, ◌+◌, ◌<◌, ◌≤◌, List, [], ◌∷◌, ◌++◌, Bool, true, false, Option, Some, None, get_or, drop, refl, sym, ap, ◌∙◌, subst, inl, inr, ◌⊎◌, arith}
+use Rattle.std.proofs.Common.{◌≡◌, ℕ, zero, suc, ◌+◌, List, [], ◌∷◌, ◌++◌, Bool, true, false, get_or, drop, refl, sym, ap, ◌∙◌, subst, inl, inr, arith}
 use Rattle.std.specs.Prelude.{set}
 use Rattle.std.proofs.lemmas.List.{append-nil}
 use Rattle.sml_lex.specs.declared.fault.Place.{Place}
@@ -7,7 +7,7 @@ use Rattle.sml_tree.specs.Types.{Tys, no_ty, and_ty}
 use Rattle.sml_tree.specs.Patterns.{Pat, Pats, wildcard, pat_constant, pat_name, pat_row, pat_tuple, pat_bracket, pat_apply, pat_typed, pat_as, no_pat, and_pat}
 use Rattle.sml_fixity.specs.declared.sequences.Step.{Step}
 use Rattle.sml_fixity.specs.declared.sequences.Step.TheVariants.{Push, Apply, Combine}
-use Rattle.sml_fixity.specs.Infix.{Tree, Single, Applied, Joined, postfix, EachOperator, IsSingle, Obeys}
+use Rattle.sml_fixity.specs.Infix.{Tree, Single, Applied, Joined, postfix, IsSingle, Obeys}
 use Rattle.sml_pat_sequences.specs.PatternSequences as Q
 use Rattle.sml_tree_laws.specs.Recursive.{RecPat, RecPats}
 use Rattle.sml_tree_laws.proofs.UsedNames.{Kept, two_parts}

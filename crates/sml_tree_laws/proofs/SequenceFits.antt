@@ -1,12 +1,11 @@
 -- What the sequences of a declaration stand for: each is known by its first token, and steps are those of the tree that obeys.
-use Rattle.std.proofs.Common.{◌≡◌, ℕ, zero, suc, ◌+◌, ◌<◌, ◌≤◌, List, [], ◌∷◌, ◌++◌, Bool, true, false, Option, Some, None, length, map, take, refl, sym, ap, ◌∙◌, subst, inl, inr, ◌⊎◌, arith}
+use Rattle.std.proofs.Common.{◌≡◌, ℕ, zero, suc, ◌<◌, ◌≤◌, List, [], ◌∷◌, Bool, true, false, Option, Some, None, length, map, take, refl, sym, ap, ◌∙◌, subst, inl, inr, ◌⊎◌, arith}
 use Rattle.std.specs.Prelude.{◌&&◌, ◌==◌, slice_get, if◌then◌else◌, ◌-◌}
-use Rattle.std.proofs.lemmas.Bool.{false≢true, eqb-true, eq-eqb}
+use Rattle.std.proofs.lemmas.Bool.{eqb-true}
 use Rattle.sml_tree.specs.Trees.{Id}
 use Rattle.sml_rules.specs.Every.{Every}
 use Rattle.sml_fixity.specs.declared.sequences.Item.{Item}
 use Rattle.sml_fixity.specs.declared.sequences.Step.{Step}
-use Rattle.sml_fixity.specs.declared.sequences.Step.TheVariants.{Push, Apply, Combine}
 use Rattle.sml_fixity.specs.declared.scopes.Directive.{Directive}
 use Rattle.sml_fixity.specs.Scopes.{Map}
 use Rattle.sml_fixity.specs.Sequences.{roles_of}
@@ -21,7 +20,6 @@ use Rattle.sml_reach.specs.Founds.{Atom}
 use Rattle.sml_reach.specs.Events.{Event, begins, enters, leaves, directs, expression, pattern, head}
 use Rattle.sml_reach.specs.Fits.{Fit, Fitted}
 use Rattle.sml_reach.specs.Reach.{State, Outcome, declares, idle, stands, fails, token_of, first_inner, AreItems, IsExpression, IsPattern, IsClauseHead, Happens, Outcomes, fits_before, declarations_in, before_misfit, up_to}
-use Rattle.sml_flaws.specs.declared.known.Position.{Position}
 use Rattle.sml_flaws.specs.Known.{use_of, is_at, is_used_in, steps_of, is_used}
 use Rattle.sml_flaws.specs.Flaws.{position}
 use Rattle.sml_bare.specs.Derivations.{shape_from}

@@ -1,6 +1,6 @@
 -- Where the sequences of a declaration begin: node by node, those that begin at a node's first token or behind it are of the
 -- nodes from there on.
-use Rattle.std.proofs.Common.{◌≡◌, ℕ, zero, suc, ◌+◌, ◌<◌, ◌≤◌, List, [], ◌∷◌, ◌++◌, Bool, true, false, Option, Some, None, get_or, take, drop, refl, sym, ap, ◌∙◌, subst, inl, inr, ◌⊎◌, arith}
+use Rattle.std.proofs.Common.{◌≡◌, ℕ, suc, ◌+◌, ◌≤◌, List, [], ◌∷◌, ◌++◌, Bool, true, false, Option, Some, None, refl, sym, ◌∙◌, inl, inr, ◌⊎◌, arith}
 use Rattle.std.specs.Prelude.{slice_get, if◌then◌else◌}
 use Rattle.std.specs.List.{cons_option}
 use Rattle.std.specs.Option.{option_map}
@@ -26,7 +26,7 @@ use Rattle.sml_reach.specs.Fits.{Fit}
 use Rattle.sml_reach.specs.Reach.{token_of}
 use Rattle.sml_bare.specs.Derivations.{before_sequence}
 use Rattle.sml_tree_laws.proofs.SequenceTokens.{ahead, is_sequence, EventsRise, ahead_lower, quiet_before, own_token, before_next, events_rise}
-use Rattle.sml_tree_laws.proofs.SequenceFits.{Comes, ComesFrom, AllCome}
+use Rattle.sml_tree_laws.proofs.SequenceFits.{Comes, ComesFrom}
 
 pub every_map : {A : Type 0} (Q R : A → Type 0) (xs : List A) → ((x : A) → Q x → R x) → Every Q xs → Every R xs
 every_map Q R [] f h = tt

@@ -1,5 +1,5 @@
 -- The sequences of a unit begin at tokens of their own, each behind the one before.
-use Rattle.std.proofs.Common.{◌≡◌, ℕ, zero, suc, ◌+◌, ◌<◌, ◌≤◌, List, [], ◌∷◌, ◌++◌, Bool, true, false, Option, Some, None, length, get_or, take, refl, sym, ap, ◌∙◌, subst, arith}
+use Rattle.std.proofs.Common.{◌≡◌, ℕ, suc, ◌+◌, ◌<◌, ◌≤◌, List, [], ◌∷◌, ◌++◌, Bool, true, false, Option, Some, None, length, get_or, take, refl, sym, ap, ◌∙◌, subst, arith}
 use Rattle.std.specs.Prelude.{not, nat_lt, nat_le, slice_get, ◌&&◌, ◌||◌, if◌then◌else◌}
 use Rattle.std.specs.List.{cons_option}
 use Rattle.std.specs.Option.{option_map}
@@ -57,7 +57,7 @@ ahead [] = 0
 ahead (Word k ∷ ss) = suc (ahead ss)
 ahead (Of p ∷ ss) = if is_quiet p then 1 else 0
 
-more_ahead : (xs ss : List Symbol) → ahead xs ≤ ahead (xs ++ ss)
+pub more_ahead : (xs ss : List Symbol) → ahead xs ≤ ahead (xs ++ ss)
 more_ahead [] ss = omega arith
 more_ahead (Word k ∷ xs) ss = let h = more_ahead xs ss in omega (arith, h)
 more_ahead (Of p ∷ xs) ss = omega arith

@@ -340,22 +340,19 @@ module _ (unit : List ℕ) (tokens : List Token) (end : End) where
     unit_good : (rule : UnitRule) → begins_at (G.Units rule) ≡ true → Leads nodes (right_side (G.Units rule) ++ old) (kinds_of (take b toks)) next (Of rest ∷ [])
         → flaws (text_at unit tokens) fits n (Inner (G.Units rule) ∷ own) ≡ [] → TopLawful K (declaration p (made unit tokens n fits own (take b toks) (reads n b toks same)))
     unit_good U.StartTop h leads clean =
-        let goes = goes_of nodes (Of Top ∷ []) old AfterTop rest (kinds_of (take b toks)) next refl refl leads in
-        (
+        let goes = goes_of nodes (Of Top ∷ []) old AfterTop rest (kinds_of (take b toks)) next refl refl leads in (
           top_scoped unit tokens n fits own (take b toks) (reads n b toks same) clean goes p,
           top_well unit tokens n fits own (take b toks) (reads n b toks same) clean goes p,
           (λ spells. top_recursive unit tokens n fits own (take b toks) (reads n b toks same) rise built end spells (fewer b n toks tokens same) (Of AfterTop ∷ old) (behind_first nodes) next rest outer own_come (kinds_of (take b toks)) (own_leads Top (Of AfterTop ∷ old) leads) clean goes p),
         )
     unit_good U.AfterTopTop h leads clean =
-        let goes = goes_of nodes (Of Top ∷ []) old AfterTop rest (kinds_of (take b toks)) next refl refl leads in
-        (
+        let goes = goes_of nodes (Of Top ∷ []) old AfterTop rest (kinds_of (take b toks)) next refl refl leads in (
           next_scoped unit tokens n fits own (take b toks) (reads n b toks same) clean goes p,
           next_well unit tokens n fits own (take b toks) (reads n b toks same) clean goes p,
           (λ spells. next_recursive unit tokens n fits own (take b toks) (reads n b toks same) rise built end spells (fewer b n toks tokens same) (Of AfterTop ∷ old) (behind_first nodes) next rest outer own_come (kinds_of (take b toks)) (own_leads Top (Of AfterTop ∷ old) leads) clean goes p),
         )
     unit_good U.StartExp h leads clean =
-        let goes = goes_of nodes (Of Exp ∷ []) old AfterExp rest (kinds_of (take b toks)) next refl refl leads in
-        (
+        let goes = goes_of nodes (Of Exp ∷ []) old AfterExp rest (kinds_of (take b toks)) next refl refl leads in (
           exp_scoped unit tokens n fits own (take b toks) (reads n b toks same) clean goes p,
           exp_well unit tokens n fits own (take b toks) (reads n b toks same) clean goes p,
           (λ spells. exp_recursive unit tokens n fits own (take b toks) (reads n b toks same) rise built end spells (fewer b n toks tokens same) (Of AfterExp ∷ old) (behind_first nodes) next rest outer own_come (kinds_of (take b toks)) (own_leads Exp (Of AfterExp ∷ old) leads) clean goes p),

@@ -1,5 +1,5 @@
 -- Which atomic phrases the steps of a tree take as operators or apply: those that it keeps are none of these.
-use Rattle.std.proofs.Common.{◌≡◌, ℕ, zero, suc, ◌+◌, ◌<◌, ◌≤◌, List, [], ◌∷◌, ◌++◌, Bool, true, false, Option, Some, None, drop, refl, sym, ap, ◌∙◌, subst, inl, inr, ◌⊎◌, append_assoc, arith}
+use Rattle.std.proofs.Common.{◌≡◌, ℕ, ◌+◌, ◌<◌, ◌≤◌, List, [], ◌∷◌, ◌++◌, Bool, true, false, Option, Some, None, drop, refl, sym, ap, ◌∙◌, subst, inl, inr, ◌⊎◌, append_assoc, arith}
 use Rattle.std.specs.Prelude.{slice_get, ◌&&◌, ◌==◌, if◌then◌else◌}
 use Rattle.std.proofs.lemmas.Bool.{false≢true, eqb-true}
 use Rattle.std.proofs.lemmas.List.{append-nil}
@@ -11,7 +11,7 @@ use Rattle.sml_fixity.specs.declared.sequences.Step.{Step}
 use Rattle.sml_fixity.specs.declared.sequences.Step.TheVariants.{Push, Apply, Combine}
 use Rattle.sml_fixity.specs.Scopes.{Map}
 use Rattle.sml_fixity.specs.Sequences.{operator_of, role_by, roles_from, roles_of}
-use Rattle.sml_fixity.specs.Infix.{Tree, Single, Applied, Joined, yield, postfix, EachOperator, IsSingle, Obeys}
+use Rattle.sml_fixity.specs.Infix.{Tree, Single, Applied, Joined, yield, postfix, EachOperator, Obeys}
 use Rattle.sml_flaws.specs.Known.{use_of, is_at, is_used_in}
 
 -- the indices of a tree's leaves and operators, from lo on and before hi, go up
@@ -50,7 +50,7 @@ operator_index o r m Phrase xs lo more e = cc
 others : {A : Type 0} {x y : A} {xs ys : List A} → x ∷ xs ≡ y ∷ ys → xs ≡ ys
 others e = cc
 
-spans : (t : Tree) (m : Map) (lo : ℕ) (items : List Item) (more : _) → yield t ++ more ≡ roles_from m lo items → (hi : ℕ) × (rest : List Item) × Spans lo t hi × (more ≡ roles_from m hi rest)
+pub spans : (t : Tree) (m : Map) (lo : ℕ) (items : List Item) (more : _) → yield t ++ more ≡ roles_from m lo items → (hi : ℕ) × (rest : List Item) × Spans lo t hi × (more ≡ roles_from m hi rest)
 spans (Single a) m lo [] more e = cc
 spans (Single a) m lo (x ∷ xs) more e = (lo + 1, xs, (atom_index m x xs a lo more e, refl), others e)
 spans (Applied f x) m lo items more e =

@@ -1,6 +1,6 @@
--- What value declarations bind behind `rec` (the Definition, section 2.9): functions, and patterns in which no name that stands
--- by itself is `true`, `false`, `::` or `ref`, and none before `as` one of these or `nil`. Where a name stands by itself `nil`
--- is also what `[]` stands for.
+-- What value declarations bind behind `rec`, and functions (the Definition, section 2.9): no name that stands by itself is
+-- `true`, `false`, `::` or `ref`, and none before `as` is one of these or `nil`. Where a name stands by itself `nil` is also
+-- what `[]` stands for.
 use Rattle.std.specs.Prelude.{◌≡◌, ◌⊎◌, ℕ, List, [], ◌∷◌, Option, false}
 use Rattle.std.specs.List.{All}
 use Rattle.sml_lex.specs.declared.fault.Place.{Place}
@@ -11,11 +11,9 @@ use Rattle.sml_lex.specs.Pieces.{Spells}
 use Rattle.sml_tree.specs.Trees as Piece
 use Rattle.sml_tree.specs.Trees.{Id}
 use Rattle.sml_tree.specs.Patterns.{Pat, Pats, PatFields, wildcard, pat_constant, pat_name, pat_row, pat_tuple, pat_bracket, pat_apply, pat_typed, pat_as, no_pat, and_pat, pat_field, no_pat_field, and_pat_field}
-use Rattle.sml_tree.specs.Clauses.{Clause}
 use Rattle.sml_tree.specs.Expressions.{Exp, Exps, Fields, Rules, Dec, Decs, ValBind, ValBinds, constant, name, row, tuple, let_in, bracket, apply, typed, handle, raise, fn, no_exp, and_exp, field, no_field, and_field, rule, no_rule, and_rule, val_dec, type_dec, datatype_dec, datatype_with, datatype_copy, exception_dec, local_dec, sequence_dec, open_dec, fixity_dec, no_dec, and_dec, bind, no_bind, and_bind}
 use Rattle.sml_tree.specs.Structures.{StrExp, StrDec, StrDecs, StrBinds, FunBind, TopDec, struct_end, str_name, ascribed, functor_apply, str_let, core_dec, structure_dec, str_local, no_str_dec, and_str_dec, str_bind, no_str_bind, and_str_bind, top_str, signature_dec, functor_dec}
 use Rattle.sml_derived.specs.Words.{nil_id}
-use Rattle.sml_derived.specs.Derived.{function_of}
 use Rattle.sml_flaws.specs.Flaws.{is_reserved}
 use Rattle.sml_parse.specs.Trees.{AreTrees}
 
@@ -45,13 +43,9 @@ abbrev mutual
   RecPatFields no_pat_field = Unit {0}
   RecPatFields (and_pat_field (pat_field l q) fs) = RecPat q × RecPatFields fs
 
--- what the clauses of a function stand for
-abbrev pub IsFunction : {P : Type 0} → ValBind P → Type 0
-IsFunction {P} b = (f : Id) × (c : Clause P) × (cs : List (Clause P)) × (b ≡ function_of f c cs)
-
--- a binding behind `rec`
+-- a binding behind `rec`, as which a function with its clauses is written too
 abbrev pub RecBind : {P : Type 0} → ValBind P → Type 0
-RecBind (bind q e) = IsFunction (bind q e) ⊎ RecPat q
+RecBind (bind q e) = RecPat q
 
 abbrev pub RecBinds : {P : Type 0} → ValBinds P → Type 0
 RecBinds no_bind = Unit {0}

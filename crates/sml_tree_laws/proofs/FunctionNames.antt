@@ -1,6 +1,7 @@
 -- The name of a function, as its first clause's head gives it, may be bound.
-use Rattle.std.proofs.Common.{◌≡◌, ℕ, suc, ◌+◌, ◌≤◌, List, [], ◌∷◌, Bool, true, false, Option, Some, None, get_or, take, refl, ◌∙◌, subst, inl, inr, arith}
+use Rattle.std.proofs.Common.{◌≡◌, ℕ, suc, ◌+◌, ◌≤◌, List, [], ◌∷◌, Bool, true, false, Option, Some, None, get_or, take, refl, sym, ◌∙◌, subst, inl, inr, arith}
 use Rattle.std.specs.Prelude.{◌==◌, if◌then◌else◌}
+use Rattle.std.proofs.lemmas.Option.{same_Some}
 use Rattle.std.proofs.lemmas.Bool.{eqb-true}
 use Rattle.sml_lex.specs.declared.fault.Place.{Place}
 use Rattle.sml_tree.specs.Trees.{Id}
@@ -34,19 +35,13 @@ use Rattle.sml_tree_laws.proofs.HeadNames.{is_named, InfixNames, NameOf, Bracket
 use Rattle.sml_tree_laws.proofs.ClauseNames.{identifier, Barred}
 use Rattle.sml_tree_laws.proofs.Links.{Marked, Second, ClauseLink, RoundLink, PartsLink, round_bracket}
 
-some_shape : {a b : Shape} → Some a ≡ Some b → a ≡ b
-some_shape e = cc
-
-some_atoms : {a b : List Atom} → Some a ≡ Some b → b ≡ a
-some_atoms e = cc
-
 -- what a sequence stands for is what one of the fits with its token does
 pub pick : (Q : Fit → Type 0) (fits : List Fit) (n : ℕ) (shape : Shape) → Every (λ fit. fit.token ≡ n → Q fit) fits → shape_from fits n ≡ Some shape → (fit : Fit) × Q fit × (fit.shape ≡ shape)
 pick Q [] n shape h e = cc
 pick Q (fit ∷ fits) n shape h e = go (fit.token == n) refl e (pick Q fits n shape h.1)
   where
     go : (b : Bool) → (fit.token == n) ≡ b → (if b then Some fit.shape else shape_from fits n) ≡ Some shape → (shape_from fits n ≡ Some shape → (fit : Fit) × Q fit × (fit.shape ≡ shape)) → (fit : Fit) × Q fit × (fit.shape ≡ shape)
-    go true same e more = (fit, h.0 (eqb-true fit.token n same), some_shape e)
+    go true same e more = (fit, h.0 (eqb-true fit.token n same), same_Some fit.shape shape e)
     go false same e more = more e
 
 head_of : (fits : List Fit) (n : ℕ) (how : Head) → shape_from fits n ≡ Some (headed how) → head_at fits n ≡ Some how
@@ -136,7 +131,7 @@ module _ (text : ℕ → Id) (fits : List Fit) (all : List Mark) where
         by_found (several [] typed) own h = heading_none s (round_pat p ps) qs (λ how k. none (own how k).1)
         by_found (several (b ∷ others) typed) own h =
             clause_free s a (t 1) h.0 h.0 (round_pat p ps) qs (atom b.name m b.inner) others (opened O.Function i a c) refl refl (omega (arith, begun, w)) (omega arith) shape
-            (λ how k. let o = own how k in subst (λ z. FitsHead z (headed how)) (some_atoms o.1) o.2)
+            (λ how k. let o = own how k in subst (λ z. FitsHead z (headed how)) (sym (same_Some _ _ o.1)) o.2)
             (λ k. round_name (Marked text fits all (opened O.Function i a c) (t 1) h.0) p ps)
             (λ k. round_bracket text fits all (Second text fits all (a + 1) (t 1) h.0) p ps (subst (λ n. OneName (Second text fits all n (t 1) h.0) ps) (let g : t 1 ≡ a + 1 = omega (arith, w, begun) in g) (h.1 k)))
             h.2
@@ -151,10 +146,10 @@ module _ (text : ℕ → Id) (fits : List Fit) (all : List Mark) where
     head_free D.FunDecOpenRound p own h = let w = h 0 refl in round_free p (at vs 1) (get_or (take 2 fs) 1 nothing) own (omega (arith, w)) (h 1 refl)
     head_free D.FunDecBareAtPat p own h =
         clause_free s a (t 0) (t 1) (t 1) (pat_in (at vs 0)) (right_side_in (at vs 1)).pats (atom_in (get_or (take 4 fs) 0 nothing)) (atoms_in (get_or (take 4 fs) 1 nothing)) (opened O.Function i a c) refl refl (omega (arith, begun)) (omega arith) shape
-        (λ how k. let o = own how k in subst (λ z. FitsHead z (headed how)) (some_atoms o.1) o.2) (h 0 refl).0
+        (λ how k. let o = own how k in subst (λ z. FitsHead z (headed how)) (sym (same_Some _ _ o.1)) o.2) (h 0 refl).0
         (λ k. subst (λ n. BracketName (Second text fits all n (t 0) (t 1)) (pat_in (at vs 0))) (let g : t 0 + 1 ≡ a + 1 = omega (arith, begun) in g) ((h 0 refl).1 k)) (h 1 refl)
     head_free D.ClausesAtPat p own h =
         clause_free s a (t 0) (t 1) (t 1) (pat_in (at vs 0)) (right_side_in (at vs 1)).pats (atom_in (get_or (take 3 fs) 0 nothing)) (atoms_in (get_or (take 3 fs) 1 nothing)) (opened O.Function i a c) refl refl (omega (arith, begun)) (omega arith) shape
-        (λ how k. let o = own how k in subst (λ z. FitsHead z (headed how)) (some_atoms o.1) o.2) (h 0 refl).0
+        (λ how k. let o = own how k in subst (λ z. FitsHead z (headed how)) (sym (same_Some _ _ o.1)) o.2) (h 0 refl).0
         (λ k. subst (λ n. BracketName (Second text fits all n (t 0) (t 1)) (pat_in (at vs 0))) (let g : t 0 + 1 ≡ a + 1 = omega (arith, begun) in g) ((h 0 refl).1 k)) (h 1 refl)
     head_free _ p own h = tt

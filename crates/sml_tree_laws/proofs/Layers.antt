@@ -1,5 +1,6 @@
 -- An identifier before `as` begins no sequence.
-use Rattle.std.proofs.Common.{◌≡◌, ℕ, zero, suc, ◌<◌, List, [], ◌∷◌, true, None, get_or, take, refl, sym, subst, arith}
+use Rattle.std.proofs.Common.{◌≡◌, ℕ, List, [], ◌∷◌, true, None, get_or, take, refl, sym, subst, arith}
+use Rattle.std.proofs.lemmas.List.{get_or-take}
 use Rattle.std.proofs.lemmas.Bool.{false≢true}
 use Rattle.sml_lex.specs.declared.fault.Place.{Place}
 use Rattle.sml_tree.specs.Trees.{Id}
@@ -30,12 +31,6 @@ from_none n (one b) e = refl
 from_none n (within names) e = refl
 from_none n (directed level atoms) e = refl
 
-pub take_get : (n k : ℕ) (fs : List Found) → k < n → get_or (take n fs) k nothing ≡ get_or fs k nothing
-take_get zero k fs h = absurd (omega (arith, h))
-take_get (suc n) k [] h = refl
-take_get (suc n) zero (f ∷ fs) h = refl
-take_get (suc n) (suc k) (f ∷ fs) h = take_get n k fs (omega (arith, h))
-
 pub colon_layer : (t : Ty Place) (v : Phrase) → is_layer (behind_colon t v) ≡ true → is_layer v ≡ true
 colon_layer t (of_layer u q) h = refl
 colon_layer t _ h = absurd (false≢true h)
@@ -47,7 +42,7 @@ op_layer x _ h = absurd (false≢true h)
 module _ (text : ℕ → Id) (a : ℕ) (fs : List Found) (vs : List Phrase) where
   -- with one of them no sequence begins
   pub vid_none : (is_layer (at vs 1) ≡ true → sequence_in (get_or fs 1 nothing) ≡ None) → is_layer (at vs 1) ≡ true → sequence_in (found_at text a (G.Patterns P.BarePatVid) fs) ≡ None
-  vid_none h e = before_none _ (get_or (take 2 fs) 1 nothing) (subst (λ f. sequence_in f ≡ None) (sym (take_get 2 1 fs (omega arith))) (h e))
+  vid_none h e = before_none _ (get_or (take 2 fs) 1 nothing) (subst (λ f. sequence_in f ≡ None) (sym (get_or-take 2 fs 1 nothing (omega arith))) (h e))
 
   pub op_none : (is_layer (at vs 1) ≡ true → sequence_in (get_or fs 1 nothing) ≡ None) → is_layer (at vs 1) ≡ true → sequence_in (found_at text a (G.Patterns P.BarePatOp) fs) ≡ None
-  op_none h e = from_none a (get_or (take 2 fs) 1 nothing) (subst (λ f. sequence_in f ≡ None) (sym (take_get 2 1 fs (omega arith))) (h e))
+  op_none h e = from_none a (get_or (take 2 fs) 1 nothing) (subst (λ f. sequence_in f ≡ None) (sym (get_or-take 2 fs 1 nothing (omega arith))) (h e))

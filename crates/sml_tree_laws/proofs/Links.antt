@@ -1,6 +1,7 @@
 -- What is found of the phrases of sequences and heads beside what they make and how their identifiers are marked.
 use Rattle.std.proofs.Common.{◌≡◌, ℕ, zero, suc, ◌+◌, ◌<◌, ◌≤◌, List, [], ◌∷◌, Bool, true, false, Option, Some, None, length, get_or, take, drop, refl, sym, ◌∙◌, subst, inl, inr, ◌⊎◌, arith}
 use Rattle.std.specs.Prelude.{nat_lt, if◌then◌else◌}
+use Rattle.std.proofs.lemmas.Option.{same_Some}
 use Rattle.std.proofs.lemmas.Bool.{false≢true}
 use Rattle.sml_lex.specs.declared.fault.Place.{Place}
 use Rattle.sml_lex.specs.declared.token.Kind.TheVariants as K
@@ -135,15 +136,12 @@ module _ (text : ℕ → Id) (fits : List Fit) (all : List Mark) where
 
   -- sequences as patterns
 
-  some_atoms : {a b : List Atom} → Some a ≡ Some b → b ≡ a
-  some_atoms e = cc
-
   module _ (A : Id → Type 0) (nil : A []) (s : Option Shape) (q : Pat Place) (qs : Pats Place) (ts : Tys Place) where
     abbrev Own : Found → Type 0
     Own f = (steps : List Step) → s ≡ Some (tree steps) → (atoms : List Atom) × (sequence_in f ≡ Some atoms) × FitsPattern atoms (tree steps)
 
     known : (a : Atom) (atoms : List Atom) (typed : Bool) → Own (several (a ∷ atoms) typed) → (steps : List Step) → s ≡ Some (tree steps) → FitsPattern (a ∷ atoms) (tree steps)
-    known a atoms typed own steps e = let o = own steps e in subst (λ z. FitsPattern z (tree steps)) (some_atoms o.1) o.2
+    known a atoms typed own steps e = let o = own steps e in subst (λ z. FitsPattern z (tree steps)) (sym (same_Some _ _ o.1)) o.2
 
     more_apply : (a : Atom) (f : Found) → Own (several (a ∷ atoms_in f) (typed_in f)) → First A qs (atoms_in f) → InfixNames (untyped (several (a ∷ atoms_in f) (typed_in f))) → ApplyName A (Q.sequence_pat s (and_pat q qs) ts)
     more_apply a (several atoms false) own h i = sequence_apply A nil s q qs ts a atoms (known a atoms false own) i h

@@ -2,9 +2,10 @@
 use Rattle.std.proofs.Common.{◌≡◌, ℕ, zero, suc, ◌+◌, ◌<◌, ◌≤◌, List, [], ◌∷◌, ◌++◌, Bool, true, false, Option, Some, length, take, drop, eqb, refl, sym, ap, ◌∙◌, subst, inl, inr, ◌⊎◌, append_assoc, arith}
 use Rattle.std.specs.Prelude.{not, flat_map, slice_get, slice_range}
 use Rattle.std.specs.List.{position_or_len, slice_split}
+use Rattle.std.proofs.lemmas.Option.{same_Some}
 use Rattle.std.proofs.lemmas.Bool.{false≢true, cond-true, cond-false}
 use Rattle.std.proofs.lemmas.List.Splits.{slice_split_first, length-slice_split}
-use Rattle.std.proofs.lemmas.List.{length-append}
+use Rattle.std.proofs.lemmas.List.{length-append, length-take, length-drop, length-map}
 use Rattle.sml_lex.specs.declared.fault.Place.{Place}
 use Rattle.sml_lex.specs.declared.token.Kind.{Kind}
 use Rattle.sml_lex.specs.declared.token.Kind.TheVariants as K
@@ -44,7 +45,8 @@ use Rattle.sml_tree_laws.proofs.RecWalk.{is_long, recs}
 use Rattle.sml_tree_laws.proofs.BoundWalk.{width_of}
 use Rattle.sml_tree_laws.proofs.SequenceTokens.{ahead}
 use Rattle.sml_tree_laws.proofs.SequenceFits.{FitsRise, AreBuilt, ComesFrom, AllCome}
-use Rattle.sml_tree_laws.proofs.SequenceOrigins.{every_map, Coming}
+use Rattle.sml_rules.proofs.EveryItem.{every_more}
+use Rattle.sml_tree_laws.proofs.SequenceOrigins.{Coming}
 use Rattle.sml_tree_laws.proofs.MarksApart.{is_atom, in_sequence, Apart, marks_apart}
 use Rattle.sml_tree_laws.proofs.Walk.{Goes}
 use Rattle.sml_tree_laws.proofs.Clean.{both_none}
@@ -97,10 +99,7 @@ kind_path _ text l h = absurd (no_long l)
 
 token_in_order : (unit : List ℕ) (tokens : List Token) (place j : ℕ) (t : Token) → AreInOrder unit place tokens → slice_get tokens j ≡ Some t → IsToken t.kind (slice_range unit t.span.start t.span.«end»)
 token_in_order unit [] place j t h e = cc
-token_in_order unit (x ∷ tokens) place zero t h e = subst (λ (q : Token). IsToken q.kind (slice_range unit q.span.start q.span.«end»)) (some_token e) h.2
-  where
-    some_token : {a b : Token} → Some a ≡ Some b → a ≡ b
-    some_token e = cc
+token_in_order unit (x ∷ tokens) place zero t h e = subst (λ (q : Token). IsToken q.kind (slice_range unit q.span.start q.span.«end»)) (same_Some x t e) h.2
 token_in_order unit (x ∷ tokens) place (suc j) t h e = token_in_order unit tokens x.span.«end» j t h.4 e
 
 few_in_order : (unit : List ℕ) (tokens : List Token) (place : ℕ) → AreInOrder unit place tokens → place + length tokens ≤ length unit
@@ -128,23 +127,9 @@ goes_width (Inner r ∷ nodes) (Word w ∷ ss) kinds g = absurd g
 goes_width (Inner r ∷ nodes) (Of p ∷ ss) kinds g =
     let h = goes_width nodes (right_side r ++ ss) kinds g.2 in let e = ap (λ q. width_of q nodes) (length-append (right_side r) ss) in omega (arith, h, e)
 
-as_many_kinds : (tokens : List Token) → length (kinds_of tokens) ≡ length tokens
-as_many_kinds [] = refl
-as_many_kinds (t ∷ tokens) = ap suc (as_many_kinds tokens)
-
-fewer_taken : (n : ℕ) (tokens : List Token) → length (take n tokens) ≤ length tokens
-fewer_taken zero tokens = omega arith
-fewer_taken (suc n) [] = omega arith
-fewer_taken (suc n) (t ∷ tokens) = let h = fewer_taken n tokens in omega (arith, h)
-
-fewer_dropped : (n : ℕ) (tokens : List Token) → length (drop n tokens) ≤ length tokens
-fewer_dropped zero tokens = omega arith
-fewer_dropped (suc n) [] = omega arith
-fewer_dropped (suc n) (t ∷ tokens) = let h = fewer_dropped n tokens in omega (arith, h)
-
 -- so many of the tokens behind so many are no more than all
 pub fewer : (b n : ℕ) (toks tokens : List Token) → toks ≡ drop n tokens → length (take b toks) ≤ length tokens
-fewer b n toks tokens e = let a = fewer_taken b toks in let f = ap length e in let c = fewer_dropped n tokens in omega (arith, a, f, c)
+fewer b n toks tokens e = let a = length-take b toks in let f = ap length e in let c = length-drop n tokens in omega (arith, a, f, c)
 
 declared_rec : (p : Place) (v : Phrase) → PhraseRec v → TopRec (declaration p v)
 declared_rec p (of_exp e) h = (tt, (h, tt), tt)
@@ -173,10 +158,10 @@ module _ (unit : List ℕ) (tokens : List Token) (n : ℕ) (fits : List Fit) (ow
         0 (omega arith) (n + width_of 0 own) (n + width_of 1 own) refl refl).0
       where
         coming : Coming unit tokens next rest outer fits n (Of q ∷ old) (own ++ past)
-        coming = every_map (λ fit. ComesFrom fit (events_of unit tokens (own ++ past) (starts_of n (own ++ past)))) (λ fit. n + ahead (Of q ∷ old) ≤ fit.token → ComesFrom fit (events_of unit tokens (own ++ past) (starts_of n (own ++ past)))) fits (λ fit h l. h) come
+        coming = every_more (λ fit. ComesFrom fit (events_of unit tokens (own ++ past) (starts_of n (own ++ past)))) (λ fit. n + ahead (Of q ∷ old) ≤ fit.token → ComesFrom fit (events_of unit tokens (own ++ past) (starts_of n (own ++ past)))) (λ fit h l. h) fits come
 
         narrow : width_of 1 own ≤ 1048576
-        narrow = let w = goes_width own (Of q ∷ []) (kinds_of left) g in let k = as_many_kinds left in let f = few_tokens unit tokens end spells in omega (arith, w, k, short, f)
+        narrow = let w = goes_width own (Of q ∷ []) (kinds_of left) g in let k = length-map left (λ token. token.kind) in let f = few_tokens unit tokens end spells in omega (arith, w, k, short, f)
 
         few : n + width_of 1 own ≤ n + 1048576
         few = omega (arith, narrow)

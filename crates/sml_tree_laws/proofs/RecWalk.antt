@@ -2,8 +2,9 @@
 use Rattle.std.proofs.Common.{◌≡◌, ℕ, zero, suc, ◌+◌, ◌<◌, ◌≤◌, List, [], ◌∷◌, ◌++◌, Bool, true, false, Option, Some, None, length, get_or, drop, append_assoc, refl, sym, ap, ◌∙◌, subst, inl, arith}
 use Rattle.std.specs.Prelude.{◌-◌, slice_get, slice_range, if◌then◌else◌}
 use Rattle.std.specs.List.{cons_option}
+use Rattle.std.proofs.lemmas.Option.{slice_get_within}
 use Rattle.std.proofs.lemmas.Bool.{false≢true, ltb-true}
-use Rattle.std.proofs.lemmas.List.{get_or_append_left, get_or-append-add, drop-drop, length-append}
+use Rattle.std.proofs.lemmas.List.{get_or-take, get_or-drop, get_or_append_left, get_or-append-add, drop-drop, length-append}
 use Rattle.sml_lex.specs.declared.fault.Place.{Place}
 use Rattle.sml_lex.specs.declared.token.Kind.{Kind}
 use Rattle.sml_lex.specs.declared.token.Kind.TheVariants as K
@@ -68,12 +69,13 @@ use Rattle.sml_tree_laws.proofs.RecModules.{unit_rec, structure_rec, signature_r
 use Rattle.sml_tree_laws.proofs.RecOthers.{name_rec, pattern_rec, type_rec}
 use Rattle.sml_tree_laws.proofs.RecDeclarations.{HeadFree, declaration_rec, declaration_pat}
 use Rattle.sml_tree_laws.proofs.RecPatterns.{starts, AtomsFrom, NameRec, VidRec, PatRec, PartsPat, Free, name_pat, pattern_pat}
-use Rattle.sml_tree_laws.proofs.Layers.{take_get, vid_none, op_none}
+use Rattle.sml_tree_laws.proofs.Layers.{vid_none, op_none}
 use Rattle.sml_tree_laws.proofs.Links.{Marked, Link, PartsLink, IsOwn as IsOwnPattern, name_link, pattern_link, declaration_link, unit_link, structure_link, signature_link, specification_link, expression_link, type_link}
 use Rattle.sml_tree_laws.proofs.ClauseNames.{identifier, Barred, barred_at}
 use Rattle.sml_tree_laws.proofs.FunctionNames.{pick, IsOwn as IsOwnHead, head_free}
 use Rattle.sml_tree_laws.proofs.SequenceTokens.{is_sequence}
-use Rattle.sml_tree_laws.proofs.SequenceOrigins.{every_map, Own, Coming, coming_leaf, coming_inner, own_only, none_only}
+use Rattle.sml_rules.proofs.EveryItem.{every_more}
+use Rattle.sml_tree_laws.proofs.SequenceOrigins.{Own, Coming, coming_leaf, coming_inner, own_only, none_only}
 use Rattle.sml_tree_laws.proofs.RecSequences.{AtomsRec, typed_rec, steps_pattern_rec}
 use Rattle.sml_tree_laws.proofs.UsedNames.{kept_unused}
 use Rattle.sml_tree_laws.proofs.SequenceFits.{FitsRise, FitsPattern, FitsHead, IsBuilt, AreBuilt, built_of, not_used, none_used}
@@ -272,10 +274,10 @@ module _ (s : Source) (tokens : List Token) (all : List Mark) (own : (n : ℕ) �
     links : (r : Rule) → Parts r → PartsLink text s.fits all (opened (opening_of r) i a c) t vs fs r
     links r h k b =
         let l = ltb-true k (length (right_side r)) b in
-        subst (λ f. Link text s.fits all (symbol (right_side r) k) (in_role (get_or (roles_of r) k Roles.Same) (opened (opening_of r) i a c)) (t k) (t (suc k)) (at vs k) f) (sym (take_get (length (right_side r)) k fs l)) (h k l).3
+        subst (λ f. Link text s.fits all (symbol (right_side r) k) (in_role (get_or (roles_of r) k Roles.Same) (opened (opening_of r) i a c)) (t k) (t (suc k)) (at vs k) f) (sym (get_or-take (length (right_side r)) fs k nothing l)) (h k l).3
 
     unused_at : Every (λ fit. fit.token ≡ m + 0 → ⊥) s.fits → used a 0 ≡ false
-    unused_at h = none_used s.fits a 0 (every_map (λ fit. fit.token ≡ m + 0 → ⊥) (λ fit. fit.token ≡ a → ⊥) s.fits (λ fit k e. k (omega (arith, e, same))) h)
+    unused_at h = none_used s.fits a 0 (every_more (λ fit. fit.token ≡ m + 0 → ⊥) (λ fit. fit.token ≡ a → ⊥) (λ fit k e. k (omega (arith, e, same))) s.fits h)
 
     free : (rule : PatternRule) → Absent (G.Patterns rule) → Parts (G.Patterns rule) → Free used text a rule vs
     free P.BarePatVid absent h = λ e. unused_at (absent refl (vid_none text m fs vs (h 1 (omega arith)).3.1 e))
@@ -374,20 +376,6 @@ module _ (s : Source) (tokens : List Token) (all : List Mark) (own : (n : ℕ) �
   moved : (x : Symbol) (c : Context) (lo hi lo' hi' : ℕ) (v : Phrase) (f : Found) → lo ≡ lo' → hi ≡ hi' → Claim x c lo hi v f → Claim x c lo' hi' v f
   moved x c lo hi lo' hi' v f e e' h = subst (λ l. Claim x c l hi' v f) e (subst (λ k. Claim x c lo k v f) e' h)
 
-  drop_get : (n k : ℕ) (fs : List Found) → get_or (drop n fs) k nothing ≡ get_or fs (n + k) nothing
-  drop_get n k fs = go n fs (n + k) refl
-    where
-      go : (n : ℕ) (fs : List Found) (j : ℕ) → j ≡ n + k → get_or (drop n fs) k nothing ≡ get_or fs j nothing
-      go zero fs j e = ap (λ q. get_or fs q nothing) (let f : k ≡ j = omega (arith, e) in f)
-      go (suc n) [] j e = refl
-      go (suc n) (f ∷ fs) zero e = absurd (omega (arith, e))
-      go (suc n) (f ∷ fs) (suc j) e = go n fs j (omega (arith, e))
-
-  get_below : (ts : List Token) (k : ℕ) (t : Token) → slice_get ts k ≡ Some t → k < length ts
-  get_below [] k t e = cc
-  get_below (x ∷ ts) zero t e = omega arith
-  get_below (x ∷ ts) (suc k) t e = let h = get_below ts k t e in omega (arith, h)
-
   one_further : (before : List Mark) (o : Option Mark) (rest : List Mark) → before ++ cons_option o rest ≡ (before ++ cons_option o []) ++ rest
   one_further before None rest = sym (append_assoc before [] rest)
   one_further before (Some m) rest = sym (append_assoc before (m ∷ []) rest)
@@ -408,7 +396,7 @@ module _ (s : Source) (tokens : List Token) (all : List Mark) (own : (n : ℕ) �
         token_rec s.unit (place_at s.unit s.tokens n) (slice_get s.tokens n),
         leaf_pat w c a n (place_at s.unit s.tokens n) t here g.0 (ap (λ o. text_of s.unit o) there) _ inc,
         (λ e. omega arith),
-        leaf_link w c a n m (place_at s.unit s.tokens n) t here g.0 (ap (λ o. text_of s.unit o) there) _ inc (let l = get_below tokens a t there in omega (arith, l, total)),
+        leaf_link w c a n m (place_at s.unit s.tokens n) t here g.0 (ap (λ o. text_of s.unit o) there) _ inc (let l = slice_get_within tokens a t there in omega (arith, l, total)),
       )
     where
       here : slice_get s.tokens n ≡ Some t
@@ -479,7 +467,7 @@ module _ (s : Source) (tokens : List Token) (all : List Mark) (own : (n : ℕ) �
       by_place deeper (suc k) h lo hi el eh =
           let next = ap (λ q. width_of q nodes) (let e : len + suc k ≡ suc (len + k) = omega arith in e) in
           let x = deeper (len + k) (behind_more k (right_side r) ss (omega (arith, h))) lo hi (omega (arith, el)) (omega (arith, eh, next)) in
-          subst (λ f. Claim (symbol ss k) (get_or cs k start) lo hi (first (drop k (drop len vs))) f) (sym (drop_get len k fs))
+          subst (λ f. Claim (symbol ss k) (get_or cs k start) lo hi (first (drop k (drop len vs))) f) (sym (get_or-drop len fs k nothing))
           (subst (λ q. Claim (symbol ss k) (get_or cs k start) lo hi (first q) (get_or fs (len + k) nothing)) (sym (drop-drop k len vs))
           (subst (λ y. Claim y (get_or cs k start) lo hi (at vs (len + k)) (get_or fs (len + k) nothing)) (get_or-append-add (right_side r) ss k (Word K.Comma))
           (subst (λ q. Claim (symbol (right_side r ++ ss) (len + k)) q lo hi (at vs (len + k)) (get_or fs (len + k) nothing)) (context_behind (roles_of r) (opened (opening_of r) i a c) 0 len cs k (len + k) refl) x)))

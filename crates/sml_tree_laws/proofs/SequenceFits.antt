@@ -1,6 +1,7 @@
 -- What the sequences of a declaration stand for: each is known by its first token, and steps are those of the tree that obeys.
 use Rattle.std.proofs.Common.{◌≡◌, ℕ, zero, suc, ◌<◌, ◌≤◌, List, [], ◌∷◌, Bool, true, false, Option, Some, None, length, map, take, refl, sym, ap, ◌∙◌, subst, inl, inr, ◌⊎◌, arith}
 use Rattle.std.specs.Prelude.{◌&&◌, ◌==◌, slice_get, if◌then◌else◌, ◌-◌}
+use Rattle.std.proofs.lemmas.Option.{same_Some}
 use Rattle.std.proofs.lemmas.Bool.{eqb-true}
 use Rattle.sml_tree.specs.Trees.{Id}
 use Rattle.sml_rules.specs.Every.{Every}
@@ -199,15 +200,12 @@ all_fit text s events all lo (Some m) h r = tells_taken events (m.number - 1) (d
 
 -- the sequence with a token, among fits that go up
 
-first_shape : {a b : Shape} → Some a ≡ Some b → a ≡ b
-first_shape e = cc
-
 pub built_of : (fits : List Fit) (n : ℕ) (shape : Shape) → AreBuilt fits → shape_from fits n ≡ Some shape → IsBuilt shape
 built_of [] n shape h e = cc
 built_of (fit ∷ fits) n shape h e = go (fit.token == n) e (built_of fits n shape h.1)
   where
     go : (b : Bool) → (if b then Some fit.shape else shape_from fits n) ≡ Some shape → (shape_from fits n ≡ Some shape → IsBuilt shape) → IsBuilt shape
-    go true e more = subst IsBuilt (first_shape e) h.0
+    go true e more = subst IsBuilt (same_Some _ _ e) h.0
     go false e more = more e
 
 module _ (n i : ℕ) where
@@ -242,7 +240,7 @@ module _ (n i : ℕ) where
           → is_used (fit ∷ fits) (position n i) ≡ false
       go true same e more =
           let t = eqb-true fit.token n same in
-          ap (λ b. if b then true else is_used fits (position n i)) (ap (λ m. is_used_in m (steps_of fit.shape) (position n i)) t ∙ ap (λ q. is_used_in n (steps_of q) (position n i)) (first_shape e) ∙ k)
+          ap (λ b. if b then true else is_used fits (position n i)) (ap (λ m. is_used_in m (steps_of fit.shape) (position n i)) t ∙ ap (λ q. is_used_in n (steps_of q) (position n i)) (same_Some _ _ e) ∙ k)
           ∙ later_uses fits (suc fit.token) (omega (arith, t)) h.1
       go false same e more = ap (λ b. if b then true else is_used fits (position n i)) (other_uses fit.token (steps_of fit.shape) same) ∙ more e
 

@@ -7,6 +7,7 @@ use Rattle.std.specs.Option.{option_map}
 use Rattle.sml_lex.specs.declared.token.Kind.{Kind}
 use Rattle.sml_lex.specs.declared.token.Token.{Token}
 use Rattle.sml_rules.specs.Every.{Every}
+use Rattle.sml_rules.proofs.EveryItem.{every_more}
 use Rattle.sml_read.specs.declared.grammar.Part.{Part}
 use Rattle.sml_read.specs.declared.grammar.Symbol.{Symbol}
 use Rattle.sml_read.specs.declared.grammar.Symbol.TheVariants.{Word, Of}
@@ -27,10 +28,6 @@ use Rattle.sml_reach.specs.Reach.{token_of}
 use Rattle.sml_bare.specs.Derivations.{before_sequence}
 use Rattle.sml_tree_laws.proofs.SequenceTokens.{ahead, is_sequence, EventsRise, ahead_lower, quiet_before, own_token, before_next, events_rise}
 use Rattle.sml_tree_laws.proofs.SequenceFits.{Comes, ComesFrom}
-
-pub every_map : {A : Type 0} (Q R : A → Type 0) (xs : List A) → ((x : A) → Q x → R x) → Every Q xs → Every R xs
-every_map Q R [] f h = tt
-every_map Q R (x ∷ xs) f h = (f x h.0, every_map Q R xs f h.1)
 
 comes_later : (fit : Fit) (es : List Event) (lo : ℕ) → EventsRise lo es → ComesFrom fit es → lo ≤ fit.token
 comes_later fit [] lo h c = absurd c
@@ -115,8 +112,8 @@ module _ (unit : List ℕ) (tokens : List Token) (next : Option Kind) (rest : Pa
 
   pub coming_leaf : (n : ℕ) (w : Kind) (ss : List Symbol) (nodes : List Node) → Coming n (Word w ∷ ss) (Leaf ∷ nodes) → Coming (suc n) ss nodes
   coming_leaf n w ss nodes h =
-      every_map (λ fit. n + suc (ahead ss) ≤ fit.token → ComesFrom fit (events_of unit tokens (Leaf ∷ nodes) (starts_of n (Leaf ∷ nodes)))) (λ fit. suc n + ahead ss ≤ fit.token → ComesFrom fit (events_of unit tokens nodes (starts_of (suc n) nodes))) fits
-      (λ fit k l. not_scope fit (slice_get tokens n) (events_of unit tokens nodes (starts_of (suc n) nodes)) (k (omega (arith, l)))) h
+      every_more (λ fit. n + suc (ahead ss) ≤ fit.token → ComesFrom fit (events_of unit tokens (Leaf ∷ nodes) (starts_of n (Leaf ∷ nodes)))) (λ fit. suc n + ahead ss ≤ fit.token → ComesFrom fit (events_of unit tokens nodes (starts_of (suc n) nodes)))
+      (λ fit k l. not_scope fit (slice_get tokens n) (events_of unit tokens nodes (starts_of (suc n) nodes)) (k (omega (arith, l)))) fits h
 
   module _ (r : Rule) (p : Part) (n : ℕ) (ss : List Symbol) (nodes : List Node) (kinds : List Kind) (same : part_of r ≡ p) (leads : Leads nodes (right_side r ++ ss) kinds next (Of rest ∷ [])) (coming : Coming n (Of p ∷ ss) (Inner r ∷ nodes)) where
     abbrev pub found : Found
@@ -127,8 +124,8 @@ module _ (unit : List ℕ) (tokens : List Token) (next : Option Kind) (rest : Pa
 
     pub coming_inner : Coming n (right_side r ++ ss) nodes
     coming_inner =
-        every_map (λ fit. n + ahead (Of p ∷ ss) ≤ fit.token → ComesFrom fit (events_of unit tokens (Inner r ∷ nodes) (starts_of n (Inner r ∷ nodes)))) (λ fit. n + ahead (right_side r ++ ss) ≤ fit.token → ComesFrom fit (events_of unit tokens nodes (starts_of n nodes))) fits
-        (λ fit k l. let a = ahead_lower r p ss same in go fit l (own_or_later fit (deed_of r) n found (events_of unit tokens nodes (starts_of n nodes)) (k (omega (arith, l, a))))) coming
+        every_more (λ fit. n + ahead (Of p ∷ ss) ≤ fit.token → ComesFrom fit (events_of unit tokens (Inner r ∷ nodes) (starts_of n (Inner r ∷ nodes)))) (λ fit. n + ahead (right_side r ++ ss) ≤ fit.token → ComesFrom fit (events_of unit tokens nodes (starts_of n nodes)))
+        (λ fit k l. let a = ahead_lower r p ss same in go fit l (own_or_later fit (deed_of r) n found (events_of unit tokens nodes (starts_of n nodes)) (k (omega (arith, l, a))))) fits coming
       where
         go : (fit : Fit) → n + ahead (right_side r ++ ss) ≤ fit.token → Own (deed_of r) found fit ⊎ ComesFrom fit (events_of unit tokens nodes (starts_of n nodes)) → ComesFrom fit (events_of unit tokens nodes (starts_of n nodes))
         go fit l (inl o) = let t = own_at fit o in let b = before_next r ss o.0 in absurd (omega (arith, l, t, b))
@@ -137,8 +134,8 @@ module _ (unit : List ℕ) (tokens : List Token) (next : Option Kind) (rest : Pa
     -- what begins where this node's sequence does is its own
     pub own_only : is_sequence (deed_of r) ≡ true → Every (λ fit. fit.token ≡ n + before_sequence r → Own (deed_of r) found fit) fits
     own_only d =
-        every_map (λ fit. n + ahead (Of p ∷ ss) ≤ fit.token → ComesFrom fit (events_of unit tokens (Inner r ∷ nodes) (starts_of n (Inner r ∷ nodes)))) (λ fit. fit.token ≡ n + before_sequence r → Own (deed_of r) found fit) fits
-        (λ fit k e. let q = quiet_before r p ss same d in go fit e (own_or_later fit (deed_of r) n found (events_of unit tokens nodes (starts_of n nodes)) (k (omega (arith, e, q))))) coming
+        every_more (λ fit. n + ahead (Of p ∷ ss) ≤ fit.token → ComesFrom fit (events_of unit tokens (Inner r ∷ nodes) (starts_of n (Inner r ∷ nodes)))) (λ fit. fit.token ≡ n + before_sequence r → Own (deed_of r) found fit)
+        (λ fit k e. let q = quiet_before r p ss same d in go fit e (own_or_later fit (deed_of r) n found (events_of unit tokens nodes (starts_of n nodes)) (k (omega (arith, e, q))))) fits coming
       where
         go : (fit : Fit) → fit.token ≡ n + before_sequence r → Own (deed_of r) found fit ⊎ ComesFrom fit (events_of unit tokens nodes (starts_of n nodes)) → Own (deed_of r) found fit
         go fit e (inl o) = o
@@ -149,7 +146,7 @@ module _ (unit : List ℕ) (tokens : List Token) (next : Option Kind) (rest : Pa
 
     -- where it is none, none begins there
     pub none_only : is_sequence (deed_of r) ≡ true → sequence_in found ≡ None → Every (λ fit. fit.token ≡ n + before_sequence r → ⊥) fits
-    none_only d e = every_map (λ fit. fit.token ≡ n + before_sequence r → Own (deed_of r) found fit) (λ fit. fit.token ≡ n + before_sequence r → ⊥) fits (λ fit k t. no (sym e ∙ (k t).2)) (own_only d)
+    none_only d e = every_more (λ fit. fit.token ≡ n + before_sequence r → Own (deed_of r) found fit) (λ fit. fit.token ≡ n + before_sequence r → ⊥) (λ fit k t. no (sym e ∙ (k t).2)) fits (own_only d)
       where
         no : {xs : List Atom} → None ≡ Some xs → ⊥
         no e = cc

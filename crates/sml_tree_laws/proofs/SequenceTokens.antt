@@ -3,6 +3,8 @@ use Rattle.std.proofs.Common.{◌≡◌, ℕ, suc, ◌+◌, ◌<◌, ◌≤◌, 
 use Rattle.std.specs.Prelude.{not, nat_lt, nat_le, slice_get, ◌&&◌, ◌||◌, if◌then◌else◌}
 use Rattle.std.specs.List.{cons_option}
 use Rattle.std.specs.Option.{option_map}
+use Rattle.std.proofs.lemmas.Option.{same_Some}
+use Rattle.std.proofs.lemmas.List.{get_or-take}
 use Rattle.std.proofs.lemmas.Bool.{false≢true, ltb-true, leb-true}
 use Rattle.sml_lex.specs.declared.token.Kind.{Kind}
 use Rattle.sml_lex.specs.declared.token.Token.{Token}
@@ -125,15 +127,6 @@ abbrev One : ℕ → Found → Type 0
 One n (one a) = a.token ≡ n
 One n _ = ⊥
 
-take_first : (k : ℕ) (fs : List Found) → get_or (take (suc k) fs) 0 nothing ≡ get_or fs 0 nothing
-take_first k [] = refl
-take_first k (f ∷ fs) = refl
-
-take_second : (k : ℕ) (fs : List Found) → get_or (take (suc (suc k)) fs) 1 nothing ≡ get_or fs 1 nothing
-take_second k [] = refl
-take_second k (f ∷ []) = refl
-take_second k (f ∷ g ∷ fs) = refl
-
 left_one : (d : Deed) (n : ℕ) (f : Found) → is_nothing d ≡ true → One n f → One n (left d f)
 left_one Deeds.Nothing n f h k = k
 left_one _ n f h k = absurd (false≢true h)
@@ -159,7 +152,7 @@ module _ (text : ℕ → Id) (next : Option Kind) (rest : Part) (outer : is_oute
       → begins_one side ≡ true → One n (get_or (take (length side) fs) 0 nothing)
   passed_one n fs nodes [] ss kinds f h b = absurd (false≢true b)
   passed_one n fs nodes (Word w ∷ side) ss kinds f h b = absurd (false≢true b)
-  passed_one n fs nodes (Of p ∷ side) ss kinds f h b = subst (One n) (sym (take_first (length side) fs)) (f p (side ++ ss) h b)
+  passed_one n fs nodes (Of p ∷ side) ss kinds f h b = subst (One n) (sym (get_or-take (suc (length side)) fs 0 nothing (omega arith))) (f p (side ++ ss) h b)
 
   first_one : (nodes : List Node) (n : ℕ) (p : Part) (ss : List Symbol) (kinds : List Kind) → Leads nodes (Of p ∷ ss) kinds next (Of rest ∷ []) → is_one p ≡ true
       → One n (get_or (founds_of text nodes (starts_of n nodes)) 0 nothing)
@@ -184,12 +177,9 @@ module _ (text : ℕ → Id) (next : Option Kind) (rest : Part) (outer : is_oute
 
 -- the first token of a sequence
 
-some_same : {xs ys : List Atom} → Some xs ≡ Some ys → xs ≡ ys
-some_same e = cc
-
 from_token : (n : ℕ) (f : Found) (atoms : List Atom) → sequence_in (from n f) ≡ Some atoms → token_of atoms 0 ≡ n
 from_token n (several [] typed) atoms e = cc
-from_token n (several (a ∷ others) typed) atoms e = subst (λ q. token_of q 0 ≡ n) (some_same e) refl
+from_token n (several (a ∷ others) typed) atoms e = subst (λ q. token_of q 0 ≡ n) (same_Some _ _ e) refl
 from_token n nothing atoms e = cc
 from_token n (word k) atoms e = cc
 from_token n (one a) atoms e = cc
@@ -197,7 +187,7 @@ from_token n (within names) atoms e = cc
 from_token n (directed level others) atoms e = cc
 
 more_token : (n : ℕ) (f : Found) (others : List Atom) (typed : Bool) (atoms : List Atom) → One n f → sequence_in (several (atom_in f ∷ others) typed) ≡ Some atoms → token_of atoms 0 ≡ n
-more_token n (one a) others typed atoms h e = subst (λ q. token_of q 0 ≡ n) (some_same e) h
+more_token n (one a) others typed atoms h e = subst (λ q. token_of q 0 ≡ n) (same_Some _ _ e) h
 more_token n nothing others typed atoms h e = absurd h
 more_token n (word k) others typed atoms h e = absurd h
 more_token n (several bs t) others typed atoms h e = absurd h
@@ -205,7 +195,7 @@ more_token n (within names) others typed atoms h e = absurd h
 more_token n (directed level bs) others typed atoms h e = absurd h
 
 before_token : (n : ℕ) (x : Name) (f : Found) (atoms : List Atom) → sequence_in (before (atom x n []) f) ≡ Some atoms → token_of atoms 0 ≡ n
-before_token n x (several others typed) atoms e = subst (λ q. token_of q 0 ≡ n) (some_same e) refl
+before_token n x (several others typed) atoms e = subst (λ q. token_of q 0 ≡ n) (same_Some _ _ e) refl
 before_token n x nothing atoms e = cc
 before_token n x (word k) atoms e = cc
 before_token n x (one a) atoms e = cc
@@ -213,7 +203,7 @@ before_token n x (within names) atoms e = cc
 before_token n x (directed level others) atoms e = cc
 
 round_token : (n : ℕ) (x : Name) (inner : List Name) (others : List Atom) (typed : Bool) (atoms : List Atom) → sequence_in (several (atom x n inner ∷ others) typed) ≡ Some atoms → token_of atoms 0 ≡ n
-round_token n x inner others typed atoms e = subst (λ q. token_of q 0 ≡ n) (some_same e) refl
+round_token n x inner others typed atoms e = subst (λ q. token_of q 0 ≡ n) (same_Some _ _ e) refl
 
 abbrev is_bar : Rule → Bool
 is_bar (G.Declarations D.ClauseMoreBar) = true
@@ -228,16 +218,16 @@ module _ (text : ℕ → Id) (n : ℕ) (fs : List Found) where
   declaration_token D.ValDecOpenRound h f g atoms e = let t = from_token n (get_or (take 2 fs) 1 nothing) atoms e in omega (arith, t)
   declaration_token D.FunDecOpenRound h f g atoms e = let t = from_token n (get_or (take 2 fs) 1 nothing) atoms e in omega (arith, t)
   declaration_token D.FunDecBareAtPat h f g atoms e =
-      let t = more_token n (get_or (take 4 fs) 0 nothing) (atoms_in (get_or (take 4 fs) 1 nothing)) (typed_in (get_or (take 4 fs) 1 nothing)) atoms (subst (One n) (sym (take_first 3 fs)) (f refl)) e in omega (arith, t)
+      let t = more_token n (get_or (take 4 fs) 0 nothing) (atoms_in (get_or (take 4 fs) 1 nothing)) (typed_in (get_or (take 4 fs) 1 nothing)) atoms (subst (One n) (sym (get_or-take 4 fs 0 nothing (omega arith))) (f refl)) e in omega (arith, t)
   declaration_token D.ClausesAtPat h f g atoms e =
-      let t = more_token n (get_or (take 3 fs) 0 nothing) (atoms_in (get_or (take 3 fs) 1 nothing)) (typed_in (get_or (take 3 fs) 1 nothing)) atoms (subst (One n) (sym (take_first 2 fs)) (f refl)) e in omega (arith, t)
+      let t = more_token n (get_or (take 3 fs) 0 nothing) (atoms_in (get_or (take 3 fs) 1 nothing)) (typed_in (get_or (take 3 fs) 1 nothing)) atoms (subst (One n) (sym (get_or-take 3 fs 0 nothing (omega arith))) (f refl)) e in omega (arith, t)
   declaration_token D.ClauseMoreBar h f g atoms e =
-      let t = more_token (n + 1) (get_or (take 4 fs) 1 nothing) (atoms_in (get_or (take 4 fs) 2 nothing)) (typed_in (get_or (take 4 fs) 2 nothing)) atoms (subst (One (n + 1)) (sym (take_second 2 fs)) (g refl)) e in omega (arith, t)
+      let t = more_token (n + 1) (get_or (take 4 fs) 1 nothing) (atoms_in (get_or (take 4 fs) 2 nothing)) (typed_in (get_or (take 4 fs) 2 nothing)) atoms (subst (One (n + 1)) (sym (get_or-take 4 fs 1 nothing (omega arith))) (g refl)) e in omega (arith, t)
   declaration_token _ h f g atoms e = absurd (false≢true h)
 
   expression_token : (rule : ExpressionRule) → is_sequence (deed_of (G.Expressions rule)) ≡ true → Begins (G.Expressions rule)
   expression_token E.TypAt h f g atoms e =
-      let t = more_token n (get_or (take 3 fs) 0 nothing) (atoms_in (get_or (take 3 fs) 1 nothing)) (typed_in (get_or (take 3 fs) 1 nothing)) atoms (subst (One n) (sym (take_first 2 fs)) (f refl)) e in omega (arith, t)
+      let t = more_token n (get_or (take 3 fs) 0 nothing) (atoms_in (get_or (take 3 fs) 1 nothing)) (typed_in (get_or (take 3 fs) 1 nothing)) atoms (subst (One n) (sym (get_or-take 3 fs 0 nothing (omega arith))) (f refl)) e in omega (arith, t)
   expression_token _ h f g atoms e = absurd (false≢true h)
 
   pattern_token : (rule : PatternRule) → is_sequence (deed_of (G.Patterns rule)) ≡ true → Begins (G.Patterns rule)
@@ -245,7 +235,7 @@ module _ (text : ℕ → Id) (n : ℕ) (fs : List Found) where
   pattern_token P.BarePatVid h f g atoms e = let t = before_token n (short (text n)) (get_or (take 2 fs) 1 nothing) atoms e in omega (arith, t)
   pattern_token P.BarePatOp h f g atoms e = let t = from_token n (get_or (take 2 fs) 1 nothing) atoms e in omega (arith, t)
   pattern_token P.BarePatOtherAtPat h f g atoms e =
-      let t = more_token n (get_or (take 2 fs) 0 nothing) (atoms_in (get_or (take 2 fs) 1 nothing)) (typed_in (get_or (take 2 fs) 1 nothing)) atoms (subst (One n) (sym (take_first 1 fs)) (f refl)) e in omega (arith, t)
+      let t = more_token n (get_or (take 2 fs) 0 nothing) (atoms_in (get_or (take 2 fs) 1 nothing)) (typed_in (get_or (take 2 fs) 1 nothing)) atoms (subst (One n) (sym (get_or-take 2 fs 0 nothing (omega arith))) (f refl)) e in omega (arith, t)
   pattern_token _ h f g atoms e = absurd (false≢true h)
 
   unit_token : (rule : UnitRule) → is_sequence (deed_of (G.Units rule)) ≡ true → Begins (G.Units rule)

@@ -163,7 +163,7 @@ width_of (suc n) [] = 0
 width_of (suc n) (Leaf ∷ nodes) = suc (width_of n nodes)
 width_of (suc n) (Inner r ∷ nodes) = width_of (length (right_side r) + n) nodes
 
-width_more : (nodes : List Node) (m n : ℕ) → m ≤ n → width_of m nodes ≤ width_of n nodes
+pub width_more : (nodes : List Node) (m n : ℕ) → m ≤ n → width_of m nodes ≤ width_of n nodes
 width_more nodes zero n h = omega arith
 width_more [] (suc m) n h = omega arith
 width_more nodes (suc m) zero h = absurd (omega (arith, h))

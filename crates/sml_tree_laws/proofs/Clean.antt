@@ -1,6 +1,6 @@
 -- Marks that have no flaw: none binds what another does, none a name that can't be bound, and no real constant is among them.
 use Rattle.std.proofs.Common.{◌≡◌, ℕ, ◌<◌, List, [], ◌∷◌, ◌++◌, Bool, true, false, Option, Some, None, refl, sym, ap, ◌∙◌, subst, inl, inr, arith}
-use Rattle.std.specs.Prelude.{◌&&◌, ◌||◌, if◌then◌else◌}
+use Rattle.std.specs.Prelude.{not, ◌&&◌, ◌||◌, if◌then◌else◌}
 use Rattle.std.specs.List.{cons_option}
 use Rattle.std.proofs.lemmas.Bool.{false≢true}
 use Rattle.sml_tree.specs.Trees.{Id}
@@ -9,8 +9,8 @@ use Rattle.sml_reach.specs.Fits.{Fit}
 use Rattle.sml_flaws.specs.declared.role.Space.{Space}
 use Rattle.sml_flaws.specs.declared.mark.Mark.{Mark}
 use Rattle.sml_flaws.specs.declared.mark.Mark.TheVariants as Mk
-use Rattle.sml_flaws.specs.Known.{Key, same, key_in, is_key, is_bound, is_again, token_in}
-use Rattle.sml_flaws.specs.Flaws.{flaw_if, unlike, uneven, is_reserved, is_it, names_value, names_constructor, barred, real, flaws_by, flaws_of}
+use Rattle.sml_flaws.specs.Known.{Key, same, key_in, is_key, is_bound, is_again, token_in, is_used}
+use Rattle.sml_flaws.specs.Flaws.{position, flaw_if, unlike, uneven, is_reserved, is_it, names_value, names_constructor, barred_value, barred, real, flaws_by, flaws_of}
 use Rattle.sml_tree_laws.proofs.Declared.{if_none}
 
 pub both_none : {A : Type 0} (xs ys : List A) → xs ++ ys ≡ [] → (xs ≡ []) × (ys ≡ [])
@@ -26,7 +26,7 @@ five_none None None None (Some x) e h = cc
 five_none None None None None (Some x) h = cc
 
 module _ (text : ℕ → Id) (fits : List Fit) where
-  none_by : (known : List Mark) (m : Mark) (again : Bool) → flaws_by text fits known m again ≡ [] → (again ≡ false) × (barred text fits known m ≡ None) × (real m ≡ None)
+  pub none_by : (known : List Mark) (m : Mark) (again : Bool) → flaws_by text fits known m again ≡ [] → (again ≡ false) × (barred text fits known m ≡ None) × (real m ≡ None)
   none_by known m again e =
       let n = five_none (flaw_if again (token_in m) _) (unlike text fits known m) (uneven fits known m) (barred text fits known m) (real m) e in
       (if_none again (token_in m) _ n.0, n.1, n.2)
@@ -98,3 +98,16 @@ module _ (text : ℕ → Id) (fits : List Fit) where
     may_bind sp g t s =
         let j = judged [] all clean (Mk.Bound (record { space = sp; group = g; token = t })) s in
         if_none ((names_value sp && is_reserved (text t)) || (names_constructor sp && is_it (text t))) t _ (none_by j.known (Mk.Bound (record { space = sp; group = g; token = t })) j.again j.none).1
+
+    -- an identifier that its sequence doesn't use, and one that stands for itself in a row, behind `rec`
+
+    pub may_stand : (n i t : ℕ) → Stands (Mk.Identifier (record { sequence = n; index = i; token = t; binds = true })) all → is_used fits (position n i) ≡ false → is_reserved (text t) ≡ false
+    may_stand n i t s u =
+        let m = Mk.Identifier (record { sequence = n; index = i; token = t; binds = true }) in
+        let j = judged [] all clean m s in
+        if_none (is_reserved (text t)) t _ (sym (ap (λ b. if not b then barred_value text (Some t) else None) u) ∙ (none_by j.known m j.again j.none).1)
+
+    pub may_stand_for_itself : (t : ℕ) → Stands (Mk.Pun t) all → is_reserved (text t) ≡ false
+    may_stand_for_itself t s =
+        let j = judged [] all clean (Mk.Pun t) s in
+        if_none (is_reserved (text t)) t _ (none_by j.known (Mk.Pun t) j.again j.none).1

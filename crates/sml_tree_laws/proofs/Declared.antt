@@ -64,10 +64,10 @@ ends_so r = go (ends_at (Inner r)) (is_outer (part_of r)) (each_rule (λ r. same
     go false true h = absurd (false≢true h)
     go false false h = refl
 
-go_on : (node : Node) (nodes : List Node) → ends_at node ≡ false → before_first ends_at (node ∷ nodes) ≡ node ∷ before_first ends_at nodes
+pub go_on : (node : Node) (nodes : List Node) → ends_at node ≡ false → before_first ends_at (node ∷ nodes) ≡ node ∷ before_first ends_at nodes
 go_on node nodes e = take_while-cons (λ x. not (ends_at x)) node nodes ∙ cond-true _ _ _ (ap not e)
 
-stop : (node : Node) (nodes : List Node) → ends_at node ≡ true → before_first ends_at (node ∷ nodes) ≡ []
+pub stop : (node : Node) (nodes : List Node) → ends_at node ≡ true → before_first ends_at (node ∷ nodes) ≡ []
 stop node nodes e = take_while-cons (λ x. not (ends_at x)) node nodes ∙ cond-false _ _ _ (ap not e)
 
 pub goes_of : (nodes : List Node) (a ss : List Symbol) (q rest : Part) (kinds : List Kind) (next : Option Kind) → all_inner a ≡ true → is_outer q ≡ true

@@ -2,6 +2,7 @@
 use Rattle.std.proofs.Common.{◌≡◌, ℕ, zero, suc, ◌+◌, ◌-◌, ◌<◌, ◌≤◌, List, [], ◌∷◌, ◌++◌, Bool, true, false, Option, Some, None, IfSome, length, take, drop, refl, sym, ap, ◌∙◌, subst, arith}
 use Rattle.std.specs.Prelude.{slice_get, if◌then◌else◌}
 use Rattle.std.specs.List.{All, before_first, cons_option}
+use Rattle.std.specs.Option.{option_map}
 use Rattle.std.proofs.lemmas.Bool.{false≢true}
 use Rattle.std.proofs.lemmas.List.{take_all}
 use Rattle.std.proofs.lemmas.List.Elements.{All-nil, All-cons, All-weaker}
@@ -26,12 +27,13 @@ use Rattle.sml_read.specs.Spelling.{first_of, is_outer, kinds_of, Leads}
 use Rattle.sml_read.specs.Extents.{starts_of}
 use Rattle.sml_phrases.specs.Phrases.{first}
 use Rattle.sml_phrases.specs.PhraseHeights.{low}
+use Rattle.sml_reach.specs.declared.sense.Deed.{Deed}
 use Rattle.sml_reach.specs.declared.sense.Deed.TheVariants as D
 use Rattle.sml_reach.specs.declared.reach.Misfit.{Misfit}
-use Rattle.sml_reach.specs.Senses.{deed_of}
-use Rattle.sml_reach.specs.Events.{Event, begins, enters, leaves, directs, expression, pattern, head, text_at, found_at, event_of, event_from, events_of, founds_of}
+use Rattle.sml_reach.specs.Senses.{deed_of, opens, closes}
+use Rattle.sml_reach.specs.Events.{Event, begins, enters, leaves, directs, expression, pattern, head, text_at, found_at, scope_event, event_of, event_from, events_of, founds_of}
 use Rattle.sml_reach.specs.Fits.{Fit, Fitted}
-use Rattle.sml_reach.specs.Founds.{Found}
+use Rattle.sml_reach.specs.Founds.{Atom, Found, nothing, word, one, several, within, directed, sequence_in}
 use Rattle.sml_reach.specs.Reach as Reach
 use Rattle.sml_reach.specs.Reach.{AreFitted, Outcome, declares, idle, stands, fails, Outcomes, State, declarations_in, before_misfit, up_to}
 use Rattle.sml_flaws.specs.declared.flaw.Flaw.{Flaw}
@@ -40,17 +42,23 @@ use Rattle.sml_flaws.specs.Flawed.{begins_at, ends_at, own_nodes, flaw_in, flaw_
 use Rattle.sml_bare.specs.RulePhrases.{declaration}
 use Rattle.sml_bare.specs.Derivations.{Source, place_at, phrases_of, are_low, top_if_low, bare_dec_at, bare_decs, before_none}
 use Rattle.sml_tree_laws.specs.Scoped.{TopScoped, VariablesAreScopedOnce}
-use Rattle.sml_tree_laws.proofs.Declared.{goes_of, none_or, made, top_scoped, next_scoped, exp_scoped}
+use Rattle.sml_tree_laws.proofs.Declared.{stop, go_on, goes_of, none_or, made, top_scoped, next_scoped, exp_scoped}
 use Rattle.sml_lex.specs.declared.token.End.{End}
 use Rattle.sml_lex.specs.Faults.{Fault}
 use Rattle.sml_tree.specs.Trees as Piece
 use Rattle.sml_parse.specs.Trees.{AreTrees}
 use Rattle.sml_tree_laws.specs.WellBound.{TopBound, TreesAreWellBound}
 use Rattle.sml_tree_laws.proofs.WellDeclared.{top_well, next_well, exp_well}
+use Rattle.sml_lex.specs.Pieces.{Spells}
+use Rattle.sml_read.proofs.Tables.{each_rule, implies, implied}
+use Rattle.sml_tree_laws.specs.Recursive.{TopRec, RecursiveNamesMayBeBound}
+use Rattle.sml_tree_laws.proofs.SequenceTokens.{events_rise}
+use Rattle.sml_tree_laws.proofs.SequenceFits.{FitsRise, AreBuilt, FitsWell, AllCome, Tells, tells_none, all_fit}
+use Rattle.sml_tree_laws.proofs.RecDeclared.{fewer, top_recursive, next_recursive, exp_recursive}
 
--- what is proved of a declaration
-abbrev TopLawful : TopDec Place → Type 0
-TopLawful d = TopScoped d × TopBound d
+-- what is proved of a declaration, where K holds of its unit
+abbrev TopLawful : Type 0 → TopDec Place → Type 0
+TopLawful K d = TopScoped d × TopBound d × (K → TopRec d)
 
 -- there are as many events of declarations as declarations
 
@@ -128,37 +136,103 @@ few_declared text s (expression atoms ∷ events) all h = other text h.0 h.2 all
 few_declared text s (pattern atoms ∷ events) all h = other text h.0 h.2 all events (few_declared text h.1 events h.2 h.4) h.5
 few_declared text s (head atoms ∷ events) all h = other text h.0 h.2 all events (few_declared text h.1 events h.2 h.4) h.5
 
+-- what is told of the declarations behind an event
+
+abbrev is_begins : Deed → Bool
+is_begins D.Begins = true
+is_begins _ = false
+
+not_begun : (rule : Rule) → begins_at rule ≡ false → is_begins (deed_of rule) ≡ false
+not_begun rule h = go (is_begins (deed_of rule)) refl
+  where
+    go : (b : Bool) → is_begins (deed_of rule) ≡ b → b ≡ false
+    go false e = refl
+    go true e = absurd (false≢true (sym h ∙ implied _ _ (each_rule (λ r. implies (is_begins (deed_of r)) (begins_at r)) refl rule) e))
+
+tells_scope : (o : Option Token) (es : List Event) (ds : List Fitted) → Tells (cons_option (scope_event o) es) ds → Tells es ds
+tells_scope None es ds h = h
+tells_scope (Some token) es ds h = go (opens token.kind) (closes token.kind) h
+  where
+    go : (a b : Bool) → Tells (cons_option (if a then Some enters else if b then Some leaves else None) es) ds → Tells es ds
+    go true b h = h
+    go false true h = h
+    go false false h = h
+
+tells_other : (d : Deed) (n : ℕ) (f : Found) (es : List Event) (ds : List Fitted) → is_begins d ≡ false → Tells (cons_option (event_of d n f) es) ds → Tells es ds
+tells_other D.Nothing n f es ds b h = h
+tells_other D.Begins n f es ds b h = absurd (false≢true (sym b))
+tells_other (D.Directs directive) n (directed level atoms) es ds b h = h
+tells_other (D.Directs directive) n nothing es ds b h = h
+tells_other (D.Directs directive) n (word k) es ds b h = h
+tells_other (D.Directs directive) n (one a) es ds b h = h
+tells_other (D.Directs directive) n (several atoms typed) es ds b h = h
+tells_other (D.Directs directive) n (within names) es ds b h = h
+tells_other D.Expression n f es ds b h = go (sequence_in f) h
+  where
+    go : (o : Option (List Atom)) → Tells (cons_option (option_map expression o) es) ds → Tells es ds
+    go None h = h
+    go (Some atoms) h = h
+tells_other D.Pattern n f es ds b h = go (sequence_in f) h
+  where
+    go : (o : Option (List Atom)) → Tells (cons_option (option_map pattern o) es) ds → Tells es ds
+    go None h = h
+    go (Some atoms) h = h
+tells_other D.Head n f es ds b h = go (sequence_in f) h
+  where
+    go : (o : Option (List Atom)) → Tells (cons_option (option_map head o) es) ds → Tells es ds
+    go None h = h
+    go (Some atoms) h = h
+
+tells_drop : (n : ℕ) (es : List Event) (ds : List Fitted) → Tells (begins n ∷ es) ds → Tells es (drop 1 ds)
+tells_drop n es [] h = tells_none es
+tells_drop n es (d ∷ ds) h = h.1
+
+-- the nodes of a declaration, and those behind it
+
+behind_first : List Node → List Node
+behind_first nodes = drop (length (before_first ends_at nodes)) nodes
+
+first_and_behind : (nodes : List Node) → before_first ends_at nodes ++ behind_first nodes ≡ nodes
+unfolding behind_first
+first_and_behind [] = refl
+first_and_behind (node ∷ nodes) = go (ends_at node) refl (first_and_behind nodes)
+  where
+    go : (b : Bool) → ends_at node ≡ b → before_first ends_at nodes ++ drop (length (before_first ends_at nodes)) nodes ≡ nodes
+        → before_first ends_at (node ∷ nodes) ++ drop (length (before_first ends_at (node ∷ nodes))) (node ∷ nodes) ≡ node ∷ nodes
+    go true e h = ap (λ q. q ++ drop (length q) (node ∷ nodes)) (stop node nodes e)
+    go false e h = ap (λ q. q ++ drop (length q) (node ∷ nodes)) (go_on node nodes e) ∙ ap (λ q. node ∷ q) h
+
 -- declarations before the fault
 
 abbrev IsBefore : ℕ → Option Misfit → Type 0
 IsBefore number None = Unit {0}
 IsBefore number (Some m) = number < m.number
 
-abbrev EachGood : ℕ → Option Misfit → List Fitted → List (Option (TopDec Place)) → Type 0
-EachGood count m fitted [] = Unit {0}
-EachGood count m fitted (d ∷ ds) = (IsBefore (suc count) m → 0 < length fitted → IfSome d TopLawful) × EachGood (suc count) m (drop 1 fitted) ds
+abbrev EachGood : Type 0 → ℕ → Option Misfit → List Fitted → List (Option (TopDec Place)) → Type 0
+EachGood K count m fitted [] = Unit {0}
+EachGood K count m fitted (d ∷ ds) = (IsBefore (suc count) m → 0 < length fitted → IfSome d (TopLawful K)) × EachGood K (suc count) m (drop 1 fitted) ds
 
-abbrev AllGood : List (Option (TopDec Place)) → Type 0
-AllGood [] = Unit {0}
-AllGood (d ∷ ds) = IfSome d TopLawful × AllGood ds
+abbrev AllGood : Type 0 → List (Option (TopDec Place)) → Type 0
+AllGood K [] = Unit {0}
+AllGood K (d ∷ ds) = IfSome d (TopLawful K) × AllGood K ds
 
-none_before : (ds : List (Option (TopDec Place))) → AllGood ds → All TopLawful (before_none ds)
-none_before [] h = All-nil TopLawful
-none_before (None ∷ ds) h = All-nil TopLawful
-none_before (Some d ∷ ds) h = All-cons TopLawful d (before_none ds) h.0 (none_before ds h.1)
+none_before : (K : Type 0) (ds : List (Option (TopDec Place))) → AllGood K ds → All (TopLawful K) (before_none ds)
+none_before K [] h = All-nil (TopLawful K)
+none_before K (None ∷ ds) h = All-nil (TopLawful K)
+none_before K (Some d ∷ ds) h = All-cons (TopLawful K) d (before_none ds) h.0 (none_before K ds h.1)
 
 fewer_fitted : (q : ℕ) (fitted : List Fitted) → suc q < length fitted → q < length (drop 1 fitted)
 fewer_fitted q [] h = absurd (omega (arith, h))
 fewer_fitted q (f ∷ fitted) h = omega (arith, h)
 
-good_take : (n count : ℕ) (m : Option Misfit) (fitted : List Fitted) (ds : List (Option (TopDec Place))) → EachGood count m fitted ds
-    → ((q : ℕ) → q < n → q < length ds → IsBefore (suc (count + q)) m × (q < length fitted)) → AllGood (take n ds)
-good_take zero count m fitted ds h k = tt
-good_take (suc n) count m fitted [] h k = tt
-good_take (suc n) count m fitted (d ∷ ds) h k =
+good_take : (K : Type 0) (n count : ℕ) (m : Option Misfit) (fitted : List Fitted) (ds : List (Option (TopDec Place))) → EachGood K count m fitted ds
+    → ((q : ℕ) → q < n → q < length ds → IsBefore (suc (count + q)) m × (q < length fitted)) → AllGood K (take n ds)
+good_take K zero count m fitted ds h k = tt
+good_take K (suc n) count m fitted [] h k = tt
+good_take K (suc n) count m fitted (d ∷ ds) h k =
     let first = k 0 (omega arith) (omega arith) in (
       h.0 (subst (λ q. IsBefore (suc q) m) (let e : count + 0 ≡ count = omega arith in e) first.0) first.1,
-      good_take n (suc count) m (drop 1 fitted) ds h.1
+      good_take K n (suc count) m (drop 1 fitted) ds h.1
           (λ q a b. let x = k (suc q) (omega (arith, a)) (omega (arith, b)) in (subst (λ j. IsBefore (suc j) m) (let e : count + suc q ≡ suc count + q = omega arith in e) x.0, fewer_fitted q fitted x.1)),
     )
 
@@ -168,17 +242,17 @@ within_take (suc n) q [] h k = absurd (omega (arith, k))
 within_take (suc n) zero (x ∷ xs) h k = omega arith
 within_take (suc n) (suc q) (x ∷ xs) h k = let l = within_take n q xs (omega (arith, h)) (omega (arith, k)) in omega (arith, l)
 
-good_weaker : (count : ℕ) (m m' : Option Misfit) (fitted : List Fitted) (ds : List (Option (TopDec Place))) → ((k : ℕ) → count < k → IsBefore k m' → IsBefore k m) → EachGood count m fitted ds
-    → EachGood count m' fitted ds
-good_weaker count m m' fitted [] f h = tt
-good_weaker count m m' fitted (d ∷ ds) f h =
-    ((λ b l. h.0 (f (suc count) (omega arith) b) l), good_weaker (suc count) m m' (drop 1 fitted) ds (λ k l. f k (omega (arith, l))) h.1)
+good_weaker : (K : Type 0) (count : ℕ) (m m' : Option Misfit) (fitted : List Fitted) (ds : List (Option (TopDec Place))) → ((k : ℕ) → count < k → IsBefore k m' → IsBefore k m) → EachGood K count m fitted ds
+    → EachGood K count m' fitted ds
+good_weaker K count m m' fitted [] f h = tt
+good_weaker K count m m' fitted (d ∷ ds) f h =
+    ((λ b l. h.0 (f (suc count) (omega arith) b) l), good_weaker K (suc count) m m' (drop 1 fitted) ds (λ k l. f k (omega (arith, l))) h.1)
 
-low_good : (d : TopDec Place) (b : Bool) → TopLawful d → IfSome (top_if_low d b) TopLawful
-low_good d false h = tt
-low_good d true h = by_height (low (top_height d))
+low_good : (K : Type 0) (d : TopDec Place) (b : Bool) → TopLawful K d → IfSome (top_if_low d b) (TopLawful K)
+low_good K d false h = tt
+low_good K d true h = by_height (low (top_height d))
   where
-    by_height : (b : Bool) → IfSome (if b then Some d else None) TopLawful
+    by_height : (b : Bool) → IfSome (if b then Some d else None) (TopLawful K)
     by_height true = h
     by_height false = tt
 
@@ -241,7 +315,11 @@ as_many unit tokens (Inner rule ∷ nodes) n fitted = go (begins_at rule) (as_ma
     go true more same = ap suc more
     go false more same = same
 
-module _ (unit : List ℕ) (tokens : List Token) where
+module _ (unit : List ℕ) (tokens : List Token) (end : End) where
+  -- what is known of a unit
+  abbrev K : Type 0
+  K = Spells unit tokens end
+
   text : ℕ → Id
   text = text_at unit tokens
 
@@ -249,25 +327,40 @@ module _ (unit : List ℕ) (tokens : List Token) where
   reads n b toks same j t e = ap (slice_get (drop n tokens)) (let f : 0 + j ≡ j = omega arith in f) ∙ ap (λ xs. slice_get xs j) (sym same) ∙ slice_take b j toks t e
 
   module _ (n b : ℕ) (toks : List Token) (same : toks ≡ drop n tokens) (fits : List Fit) (nodes : List Node) (old : List Symbol) (next : Option Kind) (rest : Part) (outer : is_outer rest ≡ true)
-      (p : Place) where
+      (p : Place) (rise : FitsRise 0 fits) (built : AreBuilt fits) (come : AllCome fits (events_of unit tokens nodes (starts_of n nodes))) where
     abbrev own : List Node
     own = before_first ends_at nodes
 
+    own_come : AllCome fits (events_of unit tokens (own ++ behind_first nodes) (starts_of n (own ++ behind_first nodes)))
+    own_come = subst (λ ns. AllCome fits (events_of unit tokens ns (starts_of n ns))) (sym (first_and_behind nodes)) come
+
+    own_leads : (q : Part) (more : List Symbol) → Leads nodes (Of q ∷ more) (kinds_of (take b toks)) next (Of rest ∷ []) → Leads (own ++ behind_first nodes) (Of q ∷ more) (kinds_of (take b toks)) next (Of rest ∷ [])
+    own_leads q more leads = subst (λ ns. Leads ns (Of q ∷ more) (kinds_of (take b toks)) next (Of rest ∷ [])) (sym (first_and_behind nodes)) leads
+
     unit_good : (rule : UnitRule) → begins_at (G.Units rule) ≡ true → Leads nodes (right_side (G.Units rule) ++ old) (kinds_of (take b toks)) next (Of rest ∷ [])
-        → flaws (text_at unit tokens) fits n (Inner (G.Units rule) ∷ own) ≡ [] → TopLawful (declaration p (made unit tokens n fits own (take b toks) (reads n b toks same)))
+        → flaws (text_at unit tokens) fits n (Inner (G.Units rule) ∷ own) ≡ [] → TopLawful K (declaration p (made unit tokens n fits own (take b toks) (reads n b toks same)))
     unit_good U.StartTop h leads clean =
-        let goes = goes_of nodes (Of Top ∷ []) old AfterTop rest (kinds_of (take b toks)) next refl refl leads in
-        (top_scoped unit tokens n fits own (take b toks) (reads n b toks same) clean goes p, top_well unit tokens n fits own (take b toks) (reads n b toks same) clean goes p)
+        let goes = goes_of nodes (Of Top ∷ []) old AfterTop rest (kinds_of (take b toks)) next refl refl leads in (
+          top_scoped unit tokens n fits own (take b toks) (reads n b toks same) clean goes p,
+          top_well unit tokens n fits own (take b toks) (reads n b toks same) clean goes p,
+          (λ spells. top_recursive unit tokens n fits own (take b toks) (reads n b toks same) rise built end spells (fewer b n toks tokens same) (Of AfterTop ∷ old) (behind_first nodes) next rest outer own_come (kinds_of (take b toks)) (own_leads Top (Of AfterTop ∷ old) leads) clean goes p),
+        )
     unit_good U.AfterTopTop h leads clean =
-        let goes = goes_of nodes (Of Top ∷ []) old AfterTop rest (kinds_of (take b toks)) next refl refl leads in
-        (next_scoped unit tokens n fits own (take b toks) (reads n b toks same) clean goes p, next_well unit tokens n fits own (take b toks) (reads n b toks same) clean goes p)
+        let goes = goes_of nodes (Of Top ∷ []) old AfterTop rest (kinds_of (take b toks)) next refl refl leads in (
+          next_scoped unit tokens n fits own (take b toks) (reads n b toks same) clean goes p,
+          next_well unit tokens n fits own (take b toks) (reads n b toks same) clean goes p,
+          (λ spells. next_recursive unit tokens n fits own (take b toks) (reads n b toks same) rise built end spells (fewer b n toks tokens same) (Of AfterTop ∷ old) (behind_first nodes) next rest outer own_come (kinds_of (take b toks)) (own_leads Top (Of AfterTop ∷ old) leads) clean goes p),
+        )
     unit_good U.StartExp h leads clean =
-        let goes = goes_of nodes (Of Exp ∷ []) old AfterExp rest (kinds_of (take b toks)) next refl refl leads in
-        (exp_scoped unit tokens n fits own (take b toks) (reads n b toks same) clean goes p, exp_well unit tokens n fits own (take b toks) (reads n b toks same) clean goes p)
+        let goes = goes_of nodes (Of Exp ∷ []) old AfterExp rest (kinds_of (take b toks)) next refl refl leads in (
+          exp_scoped unit tokens n fits own (take b toks) (reads n b toks same) clean goes p,
+          exp_well unit tokens n fits own (take b toks) (reads n b toks same) clean goes p,
+          (λ spells. exp_recursive unit tokens n fits own (take b toks) (reads n b toks same) rise built end spells (fewer b n toks tokens same) (Of AfterExp ∷ old) (behind_first nodes) next rest outer own_come (kinds_of (take b toks)) (own_leads Exp (Of AfterExp ∷ old) leads) clean goes p),
+        )
     unit_good _ h leads clean = absurd (false≢true h)
 
     rule_good : (rule : Rule) → begins_at rule ≡ true → Leads nodes (right_side rule ++ old) (kinds_of (take b toks)) next (Of rest ∷ [])
-        → flaws (text_at unit tokens) fits n (Inner rule ∷ own) ≡ [] → TopLawful (declaration p (made unit tokens n fits own (take b toks) (reads n b toks same)))
+        → flaws (text_at unit tokens) fits n (Inner rule ∷ own) ≡ [] → TopLawful K (declaration p (made unit tokens n fits own (take b toks) (reads n b toks same)))
     rule_good (G.Units rule) h leads clean = unit_good rule h leads clean
     rule_good (G.Names rule) h leads clean = absurd (false≢true h)
     rule_good (G.Structures rule) h leads clean = absurd (false≢true h)
@@ -281,58 +374,68 @@ module _ (unit : List ℕ) (tokens : List Token) where
   -- a declaration with this flaw or none, and those behind it
   module _ (rule : Rule) (n count b : ℕ) (toks : List Token) (same : toks ≡ drop n tokens) (nodes : List Node) (old : List Symbol) (next : Option Kind) (rest : Part) (outer : is_outer rest ≡ true)
       (begin : begins_at rule ≡ true) (leads : Leads nodes (right_side rule ++ old) (kinds_of (take b toks)) next (Of rest ∷ [])) (later : Option Misfit) where
-    here : (x : Fitted) (fitted : List Fitted) (flaw : Option Flaw) → first_flaw (flaws (text_at unit tokens) x.fits n (Inner rule ∷ before_first ends_at nodes)) ≡ flaw
-        → IsBefore (suc count) (or_else (flaw_in (suc count) n (own_nodes (Inner rule ∷ nodes)) flaw) later) → IfSome (bare_dec_at unit tokens n (before_first ends_at nodes) (x ∷ fitted)) TopLawful
-    here x fitted None e h =
+    here : (x : Fitted) (fitted : List Fitted) (flaw : Option Flaw) → FitsWell x × AllCome x.fits (events_of unit tokens nodes (starts_of n nodes)) → first_flaw (flaws (text_at unit tokens) x.fits n (Inner rule ∷ before_first ends_at nodes)) ≡ flaw
+        → IsBefore (suc count) (or_else (flaw_in (suc count) n (own_nodes (Inner rule ∷ nodes)) flaw) later) → IfSome (bare_dec_at unit tokens n (before_first ends_at nodes) (x ∷ fitted)) (TopLawful K)
+    here x fitted None well e h =
         let own = before_first ends_at nodes in
         let s : Source = record { unit = unit; tokens = drop n tokens; begun = n; fits = x.fits } in
         let p = place_at s.unit s.tokens 0 in
-        low_good (declaration p (first (phrases_of s own (starts_of 0 own)))) (are_low s own (starts_of 0 own))
-        (rule_good n b toks same x.fits nodes old next rest outer p rule begin leads (none_or (flaws (text_at unit tokens) x.fits n (Inner rule ∷ own)) e))
-    here x fitted (Some flaw) e h = absurd (omega (arith, h))
+        low_good K (declaration p (first (phrases_of s own (starts_of 0 own)))) (are_low s own (starts_of 0 own))
+        (rule_good n b toks same x.fits nodes old next rest outer p well.0.0 well.0.1 well.1 rule begin leads (none_or (flaws (text_at unit tokens) x.fits n (Inner rule ∷ own)) e))
+    here x fitted (Some flaw) well e h = absurd (omega (arith, h))
 
     not_earlier : (flaw : Option Flaw) → (k : ℕ) → suc count < k → IsBefore k (or_else (flaw_in (suc count) n (own_nodes (Inner rule ∷ nodes)) flaw) later) → IsBefore k later
     not_earlier None k l h = h
     not_earlier (Some flaw) k l h = absurd (omega (arith, l, h))
 
-    own_good : (fitted : List Fitted) (ds : List (Option (TopDec Place))) → EachGood (suc count) later (drop 1 fitted) ds
-        → EachGood count (or_else (flaw_here (text_at unit tokens) (suc count) n (own_nodes (Inner rule ∷ nodes)) fitted) later) fitted (bare_dec_at unit tokens n (before_first ends_at nodes) fitted ∷ ds)
-    own_good [] ds more = ((λ h l. absurd (omega (arith, l))), more)
-    own_good (x ∷ fitted) ds more =
+    own_good : (fitted : List Fitted) (ds : List (Option (TopDec Place))) → Tells (begins n ∷ events_of unit tokens nodes (starts_of n nodes)) fitted → EachGood K (suc count) later (drop 1 fitted) ds
+        → EachGood K count (or_else (flaw_here (text_at unit tokens) (suc count) n (own_nodes (Inner rule ∷ nodes)) fitted) later) fitted (bare_dec_at unit tokens n (before_first ends_at nodes) fitted ∷ ds)
+    own_good [] ds well more = ((λ h l. absurd (omega (arith, l))), more)
+    own_good (x ∷ fitted) ds well more =
         let flaw = first_flaw (flaws (text_at unit tokens) x.fits n (Inner rule ∷ before_first ends_at nodes)) in (
-          (λ h l. here x fitted flaw refl h),
-          good_weaker (suc count) later (or_else (flaw_in (suc count) n (own_nodes (Inner rule ∷ nodes)) flaw) later) fitted ds (not_earlier flaw) more,
+          (λ h l. here x fitted flaw well.0 refl h),
+          good_weaker K (suc count) later (or_else (flaw_in (suc count) n (own_nodes (Inner rule ∷ nodes)) flaw) later) fitted ds (not_earlier flaw) more,
         )
 
-  each_good : (nodes : List Node) (n count b : ℕ) (old : List Symbol) (toks : List Token) (next : Option Kind) (rest : Part) (fitted : List Fitted) → toks ≡ drop n tokens → is_outer rest ≡ true
-      → Leads nodes old (kinds_of (take b toks)) next (Of rest ∷ []) → EachGood count (first_flawed (text_at unit tokens) n count nodes toks fitted) fitted (bare_decs unit tokens n nodes fitted)
-  each_good [] n count b old toks next rest fitted same outer leads = tt
-  each_good (Leaf ∷ nodes) n count b [] toks next rest fitted same outer leads = absurd leads
-  each_good (Leaf ∷ nodes) n count b (Of p ∷ old) toks next rest fitted same outer leads = absurd leads
-  each_good (Leaf ∷ nodes) n count zero (Word w ∷ old) toks next rest fitted same outer leads = absurd leads
-  each_good (Leaf ∷ nodes) n count (suc b) (Word w ∷ old) [] next rest fitted same outer leads = absurd leads
-  each_good (Leaf ∷ nodes) n count (suc b) (Word w ∷ old) (t ∷ toks) next rest fitted same outer leads =
-      each_good nodes (suc n) count b old toks next rest fitted (drop_next n tokens toks t same) outer leads.1
-  each_good (Inner rule ∷ nodes) n count b [] toks next rest fitted same outer leads = absurd leads
-  each_good (Inner rule ∷ nodes) n count b (Word w ∷ old) toks next rest fitted same outer leads = absurd leads
-  each_good (Inner rule ∷ nodes) n count b (Of p ∷ old) toks next rest fitted same outer leads =
+  each_good : (nodes : List Node) (n count b : ℕ) (old : List Symbol) (toks : List Token) (next : Option Kind) (rest : Part) (fitted : List Fitted) → Tells (events_of unit tokens nodes (starts_of n nodes)) fitted → toks ≡ drop n tokens → is_outer rest ≡ true
+      → Leads nodes old (kinds_of (take b toks)) next (Of rest ∷ []) → EachGood K count (first_flawed (text_at unit tokens) n count nodes toks fitted) fitted (bare_decs unit tokens n nodes fitted)
+  each_good [] n count b old toks next rest fitted well same outer leads = tt
+  each_good (Leaf ∷ nodes) n count b [] toks next rest fitted well same outer leads = absurd leads
+  each_good (Leaf ∷ nodes) n count b (Of p ∷ old) toks next rest fitted well same outer leads = absurd leads
+  each_good (Leaf ∷ nodes) n count zero (Word w ∷ old) toks next rest fitted well same outer leads = absurd leads
+  each_good (Leaf ∷ nodes) n count (suc b) (Word w ∷ old) [] next rest fitted well same outer leads = absurd leads
+  each_good (Leaf ∷ nodes) n count (suc b) (Word w ∷ old) (t ∷ toks) next rest fitted well same outer leads =
+      each_good nodes (suc n) count b old toks next rest fitted (tells_scope (slice_get tokens n) (events_of unit tokens nodes (starts_of (suc n) nodes)) fitted well) (drop_next n tokens toks t same) outer leads.1
+  each_good (Inner rule ∷ nodes) n count b [] toks next rest fitted well same outer leads = absurd leads
+  each_good (Inner rule ∷ nodes) n count b (Word w ∷ old) toks next rest fitted well same outer leads = absurd leads
+  each_good (Inner rule ∷ nodes) n count b (Of p ∷ old) toks next rest fitted well same outer leads =
       go (begins_at rule) refl
-      (each_good nodes n (suc count) b (right_side rule ++ old) toks next rest (drop 1 fitted) same outer leads.2)
-      (each_good nodes n count b (right_side rule ++ old) toks next rest fitted same outer leads.2)
+      (λ w. each_good nodes n (suc count) b (right_side rule ++ old) toks next rest (drop 1 fitted) w same outer leads.2)
+      (λ w. each_good nodes n count b (right_side rule ++ old) toks next rest fitted w same outer leads.2)
     where
       later : Option Misfit
       later = first_flawed (text_at unit tokens) n (suc count) nodes toks (drop 1 fitted)
 
-      go : (c : Bool) → begins_at rule ≡ c → EachGood (suc count) later (drop 1 fitted) (bare_decs unit tokens n nodes (drop 1 fitted))
-          → EachGood count (first_flawed (text_at unit tokens) n count nodes toks fitted) fitted (bare_decs unit tokens n nodes fitted)
-          → EachGood count (if c then or_else (flaw_here (text_at unit tokens) (suc count) n (own_nodes (Inner rule ∷ nodes)) fitted) later else first_flawed (text_at unit tokens) n count nodes toks fitted) fitted
+      events : List Event
+      events = events_of unit tokens nodes (starts_of n nodes)
+
+      found : Found
+      found = found_at (text_at unit tokens) n rule (founds_of (text_at unit tokens) nodes (starts_of n nodes))
+
+      told : begins_at rule ≡ true → Tells (begins n ∷ events) fitted
+      told e = subst (λ d. Tells (cons_option (event_of d n found) events) fitted) (begins_deed rule e) well
+
+      go : (c : Bool) → begins_at rule ≡ c → (Tells events (drop 1 fitted) → EachGood K (suc count) later (drop 1 fitted) (bare_decs unit tokens n nodes (drop 1 fitted)))
+          → (Tells events fitted → EachGood K count (first_flawed (text_at unit tokens) n count nodes toks fitted) fitted (bare_decs unit tokens n nodes fitted))
+          → EachGood K count (if c then or_else (flaw_here (text_at unit tokens) (suc count) n (own_nodes (Inner rule ∷ nodes)) fitted) later else first_flawed (text_at unit tokens) n count nodes toks fitted) fitted
           (if c then bare_dec_at unit tokens n (before_first ends_at nodes) fitted ∷ bare_decs unit tokens n nodes (drop 1 fitted) else bare_decs unit tokens n nodes fitted)
-      go true e more others = own_good rule n count b toks same nodes old next rest outer e leads.2 later fitted (bare_decs unit tokens n nodes (drop 1 fitted)) more
-      go false e more others = others
+      go true e more others =
+          own_good rule n count b toks same nodes old next rest outer e leads.2 later fitted (bare_decs unit tokens n nodes (drop 1 fitted)) (told e) (more (tells_drop n events fitted (told e)))
+      go false e more others = others (tells_other (deed_of rule) n found events fitted (not_begun rule e) well)
 
   -- those before the last fault
   module _ (nodes : List Node) (fitted : List Fitted) (unfit : Option Misfit) (fit : AreFitted (text_at unit tokens) (events_of unit tokens nodes (starts_of 0 nodes)) fitted unfit)
-      (each : EachGood 0 (first_flawed (text_at unit tokens) 0 0 nodes tokens fitted) fitted (bare_decs unit tokens 0 nodes fitted)) where
+      (each : EachGood K 0 (first_flawed (text_at unit tokens) 0 0 nodes tokens fitted) fitted (bare_decs unit tokens 0 nodes fitted)) where
     all : List (Option (TopDec Place))
     all = bare_decs unit tokens 0 nodes fitted
 
@@ -343,38 +446,45 @@ module _ (unit : List ℕ) (tokens : List Token) where
         let d = few_declared (text_at unit tokens) Reach.start (events_of unit tokens nodes (starts_of 0 nodes)) fit.outcomes fit.happen in
         omega (arith, h, a, e, d)
 
-    no_flaw : (u : Option Misfit) → unfit ≡ u → EachGood 0 None fitted (bare_decs unit tokens 0 nodes fitted) → AllGood (up_to (before_misfit u) (bare_decs unit tokens 0 nodes fitted))
+    no_flaw : (u : Option Misfit) → unfit ≡ u → EachGood K 0 None fitted (bare_decs unit tokens 0 nodes fitted) → AllGood K (up_to (before_misfit u) (bare_decs unit tokens 0 nodes fitted))
     no_flaw None e good =
-        subst AllGood (take_all (length (bare_decs unit tokens 0 nodes fitted)) (bare_decs unit tokens 0 nodes fitted) (omega arith))
-        (good_take (length (bare_decs unit tokens 0 nodes fitted)) 0 None fitted (bare_decs unit tokens 0 nodes fitted) good
+        subst (AllGood K) (take_all (length (bare_decs unit tokens 0 nodes fitted)) (bare_decs unit tokens 0 nodes fitted) (omega arith))
+        (good_take K (length (bare_decs unit tokens 0 nodes fitted)) 0 None fitted (bare_decs unit tokens 0 nodes fitted) good
         (λ q a b. (tt, subst (λ f. q < length f) (sym (fit.are_fitted ∙ ap (λ u. up_to (before_misfit u) (declarations_in fit.outcomes)) e)) (known q b))))
     no_flaw (Some m) e good =
-        good_take (m.number - 1) 0 None fitted (bare_decs unit tokens 0 nodes fitted) good
+        good_take K (m.number - 1) 0 None fitted (bare_decs unit tokens 0 nodes fitted) good
         (λ q a b. (
           tt,
           subst (λ f. q < length f) (sym (fit.are_fitted ∙ ap (λ u. up_to (before_misfit u) (declarations_in fit.outcomes)) e)) (within_take (m.number - 1) q (declarations_in fit.outcomes) a (known q b)),
         ))
 
-    by_flaw : (f : Option Misfit) → first_flawed (text_at unit tokens) 0 0 nodes tokens fitted ≡ f → AllGood (up_to (before_misfit (or_else f unfit)) (bare_decs unit tokens 0 nodes fitted))
-    by_flaw None e = no_flaw unfit refl (subst (λ m. EachGood 0 m fitted (bare_decs unit tokens 0 nodes fitted)) e each)
+    by_flaw : (f : Option Misfit) → first_flawed (text_at unit tokens) 0 0 nodes tokens fitted ≡ f → AllGood K (up_to (before_misfit (or_else f unfit)) (bare_decs unit tokens 0 nodes fitted))
+    by_flaw None e = no_flaw unfit refl (subst (λ m. EachGood K 0 m fitted (bare_decs unit tokens 0 nodes fitted)) e each)
     by_flaw (Some m) e =
         let within = flawed_within (text_at unit tokens) nodes 0 0 tokens fitted m e in
         let few = within.1 in
-        good_take (m.number - 1) 0 (Some m) fitted (bare_decs unit tokens 0 nodes fitted) (subst (λ m. EachGood 0 m fitted (bare_decs unit tokens 0 nodes fitted)) e each)
+        good_take K (m.number - 1) 0 (Some m) fitted (bare_decs unit tokens 0 nodes fitted) (subst (λ m. EachGood K 0 m fitted (bare_decs unit tokens 0 nodes fitted)) e each)
         (λ q a b. (omega (arith, a), omega (arith, a, few)))
 
-all_lawful : (unit : List ℕ) (tokens : List Token) (end : End) (tops : List (TopDec Place)) (decs : List (Piece.Dec Place)) (fault : Option (Fault Place)) → AreTrees unit tokens end tops decs fault → All TopLawful tops
+all_lawful : (unit : List ℕ) (tokens : List Token) (end : End) (tops : List (TopDec Place)) (decs : List (Piece.Dec Place)) (fault : Option (Fault Place)) → AreTrees unit tokens end tops decs fault
+    → All (TopLawful (Spells unit tokens end)) tops
 all_lawful unit tokens end tops decs fault trees =
     let whole = trees.reading.whole in
     let next = first_of (drop trees.begun (kinds_of tokens)) in
     let leads = subst (λ ks. Leads trees.nodes (Of Start ∷ []) ks next (Of whole.part ∷ [])) (sym (kinds_taken trees.begun tokens)) whole.leads in
-    let each = each_good unit tokens trees.nodes 0 0 trees.begun (Of Start ∷ []) tokens next whole.part trees.fitted refl whole.outer leads in
-    let good = by_flaw unit tokens trees.nodes trees.fitted trees.unfit trees.fits each (first_flawed (text_at unit tokens) 0 0 trees.nodes tokens trees.fitted) refl in
-    subst (All TopLawful) (sym trees.made)
-    (none_before _ (subst (λ m. AllGood (up_to (before_misfit m) (bare_decs unit tokens 0 trees.nodes trees.fitted))) (sym trees.is_first) good))
+    let events = events_of unit tokens trees.nodes (starts_of 0 trees.nodes) in
+    let rise = events_rise unit tokens next whole.part whole.outer trees.nodes 0 (Of Start ∷ []) (kinds_of (take trees.begun tokens)) leads in
+    let well = subst (Tells events) (sym trees.fits.are_fitted) (all_fit (text_at unit tokens) Reach.start events trees.fits.outcomes _ trees.unfit trees.fits.happen rise) in
+    let each = each_good unit tokens end trees.nodes 0 0 trees.begun (Of Start ∷ []) tokens next whole.part trees.fitted well refl whole.outer leads in
+    let good = by_flaw unit tokens end trees.nodes trees.fitted trees.unfit trees.fits each (first_flawed (text_at unit tokens) 0 0 trees.nodes tokens trees.fitted) refl in
+    subst (All (TopLawful (Spells unit tokens end))) (sym trees.made)
+    (none_before (Spells unit tokens end) _ (subst (λ m. AllGood (Spells unit tokens end) (up_to (before_misfit m) (bare_decs unit tokens 0 trees.nodes trees.fitted))) (sym trees.is_first) good))
 
 pub scoped_once : VariablesAreScopedOnce
-scoped_once unit tokens end tops decs fault trees = All-weaker TopLawful TopScoped (λ d h. h.0) tops (all_lawful unit tokens end tops decs fault trees)
+scoped_once unit tokens end tops decs fault trees = All-weaker (TopLawful (Spells unit tokens end)) TopScoped (λ d h. h.0) tops (all_lawful unit tokens end tops decs fault trees)
 
 pub well_bound : TreesAreWellBound
-well_bound unit tokens end tops decs fault trees = All-weaker TopLawful TopBound (λ d h. h.1) tops (all_lawful unit tokens end tops decs fault trees)
+well_bound unit tokens end tops decs fault trees = All-weaker (TopLawful (Spells unit tokens end)) TopBound (λ d h. h.1) tops (all_lawful unit tokens end tops decs fault trees)
+
+pub recursive_names : RecursiveNamesMayBeBound
+recursive_names unit tokens end tops decs fault spells trees = All-weaker (TopLawful (Spells unit tokens end)) TopRec (λ d h. h.2 spells) tops (all_lawful unit tokens end tops decs fault trees)

@@ -1,2 +1,3 @@
 pub mod Scoped
 pub mod WellBound
+pub mod Recursive

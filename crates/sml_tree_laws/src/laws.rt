@@ -1,6 +1,7 @@
 //! Laws of the trees that parsing gives.
 ghost use Rattle.sml_tree_laws.specs.Scoped.{VariablesAreScopedOnce};
 ghost use Rattle.sml_tree_laws.specs.WellBound.{TreesAreWellBound};
+ghost use Rattle.sml_tree_laws.specs.Recursive.{RecursiveNamesMayBeBound};
 
 /// In the declarations that bytes spell, no value declaration lists a type variable that one round it scopes, by its list or
 /// since the variable occurs unguarded in it (the Definition, sections 2.9 and 4.6).
@@ -13,4 +14,10 @@ pub fn variables_are_scoped_once()
 /// real constant (the Definition, sections 2.9 and 3.5).
 pub fn trees_are_well_bound()
     ensures { TreesAreWellBound }
+{}
+
+/// In the declarations that bytes spell, no name that stands by itself in a pattern behind `rec`, or is that of a function, is
+/// `true`, `false`, `::` or `ref`, and none before `as` there is one of these or `nil` (the Definition, section 2.9).
+pub fn recursive_names_may_be_bound()
+    ensures { RecursiveNamesMayBeBound }
 {}

@@ -11,6 +11,7 @@ use Rattle.sml_tree.specs.Clauses.{Clause}
 use Rattle.sml_objects.specs.Appearance.{Stands}
 use Rattle.sml_objects.proofs.Standing.{either}
 use Rattle.sml_rules.specs.Every.{Every}
+use Rattle.sml_rules.proofs.EveryItem.{every_more}
 use Rattle.sml_core_rules.specs.Closing.{unguarded}
 use Rattle.sml_derived.specs.Derived.{while_of, it_dec}
 use Rattle.sml_phrases.specs.Phrases.{Phrase, of_exp, of_exps, of_series, of_fields, of_rules, of_dec, of_decs, of_bind, of_binds, of_values, of_round_values, of_functions, of_right_side, of_clauses, of_round_functions}
@@ -23,10 +24,6 @@ unfolding Stands
 every_at Q [] h x s = absurd s
 every_at Q (y ∷ xs) h x (inl e) = subst Q (sym e) h.0
 every_at Q (y ∷ xs) h x (inr s) = every_at Q xs h.1 x s
-
-pub every_of : (Q Q' : Id → Type 0) → ((x : Id) → Q x → Q' x) → (xs : List Id) → Every Q xs → Every Q' xs
-every_of Q Q' f [] h = tt
-every_of Q Q' f (x ∷ xs) h = (f x h.0, every_of Q Q' f xs h.1)
 
 -- whatever holds of variables, less does
 
@@ -106,7 +103,7 @@ module _ {R R' : Id → Type 0} (r : (x : Id) → R x → R' x) where
     rules_more v (and_rule (rule p q e) m) h = ((pat_more v q h.0.0, exp_more v e h.0.1), rules_more v m h.1)
 
     dec_more : {P : Type 0} {V V' : Id → Type 0} → ((x : Id) → V x → V' x) → (d : Dec P) → DecSits R V d → DecSits R' V' d
-    dec_more v (val_dec p xs bs rs) h = (every_of R R' r (ids xs) h.0, h.1, binds_more (λ x y. y) bs h.2, binds_more (λ x y. y) rs h.3)
+    dec_more v (val_dec p xs bs rs) h = (every_more R R' r (ids xs) h.0, h.1, binds_more (λ x y. y) bs h.2, binds_more (λ x y. y) rs h.3)
     dec_more v (type_dec p bs) h = tt
     dec_more v (datatype_dec p bs) h = tt
     dec_more v (datatype_with p bs ts) h = tt
@@ -174,7 +171,7 @@ module _ (L V In Out : Id → Type 0) (listed : (x : Id) → L x → Out x) (inn
   pub value_dec_sits : (V' : Id → Type 0) (p : Place) (xs : List (Name Place)) (bs rs : ValBinds Place) → Every L (ids xs) → BindsSit In V bs → BindsSit In V rs
       → DecSits Out V' (val_dec p xs bs rs)
   value_dec_sits V' p xs bs rs h k l =
-      (every_of L Out listed (ids xs) h, apart xs bs rs h k l, binds_more inner (λ x y. tt) bs k, binds_more inner (λ x y. tt) rs l)
+      (every_more L Out listed (ids xs) h, apart xs bs rs h k l, binds_more inner (λ x y. tt) bs k, binds_more inner (λ x y. tt) rs l)
 
   pub while_sits : (V' : Id → Type 0) (p : Place) (a b : Exp Place) → ExpSits In V a → ExpSits In V b → ExpSits Out V' (while_of p a b)
   while_sits V' p a b h k =

@@ -180,4 +180,3 @@ pub record Leads (ns ms : List Node) : Type 0 where
   pub weight : weight ms ≡ weight ns
   pub roots : (i : ℕ) → IsRoot ns i → node_at ms i ≡ node_at ns i
   pub same : (w : World) (σ : Assignment w) → Meets w ns σ ↔ Meets w ms σ
-

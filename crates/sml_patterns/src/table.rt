@@ -17,7 +17,6 @@ const MOST_COLUMNS: usize = 8;
 
 #[derive(Drop)]
 pub struct Table {
-    alloc: Global,
     columns: Vec<Column>,
 }
 
@@ -39,11 +38,11 @@ impl Table {
     {
         if let Pattern::Row { labels, .. } = pattern {
             let columns = label_columns(alloc, labels)?;
-            return Ok(Table { alloc, columns });
+            return Ok(Table { columns });
         }
         let mut columns = Vec::new(alloc);
         columns.push(Column::new(alloc, None))?;
-        Ok(Table { alloc, columns })
+        Ok(Table { columns })
     }
 
     /// Notes the next rule's pattern, and its index.

@@ -15,10 +15,10 @@ use Rattle.sml_graph.specs.declared.node.Node.TheVariants.{Unknown, Link, App, O
 use Rattle.sml_layers.specs.Worlds.{finite}
 use Rattle.sml_graph.specs.Worlds.{Assignment}
 use Rattle.sml_graph.specs.Graphs.{node_at, parts, fields_of, Agrees, Meets, IsSame, IsRoot, IsRootNode}
-use Rattle.sml_graph.specs.Ranks.{HasRank}
+use Rattle.sml_graph.specs.CodeRanks.{HasRank}
 use Rattle.sml_graph.specs.Interned.{IsOver, through}
 use Rattle.sml_graph.specs.Asked.{asked_of, Permits}
-use Rattle.sml_graph.specs.Whole.{IsKept}
+use Rattle.sml_graph.specs.CodeWhole.{IsKept}
 use Rattle.sml_demands.specs.Counted.{sizes_at, IsCounting, IsCounted, IsSizeUpTo}
 use Rattle.sml_graph.proofs.Ranking.{solution, ints, solution-meets, solution-unknown}
 use Rattle.sml_demands.proofs.Opening.{size-open, size-has}

@@ -21,11 +21,11 @@ use Rattle.sml_graph.specs.Worlds.{Assignment}
 use Rattle.sml_graph.specs.Graphs.{node_at, Meets, IsSound}
 use Rattle.sml_graph.specs.Changes.{IsChange, SameOutside, AreInside}
 use Rattle.sml_graph.specs.Interned.{IsOver, through, Interns}
-use Rattle.sml_graph.specs.Ranks.{HasRank, no_order, order_at}
+use Rattle.sml_graph.specs.CodeRanks.{HasRank, no_order, order_at}
 use Rattle.sml_graph.specs.Limits.{no_limit, limit_at, MeetsAt, KeepsAt, KeepsThrough, IsClosed, IsClosedTo, IsFit, IsDoneBut, Lowers}
 use Rattle.sml_layers.specs.Layers.{index_of}
 use Rattle.sml_graph.specs.Asked.{Asked, asked_of, count, KeepsUpTo, Permits, layer_of, limit_of, IsAsAsked, Demand, equal, asks, Holds, CanMeet, IsFirstUnmet, Adds, IsMet, PermitsSame}
-use Rattle.sml_graph.specs.Whole.{IsFull, IsWhole, IsChanged, Finishes, FailsFirst, FailsAt, LowersLimit, IsKept}
+use Rattle.sml_graph.specs.CodeWhole.{IsFull, IsWhole, IsChanged, Finishes, FailsFirst, FailsAt, LowersLimit, IsKept}
 use Rattle.sml_graph.proofs.Changing.{has-map}
 use Rattle.sml_graph.proofs.Interning.{inside-at, typed-same, sound-more, get_or-left, get_or-right, beyond, beyond-below, beyond-above, meets-beyond}
 use Rattle.sml_graph.proofs.Asking.{nothing-asked, none-meets}

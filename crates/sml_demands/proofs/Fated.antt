@@ -36,7 +36,7 @@ use Rattle.sml_demands.specs.Fixed.{IsMarked}
 use Rattle.sml_demands.specs.Left.{IsFlexible, IsLeft}
 use Rattle.sml_layers.specs.Classes.{has_several, has_one}
 use Rattle.sml_demands.specs.Schemes.{IsInt, AsksEquality, IsFateOf, is_open, fate_of, fate_at}
-use Rattle.sml_graph.specs.Whole.{IsKept}
+use Rattle.sml_graph.specs.CodeWhole.{IsKept}
 use Rattle.sml_objects.specs.Views.{scheme_of}
 use Rattle.sml_graph.proofs.Merging.{same_or_not, all-append}
 use Rattle.sml_graph.proofs.Asking.{int-meets, arrow-admits-not}

@@ -26,8 +26,8 @@ use Rattle.sml_graph.specs.Limits.{limit_at, MeetsAt, for_parts, IsFitNode}
 use Rattle.sml_graph.specs.Variables.{stand_in}
 use Rattle.sml_graph.specs.Asked.{Asked, asked_of, Permits, PermitsSame}
 use Rattle.sml_demands.specs.Left.{HasOneSetOfLabels}
-use Rattle.sml_demands.specs.Settled.{is_row, has_labels}
-use Rattle.sml_graph.specs.Whole.{IsKept}
+use Rattle.sml_demands.specs.CodeSettled.{is_row, has_labels}
+use Rattle.sml_graph.specs.CodeWhole.{IsKept}
 use Rattle.sml_graph.proofs.Interning.{typed-same}
 use Rattle.sml_graph.proofs.Rowing.{components}
 use Rattle.sml_demands.proofs.Opening.{fresh_label, fresh-none, none-front, none-back, component-head, one_row}

@@ -23,11 +23,11 @@ use Rattle.sml_layers.specs.Worlds.{finite, make, typed}
 use Rattle.sml_graph.specs.Worlds.{Assignment}
 use Rattle.sml_graph.specs.Graphs.{node_at, head_over, Meets, IsSound, IsLoose, AreOwners}
 use Rattle.sml_graph.specs.Interned.{through}
-use Rattle.sml_graph.specs.Ranks.{HasRank}
+use Rattle.sml_graph.specs.CodeRanks.{HasRank}
 use Rattle.sml_demands.specs.Counted.{sizes_at}
 use Rattle.sml_graph.specs.Asked.{asked_of}
 use Rattle.sml_demands.specs.Left.{IsMadeOf, AreMadeOf, IsLeft, IsReading}
-use Rattle.sml_demands.specs.Reads.{IsTypeAt, AreSizes, IsReadingOn}
+use Rattle.sml_demands.specs.CodeReads.{IsTypeAt, AreSizes, IsReadingOn}
 use Rattle.sml_graph.proofs.Rowing.{components}
 use Rattle.sml_demands.proofs.Opening.{fresh_label, fresh-none, IsNone, none-front, none-back, head_labels, component-head, one_row}
 use Rattle.sml_demands.proofs.Counting.{positive, size-app}

@@ -27,7 +27,7 @@ use Rattle.sml_graph.specs.Limits.{limit_at, MeetsBound, MeetsEquality, MeetsCla
 use Rattle.sml_graph.specs.Variables.{MeetsVariables, IsPossible, stand_in}
 use Rattle.sml_graph.specs.Asked.{asked_of, Permits}
 use Rattle.sml_demands.specs.Overloaded.{IsOverloaded, is_several}
-use Rattle.sml_graph.specs.Whole.{IsKept}
+use Rattle.sml_graph.specs.CodeWhole.{IsKept}
 use Rattle.sml_graph.proofs.Merging.{same_or_not}
 use Rattle.sml_graph.proofs.Asking.{and-left, and-right, admits-named, row-admits, bound-initial, stands-meets}
 use Rattle.sml_graph.proofs.Ranking.{solution, solution-meets, solution-unknown, solution-keeps, loose-possible}

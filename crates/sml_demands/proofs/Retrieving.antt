@@ -27,9 +27,9 @@ use Rattle.sml_layers.specs.Worlds.{finite, make}
 use Rattle.sml_graph.specs.Worlds.{Assignment}
 use Rattle.sml_graph.specs.Graphs.{node_at, head_over, IsSame, IsSoundNode, IsCountOf, IsRootNode, IsKnown, IsLoose}
 use Rattle.sml_graph.specs.Interned.{through, sizes}
-use Rattle.sml_graph.specs.Ranks.{HasRank}
+use Rattle.sml_graph.specs.CodeRanks.{HasRank}
 use Rattle.sml_demands.specs.Left.{IsMadeOf}
-use Rattle.sml_demands.specs.Reads.{IsTypeAt, stacked, Gives, heads, unread, IsTaskIn, IsReadingOn}
+use Rattle.sml_demands.specs.CodeReads.{IsTypeAt, stacked, Gives, heads, unread, IsTaskIn, IsReadingOn}
 use Rattle.sml_graph.proofs.Interning.{typed-app, typed-free, map-push, types_size-is, sizes-append}
 use Rattle.sml_graph.proofs.Merging.{all-append}
 use Rattle.sml_graph.proofs.Ranking.{finite_of}

@@ -23,11 +23,11 @@ use Rattle.sml_graph.specs.Rows.{HasFields, IsField, kids_of}
 use Rattle.sml_graph.specs.Graphs.{node_at, fields_of, Meets, MeetsPairs, SameSolutions, HasNoSolution, ArePairsIn, IsSound, IsKnown, AreOwners, parts}
 use Rattle.sml_graph.specs.Changes.{Changes, HasChange, IsChange, SameOutside, AreInside}
 use Rattle.sml_graph.specs.Interned.{IsOver, through, Interns, InternsFields, IsPushed, IsRowWith, AsksRow, demanded}
-use Rattle.sml_graph.specs.Ranks.{HasRank, order_at, AreOrdered}
+use Rattle.sml_graph.specs.CodeRanks.{HasRank, order_at, AreOrdered}
 use Rattle.sml_graph.specs.Limits.{limit_at, IsClosed, IsFit}
 use Rattle.sml_graph.specs.Asked.{asked_of, Permits, has_fields, CanMeet, IsFirstUnmet}
-use Rattle.sml_demands.specs.Levels.{Moves}
-use Rattle.sml_graph.specs.Whole.{IsFull, IsWhole, IsChanged, Finishes, IsKept}
+use Rattle.sml_demands.specs.CodeLevels.{Moves}
+use Rattle.sml_graph.specs.CodeWhole.{IsFull, IsWhole, IsChanged, Finishes, IsKept}
 use Rattle.sml_graph.proofs.Rowing.{Key, has-front, has-back, has-both}
 use Rattle.sml_graph.proofs.Merging.{same_or_not, all-append, fields-append, field-same, field-there, inside-field, kids-more, MeetsPairs-append, MeetsPairs-front, MeetsPairs-back, ArePairsIn-append}
 use Rattle.sml_graph.proofs.Interning.{inside-at, inside-more, sound-more, typed-same, beyond, beyond-below, beyond-above, meets-beyond, meets-before, meets-push, node_at-last, node_at-before}

@@ -1,8 +1,8 @@
 pub mod Counted
 pub mod Left
-pub mod Reads
 pub mod Overloaded
-pub mod Settled
 pub mod Fixed
-pub mod Levels
 pub mod Schemes
+pub mod CodeReads
+pub mod CodeSettled
+pub mod CodeLevels

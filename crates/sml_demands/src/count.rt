@@ -2,7 +2,7 @@
 
 ghost use Rattle.std.specs.Prelude.{◌≡◌, ◌+◌, ◌^◌, ◌<◌, length, IfOk};
 ghost use Rattle.sml_graph.specs.Graphs.{IsSame, IsRoot, IsSound};
-ghost use Rattle.sml_graph.specs.Ranks.{HasRank};
+ghost use Rattle.sml_graph.specs.CodeRanks.{HasRank};
 ghost use Rattle.sml_demands.specs.Counted.{IsCounted};
 
 use sml_graph::node::{Node, parts_of};

@@ -9,10 +9,10 @@ ghost use Rattle.sml_graph.specs.Worlds.{Assignment};
 ghost use Rattle.sml_graph.specs.Graphs.{IsSound, Meets, AreOwners, fields_of};
 ghost use Rattle.sml_graph.specs.Interned.{IsOver, IsPushed, InternsFields, IsRowWith, AsksRow, demanded};
 ghost use Rattle.sml_graph.specs.Limits.{limit_at};
-ghost use Rattle.sml_graph.specs.Ranks.{HasRank, order_at};
+ghost use Rattle.sml_graph.specs.CodeRanks.{HasRank, order_at};
 ghost use Rattle.sml_graph.specs.Asked.{asked_of, equal, has_fields, asks, Adds, CanMeet, IsFirstUnmet};
-ghost use Rattle.sml_demands.specs.Levels.{Moves};
-ghost use Rattle.sml_graph.specs.Whole.{IsFull, IsWhole, IsChanged, IsKept, LowersLimit};
+ghost use Rattle.sml_demands.specs.CodeLevels.{Moves};
+ghost use Rattle.sml_graph.specs.CodeWhole.{IsFull, IsWhole, IsChanged, IsKept, LowersLimit};
 
 use sml_graph::change::Change;
 use sml_graph::demand::{Ask, Refusal};

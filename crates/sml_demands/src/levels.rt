@@ -7,7 +7,7 @@ ghost use Rattle.std.specs.List.{AllByRecursion};
 ghost use Rattle.std.specs.List.Sorted.{IsNonDecreasingBy};
 ghost use Rattle.sml_graph.specs.Graphs.{IsSound};
 ghost use Rattle.sml_graph.specs.Changes.{AreCovered, AreInside};
-ghost use Rattle.sml_demands.specs.Levels.{level_of, level_at, level_rank, AreHandedBut, AreHeld, BeginsLevel, LowersLevels, HandsLevels};
+ghost use Rattle.sml_demands.specs.CodeLevels.{level_of, level_at, level_rank, AreHandedBut, AreHeld, BeginsLevel, LowersLevels, HandsLevels};
 
 use crate::count::root_of;
 use sml_graph::change::{Change, fewest};

@@ -13,8 +13,8 @@ ghost use Rattle.sml_demands.specs.declared.reading.Task.TheVariants.{Read};
 ghost use Rattle.sml_layers.specs.Worlds.{finite};
 ghost use Rattle.sml_graph.specs.Worlds.{Assignment};
 ghost use Rattle.sml_graph.specs.Graphs.{IsSound, IsCountOf, AreOwners, Meets, head_over};
-ghost use Rattle.sml_graph.specs.Ranks.{HasRank};
-ghost use Rattle.sml_demands.specs.Reads.{IsTypeAt, stacked};
+ghost use Rattle.sml_graph.specs.CodeRanks.{HasRank};
+ghost use Rattle.sml_demands.specs.CodeReads.{IsTypeAt, stacked};
 
 use crate::count::root_of;
 use sml_graph::node::{Head, Node};

@@ -4,7 +4,7 @@ ghost use Rattle.std.specs.Prelude.{◌≡◌, ℕ, ◌<◌, length};
 ghost use Rattle.sml_graph.specs.Graphs.{IsSame, IsRoot, IsSound, node_at};
 ghost use Rattle.sml_graph.specs.Limits.{limit_at};
 ghost use Rattle.sml_demands.specs.Overloaded.{is_several};
-ghost use Rattle.sml_demands.specs.Settled.{is_row, has_labels};
+ghost use Rattle.sml_demands.specs.CodeSettled.{is_row, has_labels};
 
 use crate::count::root_of;
 use sml_graph::limits::Limit;

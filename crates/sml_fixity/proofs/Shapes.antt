@@ -9,7 +9,7 @@ use Rattle.sml_fixity.specs.declared.patterns.Run.{Run}
 use Rattle.sml_fixity.specs.declared.patterns.Run.TheVariants.{Start, Name, Whole}
 use Rattle.sml_fixity.specs.Infix.{Tree, Single, Applied, Joined, yield, EachOperator, Obeys}
 use Rattle.sml_fixity.specs.Patterns.{IsPattern}
-use Rattle.sml_fixity.specs.Runs.{next_run, runs}
+use Rattle.sml_fixity.specs.CodeRuns.{next_run, runs}
 
 -- the roles end, or go on with an operator
 Breaks : List Role → Type 0

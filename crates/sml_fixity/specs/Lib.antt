@@ -2,9 +2,9 @@ pub mod Infix
 pub mod Scopes
 pub mod Sequences
 pub mod Patterns
-pub mod Runs
 pub mod Heads
 pub mod Laws
 pub mod Shapes
 pub mod ItemNames
+pub mod CodeRuns
 pub mod CodeReader

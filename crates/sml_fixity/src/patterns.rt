@@ -3,7 +3,7 @@
 ghost use Rattle.std.specs.Prelude.{◌≡◌, ◌↔◌, IsTrue};
 ghost use Rattle.sml_fixity.specs.Infix.{Tree, yield, Obeys};
 ghost use Rattle.sml_fixity.specs.Patterns.{names_of, IsPattern};
-ghost use Rattle.sml_fixity.specs.Runs.{next_run};
+ghost use Rattle.sml_fixity.specs.CodeRuns.{next_run};
 ghost use Rattle.sml_fixity.specs.Sequences.{is_identifier};
 
 use crate::roles::Role;

@@ -14,12 +14,12 @@ use Rattle.sml_flaws.specs.declared.role.Word.{Word}
 use Rattle.sml_flaws.specs.declared.role.Word.TheVariants as W
 use Rattle.sml_flaws.specs.declared.role.Role.{Role}
 use Rattle.sml_flaws.specs.declared.role.Role.TheVariants as R
-use Rattle.sml_flaws.specs.declared.role.Opening.{Opening}
-use Rattle.sml_flaws.specs.declared.role.Opening.TheVariants as O
+use Rattle.sml_flaws.specs.declared.role.Entry.{Entry}
+use Rattle.sml_flaws.specs.declared.role.Entry.TheVariants as O
 use Rattle.sml_flaws.specs.declared.mark.Context.{Context}
 use Rattle.sml_flaws.specs.declared.mark.Mark.{Mark}
 use Rattle.sml_flaws.specs.declared.mark.Mark.TheVariants as M
-use Rattle.sml_flaws.specs.Roles.{roles_of, opening_of}
+use Rattle.sml_flaws.specs.Roles.{roles_of, entry_of}
 
 abbrev pub context : Word → ℕ → Option ℕ → Bool → ℕ → ℕ → ℕ → Context
 context word group owner binds function sequence index = record { word = word; group = group; owner = owner; binds = binds; function = function; sequence = sequence; index = index }
@@ -29,15 +29,15 @@ abbrev pub start : Context
 start = context W.Plain 0 None false 0 0 0
 
 -- the context inside a phrase with this node and this first token
-abbrev pub opened : Opening → ℕ → ℕ → Context → Context
-opened O.Nothing i n c = c
-opened O.Group i n c = context c.word n c.owner c.binds c.function c.sequence c.index
-opened O.Types i n c = context c.word n None c.binds c.function c.sequence c.index
-opened O.Value i n c = context c.word c.group (Some i) c.binds c.function c.sequence c.index
-opened O.Recursive i n c = context c.word c.group c.owner true c.function c.sequence c.index
-opened O.Sequence i n c = context c.word c.group c.owner c.binds c.function n 0
-opened O.Function i n c = context c.word c.group c.owner c.binds n n 0
-opened O.Clause i n c = context c.word c.group c.owner c.binds c.function (n + 1) 0
+abbrev pub entered : Entry → ℕ → ℕ → Context → Context
+entered O.Nothing i n c = c
+entered O.Group i n c = context c.word n c.owner c.binds c.function c.sequence c.index
+entered O.Types i n c = context c.word n None c.binds c.function c.sequence c.index
+entered O.Value i n c = context c.word c.group (Some i) c.binds c.function c.sequence c.index
+entered O.Recursive i n c = context c.word c.group c.owner true c.function c.sequence c.index
+entered O.Sequence i n c = context c.word c.group c.owner c.binds c.function n 0
+entered O.Function i n c = context c.word c.group c.owner c.binds n n 0
+entered O.Clause i n c = context c.word c.group c.owner c.binds c.function (n + 1) 0
 
 -- the next number, up to the greatest of 64 bits
 abbrev pub next : ℕ → ℕ
@@ -82,7 +82,7 @@ mark_at n c (Inner rule) = rule_mark rule n c
 
 abbrev pub parts_of : ℕ → ℕ → Context → Node → List Context
 parts_of i n c Leaf = []
-parts_of i n c (Inner rule) = contexts_from (roles_of rule) (opened (opening_of rule) i n c) 0 (length (right_side rule))
+parts_of i n c (Inner rule) = contexts_from (roles_of rule) (entered (entry_of rule) i n c) 0 (length (right_side rule))
 
 abbrev pub token_behind : ℕ → Node → ℕ
 token_behind n Leaf = n + 1

@@ -22,8 +22,8 @@ use Rattle.sml_flaws.specs.declared.role.Space.TheVariants as P
 use Rattle.sml_flaws.specs.declared.role.Word.TheVariants as W
 use Rattle.sml_flaws.specs.declared.role.Role.{Role}
 use Rattle.sml_flaws.specs.declared.role.Role.TheVariants as R
-use Rattle.sml_flaws.specs.declared.role.Opening.{Opening}
-use Rattle.sml_flaws.specs.declared.role.Opening.TheVariants as O
+use Rattle.sml_flaws.specs.declared.role.Entry.{Entry}
+use Rattle.sml_flaws.specs.declared.role.Entry.TheVariants as O
 
 abbrev pub structure_roles : StructureRule → List Role
 structure_roles StrBindAlphanumeric = R.Word (W.Bound P.Structures) ∷ []
@@ -107,67 +107,67 @@ roles_of (Patterns rule) = pattern_roles rule
 roles_of (Types rule) = type_roles rule
 roles_of _ = []
 
-abbrev pub unit_opening : UnitRule → Opening
-unit_opening StartExp = O.Value
-unit_opening TopSignature = O.Group
-unit_opening TopFunctor = O.Group
-unit_opening StrStructure = O.Group
-unit_opening _ = O.Nothing
+abbrev pub unit_entry : UnitRule → Entry
+unit_entry StartExp = O.Value
+unit_entry TopSignature = O.Group
+unit_entry TopFunctor = O.Group
+unit_entry StrStructure = O.Group
+unit_entry _ = O.Nothing
 
-abbrev pub specification_opening : SpecificationRule → Opening
-specification_opening SpecVal = O.Group
-specification_opening SpecType = O.Group
-specification_opening SpecEqtype = O.Group
-specification_opening SpecDatatype = O.Group
-specification_opening SpecException = O.Group
-specification_opening SpecStructure = O.Group
-specification_opening _ = O.Nothing
+abbrev pub specification_entry : SpecificationRule → Entry
+specification_entry SpecVal = O.Group
+specification_entry SpecType = O.Group
+specification_entry SpecEqtype = O.Group
+specification_entry SpecDatatype = O.Group
+specification_entry SpecException = O.Group
+specification_entry SpecStructure = O.Group
+specification_entry _ = O.Nothing
 
-abbrev pub declaration_opening : DeclarationRule → Opening
-declaration_opening CoreDecVal = O.Value
-declaration_opening CoreDecFun = O.Value
-declaration_opening CoreDecType = O.Types
-declaration_opening CoreDecDatatype = O.Types
-declaration_opening CoreDecException = O.Group
-declaration_opening DatBindMoreWithtype = O.Group
-declaration_opening ValDecTypeVariable = O.Group
-declaration_opening ValRoundTypeVariable = O.Group
-declaration_opening FunDecTypeVariable = O.Group
-declaration_opening FunRoundTypeVariable = O.Group
-declaration_opening ValDecRec = O.Recursive
-declaration_opening ValBindRec = O.Recursive
-declaration_opening ValDecOpenRound = O.Sequence
-declaration_opening FunDecOpenRound = O.Function
-declaration_opening FunDecBareAtPat = O.Function
-declaration_opening ClausesAtPat = O.Function
-declaration_opening ClauseMoreBar = O.Clause
-declaration_opening _ = O.Nothing
+abbrev pub declaration_entry : DeclarationRule → Entry
+declaration_entry CoreDecVal = O.Value
+declaration_entry CoreDecFun = O.Value
+declaration_entry CoreDecType = O.Types
+declaration_entry CoreDecDatatype = O.Types
+declaration_entry CoreDecException = O.Group
+declaration_entry DatBindMoreWithtype = O.Group
+declaration_entry ValDecTypeVariable = O.Group
+declaration_entry ValRoundTypeVariable = O.Group
+declaration_entry FunDecTypeVariable = O.Group
+declaration_entry FunRoundTypeVariable = O.Group
+declaration_entry ValDecRec = O.Recursive
+declaration_entry ValBindRec = O.Recursive
+declaration_entry ValDecOpenRound = O.Sequence
+declaration_entry FunDecOpenRound = O.Function
+declaration_entry FunDecBareAtPat = O.Function
+declaration_entry ClausesAtPat = O.Function
+declaration_entry ClauseMoreBar = O.Clause
+declaration_entry _ = O.Nothing
 
-abbrev pub expression_opening : ExpressionRule → Opening
-expression_opening OpenWhile = O.Value
-expression_opening AtOpenCurly = O.Group
-expression_opening _ = O.Nothing
+abbrev pub expression_entry : ExpressionRule → Entry
+expression_entry OpenWhile = O.Value
+expression_entry AtOpenCurly = O.Group
+expression_entry _ = O.Nothing
 
-abbrev pub pattern_opening : PatternRule → Opening
-pattern_opening PatOpenRound = O.Sequence
-pattern_opening BarePatVid = O.Sequence
-pattern_opening BarePatOp = O.Sequence
-pattern_opening BarePatOtherAtPat = O.Sequence
-pattern_opening OtherAtPatOpenCurly = O.Group
-pattern_opening _ = O.Nothing
+abbrev pub pattern_entry : PatternRule → Entry
+pattern_entry PatOpenRound = O.Sequence
+pattern_entry BarePatVid = O.Sequence
+pattern_entry BarePatOp = O.Sequence
+pattern_entry BarePatOtherAtPat = O.Sequence
+pattern_entry OtherAtPatOpenCurly = O.Group
+pattern_entry _ = O.Nothing
 
-abbrev pub type_opening : TypeRule → Opening
-type_opening SomeTvsTypeVariable = O.Group
-type_opening SomeTvsOpenRound = O.Group
-type_opening ATyOpenCurly = O.Group
-type_opening _ = O.Nothing
+abbrev pub type_entry : TypeRule → Entry
+type_entry SomeTvsTypeVariable = O.Group
+type_entry SomeTvsOpenRound = O.Group
+type_entry ATyOpenCurly = O.Group
+type_entry _ = O.Nothing
 
 -- what begins with a phrase of a rule
-abbrev pub opening_of : Rule → Opening
-opening_of (Units rule) = unit_opening rule
-opening_of (Specifications rule) = specification_opening rule
-opening_of (Declarations rule) = declaration_opening rule
-opening_of (Expressions rule) = expression_opening rule
-opening_of (Patterns rule) = pattern_opening rule
-opening_of (Types rule) = type_opening rule
-opening_of _ = O.Nothing
+abbrev pub entry_of : Rule → Entry
+entry_of (Units rule) = unit_entry rule
+entry_of (Specifications rule) = specification_entry rule
+entry_of (Declarations rule) = declaration_entry rule
+entry_of (Expressions rule) = expression_entry rule
+entry_of (Patterns rule) = pattern_entry rule
+entry_of (Types rule) = type_entry rule
+entry_of _ = O.Nothing

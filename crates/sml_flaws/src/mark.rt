@@ -6,7 +6,7 @@ ghost use Rattle.sml_read.specs.Grammar.{right_side};
 ghost use Rattle.sml_flaws.specs.declared.role.Role.TheVariants.{Same};
 ghost use Rattle.sml_flaws.specs.Marks as spec;
 
-use crate::role::{Opening, Role, Space, Word, opening_of, roles_of};
+use crate::role::{Entry, Role, Space, Word, entry_of, roles_of};
 use sml_lex::fault::Memory;
 use sml_read::grammar::{DeclarationRule, NameRule, Node, PatternRule, Rule};
 use sml_read::table::backwards;
@@ -93,30 +93,30 @@ const START: Context = Context {
 };
 
 /// The context inside a phrase with this node and this first token.
-fn opened(opening: Opening, node: usize, token: usize, context: Context) -> Context
+fn entered(entry: Entry, node: usize, token: usize, context: Context) -> Context
     requires { token + 1 < 2 ^ 64 }
-    ensures { result ≡ spec.opened opening node token context }
+    ensures { result ≡ spec.entered entry node token context }
 {
     let mut inside = context;
-    match opening {
-        Opening::Nothing => {}
-        Opening::Group => inside.group = token,
-        Opening::Types => {
+    match entry {
+        Entry::Nothing => {}
+        Entry::Group => inside.group = token,
+        Entry::Types => {
             inside.group = token;
             inside.owner = None;
         }
-        Opening::Value => inside.owner = Some(node),
-        Opening::Recursive => inside.binds = true,
-        Opening::Sequence => {
+        Entry::Value => inside.owner = Some(node),
+        Entry::Recursive => inside.binds = true,
+        Entry::Sequence => {
             inside.sequence = token;
             inside.index = 0;
         }
-        Opening::Function => {
+        Entry::Function => {
             inside.function = token;
             inside.sequence = token;
             inside.index = 0;
         }
-        Opening::Clause => {
+        Entry::Clause => {
             inside.sequence = token + 1;
             inside.index = 0;
         }
@@ -251,7 +251,7 @@ fn enter(
     match node {
         Node::Leaf => Ok(word_mark(token, context)),
         Node::Inner(rule) => {
-            let inside = opened(opening_of(rule), number, token, context);
+            let inside = entered(entry_of(rule), number, token, context);
             push_parts(contexts, roles_of(rule), inside, backwards(rule).len())?;
             Ok(rule_mark(rule, token, context))
         }

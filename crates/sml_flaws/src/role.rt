@@ -53,7 +53,7 @@ pub enum Role {
 
 /// What begins with a phrase.
 #[derive(Clone, Copy, PartialEq, Eq)]
-pub enum Opening {
+pub enum Entry {
     Nothing,
     /// Names that must differ: those of a row, of a list of type variables, or of bindings joined by `and`.
     Group,
@@ -211,18 +211,18 @@ pub fn roles_of(rule: Rule) -> &'static [Role]
     }
 }
 
-fn unit_opening(rule: UnitRule) -> Opening
-    ensures { result ≡ spec.unit_opening rule }
+fn unit_entry(rule: UnitRule) -> Entry
+    ensures { result ≡ spec.unit_entry rule }
 {
     match rule {
-        UnitRule::StartExp => Opening::Value,
-        UnitRule::TopSignature | UnitRule::TopFunctor | UnitRule::StrStructure => Opening::Group,
-        _ => Opening::Nothing,
+        UnitRule::StartExp => Entry::Value,
+        UnitRule::TopSignature | UnitRule::TopFunctor | UnitRule::StrStructure => Entry::Group,
+        _ => Entry::Nothing,
     }
 }
 
-fn specification_opening(rule: SpecificationRule) -> Opening
-    ensures { result ≡ spec.specification_opening rule }
+fn specification_entry(rule: SpecificationRule) -> Entry
+    ensures { result ≡ spec.specification_entry rule }
 {
     match rule {
         SpecificationRule::SpecVal
@@ -230,77 +230,77 @@ fn specification_opening(rule: SpecificationRule) -> Opening
         | SpecificationRule::SpecEqtype
         | SpecificationRule::SpecDatatype
         | SpecificationRule::SpecException
-        | SpecificationRule::SpecStructure => Opening::Group,
-        _ => Opening::Nothing,
+        | SpecificationRule::SpecStructure => Entry::Group,
+        _ => Entry::Nothing,
     }
 }
 
-fn declaration_opening(rule: DeclarationRule) -> Opening
-    ensures { result ≡ spec.declaration_opening rule }
+fn declaration_entry(rule: DeclarationRule) -> Entry
+    ensures { result ≡ spec.declaration_entry rule }
 {
     match rule {
-        DeclarationRule::CoreDecVal | DeclarationRule::CoreDecFun => Opening::Value,
-        DeclarationRule::CoreDecType | DeclarationRule::CoreDecDatatype => Opening::Types,
+        DeclarationRule::CoreDecVal | DeclarationRule::CoreDecFun => Entry::Value,
+        DeclarationRule::CoreDecType | DeclarationRule::CoreDecDatatype => Entry::Types,
         DeclarationRule::CoreDecException
         | DeclarationRule::DatBindMoreWithtype
         | DeclarationRule::ValDecTypeVariable
         | DeclarationRule::ValRoundTypeVariable
         | DeclarationRule::FunDecTypeVariable
-        | DeclarationRule::FunRoundTypeVariable => Opening::Group,
-        DeclarationRule::ValDecRec | DeclarationRule::ValBindRec => Opening::Recursive,
-        DeclarationRule::ValDecOpenRound => Opening::Sequence,
+        | DeclarationRule::FunRoundTypeVariable => Entry::Group,
+        DeclarationRule::ValDecRec | DeclarationRule::ValBindRec => Entry::Recursive,
+        DeclarationRule::ValDecOpenRound => Entry::Sequence,
         DeclarationRule::FunDecOpenRound
         | DeclarationRule::FunDecBareAtPat
-        | DeclarationRule::ClausesAtPat => Opening::Function,
-        DeclarationRule::ClauseMoreBar => Opening::Clause,
-        _ => Opening::Nothing,
+        | DeclarationRule::ClausesAtPat => Entry::Function,
+        DeclarationRule::ClauseMoreBar => Entry::Clause,
+        _ => Entry::Nothing,
     }
 }
 
-fn expression_opening(rule: ExpressionRule) -> Opening
-    ensures { result ≡ spec.expression_opening rule }
+fn expression_entry(rule: ExpressionRule) -> Entry
+    ensures { result ≡ spec.expression_entry rule }
 {
     match rule {
-        ExpressionRule::OpenWhile => Opening::Value,
-        ExpressionRule::AtOpenCurly => Opening::Group,
-        _ => Opening::Nothing,
+        ExpressionRule::OpenWhile => Entry::Value,
+        ExpressionRule::AtOpenCurly => Entry::Group,
+        _ => Entry::Nothing,
     }
 }
 
-fn pattern_opening(rule: PatternRule) -> Opening
-    ensures { result ≡ spec.pattern_opening rule }
+fn pattern_entry(rule: PatternRule) -> Entry
+    ensures { result ≡ spec.pattern_entry rule }
 {
     match rule {
         PatternRule::PatOpenRound
         | PatternRule::BarePatVid
         | PatternRule::BarePatOp
-        | PatternRule::BarePatOtherAtPat => Opening::Sequence,
-        PatternRule::OtherAtPatOpenCurly => Opening::Group,
-        _ => Opening::Nothing,
+        | PatternRule::BarePatOtherAtPat => Entry::Sequence,
+        PatternRule::OtherAtPatOpenCurly => Entry::Group,
+        _ => Entry::Nothing,
     }
 }
 
-fn type_opening(rule: TypeRule) -> Opening
-    ensures { result ≡ spec.type_opening rule }
+fn type_entry(rule: TypeRule) -> Entry
+    ensures { result ≡ spec.type_entry rule }
 {
     match rule {
         TypeRule::SomeTvsTypeVariable | TypeRule::SomeTvsOpenRound | TypeRule::ATyOpenCurly =>
-            Opening::Group,
-        _ => Opening::Nothing,
+            Entry::Group,
+        _ => Entry::Nothing,
     }
 }
 
 /// What begins with a phrase of this rule.
-pub fn opening_of(rule: Rule) -> Opening
-    ensures { result ≡ spec.opening_of rule }
+pub fn entry_of(rule: Rule) -> Entry
+    ensures { result ≡ spec.entry_of rule }
 {
     match rule {
-        Rule::Units(rule) => unit_opening(rule),
-        Rule::Specifications(rule) => specification_opening(rule),
-        Rule::Declarations(rule) => declaration_opening(rule),
-        Rule::Expressions(rule) => expression_opening(rule),
-        Rule::Patterns(rule) => pattern_opening(rule),
-        Rule::Types(rule) => type_opening(rule),
-        Rule::Names(_) | Rule::Structures(_) | Rule::Signatures(_) => Opening::Nothing,
+        Rule::Units(rule) => unit_entry(rule),
+        Rule::Specifications(rule) => specification_entry(rule),
+        Rule::Declarations(rule) => declaration_entry(rule),
+        Rule::Expressions(rule) => expression_entry(rule),
+        Rule::Patterns(rule) => pattern_entry(rule),
+        Rule::Types(rule) => type_entry(rule),
+        Rule::Names(_) | Rule::Structures(_) | Rule::Signatures(_) => Entry::Nothing,
     }
 }

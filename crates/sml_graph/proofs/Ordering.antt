@@ -8,7 +8,7 @@ use Rattle.sml_graph.specs.declared.change.Change.{Change}
 use Rattle.sml_graph.specs.declared.node.Node.{Node}
 use Rattle.sml_graph.specs.Graphs.{node_at, parts}
 use Rattle.sml_graph.specs.Changes.{IsChange, SameOutside}
-use Rattle.sml_graph.specs.Ranks.{HasRank, no_order, order_at, AreBelow, AreOrdered, IsOrderedTo, AreOrderedBut, AreOrderedBeside, FindsUnordered, IsFoundIn, AreFrom, IsDone, IsSearch, Gives}
+use Rattle.sml_graph.specs.CodeRanks.{HasRank, no_order, order_at, AreBelow, AreOrdered, IsOrderedTo, AreOrderedBut, AreOrderedBeside, FindsUnordered, IsFoundIn, AreFrom, IsDone, IsSearch, Gives}
 use Rattle.sml_graph.proofs.Merging.{same_or_not, all-append}
 use Rattle.sml_graph.proofs.Changing.{has-map, has-all, all-changes, all-both, first-kept}
 use Rattle.sml_graph.proofs.Limiting.{all-among}

@@ -18,7 +18,7 @@ use Rattle.sml_graph.specs.declared.node.Node.TheVariants.{Unknown, Link, App, O
 use Rattle.sml_layers.specs.Worlds.{finite, make}
 use Rattle.sml_graph.specs.Worlds.{Assignment}
 use Rattle.sml_graph.specs.Graphs.{node_at, parts, head_over, fields_of, Agrees, Meets, IsSound, IsSoundNode, IsKnown}
-use Rattle.sml_graph.specs.Ranks.{HasFinite, IsRanked, HasRank}
+use Rattle.sml_graph.specs.CodeRanks.{HasFinite, IsRanked, HasRank}
 use Rattle.sml_graph.specs.Limits.{limit_at, MeetsAt, KeepsAt, IsUnder, IsFitNode, handed, IsClosed, IsFit}
 use Rattle.sml_layers.specs.Layers.{index_of}
 use Rattle.sml_layers.specs.declared.class.Names.{Names}

@@ -8,7 +8,7 @@ use Rattle.sml_graph.specs.declared.finite.Visit.{Visit}
 use Rattle.sml_graph.specs.declared.node.Node.{Node}
 use Rattle.sml_graph.specs.declared.node.Node.TheVariants.{Unknown}
 use Rattle.sml_graph.specs.Graphs.{node_at, parts, IsSound}
-use Rattle.sml_graph.specs.Ranks.{IsRanked, HasRank, no_order, order_at, IsAbove, IsDone, IsVisit, IsFalling, IsVisited, IsApart, IsSearch, IsGiven, Gives, fresh_weight, visit_weight}
+use Rattle.sml_graph.specs.CodeRanks.{IsRanked, HasRank, no_order, order_at, IsAbove, IsDone, IsVisit, IsFalling, IsVisited, IsApart, IsSearch, IsGiven, Gives, fresh_weight, visit_weight}
 use Rattle.sml_graph.proofs.Merging.{same_or_not, all-append}
 use Rattle.sml_graph.proofs.Interning.{parts-inside, inside-at, all-at}
 

@@ -16,10 +16,10 @@ use Rattle.sml_layers.specs.Worlds.{World, finite}
 use Rattle.sml_graph.specs.Worlds.{Assignment}
 use Rattle.sml_graph.specs.Graphs.{node_at, parts, Meets, MeetsPairs, SameSolutions, HasNoSolution}
 use Rattle.sml_graph.specs.Interned.{Interns}
-use Rattle.sml_graph.specs.Ranks.{HasRank, no_order, order_at, AreFrom, AreOrdered, IsOrdered, IsSearch}
+use Rattle.sml_graph.specs.CodeRanks.{HasRank, no_order, order_at, AreFrom, AreOrdered, IsOrdered, IsSearch}
 use Rattle.sml_graph.specs.Limits.{no_limit, limit_at, KeepsAt, IsClosed, IsFit, IsBefore, SameLimits, NoneKeeps}
 use Rattle.sml_layers.specs.Layers.{index_of}
-use Rattle.sml_graph.specs.Whole.{FailsFirst, FailsAt}
+use Rattle.sml_graph.specs.CodeWhole.{FailsFirst, FailsAt}
 use Rattle.sml_graph.proofs.Asking.{nothing-asked}
 use Rattle.sml_graph.proofs.Searching.{all-parts}
 use Rattle.sml_graph.proofs.Limiting.{none-closed, none-fits, closed-as}

@@ -3,11 +3,11 @@ pub mod Rows
 pub mod Graphs
 pub mod Changes
 pub mod Interned
-pub mod Ranks
 pub mod Bounds
 pub mod Variables
 pub mod Limits
 pub mod Refusals
 pub mod Asked
-pub mod Whole
 pub mod Said
+pub mod CodeRanks
+pub mod CodeWhole

@@ -8,7 +8,7 @@ ghost use Rattle.sml_objects.specs.Appearance.{Stands};
 ghost use Rattle.sml_graph.specs.declared.node.Node.{Node};
 ghost use Rattle.sml_graph.specs.Graphs.{IsSound, parts};
 ghost use Rattle.sml_graph.specs.Changes.{SameOutside, AreInside};
-ghost use Rattle.sml_graph.specs.Ranks.{HasRank, AreFrom, AreOrdered, AreOrderedBut, Gives, IsDone, IsSearch, order_at};
+ghost use Rattle.sml_graph.specs.CodeRanks.{HasRank, AreFrom, AreOrdered, AreOrderedBut, Gives, IsDone, IsSearch, order_at};
 
 use crate::change::Change;
 use crate::node::{Node, parts_from, parts_of};

@@ -12,9 +12,9 @@ ghost use Rattle.sml_graph.specs.Worlds.{Assignment};
 ghost use Rattle.sml_graph.specs.Graphs.{IsSound, Meets};
 ghost use Rattle.sml_graph.specs.Changes.{SameOutside, AreInside};
 ghost use Rattle.sml_graph.specs.Interned.{IsOver, Interns};
-ghost use Rattle.sml_graph.specs.Ranks.{order_at};
+ghost use Rattle.sml_graph.specs.CodeRanks.{order_at};
 ghost use Rattle.sml_graph.specs.Limits.{limit_at, IsClosed, IsFit, IsBefore, IsDoneBut, SameLimits, NoneKeeps};
-ghost use Rattle.sml_graph.specs.Whole.{IsFull, HasBottom, IsWhole, IsChanged, Finishes, FailsAt};
+ghost use Rattle.sml_graph.specs.CodeWhole.{IsFull, HasBottom, IsWhole, IsChanged, Finishes, FailsAt};
 
 use crate::change::Change;
 use crate::demand::Refusal;

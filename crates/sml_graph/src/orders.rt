@@ -4,7 +4,7 @@ ghost use Rattle.std.specs.Prelude.{◌≡◌, ◌<◌, ◌≤◌, length, IfOk,
 ghost use Rattle.std.specs.List.{AllByRecursion};
 ghost use Rattle.sml_graph.specs.Graphs.{IsSound, parts};
 ghost use Rattle.sml_graph.specs.Changes.{AreInside};
-ghost use Rattle.sml_graph.specs.Ranks.{order_at, IsAbove, IsFoundIn, FindsUnordered};
+ghost use Rattle.sml_graph.specs.CodeRanks.{order_at, IsAbove, IsFoundIn, FindsUnordered};
 
 use crate::change::Change;
 use crate::node::{Node, parts_from, parts_of};

@@ -9,7 +9,7 @@ use Rattle.sml_lex.specs.declared.longest.Lexeme.{Lexeme}
 use Rattle.sml_lex.specs.declared.machine.State.{State}
 use Rattle.sml_lex.specs.declared.machine.State.TheVariants.{Dead}
 use Rattle.sml_lex.specs.Words.{is_text, word_kind}
-use Rattle.sml_lex.specs.Machine.{Progress, fresh, step_state, part_behind, step, run, kind_at, kind_read, token_kind, IsLongestWithin}
+use Rattle.sml_lex.specs.CodeMachine.{Progress, fresh, step_state, part_behind, step, run, kind_at, kind_read, token_kind, IsLongestWithin}
 
 pub run-append : (r : Progress) (a b : List ℕ) → run r (a ++ b) ≡ run (run r a) b
 run-append r [] b = refl

@@ -6,7 +6,7 @@ use Rattle.std.proofs.lemmas.List.{length-append, length-drop}
 use Rattle.sml_lex.specs.Bytes.{starts_with_both}
 use Rattle.sml_lex.specs.Comments.{opens_comment, closes_comment, Body, body_text, closing, IsBody, comment_text, IsComment}
 use Rattle.sml_lex.specs.Comments.Body.{Empty, Byte, Nested}
-use Rattle.sml_lex.specs.CommentReading.{after_comments}
+use Rattle.sml_lex.specs.CodeComments.{after_comments}
 use Rattle.sml_lex.proofs.Comments.{opened, closed_last, closed_one, passed_one}
 use Rattle.sml_lex.proofs.MachineRuns.{false_is_true, first_true, second_true}
 

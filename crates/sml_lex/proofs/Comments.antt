@@ -3,7 +3,7 @@ use Rattle.std.proofs.Common.{◌≡◌, ℕ, ◌+◌, ◌-◌, ◌<◌, ◌≤�
 use Rattle.std.specs.Prelude.{◌==◌, ◌&&◌, if◌then◌else◌}
 use Rattle.std.proofs.lemmas.Bool.{cond-true, cond-false, eq-eqb, eqb-true}
 use Rattle.sml_lex.specs.Bytes.{starts_with_both}
-use Rattle.sml_lex.specs.CommentReading.{after_comments}
+use Rattle.sml_lex.specs.CodeComments.{after_comments}
 use Rattle.sml_lex.specs.Comments.{opens_comment, closes_comment}
 
 -- two bytes at the front are there

@@ -6,7 +6,7 @@ use Rattle.sml_lex.specs.declared.strings.Extent.{Extent}
 use Rattle.sml_lex.specs.declared.token.Stop.{Stop}
 use Rattle.sml_lex.specs.Bytes.{starts_with, starts_with_both}
 use Rattle.sml_lex.specs.Strings.{Item, AreItems, items_text, string_value, quoted, break_of, opens_character, IsString, IsStringValue, IsCharacter, IsCharacterValue, IsBroken}
-use Rattle.sml_lex.specs.StringReading.{first_of, item_at, element, IsQuoted}
+use Rattle.sml_lex.specs.CodeStrings.{first_of, item_at, element, IsQuoted}
 use Rattle.sml_lex.proofs.MachineRuns.{false_is_true}
 use Rattle.sml_lex.proofs.FirstTokens.{hash_first, quoted_unique}
 use Rattle.sml_lex.proofs.FirstPieces.{closed_or_broken}

@@ -13,9 +13,9 @@ use Rattle.sml_lex.specs.declared.machine.State.TheVariants.{Dead}
 use Rattle.sml_lex.specs.Bytes.{is_white, starts_with, starts_white}
 use Rattle.sml_lex.specs.Numbers.{fits}
 use Rattle.sml_lex.specs.Strings.{Item, AreItems, items_text, string_value, quoted, break_of, IsBroken, opens_string, opens_character, IsCharacter}
-use Rattle.sml_lex.specs.StringReading.{item_at}
+use Rattle.sml_lex.specs.CodeStrings.{item_at}
 use Rattle.sml_lex.specs.Tokens.{IsToken}
-use Rattle.sml_lex.specs.Machine.{first_state, part_behind, token_kind}
+use Rattle.sml_lex.specs.CodeMachine.{first_state, part_behind, token_kind}
 use Rattle.sml_lex.specs.Comments.{opens_comment, IsComment}
 use Rattle.sml_lex.specs.Pieces.{is_cut, fault_here, IsLexeme, IsPiece, IsFault}
 use Rattle.sml_lex.proofs.ByteClasses.{white_no_letter, white_no_digit, white_no_sign, white_no_mark}

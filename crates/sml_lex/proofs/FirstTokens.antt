@@ -11,9 +11,9 @@ use Rattle.sml_lex.specs.declared.strings.Extent.{Extent}
 use Rattle.sml_lex.specs.declared.machine.State.TheVariants.{Fresh}
 use Rattle.sml_lex.specs.Bytes.{starts_with, starts_with_both}
 use Rattle.sml_lex.specs.Strings.{Item, item_text, AreItems, items_text, quoted, opens_string, opens_character, IsString, IsCharacter, HasOtherLength}
-use Rattle.sml_lex.specs.StringReading.{item_at, IsQuoted}
+use Rattle.sml_lex.specs.CodeStrings.{item_at, IsQuoted}
 use Rattle.sml_lex.specs.Tokens.{IsToken}
-use Rattle.sml_lex.specs.Machine.{token_kind, IsLongestWithin}
+use Rattle.sml_lex.specs.CodeMachine.{token_kind, IsLongestWithin}
 use Rattle.sml_lex.specs.Comments.{opens_comment}
 use Rattle.sml_lex.specs.Pieces.{is_cut, IsLexeme}
 use Rattle.sml_lex.proofs.MachineRuns.{and_false, Reads, next, dead, none_is_some, false_is_true, first_true, second_true}

@@ -7,7 +7,7 @@ use Rattle.sml_lex.specs.declared.machine.State.{State}
 use Rattle.sml_lex.specs.declared.machine.State.TheVariants.{Dead}
 use Rattle.sml_lex.specs.Words.{is_text, word_kind, is_reserved}
 use Rattle.sml_lex.specs.Bytes.{all_are}
-use Rattle.sml_lex.specs.Machine.{Progress, step_state, part_behind, run, kind_at, kind_read}
+use Rattle.sml_lex.specs.CodeMachine.{Progress, step_state, part_behind, run, kind_at, kind_read}
 
 abbrev pub at : State → List ℕ → Progress
 at s part = record {

@@ -10,7 +10,7 @@ use Rattle.sml_lex.specs.Bytes.{is_digit}
 use Rattle.sml_lex.specs.Words.{is_reserved}
 use Rattle.sml_lex.specs.Bytes.{all_are}
 use Rattle.sml_lex.specs.Tokens.{is_digits, IsDecimal, IsFraction, IsExponent, IsToken}
-use Rattle.sml_lex.specs.Machine.{step_state, part_behind, real_state, fraction_state, digit_or}
+use Rattle.sml_lex.specs.CodeMachine.{step_state, part_behind, real_state, fraction_state, digit_or}
 use Rattle.sml_lex.proofs.MachineRuns.{Reads, next, done, none_is_some, false_is_true, some_same, dead, on_if, both_true, apart, Loops, loops, only}
 
 pub of_kind : (text : List ℕ) (k kind : Kind) → Some k ≡ Some kind → IsToken k text → IsToken kind text

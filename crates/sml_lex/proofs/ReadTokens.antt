@@ -11,7 +11,7 @@ use Rattle.sml_lex.specs.Bytes.{is_digit, is_hex_digit, is_letter, is_name_byte,
 use Rattle.sml_lex.specs.Words.{is_text, kind_among, reserved_words, word_kind, is_reserved}
 use Rattle.sml_lex.specs.Bytes.{all_are}
 use Rattle.sml_lex.specs.Tokens.{is_digits, is_hex_digits, is_alphanumeric, is_symbolic, is_star, qualifiers, AreQualifiers, IsLong, IsToken}
-use Rattle.sml_lex.specs.Machine.{first_dot, first_mark, first_sign, first_tilde, first_prime, first_digit, first_zero, first_state, part_behind, real_state, digit_or, name_byte_or, sign_or_dead, dot_or_dead, token_kind}
+use Rattle.sml_lex.specs.CodeMachine.{first_dot, first_mark, first_sign, first_tilde, first_prime, first_digit, first_zero, first_state, part_behind, real_state, digit_or, name_byte_or, sign_or_dead, dot_or_dead, token_kind}
 use Rattle.sml_lex.proofs.MachineRuns.{Reads, next, done, none_is_some, false_is_true, some_same, dead, on_if, both_true, first_true, second_true, apart, part_on_byte, only}
 use Rattle.sml_lex.proofs.ReadNumbers.{of_kind, RealTail, real_tail, real_is, NumberRead, number_read, with_digit}
 

@@ -11,7 +11,7 @@ use Rattle.sml_lex.specs.Strings.{Item, item_text, is_plain, is_escape_letter, I
 use Rattle.sml_lex.specs.Strings.Item.{Plain, Letter, Control, Decimal, Hexadecimal, Gap}
 use Rattle.sml_lex.proofs.MachineRuns.{and_false, false_is_true, both_true, first_true, second_true, apart}
 use Rattle.sml_lex.proofs.ByteClasses.{digit_no_escape, white_no_escape, white_no_digit}
-use Rattle.sml_lex.specs.StringReading.{white_at, gap_at, control_at, decimal_at, hexadecimal_at, escape_at, item_at, element}
+use Rattle.sml_lex.specs.CodeStrings.{white_at, gap_at, control_at, decimal_at, hexadecimal_at, escape_at, item_at, element}
 
 -- a gap, of which some bytes of white space are known
 pub with_white : ℕ → Option (List ℕ) → Option Element

@@ -10,7 +10,7 @@ use Rattle.sml_lex.specs.declared.items.Element.{Element}
 use Rattle.sml_lex.specs.Bytes.{starts_with}
 use Rattle.sml_lex.specs.Strings.{Item, item_text, item_value, IsItem, AreItems, items_text, string_value, break_of, IsBroken}
 use Rattle.sml_lex.specs.Strings.Item.{Plain, Letter, Control, Decimal, Hexadecimal, Gap}
-use Rattle.sml_lex.specs.StringReading.{first_of, count_of, earlier_of, item_at, element_of, element, IsQuoted}
+use Rattle.sml_lex.specs.CodeStrings.{first_of, count_of, earlier_of, item_at, element_of, element, IsQuoted}
 use Rattle.sml_lex.proofs.MachineRuns.{false_is_true}
 use Rattle.sml_lex.proofs.StringItems.{none_is_item, item_sound, item_complete}
 

@@ -11,7 +11,7 @@ use Rattle.sml_lex.specs.Bytes.{is_digit, is_hex_digit, is_letter, is_name_byte,
 use Rattle.sml_lex.specs.Words.{is_text, kind_among, reserved_words, word_kind, is_reserved}
 use Rattle.sml_lex.specs.Bytes.{all_are, is_run}
 use Rattle.sml_lex.specs.Tokens.{is_digits, is_hex_digits, is_alphanumeric, is_symbolic, is_star, qualifiers, AreQualifiers, IsLong, IsDecimal, IsFraction, IsExponent, IsReal, IsToken}
-use Rattle.sml_lex.specs.Machine.{Progress, fresh, first_state, step_state, part_behind, name_byte_or, dot_or_dead, step, run, kind_at, kind_read, token_kind}
+use Rattle.sml_lex.specs.CodeMachine.{Progress, fresh, first_state, step_state, part_behind, name_byte_or, dot_or_dead, step, run, kind_at, kind_read, token_kind}
 use Rattle.sml_lex.proofs.Beginnings.{run-append}
 use Rattle.sml_lex.proofs.ByteClasses.{digit_no_letter, sign_no_letter, sign_no_digit}
 use Rattle.sml_lex.proofs.MachineRuns.{at, none_is_some, false_is_true, first_true, second_true, apart, part_on_byte}

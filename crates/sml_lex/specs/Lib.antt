@@ -1,11 +1,11 @@
 pub mod Bytes
-pub mod CommentReading
 pub mod Comments
 pub mod Faults
-pub mod Machine
 pub mod Numbers
 pub mod Pieces
-pub mod StringReading
 pub mod Strings
 pub mod Tokens
 pub mod Words
+pub mod CodeComments
+pub mod CodeMachine
+pub mod CodeStrings

@@ -4,7 +4,7 @@ ghost use Rattle.std.specs.Option.{MatchOption};
 ghost use Rattle.sml_lex.specs.Bytes.{is_digit, is_hex_digit, all_are};
 ghost use Rattle.sml_lex.specs.Numbers.{number};
 ghost use Rattle.sml_lex.specs.Strings.{is_plain, is_escape_letter, escape_value};
-ghost use Rattle.sml_lex.specs.StringReading.{gap_at, control_at, decimal_at, hexadecimal_at, escape_at, item_at, element};
+ghost use Rattle.sml_lex.specs.CodeStrings.{gap_at, control_at, decimal_at, hexadecimal_at, escape_at, item_at, element};
 
 use crate::bytes::{behind, is_digit, is_hex_digit, is_white, starts_with};
 use crate::numbers::number_of;

@@ -1,6 +1,6 @@
 //! The longest token at the front of a text.
 ghost use Rattle.std.specs.Prelude.{◌≡◌, length, ◌==◌, if◌then◌else◌};
-ghost use Rattle.sml_lex.specs.Machine.{IsLongestWithin};
+ghost use Rattle.sml_lex.specs.CodeMachine.{IsLongestWithin};
 
 use crate::machine::{State, behind, kind_of};
 use crate::token::Kind;

@@ -1,6 +1,6 @@
 //! What was read of a token, byte by byte.
 ghost use Rattle.std.specs.Prelude.{◌≡◌, if◌then◌else◌};
-ghost use Rattle.sml_lex.specs.Machine.{first_state, real_state, digit_or, hex_digit_or_dead, name_byte_or, sign_or_dead, dot_or_dead, name_state, part_state, tilde_state, zero_state, negative_zero_state, word_mark_state, fraction_state, exponent_state, step_state, kind_at};
+ghost use Rattle.sml_lex.specs.CodeMachine.{first_state, real_state, digit_or, hex_digit_or_dead, name_byte_or, sign_or_dead, dot_or_dead, name_state, part_state, tilde_state, zero_state, negative_zero_state, word_mark_state, fraction_state, exponent_state, step_state, kind_at};
 
 use crate::bytes::{is_digit, is_hex_digit, is_letter, is_mark, is_name_byte, is_sign};
 use crate::token::Kind;

@@ -5,7 +5,7 @@ ghost use Rattle.std.specs.Result.{MatchResult};
 ghost use Rattle.sml_lex.specs.Bytes.{starts_white};
 ghost use Rattle.sml_lex.specs.Strings.{opens_string, opens_character};
 ghost use Rattle.sml_lex.specs.Comments.{opens_comment};
-ghost use Rattle.sml_lex.specs.CommentReading.{after_comments};
+ghost use Rattle.sml_lex.specs.CodeComments.{after_comments};
 ghost use Rattle.sml_lex.specs.Pieces.{IsPiece, IsFault};
 
 use crate::bytes::{behind, is_white, stand_at, starts_with, starts_with_both};

@@ -3,7 +3,7 @@ ghost use Rattle.std.specs.Prelude.{◌≡◌, true};
 ghost use Rattle.std.specs.Result.{MatchResult};
 ghost use Rattle.sml_lex.specs.Bytes.{starts_with};
 ghost use Rattle.sml_lex.specs.Strings.{break_of, IsBroken};
-ghost use Rattle.sml_lex.specs.StringReading.{IsQuoted, count_of, earlier_of};
+ghost use Rattle.sml_lex.specs.CodeStrings.{IsQuoted, count_of, earlier_of};
 
 use crate::bytes::{behind, starts_with};
 use crate::fault::Code;

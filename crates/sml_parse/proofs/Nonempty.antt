@@ -105,12 +105,12 @@ have_tokens (Leaf ∷ nodes) (Of p ∷ old) n most tokens next rest o l h = absu
 have_tokens (Inner r ∷ nodes) [] n most tokens next rest o l h = absurd h
 have_tokens (Inner r ∷ nodes) (Word k ∷ old) n most tokens next rest o l h = absurd h
 have_tokens (Inner r ∷ nodes) (Of p ∷ old) n most tokens next rest o l h =
-    by_start (begins_next r) (opened (right_side r) h.2) (few_tokens nodes (right_side r ++ old) tokens next (Of rest ∷ []) h.2) (have_tokens nodes (right_side r ++ old) n most tokens next rest o l h.2) (opens_so r)
+    by_start (begins_next r) (entered (right_side r) h.2) (few_tokens nodes (right_side r ++ old) tokens next (Of rest ∷ []) h.2) (have_tokens nodes (right_side r ++ old) n most tokens next rest o l h.2) (opens_so r)
   where
-    opened : (side : List Symbol) → Leads nodes (side ++ old) tokens next (Of rest ∷ []) → opens side ≡ true → 0 < tokens_before nodes
-    opened [] h e = absurd (false≢true e)
-    opened (Word k ∷ side) h e = absurd (false≢true e)
-    opened (Of p ∷ side) h e =
+    entered : (side : List Symbol) → Leads nodes (side ++ old) tokens next (Of rest ∷ []) → opens side ≡ true → 0 < tokens_before nodes
+    entered [] h e = absurd (false≢true e)
+    entered (Word k ∷ side) h e = absurd (false≢true e)
+    entered (Of p ∷ side) h e =
         let both = and_parts _ _ e in
         some_token nodes (Of p ∷ []) (side ++ old) tokens next rest (and_from _ _ both.0 refl) (λ k. not_both (may_be_empty p) both.1 (and_parts _ _ k).0) o h
 

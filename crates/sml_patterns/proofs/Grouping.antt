@@ -8,7 +8,7 @@ use Rattle.std.proofs.lemmas.Bool.Decides.{Decides-eqb}
 use Rattle.sml_patterns.specs.declared.pattern.Pattern.{Pattern}
 use Rattle.sml_patterns.specs.Plain.{Plain, Wild, Made, Fields, Valued}
 use Rattle.sml_patterns.specs.CodeTasks.{lines, group_at}
-use Rattle.sml_patterns.specs.Matrix.{AtConstructor, replace, onto, kept, narrow, narrow_all, first_of, Problem, with_problem, narrowed, below}
+use Rattle.sml_patterns.specs.CodeMatrix.{AtConstructor, replace, onto, kept, narrow, narrow_all, first_of, Problem, with_problem, narrowed, below}
 use Rattle.sml_patterns.proofs.Work.{below_kept}
 
 abbrev pub Group : Type 0

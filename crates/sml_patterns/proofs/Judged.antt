@@ -10,7 +10,7 @@ use Rattle.sml_patterns.specs.declared.judge.Holder.{Holder}
 use Rattle.sml_patterns.specs.declared.judge.Holder.TheVariants.{Fn, Handle, Val}
 use Rattle.sml_patterns.specs.Plain.{Plain, Wild}
 use Rattle.sml_patterns.specs.Shape.{Shape, Matches, World, Column, column, part, IsShape, Fits}
-use Rattle.sml_patterns.specs.Matrix.{singles}
+use Rattle.sml_patterns.specs.CodeMatrix.{singles}
 use Rattle.sml_patterns.specs.Warnings.{Rule, AllFit, Escapes, warning, IsRedundant, IsOpen, IsOpenAt, IsWarning}
 use Rattle.sml_patterns.specs.CodeTasks.{is_apart, near, is_free, plains, redundant_from, open_at}
 use Rattle.sml_patterns.proofs.Vectors.{Shapes, End, Then, MatchEach, AreShapes, EscapesAll, wild_fits}

@@ -3,7 +3,7 @@ use Rattle.std.proofs.Common.{◌≡◌, ℕ, ◌+◌, ◌≤◌, ◌⊎◌, inl
 use Rattle.std.specs.Str.{bytes_eq}
 use Rattle.sml_tree.specs.Trees.{Id}
 use Rattle.sml_patterns.specs.Plain.{Plain, Wild, Made, Fields, Valued, Row, Empty, Labelled, field}
-use Rattle.sml_patterns.specs.Matrix.{Head, AtConstructor, AtRow, AtValue, AtOther, field_in, wild_at, first_of, has_label, with_label, with_row, with_plain, with_column, column_labels, weight, fields_weight, row_weight}
+use Rattle.sml_patterns.specs.CodeMatrix.{Head, AtConstructor, AtRow, AtValue, AtOther, field_in, wild_at, first_of, has_label, with_label, with_row, with_plain, with_column, column_labels, weight, fields_weight, row_weight}
 use Rattle.sml_tree.proofs.Idents.{id_tells}
 
 abbrev pub IsIn : Id → List Id → Type 0

@@ -15,7 +15,7 @@ use Rattle.sml_tree.specs.Trees.{Id}
 use Rattle.sml_tree.specs.Views.{ident_of}
 use Rattle.sml_patterns.specs.declared.pattern.Pattern.{Pattern}
 use Rattle.sml_patterns.specs.Plain.{Plain, Wild, Row, Empty, Labelled, field}
-use Rattle.sml_patterns.specs.Matrix.{has_label, with_label, with_row}
+use Rattle.sml_patterns.specs.CodeMatrix.{has_label, with_label, with_row}
 use Rattle.sml_patterns.specs.Views.{row_on, plain_of}
 use Rattle.sml_patterns.specs.CodeTasks.{is_among, labels_of, outer_apart, rows_apart}
 use Rattle.sml_patterns.proofs.Labels.{field_here, field_there}

@@ -3,7 +3,7 @@ use Rattle.std.proofs.Common.{◌≡◌, ℕ, zero, suc, ◌<◌, ◌⊎◌, inl
 use Rattle.std.proofs.lemmas.Bool.Decides.{eqb_tells}
 use Rattle.sml_patterns.specs.Plain.{Plain, Wild, Made, Fields, Valued, IsWild}
 use Rattle.sml_patterns.specs.Shape.{Shape, OfConstructor, Other, Matches, World, Column, Part, part}
-use Rattle.sml_patterns.specs.Matrix.{Head, AtOther, replace, onto, narrow, narrow_all, kept, first_of, or_plain, first_kind, is_made, has, has_below}
+use Rattle.sml_patterns.specs.CodeMatrix.{Head, AtOther, replace, onto, narrow, narrow_all, kept, first_of, or_plain, first_kind, is_made, has, has_below}
 use Rattle.sml_patterns.proofs.Labels.{Sees, SeesRows}
 use Rattle.sml_patterns.proofs.Vectors.{Shapes, Then, MatchEach, AreShapes, EscapesAll, Useful, join, FitEach, split, glue}
 use Rattle.sml_patterns.proofs.Narrowing.{FitsPart, fits_part, Suits, under, build, build_shape, Alike, Kept, IfKept, narrowed_fits, other_fits, match_to, match_from}

@@ -3,7 +3,7 @@ use Rattle.std.proofs.Common.{◌≡◌, ℕ, zero, suc, List, [], ◌∷◌, �
 use Rattle.sml_tree.specs.Trees.{Id}
 use Rattle.sml_patterns.specs.Plain.{Plain, Wild, IsWild, Made, Fields, Valued}
 use Rattle.sml_patterns.specs.Shape.{Shape, Cut, OfConstructor, OfRow, Other, Matches, World, Column, Kind, Constructors, Labels, Values, Opaque, part, part_of, part_at, IsShape, Fits}
-use Rattle.sml_patterns.specs.Matrix.{wild_at}
+use Rattle.sml_patterns.specs.CodeMatrix.{wild_at}
 
 pub data Shapes : Type 0 where
   End : Shapes

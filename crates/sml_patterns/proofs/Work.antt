@@ -11,7 +11,7 @@ use Rattle.std.proofs.lemmas.List.{map-append}
 use Rattle.sml_patterns.specs.declared.search.Task.{Task}
 use Rattle.sml_patterns.specs.CodeTasks.{line, lines, problem_of, problems, split_heads}
 use Rattle.sml_patterns.specs.Plain.{Plain}
-use Rattle.sml_patterns.specs.Matrix.{Head, AtConstructor, Problem, narrow, narrow_all, with_problem, narrowed, below, first_of, heads, successors_of, successors, is_won, solve, sum_of, problem_weight, is_useful}
+use Rattle.sml_patterns.specs.CodeMatrix.{Head, AtConstructor, Problem, narrow, narrow_all, with_problem, narrowed, below, first_of, heads, successors_of, successors, is_won, solve, sum_of, problem_weight, is_useful}
 use Rattle.sml_patterns.proofs.Weights.{EachProblem, successors_fall, solve_same, each_map}
 
 abbrev pub answer : Problem → Bool

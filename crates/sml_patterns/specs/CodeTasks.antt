@@ -24,7 +24,7 @@ use Rattle.sml_patterns.specs.declared.judge.Flaw.{Flaw}
 use Rattle.sml_patterns.specs.declared.judge.Flaw.TheVariants.{Redundant, OpenMatch, OpenBinding}
 use Rattle.sml_patterns.specs.Plain.{Plain, Wild, Made, Fields, Valued, value_eq, Row, Empty, Labelled, field}
 use Rattle.sml_patterns.specs.Warnings.{Rule, warning}
-use Rattle.sml_patterns.specs.Matrix.{Head, AtConstructor, AtRow, AtValue, AtOther, Problem, problem, below, is_useful, singles}
+use Rattle.sml_patterns.specs.CodeMatrix.{Head, AtConstructor, AtRow, AtValue, AtOther, Problem, problem, below, is_useful, singles}
 use Rattle.sml_patterns.specs.Views.{value_of, plain_of}
 
 abbrev pub pointee : Bor Pattern → Plain

@@ -3,7 +3,7 @@
 ghost use Rattle.std.specs.Prelude.{◌≡◌, ◌++◌, ◌==◌, ◌<◌, ℕ, [], length, IfOk, OnOk};
 ghost use Rattle.indexmap.specs.IndexSet.{contains};
 ghost use Rattle.sml_patterns.specs.Plain.{Plain, Wild, Made};
-ghost use Rattle.sml_patterns.specs.Matrix.{AtConstructor, first_of, kept, narrow, narrow_all, has, has_below};
+ghost use Rattle.sml_patterns.specs.CodeMatrix.{AtConstructor, first_of, kept, narrow, narrow_all, has, has_below};
 ghost use Rattle.sml_patterns.specs.Views.{plain_of};
 ghost use Rattle.sml_patterns.specs.CodeTasks.{line, lines, group_at};
 

@@ -9,7 +9,7 @@ ghost use Rattle.sml_patterns.specs.Warnings as W;
 ghost use Rattle.sml_patterns.specs.Warnings.{AreRules, AllFit, IsWarning, warning_cmp};
 ghost use Rattle.sml_patterns.specs.Views.{meanings, plain_of};
 ghost use Rattle.sml_patterns.specs.CodeColumns.{picked, KnowsEach};
-ghost use Rattle.sml_patterns.specs.Matrix.{is_useful, singles};
+ghost use Rattle.sml_patterns.specs.CodeMatrix.{is_useful, singles};
 ghost use Rattle.sml_patterns.specs.CodeTasks.{is_free, lines, near, rules_of, plains, redundant_from, open_at, warning_of, warnings_of};
 
 use crate::apart::is_apart;

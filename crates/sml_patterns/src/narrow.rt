@@ -5,7 +5,7 @@ ghost use Rattle.std.specs.Option.{is_some};
 ghost use Rattle.std.specs.Str.{bytes_eq};
 ghost use Rattle.sml_tree.specs.Views.{ident_of};
 ghost use Rattle.sml_patterns.specs.Plain.{Wild, Empty, field};
-ghost use Rattle.sml_patterns.specs.Matrix.{replace, onto, field_in, wild_at, narrow, narrow_all, first_of, first_kind, with_label, with_row, with_plain, column_labels, spread, heads};
+ghost use Rattle.sml_patterns.specs.CodeMatrix.{replace, onto, field_in, wild_at, narrow, narrow_all, first_of, first_kind, with_label, with_row, with_plain, column_labels, spread, heads};
 ghost use Rattle.sml_patterns.specs.Views.{row_on, plain_of};
 ghost use Rattle.sml_patterns.specs.CodeTasks.{line, lines, kept_line, plain_at, IsNamed, labels_of, is_among, head_of, split_heads};
 

@@ -2,7 +2,7 @@
 
 ghost use Rattle.std.specs.Prelude.{◌≡◌, ◌++◌, ◌∷◌, [], IfOk};
 ghost use Rattle.sml_patterns.specs.Plain.{Wild};
-ghost use Rattle.sml_patterns.specs.Matrix.{narrow, narrow_all, below, with_problem, narrowed, successors, is_won, is_useful};
+ghost use Rattle.sml_patterns.specs.CodeMatrix.{narrow, narrow_all, below, with_problem, narrowed, successors, is_won, is_useful};
 ghost use Rattle.sml_patterns.specs.Views.{plain_of};
 ghost use Rattle.sml_patterns.specs.CodeTasks.{line, lines, head_of, problem_of, problems};
 

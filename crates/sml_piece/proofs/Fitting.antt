@@ -15,7 +15,7 @@ use Rattle.sml_objects.specs.Objects.{types_of}
 use Rattle.sml_objects.specs.Views.{type_of}
 use Rattle.sml_objects.proofs.SameTypes.{kind}
 use Rattle.sml_rules.specs.Rules.{IsOpen, AreOpen, IsInstance}
-use Rattle.sml_piece.specs.Matched.{Found, Agrees, AreOpenIn, Fits, FitAll, Decides, found_in}
+use Rattle.sml_piece.specs.CodeMatched.{Found, Agrees, AreOpenIn, Fits, FitAll, Decides, found_in}
 
 abbrev Args : Type 0
 Args = ℕ → O.MlType Name

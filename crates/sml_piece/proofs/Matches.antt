@@ -24,7 +24,7 @@ use Rattle.sml_objects.specs.Types.{argument}
 use Rattle.sml_rules.specs.Answers.{Answer, Reading, refused, accepted, After, give, ◌>>=◌, test, fault_at}
 use Rattle.sml_rules.specs.Readings.{read_names, read_types, read_values}
 use Rattle.sml_piece.specs.Elaborated.{or_else}
-use Rattle.sml_piece.specs.Matched.{read_name, read_value, PlainUnder}
+use Rattle.sml_piece.specs.CodeMatched.{read_name, read_value, PlainUnder}
 use Rattle.sml_rules.specs.Rules.{IsInstance, IsOpen, AreOpen}
 use Rattle.sml_piece.proofs.Answering.{passes, fails, then_any, then_refused, gives}
 

@@ -18,7 +18,7 @@ use Rattle.sml_objects.proofs.NameTests.{eq, eq-same, same-eq}
 use Rattle.sml_objects.proofs.TypeViews.{parts_of, type_of-bound, type_of-free, type_of-row, type_of-arrow, type_of-name}
 use Rattle.sml_rules.specs.Matching.{Realisation, realise_type, realise_types, is_name, is_yes, apply_to}
 use Rattle.sml_piece.specs.Elaborated.{or_else}
-use Rattle.sml_piece.specs.Matched.{alone, sends}
+use Rattle.sml_piece.specs.CodeMatched.{alone, sends}
 
 abbrev Entries : Type 0
 Entries = List (TyName × Rc Scheme Global)

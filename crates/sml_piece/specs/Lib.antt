@@ -1,2 +1,2 @@
 pub mod Elaborated
-pub mod Matched
+pub mod CodeMatched

@@ -4,7 +4,7 @@ ghost use Rattle.std.specs.Prelude.{IfOk, map};
 ghost use Rattle.sml_objects.specs.Objects.{bound, types_of};
 ghost use Rattle.sml_objects.specs.Views.{type_of, scheme_of};
 ghost use Rattle.sml_rules.specs.Rules.{IsOpen, IsInstance};
-ghost use Rattle.sml_piece.specs.Matched.{Decides, Fits, FitAll, found_in};
+ghost use Rattle.sml_piece.specs.CodeMatched.{Decides, Fits, FitAll, found_in};
 
 use indexmap::IndexMap;
 use sml_lex::fault::Memory;

@@ -13,7 +13,7 @@ ghost use Rattle.sml_rules.specs.Open.{OpenEnv, PlainFunctions, PlainValues};
 ghost use Rattle.sml_rules.specs.Rules.{IsOpen};
 ghost use Rattle.sml_rules.specs.Readings.{read_names, read_types, read_values, read_match};
 ghost use Rattle.sml_piece.specs.Elaborated.{Answers, IsFaultOf, signature_of};
-ghost use Rattle.sml_piece.specs.Matched.{read_name, read_value, sends, PlainUnder};
+ghost use Rattle.sml_piece.specs.CodeMatched.{read_name, read_value, sends, PlainUnder};
 
 use crate::instances::is_instance;
 use crate::realisations::Realisation;

@@ -6,7 +6,7 @@ ghost use Rattle.sml_objects.specs.Objects.{types_of};
 ghost use Rattle.sml_objects.specs.Views.{name_of, type_of, scheme_of};
 ghost use Rattle.sml_rules.specs.Matching.{is_name, realise_type, realise_types};
 ghost use Rattle.sml_piece.specs.Elaborated.{or_else};
-ghost use Rattle.sml_piece.specs.Matched.{alone, sends};
+ghost use Rattle.sml_piece.specs.CodeMatched.{alone, sends};
 
 use indexmap::IndexMap;
 use sml_lex::fault::Memory;

@@ -12,8 +12,8 @@ use Rattle.sml_read.specs.Grammar.{right_side}
 use Rattle.sml_read.specs.Parts.{part_of, may_be_empty}
 use Rattle.sml_read.specs.Numbers.{kind_number}
 use Rattle.sml_read.specs.Spelling.{begins_with, all_empty, side_begins_with, Leads}
-use Rattle.sml_read.specs.Shortest.{shortest, shortest_text, weight}
-use Rattle.sml_read.specs.Steps.{cost}
+use Rattle.sml_read.specs.CodeShortest.{shortest, shortest_text, weight}
+use Rattle.sml_read.specs.CodeSteps.{cost}
 use Rattle.sml_read.specs.Exact.{Spells, SpellsNothing, TablesAreExact}
 use Rattle.sml_read.proofs.Tables.{kind_same, begins_so, empty_so, cost_so, shortest_so, short_so, starter_so}
 use Rattle.sml_read.proofs.Trees.{side_begins_with-append, stops_of, runs_lead}

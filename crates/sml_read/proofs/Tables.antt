@@ -12,11 +12,11 @@ use Rattle.sml_read.specs.declared.grammar.Node.TheVariants.{Leaf, Inner}
 use Rattle.sml_read.specs.Grammar.{right_side}
 use Rattle.sml_read.specs.Parts.{part_of, may_be_empty}
 use Rattle.sml_read.specs.Numbers.{kind_number, part_number}
-use Rattle.sml_read.specs.All.{all_kinds, all_parts, all_rules, rules_of}
+use Rattle.sml_read.specs.CodeAll.{all_kinds, all_parts, all_rules, rules_of}
 use Rattle.sml_read.specs.Spelling.{begins_with, all_empty, side_begins_with, is_open, is_outer, head_or}
-use Rattle.sml_read.specs.Table.{row_of, suits, rule_for, rule_at_end, rule_before}
-use Rattle.sml_read.specs.Shortest.{shortest, shortest_text, weight}
-use Rattle.sml_read.specs.Steps.{goes_on, is_safe, ends_outer, cost}
+use Rattle.sml_read.specs.CodeTable.{row_of, suits, rule_for, rule_at_end, rule_before}
+use Rattle.sml_read.specs.CodeShortest.{shortest, shortest_text, weight}
+use Rattle.sml_read.specs.CodeSteps.{goes_on, is_safe, ends_outer, cost}
 use Rattle.sml_read.proofs.Every.{kind_at, part_at}
 use Rattle.sml_read.proofs.EveryRule.{rule_number, rule_at}
 

@@ -13,7 +13,7 @@ use Rattle.sml_read.specs.declared.grammar.Node.{Node}
 use Rattle.sml_read.specs.declared.read.Cause.{Cause}
 use Rattle.sml_read.specs.declared.read.Cause.TheVariants.{Unexpected, TooEarly, Lexical}
 use Rattle.sml_read.specs.Spelling.{IsWholeTo, BeginsUnit, is_outer, is_closed, first_of, Leads}
-use Rattle.sml_read.specs.Steps.{Takes, Refuses, Completes, Blocks, ends_whole}
+use Rattle.sml_read.specs.CodeSteps.{Takes, Refuses, Completes, Blocks, ends_whole}
 use Rattle.sml_read.specs.Answer.{IsCauseOf, IsReading}
 use Rattle.sml_read.proofs.Trees.{Reaches, alone, reach_all, reach_more, completes_takes, reach_begins, reach_refused, unexpected_at, ends_early, whole_leads, whole_only, not_whole, whole_unit}
 

@@ -15,9 +15,9 @@ use Rattle.sml_read.specs.Grammar.{right_side}
 use Rattle.sml_read.specs.Parts.{part_of, may_be_empty}
 use Rattle.sml_read.specs.Numbers.{kind_number}
 use Rattle.sml_read.specs.Spelling.{IsUnexpectedAt, EndsTooEarly, IsUnit, is_outer, begins_with, all_empty, side_begins_with, is_open, head_or, Leads}
-use Rattle.sml_read.specs.Table.{rule_for, rule_before}
-use Rattle.sml_read.specs.Shortest.{shortest, shortest_text, weight}
-use Rattle.sml_read.specs.Steps.{goes_on, is_safe, ends_outer, lead, cost, Begun, Takes, Refuses, Completes, Blocks}
+use Rattle.sml_read.specs.CodeTable.{rule_for, rule_before}
+use Rattle.sml_read.specs.CodeShortest.{shortest, shortest_text, weight}
+use Rattle.sml_read.specs.CodeSteps.{goes_on, is_safe, ends_outer, lead, cost, Begun, Takes, Refuses, Completes, Blocks}
 use Rattle.sml_read.proofs.Tables.{kind_same, part_same, begins_so, empty_so, suits_so, ends_so, rule_for_so, rule_before_so, cost_so, safe_so, shortest_so, runs, outer_so, full_so, starts_full, closes_so}
 
 join_tests : (ea eb sa sb me bg : Bool) → (ea ≡ true → me ≡ true) → (sa ≡ true → bg ≡ true) → ((ea && eb) || (sa || (ea && sb))) ≡ true → ((me && eb) || (bg || (me && sb))) ≡ true

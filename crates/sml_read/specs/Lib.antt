@@ -2,11 +2,11 @@ pub mod Grammar
 pub mod Parts
 pub mod Numbers
 pub mod Spelling
-pub mod Table
-pub mod Shortest
-pub mod Steps
 pub mod Answer
-pub mod All
 pub mod Exact
 pub mod Extents
 pub mod Unique
+pub mod CodeTable
+pub mod CodeShortest
+pub mod CodeSteps
+pub mod CodeAll

@@ -4,7 +4,7 @@ ghost use Rattle.std.specs.Option.{MatchOption};
 ghost use Rattle.sml_read.specs.declared.grammar.Node.{Node};
 ghost use Rattle.sml_read.specs.declared.grammar.Symbol.TheVariants.{Of};
 ghost use Rattle.sml_read.specs.Spelling.{kinds_of, is_outer};
-ghost use Rattle.sml_read.specs.Steps.{Takes, Refuses, Completes, Blocks, ends_outer, ends_whole};
+ghost use Rattle.sml_read.specs.CodeSteps.{Takes, Refuses, Completes, Blocks, ends_outer, ends_whole};
 ghost use Rattle.sml_read.specs.Answer.{is_done, IsReading};
 
 use crate::grammar::{Node, Part, Symbol};

@@ -2,7 +2,7 @@
 ghost use Rattle.std.specs.Prelude.{◌≡◌, reverse};
 ghost use Rattle.sml_read.specs.Grammar.{right_side};
 ghost use Rattle.sml_read.specs.Numbers.{kind_number};
-ghost use Rattle.sml_read.specs.Table.{rule_for, rule_before};
+ghost use Rattle.sml_read.specs.CodeTable.{rule_for, rule_before};
 
 use crate::alternatives::rules_of_part;
 use crate::cells::{ending, row};

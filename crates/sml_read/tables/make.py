@@ -255,7 +255,7 @@ class Writer:
         return f"\n-- {doc}\nabbrev pub {name} : {kind}\n" + "".join(f"{name} {a} = {b}\n" for a, b in rows)
 
     def grammar_rt(self):
-        g, derive = self.g, "#[derive(Clone, Copy, PartialEq, Eq, Debug)]\n"
+        g, derive = self.g, "#[derive(Clone, Copy, PartialEq, Eq)]\n"
         out = f"// {MARK}\n//! The grammar's words: parts, rules and nodes.\nuse sml_lex::token::Kind;\n\n"
         out += f"/// A part of the grammar, with its alternatives.\n{derive}pub enum Part {{\n"
         out += "".join(f"    /// {self.alternatives(p)}\n    {p},\n" for p in g.parts) + "}\n\n"
@@ -329,7 +329,7 @@ class Writer:
                           [(p, self.several("K." + k for k in g.kinds if k in g.ends[p])) for p in g.parts])
         out += self.table("weight", "how many rules may be taken at most before the next token is", "Part → ℕ",
                           [(p, g.weight[p]) for p in g.parts])
-        self.write("specs/Shortest.antt", out)
+        self.write("specs/CodeShortest.antt", out)
 
     def all_antt(self):
         g = self.g
@@ -341,7 +341,7 @@ class Writer:
         out += f"\nabbrev pub all_rules : List Rule\nall_rules = {self.several(self.term(n, p) for p, n in self.every_rule())}\n"
         out += self.table("rules_of", "the rules of a part", "Part → List Rule",
                           [(p, self.several(self.term(n, p) for n, _ in g.rules[p])) for p in g.parts])
-        self.write("specs/All.antt", out)
+        self.write("specs/CodeAll.antt", out)
 
     def every_antt(self):
         g = self.g
@@ -350,14 +350,14 @@ class Writer:
         out = f"-- {MARK}\n-- Where each kind and each part stands among all.\n" + common
         out += self.uses(parts=g.parts, symbols=False)
         out += "use Rattle.sml_read.specs.Numbers.{kind_number, part_number}\n"
-        out += "use Rattle.sml_read.specs.All.{all_kinds, all_parts}\n"
+        out += "use Rattle.sml_read.specs.CodeAll.{all_kinds, all_parts}\n"
         out += at("kind_at", "(k : Kind) → slice_get all_kinds (kind_number k) ≡ Some k", ["K." + k for k in g.kinds])
         out += at("part_at", "(p : Part) → slice_get all_parts (part_number p) ≡ Some p", g.parts)
         self.write("proofs/Every.antt", out)
         out = f"-- {MARK}\n-- Where each rule stands among all.\n" + common + "use Rattle.std.specs.Prelude.{ℕ}\n"
         out += self.uses(kinds=False, symbols=False, rules=self.every_rule())
         out = out.replace("use Rattle.sml_read.specs.declared.grammar.Part.{Part}\n", "")
-        out += "use Rattle.sml_read.specs.All.{all_rules}\n"
+        out += "use Rattle.sml_read.specs.CodeAll.{all_rules}\n"
         out += self.table("rule_number", "the number of a rule", "Rule → ℕ",
                           [(self.in_antt(n, p), i) for i, (p, n) in enumerate(self.every_rule())])
         out += at("rule_at", "(r : Rule) → slice_get all_rules (rule_number r) ≡ Some r",
@@ -393,7 +393,7 @@ class Writer:
         g = self.g
         types = sorted(self.rule_type(s) for s in SECTIONS)
         out = f"// {MARK}\n//! The rules of each part.\n"
-        out += "ghost use Rattle.std.specs.Prelude.{◌≡◌};\nghost use Rattle.sml_read.specs.All.{rules_of};\n\n"
+        out += "ghost use Rattle.std.specs.Prelude.{◌≡◌};\nghost use Rattle.sml_read.specs.CodeAll.{rules_of};\n\n"
         out += f"use crate::grammar::{{Part, Rule, {', '.join(types)}}};\n"
         out += "\n/// The rules of a part, in the grammar's order.\npub fn rules_of_part(part: Part) -> &'static [Rule]\n"
         out += "    ensures { result.now ≡ rules_of part }\n{\n    match part {\n"
@@ -405,7 +405,7 @@ class Writer:
         g = self.g
         types = sorted({self.rule_type(g.section_of[p]) for p in g.parts if g.ending(p)})
         out = f"// {MARK}\n//! Which rule of each part a token asks for.\n"
-        out += "ghost use Rattle.std.specs.Prelude.{◌≡◌};\nghost use Rattle.sml_read.specs.Table.{row_of, rule_at_end};\n\n"
+        out += "ghost use Rattle.std.specs.Prelude.{◌≡◌};\nghost use Rattle.sml_read.specs.CodeTable.{row_of, rule_at_end};\n\n"
         out += f"use crate::grammar::{{Part, Rule, {', '.join(types)}}};\n"
         out += "\n/// For each kind of token that may come next, in order, which of the part's rules it asks for; a dot for none.\n"
         out += "pub fn row(part: Part) -> &'static [u8]\n    ensures { result.now ≡ row_of part }\n{\n    match part {\n"

@@ -31,7 +31,7 @@ use Rattle.sml_graph.specs.Variables.{IsPossible, stand_in}
 use Rattle.sml_graph.specs.Asked.{Asked, asked_of, Permits, Demand, equal, Holds, CanMeet, IsFirstUnmet, Adds}
 use Rattle.sml_demands.specs.Overloaded.{IsOverloaded, Settles, is_several}
 use Rattle.sml_layers.specs.Classes.{has_several}
-use Rattle.sml_graph.specs.Whole.{IsKept}
+use Rattle.sml_graph.specs.CodeWhole.{IsKept}
 use Rattle.sml_graph.proofs.Merging.{same_or_not}
 use Rattle.sml_graph.proofs.Ranking.{solution-meets, solution-unknown}
 use Rattle.sml_demands.proofs.Owning.{LeadsTo, leads-below, root-node}

@@ -11,11 +11,11 @@ use Rattle.sml_layers.specs.Worlds.{finite}
 use Rattle.sml_graph.specs.Worlds.{Assignment}
 use Rattle.sml_graph.specs.Graphs.{node_at, parts, Meets, IsSame, IsRootNode, IsKnown}
 use Rattle.sml_graph.specs.Interned.{through}
-use Rattle.sml_graph.specs.Ranks.{IsRanked, HasRank}
+use Rattle.sml_graph.specs.CodeRanks.{IsRanked, HasRank}
 use Rattle.sml_graph.specs.Asked.{Asked, asked_of}
 use Rattle.sml_demands.specs.Left.{IsUndetermined}
 use Rattle.sml_demands.specs.Fixed.{IsFixed, IsMarked, AreMarks, AreFixed, places_of}
-use Rattle.sml_demands.specs.Levels.{level_at, IsHeld, AreHeld, IsKeptWith}
+use Rattle.sml_demands.specs.CodeLevels.{level_at, IsHeld, AreHeld, IsKeptWith}
 use Rattle.sml_demands.proofs.Levelling.{none-left}
 use Rattle.sml_graph.proofs.Interning.{inside-at}
 use Rattle.sml_graph.proofs.Asking.{value}

@@ -12,7 +12,7 @@ use Rattle.sml_tree.specs.Trees.{Id}
 use Rattle.sml_objects.specs.Maps.{lookup}
 use Rattle.sml_graph.specs.declared.graph.Graph.{Graph}
 use Rattle.sml_graph.specs.Interned.{through}
-use Rattle.sml_graph.specs.Whole.{IsKept}
+use Rattle.sml_graph.specs.CodeWhole.{IsKept}
 use Rattle.sml_layers.specs.Worlds.{finite}
 use Rattle.sml_graph.specs.Worlds.{Assignment}
 use Rattle.sml_graph.specs.Asked.{Asked, asked_of}

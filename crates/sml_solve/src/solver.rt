@@ -26,7 +26,7 @@ ghost use Rattle.sml_demands.specs.Counted.{IsSizeUpTo};
 ghost use Rattle.sml_demands.specs.Fixed.{AreFixed, IsFixed};
 ghost use Rattle.sml_graph.specs.Interned.{demanded};
 ghost use Rattle.sml_demands.specs.Left.{HasOneSetOfLabels, IsFree, IsLeft, IsMadeOf, IsReading, IsMostGeneral};
-ghost use Rattle.sml_demands.specs.Levels.{IsKeptWith};
+ghost use Rattle.sml_demands.specs.CodeLevels.{IsKeptWith};
 ghost use Rattle.sml_demands.specs.Schemes.{GiveOneScheme, HasOneScheme, IsScheme, IsSchemeOfReading};
 ghost use Rattle.sml_demands.specs.Overloaded.{IsOverloaded, Settles};
 

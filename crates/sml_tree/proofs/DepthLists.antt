@@ -7,7 +7,7 @@ use Rattle.sml_tree.specs.Trees.{Id}
 use Rattle.sml_tree.specs.Names as N
 use Rattle.sml_tree.specs.Views.{ident_of}
 use Rattle.sml_tree.specs.TypeViews.{names_of}
-use Rattle.sml_tree.specs.Depths.{without, depths}
+use Rattle.sml_tree.specs.CodeDepths.{without, depths}
 use Rattle.sml_tree.proofs.Lists.{opened}
 use Rattle.sml_tree.proofs.Instances.{without_same}
 

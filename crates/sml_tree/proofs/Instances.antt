@@ -7,7 +7,7 @@ use Rattle.sml_tree.specs.Types.{Ty, Tys, TyField, TyFields, ty_variable, ty_row
 use Rattle.sml_tree.specs.Height.{counted}
 use Rattle.sml_tree.specs.Heights.{ty_height, tys_height, ty_field_height, ty_fields_height}
 use Rattle.sml_tree.specs.Withtype.{argument, either, instance, instances, field_instance, field_instances}
-use Rattle.sml_tree.specs.Depths.{below, depth, tys_depth, field_depth, fields_depth, without, depths, reach, reached}
+use Rattle.sml_tree.specs.CodeDepths.{below, depth, tys_depth, field_depth, fields_depth, without, depths, reach, reached}
 use Rattle.sml_tree.proofs.Idents.{id_tells, id_self, id_turned}
 
 pub not_flat : {P : Type 0} (t : Ty P) → 1 ≤ ty_height t

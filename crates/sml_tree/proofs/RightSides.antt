@@ -10,7 +10,7 @@ use Rattle.sml_tree.specs.Expressions as E
 use Rattle.sml_tree.specs.Height.{counted}
 use Rattle.sml_tree.specs.Heights.{ty_height, tys_height}
 use Rattle.sml_tree.specs.Withtype.{count_tys, bound, binding, applied, instance, all_replaced}
-use Rattle.sml_tree.specs.Depths.{depth, without, depths, reached}
+use Rattle.sml_tree.specs.CodeDepths.{depth, without, depths, reached}
 use Rattle.sml_tree.specs.CodeSides.{found, parts_of, side_of, KnowsSides}
 use Rattle.sml_tree.specs.declared.sides.Side.{Side}
 use Rattle.std.specs.Prelude.{Vec}

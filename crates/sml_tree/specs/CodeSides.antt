@@ -12,7 +12,7 @@ use Rattle.sml_tree.specs.Expressions.{TypBind}
 use Rattle.sml_tree.specs.Height.{counted}
 use Rattle.sml_tree.specs.Heights.{ty_height}
 use Rattle.sml_tree.specs.Withtype.{bound}
-use Rattle.sml_tree.specs.Depths.{depth, depths}
+use Rattle.sml_tree.specs.CodeDepths.{depth, depths}
 use Rattle.sml_tree.specs.declared.sides.Side.{Side}
 
 -- what a table has for an identifier

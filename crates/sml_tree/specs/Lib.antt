@@ -18,5 +18,5 @@ pub mod ExpressionViews
 pub mod Clauses
 pub mod SignatureViews
 pub mod StructureViews
-pub mod Depths
+pub mod CodeDepths
 pub mod CodeSides

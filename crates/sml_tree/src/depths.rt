@@ -5,7 +5,7 @@ ghost use Rattle.std.specs.Str.{bytes_eq};
 ghost use Rattle.sml_tree.specs.Trees.{Id};
 ghost use Rattle.sml_tree.specs.Views.{ident_of};
 ghost use Rattle.sml_tree.specs.TypeViews.{names_of, ty_of, tys_of, ty_field_of, ty_fields_of};
-ghost use Rattle.sml_tree.specs.Depths.{depth, depths, tys_depth, fields_depth};
+ghost use Rattle.sml_tree.specs.CodeDepths.{depth, depths, tys_depth, fields_depth};
 ghost use Rattle.sml_tree.specs.CodeSides.{deep};
 
 use crate::bare::Ident;

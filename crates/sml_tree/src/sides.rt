@@ -11,7 +11,7 @@ ghost use Rattle.sml_tree.specs.BindingViews.{typ_bind_of, con_bind_of, dat_bind
 ghost use Rattle.sml_tree.specs.Height.{counted};
 ghost use Rattle.sml_tree.specs.Heights.{highest, ty_height, tys_height, ty_fields_height, con_bind_height, dat_bind_height};
 ghost use Rattle.sml_tree.specs.Withtype.{count_tys, binding, applied, replaced, all_replaced, fields_replaced, con_replaced, dat_replaced};
-ghost use Rattle.sml_tree.specs.Depths.{reach, reached};
+ghost use Rattle.sml_tree.specs.CodeDepths.{reach, reached};
 ghost use Rattle.sml_tree.specs.CodeSides.{parts_of, side_of, KnowsSides};
 
 use crate::bare::{Ident, LongIdent};

@@ -35,13 +35,13 @@ use Rattle.sml_flaws.specs.declared.role.Word.{Word as Wd}
 use Rattle.sml_flaws.specs.declared.role.Word.TheVariants as W
 use Rattle.sml_flaws.specs.declared.role.Role.{Role}
 use Rattle.sml_flaws.specs.declared.role.Role.TheVariants as Q
-use Rattle.sml_flaws.specs.declared.role.Opening.{Opening}
-use Rattle.sml_flaws.specs.declared.role.Opening.TheVariants as O
+use Rattle.sml_flaws.specs.declared.role.Entry.{Entry}
+use Rattle.sml_flaws.specs.declared.role.Entry.TheVariants as O
 use Rattle.sml_flaws.specs.declared.mark.Context.{Context}
 use Rattle.sml_flaws.specs.declared.mark.Mark.{Mark}
 use Rattle.sml_flaws.specs.declared.mark.Mark.TheVariants as Mk
-use Rattle.sml_flaws.specs.Roles.{roles_of, opening_of}
-use Rattle.sml_flaws.specs.Marks.{start, opened, in_role, contexts_from, is_constant, word_mark, rule_mark, mark_at, parts_of, marks_of}
+use Rattle.sml_flaws.specs.Roles.{roles_of, entry_of}
+use Rattle.sml_flaws.specs.Marks.{start, entered, in_role, contexts_from, is_constant, word_mark, rule_mark, mark_at, parts_of, marks_of}
 use Rattle.sml_flaws.specs.Known.{space_number, same, key_at, key_in, token_in}
 use Rattle.sml_flaws.specs.Flaws.{is_reserved, is_it, names_value, names_constructor, flaws_of}
 use Rattle.sml_bare.specs.Derivations.{Source, place_at, token_phrase, word_phrase, made_by, phrases_of}
@@ -51,7 +51,7 @@ use Rattle.sml_tree_laws.proofs.PhrasesBound.{plain, class_of, Fits, PhraseBound
 use Rattle.sml_tree_laws.proofs.PartsBound.{WordBound, RoleBound, PartsBound}
 use Rattle.sml_tree_laws.proofs.MadeBound.{made_bound, made_fits, made_same, is_group}
 use Rattle.sml_tree_laws.proofs.Clean.{once, no_real, may_bind}
-use Rattle.sml_tree_laws.proofs.Walk.{Goes, is_type_variable, below_more, behind_more, stands_behind, context_in, context_behind, opened_word}
+use Rattle.sml_tree_laws.proofs.Walk.{Goes, is_type_variable, below_more, behind_more, stands_behind, context_in, context_behind, entered_word}
 
 -- the tables
 
@@ -145,7 +145,7 @@ suit_parts r p i a c ss cs same h real rest = go c.word refl h
   where
     side : (f : Symbol → Bool) → roles_suit f (roles_of r) 0 (right_side r) ≡ true → ((x : Symbol) → f x ≡ true → suits c.word x ≡ true) → AllSuit (right_side r ++ ss) (parts_of i a c (Inner r) ++ cs)
     side f e k =
-        suit_side f (right_side r) (roles_of r) 0 (opened (opening_of r) i a c) ss cs e (λ x q. subst (λ w. suits w x ≡ true) (sym (opened_word (opening_of r) i a c)) (k x q)) rest
+        suit_side f (right_side r) (roles_of r) 0 (entered (entry_of r) i a c) ss cs e (λ x q. subst (λ w. suits w x ≡ true) (sym (entered_word (entry_of r) i a c)) (k x q)) rest
 
     go : (w : Wd) → c.word ≡ w → suits w (Of p) ≡ true → AllSuit (right_side r ++ ss) (parts_of i a c (Inner r) ++ cs)
     go (W.Bound sp) e k = side is_named (and_parts _ _ (named_so r (subst (λ q. is_named (Of q) ≡ true) (sym same) k))).1 (λ x q. subst (λ w. suits w x ≡ true) (sym e) q)
@@ -181,7 +181,7 @@ role_group Q.Next c = refl
 role_group Q.Expression c = refl
 role_group (Q.Word word) c = refl
 
-group_kept : (o : Opening) (i a : ℕ) (c : Context) → is_group o ≡ false → (opened o i a c).group ≡ c.group
+group_kept : (o : Entry) (i a : ℕ) (c : Context) → is_group o ≡ false → (entered o i a c).group ≡ c.group
 group_kept O.Nothing i a c h = refl
 group_kept O.Group i a c h = absurd (false≢true (sym h))
 group_kept O.Types i a c h = absurd (false≢true (sym h))
@@ -343,7 +343,7 @@ module _ (s : Source) (tokens : List Token) (all : List Mark) (own : (n : ℕ) �
 
   abbrev pub Behind : Rule → ℕ → ℕ → Context → List Node → List Phrase → Type 0
   Behind r i a c nodes vs =
-      (k : ℕ) → k < length (right_side r) → Claim (symbol (right_side r) k) (in_role (get_or (roles_of r) k Q.Same) (opened (opening_of r) i a c)) (a + width_of k nodes) (a + width_of (suc k) nodes) (at vs k)
+      (k : ℕ) → k < length (right_side r) → Claim (symbol (right_side r) k) (in_role (get_or (roles_of r) k Q.Same) (entered (entry_of r) i a c)) (a + width_of k nodes) (a + width_of (suc k) nodes) (at vs k)
 
   named_word : (rule : NameRule) (i a n lo hi : ℕ) (c : Context) (nodes : List Node) (vs : List Phrase) → is_named (Of (part_of (G.Names rule))) ≡ true → lo ≤ a + 0 → a + width_of 1 nodes ≤ hi → Behind (G.Names rule) i a c nodes vs
       → WordBound Marked c.word c.group lo hi (made_by s (G.Names rule) n vs)
@@ -370,7 +370,7 @@ module _ (s : Source) (tokens : List Token) (all : List Mark) (own : (n : ℕ) �
   module _ (r : Rule) (p : Part) (i a n lo hi : ℕ) (c : Context) (nodes : List Node) (vs : List Phrase) (same_part : part_of r ≡ p) (suited : suits c.word (Of p) ≡ true)
       (real : is_real r ≡ true → c.word ≡ W.Constant → ⊥) (from : lo ≤ a + 0) (behind : a + width_of (length (right_side r) + 0) nodes ≤ hi) (parts_claimed : Behind r i a c nodes vs) where
     abbrev c' : Context
-    c' = opened (opening_of r) i a c
+    c' = entered (entry_of r) i a c
 
     abbrev t : ℕ → ℕ
     t k = a + width_of k nodes
@@ -391,11 +391,11 @@ module _ (s : Source) (tokens : List Token) (all : List Mark) (own : (n : ℕ) �
     in_group = made_bound Marked apart may_be may_value c'.group t mono r _ _ vs parts
 
     out_of_group : PhraseBound Marked (class_of (Of (part_of r))) c.group (t 0) (t (length (right_side r))) (made_by s r n vs)
-    out_of_group = go (is_group (opening_of r)) refl
+    out_of_group = go (is_group (entry_of r)) refl
       where
-        go : (b : Bool) → is_group (opening_of r) ≡ b → PhraseBound Marked (class_of (Of (part_of r))) c.group (t 0) (t (length (right_side r))) (made_by s r n vs)
+        go : (b : Bool) → is_group (entry_of r) ≡ b → PhraseBound Marked (class_of (Of (part_of r))) c.group (t 0) (t (length (right_side r))) (made_by s r n vs)
         go true e = made_same Marked c'.group c.group (t 0) (t (length (right_side r))) r _ _ vs e in_group
-        go false e = subst (λ g. PhraseBound Marked (class_of (Of (part_of r))) g (t 0) (t (length (right_side r))) (made_by s r n vs)) (group_kept (opening_of r) i a c e) in_group
+        go false e = subst (λ g. PhraseBound Marked (class_of (Of (part_of r))) g (t 0) (t (length (right_side r))) (made_by s r n vs)) (group_kept (entry_of r) i a c e) in_group
 
     end : t (length (right_side r)) ≤ hi
     end = let e = ap (λ q. width_of q nodes) (let f : length (right_side r) + 0 ≡ length (right_side r) = omega arith in f) in omega (arith, behind, e)
@@ -501,9 +501,9 @@ module _ (s : Source) (tokens : List Token) (all : List Mark) (own : (n : ℕ) �
       behind : ((k : ℕ) → k < length (right_side r ++ ss) → (lo hi : ℕ) → lo ≡ a + width_of k nodes → hi ≡ a + width_of (suc k) nodes → Claim (symbol (right_side r ++ ss) k) (get_or (parts_of i a c (Inner r) ++ cs) k start) lo hi (at vs k))
           → Behind r i a c nodes vs
       behind deeper k b =
-          subst (λ x. Claim x (in_role (get_or (roles_of r) k Q.Same) (opened (opening_of r) i a c)) (a + width_of k nodes) (a + width_of (suc k) nodes) (at vs k)) (get_or_append_left (right_side r) ss (Word K.Comma) k b)
+          subst (λ x. Claim x (in_role (get_or (roles_of r) k Q.Same) (entered (entry_of r) i a c)) (a + width_of k nodes) (a + width_of (suc k) nodes) (at vs k)) (get_or_append_left (right_side r) ss (Word K.Comma) k b)
           (subst (λ q. Claim (symbol (right_side r ++ ss) k) q (a + width_of k nodes) (a + width_of (suc k) nodes) (at vs k))
-          (context_in (roles_of r) (opened (opening_of r) i a c) 0 len cs k b ∙ ap (λ q. in_role (get_or (roles_of r) q Q.Same) (opened (opening_of r) i a c)) (let e : 0 + k ≡ k = omega arith in e))
+          (context_in (roles_of r) (entered (entry_of r) i a c) 0 len cs k b ∙ ap (λ q. in_role (get_or (roles_of r) q Q.Same) (entered (entry_of r) i a c)) (let e : 0 + k ≡ k = omega arith in e))
           (deeper k (below_more k (right_side r) ss b) (a + width_of k nodes) (a + width_of (suc k) nodes) refl refl))
 
       by_place : ((k : ℕ) → k < length (right_side r ++ ss) → (lo hi : ℕ) → lo ≡ a + width_of k nodes → hi ≡ a + width_of (suc k) nodes → Claim (symbol (right_side r ++ ss) k) (get_or (parts_of i a c (Inner r) ++ cs) k start) lo hi (at vs k))
@@ -515,4 +515,4 @@ module _ (s : Source) (tokens : List Token) (all : List Mark) (own : (n : ℕ) �
           let x = deeper (len + k) (behind_more k (right_side r) ss (omega (arith, h))) lo hi (omega (arith, el)) (omega (arith, eh, next)) in
           subst (λ q. Claim (symbol ss k) (get_or cs k start) lo hi (first q)) (sym (drop-drop k len vs))
           (subst (λ y. Claim y (get_or cs k start) lo hi (at vs (len + k))) (get_or-append-add (right_side r) ss k (Word K.Comma))
-          (subst (λ q. Claim (symbol (right_side r ++ ss) (len + k)) q lo hi (at vs (len + k))) (context_behind (roles_of r) (opened (opening_of r) i a c) 0 len cs k (len + k) refl) x))
+          (subst (λ q. Claim (symbol (right_side r ++ ss) (len + k)) q lo hi (at vs (len + k))) (context_behind (roles_of r) (entered (entry_of r) i a c) 0 len cs k (len + k) refl) x))

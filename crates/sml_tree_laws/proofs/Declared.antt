@@ -31,8 +31,8 @@ use Rattle.sml_flaws.specs.declared.mark.Listed.{Listed}
 use Rattle.sml_flaws.specs.declared.mark.Mark.{Mark}
 use Rattle.sml_flaws.specs.declared.mark.Mark.TheVariants as Mk
 use Rattle.sml_flaws.specs.declared.flaw.Flaw.{Flaw}
-use Rattle.sml_flaws.specs.declared.role.Opening.TheVariants as O
-use Rattle.sml_flaws.specs.Marks.{start, opened, marks_of}
+use Rattle.sml_flaws.specs.declared.role.Entry.TheVariants as O
+use Rattle.sml_flaws.specs.Marks.{start, entered, marks_of}
 use Rattle.sml_flaws.specs.Known.{token_in}
 use Rattle.sml_flaws.specs.Flaws.{owner_in, is_outer as is_round, flaw_if, scoped_by, scoped_at, scoped_of, flaws_of, flaws, first_flaw}
 use Rattle.sml_flaws.specs.Flawed.{ends_at}
@@ -244,7 +244,7 @@ module _ (unit : List ℕ) (tokens : List Token) (n : ℕ) (fits : List Fit) (ow
       end = suc (size_of 2 own)
 
       c : Context
-      c = opened O.Value 0 n start
+      c = entered O.Value 0 n start
 
       h : Claim source tokens all stops counted (no_flaw U.StartExp clean) c (1 + size_of 0 own) (1 + size_of 1 own) made
       h = first_sits U.StartExp clean Exp c (c ∷ []) g (record { variable = λ e. absurd (false≢true e); core = λ e. refl }, tt) (λ m s. s)

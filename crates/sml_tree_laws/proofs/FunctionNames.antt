@@ -21,11 +21,11 @@ use Rattle.sml_reach.specs.Founds.{Atom, Found, nothing, word, one, several, wit
 use Rattle.sml_reach.specs.Events.{found_at}
 use Rattle.sml_reach.specs.Fits.{Fit}
 use Rattle.sml_flaws.specs.declared.role.Role.TheVariants as R
-use Rattle.sml_flaws.specs.declared.role.Opening.TheVariants as O
+use Rattle.sml_flaws.specs.declared.role.Entry.TheVariants as O
 use Rattle.sml_flaws.specs.declared.mark.Context.{Context}
 use Rattle.sml_flaws.specs.declared.mark.Mark.{Mark}
-use Rattle.sml_flaws.specs.Roles.{opening_of}
-use Rattle.sml_flaws.specs.Marks.{opened, next, in_role}
+use Rattle.sml_flaws.specs.Roles.{entry_of}
+use Rattle.sml_flaws.specs.Marks.{entered, next, in_role}
 use Rattle.sml_flaws.specs.Known.{head_or, head_at}
 use Rattle.sml_flaws.specs.Flaws.{is_reserved}
 use Rattle.sml_bare.specs.Derivations.{shape_from}
@@ -120,19 +120,19 @@ module _ (text : ℕ → Id) (fits : List Fit) (all : List Mark) where
     IsOwn _ = Unit {0}
 
     round_free : (p : Place) (v : Phrase) (f : Found) → ((how : Head) → s ≡ Some (headed how) → (atoms : List Atom) × (sequence_in (from m f) ≡ Some atoms) × FitsHead atoms (headed how))
-        → t 1 ≡ t 0 + 1 → RoundLink text fits all (opened O.Function i a c) (t 1) v (atoms_in f) → RoundFree s p v
+        → t 1 ≡ t 0 + 1 → RoundLink text fits all (entered O.Function i a c) (t 1) v (atoms_in f) → RoundFree s p v
     round_free p (of_round_functions ps qs u e cs bs) f own w h = by_found f own h
       where
         none : {atoms : List Atom} → None ≡ Some atoms → ⊥
         none e = cc
 
         by_found : (f : Found) → ((how : Head) → s ≡ Some (headed how) → (atoms : List Atom) × (sequence_in (from m f) ≡ Some atoms) × FitsHead atoms (headed how))
-            → RoundLink text fits all (opened O.Function i a c) (t 1) (of_round_functions ps qs u e cs bs) (atoms_in f) → is_reserved (heading s (round_pat p ps) qs).name ≡ false
+            → RoundLink text fits all (entered O.Function i a c) (t 1) (of_round_functions ps qs u e cs bs) (atoms_in f) → is_reserved (heading s (round_pat p ps) qs).name ≡ false
         by_found (several [] typed) own h = heading_none s (round_pat p ps) qs (λ how k. none (own how k).1)
         by_found (several (b ∷ others) typed) own h =
-            clause_free s a (t 1) h.0 h.0 (round_pat p ps) qs (atom b.name m b.inner) others (opened O.Function i a c) refl refl (omega (arith, begun, w)) (omega arith) shape
+            clause_free s a (t 1) h.0 h.0 (round_pat p ps) qs (atom b.name m b.inner) others (entered O.Function i a c) refl refl (omega (arith, begun, w)) (omega arith) shape
             (λ how k. let o = own how k in subst (λ z. FitsHead z (headed how)) (sym (same_Some _ _ o.1)) o.2)
-            (λ k. round_name (Marked text fits all (opened O.Function i a c) (t 1) h.0) p ps)
+            (λ k. round_name (Marked text fits all (entered O.Function i a c) (t 1) h.0) p ps)
             (λ k. round_bracket text fits all (Second text fits all (a + 1) (t 1) h.0) p ps (subst (λ n. OneName (Second text fits all n (t 1) h.0) ps) (let g : t 1 ≡ a + 1 = omega (arith, w, begun) in g) (h.1 k)))
             h.2
         by_found nothing own h = heading_none s (round_pat p ps) qs (λ how k. none (own how k).1)
@@ -142,14 +142,14 @@ module _ (text : ℕ → Id) (fits : List Fit) (all : List Mark) where
         by_found (directed level others) own h = heading_none s (round_pat p ps) qs (λ how k. none (own how k).1)
     round_free p _ f own w h = tt
 
-    pub head_free : (r : DeclarationRule) (p : Place) → IsOwn r → PartsLink text fits all (opened (opening_of (G.Declarations r)) i a c) t vs fs (G.Declarations r) → HeadFree s p r vs
+    pub head_free : (r : DeclarationRule) (p : Place) → IsOwn r → PartsLink text fits all (entered (entry_of (G.Declarations r)) i a c) t vs fs (G.Declarations r) → HeadFree s p r vs
     head_free D.FunDecOpenRound p own h = let w = h 0 refl in round_free p (at vs 1) (get_or (take 2 fs) 1 nothing) own (omega (arith, w)) (h 1 refl)
     head_free D.FunDecBareAtPat p own h =
-        clause_free s a (t 0) (t 1) (t 1) (pat_in (at vs 0)) (right_side_in (at vs 1)).pats (atom_in (get_or (take 4 fs) 0 nothing)) (atoms_in (get_or (take 4 fs) 1 nothing)) (opened O.Function i a c) refl refl (omega (arith, begun)) (omega arith) shape
+        clause_free s a (t 0) (t 1) (t 1) (pat_in (at vs 0)) (right_side_in (at vs 1)).pats (atom_in (get_or (take 4 fs) 0 nothing)) (atoms_in (get_or (take 4 fs) 1 nothing)) (entered O.Function i a c) refl refl (omega (arith, begun)) (omega arith) shape
         (λ how k. let o = own how k in subst (λ z. FitsHead z (headed how)) (sym (same_Some _ _ o.1)) o.2) (h 0 refl).0
         (λ k. subst (λ n. BracketName (Second text fits all n (t 0) (t 1)) (pat_in (at vs 0))) (let g : t 0 + 1 ≡ a + 1 = omega (arith, begun) in g) ((h 0 refl).1 k)) (h 1 refl)
     head_free D.ClausesAtPat p own h =
-        clause_free s a (t 0) (t 1) (t 1) (pat_in (at vs 0)) (right_side_in (at vs 1)).pats (atom_in (get_or (take 3 fs) 0 nothing)) (atoms_in (get_or (take 3 fs) 1 nothing)) (opened O.Function i a c) refl refl (omega (arith, begun)) (omega arith) shape
+        clause_free s a (t 0) (t 1) (t 1) (pat_in (at vs 0)) (right_side_in (at vs 1)).pats (atom_in (get_or (take 3 fs) 0 nothing)) (atoms_in (get_or (take 3 fs) 1 nothing)) (entered O.Function i a c) refl refl (omega (arith, begun)) (omega arith) shape
         (λ how k. let o = own how k in subst (λ z. FitsHead z (headed how)) (sym (same_Some _ _ o.1)) o.2) (h 0 refl).0
         (λ k. subst (λ n. BracketName (Second text fits all n (t 0) (t 1)) (pat_in (at vs 0))) (let g : t 0 + 1 ≡ a + 1 = omega (arith, begun) in g) ((h 0 refl).1 k)) (h 1 refl)
     head_free _ p own h = tt

@@ -55,11 +55,11 @@ use Rattle.sml_reach.specs.Fits.{Fit}
 use Rattle.sml_reach.specs.Reach.{first_inner}
 use Rattle.sml_flaws.specs.declared.role.Word.TheVariants as W
 use Rattle.sml_flaws.specs.declared.role.Role.TheVariants as R
-use Rattle.sml_flaws.specs.declared.role.Opening.TheVariants as O
+use Rattle.sml_flaws.specs.declared.role.Entry.TheVariants as O
 use Rattle.sml_flaws.specs.declared.mark.Context.{Context}
 use Rattle.sml_flaws.specs.declared.mark.Mark.{Mark}
-use Rattle.sml_flaws.specs.Roles.{roles_of, opening_of}
-use Rattle.sml_flaws.specs.Marks.{opened, in_role}
+use Rattle.sml_flaws.specs.Roles.{roles_of, entry_of}
+use Rattle.sml_flaws.specs.Marks.{entered, in_role}
 use Rattle.sml_flaws.specs.Flaws.{is_reserved}
 use Rattle.sml_tree_laws.proofs.SequenceFits.{FitsPattern}
 use Rattle.sml_tree_laws.proofs.RecPatterns.{is_layer}
@@ -247,11 +247,11 @@ module _ (text : ℕ → Id) (fits : List Fit) (all : List Mark) where
     IsOwn _ = Unit {0}
 
     d : Context
-    d = opened O.Sequence i a c
+    d = entered O.Sequence i a c
 
-    first_second : (lo hi hi' : ℕ) (qs : Pats Place) (atoms : List Atom) → t 0 ≤ lo → hi ≤ hi' → First (Marked (in_role R.Next (opened O.Sequence i a c)) lo hi) qs atoms → First (Second (t 0) (t 0) hi') qs atoms
+    first_second : (lo hi hi' : ℕ) (qs : Pats Place) (atoms : List Atom) → t 0 ≤ lo → hi ≤ hi' → First (Marked (in_role R.Next (entered O.Sequence i a c)) lo hi) qs atoms → First (Second (t 0) (t 0) hi') qs atoms
     first_second lo hi hi' qs atoms l r h =
-        first_more (Marked (in_role R.Next (opened O.Sequence i a c)) lo hi) (Second (t 0) (t 0) hi') (marked_second (in_role R.Next (opened O.Sequence i a c)) (t 0) lo hi (t 0) hi' (sym begun) (omega arith) l r) qs atoms h
+        first_more (Marked (in_role R.Next (entered O.Sequence i a c)) lo hi) (Second (t 0) (t 0) hi') (marked_second (in_role R.Next (entered O.Sequence i a c)) (t 0) lo hi (t 0) hi' (sym begun) (omega arith) l r) qs atoms h
 
     up : (k : ℕ) → t 0 ≤ t k
     up zero = omega arith
@@ -292,7 +292,7 @@ module _ (text : ℕ → Id) (fits : List Fit) (all : List Mark) where
     abbrev Made : PatternRule → Place → Type 0
     Made r p = Link (Of (part_of (G.Patterns r))) c (t 0) (t (length (right_side (G.Patterns r)))) (pattern_phrase r p s vs) (left (deed_of (G.Patterns r)) (found_at text m (G.Patterns r) fs))
 
-    pub pattern_link : (r : PatternRule) (p : Place) → IsOwn r → PartsLink (opened (opening_of (G.Patterns r)) i a c) t vs fs (G.Patterns r) → Made r p
+    pub pattern_link : (r : PatternRule) (p : Place) → IsOwn r → PartsLink (entered (entry_of (G.Patterns r)) i a c) t vs fs (G.Patterns r) → Made r p
     pattern_link P.PatOpenRound p own h =
         let l = up 2 in
         open_apply (round_pat p (pats_in (at vs 1))) (pats_of (at vs 2)) (colons_in (at vs 2)) (atom phrase m (inner_in (get_or (take 3 fs) 1 nothing))) (get_or (take 3 fs) 2 nothing) (round_apply (Second (t 0) (t 0) (t 3)) p (pats_in (at vs 1))) own
@@ -352,7 +352,7 @@ module _ (text : ℕ → Id) (fits : List Fit) (all : List Mark) where
         λ i. round_one (pat_in (at vs 0)) (pats_in (at vs 1)) (Second (t 0) (t 0) (t 1)) (Second (t 0) (t 0) (t 2)) (second_wider (t 0) (t 0) (t 0) (t 1) (t 0) (t 2) refl (omega arith) r) (h 0 refl (word_names (get_or (take 2 fs) 0 nothing) (get_or (take 2 fs) 1 nothing) i))
     pattern_link _ p own h = tt
 
-    pub declaration_link : (r : DeclarationRule) (p : Place) → (r ≡ D.AtPatsNone → Barred text fits all c.sequence (t 0)) → PartsLink (opened (opening_of (G.Declarations r)) i a c) t vs fs (G.Declarations r)
+    pub declaration_link : (r : DeclarationRule) (p : Place) → (r ≡ D.AtPatsNone → Barred text fits all c.sequence (t 0)) → PartsLink (entered (entry_of (G.Declarations r)) i a c) t vs fs (G.Declarations r)
         → Link (Of (part_of (G.Declarations r))) c (t 0) (t (length (right_side (G.Declarations r)))) (declaration_phrase r p s vs) (left (deed_of (G.Declarations r)) (found_at text m (G.Declarations r) fs))
     declaration_link D.AtPatsNone p bars h = (tt, bars refl)
     declaration_link D.AtPatsAtPat p bars h =

@@ -37,9 +37,9 @@ use Rattle.sml_bare_mods.specs.SpecificationRules.{types, datatypes}
 use Rattle.sml_bare.specs.RulePhrases.{rule_phrase}
 use Rattle.sml_flaws.specs.declared.role.Space.{Space}
 use Rattle.sml_flaws.specs.declared.role.Space.TheVariants as S
-use Rattle.sml_flaws.specs.declared.role.Opening.{Opening}
-use Rattle.sml_flaws.specs.declared.role.Opening.TheVariants as O
-use Rattle.sml_flaws.specs.Roles.{opening_of}
+use Rattle.sml_flaws.specs.declared.role.Entry.{Entry}
+use Rattle.sml_flaws.specs.declared.role.Entry.TheVariants as O
+use Rattle.sml_flaws.specs.Roles.{entry_of}
 use Rattle.sml_tree_laws.specs.WellBound.{MayBeValue, MayBeConstructor}
 use Rattle.sml_tree_laws.proofs.PhrasesBound.{plain, exception, class_of, Fits, PhraseBound}
 use Rattle.sml_tree_laws.proofs.PartsBound.{PartsBound}
@@ -119,7 +119,7 @@ made_fits (G.Types rule) p s vs = type_fits rule p s vs
 
 -- a phrase that opens a group binds nothing in it to those round it
 
-abbrev pub is_group : Opening → Bool
+abbrev pub is_group : Entry → Bool
 is_group O.Group = true
 is_group O.Types = true
 is_group _ = false
@@ -127,7 +127,7 @@ is_group _ = false
 module _ (B : Space → ℕ → ℕ → Id → Type 0) (g g' lo hi : ℕ) where
   abbrev Same : Rule → Place → Option Shape → List Phrase → Type 0
   Same rule p s vs =
-      is_group (opening_of rule) ≡ true → PhraseBound B (class_of (Of (part_of rule))) g lo hi (rule_phrase rule p s vs) → PhraseBound B (class_of (Of (part_of rule))) g' lo hi (rule_phrase rule p s vs)
+      is_group (entry_of rule) ≡ true → PhraseBound B (class_of (Of (part_of rule))) g lo hi (rule_phrase rule p s vs) → PhraseBound B (class_of (Of (part_of rule))) g' lo hi (rule_phrase rule p s vs)
 
   types_same : (p : Place) (v : Phrase) → PhraseBound B plain g lo hi (types p v) → PhraseBound B plain g' lo hi (types p v)
   types_same p (of_typ_binds []) h = tt

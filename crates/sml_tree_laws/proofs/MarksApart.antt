@@ -28,16 +28,16 @@ use Rattle.sml_flaws.specs.declared.role.Word.{Word as Wd}
 use Rattle.sml_flaws.specs.declared.role.Word.TheVariants as W
 use Rattle.sml_flaws.specs.declared.role.Role.{Role}
 use Rattle.sml_flaws.specs.declared.role.Role.TheVariants as Q
-use Rattle.sml_flaws.specs.declared.role.Opening.{Opening}
-use Rattle.sml_flaws.specs.declared.role.Opening.TheVariants as O
+use Rattle.sml_flaws.specs.declared.role.Entry.{Entry}
+use Rattle.sml_flaws.specs.declared.role.Entry.TheVariants as O
 use Rattle.sml_flaws.specs.declared.mark.Context.{Context}
 use Rattle.sml_flaws.specs.declared.mark.Mark.{Mark}
 use Rattle.sml_flaws.specs.declared.mark.Mark.TheVariants as Mk
-use Rattle.sml_flaws.specs.Roles.{roles_of, opening_of}
-use Rattle.sml_flaws.specs.Marks.{opened, in_role, contexts_from, is_constant, word_mark, rule_mark, parts_of, marks_of}
+use Rattle.sml_flaws.specs.Roles.{roles_of, entry_of}
+use Rattle.sml_flaws.specs.Marks.{entered, in_role, contexts_from, is_constant, word_mark, rule_mark, parts_of, marks_of}
 use Rattle.sml_tree_laws.proofs.SequenceTokens.{is_quiet, ahead, more_ahead, ahead_lower}
 use Rattle.sml_tree_laws.proofs.BoundWalk.{width_of}
-use Rattle.sml_tree_laws.proofs.Walk.{Goes, opened_word}
+use Rattle.sml_tree_laws.proofs.Walk.{Goes, entered_word}
 
 -- a context for each symbol
 abbrev pub Enough : List Symbol → List Context → Type 0
@@ -103,7 +103,7 @@ abbrev any_in : List Role → ℕ → List Symbol → Bool
 any_in roles index [] = false
 any_in roles index (x ∷ side) = part_in (get_or roles index Q.Same) x || any_in roles (suc index) side
 
-abbrev opens_sequence : Opening → Bool
+abbrev opens_sequence : Entry → Bool
 opens_sequence O.Sequence = true
 opens_sequence O.Function = true
 opens_sequence O.Clause = true
@@ -138,7 +138,7 @@ vids_right roles index [] = true
 vids_right roles index (x ∷ side) = implies (role_atom (get_or roles index Q.Same)) (is_vid x) && vids_right roles (suc index) side
 
 abbrev takes_many : Rule → Bool
-takes_many r = is_many (Of (part_of r)) || opens_sequence (opening_of r)
+takes_many r = is_many (Of (part_of r)) || opens_sequence (entry_of r)
 
 right_so : (r : Rule) → parts_right (takes_many r) false false (roles_of r) 0 (right_side r) ≡ true
 right_so r = each_rule (λ r. parts_right (takes_many r) false false (roles_of r) 0 (right_side r)) refl r
@@ -146,11 +146,11 @@ right_so r = each_rule (λ r. parts_right (takes_many r) false false (roles_of r
 vids_so : (r : Rule) → vids_right (roles_of r) 0 (right_side r) ≡ true
 vids_so r = each_rule (λ r. vids_right (roles_of r) 0 (right_side r)) refl r
 
-inside_so : (r : Rule) → any_in (roles_of r) 0 (right_side r) ≡ true → (is_part (Of (part_of r)) || opens_sequence (opening_of r)) ≡ true
-inside_so r = implied _ _ (each_rule (λ r. implies (any_in (roles_of r) 0 (right_side r)) (is_part (Of (part_of r)) || opens_sequence (opening_of r))) refl r)
+inside_so : (r : Rule) → any_in (roles_of r) 0 (right_side r) ≡ true → (is_part (Of (part_of r)) || opens_sequence (entry_of r)) ≡ true
+inside_so r = implied _ _ (each_rule (λ r. implies (any_in (roles_of r) 0 (right_side r)) (is_part (Of (part_of r)) || opens_sequence (entry_of r))) refl r)
 
-loud_so : (r : Rule) → opens_sequence (opening_of r) ≡ true → not (is_quiet (part_of r)) ≡ true
-loud_so r = implied _ _ (each_rule (λ r. implies (opens_sequence (opening_of r)) (not (is_quiet (part_of r)))) refl r)
+loud_so : (r : Rule) → opens_sequence (entry_of r) ≡ true → not (is_quiet (part_of r)) ≡ true
+loud_so r = implied _ _ (each_rule (λ r. implies (opens_sequence (entry_of r)) (not (is_quiet (part_of r)))) refl r)
 
 abbrev of_names : Rule → Bool
 of_names (G.Names rule) = true
@@ -219,19 +219,19 @@ in_word Q.Next x d h = h
 in_word Q.Expression x d h = h
 in_word (Q.Word w) x d h = or_second (is_atom d.word) (is_atom w || is_part x) h
 
--- contexts opened or not
+-- contexts entered or not
 
-opened_not : (o : Opening) (i a n : ℕ) (c : Context) → opens_sequence o ≡ true → n < a → (opened o i a c).sequence ≡ n → ⊥
-opened_not O.Sequence i a n c h l e = omega (arith, l, e)
-opened_not O.Function i a n c h l e = omega (arith, l, e)
-opened_not O.Clause i a n c h l e = omega (arith, l, e)
-opened_not O.Nothing i a n c h l e = absurd (false≢true h)
-opened_not O.Group i a n c h l e = absurd (false≢true h)
-opened_not O.Types i a n c h l e = absurd (false≢true h)
-opened_not O.Value i a n c h l e = absurd (false≢true h)
-opened_not O.Recursive i a n c h l e = absurd (false≢true h)
+entered_not : (o : Entry) (i a n : ℕ) (c : Context) → opens_sequence o ≡ true → n < a → (entered o i a c).sequence ≡ n → ⊥
+entered_not O.Sequence i a n c h l e = omega (arith, l, e)
+entered_not O.Function i a n c h l e = omega (arith, l, e)
+entered_not O.Clause i a n c h l e = omega (arith, l, e)
+entered_not O.Nothing i a n c h l e = absurd (false≢true h)
+entered_not O.Group i a n c h l e = absurd (false≢true h)
+entered_not O.Types i a n c h l e = absurd (false≢true h)
+entered_not O.Value i a n c h l e = absurd (false≢true h)
+entered_not O.Recursive i a n c h l e = absurd (false≢true h)
 
-kept : (o : Opening) (i a : ℕ) (c : Context) → opens_sequence o ≡ false → ((opened o i a c).sequence ≡ c.sequence) × ((opened o i a c).index ≡ c.index)
+kept : (o : Entry) (i a : ℕ) (c : Context) → opens_sequence o ≡ false → ((entered o i a c).sequence ≡ c.sequence) × ((entered o i a c).index ≡ c.index)
 kept O.Nothing i a c h = (refl, refl)
 kept O.Group i a c h = (refl, refl)
 kept O.Types i a c h = (refl, refl)
@@ -241,7 +241,7 @@ kept O.Sequence i a c h = absurd (false≢true (sym h))
 kept O.Function i a c h = absurd (false≢true (sym h))
 kept O.Clause i a c h = absurd (false≢true (sym h))
 
-not_quiet : (r : Rule) (p : Part) (ss : List Symbol) → part_of r ≡ p → opens_sequence (opening_of r) ≡ true → ahead (Of p ∷ ss) ≡ 0
+not_quiet : (r : Rule) (p : Part) (ss : List Symbol) → part_of r ≡ p → opens_sequence (entry_of r) ≡ true → ahead (Of p ∷ ss) ≡ 0
 not_quiet r p ss same h = ap (λ b. if b then 1 else 0) (go (is_quiet p) (subst (λ q. not (is_quiet q) ≡ true) same (loud_so r h)))
   where
     go : (b : Bool) → not b ≡ true → b ≡ false
@@ -274,27 +274,27 @@ module _ (n j : ℕ) (d : Context) (flag : Bool) (h : flag ≡ true → d.sequen
 
 avoid_parts : (n j : ℕ) (r : Rule) (p : Part) (i a : ℕ) (c : Context) (ss : List Symbol) (cs : List Context) → part_of r ≡ p → Avoid n j (Of p ∷ ss) (c ∷ cs) → n < a + ahead (Of p ∷ ss)
     → Avoid n j (right_side r ++ ss) (parts_of i a c (Inner r) ++ cs)
-avoid_parts n j r p i a c ss cs same h l = go (opens_sequence (opening_of r)) refl
+avoid_parts n j r p i a c ss cs same h l = go (opens_sequence (entry_of r)) refl
   where
     d : Context
-    d = opened (opening_of r) i a c
+    d = entered (entry_of r) i a c
 
-    inside : opens_sequence (opening_of r) ≡ false → (is_part (Of (part_of r)) || opens_sequence (opening_of r)) ≡ true → in_sequence (Of p) c.word ≡ true
-    inside e k = or_second (is_atom c.word) (is_part (Of p)) (subst (λ q. is_part (Of q) ≡ true) same (either (or_either (is_part (Of (part_of r))) (opens_sequence (opening_of r)) k)))
+    inside : opens_sequence (entry_of r) ≡ false → (is_part (Of (part_of r)) || opens_sequence (entry_of r)) ≡ true → in_sequence (Of p) c.word ≡ true
+    inside e k = or_second (is_atom c.word) (is_part (Of p)) (subst (λ q. is_part (Of q) ≡ true) same (either (or_either (is_part (Of (part_of r))) (opens_sequence (entry_of r)) k)))
       where
-        either : (is_part (Of (part_of r)) ≡ true) ⊎ (opens_sequence (opening_of r) ≡ true) → is_part (Of (part_of r)) ≡ true
+        either : (is_part (Of (part_of r)) ≡ true) ⊎ (opens_sequence (entry_of r) ≡ true) → is_part (Of (part_of r)) ≡ true
         either (inl k) = k
         either (inr k) = absurd (false≢true (sym e ∙ k))
 
-    go : (b : Bool) → opens_sequence (opening_of r) ≡ b → Avoid n j (right_side r ++ ss) (parts_of i a c (Inner r) ++ cs)
+    go : (b : Bool) → opens_sequence (entry_of r) ≡ b → Avoid n j (right_side r ++ ss) (parts_of i a c (Inner r) ++ cs)
     go true e =
         let none = not_quiet r p ss same e in
-        avoid_side n j (opened (opening_of r) i a c) true (λ k s. absurd (opened_not (opening_of r) i a n c e (omega (arith, l, none)) s)) (λ k. refl) (right_side r) (roles_of r) 0 ss cs (λ k. refl) h.1
+        avoid_side n j (entered (entry_of r) i a c) true (λ k s. absurd (entered_not (entry_of r) i a n c e (omega (arith, l, none)) s)) (λ k. refl) (right_side r) (roles_of r) 0 ss cs (λ k. refl) h.1
     go false e =
-        let k = kept (opening_of r) i a c e in
-        avoid_side n j (opened (opening_of r) i a c) (in_sequence (Of p) c.word)
+        let k = kept (entry_of r) i a c e in
+        avoid_side n j (entered (entry_of r) i a c) (in_sequence (Of p) c.word)
         (λ q s. let f = h.0 q (sym k.0 ∙ s) in let l = f.0 in let m = f.1 in let x = k.1 in (omega (arith, l, x), omega (arith, m, x)))
-        (λ q. or_first (is_atom c.word) (is_part (Of p)) (subst (λ w. is_atom w ≡ true) (opened_word (opening_of r) i a c) q))
+        (λ q. or_first (is_atom c.word) (is_part (Of p)) (subst (λ w. is_atom w ≡ true) (entered_word (entry_of r) i a c) q))
         (right_side r) (roles_of r) 0 ss cs (λ q. inside e (inside_so r q)) h.1
 
 -- marks
@@ -371,7 +371,7 @@ clear n j (Inner r ∷ nodes) i a (Of p ∷ ss) [] kinds g enough h l = absurd e
 clear n j (Inner r ∷ nodes) i a (Of p ∷ ss) (c ∷ cs) kinds g enough h l =
     let lower = ahead_lower r p ss g.0 in
     clear_cons n j (rule_mark r a c) (marks_of (suc i) a (parts_of i a c (Inner r) ++ cs) nodes) (λ m. rule_elsewhere n j r a c m)
-    (clear n j nodes (suc i) a (right_side r ++ ss) (parts_of i a c (Inner r) ++ cs) kinds g.2 (enough_side (right_side r) (roles_of r) 0 (opened (opening_of r) i a c) ss cs enough)
+    (clear n j nodes (suc i) a (right_side r ++ ss) (parts_of i a c (Inner r) ++ cs) kinds g.2 (enough_side (right_side r) (roles_of r) 0 (entered (entry_of r) i a c) ss cs enough)
     (avoid_parts n j r p i a c ss cs g.0 h l) (omega (arith, l, lower)))
 
 -- The contexts of what is still to come: each stands for places that none behind it does. Before all sequences that are still to
@@ -547,25 +547,25 @@ module _ (b m : ℕ) (d : Context) (many : Bool) (ss : List Symbol) (cs : List C
           either (inl e) = let n = f e in omega (arith, n)
           either (inr e) = let n = taken x e in omega (arith, n, l)
 
-abbrev opened_number : Opening → ℕ
-opened_number O.Clause = 1
-opened_number _ = 0
+abbrev entered_number : Entry → ℕ
+entered_number O.Clause = 1
+entered_number _ = 0
 
-number_so : (r : Rule) → opens_sequence (opening_of r) ≡ true → nat_lt (opened_number (opening_of r)) (ahead (right_side r)) ≡ true
-number_so r = implied _ _ (each_rule (λ r. implies (opens_sequence (opening_of r)) (nat_lt (opened_number (opening_of r)) (ahead (right_side r)))) refl r)
+number_so : (r : Rule) → opens_sequence (entry_of r) ≡ true → nat_lt (entered_number (entry_of r)) (ahead (right_side r)) ≡ true
+number_so r = implied _ _ (each_rule (λ r. implies (opens_sequence (entry_of r)) (nat_lt (entered_number (entry_of r)) (ahead (right_side r)))) refl r)
 
 single_so : (r : Rule) → is_many (Of (part_of r)) ≡ true → not (is_single (Of (part_of r))) ≡ true
 single_so r = implied _ _ (each_rule (λ r. implies (is_many (Of (part_of r))) (not (is_single (Of (part_of r))))) refl r)
 
-opened_at : (o : Opening) (i a : ℕ) (c : Context) → opens_sequence o ≡ true → ((opened o i a c).sequence ≡ a + opened_number o) × ((opened o i a c).index ≡ 0)
-opened_at O.Sequence i a c h = (omega arith, refl)
-opened_at O.Function i a c h = (omega arith, refl)
-opened_at O.Clause i a c h = (refl, refl)
-opened_at O.Nothing i a c h = absurd (false≢true h)
-opened_at O.Group i a c h = absurd (false≢true h)
-opened_at O.Types i a c h = absurd (false≢true h)
-opened_at O.Value i a c h = absurd (false≢true h)
-opened_at O.Recursive i a c h = absurd (false≢true h)
+entered_at : (o : Entry) (i a : ℕ) (c : Context) → opens_sequence o ≡ true → ((entered o i a c).sequence ≡ a + entered_number o) × ((entered o i a c).index ≡ 0)
+entered_at O.Sequence i a c h = (omega arith, refl)
+entered_at O.Function i a c h = (omega arith, refl)
+entered_at O.Clause i a c h = (refl, refl)
+entered_at O.Nothing i a c h = absurd (false≢true h)
+entered_at O.Group i a c h = absurd (false≢true h)
+entered_at O.Types i a c h = absurd (false≢true h)
+entered_at O.Value i a c h = absurd (false≢true h)
+entered_at O.Recursive i a c h = absurd (false≢true h)
 
 some_step : (side : List Symbol) → all_empty side ≡ false → 1 ≤ steps side
 some_step [] h = absurd (false≢true (sym h))
@@ -623,10 +623,10 @@ ordered_parts r p i a m c ss cs same few h = by_word (is_atom c.word) refl
     names (G.Patterns rule) e w n o = absurd (false≢true n)
     names (G.Types rule) e w n o = absurd (false≢true n)
 
-    free : is_atom c.word ≡ false → (o : Bool) → opens_sequence (opening_of r) ≡ o → any_in (roles_of r) 0 (right_side r) ≡ true
-        → ((opened (opening_of r) i a c).sequence < a + ahead (right_side r ++ ss)) × ((opened (opening_of r) i a c).index ≤ m) × Later (not (takes_many r)) (opened (opening_of r) i a c) ss cs
+    free : is_atom c.word ≡ false → (o : Bool) → opens_sequence (entry_of r) ≡ o → any_in (roles_of r) 0 (right_side r) ≡ true
+        → ((entered (entry_of r) i a c).sequence < a + ahead (right_side r ++ ss)) × ((entered (entry_of r) i a c).index ≤ m) × Later (not (takes_many r)) (entered (entry_of r) i a c) ss cs
     free w true e q =
-        let at = opened_at (opening_of r) i a c e in
+        let at = entered_at (entry_of r) i a c e in
         let s = at.0 in
         let j = at.1 in
         let none = not_quiet r p ss same e in
@@ -634,11 +634,11 @@ ordered_parts r p i a m c ss cs same few h = by_word (is_atom c.word) refl
         let more = more_ahead (right_side r) ss in (
           omega (arith, s, number, more),
           omega (arith, j),
-          subst (λ z. Later (not z) (opened (opening_of r) i a c) ss cs) (sym (or_second (is_many (Of (part_of r))) (opens_sequence (opening_of r)) e))
-              (below_nowhere (a + ahead (Of p ∷ ss)) (m + step (Of p)) (opened (opening_of r) i a c).sequence ss cs (omega (arith, s, none)) h.2),
+          subst (λ z. Later (not z) (entered (entry_of r) i a c) ss cs) (sym (or_second (is_many (Of (part_of r))) (opens_sequence (entry_of r)) e))
+              (below_nowhere (a + ahead (Of p ∷ ss)) (m + step (Of p)) (entered (entry_of r) i a c).sequence ss cs (omega (arith, s, none)) h.2),
         )
     free w false e q =
-        let k = kept (opening_of r) i a c e in
+        let k = kept (entry_of r) i a c e in
         let s = k.0 in
         let j = k.1 in
         let part = part_so (is_part (Of (part_of r))) (inside_so r q) in
@@ -648,14 +648,14 @@ ordered_parts r p i a m c ss cs same few h = by_word (is_atom c.word) refl
         let lower = ahead_lower r p ss same in (
           omega (arith, s, l, lower),
           omega (arith, j, n),
-          moved (not (takes_many r)) (opened (opening_of r) i a c) s j (subst (λ z. Later z c ss cs) (ap (λ z. z || is_single (Of p)) w ∙ subst (λ q. is_single (Of q) ≡ not (takes_many r)) same (single_or_many (is_single (Of (part_of r))) (is_many (Of (part_of r))) part (single_so r))) f.2),
+          moved (not (takes_many r)) (entered (entry_of r) i a c) s j (subst (λ z. Later z c ss cs) (ap (λ z. z || is_single (Of p)) w ∙ subst (λ q. is_single (Of q) ≡ not (takes_many r)) same (single_or_many (is_single (Of (part_of r))) (is_many (Of (part_of r))) part (single_so r))) f.2),
         )
       where
-        part_so : (z : Bool) → (z || opens_sequence (opening_of r)) ≡ true → z ≡ true
+        part_so : (z : Bool) → (z || opens_sequence (entry_of r)) ≡ true → z ≡ true
         part_so true k = refl
         part_so false k = absurd (false≢true (sym e ∙ k))
 
-        single_or_many : (x y : Bool) → (x || y) ≡ true → (y ≡ true → not x ≡ true) → x ≡ not (y || opens_sequence (opening_of r))
+        single_or_many : (x y : Bool) → (x || y) ≡ true → (y ≡ true → not x ≡ true) → x ≡ not (y || opens_sequence (entry_of r))
         single_or_many true true k f = absurd (false≢true (f refl))
         single_or_many true false k f = ap not (sym e)
         single_or_many false true k f = refl
@@ -668,8 +668,8 @@ ordered_parts r p i a m c ss cs same few h = by_word (is_atom c.word) refl
     by_word : (w : Bool) → is_atom c.word ≡ w → Ordered (a + ahead (right_side r ++ ss)) m (right_side r ++ ss) (parts_of i a c (Inner r) ++ cs)
     by_word true e = let n = and_parts _ _ (names_so r (subst (λ q. is_vid (Of q) ≡ true) (sym same) (h.1 e))) in names r refl e n.0 n.1
     by_word false e =
-        ordered_side (a + ahead (right_side r ++ ss)) m (opened (opening_of r) i a c) (takes_many r) ss cs few (subst (λ w. is_atom w ≡ false) (sym (opened_word (opening_of r) i a c)) e)
-        (right_side r) (roles_of r) 0 m false false (right_so r) (vids_so r) (free e (opens_sequence (opening_of r)) refl) (omega arith) (λ k. absurd (false≢true k)) rest
+        ordered_side (a + ahead (right_side r ++ ss)) m (entered (entry_of r) i a c) (takes_many r) ss cs few (subst (λ w. is_atom w ≡ false) (sym (entered_word (entry_of r) i a c)) e)
+        (right_side r) (roles_of r) 0 m false false (right_so r) (vids_so r) (free e (opens_sequence (entry_of r)) refl) (omega arith) (λ k. absurd (false≢true k)) rest
 
 apart_cons : (o : Option Mark) (ms : List Mark) → ((m : Mark) → o ≡ Some m → (n j : ℕ) → At n j m → Clear n j ms) → Apart ms → Apart (cons_option o ms)
 apart_cons None ms f h = h
@@ -705,7 +705,7 @@ marks_apart (Inner r ∷ nodes) i a m (Word w ∷ ss) cs kinds g enough h few = 
 marks_apart (Inner r ∷ nodes) i a m (Of p ∷ ss) [] kinds g enough h few = absurd enough
 marks_apart (Inner r ∷ nodes) i a m (Of p ∷ ss) (c ∷ cs) kinds g enough h few =
     apart_cons (rule_mark r a c) (marks_of (suc i) a (parts_of i a c (Inner r) ++ cs) nodes) (λ x e n j q. absurd (rule_elsewhere n j r a c x e q))
-    (marks_apart nodes (suc i) a m (right_side r ++ ss) (parts_of i a c (Inner r) ++ cs) kinds g.2 (enough_side (right_side r) (roles_of r) 0 (opened (opening_of r) i a c) ss cs enough)
+    (marks_apart nodes (suc i) a m (right_side r ++ ss) (parts_of i a c (Inner r) ++ cs) kinds g.2 (enough_side (right_side r) (roles_of r) 0 (entered (entry_of r) i a c) ss cs enough)
     (ordered_parts r p i a m c ss cs g.0 (omega (arith, few)) h) (let e = ap (λ q. width_of q nodes) (length-append (right_side r) ss) in omega (arith, few, e)))
 
 -- two identifiers at one place are one

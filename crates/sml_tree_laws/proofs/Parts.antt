@@ -8,9 +8,9 @@ use Rattle.sml_flaws.specs.declared.role.Word.{Word}
 use Rattle.sml_flaws.specs.declared.role.Word.TheVariants as W
 use Rattle.sml_flaws.specs.declared.role.Role.{Role}
 use Rattle.sml_flaws.specs.declared.role.Role.TheVariants as Q
-use Rattle.sml_flaws.specs.declared.role.Opening.{Opening}
-use Rattle.sml_flaws.specs.declared.role.Opening.TheVariants as O
-use Rattle.sml_flaws.specs.Roles.{roles_of, opening_of}
+use Rattle.sml_flaws.specs.declared.role.Entry.{Entry}
+use Rattle.sml_flaws.specs.declared.role.Entry.TheVariants as O
+use Rattle.sml_flaws.specs.Roles.{roles_of, entry_of}
 use Rattle.sml_tree_laws.proofs.Phrases.{PhraseSits}
 
 module _ (L V R : Id → Type 0) where
@@ -30,24 +30,24 @@ module _ (L V R : Id → Type 0) where
   PartsSit rule vs = (k : ℕ) → nat_lt k (length (right_side rule)) ≡ true → PartSits (get_or (roles_of rule) k Q.Same) (at vs k)
 
 -- whether a phrase by a rule scopes type variables: a value declaration, and types and datatypes
-abbrev pub opens_scope : Opening → Bool
+abbrev pub opens_scope : Entry → Bool
 opens_scope O.Value = true
 opens_scope O.Types = true
 opens_scope _ = false
 
 abbrev pub scopes : Rule → Bool
-scopes rule = opens_scope (opening_of rule)
+scopes rule = opens_scope (entry_of rule)
 
-abbrev pub is_value : Opening → Bool
+abbrev pub is_value : Entry → Bool
 is_value O.Value = true
 is_value _ = false
 
-abbrev pub is_types : Opening → Bool
+abbrev pub is_types : Entry → Bool
 is_types O.Types = true
 is_types _ = false
 
 abbrev pub opens_value : Rule → Bool
-opens_value rule = is_value (opening_of rule)
+opens_value rule = is_value (entry_of rule)
 
 abbrev pub opens_types : Rule → Bool
-opens_types rule = is_types (opening_of rule)
+opens_types rule = is_types (entry_of rule)

@@ -22,8 +22,8 @@ use Rattle.sml_pat_sequences.specs.RoundPatterns.{round_pat}
 use Rattle.sml_bare_decs.specs.FunctionRules.{RightSide, heading, right_side_in, clause, function_from, round_functions}
 use Rattle.sml_bare_decs.specs.DeclarationRules.{Values, Constructors, values_in, functions_in, joined, datatypes_dec, datatype_of, datatype_from, exception_of, round_value, long_if_any, constructors_if_any, declaration_phrase}
 use Rattle.sml_flaws.specs.declared.mark.Context.{Context}
-use Rattle.sml_flaws.specs.Roles.{opening_of}
-use Rattle.sml_flaws.specs.Marks.{opened}
+use Rattle.sml_flaws.specs.Roles.{entry_of}
+use Rattle.sml_flaws.specs.Marks.{entered}
 use Rattle.sml_flaws.specs.Flaws.{is_reserved}
 use Rattle.sml_tree_laws.specs.Recursive.{RecBinds, ExpRec, ExpsRec, RulesRec, DecRec, BindsRec}
 use Rattle.sml_tree_laws.proofs.RecPhrases.{PhraseRec, FunctionRec, FunctionsRec, ClausesRec, exp_rec, decs_rec, bind_rec, binds_rec, clauses_rec}
@@ -135,7 +135,7 @@ round_functions_rec s p v free h = h
 
 -- used: whether a sequence uses its atomic phrase with an index
 module _ (used : ℕ → ℕ → Bool) (text : ℕ → Id) where
-  pub declaration_pat : (rule : DeclarationRule) (i a : ℕ) (c : Context) (t : ℕ → ℕ) (p : Place) (s : Option Shape) (vs : List Phrase) → PartsPat used text (opened (opening_of (G.Declarations rule)) i a c) t (G.Declarations rule) vs
+  pub declaration_pat : (rule : DeclarationRule) (i a : ℕ) (c : Context) (t : ℕ → ℕ) (p : Place) (s : Option Shape) (vs : List Phrase) → PartsPat used text (entered (entry_of (G.Declarations rule)) i a c) t (G.Declarations rule) vs
       → PatRec used text (Of (part_of (G.Declarations rule))) c (t 0) (t (length (right_side (G.Declarations rule)))) (declaration_phrase rule p s vs)
   declaration_pat ValBindRec i a c t p s vs h = λ b. tt
   declaration_pat ValBindPat i a c t p s vs h = λ b. ((h 0 refl).0 b, (h 3 refl).0 b)
@@ -144,7 +144,7 @@ module _ (used : ℕ → ℕ → Bool) (text : ℕ → Id) where
   declaration_pat _ i a c t p s vs h = tt
 
   pub declaration_rec : (rule : DeclarationRule) (i a : ℕ) (c : Context) (t : ℕ → ℕ) (p : Place) (s : Option Shape) (vs : List Phrase) → PartsRec (G.Declarations rule) vs
-      → PartsPat used text (opened (opening_of (G.Declarations rule)) i a c) t (G.Declarations rule) vs → HeadFree s p rule vs → PhraseRec (declaration_phrase rule p s vs)
+      → PartsPat used text (entered (entry_of (G.Declarations rule)) i a c) t (G.Declarations rule) vs → HeadFree s p rule vs → PhraseRec (declaration_phrase rule p s vs)
   declaration_rec DecLocal i a c t p s vs h k free = (decs_rec (at vs 1) (h 1 refl), decs_rec (at vs 3) (h 3 refl))
   declaration_rec CoreDecVal i a c t p s vs h k free = values_rec (at vs 1) (h 1 refl)
   declaration_rec CoreDecFun i a c t p s vs h k free = let f = functions_rec (at vs 1) (h 1 refl) in (f.0, tt, f.1)

@@ -33,10 +33,10 @@ use Rattle.sml_phrases.specs.Phrases.{Phrase, of_exp}
 use Rattle.sml_reach.specs.Events.{text_at, events_of}
 use Rattle.sml_reach.specs.Fits.{Fit}
 use Rattle.sml_reach.specs.Idents.{long_of_parts, long_id}
-use Rattle.sml_flaws.specs.declared.role.Opening.TheVariants as O
+use Rattle.sml_flaws.specs.declared.role.Entry.TheVariants as O
 use Rattle.sml_flaws.specs.declared.mark.Context.{Context}
 use Rattle.sml_flaws.specs.declared.mark.Mark.{Mark}
-use Rattle.sml_flaws.specs.Marks.{start, opened, marks_of}
+use Rattle.sml_flaws.specs.Marks.{start, entered, marks_of}
 use Rattle.sml_flaws.specs.Flaws.{flaws_of, scoped_of, flaws}
 use Rattle.sml_bare.specs.RulePhrases.{declaration}
 use Rattle.sml_tree_laws.specs.Recursive.{TopRec}
@@ -176,4 +176,4 @@ module _ (unit : List ℕ) (tokens : List Token) (n : ℕ) (fits : List Fit) (ow
   next_recursive kinds leads clean g p = declared_rec p (made unit tokens n fits own left reads) (first_rec U.AfterTopTop clean Top start (start ∷ []) kinds leads g (λ e. false≢true e) (λ e. false≢true e) refl)
 
   pub exp_recursive : (kinds : List Kind) → Leads (own ++ past) (Of Exp ∷ old) kinds next (Of rest ∷ []) → flaws (text_at unit tokens) fits n (Inner (Units U.StartExp) ∷ own) ≡ [] → Goes own (Of Exp ∷ []) (kinds_of left) → (p : Place) → TopRec (declaration p (made unit tokens n fits own left reads))
-  exp_recursive kinds leads clean g p = let c = opened O.Value 0 n start in declared_rec p (made unit tokens n fits own left reads) (first_rec U.StartExp clean Exp c (c ∷ []) kinds leads g (λ e. false≢true e) (λ e. false≢true e) refl)
+  exp_recursive kinds leads clean g p = let c = entered O.Value 0 n start in declared_rec p (made unit tokens n fits own left reads) (first_rec U.StartExp clean Exp c (c ∷ []) kinds leads g (λ e. false≢true e) (λ e. false≢true e) refl)

@@ -29,10 +29,10 @@ use Rattle.sml_bare_pats.specs.PatternRules.{list_pat, from_vid, op_from_vid, be
 use Rattle.sml_bare_decs.specs.DeclarationRules.{values_in}
 use Rattle.sml_flaws.specs.declared.role.Word.TheVariants as W
 use Rattle.sml_flaws.specs.declared.role.Role.TheVariants as Q
-use Rattle.sml_flaws.specs.declared.role.Opening.TheVariants as O
+use Rattle.sml_flaws.specs.declared.role.Entry.TheVariants as O
 use Rattle.sml_flaws.specs.declared.mark.Context.{Context}
-use Rattle.sml_flaws.specs.Roles.{roles_of, opening_of}
-use Rattle.sml_flaws.specs.Marks.{opened, next, in_role}
+use Rattle.sml_flaws.specs.Roles.{roles_of, entry_of}
+use Rattle.sml_flaws.specs.Marks.{entered, next, in_role}
 use Rattle.sml_flaws.specs.Flaws.{is_reserved}
 use Rattle.sml_tree_laws.specs.Recursive.{RecPat, RecPats, RecPatFields, RecBinds}
 use Rattle.sml_tree_laws.proofs.RecSequences.{AtomRec, rec_atom}
@@ -143,7 +143,7 @@ module _ (used : ℕ → ℕ → Bool) (text : ℕ → Id) where
   abbrev PatMade : Rule → Context → (ℕ → ℕ) → Phrase → Type 0
   PatMade rule c t v = PatRec (Of (part_of rule)) c (t 0) (t (length (right_side rule))) v
 
-  pub name_pat : (rule : NameRule) (i a : ℕ) (c : Context) (t : ℕ → ℕ) (p : Place) (vs : List Phrase) → PartsPat (opened (opening_of (G.Names rule)) i a c) t (G.Names rule) vs → PatMade (G.Names rule) c t (name_phrase rule p vs)
+  pub name_pat : (rule : NameRule) (i a : ℕ) (c : Context) (t : ℕ → ℕ) (p : Place) (vs : List Phrase) → PartsPat (entered (entry_of (G.Names rule)) i a c) t (G.Names rule) vs → PatMade (G.Names rule) c t (name_phrase rule p vs)
   name_pat N.VidAlphanumeric i a c t p vs h = (h 0 refl).0
   name_pat N.VidSymbolic i a c t p vs h = (h 0 refl).0
   name_pat N.VidStar i a c t p vs h = (h 0 refl).0
@@ -223,7 +223,7 @@ module _ (used : ℕ → ℕ → Bool) (text : ℕ → Id) where
     behind_op_rec d lo hi p _ b n e l r w k = absurd k
 
     abbrev Sides : PatternRule → List Phrase → Type 0
-    Sides r vs = PartsPat (opened (opening_of (G.Patterns r)) i a c) t (G.Patterns r) vs
+    Sides r vs = PartsPat (entered (entry_of (G.Patterns r)) i a c) t (G.Patterns r) vs
 
     abbrev Few : PatternRule → Type 0
     Few r = t (length (right_side (G.Patterns r))) ≤ a + 1048576
@@ -238,8 +238,8 @@ module _ (used : ℕ → ℕ → Bool) (text : ℕ → Id) where
         let n = two_on in
         begun_rec (round_pat p (pats_in (at vs 1))) (atoms_in (at vs 2)) (colons_in (at vs 2)) (omega (arith, len, l, n, begun)) (round_rec p (pats_in (at vs 1)) ((h 1 refl).0 b)) (k.0.0 b)
     by_rule PatBarePat p vs same l w h = (h 0 refl).0
-    by_rule BarePatVid p vs same l w h = λ b. let m = mono 0 in from_vid_rec (in_role Q.Next (opened O.Sequence i a c)) (t 1) (t 2) p (name_in (at vs 0)) (at vs 1) b refl refl (omega (arith, m, begun)) l ((h 0 refl).0.2 refl b) w (h 1 refl).0
-    by_rule BarePatOp p vs same l w h = λ b. let m = mono 0 in behind_op_rec (opened O.Sequence i a c) (t 1) (t 2) p (at vs 1) b refl refl (omega (arith, m, begun)) l w (h 1 refl).0
+    by_rule BarePatVid p vs same l w h = λ b. let m = mono 0 in from_vid_rec (in_role Q.Next (entered O.Sequence i a c)) (t 1) (t 2) p (name_in (at vs 0)) (at vs 1) b refl refl (omega (arith, m, begun)) l ((h 0 refl).0.2 refl b) w (h 1 refl).0
+    by_rule BarePatOp p vs same l w h = λ b. let m = mono 0 in behind_op_rec (entered O.Sequence i a c) (t 1) (t 2) p (at vs 1) b refl refl (omega (arith, m, begun)) l w (h 1 refl).0
     by_rule BarePatOtherAtPat p vs same l w h = λ b.
         let k = h 1 refl in
         let len = k.0.1 in

@@ -57,8 +57,8 @@ use Rattle.sml_flaws.specs.declared.role.Role.TheVariants as Roles
 use Rattle.sml_flaws.specs.declared.mark.Context.{Context}
 use Rattle.sml_flaws.specs.declared.mark.Mark.{Mark}
 use Rattle.sml_flaws.specs.declared.mark.Mark.TheVariants as Mk
-use Rattle.sml_flaws.specs.Roles.{roles_of, opening_of}
-use Rattle.sml_flaws.specs.Marks.{start, opened, next, in_role, word_mark, rule_mark, mark_at, parts_of, marks_of}
+use Rattle.sml_flaws.specs.Roles.{roles_of, entry_of}
+use Rattle.sml_flaws.specs.Marks.{start, entered, next, in_role, word_mark, rule_mark, mark_at, parts_of, marks_of}
 use Rattle.sml_flaws.specs.Known.{is_used_in, is_used}
 use Rattle.sml_flaws.specs.Flaws.{position, is_reserved, flaws_of}
 use Rattle.sml_bare.specs.Derivations.{Source, place_at, token_phrase, word_phrase, shape_from, before_sequence, made_by, phrases_of}
@@ -246,7 +246,7 @@ module _ (s : Source) (tokens : List Token) (all : List Mark) (own : (n : ℕ) �
 
   module _ (i a n m : ℕ) (c : Context) (t : ℕ → ℕ) (vs : List Phrase) (fs : List Found) (rest : List Mark) (at_token : a ≡ s.begun + n) (same : m ≡ a) (begun : t 0 ≡ a) (mono : (k : ℕ) → t k ≤ t (suc k)) where
     abbrev Parts : Rule → Type 0
-    Parts r = (k : ℕ) → k < length (right_side r) → Claim (symbol (right_side r) k) (in_role (get_or (roles_of r) k Roles.Same) (opened (opening_of r) i a c)) (t k) (t (suc k)) (at vs k) (get_or fs k nothing)
+    Parts r = (k : ℕ) → k < length (right_side r) → Claim (symbol (right_side r) k) (in_role (get_or (roles_of r) k Roles.Same) (entered (entry_of r) i a c)) (t k) (t (suc k)) (at vs k) (get_or fs k nothing)
 
     -- no sequence begins at a node where none is found
     abbrev pub Absent : Rule → Type 0
@@ -262,7 +262,7 @@ module _ (s : Source) (tokens : List Token) (all : List Mark) (own : (n : ℕ) �
     phrases : (r : Rule) → Parts r → PartsRec r vs
     phrases r h k b = (h k (ltb-true k (length (right_side r)) b)).0
 
-    pats : (r : Rule) → Parts r → PartsPat used text (opened (opening_of r) i a c) t r vs
+    pats : (r : Rule) → Parts r → PartsPat used text (entered (entry_of r) i a c) t r vs
     pats r h k b = let x = h k (ltb-true k (length (right_side r)) b) in (x.1, x.2)
 
     puns : (rule : PatternRule) → ((m : Mark) → Stands m (cons_option (rule_mark (G.Patterns rule) a c) rest) → Stands m all) → c.binds ≡ true → rule ≡ P.RowRestTyped → is_reserved (text (a - 1)) ≡ false
@@ -271,10 +271,10 @@ module _ (s : Source) (tokens : List Token) (all : List Mark) (own : (n : ℕ) �
         may_stand_for_itself text s.fits all clean (a - 1)
         (inc (Mk.Pun (a - 1)) (subst (λ r. Stands (Mk.Pun (a - 1)) (cons_option (rule_mark (G.Patterns r) a c) rest)) (sym same) (subst (λ q. Stands (Mk.Pun (a - 1)) (cons_option (if q then Some (Mk.Pun (a - 1)) else None) rest)) (sym b) (inl refl))))
 
-    links : (r : Rule) → Parts r → PartsLink text s.fits all (opened (opening_of r) i a c) t vs fs r
+    links : (r : Rule) → Parts r → PartsLink text s.fits all (entered (entry_of r) i a c) t vs fs r
     links r h k b =
         let l = ltb-true k (length (right_side r)) b in
-        subst (λ f. Link text s.fits all (symbol (right_side r) k) (in_role (get_or (roles_of r) k Roles.Same) (opened (opening_of r) i a c)) (t k) (t (suc k)) (at vs k) f) (sym (get_or-take (length (right_side r)) fs k nothing l)) (h k l).3
+        subst (λ f. Link text s.fits all (symbol (right_side r) k) (in_role (get_or (roles_of r) k Roles.Same) (entered (entry_of r) i a c)) (t k) (t (suc k)) (at vs k) f) (sym (get_or-take (length (right_side r)) fs k nothing l)) (h k l).3
 
     unused_at : Every (λ fit. fit.token ≡ m + 0 → ⊥) s.fits → used a 0 ≡ false
     unused_at h = none_used s.fits a 0 (every_more (λ fit. fit.token ≡ m + 0 → ⊥) (λ fit. fit.token ≡ a → ⊥) (λ fit k e. k (omega (arith, e, same))) s.fits h)
@@ -418,7 +418,7 @@ module _ (s : Source) (tokens : List Token) (all : List Mark) (own : (n : ℕ) �
       (recs nodes (suc i) n a m (right_side r ++ ss) (parts_of i a c (Inner r) ++ cs) toks kinds
       (subst (λ q. Leads (nodes ++ past) q kinds next (Of rest_part ∷ [])) (sym (append_assoc (right_side r) ss old)) leads.2)
       (subst (λ q. Coming s.unit tokens next rest_part outer s.fits m q (nodes ++ past)) (sym (append_assoc (right_side r) ss old)) (coming_inner s.unit tokens next rest_part outer s.fits r p m (ss ++ old) (nodes ++ past) kinds leads.0 leads.2 coming))
-      same at_token g.2 (enough_side (right_side r) (roles_of r) 0 (opened (opening_of r) i a c) ss cs enough) reads
+      same at_token g.2 (enough_side (right_side r) (roles_of r) 0 (entered (entry_of r) i a c) ss cs enough) reads
       (λ m st. inc m (stands_behind m (mark_at a c (Inner r)) _ st)) (before ++ cons_option (mark_at a c (Inner r)) []) (whole ∙ one_further before (mark_at a c (Inner r)) (marks_of (suc i) a (parts_of i a c (Inner r) ++ cs) nodes)) all_few)
       k h lo hi el eh
     where
@@ -449,11 +449,11 @@ module _ (s : Source) (tokens : List Token) (all : List Mark) (own : (n : ℕ) �
           (whole ∙ ap (λ q. before ++ cons_option (rule_mark q a c) (marks_of (suc i) a (parts_of i a c (Inner r) ++ cs) nodes)) e)
 
       behind : ((k : ℕ) → k < length (right_side r ++ ss) → (lo hi : ℕ) → lo ≡ a + width_of k nodes → hi ≡ a + width_of (suc k) nodes → Claim (symbol (right_side r ++ ss) k) (get_or (parts_of i a c (Inner r) ++ cs) k start) lo hi (at vs k) (get_or fs k nothing))
-          → (k : ℕ) → k < length (right_side r) → Claim (symbol (right_side r) k) (in_role (get_or (roles_of r) k Roles.Same) (opened (opening_of r) i a c)) (a + width_of k nodes) (a + width_of (suc k) nodes) (at vs k) (get_or fs k nothing)
+          → (k : ℕ) → k < length (right_side r) → Claim (symbol (right_side r) k) (in_role (get_or (roles_of r) k Roles.Same) (entered (entry_of r) i a c)) (a + width_of k nodes) (a + width_of (suc k) nodes) (at vs k) (get_or fs k nothing)
       behind deeper k b =
-          subst (λ x. Claim x (in_role (get_or (roles_of r) k Roles.Same) (opened (opening_of r) i a c)) (a + width_of k nodes) (a + width_of (suc k) nodes) (at vs k) (get_or fs k nothing)) (get_or_append_left (right_side r) ss (Word K.Comma) k b)
+          subst (λ x. Claim x (in_role (get_or (roles_of r) k Roles.Same) (entered (entry_of r) i a c)) (a + width_of k nodes) (a + width_of (suc k) nodes) (at vs k) (get_or fs k nothing)) (get_or_append_left (right_side r) ss (Word K.Comma) k b)
           (subst (λ q. Claim (symbol (right_side r ++ ss) k) q (a + width_of k nodes) (a + width_of (suc k) nodes) (at vs k) (get_or fs k nothing))
-          (context_in (roles_of r) (opened (opening_of r) i a c) 0 len cs k b ∙ ap (λ q. in_role (get_or (roles_of r) q Roles.Same) (opened (opening_of r) i a c)) (let e : 0 + k ≡ k = omega arith in e))
+          (context_in (roles_of r) (entered (entry_of r) i a c) 0 len cs k b ∙ ap (λ q. in_role (get_or (roles_of r) q Roles.Same) (entered (entry_of r) i a c)) (let e : 0 + k ≡ k = omega arith in e))
           (deeper k (below_more k (right_side r) ss b) (a + width_of k nodes) (a + width_of (suc k) nodes) refl refl))
 
       by_place : ((k : ℕ) → k < length (right_side r ++ ss) → (lo hi : ℕ) → lo ≡ a + width_of k nodes → hi ≡ a + width_of (suc k) nodes → Claim (symbol (right_side r ++ ss) k) (get_or (parts_of i a c (Inner r) ++ cs) k start) lo hi (at vs k) (get_or fs k nothing))
@@ -470,4 +470,4 @@ module _ (s : Source) (tokens : List Token) (all : List Mark) (own : (n : ℕ) �
           subst (λ f. Claim (symbol ss k) (get_or cs k start) lo hi (first (drop k (drop len vs))) f) (sym (get_or-drop len fs k nothing))
           (subst (λ q. Claim (symbol ss k) (get_or cs k start) lo hi (first q) (get_or fs (len + k) nothing)) (sym (drop-drop k len vs))
           (subst (λ y. Claim y (get_or cs k start) lo hi (at vs (len + k)) (get_or fs (len + k) nothing)) (get_or-append-add (right_side r) ss k (Word K.Comma))
-          (subst (λ q. Claim (symbol (right_side r ++ ss) (len + k)) q lo hi (at vs (len + k)) (get_or fs (len + k) nothing)) (context_behind (roles_of r) (opened (opening_of r) i a c) 0 len cs k (len + k) refl) x)))
+          (subst (λ q. Claim (symbol (right_side r ++ ss) (len + k)) q lo hi (at vs (len + k)) (get_or fs (len + k) nothing)) (context_behind (roles_of r) (entered (entry_of r) i a c) 0 len cs k (len + k) refl) x)))

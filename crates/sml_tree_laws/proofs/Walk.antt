@@ -29,14 +29,14 @@ use Rattle.sml_flaws.specs.declared.role.Word.{Word as Wd}
 use Rattle.sml_flaws.specs.declared.role.Word.TheVariants as W
 use Rattle.sml_flaws.specs.declared.role.Role.{Role}
 use Rattle.sml_flaws.specs.declared.role.Role.TheVariants as Q
-use Rattle.sml_flaws.specs.declared.role.Opening.{Opening}
-use Rattle.sml_flaws.specs.declared.role.Opening.TheVariants as O
+use Rattle.sml_flaws.specs.declared.role.Entry.{Entry}
+use Rattle.sml_flaws.specs.declared.role.Entry.TheVariants as O
 use Rattle.sml_flaws.specs.declared.mark.Context.{Context}
 use Rattle.sml_flaws.specs.declared.mark.Listed.{Listed}
 use Rattle.sml_flaws.specs.declared.mark.Mark.{Mark}
 use Rattle.sml_flaws.specs.declared.mark.Mark.TheVariants as Mk
-use Rattle.sml_flaws.specs.Roles.{roles_of, opening_of}
-use Rattle.sml_flaws.specs.Marks.{start, opened, in_role, contexts_from, word_mark, mark_at, parts_of, marks_of}
+use Rattle.sml_flaws.specs.Roles.{roles_of, entry_of}
+use Rattle.sml_flaws.specs.Marks.{start, entered, in_role, contexts_from, word_mark, mark_at, parts_of, marks_of}
 use Rattle.sml_flaws.specs.Known.{token_in}
 use Rattle.sml_flaws.specs.Flaws.{owner_in, lies_in, is_outer as is_round}
 use Rattle.sml_bare.specs.Derivations.{Source, place_at, token_phrase, word_phrase, made_by, phrases_of}
@@ -188,7 +188,7 @@ role_owner Q.Next c = refl
 role_owner Q.Expression c = refl
 role_owner (Q.Word word) c = refl
 
-plain_owner : (o : Opening) (i a : ℕ) (c : Context) → opens_scope o ≡ false → (opened o i a c).owner ≡ c.owner
+plain_owner : (o : Entry) (i a : ℕ) (c : Context) → opens_scope o ≡ false → (entered o i a c).owner ≡ c.owner
 plain_owner O.Nothing i a c h = refl
 plain_owner O.Group i a c h = refl
 plain_owner O.Types i a c h = absurd (false≢true (sym h))
@@ -198,15 +198,15 @@ plain_owner O.Sequence i a c h = refl
 plain_owner O.Function i a c h = refl
 plain_owner O.Clause i a c h = refl
 
-pub opened_word : (o : Opening) (i a : ℕ) (c : Context) → (opened o i a c).word ≡ c.word
-opened_word O.Nothing i a c = refl
-opened_word O.Group i a c = refl
-opened_word O.Types i a c = refl
-opened_word O.Value i a c = refl
-opened_word O.Recursive i a c = refl
-opened_word O.Sequence i a c = refl
-opened_word O.Function i a c = refl
-opened_word O.Clause i a c = refl
+pub entered_word : (o : Entry) (i a : ℕ) (c : Context) → (entered o i a c).word ≡ c.word
+entered_word O.Nothing i a c = refl
+entered_word O.Group i a c = refl
+entered_word O.Types i a c = refl
+entered_word O.Value i a c = refl
+entered_word O.Recursive i a c = refl
+entered_word O.Sequence i a c = refl
+entered_word O.Function i a c = refl
+entered_word O.Clause i a c = refl
 
 -- what a context is to the symbol that it is of
 pub record Fits (x : Symbol) (c : Context) : Type 0 where
@@ -240,18 +240,18 @@ fit_side (x ∷ side) roles index c ss cs f n h rest = (
 )
 
 -- the core's rules are inside value declarations
-inside : (r : Rule) (p : Part) (i a : ℕ) (c : Context) → part_of r ≡ p → not (is_outer p) ≡ true → Fits (Of p) c → is_some (opened (opening_of r) i a c).owner ≡ true → is_of_core r ≡ true
+inside : (r : Rule) (p : Part) (i a : ℕ) (c : Context) → part_of r ≡ p → not (is_outer p) ≡ true → Fits (Of p) c → is_some (entered (entry_of r) i a c).owner ≡ true → is_of_core r ≡ true
 inside r p i a c same inner fits h = go (scopes r) refl
   where
     go : (b : Bool) → scopes r ≡ b → is_of_core r ≡ true
     go true e = scopes_so r (and_from _ _ (subst (λ q. not (is_outer q) ≡ true) (sym same) inner) e)
-    go false e = subst (λ q. not (is_round_names q) ≡ true) (sym same) (fits.core (subst (λ o. is_some o ≡ true) (plain_owner (opening_of r) i a c e) h))
+    go false e = subst (λ q. not (is_round_names q) ≡ true) (sym same) (fits.core (subst (λ o. is_some o ≡ true) (plain_owner (entry_of r) i a c e) h))
 
 fit_parts : (r : Rule) (p : Part) (i a : ℕ) (c : Context) (ss : List Symbol) (cs : List Context) → part_of r ≡ p → not (is_outer p) ≡ true → Fits (Of p) c → FitAll ss cs
     → FitAll (right_side r ++ ss) (parts_of i a c (Inner r) ++ cs)
 fit_parts r p i a c ss cs same inner fits rest =
-    fit_side (right_side r) (roles_of r) 0 (opened (opening_of r) i a c) ss cs (roles_so r)
-    (subst (λ w. is_of_variable w ≡ false) (sym (opened_word (opening_of r) i a c)) (not_variable (Of p) c fits refl))
+    fit_side (right_side r) (roles_of r) 0 (entered (entry_of r) i a c) ss cs (roles_so r)
+    (subst (λ w. is_of_variable w ≡ false) (sym (entered_word (entry_of r) i a c)) (not_variable (Of p) c fits refl))
     (λ o. core_so r (inside r p i a c same inner fits o)) rest
 
 -- The marks are all of a declaration, whose source is s; its nodes end so. A value declaration lists no type variable that
@@ -391,7 +391,7 @@ module _ (s : Source) (tokens : List Token) (all : List Mark) (ends : List ℕ) 
     module _ (r : Rule) (p : Part) (i a n lo hi end : ℕ) (c : Context) (vs : List Phrase) (same : part_of r ≡ p) (inner : not (is_outer p) ≡ true) (fits : Fits (Of p) c)
         (from : lo ≤ i) (past : suc i ≤ end) (behind : end ≤ hi) (ended : get_or ends i 0 ≡ end) where
       abbrev c' : Context
-      c' = opened (opening_of r) i a c
+      c' = entered (entry_of r) i a c
 
       -- what holds of its parts
       abbrev pub Behind : Type 0
@@ -405,7 +405,7 @@ module _ (s : Source) (tokens : List Token) (all : List Mark) (ends : List ℕ) 
 
       plain : Behind → scopes r ≡ false → PhraseSits (L c.owner) (V c.owner) (R i end) (made_by s r n vs)
       plain h e =
-          let same_owner = plain_owner (opening_of r) i a c e in
+          let same_owner = plain_owner (entry_of r) i a c e in
           made_sits (L c.owner) (V c.owner) (R i end) r _ _ vs e (λ names x. none_listed names x c.owner refl) (parts h c.owner same_owner i (omega arith))
         where
           none_listed : lists_names r ≡ true → (x : Id) → (o : Option ℕ) → c.owner ≡ o → L o x
@@ -414,9 +414,9 @@ module _ (s : Source) (tokens : List Token) (all : List Mark) (ends : List ℕ) 
               let core = subst (λ q. not (is_round_names q) ≡ true) (sym same) (fits.core (subst (λ q. is_some q ≡ true) (sym k) refl)) in
               absurd (false≢true (subst (λ b. not b ≡ true) names (names_so r core)))
 
-      value : Behind → opens_value r ≡ true → opening_of r ≡ O.Value → PhraseSits (L c.owner) (V c.owner) (R i end) (made_by s r n vs)
+      value : Behind → opens_value r ≡ true → entry_of r ≡ O.Value → PhraseSits (L c.owner) (V c.owner) (R i end) (made_by s r n vs)
       value h e o =
-          let owned : c'.owner ≡ Some i = ap (λ q. (opened q i a c).owner) o in
+          let owned : c'.owner ≡ Some i = ap (λ q. (entered q i a c).owner) o in
           scoped_sits (L (Some i)) (V (Some i)) (R (suc i) end) (R i end)
           (λ x l. record { owner = i; from = omega arith; before = omega (arith, past); has = l })
           (wider (suc i) end i end (omega arith) (omega arith))
@@ -424,19 +424,19 @@ module _ (s : Source) (tokens : List Token) (all : List Mark) (ends : List ℕ) 
           (λ x q v. clash i q.owner end x v.mark q.from q.before ended q.has v.among v.owner_is v.text_is)
           (L c.owner) (V c.owner) r _ _ vs e (parts h (Some i) owned (suc i) (omega arith))
 
-      by_opening : Behind → (o : Opening) → opening_of r ≡ o → PhraseSits (L c.owner) (V c.owner) (R i end) (made_by s r n vs)
-      by_opening h O.Value e = value h (ap is_value e) e
-      by_opening h O.Types e = types_sit (L c.owner) (V c.owner) (R i end) r _ _ vs (ap is_types e)
-      by_opening h O.Nothing e = plain h (ap opens_scope e)
-      by_opening h O.Group e = plain h (ap opens_scope e)
-      by_opening h O.Recursive e = plain h (ap opens_scope e)
-      by_opening h O.Sequence e = plain h (ap opens_scope e)
-      by_opening h O.Function e = plain h (ap opens_scope e)
-      by_opening h O.Clause e = plain h (ap opens_scope e)
+      by_entry : Behind → (o : Entry) → entry_of r ≡ o → PhraseSits (L c.owner) (V c.owner) (R i end) (made_by s r n vs)
+      by_entry h O.Value e = value h (ap is_value e) e
+      by_entry h O.Types e = types_sit (L c.owner) (V c.owner) (R i end) r _ _ vs (ap is_types e)
+      by_entry h O.Nothing e = plain h (ap opens_scope e)
+      by_entry h O.Group e = plain h (ap opens_scope e)
+      by_entry h O.Recursive e = plain h (ap opens_scope e)
+      by_entry h O.Sequence e = plain h (ap opens_scope e)
+      by_entry h O.Function e = plain h (ap opens_scope e)
+      by_entry h O.Clause e = plain h (ap opens_scope e)
 
       pub phrase_sits : Behind → Claim c lo hi (made_by s r n vs)
       phrase_sits h = (
-        phrase_more (wider i end lo hi from behind) (L c.owner) (V c.owner) (made_by s r n vs) (by_opening h (opening_of r) refl),
+        phrase_more (wider i end lo hi from behind) (L c.owner) (V c.owner) (made_by s r n vs) (by_entry h (entry_of r) refl),
         plain_word (L c.owner) (V c.owner) (R lo hi) c.word (made_by s r n vs) (not_variable (Of p) c fits refl),
       )
 
@@ -494,7 +494,7 @@ module _ (s : Source) (tokens : List Token) (all : List Mark) (ends : List ℕ) 
         end = suc i + size_of (len + 0) nodes
 
         behind : ((k : ℕ) → k < length (right_side r ++ ss) → (lo hi : ℕ) → lo ≡ suc i + size_of k nodes → hi ≡ suc i + size_of (suc k) nodes → Claim (get_or (parts_of i a c (Inner r) ++ cs) k start) lo hi (at vs k))
-            → (k : ℕ) → k < len → (j : ℕ) × (e : ℕ) × (suc i ≤ j) × (e ≤ end) × Claim (in_role (get_or (roles_of r) k Q.Same) (opened (opening_of r) i a c)) j e (at vs k)
+            → (k : ℕ) → k < len → (j : ℕ) × (e : ℕ) × (suc i ≤ j) × (e ≤ end) × Claim (in_role (get_or (roles_of r) k Q.Same) (entered (entry_of r) i a c)) j e (at vs k)
         behind deeper k b =
             let few = size_more nodes (suc k) (len + 0) (omega (arith, b)) in (
               suc i + size_of k nodes,
@@ -502,7 +502,7 @@ module _ (s : Source) (tokens : List Token) (all : List Mark) (ends : List ℕ) 
               omega arith,
               omega (arith, few),
               subst (λ q. Claim q (suc i + size_of k nodes) (suc i + size_of (suc k) nodes) (at vs k))
-                  (context_in (roles_of r) (opened (opening_of r) i a c) 0 len cs k b ∙ ap (λ q. in_role (get_or (roles_of r) q Q.Same) (opened (opening_of r) i a c)) (let e : 0 + k ≡ k = omega arith in e))
+                  (context_in (roles_of r) (entered (entry_of r) i a c) 0 len cs k b ∙ ap (λ q. in_role (get_or (roles_of r) q Q.Same) (entered (entry_of r) i a c)) (let e : 0 + k ≡ k = omega arith in e))
                   (deeper k (below_more k (right_side r) ss b) (suc i + size_of k nodes) (suc i + size_of (suc k) nodes) refl refl),
             )
 
@@ -516,4 +516,4 @@ module _ (s : Source) (tokens : List Token) (all : List Mark) (ends : List ℕ) 
             let next = ap (λ q. size_of q nodes) (let e : len + suc k ≡ suc (len + k) = omega arith in e) in
             let x = deeper (len + k) (behind_more k (right_side r) ss (omega (arith, h))) lo hi (omega (arith, el)) (omega (arith, eh, next)) in
             subst (λ q. Claim (get_or cs k start) lo hi (first q)) (sym (drop-drop k len vs))
-            (subst (λ q. Claim q lo hi (at vs (len + k))) (context_behind (roles_of r) (opened (opening_of r) i a c) 0 len cs k (len + k) refl) x)
+            (subst (λ q. Claim q lo hi (at vs (len + k))) (context_behind (roles_of r) (entered (entry_of r) i a c) 0 len cs k (len + k) refl) x)

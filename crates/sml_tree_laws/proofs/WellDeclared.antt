@@ -19,10 +19,10 @@ use Rattle.sml_phrases.specs.Phrases.{Phrase, of_exp}
 use Rattle.sml_reach.specs.Events.{text_at}
 use Rattle.sml_reach.specs.Fits.{Fit}
 use Rattle.sml_flaws.specs.declared.role.Space.{Space}
-use Rattle.sml_flaws.specs.declared.role.Opening.TheVariants as O
+use Rattle.sml_flaws.specs.declared.role.Entry.TheVariants as O
 use Rattle.sml_flaws.specs.declared.mark.Context.{Context}
 use Rattle.sml_flaws.specs.declared.mark.Mark.{Mark}
-use Rattle.sml_flaws.specs.Marks.{start, opened, marks_of}
+use Rattle.sml_flaws.specs.Marks.{start, entered, marks_of}
 use Rattle.sml_flaws.specs.Flaws.{flaws_of, scoped_of, flaws}
 use Rattle.sml_bare.specs.RulePhrases.{declaration}
 use Rattle.sml_tree_laws.specs.WellBound.{TopBound}
@@ -68,4 +68,4 @@ module _ (unit : List ℕ) (tokens : List Token) (n : ℕ) (fits : List Fit) (ow
   next_well clean g p = declared_well U.AfterTopTop clean Top start (start ∷ []) refl g refl (λ m s. s) p
 
   pub exp_well : flaws (text_at unit tokens) fits n (Inner (Units U.StartExp) ∷ own) ≡ [] → Goes own (Of Exp ∷ []) (kinds_of left) → (p : Place) → TopBound (declaration p (made unit tokens n fits own left reads))
-  exp_well clean g p = let c = opened O.Value 0 n start in declared_well U.StartExp clean Exp c (c ∷ []) refl g refl (λ m s. s) p
+  exp_well clean g p = let c = entered O.Value 0 n start in declared_well U.StartExp clean Exp c (c ∷ []) refl g refl (λ m s. s) p

@@ -2,7 +2,7 @@ use Rattle.std.proofs.Common.{◌≡◌, ℕ, take}
 use Rattle.sml_graph.specs.Graphs.{fields_of}
 use Rattle.sml_graph.specs.Interned.{InternsFields, demanded}
 use Rattle.sml_graph.specs.Limits.{limit_at}
-use Rattle.sml_graph.specs.Whole.{IsFull, IsWhole}
+use Rattle.sml_graph.specs.CodeWhole.{IsFull, IsWhole}
 use Rattle.sml_demands.proofs.demands.add_kids.Given as goal
 
 abbrev pub invariant-loop-i : goal.invariant-loop-i

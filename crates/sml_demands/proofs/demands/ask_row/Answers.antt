@@ -4,7 +4,7 @@ use Rattle.sml_objects.specs.Views.{type_of, maker_of}
 use Rattle.sml_graph.specs.declared.demand.Refusal.TheVariants.{Unmet}
 use Rattle.sml_graph.specs.Interned.{demanded}
 use Rattle.sml_graph.specs.Asked.{asked_of, has_fields, IsFirstUnmet}
-use Rattle.sml_graph.specs.Whole.{IsChanged}
+use Rattle.sml_graph.specs.CodeWhole.{IsChanged}
 use Rattle.sml_demands.proofs.Levelling.{moves-same}
 use Rattle.sml_demands.proofs.Demanding.{Stands, finished-adds, finished-met, failing-first}
 use Rattle.sml_demands.proofs.Shaping.{stands-row, row-first, kept-row}

@@ -5,8 +5,8 @@ use Rattle.sml_graph.specs.declared.graph.Graph.{Graph}
 use Rattle.sml_graph.specs.declared.demand.Refusal.TheVariants.{Unmet}
 use Rattle.sml_layers.specs.Worlds.{finite}
 use Rattle.sml_graph.specs.Asked.{asked_of, equal, IsFirstUnmet}
-use Rattle.sml_demands.specs.Levels.{Moves}
-use Rattle.sml_graph.specs.Whole.{IsWhole}
+use Rattle.sml_demands.specs.CodeLevels.{Moves}
+use Rattle.sml_graph.specs.CodeWhole.{IsWhole}
 use Rattle.sml_demands.proofs.Levelling.{grown-moves, moves-then, moves-same}
 use Rattle.sml_graph.proofs.Ordering.{changed-ordered}
 use Rattle.sml_demands.proofs.Demanding.{Stands, Grows, stands-equal, clash-first, changed-but, kept-merged, finished-adds, finished-met, failing-first}

@@ -3,7 +3,7 @@ use Rattle.std.specs.Prelude.{false}
 use Rattle.sml_objects.specs.Views.{type_of, maker_of}
 use Rattle.sml_graph.specs.Graphs.{IsSound}
 use Rattle.sml_graph.specs.Asked.{asked_of, asks, limit_of}
-use Rattle.sml_graph.specs.Whole.{IsWhole, LowersLimit}
+use Rattle.sml_graph.specs.CodeWhole.{IsWhole, LowersLimit}
 use Rattle.sml_demands.proofs.Levelling.{grown-moves, moves-same}
 use Rattle.sml_demands.proofs.Demanding.{Stands, Grows, stands-asked, limit-changed, kept-lowered, finished-adds, finished-met, failing-first}
 use Rattle.sml_demands.proofs.demands.impose.Goals as goal

@@ -1,6 +1,6 @@
 use Rattle.std.proofs.Common.{rules, ◌<◌}
 use Rattle.std.proofs.lemmas.List.Sorted.{IsNonDecreasingBy-from_sort_by_key}
-use Rattle.sml_demands.specs.Levels.{level_rank}
+use Rattle.sml_demands.specs.CodeLevels.{level_rank}
 use Rattle.sml_graph.proofs.Changing.{all-sorted, covered-sorted}
 use Rattle.sml_demands.proofs.levels.by_level.Goals as goal
 

@@ -3,7 +3,7 @@ use Rattle.std.proofs.lemmas.List.{get_or_default}
 use Rattle.std.specs.Vec.{vec_len}
 use Rattle.sml_graph.specs.Graphs.{node_at, parts}
 use Rattle.sml_graph.specs.Changes.{AreInside}
-use Rattle.sml_demands.specs.Levels.{level_of, level_at, AreHandedBut, LowersLevels}
+use Rattle.sml_demands.specs.CodeLevels.{level_of, level_at, AreHandedBut, LowersLevels}
 use Rattle.sml_graph.proofs.Changing.{all-rest}
 use Rattle.sml_graph.proofs.Interning.{parts-inside}
 use Rattle.sml_graph.proofs.Limiting.{front-inside}

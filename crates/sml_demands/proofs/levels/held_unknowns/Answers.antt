@@ -2,7 +2,7 @@ use Rattle.std.proofs.Common.{◌≡◌, ◌↔◌, ℕ, ◌<◌, ◌+◌, ◌++
 use Rattle.std.proofs.lemmas.Bool.{cases_lt}
 use Rattle.std.proofs.lemmas.List.{get_or_push}
 use Rattle.sml_graph.specs.Graphs.{IsSame}
-use Rattle.sml_demands.specs.Levels.{IsHeld}
+use Rattle.sml_demands.specs.CodeLevels.{IsHeld}
 use Rattle.sml_graph.proofs.Interning.{get_or-left}
 use Rattle.sml_demands.proofs.levels.held_unknowns.Goals as goal
 use Rattle.sml_demands.proofs.levels.held_unknowns.Goals.{then-has_older, else-has_older}

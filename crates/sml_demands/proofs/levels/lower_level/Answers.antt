@@ -1,6 +1,6 @@
 use Rattle.std.proofs.Common.{◌≡◌, ◌<◌, None, get_or, sym, ◌∙◌, subst}
 use Rattle.std.proofs.lemmas.List.{get_or_default}
-use Rattle.sml_demands.specs.Levels.{level_of, level_at}
+use Rattle.sml_demands.specs.CodeLevels.{level_of, level_at}
 use Rattle.sml_demands.proofs.Levelling.{levels-one}
 use Rattle.sml_demands.proofs.levels.lower_level.Goals as goal
 

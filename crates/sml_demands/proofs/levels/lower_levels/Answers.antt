@@ -1,6 +1,6 @@
 use Rattle.std.proofs.Common.{◌≡◌, ◌+◌, ◌∷◌, [], ◌++◌, take, get_or}
 use Rattle.std.proofs.lemmas.List.{get_or_default}
-use Rattle.sml_demands.specs.Levels.{level_of}
+use Rattle.sml_demands.specs.CodeLevels.{level_of}
 use Rattle.sml_graph.proofs.Interning.{take-next}
 use Rattle.sml_demands.proofs.Levelling.{levels-then}
 use Rattle.sml_demands.proofs.levels.lower_levels.Goals as goal

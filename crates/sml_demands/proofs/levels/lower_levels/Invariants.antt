@@ -1,5 +1,5 @@
 use Rattle.std.proofs.Common.{take}
-use Rattle.sml_demands.specs.Levels.{level_of, LowersLevels}
+use Rattle.sml_demands.specs.CodeLevels.{level_of, LowersLevels}
 use Rattle.sml_demands.proofs.levels.lower_levels.Given as goal
 
 abbrev pub invariant-loop-part : goal.invariant-loop-part

@@ -2,7 +2,7 @@ use Rattle.std.proofs.Common.{◌≡◌, ◌≤◌, length, ap, ◌∙◌, arith
 use Rattle.sml_objects.proofs.TypeViews.{parts_of, type_of-row, type_of-name}
 use Rattle.sml_objects.specs.Views.{type_of}
 use Rattle.sml_graph.specs.declared.node.Head.TheVariants.{Row, Name}
-use Rattle.sml_demands.specs.Reads.{stacked}
+use Rattle.sml_demands.specs.CodeReads.{stacked}
 use Rattle.sml_demands.proofs.Retrieving.{length-stacked, head-taken}
 use Rattle.sml_demands.proofs.reading.apply.Goals as goal
 

@@ -1,6 +1,6 @@
 use Rattle.std.proofs.Common.{◌≡◌, ◌+◌, ◌++◌, ◌∷◌, [], map, take, ap, ◌∙◌, sym, arith, vec_len}
 use Rattle.sml_objects.specs.Views.{type_of}
-use Rattle.sml_demands.specs.Reads.{stacked}
+use Rattle.sml_demands.specs.CodeReads.{stacked}
 use Rattle.sml_graph.proofs.Interning.{map-push}
 use Rattle.sml_demands.proofs.Retrieving.{popped}
 use Rattle.sml_demands.proofs.reading.pop_all.Goals as goal

@@ -1,6 +1,6 @@
 use Rattle.std.proofs.Common.{◌≡◌, ◌≤◌, ◌+◌, ◌-◌, map, take, drop, vec_len}
 use Rattle.sml_objects.specs.Views.{type_of}
-use Rattle.sml_demands.specs.Reads.{stacked}
+use Rattle.sml_demands.specs.CodeReads.{stacked}
 use Rattle.sml_demands.proofs.reading.pop_all.Given as goal
 
 abbrev pub invariant-loop-types : goal.invariant-loop-types

@@ -6,7 +6,7 @@ use Rattle.sml_objects.proofs.TypeViews.{type_of-free}
 use Rattle.sml_graph.specs.declared.node.Node.TheVariants.{App}
 use Rattle.sml_demands.specs.declared.reading.Task.TheVariants.{Read, Apply}
 use Rattle.sml_graph.specs.Graphs.{node_at, IsRootNode, IsSoundNode, IsKnown}
-use Rattle.sml_demands.specs.Reads.{stacked, heads, IsReadingOn}
+use Rattle.sml_demands.specs.CodeReads.{stacked, heads, IsReadingOn}
 use Rattle.sml_graph.proofs.Searching.{read_at}
 use Rattle.sml_demands.proofs.Counting.{positive}
 use Rattle.sml_demands.proofs.Marking.{type-sizes, too-large}

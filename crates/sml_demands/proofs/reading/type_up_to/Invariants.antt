@@ -1,5 +1,5 @@
 use Rattle.std.proofs.Common.{◌≤◌, ◌+◌, ◌*◌, ◌-◌, reverse}
-use Rattle.sml_demands.specs.Reads.{stacked, heads, IsReadingOn}
+use Rattle.sml_demands.specs.CodeReads.{stacked, heads, IsReadingOn}
 use Rattle.sml_demands.proofs.reading.type_up_to.Given as goal
 
 abbrev pub invariant-loop-task : goal.invariant-loop-task

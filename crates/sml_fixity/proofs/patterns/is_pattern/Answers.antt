@@ -5,7 +5,7 @@ use Rattle.sml_fixity.specs.declared.roles.Role.{Role}
 use Rattle.sml_fixity.specs.declared.roles.Role.TheVariants.{Atom}
 use Rattle.sml_fixity.specs.declared.patterns.Run.{Run}
 use Rattle.sml_fixity.specs.Patterns.{names_of}
-use Rattle.sml_fixity.specs.Runs.{runs, next_run}
+use Rattle.sml_fixity.specs.CodeRuns.{runs, next_run}
 use Rattle.sml_fixity.proofs.Shapes.{decided}
 use Rattle.sml_fixity.proofs.patterns.is_pattern.Goals as goal
 

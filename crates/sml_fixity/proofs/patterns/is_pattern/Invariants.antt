@@ -1,6 +1,6 @@
 use Rattle.std.proofs.Common.{◌≡◌, drop}
 use Rattle.sml_fixity.specs.Patterns.{names_of}
-use Rattle.sml_fixity.specs.Runs.{runs}
+use Rattle.sml_fixity.specs.CodeRuns.{runs}
 use Rattle.sml_fixity.specs.declared.patterns.Run.TheVariants.{Start}
 use Rattle.sml_fixity.proofs.patterns.is_pattern.Given as goal
 

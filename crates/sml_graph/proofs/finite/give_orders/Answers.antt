@@ -1,6 +1,6 @@
 use Rattle.std.proofs.Common.{◌≡◌, ◌+◌, ◌∷◌, [], ◌++◌, ◌∙◌, take, get_or, length, refl, arith}
 use Rattle.std.proofs.lemmas.List.{get_or_default}
-use Rattle.sml_graph.specs.Ranks.{no_order, order_at}
+use Rattle.sml_graph.specs.CodeRanks.{no_order, order_at}
 use Rattle.sml_graph.proofs.Interning.{inside-at, take-next}
 use Rattle.sml_graph.proofs.Searching.{done-or-new, all-done-more, gives-then}
 use Rattle.sml_graph.proofs.finite.give_orders.Goals as goal

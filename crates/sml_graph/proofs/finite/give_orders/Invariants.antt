@@ -1,6 +1,6 @@
 use Rattle.std.proofs.Common.{◌≡◌, take, []}
 use Rattle.std.specs.List.{AllByRecursion}
-use Rattle.sml_graph.specs.Ranks.{Gives, IsDone, IsSearch, order_at}
+use Rattle.sml_graph.specs.CodeRanks.{Gives, IsDone, IsSearch, order_at}
 use Rattle.sml_graph.proofs.finite.give_orders.Given as goal
 
 abbrev pub invariant-loop-root : goal.invariant-loop-root

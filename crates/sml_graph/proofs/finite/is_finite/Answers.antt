@@ -1,6 +1,6 @@
 use Rattle.std.proofs.Common.{◌≡◌, [], length, rules, arith}
 use Rattle.std.specs.List.{AllByRecursion}
-use Rattle.sml_graph.specs.Ranks.{no_order, order_at, AreFrom, AreOrderedBeside, Gives, IsDone, IsSearch}
+use Rattle.sml_graph.specs.CodeRanks.{no_order, order_at, AreFrom, AreOrderedBeside, Gives, IsDone, IsSearch}
 use Rattle.sml_graph.proofs.Wholeness.{on_true3}
 use Rattle.sml_graph.proofs.Ordering.{all-positive, from-given, ordered-new, ordered-beside, ordered-none, ordered-below, has-new, has-below, grounded}
 use Rattle.sml_graph.proofs.finite.is_finite.Goals as goal

@@ -1,6 +1,6 @@
 use Rattle.std.proofs.Common.{◌≡◌, ◌+◌, ◌<◌, ◌≤◌, ◌∷◌, [], ◌++◌, length, sym, ap, ◌∙◌, arith, refl, inr, rules, get_or}
 use Rattle.sml_graph.specs.Graphs.{node_at, parts}
-use Rattle.sml_graph.specs.Ranks.{IsAbove, IsDone, IsSearch, order_at}
+use Rattle.sml_graph.specs.CodeRanks.{IsAbove, IsDone, IsSearch, order_at}
 use Rattle.std.specs.List.{AllByRecursion}
 use Rattle.sml_graph.proofs.Interning.{parts-inside}
 use Rattle.sml_graph.proofs.Searching.{Reaches, search-begin, search-close, search-next, search-deeper, search-cycle, search-node, search-part, gives-none, gives-begin, gives-close, reach-begin, reach-close, reach-next, less-close, less-next, less-deeper, done-part, order-is, read_at, visited-last}

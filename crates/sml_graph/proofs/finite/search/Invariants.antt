@@ -1,5 +1,5 @@
 use Rattle.std.proofs.Common.{◌≡◌, ◌+◌}
-use Rattle.sml_graph.specs.Ranks.{IsSearch, Gives, fresh_weight, visit_weight}
+use Rattle.sml_graph.specs.CodeRanks.{IsSearch, Gives, fresh_weight, visit_weight}
 use Rattle.sml_graph.proofs.Searching.{Reaches}
 use Rattle.sml_graph.proofs.finite.search.Given as goal
 

@@ -1,7 +1,7 @@
 use Rattle.std.proofs.Common.{arith}
 use Rattle.sml_objects.specs.Views.{type_of}
 use Rattle.sml_graph.specs.Interned.{Interns}
-use Rattle.sml_graph.specs.Ranks.{HasRank}
+use Rattle.sml_graph.specs.CodeRanks.{HasRank}
 use Rattle.sml_graph.proofs.Wholeness.{ordered-more, closed-more, fit-more, ranked-more}
 use Rattle.sml_graph.proofs.graph.add.Goals as goal
 

@@ -1,6 +1,6 @@
 use Rattle.std.proofs.Common.{◌≡◌, ◌+◌, ◌++◌, ◌∷◌, [], ap, ◌∙◌, arith, length-append, length}
 use Rattle.sml_graph.specs.Limits.{no_limit, limit_at}
-use Rattle.sml_graph.specs.Ranks.{no_order, order_at}
+use Rattle.sml_graph.specs.CodeRanks.{no_order, order_at}
 use Rattle.sml_graph.proofs.Wholeness.{get_or-push}
 use Rattle.sml_graph.proofs.graph.fill.Goals as goal
 

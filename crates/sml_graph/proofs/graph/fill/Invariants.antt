@@ -1,7 +1,7 @@
 use Rattle.std.proofs.Common.{◌≡◌, ℕ, ◌-◌, ◌≤◌, length}
 use Rattle.sml_graph.specs.Limits.{limit_at}
-use Rattle.sml_graph.specs.Ranks.{order_at}
-use Rattle.sml_graph.specs.Whole.{HasBottom}
+use Rattle.sml_graph.specs.CodeRanks.{order_at}
+use Rattle.sml_graph.specs.CodeWhole.{HasBottom}
 use Rattle.sml_graph.proofs.graph.fill.Given as goal
 
 abbrev pub invariant-loop-graph : goal.invariant-loop-graph

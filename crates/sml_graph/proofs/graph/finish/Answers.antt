@@ -2,9 +2,9 @@ use Rattle.std.proofs.Common.{◌≡◌, ◌++◌, length, take, drop, ap, subst
 use Rattle.std.proofs.Math.Seq.{take-append_seam}
 use Rattle.sml_objects.specs.Views.{maker_of}
 use Rattle.sml_layers.specs.declared.layer.Layer.{Layer}
-use Rattle.sml_graph.specs.Ranks.{HasRank, AreFrom, AreOrdered}
+use Rattle.sml_graph.specs.CodeRanks.{HasRank, AreFrom, AreOrdered}
 use Rattle.sml_graph.specs.Limits.{IsBefore, IsFit, IsClosed, IsDoneBut, SameLimits}
-use Rattle.sml_graph.specs.Whole.{FailsAt}
+use Rattle.sml_graph.specs.CodeWhole.{FailsAt}
 use Rattle.sml_graph.proofs.Wholeness.{handed-fails}
 use Rattle.sml_graph.proofs.graph.finish.Goals as goal
 

@@ -1,6 +1,6 @@
 use Rattle.std.proofs.Common.{◌<◌, ◌≤◌, take}
 use Rattle.std.specs.List.{AllByRecursion}
-use Rattle.sml_graph.specs.Ranks.{order_at}
+use Rattle.sml_graph.specs.CodeRanks.{order_at}
 use Rattle.sml_graph.proofs.orders.above_all.Given as goal
 
 abbrev pub invariant-loop-kid : goal.invariant-loop-kid

@@ -1,6 +1,6 @@
 use Rattle.std.proofs.Common.{◌≡◌, ◌+◌, ◌<◌, ◌∷◌, [], ◌++◌, length, take, get_or, arith}
 use Rattle.std.proofs.lemmas.List.{get_or_default}
-use Rattle.sml_graph.specs.Ranks.{no_order, order_at}
+use Rattle.sml_graph.specs.CodeRanks.{no_order, order_at}
 use Rattle.sml_graph.proofs.Interning.{inside-at, take-next}
 use Rattle.sml_graph.proofs.Ordering.{finds-more, finds-below}
 use Rattle.sml_graph.proofs.orders.push_unordered.Goals as goal

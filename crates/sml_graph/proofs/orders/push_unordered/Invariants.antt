@@ -1,5 +1,5 @@
 use Rattle.std.proofs.Common.{take}
-use Rattle.sml_graph.specs.Ranks.{FindsUnordered}
+use Rattle.sml_graph.specs.CodeRanks.{FindsUnordered}
 use Rattle.sml_graph.proofs.orders.push_unordered.Given as goal
 
 abbrev pub invariant-loop-part : goal.invariant-loop-part

@@ -2,7 +2,7 @@ use Rattle.std.proofs.Common.{◌≡◌, ◌+◌, ◌<◌, ◌∷◌, [], ◌++�
 use Rattle.std.proofs.lemmas.List.{get_or_default}
 use Rattle.sml_graph.specs.declared.change.Change.{Change}
 use Rattle.sml_graph.specs.Graphs.{node_at, parts}
-use Rattle.sml_graph.specs.Ranks.{no_order, order_at, FindsUnordered}
+use Rattle.sml_graph.specs.CodeRanks.{no_order, order_at, FindsUnordered}
 use Rattle.sml_graph.proofs.Interning.{all-at, parts-inside, take-next}
 use Rattle.sml_graph.proofs.Changing.{all-rest}
 use Rattle.sml_graph.proofs.Searching.{read_at}

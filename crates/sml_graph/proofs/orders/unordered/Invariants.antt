@@ -1,6 +1,6 @@
 use Rattle.std.proofs.Common.{◌<◌, length, take}
 use Rattle.std.specs.List.{AllByRecursion}
-use Rattle.sml_graph.specs.Ranks.{IsFoundIn}
+use Rattle.sml_graph.specs.CodeRanks.{IsFoundIn}
 use Rattle.sml_graph.proofs.orders.unordered.Given as goal
 
 abbrev pub invariant-loop-change : goal.invariant-loop-change

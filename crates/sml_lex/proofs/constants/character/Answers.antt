@@ -1,6 +1,6 @@
 use Rattle.std.proofs.Common.{sym, ◌∙◌, subst}
 use Rattle.sml_lex.specs.Strings.{IsBroken}
-use Rattle.sml_lex.specs.StringReading.{IsQuoted}
+use Rattle.sml_lex.specs.CodeStrings.{IsQuoted}
 use Rattle.sml_lex.proofs.ConstantValues.{character_starts_not, character_whole, character_longer, character_other, character_broken}
 use Rattle.sml_lex.proofs.constants.character.Goals as goal
 

@@ -1,6 +1,6 @@
 use Rattle.std.proofs.Common.{◌+◌, drop, sym, ap, ◌∙◌, subst, arith}
 use Rattle.sml_lex.specs.Bytes.{starts_with}
-use Rattle.sml_lex.specs.StringReading.{item_at, element}
+use Rattle.sml_lex.specs.CodeStrings.{item_at, element}
 use Rattle.sml_lex.proofs.StringScans.{Scanned, scan_start, found, scan_on, scan_smaller}
 use Rattle.sml_lex.proofs.ConstantValues.{string_whole, string_longer, string_broken}
 use Rattle.sml_lex.proofs.constants.string.Goals as goal

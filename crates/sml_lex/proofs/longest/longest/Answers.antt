@@ -1,6 +1,6 @@
 use Rattle.std.proofs.Common.{ap, sym, ◌∙◌, arith, refl, subst, ◌+◌, is_some}
 use Rattle.sml_lex.specs.Words.{word_kind}
-use Rattle.sml_lex.specs.Machine.{IsLongestWithin}
+use Rattle.sml_lex.specs.CodeMachine.{IsLongestWithin}
 use Rattle.sml_lex.proofs.Beginnings.{state_on, part_on, start_on, kind_on, longest_none, longest_yes, longest_no, longest_dead}
 use Rattle.sml_lex.proofs.longest.longest.Goals as goal
 use Rattle.sml_lex.proofs.longest.longest.Goals.{in-Some, in_default-kind_of}

@@ -1,7 +1,7 @@
 -- The state is that of the bytes so far, and best the longest token among them.
 use Rattle.std.proofs.Common.{◌≡◌, ◌-◌, ◌≤◌, take, drop, is_some}
 use Rattle.sml_lex.specs.Words.{word_kind}
-use Rattle.sml_lex.specs.Machine.{run, fresh, IsLongestWithin}
+use Rattle.sml_lex.specs.CodeMachine.{run, fresh, IsLongestWithin}
 use Rattle.sml_lex.proofs.longest.longest.Given as goal
 
 abbrev pub invariant-loop-i : goal.invariant-loop-i

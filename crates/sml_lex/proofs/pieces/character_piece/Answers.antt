@@ -1,6 +1,6 @@
 use Rattle.std.proofs.Common.{refl, subst, inl, inr}
 use Rattle.sml_lex.specs.Strings.{IsBroken}
-use Rattle.sml_lex.specs.StringReading.{IsQuoted}
+use Rattle.sml_lex.specs.CodeStrings.{IsQuoted}
 use Rattle.sml_lex.proofs.FirstTokens.{character_lexeme, other_length}
 use Rattle.sml_lex.proofs.pieces.character_piece.Goals as goal
 

@@ -1,6 +1,6 @@
 use Rattle.std.proofs.Common.{◌+◌, drop, sym, ap, ◌∙◌, arith, Some, ◌-◌}
 use Rattle.std.proofs.lemmas.List.{drop-drop, length-drop}
-use Rattle.sml_lex.specs.CommentReading.{after_comments}
+use Rattle.sml_lex.specs.CodeComments.{after_comments}
 use Rattle.sml_lex.proofs.Comments.{both_there, opened, closed_last, closed_one, passed_one, none_left}
 use Rattle.sml_lex.proofs.pieces.comment_end.Goals as goal
 

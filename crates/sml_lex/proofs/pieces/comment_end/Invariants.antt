@@ -1,6 +1,6 @@
 -- What is left of the comments.
 use Rattle.std.proofs.Common.{◌≡◌, ◌-◌, ◌+◌, ◌≤◌, ◌<◌, drop, length}
-use Rattle.sml_lex.specs.CommentReading.{after_comments}
+use Rattle.sml_lex.specs.CodeComments.{after_comments}
 use Rattle.sml_lex.proofs.pieces.comment_end.Given as goal
 
 abbrev pub invariant-loop-place : goal.invariant-loop-place

@@ -1,7 +1,7 @@
 use Rattle.std.proofs.Common.{drop, sym, ap, ◌∙◌, arith}
 use Rattle.sml_lex.specs.Bytes.{starts_with}
 use Rattle.sml_lex.specs.Strings.{break_of}
-use Rattle.sml_lex.specs.StringReading.{item_at, element}
+use Rattle.sml_lex.specs.CodeStrings.{item_at, element}
 use Rattle.sml_lex.proofs.StringScans.{count_start, found, count_on, scan_smaller, scan_closed, scan_broken}
 use Rattle.sml_lex.proofs.strings.scan.Goals as goal
 

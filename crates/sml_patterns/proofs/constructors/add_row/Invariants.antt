@@ -1,7 +1,7 @@
 -- The row was added to the groups before this one.
 use Rattle.std.proofs.Common.{◌≡◌, ◌++◌, ◌<◌, ◌≤◌, ℕ, [], length}
 use Rattle.sml_patterns.specs.CodeTasks.{line, group_at}
-use Rattle.sml_patterns.specs.Matrix.{AtConstructor, kept, narrow}
+use Rattle.sml_patterns.specs.CodeMatrix.{AtConstructor, kept, narrow}
 use Rattle.sml_patterns.proofs.constructors.add_row.Given as goal
 
 abbrev pub invariant-loop-index : goal.invariant-loop-index

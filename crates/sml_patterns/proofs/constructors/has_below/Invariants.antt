@@ -1,6 +1,6 @@
 use Rattle.std.proofs.Common.{◌≡◌}
 use Rattle.sml_patterns.specs.CodeTasks.{lines}
-use Rattle.sml_patterns.specs.Matrix.{has_below}
+use Rattle.sml_patterns.specs.CodeMatrix.{has_below}
 use Rattle.sml_patterns.proofs.constructors.has_below.Given as goal
 
 abbrev pub invariant-loop-left : goal.invariant-loop-left

@@ -1,7 +1,7 @@
 -- There are so many empty groups; then each has the rows so far that cover its constructor.
 use Rattle.std.proofs.Common.{◌≡◌, ◌++◌, ◌<◌, ℕ, [], length, drop}
 use Rattle.sml_patterns.specs.CodeTasks.{lines, group_at}
-use Rattle.sml_patterns.specs.Matrix.{AtConstructor, narrow_all}
+use Rattle.sml_patterns.specs.CodeMatrix.{AtConstructor, narrow_all}
 use Rattle.sml_patterns.proofs.constructors.narrow_each.Given as goal
 
 abbrev pub invariant-loop-number : goal.invariant-loop-number

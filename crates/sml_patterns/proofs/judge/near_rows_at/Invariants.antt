@@ -1,7 +1,7 @@
 use Rattle.std.proofs.Common.{◌≡◌, ◌++◌, drop}
 use Rattle.sml_patterns.specs.CodeTasks.{lines, near, plains, rules_of}
 use Rattle.sml_patterns.specs.CodeColumns.{picked}
-use Rattle.sml_patterns.specs.Matrix.{singles}
+use Rattle.sml_patterns.specs.CodeMatrix.{singles}
 use Rattle.sml_patterns.specs.Views.{plain_of}
 use Rattle.sml_patterns.proofs.judge.near_rows_at.Given as goal
 

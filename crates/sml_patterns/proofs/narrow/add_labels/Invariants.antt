@@ -1,7 +1,7 @@
 use Rattle.std.proofs.Common.{◌≡◌, map, drop}
 use Rattle.sml_tree.specs.Views.{ident_of}
 use Rattle.sml_patterns.specs.Plain.{Empty}
-use Rattle.sml_patterns.specs.Matrix.{with_row}
+use Rattle.sml_patterns.specs.CodeMatrix.{with_row}
 use Rattle.sml_patterns.specs.Views.{row_on, plain_of}
 use Rattle.sml_patterns.specs.CodeTasks.{labels_of}
 use Rattle.sml_patterns.proofs.narrow.add_labels.Given as goal

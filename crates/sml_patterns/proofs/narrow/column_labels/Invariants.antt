@@ -1,5 +1,5 @@
 use Rattle.std.proofs.Common.{◌≡◌, drop}
-use Rattle.sml_patterns.specs.Matrix.{column_labels, with_column}
+use Rattle.sml_patterns.specs.CodeMatrix.{column_labels, with_column}
 use Rattle.sml_patterns.specs.CodeTasks.{lines, plain_at, labels_of}
 use Rattle.sml_patterns.proofs.narrow.column_labels.Given as goal
 

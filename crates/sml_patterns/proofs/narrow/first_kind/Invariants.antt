@@ -1,6 +1,6 @@
 use Rattle.std.proofs.Common.{◌≡◌, drop}
 use Rattle.sml_patterns.specs.CodeTasks.{lines}
-use Rattle.sml_patterns.specs.Matrix.{first_kind}
+use Rattle.sml_patterns.specs.CodeMatrix.{first_kind}
 use Rattle.sml_patterns.proofs.narrow.first_kind.Given as goal
 
 abbrev pub invariant-loop-row : goal.invariant-loop-row

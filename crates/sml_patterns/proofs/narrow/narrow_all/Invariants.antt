@@ -1,6 +1,6 @@
 use Rattle.std.proofs.Common.{◌≡◌, ◌++◌, drop}
 use Rattle.sml_patterns.specs.CodeTasks.{lines, head_of}
-use Rattle.sml_patterns.specs.Matrix.{narrow_all}
+use Rattle.sml_patterns.specs.CodeMatrix.{narrow_all}
 use Rattle.sml_patterns.proofs.narrow.narrow_all.Given as goal
 
 abbrev pub invariant-loop-row : goal.invariant-loop-row

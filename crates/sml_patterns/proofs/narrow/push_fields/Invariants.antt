@@ -1,7 +1,7 @@
 use Rattle.std.proofs.Common.{◌≡◌, ◌++◌, map, take}
 use Rattle.sml_tree.specs.Views.{ident_of}
 use Rattle.sml_patterns.specs.Plain.{Empty}
-use Rattle.sml_patterns.specs.Matrix.{field_in}
+use Rattle.sml_patterns.specs.CodeMatrix.{field_in}
 use Rattle.sml_patterns.specs.Views.{row_on, plain_of}
 use Rattle.sml_patterns.specs.CodeTasks.{line, labels_of}
 use Rattle.sml_patterns.proofs.narrow.push_fields.Given as goal

@@ -1,5 +1,5 @@
 use Rattle.std.proofs.Common.{◌≡◌, ◌++◌, map, take}
-use Rattle.sml_patterns.specs.Matrix.{wild_at}
+use Rattle.sml_patterns.specs.CodeMatrix.{wild_at}
 use Rattle.sml_patterns.specs.CodeTasks.{line, labels_of}
 use Rattle.sml_patterns.proofs.narrow.push_wildcards.Given as goal
 

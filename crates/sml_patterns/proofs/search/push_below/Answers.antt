@@ -1,5 +1,5 @@
 use Rattle.std.proofs.Common.{rules, ◌≡◌, length, ap, sym, ◌∙◌, append-nil, Some, None}
-use Rattle.sml_patterns.specs.Matrix.{AtConstructor, narrow}
+use Rattle.sml_patterns.specs.CodeMatrix.{AtConstructor, narrow}
 use Rattle.sml_patterns.specs.CodeTasks.{line, lines, problems, kept_line}
 use Rattle.sml_patterns.proofs.Work.{problems_last}
 use Rattle.sml_patterns.proofs.Grouping.{next_task}

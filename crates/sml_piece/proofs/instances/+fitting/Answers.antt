@@ -11,7 +11,7 @@ use Rattle.sml_objects.specs.Types.{replace_type}
 use Rattle.sml_objects.proofs.TypeViews.{parts_of, type_of-bound, type_of-free, type_of-row, type_of-arrow, type_of-name}
 use Rattle.sml_objects.proofs.NameTests.{eq, eq-same, same-eq}
 use Rattle.sml_objects.proofs.SameTypes.{kind, only-free, only-arrow, only-row, only-name}
-use Rattle.sml_piece.specs.Matched.{Found, Fits, FitAll, found_in}
+use Rattle.sml_piece.specs.CodeMatched.{Found, Fits, FitAll, found_in}
 use Rattle.sml_piece.proofs.Fitting.{fits_free, other_name, other_labels, other_from, kind-free, kind-row, kind-arrow, kind-name, fit_none, fit_more, fit_part, fit_length, on_result, row_result, name_result, arrow_result}
 use Rattle.sml_piece.proofs.instances.+fitting.Goals as goal
 

@@ -1,7 +1,7 @@
 use Rattle.std.proofs.Common.{true, take}
 use Rattle.sml_objects.specs.Objects.{types_of}
 use Rattle.sml_objects.proofs.TypeViews.{parts_of}
-use Rattle.sml_piece.specs.Matched.{FitAll, found_in}
+use Rattle.sml_piece.specs.CodeMatched.{FitAll, found_in}
 use Rattle.sml_piece.proofs.instances.+fitting.Given as goal
 
 abbrev pub invariant-all_fit-loop-index : goal.invariant-all_fit-loop-index

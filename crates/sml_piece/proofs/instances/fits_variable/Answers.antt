@@ -3,7 +3,7 @@ use Rattle.std.specs.Option.{option_map}
 use Rattle.std.specs.declared.rc.Rc.{Rc}
 use Rattle.sml_objects.specs.Views.{type_of}
 use Rattle.sml_objects.specs.declared.objects.MlType.{MlType}
-use Rattle.sml_piece.specs.Matched.{found_in}
+use Rattle.sml_piece.specs.CodeMatched.{found_in}
 use Rattle.sml_piece.proofs.Fitting.{fits_found, fits_new, found_more}
 use Rattle.sml_piece.proofs.instances.fits_variable.Goals as goal
 

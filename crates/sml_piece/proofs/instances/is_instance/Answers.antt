@@ -1,6 +1,6 @@
 use Rattle.std.proofs.Common.{subst, IfOk}
 use Rattle.sml_objects.specs.Views.{type_of}
-use Rattle.sml_piece.specs.Matched.{Fits, found_in}
+use Rattle.sml_piece.specs.CodeMatched.{Fits, found_in}
 use Rattle.sml_piece.proofs.Fitting.{decided, none_found}
 use Rattle.sml_piece.proofs.instances.is_instance.Goals as goal
 

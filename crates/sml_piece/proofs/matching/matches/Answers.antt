@@ -7,7 +7,7 @@ use Rattle.sml_rules.specs.Matching.{realised_by}
 use Rattle.sml_rules.specs.Readings.{read_match, read_types, read_values}
 use Rattle.sml_rules.proofs.Open.{of_types}
 use Rattle.sml_piece.specs.Elaborated.{Answers}
-use Rattle.sml_piece.specs.Matched.{sends, PlainUnder}
+use Rattle.sml_piece.specs.CodeMatched.{sends, PlainUnder}
 use Rattle.sml_piece.specs.declared.realisations.Realisation as P
 use Rattle.sml_piece.proofs.Answering.{first_ends, second}
 use Rattle.sml_piece.proofs.Matches.{open_sent, plain_under}

@@ -15,7 +15,7 @@ use Rattle.sml_rules.specs.Matching.{realised_by, is_name}
 use Rattle.sml_rules.specs.Readings.{read_names}
 use Rattle.sml_piece.specs.declared.realisations.Realisation.{Realisation}
 use Rattle.sml_piece.specs.Elaborated.{Answers, or_else}
-use Rattle.sml_piece.specs.Matched.{read_name}
+use Rattle.sml_piece.specs.CodeMatched.{read_name}
 use Rattle.sml_piece.proofs.Answering.{refusal, refuses, refused_on}
 use Rattle.sml_piece.proofs.Matches.{names_each, more, stops_at, entries_more, entries_split, realised_more, realised_none}
 use Rattle.sml_piece.proofs.matching.sent_names.Goals as goal

@@ -5,7 +5,7 @@ use Rattle.sml_objects.specs.Views.{env_of, schemes_of}
 use Rattle.sml_rules.specs.Answers.{accepted}
 use Rattle.sml_rules.specs.Matching.{realised_by}
 use Rattle.sml_rules.specs.Readings.{read_names}
-use Rattle.sml_piece.specs.Matched.{sends}
+use Rattle.sml_piece.specs.CodeMatched.{sends}
 use Rattle.sml_piece.proofs.matching.sent_names.Given as goal
 
 abbrev pub invariant-loop-name : goal.invariant-loop-name

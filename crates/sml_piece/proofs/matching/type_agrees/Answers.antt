@@ -8,7 +8,7 @@ use Rattle.sml_tree.specs.Views.{ident_of}
 use Rattle.sml_objects.specs.Views.{scheme_of, type_of}
 use Rattle.sml_rules.specs.Answers.{fault_at}
 use Rattle.sml_rules.specs.Matching.{realise_scheme, realise_type}
-use Rattle.sml_piece.specs.Matched.{sends}
+use Rattle.sml_piece.specs.CodeMatched.{sends}
 use Rattle.sml_piece.proofs.Answering.{refused_by, passes, fails}
 use Rattle.sml_piece.proofs.Matches.{some_same}
 use Rattle.sml_piece.proofs.matching.type_agrees.Goals as goal

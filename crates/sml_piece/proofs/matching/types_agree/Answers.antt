@@ -15,7 +15,7 @@ use Rattle.sml_rules.specs.Answers.{Reading, accepted, refused, test, fault_at}
 use Rattle.sml_rules.specs.Matching.{Realisation, realise_scheme}
 use Rattle.sml_rules.specs.Readings.{read_types}
 use Rattle.sml_piece.specs.Elaborated.{Answers}
-use Rattle.sml_piece.specs.Matched.{sends}
+use Rattle.sml_piece.specs.CodeMatched.{sends}
 use Rattle.sml_piece.proofs.Answering.{refusal, refuses, refused_on}
 use Rattle.sml_piece.proofs.Matches.{types_each, more, stops_at, entries_more, entries_split}
 use Rattle.sml_piece.proofs.matching.types_agree.Goals as goal

@@ -4,7 +4,7 @@ use Rattle.sml_objects.specs.Initial.{naming}
 use Rattle.sml_objects.specs.Views.{env_of, schemes_of}
 use Rattle.sml_rules.specs.Answers.{accepted}
 use Rattle.sml_rules.specs.Readings.{read_types}
-use Rattle.sml_piece.specs.Matched.{sends}
+use Rattle.sml_piece.specs.CodeMatched.{sends}
 use Rattle.sml_piece.proofs.matching.types_agree.Given as goal
 
 abbrev pub invariant-loop-name : goal.invariant-loop-name

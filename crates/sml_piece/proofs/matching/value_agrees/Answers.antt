@@ -5,7 +5,7 @@ use Rattle.sml_objects.specs.Views.{env_of, scheme_of, type_of}
 use Rattle.sml_rules.specs.Answers.{fault_at}
 use Rattle.sml_rules.specs.Matching.{realise_type}
 use Rattle.sml_rules.specs.Rules.{IsOpen, IsInstance}
-use Rattle.sml_piece.specs.Matched.{sends, Decides}
+use Rattle.sml_piece.specs.CodeMatched.{sends, Decides}
 use Rattle.sml_piece.proofs.Answering.{refused_by}
 use Rattle.sml_piece.proofs.Matches.{value_there, value_not, value_missing}
 use Rattle.sml_piece.proofs.matching.value_agrees.Goals as goal

@@ -13,7 +13,7 @@ use Rattle.sml_rules.specs.Matching.{realise_type}
 use Rattle.sml_rules.specs.Rules.{IsOpen}
 use Rattle.sml_rules.specs.Readings.{read_values}
 use Rattle.sml_piece.specs.Elaborated.{Answers}
-use Rattle.sml_piece.specs.Matched.{sends, read_value, PlainUnder}
+use Rattle.sml_piece.specs.CodeMatched.{sends, read_value, PlainUnder}
 use Rattle.sml_piece.proofs.Answering.{refusal, refuses, refused_on}
 use Rattle.sml_piece.proofs.Matches.{values_each, more, stops_at, entries_more, entries_split, plain_at}
 use Rattle.sml_piece.proofs.matching.values_agree.Goals as goal

@@ -5,7 +5,7 @@ use Rattle.sml_objects.specs.Objects.{values}
 use Rattle.sml_objects.specs.Views.{env_of, schemes_of}
 use Rattle.sml_rules.specs.Answers.{accepted}
 use Rattle.sml_rules.specs.Readings.{read_values}
-use Rattle.sml_piece.specs.Matched.{sends, PlainUnder}
+use Rattle.sml_piece.specs.CodeMatched.{sends, PlainUnder}
 use Rattle.sml_piece.proofs.matching.values_agree.Given as goal
 
 abbrev pub invariant-loop-name : goal.invariant-loop-name

@@ -1,7 +1,7 @@
 -- The nodes that were added lead to what is on the stack.
 use Rattle.std.proofs.Common.{◌≡◌, List, ◌++◌, reverse}
 use Rattle.sml_read.specs.declared.grammar.Node.{Node}
-use Rattle.sml_read.specs.Steps.{cost}
+use Rattle.sml_read.specs.CodeSteps.{cost}
 use Rattle.sml_read.proofs.Trees.{Expands}
 use Rattle.sml_read.proofs.read.take_token.Given as goal
 

@@ -5,8 +5,8 @@ use Rattle.std.proofs.lemmas.Bool.{ltb-true, ltb-false}
 use Rattle.std.proofs.lemmas.Option.{slice_get_past, slice_get_read}
 use Rattle.sml_read.specs.declared.grammar.Rule.{Rule}
 use Rattle.sml_read.specs.Numbers.{kind_number}
-use Rattle.sml_read.specs.All.{rules_of}
-use Rattle.sml_read.specs.Table.{row_of}
+use Rattle.sml_read.specs.CodeAll.{rules_of}
+use Rattle.sml_read.specs.CodeTable.{row_of}
 use Rattle.sml_read.proofs.Tables.{cell_none, cell_some}
 use Rattle.sml_read.proofs.table.choice.Goals as goal
 

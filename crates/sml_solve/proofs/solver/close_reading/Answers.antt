@@ -5,7 +5,7 @@ use Rattle.sml_graph.specs.Asked.{Asked, asked_of, count}
 use Rattle.sml_graph.specs.Interned.{IsOver}
 use Rattle.sml_demands.specs.Left.{IsLeft}
 use Rattle.sml_demands.specs.Schemes.{IsSchemeOfReading, fate_at}
-use Rattle.sml_graph.specs.Whole.{IsKept}
+use Rattle.sml_graph.specs.CodeWhole.{IsKept}
 use Rattle.sml_demands.proofs.Fated.{fate-is}
 use Rattle.sml_demands.proofs.Owning.{made-over}
 use Rattle.sml_solve.proofs.solver.close_reading.Goals as goal

@@ -5,7 +5,7 @@ use Rattle.sml_objects.specs.Views.{maker_of}
 use Rattle.sml_graph.specs.Asked.{Asked, count}
 use Rattle.sml_demands.specs.Fixed.{AreFixed, AreMarks, places_of}
 use Rattle.sml_graph.specs.Changes.{AreCovered, AreInside}
-use Rattle.sml_demands.specs.Levels.{AreHandedBut, HandsLevels, IsKeptWith}
+use Rattle.sml_demands.specs.CodeLevels.{AreHandedBut, HandsLevels, IsKeptWith}
 use Rattle.sml_solve.proofs.Fixing.{flags-are, places-inside}
 use Rattle.sml_demands.proofs.Levelling.{handed-covered, levels-handed}
 use Rattle.sml_solve.proofs.solver.fixed_flags.Goals as goal

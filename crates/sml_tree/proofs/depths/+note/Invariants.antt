@@ -2,7 +2,7 @@
 use Rattle.std.proofs.Common.{◌≡◌, ◌≤◌, max, map, drop, length}
 use Rattle.sml_tree.specs.Trees.{Id}
 use Rattle.sml_tree.specs.TypeViews.{ty_of, tys_of, ty_field_of, ty_fields_of}
-use Rattle.sml_tree.specs.Depths.{tys_depth, fields_depth}
+use Rattle.sml_tree.specs.CodeDepths.{tys_depth, fields_depth}
 use Rattle.sml_tree.specs.CodeSides.{deep}
 use Rattle.sml_tree.proofs.depths.+note.Given as goal
 

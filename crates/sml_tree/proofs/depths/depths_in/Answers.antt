@@ -1,6 +1,6 @@
 use Rattle.std.proofs.Common.{◌∙◌, ◌+◌, ap, ◌++◌, drop}
 use Rattle.sml_tree.specs.TypeViews.{names_of}
-use Rattle.sml_tree.specs.Depths.{depths}
+use Rattle.sml_tree.specs.CodeDepths.{depths}
 use Rattle.sml_tree.specs.CodeSides.{deep}
 use Rattle.sml_tree.proofs.DepthLists.{depths_on}
 use Rattle.sml_tree.proofs.depths.depths_in.Goals as goal

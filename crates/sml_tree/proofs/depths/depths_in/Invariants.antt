@@ -1,7 +1,7 @@
 -- What was found, and what will be found from here on.
 use Rattle.std.proofs.Common.{◌≡◌, ◌++◌, drop}
 use Rattle.sml_tree.specs.TypeViews.{names_of, ty_of}
-use Rattle.sml_tree.specs.Depths.{depth, depths}
+use Rattle.sml_tree.specs.CodeDepths.{depth, depths}
 use Rattle.sml_tree.specs.CodeSides.{deep}
 use Rattle.sml_tree.proofs.depths.depths_in.Given as goal
 

@@ -13,7 +13,7 @@ use Rattle.sml_objects.specs.declared.objects.Scheme.{Scheme}
 use Rattle.sml_objects.proofs.TypeViews.{parts_of}
 use Rattle.sml_objects.proofs.TypeCopies.{shared-type}
 use Rattle.sml_rules.specs.Matching.{realise_type, realise_types}
-use Rattle.sml_piece.specs.Matched.{sends}
+use Rattle.sml_piece.specs.CodeMatched.{sends}
 use Rattle.sml_piece.proofs.Realising.{realised_bound, realised_free, realised_row, realised_arrow, realised_name, realised_by_function, all_realised, looked_up}
 use Rattle.sml_piece.proofs.realisations.Realisation.+realising.Goals as goal
 

@@ -1,7 +1,7 @@
 use Rattle.std.proofs.Common.{◌≡◌, map, take}
 use Rattle.sml_objects.proofs.TypeViews.{parts_of}
 use Rattle.sml_rules.specs.Matching.{realise_type}
-use Rattle.sml_piece.specs.Matched.{sends}
+use Rattle.sml_piece.specs.CodeMatched.{sends}
 use Rattle.sml_piece.proofs.realisations.Realisation.+realising.Given as goal
 
 abbrev pub invariant-all_realised-loop-ty : goal.invariant-all_realised-loop-ty

@@ -4,7 +4,7 @@ use Rattle.indexmap.proofs.CallerLemmas.{insert_entry-new}
 use Rattle.sml_objects.specs.Views.{name_of, scheme_of}
 use Rattle.sml_objects.proofs.NameTests.{eq}
 use Rattle.sml_piece.specs.Elaborated.{or_else}
-use Rattle.sml_piece.specs.Matched.{sends, alone}
+use Rattle.sml_piece.specs.CodeMatched.{sends, alone}
 use Rattle.sml_piece.proofs.Realising.{sent_already, sent_last, none_of}
 use Rattle.sml_piece.proofs.realisations.Realisation.send.Goals as goal
 

@@ -3,7 +3,7 @@ use Rattle.std.specs.Prelude.{false}
 use Rattle.sml_objects.specs.Views.{maker_of}
 use Rattle.sml_graph.specs.Asked.{Asked}
 use Rattle.sml_demands.specs.Left.{IsMostGeneral}
-use Rattle.sml_graph.specs.Whole.{IsKept}
+use Rattle.sml_graph.specs.CodeWhole.{IsKept}
 use Rattle.sml_demands.proofs.Owning.{most-general}
 use Rattle.sml_solve.proofs.solver.Solver.choices_are_free.Goals as goal
 

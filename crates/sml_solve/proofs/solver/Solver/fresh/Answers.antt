@@ -3,8 +3,8 @@ use Rattle.std.specs.Prelude.{false}
 use Rattle.sml_objects.specs.Views.{maker_of}
 use Rattle.sml_graph.specs.declared.node.Node.TheVariants.{Unknown}
 use Rattle.sml_graph.specs.Asked.{asked_of, PermitsSame}
-use Rattle.sml_graph.specs.Whole.{IsKept, IsFull}
-use Rattle.sml_demands.specs.Levels.{BeginsLevel}
+use Rattle.sml_graph.specs.CodeWhole.{IsKept, IsFull}
+use Rattle.sml_demands.specs.CodeLevels.{BeginsLevel}
 use Rattle.sml_demands.proofs.Levelling.{levels-fresh}
 use Rattle.sml_demands.proofs.Demanding.{kept-fresh, permits-fresh}
 use Rattle.sml_solve.proofs.solver.Solver.fresh.Goals as goal

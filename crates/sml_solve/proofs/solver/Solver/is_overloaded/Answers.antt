@@ -5,7 +5,7 @@ use Rattle.sml_objects.specs.Views.{maker_of}
 use Rattle.sml_layers.specs.declared.layer.Layer.{Layer}
 use Rattle.sml_graph.specs.Asked.{asked_of, count, CanMeet}
 use Rattle.sml_demands.specs.Overloaded.{IsOverloaded}
-use Rattle.sml_graph.specs.Whole.{IsKept}
+use Rattle.sml_graph.specs.CodeWhole.{IsKept}
 use Rattle.sml_graph.proofs.Wholeness.{on_true}
 use Rattle.sml_demands.proofs.Overloading.{overloaded-if, overloaded-only-if}
 use Rattle.sml_solve.proofs.Defaulting.{to_int, can-be-int}

@@ -2,7 +2,7 @@ use Rattle.std.proofs.Common.{arith}
 use Rattle.std.specs.Prelude.{false}
 use Rattle.sml_objects.specs.Views.{maker_of}
 use Rattle.sml_graph.specs.declared.graph.Graph.{Graph}
-use Rattle.sml_graph.specs.Whole.{IsKept}
+use Rattle.sml_graph.specs.CodeWhole.{IsKept}
 use Rattle.sml_demands.proofs.Levelling.{levels-none}
 use Rattle.sml_demands.proofs.Demanding.{kept-none, whole-met}
 use Rattle.sml_solve.proofs.solver.Solver.new.Goals as goal

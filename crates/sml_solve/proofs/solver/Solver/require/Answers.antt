@@ -2,7 +2,7 @@ use Rattle.std.proofs.Common.{rules, ◌≡◌, ◌∙◌, ap, subst, sym}
 use Rattle.std.specs.Prelude.{false}
 use Rattle.sml_objects.specs.Views.{type_of, maker_of}
 use Rattle.sml_graph.specs.Asked.{asked_of, asks, Demand, Adds, CanMeet, IsFirstUnmet}
-use Rattle.sml_graph.specs.Whole.{IsKept}
+use Rattle.sml_graph.specs.CodeWhole.{IsKept}
 use Rattle.sml_demands.proofs.Levelling.{levels-grown}
 use Rattle.sml_solve.proofs.solver.Solver.require.Goals as goal
 

@@ -3,7 +3,7 @@ use Rattle.std.specs.Prelude.{false}
 use Rattle.sml_objects.specs.Views.{type_of, maker_of}
 use Rattle.sml_graph.specs.declared.demand.Refusal.TheVariants.{Unmet}
 use Rattle.sml_graph.specs.Asked.{asked_of, equal, Demand, Adds, CanMeet, IsFirstUnmet}
-use Rattle.sml_graph.specs.Whole.{IsKept}
+use Rattle.sml_graph.specs.CodeWhole.{IsKept}
 use Rattle.sml_demands.proofs.Levelling.{levels-moved}
 use Rattle.sml_solve.proofs.solver.Solver.require_equal.Goals as goal
 

@@ -6,8 +6,8 @@ use Rattle.sml_layers.specs.Worlds.{finite}
 use Rattle.sml_graph.specs.Graphs.{node_at}
 use Rattle.sml_graph.specs.Interned.{IsOver, Interns}
 use Rattle.sml_graph.specs.Asked.{asked_of, IsOf, PermitsSame}
-use Rattle.sml_demands.specs.Settled.{has_labels}
-use Rattle.sml_graph.specs.Whole.{IsKept, IsWhole}
+use Rattle.sml_demands.specs.CodeSettled.{has_labels}
+use Rattle.sml_graph.specs.CodeWhole.{IsKept, IsWhole}
 use Rattle.sml_demands.proofs.Levelling.{grown-moves, levels-grown}
 use Rattle.sml_demands.proofs.Demanding.{Grows, permits-grown, kept-grown}
 use Rattle.sml_demands.proofs.Labelling.{labels-same, labels-as, one-set, several}

@@ -2,7 +2,7 @@ use Rattle.std.proofs.Common.{◌≡◌, ◌+◌, ◌<◌, inl, inr, length, sym
 use Rattle.sml_objects.specs.Views.{maker_of}
 use Rattle.sml_graph.specs.Asked.{asked_of, count}
 use Rattle.sml_demands.specs.Overloaded.{Settles}
-use Rattle.sml_graph.specs.Whole.{IsKept}
+use Rattle.sml_graph.specs.CodeWhole.{IsKept}
 use Rattle.sml_solve.proofs.Defaulting.{settled-first, settled-more, settled-as}
 use Rattle.sml_solve.proofs.solver.Solver.settle.Goals as goal
 

@@ -4,7 +4,7 @@ use Rattle.sml_objects.specs.Views.{type_of, maker_of}
 use Rattle.sml_graph.specs.Interned.{IsOver, Interns}
 use Rattle.sml_graph.specs.Asked.{asked_of, IsOf, PermitsSame}
 use Rattle.sml_demands.specs.Counted.{IsCounted, IsSizeUpTo}
-use Rattle.sml_graph.specs.Whole.{IsKept, IsWhole}
+use Rattle.sml_graph.specs.CodeWhole.{IsKept, IsWhole}
 use Rattle.sml_demands.proofs.Levelling.{grown-moves, levels-grown}
 use Rattle.sml_demands.proofs.Demanding.{Grows, permits-grown, kept-grown}
 use Rattle.sml_demands.proofs.Counting.{counted-size}

@@ -4,7 +4,7 @@ use Rattle.sml_tree.specs.BindingViews.{typ_bind_of}
 use Rattle.sml_tree.specs.Withtype.{all_replaced, replaced}
 use Rattle.sml_tree.specs.Height.{counted}
 use Rattle.sml_tree.specs.Heights.{ty_height, tys_height}
-use Rattle.sml_tree.specs.Depths.{reached}
+use Rattle.sml_tree.specs.CodeDepths.{reached}
 use Rattle.sml_tree.proofs.RightSides.{ty_of-constructor, all_replaced_count, either_way, one_higher}
 use Rattle.sml_tree.proofs.sides.Sides.+sides.Goals as goal
 

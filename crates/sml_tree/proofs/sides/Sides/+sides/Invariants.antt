@@ -5,7 +5,7 @@ use Rattle.sml_tree.specs.BindingViews.{typ_bind_of}
 use Rattle.sml_tree.specs.Height.{counted}
 use Rattle.sml_tree.specs.Heights.{tys_height, ty_fields_height}
 use Rattle.sml_tree.specs.Withtype.{all_replaced, fields_replaced}
-use Rattle.sml_tree.specs.Depths.{reached}
+use Rattle.sml_tree.specs.CodeDepths.{reached}
 use Rattle.sml_tree.proofs.sides.Sides.+sides.Given as goal
 
 abbrev pub invariant-height_of_fields-loop-index : goal.invariant-height_of_fields-loop-index

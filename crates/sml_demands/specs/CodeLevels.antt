@@ -10,7 +10,7 @@ use Rattle.sml_graph.specs.Worlds.{Assignment}
 use Rattle.sml_graph.specs.Graphs.{node_at, parts, Meets, IsSame, IsRoot}
 use Rattle.sml_graph.specs.Changes.{HasChange, BeginsWith, IsChange, IsOfAll, AreInside}
 use Rattle.sml_demands.specs.Fixed.{IsFixedBy, IsMarked}
-use Rattle.sml_graph.specs.Whole.{IsKept}
+use Rattle.sml_graph.specs.CodeWhole.{IsKept}
 
 -- the number of an unknown, or one that is above all these
 abbrev pub level_of : Option ℕ → ℕ

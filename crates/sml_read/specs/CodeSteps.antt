@@ -6,7 +6,7 @@ use Rattle.sml_read.specs.declared.grammar.Symbol.{Symbol}
 use Rattle.sml_read.specs.declared.grammar.Symbol.TheVariants.{Word, Of}
 use Rattle.sml_read.specs.declared.grammar.Node.{Node}
 use Rattle.sml_read.specs.Parts.{may_be_empty}
-use Rattle.sml_read.specs.Shortest.{shortest_text, continuations, weight}
+use Rattle.sml_read.specs.CodeShortest.{shortest_text, continuations, weight}
 use Rattle.sml_read.specs.Spelling.{is_among, head_or, is_outer, is_closed, Leads}
 
 abbrev pub goes_on : Part → Option Kind → Bool

@@ -5,7 +5,7 @@ use Rattle.sml_read.specs.declared.grammar.Part.{Part}
 use Rattle.sml_read.specs.declared.grammar.Rule.{Rule}
 use Rattle.sml_read.specs.Grammar.{right_side}
 use Rattle.sml_read.specs.Parts.{part_of}
-use Rattle.sml_read.specs.All.{all_kinds, rules_of}
+use Rattle.sml_read.specs.CodeAll.{all_kinds, rules_of}
 use Rattle.sml_read.specs.Spelling.{begins_with, all_empty, side_begins_with}
 
 -- whether the rule is the one to take before this kind

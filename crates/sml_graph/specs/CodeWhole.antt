@@ -10,7 +10,7 @@ use Rattle.sml_layers.specs.Worlds.{finite}
 use Rattle.sml_graph.specs.Worlds.{Assignment}
 use Rattle.sml_graph.specs.Graphs.{IsSound, Meets, AreOwners}
 use Rattle.sml_graph.specs.Changes.{SameOutside, AreInside}
-use Rattle.sml_graph.specs.Ranks.{HasRank, AreFrom, AreOrdered, AreOrderedBut}
+use Rattle.sml_graph.specs.CodeRanks.{HasRank, AreFrom, AreOrdered, AreOrderedBut}
 use Rattle.sml_layers.specs.Layers.{index_of}
 use Rattle.sml_graph.specs.Limits.{KeepsAt, IsClosed, IsFit, IsDoneBut, SameLimits, NoneKeeps, Lowers}
 

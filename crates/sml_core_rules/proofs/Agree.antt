@@ -15,6 +15,7 @@ use Rattle.sml_layers.specs.declared.variable.Variable.{Variable}
 use Rattle.sml_layers.specs.Demands.{CanBeMet}
 use Rattle.sml_layers.specs.Layers.{code_of}
 use Rattle.sml_lex.specs.Faults.{Fault}
+use Rattle.sml_objects.proofs.Standing.{left, right}
 use Rattle.sml_rules.specs.Answers.{Answer, refused, accepted, fault}
 use Rattle.sml_core_rules.specs.Objects.{Env, names_env, empty}
 use Rattle.sml_core_rules.specs.States.{Scope, State, words, AreMade, with_unknowns, with_made, with_demand, with_rows}
@@ -188,17 +189,6 @@ names-along scope far ws old ns ms new also =
     swap scope.names Scope scope (λ M x. x.names.initial int) scope.names.attributes (IsPlain scope) (scope-step scope) old ns ms (made-apart scope ws old ns new) (made-apart scope ws old ms also)
     (made-kinds scope ws old old ns ms new also) (made-plain scope far ws old ns new) (made-plain scope far ws old ms also)
 
-pub stands-behind : {N : Type 0} (n : N) (ms ns : List N) → Stands n ns → Stands n (ms ++ ns)
-unfolding Stands
-stands-behind n [] ns h = h
-stands-behind n (m ∷ ms) ns h = inr (stands-behind n ms ns h)
-
-pub stands-before : {N : Type 0} (n : N) (ms ns : List N) → Stands n ms → Stands n (ms ++ ns)
-unfolding Stands
-stands-before n [] ns h = absurd h
-stands-before n (m ∷ ms) ns (inl e) = inl e
-stands-before n (m ∷ ms) ns (inr h) = inr (stands-before n ms ns h)
-
 pub dropped : {N : Type 0} (ms ns : List N) → drop (length ms) (ms ++ ns) ≡ ns
 dropped [] ns = refl
 dropped (m ∷ ms) ns = dropped ms ns
@@ -224,10 +214,10 @@ module _ {P : Type 0} (F : Type 0 → Type 0) {N : Type 0} (scope : Scope N) (fa
   finitely s m = lower (words scope) Finiteness Rigidity (omega arith) m.0 s.demands m.1
 
   before : (C : Env N) (s : State P N) (n : N) → Stands n (names_env C) → Stands n (names_env C ++ s.names)
-  before C s n j = stands-before n (names_env C) s.names j
+  before C s n j = left n (names_env C) s.names j
 
   behind : (C : Env N) {k : Script P N (F N)} (s : State P N) → Settled k s → (j : Initial) → Stands (scope.names.initial j) (names_env C ++ s.names)
-  behind C s h j = stands-behind (scope.names.initial j) (names_env C) s.names (h.initials j)
+  behind C s h j = right (scope.names.initial j) (names_env C) s.names (h.initials j)
 
   -- what comes behind new names is left by what leaves these too
 
@@ -243,7 +233,7 @@ module _ {P : Type 0} (F : Type 0 → Type 0) {N : Type 0} (scope : Scope N) (fa
         let K = h.script p u (become-right p ms s.names v) in
         let S = h.state p u (become-right p ms s.names v) in
         let l = become-list p ms ms (become-left p ms s.names v) in λ i. later (chosen (K i) (l i)) (K i) (S i);
-    initials = λ j. stands-behind (scope.names.initial j) ms s.names (h.initials j);
+    initials = λ j. right (scope.names.initial j) ms s.names (h.initials j);
     met = h.met;
   }
 
@@ -258,7 +248,7 @@ module _ {P : Type 0} (F : Type 0 → Type 0) {N : Type 0} (scope : Scope N) (fa
         let K = h.script p u (become-right p ms s.names v) in
         let S = h.state p u (become-right p ms s.names v) in
         let l = become-list p ms ms (become-left p ms s.names v) in λ i. later (chosen (K i) (l i)) (K i) (S i);
-    initials = λ j. stands-behind (scope.names.initial j) ms s.names (h.initials j);
+    initials = λ j. right (scope.names.initial j) ms s.names (h.initials j);
     met = h.met;
   }
 
@@ -340,7 +330,7 @@ module _ {P : Type 0} (F : Type 0 → Type 0) {N : Type 0} (scope : Scope N) (fa
       let ρ = choices-along scope far C ds old (before C s) (behind C s h) ns ms new also made done gs hs e f a b in
       let c' : IsAnswer scope (k ns (value_of (arguments_of C ds ns))) (with_made ns s) o = subst (λ gs. IsAnswer scope (k ns gs) (with_made ns s) o) (sym (ap value_of e)) c in
       let d' : IsAnswer scope (k ms (value_of (arguments_of C ds ms))) (with_made ms s) q = subst (λ gs. IsAnswer scope (k ms gs) (with_made ms s) q) (sym (ap value_of f)) d in
-      let r = carried (makes_datatypes C ds k) s h old ns ms (λ n j. stands-behind n (names_env C) s.names j) ρ o c' in
+      let r = carried (makes_datatypes C ds k) s h old ns ms (λ n j. right n (names_env C) s.names j) ρ o c' in
       r.1 ∙ shorter ms s.names r.0 q (agree (k ms (value_of (arguments_of C ds ms))) (with_made ms s) (behind-datatypes C ds k s h ms) r.0 q r.2 d')
   agree (makes_names ws k) s h o q (ns, new, c) (ms, also, d) =
       let ρ = names-along scope far ws s.names ns ms new also in

@@ -7,6 +7,7 @@ use Rattle.sml_tree.specs.Expressions.{DatBind}
 use Rattle.sml_objects.specs.Appearance.{Stands}
 use Rattle.sml_objects.specs.Names.{Naming, Attributes, Initial, int}
 use Rattle.sml_objects.specs.Objects.{Outside}
+use Rattle.sml_objects.proofs.Standing.{left, right}
 use Rattle.sml_layers.specs.declared.variable.Variable.{Variable}
 use Rattle.sml_rules.specs.Answers.{Answer, refused}
 use Rattle.sml_rules.proofs.Settled.{outside-left, outside-right, outside-append}
@@ -15,7 +16,7 @@ use Rattle.sml_core_rules.specs.States.{Scope, State, AreMade, with_made}
 use Rattle.sml_core_rules.specs.Datatypes.{Arguments, AreNew, arguments_of}
 use Rattle.sml_core_rules.specs.Scripts.{Script, give, refuse, tests, either, makes_unknowns, requires, sees, sets_rows, requires_or, closes, determines, makes_names, makes_datatypes, ◌>>=◌, result, IsAnswer}
 use Rattle.sml_core_rules.proofs.Along.{Become, become-list, become-left, become-right, become-known}
-use Rattle.sml_core_rules.proofs.Agree.{nothing, next, making, chosen, faults-same, never-both, choices-along, names-along, stands-behind, stands-before, dropped}
+use Rattle.sml_core_rules.proofs.Agree.{nothing, next, making, chosen, faults-same, never-both, choices-along, names-along, dropped}
 use Rattle.sml_core_rules.proofs.Flags.{value_of}
 
 unfoldable pub IsPlain : {P N X : Type 0} → Script P N X → Type 0
@@ -111,7 +112,7 @@ module _ {P : Type 0} (F : Type 0 → Type 0) {N : Type 0} (scope : Scope N) (fa
     script = λ p u v.
         let K = h.script p u (become-right p ms old v) in
         let l = become-list p ms ms (become-left p ms old v) in λ i. next (chosen (K i) (l i)) (K i) no_state;
-    initials = λ j. stands-behind (scope.names.initial j) ms old (h.initials j);
+    initials = λ j. right (scope.names.initial j) ms old (h.initials j);
   }
 
   behind-datatypes : (C : Env N) (ds : List (DatBind P)) (k : List N → List (Arguments N) → Script P N (F N)) (old : List N) → Fixed old (makes_datatypes C ds k) → (ms : List N)
@@ -121,7 +122,7 @@ module _ {P : Type 0} (F : Type 0 → Type 0) {N : Type 0} (scope : Scope N) (fa
     script = λ p u v.
         let K = h.script p u (become-right p ms old v) in
         let l = become-list p ms ms (become-left p ms old v) in λ i. next (chosen (K i) (l i)) (K i) no_state;
-    initials = λ j. stands-behind (scope.names.initial j) ms old (h.initials j);
+    initials = λ j. right (scope.names.initial j) ms old (h.initials j);
   }
 
   newer : (C : Env N) (ds : List (DatBind P)) (old : List N) (s : State P N) → Covers old s → (ns : List N) → AreNew scope.names (names_env C ++ s.names) ds ns
@@ -160,22 +161,22 @@ module _ {P : Type 0} (F : Type 0 → Type 0) {N : Type 0} (scope : Scope N) (fa
       r.3 ∙ fewer ms old r.1 q (agree-plain (k ms) (e ms) (ms ++ old) (behind-names ws k old h ms) r.0 (with_made ms t) r.2 (covers-more ms old t d) r.1 q r.4 b)
   agree-plain (makes_datatypes C ds k) e old h s t c d o q (ns, new, made, inl a) (ms, also, done, inl b) =
       let f =
-      faults-same scope far C ds (names_env C ++ old) (λ n j. stands-before n (names_env C) old j) (λ j. stands-behind (scope.names.initial j) (names_env C) old (h.initials j)) ns ms
+      faults-same scope far C ds (names_env C ++ old) (λ n j. left n (names_env C) old j) (λ j. right (scope.names.initial j) (names_env C) old (h.initials j)) ns ms
       (newer C ds old s c ns new) (newer C ds old t d ms also) made done a.0 b.0 a.1 b.1 in
       λ i. (N, scope, old, (ap result a.2 ∙ (ap refused f ∙ sym (ap result b.2))) i)
   agree-plain (makes_datatypes C ds k) e old h s t c d o q (ns, new, made, inl a) (ms, also, done, inr b) =
-      absurd (never-both scope far C ds (names_env C ++ old) (λ n j. stands-before n (names_env C) old j) (λ j. stands-behind (scope.names.initial j) (names_env C) old (h.initials j)) ns ms
+      absurd (never-both scope far C ds (names_env C ++ old) (λ n j. left n (names_env C) old j) (λ j. right (scope.names.initial j) (names_env C) old (h.initials j)) ns ms
       (newer C ds old s c ns new) (newer C ds old t d ms also) made done a.0 b.0 a.1 b.1)
   agree-plain (makes_datatypes C ds k) e old h s t c d o q (ns, new, made, inr a) (ms, also, done, inl b) =
-      absurd (never-both scope far C ds (names_env C ++ old) (λ n j. stands-before n (names_env C) old j) (λ j. stands-behind (scope.names.initial j) (names_env C) old (h.initials j)) ms ns
+      absurd (never-both scope far C ds (names_env C ++ old) (λ n j. left n (names_env C) old j) (λ j. right (scope.names.initial j) (names_env C) old (h.initials j)) ms ns
       (newer C ds old t d ms also) (newer C ds old s c ns new) done made b.0 a.0 b.1 a.1)
   agree-plain (makes_datatypes C ds k) e old h s t c d o q (ns, new, made, inr (gs, f, x, a)) (ms, also, done, inr (hs, g, y, b)) =
       let ρ =
-      choices-along scope far C ds (names_env C ++ old) (λ n j. stands-before n (names_env C) old j) (λ j. stands-behind (scope.names.initial j) (names_env C) old (h.initials j)) ns ms
+      choices-along scope far C ds (names_env C ++ old) (λ n j. left n (names_env C) old j) (λ j. right (scope.names.initial j) (names_env C) old (h.initials j)) ns ms
       (newer C ds old s c ns new) (newer C ds old t d ms also) made done gs hs f g x y in
       let a' : IsAnswer scope (k ns (value_of (arguments_of C ds ns))) (with_made ns s) o = subst (λ gs. IsAnswer scope (k ns gs) (with_made ns s) o) (sym (ap value_of f)) a in
       let b' : IsAnswer scope (k ms (value_of (arguments_of C ds ms))) (with_made ms t) q = subst (λ gs. IsAnswer scope (k ms gs) (with_made ms t) q) (sym (ap value_of g)) b in
-      let r = carried (makes_datatypes C ds k) old h (names_env C ++ old) ns ms (λ n j. stands-behind n (names_env C) old j) ρ (with_made ns s) (covers-more ns old s c) o a' in
+      let r = carried (makes_datatypes C ds k) old h (names_env C ++ old) ns ms (λ n j. right n (names_env C) old j) ρ (with_made ns s) (covers-more ns old s c) o a' in
       r.3
       ∙ fewer ms old r.1 q
       (agree-plain (k ms (value_of (arguments_of C ds ms))) (e ms (value_of (arguments_of C ds ms))) (ms ++ old) (behind-datatypes C ds k old h ms) r.0 (with_made ms t) r.2 (covers-more ms old t d) r.1 q r.4 b')

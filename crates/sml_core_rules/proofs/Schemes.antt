@@ -1,13 +1,13 @@
 -- The demands leave a type one scheme.
-use Rattle.std.proofs.Common.{◌≡◌, ◌↔◌, ℕ, inl, inr, Bool, true, false, cond, List, [], ◌∷◌, ◌++◌, map, refl, sym, ◌∙◌, ap}
-use Rattle.std.specs.List.{AllByRecursion}
+use Rattle.std.proofs.Common.{◌≡◌, ◌↔◌, ℕ, inl, inr, Bool, true, false, cond, List, [], ◌∷◌, ◌++◌, map, refl, sym, ◌∙◌, ap, nat_eq}
+use Rattle.std.specs.List.{AllByRecursion, list_any}
 use Rattle.std.proofs.lemmas.Bool.{cases_order}
 use Rattle.sml_objects.specs.declared.fates.Fate.{Fate}
 use Rattle.sml_objects.specs.declared.fates.Fate.TheVariants.{Bind, Keep, Default}
 use Rattle.sml_objects.specs.Fates.{close_as}
 use Rattle.sml_objects.specs.Names.{int}
 use Rattle.sml_objects.specs.Objects.{MlType, MlTypes, Head, Scheme, bound, free, app, arrow, row, name, no_type, and_type, types_of, named}
-use Rattle.sml_objects.specs.Types.{assign, replace_type, replace_types, is_among, variables_after, variables_after_all}
+use Rattle.sml_objects.specs.Types.{assign, replace_type, replace_types, variables_after, variables_after_all}
 use Rattle.sml_layers.specs.declared.layer.Layer.TheVariants.{Finiteness}
 use Rattle.sml_layers.specs.Worlds.{Assignment, finite}
 use Rattle.sml_core_rules.specs.States.{Scope, State}
@@ -126,7 +126,7 @@ module _ {P N : Type 0} (scope : Scope N) (s : State P N) where
 
     variables-left : (seen : List ℕ) (t : MlType N) → AllByRecursion (IsLeft scope s) seen → IsOfLeft scope s t → AllByRecursion (IsLeft scope s) (variables_after seen t)
     variables-left seen (bound k) a m = absurd m
-    variables-left seen (free v) a m = seen-also (IsLeft scope s) v (is_among v seen) seen a m
+    variables-left seen (free v) a m = seen-also (IsLeft scope s) v (list_any (nat_eq v) seen) seen a m
     variables-left seen (app h ts) a m = all-variables-left seen ts a m
 
     all-variables-left : (seen : List ℕ) (ts : MlTypes N) → AllByRecursion (IsLeft scope s) seen → AreOfLeft scope s ts → AllByRecursion (IsLeft scope s) (variables_after_all seen ts)

@@ -1,13 +1,13 @@
 -- What becomes of the unknowns that are left, by what is asked of them.
-use Rattle.std.proofs.Common.{◌≡◌, ℕ, ◌<◌, ◌≤◌, ◌⊎◌, inl, inr, Bool, true, false, ◌||◌, not, cond, Option, Some, None, List, [], ◌∷◌, ◌++◌, length, get_or, sym, ◌∙◌, ap, subst, refl, arith, zero, suc, ◌+◌, Box, Global}
+use Rattle.std.proofs.Common.{◌≡◌, ℕ, ◌<◌, ◌≤◌, ◌⊎◌, inl, inr, Bool, true, false, ◌||◌, not, cond, Option, Some, None, List, [], ◌∷◌, ◌++◌, length, get_or, sym, ◌∙◌, ap, subst, refl, arith, zero, suc, ◌+◌, Box, Global, nat_eq}
 use Rattle.std.specs.Prelude.{Result, Ok, Err, IfOk}
-use Rattle.std.specs.List.{AllByRecursion}
+use Rattle.std.specs.List.{AllByRecursion, list_any}
 use Rattle.sml_lex.specs.declared.fault.Memory.{Memory}
 use Rattle.sml_objects.specs.Names as N
 use Rattle.sml_objects.specs.Initial.{Name, initial, naming}
 use Rattle.sml_objects.specs.Equality.{admits}
 use Rattle.sml_objects.specs.Objects as O
-use Rattle.sml_objects.specs.Types.{is_among, variables_after, variables_after_all, assign, replace_type, replace_types, index_among}
+use Rattle.sml_objects.specs.Types.{variables_after, variables_after_all, assign, replace_type, replace_types, index_among}
 use Rattle.sml_objects.specs.Fates.{attributes, substitutes, type_or, standing_for, close_as}
 use Rattle.sml_objects.specs.declared.objects.Scheme.{Scheme}
 use Rattle.sml_objects.specs.declared.fates.Fate.{Fate}
@@ -55,7 +55,7 @@ mutual
 
   pub variables-known : (n : ℕ) (seen : List ℕ) (t : O.MlType Name) → AllByRecursion (λ v. v < n) seen → IsOver n t → AllByRecursion (λ v. v < n) (variables_after seen t)
   variables-known n seen (O.bound k) a o = absurd o
-  variables-known n seen (O.free v) a o = seen-more n v (is_among v seen) seen a o
+  variables-known n seen (O.free v) a o = seen-more n v (list_any (nat_eq v) seen) seen a o
   variables-known n seen (O.app h ts) a o = all-variables-known n seen ts a o
 
   all-variables-known : (n : ℕ) (seen : List ℕ) (ts : O.MlTypes Name) → AllByRecursion (λ v. v < n) seen → AreOver n ts → AllByRecursion (λ v. v < n) (variables_after_all seen ts)

@@ -1,11 +1,12 @@
 -- Schemes without unknowns: those that type functions were put in are.
-use Rattle.std.specs.Prelude.{◌≡◌, ℕ, suc, Bool, true, false, cond, nat_eq, List, [], ◌∷◌, ◌++◌, map, slice_index_or, Some, None}
+use Rattle.std.specs.Prelude.{◌≡◌, ℕ, suc, Bool, true, false, cond, ◌||◌, nat_eq, List, [], ◌∷◌, map, slice_index_or, Some, None}
 use mathlib.Core.Path.{refl, ap}
-use Rattle.std.proofs.lemmas.Bool.{eq-eqb}
+use Rattle.std.specs.List.{list_any}
 use Rattle.sml_objects.specs.declared.fates.Fate.TheVariants.{Bind}
 use Rattle.sml_objects.specs.Fates.{close_as, substitutes, type_or, standing_for}
 use Rattle.sml_objects.specs.Objects.{MlType, MlTypes, bound, free, app, no_type, and_type}
-use Rattle.sml_objects.specs.Types.{assign, replace_type, replace_types, is_among, variables_after, variables_after_all, index_among}
+use Rattle.sml_objects.specs.Types.{assign, replace_type, replace_types, variables_after, variables_after_all, index_among}
+use Rattle.sml_objects.proofs.Closings.{all-stay-among, here-among}
 use Rattle.sml_core_rules.specs.Datatypes.{constructor_scheme}
 
 unfoldable mutual
@@ -67,67 +68,29 @@ mutual
 
 -- the variables of a type are among those collected
 
-among-front : (v : ℕ) (ws us : List ℕ) → is_among v ws ≡ true → is_among v (ws ++ us) ≡ true
-unfolding is_among
-among-front v [] us h = let f : false ≡ true = h in absurd cc
-among-front v (w ∷ ws) us h = go (nat_eq v w) h (among-front v ws us)
-  where
-    go : (b : Bool) → cond b true (is_among v ws) ≡ true → (is_among v ws ≡ true → is_among v (ws ++ us) ≡ true) → cond b true (is_among v (ws ++ us)) ≡ true
-    go true e k = refl
-    go false e k = k e
-
-among-last : (v : ℕ) (ws : List ℕ) → is_among v (ws ++ v ∷ []) ≡ true
-unfolding is_among
-among-last v [] = ap (λ b. cond b true false) (eq-eqb v v refl)
-among-last v (w ∷ ws) = go (nat_eq v w) (among-last v ws)
-  where
-    go : (b : Bool) → is_among v (ws ++ v ∷ []) ≡ true → cond b true (is_among v (ws ++ v ∷ [])) ≡ true
-    go true k = refl
-    go false k = k
-
-kept-seen : (b : Bool) (v w : ℕ) (seen : List ℕ) → is_among w seen ≡ true → is_among w (cond b seen (seen ++ v ∷ [])) ≡ true
-kept-seen true v w seen h = h
-kept-seen false v w seen h = among-front w seen (v ∷ []) h
-
-own-seen : (b : Bool) (v : ℕ) (seen : List ℕ) → is_among v seen ≡ b → is_among v (cond b seen (seen ++ v ∷ [])) ≡ true
-own-seen true v seen h = h
-own-seen false v seen h = among-last v seen
-
-mutual
-  unfolding variables_after variables_after_all
-
-  still-seen : {N : Type 0} (w : ℕ) (seen : List ℕ) (t : MlType N) → is_among w seen ≡ true → is_among w (variables_after seen t) ≡ true
-  still-seen w seen (bound k) h = h
-  still-seen w seen (free v) h = kept-seen (is_among v seen) v w seen h
-  still-seen w seen (app g ts) h = all-still-seen w seen ts h
-
-  all-still-seen : {N : Type 0} (w : ℕ) (seen : List ℕ) (ts : MlTypes N) → is_among w seen ≡ true → is_among w (variables_after_all seen ts) ≡ true
-  all-still-seen w seen no_type h = h
-  all-still-seen w seen (and_type t ts) h = all-still-seen w (variables_after seen t) ts (still-seen w seen t h)
-
 mutual
   unfolding variables_after variables_after_all AllFree
 
-  all-seen : {N : Type 0} (seen : List ℕ) (t : MlType N) → AllFree (λ v. is_among v (variables_after seen t) ≡ true) t
+  all-seen : {N : Type 0} (seen : List ℕ) (t : MlType N) → AllFree (λ v. list_any (nat_eq v) (variables_after seen t) ≡ true) t
   all-seen seen (bound k) = tt
-  all-seen seen (free v) = own-seen (is_among v seen) v seen refl
+  all-seen seen (free v) = here-among v seen (list_any (nat_eq v) seen) refl
   all-seen seen (app g ts) = all-all-seen seen ts
 
-  all-all-seen : {N : Type 0} (seen : List ℕ) (ts : MlTypes N) → AllFrees (λ v. is_among v (variables_after_all seen ts) ≡ true) ts
+  all-all-seen : {N : Type 0} (seen : List ℕ) (ts : MlTypes N) → AllFrees (λ v. list_any (nat_eq v) (variables_after_all seen ts) ≡ true) ts
   all-all-seen seen no_type = tt
   all-all-seen seen (and_type t ts) =
-      (more-free _ _ (λ v h. all-still-seen v (variables_after seen t) ts h) t (all-seen seen t), all-all-seen (variables_after seen t) ts)
+      (more-free _ _ (λ v h. all-stay-among v (variables_after seen t) ts h) t (all-seen seen t), all-all-seen (variables_after seen t) ts)
 
 -- what stands for a variable that is bound
 
-stands-closed : {N : Type 0} (u : MlType N) (e : ℕ → Bool) (k v : ℕ) (ws : List ℕ) → is_among v ws ≡ true
+stands-closed : {N : Type 0} (u : MlType N) (e : ℕ → Bool) (k v : ℕ) (ws : List ℕ) → list_any (nat_eq v) ws ≡ true
     → IsClosed (type_or (free v) (slice_index_or (substitutes u k (map (λ w. Bind (e w)) ws)) (index_among v ws) None))
-unfolding is_among index_among IsClosed
+unfolding index_among IsClosed
 stands-closed u e k v [] h = let f : false ≡ true = h in absurd cc
 stands-closed u e k v (w ∷ ws) h = go (nat_eq v w) h (stands-closed u e (suc k) v ws)
   where
-    go : (b : Bool) → cond b true (is_among v ws) ≡ true
-        → (is_among v ws ≡ true → IsClosed (type_or (free v) (slice_index_or (substitutes u (suc k) (map (λ w. Bind (e w)) ws)) (index_among v ws) None)))
+    go : (b : Bool) → (b || list_any (nat_eq v) ws) ≡ true
+        → (list_any (nat_eq v) ws ≡ true → IsClosed (type_or (free v) (slice_index_or (substitutes u (suc k) (map (λ w. Bind (e w)) ws)) (index_among v ws) None)))
         → IsClosed (type_or (free v) (slice_index_or (Some (bound k) ∷ substitutes u (suc k) (map (λ w. Bind (e w)) ws)) (cond b 0 (suc (index_among v ws))) None))
     go true f r = tt
     go false f r = r f

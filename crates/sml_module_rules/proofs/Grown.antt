@@ -7,12 +7,11 @@ use mathlib.Core.Logic.{inl, inr}
 use Rattle.sml_tree.specs.Trees.{Id}
 use Rattle.sml_objects.specs.Appearance.{Stands, stands}
 use Rattle.sml_objects.specs.Maps.{Map, put, join, by_order, order_of}
-use Rattle.sml_objects.proofs.Standing.{was_found}
+use Rattle.sml_objects.proofs.Standing.{was_found, right}
 use Rattle.sml_rules.specs.Every.{Every}
 use Rattle.sml_rules.proofs.Within.{first, last, both}
 use Rattle.sml_core_rules.specs.Objects.{Maps, Structures, Basis, maps, no_structure, and_structure, put_structure, join_structures, extend, names_map, names_in, names_structures, names_ty_str, names_scheme, names_sig, names_fun_sig, names_env, names_basis}
 use Rattle.sml_core_rules.specs.States.{Scope}
-use Rattle.sml_core_rules.proofs.Agree.{stands-behind}
 use Rattle.sml_module_rules.specs.Structures.{besides}
 use Rattle.sml_module_rules.specs.Programs.{add_basis}
 
@@ -100,7 +99,7 @@ pub whole-sum : {N : Type 0} (B A : Basis N) → IsWhole B → ((n : N) → Stan
 whole-sum {N} B A h k =
     let P : N → Type 0 = λ n. Stands n (A.names ++ B.names) in
     stands-every P (names_basis (add_basis B A))
-    (in-sum P B A (every-stands P (names_basis B) (λ n s. stands-behind n A.names B.names (h n s))) (every-stands P (names_basis A) k))
+    (in-sum P B A (every-stands P (names_basis B) (λ n s. right n A.names B.names (h n s))) (every-stands P (names_basis A) k))
 
 -- those that are none of the others, with these
 module _ {N : Type 0} (scope : Scope N) where
@@ -117,7 +116,7 @@ module _ {N : Type 0} (scope : Scope N) where
     where
       go : (b : Bool) → stands scope.names m old ≡ b → Stands n (m ∷ ns) → (Stands n ns → Stands n (besides scope old ns ++ old))
           → (Stands n ns → Stands n (besides scope (m ∷ old) ns ++ m ∷ old)) → Stands n (cond b (besides scope old ns) (m ∷ besides scope (m ∷ old) ns) ++ old)
-      go true e (inl f) c d = stands-behind n (besides scope old ns) old (subst (λ n. Stands n old) (sym f) (was_found scope.names m old e))
+      go true e (inl f) c d = right n (besides scope old ns) old (subst (λ n. Stands n old) (sym f) (was_found scope.names m old e))
       go true e (inr k) c d = c k
       go false e (inl f) c d = inl f
       go false e (inr k) c d = passed m (besides scope (m ∷ old) ns) old n (d k)

@@ -1,5 +1,6 @@
 -- Programs that differ behind seals alone are answered the same elsewhere.
 use Rattle.std.specs.Prelude.{◌≡◌, Bool, true, false, List, [], ◌∷◌, map, drop, None, is_some}
+use Rattle.sml_objects.proofs.Standing.{right}
 use mathlib.Core.Path.{sym, ap, subst, ◌∙◌}
 use Rattle.sml_layers.specs.declared.variable.Variable.{Variable}
 use Rattle.sml_rules.specs.Answers.{Answer, refused, accepted}
@@ -7,7 +8,6 @@ use Rattle.sml_rules.proofs.Sound.{not_refused}
 use Rattle.sml_core_rules.specs.Objects.{Basis}
 use Rattle.sml_core_rules.specs.States.{Scope}
 use Rattle.sml_core_rules.specs.Scripts.{result}
-use Rattle.sml_core_rules.proofs.Agree.{stands-behind}
 use Rattle.sml_module_rules.specs.Statements.{SealsHide}
 use Rattle.sml_module_rules.specs.Programs.{add_basis, basis_after, AreReadings, Pair, same, structures, functors, first, second, all_shown}
 use Rattle.sml_module_rules.proofs.Grown.{IsWhole, whole-sum}
@@ -47,7 +47,7 @@ module _ {P N : Type 0} (scope : Scope N) (far : (x : Variable) → ¬ ((scope.n
       let ρ' : SameReply scope B (accepted A) (accepted C) = subst (λ o. SameReply scope B o (accepted C)) i (subst (λ q. SameReply scope B (accepted u.0) q) j ρ) in
       let y : IsAddition {P = P} B (accepted C) = subst (IsAddition B) j (reply-added scope B (second (structures d e bs)).0 (second (structures d e bs)).1 (accepted v) k) in
       first-agrees scope (structures d e bs) ds B w (accepted A) (accepted C) y ρ' os qs a
-      (λ ps c' n. replies-agree ds (add_basis B C) (whole-sum B C w y) (λ j. stands-behind (scope.names.initial j) C.names B.names (z j)) ps qs c' b (sym n ∙ ap (drop 1) m))
+      (λ ps c' n. replies-agree ds (add_basis B C) (whole-sum B C w y) (λ j. right (scope.names.initial j) C.names B.names (z j)) ps qs c' b (sym n ∙ ap (drop 1) m))
   replies-agree (functors d e bs ∷ ds) B w z (refused f ∷ os) (refused g ∷ qs) a b m = let τ = replies-agree ds B w z os qs a.1 b.1 (ap (drop 1) m) in λ i. ((τ i).0, (τ i).1, (τ i).2, None ∷ (τ i).3)
   replies-agree (functors d e bs ∷ ds) B w z (refused f ∷ os) (accepted C ∷ qs) a b m = let n : false ≡ true = ap (get_first false) m in absurd cc
   replies-agree (functors d e bs ∷ ds) B w z (accepted A ∷ os) (refused g ∷ qs) a b m = let n : true ≡ false = ap (get_first true) m in absurd cc
@@ -58,7 +58,7 @@ module _ {P N : Type 0} (scope : Scope N) (far : (x : Variable) → ¬ ((scope.n
       let ρ' : SameReply scope B (accepted A) (accepted C) = subst (λ o. SameReply scope B o (accepted C)) i (subst (λ q. SameReply scope B (accepted u.0) q) j ρ) in
       let y : IsAddition {P = P} B (accepted C) = subst (IsAddition B) j (reply-added scope B (second (functors d e bs)).0 (second (functors d e bs)).1 (accepted v) k) in
       first-agrees scope (functors d e bs) ds B w (accepted A) (accepted C) y ρ' os qs a
-      (λ ps c' n. replies-agree ds (add_basis B C) (whole-sum B C w y) (λ j. stands-behind (scope.names.initial j) C.names B.names (z j)) ps qs c' b (sym n ∙ ap (drop 1) m))
+      (λ ps c' n. replies-agree ds (add_basis B C) (whole-sum B C w y) (λ j. right (scope.names.initial j) C.names B.names (z j)) ps qs c' b (sym n ∙ ap (drop 1) m))
 
 pub seals-hide : {N : Type 0} (scope : Scope N) → SealsHide scope
 seals-hide scope far B inside initials ds os qs a b m =

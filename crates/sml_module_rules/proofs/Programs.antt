@@ -8,6 +8,7 @@ use Rattle.sml_objects.specs.Alike.{Renaming}
 use Rattle.sml_objects.specs.Appearance.{Stands}
 use Rattle.sml_objects.specs.Maps.{Map}
 use Rattle.sml_objects.specs.Names.{Initial}
+use Rattle.sml_objects.proofs.Standing.{left, right}
 use Rattle.sml_layers.specs.declared.variable.Variable.{Variable}
 use Rattle.sml_rules.specs.Answers.{Answer, refused, accepted, fault}
 use Rattle.sml_rules.proofs.Sound.{accepted_same}
@@ -20,7 +21,7 @@ use Rattle.sml_core_rules.specs.Scripts.{test, result, IsAnswer}
 use Rattle.sml_core_rules.proofs.Accepted.{given, bind-accepted}
 use Rattle.sml_core_rules.proofs.Alike.{alike}
 use Rattle.sml_core_rules.proofs.Renaming.{basis-id}
-use Rattle.sml_core_rules.proofs.Agree.{agree, stands-before, stands-behind}
+use Rattle.sml_core_rules.proofs.Agree.{agree}
 use Rattle.sml_module_rules.specs.Structures.{besides, own_basis, own, read_strdec, settle, read_signatures, read_functors, settle_functors, read_top, IsTopReading}
 use Rattle.sml_module_rules.specs.Programs.{basis_after, AreReadings, Pair, first, shown, all_shown}
 use Rattle.sml_module_rules.specs.Statements.{rename_reply}
@@ -39,7 +40,7 @@ own-covered {N} scope B fs gs E =
     let ms = names_basis (record { names = []; functors = fs; signatures = gs; body = E }) in
     let Q : N → Type 0 = λ n. Stands n (besides scope B.names ms ++ B.names) in
     stands-every Q (besides scope B.names ms ++ ms)
-    (both Q (besides scope B.names ms) ms (every-stands Q (besides scope B.names ms) (λ n h. stands-before n (besides scope B.names ms) B.names h)) (every-stands Q ms (covered scope B.names ms)))
+    (both Q (besides scope B.names ms) ms (every-stands Q (besides scope B.names ms) (λ n h. left n (besides scope B.names ms) B.names h)) (every-stands Q ms (covered scope B.names ms)))
 
 module _ {P N : Type 0} (scope : Scope N) where
   pub own-answer : (B : Basis N) (p : P) (fs : Map (FunSig N)) (gs : Map (Sig N)) (E : Env N) (s : State P N) (r : Basis N × State P N)
@@ -76,7 +77,7 @@ module _ {P N : Type 0} (scope : Scope N) where
 
   pub after-all : (B : Basis N) (o : Answer P (Basis N)) (n : N) → Stands n B.names → Stands n (basis_after B o).names
   after-all B (refused f) n h = h
-  after-all B (accepted A) n h = stands-behind n A.names B.names h
+  after-all B (accepted A) n h = right n A.names B.names h
 
   reply-kept : (B : Basis N) (o : Answer P (Basis N)) → IsAddition B o → (r : N ≡ N) → PathP (λ i. Scope (r i)) scope scope
       → PathP (λ i. List (r i)) (basis_after B o).names (basis_after B o).names → PathP (λ i. Answer P (Basis (r i))) o o

@@ -5,6 +5,7 @@ use std.Path.{PathP}
 use Rattle.sml_lex.specs.declared.fault.Place.{Place}
 use Rattle.sml_objects.specs.Appearance.{Stands}
 use Rattle.sml_objects.specs.Names.{Initial, int}
+use Rattle.sml_objects.proofs.Standing.{right}
 use Rattle.sml_layers.specs.declared.variable.Variable.{Variable}
 use Rattle.sml_rules.specs.Answers.{Answer, refused, accepted}
 use Rattle.sml_rules.proofs.Sound.{accepted_same}
@@ -12,7 +13,6 @@ use Rattle.sml_rules.proofs.Worlds.{Named}
 use Rattle.sml_core_rules.specs.Objects.{Basis}
 use Rattle.sml_core_rules.specs.Expressions.{at_first}
 use Rattle.sml_core_rules.specs.States.{Scope}
-use Rattle.sml_core_rules.proofs.Agree.{stands-behind}
 use Rattle.sml_core_rules.proofs.Alike.{alike}
 use Rattle.sml_core_rules.proofs.Along.{become-list, become-known}
 use Rattle.sml_module_rules.specs.Programs.{first, second, all_shown}
@@ -96,7 +96,7 @@ module _ {P N : Type 0} (scope : Scope N) (far : AreFar scope) where
       let cs' = subst (λ A. AreRuns scope I (suc (suc k)) (and_unit E A) (map first_unit us) ps) (exported-shown here second u.pairs B nothing qs b) cs in
       let r = replies-mention here second E.names u.pairs B nothing whole (nothing-mentions E.names) (λ n s. s) qs b in
       let all : List N = (exported qs).names ++ E.names in
-      let grow : (n : N) → Stands n E.names → Stands n all = λ n s. stands-behind n (exported qs).names E.names s in
+      let grow : (n : N) → Stands n E.names → Stands n all = λ n s. right n (exported qs).names E.names s in
       let more = more-mention E.units E.names all grow e in
       let both : AreBothRuns us ps qss = sym (λ i. map (map is_some) (units_shown us (coe 0 i (j. List (List (Answer P (Basis (p j))))) oss))) ∙ ap (drop 1) m in
       let τ = runs-agree us (suc k) I (and_unit E (exported qs)) (λ n s. grow n (h n s)) (and-mentions E.units (exported qs) all more r.0) (λ j. grow (scope.names.initial j) (z j)) ps qss cs' others both in

@@ -4,11 +4,11 @@ use mathlib.Core.Path.{subst}
 use mathlib.Core.Logic.{inl, inr}
 use Rattle.sml_tree.specs.Structures.{TopDec}
 use Rattle.sml_objects.specs.Appearance.{Stands}
+use Rattle.sml_objects.proofs.Standing.{left, right}
 use Rattle.sml_rules.specs.Answers.{Answer, refused, accepted}
 use Rattle.sml_rules.proofs.Within.{last, both}
 use Rattle.sml_core_rules.specs.Objects.{Basis, names_map, names_in, names_structures, names_fun_sig, names_sig, names_env, names_basis}
 use Rattle.sml_core_rules.specs.States.{Scope}
-use Rattle.sml_core_rules.proofs.Agree.{stands-before, stands-behind}
 use Rattle.sml_module_rules.specs.Programs.{add_basis, basis_after, AreReadings, Pair, same, structures, functors, shown, all_shown}
 use Rattle.sml_module_rules.specs.Projects.{Exports, nothing, after_all, with_needs, beginning}
 use Rattle.sml_module_rules.proofs.Grown.{every-stands, stands-every, in-sum, IsWhole, whole-sum}
@@ -118,11 +118,11 @@ module _ {P N : Type 0} (scope : Scope N) (side : Pair P → P × TopDec P) wher
       let c : IsAddition {P = P} B (accepted A) = subst (IsAddition B) r.0.2 (reply-added scope B (side d).0 (side d).1 r.0.0 r.0.1) in
       let own : List N = A.names ++ X.names in
       let old : (n : N) → Stands n (X.names ++ T) → Stands n (own ++ T) =
-      λ n s. either (Stands n (own ++ T)) n X.names T (λ k. stands-before n own T (stands-behind n A.names X.names k)) (λ k. stands-behind n own T k) s in
+      λ n s. either (Stands n (own ++ T)) n X.names T (λ k. left n own T (right n A.names X.names k)) (λ k. right n own T k) s in
       let new : (n : N) → Stands n (A.names ++ B.names) → Stands n (own ++ T) =
-      λ n s. either (Stands n (own ++ T)) n A.names B.names (λ k. stands-before n own T (stands-before n A.names X.names k)) (λ k. old n (b n k)) s in
+      λ n s. either (Stands n (own ++ T)) n A.names B.names (λ k. left n own T (left n A.names X.names k)) (λ k. old n (b n k)) s in
       let x = sum-mentions (own ++ T) X A (λ n s. old n (h n s)) (λ n s. new n (c n s)) in
       let a = replies-mention T ds (add_basis B A) (add_basis X A) (whole-sum B A w c) x new os r.1 in
       let all : List N = (after_all (add_basis X A) os).names in
-      let there : Mentions A (all ++ T) = λ n s. either (Stands n (all ++ T)) n own T (λ k. stands-before n all T (a.2 n k)) (λ k. stands-behind n all T k) (new n (c n s)) in
-      (a.0, keep-accepted d A (all_shown ds os) (all ++ T) there a.1, λ n s. a.2 n (stands-behind n A.names X.names s))
+      let there : Mentions A (all ++ T) = λ n s. either (Stands n (all ++ T)) n own T (λ k. left n all T (a.2 n k)) (λ k. right n all T k) (new n (c n s)) in
+      (a.0, keep-accepted d A (all_shown ds os) (all ++ T) there a.1, λ n s. a.2 n (right n A.names X.names s))

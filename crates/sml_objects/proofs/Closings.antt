@@ -1,13 +1,14 @@
 -- The variables of types in the order of their first appearance.
 use Rattle.std.proofs.Common.{◌≡◌, ℕ, zero, suc, ◌+◌, ◌-◌, nat_lt, Some, None, Bool, true, false, cond, not, ◌||◌, arith, List, [], ◌∷◌, ◌++◌, length, take, nat_eq, refl, ap, ◌∙◌, sym, subst, Vec, Global, replicate}
 use Rattle.std.proofs.lemmas.List.{map-append}
+use Rattle.std.proofs.lemmas.List.Folds.{list_any-append}
 use Rattle.std.proofs.lemmas.List.Sums.{prefix_len-le-length}
-use Rattle.std.proofs.lemmas.Bool.{ltb-false}
+use Rattle.std.proofs.lemmas.Bool.{eq-eqb, ltb-false}
 use Rattle.std.specs.List.{list_any, position, position_or_len}
 use Rattle.std.specs.declared.rc.Rc.{Rc}
 use Rattle.sml_objects.specs.Objects as O
 use Rattle.sml_objects.specs.Initial.{Name}
-use Rattle.sml_objects.specs.Types.{is_among, variables_after, variables_after_all, index_among, replace_type, replace_types, assign, close}
+use Rattle.sml_objects.specs.Types.{variables_after, variables_after_all, index_among, replace_type, replace_types, assign, close}
 use Rattle.sml_objects.specs.Objects.{types_of}
 use Rattle.sml_objects.specs.Views.{type_of}
 use Rattle.sml_objects.specs.declared.labels.Labels.{Labels}
@@ -16,10 +17,38 @@ use Rattle.sml_objects.specs.declared.objects.MlType.{MlType, Bound, Free}
 use Rattle.sml_objects.specs.declared.objects.MlType.TheViews as V
 use Rattle.sml_objects.proofs.TypeViews.{parts_of, type_of-bound, type_of-free, type_of-row, type_of-arrow, type_of-name}
 
-is_among-any : (v : ℕ) (ws : List ℕ) → is_among v ws ≡ list_any (nat_eq v) ws
-unfolding is_among
-is_among-any v [] = refl
-is_among-any v (w ∷ ws) = elim (nat_eq v w) as (λ b. cond b true (is_among v ws) ≡ (b || list_any (nat_eq v) ws)) [ true ↦ refl | false ↦ is_among-any v ws ]
+-- a variable among others
+
+among-more : (v : ℕ) (ws us : List ℕ) → list_any (nat_eq v) ws ≡ true → list_any (nat_eq v) (ws ++ us) ≡ true
+among-more v ws us h = list_any-append (nat_eq v) ws us ∙ ap (λ b. b || list_any (nat_eq v) us) h
+
+among-last : (v : ℕ) (ws : List ℕ) → list_any (nat_eq v) (ws ++ v ∷ []) ≡ true
+among-last v [] = ap (λ b. b || false) (eq-eqb v v refl)
+among-last v (w ∷ ws) = either (nat_eq v w) (among-last v ws)
+  where
+    either : (b : Bool) → list_any (nat_eq v) (ws ++ v ∷ []) ≡ true → (b || list_any (nat_eq v) (ws ++ v ∷ [])) ≡ true
+    either true h = refl
+    either false h = h
+
+still-among : (v : ℕ) (seen us : List ℕ) (b : Bool) → list_any (nat_eq v) seen ≡ true → list_any (nat_eq v) (cond b seen (seen ++ us)) ≡ true
+still-among v seen us true h = h
+still-among v seen us false h = among-more v seen us h
+
+pub here-among : (v : ℕ) (seen : List ℕ) (b : Bool) → list_any (nat_eq v) seen ≡ b → list_any (nat_eq v) (cond b seen (seen ++ v ∷ [])) ≡ true
+here-among v seen true e = e
+here-among v seen false e = among-last v seen
+
+mutual
+  unfolding variables_after variables_after_all
+
+  stays-among : {N : Type 0} (v : ℕ) (seen : List ℕ) (t : O.MlType N) → list_any (nat_eq v) seen ≡ true → list_any (nat_eq v) (variables_after seen t) ≡ true
+  stays-among v seen (O.bound k) h = h
+  stays-among v seen (O.free w) h = still-among v seen (w ∷ []) (list_any (nat_eq w) seen) h
+  stays-among v seen (O.app g ts) h = all-stay-among v seen ts h
+
+  pub all-stay-among : {N : Type 0} (v : ℕ) (seen : List ℕ) (ts : O.MlTypes N) → list_any (nat_eq v) seen ≡ true → list_any (nat_eq v) (variables_after_all seen ts) ≡ true
+  all-stay-among v seen O.no_type h = h
+  all-stay-among v seen (O.and_type t ts) h = all-stay-among v (variables_after seen t) ts (stays-among v seen t h)
 
 pub index_among-position : (v : ℕ) (ws : List ℕ) → index_among v ws ≡ position_or_len (nat_eq v) ws
 unfolding index_among
@@ -38,7 +67,7 @@ variables-bound seen k = ap (variables_after seen) (type_of-bound k)
 
 pub variables-free : (seen : List ℕ) (v : ℕ) → variables_after seen (type_of (Free v)) ≡ cond (list_any (nat_eq v) seen) seen (seen ++ v ∷ [])
 unfolding variables_after
-variables-free seen v = ap (variables_after seen) (type_of-free v) ∙ ap (λ b. cond b seen (seen ++ v ∷ [])) (is_among-any v seen)
+variables-free seen v = ap (variables_after seen) (type_of-free v)
 
 pub variables-row : (seen : List ℕ) (ls : Rc Labels Global) (ts : Vec (Rc MlType Global) Global)
     → variables_after seen (type_of (V.Row ls ts)) ≡ variables_after_all seen (types_of (parts_of ts.items))
@@ -78,12 +107,12 @@ grown true w ws v h = h
 grown false w ws v h = cc
 
 mutual
-  unfolding variables_after variables_after_all is_among
+  unfolding variables_after variables_after_all
 
   none-before : {N : Type 0} (seen : List ℕ) (t : O.MlType N) → variables_after seen t ≡ [] → seen ≡ []
   none-before [] t h = refl
   none-before (w ∷ ws) (O.bound k) h = h
-  none-before (w ∷ ws) (O.free v) h = grown (is_among v (w ∷ ws)) w ws v h
+  none-before (w ∷ ws) (O.free v) h = grown (list_any (nat_eq v) (w ∷ ws)) w ws v h
   none-before (w ∷ ws) (O.app g ts) h = none-before-all (w ∷ ws) ts h
 
   none-before-all : {N : Type 0} (seen : List ℕ) (ts : O.MlTypes N) → variables_after_all seen ts ≡ [] → seen ≡ []
@@ -91,7 +120,7 @@ mutual
   none-before-all seen (O.and_type t ts) h = none-before seen t (none-before-all (variables_after seen t) ts h)
 
 mutual
-  unfolding variables_after variables_after_all is_among replace_type replace_types
+  unfolding variables_after variables_after_all replace_type replace_types
 
   pub assign-closed : {N : Type 0} (f : ℕ → O.MlType N) (t : O.MlType N) → variables_after [] t ≡ [] → assign f t ≡ t
   assign-closed f (O.bound k) h = refl

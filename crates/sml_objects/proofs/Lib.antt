@@ -25,3 +25,4 @@ pub mod CanonicalForms
 pub mod RenamingPairs
 pub mod SameNames
 pub mod SameTypes
+pub mod Vectors

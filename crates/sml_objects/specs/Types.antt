@@ -1,5 +1,6 @@
 -- Types with other types for their variables, and closing (the Definition, sections 4.2 and 4.5).
 use Rattle.std.specs.Prelude.{ℕ, zero, suc, ◌+◌, Bool, true, false, List, [], ◌∷◌, ◌++◌, length, replicate, cond, nat_eq}
+use Rattle.std.specs.List.{list_any}
 use Rattle.sml_objects.specs.Objects.{MlType, MlTypes, Scheme, bound, free, app, no_type, and_type}
 
 unfoldable mutual
@@ -35,15 +36,11 @@ assign f t = replace_type bound f t
 abbrev pub instance_from : {N : Type 0} → ℕ → MlType N → MlType N
 instance_from k t = replace_type (λ j. free (k + j)) free t
 
-unfoldable pub is_among : ℕ → List ℕ → Bool
-is_among v [] = false
-is_among v (w ∷ ws) = cond (nat_eq v w) true (is_among v ws)
-
 unfoldable mutual
   -- the free variables in the order of their first appearance, after those seen before
   pub variables_after : {N : Type 0} → List ℕ → MlType N → List ℕ
   variables_after seen (bound k) = seen
-  variables_after seen (free v) = cond (is_among v seen) seen (seen ++ v ∷ [])
+  variables_after seen (free v) = cond (list_any (nat_eq v) seen) seen (seen ++ v ∷ [])
   variables_after seen (app h ts) = variables_after_all seen ts
 
   pub variables_after_all : {N : Type 0} → List ℕ → MlTypes N → List ℕ

@@ -1,5 +1,4 @@
 pub mod TypeAnswers
-pub mod Vectors
 pub mod Answering
 pub mod Paths
 pub mod Contexts

@@ -1,13 +1,13 @@
 -- Types that may become the same types have one scheme.
-use Rattle.std.proofs.Common.{◌≡◌, ℕ, inl, inr, Bool, true, false, List, [], ◌∷◌, map, sym, ◌∙◌, ap, subst, refl, arith}
+use Rattle.std.proofs.Common.{◌≡◌, ℕ, inl, inr, Bool, true, false, List, [], ◌∷◌, map, sym, ◌∙◌, ap, subst, refl, arith, nat_eq}
 use Rattle.std.proofs.lemmas.List.{length-map}
-use Rattle.std.specs.List.{AllByRecursion}
+use Rattle.std.specs.List.{AllByRecursion, list_any}
 use Rattle.sml_objects.specs.Equality.{admits}
 use Rattle.sml_objects.specs.Fates.{close_as}
 use Rattle.sml_objects.specs.Names.{int}
 use Rattle.sml_objects.specs.Initial.{Name, initial, naming}
 use Rattle.sml_objects.specs.Objects as O
-use Rattle.sml_objects.specs.Types.{assign, replace_type, is_among, variables_after}
+use Rattle.sml_objects.specs.Types.{assign, replace_type, variables_after}
 use Rattle.sml_objects.specs.declared.fates.Fate.{Fate}
 use Rattle.sml_objects.specs.declared.fates.Fate.TheVariants.{Bind, Keep, Default}
 use Rattle.sml_objects.proofs.EnvViews.{map-map}
@@ -70,7 +70,7 @@ module _ (s r : Asked) (t q p o : O.MlType Name) (alike : AreAlike s t r q) (a :
   here v = number_of (τ v)
 
   abbrev IsOf : ℕ → Type 0
-  IsOf v = is_among v (variables_after [] p) ≡ true
+  IsOf v = list_any (nat_eq v) (variables_after [] p) ≡ true
 
   made : IsMadeOf (λ v. IsLeft s v × IsNamed τ v (σ v)) p
   unfolding IsReading

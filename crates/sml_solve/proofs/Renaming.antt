@@ -1,12 +1,13 @@
 -- Types whose variables have other numbers.
-use Rattle.std.proofs.Common.{◌≡◌, ℕ, zero, suc, ◌<◌, inl, inr, Bool, true, false, cond, None, List, [], ◌∷◌, ◌++◌, length, map, get_or, sym, ◌∙◌, ap, subst, refl, arith, nat_eq}
+use Rattle.std.proofs.Common.{◌≡◌, ℕ, zero, suc, ◌<◌, inl, inr, Bool, true, false, cond, ◌||◌, None, List, [], ◌∷◌, ◌++◌, length, map, get_or, sym, ◌∙◌, ap, subst, refl, arith, nat_eq}
 use Rattle.std.proofs.lemmas.Bool.Decides.{eqb_tells}
 use Rattle.std.proofs.lemmas.List.{map-append}
-use Rattle.std.specs.List.{AllByRecursion}
+use Rattle.std.specs.List.{AllByRecursion, list_any}
 use Rattle.sml_objects.specs.Fates.{attributes, substitutes, type_or, standing_for, close_as}
 use Rattle.sml_objects.specs.Initial.{Name}
 use Rattle.sml_objects.specs.Objects as O
-use Rattle.sml_objects.specs.Types.{assign, replace_type, replace_types, is_among, variables_after, variables_after_all, index_among}
+use Rattle.sml_objects.specs.Types.{assign, replace_type, replace_types, variables_after, variables_after_all, index_among}
+use Rattle.sml_objects.proofs.Closings.{all-stay-among, here-among}
 use Rattle.sml_objects.specs.declared.fates.Fate.{Fate}
 use Rattle.sml_objects.specs.declared.fates.Fate.TheVariants.{Bind, Keep, Default}
 use Rattle.sml_layers.specs.Worlds.{finite}
@@ -98,10 +99,9 @@ module _ (f g : ℕ → ℕ) where
             ]
       ]
 
-  among-renamed : (v : ℕ) (ws : List ℕ) → IsBack v → AllByRecursion IsBack ws → is_among (f v) (map f ws) ≡ is_among v ws
-  unfolding is_among
+  among-renamed : (v : ℕ) (ws : List ℕ) → IsBack v → AllByRecursion IsBack ws → list_any (nat_eq (f v)) (map f ws) ≡ list_any (nat_eq v) ws
   among-renamed v [] p a = refl
-  among-renamed v (w ∷ ws) p a = λ i. cond (same-test v w p a.0 i) true (among-renamed v ws p a.1 i)
+  among-renamed v (w ∷ ws) p a = λ i. same-test v w p a.0 i || among-renamed v ws p a.1 i
 
   place-renamed : (v : ℕ) (ws : List ℕ) → IsBack v → AllByRecursion IsBack ws → index_among (f v) (map f ws) ≡ index_among v ws
   unfolding index_among
@@ -117,7 +117,7 @@ module _ (f g : ℕ → ℕ) where
 
     pub variables-renamed : (seen : List ℕ) (t : O.MlType Name) → AllByRecursion IsBack seen → IsMadeOf IsBack t → variables_after (map f seen) (assign (λ v. O.free (f v)) t) ≡ map f (variables_after seen t)
     variables-renamed seen (O.bound k) a m = absurd m
-    variables-renamed seen (O.free v) a m = ap (λ b. cond b (map f seen) (map f seen ++ f v ∷ [])) (among-renamed v seen m a) ∙ one-renamed v seen (is_among v seen)
+    variables-renamed seen (O.free v) a m = ap (λ b. cond b (map f seen) (map f seen ++ f v ∷ [])) (among-renamed v seen m a) ∙ one-renamed v seen (list_any (nat_eq v) seen)
     variables-renamed seen (O.app h ts) a m = all-variables-renamed seen ts a m
 
     all-variables-renamed : (seen : List ℕ) (ts : O.MlTypes Name) → AllByRecursion IsBack seen → AreMadeOf IsBack ts → variables_after_all (map f seen) (replace_types O.bound (λ v. O.free (f v)) ts) ≡ map f (variables_after_all seen ts)
@@ -128,78 +128,41 @@ module _ (f g : ℕ → ℕ) where
 
 -- the variables of a type are among them
 
-among-more : (v : ℕ) (ws us : List ℕ) → is_among v ws ≡ true → is_among v (ws ++ us) ≡ true
-unfolding is_among
-among-more v [] us h = let q : false ≡ true = h in absurd cc
-among-more v (w ∷ ws) us h = more (nat_eq v w) (is_among v ws) (is_among v (ws ++ us)) (among-more v ws us) h where
-  more : (b c d : Bool) → (c ≡ true → d ≡ true) → cond b true c ≡ true → cond b true d ≡ true
-  more true c d f h = refl
-  more false c d f h = f h
-
-among-last : (v : ℕ) (ws : List ℕ) → is_among v (ws ++ v ∷ []) ≡ true
-unfolding is_among
-among-last v [] = elim (eqb_tells v v) [ inl a ↦ ap (λ b. cond b true false) a.0 | inr a ↦ absurd (a.1 refl) ]
-among-last v (w ∷ ws) = either (nat_eq v w) (among-last v ws) where
-  either : (b : Bool) → is_among v (ws ++ v ∷ []) ≡ true → cond b true (is_among v (ws ++ v ∷ [])) ≡ true
-  either true h = refl
-  either false h = h
-
-still-among : (v : ℕ) (seen us : List ℕ) (b : Bool) → is_among v seen ≡ true → is_among v (cond b seen (seen ++ us)) ≡ true
-still-among v seen us true h = h
-still-among v seen us false h = among-more v seen us h
-
-mutual
-  unfolding variables_after variables_after_all
-
-  stays-among : (v : ℕ) (seen : List ℕ) (t : O.MlType Name) → is_among v seen ≡ true → is_among v (variables_after seen t) ≡ true
-  stays-among v seen (O.bound k) h = h
-  stays-among v seen (O.free w) h = still-among v seen (w ∷ []) (is_among w seen) h
-  stays-among v seen (O.app g ts) h = all-stay-among v seen ts h
-
-  all-stay-among : (v : ℕ) (seen : List ℕ) (ts : O.MlTypes Name) → is_among v seen ≡ true → is_among v (variables_after_all seen ts) ≡ true
-  all-stay-among v seen O.no_type h = h
-  all-stay-among v seen (O.and_type t ts) h = all-stay-among v (variables_after seen t) ts (stays-among v seen t h)
-
-here-among : (v : ℕ) (seen : List ℕ) (b : Bool) → is_among v seen ≡ b → is_among v (cond b seen (seen ++ v ∷ [])) ≡ true
-here-among v seen true e = e
-here-among v seen false e = among-last v seen
-
 mutual
   unfolding IsMadeOf AreMadeOf variables_after variables_after_all
 
-  pub are-among : (P : ℕ → Type 0) (seen : List ℕ) (t : O.MlType Name) → IsMadeOf P t → IsMadeOf (λ v. is_among v (variables_after seen t) ≡ true) t
+  pub are-among : (P : ℕ → Type 0) (seen : List ℕ) (t : O.MlType Name) → IsMadeOf P t → IsMadeOf (λ v. list_any (nat_eq v) (variables_after seen t) ≡ true) t
   are-among P seen (O.bound k) m = m
-  are-among P seen (O.free v) m = here-among v seen (is_among v seen) refl
+  are-among P seen (O.free v) m = here-among v seen (list_any (nat_eq v) seen) refl
   are-among P seen (O.app h ts) m = all-are-among P seen ts m
 
-  all-are-among : (P : ℕ → Type 0) (seen : List ℕ) (ts : O.MlTypes Name) → AreMadeOf P ts → AreMadeOf (λ v. is_among v (variables_after_all seen ts) ≡ true) ts
+  all-are-among : (P : ℕ → Type 0) (seen : List ℕ) (ts : O.MlTypes Name) → AreMadeOf P ts → AreMadeOf (λ v. list_any (nat_eq v) (variables_after_all seen ts) ≡ true) ts
   all-are-among P seen O.no_type m = tt
   all-are-among P seen (O.and_type t ts) m = (
-    made-more (λ v. is_among v (variables_after seen t) ≡ true) (λ v. is_among v (variables_after_all (variables_after seen t) ts) ≡ true) t (λ v h. all-stay-among v (variables_after seen t) ts h) (are-among P seen t m.0),
+    made-more (λ v. list_any (nat_eq v) (variables_after seen t) ≡ true) (λ v. list_any (nat_eq v) (variables_after_all (variables_after seen t) ts) ≡ true) t (λ v h. all-stay-among v (variables_after seen t) ts h) (are-among P seen t m.0),
     all-are-among P (variables_after seen t) ts m.1,
   )
 
-all-has : (P : ℕ → Type 0) (v : ℕ) (ws : List ℕ) → AllByRecursion P ws → is_among v ws ≡ true → P v
-unfolding is_among
+all-has : (P : ℕ → Type 0) (v : ℕ) (ws : List ℕ) → AllByRecursion P ws → list_any (nat_eq v) ws ≡ true → P v
 all-has P v [] a h = let q : false ≡ true = h in absurd cc
 all-has P v (w ∷ ws) a h =
     elim (eqb_tells v w) [
       | inl b ↦ subst P (sym b.1) a.0
-      | inr b ↦ all-has P v ws a.1 (ap (λ c. cond c true (is_among v ws)) (sym b.0) ∙ h)
+      | inr b ↦ all-has P v ws a.1 (ap (λ c. c || list_any (nat_eq v) ws) (sym b.0) ∙ h)
     ]
 
 -- what holds of the variables of a type
-pub at-variable : (P : ℕ → Type 0) (t : O.MlType Name) (v : ℕ) → IsMadeOf P t → is_among v (variables_after [] t) ≡ true → P v
+pub at-variable : (P : ℕ → Type 0) (t : O.MlType Name) (v : ℕ) → IsMadeOf P t → list_any (nat_eq v) (variables_after [] t) ≡ true → P v
 at-variable P t v m h = all-has P v (variables_after [] t) (variables-made P [] t tt m) h
 
-pub at-each : (P Q : ℕ → Type 0) (t : O.MlType Name) → IsMadeOf P t → ((v : ℕ) → is_among v (variables_after [] t) ≡ true → Q v) → IsMadeOf Q t
-at-each P Q t m f = made-more (λ v. is_among v (variables_after [] t) ≡ true) Q t f (are-among P [] t m)
+pub at-each : (P Q : ℕ → Type 0) (t : O.MlType Name) → IsMadeOf P t → ((v : ℕ) → list_any (nat_eq v) (variables_after [] t) ≡ true → Q v) → IsMadeOf Q t
+at-each P Q t m f = made-more (λ v. list_any (nat_eq v) (variables_after [] t) ≡ true) Q t f (are-among P [] t m)
 
-place-inside : (v : ℕ) (ws : List ℕ) → is_among v ws ≡ true → index_among v ws < length ws
-unfolding is_among index_among
+place-inside : (v : ℕ) (ws : List ℕ) → list_any (nat_eq v) ws ≡ true → index_among v ws < length ws
+unfolding index_among
 place-inside v [] h = let q : false ≡ true = h in absurd cc
 place-inside v (w ∷ ws) h = next (nat_eq v w) (place-inside v ws) h where
-  next : (b : Bool) → (is_among v ws ≡ true → index_among v ws < length ws) → cond b true (is_among v ws) ≡ true → cond b 0 (suc (index_among v ws)) < suc (length ws)
+  next : (b : Bool) → (list_any (nat_eq v) ws ≡ true → index_among v ws < length ws) → (b || list_any (nat_eq v) ws) ≡ true → cond b 0 (suc (index_among v ws)) < suc (length ws)
   next true f h = omega arith
   next false f h = let r = f h in omega (arith, r)
 

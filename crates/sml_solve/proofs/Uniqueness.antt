@@ -1,11 +1,11 @@
 -- A type has one reading and one scheme.
-use Rattle.std.proofs.Common.{◌≡◌, ℕ, ◌↔◌, inl, inr, Bool, true, false, cond, Some, List, [], ◌∷◌, ◌++◌, map, sym, ◌∙◌, ap, subst, refl}
-use Rattle.std.specs.List.{AllByRecursion}
+use Rattle.std.proofs.Common.{◌≡◌, ℕ, ◌↔◌, inl, inr, Bool, true, false, cond, Some, List, [], ◌∷◌, ◌++◌, map, sym, ◌∙◌, ap, subst, refl, nat_eq}
+use Rattle.std.specs.List.{AllByRecursion, list_any}
 use Rattle.sml_objects.specs.Fates.{close_as}
 use Rattle.sml_objects.specs.Names.{int}
 use Rattle.sml_objects.specs.Initial.{Name, initial}
 use Rattle.sml_objects.specs.Objects as O
-use Rattle.sml_objects.specs.Types.{assign, replace_type, replace_types, is_among, variables_after, variables_after_all}
+use Rattle.sml_objects.specs.Types.{assign, replace_type, replace_types, variables_after, variables_after_all}
 use Rattle.sml_objects.specs.declared.fates.Fate.{Fate}
 use Rattle.sml_objects.specs.declared.fates.Fate.TheVariants.{Bind, Keep, Default}
 use Rattle.sml_tree.specs.Trees.{Id}
@@ -102,7 +102,7 @@ mutual
 
   pub variables-made : (P : ℕ → Type 0) (seen : List ℕ) (t : O.MlType Name) → AllByRecursion P seen → IsMadeOf P t → AllByRecursion P (variables_after seen t)
   variables-made P seen (O.bound k) a m = absurd m
-  variables-made P seen (O.free v) a m = seen-also P v (is_among v seen) seen a m
+  variables-made P seen (O.free v) a m = seen-also P v (list_any (nat_eq v) seen) seen a m
   variables-made P seen (O.app h ts) a m = all-variables-made P seen ts a m
 
   all-variables-made : (P : ℕ → Type 0) (seen : List ℕ) (ts : O.MlTypes Name) → AllByRecursion P seen → AreMadeOf P ts → AllByRecursion P (variables_after_all seen ts)

@@ -8,7 +8,7 @@ use Rattle.sml_objects.specs.Initial.{Name}
 use Rattle.sml_objects.specs.declared.objects.Scheme as P
 use Rattle.sml_rules.specs.Answers.{fault}
 use Rattle.sml_rules.specs.Readings.{read_ty}
-use Rattle.sml_piece.proofs.Vectors.{empty_items, some_items}
+use Rattle.sml_objects.proofs.Vectors.{empty_items, some_items}
 use Rattle.sml_piece.proofs.Answering.{first_ends, second, refused_by, made_so, made_same, then_refused, fails, passes, gives}
 use Rattle.sml_piece.proofs.types.constructor_type.Goals as goal
 

@@ -7,7 +7,7 @@ use Rattle.sml_objects.specs.Views.{type_of, name_of, label_list}
 use Rattle.sml_objects.proofs.TypeViews.{parts_of, type_of-bound, type_of-free, type_of-row, type_of-arrow, type_of-name}
 use Rattle.sml_texts.specs.Text.{show_type, show_types, joined, bracketed, a_name}
 use Rattle.sml_texts.specs.Spelling.{lines_of, and_pieces, level}
-use Rattle.sml_texts.proofs.Vectors.{empty_items, some_items}
+use Rattle.sml_objects.proofs.Vectors.{empty_items, some_items}
 use Rattle.sml_texts.proofs.Spelling.{nothing_more}
 use Rattle.sml_texts.proofs.Pieces.{also, ends, only, opening, brackets, bound-pieces, free-pieces, arrow-pieces, unit-pieces, row-pieces, name-pieces, are_several, are_any, not_none, none-mapped, several-map, any-map, types-push, no-types}
 use Rattle.sml_texts.proofs.texts.Lines.+types.Goals as goal

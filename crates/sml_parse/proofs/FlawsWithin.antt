@@ -151,7 +151,7 @@ first_of (a ∷ flaws) h = earlier_of a (first_flaw flaws) h.0 (first_of flaws h
 pub begins_same : (r : Rule) → begins_at r ≡ begins_next r
 begins_same r = agreed _ _ (each_rule (λ r. agree (begins_at r) (begins_next r)) refl r)
 
-ends_same : (r : Rule) → ends_at (Inner r) ≡ ends_before r
+pub ends_same : (r : Rule) → ends_at (Inner r) ≡ ends_before r
 ends_same r = agreed _ _ (each_rule (λ r. agree (ends_at (Inner r)) (ends_before r)) refl r)
 
 own_count : (nodes : List Node) → count_tokens (before_first ends_at nodes) ≡ tokens_before nodes

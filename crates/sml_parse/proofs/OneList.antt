@@ -1,5 +1,5 @@
 -- Bytes spell one list of declarations.
-use Rattle.std.proofs.Common.{◌≡◌, ℕ, List, length, take, Option, sym, ap, ◌∙◌, subst}
+use Rattle.std.proofs.Common.{◌≡◌, ℕ, List, map, Option, sym, ap, ◌∙◌, subst}
 use Rattle.std.specs.List.{list_all}
 use Rattle.std.specs.Option.{is_some}
 use Rattle.sml_lex.specs.declared.fault.Place.{Place}
@@ -20,7 +20,7 @@ use Rattle.sml_reach.specs.Reach.{AreFitted, before_misfit, up_to}
 use Rattle.sml_reach.proofs.OneOutcome.{fitting_one}
 use Rattle.sml_flaws.specs.Flawed.{or_else, first_flawed}
 use Rattle.sml_bare.specs.Derivations.{bare_decs, before_none}
-use Rattle.sml_piece_trees.specs.Spelt.{spelt}
+use Rattle.sml_piece_trees.specs.Piece.{piece_of}
 use Rattle.sml_parse.specs.Trees.{AreTrees, last_fault}
 
 abbrev Same : List (TopDec Place) → List (TopDec Place) → List (Dec Place) → List (Dec Place) → Option (Fault Place) → Option (Fault Place) → Type 0
@@ -37,7 +37,7 @@ tokens_one unit tokens end tops tops' decs decs' last last' h k =
     let misfit = h.is_first ∙ (λ i. or_else (first_flawed (text_at unit tokens) 0 0 (nodes i) tokens (fit.0 i)) (fit.1 i)) ∙ sym k.is_first in
     let tops_are = h.made ∙ (λ i. before_none (up_to (before_misfit (misfit i)) (bare_decs unit tokens 0 (nodes i) (fit.0 i)))) ∙ sym k.made in (
       tops_are,
-      h.piece ∙ (λ i. take (length (tops_are i)) (spelt unit (nodes i) tokens)) ∙ sym k.piece,
+      h.piece ∙ ap (map piece_of) tops_are ∙ sym k.piece,
       h.ended ∙ (λ i. last_fault unit tokens end (read.1 i) (read.2 i) (misfit i) (list_all is_some (up_to (before_misfit (misfit i)) (bare_decs unit tokens 0 (nodes i) (fit.0 i))))) ∙ sym k.ended,
     )
 

@@ -28,20 +28,19 @@ use Rattle.sml_read.specs.declared.read.Cause.{Cause}
 use Rattle.sml_read.specs.declared.read.Cause.TheVariants.{Unexpected, TooEarly, Lexical}
 use Rattle.sml_read.specs.Spelling.{kinds_of}
 use Rattle.sml_read.specs.Answer.{is_done, IsCauseOf}
-use Rattle.sml_piece_trees.specs.declared.item.Item.{Item}
 use Rattle.sml_reach.specs.Places.{place_behind, place_from}
-use Rattle.sml_piece_trees.specs.Items.{items_of, declarations_of}
 use Rattle.sml_reach.specs.Places.{start_of}
 use Rattle.sml_reach.specs.declared.reach.Misfit.{Misfit}
 use Rattle.sml_reach.specs.Reach.{up_to, before_misfit}
 use Rattle.sml_reach.specs.Fits.{Fitted}
 use Rattle.sml_bare.specs.Derivations.{bare_dec_at, bare_decs, before_none}
-use Rattle.sml_piece_trees.specs.Spelt.{dec_of_items}
+use Rattle.sml_piece_trees.specs.Piece.{piece_of}
 use Rattle.sml_parse.specs.Trees.{fault_from, fault_read, fault_behind}
-use Rattle.sml_parse.specs.Within.{Extent, begins_next, tokens_before, extents_of, IsOfToken, StandInTurn, Reason, of_bytes, reason_of, StandsBy, StandsLast, PlacesAreWithin}
-use Rattle.sml_piece_trees.proofs.TreePlaces.{places_stand}
+use Rattle.sml_parse.specs.Within.{Extent, begins_next, tokens_before, extents_of, IsOfToken, TopsStandInTurn, StandInTurn, Reason, of_bytes, reason_of, StandsBy, StandsLast, PlacesAreWithin}
 use Rattle.sml_parse.proofs.Nonempty.{HasToken, HaveTokens, have_tokens}
-use Rattle.sml_parse.proofs.Extents.{of_token, OwnWords, all_words_stand, as_many}
+use Rattle.sml_parse.proofs.Extents.{of_token}
+use Rattle.sml_parse.proofs.EachTop.{no_token, start_is, TopsInTurn, tops_stand}
+use Rattle.sml_parse.proofs.EachPiece.{piece_each}
 use Rattle.sml_reach.proofs.Somes.{none_some}
 use Rattle.sml_reach.proofs.Somes.{some_same}
 use Rattle.sml_parse.proofs.MisfitsWithin.{IsPlaced, misfit_placed}
@@ -49,46 +48,30 @@ use Rattle.sml_parse.proofs.FlawsWithin.{begins_same, flawed_placed}
 use Rattle.sml_flaws.specs.Flawed.{or_else, ends_at}
 use Rattle.sml_reach.specs.Events.{text_at}
 
--- tokens and places
-
-no_token : Token
-no_token = record { kind = Comma; span = record { start = 0; «end» = 0 } }
-
-start_is : (tokens : List Token) (index : ℕ) (token : Token) → slice_get tokens index ≡ Some token → start_of tokens index 0 ≡ token.span.start
-start_is tokens index token e = ap (λ (t : Option Token). unwrap_or (option_map (λ token. token.span.start) t) 0) e
-
--- a byte counted from itself
-same_place : (unit : List ℕ) (at : ℕ) → first_place ≡ place_from unit at at
-same_place unit at = let e : 0 ≡ at - at = omega arith in ap (λ n. place_behind (take n (drop at unit))) e
-
-module _ (unit : List ℕ) (tokens : List Token) (o : AreInOrder unit 0 tokens) where
-  first_token : (extent : Extent) → HasToken (length tokens) extent → IsOfToken unit tokens extent first_place
-  first_token extent h =
-      let a = h.0 in
-      let b = h.1 in
-      let token = get_or tokens extent.first no_token in
-      let e = slice_get-get_or tokens extent.first no_token (omega (arith, a, b)) in
-      of_token unit tokens extent extent.first token _ o e (omega arith) a (same_place unit token.span.start ∙ ap (λ n. place_from unit n token.span.start) (sym (start_is tokens extent.first token e)))
-
-  -- declarations
-
-  in_turn : (extents : List Extent) (pieces : List (List Item)) → HaveTokens (length tokens) extents → OwnWords unit tokens o extents pieces → StandInTurn unit tokens extents (map (dec_of_items unit) pieces)
-  in_turn extents [] t h = tt
-  in_turn [] (piece ∷ pieces) t h = absurd h
-  in_turn (extent ∷ extents) (piece ∷ pieces) t h =
-      let first = first_token extent t.0 in
-      (All-cons (IsOfToken unit tokens extent) _ _ first (places_stand (IsOfToken unit tokens extent) first unit piece h.0), in_turn extents pieces t.1 h.1)
-
-  -- so many of them at most
-  most_in_turn : (most : Option ℕ) (extents : List Extent) (decs : List (Dec Place)) → StandInTurn unit tokens extents decs → StandInTurn unit tokens extents (up_to most decs)
-  most_in_turn None extents decs h = h
-  most_in_turn (Some most) extents decs h = taken most extents decs h
+module _ (unit : List ℕ) (tokens : List Token) where
+  -- so many declarations at most
+  most_in_turn : (most : Option ℕ) (extents : List Extent) (tops : List (Option (TopDec Place))) → TopsInTurn unit tokens extents tops → TopsInTurn unit tokens extents (up_to most tops)
+  most_in_turn None extents tops h = h
+  most_in_turn (Some most) extents tops h = taken most extents tops h
     where
-      taken : (most : ℕ) (extents : List Extent) (decs : List (Dec Place)) → StandInTurn unit tokens extents decs → StandInTurn unit tokens extents (take most decs)
-      taken zero extents decs h = tt
+      taken : (most : ℕ) (extents : List Extent) (tops : List (Option (TopDec Place))) → TopsInTurn unit tokens extents tops → TopsInTurn unit tokens extents (take most tops)
+      taken zero extents tops h = tt
       taken (suc most) extents [] h = tt
-      taken (suc most) [] (dec ∷ decs) h = absurd h
-      taken (suc most) (extent ∷ extents) (dec ∷ decs) h = (h.0, taken most extents decs h.1)
+      taken (suc most) [] (top ∷ tops) h = absurd h
+      taken (suc most) (extent ∷ extents) (top ∷ tops) h = (h.0, taken most extents tops h.1)
+
+  -- those before the first that is too high
+  made_in_turn : (extents : List Extent) (tops : List (Option (TopDec Place))) → TopsInTurn unit tokens extents tops → TopsStandInTurn unit tokens extents (before_none tops)
+  made_in_turn extents [] h = tt
+  made_in_turn [] (top ∷ tops) h = absurd h
+  made_in_turn (extent ∷ extents) (None ∷ tops) h = tt
+  made_in_turn (extent ∷ extents) (Some top ∷ tops) h = (h.0, made_in_turn extents tops h.1)
+
+  -- as trees of the piece
+  pieces_in_turn : (extents : List Extent) (tops : List (TopDec Place)) → TopsStandInTurn unit tokens extents tops → StandInTurn unit tokens extents (map piece_of tops)
+  pieces_in_turn extents [] h = tt
+  pieces_in_turn [] (top ∷ tops) h = absurd h
+  pieces_in_turn (extent ∷ extents) (top ∷ tops) h = (piece_each (IsOfToken unit tokens extent) top h.0.0 h.0.1, pieces_in_turn extents tops h.1)
 
 -- the lexical fault stands behind the tokens
 
@@ -257,26 +240,23 @@ pub places_within : PlacesAreWithin
 places_within unit tokens end tops decs fault s trees =
     let o = tokens_are_in_order unit tokens end s in
     let extents = extents_of 0 trees.nodes in
-    let all = declarations_of (items_of unit 0 trees.nodes tokens) in
-    let spelt = map (dec_of_items unit) all in
     let bare = bare_decs unit tokens 0 trees.nodes trees.fitted in
-    let made = up_to (before_misfit trees.misfit) bare in
     let whole = trees.reading.whole in
     let kinds = take trees.begun (kinds_of tokens) in
     let n = length-map tokens (λ (t : Token). t.kind) in
     let f = few trees.begun (kinds_of tokens) in
     let have = have_tokens trees.nodes _ 0 (length tokens) kinds _ whole.part whole.outer (omega (arith, n, f)) whole.leads in
-    let many = length-map all (dec_of_items unit) ∙ as_many unit 0 trees.nodes 0 tokens _ kinds _ _ (omega (arith, n, f)) whole.leads in
+    let stand = tops_stand unit tokens o trees.nodes _ 0 kinds _ whole.part trees.fitted whole.outer (omega (arith, n, f)) whole.leads in
     let many_bare = as_many_bare unit tokens 0 trees.nodes trees.fitted in
     let flawed = flawed_placed (text_at unit tokens) extents (length tokens) trees.nodes 0 0 tokens trees.fitted have (λ i. ap (slice_get extents) (let e : 0 + i ≡ i = omega arith in e)) in
     let unfit = misfit_placed unit tokens trees.nodes kinds _ whole.part trees.fitted trees.unfit whole.outer whole.leads trees.fits in
     let placed = subst (λ m. IfSome m (IsPlaced extents)) (sym trees.is_first) (first_placed extents _ _ flawed unfit) in
-    let counted = ap length trees.made in
-    let few_made = few_before_none made in
-    let few_bare = few_at_most (before_misfit trees.misfit) bare in
-    let kept = ap length trees.piece ∙ length-take-le (length tops) spelt (omega (arith, counted, few_made, few_bare, many, many_bare)) in (
-      subst (StandInTurn unit tokens extents) (sym trees.piece) (most_in_turn unit tokens o (Some (length tops)) extents spelt (in_turn unit tokens o extents all have (all_words_stand unit tokens o trees.nodes))),
-      subst (λ f. IfSome f (StandsLast unit tokens end trees.nodes trees.begun (length decs))) (sym trees.ended) (by_test o have placed (λ h. subst (λ (k : ℕ). IfSome trees.misfit (λ m. k ≡ m.number - 1)) (sym counted ∙ sym kept) (before_it trees.misfit extents bare many_bare placed h)) (list_all is_some made) refl),
+    let counted = ap length trees.piece ∙ length-map tops piece_of ∙ ap length trees.made in
+    let stand_tops = subst (TopsStandInTurn unit tokens extents) (sym trees.made) (made_in_turn unit tokens extents _ (most_in_turn unit tokens (before_misfit trees.misfit) extents bare stand)) in (
+      stand_tops,
+      subst (StandInTurn unit tokens extents) (sym trees.piece) (pieces_in_turn unit tokens extents tops stand_tops),
+      subst (λ f. IfSome f (StandsLast unit tokens end trees.nodes trees.begun (length decs))) (sym trees.ended)
+          (by_test o have placed (λ h. subst (λ (k : ℕ). IfSome trees.misfit (λ m. k ≡ m.number - 1)) (sym counted) (before_it trees.misfit extents bare many_bare placed h)) (list_all is_some until_misfit) refl),
     )
   where
     until_misfit : List (Option (TopDec Place))

@@ -1,3 +1,4 @@
 pub mod Trees
+pub mod EachPlace
 pub mod Within
 pub mod Unique

@@ -1,5 +1,5 @@
 -- The bare declarations that a unit's tokens spell, and the fault that ends them.
-use Rattle.std.specs.Prelude.{◌≡◌, ℕ, ◌-◌, List, length, Option, Some, None, Bool, if◌then◌else◌, take}
+use Rattle.std.specs.Prelude.{◌≡◌, ℕ, ◌-◌, List, length, Option, Some, None, Bool, if◌then◌else◌, map}
 use Rattle.std.specs.List.{list_all}
 use Rattle.std.specs.Option.{is_some}
 use Rattle.sml_lex.specs.declared.fault.Code.{Code}
@@ -25,7 +25,7 @@ use Rattle.sml_flaws.specs.Flawed.{or_else, first_flawed}
 use Rattle.sml_reach.specs.Places.{place_from}
 use Rattle.sml_reach.specs.Places.{start_of}
 use Rattle.sml_bare.specs.Derivations.{bare_decs, before_none}
-use Rattle.sml_piece_trees.specs.Spelt.{spelt}
+use Rattle.sml_piece_trees.specs.Piece.{piece_of}
 
 abbrev pub fault_from : List ℕ → Code → ℕ → ℕ → Option (Fault Place)
 fault_from unit code start at = Some (record { code = code; place = place_from unit start at; detail = None })
@@ -50,7 +50,7 @@ last_fault unit tokens end begun cause misfit are_low =
     if are_low then fault_behind unit tokens end begun cause misfit else Some (record { code = C.S3; place = first_place; detail = None })
 
 -- The tokens are read. These are the declarations that they spell, up to the first that has a fault of fixity or of
--- what it binds or is too high, as whole trees and as those of the piece of the language that is answered so far. The
+-- what it binds or is too high, as whole trees, and what these are as trees of the first piece of the language. The
 -- fault is that one's, or the one at which reading ended. In one declaration a fault of fixity comes first: where it
 -- has one its other faults aren't sought.
 pub record AreTrees (unit : List ℕ) (tokens : List Token) (end : End) (tops : List (TopDec Place)) (decs : List (Dec Place)) (fault : Option (Fault Place)) : Type 0 where
@@ -64,5 +64,5 @@ pub record AreTrees (unit : List ℕ) (tokens : List Token) (end : End) (tops : 
   pub fits : AreFitted (text_at unit tokens) (events_of unit tokens nodes (starts_of 0 nodes)) fitted unfit
   pub is_first : misfit ≡ or_else (first_flawed (text_at unit tokens) 0 0 nodes tokens fitted) unfit
   pub made : tops ≡ before_none (up_to (before_misfit misfit) (bare_decs unit tokens 0 nodes fitted))
-  pub piece : decs ≡ take (length tops) (spelt unit nodes tokens)
+  pub piece : decs ≡ map piece_of tops
   pub ended : fault ≡ last_fault unit tokens end begun cause misfit (list_all is_some (up_to (before_misfit misfit) (bare_decs unit tokens 0 nodes fitted)))

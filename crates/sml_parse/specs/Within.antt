@@ -24,6 +24,7 @@ use Rattle.sml_read.specs.Spelling.{is_outer}
 use Rattle.sml_reach.specs.Places.{place_from}
 use Rattle.sml_reach.specs.Places.{start_of}
 use Rattle.sml_parse.specs.Trees.{AreTrees}
+use Rattle.sml_parse.specs.EachPlace.{EachInTop}
 
 -- the tokens of a declaration: the number of the first, and that of the one behind the last
 pub record Extent : Type 0 where
@@ -74,7 +75,14 @@ pub record IsOfStop (unit : List ℕ) (tokens : List Token) (end : End) (first :
   pub within : stop.at ≤ length unit
   pub counted : place ≡ place_from unit (start_of tokens first stop.at) stop.at
 
--- 1.1 and the places of each tree are those of tokens of its declaration
+-- 1.1 and the places of each whole tree are those of tokens of its declaration
+abbrev pub TopsStandInTurn : List ℕ → List Token → List Extent → List (TopDec Place) → Type 0
+TopsStandInTurn unit tokens extents [] = Unit {0}
+TopsStandInTurn unit tokens [] (top ∷ tops) = ⊥
+TopsStandInTurn unit tokens (extent ∷ extents) (top ∷ tops) =
+    (IsOfToken unit tokens extent first_place × EachInTop (IsOfToken unit tokens extent) top) × TopsStandInTurn unit tokens extents tops
+
+-- the same of trees of the first piece of the language
 abbrev pub StandInTurn : List ℕ → List Token → List Extent → List (Dec Place) → Type 0
 StandInTurn unit tokens extents [] = Unit {0}
 StandInTurn unit tokens [] (dec ∷ decs) = ⊥
@@ -124,4 +132,4 @@ abbrev pub PlacesAreWithin : Type 0
 PlacesAreWithin =
     (unit : List ℕ) (tokens : List Token) (end : End) (tops : List (TopDec Place)) (decs : List (Dec Place)) (fault : Option (Fault Place))
     → Spells unit tokens end → (trees : AreTrees unit tokens end tops decs fault)
-    → StandInTurn unit tokens (extents_of 0 trees.nodes) decs × IfSome fault (StandsLast unit tokens end trees.nodes trees.begun (length decs))
+    → TopsStandInTurn unit tokens (extents_of 0 trees.nodes) tops × StandInTurn unit tokens (extents_of 0 trees.nodes) decs × IfSome fault (StandsLast unit tokens end trees.nodes trees.begun (length decs))

@@ -1,12 +1,11 @@
 //! The bare declarations of a unit.
 
-ghost use Rattle.std.specs.Prelude.{◌≡◌, map, take, length, IfOk};
+ghost use Rattle.std.specs.Prelude.{◌≡◌, map, IfOk};
 ghost use Rattle.std.specs.List.{list_all};
 ghost use Rattle.std.specs.Option.{is_some, option_map};
 ghost use Rattle.sml_lex.specs.Faults.{fault_of};
 ghost use Rattle.sml_tree.specs.Views.{dec_of};
 ghost use Rattle.sml_tree.specs.StructureViews.{top_of};
-ghost use Rattle.sml_piece_trees.specs.Spelt.{spelt};
 ghost use Rattle.sml_parse.specs.Trees.{fault_from, fault_read, fault_behind, last_fault, AreTrees};
 ghost use Rattle.sml_read.specs.Extents.{starts_of};
 ghost use Rattle.sml_reach.specs.Events.{text_at, events_of};
@@ -18,7 +17,7 @@ use sml_bare::whole::bare_decs;
 use sml_flaws::flawed::{first_flawed, or_else};
 use sml_lex::fault::{Code, FIRST, Fault, Memory};
 use sml_lex::token::{End, Lexed};
-use sml_piece_trees::declare::pieces;
+use sml_piece_trees::pieces::pieces;
 use sml_reach::event::events;
 use sml_reach::fitted::Fitted;
 use sml_reach::names::Names;
@@ -30,8 +29,8 @@ use sml_tree::bare::BareDec;
 use sml_tree::structures::TopDec;
 use std::alloc::Global;
 
-/// The whole bare declarations of a unit before the fault, the same as trees of the piece of the language that is
-/// answered so far, and the fault.
+/// The whole bare declarations of a unit before the fault, the same as trees of the first piece of the language, and the
+/// fault.
 #[derive(Drop)]
 pub struct Parsed {
     pub declarations: Vec<TopDec>,
@@ -144,20 +143,6 @@ fn tops(
     )
 }
 
-/// As many declarations as these, as trees of the piece.
-#[tactic(auto, using(crate::proofs::Declaring::as_many))]
-fn piece_of(
-    alloc: Global,
-    lexed: &Lexed,
-    names: &mut Names,
-    nodes: &[Node],
-    tops: &[TopDec],
-) -> Result<Vec<BareDec>, Memory>
-    ensures { IfOk result (λ decs. map dec_of decs.items ≡ take (length (map top_of tops.now)) (spelt lexed.now.unit.now nodes.now lexed.now.tokens.items)) }
-{
-    pieces(alloc, lexed.unit, names, nodes, &lexed.tokens, tops.len())
-}
-
 /// Reads a unit's bare declarations.
 pub fn parse(alloc: Global, lexed: &Lexed) -> Result<Parsed, Memory>
     ensures { IfOk result (λ parsed. AreTrees lexed.now.unit.now lexed.now.tokens.items lexed.now.end
@@ -170,7 +155,7 @@ pub fn parse(alloc: Global, lexed: &Lexed) -> Result<Parsed, Memory>
     let flawed = first_flawed(alloc, lexed.unit, &lexed.tokens, nodes, &fitted)?;
     let misfit = or_else(flawed, unfit);
     let (declarations, are_low) = tops(alloc, lexed, &mut names, nodes, &fitted, misfit)?;
-    let piece = piece_of(alloc, lexed, &mut names, nodes, &declarations)?;
+    let piece = pieces(alloc, &declarations)?;
     let fault = last_fault(lexed, &full, misfit, are_low);
     Ok(Parsed {
         declarations,

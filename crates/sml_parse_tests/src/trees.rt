@@ -329,7 +329,6 @@ fn outside_the_piece(rt: HostRuntime) -> Result<(), Fail> {
     expect_outside(
         &rt,
         &[
-            "v",
             "val x = nil",
             "val ++ = 1",
             "val x = f y",
@@ -339,13 +338,11 @@ fn outside_the_piece(rt: HostRuntime) -> Result<(), Fail> {
             "val x = 1 : int",
             "val x = 0w1",
             "val x = fn y => y | z => z",
-            "val x = fn op y => y",
             "val x = fn (y) => y",
             "val x = fn ref => 1",
             "val x = 1 and y = 2",
             "val 'a x = 1",
             "val rec x = fn y => y",
-            "val x = op y",
             "fun f x = x",
             "type t = int",
             "structure A = B",
@@ -378,6 +375,13 @@ fn of_the_piece(rt: HostRuntime) -> Result<(), Fail> {
         &rt,
         &[
             ("val x = S.nil", "1.1 val x 1.9 S/nil;\n"),
+            ("v", "1.1 val it 1.1 v;\n"),
+            ("val x = op y", "1.1 val x 1.12 y;\n"),
+            ("val x = fn op y => y", "1.1 val x fn y 1.20 y;\n"),
+            (
+                "structure A = struct end :> sig val x : t end",
+                "structure A 1.29 sig 1.33 val x 1.41 t; struct \n",
+            ),
             (
                 "structure ref :> sig type o end = struct type o = nil val x = 01 end",
                 "structure ref 1.18 sig 1.22 type o; struct 1.42 type o 1.51 nil;1.55 val x n;\n",

@@ -1,6 +1,1 @@
-mod Labels
-mod Shapes
-mod Declaring
-mod Sorts
-mod Sorting
-pub mod TreePlaces
+pub mod Made

@@ -1,9 +1,1 @@
 pub mod Piece
-pub mod Items
-pub mod Lists
-pub mod Forms
-pub mod Values
-pub mod Rules
-pub mod Stacks
-pub mod Sorts
-pub mod Spelt

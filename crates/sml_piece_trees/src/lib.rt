@@ -1,11 +1,8 @@
-// The declarations of a derivation as trees of the piece of the language that is answered so far.
+// Declarations of the first piece of the language, as trees of their own.
 #![tactic(auto)]
 
-mod build;
-pub mod declare;
-pub mod form;
-pub mod item;
-mod label;
-pub mod laws;
-mod sort;
-mod stack;
+mod expressions;
+mod names;
+pub mod pieces;
+mod specifications;
+mod types;

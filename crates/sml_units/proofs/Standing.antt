@@ -54,8 +54,8 @@ unit_stands : (flags : List Bool) (B : Basis Name) (bytes : List ℕ) (s : Sourc
 unit_stands flags B bytes s spelt os r =
     let p = places_within bytes spelt.tokens spelt.end spelt.tops s.declarations s.last spelt.tokens_spelt spelt.trees in
     record {
-      answers = answers_stand s.maker B bytes spelt.tokens _ (specified_unit flags s).declarations os (part_stands (list_all (flag_at flags) s.needs) bytes spelt.tokens _ s.declarations p.0) r;
-      last = p.1;
+      answers = answers_stand s.maker B bytes spelt.tokens _ (specified_unit flags s).declarations os (part_stands (list_all (flag_at flags) s.needs) bytes spelt.tokens _ s.declarations p.1) r;
+      last = p.2;
     }
 
 pub units_stand : (flags : List Bool) (B : Basis Name) (Ss : List (Sig Name)) (us : List UnitText) (ss : List SourceUnit) (spelt : AreSourcesOf us ss) (oss : List (List Answered))

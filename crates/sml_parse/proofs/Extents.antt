@@ -5,8 +5,7 @@ use Rattle.std.proofs.lemmas.Bool.{false≢true}
 use Rattle.sml_lex.specs.declared.fault.Place.{Place}
 use Rattle.sml_lex.specs.declared.token.Token.{Token}
 use Rattle.sml_lex.specs.Pieces.{AreInOrder}
-use Rattle.sml_reach.specs.Places.{place_from}
-use Rattle.sml_reach.specs.Places.{start_of}
+use Rattle.sml_reach.specs.Places.{place_from, start_of}
 use Rattle.sml_parse.specs.Within.{Extent, IsOfToken}
 use Rattle.sml_reach.proofs.Somes.{some_same, none_some}
 

@@ -6,7 +6,7 @@ use std::process::Abort;
 use std::test::Fail;
 
 /// Declarations of the piece, some of them with a fault.
-const PHRASES: [&str; 24] = [
+const PHRASES: [&str; 30] = [
     "val a = 1",
     "val b = a",
     "val f = fn x => x",
@@ -36,6 +36,14 @@ const PHRASES: [&str; 24] = [
     "structure T :> sig type t type t end = struct type t = int end",
     "structure T :> sig val x : v end = struct type v = int val x = 1 end",
     "structure T :> sig val y : exn * int -> exn * int end = struct val x = T.y val y = f end",
+    // other spellings of the same bare forms
+    "; (f, op a);",
+    "val d = fn op x => op x",
+    "val d = op nope",
+    "structure T = struct type t = S.t val x = (S.x, S.x) val y = fn v => v end
+     :> sig type t val x : S.t * t val y : t -> S.t end",
+    "structure T = struct val x = S.x val y = nope end :> sig val x : int end",
+    "structure T = struct val x = S.x val y = a end :> sig val x : int val y : bool end",
 ];
 
 /// What the declarations speak of, so that most are accepted.
@@ -66,7 +74,7 @@ fn both_ways_agree(rt: HostRuntime) -> Result<(), Fail> {
         let mut phrases = String::new(alloc);
         for _ in 0..12 {
             state = state.wrapping_mul(1_664_525).wrapping_add(1_013_904_223);
-            let at = (state >> 16) % 24;
+            let at = (state >> 16) % 30;
             if let Some(phrase) = PHRASES.get(at as usize) {
                 phrases.push_str(phrase)?;
                 phrases.push_str("\n")?;

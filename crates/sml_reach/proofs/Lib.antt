@@ -7,3 +7,4 @@ pub mod Somes
 pub mod UpTo
 pub mod Firsts
 pub mod OneOutcome
+pub mod Alone

@@ -6,3 +6,4 @@ pub mod Places
 pub mod Reach
 pub mod Events
 pub mod Laws
+pub mod CodeAlone

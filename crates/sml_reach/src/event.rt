@@ -270,7 +270,7 @@ fn enter_other(
 }
 
 /// The event at a phrase of this rule with this first token, before what is found behind it. Most phrases are nothing to a
-/// sequence, or what their first part is.
+/// sequence, or what their first part is, or one atomic phrase or none whatever their parts are.
 fn enter_phrase(
     finder: &Finder,
     names: &mut Names,
@@ -295,6 +295,21 @@ fn enter_phrase(
         (Sense::Passed, Deed::Nothing) => {
             let first = first_part(founds, count);
             founds.push(first)?;
+            Ok(None)
+        }
+        (Sense::Empty, Deed::Nothing) => {
+            skip_parts(founds, count);
+            founds.push(Found::Several(Vec::new(finder.alloc), false))?;
+            Ok(None)
+        }
+        (Sense::Short, Deed::Nothing) => {
+            skip_parts(founds, count);
+            founds.push(Found::One(finder.short(names, token)?))?;
+            Ok(None)
+        }
+        (Sense::Phrase, Deed::Nothing) => {
+            skip_parts(founds, count);
+            founds.push(Found::One(finder.plain(Item::Phrase, token)))?;
             Ok(None)
         }
         (sense, deed) => enter_other(finder, names, founds, count, sense, deed, token),

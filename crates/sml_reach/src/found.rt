@@ -180,7 +180,7 @@ fn from(token: usize, found: Found) -> Result<Found, Memory>
 
 impl Finder<'_> {
     /// An item without brackets that begins at this token.
-    fn plain(&self, item: Item, token: usize) -> Atom
+    pub fn plain(&self, item: Item, token: usize) -> Atom
         ensures { atom_of result ≡ atom (name_of item) token [] }
     {
         Atom {
@@ -191,7 +191,7 @@ impl Finder<'_> {
     }
 
     /// The identifier without a path that this token is.
-    fn short(&self, names: &mut Names, token: usize) -> Result<Atom, Memory>
+    pub fn short(&self, names: &mut Names, token: usize) -> Result<Atom, Memory>
         ensures { let text = text_at self.now.unit.now self.now.tokens.now token in
             IfOk result (λ a. atom_of a ≡ atom (short text) token []) }
     {

@@ -1,6 +1,6 @@
 //! How far directives reach, and what each sequence stands for where they are in force.
 
-ghost use Rattle.std.specs.Prelude.{◌≡◌, ℕ, ◌<◌, ◌≤◌, ◌+◌, ◌-◌, ◌^◌, List, [], ◌∷◌, ◌++◌, map, reverse, length, get_or, IfOk, IfSome, OnOk};
+ghost use Rattle.std.specs.Prelude.{◌≡◌, ℕ, None, true, ◌<◌, ◌≤◌, ◌+◌, ◌-◌, ◌^◌, List, [], ◌∷◌, ◌++◌, map, reverse, length, get_or, IfOk, IfSome, OnOk};
 ghost use Rattle.std.specs.List.{cons_option};
 ghost use Rattle.std.specs.Option.{MatchOption};
 ghost use Rattle.sml_tree.specs.Trees.{Id};
@@ -10,7 +10,10 @@ ghost use Rattle.sml_fixity.specs.ItemNames.{name_of};
 ghost use Rattle.sml_reach.specs.Founds.{atoms_of};
 ghost use Rattle.sml_reach.specs.Events.{seen, text_at, directs};
 ghost use Rattle.sml_reach.specs.Reach as spec;
-ghost use Rattle.sml_fixity.specs.Shapes.{shape_of};
+ghost use Rattle.sml_fixity.specs.declared.sequences.Step.TheVariants.{Push};
+ghost use Rattle.sml_fixity.specs.Shapes.{shape_of, tree};
+ghost use Rattle.sml_fixity.specs.Sequences.{role_at, role_by};
+ghost use Rattle.sml_reach.specs.CodeAlone.{IsOperand};
 ghost use Rattle.sml_reach.specs.Fits.{fitted_of};
 ghost use Rattle.sml_reach.specs.Reach.{state_of, start, AreItems, first_inner, ids_of, level_text, level_token, misfit_of, idle, fit_at, outcome_of, Happens, Outcomes, misfit_in, misfits_in, declarations_in, AreGathered, first_misfit, before_misfit, up_to, AreFitted};
 
@@ -20,7 +23,7 @@ use crate::found::Atom;
 use crate::place::text;
 use sml_fixity::heads::clause_head;
 use sml_fixity::scopes::{Directive, DirectiveFault, Fixities};
-use sml_fixity::sequences::{FixFault, Item, resolve, resolve_pattern};
+use sml_fixity::sequences::{FixFault, Item, Operand, Step, resolve, resolve_pattern};
 use sml_fixity::shape::Shape;
 use sml_lex::fault::{Code, Memory};
 use sml_lex::token::Token;
@@ -144,6 +147,22 @@ fn stands(tokens: &[usize], shape: Shape) -> Outcome
     })
 }
 
+/// What one operand stands for.
+fn alone(alloc: Global, atoms: &Vec<Atom>) -> Result<Outcome, Memory>
+    ensures { IfOk result (λ o. outcome_of o ≡ spec.stands (fit_at (atoms_of atoms.now) (tree (Push 0 ∷ [])))) }
+{
+    let mut steps = Vec::new(alloc);
+    steps.push(Step::Push(0))?;
+    let token = match atoms.last() {
+        Some(atom) => atom.token,
+        None => 0,
+    };
+    Ok(Outcome::Stands(Fit {
+        token,
+        shape: Shape::Tree(Operand { steps }),
+    }))
+}
+
 /// The bytes of a level, none where it isn't written.
 fn level_bytes<'a>(unit: &'a [u8], tokens: &[Token], level: Option<usize>) -> &'a [u8]
     ensures { result.now ≡ level_text (text_at unit.now tokens.now) level }
@@ -193,11 +212,36 @@ impl Reach {
         }
     }
 
+    /// Whether an item is an operand by itself: no identifier with a fixity.
+    fn is_atom(&self, item: &Item) -> bool
+        ensures { result ≡ true → role_at (state_of self.now).here 0 item.now ≡ role_by 0 None }
+    {
+        match item {
+            Item::Short(name) => self.fixities.lookup(name).is_none(),
+            Item::Op => true,
+            Item::Long => true,
+            Item::Phrase => true,
+        }
+    }
+
+    /// Whether this is one atomic phrase, which is an operand.
+    fn is_operand(&self, atoms: &[Atom]) -> bool
+        ensures { result ≡ true → IsOperand (state_of self.now).here atoms.now }
+    {
+        match (atoms.first(), atoms.get(1)) {
+            (Some(atom), None) => self.is_atom(&atom.item),
+            _ => false,
+        }
+    }
+
     /// What a sequence of atomic expressions comes to.
     fn of_expression(&self, alloc: Global, atoms: Vec<Atom>) -> Result<Outcome, Memory>
         ensures empty { atoms_of atoms ≡ [] → IfOk result (λ o. outcome_of o ≡ idle) }
         ensures some { 0 < length (atoms_of atoms) → IfOk result (λ o. spec.IsExpression (state_of self.now) (atoms_of atoms) (outcome_of o)) }
     {
+        if self.is_operand(&atoms) {
+            return alone(alloc, &atoms);
+        }
         let sequence = split(alloc, atoms)?;
         if sequence.items.is_empty() {
             return Ok(Outcome::Idle);
@@ -213,6 +257,9 @@ impl Reach {
         ensures empty { atoms_of atoms ≡ [] → IfOk result (λ o. outcome_of o ≡ idle) }
         ensures some { 0 < length (atoms_of atoms) → IfOk result (λ o. spec.IsPattern (state_of self.now) (atoms_of atoms) (outcome_of o)) }
     {
+        if self.is_operand(&atoms) {
+            return alone(alloc, &atoms);
+        }
         let sequence = split(alloc, atoms)?;
         if sequence.items.is_empty() {
             return Ok(Outcome::Idle);

@@ -10,7 +10,7 @@ use Rattle.sml_fixity.specs.Shapes.{shape_of}
 use Rattle.sml_reach.specs.declared.fitted.Fit as P
 use Rattle.sml_reach.specs.Fits.{Fit, fit_of}
 use Rattle.sml_bare.specs.Derivations.{place_at, shape_from}
-use Rattle.sml_bare.specs.Sources.{ArePlaced, fit_from}
+use Rattle.sml_bare.specs.CodeSources.{ArePlaced, fit_from}
 use Rattle.sml_reach.proofs.Somes.{none_some}
 use Rattle.sml_reach.proofs.Somes.{some_same}
 

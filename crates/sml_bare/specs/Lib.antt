@@ -1,4 +1,4 @@
 pub mod RulePhrases
 pub mod SourceViews
 pub mod Derivations
-pub mod Sources
+pub mod CodeSources

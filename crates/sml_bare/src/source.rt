@@ -5,7 +5,7 @@ ghost use Rattle.std.specs.Option.{option_map};
 ghost use Rattle.sml_fixity.specs.Shapes.{shape_of};
 ghost use Rattle.sml_reach.specs.Fits.{fit_of};
 ghost use Rattle.sml_bare.specs.Derivations as spec;
-ghost use Rattle.sml_bare.specs.Sources.{fit_from, KnowsFits, ArePlaced};
+ghost use Rattle.sml_bare.specs.CodeSources.{fit_from, KnowsFits, ArePlaced};
 
 use sml_fixity::shape::Shape;
 use sml_lex::fault::{Memory, Place};

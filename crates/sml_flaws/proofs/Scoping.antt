@@ -19,7 +19,7 @@ use Rattle.sml_flaws.specs.declared.mark.Mark.{Mark}
 use Rattle.sml_flaws.specs.declared.mark.Mark.TheVariants as M
 use Rattle.sml_flaws.specs.Flaws.{lies_in, is_outer, scoped_at, scoped_of}
 use Rattle.sml_flaws.specs.declared.flaw.Flaw.{Flaw}
-use Rattle.sml_flaws.specs.Scopes.{owned_in, AreOwned, ends_behind, is_round, KnowsPassed, KnowsReaches}
+use Rattle.sml_flaws.specs.CodeScopes.{owned_in, AreOwned, ends_behind, is_round, KnowsPassed, KnowsReaches}
 use Rattle.sml_flaws.specs.declared.scopes.Passed.{Passed}
 
 max_test : (n a b : ℕ) → nat_lt n (max a b) ≡ (nat_lt n a || nat_lt n b)

@@ -3,4 +3,4 @@ pub mod Known
 pub mod Flawed
 pub mod Roles
 pub mod Flaws
-pub mod Scopes
+pub mod CodeScopes

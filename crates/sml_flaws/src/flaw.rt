@@ -12,7 +12,7 @@ ghost use Rattle.sml_flaws.specs.Flaws as spec;
 ghost use Rattle.sml_tree.specs.Trees.{Id};
 ghost use Rattle.sml_flaws.specs.Known.{atom_at, count_at, is_again, is_used, head_at, token_in};
 ghost use Rattle.sml_flaws.specs.Flaws.{KnowsFits, Knows};
-ghost use Rattle.sml_flaws.specs.Scopes.{AreOwned, KnowsPassed};
+ghost use Rattle.sml_flaws.specs.CodeScopes.{AreOwned, KnowsPassed};
 
 use crate::known::{Key, Position, bytes, heads_of, note_atom, note_count, note_key, uses_of};
 use crate::mark::{Mark, marks};

@@ -7,8 +7,8 @@ ghost use Rattle.sml_flaws.specs.declared.mark.Owned.{Owned};
 ghost use Rattle.std.specs.List.Sorted.{IsNonDecreasingBy};
 ghost use Rattle.sml_tree.specs.Trees.{Id};
 ghost use Rattle.sml_reach.specs.Events.{text_at};
-ghost use Rattle.sml_flaws.specs.Scopes as spec;
-ghost use Rattle.sml_flaws.specs.Scopes.{AreOwned, KnowsReaches, KnowsPassed};
+ghost use Rattle.sml_flaws.specs.CodeScopes as spec;
+ghost use Rattle.sml_flaws.specs.CodeScopes.{AreOwned, KnowsReaches, KnowsPassed};
 
 use crate::known::bytes;
 use crate::mark::{Mark, Owned};

@@ -1,7 +1,7 @@
 -- The sequences from here on are known.
 use Rattle.std.proofs.Common.{◌≤◌, map, drop, length}
 use Rattle.sml_reach.specs.Fits.{fit_of}
-use Rattle.sml_bare.specs.Sources.{KnowsFits}
+use Rattle.sml_bare.specs.CodeSources.{KnowsFits}
 use Rattle.sml_bare.proofs.source.by_token.Given as goal
 
 abbrev pub invariant-loop-i : goal.invariant-loop-i

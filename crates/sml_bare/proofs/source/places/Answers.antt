@@ -2,7 +2,7 @@ use Rattle.std.proofs.Common.{◌+◌, sym, ap, ◌∙◌, length, subst}
 use Rattle.std.proofs.lemmas.List.{length_push}
 use Rattle.sml_reach.specs.Places.{start_of}
 use Rattle.sml_reach.specs.Places.{place_from}
-use Rattle.sml_bare.specs.Sources.{ArePlaced}
+use Rattle.sml_bare.specs.CodeSources.{ArePlaced}
 use Rattle.sml_bare.proofs.Sourcing.{placed_on, none_placed}
 use Rattle.sml_bare.proofs.source.places.Goals as goal
 

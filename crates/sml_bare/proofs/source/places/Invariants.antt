@@ -2,7 +2,7 @@
 use Rattle.std.proofs.Common.{◌≡◌, length}
 use Rattle.sml_reach.specs.Places.{start_of}
 use Rattle.sml_reach.specs.Places.{IsOnWay}
-use Rattle.sml_bare.specs.Sources.{ArePlaced}
+use Rattle.sml_bare.specs.CodeSources.{ArePlaced}
 use Rattle.sml_bare.proofs.source.places.Given as goal
 
 abbrev pub invariant-loop-n : goal.invariant-loop-n

@@ -5,7 +5,7 @@ use Rattle.std.specs.Str.{bytes_eq}
 use Rattle.std.proofs.lemmas.List.Folds.{list_any-append}
 use Rattle.std.proofs.lemmas.Map.Text.{hash_map_updates_str}
 use Rattle.sml_reach.specs.Events.{text_at}
-use Rattle.sml_flaws.specs.Scopes.{ends_behind}
+use Rattle.sml_flaws.specs.CodeScopes.{ends_behind}
 use Rattle.sml_flaws.proofs.Scoping.{or_none, reach_on}
 use Rattle.sml_flaws.proofs.scopes.note.Goals as goal
 

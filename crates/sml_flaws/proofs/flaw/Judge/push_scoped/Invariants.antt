@@ -2,7 +2,7 @@
 use Rattle.std.proofs.Common.{◌≡◌, ◌++◌, drop}
 use Rattle.sml_reach.specs.Events.{text_at}
 use Rattle.sml_flaws.specs.Flaws.{scoped_of}
-use Rattle.sml_flaws.specs.Scopes.{KnowsPassed}
+use Rattle.sml_flaws.specs.CodeScopes.{KnowsPassed}
 use Rattle.sml_flaws.proofs.flaw.Judge.push_scoped.Given as goal
 
 abbrev pub invariant-loop-mark : goal.invariant-loop-mark

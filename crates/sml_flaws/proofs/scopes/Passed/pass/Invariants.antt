@@ -1,7 +1,7 @@
 -- The first of the variables are passed.
 use Rattle.std.proofs.Common.{◌≡◌, ◌-◌, length}
 use Rattle.sml_reach.specs.Events.{text_at}
-use Rattle.sml_flaws.specs.Scopes.{KnowsPassed}
+use Rattle.sml_flaws.specs.CodeScopes.{KnowsPassed}
 use Rattle.sml_flaws.proofs.scopes.Passed.pass.Given as goal
 
 abbrev pub invariant-loop-self : goal.invariant-loop-self

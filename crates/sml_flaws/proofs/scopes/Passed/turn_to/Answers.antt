@@ -1,5 +1,5 @@
 use Rattle.std.proofs.Common.{refl, sym, subst}
-use Rattle.sml_flaws.specs.Scopes.{KnowsPassed}
+use Rattle.sml_flaws.specs.CodeScopes.{KnowsPassed}
 use Rattle.sml_flaws.proofs.Scoping.{none_passed, later_node}
 use Rattle.sml_flaws.proofs.scopes.Passed.turn_to.Goals.{then-node-self, else-node-self}
 use Rattle.sml_flaws.proofs.scopes.Passed.turn_to.Goals as goal

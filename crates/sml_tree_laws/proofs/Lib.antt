@@ -46,3 +46,5 @@ mod Links
 mod FunctionNames
 mod RecDeclared
 mod Units
+mod KindRules
+pub mod KindWalk

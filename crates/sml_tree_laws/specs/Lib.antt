@@ -1,3 +1,4 @@
 pub mod Scoped
 pub mod WellBound
 pub mod Recursive
+pub mod Kinds

@@ -1,4 +1,5 @@
 //! Laws of the trees that parsing gives.
+ghost use Rattle.sml_tree_laws.specs.Kinds.{NoPartIsMadeUp};
 ghost use Rattle.sml_tree_laws.specs.Scoped.{VariablesAreScopedOnce};
 ghost use Rattle.sml_tree_laws.specs.WellBound.{TreesAreWellBound};
 ghost use Rattle.sml_tree_laws.specs.Recursive.{RecursiveNamesMayBeBound};
@@ -20,4 +21,10 @@ pub fn trees_are_well_bound()
 /// `true`, `false`, `::` or `ref`, and none before `as` there is one of these or `nil` (the Definition, section 2.9).
 pub fn recursive_names_may_be_bound()
     ensures { RecursiveNamesMayBeBound }
+{}
+
+/// In the declarations that bytes spell, each rule of the grammar finds phrases of the kinds that its parts make, and a
+/// declaration is made of all: where a definition puts a tree in the place of a phrase of another kind, none is put.
+pub fn no_part_is_made_up()
+    ensures { NoPartIsMadeUp }
 {}

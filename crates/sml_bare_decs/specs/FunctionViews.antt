@@ -10,7 +10,7 @@ use Rattle.sml_pat_sequences.specs.LowViews.{low_pats_of}
 use Rattle.sml_phrases.specs.PhraseHeights.{low}
 use Rattle.sml_phrases.specs.PhraseViews.{Gives}
 use Rattle.sml_bare_decs.specs.declared.clause_heads.ClauseHead as H
-use Rattle.sml_bare_decs.specs.declared.function_rules.RightSide as R
+use Rattle.sml_phrases.specs.declared.phrase.RightSide as R
 use Rattle.sml_phrases.specs.declared.phrase.Failure.{Failure}
 
 abbrev pub heading_of : H.ClauseHead → Heading

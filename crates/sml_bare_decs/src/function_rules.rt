@@ -30,7 +30,7 @@ use sml_pat_sequences::low_lists::and_pat;
 use sml_pat_sequences::pattern_sequences::pat_place;
 use sml_pat_sequences::round_patterns::round_pat;
 use sml_phrases::low::{LIMIT, LowBind, LowBinds, LowClauses, LowExp, LowPat, LowPats, LowTy};
-use sml_phrases::phrase::{DeclarationPhrase, Failure, Phrase, discard};
+use sml_phrases::phrase::{DeclarationPhrase, Failure, Phrase, RightSide, discard};
 use sml_phrases::stack::Stack;
 use sml_tree::bare::Ident;
 use sml_tree::clauses::Clause;
@@ -38,14 +38,6 @@ use sml_tree::expressions::Exp;
 use sml_tree::names::Name;
 use sml_tree::patterns::Pat;
 use std::alloc::Global;
-
-/// A clause behind its first atomic pattern: the other patterns, perhaps a type, and the right side.
-#[derive(Drop)]
-pub struct RightSide {
-    pub pats: LowPats,
-    pub result: Option<LowTy>,
-    pub body: LowExp,
-}
 
 /// A clause, with the height of its rule.
 #[derive(Drop)]
@@ -218,11 +210,7 @@ pub fn pop_right_side(stack: &mut Stack) -> RightSide
     ensures rest { seen stack.new ≡ drop 1 (seen stack.old) }
 {
     match stack.pop() {
-        Phrase::Declarations(DeclarationPhrase::RightSide(pats, result, body)) => RightSide {
-            pats,
-            result,
-            body,
-        },
+        Phrase::Declarations(DeclarationPhrase::RightSide(right)) => Box::into_inner(right),
         other => {
             discard(other);
             let pats = LowPats {
@@ -404,10 +392,10 @@ pub fn functions_behind_bracket(stack: &mut Stack) -> Result<(), Failure>
     ensures { let vs = seen stack.old in Puts (round_rest (pats_in (at vs 0)) (right_side_in (at vs 1)) (clauses_in (at vs 2)) (binds_in (at vs 3))) 4 vs (seen stack.new) result }
 {
     let inner = stack.pats();
-    let RightSide { pats, result, body } = pop_right_side(stack);
+    let right = pop_right_side(stack);
     let others = stack.clauses();
     let binds = stack.binds();
-    stack.put_round_functions(inner, pats, result, body, others, binds)
+    stack.put_round_functions(inner, right, others, binds)
 }
 
 /// A function whose first clause begins with a round bracket, and further functions.
@@ -440,10 +428,8 @@ fn round_functions_of(
     ensures { Puts (round_functions (option_map (λ s. shape_of s.now) shape.entry) place (phrase_of rest)) 0 (seen stack.old) (seen stack.new) result }
 {
     match rest {
-        Phrase::Declarations(
-            DeclarationPhrase::RoundFunctions(inner, pats, result, body, others, binds),
-        ) => {
-            let right = RightSide { pats, result, body };
+        Phrase::Declarations(DeclarationPhrase::RoundFunctions(inner, right, others, binds)) => {
+            let right = Box::into_inner(right);
             round_function(stack, expander, shape, place, inner, right, others, binds)
         }
         other => {

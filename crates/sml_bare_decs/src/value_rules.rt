@@ -21,7 +21,7 @@ use sml_fixity::shape::Shape;
 use sml_lex::fault::Place;
 use sml_pat_sequences::pattern_sequences::round_sequence;
 use sml_phrases::low::{LowBind, LowBinds, LowExp, LowPat, LowPats};
-use sml_phrases::phrase::{DeclarationPhrase, Failure, Phrase};
+use sml_phrases::phrase::{DeclarationPhrase, Failure, Phrase, RoundValues};
 use sml_phrases::stack::Stack;
 use sml_tree::expressions::ValBind;
 
@@ -168,19 +168,20 @@ fn round_value_of(
     ensures { Puts (round_value (option_map (λ s. shape_of s.now) shape.entry) place (phrase_of rest)) 0 (seen stack.old) (seen stack.new) result }
 {
     match rest {
-        Phrase::Declarations(
-            DeclarationPhrase::RoundValues(inner, pats, tys, exp, plain, recursive),
-        ) => round_binding(
-            stack,
-            expander,
-            shape,
-            place,
-            inner,
-            Atoms { pats, tys },
-            exp,
-            plain,
-            recursive,
-        ),
+        Phrase::Declarations(DeclarationPhrase::RoundValues(values)) => {
+            let RoundValues {
+                inner,
+                pats,
+                tys,
+                exp,
+                plain,
+                recursive,
+            } = Box::into_inner(values);
+            let atoms = Atoms { pats, tys };
+            round_binding(
+                stack, expander, shape, place, inner, atoms, exp, plain, recursive,
+            )
+        }
         other => {
             stack.push(other)?;
             Ok(())

@@ -1,3 +1,4 @@
 mod ExpressionHeights
 mod ExpressionLists
 mod Parts
+mod RestHeights

@@ -4,15 +4,15 @@ ghost use Rattle.std.specs.Prelude.{◌≡◌, map, reverse, drop, IfOk, OnOk};
 ghost use Rattle.sml_tree.specs.Expressions.{constant, name, row, tuple, let_in, bracket, and_exp, no_exp, field, and_field, no_field};
 ghost use Rattle.sml_tree.specs.ExpressionViews.{exp_of, exps_of, field_of, fields_of, dec_of, decs_of};
 ghost use Rattle.sml_tree.specs.TypeViews.{name_of};
-ghost use Rattle.sml_derived.specs.Derived.{select};
-ghost use Rattle.sml_phrases.specs.Phrases.{of_exp, of_exps, of_series, of_fields, at, name_in, long_in, constant_in, exp_in, exps_in, fields_in, decs_in};
+ghost use Rattle.sml_derived.specs.Derived.{long, select};
+ghost use Rattle.sml_phrases.specs.Phrases.{of_exp, of_exps, of_series, of_fields, at, name_in, numeral, long_in, constant_in, exp_in, exps_in, fields_in, decs_in};
 ghost use Rattle.sml_phrases.specs.PhraseViews.{Puts, phrase_of, seen};
 ghost use Rattle.sml_bare_exps.specs.ExpressionViews.{GivesExp, low_exp_of};
 ghost use Rattle.sml_bare_exps.specs.ExpressionRules.{series_of, list_of, tuple_of, round_of, round_parts, body_of};
 
 use crate::expression_sequences::exp_place;
 use crate::low_forms::{low_cons, low_nil, low_select, low_sequence, raised_exp};
-use sml_derived::expander::Expander;
+use sml_derived::expander::{Expander, long};
 use sml_lex::fault::{Memory, Place};
 use sml_phrases::low::{LowDecs, LowExp, LowExps, LowFields};
 use sml_phrases::phrase::{ExpressionPhrase, Failure, Phrase, discard};
@@ -23,7 +23,7 @@ use sml_tree::names::Name;
 use std::alloc::Global;
 
 /// Expressions with one more before them.
-fn with(exp: LowExp, exps: LowExps) -> Result<LowExps, Memory>
+pub fn with(exp: LowExp, exps: LowExps) -> Result<LowExps, Memory>
     ensures { IfOk result (λ es. exps_of (map low_exp_of (reverse es.trees.items)) ≡ and_exp (low_exp_of exp) (exps_of (map low_exp_of (reverse exps.trees.items)))) }
 {
     let LowExps { mut trees, height } = exps;
@@ -282,7 +282,15 @@ pub fn local(expander: &Expander, place: Place, stack: &mut Stack) -> Result<(),
     stack.put_exp(exp)
 }
 
-/// `Constant`
+/// `Numeral` and `ZeroNumeral`
+pub fn numeral(place: Place, stack: &mut Stack) -> Result<(), Failure>
+    ensures { Puts (of_exp (constant place (numeral (name_in (at (seen stack.old) 0))))) 1 (seen stack.old) (seen stack.new) result }
+{
+    let tree = Exp::Constant(place, stack.numeral()?);
+    stack.put_exp(LowExp { tree, height: 1 })
+}
+
+/// Any other constant
 pub fn constant(place: Place, stack: &mut Stack) -> Result<(), Failure>
     ensures { Puts (of_exp (constant place (constant_in (at (seen stack.old) 0)))) 1 (seen stack.old) (seen stack.new) result }
 {
@@ -290,7 +298,15 @@ pub fn constant(place: Place, stack: &mut Stack) -> Result<(), Failure>
     stack.put_exp(LowExp { tree, height: 1 })
 }
 
-/// `ExpVid`
+/// An identifier without a path
+pub fn short(place: Place, stack: &mut Stack) -> Result<(), Failure>
+    ensures { Puts (of_exp (name place (long (name_in (at (seen stack.old) 0))))) 1 (seen stack.old) (seen stack.new) result }
+{
+    let tree = Exp::Identifier(place, long(stack.alloc, stack.name()?));
+    stack.put_exp(LowExp { tree, height: 1 })
+}
+
+/// An identifier with a path
 pub fn identifier(place: Place, stack: &mut Stack) -> Result<(), Failure>
     ensures { Puts (of_exp (name place (long_in (at (seen stack.old) 0)))) 1 (seen stack.old) (seen stack.new) result }
 {

@@ -14,16 +14,18 @@ ghost use Rattle.sml_phrases.specs.PhraseViews.{Puts, seen};
 ghost use Rattle.sml_fixity.specs.Shapes.{shape_of};
 ghost use Rattle.sml_bare_exps.specs.ExpressionSequences.{sequence_exp};
 ghost use Rattle.sml_bare_exps.specs.ExpressionViews.{GivesExp, low_exp_of};
-ghost use Rattle.sml_bare_exps.specs.ExpressionRules.{conjunction, disjunction, handled, expression_phrase};
+ghost use Rattle.sml_bare_exps.specs.ExpressionRules.{conjunction, disjunction, expression_phrase};
 
 use crate::atom_rules::{
     behind_op, constant, first_exps, first_fields, identifier, last_exp, last_field, local,
-    more_exps, more_fields, more_series, no_exps, round, round_parts, row, selector, square,
-    taken_exps,
+    more_exps, more_fields, more_series, no_exps, numeral, round, round_parts, row, selector,
+    short, square, taken_exps,
 };
 use crate::expression_sequences::sequence_exp;
-use crate::low_forms::{
-    low_and_also, low_case, low_conditional, low_or_else, low_repeat, raised_exp,
+use crate::low_forms::{low_case, low_conditional, low_repeat, raised_exp};
+use crate::rest_rules::{
+    conjunction, disjunction, more_operands, more_types, rest_and_also, rest_handle, rest_or_else,
+    whole, with_ty,
 };
 use sml_derived::expander::Expander;
 use sml_fixity::shape::Shape;
@@ -34,56 +36,6 @@ use sml_phrases::raise::raised;
 use sml_phrases::stack::Stack;
 use sml_read::grammar::ExpressionRule;
 use sml_tree::expressions::{Exp, Rule};
-use std::alloc::Global;
-
-/// An expression, and perhaps the right operand of `andalso`.
-fn conjunction(
-    expander: &Expander,
-    place: Place,
-    left: LowExp,
-    right: Option<LowExp>,
-) -> Result<LowExp, Failure>
-    ensures { GivesExp (conjunction place (low_exp_of left) (option_map low_exp_of right)) result }
-{
-    match right {
-        None => Ok(left),
-        Some(right) => low_and_also(expander, place, left, right),
-    }
-}
-
-/// An expression, and perhaps the right operand of `orelse`.
-fn disjunction(
-    expander: &Expander,
-    place: Place,
-    left: LowExp,
-    right: Option<LowExp>,
-) -> Result<LowExp, Failure>
-    ensures { GivesExp (disjunction place (low_exp_of left) (option_map low_exp_of right)) result }
-{
-    match right {
-        None => Ok(left),
-        Some(right) => low_or_else(expander, place, left, right),
-    }
-}
-
-/// An expression, and perhaps the match behind `handle`.
-fn handled(
-    alloc: Global,
-    place: Place,
-    exp: LowExp,
-    rules: Option<LowRules>,
-) -> Result<LowExp, Failure>
-    ensures { GivesExp (handled place (low_exp_of exp) (option_map (λ rs. rules_of (map rule_of (reverse rs.trees.items))) rules)) result }
-{
-    let Some(rules) = rules else {
-        return Ok(exp);
-    };
-    let (exp, height) = raised_exp(exp, rules.height)?;
-    let mut trees = rules.trees;
-    trees.reverse();
-    let tree = Exp::Handle(place, Box::new(alloc, exp)?, trees);
-    Ok(LowExp { tree, height })
-}
 
 /// `Typ AndMore`
 fn conjuncts(expander: &Expander, place: Place, stack: &mut Stack) -> Result<LowExp, Failure>
@@ -103,25 +55,6 @@ fn operands(expander: &Expander, place: Place, stack: &mut Stack) -> Result<LowE
     let left = conjuncts(expander, place, stack)?;
     let right = stack.exp_if_any();
     Ok(disjunction(expander, place, left, right)?)
-}
-
-/// `Typ AndMore OrMore HandleMore`
-fn handled_operands(expander: &Expander, place: Place, stack: &mut Stack) -> Result<LowExp, Failure>
-    ensures made { let vs = seen stack.old in GivesExp (handled place (disjunction place (conjunction place (exp_in (at vs 0)) (exp_if_any (at vs 1))) (exp_if_any (at vs 2))) (rules_if_any (at vs 3))) result }
-    ensures rest { OnOk result (seen stack.new ≡ drop 4 (seen stack.old)) }
-{
-    let alloc = stack.alloc;
-    let exp = operands(expander, place, stack)?;
-    let rules = stack.rules_if_any();
-    Ok(handled(alloc, place, exp, rules)?)
-}
-
-/// The same, as a phrase.
-fn handling(expander: &Expander, place: Place, stack: &mut Stack) -> Result<(), Failure>
-    ensures { Puts (let vs = seen stack.old in of_exp (handled place (disjunction place (conjunction place (exp_in (at vs 0)) (exp_if_any (at vs 1))) (exp_if_any (at vs 2))) (rules_if_any (at vs 3)))) 4 (seen stack.old) (seen stack.new) result }
-{
-    let exp = handled_operands(expander, place, stack)?;
-    stack.put_exp(exp)
 }
 
 /// The same, as a phrase.
@@ -156,10 +89,8 @@ fn more_tys(stack: &mut Stack) -> Result<(), Failure>
 {
     stack.skip();
     let ty = stack.ty();
-    let LowTys { mut trees, height } = stack.tys();
-    let height = height.max(ty.height);
-    trees.push(ty)?;
-    stack.put_tys(LowTys { trees, height })
+    let tys = with_ty(ty, stack.tys())?;
+    stack.put_tys(tys)
 }
 
 /// `raise Exp`
@@ -330,9 +261,17 @@ pub fn expression_phrase(
         | ExpressionRule::OrMoreOrelse
         | ExpressionRule::HandleMoreHandle
         | ExpressionRule::MatchMoreBar => stack.put_behind_word(),
-        ExpressionRule::AndMoreNone | ExpressionRule::OrMoreNone | ExpressionRule::HandleMoreNone =>
-            stack.put_nothing(),
-        ExpressionRule::ExpTyp => handling(expander, place, stack),
+        ExpressionRule::MoreNone
+        | ExpressionRule::TyRestNone
+        | ExpressionRule::AndMoreNone
+        | ExpressionRule::OrMoreNone
+        | ExpressionRule::HandleMoreNone => stack.put_nothing(),
+        ExpressionRule::ExpAt => whole(expander, place, shape, stack),
+        ExpressionRule::MoreAt => more_operands(stack),
+        ExpressionRule::MoreColon | ExpressionRule::TyRestColon => more_types(stack),
+        ExpressionRule::MoreAndalso | ExpressionRule::TyRestAndalso => rest_and_also(stack),
+        ExpressionRule::MoreOrelse | ExpressionRule::TyRestOrelse => rest_or_else(stack),
+        ExpressionRule::MoreHandle | ExpressionRule::TyRestHandle => rest_handle(stack),
         ExpressionRule::AndRestTyp => both(expander, place, stack),
         ExpressionRule::OrRestTyp => alternatives(expander, place, stack),
         ExpressionRule::TypAt => sequence(expander, shape, stack),
@@ -347,8 +286,19 @@ pub fn expression_phrase(
         ExpressionRule::MatchMoreNone => no_rules(stack),
         ExpressionRule::AtMoreNone => no_exps(stack),
         ExpressionRule::AtMoreAt | ExpressionRule::ExpListExp => first_exps(stack),
-        ExpressionRule::AtConstant => constant(place, stack),
-        ExpressionRule::AtExpVid => identifier(place, stack),
+        ExpressionRule::AtNumeral | ExpressionRule::AtZeroNumeral => numeral(place, stack),
+        ExpressionRule::AtInteger
+        | ExpressionRule::AtWordConstant
+        | ExpressionRule::AtRealConstant
+        | ExpressionRule::AtStringConstant
+        | ExpressionRule::AtCharacterConstant => constant(place, stack),
+        ExpressionRule::AtAlphanumeric
+        | ExpressionRule::AtSymbolic
+        | ExpressionRule::AtStar
+        | ExpressionRule::AtEquals => short(place, stack),
+        ExpressionRule::AtLongAlphanumeric
+        | ExpressionRule::AtLongSymbolic
+        | ExpressionRule::AtLongStar => identifier(place, stack),
         ExpressionRule::AtOp => behind_op(place, stack),
         ExpressionRule::AtOpenCurly => row(place, stack),
         ExpressionRule::AtHash => selector(expander, place, stack),

@@ -127,7 +127,7 @@ pub fn fun_binds(stack: &mut Stack, expander: &Expander) -> Result<LowFunBinds, 
     match first {
         Phrase::Structures(StructurePhrase::BegunFunBind(name, argument, signature, own, body)) => {
             let body = bound(stack.alloc, name.place, own, body, constraints)?;
-            and_fun_bind(name, argument, signature, body, binds)
+            and_fun_bind(name, argument, Box::into_inner(signature), body, binds)
         }
         Phrase::Structures(StructurePhrase::BegunFunctor(name, specs, own, body)) => {
             let body = bound(stack.alloc, name.place, own, body, constraints)?;

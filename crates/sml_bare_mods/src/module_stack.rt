@@ -87,7 +87,7 @@ pub fn pop_where_type(stack: &mut Stack) -> Result<LowWhere, Memory>
             Ok(LowWhere {
                 variables,
                 constructor,
-                ty,
+                ty: Box::into_inner(ty),
             })
         }
         other => {

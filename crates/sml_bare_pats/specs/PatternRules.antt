@@ -7,7 +7,7 @@ use Rattle.sml_tree.specs.Names.{Name}
 use Rattle.sml_tree.specs.Types.{Ty, no_ty, and_ty}
 use Rattle.sml_tree.specs.Patterns.{Pat, Pats, wildcard, pat_constant, pat_name, pat_row, pat_as, no_pat, and_pat, pat_field, no_pat_field, and_pat_field}
 use Rattle.sml_read.specs.declared.grammar.PatternRule.{PatternRule}
-use Rattle.sml_read.specs.declared.grammar.PatternRule.TheVariants.{PatOpenRound, BarePatVid, BarePatOp, BarePatOtherAtPat, OpPatVid, OpPatQualified, AfterVidNone, AfterVidAs, AfterVidColon, AfterVidAtPat, AfterVidTyNone, AfterVidTyAs, AfterVidTyColon, AtPatMoreNone, AtPatMoreAtPat, AtPatMoreColon, AtPatOpenRound, BareAtPatVid, BareAtPatOp, OtherAtPatWildcard, OtherAtPatConstant, OtherAtPatQualified, OtherAtPatOpenCurly, OtherAtPatOpenSquare, PatRoundCloseRound, PatRoundPat, PatRoundMoreCloseRound, PatRoundMoreComma, PatListCloseSquare, PatListPat, PatListMoreCloseSquare, PatListMoreComma, PatRowCloseCurly, RowDots, RowNumeral, RowVid, RowRestEquals, RowRestTyped, RowAsNone, RowAsAs, RowMoreNone, RowMoreComma}
+use Rattle.sml_read.specs.declared.grammar.PatternRule.TheVariants.{PatOpenRound, PatAlphanumeric, PatSymbolic, PatStar, BarePatAlphanumeric, BarePatSymbolic, BarePatStar, PatOp, BarePatOp, PatOtherAtPat, BarePatOtherAtPat, OpPatVid, OpPatQualified, AfterVidNone, AfterVidAs, AfterVidColon, AfterVidAtPat, AfterVidTyNone, AfterVidTyAs, AfterVidTyColon, AtPatMoreNone, AtPatMoreAtPat, AtPatMoreColon, AtPatOpenRound, AtPatAlphanumeric, AtPatSymbolic, AtPatStar, BareAtPatAlphanumeric, BareAtPatSymbolic, BareAtPatStar, AtPatOp, BareAtPatOp, OtherAtPatWildcard, OtherAtPatConstant, OtherAtPatQualified, OtherAtPatOpenCurly, OtherAtPatOpenSquare, PatRoundCloseRound, PatRoundPat, PatRoundMoreCloseRound, PatRoundMoreComma, PatListCloseSquare, PatListPat, PatListMoreCloseSquare, PatListMoreComma, PatRowCloseCurly, RowDots, RowNumeral, RowVid, RowRestEquals, RowRestTyped, RowAsNone, RowAsAs, RowMoreNone, RowMoreComma}
 use Rattle.sml_derived.specs.Derived.{long, pat_nil, pat_cons, layered}
 use Rattle.sml_bare_pats.specs.PatternPhrases.{pat_fields_in, flexible_in, atoms_in, colons_in}
 use Rattle.sml_pat_sequences.specs.PatternSequences.{no_operand, sequence_pat, round_sequence}
@@ -61,8 +61,15 @@ and_field l q v = of_pat_fields (and_pat_field (pat_field l q) (pat_fields_in v)
 
 abbrev pub pattern_phrase : PatternRule → Place → Option Shape → List Phrase → Phrase
 pattern_phrase PatOpenRound p s vs = of_pat (round_sequence s (round_pat p (pats_in (at vs 1))) (atoms_in (at vs 2)) (colons_in (at vs 2)))
-pattern_phrase BarePatVid p s vs = of_pat (from_vid s p (name_in (at vs 0)) (at vs 1))
+pattern_phrase PatAlphanumeric p s vs = of_pat (from_vid s p (name_in (at vs 0)) (at vs 1))
+pattern_phrase PatSymbolic p s vs = of_pat (from_vid s p (name_in (at vs 0)) (at vs 1))
+pattern_phrase PatStar p s vs = of_pat (from_vid s p (name_in (at vs 0)) (at vs 1))
+pattern_phrase BarePatAlphanumeric p s vs = of_pat (from_vid s p (name_in (at vs 0)) (at vs 1))
+pattern_phrase BarePatSymbolic p s vs = of_pat (from_vid s p (name_in (at vs 0)) (at vs 1))
+pattern_phrase BarePatStar p s vs = of_pat (from_vid s p (name_in (at vs 0)) (at vs 1))
+pattern_phrase PatOp p s vs = of_pat (behind_op s p (at vs 1))
 pattern_phrase BarePatOp p s vs = of_pat (behind_op s p (at vs 1))
+pattern_phrase PatOtherAtPat p s vs = of_pat (sequence_from s (pat_in (at vs 0)) (at vs 1))
 pattern_phrase BarePatOtherAtPat p s vs = of_pat (sequence_from s (pat_in (at vs 0)) (at vs 1))
 pattern_phrase OpPatVid p s vs = op_from_vid (name_in (at vs 0)) (at vs 1)
 pattern_phrase OpPatQualified p s vs = of_op_atoms (long_in (at vs 0)) (atoms_in (at vs 1)) (colons_in (at vs 1))
@@ -77,7 +84,13 @@ pattern_phrase AtPatMoreNone p s vs = of_atoms no_pat no_ty
 pattern_phrase AtPatMoreAtPat p s vs = and_atom (pat_in (at vs 0)) (at vs 1)
 pattern_phrase AtPatMoreColon p s vs = of_atoms no_pat (and_ty (ty_in (at vs 1)) (tys_in (at vs 2)))
 pattern_phrase AtPatOpenRound p s vs = of_pat (round_pat p (pats_in (at vs 1)))
-pattern_phrase BareAtPatVid p s vs = of_pat (pat_name p (long (name_in (at vs 0))))
+pattern_phrase AtPatAlphanumeric p s vs = of_pat (pat_name p (long (name_in (at vs 0))))
+pattern_phrase AtPatSymbolic p s vs = of_pat (pat_name p (long (name_in (at vs 0))))
+pattern_phrase AtPatStar p s vs = of_pat (pat_name p (long (name_in (at vs 0))))
+pattern_phrase BareAtPatAlphanumeric p s vs = of_pat (pat_name p (long (name_in (at vs 0))))
+pattern_phrase BareAtPatSymbolic p s vs = of_pat (pat_name p (long (name_in (at vs 0))))
+pattern_phrase BareAtPatStar p s vs = of_pat (pat_name p (long (name_in (at vs 0))))
+pattern_phrase AtPatOp p s vs = of_pat (pat_name p (long_in (at vs 1)))
 pattern_phrase BareAtPatOp p s vs = of_pat (pat_name p (long_in (at vs 1)))
 pattern_phrase OtherAtPatWildcard p s vs = of_pat (wildcard p)
 pattern_phrase OtherAtPatConstant p s vs = of_pat (pat_constant p (constant_in (at vs 0)))

@@ -4,8 +4,8 @@ ghost use Rattle.std.specs.Prelude.{length};
 ghost use Rattle.sml_read.specs.Grammar.{right_side};
 ghost use Rattle.sml_read.specs.declared.grammar.Rule.TheVariants.{Names};
 ghost use Rattle.sml_derived.specs.Derived.{long};
-ghost use Rattle.sml_bare_pats.specs.NameRules.{numeral, name_phrase};
-ghost use Rattle.sml_phrases.specs.Phrases.{of_long, of_constant, at, name_in};
+ghost use Rattle.sml_bare_pats.specs.NameRules.{name_phrase};
+ghost use Rattle.sml_phrases.specs.Phrases.{of_long, of_constant, at, name_in, numeral};
 ghost use Rattle.sml_phrases.specs.PhraseViews.{Puts, seen};
 
 use sml_derived::expander::{Expander, long};
@@ -13,7 +13,6 @@ use sml_lex::fault::Place;
 use sml_phrases::phrase::Failure;
 use sml_phrases::stack::Stack;
 use sml_read::grammar::NameRule;
-use sml_tree::patterns::{Constant, ConstantKind};
 
 /// An identifier without a path, as a long one.
 fn short(stack: &mut Stack) -> Result<(), Failure>
@@ -27,11 +26,8 @@ fn short(stack: &mut Stack) -> Result<(), Failure>
 fn numeral(stack: &mut Stack) -> Result<(), Failure>
     ensures { Puts (of_constant (numeral (name_in (at (seen stack.old) 0)))) 1 (seen stack.old) (seen stack.new) result }
 {
-    let name = stack.name()?;
-    stack.put_constant(Constant {
-        kind: ConstantKind::Integer,
-        literal: name.ident,
-    })
+    let constant = stack.numeral()?;
+    stack.put_constant(constant)
 }
 
 /// What a rule of identifiers or constants makes of its part, which is on top of the stack.

@@ -16,7 +16,7 @@ use sml_derived::expander::Expander;
 use sml_derived::patterns::layered as layered_tree;
 use sml_lex::fault::{Memory, Place};
 use sml_phrases::low::{LowPat, LowPatFields, LowPats, LowTy, LowTys};
-use sml_phrases::phrase::{Failure, PatternPhrase, Phrase, discard};
+use sml_phrases::phrase::{Failure, Layer, PatternPhrase, Phrase, discard};
 use sml_phrases::raise::raised;
 use sml_tree::bare::LongIdent;
 use sml_tree::names::Name;
@@ -137,7 +137,10 @@ pub fn field_pat(alloc: Global, name: Name, rest: Phrase) -> Result<LowPat, Fail
 {
     match rest {
         Phrase::Patterns(PatternPhrase::Pat(pat)) => Ok(pat),
-        Phrase::Patterns(PatternPhrase::Layer(ty, pat)) => layered(alloc, name, ty, pat),
+        Phrase::Patterns(PatternPhrase::Layer(layer)) => {
+            let Layer { ty, pat } = Box::into_inner(layer);
+            layered(alloc, name, ty, pat)
+        }
         other => {
             discard(other);
             layered(alloc, name, None, None)

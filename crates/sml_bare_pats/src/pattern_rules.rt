@@ -8,10 +8,10 @@ ghost use Rattle.sml_tree.specs.Patterns.{wildcard, pat_constant, pat_name, pat_
 ghost use Rattle.sml_tree.specs.Types.{no_ty, and_ty};
 ghost use Rattle.sml_tree.specs.TypeViews.{name_of};
 ghost use Rattle.sml_derived.specs.Derived.{long};
-ghost use Rattle.sml_pat_sequences.specs.LowViews.{GivesPat, low_ty_of, low_pat_of, low_pats_of};
+ghost use Rattle.sml_pat_sequences.specs.LowViews.{GivesPat, low_ty_of, low_tys_of, low_pat_of, low_pats_of};
 ghost use Rattle.sml_bare_pats.specs.PatternPhrases.{pat_fields_in, flexible_in, atoms_in, colons_in};
 ghost use Rattle.sml_bare_pats.specs.PatternRules.{list_pat, sequence_from, from_vid, op_from_vid, behind_op, behind_colon, and_atom, field_pat, and_field, pattern_phrase};
-ghost use Rattle.sml_pat_sequences.specs.PatternSequences.{round_sequence};
+ghost use Rattle.sml_pat_sequences.specs.PatternSequences.{round_sequence, sequence_pat};
 ghost use Rattle.sml_pat_sequences.specs.RoundPatterns.{round_pat};
 ghost use Rattle.sml_phrases.specs.Phrases.{of_tys, of_pat, of_pats, of_pat_fields, of_atoms, of_layer, of_op_atoms, at, name_in, long_in, constant_in, ty_in, tys_in, pat_in, pats_in, ty_if_any, pat_if_any};
 ghost use Rattle.sml_phrases.specs.PhraseViews.{Puts, phrase_of, seen};
@@ -27,12 +27,33 @@ use sml_pat_sequences::low_lists::{and_pat, and_ty};
 use sml_pat_sequences::pattern_sequences::{no_operand, round_sequence, sequence};
 use sml_pat_sequences::round_patterns::round_pat;
 use sml_phrases::low::{LowPat, LowPatFields, LowPats, LowTy, LowTys};
-use sml_phrases::phrase::{Failure, PatternPhrase, Phrase, TypePhrase, discard};
+use sml_phrases::phrase::{Failure, Layer, PatternPhrase, Phrase, TypePhrase, discard};
 use sml_phrases::raise::raised;
 use sml_phrases::stack::Stack;
 use sml_read::grammar::PatternRule;
 use sml_tree::names::Name;
 use sml_tree::patterns::Pat;
+
+/// A sequence, from its first pattern, the others and the types behind them.
+fn sequence_with(
+    expander: &Expander,
+    shape: Option<&Shape>,
+    first: LowPat,
+    atoms: LowPats,
+    types: LowTys,
+) -> Result<LowPat, Failure>
+    ensures { GivesPat (sequence_pat (option_map (λ s. shape_of s.now) shape.entry) (and_pat (low_pat_of first) (low_pats_of atoms)) (low_tys_of types)) result }
+{
+    match shape {
+        Some(shape) if shape.is_first() && atoms.trees.is_empty() && types.trees.is_empty() => {
+            Ok(first)
+        }
+        _ => {
+            let atoms = and_pat(first, atoms)?;
+            sequence(expander, shape, atoms, types)
+        }
+    }
+}
 
 /// A sequence, from its first pattern and what stands behind that.
 fn sequence_from(
@@ -44,8 +65,7 @@ fn sequence_from(
     ensures { GivesPat (sequence_from (option_map (λ s. shape_of s.now) shape.entry) (low_pat_of first) (phrase_of rest)) result }
 {
     let (atoms, types) = atoms_in(expander.alloc, rest);
-    let atoms = and_pat(first, atoms)?;
-    sequence(expander, shape, atoms, types)
+    sequence_with(expander, shape, first, atoms, types)
 }
 
 /// What stands between round brackets, and what stands behind them.
@@ -98,7 +118,10 @@ fn from_vid(
     ensures { GivesPat (from_vid (option_map (λ s. shape_of s.now) shape.entry) place (name_of name) (phrase_of rest)) result }
 {
     match rest {
-        Phrase::Patterns(PatternPhrase::Layer(ty, pat)) => layered(expander.alloc, name, ty, pat),
+        Phrase::Patterns(PatternPhrase::Layer(layer)) => {
+            let Layer { ty, pat } = Box::into_inner(layer);
+            layered(expander.alloc, name, ty, pat)
+        }
         other => {
             let first = pat_name(place, long(expander.alloc, name));
             sequence_from(expander, shape, first, other)
@@ -130,10 +153,13 @@ fn behind_op(
     ensures { GivesPat (behind_op (option_map (λ s. shape_of s.now) shape.entry) place (phrase_of rest)) result }
 {
     match rest {
-        Phrase::Patterns(PatternPhrase::OpLayer(name, ty, pat)) => match pat {
-            Some(pat) => pat_as(expander.alloc, place, name, ty, pat),
-            None => Ok(no_operand(expander.alloc)),
-        },
+        Phrase::Patterns(PatternPhrase::OpLayer(name, layer)) => {
+            let Layer { ty, pat } = Box::into_inner(layer);
+            match pat {
+                Some(pat) => pat_as(expander.alloc, place, name, ty, pat),
+                None => Ok(no_operand(expander.alloc)),
+            }
+        }
         Phrase::Patterns(PatternPhrase::OpAtoms(long, atoms, types)) => {
             let atoms = and_pat(pat_name(place, long), atoms)?;
             sequence(expander, shape, atoms, types)
@@ -173,7 +199,10 @@ fn op_from_vid(stack: &mut Stack, name: Name, rest: Phrase) -> Result<(), Failur
     ensures { Puts (op_from_vid (name_of name) (phrase_of rest)) 0 (seen stack.old) (seen stack.new) result }
 {
     match rest {
-        Phrase::Patterns(PatternPhrase::Layer(ty, pat)) => stack.put_op_layer(name, ty, pat),
+        Phrase::Patterns(PatternPhrase::Layer(layer)) => {
+            let Layer { ty, pat } = Box::into_inner(layer);
+            stack.put_op_layer(name, ty, pat)
+        }
         other => {
             let (atoms, types) = atoms_in(stack.alloc, other);
             let name = long(stack.alloc, name);
@@ -238,7 +267,10 @@ fn behind_colon(stack: &mut Stack, ty: LowTy, rest: Phrase) -> Result<(), Failur
     ensures { Puts (behind_colon (low_ty_of ty) (phrase_of rest)) 0 (seen stack.old) (seen stack.new) result }
 {
     match rest {
-        Phrase::Patterns(PatternPhrase::Layer(_, pat)) => stack.put_layer(Some(ty), pat),
+        Phrase::Patterns(PatternPhrase::Layer(layer)) => {
+            let Layer { ty: _, pat } = Box::into_inner(layer);
+            stack.put_layer(Some(ty), pat)
+        }
         Phrase::Types(TypePhrase::Tys(types)) => {
             let types = and_ty(ty, types)?;
             let atoms = LowPats {
@@ -517,11 +549,17 @@ pub fn pattern_phrase(
 {
     match rule {
         PatternRule::PatOpenRound => from_round(stack, place, shape, expander),
-        PatternRule::PatBarePat | PatternRule::AtPatBareAtPat | PatternRule::BareAtPatOtherAtPat =>
-            stack.put_first(),
-        PatternRule::BarePatVid => vid(stack, place, shape, expander),
-        PatternRule::BarePatOp => op(stack, place, shape, expander),
-        PatternRule::BarePatOtherAtPat => from_other(stack, shape, expander),
+        PatternRule::AtPatOtherAtPat | PatternRule::BareAtPatOtherAtPat => stack.put_first(),
+        PatternRule::PatAlphanumeric
+        | PatternRule::PatSymbolic
+        | PatternRule::PatStar
+        | PatternRule::BarePatAlphanumeric
+        | PatternRule::BarePatSymbolic
+        | PatternRule::BarePatStar => vid(stack, place, shape, expander),
+        PatternRule::PatOp | PatternRule::BarePatOp => op(stack, place, shape, expander),
+        PatternRule::PatOtherAtPat | PatternRule::BarePatOtherAtPat => from_other(
+            stack, shape, expander,
+        ),
         PatternRule::OpPatVid => op_vid(stack),
         PatternRule::OpPatQualified => op_qualified(stack),
         PatternRule::AfterVidNone | PatternRule::AtPatMoreNone => no_atoms(stack),
@@ -532,8 +570,13 @@ pub fn pattern_phrase(
         PatternRule::AfterVidTyColon => colons(stack),
         PatternRule::AtPatMoreColon => atom_colons(stack),
         PatternRule::AtPatOpenRound => round(stack, place),
-        PatternRule::BareAtPatVid => name(stack, place),
-        PatternRule::BareAtPatOp => op_name(stack, place),
+        PatternRule::AtPatAlphanumeric
+        | PatternRule::AtPatSymbolic
+        | PatternRule::AtPatStar
+        | PatternRule::BareAtPatAlphanumeric
+        | PatternRule::BareAtPatSymbolic
+        | PatternRule::BareAtPatStar => name(stack, place),
+        PatternRule::AtPatOp | PatternRule::BareAtPatOp => op_name(stack, place),
         PatternRule::OtherAtPatWildcard => wildcard(stack, place),
         PatternRule::OtherAtPatConstant => constant(stack, place),
         PatternRule::OtherAtPatQualified => qualified(stack, place),

@@ -15,7 +15,7 @@ use Rattle.sml_read.specs.declared.grammar.DeclarationRule.TheVariants.{ValDecTy
 use Rattle.sml_read.specs.declared.grammar.ExpressionRule.{ExpressionRule}
 use Rattle.sml_read.specs.declared.grammar.ExpressionRule.TheVariants.{ExpRowLab, ExpRowMoreComma, OpenWhile, AtOpenCurly}
 use Rattle.sml_read.specs.declared.grammar.PatternRule.{PatternRule}
-use Rattle.sml_read.specs.declared.grammar.PatternRule.TheVariants.{PatOpenRound, BarePatVid, OpPatVid, BarePatOtherAtPat, OpPatQualified, AfterVidAtPat, AtPatMoreAtPat, BareAtPatVid, BareAtPatOp, OtherAtPatConstant, RowNumeral, RowVid, BarePatOp, OtherAtPatOpenCurly}
+use Rattle.sml_read.specs.declared.grammar.PatternRule.TheVariants.{PatOpenRound, PatAlphanumeric, PatSymbolic, PatStar, BarePatAlphanumeric, BarePatSymbolic, BarePatStar, OpPatVid, PatOtherAtPat, BarePatOtherAtPat, OpPatQualified, AfterVidAtPat, AtPatMoreAtPat, AtPatAlphanumeric, AtPatSymbolic, AtPatStar, BareAtPatAlphanumeric, BareAtPatSymbolic, BareAtPatStar, AtPatOp, BareAtPatOp, OtherAtPatConstant, RowNumeral, RowVid, PatOp, BarePatOp, OtherAtPatOpenCurly}
 use Rattle.sml_read.specs.declared.grammar.TypeRule.{TypeRule}
 use Rattle.sml_read.specs.declared.grammar.TypeRule.TheVariants.{ATyTypeVariable, SomeTvsTypeVariable, SomeTvsOpenRound, TvsMoreComma, TyRowLab, TyRowMoreComma, ATyOpenCurly}
 use Rattle.sml_flaws.specs.declared.role.Space.TheVariants as P
@@ -74,13 +74,25 @@ expression_roles _ = []
 
 abbrev pub pattern_roles : PatternRule → List Role
 pattern_roles PatOpenRound = R.Same ∷ R.Same ∷ R.Next ∷ []
-pattern_roles BarePatVid = R.Word W.Atom ∷ R.Next ∷ []
+pattern_roles PatAlphanumeric = R.Word W.Atom ∷ R.Next ∷ []
+pattern_roles PatSymbolic = R.Word W.Atom ∷ R.Next ∷ []
+pattern_roles PatStar = R.Word W.Atom ∷ R.Next ∷ []
+pattern_roles BarePatAlphanumeric = R.Word W.Atom ∷ R.Next ∷ []
+pattern_roles BarePatSymbolic = R.Word W.Atom ∷ R.Next ∷ []
+pattern_roles BarePatStar = R.Word W.Atom ∷ R.Next ∷ []
 pattern_roles OpPatVid = R.Word W.Atom ∷ R.Next ∷ []
+pattern_roles PatOtherAtPat = R.Same ∷ R.Next ∷ []
 pattern_roles BarePatOtherAtPat = R.Same ∷ R.Next ∷ []
 pattern_roles OpPatQualified = R.Same ∷ R.Next ∷ []
 pattern_roles AfterVidAtPat = R.Same ∷ R.Next ∷ []
 pattern_roles AtPatMoreAtPat = R.Same ∷ R.Next ∷ []
-pattern_roles BareAtPatVid = R.Word W.Atom ∷ []
+pattern_roles AtPatAlphanumeric = R.Word W.Atom ∷ []
+pattern_roles AtPatSymbolic = R.Word W.Atom ∷ []
+pattern_roles AtPatStar = R.Word W.Atom ∷ []
+pattern_roles BareAtPatAlphanumeric = R.Word W.Atom ∷ []
+pattern_roles BareAtPatSymbolic = R.Word W.Atom ∷ []
+pattern_roles BareAtPatStar = R.Word W.Atom ∷ []
+pattern_roles AtPatOp = R.Same ∷ R.Word W.Atom ∷ []
 pattern_roles BareAtPatOp = R.Same ∷ R.Word W.Atom ∷ []
 pattern_roles OtherAtPatConstant = R.Word W.Constant ∷ []
 pattern_roles RowNumeral = R.Word (W.Bound P.Labels) ∷ []
@@ -150,8 +162,15 @@ expression_entry _ = O.Nothing
 
 abbrev pub pattern_entry : PatternRule → Entry
 pattern_entry PatOpenRound = O.Sequence
-pattern_entry BarePatVid = O.Sequence
+pattern_entry PatAlphanumeric = O.Sequence
+pattern_entry PatSymbolic = O.Sequence
+pattern_entry PatStar = O.Sequence
+pattern_entry BarePatAlphanumeric = O.Sequence
+pattern_entry BarePatSymbolic = O.Sequence
+pattern_entry BarePatStar = O.Sequence
+pattern_entry PatOp = O.Sequence
 pattern_entry BarePatOp = O.Sequence
+pattern_entry PatOtherAtPat = O.Sequence
 pattern_entry BarePatOtherAtPat = O.Sequence
 pattern_entry OtherAtPatOpenCurly = O.Group
 pattern_entry _ = O.Nothing

@@ -166,13 +166,25 @@ fn pattern_roles(rule: PatternRule) -> &'static [Role]
 {
     match rule {
         PatternRule::PatOpenRound => &[Role::Same, Role::Same, Role::Next],
-        PatternRule::BarePatVid | PatternRule::OpPatVid => &[Role::Word(Word::Atom), Role::Next],
-        PatternRule::BarePatOtherAtPat
+        PatternRule::PatAlphanumeric
+        | PatternRule::PatSymbolic
+        | PatternRule::PatStar
+        | PatternRule::BarePatAlphanumeric
+        | PatternRule::BarePatSymbolic
+        | PatternRule::BarePatStar
+        | PatternRule::OpPatVid => &[Role::Word(Word::Atom), Role::Next],
+        PatternRule::PatOtherAtPat
+        | PatternRule::BarePatOtherAtPat
         | PatternRule::OpPatQualified
         | PatternRule::AfterVidAtPat
         | PatternRule::AtPatMoreAtPat => &[Role::Same, Role::Next],
-        PatternRule::BareAtPatVid => &[Role::Word(Word::Atom)],
-        PatternRule::BareAtPatOp => &[Role::Same, Role::Word(Word::Atom)],
+        PatternRule::AtPatAlphanumeric
+        | PatternRule::AtPatSymbolic
+        | PatternRule::AtPatStar
+        | PatternRule::BareAtPatAlphanumeric
+        | PatternRule::BareAtPatSymbolic
+        | PatternRule::BareAtPatStar => &[Role::Word(Word::Atom)],
+        PatternRule::AtPatOp | PatternRule::BareAtPatOp => &[Role::Same, Role::Word(Word::Atom)],
         PatternRule::OtherAtPatConstant => &[Role::Word(Word::Constant)],
         PatternRule::RowNumeral | PatternRule::RowVid => &[Role::Word(Word::Bound(Space::Labels))],
         _ => &[],
@@ -272,8 +284,15 @@ fn pattern_entry(rule: PatternRule) -> Entry
 {
     match rule {
         PatternRule::PatOpenRound
-        | PatternRule::BarePatVid
+        | PatternRule::PatAlphanumeric
+        | PatternRule::PatSymbolic
+        | PatternRule::PatStar
+        | PatternRule::BarePatAlphanumeric
+        | PatternRule::BarePatSymbolic
+        | PatternRule::BarePatStar
+        | PatternRule::PatOp
         | PatternRule::BarePatOp
+        | PatternRule::PatOtherAtPat
         | PatternRule::BarePatOtherAtPat => Entry::Sequence,
         PatternRule::OtherAtPatOpenCurly => Entry::Group,
         _ => Entry::Nothing,

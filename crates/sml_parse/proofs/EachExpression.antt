@@ -5,7 +5,7 @@ use Rattle.std.proofs.Common.{refl}
 use Rattle.sml_lex.specs.declared.fault.Place.{Place}
 use Rattle.sml_lex.specs.Faults.{first_place}
 use Rattle.sml_tree.specs.Names.{Name}
-use Rattle.sml_tree.specs.Types.{Tys, no_ty, and_ty}
+use Rattle.sml_tree.specs.Types.{Ty, Tys, no_ty, and_ty}
 use Rattle.sml_tree.specs.Expressions.{Exp, Exps, Rules, constant, name, row, tuple, let_in, bracket, apply, typed, handle, raise, fn, no_exp, and_exp}
 use Rattle.sml_fixity.specs.declared.sequences.Step.{Step}
 use Rattle.sml_fixity.specs.declared.sequences.Step.TheVariants.{Push, Apply, Combine}
@@ -14,11 +14,11 @@ use Rattle.sml_read.specs.Grammar.{right_side}
 use Rattle.sml_read.specs.Spelling.{all_empty}
 use Rattle.sml_read.specs.declared.grammar.Rule.TheVariants as G
 use Rattle.sml_read.specs.declared.grammar.ExpressionRule.{ExpressionRule}
-use Rattle.sml_read.specs.declared.grammar.ExpressionRule.TheVariants.{ExpTyp, AndMoreNone, AndMoreAndalso, AndRestTyp, OrMoreNone, OrMoreOrelse, OrRestTyp, HandleMoreNone, HandleMoreHandle, TypAt, AtMoreNone, AtMoreAt, TyMoreNone, TyMoreColon, OpenRaise, OpenIf, OpenWhile, OpenCase, OpenFn, MatchPat, MatchMoreNone, MatchMoreBar, AtConstant, AtExpVid, AtOp, AtOpenCurly, AtHash, AtOpenRound, AtOpenSquare, AtLet, ExpRowCloseCurly, ExpRowLab, ExpRowMoreCloseCurly, ExpRowMoreComma, ExpRoundCloseRound, ExpRoundExp, ExpRoundMoreCloseRound, ExpRoundMoreComma, ExpRoundMoreSemicolon, TupleMoreCloseRound, TupleMoreComma, SequenceMoreCloseRound, SequenceMoreSemicolon, ExpListCloseSquare, ExpListExp, ExpListMoreCloseSquare, ExpListMoreComma, LetMoreEnd, LetMoreSemicolon}
-use Rattle.sml_phrases.specs.Phrases.{Phrase, of_series, name_in, tys_in, exp_in, exps_in, rules_in, exp_if_any, rules_if_any, at}
+use Rattle.sml_read.specs.declared.grammar.ExpressionRule.TheVariants.{ExpAt, MoreNone, MoreAt, MoreColon, MoreAndalso, MoreOrelse, MoreHandle, TyRestNone, TyRestColon, TyRestAndalso, TyRestOrelse, TyRestHandle, AndMoreNone, AndMoreAndalso, AndRestTyp, OrMoreNone, OrMoreOrelse, OrRestTyp, HandleMoreNone, HandleMoreHandle, TypAt, AtMoreNone, AtMoreAt, TyMoreNone, TyMoreColon, OpenRaise, OpenIf, OpenWhile, OpenCase, OpenFn, MatchPat, MatchMoreNone, MatchMoreBar, AtNumeral, AtZeroNumeral, AtInteger, AtWordConstant, AtRealConstant, AtStringConstant, AtCharacterConstant, AtAlphanumeric, AtSymbolic, AtStar, AtEquals, AtLongAlphanumeric, AtLongSymbolic, AtLongStar, AtOp, AtOpenCurly, AtHash, AtOpenRound, AtOpenSquare, AtLet, ExpRowCloseCurly, ExpRowLab, ExpRowMoreCloseCurly, ExpRowMoreComma, ExpRoundCloseRound, ExpRoundExp, ExpRoundMoreCloseRound, ExpRoundMoreComma, ExpRoundMoreSemicolon, TupleMoreCloseRound, TupleMoreComma, SequenceMoreCloseRound, SequenceMoreSemicolon, ExpListCloseSquare, ExpListExp, ExpListMoreCloseSquare, ExpListMoreComma, LetMoreEnd, LetMoreSemicolon}
+use Rattle.sml_phrases.specs.Phrases.{Phrase, of_series, of_rest, name_in, ty_in, tys_in, exp_in, exps_in, rules_in, exp_if_any, rules_if_any, at}
 use Rattle.sml_bare_exps.specs.ExpressionSequences as S
-use Rattle.sml_bare_exps.specs.ExpressionRules.{conjunction, disjunction, handled, series_of, list_of, tuple_of, round_of, round_parts, body_of, expression_phrase}
-use Rattle.sml_parse.specs.EachPlace.{EachInName, EachInTys, EachInExp, EachInExps}
+use Rattle.sml_bare_exps.specs.ExpressionRules.{conjunction, disjunction, handled, with_operand, with_type, whole, series_of, list_of, tuple_of, round_of, round_parts, body_of, expression_phrase}
+use Rattle.sml_parse.specs.EachPlace.{EachInName, EachInTy, EachInTys, EachInExp, EachInExps}
 use Rattle.sml_parse.proofs.EachPhrase.{EachInExpIfAny, EachInRulesIfAny, EachInPhrase, EachInPhrases, all_get_or, all_set, at_each, name_in_each, long_in_each, ty_in_each, tys_in_each, pat_in_each, exp_in_each, exps_in_each, fields_in_each, rules_in_each, decs_in_each, exp_if_any_each, rules_if_any_each}
 use Rattle.sml_parse.proofs.EachDerived.{select_each, case_of_each, if_of_each, orelse_of_each, andalso_of_each, sequence_of_each, while_of_each, cons_of_each, infix_of_each}
 
@@ -114,6 +114,21 @@ module _ (Q : Place → Type 0) (origin : Q first_place) where
   handled_each p e None o h k = h
   handled_each p e (Some rs) o h k = (o, h, k)
 
+  with_operand_each : (e : Exp Place) (v : Phrase) → EachInExp Q e → EachInPhrase Q v → EachInPhrase Q (with_operand e v)
+  with_operand_each e (of_rest es ts a o rs) h k = ((h, k.0), k.1, k.2, k.3, k.4)
+  with_operand_each e v h k = (h, exps_in_each Q origin v k)
+
+  with_type_each : (t : Ty Place) (v : Phrase) → EachInTy Q t → EachInPhrase Q v → EachInPhrase Q (with_type t v)
+  with_type_each t (of_rest es ts a o rs) h k = (k.0, (h, k.1), k.2, k.3, k.4)
+  with_type_each t v h k = (tt, (h, tt), tt, tt, tt)
+
+  whole_each : (p : Place) (s : Option Shape) (e : Exp Place) (v : Phrase) → Q p → EachInExp Q e → EachInPhrase Q v → EachInExp Q (whole p s e v)
+  whole_each p s e (of_rest es ts a o rs) q h k =
+      let d = S.sequence_exp s (and_exp e es) ts in
+      let f = conjunction_each p d a q (sequence_exp_each s (and_exp e es) ts (h, k.0) k.1) k.2 in
+      handled_each p (disjunction p (conjunction p d a) o) rs q (disjunction_each p (conjunction p d a) o q f k.3) k.4
+  whole_each p s e v q h k = sequence_exp_each s (and_exp e (exps_in v)) no_ty (h, exps_in_each Q origin v k) tt
+
   -- expressions in brackets, and behind `in`
   series_each : (p : Place) (es : Exps Place) → Q p → EachInExps Q es → EachInExp Q (series_of p es)
   series_each p no_exp o h = (o, tt)
@@ -143,11 +158,18 @@ module _ (Q : Place → Type 0) (origin : Q first_place) where
   -- the rules
   expression_parts : (rule : ExpressionRule) (p : Place) (s : Option Shape) (vs : List Phrase) → (all_empty (right_side (G.Expressions rule)) ≡ false → Q p)
       → ((k : ℕ) → EachInPhrase Q (at vs k)) → EachInPhrase Q (expression_phrase rule p s vs)
-  expression_parts ExpTyp p s vs o h =
-      let q = o refl in
-      let e = conjunction_each p (exp_in (at vs 0)) (exp_if_any (at vs 1)) q (exp_in_each Q origin (at vs 0) (h 0)) (exp_if_any_each Q origin (at vs 1) (h 1)) in
-      let f = disjunction_each p (conjunction p (exp_in (at vs 0)) (exp_if_any (at vs 1))) (exp_if_any (at vs 2)) q e (exp_if_any_each Q origin (at vs 2) (h 2)) in
-      handled_each p (disjunction p (conjunction p (exp_in (at vs 0)) (exp_if_any (at vs 1))) (exp_if_any (at vs 2))) (rules_if_any (at vs 3)) q f (rules_if_any_each Q origin (at vs 3) (h 3))
+  expression_parts ExpAt p s vs o h = whole_each p s (exp_in (at vs 0)) (at vs 1) (o refl) (exp_in_each Q origin (at vs 0) (h 0)) (h 1)
+  expression_parts MoreNone p s vs o h = tt
+  expression_parts MoreAt p s vs o h = with_operand_each (exp_in (at vs 0)) (at vs 1) (exp_in_each Q origin (at vs 0) (h 0)) (h 1)
+  expression_parts MoreColon p s vs o h = with_type_each (ty_in (at vs 1)) (at vs 2) (ty_in_each Q origin (at vs 1) (h 1)) (h 2)
+  expression_parts MoreAndalso p s vs o h = (tt, tt, exp_in_each Q origin (at vs 1) (h 1), exp_if_any_each Q origin (at vs 2) (h 2), rules_if_any_each Q origin (at vs 3) (h 3))
+  expression_parts MoreOrelse p s vs o h = (tt, tt, tt, exp_in_each Q origin (at vs 1) (h 1), rules_if_any_each Q origin (at vs 2) (h 2))
+  expression_parts MoreHandle p s vs o h = (tt, tt, tt, tt, rules_in_each Q origin (at vs 1) (h 1))
+  expression_parts TyRestNone p s vs o h = tt
+  expression_parts TyRestColon p s vs o h = with_type_each (ty_in (at vs 1)) (at vs 2) (ty_in_each Q origin (at vs 1) (h 1)) (h 2)
+  expression_parts TyRestAndalso p s vs o h = (tt, tt, exp_in_each Q origin (at vs 1) (h 1), exp_if_any_each Q origin (at vs 2) (h 2), rules_if_any_each Q origin (at vs 3) (h 3))
+  expression_parts TyRestOrelse p s vs o h = (tt, tt, tt, exp_in_each Q origin (at vs 1) (h 1), rules_if_any_each Q origin (at vs 2) (h 2))
+  expression_parts TyRestHandle p s vs o h = (tt, tt, tt, tt, rules_in_each Q origin (at vs 1) (h 1))
   expression_parts AndMoreNone p s vs o h = tt
   expression_parts AndMoreAndalso p s vs o h = h 1
   expression_parts AndRestTyp p s vs o h = conjunction_each p (exp_in (at vs 0)) (exp_if_any (at vs 1)) (o refl) (exp_in_each Q origin (at vs 0) (h 0)) (exp_if_any_each Q origin (at vs 1) (h 1))
@@ -176,8 +198,20 @@ module _ (Q : Place → Type 0) (origin : Q first_place) where
   expression_parts MatchPat p s vs o h = ((o refl, pat_in_each Q origin (at vs 0) (h 0), exp_in_each Q origin (at vs 2) (h 2)), rules_in_each Q origin (at vs 3) (h 3))
   expression_parts MatchMoreNone p s vs o h = tt
   expression_parts MatchMoreBar p s vs o h = h 1
-  expression_parts AtConstant p s vs o h = o refl
-  expression_parts AtExpVid p s vs o h = (o refl, long_in_each Q origin (at vs 0) (h 0))
+  expression_parts AtNumeral p s vs o h = o refl
+  expression_parts AtZeroNumeral p s vs o h = o refl
+  expression_parts AtInteger p s vs o h = o refl
+  expression_parts AtWordConstant p s vs o h = o refl
+  expression_parts AtRealConstant p s vs o h = o refl
+  expression_parts AtStringConstant p s vs o h = o refl
+  expression_parts AtCharacterConstant p s vs o h = o refl
+  expression_parts AtAlphanumeric p s vs o h = (o refl, name_in_each Q origin (at vs 0) (h 0))
+  expression_parts AtSymbolic p s vs o h = (o refl, name_in_each Q origin (at vs 0) (h 0))
+  expression_parts AtStar p s vs o h = (o refl, name_in_each Q origin (at vs 0) (h 0))
+  expression_parts AtEquals p s vs o h = (o refl, name_in_each Q origin (at vs 0) (h 0))
+  expression_parts AtLongAlphanumeric p s vs o h = (o refl, long_in_each Q origin (at vs 0) (h 0))
+  expression_parts AtLongSymbolic p s vs o h = (o refl, long_in_each Q origin (at vs 0) (h 0))
+  expression_parts AtLongStar p s vs o h = (o refl, long_in_each Q origin (at vs 0) (h 0))
   expression_parts AtOp p s vs o h = (o refl, long_in_each Q origin (at vs 1) (h 1))
   expression_parts AtOpenCurly p s vs o h = (o refl, fields_in_each Q origin (at vs 1) (h 1))
   expression_parts AtHash p s vs o h = select_each Q p (name_in (at vs 1)) (o refl) (name_in_each Q origin (at vs 1) (h 1))

@@ -18,7 +18,7 @@ use Rattle.sml_read.specs.declared.grammar.NameRule.TheVariants.{LongVidAlphanum
 use Rattle.sml_read.specs.declared.grammar.TypeRule.{TypeRule}
 use Rattle.sml_read.specs.declared.grammar.TypeRule.TheVariants.{TyTup, TyArrowNone, TyArrowArrow, TupCon, TupMoreNone, TupMoreStar, ConATy, ConMoreNone, ConMoreLongTyCon, ATyTypeVariable, ATyLongTyCon, ATyOpenCurly, ATyOpenRound, TyRowCloseCurly, TyRowLab, TyRowMoreCloseCurly, TyRowMoreComma, TyRoundCloseRound, TyRoundComma, TyRoundMoreCloseRound, TyRoundMoreComma, TvsNone, SomeTvsTypeVariable, SomeTvsOpenRound, TvsMoreNone, TvsMoreComma}
 use Rattle.sml_read.specs.declared.grammar.PatternRule.{PatternRule}
-use Rattle.sml_read.specs.declared.grammar.PatternRule.TheVariants.{PatOpenRound, BarePatVid, BarePatOp, BarePatOtherAtPat, OpPatVid, OpPatQualified, AfterVidNone, AfterVidAs, AfterVidColon, AfterVidAtPat, AfterVidTyNone, AfterVidTyAs, AfterVidTyColon, AtPatMoreNone, AtPatMoreAtPat, AtPatMoreColon, AtPatOpenRound, BareAtPatVid, BareAtPatOp, OtherAtPatWildcard, OtherAtPatConstant, OtherAtPatQualified, OtherAtPatOpenCurly, OtherAtPatOpenSquare, PatRoundCloseRound, PatRoundPat, PatRoundMoreCloseRound, PatRoundMoreComma, PatListCloseSquare, PatListPat, PatListMoreCloseSquare, PatListMoreComma, PatRowCloseCurly, RowDots, RowNumeral, RowVid, RowRestEquals, RowRestTyped, RowAsNone, RowAsAs, RowMoreNone, RowMoreComma}
+use Rattle.sml_read.specs.declared.grammar.PatternRule.TheVariants.{PatOpenRound, PatAlphanumeric, PatSymbolic, PatStar, BarePatAlphanumeric, BarePatSymbolic, BarePatStar, PatOp, BarePatOp, PatOtherAtPat, BarePatOtherAtPat, OpPatVid, OpPatQualified, AfterVidNone, AfterVidAs, AfterVidColon, AfterVidAtPat, AfterVidTyNone, AfterVidTyAs, AfterVidTyColon, AtPatMoreNone, AtPatMoreAtPat, AtPatMoreColon, AtPatOpenRound, AtPatAlphanumeric, AtPatSymbolic, AtPatStar, BareAtPatAlphanumeric, BareAtPatSymbolic, BareAtPatStar, AtPatOp, BareAtPatOp, OtherAtPatWildcard, OtherAtPatConstant, OtherAtPatQualified, OtherAtPatOpenCurly, OtherAtPatOpenSquare, PatRoundCloseRound, PatRoundPat, PatRoundMoreCloseRound, PatRoundMoreComma, PatListCloseSquare, PatListPat, PatListMoreCloseSquare, PatListMoreComma, PatRowCloseCurly, RowDots, RowNumeral, RowVid, RowRestEquals, RowRestTyped, RowAsNone, RowAsAs, RowMoreNone, RowMoreComma}
 use Rattle.sml_derived.specs.Derived.{long, layered}
 use Rattle.sml_phrases.specs.Phrases.{Phrase, of_arguments, of_pat, of_pat_fields, of_atoms, of_layer, of_op_atoms, of_op_layer, name_in, longs_in, ty_in, tys_in, ty_if_any, pat_in, pats_in, at}
 use Rattle.sml_pat_sequences.specs.PatternSequences as S
@@ -256,8 +256,15 @@ module _ (Q : Place → Type 0) (origin : Q first_place) where
   pattern_parts PatOpenRound p s vs o h =
       round_sequence_each s (round_pat p (pats_in (at vs 1))) (atoms_in (at vs 2)) (colons_in (at vs 2))
       (round_pat_each p (pats_in (at vs 1)) (o refl) (pats_in_each Q origin (at vs 1) (h 1))) (atoms_in_each (at vs 2) (h 2)) (colons_in_each (at vs 2) (h 2))
-  pattern_parts BarePatVid p s vs o h = from_vid_each s p (name_in (at vs 0)) (at vs 1) (o refl) (name_in_each Q origin (at vs 0) (h 0)) (h 1)
+  pattern_parts PatAlphanumeric p s vs o h = from_vid_each s p (name_in (at vs 0)) (at vs 1) (o refl) (name_in_each Q origin (at vs 0) (h 0)) (h 1)
+  pattern_parts PatSymbolic p s vs o h = from_vid_each s p (name_in (at vs 0)) (at vs 1) (o refl) (name_in_each Q origin (at vs 0) (h 0)) (h 1)
+  pattern_parts PatStar p s vs o h = from_vid_each s p (name_in (at vs 0)) (at vs 1) (o refl) (name_in_each Q origin (at vs 0) (h 0)) (h 1)
+  pattern_parts BarePatAlphanumeric p s vs o h = from_vid_each s p (name_in (at vs 0)) (at vs 1) (o refl) (name_in_each Q origin (at vs 0) (h 0)) (h 1)
+  pattern_parts BarePatSymbolic p s vs o h = from_vid_each s p (name_in (at vs 0)) (at vs 1) (o refl) (name_in_each Q origin (at vs 0) (h 0)) (h 1)
+  pattern_parts BarePatStar p s vs o h = from_vid_each s p (name_in (at vs 0)) (at vs 1) (o refl) (name_in_each Q origin (at vs 0) (h 0)) (h 1)
+  pattern_parts PatOp p s vs o h = behind_op_each s p (at vs 1) (o refl) (h 1)
   pattern_parts BarePatOp p s vs o h = behind_op_each s p (at vs 1) (o refl) (h 1)
+  pattern_parts PatOtherAtPat p s vs o h = sequence_from_each s (pat_in (at vs 0)) (at vs 1) (pat_in_each Q origin (at vs 0) (h 0)) (h 1)
   pattern_parts BarePatOtherAtPat p s vs o h = sequence_from_each s (pat_in (at vs 0)) (at vs 1) (pat_in_each Q origin (at vs 0) (h 0)) (h 1)
   pattern_parts OpPatVid p s vs o h = op_from_vid_each (name_in (at vs 0)) (at vs 1) (name_in_each Q origin (at vs 0) (h 0)) (h 1)
   pattern_parts OpPatQualified p s vs o h = (long_in_each Q origin (at vs 0) (h 0), atoms_in_each (at vs 1) (h 1), colons_in_each (at vs 1) (h 1))
@@ -272,7 +279,13 @@ module _ (Q : Place → Type 0) (origin : Q first_place) where
   pattern_parts AtPatMoreAtPat p s vs o h = and_atom_each (pat_in (at vs 0)) (at vs 1) (pat_in_each Q origin (at vs 0) (h 0)) (h 1)
   pattern_parts AtPatMoreColon p s vs o h = (tt, (ty_in_each Q origin (at vs 1) (h 1), tys_in_each Q origin (at vs 2) (h 2)))
   pattern_parts AtPatOpenRound p s vs o h = round_pat_each p (pats_in (at vs 1)) (o refl) (pats_in_each Q origin (at vs 1) (h 1))
-  pattern_parts BareAtPatVid p s vs o h = (o refl, name_in_each Q origin (at vs 0) (h 0))
+  pattern_parts AtPatAlphanumeric p s vs o h = (o refl, name_in_each Q origin (at vs 0) (h 0))
+  pattern_parts AtPatSymbolic p s vs o h = (o refl, name_in_each Q origin (at vs 0) (h 0))
+  pattern_parts AtPatStar p s vs o h = (o refl, name_in_each Q origin (at vs 0) (h 0))
+  pattern_parts BareAtPatAlphanumeric p s vs o h = (o refl, name_in_each Q origin (at vs 0) (h 0))
+  pattern_parts BareAtPatSymbolic p s vs o h = (o refl, name_in_each Q origin (at vs 0) (h 0))
+  pattern_parts BareAtPatStar p s vs o h = (o refl, name_in_each Q origin (at vs 0) (h 0))
+  pattern_parts AtPatOp p s vs o h = (o refl, long_in_each Q origin (at vs 1) (h 1))
   pattern_parts BareAtPatOp p s vs o h = (o refl, long_in_each Q origin (at vs 1) (h 1))
   pattern_parts OtherAtPatWildcard p s vs o h = o refl
   pattern_parts OtherAtPatConstant p s vs o h = o refl

@@ -7,7 +7,7 @@ use Rattle.sml_tree.specs.Patterns.{Pat}
 use Rattle.sml_tree.specs.Expressions.{Exp, Rules}
 use Rattle.sml_tree.specs.Clauses.{Clause, Constraint}
 use Rattle.sml_parse.specs.EachPlace.{EachInBind, EachInBinds, EachInConBind, EachInDatBind, EachInDec, EachInDecs, EachInExnBind, EachInExp, EachInExps, EachInFields, EachInFunBind, EachInLong, EachInLongs, EachInName, EachInNames, EachInPat, EachInPatFields, EachInPats, EachInRules, EachInSig, EachInSigBind, EachInSpecs, EachInStr, EachInStrBinds, EachInStrDec, EachInStrDecs, EachInStrDescs, EachInTop, EachInTy, EachInTyFields, EachInTyIfAny, EachInTypBind, EachInTypDesc, EachInTys, EachInValDesc, EachInWhere}
-use Rattle.sml_phrases.specs.Phrases.{Phrase, nothing, of_word, of_name, of_long, of_constant, of_names, of_longs, of_ty, of_tys, of_ty_fields, of_arguments, of_pat, of_pats, of_pat_fields, of_atoms, of_layer, of_op_atoms, of_op_layer, of_exp, of_exps, of_series, of_fields, of_rules, of_dec, of_decs, of_bind, of_binds, of_values, of_round_values, of_functions, of_right_side, of_clauses, of_round_functions, of_typ_bind, of_typ_binds, of_con_bind, of_con_binds, of_datatypes, of_constructors, of_copy, of_exn_binds, of_sig, of_where, of_wheres, of_begun_sig_bind, of_sig_binds, of_specs, of_val_desc, of_val_descs, of_typ_descs, of_type_rest, of_begun_str_desc, of_str_descs, of_shared_types, of_str, of_str_dec, of_str_decs, of_constraints, of_str_binds, of_begun_str_bind, of_functor_argument, of_fun_binds, of_begun_fun_bind, of_begun_functor, of_top, name_in, long_in, names_in, longs_in, ty_in, tys_in, ty_fields_in, pat_in, pats_in, exp_in, exps_in, fields_in, rules_in, dec_in, decs_in, bind_in, binds_in, clauses_in, typ_binds_in, con_binds_in, exn_binds_in, sig_in, wheres_in, specs_in, val_descs_in, typ_descs_in, str_in, str_dec_in, str_decs_in, top_in, place_in, ty_if_any, pat_if_any, exp_if_any, rules_if_any, con_bind_in, val_desc_in, dat_binds_in, where_in, sig_wheres_in, sig_binds_in, desc_wheres_in, str_descs_in, constraint_wheres_in, constraints_in, str_wheres_in, str_constraints_in, str_binds_in, fun_wheres_in, fun_constraints_in, fun_binds_in, first, at}
+use Rattle.sml_phrases.specs.Phrases.{Phrase, nothing, of_word, of_name, of_long, of_constant, of_names, of_longs, of_ty, of_tys, of_ty_fields, of_arguments, of_pat, of_pats, of_pat_fields, of_atoms, of_layer, of_op_atoms, of_op_layer, of_exp, of_exps, of_series, of_fields, of_rules, of_rest, of_dec, of_decs, of_bind, of_binds, of_values, of_round_values, of_functions, of_right_side, of_clauses, of_round_functions, of_typ_bind, of_typ_binds, of_con_bind, of_con_binds, of_datatypes, of_constructors, of_copy, of_exn_binds, of_sig, of_where, of_wheres, of_begun_sig_bind, of_sig_binds, of_specs, of_val_desc, of_val_descs, of_typ_descs, of_type_rest, of_begun_str_desc, of_str_descs, of_shared_types, of_str, of_str_dec, of_str_decs, of_constraints, of_str_binds, of_begun_str_bind, of_functor_argument, of_fun_binds, of_begun_fun_bind, of_begun_functor, of_top, name_in, long_in, names_in, longs_in, ty_in, tys_in, ty_fields_in, pat_in, pats_in, exp_in, exps_in, fields_in, rules_in, dec_in, decs_in, bind_in, binds_in, clauses_in, typ_binds_in, con_binds_in, exn_binds_in, sig_in, wheres_in, specs_in, val_descs_in, typ_descs_in, str_in, str_dec_in, str_decs_in, top_in, place_in, ty_if_any, pat_if_any, exp_if_any, rules_if_any, con_bind_in, val_desc_in, dat_binds_in, where_in, sig_wheres_in, sig_binds_in, desc_wheres_in, str_descs_in, constraint_wheres_in, constraints_in, str_wheres_in, str_constraints_in, str_binds_in, fun_wheres_in, fun_constraints_in, fun_binds_in, first, at}
 
 -- in what may lack, and in parts of derived forms
 abbrev pub EachInPatIfAny : {P : Type 0} → (P → Type 0) → Option (Pat P) → Type 0
@@ -53,6 +53,7 @@ EachInPhrase Q (of_exps x) = EachInExps Q x
 EachInPhrase Q (of_series x) = EachInExps Q x
 EachInPhrase Q (of_fields x) = EachInFields Q x
 EachInPhrase Q (of_rules x) = EachInRules Q x
+EachInPhrase Q (of_rest x0 x1 x2 x3 x4) = EachInExps Q x0 × EachInTys Q x1 × EachInExpIfAny Q x2 × EachInExpIfAny Q x3 × EachInRulesIfAny Q x4
 EachInPhrase Q (of_dec x) = EachInDec Q x
 EachInPhrase Q (of_decs x) = EachInDecs Q x
 EachInPhrase Q (of_bind x) = EachInBind Q x

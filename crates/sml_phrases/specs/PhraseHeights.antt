@@ -4,7 +4,7 @@ use Rattle.sml_lex.specs.declared.fault.Place.{Place}
 use Rattle.sml_tree.specs.Heights.{highest, height_if_any, ty_height, tys_height, ty_fields_height, pat_height, pats_height, pat_fields_height, typ_bind_height, con_bind_height, dat_bind_height, exn_bind_height, exp_height, exps_height, fields_height, rules_height, dec_height, decs_height, bind_height, binds_height, val_desc_height, sig_height, specs_height, str_descs_height, str_height, str_dec_height, str_decs_height, str_binds_height, sig_bind_height, fun_bind_height, top_height}
 use Rattle.sml_tree.specs.Signatures.{WhereType}
 use Rattle.sml_tree.specs.Clauses.{Clause, Constraint, clause_rules}
-use Rattle.sml_phrases.specs.Phrases.{Phrase, nothing, of_word, of_name, of_long, of_constant, of_names, of_longs, of_ty, of_tys, of_ty_fields, of_arguments, of_pat, of_pats, of_pat_fields, of_atoms, of_layer, of_op_atoms, of_op_layer, of_exp, of_exps, of_series, of_fields, of_rules, of_dec, of_decs, of_bind, of_binds, of_values, of_round_values, of_functions, of_right_side, of_clauses, of_round_functions, of_typ_bind, of_typ_binds, of_con_bind, of_con_binds, of_datatypes, of_constructors, of_copy, of_exn_binds, of_sig, of_where, of_wheres, of_begun_sig_bind, of_sig_binds, of_specs, of_val_desc, of_val_descs, of_typ_descs, of_type_rest, of_begun_str_desc, of_str_descs, of_shared_types, of_str, of_str_dec, of_str_decs, of_constraints, of_str_binds, of_begun_str_bind, of_functor_argument, of_fun_binds, of_begun_fun_bind, of_begun_functor, of_top}
+use Rattle.sml_phrases.specs.Phrases.{Phrase, nothing, of_word, of_name, of_long, of_constant, of_names, of_longs, of_ty, of_tys, of_ty_fields, of_arguments, of_pat, of_pats, of_pat_fields, of_atoms, of_layer, of_op_atoms, of_op_layer, of_exp, of_exps, of_series, of_fields, of_rules, of_rest, of_dec, of_decs, of_bind, of_binds, of_values, of_round_values, of_functions, of_right_side, of_clauses, of_round_functions, of_typ_bind, of_typ_binds, of_con_bind, of_con_binds, of_datatypes, of_constructors, of_copy, of_exn_binds, of_sig, of_where, of_wheres, of_begun_sig_bind, of_sig_binds, of_specs, of_val_desc, of_val_descs, of_typ_descs, of_type_rest, of_begun_str_desc, of_str_descs, of_shared_types, of_str, of_str_dec, of_str_decs, of_constraints, of_str_binds, of_begun_str_bind, of_functor_argument, of_fun_binds, of_begun_fun_bind, of_begun_functor, of_top}
 
 -- the height of what stands behind `where type`, of clauses, and of a constraint
 abbrev pub where_height : WhereType Place → ℕ
@@ -43,6 +43,7 @@ is_low (of_exps es) = low (exps_height es)
 is_low (of_series es) = low (exps_height es)
 is_low (of_fields fs) = low (fields_height fs)
 is_low (of_rules rs) = low (rules_height rs)
+is_low (of_rest es ts a o rs) = low (exps_height es) && low (tys_height ts) && low (height_if_any exp_height a) && low (height_if_any exp_height o) && low (height_if_any rules_height rs)
 is_low (of_dec d) = low (dec_height d)
 is_low (of_decs ds) = low (decs_height ds)
 is_low (of_bind b) = low (bind_height b)

@@ -59,6 +59,9 @@ pub data Phrase : Type 0 where
   of_fields : Fields Place → Phrase
   -- rules of a match
   of_rules : Rules Place → Phrase
+  -- what stands behind an expression's first atomic one: further atomic ones, the types behind these, the right
+  -- operands of `andalso` and of `orelse`, and the match behind `handle`
+  of_rest : Exps Place → Tys Place → Option (Exp Place) → Option (Exp Place) → Option (Rules Place) → Phrase
   -- a declaration of the core
   of_dec : Dec Place → Phrase
   -- declarations of the core
@@ -160,6 +163,10 @@ long_in _ = record { place = first_place; id = record { path = []; last = [] } }
 abbrev pub constant_in : Phrase → Constant
 constant_in (of_constant c) = c
 constant_in _ = record { kind = Integer; literal = [] }
+
+-- a numeral as a constant
+abbrev pub numeral : Name Place → Constant
+numeral x = record { kind = Integer; literal = x.id }
 
 abbrev pub names_in : Phrase → List (Name Place)
 names_in (of_names xs) = xs

@@ -99,11 +99,18 @@ pub enum PatternPhrase {
     /// Atomic patterns, and the types behind colons that follow them.
     Atoms(LowPats, LowTys),
     /// A type behind `:` and a pattern behind `as`, if they are there.
-    Layer(Option<LowTy>, Option<LowPat>),
+    Layer(Box<Layer>),
     /// What stands behind `op`: an identifier, atomic patterns, and types behind colons.
     OpAtoms(LongIdent, LowPats, LowTys),
     /// What stands behind `op`: an identifier, perhaps a type, and a pattern behind `as`.
-    OpLayer(Name, Option<LowTy>, Option<LowPat>),
+    OpLayer(Name, Box<Layer>),
+}
+
+/// A type behind `:` and a pattern behind `as`, if they are there.
+#[derive(Drop)]
+pub struct Layer {
+    pub ty: Option<LowTy>,
+    pub pat: Option<LowPat>,
 }
 
 #[derive(Drop)]
@@ -118,6 +125,19 @@ pub enum ExpressionPhrase {
     Fields(LowFields),
     /// Rules of a match.
     Rules(LowRules),
+    /// What stands behind an expression's first atomic one.
+    Rest(Box<Rest>),
+}
+
+/// What stands behind an expression's first atomic one: further atomic ones, the types behind these, the right operands
+/// of `andalso` and of `orelse`, and the match behind `handle`.
+#[derive(Drop)]
+pub struct Rest {
+    pub exps: LowExps,
+    pub tys: LowTys,
+    pub conjunct: Option<LowExp>,
+    pub disjunct: Option<LowExp>,
+    pub rules: Option<LowRules>,
 }
 
 #[derive(Drop)]
@@ -132,16 +152,16 @@ pub enum DeclarationPhrase {
     Binds(LowBinds),
     /// Explicit type variables, the bindings before the first `rec`, and those behind it.
     Values(Vec<Name>, LowBinds, LowBinds),
-    /// What stands behind `val (`: the patterns in the brackets, the atomic patterns and types behind them, the right side, and further bindings without and with `rec`.
-    RoundValues(LowPats, LowPats, LowTys, LowExp, LowBinds, LowBinds),
+    /// What stands behind `val (`.
+    RoundValues(Box<RoundValues>),
     /// Explicit type variables, and functions.
     Functions(Vec<Name>, LowBinds),
     /// A clause behind its first atomic pattern: the other patterns, perhaps a type, and the right side.
-    RightSide(LowPats, Option<LowTy>, LowExp),
+    RightSide(Box<RightSide>),
     /// Clauses of a function.
     Clauses(LowClauses),
     /// What stands behind `fun (`: the patterns in the brackets, the rest of the first clause, the other clauses, and further functions.
-    RoundFunctions(LowPats, LowPats, Option<LowTy>, LowExp, LowClauses, LowBinds),
+    RoundFunctions(LowPats, Box<RightSide>, LowClauses, LowBinds),
     /// A type binding: type variables, a type constructor and its right side.
     TypBind(Vec<Name>, Name, LowTy),
     /// Type bindings.
@@ -160,12 +180,32 @@ pub enum DeclarationPhrase {
     ExnBinds(LowExnBinds),
 }
 
+/// What stands behind `val (`: the patterns in the brackets, the atomic patterns and types behind them, the right side,
+/// and further bindings without and with `rec`.
+#[derive(Drop)]
+pub struct RoundValues {
+    pub inner: LowPats,
+    pub pats: LowPats,
+    pub tys: LowTys,
+    pub exp: LowExp,
+    pub plain: LowBinds,
+    pub recursive: LowBinds,
+}
+
+/// A clause behind its first atomic pattern: the other patterns, perhaps a type, and the right side.
+#[derive(Drop)]
+pub struct RightSide {
+    pub pats: LowPats,
+    pub result: Option<LowTy>,
+    pub body: LowExp,
+}
+
 #[derive(Drop)]
 pub enum SignaturePhrase {
     /// A signature expression.
     Sig(LowSig),
     /// What stands behind `where`: type variables, a type constructor and a type.
-    Where(Vec<Name>, LongIdent, LowTy),
+    Where(Vec<Name>, LongIdent, Box<LowTy>),
     /// What stands behind `where type`, one after the other.
     Wheres(Vec<LowWhere>),
     /// A signature binding to which more may belong: its identifier and its right side.
@@ -209,12 +249,22 @@ pub enum StructurePhrase {
     /// What belongs to the signature expression before it, the constraints behind that, and further functor bindings.
     FunBinds(Vec<LowWhere>, Vec<LowConstraint>, LowFunBinds),
     /// A functor binding to which constraints may still belong: its identifier, its argument with the signature expression, its own constraint if it has one, and its right side.
-    BegunFunBind(Name, Name, LowSig, Vec<LowConstraint>, LowStr),
+    BegunFunBind(Name, Name, Box<LowSig>, Vec<LowConstraint>, LowStr),
     /// The same with specifications in the place of the argument.
     BegunFunctor(Name, LowSpecs, Vec<LowConstraint>, LowStr),
     /// A top-level declaration.
     Top(LowTop),
 }
 
-/// Drops a phrase.
-pub fn discard(_phrase: Phrase) {}
+/// Drops a phrase. Most that are dropped hold nothing, so that the others are left to a function of their own: a call pays
+/// at its entry for all that it may have to drop.
+pub fn discard(phrase: Phrase) {
+    match phrase {
+        Phrase::Nothing => {}
+        Phrase::Word(_place) => {}
+        other => discard_other(other),
+    }
+}
+
+#[inline(never)]
+fn discard_other(_phrase: Phrase) {}

@@ -10,7 +10,7 @@ ghost use Rattle.sml_tree.specs.SignatureViews.{val_desc_of, typ_desc_of, sig_of
 ghost use Rattle.sml_tree.specs.StructureViews.{str_of, str_dec_of, str_decs_of, str_bind_of, str_binds_of, sig_bind_of, fun_bind_of, top_of};
 ghost use Rattle.sml_tree.specs.Clauses.{clause_of};
 ghost use Rattle.sml_phrases.specs.Phrases.{at, first, nothing, of_word, of_name, of_long, of_constant, of_names, of_longs, of_ty, of_tys, of_ty_fields, of_arguments, of_pat, of_pats, of_pat_fields, of_atoms, of_layer, of_op_atoms, of_op_layer, of_exp, of_exps, of_series, of_fields, of_rules, of_dec, of_decs, of_bind, of_binds, of_values, of_round_values, of_functions, of_right_side, of_clauses, of_round_functions, of_typ_bind, of_typ_binds, of_con_bind, of_con_binds, of_datatypes, of_constructors, of_copy, of_exn_binds, of_sig, of_where, of_wheres, of_begun_sig_bind, of_sig_binds, of_specs, of_val_desc, of_val_descs, of_typ_descs, of_type_rest, of_begun_str_desc, of_str_descs, of_shared_types, of_str, of_str_dec, of_str_decs, of_constraints, of_str_binds, of_begun_str_bind, of_functor_argument, of_fun_binds, of_begun_fun_bind, of_begun_functor, of_top};
-ghost use Rattle.sml_phrases.specs.PhraseViews.{Puts, low_constraint_of, low_where_of, phrase_of, seen};
+ghost use Rattle.sml_phrases.specs.PhraseViews.{Puts, low_constraint_of, low_where_of, phrase_of, rest_of, seen};
 
 use crate::low::{
     LowBind, LowBinds, LowClauses, LowConBinds, LowConstraint, LowDatBinds, LowDec, LowDecs,
@@ -19,8 +19,8 @@ use crate::low::{
     LowTy, LowTyFields, LowTypBinds, LowTys, LowValDescs, LowWhere,
 };
 use crate::phrase::{
-    DeclarationPhrase, ExpressionPhrase, Failure, PatternPhrase, Phrase, SignaturePhrase,
-    StructurePhrase, TypePhrase,
+    DeclarationPhrase, ExpressionPhrase, Failure, Layer, PatternPhrase, Phrase, Rest, RightSide,
+    RoundValues, SignaturePhrase, StructurePhrase, TypePhrase,
 };
 use crate::stack::Stack;
 use sml_lex::fault::Place;
@@ -136,7 +136,8 @@ impl Stack {
     pub fn put_layer(&mut self, ty: Option<LowTy>, pat: Option<LowPat>) -> Result<(), Failure>
         ensures { Puts (of_layer (option_map (λ t. ty_of t.tree) ty) (option_map (λ q. pat_of q.tree) pat)) 0 (seen self.old) (seen self.new) result }
     {
-        self.put(Phrase::Patterns(PatternPhrase::Layer(ty, pat)))
+        let layer = Box::new(self.alloc, Layer { ty, pat })?;
+        self.put(Phrase::Patterns(PatternPhrase::Layer(layer)))
     }
 
     pub fn put_op_atoms(
@@ -158,7 +159,8 @@ impl Stack {
     ) -> Result<(), Failure>
         ensures { Puts (of_op_layer (name_of name) (option_map (λ t. ty_of t.tree) ty) (option_map (λ q. pat_of q.tree) pat)) 0 (seen self.old) (seen self.new) result }
     {
-        self.put(Phrase::Patterns(PatternPhrase::OpLayer(name, ty, pat)))
+        let layer = Box::new(self.alloc, Layer { ty, pat })?;
+        self.put(Phrase::Patterns(PatternPhrase::OpLayer(name, layer)))
     }
 
     pub fn put_exp(&mut self, exp: LowExp) -> Result<(), Failure>
@@ -189,6 +191,12 @@ impl Stack {
         ensures { Puts (of_rules (rules_of (map rule_of (reverse rules.trees.items)))) 0 (seen self.old) (seen self.new) result }
     {
         self.put(Phrase::Expressions(ExpressionPhrase::Rules(rules)))
+    }
+
+    pub fn put_rest(&mut self, rest: Box<Rest>) -> Result<(), Failure>
+        ensures { Puts (rest_of rest.value) 0 (seen self.old) (seen self.new) result }
+    {
+        self.put(Phrase::Expressions(ExpressionPhrase::Rest(rest)))
     }
 
     pub fn put_dec(&mut self, dec: LowDec) -> Result<(), Failure>
@@ -237,9 +245,16 @@ impl Stack {
     ) -> Result<(), Failure>
         ensures { Puts (of_round_values (pats_of (map (λ q. pat_of q.tree) (reverse inner.trees.items))) (pats_of (map (λ q. pat_of q.tree) (reverse pats.trees.items))) (tys_of (map (λ t. ty_of t.tree) (reverse tys.trees.items))) (exp_of exp.tree) (binds_of (map bind_of (reverse plain.trees.items))) (binds_of (map bind_of (reverse recursive.trees.items)))) 0 (seen self.old) (seen self.new) result }
     {
-        self.put(Phrase::Declarations(DeclarationPhrase::RoundValues(
-            inner, pats, tys, exp, plain, recursive,
-        )))
+        let values = RoundValues {
+            inner,
+            pats,
+            tys,
+            exp,
+            plain,
+            recursive,
+        };
+        let values = Box::new(self.alloc, values)?;
+        self.put(Phrase::Declarations(DeclarationPhrase::RoundValues(values)))
     }
 
     pub fn put_functions(&mut self, variables: Vec<Name>, binds: LowBinds) -> Result<(), Failure>
@@ -256,7 +271,13 @@ impl Stack {
     ) -> Result<(), Failure>
         ensures { Puts (of_right_side (pats_of (map (λ q. pat_of q.tree) (reverse pats.trees.items))) (option_map (λ t. ty_of t.tree) ty) (exp_of body.tree)) 0 (seen self.old) (seen self.new) result }
     {
-        self.put(Phrase::Declarations(DeclarationPhrase::RightSide(pats, ty, body)))
+        let right = RightSide {
+            pats,
+            result: ty,
+            body,
+        };
+        let right = Box::new(self.alloc, right)?;
+        self.put(Phrase::Declarations(DeclarationPhrase::RightSide(right)))
     }
 
     pub fn put_clauses(&mut self, clauses: LowClauses) -> Result<(), Failure>
@@ -268,16 +289,15 @@ impl Stack {
     pub fn put_round_functions(
         &mut self,
         inner: LowPats,
-        pats: LowPats,
-        ty: Option<LowTy>,
-        body: LowExp,
+        right: RightSide,
         clauses: LowClauses,
         binds: LowBinds,
     ) -> Result<(), Failure>
-        ensures { Puts (of_round_functions (pats_of (map (λ q. pat_of q.tree) (reverse inner.trees.items))) (pats_of (map (λ q. pat_of q.tree) (reverse pats.trees.items))) (option_map (λ t. ty_of t.tree) ty) (exp_of body.tree) (map clause_of (reverse clauses.trees.items)) (binds_of (map bind_of (reverse binds.trees.items)))) 0 (seen self.old) (seen self.new) result }
+        ensures { Puts (of_round_functions (pats_of (map (λ q. pat_of q.tree) (reverse inner.trees.items))) (pats_of (map (λ q. pat_of q.tree) (reverse right.pats.trees.items))) (option_map (λ t. ty_of t.tree) right.result) (exp_of right.body.tree) (map clause_of (reverse clauses.trees.items)) (binds_of (map bind_of (reverse binds.trees.items)))) 0 (seen self.old) (seen self.new) result }
     {
+        let right = Box::new(self.alloc, right)?;
         self.put(Phrase::Declarations(DeclarationPhrase::RoundFunctions(
-            inner, pats, ty, body, clauses, binds,
+            inner, right, clauses, binds,
         )))
     }
 
@@ -361,6 +381,7 @@ impl Stack {
     ) -> Result<(), Failure>
         ensures { Puts (of_where (map name_of (reverse variables.items)) (long_name_of constructor) (ty_of ty.tree)) 0 (seen self.old) (seen self.new) result }
     {
+        let ty = Box::new(self.alloc, ty)?;
         self.put(Phrase::Signatures(SignaturePhrase::Where(variables, constructor, ty)))
     }
 
@@ -515,6 +536,7 @@ impl Stack {
     ) -> Result<(), Failure>
         ensures { Puts (of_begun_fun_bind (name_of name) (name_of argument) (sig_of signature.tree) (map low_constraint_of (reverse own.items)) (str_of body.tree)) 0 (seen self.old) (seen self.new) result }
     {
+        let signature = Box::new(self.alloc, signature)?;
         self.put(Phrase::Structures(StructurePhrase::BegunFunBind(
             name, argument, signature, own, body,
         )))

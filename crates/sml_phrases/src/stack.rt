@@ -10,7 +10,7 @@ ghost use Rattle.sml_tree.specs.ExpressionViews.{exn_bind_of, exp_of, exps_of, f
 ghost use Rattle.sml_tree.specs.SignatureViews.{val_desc_of, typ_desc_of, sig_of, spec_of, specs_of};
 ghost use Rattle.sml_tree.specs.StructureViews.{str_of, str_dec_of, str_decs_of, top_of};
 ghost use Rattle.sml_tree.specs.Clauses.{clause_of};
-ghost use Rattle.sml_phrases.specs.Phrases.{first, place_in, ty_if_any, pat_if_any, exp_if_any, rules_if_any, bind_in, binds_in, clauses_in, con_binds_in, constant_in, dec_in, decs_in, exn_binds_in, exp_in, exps_in, fields_in, long_in, longs_in, name_in, names_in, pat_in, pats_in, rules_in, sig_in, specs_in, str_dec_in, str_decs_in, str_in, top_in, ty_fields_in, ty_in, typ_binds_in, typ_descs_in, tys_in, val_descs_in, wheres_in};
+ghost use Rattle.sml_phrases.specs.Phrases.{first, place_in, ty_if_any, pat_if_any, exp_if_any, rules_if_any, bind_in, binds_in, clauses_in, con_binds_in, constant_in, dec_in, decs_in, exn_binds_in, exp_in, exps_in, fields_in, long_in, longs_in, name_in, names_in, numeral, pat_in, pats_in, rules_in, sig_in, specs_in, str_dec_in, str_decs_in, str_in, top_in, ty_fields_in, ty_in, typ_binds_in, typ_descs_in, tys_in, val_descs_in, wheres_in};
 ghost use Rattle.sml_phrases.specs.PhraseViews.{low_where_of, phrase_of, seen};
 
 use crate::low::{
@@ -53,9 +53,16 @@ impl Stack {
     pub fn push(&mut self, phrase: Phrase) -> Result<(), Memory>
         ensures { OnOk result (seen self.new ≡ phrase_of phrase ∷ seen self.old) }
     {
-        self.phrases.reserve(1)?;
-        self.phrases.push_reserved(phrase);
-        Ok(())
+        match self.phrases.reserve(1) {
+            Ok(()) => {
+                self.phrases.push_reserved(phrase);
+                Ok(())
+            }
+            Err(_error) => {
+                discard(phrase);
+                Err(Memory)
+            }
+        }
     }
 
     /// Whether there is no phrase.
@@ -145,6 +152,18 @@ impl Stack {
                 })
             }
         }
+    }
+
+    /// A numeral as a constant.
+    pub fn numeral(&mut self) -> Result<Constant, Memory>
+        ensures value { IfOk result (λ constant. constant_of constant ≡ numeral (name_in (first (seen self.old)))) }
+        ensures rest { OnOk result (seen self.new ≡ drop 1 (seen self.old)) }
+    {
+        let name = self.name()?;
+        Ok(Constant {
+            kind: ConstantKind::Integer,
+            literal: name.ident,
+        })
     }
 
     pub fn names(&mut self) -> Vec<Name>

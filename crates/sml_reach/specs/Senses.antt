@@ -11,9 +11,9 @@ use Rattle.sml_read.specs.declared.grammar.UnitRule.TheVariants.{StartTop, Start
 use Rattle.sml_read.specs.declared.grammar.DeclarationRule.{DeclarationRule}
 use Rattle.sml_read.specs.declared.grammar.DeclarationRule.TheVariants.{CoreDecInfix, CoreDecInfixr, CoreDecNonfix, FixityLevel, VidMoreNone, VidMoreVid, ValDecOpenRound, ValRoundPatRound, FunDecOpenRound, FunDecBareAtPat, FunRoundPatRound, ClausesAtPat, ClauseAtPats, ClauseMoreBar, AtPatsNone, AtPatsAtPat}
 use Rattle.sml_read.specs.declared.grammar.ExpressionRule.{ExpressionRule}
-use Rattle.sml_read.specs.declared.grammar.ExpressionRule.TheVariants.{TypAt, AtMoreNone, AtMoreAt, AtConstant, AtExpVid, AtOp, AtOpenCurly, AtHash, AtOpenRound, AtOpenSquare, AtLet}
+use Rattle.sml_read.specs.declared.grammar.ExpressionRule.TheVariants.{ExpAt, MoreNone, MoreAt, MoreColon, MoreAndalso, MoreOrelse, MoreHandle, TypAt, AtMoreNone, AtMoreAt, AtNumeral, AtZeroNumeral, AtInteger, AtWordConstant, AtRealConstant, AtStringConstant, AtCharacterConstant, AtAlphanumeric, AtSymbolic, AtStar, AtEquals, AtLongAlphanumeric, AtLongSymbolic, AtLongStar, AtOp, AtOpenCurly, AtHash, AtOpenRound, AtOpenSquare, AtLet}
 use Rattle.sml_read.specs.declared.grammar.PatternRule.{PatternRule}
-use Rattle.sml_read.specs.declared.grammar.PatternRule.TheVariants.{PatOpenRound, PatBarePat, BarePatVid, BarePatOp, BarePatOtherAtPat, OpPatVid, OpPatQualified, AfterVidNone, AfterVidColon, AfterVidAtPat, AfterVidTyNone, AfterVidTyColon, AtPatMoreNone, AtPatMoreAtPat, AtPatMoreColon, AtPatOpenRound, AtPatBareAtPat, BareAtPatVid, BareAtPatOp, BareAtPatOtherAtPat, OtherAtPatWildcard, OtherAtPatConstant, OtherAtPatQualified, OtherAtPatOpenCurly, OtherAtPatOpenSquare, PatRoundPat, PatRoundMoreCloseRound}
+use Rattle.sml_read.specs.declared.grammar.PatternRule.TheVariants.{PatOpenRound, PatAlphanumeric, PatSymbolic, PatStar, BarePatAlphanumeric, BarePatSymbolic, BarePatStar, PatOp, BarePatOp, PatOtherAtPat, BarePatOtherAtPat, OpPatVid, OpPatQualified, AfterVidNone, AfterVidColon, AfterVidAtPat, AfterVidTyNone, AfterVidTyColon, AtPatMoreNone, AtPatMoreAtPat, AtPatMoreColon, AtPatOpenRound, AtPatAlphanumeric, AtPatSymbolic, AtPatStar, BareAtPatAlphanumeric, BareAtPatSymbolic, BareAtPatStar, AtPatOp, BareAtPatOp, AtPatOtherAtPat, BareAtPatOtherAtPat, OtherAtPatWildcard, OtherAtPatConstant, OtherAtPatQualified, OtherAtPatOpenCurly, OtherAtPatOpenSquare, PatRoundPat, PatRoundMoreCloseRound}
 use Rattle.sml_reach.specs.declared.sense.Sense.{Sense}
 use Rattle.sml_reach.specs.declared.sense.Sense.TheVariants as S
 use Rattle.sml_reach.specs.declared.sense.Deed.{Deed}
@@ -56,12 +56,31 @@ declaration_sense ClauseMoreBar = S.MoreBehind
 declaration_sense _ = S.Nothing
 
 abbrev pub expression_sense : ExpressionRule → Sense
+expression_sense ExpAt = S.More
+expression_sense MoreAt = S.More
 expression_sense TypAt = S.More
 expression_sense AtMoreAt = S.More
+expression_sense MoreNone = S.Empty
+expression_sense MoreColon = S.Empty
+expression_sense MoreAndalso = S.Empty
+expression_sense MoreOrelse = S.Empty
+expression_sense MoreHandle = S.Empty
 expression_sense AtMoreNone = S.Empty
-expression_sense AtExpVid = S.Passed
+expression_sense AtAlphanumeric = S.Short
+expression_sense AtSymbolic = S.Short
+expression_sense AtStar = S.Short
+expression_sense AtEquals = S.Short
+expression_sense AtLongAlphanumeric = S.Long
+expression_sense AtLongSymbolic = S.Long
+expression_sense AtLongStar = S.Long
 expression_sense AtOp = S.Op
-expression_sense AtConstant = S.Phrase
+expression_sense AtNumeral = S.Phrase
+expression_sense AtZeroNumeral = S.Phrase
+expression_sense AtInteger = S.Phrase
+expression_sense AtWordConstant = S.Phrase
+expression_sense AtRealConstant = S.Phrase
+expression_sense AtStringConstant = S.Phrase
+expression_sense AtCharacterConstant = S.Phrase
 expression_sense AtOpenCurly = S.Phrase
 expression_sense AtHash = S.Phrase
 expression_sense AtOpenRound = S.Phrase
@@ -72,14 +91,20 @@ expression_sense _ = S.Nothing
 -- an identifier before `as` stands in no sequence
 abbrev pub pattern_sense : PatternRule → Sense
 pattern_sense PatOpenRound = S.OpenRoundMore
-pattern_sense PatBarePat = S.Passed
-pattern_sense AtPatBareAtPat = S.Passed
+pattern_sense AtPatOtherAtPat = S.Passed
 pattern_sense BareAtPatOtherAtPat = S.Passed
 pattern_sense OtherAtPatQualified = S.Passed
 pattern_sense PatRoundMoreCloseRound = S.Passed
-pattern_sense BarePatVid = S.Named
+pattern_sense PatAlphanumeric = S.Named
+pattern_sense PatSymbolic = S.Named
+pattern_sense PatStar = S.Named
+pattern_sense BarePatAlphanumeric = S.Named
+pattern_sense BarePatSymbolic = S.Named
+pattern_sense BarePatStar = S.Named
+pattern_sense PatOp = S.Behind
 pattern_sense BarePatOp = S.Behind
 pattern_sense OpPatVid = S.OpNamed
+pattern_sense PatOtherAtPat = S.More
 pattern_sense BarePatOtherAtPat = S.More
 pattern_sense OpPatQualified = S.More
 pattern_sense AfterVidAtPat = S.More
@@ -91,7 +116,13 @@ pattern_sense AfterVidTyNone = S.Typed
 pattern_sense AfterVidTyColon = S.Typed
 pattern_sense AtPatMoreColon = S.Typed
 pattern_sense AtPatOpenRound = S.Round
-pattern_sense BareAtPatVid = S.Short
+pattern_sense AtPatAlphanumeric = S.Short
+pattern_sense AtPatSymbolic = S.Short
+pattern_sense AtPatStar = S.Short
+pattern_sense BareAtPatAlphanumeric = S.Short
+pattern_sense BareAtPatSymbolic = S.Short
+pattern_sense BareAtPatStar = S.Short
+pattern_sense AtPatOp = S.Op
 pattern_sense BareAtPatOp = S.Op
 pattern_sense OtherAtPatWildcard = S.Phrase
 pattern_sense OtherAtPatConstant = S.Phrase
@@ -125,10 +156,18 @@ deed_of (Units StartTop) = D.Begins
 deed_of (Units StartExp) = D.Begins
 deed_of (Units AfterTopTop) = D.Begins
 deed_of (Declarations rule) = declaration_deed rule
+deed_of (Expressions ExpAt) = D.Expression
 deed_of (Expressions TypAt) = D.Expression
 deed_of (Patterns PatOpenRound) = D.Pattern
-deed_of (Patterns BarePatVid) = D.Pattern
+deed_of (Patterns PatAlphanumeric) = D.Pattern
+deed_of (Patterns PatSymbolic) = D.Pattern
+deed_of (Patterns PatStar) = D.Pattern
+deed_of (Patterns BarePatAlphanumeric) = D.Pattern
+deed_of (Patterns BarePatSymbolic) = D.Pattern
+deed_of (Patterns BarePatStar) = D.Pattern
+deed_of (Patterns PatOp) = D.Pattern
 deed_of (Patterns BarePatOp) = D.Pattern
+deed_of (Patterns PatOtherAtPat) = D.Pattern
 deed_of (Patterns BarePatOtherAtPat) = D.Pattern
 deed_of _ = D.Nothing
 

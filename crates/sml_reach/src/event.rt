@@ -1,6 +1,6 @@
 //! What happens to fixities, and which sequences stand where.
 
-ghost use Rattle.std.specs.Prelude.{◌≡◌, ◌+◌, ◌∷◌, List, min, map, reverse, take, drop, length, get_or, if◌then◌else◌, slice_get, IfOk, OnOk};
+ghost use Rattle.std.specs.Prelude.{◌≡◌, ◌+◌, ◌∷◌, List, Some, min, map, reverse, take, drop, length, get_or, if◌then◌else◌, slice_get, IfOk, OnOk};
 ghost use Rattle.std.specs.List.{cons_option};
 ghost use Rattle.std.specs.Option.{option_map};
 ghost use Rattle.sml_read.specs.Grammar.{right_side};
@@ -12,7 +12,7 @@ ghost use Rattle.sml_fixity.specs.ItemNames.{name_of};
 ghost use Rattle.sml_reach.specs.Founds.{atom_of, atoms_of, found_by, found_of, nothing, sequence_in, untyped, left};
 ghost use Rattle.sml_reach.specs.Events.{seen, expression, pattern, head, text_at, found_at, founds_from, scope_event, event_of, event_from, events_of};
 
-use crate::found::{Atom, Finder, Found, Parts};
+use crate::found::{Atom, Finder, Found, Parts, atom_in, atoms_in};
 use crate::names::Names;
 use crate::sense::{Deed, Sense, closes, deed_of, opens, sense_of};
 use sml_fixity::scopes::Directive;
@@ -244,6 +244,37 @@ fn first_part(founds: &mut Vec<Found>, count: usize) -> Found
     first
 }
 
+/// Takes so many parts off, and answers the first two.
+fn first_parts(founds: &mut Vec<Found>, count: usize) -> (Found, Found)
+    ensures first { found_of result.0 ≡ get_or (take count (map found_of (reverse founds.old.items))) 0 nothing }
+    ensures second { found_of result.1 ≡ get_or (take count (map found_of (reverse founds.old.items))) 1 nothing }
+    ensures rest { map found_of (reverse founds.new.items) ≡ drop count (map found_of (reverse founds.old.items)) }
+{
+    let first = pop_part(founds, count, 0);
+    let second = pop_part(founds, count, 1);
+    for index in 2..count {
+        pop_part(founds, count, index);
+    }
+    (first, second)
+}
+
+/// The event at a sequence of atomic expressions, which a phrase with so many parts begins with.
+fn enter_expression(
+    alloc: Global,
+    founds: &mut Vec<Found>,
+    count: usize,
+) -> Result<Option<Event>, Memory>
+    ensures event { let parts = take count (map found_of (reverse founds.old.items)) in
+        IfOk result (λ event. option_map seen event ≡ Some (expression (spec.atom_in (get_or parts 0 nothing) ∷ spec.atoms_in (get_or parts 1 nothing)))) }
+    ensures founds { OnOk result (map found_of (reverse founds.new.items) ≡ nothing ∷ drop count (map found_of (reverse founds.old.items))) }
+{
+    let (first, others) = first_parts(founds, count);
+    let mut atoms = atoms_in(alloc, others);
+    atoms.push(atom_in(alloc, first))?;
+    founds.push(Found::Nothing)?;
+    Ok(Some(Event::Expression(atoms)))
+}
+
 /// The event at a phrase with so many parts that is this and does this.
 fn enter_other(
     finder: &Finder,
@@ -312,6 +343,7 @@ fn enter_phrase(
             founds.push(Found::One(finder.plain(Item::Phrase, token)))?;
             Ok(None)
         }
+        (Sense::More, Deed::Expression) => enter_expression(finder.alloc, founds, count),
         (sense, deed) => enter_other(finder, names, founds, count, sense, deed, token),
     }
 }

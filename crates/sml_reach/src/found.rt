@@ -82,7 +82,7 @@ fn is_word(found: &Found) -> bool
     }
 }
 
-fn atom_in(alloc: Global, found: Found) -> Atom
+pub fn atom_in(alloc: Global, found: Found) -> Atom
     ensures { atom_of result ≡ spec.atom_in (found_of found) }
 {
     match found {
@@ -95,7 +95,7 @@ fn atom_in(alloc: Global, found: Found) -> Atom
     }
 }
 
-fn atoms_in(alloc: Global, found: Found) -> Vec<Atom>
+pub fn atoms_in(alloc: Global, found: Found) -> Vec<Atom>
     ensures { map atom_of (reverse result.items) ≡ spec.atoms_in (found_of found) }
 {
     match found {

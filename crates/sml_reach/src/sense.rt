@@ -111,11 +111,31 @@ fn expression_sense(rule: ExpressionRule) -> Sense
     ensures { result ≡ spec.expression_sense rule }
 {
     match rule {
-        ExpressionRule::TypAt | ExpressionRule::AtMoreAt => Sense::More,
-        ExpressionRule::AtMoreNone => Sense::Empty,
-        ExpressionRule::AtExpVid => Sense::Passed,
+        ExpressionRule::ExpAt
+        | ExpressionRule::MoreAt
+        | ExpressionRule::TypAt
+        | ExpressionRule::AtMoreAt => Sense::More,
+        ExpressionRule::MoreNone
+        | ExpressionRule::MoreColon
+        | ExpressionRule::MoreAndalso
+        | ExpressionRule::MoreOrelse
+        | ExpressionRule::MoreHandle
+        | ExpressionRule::AtMoreNone => Sense::Empty,
+        ExpressionRule::AtAlphanumeric
+        | ExpressionRule::AtSymbolic
+        | ExpressionRule::AtStar
+        | ExpressionRule::AtEquals => Sense::Short,
+        ExpressionRule::AtLongAlphanumeric
+        | ExpressionRule::AtLongSymbolic
+        | ExpressionRule::AtLongStar => Sense::Long,
         ExpressionRule::AtOp => Sense::Op,
-        ExpressionRule::AtConstant
+        ExpressionRule::AtNumeral
+        | ExpressionRule::AtZeroNumeral
+        | ExpressionRule::AtInteger
+        | ExpressionRule::AtWordConstant
+        | ExpressionRule::AtRealConstant
+        | ExpressionRule::AtStringConstant
+        | ExpressionRule::AtCharacterConstant
         | ExpressionRule::AtOpenCurly
         | ExpressionRule::AtHash
         | ExpressionRule::AtOpenRound
@@ -130,15 +150,20 @@ fn pattern_sense(rule: PatternRule) -> Sense
 {
     match rule {
         PatternRule::PatOpenRound => Sense::OpenRoundMore,
-        PatternRule::PatBarePat
-        | PatternRule::AtPatBareAtPat
+        PatternRule::AtPatOtherAtPat
         | PatternRule::BareAtPatOtherAtPat
         | PatternRule::OtherAtPatQualified
         | PatternRule::PatRoundMoreCloseRound => Sense::Passed,
-        PatternRule::BarePatVid => Sense::Named,
-        PatternRule::BarePatOp => Sense::Behind,
+        PatternRule::PatAlphanumeric
+        | PatternRule::PatSymbolic
+        | PatternRule::PatStar
+        | PatternRule::BarePatAlphanumeric
+        | PatternRule::BarePatSymbolic
+        | PatternRule::BarePatStar => Sense::Named,
+        PatternRule::PatOp | PatternRule::BarePatOp => Sense::Behind,
         PatternRule::OpPatVid => Sense::OpNamed,
-        PatternRule::BarePatOtherAtPat
+        PatternRule::PatOtherAtPat
+        | PatternRule::BarePatOtherAtPat
         | PatternRule::OpPatQualified
         | PatternRule::AfterVidAtPat
         | PatternRule::AtPatMoreAtPat => Sense::More,
@@ -147,8 +172,13 @@ fn pattern_sense(rule: PatternRule) -> Sense
         PatternRule::AfterVidTyNone | PatternRule::AfterVidTyColon | PatternRule::AtPatMoreColon =>
             Sense::Typed,
         PatternRule::AtPatOpenRound => Sense::Round,
-        PatternRule::BareAtPatVid => Sense::Short,
-        PatternRule::BareAtPatOp => Sense::Op,
+        PatternRule::AtPatAlphanumeric
+        | PatternRule::AtPatSymbolic
+        | PatternRule::AtPatStar
+        | PatternRule::BareAtPatAlphanumeric
+        | PatternRule::BareAtPatSymbolic
+        | PatternRule::BareAtPatStar => Sense::Short,
+        PatternRule::AtPatOp | PatternRule::BareAtPatOp => Sense::Op,
         PatternRule::OtherAtPatWildcard
         | PatternRule::OtherAtPatConstant
         | PatternRule::OtherAtPatOpenCurly
@@ -200,11 +230,18 @@ pub fn deed_of(rule: Rule) -> Deed
             Deed::Begins
         }
         Rule::Declarations(rule) => declaration_deed(rule),
-        Rule::Expressions(ExpressionRule::TypAt) => Deed::Expression,
+        Rule::Expressions(ExpressionRule::ExpAt | ExpressionRule::TypAt) => Deed::Expression,
         Rule::Patterns(
             PatternRule::PatOpenRound
-            | PatternRule::BarePatVid
+            | PatternRule::PatAlphanumeric
+            | PatternRule::PatSymbolic
+            | PatternRule::PatStar
+            | PatternRule::BarePatAlphanumeric
+            | PatternRule::BarePatSymbolic
+            | PatternRule::BarePatStar
+            | PatternRule::PatOp
             | PatternRule::BarePatOp
+            | PatternRule::PatOtherAtPat
             | PatternRule::BarePatOtherAtPat,
         ) => Deed::Pattern,
         _ => Deed::Nothing,

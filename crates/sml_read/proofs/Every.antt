@@ -5,7 +5,7 @@ use Rattle.std.specs.Prelude.{slice_get}
 use Rattle.sml_lex.specs.declared.token.Kind.{Kind}
 use Rattle.sml_lex.specs.declared.token.Kind.TheVariants as K
 use Rattle.sml_read.specs.declared.grammar.Part.{Part}
-use Rattle.sml_read.specs.declared.grammar.Part.TheVariants.{Vid, TyCon, LongVid, Qualified, ExpVid, LongTyCon, LongStrId, Lab, Level, Constant, Start, AfterTop, AfterExp, Top, Str, Strs, Decs, Specs, StrBind, Seal, StrBindMore, Ascription, StrBindSig, StrBindWhere, StrBindAnd, FunBind, FunArg, FunBindMore, FunBindSig, FunBindWhere, FunBindAnd, StrExp, StrExpMore, StrExpSig, StrExpWhere, StrAtom, Actual, StrArg, Sig, SigAtom, SigMore, SigWhere, Where, SigBind, SigBindMore, SigBindWhere, SigBindAnd, Spec, ValSpec, ValSpecMore, TypeSpec, TypeSpecRest, TypeSpecMore, DatSpec, DatSpecRest, DatSpecMore, ConSpecs, ConSpecsMore, OfTy, ExnSpec, ExnSpecMore, StrSpec, StrSpecMore, StrSpecWhere, StrSpecAnd, Include, IncludeMore, IncludeIds, Sharing, TypeShareMore, StrShareMore, Dec, CoreDec, OpenMore, Fixity, VidMore, ValDec, ValRound, ValBind, ValMore, FunDec, FunRound, Clauses, ClausesMore, Clause, ClauseMore, AtPats, Typed, TypBind, TypBindMore, DatDec, DatRest, DatBindMore, ConBinds, ConBindsMore, MaybeOp, ExnBind, ExnBindMore, ExnRest, Exp, AndMore, AndRest, OrMore, OrRest, HandleMore, Typ, AtMore, TyMore, Open, Match, MatchMore, At, ExpRow, ExpRowMore, ExpRound, ExpRoundMore, TupleMore, SequenceMore, ExpList, ExpListMore, LetMore, Pat, BarePat, OpPat, AfterVid, AfterVidTy, AtPatMore, AtPat, BareAtPat, OtherAtPat, PatRound, PatRoundMore, PatList, PatListMore, PatRow, Row, RowRest, RowAs, RowMore, Ty, TyArrow, Tup, TupMore, Con, ConMore, ATy, TyRow, TyRowMore, TyRound, TyRoundMore, Tvs, SomeTvs, TvsMore}
+use Rattle.sml_read.specs.declared.grammar.Part.TheVariants.{Vid, TyCon, LongVid, Qualified, ExpVid, LongTyCon, LongStrId, Lab, Level, Constant, Start, AfterTop, AfterExp, Top, Str, Strs, Decs, Specs, StrBind, Seal, StrBindMore, Ascription, StrBindSig, StrBindWhere, StrBindAnd, FunBind, FunArg, FunBindMore, FunBindSig, FunBindWhere, FunBindAnd, StrExp, StrExpMore, StrExpSig, StrExpWhere, StrAtom, Actual, StrArg, Sig, SigAtom, SigMore, SigWhere, Where, SigBind, SigBindMore, SigBindWhere, SigBindAnd, Spec, ValSpec, ValSpecMore, TypeSpec, TypeSpecRest, TypeSpecMore, DatSpec, DatSpecRest, DatSpecMore, ConSpecs, ConSpecsMore, OfTy, ExnSpec, ExnSpecMore, StrSpec, StrSpecMore, StrSpecWhere, StrSpecAnd, Include, IncludeMore, IncludeIds, Sharing, TypeShareMore, StrShareMore, Dec, CoreDec, OpenMore, Fixity, VidMore, ValDec, ValRound, ValBind, ValMore, FunDec, FunRound, Clauses, ClausesMore, Clause, ClauseMore, AtPats, Typed, TypBind, TypBindMore, DatDec, DatRest, DatBindMore, ConBinds, ConBindsMore, MaybeOp, ExnBind, ExnBindMore, ExnRest, Exp, More, TyRest, AndMore, AndRest, OrMore, OrRest, HandleMore, Typ, AtMore, TyMore, Open, Match, MatchMore, At, ExpRow, ExpRowMore, ExpRound, ExpRoundMore, TupleMore, SequenceMore, ExpList, ExpListMore, LetMore, Pat, BarePat, OpPat, AfterVid, AfterVidTy, AtPatMore, AtPat, BareAtPat, OtherAtPat, PatRound, PatRoundMore, PatList, PatListMore, PatRow, Row, RowRest, RowAs, RowMore, Ty, TyArrow, Tup, TupMore, Con, ConMore, ATy, TyRow, TyRowMore, TyRound, TyRoundMore, Tvs, SomeTvs, TvsMore}
 use Rattle.sml_read.specs.Numbers.{kind_number, part_number}
 use Rattle.sml_read.specs.CodeAll.{all_kinds, all_parts}
 
@@ -184,6 +184,8 @@ part_at ExnBind = refl
 part_at ExnBindMore = refl
 part_at ExnRest = refl
 part_at Exp = refl
+part_at More = refl
+part_at TyRest = refl
 part_at AndMore = refl
 part_at AndRest = refl
 part_at OrMore = refl

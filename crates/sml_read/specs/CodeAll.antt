@@ -4,7 +4,7 @@ use Rattle.std.specs.Prelude.{List, [], ◌∷◌}
 use Rattle.sml_lex.specs.declared.token.Kind.{Kind}
 use Rattle.sml_lex.specs.declared.token.Kind.TheVariants as K
 use Rattle.sml_read.specs.declared.grammar.Part.{Part}
-use Rattle.sml_read.specs.declared.grammar.Part.TheVariants.{Vid, TyCon, LongVid, Qualified, ExpVid, LongTyCon, LongStrId, Lab, Level, Constant, Start, AfterTop, AfterExp, Top, Str, Strs, Decs, Specs, StrBind, Seal, StrBindMore, Ascription, StrBindSig, StrBindWhere, StrBindAnd, FunBind, FunArg, FunBindMore, FunBindSig, FunBindWhere, FunBindAnd, StrExp, StrExpMore, StrExpSig, StrExpWhere, StrAtom, Actual, StrArg, Sig, SigAtom, SigMore, SigWhere, Where, SigBind, SigBindMore, SigBindWhere, SigBindAnd, Spec, ValSpec, ValSpecMore, TypeSpec, TypeSpecRest, TypeSpecMore, DatSpec, DatSpecRest, DatSpecMore, ConSpecs, ConSpecsMore, OfTy, ExnSpec, ExnSpecMore, StrSpec, StrSpecMore, StrSpecWhere, StrSpecAnd, Include, IncludeMore, IncludeIds, Sharing, TypeShareMore, StrShareMore, Dec, CoreDec, OpenMore, Fixity, VidMore, ValDec, ValRound, ValBind, ValMore, FunDec, FunRound, Clauses, ClausesMore, Clause, ClauseMore, AtPats, Typed, TypBind, TypBindMore, DatDec, DatRest, DatBindMore, ConBinds, ConBindsMore, MaybeOp, ExnBind, ExnBindMore, ExnRest, Exp, AndMore, AndRest, OrMore, OrRest, HandleMore, Typ, AtMore, TyMore, Open, Match, MatchMore, At, ExpRow, ExpRowMore, ExpRound, ExpRoundMore, TupleMore, SequenceMore, ExpList, ExpListMore, LetMore, Pat, BarePat, OpPat, AfterVid, AfterVidTy, AtPatMore, AtPat, BareAtPat, OtherAtPat, PatRound, PatRoundMore, PatList, PatListMore, PatRow, Row, RowRest, RowAs, RowMore, Ty, TyArrow, Tup, TupMore, Con, ConMore, ATy, TyRow, TyRowMore, TyRound, TyRoundMore, Tvs, SomeTvs, TvsMore}
+use Rattle.sml_read.specs.declared.grammar.Part.TheVariants.{Vid, TyCon, LongVid, Qualified, ExpVid, LongTyCon, LongStrId, Lab, Level, Constant, Start, AfterTop, AfterExp, Top, Str, Strs, Decs, Specs, StrBind, Seal, StrBindMore, Ascription, StrBindSig, StrBindWhere, StrBindAnd, FunBind, FunArg, FunBindMore, FunBindSig, FunBindWhere, FunBindAnd, StrExp, StrExpMore, StrExpSig, StrExpWhere, StrAtom, Actual, StrArg, Sig, SigAtom, SigMore, SigWhere, Where, SigBind, SigBindMore, SigBindWhere, SigBindAnd, Spec, ValSpec, ValSpecMore, TypeSpec, TypeSpecRest, TypeSpecMore, DatSpec, DatSpecRest, DatSpecMore, ConSpecs, ConSpecsMore, OfTy, ExnSpec, ExnSpecMore, StrSpec, StrSpecMore, StrSpecWhere, StrSpecAnd, Include, IncludeMore, IncludeIds, Sharing, TypeShareMore, StrShareMore, Dec, CoreDec, OpenMore, Fixity, VidMore, ValDec, ValRound, ValBind, ValMore, FunDec, FunRound, Clauses, ClausesMore, Clause, ClauseMore, AtPats, Typed, TypBind, TypBindMore, DatDec, DatRest, DatBindMore, ConBinds, ConBindsMore, MaybeOp, ExnBind, ExnBindMore, ExnRest, Exp, More, TyRest, AndMore, AndRest, OrMore, OrRest, HandleMore, Typ, AtMore, TyMore, Open, Match, MatchMore, At, ExpRow, ExpRowMore, ExpRound, ExpRoundMore, TupleMore, SequenceMore, ExpList, ExpListMore, LetMore, Pat, BarePat, OpPat, AfterVid, AfterVidTy, AtPatMore, AtPat, BareAtPat, OtherAtPat, PatRound, PatRoundMore, PatList, PatListMore, PatRow, Row, RowRest, RowAs, RowMore, Ty, TyArrow, Tup, TupMore, Con, ConMore, ATy, TyRow, TyRowMore, TyRound, TyRoundMore, Tvs, SomeTvs, TvsMore}
 use Rattle.sml_read.specs.declared.grammar.Rule.{Rule}
 use Rattle.sml_read.specs.declared.grammar.Rule.TheVariants.{Names, Units, Structures, Signatures, Specifications, Declarations, Expressions, Patterns, Types}
 use Rattle.sml_read.specs.declared.grammar.NameRule.TheVariants.{VidAlphanumeric, VidSymbolic, VidStar, TyConAlphanumeric, TyConSymbolic, LongVidAlphanumeric, LongVidSymbolic, LongVidStar, LongVidQualified, QualifiedLongAlphanumeric, QualifiedLongSymbolic, QualifiedLongStar, ExpVidLongVid, ExpVidEquals, LongTyConAlphanumeric, LongTyConSymbolic, LongTyConLongAlphanumeric, LongTyConLongSymbolic, LongStrIdAlphanumeric, LongStrIdLongAlphanumeric, LabVid, LabNumeral, LevelNumeral, LevelZeroNumeral, ConstantNumeral, ConstantZeroNumeral, ConstantInteger, ConstantWordConstant, ConstantRealConstant, ConstantStringConstant, ConstantCharacterConstant}
@@ -13,18 +13,18 @@ use Rattle.sml_read.specs.declared.grammar.StructureRule.TheVariants.{StrBindAlp
 use Rattle.sml_read.specs.declared.grammar.SignatureRule.TheVariants.{SigSigAtom, SigAtomSig, SigAtomAlphanumeric, SigMoreNone, SigMoreWhere, SigWhereNone, SigWhereWhere, SigWhereAnd, WhereType, SigBindAlphanumeric, SigBindMoreNone, SigBindMoreWhere, SigBindMoreAnd, SigBindWhereNone, SigBindWhereWhere, SigBindWhereAnd, SigBindAndWhere, SigBindAndSigBind}
 use Rattle.sml_read.specs.declared.grammar.SpecificationRule.TheVariants.{SpecVal, SpecType, SpecEqtype, SpecDatatype, SpecException, SpecStructure, SpecInclude, SpecSharing, ValSpecVid, ValSpecMoreNone, ValSpecMoreAnd, TypeSpecTvs, TypeSpecRestEquals, TypeSpecRestTypeSpecMore, TypeSpecMoreNone, TypeSpecMoreAnd, DatSpecSomeTvs, DatSpecTyCon, DatSpecRestDatatype, DatSpecRestConSpecs, DatSpecMoreNone, DatSpecMoreAnd, ConSpecsVid, ConSpecsMoreNone, ConSpecsMoreBar, OfTyNone, OfTyOf, ExnSpecVid, ExnSpecMoreNone, ExnSpecMoreAnd, StrSpecAlphanumeric, StrSpecMoreNone, StrSpecMoreWhere, StrSpecMoreAnd, StrSpecWhereNone, StrSpecWhereWhere, StrSpecWhereAnd, StrSpecAndWhere, StrSpecAndStrSpec, IncludeSig, IncludeAlphanumeric, IncludeMoreSigMore, IncludeMoreAlphanumeric, IncludeIdsNone, IncludeIdsAlphanumeric, SharingType, SharingLongStrId, TypeShareMoreNone, TypeShareMoreEquals, StrShareMoreNone, StrShareMoreEquals}
 use Rattle.sml_read.specs.declared.grammar.DeclarationRule.TheVariants.{DecCoreDec, DecLocal, CoreDecVal, CoreDecFun, CoreDecType, CoreDecDatatype, CoreDecException, CoreDecOpen, CoreDecInfix, CoreDecInfixr, CoreDecNonfix, OpenMoreNone, OpenMoreLongStrId, FixityNone, FixityLevel, VidMoreNone, VidMoreVid, ValDecTypeVariable, ValDecOpenRound, ValDecRec, ValDecBarePat, ValRoundTypeVariable, ValRoundPatRound, ValBindRec, ValBindPat, ValMoreNone, ValMoreAnd, FunDecTypeVariable, FunDecOpenRound, FunDecBareAtPat, FunRoundTypeVariable, FunRoundPatRound, ClausesAtPat, ClausesMoreNone, ClausesMoreAnd, ClauseAtPats, ClauseMoreNone, ClauseMoreBar, AtPatsNone, AtPatsAtPat, TypedNone, TypedColon, TypBindTvs, TypBindMoreNone, TypBindMoreAnd, DatDecSomeTvs, DatDecTyCon, DatRestDatatype, DatRestConBinds, DatBindMoreNone, DatBindMoreAnd, DatBindMoreWithtype, ConBindsMaybeOp, ConBindsMoreNone, ConBindsMoreBar, MaybeOpNone, MaybeOpOp, ExnBindMaybeOp, ExnBindMoreNone, ExnBindMoreAnd, ExnRestNone, ExnRestOf, ExnRestEquals}
-use Rattle.sml_read.specs.declared.grammar.ExpressionRule.TheVariants.{ExpOpen, ExpTyp, AndMoreNone, AndMoreAndalso, AndRestOpen, AndRestTyp, OrMoreNone, OrMoreOrelse, OrRestOpen, OrRestTyp, HandleMoreNone, HandleMoreHandle, TypAt, AtMoreNone, AtMoreAt, TyMoreNone, TyMoreColon, OpenRaise, OpenIf, OpenWhile, OpenCase, OpenFn, MatchPat, MatchMoreNone, MatchMoreBar, AtConstant, AtExpVid, AtOp, AtOpenCurly, AtHash, AtOpenRound, AtOpenSquare, AtLet, ExpRowCloseCurly, ExpRowLab, ExpRowMoreCloseCurly, ExpRowMoreComma, ExpRoundCloseRound, ExpRoundExp, ExpRoundMoreCloseRound, ExpRoundMoreComma, ExpRoundMoreSemicolon, TupleMoreCloseRound, TupleMoreComma, SequenceMoreCloseRound, SequenceMoreSemicolon, ExpListCloseSquare, ExpListExp, ExpListMoreCloseSquare, ExpListMoreComma, LetMoreEnd, LetMoreSemicolon}
-use Rattle.sml_read.specs.declared.grammar.PatternRule.TheVariants.{PatOpenRound, PatBarePat, BarePatVid, BarePatOp, BarePatOtherAtPat, OpPatVid, OpPatQualified, AfterVidNone, AfterVidAs, AfterVidColon, AfterVidAtPat, AfterVidTyNone, AfterVidTyAs, AfterVidTyColon, AtPatMoreNone, AtPatMoreAtPat, AtPatMoreColon, AtPatOpenRound, AtPatBareAtPat, BareAtPatVid, BareAtPatOp, BareAtPatOtherAtPat, OtherAtPatWildcard, OtherAtPatConstant, OtherAtPatQualified, OtherAtPatOpenCurly, OtherAtPatOpenSquare, PatRoundCloseRound, PatRoundPat, PatRoundMoreCloseRound, PatRoundMoreComma, PatListCloseSquare, PatListPat, PatListMoreCloseSquare, PatListMoreComma, PatRowCloseCurly, PatRowRow, RowDots, RowNumeral, RowVid, RowRestEquals, RowRestTyped, RowAsNone, RowAsAs, RowMoreNone, RowMoreComma}
+use Rattle.sml_read.specs.declared.grammar.ExpressionRule.TheVariants.{ExpOpen, ExpAt, MoreNone, MoreAt, MoreColon, MoreAndalso, MoreOrelse, MoreHandle, TyRestNone, TyRestColon, TyRestAndalso, TyRestOrelse, TyRestHandle, AndMoreNone, AndMoreAndalso, AndRestOpen, AndRestTyp, OrMoreNone, OrMoreOrelse, OrRestOpen, OrRestTyp, HandleMoreNone, HandleMoreHandle, TypAt, AtMoreNone, AtMoreAt, TyMoreNone, TyMoreColon, OpenRaise, OpenIf, OpenWhile, OpenCase, OpenFn, MatchPat, MatchMoreNone, MatchMoreBar, AtNumeral, AtZeroNumeral, AtInteger, AtWordConstant, AtRealConstant, AtStringConstant, AtCharacterConstant, AtAlphanumeric, AtSymbolic, AtStar, AtEquals, AtLongAlphanumeric, AtLongSymbolic, AtLongStar, AtOp, AtOpenCurly, AtHash, AtOpenRound, AtOpenSquare, AtLet, ExpRowCloseCurly, ExpRowLab, ExpRowMoreCloseCurly, ExpRowMoreComma, ExpRoundCloseRound, ExpRoundExp, ExpRoundMoreCloseRound, ExpRoundMoreComma, ExpRoundMoreSemicolon, TupleMoreCloseRound, TupleMoreComma, SequenceMoreCloseRound, SequenceMoreSemicolon, ExpListCloseSquare, ExpListExp, ExpListMoreCloseSquare, ExpListMoreComma, LetMoreEnd, LetMoreSemicolon}
+use Rattle.sml_read.specs.declared.grammar.PatternRule.TheVariants.{PatOpenRound, PatAlphanumeric, PatSymbolic, PatStar, PatOp, PatOtherAtPat, BarePatAlphanumeric, BarePatSymbolic, BarePatStar, BarePatOp, BarePatOtherAtPat, OpPatVid, OpPatQualified, AfterVidNone, AfterVidAs, AfterVidColon, AfterVidAtPat, AfterVidTyNone, AfterVidTyAs, AfterVidTyColon, AtPatMoreNone, AtPatMoreAtPat, AtPatMoreColon, AtPatOpenRound, AtPatAlphanumeric, AtPatSymbolic, AtPatStar, AtPatOp, AtPatOtherAtPat, BareAtPatAlphanumeric, BareAtPatSymbolic, BareAtPatStar, BareAtPatOp, BareAtPatOtherAtPat, OtherAtPatWildcard, OtherAtPatConstant, OtherAtPatQualified, OtherAtPatOpenCurly, OtherAtPatOpenSquare, PatRoundCloseRound, PatRoundPat, PatRoundMoreCloseRound, PatRoundMoreComma, PatListCloseSquare, PatListPat, PatListMoreCloseSquare, PatListMoreComma, PatRowCloseCurly, PatRowRow, RowDots, RowNumeral, RowVid, RowRestEquals, RowRestTyped, RowAsNone, RowAsAs, RowMoreNone, RowMoreComma}
 use Rattle.sml_read.specs.declared.grammar.TypeRule.TheVariants.{TyTup, TyArrowNone, TyArrowArrow, TupCon, TupMoreNone, TupMoreStar, ConATy, ConMoreNone, ConMoreLongTyCon, ATyTypeVariable, ATyLongTyCon, ATyOpenCurly, ATyOpenRound, TyRowCloseCurly, TyRowLab, TyRowMoreCloseCurly, TyRowMoreComma, TyRoundCloseRound, TyRoundComma, TyRoundMoreCloseRound, TyRoundMoreComma, TvsNone, TvsSomeTvs, SomeTvsTypeVariable, SomeTvsOpenRound, TvsMoreNone, TvsMoreComma}
 
 abbrev pub all_kinds : List Kind
 all_kinds = K.Alphanumeric ∷ K.Symbolic ∷ K.Star ∷ K.LongAlphanumeric ∷ K.LongSymbolic ∷ K.LongStar ∷ K.TypeVariable ∷ K.Numeral ∷ K.ZeroNumeral ∷ K.Integer ∷ K.WordConstant ∷ K.RealConstant ∷ K.StringConstant ∷ K.CharacterConstant ∷ K.AbstypeWord ∷ K.AndWord ∷ K.AndalsoWord ∷ K.AsWord ∷ K.CaseWord ∷ K.DatatypeWord ∷ K.DoWord ∷ K.ElseWord ∷ K.EndWord ∷ K.EqtypeWord ∷ K.ExceptionWord ∷ K.FnWord ∷ K.FunWord ∷ K.FunctorWord ∷ K.HandleWord ∷ K.IfWord ∷ K.InWord ∷ K.IncludeWord ∷ K.InfixWord ∷ K.InfixrWord ∷ K.LetWord ∷ K.LocalWord ∷ K.NonfixWord ∷ K.OfWord ∷ K.OpWord ∷ K.OpenWord ∷ K.OrelseWord ∷ K.RaiseWord ∷ K.RecWord ∷ K.SharingWord ∷ K.SigWord ∷ K.SignatureWord ∷ K.StructWord ∷ K.StructureWord ∷ K.ThenWord ∷ K.TypeWord ∷ K.ValWord ∷ K.WhereWord ∷ K.WhileWord ∷ K.WithWord ∷ K.WithtypeWord ∷ K.OpenRound ∷ K.CloseRound ∷ K.OpenSquare ∷ K.CloseSquare ∷ K.OpenCurly ∷ K.CloseCurly ∷ K.Comma ∷ K.Colon ∷ K.Semicolon ∷ K.Dots ∷ K.Wildcard ∷ K.Bar ∷ K.Equals ∷ K.Gives ∷ K.Arrow ∷ K.Hash ∷ K.Seals ∷ []
 
 abbrev pub all_parts : List Part
-all_parts = Vid ∷ TyCon ∷ LongVid ∷ Qualified ∷ ExpVid ∷ LongTyCon ∷ LongStrId ∷ Lab ∷ Level ∷ Constant ∷ Start ∷ AfterTop ∷ AfterExp ∷ Top ∷ Str ∷ Strs ∷ Decs ∷ Specs ∷ StrBind ∷ Seal ∷ StrBindMore ∷ Ascription ∷ StrBindSig ∷ StrBindWhere ∷ StrBindAnd ∷ FunBind ∷ FunArg ∷ FunBindMore ∷ FunBindSig ∷ FunBindWhere ∷ FunBindAnd ∷ StrExp ∷ StrExpMore ∷ StrExpSig ∷ StrExpWhere ∷ StrAtom ∷ Actual ∷ StrArg ∷ Sig ∷ SigAtom ∷ SigMore ∷ SigWhere ∷ Where ∷ SigBind ∷ SigBindMore ∷ SigBindWhere ∷ SigBindAnd ∷ Spec ∷ ValSpec ∷ ValSpecMore ∷ TypeSpec ∷ TypeSpecRest ∷ TypeSpecMore ∷ DatSpec ∷ DatSpecRest ∷ DatSpecMore ∷ ConSpecs ∷ ConSpecsMore ∷ OfTy ∷ ExnSpec ∷ ExnSpecMore ∷ StrSpec ∷ StrSpecMore ∷ StrSpecWhere ∷ StrSpecAnd ∷ Include ∷ IncludeMore ∷ IncludeIds ∷ Sharing ∷ TypeShareMore ∷ StrShareMore ∷ Dec ∷ CoreDec ∷ OpenMore ∷ Fixity ∷ VidMore ∷ ValDec ∷ ValRound ∷ ValBind ∷ ValMore ∷ FunDec ∷ FunRound ∷ Clauses ∷ ClausesMore ∷ Clause ∷ ClauseMore ∷ AtPats ∷ Typed ∷ TypBind ∷ TypBindMore ∷ DatDec ∷ DatRest ∷ DatBindMore ∷ ConBinds ∷ ConBindsMore ∷ MaybeOp ∷ ExnBind ∷ ExnBindMore ∷ ExnRest ∷ Exp ∷ AndMore ∷ AndRest ∷ OrMore ∷ OrRest ∷ HandleMore ∷ Typ ∷ AtMore ∷ TyMore ∷ Open ∷ Match ∷ MatchMore ∷ At ∷ ExpRow ∷ ExpRowMore ∷ ExpRound ∷ ExpRoundMore ∷ TupleMore ∷ SequenceMore ∷ ExpList ∷ ExpListMore ∷ LetMore ∷ Pat ∷ BarePat ∷ OpPat ∷ AfterVid ∷ AfterVidTy ∷ AtPatMore ∷ AtPat ∷ BareAtPat ∷ OtherAtPat ∷ PatRound ∷ PatRoundMore ∷ PatList ∷ PatListMore ∷ PatRow ∷ Row ∷ RowRest ∷ RowAs ∷ RowMore ∷ Ty ∷ TyArrow ∷ Tup ∷ TupMore ∷ Con ∷ ConMore ∷ ATy ∷ TyRow ∷ TyRowMore ∷ TyRound ∷ TyRoundMore ∷ Tvs ∷ SomeTvs ∷ TvsMore ∷ []
+all_parts = Vid ∷ TyCon ∷ LongVid ∷ Qualified ∷ ExpVid ∷ LongTyCon ∷ LongStrId ∷ Lab ∷ Level ∷ Constant ∷ Start ∷ AfterTop ∷ AfterExp ∷ Top ∷ Str ∷ Strs ∷ Decs ∷ Specs ∷ StrBind ∷ Seal ∷ StrBindMore ∷ Ascription ∷ StrBindSig ∷ StrBindWhere ∷ StrBindAnd ∷ FunBind ∷ FunArg ∷ FunBindMore ∷ FunBindSig ∷ FunBindWhere ∷ FunBindAnd ∷ StrExp ∷ StrExpMore ∷ StrExpSig ∷ StrExpWhere ∷ StrAtom ∷ Actual ∷ StrArg ∷ Sig ∷ SigAtom ∷ SigMore ∷ SigWhere ∷ Where ∷ SigBind ∷ SigBindMore ∷ SigBindWhere ∷ SigBindAnd ∷ Spec ∷ ValSpec ∷ ValSpecMore ∷ TypeSpec ∷ TypeSpecRest ∷ TypeSpecMore ∷ DatSpec ∷ DatSpecRest ∷ DatSpecMore ∷ ConSpecs ∷ ConSpecsMore ∷ OfTy ∷ ExnSpec ∷ ExnSpecMore ∷ StrSpec ∷ StrSpecMore ∷ StrSpecWhere ∷ StrSpecAnd ∷ Include ∷ IncludeMore ∷ IncludeIds ∷ Sharing ∷ TypeShareMore ∷ StrShareMore ∷ Dec ∷ CoreDec ∷ OpenMore ∷ Fixity ∷ VidMore ∷ ValDec ∷ ValRound ∷ ValBind ∷ ValMore ∷ FunDec ∷ FunRound ∷ Clauses ∷ ClausesMore ∷ Clause ∷ ClauseMore ∷ AtPats ∷ Typed ∷ TypBind ∷ TypBindMore ∷ DatDec ∷ DatRest ∷ DatBindMore ∷ ConBinds ∷ ConBindsMore ∷ MaybeOp ∷ ExnBind ∷ ExnBindMore ∷ ExnRest ∷ Exp ∷ More ∷ TyRest ∷ AndMore ∷ AndRest ∷ OrMore ∷ OrRest ∷ HandleMore ∷ Typ ∷ AtMore ∷ TyMore ∷ Open ∷ Match ∷ MatchMore ∷ At ∷ ExpRow ∷ ExpRowMore ∷ ExpRound ∷ ExpRoundMore ∷ TupleMore ∷ SequenceMore ∷ ExpList ∷ ExpListMore ∷ LetMore ∷ Pat ∷ BarePat ∷ OpPat ∷ AfterVid ∷ AfterVidTy ∷ AtPatMore ∷ AtPat ∷ BareAtPat ∷ OtherAtPat ∷ PatRound ∷ PatRoundMore ∷ PatList ∷ PatListMore ∷ PatRow ∷ Row ∷ RowRest ∷ RowAs ∷ RowMore ∷ Ty ∷ TyArrow ∷ Tup ∷ TupMore ∷ Con ∷ ConMore ∷ ATy ∷ TyRow ∷ TyRowMore ∷ TyRound ∷ TyRoundMore ∷ Tvs ∷ SomeTvs ∷ TvsMore ∷ []
 
 abbrev pub all_rules : List Rule
-all_rules = Names VidAlphanumeric ∷ Names VidSymbolic ∷ Names VidStar ∷ Names TyConAlphanumeric ∷ Names TyConSymbolic ∷ Names LongVidAlphanumeric ∷ Names LongVidSymbolic ∷ Names LongVidStar ∷ Names LongVidQualified ∷ Names QualifiedLongAlphanumeric ∷ Names QualifiedLongSymbolic ∷ Names QualifiedLongStar ∷ Names ExpVidLongVid ∷ Names ExpVidEquals ∷ Names LongTyConAlphanumeric ∷ Names LongTyConSymbolic ∷ Names LongTyConLongAlphanumeric ∷ Names LongTyConLongSymbolic ∷ Names LongStrIdAlphanumeric ∷ Names LongStrIdLongAlphanumeric ∷ Names LabVid ∷ Names LabNumeral ∷ Names LevelNumeral ∷ Names LevelZeroNumeral ∷ Names ConstantNumeral ∷ Names ConstantZeroNumeral ∷ Names ConstantInteger ∷ Names ConstantWordConstant ∷ Names ConstantRealConstant ∷ Names ConstantStringConstant ∷ Names ConstantCharacterConstant ∷ Units StartNone ∷ Units StartSemicolon ∷ Units StartTop ∷ Units StartExp ∷ Units AfterTopNone ∷ Units AfterTopSemicolon ∷ Units AfterTopTop ∷ Units AfterExpNone ∷ Units AfterExpSemicolon ∷ Units TopStr ∷ Units TopSignature ∷ Units TopFunctor ∷ Units StrCoreDec ∷ Units StrStructure ∷ Units StrLocal ∷ Units StrsNone ∷ Units StrsSemicolon ∷ Units StrsStr ∷ Units DecsNone ∷ Units DecsSemicolon ∷ Units DecsDec ∷ Units SpecsNone ∷ Units SpecsSemicolon ∷ Units SpecsSpec ∷ Structures StrBindAlphanumeric ∷ Structures SealNone ∷ Structures SealColon ∷ Structures SealSeals ∷ Structures StrBindMoreNone ∷ Structures StrBindMoreAscription ∷ Structures StrBindMoreAnd ∷ Structures AscriptionColon ∷ Structures AscriptionSeals ∷ Structures StrBindSigNone ∷ Structures StrBindSigWhere ∷ Structures StrBindSigAscription ∷ Structures StrBindSigAnd ∷ Structures StrBindWhereNone ∷ Structures StrBindWhereWhere ∷ Structures StrBindWhereAscription ∷ Structures StrBindWhereAnd ∷ Structures StrBindAndWhere ∷ Structures StrBindAndStrBind ∷ Structures FunBindAlphanumeric ∷ Structures FunArgAlphanumeric ∷ Structures FunArgSpecs ∷ Structures FunBindMoreNone ∷ Structures FunBindMoreAscription ∷ Structures FunBindMoreAnd ∷ Structures FunBindSigNone ∷ Structures FunBindSigWhere ∷ Structures FunBindSigAscription ∷ Structures FunBindSigAnd ∷ Structures FunBindWhereNone ∷ Structures FunBindWhereWhere ∷ Structures FunBindWhereAscription ∷ Structures FunBindWhereAnd ∷ Structures FunBindAndWhere ∷ Structures FunBindAndFunBind ∷ Structures StrExpStrAtom ∷ Structures StrExpMoreNone ∷ Structures StrExpMoreAscription ∷ Structures StrExpSigNone ∷ Structures StrExpSigWhere ∷ Structures StrExpSigAscription ∷ Structures StrExpWhereNone ∷ Structures StrExpWhereWhere ∷ Structures StrExpWhereAscription ∷ Structures StrExpWhereAnd ∷ Structures StrAtomStruct ∷ Structures StrAtomLongAlphanumeric ∷ Structures StrAtomAlphanumeric ∷ Structures StrAtomLet ∷ Structures ActualNone ∷ Structures ActualOpenRound ∷ Structures StrArgStrExp ∷ Structures StrArgStrs ∷ Signatures SigSigAtom ∷ Signatures SigAtomSig ∷ Signatures SigAtomAlphanumeric ∷ Signatures SigMoreNone ∷ Signatures SigMoreWhere ∷ Signatures SigWhereNone ∷ Signatures SigWhereWhere ∷ Signatures SigWhereAnd ∷ Signatures WhereType ∷ Signatures SigBindAlphanumeric ∷ Signatures SigBindMoreNone ∷ Signatures SigBindMoreWhere ∷ Signatures SigBindMoreAnd ∷ Signatures SigBindWhereNone ∷ Signatures SigBindWhereWhere ∷ Signatures SigBindWhereAnd ∷ Signatures SigBindAndWhere ∷ Signatures SigBindAndSigBind ∷ Specifications SpecVal ∷ Specifications SpecType ∷ Specifications SpecEqtype ∷ Specifications SpecDatatype ∷ Specifications SpecException ∷ Specifications SpecStructure ∷ Specifications SpecInclude ∷ Specifications SpecSharing ∷ Specifications ValSpecVid ∷ Specifications ValSpecMoreNone ∷ Specifications ValSpecMoreAnd ∷ Specifications TypeSpecTvs ∷ Specifications TypeSpecRestEquals ∷ Specifications TypeSpecRestTypeSpecMore ∷ Specifications TypeSpecMoreNone ∷ Specifications TypeSpecMoreAnd ∷ Specifications DatSpecSomeTvs ∷ Specifications DatSpecTyCon ∷ Specifications DatSpecRestDatatype ∷ Specifications DatSpecRestConSpecs ∷ Specifications DatSpecMoreNone ∷ Specifications DatSpecMoreAnd ∷ Specifications ConSpecsVid ∷ Specifications ConSpecsMoreNone ∷ Specifications ConSpecsMoreBar ∷ Specifications OfTyNone ∷ Specifications OfTyOf ∷ Specifications ExnSpecVid ∷ Specifications ExnSpecMoreNone ∷ Specifications ExnSpecMoreAnd ∷ Specifications StrSpecAlphanumeric ∷ Specifications StrSpecMoreNone ∷ Specifications StrSpecMoreWhere ∷ Specifications StrSpecMoreAnd ∷ Specifications StrSpecWhereNone ∷ Specifications StrSpecWhereWhere ∷ Specifications StrSpecWhereAnd ∷ Specifications StrSpecAndWhere ∷ Specifications StrSpecAndStrSpec ∷ Specifications IncludeSig ∷ Specifications IncludeAlphanumeric ∷ Specifications IncludeMoreSigMore ∷ Specifications IncludeMoreAlphanumeric ∷ Specifications IncludeIdsNone ∷ Specifications IncludeIdsAlphanumeric ∷ Specifications SharingType ∷ Specifications SharingLongStrId ∷ Specifications TypeShareMoreNone ∷ Specifications TypeShareMoreEquals ∷ Specifications StrShareMoreNone ∷ Specifications StrShareMoreEquals ∷ Declarations DecCoreDec ∷ Declarations DecLocal ∷ Declarations CoreDecVal ∷ Declarations CoreDecFun ∷ Declarations CoreDecType ∷ Declarations CoreDecDatatype ∷ Declarations CoreDecException ∷ Declarations CoreDecOpen ∷ Declarations CoreDecInfix ∷ Declarations CoreDecInfixr ∷ Declarations CoreDecNonfix ∷ Declarations OpenMoreNone ∷ Declarations OpenMoreLongStrId ∷ Declarations FixityNone ∷ Declarations FixityLevel ∷ Declarations VidMoreNone ∷ Declarations VidMoreVid ∷ Declarations ValDecTypeVariable ∷ Declarations ValDecOpenRound ∷ Declarations ValDecRec ∷ Declarations ValDecBarePat ∷ Declarations ValRoundTypeVariable ∷ Declarations ValRoundPatRound ∷ Declarations ValBindRec ∷ Declarations ValBindPat ∷ Declarations ValMoreNone ∷ Declarations ValMoreAnd ∷ Declarations FunDecTypeVariable ∷ Declarations FunDecOpenRound ∷ Declarations FunDecBareAtPat ∷ Declarations FunRoundTypeVariable ∷ Declarations FunRoundPatRound ∷ Declarations ClausesAtPat ∷ Declarations ClausesMoreNone ∷ Declarations ClausesMoreAnd ∷ Declarations ClauseAtPats ∷ Declarations ClauseMoreNone ∷ Declarations ClauseMoreBar ∷ Declarations AtPatsNone ∷ Declarations AtPatsAtPat ∷ Declarations TypedNone ∷ Declarations TypedColon ∷ Declarations TypBindTvs ∷ Declarations TypBindMoreNone ∷ Declarations TypBindMoreAnd ∷ Declarations DatDecSomeTvs ∷ Declarations DatDecTyCon ∷ Declarations DatRestDatatype ∷ Declarations DatRestConBinds ∷ Declarations DatBindMoreNone ∷ Declarations DatBindMoreAnd ∷ Declarations DatBindMoreWithtype ∷ Declarations ConBindsMaybeOp ∷ Declarations ConBindsMoreNone ∷ Declarations ConBindsMoreBar ∷ Declarations MaybeOpNone ∷ Declarations MaybeOpOp ∷ Declarations ExnBindMaybeOp ∷ Declarations ExnBindMoreNone ∷ Declarations ExnBindMoreAnd ∷ Declarations ExnRestNone ∷ Declarations ExnRestOf ∷ Declarations ExnRestEquals ∷ Expressions ExpOpen ∷ Expressions ExpTyp ∷ Expressions AndMoreNone ∷ Expressions AndMoreAndalso ∷ Expressions AndRestOpen ∷ Expressions AndRestTyp ∷ Expressions OrMoreNone ∷ Expressions OrMoreOrelse ∷ Expressions OrRestOpen ∷ Expressions OrRestTyp ∷ Expressions HandleMoreNone ∷ Expressions HandleMoreHandle ∷ Expressions TypAt ∷ Expressions AtMoreNone ∷ Expressions AtMoreAt ∷ Expressions TyMoreNone ∷ Expressions TyMoreColon ∷ Expressions OpenRaise ∷ Expressions OpenIf ∷ Expressions OpenWhile ∷ Expressions OpenCase ∷ Expressions OpenFn ∷ Expressions MatchPat ∷ Expressions MatchMoreNone ∷ Expressions MatchMoreBar ∷ Expressions AtConstant ∷ Expressions AtExpVid ∷ Expressions AtOp ∷ Expressions AtOpenCurly ∷ Expressions AtHash ∷ Expressions AtOpenRound ∷ Expressions AtOpenSquare ∷ Expressions AtLet ∷ Expressions ExpRowCloseCurly ∷ Expressions ExpRowLab ∷ Expressions ExpRowMoreCloseCurly ∷ Expressions ExpRowMoreComma ∷ Expressions ExpRoundCloseRound ∷ Expressions ExpRoundExp ∷ Expressions ExpRoundMoreCloseRound ∷ Expressions ExpRoundMoreComma ∷ Expressions ExpRoundMoreSemicolon ∷ Expressions TupleMoreCloseRound ∷ Expressions TupleMoreComma ∷ Expressions SequenceMoreCloseRound ∷ Expressions SequenceMoreSemicolon ∷ Expressions ExpListCloseSquare ∷ Expressions ExpListExp ∷ Expressions ExpListMoreCloseSquare ∷ Expressions ExpListMoreComma ∷ Expressions LetMoreEnd ∷ Expressions LetMoreSemicolon ∷ Patterns PatOpenRound ∷ Patterns PatBarePat ∷ Patterns BarePatVid ∷ Patterns BarePatOp ∷ Patterns BarePatOtherAtPat ∷ Patterns OpPatVid ∷ Patterns OpPatQualified ∷ Patterns AfterVidNone ∷ Patterns AfterVidAs ∷ Patterns AfterVidColon ∷ Patterns AfterVidAtPat ∷ Patterns AfterVidTyNone ∷ Patterns AfterVidTyAs ∷ Patterns AfterVidTyColon ∷ Patterns AtPatMoreNone ∷ Patterns AtPatMoreAtPat ∷ Patterns AtPatMoreColon ∷ Patterns AtPatOpenRound ∷ Patterns AtPatBareAtPat ∷ Patterns BareAtPatVid ∷ Patterns BareAtPatOp ∷ Patterns BareAtPatOtherAtPat ∷ Patterns OtherAtPatWildcard ∷ Patterns OtherAtPatConstant ∷ Patterns OtherAtPatQualified ∷ Patterns OtherAtPatOpenCurly ∷ Patterns OtherAtPatOpenSquare ∷ Patterns PatRoundCloseRound ∷ Patterns PatRoundPat ∷ Patterns PatRoundMoreCloseRound ∷ Patterns PatRoundMoreComma ∷ Patterns PatListCloseSquare ∷ Patterns PatListPat ∷ Patterns PatListMoreCloseSquare ∷ Patterns PatListMoreComma ∷ Patterns PatRowCloseCurly ∷ Patterns PatRowRow ∷ Patterns RowDots ∷ Patterns RowNumeral ∷ Patterns RowVid ∷ Patterns RowRestEquals ∷ Patterns RowRestTyped ∷ Patterns RowAsNone ∷ Patterns RowAsAs ∷ Patterns RowMoreNone ∷ Patterns RowMoreComma ∷ Types TyTup ∷ Types TyArrowNone ∷ Types TyArrowArrow ∷ Types TupCon ∷ Types TupMoreNone ∷ Types TupMoreStar ∷ Types ConATy ∷ Types ConMoreNone ∷ Types ConMoreLongTyCon ∷ Types ATyTypeVariable ∷ Types ATyLongTyCon ∷ Types ATyOpenCurly ∷ Types ATyOpenRound ∷ Types TyRowCloseCurly ∷ Types TyRowLab ∷ Types TyRowMoreCloseCurly ∷ Types TyRowMoreComma ∷ Types TyRoundCloseRound ∷ Types TyRoundComma ∷ Types TyRoundMoreCloseRound ∷ Types TyRoundMoreComma ∷ Types TvsNone ∷ Types TvsSomeTvs ∷ Types SomeTvsTypeVariable ∷ Types SomeTvsOpenRound ∷ Types TvsMoreNone ∷ Types TvsMoreComma ∷ []
+all_rules = Names VidAlphanumeric ∷ Names VidSymbolic ∷ Names VidStar ∷ Names TyConAlphanumeric ∷ Names TyConSymbolic ∷ Names LongVidAlphanumeric ∷ Names LongVidSymbolic ∷ Names LongVidStar ∷ Names LongVidQualified ∷ Names QualifiedLongAlphanumeric ∷ Names QualifiedLongSymbolic ∷ Names QualifiedLongStar ∷ Names ExpVidLongVid ∷ Names ExpVidEquals ∷ Names LongTyConAlphanumeric ∷ Names LongTyConSymbolic ∷ Names LongTyConLongAlphanumeric ∷ Names LongTyConLongSymbolic ∷ Names LongStrIdAlphanumeric ∷ Names LongStrIdLongAlphanumeric ∷ Names LabVid ∷ Names LabNumeral ∷ Names LevelNumeral ∷ Names LevelZeroNumeral ∷ Names ConstantNumeral ∷ Names ConstantZeroNumeral ∷ Names ConstantInteger ∷ Names ConstantWordConstant ∷ Names ConstantRealConstant ∷ Names ConstantStringConstant ∷ Names ConstantCharacterConstant ∷ Units StartNone ∷ Units StartSemicolon ∷ Units StartTop ∷ Units StartExp ∷ Units AfterTopNone ∷ Units AfterTopSemicolon ∷ Units AfterTopTop ∷ Units AfterExpNone ∷ Units AfterExpSemicolon ∷ Units TopStr ∷ Units TopSignature ∷ Units TopFunctor ∷ Units StrCoreDec ∷ Units StrStructure ∷ Units StrLocal ∷ Units StrsNone ∷ Units StrsSemicolon ∷ Units StrsStr ∷ Units DecsNone ∷ Units DecsSemicolon ∷ Units DecsDec ∷ Units SpecsNone ∷ Units SpecsSemicolon ∷ Units SpecsSpec ∷ Structures StrBindAlphanumeric ∷ Structures SealNone ∷ Structures SealColon ∷ Structures SealSeals ∷ Structures StrBindMoreNone ∷ Structures StrBindMoreAscription ∷ Structures StrBindMoreAnd ∷ Structures AscriptionColon ∷ Structures AscriptionSeals ∷ Structures StrBindSigNone ∷ Structures StrBindSigWhere ∷ Structures StrBindSigAscription ∷ Structures StrBindSigAnd ∷ Structures StrBindWhereNone ∷ Structures StrBindWhereWhere ∷ Structures StrBindWhereAscription ∷ Structures StrBindWhereAnd ∷ Structures StrBindAndWhere ∷ Structures StrBindAndStrBind ∷ Structures FunBindAlphanumeric ∷ Structures FunArgAlphanumeric ∷ Structures FunArgSpecs ∷ Structures FunBindMoreNone ∷ Structures FunBindMoreAscription ∷ Structures FunBindMoreAnd ∷ Structures FunBindSigNone ∷ Structures FunBindSigWhere ∷ Structures FunBindSigAscription ∷ Structures FunBindSigAnd ∷ Structures FunBindWhereNone ∷ Structures FunBindWhereWhere ∷ Structures FunBindWhereAscription ∷ Structures FunBindWhereAnd ∷ Structures FunBindAndWhere ∷ Structures FunBindAndFunBind ∷ Structures StrExpStrAtom ∷ Structures StrExpMoreNone ∷ Structures StrExpMoreAscription ∷ Structures StrExpSigNone ∷ Structures StrExpSigWhere ∷ Structures StrExpSigAscription ∷ Structures StrExpWhereNone ∷ Structures StrExpWhereWhere ∷ Structures StrExpWhereAscription ∷ Structures StrExpWhereAnd ∷ Structures StrAtomStruct ∷ Structures StrAtomLongAlphanumeric ∷ Structures StrAtomAlphanumeric ∷ Structures StrAtomLet ∷ Structures ActualNone ∷ Structures ActualOpenRound ∷ Structures StrArgStrExp ∷ Structures StrArgStrs ∷ Signatures SigSigAtom ∷ Signatures SigAtomSig ∷ Signatures SigAtomAlphanumeric ∷ Signatures SigMoreNone ∷ Signatures SigMoreWhere ∷ Signatures SigWhereNone ∷ Signatures SigWhereWhere ∷ Signatures SigWhereAnd ∷ Signatures WhereType ∷ Signatures SigBindAlphanumeric ∷ Signatures SigBindMoreNone ∷ Signatures SigBindMoreWhere ∷ Signatures SigBindMoreAnd ∷ Signatures SigBindWhereNone ∷ Signatures SigBindWhereWhere ∷ Signatures SigBindWhereAnd ∷ Signatures SigBindAndWhere ∷ Signatures SigBindAndSigBind ∷ Specifications SpecVal ∷ Specifications SpecType ∷ Specifications SpecEqtype ∷ Specifications SpecDatatype ∷ Specifications SpecException ∷ Specifications SpecStructure ∷ Specifications SpecInclude ∷ Specifications SpecSharing ∷ Specifications ValSpecVid ∷ Specifications ValSpecMoreNone ∷ Specifications ValSpecMoreAnd ∷ Specifications TypeSpecTvs ∷ Specifications TypeSpecRestEquals ∷ Specifications TypeSpecRestTypeSpecMore ∷ Specifications TypeSpecMoreNone ∷ Specifications TypeSpecMoreAnd ∷ Specifications DatSpecSomeTvs ∷ Specifications DatSpecTyCon ∷ Specifications DatSpecRestDatatype ∷ Specifications DatSpecRestConSpecs ∷ Specifications DatSpecMoreNone ∷ Specifications DatSpecMoreAnd ∷ Specifications ConSpecsVid ∷ Specifications ConSpecsMoreNone ∷ Specifications ConSpecsMoreBar ∷ Specifications OfTyNone ∷ Specifications OfTyOf ∷ Specifications ExnSpecVid ∷ Specifications ExnSpecMoreNone ∷ Specifications ExnSpecMoreAnd ∷ Specifications StrSpecAlphanumeric ∷ Specifications StrSpecMoreNone ∷ Specifications StrSpecMoreWhere ∷ Specifications StrSpecMoreAnd ∷ Specifications StrSpecWhereNone ∷ Specifications StrSpecWhereWhere ∷ Specifications StrSpecWhereAnd ∷ Specifications StrSpecAndWhere ∷ Specifications StrSpecAndStrSpec ∷ Specifications IncludeSig ∷ Specifications IncludeAlphanumeric ∷ Specifications IncludeMoreSigMore ∷ Specifications IncludeMoreAlphanumeric ∷ Specifications IncludeIdsNone ∷ Specifications IncludeIdsAlphanumeric ∷ Specifications SharingType ∷ Specifications SharingLongStrId ∷ Specifications TypeShareMoreNone ∷ Specifications TypeShareMoreEquals ∷ Specifications StrShareMoreNone ∷ Specifications StrShareMoreEquals ∷ Declarations DecCoreDec ∷ Declarations DecLocal ∷ Declarations CoreDecVal ∷ Declarations CoreDecFun ∷ Declarations CoreDecType ∷ Declarations CoreDecDatatype ∷ Declarations CoreDecException ∷ Declarations CoreDecOpen ∷ Declarations CoreDecInfix ∷ Declarations CoreDecInfixr ∷ Declarations CoreDecNonfix ∷ Declarations OpenMoreNone ∷ Declarations OpenMoreLongStrId ∷ Declarations FixityNone ∷ Declarations FixityLevel ∷ Declarations VidMoreNone ∷ Declarations VidMoreVid ∷ Declarations ValDecTypeVariable ∷ Declarations ValDecOpenRound ∷ Declarations ValDecRec ∷ Declarations ValDecBarePat ∷ Declarations ValRoundTypeVariable ∷ Declarations ValRoundPatRound ∷ Declarations ValBindRec ∷ Declarations ValBindPat ∷ Declarations ValMoreNone ∷ Declarations ValMoreAnd ∷ Declarations FunDecTypeVariable ∷ Declarations FunDecOpenRound ∷ Declarations FunDecBareAtPat ∷ Declarations FunRoundTypeVariable ∷ Declarations FunRoundPatRound ∷ Declarations ClausesAtPat ∷ Declarations ClausesMoreNone ∷ Declarations ClausesMoreAnd ∷ Declarations ClauseAtPats ∷ Declarations ClauseMoreNone ∷ Declarations ClauseMoreBar ∷ Declarations AtPatsNone ∷ Declarations AtPatsAtPat ∷ Declarations TypedNone ∷ Declarations TypedColon ∷ Declarations TypBindTvs ∷ Declarations TypBindMoreNone ∷ Declarations TypBindMoreAnd ∷ Declarations DatDecSomeTvs ∷ Declarations DatDecTyCon ∷ Declarations DatRestDatatype ∷ Declarations DatRestConBinds ∷ Declarations DatBindMoreNone ∷ Declarations DatBindMoreAnd ∷ Declarations DatBindMoreWithtype ∷ Declarations ConBindsMaybeOp ∷ Declarations ConBindsMoreNone ∷ Declarations ConBindsMoreBar ∷ Declarations MaybeOpNone ∷ Declarations MaybeOpOp ∷ Declarations ExnBindMaybeOp ∷ Declarations ExnBindMoreNone ∷ Declarations ExnBindMoreAnd ∷ Declarations ExnRestNone ∷ Declarations ExnRestOf ∷ Declarations ExnRestEquals ∷ Expressions ExpOpen ∷ Expressions ExpAt ∷ Expressions MoreNone ∷ Expressions MoreAt ∷ Expressions MoreColon ∷ Expressions MoreAndalso ∷ Expressions MoreOrelse ∷ Expressions MoreHandle ∷ Expressions TyRestNone ∷ Expressions TyRestColon ∷ Expressions TyRestAndalso ∷ Expressions TyRestOrelse ∷ Expressions TyRestHandle ∷ Expressions AndMoreNone ∷ Expressions AndMoreAndalso ∷ Expressions AndRestOpen ∷ Expressions AndRestTyp ∷ Expressions OrMoreNone ∷ Expressions OrMoreOrelse ∷ Expressions OrRestOpen ∷ Expressions OrRestTyp ∷ Expressions HandleMoreNone ∷ Expressions HandleMoreHandle ∷ Expressions TypAt ∷ Expressions AtMoreNone ∷ Expressions AtMoreAt ∷ Expressions TyMoreNone ∷ Expressions TyMoreColon ∷ Expressions OpenRaise ∷ Expressions OpenIf ∷ Expressions OpenWhile ∷ Expressions OpenCase ∷ Expressions OpenFn ∷ Expressions MatchPat ∷ Expressions MatchMoreNone ∷ Expressions MatchMoreBar ∷ Expressions AtNumeral ∷ Expressions AtZeroNumeral ∷ Expressions AtInteger ∷ Expressions AtWordConstant ∷ Expressions AtRealConstant ∷ Expressions AtStringConstant ∷ Expressions AtCharacterConstant ∷ Expressions AtAlphanumeric ∷ Expressions AtSymbolic ∷ Expressions AtStar ∷ Expressions AtEquals ∷ Expressions AtLongAlphanumeric ∷ Expressions AtLongSymbolic ∷ Expressions AtLongStar ∷ Expressions AtOp ∷ Expressions AtOpenCurly ∷ Expressions AtHash ∷ Expressions AtOpenRound ∷ Expressions AtOpenSquare ∷ Expressions AtLet ∷ Expressions ExpRowCloseCurly ∷ Expressions ExpRowLab ∷ Expressions ExpRowMoreCloseCurly ∷ Expressions ExpRowMoreComma ∷ Expressions ExpRoundCloseRound ∷ Expressions ExpRoundExp ∷ Expressions ExpRoundMoreCloseRound ∷ Expressions ExpRoundMoreComma ∷ Expressions ExpRoundMoreSemicolon ∷ Expressions TupleMoreCloseRound ∷ Expressions TupleMoreComma ∷ Expressions SequenceMoreCloseRound ∷ Expressions SequenceMoreSemicolon ∷ Expressions ExpListCloseSquare ∷ Expressions ExpListExp ∷ Expressions ExpListMoreCloseSquare ∷ Expressions ExpListMoreComma ∷ Expressions LetMoreEnd ∷ Expressions LetMoreSemicolon ∷ Patterns PatOpenRound ∷ Patterns PatAlphanumeric ∷ Patterns PatSymbolic ∷ Patterns PatStar ∷ Patterns PatOp ∷ Patterns PatOtherAtPat ∷ Patterns BarePatAlphanumeric ∷ Patterns BarePatSymbolic ∷ Patterns BarePatStar ∷ Patterns BarePatOp ∷ Patterns BarePatOtherAtPat ∷ Patterns OpPatVid ∷ Patterns OpPatQualified ∷ Patterns AfterVidNone ∷ Patterns AfterVidAs ∷ Patterns AfterVidColon ∷ Patterns AfterVidAtPat ∷ Patterns AfterVidTyNone ∷ Patterns AfterVidTyAs ∷ Patterns AfterVidTyColon ∷ Patterns AtPatMoreNone ∷ Patterns AtPatMoreAtPat ∷ Patterns AtPatMoreColon ∷ Patterns AtPatOpenRound ∷ Patterns AtPatAlphanumeric ∷ Patterns AtPatSymbolic ∷ Patterns AtPatStar ∷ Patterns AtPatOp ∷ Patterns AtPatOtherAtPat ∷ Patterns BareAtPatAlphanumeric ∷ Patterns BareAtPatSymbolic ∷ Patterns BareAtPatStar ∷ Patterns BareAtPatOp ∷ Patterns BareAtPatOtherAtPat ∷ Patterns OtherAtPatWildcard ∷ Patterns OtherAtPatConstant ∷ Patterns OtherAtPatQualified ∷ Patterns OtherAtPatOpenCurly ∷ Patterns OtherAtPatOpenSquare ∷ Patterns PatRoundCloseRound ∷ Patterns PatRoundPat ∷ Patterns PatRoundMoreCloseRound ∷ Patterns PatRoundMoreComma ∷ Patterns PatListCloseSquare ∷ Patterns PatListPat ∷ Patterns PatListMoreCloseSquare ∷ Patterns PatListMoreComma ∷ Patterns PatRowCloseCurly ∷ Patterns PatRowRow ∷ Patterns RowDots ∷ Patterns RowNumeral ∷ Patterns RowVid ∷ Patterns RowRestEquals ∷ Patterns RowRestTyped ∷ Patterns RowAsNone ∷ Patterns RowAsAs ∷ Patterns RowMoreNone ∷ Patterns RowMoreComma ∷ Types TyTup ∷ Types TyArrowNone ∷ Types TyArrowArrow ∷ Types TupCon ∷ Types TupMoreNone ∷ Types TupMoreStar ∷ Types ConATy ∷ Types ConMoreNone ∷ Types ConMoreLongTyCon ∷ Types ATyTypeVariable ∷ Types ATyLongTyCon ∷ Types ATyOpenCurly ∷ Types ATyOpenRound ∷ Types TyRowCloseCurly ∷ Types TyRowLab ∷ Types TyRowMoreCloseCurly ∷ Types TyRowMoreComma ∷ Types TyRoundCloseRound ∷ Types TyRoundComma ∷ Types TyRoundMoreCloseRound ∷ Types TyRoundMoreComma ∷ Types TvsNone ∷ Types TvsSomeTvs ∷ Types SomeTvsTypeVariable ∷ Types SomeTvsOpenRound ∷ Types TvsMoreNone ∷ Types TvsMoreComma ∷ []
 
 -- the rules of a part
 abbrev pub rules_of : Part → List Rule
@@ -127,7 +127,9 @@ rules_of MaybeOp = Declarations MaybeOpNone ∷ Declarations MaybeOpOp ∷ []
 rules_of ExnBind = Declarations ExnBindMaybeOp ∷ []
 rules_of ExnBindMore = Declarations ExnBindMoreNone ∷ Declarations ExnBindMoreAnd ∷ []
 rules_of ExnRest = Declarations ExnRestNone ∷ Declarations ExnRestOf ∷ Declarations ExnRestEquals ∷ []
-rules_of Exp = Expressions ExpOpen ∷ Expressions ExpTyp ∷ []
+rules_of Exp = Expressions ExpOpen ∷ Expressions ExpAt ∷ []
+rules_of More = Expressions MoreNone ∷ Expressions MoreAt ∷ Expressions MoreColon ∷ Expressions MoreAndalso ∷ Expressions MoreOrelse ∷ Expressions MoreHandle ∷ []
+rules_of TyRest = Expressions TyRestNone ∷ Expressions TyRestColon ∷ Expressions TyRestAndalso ∷ Expressions TyRestOrelse ∷ Expressions TyRestHandle ∷ []
 rules_of AndMore = Expressions AndMoreNone ∷ Expressions AndMoreAndalso ∷ []
 rules_of AndRest = Expressions AndRestOpen ∷ Expressions AndRestTyp ∷ []
 rules_of OrMore = Expressions OrMoreNone ∷ Expressions OrMoreOrelse ∷ []
@@ -139,7 +141,7 @@ rules_of TyMore = Expressions TyMoreNone ∷ Expressions TyMoreColon ∷ []
 rules_of Open = Expressions OpenRaise ∷ Expressions OpenIf ∷ Expressions OpenWhile ∷ Expressions OpenCase ∷ Expressions OpenFn ∷ []
 rules_of Match = Expressions MatchPat ∷ []
 rules_of MatchMore = Expressions MatchMoreNone ∷ Expressions MatchMoreBar ∷ []
-rules_of At = Expressions AtConstant ∷ Expressions AtExpVid ∷ Expressions AtOp ∷ Expressions AtOpenCurly ∷ Expressions AtHash ∷ Expressions AtOpenRound ∷ Expressions AtOpenSquare ∷ Expressions AtLet ∷ []
+rules_of At = Expressions AtNumeral ∷ Expressions AtZeroNumeral ∷ Expressions AtInteger ∷ Expressions AtWordConstant ∷ Expressions AtRealConstant ∷ Expressions AtStringConstant ∷ Expressions AtCharacterConstant ∷ Expressions AtAlphanumeric ∷ Expressions AtSymbolic ∷ Expressions AtStar ∷ Expressions AtEquals ∷ Expressions AtLongAlphanumeric ∷ Expressions AtLongSymbolic ∷ Expressions AtLongStar ∷ Expressions AtOp ∷ Expressions AtOpenCurly ∷ Expressions AtHash ∷ Expressions AtOpenRound ∷ Expressions AtOpenSquare ∷ Expressions AtLet ∷ []
 rules_of ExpRow = Expressions ExpRowCloseCurly ∷ Expressions ExpRowLab ∷ []
 rules_of ExpRowMore = Expressions ExpRowMoreCloseCurly ∷ Expressions ExpRowMoreComma ∷ []
 rules_of ExpRound = Expressions ExpRoundCloseRound ∷ Expressions ExpRoundExp ∷ []
@@ -149,14 +151,14 @@ rules_of SequenceMore = Expressions SequenceMoreCloseRound ∷ Expressions Seque
 rules_of ExpList = Expressions ExpListCloseSquare ∷ Expressions ExpListExp ∷ []
 rules_of ExpListMore = Expressions ExpListMoreCloseSquare ∷ Expressions ExpListMoreComma ∷ []
 rules_of LetMore = Expressions LetMoreEnd ∷ Expressions LetMoreSemicolon ∷ []
-rules_of Pat = Patterns PatOpenRound ∷ Patterns PatBarePat ∷ []
-rules_of BarePat = Patterns BarePatVid ∷ Patterns BarePatOp ∷ Patterns BarePatOtherAtPat ∷ []
+rules_of Pat = Patterns PatOpenRound ∷ Patterns PatAlphanumeric ∷ Patterns PatSymbolic ∷ Patterns PatStar ∷ Patterns PatOp ∷ Patterns PatOtherAtPat ∷ []
+rules_of BarePat = Patterns BarePatAlphanumeric ∷ Patterns BarePatSymbolic ∷ Patterns BarePatStar ∷ Patterns BarePatOp ∷ Patterns BarePatOtherAtPat ∷ []
 rules_of OpPat = Patterns OpPatVid ∷ Patterns OpPatQualified ∷ []
 rules_of AfterVid = Patterns AfterVidNone ∷ Patterns AfterVidAs ∷ Patterns AfterVidColon ∷ Patterns AfterVidAtPat ∷ []
 rules_of AfterVidTy = Patterns AfterVidTyNone ∷ Patterns AfterVidTyAs ∷ Patterns AfterVidTyColon ∷ []
 rules_of AtPatMore = Patterns AtPatMoreNone ∷ Patterns AtPatMoreAtPat ∷ Patterns AtPatMoreColon ∷ []
-rules_of AtPat = Patterns AtPatOpenRound ∷ Patterns AtPatBareAtPat ∷ []
-rules_of BareAtPat = Patterns BareAtPatVid ∷ Patterns BareAtPatOp ∷ Patterns BareAtPatOtherAtPat ∷ []
+rules_of AtPat = Patterns AtPatOpenRound ∷ Patterns AtPatAlphanumeric ∷ Patterns AtPatSymbolic ∷ Patterns AtPatStar ∷ Patterns AtPatOp ∷ Patterns AtPatOtherAtPat ∷ []
+rules_of BareAtPat = Patterns BareAtPatAlphanumeric ∷ Patterns BareAtPatSymbolic ∷ Patterns BareAtPatStar ∷ Patterns BareAtPatOp ∷ Patterns BareAtPatOtherAtPat ∷ []
 rules_of OtherAtPat = Patterns OtherAtPatWildcard ∷ Patterns OtherAtPatConstant ∷ Patterns OtherAtPatQualified ∷ Patterns OtherAtPatOpenCurly ∷ Patterns OtherAtPatOpenSquare ∷ []
 rules_of PatRound = Patterns PatRoundCloseRound ∷ Patterns PatRoundPat ∷ []
 rules_of PatRoundMore = Patterns PatRoundMoreCloseRound ∷ Patterns PatRoundMoreComma ∷ []

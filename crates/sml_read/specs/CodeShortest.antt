@@ -4,7 +4,7 @@ use Rattle.std.specs.Prelude.{ℕ, List, [], ◌∷◌}
 use Rattle.sml_lex.specs.declared.token.Kind.{Kind}
 use Rattle.sml_lex.specs.declared.token.Kind.TheVariants as K
 use Rattle.sml_read.specs.declared.grammar.Part.{Part}
-use Rattle.sml_read.specs.declared.grammar.Part.TheVariants.{Vid, TyCon, LongVid, Qualified, ExpVid, LongTyCon, LongStrId, Lab, Level, Constant, Start, AfterTop, AfterExp, Top, Str, Strs, Decs, Specs, StrBind, Seal, StrBindMore, Ascription, StrBindSig, StrBindWhere, StrBindAnd, FunBind, FunArg, FunBindMore, FunBindSig, FunBindWhere, FunBindAnd, StrExp, StrExpMore, StrExpSig, StrExpWhere, StrAtom, Actual, StrArg, Sig, SigAtom, SigMore, SigWhere, Where, SigBind, SigBindMore, SigBindWhere, SigBindAnd, Spec, ValSpec, ValSpecMore, TypeSpec, TypeSpecRest, TypeSpecMore, DatSpec, DatSpecRest, DatSpecMore, ConSpecs, ConSpecsMore, OfTy, ExnSpec, ExnSpecMore, StrSpec, StrSpecMore, StrSpecWhere, StrSpecAnd, Include, IncludeMore, IncludeIds, Sharing, TypeShareMore, StrShareMore, Dec, CoreDec, OpenMore, Fixity, VidMore, ValDec, ValRound, ValBind, ValMore, FunDec, FunRound, Clauses, ClausesMore, Clause, ClauseMore, AtPats, Typed, TypBind, TypBindMore, DatDec, DatRest, DatBindMore, ConBinds, ConBindsMore, MaybeOp, ExnBind, ExnBindMore, ExnRest, Exp, AndMore, AndRest, OrMore, OrRest, HandleMore, Typ, AtMore, TyMore, Open, Match, MatchMore, At, ExpRow, ExpRowMore, ExpRound, ExpRoundMore, TupleMore, SequenceMore, ExpList, ExpListMore, LetMore, Pat, BarePat, OpPat, AfterVid, AfterVidTy, AtPatMore, AtPat, BareAtPat, OtherAtPat, PatRound, PatRoundMore, PatList, PatListMore, PatRow, Row, RowRest, RowAs, RowMore, Ty, TyArrow, Tup, TupMore, Con, ConMore, ATy, TyRow, TyRowMore, TyRound, TyRoundMore, Tvs, SomeTvs, TvsMore}
+use Rattle.sml_read.specs.declared.grammar.Part.TheVariants.{Vid, TyCon, LongVid, Qualified, ExpVid, LongTyCon, LongStrId, Lab, Level, Constant, Start, AfterTop, AfterExp, Top, Str, Strs, Decs, Specs, StrBind, Seal, StrBindMore, Ascription, StrBindSig, StrBindWhere, StrBindAnd, FunBind, FunArg, FunBindMore, FunBindSig, FunBindWhere, FunBindAnd, StrExp, StrExpMore, StrExpSig, StrExpWhere, StrAtom, Actual, StrArg, Sig, SigAtom, SigMore, SigWhere, Where, SigBind, SigBindMore, SigBindWhere, SigBindAnd, Spec, ValSpec, ValSpecMore, TypeSpec, TypeSpecRest, TypeSpecMore, DatSpec, DatSpecRest, DatSpecMore, ConSpecs, ConSpecsMore, OfTy, ExnSpec, ExnSpecMore, StrSpec, StrSpecMore, StrSpecWhere, StrSpecAnd, Include, IncludeMore, IncludeIds, Sharing, TypeShareMore, StrShareMore, Dec, CoreDec, OpenMore, Fixity, VidMore, ValDec, ValRound, ValBind, ValMore, FunDec, FunRound, Clauses, ClausesMore, Clause, ClauseMore, AtPats, Typed, TypBind, TypBindMore, DatDec, DatRest, DatBindMore, ConBinds, ConBindsMore, MaybeOp, ExnBind, ExnBindMore, ExnRest, Exp, More, TyRest, AndMore, AndRest, OrMore, OrRest, HandleMore, Typ, AtMore, TyMore, Open, Match, MatchMore, At, ExpRow, ExpRowMore, ExpRound, ExpRoundMore, TupleMore, SequenceMore, ExpList, ExpListMore, LetMore, Pat, BarePat, OpPat, AfterVid, AfterVidTy, AtPatMore, AtPat, BareAtPat, OtherAtPat, PatRound, PatRoundMore, PatList, PatListMore, PatRow, Row, RowRest, RowAs, RowMore, Ty, TyArrow, Tup, TupMore, Con, ConMore, ATy, TyRow, TyRowMore, TyRound, TyRoundMore, Tvs, SomeTvs, TvsMore}
 use Rattle.sml_read.specs.declared.grammar.Rule.TheVariants.{Names, Units, Structures, Signatures, Specifications, Declarations, Expressions, Patterns, Types}
 use Rattle.sml_read.specs.declared.grammar.NameRule.TheVariants.{VidAlphanumeric, TyConAlphanumeric, LongVidAlphanumeric, QualifiedLongAlphanumeric, ExpVidEquals, LongTyConAlphanumeric, LongStrIdAlphanumeric, LabNumeral, LevelNumeral, ConstantNumeral}
 use Rattle.sml_read.specs.declared.grammar.UnitRule.TheVariants.{StartNone, AfterTopNone, AfterExpNone, TopStr, StrCoreDec, StrsNone, DecsNone, SpecsNone}
@@ -12,8 +12,8 @@ use Rattle.sml_read.specs.declared.grammar.StructureRule.TheVariants.{StrBindAlp
 use Rattle.sml_read.specs.declared.grammar.SignatureRule.TheVariants.{SigSigAtom, SigAtomAlphanumeric, SigMoreNone, SigWhereNone, WhereType, SigBindAlphanumeric, SigBindMoreNone, SigBindWhereNone, SigBindAndSigBind}
 use Rattle.sml_read.specs.declared.grammar.SpecificationRule.TheVariants.{SpecEqtype, ValSpecVid, ValSpecMoreNone, TypeSpecTvs, TypeSpecRestTypeSpecMore, TypeSpecMoreNone, DatSpecTyCon, DatSpecRestConSpecs, DatSpecMoreNone, ConSpecsVid, ConSpecsMoreNone, OfTyNone, ExnSpecVid, ExnSpecMoreNone, StrSpecAlphanumeric, StrSpecMoreNone, StrSpecWhereNone, StrSpecAndStrSpec, IncludeAlphanumeric, IncludeMoreSigMore, IncludeIdsNone, SharingLongStrId, TypeShareMoreNone, StrShareMoreNone}
 use Rattle.sml_read.specs.declared.grammar.DeclarationRule.TheVariants.{DecCoreDec, CoreDecOpen, OpenMoreNone, FixityNone, VidMoreNone, ValDecBarePat, ValRoundPatRound, ValBindPat, ValMoreNone, FunDecBareAtPat, FunRoundPatRound, ClausesAtPat, ClausesMoreNone, ClauseAtPats, ClauseMoreNone, AtPatsNone, TypedNone, TypBindTvs, TypBindMoreNone, DatDecTyCon, DatRestConBinds, DatBindMoreNone, ConBindsMaybeOp, ConBindsMoreNone, MaybeOpNone, ExnBindMaybeOp, ExnBindMoreNone, ExnRestNone}
-use Rattle.sml_read.specs.declared.grammar.ExpressionRule.TheVariants.{ExpTyp, AndMoreNone, AndRestTyp, OrMoreNone, OrRestTyp, HandleMoreNone, TypAt, AtMoreNone, TyMoreNone, OpenRaise, MatchPat, MatchMoreNone, AtConstant, ExpRowCloseCurly, ExpRowMoreCloseCurly, ExpRoundCloseRound, ExpRoundMoreCloseRound, TupleMoreCloseRound, SequenceMoreCloseRound, ExpListCloseSquare, ExpListMoreCloseSquare, LetMoreEnd}
-use Rattle.sml_read.specs.declared.grammar.PatternRule.TheVariants.{PatBarePat, BarePatVid, OpPatVid, AfterVidNone, AfterVidTyNone, AtPatMoreNone, AtPatBareAtPat, BareAtPatVid, OtherAtPatWildcard, PatRoundCloseRound, PatRoundMoreCloseRound, PatListCloseSquare, PatListMoreCloseSquare, PatRowCloseCurly, RowDots, RowRestTyped, RowAsNone, RowMoreNone}
+use Rattle.sml_read.specs.declared.grammar.ExpressionRule.TheVariants.{ExpAt, MoreNone, TyRestNone, AndMoreNone, AndRestTyp, OrMoreNone, OrRestTyp, HandleMoreNone, TypAt, AtMoreNone, TyMoreNone, OpenRaise, MatchPat, MatchMoreNone, AtNumeral, ExpRowCloseCurly, ExpRowMoreCloseCurly, ExpRoundCloseRound, ExpRoundMoreCloseRound, TupleMoreCloseRound, SequenceMoreCloseRound, ExpListCloseSquare, ExpListMoreCloseSquare, LetMoreEnd}
+use Rattle.sml_read.specs.declared.grammar.PatternRule.TheVariants.{PatAlphanumeric, BarePatAlphanumeric, OpPatVid, AfterVidNone, AfterVidTyNone, AtPatMoreNone, AtPatAlphanumeric, BareAtPatAlphanumeric, OtherAtPatWildcard, PatRoundCloseRound, PatRoundMoreCloseRound, PatListCloseSquare, PatListMoreCloseSquare, PatRowCloseCurly, RowDots, RowRestTyped, RowAsNone, RowMoreNone}
 use Rattle.sml_read.specs.declared.grammar.TypeRule.TheVariants.{TyTup, TyArrowNone, TupCon, TupMoreNone, ConATy, ConMoreNone, ATyTypeVariable, TyRowCloseCurly, TyRowMoreCloseCurly, TyRoundCloseRound, TyRoundMoreCloseRound, TvsNone, SomeTvsTypeVariable, TvsMoreNone}
 use Rattle.sml_read.specs.declared.grammar.Node.{Node}
 use Rattle.sml_read.specs.declared.grammar.Node.TheVariants.{Leaf, Inner}
@@ -96,15 +96,15 @@ shortest CoreDec = Inner (Declarations CoreDecOpen) ∷ Leaf ∷ Inner (Names Lo
 shortest OpenMore = Inner (Declarations OpenMoreNone) ∷ []
 shortest Fixity = Inner (Declarations FixityNone) ∷ []
 shortest VidMore = Inner (Declarations VidMoreNone) ∷ []
-shortest ValDec = Inner (Declarations ValDecBarePat) ∷ Inner (Patterns BarePatVid) ∷ Inner (Names VidAlphanumeric) ∷ Leaf ∷ Inner (Patterns AfterVidNone) ∷ Leaf ∷ Inner (Expressions ExpTyp) ∷ Inner (Expressions TypAt) ∷ Inner (Expressions AtConstant) ∷ Inner (Names ConstantNumeral) ∷ Leaf ∷ Inner (Expressions AtMoreNone) ∷ Inner (Expressions TyMoreNone) ∷ Inner (Expressions AndMoreNone) ∷ Inner (Expressions OrMoreNone) ∷ Inner (Expressions HandleMoreNone) ∷ Inner (Declarations ValMoreNone) ∷ []
-shortest ValRound = Inner (Declarations ValRoundPatRound) ∷ Inner (Patterns PatRoundCloseRound) ∷ Leaf ∷ Inner (Patterns AtPatMoreNone) ∷ Leaf ∷ Inner (Expressions ExpTyp) ∷ Inner (Expressions TypAt) ∷ Inner (Expressions AtConstant) ∷ Inner (Names ConstantNumeral) ∷ Leaf ∷ Inner (Expressions AtMoreNone) ∷ Inner (Expressions TyMoreNone) ∷ Inner (Expressions AndMoreNone) ∷ Inner (Expressions OrMoreNone) ∷ Inner (Expressions HandleMoreNone) ∷ Inner (Declarations ValMoreNone) ∷ []
-shortest ValBind = Inner (Declarations ValBindPat) ∷ Inner (Patterns PatBarePat) ∷ Inner (Patterns BarePatVid) ∷ Inner (Names VidAlphanumeric) ∷ Leaf ∷ Inner (Patterns AfterVidNone) ∷ Leaf ∷ Inner (Expressions ExpTyp) ∷ Inner (Expressions TypAt) ∷ Inner (Expressions AtConstant) ∷ Inner (Names ConstantNumeral) ∷ Leaf ∷ Inner (Expressions AtMoreNone) ∷ Inner (Expressions TyMoreNone) ∷ Inner (Expressions AndMoreNone) ∷ Inner (Expressions OrMoreNone) ∷ Inner (Expressions HandleMoreNone) ∷ Inner (Declarations ValMoreNone) ∷ []
+shortest ValDec = Inner (Declarations ValDecBarePat) ∷ Inner (Patterns BarePatAlphanumeric) ∷ Leaf ∷ Inner (Patterns AfterVidNone) ∷ Leaf ∷ Inner (Expressions ExpAt) ∷ Inner (Expressions AtNumeral) ∷ Leaf ∷ Inner (Expressions MoreNone) ∷ Inner (Declarations ValMoreNone) ∷ []
+shortest ValRound = Inner (Declarations ValRoundPatRound) ∷ Inner (Patterns PatRoundCloseRound) ∷ Leaf ∷ Inner (Patterns AtPatMoreNone) ∷ Leaf ∷ Inner (Expressions ExpAt) ∷ Inner (Expressions AtNumeral) ∷ Leaf ∷ Inner (Expressions MoreNone) ∷ Inner (Declarations ValMoreNone) ∷ []
+shortest ValBind = Inner (Declarations ValBindPat) ∷ Inner (Patterns PatAlphanumeric) ∷ Leaf ∷ Inner (Patterns AfterVidNone) ∷ Leaf ∷ Inner (Expressions ExpAt) ∷ Inner (Expressions AtNumeral) ∷ Leaf ∷ Inner (Expressions MoreNone) ∷ Inner (Declarations ValMoreNone) ∷ []
 shortest ValMore = Inner (Declarations ValMoreNone) ∷ []
-shortest FunDec = Inner (Declarations FunDecBareAtPat) ∷ Inner (Patterns BareAtPatVid) ∷ Inner (Names VidAlphanumeric) ∷ Leaf ∷ Inner (Declarations ClauseAtPats) ∷ Inner (Declarations AtPatsNone) ∷ Inner (Declarations TypedNone) ∷ Leaf ∷ Inner (Expressions ExpTyp) ∷ Inner (Expressions TypAt) ∷ Inner (Expressions AtConstant) ∷ Inner (Names ConstantNumeral) ∷ Leaf ∷ Inner (Expressions AtMoreNone) ∷ Inner (Expressions TyMoreNone) ∷ Inner (Expressions AndMoreNone) ∷ Inner (Expressions OrMoreNone) ∷ Inner (Expressions HandleMoreNone) ∷ Inner (Declarations ClauseMoreNone) ∷ Inner (Declarations ClausesMoreNone) ∷ []
-shortest FunRound = Inner (Declarations FunRoundPatRound) ∷ Inner (Patterns PatRoundCloseRound) ∷ Leaf ∷ Inner (Declarations ClauseAtPats) ∷ Inner (Declarations AtPatsNone) ∷ Inner (Declarations TypedNone) ∷ Leaf ∷ Inner (Expressions ExpTyp) ∷ Inner (Expressions TypAt) ∷ Inner (Expressions AtConstant) ∷ Inner (Names ConstantNumeral) ∷ Leaf ∷ Inner (Expressions AtMoreNone) ∷ Inner (Expressions TyMoreNone) ∷ Inner (Expressions AndMoreNone) ∷ Inner (Expressions OrMoreNone) ∷ Inner (Expressions HandleMoreNone) ∷ Inner (Declarations ClauseMoreNone) ∷ Inner (Declarations ClausesMoreNone) ∷ []
-shortest Clauses = Inner (Declarations ClausesAtPat) ∷ Inner (Patterns AtPatBareAtPat) ∷ Inner (Patterns BareAtPatVid) ∷ Inner (Names VidAlphanumeric) ∷ Leaf ∷ Inner (Declarations ClauseAtPats) ∷ Inner (Declarations AtPatsNone) ∷ Inner (Declarations TypedNone) ∷ Leaf ∷ Inner (Expressions ExpTyp) ∷ Inner (Expressions TypAt) ∷ Inner (Expressions AtConstant) ∷ Inner (Names ConstantNumeral) ∷ Leaf ∷ Inner (Expressions AtMoreNone) ∷ Inner (Expressions TyMoreNone) ∷ Inner (Expressions AndMoreNone) ∷ Inner (Expressions OrMoreNone) ∷ Inner (Expressions HandleMoreNone) ∷ Inner (Declarations ClauseMoreNone) ∷ []
+shortest FunDec = Inner (Declarations FunDecBareAtPat) ∷ Inner (Patterns BareAtPatAlphanumeric) ∷ Leaf ∷ Inner (Declarations ClauseAtPats) ∷ Inner (Declarations AtPatsNone) ∷ Inner (Declarations TypedNone) ∷ Leaf ∷ Inner (Expressions ExpAt) ∷ Inner (Expressions AtNumeral) ∷ Leaf ∷ Inner (Expressions MoreNone) ∷ Inner (Declarations ClauseMoreNone) ∷ Inner (Declarations ClausesMoreNone) ∷ []
+shortest FunRound = Inner (Declarations FunRoundPatRound) ∷ Inner (Patterns PatRoundCloseRound) ∷ Leaf ∷ Inner (Declarations ClauseAtPats) ∷ Inner (Declarations AtPatsNone) ∷ Inner (Declarations TypedNone) ∷ Leaf ∷ Inner (Expressions ExpAt) ∷ Inner (Expressions AtNumeral) ∷ Leaf ∷ Inner (Expressions MoreNone) ∷ Inner (Declarations ClauseMoreNone) ∷ Inner (Declarations ClausesMoreNone) ∷ []
+shortest Clauses = Inner (Declarations ClausesAtPat) ∷ Inner (Patterns AtPatAlphanumeric) ∷ Leaf ∷ Inner (Declarations ClauseAtPats) ∷ Inner (Declarations AtPatsNone) ∷ Inner (Declarations TypedNone) ∷ Leaf ∷ Inner (Expressions ExpAt) ∷ Inner (Expressions AtNumeral) ∷ Leaf ∷ Inner (Expressions MoreNone) ∷ Inner (Declarations ClauseMoreNone) ∷ []
 shortest ClausesMore = Inner (Declarations ClausesMoreNone) ∷ []
-shortest Clause = Inner (Declarations ClauseAtPats) ∷ Inner (Declarations AtPatsNone) ∷ Inner (Declarations TypedNone) ∷ Leaf ∷ Inner (Expressions ExpTyp) ∷ Inner (Expressions TypAt) ∷ Inner (Expressions AtConstant) ∷ Inner (Names ConstantNumeral) ∷ Leaf ∷ Inner (Expressions AtMoreNone) ∷ Inner (Expressions TyMoreNone) ∷ Inner (Expressions AndMoreNone) ∷ Inner (Expressions OrMoreNone) ∷ Inner (Expressions HandleMoreNone) ∷ []
+shortest Clause = Inner (Declarations ClauseAtPats) ∷ Inner (Declarations AtPatsNone) ∷ Inner (Declarations TypedNone) ∷ Leaf ∷ Inner (Expressions ExpAt) ∷ Inner (Expressions AtNumeral) ∷ Leaf ∷ Inner (Expressions MoreNone) ∷ []
 shortest ClauseMore = Inner (Declarations ClauseMoreNone) ∷ []
 shortest AtPats = Inner (Declarations AtPatsNone) ∷ []
 shortest Typed = Inner (Declarations TypedNone) ∷ []
@@ -119,19 +119,21 @@ shortest MaybeOp = Inner (Declarations MaybeOpNone) ∷ []
 shortest ExnBind = Inner (Declarations ExnBindMaybeOp) ∷ Inner (Declarations MaybeOpNone) ∷ Inner (Names VidAlphanumeric) ∷ Leaf ∷ Inner (Declarations ExnRestNone) ∷ []
 shortest ExnBindMore = Inner (Declarations ExnBindMoreNone) ∷ []
 shortest ExnRest = Inner (Declarations ExnRestNone) ∷ []
-shortest Exp = Inner (Expressions ExpTyp) ∷ Inner (Expressions TypAt) ∷ Inner (Expressions AtConstant) ∷ Inner (Names ConstantNumeral) ∷ Leaf ∷ Inner (Expressions AtMoreNone) ∷ Inner (Expressions TyMoreNone) ∷ Inner (Expressions AndMoreNone) ∷ Inner (Expressions OrMoreNone) ∷ Inner (Expressions HandleMoreNone) ∷ []
+shortest Exp = Inner (Expressions ExpAt) ∷ Inner (Expressions AtNumeral) ∷ Leaf ∷ Inner (Expressions MoreNone) ∷ []
+shortest More = Inner (Expressions MoreNone) ∷ []
+shortest TyRest = Inner (Expressions TyRestNone) ∷ []
 shortest AndMore = Inner (Expressions AndMoreNone) ∷ []
-shortest AndRest = Inner (Expressions AndRestTyp) ∷ Inner (Expressions TypAt) ∷ Inner (Expressions AtConstant) ∷ Inner (Names ConstantNumeral) ∷ Leaf ∷ Inner (Expressions AtMoreNone) ∷ Inner (Expressions TyMoreNone) ∷ Inner (Expressions AndMoreNone) ∷ []
+shortest AndRest = Inner (Expressions AndRestTyp) ∷ Inner (Expressions TypAt) ∷ Inner (Expressions AtNumeral) ∷ Leaf ∷ Inner (Expressions AtMoreNone) ∷ Inner (Expressions TyMoreNone) ∷ Inner (Expressions AndMoreNone) ∷ []
 shortest OrMore = Inner (Expressions OrMoreNone) ∷ []
-shortest OrRest = Inner (Expressions OrRestTyp) ∷ Inner (Expressions TypAt) ∷ Inner (Expressions AtConstant) ∷ Inner (Names ConstantNumeral) ∷ Leaf ∷ Inner (Expressions AtMoreNone) ∷ Inner (Expressions TyMoreNone) ∷ Inner (Expressions AndMoreNone) ∷ Inner (Expressions OrMoreNone) ∷ []
+shortest OrRest = Inner (Expressions OrRestTyp) ∷ Inner (Expressions TypAt) ∷ Inner (Expressions AtNumeral) ∷ Leaf ∷ Inner (Expressions AtMoreNone) ∷ Inner (Expressions TyMoreNone) ∷ Inner (Expressions AndMoreNone) ∷ Inner (Expressions OrMoreNone) ∷ []
 shortest HandleMore = Inner (Expressions HandleMoreNone) ∷ []
-shortest Typ = Inner (Expressions TypAt) ∷ Inner (Expressions AtConstant) ∷ Inner (Names ConstantNumeral) ∷ Leaf ∷ Inner (Expressions AtMoreNone) ∷ Inner (Expressions TyMoreNone) ∷ []
+shortest Typ = Inner (Expressions TypAt) ∷ Inner (Expressions AtNumeral) ∷ Leaf ∷ Inner (Expressions AtMoreNone) ∷ Inner (Expressions TyMoreNone) ∷ []
 shortest AtMore = Inner (Expressions AtMoreNone) ∷ []
 shortest TyMore = Inner (Expressions TyMoreNone) ∷ []
-shortest Open = Inner (Expressions OpenRaise) ∷ Leaf ∷ Inner (Expressions ExpTyp) ∷ Inner (Expressions TypAt) ∷ Inner (Expressions AtConstant) ∷ Inner (Names ConstantNumeral) ∷ Leaf ∷ Inner (Expressions AtMoreNone) ∷ Inner (Expressions TyMoreNone) ∷ Inner (Expressions AndMoreNone) ∷ Inner (Expressions OrMoreNone) ∷ Inner (Expressions HandleMoreNone) ∷ []
-shortest Match = Inner (Expressions MatchPat) ∷ Inner (Patterns PatBarePat) ∷ Inner (Patterns BarePatVid) ∷ Inner (Names VidAlphanumeric) ∷ Leaf ∷ Inner (Patterns AfterVidNone) ∷ Leaf ∷ Inner (Expressions ExpTyp) ∷ Inner (Expressions TypAt) ∷ Inner (Expressions AtConstant) ∷ Inner (Names ConstantNumeral) ∷ Leaf ∷ Inner (Expressions AtMoreNone) ∷ Inner (Expressions TyMoreNone) ∷ Inner (Expressions AndMoreNone) ∷ Inner (Expressions OrMoreNone) ∷ Inner (Expressions HandleMoreNone) ∷ Inner (Expressions MatchMoreNone) ∷ []
+shortest Open = Inner (Expressions OpenRaise) ∷ Leaf ∷ Inner (Expressions ExpAt) ∷ Inner (Expressions AtNumeral) ∷ Leaf ∷ Inner (Expressions MoreNone) ∷ []
+shortest Match = Inner (Expressions MatchPat) ∷ Inner (Patterns PatAlphanumeric) ∷ Leaf ∷ Inner (Patterns AfterVidNone) ∷ Leaf ∷ Inner (Expressions ExpAt) ∷ Inner (Expressions AtNumeral) ∷ Leaf ∷ Inner (Expressions MoreNone) ∷ Inner (Expressions MatchMoreNone) ∷ []
 shortest MatchMore = Inner (Expressions MatchMoreNone) ∷ []
-shortest At = Inner (Expressions AtConstant) ∷ Inner (Names ConstantNumeral) ∷ Leaf ∷ []
+shortest At = Inner (Expressions AtNumeral) ∷ Leaf ∷ []
 shortest ExpRow = Inner (Expressions ExpRowCloseCurly) ∷ Leaf ∷ []
 shortest ExpRowMore = Inner (Expressions ExpRowMoreCloseCurly) ∷ Leaf ∷ []
 shortest ExpRound = Inner (Expressions ExpRoundCloseRound) ∷ Leaf ∷ []
@@ -141,14 +143,14 @@ shortest SequenceMore = Inner (Expressions SequenceMoreCloseRound) ∷ Leaf ∷ 
 shortest ExpList = Inner (Expressions ExpListCloseSquare) ∷ Leaf ∷ []
 shortest ExpListMore = Inner (Expressions ExpListMoreCloseSquare) ∷ Leaf ∷ []
 shortest LetMore = Inner (Expressions LetMoreEnd) ∷ Leaf ∷ []
-shortest Pat = Inner (Patterns PatBarePat) ∷ Inner (Patterns BarePatVid) ∷ Inner (Names VidAlphanumeric) ∷ Leaf ∷ Inner (Patterns AfterVidNone) ∷ []
-shortest BarePat = Inner (Patterns BarePatVid) ∷ Inner (Names VidAlphanumeric) ∷ Leaf ∷ Inner (Patterns AfterVidNone) ∷ []
+shortest Pat = Inner (Patterns PatAlphanumeric) ∷ Leaf ∷ Inner (Patterns AfterVidNone) ∷ []
+shortest BarePat = Inner (Patterns BarePatAlphanumeric) ∷ Leaf ∷ Inner (Patterns AfterVidNone) ∷ []
 shortest OpPat = Inner (Patterns OpPatVid) ∷ Inner (Names VidAlphanumeric) ∷ Leaf ∷ Inner (Patterns AfterVidNone) ∷ []
 shortest AfterVid = Inner (Patterns AfterVidNone) ∷ []
 shortest AfterVidTy = Inner (Patterns AfterVidTyNone) ∷ []
 shortest AtPatMore = Inner (Patterns AtPatMoreNone) ∷ []
-shortest AtPat = Inner (Patterns AtPatBareAtPat) ∷ Inner (Patterns BareAtPatVid) ∷ Inner (Names VidAlphanumeric) ∷ Leaf ∷ []
-shortest BareAtPat = Inner (Patterns BareAtPatVid) ∷ Inner (Names VidAlphanumeric) ∷ Leaf ∷ []
+shortest AtPat = Inner (Patterns AtPatAlphanumeric) ∷ Leaf ∷ []
+shortest BareAtPat = Inner (Patterns BareAtPatAlphanumeric) ∷ Leaf ∷ []
 shortest OtherAtPat = Inner (Patterns OtherAtPatWildcard) ∷ Leaf ∷ []
 shortest PatRound = Inner (Patterns PatRoundCloseRound) ∷ Leaf ∷ []
 shortest PatRoundMore = Inner (Patterns PatRoundMoreCloseRound) ∷ Leaf ∷ []
@@ -276,6 +278,8 @@ shortest_text ExnBind = K.Alphanumeric ∷ []
 shortest_text ExnBindMore = []
 shortest_text ExnRest = []
 shortest_text Exp = K.Numeral ∷ []
+shortest_text More = []
+shortest_text TyRest = []
 shortest_text AndMore = []
 shortest_text AndRest = K.Numeral ∷ []
 shortest_text OrMore = []
@@ -432,6 +436,8 @@ continuations ExnBind = K.Alphanumeric ∷ K.Symbolic ∷ K.Star ∷ K.LongAlpha
 continuations ExnBindMore = K.Alphanumeric ∷ K.Symbolic ∷ K.Star ∷ K.LongAlphanumeric ∷ K.LongSymbolic ∷ K.AndWord ∷ K.OfWord ∷ K.Equals ∷ K.Arrow ∷ []
 continuations ExnRest = K.Alphanumeric ∷ K.Symbolic ∷ K.Star ∷ K.LongAlphanumeric ∷ K.LongSymbolic ∷ K.OfWord ∷ K.Equals ∷ K.Arrow ∷ []
 continuations Exp = K.Alphanumeric ∷ K.Symbolic ∷ K.Star ∷ K.LongAlphanumeric ∷ K.LongSymbolic ∷ K.LongStar ∷ K.Numeral ∷ K.ZeroNumeral ∷ K.Integer ∷ K.WordConstant ∷ K.RealConstant ∷ K.StringConstant ∷ K.CharacterConstant ∷ K.AndalsoWord ∷ K.HandleWord ∷ K.LetWord ∷ K.OpWord ∷ K.OrelseWord ∷ K.OpenRound ∷ K.OpenSquare ∷ K.OpenCurly ∷ K.Colon ∷ K.Bar ∷ K.Equals ∷ K.Arrow ∷ K.Hash ∷ []
+continuations More = K.Alphanumeric ∷ K.Symbolic ∷ K.Star ∷ K.LongAlphanumeric ∷ K.LongSymbolic ∷ K.LongStar ∷ K.Numeral ∷ K.ZeroNumeral ∷ K.Integer ∷ K.WordConstant ∷ K.RealConstant ∷ K.StringConstant ∷ K.CharacterConstant ∷ K.AndalsoWord ∷ K.HandleWord ∷ K.LetWord ∷ K.OpWord ∷ K.OrelseWord ∷ K.OpenRound ∷ K.OpenSquare ∷ K.OpenCurly ∷ K.Colon ∷ K.Bar ∷ K.Equals ∷ K.Arrow ∷ K.Hash ∷ []
+continuations TyRest = K.Alphanumeric ∷ K.Symbolic ∷ K.Star ∷ K.LongAlphanumeric ∷ K.LongSymbolic ∷ K.LongStar ∷ K.Numeral ∷ K.ZeroNumeral ∷ K.Integer ∷ K.WordConstant ∷ K.RealConstant ∷ K.StringConstant ∷ K.CharacterConstant ∷ K.AndalsoWord ∷ K.HandleWord ∷ K.LetWord ∷ K.OpWord ∷ K.OrelseWord ∷ K.OpenRound ∷ K.OpenSquare ∷ K.OpenCurly ∷ K.Colon ∷ K.Bar ∷ K.Equals ∷ K.Arrow ∷ K.Hash ∷ []
 continuations AndMore = K.Alphanumeric ∷ K.Symbolic ∷ K.Star ∷ K.LongAlphanumeric ∷ K.LongSymbolic ∷ K.LongStar ∷ K.Numeral ∷ K.ZeroNumeral ∷ K.Integer ∷ K.WordConstant ∷ K.RealConstant ∷ K.StringConstant ∷ K.CharacterConstant ∷ K.AndalsoWord ∷ K.HandleWord ∷ K.LetWord ∷ K.OpWord ∷ K.OrelseWord ∷ K.OpenRound ∷ K.OpenSquare ∷ K.OpenCurly ∷ K.Colon ∷ K.Bar ∷ K.Equals ∷ K.Arrow ∷ K.Hash ∷ []
 continuations AndRest = K.Alphanumeric ∷ K.Symbolic ∷ K.Star ∷ K.LongAlphanumeric ∷ K.LongSymbolic ∷ K.LongStar ∷ K.Numeral ∷ K.ZeroNumeral ∷ K.Integer ∷ K.WordConstant ∷ K.RealConstant ∷ K.StringConstant ∷ K.CharacterConstant ∷ K.AndalsoWord ∷ K.HandleWord ∷ K.LetWord ∷ K.OpWord ∷ K.OrelseWord ∷ K.OpenRound ∷ K.OpenSquare ∷ K.OpenCurly ∷ K.Colon ∷ K.Bar ∷ K.Equals ∷ K.Arrow ∷ K.Hash ∷ []
 continuations OrMore = K.Alphanumeric ∷ K.Symbolic ∷ K.Star ∷ K.LongAlphanumeric ∷ K.LongSymbolic ∷ K.LongStar ∷ K.Numeral ∷ K.ZeroNumeral ∷ K.Integer ∷ K.WordConstant ∷ K.RealConstant ∷ K.StringConstant ∷ K.CharacterConstant ∷ K.AndalsoWord ∷ K.HandleWord ∷ K.LetWord ∷ K.OpWord ∷ K.OrelseWord ∷ K.OpenRound ∷ K.OpenSquare ∷ K.OpenCurly ∷ K.Colon ∷ K.Bar ∷ K.Equals ∷ K.Arrow ∷ K.Hash ∷ []
@@ -498,7 +504,7 @@ weight LongStrId = 1
 weight Lab = 2
 weight Level = 1
 weight Constant = 1
-weight Start = 7
+weight Start = 4
 weight AfterTop = 4
 weight AfterExp = 1
 weight Top = 3
@@ -565,16 +571,16 @@ weight OpenMore = 2
 weight Fixity = 2
 weight VidMore = 2
 weight ValDec = 4
-weight ValRound = 6
-weight ValBind = 5
+weight ValRound = 5
+weight ValBind = 4
 weight ValMore = 1
 weight FunDec = 4
-weight FunRound = 6
-weight Clauses = 5
+weight FunRound = 5
+weight Clauses = 4
 weight ClausesMore = 1
-weight Clause = 7
+weight Clause = 6
 weight ClauseMore = 1
-weight AtPats = 5
+weight AtPats = 4
 weight Typed = 1
 weight TypBind = 4
 weight TypBindMore = 1
@@ -587,40 +593,42 @@ weight MaybeOp = 1
 weight ExnBind = 3
 weight ExnBindMore = 1
 weight ExnRest = 1
-weight Exp = 6
+weight Exp = 2
+weight More = 2
+weight TyRest = 1
 weight AndMore = 1
-weight AndRest = 6
+weight AndRest = 3
 weight OrMore = 1
-weight OrRest = 6
+weight OrRest = 3
 weight HandleMore = 1
-weight Typ = 5
-weight AtMore = 5
+weight Typ = 2
+weight AtMore = 2
 weight TyMore = 1
 weight Open = 1
-weight Match = 5
+weight Match = 4
 weight MatchMore = 1
-weight At = 4
+weight At = 1
 weight ExpRow = 3
 weight ExpRowMore = 1
-weight ExpRound = 7
+weight ExpRound = 3
 weight ExpRoundMore = 1
 weight TupleMore = 1
 weight SequenceMore = 1
-weight ExpList = 7
+weight ExpList = 3
 weight ExpListMore = 1
 weight LetMore = 1
-weight Pat = 4
+weight Pat = 3
 weight BarePat = 3
 weight OpPat = 2
-weight AfterVid = 5
+weight AfterVid = 4
 weight AfterVidTy = 1
-weight AtPatMore = 5
-weight AtPat = 4
+weight AtPatMore = 4
+weight AtPat = 3
 weight BareAtPat = 3
 weight OtherAtPat = 2
-weight PatRound = 5
+weight PatRound = 4
 weight PatRoundMore = 1
-weight PatList = 5
+weight PatList = 4
 weight PatListMore = 1
 weight PatRow = 3
 weight Row = 2

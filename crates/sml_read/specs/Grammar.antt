@@ -2,7 +2,7 @@
 -- The grammar, as a table of rules: what stands for a part, from the left, by each of its rules.
 use Rattle.std.specs.Prelude.{List, [], ◌∷◌}
 use Rattle.sml_lex.specs.declared.token.Kind.TheVariants as K
-use Rattle.sml_read.specs.declared.grammar.Part.TheVariants.{Vid, TyCon, LongVid, Qualified, ExpVid, LongTyCon, LongStrId, Lab, Level, Constant, Start, AfterTop, AfterExp, Top, Str, Strs, Decs, Specs, StrBind, Seal, StrBindMore, Ascription, StrBindSig, StrBindWhere, StrBindAnd, FunBind, FunArg, FunBindMore, FunBindSig, FunBindWhere, FunBindAnd, StrExp, StrExpMore, StrExpSig, StrExpWhere, StrAtom, Actual, StrArg, Sig, SigAtom, SigMore, SigWhere, Where, SigBind, SigBindMore, SigBindWhere, SigBindAnd, Spec, ValSpec, ValSpecMore, TypeSpec, TypeSpecRest, TypeSpecMore, DatSpec, DatSpecRest, DatSpecMore, ConSpecs, ConSpecsMore, OfTy, ExnSpec, ExnSpecMore, StrSpec, StrSpecMore, StrSpecWhere, StrSpecAnd, Include, IncludeMore, IncludeIds, Sharing, TypeShareMore, StrShareMore, Dec, CoreDec, OpenMore, Fixity, VidMore, ValDec, ValRound, ValBind, ValMore, FunDec, FunRound, Clauses, ClausesMore, Clause, ClauseMore, AtPats, Typed, TypBind, TypBindMore, DatDec, DatRest, DatBindMore, ConBinds, ConBindsMore, MaybeOp, ExnBind, ExnBindMore, ExnRest, Exp, AndMore, AndRest, OrMore, OrRest, HandleMore, Typ, AtMore, TyMore, Open, Match, MatchMore, At, ExpRow, ExpRowMore, ExpRound, ExpRoundMore, TupleMore, SequenceMore, ExpList, ExpListMore, LetMore, Pat, BarePat, OpPat, AfterVid, AfterVidTy, AtPatMore, AtPat, BareAtPat, OtherAtPat, PatRound, PatRoundMore, PatList, PatListMore, PatRow, Row, RowRest, RowAs, RowMore, Ty, TyArrow, Tup, TupMore, Con, ConMore, ATy, TyRow, TyRowMore, TyRound, TyRoundMore, Tvs, SomeTvs, TvsMore}
+use Rattle.sml_read.specs.declared.grammar.Part.TheVariants.{Vid, TyCon, LongVid, Qualified, ExpVid, LongTyCon, LongStrId, Lab, Level, Constant, Start, AfterTop, AfterExp, Top, Str, Strs, Decs, Specs, StrBind, Seal, StrBindMore, Ascription, StrBindSig, StrBindWhere, StrBindAnd, FunBind, FunArg, FunBindMore, FunBindSig, FunBindWhere, FunBindAnd, StrExp, StrExpMore, StrExpSig, StrExpWhere, StrAtom, Actual, StrArg, Sig, SigAtom, SigMore, SigWhere, Where, SigBind, SigBindMore, SigBindWhere, SigBindAnd, Spec, ValSpec, ValSpecMore, TypeSpec, TypeSpecRest, TypeSpecMore, DatSpec, DatSpecRest, DatSpecMore, ConSpecs, ConSpecsMore, OfTy, ExnSpec, ExnSpecMore, StrSpec, StrSpecMore, StrSpecWhere, StrSpecAnd, Include, IncludeMore, IncludeIds, Sharing, TypeShareMore, StrShareMore, Dec, CoreDec, OpenMore, Fixity, VidMore, ValDec, ValRound, ValBind, ValMore, FunDec, FunRound, Clauses, ClausesMore, Clause, ClauseMore, AtPats, Typed, TypBind, TypBindMore, DatDec, DatRest, DatBindMore, ConBinds, ConBindsMore, MaybeOp, ExnBind, ExnBindMore, ExnRest, Exp, More, TyRest, AndMore, AndRest, OrMore, OrRest, HandleMore, Typ, AtMore, TyMore, Open, Match, MatchMore, At, ExpRow, ExpRowMore, ExpRound, ExpRoundMore, TupleMore, SequenceMore, ExpList, ExpListMore, LetMore, Pat, BarePat, OpPat, AfterVid, AfterVidTy, AtPatMore, AtPat, BareAtPat, OtherAtPat, PatRound, PatRoundMore, PatList, PatListMore, PatRow, Row, RowRest, RowAs, RowMore, Ty, TyArrow, Tup, TupMore, Con, ConMore, ATy, TyRow, TyRowMore, TyRound, TyRoundMore, Tvs, SomeTvs, TvsMore}
 use Rattle.sml_read.specs.declared.grammar.Symbol.{Symbol}
 use Rattle.sml_read.specs.declared.grammar.Symbol.TheVariants.{Word, Of}
 use Rattle.sml_read.specs.declared.grammar.Rule.{Rule}
@@ -13,8 +13,8 @@ use Rattle.sml_read.specs.declared.grammar.StructureRule.TheVariants.{StrBindAlp
 use Rattle.sml_read.specs.declared.grammar.SignatureRule.TheVariants.{SigSigAtom, SigAtomSig, SigAtomAlphanumeric, SigMoreNone, SigMoreWhere, SigWhereNone, SigWhereWhere, SigWhereAnd, WhereType, SigBindAlphanumeric, SigBindMoreNone, SigBindMoreWhere, SigBindMoreAnd, SigBindWhereNone, SigBindWhereWhere, SigBindWhereAnd, SigBindAndWhere, SigBindAndSigBind}
 use Rattle.sml_read.specs.declared.grammar.SpecificationRule.TheVariants.{SpecVal, SpecType, SpecEqtype, SpecDatatype, SpecException, SpecStructure, SpecInclude, SpecSharing, ValSpecVid, ValSpecMoreNone, ValSpecMoreAnd, TypeSpecTvs, TypeSpecRestEquals, TypeSpecRestTypeSpecMore, TypeSpecMoreNone, TypeSpecMoreAnd, DatSpecSomeTvs, DatSpecTyCon, DatSpecRestDatatype, DatSpecRestConSpecs, DatSpecMoreNone, DatSpecMoreAnd, ConSpecsVid, ConSpecsMoreNone, ConSpecsMoreBar, OfTyNone, OfTyOf, ExnSpecVid, ExnSpecMoreNone, ExnSpecMoreAnd, StrSpecAlphanumeric, StrSpecMoreNone, StrSpecMoreWhere, StrSpecMoreAnd, StrSpecWhereNone, StrSpecWhereWhere, StrSpecWhereAnd, StrSpecAndWhere, StrSpecAndStrSpec, IncludeSig, IncludeAlphanumeric, IncludeMoreSigMore, IncludeMoreAlphanumeric, IncludeIdsNone, IncludeIdsAlphanumeric, SharingType, SharingLongStrId, TypeShareMoreNone, TypeShareMoreEquals, StrShareMoreNone, StrShareMoreEquals}
 use Rattle.sml_read.specs.declared.grammar.DeclarationRule.TheVariants.{DecCoreDec, DecLocal, CoreDecVal, CoreDecFun, CoreDecType, CoreDecDatatype, CoreDecException, CoreDecOpen, CoreDecInfix, CoreDecInfixr, CoreDecNonfix, OpenMoreNone, OpenMoreLongStrId, FixityNone, FixityLevel, VidMoreNone, VidMoreVid, ValDecTypeVariable, ValDecOpenRound, ValDecRec, ValDecBarePat, ValRoundTypeVariable, ValRoundPatRound, ValBindRec, ValBindPat, ValMoreNone, ValMoreAnd, FunDecTypeVariable, FunDecOpenRound, FunDecBareAtPat, FunRoundTypeVariable, FunRoundPatRound, ClausesAtPat, ClausesMoreNone, ClausesMoreAnd, ClauseAtPats, ClauseMoreNone, ClauseMoreBar, AtPatsNone, AtPatsAtPat, TypedNone, TypedColon, TypBindTvs, TypBindMoreNone, TypBindMoreAnd, DatDecSomeTvs, DatDecTyCon, DatRestDatatype, DatRestConBinds, DatBindMoreNone, DatBindMoreAnd, DatBindMoreWithtype, ConBindsMaybeOp, ConBindsMoreNone, ConBindsMoreBar, MaybeOpNone, MaybeOpOp, ExnBindMaybeOp, ExnBindMoreNone, ExnBindMoreAnd, ExnRestNone, ExnRestOf, ExnRestEquals}
-use Rattle.sml_read.specs.declared.grammar.ExpressionRule.TheVariants.{ExpOpen, ExpTyp, AndMoreNone, AndMoreAndalso, AndRestOpen, AndRestTyp, OrMoreNone, OrMoreOrelse, OrRestOpen, OrRestTyp, HandleMoreNone, HandleMoreHandle, TypAt, AtMoreNone, AtMoreAt, TyMoreNone, TyMoreColon, OpenRaise, OpenIf, OpenWhile, OpenCase, OpenFn, MatchPat, MatchMoreNone, MatchMoreBar, AtConstant, AtExpVid, AtOp, AtOpenCurly, AtHash, AtOpenRound, AtOpenSquare, AtLet, ExpRowCloseCurly, ExpRowLab, ExpRowMoreCloseCurly, ExpRowMoreComma, ExpRoundCloseRound, ExpRoundExp, ExpRoundMoreCloseRound, ExpRoundMoreComma, ExpRoundMoreSemicolon, TupleMoreCloseRound, TupleMoreComma, SequenceMoreCloseRound, SequenceMoreSemicolon, ExpListCloseSquare, ExpListExp, ExpListMoreCloseSquare, ExpListMoreComma, LetMoreEnd, LetMoreSemicolon}
-use Rattle.sml_read.specs.declared.grammar.PatternRule.TheVariants.{PatOpenRound, PatBarePat, BarePatVid, BarePatOp, BarePatOtherAtPat, OpPatVid, OpPatQualified, AfterVidNone, AfterVidAs, AfterVidColon, AfterVidAtPat, AfterVidTyNone, AfterVidTyAs, AfterVidTyColon, AtPatMoreNone, AtPatMoreAtPat, AtPatMoreColon, AtPatOpenRound, AtPatBareAtPat, BareAtPatVid, BareAtPatOp, BareAtPatOtherAtPat, OtherAtPatWildcard, OtherAtPatConstant, OtherAtPatQualified, OtherAtPatOpenCurly, OtherAtPatOpenSquare, PatRoundCloseRound, PatRoundPat, PatRoundMoreCloseRound, PatRoundMoreComma, PatListCloseSquare, PatListPat, PatListMoreCloseSquare, PatListMoreComma, PatRowCloseCurly, PatRowRow, RowDots, RowNumeral, RowVid, RowRestEquals, RowRestTyped, RowAsNone, RowAsAs, RowMoreNone, RowMoreComma}
+use Rattle.sml_read.specs.declared.grammar.ExpressionRule.TheVariants.{ExpOpen, ExpAt, MoreNone, MoreAt, MoreColon, MoreAndalso, MoreOrelse, MoreHandle, TyRestNone, TyRestColon, TyRestAndalso, TyRestOrelse, TyRestHandle, AndMoreNone, AndMoreAndalso, AndRestOpen, AndRestTyp, OrMoreNone, OrMoreOrelse, OrRestOpen, OrRestTyp, HandleMoreNone, HandleMoreHandle, TypAt, AtMoreNone, AtMoreAt, TyMoreNone, TyMoreColon, OpenRaise, OpenIf, OpenWhile, OpenCase, OpenFn, MatchPat, MatchMoreNone, MatchMoreBar, AtNumeral, AtZeroNumeral, AtInteger, AtWordConstant, AtRealConstant, AtStringConstant, AtCharacterConstant, AtAlphanumeric, AtSymbolic, AtStar, AtEquals, AtLongAlphanumeric, AtLongSymbolic, AtLongStar, AtOp, AtOpenCurly, AtHash, AtOpenRound, AtOpenSquare, AtLet, ExpRowCloseCurly, ExpRowLab, ExpRowMoreCloseCurly, ExpRowMoreComma, ExpRoundCloseRound, ExpRoundExp, ExpRoundMoreCloseRound, ExpRoundMoreComma, ExpRoundMoreSemicolon, TupleMoreCloseRound, TupleMoreComma, SequenceMoreCloseRound, SequenceMoreSemicolon, ExpListCloseSquare, ExpListExp, ExpListMoreCloseSquare, ExpListMoreComma, LetMoreEnd, LetMoreSemicolon}
+use Rattle.sml_read.specs.declared.grammar.PatternRule.TheVariants.{PatOpenRound, PatAlphanumeric, PatSymbolic, PatStar, PatOp, PatOtherAtPat, BarePatAlphanumeric, BarePatSymbolic, BarePatStar, BarePatOp, BarePatOtherAtPat, OpPatVid, OpPatQualified, AfterVidNone, AfterVidAs, AfterVidColon, AfterVidAtPat, AfterVidTyNone, AfterVidTyAs, AfterVidTyColon, AtPatMoreNone, AtPatMoreAtPat, AtPatMoreColon, AtPatOpenRound, AtPatAlphanumeric, AtPatSymbolic, AtPatStar, AtPatOp, AtPatOtherAtPat, BareAtPatAlphanumeric, BareAtPatSymbolic, BareAtPatStar, BareAtPatOp, BareAtPatOtherAtPat, OtherAtPatWildcard, OtherAtPatConstant, OtherAtPatQualified, OtherAtPatOpenCurly, OtherAtPatOpenSquare, PatRoundCloseRound, PatRoundPat, PatRoundMoreCloseRound, PatRoundMoreComma, PatListCloseSquare, PatListPat, PatListMoreCloseSquare, PatListMoreComma, PatRowCloseCurly, PatRowRow, RowDots, RowNumeral, RowVid, RowRestEquals, RowRestTyped, RowAsNone, RowAsAs, RowMoreNone, RowMoreComma}
 use Rattle.sml_read.specs.declared.grammar.TypeRule.TheVariants.{TyTup, TyArrowNone, TyArrowArrow, TupCon, TupMoreNone, TupMoreStar, ConATy, ConMoreNone, ConMoreLongTyCon, ATyTypeVariable, ATyLongTyCon, ATyOpenCurly, ATyOpenRound, TyRowCloseCurly, TyRowLab, TyRowMoreCloseCurly, TyRowMoreComma, TyRoundCloseRound, TyRoundComma, TyRoundMoreCloseRound, TyRoundMoreComma, TvsNone, TvsSomeTvs, SomeTvsTypeVariable, SomeTvsOpenRound, TvsMoreNone, TvsMoreComma}
 
 abbrev pub right_side : Rule → List Symbol
@@ -266,7 +266,18 @@ right_side (Declarations ExnRestOf) = Word K.OfWord ∷ Of Ty ∷ []
 right_side (Declarations ExnRestEquals) = Word K.Equals ∷ Of MaybeOp ∷ Of LongVid ∷ []
 -- expressions and matches
 right_side (Expressions ExpOpen) = Of Open ∷ []
-right_side (Expressions ExpTyp) = Of Typ ∷ Of AndMore ∷ Of OrMore ∷ Of HandleMore ∷ []
+right_side (Expressions ExpAt) = Of At ∷ Of More ∷ []
+right_side (Expressions MoreNone) = []
+right_side (Expressions MoreAt) = Of At ∷ Of More ∷ []
+right_side (Expressions MoreColon) = Word K.Colon ∷ Of Ty ∷ Of TyRest ∷ []
+right_side (Expressions MoreAndalso) = Word K.AndalsoWord ∷ Of AndRest ∷ Of OrMore ∷ Of HandleMore ∷ []
+right_side (Expressions MoreOrelse) = Word K.OrelseWord ∷ Of OrRest ∷ Of HandleMore ∷ []
+right_side (Expressions MoreHandle) = Word K.HandleWord ∷ Of Match ∷ []
+right_side (Expressions TyRestNone) = []
+right_side (Expressions TyRestColon) = Word K.Colon ∷ Of Ty ∷ Of TyRest ∷ []
+right_side (Expressions TyRestAndalso) = Word K.AndalsoWord ∷ Of AndRest ∷ Of OrMore ∷ Of HandleMore ∷ []
+right_side (Expressions TyRestOrelse) = Word K.OrelseWord ∷ Of OrRest ∷ Of HandleMore ∷ []
+right_side (Expressions TyRestHandle) = Word K.HandleWord ∷ Of Match ∷ []
 right_side (Expressions AndMoreNone) = []
 right_side (Expressions AndMoreAndalso) = Word K.AndalsoWord ∷ Of AndRest ∷ []
 right_side (Expressions AndRestOpen) = Of Open ∷ []
@@ -290,8 +301,20 @@ right_side (Expressions OpenFn) = Word K.FnWord ∷ Of Match ∷ []
 right_side (Expressions MatchPat) = Of Pat ∷ Word K.Gives ∷ Of Exp ∷ Of MatchMore ∷ []
 right_side (Expressions MatchMoreNone) = []
 right_side (Expressions MatchMoreBar) = Word K.Bar ∷ Of Match ∷ []
-right_side (Expressions AtConstant) = Of Constant ∷ []
-right_side (Expressions AtExpVid) = Of ExpVid ∷ []
+right_side (Expressions AtNumeral) = Word K.Numeral ∷ []
+right_side (Expressions AtZeroNumeral) = Word K.ZeroNumeral ∷ []
+right_side (Expressions AtInteger) = Word K.Integer ∷ []
+right_side (Expressions AtWordConstant) = Word K.WordConstant ∷ []
+right_side (Expressions AtRealConstant) = Word K.RealConstant ∷ []
+right_side (Expressions AtStringConstant) = Word K.StringConstant ∷ []
+right_side (Expressions AtCharacterConstant) = Word K.CharacterConstant ∷ []
+right_side (Expressions AtAlphanumeric) = Word K.Alphanumeric ∷ []
+right_side (Expressions AtSymbolic) = Word K.Symbolic ∷ []
+right_side (Expressions AtStar) = Word K.Star ∷ []
+right_side (Expressions AtEquals) = Word K.Equals ∷ []
+right_side (Expressions AtLongAlphanumeric) = Word K.LongAlphanumeric ∷ []
+right_side (Expressions AtLongSymbolic) = Word K.LongSymbolic ∷ []
+right_side (Expressions AtLongStar) = Word K.LongStar ∷ []
 right_side (Expressions AtOp) = Word K.OpWord ∷ Of ExpVid ∷ []
 right_side (Expressions AtOpenCurly) = Word K.OpenCurly ∷ Of ExpRow ∷ []
 right_side (Expressions AtHash) = Word K.Hash ∷ Of Lab ∷ []
@@ -319,8 +342,14 @@ right_side (Expressions LetMoreEnd) = Word K.EndWord ∷ []
 right_side (Expressions LetMoreSemicolon) = Word K.Semicolon ∷ Of Exp ∷ Of LetMore ∷ []
 -- patterns
 right_side (Patterns PatOpenRound) = Word K.OpenRound ∷ Of PatRound ∷ Of AtPatMore ∷ []
-right_side (Patterns PatBarePat) = Of BarePat ∷ []
-right_side (Patterns BarePatVid) = Of Vid ∷ Of AfterVid ∷ []
+right_side (Patterns PatAlphanumeric) = Word K.Alphanumeric ∷ Of AfterVid ∷ []
+right_side (Patterns PatSymbolic) = Word K.Symbolic ∷ Of AfterVid ∷ []
+right_side (Patterns PatStar) = Word K.Star ∷ Of AfterVid ∷ []
+right_side (Patterns PatOp) = Word K.OpWord ∷ Of OpPat ∷ []
+right_side (Patterns PatOtherAtPat) = Of OtherAtPat ∷ Of AtPatMore ∷ []
+right_side (Patterns BarePatAlphanumeric) = Word K.Alphanumeric ∷ Of AfterVid ∷ []
+right_side (Patterns BarePatSymbolic) = Word K.Symbolic ∷ Of AfterVid ∷ []
+right_side (Patterns BarePatStar) = Word K.Star ∷ Of AfterVid ∷ []
 right_side (Patterns BarePatOp) = Word K.OpWord ∷ Of OpPat ∷ []
 right_side (Patterns BarePatOtherAtPat) = Of OtherAtPat ∷ Of AtPatMore ∷ []
 right_side (Patterns OpPatVid) = Of Vid ∷ Of AfterVid ∷ []
@@ -336,8 +365,14 @@ right_side (Patterns AtPatMoreNone) = []
 right_side (Patterns AtPatMoreAtPat) = Of AtPat ∷ Of AtPatMore ∷ []
 right_side (Patterns AtPatMoreColon) = Word K.Colon ∷ Of Ty ∷ Of TyMore ∷ []
 right_side (Patterns AtPatOpenRound) = Word K.OpenRound ∷ Of PatRound ∷ []
-right_side (Patterns AtPatBareAtPat) = Of BareAtPat ∷ []
-right_side (Patterns BareAtPatVid) = Of Vid ∷ []
+right_side (Patterns AtPatAlphanumeric) = Word K.Alphanumeric ∷ []
+right_side (Patterns AtPatSymbolic) = Word K.Symbolic ∷ []
+right_side (Patterns AtPatStar) = Word K.Star ∷ []
+right_side (Patterns AtPatOp) = Word K.OpWord ∷ Of LongVid ∷ []
+right_side (Patterns AtPatOtherAtPat) = Of OtherAtPat ∷ []
+right_side (Patterns BareAtPatAlphanumeric) = Word K.Alphanumeric ∷ []
+right_side (Patterns BareAtPatSymbolic) = Word K.Symbolic ∷ []
+right_side (Patterns BareAtPatStar) = Word K.Star ∷ []
 right_side (Patterns BareAtPatOp) = Word K.OpWord ∷ Of LongVid ∷ []
 right_side (Patterns BareAtPatOtherAtPat) = Of OtherAtPat ∷ []
 right_side (Patterns OtherAtPatWildcard) = Word K.Wildcard ∷ []

@@ -4,7 +4,7 @@ use Rattle.std.specs.Prelude.{List, [], ◌∷◌, Bool, true, false}
 use Rattle.sml_lex.specs.declared.token.Kind.{Kind}
 use Rattle.sml_lex.specs.declared.token.Kind.TheVariants as K
 use Rattle.sml_read.specs.declared.grammar.Part.{Part}
-use Rattle.sml_read.specs.declared.grammar.Part.TheVariants.{Vid, TyCon, LongVid, Qualified, ExpVid, LongTyCon, LongStrId, Lab, Level, Constant, Start, AfterTop, AfterExp, Top, Str, Strs, Decs, Specs, StrBind, Seal, StrBindMore, Ascription, StrBindSig, StrBindWhere, StrBindAnd, FunBind, FunArg, FunBindMore, FunBindSig, FunBindWhere, FunBindAnd, StrExp, StrExpMore, StrExpSig, StrExpWhere, StrAtom, Actual, StrArg, Sig, SigAtom, SigMore, SigWhere, Where, SigBind, SigBindMore, SigBindWhere, SigBindAnd, Spec, ValSpec, ValSpecMore, TypeSpec, TypeSpecRest, TypeSpecMore, DatSpec, DatSpecRest, DatSpecMore, ConSpecs, ConSpecsMore, OfTy, ExnSpec, ExnSpecMore, StrSpec, StrSpecMore, StrSpecWhere, StrSpecAnd, Include, IncludeMore, IncludeIds, Sharing, TypeShareMore, StrShareMore, Dec, CoreDec, OpenMore, Fixity, VidMore, ValDec, ValRound, ValBind, ValMore, FunDec, FunRound, Clauses, ClausesMore, Clause, ClauseMore, AtPats, Typed, TypBind, TypBindMore, DatDec, DatRest, DatBindMore, ConBinds, ConBindsMore, MaybeOp, ExnBind, ExnBindMore, ExnRest, Exp, AndMore, AndRest, OrMore, OrRest, HandleMore, Typ, AtMore, TyMore, Open, Match, MatchMore, At, ExpRow, ExpRowMore, ExpRound, ExpRoundMore, TupleMore, SequenceMore, ExpList, ExpListMore, LetMore, Pat, BarePat, OpPat, AfterVid, AfterVidTy, AtPatMore, AtPat, BareAtPat, OtherAtPat, PatRound, PatRoundMore, PatList, PatListMore, PatRow, Row, RowRest, RowAs, RowMore, Ty, TyArrow, Tup, TupMore, Con, ConMore, ATy, TyRow, TyRowMore, TyRound, TyRoundMore, Tvs, SomeTvs, TvsMore}
+use Rattle.sml_read.specs.declared.grammar.Part.TheVariants.{Vid, TyCon, LongVid, Qualified, ExpVid, LongTyCon, LongStrId, Lab, Level, Constant, Start, AfterTop, AfterExp, Top, Str, Strs, Decs, Specs, StrBind, Seal, StrBindMore, Ascription, StrBindSig, StrBindWhere, StrBindAnd, FunBind, FunArg, FunBindMore, FunBindSig, FunBindWhere, FunBindAnd, StrExp, StrExpMore, StrExpSig, StrExpWhere, StrAtom, Actual, StrArg, Sig, SigAtom, SigMore, SigWhere, Where, SigBind, SigBindMore, SigBindWhere, SigBindAnd, Spec, ValSpec, ValSpecMore, TypeSpec, TypeSpecRest, TypeSpecMore, DatSpec, DatSpecRest, DatSpecMore, ConSpecs, ConSpecsMore, OfTy, ExnSpec, ExnSpecMore, StrSpec, StrSpecMore, StrSpecWhere, StrSpecAnd, Include, IncludeMore, IncludeIds, Sharing, TypeShareMore, StrShareMore, Dec, CoreDec, OpenMore, Fixity, VidMore, ValDec, ValRound, ValBind, ValMore, FunDec, FunRound, Clauses, ClausesMore, Clause, ClauseMore, AtPats, Typed, TypBind, TypBindMore, DatDec, DatRest, DatBindMore, ConBinds, ConBindsMore, MaybeOp, ExnBind, ExnBindMore, ExnRest, Exp, More, TyRest, AndMore, AndRest, OrMore, OrRest, HandleMore, Typ, AtMore, TyMore, Open, Match, MatchMore, At, ExpRow, ExpRowMore, ExpRound, ExpRoundMore, TupleMore, SequenceMore, ExpList, ExpListMore, LetMore, Pat, BarePat, OpPat, AfterVid, AfterVidTy, AtPatMore, AtPat, BareAtPat, OtherAtPat, PatRound, PatRoundMore, PatList, PatListMore, PatRow, Row, RowRest, RowAs, RowMore, Ty, TyArrow, Tup, TupMore, Con, ConMore, ATy, TyRow, TyRowMore, TyRound, TyRoundMore, Tvs, SomeTvs, TvsMore}
 use Rattle.sml_read.specs.declared.grammar.Rule.{Rule}
 use Rattle.sml_read.specs.declared.grammar.Rule.TheVariants.{Names, Units, Structures, Signatures, Specifications, Declarations, Expressions, Patterns, Types}
 use Rattle.sml_read.specs.declared.grammar.NameRule.TheVariants.{VidAlphanumeric, VidSymbolic, VidStar, TyConAlphanumeric, TyConSymbolic, LongVidAlphanumeric, LongVidSymbolic, LongVidStar, LongVidQualified, QualifiedLongAlphanumeric, QualifiedLongSymbolic, QualifiedLongStar, ExpVidLongVid, ExpVidEquals, LongTyConAlphanumeric, LongTyConSymbolic, LongTyConLongAlphanumeric, LongTyConLongSymbolic, LongStrIdAlphanumeric, LongStrIdLongAlphanumeric, LabVid, LabNumeral, LevelNumeral, LevelZeroNumeral, ConstantNumeral, ConstantZeroNumeral, ConstantInteger, ConstantWordConstant, ConstantRealConstant, ConstantStringConstant, ConstantCharacterConstant}
@@ -13,8 +13,8 @@ use Rattle.sml_read.specs.declared.grammar.StructureRule.TheVariants.{StrBindAlp
 use Rattle.sml_read.specs.declared.grammar.SignatureRule.TheVariants.{SigSigAtom, SigAtomSig, SigAtomAlphanumeric, SigMoreNone, SigMoreWhere, SigWhereNone, SigWhereWhere, SigWhereAnd, WhereType, SigBindAlphanumeric, SigBindMoreNone, SigBindMoreWhere, SigBindMoreAnd, SigBindWhereNone, SigBindWhereWhere, SigBindWhereAnd, SigBindAndWhere, SigBindAndSigBind}
 use Rattle.sml_read.specs.declared.grammar.SpecificationRule.TheVariants.{SpecVal, SpecType, SpecEqtype, SpecDatatype, SpecException, SpecStructure, SpecInclude, SpecSharing, ValSpecVid, ValSpecMoreNone, ValSpecMoreAnd, TypeSpecTvs, TypeSpecRestEquals, TypeSpecRestTypeSpecMore, TypeSpecMoreNone, TypeSpecMoreAnd, DatSpecSomeTvs, DatSpecTyCon, DatSpecRestDatatype, DatSpecRestConSpecs, DatSpecMoreNone, DatSpecMoreAnd, ConSpecsVid, ConSpecsMoreNone, ConSpecsMoreBar, OfTyNone, OfTyOf, ExnSpecVid, ExnSpecMoreNone, ExnSpecMoreAnd, StrSpecAlphanumeric, StrSpecMoreNone, StrSpecMoreWhere, StrSpecMoreAnd, StrSpecWhereNone, StrSpecWhereWhere, StrSpecWhereAnd, StrSpecAndWhere, StrSpecAndStrSpec, IncludeSig, IncludeAlphanumeric, IncludeMoreSigMore, IncludeMoreAlphanumeric, IncludeIdsNone, IncludeIdsAlphanumeric, SharingType, SharingLongStrId, TypeShareMoreNone, TypeShareMoreEquals, StrShareMoreNone, StrShareMoreEquals}
 use Rattle.sml_read.specs.declared.grammar.DeclarationRule.TheVariants.{DecCoreDec, DecLocal, CoreDecVal, CoreDecFun, CoreDecType, CoreDecDatatype, CoreDecException, CoreDecOpen, CoreDecInfix, CoreDecInfixr, CoreDecNonfix, OpenMoreNone, OpenMoreLongStrId, FixityNone, FixityLevel, VidMoreNone, VidMoreVid, ValDecTypeVariable, ValDecOpenRound, ValDecRec, ValDecBarePat, ValRoundTypeVariable, ValRoundPatRound, ValBindRec, ValBindPat, ValMoreNone, ValMoreAnd, FunDecTypeVariable, FunDecOpenRound, FunDecBareAtPat, FunRoundTypeVariable, FunRoundPatRound, ClausesAtPat, ClausesMoreNone, ClausesMoreAnd, ClauseAtPats, ClauseMoreNone, ClauseMoreBar, AtPatsNone, AtPatsAtPat, TypedNone, TypedColon, TypBindTvs, TypBindMoreNone, TypBindMoreAnd, DatDecSomeTvs, DatDecTyCon, DatRestDatatype, DatRestConBinds, DatBindMoreNone, DatBindMoreAnd, DatBindMoreWithtype, ConBindsMaybeOp, ConBindsMoreNone, ConBindsMoreBar, MaybeOpNone, MaybeOpOp, ExnBindMaybeOp, ExnBindMoreNone, ExnBindMoreAnd, ExnRestNone, ExnRestOf, ExnRestEquals}
-use Rattle.sml_read.specs.declared.grammar.ExpressionRule.TheVariants.{ExpOpen, ExpTyp, AndMoreNone, AndMoreAndalso, AndRestOpen, AndRestTyp, OrMoreNone, OrMoreOrelse, OrRestOpen, OrRestTyp, HandleMoreNone, HandleMoreHandle, TypAt, AtMoreNone, AtMoreAt, TyMoreNone, TyMoreColon, OpenRaise, OpenIf, OpenWhile, OpenCase, OpenFn, MatchPat, MatchMoreNone, MatchMoreBar, AtConstant, AtExpVid, AtOp, AtOpenCurly, AtHash, AtOpenRound, AtOpenSquare, AtLet, ExpRowCloseCurly, ExpRowLab, ExpRowMoreCloseCurly, ExpRowMoreComma, ExpRoundCloseRound, ExpRoundExp, ExpRoundMoreCloseRound, ExpRoundMoreComma, ExpRoundMoreSemicolon, TupleMoreCloseRound, TupleMoreComma, SequenceMoreCloseRound, SequenceMoreSemicolon, ExpListCloseSquare, ExpListExp, ExpListMoreCloseSquare, ExpListMoreComma, LetMoreEnd, LetMoreSemicolon}
-use Rattle.sml_read.specs.declared.grammar.PatternRule.TheVariants.{PatOpenRound, PatBarePat, BarePatVid, BarePatOp, BarePatOtherAtPat, OpPatVid, OpPatQualified, AfterVidNone, AfterVidAs, AfterVidColon, AfterVidAtPat, AfterVidTyNone, AfterVidTyAs, AfterVidTyColon, AtPatMoreNone, AtPatMoreAtPat, AtPatMoreColon, AtPatOpenRound, AtPatBareAtPat, BareAtPatVid, BareAtPatOp, BareAtPatOtherAtPat, OtherAtPatWildcard, OtherAtPatConstant, OtherAtPatQualified, OtherAtPatOpenCurly, OtherAtPatOpenSquare, PatRoundCloseRound, PatRoundPat, PatRoundMoreCloseRound, PatRoundMoreComma, PatListCloseSquare, PatListPat, PatListMoreCloseSquare, PatListMoreComma, PatRowCloseCurly, PatRowRow, RowDots, RowNumeral, RowVid, RowRestEquals, RowRestTyped, RowAsNone, RowAsAs, RowMoreNone, RowMoreComma}
+use Rattle.sml_read.specs.declared.grammar.ExpressionRule.TheVariants.{ExpOpen, ExpAt, MoreNone, MoreAt, MoreColon, MoreAndalso, MoreOrelse, MoreHandle, TyRestNone, TyRestColon, TyRestAndalso, TyRestOrelse, TyRestHandle, AndMoreNone, AndMoreAndalso, AndRestOpen, AndRestTyp, OrMoreNone, OrMoreOrelse, OrRestOpen, OrRestTyp, HandleMoreNone, HandleMoreHandle, TypAt, AtMoreNone, AtMoreAt, TyMoreNone, TyMoreColon, OpenRaise, OpenIf, OpenWhile, OpenCase, OpenFn, MatchPat, MatchMoreNone, MatchMoreBar, AtNumeral, AtZeroNumeral, AtInteger, AtWordConstant, AtRealConstant, AtStringConstant, AtCharacterConstant, AtAlphanumeric, AtSymbolic, AtStar, AtEquals, AtLongAlphanumeric, AtLongSymbolic, AtLongStar, AtOp, AtOpenCurly, AtHash, AtOpenRound, AtOpenSquare, AtLet, ExpRowCloseCurly, ExpRowLab, ExpRowMoreCloseCurly, ExpRowMoreComma, ExpRoundCloseRound, ExpRoundExp, ExpRoundMoreCloseRound, ExpRoundMoreComma, ExpRoundMoreSemicolon, TupleMoreCloseRound, TupleMoreComma, SequenceMoreCloseRound, SequenceMoreSemicolon, ExpListCloseSquare, ExpListExp, ExpListMoreCloseSquare, ExpListMoreComma, LetMoreEnd, LetMoreSemicolon}
+use Rattle.sml_read.specs.declared.grammar.PatternRule.TheVariants.{PatOpenRound, PatAlphanumeric, PatSymbolic, PatStar, PatOp, PatOtherAtPat, BarePatAlphanumeric, BarePatSymbolic, BarePatStar, BarePatOp, BarePatOtherAtPat, OpPatVid, OpPatQualified, AfterVidNone, AfterVidAs, AfterVidColon, AfterVidAtPat, AfterVidTyNone, AfterVidTyAs, AfterVidTyColon, AtPatMoreNone, AtPatMoreAtPat, AtPatMoreColon, AtPatOpenRound, AtPatAlphanumeric, AtPatSymbolic, AtPatStar, AtPatOp, AtPatOtherAtPat, BareAtPatAlphanumeric, BareAtPatSymbolic, BareAtPatStar, BareAtPatOp, BareAtPatOtherAtPat, OtherAtPatWildcard, OtherAtPatConstant, OtherAtPatQualified, OtherAtPatOpenCurly, OtherAtPatOpenSquare, PatRoundCloseRound, PatRoundPat, PatRoundMoreCloseRound, PatRoundMoreComma, PatListCloseSquare, PatListPat, PatListMoreCloseSquare, PatListMoreComma, PatRowCloseCurly, PatRowRow, RowDots, RowNumeral, RowVid, RowRestEquals, RowRestTyped, RowAsNone, RowAsAs, RowMoreNone, RowMoreComma}
 use Rattle.sml_read.specs.declared.grammar.TypeRule.TheVariants.{TyTup, TyArrowNone, TyArrowArrow, TupCon, TupMoreNone, TupMoreStar, ConATy, ConMoreNone, ConMoreLongTyCon, ATyTypeVariable, ATyLongTyCon, ATyOpenCurly, ATyOpenRound, TyRowCloseCurly, TyRowLab, TyRowMoreCloseCurly, TyRowMoreComma, TyRoundCloseRound, TyRoundComma, TyRoundMoreCloseRound, TyRoundMoreComma, TvsNone, TvsSomeTvs, SomeTvsTypeVariable, SomeTvsOpenRound, TvsMoreNone, TvsMoreComma}
 
 -- the part of which a rule is one alternative
@@ -260,7 +260,18 @@ part_of (Declarations ExnRestNone) = ExnRest
 part_of (Declarations ExnRestOf) = ExnRest
 part_of (Declarations ExnRestEquals) = ExnRest
 part_of (Expressions ExpOpen) = Exp
-part_of (Expressions ExpTyp) = Exp
+part_of (Expressions ExpAt) = Exp
+part_of (Expressions MoreNone) = More
+part_of (Expressions MoreAt) = More
+part_of (Expressions MoreColon) = More
+part_of (Expressions MoreAndalso) = More
+part_of (Expressions MoreOrelse) = More
+part_of (Expressions MoreHandle) = More
+part_of (Expressions TyRestNone) = TyRest
+part_of (Expressions TyRestColon) = TyRest
+part_of (Expressions TyRestAndalso) = TyRest
+part_of (Expressions TyRestOrelse) = TyRest
+part_of (Expressions TyRestHandle) = TyRest
 part_of (Expressions AndMoreNone) = AndMore
 part_of (Expressions AndMoreAndalso) = AndMore
 part_of (Expressions AndRestOpen) = AndRest
@@ -284,8 +295,20 @@ part_of (Expressions OpenFn) = Open
 part_of (Expressions MatchPat) = Match
 part_of (Expressions MatchMoreNone) = MatchMore
 part_of (Expressions MatchMoreBar) = MatchMore
-part_of (Expressions AtConstant) = At
-part_of (Expressions AtExpVid) = At
+part_of (Expressions AtNumeral) = At
+part_of (Expressions AtZeroNumeral) = At
+part_of (Expressions AtInteger) = At
+part_of (Expressions AtWordConstant) = At
+part_of (Expressions AtRealConstant) = At
+part_of (Expressions AtStringConstant) = At
+part_of (Expressions AtCharacterConstant) = At
+part_of (Expressions AtAlphanumeric) = At
+part_of (Expressions AtSymbolic) = At
+part_of (Expressions AtStar) = At
+part_of (Expressions AtEquals) = At
+part_of (Expressions AtLongAlphanumeric) = At
+part_of (Expressions AtLongSymbolic) = At
+part_of (Expressions AtLongStar) = At
 part_of (Expressions AtOp) = At
 part_of (Expressions AtOpenCurly) = At
 part_of (Expressions AtHash) = At
@@ -312,8 +335,14 @@ part_of (Expressions ExpListMoreComma) = ExpListMore
 part_of (Expressions LetMoreEnd) = LetMore
 part_of (Expressions LetMoreSemicolon) = LetMore
 part_of (Patterns PatOpenRound) = Pat
-part_of (Patterns PatBarePat) = Pat
-part_of (Patterns BarePatVid) = BarePat
+part_of (Patterns PatAlphanumeric) = Pat
+part_of (Patterns PatSymbolic) = Pat
+part_of (Patterns PatStar) = Pat
+part_of (Patterns PatOp) = Pat
+part_of (Patterns PatOtherAtPat) = Pat
+part_of (Patterns BarePatAlphanumeric) = BarePat
+part_of (Patterns BarePatSymbolic) = BarePat
+part_of (Patterns BarePatStar) = BarePat
 part_of (Patterns BarePatOp) = BarePat
 part_of (Patterns BarePatOtherAtPat) = BarePat
 part_of (Patterns OpPatVid) = OpPat
@@ -329,8 +358,14 @@ part_of (Patterns AtPatMoreNone) = AtPatMore
 part_of (Patterns AtPatMoreAtPat) = AtPatMore
 part_of (Patterns AtPatMoreColon) = AtPatMore
 part_of (Patterns AtPatOpenRound) = AtPat
-part_of (Patterns AtPatBareAtPat) = AtPat
-part_of (Patterns BareAtPatVid) = BareAtPat
+part_of (Patterns AtPatAlphanumeric) = AtPat
+part_of (Patterns AtPatSymbolic) = AtPat
+part_of (Patterns AtPatStar) = AtPat
+part_of (Patterns AtPatOp) = AtPat
+part_of (Patterns AtPatOtherAtPat) = AtPat
+part_of (Patterns BareAtPatAlphanumeric) = BareAtPat
+part_of (Patterns BareAtPatSymbolic) = BareAtPat
+part_of (Patterns BareAtPatStar) = BareAtPat
 part_of (Patterns BareAtPatOp) = BareAtPat
 part_of (Patterns BareAtPatOtherAtPat) = BareAtPat
 part_of (Patterns OtherAtPatWildcard) = OtherAtPat
@@ -487,6 +522,8 @@ may_be_empty ExnBind = false
 may_be_empty ExnBindMore = true
 may_be_empty ExnRest = true
 may_be_empty Exp = false
+may_be_empty More = true
+may_be_empty TyRest = true
 may_be_empty AndMore = true
 may_be_empty AndRest = false
 may_be_empty OrMore = true
@@ -643,6 +680,8 @@ beginnings ExnBind = K.Alphanumeric ∷ K.Symbolic ∷ K.Star ∷ K.OpWord ∷ [
 beginnings ExnBindMore = K.AndWord ∷ []
 beginnings ExnRest = K.OfWord ∷ K.Equals ∷ []
 beginnings Exp = K.Alphanumeric ∷ K.Symbolic ∷ K.Star ∷ K.LongAlphanumeric ∷ K.LongSymbolic ∷ K.LongStar ∷ K.Numeral ∷ K.ZeroNumeral ∷ K.Integer ∷ K.WordConstant ∷ K.RealConstant ∷ K.StringConstant ∷ K.CharacterConstant ∷ K.CaseWord ∷ K.FnWord ∷ K.IfWord ∷ K.LetWord ∷ K.OpWord ∷ K.RaiseWord ∷ K.WhileWord ∷ K.OpenRound ∷ K.OpenSquare ∷ K.OpenCurly ∷ K.Equals ∷ K.Hash ∷ []
+beginnings More = K.Alphanumeric ∷ K.Symbolic ∷ K.Star ∷ K.LongAlphanumeric ∷ K.LongSymbolic ∷ K.LongStar ∷ K.Numeral ∷ K.ZeroNumeral ∷ K.Integer ∷ K.WordConstant ∷ K.RealConstant ∷ K.StringConstant ∷ K.CharacterConstant ∷ K.AndalsoWord ∷ K.HandleWord ∷ K.LetWord ∷ K.OpWord ∷ K.OrelseWord ∷ K.OpenRound ∷ K.OpenSquare ∷ K.OpenCurly ∷ K.Colon ∷ K.Equals ∷ K.Hash ∷ []
+beginnings TyRest = K.AndalsoWord ∷ K.HandleWord ∷ K.OrelseWord ∷ K.Colon ∷ []
 beginnings AndMore = K.AndalsoWord ∷ []
 beginnings AndRest = K.Alphanumeric ∷ K.Symbolic ∷ K.Star ∷ K.LongAlphanumeric ∷ K.LongSymbolic ∷ K.LongStar ∷ K.Numeral ∷ K.ZeroNumeral ∷ K.Integer ∷ K.WordConstant ∷ K.RealConstant ∷ K.StringConstant ∷ K.CharacterConstant ∷ K.CaseWord ∷ K.FnWord ∷ K.IfWord ∷ K.LetWord ∷ K.OpWord ∷ K.RaiseWord ∷ K.WhileWord ∷ K.OpenRound ∷ K.OpenSquare ∷ K.OpenCurly ∷ K.Equals ∷ K.Hash ∷ []
 beginnings OrMore = K.OrelseWord ∷ []

@@ -203,8 +203,12 @@ pub enum Part {
     ExnBindMore,
     /// nothing; `'of' Ty`; `'=' MaybeOp LongVid`
     ExnRest,
-    /// `Open`; `Typ AndMore OrMore HandleMore`
+    /// `Open`; `At More`
     Exp,
+    /// nothing; `At More`; `':' Ty TyRest`; `'andalso' AndRest OrMore HandleMore`; `'orelse' OrRest HandleMore`; `'handle' Match`
+    More,
+    /// nothing; `':' Ty TyRest`; `'andalso' AndRest OrMore HandleMore`; `'orelse' OrRest HandleMore`; `'handle' Match`
+    TyRest,
     /// nothing; `'andalso' AndRest`
     AndMore,
     /// `Open`; `Typ AndMore`
@@ -227,7 +231,7 @@ pub enum Part {
     Match,
     /// nothing; `'|' Match`
     MatchMore,
-    /// `Constant`; `ExpVid`; `'op' ExpVid`; `'{' ExpRow`; `'#' Lab`; `'(' ExpRound`; `'[' ExpList`; `'let' Decs 'in' Exp LetMore`
+    /// `Numeral`; `ZeroNumeral`; `Integer`; `WordConstant`; `RealConstant`; `StringConstant`; `CharacterConstant`; `Alphanumeric`; `Symbolic`; `'*'`; `'='`; `LongAlphanumeric`; `LongSymbolic`; `LongStar`; `'op' ExpVid`; `'{' ExpRow`; `'#' Lab`; `'(' ExpRound`; `'[' ExpList`; `'let' Decs 'in' Exp LetMore`
     At,
     /// `'}'`; `Lab '=' Exp ExpRowMore`
     ExpRow,
@@ -247,9 +251,9 @@ pub enum Part {
     ExpListMore,
     /// `'end'`; `';' Exp LetMore`
     LetMore,
-    /// `'(' PatRound AtPatMore`; `BarePat`
+    /// `'(' PatRound AtPatMore`; `Alphanumeric AfterVid`; `Symbolic AfterVid`; `'*' AfterVid`; `'op' OpPat`; `OtherAtPat AtPatMore`
     Pat,
-    /// `Vid AfterVid`; `'op' OpPat`; `OtherAtPat AtPatMore`
+    /// `Alphanumeric AfterVid`; `Symbolic AfterVid`; `'*' AfterVid`; `'op' OpPat`; `OtherAtPat AtPatMore`
     BarePat,
     /// `Vid AfterVid`; `Qualified AtPatMore`
     OpPat,
@@ -259,9 +263,9 @@ pub enum Part {
     AfterVidTy,
     /// nothing; `AtPat AtPatMore`; `':' Ty TyMore`
     AtPatMore,
-    /// `'(' PatRound`; `BareAtPat`
+    /// `'(' PatRound`; `Alphanumeric`; `Symbolic`; `'*'`; `'op' LongVid`; `OtherAtPat`
     AtPat,
-    /// `Vid`; `'op' LongVid`; `OtherAtPat`
+    /// `Alphanumeric`; `Symbolic`; `'*'`; `'op' LongVid`; `OtherAtPat`
     BareAtPat,
     /// `'_'`; `Constant`; `Qualified`; `'{' PatRow`; `'[' PatList`
     OtherAtPat,
@@ -594,7 +598,18 @@ pub enum DeclarationRule {
 #[derive(Clone, Copy, PartialEq, Eq)]
 pub enum ExpressionRule {
     ExpOpen,
-    ExpTyp,
+    ExpAt,
+    MoreNone,
+    MoreAt,
+    MoreColon,
+    MoreAndalso,
+    MoreOrelse,
+    MoreHandle,
+    TyRestNone,
+    TyRestColon,
+    TyRestAndalso,
+    TyRestOrelse,
+    TyRestHandle,
     AndMoreNone,
     AndMoreAndalso,
     AndRestOpen,
@@ -618,8 +633,20 @@ pub enum ExpressionRule {
     MatchPat,
     MatchMoreNone,
     MatchMoreBar,
-    AtConstant,
-    AtExpVid,
+    AtNumeral,
+    AtZeroNumeral,
+    AtInteger,
+    AtWordConstant,
+    AtRealConstant,
+    AtStringConstant,
+    AtCharacterConstant,
+    AtAlphanumeric,
+    AtSymbolic,
+    AtStar,
+    AtEquals,
+    AtLongAlphanumeric,
+    AtLongSymbolic,
+    AtLongStar,
     AtOp,
     AtOpenCurly,
     AtHash,
@@ -651,8 +678,14 @@ pub enum ExpressionRule {
 #[derive(Clone, Copy, PartialEq, Eq)]
 pub enum PatternRule {
     PatOpenRound,
-    PatBarePat,
-    BarePatVid,
+    PatAlphanumeric,
+    PatSymbolic,
+    PatStar,
+    PatOp,
+    PatOtherAtPat,
+    BarePatAlphanumeric,
+    BarePatSymbolic,
+    BarePatStar,
     BarePatOp,
     BarePatOtherAtPat,
     OpPatVid,
@@ -668,8 +701,14 @@ pub enum PatternRule {
     AtPatMoreAtPat,
     AtPatMoreColon,
     AtPatOpenRound,
-    AtPatBareAtPat,
-    BareAtPatVid,
+    AtPatAlphanumeric,
+    AtPatSymbolic,
+    AtPatStar,
+    AtPatOp,
+    AtPatOtherAtPat,
+    BareAtPatAlphanumeric,
+    BareAtPatSymbolic,
+    BareAtPatStar,
     BareAtPatOp,
     BareAtPatOtherAtPat,
     OtherAtPatWildcard,

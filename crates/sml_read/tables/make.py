@@ -190,7 +190,7 @@ class Grammar:
     def choice(self, part, kind):
         for i, (_, side) in enumerate(self.rules[part]):
             if kind in self.firsts(side) or (self.is_empty(side) and kind not in self.first[part]):
-                return str(i)
+                return chr(ord("0") + i)
         return "."
 
     def ending(self, part):

@@ -199,7 +199,7 @@ def take(grammar, stack, kind):
         cell = grammar.choice(top, kind)
         if cell == ".":
             return None
-        stack += reversed(grammar.rules[top][int(cell)][1])
+        stack += reversed(grammar.rules[top][ord(cell) - ord("0")][1])
     return None
 
 

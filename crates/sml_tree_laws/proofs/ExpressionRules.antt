@@ -2,19 +2,20 @@
 use Rattle.std.specs.Prelude.{◌≡◌, List, false, Option, Some, None}
 use Rattle.std.proofs.Common.{refl}
 use Rattle.std.proofs.lemmas.Bool.{true≢false}
+use Rattle.sml_tree.specs.Types.{Ty, no_ty, and_ty}
 use Rattle.sml_tree.specs.Expressions.{Exp, Exps, Rules, no_exp, and_exp}
 use Rattle.sml_fixity.specs.Shapes.{Shape}
 use Rattle.sml_read.specs.declared.grammar.ExpressionRule.{ExpressionRule}
-use Rattle.sml_read.specs.declared.grammar.ExpressionRule.TheVariants.{ExpTyp, AndMoreNone, AndMoreAndalso, AndRestTyp, OrMoreNone, OrMoreOrelse, OrRestTyp, HandleMoreNone, HandleMoreHandle, TypAt, AtMoreNone, AtMoreAt, TyMoreNone, TyMoreColon, OpenRaise, OpenIf, OpenWhile, OpenCase, OpenFn, MatchPat, MatchMoreNone, MatchMoreBar, AtConstant, AtExpVid, AtOp, AtOpenCurly, AtHash, AtOpenRound, AtOpenSquare, AtLet, ExpRowCloseCurly, ExpRowLab, ExpRowMoreCloseCurly, ExpRowMoreComma, ExpRoundCloseRound, ExpRoundExp, ExpRoundMoreCloseRound, ExpRoundMoreComma, ExpRoundMoreSemicolon, TupleMoreCloseRound, TupleMoreComma, SequenceMoreCloseRound, SequenceMoreSemicolon, ExpListCloseSquare, ExpListExp, ExpListMoreCloseSquare, ExpListMoreComma, LetMoreEnd, LetMoreSemicolon}
-use Rattle.sml_bare_exps.specs.ExpressionSequences.{exp_place}
-use Rattle.sml_bare_exps.specs.ExpressionRules.{conjunction, disjunction, handled, series_of, list_of, tuple_of, round_of, round_parts, expression_phrase}
+use Rattle.sml_read.specs.declared.grammar.ExpressionRule.TheVariants.{ExpAt, MoreNone, MoreAt, MoreColon, MoreAndalso, MoreOrelse, MoreHandle, TyRestNone, TyRestColon, TyRestAndalso, TyRestOrelse, TyRestHandle, AndMoreNone, AndMoreAndalso, AndRestTyp, OrMoreNone, OrMoreOrelse, OrRestTyp, HandleMoreNone, HandleMoreHandle, TypAt, AtMoreNone, AtMoreAt, TyMoreNone, TyMoreColon, OpenRaise, OpenIf, OpenWhile, OpenCase, OpenFn, MatchPat, MatchMoreNone, MatchMoreBar, AtNumeral, AtZeroNumeral, AtInteger, AtWordConstant, AtRealConstant, AtStringConstant, AtCharacterConstant, AtAlphanumeric, AtSymbolic, AtStar, AtEquals, AtLongAlphanumeric, AtLongSymbolic, AtLongStar, AtOp, AtOpenCurly, AtHash, AtOpenRound, AtOpenSquare, AtLet, ExpRowCloseCurly, ExpRowLab, ExpRowMoreCloseCurly, ExpRowMoreComma, ExpRoundCloseRound, ExpRoundExp, ExpRoundMoreCloseRound, ExpRoundMoreComma, ExpRoundMoreSemicolon, TupleMoreCloseRound, TupleMoreComma, SequenceMoreCloseRound, SequenceMoreSemicolon, ExpListCloseSquare, ExpListExp, ExpListMoreCloseSquare, ExpListMoreComma, LetMoreEnd, LetMoreSemicolon}
+use Rattle.sml_bare_exps.specs.ExpressionSequences.{exp_place, sequence_exp}
+use Rattle.sml_bare_exps.specs.ExpressionRules.{conjunction, disjunction, handled, with_operand, with_type, whole, series_of, list_of, tuple_of, round_of, round_parts, expression_phrase}
 use Rattle.sml_tree_laws.proofs.ExpressionSequences.{sequence_exp_sits}
 use Rattle.sml_tree_laws.proofs.Parts.{scopes}
 use Rattle.sml_lex.specs.declared.fault.Place.{Place}
 use Rattle.sml_tree.specs.Trees.{Id}
 use Rattle.sml_read.specs.declared.grammar.Rule.TheVariants as G
-use Rattle.sml_phrases.specs.Phrases.{Phrase, of_series, at, tys_in, exp_in, exps_in, exp_if_any, rules_if_any}
-use Rattle.sml_tree_laws.proofs.Sits.{ExpSits, ExpsSit}
+use Rattle.sml_phrases.specs.Phrases.{Phrase, of_series, of_rest, at, ty_in, tys_in, exp_in, exps_in, exp_if_any, rules_if_any}
+use Rattle.sml_tree_laws.proofs.Sits.{TySits, ExpSits, ExpsSit}
 use Rattle.sml_tree_laws.proofs.Phrases.{PhraseSits, ExpSitsIfAny, RulesSitIfAny, ty_sits, tys_sit, pat_sits, exp_sits, exps_sit, exp_sits_if_any, fields_sit, rules_sit, rules_sit_if_any, decs_sit}
 use Rattle.sml_tree_laws.proofs.Parts.{PartsSit}
 
@@ -30,6 +31,21 @@ module _ (L V R : Id → Type 0) where
   handled_sits : (p : Place) (e : Exp Place) (o : Option (Rules Place)) → ExpSits R V e → RulesSitIfAny L V R o → ExpSits R V (handled p e o)
   handled_sits p e None h k = h
   handled_sits p e (Some rs) h k = (h, k)
+
+  with_operand_sits : (e : Exp Place) (v : Phrase) → ExpSits R V e → PhraseSits L V R v → PhraseSits L V R (with_operand e v)
+  with_operand_sits e (of_rest es ts a o rs) h k = ((h, k.0), k.1, k.2, k.3, k.4)
+  with_operand_sits e v h k = (h, exps_sit L V R v k)
+
+  with_type_sits : (t : Ty Place) (v : Phrase) → TySits V t → PhraseSits L V R v → PhraseSits L V R (with_type t v)
+  with_type_sits t (of_rest es ts a o rs) h k = (k.0, (h, k.1), k.2, k.3, k.4)
+  with_type_sits t v h k = (tt, (h, tt), tt, tt, tt)
+
+  whole_sits : (p : Place) (s : Option Shape) (e : Exp Place) (v : Phrase) → ExpSits R V e → PhraseSits L V R v → ExpSits R V (whole p s e v)
+  whole_sits p s e (of_rest es ts a o rs) h k =
+      let d = sequence_exp s (and_exp e es) ts in
+      let f = conjunction_sits p d a (sequence_exp_sits R V s (and_exp e es) ts (h, k.0) k.1) k.2 in
+      handled_sits p (disjunction p (conjunction p d a) o) rs (disjunction_sits p (conjunction p d a) o f k.3) k.4
+  whole_sits p s e v h k = sequence_exp_sits R V s (and_exp e (exps_in v)) no_ty (h, exps_sit L V R v k) tt
 
   series_sits : (p : Place) (es : Exps Place) → ExpsSit R V es → ExpSits R V (series_of p es)
   series_sits p no_exp h = tt
@@ -55,7 +71,18 @@ module _ (L V R : Id → Type 0) where
 
   pub expression_sits : (rule : ExpressionRule) (p : Place) (s : Option Shape) (vs : List Phrase) → scopes (G.Expressions rule) ≡ false
       → PartsSit L V R (G.Expressions rule) vs → PhraseSits L V R (expression_phrase rule p s vs)
-  expression_sits ExpTyp p s vs o h = handled_sits p (disjunction p (conjunction p (exp_in (at vs 0)) (exp_if_any (at vs 1))) (exp_if_any (at vs 2))) (rules_if_any (at vs 3)) (disjunction_sits p (conjunction p (exp_in (at vs 0)) (exp_if_any (at vs 1))) (exp_if_any (at vs 2)) (conjunction_sits p (exp_in (at vs 0)) (exp_if_any (at vs 1)) (exp_sits L V R (at vs 0) (h 0 refl).0) (exp_sits_if_any L V R (at vs 1) (h 1 refl).0)) (exp_sits_if_any L V R (at vs 2) (h 2 refl).0)) (rules_sit_if_any L V R (at vs 3) (h 3 refl).0)
+  expression_sits ExpAt p s vs o h = whole_sits p s (exp_in (at vs 0)) (at vs 1) (exp_sits L V R (at vs 0) (h 0 refl).0) (h 1 refl).0
+  expression_sits MoreNone p s vs o h = tt
+  expression_sits TyRestNone p s vs o h = tt
+  expression_sits MoreAt p s vs o h = with_operand_sits (exp_in (at vs 0)) (at vs 1) (exp_sits L V R (at vs 0) (h 0 refl).0) (h 1 refl).0
+  expression_sits MoreColon p s vs o h = with_type_sits (ty_in (at vs 1)) (at vs 2) (ty_sits L V R (at vs 1) (h 1 refl).0) (h 2 refl).0
+  expression_sits MoreAndalso p s vs o h = (tt, tt, (exp_sits L V R (at vs 1) (h 1 refl).0), exp_sits_if_any L V R (at vs 2) (h 2 refl).0, rules_sit_if_any L V R (at vs 3) (h 3 refl).0)
+  expression_sits MoreOrelse p s vs o h = (tt, tt, tt, (exp_sits L V R (at vs 1) (h 1 refl).0), rules_sit_if_any L V R (at vs 2) (h 2 refl).0)
+  expression_sits MoreHandle p s vs o h = (tt, tt, tt, tt, rules_sit L V R (at vs 1) (h 1 refl).0)
+  expression_sits TyRestColon p s vs o h = with_type_sits (ty_in (at vs 1)) (at vs 2) (ty_sits L V R (at vs 1) (h 1 refl).0) (h 2 refl).0
+  expression_sits TyRestAndalso p s vs o h = (tt, tt, (exp_sits L V R (at vs 1) (h 1 refl).0), exp_sits_if_any L V R (at vs 2) (h 2 refl).0, rules_sit_if_any L V R (at vs 3) (h 3 refl).0)
+  expression_sits TyRestOrelse p s vs o h = (tt, tt, tt, (exp_sits L V R (at vs 1) (h 1 refl).0), rules_sit_if_any L V R (at vs 2) (h 2 refl).0)
+  expression_sits TyRestHandle p s vs o h = (tt, tt, tt, tt, rules_sit L V R (at vs 1) (h 1 refl).0)
   expression_sits AndMoreNone p s vs o h = tt
   expression_sits OrMoreNone p s vs o h = tt
   expression_sits HandleMoreNone p s vs o h = tt
@@ -77,8 +104,20 @@ module _ (L V R : Id → Type 0) where
   expression_sits MatchPat p s vs o h = (((pat_sits L V R (at vs 0) (h 0 refl).0), (exp_sits L V R (at vs 2) (h 2 refl).0)), (rules_sit L V R (at vs 3) (h 3 refl).0))
   expression_sits MatchMoreNone p s vs o h = tt
   expression_sits MatchMoreBar p s vs o h = (h 1 refl).0
-  expression_sits AtConstant p s vs o h = tt
-  expression_sits AtExpVid p s vs o h = tt
+  expression_sits AtNumeral p s vs o h = tt
+  expression_sits AtZeroNumeral p s vs o h = tt
+  expression_sits AtInteger p s vs o h = tt
+  expression_sits AtWordConstant p s vs o h = tt
+  expression_sits AtRealConstant p s vs o h = tt
+  expression_sits AtStringConstant p s vs o h = tt
+  expression_sits AtCharacterConstant p s vs o h = tt
+  expression_sits AtAlphanumeric p s vs o h = tt
+  expression_sits AtSymbolic p s vs o h = tt
+  expression_sits AtStar p s vs o h = tt
+  expression_sits AtEquals p s vs o h = tt
+  expression_sits AtLongAlphanumeric p s vs o h = tt
+  expression_sits AtLongSymbolic p s vs o h = tt
+  expression_sits AtLongStar p s vs o h = tt
   expression_sits AtOp p s vs o h = tt
   expression_sits AtOpenCurly p s vs o h = (fields_sit L V R (at vs 1) (h 1 refl).0)
   expression_sits AtHash p s vs o h = (((tt, tt), tt), tt)

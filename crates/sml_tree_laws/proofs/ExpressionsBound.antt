@@ -8,15 +8,15 @@ use Rattle.sml_lex.specs.declared.fault.Place.{Place}
 use Rattle.sml_tree.specs.Trees.{Id}
 use Rattle.sml_tree.specs.Names.{Name}
 use Rattle.sml_read.specs.declared.grammar.Rule.TheVariants as G
-use Rattle.sml_phrases.specs.Phrases.{Phrase, of_series, at, name_in, tys_in, exp_in, exps_in, fields_in, exp_if_any, rules_if_any}
+use Rattle.sml_phrases.specs.Phrases.{Phrase, of_series, of_rest, at, name_in, ty_in, tys_in, exp_in, exps_in, fields_in, exp_if_any, rules_if_any}
 use Rattle.sml_flaws.specs.declared.role.Space.{Space}
 use Rattle.sml_flaws.specs.declared.role.Space.TheVariants as S
-use Rattle.sml_tree_laws.specs.WellBound.{AreDistinct, TysBound, labels, ExpBound, ExpsBound}
+use Rattle.sml_tree_laws.specs.WellBound.{AreDistinct, TyBound, TysBound, labels, ExpBound, ExpsBound}
 use Rattle.sml_tree_laws.proofs.Named.{distinct}
 use Rattle.sml_tree_laws.proofs.PhrasesBound.{plain, class_of, ExpBoundIfAny, RulesBoundIfAny, PhraseBound}
 use Rattle.sml_tree_laws.proofs.AccessorsBound.{ty_bound, tys_bound, pat_bound, exp_bound, exps_bound, exp_bound_if_any, rules_bound, rules_bound_if_any, decs_bound, fields_bound}
 use Rattle.sml_tree_laws.proofs.PartsBound.{PartsBound, two, pass}
-use Rattle.sml_tree.specs.Types.{Tys, no_ty, and_ty}
+use Rattle.sml_tree.specs.Types.{Ty, Tys, no_ty, and_ty}
 use Rattle.sml_tree.specs.Expressions.{Exp, Exps, Rules, typed, no_exp, and_exp}
 use Rattle.sml_rules.specs.Every.{Every}
 use Rattle.sml_objects.specs.Appearance.{Stands}
@@ -24,9 +24,9 @@ use Rattle.sml_fixity.specs.declared.sequences.Step.{Step}
 use Rattle.sml_fixity.specs.declared.sequences.Step.TheVariants.{Push, Apply, Combine}
 use Rattle.sml_fixity.specs.Shapes.{Shape, tree, headed}
 use Rattle.sml_read.specs.declared.grammar.ExpressionRule.{ExpressionRule}
-use Rattle.sml_read.specs.declared.grammar.ExpressionRule.TheVariants.{ExpTyp, AndMoreNone, AndMoreAndalso, AndRestTyp, OrMoreNone, OrMoreOrelse, OrRestTyp, HandleMoreNone, HandleMoreHandle, TypAt, AtMoreNone, AtMoreAt, TyMoreNone, TyMoreColon, OpenRaise, OpenIf, OpenWhile, OpenCase, OpenFn, MatchPat, MatchMoreNone, MatchMoreBar, AtConstant, AtExpVid, AtOp, AtOpenCurly, AtHash, AtOpenRound, AtOpenSquare, AtLet, ExpRowCloseCurly, ExpRowLab, ExpRowMoreCloseCurly, ExpRowMoreComma, ExpRoundCloseRound, ExpRoundExp, ExpRoundMoreCloseRound, ExpRoundMoreComma, ExpRoundMoreSemicolon, TupleMoreCloseRound, TupleMoreComma, SequenceMoreCloseRound, SequenceMoreSemicolon, ExpListCloseSquare, ExpListExp, ExpListMoreCloseSquare, ExpListMoreComma, LetMoreEnd, LetMoreSemicolon}
+use Rattle.sml_read.specs.declared.grammar.ExpressionRule.TheVariants.{ExpAt, MoreNone, MoreAt, MoreColon, MoreAndalso, MoreOrelse, MoreHandle, TyRestNone, TyRestColon, TyRestAndalso, TyRestOrelse, TyRestHandle, AndMoreNone, AndMoreAndalso, AndRestTyp, OrMoreNone, OrMoreOrelse, OrRestTyp, HandleMoreNone, HandleMoreHandle, TypAt, AtMoreNone, AtMoreAt, TyMoreNone, TyMoreColon, OpenRaise, OpenIf, OpenWhile, OpenCase, OpenFn, MatchPat, MatchMoreNone, MatchMoreBar, AtNumeral, AtZeroNumeral, AtInteger, AtWordConstant, AtRealConstant, AtStringConstant, AtCharacterConstant, AtAlphanumeric, AtSymbolic, AtStar, AtEquals, AtLongAlphanumeric, AtLongSymbolic, AtLongStar, AtOp, AtOpenCurly, AtHash, AtOpenRound, AtOpenSquare, AtLet, ExpRowCloseCurly, ExpRowLab, ExpRowMoreCloseCurly, ExpRowMoreComma, ExpRoundCloseRound, ExpRoundExp, ExpRoundMoreCloseRound, ExpRoundMoreComma, ExpRoundMoreSemicolon, TupleMoreCloseRound, TupleMoreComma, SequenceMoreCloseRound, SequenceMoreSemicolon, ExpListCloseSquare, ExpListExp, ExpListMoreCloseSquare, ExpListMoreComma, LetMoreEnd, LetMoreSemicolon}
 use Rattle.sml_bare_exps.specs.ExpressionSequences as E
-use Rattle.sml_bare_exps.specs.ExpressionRules.{conjunction, disjunction, handled, series_of, list_of, tuple_of, round_of, round_parts, expression_phrase}
+use Rattle.sml_bare_exps.specs.ExpressionRules.{conjunction, disjunction, handled, with_operand, with_type, whole, series_of, list_of, tuple_of, round_of, round_parts, expression_phrase}
 use Rattle.sml_tree_laws.proofs.Phrases.{every_get_or, every_set}
 
 abbrev EachExp : List (Exp Place) → Type 0
@@ -124,14 +124,36 @@ module _ (B : Space → ℕ → ℕ → Id → Type 0) (apart : (sp : Space) (g 
   round_parts_bound g lo hi lo' hi' e (of_series es) h k = (h, k)
   round_parts_bound g lo hi lo' hi' e v h k = (h, exps_bound B plain g lo hi v k)
 
+  with_operand_bound : (g lo hi lo' hi' : ℕ) (e : Exp Place) (v : Phrase) → ExpBound e → PhraseBound B plain g lo hi v → PhraseBound B plain g lo' hi' (with_operand e v)
+  with_operand_bound g lo hi lo' hi' e (of_rest es ts a o rs) h k = ((h, k.0), k.1, k.2, k.3, k.4)
+  with_operand_bound g lo hi lo' hi' e v h k = (h, exps_bound B plain g lo hi v k)
+
+  with_type_bound : (g lo hi lo' hi' : ℕ) (t : Ty Place) (v : Phrase) → TyBound t → PhraseBound B plain g lo hi v → PhraseBound B plain g lo' hi' (with_type t v)
+  with_type_bound g lo hi lo' hi' t (of_rest es ts a o rs) h k = (k.0, (h, k.1), k.2, k.3, k.4)
+  with_type_bound g lo hi lo' hi' t v h k = (tt, (h, tt), tt, tt, tt)
+
+  whole_bound : (g lo hi : ℕ) (p : Place) (s : Option Shape) (e : Exp Place) (v : Phrase) → ExpBound e → PhraseBound B plain g lo hi v → ExpBound (whole p s e v)
+  whole_bound g lo hi p s e (of_rest es ts a o rs) h k =
+      let d = E.sequence_exp s (and_exp e es) ts in
+      let f = conjunction_bound p d a (sequence_bound s (and_exp e es) ts (h, k.0) k.1) k.2 in
+      handled_bound p (disjunction p (conjunction p d a) o) rs (disjunction_bound p (conjunction p d a) o f k.3) k.4
+  whole_bound g lo hi p s e v h k = sequence_bound s (and_exp e (exps_in v)) no_ty (h, exps_bound B plain g lo hi v k) tt
+
   module _ (g : ℕ) (t : ℕ → ℕ) (mono : (k : ℕ) → t k ≤ t (suc k)) where
     pub expression_bound : (rule : ExpressionRule) (p : Place) (s : Option Shape) (vs : List Phrase) → PartsBound B g t (G.Expressions rule) vs
         → PhraseBound B (class_of (Of (part_of (G.Expressions rule)))) g (t 0) (t (length (right_side (G.Expressions rule)))) (expression_phrase rule p s vs)
-    expression_bound ExpTyp p s vs h =
-        handled_bound p
-        (disjunction p (conjunction p (exp_in (at vs 0)) (exp_if_any (at vs 1))) (exp_if_any (at vs 2))) (rules_if_any (at vs 3))
-        (disjunction_bound p (conjunction p (exp_in (at vs 0)) (exp_if_any (at vs 1))) (exp_if_any (at vs 2)) (conjunction_bound p (exp_in (at vs 0)) (exp_if_any (at vs 1)) (exp_bound B plain g (t 0) (t 1) (at vs 0) (h 0 refl).0) (exp_bound_if_any B plain g (t 1) (t 2) (at vs 1) (h 1 refl).0)) (exp_bound_if_any B plain g (t 2) (t 3) (at vs 2) (h 2 refl).0))
-        (rules_bound_if_any B plain g (t 3) (t 4) (at vs 3) (h 3 refl).0)
+    expression_bound ExpAt p s vs h = whole_bound g (t 1) (t 2) p s (exp_in (at vs 0)) (at vs 1) (exp_bound B plain g (t 0) (t 1) (at vs 0) (h 0 refl).0) (h 1 refl).0
+    expression_bound MoreNone p s vs h = tt
+    expression_bound TyRestNone p s vs h = tt
+    expression_bound MoreAt p s vs h = with_operand_bound g (t 1) (t 2) (t 0) (t 2) (exp_in (at vs 0)) (at vs 1) (exp_bound B plain g (t 0) (t 1) (at vs 0) (h 0 refl).0) (h 1 refl).0
+    expression_bound MoreColon p s vs h = with_type_bound g (t 2) (t 3) (t 0) (t 3) (ty_in (at vs 1)) (at vs 2) (ty_bound B plain g (t 1) (t 2) (at vs 1) (h 1 refl).0) (h 2 refl).0
+    expression_bound MoreAndalso p s vs h = (tt, tt, (exp_bound B plain g (t 1) (t 2) (at vs 1) (h 1 refl).0), exp_bound_if_any B plain g (t 2) (t 3) (at vs 2) (h 2 refl).0, rules_bound_if_any B plain g (t 3) (t 4) (at vs 3) (h 3 refl).0)
+    expression_bound MoreOrelse p s vs h = (tt, tt, tt, (exp_bound B plain g (t 1) (t 2) (at vs 1) (h 1 refl).0), rules_bound_if_any B plain g (t 2) (t 3) (at vs 2) (h 2 refl).0)
+    expression_bound MoreHandle p s vs h = (tt, tt, tt, tt, rules_bound B plain g (t 1) (t 2) (at vs 1) (h 1 refl).0)
+    expression_bound TyRestColon p s vs h = with_type_bound g (t 2) (t 3) (t 0) (t 3) (ty_in (at vs 1)) (at vs 2) (ty_bound B plain g (t 1) (t 2) (at vs 1) (h 1 refl).0) (h 2 refl).0
+    expression_bound TyRestAndalso p s vs h = (tt, tt, (exp_bound B plain g (t 1) (t 2) (at vs 1) (h 1 refl).0), exp_bound_if_any B plain g (t 2) (t 3) (at vs 2) (h 2 refl).0, rules_bound_if_any B plain g (t 3) (t 4) (at vs 3) (h 3 refl).0)
+    expression_bound TyRestOrelse p s vs h = (tt, tt, tt, (exp_bound B plain g (t 1) (t 2) (at vs 1) (h 1 refl).0), rules_bound_if_any B plain g (t 2) (t 3) (at vs 2) (h 2 refl).0)
+    expression_bound TyRestHandle p s vs h = (tt, tt, tt, tt, rules_bound B plain g (t 1) (t 2) (at vs 1) (h 1 refl).0)
     expression_bound AndMoreNone p s vs h = tt
     expression_bound OrMoreNone p s vs h = tt
     expression_bound HandleMoreNone p s vs h = tt
@@ -192,8 +214,20 @@ module _ (B : Space → ℕ → ℕ → Id → Type 0) (apart : (sp : Space) (g 
     )
     expression_bound MatchMoreNone p s vs h = tt
     expression_bound MatchMoreBar p s vs h = (pass B g t mono 1 2 (at vs 1) (omega arith) (h 1 refl).0)
-    expression_bound AtConstant p s vs h = tt
-    expression_bound AtExpVid p s vs h = tt
+    expression_bound AtNumeral p s vs h = tt
+    expression_bound AtZeroNumeral p s vs h = tt
+    expression_bound AtInteger p s vs h = tt
+    expression_bound AtWordConstant p s vs h = tt
+    expression_bound AtRealConstant p s vs h = tt
+    expression_bound AtStringConstant p s vs h = tt
+    expression_bound AtCharacterConstant p s vs h = tt
+    expression_bound AtAlphanumeric p s vs h = tt
+    expression_bound AtSymbolic p s vs h = tt
+    expression_bound AtStar p s vs h = tt
+    expression_bound AtEquals p s vs h = tt
+    expression_bound AtLongAlphanumeric p s vs h = tt
+    expression_bound AtLongSymbolic p s vs h = tt
+    expression_bound AtLongStar p s vs h = tt
     expression_bound AtOp p s vs h = tt
     expression_bound AtOpenCurly p s vs h = (
       distinct B apart S.Labels g (t 1) (t 2) (labels (fields_in (at vs 1))) (fields_bound B plain g (t 1) (t 2) (at vs 1) (h 1 refl).0).0,

@@ -30,8 +30,9 @@ use Rattle.sml_read.specs.declared.grammar.TypeRule.{TypeRule}
 use Rattle.sml_read.specs.declared.grammar.TypeRule.TheVariants as Y
 use Rattle.sml_read.specs.Grammar.{right_side}
 use Rattle.sml_read.specs.Parts.{part_of}
+use Rattle.sml_read.specs.declared.grammar.Part.TheVariants as Part
 use Rattle.sml_fixity.specs.Shapes.{Shape}
-use Rattle.sml_phrases.specs.Phrases.{Phrase, at, nothing, of_long, of_names, of_longs, of_ty, of_tys, of_arguments, of_atoms, of_layer, of_exps, of_series, of_values, of_round_values, of_functions, of_round_functions, of_typ_binds, of_datatypes, of_constructors, of_copy, of_sig, of_wheres, of_specs, of_typ_descs, of_type_rest, of_shared_types, of_functor_argument, constraints_in, exp_in, name_in, names_in, str_in, ty_in}
+use Rattle.sml_phrases.specs.Phrases.{Phrase, at, nothing, of_long, of_names, of_longs, of_ty, of_tys, of_arguments, of_atoms, of_layer, of_exps, of_rest, of_series, of_values, of_round_values, of_functions, of_round_functions, of_typ_binds, of_datatypes, of_constructors, of_copy, of_sig, of_wheres, of_specs, of_typ_descs, of_type_rest, of_shared_types, of_functor_argument, constraints_in, exp_in, name_in, names_in, str_in, ty_in}
 use Rattle.sml_bare_decs.specs.DeclarationRules as D
 use Rattle.sml_bare_exps.specs.ExpressionRules as E
 use Rattle.sml_bare_pats.specs.PatternRules as Q
@@ -395,9 +396,32 @@ declaration_made C.ExnRestNone p s vs h = refl
 declaration_made C.ExnRestOf p s vs h = (right_so _ _ (right_so _ _ h.1.0))
 declaration_made C.ExnRestEquals p s vs h = (right_so _ _ (left_so _ _ h.1.1.0))
 
+made_operand : (e : Exp Place) (v : Phrase) → is_of_part Part.More (E.with_operand e v) ≡ true
+made_operand e (of_rest es ts a o rs) = refl
+made_operand e _ = refl
+
+made_typed : (t : Ty Place) (v : Phrase) → is_of_part Part.More (E.with_type t v) ≡ true
+made_typed t (of_rest es ts a o rs) = refl
+made_typed t _ = refl
+
+made_type : (t : Ty Place) (v : Phrase) → is_of_part Part.TyRest (E.with_type t v) ≡ true
+made_type t (of_rest es ts a o rs) = refl
+made_type t _ = refl
+
 expression_made : (rule : ExpressionRule) (p : Place) (s : Option Shape) (vs : List Phrase) → AreOf (right_side (V.Expressions rule)) 0 vs → is_of_part (part_of (V.Expressions rule)) (expression_phrase rule p s vs) ≡ true
 expression_made X.ExpOpen p s vs h = h.0
-expression_made X.ExpTyp p s vs h = refl
+expression_made X.ExpAt p s vs h = refl
+expression_made X.MoreNone p s vs h = refl
+expression_made X.MoreAt p s vs h = made_operand (exp_in (at vs 0)) (at vs 1)
+expression_made X.MoreColon p s vs h = made_typed (ty_in (at vs 1)) (at vs 2)
+expression_made X.MoreAndalso p s vs h = refl
+expression_made X.MoreOrelse p s vs h = refl
+expression_made X.MoreHandle p s vs h = refl
+expression_made X.TyRestNone p s vs h = refl
+expression_made X.TyRestColon p s vs h = made_type (ty_in (at vs 1)) (at vs 2)
+expression_made X.TyRestAndalso p s vs h = refl
+expression_made X.TyRestOrelse p s vs h = refl
+expression_made X.TyRestHandle p s vs h = refl
 expression_made X.AndMoreNone p s vs h = refl
 expression_made X.AndMoreAndalso p s vs h = (right_so _ _ h.1.0)
 expression_made X.AndRestOpen p s vs h = h.0
@@ -421,8 +445,20 @@ expression_made X.OpenFn p s vs h = refl
 expression_made X.MatchPat p s vs h = refl
 expression_made X.MatchMoreNone p s vs h = refl
 expression_made X.MatchMoreBar p s vs h = h.1.0
-expression_made X.AtConstant p s vs h = refl
-expression_made X.AtExpVid p s vs h = refl
+expression_made X.AtNumeral p s vs h = refl
+expression_made X.AtZeroNumeral p s vs h = refl
+expression_made X.AtInteger p s vs h = refl
+expression_made X.AtWordConstant p s vs h = refl
+expression_made X.AtRealConstant p s vs h = refl
+expression_made X.AtStringConstant p s vs h = refl
+expression_made X.AtCharacterConstant p s vs h = refl
+expression_made X.AtAlphanumeric p s vs h = refl
+expression_made X.AtSymbolic p s vs h = refl
+expression_made X.AtStar p s vs h = refl
+expression_made X.AtEquals p s vs h = refl
+expression_made X.AtLongAlphanumeric p s vs h = refl
+expression_made X.AtLongSymbolic p s vs h = refl
+expression_made X.AtLongStar p s vs h = refl
 expression_made X.AtOp p s vs h = refl
 expression_made X.AtOpenCurly p s vs h = refl
 expression_made X.AtHash p s vs h = refl
@@ -451,9 +487,15 @@ expression_made X.LetMoreSemicolon p s vs h = refl
 
 pattern_made : (rule : PatternRule) (p : Place) (s : Option Shape) (vs : List Phrase) → AreOf (right_side (V.Patterns rule)) 0 vs → is_of_part (part_of (V.Patterns rule)) (pattern_phrase rule p s vs) ≡ true
 pattern_made A.PatOpenRound p s vs h = refl
-pattern_made A.PatBarePat p s vs h = h.0
-pattern_made A.BarePatVid p s vs h = refl
+pattern_made A.PatAlphanumeric p s vs h = refl
+pattern_made A.PatSymbolic p s vs h = refl
+pattern_made A.PatStar p s vs h = refl
+pattern_made A.BarePatAlphanumeric p s vs h = refl
+pattern_made A.BarePatSymbolic p s vs h = refl
+pattern_made A.BarePatStar p s vs h = refl
+pattern_made A.PatOp p s vs h = refl
 pattern_made A.BarePatOp p s vs h = refl
+pattern_made A.PatOtherAtPat p s vs h = refl
 pattern_made A.BarePatOtherAtPat p s vs h = refl
 pattern_made A.OpPatVid p s vs h = made_op (name_in (at vs 0)) (at vs 1) h.1.0
 pattern_made A.OpPatQualified p s vs h = refl
@@ -468,9 +510,15 @@ pattern_made A.AtPatMoreNone p s vs h = refl
 pattern_made A.AtPatMoreAtPat p s vs h = refl
 pattern_made A.AtPatMoreColon p s vs h = refl
 pattern_made A.AtPatOpenRound p s vs h = refl
-pattern_made A.AtPatBareAtPat p s vs h = h.0
-pattern_made A.BareAtPatVid p s vs h = refl
+pattern_made A.AtPatAlphanumeric p s vs h = refl
+pattern_made A.AtPatSymbolic p s vs h = refl
+pattern_made A.AtPatStar p s vs h = refl
+pattern_made A.BareAtPatAlphanumeric p s vs h = refl
+pattern_made A.BareAtPatSymbolic p s vs h = refl
+pattern_made A.BareAtPatStar p s vs h = refl
+pattern_made A.AtPatOp p s vs h = refl
 pattern_made A.BareAtPatOp p s vs h = refl
+pattern_made A.AtPatOtherAtPat p s vs h = h.0
 pattern_made A.BareAtPatOtherAtPat p s vs h = h.0
 pattern_made A.OtherAtPatWildcard p s vs h = refl
 pattern_made A.OtherAtPatConstant p s vs h = refl

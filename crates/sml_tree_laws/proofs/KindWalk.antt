@@ -194,9 +194,12 @@ module _ (unit : List ℕ) (tokens : List Token) where
       source : Source
       source = record { unit = unit; tokens = drop n tokens; begun = n; fits = first_fits fitted }
 
+      made : Phrase
+      made = first (phrases_of source (before_first ends_at nodes) (starts_of 0 (before_first ends_at nodes)))
+
       own : (side : List Symbol) → Leads nodes (side ++ old) kinds next (Of rest ∷ []) → begins_so side ≡ true → IsMade source (before_first ends_at nodes)
-      own (Of G.Top ∷ Of q ∷ []) lead b = let r = parts_made source nodes (Of G.Top ∷ []) old q rest 0 ts kinds next refl b l e m lead in (r.1, top_so _ r.0.0)
-      own (Of G.Exp ∷ Of q ∷ []) lead b = let r = parts_made source nodes (Of G.Exp ∷ []) old q rest 0 ts kinds next refl b l e m lead in (r.1, exp_so _ r.0.0)
+      own (Of G.Top ∷ Of q ∷ []) lead b = let r = parts_made source nodes (Of G.Top ∷ []) old q rest 0 ts kinds next refl b l e m lead in (r.1, top_so made r.0.0)
+      own (Of G.Exp ∷ Of q ∷ []) lead b = let r = parts_made source nodes (Of G.Exp ∷ []) old q rest 0 ts kinds next refl b l e m lead in (r.1, exp_so made r.0.0)
       own _ lead b = absurd (false≢true b)
 
       by_begin : (b : Bool) → begins_at r ≡ b → ((fitted : List Fitted) → AreMade unit tokens n nodes fitted) → WhereBegun b (IsMade source (before_first ends_at nodes) × AreMade unit tokens n nodes (drop 1 fitted)) (AreMade unit tokens n nodes fitted)

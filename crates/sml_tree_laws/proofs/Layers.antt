@@ -41,7 +41,7 @@ op_layer x _ h = absurd (false≢true h)
 
 module _ (text : ℕ → Id) (a : ℕ) (fs : List Found) (vs : List Phrase) where
   -- with one of them no sequence begins
-  pub vid_none : (is_layer (at vs 1) ≡ true → sequence_in (get_or fs 1 nothing) ≡ None) → is_layer (at vs 1) ≡ true → sequence_in (found_at text a (G.Patterns P.BarePatVid) fs) ≡ None
+  pub vid_none : (is_layer (at vs 1) ≡ true → sequence_in (get_or fs 1 nothing) ≡ None) → is_layer (at vs 1) ≡ true → sequence_in (found_at text a (G.Patterns P.BarePatAlphanumeric) fs) ≡ None
   vid_none h e = before_none _ (get_or (take 2 fs) 1 nothing) (subst (λ f. sequence_in f ≡ None) (sym (get_or-take 2 fs 1 nothing (omega arith))) (h e))
 
   pub op_none : (is_layer (at vs 1) ≡ true → sequence_in (get_or fs 1 nothing) ≡ None) → is_layer (at vs 1) ≡ true → sequence_in (found_at text a (G.Patterns P.BarePatOp) fs) ≡ None

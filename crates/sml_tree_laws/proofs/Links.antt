@@ -241,8 +241,15 @@ module _ (text : ℕ → Id) (fits : List Fit) (all : List Mark) where
     -- the sequence is the phrase's own
     abbrev pub IsOwn : PatternRule → Type 0
     IsOwn P.PatOpenRound = OwnAt P.PatOpenRound
-    IsOwn P.BarePatVid = OwnAt P.BarePatVid
+    IsOwn P.PatAlphanumeric = OwnAt P.PatAlphanumeric
+    IsOwn P.PatSymbolic = OwnAt P.PatSymbolic
+    IsOwn P.PatStar = OwnAt P.PatStar
+    IsOwn P.BarePatAlphanumeric = OwnAt P.BarePatAlphanumeric
+    IsOwn P.BarePatSymbolic = OwnAt P.BarePatSymbolic
+    IsOwn P.BarePatStar = OwnAt P.BarePatStar
+    IsOwn P.PatOp = OwnAt P.PatOp
     IsOwn P.BarePatOp = OwnAt P.BarePatOp
+    IsOwn P.PatOtherAtPat = OwnAt P.PatOtherAtPat
     IsOwn P.BarePatOtherAtPat = OwnAt P.BarePatOtherAtPat
     IsOwn _ = Unit {0}
 
@@ -297,12 +304,32 @@ module _ (text : ℕ → Id) (fits : List Fit) (all : List Mark) where
         let l = up 2 in
         open_apply (round_pat p (pats_in (at vs 1))) (pats_of (at vs 2)) (colons_in (at vs 2)) (atom phrase m (inner_in (get_or (take 3 fs) 1 nothing))) (get_or (take 3 fs) 2 nothing) (round_apply (Second (t 0) (t 0) (t 3)) p (pats_in (at vs 1))) own
         (first_second (t 2) (t 3) (t 3) (pats_of (at vs 2)) (atoms_in (get_or (take 3 fs) 2 nothing)) l (omega arith) (h 2 refl))
-    pattern_link P.PatBarePat p own h = h 0 refl
-    pattern_link P.BarePatVid p own h =
+    pattern_link P.PatAlphanumeric p own h =
         let l = up 1 in
         vid_apply p (name_in (at vs 0)) (at vs 1) (get_or (take 2 fs) 1 nothing) own (first_second (t 1) (t 2) (t 2) (pats_of (at vs 1)) (atoms_in (get_or (take 2 fs) 1 nothing)) l (omega arith) (h 1 refl).0) (h 1 refl).1
+    pattern_link P.PatSymbolic p own h =
+        let l = up 1 in
+        vid_apply p (name_in (at vs 0)) (at vs 1) (get_or (take 2 fs) 1 nothing) own (first_second (t 1) (t 2) (t 2) (pats_of (at vs 1)) (atoms_in (get_or (take 2 fs) 1 nothing)) l (omega arith) (h 1 refl).0) (h 1 refl).1
+    pattern_link P.PatStar p own h =
+        let l = up 1 in
+        vid_apply p (name_in (at vs 0)) (at vs 1) (get_or (take 2 fs) 1 nothing) own (first_second (t 1) (t 2) (t 2) (pats_of (at vs 1)) (atoms_in (get_or (take 2 fs) 1 nothing)) l (omega arith) (h 1 refl).0) (h 1 refl).1
+    pattern_link P.BarePatAlphanumeric p own h =
+        let l = up 1 in
+        vid_apply p (name_in (at vs 0)) (at vs 1) (get_or (take 2 fs) 1 nothing) own (first_second (t 1) (t 2) (t 2) (pats_of (at vs 1)) (atoms_in (get_or (take 2 fs) 1 nothing)) l (omega arith) (h 1 refl).0) (h 1 refl).1
+    pattern_link P.BarePatSymbolic p own h =
+        let l = up 1 in
+        vid_apply p (name_in (at vs 0)) (at vs 1) (get_or (take 2 fs) 1 nothing) own (first_second (t 1) (t 2) (t 2) (pats_of (at vs 1)) (atoms_in (get_or (take 2 fs) 1 nothing)) l (omega arith) (h 1 refl).0) (h 1 refl).1
+    pattern_link P.BarePatStar p own h =
+        let l = up 1 in
+        vid_apply p (name_in (at vs 0)) (at vs 1) (get_or (take 2 fs) 1 nothing) own (first_second (t 1) (t 2) (t 2) (pats_of (at vs 1)) (atoms_in (get_or (take 2 fs) 1 nothing)) l (omega arith) (h 1 refl).0) (h 1 refl).1
+    pattern_link P.PatOp p own h =
+        let l = up 1 in op_apply p (at vs 1) (get_or (take 2 fs) 1 nothing) own (first_second (t 1) (t 2) (t 2) (op_pats (at vs 1)) (drop 1 (atoms_in (get_or (take 2 fs) 1 nothing))) l (omega arith) (h 1 refl).0)
     pattern_link P.BarePatOp p own h =
         let l = up 1 in op_apply p (at vs 1) (get_or (take 2 fs) 1 nothing) own (first_second (t 1) (t 2) (t 2) (op_pats (at vs 1)) (drop 1 (atoms_in (get_or (take 2 fs) 1 nothing))) l (omega arith) (h 1 refl).0)
+    pattern_link P.PatOtherAtPat p own h =
+        let l = up 1 in
+        more_apply (Second (t 0) (t 0) (t 2)) (inl refl) s (pat_in (at vs 0)) (pats_of (at vs 1)) (colons_in (at vs 1)) (atom_in (get_or (take 2 fs) 0 nothing)) (get_or (take 2 fs) 1 nothing) own
+        (first_second (t 1) (t 2) (t 2) (pats_of (at vs 1)) (atoms_in (get_or (take 2 fs) 1 nothing)) l (omega arith) (h 1 refl))
     pattern_link P.BarePatOtherAtPat p own h =
         let l = up 1 in
         more_apply (Second (t 0) (t 0) (t 2)) (inl refl) s (pat_in (at vs 0)) (pats_of (at vs 1)) (colons_in (at vs 1)) (atom_in (get_or (take 2 fs) 0 nothing)) (get_or (take 2 fs) 1 nothing) own
@@ -336,10 +363,17 @@ module _ (text : ℕ → Id) (fits : List Fit) (all : List Mark) where
           (λ i. round_bracket (Second (t 0 + 1) (t 0) (t 2)) p (pats_in (at vs 1))
               (one_more (Second (t 1) (t 1) (t 2)) (Second (t 0 + 1) (t 0) (t 2)) (second_wider (t 1) (t 0 + 1) (t 1) (t 2) (t 0) (t 2) (omega (arith, w)) l (omega arith)) (pats_in (at vs 1)) (h 1 refl i))),
         )
-    pattern_link P.AtPatBareAtPat p own h = h 0 refl
-    pattern_link P.BareAtPatVid p own h = ((λ q. h 0 refl refl), (λ i. absurd i))
+    pattern_link P.AtPatAlphanumeric p own h = ((λ q. (h 0 refl).1 refl), (λ i. absurd i))
+    pattern_link P.AtPatSymbolic p own h = ((λ q. (h 0 refl).1 refl), (λ i. absurd i))
+    pattern_link P.AtPatStar p own h = ((λ q. (h 0 refl).1 refl), (λ i. absurd i))
+    pattern_link P.BareAtPatAlphanumeric p own h = ((λ q. (h 0 refl).1 refl), (λ i. absurd i))
+    pattern_link P.BareAtPatSymbolic p own h = ((λ q. (h 0 refl).1 refl), (λ i. absurd i))
+    pattern_link P.BareAtPatStar p own h = ((λ q. (h 0 refl).1 refl), (λ i. absurd i))
+    pattern_link P.AtPatOp p own h =
+        let l = mono 0 in ((λ q. marked_wider c (t 1) (t 2) (t 0) (t 2) l (omega arith) _ (h 1 refl refl (named_op (atom_in (get_or (take 2 fs) 1 nothing)).name q))), (λ i. absurd i))
     pattern_link P.BareAtPatOp p own h =
         let l = mono 0 in ((λ q. marked_wider c (t 1) (t 2) (t 0) (t 2) l (omega arith) _ (h 1 refl refl (named_op (atom_in (get_or (take 2 fs) 1 nothing)).name q))), (λ i. absurd i))
+    pattern_link P.AtPatOtherAtPat p own h = h 0 refl
     pattern_link P.BareAtPatOtherAtPat p own h = h 0 refl
     pattern_link P.OtherAtPatWildcard p own h = ((λ q. absurd (false≢true q)), (λ i. absurd i))
     pattern_link P.OtherAtPatConstant p own h = ((λ q. absurd (false≢true q)), (λ i. absurd i))

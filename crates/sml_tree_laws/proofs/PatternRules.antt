@@ -7,7 +7,7 @@ use Rattle.sml_tree.specs.Patterns.{Pat, Pats, pat_name, no_pat, and_pat}
 use Rattle.sml_fixity.specs.Shapes.{Shape}
 use Rattle.sml_derived.specs.Derived.{long, layered}
 use Rattle.sml_read.specs.declared.grammar.PatternRule.{PatternRule}
-use Rattle.sml_read.specs.declared.grammar.PatternRule.TheVariants.{PatOpenRound, BarePatVid, BarePatOp, BarePatOtherAtPat, OpPatVid, OpPatQualified, AfterVidNone, AfterVidAs, AfterVidColon, AfterVidAtPat, AfterVidTyNone, AfterVidTyAs, AfterVidTyColon, AtPatMoreNone, AtPatMoreAtPat, AtPatMoreColon, AtPatOpenRound, BareAtPatVid, BareAtPatOp, OtherAtPatWildcard, OtherAtPatConstant, OtherAtPatQualified, OtherAtPatOpenCurly, OtherAtPatOpenSquare, PatRoundCloseRound, PatRoundPat, PatRoundMoreCloseRound, PatRoundMoreComma, PatListCloseSquare, PatListPat, PatListMoreCloseSquare, PatListMoreComma, PatRowCloseCurly, RowDots, RowNumeral, RowVid, RowRestEquals, RowRestTyped, RowAsNone, RowAsAs, RowMoreNone, RowMoreComma}
+use Rattle.sml_read.specs.declared.grammar.PatternRule.TheVariants.{PatOpenRound, PatAlphanumeric, PatSymbolic, PatStar, BarePatAlphanumeric, BarePatSymbolic, BarePatStar, PatOp, BarePatOp, PatOtherAtPat, BarePatOtherAtPat, OpPatVid, OpPatQualified, AfterVidNone, AfterVidAs, AfterVidColon, AfterVidAtPat, AfterVidTyNone, AfterVidTyAs, AfterVidTyColon, AtPatMoreNone, AtPatMoreAtPat, AtPatMoreColon, AtPatOpenRound, AtPatAlphanumeric, AtPatSymbolic, AtPatStar, BareAtPatAlphanumeric, BareAtPatSymbolic, BareAtPatStar, AtPatOp, BareAtPatOp, OtherAtPatWildcard, OtherAtPatConstant, OtherAtPatQualified, OtherAtPatOpenCurly, OtherAtPatOpenSquare, PatRoundCloseRound, PatRoundPat, PatRoundMoreCloseRound, PatRoundMoreComma, PatListCloseSquare, PatListPat, PatListMoreCloseSquare, PatListMoreComma, PatRowCloseCurly, RowDots, RowNumeral, RowVid, RowRestEquals, RowRestTyped, RowAsNone, RowAsAs, RowMoreNone, RowMoreComma}
 use Rattle.sml_pat_sequences.specs.RoundPatterns.{round_pat}
 use Rattle.sml_bare_pats.specs.PatternPhrases.{pat_fields_in, atoms_in, colons_in}
 use Rattle.sml_bare_pats.specs.PatternRules.{list_pat, from_vid, op_from_vid, behind_op, behind_colon, field_pat, pattern_phrase}
@@ -73,8 +73,15 @@ module _ (L V R : Id → Type 0) where
 
   pub pattern_sits : (rule : PatternRule) (p : Place) (s : Option Shape) (vs : List Phrase) → PartsSit L V R (G.Patterns rule) vs → PhraseSits L V R (pattern_phrase rule p s vs)
   pattern_sits PatOpenRound p s vs h = round_sequence_sits V s (round_pat p (pats_in (at vs 1))) (atoms_in (at vs 2)) (colons_in (at vs 2)) (round_pat_sits p (pats_in (at vs 1)) (pats_sit L V R (at vs 1) (h 1 refl).0)) (atoms_sit (at vs 2) (h 2 refl).0) (colons_sit (at vs 2) (h 2 refl).0)
-  pattern_sits BarePatVid p s vs h = from_vid_sits s p (name_in (at vs 0)) (at vs 1) (h 1 refl).0
+  pattern_sits PatAlphanumeric p s vs h = from_vid_sits s p (name_in (at vs 0)) (at vs 1) (h 1 refl).0
+  pattern_sits PatSymbolic p s vs h = from_vid_sits s p (name_in (at vs 0)) (at vs 1) (h 1 refl).0
+  pattern_sits PatStar p s vs h = from_vid_sits s p (name_in (at vs 0)) (at vs 1) (h 1 refl).0
+  pattern_sits BarePatAlphanumeric p s vs h = from_vid_sits s p (name_in (at vs 0)) (at vs 1) (h 1 refl).0
+  pattern_sits BarePatSymbolic p s vs h = from_vid_sits s p (name_in (at vs 0)) (at vs 1) (h 1 refl).0
+  pattern_sits BarePatStar p s vs h = from_vid_sits s p (name_in (at vs 0)) (at vs 1) (h 1 refl).0
+  pattern_sits PatOp p s vs h = behind_op_sits s p (at vs 1) (h 1 refl).0
   pattern_sits BarePatOp p s vs h = behind_op_sits s p (at vs 1) (h 1 refl).0
+  pattern_sits PatOtherAtPat p s vs h = sequence_pat_sits V s (and_pat (pat_in (at vs 0)) (atoms_in (at vs 1))) (colons_in (at vs 1)) ((pat_sits L V R (at vs 0) (h 0 refl).0), (atoms_sit (at vs 1) (h 1 refl).0)) (colons_sit (at vs 1) (h 1 refl).0)
   pattern_sits BarePatOtherAtPat p s vs h = sequence_pat_sits V s (and_pat (pat_in (at vs 0)) (atoms_in (at vs 1))) (colons_in (at vs 1)) ((pat_sits L V R (at vs 0) (h 0 refl).0), (atoms_sit (at vs 1) (h 1 refl).0)) (colons_sit (at vs 1) (h 1 refl).0)
   pattern_sits OpPatVid p s vs h = op_from_vid_sits (name_in (at vs 0)) (at vs 1) (h 1 refl).0
   pattern_sits OpPatQualified p s vs h = ((atoms_sit (at vs 1) (h 1 refl).0), (colons_sit (at vs 1) (h 1 refl).0))
@@ -89,7 +96,13 @@ module _ (L V R : Id → Type 0) where
   pattern_sits AtPatMoreAtPat p s vs h = (((pat_sits L V R (at vs 0) (h 0 refl).0), (atoms_sit (at vs 1) (h 1 refl).0)), (colons_sit (at vs 1) (h 1 refl).0))
   pattern_sits AtPatMoreColon p s vs h = (tt, ((ty_sits L V R (at vs 1) (h 1 refl).0), (tys_sit L V R (at vs 2) (h 2 refl).0)))
   pattern_sits AtPatOpenRound p s vs h = round_pat_sits p (pats_in (at vs 1)) (pats_sit L V R (at vs 1) (h 1 refl).0)
-  pattern_sits BareAtPatVid p s vs h = tt
+  pattern_sits AtPatAlphanumeric p s vs h = tt
+  pattern_sits AtPatSymbolic p s vs h = tt
+  pattern_sits AtPatStar p s vs h = tt
+  pattern_sits BareAtPatAlphanumeric p s vs h = tt
+  pattern_sits BareAtPatSymbolic p s vs h = tt
+  pattern_sits BareAtPatStar p s vs h = tt
+  pattern_sits AtPatOp p s vs h = tt
   pattern_sits BareAtPatOp p s vs h = tt
   pattern_sits OtherAtPatWildcard p s vs h = tt
   pattern_sits OtherAtPatConstant p s vs h = tt

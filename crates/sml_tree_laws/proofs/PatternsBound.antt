@@ -24,7 +24,7 @@ use Rattle.sml_fixity.specs.declared.sequences.Step.TheVariants.{Push, Apply, Co
 use Rattle.sml_fixity.specs.Shapes.{Shape, tree, headed}
 use Rattle.sml_derived.specs.Derived.{long, layered}
 use Rattle.sml_read.specs.declared.grammar.PatternRule.{PatternRule}
-use Rattle.sml_read.specs.declared.grammar.PatternRule.TheVariants.{PatOpenRound, BarePatVid, BarePatOp, BarePatOtherAtPat, OpPatVid, OpPatQualified, AfterVidNone, AfterVidAs, AfterVidColon, AfterVidAtPat, AfterVidTyNone, AfterVidTyAs, AfterVidTyColon, AtPatMoreNone, AtPatMoreAtPat, AtPatMoreColon, AtPatOpenRound, BareAtPatVid, BareAtPatOp, OtherAtPatWildcard, OtherAtPatConstant, OtherAtPatQualified, OtherAtPatOpenCurly, OtherAtPatOpenSquare, PatRoundCloseRound, PatRoundPat, PatRoundMoreCloseRound, PatRoundMoreComma, PatListCloseSquare, PatListPat, PatListMoreCloseSquare, PatListMoreComma, PatRowCloseCurly, RowDots, RowNumeral, RowVid, RowRestEquals, RowRestTyped, RowAsNone, RowAsAs, RowMoreNone, RowMoreComma, PatRowRow}
+use Rattle.sml_read.specs.declared.grammar.PatternRule.TheVariants.{PatOpenRound, PatAlphanumeric, PatSymbolic, PatStar, BarePatAlphanumeric, BarePatSymbolic, BarePatStar, PatOp, BarePatOp, PatOtherAtPat, BarePatOtherAtPat, OpPatVid, OpPatQualified, AfterVidNone, AfterVidAs, AfterVidColon, AfterVidAtPat, AfterVidTyNone, AfterVidTyAs, AfterVidTyColon, AtPatMoreNone, AtPatMoreAtPat, AtPatMoreColon, AtPatOpenRound, AtPatAlphanumeric, AtPatSymbolic, AtPatStar, BareAtPatAlphanumeric, BareAtPatSymbolic, BareAtPatStar, AtPatOp, BareAtPatOp, OtherAtPatWildcard, OtherAtPatConstant, OtherAtPatQualified, OtherAtPatOpenCurly, OtherAtPatOpenSquare, PatRoundCloseRound, PatRoundPat, PatRoundMoreCloseRound, PatRoundMoreComma, PatListCloseSquare, PatListPat, PatListMoreCloseSquare, PatListMoreComma, PatRowCloseCurly, RowDots, RowNumeral, RowVid, RowRestEquals, RowRestTyped, RowAsNone, RowAsAs, RowMoreNone, RowMoreComma, PatRowRow}
 use Rattle.sml_pat_sequences.specs.PatternSequences as Q
 use Rattle.sml_pat_sequences.specs.RoundPatterns.{round_pat}
 use Rattle.sml_bare_pats.specs.PatternPhrases.{pat_fields_in, atoms_in, colons_in}
@@ -162,8 +162,18 @@ module _ (B : Space → ℕ → ℕ → Id → Type 0) (apart : (sp : Space) (g 
         round_sequence_bound s (round_pat p (pats_in (at vs 1))) (atoms_in (at vs 2)) (colons_in (at vs 2))
         (round_pat_bound p (pats_in (at vs 1)) (pats_bound B plain g (t 1) (t 2) (at vs 1) (h 1 refl).0))
         (atoms_bound plain g (t 2) (t 3) (at vs 2) (h 2 refl).0) (colons_bound plain g (t 2) (t 3) (at vs 2) (h 2 refl).0)
-    pattern_bound BarePatVid p s vs h = from_vid_bound g (t 1) (t 2) s p (name_in (at vs 0)) (at vs 1) (h 1 refl).0
+    pattern_bound PatAlphanumeric p s vs h = from_vid_bound g (t 1) (t 2) s p (name_in (at vs 0)) (at vs 1) (h 1 refl).0
+    pattern_bound PatSymbolic p s vs h = from_vid_bound g (t 1) (t 2) s p (name_in (at vs 0)) (at vs 1) (h 1 refl).0
+    pattern_bound PatStar p s vs h = from_vid_bound g (t 1) (t 2) s p (name_in (at vs 0)) (at vs 1) (h 1 refl).0
+    pattern_bound BarePatAlphanumeric p s vs h = from_vid_bound g (t 1) (t 2) s p (name_in (at vs 0)) (at vs 1) (h 1 refl).0
+    pattern_bound BarePatSymbolic p s vs h = from_vid_bound g (t 1) (t 2) s p (name_in (at vs 0)) (at vs 1) (h 1 refl).0
+    pattern_bound BarePatStar p s vs h = from_vid_bound g (t 1) (t 2) s p (name_in (at vs 0)) (at vs 1) (h 1 refl).0
+    pattern_bound PatOp p s vs h = behind_op_bound g (t 1) (t 2) s p (at vs 1) (h 1 refl).0
     pattern_bound BarePatOp p s vs h = behind_op_bound g (t 1) (t 2) s p (at vs 1) (h 1 refl).0
+    pattern_bound PatOtherAtPat p s vs h =
+        sequence_bound s (and_pat (pat_in (at vs 0)) (atoms_in (at vs 1))) (colons_in (at vs 1))
+        ((pat_bound B plain g (t 0) (t 1) (at vs 0) (h 0 refl).0), (atoms_bound plain g (t 1) (t 2) (at vs 1) (h 1 refl).0))
+        (colons_bound plain g (t 1) (t 2) (at vs 1) (h 1 refl).0)
     pattern_bound BarePatOtherAtPat p s vs h =
         sequence_bound s (and_pat (pat_in (at vs 0)) (atoms_in (at vs 1))) (colons_in (at vs 1))
         ((pat_bound B plain g (t 0) (t 1) (at vs 0) (h 0 refl).0), (atoms_bound plain g (t 1) (t 2) (at vs 1) (h 1 refl).0))
@@ -187,7 +197,13 @@ module _ (B : Space → ℕ → ℕ → Id → Type 0) (apart : (sp : Space) (g 
     )
     pattern_bound AtPatMoreColon p s vs h = (tt, ((ty_bound B plain g (t 1) (t 2) (at vs 1) (h 1 refl).0), (tys_bound B plain g (t 2) (t 3) (at vs 2) (h 2 refl).0)))
     pattern_bound AtPatOpenRound p s vs h = round_pat_bound p (pats_in (at vs 1)) (pats_bound B plain g (t 1) (t 2) (at vs 1) (h 1 refl).0)
-    pattern_bound BareAtPatVid p s vs h = tt
+    pattern_bound AtPatAlphanumeric p s vs h = tt
+    pattern_bound AtPatSymbolic p s vs h = tt
+    pattern_bound AtPatStar p s vs h = tt
+    pattern_bound BareAtPatAlphanumeric p s vs h = tt
+    pattern_bound BareAtPatSymbolic p s vs h = tt
+    pattern_bound BareAtPatStar p s vs h = tt
+    pattern_bound AtPatOp p s vs h = tt
     pattern_bound BareAtPatOp p s vs h = tt
     pattern_bound OtherAtPatWildcard p s vs h = tt
     pattern_bound OtherAtPatQualified p s vs h = tt

@@ -7,7 +7,7 @@ use Rattle.sml_tree.specs.Patterns.{Pat}
 use Rattle.sml_tree.specs.Expressions.{Exp, Rules, ValBind, bind}
 use Rattle.sml_tree.specs.Clauses.{Clause}
 use Rattle.sml_rules.specs.Every.{Every}
-use Rattle.sml_phrases.specs.Phrases.{Phrase, of_names, of_ty, of_tys, of_ty_fields, of_arguments, of_pat, of_pats, of_pat_fields, of_atoms, of_layer, of_op_atoms, of_op_layer, of_exp, of_exps, of_series, of_fields, of_rules, of_dec, of_decs, of_bind, of_binds, of_values, of_round_values, of_functions, of_right_side, of_clauses, of_round_functions, of_con_bind, of_exn_binds, of_str, of_str_dec, of_str_decs, of_str_binds, of_begun_str_bind, of_fun_binds, of_begun_fun_bind, of_begun_functor, of_top, names_in, ty_in, tys_in, ty_fields_in, pat_in, pats_in, exp_in, exps_in, fields_in, rules_in, dec_in, decs_in, bind_in, binds_in, clauses_in, exn_binds_in, str_in, str_dec_in, str_decs_in, top_in, ty_if_any, pat_if_any, exp_if_any, rules_if_any, str_binds_in, fun_binds_in}
+use Rattle.sml_phrases.specs.Phrases.{Phrase, of_names, of_ty, of_tys, of_ty_fields, of_arguments, of_pat, of_pats, of_pat_fields, of_atoms, of_layer, of_op_atoms, of_op_layer, of_exp, of_exps, of_series, of_fields, of_rules, of_rest, of_dec, of_decs, of_bind, of_binds, of_values, of_round_values, of_functions, of_right_side, of_clauses, of_round_functions, of_con_bind, of_exn_binds, of_str, of_str_dec, of_str_decs, of_str_binds, of_begun_str_bind, of_fun_binds, of_begun_fun_bind, of_begun_functor, of_top, names_in, ty_in, tys_in, ty_fields_in, pat_in, pats_in, exp_in, exps_in, fields_in, rules_in, dec_in, decs_in, bind_in, binds_in, clauses_in, exn_binds_in, str_in, str_dec_in, str_decs_in, top_in, ty_if_any, pat_if_any, exp_if_any, rules_if_any, str_binds_in, fun_binds_in}
 use Rattle.sml_tree_laws.specs.Scoped.{ids, StrScoped, StrDecScoped, StrDecsScoped, StrBindsScoped, FunBindsScoped, TopScoped}
 use Rattle.sml_tree_laws.proofs.Sits.{TySits, TysSit, TyFieldsSit, TySitsIfAny, PatSits, PatsSit, PatFieldsSit, ExnBindsSit, ExpSits, ExpsSit, FieldsSit, RulesSit, DecSits, DecsSit, BindsSit}
 
@@ -70,6 +70,7 @@ module _ (L V R : Id → Type 0) where
   PhraseSits (of_series es) = ExpsSit R V es
   PhraseSits (of_fields fs) = FieldsSit R V fs
   PhraseSits (of_rules rs) = RulesSit R V rs
+  PhraseSits (of_rest es ts a o rs) = ExpsSit R V es × TysSit V ts × ExpSitsIfAny a × ExpSitsIfAny o × RulesSitIfAny rs
   PhraseSits (of_dec d) = DecSits R V d
   PhraseSits (of_decs ds) = DecsSit R V ds
   PhraseSits (of_bind b) = BindSits b

@@ -10,7 +10,7 @@ use Rattle.sml_tree.specs.Clauses.{Clause, Constraint}
 use Rattle.sml_read.specs.declared.grammar.Part.TheVariants as Part
 use Rattle.sml_read.specs.declared.grammar.Symbol.{Symbol}
 use Rattle.sml_read.specs.declared.grammar.Symbol.TheVariants.{Of}
-use Rattle.sml_phrases.specs.Phrases.{Phrase, of_names, of_ty, of_tys, of_ty_fields, of_arguments, of_pat, of_pats, of_pat_fields, of_atoms, of_layer, of_op_atoms, of_op_layer, of_exp, of_exps, of_series, of_fields, of_rules, of_dec, of_decs, of_bind, of_binds, of_values, of_round_values, of_functions, of_right_side, of_clauses, of_round_functions, of_typ_bind, of_typ_binds, of_con_bind, of_con_binds, of_datatypes, of_constructors, of_copy, of_exn_binds, of_sig, of_where, of_wheres, of_begun_sig_bind, of_sig_binds, of_specs, of_val_desc, of_val_descs, of_typ_descs, of_type_rest, of_begun_str_desc, of_str_descs, of_str, of_str_dec, of_str_decs, of_constraints, of_str_binds, of_begun_str_bind, of_functor_argument, of_fun_binds, of_begun_fun_bind, of_begun_functor, of_top}
+use Rattle.sml_phrases.specs.Phrases.{Phrase, of_names, of_ty, of_tys, of_ty_fields, of_arguments, of_pat, of_pats, of_pat_fields, of_atoms, of_layer, of_op_atoms, of_op_layer, of_exp, of_exps, of_series, of_fields, of_rules, of_rest, of_dec, of_decs, of_bind, of_binds, of_values, of_round_values, of_functions, of_right_side, of_clauses, of_round_functions, of_typ_bind, of_typ_binds, of_con_bind, of_con_binds, of_datatypes, of_constructors, of_copy, of_exn_binds, of_sig, of_where, of_wheres, of_begun_sig_bind, of_sig_binds, of_specs, of_val_desc, of_val_descs, of_typ_descs, of_type_rest, of_begun_str_desc, of_str_descs, of_str, of_str_dec, of_str_decs, of_constraints, of_str_binds, of_begun_str_bind, of_functor_argument, of_fun_binds, of_begun_fun_bind, of_begun_functor, of_top}
 use Rattle.sml_flaws.specs.declared.role.Space.{Space}
 use Rattle.sml_flaws.specs.declared.role.Space.TheVariants as S
 use Rattle.sml_tree_laws.specs.Scoped.{ids}
@@ -121,6 +121,7 @@ module _ (B : Space → ℕ → ℕ → Id → Type 0) where
   PhraseBound c g lo hi (of_series es) = ExpsBound es
   PhraseBound c g lo hi (of_fields fs) = Named B S.Labels g lo hi (labels fs) × FieldsBound fs
   PhraseBound c g lo hi (of_rules rs) = RulesBound rs
+  PhraseBound c g lo hi (of_rest es ts a o rs) = ExpsBound es × TysBound ts × ExpBoundIfAny a × ExpBoundIfAny o × RulesBoundIfAny rs
   PhraseBound c g lo hi (of_dec d) = DecBound d
   PhraseBound c g lo hi (of_decs ds) = DecsBound ds
   PhraseBound c g lo hi (of_bind b) = BindBound b

@@ -3,7 +3,7 @@ use Rattle.std.specs.Prelude.{◌≡◌, ℕ, List, [], ◌∷◌, Option, Some,
 use Rattle.std.proofs.Common.{refl, inl}
 use Rattle.sml_lex.specs.declared.fault.Place.{Place}
 use Rattle.sml_tree.specs.Names.{Name}
-use Rattle.sml_tree.specs.Types.{Tys, no_ty, and_ty}
+use Rattle.sml_tree.specs.Types.{Ty, Tys, no_ty, and_ty}
 use Rattle.sml_tree.specs.Expressions.{Exp, Exps, Rules, typed, no_exp, and_exp}
 use Rattle.sml_rules.specs.Every.{Every}
 use Rattle.sml_fixity.specs.declared.sequences.Step.{Step}
@@ -13,11 +13,11 @@ use Rattle.sml_read.specs.Grammar.{right_side}
 use Rattle.sml_read.specs.declared.grammar.Rule.{Rule}
 use Rattle.sml_read.specs.declared.grammar.Rule.TheVariants as G
 use Rattle.sml_read.specs.declared.grammar.ExpressionRule.{ExpressionRule}
-use Rattle.sml_read.specs.declared.grammar.ExpressionRule.TheVariants.{ExpTyp, AndMoreNone, AndMoreAndalso, AndRestTyp, OrMoreNone, OrMoreOrelse, OrRestTyp, HandleMoreNone, HandleMoreHandle, TypAt, AtMoreNone, AtMoreAt, TyMoreNone, TyMoreColon, OpenRaise, OpenIf, OpenWhile, OpenCase, OpenFn, MatchPat, MatchMoreNone, MatchMoreBar, AtConstant, AtExpVid, AtOp, AtOpenCurly, AtHash, AtOpenRound, AtOpenSquare, AtLet, ExpRowCloseCurly, ExpRowLab, ExpRowMoreCloseCurly, ExpRowMoreComma, ExpRoundCloseRound, ExpRoundExp, ExpRoundMoreCloseRound, ExpRoundMoreComma, ExpRoundMoreSemicolon, TupleMoreCloseRound, TupleMoreComma, SequenceMoreCloseRound, SequenceMoreSemicolon, ExpListCloseSquare, ExpListExp, ExpListMoreCloseSquare, ExpListMoreComma, LetMoreEnd, LetMoreSemicolon}
-use Rattle.sml_phrases.specs.Phrases.{Phrase, of_series, at, tys_in, exp_in, exps_in, exp_if_any, rules_if_any}
+use Rattle.sml_read.specs.declared.grammar.ExpressionRule.TheVariants.{ExpAt, MoreNone, MoreAt, MoreColon, MoreAndalso, MoreOrelse, MoreHandle, TyRestNone, TyRestColon, TyRestAndalso, TyRestOrelse, TyRestHandle, AndMoreNone, AndMoreAndalso, AndRestTyp, OrMoreNone, OrMoreOrelse, OrRestTyp, HandleMoreNone, HandleMoreHandle, TypAt, AtMoreNone, AtMoreAt, TyMoreNone, TyMoreColon, OpenRaise, OpenIf, OpenWhile, OpenCase, OpenFn, MatchPat, MatchMoreNone, MatchMoreBar, AtNumeral, AtZeroNumeral, AtInteger, AtWordConstant, AtRealConstant, AtStringConstant, AtCharacterConstant, AtAlphanumeric, AtSymbolic, AtStar, AtEquals, AtLongAlphanumeric, AtLongSymbolic, AtLongStar, AtOp, AtOpenCurly, AtHash, AtOpenRound, AtOpenSquare, AtLet, ExpRowCloseCurly, ExpRowLab, ExpRowMoreCloseCurly, ExpRowMoreComma, ExpRoundCloseRound, ExpRoundExp, ExpRoundMoreCloseRound, ExpRoundMoreComma, ExpRoundMoreSemicolon, TupleMoreCloseRound, TupleMoreComma, SequenceMoreCloseRound, SequenceMoreSemicolon, ExpListCloseSquare, ExpListExp, ExpListMoreCloseSquare, ExpListMoreComma, LetMoreEnd, LetMoreSemicolon}
+use Rattle.sml_phrases.specs.Phrases.{Phrase, of_series, of_rest, at, ty_in, tys_in, exp_in, exps_in, exp_if_any, rules_if_any}
 use Rattle.sml_bare_exps.specs.ExpressionSequences as E
 use Rattle.sml_bare_exps.specs.ExpressionSequences.{exp_place}
-use Rattle.sml_bare_exps.specs.ExpressionRules.{conjunction, disjunction, handled, series_of, list_of, tuple_of, round_of, round_parts, expression_phrase}
+use Rattle.sml_bare_exps.specs.ExpressionRules.{conjunction, disjunction, handled, with_operand, with_type, whole, series_of, list_of, tuple_of, round_of, round_parts, expression_phrase}
 use Rattle.sml_derived.specs.Words.{hidden}
 use Rattle.sml_flaws.specs.Flaws.{is_reserved}
 use Rattle.sml_tree_laws.specs.Recursive.{ExpRec, ExpsRec}
@@ -98,6 +98,21 @@ handled_rec : (p : Place) (e : Exp Place) (o : Option (Rules Place)) → ExpRec 
 handled_rec p e None h k = h
 handled_rec p e (Some rs) h k = (h, k)
 
+with_operand_rec : (e : Exp Place) (v : Phrase) → ExpRec e → PhraseRec v → PhraseRec (with_operand e v)
+with_operand_rec e (of_rest es ts a o rs) h k = ((h, k.0), k.1, k.2, k.3)
+with_operand_rec e v h k = (h, exps_rec v k)
+
+with_type_rec : (t : Ty Place) (v : Phrase) → PhraseRec v → PhraseRec (with_type t v)
+with_type_rec t (of_rest es ts a o rs) k = k
+with_type_rec t v k = (tt, tt, tt, tt)
+
+whole_rec : (p : Place) (s : Option Shape) (e : Exp Place) (v : Phrase) → ExpRec e → PhraseRec v → ExpRec (whole p s e v)
+whole_rec p s e (of_rest es ts a o rs) h k =
+    let d = E.sequence_exp s (and_exp e es) ts in
+    let f = conjunction_rec p d a (sequence_exp_rec s (and_exp e es) ts (h, k.0)) k.1 in
+    handled_rec p (disjunction p (conjunction p d a) o) rs (disjunction_rec p (conjunction p d a) o f k.2) k.3
+whole_rec p s e v h k = sequence_exp_rec s (and_exp e (exps_in v)) no_ty (h, exps_rec v k)
+
 series_rec : (p : Place) (es : Exps Place) → ExpsRec es → ExpRec (series_of p es)
 series_rec p no_exp h = tt
 series_rec p (and_exp e no_exp) h = h.0
@@ -121,7 +136,18 @@ round_parts_rec e (of_series es) h k = (h, k)
 round_parts_rec e v h k = (h, exps_rec v k)
 
 pub expression_rec : (rule : ExpressionRule) (p : Place) (s : Option Shape) (vs : List Phrase) → PartsRec (G.Expressions rule) vs → PhraseRec (expression_phrase rule p s vs)
-expression_rec ExpTyp p s vs h = handled_rec p (disjunction p (conjunction p (exp_in (at vs 0)) (exp_if_any (at vs 1))) (exp_if_any (at vs 2))) (rules_if_any (at vs 3)) (disjunction_rec p (conjunction p (exp_in (at vs 0)) (exp_if_any (at vs 1))) (exp_if_any (at vs 2)) (conjunction_rec p (exp_in (at vs 0)) (exp_if_any (at vs 1)) (exp_rec (at vs 0) (h 0 refl)) (exp_rec_if_any (at vs 1) (h 1 refl))) (exp_rec_if_any (at vs 2) (h 2 refl))) (rules_rec_if_any (at vs 3) (h 3 refl))
+expression_rec ExpAt p s vs h = whole_rec p s (exp_in (at vs 0)) (at vs 1) (exp_rec (at vs 0) (h 0 refl)) (h 1 refl)
+expression_rec MoreNone p s vs h = tt
+expression_rec TyRestNone p s vs h = tt
+expression_rec MoreAt p s vs h = with_operand_rec (exp_in (at vs 0)) (at vs 1) (exp_rec (at vs 0) (h 0 refl)) (h 1 refl)
+expression_rec MoreColon p s vs h = with_type_rec (ty_in (at vs 1)) (at vs 2) (h 2 refl)
+expression_rec MoreAndalso p s vs h = (tt, exp_rec (at vs 1) (h 1 refl), exp_rec_if_any (at vs 2) (h 2 refl), rules_rec_if_any (at vs 3) (h 3 refl))
+expression_rec MoreOrelse p s vs h = (tt, tt, exp_rec (at vs 1) (h 1 refl), rules_rec_if_any (at vs 2) (h 2 refl))
+expression_rec MoreHandle p s vs h = (tt, tt, tt, rules_rec (at vs 1) (h 1 refl))
+expression_rec TyRestColon p s vs h = with_type_rec (ty_in (at vs 1)) (at vs 2) (h 2 refl)
+expression_rec TyRestAndalso p s vs h = (tt, exp_rec (at vs 1) (h 1 refl), exp_rec_if_any (at vs 2) (h 2 refl), rules_rec_if_any (at vs 3) (h 3 refl))
+expression_rec TyRestOrelse p s vs h = (tt, tt, exp_rec (at vs 1) (h 1 refl), rules_rec_if_any (at vs 2) (h 2 refl))
+expression_rec TyRestHandle p s vs h = (tt, tt, tt, rules_rec (at vs 1) (h 1 refl))
 expression_rec AndMoreNone p s vs h = tt
 expression_rec OrMoreNone p s vs h = tt
 expression_rec HandleMoreNone p s vs h = tt
@@ -144,8 +170,20 @@ expression_rec OpenFn p s vs h = (rules_rec (at vs 1) (h 1 refl))
 expression_rec MatchPat p s vs h = ((exp_rec (at vs 2) (h 2 refl)), (rules_rec (at vs 3) (h 3 refl)))
 expression_rec MatchMoreNone p s vs h = tt
 expression_rec MatchMoreBar p s vs h = (h 1 refl)
-expression_rec AtConstant p s vs h = tt
-expression_rec AtExpVid p s vs h = tt
+expression_rec AtNumeral p s vs h = tt
+expression_rec AtZeroNumeral p s vs h = tt
+expression_rec AtInteger p s vs h = tt
+expression_rec AtWordConstant p s vs h = tt
+expression_rec AtRealConstant p s vs h = tt
+expression_rec AtStringConstant p s vs h = tt
+expression_rec AtCharacterConstant p s vs h = tt
+expression_rec AtAlphanumeric p s vs h = tt
+expression_rec AtSymbolic p s vs h = tt
+expression_rec AtStar p s vs h = tt
+expression_rec AtEquals p s vs h = tt
+expression_rec AtLongAlphanumeric p s vs h = tt
+expression_rec AtLongSymbolic p s vs h = tt
+expression_rec AtLongStar p s vs h = tt
 expression_rec AtOp p s vs h = tt
 expression_rec AtOpenCurly p s vs h = (fields_rec (at vs 1) (h 1 refl))
 expression_rec AtHash p s vs h = (tt, tt)

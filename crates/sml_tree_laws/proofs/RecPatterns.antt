@@ -19,7 +19,7 @@ use Rattle.sml_read.specs.declared.grammar.Rule.TheVariants as G
 use Rattle.sml_read.specs.declared.grammar.NameRule.{NameRule}
 use Rattle.sml_read.specs.declared.grammar.NameRule.TheVariants as N
 use Rattle.sml_read.specs.declared.grammar.PatternRule.{PatternRule}
-use Rattle.sml_read.specs.declared.grammar.PatternRule.TheVariants.{PatOpenRound, PatBarePat, BarePatVid, BarePatOp, BarePatOtherAtPat, OpPatVid, OpPatQualified, AfterVidNone, AfterVidAs, AfterVidColon, AfterVidAtPat, AfterVidTyNone, AfterVidTyAs, AfterVidTyColon, AtPatMoreNone, AtPatMoreAtPat, AtPatMoreColon, AtPatOpenRound, AtPatBareAtPat, BareAtPatVid, BareAtPatOp, BareAtPatOtherAtPat, OtherAtPatWildcard, OtherAtPatConstant, OtherAtPatQualified, OtherAtPatOpenCurly, OtherAtPatOpenSquare, PatRoundCloseRound, PatRoundPat, PatRoundMoreCloseRound, PatRoundMoreComma, PatListCloseSquare, PatListPat, PatListMoreCloseSquare, PatListMoreComma, PatRowCloseCurly, PatRowRow, RowDots, RowNumeral, RowVid, RowRestEquals, RowRestTyped, RowAsNone, RowAsAs, RowMoreNone, RowMoreComma}
+use Rattle.sml_read.specs.declared.grammar.PatternRule.TheVariants.{PatOpenRound, PatAlphanumeric, PatSymbolic, PatStar, BarePatAlphanumeric, BarePatSymbolic, BarePatStar, PatOp, BarePatOp, PatOtherAtPat, BarePatOtherAtPat, OpPatVid, OpPatQualified, AfterVidNone, AfterVidAs, AfterVidColon, AfterVidAtPat, AfterVidTyNone, AfterVidTyAs, AfterVidTyColon, AtPatMoreNone, AtPatMoreAtPat, AtPatMoreColon, AtPatOpenRound, AtPatAlphanumeric, AtPatSymbolic, AtPatStar, BareAtPatAlphanumeric, BareAtPatSymbolic, BareAtPatStar, AtPatOp, BareAtPatOp, AtPatOtherAtPat, BareAtPatOtherAtPat, OtherAtPatWildcard, OtherAtPatConstant, OtherAtPatQualified, OtherAtPatOpenCurly, OtherAtPatOpenSquare, PatRoundCloseRound, PatRoundPat, PatRoundMoreCloseRound, PatRoundMoreComma, PatListCloseSquare, PatListPat, PatListMoreCloseSquare, PatListMoreComma, PatRowCloseCurly, PatRowRow, RowDots, RowNumeral, RowVid, RowRestEquals, RowRestTyped, RowAsNone, RowAsAs, RowMoreNone, RowMoreComma}
 use Rattle.sml_phrases.specs.Phrases.{Phrase, of_pat, of_atoms, of_layer, of_op_atoms, of_op_layer, at, name_in, long_in, pat_in, pats_in, pat_if_any, ty_in}
 use Rattle.sml_pat_sequences.specs.PatternSequences as P
 use Rattle.sml_pat_sequences.specs.RoundPatterns.{round_pat}
@@ -130,7 +130,13 @@ module _ (used : ℕ → ℕ → Bool) (text : ℕ → Id) where
 
   -- an identifier before `as` isn't used in a sequence that begins at its token, or at `op`
   abbrev pub Free : ℕ → PatternRule → List Phrase → Type 0
-  Free a BarePatVid vs = is_layer (at vs 1) ≡ true → used a 0 ≡ false
+  Free a PatAlphanumeric vs = is_layer (at vs 1) ≡ true → used a 0 ≡ false
+  Free a PatSymbolic vs = is_layer (at vs 1) ≡ true → used a 0 ≡ false
+  Free a PatStar vs = is_layer (at vs 1) ≡ true → used a 0 ≡ false
+  Free a BarePatAlphanumeric vs = is_layer (at vs 1) ≡ true → used a 0 ≡ false
+  Free a BarePatSymbolic vs = is_layer (at vs 1) ≡ true → used a 0 ≡ false
+  Free a BarePatStar vs = is_layer (at vs 1) ≡ true → used a 0 ≡ false
+  Free a PatOp vs = is_layer (at vs 1) ≡ true → used a 0 ≡ false
   Free a BarePatOp vs = is_layer (at vs 1) ≡ true → used a 0 ≡ false
   Free a _ vs = Unit {0}
 
@@ -237,9 +243,19 @@ module _ (used : ℕ → ℕ → Bool) (text : ℕ → Id) where
         let len = k.0.1 in
         let n = two_on in
         begun_rec (round_pat p (pats_in (at vs 1))) (atoms_in (at vs 2)) (colons_in (at vs 2)) (omega (arith, len, l, n, begun)) (round_rec p (pats_in (at vs 1)) ((h 1 refl).0 b)) (k.0.0 b)
-    by_rule PatBarePat p vs same l w h = (h 0 refl).0
-    by_rule BarePatVid p vs same l w h = λ b. let m = mono 0 in from_vid_rec (in_role Q.Next (entered O.Sequence i a c)) (t 1) (t 2) p (name_in (at vs 0)) (at vs 1) b refl refl (omega (arith, m, begun)) l ((h 0 refl).0.2 refl b) w (h 1 refl).0
+    by_rule PatAlphanumeric p vs same l w h = λ b. let m = mono 0 in from_vid_rec (in_role Q.Next (entered O.Sequence i a c)) (t 1) (t 2) p (name_in (at vs 0)) (at vs 1) b refl refl (omega (arith, m, begun)) l ((h 0 refl).0.2 refl b) w (h 1 refl).0
+    by_rule PatSymbolic p vs same l w h = λ b. let m = mono 0 in from_vid_rec (in_role Q.Next (entered O.Sequence i a c)) (t 1) (t 2) p (name_in (at vs 0)) (at vs 1) b refl refl (omega (arith, m, begun)) l ((h 0 refl).0.2 refl b) w (h 1 refl).0
+    by_rule PatStar p vs same l w h = λ b. let m = mono 0 in from_vid_rec (in_role Q.Next (entered O.Sequence i a c)) (t 1) (t 2) p (name_in (at vs 0)) (at vs 1) b refl refl (omega (arith, m, begun)) l ((h 0 refl).0.2 refl b) w (h 1 refl).0
+    by_rule BarePatAlphanumeric p vs same l w h = λ b. let m = mono 0 in from_vid_rec (in_role Q.Next (entered O.Sequence i a c)) (t 1) (t 2) p (name_in (at vs 0)) (at vs 1) b refl refl (omega (arith, m, begun)) l ((h 0 refl).0.2 refl b) w (h 1 refl).0
+    by_rule BarePatSymbolic p vs same l w h = λ b. let m = mono 0 in from_vid_rec (in_role Q.Next (entered O.Sequence i a c)) (t 1) (t 2) p (name_in (at vs 0)) (at vs 1) b refl refl (omega (arith, m, begun)) l ((h 0 refl).0.2 refl b) w (h 1 refl).0
+    by_rule BarePatStar p vs same l w h = λ b. let m = mono 0 in from_vid_rec (in_role Q.Next (entered O.Sequence i a c)) (t 1) (t 2) p (name_in (at vs 0)) (at vs 1) b refl refl (omega (arith, m, begun)) l ((h 0 refl).0.2 refl b) w (h 1 refl).0
+    by_rule PatOp p vs same l w h = λ b. let m = mono 0 in behind_op_rec (entered O.Sequence i a c) (t 1) (t 2) p (at vs 1) b refl refl (omega (arith, m, begun)) l w (h 1 refl).0
     by_rule BarePatOp p vs same l w h = λ b. let m = mono 0 in behind_op_rec (entered O.Sequence i a c) (t 1) (t 2) p (at vs 1) b refl refl (omega (arith, m, begun)) l w (h 1 refl).0
+    by_rule PatOtherAtPat p vs same l w h = λ b.
+        let k = h 1 refl in
+        let len = k.0.1 in
+        let m = mono 0 in
+        sequence (and_pat (pat_in (at vs 0)) (atoms_in (at vs 1))) (colons_in (at vs 1)) (omega (arith, len, l, m, begun)) ((h 0 refl).0 b, k.0.0 b)
     by_rule BarePatOtherAtPat p vs same l w h = λ b.
         let k = h 1 refl in
         let len = k.0.1 in
@@ -258,9 +274,15 @@ module _ (used : ℕ → ℕ → Bool) (text : ℕ → Id) where
     by_rule AtPatMoreAtPat p vs same l w h = let m = (h 0 refl).1 refl in let k = (h 1 refl).0.1 in ((λ b. ((h 0 refl).0 b, (h 1 refl).0.0 b)), omega (arith, m, k))
     by_rule AtPatMoreColon p vs same l w h = let m = mono 0 in let n = mono 1 in let o = mono 2 in ((λ b. tt), omega (arith, m, n, o))
     by_rule AtPatOpenRound p vs same l w h = λ b. rec_atom (used c.sequence) c.index (round_pat p (pats_in (at vs 1))) (round_rec p (pats_in (at vs 1)) ((h 1 refl).0 b))
-    by_rule AtPatBareAtPat p vs same l w h = (h 0 refl).0
-    by_rule BareAtPatVid p vs same l w h = λ b u e. inl ((h 0 refl).0.2 refl b u)
+    by_rule AtPatAlphanumeric p vs same l w h = λ b u e. inl ((h 0 refl).0.2 refl b u)
+    by_rule AtPatSymbolic p vs same l w h = λ b u e. inl ((h 0 refl).0.2 refl b u)
+    by_rule AtPatStar p vs same l w h = λ b u e. inl ((h 0 refl).0.2 refl b u)
+    by_rule BareAtPatAlphanumeric p vs same l w h = λ b u e. inl ((h 0 refl).0.2 refl b u)
+    by_rule BareAtPatSymbolic p vs same l w h = λ b u e. inl ((h 0 refl).0.2 refl b u)
+    by_rule BareAtPatStar p vs same l w h = λ b u e. inl ((h 0 refl).0.2 refl b u)
+    by_rule AtPatOp p vs same l w h = λ b u e. inl ((h 1 refl).0 refl e b u)
     by_rule BareAtPatOp p vs same l w h = λ b u e. inl ((h 1 refl).0 refl e b u)
+    by_rule AtPatOtherAtPat p vs same l w h = (h 0 refl).0
     by_rule BareAtPatOtherAtPat p vs same l w h = (h 0 refl).0
     by_rule OtherAtPatWildcard p vs same l w h = λ b. tt
     by_rule OtherAtPatConstant p vs same l w h = λ b. tt

@@ -3,7 +3,7 @@ use Rattle.std.specs.Prelude.{List, [], ◌∷◌, Option, Some, None}
 use Rattle.sml_lex.specs.declared.fault.Place.{Place}
 use Rattle.sml_tree.specs.Expressions.{Exp, Rules, ValBind, ValBinds, bind}
 use Rattle.sml_tree.specs.Clauses.{Clause}
-use Rattle.sml_phrases.specs.Phrases.{Phrase, of_exp, of_exps, of_series, of_fields, of_rules, of_dec, of_decs, of_bind, of_binds, of_values, of_round_values, of_functions, of_right_side, of_clauses, of_round_functions, of_str, of_str_dec, of_str_decs, of_str_binds, of_begun_str_bind, of_fun_binds, of_begun_fun_bind, of_begun_functor, of_top, exp_in, exps_in, exp_if_any, fields_in, rules_in, rules_if_any, dec_in, decs_in, bind_in, binds_in, clauses_in, str_in, str_dec_in, str_decs_in, str_binds_in, fun_binds_in, top_in}
+use Rattle.sml_phrases.specs.Phrases.{Phrase, of_exp, of_exps, of_series, of_fields, of_rules, of_rest, of_dec, of_decs, of_bind, of_binds, of_values, of_round_values, of_functions, of_right_side, of_clauses, of_round_functions, of_str, of_str_dec, of_str_decs, of_str_binds, of_begun_str_bind, of_fun_binds, of_begun_fun_bind, of_begun_functor, of_top, exp_in, exps_in, exp_if_any, fields_in, rules_in, rules_if_any, dec_in, decs_in, bind_in, binds_in, clauses_in, str_in, str_dec_in, str_decs_in, str_binds_in, fun_binds_in, top_in}
 use Rattle.sml_tree_laws.specs.Recursive.{RecBind, RecBinds, ExpRec, ExpsRec, FieldsRec, RulesRec, DecRec, DecsRec, BindsRec, StrRec, StrDecRec, StrDecsRec, StrBindsRec, FunBindsRec, TopRec}
 
 abbrev pub ExpRecIfAny : Option (Exp Place) → Type 0
@@ -31,6 +31,7 @@ PhraseRec (of_exps es) = ExpsRec es
 PhraseRec (of_series es) = ExpsRec es
 PhraseRec (of_fields fs) = FieldsRec fs
 PhraseRec (of_rules rs) = RulesRec rs
+PhraseRec (of_rest es ts a o rs) = ExpsRec es × ExpRecIfAny a × ExpRecIfAny o × RulesRecIfAny rs
 PhraseRec (of_dec d) = DecRec d
 PhraseRec (of_decs ds) = DecsRec ds
 PhraseRec (of_bind b) = FunctionRec b

@@ -280,7 +280,13 @@ module _ (s : Source) (tokens : List Token) (all : List Mark) (own : (n : ℕ) �
     unused_at h = none_used s.fits a 0 (every_more (λ fit. fit.token ≡ m + 0 → ⊥) (λ fit. fit.token ≡ a → ⊥) (λ fit k e. k (omega (arith, e, same))) s.fits h)
 
     free : (rule : PatternRule) → Absent (G.Patterns rule) → Parts (G.Patterns rule) → Free used text a rule vs
-    free P.BarePatVid absent h = λ e. unused_at (absent refl (vid_none text m fs vs (h 1 (omega arith)).3.1 e))
+    free P.PatAlphanumeric absent h = λ e. unused_at (absent refl (vid_none text m fs vs (h 1 (omega arith)).3.1 e))
+    free P.PatSymbolic absent h = λ e. unused_at (absent refl (vid_none text m fs vs (h 1 (omega arith)).3.1 e))
+    free P.PatStar absent h = λ e. unused_at (absent refl (vid_none text m fs vs (h 1 (omega arith)).3.1 e))
+    free P.BarePatAlphanumeric absent h = λ e. unused_at (absent refl (vid_none text m fs vs (h 1 (omega arith)).3.1 e))
+    free P.BarePatSymbolic absent h = λ e. unused_at (absent refl (vid_none text m fs vs (h 1 (omega arith)).3.1 e))
+    free P.BarePatStar absent h = λ e. unused_at (absent refl (vid_none text m fs vs (h 1 (omega arith)).3.1 e))
+    free P.PatOp absent h = λ e. unused_at (absent refl (op_none text m fs vs (h 1 (omega arith)).3.1 e))
     free P.BarePatOp absent h = λ e. unused_at (absent refl (op_none text m fs vs (h 1 (omega arith)).3.1 e))
     free _ absent h = tt
 
@@ -313,8 +319,15 @@ module _ (s : Source) (tokens : List Token) (all : List Mark) (own : (n : ℕ) �
 
     pattern_own : (rule : PatternRule) → Owns (G.Patterns rule) → IsOwnPattern text s.fits all i a m c t shape_here vs fs begun mono rule
     pattern_own P.PatOpenRound owns = λ steps e. let x = own_fit (G.Patterns P.PatOpenRound) refl refl owns (tree steps) e in (x.1.1, x.1.2, subst (FitsPattern x.1.1) x.2 x.1.3.1)
-    pattern_own P.BarePatVid owns = λ steps e. let x = own_fit (G.Patterns P.BarePatVid) refl refl owns (tree steps) e in (x.1.1, x.1.2, subst (FitsPattern x.1.1) x.2 x.1.3.1)
+    pattern_own P.PatAlphanumeric owns = λ steps e. let x = own_fit (G.Patterns P.PatAlphanumeric) refl refl owns (tree steps) e in (x.1.1, x.1.2, subst (FitsPattern x.1.1) x.2 x.1.3.1)
+    pattern_own P.PatSymbolic owns = λ steps e. let x = own_fit (G.Patterns P.PatSymbolic) refl refl owns (tree steps) e in (x.1.1, x.1.2, subst (FitsPattern x.1.1) x.2 x.1.3.1)
+    pattern_own P.PatStar owns = λ steps e. let x = own_fit (G.Patterns P.PatStar) refl refl owns (tree steps) e in (x.1.1, x.1.2, subst (FitsPattern x.1.1) x.2 x.1.3.1)
+    pattern_own P.BarePatAlphanumeric owns = λ steps e. let x = own_fit (G.Patterns P.BarePatAlphanumeric) refl refl owns (tree steps) e in (x.1.1, x.1.2, subst (FitsPattern x.1.1) x.2 x.1.3.1)
+    pattern_own P.BarePatSymbolic owns = λ steps e. let x = own_fit (G.Patterns P.BarePatSymbolic) refl refl owns (tree steps) e in (x.1.1, x.1.2, subst (FitsPattern x.1.1) x.2 x.1.3.1)
+    pattern_own P.BarePatStar owns = λ steps e. let x = own_fit (G.Patterns P.BarePatStar) refl refl owns (tree steps) e in (x.1.1, x.1.2, subst (FitsPattern x.1.1) x.2 x.1.3.1)
+    pattern_own P.PatOp owns = λ steps e. let x = own_fit (G.Patterns P.PatOp) refl refl owns (tree steps) e in (x.1.1, x.1.2, subst (FitsPattern x.1.1) x.2 x.1.3.1)
     pattern_own P.BarePatOp owns = λ steps e. let x = own_fit (G.Patterns P.BarePatOp) refl refl owns (tree steps) e in (x.1.1, x.1.2, subst (FitsPattern x.1.1) x.2 x.1.3.1)
+    pattern_own P.PatOtherAtPat owns = λ steps e. let x = own_fit (G.Patterns P.PatOtherAtPat) refl refl owns (tree steps) e in (x.1.1, x.1.2, subst (FitsPattern x.1.1) x.2 x.1.3.1)
     pattern_own P.BarePatOtherAtPat owns = λ steps e. let x = own_fit (G.Patterns P.BarePatOtherAtPat) refl refl owns (tree steps) e in (x.1.1, x.1.2, subst (FitsPattern x.1.1) x.2 x.1.3.1)
     pattern_own _ owns = tt
 

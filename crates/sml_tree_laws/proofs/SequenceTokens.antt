@@ -226,14 +226,24 @@ module _ (text : ℕ → Id) (n : ℕ) (fs : List Found) where
   declaration_token _ h f g atoms e = absurd (false≢true h)
 
   expression_token : (rule : ExpressionRule) → is_sequence (deed_of (G.Expressions rule)) ≡ true → Begins (G.Expressions rule)
+  expression_token E.ExpAt h f g atoms e =
+      let t = more_token n (get_or (take 2 fs) 0 nothing) (atoms_in (get_or (take 2 fs) 1 nothing)) (typed_in (get_or (take 2 fs) 1 nothing)) atoms (subst (One n) (sym (get_or-take 2 fs 0 nothing (omega arith))) (f refl)) e in omega (arith, t)
   expression_token E.TypAt h f g atoms e =
       let t = more_token n (get_or (take 3 fs) 0 nothing) (atoms_in (get_or (take 3 fs) 1 nothing)) (typed_in (get_or (take 3 fs) 1 nothing)) atoms (subst (One n) (sym (get_or-take 3 fs 0 nothing (omega arith))) (f refl)) e in omega (arith, t)
   expression_token _ h f g atoms e = absurd (false≢true h)
 
   pattern_token : (rule : PatternRule) → is_sequence (deed_of (G.Patterns rule)) ≡ true → Begins (G.Patterns rule)
   pattern_token P.PatOpenRound h f g atoms e = let t = round_token n phrase (inner_in (get_or (take 3 fs) 1 nothing)) (atoms_in (get_or (take 3 fs) 2 nothing)) (typed_in (get_or (take 3 fs) 2 nothing)) atoms e in omega (arith, t)
-  pattern_token P.BarePatVid h f g atoms e = let t = before_token n (short (text n)) (get_or (take 2 fs) 1 nothing) atoms e in omega (arith, t)
+  pattern_token P.PatAlphanumeric h f g atoms e = let t = before_token n (short (text n)) (get_or (take 2 fs) 1 nothing) atoms e in omega (arith, t)
+  pattern_token P.PatSymbolic h f g atoms e = let t = before_token n (short (text n)) (get_or (take 2 fs) 1 nothing) atoms e in omega (arith, t)
+  pattern_token P.PatStar h f g atoms e = let t = before_token n (short (text n)) (get_or (take 2 fs) 1 nothing) atoms e in omega (arith, t)
+  pattern_token P.BarePatAlphanumeric h f g atoms e = let t = before_token n (short (text n)) (get_or (take 2 fs) 1 nothing) atoms e in omega (arith, t)
+  pattern_token P.BarePatSymbolic h f g atoms e = let t = before_token n (short (text n)) (get_or (take 2 fs) 1 nothing) atoms e in omega (arith, t)
+  pattern_token P.BarePatStar h f g atoms e = let t = before_token n (short (text n)) (get_or (take 2 fs) 1 nothing) atoms e in omega (arith, t)
+  pattern_token P.PatOp h f g atoms e = let t = from_token n (get_or (take 2 fs) 1 nothing) atoms e in omega (arith, t)
   pattern_token P.BarePatOp h f g atoms e = let t = from_token n (get_or (take 2 fs) 1 nothing) atoms e in omega (arith, t)
+  pattern_token P.PatOtherAtPat h f g atoms e =
+      let t = more_token n (get_or (take 2 fs) 0 nothing) (atoms_in (get_or (take 2 fs) 1 nothing)) (typed_in (get_or (take 2 fs) 1 nothing)) atoms (subst (One n) (sym (get_or-take 2 fs 0 nothing (omega arith))) (f refl)) e in omega (arith, t)
   pattern_token P.BarePatOtherAtPat h f g atoms e =
       let t = more_token n (get_or (take 2 fs) 0 nothing) (atoms_in (get_or (take 2 fs) 1 nothing)) (typed_in (get_or (take 2 fs) 1 nothing)) atoms (subst (One n) (sym (get_or-take 2 fs 0 nothing (omega arith))) (f refl)) e in omega (arith, t)
   pattern_token _ h f g atoms e = absurd (false≢true h)

@@ -14,10 +14,10 @@ use Rattle.sml_rules.specs.Every.{Every}
 use Rattle.sml_rules.proofs.EveryItem.{every_more}
 use Rattle.sml_core_rules.specs.Closing.{unguarded}
 use Rattle.sml_derived.specs.Derived.{while_of, it_dec}
-use Rattle.sml_phrases.specs.Phrases.{Phrase, of_exp, of_exps, of_series, of_fields, of_rules, of_dec, of_decs, of_bind, of_binds, of_values, of_round_values, of_functions, of_right_side, of_clauses, of_round_functions}
+use Rattle.sml_phrases.specs.Phrases.{Phrase, of_exp, of_exps, of_series, of_fields, of_rules, of_rest, of_dec, of_decs, of_bind, of_binds, of_values, of_round_values, of_functions, of_right_side, of_clauses, of_round_functions}
 use Rattle.sml_tree_laws.specs.Scoped.{ids, binds_listed, ListsNone, DecScoped}
 use Rattle.sml_tree_laws.proofs.Sits.{Any, TySits, TysSit, TyFieldsSit, TySitsIfAny, PatSits, PatsSit, PatFieldsSit, ExnBindsSit, ExpSits, ExpsSit, FieldsSit, RulesSit, DecSits, DecsSit, BindsSit, binds_all, binds_list, dec_scoped}
-use Rattle.sml_tree_laws.proofs.Phrases.{ClausesSit, PhraseSits}
+use Rattle.sml_tree_laws.proofs.Phrases.{ClausesSit, PhraseSits, ExpSitsIfAny, RulesSitIfAny}
 
 pub every_at : (Q : Id → Type 0) (xs : List Id) → Every Q xs → (x : Id) → Stands x xs → Q x
 unfolding Stands
@@ -127,6 +127,14 @@ module _ {R R' : Id → Type 0} (r : (x : Id) → R x → R' x) where
     clauses_more [] h = tt
     clauses_more (c ∷ cs) h = ((h.0.0, h.0.1, exp_more (λ x y. y) c.body h.0.2), clauses_more cs h.1)
 
+    exp_more_if_any : (e : Option (Exp Place)) → ExpSitsIfAny L V R e → ExpSitsIfAny L V R' e
+    exp_more_if_any None h = tt
+    exp_more_if_any (Some e) h = exp_more (λ x y. y) e h
+
+    rules_more_if_any : (rs : Option (Rules Place)) → RulesSitIfAny L V R rs → RulesSitIfAny L V R' rs
+    rules_more_if_any None h = tt
+    rules_more_if_any (Some rs) h = rules_more (λ x y. y) rs h
+
     -- the value declarations of a phrase list what holds R of, and so R'
     pub phrase_more : (w : Phrase) → PhraseSits L V R w → PhraseSits L V R' w
     phrase_more (of_exp e) h = exp_more (λ x y. y) e h
@@ -134,6 +142,7 @@ module _ {R R' : Id → Type 0} (r : (x : Id) → R x → R' x) where
     phrase_more (of_series es) h = exps_more (λ x y. y) es h
     phrase_more (of_fields fs) h = fields_more (λ x y. y) fs h
     phrase_more (of_rules rs) h = rules_more (λ x y. y) rs h
+    phrase_more (of_rest es ts a o rs) h = (exps_more (λ x y. y) es h.0, h.1, exp_more_if_any a h.2, exp_more_if_any o h.3, rules_more_if_any rs h.4)
     phrase_more (of_dec d) h = dec_more (λ x y. y) d h
     phrase_more (of_decs ds) h = decs_more (λ x y. y) ds h
     phrase_more (of_bind (bind q e)) h = (h.0, exp_more (λ x y. y) e h.1)

@@ -18,7 +18,7 @@ use Rattle.sml_read.specs.declared.grammar.Node.{Node}
 use Rattle.sml_read.specs.declared.grammar.Node.TheVariants.{Leaf, Inner}
 use Rattle.sml_read.specs.Grammar.{right_side}
 use Rattle.sml_read.specs.Extents.{starts_of}
-use Rattle.sml_phrases.specs.Phrases.{Phrase, first, at, nothing, of_word, of_name, of_long, of_constant, of_names, of_longs, of_ty, of_tys, of_ty_fields, of_arguments, of_pat, of_pats, of_pat_fields, of_atoms, of_layer, of_op_atoms, of_op_layer, of_exp, of_exps, of_series, of_fields, of_rules, of_dec, of_decs, of_bind, of_binds, of_values, of_round_values, of_functions, of_right_side, of_clauses, of_round_functions, of_typ_bind, of_typ_binds, of_con_bind, of_con_binds, of_datatypes, of_constructors, of_copy, of_exn_binds, of_sig, of_where, of_wheres, of_begun_sig_bind, of_sig_binds, of_specs, of_val_desc, of_val_descs, of_typ_descs, of_type_rest, of_begun_str_desc, of_str_descs, of_shared_types, of_str, of_str_dec, of_str_decs, of_constraints, of_str_binds, of_begun_str_bind, of_functor_argument, of_fun_binds, of_begun_fun_bind, of_begun_functor, of_top}
+use Rattle.sml_phrases.specs.Phrases.{Phrase, first, at, nothing, of_word, of_name, of_long, of_constant, of_names, of_longs, of_ty, of_tys, of_ty_fields, of_arguments, of_pat, of_pats, of_pat_fields, of_atoms, of_layer, of_op_atoms, of_op_layer, of_exp, of_exps, of_series, of_fields, of_rules, of_rest, of_dec, of_decs, of_bind, of_binds, of_values, of_round_values, of_functions, of_right_side, of_clauses, of_round_functions, of_typ_bind, of_typ_binds, of_con_bind, of_con_binds, of_datatypes, of_constructors, of_copy, of_exn_binds, of_sig, of_where, of_wheres, of_begun_sig_bind, of_sig_binds, of_specs, of_val_desc, of_val_descs, of_typ_descs, of_type_rest, of_begun_str_desc, of_str_descs, of_shared_types, of_str, of_str_dec, of_str_decs, of_constraints, of_str_binds, of_begun_str_bind, of_functor_argument, of_fun_binds, of_begun_fun_bind, of_begun_functor, of_top}
 use Rattle.sml_reach.specs.Fits.{Fitted}
 use Rattle.sml_flaws.specs.Flawed.{begins_at, ends_at}
 use Rattle.sml_bare.specs.Derivations.{Source, phrases_of, first_fits}
@@ -115,6 +115,10 @@ is_fields _ = false
 abbrev pub is_rules : Phrase → Bool
 is_rules (of_rules a) = true
 is_rules _ = false
+
+abbrev pub is_rest : Phrase → Bool
+is_rest (of_rest a b c d e) = true
+is_rest _ = false
 
 abbrev pub is_dec : Phrase → Bool
 is_dec (of_dec a) = true
@@ -410,6 +414,8 @@ is_of_part G.ExnBind v = is_con_bind v || is_copy v
 is_of_part G.ExnBindMore v = is_exn_binds v
 is_of_part G.ExnRest v = is_nothing v || (is_long v || is_ty v)
 is_of_part G.Exp v = is_exp v
+is_of_part G.More v = is_nothing v || (is_exps v || is_rest v)
+is_of_part G.TyRest v = is_nothing v || is_rest v
 is_of_part G.AndMore v = is_nothing v || is_exp v
 is_of_part G.AndRest v = is_exp v
 is_of_part G.OrMore v = is_nothing v || is_exp v

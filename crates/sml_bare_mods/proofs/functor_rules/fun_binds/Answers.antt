@@ -14,6 +14,7 @@ use Rattle.sml_phrases.proofs.Drops.{two_off}
 use Rattle.sml_phrases.proofs.Failures.{fails}
 use Rattle.sml_bare_mods.proofs.Bindings.{fun_bind_made, fun_bind_within, functor_made, functor_within, gives_same}
 use Rattle.sml_bare_mods.specs.StructureRules.{constrained, fun_binds, own_constrained}
+use Rattle.sml_phrases.specs.declared.low.LowSig.{LowSig}
 use Rattle.sml_bare_mods.proofs.functor_rules.fun_binds.Goals as goal
 
 pub returns-in-Structures-BegunFunBind-clause-made : goal.returns-in-Structures-BegunFunBind-clause-made
@@ -21,7 +22,9 @@ returns-in-Structures-BegunFunBind-clause-made c =
     let it = c.in-Structures-BegunFunBind in
     let v = seen c.args.stack.now in
     let own = map low_constraint_of (reverse it.own.items) in
-    let opened : of_begun_fun_bind (name_of it.name) (name_of it.argument) (sig_of it.signature.tree) own (str_of it.body.tree) ≡ first v = ap (λ f. phrase_of (Structures f)) (sym it.field-0-is) ∙ it.ensures.value in
+    let opened : of_begun_fun_bind (name_of it.name) (name_of it.argument) (sig_of c.into_inner.result.tree) own (str_of it.body.tree) ≡ first v =
+    ap (λ (s : LowSig). of_begun_fun_bind (name_of it.name) (name_of it.argument) (sig_of s.tree) own (str_of it.body.tree)) c.into_inner.ensures
+    ∙ ap (λ f. phrase_of (Structures f)) (sym it.field-0-is) ∙ it.ensures.value in
     let popped = c.pop_fun_binds-equations.ensures in
     gives_same (λ (bs : LowFunBinds). map fun_bind_of (reverse bs.trees.items)) (λ bs. low (highest fun_bind_height bs)) _ _ c.and_fun_bind.result
     (fun_bind_made v _ _ _ _ _ _ _ _ _ opened c.pop-first.ensures.rest popped.constraints popped.binds c.in_ok-body-in-Structures-BegunFunBind.ensures)
@@ -36,7 +39,7 @@ returns-in_err-body-in-Structures-BegunFunBind-clause-made c =
     let it = c.in-Structures-BegunFunBind in
     let v = seen c.args.stack.now in
     let own = map low_constraint_of (reverse it.own.items) in
-    let opened : of_begun_fun_bind (name_of it.name) (name_of it.argument) (sig_of it.signature.tree) own (str_of it.body.tree) ≡ first v = ap (λ f. phrase_of (Structures f)) (sym it.field-0-is) ∙ it.ensures.value in
+    let opened : of_begun_fun_bind (name_of it.name) (name_of it.argument) (sig_of it.signature.value.tree) own (str_of it.body.tree) ≡ first v = ap (λ f. phrase_of (Structures f)) (sym it.field-0-is) ∙ it.ensures.value in
     let popped = c.pop_fun_binds-equations.ensures in
     let failure = c.in_err-body-in-Structures-BegunFunBind in
     fails (λ (e : LowStr). str_of e.tree) str_height (λ (bs : LowFunBinds). map fun_bind_of (reverse bs.trees.items)) (highest fun_bind_height)

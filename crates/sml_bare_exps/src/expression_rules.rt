@@ -25,11 +25,12 @@ use crate::expression_sequences::sequence_exp;
 use crate::low_forms::{low_case, low_conditional, low_repeat, raised_exp};
 use crate::rest_rules::{
     conjunction, disjunction, more_operands, more_types, rest_and_also, rest_handle, rest_or_else,
-    whole, with_ty,
+    whole,
 };
 use sml_derived::expander::Expander;
 use sml_fixity::shape::Shape;
 use sml_lex::fault::{Memory, Place};
+use sml_pat_sequences::low_lists::and_ty;
 use sml_phrases::low::{LowExp, LowPat, LowRules, LowTys};
 use sml_phrases::phrase::Failure;
 use sml_phrases::raise::raised;
@@ -89,7 +90,7 @@ fn more_tys(stack: &mut Stack) -> Result<(), Failure>
 {
     stack.skip();
     let ty = stack.ty();
-    let tys = with_ty(ty, stack.tys())?;
+    let tys = and_ty(ty, stack.tys())?;
     stack.put_tys(tys)
 }
 

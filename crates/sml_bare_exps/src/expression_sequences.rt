@@ -187,11 +187,23 @@ fn exp_of_steps(expander: &Expander, steps: &[Step], atoms: Vec<LowExp>) -> Resu
     all_of(expander.alloc, building.stack)
 }
 
+/// The first of atomic expressions, which go from the last to the first.
+fn first(alloc: Global, exps: Vec<LowExp>) -> LowExp
+    ensures { low_exp_of result ≡ get_or (map low_exp_of (reverse exps.items)) 0 no_operand }
+{
+    let mut exps = exps;
+    match exps.pop() {
+        Some(exp) => exp,
+        None => no_operand(alloc),
+    }
+}
+
 /// The expression that atomic expressions, which go from the last to the first, stand for.
 fn shaped(expander: &Expander, shape: Option<&Shape>, exps: Vec<LowExp>) -> Result<LowExp, Failure>
     ensures { GivesExp (shaped (option_map (λ s. shape_of s.now) shape.entry) (exps_of (map low_exp_of (reverse exps.items)))) result }
 {
     match shape {
+        Some(Shape::First) => Ok(first(expander.alloc, exps)),
         Some(Shape::Tree(operand)) => {
             let mut atoms = exps;
             atoms.reverse();

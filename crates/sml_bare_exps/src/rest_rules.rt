@@ -1,8 +1,8 @@
 //! What the rules of what stands behind an expression's first atomic one make of their parts.
 
-ghost use Rattle.std.specs.Prelude.{◌≡◌, map, reverse, drop, Some, None, IfOk, OnOk};
+ghost use Rattle.std.specs.Prelude.{◌≡◌, map, reverse, drop, Some, None};
 ghost use Rattle.std.specs.Option.{option_map};
-ghost use Rattle.sml_tree.specs.Types.{no_ty, and_ty};
+ghost use Rattle.sml_tree.specs.Types.{no_ty};
 ghost use Rattle.sml_tree.specs.Expressions.{no_exp, and_exp};
 ghost use Rattle.sml_tree.specs.ExpressionViews.{exps_of, rule_of, rules_of};
 ghost use Rattle.sml_tree.specs.TypeViews.{tys_of};
@@ -18,7 +18,8 @@ use crate::expression_sequences::sequence_exp;
 use crate::low_forms::{low_and_also, low_or_else, raised_exp};
 use sml_derived::expander::Expander;
 use sml_fixity::shape::Shape;
-use sml_lex::fault::{Memory, Place};
+use sml_lex::fault::Place;
+use sml_pat_sequences::low_lists::and_ty;
 use sml_phrases::low::{LowExp, LowExps, LowRules, LowTy, LowTys};
 use sml_phrases::phrase::{ExpressionPhrase, Failure, Phrase, Rest, discard};
 use sml_phrases::stack::Stack;
@@ -143,7 +144,7 @@ fn single(expander: &Expander, shape: Option<&Shape>, exp: LowExp) -> Result<Low
     ensures { GivesExp (sequence_exp (option_map (λ s. shape_of s.now) shape.entry) (and_exp (low_exp_of exp) no_exp) no_ty) result }
 {
     match shape {
-        Some(shape) if shape.is_first() => Ok(exp),
+        Some(Shape::First) => Ok(exp),
         _ => whole_sequence(expander, shape, exp, none(expander.alloc)),
     }
 }
@@ -238,16 +239,6 @@ pub fn more_operands(stack: &mut Stack) -> Result<(), Failure>
     put_with_operand(stack, exp, rest)
 }
 
-/// Types with one more before them.
-pub fn with_ty(ty: LowTy, tys: LowTys) -> Result<LowTys, Memory>
-    ensures { IfOk result (λ ts. tys_of (map low_ty_of (reverse ts.trees.items)) ≡ and_ty (low_ty_of ty) (tys_of (map low_ty_of (reverse tys.trees.items)))) }
-{
-    let LowTys { mut trees, height } = tys;
-    let height = height.max(ty.height);
-    trees.push(ty)?;
-    Ok(LowTys { trees, height })
-}
-
 /// Puts a type before what stands behind it.
 fn put_with_type(stack: &mut Stack, ty: LowTy, rest: Phrase) -> Result<(), Failure>
     ensures { Puts (with_type (low_ty_of ty) (phrase_of rest)) 0 (seen stack.old) (seen stack.new) result }
@@ -255,12 +246,12 @@ fn put_with_type(stack: &mut Stack, ty: LowTy, rest: Phrase) -> Result<(), Failu
     match rest {
         Phrase::Expressions(ExpressionPhrase::Rest(rest)) => {
             let mut rest = Box::into_inner(rest);
-            rest.tys = with_ty(ty, rest.tys)?;
+            rest.tys = and_ty(ty, rest.tys)?;
             stack.put_rest(Box::new(stack.alloc, rest)?)
         }
         other => {
             discard(other);
-            let tys = with_ty(ty, untyped(stack.alloc))?;
+            let tys = and_ty(ty, untyped(stack.alloc))?;
             let rest = Rest {
                 exps: none(stack.alloc),
                 tys,

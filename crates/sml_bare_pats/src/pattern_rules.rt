@@ -45,9 +45,7 @@ fn sequence_with(
     ensures { GivesPat (sequence_pat (option_map (λ s. shape_of s.now) shape.entry) (and_pat (low_pat_of first) (low_pats_of atoms)) (low_tys_of types)) result }
 {
     match shape {
-        Some(shape) if shape.is_first() && atoms.trees.is_empty() && types.trees.is_empty() => {
-            Ok(first)
-        }
+        Some(Shape::First) if atoms.trees.is_empty() && types.trees.is_empty() => Ok(first),
         _ => {
             let atoms = and_pat(first, atoms)?;
             sequence(expander, shape, atoms, types)

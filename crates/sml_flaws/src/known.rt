@@ -201,6 +201,7 @@ pub fn uses_of(alloc: Global, fits: &[Fit]) -> Result<IndexSet<Position>, Memory
     let mut uses = IndexSet::new(alloc);
     for i in (0..fits.len()).rev() {
         match &fits[i].shape {
+            Shape::First => {}
             Shape::Tree(operand) => add_uses(&mut uses, fits[i].token, &operand.steps)?,
             Shape::Head(_) => {}
         }
@@ -215,6 +216,7 @@ pub fn heads_of(alloc: Global, fits: &[Fit]) -> Result<IndexMap<usize, Head>, Me
     let mut heads = IndexMap::new(alloc);
     for i in (0..fits.len()).rev() {
         match &fits[i].shape {
+            Shape::First => {}
             Shape::Tree(_) => {}
             Shape::Head(how) => {
                 heads.insert(fits[i].token, *how)?;

@@ -8,6 +8,7 @@ ghost use Rattle.sml_tree.specs.Views.{dec_of};
 ghost use Rattle.sml_tree.specs.StructureViews.{top_of};
 ghost use Rattle.sml_parse.specs.Trees.{fault_from, fault_read, fault_behind, last_fault, AreTrees};
 ghost use Rattle.sml_read.specs.Extents.{starts_of};
+ghost use Rattle.sml_piece_trees.specs.Piece.{piece_of};
 ghost use Rattle.sml_reach.specs.Events.{text_at, events_of};
 ghost use Rattle.sml_reach.specs.Fits.{fitted_of};
 ghost use Rattle.sml_reach.specs.Reach.{up_to, before_misfit, AreFitted};
@@ -143,10 +144,10 @@ fn tops(
     )
 }
 
-/// Reads a unit's bare declarations.
-pub fn parse(alloc: Global, lexed: &Lexed) -> Result<Parsed, Memory>
-    ensures { IfOk result (λ parsed. AreTrees lexed.now.unit.now lexed.now.tokens.items lexed.now.end
-        (map top_of parsed.declarations.items) (map dec_of parsed.piece.items) (option_map fault_of parsed.fault)) }
+/// A unit's whole bare declarations, and the fault. All else that is made on the way to them is let go.
+fn whole(alloc: Global, lexed: &Lexed) -> Result<(Vec<TopDec>, Option<Fault>), Memory>
+    ensures { IfOk result (λ r. AreTrees lexed.now.unit.now lexed.now.tokens.items lexed.now.end
+        (map top_of r.0.items) (map piece_of (map top_of r.0.items)) (option_map fault_of r.1)) }
 {
     let full = read(alloc, lexed)?;
     let nodes = full.nodes.as_slice();
@@ -155,8 +156,17 @@ pub fn parse(alloc: Global, lexed: &Lexed) -> Result<Parsed, Memory>
     let flawed = first_flawed(alloc, lexed.unit, &lexed.tokens, nodes, &fitted)?;
     let misfit = or_else(flawed, unfit);
     let (declarations, are_low) = tops(alloc, lexed, &mut names, nodes, &fitted, misfit)?;
-    let piece = pieces(alloc, &declarations)?;
     let fault = last_fault(lexed, &full, misfit, are_low);
+    Ok((declarations, fault))
+}
+
+/// Reads a unit's bare declarations.
+pub fn parse(alloc: Global, lexed: &Lexed) -> Result<Parsed, Memory>
+    ensures { IfOk result (λ parsed. AreTrees lexed.now.unit.now lexed.now.tokens.items lexed.now.end
+        (map top_of parsed.declarations.items) (map dec_of parsed.piece.items) (option_map fault_of parsed.fault)) }
+{
+    let (declarations, fault) = whole(alloc, lexed)?;
+    let piece = pieces(alloc, &declarations)?;
     Ok(Parsed {
         declarations,
         piece,

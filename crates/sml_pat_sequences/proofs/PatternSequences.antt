@@ -110,7 +110,7 @@ steps-next-height ss i s b whole inside so_far =
     = sym (ap (λ ts. pat_of_steps ts b) (drop_more ss i s inside)) ∙ so_far in
     rw (sym this) (steps-height (drop (i + 1) ss) (step (get_or ss i s) b))
 
-list_of-pats_of : (qs : List (Pat Place)) → list_of_pats (pats_of qs) ≡ qs
+pub list_of-pats_of : (qs : List (Pat Place)) → list_of_pats (pats_of qs) ≡ qs
 list_of-pats_of [] = refl
 list_of-pats_of (q ∷ qs) = ap (λ rs. q ∷ rs) (list_of-pats_of qs)
 

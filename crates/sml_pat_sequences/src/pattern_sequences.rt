@@ -248,6 +248,10 @@ fn shaped(expander: &Expander, shape: Option<&Shape>, atoms: LowPats) -> Result<
     ensures { GivesPat (shaped (option_map (λ s. shape_of s.now) shape.entry) (pats_of (map low_pat_of (reverse atoms.trees.items)))) result }
 {
     match shape {
+        Some(Shape::First) => {
+            let mut atoms = atoms.trees;
+            Ok(operand(expander.alloc, &mut atoms))
+        }
         Some(Shape::Tree(operand)) => pat_of_steps(expander, operand.steps.as_slice(), atoms),
         _ => Ok(no_operand(expander.alloc)),
     }
@@ -284,6 +288,7 @@ fn begins(shape: Option<&Shape>) -> bool
     ensures { result ≡ begins (option_map (λ s. shape_of s.now) shape.entry) }
 {
     match shape {
+        Some(Shape::First) => true,
         Some(Shape::Tree(operand)) => first_pushed(operand.steps.as_slice()),
         _ => false,
     }

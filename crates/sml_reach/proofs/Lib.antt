@@ -2,6 +2,7 @@ mod Sharing
 mod Ways
 mod Parts
 mod Reaching
+mod Gathering
 pub mod Parting
 pub mod Somes
 pub mod UpTo

@@ -1,37 +1,29 @@
--- One event after another, and one outcome before another.
-use Rattle.std.proofs.Common.{◌≡◌, ℕ, List, [], ◌∷◌, ◌++◌, map, refl, sym, ap, subst, ◌∙◌, append_assoc, append-nil}
+-- One event after another.
+use Rattle.std.proofs.Common.{◌≡◌, ℕ, List, [], ◌∷◌, ◌++◌, refl, sym, subst, append_assoc, append-nil}
 use Rattle.sml_tree.specs.Trees.{Id}
-use Rattle.sml_reach.specs.declared.reach.Outcome as P
 use Rattle.sml_reach.specs.declared.reach.Gathered.{Gathered}
 use Rattle.sml_reach.specs.Events.{Event}
-use Rattle.sml_reach.specs.Reach.{State, Outcome, start, Happens, Outcomes, outcome_of, AreGathered}
+use Rattle.sml_reach.specs.Reach.{State, Outcome, start, Happens, Outcomes}
+use Rattle.sml_reach.specs.CodeGathered.{AreGathered, ComesOf}
 
--- what these events come to follows from what the rest of them come to in the state at hand
-abbrev pub Leads : (ℕ → Id) → List Event → State → List Event → List Outcome → Type 0
-Leads text all s events outcomes = (more : List Outcome) → Outcomes text s events more → Outcomes text start all (outcomes ++ more)
+-- What was gathered from what all of these events but the rest came to: what they come to follows from what the rest comes to
+-- in the state at hand.
+pub record IsReached (text : ℕ → Id) (all : List Event) (s : State) (events : List Event) (g : Gathered) : Type 0 where
+  pub outcomes : List Outcome
+  pub leads : (more : List Outcome) → Outcomes text s events more → Outcomes text start all (outcomes ++ more)
+  pub gathered : AreGathered g outcomes
 
-pub outcomes-append : (xs : List P.Outcome) (x : P.Outcome) → map outcome_of (xs ++ x ∷ []) ≡ map outcome_of xs ++ outcome_of x ∷ []
-outcomes-append [] x = refl
-outcomes-append (y ∷ xs) x = ap (λ os. outcome_of y ∷ os) (outcomes-append xs x)
+pub reached_first : (text : ℕ → Id) (all : List Event) (s : State) (g : Gathered) → s ≡ start → AreGathered g [] → IsReached text all s all g
+reached_first text all s g e h = record { outcomes = []; leads = λ more k. subst (λ s. Outcomes text s all more) e k; gathered = h }
 
-pub leads_on : (text : ℕ → Id) (all : List Event) (s t : State) (event : Event) (now events : List Event) (outcomes new : List P.Outcome) (o : P.Outcome) → Leads text all s now (map outcome_of outcomes) → now ≡ event ∷ events → Happens text s event (outcome_of o) t → new ≡ outcomes ++ o ∷ [] → Leads text all t events (map outcome_of new)
-leads_on text all s t event now events outcomes new o kept e happens n more h =
-    let before = map outcome_of outcomes in
-    subst (Outcomes text start all) (sym (append_assoc before (outcome_of o ∷ []) more) ∙ ap (λ os. os ++ more) (sym (ap (map outcome_of) n ∙ outcomes-append outcomes o)))
-    (kept (outcome_of o ∷ more) (subst (λ es. Outcomes text s es (outcome_of o ∷ more)) (sym e) (outcome_of o, t, more, happens, h, refl)))
-
-pub leads_to : (text : ℕ → Id) (all : List Event) (s : State) (now : List Event) (outcomes : List Outcome) → Leads text all s now outcomes → now ≡ [] → Outcomes text start all outcomes
-leads_to text all s now outcomes kept e = subst (Outcomes text start all) (append-nil outcomes) (kept [] (subst (λ es. Outcomes text s es []) (sym e) refl))
-
--- these outcomes are those that are left and others that declarations were gathered from
-pub record AreParted (all left : List Outcome) (g : Gathered) : Type 0 where
-  pub done : List Outcome
-  pub split : all ≡ left ++ done
-  pub gathered : AreGathered g done
-
-pub part_on : (all left rest : List Outcome) (o : Outcome) (g new : Gathered) → (parted : AreParted all left g) → left ≡ rest ++ o ∷ [] → ((os : List Outcome) → AreGathered g os → AreGathered new (o ∷ os)) → AreParted all rest new
-part_on all left rest o g new parted e f = record {
-  done = o ∷ parted.done;
-  split = parted.split ∙ ap (λ os. os ++ parted.done) e ∙ append_assoc rest (o ∷ []) parted.done;
-  gathered = f parted.done parted.gathered;
+pub reached_next : (text : ℕ → Id) (all : List Event) (s t : State) (event : Event) (now events : List Event) (g new : Gathered) (o : Outcome) → (h : IsReached text all s now g) → now ≡ event ∷ events → Happens text s event o t
+    → ((os : List Outcome) → AreGathered g os → AreGathered new (os ++ o ∷ [])) → IsReached text all t events new
+reached_next text all s t event now events g new o h e happens f = record {
+  outcomes = h.outcomes ++ o ∷ [];
+  leads = λ more k. subst (Outcomes text start all) (sym (append_assoc h.outcomes (o ∷ []) more))
+      (h.leads (o ∷ more) (subst (λ es. Outcomes text s es (o ∷ more)) (sym e) (o, t, more, happens, k, refl)));
+  gathered = f h.outcomes h.gathered;
 }
+
+pub reached_last : (text : ℕ → Id) (all : List Event) (s : State) (now : List Event) (g : Gathered) → IsReached text all s now g → now ≡ [] → ComesOf text all g
+reached_last text all s now g h e = (h.outcomes, subst (Outcomes text start all) (append-nil h.outcomes) (h.leads [] (subst (λ es. Outcomes text s es []) (sym e) refl)), h.gathered)

@@ -14,7 +14,8 @@ use Rattle.sml_reach.specs.declared.sense.Deed.TheVariants as D
 use Rattle.sml_reach.specs.declared.event.Event as P
 use Rattle.sml_reach.specs.declared.event.Event.TheVariants as E
 use Rattle.sml_reach.specs.Senses.{sense_of, deed_of, opens, closes}
-use Rattle.sml_reach.specs.Founds.{Found, Atom, nothing, word, directed, sequence_in, found_by, left, atoms_of}
+use Rattle.sml_fixity.specs.ItemNames.{name_of}
+use Rattle.sml_reach.specs.Founds.{Found, Atom, atom, nothing, word, directed, sequence_in, found_by, left, atoms_of}
 
 pub data Event : Type 0 where
   -- a declaration at the top begins at this token
@@ -84,7 +85,9 @@ abbrev pub seen : P.Event → Event
 seen (E.Begins n) = begins n
 seen E.Enters = enters
 seen E.Leaves = leaves
-seen (E.Directs directive level atoms) = directs directive level (atoms_of atoms)
+seen (E.Directs d) = directs d.value.directive d.value.level (atoms_of d.value.atoms)
+seen (E.OneExpression item token) = expression (atom (name_of item) token [] ∷ [])
+seen (E.OnePattern item token) = pattern (atom (name_of item) token [] ∷ [])
 seen (E.Expression atoms) = expression (atoms_of atoms)
 seen (E.Pattern atoms) = pattern (atoms_of atoms)
 seen (E.Head atoms) = head (atoms_of atoms)

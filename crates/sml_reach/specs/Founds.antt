@@ -131,4 +131,5 @@ found_of (V.Word n) = word n
 found_of (V.One a) = one (atom_of a)
 found_of (V.Several atoms typed) = several (atoms_of atoms) typed
 found_of (V.Inner items) = within (map name_of items.items)
+found_of (V.OneInner item) = within (name_of item ∷ [])
 found_of (V.Directed level atoms) = directed level (atoms_of atoms)

@@ -7,3 +7,4 @@ pub mod Reach
 pub mod Events
 pub mod Laws
 pub mod CodeAlone
+pub mod CodeGathered

@@ -1,6 +1,6 @@
 -- How far directives reach, and what sequences of atomic phrases stand for (the Definition, section 2.6): a
 -- directive reaches over the text behind it, up to the end of the innermost scope that it stands in.
-use Rattle.std.specs.Prelude.{◌≡◌, ℕ, suc, ◌-◌, ◌<◌, Bool, false, ◌&&◌, ◌||◌, ◌==◌, nat_lt, nat_le, List, [], ◌∷◌, Option, Some, None, map, reverse, take, length, get_or, if◌then◌else◌}
+use Rattle.std.specs.Prelude.{◌≡◌, ℕ, suc, ◌-◌, ◌<◌, Bool, false, ◌&&◌, ◌||◌, ◌==◌, nat_lt, nat_le, List, [], ◌∷◌, Option, Some, None, map, take, length, get_or, if◌then◌else◌}
 use Rattle.std.specs.List.{cons_option}
 use Rattle.std.specs.Option.{option_map}
 use Rattle.sml_lex.specs.declared.fault.Code.{Code}
@@ -21,12 +21,11 @@ use Rattle.sml_reach.specs.declared.reach.Misfit.{Misfit}
 use Rattle.sml_reach.specs.declared.reach.Reach.{Reach}
 use Rattle.sml_reach.specs.declared.reach.Outcome as P
 use Rattle.sml_reach.specs.declared.reach.Outcome.TheVariants as V
-use Rattle.sml_reach.specs.declared.reach.Gathered.{Gathered}
 use Rattle.sml_fixity.specs.ItemNames.{Name, short, name_of}
 use Rattle.sml_reach.specs.Founds.{Atom}
 use Rattle.sml_reach.specs.Events.{Event, begins, enters, leaves, directs, expression, pattern, head}
 use Rattle.sml_fixity.specs.Shapes.{Shape, tree, headed}
-use Rattle.sml_reach.specs.Fits.{Fit, Fitted, fit_of, fitted_of}
+use Rattle.sml_reach.specs.Fits.{Fit, Fitted, fit_of}
 
 -- The fixities in force, those at the beginning of each open scope, the innermost first, how many declarations have
 -- begun, and the first token of the last of them.
@@ -205,7 +204,3 @@ outcome_of (V.Declares token) = declares token
 outcome_of V.Idle = idle
 outcome_of (V.Stands fit) = stands (fit_of fit)
 outcome_of (V.Fails m) = fails m
-
--- the declarations that begin among outcomes, and the fits before the first of them, all from the last to the first
-abbrev pub AreGathered : Gathered → List Outcome → Type 0
-AreGathered g os = (map fitted_of (reverse g.declarations.items) ≡ declarations_in os) × (map fit_of (reverse g.fits.items) ≡ fits_before os)

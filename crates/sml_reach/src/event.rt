@@ -1,6 +1,6 @@
 //! What happens to fixities, and which sequences stand where.
 
-ghost use Rattle.std.specs.Prelude.{◌≡◌, ◌+◌, ◌∷◌, List, Some, min, map, reverse, take, drop, length, get_or, if◌then◌else◌, slice_get, IfOk, OnOk};
+ghost use Rattle.std.specs.Prelude.{◌≡◌, ◌+◌, true, false, [], ◌∷◌, List, Some, min, map, reverse, take, drop, length, get_or, if◌then◌else◌, slice_get, IfOk, OnOk};
 ghost use Rattle.std.specs.List.{cons_option};
 ghost use Rattle.std.specs.Option.{option_map};
 ghost use Rattle.sml_read.specs.Grammar.{right_side};
@@ -8,11 +8,11 @@ ghost use Rattle.sml_read.specs.Extents.{starts_of};
 ghost use Rattle.sml_read.specs.declared.grammar.Node.TheVariants.{Inner};
 ghost use Rattle.sml_reach.specs.Senses as senses;
 ghost use Rattle.sml_reach.specs.Founds as spec;
-ghost use Rattle.sml_fixity.specs.ItemNames.{name_of};
-ghost use Rattle.sml_reach.specs.Founds.{atom_of, atoms_of, found_by, found_of, nothing, sequence_in, untyped, left};
+ghost use Rattle.sml_fixity.specs.ItemNames.{name_of, short};
+ghost use Rattle.sml_reach.specs.Founds.{atom, one, several, within, atom_of, atoms_of, found_by, found_of, nothing, sequence_in, untyped, left};
 ghost use Rattle.sml_reach.specs.Events.{seen, expression, pattern, head, text_at, found_at, founds_from, scope_event, event_of, event_from, events_of};
 
-use crate::found::{Atom, Finder, Found, Parts, atom_in, atoms_in};
+use crate::found::{Atom, Finder, Found, Parts, atom_in, atoms_in, before};
 use crate::names::Names;
 use crate::sense::{Deed, Sense, closes, deed_of, opens, sense_of};
 use sml_fixity::scopes::Directive;
@@ -24,6 +24,14 @@ use sml_read::phrases::{first_token, token_count};
 use sml_read::table::backwards;
 use std::alloc::Global;
 
+/// A directive, with the token of its level, if one is written, and its identifiers, from the last to the first.
+#[derive(Drop)]
+pub struct Directed {
+    pub directive: Directive,
+    pub level: Option<usize>,
+    pub atoms: Vec<Atom>,
+}
+
 /// What happens where a token or a phrase begins. Atomic phrases go from the last to the first.
 #[derive(Drop)]
 pub enum Event {
@@ -33,8 +41,11 @@ pub enum Event {
     Enters,
     /// The innermost scope is closed.
     Leaves,
-    /// A directive, with the token of its level, if one is written, and its identifiers.
-    Directs(Directive, Option<usize>, Vec<Atom>),
+    Directs(Box<Directed>),
+    /// A sequence of one atomic expression, with its token.
+    OneExpression(Item, usize),
+    /// A sequence of one atomic pattern, with its token.
+    OnePattern(Item, usize),
     /// A sequence of atomic expressions.
     Expression(Vec<Atom>),
     /// A sequence of atomic patterns.
@@ -132,6 +143,7 @@ fn sequence(found: Found) -> Option<Vec<Atom>>
         Found::Word(_token) => None,
         Found::One(_atom) => None,
         Found::Inner(_items) => None,
+        Found::OneInner(_item) => None,
         Found::Directed(_level, _atoms) => None,
     }
 }
@@ -163,16 +175,28 @@ fn head(atoms: Option<Vec<Atom>>) -> Option<Event>
     }
 }
 
-fn directed(directive: Directive, found: Found) -> Option<Event>
-    ensures { option_map seen result ≡ event_of (Deed.Directs directive) 0 (found_of found) }
+fn event_of_directive(
+    alloc: Global,
+    directive: Directive,
+    found: Found,
+) -> Result<Option<Event>, Memory>
+    ensures { IfOk result (λ event. option_map seen event ≡ event_of (Deed.Directs directive) 0 (found_of found)) }
 {
     match found {
-        Found::Directed(level, atoms) => Some(Event::Directs(directive, level, atoms)),
-        Found::Nothing => None,
-        Found::Word(_token) => None,
-        Found::One(_atom) => None,
-        Found::Inner(_items) => None,
-        Found::Several(_atoms, _typed) => None,
+        Found::Directed(level, atoms) => {
+            let directed = Directed {
+                directive,
+                level,
+                atoms,
+            };
+            Ok(Some(Event::Directs(Box::new(alloc, directed)?)))
+        }
+        Found::Nothing => Ok(None),
+        Found::Word(_token) => Ok(None),
+        Found::One(_atom) => Ok(None),
+        Found::Inner(_items) => Ok(None),
+        Found::OneInner(_item) => Ok(None),
+        Found::Several(_atoms, _typed) => Ok(None),
     }
 }
 
@@ -189,7 +213,7 @@ fn finish(
     Ok(match deed {
         Deed::Nothing => (None, found),
         Deed::Begins => (Some(Event::Begins(token)), found),
-        Deed::Directs(directive) => (directed(directive, found), Found::Nothing),
+        Deed::Directs(directive) => (event_of_directive(alloc, directive, found)?, Found::Nothing),
         Deed::Expression => (expression(sequence(found)), Found::Nothing),
         Deed::Pattern => {
             let items = untyped(alloc, &found)?;
@@ -258,7 +282,30 @@ fn first_parts(founds: &mut Vec<Found>, count: usize) -> (Found, Found)
     (first, second)
 }
 
+/// Whether it is no atomic phrase, and no type stands behind it.
+fn is_empty(found: &Found) -> bool
+    ensures { result ≡ true → found_of found.now ≡ several [] false }
+{
+    match found {
+        Found::Several(atoms, false) => atoms.is_empty(),
+        _ => false,
+    }
+}
+
+/// The event at a sequence of atomic expressions, from the first and the others.
+fn sequence_event(alloc: Global, first: Atom, others: Found) -> Result<Event, Memory>
+    ensures { IfOk result (λ event. seen event ≡ expression (atom_of first ∷ spec.atoms_in (found_of others))) }
+{
+    if is_empty(&others) && first.inner.is_empty() {
+        return Ok(Event::OneExpression(first.item, first.token));
+    }
+    let mut atoms = atoms_in(alloc, others);
+    atoms.push(first)?;
+    Ok(Event::Expression(atoms))
+}
+
 /// The event at a sequence of atomic expressions, which a phrase with so many parts begins with.
+#[inline(never)]
 fn enter_expression(
     alloc: Global,
     founds: &mut Vec<Found>,
@@ -269,13 +316,85 @@ fn enter_expression(
     ensures founds { OnOk result (map found_of (reverse founds.new.items) ≡ nothing ∷ drop count (map found_of (reverse founds.old.items))) }
 {
     let (first, others) = first_parts(founds, count);
-    let mut atoms = atoms_in(alloc, others);
-    atoms.push(atom_in(alloc, first))?;
+    let event = sequence_event(alloc, atom_in(alloc, first), others)?;
     founds.push(Found::Nothing)?;
-    Ok(Some(Event::Expression(atoms)))
+    Ok(Some(event))
+}
+
+/// The event at a sequence of one atomic pattern, which is put in the place of its parts.
+fn enter_one(founds: &mut Vec<Found>, first: Atom) -> Result<Option<Event>, Memory>
+    ensures event { IfOk result (λ event. option_map seen event ≡ Some (pattern (atom (name_of first.item) first.token [] ∷ []))) }
+    ensures founds { OnOk result (map found_of (reverse founds.new.items) ≡ within (name_of first.item ∷ []) ∷ map found_of (reverse founds.old.items)) }
+{
+    let Atom {
+        item,
+        token,
+        inner: _,
+    } = first;
+    founds.push(Found::OneInner(copy(&item)?))?;
+    Ok(Some(Event::OnePattern(item, token)))
+}
+
+/// The event at a sequence of atomic patterns, which is put in the place of its parts.
+fn enter_several(
+    alloc: Global,
+    founds: &mut Vec<Found>,
+    first: Atom,
+    rest: Found,
+) -> Result<Option<Event>, Memory>
+    ensures event { IfOk result (λ event. option_map seen event ≡ event_of Deed.Pattern 0 (spec.before (atom_of first) (found_of rest))) }
+    ensures founds { OnOk result (map found_of (reverse founds.new.items) ≡ left Deed.Pattern (spec.before (atom_of first) (found_of rest)) ∷ map found_of (reverse founds.old.items)) }
+{
+    let found = before(first, rest)?;
+    let (event, left) = finish(alloc, Deed::Pattern, 0, found)?;
+    founds.push(left)?;
+    Ok(event)
+}
+
+/// The event at a sequence of atomic patterns that begins with the identifier at this token, as does a phrase with so
+/// many parts.
+#[inline(never)]
+fn enter_name(
+    finder: &Finder,
+    names: &mut Names,
+    founds: &mut Vec<Found>,
+    count: usize,
+    token: usize,
+) -> Result<Option<Event>, Memory>
+    ensures event { let parts = take count (map found_of (reverse founds.old.items)) in
+        let text = text_at finder.now.unit.now finder.now.tokens.now in
+        IfOk result (λ event. option_map seen event ≡ event_of Deed.Pattern 0 (spec.before (atom (short (text token)) token []) (get_or parts 1 nothing))) }
+    ensures founds { let old = map found_of (reverse founds.old.items) in
+        let parts = take count old in
+        let text = text_at finder.now.unit.now finder.now.tokens.now in
+        OnOk result (map found_of (reverse founds.new.items) ≡ left Deed.Pattern (spec.before (atom (short (text token)) token []) (get_or parts 1 nothing)) ∷ drop count old) }
+{
+    let (_word, rest) = first_parts(founds, count);
+    let first = finder.short(names, token)?;
+    if is_empty(&rest) {
+        enter_one(founds, first)
+    } else {
+        enter_several(finder.alloc, founds, first, rest)
+    }
+}
+
+/// The identifier without a path that this token is goes before what is found behind it.
+#[inline(never)]
+fn push_short(
+    finder: &Finder,
+    names: &mut Names,
+    founds: &mut Vec<Found>,
+    token: usize,
+) -> Result<(), Memory>
+    ensures { let text = text_at finder.now.unit.now finder.now.tokens.now token in
+        OnOk result (map found_of (reverse founds.new.items) ≡ one (atom (short text) token []) ∷ map found_of (reverse founds.old.items)) }
+{
+    founds.push(Found::One(finder.short(names, token)?))?;
+    Ok(())
 }
 
 /// The event at a phrase with so many parts that is this and does this.
+#[inline(never)]
 fn enter_other(
     finder: &Finder,
     names: &mut Names,
@@ -335,7 +454,7 @@ fn enter_phrase(
         }
         (Sense::Short, Deed::Nothing) => {
             skip_parts(founds, count);
-            founds.push(Found::One(finder.short(names, token)?))?;
+            push_short(finder, names, founds, token)?;
             Ok(None)
         }
         (Sense::Phrase, Deed::Nothing) => {
@@ -344,6 +463,7 @@ fn enter_phrase(
             Ok(None)
         }
         (Sense::More, Deed::Expression) => enter_expression(finder.alloc, founds, count),
+        (Sense::Named, Deed::Pattern) => enter_name(finder, names, founds, count, token),
         (sense, deed) => enter_other(finder, names, founds, count, sense, deed, token),
     }
 }

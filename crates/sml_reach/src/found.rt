@@ -3,7 +3,7 @@
 ghost use Rattle.std.specs.Prelude.{◌≡◌, ℕ, true, false, [], ◌∷◌, Option, Some, None, if◌then◌else◌, map, reverse, IfOk};
 ghost use Rattle.sml_reach.specs.Founds as spec;
 ghost use Rattle.sml_fixity.specs.ItemNames.{short, behind_op, long, phrase, name_of};
-ghost use Rattle.sml_reach.specs.Founds.{atom, atom_of, found_of};
+ghost use Rattle.sml_reach.specs.Founds.{within, atom, atom_of, found_of};
 ghost use Rattle.sml_reach.specs.Events.{text_at};
 
 use crate::names::Names;
@@ -34,6 +34,8 @@ pub enum Found {
     Several(Vec<Atom>, bool),
     /// The items of a sequence of patterns without a type.
     Inner(Vec<Item>),
+    /// The same of a sequence of one.
+    OneInner(Item),
     /// A directive: the token of its level, if one is written, and its identifiers.
     Directed(Option<usize>, Vec<Atom>),
 }
@@ -113,12 +115,28 @@ fn typed_in(found: &Found) -> bool
     }
 }
 
-fn inner_in(alloc: Global, found: Found) -> Vec<Item>
-    ensures { map name_of result.items ≡ spec.inner_in (found_of found) }
+fn inner_in(alloc: Global, found: Found) -> Result<Vec<Item>, Memory>
+    ensures { IfOk result (λ items. map name_of items.items ≡ spec.inner_in (found_of found)) }
 {
     match found {
-        Found::Inner(items) => items,
-        _ => Vec::new(alloc),
+        Found::Inner(items) => Ok(items),
+        Found::OneInner(item) => {
+            let mut items = Vec::new(alloc);
+            items.push(item)?;
+            Ok(items)
+        }
+        _ => Ok(Vec::new(alloc)),
+    }
+}
+
+/// The items of a sequence of patterns, none where it is something else.
+fn only_inner(alloc: Global, found: Found) -> Found
+    ensures { found_of result ≡ within (spec.inner_in (found_of found)) }
+{
+    match found {
+        Found::Inner(items) => Found::Inner(items),
+        Found::OneInner(item) => Found::OneInner(item),
+        _ => Found::Inner(Vec::new(alloc)),
     }
 }
 
@@ -146,7 +164,7 @@ fn joined(alloc: Global, first: Atom, rest: Found) -> Result<Found, Memory>
 }
 
 /// The atomic phrase before those of the rest, if that is a sequence.
-fn before(first: Atom, rest: Found) -> Result<Found, Memory>
+pub fn before(first: Atom, rest: Found) -> Result<Found, Memory>
     ensures { IfOk result (λ r. found_of r ≡ spec.before (atom_of first) (found_of rest)) }
 {
     match rest {
@@ -225,7 +243,7 @@ impl Finder<'_> {
                 Found::One(self.plain(item, token))
             }
             Sense::Phrase => Found::One(self.plain(Item::Phrase, token)),
-            Sense::Round => Found::One(round(token, inner_in(self.alloc, parts.second))),
+            Sense::Round => Found::One(round(self.alloc, token, parts.second)?),
             Sense::Empty => Found::Several(Vec::new(self.alloc), false),
             Sense::Typed => Found::Several(Vec::new(self.alloc), true),
             Sense::More => {
@@ -240,17 +258,11 @@ impl Finder<'_> {
             Sense::Named => before(self.short(names, token)?, parts.second)?,
             Sense::OpNamed => before(self.plain(Item::Op, token), parts.second)?,
             Sense::Behind => from(token, parts.second)?,
-            Sense::RoundMore => {
-                let first = round(token, inner_in(self.alloc, parts.first));
-                joined(self.alloc, first, parts.second)?
-            }
-            Sense::OpenRoundMore => {
-                let first = round(token, inner_in(self.alloc, parts.second));
-                joined(self.alloc, first, parts.third)?
-            }
+            Sense::RoundMore => round_more(self.alloc, token, parts.first, parts.second)?,
+            Sense::OpenRoundMore => round_more(self.alloc, token, parts.second, parts.third)?,
             Sense::Inner => {
                 if is_word(&parts.second) {
-                    Found::Inner(inner_in(self.alloc, parts.first))
+                    only_inner(self.alloc, parts.first)
                 } else {
                     Found::Nothing
                 }
@@ -282,12 +294,22 @@ impl Finder<'_> {
 }
 
 /// Patterns in round brackets, as an atomic phrase.
-fn round(token: usize, inner: Vec<Item>) -> Atom
-    ensures { atom_of result ≡ atom phrase token (map name_of inner.items) }
+fn round(alloc: Global, token: usize, found: Found) -> Result<Atom, Memory>
+    ensures { IfOk result (λ a. atom_of a ≡ atom phrase token (spec.inner_in (found_of found))) }
 {
-    Atom {
+    let inner = inner_in(alloc, found)?;
+    Ok(Atom {
         item: Item::Phrase,
         token,
         inner,
-    }
+    })
+}
+
+/// Patterns in round brackets before the atomic phrases of the rest.
+fn round_more(alloc: Global, token: usize, found: Found, rest: Found) -> Result<Found, Memory>
+    ensures { let behind = found_of rest in
+        IfOk result (λ r. found_of r ≡ spec.several (atom phrase token (spec.inner_in (found_of found)) ∷ spec.atoms_in behind) (spec.typed_in behind)) }
+{
+    let first = round(alloc, token, found)?;
+    joined(alloc, first, rest)
 }

@@ -1,34 +1,36 @@
 //! How far directives reach, and what each sequence stands for where they are in force.
 
 ghost use Rattle.std.specs.Prelude.{◌≡◌, ℕ, None, true, ◌<◌, ◌≤◌, ◌+◌, ◌-◌, ◌^◌, List, [], ◌∷◌, ◌++◌, map, reverse, length, get_or, IfOk, IfSome, OnOk};
-ghost use Rattle.std.specs.List.{cons_option};
 ghost use Rattle.std.specs.Option.{MatchOption};
 ghost use Rattle.sml_tree.specs.Trees.{Id};
 ghost use Rattle.sml_tree.specs.Views.{ident_of};
 ghost use Rattle.sml_reach.specs.Founds as founds;
 ghost use Rattle.sml_fixity.specs.ItemNames.{name_of};
-ghost use Rattle.sml_reach.specs.Founds.{atoms_of};
+ghost use Rattle.sml_reach.specs.Founds.{atom, atoms_of};
 ghost use Rattle.sml_reach.specs.Events.{seen, text_at, directs};
 ghost use Rattle.sml_reach.specs.Reach as spec;
 ghost use Rattle.sml_fixity.specs.declared.sequences.Step.TheVariants.{Push};
 ghost use Rattle.sml_fixity.specs.Shapes.{shape_of, tree};
 ghost use Rattle.sml_fixity.specs.Sequences.{role_at, role_by};
 ghost use Rattle.sml_reach.specs.CodeAlone.{IsOperand};
-ghost use Rattle.sml_reach.specs.Fits.{fitted_of};
-ghost use Rattle.sml_reach.specs.Reach.{state_of, start, AreItems, first_inner, ids_of, level_text, level_token, misfit_of, idle, fit_at, outcome_of, Happens, Outcomes, misfit_in, misfits_in, declarations_in, AreGathered, first_misfit, before_misfit, up_to, AreFitted};
+ghost use Rattle.sml_reach.specs.CodeGathered.{AreDeclared, AreGathered, ComesOf};
+ghost use Rattle.sml_reach.specs.Fits as shapes;
+ghost use Rattle.sml_reach.specs.Fits.{fit_of, fitted_of};
+ghost use Rattle.sml_reach.specs.Reach.{state_of, start, AreItems, first_inner, ids_of, level_text, level_token, misfit_of, idle, fit_at, outcome_of, Happens, declarations_in, first_misfit, before_misfit, up_to, AreFitted};
 
-use crate::event::Event;
+use crate::event::{Directed, Event};
 use crate::fitted::{Fit, Fitted};
 use crate::found::Atom;
 use crate::place::text;
 use sml_fixity::heads::clause_head;
 use sml_fixity::scopes::{Directive, DirectiveFault, Fixities};
-use sml_fixity::sequences::{FixFault, Item, Operand, Step, resolve, resolve_pattern};
+use sml_fixity::sequences::{FixFault, Item, resolve, resolve_pattern};
 use sml_fixity::shape::Shape;
 use sml_lex::fault::{Code, Memory};
 use sml_lex::token::Token;
 use sml_tree::bare::Ident;
 use std::alloc::Global;
+use std::mem;
 
 /// A fault of fixity: the number of its declaration in the unit, counted from 1, and that one's first token, its own
 /// token, and its code.
@@ -52,11 +54,14 @@ pub enum Outcome {
     Fails(Misfit),
 }
 
-/// The declarations that begin among outcomes, and the fits before the first of them, all from the last to the first.
+/// What was gathered from outcomes: the declarations before the last one that has begun, the first token of that, what
+/// the sequences behind it stand for, and the faults.
 #[derive(Drop)]
 pub struct Gathered {
     declarations: Vec<Fitted>,
+    begun: Option<usize>,
     fits: Vec<Fit>,
+    misfits: Vec<Misfit>,
 }
 
 /// The fixities in force, how many declarations have begun, and the first token of the last of them.
@@ -148,19 +153,30 @@ fn stands(tokens: &[usize], shape: Shape) -> Outcome
 }
 
 /// What one operand stands for.
-fn alone(alloc: Global, atoms: &Vec<Atom>) -> Result<Outcome, Memory>
-    ensures { IfOk result (λ o. outcome_of o ≡ spec.stands (fit_at (atoms_of atoms.now) (tree (Push 0 ∷ [])))) }
+fn alone(atoms: &Vec<Atom>) -> Outcome
+    ensures { outcome_of result ≡ spec.stands (fit_at (atoms_of atoms.now) (tree (Push 0 ∷ []))) }
 {
-    let mut steps = Vec::new(alloc);
-    steps.push(Step::Push(0))?;
     let token = match atoms.last() {
         Some(atom) => atom.token,
         None => 0,
     };
-    Ok(Outcome::Stands(Fit {
+    Outcome::Stands(Fit {
         token,
-        shape: Shape::Tree(Operand { steps }),
-    }))
+        shape: Shape::First,
+    })
+}
+
+/// A sequence of one atomic phrase.
+fn one_atom(alloc: Global, item: Item, token: usize) -> Result<Vec<Atom>, Memory>
+    ensures { IfOk result (λ v. atoms_of v ≡ atom (name_of item) token [] ∷ []) }
+{
+    let mut atoms = Vec::new(alloc);
+    atoms.push(Atom {
+        item,
+        token,
+        inner: Vec::new(alloc),
+    })?;
+    Ok(atoms)
 }
 
 /// The bytes of a level, none where it isn't written.
@@ -240,7 +256,7 @@ impl Reach {
         ensures some { 0 < length (atoms_of atoms) → IfOk result (λ o. spec.IsExpression (state_of self.now) (atoms_of atoms) (outcome_of o)) }
     {
         if self.is_operand(&atoms) {
-            return alone(alloc, &atoms);
+            return Ok(alone(&atoms));
         }
         let sequence = split(alloc, atoms)?;
         if sequence.items.is_empty() {
@@ -252,13 +268,37 @@ impl Reach {
         }
     }
 
+    /// What a sequence of one atomic expression comes to.
+    fn of_one_expression(&self, alloc: Global, item: Item, token: usize) -> Result<Outcome, Memory>
+        ensures { IfOk result (λ o. spec.IsExpression (state_of self.now) (atom (name_of item) token [] ∷ []) (outcome_of o)) }
+    {
+        if self.is_atom(&item) {
+            let shape = Shape::First;
+            return Ok(Outcome::Stands(Fit { token, shape }));
+        }
+        let atoms = one_atom(alloc, item, token)?;
+        self.of_expression(alloc, atoms)
+    }
+
+    /// What a sequence of one atomic pattern comes to.
+    fn of_one_pattern(&self, alloc: Global, item: Item, token: usize) -> Result<Outcome, Memory>
+        ensures { IfOk result (λ o. spec.IsPattern (state_of self.now) (atom (name_of item) token [] ∷ []) (outcome_of o)) }
+    {
+        if self.is_atom(&item) {
+            let shape = Shape::First;
+            return Ok(Outcome::Stands(Fit { token, shape }));
+        }
+        let atoms = one_atom(alloc, item, token)?;
+        self.of_pattern(alloc, atoms)
+    }
+
     /// What a sequence of atomic patterns comes to.
     fn of_pattern(&self, alloc: Global, atoms: Vec<Atom>) -> Result<Outcome, Memory>
         ensures empty { atoms_of atoms ≡ [] → IfOk result (λ o. outcome_of o ≡ idle) }
         ensures some { 0 < length (atoms_of atoms) → IfOk result (λ o. spec.IsPattern (state_of self.now) (atoms_of atoms) (outcome_of o)) }
     {
         if self.is_operand(&atoms) {
-            return alone(alloc, &atoms);
+            return Ok(alone(&atoms));
         }
         let sequence = split(alloc, atoms)?;
         if sequence.items.is_empty() {
@@ -330,10 +370,17 @@ impl Reach {
                 self.fixities.leave()?;
                 Ok(Outcome::Idle)
             }
-            Event::Directs(directive, level, atoms) => {
+            Event::Directs(directed) => {
+                let Directed {
+                    directive,
+                    level,
+                    atoms,
+                } = Box::into_inner(directed);
                 let bytes = level_bytes(unit, tokens, level);
                 self.direct(alloc, directive, bytes, level, atoms)
             }
+            Event::OneExpression(item, token) => self.of_one_expression(alloc, item, token),
+            Event::OnePattern(item, token) => self.of_one_pattern(alloc, item, token),
             Event::Expression(atoms) => self.of_expression(alloc, atoms),
             Event::Pattern(atoms) => self.of_pattern(alloc, atoms),
             Event::Head(atoms) => self.of_head(alloc, atoms),
@@ -401,93 +448,88 @@ fn next(events: &mut Vec<Event>) -> Option<Event>
     events.pop()
 }
 
-/// What a unit's events come to, which go from the last to the first.
-fn outcomes(
+impl Gathered {
+    fn new(alloc: Global) -> Gathered
+        ensures { AreGathered result [] }
+    {
+        Gathered {
+            declarations: Vec::new(alloc),
+            begun: None,
+            fits: Vec::new(alloc),
+            misfits: Vec::new(alloc),
+        }
+    }
+
+    /// The last declaration that has begun goes to the others.
+    fn end(&mut self, alloc: Global) -> Result<(), Memory>
+        ensures all { (all : List shapes.Fitted) → AreDeclared (map fitted_of self.old.declarations.items) self.old.begun (map fit_of self.old.fits.items) all →
+            OnOk result (map fitted_of self.new.declarations.items ≡ all) }
+        ensures none { OnOk result (self.new.fits.items ≡ []) }
+        ensures misfits { self.new.misfits ≡ self.old.misfits }
+    {
+        let fits = mem::replace(&mut self.fits, Vec::new(alloc));
+        let Some(begun) = self.begun else {
+            return Ok(());
+        };
+        self.declarations.push(Fitted { begun, fits })?;
+        Ok(())
+    }
+
+    /// A declaration begins at this token.
+    fn begin(&mut self, alloc: Global, begun: usize) -> Result<(), Memory>
+        ensures { OnOk result ((os : List spec.Outcome) → AreGathered self.old os → AreGathered self.new (os ++ spec.declares begun ∷ [])) }
+    {
+        self.end(alloc)?;
+        self.begun = Some(begun);
+        Ok(())
+    }
+
+    /// Adds what the next event comes to.
+    fn add(&mut self, alloc: Global, outcome: Outcome) -> Result<(), Memory>
+        ensures { OnOk result ((os : List spec.Outcome) → AreGathered self.old os → AreGathered self.new (os ++ outcome_of outcome ∷ [])) }
+    {
+        match outcome {
+            Outcome::Declares(begun) => self.begin(alloc, begun)?,
+            Outcome::Stands(fit) => self.fits.push(fit)?,
+            Outcome::Idle => {}
+            Outcome::Fails(misfit) => self.misfits.push(misfit)?,
+        }
+        Ok(())
+    }
+
+    /// All declarations.
+    fn declarations(self, alloc: Global) -> Result<Vec<Fitted>, Memory>
+        ensures { (os : List spec.Outcome) → AreGathered self os → IfOk result (λ v. map fitted_of v.items ≡ declarations_in os) }
+    {
+        let mut gathered = self;
+        gathered.end(alloc)?;
+        let Gathered {
+            declarations,
+            begun: _,
+            fits: _,
+            misfits: _,
+        } = gathered;
+        Ok(declarations)
+    }
+}
+
+/// What is gathered from what a unit's events come to, which go from the last to the first.
+fn gather(
     alloc: Global,
     unit: &[u8],
     tokens: &[Token],
     events: Vec<Event>,
-) -> Result<Vec<Outcome>, Memory>
-    ensures { IfOk result (λ v. Outcomes (text_at unit.now tokens.now) start (map seen (reverse events.items)) (map outcome_of v.items)) }
+) -> Result<Gathered, Memory>
+    ensures { IfOk result (ComesOf (text_at unit.now tokens.now) (map seen (reverse events.items))) }
 {
     let mut reach = Reach::new(alloc)?;
-    let mut outcomes = Vec::new(alloc);
+    let mut gathered = Gathered::new(alloc);
     let mut events = events;
     while let Some(event) = next(&mut events) {
-        outcomes.push(reach.happen(alloc, unit, tokens, event)?)?;
+        let outcome = reach.happen(alloc, unit, tokens, event)?;
+        gathered.add(alloc, outcome)?;
     }
-    Ok(outcomes)
-}
-
-fn push_misfit(misfits: &mut Vec<Misfit>, outcome: &Outcome) -> Result<(), Memory>
-    ensures { OnOk result (misfits.new.items ≡ misfits.old.items ++ cons_option (misfit_in (outcome_of outcome.now)) []) }
-{
-    match outcome {
-        Outcome::Fails(misfit) => misfits.push(*misfit)?,
-        Outcome::Declares(_) => {}
-        Outcome::Idle => {}
-        Outcome::Stands(_) => {}
-    }
-    Ok(())
-}
-
-/// The faults among outcomes.
-fn misfits(alloc: Global, outcomes: &[Outcome]) -> Result<Vec<Misfit>, Memory>
-    ensures { IfOk result (λ v. v.items ≡ misfits_in (map outcome_of outcomes.now)) }
-{
-    let mut misfits = Vec::new(alloc);
-    for outcome in outcomes {
-        push_misfit(&mut misfits, outcome)?;
-    }
-    Ok(misfits)
-}
-
-impl Gathered {
-    /// With the outcome before those that this was gathered from.
-    fn with(self, alloc: Global, outcome: Outcome) -> Result<Gathered, Memory>
-        ensures { (os : List spec.Outcome) → AreGathered self os → IfOk result (λ g. AreGathered g (outcome_of outcome ∷ os)) }
-    {
-        let Gathered {
-            mut declarations,
-            mut fits,
-        } = self;
-        match outcome {
-            Outcome::Declares(begun) => {
-                fits.reverse();
-                declarations.push(Fitted { begun, fits })?;
-                Ok(Gathered {
-                    declarations,
-                    fits: Vec::new(alloc),
-                })
-            }
-            Outcome::Stands(fit) => {
-                fits.push(fit)?;
-                Ok(Gathered { declarations, fits })
-            }
-            Outcome::Idle => Ok(Gathered { declarations, fits }),
-            Outcome::Fails(_) => Ok(Gathered { declarations, fits }),
-        }
-    }
-}
-
-/// The declarations that begin among outcomes, each with what its sequences stand for.
-fn declarations(alloc: Global, outcomes: Vec<Outcome>) -> Result<Vec<Fitted>, Memory>
-    ensures { IfOk result (λ v. map fitted_of v.items ≡ declarations_in (map outcome_of outcomes.items)) }
-{
-    let mut gathered = Gathered {
-        declarations: Vec::new(alloc),
-        fits: Vec::new(alloc),
-    };
-    let mut outcomes = outcomes;
-    while let Some(outcome) = outcomes.pop() {
-        gathered = gathered.with(alloc, outcome)?;
-    }
-    let Gathered {
-        mut declarations,
-        fits: _,
-    } = gathered;
-    declarations.reverse();
-    Ok(declarations)
+    Ok(gathered)
 }
 
 /// How many declarations stand before the one with a fault of fixity.
@@ -521,9 +563,8 @@ pub fn fit(
 ) -> Result<(Vec<Fitted>, Option<Misfit>), Memory>
     ensures { IfOk result (λ r. AreFitted (text_at unit.now tokens.now) (map seen (reverse events.items)) (map fitted_of r.0.items) r.1) }
 {
-    let outcomes = outcomes(alloc, unit, tokens, events)?;
-    let misfits = misfits(alloc, &outcomes)?;
-    let first = first_of(&misfits);
-    let declarations = declarations(alloc, outcomes)?;
+    let gathered = gather(alloc, unit, tokens, events)?;
+    let first = first_of(&gathered.misfits);
+    let declarations = gathered.declarations(alloc)?;
     Ok((up_to(before_misfit(first), declarations), first))
 }

@@ -1,4 +1,4 @@
-use Rattle.std.proofs.Common.{◌-◌, ◌≤◌, map, reverse, drop, get_or, length, refl, sym, ap, ◌∙◌, arith}
+use Rattle.std.proofs.Common.{◌-◌, ◌≤◌, map, reverse, drop, get_or, length, refl, arith}
 use Rattle.sml_read.specs.declared.grammar.Node.TheVariants.{Leaf}
 use Rattle.sml_read.specs.Extents.{starts_of}
 use Rattle.sml_read.proofs.Extents.{start_on, tokens_on}

@@ -1,13 +1,13 @@
--- The outcomes so far, and those of the events to come.
+-- What was gathered from the events so far, and those to come.
 use Rattle.std.proofs.Common.{◌≤◌, ◌+◌, map, reverse, length}
 use Rattle.sml_reach.specs.Events.{seen, text_at}
-use Rattle.sml_reach.specs.Reach.{state_of, outcome_of}
-use Rattle.sml_reach.proofs.Reaching.{Leads}
-use Rattle.sml_reach.proofs.reach.outcomes.Given as goal
+use Rattle.sml_reach.specs.Reach.{state_of}
+use Rattle.sml_reach.proofs.Reaching.{IsReached}
+use Rattle.sml_reach.proofs.reach.gather.Given as goal
 
 abbrev pub invariant-loop-event : goal.invariant-loop-event
 invariant-loop-event l = record {
-  kept : Leads (text_at l.unit l.tokens) (map seen (reverse l.fn.events.items)) (state_of l.reach) (map seen (reverse l.events.items)) (map outcome_of l.outcomes.items);
+  reached : IsReached (text_at l.unit l.tokens) (map seen (reverse l.fn.events.items)) (state_of l.reach) (map seen (reverse l.events.items)) l.gathered;
   few : l.reach.count + length l.events.items ≤ length l.fn.events.items;
 }
 

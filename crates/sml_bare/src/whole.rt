@@ -21,7 +21,7 @@ use sml_derived::expander::Expander;
 use sml_flaws::flawed::{before_end, begins_at};
 use sml_lex::fault::{Memory, Place};
 use sml_lex::token::{Kind, Token};
-use sml_phrases::phrase::{Failure, Phrase};
+use sml_phrases::phrase::Failure;
 use sml_phrases::stack::Stack;
 use sml_reach::fitted::{Fit, Fitted};
 use sml_reach::names::Names;
@@ -33,17 +33,28 @@ use sml_tree::patterns::{Constant, ConstantKind};
 use sml_tree::structures::TopDec;
 use std::alloc::Global;
 
-/// A constant of this kind.
-fn constant(names: &mut Names, kind: ConstantKind, text: &[u8]) -> Result<Phrase, Memory>
-    ensures { IfOk result (λ phrase. phrase_of phrase ≡ of_constant (record { kind = kind; literal = text.now })) }
+/// A constant of this kind goes on the stack.
+fn put_constant(
+    names: &mut Names,
+    stack: &mut Stack,
+    kind: ConstantKind,
+    text: &[u8],
+) -> Result<(), Failure>
+    ensures { Puts (of_constant (record { kind = kind; literal = text.now })) 0 (seen stack.old) (seen stack.new) result }
 {
     let literal = names.ident(text)?;
-    Ok(Phrase::Constant(Constant { kind, literal }))
+    stack.put_constant(Constant { kind, literal })
 }
 
-/// What a token makes by its kind, its place and its bytes.
-fn word_phrase(names: &mut Names, kind: Kind, place: Place, text: &[u8]) -> Result<Phrase, Memory>
-    ensures { IfOk result (λ phrase. phrase_of phrase ≡ spec.word_phrase kind place text.now) }
+/// What a token makes by its kind, its place and its bytes goes on the stack.
+fn put_word(
+    names: &mut Names,
+    stack: &mut Stack,
+    kind: Kind,
+    place: Place,
+    text: &[u8],
+) -> Result<(), Failure>
+    ensures { Puts (spec.word_phrase kind place text.now) 0 (seen stack.old) (seen stack.new) result }
 {
     match kind {
         Kind::Alphanumeric
@@ -54,17 +65,18 @@ fn word_phrase(names: &mut Names, kind: Kind, place: Place, text: &[u8]) -> Resu
         | Kind::Numeral
         | Kind::ZeroNumeral => {
             let ident = names.ident(text)?;
-            Ok(Phrase::Name(Name { place, ident }))
+            stack.put_name(Name { place, ident })
         }
-        Kind::LongAlphanumeric | Kind::LongSymbolic | Kind::LongStar => Ok(Phrase::Long(names.long(
-            place, text,
-        )?)),
-        Kind::Integer => constant(names, ConstantKind::Integer, text),
-        Kind::WordConstant => constant(names, ConstantKind::Word, text),
-        Kind::RealConstant => constant(names, ConstantKind::Real, text),
-        Kind::StringConstant => constant(names, ConstantKind::String, text),
-        Kind::CharacterConstant => constant(names, ConstantKind::Character, text),
-        _ => Ok(Phrase::Word(place)),
+        Kind::LongAlphanumeric | Kind::LongSymbolic | Kind::LongStar => {
+            let long = names.long(place, text)?;
+            stack.put_long(long)
+        }
+        Kind::Integer => put_constant(names, stack, ConstantKind::Integer, text),
+        Kind::WordConstant => put_constant(names, stack, ConstantKind::Word, text),
+        Kind::RealConstant => put_constant(names, stack, ConstantKind::Real, text),
+        Kind::StringConstant => put_constant(names, stack, ConstantKind::String, text),
+        Kind::CharacterConstant => put_constant(names, stack, ConstantKind::Character, text),
+        _ => stack.put_word(place),
     }
 }
 
@@ -78,19 +90,21 @@ fn before_sequence(rule: Rule) -> usize
     }
 }
 
-/// What the n-th token of a declaration makes.
-fn token_phrase(source: &Source, names: &mut Names, n: usize) -> Result<Phrase, Memory>
+/// What the n-th token of a declaration makes goes on the stack.
+#[inline(never)]
+fn put_token(source: &Source, names: &mut Names, stack: &mut Stack, n: usize) -> Result<(), Failure>
     ensures { let s = source_of source.now in
-        IfOk result (λ phrase. phrase_of phrase ≡ spec.token_phrase s.unit (spec.place_at s.unit s.tokens n) (slice_get s.tokens n)) }
+        Puts (spec.token_phrase s.unit (spec.place_at s.unit s.tokens n) (slice_get s.tokens n)) 0 (seen stack.old) (seen stack.new) result }
 {
     match source.tokens.get(n) {
-        Some(token) => word_phrase(
+        Some(token) => put_word(
             names,
+            stack,
             token.kind,
             source.place(n),
             text(source.unit, token.span),
         ),
-        None => Ok(Phrase::Nothing),
+        None => stack.put_nothing(),
     }
 }
 
@@ -124,10 +138,7 @@ fn at_node(
     ensures high { IfErr result (λ f. f ≡ TooHigh → spec.is_low_at (source_of source.now) node n (seen stack.old) ≡ false) }
 {
     match node {
-        Node::Leaf => {
-            let phrase = token_phrase(source, names, n)?;
-            stack.push(phrase)?;
-        }
+        Node::Leaf => put_token(source, names, stack, n)?,
         Node::Inner(rule) => {
             put_by(source, expander, stack, rule, n)?;
             is_within(stack);
@@ -136,47 +147,47 @@ fn at_node(
     Ok(())
 }
 
-/// What is made by the nodes of a declaration.
+/// What is made by the nodes of a declaration, on a stack on which nothing is left of others.
 fn phrases(
-    alloc: Global,
     source: &Source,
     names: &mut Names,
     expander: &Expander,
+    stack: &mut Stack,
     nodes: &[Node],
-) -> Result<Stack, Failure>
-    ensures made { IfOk result (λ stack. seen stack ≡ spec.phrases_of (source_of source.now) nodes.now (starts_of 0 nodes.now)) }
+) -> Result<(), Failure>
+    ensures made { OnOk result (seen stack.new ≡ spec.phrases_of (source_of source.now) nodes.now (starts_of 0 nodes.now)) }
     ensures within { IfOk result (λ u. spec.are_low (source_of source.now) nodes.now (starts_of 0 nodes.now) ≡ true) }
     ensures high { IfErr result (λ f. f ≡ TooHigh → spec.are_low (source_of source.now) nodes.now (starts_of 0 nodes.now) ≡ false) }
 {
     let mut token = token_count(nodes);
-    let mut stack = Stack::new(alloc);
+    stack.clear();
     for i in (0..nodes.len()).rev() {
         let node = nodes[i];
         token = first_token(node, token);
-        match at_node(source, names, expander, &mut stack, node, token) {
+        match at_node(source, names, expander, stack, node, token) {
             Ok(()) => {}
             Err(failure) => return Err(failure),
         }
     }
-    Ok(stack)
+    Ok(())
 }
 
 /// The declaration of these nodes, unless it is too high.
 fn declared(
-    alloc: Global,
     source: &Source,
     names: &mut Names,
     expander: &Expander,
+    stack: &mut Stack,
     nodes: &[Node],
 ) -> Result<Option<TopDec>, Memory>
     ensures { IfOk result (λ top. option_map top_of top ≡ spec.bare_dec (source_of source.now) nodes.now) }
 {
-    let mut stack = match phrases(alloc, source, names, expander, nodes) {
-        Ok(stack) => stack,
+    match phrases(source, names, expander, stack, nodes) {
+        Ok(()) => {}
         Err(Failure::TooHigh) => return Ok(None),
         Err(Failure::Memory) => return Err(Memory),
-    };
-    match declaration(source.place(0), expander, &mut stack) {
+    }
+    match declaration(source.place(0), expander, stack) {
         Ok(top) => Ok(Some(top.tree)),
         Err(Failure::TooHigh) => Ok(None),
         Err(Failure::Memory) => Err(Memory),
@@ -207,6 +218,7 @@ fn declared_at(
     tokens: &[Token],
     names: &mut Names,
     expander: &Expander,
+    stack: &mut Stack,
     fitted: &[Fitted],
     nodes: &[Node],
     first: usize,
@@ -217,7 +229,7 @@ fn declared_at(
     let fits = fits_at(fitted, count);
     let placed = token_count(nodes).saturating_add(1);
     let source = Source::new(alloc, unit, behind(tokens, first), first, fits, placed)?;
-    declared(alloc, &source, names, expander, nodes)
+    declared(&source, names, expander, stack, nodes)
 }
 
 /// Whether there are as many declarations as there may be.
@@ -244,6 +256,7 @@ pub fn bare_decs(
         IfOk result (λ r. (map top_of r.0.items ≡ spec.before_none all) × (r.1 ≡ list_all is_some all)) }
 {
     let expander = Expander::new(alloc)?;
+    let mut stack = Stack::new(alloc);
     let mut declarations = Vec::new(alloc);
     let mut first = 0;
     for i in 0..nodes.len() {
@@ -257,7 +270,8 @@ pub fn bare_decs(
                     }
                     let own = before_end(&nodes[i + 1..]);
                     let Some(top) = declared_at(
-                        alloc, unit, tokens, names, &expander, fitted, own, first, count,
+                        alloc, unit, tokens, names, &expander, &mut stack, fitted, own, first,
+                        count,
                     )?
                     else {
                         return Ok((declarations, false));

@@ -183,6 +183,10 @@ pub fn whole(
     ensures { Puts (let vs = seen stack.old in of_exp (whole place (option_map (λ s. shape_of s.now) shape.entry) (exp_in (at vs 0)) (at vs 1))) 2 (seen stack.old) (seen stack.new) result }
 {
     let exp = stack.exp();
+    if stack.take_nothing() {
+        let exp = single(expander, shape, exp)?;
+        return stack.put_exp(exp);
+    }
     let rest = stack.pop();
     let exp = whole_exp(expander, place, shape, exp, rest)?;
     stack.put_exp(exp)

@@ -1,9 +1,11 @@
 -- Maps with one more entry, and going back over changes.
-use Rattle.std.proofs.Common.{◌≡◌, ℕ, Ordering, cond, Option, Some, None, Result, Ok, Err, OnOk, OnErr, List, [], ◌∷◌, ◌++◌, refl, sym, ap, ◌∙◌, subst, Vec, Global}
+use Rattle.std.proofs.Common.{◌≡◌, ℕ, Bool, true, false, ◌&&◌, Ordering, cond, Option, Some, None, Result, Ok, Err, OnOk, OnErr, List, [], ◌∷◌, ◌++◌, refl, sym, ap, ◌∙◌, subst, Vec, Global}
 use Rattle.std.specs.Prelude.{reverse}
 use Rattle.std.specs.Map as stored
 use Rattle.std.specs.BTreeMap.{insert_entry, is_at}
 use Rattle.std.specs.FinMap.{slice_cmp-IsAntisymmetric, nat_cmp-IsAntisymmetric}
+use Rattle.std.specs.Cmp.Derive.{both_true}
+use Rattle.std.proofs.lemmas.Bool.{false≢true}
 use Rattle.std.specs.Ordering.{match_ordering, is_eq}
 use Rattle.std.specs.declared.cmp.Ordering.TheVariants.{Less, Equal, Greater}
 use Rattle.std.specs.declared.rc.Rc.{Rc}
@@ -14,7 +16,9 @@ use Rattle.sml_tree.specs.Views.{ident_of}
 use Rattle.sml_fixity.specs.declared.scopes.Fixity.{Fixity}
 use Rattle.sml_fixity.specs.declared.scopes.Change.{Change}
 use Rattle.sml_fixity.specs.declared.scopes.Change.TheVariants.{Scope, Restore}
-use Rattle.sml_fixity.specs.Scopes.{Map, order_of, where_same, found, changed, unwound}
+use Rattle.sml_fixity.specs.Order.{order_of, where_same}
+use Rattle.sml_fixity.specs.CodeTable.{found, is_marked, are_marked}
+use Rattle.sml_fixity.specs.Scopes.{Map, changed, unwound}
 
 abbrev Key : Type 0
 Key = Rc (Vec ℕ Global) Global
@@ -63,8 +67,54 @@ found-insert : (y : Id) (k : Key) (v : Option Fixity) (es : Stored) → found y 
 found-insert y k v [] = refl
 found-insert y k v (e ∷ es) = found-insert-by y k v e es (order_of (ident_of k) (ident_of e.0)) refl (found-insert y k v es)
 
-pub inserted : (es es' : Stored) (k : Key) (v : Option Fixity) → es' ≡ insert_entry cmp es k v → (λ x. found x es') ≡ changed (λ x. found x es) (ident_of k) v
-inserted es es' k v h = fun_ext (λ y. ap (found y) h ∙ found-insert y k v es)
+pub found_inserted : (es es' : Stored) (k : Key) (v : Option Fixity) → es' ≡ insert_entry cmp es k v → (x : Id) → found x es' ≡ where_same (order_of x (ident_of k)) v (found x es)
+found_inserted es es' k v h y = ap (found y) h ∙ found-insert y k v es
+
+pub map_changed : (es es' : Stored) (k : Id) (v : Option Fixity) → ((x : Id) → found x es' ≡ where_same (order_of x k) v (found x es)) → (λ x. found x es') ≡ changed (λ x. found x es) k v
+map_changed es es' k v h = fun_ext h
+
+both : (a b : Bool) → (a && b) ≡ true → (a ≡ true) × (b ≡ true)
+both true b h = (refl, h)
+both false b h = absurd (false≢true h)
+
+-- an identifier that isn't marked has no entry
+unmarked-at : (firsts : List Bool) (x : Id) (e : Key × Option Fixity) (a : Option Fixity) → is_marked firsts x ≡ false → is_marked firsts (ident_of e.0) ≡ true → a ≡ None → where_same (order_of x (ident_of e.0)) e.1 a ≡ None
+unmarked-at firsts x e a n m h =
+    sym (apart_from (order_of x (ident_of e.0)) a e.1 (λ s. false≢true (sym n ∙ ap (is_marked firsts) (same_ident x (ident_of e.0) s) ∙ m))) ∙ h
+
+pub unmarked : (firsts : List Bool) (x : Id) (es : Stored) → is_marked firsts x ≡ false → are_marked firsts es ≡ true → found x es ≡ None
+unmarked firsts x [] n h = refl
+unmarked firsts x (e ∷ es) n h =
+    let m = both (is_marked firsts (ident_of e.0)) (are_marked firsts es) h in
+    unmarked-at firsts x e (found x es) n m.0 (unmarked firsts x es n m.1)
+
+-- entries stay marked while more bytes are, and so is a new one
+marked-insert-by : (firsts : List Bool) (k : Key) (v : Option Fixity) (e : Key × Option Fixity) (es : Stored) (o : Ordering) → is_marked firsts (ident_of k) ≡ true → is_marked firsts (ident_of e.0) ≡ true → are_marked firsts es ≡ true
+    → are_marked firsts (insert_entry cmp es k v) ≡ true → are_marked firsts (match_ordering o ((k, v) ∷ e ∷ es) ((e.0, v) ∷ es) (e ∷ insert_entry cmp es k v)) ≡ true
+marked-insert-by firsts k v e es Less m n h i = both_true m (both_true n h)
+marked-insert-by firsts k v e es Equal m n h i = both_true n h
+marked-insert-by firsts k v e es Greater m n h i = both_true n i
+
+marked-insert : (firsts : List Bool) (k : Key) (v : Option Fixity) (es : Stored) → is_marked firsts (ident_of k) ≡ true → are_marked firsts es ≡ true → are_marked firsts (insert_entry cmp es k v) ≡ true
+marked-insert firsts k v [] m h = both_true m refl
+marked-insert firsts k v (e ∷ es) m h =
+    let n = both (is_marked firsts (ident_of e.0)) (are_marked firsts es) h in
+    marked-insert-by firsts k v e es (order_of (ident_of k) (ident_of e.0)) m n.0 n.1 (marked-insert firsts k v es m n.1)
+
+marked_on : (firsts firsts' : List Bool) (es : Stored) → ((x : Id) → is_marked firsts x ≡ true → is_marked firsts' x ≡ true) → are_marked firsts es ≡ true → are_marked firsts' es ≡ true
+marked_on firsts firsts' [] o h = refl
+marked_on firsts firsts' (e ∷ es) o h =
+    let n = both (is_marked firsts (ident_of e.0)) (are_marked firsts es) h in
+    both_true (o (ident_of e.0) n.0) (marked_on firsts firsts' es o n.1)
+
+marked_inserted : (firsts firsts' : List Bool) (es es' : Stored) (k : Key) (v : Option Fixity) → ((x : Id) → is_marked firsts x ≡ true → is_marked firsts' x ≡ true) → is_marked firsts' (ident_of k) ≡ true
+    → are_marked firsts es ≡ true → es' ≡ insert_entry cmp es k v → are_marked firsts' es' ≡ true
+marked_inserted firsts firsts' es es' k v o m h e = ap (are_marked firsts') e ∙ marked-insert firsts' k v es m (marked_on firsts firsts' es o h)
+
+pub marked_stay : {A E : Type 0} (r : Result A E) (firsts firsts' : List Bool) (es es' : Stored) (k : Key) (v : Option Fixity) → ((x : Id) → is_marked firsts x ≡ true → is_marked firsts' x ≡ true)
+    → is_marked firsts' (ident_of k) ≡ true → are_marked firsts es ≡ true → OnOk r (es' ≡ insert_entry cmp es k v) → OnErr r (es' ≡ es) → are_marked firsts' es' ≡ true
+marked_stay (Ok a) firsts firsts' es es' k v o m h e f = marked_inserted firsts firsts' es es' k v o m h e
+marked_stay (Err a) firsts firsts' es es' k v o m h e f = ap (are_marked firsts') f ∙ marked_on firsts firsts' es o h
 
 abbrev flat : Option (Option Fixity) → Option Fixity
 flat None = None

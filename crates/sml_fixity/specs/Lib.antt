@@ -1,4 +1,5 @@
 pub mod Infix
+pub mod Order
 pub mod Scopes
 pub mod Sequences
 pub mod Patterns
@@ -8,3 +9,4 @@ pub mod Shapes
 pub mod ItemNames
 pub mod CodeRuns
 pub mod CodeReader
+pub mod CodeTable

@@ -1,12 +1,9 @@
 -- Fixities as maps from identifiers, one for each open scope (the Definition, section 2.6).
-use Rattle.std.specs.Prelude.{◌≡◌, ◌⊎◌, ℕ, ◌+◌, ◌<◌, Option, Some, None, Bool, true, false, List, [], ◌∷◌, reverse, codes, Vec}
-use Rattle.std.specs.Global.{Global}
-use Rattle.std.specs.Ordering.{nat_cmp, match_ordering}
-use Rattle.std.specs.Cmp.Lexicographic.{slice_cmp}
-use Rattle.std.specs.declared.cmp.Ordering.{Ordering}
-use Rattle.std.specs.declared.rc.Rc.{Rc}
+use Rattle.std.specs.Prelude.{◌≡◌, ◌⊎◌, ℕ, ◌+◌, ◌<◌, Option, Some, None, Bool, true, false, List, [], ◌∷◌, reverse, codes}
 use Rattle.sml_tree.specs.Trees.{Id}
 use Rattle.sml_tree.specs.Views.{ident_of}
+use Rattle.sml_fixity.specs.Order.{order_of, where_same}
+use Rattle.sml_fixity.specs.CodeTable.{found}
 use Rattle.sml_fixity.specs.declared.scopes.Side.{Side}
 use Rattle.sml_fixity.specs.declared.scopes.Side.TheVariants.{Left, Right}
 use Rattle.sml_fixity.specs.declared.scopes.Fixity.{Fixity}
@@ -23,13 +20,6 @@ fixity_of level side = record { level = level; side = side }
 abbrev pub Map : Type 0
 Map = Id → Option Fixity
 
-abbrev pub order_of : Id → Id → Ordering
-order_of x y = slice_cmp nat_cmp x y
-
--- the first where two identifiers are the same, and else the second
-abbrev pub where_same : {X : Type 0} → Ordering → X → X → X
-where_same o a b = match_ordering o b a b
-
 -- the map with another entry at x
 abbrev pub changed : Map → Id → Option Fixity → Map
 changed f x v = λ y. where_same (order_of y x) v (f y)
@@ -38,13 +28,9 @@ abbrev pub changed_all : Map → List Id → Option Fixity → Map
 changed_all f [] v = f
 changed_all f (x ∷ xs) v = changed_all (changed f x v) xs v
 
-abbrev pub found : Id → List (Rc (Vec ℕ Global) Global × Option Fixity) → Option Fixity
-found x [] = None
-found x (e ∷ es) = where_same (order_of x (ident_of e.0)) e.1 (found x es)
-
 -- the fixities in force
 abbrev pub here : Fixities → Map
-here f = λ x. found x f.table.entries
+here f = λ x. found x f.table.idents.entries
 
 -- the maps at the beginnings of the open scopes, the newest change first
 abbrev pub unwound : Map → List Change → List Map

@@ -9,3 +9,4 @@ mod roles;
 pub mod scopes;
 pub mod sequences;
 pub mod shape;
+mod table;

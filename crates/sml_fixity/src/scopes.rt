@@ -6,10 +6,10 @@ ghost use Rattle.sml_tree.specs.Trees.{Id};
 ghost use Rattle.sml_tree.specs.Views.{ident_of};
 ghost use Rattle.sml_fixity.specs.Scopes.{Map, here, outer, is_scope, changed, changed_all, fixity_of, IsLevel, Gives, initial_map};
 
+use crate::table::Table;
 use sml_lex::fault::Memory;
 use sml_tree::bare::Ident;
 use std::alloc::{AllocError, AllocFailed, Global};
-use std::collections::BTreeMap;
 use std::rc::Rc;
 
 /// The side to which operators of one level group.
@@ -61,10 +61,10 @@ enum Change {
     Restore(Ident, Option<Fixity>),
 }
 
-/// The fixities in force by identifier, and the changes since each open scope began.
+/// The fixities in force, and the changes since each open scope began.
 #[derive(Drop)]
 pub struct Fixities {
-    table: BTreeMap<Ident, Option<Fixity>>,
+    table: Table,
     changes: Vec<Change>,
 }
 
@@ -102,7 +102,7 @@ impl Fixities {
         ensures no_change { result.changes.items ≡ [] }
     {
         Fixities {
-            table: BTreeMap::new(alloc),
+            table: Table::new(alloc),
             changes: Vec::new(alloc),
         }
     }
@@ -111,10 +111,7 @@ impl Fixities {
     pub fn lookup(&self, name: &Ident) -> Option<Fixity>
         ensures { result ≡ here self.now (ident_of name.now) }
     {
-        match self.table.get(name) {
-            Some(fixity) => *fixity,
-            None => None,
-        }
+        self.table.get(name)
     }
 
     /// Opens a scope.

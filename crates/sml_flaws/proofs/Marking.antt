@@ -1,27 +1,53 @@
--- One mark after another.
-use Rattle.std.proofs.Common.{◌≡◌, ℕ, suc, ◌+◌, ◌-◌, ◌<◌, ◌≤◌, List, [], ◌∷◌, ◌++◌, get_or, drop, length, reverse, refl, sym, ap, ◌∙◌, arith, append_assoc, append-nil}
+-- One mark after another, and the runs of contexts.
+use Rattle.std.proofs.Common.{◌≡◌, ℕ, zero, suc, ◌+◌, ◌-◌, ◌<◌, ◌≤◌, lit≤, min, inl, inr, List, [], ◌∷◌, ◌++◌, get_or, drop, length, replicate, reverse, refl, sym, ap, ◌∙◌, arith, append_assoc, append-nil}
 use Rattle.std.specs.List.{cons_option}
 use Rattle.std.specs.Prelude.{Option, Some, None}
-use Rattle.std.proofs.lemmas.List.{drop_more, reverse-append}
+use Rattle.std.proofs.lemmas.Bool.{cases_lt}
+use Rattle.std.proofs.lemmas.List.{drop_more, get_or_past, length-reverse, replicate-append-replicate}
 use Rattle.sml_read.specs.declared.grammar.Node.{Node}
 use Rattle.sml_read.specs.declared.grammar.Node.TheVariants.{Leaf, Inner}
+use Rattle.sml_read.specs.declared.grammar.Rule.{Rule}
+use Rattle.sml_read.specs.Grammar.{right_side}
 use Rattle.sml_flaws.specs.declared.role.Role.{Role}
 use Rattle.sml_flaws.specs.declared.role.Role.TheVariants.{Same}
+use Rattle.sml_flaws.specs.declared.role.Entry.TheVariants.{Nothing}
 use Rattle.sml_flaws.specs.declared.mark.Context.{Context}
 use Rattle.sml_flaws.specs.declared.mark.Mark.{Mark}
-use Rattle.sml_flaws.specs.Marks.{in_role, contexts_from, mark_at, parts_of, token_behind, marks_of}
+use Rattle.sml_flaws.specs.Roles.{roles_of, entry_of}
+use Rattle.sml_flaws.specs.Marks.{entered, in_role, contexts_from, mark_at, parts_of, token_behind, marks_of}
 
-one_part : (roles : List Role) (c : Context) (i count : ℕ) → 0 < i → i ≤ count → contexts_from roles c (i - 1) (count - (i - 1)) ≡ in_role (get_or roles (i - 1) Same) c ∷ contexts_from roles c i (count - i)
-one_part roles c i count some within =
-    let m : count - (i - 1) ≡ suc (count - i) = omega (arith, some, within) in
-    let s : suc (i - 1) ≡ i = omega (arith, some) in
-    ap (contexts_from roles c (i - 1)) m ∙ ap (λ k. in_role (get_or roles (i - 1) Same) c ∷ contexts_from roles c k (count - i)) s
+-- the contexts of parts
 
-pub parts_on : (roles : List Role) (c : Context) (i count : ℕ) (old rest new : List Context) → reverse old ≡ contexts_from roles c i (count - i) ++ rest → new ≡ old ++ in_role (get_or roles (i - 1) Same) c ∷ [] → 0 < i → i ≤ count → reverse new ≡ contexts_from roles c (i - 1) (count - (i - 1)) ++ rest
-parts_on roles c i count old rest new kept e some within =
-    ap reverse e ∙ reverse-append old (in_role (get_or roles (i - 1) Same) c ∷ [])
-    ∙ ap (λ cs. in_role (get_or roles (i - 1) Same) c ∷ cs) kept
-    ∙ ap (λ cs. cs ++ rest) (sym (one_part roles c i count some within))
+same_behind : (roles : List Role) (c : Context) (i count : ℕ) → length roles ≤ i → contexts_from roles c i count ≡ replicate count c
+same_behind roles c i zero past = refl
+same_behind roles c i (suc count) past =
+    ap (λ role. in_role role c ∷ contexts_from roles c (suc i) count) (get_or_past roles i Same past)
+    ∙ ap (λ cs. c ∷ cs) (same_behind roles c (suc i) count (omega arith))
+
+pub behind_roles : (roles : List Role) (c : Context) (i count : ℕ) → i ≡ min (length roles) count → contexts_from roles c i (count - i) ≡ replicate (count - length roles) c
+behind_roles roles c i count e =
+    elim (cases_lt count (length roles)) [
+      | inl few ↦
+          let none : count - i ≡ 0 = omega (arith, e, few) in
+          let no_more : 0 ≡ count - length roles = omega (arith, few) in
+          ap (contexts_from roles c i) none ∙ ap (λ n. replicate n c) no_more
+      | inr enough ↦
+          let rest : count - i ≡ count - length roles = omega (arith, e, enough) in
+          same_behind roles c i (count - i) (omega (arith, e, enough)) ∙ ap (λ n. replicate n c) rest
+    ]
+
+pub plain_parts : (i n : ℕ) (c : Context) (rule : Rule) (count : ℕ) (others : List Context) → entry_of rule ≡ Nothing → roles_of rule ≡ [] → replicate (count + length (reverse (right_side rule))) c ++ others ≡ parts_of i n c (Inner rule) ++ (replicate count c ++ others)
+plain_parts i n c rule count others entry roles =
+    let parts = length (right_side rule) in
+    let e : count + length (reverse (right_side rule)) ≡ parts + count = omega (arith, length-reverse (right_side rule)) in
+    ap (λ k. replicate k c ++ others) e
+    ∙ ap (λ cs. cs ++ others) (sym (replicate-append-replicate parts count c))
+    ∙ append_assoc (replicate parts c) (replicate count c) others
+    ∙ ap (λ cs. cs ++ (replicate count c ++ others)) (sym (same_behind [] c 0 parts (lit≤ tt)))
+    ∙ ap (λ o. contexts_from [] (entered o i n c) 0 parts ++ (replicate count c ++ others)) (sym entry)
+    ∙ ap (λ roles. contexts_from roles (entered (entry_of rule) i n c) 0 parts ++ (replicate count c ++ others)) (sym roles)
+
+-- one mark on
 
 two_marks : (mark : Option Mark) (more : List Mark) → cons_option mark [] ++ more ≡ cons_option mark more
 two_marks None more = refl

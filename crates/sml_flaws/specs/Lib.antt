@@ -3,4 +3,5 @@ pub mod Known
 pub mod Flawed
 pub mod Roles
 pub mod Flaws
+pub mod CodeContexts
 pub mod CodeScopes

@@ -1,10 +1,9 @@
 //! What a declaration binds and where, one mark after another, by a walk over its nodes.
 
-ghost use Rattle.std.specs.Prelude.{◌≡◌, ◌+◌, ◌++◌, ◌<◌, ◌≤◌, ◌^◌, [], ◌∷◌, get_or, length, reverse, IfOk, MatchOption, OnOk};
+ghost use Rattle.std.specs.Prelude.{◌≡◌, ◌+◌, ◌++◌, ◌<◌, ◌≤◌, ◌^◌, true, false, [], ◌∷◌, length, replicate, reverse, IfOk, OnOk};
 ghost use Rattle.std.specs.List.{cons_option};
-ghost use Rattle.sml_read.specs.Grammar.{right_side};
-ghost use Rattle.sml_flaws.specs.declared.role.Role.TheVariants.{Same};
 ghost use Rattle.sml_flaws.specs.Marks as spec;
+ghost use Rattle.sml_flaws.specs.CodeContexts.{contexts_in, contexts_of};
 
 use crate::role::{Entry, Role, Space, Word, entry_of, roles_of};
 use sml_lex::fault::Memory;
@@ -81,6 +80,20 @@ pub struct Context {
     pub index: usize,
 }
 
+/// Symbols still to come that follow on one another and have the same context.
+#[derive(Clone, Copy, PartialEq, Eq, Drop)]
+struct Run {
+    context: Context,
+    count: usize,
+}
+
+/// The symbols still to come: the first run of them, and those behind it from the last to the first.
+#[derive(Drop)]
+struct Runs {
+    here: Run,
+    behind: Vec<Run>,
+}
+
 /// What is known of a declaration.
 const START: Context = Context {
     word: Word::Plain,
@@ -138,41 +151,90 @@ fn in_role(role: Role, context: Context) -> Context
     part
 }
 
-fn role_at(roles: &[Role], index: usize) -> Role
-    ensures { result ≡ get_or roles.now index Same }
+/// The first run behind this one that has symbols comes to stand here, if there is one.
+#[inline(never)]
+fn next_run(runs: &mut Runs) -> bool
+    ensures none { result ≡ false → contexts_in (reverse runs.old.behind.items) ≡ [] }
+    ensures some { result ≡ true → (0 < runs.new.here.count) × (contexts_in (reverse runs.old.behind.items) ≡ contexts_of runs.new) }
 {
-    match roles.get(index) {
-        Some(role) => *role,
-        None => Role::Same,
+    while let Some(run) = runs.behind.pop() {
+        if run.count > 0 {
+            runs.here = run;
+            return true;
+        }
     }
+    false
 }
 
-/// The next context of those that go from the last to the first.
-fn pop(contexts: &mut Vec<Context>) -> Option<Context>
-    ensures { MatchOption result (reverse contexts.old.items ≡ []) (λ c. reverse contexts.old.items ≡ c ∷ reverse contexts.new.items) }
+/// Takes the next symbol, if there is one, off its run, which stands here then.
+fn take(runs: &mut Runs) -> bool
+    ensures none { result ≡ false → contexts_of runs.old ≡ [] }
+    ensures some { result ≡ true → contexts_of runs.old ≡ runs.new.here.context ∷ contexts_of runs.new }
 {
-    contexts.pop()
+    if runs.here.count == 0 && !next_run(runs) {
+        return false;
+    }
+    runs.here.count -= 1;
+    true
 }
 
-/// The contexts of so many symbols go before the others, which go from the last to the first.
+/// So many symbols with this context go before the others.
+fn push_run(runs: &mut Runs, context: Context, count: usize) -> Result<(), Memory>
+    ensures { OnOk result (contexts_of runs.new ≡ replicate count context ++ contexts_of runs.old) }
+{
+    if runs.here.count > 0 {
+        runs.behind.push(runs.here)?;
+    }
+    runs.here = Run { context, count };
+    Ok(())
+}
+
+/// So many parts of a phrase whose context stands here go before the other symbols, the last of them first: as one run
+/// those behind the last role, and then each that has a role.
+#[inline(never)]
 fn push_parts(
-    contexts: &mut Vec<Context>,
+    runs: &mut Runs,
+    entry: Entry,
     roles: &[Role],
-    context: Context,
     count: usize,
+    number: usize,
+    token: usize,
 ) -> Result<(), Memory>
-    ensures { OnOk result (reverse contexts.new.items ≡ spec.contexts_from roles.now context 0 count ++ reverse contexts.old.items) }
+    requires { token + 1 < 2 ^ 64 }
+    ensures { OnOk result (contexts_of runs.new ≡ spec.contexts_from roles.now (spec.entered entry number token runs.old.here.context) 0 count ++ contexts_of runs.old) }
 {
-    contexts.reserve(count)?;
-    for index in (0..count).rev() {
-        contexts.push_reserved(in_role(role_at(roles, index), context));
+    let inside = entered(entry, number, token, runs.here.context);
+    push_run(runs, inside, count.saturating_sub(roles.len()))?;
+    for index in (0..roles.len().min(count)).rev() {
+        push_run(runs, in_role(roles[index], inside), 1)?;
     }
     Ok(())
 }
 
+/// The parts of a node whose context stands here go before the other symbols. Where all have that context, they only
+/// make its run longer.
+fn enter(runs: &mut Runs, node: Node, number: usize, token: usize) -> Result<(), Memory>
+    requires { token + 1 < 2 ^ 64 }
+    ensures { OnOk result (contexts_of runs.new ≡ spec.parts_of number token runs.old.here.context node ++ contexts_of runs.old) }
+{
+    let Node::Inner(rule) = node else {
+        return Ok(());
+    };
+    let entry = entry_of(rule);
+    let roles = roles_of(rule);
+    let count = backwards(rule).len();
+    match entry {
+        Entry::Nothing if roles.is_empty() && count <= usize::MAX - runs.here.count => {
+            runs.here.count += count;
+            Ok(())
+        }
+        _ => push_parts(runs, entry, roles, count, number, token),
+    }
+}
+
 /// The mark at a token.
-fn word_mark(token: usize, context: Context) -> Option<Mark>
-    ensures { result ≡ spec.word_mark context.word token context }
+fn word_mark(token: usize, context: &Context) -> Option<Mark>
+    ensures { result ≡ spec.word_mark context.now.word token context.now }
 {
     match context.word {
         Word::Plain | Word::Constant => None,
@@ -209,8 +271,8 @@ fn is_constant(word: Word) -> bool
 }
 
 /// The mark at a phrase of this rule.
-fn rule_mark(rule: Rule, token: usize, context: Context) -> Option<Mark>
-    ensures { result ≡ spec.rule_mark rule token context }
+fn rule_mark(rule: Rule, token: usize, context: &Context) -> Option<Mark>
+    ensures { result ≡ spec.rule_mark rule token context.now }
 {
     match rule {
         Rule::Names(NameRule::ConstantRealConstant) => {
@@ -236,25 +298,13 @@ fn rule_mark(rule: Rule, token: usize, context: Context) -> Option<Mark>
     }
 }
 
-/// The mark at a node with this first token; the contexts of its parts go before the others.
-fn enter(
-    contexts: &mut Vec<Context>,
-    context: Context,
-    node: Node,
-    number: usize,
-    token: usize,
-) -> Result<Option<Mark>, Memory>
-    requires { token + 1 < 2 ^ 64 }
-    ensures mark { IfOk result (λ mark. mark ≡ spec.mark_at token context node) }
-    ensures contexts { OnOk result (reverse contexts.new.items ≡ spec.parts_of number token context node ++ reverse contexts.old.items) }
+/// The mark at a node with this first token.
+fn mark_at(node: Node, token: usize, context: &Context) -> Option<Mark>
+    ensures { result ≡ spec.mark_at token context.now node }
 {
     match node {
-        Node::Leaf => Ok(word_mark(token, context)),
-        Node::Inner(rule) => {
-            let inside = entered(entry_of(rule), number, token, context);
-            push_parts(contexts, roles_of(rule), inside, backwards(rule).len())?;
-            Ok(rule_mark(rule, token, context))
-        }
+        Node::Leaf => word_mark(token, context),
+        Node::Inner(rule) => rule_mark(rule, token, context),
     }
 }
 
@@ -285,15 +335,21 @@ pub fn marks(alloc: Global, nodes: &[Node], begun: usize) -> Result<Vec<Mark>, M
     ensures { IfOk result (λ marks. marks.items ≡ spec.marks_of 0 begun (spec.start ∷ []) nodes.now) }
 {
     let mut marks = Vec::new(alloc);
-    let mut contexts = Vec::new(alloc);
-    contexts.push(START)?;
+    let mut runs = Runs {
+        here: Run {
+            context: START,
+            count: 1,
+        },
+        behind: Vec::new(alloc),
+    };
     let mut token = begun;
     for i in 0..nodes.len() {
-        let Some(context) = pop(&mut contexts) else {
+        if !take(&mut runs) {
             return Ok(marks);
-        };
-        let mark = enter(&mut contexts, context, nodes[i], i, token)?;
+        }
+        let mark = mark_at(nodes[i], token, &runs.here.context);
         push_some(&mut marks, mark)?;
+        enter(&mut runs, nodes[i], i, token)?;
         token = token_behind(nodes[i], token);
     }
     Ok(marks)

@@ -1,5 +1,5 @@
 -- Calls whose answer is that of another call.
-use Rattle.std.proofs.Common.{◌≡◌, ℕ, List, ◌∷◌, ap, sym, ◌∙◌, false, drop, Result, Ok, Err, OnOk}
+use Rattle.std.proofs.Common.{◌≡◌, ℕ, List, ◌∷◌, ap, sym, ◌∙◌, drop, Result, Ok, Err, OnOk}
 use Rattle.sml_phrases.specs.Phrases.{Phrase}
 use Rattle.sml_phrases.specs.PhraseHeights.{is_low}
 use Rattle.sml_phrases.specs.PhraseViews.{Makes, Puts}

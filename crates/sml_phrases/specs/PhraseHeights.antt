@@ -1,5 +1,5 @@
 -- Whether a phrase is within the limit of heights: no tree that it makes is higher than 4,000.
-use Rattle.std.specs.Prelude.{ℕ, List, Bool, true, ◌&&◌, nat_le, Option}
+use Rattle.std.specs.Prelude.{ℕ, List, Bool, true, ◌&&◌, nat_le}
 use Rattle.sml_lex.specs.declared.fault.Place.{Place}
 use Rattle.sml_tree.specs.Heights.{highest, height_if_any, ty_height, tys_height, ty_fields_height, pat_height, pats_height, pat_fields_height, typ_bind_height, con_bind_height, dat_bind_height, exn_bind_height, exp_height, exps_height, fields_height, rules_height, dec_height, decs_height, bind_height, binds_height, val_desc_height, sig_height, specs_height, str_descs_height, str_height, str_dec_height, str_decs_height, str_binds_height, sig_bind_height, fun_bind_height, top_height}
 use Rattle.sml_tree.specs.Signatures.{WhereType}

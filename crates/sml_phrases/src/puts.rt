@@ -30,13 +30,6 @@ use sml_tree::patterns::Constant;
 use sml_tree::signatures::TypDesc;
 
 impl Stack {
-    fn put(&mut self, phrase: Phrase) -> Result<(), Failure>
-        ensures { Puts (phrase_of phrase) 0 (seen self.old) (seen self.new) result }
-    {
-        self.push(phrase)?;
-        Ok(())
-    }
-
     /// Leaves the phrase on top where it is.
     pub fn put_first(&mut self) -> Result<(), Failure>
         ensures { Puts (first (seen self.old)) 1 (seen self.old) (seen self.new) result }
@@ -58,86 +51,130 @@ impl Stack {
     pub fn put_nothing(&mut self) -> Result<(), Failure>
         ensures { Puts nothing 0 (seen self.old) (seen self.new) result }
     {
-        self.put(Phrase::Nothing)
+        self.make_room()?;
+        self.add(Phrase::Nothing);
+        Ok(())
+    }
+
+    pub fn put_word(&mut self, place: Place) -> Result<(), Failure>
+        ensures { Puts (of_word place) 0 (seen self.old) (seen self.new) result }
+    {
+        self.make_room()?;
+        self.add(Phrase::Word(place));
+        Ok(())
+    }
+
+    pub fn put_name(&mut self, name: Name) -> Result<(), Failure>
+        ensures { Puts (of_name (name_of name)) 0 (seen self.old) (seen self.new) result }
+    {
+        self.make_room()?;
+        self.add(Phrase::Name(name));
+        Ok(())
     }
 
     pub fn put_long(&mut self, long: LongIdent) -> Result<(), Failure>
         ensures { Puts (of_long (long_name_of long)) 0 (seen self.old) (seen self.new) result }
     {
-        self.put(Phrase::Long(long))
+        self.make_room()?;
+        self.add(Phrase::Long(long));
+        Ok(())
     }
 
     pub fn put_constant(&mut self, constant: Constant) -> Result<(), Failure>
         ensures { Puts (of_constant (constant_of constant)) 0 (seen self.old) (seen self.new) result }
     {
-        self.put(Phrase::Constant(constant))
+        self.make_room()?;
+        self.add(Phrase::Constant(constant));
+        Ok(())
     }
 
     pub fn put_names(&mut self, names: Vec<Name>) -> Result<(), Failure>
         ensures { Puts (of_names (map name_of (reverse names.items))) 0 (seen self.old) (seen self.new) result }
     {
-        self.put(Phrase::Names(names))
+        self.make_room()?;
+        self.add(Phrase::Names(names));
+        Ok(())
     }
 
     pub fn put_longs(&mut self, longs: Vec<LongIdent>) -> Result<(), Failure>
         ensures { Puts (of_longs (map long_name_of (reverse longs.items))) 0 (seen self.old) (seen self.new) result }
     {
-        self.put(Phrase::Longs(longs))
+        self.make_room()?;
+        self.add(Phrase::Longs(longs));
+        Ok(())
     }
 
     pub fn put_ty(&mut self, ty: LowTy) -> Result<(), Failure>
         ensures { Puts (of_ty (ty_of ty.tree)) 0 (seen self.old) (seen self.new) result }
     {
-        self.put(Phrase::Types(TypePhrase::Ty(ty)))
+        self.make_room()?;
+        self.add(Phrase::Types(TypePhrase::Ty(ty)));
+        Ok(())
     }
 
     pub fn put_tys(&mut self, tys: LowTys) -> Result<(), Failure>
         ensures { Puts (of_tys (tys_of (map (λ t. ty_of t.tree) (reverse tys.trees.items)))) 0 (seen self.old) (seen self.new) result }
     {
-        self.put(Phrase::Types(TypePhrase::Tys(tys)))
+        self.make_room()?;
+        self.add(Phrase::Types(TypePhrase::Tys(tys)));
+        Ok(())
     }
 
     pub fn put_ty_fields(&mut self, fields: LowTyFields) -> Result<(), Failure>
         ensures { Puts (of_ty_fields (ty_fields_of (map ty_field_of (reverse fields.trees.items)))) 0 (seen self.old) (seen self.new) result }
     {
-        self.put(Phrase::Types(TypePhrase::TyFields(fields)))
+        self.make_room()?;
+        self.add(Phrase::Types(TypePhrase::TyFields(fields)));
+        Ok(())
     }
 
     pub fn put_arguments(&mut self, others: LowTys, constructor: LongIdent) -> Result<(), Failure>
         ensures { Puts (of_arguments (tys_of (map (λ t. ty_of t.tree) (reverse others.trees.items))) (long_name_of constructor)) 0 (seen self.old) (seen self.new) result }
     {
-        self.put(Phrase::Types(TypePhrase::Arguments(others, constructor)))
+        self.make_room()?;
+        self.add(Phrase::Types(TypePhrase::Arguments(others, constructor)));
+        Ok(())
     }
 
     pub fn put_pat(&mut self, pat: LowPat) -> Result<(), Failure>
         ensures { Puts (of_pat (pat_of pat.tree)) 0 (seen self.old) (seen self.new) result }
     {
-        self.put(Phrase::Patterns(PatternPhrase::Pat(pat)))
+        self.make_room()?;
+        self.add(Phrase::Patterns(PatternPhrase::Pat(pat)));
+        Ok(())
     }
 
     pub fn put_pats(&mut self, pats: LowPats) -> Result<(), Failure>
         ensures { Puts (of_pats (pats_of (map (λ q. pat_of q.tree) (reverse pats.trees.items)))) 0 (seen self.old) (seen self.new) result }
     {
-        self.put(Phrase::Patterns(PatternPhrase::Pats(pats)))
+        self.make_room()?;
+        self.add(Phrase::Patterns(PatternPhrase::Pats(pats)));
+        Ok(())
     }
 
     pub fn put_pat_fields(&mut self, fields: LowPatFields, flexible: bool) -> Result<(), Failure>
         ensures { Puts (of_pat_fields (pat_fields_of (map pat_field_of (reverse fields.trees.items))) flexible) 0 (seen self.old) (seen self.new) result }
     {
-        self.put(Phrase::Patterns(PatternPhrase::PatFields(fields, flexible)))
+        self.make_room()?;
+        self.add(Phrase::Patterns(PatternPhrase::PatFields(fields, flexible)));
+        Ok(())
     }
 
     pub fn put_atoms(&mut self, atoms: LowPats, tys: LowTys) -> Result<(), Failure>
         ensures { Puts (of_atoms (pats_of (map (λ q. pat_of q.tree) (reverse atoms.trees.items))) (tys_of (map (λ t. ty_of t.tree) (reverse tys.trees.items)))) 0 (seen self.old) (seen self.new) result }
     {
-        self.put(Phrase::Patterns(PatternPhrase::Atoms(atoms, tys)))
+        self.make_room()?;
+        self.add(Phrase::Patterns(PatternPhrase::Atoms(atoms, tys)));
+        Ok(())
     }
 
     pub fn put_layer(&mut self, ty: Option<LowTy>, pat: Option<LowPat>) -> Result<(), Failure>
         ensures { Puts (of_layer (option_map (λ t. ty_of t.tree) ty) (option_map (λ q. pat_of q.tree) pat)) 0 (seen self.old) (seen self.new) result }
     {
         let layer = Box::new(self.alloc, Layer { ty, pat })?;
-        self.put(Phrase::Patterns(PatternPhrase::Layer(layer)))
+        self.make_room()?;
+        self.add(Phrase::Patterns(PatternPhrase::Layer(layer)));
+        Ok(())
     }
 
     pub fn put_op_atoms(
@@ -148,7 +185,9 @@ impl Stack {
     ) -> Result<(), Failure>
         ensures { Puts (of_op_atoms (long_name_of long) (pats_of (map (λ q. pat_of q.tree) (reverse atoms.trees.items))) (tys_of (map (λ t. ty_of t.tree) (reverse tys.trees.items)))) 0 (seen self.old) (seen self.new) result }
     {
-        self.put(Phrase::Patterns(PatternPhrase::OpAtoms(long, atoms, tys)))
+        self.make_room()?;
+        self.add(Phrase::Patterns(PatternPhrase::OpAtoms(long, atoms, tys)));
+        Ok(())
     }
 
     pub fn put_op_layer(
@@ -160,67 +199,89 @@ impl Stack {
         ensures { Puts (of_op_layer (name_of name) (option_map (λ t. ty_of t.tree) ty) (option_map (λ q. pat_of q.tree) pat)) 0 (seen self.old) (seen self.new) result }
     {
         let layer = Box::new(self.alloc, Layer { ty, pat })?;
-        self.put(Phrase::Patterns(PatternPhrase::OpLayer(name, layer)))
+        self.make_room()?;
+        self.add(Phrase::Patterns(PatternPhrase::OpLayer(name, layer)));
+        Ok(())
     }
 
     pub fn put_exp(&mut self, exp: LowExp) -> Result<(), Failure>
         ensures { Puts (of_exp (exp_of exp.tree)) 0 (seen self.old) (seen self.new) result }
     {
-        self.put(Phrase::Expressions(ExpressionPhrase::Exp(exp)))
+        self.make_room()?;
+        self.add(Phrase::Expressions(ExpressionPhrase::Exp(exp)));
+        Ok(())
     }
 
     pub fn put_exps(&mut self, exps: LowExps) -> Result<(), Failure>
         ensures { Puts (of_exps (exps_of (map (λ e. exp_of e.tree) (reverse exps.trees.items)))) 0 (seen self.old) (seen self.new) result }
     {
-        self.put(Phrase::Expressions(ExpressionPhrase::Exps(exps)))
+        self.make_room()?;
+        self.add(Phrase::Expressions(ExpressionPhrase::Exps(exps)));
+        Ok(())
     }
 
     pub fn put_series(&mut self, exps: LowExps) -> Result<(), Failure>
         ensures { Puts (of_series (exps_of (map (λ e. exp_of e.tree) (reverse exps.trees.items)))) 0 (seen self.old) (seen self.new) result }
     {
-        self.put(Phrase::Expressions(ExpressionPhrase::Series(exps)))
+        self.make_room()?;
+        self.add(Phrase::Expressions(ExpressionPhrase::Series(exps)));
+        Ok(())
     }
 
     pub fn put_fields(&mut self, fields: LowFields) -> Result<(), Failure>
         ensures { Puts (of_fields (fields_of (map field_of (reverse fields.trees.items)))) 0 (seen self.old) (seen self.new) result }
     {
-        self.put(Phrase::Expressions(ExpressionPhrase::Fields(fields)))
+        self.make_room()?;
+        self.add(Phrase::Expressions(ExpressionPhrase::Fields(fields)));
+        Ok(())
     }
 
     pub fn put_rules(&mut self, rules: LowRules) -> Result<(), Failure>
         ensures { Puts (of_rules (rules_of (map rule_of (reverse rules.trees.items)))) 0 (seen self.old) (seen self.new) result }
     {
-        self.put(Phrase::Expressions(ExpressionPhrase::Rules(rules)))
+        self.make_room()?;
+        self.add(Phrase::Expressions(ExpressionPhrase::Rules(rules)));
+        Ok(())
     }
 
     pub fn put_rest(&mut self, rest: Box<Rest>) -> Result<(), Failure>
         ensures { Puts (rest_of rest.value) 0 (seen self.old) (seen self.new) result }
     {
-        self.put(Phrase::Expressions(ExpressionPhrase::Rest(rest)))
+        self.make_room()?;
+        self.add(Phrase::Expressions(ExpressionPhrase::Rest(rest)));
+        Ok(())
     }
 
     pub fn put_dec(&mut self, dec: LowDec) -> Result<(), Failure>
         ensures { Puts (of_dec (dec_of dec.tree)) 0 (seen self.old) (seen self.new) result }
     {
-        self.put(Phrase::Declarations(DeclarationPhrase::Dec(dec)))
+        self.make_room()?;
+        self.add(Phrase::Declarations(DeclarationPhrase::Dec(dec)));
+        Ok(())
     }
 
     pub fn put_decs(&mut self, decs: LowDecs) -> Result<(), Failure>
         ensures { Puts (of_decs (decs_of (map dec_of (reverse decs.trees.items)))) 0 (seen self.old) (seen self.new) result }
     {
-        self.put(Phrase::Declarations(DeclarationPhrase::Decs(decs)))
+        self.make_room()?;
+        self.add(Phrase::Declarations(DeclarationPhrase::Decs(decs)));
+        Ok(())
     }
 
     pub fn put_bind(&mut self, bind: LowBind) -> Result<(), Failure>
         ensures { Puts (of_bind (bind_of bind.tree)) 0 (seen self.old) (seen self.new) result }
     {
-        self.put(Phrase::Declarations(DeclarationPhrase::Bind(bind)))
+        self.make_room()?;
+        self.add(Phrase::Declarations(DeclarationPhrase::Bind(bind)));
+        Ok(())
     }
 
     pub fn put_binds(&mut self, binds: LowBinds) -> Result<(), Failure>
         ensures { Puts (of_binds (binds_of (map bind_of (reverse binds.trees.items)))) 0 (seen self.old) (seen self.new) result }
     {
-        self.put(Phrase::Declarations(DeclarationPhrase::Binds(binds)))
+        self.make_room()?;
+        self.add(Phrase::Declarations(DeclarationPhrase::Binds(binds)));
+        Ok(())
     }
 
     pub fn put_values(
@@ -231,7 +292,9 @@ impl Stack {
     ) -> Result<(), Failure>
         ensures { Puts (of_values (map name_of (reverse variables.items)) (binds_of (map bind_of (reverse plain.trees.items))) (binds_of (map bind_of (reverse recursive.trees.items)))) 0 (seen self.old) (seen self.new) result }
     {
-        self.put(Phrase::Declarations(DeclarationPhrase::Values(variables, plain, recursive)))
+        self.make_room()?;
+        self.add(Phrase::Declarations(DeclarationPhrase::Values(variables, plain, recursive)));
+        Ok(())
     }
 
     pub fn put_round_values(
@@ -254,13 +317,17 @@ impl Stack {
             recursive,
         };
         let values = Box::new(self.alloc, values)?;
-        self.put(Phrase::Declarations(DeclarationPhrase::RoundValues(values)))
+        self.make_room()?;
+        self.add(Phrase::Declarations(DeclarationPhrase::RoundValues(values)));
+        Ok(())
     }
 
     pub fn put_functions(&mut self, variables: Vec<Name>, binds: LowBinds) -> Result<(), Failure>
         ensures { Puts (of_functions (map name_of (reverse variables.items)) (binds_of (map bind_of (reverse binds.trees.items)))) 0 (seen self.old) (seen self.new) result }
     {
-        self.put(Phrase::Declarations(DeclarationPhrase::Functions(variables, binds)))
+        self.make_room()?;
+        self.add(Phrase::Declarations(DeclarationPhrase::Functions(variables, binds)));
+        Ok(())
     }
 
     pub fn put_right_side(
@@ -277,13 +344,17 @@ impl Stack {
             body,
         };
         let right = Box::new(self.alloc, right)?;
-        self.put(Phrase::Declarations(DeclarationPhrase::RightSide(right)))
+        self.make_room()?;
+        self.add(Phrase::Declarations(DeclarationPhrase::RightSide(right)));
+        Ok(())
     }
 
     pub fn put_clauses(&mut self, clauses: LowClauses) -> Result<(), Failure>
         ensures { Puts (of_clauses (map clause_of (reverse clauses.trees.items))) 0 (seen self.old) (seen self.new) result }
     {
-        self.put(Phrase::Declarations(DeclarationPhrase::Clauses(clauses)))
+        self.make_room()?;
+        self.add(Phrase::Declarations(DeclarationPhrase::Clauses(clauses)));
+        Ok(())
     }
 
     pub fn put_round_functions(
@@ -296,9 +367,11 @@ impl Stack {
         ensures { Puts (of_round_functions (pats_of (map (λ q. pat_of q.tree) (reverse inner.trees.items))) (pats_of (map (λ q. pat_of q.tree) (reverse right.pats.trees.items))) (option_map (λ t. ty_of t.tree) right.result) (exp_of right.body.tree) (map clause_of (reverse clauses.trees.items)) (binds_of (map bind_of (reverse binds.trees.items)))) 0 (seen self.old) (seen self.new) result }
     {
         let right = Box::new(self.alloc, right)?;
-        self.put(Phrase::Declarations(DeclarationPhrase::RoundFunctions(
+        self.make_room()?;
+        self.add(Phrase::Declarations(DeclarationPhrase::RoundFunctions(
             inner, right, clauses, binds,
-        )))
+        )));
+        Ok(())
     }
 
     pub fn put_typ_bind(
@@ -309,25 +382,33 @@ impl Stack {
     ) -> Result<(), Failure>
         ensures { Puts (of_typ_bind (map name_of (reverse variables.items)) (name_of name) (ty_of ty.tree)) 0 (seen self.old) (seen self.new) result }
     {
-        self.put(Phrase::Declarations(DeclarationPhrase::TypBind(variables, name, ty)))
+        self.make_room()?;
+        self.add(Phrase::Declarations(DeclarationPhrase::TypBind(variables, name, ty)));
+        Ok(())
     }
 
     pub fn put_typ_binds(&mut self, binds: LowTypBinds) -> Result<(), Failure>
         ensures { Puts (of_typ_binds (map typ_bind_of (reverse binds.trees.items))) 0 (seen self.old) (seen self.new) result }
     {
-        self.put(Phrase::Declarations(DeclarationPhrase::TypBinds(binds)))
+        self.make_room()?;
+        self.add(Phrase::Declarations(DeclarationPhrase::TypBinds(binds)));
+        Ok(())
     }
 
     pub fn put_con_bind(&mut self, name: Name, ty: Option<LowTy>) -> Result<(), Failure>
         ensures { Puts (of_con_bind (name_of name) (option_map (λ t. ty_of t.tree) ty)) 0 (seen self.old) (seen self.new) result }
     {
-        self.put(Phrase::Declarations(DeclarationPhrase::ConBind(name, ty)))
+        self.make_room()?;
+        self.add(Phrase::Declarations(DeclarationPhrase::ConBind(name, ty)));
+        Ok(())
     }
 
     pub fn put_con_binds(&mut self, binds: LowConBinds) -> Result<(), Failure>
         ensures { Puts (of_con_binds (map con_bind_of (reverse binds.trees.items))) 0 (seen self.old) (seen self.new) result }
     {
-        self.put(Phrase::Declarations(DeclarationPhrase::ConBinds(binds)))
+        self.make_room()?;
+        self.add(Phrase::Declarations(DeclarationPhrase::ConBinds(binds)));
+        Ok(())
     }
 
     pub fn put_datatypes(
@@ -337,7 +418,9 @@ impl Stack {
     ) -> Result<(), Failure>
         ensures { Puts (of_datatypes (map dat_bind_of (reverse datatypes.trees.items)) (map typ_bind_of (reverse types.trees.items))) 0 (seen self.old) (seen self.new) result }
     {
-        self.put(Phrase::Declarations(DeclarationPhrase::Datatypes(datatypes, types)))
+        self.make_room()?;
+        self.add(Phrase::Declarations(DeclarationPhrase::Datatypes(datatypes, types)));
+        Ok(())
     }
 
     pub fn put_constructors(
@@ -348,29 +431,37 @@ impl Stack {
     ) -> Result<(), Failure>
         ensures { Puts (of_constructors (map con_bind_of (reverse constructors.trees.items)) (map dat_bind_of (reverse datatypes.trees.items)) (map typ_bind_of (reverse types.trees.items))) 0 (seen self.old) (seen self.new) result }
     {
-        self.put(Phrase::Declarations(DeclarationPhrase::Constructors(
+        self.make_room()?;
+        self.add(Phrase::Declarations(DeclarationPhrase::Constructors(
             constructors,
             datatypes,
             types,
-        )))
+        )));
+        Ok(())
     }
 
     pub fn put_copy(&mut self, name: Name, copied: LongIdent) -> Result<(), Failure>
         ensures { Puts (of_copy (name_of name) (long_name_of copied)) 0 (seen self.old) (seen self.new) result }
     {
-        self.put(Phrase::Declarations(DeclarationPhrase::Copy(name, copied)))
+        self.make_room()?;
+        self.add(Phrase::Declarations(DeclarationPhrase::Copy(name, copied)));
+        Ok(())
     }
 
     pub fn put_exn_binds(&mut self, binds: LowExnBinds) -> Result<(), Failure>
         ensures { Puts (of_exn_binds (map exn_bind_of (reverse binds.trees.items))) 0 (seen self.old) (seen self.new) result }
     {
-        self.put(Phrase::Declarations(DeclarationPhrase::ExnBinds(binds)))
+        self.make_room()?;
+        self.add(Phrase::Declarations(DeclarationPhrase::ExnBinds(binds)));
+        Ok(())
     }
 
     pub fn put_sig(&mut self, signature: LowSig) -> Result<(), Failure>
         ensures { Puts (of_sig (sig_of signature.tree)) 0 (seen self.old) (seen self.new) result }
     {
-        self.put(Phrase::Signatures(SignaturePhrase::Sig(signature)))
+        self.make_room()?;
+        self.add(Phrase::Signatures(SignaturePhrase::Sig(signature)));
+        Ok(())
     }
 
     pub fn put_where(
@@ -382,19 +473,25 @@ impl Stack {
         ensures { Puts (of_where (map name_of (reverse variables.items)) (long_name_of constructor) (ty_of ty.tree)) 0 (seen self.old) (seen self.new) result }
     {
         let ty = Box::new(self.alloc, ty)?;
-        self.put(Phrase::Signatures(SignaturePhrase::Where(variables, constructor, ty)))
+        self.make_room()?;
+        self.add(Phrase::Signatures(SignaturePhrase::Where(variables, constructor, ty)));
+        Ok(())
     }
 
     pub fn put_wheres(&mut self, equations: Vec<LowWhere>) -> Result<(), Failure>
         ensures { Puts (of_wheres (map low_where_of (reverse equations.items))) 0 (seen self.old) (seen self.new) result }
     {
-        self.put(Phrase::Signatures(SignaturePhrase::Wheres(equations)))
+        self.make_room()?;
+        self.add(Phrase::Signatures(SignaturePhrase::Wheres(equations)));
+        Ok(())
     }
 
     pub fn put_begun_sig_bind(&mut self, name: Name, signature: LowSig) -> Result<(), Failure>
         ensures { Puts (of_begun_sig_bind (name_of name) (sig_of signature.tree)) 0 (seen self.old) (seen self.new) result }
     {
-        self.put(Phrase::Signatures(SignaturePhrase::BegunSigBind(name, signature)))
+        self.make_room()?;
+        self.add(Phrase::Signatures(SignaturePhrase::BegunSigBind(name, signature)));
+        Ok(())
     }
 
     pub fn put_sig_binds(
@@ -404,43 +501,57 @@ impl Stack {
     ) -> Result<(), Failure>
         ensures { Puts (of_sig_binds (map low_where_of (reverse equations.items)) (map sig_bind_of (reverse binds.trees.items))) 0 (seen self.old) (seen self.new) result }
     {
-        self.put(Phrase::Signatures(SignaturePhrase::SigBinds(equations, binds)))
+        self.make_room()?;
+        self.add(Phrase::Signatures(SignaturePhrase::SigBinds(equations, binds)));
+        Ok(())
     }
 
     pub fn put_specs(&mut self, specs: LowSpecs) -> Result<(), Failure>
         ensures { Puts (of_specs (specs_of (map spec_of (reverse specs.trees.items)))) 0 (seen self.old) (seen self.new) result }
     {
-        self.put(Phrase::Signatures(SignaturePhrase::Specs(specs)))
+        self.make_room()?;
+        self.add(Phrase::Signatures(SignaturePhrase::Specs(specs)));
+        Ok(())
     }
 
     pub fn put_val_desc(&mut self, name: Name, ty: LowTy) -> Result<(), Failure>
         ensures { Puts (of_val_desc (name_of name) (ty_of ty.tree)) 0 (seen self.old) (seen self.new) result }
     {
-        self.put(Phrase::Signatures(SignaturePhrase::ValDesc(name, ty)))
+        self.make_room()?;
+        self.add(Phrase::Signatures(SignaturePhrase::ValDesc(name, ty)));
+        Ok(())
     }
 
     pub fn put_val_descs(&mut self, descs: LowValDescs) -> Result<(), Failure>
         ensures { Puts (of_val_descs (map val_desc_of (reverse descs.trees.items))) 0 (seen self.old) (seen self.new) result }
     {
-        self.put(Phrase::Signatures(SignaturePhrase::ValDescs(descs)))
+        self.make_room()?;
+        self.add(Phrase::Signatures(SignaturePhrase::ValDescs(descs)));
+        Ok(())
     }
 
     pub fn put_typ_descs(&mut self, descs: Vec<TypDesc>) -> Result<(), Failure>
         ensures { Puts (of_typ_descs (map typ_desc_of (reverse descs.items))) 0 (seen self.old) (seen self.new) result }
     {
-        self.put(Phrase::Signatures(SignaturePhrase::TypDescs(descs)))
+        self.make_room()?;
+        self.add(Phrase::Signatures(SignaturePhrase::TypDescs(descs)));
+        Ok(())
     }
 
     pub fn put_type_rest(&mut self, ty: LowTy, binds: LowTypBinds) -> Result<(), Failure>
         ensures { Puts (of_type_rest (ty_of ty.tree) (map typ_bind_of (reverse binds.trees.items))) 0 (seen self.old) (seen self.new) result }
     {
-        self.put(Phrase::Signatures(SignaturePhrase::TypeRest(ty, binds)))
+        self.make_room()?;
+        self.add(Phrase::Signatures(SignaturePhrase::TypeRest(ty, binds)));
+        Ok(())
     }
 
     pub fn put_begun_str_desc(&mut self, name: Name, signature: LowSig) -> Result<(), Failure>
         ensures { Puts (of_begun_str_desc (name_of name) (sig_of signature.tree)) 0 (seen self.old) (seen self.new) result }
     {
-        self.put(Phrase::Signatures(SignaturePhrase::BegunStrDesc(name, signature)))
+        self.make_room()?;
+        self.add(Phrase::Signatures(SignaturePhrase::BegunStrDesc(name, signature)));
+        Ok(())
     }
 
     pub fn put_str_descs(
@@ -450,31 +561,41 @@ impl Stack {
     ) -> Result<(), Failure>
         ensures { Puts (of_str_descs (map low_where_of (reverse equations.items)) (str_descs_of (map str_desc_of (reverse descs.trees.items)))) 0 (seen self.old) (seen self.new) result }
     {
-        self.put(Phrase::Signatures(SignaturePhrase::StrDescs(equations, descs)))
+        self.make_room()?;
+        self.add(Phrase::Signatures(SignaturePhrase::StrDescs(equations, descs)));
+        Ok(())
     }
 
     pub fn put_shared_types(&mut self, longs: Vec<LongIdent>) -> Result<(), Failure>
         ensures { Puts (of_shared_types (map long_name_of (reverse longs.items))) 0 (seen self.old) (seen self.new) result }
     {
-        self.put(Phrase::Signatures(SignaturePhrase::SharedTypes(longs)))
+        self.make_room()?;
+        self.add(Phrase::Signatures(SignaturePhrase::SharedTypes(longs)));
+        Ok(())
     }
 
     pub fn put_str(&mut self, structure: LowStr) -> Result<(), Failure>
         ensures { Puts (of_str (str_of structure.tree)) 0 (seen self.old) (seen self.new) result }
     {
-        self.put(Phrase::Structures(StructurePhrase::Str(structure)))
+        self.make_room()?;
+        self.add(Phrase::Structures(StructurePhrase::Str(structure)));
+        Ok(())
     }
 
     pub fn put_str_dec(&mut self, dec: LowStrDec) -> Result<(), Failure>
         ensures { Puts (of_str_dec (str_dec_of dec.tree)) 0 (seen self.old) (seen self.new) result }
     {
-        self.put(Phrase::Structures(StructurePhrase::StrDec(dec)))
+        self.make_room()?;
+        self.add(Phrase::Structures(StructurePhrase::StrDec(dec)));
+        Ok(())
     }
 
     pub fn put_str_decs(&mut self, decs: LowStrDecs) -> Result<(), Failure>
         ensures { Puts (of_str_decs (str_decs_of (map str_dec_of (reverse decs.trees.items)))) 0 (seen self.old) (seen self.new) result }
     {
-        self.put(Phrase::Structures(StructurePhrase::StrDecs(decs)))
+        self.make_room()?;
+        self.add(Phrase::Structures(StructurePhrase::StrDecs(decs)));
+        Ok(())
     }
 
     pub fn put_constraints(
@@ -484,7 +605,9 @@ impl Stack {
     ) -> Result<(), Failure>
         ensures { Puts (of_constraints (map low_where_of (reverse equations.items)) (map low_constraint_of (reverse constraints.items))) 0 (seen self.old) (seen self.new) result }
     {
-        self.put(Phrase::Structures(StructurePhrase::Constraints(equations, constraints)))
+        self.make_room()?;
+        self.add(Phrase::Structures(StructurePhrase::Constraints(equations, constraints)));
+        Ok(())
     }
 
     pub fn put_str_binds(
@@ -495,7 +618,9 @@ impl Stack {
     ) -> Result<(), Failure>
         ensures { Puts (of_str_binds (map low_where_of (reverse equations.items)) (map low_constraint_of (reverse constraints.items)) (str_binds_of (map str_bind_of (reverse binds.trees.items)))) 0 (seen self.old) (seen self.new) result }
     {
-        self.put(Phrase::Structures(StructurePhrase::StrBinds(equations, constraints, binds)))
+        self.make_room()?;
+        self.add(Phrase::Structures(StructurePhrase::StrBinds(equations, constraints, binds)));
+        Ok(())
     }
 
     pub fn put_begun_str_bind(
@@ -506,13 +631,17 @@ impl Stack {
     ) -> Result<(), Failure>
         ensures { Puts (of_begun_str_bind (name_of name) (map low_constraint_of (reverse own.items)) (str_of body.tree)) 0 (seen self.old) (seen self.new) result }
     {
-        self.put(Phrase::Structures(StructurePhrase::BegunStrBind(name, own, body)))
+        self.make_room()?;
+        self.add(Phrase::Structures(StructurePhrase::BegunStrBind(name, own, body)));
+        Ok(())
     }
 
     pub fn put_functor_argument(&mut self, name: Name, signature: LowSig) -> Result<(), Failure>
         ensures { Puts (of_functor_argument (name_of name) (sig_of signature.tree)) 0 (seen self.old) (seen self.new) result }
     {
-        self.put(Phrase::Structures(StructurePhrase::FunctorArgument(name, signature)))
+        self.make_room()?;
+        self.add(Phrase::Structures(StructurePhrase::FunctorArgument(name, signature)));
+        Ok(())
     }
 
     pub fn put_fun_binds(
@@ -523,7 +652,9 @@ impl Stack {
     ) -> Result<(), Failure>
         ensures { Puts (of_fun_binds (map low_where_of (reverse equations.items)) (map low_constraint_of (reverse constraints.items)) (map fun_bind_of (reverse binds.trees.items))) 0 (seen self.old) (seen self.new) result }
     {
-        self.put(Phrase::Structures(StructurePhrase::FunBinds(equations, constraints, binds)))
+        self.make_room()?;
+        self.add(Phrase::Structures(StructurePhrase::FunBinds(equations, constraints, binds)));
+        Ok(())
     }
 
     pub fn put_begun_fun_bind(
@@ -537,9 +668,11 @@ impl Stack {
         ensures { Puts (of_begun_fun_bind (name_of name) (name_of argument) (sig_of signature.tree) (map low_constraint_of (reverse own.items)) (str_of body.tree)) 0 (seen self.old) (seen self.new) result }
     {
         let signature = Box::new(self.alloc, signature)?;
-        self.put(Phrase::Structures(StructurePhrase::BegunFunBind(
+        self.make_room()?;
+        self.add(Phrase::Structures(StructurePhrase::BegunFunBind(
             name, argument, signature, own, body,
-        )))
+        )));
+        Ok(())
     }
 
     pub fn put_begun_functor(
@@ -551,12 +684,16 @@ impl Stack {
     ) -> Result<(), Failure>
         ensures { Puts (of_begun_functor (name_of name) (specs_of (map spec_of (reverse specs.trees.items))) (map low_constraint_of (reverse own.items)) (str_of body.tree)) 0 (seen self.old) (seen self.new) result }
     {
-        self.put(Phrase::Structures(StructurePhrase::BegunFunctor(name, specs, own, body)))
+        self.make_room()?;
+        self.add(Phrase::Structures(StructurePhrase::BegunFunctor(name, specs, own, body)));
+        Ok(())
     }
 
     pub fn put_top(&mut self, top: LowTop) -> Result<(), Failure>
         ensures { Puts (of_top (top_of top.tree)) 0 (seen self.old) (seen self.new) result }
     {
-        self.put(Phrase::Structures(StructurePhrase::Top(top)))
+        self.make_room()?;
+        self.add(Phrase::Structures(StructurePhrase::Top(top)));
+        Ok(())
     }
 }

@@ -1,6 +1,6 @@
 //! The phrases that have been made and are not yet part of another one, on a stack.
 
-ghost use Rattle.std.specs.Prelude.{◌≡◌, [], ◌∷◌, map, reverse, true, false, IfOk, OnOk};
+ghost use Rattle.std.specs.Prelude.{◌≡◌, ◌<◌, [], ◌∷◌, map, reverse, true, false, vec_len, vec_capacity, IfOk, OnOk};
 ghost use Rattle.std.specs.Prelude.{drop};
 ghost use Rattle.std.specs.Option.{option_map};
 ghost use Rattle.sml_tree.specs.TypeViews.{name_of, long_name_of, ty_of, tys_of, ty_field_of, ty_fields_of};
@@ -10,7 +10,7 @@ ghost use Rattle.sml_tree.specs.ExpressionViews.{exn_bind_of, exp_of, exps_of, f
 ghost use Rattle.sml_tree.specs.SignatureViews.{val_desc_of, typ_desc_of, sig_of, spec_of, specs_of};
 ghost use Rattle.sml_tree.specs.StructureViews.{str_of, str_dec_of, str_decs_of, top_of};
 ghost use Rattle.sml_tree.specs.Clauses.{clause_of};
-ghost use Rattle.sml_phrases.specs.Phrases.{first, place_in, ty_if_any, pat_if_any, exp_if_any, rules_if_any, bind_in, binds_in, clauses_in, con_binds_in, constant_in, dec_in, decs_in, exn_binds_in, exp_in, exps_in, fields_in, long_in, longs_in, name_in, names_in, numeral, pat_in, pats_in, rules_in, sig_in, specs_in, str_dec_in, str_decs_in, str_in, top_in, ty_fields_in, ty_in, typ_binds_in, typ_descs_in, tys_in, val_descs_in, wheres_in};
+ghost use Rattle.sml_phrases.specs.Phrases.{first, nothing, place_in, ty_if_any, pat_if_any, exp_if_any, rules_if_any, bind_in, binds_in, clauses_in, con_binds_in, constant_in, dec_in, decs_in, exn_binds_in, exp_in, exps_in, fields_in, long_in, longs_in, name_in, names_in, numeral, pat_in, pats_in, rules_in, sig_in, specs_in, str_dec_in, str_decs_in, str_in, top_in, ty_fields_in, ty_in, typ_binds_in, typ_descs_in, tys_in, val_descs_in, wheres_in};
 ghost use Rattle.sml_phrases.specs.PhraseViews.{low_where_of, phrase_of, seen};
 
 use crate::low::{
@@ -50,17 +50,34 @@ impl Stack {
         }
     }
 
+    /// Makes room for one more phrase.
+    pub fn make_room(&mut self) -> Result<(), Memory>
+        ensures room { OnOk result (vec_len self.new.phrases < vec_capacity self.new.phrases) }
+        ensures same { seen self.new ≡ seen self.old }
+    {
+        self.phrases.reserve(1)?;
+        Ok(())
+    }
+
+    /// Adds a phrase, for which there is room. Made where it is to stand, it is not moved.
+    pub fn add(&mut self, phrase: Phrase)
+        requires { vec_len self.now.phrases < vec_capacity self.now.phrases }
+        ensures { seen self.new ≡ phrase_of phrase ∷ seen self.old }
+    {
+        self.phrases.push_reserved(phrase);
+    }
+
     pub fn push(&mut self, phrase: Phrase) -> Result<(), Memory>
         ensures { OnOk result (seen self.new ≡ phrase_of phrase ∷ seen self.old) }
     {
-        match self.phrases.reserve(1) {
+        match self.make_room() {
             Ok(()) => {
-                self.phrases.push_reserved(phrase);
+                self.add(phrase);
                 Ok(())
             }
-            Err(_error) => {
+            Err(error) => {
                 discard(phrase);
-                Err(Memory)
+                Err(error)
             }
         }
     }
@@ -71,6 +88,26 @@ impl Stack {
         ensures some { result ≡ false → seen self.now ≡ first (seen self.now) ∷ drop 1 (seen self.now) }
     {
         self.phrases.is_empty()
+    }
+
+    /// Takes all phrases off; their room is kept.
+    pub fn clear(&mut self)
+        ensures { seen self.new ≡ [] }
+    {
+        self.phrases.clear();
+    }
+
+    /// Takes the phrase on top off if it is nothing, and says whether it is.
+    pub fn take_nothing(&mut self) -> bool
+        ensures taken { result ≡ true → (first (seen self.old) ≡ nothing) × (seen self.new ≡ drop 1 (seen self.old)) }
+        ensures kept { result ≡ false → seen self.new ≡ seen self.old }
+    {
+        match self.phrases.last() {
+            Some(Phrase::Nothing) => {}
+            _ => return false,
+        }
+        self.skip();
+        true
     }
 
     /// The phrase on top, or nothing where there is none.

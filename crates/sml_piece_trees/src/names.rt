@@ -31,55 +31,62 @@ fn begins_with_letter(text: &[u8]) -> bool
     }
 }
 
+/// Whether a text is this name. Most texts differ from it in length.
+fn is_name(text: &[u8], name: &[u8]) -> bool
+    ensures { result ≡ bytes_eq text.now name.now }
+{
+    text.len() == name.len() && text == name
+}
+
 /// Whether an identifier of the initial basis has a fixity or can't be bound.
 fn is_reserved(text: &[u8]) -> bool
     ensures { result ≡ list_any (bytes_eq text.now) spec.reserved_names }
 {
-    text == b"before".as_slice()
-        || text == b"div".as_slice()
-        || text == b"false".as_slice()
-        || text == b"mod".as_slice()
-        || text == b"nil".as_slice()
-        || text == b"o".as_slice()
-        || text == b"ref".as_slice()
-        || text == b"true".as_slice()
+    is_name(text, b"before".as_slice())
+        || is_name(text, b"div".as_slice())
+        || is_name(text, b"false".as_slice())
+        || is_name(text, b"mod".as_slice())
+        || is_name(text, b"nil".as_slice())
+        || is_name(text, b"o".as_slice())
+        || is_name(text, b"ref".as_slice())
+        || is_name(text, b"true".as_slice())
 }
 
 /// Whether it is an exception of the initial basis.
 fn is_exception(text: &[u8]) -> bool
     ensures { result ≡ list_any (bytes_eq text.now) spec.exception_names }
 {
-    text == b"Bind".as_slice()
-        || text == b"Div".as_slice()
-        || text == b"Fail".as_slice()
-        || text == b"Match".as_slice()
-        || text == b"Overflow".as_slice()
-        || text == b"Subscript".as_slice()
+    is_name(text, b"Bind".as_slice())
+        || is_name(text, b"Div".as_slice())
+        || is_name(text, b"Fail".as_slice())
+        || is_name(text, b"Match".as_slice())
+        || is_name(text, b"Overflow".as_slice())
+        || is_name(text, b"Subscript".as_slice())
 }
 
 /// Whether it is another value of the initial basis, one of the first half.
 fn is_function(text: &[u8]) -> bool
     ensures { result ≡ list_any (bytes_eq text.now) spec.function_names }
 {
-    text == b"abs".as_slice()
-        || text == b"chr".as_slice()
-        || text == b"floor".as_slice()
-        || text == b"ignore".as_slice()
-        || text == b"length".as_slice()
-        || text == b"map".as_slice()
-        || text == b"not".as_slice()
+    is_name(text, b"abs".as_slice())
+        || is_name(text, b"chr".as_slice())
+        || is_name(text, b"floor".as_slice())
+        || is_name(text, b"ignore".as_slice())
+        || is_name(text, b"length".as_slice())
+        || is_name(text, b"map".as_slice())
+        || is_name(text, b"not".as_slice())
 }
 
 /// The same of the second half.
 fn is_further_function(text: &[u8]) -> bool
     ensures { result ≡ list_any (bytes_eq text.now) spec.further_function_names }
 {
-    text == b"ord".as_slice()
-        || text == b"print".as_slice()
-        || text == b"real".as_slice()
-        || text == b"rev".as_slice()
-        || text == b"size".as_slice()
-        || text == b"str".as_slice()
+    is_name(text, b"ord".as_slice())
+        || is_name(text, b"print".as_slice())
+        || is_name(text, b"real".as_slice())
+        || is_name(text, b"rev".as_slice())
+        || is_name(text, b"size".as_slice())
+        || is_name(text, b"str".as_slice())
 }
 
 /// Whether an identifier is alphanumeric and names no value of the initial basis.

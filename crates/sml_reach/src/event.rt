@@ -8,11 +8,11 @@ ghost use Rattle.sml_read.specs.Extents.{starts_of};
 ghost use Rattle.sml_read.specs.declared.grammar.Node.TheVariants.{Inner};
 ghost use Rattle.sml_reach.specs.Senses as senses;
 ghost use Rattle.sml_reach.specs.Founds as spec;
-ghost use Rattle.sml_fixity.specs.ItemNames.{name_of, short};
-ghost use Rattle.sml_reach.specs.Founds.{atom, one, several, within, atom_of, atoms_of, found_by, found_of, nothing, sequence_in, untyped, left};
+ghost use Rattle.sml_fixity.specs.ItemNames.{name_of, short, phrase};
+ghost use Rattle.sml_reach.specs.Founds.{atom, one, word, several, within, atom_of, atoms_of, found_by, found_of, nothing, sequence_in, untyped, left};
 ghost use Rattle.sml_reach.specs.Events.{seen, expression, pattern, head, text_at, found_at, founds_from, scope_event, event_of, event_from, events_of};
 
-use crate::found::{Atom, Finder, Found, Parts, atom_in, atoms_in, before};
+use crate::found::{Atom, Finder, Found, Parts, atom_in, atoms_in, before, joined};
 use crate::names::Names;
 use crate::sense::{Deed, Sense, closes, deed_of, opens, sense_of};
 use sml_fixity::scopes::Directive;
@@ -223,25 +223,14 @@ fn finish(
     })
 }
 
-/// What a token does to scopes.
-fn event_of_token(tokens: &[Token], token: usize) -> Option<Event>
-    ensures { option_map seen result ≡ scope_event (slice_get tokens.now token) }
-{
-    let token = tokens.get(token)?;
-    if opens(token.kind) {
-        Some(Event::Enters)
-    } else if closes(token.kind) {
-        Some(Event::Leaves)
-    } else {
-        None
-    }
-}
-
 fn push_some(events: &mut Vec<Event>, event: Option<Event>) -> Result<(), Memory>
     ensures { OnOk result (map seen (reverse events.new.items) ≡ cons_option (option_map seen event) (map seen (reverse events.old.items))) }
 {
     match event {
-        Some(event) => events.push(event)?,
+        Some(event) => {
+            events.reserve(1)?;
+            events.push_reserved(event);
+        }
         None => {}
     }
     Ok(())
@@ -304,167 +293,296 @@ fn sequence_event(alloc: Global, first: Atom, others: Found) -> Result<Event, Me
     Ok(Event::Expression(atoms))
 }
 
-/// The event at a sequence of atomic expressions, which a phrase with so many parts begins with.
+/// What a token does to scopes goes before the events behind it.
+fn put_scope(events: &mut Vec<Event>, token: Token) -> Result<(), Memory>
+    ensures { OnOk result (map seen (reverse events.new.items) ≡ cons_option (scope_event (Some token)) (map seen (reverse events.old.items))) }
+{
+    if opens(token.kind) {
+        events.reserve(1)?;
+        events.push_reserved(Event::Enters);
+        return Ok(());
+    }
+    if closes(token.kind) {
+        events.reserve(1)?;
+        events.push_reserved(Event::Leaves);
+    }
+    Ok(())
+}
+
+/// A token goes before what is found behind it, and what it does to scopes before the events there.
+fn enter_token(
+    tokens: &[Token],
+    founds: &mut Vec<Found>,
+    events: &mut Vec<Event>,
+    token: usize,
+) -> Result<(), Memory>
+    ensures founds { OnOk result (map found_of (reverse founds.new.items) ≡ word token ∷ map found_of (reverse founds.old.items)) }
+    ensures events { OnOk result (map seen (reverse events.new.items) ≡
+        cons_option (scope_event (slice_get tokens.now token)) (map seen (reverse events.old.items))) }
+{
+    founds.reserve(1)?;
+    founds.push_reserved(Found::Word(token));
+    match tokens.get(token) {
+        Some(token) => put_scope(events, *token),
+        None => Ok(()),
+    }
+}
+
+/// A phrase with so many parts that is nothing to a sequence.
+#[inline(never)]
+fn enter_nothing(founds: &mut Vec<Found>, count: usize) -> Result<(), Memory>
+    ensures { OnOk result (map found_of (reverse founds.new.items) ≡ nothing ∷ drop count (map found_of (reverse founds.old.items))) }
+{
+    skip_parts(founds, count);
+    founds.reserve(1)?;
+    founds.push_reserved(Found::Nothing);
+    Ok(())
+}
+
+/// A phrase with so many parts that is what the first of them is, which stays where it is if it is the only one.
+#[inline(never)]
+fn enter_first(founds: &mut Vec<Found>, count: usize) -> Result<(), Memory>
+    ensures { let old = map found_of (reverse founds.old.items) in
+        OnOk result (map found_of (reverse founds.new.items) ≡ get_or (take count old) 0 nothing ∷ drop count old) }
+{
+    if count == 1 && !founds.is_empty() {
+        return Ok(());
+    }
+    let first = first_part(founds, count);
+    founds.reserve(1)?;
+    founds.push_reserved(first);
+    Ok(())
+}
+
+/// A phrase with so many parts that is no atomic phrase.
+#[inline(never)]
+fn enter_empty(alloc: Global, founds: &mut Vec<Found>, count: usize) -> Result<(), Memory>
+    ensures { OnOk result (map found_of (reverse founds.new.items) ≡ several [] false ∷ drop count (map found_of (reverse founds.old.items))) }
+{
+    skip_parts(founds, count);
+    founds.reserve(1)?;
+    founds.push_reserved(Found::Several(Vec::new(alloc), false));
+    Ok(())
+}
+
+/// A phrase with so many parts that is an atomic phrase, with this first token.
+#[inline(never)]
+fn enter_atom(
+    finder: &Finder,
+    founds: &mut Vec<Found>,
+    count: usize,
+    token: usize,
+) -> Result<(), Memory>
+    ensures { OnOk result (map found_of (reverse founds.new.items) ≡ one (atom phrase token []) ∷ drop count (map found_of (reverse founds.old.items))) }
+{
+    skip_parts(founds, count);
+    founds.reserve(1)?;
+    founds.push_reserved(Found::One(finder.plain(Item::Phrase, token)));
+    Ok(())
+}
+
+/// A phrase with so many parts that is the identifier without a path at this token.
+#[inline(never)]
+fn enter_short(
+    finder: &Finder,
+    names: &mut Names,
+    founds: &mut Vec<Found>,
+    count: usize,
+    token: usize,
+) -> Result<(), Memory>
+    ensures { let text = text_at finder.now.unit.now finder.now.tokens.now token in
+        OnOk result (map found_of (reverse founds.new.items) ≡ one (atom (short text) token []) ∷ drop count (map found_of (reverse founds.old.items))) }
+{
+    skip_parts(founds, count);
+    founds.reserve(1)?;
+    founds.push_reserved(Found::One(finder.short(names, token)?));
+    Ok(())
+}
+
+/// A sequence of atomic expressions, which a phrase with so many parts begins with.
 #[inline(never)]
 fn enter_expression(
     alloc: Global,
     founds: &mut Vec<Found>,
+    events: &mut Vec<Event>,
     count: usize,
-) -> Result<Option<Event>, Memory>
-    ensures event { let parts = take count (map found_of (reverse founds.old.items)) in
-        IfOk result (λ event. option_map seen event ≡ Some (expression (spec.atom_in (get_or parts 0 nothing) ∷ spec.atoms_in (get_or parts 1 nothing)))) }
+) -> Result<(), Memory>
     ensures founds { OnOk result (map found_of (reverse founds.new.items) ≡ nothing ∷ drop count (map found_of (reverse founds.old.items))) }
+    ensures events { let parts = take count (map found_of (reverse founds.old.items)) in
+        OnOk result (map seen (reverse events.new.items) ≡
+        expression (spec.atom_in (get_or parts 0 nothing) ∷ spec.atoms_in (get_or parts 1 nothing)) ∷ map seen (reverse events.old.items)) }
 {
     let (first, others) = first_parts(founds, count);
     let event = sequence_event(alloc, atom_in(alloc, first), others)?;
-    founds.push(Found::Nothing)?;
-    Ok(Some(event))
+    founds.reserve(1)?;
+    founds.push_reserved(Found::Nothing);
+    events.reserve(1)?;
+    events.push_reserved(event);
+    Ok(())
 }
 
-/// The event at a sequence of one atomic pattern, which is put in the place of its parts.
-fn enter_one(founds: &mut Vec<Found>, first: Atom) -> Result<Option<Event>, Memory>
-    ensures event { IfOk result (λ event. option_map seen event ≡ Some (pattern (atom (name_of first.item) first.token [] ∷ []))) }
+/// A phrase with so many parts that is an atomic phrase and those behind it.
+#[inline(never)]
+fn enter_more(alloc: Global, founds: &mut Vec<Found>, count: usize) -> Result<(), Memory>
+    ensures { let old = map found_of (reverse founds.old.items) in
+        let others = get_or (take count old) 1 nothing in
+        OnOk result (map found_of (reverse founds.new.items) ≡
+        several (spec.atom_in (get_or (take count old) 0 nothing) ∷ spec.atoms_in others) (spec.typed_in others) ∷ drop count old) }
+{
+    let (first, others) = first_parts(founds, count);
+    let found = joined(alloc, atom_in(alloc, first), others)?;
+    founds.reserve(1)?;
+    founds.push_reserved(found);
+    Ok(())
+}
+
+/// The head of a clause, which a phrase with so many parts begins with.
+#[inline(never)]
+fn enter_head(
+    alloc: Global,
+    founds: &mut Vec<Found>,
+    events: &mut Vec<Event>,
+    count: usize,
+) -> Result<(), Memory>
+    ensures founds { OnOk result (map found_of (reverse founds.new.items) ≡ nothing ∷ drop count (map found_of (reverse founds.old.items))) }
+    ensures events { let parts = take count (map found_of (reverse founds.old.items)) in
+        OnOk result (map seen (reverse events.new.items) ≡
+        head (spec.atom_in (get_or parts 0 nothing) ∷ spec.atoms_in (get_or parts 1 nothing)) ∷ map seen (reverse events.old.items)) }
+{
+    let (first, others) = first_parts(founds, count);
+    let mut atoms = atoms_in(alloc, others);
+    atoms.push(atom_in(alloc, first))?;
+    founds.reserve(1)?;
+    founds.push_reserved(Found::Nothing);
+    events.reserve(1)?;
+    events.push_reserved(Event::Head(atoms));
+    Ok(())
+}
+
+/// A sequence of one atomic pattern, which is put in the place of its parts.
+fn enter_one(founds: &mut Vec<Found>, events: &mut Vec<Event>, first: Atom) -> Result<(), Memory>
     ensures founds { OnOk result (map found_of (reverse founds.new.items) ≡ within (name_of first.item ∷ []) ∷ map found_of (reverse founds.old.items)) }
+    ensures events { OnOk result (map seen (reverse events.new.items) ≡ pattern (atom (name_of first.item) first.token [] ∷ []) ∷ map seen (reverse events.old.items)) }
 {
     let Atom {
         item,
         token,
         inner: _,
     } = first;
-    founds.push(Found::OneInner(copy(&item)?))?;
-    Ok(Some(Event::OnePattern(item, token)))
+    founds.reserve(1)?;
+    founds.push_reserved(Found::OneInner(copy(&item)?));
+    events.reserve(1)?;
+    events.push_reserved(Event::OnePattern(item, token));
+    Ok(())
 }
 
-/// The event at a sequence of atomic patterns, which is put in the place of its parts.
+/// A sequence of atomic patterns, which is put in the place of its parts.
 fn enter_several(
     alloc: Global,
     founds: &mut Vec<Found>,
+    events: &mut Vec<Event>,
     first: Atom,
     rest: Found,
-) -> Result<Option<Event>, Memory>
-    ensures event { IfOk result (λ event. option_map seen event ≡ event_of Deed.Pattern 0 (spec.before (atom_of first) (found_of rest))) }
+) -> Result<(), Memory>
     ensures founds { OnOk result (map found_of (reverse founds.new.items) ≡ left Deed.Pattern (spec.before (atom_of first) (found_of rest)) ∷ map found_of (reverse founds.old.items)) }
+    ensures events { OnOk result (map seen (reverse events.new.items) ≡
+        cons_option (event_of Deed.Pattern 0 (spec.before (atom_of first) (found_of rest))) (map seen (reverse events.old.items))) }
 {
     let found = before(first, rest)?;
     let (event, left) = finish(alloc, Deed::Pattern, 0, found)?;
-    founds.push(left)?;
-    Ok(event)
+    founds.reserve(1)?;
+    founds.push_reserved(left);
+    push_some(events, event)
 }
 
-/// The event at a sequence of atomic patterns that begins with the identifier at this token, as does a phrase with so
-/// many parts.
+/// A sequence of atomic patterns that begins with the identifier at this token, as does a phrase with so many parts.
 #[inline(never)]
 fn enter_name(
     finder: &Finder,
     names: &mut Names,
     founds: &mut Vec<Found>,
+    events: &mut Vec<Event>,
     count: usize,
     token: usize,
-) -> Result<Option<Event>, Memory>
-    ensures event { let parts = take count (map found_of (reverse founds.old.items)) in
-        let text = text_at finder.now.unit.now finder.now.tokens.now in
-        IfOk result (λ event. option_map seen event ≡ event_of Deed.Pattern 0 (spec.before (atom (short (text token)) token []) (get_or parts 1 nothing))) }
+) -> Result<(), Memory>
     ensures founds { let old = map found_of (reverse founds.old.items) in
         let parts = take count old in
         let text = text_at finder.now.unit.now finder.now.tokens.now in
         OnOk result (map found_of (reverse founds.new.items) ≡ left Deed.Pattern (spec.before (atom (short (text token)) token []) (get_or parts 1 nothing)) ∷ drop count old) }
+    ensures events { let parts = take count (map found_of (reverse founds.old.items)) in
+        let text = text_at finder.now.unit.now finder.now.tokens.now in
+        OnOk result (map seen (reverse events.new.items) ≡
+        cons_option (event_of Deed.Pattern 0 (spec.before (atom (short (text token)) token []) (get_or parts 1 nothing))) (map seen (reverse events.old.items))) }
 {
     let (_word, rest) = first_parts(founds, count);
     let first = finder.short(names, token)?;
     if is_empty(&rest) {
-        enter_one(founds, first)
+        enter_one(founds, events, first)
     } else {
-        enter_several(finder.alloc, founds, first, rest)
+        enter_several(finder.alloc, founds, events, first, rest)
     }
 }
 
-/// The identifier without a path that this token is goes before what is found behind it.
-#[inline(never)]
-fn push_short(
-    finder: &Finder,
-    names: &mut Names,
-    founds: &mut Vec<Found>,
-    token: usize,
-) -> Result<(), Memory>
-    ensures { let text = text_at finder.now.unit.now finder.now.tokens.now token in
-        OnOk result (map found_of (reverse founds.new.items) ≡ one (atom (short text) token []) ∷ map found_of (reverse founds.old.items)) }
-{
-    founds.push(Found::One(finder.short(names, token)?))?;
-    Ok(())
-}
-
-/// The event at a phrase with so many parts that is this and does this.
+/// A phrase with so many parts that is this and does this.
 #[inline(never)]
 fn enter_other(
     finder: &Finder,
     names: &mut Names,
     founds: &mut Vec<Found>,
+    events: &mut Vec<Event>,
     count: usize,
     sense: Sense,
     deed: Deed,
     token: usize,
-) -> Result<Option<Event>, Memory>
-    ensures event { let parts = take count (map found_of (reverse founds.old.items)) in
-        let text = text_at finder.now.unit.now finder.now.tokens.now in
-        IfOk result (λ event. option_map seen event ≡ event_of deed token (found_by text token sense (get_or parts 0 nothing) (get_or parts 1 nothing) (get_or parts 2 nothing) (get_or parts 3 nothing))) }
+) -> Result<(), Memory>
     ensures founds { let old = map found_of (reverse founds.old.items) in
         let parts = take count old in
         let text = text_at finder.now.unit.now finder.now.tokens.now in
         OnOk result (map found_of (reverse founds.new.items) ≡ left deed (found_by text token sense (get_or parts 0 nothing) (get_or parts 1 nothing) (get_or parts 2 nothing) (get_or parts 3 nothing)) ∷ drop count old) }
+    ensures events { let parts = take count (map found_of (reverse founds.old.items)) in
+        let text = text_at finder.now.unit.now finder.now.tokens.now in
+        OnOk result (map seen (reverse events.new.items) ≡
+        cons_option (event_of deed token (found_by text token sense (get_or parts 0 nothing) (get_or parts 1 nothing) (get_or parts 2 nothing) (get_or parts 3 nothing))) (map seen (reverse events.old.items))) }
 {
     let parts = pop_parts(founds, count);
     let found = finder.find(names, token, sense, parts)?;
     let (event, left) = finish(finder.alloc, deed, token, found)?;
-    founds.push(left)?;
-    Ok(event)
+    founds.reserve(1)?;
+    founds.push_reserved(left);
+    push_some(events, event)
 }
 
-/// The event at a phrase of this rule with this first token, before what is found behind it. Most phrases are nothing to a
-/// sequence, or what their first part is, or one atomic phrase or none whatever their parts are.
+/// A phrase of this rule with this first token: its event goes to the others, and what it is to what is found behind it.
+/// Most phrases are nothing to a sequence, or what their first part is, or one atomic phrase or none whatever their parts
+/// are. Each kind has a function of its own, since a call pays at its entry for all that may be in it.
 fn enter_phrase(
     finder: &Finder,
     names: &mut Names,
     founds: &mut Vec<Found>,
+    events: &mut Vec<Event>,
     rule: Rule,
     token: usize,
-) -> Result<Option<Event>, Memory>
-    ensures event { let old = map found_of (reverse founds.old.items) in
-        let text = text_at finder.now.unit.now finder.now.tokens.now in
-        IfOk result (λ event. option_map seen event ≡ event_of (senses.deed_of rule) token (found_at text token rule old)) }
+) -> Result<(), Memory>
     ensures founds { let old = map found_of (reverse founds.old.items) in
         let text = text_at finder.now.unit.now finder.now.tokens.now in
         OnOk result (map found_of (reverse founds.new.items) ≡ founds_from text (Inner rule) token old) }
+    ensures events { let old = map found_of (reverse founds.old.items) in
+        let text = text_at finder.now.unit.now finder.now.tokens.now in
+        OnOk result (map seen (reverse events.new.items) ≡
+        cons_option (event_of (senses.deed_of rule) token (found_at text token rule old)) (map seen (reverse events.old.items))) }
 {
     let count = backwards(rule).len();
     match (sense_of(rule), deed_of(rule)) {
-        (Sense::Nothing, Deed::Nothing) => {
-            skip_parts(founds, count);
-            founds.push(Found::Nothing)?;
-            Ok(None)
-        }
-        (Sense::Passed, Deed::Nothing) => {
-            let first = first_part(founds, count);
-            founds.push(first)?;
-            Ok(None)
-        }
-        (Sense::Empty, Deed::Nothing) => {
-            skip_parts(founds, count);
-            founds.push(Found::Several(Vec::new(finder.alloc), false))?;
-            Ok(None)
-        }
-        (Sense::Short, Deed::Nothing) => {
-            skip_parts(founds, count);
-            push_short(finder, names, founds, token)?;
-            Ok(None)
-        }
-        (Sense::Phrase, Deed::Nothing) => {
-            skip_parts(founds, count);
-            founds.push(Found::One(finder.plain(Item::Phrase, token)))?;
-            Ok(None)
-        }
-        (Sense::More, Deed::Expression) => enter_expression(finder.alloc, founds, count),
-        (Sense::Named, Deed::Pattern) => enter_name(finder, names, founds, count, token),
-        (sense, deed) => enter_other(finder, names, founds, count, sense, deed, token),
+        (Sense::Nothing, Deed::Nothing) => enter_nothing(founds, count),
+        (Sense::Passed, Deed::Nothing) => enter_first(founds, count),
+        (Sense::Empty, Deed::Nothing) => enter_empty(finder.alloc, founds, count),
+        (Sense::Short, Deed::Nothing) => enter_short(finder, names, founds, count, token),
+        (Sense::Phrase, Deed::Nothing) => enter_atom(finder, founds, count, token),
+        (Sense::More, Deed::Nothing) => enter_more(finder.alloc, founds, count),
+        (Sense::More, Deed::Head) => enter_head(finder.alloc, founds, events, count),
+        (Sense::More, Deed::Expression) => enter_expression(finder.alloc, founds, events, count),
+        (Sense::Named, Deed::Pattern) => enter_name(finder, names, founds, events, count, token),
+        (sense, deed) => enter_other(finder, names, founds, events, count, sense, deed, token),
     }
 }
 
@@ -484,14 +602,10 @@ fn at_node(
         OnOk result (map seen (reverse events.new.items) ≡
         cons_option (event_from finder.now.unit.now finder.now.tokens.now node token old) (map seen (reverse events.old.items))) }
 {
-    let event = match node {
-        Node::Leaf => {
-            founds.push(Found::Word(token))?;
-            event_of_token(finder.tokens, token)
-        }
-        Node::Inner(rule) => enter_phrase(finder, names, founds, rule, token)?,
-    };
-    push_some(events, event)
+    match node {
+        Node::Leaf => enter_token(finder.tokens, founds, events, token),
+        Node::Inner(rule) => enter_phrase(finder, names, founds, events, rule, token),
+    }
 }
 
 /// The events of a unit's derivation, from the last to the first.

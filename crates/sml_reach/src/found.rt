@@ -153,7 +153,7 @@ fn after_op(item: Item) -> Item
 }
 
 /// The atomic phrase before those of the rest.
-fn joined(alloc: Global, first: Atom, rest: Found) -> Result<Found, Memory>
+pub fn joined(alloc: Global, first: Atom, rest: Found) -> Result<Found, Memory>
     ensures { let found = found_of rest in
         IfOk result (λ r. found_of r ≡ spec.several (atom_of first ∷ spec.atoms_in found) (spec.typed_in found)) }
 {

@@ -1,13 +1,15 @@
 //! The reader: a stack of symbols still to come, and the nodes so far.
-ghost use Rattle.std.specs.Prelude.{◌≡◌, List, [], ◌∷◌, ◌++◌, reverse, Bool, true, false, Option, Some, None, IfOk, MatchBool};
+ghost use Rattle.std.specs.Prelude.{◌≡◌, List, [], ◌∷◌, ◌++◌, reverse, Bool, true, false, Option, Some, None, IfOk, OnOk, MatchBool};
 ghost use Rattle.std.specs.Option.{MatchOption};
 ghost use Rattle.sml_read.specs.declared.grammar.Node.{Node};
+ghost use Rattle.sml_read.specs.declared.grammar.Node.TheVariants.{Inner};
 ghost use Rattle.sml_read.specs.declared.grammar.Symbol.TheVariants.{Of};
+ghost use Rattle.sml_read.specs.Grammar.{right_side};
 ghost use Rattle.sml_read.specs.Spelling.{kinds_of, is_outer};
 ghost use Rattle.sml_read.specs.CodeSteps.{Takes, Refuses, Completes, Blocks, ends_outer, ends_whole};
 ghost use Rattle.sml_read.specs.Answer.{is_done, IsReading};
 
-use crate::grammar::{Node, Part, Symbol};
+use crate::grammar::{Node, Part, Rule, Symbol};
 use crate::table::{backwards, choice, expected};
 use crate::tokens::kinds;
 use sml_lex::fault::Memory;
@@ -34,6 +36,21 @@ pub struct Full {
     pub cause: Option<Cause>,
 }
 
+/// Lays the right side of a rule on the stack, and adds its node. Right sides are short.
+fn expand(stack: &mut Vec<Symbol>, nodes: &mut Vec<Node>, rule: Rule) -> Result<(), Memory>
+    ensures stack { OnOk result (stack.new.items ≡ stack.old.items ++ reverse (right_side rule)) }
+    ensures nodes { OnOk result (nodes.new.items ≡ nodes.old.items ++ Inner rule ∷ []) }
+{
+    nodes.reserve(1)?;
+    nodes.push_reserved(Node::Inner(rule));
+    let side = backwards(rule);
+    stack.reserve(side.len())?;
+    for i in 0..side.len() {
+        stack.push_reserved(side[i]);
+    }
+    Ok(())
+}
+
 /// Ends what may be ended with this token behind it, or none. Says which part is left where it is one alone.
 fn complete(
     stack: &mut Vec<Symbol>,
@@ -54,8 +71,7 @@ fn complete(
             return Ok(None);
         };
         stack.pop();
-        nodes.push(Node::Inner(rule))?;
-        stack.extend_from_slice(backwards(rule))?;
+        expand(stack, nodes, rule)?;
     }
     if stack.is_empty() {
         return Ok(None);
@@ -85,8 +101,7 @@ fn take_token(stack: &mut Vec<Symbol>, nodes: &mut Vec<Node>, kind: Kind) -> Res
                 let Some(rule) = choice(part, kind) else {
                     return Ok(false);
                 };
-                nodes.push(Node::Inner(rule))?;
-                stack.extend_from_slice(backwards(rule))?;
+                expand(stack, nodes, rule)?;
             }
         }
     }

@@ -1,16 +1,16 @@
-use Rattle.std.proofs.Common.{◌++◌, [], ◌∷◌, ◌∙◌, ap, arith}
-use Rattle.sml_flaws.specs.Marks.{in_role}
-use Rattle.sml_flaws.proofs.Marking.{parts_on}
+use Rattle.std.proofs.Common.{◌++◌, replicate, sym, ap, ◌∙◌, arith}
+use Rattle.sml_flaws.specs.CodeContexts.{contexts_of}
+use Rattle.sml_flaws.proofs.Marking.{behind_roles}
 use Rattle.sml_flaws.proofs.mark.push_parts.Goals as goal
 
-pub loop-index-preserved : goal.loop-index-preserved
-loop-index-preserved c =
-    let inv = c.loop-index.invariant in
-    let t = c.loop-index-test.true in
-    let w = inv.within in
+pub loop-index-init : goal.loop-index-init
+loop-index-init c =
+    let others = contexts_of c.args.runs.now in
+    let inside = c.entered-inside.result in
     record {
-      kept = parts_on c.args.roles.now c.args.context c.loop-index.index c.args.count _ _ _ inv.kept
-          (c.push_reserved.ensures.items ∙ ap (λ x. c.loop-index.contexts.items ++ x ∷ []) (c.in_role.ensures ∙ ap (λ r. in_role r c.args.context) c.role_at.ensures)) (omega (arith, t)) w;
-      within = omega (arith, w);
-      room = omega (arith, inv.room, c.push_reserved.ensures.len, c.push_reserved.ensures.capacity, t);
+      kept =
+          c.in_ok-push_run.ensures
+          ∙ ap (λ count. replicate count inside ++ others) c.saturating_sub.ensures
+          ∙ ap (λ cs. cs ++ others) (sym (behind_roles c.args.roles.now inside c.min-index.result c.args.count c.min-index.ensures));
+      within = omega (arith, c.min-index.ensures);
     }

@@ -1,6 +1,6 @@
 use denote.Enum.Bare.{differs_true, differs_false}
 use Rattle.sml_lex.specs.contracts.token.Kind.{the_type}
-use Rattle.std.proofs.Common.{rules, [], ◌∷◌, ◌++◌, ap, sym, ◌∙◌, append_assoc}
+use Rattle.std.proofs.Common.{rules, [], ◌∷◌, ◌++◌, refl, ap, sym, ◌∙◌, append_assoc}
 use Rattle.sml_read.specs.declared.grammar.Node.TheVariants.{Leaf, Inner}
 use Rattle.sml_read.proofs.Trees.{expand_on, cost_on, leaf_on, refuse_word_on, refuse_part_on, refuse_none_on, emptied}
 use Rattle.sml_read.proofs.read.take_token.Goals as goal
@@ -12,14 +12,14 @@ returns-in_default-choice c =
 
 pub loop-top-smaller : goal.loop-top-smaller
 loop-top-smaller c =
-    cost_on _ _ _ _ _ _ _ _ c.in-Some.ensures.items c.in-Of.is c.in-Some-choice.ensures c.backwards.ensures c.in_ok-extend_from_slice-in-Of.ensures.items
+    cost_on _ _ _ _ _ _ _ _ c.in-Some.ensures.items c.in-Of.is c.in-Some-choice.ensures refl c.in_ok-expand-in-Of.ensures.stack
 
 pub loop-top-preserved : goal.loop-top-preserved
 loop-top-preserved c =
     let inv = c.loop-top.invariant in (
       inv.0 ++ Inner c.in-Some-choice.rule ∷ [],
-      c.in_ok-push-in-Of.ensures.items ∙ ap (λ x. x ++ Inner c.in-Some-choice.rule ∷ []) inv.1 ∙ append_assoc c.args.nodes.now.items inv.0 (Inner c.in-Some-choice.rule ∷ []),
-      expand_on _ _ inv.0 _ _ _ _ _ _ _ inv.2 c.in-Some.ensures.items c.in-Of.is c.in-Some-choice.ensures c.backwards.ensures c.in_ok-extend_from_slice-in-Of.ensures.items,
+      c.in_ok-expand-in-Of.ensures.nodes ∙ ap (λ x. x ++ Inner c.in-Some-choice.rule ∷ []) inv.1 ∙ append_assoc c.args.nodes.now.items inv.0 (Inner c.in-Some-choice.rule ∷ []),
+      expand_on _ _ inv.0 _ _ _ _ _ _ _ inv.2 c.in-Some.ensures.items c.in-Of.is c.in-Some-choice.ensures refl c.in_ok-expand-in-Of.ensures.stack,
     )
 
 pub returns : goal.returns

@@ -34,7 +34,7 @@ pub record Key : Type 0 where
   pub name : Id
 
 abbrev pub key_of : P.Key → Key
-key_of k = record { space = k.space; group = k.group; name = k.name.items }
+key_of k = record { space = k.space; group = k.group; name = k.name.now }
 
 abbrev pub same : Key → Key → Bool
 same a b = a.space == b.space && (a.group == b.group && bytes_eq a.name b.name)

@@ -34,10 +34,10 @@ pub struct Flaw {
     pub code: Code,
 }
 
-/// What is known of the marks before.
+/// What is known of the marks before. All declarations of a unit share it, so that its room is made once.
 #[derive(Drop)]
-pub struct Seen {
-    keys: IndexSet<Key>,
+pub struct Seen<'a> {
+    keys: IndexSet<Key<'a>>,
     atoms: IndexMap<Position, usize>,
     counts: IndexMap<usize, usize>,
 }
@@ -241,10 +241,8 @@ fn are_listed(marks: &[Mark]) -> bool
     false
 }
 
-impl Seen {
-    fn new(alloc: Global) -> Seen
-        ensures { (text : ℕ → Id) → Knows text [] result }
-    {
+impl<'a> Seen<'a> {
+    pub fn new(alloc: Global) -> Seen<'a> {
         Seen {
             keys: IndexSet::new(alloc),
             atoms: IndexMap::new(alloc),
@@ -252,14 +250,23 @@ impl Seen {
         }
     }
 
+    /// Forgets all marks.
+    fn clear(&mut self)
+        ensures { (text : ℕ → Id) → Knows text [] self.new }
+    {
+        self.keys.clear();
+        self.atoms.clear();
+        self.counts.clear();
+    }
+
     /// Notes a mark, and answers whether it binds what is bound before.
-    fn note(&mut self, judge: &Judge, mark: Mark) -> Result<bool, Memory>
+    fn note(&mut self, judge: &Judge<'a>, mark: Mark) -> Result<bool, Memory>
         ensures knows { let text = text_at judge.now.unit.now judge.now.tokens.now in
             (before : List Mark) → Knows text before self.old → OnOk result (Knows text (mark ∷ before) self.new) }
         ensures again { let text = text_at judge.now.unit.now judge.now.tokens.now in
             (before : List Mark) → Knows text before self.old → IfOk result (λ again. again ≡ is_again text before mark) }
     {
-        let again = note_key(judge.alloc, judge.unit, judge.tokens, &mut self.keys, mark)?;
+        let again = note_key(judge.unit, judge.tokens, &mut self.keys, mark)?;
         note_atom(&mut self.atoms, mark)?;
         note_count(&mut self.counts, mark)?;
         Ok(again)
@@ -279,7 +286,7 @@ impl Seen {
     }
 }
 
-impl Judge<'_> {
+impl<'a> Judge<'a> {
     fn text(&self, token: usize) -> &[u8]
         ensures { result.now ≡ text_at self.now.unit.now self.now.tokens.now token }
     {
@@ -410,15 +417,15 @@ impl Judge<'_> {
     }
 
     /// The faults at these marks.
-    fn flaws(&self, marks: &[Mark]) -> Result<Vec<Flaw>, Memory>
+    fn flaws(&self, seen: &mut Seen<'a>, marks: &[Mark]) -> Result<Vec<Flaw>, Memory>
         ensures { let text = text_at self.now.unit.now self.now.tokens.now in
             (fits : List shapes.Fit) → KnowsFits fits self.now → IfOk result (λ flaws. flaws.items ≡ spec.flaws_of text fits [] marks.now) }
     {
-        let mut seen = Seen::new(self.alloc);
+        seen.clear();
         let mut flaws = Vec::new(self.alloc);
         for mark in marks {
             let again = seen.note(self, *mark)?;
-            self.push_flaws(&mut flaws, &seen, *mark, again)?;
+            self.push_flaws(&mut flaws, seen, *mark, again)?;
         }
         Ok(flaws)
     }
@@ -449,10 +456,11 @@ impl Judge<'_> {
 
 /// The first fault, by token and then by number, of what a declaration with these nodes and sequences binds, the first
 /// node beginning at this token.
-pub fn first_flaw(
+pub fn first_flaw<'a>(
     alloc: Global,
-    unit: &[u8],
-    tokens: &[Token],
+    unit: &'a [u8],
+    tokens: &'a [Token],
+    seen: &mut Seen<'a>,
     nodes: &[Node],
     begun: usize,
     fits: &[Fit],
@@ -469,7 +477,7 @@ pub fn first_flaw(
         heads: heads_of(alloc, fits)?,
     };
     let marks = marks(alloc, nodes, begun)?;
-    let mut flaws = judge.flaws(&marks)?;
+    let mut flaws = judge.flaws(seen, &marks)?;
     if are_listed(&marks) {
         judge.push_scoped(&mut flaws, &ends(alloc, nodes)?, &marks)?;
     }

@@ -6,7 +6,7 @@ ghost use Rattle.sml_reach.specs.Events.{text_at};
 ghost use Rattle.sml_reach.specs.Fits.{fitted_of};
 ghost use Rattle.sml_flaws.specs.Flawed as spec;
 
-use crate::flaw::{Flaw, first_flaw};
+use crate::flaw::{Flaw, Seen, first_flaw};
 use sml_lex::fault::Memory;
 use sml_lex::token::Token;
 use sml_reach::fitted::Fitted;
@@ -114,10 +114,11 @@ fn flaw_in(number: usize, first: usize, nodes: &[Node], flaw: Option<Flaw>) -> O
 }
 
 /// The same, if so many declarations have begun before it and its sequences stand for something.
-fn flaw_here(
+fn flaw_here<'a>(
     alloc: Global,
-    unit: &[u8],
-    tokens: &[Token],
+    unit: &'a [u8],
+    tokens: &'a [Token],
+    seen: &mut Seen<'a>,
     nodes: &[Node],
     first: usize,
     count: usize,
@@ -130,7 +131,7 @@ fn flaw_here(
     let Some(fitted) = fitted.get(count) else {
         return Ok(None);
     };
-    let flaw = first_flaw(alloc, unit, tokens, nodes, first, &fitted.fits)?;
+    let flaw = first_flaw(alloc, unit, tokens, seen, nodes, first, &fitted.fits)?;
     Ok(flaw_in(count + 1, first, nodes, flaw))
 }
 
@@ -144,11 +145,12 @@ pub fn or_else(first: Option<Misfit>, other: Option<Misfit>) -> Option<Misfit>
     }
 }
 
-/// The fault of the first of these declarations that has one.
-pub fn first_flawed(
+/// The fault of the first of these declarations that has one. Nothing that is known of other marks counts.
+fn seek<'a>(
     alloc: Global,
-    unit: &[u8],
-    tokens: &[Token],
+    unit: &'a [u8],
+    tokens: &'a [Token],
+    seen: &mut Seen<'a>,
     nodes: &[Node],
     fitted: &[Fitted],
 ) -> Result<Option<Misfit>, Memory>
@@ -167,7 +169,7 @@ pub fn first_flawed(
             Node::Inner(rule) => {
                 if begins_at(rule) {
                     let nodes = own(nodes, i);
-                    let flaw = flaw_here(alloc, unit, tokens, nodes, first, count, fitted)?;
+                    let flaw = flaw_here(alloc, unit, tokens, seen, nodes, first, count, fitted)?;
                     if flaw.is_some() {
                         return Ok(flaw);
                     }
@@ -177,4 +179,18 @@ pub fn first_flawed(
         }
     }
     Ok(None)
+}
+
+/// The fault of the first of these declarations that has one.
+pub fn first_flawed(
+    alloc: Global,
+    unit: &[u8],
+    tokens: &[Token],
+    nodes: &[Node],
+    fitted: &[Fitted],
+) -> Result<Option<Misfit>, Memory>
+    ensures { IfOk result (λ m. m ≡ spec.first_flawed (text_at unit.now tokens.now) 0 0 nodes.now tokens.now (map fitted_of fitted.now)) }
+{
+    let mut seen = Seen::new(alloc);
+    seek(alloc, unit, tokens, &mut seen, nodes, fitted)
 }

@@ -26,10 +26,10 @@ use std::alloc::Global;
 
 /// A name with its space, by number, and its group.
 #[derive(PartialEq, Eq, Hash, Drop)]
-pub struct Key {
+pub struct Key<'a> {
     pub space: usize,
     pub group: usize,
-    pub name: Vec<u8>,
+    pub name: &'a [u8],
 }
 
 /// A place in a sequence of atomic phrases.
@@ -57,56 +57,35 @@ fn number(space: Space) -> usize
 }
 
 /// The key of a name.
-fn key_at(
-    alloc: Global,
-    unit: &[u8],
-    tokens: &[Token],
-    space: Space,
-    group: usize,
-    token: usize,
-) -> Result<Key, Memory>
-    ensures { IfOk result (λ key. key_of key ≡ spec.key_at (text_at unit.now tokens.now) space group token) }
+fn key_at<'a>(unit: &'a [u8], tokens: &[Token], space: Space, group: usize, token: usize) -> Key<'a>
+    ensures { key_of result ≡ spec.key_at (text_at unit.now tokens.now) space group token }
 {
-    let name = Vec::from_slice(alloc, bytes(unit, tokens, token))?;
-    Ok(Key {
+    Key {
         space: number(space),
         group,
-        name,
-    })
+        name: bytes(unit, tokens, token),
+    }
 }
 
 /// The key that a mark binds.
-fn key_in(alloc: Global, unit: &[u8], tokens: &[Token], mark: Mark) -> Result<Option<Key>, Memory>
-    ensures { IfOk result (λ key. option_map key_of key ≡ spec.key_in (text_at unit.now tokens.now) mark) }
+fn key_in<'a>(unit: &'a [u8], tokens: &[Token], mark: Mark) -> Option<Key<'a>>
+    ensures { option_map key_of result ≡ spec.key_in (text_at unit.now tokens.now) mark }
 {
-    Ok(match mark {
-        Mark::Bound(bound) => Some(key_at(
-            alloc,
-            unit,
-            tokens,
-            bound.space,
-            bound.group,
-            bound.token,
-        )?),
-        Mark::Listed(listed) => Some(key_at(
-            alloc,
-            unit,
-            tokens,
-            Space::Variables,
-            listed.group,
-            listed.token,
-        )?),
+    match mark {
+        Mark::Bound(bound) => { Some(key_at(unit, tokens, bound.space, bound.group, bound.token)) }
+        Mark::Listed(listed) => {
+            Some(key_at(unit, tokens, Space::Variables, listed.group, listed.token))
+        }
         Mark::Owned(_) | Mark::Identifier(_) | Mark::Pun(_) | Mark::Real(_) | Mark::Clause(_) =>
             None,
-    })
+    }
 }
 
 /// Notes the key that a mark binds, and answers whether an earlier mark binds it.
-pub fn note_key(
-    alloc: Global,
-    unit: &[u8],
+pub fn note_key<'a>(
+    unit: &'a [u8],
     tokens: &[Token],
-    keys: &mut IndexSet<Key>,
+    keys: &mut IndexSet<Key<'a>>,
     mark: Mark,
 ) -> Result<bool, Memory>
     ensures knows { let text = text_at unit.now tokens.now in
@@ -114,7 +93,7 @@ pub fn note_key(
     ensures again { let text = text_at unit.now tokens.now in
         (before : List Mark) → KnowsKeys text before keys.old → IfOk result (λ again. again ≡ spec.is_again text before mark) }
 {
-    let Some(key) = key_in(alloc, unit, tokens, mark)? else {
+    let Some(key) = key_in(unit, tokens, mark) else {
         return Ok(false);
     };
     let added = keys.insert(key)?;

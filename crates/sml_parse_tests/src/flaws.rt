@@ -1,6 +1,6 @@
 //! The first fault of units of one declaration, worked out by hand.
 
-use sml_flaws::flaw::{Flaw, first_flaw};
+use sml_flaws::flaw::{Flaw, Seen, first_flaw};
 use sml_lex::fault::Memory;
 use sml_lex::lexer::lex;
 use sml_lex::token::Lexed;
@@ -40,9 +40,18 @@ fn fitted(alloc: Global, lexed: &Lexed, nodes: &[Node]) -> Result<Vec<Fitted>, M
 fn first_as(alloc: Global, unit: &[u8]) -> Result<String, Memory> {
     let lexed = lex(alloc, unit)?;
     let nodes = read(alloc, &lexed)?.nodes;
+    let mut seen = Seen::new(alloc);
     let mut text = String::new(alloc);
     for fitted in &fitted(alloc, &lexed, &nodes)? {
-        let first = first_flaw(alloc, unit, &lexed.tokens, &nodes, 0, &fitted.fits)?;
+        let first = first_flaw(
+            alloc,
+            unit,
+            &lexed.tokens,
+            &mut seen,
+            &nodes,
+            0,
+            &fitted.fits,
+        )?;
         if let Some(flaw) = first {
             add_flaw(&mut text, &lexed, flaw)?;
         }

@@ -439,12 +439,15 @@ fn first_of(misfits: &[Misfit]) -> Option<Misfit>
     first
 }
 
-/// The next event, of those that go from the last to the first.
+/// The next event, of those that go from the last to the first. Where half of their room is empty, it is given back.
 fn next(events: &mut Vec<Event>) -> Option<Event>
     ensures event { MatchOption result (map seen (reverse events.old.items) ≡ [])
         (λ event. map seen (reverse events.old.items) ≡ seen event ∷ map seen (reverse events.new.items)) }
     ensures fewer { IfSome result (λ _. length events.new.items + 1 ≡ length events.old.items) }
 {
+    if events.len() < events.capacity() / 2 {
+        events.shrink_to_fit();
+    }
     events.pop()
 }
 

@@ -6,7 +6,7 @@ use Rattle.sml_flaws.proofs.flaw.Judge.flaws.Goals as goal
 
 pub loop-mark-init : goal.loop-mark-init
 loop-mark-init c = record {
-  seen = c.new-seen.ensures (text_at c.args.self.now.unit.now c.args.self.now.tokens.now);
+  seen = c.clear.ensures (text_at c.args.self.now.unit.now c.args.self.now.tokens.now);
   kept = λ fits f. ap (λ fs. fs ++ flaws_of (text_at c.args.self.now.unit.now c.args.self.now.tokens.now) fits [] c.args.marks.now) (sym c.new-flaws.ensures.items);
 }
 

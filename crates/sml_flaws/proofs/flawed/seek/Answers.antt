@@ -4,8 +4,8 @@ use Rattle.sml_reach.specs.Fits.{fitted_of}
 use Rattle.sml_flaws.specs.Flawed.{own_nodes}
 use Rattle.sml_read.specs.declared.grammar.Node.TheVariants.{Inner}
 use Rattle.sml_flaws.proofs.FirstFlaws.{left, split, none_of, leaf_on, passed_on, next_on}
-use Rattle.sml_flaws.proofs.flawed.first_flawed.Goals.{in-Leaf+else-first-tokens, in-Inner+then-begins_at+in_ok-flaw-in-Inner+else-is_some, in-Inner+else-begins_at}
-use Rattle.sml_flaws.proofs.flawed.first_flawed.Goals as goal
+use Rattle.sml_flaws.proofs.flawed.seek.Goals.{in-Leaf+else-first-tokens, in-Inner+then-begins_at+in_ok-flaw-in-Inner+else-is_some, in-Inner+else-begins_at}
+use Rattle.sml_flaws.proofs.flawed.seek.Goals as goal
 
 pub loop-i-preserved : goal.loop-i-preserved
 loop-i-preserved c =

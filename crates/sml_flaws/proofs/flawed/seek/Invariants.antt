@@ -3,7 +3,7 @@ use Rattle.std.proofs.Common.{◌≡◌, ◌≤◌, map, drop, length}
 use Rattle.sml_reach.specs.Events.{text_at}
 use Rattle.sml_reach.specs.Fits.{fitted_of}
 use Rattle.sml_flaws.specs.Flawed.{first_flawed}
-use Rattle.sml_flaws.proofs.flawed.first_flawed.Given as goal
+use Rattle.sml_flaws.proofs.flawed.seek.Given as goal
 
 abbrev pub invariant-loop-i : goal.invariant-loop-i
 invariant-loop-i l = record {

@@ -242,7 +242,9 @@ fn are_listed(marks: &[Mark]) -> bool
 }
 
 impl<'a> Seen<'a> {
-    pub fn new(alloc: Global) -> Seen<'a> {
+    pub fn new(alloc: Global) -> Seen<'a>
+        ensures { (text : ℕ → Id) → Knows text [] result }
+    {
         Seen {
             keys: IndexSet::new(alloc),
             atoms: IndexMap::new(alloc),

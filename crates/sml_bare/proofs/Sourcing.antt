@@ -7,23 +7,13 @@ use Rattle.std.proofs.lemmas.Option.{slice_get-map}
 use Rattle.sml_lex.specs.declared.fault.Place.{Place}
 use Rattle.sml_lex.specs.declared.token.Token.{Token}
 use Rattle.sml_fixity.specs.Shapes.{shape_of}
+use Rattle.sml_derived.proofs.Hiding.{at_end}
 use Rattle.sml_reach.specs.declared.fitted.Fit as P
 use Rattle.sml_reach.specs.Fits.{Fit, fit_of}
 use Rattle.sml_bare.specs.Derivations.{place_at, shape_from}
 use Rattle.sml_bare.specs.CodeSources.{ArePlaced, fit_from}
 use Rattle.sml_reach.proofs.Somes.{none_some}
 use Rattle.sml_reach.proofs.Somes.{some_same}
-
--- an element of a list with one more at its end
-at_end : {A : Type 0} (xs : List A) (x : A) (n : ℕ) (q : A) → slice_get (xs ++ x ∷ []) n ≡ Some q → (slice_get xs n ≡ Some q) ⊎ ((n ≡ length xs) × (x ≡ q))
-at_end [] x zero q e = inr (refl, some_same e)
-at_end [] x (suc n) q e = absurd (none_some e)
-at_end (y ∷ xs) x zero q e = inl e
-at_end (y ∷ xs) x (suc n) q e = later (at_end xs x n q e)
-  where
-    later : (slice_get xs n ≡ Some q) ⊎ ((n ≡ length xs) × (x ≡ q)) → (slice_get xs n ≡ Some q) ⊎ ((suc n ≡ suc (length xs)) × (x ≡ q))
-    later (inl f) = inl f
-    later (inr f) = inr (ap suc f.0, f.1)
 
 pub placed_on : (unit : List ℕ) (tokens : List Token) (places : List Place) (p : Place) (n : ℕ) → length places ≡ n → p ≡ place_at unit tokens n → ArePlaced unit tokens places → ArePlaced unit tokens (places ++ p ∷ [])
 placed_on unit tokens places p n l e h k q g = by_end (at_end places p k q g)

@@ -47,35 +47,57 @@ fn note(
     Ok(())
 }
 
-/// The numbers of a declaration's sequences by their first tokens, counted from that of the declaration. There is room
-/// for so many tokens at once.
-fn by_token(
-    alloc: Global,
+/// Puts the numbers of a declaration's sequences by their first tokens, counted from that of the declaration, in the place
+/// of those before. There is room for so many tokens at once.
+fn number(
+    table: &mut Vec<Option<usize>>,
     begun: usize,
     fits: &[Fit],
     count: usize,
-) -> Result<Vec<Option<usize>>, Memory>
-    ensures { IfOk result (λ table. KnowsFits 0 begun (map fit_of fits.now) table.items) }
+) -> Result<(), Memory>
+    ensures { OnOk result (KnowsFits 0 begun (map fit_of fits.now) table.new.items) }
 {
-    let mut table = Vec::new(alloc);
+    table.clear();
     table.reserve(count)?;
     for i in (0..fits.len()).rev() {
-        note(&mut table, begun, fits[i].token, i)?;
+        note(table, begun, fits[i].token, i)?;
     }
-    Ok(table)
+    Ok(())
 }
 
-/// The places of so many tokens of a declaration.
-fn places(alloc: Global, unit: &[u8], tokens: &[Token], count: usize) -> Result<Vec<Place>, Memory>
-    ensures { IfOk result (λ v. ArePlaced unit.now tokens.now v.items) }
+/// Puts the places of so many tokens of a declaration in the place of those before.
+fn find_places(
+    places: &mut Vec<Place>,
+    unit: &[u8],
+    tokens: &[Token],
+    count: usize,
+) -> Result<(), Memory>
+    ensures { OnOk result (ArePlaced unit.now tokens.now places.new.items) }
 {
     let mut walk = Walk::new(start_of(tokens, 0, 0));
-    let mut places = Vec::new(alloc);
+    places.clear();
     places.reserve(count)?;
     for n in 0..count {
         places.push(walk.go_to(unit, start_of(tokens, n, 0)))?;
     }
-    Ok(places)
+    Ok(())
+}
+
+/// The places of a declaration's tokens, and the numbers of its sequences by their first tokens. All declarations of a unit
+/// share it, so that its room is made once.
+#[derive(Drop)]
+pub struct Tables {
+    places: Vec<Place>,
+    numbers: Vec<Option<usize>>,
+}
+
+impl Tables {
+    pub fn new(alloc: Global) -> Tables {
+        Tables {
+            places: Vec::new(alloc),
+            numbers: Vec::new(alloc),
+        }
+    }
 }
 
 /// A declaration before it is made: the bytes of its unit, the tokens from its first one on, the number of that in the
@@ -86,30 +108,33 @@ pub struct Source<'a> {
     pub tokens: &'a [Token],
     pub begun: usize,
     fits: &'a [Fit],
-    places: Vec<Place>,
-    table: Vec<Option<usize>>,
-    ghost placed: { ArePlaced unit.now tokens.now places.items },
-    ghost known: { KnowsFits 0 begun (map fit_of fits.now) table.items },
+    places: &'a [Place],
+    numbers: &'a [Option<usize>],
+    ghost placed: { ArePlaced unit.now tokens.now places.now },
+    ghost known: { KnowsFits 0 begun (map fit_of fits.now) numbers.now },
 }
 
 impl<'a> Source<'a> {
+    /// With these tables, which are filled for so many tokens.
     pub fn new(
-        alloc: Global,
         unit: &'a [u8],
         tokens: &'a [Token],
         begun: usize,
         fits: &'a [Fit],
         count: usize,
+        tables: &'a mut Tables,
     ) -> Result<Source<'a>, Memory>
         ensures { IfOk result (λ source. (source.unit.now ≡ unit.now) × (source.tokens.now ≡ tokens.now) × (source.begun ≡ begun) × (source.fits.now ≡ fits.now)) }
     {
+        find_places(&mut tables.places, unit, tokens, count)?;
+        number(&mut tables.numbers, begun, fits, count)?;
         Ok(Source {
             unit,
             tokens,
             begun,
             fits,
-            places: places(alloc, unit, tokens, count)?,
-            table: by_token(alloc, begun, fits, count)?,
+            places: &tables.places,
+            numbers: &tables.numbers,
         })
     }
 
@@ -131,7 +156,7 @@ impl<'a> Source<'a> {
     fn sequence(&self, n: usize) -> Option<usize>
         ensures { result ≡ fit_from 0 (map fit_of self.now.fits.now) (self.now.begun + n) }
     {
-        match self.table.get(n) {
+        match self.numbers.get(n) {
             Some(number) => *number,
             None => None,
         }

@@ -1,6 +1,6 @@
 //! Bare declarations from derivations, by one walk from a declaration's last node to its first.
 
-ghost use Rattle.std.specs.Prelude.{◌≡◌, ◌<◌, ◌-◌, ◌^◌, ◌∷◌, false, true, drop, length, map, slice_get, IfOk, IfErr, OnOk};
+ghost use Rattle.std.specs.Prelude.{◌≡◌, ◌<◌, ◌-◌, ◌^◌, ◌∷◌, false, true, drop, length, map, slice_get, slice_range, IfOk, IfErr, OnOk};
 ghost use Rattle.std.specs.List.{list_all};
 ghost use Rattle.std.specs.Option.{option_map, is_some};
 ghost use Rattle.sml_phrases.specs.Phrases.{first, of_constant};
@@ -16,7 +16,7 @@ ghost use Rattle.sml_reach.specs.Reach.{is_full};
 ghost use Rattle.sml_bare.specs.SourceViews.{source_of};
 
 use crate::rules::{declaration, is_within, rule_phrase};
-use crate::source::Source;
+use crate::source::{Source, Tables};
 use sml_derived::expander::Expander;
 use sml_flaws::flawed::{before_end, begins_at};
 use sml_lex::fault::{Memory, Place};
@@ -46,17 +46,17 @@ fn put_constant(
     stack.put_constant(Constant { kind, literal })
 }
 
-/// What a token makes by its kind, its place and its bytes goes on the stack.
+/// What a token of a unit makes by its kind, its place and its bytes goes on the stack.
 fn put_word(
     names: &mut Names,
     stack: &mut Stack,
-    kind: Kind,
+    unit: &[u8],
+    token: Token,
     place: Place,
-    text: &[u8],
 ) -> Result<(), Failure>
-    ensures { Puts (spec.word_phrase kind place text.now) 0 (seen stack.old) (seen stack.new) result }
+    ensures { Puts (spec.word_phrase token.kind place (slice_range unit.now token.span.start token.span.end)) 0 (seen stack.old) (seen stack.new) result }
 {
-    match kind {
+    match token.kind {
         Kind::Alphanumeric
         | Kind::Symbolic
         | Kind::Star
@@ -64,18 +64,38 @@ fn put_word(
         | Kind::TypeVariable
         | Kind::Numeral
         | Kind::ZeroNumeral => {
-            let ident = names.ident(text)?;
+            let ident = names.ident(text(unit, token.span))?;
             stack.put_name(Name { place, ident })
         }
         Kind::LongAlphanumeric | Kind::LongSymbolic | Kind::LongStar => {
-            let long = names.long(place, text)?;
+            let long = names.long(place, text(unit, token.span))?;
             stack.put_long(long)
         }
-        Kind::Integer => put_constant(names, stack, ConstantKind::Integer, text),
-        Kind::WordConstant => put_constant(names, stack, ConstantKind::Word, text),
-        Kind::RealConstant => put_constant(names, stack, ConstantKind::Real, text),
-        Kind::StringConstant => put_constant(names, stack, ConstantKind::String, text),
-        Kind::CharacterConstant => put_constant(names, stack, ConstantKind::Character, text),
+        Kind::Integer => put_constant(names, stack, ConstantKind::Integer, text(unit, token.span)),
+        Kind::WordConstant => put_constant(
+            names,
+            stack,
+            ConstantKind::Word,
+            text(unit, token.span),
+        ),
+        Kind::RealConstant => put_constant(
+            names,
+            stack,
+            ConstantKind::Real,
+            text(unit, token.span),
+        ),
+        Kind::StringConstant => put_constant(
+            names,
+            stack,
+            ConstantKind::String,
+            text(unit, token.span),
+        ),
+        Kind::CharacterConstant => put_constant(
+            names,
+            stack,
+            ConstantKind::Character,
+            text(unit, token.span),
+        ),
         _ => stack.put_word(place),
     }
 }
@@ -97,13 +117,7 @@ fn put_token(source: &Source, names: &mut Names, stack: &mut Stack, n: usize) ->
         Puts (spec.token_phrase s.unit (spec.place_at s.unit s.tokens n) (slice_get s.tokens n)) 0 (seen stack.old) (seen stack.new) result }
 {
     match source.tokens.get(n) {
-        Some(token) => put_word(
-            names,
-            stack,
-            token.kind,
-            source.place(n),
-            text(source.unit, token.span),
-        ),
+        Some(token) => put_word(names, stack, source.unit, *token, source.place(n)),
         None => stack.put_nothing(),
     }
 }
@@ -213,12 +227,12 @@ fn fits_at<'a>(fitted: &'a [Fitted], count: usize) -> &'a [Fit]
 
 /// The declaration of these nodes behind so many tokens, and behind so many declarations of the unit.
 fn declared_at(
-    alloc: Global,
     unit: &[u8],
     tokens: &[Token],
     names: &mut Names,
     expander: &Expander,
     stack: &mut Stack,
+    tables: &mut Tables,
     fitted: &[Fitted],
     nodes: &[Node],
     first: usize,
@@ -228,7 +242,7 @@ fn declared_at(
 {
     let fits = fits_at(fitted, count);
     let placed = token_count(nodes).saturating_add(1);
-    let source = Source::new(alloc, unit, behind(tokens, first), first, fits, placed)?;
+    let source = Source::new(unit, behind(tokens, first), first, fits, placed, tables)?;
     declared(&source, names, expander, stack, nodes)
 }
 
@@ -257,6 +271,7 @@ pub fn bare_decs(
 {
     let expander = Expander::new(alloc)?;
     let mut stack = Stack::new(alloc);
+    let mut tables = Tables::new(alloc);
     let mut declarations = Vec::new(alloc);
     let mut first = 0;
     for i in 0..nodes.len() {
@@ -270,7 +285,15 @@ pub fn bare_decs(
                     }
                     let own = before_end(&nodes[i + 1..]);
                     let Some(top) = declared_at(
-                        alloc, unit, tokens, names, &expander, &mut stack, fitted, own, first,
+                        unit,
+                        tokens,
+                        names,
+                        &expander,
+                        &mut stack,
+                        &mut tables,
+                        fitted,
+                        own,
+                        first,
                         count,
                     )?
                     else {

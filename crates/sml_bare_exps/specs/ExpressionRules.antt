@@ -57,13 +57,15 @@ abbrev pub tuple_of : Place → Exps Place → Exp Place
 tuple_of p (and_exp e no_exp) = bracket p e
 tuple_of p es = tuple p es
 
--- what stands in round brackets
+-- what stands in round brackets: one expression alone, expressions between semicolons, or a row of them
 abbrev pub round_of : Place → Phrase → Exp Place
+round_of p (of_exp e) = bracket p e
 round_of p (of_series es) = series_of p es
 round_of p v = tuple_of p (exps_in v)
 
 -- an expression in round brackets, and what stands behind it
 abbrev pub round_parts : Exp Place → Phrase → Phrase
+round_parts e nothing = of_exp e
 round_parts e (of_series es) = of_series (and_exp e es)
 round_parts e v = of_exps (and_exp e (exps_in v))
 
@@ -131,7 +133,7 @@ expression_phrase ExpRowMoreCloseCurly p s vs = of_fields no_field
 expression_phrase ExpRowMoreComma p s vs = of_fields (and_field (field (name_in (at vs 1)) (exp_in (at vs 3))) (fields_in (at vs 4)))
 expression_phrase ExpRoundCloseRound p s vs = of_exps no_exp
 expression_phrase ExpRoundExp p s vs = round_parts (exp_in (at vs 0)) (at vs 1)
-expression_phrase ExpRoundMoreCloseRound p s vs = of_exps no_exp
+expression_phrase ExpRoundMoreCloseRound p s vs = nothing
 expression_phrase ExpRoundMoreComma p s vs = of_exps (and_exp (exp_in (at vs 1)) (exps_in (at vs 2)))
 expression_phrase ExpRoundMoreSemicolon p s vs = of_series (and_exp (exp_in (at vs 1)) (exps_in (at vs 2)))
 expression_phrase TupleMoreCloseRound p s vs = of_exps no_exp

@@ -5,7 +5,7 @@ ghost use Rattle.sml_tree.specs.Expressions.{constant, name, row, tuple, let_in,
 ghost use Rattle.sml_tree.specs.ExpressionViews.{exp_of, exps_of, field_of, fields_of, dec_of, decs_of};
 ghost use Rattle.sml_tree.specs.TypeViews.{name_of};
 ghost use Rattle.sml_derived.specs.Derived.{long, select};
-ghost use Rattle.sml_phrases.specs.Phrases.{of_exp, of_exps, of_series, of_fields, at, name_in, numeral, long_in, constant_in, exp_in, exps_in, fields_in, decs_in};
+ghost use Rattle.sml_phrases.specs.Phrases.{nothing, of_exp, of_exps, of_series, of_fields, at, name_in, numeral, long_in, constant_in, exp_in, exps_in, fields_in, decs_in};
 ghost use Rattle.sml_phrases.specs.PhraseViews.{Puts, phrase_of, seen};
 ghost use Rattle.sml_bare_exps.specs.ExpressionViews.{GivesExp, low_exp_of};
 ghost use Rattle.sml_bare_exps.specs.ExpressionRules.{series_of, list_of, tuple_of, round_of, round_parts, body_of};
@@ -38,6 +38,14 @@ pub fn no_exps(stack: &mut Stack) -> Result<(), Failure>
 {
     let trees = Vec::new(stack.alloc);
     stack.put_exps(LowExps { trees, height: 0 })
+}
+
+/// A bracket behind an expression that stands in brackets alone.
+pub fn alone(stack: &mut Stack) -> Result<(), Failure>
+    ensures { Puts nothing 1 (seen stack.old) (seen stack.new) result }
+{
+    stack.skip();
+    stack.put_nothing()
 }
 
 /// A bracket or a word behind the last expression.
@@ -88,6 +96,7 @@ fn with_parts(stack: &mut Stack, exp: LowExp, rest: Phrase) -> Result<(), Failur
     ensures { Puts (round_parts (low_exp_of exp) (phrase_of rest)) 0 (seen stack.old) (seen stack.new) result }
 {
     match rest {
+        Phrase::Nothing => stack.put_exp(exp),
         Phrase::Expressions(ExpressionPhrase::Series(exps)) => {
             let exps = with(exp, exps)?;
             stack.put_series(exps)
@@ -109,6 +118,9 @@ fn with_parts(stack: &mut Stack, exp: LowExp, rest: Phrase) -> Result<(), Failur
 pub fn round_parts(stack: &mut Stack) -> Result<(), Failure>
     ensures { Puts (let vs = seen stack.old in round_parts (exp_in (at vs 0)) (at vs 1)) 2 (seen stack.old) (seen stack.new) result }
 {
+    if stack.leave_exp() {
+        return Ok(());
+    }
     let exp = stack.exp();
     let rest = stack.pop();
     with_parts(stack, exp, rest)
@@ -160,8 +172,8 @@ fn in_order(alloc: Global, exps: Vec<LowExp>) -> Result<Vec<Exp>, Memory>
 fn bracket(alloc: Global, place: Place, exp: LowExp) -> Result<LowExp, Failure>
     ensures { GivesExp (bracket place (low_exp_of exp)) result }
 {
-    let (exp, height) = raised_exp(exp, 0)?;
-    let tree = Exp::Bracket(place, Box::new(alloc, exp)?);
+    let height = raised(exp.height, 1)?;
+    let tree = Exp::Bracket(place, Box::new(alloc, exp.tree)?);
     Ok(LowExp { tree, height })
 }
 
@@ -193,6 +205,7 @@ fn round_exp(expander: &Expander, place: Place, parts: Phrase) -> Result<LowExp,
     ensures { GivesExp (round_of place (phrase_of parts)) result }
 {
     match parts {
+        Phrase::Expressions(ExpressionPhrase::Exp(exp)) => bracket(expander.alloc, place, exp),
         Phrase::Expressions(ExpressionPhrase::Series(exps)) => series(expander, place, exps.trees),
         Phrase::Expressions(ExpressionPhrase::Exps(exps)) => tuple(expander.alloc, place, exps),
         other => {

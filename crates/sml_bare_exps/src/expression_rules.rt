@@ -17,7 +17,7 @@ ghost use Rattle.sml_bare_exps.specs.ExpressionViews.{GivesExp, low_exp_of};
 ghost use Rattle.sml_bare_exps.specs.ExpressionRules.{conjunction, disjunction, expression_phrase};
 
 use crate::atom_rules::{
-    behind_op, constant, first_exps, first_fields, identifier, last_exp, last_field, local,
+    alone, behind_op, constant, first_exps, first_fields, identifier, last_exp, last_field, local,
     more_exps, more_fields, more_series, no_exps, numeral, round, round_parts, row, selector,
     short, square, taken_exps,
 };
@@ -318,8 +318,8 @@ pub fn expression_phrase(
         | ExpressionRule::SequenceMoreSemicolon
         | ExpressionRule::ExpListMoreComma
         | ExpressionRule::LetMoreSemicolon => more_exps(stack),
+        ExpressionRule::ExpRoundMoreCloseRound => alone(stack),
         ExpressionRule::ExpRoundCloseRound
-        | ExpressionRule::ExpRoundMoreCloseRound
         | ExpressionRule::TupleMoreCloseRound
         | ExpressionRule::SequenceMoreCloseRound
         | ExpressionRule::ExpListCloseSquare

@@ -139,6 +139,16 @@ fn whole_sequence(
     sequence_exp(expander, shape, exps.trees, Vec::new(expander.alloc))
 }
 
+/// Whether one atomic expression stands for itself.
+fn is_first(shape: Option<&Shape>) -> bool
+    ensures { result ≡ true → (e : Exp Place) → sequence_exp (option_map (λ s. shape_of s.now) shape.entry) (and_exp e no_exp) no_ty ≡ e }
+{
+    match shape {
+        Some(Shape::First) => true,
+        _ => false,
+    }
+}
+
 /// One atomic expression.
 fn single(expander: &Expander, shape: Option<&Shape>, exp: LowExp) -> Result<LowExp, Failure>
     ensures { GivesExp (sequence_exp (option_map (λ s. shape_of s.now) shape.entry) (and_exp (low_exp_of exp) no_exp) no_ty) result }
@@ -182,11 +192,10 @@ pub fn whole(
 ) -> Result<(), Failure>
     ensures { Puts (let vs = seen stack.old in of_exp (whole place (option_map (λ s. shape_of s.now) shape.entry) (exp_in (at vs 0)) (at vs 1))) 2 (seen stack.old) (seen stack.new) result }
 {
-    let exp = stack.exp();
-    if stack.take_nothing() {
-        let exp = single(expander, shape, exp)?;
-        return stack.put_exp(exp);
+    if is_first(shape) && stack.leave_exp() {
+        return Ok(());
     }
+    let exp = stack.exp();
     let rest = stack.pop();
     let exp = whole_exp(expander, place, shape, exp, rest)?;
     stack.put_exp(exp)

@@ -1,3 +1,4 @@
 pub mod Lists
 pub mod Views
 mod Searches
+pub mod Hiding

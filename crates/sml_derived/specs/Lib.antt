@@ -2,3 +2,4 @@ pub mod Words
 pub mod Derived
 pub mod Laws
 pub mod Views
+pub mod CodeHidden

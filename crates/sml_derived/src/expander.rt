@@ -5,6 +5,7 @@ ghost use Rattle.sml_tree.specs.Views.{ident_of};
 ghost use Rattle.sml_tree.specs.TypeViews.{name_of, names_of, long_name_of};
 ghost use Rattle.sml_derived.specs.Words.{true_id, false_id, nil_id, cons_id, it_id, hidden, v};
 ghost use Rattle.sml_derived.specs.Derived.{long, written};
+ghost use Rattle.sml_derived.specs.CodeHidden.{AreHidden};
 
 use itoa::Buffer;
 use sml_lex::fault::{Memory, Place};
@@ -13,8 +14,11 @@ use sml_tree::names::Name;
 use std::alloc::Global;
 use std::rc::Rc;
 
-/// Makes the bare trees of derived forms. Each identifier that the forms write is kept once. Every call answers
-/// `Memory` only where a growth was refused.
+/// So many hidden variables are kept; of those behind them each is made where it is written.
+const KEPT: usize = 8;
+
+/// Makes the bare trees of derived forms. Each identifier that the forms write is kept once, as are the first hidden
+/// variables. Every call answers `Memory` only where a growth was refused.
 #[derive(Drop)]
 pub struct Expander {
     pub alloc: Global,
@@ -24,12 +28,14 @@ pub struct Expander {
     pub cons: Ident,
     pub it: Ident,
     pub variable: Ident,
+    hidden: Vec<Ident>,
     ghost truth_is: { ident_of truth ≡ true_id },
     ghost falsity_is: { ident_of falsity ≡ false_id },
     ghost nil_is: { ident_of nil ≡ nil_id },
     ghost cons_is: { ident_of cons ≡ cons_id },
     ghost it_is: { ident_of it ≡ it_id },
     ghost variable_is: { ident_of variable ≡ v },
+    ghost hidden_are: { AreHidden hidden.items },
 }
 
 fn spelled(alloc: Global, text: &[u8]) -> Result<Ident, Memory>
@@ -39,13 +45,24 @@ fn spelled(alloc: Global, text: &[u8]) -> Result<Ident, Memory>
 }
 
 /// The hidden variable with this number, which no source can spell: a space, then the number.
-pub fn hidden(alloc: Global, number: usize) -> Result<Ident, Memory>
+fn hidden(alloc: Global, number: usize) -> Result<Ident, Memory>
     ensures { IfOk result (λ ident. ident_of ident ≡ hidden number) }
 {
     let mut buffer = Buffer::new();
     let mut text = Vec::from_slice(alloc, b" ")?;
     text.extend_from_slice(buffer.format(number).as_bytes())?;
     Ok(Rc::new(alloc, text)?)
+}
+
+/// The first hidden variables, so many.
+fn first_hidden(alloc: Global, count: usize) -> Result<Vec<Ident>, Memory>
+    ensures { IfOk result (λ idents. AreHidden idents.items) }
+{
+    let mut idents = Vec::new(alloc);
+    for number in 0..count {
+        idents.push(hidden(alloc, number)?)?;
+    }
+    Ok(idents)
 }
 
 /// An identifier that a form writes at a place.
@@ -118,6 +135,17 @@ impl Expander {
             cons: spelled(alloc, b"::")?,
             it: spelled(alloc, b"it")?,
             variable: hidden(alloc, 0)?,
+            hidden: first_hidden(alloc, KEPT)?,
         })
+    }
+
+    /// The hidden variable with this number.
+    pub fn hidden(&self, number: usize) -> Result<Ident, Memory>
+        ensures { IfOk result (λ ident. ident_of ident ≡ hidden number) }
+    {
+        match self.hidden.get(number) {
+            Some(ident) => Ok(ident.clone()?),
+            None => hidden(self.alloc, number),
+        }
     }
 }

@@ -9,7 +9,7 @@ ghost use Rattle.sml_tree.specs.ExpressionViews.{exp_of, exps_of, rule_of, rules
 ghost use Rattle.sml_tree.specs.Clauses.{pat_row_of, constrained, clause_rule, clause_rules, clause_of};
 ghost use Rattle.sml_derived.specs.Derived.{row_of, hidden_from, curried, function_of};
 
-use crate::expander::{Expander, hidden};
+use crate::expander::Expander;
 use crate::expressions::{one_rule, var};
 use crate::patterns::pat_var;
 use sml_lex::fault::{Memory, Place};
@@ -48,26 +48,26 @@ fn pat_row_of(place: Place, pats: Vec<Pat>) -> Pat
 }
 
 /// The first hidden variables, in order.
-fn hidden_vars(alloc: Global, place: Place, count: usize) -> Result<Vec<Exp>, Memory>
+fn hidden_vars(expander: &Expander, place: Place, count: usize) -> Result<Vec<Exp>, Memory>
     ensures { IfOk result (λ exps. exps_of (map exp_of exps.items) ≡ hidden_from place 1 count) }
 {
-    let mut exps = Vec::new(alloc);
+    let mut exps = Vec::new(expander.alloc);
     for before in 0..count {
-        let variable = hidden(alloc, before + 1)?;
-        exps.push(var(alloc, place, &variable)?)?;
+        let variable = expander.hidden(before + 1)?;
+        exps.push(var(expander.alloc, place, &variable)?)?;
     }
     Ok(exps)
 }
 
 /// A function of the first hidden variables, one after the other.
-fn curried(alloc: Global, place: Place, count: usize, body: Exp) -> Result<Exp, Memory>
+fn curried(expander: &Expander, place: Place, count: usize, body: Exp) -> Result<Exp, Memory>
     ensures { IfOk result (λ exp. exp_of exp ≡ curried place 1 count (exp_of body)) }
 {
     let mut exp = body;
     for made in 0..count {
-        let variable = hidden(alloc, count - made)?;
-        let pat = pat_var(alloc, place, &variable)?;
-        exp = Exp::Function(place, one_rule(alloc, place, pat, exp)?);
+        let variable = expander.hidden(count - made)?;
+        let pat = pat_var(expander.alloc, place, &variable)?;
+        exp = Exp::Function(place, one_rule(expander.alloc, place, pat, exp)?);
     }
     Ok(exp)
 }
@@ -117,12 +117,12 @@ impl Expander {
     {
         let place = first.place;
         let count = first.pats.len();
-        let subject = row_of(place, hidden_vars(self.alloc, place, count)?);
+        let subject = row_of(place, hidden_vars(self, place, count)?);
         let rules = clause_rules(self.alloc, first, others)?;
         let body = self.case(place, subject, rules)?;
         Ok(ValBind {
             pat: pat_var(self.alloc, place, name)?,
-            exp: curried(self.alloc, place, count, body)?,
+            exp: curried(self, place, count, body)?,
         })
     }
 }

@@ -55,15 +55,28 @@ fn order_of(earlier: Operator, later: Operator) -> Order
     }
 }
 
+/// How many steps build the tree of these roles, if they have one: each operand is pushed, and all but one are taken up.
+fn count_steps(roles: &[Role]) -> usize {
+    let mut count: usize = 0;
+    for role in roles {
+        match *role {
+            Role::Atom(_) => count = count.saturating_add(2),
+            Role::Infix(_) => {}
+        }
+    }
+    count.saturating_sub(1)
+}
+
 impl Reader {
-    fn new(alloc: Global) -> Reader
-        ensures { Reads [] result }
+    /// Nothing is read. There is room for so many steps.
+    fn new(alloc: Global, count: usize) -> Result<Reader, AllocError>
+        ensures { IfOk result (λ reader. Reads [] reader) }
     {
-        Reader {
-            steps: Vec::new(alloc),
+        Ok(Reader {
+            steps: Vec::with_capacity(alloc, count)?,
             pending: Vec::new(alloc),
             after_operand: false,
-        }
+        })
     }
 
     /// Writes an operand, and applies what stands directly before it.
@@ -129,7 +142,7 @@ pub(crate) fn resolve_roles(alloc: Global, roles: &[Role]) -> Result<Vec<Step>, 
     ensures tree { IfOk result (λ steps. IsTheTree roles.now steps.items) }
     ensures fault { IfErr result (λ fault. FaultStands roles.now fault) }
 {
-    let mut reader = Reader::new(alloc);
+    let mut reader = Reader::new(alloc, count_steps(roles))?;
     for (index, role) in roles.iter().enumerate() {
         match *role {
             Role::Atom(operand) => reader.operand(operand)?,

@@ -81,7 +81,7 @@ fn role_at(fixities: &Fixities, index: usize, item: &Item) -> Role
 fn roles_of(alloc: Global, fixities: &Fixities, items: &[Item]) -> Result<Vec<Role>, AllocError>
     ensures { IfOk result (λ v. v.items ≡ roles_of (here fixities.now) items.now) }
 {
-    let mut roles = Vec::new(alloc);
+    let mut roles = Vec::with_capacity(alloc, items.len())?;
     for (index, item) in items.iter().enumerate() {
         roles.push(role_at(fixities, index, item))?;
     }

@@ -173,8 +173,8 @@ first_flaw (a ∷ flaws) = Some (earlier_flaw a (first_flaw flaws))
 
 -- what the program knows
 pub record KnowsFits (fits : List Fit) (judge : Judge) : Type 0 where
-  pub uses : KnowsUses fits judge.uses
-  pub heads : KnowsHeads fits judge.heads
+  pub uses : KnowsUses fits judge.uses.now
+  pub heads : KnowsHeads fits judge.heads.now
 
 pub record Knows (text : ℕ → Id) (before : List Mark) (seen : Seen) : Type 0 where
   pub keys : KnowsKeys text before seen.keys

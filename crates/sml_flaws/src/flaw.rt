@@ -1,7 +1,7 @@
 //! The first fault of what a declaration binds: names that are bound twice or can't be bound, clauses that don't
 //! agree, and real constants in patterns.
 
-ghost use Rattle.std.specs.Prelude.{◌≡◌, ◌≤◌, ℕ, List, [], ◌∷◌, ◌++◌, Option, None, false, map, length, IfOk, OnOk};
+ghost use Rattle.std.specs.Prelude.{◌≡◌, ◌+◌, ◌<◌, ◌≤◌, ◌^◌, ℕ, List, [], ◌∷◌, ◌++◌, Option, None, false, map, length, IfOk, OnOk};
 ghost use Rattle.std.specs.List.{cons_option};
 ghost use Rattle.sml_flaws.specs.declared.mark.Mark.{Mark};
 ghost use Rattle.sml_reach.specs.Events.{text_at};
@@ -10,12 +10,12 @@ ghost use Rattle.sml_reach.specs.Fits.{fit_of};
 ghost use Rattle.sml_flaws.specs.Marks.{marks_of, start};
 ghost use Rattle.sml_flaws.specs.Flaws as spec;
 ghost use Rattle.sml_tree.specs.Trees.{Id};
-ghost use Rattle.sml_flaws.specs.Known.{atom_at, count_at, is_again, is_used, head_at, token_in};
+ghost use Rattle.sml_flaws.specs.Known.{atom_at, count_at, is_again, is_used, head_at, token_in, KnowsUses, KnowsHeads};
 ghost use Rattle.sml_flaws.specs.Flaws.{KnowsFits, Knows};
 ghost use Rattle.sml_flaws.specs.CodeScopes.{AreOwned, KnowsPassed};
 
-use crate::known::{Key, Position, bytes, heads_of, note_atom, note_count, note_key, uses_of};
-use crate::mark::{Mark, marks};
+use crate::known::{Key, Position, bytes, note_atom, note_count, note_heads, note_key, note_uses};
+use crate::mark::{Mark, Runs, note_marks};
 use crate::role::Space;
 use crate::scopes::{Passed, Scopes, owned_of};
 use indexmap::{IndexMap, IndexSet};
@@ -34,22 +34,35 @@ pub struct Flaw {
     pub code: Code,
 }
 
-/// What is known of the marks before. All declarations of a unit share it, so that its room is made once.
+/// What is known of the marks before.
 #[derive(Drop)]
-pub struct Seen<'a> {
+struct Seen<'a> {
     keys: IndexSet<Key<'a>>,
     atoms: IndexMap<Position, usize>,
     counts: IndexMap<usize, usize>,
 }
 
+/// So many marks or uses are many: what holds more is given up, since it takes long to clear.
+const MANY: usize = 256;
+
+/// What declarations are judged with. All declarations of a unit share it, so that its room is made once.
+#[derive(Drop)]
+pub struct Workspace<'a> {
+    seen: Seen<'a>,
+    uses: IndexSet<Position>,
+    heads: IndexMap<usize, Head>,
+    marks: Vec<Mark>,
+    runs: Runs,
+}
+
 /// Judges the marks of a declaration, whose sequences are known.
 #[derive(Drop)]
-pub struct Judge<'a> {
+struct Judge<'a, 'w> {
     alloc: Global,
     unit: &'a [u8],
     tokens: &'a [Token],
-    uses: IndexSet<Position>,
-    heads: IndexMap<usize, Head>,
+    uses: &'w IndexSet<Position>,
+    heads: &'w IndexMap<usize, Head>,
 }
 
 fn flaw_if(here: bool, token: usize, code: Code) -> Option<Flaw>
@@ -242,7 +255,7 @@ fn are_listed(marks: &[Mark]) -> bool
 }
 
 impl<'a> Seen<'a> {
-    pub fn new(alloc: Global) -> Seen<'a>
+    fn new(alloc: Global) -> Seen<'a>
         ensures { (text : ℕ → Id) → Knows text [] result }
     {
         Seen {
@@ -262,7 +275,7 @@ impl<'a> Seen<'a> {
     }
 
     /// Notes a mark, and answers whether it binds what is bound before.
-    fn note(&mut self, judge: &Judge<'a>, mark: Mark) -> Result<bool, Memory>
+    fn note(&mut self, judge: &Judge<'a, '_>, mark: Mark) -> Result<bool, Memory>
         ensures knows { let text = text_at judge.now.unit.now judge.now.tokens.now in
             (before : List Mark) → Knows text before self.old → OnOk result (Knows text (mark ∷ before) self.new) }
         ensures again { let text = text_at judge.now.unit.now judge.now.tokens.now in
@@ -288,7 +301,7 @@ impl<'a> Seen<'a> {
     }
 }
 
-impl<'a> Judge<'a> {
+impl<'a> Judge<'a, '_> {
     fn text(&self, token: usize) -> &[u8]
         ensures { result.now ≡ text_at self.now.unit.now self.now.tokens.now token }
     {
@@ -456,13 +469,68 @@ impl<'a> Judge<'a> {
     }
 }
 
+impl<'a> Workspace<'a> {
+    pub fn new(alloc: Global) -> Workspace<'a> {
+        Workspace {
+            seen: Seen::new(alloc),
+            uses: IndexSet::new(alloc),
+            heads: IndexMap::new(alloc),
+            marks: Vec::new(alloc),
+            runs: Runs::new(alloc),
+        }
+    }
+
+    /// Whether the last declaration had many marks or uses.
+    fn is_large(&self) -> bool {
+        self.marks.len() > MANY || self.uses.len() > MANY
+    }
+
+    /// Notes the marks of a declaration and what its sequences stand for, in the place of those before.
+    fn note(&mut self, nodes: &[Node], begun: usize, fits: &[Fit]) -> Result<(), Memory>
+        requires { begun + length nodes.now < 2 ^ 64 }
+        ensures uses { OnOk result (KnowsUses (map fit_of fits.now) self.new.uses) }
+        ensures heads { OnOk result (KnowsHeads (map fit_of fits.now) self.new.heads) }
+        ensures marks { OnOk result (self.new.marks.items ≡ marks_of 0 begun (start ∷ []) nodes.now) }
+    {
+        note_uses(&mut self.uses, fits)?;
+        note_heads(&mut self.heads, fits)?;
+        note_marks(&mut self.marks, &mut self.runs, nodes, begun)
+    }
+
+    /// The first fault of what is noted.
+    fn first_flaw(
+        &mut self,
+        alloc: Global,
+        unit: &'a [u8],
+        tokens: &'a [Token],
+        nodes: &[Node],
+    ) -> Result<Option<Flaw>, Memory>
+        ensures { let text = text_at unit.now tokens.now in
+            (fits : List shapes.Fit) → KnowsUses fits self.old.uses → KnowsHeads fits self.old.heads →
+            IfOk result (λ first. first ≡ spec.first_flaw (spec.flaws_in text fits nodes.now self.old.marks.items)) }
+    {
+        let judge = Judge {
+            alloc,
+            unit,
+            tokens,
+            uses: &self.uses,
+            heads: &self.heads,
+        };
+        let mut flaws = judge.flaws(&mut self.seen, &self.marks)?;
+        if are_listed(&self.marks) {
+            judge.push_scoped(&mut flaws, &ends(alloc, nodes)?, &self.marks)?;
+        }
+        Ok(first_of(&flaws))
+    }
+}
+
 /// The first fault, by token and then by number, of what a declaration with these nodes and sequences binds, the first
 /// node beginning at this token.
 pub fn first_flaw<'a>(
     alloc: Global,
     unit: &'a [u8],
     tokens: &'a [Token],
-    seen: &mut Seen<'a>,
+    workspace: &mut Workspace<'a>,
     nodes: &[Node],
     begun: usize,
     fits: &[Fit],
@@ -471,17 +539,9 @@ pub fn first_flaw<'a>(
     ensures { let text = text_at unit.now tokens.now in
         IfOk result (λ first. first ≡ spec.first_flaw (spec.flaws text (map fit_of fits.now) begun nodes.now)) }
 {
-    let judge = Judge {
-        alloc,
-        unit,
-        tokens,
-        uses: uses_of(alloc, fits)?,
-        heads: heads_of(alloc, fits)?,
-    };
-    let marks = marks(alloc, nodes, begun)?;
-    let mut flaws = judge.flaws(seen, &marks)?;
-    if are_listed(&marks) {
-        judge.push_scoped(&mut flaws, &ends(alloc, nodes)?, &marks)?;
+    if workspace.is_large() {
+        *workspace = Workspace::new(alloc);
     }
-    Ok(first_of(&flaws))
+    workspace.note(nodes, begun, fits)?;
+    workspace.first_flaw(alloc, unit, tokens, nodes)
 }

@@ -6,7 +6,7 @@ ghost use Rattle.sml_reach.specs.Events.{text_at};
 ghost use Rattle.sml_reach.specs.Fits.{fitted_of};
 ghost use Rattle.sml_flaws.specs.Flawed as spec;
 
-use crate::flaw::{Flaw, Seen, first_flaw};
+use crate::flaw::{Flaw, Workspace, first_flaw};
 use sml_lex::fault::Memory;
 use sml_lex::token::Token;
 use sml_reach::fitted::Fitted;
@@ -118,7 +118,7 @@ fn flaw_here<'a>(
     alloc: Global,
     unit: &'a [u8],
     tokens: &'a [Token],
-    seen: &mut Seen<'a>,
+    workspace: &mut Workspace<'a>,
     nodes: &[Node],
     first: usize,
     count: usize,
@@ -131,7 +131,7 @@ fn flaw_here<'a>(
     let Some(fitted) = fitted.get(count) else {
         return Ok(None);
     };
-    let flaw = first_flaw(alloc, unit, tokens, seen, nodes, first, &fitted.fits)?;
+    let flaw = first_flaw(alloc, unit, tokens, workspace, nodes, first, &fitted.fits)?;
     Ok(flaw_in(count + 1, first, nodes, flaw))
 }
 
@@ -145,12 +145,12 @@ pub fn or_else(first: Option<Misfit>, other: Option<Misfit>) -> Option<Misfit>
     }
 }
 
-/// The fault of the first of these declarations that has one. Nothing that is known of other marks counts.
+/// The fault of the first of these declarations that has one. What the workspace holds doesn't count.
 fn seek<'a>(
     alloc: Global,
     unit: &'a [u8],
     tokens: &'a [Token],
-    seen: &mut Seen<'a>,
+    workspace: &mut Workspace<'a>,
     nodes: &[Node],
     fitted: &[Fitted],
 ) -> Result<Option<Misfit>, Memory>
@@ -169,7 +169,9 @@ fn seek<'a>(
             Node::Inner(rule) => {
                 if begins_at(rule) {
                     let nodes = own(nodes, i);
-                    let flaw = flaw_here(alloc, unit, tokens, seen, nodes, first, count, fitted)?;
+                    let flaw = flaw_here(
+                        alloc, unit, tokens, workspace, nodes, first, count, fitted,
+                    )?;
                     if flaw.is_some() {
                         return Ok(flaw);
                     }
@@ -191,6 +193,6 @@ pub fn first_flawed(
 ) -> Result<Option<Misfit>, Memory>
     ensures { IfOk result (λ m. m ≡ spec.first_flawed (text_at unit.now tokens.now) 0 0 nodes.now tokens.now (map fitted_of fitted.now)) }
 {
-    let mut seen = Seen::new(alloc);
-    seek(alloc, unit, tokens, &mut seen, nodes, fitted)
+    let mut workspace = Workspace::new(alloc);
+    seek(alloc, unit, tokens, &mut workspace, nodes, fitted)
 }

@@ -22,7 +22,6 @@ use sml_lex::fault::Memory;
 use sml_lex::token::Token;
 use sml_reach::fitted::Fit;
 use sml_reach::place::text;
-use std::alloc::Global;
 
 /// A name with its space, by number, and its group.
 #[derive(PartialEq, Eq, Hash, Drop)]
@@ -173,26 +172,26 @@ fn add_uses(uses: &mut IndexSet<Position>, sequence: usize, steps: &[Step]) -> R
     Ok(())
 }
 
-/// The atomic phrases that sequences take as operators or apply.
-pub fn uses_of(alloc: Global, fits: &[Fit]) -> Result<IndexSet<Position>, Memory>
-    ensures { IfOk result (λ uses. KnowsUses (map fit_of fits.now) uses) }
+/// Puts the atomic phrases that sequences take as operators or apply in the place of those before.
+pub fn note_uses(uses: &mut IndexSet<Position>, fits: &[Fit]) -> Result<(), Memory>
+    ensures { OnOk result (KnowsUses (map fit_of fits.now) uses.new) }
 {
-    let mut uses = IndexSet::new(alloc);
+    uses.clear();
     for i in (0..fits.len()).rev() {
         match &fits[i].shape {
             Shape::First => {}
-            Shape::Tree(operand) => add_uses(&mut uses, fits[i].token, &operand.steps)?,
+            Shape::Tree(operand) => add_uses(uses, fits[i].token, &operand.steps)?,
             Shape::Head(_) => {}
         }
     }
-    Ok(uses)
+    Ok(())
 }
 
-/// How the heads of clauses are written, by their first tokens.
-pub fn heads_of(alloc: Global, fits: &[Fit]) -> Result<IndexMap<usize, Head>, Memory>
-    ensures { IfOk result (λ heads. KnowsHeads (map fit_of fits.now) heads) }
+/// Puts how the heads of clauses are written, by their first tokens, in the place of those before.
+pub fn note_heads(heads: &mut IndexMap<usize, Head>, fits: &[Fit]) -> Result<(), Memory>
+    ensures { OnOk result (KnowsHeads (map fit_of fits.now) heads.new) }
 {
-    let mut heads = IndexMap::new(alloc);
+    heads.clear();
     for i in (0..fits.len()).rev() {
         match &fits[i].shape {
             Shape::First => {}
@@ -202,5 +201,5 @@ pub fn heads_of(alloc: Global, fits: &[Fit]) -> Result<IndexMap<usize, Head>, Me
             }
         }
     }
-    Ok(heads)
+    Ok(())
 }

@@ -89,7 +89,7 @@ struct Run {
 
 /// The symbols still to come: the first run of them, and those behind it from the last to the first.
 #[derive(Drop)]
-struct Runs {
+pub struct Runs {
     here: Run,
     behind: Vec<Run>,
 }
@@ -149,6 +149,29 @@ fn in_role(role: Role, context: Context) -> Context
         Role::Word(word) => part.word = word,
     }
     part
+}
+
+impl Runs {
+    pub fn new(alloc: Global) -> Runs {
+        Runs {
+            here: Run {
+                context: START,
+                count: 0,
+            },
+            behind: Vec::new(alloc),
+        }
+    }
+
+    /// One symbol is to come, that of a declaration.
+    fn begin(&mut self)
+        ensures { contexts_of self.new ≡ spec.start ∷ [] }
+    {
+        self.here = Run {
+            context: START,
+            count: 1,
+        };
+        self.behind.clear();
+    }
 }
 
 /// The first run behind this one that has symbols comes to stand here, if there is one.
@@ -329,28 +352,28 @@ fn token_behind(node: Node, token: usize) -> usize
     }
 }
 
-/// The marks of a declaration with these nodes, the first of them beginning at this token.
-pub fn marks(alloc: Global, nodes: &[Node], begun: usize) -> Result<Vec<Mark>, Memory>
+/// Puts the marks of a declaration with these nodes, the first of them beginning at this token, in the place of those
+/// before.
+pub fn note_marks(
+    marks: &mut Vec<Mark>,
+    runs: &mut Runs,
+    nodes: &[Node],
+    begun: usize,
+) -> Result<(), Memory>
     requires { begun + length nodes.now < 2 ^ 64 }
-    ensures { IfOk result (λ marks. marks.items ≡ spec.marks_of 0 begun (spec.start ∷ []) nodes.now) }
+    ensures { OnOk result (marks.new.items ≡ spec.marks_of 0 begun (spec.start ∷ []) nodes.now) }
 {
-    let mut marks = Vec::new(alloc);
-    let mut runs = Runs {
-        here: Run {
-            context: START,
-            count: 1,
-        },
-        behind: Vec::new(alloc),
-    };
+    marks.clear();
+    runs.begin();
     let mut token = begun;
     for i in 0..nodes.len() {
-        if !take(&mut runs) {
-            return Ok(marks);
+        if !take(runs) {
+            return Ok(());
         }
         let mark = mark_at(nodes[i], token, &runs.here.context);
-        push_some(&mut marks, mark)?;
-        enter(&mut runs, nodes[i], i, token)?;
+        push_some(marks, mark)?;
+        enter(runs, nodes[i], i, token)?;
         token = token_behind(nodes[i], token);
     }
-    Ok(marks)
+    Ok(())
 }

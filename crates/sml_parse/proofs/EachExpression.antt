@@ -15,7 +15,7 @@ use Rattle.sml_read.specs.Spelling.{all_empty}
 use Rattle.sml_read.specs.declared.grammar.Rule.TheVariants as G
 use Rattle.sml_read.specs.declared.grammar.ExpressionRule.{ExpressionRule}
 use Rattle.sml_read.specs.declared.grammar.ExpressionRule.TheVariants.{ExpAt, MoreNone, MoreAt, MoreColon, MoreAndalso, MoreOrelse, MoreHandle, TyRestNone, TyRestColon, TyRestAndalso, TyRestOrelse, TyRestHandle, AndMoreNone, AndMoreAndalso, AndRestTyp, OrMoreNone, OrMoreOrelse, OrRestTyp, HandleMoreNone, HandleMoreHandle, TypAt, AtMoreNone, AtMoreAt, TyMoreNone, TyMoreColon, OpenRaise, OpenIf, OpenWhile, OpenCase, OpenFn, MatchPat, MatchMoreNone, MatchMoreBar, AtNumeral, AtZeroNumeral, AtInteger, AtWordConstant, AtRealConstant, AtStringConstant, AtCharacterConstant, AtAlphanumeric, AtSymbolic, AtStar, AtEquals, AtLongAlphanumeric, AtLongSymbolic, AtLongStar, AtOp, AtOpenCurly, AtHash, AtOpenRound, AtOpenSquare, AtLet, ExpRowCloseCurly, ExpRowLab, ExpRowMoreCloseCurly, ExpRowMoreComma, ExpRoundCloseRound, ExpRoundExp, ExpRoundMoreCloseRound, ExpRoundMoreComma, ExpRoundMoreSemicolon, TupleMoreCloseRound, TupleMoreComma, SequenceMoreCloseRound, SequenceMoreSemicolon, ExpListCloseSquare, ExpListExp, ExpListMoreCloseSquare, ExpListMoreComma, LetMoreEnd, LetMoreSemicolon}
-use Rattle.sml_phrases.specs.Phrases.{Phrase, of_series, of_rest, name_in, ty_in, tys_in, exp_in, exps_in, rules_in, exp_if_any, rules_if_any, at}
+use Rattle.sml_phrases.specs.Phrases.{Phrase, nothing, of_exp, of_series, of_rest, name_in, ty_in, tys_in, exp_in, exps_in, rules_in, exp_if_any, rules_if_any, at}
 use Rattle.sml_bare_exps.specs.ExpressionSequences as S
 use Rattle.sml_bare_exps.specs.ExpressionRules.{conjunction, disjunction, handled, with_operand, with_type, whole, series_of, list_of, tuple_of, round_of, round_parts, body_of, expression_phrase}
 use Rattle.sml_parse.specs.EachPlace.{EachInName, EachInTy, EachInTys, EachInExp, EachInExps}
@@ -145,10 +145,12 @@ module _ (Q : Place → Type 0) (origin : Q first_place) where
   tuple_each p (and_exp e (and_exp f es)) o h = (o, h)
 
   round_each : (p : Place) (v : Phrase) → Q p → EachInPhrase Q v → EachInExp Q (round_of p v)
+  round_each p (of_exp e) o h = (o, h)
   round_each p (of_series es) o h = series_each p es o h
   round_each p v o h = tuple_each p (exps_in v) o (exps_in_each Q origin v h)
 
   round_parts_each : (e : Exp Place) (v : Phrase) → EachInExp Q e → EachInPhrase Q v → EachInPhrase Q (round_parts e v)
+  round_parts_each e nothing h k = h
   round_parts_each e (of_series es) h k = (h, k)
   round_parts_each e v h k = (h, exps_in_each Q origin v k)
 

@@ -1,6 +1,6 @@
 //! The first fault of units of one declaration, worked out by hand.
 
-use sml_flaws::flaw::{Flaw, Seen, first_flaw};
+use sml_flaws::flaw::{Flaw, Workspace, first_flaw};
 use sml_lex::fault::Memory;
 use sml_lex::lexer::lex;
 use sml_lex::token::Lexed;
@@ -40,14 +40,14 @@ fn fitted(alloc: Global, lexed: &Lexed, nodes: &[Node]) -> Result<Vec<Fitted>, M
 fn first_as(alloc: Global, unit: &[u8]) -> Result<String, Memory> {
     let lexed = lex(alloc, unit)?;
     let nodes = read(alloc, &lexed)?.nodes;
-    let mut seen = Seen::new(alloc);
+    let mut workspace = Workspace::new(alloc);
     let mut text = String::new(alloc);
     for fitted in &fitted(alloc, &lexed, &nodes)? {
         let first = first_flaw(
             alloc,
             unit,
             &lexed.tokens,
-            &mut seen,
+            &mut workspace,
             &nodes,
             0,
             &fitted.fits,

@@ -1,6 +1,6 @@
 //! The phrases that have been made and are not yet part of another one, on a stack.
 
-ghost use Rattle.std.specs.Prelude.{◌≡◌, ◌<◌, [], ◌∷◌, map, reverse, true, false, vec_len, vec_capacity, IfOk, OnOk};
+ghost use Rattle.std.specs.Prelude.{◌≡◌, ◌<◌, [], ◌∷◌, map, reverse, length, true, false, vec_len, vec_capacity, IfOk, OnOk};
 ghost use Rattle.std.specs.Prelude.{drop};
 ghost use Rattle.std.specs.Option.{option_map};
 ghost use Rattle.sml_tree.specs.TypeViews.{name_of, long_name_of, ty_of, tys_of, ty_field_of, ty_fields_of};
@@ -10,7 +10,7 @@ ghost use Rattle.sml_tree.specs.ExpressionViews.{exn_bind_of, exp_of, exps_of, f
 ghost use Rattle.sml_tree.specs.SignatureViews.{val_desc_of, typ_desc_of, sig_of, spec_of, specs_of};
 ghost use Rattle.sml_tree.specs.StructureViews.{str_of, str_dec_of, str_decs_of, top_of};
 ghost use Rattle.sml_tree.specs.Clauses.{clause_of};
-ghost use Rattle.sml_phrases.specs.Phrases.{first, nothing, place_in, ty_if_any, pat_if_any, exp_if_any, rules_if_any, bind_in, binds_in, clauses_in, con_binds_in, constant_in, dec_in, decs_in, exn_binds_in, exp_in, exps_in, fields_in, long_in, longs_in, name_in, names_in, numeral, pat_in, pats_in, rules_in, sig_in, specs_in, str_dec_in, str_decs_in, str_in, top_in, ty_fields_in, ty_in, typ_binds_in, typ_descs_in, tys_in, val_descs_in, wheres_in};
+ghost use Rattle.sml_phrases.specs.Phrases.{at, of_exp, first, nothing, place_in, ty_if_any, pat_if_any, exp_if_any, rules_if_any, bind_in, binds_in, clauses_in, con_binds_in, constant_in, dec_in, decs_in, exn_binds_in, exp_in, exps_in, fields_in, long_in, longs_in, name_in, names_in, numeral, pat_in, pats_in, rules_in, sig_in, specs_in, str_dec_in, str_decs_in, str_in, top_in, ty_fields_in, ty_in, typ_binds_in, typ_descs_in, tys_in, val_descs_in, wheres_in};
 ghost use Rattle.sml_phrases.specs.PhraseViews.{low_where_of, phrase_of, seen};
 
 use crate::low::{
@@ -32,6 +32,24 @@ use sml_tree::structures::{StrDec, StrExp, TopDec};
 use sml_tree::types::Ty;
 use std::alloc::Global;
 use std::rc::Rc;
+
+/// Whether the last phrase is an expression, and the one before it nothing.
+fn is_alone(phrases: &[Phrase]) -> bool
+    ensures { result ≡ true → (let vs = map phrase_of (reverse phrases.now) in
+        (first vs ≡ of_exp (exp_in (first vs))) × (at vs 1 ≡ nothing) × (1 < length phrases.now)) }
+{
+    let Some((last, before)) = phrases.split_last() else {
+        return false;
+    };
+    match last {
+        Phrase::Expressions(ExpressionPhrase::Exp(_)) => {}
+        _ => return false,
+    }
+    match before.last() {
+        Some(Phrase::Nothing) => true,
+        _ => false,
+    }
+}
 
 /// The phrases that are not yet part of another one, the last made on top.
 #[derive(Drop)]
@@ -97,16 +115,18 @@ impl Stack {
         self.phrases.clear();
     }
 
-    /// Takes the phrase on top off if it is nothing, and says whether it is.
-    pub fn take_nothing(&mut self) -> bool
-        ensures taken { result ≡ true → (first (seen self.old) ≡ nothing) × (seen self.new ≡ drop 1 (seen self.old)) }
+    /// Where an expression stands on top and nothing below it, takes the nothing off, and says whether it did.
+    pub fn leave_exp(&mut self) -> bool
+        ensures taken { result ≡ true → (at (seen self.old) 1 ≡ nothing) × (seen self.new ≡ of_exp (exp_in (first (seen self.old))) ∷ drop 2 (seen self.old)) }
         ensures kept { result ≡ false → seen self.new ≡ seen self.old }
     {
-        match self.phrases.last() {
-            Some(Phrase::Nothing) => {}
-            _ => return false,
+        if !is_alone(&self.phrases) {
+            return false;
         }
-        self.skip();
+        let exp = self.phrases.take_last();
+        let nothing = self.phrases.take_last();
+        discard(nothing);
+        self.add(exp);
         true
     }
 

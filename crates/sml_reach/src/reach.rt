@@ -73,7 +73,7 @@ pub struct Reach {
 }
 
 /// The atomic phrases of a sequence: what each is to the operators, its first token, and what the first of them has
-/// in round brackets.
+/// in round brackets. All sequences of a unit share it, so that its room is made once.
 #[derive(Drop)]
 struct Sequence {
     items: Vec<Item>,
@@ -81,33 +81,45 @@ struct Sequence {
     inner: Vec<Item>,
 }
 
-/// The atomic phrases, which go from the last to the first.
-fn split(alloc: Global, atoms: Vec<Atom>) -> Result<Sequence, Memory>
-    ensures items { IfOk result (λ s. AreItems s.items.items (atoms_of atoms)) }
-    ensures tokens { IfOk result (λ s. s.tokens.items ≡ map (λ (a : founds.Atom). a.token) (atoms_of atoms)) }
-    ensures inner { IfOk result (λ s. map name_of s.inner.items ≡ first_inner (atoms_of atoms)) }
+impl Sequence {
+    fn new(alloc: Global) -> Sequence {
+        Sequence {
+            items: Vec::new(alloc),
+            tokens: Vec::new(alloc),
+            inner: Vec::new(alloc),
+        }
+    }
+
+    fn clear(&mut self)
+        ensures items { self.new.items.items ≡ [] }
+        ensures tokens { self.new.tokens.items ≡ [] }
+        ensures inner { self.new.inner.items ≡ [] }
+    {
+        self.items.clear();
+        self.tokens.clear();
+        self.inner.clear();
+    }
+}
+
+/// Puts the atomic phrases, which go from the last to the first, in the place of those before.
+fn split(sequence: &mut Sequence, atoms: Vec<Atom>) -> Result<(), Memory>
+    ensures items { OnOk result (AreItems sequence.new.items.items (atoms_of atoms)) }
+    ensures tokens { OnOk result (sequence.new.tokens.items ≡ map (λ (a : founds.Atom). a.token) (atoms_of atoms)) }
+    ensures inner { OnOk result (map name_of sequence.new.inner.items ≡ first_inner (atoms_of atoms)) }
 {
-    let mut items = Vec::new(alloc);
-    let mut tokens = Vec::new(alloc);
+    sequence.clear();
     let mut atoms = atoms;
     let Some(first) = atoms.pop() else {
-        return Ok(Sequence {
-            items,
-            tokens,
-            inner: Vec::new(alloc),
-        });
+        return Ok(());
     };
-    items.push(first.item)?;
-    tokens.push(first.token)?;
+    sequence.items.push(first.item)?;
+    sequence.tokens.push(first.token)?;
+    sequence.inner = first.inner;
     while let Some(atom) = atoms.pop() {
-        items.push(atom.item)?;
-        tokens.push(atom.token)?;
+        sequence.items.push(atom.item)?;
+        sequence.tokens.push(atom.token)?;
     }
-    Ok(Sequence {
-        items,
-        tokens,
-        inner: first.inner,
-    })
+    Ok(())
 }
 
 /// The identifiers among atomic phrases that go from the last to the first.
@@ -251,14 +263,19 @@ impl Reach {
     }
 
     /// What a sequence of atomic expressions comes to.
-    fn of_expression(&self, alloc: Global, atoms: Vec<Atom>) -> Result<Outcome, Memory>
+    fn of_expression(
+        &self,
+        alloc: Global,
+        sequence: &mut Sequence,
+        atoms: Vec<Atom>,
+    ) -> Result<Outcome, Memory>
         ensures empty { atoms_of atoms ≡ [] → IfOk result (λ o. outcome_of o ≡ idle) }
         ensures some { 0 < length (atoms_of atoms) → IfOk result (λ o. spec.IsExpression (state_of self.now) (atoms_of atoms) (outcome_of o)) }
     {
         if self.is_operand(&atoms) {
             return Ok(alone(&atoms));
         }
-        let sequence = split(alloc, atoms)?;
+        split(sequence, atoms)?;
         if sequence.items.is_empty() {
             return Ok(Outcome::Idle);
         }
@@ -269,7 +286,13 @@ impl Reach {
     }
 
     /// What a sequence of one atomic expression comes to.
-    fn of_one_expression(&self, alloc: Global, item: Item, token: usize) -> Result<Outcome, Memory>
+    fn of_one_expression(
+        &self,
+        alloc: Global,
+        sequence: &mut Sequence,
+        item: Item,
+        token: usize,
+    ) -> Result<Outcome, Memory>
         ensures { IfOk result (λ o. spec.IsExpression (state_of self.now) (atom (name_of item) token [] ∷ []) (outcome_of o)) }
     {
         if self.is_atom(&item) {
@@ -277,11 +300,17 @@ impl Reach {
             return Ok(Outcome::Stands(Fit { token, shape }));
         }
         let atoms = one_atom(alloc, item, token)?;
-        self.of_expression(alloc, atoms)
+        self.of_expression(alloc, sequence, atoms)
     }
 
     /// What a sequence of one atomic pattern comes to.
-    fn of_one_pattern(&self, alloc: Global, item: Item, token: usize) -> Result<Outcome, Memory>
+    fn of_one_pattern(
+        &self,
+        alloc: Global,
+        sequence: &mut Sequence,
+        item: Item,
+        token: usize,
+    ) -> Result<Outcome, Memory>
         ensures { IfOk result (λ o. spec.IsPattern (state_of self.now) (atom (name_of item) token [] ∷ []) (outcome_of o)) }
     {
         if self.is_atom(&item) {
@@ -289,18 +318,23 @@ impl Reach {
             return Ok(Outcome::Stands(Fit { token, shape }));
         }
         let atoms = one_atom(alloc, item, token)?;
-        self.of_pattern(alloc, atoms)
+        self.of_pattern(alloc, sequence, atoms)
     }
 
     /// What a sequence of atomic patterns comes to.
-    fn of_pattern(&self, alloc: Global, atoms: Vec<Atom>) -> Result<Outcome, Memory>
+    fn of_pattern(
+        &self,
+        alloc: Global,
+        sequence: &mut Sequence,
+        atoms: Vec<Atom>,
+    ) -> Result<Outcome, Memory>
         ensures empty { atoms_of atoms ≡ [] → IfOk result (λ o. outcome_of o ≡ idle) }
         ensures some { 0 < length (atoms_of atoms) → IfOk result (λ o. spec.IsPattern (state_of self.now) (atoms_of atoms) (outcome_of o)) }
     {
         if self.is_operand(&atoms) {
             return Ok(alone(&atoms));
         }
-        let sequence = split(alloc, atoms)?;
+        split(sequence, atoms)?;
         if sequence.items.is_empty() {
             return Ok(Outcome::Idle);
         }
@@ -311,10 +345,10 @@ impl Reach {
     }
 
     /// What the head of a clause comes to.
-    fn of_head(&self, alloc: Global, atoms: Vec<Atom>) -> Result<Outcome, Memory>
+    fn of_head(&self, sequence: &mut Sequence, atoms: Vec<Atom>) -> Result<Outcome, Memory>
         ensures { IfOk result (λ o. spec.IsClauseHead (state_of self.now) (atoms_of atoms) (outcome_of o)) }
     {
-        let sequence = split(alloc, atoms)?;
+        split(sequence, atoms)?;
         match clause_head(&self.fixities, &sequence.items, &sequence.inner) {
             Ok(head) => Ok(stands(&sequence.tokens, Shape::Head(head))),
             Err(fault) => Ok(Outcome::Fails(self.misfit_of(&sequence.tokens, fault)?)),
@@ -350,6 +384,7 @@ impl Reach {
         alloc: Global,
         unit: &[u8],
         tokens: &[Token],
+        sequence: &mut Sequence,
         event: Event,
     ) -> Result<Outcome, Memory>
         requires { self.now.count < 2 ^ 64 - 1 }
@@ -379,11 +414,13 @@ impl Reach {
                 let bytes = level_bytes(unit, tokens, level);
                 self.direct(alloc, directive, bytes, level, atoms)
             }
-            Event::OneExpression(item, token) => self.of_one_expression(alloc, item, token),
-            Event::OnePattern(item, token) => self.of_one_pattern(alloc, item, token),
-            Event::Expression(atoms) => self.of_expression(alloc, atoms),
-            Event::Pattern(atoms) => self.of_pattern(alloc, atoms),
-            Event::Head(atoms) => self.of_head(alloc, atoms),
+            Event::OneExpression(item, token) => self.of_one_expression(
+                alloc, sequence, item, token,
+            ),
+            Event::OnePattern(item, token) => self.of_one_pattern(alloc, sequence, item, token),
+            Event::Expression(atoms) => self.of_expression(alloc, sequence, atoms),
+            Event::Pattern(atoms) => self.of_pattern(alloc, sequence, atoms),
+            Event::Head(atoms) => self.of_head(sequence, atoms),
         }
     }
 }
@@ -527,9 +564,10 @@ fn gather(
 {
     let mut reach = Reach::new(alloc)?;
     let mut gathered = Gathered::new(alloc);
+    let mut sequence = Sequence::new(alloc);
     let mut events = events;
     while let Some(event) = next(&mut events) {
-        let outcome = reach.happen(alloc, unit, tokens, event)?;
+        let outcome = reach.happen(alloc, unit, tokens, &mut sequence, event)?;
         gathered.add(alloc, outcome)?;
     }
     Ok(gathered)

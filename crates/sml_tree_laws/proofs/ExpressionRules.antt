@@ -14,7 +14,7 @@ use Rattle.sml_tree_laws.proofs.Parts.{scopes}
 use Rattle.sml_lex.specs.declared.fault.Place.{Place}
 use Rattle.sml_tree.specs.Trees.{Id}
 use Rattle.sml_read.specs.declared.grammar.Rule.TheVariants as G
-use Rattle.sml_phrases.specs.Phrases.{Phrase, of_series, of_rest, at, ty_in, tys_in, exp_in, exps_in, exp_if_any, rules_if_any}
+use Rattle.sml_phrases.specs.Phrases.{Phrase, nothing, of_exp, of_series, of_rest, at, ty_in, tys_in, exp_in, exps_in, exp_if_any, rules_if_any}
 use Rattle.sml_tree_laws.proofs.Sits.{TySits, ExpSits, ExpsSit}
 use Rattle.sml_tree_laws.proofs.Phrases.{PhraseSits, ExpSitsIfAny, RulesSitIfAny, ty_sits, tys_sit, pat_sits, exp_sits, exps_sit, exp_sits_if_any, fields_sit, rules_sit, rules_sit_if_any, decs_sit}
 use Rattle.sml_tree_laws.proofs.Parts.{PartsSit}
@@ -62,10 +62,12 @@ module _ (L V R : Id → Type 0) where
   tuple_sits p (and_exp e (and_exp f es)) h = h
 
   round_sits : (p : Place) (v : Phrase) → PhraseSits L V R v → ExpSits R V (round_of p v)
+  round_sits p (of_exp e) h = h
   round_sits p (of_series es) h = series_sits p es h
   round_sits p v h = tuple_sits p (exps_in v) (exps_sit L V R v h)
 
   round_parts_sit : (e : Exp Place) (v : Phrase) → ExpSits R V e → PhraseSits L V R v → PhraseSits L V R (round_parts e v)
+  round_parts_sit e nothing h k = h
   round_parts_sit e (of_series es) h k = (h, k)
   round_parts_sit e v h k = (h, exps_sit L V R v k)
 

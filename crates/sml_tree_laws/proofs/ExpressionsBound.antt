@@ -8,7 +8,7 @@ use Rattle.sml_lex.specs.declared.fault.Place.{Place}
 use Rattle.sml_tree.specs.Trees.{Id}
 use Rattle.sml_tree.specs.Names.{Name}
 use Rattle.sml_read.specs.declared.grammar.Rule.TheVariants as G
-use Rattle.sml_phrases.specs.Phrases.{Phrase, of_series, of_rest, at, name_in, ty_in, tys_in, exp_in, exps_in, fields_in, exp_if_any, rules_if_any}
+use Rattle.sml_phrases.specs.Phrases.{Phrase, nothing, of_exp, of_series, of_rest, at, name_in, ty_in, tys_in, exp_in, exps_in, fields_in, exp_if_any, rules_if_any}
 use Rattle.sml_flaws.specs.declared.role.Space.{Space}
 use Rattle.sml_flaws.specs.declared.role.Space.TheVariants as S
 use Rattle.sml_tree_laws.specs.WellBound.{AreDistinct, TyBound, TysBound, labels, ExpBound, ExpsBound}
@@ -117,10 +117,12 @@ alone x = ((λ s. s), tt)
 
 module _ (B : Space → ℕ → ℕ → Id → Type 0) (apart : (sp : Space) (g t u : ℕ) (x : Id) → t < u → B sp g t x → B sp g u x → ⊥) where
   round_bound : (g lo hi : ℕ) (p : Place) (v : Phrase) → PhraseBound B plain g lo hi v → ExpBound (round_of p v)
+  round_bound g lo hi p (of_exp e) h = h
   round_bound g lo hi p (of_series es) h = series_bound p es h
   round_bound g lo hi p v h = tuple_bound p (exps_in v) (exps_bound B plain g lo hi v h)
 
   round_parts_bound : (g lo hi lo' hi' : ℕ) (e : Exp Place) (v : Phrase) → ExpBound e → PhraseBound B plain g lo hi v → PhraseBound B plain g lo' hi' (round_parts e v)
+  round_parts_bound g lo hi lo' hi' e nothing h k = h
   round_parts_bound g lo hi lo' hi' e (of_series es) h k = (h, k)
   round_parts_bound g lo hi lo' hi' e v h k = (h, exps_bound B plain g lo hi v k)
 

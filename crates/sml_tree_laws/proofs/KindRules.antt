@@ -83,7 +83,8 @@ made_exception x (of_long a0) h = refl
 made_exception x (of_ty a0) h = refl
 made_exception x _ h = absurd (false≢true h)
 
-made_round : (e : Exp Place) (v : Phrase) → (is_exps v || is_series v) ≡ true → (is_exps (E.round_parts e v) || is_series (E.round_parts e v)) ≡ true
+made_round : (e : Exp Place) (v : Phrase) → (is_nothing v || (is_exps v || is_series v)) ≡ true → (is_exp (E.round_parts e v) || (is_exps (E.round_parts e v) || is_series (E.round_parts e v))) ≡ true
+made_round e nothing h = refl
 made_round e (of_exps a0) h = refl
 made_round e (of_series a0) h = refl
 made_round e _ h = absurd (false≢true h)

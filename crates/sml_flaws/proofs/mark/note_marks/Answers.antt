@@ -3,7 +3,7 @@ use Rattle.std.specs.List.{cons_option}
 use Rattle.sml_read.specs.declared.grammar.Node.TheVariants.{Leaf}
 use Rattle.sml_flaws.specs.CodeContexts.{contexts_of}
 use Rattle.sml_flaws.proofs.Marking.{mark_on, marks_end, one_token}
-use Rattle.sml_flaws.proofs.mark.marks.Goals as goal
+use Rattle.sml_flaws.proofs.mark.note_marks.Goals as goal
 
 pub returns-then-not-take : goal.returns-then-not-take
 returns-then-not-take c = marks_end _ _ _ _ _ _ c.loop-i.invariant.kept (c.take.ensures.none c.if-not-take.true)

@@ -2,7 +2,7 @@
 use Rattle.std.proofs.Common.{◌≤◌, map, drop, length}
 use Rattle.sml_reach.specs.Fits.{fit_of}
 use Rattle.sml_bare.specs.CodeSources.{KnowsFits}
-use Rattle.sml_bare.proofs.source.by_token.Given as goal
+use Rattle.sml_bare.proofs.source.number.Given as goal
 
 abbrev pub invariant-loop-i : goal.invariant-loop-i
 invariant-loop-i l = record {

@@ -2,7 +2,7 @@
 use Rattle.std.proofs.Common.{◌≤◌, map, drop, length}
 use Rattle.sml_reach.specs.Fits.{fit_of}
 use Rattle.sml_flaws.specs.Known.{KnowsHeads}
-use Rattle.sml_flaws.proofs.known.heads_of.Given as goal
+use Rattle.sml_flaws.proofs.known.note_heads.Given as goal
 
 abbrev pub invariant-loop-i : goal.invariant-loop-i
 invariant-loop-i l = record {

@@ -4,14 +4,14 @@ use Rattle.sml_reach.specs.Places.{start_of}
 use Rattle.sml_reach.specs.Places.{place_from}
 use Rattle.sml_bare.specs.CodeSources.{ArePlaced}
 use Rattle.sml_bare.proofs.Sourcing.{placed_on, none_placed}
-use Rattle.sml_bare.proofs.source.places.Goals as goal
+use Rattle.sml_bare.proofs.source.find_places.Goals as goal
 
 pub loop-n-init : goal.loop-n-init
 loop-n-init c = record {
   sound = c.new-walk.ensures.sound c.args.unit.now;
   start = c.new-walk.ensures.start ∙ c.start_of.ensures;
-  kept = subst (ArePlaced c.args.unit.now c.args.tokens.now) (sym (c.reserve.ensures.items ∙ c.new-places.ensures.items)) (none_placed c.args.unit.now c.args.tokens.now);
-  count = ap length (c.reserve.ensures.items ∙ c.new-places.ensures.items);
+  kept = subst (ArePlaced c.args.unit.now c.args.tokens.now) (sym (c.reserve.ensures.items ∙ c.clear.ensures.items)) (none_placed c.args.unit.now c.args.tokens.now);
+  count = ap length (c.reserve.ensures.items ∙ c.clear.ensures.items);
 }
 
 pub loop-n-preserved : goal.loop-n-preserved

@@ -3,7 +3,7 @@ use Rattle.std.proofs.Common.{◌≡◌, length}
 use Rattle.sml_reach.specs.Places.{start_of}
 use Rattle.sml_reach.specs.Places.{IsOnWay}
 use Rattle.sml_bare.specs.CodeSources.{ArePlaced}
-use Rattle.sml_bare.proofs.source.places.Given as goal
+use Rattle.sml_bare.proofs.source.find_places.Given as goal
 
 abbrev pub invariant-loop-n : goal.invariant-loop-n
 invariant-loop-n l = record {

@@ -2,7 +2,7 @@
 use Rattle.std.proofs.Common.{◌≡◌, ◌+◌, ◌++◌, ◌≤◌, [], ◌∷◌, drop}
 use Rattle.sml_flaws.specs.Marks.{start, marks_of}
 use Rattle.sml_flaws.specs.CodeContexts.{contexts_of}
-use Rattle.sml_flaws.proofs.mark.marks.Given as goal
+use Rattle.sml_flaws.proofs.mark.note_marks.Given as goal
 
 abbrev pub invariant-loop-i : goal.invariant-loop-i
 invariant-loop-i l = record {

@@ -2,7 +2,7 @@
 use Rattle.std.specs.Prelude.{◌≡◌, List, false, Option, Some, None}
 use Rattle.std.proofs.Common.{refl}
 use Rattle.std.proofs.lemmas.Bool.{true≢false}
-use Rattle.sml_tree.specs.Types.{Ty, no_ty, and_ty}
+use Rattle.sml_tree.specs.Types.{Ty, no_ty}
 use Rattle.sml_tree.specs.Expressions.{Exp, Exps, Rules, no_exp, and_exp}
 use Rattle.sml_fixity.specs.Shapes.{Shape}
 use Rattle.sml_read.specs.declared.grammar.ExpressionRule.{ExpressionRule}
@@ -14,7 +14,7 @@ use Rattle.sml_tree_laws.proofs.Parts.{scopes}
 use Rattle.sml_lex.specs.declared.fault.Place.{Place}
 use Rattle.sml_tree.specs.Trees.{Id}
 use Rattle.sml_read.specs.declared.grammar.Rule.TheVariants as G
-use Rattle.sml_phrases.specs.Phrases.{Phrase, nothing, of_exp, of_series, of_rest, at, ty_in, tys_in, exp_in, exps_in, exp_if_any, rules_if_any}
+use Rattle.sml_phrases.specs.Phrases.{Phrase, nothing, of_exp, of_series, of_rest, at, ty_in, tys_in, exp_in, exps_in, exp_if_any}
 use Rattle.sml_tree_laws.proofs.Sits.{TySits, ExpSits, ExpsSit}
 use Rattle.sml_tree_laws.proofs.Phrases.{PhraseSits, ExpSitsIfAny, RulesSitIfAny, ty_sits, tys_sit, pat_sits, exp_sits, exps_sit, exp_sits_if_any, fields_sit, rules_sit, rules_sit_if_any, decs_sit}
 use Rattle.sml_tree_laws.proofs.Parts.{PartsSit}

@@ -8,7 +8,7 @@ use Rattle.sml_lex.specs.declared.fault.Place.{Place}
 use Rattle.sml_tree.specs.Trees.{Id}
 use Rattle.sml_tree.specs.Names.{Name}
 use Rattle.sml_read.specs.declared.grammar.Rule.TheVariants as G
-use Rattle.sml_phrases.specs.Phrases.{Phrase, nothing, of_exp, of_series, of_rest, at, name_in, ty_in, tys_in, exp_in, exps_in, fields_in, exp_if_any, rules_if_any}
+use Rattle.sml_phrases.specs.Phrases.{Phrase, nothing, of_exp, of_series, of_rest, at, name_in, ty_in, tys_in, exp_in, exps_in, fields_in, exp_if_any}
 use Rattle.sml_flaws.specs.declared.role.Space.{Space}
 use Rattle.sml_flaws.specs.declared.role.Space.TheVariants as S
 use Rattle.sml_tree_laws.specs.WellBound.{AreDistinct, TyBound, TysBound, labels, ExpBound, ExpsBound}

@@ -50,7 +50,7 @@ use Rattle.sml_bare_exps.specs.ExpressionRules.{expression_phrase}
 use Rattle.sml_bare_pats.specs.PatternRules.{pattern_phrase}
 use Rattle.sml_bare_pats.specs.TypeRules.{type_phrase}
 use Rattle.sml_bare.specs.RulePhrases.{rule_phrase}
-use Rattle.sml_tree_laws.specs.Kinds.{is_of_part, AreOf, is_arguments, is_atoms, is_begun_fun_bind, is_begun_functor, is_con_bind, is_constructors, is_copy, is_datatypes, is_exps, is_functions, is_functor_argument, is_layer, is_long, is_longs, is_names, is_nothing, is_op_atoms, is_op_layer, is_round_functions, is_round_values, is_series, is_shared_types, is_sig, is_some_typ_binds, is_specs, is_ty, is_typ_descs, is_type_rest, is_tys, is_values, is_wheres}
+use Rattle.sml_tree_laws.specs.Kinds.{is_exp, is_of_part, AreOf, is_arguments, is_atoms, is_begun_fun_bind, is_begun_functor, is_con_bind, is_constructors, is_copy, is_datatypes, is_exps, is_functions, is_functor_argument, is_layer, is_long, is_longs, is_names, is_nothing, is_op_atoms, is_op_layer, is_round_functions, is_round_values, is_series, is_shared_types, is_sig, is_some_typ_binds, is_specs, is_ty, is_typ_descs, is_type_rest, is_tys, is_values, is_wheres}
 
 left_so : (a b : Bool) → a ≡ true → (a || b) ≡ true
 left_so true b h = refl

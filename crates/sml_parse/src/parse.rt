@@ -19,7 +19,6 @@ use sml_flaws::flawed::{first_flawed, or_else};
 use sml_lex::fault::{Code, FIRST, Fault, Memory};
 use sml_lex::token::{End, Lexed};
 use sml_piece_trees::pieces::pieces;
-use sml_reach::event::events;
 use sml_reach::fitted::Fitted;
 use sml_reach::names::Names;
 use sml_reach::place::{place_between, start_of};
@@ -117,8 +116,7 @@ fn fitted(
     ensures { IfOk result (λ r. AreFitted (text_at lexed.now.unit.now lexed.now.tokens.items)
         (events_of lexed.now.unit.now lexed.now.tokens.items nodes.now (starts_of 0 nodes.now)) (map fitted_of r.0.items) r.1) }
 {
-    let events = events(alloc, lexed.unit, names, nodes, &lexed.tokens)?;
-    fit(alloc, lexed.unit, &lexed.tokens, events)
+    fit(alloc, lexed.unit, names, nodes, &lexed.tokens)
 }
 
 /// The declarations before the one with a fault, up to the first that is too high, and whether none is.

@@ -4,7 +4,6 @@ use sml_flaws::flaw::{Flaw, Workspace, first_flaw};
 use sml_lex::fault::Memory;
 use sml_lex::lexer::lex;
 use sml_lex::token::Lexed;
-use sml_reach::event::events;
 use sml_reach::fitted::Fitted;
 use sml_reach::names::Names;
 use sml_reach::place::place_between;
@@ -31,8 +30,7 @@ fn add_flaw(text: &mut String, lexed: &Lexed, flaw: Flaw) -> Result<(), Memory> 
 /// The declarations of a unit, with what their sequences stand for.
 fn fitted(alloc: Global, lexed: &Lexed, nodes: &[Node]) -> Result<Vec<Fitted>, Memory> {
     let mut names = Names::new(alloc);
-    let events = events(alloc, lexed.unit, &mut names, nodes, &lexed.tokens)?;
-    let (declarations, _misfit) = fit(alloc, lexed.unit, &lexed.tokens, events)?;
+    let (declarations, _misfit) = fit(alloc, lexed.unit, &mut names, nodes, &lexed.tokens)?;
     Ok(declarations)
 }
 

@@ -10,7 +10,7 @@ ghost use Rattle.sml_tree.specs.ExpressionViews.{exn_bind_of, exp_of, exps_of, f
 ghost use Rattle.sml_tree.specs.SignatureViews.{val_desc_of, typ_desc_of, sig_of, spec_of, specs_of};
 ghost use Rattle.sml_tree.specs.StructureViews.{str_of, str_dec_of, str_decs_of, top_of};
 ghost use Rattle.sml_tree.specs.Clauses.{clause_of};
-ghost use Rattle.sml_phrases.specs.Phrases.{at, of_exp, first, nothing, place_in, ty_if_any, pat_if_any, exp_if_any, rules_if_any, bind_in, binds_in, clauses_in, con_binds_in, constant_in, dec_in, decs_in, exn_binds_in, exp_in, exps_in, fields_in, long_in, longs_in, name_in, names_in, numeral, pat_in, pats_in, rules_in, sig_in, specs_in, str_dec_in, str_decs_in, str_in, top_in, ty_fields_in, ty_in, typ_binds_in, typ_descs_in, tys_in, val_descs_in, wheres_in};
+ghost use Rattle.sml_phrases.specs.Phrases.{at, is_alone, is_exp, is_nothing, of_exp, first, nothing, place_in, ty_if_any, pat_if_any, exp_if_any, rules_if_any, bind_in, binds_in, clauses_in, con_binds_in, constant_in, dec_in, decs_in, exn_binds_in, exp_in, exps_in, fields_in, long_in, longs_in, name_in, names_in, numeral, pat_in, pats_in, rules_in, sig_in, specs_in, str_dec_in, str_decs_in, str_in, top_in, ty_fields_in, ty_in, typ_binds_in, typ_descs_in, tys_in, val_descs_in, wheres_in};
 ghost use Rattle.sml_phrases.specs.PhraseViews.{low_where_of, phrase_of, seen};
 
 use crate::low::{
@@ -33,21 +33,38 @@ use sml_tree::types::Ty;
 use std::alloc::Global;
 use std::rc::Rc;
 
+fn is_exp(phrase: &Phrase) -> bool
+    ensures said { result ≡ is_exp (phrase_of phrase.now) }
+    ensures exp { result ≡ true → phrase_of phrase.now ≡ of_exp (exp_in (phrase_of phrase.now)) }
+{
+    match phrase {
+        Phrase::Expressions(ExpressionPhrase::Exp(_)) => true,
+        _ => false,
+    }
+}
+
+fn is_nothing(phrase: &Phrase) -> bool
+    ensures said { result ≡ is_nothing (phrase_of phrase.now) }
+    ensures nothing { result ≡ true → phrase_of phrase.now ≡ nothing }
+{
+    match phrase {
+        Phrase::Nothing => true,
+        _ => false,
+    }
+}
+
 /// Whether the last phrase is an expression, and the one before it nothing.
 fn is_alone(phrases: &[Phrase]) -> bool
-    ensures { result ≡ true → (let vs = map phrase_of (reverse phrases.now) in
+    ensures said { result ≡ is_alone (map phrase_of (reverse phrases.now)) }
+    ensures alone { result ≡ true → (let vs = map phrase_of (reverse phrases.now) in
         (first vs ≡ of_exp (exp_in (first vs))) × (at vs 1 ≡ nothing) × (1 < length phrases.now)) }
 {
     let Some((last, before)) = phrases.split_last() else {
         return false;
     };
-    match last {
-        Phrase::Expressions(ExpressionPhrase::Exp(_)) => {}
-        _ => return false,
-    }
     match before.last() {
-        Some(Phrase::Nothing) => true,
-        _ => false,
+        Some(below) => is_exp(last) && is_nothing(below),
+        None => false,
     }
 }
 
@@ -117,6 +134,7 @@ impl Stack {
 
     /// Where an expression stands on top and nothing below it, takes the nothing off, and says whether it did.
     pub fn leave_exp(&mut self) -> bool
+        ensures said { result ≡ is_alone (seen self.old) }
         ensures taken { result ≡ true → (at (seen self.old) 1 ≡ nothing) × (seen self.new ≡ of_exp (exp_in (first (seen self.old))) ∷ drop 2 (seen self.old)) }
         ensures kept { result ≡ false → seen self.new ≡ seen self.old }
     {

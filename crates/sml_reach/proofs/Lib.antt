@@ -3,6 +3,7 @@ mod Ways
 mod Parts
 mod Reaching
 mod Gathering
+mod Keeping
 pub mod Parting
 pub mod Somes
 pub mod UpTo

@@ -5,11 +5,9 @@ use Rattle.std.proofs.lemmas.List.{get_or-take, get_or-drop, drop-drop, drop_mor
 use Rattle.sml_read.specs.declared.grammar.Node.{Node}
 use Rattle.sml_read.specs.declared.grammar.Node.TheVariants.{Leaf, Inner}
 use Rattle.sml_read.specs.Extents.{starts_of}
-use Rattle.std.specs.List.{cons_option}
-use Rattle.sml_lex.specs.declared.token.Token.{Token}
 use Rattle.sml_tree.specs.Trees.{Id}
 use Rattle.sml_reach.specs.Founds.{Found}
-use Rattle.sml_reach.specs.Events.{Event, text_at, founds_from, founds_of, event_from, events_of}
+use Rattle.sml_reach.specs.Events.{founds_from, founds_of}
 
 pub part_is : {A : Type 0} (old vs : List A) (count index : ℕ) (d : A) → index < count → old ≡ drop (min index count) vs → get_or old 0 d ≡ get_or (take count vs) index d
 part_is old vs count index d within e =
@@ -37,6 +35,3 @@ one_before xs i d x some within e =
 
 pub founds_on : (text : ℕ → Id) (nodes more : List Node) (starts later : List ℕ) (node : Node) (n : ℕ) (new old : List Found) → nodes ≡ node ∷ more → starts ≡ n ∷ later → new ≡ founds_from text node n old → old ≡ founds_of text more later → new ≡ founds_of text nodes starts
 founds_on text nodes more starts later node n new old a b e h = e ∙ ap (founds_from text node n) h ∙ ap (λ ns. founds_of text (node ∷ more) ns) (sym b) ∙ ap (λ ns. founds_of text ns starts) (sym a)
-
-pub events_on : (unit : List ℕ) (tokens : List Token) (nodes more : List Node) (starts later : List ℕ) (node : Node) (n : ℕ) (new old : List Event) (founds : List Found) → nodes ≡ node ∷ more → starts ≡ n ∷ later → new ≡ cons_option (event_from unit tokens node n founds) old → founds ≡ founds_of (text_at unit tokens) more later → old ≡ events_of unit tokens more later → new ≡ events_of unit tokens nodes starts
-events_on unit tokens nodes more starts later node n new old founds a b e f h = e ∙ ap (λ fs. cons_option (event_from unit tokens node n fs) old) f ∙ ap (λ es. cons_option (event_from unit tokens node n (founds_of (text_at unit tokens) more later)) es) h ∙ ap (λ ns. events_of unit tokens (node ∷ more) ns) (sym b) ∙ ap (λ ns. events_of unit tokens ns starts) (sym a)

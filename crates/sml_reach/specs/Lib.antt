@@ -8,3 +8,4 @@ pub mod Events
 pub mod Laws
 pub mod CodeAlone
 pub mod CodeGathered
+pub mod CodeKept

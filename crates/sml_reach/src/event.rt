@@ -1,7 +1,7 @@
 //! What happens to fixities, and which sequences stand where.
 
 ghost use Rattle.std.specs.Prelude.{◌≡◌, ◌+◌, true, false, [], ◌∷◌, List, Some, min, map, reverse, take, drop, length, get_or, if◌then◌else◌, slice_get, IfOk, OnOk};
-ghost use Rattle.std.specs.List.{cons_option};
+ghost use Rattle.std.specs.List.{cons_option, list_any};
 ghost use Rattle.std.specs.Option.{option_map};
 ghost use Rattle.sml_read.specs.Grammar.{right_side};
 ghost use Rattle.sml_read.specs.Extents.{starts_of};
@@ -11,6 +11,7 @@ ghost use Rattle.sml_reach.specs.Founds as spec;
 ghost use Rattle.sml_fixity.specs.ItemNames.{name_of, short, phrase};
 ghost use Rattle.sml_reach.specs.Founds.{atom, one, word, several, within, atom_of, atoms_of, found_by, found_of, nothing, sequence_in, untyped, left};
 ghost use Rattle.sml_reach.specs.Events.{seen, expression, pattern, head, text_at, found_at, founds_from, scope_event, event_of, event_from, events_of};
+ghost use Rattle.sml_reach.specs.CodeKept.{kept, directs, AreKept};
 
 use crate::found::{Atom, Finder, Found, Parts, atom_in, atoms_in, before, joined};
 use crate::names::Names;
@@ -19,7 +20,7 @@ use sml_fixity::scopes::Directive;
 use sml_fixity::sequences::Item;
 use sml_lex::fault::Memory;
 use sml_lex::token::Token;
-use sml_read::grammar::{Node, Rule};
+use sml_read::grammar::{DeclarationRule, Node, Rule};
 use sml_read::phrases::{first_token, token_count};
 use sml_read::table::backwards;
 use std::alloc::Global;
@@ -309,19 +310,28 @@ fn put_scope(events: &mut Vec<Event>, token: Token) -> Result<(), Memory>
     Ok(())
 }
 
-/// A token goes before what is found behind it, and what it does to scopes before the events there.
-fn enter_token(
-    tokens: &[Token],
-    founds: &mut Vec<Found>,
-    events: &mut Vec<Event>,
-    token: usize,
-) -> Result<(), Memory>
-    ensures founds { OnOk result (map found_of (reverse founds.new.items) ≡ word token ∷ map found_of (reverse founds.old.items)) }
-    ensures events { OnOk result (map seen (reverse events.new.items) ≡
-        cons_option (scope_event (slice_get tokens.now token)) (map seen (reverse events.old.items))) }
+/// A token goes before what is found behind it.
+fn enter_word(founds: &mut Vec<Found>, token: usize) -> Result<(), Memory>
+    ensures { OnOk result (map found_of (reverse founds.new.items) ≡ word token ∷ map found_of (reverse founds.old.items)) }
 {
     founds.reserve(1)?;
     founds.push_reserved(Found::Word(token));
+    Ok(())
+}
+
+/// What the token with this number does to scopes goes before the events behind it, if scopes are looked for.
+fn enter_scope(
+    tokens: &[Token],
+    events: &mut Vec<Event>,
+    scoped: bool,
+    token: usize,
+) -> Result<(), Memory>
+    ensures { OnOk result (map seen (reverse events.new.items) ≡
+        cons_option (kept scoped (scope_event (slice_get tokens.now token))) (map seen (reverse events.old.items))) }
+{
+    if !scoped {
+        return Ok(());
+    }
     match tokens.get(token) {
         Some(token) => put_scope(events, *token),
         None => Ok(()),
@@ -592,6 +602,7 @@ fn at_node(
     names: &mut Names,
     founds: &mut Vec<Found>,
     events: &mut Vec<Event>,
+    scoped: bool,
     node: Node,
     token: usize,
 ) -> Result<(), Memory>
@@ -600,15 +611,46 @@ fn at_node(
         OnOk result (map found_of (reverse founds.new.items) ≡ founds_from text node token old) }
     ensures events { let old = map found_of (reverse founds.old.items) in
         OnOk result (map seen (reverse events.new.items) ≡
-        cons_option (event_from finder.now.unit.now finder.now.tokens.now node token old) (map seen (reverse events.old.items))) }
+        cons_option (kept scoped (event_from finder.now.unit.now finder.now.tokens.now node token old)) (map seen (reverse events.old.items))) }
 {
     match node {
-        Node::Leaf => enter_token(finder.tokens, founds, events, token),
+        Node::Leaf => {
+            enter_word(founds, token)?;
+            enter_scope(finder.tokens, events, scoped, token)
+        }
         Node::Inner(rule) => enter_phrase(finder, names, founds, events, rule, token),
     }
 }
 
-/// The events of a unit's derivation, from the last to the first.
+/// Whether a directive is read where this node stands.
+fn directs(node: Node) -> bool
+    ensures { result ≡ directs node }
+{
+    match node {
+        Node::Inner(
+            Rule::Declarations(
+                DeclarationRule::CoreDecInfix
+                | DeclarationRule::CoreDecInfixr
+                | DeclarationRule::CoreDecNonfix,
+            ),
+        ) => true,
+        _ => false,
+    }
+}
+
+/// Whether a directive is read at one of these nodes.
+fn has_directive(nodes: &[Node]) -> bool
+    ensures { result ≡ list_any directs nodes.now }
+{
+    for i in (0..nodes.len()).rev() {
+        if directs(nodes[i]) {
+            return true;
+        }
+    }
+    false
+}
+
+/// The events of a unit's derivation, from the last to the first. Scopes are looked for only if there is a directive.
 pub fn events(
     alloc: Global,
     unit: &[u8],
@@ -616,20 +658,29 @@ pub fn events(
     nodes: &[Node],
     tokens: &[Token],
 ) -> Result<Vec<Event>, Memory>
-    ensures { IfOk result (λ events. map seen (reverse events.items) ≡ events_of unit.now tokens.now nodes.now (starts_of 0 nodes.now)) }
+    ensures { IfOk result (λ events. AreKept (map seen (reverse events.items)) (events_of unit.now tokens.now nodes.now (starts_of 0 nodes.now))) }
 {
     let finder = Finder {
         alloc,
         unit,
         tokens,
     };
+    let scoped = has_directive(nodes);
     let mut token = token_count(nodes);
     let mut founds = Vec::new(alloc);
     let mut events = Vec::new(alloc);
     for i in (0..nodes.len()).rev() {
         let node = nodes[i];
         token = first_token(node, token);
-        at_node(&finder, names, &mut founds, &mut events, node, token)?;
+        at_node(
+            &finder,
+            names,
+            &mut founds,
+            &mut events,
+            scoped,
+            node,
+            token,
+        )?;
     }
     Ok(events)
 }

@@ -3,11 +3,14 @@
 ghost use Rattle.std.specs.Prelude.{◌≡◌, ℕ, None, true, ◌<◌, ◌≤◌, ◌+◌, ◌-◌, ◌^◌, List, [], ◌∷◌, ◌++◌, map, reverse, length, get_or, IfOk, IfSome, OnOk};
 ghost use Rattle.std.specs.Option.{MatchOption};
 ghost use Rattle.sml_tree.specs.Trees.{Id};
+ghost use Rattle.sml_read.specs.Extents.{starts_of};
 ghost use Rattle.sml_tree.specs.Views.{ident_of};
 ghost use Rattle.sml_reach.specs.Founds as founds;
 ghost use Rattle.sml_fixity.specs.ItemNames.{name_of};
 ghost use Rattle.sml_reach.specs.Founds.{atom, atoms_of};
-ghost use Rattle.sml_reach.specs.Events.{seen, text_at, directs};
+ghost use Rattle.sml_reach.specs.Events as happened;
+ghost use Rattle.sml_reach.specs.Events.{seen, text_at, directs, events_of};
+ghost use Rattle.sml_reach.specs.CodeKept.{AreKept};
 ghost use Rattle.sml_reach.specs.Reach as spec;
 ghost use Rattle.sml_fixity.specs.declared.sequences.Step.TheVariants.{Push};
 ghost use Rattle.sml_fixity.specs.Shapes.{shape_of, tree};
@@ -18,9 +21,10 @@ ghost use Rattle.sml_reach.specs.Fits as shapes;
 ghost use Rattle.sml_reach.specs.Fits.{fit_of, fitted_of};
 ghost use Rattle.sml_reach.specs.Reach.{state_of, start, AreItems, first_inner, ids_of, level_text, level_token, misfit_of, idle, fit_at, outcome_of, Happens, declarations_in, first_misfit, before_misfit, up_to, AreFitted};
 
-use crate::event::{Directed, Event};
+use crate::event::{Directed, Event, events};
 use crate::fitted::{Fit, Fitted};
 use crate::found::Atom;
+use crate::names::Names;
 use crate::place::text;
 use sml_fixity::heads::clause_head;
 use sml_fixity::scopes::{Directive, DirectiveFault, Fixities};
@@ -28,6 +32,7 @@ use sml_fixity::sequences::{FixFault, Item, resolve, resolve_pattern};
 use sml_fixity::shape::Shape;
 use sml_lex::fault::{Code, Memory};
 use sml_lex::token::Token;
+use sml_read::grammar::Node;
 use sml_tree::bare::Ident;
 use std::alloc::Global;
 use std::mem;
@@ -560,7 +565,7 @@ fn gather(
     tokens: &[Token],
     events: Vec<Event>,
 ) -> Result<Gathered, Memory>
-    ensures { IfOk result (ComesOf (text_at unit.now tokens.now) (map seen (reverse events.items))) }
+    ensures { IfOk result (λ g. (all : List happened.Event) → AreKept (map seen (reverse events.items)) all → ComesOf (text_at unit.now tokens.now) all g) }
 {
     let mut reach = Reach::new(alloc)?;
     let mut gathered = Gathered::new(alloc);
@@ -594,16 +599,18 @@ fn up_to(most: Option<usize>, declarations: Vec<Fitted>) -> Vec<Fitted>
     declarations
 }
 
-/// The declarations of a unit before its first fault of fixity, each with what its sequences stand for, and that
-/// fault. The events go from the last to the first.
+/// The declarations of a unit with these nodes before its first fault of fixity, each with what its sequences stand for,
+/// and that fault.
 pub fn fit(
     alloc: Global,
     unit: &[u8],
+    names: &mut Names,
+    nodes: &[Node],
     tokens: &[Token],
-    events: Vec<Event>,
 ) -> Result<(Vec<Fitted>, Option<Misfit>), Memory>
-    ensures { IfOk result (λ r. AreFitted (text_at unit.now tokens.now) (map seen (reverse events.items)) (map fitted_of r.0.items) r.1) }
+    ensures { IfOk result (λ r. AreFitted (text_at unit.now tokens.now) (events_of unit.now tokens.now nodes.now (starts_of 0 nodes.now)) (map fitted_of r.0.items) r.1) }
 {
+    let events = events(alloc, unit, names, nodes, tokens)?;
     let gathered = gather(alloc, unit, tokens, events)?;
     let first = first_of(&gathered.misfits);
     let declarations = gathered.declarations(alloc)?;

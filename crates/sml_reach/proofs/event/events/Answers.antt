@@ -1,10 +1,12 @@
-use Rattle.std.proofs.Common.{◌-◌, ◌≤◌, map, reverse, drop, get_or, length, refl, arith}
+use Rattle.std.proofs.Common.{◌≡◌, ◌-◌, ◌≤◌, map, reverse, drop, get_or, length, refl, sym, ◌∙◌, subst, arith}
 use Rattle.sml_read.specs.declared.grammar.Node.TheVariants.{Leaf}
 use Rattle.sml_read.specs.Extents.{starts_of}
 use Rattle.sml_read.proofs.Extents.{start_on, tokens_on}
 use Rattle.sml_reach.specs.Founds.{found_of}
-use Rattle.sml_reach.specs.Events.{seen, text_at}
-use Rattle.sml_reach.proofs.Parting.{one_before, length-starts_of, founds_on, events_on}
+use Rattle.sml_reach.specs.Events.{seen, text_at, events_of}
+use Rattle.sml_reach.specs.CodeKept.{all_kept}
+use Rattle.sml_reach.proofs.Parting.{one_before, length-starts_of, founds_on}
+use Rattle.sml_reach.proofs.Keeping.{events_on, undirected}
 use Rattle.sml_reach.proofs.event.events.Goals as goal
 
 pub loop-i-preserved : goal.loop-i-preserved
@@ -26,6 +28,18 @@ loop-i-preserved c =
     record {
       token = at;
       founds = founds_on (text_at c.args.unit.now c.args.tokens.now) (drop (i - 1) nodes) (drop i nodes) (drop (i - 1) starts) (drop i starts) node n (map found_of (reverse c.at_node.new.founds.items)) old a b c.in_ok-at_node.ensures.founds inv.founds;
-      events = events_on c.args.unit.now c.args.tokens.now (drop (i - 1) nodes) (drop i nodes) (drop (i - 1) starts) (drop i starts) node n (map seen (reverse c.at_node.new.events.items)) (map seen (reverse c.loop-i.events.items)) old a b c.in_ok-at_node.ensures.events inv.founds inv.events;
+      events = events_on c.has_directive-scoped.result c.args.unit.now c.args.tokens.now (drop (i - 1) nodes) (drop i nodes) (drop (i - 1) starts) (drop i starts) node n (map seen (reverse c.at_node.new.events.items)) (map seen (reverse c.loop-i.events.items)) old a b c.in_ok-at_node.ensures.events inv.founds inv.events;
       within = omega (arith, w);
     }
+
+pub returns : goal.returns
+returns c =
+    let unit = c.args.unit.now in
+    let tokens = c.args.tokens.now in
+    let nodes = c.args.nodes.now in
+    let scoped = c.has_directive-scoped.result in
+    let all : c.loop-i.i ≡ 0 = omega (arith, c.loop-i-test.false) in (
+      scoped,
+      subst (λ i. map seen (reverse c.loop-i.events.items) ≡ all_kept scoped (events_of unit tokens (drop i nodes) (drop i (starts_of 0 nodes)))) all c.loop-i.invariant.events,
+      λ e. undirected unit tokens nodes (starts_of 0 nodes) (sym c.has_directive-scoped.ensures ∙ e),
+    )

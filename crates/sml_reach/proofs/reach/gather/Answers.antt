@@ -2,6 +2,7 @@ use Rattle.std.proofs.Common.{map, reverse, arith}
 use Rattle.sml_reach.specs.Events.{seen, text_at}
 use Rattle.sml_reach.specs.Reach.{state_of}
 use Rattle.sml_reach.proofs.Reaching.{reached_next, reached_last}
+use Rattle.sml_reach.proofs.Keeping.{comes_of_all}
 use Rattle.sml_reach.proofs.reach.gather.Goals as goal
 
 pub loop-event-preserved : goal.loop-event-preserved
@@ -16,5 +17,6 @@ loop-event-preserved c =
     }
 
 pub returns : goal.returns
-returns c =
-    reached_last (text_at c.args.unit.now c.args.tokens.now) (map seen (reverse c.args.events.items)) (state_of c.loop-event.reach) (map seen (reverse c.loop-event.events.items)) c.loop-event.gathered c.loop-event.invariant.reached c.in_default.ensures.event
+returns c = λ all k.
+    comes_of_all (text_at c.args.unit.now c.args.tokens.now) (map seen (reverse c.args.events.items)) all c.loop-event.gathered k
+    (reached_last (text_at c.args.unit.now c.args.tokens.now) (map seen (reverse c.args.events.items)) (state_of c.loop-event.reach) (map seen (reverse c.loop-event.events.items)) c.loop-event.gathered c.loop-event.invariant.reached c.in_default.ensures.event)

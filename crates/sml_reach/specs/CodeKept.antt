@@ -1,0 +1,39 @@
+-- Where no directive is read, scopes change nothing, and the code leaves their events out. No public meaning rests on it.
+use Rattle.std.specs.Prelude.{◌≡◌, Bool, true, false, List, [], ◌∷◌, Option, Some, None}
+use Rattle.std.specs.List.{cons_option}
+use Rattle.sml_read.specs.declared.grammar.Node.{Node}
+use Rattle.sml_read.specs.declared.grammar.Node.TheVariants.{Leaf, Inner}
+use Rattle.sml_reach.specs.declared.sense.Deed.{Deed}
+use Rattle.sml_reach.specs.declared.sense.Deed.TheVariants as D
+use Rattle.sml_reach.specs.Senses.{deed_of}
+use Rattle.sml_reach.specs.Events as E
+use Rattle.sml_reach.specs.Events.{Event, enters, leaves}
+
+-- an event, if it is none of a scope or scopes are looked for
+abbrev pub kept : Bool → Option Event → Option Event
+kept false (Some enters) = None
+kept false (Some leaves) = None
+kept scoped event = event
+
+abbrev pub all_kept : Bool → List Event → List Event
+all_kept scoped [] = []
+all_kept scoped (event ∷ events) = cons_option (kept scoped (Some event)) (all_kept scoped events)
+
+-- whether a directive is read where a node stands
+abbrev pub is_directive : Deed → Bool
+is_directive (D.Directs directive) = true
+is_directive _ = false
+
+abbrev pub directs : Node → Bool
+directs Leaf = false
+directs (Inner rule) = is_directive (deed_of rule)
+
+-- no directive is among these events
+abbrev pub AreUndirected : List Event → Type 0
+AreUndirected [] = Unit {0}
+AreUndirected (E.directs directive level atoms ∷ events) = ⊥
+AreUndirected (event ∷ events) = AreUndirected events
+
+-- these events are the others, but for scopes where there is no directive
+abbrev pub AreKept : List Event → List Event → Type 0
+AreKept some all = (scoped : Bool) × (some ≡ all_kept scoped all) × (scoped ≡ false → AreUndirected all)

@@ -1,5 +1,5 @@
 -- What is kept with its height is within the limit, and so is the highest of several.
-use Rattle.std.proofs.Common.{◌≡◌, ℕ, ◌≤◌, List, [], ◌∷◌, map, max, reverse, Bool, true, false, Option, Some, None, refl, arith}
+use Rattle.std.proofs.Common.{◌≡◌, ℕ, zero, suc, ◌≤◌, List, [], ◌∷◌, ◌++◌, map, max, replicate, reverse, Bool, true, false, Option, Some, None, refl, arith}
 use Rattle.std.proofs.lemmas.Bool.{le-leb}
 use Rattle.std.specs.Prelude.{◌&&◌}
 use Rattle.std.specs.Option.{option_map}
@@ -7,6 +7,7 @@ use Rattle.sml_tree.specs.Heights.{highest, height_if_any, ty_height, pat_height
 use Rattle.sml_tree.specs.TypeViews.{ty_of}
 use Rattle.sml_tree.specs.PatternViews.{pat_of}
 use Rattle.sml_tree.specs.ExpressionViews.{exp_of, rule_of, rules_of}
+use Rattle.sml_phrases.specs.declared.stack.Held.{Held}
 use Rattle.sml_phrases.specs.declared.low.LowTy.{LowTy}
 use Rattle.sml_phrases.specs.declared.low.LowPat.{LowPat}
 use Rattle.sml_phrases.specs.declared.low.LowExp.{LowExp}
@@ -21,9 +22,9 @@ use Rattle.sml_phrases.specs.declared.phrase.SignaturePhrase.TheVariants as Sign
 use Rattle.sml_phrases.specs.declared.phrase.StructurePhrase.TheVariants as Structures
 use Rattle.sml_phrases.specs.declared.low.LowWhere.{LowWhere}
 use Rattle.sml_phrases.specs.declared.low.LowConstraint.{LowConstraint}
-use Rattle.sml_phrases.specs.Phrases.{first}
+use Rattle.sml_phrases.specs.Phrases.{first, nothing}
 use Rattle.sml_phrases.specs.PhraseHeights.{is_low, low, where_height, constraint_height}
-use Rattle.sml_phrases.specs.PhraseViews.{phrase_of, low_where_of, low_constraint_of}
+use Rattle.sml_phrases.specs.PhraseViews.{phrase_of, held_in, low_where_of, low_constraint_of}
 
 higher : (a b : ℕ) → a ≤ 4000 → b ≤ 4000 → max a b ≤ 4000
 higher a b h k = omega (arith, h, k)
@@ -146,6 +147,7 @@ phrase_within (V.Structures (Structures.BegunFunBind x y s cs e)) = both _ _ (bo
 phrase_within (V.Structures (Structures.BegunFunctor x ss cs e)) = both _ _ (both _ _ (within _ _ ss.measured ss.low) (low_constraints cs.items)) (within _ _ e.measured e.low)
 phrase_within (V.Structures (Structures.Top d)) = within _ _ d.measured d.low
 
-pub first_within : (phrases : List D.Phrase) → is_low (first (map phrase_of phrases)) ≡ true
-first_within [] = refl
-first_within (phrase ∷ phrases) = phrase_within phrase
+pub first_within : (n : ℕ) (hs : List Held) → is_low (first (replicate n nothing ++ held_in hs)) ≡ true
+first_within zero [] = refl
+first_within zero (h ∷ hs) = phrase_within h.phrase
+first_within (suc n) hs = refl

@@ -1,3 +1,4 @@
+pub mod Holding
 pub mod Failures
 pub mod Drops
 pub mod Answers

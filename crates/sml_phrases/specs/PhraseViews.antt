@@ -1,5 +1,5 @@
 -- The program's phrases as those of the definitions, and what it is for a call to make one.
-use Rattle.std.specs.Prelude.{◌≡◌, ℕ, List, ◌∷◌, Bool, false, drop, map, reverse, Result, Ok, Err}
+use Rattle.std.specs.Prelude.{◌≡◌, ℕ, List, [], ◌∷◌, ◌++◌, Bool, false, drop, map, replicate, reverse, Result, Ok, Err}
 use Rattle.std.specs.Option.{option_map}
 use Rattle.sml_lex.specs.declared.fault.Place.{Place}
 use Rattle.sml_tree.specs.TypeViews.{name_of, names_of, long_name_of, ty_of, tys_of, ty_field_of, ty_fields_of}
@@ -25,6 +25,7 @@ use Rattle.sml_phrases.specs.declared.phrase.SignaturePhrase.TheVariants as Sign
 use Rattle.sml_phrases.specs.declared.phrase.StructurePhrase.TheVariants as Structures
 use Rattle.sml_phrases.specs.declared.phrase.Failure.{Failure}
 use Rattle.sml_phrases.specs.declared.phrase.Failure.TheVariants.{TooHigh, Memory}
+use Rattle.sml_phrases.specs.declared.stack.Held.{Held}
 use Rattle.sml_phrases.specs.declared.stack.Stack.{Stack}
 
 -- what stands behind `where type`, and a constraint
@@ -106,9 +107,14 @@ phrase_of (V.Structures (Structures.BegunFunBind x y s cs e)) = of_begun_fun_bin
 phrase_of (V.Structures (Structures.BegunFunctor x ss cs e)) = of_begun_functor (name_of x) (specs_of (map spec_of (reverse ss.trees.items))) (map low_constraint_of (reverse cs.items)) (str_of e.tree)
 phrase_of (V.Structures (Structures.Top d)) = of_top (top_of d.tree)
 
--- the phrases on a stack, the topmost first
+-- what is held, the last first, each phrase before those below it that are nothing
+abbrev pub held_in : List Held → List Phrase
+held_in [] = []
+held_in (h ∷ hs) = phrase_of h.phrase ∷ (replicate h.below nothing ++ held_in hs)
+
+-- the phrases on a stack, the last one first
 abbrev pub seen : Stack → List Phrase
-seen stack = map phrase_of (reverse stack.phrases.items)
+seen stack = replicate stack.nothings nothing ++ held_in (reverse stack.held.items)
 
 -- A call gives what is wanted; or it is too high, and so is what is wanted; or a growth was refused.
 abbrev pub Gives : {A : Type 0} → {B : Type 0} → (A → B) → (B → Bool) → B → Result A Failure → Type 0

@@ -51,8 +51,7 @@ impl Stack {
     pub fn put_nothing(&mut self) -> Result<(), Failure>
         ensures { Puts nothing 0 (seen self.old) (seen self.new) result }
     {
-        self.make_room()?;
-        self.add(Phrase::Nothing);
+        self.push_nothing()?;
         Ok(())
     }
 

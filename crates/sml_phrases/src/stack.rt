@@ -1,6 +1,6 @@
 //! The phrases that have been made and are not yet part of another one, on a stack.
 
-ghost use Rattle.std.specs.Prelude.{◌≡◌, ◌<◌, [], ◌∷◌, map, reverse, length, true, false, vec_len, vec_capacity, IfOk, OnOk};
+ghost use Rattle.std.specs.Prelude.{◌≡◌, ◌<◌, List, [], ◌∷◌, map, reverse, length, true, false, vec_len, vec_capacity, IfOk, OnOk};
 ghost use Rattle.std.specs.Prelude.{drop};
 ghost use Rattle.std.specs.Option.{option_map};
 ghost use Rattle.sml_tree.specs.TypeViews.{name_of, long_name_of, ty_of, tys_of, ty_field_of, ty_fields_of};
@@ -11,7 +11,8 @@ ghost use Rattle.sml_tree.specs.SignatureViews.{val_desc_of, typ_desc_of, sig_of
 ghost use Rattle.sml_tree.specs.StructureViews.{str_of, str_dec_of, str_decs_of, top_of};
 ghost use Rattle.sml_tree.specs.Clauses.{clause_of};
 ghost use Rattle.sml_phrases.specs.Phrases.{at, is_alone, is_exp, is_nothing, of_exp, first, nothing, place_in, ty_if_any, pat_if_any, exp_if_any, rules_if_any, bind_in, binds_in, clauses_in, con_binds_in, constant_in, dec_in, decs_in, exn_binds_in, exp_in, exps_in, fields_in, long_in, longs_in, name_in, names_in, numeral, pat_in, pats_in, rules_in, sig_in, specs_in, str_dec_in, str_decs_in, str_in, top_in, ty_fields_in, ty_in, typ_binds_in, typ_descs_in, tys_in, val_descs_in, wheres_in};
-ghost use Rattle.sml_phrases.specs.PhraseViews.{low_where_of, phrase_of, seen};
+ghost use Rattle.sml_phrases.specs.declared.stack.Held.{Held};
+ghost use Rattle.sml_phrases.specs.PhraseViews.{held_in, low_where_of, phrase_of, seen};
 
 use crate::low::{
     LowBind, LowBinds, LowClauses, LowConBinds, LowDec, LowDecs, LowExnBinds, LowExp, LowExps,
@@ -53,26 +54,54 @@ fn is_nothing(phrase: &Phrase) -> bool
     }
 }
 
-/// Whether the last phrase is an expression, and the one before it nothing.
-fn is_alone(phrases: &[Phrase]) -> bool
-    ensures said { result ≡ is_alone (map phrase_of (reverse phrases.now)) }
-    ensures alone { result ≡ true → (let vs = map phrase_of (reverse phrases.now) in
-        (first vs ≡ of_exp (exp_in (first vs))) × (at vs 1 ≡ nothing) × (1 < length phrases.now)) }
+/// A phrase, and how many that are nothing stand right below it.
+#[derive(Drop)]
+pub struct Held {
+    phrase: Phrase,
+    below: usize,
+}
+
+/// Whether an expression is held last, and a phrase that is nothing stands below it.
+fn is_alone(held: &[Held]) -> bool
+    ensures said { result ≡ is_alone (held_in (reverse held.now)) }
+    ensures alone { result ≡ true → (let vs = held_in (reverse held.now) in
+        (first vs ≡ of_exp (exp_in (first vs))) × (at vs 1 ≡ nothing)) }
 {
-    let Some((last, before)) = phrases.split_last() else {
+    let Some((last, before)) = held.split_last() else {
         return false;
     };
-    match before.last() {
-        Some(below) => is_exp(last) && is_nothing(below),
+    if last.below > 0 {
+        return is_exp(&last.phrase);
+    }
+    match before.split_last() {
+        Some((below, _rest)) => is_exp(&last.phrase) && is_nothing(&below.phrase),
         None => false,
     }
 }
 
-/// The phrases that are not yet part of another one, the last made on top.
+/// Takes one that is nothing off from right below the last phrase held, if some are counted there, and says whether it
+/// did.
+fn take_below(held: &mut [Held]) -> bool
+    ensures kept { result ≡ false → held.new ≡ held.old }
+    ensures none { result ≡ false → (h : Held) (hs : List Held) → reverse held.old ≡ h ∷ hs → h.below ≡ 0 }
+    ensures some { result ≡ true → (let vs = held_in (reverse held.old) in held_in (reverse held.new) ≡ first vs ∷ drop 2 vs) }
+{
+    let Some((last, _before)) = held.split_last_mut() else {
+        return false;
+    };
+    if last.below == 0 {
+        return false;
+    }
+    last.below -= 1;
+    true
+}
+
+/// The phrases that are not yet part of another one, the last made on top: first some that are nothing.
 #[derive(Drop)]
 pub struct Stack {
     pub alloc: Global,
-    phrases: Vec<Phrase>,
+    held: Vec<Held>,
+    nothings: usize,
 }
 
 impl Stack {
@@ -81,25 +110,30 @@ impl Stack {
     {
         Stack {
             alloc,
-            phrases: Vec::new(alloc),
+            held: Vec::new(alloc),
+            nothings: 0,
         }
     }
 
     /// Makes room for one more phrase.
     pub fn make_room(&mut self) -> Result<(), Memory>
-        ensures room { OnOk result (vec_len self.new.phrases < vec_capacity self.new.phrases) }
+        ensures room { OnOk result (vec_len self.new.held < vec_capacity self.new.held) }
         ensures same { seen self.new ≡ seen self.old }
     {
-        self.phrases.reserve(1)?;
+        self.held.reserve(1)?;
         Ok(())
     }
 
     /// Adds a phrase, for which there is room. Made where it is to stand, it is not moved.
     pub fn add(&mut self, phrase: Phrase)
-        requires { vec_len self.now.phrases < vec_capacity self.now.phrases }
+        requires { vec_len self.now.held < vec_capacity self.now.held }
         ensures { seen self.new ≡ phrase_of phrase ∷ seen self.old }
     {
-        self.phrases.push_reserved(phrase);
+        self.held.push_reserved(Held {
+            phrase,
+            below: self.nothings,
+        });
+        self.nothings = 0;
     }
 
     pub fn push(&mut self, phrase: Phrase) -> Result<(), Memory>
@@ -117,19 +151,36 @@ impl Stack {
         }
     }
 
+    /// Adds a phrase that is nothing.
+    pub fn push_nothing(&mut self) -> Result<(), Memory>
+        ensures { OnOk result (seen self.new ≡ nothing ∷ seen self.old) }
+    {
+        match self.nothings.checked_add(1) {
+            Some(nothings) => {
+                self.nothings = nothings;
+                Ok(())
+            }
+            None => self.push(Phrase::Nothing),
+        }
+    }
+
     /// Whether there is no phrase.
     pub fn is_empty(&self) -> bool
         ensures none { result ≡ true → seen self.now ≡ [] }
         ensures some { result ≡ false → seen self.now ≡ first (seen self.now) ∷ drop 1 (seen self.now) }
     {
-        self.phrases.is_empty()
+        if self.nothings > 0 {
+            return false;
+        }
+        self.held.is_empty()
     }
 
     /// Takes all phrases off; their room is kept.
     pub fn clear(&mut self)
         ensures { seen self.new ≡ [] }
     {
-        self.phrases.clear();
+        self.held.clear();
+        self.nothings = 0;
     }
 
     /// Where an expression stands on top and nothing below it, takes the nothing off, and says whether it did.
@@ -138,13 +189,17 @@ impl Stack {
         ensures taken { result ≡ true → (at (seen self.old) 1 ≡ nothing) × (seen self.new ≡ of_exp (exp_in (first (seen self.old))) ∷ drop 2 (seen self.old)) }
         ensures kept { result ≡ false → seen self.new ≡ seen self.old }
     {
-        if !is_alone(&self.phrases) {
+        if self.nothings > 0 || !is_alone(&self.held) {
             return false;
         }
-        let exp = self.phrases.take_last();
-        let nothing = self.phrases.take_last();
-        discard(nothing);
-        self.add(exp);
+        if take_below(&mut self.held) {
+            return true;
+        }
+        let exp = self.held.take_last();
+        let nothing = self.held.take_last();
+        self.nothings = nothing.below;
+        discard(nothing.phrase);
+        self.add(exp.phrase);
         true
     }
 
@@ -153,10 +208,16 @@ impl Stack {
         ensures value { phrase_of result ≡ first (seen self.old) }
         ensures rest { seen self.new ≡ drop 1 (seen self.old) }
     {
-        if self.phrases.is_empty() {
+        if self.nothings > 0 {
+            self.nothings -= 1;
             return Phrase::Nothing;
         }
-        self.phrases.take_last()
+        if self.held.is_empty() {
+            return Phrase::Nothing;
+        }
+        let held = self.held.take_last();
+        self.nothings = held.below;
+        held.phrase
     }
 
     /// Takes the phrase on top off, whatever it is.

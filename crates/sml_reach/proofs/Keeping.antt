@@ -19,8 +19,7 @@ use Rattle.sml_reach.specs.Events.{Event, begins, enters, leaves, directs, expre
 use Rattle.sml_reach.specs.Fits.{Fitted, fit_of, fitted_of}
 use Rattle.sml_reach.specs.Reach.{State, start, Outcome, declares, idle, stands, fails, misfit_of, misfit_in, misfits_in, fits_before, declarations_in, first_misfit, before_misfit, up_to, IsExpression, IsPattern, IsClauseHead, Happens, Outcomes, AreFitted}
 use Rattle.sml_reach.specs.CodeGathered.{AreDeclared, AreGathered, ComesOf}
-use Rattle.sml_reach.specs.CodeKept as spec
-use Rattle.sml_reach.specs.CodeKept.{kept, all_kept, is_directive, AreUndirected, AreKept}
+use Rattle.sml_reach.specs.CodeKept.{kept, all_kept, reads_directive, is_directive, AreUndirected, AreKept}
 
 -- which events are kept
 
@@ -119,7 +118,7 @@ head_undirected : (s : Option (List Atom)) → IsUndirected (option_map head s)
 head_undirected None = tt
 head_undirected (Some atoms) = tt
 
-deed_undirected : (d : Deed) (n : ℕ) (f : Found) → is_directive d ≡ false → IsUndirected (event_of d n f)
+deed_undirected : (d : Deed) (n : ℕ) (f : Found) → reads_directive d ≡ false → IsUndirected (event_of d n f)
 deed_undirected D.Nothing n f e = tt
 deed_undirected D.Begins n f e = tt
 deed_undirected (D.Directs directive) n f e = cc
@@ -127,15 +126,15 @@ deed_undirected D.Expression n f e = expression_undirected (sequence_in f)
 deed_undirected D.Pattern n f e = pattern_undirected (sequence_in f)
 deed_undirected D.Head n f e = head_undirected (sequence_in f)
 
-node_undirected : (unit : List ℕ) (tokens : List Token) (node : Node) (n : ℕ) (founds : List Found) → spec.directs node ≡ false → IsUndirected (event_from unit tokens node n founds)
+node_undirected : (unit : List ℕ) (tokens : List Token) (node : Node) (n : ℕ) (founds : List Found) → is_directive node ≡ false → IsUndirected (event_from unit tokens node n founds)
 node_undirected unit tokens Leaf n founds e = scope_undirected _
 node_undirected unit tokens (Inner rule) n founds e = deed_undirected (deed_of rule) n _ e
 
-pub undirected : (unit : List ℕ) (tokens : List Token) (nodes : List Node) (starts : List ℕ) → list_any spec.directs nodes ≡ false → AreUndirected (events_of unit tokens nodes starts)
+pub undirected : (unit : List ℕ) (tokens : List Token) (nodes : List Node) (starts : List ℕ) → list_any is_directive nodes ≡ false → AreUndirected (events_of unit tokens nodes starts)
 undirected unit tokens [] starts e = tt
 undirected unit tokens (node ∷ nodes) [] e = tt
 undirected unit tokens (node ∷ nodes) (n ∷ starts) e =
-    let both = neither (spec.directs node) (list_any spec.directs nodes) e in
+    let both = neither (is_directive node) (list_any is_directive nodes) e in
     undirected_on _ _ (node_undirected unit tokens node n _ both.0) (undirected unit tokens nodes starts both.1)
 
 -- What all events come to, of which some are kept: the same declarations and faults.

@@ -6,8 +6,7 @@ use Rattle.sml_read.specs.declared.grammar.Node.TheVariants.{Leaf, Inner}
 use Rattle.sml_reach.specs.declared.sense.Deed.{Deed}
 use Rattle.sml_reach.specs.declared.sense.Deed.TheVariants as D
 use Rattle.sml_reach.specs.Senses.{deed_of}
-use Rattle.sml_reach.specs.Events as E
-use Rattle.sml_reach.specs.Events.{Event, enters, leaves}
+use Rattle.sml_reach.specs.Events.{Event, enters, leaves, directs}
 
 -- an event, if it is none of a scope or scopes are looked for
 abbrev pub kept : Bool → Option Event → Option Event
@@ -20,18 +19,18 @@ all_kept scoped [] = []
 all_kept scoped (event ∷ events) = cons_option (kept scoped (Some event)) (all_kept scoped events)
 
 -- whether a directive is read where a node stands
-abbrev pub is_directive : Deed → Bool
-is_directive (D.Directs directive) = true
-is_directive _ = false
+abbrev pub reads_directive : Deed → Bool
+reads_directive (D.Directs directive) = true
+reads_directive _ = false
 
-abbrev pub directs : Node → Bool
-directs Leaf = false
-directs (Inner rule) = is_directive (deed_of rule)
+abbrev pub is_directive : Node → Bool
+is_directive Leaf = false
+is_directive (Inner rule) = reads_directive (deed_of rule)
 
 -- no directive is among these events
 abbrev pub AreUndirected : List Event → Type 0
 AreUndirected [] = Unit {0}
-AreUndirected (E.directs directive level atoms ∷ events) = ⊥
+AreUndirected (directs directive level atoms ∷ events) = ⊥
 AreUndirected (event ∷ events) = AreUndirected events
 
 -- these events are the others, but for scopes where there is no directive

@@ -128,8 +128,10 @@ atoms_of v = map atom_of (reverse v.items)
 abbrev pub found_of : F.Found → Found
 found_of V.Nothing = nothing
 found_of (V.Word n) = word n
-found_of (V.One a) = one (atom_of a)
+found_of (V.Plain item n) = one (atom (name_of item) n [])
+found_of (V.One a) = one (atom_of a.value)
 found_of (V.Several atoms typed) = several (atoms_of atoms) typed
 found_of (V.Inner items) = within (map name_of items.items)
 found_of (V.OneInner item) = within (name_of item ∷ [])
-found_of (V.Directed level atoms) = directed level (atoms_of atoms)
+found_of (V.Levelled level atoms) = directed (Some level) (atoms_of atoms)
+found_of (V.Directed atoms) = directed None (atoms_of atoms)

@@ -10,8 +10,8 @@ ghost use Rattle.sml_reach.specs.Senses as senses;
 ghost use Rattle.sml_reach.specs.Founds as spec;
 ghost use Rattle.sml_fixity.specs.ItemNames.{name_of, short, phrase};
 ghost use Rattle.sml_reach.specs.Founds.{atom, one, word, several, within, atom_of, atoms_of, found_by, found_of, nothing, sequence_in, untyped, left};
-ghost use Rattle.sml_reach.specs.Events.{seen, expression, pattern, head, text_at, found_at, founds_from, scope_event, event_of, event_from, events_of};
-ghost use Rattle.sml_reach.specs.CodeKept.{kept, directs, AreKept};
+ghost use Rattle.sml_reach.specs.Events.{seen, directs, expression, pattern, head, text_at, found_at, founds_from, scope_event, event_of, event_from, events_of};
+ghost use Rattle.sml_reach.specs.CodeKept.{kept, is_directive, AreKept};
 
 use crate::found::{Atom, Finder, Found, Parts, atom_in, atoms_in, before, joined};
 use crate::names::Names;
@@ -142,10 +142,12 @@ fn sequence(found: Found) -> Option<Vec<Atom>>
         Found::Several(atoms, _typed) => Some(atoms),
         Found::Nothing => None,
         Found::Word(_token) => None,
+        Found::Plain(_item, _token) => None,
         Found::One(_atom) => None,
         Found::Inner(_items) => None,
         Found::OneInner(_item) => None,
-        Found::Directed(_level, _atoms) => None,
+        Found::Levelled(_level, _atoms) => None,
+        Found::Directed(_atoms) => None,
     }
 }
 
@@ -176,6 +178,23 @@ fn head(atoms: Option<Vec<Atom>>) -> Option<Event>
     }
 }
 
+/// A directive, with the token of its level, if one is written, and its identifiers.
+fn directive_event(
+    alloc: Global,
+    directive: Directive,
+    level: Option<usize>,
+    atoms: Vec<Atom>,
+) -> Result<Option<Event>, Memory>
+    ensures { IfOk result (λ event. option_map seen event ≡ Some (directs directive level (atoms_of atoms))) }
+{
+    let directed = Directed {
+        directive,
+        level,
+        atoms,
+    };
+    Ok(Some(Event::Directs(Box::new(alloc, directed)?)))
+}
+
 fn event_of_directive(
     alloc: Global,
     directive: Directive,
@@ -184,16 +203,11 @@ fn event_of_directive(
     ensures { IfOk result (λ event. option_map seen event ≡ event_of (Deed.Directs directive) 0 (found_of found)) }
 {
     match found {
-        Found::Directed(level, atoms) => {
-            let directed = Directed {
-                directive,
-                level,
-                atoms,
-            };
-            Ok(Some(Event::Directs(Box::new(alloc, directed)?)))
-        }
+        Found::Levelled(level, atoms) => directive_event(alloc, directive, Some(level), atoms),
+        Found::Directed(atoms) => directive_event(alloc, directive, None, atoms),
         Found::Nothing => Ok(None),
         Found::Word(_token) => Ok(None),
+        Found::Plain(_item, _token) => Ok(None),
         Found::One(_atom) => Ok(None),
         Found::Inner(_items) => Ok(None),
         Found::OneInner(_item) => Ok(None),
@@ -377,17 +391,12 @@ fn enter_empty(alloc: Global, founds: &mut Vec<Found>, count: usize) -> Result<(
 
 /// A phrase with so many parts that is an atomic phrase, with this first token.
 #[inline(never)]
-fn enter_atom(
-    finder: &Finder,
-    founds: &mut Vec<Found>,
-    count: usize,
-    token: usize,
-) -> Result<(), Memory>
+fn enter_atom(founds: &mut Vec<Found>, count: usize, token: usize) -> Result<(), Memory>
     ensures { OnOk result (map found_of (reverse founds.new.items) ≡ one (atom phrase token []) ∷ drop count (map found_of (reverse founds.old.items))) }
 {
     skip_parts(founds, count);
     founds.reserve(1)?;
-    founds.push_reserved(Found::One(finder.plain(Item::Phrase, token)));
+    founds.push_reserved(Found::Plain(Item::Phrase, token));
     Ok(())
 }
 
@@ -405,7 +414,7 @@ fn enter_short(
 {
     skip_parts(founds, count);
     founds.reserve(1)?;
-    founds.push_reserved(Found::One(finder.short(names, token)?));
+    founds.push_reserved(Found::Plain(finder.short_item(names, token)?, token));
     Ok(())
 }
 
@@ -587,7 +596,7 @@ fn enter_phrase(
         (Sense::Passed, Deed::Nothing) => enter_first(founds, count),
         (Sense::Empty, Deed::Nothing) => enter_empty(finder.alloc, founds, count),
         (Sense::Short, Deed::Nothing) => enter_short(finder, names, founds, count, token),
-        (Sense::Phrase, Deed::Nothing) => enter_atom(finder, founds, count, token),
+        (Sense::Phrase, Deed::Nothing) => enter_atom(founds, count, token),
         (Sense::More, Deed::Nothing) => enter_more(finder.alloc, founds, count),
         (Sense::More, Deed::Head) => enter_head(finder.alloc, founds, events, count),
         (Sense::More, Deed::Expression) => enter_expression(finder.alloc, founds, events, count),
@@ -623,8 +632,8 @@ fn at_node(
 }
 
 /// Whether a directive is read where this node stands.
-fn directs(node: Node) -> bool
-    ensures { result ≡ directs node }
+fn is_directive(node: Node) -> bool
+    ensures { result ≡ is_directive node }
 {
     match node {
         Node::Inner(
@@ -640,10 +649,10 @@ fn directs(node: Node) -> bool
 
 /// Whether a directive is read at one of these nodes.
 fn has_directive(nodes: &[Node]) -> bool
-    ensures { result ≡ list_any directs nodes.now }
+    ensures { result ≡ list_any is_directive nodes.now }
 {
     for i in (0..nodes.len()).rev() {
-        if directs(nodes[i]) {
+        if is_directive(nodes[i]) {
             return true;
         }
     }

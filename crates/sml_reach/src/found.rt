@@ -23,21 +23,26 @@ pub struct Atom {
     pub inner: Vec<Item>,
 }
 
-/// What a phrase is to the sequence that it stands in. Atomic phrases go from the last to the first.
+/// What a phrase is to the sequence that it stands in. Atomic phrases go from the last to the first. Each open bracket of a
+/// unit has two of these in memory, so what is large and rare stands in a box.
 #[derive(Drop)]
 pub enum Found {
     Nothing,
     /// A token, by its number.
     Word(usize),
-    One(Atom),
+    /// An atomic phrase without patterns in round brackets: what it is to the operators, and its first token.
+    Plain(Item, usize),
+    One(Box<Atom>),
     /// Some atomic phrases, and whether a type stands behind them.
     Several(Vec<Atom>, bool),
     /// The items of a sequence of patterns without a type.
     Inner(Vec<Item>),
     /// The same of a sequence of one.
     OneInner(Item),
-    /// A directive: the token of its level, if one is written, and its identifiers.
-    Directed(Option<usize>, Vec<Atom>),
+    /// A directive: the token of its level, and its identifiers.
+    Levelled(usize, Vec<Atom>),
+    /// The same without a level.
+    Directed(Vec<Atom>),
 }
 
 /// What the first parts of a phrase are.
@@ -88,7 +93,12 @@ pub fn atom_in(alloc: Global, found: Found) -> Atom
     ensures { atom_of result ≡ spec.atom_in (found_of found) }
 {
     match found {
-        Found::One(atom) => atom,
+        Found::Plain(item, token) => Atom {
+            item,
+            token,
+            inner: Vec::new(alloc),
+        },
+        Found::One(atom) => Box::into_inner(atom),
         _ => Atom {
             item: Item::Phrase,
             token: 0,
@@ -208,17 +218,25 @@ impl Finder<'_> {
         }
     }
 
-    /// The identifier without a path that this token is.
-    pub fn short(&self, names: &mut Names, token: usize) -> Result<Atom, Memory>
+    /// The identifier without a path that this token is, to the operators.
+    pub fn short_item(&self, names: &mut Names, token: usize) -> Result<Item, Memory>
         ensures { let text = text_at self.now.unit.now self.now.tokens.now token in
-            IfOk result (λ a. atom_of a ≡ atom (short text) token []) }
+            IfOk result (λ item. name_of item ≡ short text) }
     {
         let bytes = match self.tokens.get(token) {
             Some(token) => text(self.unit, token.span),
             None => &[],
         };
-        let ident = names.ident(bytes)?;
-        Ok(self.plain(Item::Short(ident), token))
+        Ok(Item::Short(names.ident(bytes)?))
+    }
+
+    /// The same as an atomic phrase.
+    pub fn short(&self, names: &mut Names, token: usize) -> Result<Atom, Memory>
+        ensures { let text = text_at self.now.unit.now self.now.tokens.now token in
+            IfOk result (λ a. atom_of a ≡ atom (short text) token []) }
+    {
+        let item = self.short_item(names, token)?;
+        Ok(self.plain(item, token))
     }
 
     /// What a phrase with this first token is.
@@ -236,14 +254,14 @@ impl Finder<'_> {
         Ok(match sense {
             Sense::Nothing => Found::Nothing,
             Sense::Passed => parts.first,
-            Sense::Short => Found::One(self.short(names, token)?),
-            Sense::Long => Found::One(self.plain(Item::Long, token)),
+            Sense::Short => Found::Plain(self.short_item(names, token)?, token),
+            Sense::Long => Found::Plain(Item::Long, token),
             Sense::Op => {
                 let item = after_op(atom_in(self.alloc, parts.second).item);
-                Found::One(self.plain(item, token))
+                Found::Plain(item, token)
             }
-            Sense::Phrase => Found::One(self.plain(Item::Phrase, token)),
-            Sense::Round => Found::One(round(self.alloc, token, parts.second)?),
+            Sense::Phrase => Found::Plain(Item::Phrase, token),
+            Sense::Round => round_atom(self.alloc, token, parts.second)?,
             Sense::Empty => Found::Several(Vec::new(self.alloc), false),
             Sense::Typed => Found::Several(Vec::new(self.alloc), true),
             Sense::More => {
@@ -289,7 +307,10 @@ impl Finder<'_> {
         let first = self.short(names, token)?;
         let mut atoms = atoms_in(self.alloc, rest);
         atoms.push(first)?;
-        Ok(Found::Directed(level, atoms))
+        match level {
+            Some(level) => Ok(Found::Levelled(level, atoms)),
+            None => Ok(Found::Directed(atoms)),
+        }
     }
 }
 
@@ -303,6 +324,17 @@ fn round(alloc: Global, token: usize, found: Found) -> Result<Atom, Memory>
         token,
         inner,
     })
+}
+
+/// The same as what a phrase is.
+fn round_atom(alloc: Global, token: usize, found: Found) -> Result<Found, Memory>
+    ensures { IfOk result (λ r. found_of r ≡ spec.one (atom phrase token (spec.inner_in (found_of found)))) }
+{
+    let atom = round(alloc, token, found)?;
+    if atom.inner.is_empty() {
+        return Ok(Found::Plain(Item::Phrase, token));
+    }
+    Ok(Found::One(Box::new(alloc, atom)?))
 }
 
 /// Patterns in round brackets before the atomic phrases of the rest.

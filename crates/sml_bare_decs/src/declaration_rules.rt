@@ -35,7 +35,7 @@ use sml_derived::expander::Expander;
 use sml_fixity::shape::Shape;
 use sml_lex::fault::Place;
 use sml_phrases::low::{LowDec, LowExnBinds, LowTypBinds};
-use sml_phrases::phrase::Failure;
+use sml_phrases::phrase::{DeclarationPhrase, Failure, Phrase};
 use sml_phrases::raise::raised;
 use sml_phrases::stack::Stack;
 use sml_read::grammar::DeclarationRule;
@@ -73,7 +73,7 @@ fn local(stack: &mut Stack, place: Place) -> Result<(), Failure>
     hidden.trees.reverse();
     shown.trees.reverse();
     let tree = Dec::Local(place, hidden.trees, shown.trees);
-    stack.put_dec(LowDec { tree, height })
+    stack.put(Phrase::Declarations(DeclarationPhrase::Dec(LowDec { tree, height })))
 }
 
 /// `val ..`
@@ -94,7 +94,7 @@ fn value_dec(stack: &mut Stack, place: Place) -> Result<(), Failure>
     let mut recursive = recursive.trees;
     recursive.reverse();
     let tree = Dec::Value(place, variables, plain, recursive);
-    stack.put_dec(LowDec { tree, height })
+    stack.put(Phrase::Declarations(DeclarationPhrase::Dec(LowDec { tree, height })))
 }
 
 /// `fun ..`
@@ -109,7 +109,7 @@ fn function_dec(stack: &mut Stack, place: Place) -> Result<(), Failure>
     let mut binds = binds.trees;
     binds.reverse();
     let tree = Dec::Value(place, variables, Vec::new(stack.alloc), binds);
-    stack.put_dec(LowDec { tree, height })
+    stack.put(Phrase::Declarations(DeclarationPhrase::Dec(LowDec { tree, height })))
 }
 
 /// A type binding, and others behind it.
@@ -135,7 +135,7 @@ fn type_dec(stack: &mut Stack, place: Place) -> Result<(), Failure>
     let height = raised(all.height, 1)?;
     all.trees.reverse();
     let tree = Dec::Type(place, all.trees);
-    stack.put_dec(LowDec { tree, height })
+    stack.put(Phrase::Declarations(DeclarationPhrase::Dec(LowDec { tree, height })))
 }
 
 /// A type binding before others, behind `and`.
@@ -144,7 +144,7 @@ fn more_types(stack: &mut Stack) -> Result<(), Failure>
 {
     stack.skip();
     let all = typ_binds(stack)?;
-    stack.put_typ_binds(all)
+    stack.put(Phrase::Declarations(DeclarationPhrase::TypBinds(all)))
 }
 
 /// Type variables, a type constructor and its right side.
@@ -155,7 +155,7 @@ fn typ_bind(stack: &mut Stack) -> Result<(), Failure>
     let name = stack.name()?;
     stack.skip();
     let ty = stack.ty();
-    stack.put_typ_bind(variables, name, ty)
+    stack.put(Phrase::Declarations(DeclarationPhrase::TypBind(variables, name, ty)))
 }
 
 fn no_typ_bind(stack: &mut Stack) -> Result<(), Failure>
@@ -165,7 +165,7 @@ fn no_typ_bind(stack: &mut Stack) -> Result<(), Failure>
         trees: Vec::new(stack.alloc),
         height: 0,
     };
-    stack.put_typ_binds(none)
+    stack.put(Phrase::Declarations(DeclarationPhrase::TypBinds(none)))
 }
 
 /// An exception binding, and others behind it.
@@ -187,7 +187,7 @@ fn exception_dec(stack: &mut Stack, place: Place) -> Result<(), Failure>
     let height = raised(all.height, 1)?;
     all.trees.reverse();
     let tree = Dec::Exception(place, all.trees);
-    stack.put_dec(LowDec { tree, height })
+    stack.put(Phrase::Declarations(DeclarationPhrase::Dec(LowDec { tree, height })))
 }
 
 /// An exception binding before others, behind `and`.
@@ -196,7 +196,7 @@ fn more_exceptions(stack: &mut Stack) -> Result<(), Failure>
 {
     stack.skip();
     let all = exn_binds(stack)?;
-    stack.put_exn_binds(all)
+    stack.put(Phrase::Declarations(DeclarationPhrase::ExnBinds(all)))
 }
 
 fn no_exn_bind(stack: &mut Stack) -> Result<(), Failure>
@@ -206,7 +206,7 @@ fn no_exn_bind(stack: &mut Stack) -> Result<(), Failure>
         trees: Vec::new(stack.alloc),
         height: 0,
     };
-    stack.put_exn_binds(none)
+    stack.put(Phrase::Declarations(DeclarationPhrase::ExnBinds(none)))
 }
 
 /// An exception, and what stands behind it.
@@ -217,8 +217,8 @@ fn exn_bind(stack: &mut Stack) -> Result<(), Failure>
     let name = stack.name()?;
     let ExceptionRest { copied, argument } = pop_exn_rest(stack);
     match copied {
-        Some(copied) => stack.put_copy(name, copied),
-        None => stack.put_con_bind(name, argument),
+        Some(copied) => stack.put(Phrase::Declarations(DeclarationPhrase::Copy(name, copied))),
+        None => stack.put(Phrase::Declarations(DeclarationPhrase::ConBind(name, argument))),
     }
 }
 
@@ -232,7 +232,7 @@ fn open_dec(stack: &mut Stack, place: Place) -> Result<(), Failure>
     all.push(first)?;
     all.reverse();
     let tree = Dec::Open(place, all);
-    stack.put_dec(LowDec { tree, height: 1 })
+    stack.put(Phrase::Declarations(DeclarationPhrase::Dec(LowDec { tree, height: 1 })))
 }
 
 /// A structure before others.
@@ -242,7 +242,7 @@ fn and_opened(stack: &mut Stack) -> Result<(), Failure>
     let first = stack.long()?;
     let mut all = stack.longs();
     all.push(first)?;
-    stack.put_longs(all)
+    stack.put(Phrase::Longs(all))
 }
 
 /// A directive of fixity of so many parts.
@@ -250,10 +250,10 @@ fn fixity_dec(stack: &mut Stack, place: Place, parts: usize) -> Result<(), Failu
     ensures { Puts (of_dec (fixity_dec place)) parts (seen stack.old) (seen stack.new) result }
 {
     skip_all(stack, parts);
-    stack.put_dec(LowDec {
+    stack.put(Phrase::Declarations(DeclarationPhrase::Dec(LowDec {
         tree: Dec::Fixity(place),
         height: 1,
-    })
+    })))
 }
 
 /// Nothing, of so many parts.
@@ -269,7 +269,7 @@ fn no_opened(stack: &mut Stack) -> Result<(), Failure>
     ensures { Puts (of_longs []) 0 (seen stack.old) (seen stack.new) result }
 {
     let none = Vec::new(stack.alloc);
-    stack.put_longs(none)
+    stack.put(Phrase::Longs(none))
 }
 
 /// What a rule of declarations makes of its parts, which it takes off the stack.

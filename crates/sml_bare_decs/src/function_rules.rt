@@ -30,7 +30,7 @@ use sml_pat_sequences::low_lists::and_pat;
 use sml_pat_sequences::pattern_sequences::pat_place;
 use sml_pat_sequences::round_patterns::round_pat;
 use sml_phrases::low::{LIMIT, LowBind, LowBinds, LowClauses, LowExp, LowPat, LowPats, LowTy};
-use sml_phrases::phrase::{DeclarationPhrase, Failure, Phrase, RightSide, discard};
+use sml_phrases::phrase::{DeclarationPhrase, Failure, PatternPhrase, Phrase, RightSide, discard};
 use sml_phrases::stack::Stack;
 use sml_tree::bare::Ident;
 use sml_tree::clauses::Clause;
@@ -245,7 +245,7 @@ pub fn no_pat(stack: &mut Stack) -> Result<(), Failure>
         trees: Vec::new(stack.alloc),
         height: 0,
     };
-    stack.put_pats(none)
+    stack.put(Phrase::Patterns(PatternPhrase::Pats(none)))
 }
 
 /// An atomic pattern before others.
@@ -255,7 +255,7 @@ pub fn pat_before(stack: &mut Stack) -> Result<(), Failure>
     let first = stack.pat();
     let others = stack.pats();
     let all = and_pat(first, others)?;
-    stack.put_pats(all)
+    stack.put(Phrase::Patterns(PatternPhrase::Pats(all)))
 }
 
 pub fn no_clause(stack: &mut Stack) -> Result<(), Failure>
@@ -265,7 +265,7 @@ pub fn no_clause(stack: &mut Stack) -> Result<(), Failure>
         trees: Vec::new(stack.alloc),
         height: 0,
     };
-    stack.put_clauses(none)
+    stack.put(Phrase::Declarations(DeclarationPhrase::Clauses(none)))
 }
 
 /// A clause that begins with the pattern on the stack.
@@ -286,7 +286,7 @@ pub fn clause_before(stack: &mut Stack, shape: Option<&Shape>) -> Result<(), Fai
     let clause = clause_on(stack, shape)?;
     let others = stack.clauses();
     let all = and_clause(clause, others)?;
-    stack.put_clauses(all)
+    stack.put(Phrase::Declarations(DeclarationPhrase::Clauses(all)))
 }
 
 /// A function from its clauses on the stack.
@@ -310,7 +310,7 @@ pub fn clauses(stack: &mut Stack, expander: &Expander, shape: Option<&Shape>) ->
     ensures { let vs = seen stack.old in Puts (of_bind (function_from (option_map (λ s. shape_of s.now) shape.entry) (pat_place (pat_in (at vs 0))) (pat_in (at vs 0)) (right_side_in (at vs 1)) (clauses_in (at vs 2)))) 3 vs (seen stack.new) result }
 {
     let function = function_on(stack, expander, shape)?;
-    stack.put_bind(function)
+    stack.put(Phrase::Declarations(DeclarationPhrase::Bind(function)))
 }
 
 /// The clauses of a function, and further functions.
@@ -324,7 +324,7 @@ pub fn functions(
     let function = function_on(stack, expander, shape)?;
     let others = stack.binds();
     let all = and_bind(function, others)?;
-    stack.put_functions(Vec::new(stack.alloc), all)
+    stack.put(Phrase::Declarations(DeclarationPhrase::Functions(Vec::new(stack.alloc), all)))
 }
 
 pub fn no_function(stack: &mut Stack) -> Result<(), Failure>
@@ -334,7 +334,7 @@ pub fn no_function(stack: &mut Stack) -> Result<(), Failure>
         trees: Vec::new(stack.alloc),
         height: 0,
     };
-    stack.put_binds(none)
+    stack.put(Phrase::Declarations(DeclarationPhrase::Binds(none)))
 }
 
 /// A function before others, behind `and`.
@@ -343,7 +343,7 @@ pub fn more_functions(stack: &mut Stack) -> Result<(), Failure>
 {
     stack.skip();
     let all = all_functions(stack)?;
-    stack.put_binds(all)
+    stack.put(Phrase::Declarations(DeclarationPhrase::Binds(all)))
 }
 
 /// Functions behind one explicit type variable.
@@ -353,7 +353,7 @@ pub fn functions_of_variable(stack: &mut Stack) -> Result<(), Failure>
     let mut variables = Vec::new(stack.alloc);
     variables.push(stack.name()?)?;
     let functions = all_functions(stack)?;
-    stack.put_functions(variables, functions)
+    stack.put(Phrase::Declarations(DeclarationPhrase::Functions(variables, functions)))
 }
 
 /// Explicit type variables in round brackets, without the brackets.
@@ -384,7 +384,7 @@ pub fn functions_of_variables(stack: &mut Stack) -> Result<(), Failure>
     let variables = variables(stack)?;
     stack.skip();
     let functions = all_functions(stack)?;
-    stack.put_functions(variables, functions)
+    stack.put(Phrase::Declarations(DeclarationPhrase::Functions(variables, functions)))
 }
 
 /// What stands behind `fun (` where it is a pattern.
@@ -414,7 +414,7 @@ fn round_function(
     let first = round_pat(expander.alloc, place, inner)?;
     let function = function_from(expander, shape, place, first, right, others)?;
     let all = and_bind(function, binds)?;
-    stack.put_functions(Vec::new(stack.alloc), all)
+    stack.put(Phrase::Declarations(DeclarationPhrase::Functions(Vec::new(stack.alloc), all)))
 }
 
 /// What stands behind `fun (`, with the pattern in its brackets.

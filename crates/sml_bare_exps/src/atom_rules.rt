@@ -88,7 +88,7 @@ pub fn more_series(stack: &mut Stack) -> Result<(), Failure>
 {
     stack.skip();
     let exps = taken_exps(stack)?;
-    stack.put_series(exps)
+    stack.put(Phrase::Expressions(ExpressionPhrase::Series(exps)))
 }
 
 /// An expression in round brackets, before what stands behind it.
@@ -99,7 +99,7 @@ fn with_parts(stack: &mut Stack, exp: LowExp, rest: Phrase) -> Result<(), Failur
         Phrase::Nothing => stack.put_exp(exp),
         Phrase::Expressions(ExpressionPhrase::Series(exps)) => {
             let exps = with(exp, exps)?;
-            stack.put_series(exps)
+            stack.put(Phrase::Expressions(ExpressionPhrase::Series(exps)))
         }
         Phrase::Expressions(ExpressionPhrase::Exps(exps)) => {
             let exps = with(exp, exps)?;
@@ -364,7 +364,7 @@ pub fn last_field(stack: &mut Stack) -> Result<(), Failure>
 {
     stack.skip();
     let trees = Vec::new(stack.alloc);
-    stack.put_fields(LowFields { trees, height: 0 })
+    stack.put(Phrase::Expressions(ExpressionPhrase::Fields(LowFields { trees, height: 0 })))
 }
 
 /// Fields with one more before them.
@@ -388,7 +388,7 @@ pub fn first_fields(stack: &mut Stack) -> Result<(), Failure>
     stack.skip();
     let exp = stack.exp();
     let fields = with_field(label, exp, stack.fields())?;
-    stack.put_fields(fields)
+    stack.put(Phrase::Expressions(ExpressionPhrase::Fields(fields)))
 }
 
 /// `, Lab = Exp ExpRowMore`

@@ -95,7 +95,11 @@ fn signature(stack: &mut Stack) -> Result<(), Failure>
 {
     let signature = stack.sig();
     let equations = stack.wheres();
-    stack.put_sig(with_wheres(stack.alloc, signature, equations)?)
+    stack.put(Phrase::Signatures(SignaturePhrase::Sig(with_wheres(
+        stack.alloc,
+        signature,
+        equations,
+    )?)))
 }
 
 /// `sig .. end`
@@ -117,14 +121,14 @@ fn sig_name(stack: &mut Stack, place: Place) -> Result<(), Failure>
 {
     let name = stack.name()?;
     let tree = SigExp::Identifier(place, name.ident);
-    stack.put_sig(LowSig { tree, height: 1 })
+    stack.put(Phrase::Signatures(SignaturePhrase::Sig(LowSig { tree, height: 1 })))
 }
 
 /// No equations.
 fn no_wheres(stack: &mut Stack) -> Result<(), Failure>
     ensures { Puts (of_wheres []) 0 (seen stack.old) (seen stack.new) result }
 {
-    stack.put_wheres(Vec::new(stack.alloc))
+    stack.put(Phrase::Signatures(SignaturePhrase::Wheres(Vec::new(stack.alloc))))
 }
 
 /// An equation behind a word, and those behind it.
@@ -147,7 +151,7 @@ fn put_wheres(
 {
     let mut equations = equations;
     equations.push(equation)?;
-    stack.put_wheres(equations)
+    stack.put(Phrase::Signatures(SignaturePhrase::Wheres(equations)))
 }
 
 /// `type .. = ..`
@@ -169,7 +173,7 @@ fn begun_sig_bind(stack: &mut Stack) -> Result<(), Failure>
     let name = stack.name()?;
     stack.skip();
     let signature = stack.sig();
-    stack.put_begun_sig_bind(name, signature)
+    stack.put(Phrase::Signatures(SignaturePhrase::BegunSigBind(name, signature)))
 }
 
 /// Nothing behind a signature binding.
@@ -180,7 +184,7 @@ fn no_sig_binds(stack: &mut Stack) -> Result<(), Failure>
         trees: Vec::new(stack.alloc),
         height: 0,
     };
-    stack.put_sig_binds(Vec::new(stack.alloc), binds)
+    stack.put(Phrase::Signatures(SignaturePhrase::SigBinds(Vec::new(stack.alloc), binds)))
 }
 
 /// An equation of the signature binding before it, and what stands behind that.
@@ -190,7 +194,7 @@ fn sig_bind_where(stack: &mut Stack) -> Result<(), Failure>
     let equation = pop_where_type(stack)?;
     let (mut equations, binds) = pop_sig_binds(stack);
     equations.push(equation)?;
-    stack.put_sig_binds(equations, binds)
+    stack.put(Phrase::Signatures(SignaturePhrase::SigBinds(equations, binds)))
 }
 
 /// A signature binding with what belongs to it, and those behind it.
@@ -225,7 +229,7 @@ fn and_sig_binds(stack: &mut Stack) -> Result<(), Failure>
     ensures { let vs = seen stack.old in Puts (of_sig_binds [] (sig_binds (at vs 0) (at vs 1))) 2 vs (seen stack.new) result }
 {
     let binds = sig_binds(stack)?;
-    stack.put_sig_binds(Vec::new(stack.alloc), binds)
+    stack.put(Phrase::Signatures(SignaturePhrase::SigBinds(Vec::new(stack.alloc), binds)))
 }
 
 pub fn signature_phrase(rule: SignatureRule, place: Place, stack: &mut Stack) -> Result<(), Failure>
@@ -235,7 +239,7 @@ pub fn signature_phrase(rule: SignatureRule, place: Place, stack: &mut Stack) ->
         SignatureRule::SigSigAtom => signature(stack),
         SignatureRule::SigAtomSig => {
             let signature = sig_end(stack, place)?;
-            stack.put_sig(signature)
+            stack.put(Phrase::Signatures(SignaturePhrase::Sig(signature)))
         }
         SignatureRule::SigAtomAlphanumeric => sig_name(stack, place),
         SignatureRule::SigMoreNone | SignatureRule::SigWhereNone => no_wheres(stack),

@@ -43,7 +43,7 @@ pub fn one(stack: &mut Stack, spec: Spec, height: u32) -> Result<(), Failure>
 {
     let mut trees = Vec::new(stack.alloc);
     trees.push(spec)?;
-    stack.put_specs(LowSpecs { trees, height })
+    stack.put(Phrase::Signatures(SignaturePhrase::Specs(LowSpecs { trees, height })))
 }
 
 /// `val ..`
@@ -77,7 +77,7 @@ fn val_descs(stack: &mut Stack) -> Result<(), Failure>
 {
     stack.skip();
     let descs = and_val_desc(stack)?;
-    stack.put_val_descs(descs)
+    stack.put(Phrase::Signatures(SignaturePhrase::ValDescs(descs)))
 }
 
 /// A variable and its type.
@@ -87,7 +87,7 @@ fn val_desc(stack: &mut Stack) -> Result<(), Failure>
     let name = stack.name()?;
     stack.skip();
     let ty = stack.ty();
-    stack.put_val_desc(name, ty)
+    stack.put(Phrase::Signatures(SignaturePhrase::ValDesc(name, ty)))
 }
 
 /// A type constructor, and what stands behind it.
@@ -119,11 +119,14 @@ fn type_rest_of(
                 ty: ty.tree,
             })?;
             let height = height.max(ty.height);
-            stack.put_typ_binds(LowTypBinds { trees, height })
+            stack.put(Phrase::Declarations(DeclarationPhrase::TypBinds(LowTypBinds {
+                trees,
+                height,
+            })))
         }
         Phrase::Signatures(SignaturePhrase::TypDescs(mut descs)) => {
             descs.push(TypDesc { variables, name })?;
-            stack.put_typ_descs(descs)
+            stack.put(Phrase::Signatures(SignaturePhrase::TypDescs(descs)))
         }
         other => {
             discard(other);
@@ -139,7 +142,7 @@ fn type_equals(stack: &mut Stack) -> Result<(), Failure>
     stack.skip();
     let ty = stack.ty();
     let binds = stack.typ_binds();
-    stack.put_type_rest(ty, binds)
+    stack.put(Phrase::Signatures(SignaturePhrase::TypeRest(ty, binds)))
 }
 
 /// A type description behind a word, and those behind it.
@@ -171,7 +174,7 @@ fn and_typ_desc(stack: &mut Stack) -> Result<(), Failure>
     ensures { let vs = seen stack.old in Puts (of_typ_descs (record { variables = names_in (at vs 1); name = name_in (at vs 2) } ∷ typ_descs_in (at vs 3))) 4 vs (seen stack.new) result }
 {
     let descs = typ_descs(stack)?;
-    stack.put_typ_descs(descs)
+    stack.put(Phrase::Signatures(SignaturePhrase::TypDescs(descs)))
 }
 
 /// What stands behind `datatype`.
@@ -248,7 +251,7 @@ fn put_datatypes(stack: &mut Stack, datatypes: LowDatBinds) -> Result<(), Failur
         trees: Vec::new(stack.alloc),
         height: 0,
     };
-    stack.put_datatypes(datatypes, types)
+    stack.put(Phrase::Declarations(DeclarationPhrase::Datatypes(datatypes, types)))
 }
 
 /// A type constructor, `=`, and what stands behind that.
@@ -268,7 +271,7 @@ fn datatype_rest_of(stack: &mut Stack, name: Name, rest: Phrase) -> Result<(), F
     match rest {
         Phrase::Declarations(DeclarationPhrase::Constructors(constructors, datatypes, _types)) =>
             and_datatype(stack, Vec::new(stack.alloc), name, constructors, datatypes),
-        Phrase::Long(long) => stack.put_copy(name, long),
+        Phrase::Long(long) => stack.put(Phrase::Declarations(DeclarationPhrase::Copy(name, long))),
         other => {
             discard(other);
             stack.put_nothing()
@@ -286,7 +289,7 @@ fn constructors(stack: &mut Stack) -> Result<(), Failure>
         trees: Vec::new(stack.alloc),
         height: 0,
     };
-    stack.put_constructors(constructors, datatypes, types)
+    stack.put(Phrase::Declarations(DeclarationPhrase::Constructors(constructors, datatypes, types)))
 }
 
 /// A constructor, and those behind it.
@@ -296,7 +299,7 @@ fn con_binds(stack: &mut Stack) -> Result<(), Failure>
     let name = stack.name()?;
     let ty = stack.ty_if_any();
     let binds = and_con_bind(name, ty, stack.con_binds())?;
-    stack.put_con_binds(binds)
+    stack.put(Phrase::Declarations(DeclarationPhrase::ConBinds(binds)))
 }
 
 /// A constructor or an exception in front of others.
@@ -331,7 +334,7 @@ fn con_bind(stack: &mut Stack) -> Result<(), Failure>
 {
     let name = stack.name()?;
     let ty = stack.ty_if_any();
-    stack.put_con_bind(name, ty)
+    stack.put(Phrase::Declarations(DeclarationPhrase::ConBind(name, ty)))
 }
 
 /// An exception behind a word, and those behind it.
@@ -359,7 +362,7 @@ fn and_exception(stack: &mut Stack) -> Result<(), Failure>
     ensures { let vs = seen stack.old in Puts (of_con_binds (con_bind_in (at vs 1) ∷ con_binds_in (at vs 2))) 3 vs (seen stack.new) result }
 {
     let binds = exceptions(stack)?;
-    stack.put_con_binds(binds)
+    stack.put(Phrase::Declarations(DeclarationPhrase::ConBinds(binds)))
 }
 
 /// `strid : sigexp`
@@ -369,7 +372,7 @@ fn begun_str_desc(stack: &mut Stack) -> Result<(), Failure>
     let name = stack.name()?;
     stack.skip();
     let signature = stack.sig();
-    stack.put_begun_str_desc(name, signature)
+    stack.put(Phrase::Signatures(SignaturePhrase::BegunStrDesc(name, signature)))
 }
 
 /// An equation of the structure description before it, and what stands behind that.
@@ -379,7 +382,7 @@ fn where_str_desc(stack: &mut Stack) -> Result<(), Failure>
     let equation = pop_where_type(stack)?;
     let (mut equations, descs) = pop_str_descs(stack);
     equations.push(equation)?;
-    stack.put_str_descs(equations, descs)
+    stack.put(Phrase::Signatures(SignaturePhrase::StrDescs(equations, descs)))
 }
 
 /// A structure description with what belongs to it, and those behind it.
@@ -414,7 +417,7 @@ fn and_str_descs(stack: &mut Stack) -> Result<(), Failure>
     ensures { let vs = seen stack.old in Puts (of_str_descs [] (str_descs (at vs 0) (at vs 1))) 2 vs (seen stack.new) result }
 {
     let descs = str_descs(stack)?;
-    stack.put_str_descs(Vec::new(stack.alloc), descs)
+    stack.put(Phrase::Signatures(SignaturePhrase::StrDescs(Vec::new(stack.alloc), descs)))
 }
 
 /// `structure ..`
@@ -436,7 +439,7 @@ fn included_sig(stack: &mut Stack, place: Place) -> Result<(), Failure>
         Ok(signature) => {
             let equations = stack.wheres();
             let signature = where_types(stack.alloc, place, signature, equations)?;
-            stack.put_sig(signature)
+            stack.put(Phrase::Signatures(SignaturePhrase::Sig(signature)))
         }
         Err(failure) => Err(failure),
     }
@@ -467,11 +470,11 @@ fn included_name_of(
                 height: 1,
             };
             let signature = where_types(stack.alloc, place, signature, equations)?;
-            stack.put_sig(signature)
+            stack.put(Phrase::Signatures(SignaturePhrase::Sig(signature)))
         }
         Phrase::Names(mut names) => {
             names.push(name)?;
-            stack.put_names(names)
+            stack.put(Phrase::Names(names))
         }
         other => {
             discard(other);
@@ -487,7 +490,7 @@ fn names(stack: &mut Stack) -> Result<(), Failure>
     let name = stack.name()?;
     let mut names = stack.names();
     names.push(name)?;
-    stack.put_names(names)
+    stack.put(Phrase::Names(names))
 }
 
 /// What stands behind `sharing`.
@@ -557,7 +560,7 @@ fn shared_types(stack: &mut Stack) -> Result<(), Failure>
 {
     stack.skip();
     let longs = two_longs(stack)?;
-    stack.put_shared_types(longs)
+    stack.put(Phrase::Signatures(SignaturePhrase::SharedTypes(longs)))
 }
 
 /// Structures behind `sharing`.
@@ -565,7 +568,7 @@ fn shared_structures(stack: &mut Stack) -> Result<(), Failure>
     ensures { let vs = seen stack.old in Puts (of_longs (long_in (at vs 0) ∷ long_in (at vs 2) ∷ longs_in (at vs 3))) 4 vs (seen stack.new) result }
 {
     let longs = two_longs(stack)?;
-    stack.put_longs(longs)
+    stack.put(Phrase::Longs(longs))
 }
 
 /// A long identifier behind `=`, and those behind it.
@@ -576,22 +579,22 @@ fn longs(stack: &mut Stack) -> Result<(), Failure>
     let long = stack.long()?;
     let mut longs = stack.longs();
     longs.push(long)?;
-    stack.put_longs(longs)
+    stack.put(Phrase::Longs(longs))
 }
 
 fn no_val_descs(stack: &mut Stack) -> Result<(), Failure>
     ensures { Puts (of_val_descs []) 0 (seen stack.old) (seen stack.new) result }
 {
-    stack.put_val_descs(LowValDescs {
+    stack.put(Phrase::Signatures(SignaturePhrase::ValDescs(LowValDescs {
         trees: Vec::new(stack.alloc),
         height: 0,
-    })
+    })))
 }
 
 fn no_typ_descs(stack: &mut Stack) -> Result<(), Failure>
     ensures { Puts (of_typ_descs []) 0 (seen stack.old) (seen stack.new) result }
 {
-    stack.put_typ_descs(Vec::new(stack.alloc))
+    stack.put(Phrase::Signatures(SignaturePhrase::TypDescs(Vec::new(stack.alloc))))
 }
 
 fn no_datatypes(stack: &mut Stack) -> Result<(), Failure>
@@ -607,10 +610,10 @@ fn no_datatypes(stack: &mut Stack) -> Result<(), Failure>
 fn no_con_binds(stack: &mut Stack) -> Result<(), Failure>
     ensures { Puts (of_con_binds []) 0 (seen stack.old) (seen stack.new) result }
 {
-    stack.put_con_binds(LowConBinds {
+    stack.put(Phrase::Declarations(DeclarationPhrase::ConBinds(LowConBinds {
         trees: Vec::new(stack.alloc),
         height: 0,
-    })
+    })))
 }
 
 fn no_str_descs(stack: &mut Stack) -> Result<(), Failure>
@@ -620,7 +623,7 @@ fn no_str_descs(stack: &mut Stack) -> Result<(), Failure>
         trees: Vec::new(stack.alloc),
         height: 0,
     };
-    stack.put_str_descs(Vec::new(stack.alloc), descs)
+    stack.put(Phrase::Signatures(SignaturePhrase::StrDescs(Vec::new(stack.alloc), descs)))
 }
 
 /// What a phrase of a specification makes by its rule.
@@ -687,11 +690,12 @@ pub fn specification_phrase(
         SpecificationRule::IncludeAlphanumeric => included_name(stack, place),
         SpecificationRule::IncludeMoreAlphanumeric | SpecificationRule::IncludeIdsAlphanumeric =>
             names(stack),
-        SpecificationRule::IncludeIdsNone => stack.put_names(Vec::new(stack.alloc)),
+        SpecificationRule::IncludeIdsNone => stack.put(Phrase::Names(Vec::new(stack.alloc))),
         SpecificationRule::SharingType => shared_types(stack),
         SpecificationRule::SharingLongStrId => shared_structures(stack),
-        SpecificationRule::TypeShareMoreNone | SpecificationRule::StrShareMoreNone =>
-            stack.put_longs(Vec::new(stack.alloc)),
+        SpecificationRule::TypeShareMoreNone | SpecificationRule::StrShareMoreNone => stack.put(
+            Phrase::Longs(Vec::new(stack.alloc)),
+        ),
         SpecificationRule::TypeShareMoreEquals | SpecificationRule::StrShareMoreEquals => longs(
             stack,
         ),

@@ -21,7 +21,7 @@ use sml_lex::fault::Place;
 use sml_phrases::low::{
     LowDec, LowDecs, LowFunBinds, LowSigBinds, LowSpecs, LowStrBinds, LowStrDec, LowStrDecs, LowTop,
 };
-use sml_phrases::phrase::Failure;
+use sml_phrases::phrase::{DeclarationPhrase, Failure, Phrase, SignaturePhrase, StructurePhrase};
 use sml_phrases::raise::raised;
 use sml_phrases::stack::Stack;
 use sml_read::grammar::UnitRule;
@@ -35,7 +35,7 @@ fn and_dec(stack: &mut Stack) -> Result<(), Failure>
     let LowDecs { mut trees, height } = stack.decs();
     trees.push(dec.tree)?;
     let height = height.max(dec.height);
-    stack.put_decs(LowDecs { trees, height })
+    stack.put(Phrase::Declarations(DeclarationPhrase::Decs(LowDecs { trees, height })))
 }
 
 /// A structure-level declaration, and those behind it.
@@ -46,7 +46,7 @@ fn and_str_dec(stack: &mut Stack) -> Result<(), Failure>
     let LowStrDecs { mut trees, height } = stack.str_decs();
     trees.push(dec.tree)?;
     let height = height.max(dec.height);
-    stack.put_str_decs(LowStrDecs { trees, height })
+    stack.put(Phrase::Structures(StructurePhrase::StrDecs(LowStrDecs { trees, height })))
 }
 
 /// Specifications, and those behind them.
@@ -57,7 +57,7 @@ fn and_specs(stack: &mut Stack) -> Result<(), Failure>
     let LowSpecs { mut trees, height } = stack.specs();
     trees.append(&mut specs.trees)?;
     let height = height.max(specs.height);
-    stack.put_specs(LowSpecs { trees, height })
+    stack.put(Phrase::Signatures(SignaturePhrase::Specs(LowSpecs { trees, height })))
 }
 
 /// A declaration of the core at structure level.
@@ -65,10 +65,10 @@ fn core_dec(stack: &mut Stack) -> Result<(), Failure>
     ensures { Puts (of_str_dec (core_dec (dec_in (at (seen stack.old) 0)))) 1 (seen stack.old) (seen stack.new) result }
 {
     let LowDec { tree, height } = stack.dec();
-    stack.put_str_dec(LowStrDec {
+    stack.put(Phrase::Structures(StructurePhrase::StrDec(LowStrDec {
         tree: StrDec::Core(tree),
         height,
-    })
+    })))
 }
 
 /// `local .. in .. end` at structure level.
@@ -84,7 +84,7 @@ fn str_local(stack: &mut Stack, place: Place) -> Result<(), Failure>
     hidden.trees.reverse();
     shown.trees.reverse();
     let tree = StrDec::Local(place, hidden.trees, shown.trees);
-    stack.put_str_dec(LowStrDec { tree, height })
+    stack.put(Phrase::Structures(StructurePhrase::StrDec(LowStrDec { tree, height })))
 }
 
 /// A structure-level declaration at top level.
@@ -92,10 +92,10 @@ fn top_str(stack: &mut Stack) -> Result<(), Failure>
     ensures { Puts (of_top (top_str (str_dec_in (at (seen stack.old) 0)))) 1 (seen stack.old) (seen stack.new) result }
 {
     let LowStrDec { tree, height } = stack.str_dec();
-    stack.put_top(LowTop {
+    stack.put(Phrase::Structures(StructurePhrase::Top(LowTop {
         tree: TopDec::Structure(tree),
         height,
-    })
+    })))
 }
 
 /// Takes two parts of which nothing is made.
@@ -116,7 +116,7 @@ fn structure_dec(stack: &mut Stack, place: Place) -> Result<(), Failure>
     let height = raised(height, 1)?;
     trees.reverse();
     let tree = StrDec::Structure(place, trees);
-    stack.put_str_dec(LowStrDec { tree, height })
+    stack.put(Phrase::Structures(StructurePhrase::StrDec(LowStrDec { tree, height })))
 }
 
 /// `signature ..`
@@ -128,7 +128,7 @@ fn signature_dec(stack: &mut Stack, place: Place) -> Result<(), Failure>
     let height = raised(height, 1)?;
     trees.reverse();
     let tree = TopDec::Signature(place, trees);
-    stack.put_top(LowTop { tree, height })
+    stack.put(Phrase::Structures(StructurePhrase::Top(LowTop { tree, height })))
 }
 
 /// `functor ..`
@@ -140,37 +140,37 @@ fn functor_dec(stack: &mut Stack, place: Place, expander: &Expander) -> Result<(
     let height = raised(height, 1)?;
     trees.reverse();
     let tree = TopDec::Functor(place, trees);
-    stack.put_top(LowTop { tree, height })
+    stack.put(Phrase::Structures(StructurePhrase::Top(LowTop { tree, height })))
 }
 
 /// No declarations.
 fn no_decs(stack: &mut Stack) -> Result<(), Failure>
     ensures { Puts (of_decs no_dec) 0 (seen stack.old) (seen stack.new) result }
 {
-    stack.put_decs(LowDecs {
+    stack.put(Phrase::Declarations(DeclarationPhrase::Decs(LowDecs {
         trees: Vec::new(stack.alloc),
         height: 0,
-    })
+    })))
 }
 
 /// No structure-level declarations.
 fn no_str_decs(stack: &mut Stack) -> Result<(), Failure>
     ensures { Puts (of_str_decs no_str_dec) 0 (seen stack.old) (seen stack.new) result }
 {
-    stack.put_str_decs(LowStrDecs {
+    stack.put(Phrase::Structures(StructurePhrase::StrDecs(LowStrDecs {
         trees: Vec::new(stack.alloc),
         height: 0,
-    })
+    })))
 }
 
 /// No specifications.
 fn no_specs(stack: &mut Stack) -> Result<(), Failure>
     ensures { Puts (of_specs no_spec) 0 (seen stack.old) (seen stack.new) result }
 {
-    stack.put_specs(LowSpecs {
+    stack.put(Phrase::Signatures(SignaturePhrase::Specs(LowSpecs {
         trees: Vec::new(stack.alloc),
         height: 0,
-    })
+    })))
 }
 
 /// What a phrase of a program, or of declarations or specifications one after the other, makes by its rule.

@@ -88,7 +88,7 @@ fn more_types(stack: &mut Stack) -> Result<(), Failure>
     stack.skip();
     let ty = stack.ty();
     let types = and_ty(ty, stack.tys())?;
-    stack.put_tys(types)
+    stack.put(Phrase::Types(TypePhrase::Tys(types)))
 }
 
 /// A type constructor behind one argument.
@@ -137,7 +137,7 @@ fn more_constructors(stack: &mut Stack) -> Result<(), Failure>
     let constructor = stack.long()?;
     let mut constructors = stack.longs();
     constructors.push(constructor)?;
-    stack.put_longs(constructors)
+    stack.put(Phrase::Longs(constructors))
 }
 
 fn variable(stack: &mut Stack, place: Place) -> Result<(), Failure>
@@ -225,7 +225,7 @@ fn fields(stack: &mut Stack) -> Result<(), Failure>
     let ty = stack.ty();
     let others = stack.ty_fields();
     let all = and_field(label, ty, others)?;
-    stack.put_ty_fields(all)
+    stack.put(Phrase::Types(TypePhrase::TyFields(all)))
 }
 
 /// The same behind a comma.
@@ -241,10 +241,10 @@ fn no_fields(stack: &mut Stack) -> Result<(), Failure>
     ensures { Puts (of_ty_fields no_ty_field) 1 (seen stack.old) (seen stack.new) result }
 {
     stack.skip();
-    stack.put_ty_fields(LowTyFields {
+    stack.put(Phrase::Types(TypePhrase::TyFields(LowTyFields {
         trees: Vec::new(stack.alloc),
         height: 0,
-    })
+    })))
 }
 
 fn and_argument(stack: &mut Stack, ty: LowTy, rest: Phrase) -> Result<(), Failure>
@@ -252,7 +252,7 @@ fn and_argument(stack: &mut Stack, ty: LowTy, rest: Phrase) -> Result<(), Failur
 {
     match rest {
         Phrase::Types(TypePhrase::Arguments(others, constructor)) => {
-            stack.put_arguments(and_ty(ty, others)?, constructor)
+            stack.put(Phrase::Types(TypePhrase::Arguments(and_ty(ty, others)?, constructor)))
         }
         other => {
             discard(other);
@@ -281,7 +281,7 @@ fn no_arguments(stack: &mut Stack) -> Result<(), Failure>
         trees: Vec::new(stack.alloc),
         height: 0,
     };
-    stack.put_arguments(types, constructor)
+    stack.put(Phrase::Types(TypePhrase::Arguments(types, constructor)))
 }
 
 /// One type variable.
@@ -291,7 +291,7 @@ fn one_variable(stack: &mut Stack) -> Result<(), Failure>
     let name = stack.name()?;
     let mut names = Vec::new(stack.alloc);
     names.push(name)?;
-    stack.put_names(names)
+    stack.put(Phrase::Names(names))
 }
 
 /// A type variable behind a bracket or a comma, and those behind it.
@@ -311,7 +311,7 @@ fn more_variables(stack: &mut Stack) -> Result<(), Failure>
     ensures { let vs = seen stack.old in Puts (of_names (name_in (at vs 1) ∷ names_in (at vs 2))) 3 vs (seen stack.new) result }
 {
     let names = variables(stack)?;
-    stack.put_names(names)
+    stack.put(Phrase::Names(names))
 }
 
 /// The type variables in round brackets.
@@ -320,7 +320,7 @@ fn some_variables(stack: &mut Stack) -> Result<(), Failure>
 {
     let names = variables(stack)?;
     stack.skip();
-    stack.put_names(names)
+    stack.put(Phrase::Names(names))
 }
 
 /// What stands in round brackets behind one type: nothing.
@@ -345,13 +345,13 @@ pub fn type_phrase(
         TypeRule::TyArrowNone => stack.put_nothing(),
         TypeRule::TyArrowArrow => second(stack),
         TypeRule::TupCon => tuple(stack, place),
-        TypeRule::TupMoreNone => stack.put_tys(LowTys {
+        TypeRule::TupMoreNone => stack.put(Phrase::Types(TypePhrase::Tys(LowTys {
             trees: Vec::new(expander.alloc),
             height: 0,
-        }),
+        }))),
         TypeRule::TupMoreStar => more_types(stack),
         TypeRule::ConATy => application(stack, place),
-        TypeRule::ConMoreNone => stack.put_longs(Vec::new(expander.alloc)),
+        TypeRule::ConMoreNone => stack.put(Phrase::Longs(Vec::new(expander.alloc))),
         TypeRule::ConMoreLongTyCon => more_constructors(stack),
         TypeRule::ATyTypeVariable => variable(stack, place),
         TypeRule::ATyLongTyCon => constructor(stack, place),
@@ -365,11 +365,11 @@ pub fn type_phrase(
         TypeRule::TyRoundComma => more_arguments(stack),
         TypeRule::TyRoundMoreCloseRound => no_arguments(stack),
         TypeRule::TyRoundMoreComma => more_arguments(stack),
-        TypeRule::TvsNone => stack.put_names(Vec::new(expander.alloc)),
+        TypeRule::TvsNone => stack.put(Phrase::Names(Vec::new(expander.alloc))),
         TypeRule::TvsSomeTvs => stack.put_first(),
         TypeRule::SomeTvsTypeVariable => one_variable(stack),
         TypeRule::SomeTvsOpenRound => some_variables(stack),
-        TypeRule::TvsMoreNone => stack.put_names(Vec::new(expander.alloc)),
+        TypeRule::TvsMoreNone => stack.put(Phrase::Names(Vec::new(expander.alloc))),
         TypeRule::TvsMoreComma => more_variables(stack),
     }
 }

@@ -9,6 +9,7 @@ use Rattle.sml_read.specs.declared.grammar.Rule.{Rule}
 use Rattle.sml_read.specs.declared.grammar.Rule.TheVariants.{Units}
 use Rattle.sml_read.specs.declared.grammar.UnitRule.{UnitRule}
 use Rattle.sml_read.specs.declared.grammar.UnitRule.TheVariants.{StartNone, StartSemicolon, StartTop, StartExp, AfterTopNone, AfterTopSemicolon, AfterTopTop, AfterExpNone, AfterExpSemicolon}
+use Rattle.sml_read.specs.Extents.{tokens_in}
 use Rattle.sml_flaws.specs.declared.flaw.Flaw.{Flaw}
 use Rattle.sml_reach.specs.declared.reach.Misfit.{Misfit}
 use Rattle.sml_reach.specs.Fits.{Fitted}
@@ -47,14 +48,9 @@ abbrev pub own_nodes : List Node → List Node
 own_nodes [] = []
 own_nodes (node ∷ nodes) = node ∷ before_first ends_at nodes
 
-abbrev pub count_tokens : List Node → ℕ
-count_tokens [] = 0
-count_tokens (Leaf ∷ nodes) = suc (count_tokens nodes)
-count_tokens (Inner rule ∷ nodes) = count_tokens nodes
-
 -- a token of the declaration of these nodes, whose first token has this number, and no other
 abbrev pub own_token : ℕ → List Node → ℕ → ℕ
-own_token first nodes token = if nat_le first token && nat_lt token (first + count_tokens nodes) then token else first
+own_token first nodes token = if nat_le first token && nat_lt token (first + tokens_in nodes) then token else first
 
 -- the fault of a declaration, by its number in the unit, its first token and its nodes
 abbrev pub flaw_in : ℕ → ℕ → List Node → Option Flaw → Option Misfit

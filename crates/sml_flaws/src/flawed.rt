@@ -12,6 +12,7 @@ use sml_lex::token::Token;
 use sml_reach::fitted::Fitted;
 use sml_reach::reach::Misfit;
 use sml_read::grammar::{Node, Rule, UnitRule};
+use sml_read::phrases::token_count;
 use std::alloc::Global;
 
 /// Whether a declaration begins behind this rule.
@@ -74,24 +75,11 @@ fn own(nodes: &[Node], number: usize) -> &[Node]
     &nodes[number..number + 1 + end]
 }
 
-fn count_tokens(nodes: &[Node]) -> usize
-    ensures { result ≡ spec.count_tokens nodes.now }
-{
-    let mut count = 0;
-    for i in (0..nodes.len()).rev() {
-        match nodes[i] {
-            Node::Leaf => count += 1,
-            Node::Inner(_) => {}
-        }
-    }
-    count
-}
-
 /// A token of the declaration of these nodes, whose first token is given.
 fn own_token(first: usize, nodes: &[Node], token: usize) -> usize
     ensures { result ≡ spec.own_token first nodes.now token }
 {
-    if first <= token && token - first < count_tokens(nodes) {
+    if first <= token && token - first < token_count(nodes) {
         token
     } else {
         first

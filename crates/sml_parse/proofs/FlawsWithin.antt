@@ -16,11 +16,11 @@ use Rattle.sml_flaws.specs.declared.mark.Mark.TheVariants as M
 use Rattle.sml_flaws.specs.declared.flaw.Flaw.{Flaw}
 use Rattle.sml_reach.specs.declared.reach.Misfit.{Misfit}
 use Rattle.sml_reach.specs.Fits.{Fit, Fitted}
-use Rattle.sml_read.specs.Extents.{ends_of}
+use Rattle.sml_read.specs.Extents.{ends_of, tokens_in}
 use Rattle.sml_flaws.specs.Marks.{start, marks_of}
 use Rattle.sml_flaws.specs.Known.{is_again, token_in}
 use Rattle.sml_flaws.specs.Flaws.{flaw_if, name_at, arity_at, unlike_by, unlike, uneven_by, uneven, barred_value, barred, real, flaws_by, flaws_of, scoped_by, scoped_at, scoped_of, flaws_in, flaw_precedes, earlier_flaw, first_flaw}
-use Rattle.sml_flaws.specs.Flawed.{begins_at, ends_at, own_nodes, count_tokens, own_token, flaw_in, flaw_here, or_else, first_flawed}
+use Rattle.sml_flaws.specs.Flawed.{begins_at, ends_at, own_nodes, own_token, flaw_in, flaw_here, or_else, first_flawed}
 use Rattle.sml_parse.specs.Within.{Extent, of_phrases, reason_of, ends_before, begins_next, tokens_before, extents_of}
 use Rattle.sml_parse.proofs.Extents.{agree, agreed}
 use Rattle.sml_parse.proofs.Nonempty.{HaveTokens}
@@ -154,21 +154,21 @@ begins_same r = agreed _ _ (each_rule (λ r. agree (begins_at r) (begins_next r)
 pub ends_same : (r : Rule) → ends_at (Inner r) ≡ ends_before r
 ends_same r = agreed _ _ (each_rule (λ r. agree (ends_at (Inner r)) (ends_before r)) refl r)
 
-own_count : (nodes : List Node) → count_tokens (before_first ends_at nodes) ≡ tokens_before nodes
+own_count : (nodes : List Node) → tokens_in (before_first ends_at nodes) ≡ tokens_before nodes
 own_count [] = refl
-own_count (Leaf ∷ nodes) = ap count_tokens (take_while-cons (λ node. not (ends_at node)) Leaf nodes) ∙ ap suc (own_count nodes)
+own_count (Leaf ∷ nodes) = ap tokens_in (take_while-cons (λ node. not (ends_at node)) Leaf nodes) ∙ ap suc (own_count nodes)
 own_count (Inner r ∷ nodes) =
-    ap count_tokens (take_while-cons (λ node. not (ends_at node)) (Inner r) nodes)
-    ∙ subst (λ (b : Bool). count_tokens (cond (not (ends_at (Inner r))) (Inner r ∷ before_first ends_at nodes) []) ≡ (if b then 0 else tokens_before nodes)) (ends_same r) (by_end (own_count nodes) (ends_at (Inner r)))
+    ap tokens_in (take_while-cons (λ node. not (ends_at node)) (Inner r) nodes)
+    ∙ subst (λ (b : Bool). tokens_in (cond (not (ends_at (Inner r))) (Inner r ∷ before_first ends_at nodes) []) ≡ (if b then 0 else tokens_before nodes)) (ends_same r) (by_end (own_count nodes) (ends_at (Inner r)))
   where
-    by_end : count_tokens (before_first ends_at nodes) ≡ tokens_before nodes → (b : Bool) → count_tokens (cond (not b) (Inner r ∷ before_first ends_at nodes) []) ≡ (if b then 0 else tokens_before nodes)
+    by_end : tokens_in (before_first ends_at nodes) ≡ tokens_before nodes → (b : Bool) → tokens_in (cond (not b) (Inner r ∷ before_first ends_at nodes) []) ≡ (if b then 0 else tokens_before nodes)
     by_end h true = refl
     by_end h false = h
 
-own_in : (first : ℕ) (nodes : List Node) (token : ℕ) → 0 < count_tokens nodes → IsIn first (first + count_tokens nodes) (own_token first nodes token)
-own_in first nodes token some = by_test (nat_le first token && nat_lt token (first + count_tokens nodes)) refl
+own_in : (first : ℕ) (nodes : List Node) (token : ℕ) → 0 < tokens_in nodes → IsIn first (first + tokens_in nodes) (own_token first nodes token)
+own_in first nodes token some = by_test (nat_le first token && nat_lt token (first + tokens_in nodes)) refl
   where
-    by_test : (b : Bool) → (nat_le first token && nat_lt token (first + count_tokens nodes)) ≡ b → IsIn first (first + count_tokens nodes) (if b then token else first)
+    by_test : (b : Bool) → (nat_le first token && nat_lt token (first + tokens_in nodes)) ≡ b → IsIn first (first + tokens_in nodes) (if b then token else first)
     by_test true e = let both = and_parts _ _ e in (leb-true _ _ both.0, ltb-true _ _ both.1)
     by_test false e = (omega arith, omega (arith, some))
 

@@ -2,8 +2,8 @@
 use Rattle.std.proofs.Common.{◌≡◌, ℕ, zero, suc, ◌-◌, ◌<◌, Bool, true, false, ◌&&◌, List, [], ◌∷◌, ◌++◌, drop, length, replicate, take, append-nil, refl, sym, ap, ◌∙◌, ◌≤◌, arith}
 use Rattle.std.proofs.lemmas.List.{take_all}
 use Rattle.std.proofs.Math.ListN.{drop_of_length-le}
-use Rattle.sml_phrases.specs.Phrases.{Phrase, nothing, first, at, is_alone, is_exp, is_nothing}
-use Rattle.sml_phrases.specs.PhraseViews.{phrase_of, held_in}
+use Rattle.sml_phrases.specs.Phrases.{Phrase, nothing, first, at}
+use Rattle.sml_phrases.specs.PhraseViews.{phrase_of, held_in, is_alone, is_exp, is_nothing}
 use Rattle.sml_phrases.specs.declared.stack.Held.{Held}
 
 and_true : (b : Bool) → (b && true) ≡ b

@@ -1,5 +1,5 @@
 -- The program's phrases as those of the definitions, and what it is for a call to make one.
-use Rattle.std.specs.Prelude.{◌≡◌, ℕ, List, [], ◌∷◌, ◌++◌, Bool, false, drop, map, replicate, reverse, Result, Ok, Err}
+use Rattle.std.specs.Prelude.{◌≡◌, ℕ, List, [], ◌∷◌, ◌++◌, Bool, true, false, ◌&&◌, drop, map, replicate, reverse, Result, Ok, Err}
 use Rattle.std.specs.Option.{option_map}
 use Rattle.sml_lex.specs.declared.fault.Place.{Place}
 use Rattle.sml_tree.specs.TypeViews.{name_of, names_of, long_name_of, ty_of, tys_of, ty_field_of, ty_fields_of}
@@ -115,6 +115,19 @@ held_in (h ∷ hs) = phrase_of h.phrase ∷ (replicate h.below nothing ++ held_i
 -- the phrases on a stack, the last one first
 abbrev pub seen : Stack → List Phrase
 seen stack = replicate stack.nothings nothing ++ held_in (reverse stack.held.items)
+
+-- whether an expression comes first, and nothing behind it
+abbrev pub is_exp : Phrase → Bool
+is_exp (of_exp e) = true
+is_exp _ = false
+
+abbrev pub is_nothing : Phrase → Bool
+is_nothing nothing = true
+is_nothing _ = false
+
+abbrev pub is_alone : List Phrase → Bool
+is_alone (x ∷ y ∷ xs) = is_exp x && is_nothing y
+is_alone _ = false
 
 -- A call gives what is wanted; or it is too high, and so is what is wanted; or a growth was refused.
 abbrev pub Gives : {A : Type 0} → {B : Type 0} → (A → B) → (B → Bool) → B → Result A Failure → Type 0

@@ -1,6 +1,6 @@
 -- What a phrase of the grammar makes of its parts, before it is part of another one. `P` of the trees is the place, in lines
 -- and columns, counted from the first token of the declaration.
-use Rattle.std.specs.Prelude.{ℕ, List, [], ◌∷◌, drop, Bool, true, false, ◌&&◌, Option, Some, None}
+use Rattle.std.specs.Prelude.{ℕ, List, [], ◌∷◌, drop, Bool, Option, Some, None}
 use Rattle.sml_lex.specs.declared.fault.Place.{Place}
 use Rattle.sml_lex.specs.Faults.{first_place}
 use Rattle.sml_tree.specs.Names.{Name, LongName}
@@ -379,16 +379,3 @@ first (x ∷ xs) = x
 
 abbrev pub at : List Phrase → ℕ → Phrase
 at xs n = first (drop n xs)
-
--- whether an expression comes first, and nothing behind it
-abbrev pub is_exp : Phrase → Bool
-is_exp (of_exp e) = true
-is_exp _ = false
-
-abbrev pub is_nothing : Phrase → Bool
-is_nothing nothing = true
-is_nothing _ = false
-
-abbrev pub is_alone : List Phrase → Bool
-is_alone (x ∷ y ∷ xs) = is_exp x && is_nothing y
-is_alone _ = false

@@ -262,9 +262,9 @@ pub fn discard(phrase: Phrase) {
     match phrase {
         Phrase::Nothing => {}
         Phrase::Word(_place) => {}
-        other => discard_other(other),
+        other => let_go(other),
     }
 }
 
 #[inline(never)]
-fn discard_other(_phrase: Phrase) {}
+fn let_go<T: Drop>(_value: T) {}

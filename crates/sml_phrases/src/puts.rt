@@ -1,22 +1,19 @@
-//! What the rules put on the stack, a function for each kind of phrase.
+//! What the rules put on the stack: any phrase, and the most frequent ones made where they are to stand.
 
 ghost use Rattle.std.specs.Prelude.{map, reverse};
 ghost use Rattle.std.specs.Option.{option_map};
-ghost use Rattle.sml_tree.specs.TypeViews.{name_of, long_name_of, ty_of, tys_of, ty_field_of, ty_fields_of};
-ghost use Rattle.sml_tree.specs.PatternViews.{constant_of, pat_of, pats_of, pat_field_of, pat_fields_of};
-ghost use Rattle.sml_tree.specs.BindingViews.{typ_bind_of, con_bind_of, dat_bind_of};
-ghost use Rattle.sml_tree.specs.ExpressionViews.{exn_bind_of, exp_of, exps_of, field_of, fields_of, rule_of, rules_of, dec_of, decs_of, bind_of, binds_of};
-ghost use Rattle.sml_tree.specs.SignatureViews.{val_desc_of, typ_desc_of, sig_of, spec_of, specs_of, str_desc_of, str_descs_of};
-ghost use Rattle.sml_tree.specs.StructureViews.{str_of, str_dec_of, str_decs_of, str_bind_of, str_binds_of, sig_bind_of, fun_bind_of, top_of};
+ghost use Rattle.sml_tree.specs.TypeViews.{name_of, long_name_of, ty_of, tys_of};
+ghost use Rattle.sml_tree.specs.PatternViews.{constant_of, pat_of, pats_of};
+ghost use Rattle.sml_tree.specs.ExpressionViews.{exp_of, exps_of, bind_of, binds_of};
+ghost use Rattle.sml_tree.specs.SignatureViews.{sig_of};
+ghost use Rattle.sml_tree.specs.StructureViews.{str_of};
 ghost use Rattle.sml_tree.specs.Clauses.{clause_of};
-ghost use Rattle.sml_phrases.specs.Phrases.{at, first, nothing, of_word, of_name, of_long, of_constant, of_names, of_longs, of_ty, of_tys, of_ty_fields, of_arguments, of_pat, of_pats, of_pat_fields, of_atoms, of_layer, of_op_atoms, of_op_layer, of_exp, of_exps, of_series, of_fields, of_rules, of_dec, of_decs, of_bind, of_binds, of_values, of_round_values, of_functions, of_right_side, of_clauses, of_round_functions, of_typ_bind, of_typ_binds, of_con_bind, of_con_binds, of_datatypes, of_constructors, of_copy, of_exn_binds, of_sig, of_where, of_wheres, of_begun_sig_bind, of_sig_binds, of_specs, of_val_desc, of_val_descs, of_typ_descs, of_type_rest, of_begun_str_desc, of_str_descs, of_shared_types, of_str, of_str_dec, of_str_decs, of_constraints, of_str_binds, of_begun_str_bind, of_functor_argument, of_fun_binds, of_begun_fun_bind, of_begun_functor, of_top};
-ghost use Rattle.sml_phrases.specs.PhraseViews.{Puts, low_constraint_of, low_where_of, phrase_of, rest_of, seen};
+ghost use Rattle.sml_phrases.specs.Phrases.{at, first, nothing, of_word, of_name, of_long, of_constant, of_ty, of_pat, of_layer, of_op_layer, of_exp, of_exps, of_round_values, of_right_side, of_round_functions, of_where, of_begun_fun_bind};
+ghost use Rattle.sml_phrases.specs.PhraseViews.{Puts, low_constraint_of, phrase_of, rest_of, seen};
 
 use crate::low::{
-    LowBind, LowBinds, LowClauses, LowConBinds, LowConstraint, LowDatBinds, LowDec, LowDecs,
-    LowExnBinds, LowExp, LowExps, LowFields, LowFunBinds, LowPat, LowPatFields, LowPats, LowRules,
-    LowSig, LowSigBinds, LowSpecs, LowStr, LowStrBinds, LowStrDec, LowStrDecs, LowStrDescs, LowTop,
-    LowTy, LowTyFields, LowTypBinds, LowTys, LowValDescs, LowWhere,
+    LowBinds, LowClauses, LowConstraint, LowExp, LowExps, LowPat, LowPats, LowSig, LowStr, LowTy,
+    LowTys,
 };
 use crate::phrase::{
     DeclarationPhrase, ExpressionPhrase, Failure, Layer, PatternPhrase, Phrase, Rest, RightSide,
@@ -46,6 +43,14 @@ impl Stack {
     {
         self.skip();
         self.put_first()
+    }
+
+    /// Puts a phrase on top.
+    pub fn put(&mut self, phrase: Phrase) -> Result<(), Failure>
+        ensures { Puts (phrase_of phrase) 0 (seen self.old) (seen self.new) result }
+    {
+        self.push(phrase)?;
+        Ok(())
     }
 
     pub fn put_nothing(&mut self) -> Result<(), Failure>
@@ -87,51 +92,11 @@ impl Stack {
         Ok(())
     }
 
-    pub fn put_names(&mut self, names: Vec<Name>) -> Result<(), Failure>
-        ensures { Puts (of_names (map name_of (reverse names.items))) 0 (seen self.old) (seen self.new) result }
-    {
-        self.make_room()?;
-        self.add(Phrase::Names(names));
-        Ok(())
-    }
-
-    pub fn put_longs(&mut self, longs: Vec<LongIdent>) -> Result<(), Failure>
-        ensures { Puts (of_longs (map long_name_of (reverse longs.items))) 0 (seen self.old) (seen self.new) result }
-    {
-        self.make_room()?;
-        self.add(Phrase::Longs(longs));
-        Ok(())
-    }
-
     pub fn put_ty(&mut self, ty: LowTy) -> Result<(), Failure>
         ensures { Puts (of_ty (ty_of ty.tree)) 0 (seen self.old) (seen self.new) result }
     {
         self.make_room()?;
         self.add(Phrase::Types(TypePhrase::Ty(ty)));
-        Ok(())
-    }
-
-    pub fn put_tys(&mut self, tys: LowTys) -> Result<(), Failure>
-        ensures { Puts (of_tys (tys_of (map (λ t. ty_of t.tree) (reverse tys.trees.items)))) 0 (seen self.old) (seen self.new) result }
-    {
-        self.make_room()?;
-        self.add(Phrase::Types(TypePhrase::Tys(tys)));
-        Ok(())
-    }
-
-    pub fn put_ty_fields(&mut self, fields: LowTyFields) -> Result<(), Failure>
-        ensures { Puts (of_ty_fields (ty_fields_of (map ty_field_of (reverse fields.trees.items)))) 0 (seen self.old) (seen self.new) result }
-    {
-        self.make_room()?;
-        self.add(Phrase::Types(TypePhrase::TyFields(fields)));
-        Ok(())
-    }
-
-    pub fn put_arguments(&mut self, others: LowTys, constructor: LongIdent) -> Result<(), Failure>
-        ensures { Puts (of_arguments (tys_of (map (λ t. ty_of t.tree) (reverse others.trees.items))) (long_name_of constructor)) 0 (seen self.old) (seen self.new) result }
-    {
-        self.make_room()?;
-        self.add(Phrase::Types(TypePhrase::Arguments(others, constructor)));
         Ok(())
     }
 
@@ -143,50 +108,11 @@ impl Stack {
         Ok(())
     }
 
-    pub fn put_pats(&mut self, pats: LowPats) -> Result<(), Failure>
-        ensures { Puts (of_pats (pats_of (map (λ q. pat_of q.tree) (reverse pats.trees.items)))) 0 (seen self.old) (seen self.new) result }
-    {
-        self.make_room()?;
-        self.add(Phrase::Patterns(PatternPhrase::Pats(pats)));
-        Ok(())
-    }
-
-    pub fn put_pat_fields(&mut self, fields: LowPatFields, flexible: bool) -> Result<(), Failure>
-        ensures { Puts (of_pat_fields (pat_fields_of (map pat_field_of (reverse fields.trees.items))) flexible) 0 (seen self.old) (seen self.new) result }
-    {
-        self.make_room()?;
-        self.add(Phrase::Patterns(PatternPhrase::PatFields(fields, flexible)));
-        Ok(())
-    }
-
-    pub fn put_atoms(&mut self, atoms: LowPats, tys: LowTys) -> Result<(), Failure>
-        ensures { Puts (of_atoms (pats_of (map (λ q. pat_of q.tree) (reverse atoms.trees.items))) (tys_of (map (λ t. ty_of t.tree) (reverse tys.trees.items)))) 0 (seen self.old) (seen self.new) result }
-    {
-        self.make_room()?;
-        self.add(Phrase::Patterns(PatternPhrase::Atoms(atoms, tys)));
-        Ok(())
-    }
-
     pub fn put_layer(&mut self, ty: Option<LowTy>, pat: Option<LowPat>) -> Result<(), Failure>
         ensures { Puts (of_layer (option_map (λ t. ty_of t.tree) ty) (option_map (λ q. pat_of q.tree) pat)) 0 (seen self.old) (seen self.new) result }
     {
         let layer = Box::new(self.alloc, Layer { ty, pat })?;
-        self.make_room()?;
-        self.add(Phrase::Patterns(PatternPhrase::Layer(layer)));
-        Ok(())
-    }
-
-    pub fn put_op_atoms(
-        &mut self,
-        long: LongIdent,
-        atoms: LowPats,
-        tys: LowTys,
-    ) -> Result<(), Failure>
-        ensures { Puts (of_op_atoms (long_name_of long) (pats_of (map (λ q. pat_of q.tree) (reverse atoms.trees.items))) (tys_of (map (λ t. ty_of t.tree) (reverse tys.trees.items)))) 0 (seen self.old) (seen self.new) result }
-    {
-        self.make_room()?;
-        self.add(Phrase::Patterns(PatternPhrase::OpAtoms(long, atoms, tys)));
-        Ok(())
+        self.put(Phrase::Patterns(PatternPhrase::Layer(layer)))
     }
 
     pub fn put_op_layer(
@@ -198,9 +124,7 @@ impl Stack {
         ensures { Puts (of_op_layer (name_of name) (option_map (λ t. ty_of t.tree) ty) (option_map (λ q. pat_of q.tree) pat)) 0 (seen self.old) (seen self.new) result }
     {
         let layer = Box::new(self.alloc, Layer { ty, pat })?;
-        self.make_room()?;
-        self.add(Phrase::Patterns(PatternPhrase::OpLayer(name, layer)));
-        Ok(())
+        self.put(Phrase::Patterns(PatternPhrase::OpLayer(name, layer)))
     }
 
     pub fn put_exp(&mut self, exp: LowExp) -> Result<(), Failure>
@@ -219,80 +143,11 @@ impl Stack {
         Ok(())
     }
 
-    pub fn put_series(&mut self, exps: LowExps) -> Result<(), Failure>
-        ensures { Puts (of_series (exps_of (map (λ e. exp_of e.tree) (reverse exps.trees.items)))) 0 (seen self.old) (seen self.new) result }
-    {
-        self.make_room()?;
-        self.add(Phrase::Expressions(ExpressionPhrase::Series(exps)));
-        Ok(())
-    }
-
-    pub fn put_fields(&mut self, fields: LowFields) -> Result<(), Failure>
-        ensures { Puts (of_fields (fields_of (map field_of (reverse fields.trees.items)))) 0 (seen self.old) (seen self.new) result }
-    {
-        self.make_room()?;
-        self.add(Phrase::Expressions(ExpressionPhrase::Fields(fields)));
-        Ok(())
-    }
-
-    pub fn put_rules(&mut self, rules: LowRules) -> Result<(), Failure>
-        ensures { Puts (of_rules (rules_of (map rule_of (reverse rules.trees.items)))) 0 (seen self.old) (seen self.new) result }
-    {
-        self.make_room()?;
-        self.add(Phrase::Expressions(ExpressionPhrase::Rules(rules)));
-        Ok(())
-    }
-
     pub fn put_rest(&mut self, rest: Box<Rest>) -> Result<(), Failure>
         ensures { Puts (rest_of rest.value) 0 (seen self.old) (seen self.new) result }
     {
         self.make_room()?;
         self.add(Phrase::Expressions(ExpressionPhrase::Rest(rest)));
-        Ok(())
-    }
-
-    pub fn put_dec(&mut self, dec: LowDec) -> Result<(), Failure>
-        ensures { Puts (of_dec (dec_of dec.tree)) 0 (seen self.old) (seen self.new) result }
-    {
-        self.make_room()?;
-        self.add(Phrase::Declarations(DeclarationPhrase::Dec(dec)));
-        Ok(())
-    }
-
-    pub fn put_decs(&mut self, decs: LowDecs) -> Result<(), Failure>
-        ensures { Puts (of_decs (decs_of (map dec_of (reverse decs.trees.items)))) 0 (seen self.old) (seen self.new) result }
-    {
-        self.make_room()?;
-        self.add(Phrase::Declarations(DeclarationPhrase::Decs(decs)));
-        Ok(())
-    }
-
-    pub fn put_bind(&mut self, bind: LowBind) -> Result<(), Failure>
-        ensures { Puts (of_bind (bind_of bind.tree)) 0 (seen self.old) (seen self.new) result }
-    {
-        self.make_room()?;
-        self.add(Phrase::Declarations(DeclarationPhrase::Bind(bind)));
-        Ok(())
-    }
-
-    pub fn put_binds(&mut self, binds: LowBinds) -> Result<(), Failure>
-        ensures { Puts (of_binds (binds_of (map bind_of (reverse binds.trees.items)))) 0 (seen self.old) (seen self.new) result }
-    {
-        self.make_room()?;
-        self.add(Phrase::Declarations(DeclarationPhrase::Binds(binds)));
-        Ok(())
-    }
-
-    pub fn put_values(
-        &mut self,
-        variables: Vec<Name>,
-        plain: LowBinds,
-        recursive: LowBinds,
-    ) -> Result<(), Failure>
-        ensures { Puts (of_values (map name_of (reverse variables.items)) (binds_of (map bind_of (reverse plain.trees.items))) (binds_of (map bind_of (reverse recursive.trees.items)))) 0 (seen self.old) (seen self.new) result }
-    {
-        self.make_room()?;
-        self.add(Phrase::Declarations(DeclarationPhrase::Values(variables, plain, recursive)));
         Ok(())
     }
 
@@ -316,17 +171,7 @@ impl Stack {
             recursive,
         };
         let values = Box::new(self.alloc, values)?;
-        self.make_room()?;
-        self.add(Phrase::Declarations(DeclarationPhrase::RoundValues(values)));
-        Ok(())
-    }
-
-    pub fn put_functions(&mut self, variables: Vec<Name>, binds: LowBinds) -> Result<(), Failure>
-        ensures { Puts (of_functions (map name_of (reverse variables.items)) (binds_of (map bind_of (reverse binds.trees.items)))) 0 (seen self.old) (seen self.new) result }
-    {
-        self.make_room()?;
-        self.add(Phrase::Declarations(DeclarationPhrase::Functions(variables, binds)));
-        Ok(())
+        self.put(Phrase::Declarations(DeclarationPhrase::RoundValues(values)))
     }
 
     pub fn put_right_side(
@@ -343,17 +188,7 @@ impl Stack {
             body,
         };
         let right = Box::new(self.alloc, right)?;
-        self.make_room()?;
-        self.add(Phrase::Declarations(DeclarationPhrase::RightSide(right)));
-        Ok(())
-    }
-
-    pub fn put_clauses(&mut self, clauses: LowClauses) -> Result<(), Failure>
-        ensures { Puts (of_clauses (map clause_of (reverse clauses.trees.items))) 0 (seen self.old) (seen self.new) result }
-    {
-        self.make_room()?;
-        self.add(Phrase::Declarations(DeclarationPhrase::Clauses(clauses)));
-        Ok(())
+        self.put(Phrase::Declarations(DeclarationPhrase::RightSide(right)))
     }
 
     pub fn put_round_functions(
@@ -366,101 +201,9 @@ impl Stack {
         ensures { Puts (of_round_functions (pats_of (map (λ q. pat_of q.tree) (reverse inner.trees.items))) (pats_of (map (λ q. pat_of q.tree) (reverse right.pats.trees.items))) (option_map (λ t. ty_of t.tree) right.result) (exp_of right.body.tree) (map clause_of (reverse clauses.trees.items)) (binds_of (map bind_of (reverse binds.trees.items)))) 0 (seen self.old) (seen self.new) result }
     {
         let right = Box::new(self.alloc, right)?;
-        self.make_room()?;
-        self.add(Phrase::Declarations(DeclarationPhrase::RoundFunctions(
+        self.put(Phrase::Declarations(DeclarationPhrase::RoundFunctions(
             inner, right, clauses, binds,
-        )));
-        Ok(())
-    }
-
-    pub fn put_typ_bind(
-        &mut self,
-        variables: Vec<Name>,
-        name: Name,
-        ty: LowTy,
-    ) -> Result<(), Failure>
-        ensures { Puts (of_typ_bind (map name_of (reverse variables.items)) (name_of name) (ty_of ty.tree)) 0 (seen self.old) (seen self.new) result }
-    {
-        self.make_room()?;
-        self.add(Phrase::Declarations(DeclarationPhrase::TypBind(variables, name, ty)));
-        Ok(())
-    }
-
-    pub fn put_typ_binds(&mut self, binds: LowTypBinds) -> Result<(), Failure>
-        ensures { Puts (of_typ_binds (map typ_bind_of (reverse binds.trees.items))) 0 (seen self.old) (seen self.new) result }
-    {
-        self.make_room()?;
-        self.add(Phrase::Declarations(DeclarationPhrase::TypBinds(binds)));
-        Ok(())
-    }
-
-    pub fn put_con_bind(&mut self, name: Name, ty: Option<LowTy>) -> Result<(), Failure>
-        ensures { Puts (of_con_bind (name_of name) (option_map (λ t. ty_of t.tree) ty)) 0 (seen self.old) (seen self.new) result }
-    {
-        self.make_room()?;
-        self.add(Phrase::Declarations(DeclarationPhrase::ConBind(name, ty)));
-        Ok(())
-    }
-
-    pub fn put_con_binds(&mut self, binds: LowConBinds) -> Result<(), Failure>
-        ensures { Puts (of_con_binds (map con_bind_of (reverse binds.trees.items))) 0 (seen self.old) (seen self.new) result }
-    {
-        self.make_room()?;
-        self.add(Phrase::Declarations(DeclarationPhrase::ConBinds(binds)));
-        Ok(())
-    }
-
-    pub fn put_datatypes(
-        &mut self,
-        datatypes: LowDatBinds,
-        types: LowTypBinds,
-    ) -> Result<(), Failure>
-        ensures { Puts (of_datatypes (map dat_bind_of (reverse datatypes.trees.items)) (map typ_bind_of (reverse types.trees.items))) 0 (seen self.old) (seen self.new) result }
-    {
-        self.make_room()?;
-        self.add(Phrase::Declarations(DeclarationPhrase::Datatypes(datatypes, types)));
-        Ok(())
-    }
-
-    pub fn put_constructors(
-        &mut self,
-        constructors: LowConBinds,
-        datatypes: LowDatBinds,
-        types: LowTypBinds,
-    ) -> Result<(), Failure>
-        ensures { Puts (of_constructors (map con_bind_of (reverse constructors.trees.items)) (map dat_bind_of (reverse datatypes.trees.items)) (map typ_bind_of (reverse types.trees.items))) 0 (seen self.old) (seen self.new) result }
-    {
-        self.make_room()?;
-        self.add(Phrase::Declarations(DeclarationPhrase::Constructors(
-            constructors,
-            datatypes,
-            types,
-        )));
-        Ok(())
-    }
-
-    pub fn put_copy(&mut self, name: Name, copied: LongIdent) -> Result<(), Failure>
-        ensures { Puts (of_copy (name_of name) (long_name_of copied)) 0 (seen self.old) (seen self.new) result }
-    {
-        self.make_room()?;
-        self.add(Phrase::Declarations(DeclarationPhrase::Copy(name, copied)));
-        Ok(())
-    }
-
-    pub fn put_exn_binds(&mut self, binds: LowExnBinds) -> Result<(), Failure>
-        ensures { Puts (of_exn_binds (map exn_bind_of (reverse binds.trees.items))) 0 (seen self.old) (seen self.new) result }
-    {
-        self.make_room()?;
-        self.add(Phrase::Declarations(DeclarationPhrase::ExnBinds(binds)));
-        Ok(())
-    }
-
-    pub fn put_sig(&mut self, signature: LowSig) -> Result<(), Failure>
-        ensures { Puts (of_sig (sig_of signature.tree)) 0 (seen self.old) (seen self.new) result }
-    {
-        self.make_room()?;
-        self.add(Phrase::Signatures(SignaturePhrase::Sig(signature)));
-        Ok(())
+        )))
     }
 
     pub fn put_where(
@@ -472,188 +215,7 @@ impl Stack {
         ensures { Puts (of_where (map name_of (reverse variables.items)) (long_name_of constructor) (ty_of ty.tree)) 0 (seen self.old) (seen self.new) result }
     {
         let ty = Box::new(self.alloc, ty)?;
-        self.make_room()?;
-        self.add(Phrase::Signatures(SignaturePhrase::Where(variables, constructor, ty)));
-        Ok(())
-    }
-
-    pub fn put_wheres(&mut self, equations: Vec<LowWhere>) -> Result<(), Failure>
-        ensures { Puts (of_wheres (map low_where_of (reverse equations.items))) 0 (seen self.old) (seen self.new) result }
-    {
-        self.make_room()?;
-        self.add(Phrase::Signatures(SignaturePhrase::Wheres(equations)));
-        Ok(())
-    }
-
-    pub fn put_begun_sig_bind(&mut self, name: Name, signature: LowSig) -> Result<(), Failure>
-        ensures { Puts (of_begun_sig_bind (name_of name) (sig_of signature.tree)) 0 (seen self.old) (seen self.new) result }
-    {
-        self.make_room()?;
-        self.add(Phrase::Signatures(SignaturePhrase::BegunSigBind(name, signature)));
-        Ok(())
-    }
-
-    pub fn put_sig_binds(
-        &mut self,
-        equations: Vec<LowWhere>,
-        binds: LowSigBinds,
-    ) -> Result<(), Failure>
-        ensures { Puts (of_sig_binds (map low_where_of (reverse equations.items)) (map sig_bind_of (reverse binds.trees.items))) 0 (seen self.old) (seen self.new) result }
-    {
-        self.make_room()?;
-        self.add(Phrase::Signatures(SignaturePhrase::SigBinds(equations, binds)));
-        Ok(())
-    }
-
-    pub fn put_specs(&mut self, specs: LowSpecs) -> Result<(), Failure>
-        ensures { Puts (of_specs (specs_of (map spec_of (reverse specs.trees.items)))) 0 (seen self.old) (seen self.new) result }
-    {
-        self.make_room()?;
-        self.add(Phrase::Signatures(SignaturePhrase::Specs(specs)));
-        Ok(())
-    }
-
-    pub fn put_val_desc(&mut self, name: Name, ty: LowTy) -> Result<(), Failure>
-        ensures { Puts (of_val_desc (name_of name) (ty_of ty.tree)) 0 (seen self.old) (seen self.new) result }
-    {
-        self.make_room()?;
-        self.add(Phrase::Signatures(SignaturePhrase::ValDesc(name, ty)));
-        Ok(())
-    }
-
-    pub fn put_val_descs(&mut self, descs: LowValDescs) -> Result<(), Failure>
-        ensures { Puts (of_val_descs (map val_desc_of (reverse descs.trees.items))) 0 (seen self.old) (seen self.new) result }
-    {
-        self.make_room()?;
-        self.add(Phrase::Signatures(SignaturePhrase::ValDescs(descs)));
-        Ok(())
-    }
-
-    pub fn put_typ_descs(&mut self, descs: Vec<TypDesc>) -> Result<(), Failure>
-        ensures { Puts (of_typ_descs (map typ_desc_of (reverse descs.items))) 0 (seen self.old) (seen self.new) result }
-    {
-        self.make_room()?;
-        self.add(Phrase::Signatures(SignaturePhrase::TypDescs(descs)));
-        Ok(())
-    }
-
-    pub fn put_type_rest(&mut self, ty: LowTy, binds: LowTypBinds) -> Result<(), Failure>
-        ensures { Puts (of_type_rest (ty_of ty.tree) (map typ_bind_of (reverse binds.trees.items))) 0 (seen self.old) (seen self.new) result }
-    {
-        self.make_room()?;
-        self.add(Phrase::Signatures(SignaturePhrase::TypeRest(ty, binds)));
-        Ok(())
-    }
-
-    pub fn put_begun_str_desc(&mut self, name: Name, signature: LowSig) -> Result<(), Failure>
-        ensures { Puts (of_begun_str_desc (name_of name) (sig_of signature.tree)) 0 (seen self.old) (seen self.new) result }
-    {
-        self.make_room()?;
-        self.add(Phrase::Signatures(SignaturePhrase::BegunStrDesc(name, signature)));
-        Ok(())
-    }
-
-    pub fn put_str_descs(
-        &mut self,
-        equations: Vec<LowWhere>,
-        descs: LowStrDescs,
-    ) -> Result<(), Failure>
-        ensures { Puts (of_str_descs (map low_where_of (reverse equations.items)) (str_descs_of (map str_desc_of (reverse descs.trees.items)))) 0 (seen self.old) (seen self.new) result }
-    {
-        self.make_room()?;
-        self.add(Phrase::Signatures(SignaturePhrase::StrDescs(equations, descs)));
-        Ok(())
-    }
-
-    pub fn put_shared_types(&mut self, longs: Vec<LongIdent>) -> Result<(), Failure>
-        ensures { Puts (of_shared_types (map long_name_of (reverse longs.items))) 0 (seen self.old) (seen self.new) result }
-    {
-        self.make_room()?;
-        self.add(Phrase::Signatures(SignaturePhrase::SharedTypes(longs)));
-        Ok(())
-    }
-
-    pub fn put_str(&mut self, structure: LowStr) -> Result<(), Failure>
-        ensures { Puts (of_str (str_of structure.tree)) 0 (seen self.old) (seen self.new) result }
-    {
-        self.make_room()?;
-        self.add(Phrase::Structures(StructurePhrase::Str(structure)));
-        Ok(())
-    }
-
-    pub fn put_str_dec(&mut self, dec: LowStrDec) -> Result<(), Failure>
-        ensures { Puts (of_str_dec (str_dec_of dec.tree)) 0 (seen self.old) (seen self.new) result }
-    {
-        self.make_room()?;
-        self.add(Phrase::Structures(StructurePhrase::StrDec(dec)));
-        Ok(())
-    }
-
-    pub fn put_str_decs(&mut self, decs: LowStrDecs) -> Result<(), Failure>
-        ensures { Puts (of_str_decs (str_decs_of (map str_dec_of (reverse decs.trees.items)))) 0 (seen self.old) (seen self.new) result }
-    {
-        self.make_room()?;
-        self.add(Phrase::Structures(StructurePhrase::StrDecs(decs)));
-        Ok(())
-    }
-
-    pub fn put_constraints(
-        &mut self,
-        equations: Vec<LowWhere>,
-        constraints: Vec<LowConstraint>,
-    ) -> Result<(), Failure>
-        ensures { Puts (of_constraints (map low_where_of (reverse equations.items)) (map low_constraint_of (reverse constraints.items))) 0 (seen self.old) (seen self.new) result }
-    {
-        self.make_room()?;
-        self.add(Phrase::Structures(StructurePhrase::Constraints(equations, constraints)));
-        Ok(())
-    }
-
-    pub fn put_str_binds(
-        &mut self,
-        equations: Vec<LowWhere>,
-        constraints: Vec<LowConstraint>,
-        binds: LowStrBinds,
-    ) -> Result<(), Failure>
-        ensures { Puts (of_str_binds (map low_where_of (reverse equations.items)) (map low_constraint_of (reverse constraints.items)) (str_binds_of (map str_bind_of (reverse binds.trees.items)))) 0 (seen self.old) (seen self.new) result }
-    {
-        self.make_room()?;
-        self.add(Phrase::Structures(StructurePhrase::StrBinds(equations, constraints, binds)));
-        Ok(())
-    }
-
-    pub fn put_begun_str_bind(
-        &mut self,
-        name: Name,
-        own: Vec<LowConstraint>,
-        body: LowStr,
-    ) -> Result<(), Failure>
-        ensures { Puts (of_begun_str_bind (name_of name) (map low_constraint_of (reverse own.items)) (str_of body.tree)) 0 (seen self.old) (seen self.new) result }
-    {
-        self.make_room()?;
-        self.add(Phrase::Structures(StructurePhrase::BegunStrBind(name, own, body)));
-        Ok(())
-    }
-
-    pub fn put_functor_argument(&mut self, name: Name, signature: LowSig) -> Result<(), Failure>
-        ensures { Puts (of_functor_argument (name_of name) (sig_of signature.tree)) 0 (seen self.old) (seen self.new) result }
-    {
-        self.make_room()?;
-        self.add(Phrase::Structures(StructurePhrase::FunctorArgument(name, signature)));
-        Ok(())
-    }
-
-    pub fn put_fun_binds(
-        &mut self,
-        equations: Vec<LowWhere>,
-        constraints: Vec<LowConstraint>,
-        binds: LowFunBinds,
-    ) -> Result<(), Failure>
-        ensures { Puts (of_fun_binds (map low_where_of (reverse equations.items)) (map low_constraint_of (reverse constraints.items)) (map fun_bind_of (reverse binds.trees.items))) 0 (seen self.old) (seen self.new) result }
-    {
-        self.make_room()?;
-        self.add(Phrase::Structures(StructurePhrase::FunBinds(equations, constraints, binds)));
-        Ok(())
+        self.put(Phrase::Signatures(SignaturePhrase::Where(variables, constructor, ty)))
     }
 
     pub fn put_begun_fun_bind(
@@ -667,32 +229,8 @@ impl Stack {
         ensures { Puts (of_begun_fun_bind (name_of name) (name_of argument) (sig_of signature.tree) (map low_constraint_of (reverse own.items)) (str_of body.tree)) 0 (seen self.old) (seen self.new) result }
     {
         let signature = Box::new(self.alloc, signature)?;
-        self.make_room()?;
-        self.add(Phrase::Structures(StructurePhrase::BegunFunBind(
+        self.put(Phrase::Structures(StructurePhrase::BegunFunBind(
             name, argument, signature, own, body,
-        )));
-        Ok(())
-    }
-
-    pub fn put_begun_functor(
-        &mut self,
-        name: Name,
-        specs: LowSpecs,
-        own: Vec<LowConstraint>,
-        body: LowStr,
-    ) -> Result<(), Failure>
-        ensures { Puts (of_begun_functor (name_of name) (specs_of (map spec_of (reverse specs.trees.items))) (map low_constraint_of (reverse own.items)) (str_of body.tree)) 0 (seen self.old) (seen self.new) result }
-    {
-        self.make_room()?;
-        self.add(Phrase::Structures(StructurePhrase::BegunFunctor(name, specs, own, body)));
-        Ok(())
-    }
-
-    pub fn put_top(&mut self, top: LowTop) -> Result<(), Failure>
-        ensures { Puts (of_top (top_of top.tree)) 0 (seen self.old) (seen self.new) result }
-    {
-        self.make_room()?;
-        self.add(Phrase::Structures(StructurePhrase::Top(top)));
-        Ok(())
+        )))
     }
 }

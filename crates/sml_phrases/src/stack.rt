@@ -1,6 +1,6 @@
 //! The phrases that have been made and are not yet part of another one, on a stack.
 
-ghost use Rattle.std.specs.Prelude.{◌≡◌, ◌<◌, List, [], ◌∷◌, map, reverse, length, true, false, vec_len, vec_capacity, IfOk, OnOk};
+ghost use Rattle.std.specs.Prelude.{◌≡◌, ◌<◌, List, [], ◌∷◌, map, reverse, true, false, vec_len, vec_capacity, IfOk, OnOk};
 ghost use Rattle.std.specs.Prelude.{drop};
 ghost use Rattle.std.specs.Option.{option_map};
 ghost use Rattle.sml_tree.specs.TypeViews.{name_of, long_name_of, ty_of, tys_of, ty_field_of, ty_fields_of};
@@ -10,9 +10,9 @@ ghost use Rattle.sml_tree.specs.ExpressionViews.{exn_bind_of, exp_of, exps_of, f
 ghost use Rattle.sml_tree.specs.SignatureViews.{val_desc_of, typ_desc_of, sig_of, spec_of, specs_of};
 ghost use Rattle.sml_tree.specs.StructureViews.{str_of, str_dec_of, str_decs_of, top_of};
 ghost use Rattle.sml_tree.specs.Clauses.{clause_of};
-ghost use Rattle.sml_phrases.specs.Phrases.{at, is_alone, is_exp, is_nothing, of_exp, first, nothing, place_in, ty_if_any, pat_if_any, exp_if_any, rules_if_any, bind_in, binds_in, clauses_in, con_binds_in, constant_in, dec_in, decs_in, exn_binds_in, exp_in, exps_in, fields_in, long_in, longs_in, name_in, names_in, numeral, pat_in, pats_in, rules_in, sig_in, specs_in, str_dec_in, str_decs_in, str_in, top_in, ty_fields_in, ty_in, typ_binds_in, typ_descs_in, tys_in, val_descs_in, wheres_in};
+ghost use Rattle.sml_phrases.specs.Phrases.{at, of_exp, first, nothing, place_in, ty_if_any, pat_if_any, exp_if_any, rules_if_any, bind_in, binds_in, clauses_in, con_binds_in, constant_in, dec_in, decs_in, exn_binds_in, exp_in, exps_in, fields_in, long_in, longs_in, name_in, names_in, numeral, pat_in, pats_in, rules_in, sig_in, specs_in, str_dec_in, str_decs_in, str_in, top_in, ty_fields_in, ty_in, typ_binds_in, typ_descs_in, tys_in, val_descs_in, wheres_in};
 ghost use Rattle.sml_phrases.specs.declared.stack.Held.{Held};
-ghost use Rattle.sml_phrases.specs.PhraseViews.{held_in, low_where_of, phrase_of, seen};
+ghost use Rattle.sml_phrases.specs.PhraseViews.{held_in, is_alone, is_exp, is_nothing, low_where_of, phrase_of, seen};
 
 use crate::low::{
     LowBind, LowBinds, LowClauses, LowConBinds, LowDec, LowDecs, LowExnBinds, LowExp, LowExps,

@@ -2,18 +2,19 @@
 
 #![tactic(auto, unfolding(crate::specs::Piece::exp_piece, crate::specs::Piece::exps_piece, crate::specs::Piece::rules_piece, crate::specs::Piece::rule_piece))]
 
-ghost use Rattle.std.specs.Prelude.{◌≡◌, map, IfOk};
+ghost use Rattle.std.specs.Prelude.{◌≡◌, Some, map, IfOk};
 ghost use Rattle.std.specs.Option.{option_map};
+ghost use Rattle.sml_tree.specs.Trees.{bracket};
 ghost use Rattle.sml_tree.specs.Views.{exp_of, exps_of, core_dec_of};
 ghost use Rattle.sml_tree.specs.ExpressionViews as whole;
-ghost use Rattle.sml_tree.specs.TypeViews.{names_of};
+ghost use Rattle.sml_tree.specs.TypeViews.{names_of, long_name_of};
 ghost use Rattle.sml_tree.specs.BindingViews.{typ_bind_of};
 ghost use Rattle.sml_piece_trees.specs.Piece as spec;
 
 use crate::names::{used, variable};
 use crate::types::ty_piece;
 use sml_lex::fault::{Memory, Place};
-use sml_tree::bare::{CoreDec, CoreForm, Exp};
+use sml_tree::bare::{CoreDec, CoreForm, Exp, LongIdent};
 use sml_tree::expressions as whole;
 use sml_tree::names::Name;
 use sml_tree::patterns::{Constant, ConstantKind};
@@ -29,23 +30,40 @@ fn constant_piece(constant: &Constant) -> Option<Exp>
     }
 }
 
-/// An expression, if it is of the piece.
+/// An identifier, where it may name a value of the piece.
+#[inline(never)]
+fn identifier_piece(alloc: Global, long: &LongIdent) -> Result<Option<Exp>, Memory>
+    ensures { IfOk result (λ r. option_map exp_of r ≡ spec.name_piece (long_name_of long.now)) }
+{
+    match used(alloc, long)? {
+        Some(long) => Ok(Some(Exp::Identifier(long))),
+        None => Ok(None),
+    }
+}
+
+/// An expression in brackets.
+#[inline(never)]
+fn bracket_piece(alloc: Global, exp: Exp) -> Result<Option<Exp>, Memory>
+    ensures { IfOk result (λ r. option_map exp_of r ≡ Some (bracket (exp_of exp))) }
+{
+    Ok(Some(Exp::Bracket(Box::new(alloc, exp)?)))
+}
+
+/// An expression, if it is of the piece. Its forms have functions of their own, so that a bracket in brackets costs little
+/// of the stack.
 #[cycle(exp_piece)]
 pub fn exp_piece(alloc: Global, exp: &whole::Exp) -> Result<Option<Exp>, Memory>
     ensures { IfOk result (λ r. option_map exp_of r ≡ spec.exp_piece (whole.exp_of exp.now)) }
 {
     match exp {
         whole::Exp::Constant(_, constant) => Ok(constant_piece(constant)),
-        whole::Exp::Identifier(_, long) => match used(alloc, long)? {
-            Some(long) => Ok(Some(Exp::Identifier(long))),
-            None => Ok(None),
-        },
+        whole::Exp::Identifier(_, long) => identifier_piece(alloc, long),
         whole::Exp::Tuple(_, exps) => match exps_piece(alloc, exps)? {
             Some(exps) => Ok(Some(Exp::Tuple(exps))),
             None => Ok(None),
         },
         whole::Exp::Bracket(_, exp) => match exp_piece(alloc, exp)? {
-            Some(exp) => Ok(Some(Exp::Bracket(Box::new(alloc, exp)?))),
+            Some(exp) => bracket_piece(alloc, exp),
             None => Ok(None),
         },
         whole::Exp::Function(_, rules) => match (rules.first(), rules.get(1)) {
@@ -57,6 +75,7 @@ pub fn exp_piece(alloc: Global, exp: &whole::Exp) -> Result<Option<Exp>, Memory>
 }
 
 #[cycle(exp_piece)]
+#[inline(never)]
 fn exps_piece(alloc: Global, exps: &[whole::Exp]) -> Result<Option<Vec<Exp>>, Memory>
     ensures { IfOk result (λ r. option_map (λ es. exps_of (map exp_of es.items)) r ≡ spec.exps_piece (whole.exps_of (map whole.exp_of exps.now))) }
 {
@@ -72,6 +91,7 @@ fn exps_piece(alloc: Global, exps: &[whole::Exp]) -> Result<Option<Vec<Exp>>, Me
 
 /// `x => e`
 #[cycle(exp_piece)]
+#[inline(never)]
 fn rule_piece(alloc: Global, rule: &whole::Rule) -> Result<Option<Exp>, Memory>
     ensures { IfOk result (λ r. option_map exp_of r ≡ spec.rule_piece (whole.rule_of rule.now)) }
 {

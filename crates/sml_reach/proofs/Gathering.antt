@@ -11,10 +11,10 @@ use Rattle.sml_reach.specs.Fits.{Fit, Fitted, fit_of, fitted_of}
 use Rattle.sml_reach.specs.Reach.{Outcome, declares, idle, stands, fails, misfit_in, misfits_in, fits_before, declarations_in, outcome_of}
 use Rattle.sml_reach.specs.CodeGathered.{AreDeclared, AreGathered}
 
-same_first : {A : Type 0} {x y : A} {xs ys : List A} → x ∷ xs ≡ y ∷ ys → x ≡ y
+pub same_first : {A : Type 0} {x y : A} {xs ys : List A} → x ∷ xs ≡ y ∷ ys → x ≡ y
 same_first e = cc
 
-same_rest : {A : Type 0} {x y : A} {xs ys : List A} → x ∷ xs ≡ y ∷ ys → xs ≡ ys
+pub same_rest : {A : Type 0} {x y : A} {xs ys : List A} → x ∷ xs ≡ y ∷ ys → xs ≡ ys
 same_rest e = cc
 
 no_last : {A : Type 0} (xs : List A) (x : A) → [] ≡ xs ++ x ∷ [] → ⊥

@@ -19,7 +19,8 @@ use Rattle.sml_reach.specs.Events.{Event, begins, enters, leaves, directs, expre
 use Rattle.sml_reach.specs.Fits.{Fitted, fit_of, fitted_of}
 use Rattle.sml_reach.specs.Reach.{State, start, Outcome, declares, idle, stands, fails, misfit_of, misfit_in, misfits_in, fits_before, declarations_in, first_misfit, before_misfit, up_to, IsExpression, IsPattern, IsClauseHead, Happens, Outcomes, AreFitted}
 use Rattle.sml_reach.specs.CodeGathered.{AreDeclared, AreGathered, ComesOf}
-use Rattle.sml_reach.specs.CodeKept.{kept, all_kept, reads_directive, is_directive, AreUndirected, AreKept}
+use Rattle.sml_reach.specs.CodeKept.{kept, all_kept, reads_directive, is_directive, AreUndirected}
+use Rattle.sml_reach.proofs.Gathering.{same_first, same_rest}
 
 -- which events are kept
 
@@ -196,12 +197,6 @@ head_same here a b c n atoms (fails m) h = h
 head_same here a b c n atoms (declares token) h = absurd h
 head_same here a b c n atoms idle h = absurd h
 
-first_same : {A : Type 0} {x y : A} {xs ys : List A} → x ∷ xs ≡ y ∷ ys → x ≡ y
-first_same e = cc
-
-rest_same : {A : Type 0} {x y : A} {xs ys : List A} → x ∷ xs ≡ y ∷ ys → xs ≡ ys
-rest_same e = cc
-
 -- where no directive is read, each open scope began with the fixities in force
 all_happen : (text : ℕ → Id) (here : Map) (other : List Map) (all : List Event) → AreUndirected all → (n count begun : ℕ) (os : List Outcome) → Outcomes text (at here other count begun) (all_kept false all) os → Same text (at here (replicate n here) count begun) all os
 all_happen text here other [] u n c b os e = record { outcomes = []; happen = refl; declared = ap declarations_in (sym e); stood = ap fits_before (sym e); failed = ap misfits_in (sym e) }
@@ -210,7 +205,7 @@ all_happen text here other (enters ∷ all) u n c b os h =
 all_happen text here other (leaves ∷ all) u zero c b os h =
     same_idle text _ (at here [] c b) leaves all os (refl, refl, refl, (λ before others e. cc), (λ e. (refl, refl))) (all_happen text here other all u 0 c b os h)
 all_happen text here other (leaves ∷ all) u (suc n) c b os h =
-    same_idle text _ (at here (replicate n here) c b) leaves all os (refl, refl, refl, (λ before others e. (first_same e, rest_same e)), (λ e. cc)) (all_happen text here other all u n c b os h)
+    same_idle text _ (at here (replicate n here) c b) leaves all os (refl, refl, refl, (λ before others e. (same_first e, same_rest e)), (λ e. cc)) (all_happen text here other all u n c b os h)
 all_happen text here other (begins token ∷ all) u n c b os (o, t, more, h, rest, e) =
     same_more text _ (at here (replicate n here) (suc c) token) (begins token) all o more os (h.0, refl)
     (all_happen text here other all u n (suc c) token more (subst (λ t. Outcomes text t (all_kept false all) more) h.1 rest)) e
@@ -225,13 +220,13 @@ all_happen text here other (head atoms ∷ all) u n c b os (o, t, more, h, rest,
     same_more text _ (at here (replicate n here) c b) (head atoms) all o more os (head_same here other (replicate n here) c b atoms o h.0, refl)
     (all_happen text here other all u n c b more (subst (λ t. Outcomes text t (all_kept false all) more) h.1 rest)) e
 
-same_outcomes : (text : ℕ → Id) (some all : List Event) → AreKept some all → (os : List Outcome) → Outcomes text start some os → Same text start all os
-same_outcomes text some all (true, e, u) os h = record { outcomes = os; happen = subst (λ es. Outcomes text start es os) (e ∙ all_of_them all) h; declared = refl; stood = refl; failed = refl }
-same_outcomes text some all (false, e, u) os h = all_happen text initial_map [] all (u refl) 0 0 0 os (subst (λ es. Outcomes text start es os) e h)
+same_outcomes : (text : ℕ → Id) (scoped : Bool) (all : List Event) → (scoped ≡ false → AreUndirected all) → (os : List Outcome) → Outcomes text start (all_kept scoped all) os → Same text start all os
+same_outcomes text true all u os h = record { outcomes = os; happen = subst (λ es. Outcomes text start es os) (all_of_them all) h; declared = refl; stood = refl; failed = refl }
+same_outcomes text false all u os h = all_happen text initial_map [] all (u refl) 0 0 0 os h
 
-pub comes_of_all : (text : ℕ → Id) (some all : List Event) (g : Gathered) → AreKept some all → ComesOf text some g → ComesOf text all g
-comes_of_all text some all g k (os, h, gathered) =
-    let s = same_outcomes text some all k os h in
+pub comes_of_all : (text : ℕ → Id) (some : List Event) (scoped : Bool) (all : List Event) (g : Gathered) → some ≡ all_kept scoped all → (scoped ≡ false → AreUndirected all) → ComesOf text some g → ComesOf text all g
+comes_of_all text some scoped all g e u (os, h, gathered) =
+    let s = same_outcomes text scoped all u os (subst (λ es. Outcomes text start es os) e h) in
     (s.outcomes, s.happen, (subst (AreDeclared (map fitted_of g.declarations.items) g.begun (map fit_of g.fits.items)) (sym s.declared) gathered.0, gathered.1 ∙ sym s.failed))
 
 pub fits_all : (text : ℕ → Id) (all : List Event) (g : Gathered) (fitted : List Fitted) (first : Option Misfit) → ComesOf text all g → first ≡ first_misfit g.misfits.items → ((os : List Outcome) → AreGathered g os → fitted ≡ up_to (before_misfit first) (declarations_in os)) → AreFitted text all fitted first

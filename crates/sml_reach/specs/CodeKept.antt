@@ -1,5 +1,5 @@
 -- Where no directive is read, scopes change nothing, and the code leaves their events out. No public meaning rests on it.
-use Rattle.std.specs.Prelude.{◌≡◌, Bool, true, false, List, [], ◌∷◌, Option, Some, None}
+use Rattle.std.specs.Prelude.{Bool, true, false, List, [], ◌∷◌, Option, Some, None}
 use Rattle.std.specs.List.{cons_option}
 use Rattle.sml_read.specs.declared.grammar.Node.{Node}
 use Rattle.sml_read.specs.declared.grammar.Node.TheVariants.{Leaf, Inner}
@@ -32,7 +32,3 @@ abbrev pub AreUndirected : List Event → Type 0
 AreUndirected [] = Unit {0}
 AreUndirected (directs directive level atoms ∷ events) = ⊥
 AreUndirected (event ∷ events) = AreUndirected events
-
--- these events are the others, but for scopes where there is no directive
-abbrev pub AreKept : List Event → List Event → Type 0
-AreKept some all = (scoped : Bool) × (some ≡ all_kept scoped all) × (scoped ≡ false → AreUndirected all)

@@ -11,7 +11,7 @@ ghost use Rattle.sml_reach.specs.Founds as spec;
 ghost use Rattle.sml_fixity.specs.ItemNames.{name_of, short, phrase};
 ghost use Rattle.sml_reach.specs.Founds.{atom, one, word, several, within, atom_of, atoms_of, found_by, found_of, nothing, sequence_in, untyped, left};
 ghost use Rattle.sml_reach.specs.Events.{seen, directs, expression, pattern, head, text_at, found_at, founds_from, scope_event, event_of, event_from, events_of};
-ghost use Rattle.sml_reach.specs.CodeKept.{kept, is_directive, AreKept};
+ghost use Rattle.sml_reach.specs.CodeKept.{kept, all_kept, is_directive};
 
 use crate::found::{Atom, Finder, Found, Parts, atom_in, atoms_in, before, joined};
 use crate::names::Names;
@@ -659,7 +659,7 @@ fn has_directive(nodes: &[Node]) -> bool
     false
 }
 
-/// The events of a unit's derivation, from the last to the first. Scopes are looked for only if there is a directive.
+/// The events of a unit's derivation, from the last to the first, without those of scopes if no directive is read.
 pub fn events(
     alloc: Global,
     unit: &[u8],
@@ -667,7 +667,7 @@ pub fn events(
     nodes: &[Node],
     tokens: &[Token],
 ) -> Result<Vec<Event>, Memory>
-    ensures { IfOk result (λ events. AreKept (map seen (reverse events.items)) (events_of unit.now tokens.now nodes.now (starts_of 0 nodes.now))) }
+    ensures { IfOk result (λ events. map seen (reverse events.items) ≡ all_kept (list_any is_directive nodes.now) (events_of unit.now tokens.now nodes.now (starts_of 0 nodes.now))) }
 {
     let finder = Finder {
         alloc,

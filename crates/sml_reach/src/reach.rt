@@ -1,6 +1,6 @@
 //! How far directives reach, and what each sequence stands for where they are in force.
 
-ghost use Rattle.std.specs.Prelude.{◌≡◌, ℕ, None, true, ◌<◌, ◌≤◌, ◌+◌, ◌-◌, ◌^◌, List, [], ◌∷◌, ◌++◌, map, reverse, length, get_or, IfOk, IfSome, OnOk};
+ghost use Rattle.std.specs.Prelude.{◌≡◌, ℕ, None, Bool, true, false, ◌<◌, ◌≤◌, ◌+◌, ◌-◌, ◌^◌, List, [], ◌∷◌, ◌++◌, map, reverse, length, get_or, IfOk, IfSome, OnOk};
 ghost use Rattle.std.specs.Option.{MatchOption};
 ghost use Rattle.sml_tree.specs.Trees.{Id};
 ghost use Rattle.sml_read.specs.Extents.{starts_of};
@@ -10,7 +10,7 @@ ghost use Rattle.sml_fixity.specs.ItemNames.{name_of};
 ghost use Rattle.sml_reach.specs.Founds.{atom, atoms_of};
 ghost use Rattle.sml_reach.specs.Events as happened;
 ghost use Rattle.sml_reach.specs.Events.{seen, text_at, directs, events_of};
-ghost use Rattle.sml_reach.specs.CodeKept.{AreKept};
+ghost use Rattle.sml_reach.specs.CodeKept.{all_kept, AreUndirected};
 ghost use Rattle.sml_reach.specs.Reach as spec;
 ghost use Rattle.sml_fixity.specs.declared.sequences.Step.TheVariants.{Push};
 ghost use Rattle.sml_fixity.specs.Shapes.{shape_of, tree};
@@ -565,7 +565,8 @@ fn gather(
     tokens: &[Token],
     events: Vec<Event>,
 ) -> Result<Gathered, Memory>
-    ensures { IfOk result (λ g. (all : List happened.Event) → AreKept (map seen (reverse events.items)) all → ComesOf (text_at unit.now tokens.now) all g) }
+    ensures { IfOk result (λ g. (scoped : Bool) → (all : List happened.Event) → map seen (reverse events.items) ≡ all_kept scoped all → (scoped ≡ false → AreUndirected all) →
+        ComesOf (text_at unit.now tokens.now) all g) }
 {
     let mut reach = Reach::new(alloc)?;
     let mut gathered = Gathered::new(alloc);

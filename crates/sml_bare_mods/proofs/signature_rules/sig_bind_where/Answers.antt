@@ -11,7 +11,7 @@ returns c =
     let a = seen c.pop_where_type.new.stack in
     let p = c.in_ok-equation.ensures.rest in
     let popped = c.pop_sig_binds-equations.ensures in
-    puts_same _ _ 2 v _ _ c.put_sig_binds.result
+    puts_same _ _ 2 v _ _ c.put.result
     (where_pushed of_sig_binds sig_wheres_in sig_binds_in v a _ _ c.in_ok-equation.equation _ p c.in_ok-push.ensures.items c.in_ok-equation.ensures.value popped.wheres popped.binds)
     (two_off v a _ p popped.rest)
-    c.put_sig_binds.ensures
+    c.put.ensures

@@ -15,13 +15,13 @@ pub returns-in_ok-push-in-Signatures-TypeRest : goal.returns-in_ok-push-in-Signa
 returns-in_ok-push-in-Signatures-TypeRest c =
     let it = c.in-Signatures-TypeRest in
     let shape : phrase_of c.args.rest ≡ of_type_rest (ty_of it.ty.tree) (map typ_bind_of (reverse it.binds.trees.items)) = ap phrase_of it.is ∙ ap (λ f. phrase_of (Signatures f)) it.field-0-is in
-    puts_same _ _ 0 (seen c.args.stack.now) _ _ c.put_typ_binds.result
+    puts_same _ _ 0 (seen c.args.stack.now) _ _ c.put.result
     (ap of_typ_binds (pushed typ_bind_of _ _ _ c.in_ok-push-in-Signatures-TypeRest.ensures.items) ∙ ap (type_rest (names_of c.args.variables.items) (name_of c.args.name)) (sym shape))
     refl
-    c.put_typ_binds.ensures
+    c.put.ensures
 
-pub invariant_of-put_typ_binds : goal.invariant_of-put_typ_binds
-invariant_of-put_typ_binds c = record {
+pub invariant_of-put : goal.invariant_of-put
+invariant_of-put c = record {
   measured = highest_pushed typ_bind_height typ_bind_of _ _ _ _ _ _ c.in_ok-push-in-Signatures-TypeRest.ensures.items c.in-Signatures-TypeRest.binds.measured c.in-Signatures-TypeRest.ty.measured c.max-height.ensures;
   low = omega arith;
 }
@@ -30,7 +30,7 @@ pub returns-in_ok-push-in-Signatures-TypDescs : goal.returns-in_ok-push-in-Signa
 returns-in_ok-push-in-Signatures-TypDescs c =
     let it = c.in-Signatures-TypDescs in
     let shape : phrase_of c.args.rest ≡ of_typ_descs (map typ_desc_of (reverse it.descs.items)) = ap phrase_of it.is ∙ ap (λ f. phrase_of (Signatures f)) it.field-0-is in
-    puts_same _ _ 0 (seen c.args.stack.now) _ _ c.put_typ_descs.result
+    puts_same _ _ 0 (seen c.args.stack.now) _ _ c.put-in-Signatures-TypDescs.result
     (ap of_typ_descs (pushed typ_desc_of _ _ _ c.in_ok-push-in-Signatures-TypDescs.ensures.items) ∙ ap (type_rest (names_of c.args.variables.items) (name_of c.args.name)) (sym shape))
     refl
-    c.put_typ_descs.ensures
+    c.put-in-Signatures-TypDescs.ensures

@@ -12,9 +12,9 @@ pub returns : goal.returns
 returns c =
     let v = seen c.args.stack.now in
     let p = c.dec-dec.ensures.rest in
-    puts_same _ _ 2 v _ _ c.put_decs.result
+    puts_same _ _ 2 v _ _ c.put.result
     (ap (λ ds. of_decs (decs_of ds)) (pushed dec_of _ _ _ c.in_ok-push.ensures.items)
     ∙ ap (λ d. of_decs (and_dec d (decs_of (map dec_of (reverse c.decs-trees.result.trees.items))))) c.dec-dec.ensures.value
     ∙ ap (λ ds. of_decs (and_dec (dec_in (at v 0)) ds)) (c.decs-trees.ensures.value ∙ ap (λ l. decs_in (first l)) p))
     (two_off v _ _ p c.decs-trees.ensures.rest)
-    c.put_decs.ensures
+    c.put.ensures

@@ -1,7 +1,7 @@
 use Rattle.std.proofs.Common.{◌≡◌, ◌&&◌, [], ◌∷◌, reverse, sym, ap, ◌∙◌, subst, arith}
 use Rattle.std.proofs.lemmas.List.{reverse-append}
-use Rattle.sml_phrases.specs.Phrases.{at, first, nothing, of_exp, exp_in, is_alone, is_nothing}
-use Rattle.sml_phrases.specs.PhraseViews.{phrase_of, held_in}
+use Rattle.sml_phrases.specs.Phrases.{at, first, nothing, of_exp, exp_in}
+use Rattle.sml_phrases.specs.PhraseViews.{phrase_of, held_in, is_alone, is_nothing}
 use Rattle.sml_phrases.proofs.Holding.{alone_counted, below_counted, alone_held}
 use Rattle.sml_phrases.proofs.stack.is_alone.Goals as goal
 

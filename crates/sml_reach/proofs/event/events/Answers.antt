@@ -1,4 +1,4 @@
-use Rattle.std.proofs.Common.{◌≡◌, ◌-◌, ◌≤◌, map, reverse, drop, get_or, length, refl, sym, ◌∙◌, subst, arith}
+use Rattle.std.proofs.Common.{◌≡◌, ◌-◌, ◌≤◌, map, reverse, drop, get_or, length, refl, ap, ◌∙◌, subst, arith}
 use Rattle.sml_read.specs.declared.grammar.Node.TheVariants.{Leaf}
 use Rattle.sml_read.specs.Extents.{starts_of}
 use Rattle.sml_read.proofs.Extents.{start_on, tokens_on}
@@ -6,7 +6,7 @@ use Rattle.sml_reach.specs.Founds.{found_of}
 use Rattle.sml_reach.specs.Events.{seen, text_at, events_of}
 use Rattle.sml_reach.specs.CodeKept.{all_kept}
 use Rattle.sml_reach.proofs.Parting.{one_before, length-starts_of, founds_on}
-use Rattle.sml_reach.proofs.Keeping.{events_on, undirected}
+use Rattle.sml_reach.proofs.Keeping.{events_on}
 use Rattle.sml_reach.proofs.event.events.Goals as goal
 
 pub loop-i-preserved : goal.loop-i-preserved
@@ -34,12 +34,7 @@ loop-i-preserved c =
 
 pub returns : goal.returns
 returns c =
-    let unit = c.args.unit.now in
-    let tokens = c.args.tokens.now in
     let nodes = c.args.nodes.now in
-    let scoped = c.has_directive-scoped.result in
-    let all : c.loop-i.i ≡ 0 = omega (arith, c.loop-i-test.false) in (
-      scoped,
-      subst (λ i. map seen (reverse c.loop-i.events.items) ≡ all_kept scoped (events_of unit tokens (drop i nodes) (drop i (starts_of 0 nodes)))) all c.loop-i.invariant.events,
-      λ e. undirected unit tokens nodes (starts_of 0 nodes) (sym c.has_directive-scoped.ensures ∙ e),
-    )
+    let all : c.loop-i.i ≡ 0 = omega (arith, c.loop-i-test.false) in
+    subst (λ i. map seen (reverse c.loop-i.events.items) ≡ all_kept c.has_directive-scoped.result (events_of c.args.unit.now c.args.tokens.now (drop i nodes) (drop i (starts_of 0 nodes)))) all c.loop-i.invariant.events
+    ∙ ap (λ scoped. all_kept scoped (events_of c.args.unit.now c.args.tokens.now nodes (starts_of 0 nodes))) c.has_directive-scoped.ensures

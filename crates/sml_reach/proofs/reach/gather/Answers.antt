@@ -17,6 +17,6 @@ loop-event-preserved c =
     }
 
 pub returns : goal.returns
-returns c = λ all k.
-    comes_of_all (text_at c.args.unit.now c.args.tokens.now) (map seen (reverse c.args.events.items)) all c.loop-event.gathered k
+returns c = λ scoped all e u.
+    comes_of_all (text_at c.args.unit.now c.args.tokens.now) (map seen (reverse c.args.events.items)) scoped all c.loop-event.gathered e u
     (reached_last (text_at c.args.unit.now c.args.tokens.now) (map seen (reverse c.args.events.items)) (state_of c.loop-event.reach) (map seen (reverse c.loop-event.events.items)) c.loop-event.gathered c.loop-event.invariant.reached c.in_default.ensures.event)

@@ -3,8 +3,8 @@
 use sml_flaws::flaw::{Flaw, Workspace, first_flaw};
 use sml_lex::fault::Memory;
 use sml_lex::lexer::lex;
-use sml_lex::token::Lexed;
-use sml_reach::fitted::Fitted;
+use sml_lex::token::{Lexed, Token};
+use sml_reach::fitted::{Fit, Fitted};
 use sml_reach::names::Names;
 use sml_reach::place::place_between;
 use sml_reach::reach::fit;
@@ -34,27 +34,52 @@ fn fitted(alloc: Global, lexed: &Lexed, nodes: &[Node]) -> Result<Vec<Fitted>, M
     Ok(declarations)
 }
 
+/// Adds the first fault of a declaration.
+fn add_first<'a>(
+    alloc: Global,
+    lexed: &Lexed<'a>,
+    tokens: &'a [Token],
+    workspace: &mut Workspace<'a>,
+    nodes: &[Node],
+    fits: &[Fit],
+    text: &mut String,
+) -> Result<(), Memory> {
+    match first_flaw(alloc, lexed.unit, tokens, workspace, nodes, 0, fits)? {
+        Some(flaw) => add_flaw(text, lexed, flaw),
+        None => Ok(()),
+    }
+}
+
+/// The first fault of each of these declarations, as text.
+fn firsts_as(
+    alloc: Global,
+    lexed: &Lexed,
+    nodes: &[Node],
+    declarations: &[Fitted],
+) -> Result<String, Memory> {
+    let mut text = String::new(alloc);
+    let mut workspace = Workspace::new(alloc);
+    for declaration in declarations {
+        let fits = &declaration.fits;
+        add_first(
+            alloc,
+            lexed,
+            &lexed.tokens,
+            &mut workspace,
+            nodes,
+            fits,
+            &mut text,
+        )?;
+    }
+    Ok(text)
+}
+
 /// The first fault of each declaration of a unit, as text.
 fn first_as(alloc: Global, unit: &[u8]) -> Result<String, Memory> {
     let lexed = lex(alloc, unit)?;
     let nodes = read(alloc, &lexed)?.nodes;
-    let mut workspace = Workspace::new(alloc);
-    let mut text = String::new(alloc);
-    for fitted in &fitted(alloc, &lexed, &nodes)? {
-        let first = first_flaw(
-            alloc,
-            unit,
-            &lexed.tokens,
-            &mut workspace,
-            &nodes,
-            0,
-            &fitted.fits,
-        )?;
-        if let Some(flaw) = first {
-            add_flaw(&mut text, &lexed, flaw)?;
-        }
-    }
-    Ok(text)
+    let declarations = fitted(alloc, &lexed, &nodes)?;
+    firsts_as(alloc, &lexed, &nodes, &declarations)
 }
 
 fn expect_all(rt: &(impl Abort + AllocGlobal), rows: &[(&str, &str)]) -> Result<(), Fail> {

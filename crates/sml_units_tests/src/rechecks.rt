@@ -124,46 +124,67 @@ fn found_of(alloc: Global, checked: &Checked) -> Result<String, Fail> {
     Ok(text)
 }
 
+/// What is found where a project is checked again behind another, which has to give what a check from nothing gives.
+fn found_behind(
+    rt: &impl Abort,
+    alloc: Global,
+    old: &Checked,
+    project: &Project,
+) -> Result<String, Fail> {
+    let again = recheck(alloc, old, project)?;
+    expect_same(rt, alloc, &check(alloc, project)?, &again)?;
+    found_of(alloc, &again)
+}
+
+/// The first project of a row, checked.
+fn checked_by(alloc: Global, number: &str, letters: &str) -> Result<Checked, Fail> {
+    let project = project_by(alloc, number, letters)?;
+    Ok(check(alloc, &project)?)
+}
+
+/// What is found of the other project of a row.
+fn found_by(
+    rt: &impl Abort,
+    alloc: Global,
+    old: &Checked,
+    number: &str,
+    letters: &str,
+) -> Result<String, Fail> {
+    let project = project_by(alloc, number, letters)?;
+    found_behind(rt, alloc, old, &project)
+}
+
 #[test]
 fn kept_units(rt: HostRuntime) -> Result<(), Fail> {
     let alloc = rt.alloc();
     for row in ROWS {
         let mut words = row.splitn(5, " ");
-        let old = project_by(
-            alloc,
-            words.next().unwrap_or(""),
-            words.next().unwrap_or(""),
-        )?;
-        let old = check(alloc, &old)?;
+        let number = words.next().unwrap_or("");
+        let old = checked_by(alloc, number, words.next().unwrap_or(""))?;
         assert!(rt; !old.kept().contains(&true), "{row}");
-        let second = project_by(
-            alloc,
-            words.next().unwrap_or(""),
-            words.next().unwrap_or(""),
-        )?;
-        let again = recheck(alloc, &old, &second)?;
-        let found = found_of(alloc, &again)?;
+        let number = words.next().unwrap_or("");
+        let found = found_by(&rt, alloc, &old, number, words.next().unwrap_or(""))?;
         assert_eq!(rt; found.as_str(), words.next().unwrap_or(""), "{row}");
-        expect_same(&rt, alloc, &check(alloc, &second)?, &again)?;
     }
     Ok(())
+}
+
+/// A project that was checked again behind another, and what was found of that one.
+fn moved(alloc: Global) -> Result<(Checked, String), Fail> {
+    let old = checked_by(alloc, "0", "aeg")?;
+    let found = found_of(alloc, &old)?;
+    let second = project_by(alloc, "1", "hgea")?;
+    Ok((recheck(alloc, &old, &second)?, found))
 }
 
 /// A project is checked again behind one that was checked again.
 #[test]
 fn units_that_move(rt: HostRuntime) -> Result<(), Fail> {
     let alloc = rt.alloc();
-    let first = project_by(alloc, "0", "aeg")?;
-    let old = check(alloc, &first)?;
-    let found = found_of(alloc, &old)?;
+    let (again, found) = moved(alloc)?;
     assert_eq!(rt; found.as_str(), "--- 3");
-    let second = project_by(alloc, "1", "hgea")?;
-    let again = recheck(alloc, &old, &second)?;
-    let third = project_by(alloc, "2", "aeg")?;
-    let back = recheck(alloc, &again, &third)?;
-    let found = found_of(alloc, &back)?;
+    let found = found_by(&rt, alloc, &again, "2", "aeg")?;
     assert_eq!(rt; found.as_str(), "--- 3");
-    expect_same(&rt, alloc, &check(alloc, &third)?, &back)?;
     Ok(())
 }
 

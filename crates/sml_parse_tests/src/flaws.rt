@@ -3,7 +3,7 @@
 use sml_flaws::flaw::{Flaw, Workspace, first_flaw};
 use sml_lex::fault::Memory;
 use sml_lex::lexer::lex;
-use sml_lex::token::{Lexed, Token};
+use sml_lex::token::Lexed;
 use sml_reach::fitted::{Fit, Fitted};
 use sml_reach::names::Names;
 use sml_reach::place::place_between;
@@ -37,15 +37,14 @@ fn fitted(alloc: Global, lexed: &Lexed, nodes: &[Node]) -> Result<Vec<Fitted>, M
 /// Adds the first fault of a declaration.
 fn add_first<'a>(
     alloc: Global,
-    lexed: &Lexed<'a>,
-    tokens: &'a [Token],
+    lexed: &'a Lexed,
     workspace: &mut Workspace<'a>,
     nodes: &[Node],
     fits: &[Fit],
     text: &mut String,
 ) -> Result<(), Memory> {
-    match first_flaw(alloc, lexed.unit, tokens, workspace, nodes, 0, fits)? {
-        Some(flaw) => add_flaw(text, lexed, flaw),
+    match first_flaw(alloc, lexed.unit, &lexed.tokens, workspace, nodes, 0, fits)? {
+        Some(flaw) => add_flaw(text, &*lexed, flaw),
         None => Ok(()),
     }
 }
@@ -60,14 +59,12 @@ fn firsts_as(
     let mut text = String::new(alloc);
     let mut workspace = Workspace::new(alloc);
     for declaration in declarations {
-        let fits = &declaration.fits;
         add_first(
             alloc,
-            lexed,
-            &lexed.tokens,
+            &*lexed,
             &mut workspace,
             nodes,
-            fits,
+            &declaration.fits,
             &mut text,
         )?;
     }

@@ -40,7 +40,7 @@ fn datatypes_with_types(
     let with = WithTypes::new(stack.alloc, datatypes, trees)?;
     let height = raised(with.height.min(LIMIT).max(types.height), 1)?;
     let tree = Dec::DatatypeWith(place, with);
-    stack.put(Phrase::Declarations(DeclarationPhrase::Dec(LowDec { tree, height })))
+    stack.put_dec(LowDec { tree, height })
 }
 
 /// `datatype ..`, perhaps with `withtype ..`.
@@ -59,7 +59,7 @@ fn datatypes_dec(
     }
     let height = raised(datatypes.height, 1)?;
     let tree = Dec::Datatype(place, trees);
-    stack.put(Phrase::Declarations(DeclarationPhrase::Dec(LowDec { tree, height })))
+    stack.put_dec(LowDec { tree, height })
 }
 
 /// `datatype ..` of all kinds, from what stands behind `datatype`.
@@ -72,12 +72,12 @@ fn datatype_of(stack: &mut Stack, place: Place, rest: Phrase) -> Result<(), Fail
         ),
         Phrase::Declarations(DeclarationPhrase::Copy(name, copied)) => {
             let tree = Dec::Replication(place, name, copied);
-            stack.put(Phrase::Declarations(DeclarationPhrase::Dec(LowDec { tree, height: 1 })))
+            stack.put_dec(LowDec { tree, height: 1 })
         }
         other => {
             discard(other);
             let tree = Dec::Datatype(place, Vec::new(stack.alloc));
-            stack.put(Phrase::Declarations(DeclarationPhrase::Dec(LowDec { tree, height: 1 })))
+            stack.put_dec(LowDec { tree, height: 1 })
         }
     }
 }
@@ -101,7 +101,7 @@ pub fn datatype_before(stack: &mut Stack) -> Result<(), Failure>
     let constructors = stack.con_binds();
     let Datatypes { datatypes, types } = pop_datatypes(stack);
     let datatypes = and_dat_bind(variables, name, constructors, datatypes)?;
-    stack.put(Phrase::Declarations(DeclarationPhrase::Datatypes(datatypes, types)))
+    stack.put_datatypes(datatypes, types)
 }
 
 /// A datatype before others, behind `and`.
@@ -123,7 +123,7 @@ pub fn no_dat_bind(stack: &mut Stack) -> Result<(), Failure>
         trees: Vec::new(stack.alloc),
         height: 0,
     };
-    stack.put(Phrase::Declarations(DeclarationPhrase::Datatypes(datatypes, types)))
+    stack.put_datatypes(datatypes, types)
 }
 
 /// The type bindings behind `withtype`.
@@ -136,7 +136,7 @@ pub fn with_types(stack: &mut Stack) -> Result<(), Failure>
         height: 0,
     };
     let types = typ_binds(stack)?;
-    stack.put(Phrase::Declarations(DeclarationPhrase::Datatypes(datatypes, types)))
+    stack.put_datatypes(datatypes, types)
 }
 
 /// A type constructor without type variables: the one that it copies, or its constructors.
@@ -153,7 +153,7 @@ fn datatype_from(
         (None, Some(all)) => {
             let none = Vec::new(stack.alloc);
             let datatypes = and_dat_bind(none, name, all.constructors, all.datatypes)?;
-            stack.put(Phrase::Declarations(DeclarationPhrase::Datatypes(datatypes, all.types)))
+            stack.put_datatypes(datatypes, all.types)
         }
         (None, None) => stack.put_nothing(),
     }
@@ -190,7 +190,7 @@ pub fn and_constructor(stack: &mut Stack) -> Result<(), Failure>
     let argument = stack.ty_if_any();
     let others = stack.con_binds();
     let all = and_con_bind(name, argument, others)?;
-    stack.put(Phrase::Declarations(DeclarationPhrase::ConBinds(all)))
+    stack.put_con_binds(all)
 }
 
 pub fn no_con_bind(stack: &mut Stack) -> Result<(), Failure>
@@ -200,5 +200,5 @@ pub fn no_con_bind(stack: &mut Stack) -> Result<(), Failure>
         trees: Vec::new(stack.alloc),
         height: 0,
     };
-    stack.put(Phrase::Declarations(DeclarationPhrase::ConBinds(none)))
+    stack.put_con_binds(none)
 }

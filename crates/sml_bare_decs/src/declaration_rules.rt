@@ -73,7 +73,7 @@ fn local(stack: &mut Stack, place: Place) -> Result<(), Failure>
     hidden.trees.reverse();
     shown.trees.reverse();
     let tree = Dec::Local(place, hidden.trees, shown.trees);
-    stack.put(Phrase::Declarations(DeclarationPhrase::Dec(LowDec { tree, height })))
+    stack.put_dec(LowDec { tree, height })
 }
 
 /// `val ..`
@@ -94,7 +94,7 @@ fn value_dec(stack: &mut Stack, place: Place) -> Result<(), Failure>
     let mut recursive = recursive.trees;
     recursive.reverse();
     let tree = Dec::Value(place, variables, plain, recursive);
-    stack.put(Phrase::Declarations(DeclarationPhrase::Dec(LowDec { tree, height })))
+    stack.put_dec(LowDec { tree, height })
 }
 
 /// `fun ..`
@@ -109,7 +109,7 @@ fn function_dec(stack: &mut Stack, place: Place) -> Result<(), Failure>
     let mut binds = binds.trees;
     binds.reverse();
     let tree = Dec::Value(place, variables, Vec::new(stack.alloc), binds);
-    stack.put(Phrase::Declarations(DeclarationPhrase::Dec(LowDec { tree, height })))
+    stack.put_dec(LowDec { tree, height })
 }
 
 /// A type binding, and others behind it.
@@ -135,7 +135,7 @@ fn type_dec(stack: &mut Stack, place: Place) -> Result<(), Failure>
     let height = raised(all.height, 1)?;
     all.trees.reverse();
     let tree = Dec::Type(place, all.trees);
-    stack.put(Phrase::Declarations(DeclarationPhrase::Dec(LowDec { tree, height })))
+    stack.put_dec(LowDec { tree, height })
 }
 
 /// A type binding before others, behind `and`.
@@ -187,7 +187,7 @@ fn exception_dec(stack: &mut Stack, place: Place) -> Result<(), Failure>
     let height = raised(all.height, 1)?;
     all.trees.reverse();
     let tree = Dec::Exception(place, all.trees);
-    stack.put(Phrase::Declarations(DeclarationPhrase::Dec(LowDec { tree, height })))
+    stack.put_dec(LowDec { tree, height })
 }
 
 /// An exception binding before others, behind `and`.
@@ -232,7 +232,7 @@ fn open_dec(stack: &mut Stack, place: Place) -> Result<(), Failure>
     all.push(first)?;
     all.reverse();
     let tree = Dec::Open(place, all);
-    stack.put(Phrase::Declarations(DeclarationPhrase::Dec(LowDec { tree, height: 1 })))
+    stack.put_dec(LowDec { tree, height: 1 })
 }
 
 /// A structure before others.
@@ -242,7 +242,7 @@ fn and_opened(stack: &mut Stack) -> Result<(), Failure>
     let first = stack.long()?;
     let mut all = stack.longs();
     all.push(first)?;
-    stack.put(Phrase::Longs(all))
+    stack.put_longs(all)
 }
 
 /// A directive of fixity of so many parts.
@@ -250,10 +250,10 @@ fn fixity_dec(stack: &mut Stack, place: Place, parts: usize) -> Result<(), Failu
     ensures { Puts (of_dec (fixity_dec place)) parts (seen stack.old) (seen stack.new) result }
 {
     skip_all(stack, parts);
-    stack.put(Phrase::Declarations(DeclarationPhrase::Dec(LowDec {
+    stack.put_dec(LowDec {
         tree: Dec::Fixity(place),
         height: 1,
-    })))
+    })
 }
 
 /// Nothing, of so many parts.
@@ -269,7 +269,7 @@ fn no_opened(stack: &mut Stack) -> Result<(), Failure>
     ensures { Puts (of_longs []) 0 (seen stack.old) (seen stack.new) result }
 {
     let none = Vec::new(stack.alloc);
-    stack.put(Phrase::Longs(none))
+    stack.put_longs(none)
 }
 
 /// What a rule of declarations makes of its parts, which it takes off the stack.

@@ -30,7 +30,7 @@ use sml_pat_sequences::low_lists::and_pat;
 use sml_pat_sequences::pattern_sequences::pat_place;
 use sml_pat_sequences::round_patterns::round_pat;
 use sml_phrases::low::{LIMIT, LowBind, LowBinds, LowClauses, LowExp, LowPat, LowPats, LowTy};
-use sml_phrases::phrase::{DeclarationPhrase, Failure, PatternPhrase, Phrase, RightSide, discard};
+use sml_phrases::phrase::{DeclarationPhrase, Failure, Phrase, RightSide, discard};
 use sml_phrases::stack::Stack;
 use sml_tree::bare::Ident;
 use sml_tree::clauses::Clause;
@@ -245,7 +245,7 @@ pub fn no_pat(stack: &mut Stack) -> Result<(), Failure>
         trees: Vec::new(stack.alloc),
         height: 0,
     };
-    stack.put(Phrase::Patterns(PatternPhrase::Pats(none)))
+    stack.put_pats(none)
 }
 
 /// An atomic pattern before others.
@@ -255,7 +255,7 @@ pub fn pat_before(stack: &mut Stack) -> Result<(), Failure>
     let first = stack.pat();
     let others = stack.pats();
     let all = and_pat(first, others)?;
-    stack.put(Phrase::Patterns(PatternPhrase::Pats(all)))
+    stack.put_pats(all)
 }
 
 pub fn no_clause(stack: &mut Stack) -> Result<(), Failure>
@@ -324,7 +324,7 @@ pub fn functions(
     let function = function_on(stack, expander, shape)?;
     let others = stack.binds();
     let all = and_bind(function, others)?;
-    stack.put(Phrase::Declarations(DeclarationPhrase::Functions(Vec::new(stack.alloc), all)))
+    stack.put_functions(Vec::new(stack.alloc), all)
 }
 
 pub fn no_function(stack: &mut Stack) -> Result<(), Failure>
@@ -353,7 +353,7 @@ pub fn functions_of_variable(stack: &mut Stack) -> Result<(), Failure>
     let mut variables = Vec::new(stack.alloc);
     variables.push(stack.name()?)?;
     let functions = all_functions(stack)?;
-    stack.put(Phrase::Declarations(DeclarationPhrase::Functions(variables, functions)))
+    stack.put_functions(variables, functions)
 }
 
 /// Explicit type variables in round brackets, without the brackets.
@@ -384,7 +384,7 @@ pub fn functions_of_variables(stack: &mut Stack) -> Result<(), Failure>
     let variables = variables(stack)?;
     stack.skip();
     let functions = all_functions(stack)?;
-    stack.put(Phrase::Declarations(DeclarationPhrase::Functions(variables, functions)))
+    stack.put_functions(variables, functions)
 }
 
 /// What stands behind `fun (` where it is a pattern.
@@ -414,7 +414,7 @@ fn round_function(
     let first = round_pat(expander.alloc, place, inner)?;
     let function = function_from(expander, shape, place, first, right, others)?;
     let all = and_bind(function, binds)?;
-    stack.put(Phrase::Declarations(DeclarationPhrase::Functions(Vec::new(stack.alloc), all)))
+    stack.put_functions(Vec::new(stack.alloc), all)
 }
 
 /// What stands behind `fun (`, with the pattern in its brackets.

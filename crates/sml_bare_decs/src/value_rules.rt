@@ -44,11 +44,7 @@ fn and_value(
         height,
     };
     let plain = and_bind(first, others)?;
-    stack.put(Phrase::Declarations(DeclarationPhrase::Values(
-        Vec::new(stack.alloc),
-        plain,
-        recursive,
-    )))
+    stack.put_values(Vec::new(stack.alloc), plain, recursive)
 }
 
 /// A pattern, its right side, and further bindings.
@@ -77,11 +73,7 @@ pub fn no_value(stack: &mut Stack) -> Result<(), Failure>
         trees: Vec::new(stack.alloc),
         height: 0,
     };
-    stack.put(Phrase::Declarations(DeclarationPhrase::Values(
-        Vec::new(stack.alloc),
-        plain,
-        recursive,
-    )))
+    stack.put_values(Vec::new(stack.alloc), plain, recursive)
 }
 
 /// Bindings behind `rec`.
@@ -99,7 +91,7 @@ pub fn recursive(stack: &mut Stack) -> Result<(), Failure>
         trees: Vec::new(stack.alloc),
         height: 0,
     };
-    stack.put(Phrase::Declarations(DeclarationPhrase::Values(Vec::new(stack.alloc), none, all)))
+    stack.put_values(Vec::new(stack.alloc), none, all)
 }
 
 /// Bindings behind one explicit type variable.
@@ -113,7 +105,7 @@ pub fn of_variable(stack: &mut Stack) -> Result<(), Failure>
         plain,
         recursive,
     } = pop_values(stack);
-    stack.put(Phrase::Declarations(DeclarationPhrase::Values(variables, plain, recursive)))
+    stack.put_values(variables, plain, recursive)
 }
 
 /// Bindings behind explicit type variables in round brackets, without the first bracket.
@@ -127,7 +119,7 @@ pub fn of_variables(stack: &mut Stack) -> Result<(), Failure>
         plain,
         recursive,
     } = pop_values(stack);
-    stack.put(Phrase::Declarations(DeclarationPhrase::Values(variables, plain, recursive)))
+    stack.put_values(variables, plain, recursive)
 }
 
 /// What stands behind `val (` where it is a pattern.

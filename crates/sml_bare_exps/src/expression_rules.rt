@@ -32,7 +32,7 @@ use sml_fixity::shape::Shape;
 use sml_lex::fault::{Memory, Place};
 use sml_pat_sequences::low_lists::and_ty;
 use sml_phrases::low::{LowExp, LowPat, LowRules, LowTys};
-use sml_phrases::phrase::{ExpressionPhrase, Failure, Phrase, TypePhrase};
+use sml_phrases::phrase::{ExpressionPhrase, Failure, Phrase};
 use sml_phrases::raise::raised;
 use sml_phrases::stack::Stack;
 use sml_read::grammar::ExpressionRule;
@@ -91,7 +91,7 @@ fn more_tys(stack: &mut Stack) -> Result<(), Failure>
     stack.skip();
     let ty = stack.ty();
     let tys = and_ty(ty, stack.tys())?;
-    stack.put(Phrase::Types(TypePhrase::Tys(tys)))
+    stack.put_tys(tys)
 }
 
 /// `raise Exp`
@@ -234,7 +234,7 @@ fn no_tys(stack: &mut Stack) -> Result<(), Failure>
     ensures { Puts (of_tys no_ty) 0 (seen stack.old) (seen stack.new) result }
 {
     let trees = Vec::new(stack.alloc);
-    stack.put(Phrase::Types(TypePhrase::Tys(LowTys { trees, height: 0 })))
+    stack.put_tys(LowTys { trees, height: 0 })
 }
 
 /// No rules.

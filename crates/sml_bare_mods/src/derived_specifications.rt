@@ -29,7 +29,7 @@ fn put_specs(stack: &mut Stack, trees: Vec<Spec>, height: u32) -> Result<(), Fai
 {
     let mut trees = trees;
     trees.reverse();
-    stack.put(Phrase::Signatures(SignaturePhrase::Specs(LowSpecs { trees, height })))
+    stack.put_specs(LowSpecs { trees, height })
 }
 
 /// What stands behind `type`.

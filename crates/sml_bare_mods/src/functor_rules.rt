@@ -145,11 +145,7 @@ pub fn and_fun_binds(stack: &mut Stack, expander: &Expander) -> Result<(), Failu
     ensures { let vs = seen stack.old in Puts (of_fun_binds [] [] (fun_binds (at vs 0) (at vs 1))) 2 vs (seen stack.new) result }
 {
     let binds = fun_binds(stack, expander)?;
-    stack.put(Phrase::Structures(StructurePhrase::FunBinds(
-        Vec::new(stack.alloc),
-        Vec::new(stack.alloc),
-        binds,
-    )))
+    stack.put_fun_binds(Vec::new(stack.alloc), Vec::new(stack.alloc), binds)
 }
 
 /// Nothing behind a functor binding.
@@ -160,11 +156,7 @@ pub fn no_fun_binds(stack: &mut Stack) -> Result<(), Failure>
         trees: Vec::new(stack.alloc),
         height: 0,
     };
-    stack.put(Phrase::Structures(StructurePhrase::FunBinds(
-        Vec::new(stack.alloc),
-        Vec::new(stack.alloc),
-        binds,
-    )))
+    stack.put_fun_binds(Vec::new(stack.alloc), Vec::new(stack.alloc), binds)
 }
 
 /// A constraint behind a functor binding, and what stands behind it.
@@ -174,11 +166,7 @@ pub fn behind_fun_bind(stack: &mut Stack) -> Result<(), Failure>
     let (_none, first) = pop_constraints(stack);
     let (equations, others, binds) = pop_fun_binds(stack);
     let constraints = and_constraint(stack.alloc, first, equations, others)?;
-    stack.put(Phrase::Structures(StructurePhrase::FunBinds(
-        Vec::new(stack.alloc),
-        constraints,
-        binds,
-    )))
+    stack.put_fun_binds(Vec::new(stack.alloc), constraints, binds)
 }
 
 /// An equation of the signature expression before it, and what stands behind it.
@@ -188,5 +176,5 @@ pub fn where_fun_bind(stack: &mut Stack) -> Result<(), Failure>
     let equation = pop_where_type(stack)?;
     let (mut equations, constraints, binds) = pop_fun_binds(stack);
     equations.push(equation)?;
-    stack.put(Phrase::Structures(StructurePhrase::FunBinds(equations, constraints, binds)))
+    stack.put_fun_binds(equations, constraints, binds)
 }

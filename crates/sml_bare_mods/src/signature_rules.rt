@@ -95,11 +95,7 @@ fn signature(stack: &mut Stack) -> Result<(), Failure>
 {
     let signature = stack.sig();
     let equations = stack.wheres();
-    stack.put(Phrase::Signatures(SignaturePhrase::Sig(with_wheres(
-        stack.alloc,
-        signature,
-        equations,
-    )?)))
+    stack.put_sig(with_wheres(stack.alloc, signature, equations)?)
 }
 
 /// `sig .. end`
@@ -121,7 +117,7 @@ fn sig_name(stack: &mut Stack, place: Place) -> Result<(), Failure>
 {
     let name = stack.name()?;
     let tree = SigExp::Identifier(place, name.ident);
-    stack.put(Phrase::Signatures(SignaturePhrase::Sig(LowSig { tree, height: 1 })))
+    stack.put_sig(LowSig { tree, height: 1 })
 }
 
 /// No equations.
@@ -239,7 +235,7 @@ pub fn signature_phrase(rule: SignatureRule, place: Place, stack: &mut Stack) ->
         SignatureRule::SigSigAtom => signature(stack),
         SignatureRule::SigAtomSig => {
             let signature = sig_end(stack, place)?;
-            stack.put(Phrase::Signatures(SignaturePhrase::Sig(signature)))
+            stack.put_sig(signature)
         }
         SignatureRule::SigAtomAlphanumeric => sig_name(stack, place),
         SignatureRule::SigMoreNone | SignatureRule::SigWhereNone => no_wheres(stack),

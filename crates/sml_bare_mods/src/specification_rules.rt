@@ -43,7 +43,7 @@ pub fn one(stack: &mut Stack, spec: Spec, height: u32) -> Result<(), Failure>
 {
     let mut trees = Vec::new(stack.alloc);
     trees.push(spec)?;
-    stack.put(Phrase::Signatures(SignaturePhrase::Specs(LowSpecs { trees, height })))
+    stack.put_specs(LowSpecs { trees, height })
 }
 
 /// `val ..`
@@ -251,7 +251,7 @@ fn put_datatypes(stack: &mut Stack, datatypes: LowDatBinds) -> Result<(), Failur
         trees: Vec::new(stack.alloc),
         height: 0,
     };
-    stack.put(Phrase::Declarations(DeclarationPhrase::Datatypes(datatypes, types)))
+    stack.put_datatypes(datatypes, types)
 }
 
 /// A type constructor, `=`, and what stands behind that.
@@ -299,7 +299,7 @@ fn con_binds(stack: &mut Stack) -> Result<(), Failure>
     let name = stack.name()?;
     let ty = stack.ty_if_any();
     let binds = and_con_bind(name, ty, stack.con_binds())?;
-    stack.put(Phrase::Declarations(DeclarationPhrase::ConBinds(binds)))
+    stack.put_con_binds(binds)
 }
 
 /// A constructor or an exception in front of others.
@@ -362,7 +362,7 @@ fn and_exception(stack: &mut Stack) -> Result<(), Failure>
     ensures { let vs = seen stack.old in Puts (of_con_binds (con_bind_in (at vs 1) ∷ con_binds_in (at vs 2))) 3 vs (seen stack.new) result }
 {
     let binds = exceptions(stack)?;
-    stack.put(Phrase::Declarations(DeclarationPhrase::ConBinds(binds)))
+    stack.put_con_binds(binds)
 }
 
 /// `strid : sigexp`
@@ -439,7 +439,7 @@ fn included_sig(stack: &mut Stack, place: Place) -> Result<(), Failure>
         Ok(signature) => {
             let equations = stack.wheres();
             let signature = where_types(stack.alloc, place, signature, equations)?;
-            stack.put(Phrase::Signatures(SignaturePhrase::Sig(signature)))
+            stack.put_sig(signature)
         }
         Err(failure) => Err(failure),
     }
@@ -470,11 +470,11 @@ fn included_name_of(
                 height: 1,
             };
             let signature = where_types(stack.alloc, place, signature, equations)?;
-            stack.put(Phrase::Signatures(SignaturePhrase::Sig(signature)))
+            stack.put_sig(signature)
         }
         Phrase::Names(mut names) => {
             names.push(name)?;
-            stack.put(Phrase::Names(names))
+            stack.put_names(names)
         }
         other => {
             discard(other);
@@ -490,7 +490,7 @@ fn names(stack: &mut Stack) -> Result<(), Failure>
     let name = stack.name()?;
     let mut names = stack.names();
     names.push(name)?;
-    stack.put(Phrase::Names(names))
+    stack.put_names(names)
 }
 
 /// What stands behind `sharing`.
@@ -568,7 +568,7 @@ fn shared_structures(stack: &mut Stack) -> Result<(), Failure>
     ensures { let vs = seen stack.old in Puts (of_longs (long_in (at vs 0) ∷ long_in (at vs 2) ∷ longs_in (at vs 3))) 4 vs (seen stack.new) result }
 {
     let longs = two_longs(stack)?;
-    stack.put(Phrase::Longs(longs))
+    stack.put_longs(longs)
 }
 
 /// A long identifier behind `=`, and those behind it.
@@ -579,7 +579,7 @@ fn longs(stack: &mut Stack) -> Result<(), Failure>
     let long = stack.long()?;
     let mut longs = stack.longs();
     longs.push(long)?;
-    stack.put(Phrase::Longs(longs))
+    stack.put_longs(longs)
 }
 
 fn no_val_descs(stack: &mut Stack) -> Result<(), Failure>
@@ -610,10 +610,10 @@ fn no_datatypes(stack: &mut Stack) -> Result<(), Failure>
 fn no_con_binds(stack: &mut Stack) -> Result<(), Failure>
     ensures { Puts (of_con_binds []) 0 (seen stack.old) (seen stack.new) result }
 {
-    stack.put(Phrase::Declarations(DeclarationPhrase::ConBinds(LowConBinds {
+    stack.put_con_binds(LowConBinds {
         trees: Vec::new(stack.alloc),
         height: 0,
-    })))
+    })
 }
 
 fn no_str_descs(stack: &mut Stack) -> Result<(), Failure>
@@ -690,12 +690,11 @@ pub fn specification_phrase(
         SpecificationRule::IncludeAlphanumeric => included_name(stack, place),
         SpecificationRule::IncludeMoreAlphanumeric | SpecificationRule::IncludeIdsAlphanumeric =>
             names(stack),
-        SpecificationRule::IncludeIdsNone => stack.put(Phrase::Names(Vec::new(stack.alloc))),
+        SpecificationRule::IncludeIdsNone => stack.put_names(Vec::new(stack.alloc)),
         SpecificationRule::SharingType => shared_types(stack),
         SpecificationRule::SharingLongStrId => shared_structures(stack),
-        SpecificationRule::TypeShareMoreNone | SpecificationRule::StrShareMoreNone => stack.put(
-            Phrase::Longs(Vec::new(stack.alloc)),
-        ),
+        SpecificationRule::TypeShareMoreNone | SpecificationRule::StrShareMoreNone =>
+            stack.put_longs(Vec::new(stack.alloc)),
         SpecificationRule::TypeShareMoreEquals | SpecificationRule::StrShareMoreEquals => longs(
             stack,
         ),

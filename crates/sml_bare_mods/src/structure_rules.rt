@@ -118,7 +118,7 @@ fn one_constraint(stack: &mut Stack, ascription: Ascription) -> Result<(), Failu
         ascription,
         signature,
     })?;
-    stack.put(Phrase::Structures(StructurePhrase::Constraints(Vec::new(stack.alloc), constraints)))
+    stack.put_constraints(Vec::new(stack.alloc), constraints)
 }
 
 /// `strid = strexp`, perhaps with a constraint.
@@ -194,11 +194,7 @@ fn and_str_binds(stack: &mut Stack) -> Result<(), Failure>
     ensures { let vs = seen stack.old in Puts (of_str_binds [] [] (str_binds (at vs 0) (at vs 1))) 2 vs (seen stack.new) result }
 {
     let binds = str_binds(stack)?;
-    stack.put(Phrase::Structures(StructurePhrase::StrBinds(
-        Vec::new(stack.alloc),
-        Vec::new(stack.alloc),
-        binds,
-    )))
+    stack.put_str_binds(Vec::new(stack.alloc), Vec::new(stack.alloc), binds)
 }
 
 /// Nothing behind a structure binding.
@@ -209,11 +205,7 @@ fn no_str_binds(stack: &mut Stack) -> Result<(), Failure>
         trees: Vec::new(stack.alloc),
         height: 0,
     };
-    stack.put(Phrase::Structures(StructurePhrase::StrBinds(
-        Vec::new(stack.alloc),
-        Vec::new(stack.alloc),
-        binds,
-    )))
+    stack.put_str_binds(Vec::new(stack.alloc), Vec::new(stack.alloc), binds)
 }
 
 /// A constraint behind a structure binding, and what stands behind it.
@@ -223,11 +215,7 @@ fn behind_str_bind(stack: &mut Stack) -> Result<(), Failure>
     let (_none, first) = pop_constraints(stack);
     let (equations, others, binds) = pop_str_binds(stack);
     let constraints = and_constraint(stack.alloc, first, equations, others)?;
-    stack.put(Phrase::Structures(StructurePhrase::StrBinds(
-        Vec::new(stack.alloc),
-        constraints,
-        binds,
-    )))
+    stack.put_str_binds(Vec::new(stack.alloc), constraints, binds)
 }
 
 /// An equation of the signature expression before it, and what stands behind it.
@@ -237,7 +225,7 @@ fn where_str_bind(stack: &mut Stack) -> Result<(), Failure>
     let equation = pop_where_type(stack)?;
     let (mut equations, constraints, binds) = pop_str_binds(stack);
     equations.push(equation)?;
-    stack.put(Phrase::Structures(StructurePhrase::StrBinds(equations, constraints, binds)))
+    stack.put_str_binds(equations, constraints, binds)
 }
 
 /// A structure expression and the constraints behind it.
@@ -247,16 +235,13 @@ fn structure(stack: &mut Stack) -> Result<(), Failure>
     let body = stack.str();
     let (_none, constraints) = pop_constraints(stack);
     let body = constrained(stack.alloc, body, constraints)?;
-    stack.put(Phrase::Structures(StructurePhrase::Str(body)))
+    stack.put_str(body)
 }
 
 fn no_constraints(stack: &mut Stack) -> Result<(), Failure>
     ensures { Puts (of_constraints [] []) 0 (seen stack.old) (seen stack.new) result }
 {
-    stack.put(Phrase::Structures(StructurePhrase::Constraints(
-        Vec::new(stack.alloc),
-        Vec::new(stack.alloc),
-    )))
+    stack.put_constraints(Vec::new(stack.alloc), Vec::new(stack.alloc))
 }
 
 /// A constraint behind a structure expression, and what stands behind it.
@@ -266,7 +251,7 @@ fn behind_str(stack: &mut Stack) -> Result<(), Failure>
     let (_none, first) = pop_constraints(stack);
     let (equations, others) = pop_constraints(stack);
     let constraints = and_constraint(stack.alloc, first, equations, others)?;
-    stack.put(Phrase::Structures(StructurePhrase::Constraints(Vec::new(stack.alloc), constraints)))
+    stack.put_constraints(Vec::new(stack.alloc), constraints)
 }
 
 /// An equation of the signature expression before it, and what stands behind it.
@@ -284,7 +269,7 @@ fn and_where_str(stack: &mut Stack) -> Result<(), Failure>
     let equation = pop_where_type(stack)?;
     let (mut equations, constraints) = pop_constraints(stack);
     equations.push(equation)?;
-    stack.put(Phrase::Structures(StructurePhrase::Constraints(equations, constraints)))
+    stack.put_constraints(equations, constraints)
 }
 
 /// `struct .. end`
@@ -297,14 +282,14 @@ fn struct_end(stack: &mut Stack, place: Place) -> Result<(), Failure>
     let height = raised(height, 1)?;
     trees.reverse();
     let tree = StrExp::Decs(place, trees);
-    stack.put(Phrase::Structures(StructurePhrase::Str(LowStr { tree, height })))
+    stack.put_str(LowStr { tree, height })
 }
 
 fn str_name(stack: &mut Stack) -> Result<(), Failure>
     ensures { let vs = seen stack.old in Puts (of_str (str_name (long_in (at vs 0)))) 1 vs (seen stack.new) result }
 {
     let tree = StrExp::Identifier(stack.long()?);
-    stack.put(Phrase::Structures(StructurePhrase::Str(LowStr { tree, height: 1 })))
+    stack.put_str(LowStr { tree, height: 1 })
 }
 
 /// A structure identifier, or a functor and its argument.
@@ -330,19 +315,19 @@ fn applied_of(
         Phrase::Structures(StructurePhrase::Str(argument)) => {
             let height = raised(argument.height, 1)?;
             let tree = StrExp::Application(name, Box::new(alloc, argument.tree)?);
-            stack.put(Phrase::Structures(StructurePhrase::Str(LowStr { tree, height })))
+            stack.put_str(LowStr { tree, height })
         }
         Phrase::Structures(StructurePhrase::StrDecs(decs)) => {
             let LowStrDecs { mut trees, height } = decs;
             let height = raised(height, 2)?;
             trees.reverse();
             let tree = expander.functor_application(name, trees)?;
-            stack.put(Phrase::Structures(StructurePhrase::Str(LowStr { tree, height })))
+            stack.put_str(LowStr { tree, height })
         }
         other => {
             discard(other);
             let tree = StrExp::Identifier(long(alloc, name));
-            stack.put(Phrase::Structures(StructurePhrase::Str(LowStr { tree, height: 1 })))
+            stack.put_str(LowStr { tree, height: 1 })
         }
     }
 }
@@ -372,7 +357,7 @@ fn str_let_of(
     let height = raised(height.max(body.height), 1)?;
     trees.reverse();
     let tree = StrExp::Let(place, trees, Box::new(stack.alloc, body.tree)?);
-    stack.put(Phrase::Structures(StructurePhrase::Str(LowStr { tree, height })))
+    stack.put_str(LowStr { tree, height })
 }
 
 /// The phrase between brackets.

@@ -21,7 +21,7 @@ use sml_lex::fault::Place;
 use sml_phrases::low::{
     LowDec, LowDecs, LowFunBinds, LowSigBinds, LowSpecs, LowStrBinds, LowStrDec, LowStrDecs, LowTop,
 };
-use sml_phrases::phrase::{DeclarationPhrase, Failure, Phrase, SignaturePhrase, StructurePhrase};
+use sml_phrases::phrase::{DeclarationPhrase, Failure, Phrase, StructurePhrase};
 use sml_phrases::raise::raised;
 use sml_phrases::stack::Stack;
 use sml_read::grammar::UnitRule;
@@ -57,7 +57,7 @@ fn and_specs(stack: &mut Stack) -> Result<(), Failure>
     let LowSpecs { mut trees, height } = stack.specs();
     trees.append(&mut specs.trees)?;
     let height = height.max(specs.height);
-    stack.put(Phrase::Signatures(SignaturePhrase::Specs(LowSpecs { trees, height })))
+    stack.put_specs(LowSpecs { trees, height })
 }
 
 /// A declaration of the core at structure level.
@@ -167,10 +167,10 @@ fn no_str_decs(stack: &mut Stack) -> Result<(), Failure>
 fn no_specs(stack: &mut Stack) -> Result<(), Failure>
     ensures { Puts (of_specs no_spec) 0 (seen stack.old) (seen stack.new) result }
 {
-    stack.put(Phrase::Signatures(SignaturePhrase::Specs(LowSpecs {
+    stack.put_specs(LowSpecs {
         trees: Vec::new(stack.alloc),
         height: 0,
-    })))
+    })
 }
 
 /// What a phrase of a program, or of declarations or specifications one after the other, makes by its rule.

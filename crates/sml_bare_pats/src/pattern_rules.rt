@@ -249,7 +249,7 @@ fn no_atoms(stack: &mut Stack) -> Result<(), Failure>
         trees: Vec::new(stack.alloc),
         height: 0,
     };
-    stack.put(Phrase::Patterns(PatternPhrase::Atoms(atoms, types)))
+    stack.put_atoms(atoms, types)
 }
 
 /// A pattern behind `as`.
@@ -275,7 +275,7 @@ fn behind_colon(stack: &mut Stack, ty: LowTy, rest: Phrase) -> Result<(), Failur
                 trees: Vec::new(stack.alloc),
                 height: 0,
             };
-            stack.put(Phrase::Patterns(PatternPhrase::Atoms(atoms, types)))
+            stack.put_atoms(atoms, types)
         }
         other => {
             discard(other);
@@ -288,7 +288,7 @@ fn behind_colon(stack: &mut Stack, ty: LowTy, rest: Phrase) -> Result<(), Failur
                 trees: Vec::new(stack.alloc),
                 height: 0,
             };
-            stack.put(Phrase::Patterns(PatternPhrase::Atoms(atoms, types)))
+            stack.put_atoms(atoms, types)
         }
     }
 }
@@ -321,7 +321,7 @@ fn more_atoms(stack: &mut Stack) -> Result<(), Failure>
     let rest = stack.pop();
     let (atoms, types) = atoms_in(stack.alloc, rest);
     let atoms = and_pat(pat, atoms)?;
-    stack.put(Phrase::Patterns(PatternPhrase::Atoms(atoms, types)))
+    stack.put_atoms(atoms, types)
 }
 
 /// The types behind colons.
@@ -331,7 +331,7 @@ fn colons(stack: &mut Stack) -> Result<(), Failure>
     stack.skip();
     let ty = stack.ty();
     let types = and_ty(ty, stack.tys())?;
-    stack.put(Phrase::Types(TypePhrase::Tys(types)))
+    stack.put_tys(types)
 }
 
 /// The types behind the colons that follow atomic patterns.
@@ -345,7 +345,7 @@ fn atom_colons(stack: &mut Stack) -> Result<(), Failure>
         trees: Vec::new(stack.alloc),
         height: 0,
     };
-    stack.put(Phrase::Patterns(PatternPhrase::Atoms(atoms, types)))
+    stack.put_atoms(atoms, types)
 }
 
 /// An atomic pattern in round brackets.
@@ -425,10 +425,10 @@ fn no_pats(stack: &mut Stack) -> Result<(), Failure>
     ensures { Puts (of_pats no_pat) 1 (seen stack.old) (seen stack.new) result }
 {
     stack.skip();
-    stack.put(Phrase::Patterns(PatternPhrase::Pats(LowPats {
+    stack.put_pats(LowPats {
         trees: Vec::new(stack.alloc),
         height: 0,
-    })))
+    })
 }
 
 /// One pattern more in brackets.
@@ -437,7 +437,7 @@ fn pats(stack: &mut Stack) -> Result<(), Failure>
 {
     let pat = stack.pat();
     let pats = and_pat(pat, stack.pats())?;
-    stack.put(Phrase::Patterns(PatternPhrase::Pats(pats)))
+    stack.put_pats(pats)
 }
 
 /// The same behind a comma.
@@ -529,10 +529,10 @@ fn layer(stack: &mut Stack) -> Result<(), Failure>
 fn no_types(stack: &mut Stack) -> Result<(), Failure>
     ensures { Puts (of_tys no_ty) 0 (seen stack.old) (seen stack.new) result }
 {
-    stack.put(Phrase::Types(TypePhrase::Tys(LowTys {
+    stack.put_tys(LowTys {
         trees: Vec::new(stack.alloc),
         height: 0,
-    })))
+    })
 }
 
 /// What a rule of patterns makes of its parts, which are on top of the stack.

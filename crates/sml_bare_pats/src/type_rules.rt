@@ -88,7 +88,7 @@ fn more_types(stack: &mut Stack) -> Result<(), Failure>
     stack.skip();
     let ty = stack.ty();
     let types = and_ty(ty, stack.tys())?;
-    stack.put(Phrase::Types(TypePhrase::Tys(types)))
+    stack.put_tys(types)
 }
 
 /// A type constructor behind one argument.
@@ -137,7 +137,7 @@ fn more_constructors(stack: &mut Stack) -> Result<(), Failure>
     let constructor = stack.long()?;
     let mut constructors = stack.longs();
     constructors.push(constructor)?;
-    stack.put(Phrase::Longs(constructors))
+    stack.put_longs(constructors)
 }
 
 fn variable(stack: &mut Stack, place: Place) -> Result<(), Failure>
@@ -291,7 +291,7 @@ fn one_variable(stack: &mut Stack) -> Result<(), Failure>
     let name = stack.name()?;
     let mut names = Vec::new(stack.alloc);
     names.push(name)?;
-    stack.put(Phrase::Names(names))
+    stack.put_names(names)
 }
 
 /// A type variable behind a bracket or a comma, and those behind it.
@@ -311,7 +311,7 @@ fn more_variables(stack: &mut Stack) -> Result<(), Failure>
     ensures { let vs = seen stack.old in Puts (of_names (name_in (at vs 1) ∷ names_in (at vs 2))) 3 vs (seen stack.new) result }
 {
     let names = variables(stack)?;
-    stack.put(Phrase::Names(names))
+    stack.put_names(names)
 }
 
 /// The type variables in round brackets.
@@ -320,7 +320,7 @@ fn some_variables(stack: &mut Stack) -> Result<(), Failure>
 {
     let names = variables(stack)?;
     stack.skip();
-    stack.put(Phrase::Names(names))
+    stack.put_names(names)
 }
 
 /// What stands in round brackets behind one type: nothing.
@@ -345,13 +345,13 @@ pub fn type_phrase(
         TypeRule::TyArrowNone => stack.put_nothing(),
         TypeRule::TyArrowArrow => second(stack),
         TypeRule::TupCon => tuple(stack, place),
-        TypeRule::TupMoreNone => stack.put(Phrase::Types(TypePhrase::Tys(LowTys {
+        TypeRule::TupMoreNone => stack.put_tys(LowTys {
             trees: Vec::new(expander.alloc),
             height: 0,
-        }))),
+        }),
         TypeRule::TupMoreStar => more_types(stack),
         TypeRule::ConATy => application(stack, place),
-        TypeRule::ConMoreNone => stack.put(Phrase::Longs(Vec::new(expander.alloc))),
+        TypeRule::ConMoreNone => stack.put_longs(Vec::new(expander.alloc)),
         TypeRule::ConMoreLongTyCon => more_constructors(stack),
         TypeRule::ATyTypeVariable => variable(stack, place),
         TypeRule::ATyLongTyCon => constructor(stack, place),
@@ -365,11 +365,11 @@ pub fn type_phrase(
         TypeRule::TyRoundComma => more_arguments(stack),
         TypeRule::TyRoundMoreCloseRound => no_arguments(stack),
         TypeRule::TyRoundMoreComma => more_arguments(stack),
-        TypeRule::TvsNone => stack.put(Phrase::Names(Vec::new(expander.alloc))),
+        TypeRule::TvsNone => stack.put_names(Vec::new(expander.alloc)),
         TypeRule::TvsSomeTvs => stack.put_first(),
         TypeRule::SomeTvsTypeVariable => one_variable(stack),
         TypeRule::SomeTvsOpenRound => some_variables(stack),
-        TypeRule::TvsMoreNone => stack.put(Phrase::Names(Vec::new(expander.alloc))),
+        TypeRule::TvsMoreNone => stack.put_names(Vec::new(expander.alloc)),
         TypeRule::TvsMoreComma => more_variables(stack),
     }
 }

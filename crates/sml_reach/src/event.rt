@@ -542,6 +542,22 @@ fn enter_name(
     }
 }
 
+/// What a phrase with this first token is, whose parts are let go.
+fn found_from(
+    finder: &Finder,
+    names: &mut Names,
+    token: usize,
+    sense: Sense,
+    parts: Parts,
+) -> Result<Found, Memory>
+    ensures { let text = text_at finder.now.unit.now finder.now.tokens.now in
+        IfOk result (λ found. found_of found ≡ found_by text token sense
+        (found_of parts.first) (found_of parts.second) (found_of parts.third) (found_of parts.fourth)) }
+{
+    let mut parts = parts;
+    finder.find(names, token, sense, &mut parts)
+}
+
 /// A phrase with so many parts that is this and does this.
 #[inline(never)]
 fn enter_other(
@@ -564,7 +580,7 @@ fn enter_other(
         cons_option (event_of deed token (found_by text token sense (get_or parts 0 nothing) (get_or parts 1 nothing) (get_or parts 2 nothing) (get_or parts 3 nothing))) (map seen (reverse events.old.items))) }
 {
     let parts = pop_parts(founds, count);
-    let found = finder.find(names, token, sense, parts)?;
+    let found = found_from(finder, names, token, sense, parts)?;
     let (event, left) = finish(finder.alloc, deed, token, found)?;
     founds.reserve(1)?;
     founds.push_reserved(left);

@@ -13,6 +13,7 @@ use sml_fixity::sequences::Item;
 use sml_lex::fault::Memory;
 use sml_lex::token::Token;
 use std::alloc::Global;
+use std::mem;
 
 /// An atomic phrase of a sequence: what it is to the operators, the number of its first token, and the items of the
 /// sequence of patterns that it has in round brackets, if it is that.
@@ -206,6 +207,13 @@ fn from(token: usize, found: Found) -> Result<Found, Memory>
     }
 }
 
+/// What a part is; nothing is left in its place. So parts are let go where all of them are.
+fn taken(part: &mut Found) -> Found
+    ensures { found_of result ≡ found_of part.old }
+{
+    mem::replace(part, Found::Nothing)
+}
+
 impl Finder<'_> {
     /// An item without brackets that begins at this token.
     pub fn plain(&self, item: Item, token: usize) -> Atom
@@ -239,57 +247,74 @@ impl Finder<'_> {
         Ok(self.plain(item, token))
     }
 
-    /// What a phrase with this first token is.
+    /// What a phrase with this first token is. Parts that it becomes part of are taken.
     pub fn find(
         &self,
         names: &mut Names,
         token: usize,
         sense: Sense,
-        parts: Parts,
+        parts: &mut Parts,
     ) -> Result<Found, Memory>
         ensures { let text = text_at self.now.unit.now self.now.tokens.now in
             IfOk result (λ found. found_of found ≡ spec.found_by text token sense
-            (found_of parts.first) (found_of parts.second) (found_of parts.third) (found_of parts.fourth)) }
+            (found_of parts.old.first) (found_of parts.old.second) (found_of parts.old.third) (found_of parts.old.fourth)) }
     {
         Ok(match sense {
             Sense::Nothing => Found::Nothing,
-            Sense::Passed => parts.first,
+            Sense::Passed => taken(&mut parts.first),
             Sense::Short => Found::Plain(self.short_item(names, token)?, token),
             Sense::Long => Found::Plain(Item::Long, token),
             Sense::Op => {
-                let item = after_op(atom_in(self.alloc, parts.second).item);
+                let item = after_op(atom_in(self.alloc, taken(&mut parts.second)).item);
                 Found::Plain(item, token)
             }
             Sense::Phrase => Found::Plain(Item::Phrase, token),
-            Sense::Round => round_atom(self.alloc, token, parts.second)?,
+            Sense::Round => round_atom(self.alloc, token, taken(&mut parts.second))?,
             Sense::Empty => Found::Several(Vec::new(self.alloc), false),
             Sense::Typed => Found::Several(Vec::new(self.alloc), true),
             Sense::More => {
-                let first = atom_in(self.alloc, parts.first);
-                joined(self.alloc, first, parts.second)?
+                let first = atom_in(self.alloc, taken(&mut parts.first));
+                joined(self.alloc, first, taken(&mut parts.second))?
             }
             Sense::MoreBehind => {
-                let first = atom_in(self.alloc, parts.second);
-                joined(self.alloc, first, parts.third)?
+                let first = atom_in(self.alloc, taken(&mut parts.second));
+                joined(self.alloc, first, taken(&mut parts.third))?
             }
-            Sense::Third => parts.third,
-            Sense::Named => before(self.short(names, token)?, parts.second)?,
-            Sense::OpNamed => before(self.plain(Item::Op, token), parts.second)?,
-            Sense::Behind => from(token, parts.second)?,
-            Sense::RoundMore => round_more(self.alloc, token, parts.first, parts.second)?,
-            Sense::OpenRoundMore => round_more(self.alloc, token, parts.second, parts.third)?,
+            Sense::Third => taken(&mut parts.third),
+            Sense::Named => before(self.short(names, token)?, taken(&mut parts.second))?,
+            Sense::OpNamed => before(self.plain(Item::Op, token), taken(&mut parts.second))?,
+            Sense::Behind => from(token, taken(&mut parts.second))?,
+            Sense::RoundMore => round_more(
+                self.alloc,
+                token,
+                taken(&mut parts.first),
+                taken(&mut parts.second),
+            )?,
+            Sense::OpenRoundMore => round_more(
+                self.alloc,
+                token,
+                taken(&mut parts.second),
+                taken(&mut parts.third),
+            )?,
             Sense::Inner => {
                 if is_word(&parts.second) {
-                    only_inner(self.alloc, parts.first)
+                    only_inner(self.alloc, taken(&mut parts.first))
                 } else {
                     Found::Nothing
                 }
             }
             Sense::Level => {
                 let level = level_in(&parts.second);
-                self.directed(names, level, word_in(&parts.third), parts.fourth)?
+                self.directed(
+                    names,
+                    level,
+                    word_in(&parts.third),
+                    taken(&mut parts.fourth),
+                )?
             }
-            Sense::NoLevel => { self.directed(names, None, word_in(&parts.second), parts.third)? }
+            Sense::NoLevel => {
+                self.directed(names, None, word_in(&parts.second), taken(&mut parts.third))?
+            }
         })
     }
 

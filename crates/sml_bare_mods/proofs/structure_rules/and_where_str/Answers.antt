@@ -11,7 +11,7 @@ returns c =
     let a = seen c.pop_where_type.new.stack in
     let p = c.in_ok-equation.ensures.rest in
     let popped = c.pop_constraints-equations.ensures in
-    puts_same _ _ 2 v _ _ c.put.result
+    puts_same _ _ 2 v _ _ c.put_constraints.result
     (where_pushed of_constraints constraint_wheres_in constraints_in v a _ _ c.in_ok-equation.equation _ p c.in_ok-push.ensures.items c.in_ok-equation.ensures.value popped.wheres popped.constraints)
     (two_off v a _ p popped.rest)
-    c.put.ensures
+    c.put_constraints.ensures

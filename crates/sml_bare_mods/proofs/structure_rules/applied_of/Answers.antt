@@ -18,8 +18,8 @@ returns-in_err-height-in-Structures-StrDecs c =
     let back = c.from_residual-in_err-height-in-Structures-StrDecs in
     decs_fail (name_of c.args.name) _ _ it.decs.height 0 (seen c.args.stack.now) (seen c.args.stack.now) failure.field-0.0 back.result shape it.decs.measured failure.ensures.sum back.ensures.1
 
-pub invariant_of-put-in-Structures-StrDecs : goal.invariant_of-put-in-Structures-StrDecs
-invariant_of-put-in-Structures-StrDecs c =
+pub invariant_of-put_str-in-Structures-StrDecs : goal.invariant_of-put_str-in-Structures-StrDecs
+invariant_of-put_str-in-Structures-StrDecs c =
     let f = name_of c.args.name in
     record {
       measured = decs_applied f _ _ _ _ (c.in_ok-tree-in-Structures-StrDecs.ensures ∙ ap (λ ds. functor_apply_decs f (str_decs_of (map str_dec_of ds))) c.reverse.ensures.items) c.in-Structures-StrDecs.decs.measured c.in_ok-height-in-Structures-StrDecs.ensures.sum;
@@ -31,7 +31,7 @@ returns-in_ok-tree-in-Structures-StrDecs c =
     let f = name_of c.args.name in
     let it = c.in-Structures-StrDecs in
     let shape : phrase_of c.args.argument ≡ of_str_decs (str_decs_of (map str_dec_of (reverse it.decs.trees.items))) = ap phrase_of it.is ∙ ap (λ f. phrase_of (Structures f)) it.field-0-is in
-    puts_same _ _ 0 (seen c.args.stack.now) _ _ c.put-in-Structures-StrDecs.result
+    puts_same _ _ 0 (seen c.args.stack.now) _ _ c.put_str-in-Structures-StrDecs.result
     (ap of_str (c.in_ok-tree-in-Structures-StrDecs.ensures ∙ ap (λ ds. functor_apply_decs f (str_decs_of (map str_dec_of ds))) c.reverse.ensures.items ∙ ap (applied f) (sym shape)))
     refl
-    c.put-in-Structures-StrDecs.ensures
+    c.put_str-in-Structures-StrDecs.ensures

@@ -1,3 +1,2 @@
 mod Gathering
 mod Telling
-mod ExpViews

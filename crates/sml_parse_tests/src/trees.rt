@@ -28,6 +28,13 @@ impl Shown {
         Ok(())
     }
 
+    fn put_so_often(&mut self, text: &str, times: u32) -> Result<(), Memory> {
+        for _time in 0..times {
+            self.put(text)?;
+        }
+        Ok(())
+    }
+
     fn ident(&mut self, ident: &Ident) -> Result<(), Memory> {
         for byte in ident.as_slice() {
             self.text.push(char::from(*byte))?;
@@ -51,10 +58,10 @@ fn show_exp(shown: &mut Shown, exp: &Exp) -> Result<(), Memory> {
         Exp::Number => shown.put("n"),
         Exp::Identifier(long) => shown.long(long),
         Exp::Tuple(exps) => show_exps(shown, exps),
-        Exp::Bracket(exp) => {
-            shown.put("[")?;
+        Exp::Brackets(exp, pairs) => {
+            shown.put_so_often("[", *pairs)?;
             show_exp(shown, exp)?;
-            shown.put("]")
+            shown.put_so_often("]", *pairs)
         }
         Exp::Function(ident, exp) => {
             shown.put("fn ")?;

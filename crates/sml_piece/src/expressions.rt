@@ -60,7 +60,7 @@ fn elaborate(
         Exp::Number => typed_number(alloc, made),
         Exp::Identifier(long) => typed_identifier(alloc, context, locals, long, made),
         Exp::Tuple(parts) => typed_tuple(alloc, context, locals, parts, made),
-        Exp::Bracket(inner) => elaborate(alloc, context, locals, inner, made),
+        Exp::Brackets(inner, _) => elaborate(alloc, context, locals, inner, made),
         Exp::Function(name, body) => typed_function(alloc, context, locals, name, body, made),
     }
 }

@@ -4,7 +4,7 @@
 
 ghost use Rattle.std.specs.Prelude.{◌≡◌, Some, map, IfOk};
 ghost use Rattle.std.specs.Option.{option_map};
-ghost use Rattle.sml_tree.specs.Trees.{bracket};
+ghost use Rattle.sml_tree.specs.Trees.{tuple, bracket, brackets};
 ghost use Rattle.sml_tree.specs.Views.{exp_of, exps_of, core_dec_of};
 ghost use Rattle.sml_tree.specs.ExpressionViews as whole;
 ghost use Rattle.sml_tree.specs.TypeViews.{names_of, long_name_of};
@@ -41,12 +41,25 @@ fn identifier_piece(alloc: Global, long: &LongIdent) -> Result<Option<Exp>, Memo
     }
 }
 
-/// An expression in brackets.
+/// What stands in so many pairs of brackets, in one more.
+fn further_bracket(alloc: Global, exp: Box<Exp>, pairs: u32) -> Result<Exp, Memory>
+    ensures { IfOk result (λ r. exp_of r ≡ bracket (brackets pairs (exp_of exp.value))) }
+{
+    match pairs.checked_add(1) {
+        Some(more) => Ok(Exp::Brackets(exp, more)),
+        None => Ok(Exp::Brackets(Box::new(alloc, Exp::Brackets(exp, pairs))?, 1)),
+    }
+}
+
+/// An expression in brackets. Brackets in brackets share one tree.
 #[inline(never)]
 fn bracket_piece(alloc: Global, exp: Exp) -> Result<Option<Exp>, Memory>
     ensures { IfOk result (λ r. option_map exp_of r ≡ Some (bracket (exp_of exp))) }
 {
-    Ok(Some(Exp::Bracket(Box::new(alloc, exp)?)))
+    match exp {
+        Exp::Brackets(exp, pairs) => Ok(Some(further_bracket(alloc, exp, pairs)?)),
+        other => Ok(Some(Exp::Brackets(Box::new(alloc, other)?, 1))),
+    }
 }
 
 /// An expression, if it is of the piece. Its forms have functions of their own, so that a bracket in brackets costs little
@@ -58,13 +71,10 @@ pub fn exp_piece(alloc: Global, exp: &whole::Exp) -> Result<Option<Exp>, Memory>
     match exp {
         whole::Exp::Constant(_, constant) => Ok(constant_piece(constant)),
         whole::Exp::Identifier(_, long) => identifier_piece(alloc, long),
-        whole::Exp::Tuple(_, exps) => match exps_piece(alloc, exps)? {
-            Some(exps) => Ok(Some(Exp::Tuple(exps))),
-            None => Ok(None),
-        },
-        whole::Exp::Bracket(_, exp) => match exp_piece(alloc, exp)? {
-            Some(exp) => bracket_piece(alloc, exp),
-            None => Ok(None),
+        whole::Exp::Tuple(_, exps) => tuple_piece(alloc, exps),
+        whole::Exp::Bracket(_, exp) => match exp_piece(alloc, exp) {
+            Ok(Some(exp)) => bracket_piece(alloc, exp),
+            other => other,
         },
         whole::Exp::Function(_, rules) => match (rules.first(), rules.get(1)) {
             (Some(rule), None) => rule_piece(alloc, rule),
@@ -74,8 +84,19 @@ pub fn exp_piece(alloc: Global, exp: &whole::Exp) -> Result<Option<Exp>, Memory>
     }
 }
 
+/// A row labelled from 1 on.
 #[cycle(exp_piece)]
 #[inline(never)]
+fn tuple_piece(alloc: Global, exps: &[whole::Exp]) -> Result<Option<Exp>, Memory>
+    ensures { IfOk result (λ r. option_map exp_of r ≡ option_map tuple (spec.exps_piece (whole.exps_of (map whole.exp_of exps.now)))) }
+{
+    match exps_piece(alloc, exps)? {
+        Some(exps) => Ok(Some(Exp::Tuple(exps))),
+        None => Ok(None),
+    }
+}
+
+#[cycle(exp_piece)]
 fn exps_piece(alloc: Global, exps: &[whole::Exp]) -> Result<Option<Vec<Exp>>, Memory>
     ensures { IfOk result (λ r. option_map (λ es. exps_of (map exp_of es.items)) r ≡ spec.exps_piece (whole.exps_of (map whole.exp_of exps.now))) }
 {

@@ -1,5 +1,5 @@
 -- Lists, and heights of lists, one element after another.
-use Rattle.std.proofs.Common.{◌≡◌, ℕ, suc, ◌+◌, ◌<◌, List, [], ◌∷◌, ◌++◌, map, take, drop, length, get_or, max, refl, sym, ap, ◌∙◌, arith}
+use Rattle.std.proofs.Common.{◌≡◌, ℕ, zero, suc, ◌+◌, ◌<◌, List, [], ◌∷◌, ◌++◌, map, take, drop, length, get_or, max, refl, sym, ap, ◌∙◌, arith}
 use Rattle.std.proofs.Math.Seq.{drop-cons}
 use Rattle.std.proofs.lemmas.List.{take_more}
 use Rattle.sml_lex.specs.declared.fault.Place.{Place}
@@ -18,6 +18,11 @@ opened xs i x within e =
 pub map_more : {A B : Type 0} (f : A → B) (xs : List A) (x : A) → map f (xs ++ x ∷ []) ≡ map f xs ++ f x ∷ []
 map_more f [] x = refl
 map_more f (y ∷ ys) x = ap (λ z. f y ∷ z) (map_more f ys x)
+
+-- each pair of brackets is one higher
+pub brackets_height : (n : ℕ) (e : T.Exp Place) → exp_height (T.brackets n e) ≡ exp_height e + n
+brackets_height zero e = omega arith
+brackets_height (suc n) e = let h = brackets_height n e in omega (arith, h)
 
 exps_height-push : (es : List (T.Exp Place)) (e : T.Exp Place) → exps_height (exps_of (es ++ e ∷ [])) ≡ max (exp_height e) (exps_height (exps_of es))
 exps_height-push [] e = refl

@@ -25,8 +25,8 @@ exp_of-identifier x = ap exp_of (sym (R.rolls-Identifier x)) ∙ fold-roll-Exp (
 pub exp_of-tuple : (v : Vec Exp Global) → exp_of (V.Tuple v) ≡ T.tuple (exps_of (map exp_of v.items))
 exp_of-tuple v = ap exp_of (sym (R.rolls-Tuple v)) ∙ fold-roll-Exp (T.Exp Place) exp_layer (F.Tuple v)
 
-pub exp_of-bracket : (e : Box Exp Global) → exp_of (V.Bracket e) ≡ T.bracket (exp_of e.value)
-exp_of-bracket e = ap exp_of (sym (R.rolls-Bracket e)) ∙ fold-roll-Exp (T.Exp Place) exp_layer (F.Bracket e)
+pub exp_of-brackets : (e : Box Exp Global) (n : ℕ) → exp_of (V.Brackets e n) ≡ T.brackets n (exp_of e.value)
+exp_of-brackets e n = ap exp_of (sym (R.rolls-Brackets e n)) ∙ fold-roll-Exp (T.Exp Place) exp_layer (F.Brackets e n)
 
 pub exp_of-function : (x : Rc (Vec ℕ Global) Global) (e : Box Exp Global) → exp_of (V.Function x e) ≡ T.function (ident_of x) (exp_of e.value)
 exp_of-function x e = ap exp_of (sym (R.rolls-Function x e)) ∙ fold-roll-Exp (T.Exp Place) exp_layer (F.Function x e)

@@ -4,7 +4,7 @@ use Rattle.sml_lex.specs.declared.fault.Place.{Place}
 use Rattle.sml_tree.specs.Trees as T
 use Rattle.sml_tree.specs.declared.bare.LongIdent.{LongIdent}
 use Rattle.sml_tree.specs.declared.bare.Exp.{Exp}
-use Rattle.sml_tree.specs.declared.bare.Exp.TheOpen.{Exp-F, Number, Identifier, Tuple, Bracket, Function}
+use Rattle.sml_tree.specs.declared.bare.Exp.TheOpen.{Exp-F, Number, Identifier, Tuple, Brackets, Function}
 use Rattle.sml_tree.specs.declared.bare.Exp.TheFolds.{fold-Exp}
 use Rattle.sml_tree.specs.declared.bare.Ty.{Ty}
 use Rattle.sml_tree.specs.declared.bare.Ty.TheOpen as O
@@ -36,7 +36,7 @@ abbrev pub exp_layer : Exp-F (T.Exp Place) → T.Exp Place
 exp_layer Number = T.number
 exp_layer (Identifier x) = T.name x.place (long_of x)
 exp_layer (Tuple es) = T.tuple (exps_of es.items)
-exp_layer (Bracket e) = T.bracket e.value
+exp_layer (Brackets e n) = T.brackets n e.value
 exp_layer (Function x e) = T.function (ident_of x) e.value
 
 abbrev pub exp_of : Exp → T.Exp Place

@@ -23,7 +23,8 @@ pub enum Exp {
     Identifier(LongIdent),
     /// A row labelled from 1 on.
     Tuple(Vec<Exp>),
-    Bracket(Box<Exp>),
+    /// An expression in so many pairs of brackets, each of which is a phrase.
+    Brackets(Box<Exp>, u32),
     /// `fn x => e`
     Function(Ident, Box<Exp>),
 }

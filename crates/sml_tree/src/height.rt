@@ -12,7 +12,7 @@ fn height_of_exp(exp: &Exp) -> u32
     match exp {
         Exp::Number | Exp::Identifier(_) => 1,
         Exp::Tuple(exps) => height_of_exps(exps).saturating_add(1),
-        Exp::Bracket(exp) => height_of_exp(exp).saturating_add(1),
+        Exp::Brackets(exp, pairs) => height_of_exp(exp).saturating_add(*pairs),
         Exp::Function(_, exp) => height_of_exp(exp).saturating_add(1),
     }
 }

@@ -2,7 +2,7 @@ use Rattle.std.proofs.Common.{ap, sym, ◌∙◌}
 use Rattle.sml_tree.specs.ExpressionViews.{exp_of}
 use Rattle.sml_core_rules.specs.Closing.{constructs_exp}
 use Rattle.sml_closing.proofs.Telling.{told}
-use Rattle.sml_closing.proofs.ExpViews.{exp_of-bracket, exp_of-typed}
+use Rattle.sml_tree.proofs.ExpViews.{exp_of-bracket, exp_of-typed}
 use Rattle.sml_closing.proofs.expansive.+constructor_expression.Goals as goal
 
 pub returns-in-Bracket : goal.returns-in-Bracket

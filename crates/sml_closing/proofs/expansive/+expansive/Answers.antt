@@ -2,7 +2,7 @@ use Rattle.std.proofs.Common.{map, ap, sym, not, ◌||◌, ◌∙◌}
 use Rattle.sml_tree.specs.ExpressionViews.{exp_of, exps_of, field_of, fields_of}
 use Rattle.sml_core_rules.specs.Closing.{constructs_exp, is_expansive, is_any_expansive, is_any_field_expansive}
 use Rattle.sml_closing.proofs.Telling.{told}
-use Rattle.sml_closing.proofs.ExpViews.{exp_of-row, exp_of-tuple, exp_of-application}
+use Rattle.sml_tree.proofs.ExpViews.{exp_of-row, exp_of-tuple, exp_of-application}
 use Rattle.sml_closing.proofs.expansive.+expansive.Goals as goal
 
 pub is_expansive-returns-in-Row : goal.is_expansive-returns-in-Row

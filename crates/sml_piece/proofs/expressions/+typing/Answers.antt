@@ -1,15 +1,15 @@
-use Rattle.std.proofs.Common.{rules, ◌≡◌, ◌+◌, ◌∷◌, ℕ, suc, [], map, drop, length, ap, ◌∙◌, sym, subst, Err, Some, arith, List, ◌<◌, get_or, refl}
+use Rattle.std.proofs.Common.{rules, ◌≡◌, ◌+◌, ◌∷◌, ℕ, zero, suc, [], map, drop, length, ap, ◌∙◌, sym, subst, Err, Some, arith, List, ◌<◌, get_or, refl}
 use Rattle.sml_tree.specs.Trees as T
 use Rattle.sml_tree.specs.Trees.{Id}
 use Rattle.sml_tree.specs.Views.{ident_of, exp_of, exps_of}
-use Rattle.sml_tree.proofs.TreeViews.{exp_of-number, exp_of-bracket}
+use Rattle.sml_tree.proofs.TreeViews.{exp_of-number, exp_of-brackets}
 use Rattle.sml_objects.specs.Objects.{mono, free, one_value, extend_env}
 use Rattle.sml_objects.specs.Initial.{naming}
 use Rattle.sml_objects.specs.Maps.{order_of}
 use Rattle.sml_objects.specs.Views.{type_of}
 use Rattle.sml_rules.specs.Answers.{accepted}
 use Rattle.sml_rules.specs.Readings.{read_exp, typed}
-use Rattle.sml_piece.specs.Elaborated.{Answers, Shows, numbers_in, typed_of, typed_list_of}
+use Rattle.sml_piece.specs.Elaborated.{NameEnv, Answers, Shows, numbers_in, typed_of, typed_list_of}
 use Rattle.sml_piece.proofs.Contexts.{shows_local, shows_same}
 use Rattle.sml_objects.proofs.Puts.{at, over, same_at}
 use Rattle.sml_piece.proofs.Answering.{first_ends, second, made_so, gives, gives_so, refusal, refuses, then_any, on_ok}
@@ -26,11 +26,18 @@ elaborate-returns-in-Number-clause-answer t c = λ C shows.
     subst (λ e. Answers typed_of c.typed_number.result (read_exp naming c.args.made C e)) (sym (ap exp_of c.in-Number.is ∙ exp_of-number))
     (made_so _ typed_of c.typed_number.result _ c.typed_number.ensures (gives _))
 
-pub elaborate-returns-in-Bracket-clause-answer : goal.elaborate-returns-in-Bracket-clause-answer
+-- an expression in brackets has the readings of what stands in them
+bare : (n k : ℕ) (C : NameEnv) (e : T.Exp Place) → read_exp naming k C e ≡ read_exp naming k C (T.brackets n e)
 unfolding read_exp
-elaborate-returns-in-Bracket-clause-answer t c = λ C shows.
-    subst (λ e. Answers typed_of c.elaborate.result (read_exp naming c.args.made C e)) (sym (ap exp_of c.in-Bracket.is ∙ exp_of-bracket c.in-Bracket.inner))
-    (subst (λ e. Answers typed_of c.elaborate.result (read_exp naming c.args.made C (exp_of e))) c.deref-in-Bracket.ensures (c.elaborate.ensures.answer C shows))
+bare zero k C e = refl
+bare (suc n) k C e = bare n k C e
+
+pub elaborate-returns-in-Brackets-clause-answer : goal.elaborate-returns-in-Brackets-clause-answer
+elaborate-returns-in-Brackets-clause-answer t c = λ C shows.
+    let n = c.in-Brackets.field-1 in
+    subst (λ e. Answers typed_of c.elaborate.result (read_exp naming c.args.made C e)) (sym (ap exp_of c.in-Brackets.is ∙ exp_of-brackets c.in-Brackets.inner n))
+    (subst (Answers typed_of c.elaborate.result) (bare n c.args.made C _)
+    (subst (λ e. Answers typed_of c.elaborate.result (read_exp naming c.args.made C (exp_of e))) c.deref-in-Brackets.ensures (c.elaborate.ensures.answer C shows)))
 
 pub typed_function-returns-in-Err-elaborate-clause-answer : goal.typed_function-returns-in-Err-elaborate-clause-answer
 unfolding read_exp

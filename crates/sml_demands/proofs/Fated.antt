@@ -1,16 +1,9 @@
 -- What becomes of the unknowns that are left, by what is asked of them.
-use Rattle.std.proofs.Common.{◌≡◌, ℕ, ◌<◌, ◌≤◌, ◌⊎◌, inl, inr, Bool, true, false, ◌||◌, not, cond, Option, Some, None, List, [], ◌∷◌, ◌++◌, length, get_or, sym, ◌∙◌, ap, subst, refl, arith, zero, suc, ◌+◌, Box, Global, nat_eq}
-use Rattle.std.specs.Prelude.{Result, Ok, Err, IfOk}
-use Rattle.std.specs.List.{AllByRecursion, list_any}
-use Rattle.sml_lex.specs.declared.fault.Memory.{Memory}
+use Rattle.std.proofs.Common.{◌≡◌, ℕ, ◌<◌, ◌≤◌, ◌⊎◌, inl, inr, Bool, true, false, ◌||◌, not, cond, Option, Some, None, List, [], ◌∷◌, length, get_or, sym, ◌∙◌, ap, subst, refl, arith, Box, Global}
 use Rattle.sml_objects.specs.Names as N
 use Rattle.sml_objects.specs.Initial.{Name, initial, naming}
 use Rattle.sml_objects.specs.Equality.{admits}
 use Rattle.sml_objects.specs.Objects as O
-use Rattle.sml_objects.specs.Types.{variables_after, variables_after_all, assign, replace_type, replace_types, index_among}
-use Rattle.sml_objects.specs.Fates.{attributes, substitutes, type_or, standing_for, close_as}
-use Rattle.sml_objects.specs.declared.objects.Scheme.{Scheme}
-use Rattle.sml_objects.specs.declared.fates.Fate.{Fate}
 use Rattle.sml_objects.specs.declared.fates.Fate.TheVariants.{Bind, Keep, Default}
 use Rattle.sml_layers.specs.declared.class.Names.{Names}
 use Rattle.sml_graph.specs.declared.graph.Graph.{Graph}
@@ -27,40 +20,21 @@ use Rattle.sml_objects.specs.Objects.{types_of}
 use Rattle.sml_layers.specs.Rows.{fields_at}
 use Rattle.sml_graph.specs.Rows.{HasFields}
 use Rattle.sml_graph.specs.Graphs.{node_at, fields_of, Agrees, Meets, IsKnown}
-use Rattle.sml_graph.specs.Interned.{IsOver, AreOver, through, IsBodyOver, AreBodiesOver}
+use Rattle.sml_graph.specs.Interned.{through}
 use Rattle.sml_graph.specs.Bounds.{IsWithin, AreWithin}
 use Rattle.sml_layers.specs.Layers.{index_of}
 use Rattle.sml_graph.specs.Limits.{limit_at, MeetsBound, MeetsEquality, MeetsClass, MeetsAt, KeepsAt, FitsClass, IsFitNode}
 use Rattle.sml_graph.specs.Asked.{asked_of, Permits}
-use Rattle.sml_demands.specs.Fixed.{IsMarked}
-use Rattle.sml_demands.specs.Left.{IsFlexible, IsLeft}
+use Rattle.sml_schemes.specs.Fixed.{IsMarked}
+use Rattle.sml_schemes.specs.Left.{IsFlexible, IsLeft}
 use Rattle.sml_layers.specs.Classes.{has_several, has_one}
-use Rattle.sml_demands.specs.Schemes.{IsInt, AsksEquality, IsFateOf, is_open, fate_of, fate_at}
+use Rattle.sml_schemes.specs.Schemes.{IsInt, AsksEquality, IsFateOf, is_open, fate_of, fate_at}
 use Rattle.sml_graph.specs.CodeWhole.{IsKept}
-use Rattle.sml_objects.specs.Views.{scheme_of}
-use Rattle.sml_graph.proofs.Merging.{same_or_not, all-append}
+use Rattle.sml_graph.proofs.Merging.{same_or_not}
 use Rattle.sml_graph.proofs.Asking.{int-meets, arrow-admits-not}
 use Rattle.sml_graph.proofs.Ranking.{solution, ints, ints-keep, solution-meets, solution-unknown, solution-keeps}
 use Rattle.sml_demands.proofs.Owning.{only, only-here, only-there, unknown-free, open-flexible, free-not-flexible, left-loose}
 use Rattle.sml_demands.proofs.Overloading.{unit, bound-unit, equality-unit, only-int, or-cases, or-neither, types-with, with-keeps, with-type, two-names}
-
--- the variables of a type over some unknowns
-
-seen-more : (n v : ℕ) (b : Bool) (seen : List ℕ) → AllByRecursion (λ v. v < n) seen → v < n → AllByRecursion (λ v. v < n) (cond b seen (seen ++ v ∷ []))
-seen-more n v true seen a h = a
-seen-more n v false seen a h = all-append (λ v. v < n) seen (v ∷ []) a (h, tt)
-
-mutual
-  unfolding IsOver AreOver variables_after variables_after_all
-
-  pub variables-known : (n : ℕ) (seen : List ℕ) (t : O.MlType Name) → AllByRecursion (λ v. v < n) seen → IsOver n t → AllByRecursion (λ v. v < n) (variables_after seen t)
-  variables-known n seen (O.bound k) a o = absurd o
-  variables-known n seen (O.free v) a o = seen-more n v (list_any (nat_eq v) seen) seen a o
-  variables-known n seen (O.app h ts) a o = all-variables-known n seen ts a o
-
-  all-variables-known : (n : ℕ) (seen : List ℕ) (ts : O.MlTypes Name) → AllByRecursion (λ v. v < n) seen → AreOver n ts → AllByRecursion (λ v. v < n) (variables_after_all seen ts)
-  all-variables-known n seen O.no_type a o = a
-  all-variables-known n seen (O.and_type t ts) a o = all-variables-known n (variables_after seen t) ts (variables-known n seen t a o.0) o.1
 
 -- a type that doesn't admit equality
 
@@ -233,36 +207,3 @@ pub fate-is : (u : ℕ) (us : List ℕ) (g : Graph) (b : Bool) (k : IsKept u g u
 fate-is u us g b k d bs x v l =
     let loose = left-loose u us g b v k.whole.sound k.whole.rank k.owners l in
     fate-node u us g b k d bs x v (node_at g.nodes.items (get_or us v 0)) loose.0 refl loose.1
-
--- schemes speak of their own variables, and of unknowns
-
-standing-over : (n k m : ℕ) (fs : List Fate) (p v : ℕ) → v < n → k + length (attributes fs) ≤ m → IsBodyOver m n (type_or (O.free v) (get_or (substitutes (O.named (initial N.int)) k fs) p None))
-unfolding IsBodyOver AreBodiesOver
-standing-over n k m [] p v h l = h
-standing-over n k m (Bind e ∷ fs) zero v h l = omega (arith, l)
-standing-over n k m (Keep ∷ fs) zero v h l = h
-standing-over n k m (Default ∷ fs) zero v h l = tt
-standing-over n k m (Bind e ∷ fs) (suc p) v h l = standing-over n (suc k) m fs p v h (omega (arith, l))
-standing-over n k m (Keep ∷ fs) (suc p) v h l = standing-over n k m fs p v h l
-standing-over n k m (Default ∷ fs) (suc p) v h l = standing-over n k m fs p v h l
-
-mutual
-  unfolding IsOver AreOver IsBodyOver AreBodiesOver replace_type replace_types
-
-  assigned-over : (m n : ℕ) (f : ℕ → O.MlType Name) (t : O.MlType Name) → ((v : ℕ) → v < n → IsBodyOver m n (f v)) → IsOver n t → IsBodyOver m n (assign f t)
-  assigned-over m n f (O.bound k) g o = absurd o
-  assigned-over m n f (O.free v) g o = g v o
-  assigned-over m n f (O.app h ts) g o = all-assigned-over m n f ts g o
-
-  all-assigned-over : (m n : ℕ) (f : ℕ → O.MlType Name) (ts : O.MlTypes Name) → ((v : ℕ) → v < n → IsBodyOver m n (f v)) → AreOver n ts → AreBodiesOver m n (replace_types O.bound f ts)
-  all-assigned-over m n f O.no_type g o = tt
-  all-assigned-over m n f (O.and_type t ts) g o = (assigned-over m n f t g o.0, all-assigned-over m n f ts g o.1)
-
-closed-over : (n : ℕ) (fs : List Fate) (t : O.MlType Name) → IsOver n t → IsBodyOver (length (close_as (O.named (initial N.int)) fs t).variables) n (close_as (O.named (initial N.int)) fs t).body
-unfolding close_as
-closed-over n fs t o =
-    assigned-over (length (attributes fs)) n (standing_for (variables_after [] t) (substitutes (O.named (initial N.int)) 0 fs)) t (λ v h. standing-over n 0 (length (attributes fs)) fs (index_among v (variables_after [] t)) v h (omega arith)) o
-
-pub scheme-over : (n : ℕ) (fs : List Fate) (t : O.MlType Name) (r : Result Scheme Memory) → IsOver n t → IfOk r (λ s. scheme_of s ≡ close_as (O.named (initial N.int)) fs t) → IfOk r (λ s. IsBodyOver (length (scheme_of s).variables) n (scheme_of s).body)
-scheme-over n fs t (Ok s) o e = subst (λ (z : O.Scheme Name). IsBodyOver (length z.variables) n z.body) (sym e) (closed-over n fs t o)
-scheme-over n fs t (Err m) o e = tt

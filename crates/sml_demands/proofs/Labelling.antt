@@ -25,7 +25,7 @@ use Rattle.sml_graph.specs.Interned.{IsOver, through}
 use Rattle.sml_graph.specs.Limits.{limit_at, MeetsAt, for_parts, IsFitNode}
 use Rattle.sml_graph.specs.Variables.{stand_in}
 use Rattle.sml_graph.specs.Asked.{Asked, asked_of, Permits, PermitsSame}
-use Rattle.sml_demands.specs.Left.{HasOneSetOfLabels}
+use Rattle.sml_schemes.specs.Left.{HasOneSetOfLabels}
 use Rattle.sml_demands.specs.CodeSettled.{is_row, has_labels}
 use Rattle.sml_graph.specs.CodeWhole.{IsKept}
 use Rattle.sml_graph.proofs.Interning.{typed-same}

@@ -15,7 +15,7 @@ use Rattle.sml_graph.specs.Worlds.{Assignment}
 use Rattle.sml_graph.specs.Graphs.{node_at, parts, Meets, AreOwners}
 use Rattle.sml_graph.specs.Changes.{HasChange, IsChange, IsOfAll, AreInside, AreCovered}
 use Rattle.sml_graph.specs.Interned.{Interns}
-use Rattle.sml_demands.specs.Fixed.{IsFixedBy}
+use Rattle.sml_schemes.specs.Fixed.{IsFixedBy}
 use Rattle.sml_demands.specs.CodeLevels.{level_of, level_at, AreAtMost, IsHandedNode, IsHandedTo, AreHandedBut, IsLevelOf, AreLevels, Moves, BeginsLevel, levels_sum, LowersLevels, HandsLevels}
 use Rattle.sml_graph.proofs.Interning.{get_or-left, get_or-right}
 use Rattle.sml_graph.proofs.Merging.{same_or_not, all-append}

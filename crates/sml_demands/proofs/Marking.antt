@@ -26,7 +26,7 @@ use Rattle.sml_graph.specs.Interned.{through}
 use Rattle.sml_graph.specs.CodeRanks.{HasRank}
 use Rattle.sml_demands.specs.Counted.{sizes_at}
 use Rattle.sml_graph.specs.Asked.{asked_of}
-use Rattle.sml_demands.specs.Left.{IsMadeOf, AreMadeOf, IsLeft, IsReading}
+use Rattle.sml_schemes.specs.Left.{IsMadeOf, AreMadeOf, IsLeft, IsReading}
 use Rattle.sml_demands.specs.CodeReads.{IsTypeAt, AreSizes, IsReadingOn}
 use Rattle.sml_graph.proofs.Rowing.{components}
 use Rattle.sml_demands.proofs.Opening.{fresh_label, fresh-none, IsNone, none-front, none-back, head_labels, component-head, one_row}

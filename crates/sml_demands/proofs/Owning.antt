@@ -33,7 +33,7 @@ use Rattle.sml_graph.specs.CodeRanks.{IsRanked, HasRank}
 use Rattle.sml_graph.specs.Asked.{Asked, asked_of, count, Permits}
 use Rattle.sml_graph.specs.Limits.{no_limit, limit_at, MeetsAt, KeepsThrough}
 use Rattle.sml_graph.specs.CodeWhole.{IsWhole, IsKept}
-use Rattle.sml_demands.specs.Left.{IsMadeOf, AreMadeOf, IsFree, IsFlexible, IsUndetermined, IsLeft, IsReading, MayBe, HasOneSetOfLabels, KeepsFields, IsMostGeneral}
+use Rattle.sml_schemes.specs.Left.{IsMadeOf, AreMadeOf, IsFree, IsFlexible, IsUndetermined, IsLeft, IsReading, MayBe, HasOneSetOfLabels, KeepsFields, IsMostGeneral}
 use Rattle.sml_demands.specs.CodeReads.{IsTypeAt}
 use Rattle.sml_graph.proofs.Interning.{inside-at, inside-more, get_or-left, get_or-right, typed-same, typed-free, typed-app, map-alike, parts-inside}
 use Rattle.sml_graph.proofs.Merging.{same_or_not, all-append}

@@ -17,7 +17,7 @@ use Rattle.sml_objects.specs.Labels.{with_labels}
 use Rattle.sml_layers.specs.Rows.{fields_at}
 use Rattle.sml_graph.specs.Rows.{HasFields, kids_of}
 use Rattle.sml_graph.specs.Graphs.{node_at, parts, head_over, fields_of, Agrees, IsSound}
-use Rattle.sml_demands.specs.Fixed.{IsMarked, IsFixedBy, IsMarkedBut, IsReach, AreMarks, unmarked}
+use Rattle.sml_schemes.specs.Fixed.{IsMarked, IsFixedBy, IsMarkedBut, IsReach, AreMarks, unmarked}
 use Rattle.sml_graph.proofs.Worlding.{app_parts}
 use Rattle.sml_graph.proofs.Rowing.{same-some, fields-known}
 use Rattle.sml_graph.proofs.Merging.{same_or_not, all-append}

@@ -28,7 +28,7 @@ use Rattle.sml_graph.specs.Worlds.{Assignment}
 use Rattle.sml_graph.specs.Graphs.{node_at, head_over, IsSame, IsSoundNode, IsCountOf, IsRootNode, IsKnown, IsLoose}
 use Rattle.sml_graph.specs.Interned.{through, sizes}
 use Rattle.sml_graph.specs.CodeRanks.{HasRank}
-use Rattle.sml_demands.specs.Left.{IsMadeOf}
+use Rattle.sml_schemes.specs.Left.{IsMadeOf}
 use Rattle.sml_demands.specs.CodeReads.{IsTypeAt, stacked, Gives, heads, unread, IsTaskIn, IsReadingOn}
 use Rattle.sml_graph.proofs.Interning.{typed-app, typed-free, map-push, types_size-is, sizes-append}
 use Rattle.sml_graph.proofs.Merging.{all-append}

@@ -9,7 +9,7 @@ use Rattle.sml_layers.specs.Worlds.{finite}
 use Rattle.sml_graph.specs.Worlds.{Assignment}
 use Rattle.sml_graph.specs.Graphs.{node_at, parts, Meets, IsSame, IsRoot}
 use Rattle.sml_graph.specs.Changes.{HasChange, BeginsWith, IsChange, IsOfAll, AreInside}
-use Rattle.sml_demands.specs.Fixed.{IsFixedBy, IsMarked}
+use Rattle.sml_schemes.specs.Fixed.{IsFixedBy, IsMarked}
 use Rattle.sml_graph.specs.CodeWhole.{IsKept}
 
 -- the number of an unknown, or one that is above all these

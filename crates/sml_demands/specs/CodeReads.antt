@@ -19,7 +19,7 @@ use Rattle.sml_layers.specs.Worlds.{finite, make}
 use Rattle.sml_graph.specs.Worlds.{Assignment}
 use Rattle.sml_graph.specs.Graphs.{head_over, node_at, Meets, IsSame, IsCountOf, IsLoose}
 use Rattle.sml_graph.specs.Interned.{through, sizes}
-use Rattle.sml_demands.specs.Left.{IsMadeOf}
+use Rattle.sml_schemes.specs.Left.{IsMadeOf}
 
 -- the type of a node, over the unknowns whose places say nothing
 pub record IsTypeAt (ns : List Node) (us : List ℕ) (at limit : ℕ) (t : O.MlType Name) : Type 0 where

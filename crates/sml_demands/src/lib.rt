@@ -1,7 +1,6 @@
-// Demands on a graph of types, and what they leave: levels, sizes, types read back, and schemes.
+// Demands on a graph of types, and what they leave: levels, sizes, and types read back.
 #![tactic(auto)]
 
-pub mod closing;
 pub mod count;
 pub mod demands;
 pub mod levels;

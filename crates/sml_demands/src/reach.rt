@@ -5,7 +5,7 @@ ghost use Rattle.std.specs.Bool.{OnTrue, OnFalse};
 ghost use Rattle.std.specs.List.{AllByRecursion};
 ghost use Rattle.sml_objects.specs.Appearance.{Stands};
 ghost use Rattle.sml_graph.specs.Graphs.{IsSound};
-ghost use Rattle.sml_demands.specs.Fixed.{IsMarked, IsReach, AreMarks, places_of};
+ghost use Rattle.sml_schemes.specs.Fixed.{IsMarked, IsReach, AreMarks, places_of};
 
 use sml_graph::node::{Node, push_parts};
 use sml_lex::fault::Memory;

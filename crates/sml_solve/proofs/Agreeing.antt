@@ -16,8 +16,8 @@ use Rattle.sml_layers.specs.Worlds.{finite}
 use Rattle.sml_graph.specs.Worlds.{Assignment}
 use Rattle.sml_graph.specs.Asked.{Asked, Permits}
 use Rattle.sml_layers.specs.Rows.{fields_at}
-use Rattle.sml_demands.specs.Left.{IsMadeOf, IsFree, IsLeft, IsReading, MayBe, KeepsFields, IsMostGeneral}
-use Rattle.sml_demands.specs.Schemes.{IsInt, AsksEquality, IsFateOf, IsSchemeOfReading, MayBecome, AreAlike, HasNoFlag, HasNoFlexible, GiveOneScheme}
+use Rattle.sml_schemes.specs.Left.{IsMadeOf, IsFree, IsLeft, IsReading, MayBe, KeepsFields, IsMostGeneral}
+use Rattle.sml_schemes.specs.Schemes.{IsInt, AsksEquality, IsFateOf, IsSchemeOfReading, MayBecome, AreAlike, HasNoFlag, HasNoFlexible, GiveOneScheme}
 use Rattle.sml_demands.proofs.Owning.{made-more, assigned-alike, row-not-free}
 use Rattle.sml_graph.proofs.Searching.{all-parts}
 use Rattle.sml_solve.proofs.Uniqueness.{stays, variables-made, one-fate, same-fates}

@@ -13,8 +13,8 @@ use Rattle.sml_graph.specs.Graphs.{node_at, parts, Meets, IsSame, IsRootNode, Is
 use Rattle.sml_graph.specs.Interned.{through}
 use Rattle.sml_graph.specs.CodeRanks.{IsRanked, HasRank}
 use Rattle.sml_graph.specs.Asked.{Asked, asked_of}
-use Rattle.sml_demands.specs.Left.{IsUndetermined}
-use Rattle.sml_demands.specs.Fixed.{IsFixed, IsMarked, AreMarks, AreFixed, places_of}
+use Rattle.sml_schemes.specs.Left.{IsUndetermined}
+use Rattle.sml_schemes.specs.Fixed.{IsFixed, IsMarked, AreMarks, AreFixed, places_of}
 use Rattle.sml_demands.specs.CodeLevels.{level_at, IsHeld, AreHeld, IsKeptWith}
 use Rattle.sml_demands.proofs.Levelling.{none-left}
 use Rattle.sml_graph.proofs.Interning.{inside-at}

@@ -12,7 +12,7 @@ use Rattle.sml_objects.specs.declared.fates.Fate.{Fate}
 use Rattle.sml_objects.specs.declared.fates.Fate.TheVariants.{Bind, Keep, Default}
 use Rattle.sml_layers.specs.Worlds.{finite}
 use Rattle.sml_graph.specs.Worlds.{Assignment}
-use Rattle.sml_demands.specs.Left.{IsMadeOf, AreMadeOf}
+use Rattle.sml_schemes.specs.Left.{IsMadeOf, AreMadeOf}
 use Rattle.sml_demands.proofs.Owning.{made-more, assigned-alike}
 use Rattle.sml_solve.proofs.Uniqueness.{stays, variables-made}
 

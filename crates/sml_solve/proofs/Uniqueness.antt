@@ -16,8 +16,8 @@ use Rattle.sml_graph.specs.CodeWhole.{IsKept}
 use Rattle.sml_layers.specs.Worlds.{finite}
 use Rattle.sml_graph.specs.Worlds.{Assignment}
 use Rattle.sml_graph.specs.Asked.{Asked, asked_of}
-use Rattle.sml_demands.specs.Left.{IsMadeOf, AreMadeOf, IsLeft, IsReading}
-use Rattle.sml_demands.specs.Schemes.{IsFateOf, IsSchemeOfReading, HasOneScheme}
+use Rattle.sml_schemes.specs.Left.{IsMadeOf, AreMadeOf, IsLeft, IsReading}
+use Rattle.sml_schemes.specs.Schemes.{IsFateOf, IsSchemeOfReading, HasOneScheme}
 use Rattle.sml_graph.proofs.Merging.{all-append}
 use Rattle.sml_graph.proofs.Rowing.{components}
 use Rattle.sml_demands.proofs.Marking.{IsMark, type_labels, types_labels, nodes_labels, marked, marked-meets, marked-is}

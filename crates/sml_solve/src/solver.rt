@@ -23,14 +23,13 @@ ghost use Rattle.sml_graph.specs.Asked.{Asked, asked_of, equal, has_fields, asks
 ghost use Rattle.sml_solve.specs.Calls.{Demands, Keeps, Returns};
 ghost use Rattle.sml_solve.specs.Clashes.{IsUnmetWhereItClashes};
 ghost use Rattle.sml_demands.specs.Counted.{IsSizeUpTo};
-ghost use Rattle.sml_demands.specs.Fixed.{AreFixed, IsFixed};
+ghost use Rattle.sml_schemes.specs.Fixed.{AreFixed, IsFixed};
 ghost use Rattle.sml_graph.specs.Interned.{demanded};
-ghost use Rattle.sml_demands.specs.Left.{HasOneSetOfLabels, IsFree, IsLeft, IsMadeOf, IsReading, IsMostGeneral};
+ghost use Rattle.sml_schemes.specs.Left.{HasOneSetOfLabels, IsFree, IsLeft, IsMadeOf, IsReading, IsMostGeneral};
 ghost use Rattle.sml_demands.specs.CodeLevels.{IsKeptWith};
-ghost use Rattle.sml_demands.specs.Schemes.{GiveOneScheme, HasOneScheme, IsScheme, IsSchemeOfReading};
+ghost use Rattle.sml_schemes.specs.Schemes.{GiveOneScheme, HasOneScheme, IsScheme, IsSchemeOfReading};
 ghost use Rattle.sml_demands.specs.Overloaded.{IsOverloaded, Settles};
 
-use sml_demands::closing::closed;
 use sml_demands::count::size_from;
 use sml_demands::demands::{ask_row, equate, impose};
 use sml_demands::levels::{begin_level, by_level, hand_levels_on, held_unknowns};
@@ -48,6 +47,7 @@ use sml_layers::variable::Variable;
 use sml_lex::fault::Memory;
 use sml_objects::objects::{Initial, MlType, Scheme, TyName, UnitId};
 use sml_objects::schemes::instantiate;
+use sml_schemes::closing::closed;
 use sml_tree::bare::Ident;
 use std::alloc::Global;
 use std::marker::Model;

@@ -1,6 +1,6 @@
 use Rattle.std.proofs.Common.{◌≡◌, ℕ, ◌+◌, ◌≤◌, ◌∷◌, [], length}
 use Rattle.sml_graph.specs.Changes.{AreInside}
-use Rattle.sml_demands.specs.Fixed.{IsFixedBy}
+use Rattle.sml_schemes.specs.Fixed.{IsFixedBy}
 use Rattle.sml_demands.specs.CodeLevels.{level_at, levels_sum, AreHandedBut}
 use Rattle.sml_demands.proofs.levels.hand_levels_on.Given as goal
 

@@ -1,7 +1,7 @@
 use Rattle.std.proofs.Common.{◌≡◌, ◌↔◌, ℕ, ◌<◌, ◌≤◌, length}
 use Rattle.std.specs.Prelude.{slice_index}
 use Rattle.sml_graph.specs.Graphs.{IsSame, IsRoot}
-use Rattle.sml_demands.specs.Fixed.{IsMarked}
+use Rattle.sml_schemes.specs.Fixed.{IsMarked}
 use Rattle.sml_demands.specs.CodeLevels.{IsHeld}
 use Rattle.sml_demands.proofs.levels.held_unknowns.Given as goal
 

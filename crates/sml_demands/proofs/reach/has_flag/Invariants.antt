@@ -1,6 +1,6 @@
 use Rattle.std.specs.Prelude.{take}
 use Rattle.std.specs.List.{AllByRecursion}
-use Rattle.sml_demands.specs.Fixed.{IsMarked}
+use Rattle.sml_schemes.specs.Fixed.{IsMarked}
 use Rattle.sml_demands.proofs.reach.has_flag.Given as goal
 
 abbrev pub invariant-loop-unknown : goal.invariant-loop-unknown

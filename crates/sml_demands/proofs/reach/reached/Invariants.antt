@@ -1,5 +1,5 @@
 use Rattle.std.specs.Prelude.{◌+◌, length}
-use Rattle.sml_demands.specs.Fixed.{IsReach, unmarked}
+use Rattle.sml_schemes.specs.Fixed.{IsReach, unmarked}
 use Rattle.sml_demands.proofs.reach.reached.Given as goal
 
 abbrev pub invariant-loop-at : goal.invariant-loop-at

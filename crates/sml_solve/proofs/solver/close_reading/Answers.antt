@@ -3,8 +3,8 @@ use Rattle.std.specs.Prelude.{false}
 use Rattle.sml_objects.specs.Views.{type_of, scheme_of, maker_of}
 use Rattle.sml_graph.specs.Asked.{Asked, asked_of, count}
 use Rattle.sml_graph.specs.Interned.{IsOver}
-use Rattle.sml_demands.specs.Left.{IsLeft}
-use Rattle.sml_demands.specs.Schemes.{IsSchemeOfReading, fate_at}
+use Rattle.sml_schemes.specs.Left.{IsLeft}
+use Rattle.sml_schemes.specs.Schemes.{IsSchemeOfReading, fate_at}
 use Rattle.sml_graph.specs.CodeWhole.{IsKept}
 use Rattle.sml_demands.proofs.Fated.{fate-is}
 use Rattle.sml_demands.proofs.Owning.{made-over}

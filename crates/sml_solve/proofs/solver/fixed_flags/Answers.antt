@@ -3,7 +3,7 @@ use Rattle.std.specs.Prelude.{false}
 use Rattle.std.specs.List.{AllByRecursion}
 use Rattle.sml_objects.specs.Views.{maker_of}
 use Rattle.sml_graph.specs.Asked.{Asked, count}
-use Rattle.sml_demands.specs.Fixed.{AreFixed, AreMarks, places_of}
+use Rattle.sml_schemes.specs.Fixed.{AreFixed, AreMarks, places_of}
 use Rattle.sml_graph.specs.Changes.{AreCovered, AreInside}
 use Rattle.sml_demands.specs.CodeLevels.{AreHandedBut, HandsLevels, IsKeptWith}
 use Rattle.sml_solve.proofs.Fixing.{flags-are, places-inside}

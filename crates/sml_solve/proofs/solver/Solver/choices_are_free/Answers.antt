@@ -2,7 +2,7 @@ use Rattle.std.proofs.Common.{◌≡◌, ◌∙◌, ap, subst}
 use Rattle.std.specs.Prelude.{false}
 use Rattle.sml_objects.specs.Views.{maker_of}
 use Rattle.sml_graph.specs.Asked.{Asked}
-use Rattle.sml_demands.specs.Left.{IsMostGeneral}
+use Rattle.sml_schemes.specs.Left.{IsMostGeneral}
 use Rattle.sml_graph.specs.CodeWhole.{IsKept}
 use Rattle.sml_demands.proofs.Owning.{most-general}
 use Rattle.sml_solve.proofs.solver.Solver.choices_are_free.Goals as goal

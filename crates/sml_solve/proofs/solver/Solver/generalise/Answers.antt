@@ -6,7 +6,7 @@ use Rattle.sml_objects.specs.Sizes.{type_size}
 use Rattle.sml_objects.specs.Types.{variables_after}
 use Rattle.sml_objects.specs.Views.{type_of}
 use Rattle.sml_objects.specs.declared.objects.MlType.{MlType}
-use Rattle.sml_demands.specs.Left.{IsLeft, IsMadeOf, IsReading}
+use Rattle.sml_schemes.specs.Left.{IsLeft, IsMadeOf, IsReading}
 use Rattle.sml_solve.proofs.solver.Solver.generalise.Goals as goal
 
 pub close_reading-requires-clause-left : goal.close_reading-requires-clause-left

@@ -2,7 +2,7 @@ use Rattle.std.proofs.Common.{◌≡◌, ◌∙◌, ap, subst}
 use Rattle.std.specs.Prelude.{false}
 use Rattle.sml_objects.specs.Views.{maker_of}
 use Rattle.sml_graph.specs.Asked.{Asked}
-use Rattle.sml_demands.specs.Schemes.{HasOneScheme}
+use Rattle.sml_schemes.specs.Schemes.{HasOneScheme}
 use Rattle.sml_graph.specs.CodeWhole.{IsKept}
 use Rattle.sml_solve.proofs.Uniqueness.{one-scheme}
 use Rattle.sml_solve.proofs.solver.Solver.schemes_are_one.Goals as goal

@@ -18,9 +18,9 @@ use Rattle.sml_graph.specs.Worlds.{In, Assignment}
 use Rattle.sml_graph.specs.Graphs.{node_at}
 use Rattle.sml_graph.specs.Limits.{limit_at}
 use Rattle.sml_graph.specs.Asked.{Asked, Permits}
-use Rattle.sml_demands.specs.Left.{IsLeft, IsFlexible, IsReading}
+use Rattle.sml_schemes.specs.Left.{IsLeft, IsFlexible, IsReading}
 use Rattle.sml_layers.specs.Classes.{has_one}
-use Rattle.sml_demands.specs.Fixed.{IsMarked}
+use Rattle.sml_schemes.specs.Fixed.{IsMarked}
 
 -- by its class, the unknown can be no other type than int
 unfoldable pub IsInt : Asked → ℕ → Type 0

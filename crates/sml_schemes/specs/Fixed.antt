@@ -8,7 +8,7 @@ use Rattle.sml_layers.specs.Worlds.{finite}
 use Rattle.sml_graph.specs.Worlds.{Assignment}
 use Rattle.sml_graph.specs.Graphs.{node_at, parts, Meets}
 use Rattle.sml_graph.specs.Asked.{Asked, count, Permits}
-use Rattle.sml_demands.specs.Left.{IsUndetermined}
+use Rattle.sml_schemes.specs.Left.{IsUndetermined}
 
 -- The types of the first n unknowns and of some others fix that of v: where two assignments give all of these the same
 -- types, they give v one.

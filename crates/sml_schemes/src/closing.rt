@@ -10,7 +10,7 @@ ghost use Rattle.sml_objects.specs.Sizes.{type_size};
 ghost use Rattle.sml_objects.specs.Types.{variables_after};
 ghost use Rattle.sml_objects.specs.Views.{type_of, scheme_of};
 ghost use Rattle.sml_graph.specs.Interned.{IsOver, IsBodyOver};
-ghost use Rattle.sml_demands.specs.Schemes.{is_open, fate_of, fate_at};
+ghost use Rattle.sml_schemes.specs.Schemes.{is_open, fate_of, fate_at};
 
 use sml_graph::limits::Limit;
 use sml_graph::node::Node;

@@ -1,8 +1,8 @@
 use Rattle.std.proofs.Common.{◌<◌, [], length, sym, ◌∙◌, subst}
 use Rattle.std.specs.List.{AllByRecursion}
 use Rattle.sml_objects.specs.Views.{type_of}
-use Rattle.sml_demands.proofs.Fated.{variables-known, scheme-over}
-use Rattle.sml_demands.proofs.closing.closed.Goals as goal
+use Rattle.sml_schemes.proofs.Bodies.{variables-known, scheme-over}
+use Rattle.sml_schemes.proofs.closing.closed.Goals as goal
 
 pub fates-requires-clause-known : goal.fates-requires-clause-known
 fates-requires-clause-known c =

@@ -7,7 +7,7 @@ use Rattle.sml_lex.specs.declared.fault.Warning.{Warning}
 use Rattle.sml_patterns.specs.declared.judge.Finding.{Finding}
 use Rattle.sml_patterns.specs.declared.judge.Flaw.TheVariants.{Redundant}
 use Rattle.sml_patterns.specs.declared.judge.Judged.{Judged}
-use Rattle.sml_patterns.specs.Views.{plain_of}
+use Rattle.sml_narrowing.specs.Views.{plain_of}
 use Rattle.sml_patterns.specs.Warnings.{Rule, warning}
 use Rattle.sml_patterns.specs.CodeTasks.{is_free, plains, rule_of, rules_of, redundant_from, warning_of, warnings_of}
 

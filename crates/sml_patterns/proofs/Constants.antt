@@ -6,7 +6,7 @@ use Rattle.sml_lex.specs.Strings.{IsString, IsStringValue, IsCharacterValue, str
 use Rattle.sml_lex.proofs.FirstTokens.{quoted_unique}
 use Rattle.sml_tree.specs.declared.patterns.ConstantKind.{ConstantKind}
 use Rattle.sml_tree.specs.declared.patterns.ConstantKind.TheVariants as K
-use Rattle.sml_patterns.specs.Plain.{Value, Text, Character}
+use Rattle.sml_narrowing.specs.Plain.{Value, Text, Character}
 use Rattle.sml_patterns.specs.Stands.{IsValue}
 
 string_same : (text s t : List ℕ) → IsStringValue text s → IsStringValue text t → s ≡ t

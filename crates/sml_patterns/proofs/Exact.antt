@@ -3,9 +3,10 @@ use Rattle.std.proofs.Common.{◌≡◌, ◌≢◌, ℕ, zero, suc, ◌<◌, ◌
 use Rattle.std.specs.List.{list_any}
 use Rattle.std.proofs.lemmas.Bool.Decides.{eqb_tells}
 use Rattle.sml_tree.specs.Trees.{Id}
-use Rattle.sml_patterns.specs.Plain.{Value, Plain, Wild, Made, Fields, Valued, IsWild}
+use Rattle.sml_narrowing.specs.Plain.{Value, Plain, Wild, Made, Fields, Valued, IsWild}
 use Rattle.sml_patterns.specs.Shape.{Shape, Cut, OfConstructor, OfRow, OfValue, Other, Matches, World, Column, Part, PartConstructors, PartLabels, PartValues, PartOpaque, part, IsShape}
-use Rattle.sml_patterns.specs.CodeMatrix.{Head, AtConstructor, AtRow, AtValue, AtOther, replace, onto, narrow, narrow_all, first_kind, has_below, below, column_labels, spread, heads, Problem, problem, with_problem, narrowed, solve, problem_weight, is_useful}
+use Rattle.sml_narrowing.specs.CodeMatrix.{Head, AtConstructor, AtRow, AtValue, AtOther, replace, onto, narrow, narrow_all, first_kind, has_below, below, column_labels, spread, heads}
+use Rattle.sml_patterns.specs.CodeMatrix.{Problem, problem, with_problem, narrowed, solve, problem_weight, is_useful}
 use Rattle.sml_patterns.proofs.Labels.{IsGood, Sees, SeesRows, column_distinct}
 use Rattle.sml_patterns.proofs.Vectors.{Shapes, End, Then, MatchEach, AreShapes, EscapesAll, Useful, FitEach, wild_matches, some_shape}
 use Rattle.sml_patterns.proofs.Narrowing.{FitsPart, fits_part, Suits, under, spare, build, Alike, same_alike, row_alike, shapes_at, are_shapes_at, Kept, IfKept, narrowed_fits}

@@ -8,7 +8,7 @@ use Rattle.sml_lex.specs.declared.fault.Code.TheVariants.{P1, P2, P3}
 use Rattle.sml_lex.specs.declared.fault.Warning.{Warning}
 use Rattle.sml_patterns.specs.declared.judge.Holder.{Holder}
 use Rattle.sml_patterns.specs.declared.judge.Holder.TheVariants.{Fn, Handle, Val}
-use Rattle.sml_patterns.specs.Plain.{Plain, Wild}
+use Rattle.sml_narrowing.specs.Plain.{Plain, Wild}
 use Rattle.sml_patterns.specs.Shape.{Shape, Matches, World, Column, column, part, IsShape, Fits}
 use Rattle.sml_patterns.specs.CodeMatrix.{singles}
 use Rattle.sml_patterns.specs.Warnings.{Rule, AllFit, Escapes, warning, IsRedundant, IsOpen, IsOpenAt, IsWarning}

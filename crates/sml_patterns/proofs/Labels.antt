@@ -1,10 +1,12 @@
 -- The labels of a column: each once, and those of all its patterns.
-use Rattle.std.proofs.Common.{◌≡◌, ℕ, ◌+◌, ◌≤◌, ◌⊎◌, inl, inr, List, [], ◌∷◌, map, length, Bool, true, false, cond, ◌||◌, if◌then◌else◌, refl, ap, sym, subst, ◌∙◌, arith}
+use Rattle.std.proofs.Common.{◌≡◌, ℕ, ◌+◌, ◌≤◌, ◌⊎◌, inl, inr, List, [], ◌∷◌, map, length, Bool, true, false, cond, ◌||◌, refl, ap, sym, subst, ◌∙◌, arith}
 use Rattle.std.specs.Str.{bytes_eq}
 use Rattle.sml_tree.specs.Trees.{Id}
-use Rattle.sml_patterns.specs.Plain.{Plain, Wild, Made, Fields, Valued, Row, Empty, Labelled, field}
-use Rattle.sml_patterns.specs.CodeMatrix.{Head, AtConstructor, AtRow, AtValue, AtOther, field_in, wild_at, first_of, has_label, with_label, with_row, with_plain, with_column, column_labels, weight, fields_weight, row_weight}
+use Rattle.sml_narrowing.specs.Plain.{Plain, Wild, Made, Fields, Valued, Row, Empty, Labelled, field}
+use Rattle.sml_narrowing.specs.CodeMatrix.{Head, AtConstructor, AtRow, AtValue, AtOther, field_in, wild_at, first_of, has_label, with_label, with_row, with_plain, with_column, column_labels}
+use Rattle.sml_patterns.specs.CodeMatrix.{weight, fields_weight, row_weight}
 use Rattle.sml_tree.proofs.Idents.{id_tells}
+use Rattle.sml_narrowing.proofs.Fields.{field_here, field_there}
 
 abbrev pub IsIn : Id → List Id → Type 0
 IsIn l [] = ⊥
@@ -192,21 +194,6 @@ fields_length fs rs = omega (arith, columns_length (with_row [] fs) rs, row_leng
 
 pub wild_length : (rs : List (List Plain)) → length (column_labels Wild rs) ≤ rows_surplus rs
 wild_length rs = omega (arith, columns_length [] rs)
-
--- the field that a label picks
-pub field_here : (l k : Id) (p : Plain) (fs : Row) → k ≡ l → field l (Labelled k p fs) ≡ p
-field_here l k p fs e =
-    elim (id_tells l k) [
-      | inl y ↦ subst (λ b. (if b then p else field l fs) ≡ p) (sym y.0) refl
-      | inr y ↦ absurd (y.1 (sym e))
-    ]
-
-pub field_there : (l k : Id) (p : Plain) (fs : Row) → (k ≡ l → ⊥) → field l (Labelled k p fs) ≡ field l fs
-field_there l k p fs n =
-    elim (id_tells l k) [
-      | inl y ↦ absurd (n (sym y.1))
-      | inr y ↦ subst (λ b. (if b then p else field l fs) ≡ field l fs) (sym y.0) refl
-    ]
 
 pub field_absent : (l : Id) (ls : List Id) (fs : Row) → AreIn fs ls → (IsIn l ls → ⊥) → field l fs ≡ Wild
 field_absent l ls Empty h n = refl

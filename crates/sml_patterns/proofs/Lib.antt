@@ -5,7 +5,6 @@ pub mod Narrowing
 pub mod Splitting
 pub mod Weights
 pub mod Exact
-pub mod Lines
 pub mod Constants
 pub mod Rows
 pub mod Known

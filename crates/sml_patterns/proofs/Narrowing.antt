@@ -4,9 +4,9 @@ use Rattle.std.specs.Str.{bytes_eq}
 use Rattle.std.proofs.Math.Dec.{eqb}
 use Rattle.std.proofs.lemmas.Bool.Decides.{eqb_tells}
 use Rattle.sml_tree.specs.Trees.{Id}
-use Rattle.sml_patterns.specs.Plain.{Value, value_eq, Plain, Wild, Made, Fields, Valued, Row, field, IsWild}
+use Rattle.sml_narrowing.specs.Plain.{Value, value_eq, Plain, Wild, Made, Fields, Valued, Row, field, IsWild}
 use Rattle.sml_patterns.specs.Shape.{Shape, Cut, OfConstructor, OfRow, OfValue, Other, Matches, World, Column, Kind, Constructors, Labels, Values, Opaque, Part, PartConstructors, PartLabels, PartValues, PartOpaque, part, part_of, part_at, IsShape, Fits, FitsKind}
-use Rattle.sml_patterns.specs.CodeMatrix.{Head, AtConstructor, AtRow, AtValue, AtOther, field_in, wild_at, replace, onto}
+use Rattle.sml_narrowing.specs.CodeMatrix.{Head, AtConstructor, AtRow, AtValue, AtOther, field_in, wild_at, replace, onto}
 use Rattle.sml_tree.proofs.Idents.{id_tells}
 use Rattle.sml_patterns.proofs.Values.{value_tells}
 use Rattle.sml_patterns.proofs.Labels.{IsIn, AreDistinct, AreIn, Sees, decide, field_absent}

@@ -8,10 +8,10 @@ use Rattle.std.proofs.lemmas.List.{drop_more}
 use Rattle.std.proofs.lemmas.Option.{slice_get-map}
 use Rattle.sml_lex.specs.declared.fault.Memory.{Memory}
 use Rattle.sml_patterns.specs.declared.judge.Judged.{Judged}
-use Rattle.sml_patterns.specs.Plain.{Plain}
+use Rattle.sml_narrowing.specs.Plain.{Plain}
 use Rattle.sml_patterns.specs.Warnings.{Rule}
 use Rattle.sml_patterns.specs.CodeMatrix.{is_useful, singles}
-use Rattle.sml_patterns.specs.Views.{plain_of}
+use Rattle.sml_narrowing.specs.Views.{plain_of}
 use Rattle.sml_patterns.specs.CodeTasks.{is_apart, near, is_free, plains, rule_of, rules_of}
 use Rattle.sml_patterns.specs.CodeColumns.{picked}
 

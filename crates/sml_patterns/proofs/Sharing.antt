@@ -4,7 +4,7 @@ use Rattle.std.specs.Prelude.{nat_eq}
 use Rattle.std.proofs.lemmas.Bool.{false≢true, or_cases}
 use Rattle.std.proofs.lemmas.Bool.Decides.{Decides-eqb}
 use Rattle.sml_tree.specs.Trees.{Id}
-use Rattle.sml_patterns.specs.Plain.{Value, value_eq, Plain, Wild, Made, Fields, Valued, Row, Empty, Labelled, field}
+use Rattle.sml_narrowing.specs.Plain.{Value, value_eq, Plain, Wild, Made, Fields, Valued, Row, Empty, Labelled, field}
 use Rattle.sml_patterns.specs.Shape.{Shape, Cut, OfConstructor, OfRow, OfValue, Other, Matches}
 use Rattle.sml_patterns.specs.CodeTasks.{outer_apart, rows_apart, is_apart}
 use Rattle.sml_patterns.proofs.Values.{value_self}

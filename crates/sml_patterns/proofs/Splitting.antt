@@ -1,9 +1,9 @@
 -- What splitting the first column does to what is useful.
 use Rattle.std.proofs.Common.{◌≡◌, ℕ, zero, suc, ◌<◌, ◌⊎◌, inl, inr, List, [], ◌∷◌, ◌++◌, Option, Some, None, Bool, true, false, ◌||◌, ◌&&◌, refl, sym, subst, arith}
 use Rattle.std.proofs.lemmas.Bool.Decides.{eqb_tells}
-use Rattle.sml_patterns.specs.Plain.{Plain, Wild, Made, Fields, Valued, IsWild}
+use Rattle.sml_narrowing.specs.Plain.{Plain, Wild, Made, Fields, Valued, IsWild}
 use Rattle.sml_patterns.specs.Shape.{Shape, OfConstructor, Other, Matches, World, Column, Part, part}
-use Rattle.sml_patterns.specs.CodeMatrix.{Head, AtOther, replace, onto, narrow, narrow_all, kept, first_of, or_plain, first_kind, is_made, has, has_below}
+use Rattle.sml_narrowing.specs.CodeMatrix.{Head, AtOther, replace, onto, narrow, narrow_all, kept, first_of, or_plain, first_kind, is_made, has, has_below}
 use Rattle.sml_patterns.proofs.Labels.{Sees, SeesRows}
 use Rattle.sml_patterns.proofs.Vectors.{Shapes, Then, MatchEach, AreShapes, EscapesAll, Useful, join, FitEach, split, glue}
 use Rattle.sml_patterns.proofs.Narrowing.{FitsPart, fits_part, Suits, under, build, build_shape, Alike, Kept, IfKept, narrowed_fits, other_fits, match_to, match_from}

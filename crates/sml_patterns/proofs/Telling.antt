@@ -8,7 +8,7 @@ use Rattle.std.proofs.lemmas.Bool.{false≢true}
 use Rattle.std.proofs.lemmas.Slice.Eq.{bytes_eq-Decides}
 use Rattle.std.proofs.lemmas.Bool.Decides.{Decides-int_eq, Decides-eqb}
 use Rattle.sml_tree.specs.Trees.{Id}
-use Rattle.sml_patterns.specs.Plain.{Value, value_eq, Plain, Wild, Made, Fields, Valued, Row, Empty, Labelled, field}
+use Rattle.sml_narrowing.specs.Plain.{Value, value_eq, Plain, Wild, Made, Fields, Valued, Row, Empty, Labelled, field}
 use Rattle.sml_patterns.specs.CodeTasks.{outer_apart, rows_apart, is_apart, near}
 use Rattle.sml_patterns.specs.CodeColumns.{Key, key_of, value_key, same, key_at, key_in, kept, picked, label_of, Knows, KnowsEach}
 use Rattle.sml_patterns.specs.declared.keys.Key as P

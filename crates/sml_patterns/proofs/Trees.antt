@@ -17,19 +17,19 @@ use Rattle.sml_tree.specs.declared.patterns.Pat.TheVariants as R
 use Rattle.sml_tree.specs.declared.patterns.Pat.TheFolds.{fold-roll-Pat}
 use Rattle.sml_tree.specs.declared.patterns.PatField.{PatField, out-PatField, fold_out-PatField}
 use Rattle.sml_patterns.specs.declared.names.Meaning.{Meaning}
-use Rattle.sml_patterns.specs.declared.pattern.Pattern.{Pattern}
-use Rattle.sml_patterns.specs.declared.pattern.Pattern.TheViews as PV
-use Rattle.sml_patterns.specs.declared.pattern.Pattern.TheOpen as PO
-use Rattle.sml_patterns.specs.declared.pattern.Pattern.TheVariants as PR
-use Rattle.sml_patterns.specs.declared.pattern.Pattern.TheFolds.{fold-roll-Pattern}
-use Rattle.sml_patterns.specs.Plain.{Plain, Fields, Row, Empty, Labelled}
+use Rattle.sml_narrowing.specs.declared.pattern.Pattern.{Pattern}
+use Rattle.sml_narrowing.specs.declared.pattern.Pattern.TheViews as PV
+use Rattle.sml_narrowing.specs.declared.pattern.Pattern.TheOpen as PO
+use Rattle.sml_narrowing.specs.declared.pattern.Pattern.TheVariants as PR
+use Rattle.sml_narrowing.specs.declared.pattern.Pattern.TheFolds.{fold-roll-Pattern}
+use Rattle.sml_narrowing.specs.Plain.{Plain, Fields, Row, Empty, Labelled}
 use Rattle.sml_patterns.specs.Stands.{named, StandsFor, TupleStandsFor, FieldStandsFor, FieldsStandFor}
-use Rattle.sml_patterns.specs.Views.{row_on, plain_layer, plain_of}
+use Rattle.sml_narrowing.specs.Views.{row_on, plain_layer, plain_of}
 use Rattle.std.specs.Borrow.{Bor}
 use Rattle.sml_patterns.specs.declared.judge.Judged.{Judged}
 use Rattle.sml_patterns.specs.Warnings.{Rule, AreRules}
 use Rattle.sml_patterns.specs.CodeTasks.{rule_of, rules_of}
-use Rattle.sml_patterns.proofs.Rows.{Key}
+use Rattle.sml_narrowing.proofs.Rows.{Key}
 
 pat_of-row : (p : Place) (v : Vec PatField Global) (b : Bool) → pat_of (V.Row p v b) ≡ T.pat_row p (pat_fields_of (map pat_field_of v.items)) b
 pat_of-row p v b = ap pat_of (sym (R.rolls-Row p v b)) ∙ fold-roll-Pat (T.Pat Place) (T.PatField Place) pat_layer pat_field_layer (O.Row p v b)

@@ -3,7 +3,7 @@ use Rattle.std.proofs.Common.{◌≡◌, ◌⊎◌, true, false, refl, ap, subst
 use Rattle.std.proofs.lemmas.Slice.Eq.{bytes_eq-Decides}
 use Rattle.std.proofs.lemmas.Bool.Decides.{Decides-int_eq, Decides-eqb}
 use Rattle.sml_tree.proofs.Idents.{tells}
-use Rattle.sml_patterns.specs.Plain.{Value, Integer, Word, Character, Text, Exception, value_eq}
+use Rattle.sml_narrowing.specs.Plain.{Value, Integer, Word, Character, Text, Exception, value_eq}
 
 value_same : (u v : Value) → value_eq u v ≡ true → u ≡ v
 value_same (Integer m) (Integer n) h = ap Integer ((Decides-int_eq m n).0 h)

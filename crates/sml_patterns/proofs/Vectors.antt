@@ -1,9 +1,9 @@
 -- Vectors of shapes, one for each column, taken apart and joined.
 use Rattle.std.proofs.Common.{◌≡◌, ℕ, zero, suc, List, [], ◌∷◌, ◌++◌, map, refl, ap, arith}
 use Rattle.sml_tree.specs.Trees.{Id}
-use Rattle.sml_patterns.specs.Plain.{Plain, Wild, IsWild, Made, Fields, Valued}
+use Rattle.sml_narrowing.specs.Plain.{Plain, Wild, IsWild, Made, Fields, Valued}
 use Rattle.sml_patterns.specs.Shape.{Shape, Cut, OfConstructor, OfRow, Other, Matches, World, Column, Kind, Constructors, Labels, Values, Opaque, part, part_of, part_at, IsShape, Fits}
-use Rattle.sml_patterns.specs.CodeMatrix.{wild_at}
+use Rattle.sml_narrowing.specs.CodeMatrix.{wild_at}
 
 pub data Shapes : Type 0 where
   End : Shapes

@@ -3,8 +3,9 @@ use Rattle.std.proofs.Common.{◌≡◌, ℕ, zero, suc, ◌+◌, ◌≤◌, ◌
 use Rattle.std.specs.List.{list_any}
 use Rattle.std.proofs.Math.Dec.{eqb}
 use Rattle.sml_tree.specs.Trees.{Id}
-use Rattle.sml_patterns.specs.Plain.{Value, value_eq, Plain, Wild, Made, Fields, Valued, Row}
-use Rattle.sml_patterns.specs.CodeMatrix.{Head, AtConstructor, AtRow, AtValue, AtOther, field_in, wild_at, replace, onto, narrow, narrow_all, kept, first_of, or_plain, first_kind, has_below, below, column_labels, spread, heads, Problem, problem, with_problem, narrowed, successors_of, successors, is_won, solve, sum_over, weight, fields_weight, row_weight, rows_weight, problem_weight}
+use Rattle.sml_narrowing.specs.Plain.{Value, value_eq, Plain, Wild, Made, Fields, Valued, Row}
+use Rattle.sml_narrowing.specs.CodeMatrix.{Head, AtConstructor, AtRow, AtValue, AtOther, field_in, wild_at, replace, onto, narrow, narrow_all, kept, first_of, or_plain, first_kind, has_below, below, column_labels, spread, heads}
+use Rattle.sml_patterns.specs.CodeMatrix.{Problem, problem, with_problem, narrowed, successors_of, successors, is_won, solve, sum_over, weight, fields_weight, row_weight, rows_weight, problem_weight}
 use Rattle.sml_patterns.proofs.Labels.{IsGood, Sees, SeesRows, count, surplus, rows_surplus, column_distinct, column_sees, column_sees_rows, fields_length, wild_length, wilds_weight, picks_weight}
 use Rattle.sml_patterns.proofs.Narrowing.{IfKept}
 

@@ -3,15 +3,17 @@ use Rattle.std.proofs.Common.{◌≡◌, ℕ, zero, suc, ◌+◌, ◌-◌, ◌<�
 use Rattle.std.specs.Prelude.{Vec, IfOk}
 use Rattle.std.specs.Borrow.{Bor}
 use Rattle.std.specs.Global.{Global}
-use Rattle.sml_patterns.specs.declared.pattern.Pattern.{Pattern}
-use Rattle.sml_patterns.specs.declared.narrow.Split.{Split}
-use Rattle.sml_patterns.specs.declared.narrow.Split.TheVariants.{Below}
+use Rattle.sml_narrowing.specs.declared.pattern.Pattern.{Pattern}
+use Rattle.sml_narrowing.specs.declared.narrow.Split.{Split}
+use Rattle.sml_narrowing.specs.declared.narrow.Split.TheVariants.{Below}
 use Rattle.std.specs.List.{list_any}
 use Rattle.std.proofs.lemmas.List.{map-append}
 use Rattle.sml_patterns.specs.declared.search.Task.{Task}
-use Rattle.sml_patterns.specs.CodeTasks.{line, lines, problem_of, problems, split_heads}
-use Rattle.sml_patterns.specs.Plain.{Plain}
-use Rattle.sml_patterns.specs.CodeMatrix.{Head, AtConstructor, Problem, narrow, narrow_all, with_problem, narrowed, below, first_of, heads, successors_of, successors, is_won, solve, sum_of, problem_weight, is_useful}
+use Rattle.sml_narrowing.specs.CodeTasks.{line, lines, split_heads}
+use Rattle.sml_patterns.specs.CodeTasks.{problem_of, problems}
+use Rattle.sml_narrowing.specs.Plain.{Plain}
+use Rattle.sml_narrowing.specs.CodeMatrix.{Head, AtConstructor, narrow, narrow_all, below, first_of, heads}
+use Rattle.sml_patterns.specs.CodeMatrix.{Problem, with_problem, narrowed, successors_of, successors, is_won, solve, sum_of, problem_weight, is_useful}
 use Rattle.sml_patterns.proofs.Weights.{EachProblem, successors_fall, solve_same, each_map}
 
 abbrev pub answer : Problem → Bool

@@ -11,7 +11,7 @@ use Rattle.sml_tree.specs.Trees.{Id}
 use Rattle.sml_tree.specs.Views.{ident_of}
 use Rattle.sml_patterns.specs.declared.keys.Key as P
 use Rattle.sml_patterns.specs.declared.column.Column.{Column}
-use Rattle.sml_patterns.specs.Plain.{Value, Integer, Word, Character, Text, Exception, Plain, Wild, Made, Fields, Valued, field}
+use Rattle.sml_narrowing.specs.Plain.{Value, Integer, Word, Character, Text, Exception, Plain, Wild, Made, Fields, Valued, field}
 
 -- the outermost constructor or value of a pattern: of which kind it is, and its number, its integer or its bytes
 pub record Key : Type 0 where

@@ -1,20 +1,8 @@
--- The rows, heads and problems that the code keeps. A row has its first column last.
-use Rattle.std.specs.Prelude.{ℕ, zero, suc, Bool, true, false, nat_eq, List, [], ◌∷◌, ◌++◌, ◌||◌, map, reverse, Option, Some, None, Vec, cond}
-use Rattle.std.specs.List.{list_any}
-use Rattle.std.specs.Str.{bytes_eq}
-use Rattle.std.specs.Borrow.{Bor}
-use Rattle.std.specs.Global.{Global}
-use Rattle.std.specs.declared.rc.Rc.{Rc}
+-- The problems and rules that the code keeps, and the warnings that it finds.
+use Rattle.std.specs.Prelude.{Bool, true, false, nat_eq, List, [], ◌∷◌, ◌++◌, ◌||◌, map, cond}
 use Rattle.sml_lex.specs.declared.fault.Place.{Place}
 use Rattle.sml_lex.specs.declared.fault.Code.TheVariants.{P1, P2, P3}
 use Rattle.sml_lex.specs.declared.fault.Warning.{Warning}
-use Rattle.sml_tree.specs.Trees.{Id}
-use Rattle.sml_tree.specs.Views.{ident_of}
-use Rattle.sml_patterns.specs.declared.pattern.Pattern.{Pattern}
-use Rattle.sml_patterns.specs.declared.narrow.Head as H
-use Rattle.sml_patterns.specs.declared.narrow.Head.TheVariants as V
-use Rattle.sml_patterns.specs.declared.narrow.Split.{Split}
-use Rattle.sml_patterns.specs.declared.narrow.Split.TheVariants.{Below, One}
 use Rattle.sml_patterns.specs.declared.search.Task.{Task}
 use Rattle.sml_patterns.specs.declared.judge.Holder.{Holder}
 use Rattle.sml_patterns.specs.declared.judge.Holder.TheVariants.{Fn, Handle, Val}
@@ -22,61 +10,17 @@ use Rattle.sml_patterns.specs.declared.judge.Judged.{Judged}
 use Rattle.sml_patterns.specs.declared.judge.Finding.{Finding}
 use Rattle.sml_patterns.specs.declared.judge.Flaw.{Flaw}
 use Rattle.sml_patterns.specs.declared.judge.Flaw.TheVariants.{Redundant, OpenMatch, OpenBinding}
-use Rattle.sml_patterns.specs.Plain.{Plain, Wild, Made, Fields, Valued, value_eq, Row, Empty, Labelled, field}
+use Rattle.sml_narrowing.specs.Plain.{Plain, Wild, Made, Fields, Valued, value_eq, Row, Empty, Labelled, field}
 use Rattle.sml_patterns.specs.Warnings.{Rule, warning}
-use Rattle.sml_patterns.specs.CodeMatrix.{Head, AtConstructor, AtRow, AtValue, AtOther, Problem, problem, below, is_useful, singles}
-use Rattle.sml_patterns.specs.Views.{value_of, plain_of}
-
-abbrev pub pointee : Bor Pattern → Plain
-pointee p = plain_of p.now
-
-abbrev pub line : List (Bor Pattern) → List Plain
-line ps = reverse (map pointee ps)
-
-abbrev pub lines : List (Vec (Bor Pattern) Global) → List (List Plain)
-lines rows = map (λ r. line r.items) rows
-
--- the rows of the group with this number
-abbrev pub group_at : List (Vec (Vec (Bor Pattern) Global) Global) → ℕ → List (List Plain)
-group_at [] k = []
-group_at (g ∷ gs) zero = lines g.items
-group_at (g ∷ gs) (suc k) = group_at gs k
-
-abbrev pub kept_line : Option (Vec (Bor Pattern) Global) → Option (List Plain)
-kept_line None = None
-kept_line (Some r) = Some (line r.items)
-
-abbrev pub plain_at : Option (Bor Pattern) → Plain
-plain_at None = Wild
-plain_at (Some p) = plain_of p.now
-
-abbrev pub IsNamed : Plain → Type 0
-IsNamed Wild = ⊥
-IsNamed _ = Unit {0}
-
--- whether one of the labels is this
-abbrev pub is_among : Id → List (Bor (Rc (Vec ℕ Global) Global)) → Bool
-is_among l ls = list_any (λ k. bytes_eq l (ident_of k.now)) ls
-
--- the labels, the last one first
-abbrev pub labels_of : List (Bor (Rc (Vec ℕ Global) Global)) → List Id
-labels_of ls = reverse (map (λ l. ident_of l.now) ls)
-
-abbrev pub head_of : H.Head → Head
-head_of (V.AtConstructor k) = AtConstructor k
-head_of (V.AtRow ls) = AtRow (labels_of ls.items)
-head_of (V.AtValue v) = AtValue (value_of v.now)
-head_of V.AtOther = AtOther
+use Rattle.sml_patterns.specs.CodeMatrix.{Problem, problem, is_useful, singles}
+use Rattle.sml_narrowing.specs.Views.{plain_of}
+use Rattle.sml_narrowing.specs.CodeTasks.{line, lines}
 
 abbrev pub problem_of : Task → Problem
 problem_of t = problem (lines t.rows.items) (line t.question.items)
 
 abbrev pub problems : List Task → List Problem
 problems ts = map problem_of ts
-
-abbrev pub split_heads : Split → List Head
-split_heads (Below n) = below n
-split_heads (One h) = head_of h ∷ []
 
 -- the rules that the code keeps
 abbrev pub rule_of : Judged → Rule

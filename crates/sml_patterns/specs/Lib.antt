@@ -1,4 +1,3 @@
-pub mod Plain
 pub mod Stands
 pub mod Shape
 pub mod Warnings

@@ -1,7 +1,7 @@
 -- Shapes of values, which shapes a type has, and which of them a pattern matches.
 use Rattle.std.specs.Prelude.{◌≡◌, ℕ, zero, suc, ◌<◌, Bool, IsTrue}
 use Rattle.sml_tree.specs.Trees.{Id}
-use Rattle.sml_patterns.specs.Plain.{Value, Plain, Wild, Made, Fields, Valued, IsWild, field}
+use Rattle.sml_narrowing.specs.Plain.{Value, Plain, Wild, Made, Fields, Valued, IsWild, field}
 
 -- what is cut off; a constructor, by its place among those of its datatype, with a shape of its argument; a row, by the
 -- shape at each label; a value that patterns write, with a shape of its argument; any other value

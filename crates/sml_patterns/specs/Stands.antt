@@ -9,7 +9,7 @@ use Rattle.sml_tree.specs.declared.patterns.ConstantKind.{ConstantKind}
 use Rattle.sml_tree.specs.declared.patterns.ConstantKind.TheVariants as K
 use Rattle.sml_patterns.specs.declared.names.Meaning.{Meaning}
 use Rattle.sml_patterns.specs.declared.names.Meaning.TheVariants as M
-use Rattle.sml_patterns.specs.Plain.{Value, Integer, Word, Character, Text, Exception, Plain, Wild, Made, Fields, Valued, Row, Empty, Labelled}
+use Rattle.sml_narrowing.specs.Plain.{Value, Integer, Word, Character, Text, Exception, Plain, Wild, Made, Fields, Valued, Row, Empty, Labelled}
 
 -- a long identifier as it is written
 abbrev pub long_text : LongId → Id

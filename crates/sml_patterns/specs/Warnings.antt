@@ -13,7 +13,7 @@ use Rattle.sml_tree.specs.declared.patterns.Pat.{Pat}
 use Rattle.sml_patterns.specs.declared.names.Meaning.{Meaning}
 use Rattle.sml_patterns.specs.declared.judge.Holder.{Holder}
 use Rattle.sml_patterns.specs.declared.judge.Holder.TheVariants.{Fn, Handle, Val}
-use Rattle.sml_patterns.specs.Plain.{Plain}
+use Rattle.sml_narrowing.specs.Plain.{Plain}
 use Rattle.sml_patterns.specs.Stands.{StandsFor}
 use Rattle.sml_patterns.specs.Shape.{Shape, Matches, World, Column, part, IsShape, Fits}
 

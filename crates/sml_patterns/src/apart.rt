@@ -2,12 +2,12 @@
 
 ghost use Rattle.std.specs.Prelude.{◌≡◌, map};
 ghost use Rattle.sml_tree.specs.Views.{ident_of};
-ghost use Rattle.sml_patterns.specs.Plain.{Wild, Empty};
-ghost use Rattle.sml_patterns.specs.Views.{row_on, plain_of};
+ghost use Rattle.sml_narrowing.specs.Plain.{Wild, Empty};
+ghost use Rattle.sml_narrowing.specs.Views.{row_on, plain_of};
 ghost use Rattle.sml_patterns.specs.CodeTasks as spec;
 
-use crate::narrow::field;
-use crate::pattern::{Pattern, is_same_value};
+use sml_narrowing::narrow::field;
+use sml_narrowing::pattern::{Pattern, is_same_value};
 use sml_tree::bare::Ident;
 
 /// Whether two patterns match no shape together, by their outermost constructors or values alone.

@@ -3,16 +3,16 @@
 
 ghost use Rattle.std.specs.Prelude.{◌≡◌, List, [], ◌∷◌, ◌++◌, Option, length, IfOk, OnOk, IfSome};
 ghost use Rattle.std.specs.Option.{option_map};
-ghost use Rattle.sml_patterns.specs.Plain.{Wild};
-ghost use Rattle.sml_patterns.specs.Views.{plain_of};
+ghost use Rattle.sml_narrowing.specs.Plain.{Wild};
+ghost use Rattle.sml_narrowing.specs.Views.{plain_of};
 ghost use Rattle.sml_patterns.specs.CodeColumns as spec;
 ghost use Rattle.sml_patterns.specs.CodeColumns.{key_in, key_at, kept, grouped, label_of, Holds};
 
 use crate::keys::{Key, behind, key_of};
-use crate::narrow::field;
-use crate::pattern::Pattern;
 use indexmap::IndexMap;
 use sml_lex::fault::Memory;
+use sml_narrowing::narrow::field;
+use sml_narrowing::pattern::Pattern;
 use sml_tree::bare::Ident;
 use std::alloc::Global;
 

@@ -3,22 +3,24 @@
 ghost use Rattle.std.specs.Prelude.{◌≡◌, ℕ, true, ◌↔◌, List, ◌++◌, ◌∷◌, [], IfOk, OnOk};
 ghost use Rattle.std.specs.List.{Contains};
 ghost use Rattle.std.specs.List.Sorted.{IsStrictlySortedBy};
-ghost use Rattle.sml_patterns.specs.Plain.{Wild};
+ghost use Rattle.sml_narrowing.specs.Plain.{Wild};
 ghost use Rattle.sml_patterns.specs.Shape.{World, column};
 ghost use Rattle.sml_patterns.specs.Warnings as W;
 ghost use Rattle.sml_patterns.specs.Warnings.{AreRules, AllFit, IsWarning, warning_cmp};
-ghost use Rattle.sml_patterns.specs.Views.{meanings, plain_of};
+ghost use Rattle.sml_narrowing.specs.Views.{plain_of};
+ghost use Rattle.sml_patterns.specs.Views.{meanings};
 ghost use Rattle.sml_patterns.specs.CodeColumns.{picked, KnowsEach};
 ghost use Rattle.sml_patterns.specs.CodeMatrix.{is_useful, singles};
-ghost use Rattle.sml_patterns.specs.CodeTasks.{is_free, lines, near, rules_of, plains, redundant_from, open_at, warning_of, warnings_of};
+ghost use Rattle.sml_narrowing.specs.CodeTasks.{lines};
+ghost use Rattle.sml_patterns.specs.CodeTasks.{is_free, near, rules_of, plains, redundant_from, open_at, warning_of, warnings_of};
 
 use crate::apart::is_apart;
 use crate::names::Names;
-use crate::pattern::Pattern;
 use crate::plain::plain;
 use crate::search::is_useful;
 use crate::table::Table;
 use sml_lex::fault::{Code, Memory, Place, Warning};
+use sml_narrowing::pattern::Pattern;
 use sml_tree::patterns::Pat;
 use std::alloc::Global;
 

@@ -2,12 +2,12 @@
 
 ghost use Rattle.std.specs.Prelude.{◌≡◌, IfOk};
 ghost use Rattle.std.specs.Option.{option_map};
-ghost use Rattle.sml_patterns.specs.Views.{plain_of, value_of};
+ghost use Rattle.sml_narrowing.specs.Views.{plain_of, value_of};
 ghost use Rattle.sml_patterns.specs.CodeColumns as spec;
 ghost use Rattle.sml_patterns.specs.CodeColumns.{key_in};
 
-use crate::pattern::{Pattern, Value};
 use sml_lex::fault::Memory;
+use sml_narrowing::pattern::{Pattern, Value};
 use std::alloc::Global;
 
 /// The outermost constructor or value of a pattern: of which kind it is, and its number, its integer or its bytes. In a

@@ -1,15 +1,17 @@
 //! The search for a shape that matches a question and escapes rows.
 
 ghost use Rattle.std.specs.Prelude.{◌≡◌, ◌++◌, ◌∷◌, [], IfOk};
-ghost use Rattle.sml_patterns.specs.Plain.{Wild};
-ghost use Rattle.sml_patterns.specs.CodeMatrix.{narrow, narrow_all, below, with_problem, narrowed, successors, is_won, is_useful};
-ghost use Rattle.sml_patterns.specs.Views.{plain_of};
-ghost use Rattle.sml_patterns.specs.CodeTasks.{line, lines, head_of, problem_of, problems};
+ghost use Rattle.sml_narrowing.specs.Plain.{Wild};
+ghost use Rattle.sml_narrowing.specs.CodeMatrix.{narrow, narrow_all, below};
+ghost use Rattle.sml_patterns.specs.CodeMatrix.{with_problem, narrowed, successors, is_won, is_useful};
+ghost use Rattle.sml_narrowing.specs.Views.{plain_of};
+ghost use Rattle.sml_narrowing.specs.CodeTasks.{line, lines, head_of};
+ghost use Rattle.sml_patterns.specs.CodeTasks.{problem_of, problems};
 
-use crate::constructors::narrow_each;
-use crate::narrow::{Head, Split, narrow, narrow_all, split_for};
-use crate::pattern::Pattern;
 use sml_lex::fault::Memory;
+use sml_narrowing::constructors::narrow_each;
+use sml_narrowing::narrow::{Head, Split, narrow, narrow_all, split_for};
+use sml_narrowing::pattern::Pattern;
 use std::alloc::Global;
 
 /// A question with the rows that its answer escapes.

@@ -1,14 +1,14 @@
 //! The columns of the rules of a match, by which the rules that may match a shape with another one are found.
 
 ghost use Rattle.std.specs.Prelude.{◌≡◌, List, [], ◌∷◌, ◌++◌, length, IfOk, OnOk, IfSome};
-ghost use Rattle.sml_patterns.specs.Plain.{Plain, Wild};
-ghost use Rattle.sml_patterns.specs.Views.{plain_of};
+ghost use Rattle.sml_narrowing.specs.Plain.{Plain, Wild};
+ghost use Rattle.sml_narrowing.specs.Views.{plain_of};
 ghost use Rattle.sml_patterns.specs.CodeTasks.{near};
 ghost use Rattle.sml_patterns.specs.CodeColumns.{picked, Knows, KnowsEach};
 
 use crate::column::Column;
-use crate::pattern::Pattern;
 use sml_lex::fault::Memory;
+use sml_narrowing::pattern::Pattern;
 use sml_tree::bare::Ident;
 use std::alloc::Global;
 

@@ -1,9 +1,10 @@
 use Rattle.std.proofs.Common.{rules, ◌||◌, ◌+◌, ap, sym, ◌∙◌, map}
 use Rattle.sml_tree.specs.Views.{ident_of}
-use Rattle.sml_patterns.specs.Plain.{Empty}
-use Rattle.sml_patterns.specs.Views.{row_on, plain_of}
+use Rattle.sml_narrowing.specs.Plain.{Empty}
+use Rattle.sml_narrowing.specs.Views.{row_on, plain_of}
 use Rattle.sml_patterns.specs.CodeTasks.{rows_apart}
-use Rattle.sml_patterns.proofs.Rows.{row_from, apart_ends, apart_here}
+use Rattle.sml_narrowing.proofs.Rows.{row_from}
+use Rattle.sml_patterns.proofs.Rows.{apart_ends, apart_here}
 use Rattle.sml_patterns.proofs.apart.rows_apart.Goals as goal
 
 pub returns-then-index-fields : goal.returns-then-index-fields

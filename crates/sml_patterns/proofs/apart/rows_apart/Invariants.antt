@@ -1,8 +1,8 @@
 -- The labels from here on are left.
 use Rattle.std.proofs.Common.{◌≡◌, map, drop}
 use Rattle.sml_tree.specs.Views.{ident_of}
-use Rattle.sml_patterns.specs.Plain.{Empty}
-use Rattle.sml_patterns.specs.Views.{row_on, plain_of}
+use Rattle.sml_narrowing.specs.Plain.{Empty}
+use Rattle.sml_narrowing.specs.Views.{row_on, plain_of}
 use Rattle.sml_patterns.specs.CodeTasks.{rows_apart}
 use Rattle.sml_patterns.proofs.apart.rows_apart.Given as goal
 

@@ -1,6 +1,7 @@
 use Rattle.std.proofs.Common.{rules}
-use Rattle.sml_patterns.specs.CodeTasks.{lines, plains, rules_of}
-use Rattle.sml_patterns.specs.Views.{plain_of}
+use Rattle.sml_narrowing.specs.CodeTasks.{lines}
+use Rattle.sml_patterns.specs.CodeTasks.{plains, rules_of}
+use Rattle.sml_narrowing.specs.Views.{plain_of}
 use Rattle.sml_patterns.proofs.Picking.{escapes_picked, near_found}
 use Rattle.sml_patterns.proofs.judge.escapes_above.Goals as goal
 

@@ -1,7 +1,8 @@
 use Rattle.std.proofs.Common.{◌≡◌, ◌++◌, drop}
-use Rattle.sml_patterns.specs.CodeTasks.{lines, near, plains, rules_of}
+use Rattle.sml_narrowing.specs.CodeTasks.{lines}
+use Rattle.sml_patterns.specs.CodeTasks.{near, plains, rules_of}
 use Rattle.sml_patterns.specs.CodeMatrix.{singles}
-use Rattle.sml_patterns.specs.Views.{plain_of}
+use Rattle.sml_narrowing.specs.Views.{plain_of}
 use Rattle.sml_patterns.proofs.judge.near_rows.Given as goal
 
 abbrev pub invariant-loop-rule : goal.invariant-loop-rule

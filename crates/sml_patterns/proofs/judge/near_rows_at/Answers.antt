@@ -1,7 +1,7 @@
 use Rattle.std.proofs.Common.{rules, refl, ap, ◌∙◌}
 use Rattle.std.proofs.lemmas.Option.{slice_get_read, slice_get_past}
-use Rattle.sml_patterns.specs.CodeTasks.{lines}
-use Rattle.sml_patterns.specs.Views.{plain_of}
+use Rattle.sml_narrowing.specs.CodeTasks.{lines}
+use Rattle.sml_narrowing.specs.Views.{plain_of}
 use Rattle.sml_patterns.proofs.Picking.{picked_one, picked_none}
 use Rattle.sml_patterns.proofs.judge.near_rows_at.Goals as goal
 use Rattle.sml_patterns.proofs.judge.near_rows_at.Goals.{in-Some+in_ok-push_near, in_default}

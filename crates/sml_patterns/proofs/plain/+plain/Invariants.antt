@@ -1,9 +1,10 @@
 use Rattle.std.proofs.Common.{◌≡◌, ◌+◌, map, drop, length}
 use Rattle.sml_tree.specs.Views.{ident_of}
 use Rattle.sml_tree.specs.PatternViews.{pat_of, pats_of, pat_field_of, pat_fields_of}
-use Rattle.sml_patterns.specs.Plain as P
+use Rattle.sml_narrowing.specs.Plain as P
 use Rattle.sml_patterns.specs.Stands.{TupleStandsFor, FieldsStandFor}
-use Rattle.sml_patterns.specs.Views.{meanings, row_on, plain_of}
+use Rattle.sml_narrowing.specs.Views.{row_on, plain_of}
+use Rattle.sml_patterns.specs.Views.{meanings}
 use Rattle.sml_patterns.proofs.plain.+plain.Given as goal
 
 abbrev pub invariant-plain_row-loop-field : goal.invariant-plain_row-loop-field

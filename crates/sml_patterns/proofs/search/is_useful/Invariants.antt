@@ -1,5 +1,6 @@
 use Rattle.std.proofs.Common.{◌≡◌}
-use Rattle.sml_patterns.specs.CodeTasks.{line, lines, problems}
+use Rattle.sml_narrowing.specs.CodeTasks.{line, lines}
+use Rattle.sml_patterns.specs.CodeTasks.{problems}
 use Rattle.sml_patterns.specs.CodeMatrix.{is_useful}
 use Rattle.sml_patterns.proofs.Work.{answer_any, total}
 use Rattle.sml_patterns.proofs.search.is_useful.Given as goal

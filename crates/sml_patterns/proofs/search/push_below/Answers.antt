@@ -1,6 +1,7 @@
 use Rattle.std.proofs.Common.{rules, ◌≡◌, length, ap, sym, ◌∙◌, append-nil, Some, None}
-use Rattle.sml_patterns.specs.CodeMatrix.{AtConstructor, narrow}
-use Rattle.sml_patterns.specs.CodeTasks.{line, lines, problems, kept_line}
+use Rattle.sml_narrowing.specs.CodeMatrix.{AtConstructor, narrow}
+use Rattle.sml_narrowing.specs.CodeTasks.{line, lines, kept_line}
+use Rattle.sml_patterns.specs.CodeTasks.{problems}
 use Rattle.sml_patterns.proofs.Work.{problems_last}
 use Rattle.sml_patterns.proofs.Grouping.{next_task}
 use Rattle.sml_patterns.proofs.search.push_below.Goals as goal

@@ -1,7 +1,9 @@
 -- The tasks of the constructors behind these are there, and the rows of these are still to come.
 use Rattle.std.proofs.Common.{◌≡◌, ◌++◌, ◌<◌, ℕ, length}
-use Rattle.sml_patterns.specs.CodeTasks.{line, lines, problems, group_at}
-use Rattle.sml_patterns.specs.CodeMatrix.{AtConstructor, narrowed, narrow_all, below}
+use Rattle.sml_narrowing.specs.CodeTasks.{line, lines, group_at}
+use Rattle.sml_patterns.specs.CodeTasks.{problems}
+use Rattle.sml_narrowing.specs.CodeMatrix.{AtConstructor, narrow_all, below}
+use Rattle.sml_patterns.specs.CodeMatrix.{narrowed}
 use Rattle.sml_patterns.proofs.search.push_below.Given as goal
 
 abbrev pub invariant-loop-rows : goal.invariant-loop-rows

@@ -1,6 +1,6 @@
 use Rattle.std.proofs.Common.{rules, map}
 use Rattle.sml_patterns.specs.CodeColumns.{key_at, label_of}
-use Rattle.sml_patterns.specs.Views.{plain_of}
+use Rattle.sml_narrowing.specs.Views.{plain_of}
 use Rattle.sml_patterns.proofs.Telling.{known_at, found_near}
 use Rattle.sml_patterns.proofs.table.Table.among.Goals as goal
 

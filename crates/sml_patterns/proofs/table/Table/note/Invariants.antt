@@ -1,7 +1,7 @@
 -- The pattern was noted in the first columns, and not yet in the others.
 use Rattle.std.proofs.Common.{◌≡◌, List, [], ◌∷◌, ◌++◌, length, take, drop}
-use Rattle.sml_patterns.specs.Plain.{Plain}
-use Rattle.sml_patterns.specs.Views.{plain_of}
+use Rattle.sml_narrowing.specs.Plain.{Plain}
+use Rattle.sml_narrowing.specs.Views.{plain_of}
 use Rattle.sml_patterns.specs.CodeColumns.{KnowsEach}
 use Rattle.sml_patterns.proofs.table.Table.note.Given as goal
 

@@ -1,0 +1,4 @@
+pub mod Plain
+pub mod Views
+pub mod CodeMatrix
+pub mod CodeTasks

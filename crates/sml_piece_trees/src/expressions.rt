@@ -4,8 +4,8 @@
 
 ghost use Rattle.std.specs.Prelude.{◌≡◌, Some, map, IfOk};
 ghost use Rattle.std.specs.Option.{option_map};
-ghost use Rattle.sml_tree.specs.Trees.{tuple, bracket, brackets};
-ghost use Rattle.sml_tree.specs.Views.{exp_of, exps_of, core_dec_of};
+ghost use Rattle.sml_tree.specs.Trees.{tuple, bracket};
+ghost use Rattle.sml_tree.specs.Views.{brackets, exp_of, exps_of, core_dec_of};
 ghost use Rattle.sml_tree.specs.ExpressionViews as whole;
 ghost use Rattle.sml_tree.specs.TypeViews.{names_of, long_name_of};
 ghost use Rattle.sml_tree.specs.BindingViews.{typ_bind_of};
@@ -100,7 +100,7 @@ fn tuple_piece(alloc: Global, exps: &[whole::Exp]) -> Result<Option<Exp>, Memory
 fn exps_piece(alloc: Global, exps: &[whole::Exp]) -> Result<Option<Vec<Exp>>, Memory>
     ensures { IfOk result (λ r. option_map (λ es. exps_of (map exp_of es.items)) r ≡ spec.exps_piece (whole.exps_of (map whole.exp_of exps.now))) }
 {
-    let mut made = Vec::new(alloc);
+    let mut made = Vec::with_capacity(alloc, exps.len())?;
     for exp in exps {
         match exp_piece(alloc, exp)? {
             Some(exp) => made.push(exp)?,

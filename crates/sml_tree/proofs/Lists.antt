@@ -8,7 +8,7 @@ use Rattle.sml_tree.specs.declared.bare.Ty.{Ty}
 use Rattle.sml_tree.specs.declared.bare.Spec.{Spec}
 use Rattle.sml_tree.specs.declared.bare.CoreDec.{CoreDec}
 use Rattle.sml_tree.specs.Trees as T
-use Rattle.sml_tree.specs.Views.{exp_of, exps_of, ty_of, tys_of, spec_of, core_dec_of}
+use Rattle.sml_tree.specs.Views.{brackets, exp_of, exps_of, ty_of, tys_of, spec_of, core_dec_of}
 use Rattle.sml_tree.specs.Height.{exp_height, exps_height, ty_height, tys_height, spec_height, specs_height, core_height, decs_height, counted}
 
 pub opened : {A : Type 0} (xs : List A) (i : ℕ) (x : A) → i < length xs → x ≡ get_or xs i x → drop i xs ≡ x ∷ drop (i + 1) xs
@@ -20,7 +20,7 @@ map_more f [] x = refl
 map_more f (y ∷ ys) x = ap (λ z. f y ∷ z) (map_more f ys x)
 
 -- each pair of brackets is one higher
-pub brackets_height : (n : ℕ) (e : T.Exp Place) → exp_height (T.brackets n e) ≡ exp_height e + n
+pub brackets_height : (n : ℕ) (e : T.Exp Place) → exp_height (brackets n e) ≡ exp_height e + n
 brackets_height zero e = omega arith
 brackets_height (suc n) e = let h = brackets_height n e in omega (arith, h)
 

@@ -3,7 +3,7 @@ use Rattle.std.proofs.Common.{◌≡◌, map, ap, ◌∙◌, sym, Vec, Box, Glob
 use Rattle.std.specs.declared.rc.Rc.{Rc}
 use Rattle.sml_lex.specs.declared.fault.Place.{Place}
 use Rattle.sml_tree.specs.Trees as T
-use Rattle.sml_tree.specs.Views.{ident_of, long_of, exp_of, exps_of, exp_layer, ty_of, tys_of, ty_layer}
+use Rattle.sml_tree.specs.Views.{brackets, ident_of, long_of, exp_of, exps_of, exp_layer, ty_of, tys_of, ty_layer}
 use Rattle.sml_tree.specs.declared.bare.LongIdent.{LongIdent}
 use Rattle.sml_tree.specs.declared.bare.Exp.{Exp, Number, Identifier}
 use Rattle.sml_tree.specs.declared.bare.Exp.TheViews as V
@@ -25,7 +25,7 @@ exp_of-identifier x = ap exp_of (sym (R.rolls-Identifier x)) ∙ fold-roll-Exp (
 pub exp_of-tuple : (v : Vec Exp Global) → exp_of (V.Tuple v) ≡ T.tuple (exps_of (map exp_of v.items))
 exp_of-tuple v = ap exp_of (sym (R.rolls-Tuple v)) ∙ fold-roll-Exp (T.Exp Place) exp_layer (F.Tuple v)
 
-pub exp_of-brackets : (e : Box Exp Global) (n : ℕ) → exp_of (V.Brackets e n) ≡ T.brackets n (exp_of e.value)
+pub exp_of-brackets : (e : Box Exp Global) (n : ℕ) → exp_of (V.Brackets e n) ≡ brackets n (exp_of e.value)
 exp_of-brackets e n = ap exp_of (sym (R.rolls-Brackets e n)) ∙ fold-roll-Exp (T.Exp Place) exp_layer (F.Brackets e n)
 
 pub exp_of-function : (x : Rc (Vec ℕ Global) Global) (e : Box Exp Global) → exp_of (V.Function x e) ≡ T.function (ident_of x) (exp_of e.value)

@@ -1,6 +1,6 @@
 -- The bare trees of a unit (the Definition, sections 2.8 and 3.4), without pointers. A tree has its places at the
 -- phrases that a fault can name; `P` is their type.
-use Rattle.std.specs.Prelude.{ℕ, zero, suc, List}
+use Rattle.std.specs.Prelude.{ℕ, List}
 
 -- An identifier is its bytes.
 abbrev pub Id : Type 0
@@ -21,11 +21,6 @@ mutual
   pub data Exps (P : Type 0) : Type 0 where
     no_exp : Exps P
     and_exp : Exp P → Exps P → Exps P
-
--- an expression in so many pairs of brackets
-abbrev pub brackets : {P : Type 0} → ℕ → Exp P → Exp P
-brackets zero e = e
-brackets (suc n) e = bracket (brackets n e)
 
 mutual
   pub data Ty (P : Type 0) : Type 0 where

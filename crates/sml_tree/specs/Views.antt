@@ -1,5 +1,5 @@
 -- The program's trees as those of the definitions.
-use Rattle.std.specs.Prelude.{ℕ, List, [], ◌∷◌, map}
+use Rattle.std.specs.Prelude.{ℕ, zero, suc, List, [], ◌∷◌, map}
 use Rattle.sml_lex.specs.declared.fault.Place.{Place}
 use Rattle.sml_tree.specs.Trees as T
 use Rattle.sml_tree.specs.declared.bare.LongIdent.{LongIdent}
@@ -31,12 +31,17 @@ abbrev pub exps_of : List (T.Exp Place) → T.Exps Place
 exps_of [] = T.no_exp
 exps_of (e ∷ es) = T.and_exp e (exps_of es)
 
+-- an expression in so many pairs of brackets
+abbrev pub brackets : {P : Type 0} → ℕ → T.Exp P → T.Exp P
+brackets zero e = e
+brackets (suc n) e = T.bracket (brackets n e)
+
 -- one layer of an expression, with its parts already seen
 abbrev pub exp_layer : Exp-F (T.Exp Place) → T.Exp Place
 exp_layer Number = T.number
 exp_layer (Identifier x) = T.name x.place (long_of x)
 exp_layer (Tuple es) = T.tuple (exps_of es.items)
-exp_layer (Brackets e n) = T.brackets n e.value
+exp_layer (Brackets e n) = brackets n e.value
 exp_layer (Function x e) = T.function (ident_of x) e.value
 
 abbrev pub exp_of : Exp → T.Exp Place

@@ -1,7 +1,7 @@
 use Rattle.std.proofs.Common.{rules, ◌≡◌, ◌+◌, ◌∷◌, ℕ, zero, suc, [], map, drop, length, ap, ◌∙◌, sym, subst, Err, Some, arith, List, ◌<◌, get_or, refl}
 use Rattle.sml_tree.specs.Trees as T
 use Rattle.sml_tree.specs.Trees.{Id}
-use Rattle.sml_tree.specs.Views.{ident_of, exp_of, exps_of}
+use Rattle.sml_tree.specs.Views.{brackets, ident_of, exp_of, exps_of}
 use Rattle.sml_tree.proofs.TreeViews.{exp_of-number, exp_of-brackets}
 use Rattle.sml_objects.specs.Objects.{mono, free, one_value, extend_env}
 use Rattle.sml_objects.specs.Initial.{naming}
@@ -27,7 +27,7 @@ elaborate-returns-in-Number-clause-answer t c = λ C shows.
     (made_so _ typed_of c.typed_number.result _ c.typed_number.ensures (gives _))
 
 -- an expression in brackets has the readings of what stands in them
-bare : (n k : ℕ) (C : NameEnv) (e : T.Exp Place) → read_exp naming k C e ≡ read_exp naming k C (T.brackets n e)
+bare : (n k : ℕ) (C : NameEnv) (e : T.Exp Place) → read_exp naming k C e ≡ read_exp naming k C (brackets n e)
 unfolding read_exp
 bare zero k C e = refl
 bare (suc n) k C e = bare n k C e

@@ -1,6 +1,5 @@
 use Rattle.std.proofs.Common.{rules, ◌≡◌, suc, ap, ◌∙◌}
-use Rattle.sml_tree.specs.Trees.{brackets}
-use Rattle.sml_tree.specs.Views.{exp_of}
+use Rattle.sml_tree.specs.Views.{brackets, exp_of}
 use Rattle.sml_tree.proofs.TreeViews.{exp_of-brackets}
 use Rattle.sml_piece_trees.proofs.expressions.further_bracket.Goals as goal
 

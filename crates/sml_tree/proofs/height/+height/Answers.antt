@@ -1,6 +1,5 @@
 use Rattle.std.proofs.Common.{◌≡◌, ◌+◌, ap, sym, ◌∙◌, arith}
-use Rattle.sml_tree.specs.Trees.{brackets}
-use Rattle.sml_tree.specs.Views.{exp_of}
+use Rattle.sml_tree.specs.Views.{brackets, exp_of}
 use Rattle.sml_tree.specs.Height.{exp_height}
 use Rattle.sml_tree.proofs.TreeViews.{exp_of-brackets}
 use Rattle.sml_tree.proofs.Lists.{exps_on, brackets_height}

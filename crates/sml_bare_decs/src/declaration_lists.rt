@@ -10,6 +10,7 @@ ghost use Rattle.sml_bare_decs.specs.DeclarationRules.{joined};
 
 use crate::declaration_parts::LowExnBind;
 use sml_lex::fault::Memory;
+use sml_phrases::lists::push_tight;
 use sml_phrases::low::{
     LowBind, LowBinds, LowConBinds, LowDatBinds, LowExnBinds, LowTy, LowTypBinds,
 };
@@ -21,7 +22,7 @@ pub fn and_bind(first: LowBind, others: LowBinds) -> Result<LowBinds, Memory>
 {
     let height = first.height.max(others.height);
     let mut trees = others.trees;
-    trees.push(first.tree)?;
+    push_tight(&mut trees, first.tree)?;
     Ok(LowBinds { trees, height })
 }
 

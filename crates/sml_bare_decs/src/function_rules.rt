@@ -54,7 +54,7 @@ fn in_order(alloc: Global, pats: LowPats) -> Result<Vec<Pat>, Memory>
 {
     let mut rest = pats.trees;
     rest.reverse();
-    let mut all = Vec::new(alloc);
+    let mut all = Vec::with_capacity(alloc, rest.len())?;
     for pat in rest {
         all.push(pat.tree)?;
     }

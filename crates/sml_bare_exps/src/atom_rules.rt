@@ -161,7 +161,7 @@ fn in_order(alloc: Global, exps: Vec<LowExp>) -> Result<Vec<Exp>, Memory>
 {
     let mut exps = exps;
     exps.reverse();
-    let mut trees = Vec::new(alloc);
+    let mut trees = Vec::with_capacity(alloc, exps.len())?;
     for exp in exps {
         trees.push(exp.tree)?;
     }

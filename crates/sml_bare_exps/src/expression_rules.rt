@@ -31,6 +31,7 @@ use sml_derived::expander::Expander;
 use sml_fixity::shape::Shape;
 use sml_lex::fault::{Memory, Place};
 use sml_pat_sequences::low_lists::and_ty;
+use sml_phrases::lists::push_tight;
 use sml_phrases::low::{LowExp, LowPat, LowRules, LowTys};
 use sml_phrases::phrase::{ExpressionPhrase, Failure, Phrase};
 use sml_phrases::raise::raised;
@@ -210,11 +211,12 @@ fn with_rule(place: Place, pat: LowPat, exp: LowExp, rules: LowRules) -> Result<
 {
     let LowRules { mut trees, height } = rules;
     let height = pat.height.max(exp.height).max(height);
-    trees.push(Rule {
+    let rule = Rule {
         place,
         pat: pat.tree,
         exp: exp.tree,
-    })?;
+    };
+    push_tight(&mut trees, rule)?;
     Ok(LowRules { trees, height })
 }
 

@@ -96,7 +96,7 @@ fn of_one(alloc: Global, place: Place, ty: LowTy, constructor: LongIdent) -> Res
     ensures { GivesTy (ty_constructor place (and_ty (low_ty_of ty) no_ty) (long_name_of constructor)) result }
 {
     let height = raised(ty.height, 1)?;
-    let mut arguments = Vec::new(alloc);
+    let mut arguments = Vec::with_capacity(alloc, 1)?;
     arguments.push(ty.tree)?;
     Ok(LowTy {
         tree: Ty::Constructor(place, arguments, constructor),

@@ -28,7 +28,7 @@ pub fn var(alloc: Global, place: Place, ident: &Ident) -> Result<Exp, Memory>
 pub fn one_rule(alloc: Global, place: Place, pat: Pat, exp: Exp) -> Result<Vec<Rule>, Memory>
     ensures { IfOk result (λ rules. rules_of (map rule_of rules.items) ≡ one_rule place (pat_of pat) (exp_of exp)) }
 {
-    let mut rules = Vec::new(alloc);
+    let mut rules = Vec::with_capacity(alloc, 1)?;
     rules.push(Rule { place, pat, exp })?;
     Ok(rules)
 }
@@ -36,7 +36,7 @@ pub fn one_rule(alloc: Global, place: Place, pat: Pat, exp: Exp) -> Result<Vec<R
 fn two_rules(alloc: Global, first: Rule, second: Rule) -> Result<Vec<Rule>, Memory>
     ensures { IfOk result (λ rules. rules.items ≡ first ∷ second ∷ []) }
 {
-    let mut rules = Vec::new(alloc);
+    let mut rules = Vec::with_capacity(alloc, 2)?;
     rules.push(first)?;
     rules.push(second)?;
     Ok(rules)
@@ -52,7 +52,7 @@ pub fn application(alloc: Global, place: Place, function: Exp, argument: Exp) ->
 fn pair(alloc: Global, place: Place, left: Exp, right: Exp) -> Result<Exp, Memory>
     ensures { IfOk result (λ exp. exp_of exp ≡ pair place (exp_of left) (exp_of right)) }
 {
-    let mut exps = Vec::new(alloc);
+    let mut exps = Vec::with_capacity(alloc, 2)?;
     exps.push(left)?;
     exps.push(right)?;
     Ok(Exp::Tuple(place, exps))
@@ -62,7 +62,7 @@ fn pair(alloc: Global, place: Place, left: Exp, right: Exp) -> Result<Exp, Memor
 fn one_bind(alloc: Global, pat: Pat, exp: Exp) -> Result<Vec<ValBind>, Memory>
     ensures { IfOk result (λ binds. binds_of (map bind_of binds.items) ≡ and_bind (bind (pat_of pat) (exp_of exp)) no_bind) }
 {
-    let mut binds = Vec::new(alloc);
+    let mut binds = Vec::with_capacity(alloc, 1)?;
     binds.push(ValBind { pat, exp })?;
     Ok(binds)
 }

@@ -25,7 +25,7 @@ pub fn pat_var(alloc: Global, place: Place, ident: &Ident) -> Result<Pat, Memory
 fn pat_pair(alloc: Global, place: Place, left: Pat, right: Pat) -> Result<Pat, Memory>
     ensures { IfOk result (λ pat. pat_of pat ≡ pat_pair place (pat_of left) (pat_of right)) }
 {
-    let mut pats = Vec::new(alloc);
+    let mut pats = Vec::with_capacity(alloc, 2)?;
     pats.push(left)?;
     pats.push(right)?;
     Ok(Pat::Tuple(place, pats))

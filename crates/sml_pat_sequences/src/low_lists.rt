@@ -38,7 +38,7 @@ pub fn ty_trees(alloc: Global, types: LowTys) -> Result<Vec<Ty>, Memory>
     ensures { IfOk result (λ trees. tys_of (map ty_of trees.items) ≡ low_tys_of types) }
 {
     let mut types = types.trees;
-    let mut trees = Vec::new(alloc);
+    let mut trees = Vec::with_capacity(alloc, types.len())?;
     while let Some(ty) = types.pop() {
         trees.push(ty.tree)?;
     }
@@ -50,7 +50,7 @@ pub fn pat_trees(alloc: Global, pats: LowPats) -> Result<Vec<Pat>, Memory>
     ensures { IfOk result (λ trees. pats_of (map pat_of trees.items) ≡ low_pats_of pats) }
 {
     let mut pats = pats.trees;
-    let mut trees = Vec::new(alloc);
+    let mut trees = Vec::with_capacity(alloc, pats.len())?;
     while let Some(pat) = pats.pop() {
         trees.push(pat.tree)?;
     }

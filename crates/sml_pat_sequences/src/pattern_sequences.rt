@@ -89,7 +89,7 @@ pub fn paired(alloc: Global, left: LowPat, right: LowPat) -> Result<LowPat, Fail
 {
     let place = pat_place(&left.tree);
     let height = raised(left.height.max(right.height), 1)?;
-    let mut pats = Vec::new(alloc);
+    let mut pats = Vec::with_capacity(alloc, 2)?;
     pats.push(left.tree)?;
     pats.push(right.tree)?;
     Ok(LowPat {

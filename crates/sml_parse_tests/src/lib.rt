@@ -5,11 +5,7 @@
 #[cfg(test)]
 mod derived_forms;
 #[cfg(test)]
-mod flaws;
-#[cfg(test)]
 mod heights;
-#[cfg(test)]
-mod sizes;
 #[cfg(test)]
 mod trees;
 #[cfg(test)]

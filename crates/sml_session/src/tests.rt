@@ -1,7 +1,6 @@
-//! Sessions over files in memory: what the rows can't store, or can't bring about.
+//! Sessions over files in memory: what no system brings about.
 
 mod command_lines;
 mod fakes;
-mod projects;
 mod sinks;
 mod sources;

@@ -1,6 +1,5 @@
 //! Which files a session asks for, and sources that fail.
 
-use crate::disk::Disk;
 use crate::session::{Source, SourceFault};
 use crate::tests::fakes::ask;
 use std::alloc::{AllocError, Global};
@@ -126,23 +125,5 @@ fn projects_longer_than_asked_for(rt: HostRuntime) -> Result<(), Fail> {
     }
     let err = "smlcheck: O4 line 1\n";
     ask(alloc, &["smlcheck", "project"], &mut asked)?.expect(&rt, 2, "", err);
-    Ok(())
-}
-
-/// Paths that are no files of a project, and one that is an empty file.
-#[test]
-fn the_disk(rt: HostRuntime) -> Result<(), Fail> {
-    let alloc = rt.alloc();
-    let mut disk = Disk::new(&rt);
-    for (path, err) in [
-        ("/", "smlcheck: cannot read /\n"),
-        (
-            "/no/such/project",
-            "smlcheck: cannot read /no/such/project\n",
-        ),
-    ] {
-        ask(alloc, &["smlcheck", path], &mut disk)?.expect(&rt, 3, "", err);
-    }
-    ask(alloc, &["smlcheck", "/dev/null"], &mut disk)?.expect(&rt, 0, "", "");
     Ok(())
 }

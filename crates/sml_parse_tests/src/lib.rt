@@ -1,4 +1,4 @@
-// Tests of the crates from sml_derived to sml_parse, and of sml_tree and sml_patterns, whose trees are written as units.
+// Tests of the crates from sml_derived to sml_parse, and of sml_tree, whose trees are written as units.
 // They stand apart: a crate with tests is proved twice, and its wrong bodies wait for its tests.
 #![tactic(auto)]
 
@@ -8,7 +8,5 @@ mod derived_forms;
 mod heights;
 #[cfg(test)]
 mod trees;
-#[cfg(test)]
-mod warnings;
 #[cfg(test)]
 mod whole_forms;

@@ -321,11 +321,10 @@ fn fixities(rt: HostRuntime) -> Result<(), Fail> {
     )
 }
 
-/// Units of one declaration each, which isn't of the piece, with one behind it that is.
+/// Units of a declaration each that isn't of the piece, with one behind it that is.
 fn expect_outside(rt: &(impl Abort + AllocGlobal), units: &[&str]) -> Result<(), Fail> {
     for unit in units {
-        let whole = format!(in rt.alloc(); "{unit}; val a = 1")?;
-        let text = read_as(rt.alloc(), whole.as_bytes())?;
+        let text = read_as(rt.alloc(), unit.as_bytes())?;
         assert_eq!(rt; text.as_str(), "1.1 other\n1.1 val a n;\n", "{unit}");
     }
     Ok(())
@@ -336,42 +335,42 @@ fn outside_the_piece(rt: HostRuntime) -> Result<(), Fail> {
     expect_outside(
         &rt,
         &[
-            "val x = nil",
-            "val ++ = 1",
-            "val x = f y",
-            "val x = 1 + 2",
-            "val x = (1; 2)",
-            "val x = (1 + 2)",
-            "val x = 1 : int",
-            "val x = 0w1",
-            "val x = fn y => y | z => z",
-            "val x = fn (y) => y",
-            "val x = fn ref => 1",
-            "val x = 1 and y = 2",
-            "val 'a x = 1",
-            "val rec x = fn y => y",
-            "fun f x = x",
-            "type t = int",
-            "structure A = B",
-            "structure A = struct end",
-            "structure A : sig end = struct end",
-            "structure A :> S = struct end",
-            "structure A :> sig end = B",
-            "structure A :> sig end = struct end and B :> sig end = struct end",
-            "structure A :> sig end = struct structure B :> sig end = struct end end",
-            "structure A :> sig end = struct type 'a t = 'a end",
-            "structure A :> sig end = struct type t = int list end",
-            "structure A :> sig end = struct type t = {} end",
-            "structure A :> sig end = struct val x = 1 val y = x x end",
-            "structure A :> sig eqtype t end = struct end",
-            "structure A :> sig type t = int end = struct end",
-            "structure A :> sig type t and u end = struct end",
-            "structure A :> sig val x : 'a end = struct end",
-            "structure A :> sig end where type t = int = struct end",
-            "signature S = sig end",
-            "functor F () = struct end",
-            "local val x = 1 in val y = 2 end",
-            "infix 5 ++",
+            "val x = nil; val a = 1",
+            "val ++ = 1; val a = 1",
+            "val x = f y; val a = 1",
+            "val x = 1 + 2; val a = 1",
+            "val x = (1; 2); val a = 1",
+            "val x = (1 + 2); val a = 1",
+            "val x = 1 : int; val a = 1",
+            "val x = 0w1; val a = 1",
+            "val x = fn y => y | z => z; val a = 1",
+            "val x = fn (y) => y; val a = 1",
+            "val x = fn ref => 1; val a = 1",
+            "val x = 1 and y = 2; val a = 1",
+            "val 'a x = 1; val a = 1",
+            "val rec x = fn y => y; val a = 1",
+            "fun f x = x; val a = 1",
+            "type t = int; val a = 1",
+            "structure A = B; val a = 1",
+            "structure A = struct end; val a = 1",
+            "structure A : sig end = struct end; val a = 1",
+            "structure A :> S = struct end; val a = 1",
+            "structure A :> sig end = B; val a = 1",
+            "structure A :> sig end = struct end and B :> sig end = struct end; val a = 1",
+            "structure A :> sig end = struct structure B :> sig end = struct end end; val a = 1",
+            "structure A :> sig end = struct type 'a t = 'a end; val a = 1",
+            "structure A :> sig end = struct type t = int list end; val a = 1",
+            "structure A :> sig end = struct type t = {} end; val a = 1",
+            "structure A :> sig end = struct val x = 1 val y = x x end; val a = 1",
+            "structure A :> sig eqtype t end = struct end; val a = 1",
+            "structure A :> sig type t = int end = struct end; val a = 1",
+            "structure A :> sig type t and u end = struct end; val a = 1",
+            "structure A :> sig val x : 'a end = struct end; val a = 1",
+            "structure A :> sig end where type t = int = struct end; val a = 1",
+            "signature S = sig end; val a = 1",
+            "functor F () = struct end; val a = 1",
+            "local val x = 1 in val y = 2 end; val a = 1",
+            "infix 5 ++; val a = 1",
         ],
     )
 }

@@ -1,7 +1,8 @@
 -- What a sequence of atomic expressions stands for: the expression that its steps build on a stack, and the types behind
 -- it. Each atomic expression is used once. What no right sequence leads to (an operand that lacks, several expressions at
--- the end) stands for an expression with all the operands that there are.
-use Rattle.std.specs.Prelude.{List, [], ◌∷◌, get_or, set, Option, Some}
+-- the end) stands for an expression with all the operands that there are. A sequence about which nothing is known stands for
+-- its first expression.
+use Rattle.std.specs.Prelude.{List, [], ◌∷◌, get_or, set, Option, Some, None}
 use Rattle.sml_lex.specs.declared.fault.Place.{Place}
 use Rattle.sml_lex.specs.Faults.{first_place}
 use Rattle.sml_tree.specs.Names.{Name}
@@ -10,7 +11,7 @@ use Rattle.sml_tree.specs.Expressions.{Exp, Exps, constant, name, row, tuple, le
 use Rattle.sml_fixity.specs.declared.sequences.Step.{Step}
 use Rattle.sml_fixity.specs.declared.sequences.Step.TheVariants.{Push, Apply, Combine}
 use Rattle.sml_derived.specs.Derived.{infix_of}
-use Rattle.sml_fixity.specs.Shapes.{Shape, tree}
+use Rattle.sml_fixity.specs.Shapes.{Shape, tree, headed}
 
 -- the place of an expression's first token
 abbrev pub exp_place : {P : Type 0} → Exp P → P
@@ -84,8 +85,9 @@ typed_by p e no_ty = e
 typed_by p e (and_ty t ts) = typed_by p (typed p e t) ts
 
 abbrev pub shaped : Option Shape → Exps Place → Exp Place
+shaped None es = get_or (list_of_exps es) 0 no_operand
 shaped (Some (tree steps)) es = exp_of_steps steps (starting (list_of_exps es))
-shaped _ es = no_operand
+shaped (Some (headed how)) es = no_operand
 
 abbrev pub sequence_exp : Option Shape → Exps Place → Tys Place → Exp Place
 sequence_exp shape es ts = typed_by (exp_place (shaped shape es)) (shaped shape es) ts

@@ -203,6 +203,7 @@ fn shaped(expander: &Expander, shape: Option<&Shape>, exps: Vec<LowExp>) -> Resu
     ensures { GivesExp (shaped (option_map (λ s. shape_of s.now) shape.entry) (exps_of (map low_exp_of (reverse exps.items)))) result }
 {
     match shape {
+        None => Ok(first(expander.alloc, exps)),
         Some(Shape::First) => Ok(first(expander.alloc, exps)),
         Some(Shape::Tree(operand)) => {
             let mut atoms = exps;
@@ -210,7 +211,6 @@ fn shaped(expander: &Expander, shape: Option<&Shape>, exps: Vec<LowExp>) -> Resu
             exp_of_steps(expander, operand.steps.as_slice(), atoms)
         }
         Some(Shape::Head(_)) => Ok(no_operand(expander.alloc)),
-        None => Ok(no_operand(expander.alloc)),
     }
 }
 

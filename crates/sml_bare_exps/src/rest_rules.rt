@@ -1,15 +1,15 @@
 //! What the rules of what stands behind an expression's first atomic one make of their parts.
 
-ghost use Rattle.std.specs.Prelude.{◌≡◌, true, [], ◌∷◌, map, reverse, drop, Some, None};
+ghost use Rattle.std.specs.Prelude.{◌≡◌, true, map, reverse, drop, Some, None};
 ghost use Rattle.std.specs.Option.{option_map};
 ghost use Rattle.sml_tree.specs.Types.{no_ty};
+ghost use Rattle.sml_tree.specs.Expressions as trees;
 ghost use Rattle.sml_tree.specs.Expressions.{no_exp, and_exp};
 ghost use Rattle.sml_tree.specs.ExpressionViews.{exps_of, rule_of, rules_of};
 ghost use Rattle.sml_tree.specs.TypeViews.{tys_of};
 ghost use Rattle.sml_phrases.specs.Phrases.{of_exp, of_rest, at, exp_in, exps_in, exp_if_any, rules_in, rules_if_any, ty_in};
 ghost use Rattle.sml_phrases.specs.PhraseViews.{Puts, phrase_of, rest_of, seen};
-ghost use Rattle.sml_fixity.specs.declared.sequences.Step.TheVariants.{Push};
-ghost use Rattle.sml_fixity.specs.Shapes.{shape_of, tree};
+ghost use Rattle.sml_fixity.specs.Shapes.{shape_of};
 ghost use Rattle.sml_bare_exps.specs.ExpressionSequences.{sequence_exp};
 ghost use Rattle.sml_bare_exps.specs.ExpressionViews.{GivesExp, low_exp_of, low_ty_of};
 ghost use Rattle.sml_bare_exps.specs.ExpressionRules.{conjunction, disjunction, handled, with_operand, with_type, whole};
@@ -142,9 +142,10 @@ fn whole_sequence(
 
 /// Whether one atomic expression stands for itself.
 fn is_first(shape: Option<&Shape>) -> bool
-    ensures { result ≡ true → option_map (λ s. shape_of s.now) shape.entry ≡ Some (tree (Push 0 ∷ [])) }
+    ensures { result ≡ true → (exp : trees.Exp Place) → sequence_exp (option_map (λ s. shape_of s.now) shape.entry) (and_exp exp no_exp) no_ty ≡ exp }
 {
     match shape {
+        None => true,
         Some(Shape::First) => true,
         _ => false,
     }
@@ -155,6 +156,7 @@ fn single(expander: &Expander, shape: Option<&Shape>, exp: LowExp) -> Result<Low
     ensures { GivesExp (sequence_exp (option_map (λ s. shape_of s.now) shape.entry) (and_exp (low_exp_of exp) no_exp) no_ty) result }
 {
     match shape {
+        None => Ok(exp),
         Some(Shape::First) => Ok(exp),
         _ => whole_sequence(expander, shape, exp, none(expander.alloc)),
     }

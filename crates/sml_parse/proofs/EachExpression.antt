@@ -94,7 +94,7 @@ module _ (Q : Place → Type 0) (origin : Q first_place) where
   shaped_each : (s : Option Shape) (es : Exps Place) → EachInExps Q es → EachInExp Q (S.shaped s es)
   shaped_each (Some (tree steps)) es h = steps_each steps (S.starting (S.list_of_exps es)) (record { atoms_each = listed_each es h; stack_each = tt })
   shaped_each (Some (headed how)) es h = (origin, tt)
-  shaped_each None es h = (origin, tt)
+  shaped_each None es h = all_get_or (EachInExp Q) (S.list_of_exps es) 0 S.no_operand (listed_each es h) (origin, tt)
 
   sequence_exp_each : (s : Option Shape) (es : Exps Place) (ts : Tys Place) → EachInExps Q es → EachInTys Q ts → EachInExp Q (S.sequence_exp s es ts)
   sequence_exp_each s es ts h k =

@@ -1,5 +1,5 @@
 -- The tokens that faults of fixity name stand in the declaration that is at hand.
-use Rattle.std.proofs.Common.{◌≡◌, ℕ, zero, suc, ◌+◌, ◌<◌, List, [], ◌∷◌, ◌++◌, Bool, true, false, Option, Some, None, length, refl, sym, ap, ◌∙◌, subst, arith, inl, IfSome}
+use Rattle.std.proofs.Common.{◌≡◌, ℕ, zero, suc, ◌+◌, ◌<◌, List, [], ◌∷◌, ◌++◌, Bool, true, false, Option, Some, None, length, refl, sym, ap, ◌∙◌, subst, arith, inl, IfSome, if◌then◌else◌}
 use Rattle.std.proofs.lemmas.Bool.{false≢true}
 use Rattle.std.proofs.lemmas.List.{length-map, length-append}
 use Rattle.sml_lex.specs.declared.fault.Code.{Code}
@@ -26,7 +26,7 @@ use Rattle.sml_reach.specs.declared.reach.Misfit.{Misfit}
 use Rattle.sml_reach.specs.Senses.{sense_of, deed_of}
 use Rattle.sml_reach.specs.Founds.{Atom, Found, nothing, word, one, several, within, directed, from, found_by}
 use Rattle.sml_fixity.specs.ItemNames.{name_of}
-use Rattle.sml_reach.specs.Events.{Event, begins, enters, leaves, directs, expression, pattern, head, found_at, event_of}
+use Rattle.sml_reach.specs.Events.{Event, begins, enters, leaves, directs, expression, pattern, head, are_itself, found_at, event_of}
 use Rattle.sml_reach.specs.Reach.{State, Outcome, declares, idle, stands, fails, misfit, token_of, AreItems, misfit_of, misfit_in, IsExpression, IsPattern, IsClauseHead, Happens}
 use Rattle.sml_parse.specs.Within.{of_phrases, reason_of}
 use Rattle.sml_parse.proofs.FoundsWithin.{IsIn, AtomsIn, LevelIn, FoundIn}
@@ -109,7 +109,11 @@ by_deed (D.Directs directive) n e (directed level atoms) b q h = h
 by_deed D.Expression n e nothing b q h = tt
 by_deed D.Expression n e (word token) b q h = tt
 by_deed D.Expression n e (one a) b q h = tt
-by_deed D.Expression n e (several atoms typed) b q h = h
+by_deed D.Expression n e (several atoms typed) b q h = asked_in (are_itself atoms)
+  where
+    asked_in : (b : Bool) → IfSome (if b then None else Some (expression atoms)) (EventIn n e)
+    asked_in true = tt
+    asked_in false = h
 by_deed D.Expression n e (within names) b q h = tt
 by_deed D.Expression n e (directed level atoms) b q h = tt
 by_deed D.Pattern n e nothing b q h = tt

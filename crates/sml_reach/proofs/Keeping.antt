@@ -15,7 +15,7 @@ use Rattle.sml_reach.specs.declared.reach.Misfit.{Misfit}
 use Rattle.sml_reach.specs.declared.reach.Gathered.{Gathered}
 use Rattle.sml_reach.specs.Senses.{opens, closes, deed_of}
 use Rattle.sml_reach.specs.Founds.{Found, Atom, nothing, word, one, several, within, directed, sequence_in}
-use Rattle.sml_reach.specs.Events.{Event, begins, enters, leaves, directs, expression, pattern, head, text_at, scope_event, event_of, event_from, founds_of, events_of}
+use Rattle.sml_reach.specs.Events.{Event, begins, enters, leaves, directs, expression, pattern, head, are_itself, asked_of, text_at, scope_event, event_of, event_from, founds_of, events_of}
 use Rattle.sml_reach.specs.Fits.{Fitted, fit_of, fitted_of}
 use Rattle.sml_reach.specs.Reach.{State, start, Outcome, declares, idle, stands, fails, misfit_of, misfit_in, misfits_in, fits_before, declarations_in, first_misfit, before_misfit, up_to, IsExpression, IsPattern, IsClauseHead, Happens, Outcomes, AreFitted}
 use Rattle.sml_reach.specs.CodeGathered.{AreDeclared, AreGathered, ComesOf}
@@ -42,9 +42,13 @@ scope_left (Some t) = by_test (opens t.kind) (closes t.kind)
     by_test false true = refl
     by_test false false = refl
 
-expression_kept : (s : Option (List Atom)) → kept false (option_map expression s) ≡ option_map expression s
+expression_kept : (s : Option (List Atom)) → kept false (asked_of s) ≡ asked_of s
 expression_kept None = refl
-expression_kept (Some atoms) = refl
+expression_kept (Some atoms) = by_test (are_itself atoms)
+  where
+    by_test : (b : Bool) → kept false (if b then None else Some (expression atoms)) ≡ (if b then None else Some (expression atoms))
+    by_test true = refl
+    by_test false = refl
 
 pattern_kept : (s : Option (List Atom)) → kept false (option_map pattern s) ≡ option_map pattern s
 pattern_kept None = refl
@@ -107,9 +111,13 @@ scope_undirected (Some t) = by_test (opens t.kind) (closes t.kind)
     by_test false true = tt
     by_test false false = tt
 
-expression_undirected : (s : Option (List Atom)) → IsUndirected (option_map expression s)
+expression_undirected : (s : Option (List Atom)) → IsUndirected (asked_of s)
 expression_undirected None = tt
-expression_undirected (Some atoms) = tt
+expression_undirected (Some atoms) = by_test (are_itself atoms)
+  where
+    by_test : (b : Bool) → IsUndirected (if b then None else Some (expression atoms))
+    by_test true = tt
+    by_test false = tt
 
 pattern_undirected : (s : Option (List Atom)) → IsUndirected (option_map pattern s)
 pattern_undirected None = tt

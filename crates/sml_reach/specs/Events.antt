@@ -1,5 +1,5 @@
 -- What happens to fixities, and which sequences stand where, in the order of the text.
-use Rattle.std.specs.Prelude.{ℕ, List, [], ◌∷◌, Option, Some, None, take, drop, length, get_or, slice_get, slice_range, if◌then◌else◌}
+use Rattle.std.specs.Prelude.{ℕ, Bool, true, false, List, [], ◌∷◌, Option, Some, None, take, drop, length, get_or, slice_get, slice_range, if◌then◌else◌}
 use Rattle.std.specs.List.{cons_option}
 use Rattle.std.specs.Option.{option_map}
 use Rattle.sml_lex.specs.declared.token.Token.{Token}
@@ -14,7 +14,7 @@ use Rattle.sml_reach.specs.declared.sense.Deed.TheVariants as D
 use Rattle.sml_reach.specs.declared.event.Event as P
 use Rattle.sml_reach.specs.declared.event.Event.TheVariants as E
 use Rattle.sml_reach.specs.Senses.{sense_of, deed_of, opens, closes}
-use Rattle.sml_fixity.specs.ItemNames.{name_of}
+use Rattle.sml_fixity.specs.ItemNames.{Name, short, name_of}
 use Rattle.sml_reach.specs.Founds.{Found, Atom, atom, nothing, word, directed, sequence_in, found_by, left, atoms_of}
 
 pub data Event : Type 0 where
@@ -60,11 +60,28 @@ abbrev pub scope_event : Option Token → Option Event
 scope_event None = None
 scope_event (Some token) = if opens token.kind then Some enters else if closes token.kind then Some leaves else None
 
+-- an atomic phrase stands for itself wherever it is, unless it is an identifier without a path
+abbrev pub is_itself : Name → Bool
+is_itself (short x) = false
+is_itself _ = true
+
+abbrev pub are_itself : List Atom → Bool
+are_itself (a ∷ []) = is_itself a.name
+are_itself _ = false
+
+-- a sequence of atomic expressions, unless it is one alone that stands for itself: nothing is asked about that
+abbrev pub asked : List Atom → Option Event
+asked atoms = if are_itself atoms then None else Some (expression atoms)
+
+abbrev pub asked_of : Option (List Atom) → Option Event
+asked_of None = None
+asked_of (Some atoms) = asked atoms
+
 -- what happens where a phrase begins that is this
 abbrev pub event_of : Deed → ℕ → Found → Option Event
 event_of D.Begins n found = Some (begins n)
 event_of (D.Directs directive) n (directed level atoms) = Some (directs directive level atoms)
-event_of D.Expression n found = option_map expression (sequence_in found)
+event_of D.Expression n found = asked_of (sequence_in found)
 event_of D.Pattern n found = option_map pattern (sequence_in found)
 event_of D.Head n found = option_map head (sequence_in found)
 event_of _ n found = None

@@ -10,7 +10,7 @@ ghost use Rattle.sml_reach.specs.Senses as senses;
 ghost use Rattle.sml_reach.specs.Founds as spec;
 ghost use Rattle.sml_fixity.specs.ItemNames.{name_of, short, phrase};
 ghost use Rattle.sml_reach.specs.Founds.{atom, one, word, several, within, atom_of, atoms_of, found_by, found_of, nothing, sequence_in, untyped, left};
-ghost use Rattle.sml_reach.specs.Events.{seen, directs, expression, pattern, head, text_at, found_at, founds_from, scope_event, event_of, event_from, events_of};
+ghost use Rattle.sml_reach.specs.Events.{seen, directs, is_itself, are_itself, asked, asked_of, pattern, head, text_at, found_at, founds_from, scope_event, event_of, event_from, events_of};
 ghost use Rattle.sml_reach.specs.CodeKept.{kept, all_kept, is_directive};
 
 use crate::found::{Atom, Finder, Found, Parts, atom_in, atoms_in, before, joined};
@@ -43,11 +43,11 @@ pub enum Event {
     /// The innermost scope is closed.
     Leaves,
     Directs(Box<Directed>),
-    /// A sequence of one atomic expression, with its token.
+    /// A sequence of one atomic expression that needn't stand for itself, with its token.
     OneExpression(Item, usize),
     /// A sequence of one atomic pattern, with its token.
     OnePattern(Item, usize),
-    /// A sequence of atomic expressions.
+    /// Another sequence of atomic expressions.
     Expression(Vec<Atom>),
     /// A sequence of atomic patterns.
     Pattern(Vec<Atom>),
@@ -151,11 +151,40 @@ fn sequence(found: Found) -> Option<Vec<Atom>>
     }
 }
 
+/// Whether an atomic phrase stands for itself wherever it is.
+fn is_itself(item: &Item) -> bool
+    ensures { result ≡ is_itself (name_of item.now) }
+{
+    match item {
+        Item::Short(_) => false,
+        Item::Op => true,
+        Item::Long => true,
+        Item::Phrase => true,
+    }
+}
+
+/// Whether this is one atomic phrase, which stands for itself.
+fn are_itself(atoms: &[Atom]) -> bool
+    ensures { result ≡ are_itself (map atom_of (reverse atoms.now)) }
+{
+    atoms.len() == 1 && is_itself(&atoms[0].item)
+}
+
+/// The event at a sequence of atomic expressions.
+fn asked(atoms: Vec<Atom>) -> Option<Event>
+    ensures { option_map seen result ≡ asked (atoms_of atoms) }
+{
+    if are_itself(&atoms) {
+        return None;
+    }
+    Some(Event::Expression(atoms))
+}
+
 fn expression(atoms: Option<Vec<Atom>>) -> Option<Event>
-    ensures { option_map seen result ≡ option_map expression (option_map atoms_of atoms) }
+    ensures { option_map seen result ≡ asked_of (option_map atoms_of atoms) }
 {
     match atoms {
-        Some(atoms) => Some(Event::Expression(atoms)),
+        Some(atoms) => asked(atoms),
         None => None,
     }
 }
@@ -296,16 +325,26 @@ fn is_empty(found: &Found) -> bool
     }
 }
 
+/// The event at one atomic expression alone.
+fn one_expression(item: Item, token: usize) -> Option<Event>
+    ensures { option_map seen result ≡ asked (atom (name_of item) token [] ∷ []) }
+{
+    if is_itself(&item) {
+        return None;
+    }
+    Some(Event::OneExpression(item, token))
+}
+
 /// The event at a sequence of atomic expressions, from the first and the others.
-fn sequence_event(alloc: Global, first: Atom, others: Found) -> Result<Event, Memory>
-    ensures { IfOk result (λ event. seen event ≡ expression (atom_of first ∷ spec.atoms_in (found_of others))) }
+fn sequence_event(alloc: Global, first: Atom, others: Found) -> Result<Option<Event>, Memory>
+    ensures { IfOk result (λ event. option_map seen event ≡ asked (atom_of first ∷ spec.atoms_in (found_of others))) }
 {
     if is_empty(&others) && first.inner.is_empty() {
-        return Ok(Event::OneExpression(first.item, first.token));
+        return Ok(one_expression(first.item, first.token));
     }
     let mut atoms = atoms_in(alloc, others);
     atoms.push(first)?;
-    Ok(Event::Expression(atoms))
+    Ok(asked(atoms))
 }
 
 /// What a token does to scopes goes before the events behind it.
@@ -429,15 +468,13 @@ fn enter_expression(
     ensures founds { OnOk result (map found_of (reverse founds.new.items) ≡ nothing ∷ drop count (map found_of (reverse founds.old.items))) }
     ensures events { let parts = take count (map found_of (reverse founds.old.items)) in
         OnOk result (map seen (reverse events.new.items) ≡
-        expression (spec.atom_in (get_or parts 0 nothing) ∷ spec.atoms_in (get_or parts 1 nothing)) ∷ map seen (reverse events.old.items)) }
+        cons_option (asked (spec.atom_in (get_or parts 0 nothing) ∷ spec.atoms_in (get_or parts 1 nothing))) (map seen (reverse events.old.items))) }
 {
     let (first, others) = first_parts(founds, count);
     let event = sequence_event(alloc, atom_in(alloc, first), others)?;
     founds.reserve(1)?;
     founds.push_reserved(Found::Nothing);
-    events.reserve(1)?;
-    events.push_reserved(event);
-    Ok(())
+    push_some(events, event)
 }
 
 /// A phrase with so many parts that is an atomic phrase and those behind it.

@@ -60,7 +60,7 @@ module _ (R V : Id → Type 0) where
   exp_typed_by p e (and_ty t ts) h k = exp_typed_by p (typed p e t) ts (h, k.0) k.1
 
   exp_shaped : (s : Option Shape) (es : Exps Place) → ExpsSit R V es → ExpSits R V (E.shaped s es)
-  exp_shaped None es h = tt
+  exp_shaped None es h = every_get_or (λ e. ExpSits R V e) (E.list_of_exps es) 0 E.no_operand (exps_listed es h) tt
   exp_shaped (Some (tree steps)) es h = exp_steps_sit steps (E.starting (E.list_of_exps es)) (record { atoms_sit = exps_listed es h; stack_sits = tt })
   exp_shaped (Some (headed how)) es h = tt
 

@@ -78,7 +78,7 @@ exp_typed_by p e no_ty h k = h
 exp_typed_by p e (and_ty t ts) h k = exp_typed_by p (typed p e t) ts (h, k.0) k.1
 
 exp_shaped : (s : Option Shape) (es : Exps Place) → ExpsBound es → ExpBound (E.shaped s es)
-exp_shaped None es h = tt
+exp_shaped None es h = every_get_or (λ e. ExpBound e) (E.list_of_exps es) 0 E.no_operand (exps_listed es h) tt
 exp_shaped (Some (tree steps)) es h = exp_steps_bound steps (E.starting (E.list_of_exps es)) (record { atoms_bound = exps_listed es h; stack_bound = tt })
 exp_shaped (Some (headed how)) es h = tt
 

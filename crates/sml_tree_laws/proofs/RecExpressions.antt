@@ -74,7 +74,7 @@ exp_typed_rec p e no_ty h = h
 exp_typed_rec p e (and_ty t ts) h = exp_typed_rec p (typed p e t) ts h
 
 exp_shaped_rec : (s : Option Shape) (es : Exps Place) → ExpsRec es → ExpRec (E.shaped s es)
-exp_shaped_rec None es h = tt
+exp_shaped_rec None es h = every_get_or (λ e. ExpRec e) (E.list_of_exps es) 0 E.no_operand (exps_listed_rec es h) tt
 exp_shaped_rec (Some (tree steps)) es h = exp_steps_rec steps (E.starting (E.list_of_exps es)) (record { atoms_rec = exps_listed_rec es h; stack_rec = tt })
 exp_shaped_rec (Some (headed how)) es h = tt
 

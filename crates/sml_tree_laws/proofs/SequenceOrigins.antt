@@ -22,7 +22,7 @@ use Rattle.sml_reach.specs.declared.sense.Deed.{Deed}
 use Rattle.sml_reach.specs.declared.sense.Deed.TheVariants as Deeds
 use Rattle.sml_reach.specs.Senses.{deed_of, opens, closes}
 use Rattle.sml_reach.specs.Founds.{Atom, Found, nothing, word, one, several, within, directed, sequence_in}
-use Rattle.sml_reach.specs.Events.{Event, begins, enters, leaves, directs, expression, pattern, head, text_at, found_at, founds_of, scope_event, event_of, events_of}
+use Rattle.sml_reach.specs.Events.{Event, begins, enters, leaves, directs, expression, pattern, head, are_itself, asked_of, text_at, found_at, founds_of, scope_event, event_of, events_of}
 use Rattle.sml_reach.specs.Fits.{Fit}
 use Rattle.sml_reach.specs.Reach.{token_of}
 use Rattle.sml_bare.specs.Derivations.{before_sequence}
@@ -80,10 +80,14 @@ own_or_later fit (Deeds.Directs directive) n (several others typed) es c = inr c
 own_or_later fit (Deeds.Directs directive) n (within names) es c = inr c
 own_or_later fit Deeds.Expression n f es c = go (sequence_in f) refl c
   where
-    go : (o : Option (List Atom)) → sequence_in f ≡ o → ComesFrom fit (cons_option (option_map expression o) es) → Own Deeds.Expression f fit ⊎ ComesFrom fit es
+    by_test : (b : Bool) (atoms : List Atom) → sequence_in f ≡ Some atoms → ComesFrom fit (cons_option (if b then None else Some (expression atoms)) es) → Own Deeds.Expression f fit ⊎ ComesFrom fit es
+    by_test true atoms e c = inr c
+    by_test false atoms e (inl c) = inl (refl, atoms, e, c)
+    by_test false atoms e (inr c) = inr c
+
+    go : (o : Option (List Atom)) → sequence_in f ≡ o → ComesFrom fit (cons_option (asked_of o) es) → Own Deeds.Expression f fit ⊎ ComesFrom fit es
     go None e c = inr c
-    go (Some atoms) e (inl c) = inl (refl, atoms, e, c)
-    go (Some atoms) e (inr c) = inr c
+    go (Some atoms) e c = by_test (are_itself atoms) atoms e c
 own_or_later fit Deeds.Pattern n f es c = go (sequence_in f) refl c
   where
     go : (o : Option (List Atom)) → sequence_in f ≡ o → ComesFrom fit (cons_option (option_map pattern o) es) → Own Deeds.Pattern f fit ⊎ ComesFrom fit es

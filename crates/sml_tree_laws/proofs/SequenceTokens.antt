@@ -36,7 +36,7 @@ use Rattle.sml_reach.specs.declared.sense.Deed.TheVariants as Deeds
 use Rattle.sml_reach.specs.Senses.{sense_of, deed_of, opens, closes}
 use Rattle.sml_reach.specs.Founds.{Atom, Found, nothing, word, one, several, within, directed, atom, atom_in, atoms_in, typed_in, inner_in, before, from, found_by, sequence_in, left}
 use Rattle.sml_fixity.specs.ItemNames.{Name, short, phrase}
-use Rattle.sml_reach.specs.Events.{Event, begins, enters, leaves, directs, expression, pattern, head, text_at, found_at, founds_of, scope_event, event_of, events_of}
+use Rattle.sml_reach.specs.Events.{Event, begins, enters, leaves, directs, expression, pattern, head, are_itself, asked_of, text_at, found_at, founds_of, scope_event, event_of, events_of}
 use Rattle.sml_reach.specs.Reach.{token_of}
 use Rattle.sml_bare.specs.Derivations.{before_sequence}
 
@@ -311,9 +311,13 @@ module _ (n lo hi : ℕ) (es : List Event) (below : lo ≤ hi) (rest : EventsRis
   deed_rise (Deeds.Directs directive) (within names) h = rise_lower es hi lo below rest
   deed_rise Deeds.Expression f h = go (sequence_in f) refl
     where
-      go : (o : Option (List Atom)) → sequence_in f ≡ o → EventsRise lo (cons_option (option_map expression o) es)
+      by_test : (b : Bool) (atoms : List Atom) → sequence_in f ≡ Some atoms → EventsRise lo (cons_option (if b then None else Some (expression atoms)) es)
+      by_test true atoms e = rise_lower es hi lo below rest
+      by_test false atoms e = let b = h refl atoms e in (b.0, rise_lower es hi (suc (token_of atoms 0)) b.1 rest)
+
+      go : (o : Option (List Atom)) → sequence_in f ≡ o → EventsRise lo (cons_option (asked_of o) es)
       go None e = rise_lower es hi lo below rest
-      go (Some atoms) e = let b = h refl atoms e in (b.0, rise_lower es hi (suc (token_of atoms 0)) b.1 rest)
+      go (Some atoms) e = by_test (are_itself atoms) atoms e
   deed_rise Deeds.Pattern f h = go (sequence_in f) refl
     where
       go : (o : Option (List Atom)) → sequence_in f ≡ o → EventsRise lo (cons_option (option_map pattern o) es)

@@ -31,7 +31,7 @@ use Rattle.sml_reach.specs.declared.sense.Deed.{Deed}
 use Rattle.sml_reach.specs.declared.sense.Deed.TheVariants as D
 use Rattle.sml_reach.specs.declared.reach.Misfit.{Misfit}
 use Rattle.sml_reach.specs.Senses.{deed_of, opens, closes}
-use Rattle.sml_reach.specs.Events.{Event, begins, enters, leaves, directs, expression, pattern, head, text_at, found_at, scope_event, event_of, event_from, events_of, founds_of}
+use Rattle.sml_reach.specs.Events.{Event, begins, enters, leaves, directs, expression, pattern, head, are_itself, asked_of, text_at, found_at, scope_event, event_of, event_from, events_of, founds_of}
 use Rattle.sml_reach.specs.Fits.{Fit, Fitted}
 use Rattle.sml_reach.specs.Founds.{Atom, Found, nothing, word, one, several, within, directed, sequence_in}
 use Rattle.sml_reach.specs.Reach as Reach
@@ -169,9 +169,13 @@ tells_other (D.Directs directive) n (several atoms typed) es ds b h = h
 tells_other (D.Directs directive) n (within names) es ds b h = h
 tells_other D.Expression n f es ds b h = go (sequence_in f) h
   where
-    go : (o : Option (List Atom)) → Tells (cons_option (option_map expression o) es) ds → Tells es ds
+    by_test : (b : Bool) (atoms : List Atom) → Tells (cons_option (if b then None else Some (expression atoms)) es) ds → Tells es ds
+    by_test true atoms h = h
+    by_test false atoms h = h
+
+    go : (o : Option (List Atom)) → Tells (cons_option (asked_of o) es) ds → Tells es ds
     go None h = h
-    go (Some atoms) h = h
+    go (Some atoms) h = by_test (are_itself atoms) atoms h
 tells_other D.Pattern n f es ds b h = go (sequence_in f) h
   where
     go : (o : Option (List Atom)) → Tells (cons_option (option_map pattern o) es) ds → Tells es ds

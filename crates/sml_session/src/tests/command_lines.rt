@@ -1,9 +1,9 @@
 //! A command line without any word, which a system gives no program.
 
-use crate::tests::fakes::{ask, folder_of};
+use crate::tests::fakes::{Files, ask};
 use std::test::Fail;
 
-const NO_PROJECT: &str = "error: the following required arguments were not provided:
+const NO_PROJECT: &[u8] = b"error: the following required arguments were not provided:
   <PROJECT>
 
 Usage: smlcheck <PROJECT>
@@ -14,7 +14,7 @@ For more information, try '--help'.
 #[test]
 fn no_words(rt: HostRuntime) -> Result<(), Fail> {
     let alloc = rt.alloc();
-    let mut folder = folder_of(alloc, Vec::new(alloc))?;
-    ask(alloc, &[], &mut folder)?.expect(&rt, 2, "", NO_PROJECT);
+    let mut files = Files::new(alloc, b"", b"", None)?;
+    ask(alloc, &[], &mut files)?.expect(&rt, 2, b"", NO_PROJECT);
     Ok(())
 }

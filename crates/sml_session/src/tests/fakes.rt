@@ -1,47 +1,180 @@
-//! Files in memory, and sinks that fail.
+//! Files in memory, and sinks that take little, or fail.
 
-ghost use Rattle.std.specs.Prelude.{None};
+ghost use Rattle.std.specs.Prelude.{◌≡◌, ◌≤◌, None, length, IfSome};
 
 use crate::session::{Source, SourceFault, session};
-use sml_reply::sink::{Out, OutFault, VecOut};
+use sml_reply::sink::{Out, OutFault};
 use std::alloc::{AllocError, Global};
 use std::process::Abort;
 
-/// The project file `project`, and the unit file `a.sml`.
+/// Files that note the paths asked for: one that ends with `project` has a text, `missing` can't be read, and any other is
+/// the unit, which has a text or a fault.
 #[derive(Drop)]
-pub struct Folder {
+pub struct Files {
     pub project: Vec<u8>,
     pub unit: Vec<u8>,
+    pub fault: Option<SourceFault>,
+    pub paths: String,
 }
 
-impl Source for Folder {
-    fn read(&mut self, alloc: Global, path: &str, most: usize) -> Result<Vec<u8>, SourceFault> {
-        match path {
-            "project" => beginning(alloc, &self.project, most),
-            "a.sml" => beginning(alloc, &self.unit, most),
-            _ => Err(SourceFault::Unreadable),
+impl Files {
+    pub fn new(
+        alloc: Global,
+        project: &[u8],
+        unit: &[u8],
+        fault: Option<SourceFault>,
+    ) -> Result<Files, AllocError> {
+        Ok(Files {
+            project: Vec::from_slice(alloc, project)?,
+            unit: Vec::from_slice(alloc, unit)?,
+            fault,
+            paths: String::new(alloc),
+        })
+    }
+
+    fn note(&mut self, path: &str, most: usize) -> Result<(), AllocError> {
+        self.paths.push_str(path)?;
+        if most == 1_048_577 {
+            self.paths.push_str("\n")?;
         }
+        Ok(())
     }
 }
 
-/// The first so many bytes.
-fn beginning(alloc: Global, text: &[u8], most: usize) -> Result<Vec<u8>, SourceFault> {
-    match Vec::from_slice(alloc, &text[..text.len().min(most)]) {
+fn copy(alloc: Global, text: &[u8]) -> Result<Vec<u8>, SourceFault> {
+    match Vec::from_slice(alloc, text) {
         Ok(bytes) => Ok(bytes),
         Err(_) => Err(SourceFault::Memory),
     }
 }
 
-/// The folder of a project of one unit.
-pub fn folder_of(alloc: Global, unit: Vec<u8>) -> Result<Folder, AllocError> {
-    Ok(Folder {
-        project: Vec::from_slice(alloc, b"unit a a.sml\n")?,
-        unit,
-    })
+impl Source for Files {
+    fn read(&mut self, alloc: Global, path: &str, most: usize) -> Result<Vec<u8>, SourceFault> {
+        if self.note(path, most).is_err() {
+            return Err(SourceFault::Memory);
+        }
+        if path.ends_with("project") {
+            return copy(alloc, &self.project);
+        }
+        if path == "missing" {
+            return Err(SourceFault::Unreadable);
+        }
+        match self.fault {
+            Some(fault) => Err(fault),
+            None => copy(alloc, &self.unit),
+        }
+    }
+}
+
+/// What a sink takes.
+#[derive(Clone, Copy)]
+pub enum Takes {
+    All,
+    /// One byte a call, so many in all; it fails from then on.
+    Bytes(usize),
+    /// All, but it fails at the call behind so many.
+    AllBut(usize),
+    Nothing,
+}
+
+/// A sink that keeps what it takes.
+#[derive(Drop)]
+pub struct Sink {
+    takes: Takes,
+    pub taken: Vec<u8>,
+    calls: usize,
+    pub failures: u64,
+}
+
+impl Sink {
+    fn new(alloc: Global, takes: Takes) -> Sink {
+        Sink {
+            takes,
+            taken: Vec::new(alloc),
+            calls: 0,
+            failures: 0,
+        }
+    }
+
+    /// How many of so many bytes are taken, unless the call fails.
+    fn most(&self, count: usize) -> Option<usize>
+        ensures { IfSome result (λ n. n ≤ count) }
+    {
+        match self.takes {
+            Takes::All => Some(count),
+            Takes::Bytes(all) => {
+                if self.taken.len() < all {
+                    Some(count.min(1))
+                } else {
+                    None
+                }
+            }
+            Takes::AllBut(calls) => {
+                if self.calls == calls {
+                    None
+                } else {
+                    Some(count)
+                }
+            }
+            Takes::Nothing => Some(0),
+        }
+    }
+
+    /// Takes some of the bytes, and says how many, unless the call fails.
+    fn take(&mut self, bytes: &[u8]) -> Option<usize>
+        ensures bound { IfSome result (λ n. n ≤ length bytes.now) }
+        ensures failures { self.new.failures ≡ self.old.failures }
+    {
+        let most = self.most(bytes.len());
+        self.calls = self.calls.saturating_add(1);
+        let count = most?;
+        match self.taken.extend_from_slice(&bytes[..count]) {
+            Ok(_) => Some(count),
+            Err(_) => None,
+        }
+    }
+}
+
+impl Out for Sink {
+    ghost taken = { λ _. None };
+
+    ghost failures = { λ s. s.failures };
+
+    fn write(&mut self, bytes: &[u8]) -> Result<usize, OutFault> {
+        match self.take(bytes) {
+            Some(count) => {
+                if count == 0 && !bytes.is_empty() {
+                    self.failures = self.failures.saturating_add(1);
+                }
+                Ok(count)
+            }
+            None => {
+                self.failures = self.failures.saturating_add(1);
+                Err(OutFault)
+            }
+        }
+    }
+}
+
+/// The status of a session, and what it wrote.
+#[derive(Drop)]
+pub struct Answer {
+    pub status: u8,
+    pub out: Sink,
+    pub err: Sink,
+}
+
+impl Answer {
+    /// Demands the status, the output and the standard error.
+    pub fn expect(&self, rt: &impl Abort, status: u8, out: &[u8], err: &[u8]) {
+        assert_eq!(rt; self.err.taken.as_slice(), err);
+        assert_eq!(rt; self.out.taken.as_slice(), out);
+        assert_eq!(rt; self.status, status);
+    }
 }
 
 /// The words of a command line.
-pub fn words_of(alloc: Global, texts: &[&str]) -> Result<Vec<String>, AllocError> {
+fn words_of(alloc: Global, texts: &[&str]) -> Result<Vec<String>, AllocError> {
     let mut words = Vec::new(alloc);
     for text in texts {
         words.push(String::from_str(alloc, text)?)?;
@@ -49,102 +182,22 @@ pub fn words_of(alloc: Global, texts: &[&str]) -> Result<Vec<String>, AllocError
     Ok(words)
 }
 
-/// The status of a session, and what it wrote.
-#[derive(Drop)]
-pub struct Answer {
-    pub status: u8,
-    pub out: VecOut,
-    pub err: VecOut,
-}
-
-impl Answer {
-    /// Demands the status, the output and the standard error.
-    pub fn expect(&self, rt: &impl Abort, status: u8, out: &str, err: &str) {
-        assert_eq!(rt; self.err.bytes(), err.as_bytes());
-        assert_eq!(rt; self.out.bytes(), out.as_bytes());
-        assert_eq!(rt; self.status, status);
-    }
-}
-
-/// The answer to a command line, over a source of files.
-pub fn ask<S: Source>(alloc: Global, texts: &[&str], source: &mut S) -> Result<Answer, AllocError> {
+/// The answer to a command line over these files, with an output and a standard error that take this.
+pub fn ask_with(
+    alloc: Global,
+    texts: &[&str],
+    files: &mut Files,
+    out: Takes,
+    err: Takes,
+) -> Result<Answer, AllocError> {
     let words = words_of(alloc, texts)?;
-    let mut out = VecOut::new(alloc);
-    let mut err = VecOut::new(alloc);
-    let status = session(alloc, &words, source, &mut out, &mut err);
+    let mut out = Sink::new(alloc, out);
+    let mut err = Sink::new(alloc, err);
+    let status = session(alloc, &words, files, &mut out, &mut err);
     Ok(Answer { status, out, err })
 }
 
-/// Takes one byte a call, so many in all, and fails from then on.
-#[derive(Drop)]
-pub struct FuseOut {
-    pub taken: Vec<u8>,
-    pub left: usize,
-    pub failures: u64,
-}
-
-impl Out for FuseOut {
-    ghost taken = { λ _. None };
-
-    ghost failures = { λ s. s.failures };
-
-    fn write(&mut self, bytes: &[u8]) -> Result<usize, OutFault> {
-        if bytes.is_empty() {
-            return Ok(0);
-        }
-        if self.left > 0 && self.taken.push(bytes[0]).is_ok() {
-            self.left -= 1;
-            return Ok(1);
-        }
-        self.failures = self.failures.saturating_add(1);
-        Err(OutFault)
-    }
-}
-
-/// Takes whole slices, fails at one call, and takes whole slices again.
-#[derive(Drop)]
-pub struct HoledOut {
-    pub taken: Vec<u8>,
-    pub calls_before: usize,
-    pub has_failed: bool,
-    pub failures: u64,
-}
-
-impl Out for HoledOut {
-    ghost taken = { λ _. None };
-
-    ghost failures = { λ s. s.failures };
-
-    fn write(&mut self, bytes: &[u8]) -> Result<usize, OutFault> {
-        let fails = !self.has_failed && self.calls_before == 0;
-        if fails {
-            self.has_failed = true;
-        } else if self.calls_before > 0 {
-            self.calls_before -= 1;
-        }
-        if !fails && self.taken.extend_from_slice(bytes).is_ok() {
-            return Ok(bytes.len());
-        }
-        self.failures = self.failures.saturating_add(1);
-        Err(OutFault)
-    }
-}
-
-/// Takes nothing.
-#[derive(Drop)]
-pub struct DeafOut {
-    pub failures: u64,
-}
-
-impl Out for DeafOut {
-    ghost taken = { λ _. None };
-
-    ghost failures = { λ s. s.failures };
-
-    fn write(&mut self, bytes: &[u8]) -> Result<usize, OutFault> {
-        if !bytes.is_empty() {
-            self.failures = self.failures.saturating_add(1);
-        }
-        Ok(0)
-    }
+/// The same with sinks that take all.
+pub fn ask(alloc: Global, texts: &[&str], files: &mut Files) -> Result<Answer, AllocError> {
+    ask_with(alloc, texts, files, Takes::All, Takes::All)
 }

@@ -1,8 +1,6 @@
 //! Sinks that take little, or fail.
 
-use crate::session::session;
-use crate::tests::fakes::{DeafOut, Folder, FuseOut, HoledOut, ask, folder_of, words_of};
-use sml_reply::sink::VecOut;
+use crate::tests::fakes::{Answer, Files, Takes, ask_with};
 use std::alloc::{AllocError, Global};
 use std::test::Fail;
 
@@ -11,7 +9,7 @@ const UNIT: &[u8] =
 val y = S.f S.a
 val z = S.a + 1";
 
-const REPLIES: &str = "unit a
+const REPLIES: &[u8] = b"unit a
 1 ok
   structure S
   type S.t = ?1
@@ -24,31 +22,21 @@ const REPLIES: &str = "unit a
 
 const CANNOT_WRITE: &[u8] = b"smlcheck: cannot write\n";
 
-fn folder(alloc: Global) -> Result<Folder, AllocError> {
-    folder_of(alloc, Vec::from_slice(alloc, UNIT)?)
+/// The answer to a command line of one word about the project of this unit.
+fn answer_to(alloc: Global, word: &str, out: Takes, err: Takes) -> Result<Answer, AllocError> {
+    let mut files = Files::new(alloc, b"unit a a.sml\n", UNIT, None)?;
+    ask_with(alloc, &["smlcheck", word], &mut files, out, err)
 }
 
 #[test]
 fn sinks_that_fail_after_some_bytes(rt: HostRuntime) -> Result<(), Fail> {
     let alloc = rt.alloc();
-    let words = words_of(alloc, &["smlcheck", "project"])?;
-    let mut folder = folder(alloc)?;
-    for left in 0..=REPLIES.len() {
-        let taken = Vec::new(alloc);
-        let mut out = FuseOut {
-            taken,
-            left,
-            failures: 0,
-        };
-        let mut err = VecOut::new(alloc);
-        let status = session(alloc, &words, &mut folder, &mut out, &mut err);
-        assert_eq!(rt; out.taken.as_slice(), &REPLIES.as_bytes()[..left]);
-        if left < REPLIES.len() {
-            assert_eq!(rt; status, 3);
-            assert_eq!(rt; err.bytes(), CANNOT_WRITE);
+    for count in 0..=REPLIES.len() {
+        let answer = answer_to(alloc, "project", Takes::Bytes(count), Takes::All)?;
+        if count < REPLIES.len() {
+            answer.expect(&rt, 3, &REPLIES[..count], CANNOT_WRITE);
         } else {
-            assert_eq!(rt; status, 1);
-            assert!(rt; err.bytes().is_empty());
+            answer.expect(&rt, 1, REPLIES, b"");
         }
     }
     Ok(())
@@ -58,77 +46,36 @@ fn sinks_that_fail_after_some_bytes(rt: HostRuntime) -> Result<(), Fail> {
 #[test]
 fn sinks_that_fail_at_one_call(rt: HostRuntime) -> Result<(), Fail> {
     let alloc = rt.alloc();
-    let words = words_of(alloc, &["smlcheck", "project"])?;
-    let mut folder = folder(alloc)?;
     let mut failed: usize = 0;
-    for calls_before in 0..=REPLIES.len() {
-        let mut out = HoledOut {
-            taken: Vec::new(alloc),
-            calls_before,
-            has_failed: false,
-            failures: 0,
-        };
-        let mut err = VecOut::new(alloc);
-        let status = session(alloc, &words, &mut folder, &mut out, &mut err);
-        assert!(rt; REPLIES.as_bytes().starts_with(&out.taken));
-        if out.has_failed {
+    for calls in 0..=REPLIES.len() {
+        let answer = answer_to(alloc, "project", Takes::AllBut(calls), Takes::All)?;
+        if answer.out.failures > 0 {
             failed = failed.saturating_add(1);
-            assert_eq!(rt; status, 3);
-            assert_eq!(rt; err.bytes(), CANNOT_WRITE);
+            let count = answer.out.taken.len().min(REPLIES.len());
+            answer.expect(&rt, 3, &REPLIES[..count], CANNOT_WRITE);
         } else {
-            assert_eq!(rt; status, 1);
-            assert!(rt; err.bytes().is_empty());
-            assert_eq!(rt; out.taken.as_slice(), REPLIES.as_bytes());
+            answer.expect(&rt, 1, REPLIES, b"");
         }
     }
     assert!(rt; 0 < failed && failed < REPLIES.len());
     Ok(())
 }
 
-/// A sink that takes nothing.
-#[test]
-fn a_sink_that_takes_nothing(rt: HostRuntime) -> Result<(), Fail> {
-    let alloc = rt.alloc();
-    let words = words_of(alloc, &["smlcheck", "project"])?;
-    let mut folder = folder(alloc)?;
-    let mut out = DeafOut { failures: 0 };
-    let mut err = VecOut::new(alloc);
-    let status = session(alloc, &words, &mut folder, &mut out, &mut err);
-    assert_eq!(rt; status, 3);
-    assert_eq!(rt; err.bytes(), CANNOT_WRITE);
-    Ok(())
-}
+/// The word, what standard error takes, and the status and the standard error that are wanted: the status says what standard
+/// error can't.
+const UNTOLD: [(&str, Takes, u8, &[u8]); 5] = [
+    ("project", Takes::All, 3, CANNOT_WRITE),
+    ("--help", Takes::All, 3, CANNOT_WRITE),
+    ("project", Takes::Nothing, 3, b""),
+    ("--loud", Takes::Nothing, 2, b""),
+    ("missing", Takes::Nothing, 3, b""),
+];
 
 #[test]
-fn help_that_cannot_be_written(rt: HostRuntime) -> Result<(), Fail> {
+fn outputs_that_take_nothing(rt: HostRuntime) -> Result<(), Fail> {
     let alloc = rt.alloc();
-    let words = words_of(alloc, &["smlcheck", "--help"])?;
-    let mut out = DeafOut { failures: 0 };
-    let mut err = VecOut::new(alloc);
-    let status = session(alloc, &words, &mut folder(alloc)?, &mut out, &mut err);
-    assert_eq!(rt; status, 3);
-    assert_eq!(rt; err.bytes(), CANNOT_WRITE);
-    Ok(())
-}
-
-/// The status says what standard error can't.
-#[test]
-fn faults_that_cannot_be_told(rt: HostRuntime) -> Result<(), Fail> {
-    let alloc = rt.alloc();
-    for (word, wanted) in [("project", 3), ("--loud", 2), ("missing", 3)] {
-        let words = words_of(alloc, &["smlcheck", word])?;
-        let mut out = DeafOut { failures: 0 };
-        let mut err = DeafOut { failures: 0 };
-        let status = session(alloc, &words, &mut folder(alloc)?, &mut out, &mut err);
-        assert_eq!(rt; status, wanted, "{word}");
+    for (word, takes, status, err) in UNTOLD {
+        answer_to(alloc, word, Takes::Nothing, takes)?.expect(&rt, status, b"", err);
     }
-    Ok(())
-}
-
-#[test]
-fn whole_output(rt: HostRuntime) -> Result<(), Fail> {
-    let alloc = rt.alloc();
-    let mut folder = folder(alloc)?;
-    ask(alloc, &["smlcheck", "project"], &mut folder)?.expect(&rt, 1, REPLIES, "");
     Ok(())
 }

@@ -23,4 +23,10 @@ pub returns-in-Some-First : goal.returns-in-Some-First
 returns-in-Some-First c =
     let es = map low_exp_of (reverse c.args.exps.items) in
     let e : shaped (option_map (λ s. shape_of s.now) c.args.shape) (exps_of es) ≡ exp_of_steps (Push 0 ∷ []) (starting (list_of_exps (exps_of es))) = first_of (search rules, grind (arith, common_steps)) in
+    c.first-in-Some-First.ensures ∙ ap (λ ds. get_or ds 0 no_operand) (sym (list_of_exps_of es)) ∙ sym e
+
+pub returns-in-None : goal.returns-in-None
+returns-in-None c =
+    let es = map low_exp_of (reverse c.args.exps.items) in
+    let e : shaped (option_map (λ s. shape_of s.now) c.args.shape) (exps_of es) ≡ get_or (list_of_exps (exps_of es)) 0 no_operand = first_of (search rules, grind (arith, common_steps)) in
     c.first.ensures ∙ ap (λ ds. get_or ds 0 no_operand) (sym (list_of_exps_of es)) ∙ sym e

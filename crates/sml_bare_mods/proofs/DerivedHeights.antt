@@ -13,13 +13,13 @@ use Rattle.sml_phrases.specs.declared.phrase.Failure.TheVariants.{TooHigh, Memor
 use Rattle.sml_bare_mods.proofs.Chains.{still_high}
 use Rattle.sml_derived.specs.Derived.{includes, other_type_specs, type_specs}
 
-other_height : (bs : List (TypBind Place)) → max 4 (specs_height (other_type_specs bs)) ≡ 2 + max 2 (highest typ_bind_height bs)
-other_height [] = refl
-other_height (b ∷ bs) = let h = other_height bs in omega (arith, h)
+other_height : (p : Place) (bs : List (TypBind Place)) → max 4 (specs_height (other_type_specs p bs)) ≡ 2 + max 2 (highest typ_bind_height bs)
+other_height p [] = refl
+other_height p (b ∷ bs) = let h = other_height p bs in omega (arith, h)
 
 -- of types that are bound in a specification
 type_specs_height : (p : Place) (b : TypBind Place) (bs : List (TypBind Place)) → specs_height (type_specs p b bs) ≡ max (highest typ_bind_height (b ∷ bs)) 2 + 2
-type_specs_height p b bs = let h = other_height bs in omega (arith, h)
+type_specs_height p b bs = let h = other_height p bs in omega (arith, h)
 
 pub joined_height : (p : Place) (b : TypBind Place) (bs : List (TypBind Place)) (made : Specs Place) (h m sum : ℕ)
     → highest typ_bind_height (b ∷ bs) ≡ h → m ≡ max h 2 → sum ≡ m + 2 → made ≡ type_specs p b bs → specs_height made ≡ sum

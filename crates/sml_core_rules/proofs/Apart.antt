@@ -20,7 +20,7 @@ use Rattle.sml_core_rules.specs.States.{Scope, State, with_unknowns}
 use Rattle.sml_core_rules.specs.Scripts.{give, ◌>>=◌, look, IsAnswer}
 use Rattle.sml_core_rules.specs.Types.{Fields, put_field, read_ty}
 use Rattle.sml_core_rules.specs.Values.{is_constructor, require_equal, find_value}
-use Rattle.sml_core_rules.specs.Patterns.{Bindings, Typed, typed, is_empty, bind_variable, constructor_instance, found_constructor, read_row, require_type, read_layered, read_pat, read_pats, read_pat_fields}
+use Rattle.sml_core_rules.specs.Patterns.{Bindings, Typed, typed, is_empty, read_constraint, bind_variable, constructor_instance, found_constructor, read_row, bind_layered, read_layered, read_pat, read_pats, read_pat_fields}
 use Rattle.sml_core_rules.specs.Rules.{AreApart}
 use Rattle.sml_core_rules.specs.Assigned.{assign_bindings}
 use Rattle.sml_core_rules.proofs.Accepted.{given, bind-accepted, taken}
@@ -68,17 +68,19 @@ module _ {P N : Type 0} (scope : Scope N) (is_rec : Bool) (C : Env N) (vs : Map 
   variable-apart p x bs s r (inl (c, h)) a = subst (λ t. AreApart t.bound) (sym (ap (λ q. q.0) (accepted_same h))) (apart-behind x (free s.made) bs a c)
   variable-apart p x bs s r (inr h) a = absurd (not_refused h.1)
 
-  bound-apart : (x : Name P) (ty : Option (Ty P)) (bs : Bindings N) (s : State P N) (r : Typed N (MlType N) × State P N)
-      → IsAnswer scope (bind_variable scope x.place x.id bs >>= λ t. require_type scope is_rec C vs x.place t.type ty >>= λ u. give t) s (accepted r) → AreApart bs → AreApart r.0.bound
-  bound-apart x ty bs s r h a =
-      let b = bind-accepted scope (bind_variable scope x.place x.id bs) _ s r h in
-      let c = bind-accepted scope (require_type scope is_rec C vs x.place b.0.0.type ty) _ b.0.1 r b.2 in
-      subst (λ t. AreApart t.bound) (sym (given scope b.0.0 c.0.1 r c.2)) (variable-apart x.place x.id bs s b.0 b.1 a)
+  bound-apart : (p : P) (x : Id) (ty : Option (Ty P)) (bs : Bindings N) (s : State P N) (r : Typed N (MlType N) × State P N)
+      → IsAnswer scope (bind_layered scope is_rec C vs p x ty bs) s (accepted r) → AreApart bs → AreApart r.0.bound
+  unfolding IsAnswer ◌>>=◌
+  bound-apart p x None bs s r h a = variable-apart p x bs s r h a
+  bound-apart p x (Some ty) bs s r (inl (c, h)) a =
+      let b = bind-accepted scope (read_constraint C vs ty) _ s r h in
+      subst (λ t. AreApart t.bound) (sym (given scope (typed b.0.0 (bs ++ (x, b.0.0) ∷ [])) b.0.1 r b.2)) (apart-behind x b.0.0 bs a c)
+  bound-apart p x (Some ty) bs s r (inr h) a = absurd (not_refused h.1)
 
   layered-apart : (x : Name P) (ty : Option (Ty P)) (bs : Bindings N) (s : State P N) (r : Typed N (MlType N) × State P N)
       → IsAnswer scope (read_layered scope is_rec C vs x ty bs) s (accepted r) → AreApart bs → AreApart r.0.bound
   unfolding IsAnswer ◌>>=◌
-  layered-apart x ty bs s r (inl (c, h)) a = bound-apart x ty bs s r h a
+  layered-apart x ty bs s r (inl (c, h)) a = bound-apart x.place x.id ty bs s r h a
   layered-apart x ty bs s r (inr h) a = absurd (not_refused h.1)
 
   constant-apart : (p : P) (x : LongName P) (bs : Bindings N) (s : State P N) (r : Typed N (MlType N) × State P N)
@@ -110,12 +112,11 @@ module _ {P N : Type 0} (scope : Scope N) (is_rec : Bool) (C : Env N) (vs : Map 
         let b = bind-accepted scope (found_constructor scope x (value_at C x.id)) _ s r h in
         let c = bind-accepted scope (constructor_instance scope p x.place true b.0.0) _ b.0.1 r b.2 in
         let d = bind-accepted scope (read_pat scope is_rec C vs bs q) _ c.0.1 r c.2 in
-        let u : MlType N = free d.0.1.made in
-        let e = bind-accepted scope (require_equal p c.0.0 (arrow_of d.0.0.type u)) (λ _. give (typed u d.0.0.bound)) (with_unknowns 1 d.0.1) r d.2 in
-        subst (λ t. AreApart t.bound) (sym (given scope (typed u d.0.0.bound) e.0.1 r e.2)) (pat-apart q bs c.0.1 d.0 d.1 a)
+        let e = bind-accepted scope (applied p c.0.0 d.0.0.type) (λ u. give (typed u d.0.0.bound)) d.0.1 r d.2 in
+        subst (λ t. AreApart t.bound) (sym (given scope (typed e.0.0 d.0.0.bound) e.0.1 r e.2)) (pat-apart q bs c.0.1 d.0 d.1 a)
     pat-apart (pat_typed p q ty) bs s r h a =
         let c = bind-accepted scope (read_pat scope is_rec C vs bs q) _ s r h in
-        let d = bind-accepted scope (look (read_ty C vs ty)) _ c.0.1 r c.2 in
+        let d = bind-accepted scope (read_constraint C vs ty) _ c.0.1 r c.2 in
         let e = bind-accepted scope (require_equal p c.0.0.type d.0.0) (λ _. give (typed d.0.0 c.0.0.bound)) d.0.1 r d.2 in
         subst (λ t. AreApart t.bound) (sym (given scope (typed d.0.0 c.0.0.bound) e.0.1 r e.2)) (pat-apart q bs s c.0 c.1 a)
     pat-apart (pat_as p x ty q) bs s r h a =

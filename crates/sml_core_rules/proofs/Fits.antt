@@ -1,5 +1,5 @@
 -- Patterns fit the types that they were read to have, whatever types meet the demands.
-use Rattle.std.specs.Prelude.{◌≡◌, ◌⊎◌, ◌+◌, ℕ, suc, Bool, true, false, ◌&&◌, ◌||◌, not, List, [], ◌∷◌, ◌++◌, length, Option, Some, None}
+use Rattle.std.specs.Prelude.{◌≡◌, ◌≤◌, ◌⊎◌, ◌+◌, ℕ, suc, Bool, true, false, ◌&&◌, ◌||◌, not, List, [], ◌∷◌, ◌++◌, length, Option, Some, None}
 use Rattle.std.proofs.Common.{arith, append-nil, append_assoc}
 use mathlib.Core.Path.{refl, sym, ap, subst, ◌∙◌}
 use mathlib.Core.Logic.{inl, inr}
@@ -10,30 +10,32 @@ use Rattle.sml_tree.specs.Trees.{Id}
 use Rattle.sml_objects.specs.Maps.{lookup}
 use Rattle.sml_objects.specs.Names.{Naming}
 use Rattle.sml_objects.specs.Objects.{MlType, MlTypes, bound, free, app, arrow, row, name, no_type, and_type, arrow_of, tuple_of}
+use Rattle.sml_objects.specs.Sizes.{type_size}
 use Rattle.sml_objects.specs.Types.{assign, replace_type, instance_from}
 use Rattle.sml_layers.specs.declared.layer.Layer.TheVariants.{Rigidity}
 use Rattle.sml_layers.specs.Demands.{equal, asks, equality, of_class}
-use Rattle.sml_rules.specs.Answers.{Answer, refused, accepted}
+use Rattle.sml_rules.specs.Answers.{Answer, refused, accepted, fault}
 use Rattle.sml_rules.proofs.Sound.{accepted_same, not_refused}
 use Rattle.sml_core_rules.specs.Objects.{Env, Value, Status, variable, constructor, exception, overloaded, maps, replace, replaced}
 use Rattle.sml_core_rules.specs.States.{Scope, State, with_unknowns, with_demand}
 use Rattle.sml_core_rules.specs.Solutions.{Meets}
-use Rattle.sml_core_rules.specs.Scripts.{Script, give, refuse, tests, either, makes_unknowns, requires, sees, sets_rows, requires_or, closes, determines, makes_names, makes_datatypes, ◌>>=◌, look, IsAnswer}
-use Rattle.sml_core_rules.specs.Values.{instance, require_attributes, require_status, value_constructs, is_constructor, is_arrow, find_value, require_equal}
+use Rattle.sml_core_rules.specs.Scripts.{Script, give, refuse, tests, either, makes_unknowns, requires, sees, sets_window, requires_or, closes, determines, makes_names, makes_datatypes, ◌>>=◌, look, test, new_overloaded, IsAnswer}
+use Rattle.sml_core_rules.specs.Values.{instance, apply_general, applied, require_attributes, require_status, value_constructs, is_constructor, is_arrow, find_value, require_equal}
 use Rattle.sml_tree.specs.declared.patterns.ConstantKind.{ConstantKind}
 use Rattle.sml_tree.specs.declared.patterns.ConstantKind.TheVariants as K
 use Rattle.sml_tree.specs.Names.{Name, LongName}
 use Rattle.sml_tree.specs.Patterns.{Pat, Pats, PatFields, wildcard, pat_constant, pat_name, pat_row, pat_tuple, pat_bracket, pat_apply, pat_typed, pat_as, no_pat, and_pat, pat_field, no_pat_field, and_pat_field}
-use Rattle.sml_core_rules.specs.Patterns.{Bindings, Typed, typed, is_empty, constant_type, bind_variable, constructor_instance, found_constructor, read_row, require_type, read_layered, read_pat, read_pats, read_pat_fields}
+use Rattle.sml_core_rules.specs.Patterns.{Bindings, Typed, typed, is_empty, constant_type, read_constraint, bind_variable, constructor_instance, found_constructor, read_row, bind_layered, read_layered, read_pat, read_pats, read_pat_fields}
 use Rattle.sml_core_rules.specs.Rules.{IsRow, Means, MeansIfAsked, Constructs, Fits, FitAll, FitFields}
-use Rattle.sml_core_rules.specs.Types.{Fields, put_field, read_ty}
+use Rattle.sml_core_rules.specs.Types.{Fields, put_field, read_ty, type_place}
 use Rattle.sml_tree.specs.Types.{Ty}
 use Rattle.sml_core_rules.specs.Lookups.{value_at}
 use Rattle.sml_rules.specs.Lookups.{Found, found, no_path, no_entry}
 use Rattle.sml_core_rules.specs.Datatypes.{admits_by, all_admit_by, has_equality}
 use Rattle.sml_core_rules.specs.Contexts.{Context, IsType, AdmitWhereAsked, IsOfClass, IsInstance}
 use Rattle.sml_core_rules.specs.Assigned.{assign_value, assign_env, assign_context, assign_bindings}
-use Rattle.sml_lex.specs.declared.fault.Code.TheVariants.{E1}
+use Rattle.sml_lex.specs.declared.fault.Code.TheVariants.{E1, E7}
+use Rattle.sml_lex.specs.Faults.{Fault}
 use Rattle.sml_core_rules.specs.Answers.{need}
 use Rattle.sml_core_rules.specs.Statements.{AreKnown, PatternsFit}
 use Rattle.sml_core_rules.proofs.Derived.{needed, ty-to}
@@ -55,7 +57,7 @@ module _ {P N : Type 0} (scope : Scope N) (σ : ℕ → MlType N) where
   met-before (requires d p k) s r (inl h) m = (met-before k (with_demand d s) r h.1 m).1
   met-before (requires d p k) s r (inr h) m = absurd (not_refused h.2)
   met-before (sees k) s r h m = met-before (k s) s r h m
-  met-before (sets_rows rs k) s r h m = met-before k _ r h m
+  met-before (sets_window w k) s r h m = met-before k _ r h m
   met-before (requires_or d e k) s r (inl h) m = (met-before k (with_demand d s) r h.1 m).1
   met-before (requires_or d e k) s r (inr h) m = absurd (not_refused h.1)
   met-before (closes n x t k) s r (θ, c, h) m = met-before (k θ) s r h m
@@ -120,7 +122,7 @@ module _ {P N : Type 0} (scope : Scope N) (σ : ℕ → MlType N) (are : (v : �
   status-met p k constructor s r h m = tt
   status-met p k exception s r h m = tt
   status-met p k (overloaded c) s r (inl h) m =
-      let b = met-before scope σ (give tt) (with_demand (asks (of_class c) (free k)) s) r h.1 m in
+      let b = met-before scope σ (new_overloaded k) (with_demand (asks (of_class c) (free k)) s) r h.1 m in
       let z : k ≡ k + 0 = omega arith in subst (λ k. IsOfClass scope.names eq (overloaded c) (σ k)) z (b.0 (omega arith))
   status-met p k (overloaded c) s r (inr h) m = absurd (not_refused h.2)
 
@@ -178,6 +180,11 @@ module _ {P N : Type 0} (scope : Scope N) where
   looked (refused f) s r h = absurd (not_refused h)
   looked (accepted x) s r h = ap accepted (sym (ap (λ q. q.0) (accepted_same h)))
 
+  tested : {X : Type 0} (T : Type 0) (f : Fault P) (x : X) (s : State P N) (r : X × State P N) → IsAnswer scope (test T f >>= λ u. give x) s (accepted r) → r.0 ≡ x
+  unfolding IsAnswer ◌>>=◌
+  tested T f x s r (inl (c, h)) = ap (λ q. q.0) (accepted_same h)
+  tested T f x s r (inr h) = absurd (not_refused h.1)
+
 module _ {P N : Type 0} (scope : Scope N) (σ : ℕ → MlType N) (are : (v : ℕ) → IsType scope.names (σ v)) (eq : ℕ → Bool) (C : Context N)
     (known : AreKnown C.env) (is_rec : Bool) where
   constructs-met : (x : LongName P) (p q : P) (b : Bool) (v : Value N) (s : State P N) (r : MlType N × State P N) → value_at C.env x.id ≡ found v
@@ -228,6 +235,31 @@ module _ {P N : Type 0} (scope : Scope N) (σ : ℕ → MlType N) (are : (v : �
   require-met p t u s r (inl h) m = (met-before scope σ (give tt) (with_demand (equal t u) s) r h.1 m).0
   require-met p t u s r (inr h) m = absurd (not_refused h.2)
 
+  general-met : (p : P) (t a : MlType N) (s : State P N) (r : MlType N × State P N) → IsAnswer scope (apply_general p t a) s (accepted r) → Meets scope r.1 Rigidity σ
+      → assign σ t ≡ arrow_of (assign σ a) (assign σ r.0)
+  unfolding IsAnswer ◌>>=◌ replace_type
+  general-met p t a s r h m =
+      let u : MlType N = free s.made in
+      let k = with_unknowns 1 s in
+      let e = bind-accepted scope (require_equal p t (arrow_of a u)) (λ _. give u) k r h in
+      let n = met-before scope σ (give u) e.0.1 r e.2 m in
+      require-met p t (arrow_of a u) k e.0 e.1 n ∙ ap (λ b. arrow_of (assign σ a) (assign σ b)) (sym (given scope u e.0.1 r e.2))
+
+  applied-met : (p : P) (t a : MlType N) (s : State P N) (r : MlType N × State P N) → IsAnswer scope (applied p t a) s (accepted r) → Meets scope r.1 Rigidity σ
+      → assign σ t ≡ arrow_of (assign σ a) (assign σ r.0)
+  unfolding IsAnswer ◌>>=◌ replace_type
+  applied-met p (bound k) a s r h m = general-met p (bound k) a s r h m
+  applied-met p (free v) a s r h m = general-met p (free v) a s r h m
+  applied-met p (app (row ls) ts) a s r h m = general-met p (app (row ls) ts) a s r h m
+  applied-met p (app (name n) ts) a s r h m = general-met p (app (name n) ts) a s r h m
+  applied-met p (app arrow no_type) a s r h m = general-met p (app arrow no_type) a s r h m
+  applied-met p (app arrow (and_type from no_type)) a s r h m = general-met p (app arrow (and_type from no_type)) a s r h m
+  applied-met p (app arrow (and_type from (and_type to (and_type u us)))) a s r h m = general-met p (app arrow (and_type from (and_type to (and_type u us)))) a s r h m
+  applied-met p (app arrow (and_type from (and_type to no_type))) a s r h m =
+      let e = bind-accepted scope (require_equal p from a) (λ _. give to) s r h in
+      let n = met-before scope σ (give to) e.0.1 r e.2 m in
+      ap (λ b. arrow_of b (assign σ to)) (require-met p from a s e.0 e.1 n) ∙ ap (λ b. arrow_of (assign σ a) (assign σ b)) (sym (given scope to e.0.1 r e.2))
+
   row-met : (p : P) (b : Bool) (fs : Fields (MlType N)) (s : State P N) (r : MlType N × State P N) → IsAnswer scope (read_row scope is_rec C.env C.explicit p b fs) s (accepted r) → Meets scope r.1 Rigidity σ
       → IsRow scope.names b (replaced (assign σ) fs) (assign σ r.0)
   unfolding IsAnswer ◌>>=◌ replace_type
@@ -243,34 +275,33 @@ module _ {P N : Type 0} (scope : Scope N) (σ : ℕ → MlType N) (are : (v : �
   found-constructor x (no_path e) s r h = absurd (not_refused h)
   found-constructor x no_entry s r h = absurd (not_refused h)
 
-  type-met : (p : P) (t : MlType N) (ty : Option (Ty P)) (s : State P N) (r : Unit {0} × State P N) → IsAnswer scope (require_type scope is_rec C.env C.explicit p t ty) s (accepted r)
-      → Meets scope r.1 Rigidity σ → MeansIfAsked (assign_env σ C.env) (replaced (assign σ) C.explicit) ty (assign σ t)
-  unfolding IsAnswer
-  type-met p t None s r h m = tt
-  type-met p t (Some ty) s r h m =
+  -- a constraint means its type
+  constraint-met : (ty : Ty P) (s : State P N) (r : MlType N × State P N) → IsAnswer scope (read_constraint C.env C.explicit ty) s (accepted r)
+      → Means (assign_env σ C.env) (replaced (assign σ) C.explicit) ty (assign σ r.0)
+  constraint-met ty s r h =
       let a = bind-accepted scope (look (read_ty C.env C.explicit ty)) _ s r h in
-      let u = means-assigned scope.names σ are C.env C.explicit ty a.0.0 (ty-to C.env C.explicit ty a.0.0 (looked scope (read_ty C.env C.explicit ty) s a.0 a.1)) in
-      subst (Means (assign_env σ C.env) (replaced (assign σ) C.explicit) ty) (sym (require-met p t a.0.0 a.0.1 r a.2 m)) u
+      let t = means-assigned scope.names σ are C.env C.explicit ty a.0.0 (ty-to C.env C.explicit ty a.0.0 (looked scope (read_ty C.env C.explicit ty) s a.0 a.1)) in
+      subst (λ u. Means (assign_env σ C.env) (replaced (assign σ) C.explicit) ty (assign σ u)) (sym (tested scope (type_size a.0.0 ≤ 10000) (fault E7 (type_place ty)) a.0.0 a.0.1 r a.2)) t
 
-  bound-met : (x : Name P) (ty : Option (Ty P)) (bs : Bindings N) (s : State P N) (r : Typed N (MlType N) × State P N)
-      → IsAnswer scope (bind_variable scope x.place x.id bs >>= λ t. require_type scope is_rec C.env C.explicit x.place t.type ty >>= λ u. give t) s (accepted r) → Meets scope r.1 Rigidity σ
-      → (r.0.bound ≡ bs ++ (x.id, r.0.type) ∷ []) × MeansIfAsked (assign_env σ C.env) (replaced (assign σ) C.explicit) ty (assign σ r.0.type)
-  bound-met x ty bs s r h m =
-      let a = bind-accepted scope (bind_variable scope x.place x.id bs) _ s r h in
-      let b = bind-accepted scope (require_type scope is_rec C.env C.explicit x.place a.0.0.type ty) _ a.0.1 r a.2 in
-      let e = given scope a.0.0 b.0.1 r b.2 in
-      let n = met-before scope σ (give a.0.0) b.0.1 r b.2 m in
-      let v = variable-read x.place x.id bs s a.0 a.1 in (
-        ap (λ t. t.bound) (e ∙ v) ∙ ap (λ t. bs ++ (x.id, t.type) ∷ []) (sym (e ∙ v)),
-        subst (λ t. MeansIfAsked (assign_env σ C.env) (replaced (assign σ) C.explicit) ty (assign σ t.type)) (sym e) (type-met x.place a.0.0.type ty a.0.1 b.0 b.1 n),
+  bound-met : (p : P) (x : Id) (ty : Option (Ty P)) (bs : Bindings N) (s : State P N) (r : Typed N (MlType N) × State P N)
+      → IsAnswer scope (bind_layered scope is_rec C.env C.explicit p x ty bs) s (accepted r)
+      → (r.0.bound ≡ bs ++ (x, r.0.type) ∷ []) × MeansIfAsked (assign_env σ C.env) (replaced (assign σ) C.explicit) ty (assign σ r.0.type)
+  unfolding IsAnswer ◌>>=◌
+  bound-met p x None bs s r h = let v = variable-read p x bs s r h in (ap (λ t. t.bound) v ∙ ap (λ t. bs ++ (x, t.type) ∷ []) (sym v), tt)
+  bound-met p x (Some ty) bs s r (inl (c, h)) =
+      let a = bind-accepted scope (read_constraint C.env C.explicit ty) _ s r h in
+      let e = given scope (typed a.0.0 (bs ++ (x, a.0.0) ∷ [])) a.0.1 r a.2 in (
+        ap (λ t. t.bound) e ∙ ap (λ t. bs ++ (x, t.type) ∷ []) (sym e),
+        subst (λ t. Means (assign_env σ C.env) (replaced (assign σ) C.explicit) ty (assign σ t.type)) (sym e) (constraint-met ty s a.0 a.1),
       )
+  bound-met p x (Some ty) bs s r (inr h) = absurd (not_refused h.1)
 
   layered-met : (x : Name P) (ty : Option (Ty P)) (bs : Bindings N) (s : State P N) (r : Typed N (MlType N) × State P N)
       → IsAnswer scope (read_layered scope is_rec C.env C.explicit x ty bs) s (accepted r) → Meets scope r.1 Rigidity σ
       → ((is_rec || not (is_constructor C.env x.id)) ≡ true) × (r.0.bound ≡ bs ++ (x.id, r.0.type) ∷ [])
       × MeansIfAsked (assign_env σ C.env) (replaced (assign σ) C.explicit) ty (assign σ r.0.type)
   unfolding IsAnswer ◌>>=◌
-  layered-met x ty bs s r (inl (c, h)) m = let b = bound-met x ty bs s r h m in (c, b.0, b.1)
+  layered-met x ty bs s r (inl (c, h)) m = let b = bound-met x.place x.id ty bs s r h in (c, b.0, b.1)
   layered-met x ty bs s r (inr h) m = absurd (not_refused h.1)
 
   abbrev AllFitting : Bindings N → Pats P → Typed N (MlTypes N) → Type 0
@@ -307,28 +338,26 @@ module _ {P N : Type 0} (scope : Scope N) (σ : ℕ → MlType N) (are : (v : �
         let a = bind-accepted scope (found_constructor scope x (value_at C.env x.id)) _ s r h in
         let c = bind-accepted scope (constructor_instance scope p x.place true a.0.0) _ a.0.1 r a.2 in
         let d = bind-accepted scope (read_pat scope is_rec C.env C.explicit bs q) _ c.0.1 r c.2 in
-        let u : MlType N = free d.0.1.made in
-        let k = with_unknowns 1 d.0.1 in
-        let e = bind-accepted scope (require_equal p c.0.0 (arrow_of d.0.0.type u)) (λ _. give (typed u d.0.0.bound)) k r d.2 in
+        let e = bind-accepted scope (applied p c.0.0 d.0.0.type) (λ u. give (typed u d.0.0.bound)) d.0.1 r d.2 in
         let v = found-constructor x (value_at C.env x.id) s a.0 a.1 in
-        let n = met-before scope σ (give (typed u d.0.0.bound)) e.0.1 r e.2 m in
-        let l : Meets scope d.0.1 Rigidity σ = met-before scope σ (require_equal p c.0.0 (arrow_of d.0.0.type u)) k e.0 e.1 n in
+        let n = met-before scope σ (give (typed e.0.0 d.0.0.bound)) e.0.1 r e.2 m in
+        let l : Meets scope d.0.1 Rigidity σ = met-before scope σ (applied p c.0.0 d.0.0.type) d.0.1 e.0 e.1 n in
         let j = met-before scope σ (read_pat scope is_rec C.env C.explicit bs q) c.0.1 d.0 d.1 l in
         let f = pat-fits q bs c.0.1 d.0 d.1 l in
-        let g = require-met p c.0.0 (arrow_of d.0.0.type u) k e.0 e.1 n in
+        let g = applied-met p c.0.0 d.0.0.type d.0.1 e.0 e.1 n in
         let z = constructs-met x p x.place true a.0.0 a.0.1 c.0 v c.1 j in
-        subst (Fitting bs (pat_apply p x q)) (sym (given scope (typed u d.0.0.bound) e.0.1 r e.2))
+        subst (Fitting bs (pat_apply p x q)) (sym (given scope (typed e.0.0 d.0.0.bound) e.0.1 r e.2))
         (f.0, f.1, (assign σ d.0.0.type, subst (Constructs scope.names eq (assign_context σ C) is_rec x true) g z, f.2))
     pat-fits (pat_typed p q ty) bs s r h m =
         let a = bind-accepted scope (read_pat scope is_rec C.env C.explicit bs q) _ s r h in
-        let c = bind-accepted scope (look (read_ty C.env C.explicit ty)) _ a.0.1 r a.2 in
+        let c = bind-accepted scope (read_constraint C.env C.explicit ty) _ a.0.1 r a.2 in
         let e = bind-accepted scope (require_equal p a.0.0.type c.0.0) (λ _. give (typed c.0.0 a.0.0.bound)) c.0.1 r c.2 in
         let n = met-before scope σ (give (typed c.0.0 a.0.0.bound)) e.0.1 r e.2 m in
         let l = met-before scope σ (require_equal p a.0.0.type c.0.0) c.0.1 e.0 e.1 n in
-        let j = met-before scope σ (look (read_ty C.env C.explicit ty)) a.0.1 c.0 c.1 l in
+        let j = met-before scope σ (read_constraint C.env C.explicit ty) a.0.1 c.0 c.1 l in
         let f = pat-fits q bs s a.0 a.1 j in
         let g = require-met p a.0.0.type c.0.0 c.0.1 e.0 e.1 n in
-        let t = means-assigned scope.names σ are C.env C.explicit ty c.0.0 (ty-to C.env C.explicit ty c.0.0 (looked scope (read_ty C.env C.explicit ty) a.0.1 c.0 c.1)) in
+        let t = constraint-met ty a.0.1 c.0 c.1 in
         subst (Fitting bs (pat_typed p q ty)) (sym (given scope (typed c.0.0 a.0.0.bound) e.0.1 r e.2))
         (f.0, f.1, (subst (λ t. Fits scope.names eq (assign_context σ C) is_rec q t (assign_bindings σ f.0)) g f.2, t))
     pat-fits (pat_as p x ty q) bs s r h m =

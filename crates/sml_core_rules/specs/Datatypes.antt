@@ -101,80 +101,6 @@ AdmitAsManyAsCan {N} names ds =
     × ((eq : N → Bool) → ((n : N) → ¬ (Stands n (map (λ d. d.0) ds)) → eq n ≡ has_equality names n) → Respects (is_ref names) eq ds
     → (n : N) → Stands n (map (λ d. d.0) ds) → eq n ≡ true → has_equality names n ≡ true)
 
--- Right sides in the places of the type constructors bound behind `withtype`, with their arguments for the parameters.
-
-abbrev pub find_side : {P : Type 0} → Id → List (TypBind P) → Option (TypBind P)
-find_side x [] = None
-find_side x (b ∷ bs) = cond (is_same x b.name.id) (Some b) (find_side x bs)
-
-abbrev pub side_of : {P : Type 0} → LongId → List (TypBind P) → Option (TypBind P)
-side_of c bs = elim c.path [ [] ↦ find_side c.last bs | _ ∷ _ ↦ None ]
-
-abbrev pub list_of : {P : Type 0} → Tys P → List (Ty P)
-list_of no_ty = []
-list_of (and_ty t ts) = t ∷ list_of ts
-
-abbrev pub arguments_for : {P : Type 0} → List (Name P) → List (Ty P) → Map (Ty P)
-arguments_for [] ts = []
-arguments_for (x ∷ xs) [] = []
-arguments_for (x ∷ xs) (t ∷ ts) = (x.id, t) ∷ arguments_for xs ts
-
-abbrev pub or_variable : {P : Type 0} → P → Id → Option (Ty P) → Ty P
-or_variable p x (Some t) = t
-or_variable p x None = ty_variable p x
-
-unfoldable mutual
-  -- the type expression with others for its variables
-  pub put_for : {P : Type 0} → Map (Ty P) → Ty P → Ty P
-  put_for m (ty_variable p x) = or_variable p x (lookup x m)
-  put_for m (ty_row p fs) = ty_row p (put_for_fields m fs)
-  put_for m (ty_tuple p ts) = ty_tuple p (put_for_all m ts)
-  put_for m (ty_constructor p ts c) = ty_constructor p (put_for_all m ts) c
-  put_for m (ty_misapplied p ts c) = ty_misapplied p (put_for_all m ts) c
-  put_for m (ty_arrow p t u) = ty_arrow p (put_for m t) (put_for m u)
-  put_for m (ty_bracket p t) = ty_bracket p (put_for m t)
-
-  pub put_for_all : {P : Type 0} → Map (Ty P) → Tys P → Tys P
-  put_for_all m no_ty = no_ty
-  put_for_all m (and_ty t ts) = and_ty (put_for m t) (put_for_all m ts)
-
-  pub put_for_fields : {P : Type 0} → Map (Ty P) → TyFields P → TyFields P
-  put_for_fields m no_ty_field = no_ty_field
-  put_for_fields m (and_ty_field (ty_field l t) fs) = and_ty_field (ty_field l (put_for m t)) (put_for_fields m fs)
-
-abbrev pub side_for : {P : Type 0} → P → Tys P → LongName P → Option (TypBind P) → Ty P
-side_for p ts c None = ty_constructor p ts c
-side_for p ts c (Some b) = cond (nat_eq (length b.variables) (length (list_of ts))) (put_for (arguments_for b.variables (list_of ts)) b.ty) (ty_misapplied p ts c)
-
-unfoldable mutual
-  pub with_sides : {P : Type 0} → List (TypBind P) → Ty P → Ty P
-  with_sides bs (ty_variable p x) = ty_variable p x
-  with_sides bs (ty_row p fs) = ty_row p (fields_with_sides bs fs)
-  with_sides bs (ty_tuple p ts) = ty_tuple p (all_with_sides bs ts)
-  with_sides bs (ty_constructor p ts c) = side_for p (all_with_sides bs ts) c (side_of c.id bs)
-  with_sides bs (ty_misapplied p ts c) = ty_misapplied p (all_with_sides bs ts) c
-  with_sides bs (ty_arrow p t u) = ty_arrow p (with_sides bs t) (with_sides bs u)
-  with_sides bs (ty_bracket p t) = ty_bracket p (with_sides bs t)
-
-  pub all_with_sides : {P : Type 0} → List (TypBind P) → Tys P → Tys P
-  all_with_sides bs no_ty = no_ty
-  all_with_sides bs (and_ty t ts) = and_ty (with_sides bs t) (all_with_sides bs ts)
-
-  pub fields_with_sides : {P : Type 0} → List (TypBind P) → TyFields P → TyFields P
-  fields_with_sides bs no_ty_field = no_ty_field
-  fields_with_sides bs (and_ty_field (ty_field l t) fs) = and_ty_field (ty_field l (with_sides bs t)) (fields_with_sides bs fs)
-
-abbrev pub optional_with_sides : {P : Type 0} → List (TypBind P) → Option (Ty P) → Option (Ty P)
-optional_with_sides bs None = None
-optional_with_sides bs (Some t) = Some (with_sides bs t)
-
-abbrev pub datatype_with_sides : {P : Type 0} → List (TypBind P) → DatBind P → DatBind P
-datatype_with_sides bs d = record {
-  variables = d.variables;
-  name = d.name;
-  constructors = map (λ c. record { name = c.name; argument = optional_with_sides bs c.argument }) d.constructors;
-}
-
 abbrev pub with_names : {N : Type 0} → List N → List (Arguments N) → List (N × Arguments N)
 with_names [] gs = []
 with_names (n ∷ ns) [] = []
@@ -235,10 +161,10 @@ module _ {P N : Type 0} where
   datatype_envs (d ∷ ds) [] = empty
   datatype_envs (d ∷ ds) (a ∷ gs) = extend (datatype_env d a.0 a.1) (datatype_envs ds gs)
 
--- The names of datatypes are any others than these and than the initial ones, each with the arity and the constructors of its
--- binding.
+-- The names of datatypes are any others than these and than the initial ones, each with the arity of its binding. Their
+-- constructors stand in the environment, and are no attribute.
 unfoldable pub AreNew : {P N : Type 0} → Naming N → List N → List (DatBind P) → List N → Type 0
 AreNew names old [] ns = ns ≡ []
 AreNew {N = N} names old (d ∷ ds) ns =
     (n : N) × (rest : List N) × Outside n old × ((k : Initial) → ¬ (names.initial k ≡ n)) × ((names.attributes n).arity ≡ length d.variables)
-    × ((names.attributes n).constructors ≡ map (λ c. c.name.id) d.constructors) × AreNew names (n ∷ old) ds rest × (ns ≡ n ∷ rest)
+    × ((names.attributes n).constructors ≡ []) × AreNew names (n ∷ old) ds rest × (ns ≡ n ∷ rest)

@@ -1,14 +1,15 @@
 -- Expressions and declarations of the core (the Definition, section 4.10, rules 1 to 26, 30 and 31): what each asks, in text
 -- order, and what it is answered. Nothing that runs is proved to meet this yet.
-use Rattle.std.specs.Prelude.{is_some, ◌||◌, ◌≡◌, ℕ, suc, ◌-◌, Bool, true, false, cond, zero, List, [], ◌∷◌, ◌++◌, map, length, drop, Option, Some, None}
+use Rattle.std.specs.Prelude.{is_some, ◌||◌, ◌≡◌, ℕ, Bool, true, false, cond, List, [], ◌∷◌, ◌++◌, map, length, drop, Option, Some, None}
 use Rattle.std.specs.List.{AllByRecursion}
 use Rattle.sml_lex.specs.declared.fault.Code.TheVariants.{E1, E2, E3, E5, E7, E9, U6, U7}
 use Rattle.sml_tree.specs.Trees.{Id}
 use Rattle.sml_tree.specs.Names.{LongName}
+use Rattle.sml_tree.specs.Withtype.{dat_replaced}
 use Rattle.sml_tree.specs.Expressions.{Exp, Exps, Fields, Rules, Dec, Decs, ValBinds, TypBind, DatBind, ExnBind, constant, name, row, tuple, let_in, bracket, apply, typed, handle, raise, fn, no_exp, and_exp, field, no_field, and_field, rule, no_rule, and_rule, val_dec, type_dec, datatype_dec, datatype_with, datatype_copy, exception_dec, local_dec, sequence_dec, open_dec, fixity_dec, no_dec, and_dec, bind, no_bind, and_bind, new_exception, exception_copy}
 use Rattle.sml_objects.specs.Maps.{Map, lookup, put}
 use Rattle.sml_objects.specs.Names.{Naming, int, exn}
-use Rattle.sml_objects.specs.Objects.{MlType, MlTypes, free, no_type, and_type, arrow_of, named, mono, tuple_of}
+use Rattle.sml_objects.specs.Objects.{MlType, MlTypes, Scheme, free, no_type, and_type, arrow_of, named, mono, tuple_of}
 use Rattle.sml_layers.specs.declared.layer.Bound.TheVariants.{Newness, Locality}
 use Rattle.sml_layers.specs.declared.layer.Layer.TheVariants.{Rigidity}
 use Rattle.sml_layers.specs.Demands as D
@@ -16,15 +17,15 @@ use Rattle.sml_rules.specs.Answers.{Answer, fault}
 use Rattle.sml_core_rules.specs.Answers as A
 use Rattle.sml_core_rules.specs.Objects.{Env, Value, Status, variable, constructor, exception, overloaded, of_types, of_values, values, maps, no_structure, empty, extend}
 use Rattle.sml_core_rules.specs.Lookups.{value_at, type_at, structure_at, is_listed}
-use Rattle.sml_core_rules.specs.States.{Scope, State}
-use Rattle.sml_core_rules.specs.Scripts.{Script, give, makes_datatypes, ◌>>=◌, look, test, need, new_unknown, new_unknowns, set_rows, so_far, where_so, require, close, IsAnswer}
+use Rattle.sml_core_rules.specs.States.{Scope, State, Window, no_window}
+use Rattle.sml_core_rules.specs.Scripts.{Script, give, makes_datatypes, ◌>>=◌, look, test, need, new_unknown, new_unknowns, set_window, so_far, where_so, require, close, IsAnswer}
 use Rattle.sml_core_rules.specs.Solutions.{HasOneSetOfLabels, IsFixed, IsOverloaded}
 use Rattle.sml_core_rules.specs.Types as T
-use Rattle.sml_core_rules.specs.Types.{put_field, row_of, read_ty}
-use Rattle.sml_core_rules.specs.Values.{instance, find_value, require_equal, require_so_far}
-use Rattle.sml_core_rules.specs.Patterns.{Bindings, read_pat, pattern_place, constant_type}
+use Rattle.sml_core_rules.specs.Types.{put_field, row_of}
+use Rattle.sml_core_rules.specs.Values.{instance, applied, find_value, has_unknown, require_equal, require_so_far}
+use Rattle.sml_core_rules.specs.Patterns.{Bindings, read_constraint, read_pat, pattern_place, constant_type}
 use Rattle.sml_core_rules.specs.Closing.{is_expansive, is_function, expression_place, unguarded}
-use Rattle.sml_core_rules.specs.Datatypes.{AreSmall, is_equality, with_names, read_type_binds, read_argument, datatype_envs, datatype_with_sides, constructor_values}
+use Rattle.sml_core_rules.specs.Datatypes.{AreSmall, is_equality, with_names, read_type_binds, read_argument, datatype_envs, constructor_values}
 
 -- what a group of patterns binds
 abbrev pub bound_values : {N : Type 0} → Bindings N → Map (Value N)
@@ -49,17 +50,23 @@ abbrev pub staying : {N : Type 0} → List (Bound N) → List (MlType N)
 staying [] = []
 staying (b ∷ bs) = cond b.expansive (b.type ∷ staying bs) (staying bs)
 
+-- the variables with their schemes
+abbrev pub closed_values : {N : Type 0} → List (Bound N) → List (Scheme N) → Map (Value N)
+closed_values [] σs = []
+closed_values (b ∷ bs) [] = []
+closed_values (b ∷ bs) (σ ∷ σs) = put b.id (record { scheme = σ; status = variable }) (closed_values bs σs)
+
 -- the variables of a list that are not in scope yet, each once
 abbrev pub not_in_scope : {N : Type 0} → Map (MlType N) → List Id → List Id → List Id
 not_in_scope vs seen [] = []
 not_in_scope vs seen (x ∷ xs) =
     cond (is_some (lookup x vs) || is_listed x seen) (not_in_scope vs seen xs) (x ∷ not_in_scope vs (x ∷ seen) xs)
 
--- what a value declaration has around it: the unknowns and the rows made before it, and the unknowns of the explicit
--- variables that are scoped there
+-- what a value declaration has around it: the unknowns made before it, the window of what is around it, and the unknowns of the
+-- explicit variables that are scoped there
 pub record Begun (P N : Type 0) : Type 0 where
   pub made : ℕ
-  pub rows : List (P × MlType N)
+  pub window : Window P N
   pub scoped : List ℕ
   pub variables : Map (MlType N)
 
@@ -84,34 +91,35 @@ module _ {P N : Type 0} (scope : Scope N) where
     u ← require_so_far Newness p b.1
     require_bindings p bs
 
-  -- The beginning of a value declaration: explicit variables are scoped, which stand for themselves.
+  -- The beginning of a value declaration: explicit variables are scoped, which stand for themselves; those with two primes admit
+  -- equality.
+  abbrev pub admit_equality : P → Bool → ℕ → Script P N (Unit {0})
+  admit_equality p false k = give tt
+  admit_equality p true k = require (D.asks D.equality (free k)) p
+
   abbrev pub scope_variables : P → Map (MlType N) → List Id → Script P N (List ℕ × Map (MlType N))
   scope_variables p vs [] = give ([], vs)
   scope_variables p vs (x ∷ xs) = do
     k ← new_unknowns 1
     u ← require (D.asks (D.variable (record { number = k; equality = is_equality x })) (free k)) p
+    e ← admit_equality p (is_equality x) k
     r ← scope_variables p ((x, free k) ∷ vs) xs
     give (k ∷ r.0, r.1)
 
   abbrev pub begin_values : P → Map (MlType N) → List Id → Script P N (Begun P N)
   begin_values p vs xs = do
     s ← so_far
-    u ← set_rows []
+    u ← set_window no_window
     r ← scope_variables p vs (not_in_scope vs [] xs)
-    give (record { made = s.made; rows = s.rows; scoped = r.0; variables = r.1 })
+    give (record { made = s.made; window = s.window; scoped = r.0; variables = r.1 })
 
-  -- The end of a value declaration: of its unknowns, n from k on, those that are overloaded are int.
-  abbrev pub settle : P → ℕ → ℕ → Script P N (Unit {0})
-  settle p k zero = give tt
-  settle p k (suc n) = do
+  -- The end of a value declaration: of the unknowns of its overloaded identifiers, those that more than one type could be are int.
+  abbrev pub settle : P → List ℕ → Script P N (Unit {0})
+  settle p [] = give tt
+  settle p (v ∷ vs) = do
     s ← so_far
-    u ← where_so (IsOverloaded scope s k) (require_equal p (free k) (named (scope.names.initial int)))
-    settle p (suc k) n
-
-  abbrev pub settle_since : P → ℕ → Script P N (Unit {0})
-  settle_since p k = do
-    s ← so_far
-    settle p k (s.made - k)
+    u ← where_so (IsOverloaded scope s v) (require_equal p (free v) (named (scope.names.initial int)))
+    settle p vs
 
   -- each flexible row made in it has one set of labels
   abbrev pub require_labels : List (P × MlType N) → Script P N (Unit {0})
@@ -128,30 +136,32 @@ module _ {P N : Type 0} (scope : Scope N) where
     test (AllByRecursion (λ v. ¬ (IsFixed scope s b.made (staying bs) v)) b.scoped) (fault U7 p)
 
   -- the schemes of its variables
-  abbrev pub close_all : ℕ → List (Bound N) → Script P N (Map (Value N))
+  abbrev pub close_all : ℕ → List (Bound N) → Script P N (List (Scheme N))
   close_all k [] = give []
   close_all k (b ∷ bs) = do
     σ ← close k b.expansive b.type
-    vs ← close_all k bs
-    give (put b.id (record { scheme = σ; status = variable }) vs)
+    σs ← close_all k bs
+    give (σ ∷ σs)
 
-  abbrev pub require_bounds : P → List (Bound N) → Script P N (Unit {0})
-  require_bounds p [] = give tt
-  require_bounds p (b ∷ bs) = do
+  -- what is still unknown in them mentions only names made so far
+  abbrev pub require_bounds : P → List (Bound N) → List (Scheme N) → Script P N (Unit {0})
+  require_bounds p [] σs = give tt
+  require_bounds p (b ∷ bs) [] = give tt
+  require_bounds p (b ∷ bs) (σ ∷ σs) = cond (has_unknown σ.body) (do
     u ← require_so_far Newness p b.type
-    require_bounds p bs
+    require_bounds p bs σs) (require_bounds p bs σs)
 
   abbrev pub end_values : P → Begun P N → List (Bound N) → Script P N (Env N)
   end_values p b bs = do
-    u ← settle_since p b.made
     s ← so_far
-    v ← require_labels s.rows
-    w ← set_rows b.rows
+    u ← settle p s.window.overloaded
+    v ← require_labels s.window.rows
+    w ← set_window b.window
     g ← require_general p b bs
-    vs ← close_all b.made bs
-    x ← test (AreSmall (λ v. v.scheme) vs) (fault E7 p)
-    y ← require_bounds p bs
-    give (of_values vs)
+    σs ← close_all b.made bs
+    x ← test (AreSmall (λ v. v.scheme) (closed_values bs σs)) (fault E7 p)
+    y ← require_bounds p bs σs
+    give (of_values (closed_values bs σs))
 
   -- types and datatypes
   abbrev pub read_types : P → Env N → List (TypBind P) → Script P N (Env N)
@@ -215,12 +225,10 @@ module _ {P N : Type 0} (scope : Scope N) where
     read_exp C vs (apply p f e) = do
       t ← read_exp C vs f
       a ← read_exp C vs e
-      b ← new_unknown
-      u ← require_equal p t (arrow_of a b)
-      give b
+      applied p t a
     read_exp C vs (typed p e ty) = do
       t ← read_exp C vs e
-      w ← look (read_ty C vs ty)
+      w ← read_constraint C vs ty
       u ← require_equal p t w
       give w
     read_exp C vs (handle p e m) = do
@@ -241,7 +249,7 @@ module _ {P N : Type 0} (scope : Scope N) where
       ts ← read_exps C vs es
       give (and_type t ts)
 
-    -- fields behind those before them
+    -- fields, of which these stand before
     pub read_fields : Env N → Map (MlType N) → T.Fields (MlType N) → Fields P → Script P N (T.Fields (MlType N))
     read_fields C vs fs no_field = give fs
     read_fields C vs fs (and_field (field l e) es) = do
@@ -275,7 +283,7 @@ module _ {P N : Type 0} (scope : Scope N) where
     read_dec C vs (type_dec p bs) = read_types p C bs
     read_dec C vs (datatype_dec p ds) = read_datatypes p C ds
     read_dec C vs (datatype_with p ds bs) = do
-      E ← read_datatypes p C (map (datatype_with_sides bs) ds)
+      E ← read_datatypes p C (map (dat_replaced bs) ds)
       F ← read_types p (extend C E) bs
       give (extend E F)
     read_dec C vs (datatype_copy p x c) = do
@@ -326,4 +334,4 @@ IsReading scope C vs d s o = IsAnswer scope (read_dec scope C vs d) s o
 
 -- A declaration of the core in a basis: no unknown has been made and nothing asked.
 abbrev pub at_first : {P N : Type 0} → List N → State P N
-at_first ns = record { made = 0; names = ns; demands = []; rows = [] }
+at_first ns = record { made = 0; names = ns; demands = []; window = no_window }

@@ -1,6 +1,6 @@
 -- Patterns (the Definition, section 4.10, rules 32 to 43).
-use Rattle.std.specs.Prelude.{◌≡◌, Bool, true, false, List, [], ◌∷◌, ◌++◌, cond, ◌||◌, not, Option, Some, None}
-use Rattle.sml_lex.specs.declared.fault.Code.TheVariants.{E1, E3, E5, E10}
+use Rattle.std.specs.Prelude.{◌≡◌, ◌≤◌, Bool, true, false, List, [], ◌∷◌, ◌++◌, cond, ◌||◌, not, Option, Some, None}
+use Rattle.sml_lex.specs.declared.fault.Code.TheVariants.{E1, E3, E5, E7, E10}
 use Rattle.sml_tree.specs.declared.patterns.ConstantKind.{ConstantKind}
 use Rattle.sml_tree.specs.declared.patterns.ConstantKind.TheVariants as K
 use Rattle.sml_tree.specs.Trees.{Id}
@@ -9,7 +9,8 @@ use Rattle.sml_tree.specs.Types.{Ty}
 use Rattle.sml_tree.specs.Patterns.{Pat, Pats, PatFields, wildcard, pat_constant, pat_name, pat_row, pat_tuple, pat_bracket, pat_apply, pat_typed, pat_as, no_pat, and_pat, pat_field, no_pat_field, and_pat_field}
 use Rattle.sml_objects.specs.Maps.{Map, lookup}
 use Rattle.sml_objects.specs.Names.{Naming, int, word, real, string, char}
-use Rattle.sml_objects.specs.Objects.{MlType, MlTypes, no_type, and_type, arrow_of, named, tuple_of}
+use Rattle.sml_objects.specs.Objects.{MlType, MlTypes, no_type, and_type, named, tuple_of}
+use Rattle.sml_objects.specs.Sizes.{type_size}
 use Rattle.sml_layers.specs.Demands.{has_fields}
 use Rattle.sml_rules.specs.Answers.{fault, fault_at}
 use Rattle.sml_rules.specs.Lookups.{Found, found, no_path, no_entry}
@@ -17,8 +18,8 @@ use Rattle.sml_core_rules.specs.Objects.{Env, Value}
 use Rattle.sml_core_rules.specs.Lookups.{value_at}
 use Rattle.sml_core_rules.specs.States.{Scope}
 use Rattle.sml_core_rules.specs.Scripts.{Script, give, refuse, ◌>>=◌, look, test, new_unknown, new_row, require}
-use Rattle.sml_core_rules.specs.Types.{Fields, put_field, row_of, read_ty}
-use Rattle.sml_core_rules.specs.Values.{constructs, is_constructor, is_arrow, require_equal, instance, find_value}
+use Rattle.sml_core_rules.specs.Types.{Fields, put_field, row_of, read_ty, type_place}
+use Rattle.sml_core_rules.specs.Values.{constructs, is_constructor, is_arrow, require_equal, instance, applied, find_value}
 
 -- The variables that patterns bind, in their order, with their types.
 abbrev pub Bindings : Type 0 → Type 0
@@ -54,6 +55,13 @@ constant_type names K.Word = named (names.initial word)
 constant_type names K.Real = named (names.initial real)
 constant_type names K.String = named (names.initial string)
 constant_type names K.Character = named (names.initial char)
+
+-- The type of a constraint, which has at most 10,000 nodes.
+abbrev pub read_constraint : {P N : Type 0} → Env N → Map (MlType N) → Ty P → Script P N (MlType N)
+read_constraint C vs ty = do
+  t ← look (read_ty C vs ty)
+  u ← test (type_size t ≤ 10000) (fault E7 (type_place ty))
+  give t
 
 module _ {P N : Type 0} (scope : Scope N) where
   -- a variable, which no pattern of the group has bound yet
@@ -97,18 +105,18 @@ module _ {P N : Type 0} (scope : Scope N) where
       w ← new_row p t
       give t
 
-    abbrev pub require_type : P → MlType N → Option (Ty P) → Script P N (Unit {0})
-    require_type p t None = give tt
-    require_type p t (Some ty) = do
-      u ← look (read_ty C vs ty)
-      require_equal p t u
+    -- a variable before `as`, of the type that stands there if one does
+    abbrev pub bind_layered : P → Id → Option (Ty P) → Bindings N → Script P N (Typed N (MlType N))
+    bind_layered p x None bs = bind_variable p x bs
+    bind_layered p x (Some ty) bs = do
+      u ← test (lookup x bs ≡ None) (fault E10 p)
+      t ← read_constraint C vs ty
+      give (typed t (bs ++ (x, t) ∷ []))
 
     abbrev pub read_layered : Name P → Option (Ty P) → Bindings N → Script P N (Typed N (MlType N))
     read_layered x ty bs = do
       u ← test ((is_rec || not (is_constructor C x.id)) ≡ true) (fault E5 x.place)
-      t ← bind_variable x.place x.id bs
-      w ← require_type x.place t.type ty
-      give t
+      bind_layered x.place x.id ty bs
 
     unfoldable mutual
       pub read_pat : Bindings N → Pat P → Script P N (Typed N (MlType N))
@@ -129,12 +137,11 @@ module _ {P N : Type 0} (scope : Scope N) where
         v ← found_constructor x (value_at C x.id)
         t ← constructor_instance p x.place true v
         r ← read_pat bs q
-        u ← new_unknown
-        w ← require_equal p t (arrow_of r.type u)
+        u ← applied p t r.type
         give (typed u r.bound)
       read_pat bs (pat_typed p q ty) = do
         r ← read_pat bs q
-        t ← look (read_ty C vs ty)
+        t ← read_constraint C vs ty
         u ← require_equal p r.type t
         give (typed t r.bound)
       read_pat bs (pat_as p x ty q) = do

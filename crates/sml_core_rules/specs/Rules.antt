@@ -2,6 +2,7 @@
 -- guessed: there is no unknown, no demand and no order of solving. Rules look at no place.
 use Rattle.std.specs.Prelude.{◌≡◌, ◌⊎◌, ℕ, Bool, true, false, ◌&&◌, ◌||◌, not, List, [], ◌∷◌, ◌++◌, map, length, Option, Some, None}
 use Rattle.sml_tree.specs.Trees.{Id}
+use Rattle.sml_tree.specs.Withtype.{dat_replaced}
 use Rattle.sml_tree.specs.Names.{LongName}
 use Rattle.sml_tree.specs.Types.{Ty, Tys, TyFields, ty_variable, ty_row, ty_tuple, ty_constructor, ty_misapplied, ty_arrow, ty_bracket, no_ty, and_ty, ty_field, no_ty_field, and_ty_field}
 use Rattle.sml_tree.specs.Patterns.{Pat, Pats, PatFields, wildcard, pat_constant, pat_name, pat_row, pat_tuple, pat_bracket, pat_apply, pat_typed, pat_as, no_pat, and_pat, pat_field, no_pat_field, and_pat_field}
@@ -21,7 +22,7 @@ use Rattle.sml_core_rules.specs.Types.{put_field, row_of, count_types}
 use Rattle.sml_core_rules.specs.Values.{constructs, is_constructor, is_arrow}
 use Rattle.sml_core_rules.specs.Patterns.{Bindings, constant_type, is_empty}
 use Rattle.sml_core_rules.specs.Closing.{is_expansive, is_function, unguarded}
-use Rattle.sml_core_rules.specs.Datatypes.{Arguments, AreNew, AdmitAsManyAsCan, is_equality, listed, type_function, with_names, datatype_types, datatype_envs, datatype_with_sides, constructor_values}
+use Rattle.sml_core_rules.specs.Datatypes.{Arguments, AreNew, AdmitAsManyAsCan, is_equality, listed, type_function, with_names, datatype_types, datatype_envs, constructor_values}
 use Rattle.sml_core_rules.specs.Expressions.{Bound, bounds, bound_values, exception_type, not_in_scope}
 use Rattle.sml_core_rules.specs.Contexts.{Context, plus, plus_names, with_explicit, IsWithin, context_variables, type_variables, IsType, IsInstance, IsClosing}
 
@@ -217,7 +218,7 @@ module _ {N : Type 0} (names : Naming N) where
       Declares C (type_dec p bs) E = (ts : Map (TyStr N)) × BindTypes C.env [] bs ts × (E ≡ of_types ts)
       Declares C (datatype_dec p ds) E = BindDatatypes C ds E
       Declares C (datatype_with p ds bs) E =
-          (F : Env N) × (ts : Map (TyStr N)) × BindDatatypes C (map (datatype_with_sides bs) ds) F × BindTypes (extend C.env F) [] bs ts
+          (F : Env N) × (ts : Map (TyStr N)) × BindDatatypes C (map (dat_replaced bs) ds) F × BindTypes (extend C.env F) [] bs ts
           × (E ≡ extend F (of_types ts))
       Declares C (datatype_copy p x c) E =
           (s : TyStr N) × (type_at C.env c.id ≡ found s) × (E ≡ maps no_structure ((x.id, s) ∷ []) (constructor_values s.constructors))

@@ -17,12 +17,12 @@ use Rattle.sml_rules.specs.Answers.{Answer, refused, accepted, fault}
 use Rattle.sml_rules.specs.Lookups.{Found}
 use Rattle.sml_core_rules.specs.Answers as A
 use Rattle.sml_core_rules.specs.Objects.{Env, names_env}
-use Rattle.sml_core_rules.specs.States.{Scope, State, words, AreMade, with_unknowns, with_made, with_demand, with_rows}
+use Rattle.sml_core_rules.specs.States.{Scope, State, words, AreMade, Window, with_unknowns, with_made, with_demand, with_window}
 use Rattle.sml_core_rules.specs.Solutions.{IsScheme, IsAlways}
 use Rattle.sml_core_rules.specs.Datatypes.{Arguments, AreNew, AdmitAsManyAsCan, with_names, arguments_of}
 
 -- It ends with an object or with a fault. Before that it tests a condition, or goes on by one; makes unknowns, and is told the
--- number of the first; adds a demand, which has its place, or one with a fault of its own; sees the state; sets the rows; closes
+-- number of the first; adds a demand, which has its place, or one with a fault of its own; sees the state; sets the window; closes
 -- a type, at the end of a declaration that begins behind so many unknowns; takes the type that a type is in every case, or a
 -- fault; and makes names, of which this is seen beside their maker, or the names of datatypes in a context.
 pub data Script (P N X : Type 0) : Type 1 where
@@ -33,7 +33,7 @@ pub data Script (P N X : Type 0) : Type 1 where
   makes_unknowns : ℕ → (ℕ → Script P N X) → Script P N X
   requires : Demand N (List N) → P → Script P N X → Script P N X
   sees : (State P N → Script P N X) → Script P N X
-  sets_rows : List (P × MlType N) → Script P N X → Script P N X
+  sets_window : Window P N → Script P N X → Script P N X
   requires_or : Demand N (List N) → Fault P → Script P N X → Script P N X
   closes : ℕ → Bool → MlType N → (Scheme N → Script P N X) → Script P N X
   determines : MlType N → Fault P → (MlType N → Script P N X) → Script P N X
@@ -50,7 +50,7 @@ module _ {P N : Type 0} where
   ◌>>=◌ (makes_unknowns n k) next = makes_unknowns n (λ v. k v >>= next)
   ◌>>=◌ (requires d p k) next = requires d p (k >>= next)
   ◌>>=◌ (sees k) next = sees (λ s. k s >>= next)
-  ◌>>=◌ (sets_rows rs k) next = sets_rows rs (k >>= next)
+  ◌>>=◌ (sets_window w k) next = sets_window w (k >>= next)
   ◌>>=◌ (requires_or d f k) next = requires_or d f (k >>= next)
   ◌>>=◌ (closes n x t k) next = closes n x t (λ σ. k σ >>= next)
   ◌>>=◌ (determines t f k) next = determines t f (λ u. k u >>= next)
@@ -85,11 +85,16 @@ module _ {P N : Type 0} where
   abbrev pub so_far : Script P N (State P N)
   so_far = sees (λ s. give s)
 
-  abbrev pub set_rows : List (P × MlType N) → Script P N (Unit {0})
-  set_rows rs = sets_rows rs (give tt)
+  abbrev pub set_window : Window P N → Script P N (Unit {0})
+  set_window w = sets_window w (give tt)
 
+  -- a flexible row is among those of the declaration
   abbrev pub new_row : P → MlType N → Script P N (Unit {0})
-  new_row p t = sees (λ s. set_rows (s.rows ++ (p, t) ∷ []))
+  new_row p t = sees (λ s. set_window (record s.window { rows = s.window.rows ++ (p, t) ∷ [] }))
+
+  -- an unknown is among those of overloaded identifiers
+  abbrev pub new_overloaded : ℕ → Script P N (Unit {0})
+  new_overloaded v = sees (λ s. set_window (record s.window { overloaded = s.window.overloaded ++ v ∷ [] }))
 
   abbrev pub close : ℕ → Bool → MlType N → Script P N (Scheme N)
   close n x t = closes n x t (λ σ. give σ)
@@ -117,7 +122,7 @@ module _ {P N : Type 0} where
         (CanBeMet (words scope) Rigidity (d ∷ s.demands) × IsAnswer k (with_demand d s) o)
         ⊎ ((l : Layer) × IsFirstUnmet (words scope) l (d ∷ s.demands) × (o ≡ refused (fault (code_of l) p)))
     IsAnswer (sees k) s o = IsAnswer (k s) s o
-    IsAnswer (sets_rows rs k) s o = IsAnswer k (with_rows rs s) o
+    IsAnswer (sets_window w k) s o = IsAnswer k (with_window w s) o
     IsAnswer (requires_or d f k) s o =
         (CanBeMet (words scope) Rigidity (d ∷ s.demands) × IsAnswer k (with_demand d s) o) ⊎ (¬ (CanBeMet (words scope) Rigidity (d ∷ s.demands)) × (o ≡ refused f))
     IsAnswer (closes n x t k) s o = (σ : Scheme N) × IsScheme scope s n x t σ × IsAnswer (k σ) s o

@@ -51,7 +51,7 @@ rename_state f s = record {
   made = s.made;
   names = map f s.names;
   demands = map (rename_demand f) s.demands;
-  rows = map (λ r. (r.0, rename_type f r.1)) s.rows;
+  window = record { rows = map (λ r. (r.0, rename_type f r.1)) s.window.rows; overloaded = s.window.overloaded };
 }
 
 abbrev pub rename_answer : {P A B X Y : Type 0} → (X → Y) → (A → B) → Answer P (X × State P A) → Answer P (Y × State P B)

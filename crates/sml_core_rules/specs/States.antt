@@ -27,13 +27,19 @@ AreMade {N} scope old (w ∷ ws) ns =
     (n : N) × (rest : List N) × Outside n old × ((k : Initial) → ¬ (scope.names.initial k ≡ n)) × (scope.names.attributes n ≡ record w { maker = scope.unit })
     × AreMade scope (n ∷ old) ws rest × (ns ≡ n ∷ rest)
 
--- The unknowns made so far, the names of types made so far, the demands so far, the newest first, and the flexible rows of the
--- value declaration, in order of making, each with the place that asks for its labels.
+-- What the end of a value declaration closes, of what was made in it and in no declaration inside it: the flexible rows, each
+-- with the place that asks for its labels, and the unknowns of overloaded identifiers, both in order of making.
+pub record Window (P N : Type 0) : Type 0 where
+  pub rows : List (P × MlType N)
+  pub overloaded : List ℕ
+
+-- The unknowns made so far, the names of types made so far, the demands so far, the newest first, and the window of the value
+-- declaration.
 pub record State (P N : Type 0) : Type 0 where
   pub made : ℕ
   pub names : List N
   pub demands : List (Demand N (List N))
-  pub rows : List (P × MlType N)
+  pub window : Window P N
 
 module _ {P N : Type 0} where
   abbrev pub with_unknowns : ℕ → State P N → State P N
@@ -45,5 +51,8 @@ module _ {P N : Type 0} where
   abbrev pub with_demand : Demand N (List N) → State P N → State P N
   with_demand d s = record s { demands = d ∷ s.demands }
 
-  abbrev pub with_rows : List (P × MlType N) → State P N → State P N
-  with_rows rs s = record s { rows = rs }
+  abbrev pub with_window : Window P N → State P N → State P N
+  with_window w s = record s { window = w }
+
+  abbrev pub no_window : Window P N
+  no_window = record { rows = []; overloaded = [] }

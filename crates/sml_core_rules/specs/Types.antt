@@ -27,6 +27,16 @@ abbrev pub count_types : {N : Type 0} → MlTypes N → ℕ
 count_types no_type = 0
 count_types (and_type t ts) = suc (count_types ts)
 
+-- the first token of a type expression
+abbrev pub type_place : {P : Type 0} → Ty P → P
+type_place (ty_variable p x) = p
+type_place (ty_row p fs) = p
+type_place (ty_tuple p ts) = p
+type_place (ty_constructor p ts c) = p
+type_place (ty_misapplied p ts c) = p
+type_place (ty_arrow p t u) = p
+type_place (ty_bracket p t) = p
+
 -- the type that a variable stands for, where one of its name is in scope
 abbrev pub variable_type : {P N : Type 0} → P → Option (MlType N) → Answer P (MlType N)
 variable_type p (Some t) = give t

@@ -124,19 +124,19 @@ next_include f g olds news s p xs x pushed made e =
     ∙ sym (includes-push p (map g xs) (g x))
     ∙ ap (includes p) (sym (map-push g xs x))
 
-type_specs-push : (bs : List (TypBind Place)) (b : TypBind Place) → other_type_specs (bs ++ b ∷ []) ≡ then_spec (other_type_specs bs) (type_spec_of b.name.place b)
-type_specs-push [] b = refl
-type_specs-push (c ∷ bs) b = ap (and_spec (type_spec_of c.name.place c)) (type_specs-push bs b)
+type_specs-push : (p : Place) (bs : List (TypBind Place)) (b : TypBind Place) → other_type_specs p (bs ++ b ∷ []) ≡ then_spec (other_type_specs p bs) (type_spec_of p b)
+type_specs-push p [] b = refl
+type_specs-push p (c ∷ bs) b = ap (and_spec (type_spec_of p c)) (type_specs-push p bs b)
 
 pub next_type_spec : {A B : Type 0} (f : A → Spec Place) (g : B → TypBind Place) (olds news : List A) (s : A) (p : Place) (c : TypBind Place) (bs : List B) (b : B)
-    → news ≡ olds ++ s ∷ [] → f s ≡ type_spec_of (g b).name.place (g b) → specs_of (map f olds) ≡ type_specs p c (map g bs) → specs_of (map f news) ≡ type_specs p c (map g (bs ++ b ∷ []))
+    → news ≡ olds ++ s ∷ [] → f s ≡ type_spec_of p (g b) → specs_of (map f olds) ≡ type_specs p c (map g bs) → specs_of (map f news) ≡ type_specs p c (map g (bs ++ b ∷ []))
 next_type_spec f g olds news s p c bs b pushed made e =
     ap (λ ys. specs_of (map f ys)) pushed
     ∙ ap specs_of (map-push f olds s)
     ∙ specs_of-push (map f olds) (f s)
     ∙ ap (then_spec (specs_of (map f olds))) made
-    ∙ ap (λ ss. then_spec ss (type_spec_of (g b).name.place (g b))) e
-    ∙ ap (and_spec (type_spec_of p c)) (sym (type_specs-push (map g bs) (g b)) ∙ ap other_type_specs (sym (map-push g bs b)))
+    ∙ ap (λ ss. then_spec ss (type_spec_of p (g b))) e
+    ∙ ap (and_spec (type_spec_of p c)) (sym (type_specs-push p (map g bs) (g b)) ∙ ap (other_type_specs p) (sym (map-push g bs b)))
 
 where_types-push : (p : Place) (s : SigExp Place) (ws : List (WhereType Place)) (w : WhereType Place) → where_types p s (ws ++ w ∷ []) ≡ where_type p (where_types p s ws) w
 where_types-push p s [] w = refl

@@ -156,13 +156,13 @@ where_types p s (w ∷ ws) = where_types p (where_type p s w) ws
 abbrev pub type_spec_of : {P : Type 0} → P → TypBind P → Spec P
 type_spec_of p b = include_spec p (where_type p (sig_end p (and_spec (type_spec p (record { variables = b.variables; name = b.name } ∷ [])) no_spec)) (record { variables = b.variables; constructor = long b.name; ty = b.ty }))
 
--- Those of a group, one after the other: the first at `type`, the others at their type constructors.
-abbrev pub other_type_specs : {P : Type 0} → List (TypBind P) → Specs P
-other_type_specs [] = no_spec
-other_type_specs (b ∷ bs) = and_spec (type_spec_of b.name.place b) (other_type_specs bs)
+-- Those of a group, one after the other, each at the place of the whole.
+abbrev pub other_type_specs : {P : Type 0} → P → List (TypBind P) → Specs P
+other_type_specs p [] = no_spec
+other_type_specs p (b ∷ bs) = and_spec (type_spec_of p b) (other_type_specs p bs)
 
 abbrev pub type_specs : {P : Type 0} → P → TypBind P → List (TypBind P) → Specs P
-type_specs p b bs = and_spec (type_spec_of p b) (other_type_specs bs)
+type_specs p b bs = and_spec (type_spec_of p b) (other_type_specs p bs)
 
 abbrev pub include_of : {P : Type 0} → P → Name P → Spec P
 include_of p x = include_spec p (sig_name x.place x.id)

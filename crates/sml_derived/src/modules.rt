@@ -167,7 +167,7 @@ impl Expander {
         let mut specs = Vec::new(self.alloc);
         specs.push(type_spec(self.alloc, place, first)?)?;
         for bind in others {
-            specs.push(type_spec(self.alloc, bind.name.place, bind)?)?;
+            specs.push(type_spec(self.alloc, place, bind)?)?;
         }
         Ok(specs)
     }

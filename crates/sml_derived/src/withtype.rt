@@ -7,7 +7,7 @@ ghost use Rattle.sml_tree.specs.Views.{ident_of, long_of};
 ghost use Rattle.sml_tree.specs.TypeViews.{names_of, long_name_of, ty_of, tys_of, ty_field_of, ty_fields_of};
 ghost use Rattle.sml_tree.specs.BindingViews.{typ_bind_of, con_bind_of, dat_bind_of};
 ghost use Rattle.sml_tree.specs.ExpressionViews.{dec_of};
-ghost use Rattle.sml_tree.specs.Withtype.{argument, either, instance, instances, field_instances, count_tys, bound, binding, applied, replaced, all_replaced, fields_replaced, con_replaced, dat_replaced, withtype_of};
+ghost use Rattle.sml_tree.specs.Withtype.{argument, either, unlisted, instance, instances, field_instances, count_tys, bound, binding, applied, replaced, all_replaced, fields_replaced, con_replaced, dat_replaced, withtype_of};
 
 use crate::copies::{arrow, bracket, constructor, copy_of_ty, labelled, misapplied};
 use crate::expander::Expander;
@@ -17,6 +17,7 @@ use sml_tree::expressions::{ConBind, DatBind, Dec, TypBind};
 use sml_tree::names::Name;
 use sml_tree::types::{Ty, TyField};
 use std::alloc::Global;
+use std::rc::Rc;
 
 fn is_same(left: &Ident, right: &Ident) -> bool
     ensures { result ≡ bytes_eq (ident_of left.now) (ident_of right.now) }
@@ -39,7 +40,14 @@ fn argument<'a>(variable: &Ident, variables: &[Name], arguments: &'a [Ty]) -> Op
     None
 }
 
-/// A type with arguments in the place of variables.
+/// The variable of no list.
+fn unlisted(alloc: Global) -> Result<Ident, Memory>
+    ensures { IfOk result (λ variable. ident_of variable ≡ unlisted) }
+{
+    Ok(Rc::new(alloc, Vec::new(alloc))?)
+}
+
+/// A right side with arguments in the place of its variables; one that isn't listed is out of scope.
 #[cycle(instances)]
 fn instance(alloc: Global, ty: &Ty, variables: &[Name], arguments: &[Ty]) -> Result<Ty, Memory>
     ensures { IfOk result (λ made. ty_of made ≡ instance (names_of variables.now) (tys_of (map ty_of arguments.now)) (ty_of ty.now)) }
@@ -47,7 +55,7 @@ fn instance(alloc: Global, ty: &Ty, variables: &[Name], arguments: &[Ty]) -> Res
     match ty {
         Ty::Variable(place, variable) => match argument(variable, variables, arguments) {
             Some(argument) => copy_of_ty(alloc, argument),
-            None => Ok(Ty::Variable(*place, variable.clone()?)),
+            None => Ok(Ty::Variable(*place, unlisted(alloc)?)),
         },
         Ty::Row(place, fields) => {
             let fields = instances_of_fields(alloc, fields, variables, arguments)?;

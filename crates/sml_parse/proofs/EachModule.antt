@@ -51,12 +51,12 @@ module _ (Q : Place → Type 0) (origin : Q first_place) where
   type_spec_each : (p : Place) (b : TypBind Place) → Q p → EachInTypBind Q b → EachInSpec Q (type_spec_of p b)
   type_spec_each p b o h = (o, (o, (o, ((o, ((h.0, h.1), tt)), tt)), (h.0, h.1, h.2)))
 
-  other_type_specs_each : (bs : List (TypBind Place)) → AllByRecursion (EachInTypBind Q) bs → EachInSpecs Q (other_type_specs bs)
-  other_type_specs_each [] h = tt
-  other_type_specs_each (b ∷ bs) h = (type_spec_each b.name.place b h.0.1 h.0, other_type_specs_each bs h.1)
+  other_type_specs_each : (p : Place) (bs : List (TypBind Place)) → Q p → AllByRecursion (EachInTypBind Q) bs → EachInSpecs Q (other_type_specs p bs)
+  other_type_specs_each p [] o h = tt
+  other_type_specs_each p (b ∷ bs) o h = (type_spec_each p b o h.0, other_type_specs_each p bs o h.1)
 
   type_specs_each : (p : Place) (b : TypBind Place) (bs : List (TypBind Place)) → Q p → EachInTypBind Q b → AllByRecursion (EachInTypBind Q) bs → EachInSpecs Q (type_specs p b bs)
-  type_specs_each p b bs o h k = (type_spec_each p b o h, other_type_specs_each bs k)
+  type_specs_each p b bs o h k = (type_spec_each p b o h, other_type_specs_each p bs o k)
 
   types_each : (p : Place) (v : Phrase) → Q p → EachInPhrase Q v → EachInPhrase Q (types p v)
   types_each p (of_typ_binds []) o h = tt

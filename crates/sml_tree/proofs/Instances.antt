@@ -6,7 +6,7 @@ use Rattle.sml_tree.specs.Names.{Name}
 use Rattle.sml_tree.specs.Types.{Ty, Tys, TyField, TyFields, ty_variable, ty_row, ty_tuple, ty_constructor, ty_misapplied, ty_arrow, ty_bracket, no_ty, and_ty, ty_field, no_ty_field, and_ty_field}
 use Rattle.sml_tree.specs.Height.{counted}
 use Rattle.sml_tree.specs.Heights.{ty_height, tys_height, ty_field_height, ty_fields_height}
-use Rattle.sml_tree.specs.Withtype.{argument, either, instance, instances, field_instance, field_instances}
+use Rattle.sml_tree.specs.Withtype.{argument, either, unlisted, instance, instances, field_instance, field_instances}
 use Rattle.sml_tree.specs.CodeDepths.{below, depth, tys_depth, field_depth, fields_depth, without, depths, reach, reached}
 use Rattle.sml_tree.proofs.Idents.{id_tells, id_self, id_turned}
 
@@ -149,7 +149,7 @@ both d m n k l r s t e f g =
 mutual
   pub instance_height : {P : Type 0} (xs : List (Name P)) (ts : Tys P) (t : Ty P) (d : ℕ) → counted (d + ty_height (instance xs ts t)) ≡ max (counted (d + ty_height t)) (reached (depths (λ v. depth d v t) xs) ts)
   instance_height xs ts (ty_variable p u) d =
-      variable_height p u (argument u xs ts) d ∙ sym (ap (max (counted (d + 1))) (reached_one u (below d) xs ts))
+      variable_height p unlisted (argument u xs ts) d ∙ sym (ap (max (counted (d + 1))) (reached_one u (below d) xs ts))
   instance_height xs ts (ty_row p fs) d = lower d _ _ _ (fields_instance_height xs ts fs (below d))
   instance_height xs ts (ty_tuple p us) d = lower d _ _ _ (instances_height xs ts us (below d))
   instance_height xs ts (ty_constructor p us c) d = lower d _ _ _ (instances_height xs ts us (below d))

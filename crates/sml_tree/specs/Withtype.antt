@@ -26,10 +26,15 @@ abbrev pub either : {P : Type 0} → Ty P → Option (Ty P) → Ty P
 either t None = t
 either t (Some u) = u
 
--- a type with arguments in the place of variables
+-- the variable of no list: no source spells it
+abbrev pub unlisted : Id
+unlisted = []
+
+-- A right side with arguments in the place of its variables. One that its binding doesn't list is out of scope there, whatever
+-- the datatype around lists.
 abbrev mutual
   pub instance : {P : Type 0} → List (Name P) → Tys P → Ty P → Ty P
-  instance xs ts (ty_variable p v) = either (ty_variable p v) (argument v xs ts)
+  instance xs ts (ty_variable p v) = either (ty_variable p unlisted) (argument v xs ts)
   instance xs ts (ty_row p fs) = ty_row p (field_instances xs ts fs)
   instance xs ts (ty_tuple p us) = ty_tuple p (instances xs ts us)
   instance xs ts (ty_constructor p us c) = ty_constructor p (instances xs ts us) c

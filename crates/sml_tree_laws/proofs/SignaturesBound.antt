@@ -36,12 +36,12 @@ wheres_on p s (w ∷ ws) h k = wheres_on p (where_type p s w) ws (h, k.0) k.1
 pub with_wheres_bound : (s : SigExp Place) (ws : List (WhereType Place)) → SigBound s → WheresBound ws → SigBound (with_wheres s ws)
 with_wheres_bound s ws h k = wheres_on (sig_place s) s ws h k
 
-other_specs_bound : (bs : List (TypBind Place)) → TypBindsBound bs → SpecsBound (other_type_specs bs)
-other_specs_bound [] h = tt
-other_specs_bound (b ∷ bs) h = ((((alone b.name.id, (h.0.0, tt)), tt), h.0), other_specs_bound bs h.1)
+other_specs_bound : (p : Place) (bs : List (TypBind Place)) → TypBindsBound bs → SpecsBound (other_type_specs p bs)
+other_specs_bound p [] h = tt
+other_specs_bound p (b ∷ bs) h = ((((alone b.name.id, (h.0.0, tt)), tt), h.0), other_specs_bound p bs h.1)
 
 type_specs_bound : (p : Place) (b : TypBind Place) (bs : List (TypBind Place)) → TypBindsBound (b ∷ bs) → SpecsBound (type_specs p b bs)
-type_specs_bound p b bs h = ((((alone b.name.id, (h.0.0, tt)), tt), h.0), other_specs_bound bs h.1)
+type_specs_bound p b bs h = ((((alone b.name.id, (h.0.0, tt)), tt), h.0), other_specs_bound p bs h.1)
 
 includes_bound : (p : Place) (xs : List (Name Place)) → SpecsBound (includes p xs)
 includes_bound p [] = tt

@@ -131,6 +131,15 @@ pub fn ask_general(
     solver.require_general(variables, first.min(count), others)
 }
 
+/// Makes each of these unknowns that is overloaded the default.
+pub fn ask_settled(solver: &mut Solver, unknowns: &[u32]) -> Result<(), Halt> {
+    know_numbers(solver, unknowns)?;
+    if !are_unknowns(unknowns, solver.unknowns()) {
+        return Err(Halt::Memory);
+    }
+    solver.settle(unknowns)
+}
+
 /// A flag for each unknown that the types of the first unknowns and of others fix.
 pub fn ask_fixed(solver: &mut Solver, first: usize, others: &[u32]) -> Result<Vec<bool>, Halt> {
     know_numbers(solver, others)?;

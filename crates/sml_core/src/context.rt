@@ -36,10 +36,10 @@ pub struct Context<'a> {
     /// What was bound since it was set, where that is wanted.
     exports: Option<Env>,
     pub(crate) explicit: Explicit,
-    /// How many explicit type variables there were.
-    pub(crate) variables: u32,
     /// Flexible rows whose labels are to be known at the end of the value declaration, in order of making.
     pub(crate) rows: Vec<(Place, Rc<MlType>)>,
+    /// The unknowns of overloaded identifiers that are settled at the end of the value declaration, in order of making.
+    pub(crate) overloaded: Vec<u32>,
     /// Whether an unknown of an earlier declaration may still stand in the scopes.
     pub(crate) is_open: bool,
     /// Whether a constraint of the value declaration has a part that was too large to be made.
@@ -68,8 +68,8 @@ impl<'a> Context<'a> {
             warnings: Vec::new(alloc),
             exports: None,
             explicit: Explicit::new(alloc),
-            variables: 0,
             rows: Vec::new(alloc),
+            overloaded: Vec::new(alloc),
             is_open: false,
             is_cut: false,
         }
@@ -277,11 +277,12 @@ impl<'a> Context<'a> {
         class: Class,
         unknown: usize,
     ) -> Result<(), CoreFault> {
-        let ty = MlType::Free(number_of(unknown)?);
-        match ask_class(&mut self.solver, &ty, class) {
-            Ok(()) => Ok(()),
-            Err(refusal) => Err(refused(refusal, place)),
+        let number = number_of(unknown)?;
+        if let Err(refusal) = ask_class(&mut self.solver, &MlType::Free(number), class) {
+            return Err(refused(refusal, place));
         }
+        self.overloaded.push(number)?;
+        Ok(())
     }
 
     /// The type that a type expression means, with the explicit type variables in scope.

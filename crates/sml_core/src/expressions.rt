@@ -146,8 +146,9 @@ impl Context<'_> {
         Ok(ty)
     }
 
+    /// The result of what has a type applied to an argument of another one. A type that is written as an arrow is taken apart.
     #[inline(never)]
-    fn applied(
+    pub(crate) fn applied(
         &mut self,
         place: Place,
         function: &MlType,

@@ -36,6 +36,15 @@ impl Variables {
     }
 }
 
+/// That no pattern has bound a variable yet, or E10.
+fn first_in(variables: &Variables, place: Place, name: &Ident) -> Result<(), CoreFault> {
+    if variables.types.contains_key(name) {
+        Err(plain_fault(Code::E10, place))
+    } else {
+        Ok(())
+    }
+}
+
 impl Context<'_> {
     /// The type of a pattern, whose variables are added.
     #[cycle(pattern)]
@@ -60,7 +69,7 @@ impl Context<'_> {
             Pat::Applied(place, long, pat) => {
                 let constructor = self.applied_constructor(*place, long)?;
                 let argument = self.pattern(variables, pat)?;
-                self.applied_pattern(*place, &constructor, &argument)
+                self.applied(*place, &constructor, argument)
             }
             Pat::Typed(place, pat, ty) => {
                 let found = self.pattern(variables, pat)?;
@@ -134,9 +143,7 @@ impl Context<'_> {
         place: Place,
         name: &Ident,
     ) -> Result<Rc<MlType>, CoreFault> {
-        if variables.types.contains_key(name) {
-            return Err(plain_fault(Code::E10, place));
-        }
+        first_in(variables, place, name)?;
         let ty = self.unknown()?;
         variables.types.insert(name.clone()?, ty.clone()?)?;
         Ok(ty)
@@ -187,22 +194,6 @@ impl Context<'_> {
         }
     }
 
-    #[inline(never)]
-    fn applied_pattern(
-        &mut self,
-        place: Place,
-        constructor: &MlType,
-        argument: &MlType,
-    ) -> Result<Rc<MlType>, CoreFault> {
-        match constructor {
-            MlType::Arrow(from, to) => {
-                self.equal(place, from, argument)?;
-                Ok(to.clone()?)
-            }
-            _ => self.unknown(),
-        }
-    }
-
     /// The variable before `as`, of the type that stands there if one does.
     #[inline(never)]
     fn layered(
@@ -214,12 +205,15 @@ impl Context<'_> {
         if !variables.is_recursive && is_constructor(self.status(&name.ident)) {
             return Err(plain_fault(Code::E5, name.place));
         }
-        let whole = self.variable(variables, name.place, &name.ident)?;
-        if let Some(ty) = ty {
-            let ty = self.ty(ty)?;
-            self.equal(name.place, &whole, &ty)?;
+        match ty {
+            None => self.variable(variables, name.place, &name.ident),
+            Some(ty) => {
+                first_in(variables, name.place, &name.ident)?;
+                let ty = self.ty(ty)?;
+                variables.types.insert(name.ident.clone()?, ty.clone()?)?;
+                Ok(ty)
+            }
         }
-        Ok(whole)
     }
 
     /// The type of a phrase that is constrained to a type.

@@ -3,7 +3,9 @@
 use crate::context::{Context, refused};
 use crate::patterns::Variables;
 use indexmap::IndexSet;
-use sml_asks::asks::{ask_fixed, ask_general, ask_labels, ask_reading, ask_scheme, ask_variable};
+use sml_asks::asks::{
+    ask_equality, ask_fixed, ask_general, ask_labels, ask_reading, ask_scheme, ask_settled, ask_variable,
+};
 use sml_bases::objects::{Status, Value};
 use sml_closing::functions::is_function;
 use sml_closing::places::{expression_place, pattern_place};
@@ -24,13 +26,14 @@ use std::alloc::Global;
 use std::mem;
 use std::rc::Rc;
 
-/// A value declaration while it is gone through: how many unknowns, flexible rows and explicit type variables there were
-/// before it, the unknowns of those that are scoped here, what it binds, each variable with a flag where its right side is
+/// A value declaration while it is gone through: how many unknowns, flexible rows, unknowns of overloaded identifiers and
+/// explicit type variables there were before it, the unknowns of those that are scoped here, what it binds, each variable with a flag where its right side is
 /// expansive, and whether the declaration around it has a constraint that is too large.
 #[derive(Drop)]
 pub(crate) struct Declaration {
     unknowns: usize,
     rows: usize,
+    overloaded: usize,
     explicit: usize,
     scoped: Vec<u32>,
     variables: Variables,
@@ -49,7 +52,7 @@ impl Context<'_> {
         recursive: &[ValBind],
     ) -> Result<Declaration, CoreFault> {
         let (unknowns, rows) = (self.solver.unknowns(), self.rows.len());
-        let explicit = self.explicit.count();
+        let (overloaded, explicit) = (self.overloaded.len(), self.explicit.count());
         let mut found = named(self.alloc, names)?;
         in_binds(binds, &mut found)?;
         in_binds(recursive, &mut found)?;
@@ -57,6 +60,7 @@ impl Context<'_> {
         Ok(Declaration {
             unknowns,
             rows,
+            overloaded,
             explicit,
             scoped,
             variables: Variables::new(self.alloc),
@@ -77,21 +81,24 @@ impl Context<'_> {
         Ok(scoped)
     }
 
-    /// A new unknown for an explicit type variable, which is in scope from here on.
+    /// A new unknown for an explicit type variable, which is in scope from here on. It admits equality where the variable does.
     fn scope(&mut self, name: &Ident) -> Result<u32, CoreFault> {
         let Ok(unknown) = self.solver.fresh() else {
             return Err(CoreFault::Memory);
         };
+        let equality = is_equality_variable(name);
         let variable = Variable {
-            number: self.variables,
-            equality: is_equality_variable(name),
+            number: unknown,
+            equality,
         };
-        match self.variables.checked_add(1) {
-            Some(count) => self.variables = count,
-            None => return Err(CoreFault::Memory),
-        }
-        if let Err(_) = ask_variable(&mut self.solver, &MlType::Free(unknown), variable) {
+        let ty = MlType::Free(unknown);
+        if let Err(_) = ask_variable(&mut self.solver, &ty, variable) {
             return Err(CoreFault::Memory);
+        }
+        if equality {
+            if let Err(_) = ask_equality(&mut self.solver, &ty) {
+                return Err(CoreFault::Memory);
+            }
         }
         self.explicit.add(name, unknown)?;
         Ok(unknown)
@@ -186,9 +193,7 @@ impl Context<'_> {
         place: Place,
         declaration: Declaration,
     ) -> Result<(), CoreFault> {
-        if let Err(_) = self.solver.settle(declaration.unknowns) {
-            return Err(CoreFault::Memory);
-        }
+        self.end_overloaded(declaration.overloaded)?;
         self.end_rows(declaration.rows)?;
         if !declaration.scoped.is_empty() {
             self.require_general(place, &declaration)?;
@@ -218,6 +223,17 @@ impl Context<'_> {
             Ok(()) => Ok(()),
             Err(refusal) => Err(refused(refusal, place)),
         }
+    }
+
+    /// Settles the unknowns of overloaded identifiers after the first ones.
+    fn end_overloaded(&mut self, first: usize) -> Result<(), CoreFault> {
+        if first < self.overloaded.len() {
+            if let Err(_) = ask_settled(&mut self.solver, &self.overloaded[first..]) {
+                return Err(CoreFault::Memory);
+            }
+            self.overloaded.truncate(first);
+        }
+        Ok(())
     }
 
     /// Demands that the flexible rows behind the first ones have their labels.

@@ -19,7 +19,7 @@ use Rattle.sml_core_rules.specs.Lookups.{value_at}
 use Rattle.sml_core_rules.specs.States.{Scope, State, with_unknowns}
 use Rattle.sml_core_rules.specs.Scripts.{give, ◌>>=◌, look, IsAnswer}
 use Rattle.sml_core_rules.specs.Types.{Fields, put_field, read_ty}
-use Rattle.sml_core_rules.specs.Values.{is_constructor, require_equal, find_value}
+use Rattle.sml_core_rules.specs.Values.{is_constructor, applied, require_equal, find_value}
 use Rattle.sml_core_rules.specs.Patterns.{Bindings, Typed, typed, is_empty, read_constraint, bind_variable, constructor_instance, found_constructor, read_row, bind_layered, read_layered, read_pat, read_pats, read_pat_fields}
 use Rattle.sml_core_rules.specs.Rules.{AreApart}
 use Rattle.sml_core_rules.specs.Assigned.{assign_bindings}

@@ -117,7 +117,7 @@ module _ {P N : Type 0} (scope : Scope N) (σ : ℕ → MlType N) (are : (v : �
 
   status-met : (p : P) (k : ℕ) (w : Status) (s : State P N) (r : Unit {0} × State P N) → IsAnswer scope (require_status p k w) s (accepted r) → Meets scope r.1 Rigidity σ
       → IsOfClass scope.names eq w (σ (k + 0))
-  unfolding IsAnswer replace_type
+  unfolding IsAnswer replace_type ◌>>=◌
   status-met p k variable s r h m = tt
   status-met p k constructor s r h m = tt
   status-met p k exception s r h m = tt

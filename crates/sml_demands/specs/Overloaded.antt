@@ -1,5 +1,6 @@
 -- Unknowns that may be one of several initial names, as the type of an overloaded identifier (the Definition, appendix E).
-use Rattle.std.specs.Prelude.{◌≡◌, ◌≢◌, ℕ, ◌<◌, ◌≤◌, ◌↔◌, Bool, false, []}
+use Rattle.std.specs.Prelude.{◌≡◌, ◌≢◌, ℕ, ◌↔◌, Bool, false, List, []}
+use Rattle.sml_objects.specs.Appearance.{Stands}
 use Rattle.sml_objects.specs.Names.{Initial, int}
 use Rattle.sml_objects.specs.Initial.{initial}
 use Rattle.sml_objects.specs.Objects.{name, named}
@@ -28,8 +29,8 @@ is_several (Link j) a = false
 is_several (App h kids) a = false
 is_several (Open fs) a = false
 
--- The types permitted are those before in which each unknown from the n-th on, below the m-th, that was overloaded is `int`.
-unfoldable pub Settles : Asked → ℕ → ℕ → Asked → Type 0
-Settles old n m new =
+-- The types permitted are those before in which each of these unknowns that was overloaded is `int`.
+unfoldable pub Settles : Asked → List ℕ → Asked → Type 0
+Settles old vs new =
     (l : Layer) (σ : Assignment (world l))
-    → Permits l new σ ↔ (Permits l old σ × ((v : ℕ) → n ≤ v → v < m → IsOverloaded old v → σ v ≡ make (world l) (name (initial int)) []))
+    → Permits l new σ ↔ (Permits l old σ × ((v : ℕ) → Stands v vs → IsOverloaded old v → σ v ≡ make (world l) (name (initial int)) []))

@@ -13,7 +13,8 @@ use std::collections::BTreeMap;
 use std::rc::Rc;
 
 /// That the environment of a structure enriches a realised one of a signature, or M1, M2, or M4 to M7 at the place. The
-/// free variables of the structure's schemes are unknowns of the solver, which may be settled by that.
+/// free variables of the structure's schemes are unknowns of the solver, which may be settled by that; after a fault the solver
+/// is spent.
 pub fn enriches(
     alloc: Global,
     env: &Env,
@@ -22,7 +23,13 @@ pub fn enriches(
     place: Place,
 ) -> Result<(), CoreFault> {
     let mut way = Way::new(alloc, place);
-    env_enriches(&mut way, solver, env, specified)
+    match env_enriches(&mut way, solver, env, specified) {
+        Ok(()) => Ok(()),
+        Err(fault) => {
+            solver.spend();
+            Err(fault)
+        }
+    }
 }
 
 #[cycle(enriches)]
@@ -81,7 +88,7 @@ fn type_enriches(way: &Way, ty: &TypeStr, specified: &TypeStr) -> Result<(), Cor
         return Err(way.fault(Code::M4)?);
     }
     if !specified.constructors.is_empty()
-        && !same_constructors(way.alloc, &ty.constructors, &specified.constructors)?
+        && !same_constructors(&ty.constructors, &specified.constructors)
     {
         return Err(way.fault(Code::M5)?);
     }

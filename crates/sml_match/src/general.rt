@@ -13,9 +13,6 @@ use sml_types::variables::is_ground;
 use std::alloc::Global;
 use std::rc::Rc;
 
-/// The least number of the explicit type variables that stand for the bound ones of a specification.
-const FIRST_RIGID: u32 = 2_147_483_648;
-
 /// Whether a scheme is at least as general as one that is specified. Where it has unknowns of the solver, the
 /// comparison settles them, never by what the specification binds.
 pub(crate) fn is_general(
@@ -158,11 +155,8 @@ fn ask_rigid(alloc: Global, solver: &mut Solver, attributes: &[bool]) -> Result<
     let mut rigid = Vec::new(alloc);
     for (index, equality) in attributes.iter().enumerate() {
         let unknown = unknown(first, index)?;
-        let Some(number) = FIRST_RIGID.checked_add(unknown) else {
-            return Err(Refusal::Memory);
-        };
         let variable = Variable {
-            number,
+            number: unknown,
             equality: *equality,
         };
         ask_variable(solver, &MlType::Free(unknown), variable)?;

@@ -1,36 +1,34 @@
 -- Sealed bodies of functors can't be seen.
-use Rattle.std.specs.Prelude.{◌≡◌, List, [], ◌∷◌}
+use Rattle.std.specs.Prelude.{◌≡◌, List, [], ◌∷◌, ◌++◌}
+use Rattle.sml_lex.specs.declared.fault.Code.TheVariants.{E7}
+use Rattle.sml_tree.specs.Trees.{Id}
 use mathlib.Core.Path.{sym, ap, subst, ◌∙◌}
 use Rattle.sml_tree.specs.Names.{Name}
 use Rattle.sml_tree.specs.Structures.{functor_dec}
-use Rattle.sml_objects.specs.Maps.{Map, put}
+use Rattle.sml_objects.specs.Maps.{Map}
 use Rattle.sml_objects.specs.Objects.{app, row, no_type}
 use Rattle.sml_layers.specs.declared.layer.Layer.TheVariants.{Rigidity}
 use Rattle.sml_layers.specs.declared.variable.Variable.{Variable}
 use Rattle.sml_layers.specs.Demands.{CanBeMet}
-use Rattle.sml_rules.specs.Answers.{Answer, refused, accepted}
+use Rattle.sml_rules.specs.Answers.{Answer, refused, accepted, fault}
 use Rattle.sml_rules.proofs.Sound.{accepted_same}
 use Rattle.sml_core_rules.specs.Objects.{Env, Sig, FunSig, Basis, empty, extend}
 use Rattle.sml_core_rules.specs.Expressions.{at_first}
 use Rattle.sml_core_rules.specs.States.{Scope, State, words}
-use Rattle.sml_core_rules.specs.Scripts.{Script, give, ◌>>=◌, IsAnswer}
+use Rattle.sml_core_rules.specs.Scripts.{Script, give, test, ◌>>=◌, IsAnswer}
 use Rattle.sml_core_rules.proofs.Accepted.{given, bind-accepted, bind-joined, kept}
 use Rattle.sml_core_rules.proofs.Along.{become-list}
 use Rattle.sml_core_rules.proofs.Plain.{IsPlain, plain-bind, Fixed, agree-plain}
 use Rattle.sml_module_rules.specs.Signatures.{read_sig}
-use Rattle.sml_module_rules.specs.Structures.{read_str, read_functor, read_functors, settle, settle_functors, fun_sig, own_basis, one_structure, IsTopReading}
+use Rattle.sml_module_rules.specs.Structures.{Bodies, AreSmallBodies, read_str, read_functor, read_functors, settle_env, settle_bodies, settle_functors, fun_sigs, own_basis, one_structure, IsTopReading}
 use Rattle.sml_module_rules.specs.Programs.{Behind, Places, SealedFunctor, sealed, sealed_functor, sealed_functors}
 use Rattle.sml_module_rules.proofs.Agree.{basis-kept}
 use Rattle.sml_module_rules.proofs.Earlier.{Within, earlier}
 use Rattle.sml_module_rules.proofs.Grown.{IsWhole}
 use Rattle.sml_module_rules.proofs.PlainSignatures.{plain-sig}
 use Rattle.sml_module_rules.proofs.Programs.{HasInitials, SameReply, own-answer}
-use Rattle.sml_module_rules.proofs.Seals.{fresh, plain-fresh, sealed-read, settled-same}
-use Rattle.sml_module_rules.proofs.Settled.{EachOf, EachValue, HasNoUnknown, each-put-map}
-
--- arguments and bodies of functors
-abbrev Bodies : Type 0 → Type 0
-Bodies N = Map (Sig N × Env N)
+use Rattle.sml_module_rules.proofs.Seals.{fresh, plain-fresh, sealed-read}
+use Rattle.sml_module_rules.proofs.Settled.{EachOf, EachValue, HasNoUnknown, env-settled}
 
 abbrev IsDone : {N : Type 0} → Sig N × Env N → Type 0
 IsDone F = EachValue HasNoUnknown F.1
@@ -46,19 +44,19 @@ fresh_functor scope B b = read_sig scope B.signatures B.body b.signature >>= λ 
 
 abbrev fresh_functors : {P N : Type 0} → Scope N → Basis N → Bodies N → List (SealedFunctor P) → Script P N (Bodies N)
 fresh_functors scope B m [] = give m
-fresh_functors scope B m (b ∷ bs) = fresh_functor scope B b >>= λ F. fresh_functors scope B (put b.name.id F m) bs
+fresh_functors scope B m (b ∷ bs) = fresh_functor scope B b >>= λ F. fresh_functors scope B (m ++ (b.name.id, F) ∷ []) bs
 
 plain-functors : {P N : Type 0} (scope : Scope N) (B : Basis N) (m : Bodies N) (bs : List (SealedFunctor P)) → IsPlain (fresh_functors scope B m bs)
 unfolding IsPlain
 plain-functors scope B m [] = tt
 plain-functors {P} scope B m (b ∷ bs) =
     plain-bind _ _ (plain-bind _ _ (plain-sig scope B.signatures B.body b.signature) (λ S. plain-bind _ _ (plain-fresh P scope B (inner B b.argument S) b.result) (λ R. tt)))
-    (λ F. plain-functors scope B (put b.name.id F m) bs)
+    (λ F. plain-functors scope B (m ++ (b.name.id, F) ∷ []) bs)
 
--- functors as they are exported, over the names of a basis
-abbrev fun_sigs : {N : Type 0} → Scope N → List N → Bodies N → Map (FunSig N)
-fun_sigs scope old [] = []
-fun_sigs scope old (e ∷ es) = (e.0, fun_sig scope old e.1.0 e.1.1) ∷ fun_sigs scope old es
+each-after : {V : Type 0} (F : V → Type 0) (x : Id) (v : V) (m : Map V) → F v → EachOf F m → EachOf F (m ++ (x, v) ∷ [])
+unfolding EachOf
+each-after F x v [] h k = (h, tt)
+each-after F x v (e ∷ m) h k = (k.0, each-after F x v m h k.1)
 
 module _ {P N : Type 0} (scope : Scope N) (B : Basis N) (side : SealedFunctor P → Behind P) where
   -- sealed functors, read in a state in which at least the names of another one were made
@@ -80,27 +78,34 @@ module _ {P N : Type 0} (scope : Scope N) (B : Basis N) (side : SealedFunctor P 
       let F : Sig N × Env N = (S, s.2.0.body) in
       let three = accepted_same q.2 in
       let same : g.0.0 ≡ F = ap (λ o. o.0) three ∙ ap (λ E. (S, E)) s.4 in
-      let done : EachOf IsDone (put x g.0.0 m) = each-put-map IsDone x g.0.0 m (subst IsDone (sym same) s.5) c in
+      let done : EachOf IsDone (m ++ (x, g.0.0) ∷ []) = each-after IsDone x g.0.0 m (subst IsDone (sym same) s.5) c in
       let within : Within e.0 g.0.1 = subst (Within e.0) (sym (ap (λ o. o.1) three)) (λ n o. e.2 n (s.6 n o)) in
-      let rest = functors-read bs (put x g.0.0 m) done g.0.1 e.0 within u g.2 in
+      let rest = functors-read bs (m ++ (x, g.0.0) ∷ []) done g.0.1 e.0 within u g.2 in
       let one : IsAnswer scope (fresh_functor scope B b) v (accepted (F, e.0)) =
       bind-joined scope (read_sig scope B.signatures B.body b.signature) (λ S. fresh scope B (inner B b.argument S) b.result >>= λ R. give (S, R.body)) v (S, a.0) (accepted (F, e.0)) a.1
       (bind-joined scope (fresh scope B C b.result) (λ R. give (S, R.body)) a.0 (s.2.0, e.0) (accepted (F, e.0)) e.1 (λ i. accepted (F, e.0))) in
-      let all = subst (λ F. IsAnswer scope (fresh_functors scope B (put x F m) bs) e.0 (accepted (u.0, rest.0))) same rest.1 in
-      (rest.0, bind-joined scope (fresh_functor scope B b) (λ F. fresh_functors scope B (put x F m) bs) v (F, e.0) (accepted (u.0, rest.0)) one all, rest.2)
+      let all = subst (λ F. IsAnswer scope (fresh_functors scope B (m ++ (x, F) ∷ []) bs) e.0 (accepted (u.0, rest.0))) same rest.1 in
+      (rest.0, bind-joined scope (fresh_functor scope B b) (λ F. fresh_functors scope B (m ++ (x, F) ∷ []) bs) v (F, e.0) (accepted (u.0, rest.0)) one all, rest.2)
 
 module _ {P N : Type 0} (scope : Scope N) (B : Basis N) (p : P) where
   -- functors whose bodies hold no unknown are exported as they are
+  bodies-settled : (m : Bodies N) → EachOf IsDone m → (s : State P N) → CanBeMet (words scope) Rigidity s.demands → (r : Bodies N × State P N)
+      → IsAnswer scope (settle_bodies scope B p m) s (accepted r) → r.0 ≡ m
+  unfolding EachOf
+  bodies-settled [] c s m r h = given scope [] s r h
+  bodies-settled (e ∷ es) c s m r h =
+      let a = bind-accepted scope (settle_env scope B p e.1.1) _ s r h in
+      let b = bind-accepted scope (settle_bodies scope B p es) _ a.0.1 r a.2 in
+      let one = env-settled scope B p e.1.1 c.0 s m a.0 a.1 in
+      let rest = bodies-settled es c.1 a.0.1 ((kept scope (settle_env scope B p e.1.1) s a.0 a.1).met m) b.0 b.1 in
+      given scope _ b.0.1 r b.2 ∙ λ i. (e.0, (e.1.0, one i)) ∷ rest i
+
   functors-settled : (m : Bodies N) → EachOf IsDone m → (s : State P N) → CanBeMet (words scope) Rigidity s.demands → (r : Map (FunSig N) × State P N)
       → IsAnswer scope (settle_functors scope B p m) s (accepted r) → r.0 ≡ fun_sigs scope B.names m
-  unfolding EachOf
-  functors-settled [] c s m r h = given scope [] s r h
-  functors-settled (e ∷ es) c s m r h =
-      let a = bind-accepted scope (settle scope B p e.1.1) _ s r h in
-      let b = bind-accepted scope (settle_functors scope B p es) _ a.0.1 r a.2 in
-      let one = settled-same scope B p e.1.1 s a.0 a.1 c.0 m in
-      let rest = functors-settled es c.1 a.0.1 ((kept scope (settle scope B p e.1.1) s a.0 a.1).met m) b.0 b.1 in
-      given scope _ b.0.1 r b.2 ∙ λ i. (e.0, fun_sig scope B.names e.1.0 (one i)) ∷ rest i
+  functors-settled m c s d r h =
+      let a = bind-accepted scope (settle_bodies scope B p m) _ s r h in
+      let b = bind-accepted scope (test (AreSmallBodies scope B a.0.0) (fault E7 p)) _ a.0.1 r a.2 in
+      given scope _ b.0.1 r b.2 ∙ ap (fun_sigs scope B.names) (bodies-settled m c s d a.0 a.1)
 
 module _ {P N : Type 0} (scope : Scope N) (B : Basis N) (bs : List (SealedFunctor P)) where
   -- what an accepted answer holds

@@ -4,7 +4,7 @@ use mathlib.Core.Path.{sym, ap, ◌∙◌}
 use mathlib.Core.Logic.{inl, inr}
 use Rattle.sml_lex.specs.Faults.{Fault}
 use Rattle.sml_tree.specs.Trees.{Id}
-use Rattle.sml_objects.specs.Maps.{Map, order_of, put}
+use Rattle.sml_objects.specs.Maps.{Map, order_of}
 use Rattle.sml_objects.specs.Objects.{MlType}
 use Rattle.sml_layers.specs.declared.layer.Layer.TheVariants.{Rigidity}
 use Rattle.sml_layers.specs.Demands.{CanBeMet}
@@ -61,11 +61,6 @@ module _ {T V : Type 0} (F : V → Type 0) (x : Id) (G : Maps T V) (h : EachValu
   pub each-added : (E : Maps T V) → EachValue F E → EachValue F (extend E (maps (and_structure x G no_structure) [] []))
   unfolding EachValue
   each-added (maps ss ts vs) k = (each-put ss k.0, k.1)
-
-pub each-put-map : {V : Type 0} (F : V → Type 0) (x : Id) (v : V) (m : Map V) → F v → EachOf F m → EachOf F (put x v m)
-unfolding EachOf
-each-put-map F x v [] h k = (h, tt)
-each-put-map F x v (e ∷ m) h k = ordered (EachOf F) (order_of x e.0) (h, k) (h, k.1) (k.0, each-put-map F x v m h k.1)
 
 abbrev pub HasNoUnknown : {N : Type 0} → Value N → Type 0
 HasNoUnknown v = IsClosed v.scheme.body

@@ -1,20 +1,20 @@
 -- Names that a signature binds, their constructors, and what becomes of them where they are shared (the Definition, section 5.7,
 -- rule 78, and appendix A).
-use Rattle.std.specs.Prelude.{◌≡◌, ◌⊎◌, Bool, true, false, ◌||◌, cond, List, [], ◌∷◌, ◌++◌, length, Option, Some, None}
-use Rattle.sml_tree.specs.Trees.{LongId}
+use Rattle.std.specs.Prelude.{◌≡◌, ◌⊎◌, Bool, true, false, ◌||◌, cond, List, [], ◌∷◌, ◌++◌, map, length, Option, Some, None}
+use Rattle.sml_tree.specs.Trees.{Id, LongId}
 use Rattle.sml_objects.specs.Appearance.{stands}
 use Rattle.sml_objects.specs.Maps.{Map, put}
 use Rattle.sml_objects.specs.Names.{Naming, Attributes}
 use Rattle.sml_objects.specs.Objects.{Scheme}
 use Rattle.sml_rules.specs.Answers.{dotted}
 use Rattle.sml_rules.specs.Lookups.{Found, found, no_path, no_entry}
-use Rattle.sml_rules.specs.Matching.{Realisation, realise_scheme}
-use Rattle.sml_core_rules.specs.Objects.{Env, Value, TyStr, Sig, replaced}
+use Rattle.sml_rules.specs.Matching.{Realisation}
+use Rattle.sml_core_rules.specs.Objects.{Env, Value, TyStr, Sig}
 use Rattle.sml_core_rules.specs.Lookups.{type_at}
 use Rattle.sml_core_rules.specs.Datatypes.{has_equality, name_function}
 use Rattle.sml_core_rules.specs.States.{Scope}
 use Rattle.sml_module_rules.specs.Lines.{Line, a_structure, a_type, a_value, lines, path_of}
-use Rattle.sml_module_rules.specs.Realising.{renumbered, name_of, is_same_name, no_function, with_function}
+use Rattle.sml_module_rules.specs.Realising.{name_of, is_same_name, no_function, with_function}
 
 abbrev pub first_of : {X : Type 0} → Bool → Map X → Map X → Map X
 first_of false cs ds = ds
@@ -32,13 +32,9 @@ constructors_in names n ((x, a_structure) ∷ ls) = constructors_in names n ls
 constructors_in names n ((x, a_value v) ∷ ls) = constructors_in names n ls
 constructors_in names n ((x, a_type t) ∷ ls) = first_of (is_of names n (name_of t.function)) t.constructors (constructors_in names n ls)
 
-abbrev pub realised_constructors : {N : Type 0} → Realisation N → Map (Scheme N) → Map (Scheme N)
-realised_constructors φ cs = replaced (λ σ. renumbered (realise_scheme φ σ)) cs
-
--- the first list that isn't empty
-abbrev pub or_else : {X : Type 0} → List X → List X → List X
-or_else [] ys = ys
-or_else (x ∷ xs) ys = x ∷ xs
+-- the identifiers of a map
+abbrev pub identifiers : {X : Type 0} → Map X → List Id
+identifiers m = map (λ e. e.0) m
 
 -- a path in a structure at a path
 abbrev pub inside : LongId → LongId → LongId
@@ -81,7 +77,7 @@ module _ {N : Type 0} (scope : Scope N) where
     maker = scope.unit;
     arity = (scope.names.attributes n).arity;
     equality = has_equality scope.names n || has_equality scope.names m;
-    constructors = or_else (scope.names.attributes n).constructors (scope.names.attributes m).constructors;
+    constructors = [];
   }
 
   -- one name for two
@@ -94,10 +90,11 @@ module _ {N : Type 0} (scope : Scope N) where
   without n m [] = []
   without n m (k ∷ ks) = cond (is_same_name scope.names k n || is_same_name scope.names k m) (without n m ks) (k ∷ without n m ks)
 
-  abbrev pub HaveSameConstructors : Realisation N → N → N → Sig N → Type 0
-  HaveSameConstructors φ n m S =
-      let cs : Map (Scheme N) = constructors_in scope.names n (lines [] S.body) in
-      let ds : Map (Scheme N) = constructors_in scope.names m (lines [] S.body) in (cs ≡ []) ⊎ (ds ≡ []) ⊎ (realised_constructors φ cs ≡ realised_constructors φ ds)
+  -- two names, both of which have constructors, have those of the same identifiers
+  abbrev pub HaveSameConstructors : N → N → Sig N → Type 0
+  HaveSameConstructors n m S =
+      let cs : List Id = identifiers (constructors_in scope.names n (lines [] S.body)) in
+      let ds : List Id = identifiers (constructors_in scope.names m (lines [] S.body)) in (cs ≡ []) ⊎ (ds ≡ []) ⊎ (cs ≡ ds)
 
   abbrev pub name_at : Sig N → LongId → Option N
   name_at S x = elim (function_at S x) [ None ↦ None | Some θ ↦ bound_name S.names θ ]

@@ -1,6 +1,6 @@
 -- Structures against signatures (the Definition, sections 5.4 to 5.6). What is asked stands at the place of the signature, or of
 -- the functor.
-use Rattle.std.specs.Prelude.{◌≡◌, ◌⊎◌, ℕ, suc, Bool, true, false, ◌&&◌, ◌||◌, not, nat_eq, is_none, cond, List, [], ◌∷◌, map, length, Some, None}
+use Rattle.std.specs.Prelude.{◌≡◌, ◌⊎◌, ℕ, suc, Bool, true, false, ◌&&◌, ◌||◌, not, nat_eq, is_none, cond, List, [], ◌∷◌, map, length, slice_index_or, Some, None}
 use Rattle.std.specs.List.{AllByRecursion}
 use Rattle.sml_lex.specs.declared.fault.Code.TheVariants.{E7, M2, M3, M4, M5, M6, M7}
 use Rattle.sml_lex.specs.Faults.{Fault}
@@ -9,16 +9,18 @@ use Rattle.sml_tree.specs.declared.structures.Ascription.{Ascription}
 use Rattle.sml_tree.specs.declared.structures.Ascription.TheVariants.{Transparent, Opaque}
 use Rattle.sml_objects.specs.Appearance.{stands}
 use Rattle.sml_objects.specs.Names.{Naming}
-use Rattle.sml_objects.specs.Objects.{Scheme, free}
-use Rattle.sml_objects.specs.Types.{instance_from}
+use Rattle.sml_objects.specs.Equality.{is_ref}
+use Rattle.sml_objects.specs.Objects.{MlType, Scheme, free}
+use Rattle.sml_objects.specs.Types.{replace_type, instance_from}
 use Rattle.sml_layers.specs.Demands as D
 use Rattle.sml_rules.specs.Answers.{Answer, fault, fault_at}
 use Rattle.sml_rules.specs.Matching.{Realisation}
 use Rattle.sml_core_rules.specs.Answers as A
 use Rattle.sml_core_rules.specs.Objects.{Env, Value, TyStr, Sig, FunSig, Status, variable, constructor, exception, overloaded}
 use Rattle.sml_core_rules.specs.Lookups.{type_at, value_at, structure_at}
-use Rattle.sml_core_rules.specs.Datatypes.{has_equality}
+use Rattle.sml_core_rules.specs.Datatypes.{admits_by, has_equality}
 use Rattle.sml_core_rules.specs.States.{Scope}
+use Rattle.sml_core_rules.specs.Values.{has_unknown}
 use Rattle.sml_core_rules.specs.Solutions.{IsFixed}
 use Rattle.sml_core_rules.specs.Scripts.{Script, give, requires_or, ◌>>=◌, look, test, so_far, new_unknowns, new_names}
 use Rattle.sml_module_rules.specs.Lines.{Line, a_structure, a_type, a_value, lines, path_of, component, IsSmallEnv}
@@ -80,6 +82,14 @@ module _ {P N : Type 0} (scope : Scope N) where
     u ← require_or (D.asks (D.variable (record { number = k; equality = e })) (free k)) f
     stand_alone f (suc k) es
 
+  -- Schemes without unknowns: types for the variables of the first make it the second, whose variables admit equality as they say.
+  abbrev pub AdmitSo : List Bool → List Bool → ℕ → (ℕ → MlType N) → Type 0
+  AdmitSo es [] k f = Unit {0}
+  AdmitSo es (e ∷ ds) k f = (e ≡ true → admits_by (is_ref scope.names) (λ v. slice_index_or es v false) (has_equality scope.names) (f k) ≡ true) × AdmitSo es ds (suc k) f
+
+  abbrev pub IsGeneral : Scheme N → Scheme N → Type 0
+  IsGeneral σ τ = (f : ℕ → MlType N) × AdmitSo τ.variables σ.variables 0 f × (replace_type f free σ.body ≡ instance_from 0 τ.body)
+
   -- The first scheme is at least as general as the second (section 4.5). Unknowns in it may be settled by that, but never by a
   -- variable of the second.
   abbrev pub require_general : Fault P → Scheme N → Scheme N → Script P N (Unit {0})
@@ -107,13 +117,15 @@ module _ {P N : Type 0} (scope : Scope N) where
   require_lines p E ((x, a_value v) ∷ ls) = do
     u ← look (component p x (value_at E x))
     a ← test (serves u.status v.status ≡ true) (fault_at M7 p (path_of x))
-    b ← require_general (fault_at M6 p (path_of x)) u.scheme v.scheme
+    b ← cond (has_unknown u.scheme.body || has_unknown v.scheme.body) (require_general (fault_at M6 p (path_of x)) u.scheme v.scheme)
+      (test (IsGeneral u.scheme v.scheme) (fault_at M6 p (path_of x)))
     require_lines p E ls
 
-  -- the realisation of a signature that the structure matches
+  -- the realisation of a signature that the structure matches; what is realised has no scheme and no type function over the limit
   abbrev pub match_signature : P → Env N → Sig N → Script P N (Realisation N)
   match_signature p E S = do
     φ ← look (read_realisation scope.names p S.names E (no_function scope.names) (lines [] S.body))
+    s ← test (IsSmallEnv (realise_env φ S.body)) (fault E7 p)
     a ← require_lines p E (lines [] (realise_env φ S.body))
     give φ
 
@@ -131,7 +143,6 @@ module _ {P N : Type 0} (scope : Scope N) where
   abbrev pub ascribe : P → Env N → Ascription → Sig N → Script P N (Env N)
   ascribe p E Transparent S = do
     φ ← match_signature p E S
-    a ← test (IsSmallEnv (realise_env φ S.body)) (fault E7 p)
     give (realise_env φ S.body)
   ascribe p E Opaque S = do
     φ ← match_signature p E S

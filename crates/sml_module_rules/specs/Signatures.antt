@@ -23,7 +23,7 @@ use Rattle.sml_core_rules.specs.States.{Scope}
 use Rattle.sml_core_rules.specs.Scripts.{Script, give, refuse, makes_datatypes, ◌>>=◌, look, need, test, new_names}
 use Rattle.sml_module_rules.specs.Lines.{lines, IsSmallEnv}
 use Rattle.sml_module_rules.specs.Realising.{realise_env, is_same_name, admits_function, no_function, with_function}
-use Rattle.sml_module_rules.specs.Bound.{constructors_in, realised_constructors, inside, bound_name, function_at, name_at, joined_attributes, for_both, without, HaveSameConstructors, AreEqualFunctions, common_paths}
+use Rattle.sml_module_rules.specs.Bound.{constructors_in, identifiers, inside, bound_name, function_at, name_at, joined_attributes, for_both, without, HaveSameConstructors, AreEqualFunctions, common_paths}
 use Rattle.sml_module_rules.specs.Matching.{renewed_signature}
 use Rattle.sml_rules.specs.Matching.{Realisation}
 
@@ -80,9 +80,10 @@ applied_constructor xs (ty_misapplied p ts c) = None
 applied_constructor xs (ty_arrow p t u) = None
 applied_constructor xs (ty_bracket p t) = applied_constructor xs t
 
-abbrev pub HasConstructors : {P N : Type 0} → Env N → Map (Scheme N) → Option (LongName P) → Type 0
+-- the type constructor has constructors of these identifiers
+abbrev pub HasConstructors : {P N : Type 0} → Env N → List Id → Option (LongName P) → Type 0
 HasConstructors C cs None = ⊥
-HasConstructors {N = N} C cs (Some c) = (t : TyStr N) × (type_at C c.id ≡ found t) × (t.constructors ≡ cs)
+HasConstructors {N = N} C cs (Some c) = (t : TyStr N) × (type_at C c.id ≡ found t) × (identifiers t.constructors ≡ cs)
 
 module _ {P N : Type 0} where
   -- values, whose schemes bind all variables of their types
@@ -104,14 +105,14 @@ module _ {P N : Type 0} where
 
     -- sharing
 
-    -- Two bound names become one, which admits equality if one of them does, and has the constructors of the first that has some
-    -- (rule 78).
+    -- Two bound names become one, which admits equality if one of them does (rule 78). Where both have constructors, these have the
+    -- same identifiers.
     abbrev pub join : P → Sig N → N → N → Script P N (Sig N)
     join p S n m = cond (is_same_name scope.names n m) (give S) (do
       a ← test ((scope.names.attributes n).arity ≡ (scope.names.attributes m).arity) (fault N6 p)
       ks ← new_names (joined_attributes scope n m ∷ [])
-      b ← test (HaveSameConstructors scope (for_both scope n m ks) n m S) (fault N7 p)
-      give (record { names = ks ++ without scope n m S.names; body = realise_env (for_both scope n m ks) S.body }))
+      b ← test (HaveSameConstructors scope n m S) (fault N7 p)
+      give (record { names = without scope n m S.names ++ ks; body = realise_env (for_both scope n m ks) S.body }))
 
     -- two type constructors are shared; equal type functions are passed over, and others have to be bound names
 
@@ -180,14 +181,14 @@ module _ {P N : Type 0} where
       share_pairs S xs
 
     -- the name has no constructors, or those of the type constructor that it is to be
-    abbrev pub KeepsConstructors : Env N → Realisation N → N → Sig N → Option (LongName P) → Type 0
-    KeepsConstructors C φ n S c =
-        let cs : Map (Scheme N) = constructors_in scope.names n (lines [] S.body) in (cs ≡ []) ⊎ HasConstructors C (realised_constructors φ cs) c
+    abbrev pub KeepsConstructors : Env N → N → Sig N → Option (LongName P) → Type 0
+    KeepsConstructors C n S c =
+        let cs : List Id = identifiers (constructors_in scope.names n (lines [] S.body)) in (cs ≡ []) ⊎ HasConstructors C cs c
 
     -- the signature where a bound name is a type function
     abbrev pub realise_name : Env N → Sig N → WhereType P → N → Realisation N → Script P N (Sig N)
     realise_name C S w n φ = do
-      a ← test (KeepsConstructors C φ n S (applied_constructor w.variables w.ty)) (fault N5 w.constructor.place)
+      a ← test (KeepsConstructors C n S (applied_constructor w.variables w.ty)) (fault N5 w.constructor.place)
       b ← test (IsSmallEnv (realise_env φ S.body)) (fault E7 w.constructor.place)
       give (record { names = without scope n n S.names; body = realise_env φ S.body })
 
@@ -212,9 +213,10 @@ module _ {P N : Type 0} where
     described m (d ∷ ds) [] = m
     described m (d ∷ ds) (n ∷ ns) = described (put d.name.id (record { function = name_function n (length d.variables); constructors = [] }) m) ds ns
 
-    abbrev pub read_types : Bool → List (TypDesc P) → Script P N (Sig N)
-    read_types e ds = do
+    abbrev pub read_types : P → Bool → List (TypDesc P) → Script P N (Sig N)
+    read_types p e ds = do
       ns ← new_names (attributes_of e ds)
+      a ← test (IsSmallEnv (of_types (described [] ds ns))) (fault E7 p)
       give (record { names = ns; body = of_types (described [] ds ns) })
 
     -- datatypes (rule 71)
@@ -227,7 +229,7 @@ module _ {P N : Type 0} where
     abbrev pub add : P → Sig N → Sig N → Script P N (Sig N)
     add p S R = do
       a ← test (specifies_again S.body R.body ≡ false) (fault N2 p)
-      give (record { names = R.names ++ S.names; body = extend S.body R.body })
+      give (record { names = S.names ++ R.names; body = extend S.body R.body })
 
     -- the signature of an identifier, with new names (rule 63)
     abbrev pub named : P → Id → Option (Sig N) → Script P N (Sig N)
@@ -258,10 +260,10 @@ module _ {P N : Type 0} where
           a ← test (AreSmall (λ v. v.scheme) m) (fault E7 p)
           add p S (no_names (of_values m))
         read_spec C S (type_spec p ds) = do
-          R ← read_types false ds
+          R ← read_types p false ds
           add p S R
         read_spec C S (eqtype_spec p ds) = do
-          R ← read_types true ds
+          R ← read_types p true ds
           add p S R
         read_spec C S (datatype_spec p ds) = do
           R ← read_datatypes p (extend C S.body) ds
@@ -287,4 +289,4 @@ module _ {P N : Type 0} where
         read_descs C S no_str_desc = give S
         read_descs C S (and_str_desc (str_desc x e) ds) = do
           R ← read_sig C e
-          read_descs C (record { names = R.names ++ S.names; body = maps (put_structure x.id R.body (structures S.body)) [] [] }) ds
+          read_descs C (record { names = S.names ++ R.names; body = maps (put_structure x.id R.body (structures S.body)) [] [] }) ds

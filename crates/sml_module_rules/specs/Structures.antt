@@ -26,6 +26,10 @@ signature_place (where_type p e w) = p
 abbrev pub one_structure : {N : Type 0} → Id → Env N → Env N
 one_structure x E = maps (and_structure x E no_structure) [] []
 
+-- functors in text order, each with its argument and what its body is
+abbrev pub Bodies : Type 0 → Type 0
+Bodies N = List (Id × (Sig N × Env N))
+
 module _ {N : Type 0} (scope : Scope N) where
   -- those of the names that are none of the others
   abbrev pub besides : List N → List N → List N
@@ -45,6 +49,11 @@ module _ {N : Type 0} (scope : Scope N) where
   -- names of the basis (rule 86)
   abbrev pub fun_sig : List N → Sig N → Env N → FunSig N
   fun_sig old S E = record { argument = S; result = record { names = besides (S.names ++ old) (names_env E); body = E } }
+
+  -- functors as they are exported, over the names of a basis
+  abbrev pub fun_sigs : List N → Bodies N → Map (FunSig N)
+  fun_sigs old [] = []
+  fun_sigs old (e ∷ es) = put e.0 (fun_sig old e.1.0 e.1.1) (fun_sigs old es)
 
   -- how many of the names the unit has made
   abbrev pub count_made : List N → ℕ
@@ -124,6 +133,18 @@ module _ {P N : Type 0} (scope : Scope N) where
       a ← test (IsSmallEnv F) (fault E7 p)
       give F
 
+    -- Those of a list of functors, each by itself: first all types are what they turned out to be, and then none is too large.
+    abbrev pub settle_bodies : P → Bodies N → Script P N (Bodies N)
+    settle_bodies p [] = give []
+    settle_bodies p (e ∷ es) = do
+      E ← settle_env p e.1.1
+      rest ← settle_bodies p es
+      give ((e.0, (e.1.0, E)) ∷ rest)
+
+    abbrev pub AreSmallBodies : Bodies N → Type 0
+    AreSmallBodies [] = Unit {0}
+    AreSmallBodies (e ∷ es) = IsSmallEnv e.1.1 × AreSmallBodies es
+
     -- signatures and functors, which see none of each other
 
     unfoldable pub read_signatures : Map (Sig N) → List (SigBind P) → Script P N (Map (Sig N))
@@ -139,18 +160,17 @@ module _ {P N : Type 0} (scope : Scope N) where
       E ← read_str (extend B.body (one_structure b.argument.id S.body)) b.body
       give (S, E)
 
-    unfoldable pub read_functors : Map (Sig N × Env N) → List (FunBind P) → Script P N (Map (Sig N × Env N))
+    unfoldable pub read_functors : Bodies N → List (FunBind P) → Script P N (Bodies N)
     read_functors m [] = give m
     read_functors m (b ∷ bs) = do
       F ← read_functor b
-      read_functors (put b.name.id F m) bs
+      read_functors (m ++ (b.name.id, F) ∷ []) bs
 
-    abbrev pub settle_functors : P → Map (Sig N × Env N) → Script P N (Map (FunSig N))
-    settle_functors p [] = give []
-    settle_functors p (e ∷ es) = do
-      E ← settle p e.1.1
-      fs ← settle_functors p es
-      give ((e.0, fun_sig scope B.names e.1.0 E) ∷ fs)
+    abbrev pub settle_functors : P → Bodies N → Script P N (Map (FunSig N))
+    settle_functors p m = do
+      n ← settle_bodies p m
+      a ← test (AreSmallBodies n) (fault E7 p)
+      give (fun_sigs scope B.names n)
 
     -- its names are at most 1,048,576 with those that its unit had before
     abbrev pub own : P → Map (FunSig N) → Map (Sig N) → Env N → Script P N (Basis N)

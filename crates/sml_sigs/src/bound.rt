@@ -23,7 +23,7 @@ pub(crate) fn bound_name(names: &IndexSet<TyName>, function: &Scheme) -> Option<
     }
 }
 
-/// The constructors that an environment gives to bound names.
+/// The constructors that an environment gives to bound names, each by the first entry that has some.
 pub(crate) fn table_of(
     alloc: Global,
     names: &IndexSet<TyName>,
@@ -40,7 +40,9 @@ fn collect(names: &IndexSet<TyName>, env: &Env, table: &mut Table) -> Result<(),
     for (_, ty) in &env.types {
         if !ty.constructors.is_empty() {
             if let Some(name) = bound_name(names, &ty.function) {
-                table.insert(name, ty.constructors.clone()?)?;
+                if !table.contains_key(&name) {
+                    table.insert(name, ty.constructors.clone()?)?;
+                }
             }
         }
     }

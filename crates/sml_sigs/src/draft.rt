@@ -6,6 +6,7 @@ use indexmap::{IndexMap, IndexSet};
 use sml_bases::environments::Entry;
 use sml_bases::objects::{Env, Sig, TypeStr, Value};
 use sml_envs::mapping::mapped_env;
+use sml_envs::new_names::NewNames;
 use sml_lex::fault::{Code, Memory, Place};
 use sml_objects::objects::{Scheme, TyName};
 use sml_tree::bare::{Ident, LongIdent};
@@ -58,21 +59,29 @@ impl Draft {
     }
 
     /// Shares type constructors.
-    pub(crate) fn share_types(&mut self, longs: &[LongIdent]) -> Result<(), CoreFault> {
+    pub(crate) fn share_types(
+        &mut self,
+        new: &mut NewNames,
+        longs: &[LongIdent],
+    ) -> Result<(), CoreFault> {
         self.begin_joins()?;
         let Some(joins) = &mut self.joins else {
             return Ok(());
         };
         let names = shared_names(self.alloc, &self.env, joins, longs)?;
-        join_all(joins, &names)
+        join_all(joins, new, &names)
     }
 
     /// Shares structures.
-    pub(crate) fn share_structures(&mut self, longs: &[LongIdent]) -> Result<(), CoreFault> {
+    pub(crate) fn share_structures(
+        &mut self,
+        new: &mut NewNames,
+        longs: &[LongIdent],
+    ) -> Result<(), CoreFault> {
         self.begin_joins()?;
         let pairs = self.common_types(longs)?;
         match &mut self.joins {
-            Some(joins) => share_all(joins, longs, &pairs),
+            Some(joins) => share_all(joins, new, longs, &pairs),
             None => Ok(()),
         }
     }
@@ -146,22 +155,31 @@ fn shared_names(
 }
 
 /// Joins each name to the first one, or N6 or N7.
-fn join_all(joins: &mut Joins, names: &[(TyName, Place)]) -> Result<(), CoreFault> {
+fn join_all(
+    joins: &mut Joins,
+    new: &mut NewNames,
+    names: &[(TyName, Place)],
+) -> Result<(), CoreFault> {
     let mut first: Option<TyName> = None;
     for (name, place) in names {
         match first {
             None => first = Some(*name),
-            Some(first) => joins.join(first, *name, *place)?,
+            Some(first) => joins.join(new, first, *name, *place)?,
         }
     }
     Ok(())
 }
 
 /// Shares what structures have in common.
-fn share_all(joins: &mut Joins, longs: &[LongIdent], pairs: &Pairs) -> Result<(), CoreFault> {
+fn share_all(
+    joins: &mut Joins,
+    new: &mut NewNames,
+    longs: &[LongIdent],
+    pairs: &Pairs,
+) -> Result<(), CoreFault> {
     for (((_, later), _), pair) in pairs {
         if let Some(long) = longs.get(*later) {
-            joins.share(&pair.earlier, &pair.later, long.place)?;
+            joins.share(new, &pair.earlier, &pair.later, long.place)?;
         }
     }
     Ok(())

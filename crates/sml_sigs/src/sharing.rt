@@ -3,8 +3,9 @@
 use crate::bound::{Table, bound_name, table_of};
 use indexmap::{IndexMap, IndexSet};
 use sml_bases::objects::{Env, TypeStr};
-use sml_envs::comparisons::{same_constructors, same_function};
-use sml_envs::mapping::{Image, Mapping, mapped_constructors, mapped_scheme};
+use sml_envs::comparisons::{same_function, same_identifiers};
+use sml_envs::mapping::{Image, Mapping, mapped_function};
+use sml_envs::new_names::NewNames;
 use sml_lex::fault::{Code, Memory, Place};
 use sml_objects::equality::has_equality;
 use sml_objects::objects::{MlType, Scheme, TyName};
@@ -81,9 +82,10 @@ impl Joins {
         }
     }
 
-    /// Joins a name, whose place it is, to an earlier one, or N6 or N7.
+    /// Joins a name, whose place it is, to an earlier one: a new name stands for both. N6 or N7.
     pub(crate) fn join(
         &mut self,
+        new: &mut NewNames,
         earlier: TyName,
         later: TyName,
         place: Place,
@@ -96,42 +98,41 @@ impl Joins {
         if arity_of(one) != arity_of(other) {
             return Err(plain_fault(Code::N6, place));
         }
-        if has_equality(one) || !has_equality(other) {
-            self.others.insert(other, one)?;
-        } else {
-            self.others.insert(one, other)?;
-        }
-        self.join_constructors(one, other, place)
+        let joined = new.make(arity_of(one), has_equality(one) || has_equality(other))?;
+        self.join_constructors(one, other, joined, place)?;
+        self.others.insert(one, joined)?;
+        self.others.insert(other, joined)?;
+        self.bound.insert(joined)?;
+        Ok(())
     }
 
-    /// Gives the constructors of two joined names to the one that stands for both.
+    /// Gives the constructors of two names to the one that stands for both.
     fn join_constructors(
         &mut self,
         one: TyName,
         other: TyName,
+        joined: TyName,
         place: Place,
     ) -> Result<(), CoreFault> {
-        let joined = match (self.constructors.get(&one), self.constructors.get(&other)) {
+        let constructors = match (self.constructors.get(&one), self.constructors.get(&other)) {
             (None, None) => return Ok(()),
             (Some(ones), None) => ones.clone()?,
             (None, Some(others)) => others.clone()?,
             (Some(ones), Some(others)) => {
-                let ones = mapped_constructors(self.alloc, ones, self)?;
-                let others = mapped_constructors(self.alloc, others, self)?;
-                if !same_constructors(self.alloc, &ones, &others)? {
+                if !same_identifiers(ones, others) {
                     return Err(plain_fault(Code::N7, place));
                 }
-                ones
+                ones.clone()?
             }
         };
-        let last = self.last(one);
-        self.constructors.insert(last, joined)?;
+        self.constructors.insert(joined, constructors)?;
         Ok(())
     }
 
     /// Shares two type constructors of structures, unless they are equal already.
     pub(crate) fn share(
         &mut self,
+        new: &mut NewNames,
         earlier: &Rc<Scheme>,
         later: &Rc<Scheme>,
         place: Place,
@@ -139,10 +140,10 @@ impl Joins {
         let one = bound_name(&self.bound, earlier);
         let other = bound_name(&self.bound, later);
         match (one, other) {
-            (Some(one), Some(other)) => self.join(one, other, place),
+            (Some(one), Some(other)) => self.join(new, one, other, place),
             _ => {
-                let earlier = mapped_scheme(self.alloc, earlier, self)?;
-                let later = mapped_scheme(self.alloc, later, self)?;
+                let earlier = mapped_function(self.alloc, earlier, self)?;
+                let later = mapped_function(self.alloc, later, self)?;
                 if same_function(&earlier, &later) {
                     Ok(())
                 } else {

@@ -92,8 +92,8 @@ fn read_spec<S: Scope>(
     draft: &mut Draft,
 ) -> Result<(), CoreFault> {
     match spec {
-        Spec::SharingType(_, longs) => draft.share_types(longs),
-        Spec::Sharing(_, longs) => draft.share_structures(longs),
+        Spec::SharingType(_, longs) => draft.share_types(reader.new, longs),
+        Spec::Sharing(_, longs) => draft.share_structures(reader.new, longs),
         Spec::Value(place, _)
         | Spec::Type(place, _)
         | Spec::Eqtype(place, _)

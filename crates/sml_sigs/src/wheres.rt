@@ -4,9 +4,9 @@ use crate::bound::{bound_name, table_of};
 use crate::layers::Inside;
 use indexmap::IndexSet;
 use sml_bases::objects::{Constructors, Sig};
-use sml_envs::comparisons::same_constructors;
+use sml_envs::comparisons::same_identifiers;
 use sml_envs::functions::admits_equality;
-use sml_envs::mapping::{mapped_constructors, mapped_env};
+use sml_envs::mapping::mapped_env;
 use sml_envs::realisation::Realisation;
 use sml_lex::fault::{Code, Memory, Place};
 use sml_objects::equality::has_equality;
@@ -135,7 +135,7 @@ fn function_for(
     Ok(function)
 }
 
-/// That the constructors of the realised name, if it has some, are those of what is written, or N5.
+/// That what is written has constructors of the same identifiers as the realised name, if that has some, or N5.
 fn require_constructors<S: Scope>(
     alloc: Global,
     scope: &S,
@@ -144,33 +144,19 @@ fn require_constructors<S: Scope>(
     written: &WhereType,
     realised: &Realised,
 ) -> Result<(), CoreFault> {
-    let Some(constructors) = constructors_of(alloc, bound, sig, realised)? else {
+    let table = table_of(alloc, bound, &sig.env)?;
+    let Some(constructors) = table.get(&realised.name) else {
         return Ok(());
     };
-    if has_constructors(alloc, scope, written, &constructors)? {
+    if has_constructors(alloc, scope, written, constructors)? {
         Ok(())
     } else {
         Err(plain_fault(Code::N5, written.constructor.place))
     }
 }
 
-/// The constructors of the realised name, if it has some, where it is its type function.
-fn constructors_of(
-    alloc: Global,
-    bound: &IndexSet<TyName>,
-    sig: &Sig,
-    realised: &Realised,
-) -> Result<Option<Rc<Constructors>>, Memory> {
-    let table = table_of(alloc, bound, &sig.env)?;
-    match table.get(&realised.name) {
-        Some(constructors) => {
-            Ok(Some(mapped_constructors(alloc, constructors, &realised.realisation)?))
-        }
-        None => Ok(None),
-    }
-}
-
-/// Whether the type that is written is a type constructor applied to the parameters in order that has these constructors.
+/// Whether the type that is written is a type constructor, applied to the parameters in order, that has constructors of the same
+/// identifiers.
 fn has_constructors<S: Scope>(
     alloc: Global,
     scope: &S,
@@ -181,7 +167,7 @@ fn has_constructors<S: Scope>(
         None => Ok(false),
         Some(long) => {
             let found = type_at(alloc, scope, long)?;
-            Ok(same_constructors(alloc, &found.constructors, constructors)?)
+            Ok(same_identifiers(&found.constructors, constructors))
         }
     }
 }

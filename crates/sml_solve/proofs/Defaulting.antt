@@ -1,6 +1,7 @@
 -- Overloaded unknowns that become `int`.
-use Rattle.std.proofs.Common.{◌≡◌, ◌≢◌, ℕ, zero, suc, ◌+◌, ◌<◌, ◌≤◌, ◌⊎◌, inl, inr, Bool, true, false, Option, Some, None, List, [], ◌∷◌, length, map, get_or, sym, ◌∙◌, ap, subst, refl, arith}
-use Rattle.std.proofs.lemmas.Bool.{cases_lt}
+use Rattle.std.proofs.Common.{◌≡◌, ◌≢◌, ℕ, zero, suc, ◌+◌, ◌<◌, ◌≤◌, ◌⊎◌, inl, inr, Bool, true, false, Option, Some, None, List, [], ◌∷◌, ◌++◌, length, map, get_or, sym, ◌∙◌, ap, subst, refl, arith}
+use Rattle.sml_objects.specs.Appearance.{Stands}
+use Rattle.sml_objects.proofs.Standing.{left, right, either}
 use Rattle.sml_objects.specs.Names as N
 use Rattle.sml_objects.specs.Initial.{Name, initial}
 use Rattle.sml_objects.specs.Objects as O
@@ -58,30 +59,45 @@ is-int l u σ v h = sym (typed-free (world l) σ v) ∙ (h ∙ typed-int (world 
 int-is : (l : Layer) (u : ℕ) (σ : Assignment (world l)) (v : ℕ) → σ v ≡ make (world l) (O.name (initial N.int)) [] → Holds l u σ (to_int v)
 int-is l u σ v e = typed-free (world l) σ v ∙ (e ∙ sym (typed-int (world l) σ))
 
-pub settled-one : (old new : Asked) (v : ℕ) → IsOverloaded old v → Adds old (to_int v) new → Settles old v (v + 1) new
+-- what stands in a list of one
+same-one : (w v : ℕ) → Stands w (v ∷ []) → w ≡ v
+unfolding Stands
+same-one w v (inl e) = e
+same-one w v (inr h) = absurd h
+
+is-one : (v : ℕ) → Stands v (v ∷ [])
+unfolding Stands
+is-one v = inl refl
+
+-- what stands in no list
+stands-nowhere : (w : ℕ) → Stands w [] → ⊥
+unfolding Stands
+stands-nowhere w h = h
+
+pub settled-one : (old new : Asked) (v : ℕ) → IsOverloaded old v → Adds old (to_int v) new → Settles old (v ∷ []) new
 unfolding Settles Adds
 settled-one old new v o a l σ = (
-  λ p. let q = (a l σ).0 p in (q.0, λ w h k _. let e : v ≡ w = omega (arith, h, k) in subst (λ w. σ w ≡ make (world l) (O.name (initial N.int)) []) e (is-int l old.unit σ v q.1)),
-  λ p. (a l σ).1 (p.0, int-is l old.unit σ v (p.1 v (omega arith) (omega arith) o)),
+  λ p. let q = (a l σ).0 p in (q.0, λ w h _. subst (λ w. σ w ≡ make (world l) (O.name (initial N.int)) []) (sym (same-one w v h)) (is-int l old.unit σ v q.1)),
+  λ p. (a l σ).1 (p.0, int-is l old.unit σ v (p.1 v (is-one v) o)),
 )
 
-pub settled-none : (s : Asked) (v : ℕ) → (IsOverloaded s v → ⊥) → Settles s v (v + 1) s
+pub settled-none : (s : Asked) (v : ℕ) → (IsOverloaded s v → ⊥) → Settles s (v ∷ []) s
 unfolding Settles
 settled-none s v n l σ = (
-  λ p. (p, λ w h k o. let e : w ≡ v = omega (arith, h, k) in absurd (n (subst (IsOverloaded s) e o))),
+  λ p. (p, λ w h o. absurd (n (subst (IsOverloaded s) (same-one w v h) o))),
   λ p. p.0,
 )
 
-pub settled-first : (s : Asked) (n m : ℕ) → m ≤ n → Settles s n m s
+pub settled-first : (s : Asked) → Settles s [] s
 unfolding Settles
-settled-first s n m h l σ = (λ p. (p, λ w a k _. absurd (omega (arith, a, k, h))), λ p. p.0)
+settled-first s l σ = (λ p. (p, λ w a _. absurd (stands-nowhere w a)), λ p. p.0)
 
-pub settled-as : (s : Asked) (n m l : ℕ) (new : Asked) → ((v : ℕ) → n ≤ v → v < l → v < m) → ((v : ℕ) → n ≤ v → v < m → v < l) → Settles s n m new → Settles s n l new
-unfolding Settles
-settled-as s n m l new f g x k σ = (
-  λ p. let q = (x k σ).0 p in (q.0, λ v a h. q.1 v a (f v a h)),
-  λ p. (x k σ).1 (p.0, λ v a h. p.1 v a (g v a h)),
-)
+-- those of a list of numbers below a bound are below it
+pub below-all : (n : ℕ) (vs : List ℕ) → AllByRecursion (λ v. v < n) vs → (v : ℕ) → Stands v vs → v < n
+unfolding Stands
+below-all n [] h v i = absurd i
+below-all n (w ∷ vs) h v (inl e) = subst (λ v. v < n) (sym e) h.0
+below-all n (w ∷ vs) h v (inr i) = below-all n vs h.1 v i
 
 -- finite types as infinite ones
 
@@ -214,30 +230,30 @@ module _ (u : ℕ) (us : List ℕ) (g : Graph) (b : Bool) (k : IsKept u g us) (d
         can-meet v (with (O.named (initial N.int))) (solution-meets ns _ k.whole.rank.rank k.whole.rank.ranked) (with-keeps u us g b k d v h r (root v).1.same (O.named (initial N.int)) j.2) (with-type u us g b k d v h r (root v).1.same (O.named (initial N.int)) e.0) l
 
   -- what is overloaded after some unknowns became int was overloaded before
-  was-overloaded : (n m : ℕ) (cur : Asked) → m ≤ length us → Settles s n m cur → (v : ℕ) → v < length us → IsOverloaded cur v → IsOverloaded s v
+  was-overloaded : (vs : List ℕ) (cur : Asked) → ((v : ℕ) → Stands v vs → v < length us) → Settles s vs cur → (v : ℕ) → v < length us → IsOverloaded cur v → IsOverloaded s v
   unfolding Settles
-  was-overloaded n m cur c x v h o =
+  was-overloaded vs cur c x v h o =
       elim (many-or-not (root v).0) [
         | inl e ↦ many-overloaded v h e
         | inr e ↦
             absurd (node-apart u us g b k d v h (root v).0 (root v).1.same o.one o.other ((x Rigidity o.one).0 o.may_be_one).0 ((x Rigidity o.other).0 o.may_be_other).0 o.apart (o.named_so o.one o.may_be_one) (node_at ns (root v).0) refl (root-is v) e (λ p.
             o.named_so (through finite us (with v h unit)) ((x Rigidity (through finite us (with v h unit))).1 (
               p,
-              λ w a l q.
-                  let f = overloaded-many w (omega (arith, l, c)) q in
-                  with-default v h unit w (omega (arith, l, c)) q (λ z. let y : true ≡ false = sym f ∙ (ap many z ∙ e) in cc),
+              λ w a q.
+                  let f = overloaded-many w (c w a) q in
+                  with-default v h unit w (c w a) q (λ z. let y : true ≡ false = sym f ∙ (ap many z ∙ e) in cc),
             ))))
       ]
 
   -- what was overloaded is so still, unless an unknown that became int is the same
-  still-overloaded : (n m : ℕ) (cur : Asked) → m ≤ length us → Settles s n m cur → (v : ℕ) → v < length us → ((w : ℕ) → n ≤ w → w < m → (root w).0 ≢ (root v).0) → IsOverloaded s v → IsOverloaded cur v
+  still-overloaded : (vs : List ℕ) (cur : Asked) → ((v : ℕ) → Stands v vs → v < length us) → Settles s vs cur → (v : ℕ) → v < length us → ((w : ℕ) → Stands w vs → (root w).0 ≢ (root v).0) → IsOverloaded s v → IsOverloaded cur v
   unfolding Settles
-  still-overloaded n m cur c x v h apart o =
+  still-overloaded vs cur c x v h apart o =
       let r = (root v).0 in
       let e = many-node r (overloaded-many v h o) in
       let j = two-names u us g b k d v h r (root v).1.same (limit_at g.limits.items r).class refl e.0 e.1 in
       let up : (t : O.MlType Name) → Permits Rigidity s (through finite us (with v h t)) → Permits Rigidity cur (through finite us (with v h t)) = (λ t p.
-      (x Rigidity (through finite us (with v h t))).1 (p, λ w a l q. with-default v h t w (omega (arith, l, c)) q (apart w a l))) in
+      (x Rigidity (through finite us (with v h t))).1 (p, λ w a q. with-default v h t w (c w a) q (apart w a))) in
       record {
         named_so = λ σ p. o.named_so σ ((x Rigidity σ).0 p).0;
         one = through finite us (with v h (O.named (initial N.int)));
@@ -247,25 +263,22 @@ module _ (u : ℕ) (us : List ℕ) (g : Graph) (b : Bool) (k : IsKept u g us) (d
         apart = with-apart u us g b k d v h r (root v).1.same j.0 j.1 e.0;
       }
 
-  -- an unknown below m that is the same, or none
-  before : (n m r : ℕ) → ((w : ℕ) × (n ≤ w) × (w < m) × ((root w).0 ≡ r)) ⊎ ((w : ℕ) → n ≤ w → w < m → (root w).0 ≢ r)
-  before n zero r = inr (λ w a l q. omega (arith, l))
-  before n (suc m) r =
-      elim (before n m r) [
-        | inl p ↦ inl (p.0, p.1, omega (arith, p.2), p.3)
-        | inr f ↦
-            elim (cases_lt m n) [
-              | inl l ↦ inr (λ w a z q. omega (arith, l, a, z))
-              | inr c ↦
-                  elim (same_or_not (root m).0 r) [
-                    | inl e ↦ inl (m, c, omega arith, e)
-                    | inr x ↦
-                        inr (λ w a l q.
-                        elim (cases_lt w m) [
-                          | inl y ↦ f w a y q
-                          | inr z ↦ let e : w ≡ m = omega (arith, l, z) in x (subst (λ w. (root w).0 ≡ r) e q)
-                        ])
-                  ]
+  -- an unknown of the list that is the same, or none
+  before : (vs : List ℕ) (r : ℕ) → ((w : ℕ) × Stands w vs × ((root w).0 ≡ r)) ⊎ ((w : ℕ) → Stands w vs → (root w).0 ≢ r)
+  unfolding Stands
+  before [] r = inr (λ w a q. absurd a)
+  before (v ∷ vs) r =
+      elim (same_or_not (root v).0 r) [
+        | inl e ↦ inl (v, inl refl, e)
+        | inr x ↦
+            elim (before vs r) [
+              | inl p ↦ inl (p.0, inr p.1, p.2)
+              | inr f ↦
+                  inr (λ w a q.
+                  elim a [
+                    | inl e ↦ x (subst (λ w. (root w).0 ≡ r) e q)
+                    | inr i ↦ f w i q
+                  ])
             ]
       ]
 
@@ -274,35 +287,35 @@ module _ (u : ℕ) (us : List ℕ) (g : Graph) (b : Bool) (k : IsKept u g us) (d
   same-types l σ v w h i e p =
       sym (p.3 v h) ∙ ((root v).1.same (world l) p.0 p.1 ∙ (ap p.0 e ∙ (sym ((root w).1.same (world l) p.0 p.1) ∙ p.3 w i)))
 
-  pub settled-more : (n m : ℕ) (cur new : Asked) → n ≤ m → m < length us → Settles s n m cur → Settles cur m (m + 1) new → Settles s n (m + 1) new
+  pub settled-more : (vs : List ℕ) (m : ℕ) (cur new : Asked) → ((v : ℕ) → Stands v vs → v < length us) → m < length us → Settles s vs cur → Settles cur (m ∷ []) new → Settles s (vs ++ m ∷ []) new
   unfolding Settles
-  settled-more n m cur new a h x y l σ = (
+  settled-more vs m cur new a h x y l σ = (
     λ p.
         let q = (y l σ).0 p in
         let z = (x l σ).0 q.0 in (
           z.0,
-          λ v i j o.
-              elim (cases_lt v m) [
-                | inl c ↦ z.1 v i c o
+          λ v i o.
+              elim (either v vs (m ∷ []) i) [
+                | inl c ↦ z.1 v c o
                 | inr c ↦
-                    let e : m ≡ v = omega (arith, c, j) in
+                    let e : m ≡ v = sym (same-one v m c) in
                     let om : IsOverloaded s m = subst (IsOverloaded s) (sym e) o in
                     subst (λ v. σ v ≡ make (world l) (O.name (initial N.int)) []) e
-                    (elim (before n m (root m).0) [
+                    (elim (before vs (root m).0) [
                       | inl w ↦
-                          let wl : w.0 < length us = omega (arith, w.2, h) in
-                          same-types l σ m w.0 h wl (sym w.3) z.0 ∙ z.1 w.0 w.1 w.2 (many-overloaded w.0 wl (ap many w.3 ∙ overloaded-many m h om))
-                      | inr f ↦ q.1 m (omega arith) (omega arith) (still-overloaded n m cur (omega (arith, h)) x m h f om)
+                          let wl : w.0 < length us = a w.0 w.1 in
+                          same-types l σ m w.0 h wl (sym w.2) z.0 ∙ z.1 w.0 w.1 (many-overloaded w.0 wl (ap many w.2 ∙ overloaded-many m h om))
+                      | inr f ↦ q.1 m (is-one m) (still-overloaded vs cur a x m h f om)
                     ])
               ],
         ),
     λ p.
         (y l σ).1 (
-          (x l σ).1 (p.0, λ v i j o. p.1 v i (omega (arith, j)) o),
-          λ v i j o.
-              let e : m ≡ v = omega (arith, i, j) in
+          (x l σ).1 (p.0, λ v i o. p.1 v (left v vs (m ∷ []) i) o),
+          λ v i o.
+              let e : m ≡ v = sym (same-one v m i) in
               let ov : IsOverloaded cur m = subst (IsOverloaded cur) (sym e) o in
-              subst (λ v. σ v ≡ make (world l) (O.name (initial N.int)) []) e (p.1 m a (omega arith) (was-overloaded n m cur (omega (arith, h)) x m h ov)),
+              subst (λ v. σ v ≡ make (world l) (O.name (initial N.int)) []) e (p.1 m (right m vs (m ∷ []) (is-one m)) (was-overloaded vs cur a x m h ov)),
         ),
   )
 

@@ -1,6 +1,6 @@
 //! The solver: what a declaration asks of its unknown types.
 
-ghost use Rattle.std.specs.Prelude.{◌≡◌, ℕ, ◌↔◌, ◌+◌, ◌^◌, ◌<◌, ◌≤◌, true, false, length, IfOk, OnOk, OnErr, Err};
+ghost use Rattle.std.specs.Prelude.{◌≡◌, ℕ, ◌↔◌, ◌+◌, ◌^◌, ◌<◌, ◌≤◌, true, false, [], ◌∷◌, length, IfOk, OnOk, OnErr, Err};
 ghost use Rattle.std.specs.Bool.{OnTrue, OnFalse};
 ghost use Rattle.std.specs.Coded.{codes};
 ghost use Rattle.std.specs.List.{AllByRecursion};
@@ -210,25 +210,32 @@ impl Solver {
         self.unknowns.len()
     }
 
-    /// Makes each unknown from a place on that is overloaded the default, `int` (the Definition, appendix E).
-    pub fn settle(&mut self, from: usize) -> Result<(), Halt>
-        ensures ok { OnOk result (Settles self.old from (count self.old) self.new) }
+    /// Makes each of these unknowns that is overloaded the default, `int` (the Definition, appendix E).
+    pub fn settle(&mut self, unknowns: &[u32]) -> Result<(), Halt>
+        requires { AllByRecursion (λ v. v < count self.old) unknowns.now }
+        ensures ok { OnOk result (Settles self.old unknowns.now self.new) }
         ensures count { count self.new ≡ count self.old }
         ensures call { Returns self.old self.new result Halt.Spent }
     {
         if self.spent {
             return Err(Halt::Spent);
         }
-        let end = self.unknowns.len();
-        let mut place = from;
-        while place < end {
-            match settle_one(self, place as u32) {
+        for unknown in unknowns {
+            match settle_one(self, *unknown) {
                 Ok(()) => {}
                 Err(halt) => return Err(halt),
             }
-            place += 1;
         }
         Ok(())
+    }
+
+    /// Leaves the solver spent, as a refused call does.
+    pub fn spend(&mut self)
+        ensures spent { self.new.spent ≡ true }
+        ensures count { count self.new ≡ count self.old }
+        ensures unit { self.new.unit ≡ self.old.unit }
+    {
+        self.spent = true;
     }
 
     /// A flag for each unknown that the types of the first unknowns and of others fix, so that it stands in the context of
@@ -580,7 +587,7 @@ fn int_type(alloc: Global) -> MlType
 fn settle_one(solver: &mut Solver, unknown: u32) -> Result<(), Halt>
     requires known { unknown < count solver.old }
     requires new { solver.old.spent ≡ false }
-    ensures ok { OnOk result (Settles solver.old unknown (unknown + 1) solver.new) }
+    ensures ok { OnOk result (Settles solver.old (unknown ∷ []) solver.new) }
     ensures count { count solver.new ≡ count solver.old }
     ensures call { Returns solver.old solver.new result Halt.Spent }
 {

@@ -104,7 +104,7 @@ module _ {P N : Type 0} (scope : Scope N) (B : Basis N) (p : P) where
       → IsAnswer scope (settle_functors scope B p m) s (accepted r) → r.0 ≡ fun_sigs scope B.names m
   functors-settled m c s d r h =
       let a = bind-accepted scope (settle_bodies scope B p m) _ s r h in
-      let b = bind-accepted scope (test (AreSmallBodies scope B a.0.0) (fault E7 p)) _ a.0.1 r a.2 in
+      let b = bind-accepted scope (test (AreSmallBodies a.0.0) (fault E7 p)) _ a.0.1 r a.2 in
       given scope _ b.0.1 r b.2 ∙ ap (fun_sigs scope B.names) (bodies-settled m c s d a.0 a.1)
 
 module _ {P N : Type 0} (scope : Scope N) (B : Basis N) (bs : List (SealedFunctor P)) where

@@ -99,9 +99,9 @@ module _ {P N : Type 0} where
         plain-bind _ _ (plain-look N _) (λ t. plain-bind _ _ (plain-look N _) (λ u. plain-bind _ _ tt (λ a.
         plain-bind _ _ (plain-name w.constructor.place (bound_name scope S.names t.function)) (λ n. plain-bind _ _ tt (λ b. plain-realise C S w n _)))))
 
-    plain-types : (e : Bool) (ds : List (TypDesc P)) → IsPlain (read_types scope e ds)
+    plain-types : (p : P) (e : Bool) (ds : List (TypDesc P)) → IsPlain (read_types scope p e ds)
     unfolding IsPlain
-    plain-types e ds = plain-bind _ _ (λ ns. tt) (λ ns. tt)
+    plain-types p e ds = plain-bind _ _ (λ ns. tt) (λ ns. plain-bind _ _ tt (λ a. tt))
 
     plain-datatypes : (p : P) (C : Env N) (ds : List (DatBind P)) → IsPlain (read_datatypes scope p C ds)
     unfolding IsPlain
@@ -131,8 +131,8 @@ module _ {P N : Type 0} where
 
         plain-spec : (C : Env N) (S : Sig N) (q : Spec P) → IsPlain (read_spec scope G C S q)
         plain-spec C S (val_spec p ds) = plain-bind _ _ (plain-look N _) (λ m. plain-bind _ _ tt (λ a. plain-add p S (no_names (of_values m))))
-        plain-spec C S (type_spec p ds) = plain-bind _ _ (plain-types false ds) (λ R. plain-add p S R)
-        plain-spec C S (eqtype_spec p ds) = plain-bind _ _ (plain-types true ds) (λ R. plain-add p S R)
+        plain-spec C S (type_spec p ds) = plain-bind _ _ (plain-types p false ds) (λ R. plain-add p S R)
+        plain-spec C S (eqtype_spec p ds) = plain-bind _ _ (plain-types p true ds) (λ R. plain-add p S R)
         plain-spec C S (datatype_spec p ds) = plain-bind _ _ (plain-datatypes p (extend C S.body) ds) (λ R. plain-add p S R)
         plain-spec C S (copy_spec p x c) = plain-bind _ _ (plain-look N _) (λ t. plain-add p S (no_names (maps no_structure ((x.id, t) ∷ []) (constructor_values t.constructors))))
         plain-spec C S (exception_spec p cs) = plain-bind _ _ (plain-look N _) (λ m. plain-bind _ _ tt (λ a. plain-add p S (no_names (of_values m))))
@@ -143,4 +143,4 @@ module _ {P N : Type 0} where
 
         plain-descs : (C : Env N) (S : Sig N) (ds : StrDescs P) → IsPlain (read_descs scope G C S ds)
         plain-descs C S no_str_desc = tt
-        plain-descs C S (and_str_desc (str_desc x e) ds) = plain-bind _ _ (plain-sig C e) (λ R. plain-descs C (record { names = R.names ++ S.names; body = maps (put_structure x.id R.body (structures S.body)) [] [] }) ds)
+        plain-descs C S (and_str_desc (str_desc x e) ds) = plain-bind _ _ (plain-sig C e) (λ R. plain-descs C (record { names = S.names ++ R.names; body = maps (put_structure x.id R.body (structures S.body)) [] [] }) ds)

@@ -63,6 +63,15 @@ abbrev pub numbers : ℕ → List Bool → List ℕ
 numbers k [] = []
 numbers k (e ∷ es) = k ∷ numbers (suc k) es
 
+-- Schemes without unknowns: types for the variables of the first make it the second, and admit equality where these do; the
+-- variables of the second admit it as they say.
+abbrev pub AdmitSo : {N : Type 0} → Naming N → List Bool → List Bool → ℕ → (ℕ → MlType N) → Type 0
+AdmitSo names es [] k f = Unit {0}
+AdmitSo names es (e ∷ ds) k f = (e ≡ true → admits_by (is_ref names) (λ v. slice_index_or es v false) (has_equality names) (f k) ≡ true) × AdmitSo names es ds (suc k) f
+
+abbrev pub IsGeneral : {N : Type 0} → Naming N → Scheme N → Scheme N → Type 0
+IsGeneral {N} names σ τ = (f : ℕ → MlType N) × AdmitSo names τ.variables σ.variables 0 f × (replace_type f free σ.body ≡ instance_from 0 τ.body)
+
 module _ {P N : Type 0} (scope : Scope N) where
   abbrev pub require_or : D.Demand N (List N) → Fault P → Script P N (Unit {0})
   require_or d f = requires_or d f (give tt)
@@ -81,14 +90,6 @@ module _ {P N : Type 0} (scope : Scope N) where
   stand_alone f k (e ∷ es) = do
     u ← require_or (D.asks (D.variable (record { number = k; equality = e })) (free k)) f
     stand_alone f (suc k) es
-
-  -- Schemes without unknowns: types for the variables of the first make it the second, whose variables admit equality as they say.
-  abbrev pub AdmitSo : List Bool → List Bool → ℕ → (ℕ → MlType N) → Type 0
-  AdmitSo es [] k f = Unit {0}
-  AdmitSo es (e ∷ ds) k f = (e ≡ true → admits_by (is_ref scope.names) (λ v. slice_index_or es v false) (has_equality scope.names) (f k) ≡ true) × AdmitSo es ds (suc k) f
-
-  abbrev pub IsGeneral : Scheme N → Scheme N → Type 0
-  IsGeneral σ τ = (f : ℕ → MlType N) × AdmitSo τ.variables σ.variables 0 f × (replace_type f free σ.body ≡ instance_from 0 τ.body)
 
   -- The first scheme is at least as general as the second (section 4.5). Unknowns in it may be settled by that, but never by a
   -- variable of the second.
@@ -118,7 +119,7 @@ module _ {P N : Type 0} (scope : Scope N) where
     u ← look (component p x (value_at E x))
     a ← test (serves u.status v.status ≡ true) (fault_at M7 p (path_of x))
     b ← cond (has_unknown u.scheme.body || has_unknown v.scheme.body) (require_general (fault_at M6 p (path_of x)) u.scheme v.scheme)
-      (test (IsGeneral u.scheme v.scheme) (fault_at M6 p (path_of x)))
+      (test (IsGeneral scope.names u.scheme v.scheme) (fault_at M6 p (path_of x)))
     require_lines p E ls
 
   -- the realisation of a signature that the structure matches; what is realised has no scheme and no type function over the limit

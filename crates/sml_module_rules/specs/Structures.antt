@@ -30,6 +30,10 @@ one_structure x E = maps (and_structure x E no_structure) [] []
 abbrev pub Bodies : Type 0 → Type 0
 Bodies N = List (Id × (Sig N × Env N))
 
+abbrev pub AreSmallBodies : {N : Type 0} → Bodies N → Type 0
+AreSmallBodies [] = Unit {0}
+AreSmallBodies (e ∷ es) = IsSmallEnv e.1.1 × AreSmallBodies es
+
 module _ {N : Type 0} (scope : Scope N) where
   -- those of the names that are none of the others
   abbrev pub besides : List N → List N → List N
@@ -140,10 +144,6 @@ module _ {P N : Type 0} (scope : Scope N) where
       E ← settle_env p e.1.1
       rest ← settle_bodies p es
       give ((e.0, (e.1.0, E)) ∷ rest)
-
-    abbrev pub AreSmallBodies : Bodies N → Type 0
-    AreSmallBodies [] = Unit {0}
-    AreSmallBodies (e ∷ es) = IsSmallEnv e.1.1 × AreSmallBodies es
 
     -- signatures and functors, which see none of each other
 

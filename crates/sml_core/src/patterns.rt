@@ -19,12 +19,16 @@ use std::alloc::Global;
 use std::collections::BTreeMap;
 use std::rc::Rc;
 
-/// The variables that patterns bind, with their types. In a pattern behind `rec` every short identifier that stands alone
-/// is a variable.
+/// The variables that patterns bind, with their types. In a pattern after `rec` every short identifier that stands alone is a
+/// variable, but for `nil`, which only `[]` can be there.
 #[derive(Drop)]
 pub(crate) struct Variables {
     pub types: IndexMap<Ident, Rc<MlType>>,
     pub is_recursive: bool,
+}
+
+fn is_nil(name: &Ident) -> bool {
+    name.as_slice() == b"nil"
 }
 
 impl Variables {
@@ -122,7 +126,8 @@ impl Context<'_> {
         long: &LongIdent,
     ) -> Result<Rc<MlType>, CoreFault> {
         if long.path.is_empty() {
-            if variables.is_recursive || !is_constructor(self.status(&long.last)) {
+            let is_bound = variables.is_recursive && !is_nil(&long.last);
+            if is_bound || !is_constructor(self.status(&long.last)) {
                 return self.variable(variables, long.place, &long.last);
             }
         }

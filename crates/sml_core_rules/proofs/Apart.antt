@@ -20,7 +20,7 @@ use Rattle.sml_core_rules.specs.States.{Scope, State, with_unknowns}
 use Rattle.sml_core_rules.specs.Scripts.{give, ◌>>=◌, look, IsAnswer}
 use Rattle.sml_core_rules.specs.Types.{Fields, put_field, read_ty}
 use Rattle.sml_core_rules.specs.Values.{is_constructor, applied, require_equal, find_value}
-use Rattle.sml_core_rules.specs.Patterns.{Bindings, Typed, typed, is_empty, read_constraint, bind_variable, constructor_instance, found_constructor, read_row, bind_layered, read_layered, read_pat, read_pats, read_pat_fields}
+use Rattle.sml_core_rules.specs.Patterns.{Bindings, Typed, typed, is_empty, is_variable_alone, read_constraint, bind_variable, constructor_instance, found_constructor, read_row, bind_layered, read_layered, read_pat, read_pats, read_pat_fields}
 use Rattle.sml_core_rules.specs.Rules.{AreApart}
 use Rattle.sml_core_rules.specs.Assigned.{assign_bindings}
 use Rattle.sml_core_rules.proofs.Accepted.{given, bind-accepted, taken}
@@ -96,7 +96,7 @@ module _ {P N : Type 0} (scope : Scope N) (is_rec : Bool) (C : Env N) (vs : Map 
         → AreApart r.0.bound
     pat-apart (wildcard p) bs s r h a = subst (λ t. AreApart t.bound) (sym (ap (λ q. q.0) (accepted_same h))) a
     pat-apart (pat_constant p c) bs s r h a = subst (λ t. AreApart t.bound) (sym (ap (λ q. q.0) (accepted_same h))) a
-    pat-apart (pat_name p x) bs s r h a = elim (taken scope (is_empty x.id.path) (is_rec || not (is_constructor C x.id.last)) _ _ s r h) [
+    pat-apart (pat_name p x) bs s r h a = elim (taken scope (is_empty x.id.path) (is_variable_alone is_rec C x.id.last) _ _ s r h) [
       | inl k ↦ variable-apart x.place x.id.last bs s r k.1 a
       | inr k ↦ constant-apart p x bs s r k.1 a
     ]

@@ -1,5 +1,5 @@
 -- Patterns fit the types that they were read to have, whatever types meet the demands.
-use Rattle.std.specs.Prelude.{◌≡◌, ◌≤◌, ◌⊎◌, ◌+◌, ℕ, suc, Bool, true, false, ◌&&◌, ◌||◌, not, List, [], ◌∷◌, ◌++◌, length, Option, Some, None}
+use Rattle.std.specs.Prelude.{◌≡◌, ◌≤◌, ◌⊎◌, ◌+◌, ℕ, suc, Bool, true, false, ◌&&◌, ◌||◌, not, codes, List, [], ◌∷◌, ◌++◌, length, Option, Some, None}
 use Rattle.std.proofs.Common.{arith, append-nil, append_assoc}
 use mathlib.Core.Path.{refl, sym, ap, subst, ◌∙◌}
 use mathlib.Core.Logic.{inl, inr}
@@ -25,11 +25,11 @@ use Rattle.sml_tree.specs.declared.patterns.ConstantKind.{ConstantKind}
 use Rattle.sml_tree.specs.declared.patterns.ConstantKind.TheVariants as K
 use Rattle.sml_tree.specs.Names.{Name, LongName}
 use Rattle.sml_tree.specs.Patterns.{Pat, Pats, PatFields, wildcard, pat_constant, pat_name, pat_row, pat_tuple, pat_bracket, pat_apply, pat_typed, pat_as, no_pat, and_pat, pat_field, no_pat_field, and_pat_field}
-use Rattle.sml_core_rules.specs.Patterns.{Bindings, Typed, typed, is_empty, constant_type, read_constraint, bind_variable, constructor_instance, found_constructor, read_row, bind_layered, read_layered, read_pat, read_pats, read_pat_fields}
+use Rattle.sml_core_rules.specs.Patterns.{Bindings, Typed, typed, is_empty, constant_type, is_variable_alone, read_constraint, bind_variable, constructor_instance, found_constructor, read_row, bind_layered, read_layered, read_pat, read_pats, read_pat_fields}
 use Rattle.sml_core_rules.specs.Rules.{IsRow, Means, MeansIfAsked, Constructs, Fits, FitAll, FitFields}
 use Rattle.sml_core_rules.specs.Types.{Fields, put_field, read_ty, type_place}
 use Rattle.sml_tree.specs.Types.{Ty}
-use Rattle.sml_core_rules.specs.Lookups.{value_at}
+use Rattle.sml_core_rules.specs.Lookups.{value_at, is_same}
 use Rattle.sml_rules.specs.Lookups.{Found, found, no_path, no_entry}
 use Rattle.sml_core_rules.specs.Datatypes.{admits_by, all_admit_by, has_equality}
 use Rattle.sml_core_rules.specs.Contexts.{Context, IsType, AdmitWhereAsked, IsOfClass, IsInstance}
@@ -211,12 +211,12 @@ module _ {P N : Type 0} (scope : Scope N) (σ : ℕ → MlType N) (are : (v : �
   variable-read p x bs s r (inl (c, h)) = ap (λ q. q.0) (accepted_same h)
   variable-read p x bs s r (inr h) = absurd (not_refused h.1)
 
-  is-variable : (x : LongName P) → (is_empty x.id.path && (is_rec || not (is_constructor (assign_env σ C.env) x.id.last))) ≡ (is_empty x.id.path && (is_rec || not (is_constructor C.env x.id.last)))
-  is-variable x = ap (λ c. is_empty x.id.path && (is_rec || not c)) (constructor-assigned σ C.env x.id.last)
+  is-variable : (x : LongName P) → (is_empty x.id.path && is_variable_alone is_rec (assign_env σ C.env) x.id.last) ≡ (is_empty x.id.path && is_variable_alone is_rec C.env x.id.last)
+  is-variable x = ap (λ c. is_empty x.id.path && ((is_rec && not (is_same x.id.last (codes "nil"))) || not c)) (constructor-assigned σ C.env x.id.last)
 
   named-fits : (p : P) (x : LongName P) (bs : Bindings N) (s : State P N) (r : Typed N (MlType N) × State P N)
-      → (((is_empty x.id.path && (is_rec || not (is_constructor C.env x.id.last))) ≡ true) × IsAnswer scope (bind_variable scope x.place x.id.last bs) s (accepted r))
-      ⊎ (((is_empty x.id.path && (is_rec || not (is_constructor C.env x.id.last))) ≡ false)
+      → (((is_empty x.id.path && is_variable_alone is_rec C.env x.id.last) ≡ true) × IsAnswer scope (bind_variable scope x.place x.id.last bs) s (accepted r))
+      ⊎ (((is_empty x.id.path && is_variable_alone is_rec C.env x.id.last) ≡ false)
       × IsAnswer scope (find_value C.env x >>= λ v. constructor_instance scope p x.place false v >>= λ t. give (typed t bs)) s (accepted r))
       → Meets scope r.1 Rigidity σ → Fitting bs (pat_name p x) r.0
   unfolding Fits replace_type
@@ -319,7 +319,7 @@ module _ {P N : Type 0} (scope : Scope N) (σ : ℕ → MlType N) (are : (v : �
     pat-fits (wildcard p) bs s r h m = subst (Fitting bs (wildcard p)) (sym (ap (λ q. q.0) (accepted_same h))) ([], sym (append-nil bs), (are s.made, refl))
     pat-fits (pat_constant p c) bs s r h m =
         subst (Fitting bs (pat_constant p c)) (sym (ap (λ q. q.0) (accepted_same h))) ([], sym (append-nil bs), (constant-assigned scope.names σ c.kind, refl))
-    pat-fits (pat_name p x) bs s r h m = named-fits p x bs s r (taken scope (is_empty x.id.path) (is_rec || not (is_constructor C.env x.id.last)) _ _ s r h) m
+    pat-fits (pat_name p x) bs s r h m = named-fits p x bs s r (taken scope (is_empty x.id.path) (is_variable_alone is_rec C.env x.id.last) _ _ s r h) m
     pat-fits (pat_row p fs b) bs s r h m =
         let a = bind-accepted scope (read_pat_fields scope is_rec C.env C.explicit bs [] fs) _ s r h in
         let c = bind-accepted scope (read_row scope is_rec C.env C.explicit p b a.0.0.type) _ a.0.1 r a.2 in

@@ -1,5 +1,5 @@
 -- Patterns (the Definition, section 4.10, rules 32 to 43).
-use Rattle.std.specs.Prelude.{◌≡◌, ◌≤◌, Bool, true, false, List, [], ◌∷◌, ◌++◌, cond, ◌||◌, not, Option, Some, None}
+use Rattle.std.specs.Prelude.{◌≡◌, ◌≤◌, Bool, true, false, List, [], ◌∷◌, ◌++◌, cond, ◌||◌, ◌&&◌, not, codes, Option, Some, None}
 use Rattle.sml_lex.specs.declared.fault.Code.TheVariants.{E1, E3, E5, E7, E10}
 use Rattle.sml_tree.specs.declared.patterns.ConstantKind.{ConstantKind}
 use Rattle.sml_tree.specs.declared.patterns.ConstantKind.TheVariants as K
@@ -15,7 +15,7 @@ use Rattle.sml_layers.specs.Demands.{has_fields}
 use Rattle.sml_rules.specs.Answers.{fault, fault_at}
 use Rattle.sml_rules.specs.Lookups.{Found, found, no_path, no_entry}
 use Rattle.sml_core_rules.specs.Objects.{Env, Value}
-use Rattle.sml_core_rules.specs.Lookups.{value_at}
+use Rattle.sml_core_rules.specs.Lookups.{value_at, is_same}
 use Rattle.sml_core_rules.specs.States.{Scope}
 use Rattle.sml_core_rules.specs.Scripts.{Script, give, refuse, ◌>>=◌, look, test, new_unknown, new_row, require}
 use Rattle.sml_core_rules.specs.Types.{Fields, put_field, row_of, read_ty, type_place}
@@ -63,6 +63,10 @@ read_constraint C vs ty = do
   u ← test (type_size t ≤ 10000) (fault E7 (type_place ty))
   give t
 
+-- Whether a short identifier that stands alone is a variable. Behind `rec` each is, but for `nil`, which only `[]` can be there.
+abbrev pub is_variable_alone : {N : Type 0} → Bool → Env N → Id → Bool
+is_variable_alone is_rec C x = (is_rec && not (is_same x (codes "nil"))) || not (is_constructor C x)
+
 module _ {P N : Type 0} (scope : Scope N) where
   -- a variable, which no pattern of the group has bound yet
   abbrev pub bind_variable : P → Id → Bindings N → Script P N (Typed N (MlType N))
@@ -84,12 +88,11 @@ module _ {P N : Type 0} (scope : Scope N) where
   found_constructor x (no_path s) = refuse (fault_at E3 x.place s)
   found_constructor x no_entry = refuse (cond (is_empty x.id.path) (fault E5 x.place) (fault_at E1 x.place (x.id.path ++ x.id.last ∷ [])))
 
-  -- A pattern in a context, with the explicit type variables in scope. Behind `rec` each short identifier that stands alone is
-  -- a variable.
+  -- A pattern in a context, with the explicit type variables in scope.
   module _ (is_rec : Bool) (C : Env N) (vs : Map (MlType N)) where
     abbrev pub read_named : P → LongName P → Bindings N → Script P N (Typed N (MlType N))
     read_named p x bs =
-        cond (is_empty x.id.path) (cond (is_rec || not (is_constructor C x.id.last)) (bind_variable x.place x.id.last bs) constant_constructor) constant_constructor
+        cond (is_empty x.id.path) (cond (is_variable_alone is_rec C x.id.last) (bind_variable x.place x.id.last bs) constant_constructor) constant_constructor
       where
         constant_constructor : Script P N (Typed N (MlType N))
         constant_constructor = do

@@ -20,7 +20,7 @@ use Rattle.sml_core_rules.specs.Lookups.{value_at, type_at, structure_at}
 use Rattle.sml_core_rules.specs.Types as T
 use Rattle.sml_core_rules.specs.Types.{put_field, row_of, count_types}
 use Rattle.sml_core_rules.specs.Values.{constructs, is_constructor, is_arrow}
-use Rattle.sml_core_rules.specs.Patterns.{Bindings, constant_type, is_empty}
+use Rattle.sml_core_rules.specs.Patterns.{Bindings, constant_type, is_empty, is_variable_alone}
 use Rattle.sml_core_rules.specs.Closing.{is_expansive, is_function, unguarded}
 use Rattle.sml_core_rules.specs.Datatypes.{Arguments, AreNew, AdmitAsManyAsCan, is_equality, listed, type_function, with_names, datatype_types, datatype_envs, constructor_values}
 use Rattle.sml_core_rules.specs.Expressions.{Bound, bounds, bound_values, exception_type, not_in_scope}
@@ -120,11 +120,10 @@ module _ {N : Type 0} (names : Naming N) where
 
   -- Which type variables are equality variables is given.
   module _ (equality : ℕ → Bool) where
-    -- Patterns (rules 32 to 43), with what they bind, in its order. Behind `rec` each short identifier that stands alone is a
-    -- variable.
+    -- Patterns (rules 32 to 43), with what they bind, in its order.
     module _ {P : Type 0} (C : Context N) (is_rec : Bool) where
       abbrev pub is_variable : LongName P → Bool
-      is_variable x = is_empty x.id.path && (is_rec || not (is_constructor C.env x.id.last))
+      is_variable x = is_empty x.id.path && is_variable_alone is_rec C.env x.id.last
 
       -- an identifier that is a constructor or an exception, with an argument or without one
       abbrev pub Constructs : LongName P → Bool → MlType N → Type 0

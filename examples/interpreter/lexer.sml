@@ -17,12 +17,11 @@ structure Lexer :> LEXER = struct
   fun word text = if isKeyword text then Keyword text else Name text
 
   (* the token that begins here, and what remains *)
-  fun next rest =
+  fun next (column, rest) =
     case Substring.getc rest of
       NONE => NONE
     | SOME (c, after) =>
         let
-          val (_, _, length) = Substring.base rest
           fun taken belongs make =
             let val (text, after) = Substring.splitl belongs rest
             in SOME (make (Substring.string text), after) end
@@ -31,20 +30,20 @@ structure Lexer :> LEXER = struct
           else if Char.isAlpha c then taken (fn c => Char.isAlphaNum c orelse c = #"'") word
           else if Substring.isPrefix "=>" rest then SOME (Symbol "=>", Substring.triml 2 rest)
           else if Char.contains "+-*/=<()" c then SOME (Symbol (str c), after)
-          else raise Unexpected (c, length)
+          else raise Unexpected (c, column)
         end
 
   fun tokens line =
     let
-      fun column rest = size line - Substring.size rest + 1
       fun from rest =
-        let val rest = Substring.dropl Char.isSpace rest
+        let
+          val rest = Substring.dropl Char.isSpace rest
+          val column = size line - Substring.size rest + 1
         in
-          case next rest of
+          case next (column, rest) of
             NONE => []
-          | SOME (token, after) => (token, column rest) :: from after
+          | SOME (token, after) => (token, column) :: from after
         end
-        handle Unexpected (c, _) => raise Unexpected (c, column rest)
     in
       from (Substring.full line)
     end

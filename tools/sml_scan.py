@@ -1,11 +1,13 @@
 """What a Standard ML source declares at its top level, and what it names of other sources: by its tokens alone.
 
-`scan(text)` gives a `Source`. It knows where structures, signatures and functors are in scope; a value or a type counts as
-named wherever its identifier stands.
+`scan(text)` gives a `Source`. It knows the scopes of structures, signatures and functors. Of values it knows those of
+declarations, and of patterns up to the next `|`; so a word may count as another source's that is a local one.
 """
 import re
 
 STRUCTURE, SIGNATURE, FUNCTOR, WORD = "structure", "signature", "functor", "value or type"
+# (constructors and exceptions are words too; what stands as a variable in a pattern is one where there is such a one)
+CONSTRUCTOR = "constructor"
 RESERVED = set("""abstype and andalso as case datatype do else end eqtype exception fn fun functor handle if in include infix
 infixr let local nonfix of op open orelse raise rec sharing sig signature struct structure then type val where while with
 withtype : | = => -> # :>""".split())
@@ -54,17 +56,39 @@ def is_symbolic(token):
     return is_name(token) and not token[0].isalpha()
 
 
+def variables_of(tokens, infix, is_head):
+    """The variables of a pattern: no types, no labels, nothing that is applied or begins with a capital letter. In the head
+    of a clause what stands outside of brackets isn't applied."""
+    found, in_type, depth = set(), False, 0
+    for at, token in enumerate(tokens):
+        following = tokens[at + 1] if at + 1 < len(tokens) else None
+        depth += (token in CLOSING) - (token in (")", "]", "}"))
+        if token == ":":
+            in_type = True
+        elif token in (",", ")", "]", "}", "as"):
+            in_type = False
+        elif is_name(token) and not in_type and "." not in token[:-1]:
+            is_operator = token in infix or is_symbolic(token)
+            is_alone = at == 0 or tokens[at - 1] == "op"
+            is_applied = following in CLOSING or following == '""' or is_name(following) and following not in infix
+            is_applied = is_applied and not is_operator and not (is_head and depth == 0)
+            if not (is_operator and not is_alone or token[0].isupper() or following == "=" and depth or is_applied):
+                found.add(token)
+    return found
+
+
 class Shape:
     """What an environment binds. A structure has a shape of its own, or the name of what has it: (kind, long name)."""
 
     def __init__(self):
-        self.bound = {STRUCTURE: {}, SIGNATURE: {}, FUNCTOR: {}, WORD: set()}
+        self.bound = {STRUCTURE: {}, SIGNATURE: {}, FUNCTOR: {}, WORD: set(), CONSTRUCTOR: set()}
         self.opened, self.replicated = [], []
 
     def take(self, other):
         for kind in (STRUCTURE, SIGNATURE, FUNCTOR):
             self.bound[kind].update(other.bound[kind])
-        self.bound[WORD] |= other.bound[WORD]
+        for kind in (WORD, CONSTRUCTOR):
+            self.bound[kind] |= other.bound[kind]
         self.opened += other.opened
         self.replicated += other.replicated
 
@@ -148,6 +172,7 @@ class Scanner:
         return shape
 
     def modules(self, kind, shape):
+        new = {}
         while True:
             name, found = self.next(), Shape()
             if kind == FUNCTOR:
@@ -161,9 +186,10 @@ class Scanner:
                 found = self.signature() if kind == SIGNATURE else self.structure()
             if kind == FUNCTOR:
                 self.scopes.pop()
-            shape.bound[kind][name] = found
+            new[name] = found
             if not self.skip("and"):
-                return
+                break
+        shape.bound[kind].update(new)
 
     def parameters(self):
         shape = Shape()
@@ -289,55 +315,47 @@ class Scanner:
         while True:
             self.skip("op")
             if is_name(self.peek()):
-                shape.bound[WORD].add(self.next())
+                self.bind_constructor(shape)
             self.words(stop)
             if not self.skip("|"):
                 return
 
+    def bind_constructor(self, shape):
+        name = self.next()
+        shape.bound[WORD].add(name)
+        shape.bound[CONSTRUCTOR].add(name)
+
     def exceptions(self, shape):
         while is_name(self.peek()) or self.peek() == "op":
             self.skip("op")
-            shape.bound[WORD].add(self.next())
+            self.bind_constructor(shape)
             self.words(DECLARES | {"and", "in", "end", ")", ";"})
             if not self.skip("and"):
                 return
 
     def values(self, shape):
         self.type_variables()
+        bound, is_recursive = set(), False
         while True:
-            self.skip("rec")
-            start = self.at
-            self.pattern(("=",))
-            shape.bound[WORD] |= self.bound_in(self.tokens[start:self.at])
+            is_recursive = self.skip("rec") or is_recursive
+            new = self.pattern(("=",))
+            if is_recursive:
+                shape.bound[WORD] |= new
+            bound |= new
             self.skip("=")
             self.expression(())
             if not self.skip("and"):
-                return
-
-    def bound_in(self, tokens):
-        """The variables of a pattern: no types, no labels, nothing that is applied or begins with a capital letter."""
-        found, in_type = set(), False
-        for at, token in enumerate(tokens):
-            following = tokens[at + 1] if at + 1 < len(tokens) else None
-            if token == ":":
-                in_type = True
-            elif token in (",", ")", "]", "}", "as"):
-                in_type = False
-            elif is_name(token) and not in_type and "." not in token[:-1]:
-                is_operator = token in self.infix or is_symbolic(token)
-                is_alone = at == 0 or tokens[at - 1] == "op"
-                is_applied = following in CLOSING or following == '""' or is_name(following) and following not in self.infix
-                if not (is_operator and not is_alone or token[0].isupper() or following == "=" or is_applied and not is_operator):
-                    found.add(token)
-        return found
+                break
+        shape.bound[WORD] |= bound
 
     def functions(self, shape):
         self.type_variables()
         while True:
             shape.bound[WORD].add(self.function_name())
-            self.pattern(("=",))
+            local = Shape()
+            local.bound[WORD] |= self.pattern(("=",), is_head=True)
             self.skip("=")
-            self.expression(())
+            self.expression((), local, is_head=True)
             if not self.skip("and"):
                 return
 
@@ -352,23 +370,30 @@ class Scanner:
             return second
         return first
 
-    def pattern(self, stop):
-        """A pattern, whose words are named as constructors may be, and perhaps bound."""
-        while self.peek() is not None and self.peek() not in stop and self.peek() not in DECLARES | {"end", "in"}:
-            token = self.next()
-            if token in CLOSING:
-                self.pattern((CLOSING[token],))
-                self.at += 1
-            elif is_name(token):
-                self.use(WORD, token)
-                self.source.patterns.add(token)
+    def pattern(self, stop, is_head=False):
+        """Passes a pattern or the head of a clause, and gives its variables."""
+        start, depth = self.at, 0
+        while self.peek() is not None and (depth or self.peek() not in stop):
+            if self.peek() in DECLARES | {"end", "in"} or not depth and self.peek() in (")", "]", "}"):
+                break
+            depth += (self.peek() in CLOSING) - (self.peek() in (")", "]", "}"))
+            self.at += 1
+        tokens = self.tokens[start:self.at]
+        bound = variables_of(tokens, self.infix, is_head)
+        for token in tokens:
+            if is_name(token):
+                self.use(CONSTRUCTOR if token in bound else WORD, token)
+        self.source.patterns |= bound
+        return bound
 
-    def expression(self, stop):
-        """An expression up to what can't be a part of it."""
+    def expression(self, stop, local=None, is_head=False):
+        """An expression up to what can't be a part of it; `local` has the variables of its patterns."""
+        local = Shape() if local is None else local
+        self.scopes.append(local)
         while self.peek() is not None and self.peek() not in DECLARES and self.peek() not in stop:
             token = self.peek()
             if token in ("and", "in", "end", "with", "withtype", ")", "]", "}", ",") or token == ";" and ";" not in stop:
-                return
+                break
             self.at += 1
             if token == "let":
                 self.scopes.append(self.declarations(("in",)))
@@ -377,13 +402,13 @@ class Scanner:
                 self.scopes.pop()
             elif token in CLOSING:
                 self.sequence(CLOSING[token])
-            elif token in ("fn", "|", "handle"):
-                self.pattern(("=>", "="))
-            elif token == "of":
-                self.pattern(("=>",))
-            elif token == "op" or is_name(token):
-                if is_name(token):
-                    self.use(WORD, token)
+            elif token in ("fn", "|", "handle", "of"):
+                if token == "|":
+                    local.bound[WORD] = set()
+                local.bound[WORD] |= self.pattern(("=>",) if token == "of" else ("=>", "="), is_head and token == "|")
+            elif is_name(token):
+                self.use(WORD, token)
+        self.scopes.pop()
 
     def sequence(self, closing):
         while self.peek() is not None and self.peek() != closing:

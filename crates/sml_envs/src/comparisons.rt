@@ -34,6 +34,19 @@ pub fn same_constructors(
     Ok(true)
 }
 
+/// Whether two datatypes have the same identifiers of constructors.
+pub fn same_identifiers(ones: &Constructors, others: &Constructors) -> bool {
+    if ones.len() != others.len() {
+        return false;
+    }
+    for (name, _) in ones {
+        if !others.contains_key(name) {
+            return false;
+        }
+    }
+    true
+}
+
 /// Whether two schemes are equal. Type functions in the place of names may change the order in which the variables of a
 /// scheme appear, and drop some, so these are paired as they appear.
 fn same_scheme(alloc: Global, one: &Scheme, other: &Scheme) -> Result<bool, Memory> {

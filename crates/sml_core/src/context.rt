@@ -4,13 +4,11 @@ use crate::explicit::Explicit;
 use sml_asks::asks::{ask_class, ask_equal, ask_equality, ask_instance, ask_within};
 use sml_bases::objects::{Basis, Env, Status, TypeStr, Value};
 use sml_envs::new_names::NewNames;
-use sml_envs::sizes::{GREATEST_SIZE, is_cut};
 use sml_graph::demand::Refusal;
 use sml_layers::class::Class;
 use sml_layers::layer::Bound;
 use sml_lex::fault::{Code, Memory, Place, Warning};
 use sml_objects::objects::{MlType, Scheme};
-use sml_objects::sizes::size_up_to;
 use sml_scopes::scopes::{Mark, Scopes};
 use sml_scopes::values::value_at;
 use sml_solve::solver::Solver;
@@ -19,7 +17,9 @@ use sml_tree::types::Ty;
 use sml_types::fault::{CoreFault, plain_fault};
 use sml_types::rows::{boxed, number_of};
 use sml_types::scope::unbound;
-use sml_types::types::type_of;
+use sml_types::sizes::small;
+use sml_types::types::{type_of, type_place};
+use sml_types::written::Written;
 use std::alloc::Global;
 use std::collections::BTreeMap;
 use std::mem;
@@ -42,8 +42,6 @@ pub struct Context<'a> {
     pub(crate) overloaded: Vec<u32>,
     /// Whether an unknown of an earlier declaration may still stand in the scopes.
     pub(crate) is_open: bool,
-    /// Whether a constraint of the value declaration has a part that was too large to be made.
-    pub(crate) is_cut: bool,
 }
 
 /// The fault of a demand that was refused there.
@@ -71,7 +69,6 @@ impl<'a> Context<'a> {
             rows: Vec::new(alloc),
             overloaded: Vec::new(alloc),
             is_open: false,
-            is_cut: false,
         }
     }
 
@@ -285,12 +282,16 @@ impl<'a> Context<'a> {
         Ok(())
     }
 
-    /// The type that a type expression means, with the explicit type variables in scope.
+    /// What a type expression means, with the explicit type variables in scope.
+    pub(crate) fn written(&mut self, ty: &Ty) -> Result<Rc<Written>, CoreFault> {
+        type_of(self.alloc, &self.scopes, &mut self.explicit, ty)
+    }
+
+    /// The type that a constraint means, with the explicit type variables in scope. One that is too large for a scheme is E7
+    /// at its first token.
     pub(crate) fn ty(&mut self, ty: &Ty) -> Result<Rc<MlType>, CoreFault> {
-        let ty = type_of(self.alloc, &self.scopes, &mut self.explicit, ty)?;
-        if size_up_to(&ty, GREATEST_SIZE) > GREATEST_SIZE && is_cut(&ty) {
-            self.is_cut = true;
-        }
-        Ok(ty)
+        let written = self.written(ty)?;
+        small(self.alloc, type_place(ty), &written)?;
+        Ok(written.make(self.alloc)?)
     }
 }

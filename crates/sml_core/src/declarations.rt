@@ -3,7 +3,7 @@
 use crate::context::Context;
 use crate::expressions::of_type;
 use sml_bases::objects::{Env, Status, Value};
-use sml_lex::fault::{Code, Place};
+use sml_lex::fault::{Code, Memory, Place};
 use sml_objects::objects::Initial;
 use sml_scopes::scopes::Mark;
 use sml_tree::bare::{Ident, LongIdent};
@@ -14,7 +14,9 @@ use sml_types::datatypes::{datatypes, put_constructors};
 use sml_types::fault::{CoreFault, plain_fault};
 use sml_types::rows::{arrow, initial};
 use sml_types::scope::{structure_at, type_at};
-use sml_types::sizes::small;
+use sml_types::sizes::small_beside;
+use sml_types::written::Written;
+use std::alloc::Global;
 use std::rc::Rc;
 
 /// What was open when the first part of `local` began.
@@ -24,12 +26,33 @@ pub struct Hidden {
     exports: Option<Env>,
 }
 
-/// Demands that the types of values are small, or E7.
-fn small_values(place: Place, env: &Env) -> Result<(), CoreFault> {
-    for (_, value) in &env.values {
-        small(place, &value.scheme)?;
+/// What an exception binding gives: a new exception with what its argument means, or one that stands already.
+#[derive(Drop)]
+enum Exception {
+    New(Option<Rc<Written>>),
+    Copy(Value),
+}
+
+/// That the type of an exception isn't too large, or E7 at the place.
+fn small_exception(alloc: Global, place: Place, exception: &Exception) -> Result<(), CoreFault> {
+    match exception {
+        Exception::New(Some(ty)) => small_beside(alloc, place, 2, ty),
+        Exception::New(None) | Exception::Copy(_) => Ok(()),
     }
-    Ok(())
+}
+
+/// The value that an exception is.
+fn exception_value(alloc: Global, exception: &Exception) -> Result<Value, Memory> {
+    let argument = match exception {
+        Exception::Copy(value) => return value.share(),
+        Exception::New(argument) => argument,
+    };
+    let exn = initial(alloc, Initial::Exn)?;
+    let ty = match argument {
+        None => exn,
+        Some(ty) => arrow(alloc, ty.make(alloc)?, exn)?,
+    };
+    of_type(alloc, Status::Exception, ty)
 }
 
 impl Context<'_> {
@@ -97,10 +120,7 @@ impl Context<'_> {
 
     #[inline(never)]
     fn type_dec(&mut self, place: Place, binds: &[TypBind]) -> Result<(), CoreFault> {
-        let env = types(self.alloc, &self.scopes, binds)?;
-        for (_, ty) in &env.types {
-            small(place, &ty.function)?;
-        }
+        let env = types(self.alloc, &self.scopes, place, binds)?;
         Ok(self.bind_env(env)?)
     }
 
@@ -111,8 +131,14 @@ impl Context<'_> {
         binds: &[DatBind],
         withtype: &[TypBind],
     ) -> Result<(), CoreFault> {
-        let env = datatypes(self.alloc, &self.scopes, &mut self.new, binds, withtype)?;
-        small_values(place, &env)?;
+        let env = datatypes(
+            self.alloc,
+            &self.scopes,
+            &mut self.new,
+            place,
+            binds,
+            withtype,
+        )?;
         Ok(self.bind_env(env)?)
     }
 
@@ -127,36 +153,35 @@ impl Context<'_> {
 
     #[inline(never)]
     fn exception_dec(&mut self, place: Place, binds: &[ExnBind]) -> Result<(), CoreFault> {
-        let mut made = Vec::new(self.alloc);
+        let mut read = Vec::new(self.alloc);
         for bind in binds {
-            made.push(self.exception(bind)?)?;
+            read.push(self.exception(bind)?)?;
         }
-        for (_, value) in &made {
-            small(place, &value.scheme)?;
+        for (_, exception) in &read {
+            small_exception(self.alloc, place, exception)?;
         }
-        for (name, value) in made {
-            self.bind_value(&name, value)?;
+        for (name, exception) in &read {
+            let value = exception_value(self.alloc, exception)?;
+            self.bind_value(name, value)?;
         }
         Ok(())
     }
 
-    fn exception(&mut self, bind: &ExnBind) -> Result<(Ident, Value), CoreFault> {
+    fn exception(&mut self, bind: &ExnBind) -> Result<(Ident, Exception), CoreFault> {
         match bind {
             ExnBind::New(ConBind { name, argument }) => {
-                let exn = initial(self.alloc, Initial::Exn)?;
-                let ty = match argument {
-                    None => exn,
-                    Some(ty) => arrow(self.alloc, self.ty(ty)?, exn)?,
+                let argument = match argument {
+                    None => None,
+                    Some(ty) => Some(self.written(ty)?),
                 };
-                let value = of_type(self.alloc, Status::Exception, ty)?;
-                Ok((name.ident.clone()?, value))
+                Ok((name.ident.clone()?, Exception::New(argument)))
             }
             ExnBind::Copy(name, long) => {
                 let value = self.value(long)?;
                 if value.status != Status::Exception {
                     return Err(plain_fault(Code::E5, long.place));
                 }
-                Ok((name.ident.clone()?, value))
+                Ok((name.ident.clone()?, Exception::Copy(value)))
             }
         }
     }

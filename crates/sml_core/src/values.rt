@@ -23,12 +23,11 @@ use sml_types::fault::{CoreFault, plain_fault};
 use sml_types::variables::{collect_free, is_equality_variable, is_ground};
 use sml_warnings::matches::judge_binding;
 use std::alloc::Global;
-use std::mem;
 use std::rc::Rc;
 
 /// A value declaration while it is gone through: how many unknowns, flexible rows, unknowns of overloaded identifiers and
-/// explicit type variables there were before it, the unknowns of those that are scoped here, what it binds, each variable with a flag where its right side is
-/// expansive, and whether the declaration around it has a constraint that is too large.
+/// explicit type variables there were before it, the unknowns of those that are scoped here, and what it binds, each
+/// variable with a flag where its right side is expansive.
 #[derive(Drop)]
 pub(crate) struct Declaration {
     unknowns: usize,
@@ -38,7 +37,6 @@ pub(crate) struct Declaration {
     scoped: Vec<u32>,
     variables: Variables,
     expansive: Vec<bool>,
-    is_outer_cut: bool,
 }
 
 impl Context<'_> {
@@ -65,7 +63,6 @@ impl Context<'_> {
             scoped,
             variables: Variables::new(self.alloc),
             expansive: Vec::new(self.alloc),
-            is_outer_cut: mem::replace(&mut self.is_cut, false),
         })
     }
 
@@ -186,7 +183,7 @@ impl Context<'_> {
     }
 
     /// Ends a value declaration: what is overloaded in it becomes `int`, rows have their labels, explicit type variables
-    /// are general, and the types of its variables, which aren't too large, nor is a constraint in it, are closed and bound.
+    /// are general, and the types of its variables, which aren't too large, are closed and bound.
     #[inline(never)]
     pub(crate) fn end_values(
         &mut self,
@@ -199,10 +196,9 @@ impl Context<'_> {
             self.require_general(place, &declaration)?;
         }
         self.explicit.leave(declaration.explicit);
-        let schemes = self.schemes(place, &declaration)?;
-        if mem::replace(&mut self.is_cut, declaration.is_outer_cut) {
-            return Err(plain_fault(Code::E7, place));
-        }
+        let readings = self.readings(place, &declaration.variables)?;
+        let schemes = self.schemes(place, &declaration, &readings)?;
+        self.require_made(place, &declaration.variables, &schemes)?;
         self.bind_schemes(&declaration.variables, schemes)
     }
 
@@ -267,21 +263,51 @@ impl Context<'_> {
         }
     }
 
-    /// The schemes of the variables of a value declaration.
+    /// The types that the types of variables stand for, or E7.
+    fn readings(
+        &mut self,
+        place: Place,
+        variables: &Variables,
+    ) -> Result<Vec<Rc<MlType>>, CoreFault> {
+        let mut readings = Vec::new(self.alloc);
+        for (_, ty) in &variables.types {
+            readings.push(self.reading(place, ty)?)?;
+        }
+        Ok(readings)
+    }
+
+    /// The schemes of the variables of a value declaration, whose types stand for these.
     fn schemes(
         &mut self,
         place: Place,
         declaration: &Declaration,
+        readings: &[Rc<MlType>],
     ) -> Result<Vec<Rc<Scheme>>, CoreFault> {
         let mut fixed: Option<Vec<bool>> = None;
         let mut schemes = Vec::new(self.alloc);
-        for (index, (_, ty)) in declaration.variables.types.iter().enumerate() {
+        for (index, reading) in readings.iter().enumerate() {
             let is_expansive = is_set(&declaration.expansive, index);
             let first = declaration.unknowns;
-            let scheme = self.scheme(place, ty, first, is_expansive, &mut fixed)?;
+            let scheme = self.scheme(place, reading, first, is_expansive, &mut fixed)?;
             schemes.push(Rc::new(self.alloc, scheme)?)?;
         }
         Ok(schemes)
+    }
+
+    /// Demands that what stays unknown in the types of variables mentions no name that is made later.
+    fn require_made(
+        &mut self,
+        place: Place,
+        variables: &Variables,
+        schemes: &[Rc<Scheme>],
+    ) -> Result<(), CoreFault> {
+        for ((_, ty), scheme) in variables.types.iter().zip(schemes) {
+            if !is_ground(&scheme.body) {
+                self.is_open = true;
+                self.within(place, ty, Bound::Newness, self.new.next)?;
+            }
+        }
+        Ok(())
     }
 
     /// The scheme of a variable in a declaration that begins behind the first unknowns. Which unknowns are fixed is asked
@@ -289,23 +315,22 @@ impl Context<'_> {
     fn scheme(
         &mut self,
         place: Place,
-        ty: &MlType,
+        reading: &Rc<MlType>,
         first: usize,
         is_expansive: bool,
         fixed: &mut Option<Vec<bool>>,
     ) -> Result<Scheme, CoreFault> {
-        let reading = self.reading(place, ty)?;
-        if is_ground(&reading) {
+        if is_ground(reading) {
             return Ok(Scheme {
                 variables: Vec::new(self.alloc),
-                body: reading,
+                body: reading.clone()?,
             });
         }
         let flags = match fixed.take() {
             Some(flags) => flags,
             None => self.fixed(first)?,
         };
-        let scheme = self.closed(place, &reading, &flags, is_expansive)?;
+        let scheme = self.closed(place, reading, &flags, is_expansive)?;
         *fixed = Some(flags);
         Ok(scheme)
     }
@@ -333,7 +358,7 @@ impl Context<'_> {
         }
     }
 
-    /// The scheme of a type. What stays unknown in it mentions no name that is made later.
+    /// The scheme of a type, or E7.
     fn closed(
         &mut self,
         place: Place,
@@ -349,16 +374,11 @@ impl Context<'_> {
             is_expansive,
             GREATEST_SIZE,
         );
-        let scheme = match found {
-            Ok(Some(scheme)) => scheme,
-            Ok(None) => return Err(plain_fault(Code::E7, place)),
-            Err(_) => return Err(CoreFault::Memory),
-        };
-        if !is_ground(&scheme.body) {
-            self.is_open = true;
-            self.within(place, ty, Bound::Newness, self.new.next)?;
+        match found {
+            Ok(Some(scheme)) => Ok(scheme),
+            Ok(None) => Err(plain_fault(Code::E7, place)),
+            Err(_) => Err(CoreFault::Memory),
         }
-        Ok(scheme)
     }
 }
 

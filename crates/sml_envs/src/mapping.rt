@@ -1,11 +1,12 @@
-//! Objects with other types for their variables and their names. What doesn't change is shared.
+//! Objects with other types for their variables and their names. What doesn't change is shared. Who gives type functions for
+//! names asks first how large what becomes of an object is.
 
 ghost use Rattle.std.specs.Prelude.{◌<◌, length};
 
 use crate::order::in_order;
-use crate::sizes::applied;
 use sml_bases::objects::{Constructors, Env, TypeStr, Value};
 use sml_lex::fault::Memory;
+use sml_objects::applications::apply;
 use sml_objects::objects::{MlType, Scheme, TyName};
 use sml_tree::bare::Ident;
 use std::alloc::Global;
@@ -130,8 +131,8 @@ fn changed_name<M: Mapping>(
             boxed(alloc, MlType::Name(name, parts))
         }
         Image::Function(function) => match changed {
-            None => Ok(Some(applied(alloc, function, parts)?)),
-            Some(parts) => Ok(Some(applied(alloc, function, &parts)?)),
+            None => Ok(Some(apply(alloc, function, parts)?)),
+            Some(parts) => Ok(Some(apply(alloc, function, &parts)?)),
         },
     }
 }

@@ -1,86 +1,232 @@
-//! The limit on the sizes of types, kept while they are built.
+//! The limit on the sizes of types, asked of types that are not made yet.
 
+use crate::mapping::{Image, Mapping};
+use sml_bases::objects::{Constructors, Env, TypeStr, Value};
 use sml_lex::fault::Memory;
-use sml_objects::applications::apply;
-use sml_objects::objects::{Initial, MlType, Scheme, TyName};
-use sml_objects::sizes::size_up_to;
+use sml_objects::objects::{MlType, Scheme};
+use sml_tree::bare::Ident;
 use std::alloc::Global;
+use std::collections::BTreeMap;
 use std::rc::Rc;
 
 /// The greatest size of a scheme and of the body of a type function, in nodes.
 pub const GREATEST_SIZE: u32 = 10_000;
 
-/// What a type function gives for these types. Where that is too large for a scheme, a shallow type that is too large as
-/// well stands for it. So no type becomes much larger or deeper than the limit, and what it comes into is too large.
-pub fn applied(
-    alloc: Global,
-    function: &Scheme,
-    arguments: &[Rc<MlType>],
-) -> Result<Rc<MlType>, Memory> {
-    if arguments.is_empty() {
-        return Ok(apply(alloc, function, arguments)?);
-    }
-    // what it gives is no smaller than its body
-    if is_too_large(&function.body) {
-        return too_large(alloc);
-    }
-    let ty = apply(alloc, function, arguments)?;
-    if is_too_large(&ty) {
-        return too_large(alloc);
-    }
-    Ok(ty)
+/// How many nodes a type has, without those of its bound variables that are counted by themselves. Once there are more than
+/// a scheme may have, what is left isn't counted. Numbers stop at the greatest of their type.
+#[derive(Drop)]
+pub struct Count {
+    pub nodes: u32,
+    /// How often each of the first bound variables stands in the type.
+    pub uses: Vec<u32>,
 }
 
-fn is_too_large(ty: &MlType) -> bool {
-    size_up_to(ty, GREATEST_SIZE) > GREATEST_SIZE
-}
-
-/// A shallow type of more nodes than a scheme may have, whose parts are shared. No other type is a list of more types than
-/// one.
-fn too_large(alloc: Global) -> Result<Rc<MlType>, Memory> {
-    let int = Rc::new(
-        alloc,
-        MlType::Name(TyName::Initial(Initial::Int), Vec::new(alloc)),
-    )?;
-    let wide = list_of_copies(alloc, &int)?;
-    list_of_copies(alloc, &wide)
-}
-
-/// The list of a type, written 101 times: so a list of such lists has 10,303 nodes.
-fn list_of_copies(alloc: Global, part: &Rc<MlType>) -> Result<Rc<MlType>, Memory> {
-    let mut parts = Vec::new(alloc);
-    for _ in 0..101 {
-        parts.push(part.clone()?)?;
+impl Count {
+    /// A count of nothing, in which so many bound variables are counted by themselves.
+    pub fn new(alloc: Global, variables: usize) -> Result<Count, Memory> {
+        let mut uses = Vec::new(alloc);
+        uses.resize(variables, 0)?;
+        Ok(Count { nodes: 0, uses })
     }
-    let list = MlType::Name(TyName::Initial(Initial::List), parts);
-    Ok(Rc::new(alloc, list)?)
-}
 
-/// Whether a type has a part that stands for one that is too large.
-#[cycle(cut)]
-pub fn is_cut(ty: &MlType) -> bool {
-    match ty {
-        MlType::Bound(_) => false,
-        MlType::Free(_) => false,
-        MlType::Row(_, parts) => are_cut(parts),
-        MlType::Arrow(from, to) => is_cut(from) || is_cut(to),
-        MlType::Name(name, parts) => is_list(*name) && parts.len() > 1 || are_cut(parts),
+    /// The count of the body of a type function, in which its variables are counted by themselves.
+    pub fn of_function(alloc: Global, function: &Scheme) -> Result<Count, Memory> {
+        let mut count = Count::new(alloc, function.variables.len())?;
+        count.add_type(1, &function.body);
+        Ok(count)
     }
-}
 
-#[cycle(cut)]
-fn are_cut(parts: &[Rc<MlType>]) -> bool {
-    for part in parts {
-        if is_cut(part) {
-            return true;
+    /// Whether there are more nodes than a scheme may have.
+    pub fn is_large(&self) -> bool {
+        self.nodes > GREATEST_SIZE
+    }
+
+    /// Adds so many nodes.
+    pub fn add(&mut self, nodes: u32) {
+        self.nodes = self.nodes.saturating_add(nodes);
+    }
+
+    /// Adds a type so many times.
+    #[cycle(count)]
+    pub fn add_type(&mut self, times: u32, ty: &MlType) {
+        if self.is_large() {
+            return;
+        }
+        match ty {
+            MlType::Bound(variable) => self.add_bound(times, *variable),
+            MlType::Free(_) => self.add(times),
+            MlType::Row(_, parts) => self.add_types(times, parts),
+            MlType::Arrow(from, to) => {
+                self.add(times);
+                self.add_type(times, from);
+                self.add_type(times, to);
+            }
+            MlType::Name(_, parts) => self.add_types(times, parts),
         }
     }
-    false
+
+    /// Adds a node above these types so many times.
+    #[cycle(count)]
+    fn add_types(&mut self, times: u32, parts: &[Rc<MlType>]) {
+        self.add(times);
+        for part in parts {
+            self.add_type(times, part);
+        }
+    }
+
+    fn add_bound(&mut self, times: u32, variable: u32) {
+        match self.uses.get_mut(variable as usize) {
+            Some(uses) => *uses = uses.saturating_add(times),
+            None => self.add(times),
+        }
+    }
+
+    /// Adds what stands for a variable so many times; `None` is that it stays.
+    fn add_image(&mut self, times: u32, image: Option<Rc<MlType>>) {
+        match image {
+            Some(ty) => self.add_type(times, &ty),
+            None => self.add(times),
+        }
+    }
 }
 
-fn is_list(name: TyName) -> bool {
-    match name {
-        TyName::Initial(Initial::List) => true,
-        _ => false,
+/// Whether some scheme or type function of an environment becomes larger than a scheme may be. Nothing is made.
+#[cycle(envs)]
+pub fn has_large_under<M: Mapping>(alloc: Global, env: &Env, by: &M) -> Result<bool, Memory> {
+    let is_large = have_large_under(alloc, &env.structures, by)?
+        || types_are_large(alloc, &env.types, by)?
+        || values_are_large(alloc, &env.values, by)?;
+    Ok(is_large)
+}
+
+#[cycle(envs)]
+fn have_large_under<M: Mapping>(
+    alloc: Global,
+    structures: &BTreeMap<Ident, Rc<Env>>,
+    by: &M,
+) -> Result<bool, Memory> {
+    for (_, structure) in structures {
+        if has_large_under(alloc, structure, by)? {
+            return Ok(true);
+        }
     }
+    Ok(false)
+}
+
+fn types_are_large<M: Mapping>(
+    alloc: Global,
+    types: &BTreeMap<Ident, TypeStr>,
+    by: &M,
+) -> Result<bool, Memory> {
+    for (_, ty) in types {
+        if is_large_under(alloc, &ty.function, by)? || schemes_are_large(alloc, &ty.constructors, by)? {
+            return Ok(true);
+        }
+    }
+    Ok(false)
+}
+
+fn schemes_are_large<M: Mapping>(
+    alloc: Global,
+    schemes: &Constructors,
+    by: &M,
+) -> Result<bool, Memory> {
+    for (_, scheme) in schemes {
+        if is_large_under(alloc, scheme, by)? {
+            return Ok(true);
+        }
+    }
+    Ok(false)
+}
+
+fn values_are_large<M: Mapping>(
+    alloc: Global,
+    values: &BTreeMap<Ident, Value>,
+    by: &M,
+) -> Result<bool, Memory> {
+    for (_, value) in values {
+        if is_large_under(alloc, &value.scheme, by)? {
+            return Ok(true);
+        }
+    }
+    Ok(false)
+}
+
+/// Whether a scheme or a type function becomes larger than a scheme may be.
+fn is_large_under<M: Mapping>(alloc: Global, scheme: &Scheme, by: &M) -> Result<bool, Memory> {
+    let mut count = Count::new(alloc, 0)?;
+    add_under(alloc, &mut count, 1, &scheme.body, by)?;
+    Ok(count.is_large())
+}
+
+/// Adds what a type becomes so many times.
+#[cycle(under)]
+fn add_under<M: Mapping>(
+    alloc: Global,
+    count: &mut Count,
+    times: u32,
+    ty: &MlType,
+    by: &M,
+) -> Result<(), Memory> {
+    if count.is_large() {
+        return Ok(());
+    }
+    match ty {
+        MlType::Bound(variable) => {
+            count.add_image(times, by.bound(alloc, *variable)?);
+            Ok(())
+        }
+        MlType::Free(variable) => {
+            count.add_image(times, by.free(alloc, *variable)?);
+            Ok(())
+        }
+        MlType::Row(_, parts) => add_all_under(alloc, count, times, parts, by),
+        MlType::Arrow(from, to) => {
+            count.add(times);
+            add_under(alloc, count, times, from, by)?;
+            add_under(alloc, count, times, to, by)
+        }
+        MlType::Name(name, parts) => match by.name(*name) {
+            Image::Same | Image::Name(_) => add_all_under(alloc, count, times, parts, by),
+            Image::Function(function) => add_applied(alloc, count, times, function, parts, by),
+        },
+    }
+}
+
+/// Adds a node above what these types become so many times.
+#[cycle(under)]
+#[inline(never)]
+fn add_all_under<M: Mapping>(
+    alloc: Global,
+    count: &mut Count,
+    times: u32,
+    parts: &[Rc<MlType>],
+    by: &M,
+) -> Result<(), Memory> {
+    count.add(times);
+    for part in parts {
+        add_under(alloc, count, times, part, by)?;
+    }
+    Ok(())
+}
+
+/// Adds what a type function gives for what these types become so many times.
+#[cycle(under)]
+#[inline(never)]
+fn add_applied<M: Mapping>(
+    alloc: Global,
+    count: &mut Count,
+    times: u32,
+    function: &Scheme,
+    parts: &[Rc<MlType>],
+    by: &M,
+) -> Result<(), Memory> {
+    let body = Count::of_function(alloc, function)?;
+    count.add(times.saturating_mul(body.nodes));
+    for (part, uses) in parts.iter().zip(&body.uses) {
+        if *uses > 0 {
+            add_under(alloc, count, times.saturating_mul(*uses), part, by)?;
+        }
+    }
+    Ok(())
 }

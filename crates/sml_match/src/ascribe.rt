@@ -10,12 +10,13 @@ use sml_lex::fault::Place;
 use sml_solve::solver::Solver;
 use sml_tree::structures::Ascription;
 use sml_types::fault::CoreFault;
-use sml_types::sizes::small_env;
+use sml_types::sizes::small_env_under;
 use std::alloc::Global;
 use std::rc::Rc;
 
 /// The environment that a structure has behind an ascription: the signature's, with the structure's types for the names
-/// that it binds where the ascription is transparent, and with new names where it is opaque.
+/// that it binds where the ascription is transparent, and with new names where it is opaque. Where the signature becomes too
+/// large with the structure's types, that is E7 at the place before anything is compared.
 pub fn ascribed(
     alloc: Global,
     new: &mut NewNames,
@@ -26,13 +27,11 @@ pub fn ascribed(
     place: Place,
 ) -> Result<Rc<Env>, CoreFault> {
     let realisation = realise(alloc, sig, env, place)?;
+    small_env_under(alloc, place, &sig.env, &realisation)?;
     let realised = mapped_env(alloc, &sig.env, &realisation)?;
     enriches(alloc, env, &realised, solver, place)?;
     match ascription {
-        Ascription::Transparent => {
-            small_env(place, &realised)?;
-            Ok(realised)
-        }
+        Ascription::Transparent => Ok(realised),
         Ascription::Opaque => {
             let Sig { env, .. } = renamed_sig(alloc, sig, new)?;
             Ok(env)

@@ -1,10 +1,11 @@
 //! Functors and their applications (the Definition, section 5.7, rules 54, 85 and 86).
 
-use crate::settled::settled_shared;
+use crate::settled::{Known, known_in, settled_by};
 use crate::structures::{begin, end_let, structure};
 use sml_bases::objects::{Basis, Env, FunSig, Sig};
 use sml_core::context::Context;
 use sml_envs::canonical::{applied_result, names_from};
+use sml_envs::mapping::mapped_env;
 use sml_lex::fault::{Code, Place};
 use sml_match::enrich::enriches;
 use sml_match::realise::realise;
@@ -12,7 +13,7 @@ use sml_sigs::sigs::signature;
 use sml_tree::names::Name;
 use sml_tree::structures::FunBind;
 use sml_types::fault::{CoreFault, fault_about};
-use sml_types::sizes::small_env;
+use sml_types::sizes::small_env_under;
 use std::rc::Rc;
 
 /// The functor of a name.
@@ -36,14 +37,15 @@ pub(crate) fn applied(
 ) -> Result<Rc<Env>, CoreFault> {
     let alloc = context.alloc;
     let realisation = realise(alloc, &functor.argument, argument, place)?;
-    let wanted = sml_envs::mapping::mapped_env(alloc, &functor.argument.env, &realisation)?;
+    small_env_under(alloc, place, &functor.argument.env, &realisation)?;
+    let wanted = mapped_env(alloc, &functor.argument.env, &realisation)?;
     enriches(alloc, argument, &wanted, &mut context.solver, place)?;
-    let result = applied_result(alloc, functor, &realisation, &mut context.new)?;
-    small_env(place, &result)?;
-    Ok(result)
+    small_env_under(alloc, place, &functor.result.env, &realisation)?;
+    Ok(applied_result(alloc, functor, &realisation, &mut context.new)?)
 }
 
-/// Binds functors. Types of their results that are still unknown when all bodies were gone through are Q2 at the place.
+/// Binds functors. Types of their results that are still unknown when all bodies were gone through are Q2 at the place, and
+/// then such as are too large E7.
 pub(crate) fn functors(
     context: &mut Context,
     own: &mut Basis,
@@ -54,15 +56,30 @@ pub(crate) fn functors(
     for bind in binds {
         bodies.push(body_of(context, bind)?)?;
     }
+    let known = known_in_all(context, &bodies, place)?;
+    let mut known = known.iter();
     let mut bodies = bodies.into_iter();
     for bind in binds {
-        if let Some(body) = bodies.next() {
-            let functor = settled(context, body, place)?;
+        if let (Some(body), Some(known)) = (bodies.next(), known.next()) {
+            let functor = settled(context, body, known, place)?;
             let functor = Rc::new(context.alloc, functor)?;
             own.functors.insert(bind.name.ident.clone()?, functor)?;
         }
     }
     Ok(())
+}
+
+/// What the unknowns in what each body gives turned out to be.
+fn known_in_all(
+    context: &mut Context,
+    bodies: &[Body],
+    place: Place,
+) -> Result<Vec<Known>, CoreFault> {
+    let mut all = Vec::new(context.alloc);
+    for body in bodies {
+        all.push(known_in(context, &body.env, place)?)?;
+    }
+    Ok(all)
 }
 
 /// A functor's argument, the number of the first name that its body could make, and what the body is, whose types may be
@@ -106,8 +123,13 @@ fn result_of(
 }
 
 /// The functor once the types of its result are known. It makes the names that its body made and that stand there.
-fn settled(context: &mut Context, body: Body, place: Place) -> Result<FunSig, CoreFault> {
-    let env = settled_shared(context, &body.env, place)?;
+fn settled(
+    context: &Context,
+    body: Body,
+    known: &Known,
+    place: Place,
+) -> Result<FunSig, CoreFault> {
+    let env = settled_by(context.alloc, &body.env, known, place)?;
     let names = names_from(context.alloc, &env, context.new.unit, body.first)?;
     let Body { argument, .. } = body;
     Ok(FunSig {

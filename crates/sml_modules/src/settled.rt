@@ -1,7 +1,7 @@
 //! Exported types that were unknown where they were bound.
 
 use indexmap::{IndexMap, IndexSet};
-use sml_asks::asks::ask_reading;
+use sml_asks::asks::{ask_fixed, ask_reading};
 use sml_bases::objects::Env;
 use sml_core::context::Context;
 use sml_envs::mapping::{Image, Mapping, mapped_env};
@@ -9,14 +9,18 @@ use sml_envs::sizes::GREATEST_SIZE;
 use sml_lex::fault::{Code, Memory, Place};
 use sml_objects::objects::{MlType, TyName};
 use sml_types::fault::{CoreFault, plain_fault};
+use sml_types::rows::number_of;
+use sml_types::sizes::small_env_under;
 use sml_types::variables::{collect_free, is_ground};
 use std::alloc::Global;
 use std::rc::Rc;
 
-/// The types that unknowns turned out to be.
+/// The types that unknowns turned out to be, and whether there are others that turned out to be types too large for a
+/// scheme.
 #[derive(Drop)]
-struct Known {
+pub(crate) struct Known {
     types: IndexMap<u32, Rc<MlType>>,
+    has_large: bool,
 }
 
 impl Mapping for Known {
@@ -36,33 +40,47 @@ impl Mapping for Known {
     }
 }
 
-/// The environment with the types that its unknowns turned out to be. One that is still unknown is Q2.
+/// The environment with the types that its unknowns turned out to be. One that is still unknown is Q2, and then a scheme
+/// that is too large is E7.
 pub(crate) fn settled_env(context: &mut Context, env: Env, place: Place) -> Result<Env, CoreFault> {
     if !context.is_open() {
         return Ok(env);
     }
     let env = Rc::new(context.alloc, env)?;
-    let settled = settled_shared(context, &env, place)?;
+    let known = known_in(context, &env, place)?;
+    let settled = settled_by(context.alloc, &env, &known, place)?;
     let mut own = Env::new(context.alloc);
     own.add(&settled)?;
     Ok(own)
 }
 
-/// The same of a shared environment.
-pub(crate) fn settled_shared(
-    context: &mut Context,
-    env: &Rc<Env>,
-    place: Place,
-) -> Result<Rc<Env>, CoreFault> {
+/// What the unknowns of an environment turned out to be. One that is still unknown is Q2.
+pub(crate) fn known_in(context: &mut Context, env: &Env, place: Place) -> Result<Known, CoreFault> {
     if !context.is_open() {
-        return Ok(env.clone()?);
+        return Ok(Known {
+            types: IndexMap::new(context.alloc),
+            has_large: false,
+        });
     }
     let unknowns = unknowns_of(context.alloc, env)?;
-    if unknowns.is_empty() {
+    readings(context, &unknowns, place)
+}
+
+/// The environment with the types that its unknowns turned out to be. A scheme that is too large with these is E7.
+pub(crate) fn settled_by(
+    alloc: Global,
+    env: &Rc<Env>,
+    known: &Known,
+    place: Place,
+) -> Result<Rc<Env>, CoreFault> {
+    if known.has_large {
+        return Err(plain_fault(Code::E7, place));
+    }
+    if known.types.is_empty() {
         return Ok(env.clone()?);
     }
-    let known = readings(context, &unknowns, place)?;
-    Ok(mapped_env(context.alloc, env, &known)?)
+    small_env_under(alloc, place, env, known)?;
+    Ok(mapped_env(alloc, env, known)?)
 }
 
 /// The unknowns in the types of an environment's values.
@@ -78,25 +96,53 @@ fn readings(
     place: Place,
 ) -> Result<Known, CoreFault> {
     let mut types = IndexMap::new(context.alloc);
+    let mut large = Vec::new(context.alloc);
     for unknown in unknowns {
-        types.insert(*unknown, reading(context, *unknown, place)?)?;
+        match reading(context, *unknown, GREATEST_SIZE, place)? {
+            Some(ty) => {
+                types.insert(*unknown, ty)?;
+            }
+            None => large.push(*unknown)?,
+        }
     }
-    Ok(Known { types })
+    let has_large = !large.is_empty();
+    if has_large {
+        require_known(context, &large, place)?;
+    }
+    Ok(Known { types, has_large })
 }
 
-/// The type that an unknown turned out to be, or Q2.
-fn reading(context: &mut Context, unknown: u32, place: Place) -> Result<Rc<MlType>, CoreFault> {
-    match ask_reading(&mut context.solver, &MlType::Free(unknown), GREATEST_SIZE) {
+/// The type that an unknown turned out to be, or Q2; none where it is larger than the limit.
+fn reading(
+    context: &mut Context,
+    unknown: u32,
+    limit: u32,
+    place: Place,
+) -> Result<Option<Rc<MlType>>, CoreFault> {
+    match ask_reading(&mut context.solver, &MlType::Free(unknown), limit) {
         Ok(Some(ty)) => {
             if is_ground(&ty) {
-                Ok(ty)
+                Ok(Some(ty))
             } else {
                 Err(plain_fault(Code::Q2, place))
             }
         }
-        Ok(None) => Err(plain_fault(Code::E7, place)),
+        Ok(None) => Ok(None),
         Err(_) => Err(CoreFault::Memory),
     }
+}
+
+/// That no unknown is left in the types that some unknowns turned out to be, which aren't made, or Q2.
+fn require_known(context: &mut Context, unknowns: &[u32], place: Place) -> Result<(), CoreFault> {
+    let Ok(flags) = ask_fixed(&mut context.solver, 0, unknowns) else {
+        return Err(CoreFault::Memory);
+    };
+    for (unknown, is_inside) in flags.iter().enumerate() {
+        if *is_inside {
+            reading(context, number_of(unknown)?, 1, place)?;
+        }
+    }
+    Ok(())
 }
 
 /// Adds the unknowns in the types of an environment's values.

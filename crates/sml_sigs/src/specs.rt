@@ -4,20 +4,20 @@ use sml_bases::objects::{Constructors, Env, Sig, Status, TypeStr, Value};
 use sml_envs::functions::name_of;
 use sml_envs::new_names::NewNames;
 use sml_lex::fault::{Memory, Place};
-use sml_objects::objects::{Initial, MlType, Scheme, TyName};
+use sml_objects::objects::{Initial, Scheme, TyName};
 use sml_tree::bare::LongIdent;
 use sml_tree::expressions::{ConBind, DatBind};
 use sml_tree::names::Name;
 use sml_tree::signatures::{TypDesc, ValDesc};
-use sml_tree::types::Ty;
 use sml_types::bindings::no_constructors;
 use sml_types::datatypes::{datatypes, name_function, put_constructors};
 use sml_types::fault::CoreFault;
 use sml_types::rows::{arrow, initial, number_of};
 use sml_types::scope::{Scope, type_at};
-use sml_types::sizes::{small_env, small_type};
+use sml_types::sizes::{few, small, small_beside};
 use sml_types::types::type_of;
 use sml_types::variables::{Collected, NoVariables};
+use sml_types::written::Written;
 use std::alloc::Global;
 use std::rc::Rc;
 
@@ -38,34 +38,32 @@ pub(crate) fn values<S: Scope>(
     descs: &[ValDesc],
 ) -> Result<Sig, CoreFault> {
     let types = types_of(alloc, scope, descs)?;
+    for (_, ty) in &types {
+        small(alloc, place, ty)?;
+    }
     let mut env = Env::new(alloc);
     for (desc, (variables, ty)) in descs.iter().zip(&types) {
-        let value = value_of(alloc, place, variables, ty)?;
+        let value = value_of(alloc, variables, ty)?;
         env.values.insert(desc.name.ident.clone()?, value)?;
     }
     Ok(without_names(alloc, env)?)
 }
 
-/// The value of a type whose variables are bound, or E7.
-fn value_of(
-    alloc: Global,
-    place: Place,
-    variables: &Collected,
-    ty: &Rc<MlType>,
-) -> Result<Value, CoreFault> {
-    small_type(place, ty)?;
+/// The value of a type whose variables are bound.
+fn value_of(alloc: Global, variables: &Collected, ty: &Written) -> Result<Value, Memory> {
+    let ty = ty.make(alloc)?;
     Ok(Value {
         status: Status::Variable,
-        scheme: Rc::new(alloc, variables.close(alloc, ty)?)?,
+        scheme: Rc::new(alloc, variables.close(alloc, &ty)?)?,
     })
 }
 
-/// The types of values, each with its variables.
+/// What the types of values mean, each with its variables.
 fn types_of<S: Scope>(
     alloc: Global,
     scope: &S,
     descs: &[ValDesc],
-) -> Result<Vec<(Collected, Rc<MlType>)>, CoreFault> {
+) -> Result<Vec<(Collected, Rc<Written>)>, CoreFault> {
     let mut types = Vec::new(alloc);
     for desc in descs {
         let mut variables = Collected::new(alloc);
@@ -84,6 +82,18 @@ pub(crate) fn types(
     descs: &[TypDesc],
     equality: bool,
 ) -> Result<Sig, CoreFault> {
+    for desc in descs {
+        few(place, desc.variables.len().saturating_add(1))?;
+    }
+    Ok(new_types(alloc, new, descs, equality)?)
+}
+
+fn new_types(
+    alloc: Global,
+    new: &mut NewNames,
+    descs: &[TypDesc],
+    equality: bool,
+) -> Result<Sig, Memory> {
     let none = no_constructors(alloc)?;
     let mut names = Vec::new(alloc);
     let mut env = Env::new(alloc);
@@ -93,7 +103,6 @@ pub(crate) fn types(
         let ty = type_str(alloc, name, desc, &none)?;
         env.types.insert(desc.name.ident.clone()?, ty)?;
     }
-    small_env(place, &env)?;
     Ok(Sig {
         names,
         env: Rc::new(alloc, env)?,
@@ -121,8 +130,7 @@ pub(crate) fn new_datatypes<S: Scope>(
     place: Place,
     binds: &[DatBind],
 ) -> Result<Sig, CoreFault> {
-    let env = datatypes(alloc, scope, new, binds, &[])?;
-    small_env(place, &env)?;
+    let env = datatypes(alloc, scope, new, place, binds, &[])?;
     Ok(Sig {
         names: names_of(alloc, &env)?,
         env: Rc::new(alloc, env)?,
@@ -163,33 +171,50 @@ pub(crate) fn exceptions<S: Scope>(
     place: Place,
     descs: &[ConBind],
 ) -> Result<Sig, CoreFault> {
+    let arguments = arguments_of(alloc, scope, descs)?;
+    for argument in &arguments {
+        if let Some(ty) = argument {
+            small_beside(alloc, place, 2, ty)?;
+        }
+    }
     let mut env = Env::new(alloc);
-    for desc in descs {
-        let scheme = Scheme {
-            variables: Vec::new(alloc),
-            body: exception_type(alloc, scope, &desc.argument)?,
-        };
-        let value = Value {
-            status: Status::Exception,
-            scheme: Rc::new(alloc, scheme)?,
-        };
+    for (desc, argument) in descs.iter().zip(&arguments) {
+        let value = exception_of(alloc, argument)?;
         env.values.insert(desc.name.ident.clone()?, value)?;
     }
-    small_env(place, &env)?;
     Ok(without_names(alloc, env)?)
 }
 
-fn exception_type<S: Scope>(
+/// What the types of exceptions' arguments mean.
+fn arguments_of<S: Scope>(
     alloc: Global,
     scope: &S,
-    argument: &Option<Ty>,
-) -> Result<Rc<MlType>, CoreFault> {
-    let exception = initial(alloc, Initial::Exn)?;
-    match argument {
-        None => Ok(exception),
-        Some(ty) => {
-            let ty = type_of(alloc, scope, &mut NoVariables, ty)?;
-            Ok(arrow(alloc, ty, exception)?)
-        }
+    descs: &[ConBind],
+) -> Result<Vec<Option<Rc<Written>>>, CoreFault> {
+    let mut arguments = Vec::new(alloc);
+    for desc in descs {
+        let argument = match &desc.argument {
+            None => None,
+            Some(ty) => Some(type_of(alloc, scope, &mut NoVariables, ty)?),
+        };
+        arguments.push(argument)?;
     }
+    Ok(arguments)
+}
+
+/// The exception with this argument.
+fn exception_of(alloc: Global, argument: &Option<Rc<Written>>) -> Result<Value, Memory> {
+    let exception = initial(alloc, Initial::Exn)?;
+    let body = match argument {
+        None => exception,
+        Some(ty) => arrow(alloc, ty.make(alloc)?, exception)?,
+    };
+    let scheme = Scheme {
+        variables: Vec::new(alloc),
+        body,
+    };
+    Ok(Value {
+        status: Status::Exception,
+        scheme: Rc::new(alloc, scheme)?,
+    })
 }

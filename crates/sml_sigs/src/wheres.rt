@@ -5,12 +5,11 @@ use crate::layers::Inside;
 use indexmap::IndexSet;
 use sml_bases::objects::{Constructors, Sig};
 use sml_envs::comparisons::same_identifiers;
-use sml_envs::functions::admits_equality;
 use sml_envs::mapping::mapped_env;
 use sml_envs::realisation::Realisation;
 use sml_lex::fault::{Code, Memory, Place};
 use sml_objects::equality::has_equality;
-use sml_objects::objects::{MlType, Scheme, TyName};
+use sml_objects::objects::{Scheme, TyName};
 use sml_tree::bare::LongIdent;
 use sml_tree::names::Name;
 use sml_tree::signatures::WhereType;
@@ -18,18 +17,12 @@ use sml_tree::types::Ty;
 use sml_types::bindings::parameters;
 use sml_types::fault::{CoreFault, plain_fault};
 use sml_types::scope::{Scope, type_at};
-use sml_types::sizes::small_env;
+use sml_types::sizes::{small, small_env_under};
 use sml_types::types::type_of;
 use sml_types::variables::Listed;
+use sml_types::written::Written;
 use std::alloc::Global;
 use std::rc::Rc;
-
-/// The type function that a bound name is to be.
-#[derive(Drop)]
-struct Realised {
-    name: TyName,
-    realisation: Realisation,
-}
 
 /// The signature where a type is what is written, or E2 to E4, E7, E8 or N3 to N5.
 #[inline(never)]
@@ -40,9 +33,14 @@ pub(crate) fn with_type<S: Scope>(
     written: &WhereType,
 ) -> Result<Sig, CoreFault> {
     let bound = set_of(alloc, &sig.names)?;
-    let realised = realise_one(alloc, scope, &bound, &sig, written)?;
-    require_constructors(alloc, scope, &bound, &sig, written, &realised)?;
-    realised_sig(alloc, &sig, &realised, written.constructor.place)
+    let inside = Inside { env: &sig.env };
+    let ty = type_at(alloc, &inside, &written.constructor)?;
+    let side = right_side(alloc, scope, written)?;
+    let name = realised_name(&bound, &ty.function, written)?;
+    require_equality(alloc, name, &side, written)?;
+    require_constructors(alloc, scope, &bound, &sig, written, name)?;
+    let realisation = realisation_of(alloc, name, &side, written)?;
+    realised_sig(alloc, &sig, name, &realisation, written.constructor.place)
 }
 
 fn set_of(alloc: Global, names: &[TyName]) -> Result<IndexSet<TyName>, Memory> {
@@ -57,12 +55,13 @@ fn set_of(alloc: Global, names: &[TyName]) -> Result<IndexSet<TyName>, Memory> {
 fn realised_sig(
     alloc: Global,
     sig: &Sig,
-    realised: &Realised,
+    name: TyName,
+    realisation: &Realisation,
     place: Place,
 ) -> Result<Sig, CoreFault> {
-    let env = mapped_env(alloc, &sig.env, &realised.realisation)?;
-    small_env(place, &env)?;
-    let names = names_but(alloc, &sig.names, realised.name)?;
+    small_env_under(alloc, place, &sig.env, realisation)?;
+    let env = mapped_env(alloc, &sig.env, realisation)?;
+    let names = names_but(alloc, &sig.names, name)?;
     Ok(Sig { names, env })
 }
 
@@ -76,30 +75,12 @@ fn names_but(alloc: Global, names: &[TyName], left_out: TyName) -> Result<Vec<Ty
     Ok(others)
 }
 
-/// The name that is realised, with its type function, or a fault up to N4.
-fn realise_one<S: Scope>(
-    alloc: Global,
-    scope: &S,
-    bound: &IndexSet<TyName>,
-    sig: &Sig,
-    written: &WhereType,
-) -> Result<Realised, CoreFault> {
-    let inside = Inside { env: &sig.env };
-    let ty = type_at(alloc, &inside, &written.constructor)?;
-    let body = right_side(alloc, scope, written)?;
-    let name = realised_name(bound, &ty.function, written)?;
-    let function = function_for(alloc, name, body, written)?;
-    let mut realisation = Realisation::new(alloc);
-    realisation.insert(name, function)?;
-    Ok(Realised { name, realisation })
-}
-
-/// The type that is written, with its variables numbered from 0 on.
+/// What the right side means, with its variables numbered from 0 on.
 fn right_side<S: Scope>(
     alloc: Global,
     scope: &S,
     written: &WhereType,
-) -> Result<Rc<MlType>, CoreFault> {
+) -> Result<Rc<Written>, CoreFault> {
     let mut listed = Listed::bound(alloc, &written.variables)?;
     type_of(alloc, scope, &mut listed, &written.ty)
 }
@@ -120,32 +101,52 @@ fn realised_name(
     }
 }
 
-/// The type function of what is written, which admits equality where the name does, or N4.
-fn function_for(
+/// That the right side admits equality where the name does, if its variables do, or N4.
+fn require_equality(
     alloc: Global,
     name: TyName,
-    body: Rc<MlType>,
+    side: &Written,
     written: &WhereType,
-) -> Result<Rc<Scheme>, CoreFault> {
-    let variables = parameters(alloc, &written.variables)?;
-    let function = Rc::new(alloc, Scheme { variables, body })?;
-    if has_equality(name) && !admits_equality(&function) {
-        return Err(plain_fault(Code::N4, written.constructor.place));
+) -> Result<(), CoreFault> {
+    if !has_equality(name) {
+        return Ok(());
     }
-    Ok(function)
+    let mut attributes = Vec::new(alloc);
+    attributes.resize(written.variables.len(), true)?;
+    if side.admits_equality(alloc, &attributes)? {
+        Ok(())
+    } else {
+        Err(plain_fault(Code::N4, written.constructor.place))
+    }
 }
 
-/// That what is written has constructors of the same identifiers as the realised name, if that has some, or N5.
+/// The realisation of a name by the type function that its right side is, or E7.
+fn realisation_of(
+    alloc: Global,
+    name: TyName,
+    side: &Written,
+    written: &WhereType,
+) -> Result<Realisation, CoreFault> {
+    small(alloc, written.constructor.place, side)?;
+    let variables = parameters(alloc, &written.variables)?;
+    let body = side.make(alloc)?;
+    let function = Rc::new(alloc, Scheme { variables, body })?;
+    let mut realisation = Realisation::new(alloc);
+    realisation.insert(name, function)?;
+    Ok(realisation)
+}
+
+/// That the constructors of the realised name, if it has some, have the identifiers of those of what is written, or N5.
 fn require_constructors<S: Scope>(
     alloc: Global,
     scope: &S,
     bound: &IndexSet<TyName>,
     sig: &Sig,
     written: &WhereType,
-    realised: &Realised,
+    name: TyName,
 ) -> Result<(), CoreFault> {
     let table = table_of(alloc, bound, &sig.env)?;
-    let Some(constructors) = table.get(&realised.name) else {
+    let Some(constructors) = table.get(&name) else {
         return Ok(());
     };
     if has_constructors(alloc, scope, written, constructors)? {
@@ -155,8 +156,8 @@ fn require_constructors<S: Scope>(
     }
 }
 
-/// Whether the type that is written is a type constructor, applied to the parameters in order, that has constructors of the same
-/// identifiers.
+/// Whether the type that is written is a type constructor applied to the parameters in order whose constructors have the
+/// identifiers of these.
 fn has_constructors<S: Scope>(
     alloc: Global,
     scope: &S,

@@ -10,14 +10,16 @@ use crate::fault::CoreFault;
 use crate::rows::{arrow, boxed, number_of};
 use crate::scope::Scope;
 use crate::sides::{RightSide, read_side};
+use crate::sizes::{few, small_beside};
 use crate::types::type_of;
 use crate::variables::{Listed, closed, is_equality_variable};
+use crate::written::Written;
 use sml_bases::objects::{Constructors, Env, Status, TypeStr, Value};
 use sml_envs::mapping::{Image, Mapping, mapped_type};
 use sml_envs::new_names::NewNames;
 use sml_equality::largest::without_equality;
 use sml_equality::runs::Run;
-use sml_lex::fault::Memory;
+use sml_lex::fault::{Memory, Place};
 use sml_objects::objects::{MadeName, MlType, Scheme, TyName};
 use sml_tree::bare::Ident;
 use sml_tree::expressions::{DatBind, TypBind};
@@ -28,11 +30,12 @@ use std::rc::Rc;
 
 /// The types and the constructors that bindings of datatypes give, with new names in their order, as many of which admit
 /// equality as can. The types bound behind `withtype` stand for their right sides in the constructors' types; they are not
-/// bound.
+/// bound. Once all constructors' arguments are read, a constructor whose type is too large is E7 at the place.
 pub fn datatypes<S: Scope>(
     alloc: Global,
     scope: &S,
     new: &mut NewNames,
+    place: Place,
     binds: &[DatBind],
     withtype: &[TypBind],
 ) -> Result<Env, CoreFault> {
@@ -49,7 +52,9 @@ pub fn datatypes<S: Scope>(
         types: &types,
         sides: &sides,
     };
-    let arguments = arguments_of(alloc, &inner, binds)?;
+    let written = arguments_of(alloc, &inner, binds)?;
+    small_constructors(alloc, place, binds, &written)?;
+    let arguments = made_arguments(alloc, &written)?;
     Ok(datatypes_of(alloc, run, binds, &names, &arguments)?)
 }
 
@@ -166,11 +171,14 @@ fn sides_of<S: Scope>(
 /// The types of the arguments of a datatype's constructors, with free variables for its parameters.
 type Arguments = Vec<Option<Rc<MlType>>>;
 
+/// The same as they are written.
+type WrittenArguments = Vec<Option<Rc<Written>>>;
+
 fn arguments_of<S: Scope>(
     alloc: Global,
     scope: &S,
     binds: &[DatBind],
-) -> Result<Vec<Arguments>, CoreFault> {
+) -> Result<Vec<WrittenArguments>, CoreFault> {
     let mut all = Vec::new(alloc);
     for bind in binds {
         all.push(arguments_in(alloc, scope, bind)?)?;
@@ -182,7 +190,7 @@ fn arguments_in<S: Scope>(
     alloc: Global,
     scope: &S,
     bind: &DatBind,
-) -> Result<Arguments, CoreFault> {
+) -> Result<WrittenArguments, CoreFault> {
     let mut listed = Listed::free(alloc, &bind.variables)?;
     let mut arguments = Vec::new(alloc);
     for constructor in &bind.constructors {
@@ -193,6 +201,44 @@ fn arguments_in<S: Scope>(
         arguments.push(argument)?;
     }
     Ok(arguments)
+}
+
+/// That the types of datatypes' constructors aren't too large, or E7 at the place.
+fn small_constructors(
+    alloc: Global,
+    place: Place,
+    binds: &[DatBind],
+    all: &[WrittenArguments],
+) -> Result<(), CoreFault> {
+    for (bind, arguments) in binds.iter().zip(all) {
+        let whole = bind.variables.len().saturating_add(1);
+        for argument in arguments {
+            match argument {
+                None => few(place, whole)?,
+                Some(ty) => small_beside(alloc, place, whole.saturating_add(1), ty)?,
+            }
+        }
+    }
+    Ok(())
+}
+
+fn made_arguments(alloc: Global, all: &[WrittenArguments]) -> Result<Vec<Arguments>, Memory> {
+    let mut made = Vec::new(alloc);
+    for arguments in all {
+        made.push(all_made(alloc, arguments)?)?;
+    }
+    Ok(made)
+}
+
+fn all_made(alloc: Global, arguments: &[Option<Rc<Written>>]) -> Result<Arguments, Memory> {
+    let mut types = Vec::new(alloc);
+    for argument in arguments {
+        types.push(match argument {
+            None => None,
+            Some(ty) => Some(ty.make(alloc)?),
+        })?;
+    }
+    Ok(types)
 }
 
 /// The names of a run without the equality that some of them lose.

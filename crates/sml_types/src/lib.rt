@@ -10,3 +10,4 @@ pub mod sides;
 pub mod sizes;
 pub mod types;
 pub mod variables;
+pub mod written;

@@ -8,8 +8,11 @@ use std::alloc::Global;
 use std::collections::BTreeMap;
 use std::rc::Rc;
 
-/// Fields in the order of their labels: numbers by their value, then the others in byte order.
-pub type Fields = BTreeMap<(usize, Ident), Rc<MlType>>;
+/// What stands at labels, in the order of these: numbers by their value, then the others in byte order.
+pub type Labelled<T> = BTreeMap<(usize, Ident), T>;
+
+/// Fields in the order of their labels.
+pub type Fields = Labelled<Rc<MlType>>;
 
 /// Where a label stands among others: numbers before words, shorter numbers first.
 pub fn label_key(label: &Ident) -> Result<(usize, Ident), Memory> {
@@ -22,14 +25,22 @@ pub fn label_key(label: &Ident) -> Result<(usize, Ident), Memory> {
 
 /// The row of these fields.
 pub fn row_of(alloc: Global, fields: Fields) -> Result<Rc<MlType>, Memory> {
-    let mut labels = Vec::new(alloc);
-    let mut types = Vec::new(alloc);
-    for ((_, label), ty) in fields {
-        labels.push(label)?;
-        types.push(ty)?;
-    }
-    let labels = labels_of(alloc, labels)?;
+    let (labels, types) = parted(alloc, fields)?;
     boxed(alloc, MlType::Row(labels, types))
+}
+
+/// The labels, and what stands at them in the same order.
+pub(crate) fn parted<T: Drop>(
+    alloc: Global,
+    fields: Labelled<T>,
+) -> Result<(Rc<Labels>, Vec<T>), Memory> {
+    let mut labels = Vec::new(alloc);
+    let mut parts = Vec::new(alloc);
+    for ((_, label), part) in fields {
+        labels.push(label)?;
+        parts.push(part)?;
+    }
+    Ok((labels_of(alloc, labels)?, parts))
 }
 
 /// The labels of a list that rises, as keys do.

@@ -3,15 +3,14 @@
 //! A constructor's type is read as if each stood there written out, with the arguments in the place of its variables: an
 //! argument is read where its variable is, and one that the right side drops isn't. Each right side is read once.
 
-use crate::bindings::function_of;
 use crate::fault::{CoreFault, again};
 use crate::scope::Scope;
 use crate::types::type_of;
 use crate::variables::{Listed, TypeVariables};
+use crate::written::{Written, made_if_small, shared};
 use indexmap::IndexSet;
-use sml_envs::sizes::applied;
 use sml_lex::fault::{Fault, Memory, Place};
-use sml_objects::objects::{MlType, Scheme};
+use sml_objects::objects::MlType;
 use sml_tree::bare::Ident;
 use sml_tree::expressions::TypBind;
 use std::alloc::Global;
@@ -23,7 +22,7 @@ use std::rc::Rc;
 pub struct RightSide {
     pub(crate) arity: usize,
     pub(crate) used: IndexSet<u32>,
-    meaning: Result<Rc<Scheme>, Fault>,
+    meaning: Result<Rc<Written>, Fault>,
 }
 
 /// The variables of a list, and which of them were asked for.
@@ -59,7 +58,7 @@ pub(crate) fn read_side<S: Scope>(
         used: IndexSet::new(alloc),
     };
     let meaning = match type_of(alloc, scope, &mut noted, &bind.ty) {
-        Ok(body) => Ok(function_of(alloc, bind, body)?),
+        Ok(side) => Ok(made_if_small(alloc, side)?),
         Err(CoreFault::Fault(fault)) => Err(fault),
         Err(CoreFault::Memory) => return Err(Memory),
     };
@@ -71,14 +70,14 @@ pub(crate) fn read_side<S: Scope>(
 }
 
 impl RightSide {
-    /// What it means with these types in the place of its variables, or its fault.
+    /// What it means beside these in the place of its variables, or its fault.
     pub(crate) fn with(
         &self,
         alloc: Global,
-        types: &[Rc<MlType>],
-    ) -> Result<Rc<MlType>, CoreFault> {
+        arguments: Vec<Rc<Written>>,
+    ) -> Result<Rc<Written>, CoreFault> {
         match &self.meaning {
-            Ok(function) => Ok(applied(alloc, function, types)?),
+            Ok(side) => Ok(shared(alloc, Written::Side(side.clone()?, arguments))?),
             Err(fault) => Err(again(alloc, fault)?),
         }
     }

@@ -1,39 +1,48 @@
-//! That schemes and type functions aren't too large.
+//! That schemes and type functions aren't too large, asked before they are made.
 
 use crate::fault::{CoreFault, plain_fault};
+use crate::written::Written;
 use sml_bases::objects::Env;
-use sml_envs::sizes::GREATEST_SIZE;
+use sml_envs::mapping::Mapping;
+use sml_envs::sizes::{GREATEST_SIZE, has_large_under};
 use sml_lex::fault::{Code, Place};
-use sml_objects::objects::{MlType, Scheme};
-use sml_objects::sizes::size_up_to;
+use std::alloc::Global;
 
-/// That a type isn't too large for a scheme, or E7.
-pub fn small_type(place: Place, ty: &MlType) -> Result<(), CoreFault> {
-    if size_up_to(ty, GREATEST_SIZE) > GREATEST_SIZE {
+/// That a type isn't too large for a scheme, or E7 at the place.
+pub fn small(alloc: Global, place: Place, ty: &Written) -> Result<(), CoreFault> {
+    small_beside(alloc, place, 0, ty)
+}
+
+/// The same of a type beside so many other nodes.
+pub fn small_beside(
+    alloc: Global,
+    place: Place,
+    others: usize,
+    ty: &Written,
+) -> Result<(), CoreFault> {
+    if ty.is_large(alloc, others)? {
         return Err(plain_fault(Code::E7, place));
     }
     Ok(())
 }
 
-/// That a scheme or the body of a type function isn't too large, or E7.
-pub fn small(place: Place, scheme: &Scheme) -> Result<(), CoreFault> {
-    small_type(place, &scheme.body)
+/// That so many nodes aren't too many for a scheme, or E7 at the place.
+pub fn few(place: Place, nodes: usize) -> Result<(), CoreFault> {
+    if nodes > GREATEST_SIZE as usize {
+        return Err(plain_fault(Code::E7, place));
+    }
+    Ok(())
 }
 
-/// That no scheme or type function of an environment is too large.
-#[cycle(small)]
-pub fn small_env(place: Place, env: &Env) -> Result<(), CoreFault> {
-    for (_, structure) in &env.structures {
-        small_env(place, structure)?;
-    }
-    for (_, ty) in &env.types {
-        small(place, &ty.function)?;
-        for (_, scheme) in &*ty.constructors {
-            small(place, scheme)?;
-        }
-    }
-    for (_, value) in &env.values {
-        small(place, &value.scheme)?;
+/// That no scheme or type function of an environment becomes too large, or E7 at the place.
+pub fn small_env_under<M: Mapping>(
+    alloc: Global,
+    place: Place,
+    env: &Env,
+    by: &M,
+) -> Result<(), CoreFault> {
+    if has_large_under(alloc, env, by)? {
+        return Err(plain_fault(Code::E7, place));
     }
     Ok(())
 }

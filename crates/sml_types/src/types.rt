@@ -1,44 +1,67 @@
 //! The types that type expressions mean (the Definition, section 4.10, rules 44 to 49).
 
 use crate::fault::{CoreFault, plain_fault};
-use crate::rows::{Fields, arrow, boxed, label_key, row_of, tuple_of};
+use crate::rows::{Labelled, label_key, parted};
 use crate::scope::{Scope, type_at};
 use crate::sides::RightSide;
 use crate::variables::TypeVariables;
+use crate::written::{Written, shared, written_tuple};
 use sml_envs::functions::name_of;
-use sml_envs::sizes;
-use sml_lex::fault::{Code, Memory};
-use sml_objects::objects::MlType;
-use sml_tree::bare::LongIdent;
+use sml_lex::fault::{Code, Memory, Place};
+use sml_tree::bare::{Ident, LongIdent};
 use sml_tree::types::{Ty, TyField};
 use std::alloc::Global;
 use std::collections::BTreeMap;
 use std::rc::Rc;
 
-/// The type that a type expression means, or E2, E3, E4, or E8.
+/// The place of the first token of a type expression.
+pub fn type_place(ty: &Ty) -> Place {
+    match ty {
+        Ty::Variable(place, _)
+        | Ty::Row(place, _)
+        | Ty::Tuple(place, _)
+        | Ty::Constructor(place, _, _)
+        | Ty::Misapplied(place, _, _)
+        | Ty::Arrow(place, _, _)
+        | Ty::Bracket(place, _) => *place,
+    }
+}
+
+/// What a type expression means, or E2, E3, E4, or E8.
 #[cycle(meaning)]
 pub fn type_of<S: Scope, V: TypeVariables>(
     alloc: Global,
     scope: &S,
     variables: &mut V,
     ty: &Ty,
-) -> Result<Rc<MlType>, CoreFault> {
+) -> Result<Rc<Written>, CoreFault> {
     match ty {
-        Ty::Variable(place, name) => variables.variable(alloc, *place, name),
+        Ty::Variable(place, name) => variable_type(alloc, variables, *place, name),
         Ty::Row(_, fields) => row_type(alloc, scope, variables, fields),
         Ty::Tuple(_, tys) => {
-            let types = types_of(alloc, scope, variables, tys)?;
-            Ok(tuple_of(alloc, types)?)
+            let parts = types_of(alloc, scope, variables, tys)?;
+            Ok(written_tuple(alloc, parts)?)
         }
         Ty::Constructor(_, tys, long) => applied(alloc, scope, variables, tys, long),
         Ty::Misapplied(_, tys, long) => misapplied(alloc, scope, variables, tys, long),
         Ty::Arrow(_, from, to) => {
             let from = type_of(alloc, scope, variables, from)?;
             let to = type_of(alloc, scope, variables, to)?;
-            Ok(arrow(alloc, from, to)?)
+            Ok(shared(alloc, Written::Arrow(from, to))?)
         }
         Ty::Bracket(_, ty) => type_of(alloc, scope, variables, ty),
     }
+}
+
+#[inline(never)]
+fn variable_type<V: TypeVariables>(
+    alloc: Global,
+    variables: &mut V,
+    place: Place,
+    name: &Ident,
+) -> Result<Rc<Written>, CoreFault> {
+    let ty = variables.variable(alloc, place, name)?;
+    Ok(shared(alloc, Written::Made(ty))?)
 }
 
 #[cycle(meaning)]
@@ -48,7 +71,7 @@ fn types_of<S: Scope, V: TypeVariables>(
     scope: &S,
     variables: &mut V,
     tys: &[Ty],
-) -> Result<Vec<Rc<MlType>>, CoreFault> {
+) -> Result<Vec<Rc<Written>>, CoreFault> {
     let mut types = Vec::new(alloc);
     for ty in tys {
         types.push(type_of(alloc, scope, variables, ty)?)?;
@@ -63,13 +86,14 @@ fn row_type<S: Scope, V: TypeVariables>(
     scope: &S,
     variables: &mut V,
     fields: &[TyField],
-) -> Result<Rc<MlType>, CoreFault> {
-    let mut row: Fields = BTreeMap::new(alloc);
+) -> Result<Rc<Written>, CoreFault> {
+    let mut row: Labelled<Rc<Written>> = BTreeMap::new(alloc);
     for field in fields {
         let ty = type_of(alloc, scope, variables, &field.ty)?;
         row.insert(label_key(&field.label.ident)?, ty)?;
     }
-    Ok(row_of(alloc, row)?)
+    let (labels, parts) = parted(alloc, row)?;
+    Ok(shared(alloc, Written::Row(labels, parts))?)
 }
 
 #[cycle(meaning)]
@@ -80,7 +104,7 @@ fn applied<S: Scope, V: TypeVariables>(
     variables: &mut V,
     tys: &[Ty],
     long: &LongIdent,
-) -> Result<Rc<MlType>, CoreFault> {
+) -> Result<Rc<Written>, CoreFault> {
     if let Some(side) = side_at(scope, long) {
         return replaced(alloc, scope, variables, tys, long, side);
     }
@@ -107,7 +131,7 @@ fn replaced<S: Scope, V: TypeVariables>(
     tys: &[Ty],
     long: &LongIdent,
     side: &RightSide,
-) -> Result<Rc<MlType>, CoreFault> {
+) -> Result<Rc<Written>, CoreFault> {
     if tys.len() != side.arity {
         return misapplied(alloc, scope, variables, tys, long);
     }
@@ -119,12 +143,12 @@ fn replaced<S: Scope, V: TypeVariables>(
             put(&mut types, index, ty);
         }
     }
-    side.with(alloc, &types)
+    side.with(alloc, types)
 }
 
-/// So many types of the row with no field.
-fn units(alloc: Global, count: usize) -> Result<Vec<Rc<MlType>>, Memory> {
-    let unit = tuple_of(alloc, Vec::new(alloc))?;
+/// So many of the row with no field.
+fn units(alloc: Global, count: usize) -> Result<Vec<Rc<Written>>, Memory> {
+    let unit = written_tuple(alloc, Vec::new(alloc))?;
     let mut types = Vec::new(alloc);
     for _ in 0..count {
         types.push(unit.clone()?)?;
@@ -132,7 +156,7 @@ fn units(alloc: Global, count: usize) -> Result<Vec<Rc<MlType>>, Memory> {
     Ok(types)
 }
 
-fn put(types: &mut [Rc<MlType>], index: usize, ty: Rc<MlType>) {
+fn put(types: &mut [Rc<Written>], index: usize, ty: Rc<Written>) {
     if index < types.len() {
         types[index] = ty;
     }
@@ -142,17 +166,18 @@ fn put(types: &mut [Rc<MlType>], index: usize, ty: Rc<MlType>) {
 fn application<S: Scope>(
     alloc: Global,
     scope: &S,
-    types: Vec<Rc<MlType>>,
+    types: Vec<Rc<Written>>,
     long: &LongIdent,
-) -> Result<Rc<MlType>, CoreFault> {
+) -> Result<Rc<Written>, CoreFault> {
     let found = type_at(alloc, scope, long)?;
     if found.function.variables.len() != types.len() {
         return Err(plain_fault(Code::E4, long.place));
     }
     if let Some(name) = name_of(&found.function) {
-        return Ok(boxed(alloc, MlType::Name(name, types))?);
+        return Ok(shared(alloc, Written::Name(name, types))?);
     }
-    Ok(sizes::applied(alloc, &found.function, &types)?)
+    let function = found.function.clone()?;
+    Ok(shared(alloc, Written::Applied(function, types))?)
 }
 
 #[cycle(meaning)]
@@ -163,7 +188,7 @@ fn misapplied<S: Scope, V: TypeVariables>(
     variables: &mut V,
     tys: &[Ty],
     long: &LongIdent,
-) -> Result<Rc<MlType>, CoreFault> {
+) -> Result<Rc<Written>, CoreFault> {
     types_of(alloc, scope, variables, tys)?;
     Err(plain_fault(Code::E4, long.place))
 }

@@ -86,6 +86,7 @@ impl Basis {
         Basis {
             unit,
             count: 0,
+            names: Vec::new(alloc),
             below: Vec::new(alloc),
             env: Env::new(alloc),
             signatures: BTreeMap::new(alloc),
@@ -93,7 +94,7 @@ impl Basis {
         }
     }
 
-    /// Puts what another basis binds over what this one does. The unit, the count and the bases below stay.
+    /// Puts what another basis binds over what this one does. The unit, its names and the bases below stay.
     pub fn add(&mut self, other: &Basis) -> Result<(), Memory>
         ensures env { OnOk result (bound_env self.new ≡ extend (bound_env self.old) (bound_env other.now)) }
         ensures signatures { OnOk result (bound_signatures self.new ≡ join (bound_signatures self.old) (bound_signatures other.now)) }
@@ -105,6 +106,7 @@ impl Basis {
         let Basis {
             unit: _,
             count: _,
+            names: _,
             below: _,
             env,
             signatures,

@@ -56,13 +56,17 @@ pub struct FunSig {
     pub result: Sig,
 }
 
-/// A basis of a unit: how many type names the unit made that it exports, and what is bound. Each of these names has a
-/// lower number than the count. What is bound hides what the bases below bind, and each of these what those before it do;
+/// The identifiers of the constructors that a name's datatype gave it, in byte order; none for any other name.
+pub type Carried = Option<Rc<Vec<Ident>>>;
+
+/// A basis of a unit: how many type names the unit made that it exports, with what they carry beside what stands in them,
+/// and what is bound. Each of these names has a lower number than the count, by which what it carries stands. What is bound hides what the bases below bind, and each of these what those before it do;
 /// they have none below.
 #[derive(Drop)]
 pub struct Basis {
     pub unit: UnitId,
     pub count: u32,
+    pub names: Vec<Carried>,
     pub below: Vec<Rc<Basis>>,
     pub env: Env,
     pub signatures: BTreeMap<Ident, Rc<Sig>>,

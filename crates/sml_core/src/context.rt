@@ -31,7 +31,7 @@ pub struct Context<'a> {
     pub alloc: Global,
     pub scopes: Scopes<'a>,
     pub solver: Solver,
-    pub new: NewNames,
+    pub new: NewNames<'a>,
     pub warnings: Vec<Warning>,
     /// What was bound since it was set, where that is wanted.
     exports: Option<Env>,
@@ -59,10 +59,7 @@ impl<'a> Context<'a> {
             alloc,
             scopes: Scopes::new(alloc, basis),
             solver: Solver::new(alloc, basis.unit),
-            new: NewNames {
-                unit: basis.unit,
-                next: basis.count,
-            },
+            new: NewNames::new(alloc, basis),
             warnings: Vec::new(alloc),
             exports: None,
             explicit: Explicit::new(alloc),

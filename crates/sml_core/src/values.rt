@@ -4,7 +4,8 @@ use crate::context::{Context, refused};
 use crate::patterns::Variables;
 use indexmap::IndexSet;
 use sml_asks::asks::{
-    ask_equality, ask_fixed, ask_general, ask_labels, ask_reading, ask_scheme, ask_settled, ask_variable,
+    ask_equality, ask_fixed, ask_general, ask_labels, ask_reading, ask_scheme, ask_settled,
+    ask_variable,
 };
 use sml_bases::objects::{Status, Value};
 use sml_closing::functions::is_function;

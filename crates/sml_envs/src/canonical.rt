@@ -5,7 +5,6 @@ use crate::new_names::NewNames;
 use indexmap::{IndexMap, IndexSet};
 use sml_bases::objects::{Basis, Env, FunSig, Sig, TypeStr, Value};
 use sml_lex::fault::Memory;
-use sml_objects::equality::has_equality;
 use sml_objects::objects::{MadeName, MlType, TyName, UnitId};
 use sml_tree::bare::Ident;
 use std::alloc::Global;
@@ -192,36 +191,45 @@ impl Mapping for Renaming {
 }
 
 /// The basis with the unit's names that have this number or a higher one renumbered from it on, in the order in which
-/// they appear in the lines of the reply, and with that many more names.
-pub fn canonical(alloc: Global, basis: Basis, unit: UnitId, count: u32) -> Result<Basis, Memory> {
+/// they appear in the lines of the reply, and with that many more names. What these carry is told by those that were made.
+pub fn canonical(
+    alloc: Global,
+    basis: Basis,
+    unit: UnitId,
+    count: u32,
+    made: &NewNames,
+) -> Result<Basis, Memory> {
     let mut appearance = Appearance::new(alloc, unit, count);
     appearance.add_basis(&basis)?;
-    let mut new = NewNames { unit, next: count };
-    let renaming = numbered(alloc, &appearance.names, &mut new)?;
-    renamed_basis(alloc, basis, &renaming, new.next)
+    let (renaming, next) = numbered(alloc, &appearance.names, count)?;
+    let mut own = renamed_basis(alloc, basis, &renaming, next)?;
+    for name in &appearance.names {
+        own.names.push(made.carried(*name)?)?;
+    }
+    Ok(own)
 }
 
+/// The numbers from the first on for names in their order, and the one after the last.
 fn numbered(
     alloc: Global,
     names: &IndexSet<TyName>,
-    new: &mut NewNames,
-) -> Result<Renaming, Memory> {
+    first: u32,
+) -> Result<(Renaming, u32), Memory> {
     let mut renaming = Renaming {
         names: IndexMap::new(alloc),
     };
+    let mut number = first;
     for name in names {
-        let other = alike(*name, new)?;
-        renaming.names.insert(*name, other)?;
+        if let TyName::Made(made) = *name {
+            let other = TyName::Made(MadeName { number, ..made });
+            renaming.names.insert(*name, other)?;
+            match number.checked_add(1) {
+                Some(next) => number = next,
+                None => return Err(Memory),
+            }
+        }
     }
-    Ok(renaming)
-}
-
-/// A new name with what a name carries.
-fn alike(name: TyName, new: &mut NewNames) -> Result<TyName, Memory> {
-    match name {
-        TyName::Initial(_) => Ok(name),
-        TyName::Made(MadeName { arity, .. }) => new.make(arity, has_equality(name)),
-    }
+    Ok((renaming, number))
 }
 
 fn renamed_basis(
@@ -286,7 +294,7 @@ fn renaming_of(alloc: Global, names: &[TyName], new: &mut NewNames) -> Result<Re
         names: IndexMap::new(alloc),
     };
     for name in names {
-        let other = alike(*name, new)?;
+        let other = new.make_like(*name)?;
         renaming.names.insert(*name, other)?;
     }
     Ok(renaming)

@@ -1,16 +1,37 @@
 //! New type names of a unit.
 
+use indexmap::IndexMap;
+use sml_bases::objects::{Basis, Carried, Constructors};
 use sml_lex::fault::Memory;
+use sml_objects::equality::has_equality;
 use sml_objects::objects::{MadeName, TyName, UnitId};
+use sml_tree::bare::Ident;
+use std::alloc::Global;
+use std::rc::Rc;
 
-/// The names that a unit makes: the next one has this number.
-#[derive(Clone, Copy, PartialEq, Eq)]
-pub struct NewNames {
+/// The names that a unit makes over a basis: the next one has this number.
+#[derive(Drop)]
+pub struct NewNames<'a> {
+    alloc: Global,
+    basis: &'a Basis,
     pub unit: UnitId,
     pub next: u32,
+    /// What those carry that have constructors, by number.
+    carried: IndexMap<u32, Rc<Vec<Ident>>>,
 }
 
-impl NewNames {
+impl<'a> NewNames<'a> {
+    /// No name made yet. The first one gets the number after those of the basis.
+    pub fn new(alloc: Global, basis: &'a Basis) -> NewNames<'a> {
+        NewNames {
+            alloc,
+            basis,
+            unit: basis.unit,
+            next: basis.count,
+            carried: IndexMap::new(alloc),
+        }
+    }
+
     /// A new name. A number that no `u32` holds counts as want of memory.
     pub fn make(&mut self, arity: u32, equality: bool) -> Result<TyName, Memory> {
         let number = self.next;
@@ -24,5 +45,90 @@ impl NewNames {
             arity,
             equality,
         }))
+    }
+
+    /// A new name with what a name carries. An initial one stays.
+    pub fn make_like(&mut self, name: TyName) -> Result<TyName, Memory> {
+        match name {
+            TyName::Initial(_) => Ok(name),
+            TyName::Made(MadeName { arity, .. }) => {
+                let made = self.make(arity, has_equality(name))?;
+                self.carry(made, self.carried(name)?)?;
+                Ok(made)
+            }
+        }
+    }
+
+    /// Lets a name carry these constructors.
+    pub fn carry_constructors(
+        &mut self,
+        name: TyName,
+        constructors: &Constructors,
+    ) -> Result<(), Memory> {
+        if constructors.is_empty() {
+            return Ok(());
+        }
+        let mut identifiers = Vec::new(self.alloc);
+        for (identifier, _) in constructors {
+            identifiers.push(identifier.clone()?)?;
+        }
+        let identifiers = Rc::new(self.alloc, identifiers)?;
+        self.carry(name, Some(identifiers))
+    }
+
+    /// Lets a name carry what the first of two others that has constructors does.
+    pub fn carry_first(&mut self, name: TyName, one: TyName, other: TyName) -> Result<(), Memory> {
+        let carried = match self.carried(one)? {
+            Some(identifiers) => Some(identifiers),
+            None => self.carried(other)?,
+        };
+        self.carry(name, carried)
+    }
+
+    fn carry(&mut self, name: TyName, carried: Carried) -> Result<(), Memory> {
+        if let (TyName::Made(made), Some(identifiers)) = (name, carried) {
+            self.carried.insert(made.number, identifiers)?;
+        }
+        Ok(())
+    }
+
+    /// What a name carries.
+    pub fn carried(&self, name: TyName) -> Result<Carried, Memory> {
+        match name {
+            TyName::Initial(_) => Ok(None),
+            TyName::Made(made) => {
+                let found = if made.unit == self.unit && self.basis.count <= made.number {
+                    self.carried.get(&made.number)
+                } else {
+                    earlier(self.basis, made)
+                };
+                match found {
+                    Some(identifiers) => Ok(Some(identifiers.clone()?)),
+                    None => Ok(None),
+                }
+            }
+        }
+    }
+}
+
+/// The constructors that a name of an earlier declaration carries: one of the unit, or one that a unit made that it needs.
+fn earlier(basis: &Basis, name: MadeName) -> Option<&Rc<Vec<Ident>>> {
+    if basis.unit == name.unit {
+        return listed(&basis.names, name.number);
+    }
+    for needed in &basis.below {
+        if needed.unit == name.unit {
+            if let Some(found) = listed(&needed.names, name.number) {
+                return Some(found);
+            }
+        }
+    }
+    None
+}
+
+fn listed(names: &[Carried], number: u32) -> Option<&Rc<Vec<Ident>>> {
+    match names.get(number as usize) {
+        Some(Some(identifiers)) => Some(identifiers),
+        _ => None,
     }
 }

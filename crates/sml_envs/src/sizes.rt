@@ -119,7 +119,9 @@ fn types_are_large<M: Mapping>(
     by: &M,
 ) -> Result<bool, Memory> {
     for (_, ty) in types {
-        if is_large_under(alloc, &ty.function, by)? || schemes_are_large(alloc, &ty.constructors, by)? {
+        if is_large_under(alloc, &ty.function, by)?
+            || schemes_are_large(alloc, &ty.constructors, by)?
+        {
             return Ok(true);
         }
     }

@@ -2,7 +2,7 @@
 
 use crate::exports::Exports;
 use crate::moves::Moves;
-use sml_bases::objects::{Basis as WholeBasis, Env as WholeEnv, FunSig, Sig};
+use sml_bases::objects::{Basis as WholeBasis, Carried, Env as WholeEnv, FunSig, Sig};
 use sml_envs::mapping::{mapped_env, mapped_function, mapped_scheme};
 use sml_lex::fault::Memory;
 use sml_objects::objects::{Env, TyName, UnitId};
@@ -54,10 +54,20 @@ fn moved_basis(
 ) -> Result<WholeBasis, Memory> {
     let mut own = WholeBasis::new(alloc, unit);
     own.count = basis.count;
+    for carried in &basis.names {
+        own.names.push(shared(carried)?)?;
+    }
     own.env = moved_whole_env(alloc, &basis.env, moves)?;
     put_signatures(alloc, &mut own, basis, moves)?;
     put_functors(alloc, &mut own, basis, moves)?;
     Ok(own)
+}
+
+fn shared(carried: &Carried) -> Result<Carried, Memory> {
+    match carried {
+        Some(identifiers) => Ok(Some(identifiers.clone()?)),
+        None => Ok(None),
+    }
 }
 
 fn put_signatures(

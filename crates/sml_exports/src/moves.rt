@@ -1,16 +1,20 @@
 //! The places that units have in another project file.
 
+use indexmap::{IndexMap, IndexSet};
+use sml_bases::objects::Carried;
 use sml_envs::mapping::{Image, Mapping};
 use sml_lex::fault::Memory;
 use sml_objects::objects::{MadeName, MlType, TyName, UnitId};
 use std::alloc::Global;
 use std::rc::Rc;
 
-/// For each place in the one project file the place of the unit of that name in the other.
+/// For each place in the one project file the place of the unit of that name in the other, and for each of these the
+/// numbers of the names that carry other constructors there.
 #[derive(Drop)]
 pub struct Moves {
     places: Vec<Option<UnitId>>,
     changes: bool,
+    others: IndexMap<u32, IndexSet<u32>>,
 }
 
 impl Moves {
@@ -19,6 +23,7 @@ impl Moves {
         Ok(Moves {
             places: vec![in alloc; None; count]?,
             changes: false,
+            others: IndexMap::new(alloc),
         })
     }
 
@@ -29,6 +34,36 @@ impl Moves {
         }
         if unit != place {
             self.changes = true;
+        }
+    }
+
+    /// Notes which names of a unit, at this place in the other project file, carry other constructors than they did.
+    pub fn note(
+        &mut self,
+        alloc: Global,
+        unit: UnitId,
+        ones: &[Carried],
+        others: &[Carried],
+    ) -> Result<(), Memory> {
+        let mut numbers = IndexSet::new(alloc);
+        for (number, (one, other)) in ones.iter().zip(others).enumerate() {
+            if !carry_same(one, other) {
+                if let Ok(number) = u32::try_from(number) {
+                    numbers.insert(number)?;
+                }
+            }
+        }
+        if !numbers.is_empty() {
+            self.others.insert(unit.index, numbers)?;
+        }
+        Ok(())
+    }
+
+    /// Whether a name of the other project carries other constructors than it did.
+    fn carries_others(&self, name: MadeName) -> bool {
+        match self.others.get(&name.unit.index) {
+            Some(numbers) => numbers.contains(&name.number),
+            None => false,
         }
     }
 
@@ -51,7 +86,7 @@ impl Moves {
         match (one, other) {
             (TyName::Initial(one), TyName::Initial(other)) => one == other,
             (TyName::Made(one), TyName::Made(other)) => match self.place(one.unit) {
-                Some(unit) => MadeName { unit, ..one } == other,
+                Some(unit) => MadeName { unit, ..one } == other && !self.carries_others(other),
                 None => false,
             },
             (TyName::Initial(_), TyName::Made(_)) => false,
@@ -68,6 +103,15 @@ impl Moves {
                 None => name,
             },
         }
+    }
+}
+
+fn carry_same(one: &Carried, other: &Carried) -> bool {
+    match (one, other) {
+        (None, None) => true,
+        (Some(ones), Some(others)) => ones.as_slice() == others.as_slice(),
+        (None, Some(_)) => false,
+        (Some(_), None) => false,
     }
 }
 

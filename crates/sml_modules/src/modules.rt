@@ -10,8 +10,8 @@ use sml_lex::fault::{Code, FIRST, Warning};
 use sml_sigs::sigs::signature;
 use sml_tree::structures::{SigBind, TopDec};
 use sml_types::fault::{CoreFault, plain_fault};
+use sml_warnings::sorted::sorted;
 use std::alloc::Global;
-use std::mem::replace;
 use std::rc::Rc;
 
 /// A fault of the declaration, or want of memory.
@@ -20,7 +20,7 @@ pub type TopFault = CoreFault;
 /// The greatest number of type names that a unit makes and exports.
 pub const MOST_NAMES: u32 = 1_048_576;
 
-/// The declaration's own basis, with its warnings, or why it has none. The basis lent is that of its unit so far. The new
+/// The declaration's own basis, with its warnings by place and code, each once, or why it has none. The basis lent is that of its unit so far. The new
 /// names are numbered from its count on, in the order in which they appear in the lines of the reply.
 pub fn topdec(
     alloc: Global,
@@ -29,13 +29,14 @@ pub fn topdec(
 ) -> Result<(Basis, Vec<Warning>), TopFault> {
     let mut context = Context::new(alloc, basis);
     let own = numbered(&mut context, basis, dec)?;
-    Ok((own, replace(&mut context.warnings, Vec::new(alloc))))
+    let warnings = sorted(alloc, &context.warnings)?;
+    Ok((own, warnings))
 }
 
 /// What the declaration binds, with its new names numbered.
 fn numbered(context: &mut Context, basis: &Basis, dec: &TopDec) -> Result<Basis, TopFault> {
     let own = own_basis(context, basis, dec)?;
-    let own = canonical(context.alloc, own, basis.unit, basis.count)?;
+    let own = canonical(context.alloc, own, basis.unit, basis.count, &context.new)?;
     if own.count > MOST_NAMES {
         return Err(plain_fault(Code::Q3, FIRST));
     }

@@ -1,13 +1,13 @@
 //! Exported types that were unknown where they were bound.
 
 use indexmap::{IndexMap, IndexSet};
-use sml_asks::asks::{ask_fixed, ask_reading};
+use sml_asks::asks::{ask_fixed, ask_scheme};
 use sml_bases::objects::Env;
 use sml_core::context::Context;
 use sml_envs::mapping::{Image, Mapping, mapped_env};
 use sml_envs::sizes::GREATEST_SIZE;
 use sml_lex::fault::{Code, Memory, Place};
-use sml_objects::objects::{MlType, TyName};
+use sml_objects::objects::{MlType, Scheme, TyName};
 use sml_types::fault::{CoreFault, plain_fault};
 use sml_types::rows::number_of;
 use sml_types::sizes::small_env_under;
@@ -97,8 +97,9 @@ fn readings(
 ) -> Result<Known, CoreFault> {
     let mut types = IndexMap::new(context.alloc);
     let mut large = Vec::new(context.alloc);
+    let left = vec![in context.alloc; false; context.solver.unknowns()]?;
     for unknown in unknowns {
-        match reading(context, *unknown, GREATEST_SIZE, place)? {
+        match reading(context, *unknown, &left, GREATEST_SIZE, place)? {
             Some(ty) => {
                 types.insert(*unknown, ty)?;
             }
@@ -107,22 +108,25 @@ fn readings(
     }
     let has_large = !large.is_empty();
     if has_large {
-        require_known(context, &large, place)?;
+        require_known(context, &large, &left, place)?;
     }
     Ok(Known { types, has_large })
 }
 
-/// The type that an unknown turned out to be, or Q2; none where it is larger than the limit.
+/// The type that an unknown turned out to be, by all that is asked of it, or Q2; none where it is larger than the limit. No
+/// unknown has one of the flags.
 fn reading(
     context: &mut Context,
     unknown: u32,
+    left: &[bool],
     limit: u32,
     place: Place,
 ) -> Result<Option<Rc<MlType>>, CoreFault> {
-    match ask_reading(&mut context.solver, &MlType::Free(unknown), limit) {
-        Ok(Some(ty)) => {
-            if is_ground(&ty) {
-                Ok(Some(ty))
+    let ty = MlType::Free(unknown);
+    match ask_scheme(context.alloc, &mut context.solver, &ty, left, true, limit) {
+        Ok(Some(Scheme { body, .. })) => {
+            if is_ground(&body) {
+                Ok(Some(body))
             } else {
                 Err(plain_fault(Code::Q2, place))
             }
@@ -133,13 +137,18 @@ fn reading(
 }
 
 /// That no unknown is left in the types that some unknowns turned out to be, which aren't made, or Q2.
-fn require_known(context: &mut Context, unknowns: &[u32], place: Place) -> Result<(), CoreFault> {
+fn require_known(
+    context: &mut Context,
+    unknowns: &[u32],
+    left: &[bool],
+    place: Place,
+) -> Result<(), CoreFault> {
     let Ok(flags) = ask_fixed(&mut context.solver, 0, unknowns) else {
         return Err(CoreFault::Memory);
     };
     for (unknown, is_inside) in flags.iter().enumerate() {
         if *is_inside {
-            reading(context, number_of(unknown)?, 1, place)?;
+            reading(context, number_of(unknown)?, left, 1, place)?;
         }
     }
     Ok(())

@@ -100,6 +100,7 @@ impl Joins {
         }
         let joined = new.make(arity_of(one), has_equality(one) || has_equality(other))?;
         self.join_constructors(one, other, joined, place)?;
+        new.carry_first(joined, one, other)?;
         self.others.insert(one, joined)?;
         self.others.insert(other, joined)?;
         self.bound.insert(joined)?;

@@ -31,15 +31,15 @@ pub fn signature<S: Scope>(
 
 /// What signature expressions are read with.
 #[derive(Drop)]
-struct Reader<'a> {
+struct Reader<'a, 'b> {
     alloc: Global,
     basis: &'a Basis,
-    new: &'a mut NewNames,
+    new: &'a mut NewNames<'b>,
 }
 
 #[cycle(read)]
 fn read<S: Scope>(
-    reader: &mut Reader<'_>,
+    reader: &mut Reader<'_, '_>,
     sig: &SigExp,
     outer: &S,
     inner: Option<&Layer<'_>>,
@@ -56,7 +56,7 @@ fn read<S: Scope>(
 
 /// The signature of an identifier, with new names.
 #[inline(never)]
-fn named(reader: &mut Reader<'_>, place: Place, name: &Ident) -> Result<Sig, CoreFault> {
+fn named(reader: &mut Reader<'_, '_>, place: Place, name: &Ident) -> Result<Sig, CoreFault> {
     match reader.basis.signature(name) {
         Some(sig) => Ok(renamed_sig(reader.alloc, sig, reader.new)?),
         None => {
@@ -69,7 +69,7 @@ fn named(reader: &mut Reader<'_>, place: Place, name: &Ident) -> Result<Sig, Cor
 #[cycle(read)]
 #[inline(never)]
 fn read_specs<S: Scope>(
-    reader: &mut Reader<'_>,
+    reader: &mut Reader<'_, '_>,
     specs: &[Spec],
     outer: &S,
     inner: Option<&Layer<'_>>,
@@ -85,7 +85,7 @@ fn read_specs<S: Scope>(
 #[cycle(read)]
 #[inline(never)]
 fn read_spec<S: Scope>(
-    reader: &mut Reader<'_>,
+    reader: &mut Reader<'_, '_>,
     spec: &Spec,
     outer: &S,
     around: Option<&Layer<'_>>,
@@ -117,7 +117,7 @@ fn read_spec<S: Scope>(
 #[cycle(read)]
 #[inline(never)]
 fn part_of<S: Scope>(
-    reader: &mut Reader<'_>,
+    reader: &mut Reader<'_, '_>,
     spec: &Spec,
     outer: &S,
     layer: &Layer<'_>,
@@ -146,7 +146,7 @@ fn part_of<S: Scope>(
 #[cycle(read)]
 #[inline(never)]
 fn structures<S: Scope>(
-    reader: &mut Reader<'_>,
+    reader: &mut Reader<'_, '_>,
     descs: &[StrDesc],
     outer: &S,
     layer: &Layer<'_>,

@@ -1,5 +1,5 @@
 -- Overloaded unknowns that become `int`.
-use Rattle.std.proofs.Common.{◌≡◌, ◌≢◌, ℕ, zero, suc, ◌+◌, ◌<◌, ◌≤◌, ◌⊎◌, inl, inr, Bool, true, false, Option, Some, None, List, [], ◌∷◌, ◌++◌, length, map, get_or, sym, ◌∙◌, ap, subst, refl, arith}
+use Rattle.std.proofs.Common.{◌≡◌, ◌≢◌, ℕ, zero, suc, ◌+◌, ◌<◌, ◌≤◌, ◌⊎◌, inl, inr, Bool, true, false, Option, Some, None, List, [], ◌∷◌, ◌++◌, length, map, take, get_or, sym, ◌∙◌, ap, subst, refl, arith}
 use Rattle.sml_objects.specs.Appearance.{Stands}
 use Rattle.sml_objects.proofs.Standing.{left, right, either}
 use Rattle.sml_objects.specs.Names as N
@@ -91,6 +91,19 @@ settled-none s v n l σ = (
 pub settled-first : (s : Asked) → Settles s [] s
 unfolding Settles
 settled-first s l σ = (λ p. (p, λ w a _. absurd (stands-nowhere w a)), λ p. p.0)
+
+-- what stands among the first ones stands in the list
+pub in-taken : (i : ℕ) (xs : List ℕ) (v : ℕ) → Stands v (take i xs) → Stands v xs
+unfolding Stands
+in-taken zero xs v h = absurd h
+in-taken (suc i) [] v h = absurd h
+in-taken (suc i) (x ∷ xs) v (inl e) = inl e
+in-taken (suc i) (x ∷ xs) v (inr h) = inr (in-taken i xs v h)
+
+pub below-at : (n : ℕ) (xs : List ℕ) (i : ℕ) → AllByRecursion (λ v. v < n) xs → i < length xs → get_or xs i 0 < n
+below-at n [] i h l = omega (arith, l)
+below-at n (x ∷ xs) zero h l = h.0
+below-at n (x ∷ xs) (suc i) h l = below-at n xs i h.1 (omega (arith, l))
 
 -- those of a list of numbers below a bound are below it
 pub below-all : (n : ℕ) (vs : List ℕ) → AllByRecursion (λ v. v < n) vs → (v : ℕ) → Stands v vs → v < n

@@ -220,8 +220,8 @@ impl Solver {
         if self.spent {
             return Err(Halt::Spent);
         }
-        for unknown in unknowns {
-            match settle_one(self, *unknown) {
+        for index in 0..unknowns.len() {
+            match settle_one(self, unknowns[index]) {
                 Ok(()) => {}
                 Err(halt) => return Err(halt),
             }

@@ -15,6 +15,7 @@ use crate::types::type_of;
 use crate::variables::{Listed, closed, is_equality_variable};
 use crate::written::Written;
 use sml_bases::objects::{Constructors, Env, Status, TypeStr, Value};
+use sml_envs::functions::name_of;
 use sml_envs::mapping::{Image, Mapping, mapped_type};
 use sml_envs::new_names::NewNames;
 use sml_equality::largest::without_equality;
@@ -55,7 +56,13 @@ pub fn datatypes<S: Scope>(
     let written = arguments_of(alloc, &inner, binds)?;
     small_constructors(alloc, place, binds, &written)?;
     let arguments = made_arguments(alloc, &written)?;
-    Ok(datatypes_of(alloc, run, binds, &names, &arguments)?)
+    let env = datatypes_of(alloc, run, binds, &names, &arguments)?;
+    for (_, ty) in &env.types {
+        if let Some(name) = name_of(&ty.function) {
+            new.carry_constructors(name, &ty.constructors)?;
+        }
+    }
+    Ok(env)
 }
 
 /// Datatypes with these names and these types of their constructors' arguments.

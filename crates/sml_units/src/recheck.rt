@@ -19,11 +19,11 @@ use std::rc::Rc;
 pub fn recheck(alloc: Global, old: &Checked, project: &Project) -> Result<Checked, Memory> {
     let initial = Rc::new(alloc, initial(alloc)?)?;
     let befores = befores_of(alloc, old, project)?;
-    let moves = moves_between(alloc, old, project, &befores)?;
+    let mut moves = moves_between(alloc, old, project, &befores)?;
     let mut again = Again::new(alloc);
     for (place, unit) in project.units.as_slice().iter().enumerate() {
         let before = before_of(old, &befores, place);
-        again.take(alloc, &initial, before, &befores, &moves, unit)?;
+        again.take(alloc, &initial, before, &befores, &mut moves, unit)?;
     }
     let Again {
         units,
@@ -78,7 +78,7 @@ impl Again {
         initial: &Rc<WholeBasis>,
         before: Option<Before<'_>>,
         befores: &[Option<usize>],
-        moves: &Moves,
+        moves: &mut Moves,
         unit: &ProjectUnit,
     ) -> Result<(), Memory> {
         let Some(before) = before else {
@@ -90,6 +90,8 @@ impl Again {
             return self.put(unit, read, true, true);
         }
         let read = check_unit(alloc, initial, &self.exports, unit)?;
+        let (old, new) = (&before.exports.whole, &read.1.whole);
+        moves.note(alloc, unit.id, &old.names, &new.names)?;
         let is_unchanged = are_same_exports(alloc, moves, before.exports, &read.1)?;
         self.put(unit, read, false, is_unchanged)
     }

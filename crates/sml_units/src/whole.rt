@@ -31,6 +31,9 @@ pub(crate) fn whole_basis(
     };
     let mut basis = WholeBasis::new(alloc, bound.unit);
     basis.count = count;
+    for _ in 0..count {
+        basis.names.push(None)?;
+    }
     basis.below.push(initial.clone()?)?;
     for need in needs {
         if let Some(needed) = exports.get(*need) {
@@ -73,6 +76,9 @@ fn answer(
             paths.bind(alloc, &own.env)?;
             basis.add(&own)?;
             basis.count = own.count;
+            for carried in own.names {
+                basis.names.push(carried)?;
+            }
             Ok(reply)
         }
         Err(CoreFault::Fault(fault)) => Ok(Reply::refused(number, fault)),

@@ -53,7 +53,7 @@ const FILES: [&str; 4] = [
 ];
 
 /// The texts of their units, each behind the letter that it has in a row.
-const LETTERS: [&str; 13] = [
+const LETTERS: [&str; 18] = [
     "a structure S :> sig type t val a : t val f : t -> t end = struct type t = int val a = 3 fun f x = x end",
     "b structure S :> sig type t val a : t val f : t -> t end = struct datatype p = P datatype q = Q type t = int * bool val a = (3, true) fun f (x, b) = (x, b) end",
     "c structure S :> sig type t val a : t val f : t -> t val b : int end = struct type t = int val a = 3 fun f x = x val b = 1 end",
@@ -67,6 +67,11 @@ const LETTERS: [&str; 13] = [
     "k signature G = sig type u type t val f : u -> t end",
     "l signature G = sig type u eqtype t val f : t -> u end",
     "m signature G = sig type t type u val f : t -> u end val n = 1",
+    "n structure S : sig type t val x : t end = struct datatype t = A val x = A end",
+    "o structure S : sig type t val x : t end = struct datatype t = B val x = B end",
+    "p val y = S.x",
+    "q structure T = S",
+    "r val z = T.x",
 ];
 
 /// The user of the signatures.
@@ -77,8 +82,8 @@ const FUNCTOR: &str = "functor F (X : G) = struct val g = X.f end";
 ///
 /// A body may change, but not what a signature lists, nor whether a type admits equality; the order of the lines alone
 /// changes nothing, but another name, or other needs, are another unit; and signatures whose types are listed in another
-/// order are equal.
-const ROWS: [&str; 10] = [
+/// order are equal. A name carries its constructors' identifiers, also where no path shows them.
+const ROWS: [&str; 13] = [
     "0 aeg 0 aeg kkk 0",
     "0 aeg 0 beg -kk 1",
     "0 aeg 0 afg k-k 1",
@@ -89,6 +94,9 @@ const ROWS: [&str; 10] = [
     "3 ix 3 kx -- 2",
     "3 ix 3 lx -- 2",
     "3 ix 3 mx -- 3",
+    "3 np 3 np kk 0",
+    "3 np 3 op -- 2",
+    "0 nqr 0 oqr --- 3",
 ];
 
 /// The text of a letter.

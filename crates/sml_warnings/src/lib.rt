@@ -2,3 +2,4 @@
 #![tactic(auto)]
 
 pub mod matches;
+pub mod sorted;

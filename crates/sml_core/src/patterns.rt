@@ -28,7 +28,7 @@ pub(crate) struct Variables {
 }
 
 fn is_nil(name: &Ident) -> bool {
-    name.as_slice() == b"nil"
+    name.as_slice() == b"nil".as_slice()
 }
 
 impl Variables {

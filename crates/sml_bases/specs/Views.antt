@@ -14,11 +14,10 @@ use Rattle.sml_bases.specs.declared.objects.Env.{Env}
 use Rattle.sml_bases.specs.declared.objects.Env.TheOpen.{Env-F}
 use Rattle.sml_bases.specs.declared.objects.Env.TheFolds.{fold-Env}
 
--- which constructor of its datatype a constructor is, isn't part of its status
 abbrev pub status_of : Status → O.Status
 status_of S.Variable = O.variable
 status_of (S.Overloaded c) = O.overloaded c
-status_of (S.Constructor number count) = O.constructor
+status_of (S.Constructor number count) = O.constructor number count
 status_of S.Exception = O.exception
 
 abbrev pub value_of : Value → O.Value Name

@@ -55,7 +55,7 @@ module _ {P : Type 0} where
 
 exception-true : (w : Status) → is_exception w ≡ true → w ≡ exception
 exception-true variable h = absurd (false≢true h)
-exception-true constructor h = absurd (false≢true h)
+exception-true (constructor k n) h = absurd (false≢true h)
 exception-true exception h = refl
 exception-true (overloaded c) h = absurd (false≢true h)
 

@@ -119,7 +119,7 @@ module _ {P N : Type 0} (scope : Scope N) (σ : ℕ → MlType N) (are : (v : �
       → IsOfClass scope.names eq w (σ (k + 0))
   unfolding IsAnswer replace_type ◌>>=◌
   status-met p k variable s r h m = tt
-  status-met p k constructor s r h m = tt
+  status-met p k (constructor i n) s r h m = tt
   status-met p k exception s r h m = tt
   status-met p k (overloaded c) s r (inl h) m =
       let b = met-before scope σ (new_overloaded k) (with_demand (asks (of_class c) (free k)) s) r h.1 m in

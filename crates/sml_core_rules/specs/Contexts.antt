@@ -79,7 +79,7 @@ module _ {N : Type 0} (names : Naming N) where
     -- the variable of an overloaded identifier is one of the types of its class (appendix E)
     abbrev pub IsOfClass : Status → MlType N → Type 0
     IsOfClass variable t = Unit {0}
-    IsOfClass constructor t = Unit {0}
+    IsOfClass (constructor k n) t = Unit {0}
     IsOfClass exception t = Unit {0}
     IsOfClass (overloaded c) t = (k : Initial) × (allows (names_in c) k ≡ true) × (t ≡ named (names.initial k))
 

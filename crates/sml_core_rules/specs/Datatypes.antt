@@ -110,8 +110,13 @@ abbrev pub constructors_of : {N : Type 0} → MlType N → List Bool → Argumen
 constructors_of t es [] = []
 constructors_of t es (c ∷ cs) = put c.0 (constructor_scheme es (constructor_type t c.1)) (constructors_of t es cs)
 
+-- the constructors of a datatype as values, each with its number in byte order and how many there are
+abbrev pub constructors_from : {N : Type 0} → ℕ → ℕ → Map (Scheme N) → Map (Value N)
+constructors_from k n [] = []
+constructors_from k n (c ∷ cs) = (c.0, record { scheme = c.1; status = constructor k n }) ∷ constructors_from (suc k) n cs
+
 abbrev pub constructor_values : {N : Type 0} → Map (Scheme N) → Map (Value N)
-constructor_values cs = map (λ c. (c.0, record { scheme = c.1; status = constructor })) cs
+constructor_values cs = constructors_from 0 (length cs) cs
 
 module _ {P N : Type 0} where
   -- bindings of types, which see none of each other

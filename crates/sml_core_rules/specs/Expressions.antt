@@ -72,7 +72,7 @@ pub record Begun (P N : Type 0) : Type 0 where
 
 abbrev pub is_exception : Status → Bool
 is_exception variable = false
-is_exception constructor = false
+is_exception (constructor k n) = false
 is_exception exception = true
 is_exception (overloaded c) = false
 

@@ -1,6 +1,6 @@
 -- Semantic objects of the whole language (the Definition, sections 4.2 and 5.1), over any type `N` of type names. Types,
 -- schemes and type functions are those of sml_objects.
-use Rattle.std.specs.Prelude.{List, [], ◌∷◌, ◌++◌, map, Option, Some, None}
+use Rattle.std.specs.Prelude.{ℕ, List, [], ◌∷◌, ◌++◌, map, Option, Some, None}
 use Rattle.sml_tree.specs.Trees.{Id}
 use Rattle.sml_objects.specs.Maps.{Map, join, by_order, order_of}
 use Rattle.sml_objects.specs.Objects.{Scheme, rename_scheme, names_type}
@@ -9,7 +9,7 @@ use Rattle.sml_layers.specs.declared.class.Class.{Class}
 -- An overloaded identifier of the initial basis is one of its own.
 pub data Status : Type 0 where
   variable : Status
-  constructor : Status
+  constructor : (number count : ℕ) → Status
   exception : Status
   overloaded : Class → Status
 

@@ -14,7 +14,7 @@ use Rattle.sml_core_rules.specs.Scripts.{Script, give, ◌>>=◌, need, new_unkn
 
 abbrev pub constructs : Status → Bool
 constructs variable = false
-constructs constructor = true
+constructs (constructor k n) = true
 constructs exception = true
 constructs (overloaded c) = false
 
@@ -64,7 +64,7 @@ module _ {P N : Type 0} where
 
   abbrev pub require_status : P → ℕ → Status → Script P N (Unit {0})
   require_status p k variable = give tt
-  require_status p k constructor = give tt
+  require_status p k (constructor i n) = give tt
   require_status p k exception = give tt
   require_status p k (overloaded c) = do
     u ← require (asks (of_class c) (free k)) p

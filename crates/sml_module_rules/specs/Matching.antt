@@ -50,12 +50,12 @@ module _ {P N : Type 0} (names : Naming N) (p : P) (bound : List N) (E : Env N) 
 abbrev pub serves : Status → Status → Bool
 serves s variable = true
 serves s (overloaded c) = true
-serves variable constructor = false
-serves constructor constructor = true
-serves exception constructor = false
-serves (overloaded c) constructor = false
+serves variable (constructor k n) = false
+serves (constructor i m) (constructor k n) = true
+serves exception (constructor k n) = false
+serves (overloaded c) (constructor k n) = false
 serves variable exception = false
-serves constructor exception = false
+serves (constructor k n) exception = false
 serves exception exception = true
 serves (overloaded c) exception = false
 

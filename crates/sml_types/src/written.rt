@@ -13,7 +13,6 @@ use std::alloc::Global;
 use std::rc::Rc;
 
 /// What a type expression means.
-#[cycle(written)]
 #[derive(Drop)]
 pub enum Written {
     /// A type that is made.

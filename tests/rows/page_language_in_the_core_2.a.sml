@@ -1,4 +1,5 @@
-val twice = fn x => x + x
-val k = let val f = fn x => x + x in f 1.5 end
-val k = let val f = fn x : real => x + x in f 1.5 end
-fun first r = let val get = fn {a, ...} => a in get {a = 1, b = r} end
+fun half (w, h) = let val area = w * h in area / 2.0 end
+fun half (w : real, h) = let val area = w * h in area / 2.0 end
+fun greet r = let val n = #name r in n ^ "!" end
+fun greet (r : {name : string, age : int}) = let val n = #name r in n ^ "!" end
+fun area x = (x * x, let val same = x in same * 3.14 end)

@@ -1,2 +1,4 @@
-val f = fn x => let val 'a y = let val z : 'a = x in 1 end in x end
-val g = fn x => let val y = let val z = x in 1 end in x end
+val twice = fn x => x + x
+val k = let val f = fn x => x + x in f 1.5 end
+val k = let val f = fn x : real => x + x in f 1.5 end
+fun first r = let val get = fn {a, ...} => a in get {a = 1, b = r} end

@@ -1,2 +1,2 @@
-fun 'a raiser (x : 'a) = let exception Holds of 'a in raise Holds x end
-exception Any of 'a
+val f = fn x => let val 'a y = let val z : 'a = x in 1 end in x end
+val g = fn x => let val y = let val z = x in 1 end in x end

@@ -69,37 +69,37 @@ module _ {P N : Type 0} (scope : Scope N) (far : AreFar scope) where
   abbrev AreBothRuns : List (UnitPair P) → List (List (Answer P (Basis N))) → List (List (Answer P (Basis N))) → Type 0
   AreBothRuns us oss qss = map (map is_some) (units_shown us oss) ≡ map (map is_some) (units_shown us qss)
 
-  runs-agree : (us : List (UnitPair P)) (k : ℕ) (I : Basis N) (E : Exports N) → Mentions I E.names → EachMentions E.units E.names → ((j : Initial) → Stands (scope.names.initial j) E.names)
-      → (oss qss : List (List (Answer P (Basis N)))) → AreRuns scope I (suc k) E (map first_unit us) oss → AreRuns scope I (suc k) E (map second_unit us) qss → AreBothRuns us oss qss
+  runs-agree : (us : List (UnitPair P)) (I : Basis N) (E : Exports N) → Mentions I E.names → EachMentions E.units E.names → ((j : Initial) → Stands (scope.names.initial j) E.names)
+      → (oss qss : List (List (Answer P (Basis N)))) → AreRuns scope I E (map first_unit us) oss → AreRuns scope I E (map second_unit us) qss → AreBothRuns us oss qss
       → SameRuns us I E oss qss
   unfolding AreRuns
-  runs-agree [] k I E h e z [] [] a b m = λ i. (N, scope, I, E, [])
-  runs-agree [] k I E h e z [] (qs ∷ qss) a b m = absurd b
-  runs-agree [] k I E h e z (os ∷ oss) qss a b m = absurd a
-  runs-agree (u ∷ us) k I E h e z [] qss a b m = absurd a
-  runs-agree (u ∷ us) k I E h e z (os ∷ oss) [] a b m = absurd b
-  runs-agree (u ∷ us) k I E h e z (os ∷ oss) (qs ∷ qss) (a, later) (b, others) m =
+  runs-agree [] I E h e z [] [] a b m = λ i. (N, scope, I, E, [])
+  runs-agree [] I E h e z [] (qs ∷ qss) a b m = absurd b
+  runs-agree [] I E h e z (os ∷ oss) qss a b m = absurd a
+  runs-agree (u ∷ us) I E h e z [] qss a b m = absurd a
+  runs-agree (u ∷ us) I E h e z (os ∷ oss) [] a b m = absurd b
+  runs-agree (u ∷ us) I E h e z (os ∷ oss) (qs ∷ qss) (a, later) (b, others) m =
       let B : Basis N = beginning I E u.needs in
-      let here : Scope N = in_unit (suc k) scope in
+      let here : Scope N = in_unit u.line scope in
       let whole = beginning-whole I E u.needs h e in
-      let σ : SameReplies here u.pairs B os qs = replies-agree here (far-in scope far k) u.pairs B whole z os qs a b (ap first_list m) in
+      let σ : SameReplies here u.pairs B os qs = replies-agree here (far-in scope far u.line) u.pairs B whole z os qs a b (ap first_list m) in
       let p : N ≡ N = λ i. (σ i).0 in
       let v : PathP (λ i. Scope (p i)) scope scope = λ i. record (σ i).1 { unit = scope.unit } in
       let l : PathP (λ i. List (p i)) E.names E.names = λ i. (σ i).2.names in
       let C = basis-kept scope p v E.names l I h in
       let D = exports-kept scope p v E.names l E (λ n s. s) e in
-      let moved : AreRuns scope I (suc (suc k)) (and_unit E (after_shown nothing (all_shown u.pairs os))) (map first_unit us) oss =
-      subst (λ A. AreRuns scope I (suc (suc k)) (and_unit E A) (map first_unit us) oss) (sym (exported-shown here first u.pairs B nothing os a)) later in
+      let moved : AreRuns scope I (and_unit E (after_shown nothing (all_shown u.pairs os))) (map first_unit us) oss =
+      subst (λ A. AreRuns scope I (and_unit E A) (map first_unit us) oss) (sym (exported-shown here first u.pairs B nothing os a)) later in
       let ps : List (List (Answer P (Basis N))) = coe 0 1 (i. List (List (Answer P (Basis (p i))))) oss in
-      let cs : AreRuns scope I (suc (suc k)) (and_unit E (after_shown nothing (all_shown u.pairs qs))) (map first_unit us) ps =
-      coe 0 1 (i. AreRuns (v i) (C i) (suc (suc k)) (and_unit (D i) (after_shown nothing (σ i).3)) (map first_unit us) (coe 0 i (j. List (List (Answer P (Basis (p j))))) oss)) moved in
-      let cs' = subst (λ A. AreRuns scope I (suc (suc k)) (and_unit E A) (map first_unit us) ps) (exported-shown here second u.pairs B nothing qs b) cs in
+      let cs : AreRuns scope I (and_unit E (after_shown nothing (all_shown u.pairs qs))) (map first_unit us) ps =
+      coe 0 1 (i. AreRuns (v i) (C i) (and_unit (D i) (after_shown nothing (σ i).3)) (map first_unit us) (coe 0 i (j. List (List (Answer P (Basis (p j))))) oss)) moved in
+      let cs' = subst (λ A. AreRuns scope I (and_unit E A) (map first_unit us) ps) (exported-shown here second u.pairs B nothing qs b) cs in
       let r = replies-mention here second E.names u.pairs B nothing whole (nothing-mentions E.names) (λ n s. s) qs b in
       let all : List N = (exported qs).names ++ E.names in
       let grow : (n : N) → Stands n E.names → Stands n all = λ n s. right n (exported qs).names E.names s in
       let more = more-mention E.units E.names all grow e in
       let both : AreBothRuns us ps qss = sym (λ i. map (map is_some) (units_shown us (coe 0 i (j. List (List (Answer P (Basis (p j))))) oss))) ∙ ap (drop 1) m in
-      let τ = runs-agree us (suc k) I (and_unit E (exported qs)) (λ n s. grow n (h n s)) (and-mentions E.units (exported qs) all more r.0) (λ j. grow (scope.names.initial j) (z j)) ps qss cs' others both in
+      let τ = runs-agree us I (and_unit E (exported qs)) (λ n s. grow n (h n s)) (and-mentions E.units (exported qs) all more r.0) (λ j. grow (scope.names.initial j) (z j)) ps qss cs' others both in
       let p' : N ≡ N = λ i. (τ i).0 in
       let v' : PathP (λ i. Scope (p' i)) scope scope = λ i. (τ i).1 in
       let l' : PathP (λ i. List (p' i)) all all = λ i. (τ i).3.names in
@@ -119,7 +119,7 @@ unit_replies_named = record { rename = λ f oss. map (map (rename_reply f)) oss;
 pub projects-hide : {N : Type 0} (scope : Scope N) → ProjectsHide scope
 unfolding EachMentions unit_replies_named
 projects-hide {N} scope far B inside initials us oss qss a b m =
-    let π = runs-agree scope far us 0 B (record { names = B.names; units = [] }) inside tt initials oss qss a b m in
+    let π = runs-agree scope far us B (record { names = B.names; units = [] }) inside tt initials oss qss a b m in
     let f =
     alike {P = Place} {F = UnitReplies Place} unit_replies_named scope B.names (accepted (units_shown us oss, at_first [])) (accepted (units_shown us qss, at_first []))
     (λ i. ((π i).0, (π i).1, (π i).3.names, accepted ((π i).4, at_first []))) in

@@ -6,8 +6,10 @@ use Rattle.sml_core_rules.specs.Objects.{Basis, empty}
 use Rattle.sml_core_rules.specs.States.{Scope}
 use Rattle.sml_module_rules.specs.Programs.{add_basis, basis_after, AreReadings, Pair, first, second, all_shown}
 
--- The declarations of a unit, each with its place, and the units that it sees, by their numbers among those before it.
+-- Where a unit stands among the unit lines of the project file, counted from 0; its declarations, each with its place; and the units
+-- that it sees, by their numbers among those before it.
 pub record UnitText (P : Type 0) : Type 0 where
+  pub line : ℕ
   pub declarations : List (P × TopDec P)
   pub needs : List ℕ
 
@@ -40,27 +42,28 @@ beginning I E ks = record (with_needs I E.units ks) { names = E.names }
 abbrev pub and_unit : {N : Type 0} → Exports N → Basis N → Exports N
 and_unit E A = record { names = A.names ++ E.names; units = E.units ++ A ∷ [] }
 
--- the scope of the unit with this number
+-- the scope of the unit on this line, which is the maker of its names, counted from 1
 abbrev pub in_unit : {N : Type 0} → ℕ → Scope N → Scope N
-in_unit k scope = record scope { unit = k }
+in_unit k scope = record scope { unit = suc k }
 
--- what units may be answered one after the other, the first of which has this number
-unfoldable pub AreRuns : {P N : Type 0} → Scope N → Basis N → ℕ → Exports N → List (UnitText P) → List (List (Answer P (Basis N))) → Type 0
-AreRuns scope I k E [] [] = Unit {0}
-AreRuns scope I k E [] (os ∷ oss) = ⊥
-AreRuns scope I k E (u ∷ us) [] = ⊥
-AreRuns scope I k E (u ∷ us) (os ∷ oss) = AreReadings (in_unit k scope) (beginning I E u.needs) u.declarations os × AreRuns scope I (suc k) (and_unit E (exported os)) us oss
+-- what units may be answered one after the other
+unfoldable pub AreRuns : {P N : Type 0} → Scope N → Basis N → Exports N → List (UnitText P) → List (List (Answer P (Basis N))) → Type 0
+AreRuns scope I E [] [] = Unit {0}
+AreRuns scope I E [] (os ∷ oss) = ⊥
+AreRuns scope I E (u ∷ us) [] = ⊥
+AreRuns scope I E (u ∷ us) (os ∷ oss) = AreReadings (in_unit u.line scope) (beginning I E u.needs) u.declarations os × AreRuns scope I (and_unit E (exported os)) us oss
 
--- A unit of two projects: declarations that are the same but for what stands behind seals, and the units that it sees.
+-- A unit of two projects: its line, declarations that are the same but for what stands behind seals, and the units that it sees.
 pub record UnitPair (P : Type 0) : Type 0 where
+  pub line : ℕ
   pub pairs : List (Pair P)
   pub needs : List ℕ
 
 abbrev pub first_unit : {P : Type 0} → UnitPair P → UnitText P
-first_unit u = record { declarations = map first u.pairs; needs = u.needs }
+first_unit u = record { line = u.line; declarations = map first u.pairs; needs = u.needs }
 
 abbrev pub second_unit : {P : Type 0} → UnitPair P → UnitText P
-second_unit u = record { declarations = map second u.pairs; needs = u.needs }
+second_unit u = record { line = u.line; declarations = map second u.pairs; needs = u.needs }
 
 -- the replies to each unit of one of the two, but for faults of declarations that differ
 abbrev pub units_shown : {P N : Type 0} → List (UnitPair P) → List (List (Answer P (Basis N))) → List (List (Option (Answer P (Basis N))))

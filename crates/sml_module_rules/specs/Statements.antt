@@ -41,12 +41,12 @@ SealsHide {N} scope =
 
 -- The same of projects: of two projects whose units are alike but for what stands behind `:>`, where each such declaration is
 -- accepted in both or refused in both, all replies to all units are the same but for the names that were made, and but for the
--- faults of these declarations. Units are counted from 1, and make no name of an explicit variable.
+-- faults of these declarations. No unit makes a name of an explicit variable.
 abbrev pub ProjectsHide : {N : Type 0} → Scope N → Type 0
 ProjectsHide {N} scope =
     ((x : Variable) → (scope.names.attributes (scope.variable x)).maker ≡ 0)
     → (B : Basis N) → ((n : N) → Stands n (names_basis B) → Stands n B.names) → ((k : Initial) → Stands (scope.names.initial k) B.names)
     → (us : List (UnitPair Place)) (oss qss : List (List (Answer Place (Basis N))))
-    → AreRuns scope B 1 (record { names = B.names; units = [] }) (map first_unit us) oss → AreRuns scope B 1 (record { names = B.names; units = [] }) (map second_unit us) qss
+    → AreRuns scope B (record { names = B.names; units = [] }) (map first_unit us) oss → AreRuns scope B (record { names = B.names; units = [] }) (map second_unit us) qss
     → map (map is_some) (units_shown us oss) ≡ map (map is_some) (units_shown us qss)
     → (f : Renaming scope.names) × ((n : N) → Stands n B.names → f.to n ≡ n) × (units_shown us qss ≡ map (map (rename_reply f.to)) (units_shown us oss))

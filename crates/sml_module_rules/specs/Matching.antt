@@ -119,7 +119,7 @@ module _ {P N : Type 0} (scope : Scope N) where
     u ← look (component p x (value_at E x))
     a ← test (serves u.status v.status ≡ true) (fault_at M7 p (path_of x))
     b ← cond (has_unknown u.scheme.body || has_unknown v.scheme.body) (require_general (fault_at M6 p (path_of x)) u.scheme v.scheme)
-      (test (IsGeneral scope.names u.scheme v.scheme) (fault_at M6 p (path_of x)))
+        (test (IsGeneral scope.names u.scheme v.scheme) (fault_at M6 p (path_of x)))
     require_lines p E ls
 
   -- the realisation of a signature that the structure matches; what is realised has no scheme and no type function over the limit

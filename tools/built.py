@@ -80,10 +80,11 @@ def sum_of(path):
 
 
 class Record:
-    """The record of a program: `path` is the record's file, `program` the program's, and `files` what it is built from."""
+    """The record of a program: `path` is the record's file, `program` the program's, `files` what it is built from, and
+    `texts` what else tells how."""
 
-    def __init__(self, path, program, files):
-        self.path, self.program, self.files = path, program, files
+    def __init__(self, path, program, files, texts=()):
+        self.path, self.program, self.files, self.texts = path, program, files, [*texts]
         try:
             self.kept = json.loads(text_of(f"{TOP}/{path}"))
             self.seen = dict(self.kept["seen"])
@@ -104,7 +105,7 @@ class Record:
     def sum(self):
         """The sum of all that the program is built from, as it stands now."""
         of_toolchain = [text_of(f"{toolchain()}/{name}") for name in ("KIT-ID", "WHAT")]
-        whole = [of_toolchain, [[name, self.known(name)] for name in self.files]]
+        whole = [of_toolchain, self.texts, [[name, self.known(name)] for name in self.files]]
         return hashlib.sha256(json.dumps(whole).encode()).hexdigest()
 
     def is_same(self):

@@ -15,7 +15,7 @@
 //! | `variable 'N T`, `variable ''N T` | `require_variable`; one with two quotes admits equality | `done` |
 //! | `general N .. in N N ..` | `require_general`: variables, how many first unknowns, others | `done` |
 //! | `labels T` | `require_labels` | `done` |
-//! | `settle N` | `settle` | `done` |
+//! | `settle N N ..` | `settle` | `done` |
 //! | `unknowns` | `unknowns` | the number |
 //! | `overloaded N` | `is_overloaded` | `true` or `false` |
 //! | `fixed N N ..` | `fixed_by`: how many first unknowns, others | a `+` for each unknown that is fixed, a `-` for another |

@@ -89,8 +89,8 @@ const OVERLOADING: [(&str, &str); 2] = [
     ),
     (
         "what is overloaded becomes int",
-        "fresh 4; unknowns -> 4; class num 0; class num 1; equal 1 2; settle 1; overloaded 1 -> false; \
-        equal 0 real; equal 2 int; equal 3 unit; settle 9; equal 1 real -> equations; settle 0 -> spent",
+        "fresh 4; unknowns -> 4; class num 0; class num 1; equal 1 2; settle 3 2; overloaded 1 -> false; \
+        overloaded 0 -> true; equal 0 real; equal 2 int; equal 3 unit; settle; equal 1 real -> equations; settle 0 -> spent",
     ),
 ];
 

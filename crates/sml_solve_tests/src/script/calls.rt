@@ -228,7 +228,11 @@ fn labels(alloc: Global, solver: &mut Solver, words: &mut Words<'_>) -> Result<S
 }
 
 fn settle(alloc: Global, solver: &mut Solver, words: &mut Words<'_>) -> Result<String, Fault> {
-    match solver.settle(words.number()? as usize) {
+    let unknowns = numbers(alloc, words, "")?;
+    if !are_unknowns(&unknowns, solver.unknowns()) {
+        return Err(Fault::NotUnderstood);
+    }
+    match solver.settle(&unknowns) {
         Ok(()) => Ok(answers::done(alloc, Ok(()))?),
         Err(halt) => Ok(answers::halted(alloc, halt)?),
     }

@@ -7,7 +7,7 @@ use std::test::Fail;
 /// Each call that adds unknowns or demands, and each that asks.
 const CALLS: &str =
     "fresh 1; fresh 1; fresh 1; instance -> 3; equal 0 list 1; within locality 3 list 1; \
-    equality list 1; class num 1; settle 0; variable ''0 2; general 2 in 1 1; overloaded 1 -> false; \
+    equality list 1; class num 1; settle 0 1 2 3; variable ''0 2; general 2 in 1 1; overloaded 1 -> false; \
     fixed 1 2 -> +++-; size 9 pair 0 2 -> 4; reading 9 pair 0 2 -> pair list int 2; \
     scheme +++- 9 pair 0 2 -> all . pair list int 2";
 
@@ -17,7 +17,7 @@ const ROWS: &str = "fresh 1; fresh 1; has 0 a int; has 1 a int b int; equal 0 1"
 /// Calls behind one that was refused.
 const SPENT: &str =
     "fresh 1 -> spent; instance -> spent; equal int int -> spent; within newness 0 int -> spent; \
-    equality int -> spent; class num int -> spent; settle 0 -> spent; variable '0 int -> spent; \
+    equality int -> spent; class num int -> spent; settle -> spent; variable '0 int -> spent; \
     general in 0 -> spent; has int -> spent; labels int -> spent; fixed 0 -> spent; size 5 int -> spent; \
     reading 5 int -> spent; scheme none 5 int -> spent";
 

@@ -117,7 +117,7 @@ fn modules(rt: HostRuntime) -> Result<(), Fail> {
             ),
             (
                 "signature S = sig\n type t = a and 'a u = b\nend",
-                "1signature S=15sig 2include 22sig 2type t; end where t=11()a; 20include 2020sig 20type 'a u; end where 'a u=24()b; end; ",
+                "1signature S=15sig 2include 22sig 2type t; end where t=11()a; 2include 22sig 2type 'a u; end where 'a u=24()b; end; ",
             ),
         ],
     )

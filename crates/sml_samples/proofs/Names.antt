@@ -1,0 +1,46 @@
+-- The initial names among those that stood first.
+use Rattle.std.specs.Prelude.{◌≡◌, ℕ, Bool, true, false, List, [], ◌∷◌}
+use mathlib.Core.Path.{refl}
+use mathlib.Core.Logic.{inl, inr}
+use Rattle.sml_objects.specs.Appearance.{Stands}
+use Rattle.sml_objects.specs.Initial.{Name, initial, made}
+use Rattle.sml_objects.specs.Names.{Initial, int, word, char, string, bool, exn, real, list, ref}
+use Rattle.sml_objects.specs.Objects.{Outside}
+use Rattle.sml_layers.specs.Demands.{Mentions}
+use Rattle.sml_core_rules.specs.States.{words}
+use Rattle.sml_samples.specs.Around.{scope, initial_names, type_of}
+
+pub initial-stands : (k : Initial) → Stands (initial k) initial_names
+unfolding Stands
+initial-stands int = inl refl
+initial-stands word = inr (inl refl)
+initial-stands char = inr (inr (inl refl))
+initial-stands string = inr (inr (inr (inl refl)))
+initial-stands bool = inr (inr (inr (inr (inl refl))))
+initial-stands exn = inr (inr (inr (inr (inr (inl refl)))))
+initial-stands real = inr (inr (inr (inr (inr (inr (inl refl))))))
+initial-stands list = inr (inr (inr (inr (inr (inr (inr (inl refl)))))))
+initial-stands ref = inr (inr (inr (inr (inr (inr (inr (inr (inl refl))))))))
+
+-- types of these names are within them
+pub initial-within : (k : Initial) → Mentions ((words scope).Allows initial_names) (type_of k)
+unfolding Mentions
+initial-within k = (inl (initial-stands k), tt)
+
+-- A made name is none of some initial ones.
+
+abbrev pub are_initial : List Name → Bool
+are_initial [] = true
+are_initial (initial k ∷ ns) = are_initial ns
+are_initial (made u k a q ∷ ns) = false
+
+pub made-outside : (u k a : ℕ) (q : Bool) (ns : List Name) → are_initial ns ≡ true → Outside (made u k a q) ns
+unfolding Outside
+made-outside u k a q [] e = tt
+made-outside u k a q (initial j ∷ ns) e = (λ f. cc, made-outside u k a q ns e)
+made-outside u k a q (made v l b p ∷ ns) e = absurd cc
+
+pub stands-alone : (n m : Name) → Stands n (m ∷ []) → n ≡ m
+unfolding Stands
+stands-alone n m (inl e) = e
+stands-alone n m (inr h) = absurd h

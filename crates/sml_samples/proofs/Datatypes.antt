@@ -20,6 +20,7 @@ use Rattle.sml_core_rules.specs.Expressions.{read_dec}
 use Rattle.sml_core_rules.specs.Types.{read_ty, read_tys}
 use Rattle.sml_samples.specs.Around.{initial_names, type_of, around}
 use Rattle.sml_samples.specs.Core.{DatatypeSamples, datatype_binding, plain_constructor}
+use Rattle.sml_samples.proofs.Steps.{◌⊳◌}
 use Rattle.sml_samples.proofs.Names.{made-outside, stands-alone}
 
 -- a datatype admits equality where the arguments of its constructors do
@@ -45,10 +46,10 @@ without-equality = ((λ e. absurd cc, tt), none)
 pub datatype-samples : DatatypeSamples
 unfolding IsAnswer ◌>>=◌ A.◌>>=◌ read_dec read_type_binds read_all_arguments read_arguments read_ty read_tys find_at type_at AreNew names_in names_structures names_type names_types naming type_size types_size replace_type replace_types close_as variables_after variables_after_all admits_by all_admit_by
 datatype-samples = record {
-  datatype_accepted = (_, (made 1 0 0 true ∷ [], new true, (refl, tt), inr (_, refl, with-equality _ refl, inl ((omega arith, tt), refl))));
-  real_datatype_accepted = (_, (made 1 0 0 false ∷ [], new false, (refl, tt), inr (_, refl, without-equality, inl ((omega arith, tt), refl))));
+  datatype_accepted = (_, (made 1 0 0 true ∷ [], new true, (refl, tt), inr (_, refl, with-equality _ refl, (omega arith, tt) ⊳ refl)));
+  real_datatype_accepted = (_, (made 1 0 0 false ∷ [], new false, (refl, tt), inr (_, refl, without-equality, (omega arith, tt) ⊳ refl)));
   datatype_refused = (made 1 0 0 true ∷ [], new true, (refl, tt), inl (_, refl, refl));
-  withtype_accepted = (_, (made 1 0 0 true ∷ [], new true, (refl, tt), inr (_, refl, with-equality _ refl, inl ((omega arith, tt), inl ((omega arith, tt), refl)))));
+  withtype_accepted = (_, (made 1 0 0 true ∷ [], new true, (refl, tt), inr (_, refl, with-equality _ refl, (omega arith, tt) ⊳ (omega arith, tt) ⊳ refl)));
   withtype_refused = (made 1 0 0 true ∷ [], new true, (refl, tt), inl (_, refl, refl));
 }
   where

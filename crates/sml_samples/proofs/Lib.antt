@@ -1,6 +1,9 @@
+pub mod Steps
 pub mod Plain
 pub mod Names
 pub mod Left
 pub mod Functions
 pub mod Values
 pub mod Datatypes
+pub mod Structures
+pub mod Signatures

@@ -3,11 +3,11 @@ use Rattle.std.specs.Prelude.{◌≡◌, ℕ, Bool, true, false, List, [], ◌�
 use mathlib.Core.Path.{refl}
 use mathlib.Core.Logic.{inl, inr}
 use Rattle.sml_objects.specs.Appearance.{Stands}
-use Rattle.sml_objects.specs.Initial.{Name, initial, made}
+use Rattle.sml_objects.specs.Initial.{Name, initial, made, naming}
 use Rattle.sml_objects.specs.Names.{Initial, int, word, char, string, bool, exn, real, list, ref}
 use Rattle.sml_objects.specs.Objects.{Outside}
 use Rattle.sml_layers.specs.Demands.{Mentions}
-use Rattle.sml_core_rules.specs.States.{words}
+use Rattle.sml_core_rules.specs.States.{words, AreMade}
 use Rattle.sml_samples.specs.Around.{scope, initial_names, type_of}
 
 pub initial-stands : (k : Initial) → Stands (initial k) initial_names
@@ -44,3 +44,17 @@ pub stands-alone : (n m : Name) → Stands n (m ∷ []) → n ≡ m
 unfolding Stands
 stands-alone n m (inl e) = e
 stands-alone n m (inr h) = absurd h
+
+-- a name that is made, where it is none of those before
+pub made-new : (k : ℕ) (q : Bool) (old : List Name) → Outside (made 1 k 0 q) old
+    → AreMade scope old (record { maker = 1; arity = 0; equality = q; constructors = [] } ∷ []) (made 1 k 0 q ∷ [])
+unfolding AreMade naming
+made-new k q old o = (made 1 k 0 q, [], o, λ j e. cc, refl, refl, refl)
+
+pub first-made : (q : Bool) → AreMade scope initial_names (record { maker = 1; arity = 0; equality = q; constructors = [] } ∷ []) (made 1 0 0 q ∷ [])
+first-made q = made-new 0 q initial_names (made-outside 1 0 0 q initial_names refl)
+
+pub second-made : (p q : Bool)
+    → AreMade scope (made 1 0 0 p ∷ initial_names) (record { maker = 1; arity = 0; equality = q; constructors = [] } ∷ []) (made 1 1 0 q ∷ [])
+unfolding Outside
+second-made p q = made-new 1 q (made 1 0 0 p ∷ initial_names) (λ e. cc, made-outside 1 1 0 q initial_names refl)

@@ -1,8 +1,14 @@
 //! That the readings are not empty: samples of each form of declaration, over the names of a run.
 
 ghost use Rattle.sml_samples.specs.Core.{CoreSamples};
+ghost use Rattle.sml_samples.specs.Modules.{ModuleSamples};
 
 /// Each form of declaration of the core is accepted in a sample, and refused in another where it can be refused.
 pub fn core_declarations_have_answers()
     ensures { CoreSamples }
+{}
+
+/// Each form of declaration of modules, and of structure expressions, is accepted in a sample and refused in another.
+pub fn modules_have_answers()
+    ensures { ModuleSamples }
 {}

@@ -17,6 +17,7 @@ use Rattle.sml_core_rules.specs.Solutions.{Meets, MayBe, IsScheme, StandsFor, Is
 use Rattle.sml_core_rules.specs.States.{State, no_window}
 use Rattle.sml_samples.specs.Around.{Place, scope, initial_names, type_of}
 use Rattle.sml_samples.proofs.Left.{settled}
+use Rattle.sml_samples.proofs.Loose.{loose, is-bound}
 use Rattle.sml_samples.proofs.Names.{initial-within}
 
 abbrev pub types : MlType Name → ℕ → MlType Name
@@ -48,28 +49,16 @@ unfolding replace_type replace_types Mentions
 met k = (refl, (λ h. initial-within k, (λ h. (tt, (initial-within k, (initial-within k, tt))), tt)))
 
 left : IsLeft scope behind 1
-unfolding MayBe
-left = (omega arith, inl (λ t. (types t, met-finitely t, refl)), apart)
+left = (omega arith, inl (loose behind 1 types (λ t. refl) met-finitely), apart)
   where
     apart : (u : ℕ) → u < 1 → (σ : ℕ → MlType Name) × Meets scope behind Finiteness σ × (σ u ≢ σ 1)
     apart zero h = (types (type_of int), met-finitely (type_of int), λ e. cc)
     apart (suc u) h = absurd (omega (arith, h))
 
-general : IsFateOf scope behind 0 false 1 (Bind false)
-unfolding IsInt IsFixed AsksEquality admits all_admit naming
-general = (
-  λ f. let e : type_of string ≡ type_of int = f (types (type_of string)) (met-classes string) in cc,
-  refl,
-  λ f. let e : type_of string ≡ type_of int =
-      f (types (type_of string)) (types (type_of int)) (met-finitely (type_of string)) (met-finitely (type_of int)) (λ w h. absurd (omega (arith, h))) tt in cc,
-  λ f. let r = f.0 (types (type_of int)) (met-finitely (type_of int)) in let e = r.is_row in cc,
-  (λ e. absurd cc, λ f. f (types (type_of real)) (met-equality real)),
-)
-
 fates : (v : ℕ) → IsLeft scope behind v → IsFateOf scope behind 0 false v (Bind false)
 unfolding replace_types
 fates zero l = absurd (settled scope behind (types (type_of int)) (met-finitely (type_of int)) 0 arrow (and_type (free 1) (and_type (free 1) no_type)) (λ ls e. cc) (λ τ m. m.0) l)
-fates (suc zero) l = general
+fates (suc zero) l = is-bound behind 1 types (λ t. refl) met-finitely (met-classes string) (met-equality real)
 fates (suc (suc v)) l = absurd (omega (arith, l.0))
 
 pub scheme : IsScheme scope behind 0 false (free 0) (record { variables = false ∷ []; body = arrow_of (bound 0) (bound 0) })

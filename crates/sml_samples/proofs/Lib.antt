@@ -2,8 +2,14 @@ pub mod Steps
 pub mod Plain
 pub mod Names
 pub mod Left
+pub mod Loose
 pub mod Functions
 pub mod Values
 pub mod Datatypes
 pub mod Structures
 pub mod Signatures
+pub mod Overloads
+pub mod Equalities
+pub mod Expansive
+pub mod Rows
+pub mod Typings

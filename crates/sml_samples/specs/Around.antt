@@ -1,5 +1,5 @@
 -- What is around each sample: the names of a run, the environment, and what an answer is.
-use Rattle.std.specs.Prelude.{ℕ, List, [], ◌∷◌, codes}
+use Rattle.std.specs.Prelude.{ℕ, false, List, [], ◌∷◌, codes}
 use Rattle.sml_lex.specs.Faults.{Fault}
 use Rattle.sml_tree.specs.Trees.{Id}
 use Rattle.sml_tree.specs.Names as T
@@ -7,9 +7,10 @@ use Rattle.sml_tree.specs.Expressions.{Dec}
 use Rattle.sml_tree.specs.Types.{Ty, ty_constructor, no_ty}
 use Rattle.sml_objects.specs.Names.{Initial, int, word, char, string, bool, exn, real, list, ref}
 use Rattle.sml_objects.specs.Initial.{Name, initial, made, naming}
-use Rattle.sml_objects.specs.Objects.{MlType, named, mono}
+use Rattle.sml_objects.specs.Objects.{MlType, no_type, and_type, bound, named, mono, arrow_of, tuple_of}
+use Rattle.sml_layers.specs.declared.class.Class.TheVariants.{Num}
 use Rattle.sml_rules.specs.Answers.{refused, accepted}
-use Rattle.sml_core_rules.specs.Objects.{Env, TyStr, Value, Status, variable, constructor, maps, no_structure, and_structure}
+use Rattle.sml_core_rules.specs.Objects.{Env, TyStr, Value, Status, variable, constructor, overloaded, maps, no_structure, and_structure}
 use Rattle.sml_core_rules.specs.States.{Scope, State}
 use Rattle.sml_core_rules.specs.Expressions.{IsReading, at_first}
 
@@ -55,12 +56,19 @@ booleans = record {
 abbrev pub inner : Env Name
 inner = maps no_structure ((codes "t", plain (type_of int)) ∷ []) ((codes "x", value_of variable (type_of int)) ∷ [])
 
--- the structure `S`, some types of the initial basis, and their constructors
+-- an overloaded operation on numbers
+abbrev pub operation : Value Name
+operation = record {
+  scheme = record { variables = false ∷ []; body = arrow_of (tuple_of (and_type (bound 0) (and_type (bound 0) no_type))) (bound 0) };
+  status = overloaded Num;
+}
+
+-- the structure `S`, some types of the initial basis, their constructors, and `+`
 abbrev pub around : Env Name
 around =
     maps (and_structure (codes "S") inner no_structure)
     ((codes "bool", booleans) ∷ (codes "int", plain (type_of int)) ∷ (codes "real", plain (type_of real)) ∷ (codes "string", plain (type_of string)) ∷ [])
-    ((codes "false", value_of (constructor 0 2) (type_of bool)) ∷ (codes "true", value_of (constructor 1 2) (type_of bool)) ∷ [])
+    ((codes "+", operation) ∷ (codes "false", value_of (constructor 0 2) (type_of bool)) ∷ (codes "true", value_of (constructor 1 2) (type_of bool)) ∷ [])
 
 -- the declaration is accepted there, and binds this
 abbrev pub Accepts : Dec Place → Env Name → Type 0

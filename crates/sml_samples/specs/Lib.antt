@@ -1,3 +1,4 @@
 pub mod Around
 pub mod Core
+pub mod Typing
 pub mod Modules

@@ -2,6 +2,7 @@
 
 ghost use Rattle.sml_samples.specs.Core.{CoreSamples};
 ghost use Rattle.sml_samples.specs.Modules.{ModuleSamples};
+ghost use Rattle.sml_samples.specs.Typing.{TypingSamples};
 
 /// Each form of declaration of the core is accepted in a sample, and refused in another where it can be refused.
 pub fn core_declarations_have_answers()
@@ -11,4 +12,9 @@ pub fn core_declarations_have_answers()
 /// Each form of declaration of modules, and of structure expressions, is accepted in a sample and refused in another.
 pub fn modules_have_answers()
     ensures { ModuleSamples }
+{}
+
+/// Overloaded operators are settled, explicit variables are closed or refused, and unknown types stay open, where they should.
+pub fn types_of_values_have_answers()
+    ensures { TypingSamples }
 {}

@@ -3,6 +3,7 @@ use Rattle.std.specs.Prelude.{◌≡◌, ◌++◌, Bool, true, false, [], ◌∷
 use mathlib.Core.Path.{refl, ap, ◌∙◌, sym}
 use mathlib.Core.Logic.{inl, inr}
 use Rattle.std.proofs.Common.{arith}
+use Rattle.sml_tree.specs.Expressions.{ConBind}
 use Rattle.sml_objects.specs.Appearance.{Stands}
 use Rattle.sml_objects.specs.Equality.{is_ref}
 use Rattle.sml_objects.specs.Initial.{Name, initial, made, naming}
@@ -18,13 +19,13 @@ use Rattle.sml_core_rules.specs.Objects.{names_in, names_structures, names_env}
 use Rattle.sml_core_rules.specs.Scripts.{IsAnswer, ◌>>=◌}
 use Rattle.sml_core_rules.specs.Expressions.{read_dec}
 use Rattle.sml_core_rules.specs.Types.{read_ty, read_tys}
-use Rattle.sml_samples.specs.Around.{initial_names, type_of, around}
-use Rattle.sml_samples.specs.Core.{DatatypeSamples, datatype_binding, plain_constructor}
+use Rattle.sml_samples.specs.Around.{Place, initial_names, type_of, around}
+use Rattle.sml_samples.specs.Core.{DatatypeSamples, datatype_binding}
 use Rattle.sml_samples.proofs.Steps.{◌⊳◌}
 use Rattle.sml_samples.proofs.Names.{made-outside, stands-alone}
 
 -- a datatype admits equality where the arguments of its constructors do
-with-equality : (cs : Arguments Name) → arguments_admit (is_ref naming) (has_equality naming) cs ≡ true → AdmitAsManyAsCan naming ((made 1 0 0 true, cs) ∷ [])
+pub with-equality : (cs : Arguments Name) → arguments_admit (is_ref naming) (has_equality naming) cs ≡ true → AdmitAsManyAsCan naming ((made 1 0 0 true, cs) ∷ [])
 unfolding AdmitAsManyAsCan naming
 with-equality cs a = ((λ e. a, tt), λ eq f r n s e. ap (has_equality naming) (stands-alone n (made 1 0 0 true) s))
 
@@ -43,15 +44,16 @@ without-equality = ((λ e. absurd cc, tt), none)
         let h : eq (initial real) ≡ false = f (initial real) (λ s. let e = stands-alone (initial real) (made 1 0 0 false) s in cc) in
         let a = rw h at r.0 (ap eq (sym same) ∙ e) in absurd cc
 
+pub first-datatype : (c : ConBind Place) (q : Bool) → AreNew naming (names_env around ++ initial_names) (datatype_binding (codes "d") c ∷ []) (made 1 0 0 q ∷ [])
+unfolding AreNew names_in names_structures names_type names_types naming
+first-datatype c q = (made 1 0 0 q, [], made-outside 1 0 0 q _ refl, λ k e. cc, refl, refl, refl, refl)
+
 pub datatype-samples : DatatypeSamples
-unfolding IsAnswer ◌>>=◌ A.◌>>=◌ read_dec read_type_binds read_all_arguments read_arguments read_ty read_tys find_at type_at AreNew names_in names_structures names_type names_types naming type_size types_size replace_type replace_types close_as variables_after variables_after_all admits_by all_admit_by
+unfolding IsAnswer ◌>>=◌ A.◌>>=◌ read_dec read_type_binds read_all_arguments read_arguments read_ty read_tys find_at type_at naming type_size types_size replace_type replace_types close_as variables_after variables_after_all admits_by all_admit_by
 datatype-samples = record {
-  datatype_accepted = (_, (made 1 0 0 true ∷ [], new true, (refl, tt), inr (_, refl, with-equality _ refl, (omega arith, tt) ⊳ refl)));
-  real_datatype_accepted = (_, (made 1 0 0 false ∷ [], new false, (refl, tt), inr (_, refl, without-equality, (omega arith, tt) ⊳ refl)));
-  datatype_refused = (made 1 0 0 true ∷ [], new true, (refl, tt), inl (_, refl, refl));
-  withtype_accepted = (_, (made 1 0 0 true ∷ [], new true, (refl, tt), inr (_, refl, with-equality _ refl, (omega arith, tt) ⊳ (omega arith, tt) ⊳ refl)));
-  withtype_refused = (made 1 0 0 true ∷ [], new true, (refl, tt), inl (_, refl, refl));
+  datatype_accepted = (_, (made 1 0 0 true ∷ [], first-datatype _ true, (refl, tt), inr (_, refl, with-equality _ refl, (omega arith, tt) ⊳ refl)));
+  real_datatype_accepted = (_, (made 1 0 0 false ∷ [], first-datatype _ false, (refl, tt), inr (_, refl, without-equality, (omega arith, tt) ⊳ refl)));
+  datatype_refused = (made 1 0 0 true ∷ [], first-datatype _ true, (refl, tt), inl (_, refl, refl));
+  withtype_accepted = (_, (made 1 0 0 true ∷ [], first-datatype _ true, (refl, tt), inr (_, refl, with-equality _ refl, (omega arith, tt) ⊳ (omega arith, tt) ⊳ refl)));
+  withtype_refused = (made 1 0 0 true ∷ [], first-datatype _ true, (refl, tt), inl (_, refl, refl));
 }
-  where
-    new : (q : Bool) → AreNew naming (names_env around ++ initial_names) (datatype_binding (codes "d") (plain_constructor 4 (codes "D")) ∷ []) (made 1 0 0 q ∷ [])
-    new q = (made 1 0 0 q, [], made-outside 1 0 0 q _ refl, λ k e. cc, refl, refl, refl, refl)

@@ -1,12 +1,12 @@
 -- `val rec f = fn x : ''a => x`: unknown 0 is the explicit variable, 1 the type of f, and 2 that of x.
-use Rattle.std.specs.Prelude.{◌≡◌, ◌≢◌, ◌<◌, ℕ, zero, suc, true, false, [], ◌∷◌}
+use Rattle.std.specs.Prelude.{◌≡◌, ℕ, zero, suc, true, false, [], ◌∷◌}
 use mathlib.Core.Path.{refl, sym}
 use mathlib.Core.Logic.{inl, inr}
 use Rattle.std.proofs.Common.{arith}
 use Rattle.sml_objects.specs.Equality.{admits, all_admit}
 use Rattle.sml_objects.specs.Initial.{Name, made, naming}
 use Rattle.sml_objects.specs.Names.{int, string}
-use Rattle.sml_objects.specs.Objects.{MlType, Scheme, free, bound, arrow, no_type, and_type, arrow_of, named}
+use Rattle.sml_objects.specs.Objects.{MlType, free, bound, arrow, no_type, and_type, arrow_of, named}
 use Rattle.sml_objects.specs.Fates.{close_as}
 use Rattle.sml_objects.specs.declared.fates.Fate.TheVariants.{Bind}
 use Rattle.sml_objects.specs.Types.{replace_type, replace_types, variables_after, variables_after_all, index_among}

@@ -1,19 +1,18 @@
 -- `val rec f = fn x => x`: unknown 0 is the type of f, and 1 that of x.
-use Rattle.std.specs.Prelude.{◌≡◌, ◌≢◌, ◌<◌, ℕ, zero, suc, false, [], ◌∷◌}
+use Rattle.std.specs.Prelude.{◌≢◌, ◌<◌, ℕ, zero, suc, false, [], ◌∷◌}
 use mathlib.Core.Path.{refl, sym}
 use mathlib.Core.Logic.{inl}
 use Rattle.std.proofs.Common.{arith}
-use Rattle.sml_objects.specs.Initial.{Name, naming}
+use Rattle.sml_objects.specs.Initial.{Name}
 use Rattle.sml_objects.specs.Names.{Initial, int, string, real}
 use Rattle.sml_objects.specs.Objects.{MlType, free, bound, arrow, no_type, and_type, arrow_of}
-use Rattle.sml_objects.specs.Equality.{admits, all_admit}
 use Rattle.sml_objects.specs.Fates.{close_as}
 use Rattle.sml_objects.specs.declared.fates.Fate.TheVariants.{Bind}
 use Rattle.sml_objects.specs.Types.{replace_type, replace_types, variables_after, variables_after_all, index_among}
 use Rattle.sml_layers.specs.Demands.{equal, asks, within, Mentions}
 use Rattle.sml_layers.specs.declared.layer.Bound.TheVariants.{Newness}
 use Rattle.sml_layers.specs.declared.layer.Layer.TheVariants.{Finiteness, Equality, Classes, Rigidity}
-use Rattle.sml_core_rules.specs.Solutions.{Meets, MayBe, IsScheme, StandsFor, IsLeft, IsOfLeft, AreOfLeft, IsFixed, IsInt, IsFateOf, AsksEquality}
+use Rattle.sml_core_rules.specs.Solutions.{Meets, IsScheme, StandsFor, IsLeft, IsOfLeft, AreOfLeft, IsFateOf}
 use Rattle.sml_core_rules.specs.States.{State, no_window}
 use Rattle.sml_samples.specs.Around.{Place, scope, initial_names, type_of}
 use Rattle.sml_samples.proofs.Left.{settled}

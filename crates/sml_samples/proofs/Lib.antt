@@ -1,6 +1,7 @@
 pub mod Steps
 pub mod Plain
 pub mod Names
+pub mod Unmet
 pub mod Left
 pub mod Loose
 pub mod Functions

@@ -40,6 +40,13 @@ made-outside u k a q [] e = tt
 made-outside u k a q (initial j ∷ ns) e = (λ f. cc, made-outside u k a q ns e)
 made-outside u k a q (made v l b p ∷ ns) e = absurd cc
 
+pub made-stands-not : (u k a : ℕ) (q : Bool) (ns : List Name) → are_initial ns ≡ true → Stands (made u k a q) ns → ⊥
+unfolding Stands
+made-stands-not u k a q [] e h = absurd h
+made-stands-not u k a q (initial j ∷ ns) e (inl f) = cc
+made-stands-not u k a q (initial j ∷ ns) e (inr h) = made-stands-not u k a q ns e h
+made-stands-not u k a q (made v l b p ∷ ns) e h = absurd cc
+
 pub stands-alone : (n m : Name) → Stands n (m ∷ []) → n ≡ m
 unfolding Stands
 stands-alone n m (inl e) = e

@@ -1,16 +1,16 @@
 -- Samples of value declarations.
-use Rattle.std.specs.Prelude.{◌≡◌, ℕ, zero, suc, false, [], ◌∷◌, Option, Some, None}
-use mathlib.Core.Path.{refl, sym, ap}
+use Rattle.std.specs.Prelude.{ℕ, zero, suc, false, [], ◌∷◌}
+use mathlib.Core.Path.{refl, sym}
 use mathlib.Core.Logic.{inr}
 use Rattle.std.proofs.Common.{arith}
 use Rattle.sml_objects.specs.Initial.{Name, initial, naming}
 use Rattle.sml_objects.specs.Names.{int, string}
-use Rattle.sml_objects.specs.Objects.{Head, arrow, free, name, no_type, mono}
+use Rattle.sml_objects.specs.Objects.{free, name, no_type, mono}
 use Rattle.sml_objects.specs.Sizes.{type_size, types_size}
 use Rattle.sml_objects.specs.Fates.{close_as}
 use Rattle.sml_objects.specs.declared.fates.Fate.TheVariants.{Keep}
 use Rattle.sml_objects.specs.Types.{replace_type, replace_types, variables_after, variables_after_all}
-use Rattle.sml_layers.specs.Demands.{equal, IsFirstUnmet}
+use Rattle.sml_layers.specs.Demands.{equal}
 use Rattle.sml_layers.specs.Worlds.{spread, spread_all}
 use Rattle.sml_layers.specs.declared.layer.Layer.TheVariants.{Equations}
 use Rattle.sml_core_rules.specs.Answers as A
@@ -18,7 +18,7 @@ use Rattle.sml_core_rules.specs.Closing.{unguarded, ty_variables, tys_variables,
 use Rattle.sml_core_rules.specs.Lookups.{find_at, type_at, value_at}
 use Rattle.sml_core_rules.specs.Patterns.{read_pat}
 use Rattle.sml_core_rules.specs.Solutions.{IsScheme, StandsFor, IsLeft, IsOfLeft, AreOfLeft}
-use Rattle.sml_core_rules.specs.States.{State, words, no_window}
+use Rattle.sml_core_rules.specs.States.{State, no_window}
 use Rattle.sml_core_rules.specs.Types.{read_ty, read_tys}
 use Rattle.sml_core_rules.specs.Values.{has_unknown, have_unknown}
 use Rattle.sml_core_rules.specs.Scripts.{IsAnswer, ◌>>=◌}
@@ -27,6 +27,7 @@ use Rattle.sml_samples.specs.Around.{Place, scope, initial_names, type_of}
 use Rattle.sml_samples.specs.Core.{ValueSamples, identity_scheme}
 use Rattle.sml_samples.proofs.Functions.{types, met, scheme}
 use Rattle.sml_samples.proofs.Steps.{◌⊳◌}
+use Rattle.sml_samples.proofs.Unmet.{clash}
 use Rattle.sml_samples.proofs.Left.{settled}
 
 -- behind `x = 3`: the type of x is int
@@ -42,10 +43,6 @@ pub int-scheme : IsScheme scope int-state 0 false (free 0) (mono (type_of int))
 unfolding IsScheme StandsFor IsOfLeft AreOfLeft replace_type replace_types close_as variables_after variables_after_all
 int-scheme = (type_of int, (tt, λ σ m. sym m.0), λ _. Keep, λ v l. absurd (int-alone v l), refl)
 
-abbrev head_of : Option (Head Name × ℕ) → Head Name
-head_of None = arrow
-head_of (Some h) = h.0
-
 pub value-samples : ValueSamples
 unfolding IsAnswer ◌>>=◌ A.◌>>=◌ read_dec read_binds read_patterns read_rights read_exp read_rules read_pat read_ty read_tys find_at type_at value_at type_size types_size replace_type replace_types naming unguarded pat_variables exp_variables rules_variables ty_variables tys_variables has_unknown have_unknown is_expansive spread spread_all
 value-samples = record {
@@ -59,6 +56,3 @@ value-samples = record {
   );
   rec_refused = refl ⊳ (types (type_of int), (met int).1.1) ⊳ inr (λ e. cc, refl);
 }
-  where
-    clash : IsFirstUnmet (words scope) Equations (equal (type_of string) (type_of int) ∷ equal (free 0) (type_of string) ∷ [])
-    clash = (λ m. let e : name (initial string) ≡ name (initial int) = ap (λ t. head_of (t [])) m.1.0 in cc, λ k h. absurd (omega (arith, h)))

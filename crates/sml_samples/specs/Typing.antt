@@ -1,13 +1,13 @@
 -- Samples in which unknown types are settled, closed, or left open, each beside what it is.
-use Rattle.std.specs.Prelude.{◌+◌, true, false, Bool, List, [], ◌∷◌, codes, None}
+use Rattle.std.specs.Prelude.{◌+◌, true, [], ◌∷◌, codes}
 use Rattle.sml_lex.specs.declared.fault.Code.TheVariants.{E6, U2, U6, U7}
 use Rattle.sml_tree.specs.Trees.{Id}
-use Rattle.sml_tree.specs.Types.{Ty, ty_variable}
-use Rattle.sml_tree.specs.Patterns.{Pat, pat_typed, pat_row, pat_bracket, pat_field, no_pat_field, and_pat_field}
-use Rattle.sml_tree.specs.Expressions.{Exp, Dec, Rules, row, tuple, let_in, bracket, apply, fn, no_exp, and_exp, field, no_field, and_field, rule, no_rule, and_rule, val_dec, datatype_dec, no_dec, and_dec, no_bind}
+use Rattle.sml_tree.specs.Types.{ty_variable}
+use Rattle.sml_tree.specs.Patterns.{Pat, pat_typed, pat_row, pat_field, no_pat_field, and_pat_field}
+use Rattle.sml_tree.specs.Expressions.{Exp, Dec, row, tuple, let_in, bracket, apply, fn, no_exp, and_exp, field, no_field, and_field, rule, no_rule, and_rule, val_dec, datatype_dec, no_dec, and_dec, no_bind}
 use Rattle.sml_objects.specs.Names.{int}
 use Rattle.sml_objects.specs.Initial.{Name}
-use Rattle.sml_objects.specs.Objects.{MlType, Scheme, bound, free, arrow_of, mono}
+use Rattle.sml_objects.specs.Objects.{Scheme, bound, free, arrow_of, mono}
 use Rattle.sml_rules.specs.Answers.{fault}
 use Rattle.sml_core_rules.specs.Objects.{Env, variable, of_values}
 use Rattle.sml_samples.specs.Around.{Place, name_at, type_of, Accepts, Refuses}

@@ -44,16 +44,16 @@ without-equality = ((λ e. absurd cc, tt), none)
         let h : eq (initial real) ≡ false = f (initial real) (λ s. let e = stands-alone (initial real) (made 1 0 0 false) s in cc) in
         let a = rw h at r.0 (ap eq (sym same) ∙ e) in absurd cc
 
-pub first-datatype : (c : ConBind Place) (q : Bool) → AreNew naming (names_env around ++ initial_names) (datatype_binding (codes "d") c ∷ []) (made 1 0 0 q ∷ [])
+pub first-datatype : (p : Place) (c : ConBind Place) (q : Bool) → AreNew naming (names_env around ++ initial_names) (datatype_binding p (codes "d") c ∷ []) (made 1 0 0 q ∷ [])
 unfolding AreNew names_in names_structures names_type names_types naming
-first-datatype c q = (made 1 0 0 q, [], made-outside 1 0 0 q _ refl, λ k e. cc, refl, refl, refl, refl)
+first-datatype p c q = (made 1 0 0 q, [], made-outside 1 0 0 q _ refl, λ k e. cc, refl, refl, refl, refl)
 
 pub datatype-samples : DatatypeSamples
 unfolding IsAnswer ◌>>=◌ A.◌>>=◌ read_dec read_type_binds read_all_arguments read_arguments read_ty read_tys find_at type_at naming type_size types_size replace_type replace_types close_as variables_after variables_after_all admits_by all_admit_by
 datatype-samples = record {
-  datatype_accepted = (_, (made 1 0 0 true ∷ [], first-datatype _ true, (refl, tt), inr (_, refl, with-equality _ refl, (omega arith, tt) ⊳ refl)));
-  real_datatype_accepted = (_, (made 1 0 0 false ∷ [], first-datatype _ false, (refl, tt), inr (_, refl, without-equality, (omega arith, tt) ⊳ refl)));
-  datatype_refused = (made 1 0 0 true ∷ [], first-datatype _ true, (refl, tt), inl (_, refl, refl));
-  withtype_accepted = (_, (made 1 0 0 true ∷ [], first-datatype _ true, (refl, tt), inr (_, refl, with-equality _ refl, (omega arith, tt) ⊳ (omega arith, tt) ⊳ refl)));
-  withtype_refused = (made 1 0 0 true ∷ [], first-datatype _ true, (refl, tt), inl (_, refl, refl));
+  datatype_accepted = (_, (made 1 0 0 true ∷ [], first-datatype _ _ true, (refl, tt), inr (_, refl, with-equality _ refl, (omega arith, tt) ⊳ refl)));
+  real_datatype_accepted = (_, (made 1 0 0 false ∷ [], first-datatype _ _ false, (refl, tt), inr (_, refl, without-equality, (omega arith, tt) ⊳ refl)));
+  datatype_refused = (made 1 0 0 true ∷ [], first-datatype _ _ true, (refl, tt), inl (_, refl, refl));
+  withtype_accepted = (_, (made 1 0 0 true ∷ [], first-datatype _ _ true, (refl, tt), inr (_, refl, with-equality _ refl, (omega arith, tt) ⊳ (omega arith, tt) ⊳ refl)));
+  withtype_refused = (made 1 0 0 true ∷ [], first-datatype _ _ true, (refl, tt), inl (_, refl, refl));
 }

@@ -14,3 +14,4 @@ pub mod Equalities
 pub mod Expansive
 pub mod Rows
 pub mod Typings
+pub mod Specifications

@@ -65,3 +65,8 @@ pub second-made : (p q : Bool)
     → AreMade scope (made 1 0 0 p ∷ initial_names) (record { maker = 1; arity = 0; equality = q; constructors = [] } ∷ []) (made 1 1 0 q ∷ [])
 unfolding Outside
 second-made p q = made-new 1 q (made 1 0 0 p ∷ initial_names) (λ e. cc, made-outside 1 1 0 q initial_names refl)
+
+pub third-made : (r p q : Bool)
+    → AreMade scope (made 1 1 0 p ∷ made 1 0 0 r ∷ initial_names) (record { maker = 1; arity = 0; equality = q; constructors = [] } ∷ []) (made 1 2 0 q ∷ [])
+unfolding Outside
+third-made r p q = made-new 2 q (made 1 1 0 p ∷ made 1 0 0 r ∷ initial_names) (λ e. cc, (λ e. cc, made-outside 1 2 0 q initial_names refl))

@@ -17,7 +17,6 @@ use Rattle.sml_core_rules.specs.Datatypes.{read_type_binds}
 use Rattle.sml_core_rules.specs.Lookups.{find_at, type_at, value_at, structure_at}
 use Rattle.sml_core_rules.specs.Objects.{names_in, names_structures, replace, replace_structures}
 use Rattle.sml_core_rules.specs.Patterns.{read_pat}
-use Rattle.sml_core_rules.specs.States.{AreMade}
 use Rattle.sml_core_rules.specs.Types.{read_ty, read_tys}
 use Rattle.sml_core_rules.specs.Values.{has_unknown, have_unknown}
 use Rattle.sml_core_rules.specs.Scripts.{IsAnswer, ◌>>=◌}
@@ -27,10 +26,9 @@ use Rattle.sml_module_rules.specs.Matching.{read_realisation, require_lines}
 use Rattle.sml_module_rules.specs.Realising.{are_parameters, with_names}
 use Rattle.sml_module_rules.specs.Signatures.{read_sig, read_specs, read_spec, read_values}
 use Rattle.sml_module_rules.specs.Structures.{read_str, read_strs, read_strdec, read_str_binds, settle_env, settle_structures, read_signatures, read_functors}
-use Rattle.sml_samples.specs.Around.{scope, initial_names}
-use Rattle.sml_samples.specs.Modules.{SignatureSamples, functor_basis}
+use Rattle.sml_samples.specs.Modules.{SignatureSamples}
 use Rattle.sml_samples.proofs.Steps.{◌⊳◌}
-use Rattle.sml_samples.proofs.Names.{first-made, made-new, made-outside}
+use Rattle.sml_samples.proofs.Names.{first-made, third-made}
 
 pub signature-samples : SignatureSamples
 unfolding IsAnswer ◌>>=◌ A.◌>>=◌ read_dec read_binds read_patterns read_rights read_exp read_pat read_type_binds read_ty read_tys find_at type_at value_at structure_at type_size types_size replace_type replace_types close_as variables_after variables_after_all naming unguarded pat_variables exp_variables is_expansive has_unknown have_unknown names_in names_structures names_type names_types read_str read_strs read_strdec read_str_binds settle_env settle_structures lines structure_lines stands read_sig read_specs read_spec read_values read_realisation require_lines are_parameters with_names replace replace_structures realise_type realise_types ty_variables tys_variables read_signatures read_functors ℕ_discrete Outside
@@ -42,11 +40,8 @@ signature-samples = record {
   application_accepted = (
     _,
     (omega arith, tt, tt) ⊳ refl ⊳ refl ⊳ inl refl
-        ⊳ (made 1 2 0 true ∷ [], third, (omega arith, tt, (omega arith, tt, tt)) ⊳ (omega arith, tt, (omega arith, tt, tt)) ⊳ omega arith ⊳ refl),
+        ⊳ (made 1 2 0 true ∷ [], third-made false true true, (omega arith, tt, (omega arith, tt, tt)) ⊳ (omega arith, tt, (omega arith, tt, tt)) ⊳ omega arith ⊳ refl),
   );
   application_refused = refl;
   argument_refused = refl;
 }
-  where
-    third : AreMade scope functor_basis.names (record { maker = 1; arity = 0; equality = true; constructors = [] } ∷ []) (made 1 2 0 true ∷ [])
-    third = made-new 2 true functor_basis.names (λ e. cc, (λ e. cc, made-outside 1 2 0 true initial_names refl))

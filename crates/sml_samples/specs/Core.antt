@@ -35,9 +35,9 @@ constructor_of p x c = record { name = name_at p x; argument = Some (constructor
 abbrev pub one_value : Id → Status → MlType Name → Env Name
 one_value x s t = of_values ((x, value_of s t) ∷ [])
 
--- `datatype x = c`, where the constructor is given
-abbrev pub datatype_binding : Id → ConBind Place → DatBind Place
-datatype_binding x c = record { variables = []; name = name_at 2 x; constructors = c ∷ [] }
+-- `x = c` behind `datatype`, where the constructor is given
+abbrev pub datatype_binding : Place → Id → ConBind Place → DatBind Place
+datatype_binding p x c = record { variables = []; name = name_at p x; constructors = c ∷ [] }
 
 -- what binds a datatype of this name with one constructor, whose type is given
 abbrev pub one_datatype : Id → Name → Id → MlType Name → Env Name
@@ -111,17 +111,17 @@ pub record ValueSamples : Type 0 where
 -- Declarations of datatypes, whose names are new
 pub record DatatypeSamples : Type 0 where
   -- `datatype d = D`, which admits equality; `datatype d = D of real`, which doesn't; and `datatype d = D of u`
-  pub datatype_accepted : Accepts (datatype_dec 1 (datatype_binding (codes "d") (plain_constructor 4 (codes "D")) ∷ []))
+  pub datatype_accepted : Accepts (datatype_dec 1 (datatype_binding 2 (codes "d") (plain_constructor 4 (codes "D")) ∷ []))
       (one_datatype (codes "d") (made 1 0 0 true) (codes "D") (named (made 1 0 0 true)))
-  pub real_datatype_accepted : Accepts (datatype_dec 1 (datatype_binding (codes "d") (constructor_of 4 (codes "D") (codes "real")) ∷ []))
+  pub real_datatype_accepted : Accepts (datatype_dec 1 (datatype_binding 2 (codes "d") (constructor_of 4 (codes "D") (codes "real")) ∷ []))
       (one_datatype (codes "d") (made 1 0 0 false) (codes "D") (arrow_of (type_of real) (named (made 1 0 0 false))))
-  pub datatype_refused : Refuses (datatype_dec 1 (datatype_binding (codes "d") (constructor_of 4 (codes "D") (codes "u")) ∷ [])) (fault_at E2 6 (codes "u" ∷ []))
+  pub datatype_refused : Refuses (datatype_dec 1 (datatype_binding 2 (codes "d") (constructor_of 4 (codes "D") (codes "u")) ∷ [])) (fault_at E2 6 (codes "u" ∷ []))
   -- `datatype d = D of t withtype t = int`, and `datatype d = D of t withtype t = u`
-  pub withtype_accepted : Accepts (datatype_with 1 (datatype_binding (codes "d") (constructor_of 4 (codes "D") (codes "t")) ∷ []) (type_binding 8 (codes "t") (codes "int") ∷ []))
+  pub withtype_accepted : Accepts (datatype_with 1 (datatype_binding 2 (codes "d") (constructor_of 4 (codes "D") (codes "t")) ∷ []) (type_binding 8 (codes "t") (codes "int") ∷ []))
       (maps no_structure
       ((codes "d", record { function = mono (named (made 1 0 0 true)); constructors = (codes "D", mono (arrow_of (type_of int) (named (made 1 0 0 true)))) ∷ [] })
       ∷ (codes "t", plain (type_of int)) ∷ []) ((codes "D", value_of (constructor 0 1) (arrow_of (type_of int) (named (made 1 0 0 true)))) ∷ []))
-  pub withtype_refused : Refuses (datatype_with 1 (datatype_binding (codes "d") (constructor_of 4 (codes "D") (codes "t")) ∷ []) (type_binding 8 (codes "t") (codes "u") ∷ []))
+  pub withtype_refused : Refuses (datatype_with 1 (datatype_binding 2 (codes "d") (constructor_of 4 (codes "D") (codes "t")) ∷ []) (type_binding 8 (codes "t") (codes "u") ∷ []))
       (fault_at E2 10 (codes "u" ∷ []))
 
 pub record CoreSamples : Type 0 where

@@ -2,3 +2,4 @@ pub mod Around
 pub mod Core
 pub mod Typing
 pub mod Modules
+pub mod Specifications

@@ -95,7 +95,7 @@ sample_functor = record {
 }
 
 abbrev pub functor_basis : Basis Name
-functor_basis = with_functors ((codes "F", sample_functor) ∷ []) (made 1 0 0 false ∷ made 1 1 0 true ∷ [])
+functor_basis = with_functors ((codes "F", sample_functor) ∷ []) (made 1 1 0 true ∷ made 1 0 0 false ∷ [])
 
 -- Structures
 pub record StructureSamples : Type 0 where

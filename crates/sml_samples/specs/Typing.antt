@@ -49,7 +49,7 @@ pub record TypingSamples : Type 0 where
       (with_scheme (codes "i") (mono (arrow_of (free 2) (free 2))))
   -- `val x = let datatype d = D in D end`
   pub local_type_refused : Refuses
-      (val_is (pattern_at 2 (codes "x")) (let_in 4 (and_dec (datatype_dec 5 (datatype_binding (codes "d") (plain_constructor 8 (codes "D")) ∷ [])) no_dec) (variable_at 10 (codes "D"))))
+      (val_is (pattern_at 2 (codes "x")) (let_in 4 (and_dec (datatype_dec 5 (datatype_binding 6 (codes "d") (plain_constructor 8 (codes "D")) ∷ [])) no_dec) (variable_at 10 (codes "D"))))
       (fault E6 4)
   -- `val {a, ...} = {a = 3, b = 3}`, and `val rec f = fn {a, ...} => a`
   pub row_accepted : Accepts

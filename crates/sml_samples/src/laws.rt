@@ -2,6 +2,7 @@
 
 ghost use Rattle.sml_samples.specs.Core.{CoreSamples};
 ghost use Rattle.sml_samples.specs.Modules.{ModuleSamples};
+ghost use Rattle.sml_samples.specs.Specifications.{SpecificationSamples};
 ghost use Rattle.sml_samples.specs.Typing.{TypingSamples};
 
 /// Each form of declaration of the core is accepted in a sample, and refused in another where it can be refused.
@@ -17,4 +18,9 @@ pub fn modules_have_answers()
 /// Overloaded operators are settled, explicit variables are closed or refused, and unknown types stay open, where they should.
 pub fn types_of_values_have_answers()
     ensures { TypingSamples }
+{}
+
+/// Each form of specification, `where type` and sharing are accepted in a sample and refused in another.
+pub fn specifications_have_answers()
+    ensures { SpecificationSamples }
 {}

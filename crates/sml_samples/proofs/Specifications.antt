@@ -1,0 +1,93 @@
+-- Samples of specifications.
+use Rattle.std.specs.Prelude.{true, false, [], ◌∷◌}
+use mathlib.Core.Path.{refl}
+use mathlib.Core.Logic.{inl, inr}
+use native.Mathlib.Decide.{ℕ_discrete}
+use Rattle.std.proofs.Common.{arith}
+use Rattle.sml_objects.specs.Appearance.{stands}
+use Rattle.sml_objects.specs.Initial.{made, naming}
+use Rattle.sml_objects.specs.Objects.{names_type, names_types}
+use Rattle.sml_objects.specs.Sizes.{type_size, types_size}
+use Rattle.sml_objects.specs.Fates.{close_as}
+use Rattle.sml_objects.specs.Types.{replace_type, replace_types, variables_after, variables_after_all}
+use Rattle.sml_rules.specs.Matching.{realise_type, realise_types}
+use Rattle.sml_core_rules.specs.Answers as A
+use Rattle.sml_core_rules.specs.Closing.{ty_variables, tys_variables}
+use Rattle.sml_core_rules.specs.Datatypes.{admits_by, all_admit_by, read_type_binds, read_arguments, read_all_arguments}
+use Rattle.sml_core_rules.specs.Lookups.{find_at, type_at, value_at, structure_at}
+use Rattle.sml_core_rules.specs.Objects.{names_in, names_structures, replace, replace_structures}
+use Rattle.sml_core_rules.specs.Types.{read_ty, read_tys}
+use Rattle.sml_core_rules.specs.Scripts.{IsAnswer, ◌>>=◌}
+use Rattle.sml_module_rules.specs.Lines.{lines, structure_lines}
+use Rattle.sml_module_rules.specs.Realising.{are_parameters, with_names}
+use Rattle.sml_module_rules.specs.Signatures.{read_sig, read_specs, read_spec, read_values, read_exceptions, need_names, share_others, need_structures, share_paths, share_with, share_pairs}
+use Rattle.sml_module_rules.specs.Structures.{read_signatures}
+use Rattle.sml_samples.specs.Specifications.{SpecificationSamples}
+use Rattle.sml_samples.proofs.Steps.{◌⊳◌}
+use Rattle.sml_samples.proofs.Names.{first-made, second-made, third-made}
+use Rattle.sml_samples.proofs.Datatypes.{first-datatype, with-equality}
+
+pub specification-samples : SpecificationSamples
+unfolding IsAnswer ◌>>=◌ A.◌>>=◌ read_type_binds read_arguments read_all_arguments read_ty read_tys find_at type_at value_at structure_at type_size types_size replace_type replace_types close_as variables_after variables_after_all naming names_in names_structures names_type names_types lines structure_lines stands read_sig read_specs read_spec read_values read_exceptions need_names share_others need_structures share_paths share_with share_pairs are_parameters with_names replace replace_structures realise_type realise_types ty_variables tys_variables read_signatures admits_by all_admit_by ℕ_discrete
+specification-samples = record {
+  name_accepted = (_, (made 1 1 0 false ∷ [], second-made false false, omega arith ⊳ refl));
+  val_refused = refl;
+  type_refused = (
+    made 1 0 0 false ∷ [],
+    first-made false,
+    (omega arith, tt, tt) ⊳ refl
+        ⊳ (made 1 1 0 false ∷ [], second-made false false, (omega arith, tt, tt) ⊳ inr (λ e. cc, refl)),
+  );
+  eqtype_accepted = (_, (made 1 0 0 true ∷ [], first-made true, (omega arith, tt, tt) ⊳ refl ⊳ omega arith ⊳ refl));
+  datatype_accepted = (
+    _,
+    (
+      made 1 0 0 true ∷ [],
+      first-datatype _ _ true,
+      (refl, tt),
+      inr (_, refl, with-equality _ refl, (omega arith, (omega arith, tt), (omega arith, tt)) ⊳ refl ⊳ omega arith ⊳ refl),
+    ),
+  );
+  datatype_refused = (made 1 0 0 true ∷ [], first-datatype _ _ true, (refl, tt), inl (_, refl, refl));
+  copy_accepted = (_, refl ⊳ omega arith ⊳ refl);
+  copy_refused = refl;
+  exception_accepted = (_, (omega arith, tt) ⊳ refl ⊳ omega arith ⊳ refl);
+  exception_refused = refl;
+  structure_accepted = (_, (made 1 0 0 false ∷ [], first-made false, (omega arith, tt, tt) ⊳ refl ⊳ refl ⊳ omega arith ⊳ refl));
+  structure_refused = refl;
+  include_accepted = (_, (made 1 0 0 false ∷ [], first-made false, (omega arith, tt, tt) ⊳ refl ⊳ refl ⊳ omega arith ⊳ refl));
+  include_refused = refl;
+  sharing_accepted = (
+    _,
+    (
+      made 1 0 0 false ∷ [],
+      first-made false,
+      (omega arith, tt, tt) ⊳ refl
+          ⊳ (
+            made 1 1 0 false ∷ [],
+            second-made false false,
+            (omega arith, tt, tt) ⊳ refl ⊳ refl
+                ⊳ (made 1 2 0 false ∷ [], third-made false false false, inl refl ⊳ omega arith ⊳ refl),
+          ),
+    ),
+  );
+  sharing_refused = refl ⊳ (made 1 0 0 false ∷ [], first-made false, (omega arith, tt, tt) ⊳ refl ⊳ refl);
+  structures_accepted = (
+    _,
+    (
+      made 1 0 0 false ∷ [],
+      first-made false,
+      (omega arith, tt, tt) ⊳ refl ⊳ refl
+          ⊳ (
+            made 1 1 0 false ∷ [],
+            second-made false false,
+            (omega arith, tt, tt) ⊳ refl ⊳ refl ⊳ refl
+                ⊳ (made 1 2 0 false ∷ [], third-made false false false, inl refl ⊳ omega arith ⊳ refl),
+          ),
+    ),
+  );
+  structures_refused = (made 1 0 0 false ∷ [], first-made false, (omega arith, tt, tt) ⊳ refl ⊳ refl ⊳ refl);
+  where_accepted = (_, (made 1 0 0 false ∷ [], first-made false, (omega arith, tt, tt) ⊳ refl ⊳ refl ⊳ refl ⊳ inl refl ⊳ (omega arith, tt, tt) ⊳ omega arith ⊳ refl));
+  where_refused = (made 1 0 0 false ∷ [], first-made false, (omega arith, tt, tt) ⊳ refl ⊳ refl);
+  where_equality_refused = (made 1 0 0 true ∷ [], first-made true, (omega arith, tt, tt) ⊳ refl ⊳ refl ⊳ inr (λ e. cc, refl));
+}

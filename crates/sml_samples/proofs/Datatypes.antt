@@ -1,5 +1,5 @@
 -- Samples of datatypes.
-use Rattle.std.specs.Prelude.{◌≡◌, ◌++◌, Bool, true, false, [], ◌∷◌, Some, codes}
+use Rattle.std.specs.Prelude.{◌≡◌, ◌++◌, ℕ, Bool, true, false, [], ◌∷◌, Some, codes}
 use mathlib.Core.Path.{refl, ap, ◌∙◌, sym}
 use mathlib.Core.Logic.{inl, inr}
 use Rattle.std.proofs.Common.{arith}
@@ -25,9 +25,9 @@ use Rattle.sml_samples.proofs.Steps.{◌⊳◌}
 use Rattle.sml_samples.proofs.Names.{made-outside, stands-alone}
 
 -- a datatype admits equality where the arguments of its constructors do
-pub with-equality : (cs : Arguments Name) → arguments_admit (is_ref naming) (has_equality naming) cs ≡ true → AdmitAsManyAsCan naming ((made 1 0 0 true, cs) ∷ [])
+pub with-equality : (k a : ℕ) (cs : Arguments Name) → arguments_admit (is_ref naming) (has_equality naming) cs ≡ true → AdmitAsManyAsCan naming ((made 1 k a true, cs) ∷ [])
 unfolding AdmitAsManyAsCan naming
-with-equality cs a = ((λ e. a, tt), λ eq f r n s e. ap (has_equality naming) (stands-alone n (made 1 0 0 true) s))
+with-equality k a cs d = ((λ e. d, tt), λ eq f r n s e. ap (has_equality naming) (stands-alone n (made 1 k a true) s))
 
 -- one of real numbers doesn't
 abbrev of_reals : Arguments Name
@@ -51,9 +51,9 @@ first-datatype p c q = (made 1 0 0 q, [], made-outside 1 0 0 q _ refl, λ k e. c
 pub datatype-samples : DatatypeSamples
 unfolding IsAnswer ◌>>=◌ A.◌>>=◌ read_dec read_type_binds read_all_arguments read_arguments read_ty read_tys find_at type_at naming type_size types_size replace_type replace_types close_as variables_after variables_after_all admits_by all_admit_by
 datatype-samples = record {
-  datatype_accepted = (_, (made 1 0 0 true ∷ [], first-datatype _ _ true, (refl, tt), inr (_, refl, with-equality _ refl, (omega arith, tt) ⊳ refl)));
+  datatype_accepted = (_, (made 1 0 0 true ∷ [], first-datatype _ _ true, (refl, tt), inr (_, refl, with-equality 0 0 _ refl, (omega arith, tt) ⊳ refl)));
   real_datatype_accepted = (_, (made 1 0 0 false ∷ [], first-datatype _ _ false, (refl, tt), inr (_, refl, without-equality, (omega arith, tt) ⊳ refl)));
   datatype_refused = (made 1 0 0 true ∷ [], first-datatype _ _ true, (refl, tt), inl (_, refl, refl));
-  withtype_accepted = (_, (made 1 0 0 true ∷ [], first-datatype _ _ true, (refl, tt), inr (_, refl, with-equality _ refl, (omega arith, tt) ⊳ (omega arith, tt) ⊳ refl)));
+  withtype_accepted = (_, (made 1 0 0 true ∷ [], first-datatype _ _ true, (refl, tt), inr (_, refl, with-equality 0 0 _ refl, (omega arith, tt) ⊳ (omega arith, tt) ⊳ refl)));
   withtype_refused = (made 1 0 0 true ∷ [], first-datatype _ _ true, (refl, tt), inl (_, refl, refl));
 }

@@ -4,7 +4,7 @@ use mathlib.Core.Path.{refl, sym, ◌∙◌}
 use mathlib.Core.Logic.{inl}
 use Rattle.std.proofs.Common.{arith}
 use Rattle.sml_objects.specs.Initial.{Name}
-use Rattle.sml_objects.specs.Names.{Initial, int, string}
+use Rattle.sml_objects.specs.Names.{int, string}
 use Rattle.sml_objects.specs.Objects.{MlType, free, arrow, no_type, and_type, arrow_of, mono}
 use Rattle.sml_objects.specs.Fates.{close_as}
 use Rattle.sml_objects.specs.declared.fates.Fate.TheVariants.{Keep}
@@ -13,7 +13,7 @@ use Rattle.sml_layers.specs.Demands.{equal, asks, within, Mentions}
 use Rattle.sml_layers.specs.declared.layer.Bound.TheVariants.{Newness}
 use Rattle.sml_layers.specs.declared.layer.Layer.TheVariants.{Finiteness, Classes, Rigidity}
 use Rattle.sml_core_rules.specs.Solutions.{Meets, IsScheme, StandsFor, IsLeft, IsOfLeft, AreOfLeft, IsFateOf, IsAlways}
-use Rattle.sml_core_rules.specs.States.{State, no_window, with_demand}
+use Rattle.sml_core_rules.specs.States.{State, words, no_window, with_demand}
 use Rattle.sml_samples.specs.Around.{Place, scope, initial_names, type_of}
 use Rattle.sml_samples.proofs.Left.{settled}
 use Rattle.sml_samples.proofs.Loose.{loose, not-int}
@@ -37,9 +37,13 @@ finitely : (t : MlType Name) → Meets scope behind Finiteness (types t)
 unfolding replace_type replace_types
 finitely t = (refl, (refl, (λ h. absurd (omega (arith, h)), (λ h. absurd (omega (arith, h)), tt))))
 
-pub met : (k : Initial) → Meets scope behind Rigidity (types (type_of k))
+pub met : (t : MlType Name) → Mentions ((words scope).Allows initial_names) t → Meets scope behind Rigidity (types t)
 unfolding replace_type replace_types Mentions
-met k = (refl, (refl, (λ h. initial-within k, (λ h. (tt, (initial-within k, (initial-within k, tt))), tt))))
+met t w = (refl, (refl, (λ h. w, (λ h. (tt, (w, (w, tt))), tt))))
+
+-- where the type is int
+pub met-int : Meets scope behind Rigidity (types (type_of int))
+met-int = met (type_of int) (initial-within int)
 
 met-classes : Meets scope behind Classes (types (type_of string))
 unfolding replace_type replace_types Mentions
@@ -69,13 +73,16 @@ scheme = (arrow_of (free 2) (free 2), ((left, (left, tt)), λ σ m. sym (m.0 ∙
 abbrev pub closed : State Place Name
 closed = with_demand (asks (within Newness initial_names) (free 0)) behind
 
-pub met-closed : (k : Initial) → Meets scope closed Rigidity (types (type_of k))
+pub met-closed : (t : MlType Name) → Mentions ((words scope).Allows initial_names) t → Meets scope closed Rigidity (types t)
 unfolding replace_type replace_types Mentions
-met-closed k = (λ h. (tt, (initial-within k, (initial-within k, tt))), met k)
+met-closed t w = (λ h. (tt, (w, (w, tt))), met t w)
+
+pub met-closed-int : Meets scope closed Rigidity (types (type_of int))
+met-closed-int = met-closed (type_of int) (initial-within int)
 
 pub open-ended : (u : MlType Name) → ¬ (IsAlways scope closed (arrow_of (free 2) (free 2)) u)
 unfolding IsAlways replace_type replace_types
 open-ended u f =
-    let e : arrow_of (type_of int) (type_of int) ≡ u = f (types (type_of int)) (met-closed int) in
-    let d : arrow_of (type_of string) (type_of string) ≡ u = f (types (type_of string)) (met-closed string) in
+    let e : arrow_of (type_of int) (type_of int) ≡ u = f (types (type_of int)) met-closed-int in
+    let d : arrow_of (type_of string) (type_of string) ≡ u = f (types (type_of string)) (met-closed (type_of string) (initial-within string)) in
     let c : arrow_of (type_of int) (type_of int) ≡ arrow_of (type_of string) (type_of string) = e ∙ sym d in cc

@@ -15,3 +15,4 @@ pub mod Expansive
 pub mod Rows
 pub mod Typings
 pub mod Specifications
+pub mod Matches

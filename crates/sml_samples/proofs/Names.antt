@@ -1,10 +1,10 @@
 -- The initial names among those that stood first.
-use Rattle.std.specs.Prelude.{◌≡◌, ℕ, Bool, true, false, List, [], ◌∷◌}
+use Rattle.std.specs.Prelude.{◌≡◌, ◌++◌, ℕ, Bool, true, false, List, [], ◌∷◌}
 use mathlib.Core.Path.{refl}
 use mathlib.Core.Logic.{inl, inr}
 use Rattle.sml_objects.specs.Appearance.{Stands}
 use Rattle.sml_objects.specs.Initial.{Name, initial, made, naming}
-use Rattle.sml_objects.specs.Names.{Initial, int, word, char, string, bool, exn, real, list, ref}
+use Rattle.sml_objects.specs.Names.{Attributes, Initial, int, word, char, string, bool, exn, real, list, ref}
 use Rattle.sml_objects.specs.Objects.{Outside}
 use Rattle.sml_layers.specs.Demands.{Mentions}
 use Rattle.sml_core_rules.specs.States.{words, AreMade}
@@ -40,6 +40,11 @@ made-outside u k a q [] e = tt
 made-outside u k a q (initial j ∷ ns) e = (λ f. cc, made-outside u k a q ns e)
 made-outside u k a q (made v l b p ∷ ns) e = absurd cc
 
+pub outside-both : (n : Name) (ms ns : List Name) → Outside n ms → Outside n ns → Outside n (ms ++ ns)
+unfolding Outside
+outside-both n [] ns h k = k
+outside-both n (m ∷ ms) ns h k = (h.0, outside-both n ms ns h.1 k)
+
 pub made-stands-not : (u k a : ℕ) (q : Bool) (ns : List Name) → are_initial ns ≡ true → Stands (made u k a q) ns → ⊥
 unfolding Stands
 made-stands-not u k a q [] e h = absurd h
@@ -52,21 +57,22 @@ unfolding Stands
 stands-alone n m (inl e) = e
 stands-alone n m (inr h) = absurd h
 
--- a name that is made, where it is none of those before
-pub made-new : (k : ℕ) (q : Bool) (old : List Name) → Outside (made 1 k 0 q) old
-    → AreMade scope old (record { maker = 1; arity = 0; equality = q; constructors = [] } ∷ []) (made 1 k 0 q ∷ [])
+-- names that are made, each where it is none of those before
+
+abbrev pub attributes : ℕ → Bool → Attributes
+attributes a q = record { maker = 1; arity = a; equality = q; constructors = [] }
+
+pub made-new : (k a : ℕ) (q : Bool) (old : List Name) → Outside (made 1 k a q) old → AreMade scope old (attributes a q ∷ []) (made 1 k a q ∷ [])
 unfolding AreMade naming
-made-new k q old o = (made 1 k 0 q, [], o, λ j e. cc, refl, refl, refl)
+made-new k a q old o = (made 1 k a q, [], o, λ j e. cc, refl, refl, refl)
 
-pub first-made : (q : Bool) → AreMade scope initial_names (record { maker = 1; arity = 0; equality = q; constructors = [] } ∷ []) (made 1 0 0 q ∷ [])
-first-made q = made-new 0 q initial_names (made-outside 1 0 0 q initial_names refl)
+pub first-made : (a : ℕ) (q : Bool) → AreMade scope initial_names (attributes a q ∷ []) (made 1 0 a q ∷ [])
+first-made a q = made-new 0 a q initial_names (made-outside 1 0 a q initial_names refl)
 
-pub second-made : (p q : Bool)
-    → AreMade scope (made 1 0 0 p ∷ initial_names) (record { maker = 1; arity = 0; equality = q; constructors = [] } ∷ []) (made 1 1 0 q ∷ [])
+pub second-made : (p q : Bool) → AreMade scope (made 1 0 0 p ∷ initial_names) (attributes 0 q ∷ []) (made 1 1 0 q ∷ [])
 unfolding Outside
-second-made p q = made-new 1 q (made 1 0 0 p ∷ initial_names) (λ e. cc, made-outside 1 1 0 q initial_names refl)
+second-made p q = made-new 1 0 q (made 1 0 0 p ∷ initial_names) (λ e. cc, made-outside 1 1 0 q initial_names refl)
 
-pub third-made : (r p q : Bool)
-    → AreMade scope (made 1 1 0 p ∷ made 1 0 0 r ∷ initial_names) (record { maker = 1; arity = 0; equality = q; constructors = [] } ∷ []) (made 1 2 0 q ∷ [])
+pub third-made : (r p q : Bool) → AreMade scope (made 1 1 0 p ∷ made 1 0 0 r ∷ initial_names) (attributes 0 q ∷ []) (made 1 2 0 q ∷ [])
 unfolding Outside
-third-made r p q = made-new 2 q (made 1 1 0 p ∷ made 1 0 0 r ∷ initial_names) (λ e. cc, (λ e. cc, made-outside 1 2 0 q initial_names refl))
+third-made r p q = made-new 2 0 q (made 1 1 0 p ∷ made 1 0 0 r ∷ initial_names) (λ e. cc, (λ e. cc, made-outside 1 2 0 q initial_names refl))

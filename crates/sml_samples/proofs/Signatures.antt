@@ -33,9 +33,9 @@ use Rattle.sml_samples.proofs.Names.{first-made, third-made}
 pub signature-samples : SignatureSamples
 unfolding IsAnswer ◌>>=◌ A.◌>>=◌ read_dec read_binds read_patterns read_rights read_exp read_pat read_type_binds read_ty read_tys find_at type_at value_at structure_at type_size types_size replace_type replace_types close_as variables_after variables_after_all naming unguarded pat_variables exp_variables is_expansive has_unknown have_unknown names_in names_structures names_type names_types read_str read_strs read_strdec read_str_binds settle_env settle_structures lines structure_lines stands read_sig read_specs read_spec read_values read_realisation require_lines are_parameters with_names replace replace_structures realise_type realise_types ty_variables tys_variables read_signatures read_functors ℕ_discrete Outside
 signature-samples = record {
-  signature_accepted = (_, (made 1 0 0 false ∷ [], first-made false, (omega arith, tt, tt) ⊳ refl ⊳ (omega arith, tt) ⊳ refl ⊳ omega arith ⊳ refl));
+  signature_accepted = (_, (made 1 0 0 false ∷ [], first-made 0 false, (omega arith, tt, tt) ⊳ refl ⊳ (omega arith, tt) ⊳ refl ⊳ omega arith ⊳ refl));
   signature_refused = refl;
-  functor_accepted = (_, (made 1 0 0 false ∷ [], first-made false, (omega arith, tt, tt) ⊳ refl ⊳ (omega arith, tt) ⊳ ((omega arith, tt, tt), tt) ⊳ omega arith ⊳ refl));
+  functor_accepted = (_, (made 1 0 0 false ∷ [], first-made 0 false, (omega arith, tt, tt) ⊳ refl ⊳ (omega arith, tt) ⊳ ((omega arith, tt, tt), tt) ⊳ omega arith ⊳ refl));
   functor_refused = refl;
   application_accepted = (
     _,

@@ -34,18 +34,18 @@ specification-samples = record {
   val_refused = refl;
   type_refused = (
     made 1 0 0 false ∷ [],
-    first-made false,
+    first-made 0 false,
     (omega arith, tt, tt) ⊳ refl
         ⊳ (made 1 1 0 false ∷ [], second-made false false, (omega arith, tt, tt) ⊳ inr (λ e. cc, refl)),
   );
-  eqtype_accepted = (_, (made 1 0 0 true ∷ [], first-made true, (omega arith, tt, tt) ⊳ refl ⊳ omega arith ⊳ refl));
+  eqtype_accepted = (_, (made 1 0 0 true ∷ [], first-made 0 true, (omega arith, tt, tt) ⊳ refl ⊳ omega arith ⊳ refl));
   datatype_accepted = (
     _,
     (
       made 1 0 0 true ∷ [],
       first-datatype _ _ true,
       (refl, tt),
-      inr (_, refl, with-equality _ refl, (omega arith, (omega arith, tt), (omega arith, tt)) ⊳ refl ⊳ omega arith ⊳ refl),
+      inr (_, refl, with-equality 0 0 _ refl, (omega arith, (omega arith, tt), (omega arith, tt)) ⊳ refl ⊳ omega arith ⊳ refl),
     ),
   );
   datatype_refused = (made 1 0 0 true ∷ [], first-datatype _ _ true, (refl, tt), inl (_, refl, refl));
@@ -53,15 +53,15 @@ specification-samples = record {
   copy_refused = refl;
   exception_accepted = (_, (omega arith, tt) ⊳ refl ⊳ omega arith ⊳ refl);
   exception_refused = refl;
-  structure_accepted = (_, (made 1 0 0 false ∷ [], first-made false, (omega arith, tt, tt) ⊳ refl ⊳ refl ⊳ omega arith ⊳ refl));
+  structure_accepted = (_, (made 1 0 0 false ∷ [], first-made 0 false, (omega arith, tt, tt) ⊳ refl ⊳ refl ⊳ omega arith ⊳ refl));
   structure_refused = refl;
-  include_accepted = (_, (made 1 0 0 false ∷ [], first-made false, (omega arith, tt, tt) ⊳ refl ⊳ refl ⊳ omega arith ⊳ refl));
+  include_accepted = (_, (made 1 0 0 false ∷ [], first-made 0 false, (omega arith, tt, tt) ⊳ refl ⊳ refl ⊳ omega arith ⊳ refl));
   include_refused = refl;
   sharing_accepted = (
     _,
     (
       made 1 0 0 false ∷ [],
-      first-made false,
+      first-made 0 false,
       (omega arith, tt, tt) ⊳ refl
           ⊳ (
             made 1 1 0 false ∷ [],
@@ -71,12 +71,12 @@ specification-samples = record {
           ),
     ),
   );
-  sharing_refused = refl ⊳ (made 1 0 0 false ∷ [], first-made false, (omega arith, tt, tt) ⊳ refl ⊳ refl);
+  sharing_refused = refl ⊳ (made 1 0 0 false ∷ [], first-made 0 false, (omega arith, tt, tt) ⊳ refl ⊳ refl);
   structures_accepted = (
     _,
     (
       made 1 0 0 false ∷ [],
-      first-made false,
+      first-made 0 false,
       (omega arith, tt, tt) ⊳ refl ⊳ refl
           ⊳ (
             made 1 1 0 false ∷ [],
@@ -86,8 +86,8 @@ specification-samples = record {
           ),
     ),
   );
-  structures_refused = (made 1 0 0 false ∷ [], first-made false, (omega arith, tt, tt) ⊳ refl ⊳ refl ⊳ refl);
-  where_accepted = (_, (made 1 0 0 false ∷ [], first-made false, (omega arith, tt, tt) ⊳ refl ⊳ refl ⊳ refl ⊳ inl refl ⊳ (omega arith, tt, tt) ⊳ omega arith ⊳ refl));
-  where_refused = (made 1 0 0 false ∷ [], first-made false, (omega arith, tt, tt) ⊳ refl ⊳ refl);
-  where_equality_refused = (made 1 0 0 true ∷ [], first-made true, (omega arith, tt, tt) ⊳ refl ⊳ refl ⊳ inr (λ e. cc, refl));
+  structures_refused = (made 1 0 0 false ∷ [], first-made 0 false, (omega arith, tt, tt) ⊳ refl ⊳ refl ⊳ refl);
+  where_accepted = (_, (made 1 0 0 false ∷ [], first-made 0 false, (omega arith, tt, tt) ⊳ refl ⊳ refl ⊳ refl ⊳ inl refl ⊳ (omega arith, tt, tt) ⊳ omega arith ⊳ refl));
+  where_refused = (made 1 0 0 false ∷ [], first-made 0 false, (omega arith, tt, tt) ⊳ refl ⊳ refl);
+  where_equality_refused = (made 1 0 0 true ∷ [], first-made 0 true, (omega arith, tt, tt) ⊳ refl ⊳ refl ⊳ inr (λ e. cc, refl));
 }

@@ -56,7 +56,7 @@ structure-samples = record {
       (omega arith, tt)
           ⊳ (
             made 1 0 0 false ∷ [],
-            first-made false,
+            first-made 0 false,
             (omega arith, tt, tt) ⊳ refl ⊳ (omega arith, tt) ⊳ refl
                 ⊳ (omega arith, tt, (omega arith, tt)) ⊳ refl ⊳ refl ⊳ inl refl ⊳ refl ⊳ (bound, tt, refl)
                 ⊳ inl (type_of int, (λ σ m. refl), (omega arith, tt, (omega arith, tt)) ⊳ omega arith ⊳ refl),
@@ -66,7 +66,7 @@ structure-samples = record {
   transparent_refused =
       (omega arith, tt) ⊳ (
         made 1 0 0 false ∷ [],
-        first-made false,
+        first-made 0 false,
         (omega arith, tt, tt) ⊳ refl ⊳ (omega arith, tt) ⊳ refl
             ⊳ (omega arith, tt, (omega arith, tt)) ⊳ refl ⊳ refl ⊳ inl refl ⊳ refl,
       );
@@ -78,7 +78,7 @@ structure-samples = record {
       (omega arith, tt)
           ⊳ (
             made 1 0 0 false ∷ [],
-            first-made false,
+            first-made 0 false,
             (omega arith, tt, tt) ⊳ refl ⊳ (omega arith, tt) ⊳ refl
                 ⊳ (omega arith, tt, (omega arith, tt)) ⊳ refl ⊳ refl ⊳ inl refl ⊳ refl ⊳ (bound, tt, refl)
                 ⊳ (
@@ -92,7 +92,7 @@ structure-samples = record {
   opaque_refused =
       (omega arith, tt) ⊳ (
         made 1 0 0 false ∷ [],
-        first-made false,
+        first-made 0 false,
         (omega arith, tt, tt) ⊳ refl ⊳ (omega arith, tt) ⊳ refl
             ⊳ (omega arith, tt, (omega arith, tt)) ⊳ refl ⊳ refl ⊳ inl refl ⊳ refl,
       );

@@ -50,11 +50,11 @@ typing-samples = record {
   circular_refused = refl ⊳ (F.types (type_of int), (F.met int).1.1) ⊳ refl ⊳ refl ⊳ (F.types (type_of int), (F.met int).1) ⊳ inr (Finiteness, circular, refl);
   expansive_accepted = (
     _,
-    refl ⊳ refl ⊳ (X.types (type_of int), (X.met int).1.1.1) ⊳ refl ⊳ (X.types (type_of int), (X.met int).1.1) ⊳ (X.types (type_of int), (X.met int).1)
-        ⊳ (X.types (type_of int), X.met int) ⊳ tt ⊳ (mono (arrow_of (free 2) (free 2)), X.scheme, (omega arith, tt) ⊳ (X.types (type_of int), X.met-closed int) ⊳ refl),
+    refl ⊳ refl ⊳ (X.types (type_of int), X.met-int.1.1.1) ⊳ refl ⊳ (X.types (type_of int), X.met-int.1.1) ⊳ (X.types (type_of int), X.met-int.1)
+        ⊳ (X.types (type_of int), X.met-int) ⊳ tt ⊳ (mono (arrow_of (free 2) (free 2)), X.scheme, (omega arith, tt) ⊳ (X.types (type_of int), X.met-closed-int) ⊳ refl),
   );
   local_type_refused =
-      refl ⊳ (made 1 0 0 true ∷ [], first-datatype _ _ true, (refl, tt), inr (_, refl, with-equality _ refl, (omega arith, tt) ⊳ inr (Locality, escaping, refl)));
+      refl ⊳ (made 1 0 0 true ∷ [], first-datatype _ _ true, (refl, tt), inr (_, refl, with-equality 0 0 _ refl, (omega arith, tt) ⊳ inr (Locality, escaping, refl)));
   row_accepted = (
     _,
     refl ⊳ (R.types, R.met.1) ⊳ (R.types, R.met) ⊳ R.one-set ⊳ tt ⊳ (mono (type_of int), R.scheme, (omega arith, tt) ⊳ refl),

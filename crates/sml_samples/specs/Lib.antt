@@ -3,3 +3,4 @@ pub mod Core
 pub mod Typing
 pub mod Modules
 pub mod Specifications
+pub mod Matches

@@ -1,6 +1,7 @@
 //! That the readings are not empty: samples of each form of declaration, over the names of a run.
 
 ghost use Rattle.sml_samples.specs.Core.{CoreSamples};
+ghost use Rattle.sml_samples.specs.Matches.{MatchSamples};
 ghost use Rattle.sml_samples.specs.Modules.{ModuleSamples};
 ghost use Rattle.sml_samples.specs.Specifications.{SpecificationSamples};
 ghost use Rattle.sml_samples.specs.Typing.{TypingSamples};
@@ -23,4 +24,9 @@ pub fn types_of_values_have_answers()
 /// Each form of specification, `where type` and sharing are accepted in a sample and refused in another.
 pub fn specifications_have_answers()
     ensures { SpecificationSamples }
+{}
+
+/// Structures match signatures, or are refused by each of the codes of matching, in samples.
+pub fn matches_have_answers()
+    ensures { MatchSamples }
 {}

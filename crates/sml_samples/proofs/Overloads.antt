@@ -4,7 +4,7 @@ use mathlib.Core.Path.{refl, sym}
 use Rattle.std.proofs.Common.{arith}
 use Rattle.sml_objects.specs.Initial.{Name, initial, naming}
 use Rattle.sml_objects.specs.Names.{Initial, int, word}
-use Rattle.sml_objects.specs.Objects.{MlType, free, name, arrow, no_type, and_type, arrow_of, tuple_of, mono}
+use Rattle.sml_objects.specs.Objects.{MlType, free, name, arrow, no_type, and_type, arrow_of, mono}
 use Rattle.sml_objects.specs.Fates.{close_as}
 use Rattle.sml_objects.specs.declared.fates.Fate.TheVariants.{Keep}
 use Rattle.sml_objects.specs.Types.{replace_type, replace_types, variables_after, variables_after_all}
@@ -15,14 +15,10 @@ use Rattle.sml_layers.specs.declared.layer.Bound.TheVariants.{Newness}
 use Rattle.sml_layers.specs.declared.layer.Layer.TheVariants.{Finiteness, Rigidity}
 use Rattle.sml_core_rules.specs.Solutions.{Meets, IsScheme, StandsFor, IsLeft, IsOfLeft, AreOfLeft, IsOverloaded}
 use Rattle.sml_core_rules.specs.States.{State, no_window}
-use Rattle.sml_samples.specs.Around.{Place, scope, initial_names, type_of}
+use Rattle.sml_samples.specs.Around.{Place, scope, initial_names, type_of, twice}
 use Rattle.sml_samples.proofs.Functions.{types}
 use Rattle.sml_samples.proofs.Left.{settled}
 use Rattle.sml_samples.proofs.Names.{initial-within}
-
--- `t * t`
-abbrev twice : MlType Name → MlType Name
-twice t = tuple_of (and_type t (and_type t no_type))
 
 abbrev pub asked : List (Demand Name (List Name))
 asked =

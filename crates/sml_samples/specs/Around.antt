@@ -1,5 +1,5 @@
 -- What is around each sample: the names of a run, the environment, and what an answer is.
-use Rattle.std.specs.Prelude.{ℕ, false, List, [], ◌∷◌, codes}
+use Rattle.std.specs.Prelude.{ℕ, true, false, List, [], ◌∷◌, codes}
 use Rattle.sml_lex.specs.Faults.{Fault}
 use Rattle.sml_tree.specs.Trees.{Id}
 use Rattle.sml_tree.specs.Names as T
@@ -56,19 +56,23 @@ booleans = record {
 abbrev pub inner : Env Name
 inner = maps no_structure ((codes "t", plain (type_of int)) ∷ []) ((codes "x", value_of variable (type_of int)) ∷ [])
 
--- an overloaded operation on numbers
-abbrev pub operation : Value Name
-operation = record {
-  scheme = record { variables = false ∷ []; body = arrow_of (tuple_of (and_type (bound 0) (and_type (bound 0) no_type))) (bound 0) };
-  status = overloaded Num;
-}
+-- `t * t`
+abbrev pub twice : MlType Name → MlType Name
+twice t = tuple_of (and_type t (and_type t no_type))
 
--- the structure `S`, some types of the initial basis, their constructors, and `+`
+-- an overloaded operation on numbers, and equality
+abbrev pub operation : Value Name
+operation = record { scheme = record { variables = false ∷ []; body = arrow_of (twice (bound 0)) (bound 0) }; status = overloaded Num }
+
+abbrev pub equality : Value Name
+equality = record { scheme = record { variables = true ∷ []; body = arrow_of (twice (bound 0)) (type_of bool) }; status = variable }
+
+-- the structure `S`, some types of the initial basis, their constructors, `+` and `=`
 abbrev pub around : Env Name
 around =
     maps (and_structure (codes "S") inner no_structure)
     ((codes "bool", booleans) ∷ (codes "int", plain (type_of int)) ∷ (codes "real", plain (type_of real)) ∷ (codes "string", plain (type_of string)) ∷ [])
-    ((codes "+", operation) ∷ (codes "false", value_of (constructor 0 2) (type_of bool)) ∷ (codes "true", value_of (constructor 1 2) (type_of bool)) ∷ [])
+    ((codes "+", operation) ∷ (codes "=", equality) ∷ (codes "false", value_of (constructor 0 2) (type_of bool)) ∷ (codes "true", value_of (constructor 1 2) (type_of bool)) ∷ [])
 
 -- the declaration is accepted there, and binds this
 abbrev pub Accepts : Dec Place → Env Name → Type 0

@@ -12,6 +12,8 @@ pub mod Signatures
 pub mod Overloads
 pub mod Equalities
 pub mod Expansive
+pub mod Defaults
+pub mod Inner
 pub mod Rows
 pub mod Typings
 pub mod Specifications

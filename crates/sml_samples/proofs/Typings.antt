@@ -23,10 +23,13 @@ use Rattle.sml_core_rules.specs.Values.{has_unknown, have_unknown}
 use Rattle.sml_core_rules.specs.Scripts.{IsAnswer, ◌>>=◌}
 use Rattle.sml_core_rules.specs.Expressions.{read_dec, read_decs, read_binds, read_patterns, read_rights, read_exp, read_exps, read_fields, read_rules}
 use Rattle.sml_samples.specs.Around.{type_of}
+use Rattle.sml_samples.specs.Core.{identity_scheme}
 use Rattle.sml_samples.specs.Typing.{TypingSamples}
 use Rattle.sml_samples.proofs.Steps.{◌⊳◌}
 use Rattle.sml_samples.proofs.Functions as F
 use Rattle.sml_samples.proofs.Overloads as O
+use Rattle.sml_samples.proofs.Defaults as D
+use Rattle.sml_samples.proofs.Inner as I
 use Rattle.sml_samples.proofs.Equalities as E
 use Rattle.sml_samples.proofs.Expansive as X
 use Rattle.sml_samples.proofs.Rows as R
@@ -41,6 +44,22 @@ typing-samples = record {
     refl ⊳ (F.types (type_of int), (O.met int refl).1.1.1.1) ⊳ refl ⊳ refl ⊳ (F.types (type_of int), (O.met int refl).1.1.1) ⊳ (F.types (type_of int), (O.met int refl).1.1)
         ⊳ (F.types (type_of int), (O.met int refl).1) ⊳ (F.types (type_of int), O.met int refl) ⊳ O.overloaded ⊳ (F.types (type_of int), O.met-settled) ⊳ tt
         ⊳ (mono (arrow_of (type_of int) (type_of int)), O.scheme, (omega arith, tt) ⊳ refl),
+  );
+  default_accepted = (
+    _,
+    refl ⊳ (F.types (type_of int), D.met.1.1.1.1.1.1) ⊳ refl ⊳ refl ⊳ (F.types (type_of int), D.met.1.1.1.1.1) ⊳ (F.types (type_of int), D.met.1.1.1.1)
+        ⊳ (F.types (type_of int), D.met.1.1.1) ⊳ (F.types (type_of int), D.met.1.1) ⊳ (F.types (type_of int), D.met.1) ⊳ (F.types (type_of int), D.met)
+        ⊳ inr (D.one-type 2 D.second, inr (D.one-type 3 D.third, tt ⊳ (mono (arrow_of (type_of int) (type_of int)), D.scheme, (omega arith, tt) ⊳ refl))),
+  );
+  fixed_accepted = (
+    _,
+    refl ⊳ (F.types (type_of int), (I.met int).1.1.1.1.1) ⊳ refl ⊳ refl ⊳ (F.types (type_of int), (I.met int).1.1.1.1) ⊳ refl ⊳ (F.types (type_of int), (I.met int).1.1.1)
+        ⊳ tt ⊳ (
+          mono (free 1),
+          I.inner-scheme,
+          (omega arith, tt) ⊳ (F.types (type_of int), (I.met int).1.1) ⊳ (F.types (type_of int), (I.met int).1)
+              ⊳ (F.types (type_of int), I.met int) ⊳ tt ⊳ (identity_scheme, I.scheme, (omega arith, tt) ⊳ refl),
+        ),
   );
   class_refused = refl ⊳ (λ _. type_of int, (λ h. (int, refl, refl), tt)) ⊳ inr (Classes, of-no-class, refl);
   unequal_refused = refl ⊳ (λ _. type_of int, (λ h. refl, tt)) ⊳ inr (Equality, unequal, refl);

@@ -8,7 +8,8 @@ use Rattle.sml_tree.specs.Types.{Ty, ty_constructor, no_ty}
 use Rattle.sml_objects.specs.Names.{Initial, int, word, char, string, bool, exn, real, list, ref}
 use Rattle.sml_objects.specs.Initial.{Name, initial, made, naming}
 use Rattle.sml_objects.specs.Objects.{MlType, no_type, and_type, bound, named, mono, arrow_of, tuple_of}
-use Rattle.sml_layers.specs.declared.class.Class.TheVariants.{Num}
+use Rattle.sml_layers.specs.declared.class.Class.{Class}
+use Rattle.sml_layers.specs.declared.class.Class.TheVariants.{Num, RealInt, WordInt}
 use Rattle.sml_rules.specs.Answers.{refused, accepted}
 use Rattle.sml_core_rules.specs.Objects.{Env, TyStr, Value, Status, variable, constructor, overloaded, maps, no_structure, and_structure}
 use Rattle.sml_core_rules.specs.States.{Scope, State}
@@ -60,19 +61,19 @@ inner = maps no_structure ((codes "t", plain (type_of int)) ∷ []) ((codes "x",
 abbrev pub twice : MlType Name → MlType Name
 twice t = tuple_of (and_type t (and_type t no_type))
 
--- an overloaded operation on numbers, and equality
-abbrev pub operation : Value Name
-operation = record { scheme = record { variables = false ∷ []; body = arrow_of (twice (bound 0)) (bound 0) }; status = overloaded Num }
+-- an overloaded function, and equality
+abbrev pub overloaded_value : Class → MlType Name → Value Name
+overloaded_value c t = record { scheme = record { variables = false ∷ []; body = arrow_of t (bound 0) }; status = overloaded c }
 
 abbrev pub equality : Value Name
 equality = record { scheme = record { variables = true ∷ []; body = arrow_of (twice (bound 0)) (type_of bool) }; status = variable }
 
--- the structure `S`, some types of the initial basis, their constructors, `+` and `=`
+-- the structure `S`, and some types and values of the initial basis
 abbrev pub around : Env Name
 around =
     maps (and_structure (codes "S") inner no_structure)
     ((codes "bool", booleans) ∷ (codes "int", plain (type_of int)) ∷ (codes "real", plain (type_of real)) ∷ (codes "string", plain (type_of string)) ∷ [])
-    ((codes "+", operation) ∷ (codes "=", equality) ∷ (codes "false", value_of (constructor 0 2) (type_of bool)) ∷ (codes "true", value_of (constructor 1 2) (type_of bool)) ∷ [])
+    ((codes "+", overloaded_value Num (twice (bound 0))) ∷ (codes "=", equality) ∷ (codes "abs", overloaded_value RealInt (bound 0)) ∷ (codes "div", overloaded_value WordInt (twice (bound 0))) ∷ (codes "false", value_of (constructor 0 2) (type_of bool)) ∷ (codes "true", value_of (constructor 1 2) (type_of bool)) ∷ [])
 
 -- the declaration is accepted there, and binds this
 abbrev pub Accepts : Dec Place → Env Name → Type 0

@@ -12,7 +12,7 @@ use Rattle.sml_objects.specs.Objects.{Scheme, bound, free, arrow_of, mono}
 use Rattle.sml_rules.specs.Answers.{fault}
 use Rattle.sml_core_rules.specs.Objects.{Env, variable, of_values}
 use Rattle.sml_samples.specs.Around.{Place, name_at, constructor_at, type_of, Accepts, Refuses}
-use Rattle.sml_samples.specs.Core.{plain_constructor, datatype_binding, pattern_at, one_binding, three, variable_at, identity}
+use Rattle.sml_samples.specs.Core.{plain_constructor, datatype_binding, pattern_at, one_binding, three, variable_at, identity, identity_scheme}
 
 -- `fn q => e`, at the place of `fn`; the pattern is behind it
 abbrev pub function_at : Place → Pat Place → Exp Place → Exp Place
@@ -45,6 +45,15 @@ pub record TypingSamples : Type 0 where
   pub overloaded_accepted : Accepts
       (rec_is (function_at 5 (pattern_at 6 (codes "x")) (infix_at 8 (codes "+") (λ p. variable_at p (codes "x")))))
       (with_scheme (codes "f") (mono (arrow_of (type_of int) (type_of int))))
+  -- `val rec f = fn x => abs (x div x)`: of the types of `div` and of `abs` only int is one of both
+  pub default_accepted : Accepts (rec_is (function_at 5 (pattern_at 6 (codes "x")) (apply 8 (variable_at 8 (codes "abs")) (bracket 9 (infix_at 10 (codes "div") (λ p. variable_at p (codes "x")))))))
+      (with_scheme (codes "f") (mono (arrow_of (type_of int) (type_of int))))
+  -- `val rec f = fn x => let val y = x in y end`: the type of y is fixed by the context
+  pub fixed_accepted : Accepts
+      (rec_is
+      (function_at 5 (pattern_at 6 (codes "x"))
+      (let_in 8 (and_dec (val_dec 9 [] (one_binding (pattern_at 10 (codes "y")) (variable_at 12 (codes "x"))) no_bind) no_dec) (variable_at 14 (codes "y")))))
+      (with_scheme (codes "f") identity_scheme)
   -- `val x = true + true`, and `val x = 3.0 = 3.0`
   pub class_refused : Refuses (val_is (pattern_at 2 (codes "x")) (infix_at 4 (codes "+") (λ p. variable_at p (codes "true")))) (fault U5 4)
   pub unequal_refused : Refuses (val_is (pattern_at 2 (codes "x")) (infix_at 4 (codes "=") real_at)) (fault U4 4)

@@ -3,6 +3,7 @@ pub mod Plain
 pub mod Names
 pub mod Unmet
 pub mod Left
+pub mod Known
 pub mod Loose
 pub mod Functions
 pub mod Values
@@ -18,3 +19,4 @@ pub mod Rows
 pub mod Typings
 pub mod Specifications
 pub mod Matches
+pub mod Phrases

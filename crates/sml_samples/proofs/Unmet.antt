@@ -5,7 +5,7 @@ use mathlib.Core.Logic.{inl, inr}
 use Rattle.std.proofs.Common.{arith}
 use Rattle.sml_objects.specs.Appearance.{Stands}
 use Rattle.sml_objects.specs.Initial.{Name, initial, made, naming}
-use Rattle.sml_objects.specs.Names.{Initial, int, string, bool, real}
+use Rattle.sml_objects.specs.Names.{Initial, int, bool, real}
 use Rattle.sml_objects.specs.Objects.{MlType, Head, arrow, free, name, arrow_of, named}
 use Rattle.sml_objects.specs.Equality.{admits, all_admit}
 use Rattle.sml_objects.specs.Sizes.{type_size, types_size}
@@ -22,15 +22,15 @@ use Rattle.sml_core_rules.specs.States.{words}
 use Rattle.sml_samples.specs.Around.{scope, initial_names, type_of, twice}
 use Rattle.sml_samples.proofs.Names.{made-stands-not}
 
--- `val x : string = 3`
+-- two names
 
 abbrev head_of : Option (Head Name × ℕ) → Head Name
 head_of None = arrow
 head_of (Some h) = h.0
 
-pub clash : IsFirstUnmet (words scope) L.Equations (equal (type_of string) (type_of int) ∷ equal (free 0) (type_of string) ∷ [])
+pub clash : (j k : Initial) → (j ≡ k → ⊥) → (ds : List (Demand Name (List Name))) → IsFirstUnmet (words scope) L.Equations (equal (type_of j) (type_of k) ∷ ds)
 unfolding spread spread_all
-clash = (λ m. let e : name (initial string) ≡ name (initial int) = ap (λ t. head_of (t [])) m.1.0 in cc, λ k h. absurd (omega (arith, h)))
+clash j k n ds = (λ m. let e : name (initial j) ≡ name (initial k) = ap (λ t. head_of (t [])) m.1.0 in n cc, λ l h. absurd (omega (arith, h)))
 
 -- `val rec f = fn x => x x`: the type of x would be `t` with `t = t -> u`
 

@@ -3,6 +3,7 @@
 ghost use Rattle.sml_samples.specs.Core.{CoreSamples};
 ghost use Rattle.sml_samples.specs.Matches.{MatchSamples};
 ghost use Rattle.sml_samples.specs.Modules.{ModuleSamples};
+ghost use Rattle.sml_samples.specs.Phrases.{PhraseSamples};
 ghost use Rattle.sml_samples.specs.Specifications.{SpecificationSamples};
 ghost use Rattle.sml_samples.specs.Typing.{TypingSamples};
 
@@ -29,4 +30,9 @@ pub fn specifications_have_answers()
 /// Structures match signatures, or are refused by each of the codes of matching, in samples.
 pub fn matches_have_answers()
     ensures { MatchSamples }
+{}
+
+/// Each form of type expression, of pattern and of expression is accepted in a sample, and refused in another where it can be.
+pub fn phrases_have_answers()
+    ensures { PhraseSamples }
 {}

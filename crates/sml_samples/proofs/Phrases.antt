@@ -99,7 +99,7 @@ box-scheme = K.int-scheme of_box (refl, (refl, (refl, tt))) known 0 false (omega
     known τ m zero h = sym m.1.1.0
     known τ m (suc v) h = absurd (omega (arith, h))
 
--- `val x = raise X handle X => 3 : int`: unknown 1 is the type of what is raised
+-- `val x = (raise X) handle X => 3 : int`: unknown 1 is the type of what is raised
 
 abbrev handler : MlType Name → MlType Name
 handler t = arrow_of (type_of exn) t

@@ -5,7 +5,7 @@ use Rattle.sml_tree.specs.declared.patterns.ConstantKind.TheVariants.{Integer}
 use Rattle.sml_tree.specs.Trees.{Id}
 use Rattle.sml_tree.specs.Types.{Ty, ty_variable, ty_row, ty_tuple, ty_constructor, ty_arrow, ty_bracket, no_ty, and_ty, ty_field, no_ty_field, and_ty_field}
 use Rattle.sml_tree.specs.Patterns.{Pat, wildcard, pat_constant, pat_tuple, pat_apply, pat_as, no_pat, and_pat}
-use Rattle.sml_tree.specs.Expressions.{Dec, tuple, apply, typed, handle, raise, no_exp, and_exp, rule, no_rule, and_rule, val_dec, type_dec, datatype_dec, datatype_with, exception_dec, local_dec, no_dec, and_dec, no_bind, new_exception}
+use Rattle.sml_tree.specs.Expressions.{Dec, tuple, bracket, apply, typed, handle, raise, no_exp, and_exp, rule, no_rule, and_rule, val_dec, type_dec, datatype_dec, datatype_with, exception_dec, local_dec, no_dec, and_dec, no_bind, new_exception}
 use Rattle.sml_objects.specs.Names.{int}
 use Rattle.sml_objects.specs.Objects.{app, row, bound, no_type, and_type, arrow_of, tuple_of}
 use Rattle.sml_rules.specs.Answers.{fault}
@@ -75,13 +75,13 @@ pub record PhraseSamples : Type 0 where
       (one_value (codes "x") variable (type_of int))
   pub constructor_refused : Refuses (val_is (pat_apply 2 (record { place = 2; id = record { path = codes "S" ∷ []; last = codes "x" } }) (pattern_at 3 (codes "y"))) (three 5))
       (fault E5 2)
-  -- `local exception X in val x = raise X handle X => 3 : int end`, and `val x = raise true`, `val x = 3 : string`
+  -- `local exception X in val x = (raise X) handle X => 3 : int end`, and `val x = raise true`, `val x = 3 : string`
   pub handle_accepted : Accepts
       (local_dec 1 (and_dec (exception_dec 2 (new_exception (plain_constructor 3 (codes "X")) ∷ [])) no_dec)
       (and_dec
       (val_dec 5 []
       (one_binding (pattern_at 6 (codes "x"))
-      (handle 8 (raise 8 (variable_at 9 (codes "X"))) (and_rule (rule 11 (pattern_at 11 (codes "X")) (typed 13 (three 13) (constructor_at 15 (codes "int")))) no_rule))) no_bind)
+      (handle 8 (bracket 8 (raise 9 (variable_at 10 (codes "X")))) (and_rule (rule 13 (pattern_at 13 (codes "X")) (typed 15 (three 15) (constructor_at 17 (codes "int")))) no_rule))) no_bind)
       no_dec))
       (one_value (codes "x") variable (type_of int))
   pub raise_refused : Refuses (val_is (pattern_at 2 (codes "x")) (raise 4 (variable_at 5 (codes "true")))) (fault U1 4)

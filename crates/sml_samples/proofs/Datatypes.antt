@@ -1,14 +1,15 @@
 -- Samples of datatypes.
-use Rattle.std.specs.Prelude.{◌≡◌, ◌++◌, ℕ, Bool, true, false, [], ◌∷◌, Some, codes}
+use Rattle.std.specs.Prelude.{◌≡◌, ◌++◌, ℕ, Bool, true, false, List, [], ◌∷◌, Some, codes}
 use mathlib.Core.Path.{refl, ap, ◌∙◌, sym}
 use mathlib.Core.Logic.{inl, inr}
 use Rattle.std.proofs.Common.{arith}
+use Rattle.sml_tree.specs.Trees.{Id}
 use Rattle.sml_tree.specs.Expressions.{ConBind}
 use Rattle.sml_objects.specs.Appearance.{Stands}
 use Rattle.sml_objects.specs.Equality.{is_ref}
 use Rattle.sml_objects.specs.Initial.{Name, initial, made, naming}
 use Rattle.sml_objects.specs.Names.{real}
-use Rattle.sml_objects.specs.Objects.{names_type, names_types}
+use Rattle.sml_objects.specs.Objects.{Outside, names_type, names_types}
 use Rattle.sml_objects.specs.Sizes.{type_size, types_size}
 use Rattle.sml_objects.specs.Fates.{close_as}
 use Rattle.sml_objects.specs.Types.{replace_type, replace_types, variables_after, variables_after_all}
@@ -44,9 +45,15 @@ without-equality = ((λ e. absurd cc, tt), none)
         let h : eq (initial real) ≡ false = f (initial real) (λ s. let e = stands-alone (initial real) (made 1 0 0 false) s in cc) in
         let a = rw h at r.0 (ap eq (sym same) ∙ e) in absurd cc
 
+-- names of datatypes, each where it is none of those before
+pub new-datatype : (k : ℕ) (q : Bool) (old : List Name) (p : Place) (x : Id) (c : ConBind Place) → Outside (made 1 k 0 q) old
+    → AreNew naming old (datatype_binding p x c ∷ []) (made 1 k 0 q ∷ [])
+unfolding AreNew naming
+new-datatype k q old p x c o = (made 1 k 0 q, [], o, λ j e. cc, refl, refl, refl, refl)
+
 pub first-datatype : (p : Place) (c : ConBind Place) (q : Bool) → AreNew naming (names_env around ++ initial_names) (datatype_binding p (codes "d") c ∷ []) (made 1 0 0 q ∷ [])
-unfolding AreNew names_in names_structures names_type names_types naming
-first-datatype p c q = (made 1 0 0 q, [], made-outside 1 0 0 q _ refl, λ k e. cc, refl, refl, refl, refl)
+unfolding names_in names_structures names_type names_types
+first-datatype p c q = new-datatype 0 q _ p (codes "d") c (made-outside 1 0 0 q (names_env around ++ initial_names) refl)
 
 pub datatype-samples : DatatypeSamples
 unfolding IsAnswer ◌>>=◌ A.◌>>=◌ read_dec read_type_binds read_all_arguments read_arguments read_ty read_tys find_at type_at naming type_size types_size replace_type replace_types close_as variables_after variables_after_all admits_by all_admit_by

@@ -1,8 +1,8 @@
 -- The initial names among those that stood first.
 use Rattle.std.specs.Prelude.{◌≡◌, ◌++◌, ℕ, Bool, true, false, List, [], ◌∷◌}
-use mathlib.Core.Path.{refl}
+use mathlib.Core.Path.{refl, sym}
 use mathlib.Core.Logic.{inl, inr}
-use Rattle.sml_objects.specs.Appearance.{Stands}
+use Rattle.sml_objects.specs.Appearance.{Stands, stands}
 use Rattle.sml_objects.specs.Initial.{Name, initial, made, naming}
 use Rattle.sml_objects.specs.Names.{Attributes, Initial, int, word, char, string, bool, exn, real, list, ref}
 use Rattle.sml_objects.specs.Objects.{Outside}
@@ -44,6 +44,16 @@ pub outside-both : (n : Name) (ms ns : List Name) → Outside n ms → Outside n
 unfolding Outside
 outside-both n [] ns h k = k
 outside-both n (m ∷ ms) ns h k = (h.0, outside-both n ms ns h.1 k)
+
+-- the same of any names, found by comparing them
+pub outside-by : (n : Name) (ns : List Name) → stands naming n ns ≡ false → Outside n ns
+unfolding Outside stands
+outside-by n [] e = tt
+outside-by n (m ∷ ms) e = go (naming.same n m) (outside-by n ms) e
+  where
+    go : (d : Dec (n ≡ m)) → (stands naming n ms ≡ false → Outside n ms) → elim d [ yes _ ↦ true | no _ ↦ stands naming n ms ] ≡ false → Outside n (m ∷ ms)
+    go (yes p) f e = absurd cc
+    go (no f) g e = (λ q. f (sym q), g e)
 
 pub made-stands-not : (u k a : ℕ) (q : Bool) (ns : List Name) → are_initial ns ≡ true → Stands (made u k a q) ns → ⊥
 unfolding Stands

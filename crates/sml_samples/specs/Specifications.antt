@@ -1,6 +1,6 @@
 -- Samples of specifications, each beside the signature that it is in.
 use Rattle.std.specs.Prelude.{◌+◌, true, false, List, [], ◌∷◌, codes}
-use Rattle.sml_lex.specs.declared.fault.Code.TheVariants.{E2, E3, N1, N2, N3, N4}
+use Rattle.sml_lex.specs.declared.fault.Code.TheVariants.{E2, E3, N1, N2, N3, N4, N5, N6, N7}
 use Rattle.sml_tree.specs.Trees.{Id}
 use Rattle.sml_tree.specs.Signatures.{SigExp, Spec, Specs, WhereType, sig_end, sig_name, where_type, val_spec, type_spec, eqtype_spec, datatype_spec, copy_spec, exception_spec, structure_spec, include_spec, sharing_types, sharing_structures, no_spec, and_spec, str_desc, no_str_desc, and_str_desc}
 use Rattle.sml_tree.specs.Structures.{TopDec, signature_dec}
@@ -106,6 +106,18 @@ pub record SpecificationSamples : Type 0 where
       (copy_spec 5 (name_at 6 (codes "e")) (long_at 9 (codes "bool")) ∷ type_specified 10 (codes "t")
       ∷ sharing_types 12 (long_at 14 (codes "t") ∷ long_at 16 (codes "e") ∷ []) ∷ []))
       (fault N3 16)
+  -- `type t type 'a u sharing type t = u`, and `datatype d = D datatype e = E sharing type d = e`
+  pub arities_refused : RefusesTop
+      (signature_of
+      (type_specified 5 (codes "t") ∷ type_spec 7 (record { variables = name_at 8 (codes "'a") ∷ []; name = name_at 9 (codes "u") } ∷ [])
+      ∷ sharing_types 10 (long_at 12 (codes "t") ∷ long_at 14 (codes "u") ∷ []) ∷ []))
+      (fault N6 14)
+  pub constructors_refused : RefusesTop
+      (signature_of
+      (datatype_spec 5 (datatype_binding 6 (codes "d") (plain_constructor 8 (codes "D")) ∷ [])
+      ∷ datatype_spec 9 (datatype_binding 10 (codes "e") (plain_constructor 12 (codes "E")) ∷ [])
+      ∷ sharing_types 13 (long_at 15 (codes "d") ∷ long_at 17 (codes "e") ∷ []) ∷ []))
+      (fault N7 17)
   -- `structure A : sig type t end structure B : sig type t end sharing A = B`, and `sharing A = C`
   pub structures_accepted : Specifies
       (signature_of
@@ -121,3 +133,8 @@ pub record SpecificationSamples : Type 0 where
   pub where_refused : RefusesTop (signature_is (where_type 4 (type_alone 4) (is_type 10 (codes "u") (codes "int")))) (fault_at E2 10 (codes "u" ∷ []))
   pub where_equality_refused : RefusesTop (signature_is (where_type 4 (sig_end 4 (specs_of (eqtype_specified 5 (codes "t") ∷ []))) (is_type 10 (codes "t") (codes "real"))))
       (fault N4 10)
+  -- `sig datatype d = D end where type d = bool`
+  pub where_constructors_refused : RefusesTop
+      (signature_is
+      (where_type 4 (sig_end 4 (specs_of (datatype_spec 5 (datatype_binding 6 (codes "d") (plain_constructor 8 (codes "D")) ∷ []) ∷ []))) (is_type 12 (codes "d") (codes "bool"))))
+      (fault N5 12)

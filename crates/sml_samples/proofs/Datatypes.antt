@@ -59,6 +59,7 @@ pub datatype-samples : DatatypeSamples
 unfolding IsAnswer ◌>>=◌ A.◌>>=◌ read_dec read_type_binds read_all_arguments read_arguments read_ty read_tys find_at type_at naming type_size types_size replace_type replace_types close_as variables_after variables_after_all admits_by all_admit_by
 datatype-samples = record {
   datatype_accepted = (_, (made 1 0 0 true ∷ [], first-datatype _ _ true, (refl, tt), inr (_, refl, with-equality 0 0 _ refl, (omega arith, tt) ⊳ refl)));
+  recursive_datatype_accepted = (_, (made 1 0 0 true ∷ [], first-datatype _ _ true, (refl, tt), inr (_, refl, with-equality 0 0 _ refl, (omega arith, tt) ⊳ refl)));
   real_datatype_accepted = (_, (made 1 0 0 false ∷ [], first-datatype _ _ false, (refl, tt), inr (_, refl, without-equality, (omega arith, tt) ⊳ refl)));
   datatype_refused = (made 1 0 0 true ∷ [], first-datatype _ _ true, (refl, tt), inl (_, refl, refl));
   withtype_accepted = (_, (made 1 0 0 true ∷ [], first-datatype _ _ true, (refl, tt), inr (_, refl, with-equality 0 0 _ refl, (omega arith, tt) ⊳ (omega arith, tt) ⊳ refl)));

@@ -1,11 +1,11 @@
 -- Samples of phrases.
-use Rattle.std.specs.Prelude.{◌≡◌, ◌<◌, ℕ, zero, suc, true, false, [], ◌∷◌}
+use Rattle.std.specs.Prelude.{◌≡◌, ◌<◌, ℕ, zero, suc, true, false, [], ◌∷◌, codes}
 use mathlib.Core.Path.{refl, sym, ◌∙◌}
 use mathlib.Core.Logic.{inl, inr}
 use Rattle.std.proofs.Common.{arith}
 use Rattle.sml_objects.specs.Initial.{Name, initial, made, naming}
 use Rattle.sml_objects.specs.Names.{int, bool, exn, string}
-use Rattle.sml_objects.specs.Objects.{MlType, names_type, names_types, no_type, and_type, name, labels_of, arrow_of, tuple_of, free, named, mono}
+use Rattle.sml_objects.specs.Objects.{MlType, app, row, names_type, names_types, no_type, and_type, name, labels_of, arrow_of, tuple_of, free, named, mono}
 use Rattle.sml_objects.specs.Equality.{admits}
 use Rattle.sml_objects.specs.Sizes.{type_size, types_size}
 use Rattle.sml_objects.specs.Fates.{close_as}
@@ -33,7 +33,7 @@ use Rattle.sml_samples.proofs.Unmet.{clash}
 use Rattle.sml_samples.proofs.Datatypes.{first-datatype, with-equality}
 use Rattle.sml_samples.proofs.Known as K
 
--- `val (x as (_, 3), true) = ((3, 3), true)`: unknown 0 is the type of x, and 1 that of its first part
+-- `val (x as (_, (3)), true) = ((3, 3), true)`: unknown 0 is the type of x, and 1 that of its first part
 
 abbrev pair : MlType Name → MlType Name → MlType Name
 pair t u = tuple_of (and_type t (and_type u no_type))
@@ -124,6 +124,22 @@ handled-scheme = K.int-scheme handled (refl, (refl, (refl, (refl, tt)))) known 0
     known τ m (suc zero) h = second τ m
     known τ m (suc (suc v)) h = absurd (omega (arith, h))
 
+-- `val {a = x} = {a = 3}`
+
+abbrev one_field : MlType Name → MlType Name
+one_field t = app (row (codes "a" ∷ [])) (and_type t no_type)
+
+abbrev of_row : State Place Name
+of_row = record { made = 1; names = initial_names; demands = equal (one_field (free 0)) (one_field (type_of int)) ∷ []; window = no_window }
+
+of-row-scheme : IsScheme scope of_row 0 false (free 0) (mono (type_of int))
+unfolding replace_type replace_types
+of-row-scheme = K.int-scheme of_row (refl, tt) known 0 false (omega arith)
+  where
+    known : (τ : ℕ → MlType Name) → Meets scope of_row Finiteness τ → (v : ℕ) → v < 1 → τ v ≡ type_of int
+    known τ m zero h = let e : one_field (τ 0) ≡ one_field (type_of int) = m.0 in cc
+    known τ m (suc v) h = absurd (omega (arith, h))
+
 -- all unknowns are int
 abbrev ints : ℕ → MlType Name
 ints v = type_of int
@@ -139,6 +155,7 @@ phrase-samples = record {
     _,
     refl ⊳ refl ⊳ (types, met.1) ⊳ refl ⊳ refl ⊳ (types, met) ⊳ tt ⊳ (mono (twice (type_of int)), pair-scheme, (omega arith, tt) ⊳ refl),
   );
+  row_accepted = (_, refl ⊳ (ints, (refl, tt)) ⊳ tt ⊳ (mono (type_of int), of-row-scheme, (omega arith, tt) ⊳ refl));
   repeated_refused = refl ⊳ inr (λ e. cc, refl);
   constructor_accepted = (
     _,

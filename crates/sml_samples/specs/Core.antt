@@ -110,9 +110,11 @@ pub record ValueSamples : Type 0 where
 
 -- Declarations of datatypes, whose names are new
 pub record DatatypeSamples : Type 0 where
-  -- `datatype d = D`, which admits equality; `datatype d = D of real`, which doesn't; and `datatype d = D of u`
+  -- `datatype d = D` and `datatype d = D of d`, which admit equality; `datatype d = D of real`, which doesn't; and `datatype d = D of u`
   pub datatype_accepted : Accepts (datatype_dec 1 (datatype_binding 2 (codes "d") (plain_constructor 4 (codes "D")) ∷ []))
       (one_datatype (codes "d") (made 1 0 0 true) (codes "D") (named (made 1 0 0 true)))
+  pub recursive_datatype_accepted : Accepts (datatype_dec 1 (datatype_binding 2 (codes "d") (constructor_of 4 (codes "D") (codes "d")) ∷ []))
+      (one_datatype (codes "d") (made 1 0 0 true) (codes "D") (arrow_of (named (made 1 0 0 true)) (named (made 1 0 0 true))))
   pub real_datatype_accepted : Accepts (datatype_dec 1 (datatype_binding 2 (codes "d") (constructor_of 4 (codes "D") (codes "real")) ∷ []))
       (one_datatype (codes "d") (made 1 0 0 false) (codes "D") (arrow_of (type_of real) (named (made 1 0 0 false))))
   pub datatype_refused : Refuses (datatype_dec 1 (datatype_binding 2 (codes "d") (constructor_of 4 (codes "D") (codes "u")) ∷ [])) (fault_at E2 6 (codes "u" ∷ []))

@@ -4,10 +4,11 @@ use Rattle.sml_lex.specs.declared.fault.Code.TheVariants.{E4, E5, E8, E10, U1}
 use Rattle.sml_tree.specs.declared.patterns.ConstantKind.TheVariants.{Integer}
 use Rattle.sml_tree.specs.Trees.{Id}
 use Rattle.sml_tree.specs.Types.{Ty, ty_variable, ty_row, ty_tuple, ty_constructor, ty_arrow, ty_bracket, no_ty, and_ty, ty_field, no_ty_field, and_ty_field}
-use Rattle.sml_tree.specs.Patterns.{Pat, wildcard, pat_constant, pat_tuple, pat_apply, pat_as, no_pat, and_pat}
-use Rattle.sml_tree.specs.Expressions.{Dec, tuple, bracket, apply, typed, handle, raise, no_exp, and_exp, rule, no_rule, and_rule, val_dec, type_dec, datatype_dec, datatype_with, exception_dec, local_dec, no_dec, and_dec, no_bind, new_exception}
+use Rattle.sml_tree.specs.Patterns.{Pat, wildcard, pat_constant, pat_row, pat_tuple, pat_bracket, pat_apply, pat_as, no_pat, and_pat, pat_field, no_pat_field, and_pat_field}
+use Rattle.sml_tree.specs.Expressions.{Dec, row, field, no_field, and_field, tuple, bracket, apply, typed, handle, raise, no_exp, and_exp, rule, no_rule, and_rule, val_dec, type_dec, datatype_dec, datatype_with, exception_dec, local_dec, no_dec, and_dec, no_bind, new_exception}
 use Rattle.sml_objects.specs.Names.{int}
-use Rattle.sml_objects.specs.Objects.{app, row, bound, no_type, and_type, arrow_of, tuple_of}
+use Rattle.sml_objects.specs.Objects as O
+use Rattle.sml_objects.specs.Objects.{app, bound, no_type, and_type, arrow_of, tuple_of}
 use Rattle.sml_rules.specs.Answers.{fault}
 use Rattle.sml_core_rules.specs.Objects.{variable}
 use Rattle.sml_samples.specs.Around.{Place, name_at, long_at, constructor_at, type_of, twice, Accepts, Refuses}
@@ -44,7 +45,7 @@ pub record PhraseSamples : Type 0 where
       (record {
         function = record {
           variables = false ∷ [];
-          body = app (row (codes "a" ∷ codes "b" ∷ []))
+          body = app (O.row (codes "a" ∷ codes "b" ∷ []))
               (and_type (bound 0) (and_type (tuple_of (and_type (type_of int) (and_type (arrow_of (type_of int) (bound 0)) no_type))) no_type));
         };
         constructors = [];
@@ -57,13 +58,17 @@ pub record PhraseSamples : Type 0 where
       (type_binding 9 (codes "t") (codes "int") ∷ []))
       (fault E4 7)
   pub variable_refused : Refuses (type_is (ty_variable 4 (codes "'a"))) (fault E8 4)
-  -- `val (x as (_, 3), true) = ((3, 3), true)`, and `val (x, x) = (3, 3)`
+  -- `val (x as (_, (3)), true) = ((3, 3), true)`, `val {a = x} = {a = 3}`, and `val (x, x) = (3, 3)`
   pub patterns_accepted : Accepts
       (val_is
       (pat_tuple 2
-      (and_pat (pat_as 3 (name_at 3 (codes "x")) None (pat_tuple 5 (and_pat (wildcard 6) (and_pat (three_pattern 8) no_pat)))) (and_pat (pattern_at 11 (codes "true")) no_pat)))
-      (tuple 14 (and_exp (tuple 15 (and_exp (three 16) (and_exp (three 18) no_exp))) (and_exp (variable_at 21 (codes "true")) no_exp))))
+      (and_pat (pat_as 3 (name_at 3 (codes "x")) None (pat_tuple 5 (and_pat (wildcard 6) (and_pat (pat_bracket 8 (three_pattern 9)) no_pat)))) (and_pat (pattern_at 13 (codes "true")) no_pat)))
+      (tuple 16 (and_exp (tuple 17 (and_exp (three 18) (and_exp (three 20) no_exp))) (and_exp (variable_at 23 (codes "true")) no_exp))))
       (one_value (codes "x") variable (twice (type_of int)))
+  pub row_accepted : Accepts
+      (val_is (pat_row 2 (and_pat_field (pat_field (name_at 3 (codes "a")) (pattern_at 5 (codes "x"))) no_pat_field) false)
+      (row 8 (and_field (field (name_at 9 (codes "a")) (three 11)) no_field)))
+      (one_value (codes "x") variable (type_of int))
   pub repeated_refused : Refuses
       (val_is (pat_tuple 2 (and_pat (pattern_at 3 (codes "x")) (and_pat (pattern_at 5 (codes "x")) no_pat))) (tuple 8 (and_exp (three 9) (and_exp (three 11) no_exp))))
       (fault E10 5)

@@ -3,9 +3,9 @@ use Rattle.std.specs.Prelude.{◌≡◌, ◌≢◌, ◌<◌, ℕ, zero, suc, tru
 use mathlib.Core.Path.{refl, sym, ◌∙◌}
 use mathlib.Core.Logic.{inl}
 use Rattle.std.proofs.Common.{arith}
-use Rattle.sml_objects.specs.Initial.{Name}
+use Rattle.sml_objects.specs.Initial.{Name, initial}
 use Rattle.sml_objects.specs.Names.{int, string}
-use Rattle.sml_objects.specs.Objects.{MlType, free, arrow, no_type, and_type, arrow_of, mono}
+use Rattle.sml_objects.specs.Objects.{MlType, name, free, arrow, no_type, and_type, arrow_of, mono}
 use Rattle.sml_objects.specs.Fates.{close_as}
 use Rattle.sml_objects.specs.declared.fates.Fate.TheVariants.{Keep}
 use Rattle.sml_objects.specs.Types.{replace_type, replace_types, variables_after, variables_after_all, index_among}
@@ -86,3 +86,50 @@ open-ended u f =
     let e : arrow_of (type_of int) (type_of int) ≡ u = f (types (type_of int)) met-closed-int in
     let d : arrow_of (type_of string) (type_of string) ≡ u = f (types (type_of string)) (met-closed (type_of string) (initial-within string)) in
     let c : arrow_of (type_of int) (type_of int) ≡ arrow_of (type_of string) (type_of string) = e ∙ sym d in cc
+
+-- `val j = i 3` behind it: unknown 3 is the type of j
+
+abbrev pub later : State Place Name
+later = record {
+  made = 4;
+  names = initial_names;
+  demands = equal (free 3) (free 2) ∷ equal (free 2) (type_of int) ∷ closed.demands;
+  window = no_window;
+}
+
+pub met-later : Meets scope later Rigidity (types (type_of int))
+unfolding replace_type replace_types
+met-later = (refl, (refl, met-closed-int))
+
+later-finitely : Meets scope later Finiteness (types (type_of int))
+unfolding replace_type replace_types
+later-finitely = (refl, (refl, (λ h. absurd (omega (arith, h)), finitely (type_of int))))
+
+module _ (τ : ℕ → MlType Name) (m : Meets scope later Finiteness τ) where
+  third : τ 3 ≡ type_of int
+  unfolding replace_type replace_types
+  third = m.0 ∙ m.1.0
+
+  second : τ 1 ≡ arrow_of (type_of int) (type_of int)
+  unfolding replace_type replace_types
+  second = let e : τ 1 ≡ arrow_of (τ 2) (τ 2) = m.1.1.1.1.0 in let f : τ 2 ≡ type_of int = m.1.0 in cc
+
+  first : τ 0 ≡ arrow_of (type_of int) (type_of int)
+  unfolding replace_type replace_types
+  first = m.1.1.1.0 ∙ second
+
+alone : (v : ℕ) → IsLeft scope later v → ⊥
+unfolding replace_types
+alone zero l = settled scope later (types (type_of int)) later-finitely 0 arrow (and_type (type_of int) (and_type (type_of int) no_type)) (λ ls e. cc) first l
+alone (suc zero) l = settled scope later (types (type_of int)) later-finitely 1 arrow (and_type (type_of int) (and_type (type_of int) no_type)) (λ ls e. cc) second l
+alone (suc (suc zero)) l = settled scope later (types (type_of int)) later-finitely 2 (name (initial int)) no_type (λ ls e. cc) (λ τ m. m.1.0) l
+alone (suc (suc (suc zero))) l = settled scope later (types (type_of int)) later-finitely 3 (name (initial int)) no_type (λ ls e. cc) third l
+alone (suc (suc (suc (suc v)))) l = absurd (omega (arith, l.0))
+
+pub later-scheme : IsScheme scope later 3 true (free 3) (mono (type_of int))
+unfolding IsScheme StandsFor IsOfLeft AreOfLeft replace_type replace_types close_as variables_after variables_after_all
+later-scheme = (type_of int, (tt, λ τ m. sym (third τ m)), λ _. Keep, λ v l. absurd (alone v l), refl)
+
+pub turned-out : IsAlways scope later (arrow_of (free 2) (free 2)) (arrow_of (type_of int) (type_of int))
+unfolding IsAlways replace_type replace_types
+turned-out σ m = let e : σ 2 ≡ type_of int = m.1.0 in cc

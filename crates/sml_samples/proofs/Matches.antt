@@ -162,6 +162,21 @@ match-samples = record {
             ⊳ (omega arith, tt) ⊳ refl ⊳ (omega arith, tt) ⊳ refl ⊳ (X.types itself, (λ h. refl, X.met-closed itself itself-within))
             ⊳ (X.types itself, (refl, (λ h. refl, X.met-closed itself itself-within))) ⊳ inr (λ f. f.0 fixed, refl),
       );
+  later_accepted = (
+    _,
+    refl ⊳ refl ⊳ (X.types (type_of int), X.met-int.1.1.1) ⊳ refl ⊳ (X.types (type_of int), X.met-int.1.1) ⊳ (X.types (type_of int), X.met-int.1)
+        ⊳ (X.types (type_of int), X.met-int) ⊳ tt ⊳ (
+          mono (arrow_of (free 2) (free 2)),
+          X.scheme,
+          (omega arith, tt) ⊳ (X.types (type_of int), X.met-closed-int)
+              ⊳ refl ⊳ (X.types (type_of int), X.met-later.1) ⊳ (X.types (type_of int), X.met-later) ⊳ tt ⊳ (
+                mono (type_of int),
+                X.later-scheme,
+                (omega arith, tt)
+                    ⊳ inl (_, X.turned-out, inl (_, (λ σ m. refl), (omega arith, (omega arith, tt)) ⊳ omega arith ⊳ refl)),
+              ),
+        ),
+  );
   top_refused =
       refl ⊳ refl ⊳ (X.types (type_of int), X.met-int.1.1.1) ⊳ refl ⊳ (X.types (type_of int), X.met-int.1.1)
       ⊳ (X.types (type_of int), X.met-int.1) ⊳ (X.types (type_of int), X.met-int) ⊳ tt

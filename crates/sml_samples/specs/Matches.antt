@@ -6,14 +6,14 @@ use Rattle.sml_tree.specs.Trees.{Id}
 use Rattle.sml_tree.specs.Types.{Ty, ty_variable, ty_arrow}
 use Rattle.sml_tree.specs.Expressions.{Dec, DatBind, apply, bracket, val_dec, datatype_dec, no_bind}
 use Rattle.sml_tree.specs.Signatures.{SigExp, Spec, sig_end, where_type, val_spec, type_spec, datatype_spec, exception_spec}
-use Rattle.sml_tree.specs.Structures.{TopDec, struct_end, ascribed, core_dec, top_str}
+use Rattle.sml_tree.specs.Structures.{TopDec, struct_end, and_str_dec, ascribed, core_dec, top_str}
 use Rattle.sml_objects.specs.Names.{int}
 use Rattle.sml_objects.specs.Initial.{Name, made}
 use Rattle.sml_objects.specs.Objects.{MlType, Scheme, app, name, bound, no_type, and_type, arrow_of}
 use Rattle.sml_rules.specs.Answers.{fault, fault_at}
-use Rattle.sml_core_rules.specs.Objects.{Env, constructor, variable, maps, no_structure}
-use Rattle.sml_samples.specs.Around.{Place, name_at, constructor_at, type_of}
-use Rattle.sml_samples.specs.Core.{plain_constructor, datatype_binding, type_at, pattern_at, one_binding, three, identity, one_value}
+use Rattle.sml_core_rules.specs.Objects.{Env, constructor, variable, of_values, maps, no_structure}
+use Rattle.sml_samples.specs.Around.{Place, name_at, constructor_at, type_of, value_of}
+use Rattle.sml_samples.specs.Core.{plain_constructor, datatype_binding, type_at, pattern_at, one_binding, three, variable_at, identity, one_value}
 use Rattle.sml_samples.specs.Modules.{AcceptsTop, RefusesTop, core_at, top_structure, one_structure}
 use Rattle.sml_samples.specs.Specifications.{specs_of, eqtype_specified, type_alone, is_type}
 
@@ -82,5 +82,11 @@ pub record MatchSamples : Type 0 where
   pub open_refused : RefusesTop
       (against open_value (one_spec 22 (value_spec 23 (codes "i") (ty_arrow 26 (ty_variable 26 (codes "'a")) (ty_variable 28 (codes "'a"))))))
       (fault_at M6 22 (codes "i" ∷ []))
+  -- an open type that a later declaration of the structure settles, `val j = i 3`
+  pub later_accepted : AcceptsTop
+      (top_structure
+      (struct_end 4 (and_str_dec (core_dec open_value) (core_at (val_dec 20 [] (one_binding (pattern_at 21 (codes "j")) (apply 23 (variable_at 23 (codes "i")) (three 24))) no_bind)))))
+      (one_structure []
+      (of_values ((codes "i", value_of variable (arrow_of (type_of int) (type_of int))) ∷ (codes "j", value_of variable (type_of int)) ∷ [])))
   -- an open type at the top
   pub top_refused : RefusesTop (top_str (core_dec open_value)) (fault Q2 1)

@@ -1,0 +1,107 @@
+-- `val rec f = fn x => let val y = x in y end`: unknown 0 is the type of f, 1 that of x, and 2 that of y.
+use Rattle.std.specs.Prelude.{◌≢◌, ◌<◌, ℕ, zero, suc, false, [], ◌∷◌}
+use mathlib.Core.Path.{refl, sym}
+use mathlib.Core.Logic.{inl, inr}
+use Rattle.std.proofs.Common.{arith}
+use Rattle.sml_objects.specs.Initial.{Name}
+use Rattle.sml_objects.specs.Names.{Initial, int, string, real}
+use Rattle.sml_objects.specs.Objects.{MlType, free, arrow, no_type, and_type, arrow_of, mono}
+use Rattle.sml_objects.specs.Fates.{close_as}
+use Rattle.sml_objects.specs.declared.fates.Fate.TheVariants.{Bind, Keep}
+use Rattle.sml_objects.specs.Types.{replace_type, replace_types, variables_after, variables_after_all, index_among}
+use Rattle.sml_layers.specs.Demands.{equal, asks, within, Mentions}
+use Rattle.sml_layers.specs.declared.layer.Bound.TheVariants.{Newness, Locality}
+use Rattle.sml_layers.specs.declared.layer.Layer.TheVariants.{Finiteness, Equality, Classes, Rigidity}
+use Rattle.sml_core_rules.specs.Solutions.{Meets, IsScheme, StandsFor, IsLeft, IsOfLeft, AreOfLeft, IsFateOf, IsFixed}
+use Rattle.sml_core_rules.specs.States.{State, no_window}
+use Rattle.sml_samples.specs.Around.{Place, scope, initial_names, type_of}
+use Rattle.sml_samples.specs.Core.{identity_scheme}
+use Rattle.sml_samples.proofs.Functions.{types}
+use Rattle.sml_samples.proofs.Left.{settled}
+use Rattle.sml_samples.proofs.Loose.{loose, not-int, is-bound}
+use Rattle.sml_samples.proofs.Names.{initial-within}
+
+-- at the end of the inner declaration
+
+abbrev pub inner_state : State Place Name
+inner_state = record {
+  made = 3;
+  names = initial_names;
+  demands = equal (free 2) (free 1) ∷ asks (within Newness initial_names) (free 1) ∷ asks (within Newness initial_names) (free 0) ∷ [];
+  window = no_window;
+}
+
+abbrev all : MlType Name → ℕ → MlType Name
+all t v = t
+
+all-finitely : (t : MlType Name) → Meets scope inner_state Finiteness (all t)
+unfolding replace_type
+all-finitely t = (refl, (λ h. absurd (omega (arith, h)), (λ h. absurd (omega (arith, h)), tt)))
+
+all-classes : Meets scope inner_state Classes (all (type_of string))
+unfolding replace_type
+all-classes = (refl, (λ h. initial-within string, (λ h. initial-within string, tt)))
+
+inner-left : IsLeft scope inner_state 1
+unfolding replace_type
+inner-left = (omega arith, inl (loose inner_state 1 all (λ t. refl) all-finitely), apart)
+  where
+    apart : (u : ℕ) → u < 1 → (σ : ℕ → MlType Name) × Meets scope inner_state Finiteness σ × (σ u ≢ σ 1)
+    apart zero h = (types (type_of int), (refl, (λ h. absurd (omega (arith, h)), (λ h. absurd (omega (arith, h)), tt))), λ e. cc)
+    apart (suc u) h = absurd (omega (arith, h))
+
+inner-fates : (v : ℕ) → IsLeft scope inner_state v → IsFateOf scope inner_state 2 false v Keep
+unfolding replace_type IsFixed
+inner-fates zero l = (not-int inner_state 0 all (λ t. refl) all-finitely all-classes, inr (inl (λ σ τ m k same u. same 0 (omega arith))))
+inner-fates (suc zero) l = (not-int inner_state 1 all (λ t. refl) all-finitely all-classes, inr (inl (λ σ τ m k same u. same 1 (omega arith))))
+inner-fates (suc (suc zero)) l = let d = l.2 1 (omega arith) in absurd (d.2 (sym d.1.0))
+inner-fates (suc (suc (suc v))) l = absurd (omega (arith, l.0))
+
+pub inner-scheme : IsScheme scope inner_state 2 false (free 2) (mono (free 1))
+unfolding IsScheme StandsFor IsOfLeft replace_type close_as variables_after index_among
+inner-scheme = (free 1, (inner-left, λ σ m. sym m.0), λ _. Keep, inner-fates, refl)
+
+-- at the end of the outer one
+
+abbrev pub behind : State Place Name
+behind = record {
+  made = 3;
+  names = initial_names;
+  demands = equal (free 0) (arrow_of (free 1) (free 1)) ∷ asks (within Locality initial_names) (free 1) ∷ asks (within Newness initial_names) (free 2)
+      ∷ inner_state.demands;
+  window = no_window;
+}
+
+finitely : (t : MlType Name) → Meets scope behind Finiteness (types t)
+unfolding replace_type replace_types
+finitely t = (refl, (λ h. absurd (omega (arith, h)), (λ h. absurd (omega (arith, h)), (refl, (λ h. absurd (omega (arith, h)), (λ h. absurd (omega (arith, h)), tt))))))
+
+pub met : (k : Initial) → Meets scope behind Rigidity (types (type_of k))
+unfolding replace_type replace_types Mentions
+met k = (refl, (λ h. initial-within k, (λ h. initial-within k, (refl, (λ h. initial-within k, (λ h. (tt, (initial-within k, (initial-within k, tt))), tt))))))
+
+met-classes : (k : Initial) → Meets scope behind Classes (types (type_of k))
+unfolding replace_type replace_types Mentions
+met-classes k = (refl, (λ h. initial-within k, (λ h. initial-within k, (refl, (λ h. initial-within k, (λ h. (tt, (initial-within k, (initial-within k, tt))), tt))))))
+
+met-equality : (k : Initial) → Meets scope behind Equality (types (type_of k))
+unfolding replace_type replace_types Mentions
+met-equality k = (refl, (λ h. initial-within k, (λ h. initial-within k, (refl, (λ h. initial-within k, (λ h. (tt, (initial-within k, (initial-within k, tt))), tt))))))
+
+left : IsLeft scope behind 1
+left = (omega arith, inl (loose behind 1 types (λ t. refl) finitely), apart)
+  where
+    apart : (u : ℕ) → u < 1 → (σ : ℕ → MlType Name) × Meets scope behind Finiteness σ × (σ u ≢ σ 1)
+    apart zero h = (types (type_of int), finitely (type_of int), λ e. cc)
+    apart (suc u) h = absurd (omega (arith, h))
+
+fates : (v : ℕ) → IsLeft scope behind v → IsFateOf scope behind 0 false v (Bind false)
+unfolding replace_type replace_types
+fates zero l = absurd (settled scope behind (types (type_of int)) (finitely (type_of int)) 0 arrow (and_type (free 1) (and_type (free 1) no_type)) (λ ls e. cc) (λ τ m. m.0) l)
+fates (suc zero) l = is-bound behind 1 types (λ t. refl) finitely (met-classes string) (met-equality real)
+fates (suc (suc zero)) l = let d = l.2 1 (omega arith) in absurd (d.2 (sym d.1.1.1.1.0))
+fates (suc (suc (suc v))) l = absurd (omega (arith, l.0))
+
+pub scheme : IsScheme scope behind 0 false (free 0) identity_scheme
+unfolding IsScheme StandsFor IsOfLeft AreOfLeft replace_type replace_types close_as variables_after variables_after_all index_among
+scheme = (arrow_of (free 1) (free 1), ((left, (left, tt)), λ σ m. sym m.0), λ _. Bind false, fates, refl)

@@ -1,0 +1,7 @@
+pub mod Around
+pub mod Core
+pub mod Typing
+pub mod Phrases
+pub mod Modules
+pub mod Specifications
+pub mod Matches

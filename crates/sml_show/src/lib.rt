@@ -1,0 +1,8 @@
+// From the words of a command line to what is shown of a project, and a status.
+#![tactic(auto)]
+
+pub mod command_line;
+pub mod files;
+pub mod page;
+pub mod session;
+pub mod show;

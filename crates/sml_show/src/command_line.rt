@@ -10,6 +10,7 @@ use std::alloc::{AllocError, Global};
 pub struct Wish {
     pub types: bool,
     pub warnings: bool,
+    pub json: bool,
     pub is_colored: bool,
 }
 
@@ -89,6 +90,11 @@ fn command<'a>(alloc: Global) -> Result<Command<'a>, AllocError> {
             "warnings",
             "Prints the warnings of accepted declarations",
         ))?
+        .arg(flag(
+            alloc,
+            "json",
+            "Prints an object of JSON a line (docs/SHOW.md)",
+        ))?
         .arg(color_switch(alloc))?
         .arg(explain_switch(alloc))?
         .arg(project_word(alloc)?)
@@ -115,6 +121,7 @@ fn asked_of(alloc: Global, matches: &ArgMatches) -> Result<Asked, AllocError> {
     let wish = Wish {
         types: matches.get_flag("types"),
         warnings: matches.get_flag("warnings"),
+        json: matches.get_flag("json"),
         is_colored: matches.get_str("color") == Some("always"),
     };
     let path = matches.get_str("PROJECT").unwrap_or("");

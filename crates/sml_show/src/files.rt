@@ -2,7 +2,7 @@
 
 use sml_lex::fault::Memory;
 use sml_projects::manifest::{Manifest, ManifestFault, OrderFault, ProjectFault};
-use sml_projects::project::Project;
+use sml_projects::project::{Project, ProjectUnit};
 use sml_projects::project_file::manifest;
 use sml_reply::sink::OutFault;
 use sml_session::session::{Source, SourceFault};
@@ -68,6 +68,16 @@ impl From<OrderFault> for Stop {
 pub struct Listed {
     pub project: Project,
     pub files: Vec<String>,
+}
+
+impl Listed {
+    /// The file of a unit, as the project file has it.
+    pub fn file_of<'a>(&'a self, unit: &ProjectUnit) -> &'a str {
+        match self.files.get(unit.id.index as usize) {
+            Some(file) => file.as_str(),
+            None => "",
+        }
+    }
 }
 
 /// The project of a project file and the files of its units.

@@ -4,5 +4,7 @@
 pub mod command_line;
 pub mod files;
 pub mod page;
+pub mod records;
+pub mod replies;
 pub mod session;
 pub mod show;

@@ -4,17 +4,26 @@ use crate::command_line::Wish;
 use itoa::Buffer;
 use sml_lex::fault::Memory;
 use sml_shown::excerpt::push_excerpt;
+use sml_shown::refusals::Refusal;
 use sml_shown::remark::Remark;
 use sml_shown::spots::{Spot, in_file};
 use sml_shown::unit_map::UnitMap;
 
-/// A unit that is shown: its file, as the project file has it, its text, and where its declarations begin.
+/// A unit that is shown: its name, its file as the project file has it, and where its declarations begin.
 #[derive(Clone, Copy)]
 pub struct Page<'a> {
+    pub name: &'a str,
     pub file: &'a str,
-    pub unit: &'a [u8],
-    pub map: &'a UnitMap,
+    pub map: &'a UnitMap<'a>,
     pub wish: Wish,
+}
+
+/// A refused declaration that a fault follows from, and its file.
+#[derive(Clone, Copy)]
+pub struct Followed<'a> {
+    pub unit: &'a str,
+    pub file: &'a str,
+    pub refusal: Refusal,
 }
 
 /// What begins and ends what is printed in color.
@@ -29,19 +38,19 @@ pub fn push_number(text: &mut Vec<u8>, number: u64) -> Result<(), Memory> {
     Ok(())
 }
 
+/// `FILE:LINE:COL`
+pub fn push_spot(text: &mut Vec<u8>, file: &str, spot: Spot) -> Result<(), Memory> {
+    text.extend_from_slice(file.as_bytes())?;
+    text.push(b':')?;
+    push_number(text, spot.line)?;
+    text.push(b':')?;
+    push_number(text, spot.column)
+}
+
 impl Page<'_> {
     /// Where a place of the declaration of this number stands in the file.
     pub fn spot(&self, number: usize, remark: &Remark) -> Spot {
         in_file(self.map.declaration(number), remark.place)
-    }
-
-    /// `FILE:LINE:COL`
-    pub fn push_spot(&self, text: &mut Vec<u8>, spot: Spot) -> Result<(), Memory> {
-        text.extend_from_slice(self.file.as_bytes())?;
-        text.push(b':')?;
-        push_number(text, spot.line)?;
-        text.push(b':')?;
-        push_number(text, spot.column)
     }
 
     /// Bytes in color, where colors are wished for.
@@ -58,7 +67,7 @@ impl Page<'_> {
 
     /// The line `FILE:LINE:COL: CODE text`.
     pub fn push_head(&self, text: &mut Vec<u8>, spot: Spot, remark: &Remark) -> Result<(), Memory> {
-        self.push_spot(text, spot)?;
+        push_spot(text, self.file, spot)?;
         text.extend_from_slice(b": ")?;
         self.push_red(text, remark.code)?;
         text.push(b' ')?;
@@ -74,7 +83,7 @@ impl Page<'_> {
         spot: Spot,
         number: usize,
     ) -> Result<(), Memory> {
-        let line = self.map.line(self.unit, spot.line);
+        let line = self.map.line(spot.line);
         push_excerpt(text, line, spot.column)?;
         self.push_red(text, b"^")?;
         text.extend_from_slice(b" declaration ")?;
@@ -83,21 +92,36 @@ impl Page<'_> {
         Ok(())
     }
 
-    /// A fault or a warning of the declaration of this number, with the line of the file.
+    /// The line `  follows from declaration N (FILE:LINE:COL)`.
+    fn push_source(&self, text: &mut Vec<u8>, source: &Followed) -> Result<(), Memory> {
+        text.extend_from_slice(b"  follows from declaration ")?;
+        push_number(text, source.refusal.number as u64)?;
+        text.extend_from_slice(b" (")?;
+        push_spot(text, source.file, source.refusal.spot)?;
+        text.extend_from_slice(b")\n")?;
+        Ok(())
+    }
+
+    /// A fault or a warning of the declaration of this number, with the line of the file, or with the declaration that it
+    /// follows from.
     pub fn push_remark(
         &self,
         text: &mut Vec<u8>,
         number: usize,
         remark: &Remark,
+        source: Option<Followed>,
     ) -> Result<(), Memory> {
         let spot = self.spot(number, remark);
         self.push_head(text, spot, remark)?;
-        self.push_excerpt(text, spot, number)
+        match source {
+            Some(source) => self.push_source(text, &source),
+            None => self.push_excerpt(text, spot, number),
+        }
     }
 
     /// The line `FILE:LINE:COL: bound`.
     pub fn push_bound(&self, text: &mut Vec<u8>, number: usize) -> Result<(), Memory> {
-        self.push_spot(text, self.map.declaration(number))?;
+        push_spot(text, self.file, self.map.declaration(number))?;
         text.extend_from_slice(b": bound\n")?;
         Ok(())
     }

@@ -3,14 +3,14 @@
 use crate::command_line::Wish;
 use crate::files::Listed;
 use crate::page::{Page, push_number};
+use crate::replies::{Before, note_all, show_all};
 use sml_lex::fault::Memory;
+use sml_parse::parse::{Parsed, parse, release};
 use sml_projects::project::ProjectUnit;
-use sml_reply::form::{Form, Version};
-use sml_reply::reply::{Reply, print};
-use sml_reply::sink::VecOut;
-use sml_shown::remark::{cut, fault_in, warning_in};
+use sml_reply::reply::Reply;
+use sml_shown::refusals::Refusals;
 use sml_shown::unit_map::UnitMap;
-use sml_units::project::check;
+use sml_units::project::{UnitReplies, check};
 use std::alloc::Global;
 
 /// What is shown, and how many declarations were accepted and refused.
@@ -24,28 +24,60 @@ pub struct Shown {
 /// Checks a project, and shows its faults and what else is wished for.
 pub fn show(alloc: Global, listed: &Listed, wish: Wish) -> Result<Shown, Memory> {
     let checked = check(alloc, &listed.project)?;
+    let units = checked.replies().units.as_slice();
     let mut shown = Shown {
         text: Vec::new(alloc),
         accepted: 0,
         refused: 0,
     };
-    let replies = checked.replies().units.as_slice();
-    for (index, unit) in listed.project.units.iter().enumerate() {
-        if let Some(answered) = replies.get(index) {
-            let file = file_of(listed, unit);
-            show_unit(alloc, file, unit, &answered.replies, wish, &mut shown)?;
-        }
+    for unit in units {
+        count(&unit.replies, &mut shown);
     }
-    push_counts(&mut shown)?;
+    show_units(alloc, listed, units, wish, &mut shown)?;
+    if !wish.json {
+        push_counts(&mut shown)?;
+    }
     Ok(shown)
 }
 
-/// The file of a unit, as the project file has it.
-fn file_of<'a>(listed: &'a Listed, unit: &ProjectUnit) -> &'a str {
-    match listed.files.get(unit.id.index as usize) {
-        Some(file) => file.as_str(),
-        None => "",
+/// Counts the replies.
+fn count(replies: &[Reply], shown: &mut Shown) {
+    for reply in replies {
+        if reply.is_accepted() {
+            shown.accepted = shown.accepted.saturating_add(1);
+        } else {
+            shown.refused = shown.refused.saturating_add(1);
+        }
     }
+}
+
+/// Shows the units in order.
+fn show_units(
+    alloc: Global,
+    listed: &Listed,
+    units: &[UnitReplies],
+    wish: Wish,
+    shown: &mut Shown,
+) -> Result<(), Memory> {
+    let are_traced = shown.refused > 0;
+    let mut known = Vec::new(alloc);
+    for (index, unit) in listed.project.units.iter().enumerate() {
+        let own = match units.get(index) {
+            Some(answered) => show_unit(
+                alloc,
+                listed,
+                unit,
+                &answered.replies,
+                &known,
+                wish,
+                are_traced,
+                &mut shown.text,
+            )?,
+            None => Refusals::new(alloc),
+        };
+        known.push(own)?;
+    }
+    Ok(())
 }
 
 /// The line that says how many declarations were accepted and refused.
@@ -58,113 +90,58 @@ fn push_counts(shown: &mut Shown) -> Result<(), Memory> {
 }
 
 /// Whether something is shown of a reply.
-fn is_shown(reply: &Reply, wish: Wish) -> bool {
+pub fn is_shown(reply: &Reply, wish: Wish) -> bool {
     !reply.is_accepted() || wish.types || (wish.warnings && !reply.warnings().is_empty())
 }
 
-/// Counts the replies, and says whether something is shown of one of them.
-fn count(replies: &[Reply], wish: Wish, shown: &mut Shown) -> bool {
-    let mut is_any = false;
+/// Whether something is shown of one of the replies.
+fn is_any_shown(replies: &[Reply], wish: Wish) -> bool {
     for reply in replies {
-        if reply.is_accepted() {
-            shown.accepted = shown.accepted.saturating_add(1);
-        } else {
-            shown.refused = shown.refused.saturating_add(1);
-        }
         if is_shown(reply, wish) {
-            is_any = true;
+            return true;
         }
     }
-    is_any
+    false
 }
 
-/// Shows the replies to a unit's declarations.
+/// Shows the replies to a unit's declarations. Where some declaration of the project was refused, what this unit's bind is
+/// noted.
 fn show_unit(
     alloc: Global,
-    file: &str,
+    listed: &Listed,
     unit: &ProjectUnit,
     replies: &[Reply],
+    known: &[Refusals],
     wish: Wish,
-    shown: &mut Shown,
-) -> Result<(), Memory> {
-    if !count(replies, wish, shown) {
-        return Ok(());
+    are_traced: bool,
+    text: &mut Vec<u8>,
+) -> Result<Refusals, Memory> {
+    if !are_traced && !is_any_shown(replies, wish) {
+        return Ok(Refusals::new(alloc));
     }
     let map = UnitMap::new(alloc, &unit.text)?;
     let page = Page {
-        file,
-        unit: &unit.text,
+        name: &unit.name,
+        file: listed.file_of(unit),
         map: &map,
         wish,
     };
-    for (index, reply) in replies.iter().enumerate() {
-        if is_shown(reply, wish) {
-            show_reply(
-                alloc,
-                &page,
-                index.saturating_add(1),
-                reply,
-                &mut shown.text,
-            )?;
-        }
-    }
-    Ok(())
-}
-
-/// Shows the reply to the declaration of this number.
-fn show_reply(
-    alloc: Global,
-    page: &Page,
-    number: usize,
-    reply: &Reply,
-    text: &mut Vec<u8>,
-) -> Result<(), Memory> {
-    let form = Form {
-        version: Version::Two,
-        warnings: page.wish.warnings,
+    let before = Before {
+        listed,
+        needs: &unit.needs,
+        known,
     };
-    let mut printed = VecOut::new(alloc);
-    if print(reply, form, &mut printed).is_err() {
-        return Err(Memory);
+    if !are_traced {
+        let none = Refusals::new(alloc);
+        show_all(alloc, &page, &before, &none, replies, text)?;
+        return Ok(none);
     }
-    let Some((first, rest)) = cut(printed.bytes(), b'\n') else {
-        return Ok(());
-    };
-    match fault_in(first) {
-        Some(remark) => page.push_remark(text, number, &remark),
-        None => show_accepted(page, number, rest, text),
-    }
-}
-
-/// Shows these lines of the reply to an accepted declaration.
-fn show_accepted(
-    page: &Page,
-    number: usize,
-    lines: &[u8],
-    text: &mut Vec<u8>,
-) -> Result<(), Memory> {
-    if page.wish.types {
-        page.push_bound(text, number)?;
-    }
-    let mut rest = lines;
-    for _turn in 0..lines.len() {
-        let Some((line, others)) = cut(rest, b'\n') else {
-            return Ok(());
-        };
-        show_line(page, number, line, text)?;
-        rest = others;
-    }
-    Ok(())
-}
-
-/// Shows a line of the reply to an accepted declaration: what it binds, or a warning.
-fn show_line(page: &Page, number: usize, line: &[u8], text: &mut Vec<u8>) -> Result<(), Memory> {
-    if let Some(remark) = warning_in(line) {
-        return page.push_remark(text, number, &remark);
-    }
-    if page.wish.types {
-        text.extend_from_slice(line)?;
-        text.push(b'\n')?;
-    }
-    Ok(())
+    let Parsed {
+        declarations,
+        piece,
+        fault: _,
+    } = parse(alloc, &map.lexed)?;
+    let own = note_all(alloc, &page, &before, replies, &declarations, text);
+    release(declarations, piece);
+    own
 }

@@ -2,6 +2,7 @@
 
 ghost use Rattle.std.specs.Prelude.{◌<◌, ◌≡◌};
 
+use crate::remark::cut;
 use crate::spots::Spot;
 use sml_flaws::flawed::begins_at;
 use sml_lex::fault::Memory;
@@ -12,12 +13,12 @@ use sml_read::grammar::Node;
 use sml_read::read::read;
 use std::alloc::Global;
 
-/// Where the lines of a unit begin, its tokens, where its whole declarations begin, and where what is left after them
+/// A unit with its tokens, where its lines begin, where its whole declarations begin, and where what is left after them
 /// begins.
 #[derive(Drop)]
-pub struct UnitMap {
+pub struct UnitMap<'a> {
+    pub lexed: Lexed<'a>,
     lines: Vec<usize>,
-    tokens: Vec<Token>,
     starts: Vec<usize>,
     left: usize,
 }
@@ -72,17 +73,17 @@ fn count_up_to(numbers: &[usize], most: usize) -> usize {
     }
 }
 
-impl UnitMap {
+impl<'a> UnitMap<'a> {
     /// The map of a unit.
-    pub fn new(alloc: Global, unit: &[u8]) -> Result<UnitMap, Memory> {
+    pub fn new(alloc: Global, unit: &'a [u8]) -> Result<UnitMap<'a>, Memory> {
         let lexed = lex(alloc, unit)?;
         let full = read(alloc, &lexed)?;
         let starts = declaration_starts(alloc, &lexed.tokens, &full.nodes)?;
         let left = start_or_end(&lexed, full.begun);
         let lines = line_starts(alloc, unit)?;
         Ok(UnitMap {
+            lexed,
             lines,
-            tokens: lexed.tokens,
             starts,
             left,
         })
@@ -120,33 +121,36 @@ impl UnitMap {
         self.spot(at)
     }
 
-    /// The bytes of a line, without its end.
-    pub fn line<'a>(&self, unit: &'a [u8], line: u64) -> &'a [u8] {
-        let from = self.line_start(line).min(unit.len());
-        let rest = &unit[from..];
-        for i in 0..rest.len() {
-            if rest[i] == b'\n' || rest[i] == b'\r' {
-                return &rest[..i];
-            }
+    /// The bytes of a line, without its end, and without a carriage return before that.
+    pub fn line(&self, line: u64) -> &'a [u8] {
+        let unit = self.lexed.unit;
+        let rest = &unit[self.line_start(line).min(unit.len())..];
+        let line = match cut(rest, b'\n') {
+            Some((line, _)) => line,
+            None => rest,
+        };
+        match line.split_last() {
+            Some((b'\r', before)) => before,
+            _ => line,
         }
-        rest
     }
 
     /// The token that begins at this byte.
     fn token_at(&self, at: usize) -> Option<Span> {
-        let found = self
-            .tokens
-            .binary_search_by(|token| token.span.start.cmp(&at));
-        match found {
-            Ok(index) => self.tokens.get(index).map(|token| token.span),
+        let tokens = self.lexed.tokens.as_slice();
+        match tokens.binary_search_by(|token| token.span.start.cmp(&at)) {
+            Ok(index) => match tokens.get(index) {
+                Some(token) => Some(token.span),
+                None => None,
+            },
             Err(_) => None,
         }
     }
 
     /// The column after the token that begins at this place, or after the byte there where none does; no column lies past
     /// the line's end.
-    pub fn end_column(&self, unit: &[u8], spot: Spot) -> u64 {
-        let line = self.line(unit, spot.line).len() as u64;
+    pub fn end_column(&self, spot: Spot) -> u64 {
+        let line = self.line(spot.line).len() as u64;
         let column = usize::try_from(spot.column.saturating_sub(1)).unwrap_or(0);
         let at = self.line_start(spot.line).saturating_add(column);
         let size = match self.token_at(at) {

@@ -106,12 +106,12 @@ fn is_any_shown(replies: &[Reply], wish: Wish) -> bool {
 
 /// Shows the replies to a unit's declarations. Where some declaration of the project was refused, what this unit's bind is
 /// noted.
-fn show_unit(
+fn show_unit<'a>(
     alloc: Global,
-    listed: &Listed,
-    unit: &ProjectUnit,
+    listed: &'a Listed,
+    unit: &'a ProjectUnit,
     replies: &[Reply],
-    known: &[Refusals],
+    known: &'a [Refusals],
     wish: Wish,
     are_traced: bool,
     text: &mut Vec<u8>,

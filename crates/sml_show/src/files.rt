@@ -1,0 +1,144 @@
+//! The project of a project file, with the files of its units.
+
+use sml_lex::fault::Memory;
+use sml_projects::manifest::{Manifest, ManifestFault, OrderFault, ProjectFault};
+use sml_projects::project::{Project, ProjectUnit};
+use sml_projects::project_file::manifest;
+use sml_reply::sink::OutFault;
+use sml_session::session::{Source, SourceFault};
+use std::alloc::{AllocError, AllocFailed, Global};
+
+/// One byte more than the greatest unit and the greatest project file have.
+const MOST_BYTES: usize = 1_048_577;
+
+/// Why a session ends early.
+#[derive(Drop)]
+pub enum Stop {
+    Project(ProjectFault),
+    Unreadable(String),
+    Code(String),
+    Write,
+    Memory,
+}
+
+impl From<AllocError> for Stop {
+    fn from(_error: AllocError) -> Stop {
+        Stop::Memory
+    }
+}
+
+impl<T: Drop> From<AllocFailed<T>> for Stop {
+    fn from(_error: AllocFailed<T>) -> Stop {
+        Stop::Memory
+    }
+}
+
+impl From<Memory> for Stop {
+    fn from(_memory: Memory) -> Stop {
+        Stop::Memory
+    }
+}
+
+impl From<OutFault> for Stop {
+    fn from(_fault: OutFault) -> Stop {
+        Stop::Write
+    }
+}
+
+impl From<ManifestFault> for Stop {
+    fn from(fault: ManifestFault) -> Stop {
+        match fault {
+            ManifestFault::Memory => Stop::Memory,
+            ManifestFault::Fault(fault) => Stop::Project(fault),
+        }
+    }
+}
+
+impl From<OrderFault> for Stop {
+    fn from(fault: OrderFault) -> Stop {
+        match fault {
+            OrderFault::Memory => Stop::Memory,
+            OrderFault::Fault(fault) => Stop::Project(fault),
+        }
+    }
+}
+
+/// A project, and the files of its units as the project file has them, in the order listed.
+#[derive(Drop)]
+pub struct Listed {
+    pub project: Project,
+    pub files: Vec<String>,
+}
+
+impl Listed {
+    /// The file of a unit, as the project file has it.
+    pub fn file_of<'a>(&'a self, unit: &ProjectUnit) -> &'a str {
+        match self.files.get(unit.id.index as usize) {
+            Some(file) => file.as_str(),
+            None => "",
+        }
+    }
+}
+
+/// The project of a project file and the files of its units.
+pub fn read_project<S: Source>(alloc: Global, source: &mut S, path: &str) -> Result<Listed, Stop> {
+    let text = read(alloc, source, path, path)?;
+    let manifest = manifest(alloc, &text)?;
+    let files = files_of(alloc, &manifest)?;
+    let texts = read_units(alloc, source, path, &files)?;
+    let project = Project::new(alloc, manifest, texts)?;
+    Ok(Listed { project, files })
+}
+
+fn files_of(alloc: Global, manifest: &Manifest) -> Result<Vec<String>, Memory> {
+    let mut files = Vec::new(alloc);
+    for file in manifest.files() {
+        files.push(file.clone()?)?;
+    }
+    Ok(files)
+}
+
+/// The bytes of a file; where it can't be read, its name as it was written.
+fn read<S: Source>(
+    alloc: Global,
+    source: &mut S,
+    path: &str,
+    written: &str,
+) -> Result<Vec<u8>, Stop> {
+    match source.read(alloc, path, MOST_BYTES) {
+        Ok(bytes) => Ok(bytes),
+        Err(SourceFault::Memory) => Err(Stop::Memory),
+        Err(SourceFault::Unreadable) => Err(Stop::Unreadable(String::from_str(alloc, written)?)),
+    }
+}
+
+/// The texts of the units, in the order listed.
+fn read_units<S: Source>(
+    alloc: Global,
+    source: &mut S,
+    project: &str,
+    files: &[String],
+) -> Result<Vec<Vec<u8>>, Stop> {
+    let mut texts = Vec::new(alloc);
+    for file in files {
+        let path = unit_path(alloc, project, file)?;
+        let text = read(alloc, source, &path, file)?;
+        if texts.push(text).is_err() {
+            return Err(Stop::Memory);
+        }
+    }
+    Ok(texts)
+}
+
+/// A file that starts with `/`, or else one in the folder of the project file.
+fn unit_path(alloc: Global, project: &str, file: &str) -> Result<String, AllocError> {
+    let mut path = String::new(alloc);
+    if !file.starts_with('/') {
+        if let Some((folder, _)) = project.rsplit_once('/') {
+            path.push_str(folder)?;
+            path.push('/')?;
+        }
+    }
+    path.push_str(file)?;
+    Ok(path)
+}

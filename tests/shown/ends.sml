@@ -1,0 +1,2 @@
+(* the unit ends within a declaration *)
+val x =

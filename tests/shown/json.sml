@@ -1,0 +1,3 @@
+val x = y
+  val z = x
+fun head (first :: _) = first

@@ -1,0 +1,3 @@
+val x = 1
+val y =
+	then 2

@@ -1,0 +1,13 @@
+val y = S.x
+structure T : ORDER = struct end
+structure U = F (struct end)
+val z = twice 2
+val v = (c, b)
+val w = B : t
+fun f (x : t) = x
+val e = Bad
+val k = (kept, again)
+val y = S.y
+val own = unknown
+structure again = struct end
+val z = again.x

@@ -1,6 +1,7 @@
 //! Structures with signatures (the Definition, section 5.7, rules 52 and 53).
 
 use crate::enrich::enriches;
+use crate::mismatch::placed;
 use crate::realise::realise;
 use sml_bases::objects::{Env, Sig};
 use sml_envs::canonical::renamed_sig;
@@ -26,10 +27,10 @@ pub fn ascribed(
     ascription: Ascription,
     place: Place,
 ) -> Result<Rc<Env>, CoreFault> {
-    let realisation = realise(alloc, sig, env, place)?;
+    let realisation = placed(realise(alloc, sig, env), place)?;
     small_env_under(alloc, place, &sig.env, &realisation)?;
     let realised = mapped_env(alloc, &sig.env, &realisation)?;
-    enriches(alloc, env, &realised, solver, place)?;
+    placed(enriches(alloc, env, &realised, solver), place)?;
     match ascription {
         Ascription::Transparent => Ok(realised),
         Ascription::Opaque => {

@@ -1,18 +1,18 @@
 //! Whether an environment has what another one specifies (the Definition, section 5.5).
 
 use crate::general::is_general;
+use crate::mismatch::Mismatch;
 use crate::way::Way;
 use sml_bases::objects::{Env, Status, TypeStr, Value};
 use sml_envs::comparisons::{same_constructors, same_function};
-use sml_lex::fault::{Code, Place};
+use sml_lex::fault::Code;
 use sml_solve::solver::Solver;
 use sml_tree::bare::Ident;
-use sml_types::fault::CoreFault;
 use std::alloc::Global;
 use std::collections::BTreeMap;
 use std::rc::Rc;
 
-/// That the environment of a structure enriches a realised one of a signature, or M1, M2, or M4 to M7 at the place. The
+/// That the environment of a structure enriches a realised one of a signature, or M1, M2, or M4 to M7. The
 /// free variables of the structure's schemes are unknowns of the solver, which may be settled by that; after a fault the solver
 /// is spent.
 pub fn enriches(
@@ -20,9 +20,8 @@ pub fn enriches(
     env: &Env,
     specified: &Env,
     solver: &mut Solver,
-    place: Place,
-) -> Result<(), CoreFault> {
-    let mut way = Way::new(alloc, place);
+) -> Result<(), Mismatch> {
+    let mut way = Way::new(alloc);
     match env_enriches(&mut way, solver, env, specified) {
         Ok(()) => Ok(()),
         Err(fault) => {
@@ -38,7 +37,7 @@ fn env_enriches(
     solver: &mut Solver,
     env: &Env,
     specified: &Env,
-) -> Result<(), CoreFault> {
+) -> Result<(), Mismatch> {
     structures_enrich(way, solver, env, &specified.structures)?;
     types_enrich(way, env, &specified.types)?;
     values_enrich(way, solver, env, &specified.values)
@@ -51,7 +50,7 @@ fn structures_enrich(
     solver: &mut Solver,
     env: &Env,
     specified: &BTreeMap<Ident, Rc<Env>>,
-) -> Result<(), CoreFault> {
+) -> Result<(), Mismatch> {
     for (name, structure) in specified {
         way.enter(name)?;
         match env.structures.get(name) {
@@ -68,7 +67,7 @@ fn types_enrich(
     way: &mut Way,
     env: &Env,
     specified: &BTreeMap<Ident, TypeStr>,
-) -> Result<(), CoreFault> {
+) -> Result<(), Mismatch> {
     for (name, ty) in specified {
         way.enter(name)?;
         match env.types.get(name) {
@@ -80,7 +79,7 @@ fn types_enrich(
     Ok(())
 }
 
-fn type_enriches(way: &Way, ty: &TypeStr, specified: &TypeStr) -> Result<(), CoreFault> {
+fn type_enriches(way: &Way, ty: &TypeStr, specified: &TypeStr) -> Result<(), Mismatch> {
     if ty.function.variables.len() != specified.function.variables.len() {
         return Err(way.fault(Code::M2)?);
     }
@@ -101,7 +100,7 @@ fn values_enrich(
     solver: &mut Solver,
     env: &Env,
     specified: &BTreeMap<Ident, Value>,
-) -> Result<(), CoreFault> {
+) -> Result<(), Mismatch> {
     for (name, value) in specified {
         way.enter(name)?;
         match env.values.get(name) {
@@ -118,7 +117,7 @@ fn value_enriches(
     solver: &mut Solver,
     value: &Value,
     specified: &Value,
-) -> Result<(), CoreFault> {
+) -> Result<(), Mismatch> {
     if !serves_as(value.status, specified.status) {
         return Err(way.fault(Code::M7)?);
     }

@@ -4,5 +4,6 @@
 pub mod ascribe;
 pub mod enrich;
 mod general;
+pub mod mismatch;
 pub mod realise;
 mod way;

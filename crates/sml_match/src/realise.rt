@@ -1,33 +1,28 @@
 //! The type functions of a structure for the names that a signature binds (the Definition, sections 5.4 and 5.6).
 
+use crate::mismatch::Mismatch;
 use crate::way::Way;
 use indexmap::IndexSet;
 use sml_bases::objects::{Env, Sig, TypeStr};
 use sml_envs::functions::{admits_equality, name_of};
 use sml_envs::realisation::Realisation;
-use sml_lex::fault::{Code, Place};
+use sml_lex::fault::Code;
 use sml_objects::equality::has_equality;
 use sml_objects::objects::{Scheme, TyName};
 use sml_tree::bare::Ident;
-use sml_types::fault::CoreFault;
 use std::alloc::Global;
 use std::collections::BTreeMap;
 use std::rc::Rc;
 
 /// The type functions of a structure for the names that a signature binds, each at its first path in the order of the
-/// environment's lines, or M1, M2 or M3 at the place.
-pub fn realise(
-    alloc: Global,
-    sig: &Sig,
-    env: &Env,
-    place: Place,
-) -> Result<Realisation, CoreFault> {
+/// environment's lines, or M1, M2 or M3.
+pub fn realise(alloc: Global, sig: &Sig, env: &Env) -> Result<Realisation, Mismatch> {
     let mut bound = IndexSet::new(alloc);
     for name in &sig.names {
         bound.insert(*name)?;
     }
     let mut search = Search {
-        way: Way::new(alloc, place),
+        way: Way::new(alloc),
         bound,
         realisation: Realisation::new(alloc),
     };
@@ -53,7 +48,7 @@ enum Held<'a> {
 }
 
 #[cycle(realise)]
-fn realise_env(search: &mut Search, specified: &Env, held: Held<'_>) -> Result<(), CoreFault> {
+fn realise_env(search: &mut Search, specified: &Env, held: Held<'_>) -> Result<(), Mismatch> {
     realise_structures(search, &specified.structures, held)?;
     realise_types(search, &specified.types, held)
 }
@@ -64,7 +59,7 @@ fn realise_structures(
     search: &mut Search,
     specified: &BTreeMap<Ident, Rc<Env>>,
     held: Held<'_>,
-) -> Result<(), CoreFault> {
+) -> Result<(), Mismatch> {
     for (name, structure) in specified {
         search.way.enter(name)?;
         let inner = structure_in(held, name, search.way.length());
@@ -90,7 +85,7 @@ fn realise_types(
     search: &mut Search,
     specified: &BTreeMap<Ident, TypeStr>,
     held: Held<'_>,
-) -> Result<(), CoreFault> {
+) -> Result<(), Mismatch> {
     for (name, ty) in specified {
         if let Some(bound) = search.next_name(&ty.function) {
             search.way.enter(name)?;
@@ -121,7 +116,7 @@ fn function_in(
     bound: TyName,
     held: Held<'_>,
     name: &Ident,
-) -> Result<Rc<Scheme>, CoreFault> {
+) -> Result<Rc<Scheme>, Mismatch> {
     let env = match held {
         Held::Missing(length) => return Err(search.way.fault_before(Code::M1, length)?),
         Held::Env(env) => env,

@@ -1,24 +1,22 @@
 //! The way to a component of a signature, for the faults that speak of it.
 
-use sml_lex::fault::{Code, Memory, Place};
+use crate::mismatch::Mismatch;
+use sml_lex::fault::{Code, Memory};
 use sml_tree::bare::Ident;
-use sml_types::fault::{CoreFault, fault_about};
 use sml_types::scope::dotted_text;
 use std::alloc::Global;
 
-/// The identifiers from the signature to the component at hand, and the place of its faults.
+/// The identifiers from the signature to the component at hand.
 #[derive(Drop)]
 pub(crate) struct Way {
     pub alloc: Global,
-    place: Place,
     idents: Vec<Ident>,
 }
 
 impl Way {
-    pub(crate) fn new(alloc: Global, place: Place) -> Way {
+    pub(crate) fn new(alloc: Global) -> Way {
         Way {
             alloc,
-            place,
             idents: Vec::new(alloc),
         }
     }
@@ -38,14 +36,14 @@ impl Way {
     }
 
     /// The fault of the component.
-    pub(crate) fn fault(&self, code: Code) -> Result<CoreFault, Memory> {
+    pub(crate) fn fault(&self, code: Code) -> Result<Mismatch, Memory> {
         self.fault_before(code, self.idents.len())
     }
 
     /// The fault of the component so many identifiers from the signature.
-    pub(crate) fn fault_before(&self, code: Code, length: usize) -> Result<CoreFault, Memory> {
+    pub(crate) fn fault_before(&self, code: Code, length: usize) -> Result<Mismatch, Memory> {
         let length = length.min(self.idents.len());
         let path = dotted_text(self.alloc, &self.idents[..length])?;
-        Ok(fault_about(code, self.place, path))
+        Ok(Mismatch::Fault(code, path))
     }
 }

@@ -8,6 +8,7 @@ use sml_envs::canonical::{applied_result, names_from};
 use sml_envs::mapping::mapped_env;
 use sml_lex::fault::{Code, Place};
 use sml_match::enrich::enriches;
+use sml_match::mismatch::placed;
 use sml_match::realise::realise;
 use sml_sigs::sigs::signature;
 use sml_tree::names::Name;
@@ -36,10 +37,13 @@ pub(crate) fn applied(
     argument: &Rc<Env>,
 ) -> Result<Rc<Env>, CoreFault> {
     let alloc = context.alloc;
-    let realisation = realise(alloc, &functor.argument, argument, place)?;
+    let realisation = placed(realise(alloc, &functor.argument, argument), place)?;
     small_env_under(alloc, place, &functor.argument.env, &realisation)?;
     let wanted = mapped_env(alloc, &functor.argument.env, &realisation)?;
-    enriches(alloc, argument, &wanted, &mut context.solver, place)?;
+    placed(
+        enriches(alloc, argument, &wanted, &mut context.solver),
+        place,
+    )?;
     small_env_under(alloc, place, &functor.result.env, &realisation)?;
     Ok(applied_result(alloc, functor, &realisation, &mut context.new)?)
 }

@@ -9,8 +9,8 @@ use Rattle.sml_layers.specs.Demands.{CanBeMet}
 use Rattle.sml_rules.specs.Answers.{Answer, accepted}
 use Rattle.sml_rules.proofs.Settled.{outside-right}
 use Rattle.sml_rules.proofs.Sound.{accepted_same, not_refused}
-use Rattle.sml_core_rules.specs.States.{Scope, State, words, with_unknowns, with_made, with_demand, with_window}
-use Rattle.sml_core_rules.specs.Scripts.{Script, give, refuse, tests, either, makes_unknowns, requires, sees, sets_window, requires_or, closes, determines, makes_names, makes_datatypes, ◌>>=◌, IsAnswer}
+use Rattle.sml_core_rules.specs.States.{Scope, State, words, with_unknowns, with_made, with_demand, with_window, opened, afresh}
+use Rattle.sml_core_rules.specs.Scripts.{Script, give, refuse, tests, either, makes_unknowns, requires, sees, sets_window, stays_open, starts_anew, requires_or, closes, determines, makes_names, makes_datatypes, ◌>>=◌, IsAnswer}
 
 module _ {P N : Type 0} (scope : Scope N) where
   pub given : {X : Type 0} (x : X) (s : State P N) (r : X × State P N) → IsAnswer scope (give x) s (accepted r) → r.0 ≡ x
@@ -39,6 +39,8 @@ module _ {P N : Type 0} (scope : Scope N) where
   bind-accepted (requires d p k) f s r (inr h) = absurd (not_refused h.2)
   bind-accepted (sees k) f s r h = bind-accepted (k s) f s r h
   bind-accepted (sets_window w k) f s r h = bind-accepted k f (with_window w s) r h
+  bind-accepted (stays_open k) f s r h = bind-accepted k f (opened s) r h
+  bind-accepted (starts_anew k) f s r h = bind-accepted k f (afresh s) r h
   bind-accepted (requires_or d e k) f s r (inl (c, h)) = let a = bind-accepted k f (with_demand d s) r h in (a.0, inl (c, a.1), a.2)
   bind-accepted (requires_or d e k) f s r (inr h) = absurd (not_refused h.1)
   bind-accepted (closes n x t k) f s r (σ, c, h) = let a = bind-accepted (k σ) f s r h in (a.0, (σ, c, a.1), a.2)
@@ -62,6 +64,8 @@ module _ {P N : Type 0} (scope : Scope N) where
   bind-joined (requires d p m) f s q o (inr h) k = absurd (not_refused h.2)
   bind-joined (sees m) f s q o h k = bind-joined (m s) f s q o h k
   bind-joined (sets_window w m) f s q o h k = bind-joined m f (with_window w s) q o h k
+  bind-joined (stays_open m) f s q o h k = bind-joined m f (opened s) q o h k
+  bind-joined (starts_anew m) f s q o h k = bind-joined m f (afresh s) q o h k
   bind-joined (requires_or d e m) f s q o (inl (c, h)) k = inl (c, bind-joined m f (with_demand d s) q o h k)
   bind-joined (requires_or d e m) f s q o (inr h) k = absurd (not_refused h.1)
   bind-joined (closes n x t m) f s q o (σ, c, h) k = (σ, c, bind-joined (m σ) f s q o h k)
@@ -91,6 +95,14 @@ module _ {P N : Type 0} (scope : Scope N) where
   kept-made : (ns : List N) (s : State P N) → Kept s (with_made ns s)
   kept-made ns s = record { met = λ m. m; added = (ns, refl) }
 
+  -- where nothing is asked, or what was, all can be met
+  pub met-afresh : (s : State P N) → CanBeMet (words scope) Rigidity s.demands → CanBeMet (words scope) Rigidity (afresh s).demands
+  met-afresh s m = go s.is_open
+    where
+      go : (b : Bool) → CanBeMet (words scope) Rigidity (cond b s.demands [])
+      go true = m
+      go false = (m.0, tt)
+
   pub kept : {X : Type 0} (k : Script P N X) (s : State P N) (r : X × State P N) → IsAnswer scope k s (accepted r) → Kept s r.1
   unfolding IsAnswer
   kept (give x) s r h = kept-same s r.1 (ap (λ q. q.1) (accepted_same h))
@@ -104,6 +116,8 @@ module _ {P N : Type 0} (scope : Scope N) where
   kept (requires d p k) s r (inr h) = absurd (not_refused h.2)
   kept (sees k) s r h = kept (k s) s r h
   kept (sets_window w k) s r h = kept-after s (with_window w s) r.1 (record { met = λ m. m; added = ([], refl) }) (kept k (with_window w s) r h)
+  kept (stays_open k) s r h = kept-after s (opened s) r.1 (record { met = λ m. m; added = ([], refl) }) (kept k (opened s) r h)
+  kept (starts_anew k) s r h = kept-after s (afresh s) r.1 (record { met = met-afresh s; added = ([], refl) }) (kept k (afresh s) r h)
   kept (requires_or d e k) s r (inl (c, h)) = kept-after s (with_demand d s) r.1 (record { met = λ m. c; added = ([], refl) }) (kept k (with_demand d s) r h)
   kept (requires_or d e k) s r (inr h) = absurd (not_refused h.1)
   kept (closes n x t k) s r (σ, c, h) = kept (k σ) s r h

@@ -18,10 +18,11 @@ use Rattle.sml_lex.specs.Faults.{Fault}
 use Rattle.sml_objects.proofs.Standing.{left, right}
 use Rattle.sml_rules.specs.Answers.{Answer, refused, accepted, fault}
 use Rattle.sml_core_rules.specs.Objects.{Env, names_env, empty}
-use Rattle.sml_core_rules.specs.States.{Scope, State, words, AreMade, with_unknowns, with_made, with_demand, with_window}
+use Rattle.sml_core_rules.specs.States.{Scope, State, words, AreMade, with_unknowns, with_made, with_demand, with_window, opened, afresh}
 use Rattle.sml_core_rules.specs.Solutions.{Meets, IsScheme, IsAlways}
 use Rattle.sml_core_rules.specs.Datatypes.{Arguments, AreNew, AdmitAsManyAsCan, has_equality, with_names, arguments_of}
-use Rattle.sml_core_rules.specs.Scripts.{Script, give, refuse, tests, either, makes_unknowns, requires, sees, sets_window, requires_or, closes, determines, makes_names, makes_datatypes, IsAnswer}
+use Rattle.sml_core_rules.specs.Scripts.{Script, give, refuse, tests, either, makes_unknowns, requires, sees, sets_window, stays_open, starts_anew, requires_or, closes, determines, makes_names, makes_datatypes, IsAnswer}
+use Rattle.sml_core_rules.proofs.Accepted.{met-afresh}
 use Rattle.sml_core_rules.proofs.Along.{Become, become-list, become-left, become-right, become-known}
 use Rattle.sml_core_rules.proofs.Flags.{value_of, same-fault, not-both, becomes, become-others, follows, equal-lists, equal-kinds, new-count, same-count}
 use Rattle.sml_core_rules.proofs.Lower.{lower, can-lower, one-layer}
@@ -49,6 +50,8 @@ module _ {P N X : Type 0} where
   next c (requires d p k) s = k
   next c (sees k) s = k s
   next c (sets_window w k) s = k
+  next c (stays_open k) s = k
+  next c (starts_anew k) s = k
   next c (requires_or d f k) s = k
   next c (closes n x t k) s = k c.scheme
   next c (determines t f k) s = k c.type
@@ -64,6 +67,8 @@ module _ {P N X : Type 0} where
   later c (requires d p k) s = with_demand d s
   later c (sees k) s = s
   later c (sets_window w k) s = with_window w s
+  later c (stays_open k) s = opened s
+  later c (starts_anew k) s = afresh s
   later c (requires_or d f k) s = with_demand d s
   later c (closes n x t k) s = s
   later c (determines t f k) s = s
@@ -81,6 +86,8 @@ module _ {P N X : Type 0} where
   closing (requires d p k) = (0, false, free 0)
   closing (sees k) = (0, false, free 0)
   closing (sets_window w k) = (0, false, free 0)
+  closing (stays_open k) = (0, false, free 0)
+  closing (starts_anew k) = (0, false, free 0)
   closing (requires_or d f k) = (0, false, free 0)
   closing (closes n x t k) = (n, x, t)
   closing (determines t f k) = (0, false, t)
@@ -96,6 +103,8 @@ module _ {P N X : Type 0} where
   making (requires d p k) = (empty, [])
   making (sees k) = (empty, [])
   making (sets_window w k) = (empty, [])
+  making (stays_open k) = (empty, [])
+  making (starts_anew k) = (empty, [])
   making (requires_or d f k) = (empty, [])
   making (closes n x t k) = (empty, [])
   making (determines t f k) = (empty, [])
@@ -306,6 +315,17 @@ module _ {P : Type 0} (F : Type 0 → Type 0) {N : Type 0} (scope : Scope N) (fa
   agree (sets_window w k) s h o q a b =
       agree k (with_window w s)
       (record { script = λ p u v i. next nothing (h.script p u v i) (h.state p u v i); state = λ p u v i. later nothing (h.script p u v i) (h.state p u v i); initials = h.initials; met = h.met }) o q a b
+  agree (stays_open k) s h o q a b =
+      agree k (opened s)
+      (record { script = λ p u v i. next nothing (h.script p u v i) (h.state p u v i); state = λ p u v i. later nothing (h.script p u v i) (h.state p u v i); initials = h.initials; met = h.met }) o q a b
+  agree (starts_anew k) s h o q a b =
+      agree k (afresh s)
+      (record {
+        script = λ p u v i. next nothing (h.script p u v i) (h.state p u v i);
+        state = λ p u v i. later nothing (h.script p u v i) (h.state p u v i);
+        initials = h.initials;
+        met = met-afresh scope s h.met;
+      }) o q a b
   agree (closes n x t k) s h o q (σ, a, c) (τ, b, d) =
       let e : σ ≡ τ = one-scheme scope s h.met.0 (finitely s h.met) n x t σ τ a b in
       agree (k σ) s

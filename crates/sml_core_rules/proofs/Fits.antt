@@ -19,7 +19,7 @@ use Rattle.sml_rules.proofs.Sound.{accepted_same, not_refused}
 use Rattle.sml_core_rules.specs.Objects.{Env, Value, Status, variable, constructor, exception, overloaded, maps, replace, replaced}
 use Rattle.sml_core_rules.specs.States.{Scope, State, with_unknowns, with_demand}
 use Rattle.sml_core_rules.specs.Solutions.{Meets}
-use Rattle.sml_core_rules.specs.Scripts.{Script, give, refuse, tests, either, makes_unknowns, requires, sees, sets_window, requires_or, closes, determines, makes_names, makes_datatypes, ◌>>=◌, look, test, new_overloaded, IsAnswer}
+use Rattle.sml_core_rules.specs.Scripts.{Script, give, ◌>>=◌, look, test, new_overloaded, IsAnswer}
 use Rattle.sml_core_rules.specs.Values.{instance, apply_general, applied, require_attributes, require_status, value_constructs, is_constructor, is_arrow, find_value, require_equal}
 use Rattle.sml_tree.specs.declared.patterns.ConstantKind.{ConstantKind}
 use Rattle.sml_tree.specs.declared.patterns.ConstantKind.TheVariants as K
@@ -41,31 +41,8 @@ use Rattle.sml_core_rules.specs.Statements.{AreKnown, PatternsFit}
 use Rattle.sml_core_rules.proofs.Derived.{needed, ty-to}
 use Rattle.sml_core_rules.proofs.Apart.{pat-apart, apart-assigned}
 use Rattle.sml_core_rules.proofs.Accepted.{given, bind-accepted, taken}
+use Rattle.sml_core_rules.proofs.Steady.{met-before, give-steady, equal-steady, overloaded-steady, attributes-steady, status-steady, applied-steady, row-steady, constraint-steady, pat-steady, pats-steady, fields-steady}
 use Rattle.sml_core_rules.proofs.Assigned.{there, assign_all, lookup-there, value-assigned, tuple-assigned, row-assigned, field-assigned, means-assigned, replaced-assigned}
-
-module _ {P N : Type 0} (scope : Scope N) (σ : ℕ → MlType N) where
-  -- what meets the demands at the end met those before
-  pub met-before : {X : Type 0} (k : Script P N X) (s : State P N) (r : X × State P N) → IsAnswer scope k s (accepted r) → Meets scope r.1 Rigidity σ → Meets scope s Rigidity σ
-  unfolding IsAnswer
-  met-before (give x) s r h m = subst (λ s. Meets scope s Rigidity σ) (ap (λ q. q.1) (accepted_same h)) m
-  met-before (refuse e) s r h m = absurd (not_refused h)
-  met-before (tests C e k) s r (inl h) m = met-before k s r h.1 m
-  met-before (tests C e k) s r (inr h) m = absurd (not_refused h.1)
-  met-before (either C k j) s r (inl h) m = met-before k s r h.1 m
-  met-before (either C k j) s r (inr h) m = met-before j s r h.1 m
-  met-before (makes_unknowns n k) s r h m = met-before (k s.made) _ r h m
-  met-before (requires d p k) s r (inl h) m = (met-before k (with_demand d s) r h.1 m).1
-  met-before (requires d p k) s r (inr h) m = absurd (not_refused h.2)
-  met-before (sees k) s r h m = met-before (k s) s r h m
-  met-before (sets_window w k) s r h m = met-before k _ r h m
-  met-before (requires_or d e k) s r (inl h) m = (met-before k (with_demand d s) r h.1 m).1
-  met-before (requires_or d e k) s r (inr h) m = absurd (not_refused h.1)
-  met-before (closes n x t k) s r (θ, c, h) m = met-before (k θ) s r h m
-  met-before (determines t e k) s r (inl (u, c, h)) m = met-before (k u) s r h m
-  met-before (determines t e k) s r (inr h) m = absurd (not_refused h.1)
-  met-before (makes_names ws k) s r (ns, c, h) m = met-before (k ns) _ r h m
-  met-before (makes_datatypes C ds k) s r (ns, c, d, inl h) m = absurd (not_refused h.2)
-  met-before (makes_datatypes C ds k) s r (ns, c, d, inr (gs, e, g, h)) m = met-before (k ns gs) _ r h m
 
 -- a type that admits equality whatever its variables are
 
@@ -108,7 +85,7 @@ module _ {P N : Type 0} (scope : Scope N) (σ : ℕ → MlType N) (are : (v : �
       next = omega arith
   attributes-met p k j (true ∷ es) s r (inl h) m =
       let d = with_demand (asks equality (free (k + j))) s in
-      let b = met-before scope σ (require_attributes p (suc (k + j)) es) d r h.1 m in
+      let b = met-before scope σ (require_attributes p (suc (k + j)) es) (attributes-steady P N p (suc (k + j)) es) d r h.1 m in
       ((λ e. admits-more scope.names eq (σ (k + j)) (b.0 (omega arith))), attributes-met p k (suc j) es d r (subst (λ i. IsAnswer scope (require_attributes p i es) d (accepted r)) next h.1) m)
     where
       next : suc (k + j) ≡ k + suc j
@@ -122,7 +99,7 @@ module _ {P N : Type 0} (scope : Scope N) (σ : ℕ → MlType N) (are : (v : �
   status-met p k (constructor i n) s r h m = tt
   status-met p k exception s r h m = tt
   status-met p k (overloaded c) s r (inl h) m =
-      let b = met-before scope σ (new_overloaded k) (with_demand (asks (of_class c) (free k)) s) r h.1 m in
+      let b = met-before scope σ (new_overloaded k) (overloaded-steady P N k) (with_demand (asks (of_class c) (free k)) s) r h.1 m in
       let z : k ≡ k + 0 = omega arith in subst (λ k. IsOfClass scope.names eq (overloaded c) (σ k)) z (b.0 (omega arith))
   status-met p k (overloaded c) s r (inr h) m = absurd (not_refused h.2)
 
@@ -134,8 +111,8 @@ module _ {P N : Type 0} (scope : Scope N) (σ : ℕ → MlType N) (are : (v : �
       let a = bind-accepted scope (require_attributes p k v.scheme.variables) _ (with_unknowns (length v.scheme.variables) s) r h in
       let b = bind-accepted scope (require_status p k v.status) _ a.0.1 r a.2 in
       let t = given scope _ b.0.1 r b.2 in
-      let n : Meets scope b.0.1 Rigidity σ = met-before scope σ (give (instance_from k v.scheme.body)) b.0.1 r b.2 m in
-      let l : Meets scope a.0.1 Rigidity σ = met-before scope σ (require_status p k v.status) a.0.1 b.0 b.1 n in
+      let n : Meets scope b.0.1 Rigidity σ = met-before scope σ (give (instance_from k v.scheme.body)) (give-steady P N (instance_from k v.scheme.body)) b.0.1 r b.2 m in
+      let l : Meets scope a.0.1 Rigidity σ = met-before scope σ (require_status p k v.status) (status-steady P N p k v.status) a.0.1 b.0 b.1 n in
       let z : k ≡ k + 0 = omega arith in (
         (λ i. σ (k + i)),
         (λ i. are (k + i)),
@@ -226,13 +203,13 @@ module _ {P N : Type 0} (scope : Scope N) (σ : ℕ → MlType N) (are : (v : �
       let a = bind-accepted scope (find_value C.env x) _ s r h in
       let c = bind-accepted scope (constructor_instance scope p x.place false a.0.0) _ a.0.1 r a.2 in
       let v = needed E1 x.place x.id (value_at C.env x.id) a.0.0 (looked scope (need E1 x.place x.id (value_at C.env x.id)) s a.0 a.1) in
-      let n = met-before scope σ (give (typed c.0.0 bs)) c.0.1 r c.2 m in
+      let n = met-before scope σ (give (typed c.0.0 bs)) (give-steady P N (typed c.0.0 bs)) c.0.1 r c.2 m in
       subst (Fitting bs (pat_name p x)) (sym (given scope (typed c.0.0 bs) c.0.1 r c.2))
       ([], sym (append-nil bs), inr (is-variable x ∙ b, constructs-met x p x.place false a.0.0 a.0.1 c.0 v c.1 n, refl))
 
   require-met : (p : P) (t u : MlType N) (s : State P N) (r : Unit {0} × State P N) → IsAnswer scope (require_equal p t u) s (accepted r) → Meets scope r.1 Rigidity σ → assign σ t ≡ assign σ u
   unfolding IsAnswer
-  require-met p t u s r (inl h) m = (met-before scope σ (give tt) (with_demand (equal t u) s) r h.1 m).0
+  require-met p t u s r (inl h) m = (met-before scope σ (give tt) (give-steady P N tt) (with_demand (equal t u) s) r h.1 m).0
   require-met p t u s r (inr h) m = absurd (not_refused h.2)
 
   general-met : (p : P) (t a : MlType N) (s : State P N) (r : MlType N × State P N) → IsAnswer scope (apply_general p t a) s (accepted r) → Meets scope r.1 Rigidity σ
@@ -242,7 +219,7 @@ module _ {P N : Type 0} (scope : Scope N) (σ : ℕ → MlType N) (are : (v : �
       let u : MlType N = free s.made in
       let k = with_unknowns 1 s in
       let e = bind-accepted scope (require_equal p t (arrow_of a u)) (λ _. give u) k r h in
-      let n = met-before scope σ (give u) e.0.1 r e.2 m in
+      let n = met-before scope σ (give u) (give-steady P N u) e.0.1 r e.2 m in
       require-met p t (arrow_of a u) k e.0 e.1 n ∙ ap (λ b. arrow_of (assign σ a) (assign σ b)) (sym (given scope u e.0.1 r e.2))
 
   applied-met : (p : P) (t a : MlType N) (s : State P N) (r : MlType N × State P N) → IsAnswer scope (applied p t a) s (accepted r) → Meets scope r.1 Rigidity σ
@@ -257,7 +234,7 @@ module _ {P N : Type 0} (scope : Scope N) (σ : ℕ → MlType N) (are : (v : �
   applied-met p (app arrow (and_type from (and_type to (and_type u us)))) a s r h m = general-met p (app arrow (and_type from (and_type to (and_type u us)))) a s r h m
   applied-met p (app arrow (and_type from (and_type to no_type))) a s r h m =
       let e = bind-accepted scope (require_equal p from a) (λ _. give to) s r h in
-      let n = met-before scope σ (give to) e.0.1 r e.2 m in
+      let n = met-before scope σ (give to) (give-steady P N to) e.0.1 r e.2 m in
       ap (λ b. arrow_of b (assign σ to)) (require-met p from a s e.0 e.1 n) ∙ ap (λ b. arrow_of (assign σ a) (assign σ b)) (sym (given scope to e.0.1 r e.2))
 
   row-met : (p : P) (b : Bool) (fs : Fields (MlType N)) (s : State P N) (r : MlType N × State P N) → IsAnswer scope (read_row scope is_rec C.env C.explicit p b fs) s (accepted r) → Meets scope r.1 Rigidity σ
@@ -323,14 +300,14 @@ module _ {P N : Type 0} (scope : Scope N) (σ : ℕ → MlType N) (are : (v : �
     pat-fits (pat_row p fs b) bs s r h m =
         let a = bind-accepted scope (read_pat_fields scope is_rec C.env C.explicit bs [] fs) _ s r h in
         let c = bind-accepted scope (read_row scope is_rec C.env C.explicit p b a.0.0.type) _ a.0.1 r a.2 in
-        let n = met-before scope σ (give (typed c.0.0 a.0.0.bound)) c.0.1 r c.2 m in
-        let l = met-before scope σ (read_row scope is_rec C.env C.explicit p b a.0.0.type) a.0.1 c.0 c.1 n in
+        let n = met-before scope σ (give (typed c.0.0 a.0.0.bound)) (give-steady P N (typed c.0.0 a.0.0.bound)) c.0.1 r c.2 m in
+        let l = met-before scope σ (read_row scope is_rec C.env C.explicit p b a.0.0.type) (row-steady scope is_rec C.env C.explicit p b a.0.0.type) a.0.1 c.0 c.1 n in
         let f = fields-fit fs bs [] s a.0 a.1 l in
         subst (Fitting bs (pat_row p fs b)) (sym (given scope (typed c.0.0 a.0.0.bound) c.0.1 r c.2))
         (f.0, f.1, (replaced (assign σ) a.0.0.type, f.2, row-met p b a.0.0.type a.0.1 c.0 c.1 n))
     pat-fits (pat_tuple p qs) bs s r h m =
         let a = bind-accepted scope (read_pats scope is_rec C.env C.explicit bs qs) _ s r h in
-        let n = met-before scope σ (give (typed (tuple_of a.0.0.type) a.0.0.bound)) a.0.1 r a.2 m in
+        let n = met-before scope σ (give (typed (tuple_of a.0.0.type) a.0.0.bound)) (give-steady P N (typed (tuple_of a.0.0.type) a.0.0.bound)) a.0.1 r a.2 m in
         let f = all-fit qs bs s a.0 a.1 n in
         subst (Fitting bs (pat_tuple p qs)) (sym (given scope (typed (tuple_of a.0.0.type) a.0.0.bound) a.0.1 r a.2)) (f.0, f.1, (assign_all σ a.0.0.type, f.2, tuple-assigned σ a.0.0.type))
     pat-fits (pat_bracket p q) bs s r h m = pat-fits q bs s r h m
@@ -340,9 +317,9 @@ module _ {P N : Type 0} (scope : Scope N) (σ : ℕ → MlType N) (are : (v : �
         let d = bind-accepted scope (read_pat scope is_rec C.env C.explicit bs q) _ c.0.1 r c.2 in
         let e = bind-accepted scope (applied p c.0.0 d.0.0.type) (λ u. give (typed u d.0.0.bound)) d.0.1 r d.2 in
         let v = found-constructor x (value_at C.env x.id) s a.0 a.1 in
-        let n = met-before scope σ (give (typed e.0.0 d.0.0.bound)) e.0.1 r e.2 m in
-        let l : Meets scope d.0.1 Rigidity σ = met-before scope σ (applied p c.0.0 d.0.0.type) d.0.1 e.0 e.1 n in
-        let j = met-before scope σ (read_pat scope is_rec C.env C.explicit bs q) c.0.1 d.0 d.1 l in
+        let n = met-before scope σ (give (typed e.0.0 d.0.0.bound)) (give-steady P N (typed e.0.0 d.0.0.bound)) e.0.1 r e.2 m in
+        let l : Meets scope d.0.1 Rigidity σ = met-before scope σ (applied p c.0.0 d.0.0.type) (applied-steady p c.0.0 d.0.0.type) d.0.1 e.0 e.1 n in
+        let j = met-before scope σ (read_pat scope is_rec C.env C.explicit bs q) (pat-steady scope is_rec C.env C.explicit bs q) c.0.1 d.0 d.1 l in
         let f = pat-fits q bs c.0.1 d.0 d.1 l in
         let g = applied-met p c.0.0 d.0.0.type d.0.1 e.0 e.1 n in
         let z = constructs-met x p x.place true a.0.0 a.0.1 c.0 v c.1 j in
@@ -352,9 +329,9 @@ module _ {P N : Type 0} (scope : Scope N) (σ : ℕ → MlType N) (are : (v : �
         let a = bind-accepted scope (read_pat scope is_rec C.env C.explicit bs q) _ s r h in
         let c = bind-accepted scope (read_constraint C.env C.explicit ty) _ a.0.1 r a.2 in
         let e = bind-accepted scope (require_equal p a.0.0.type c.0.0) (λ _. give (typed c.0.0 a.0.0.bound)) c.0.1 r c.2 in
-        let n = met-before scope σ (give (typed c.0.0 a.0.0.bound)) e.0.1 r e.2 m in
-        let l = met-before scope σ (require_equal p a.0.0.type c.0.0) c.0.1 e.0 e.1 n in
-        let j = met-before scope σ (read_constraint C.env C.explicit ty) a.0.1 c.0 c.1 l in
+        let n = met-before scope σ (give (typed c.0.0 a.0.0.bound)) (give-steady P N (typed c.0.0 a.0.0.bound)) e.0.1 r e.2 m in
+        let l = met-before scope σ (require_equal p a.0.0.type c.0.0) (equal-steady p a.0.0.type c.0.0) c.0.1 e.0 e.1 n in
+        let j = met-before scope σ (read_constraint C.env C.explicit ty) (constraint-steady scope is_rec C.env C.explicit ty) a.0.1 c.0 c.1 l in
         let f = pat-fits q bs s a.0 a.1 j in
         let g = require-met p a.0.0.type c.0.0 c.0.1 e.0 e.1 n in
         let t = constraint-met ty a.0.1 c.0 c.1 in
@@ -364,9 +341,9 @@ module _ {P N : Type 0} (scope : Scope N) (σ : ℕ → MlType N) (are : (v : �
         let a = bind-accepted scope (read_layered scope is_rec C.env C.explicit x ty bs) _ s r h in
         let c = bind-accepted scope (read_pat scope is_rec C.env C.explicit a.0.0.bound q) _ a.0.1 r a.2 in
         let e = bind-accepted scope (require_equal p a.0.0.type c.0.0.type) (λ _. give (typed a.0.0.type c.0.0.bound)) c.0.1 r c.2 in
-        let n = met-before scope σ (give (typed a.0.0.type c.0.0.bound)) e.0.1 r e.2 m in
-        let l = met-before scope σ (require_equal p a.0.0.type c.0.0.type) c.0.1 e.0 e.1 n in
-        let j = met-before scope σ (read_pat scope is_rec C.env C.explicit a.0.0.bound q) a.0.1 c.0 c.1 l in
+        let n = met-before scope σ (give (typed a.0.0.type c.0.0.bound)) (give-steady P N (typed a.0.0.type c.0.0.bound)) e.0.1 r e.2 m in
+        let l = met-before scope σ (require_equal p a.0.0.type c.0.0.type) (equal-steady p a.0.0.type c.0.0.type) c.0.1 e.0 e.1 n in
+        let j = met-before scope σ (read_pat scope is_rec C.env C.explicit a.0.0.bound q) (pat-steady scope is_rec C.env C.explicit a.0.0.bound q) a.0.1 c.0 c.1 l in
         let y = layered-met x ty bs s a.0 a.1 j in
         let f = pat-fits q a.0.0.bound a.0.1 c.0 c.1 l in
         let g = require-met p a.0.0.type c.0.0.type c.0.1 e.0 e.1 n in
@@ -388,8 +365,8 @@ module _ {P N : Type 0} (scope : Scope N) (σ : ℕ → MlType N) (are : (v : �
     all-fit (and_pat q qs) bs s r h m =
         let a = bind-accepted scope (read_pat scope is_rec C.env C.explicit bs q) _ s r h in
         let c = bind-accepted scope (read_pats scope is_rec C.env C.explicit a.0.0.bound qs) _ a.0.1 r a.2 in
-        let n = met-before scope σ (give (typed (and_type a.0.0.type c.0.0.type) c.0.0.bound)) c.0.1 r c.2 m in
-        let l = met-before scope σ (read_pats scope is_rec C.env C.explicit a.0.0.bound qs) a.0.1 c.0 c.1 n in
+        let n = met-before scope σ (give (typed (and_type a.0.0.type c.0.0.type) c.0.0.bound)) (give-steady P N (typed (and_type a.0.0.type c.0.0.type) c.0.0.bound)) c.0.1 r c.2 m in
+        let l = met-before scope σ (read_pats scope is_rec C.env C.explicit a.0.0.bound qs) (pats-steady scope is_rec C.env C.explicit a.0.0.bound qs) a.0.1 c.0 c.1 n in
         let f = pat-fits q bs s a.0 a.1 l in
         let g = all-fit qs a.0.0.bound a.0.1 c.0 c.1 n in
         subst (AllFitting bs (and_pat q qs)) (sym (given scope (typed (and_type a.0.0.type c.0.0.type) c.0.0.bound) c.0.1 r c.2)) (
@@ -412,7 +389,7 @@ module _ {P N : Type 0} (scope : Scope N) (σ : ℕ → MlType N) (are : (v : �
     fields-fit no_pat_field bs fs s r h m = subst (FieldsFitting bs fs no_pat_field) (sym (ap (λ q. q.0) (accepted_same h))) ([], sym (append-nil bs), (refl, refl))
     fields-fit (and_pat_field (pat_field x q) qs) bs fs s r h m =
         let a = bind-accepted scope (read_pat scope is_rec C.env C.explicit bs q) _ s r h in
-        let l = met-before scope σ (read_pat_fields scope is_rec C.env C.explicit a.0.0.bound (put_field x.id a.0.0.type fs) qs) a.0.1 r a.2 m in
+        let l = met-before scope σ (read_pat_fields scope is_rec C.env C.explicit a.0.0.bound (put_field x.id a.0.0.type fs) qs) (fields-steady scope is_rec C.env C.explicit a.0.0.bound (put_field x.id a.0.0.type fs) qs) a.0.1 r a.2 m in
         let f = pat-fits q bs s a.0 a.1 l in
         let g = fields-fit qs a.0.0.bound (put_field x.id a.0.0.type fs) a.0.1 r a.2 m in (
           f.0 ++ g.0,

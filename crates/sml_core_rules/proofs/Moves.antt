@@ -43,6 +43,7 @@ state-id s = λ i. record {
     rows = each-id (λ r. (r.0, rename_type (λ n. n) r.1)) (λ r j. (r.0, rename_type-id r.1 j)) s.window.rows i;
     overloaded = s.window.overloaded;
   };
+  is_open = s.is_open;
 }
 
 pub answer-id : {P N X : Type 0} (g : X → X) → ((x : X) → g x ≡ x) → (o : Answer P (X × State P N)) → rename_answer g (λ n. n) o ≡ o

@@ -18,7 +18,7 @@ use Rattle.sml_core_rules.specs.Answers as A
 use Rattle.sml_core_rules.specs.Objects.{Env, Value, Status, variable, constructor, exception, overloaded, of_types, of_values, values, maps, no_structure, empty, extend}
 use Rattle.sml_core_rules.specs.Lookups.{value_at, type_at, structure_at, is_listed}
 use Rattle.sml_core_rules.specs.States.{Scope, State, Window, no_window}
-use Rattle.sml_core_rules.specs.Scripts.{Script, give, makes_datatypes, ◌>>=◌, look, test, need, new_unknown, new_unknowns, set_window, so_far, where_so, require, close, IsAnswer}
+use Rattle.sml_core_rules.specs.Scripts.{Script, give, makes_datatypes, ◌>>=◌, look, test, need, new_unknown, new_unknowns, set_window, stay_open, so_far, where_so, require, close, IsAnswer}
 use Rattle.sml_core_rules.specs.Solutions.{HasOneSetOfLabels, IsFixed, IsOverloaded}
 use Rattle.sml_core_rules.specs.Types as T
 use Rattle.sml_core_rules.specs.Types.{put_field, row_of}
@@ -143,11 +143,12 @@ module _ {P N : Type 0} (scope : Scope N) where
     σs ← close_all k bs
     give (σ ∷ σs)
 
-  -- what is still unknown in them mentions only names made so far
+  -- what is still unknown in them stays open, and mentions only names made so far
   abbrev pub require_bounds : P → List (Bound N) → List (Scheme N) → Script P N (Unit {0})
   require_bounds p [] σs = give tt
   require_bounds p (b ∷ bs) [] = give tt
   require_bounds p (b ∷ bs) (σ ∷ σs) = cond (has_unknown σ.body) (do
+    o ← stay_open
     u ← require_so_far Newness p b.type
     require_bounds p bs σs) (require_bounds p bs σs)
 
@@ -334,4 +335,4 @@ IsReading scope C vs d s o = IsAnswer scope (read_dec scope C vs d) s o
 
 -- A declaration of the core in a basis: no unknown has been made and nothing asked.
 abbrev pub at_first : {P N : Type 0} → List N → State P N
-at_first ns = record { made = 0; names = ns; demands = []; window = no_window }
+at_first ns = record { made = 0; names = ns; demands = []; window = no_window; is_open = false }

@@ -1,5 +1,5 @@
 -- What elaboration keeps from phrase to phrase.
-use Rattle.std.specs.Prelude.{◌≡◌, ◌⊎◌, ℕ, ◌+◌, List, [], ◌∷◌, ◌++◌}
+use Rattle.std.specs.Prelude.{◌≡◌, ◌⊎◌, ℕ, ◌+◌, Bool, true, cond, List, [], ◌∷◌, ◌++◌}
 use Rattle.sml_objects.specs.Appearance.{Stands}
 use Rattle.sml_objects.specs.Names.{Naming, Attributes, Initial}
 use Rattle.sml_objects.specs.Objects.{MlType, Outside}
@@ -33,13 +33,14 @@ pub record Window (P N : Type 0) : Type 0 where
   pub rows : List (P × MlType N)
   pub overloaded : List ℕ
 
--- The unknowns made so far, the names of types made so far, the demands so far, the newest first, and the window of the value
--- declaration.
+-- The unknowns made so far, the names of types made so far, the demands so far, the newest first, the window of the value
+-- declaration, and whether an unknown may stand in what was bound.
 pub record State (P N : Type 0) : Type 0 where
   pub made : ℕ
   pub names : List N
   pub demands : List (Demand N (List N))
   pub window : Window P N
+  pub is_open : Bool
 
 module _ {P N : Type 0} where
   abbrev pub with_unknowns : ℕ → State P N → State P N
@@ -53,6 +54,13 @@ module _ {P N : Type 0} where
 
   abbrev pub with_window : Window P N → State P N → State P N
   with_window w s = record s { window = w }
+
+  abbrev pub opened : State P N → State P N
+  opened s = record s { is_open = true }
+
+  -- Where no unknown can stand in what was bound, none has been made and nothing asked.
+  abbrev pub afresh : State P N → State P N
+  afresh s = record s { made = cond s.is_open s.made 0; demands = cond s.is_open s.demands [] }
 
   abbrev pub no_window : Window P N
   no_window = record { rows = []; overloaded = [] }

@@ -13,7 +13,7 @@ use Rattle.sml_core_rules.specs.Objects.{Env, Maps, Structures, Value, TyStr, Si
 use Rattle.sml_core_rules.specs.Lookups.{structure_at}
 use Rattle.sml_core_rules.specs.Expressions.{read_dec, at_first}
 use Rattle.sml_core_rules.specs.States.{Scope, State}
-use Rattle.sml_core_rules.specs.Scripts.{Script, give, refuse, ◌>>=◌, need, test, determine, IsAnswer}
+use Rattle.sml_core_rules.specs.Scripts.{Script, give, refuse, ◌>>=◌, need, test, start_anew, determine, IsAnswer}
 use Rattle.sml_module_rules.specs.Lines.{IsSmallEnv}
 use Rattle.sml_module_rules.specs.Matching.{ascribe, apply_functor}
 use Rattle.sml_module_rules.specs.Signatures.{read_sig}
@@ -95,7 +95,9 @@ module _ {P N : Type 0} (scope : Scope N) where
         read_strs (extend C E) (extend F E) ds
 
       pub read_strdec : Env N → StrDec P → Script P N (Env N)
-      read_strdec C (core_dec d) = read_dec scope C [] d
+      read_strdec C (core_dec d) = do
+        a ← start_anew
+        read_dec scope C [] d
       read_strdec C (structure_dec p bs) = read_str_binds C empty bs
       read_strdec C (str_local p ds es) = do
         E ← read_strs C empty ds

@@ -29,6 +29,7 @@ behind = record {
   demands = equal (free 0) (arrow_of (free 1) (free 2)) ∷ equal (free 2) (free 3) ∷ equal (twice (free 3)) (twice (free 1)) ∷ asks (of_class WordInt) (free 3)
       ∷ asks (of_class RealInt) (free 2) ∷ asks (within Newness initial_names) (free 1) ∷ asks (within Newness initial_names) (free 0) ∷ [];
   window = no_window;
+  is_open = false;
 }
 
 -- before it is settled

@@ -32,6 +32,7 @@ behind = record {
   demands = equal (free 1) (arrow_of (free 0) (free 2)) ∷ asks (within Newness initial_names) (free 2) ∷ equal (free 2) (free 0)
       ∷ asks (within Newness initial_names) (free 1) ∷ asks equality (free 0) ∷ asks (variable (record { number = 0; equality = true })) (free 0) ∷ [];
   window = no_window;
+  is_open = false;
 }
 
 pub finitely : (t : MlType Name) → Meets scope behind Finiteness (types t)

@@ -1,5 +1,5 @@
 -- `val i = (fn x => x) (fn x => x)`: unknown 0 is the type of i, and 1 and 2 those of the variables.
-use Rattle.std.specs.Prelude.{◌≡◌, ◌≢◌, ◌<◌, ℕ, zero, suc, true, [], ◌∷◌}
+use Rattle.std.specs.Prelude.{◌≡◌, ◌≢◌, ◌<◌, ℕ, zero, suc, true, false, [], ◌∷◌}
 use mathlib.Core.Path.{refl, sym, ◌∙◌}
 use mathlib.Core.Logic.{inl}
 use Rattle.std.proofs.Common.{arith}
@@ -13,7 +13,7 @@ use Rattle.sml_layers.specs.Demands.{equal, asks, within, Mentions}
 use Rattle.sml_layers.specs.declared.layer.Bound.TheVariants.{Newness}
 use Rattle.sml_layers.specs.declared.layer.Layer.TheVariants.{Finiteness, Classes, Rigidity}
 use Rattle.sml_core_rules.specs.Solutions.{Meets, IsScheme, StandsFor, IsLeft, IsOfLeft, AreOfLeft, IsFateOf, IsAlways}
-use Rattle.sml_core_rules.specs.States.{State, words, no_window, with_demand}
+use Rattle.sml_core_rules.specs.States.{State, words, no_window, with_demand, opened}
 use Rattle.sml_samples.specs.Around.{Place, scope, initial_names, type_of}
 use Rattle.sml_samples.proofs.Left.{settled}
 use Rattle.sml_samples.proofs.Loose.{loose, not-int}
@@ -31,6 +31,7 @@ behind = record {
   demands = equal (free 0) (free 1) ∷ equal (free 1) (arrow_of (free 2) (free 2)) ∷ asks (within Newness initial_names) (free 2)
       ∷ asks (within Newness initial_names) (free 1) ∷ [];
   window = no_window;
+  is_open = false;
 }
 
 finitely : (t : MlType Name) → Meets scope behind Finiteness (types t)
@@ -71,7 +72,7 @@ scheme = (arrow_of (free 2) (free 2), ((left, (left, tt)), λ σ m. sym (m.0 ∙
 -- the type stays open, and mentions only names made so far
 
 abbrev pub closed : State Place Name
-closed = with_demand (asks (within Newness initial_names) (free 0)) behind
+closed = with_demand (asks (within Newness initial_names) (free 0)) (opened behind)
 
 pub met-closed : (t : MlType Name) → Mentions ((words scope).Allows initial_names) t → Meets scope closed Rigidity (types t)
 unfolding replace_type replace_types Mentions
@@ -95,6 +96,7 @@ later = record {
   names = initial_names;
   demands = equal (free 3) (free 2) ∷ equal (free 2) (type_of int) ∷ closed.demands;
   window = no_window;
+  is_open = true;
 }
 
 pub met-later : Meets scope later Rigidity (types (type_of int))

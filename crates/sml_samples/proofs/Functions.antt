@@ -29,6 +29,7 @@ behind = record {
   names = initial_names;
   demands = equal (free 0) (arrow_of (free 1) (free 1)) ∷ asks (within Newness initial_names) (free 1) ∷ asks (within Newness initial_names) (free 0) ∷ [];
   window = no_window;
+  is_open = false;
 }
 
 met-finitely : (t : MlType Name) → Meets scope behind Finiteness (types t)

@@ -1,5 +1,5 @@
 -- `val rec f = fn x => let val y = x in y end`: unknown 0 is the type of f, 1 that of x, and 2 that of y.
-use Rattle.std.specs.Prelude.{◌≢◌, ◌<◌, ℕ, zero, suc, false, [], ◌∷◌}
+use Rattle.std.specs.Prelude.{◌≢◌, ◌<◌, ℕ, zero, suc, true, false, [], ◌∷◌}
 use mathlib.Core.Path.{refl, sym}
 use mathlib.Core.Logic.{inl, inr}
 use Rattle.std.proofs.Common.{arith}
@@ -29,6 +29,7 @@ inner_state = record {
   names = initial_names;
   demands = equal (free 2) (free 1) ∷ asks (within Newness initial_names) (free 1) ∷ asks (within Newness initial_names) (free 0) ∷ [];
   window = no_window;
+  is_open = false;
 }
 
 abbrev all : MlType Name → ℕ → MlType Name
@@ -70,6 +71,7 @@ behind = record {
   demands = equal (free 0) (arrow_of (free 1) (free 1)) ∷ asks (within Locality initial_names) (free 1) ∷ asks (within Newness initial_names) (free 2)
       ∷ inner_state.demands;
   window = no_window;
+  is_open = true;
 }
 
 finitely : (t : MlType Name) → Meets scope behind Finiteness (types t)

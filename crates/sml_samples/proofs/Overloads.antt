@@ -27,10 +27,10 @@ asked =
 
 -- before it is settled, and behind that
 abbrev pub open_state : State Place Name
-open_state = record { made = 3; names = initial_names; demands = asked; window = record { rows = []; overloaded = 2 ∷ [] } }
+open_state = record { made = 3; names = initial_names; demands = asked; window = record { rows = []; overloaded = 2 ∷ [] }; is_open = false }
 
 abbrev pub settled_state : State Place Name
-settled_state = record { made = 3; names = initial_names; demands = equal (free 2) (type_of int) ∷ asked; window = no_window }
+settled_state = record { made = 3; names = initial_names; demands = equal (free 2) (type_of int) ∷ asked; window = no_window; is_open = false }
 
 pub met : (k : Initial) → allows (names_in Num) k ≡ true → Meets scope open_state Rigidity (types (type_of k))
 unfolding replace_type replace_types Mentions naming

@@ -44,6 +44,7 @@ of_pair = record {
   names = initial_names;
   demands = equal (pair (free 0) (type_of bool)) (pair (twice (type_of int)) (type_of bool)) ∷ equal (free 0) (pair (free 1) (type_of int)) ∷ [];
   window = no_window;
+  is_open = false;
 }
 
 abbrev types : ℕ → MlType Name
@@ -89,6 +90,7 @@ of_box = record {
   names = made 1 0 0 true ∷ initial_names;
   demands = equal box box ∷ equal (type_of int) (type_of int) ∷ equal (type_of int) (free 0) ∷ [];
   window = no_window;
+  is_open = false;
 }
 
 box-scheme : IsScheme scope of_box 0 false (free 0) (mono (type_of int))
@@ -110,6 +112,7 @@ handled = record {
   names = initial_names;
   demands = equal (free 0) (free 1) ∷ equal (handler (type_of int)) (handler (free 1)) ∷ equal (type_of int) (type_of int) ∷ equal (type_of exn) (type_of exn) ∷ [];
   window = no_window;
+  is_open = false;
 }
 
 handled-scheme : IsScheme scope handled 0 true (free 0) (mono (type_of int))
@@ -130,7 +133,7 @@ abbrev one_field : MlType Name → MlType Name
 one_field t = app (row (codes "a" ∷ [])) (and_type t no_type)
 
 abbrev of_row : State Place Name
-of_row = record { made = 1; names = initial_names; demands = equal (one_field (free 0)) (one_field (type_of int)) ∷ []; window = no_window }
+of_row = record { made = 1; names = initial_names; demands = equal (one_field (free 0)) (one_field (type_of int)) ∷ []; window = no_window; is_open = false }
 
 of-row-scheme : IsScheme scope of_row 0 false (free 0) (mono (type_of int))
 unfolding replace_type replace_types

@@ -71,7 +71,7 @@ types zero = type_of int
 types (suc v) = two_fields
 
 abbrev pub behind : State Place Name
-behind = record { made = 2; names = initial_names; demands = equal (free 1) two_fields ∷ has_fields (free 1) ((codes "a", free 0) ∷ []) ∷ []; window = no_window }
+behind = record { made = 2; names = initial_names; demands = equal (free 1) two_fields ∷ has_fields (free 1) ((codes "a", free 0) ∷ []) ∷ []; window = no_window; is_open = false }
 
 pub met : Meets scope behind Rigidity types
 unfolding replace_type replace_types
@@ -113,6 +113,7 @@ open_behind = record {
   demands = equal (free 0) (arrow_of (free 2) (free 1)) ∷ asks (within Newness initial_names) (free 1) ∷ has_fields (free 2) ((codes "a", free 1) ∷ [])
       ∷ asks (within Newness initial_names) (free 0) ∷ [];
   window = no_window;
+  is_open = false;
 }
 
 met-open : (r : MlType Name) → HasFields Name finite r ((codes "a", type_of int) ∷ []) → Mentions ((words scope).Allows initial_names) r

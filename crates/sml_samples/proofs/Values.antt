@@ -30,7 +30,7 @@ use Rattle.sml_samples.proofs.Known as K
 
 -- behind `x = 3`: the type of x is int
 abbrev pub int-state : State Place Name
-int-state = record { made = 1; names = initial_names; demands = equal (free 0) (type_of int) ∷ []; window = no_window }
+int-state = record { made = 1; names = initial_names; demands = equal (free 0) (type_of int) ∷ []; window = no_window; is_open = false }
 
 pub int-scheme : IsScheme scope int-state 0 false (free 0) (mono (type_of int))
 unfolding replace_type

@@ -18,7 +18,7 @@ use sml_types::fault::{CoreFault, plain_fault};
 use sml_types::rows::{boxed, number_of};
 use sml_types::scope::unbound;
 use sml_types::sizes::small;
-use sml_types::types::{type_of, type_place};
+use sml_types::types::{type_place, written_type};
 use sml_types::written::Written;
 use std::alloc::Global;
 use std::collections::BTreeMap;
@@ -281,7 +281,7 @@ impl<'a> Context<'a> {
 
     /// What a type expression means, with the explicit type variables in scope.
     pub(crate) fn written(&mut self, ty: &Ty) -> Result<Rc<Written>, CoreFault> {
-        type_of(self.alloc, &self.scopes, &mut self.explicit, ty)
+        written_type(self.alloc, &self.scopes, &mut self.explicit, ty)
     }
 
     /// The type that a constraint means, with the explicit type variables in scope. One that is too large for a scheme is E7

@@ -2,21 +2,24 @@
 
 use crate::context::Context;
 use crate::expressions::of_type;
-use sml_bases::objects::{Env, Status, Value};
-use sml_lex::fault::{Code, Memory, Place};
+use sml_bases::objects::{Basis, Env, Status, Value};
+use sml_lex::fault::{Code, Memory, Place, Warning};
 use sml_objects::objects::Initial;
 use sml_scopes::scopes::Mark;
+use sml_solve::solver::Solver;
 use sml_tree::bare::{Ident, LongIdent};
 use sml_tree::expressions::{ConBind, DatBind, Dec, ExnBind, TypBind};
 use sml_tree::names::Name;
 use sml_types::bindings::types;
-use sml_types::datatypes::{datatypes, put_constructors};
+use sml_types::datatypes::{datatypes_with, put_constructors};
 use sml_types::fault::{CoreFault, plain_fault};
 use sml_types::rows::{arrow, initial};
 use sml_types::scope::{structure_at, type_at};
 use sml_types::sizes::small_beside;
 use sml_types::written::Written;
+use sml_warnings::sorted::sorted;
 use std::alloc::Global;
+use std::mem;
 use std::rc::Rc;
 
 /// What was open when the first part of `local` began.
@@ -53,6 +56,34 @@ fn exception_value(alloc: Global, exception: &Exception) -> Result<Value, Memory
         Some(ty) => arrow(alloc, ty.make(alloc)?, exn)?,
     };
     of_type(alloc, Status::Exception, ty)
+}
+
+/// What a core declaration binds in a basis, with its warnings by place and code, each once, or its fault: E1 to E10, or one of
+/// the solver, which is spent then. What was asked before stays asked; the types of values may mention its unknowns.
+pub fn core(
+    alloc: Global,
+    basis: &Basis,
+    dec: &Dec,
+    solver: &mut Solver,
+) -> Result<(Env, Vec<Warning>), CoreFault> {
+    let mut context = Context::new(alloc, basis);
+    context.export(true);
+    mem::swap(&mut context.solver, solver);
+    let warnings = warnings_of(&mut context, dec);
+    mem::swap(&mut context.solver, solver);
+    match warnings {
+        Ok(warnings) => Ok((context.exported(None), warnings)),
+        Err(fault) => {
+            solver.spend();
+            Err(fault)
+        }
+    }
+}
+
+/// Binds what a declaration declares. Gives the warnings so far, sorted.
+fn warnings_of(context: &mut Context, dec: &Dec) -> Result<Vec<Warning>, CoreFault> {
+    context.dec(dec)?;
+    Ok(sorted(context.alloc, &context.warnings)?)
 }
 
 impl Context<'_> {
@@ -131,7 +162,7 @@ impl Context<'_> {
         binds: &[DatBind],
         withtype: &[TypBind],
     ) -> Result<(), CoreFault> {
-        let env = datatypes(
+        let env = datatypes_with(
             self.alloc,
             &self.scopes,
             &mut self.new,

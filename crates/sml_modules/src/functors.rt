@@ -10,7 +10,7 @@ use sml_lex::fault::{Code, Place};
 use sml_match::enrich::enriches;
 use sml_match::mismatch::placed;
 use sml_match::realise::realise;
-use sml_sigs::sigs::signature;
+use sml_sigs::sigs::signature_in;
 use sml_tree::names::Name;
 use sml_tree::structures::FunBind;
 use sml_types::fault::{CoreFault, fault_about};
@@ -97,7 +97,7 @@ struct Body {
 
 fn body_of(context: &mut Context, bind: &FunBind) -> Result<Body, CoreFault> {
     let basis = context.scopes.basis();
-    let argument = signature(
+    let argument = signature_in(
         context.alloc,
         basis,
         &mut context.new,

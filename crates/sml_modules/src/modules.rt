@@ -7,7 +7,7 @@ use sml_bases::objects::{Basis, Sig};
 use sml_core::context::Context;
 use sml_envs::canonical::canonical;
 use sml_lex::fault::{Code, FIRST, Warning};
-use sml_sigs::sigs::signature;
+use sml_sigs::sigs::signature_in;
 use sml_tree::structures::{SigBind, TopDec};
 use sml_types::fault::{CoreFault, plain_fault};
 use sml_warnings::sorted::sorted;
@@ -67,7 +67,7 @@ fn signatures(
     binds: &[SigBind],
 ) -> Result<(), TopFault> {
     for bind in binds {
-        let sig: Sig = signature(
+        let sig: Sig = signature_in(
             context.alloc,
             basis,
             &mut context.new,

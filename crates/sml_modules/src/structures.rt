@@ -6,7 +6,7 @@ use sml_core::context::Context;
 use sml_lex::fault::Place;
 use sml_match::ascribe::ascribed;
 use sml_scopes::scopes::Mark;
-use sml_sigs::sigs::signature;
+use sml_sigs::sigs::signature_in;
 use sml_tree::signatures::SigExp;
 use sml_tree::structures::{Ascription, StrBind, StrDec, StrExp};
 use sml_types::fault::CoreFault;
@@ -89,7 +89,7 @@ fn with_signature(
 ) -> Result<Rc<Env>, CoreFault> {
     let place = signature_place(sig);
     let basis = context.scopes.basis();
-    let sig = signature(context.alloc, basis, &mut context.new, &context.scopes, sig)?;
+    let sig = signature_in(context.alloc, basis, &mut context.new, &context.scopes, sig)?;
     ascribed(
         context.alloc,
         &mut context.new,

@@ -16,15 +16,24 @@ use sml_types::scope::Scope;
 use std::alloc::Global;
 use std::rc::Rc;
 
-/// The signature that a signature expression means in a scope over a basis, with new names for those that it binds, or a
-/// fault.
-pub fn signature<S: Scope>(
+/// A fault of the signature expression, or want of memory.
+pub type SigFault = CoreFault;
+
+/// The signature that a signature expression means in a basis, with new names of its unit, numbered from its count on, for
+/// those that it binds. N1 to N7, E2, E3, E4, E7 or E8.
+pub fn signature(alloc: Global, basis: &Basis, sig: &SigExp) -> Result<Sig, SigFault> {
+    let mut new = NewNames::new(alloc, basis);
+    signature_in(alloc, basis, &mut new, basis, sig)
+}
+
+/// The same in a scope over a basis, with the next new names.
+pub fn signature_in<S: Scope>(
     alloc: Global,
     basis: &Basis,
     new: &mut NewNames,
     outer: &S,
     sig: &SigExp,
-) -> Result<Sig, CoreFault> {
+) -> Result<Sig, SigFault> {
     let mut reader = Reader { alloc, basis, new };
     read(&mut reader, sig, outer, None)
 }

@@ -10,12 +10,12 @@ use sml_tree::expressions::{ConBind, DatBind};
 use sml_tree::names::Name;
 use sml_tree::signatures::{TypDesc, ValDesc};
 use sml_types::bindings::no_constructors;
-use sml_types::datatypes::{datatypes, name_function, put_constructors};
+use sml_types::datatypes::{datatypes_with, name_function, put_constructors};
 use sml_types::fault::CoreFault;
 use sml_types::rows::{arrow, initial, number_of};
 use sml_types::scope::{Scope, type_at};
 use sml_types::sizes::{few, small, small_beside};
-use sml_types::types::type_of;
+use sml_types::types::written_type;
 use sml_types::variables::{Collected, NoVariables};
 use sml_types::written::Written;
 use std::alloc::Global;
@@ -67,7 +67,7 @@ fn types_of<S: Scope>(
     let mut types = Vec::new(alloc);
     for desc in descs {
         let mut variables = Collected::new(alloc);
-        let ty = type_of(alloc, scope, &mut variables, &desc.ty)?;
+        let ty = written_type(alloc, scope, &mut variables, &desc.ty)?;
         types.push((variables, ty))?;
     }
     Ok(types)
@@ -130,7 +130,7 @@ pub(crate) fn new_datatypes<S: Scope>(
     place: Place,
     binds: &[DatBind],
 ) -> Result<Sig, CoreFault> {
-    let env = datatypes(alloc, scope, new, place, binds, &[])?;
+    let env = datatypes_with(alloc, scope, new, place, binds, &[])?;
     Ok(Sig {
         names: names_of(alloc, &env)?,
         env: Rc::new(alloc, env)?,
@@ -195,7 +195,7 @@ fn arguments_of<S: Scope>(
     for desc in descs {
         let argument = match &desc.argument {
             None => None,
-            Some(ty) => Some(type_of(alloc, scope, &mut NoVariables, ty)?),
+            Some(ty) => Some(written_type(alloc, scope, &mut NoVariables, ty)?),
         };
         arguments.push(argument)?;
     }

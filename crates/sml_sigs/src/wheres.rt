@@ -18,7 +18,7 @@ use sml_types::bindings::parameters;
 use sml_types::fault::{CoreFault, plain_fault};
 use sml_types::scope::{Scope, type_at};
 use sml_types::sizes::{small, small_env_under};
-use sml_types::types::type_of;
+use sml_types::types::written_type;
 use sml_types::variables::Listed;
 use sml_types::written::Written;
 use std::alloc::Global;
@@ -82,7 +82,7 @@ fn right_side<S: Scope>(
     written: &WhereType,
 ) -> Result<Rc<Written>, CoreFault> {
     let mut listed = Listed::bound(alloc, &written.variables)?;
-    type_of(alloc, scope, &mut listed, &written.ty)
+    written_type(alloc, scope, &mut listed, &written.ty)
 }
 
 /// The bound name of a type constructor with as many variables as are written, or E4 or N3.

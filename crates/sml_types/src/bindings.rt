@@ -3,7 +3,7 @@
 use crate::fault::CoreFault;
 use crate::scope::Scope;
 use crate::sizes::small;
-use crate::types::type_of;
+use crate::types::written_type;
 use crate::variables::Listed;
 use crate::written::Written;
 use sml_bases::objects::{Constructors, Env, TypeStr};
@@ -64,7 +64,7 @@ fn right_sides<S: Scope>(
     let mut sides = Vec::new(alloc);
     for bind in binds {
         let mut listed = Listed::bound(alloc, &bind.variables)?;
-        sides.push(type_of(alloc, scope, &mut listed, &bind.ty)?)?;
+        sides.push(written_type(alloc, scope, &mut listed, &bind.ty)?)?;
     }
     Ok(sides)
 }

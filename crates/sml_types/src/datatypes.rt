@@ -11,16 +11,16 @@ use crate::rows::{arrow, boxed, number_of};
 use crate::scope::Scope;
 use crate::sides::{RightSide, read_side};
 use crate::sizes::{few, small_beside};
-use crate::types::type_of;
+use crate::types::written_type;
 use crate::variables::{Listed, closed, is_equality_variable};
 use crate::written::Written;
-use sml_bases::objects::{Constructors, Env, Status, TypeStr, Value};
+use sml_bases::objects::{Basis, Constructors, Env, Status, TypeStr, Value};
 use sml_envs::functions::name_of;
 use sml_envs::mapping::{Image, Mapping, mapped_type};
 use sml_envs::new_names::NewNames;
 use sml_equality::largest::without_equality;
 use sml_equality::runs::Run;
-use sml_lex::fault::{Memory, Place};
+use sml_lex::fault::{FIRST, Memory, Place};
 use sml_objects::objects::{MadeName, MlType, Scheme, TyName};
 use sml_tree::bare::Ident;
 use sml_tree::expressions::{DatBind, TypBind};
@@ -29,10 +29,22 @@ use std::alloc::Global;
 use std::collections::BTreeMap;
 use std::rc::Rc;
 
+/// The types and the constructors that bindings of datatypes give in a basis, with new names of its unit, numbered from its
+/// count on in the order of the bindings, as many of which admit equality as can. E2, E3, E4 or E8; once all constructors'
+/// arguments are read, a constructor whose type is too large is E7 at the first binding.
+pub fn datatypes(alloc: Global, basis: &Basis, binds: &[DatBind]) -> Result<Env, CoreFault> {
+    let place = match binds.first() {
+        Some(bind) => bind.name.place,
+        None => FIRST,
+    };
+    let mut new = NewNames::new(alloc, basis);
+    datatypes_with(alloc, basis, &mut new, place, binds, &[])
+}
+
 /// The types and the constructors that bindings of datatypes give, with new names in their order, as many of which admit
 /// equality as can. The types bound behind `withtype` stand for their right sides in the constructors' types; they are not
 /// bound. Once all constructors' arguments are read, a constructor whose type is too large is E7 at the place.
-pub fn datatypes<S: Scope>(
+pub fn datatypes_with<S: Scope>(
     alloc: Global,
     scope: &S,
     new: &mut NewNames,
@@ -203,7 +215,7 @@ fn arguments_in<S: Scope>(
     for constructor in &bind.constructors {
         let argument = match &constructor.argument {
             None => None,
-            Some(ty) => Some(type_of(alloc, scope, &mut listed, ty)?),
+            Some(ty) => Some(written_type(alloc, scope, &mut listed, ty)?),
         };
         arguments.push(argument)?;
     }

@@ -5,7 +5,7 @@
 
 use crate::fault::{CoreFault, again};
 use crate::scope::Scope;
-use crate::types::type_of;
+use crate::types::written_type;
 use crate::variables::{Listed, TypeVariables};
 use crate::written::{Written, made_if_small, shared};
 use indexmap::IndexSet;
@@ -57,7 +57,7 @@ pub(crate) fn read_side<S: Scope>(
         listed: Listed::bound(alloc, &bind.variables)?,
         used: IndexSet::new(alloc),
     };
-    let meaning = match type_of(alloc, scope, &mut noted, &bind.ty) {
+    let meaning = match written_type(alloc, scope, &mut noted, &bind.ty) {
         Ok(side) => Ok(made_if_small(alloc, side)?),
         Err(CoreFault::Fault(fault)) => Err(fault),
         Err(CoreFault::Memory) => return Err(Memory),

@@ -4,11 +4,13 @@ use crate::fault::{CoreFault, plain_fault};
 use crate::rows::{Labelled, label_key, parted};
 use crate::scope::{Scope, type_at};
 use crate::sides::RightSide;
-use crate::variables::TypeVariables;
+use crate::variables::{Listed, TypeVariables};
 use crate::written::{Written, shared, written_tuple};
 use sml_envs::functions::name_of;
 use sml_lex::fault::{Code, Memory, Place};
+use sml_objects::objects::MlType;
 use sml_tree::bare::{Ident, LongIdent};
+use sml_tree::names::Name;
 use sml_tree::types::{Ty, TyField};
 use std::alloc::Global;
 use std::collections::BTreeMap;
@@ -27,9 +29,22 @@ pub fn type_place(ty: &Ty) -> Place {
     }
 }
 
-/// What a type expression means, or E2, E3, E4, or E8.
+/// The type that a type expression means. The type variables of the list stand for bound ones by their places in it, others
+/// are out of scope. E2, E3, E4 or E8. The type is made whatever its size; `written_type` says what it is without making it.
+pub fn type_of<S: Scope>(
+    alloc: Global,
+    scope: &S,
+    variables: &[Name],
+    ty: &Ty,
+) -> Result<Rc<MlType>, CoreFault> {
+    let mut listed = Listed::bound(alloc, variables)?;
+    let written = written_type(alloc, scope, &mut listed, ty)?;
+    Ok(written.make(alloc)?)
+}
+
+/// What a type expression means as it is written, or E2, E3, E4, or E8.
 #[cycle(meaning)]
-pub fn type_of<S: Scope, V: TypeVariables>(
+pub fn written_type<S: Scope, V: TypeVariables>(
     alloc: Global,
     scope: &S,
     variables: &mut V,
@@ -45,11 +60,11 @@ pub fn type_of<S: Scope, V: TypeVariables>(
         Ty::Constructor(_, tys, long) => applied(alloc, scope, variables, tys, long),
         Ty::Misapplied(_, tys, long) => misapplied(alloc, scope, variables, tys, long),
         Ty::Arrow(_, from, to) => {
-            let from = type_of(alloc, scope, variables, from)?;
-            let to = type_of(alloc, scope, variables, to)?;
+            let from = written_type(alloc, scope, variables, from)?;
+            let to = written_type(alloc, scope, variables, to)?;
             Ok(shared(alloc, Written::Arrow(from, to))?)
         }
-        Ty::Bracket(_, ty) => type_of(alloc, scope, variables, ty),
+        Ty::Bracket(_, ty) => written_type(alloc, scope, variables, ty),
     }
 }
 
@@ -74,7 +89,7 @@ fn types_of<S: Scope, V: TypeVariables>(
 ) -> Result<Vec<Rc<Written>>, CoreFault> {
     let mut types = Vec::new(alloc);
     for ty in tys {
-        types.push(type_of(alloc, scope, variables, ty)?)?;
+        types.push(written_type(alloc, scope, variables, ty)?)?;
     }
     Ok(types)
 }
@@ -89,7 +104,7 @@ fn row_type<S: Scope, V: TypeVariables>(
 ) -> Result<Rc<Written>, CoreFault> {
     let mut row: Labelled<Rc<Written>> = BTreeMap::new(alloc);
     for field in fields {
-        let ty = type_of(alloc, scope, variables, &field.ty)?;
+        let ty = written_type(alloc, scope, variables, &field.ty)?;
         row.insert(label_key(&field.label.ident)?, ty)?;
     }
     let (labels, parts) = parted(alloc, row)?;
@@ -139,7 +154,7 @@ fn replaced<S: Scope, V: TypeVariables>(
     for index in &side.used {
         let index = *index as usize;
         if index < tys.len() {
-            let ty = type_of(alloc, scope, variables, &tys[index])?;
+            let ty = written_type(alloc, scope, variables, &tys[index])?;
             put(&mut types, index, ty);
         }
     }

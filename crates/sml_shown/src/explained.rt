@@ -443,7 +443,7 @@ fn section_n2() -> Section {
     Section {
         code: "N2",
         meaning: "repeated specification",
-        text: "N2 repeated specification\n\nA type, a value or a structure is specified twice in one `sig .. end`. Place: the later specification.\n\n```sml\nstructure S :> sig type t type t end = struct type t = int end\n```\n```text\n1 fault N2 1.27 repeated specification\n```\nCure: remove one of them.\n\n```sml\nstructure S :> sig type t end = struct type t = int end\n```\n```text\n1 ok\n  structure S\n  type S.t = ?1\n```\n",
+        text: "N2 repeated specification\n\nA type, a value or a structure is specified twice in one `sig .. end`. Place: the first token of the later specification; several joined by `and` are one, which begins at its keyword.\n\n```sml\nstructure S :> sig type t type t end = struct type t = int end\n```\n```text\n1 fault N2 1.27 repeated specification\n```\nCure: remove one of them.\n\n```sml\nstructure S :> sig type t end = struct type t = int end\n```\n```text\n1 ok\n  structure S\n  type S.t = ?1\n```\n",
     }
 }
 

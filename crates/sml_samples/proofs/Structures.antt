@@ -46,6 +46,19 @@ structure-samples = record {
           ⊳ inl (type_of int, (λ σ m. refl), (omega arith, tt, (omega arith, tt)) ⊳ omega arith ⊳ refl),
     ),
   );
+  anew_accepted = (
+    _,
+    refl ⊳ (λ _. type_of int, (refl, tt)) ⊳ tt ⊳ (
+      mono (type_of int),
+      int-scheme,
+      (omega arith, tt) ⊳ refl ⊳ (λ _. type_of int, (refl, tt)) ⊳ tt ⊳ (
+        mono (type_of int),
+        int-scheme,
+        (omega arith, tt)
+            ⊳ inl (type_of int, (λ σ m. refl), inl (type_of int, (λ σ m. refl), (omega arith, (omega arith, tt)) ⊳ omega arith ⊳ refl)),
+      ),
+    ),
+  );
   named_accepted = (_, inl (type_of int, (λ σ m. refl), (omega arith, tt, (omega arith, tt)) ⊳ omega arith ⊳ refl));
   structure_refused = refl;
   transparent_accepted = (

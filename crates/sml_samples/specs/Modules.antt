@@ -13,7 +13,7 @@ use Rattle.sml_objects.specs.Names.{int}
 use Rattle.sml_objects.specs.Initial.{Name, made}
 use Rattle.sml_objects.specs.Objects.{MlType, named}
 use Rattle.sml_rules.specs.Answers.{refused, accepted, fault_at}
-use Rattle.sml_core_rules.specs.Objects.{Env, Sig, FunSig, Basis, variable, maps, no_structure, and_structure, empty, of_types}
+use Rattle.sml_core_rules.specs.Objects.{Env, Sig, FunSig, Basis, variable, maps, no_structure, and_structure, empty, of_types, of_values}
 use Rattle.sml_core_rules.specs.States.{State}
 use Rattle.sml_module_rules.specs.Structures.{IsTopReading}
 use Rattle.sml_samples.specs.Around.{Place, name_at, long_at, constructor_at, scope, initial_names, around, inner, type_of, plain, value_of}
@@ -64,6 +64,13 @@ abbrev pub with_both : StrExp Place
 with_both =
     struct_end 4 (and_str_dec (core_dec (type_at 5 (codes "t") (codes "int"))) (core_at (val_dec 9 [] (one_binding (pattern_at 10 (codes "x")) (three 12)) no_bind)))
 
+-- `val x = 3`, and behind it `val y = 3`, in `struct .. end`
+abbrev pub three_at : Place → Id → Dec Place
+three_at p x = val_dec p [] (one_binding (pattern_at (p + 1) x) (three (p + 3))) no_bind
+
+abbrev pub with_threes : StrExp Place
+with_threes = struct_end 4 (and_str_dec (core_dec (three_at 5 (codes "x"))) (core_at (three_at 9 (codes "y"))))
+
 -- `type t` and `val x : t`, where `sig` is at this place
 abbrev pub specified_type : Place → Specs Place → Specs Place
 specified_type p qs = and_spec (type_spec p (record { variables = []; name = name_at (p + 1) (codes "t") } ∷ [])) qs
@@ -101,6 +108,9 @@ functor_basis = with_functors ((codes "F", sample_functor) ∷ []) (made 1 1 0 t
 pub record StructureSamples : Type 0 where
   -- `structure A = struct type t = int val x = 3 end`, `structure A = S`, and `structure A = B`
   pub structure_accepted : AcceptsTop (top_structure with_both) (one_structure [] (both_of (type_of int)))
+  -- `structure A = struct val x = 3 val y = 3 end`: the second value starts with nothing made and nothing asked
+  pub anew_accepted : AcceptsTop (top_structure with_threes)
+      (one_structure [] (of_values ((codes "x", value_of variable (type_of int)) ∷ (codes "y", value_of variable (type_of int)) ∷ [])))
   pub named_accepted : AcceptsTop (top_structure (str_name (long_at 4 (codes "S")))) (one_structure [] inner)
   pub structure_refused : RefusesTop (top_structure (str_name (long_at 4 (codes "B")))) (fault_at E3 4 (codes "B" ∷ []))
   -- `structure A = struct type t = int val x = 3 end : sig type t val x : t end`, and without the value

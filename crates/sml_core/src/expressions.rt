@@ -2,6 +2,7 @@
 
 use crate::context::Context;
 use crate::patterns::Variables;
+use crate::recorder::Meeting;
 use sml_bases::objects::{Status, Value};
 use sml_closing::places::pattern_place;
 use sml_layers::layer::Bound;
@@ -155,12 +156,12 @@ impl Context<'_> {
         argument: Rc<MlType>,
     ) -> Result<Rc<MlType>, CoreFault> {
         if let MlType::Arrow(from, to) = function {
-            self.equal(place, from, &argument)?;
+            self.equal(place, Meeting::Argument, from, &argument)?;
             return Ok(to.clone()?);
         }
         let result = self.unknown()?;
         let wanted = arrow(self.alloc, argument, result.clone()?)?;
-        self.equal(place, function, &wanted)?;
+        self.equal(place, Meeting::Applied, function, &wanted)?;
         Ok(result)
     }
 
@@ -174,7 +175,7 @@ impl Context<'_> {
     ) -> Result<Rc<MlType>, CoreFault> {
         let exn = initial(self.alloc, Initial::Exn)?;
         let wanted = arrow(self.alloc, exn, ty.clone()?)?;
-        self.equal(place, handler, &wanted)?;
+        self.equal(place, Meeting::Handler, handler, &wanted)?;
         judge_rules(&self.scopes, &mut self.warnings, Kind::Handle, place, rules)?;
         Ok(ty)
     }
@@ -182,7 +183,7 @@ impl Context<'_> {
     #[inline(never)]
     fn raised(&mut self, place: Place, ty: &MlType) -> Result<Rc<MlType>, CoreFault> {
         let exn = initial(self.alloc, Initial::Exn)?;
-        self.equal(place, ty, &exn)?;
+        self.equal(place, Meeting::Wanted, ty, &exn)?;
         self.unknown()
     }
 
@@ -210,7 +211,7 @@ impl Context<'_> {
         match first {
             None => Ok(ty),
             Some(first) => {
-                self.equal(place, &first, &ty)?;
+                self.equal(place, Meeting::Rules, &first, &ty)?;
                 Ok(first)
             }
         }

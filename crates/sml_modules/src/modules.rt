@@ -34,7 +34,11 @@ pub fn topdec(
 }
 
 /// What the declaration binds, with its new names numbered.
-fn numbered(context: &mut Context, basis: &Basis, dec: &TopDec) -> Result<Basis, TopFault> {
+pub(crate) fn numbered(
+    context: &mut Context,
+    basis: &Basis,
+    dec: &TopDec,
+) -> Result<Basis, TopFault> {
     let own = own_basis(context, basis, dec)?;
     let own = canonical(context.alloc, own, basis.unit, basis.count, &context.new)?;
     if own.count > MOST_NAMES {

@@ -1,6 +1,6 @@
 //! Why a declaration is refused, for who asks after its fault.
 
-use crate::modules::numbered;
+use crate::modules::own_basis;
 use sml_asks::asks::{ask_instance, ask_scheme};
 use sml_bases::objects::{Basis, Env, Sig, TypeStr, Value};
 use sml_core::context::{Context, MOST_SHOWN};
@@ -52,7 +52,7 @@ pub fn explain(alloc: Global, basis: &Basis, dec: &TopDec) -> Result<Option<Expl
 
 /// The fault of a declaration, if it is refused.
 fn fault_of(context: &mut Context, basis: &Basis, dec: &TopDec) -> Result<Option<Fault>, Memory> {
-    match numbered(context, basis, dec) {
+    match own_basis(context, basis, dec) {
         Ok(_) => Ok(None),
         Err(CoreFault::Fault(fault)) => Ok(Some(fault)),
         Err(CoreFault::Memory) => Err(Memory),

@@ -34,11 +34,7 @@ pub fn topdec(
 }
 
 /// What the declaration binds, with its new names numbered.
-pub(crate) fn numbered(
-    context: &mut Context,
-    basis: &Basis,
-    dec: &TopDec,
-) -> Result<Basis, TopFault> {
+fn numbered(context: &mut Context, basis: &Basis, dec: &TopDec) -> Result<Basis, TopFault> {
     let own = own_basis(context, basis, dec)?;
     let own = canonical(context.alloc, own, basis.unit, basis.count, &context.new)?;
     if own.count > MOST_NAMES {
@@ -48,7 +44,11 @@ pub(crate) fn numbered(
 }
 
 /// What the declaration binds, all types of which are known.
-fn own_basis(context: &mut Context, basis: &Basis, dec: &TopDec) -> Result<Basis, TopFault> {
+pub(crate) fn own_basis(
+    context: &mut Context,
+    basis: &Basis,
+    dec: &TopDec,
+) -> Result<Basis, TopFault> {
     let mut own = Basis::new(context.alloc, basis.unit);
     own.count = basis.count;
     match dec {

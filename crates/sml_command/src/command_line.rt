@@ -27,7 +27,7 @@ pub enum Asked {
     Memory,
 }
 
-/// What the help says behind the switches.
+/// What the help says after the switches.
 const AFTER_HELP: &str =
     "Each unit NAME is the text of FILE, which lies beside the project file, and sees what
 the units NEED .. declare:

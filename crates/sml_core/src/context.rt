@@ -1,7 +1,8 @@
 //! What elaboration knows while it goes through a top-level declaration.
 
 use crate::explicit::Explicit;
-use sml_asks::asks::{ask_class, ask_equal, ask_equality, ask_instance, ask_within};
+use crate::recorder::{Meeting, Recorder, Seen};
+use sml_asks::asks::{ask_class, ask_equal, ask_equality, ask_instance, ask_scheme, ask_within};
 use sml_bases::objects::{Basis, Env, Status, TypeStr, Value};
 use sml_envs::new_names::NewNames;
 use sml_graph::demand::Refusal;
@@ -15,7 +16,7 @@ use sml_solve::solver::Solver;
 use sml_tree::bare::{Ident, LongIdent};
 use sml_tree::types::Ty;
 use sml_types::fault::{CoreFault, plain_fault};
-use sml_types::rows::{boxed, number_of};
+use sml_types::rows::{boxed, number_of, tuple_of};
 use sml_types::scope::unbound;
 use sml_types::sizes::small;
 use sml_types::types::{type_place, written_type};
@@ -33,6 +34,7 @@ pub struct Context<'a> {
     pub solver: Solver,
     pub new: NewNames<'a>,
     pub warnings: Vec<Warning>,
+    pub recorder: Recorder,
     /// What was bound since it was set, where that is wanted.
     exports: Option<Env>,
     pub(crate) explicit: Explicit,
@@ -43,6 +45,9 @@ pub struct Context<'a> {
     /// Whether an unknown of an earlier declaration may still stand in the scopes.
     pub(crate) is_open: bool,
 }
+
+/// The most nodes that types have which are kept to be shown.
+pub const MOST_SHOWN: u32 = 1_000;
 
 /// The fault of a demand that was refused there.
 pub(crate) fn refused(refusal: Refusal, place: Place) -> CoreFault {
@@ -61,6 +66,7 @@ impl<'a> Context<'a> {
             solver: Solver::new(alloc, basis.unit),
             new: NewNames::new(alloc, basis),
             warnings: Vec::new(alloc),
+            recorder: Recorder::new(alloc),
             exports: None,
             explicit: Explicit::new(alloc),
             rows: Vec::new(alloc),
@@ -95,6 +101,8 @@ impl<'a> Context<'a> {
     }
 
     pub fn bind_type(&mut self, name: &Ident, ty: TypeStr) -> Result<(), Memory> {
+        let basis = self.scopes.basis();
+        self.recorder.note_type(basis.unit, basis.count, name, &ty)?;
         if let Some(env) = &mut self.exports {
             env.types.insert(name.clone()?, ty.share()?)?;
         }
@@ -102,6 +110,9 @@ impl<'a> Context<'a> {
     }
 
     pub fn bind_structure(&mut self, name: &Ident, structure: Rc<Env>) -> Result<(), Memory> {
+        let basis = self.scopes.basis();
+        self.recorder
+            .note_structure(basis.unit, basis.count, name, &structure)?;
         if let Some(env) = &mut self.exports {
             env.structures.insert(name.clone()?, structure.clone()?)?;
         }
@@ -205,12 +216,43 @@ impl<'a> Context<'a> {
     pub(crate) fn equal(
         &mut self,
         place: Place,
+        meeting: Meeting,
         left: &MlType,
         right: &MlType,
     ) -> Result<(), CoreFault> {
+        if self.recorder.is_next() {
+            self.keep(meeting, &[left, right])?;
+        }
         match ask_equal(&mut self.solver, left, right) {
             Ok(()) => Ok(()),
-            Err(refusal) => Err(refused(refusal, place)),
+            Err(refusal) => {
+                self.recorder.refuse();
+                Err(refused(refusal, place))
+            }
+        }
+    }
+
+    /// Keeps the types of a demand that is refused next, unless they are too large to be shown.
+    #[inline(never)]
+    fn keep(&mut self, meeting: Meeting, types: &[&MlType]) -> Result<(), CoreFault> {
+        let mut parts = Vec::new(self.alloc);
+        for ty in types {
+            let part = self.unknown()?;
+            if ask_equal(&mut self.solver, &part, *ty).is_err() {
+                return Err(CoreFault::Memory);
+            }
+            parts.push(part)?;
+        }
+        let explicit = self.explicit.put_all(self.alloc, &mut parts)?;
+        let row = tuple_of(self.alloc, parts)?;
+        let found = ask_scheme(self.alloc, &mut self.solver, &row, &[], false, MOST_SHOWN);
+        match found {
+            Ok(Some(scheme)) => {
+                self.recorder.keep(Seen::Types(meeting, scheme, explicit));
+                Ok(())
+            }
+            Ok(None) => Ok(()),
+            Err(_) => Err(CoreFault::Memory),
         }
     }
 
@@ -222,9 +264,15 @@ impl<'a> Context<'a> {
         bound: Bound,
         most: u32,
     ) -> Result<(), CoreFault> {
+        if self.recorder.is_next() {
+            self.keep(Meeting::Late, &[ty])?;
+        }
         match ask_within(&mut self.solver, ty, bound, most) {
             Ok(()) => Ok(()),
-            Err(refusal) => Err(refused(refusal, place)),
+            Err(refusal) => {
+                self.recorder.refuse();
+                Err(refused(refusal, place))
+            }
         }
     }
 

@@ -32,6 +32,20 @@ impl Explicit {
         Ok(())
     }
 
+    /// Adds the unknowns of those in scope to some types, and answers their identifiers in that order.
+    pub(crate) fn put_all(
+        &self,
+        alloc: Global,
+        types: &mut Vec<Rc<MlType>>,
+    ) -> Result<Vec<Ident>, Memory> {
+        let mut names = Vec::new(alloc);
+        for (name, unknown) in &self.unknowns {
+            names.push(name.clone()?)?;
+            types.push(boxed(alloc, MlType::Free(*unknown))?)?;
+        }
+        Ok(names)
+    }
+
     /// How many are in scope.
     pub(crate) fn count(&self) -> usize {
         self.unknowns.len()

@@ -2,6 +2,7 @@
 
 use crate::context::Context;
 use crate::patterns::Variables;
+use crate::recorder::Meeting;
 use sml_bases::objects::{Status, Value};
 use sml_closing::places::pattern_place;
 use sml_layers::layer::Bound;
@@ -9,8 +10,9 @@ use sml_lex::fault::{Memory, Place};
 use sml_objects::objects::{Initial, MlType, Scheme};
 use sml_scopes::scopes::Mark;
 use sml_tree::bare::{Ident, LongIdent};
-use sml_tree::expressions::{Exp, ExpField, Rule};
+use sml_tree::expressions::{Dec, Exp, ExpField, Rule};
 use sml_tree::patterns::{Constant, ConstantKind};
+use sml_tree::types::Ty;
 use sml_types::fault::CoreFault;
 use sml_types::rows::{Fields, arrow, initial, label_key, row_of, tuple_of};
 use sml_warnings::matches::{Kind, judge_rules};
@@ -50,51 +52,88 @@ struct Outside {
 }
 
 impl Context<'_> {
-    /// The type of an expression.
+    /// The type of an expression. Each form has a function of its own, so that a level of a nest takes little stack.
     #[cycle(core)]
     pub(crate) fn expression(&mut self, exp: &Exp) -> Result<Rc<MlType>, CoreFault> {
         match exp {
-            Exp::Constant(_, it) => Ok(constant(self.alloc, it)?),
+            Exp::Constant(_, it) => self.constant(it),
             Exp::Identifier(place, long) => self.identifier(*place, long),
-            Exp::Row(_, fields) => {
-                let fields = self.fields(fields)?;
-                Ok(row_of(self.alloc, fields)?)
-            }
-            Exp::Tuple(_, exps) => {
-                let types = self.tuple(exps)?;
-                Ok(tuple_of(self.alloc, types)?)
-            }
-            Exp::Let(place, decs, exp) => {
-                let outside = self.outside();
-                self.decs(decs)?;
-                let ty = self.expression(exp)?;
-                self.left(*place, outside, ty)
-            }
+            Exp::Row(_, fields) => self.row(fields),
+            Exp::Tuple(_, exps) => self.tuple(exps),
+            Exp::Let(place, decs, exp) => self.let_in(*place, decs, exp),
             Exp::Bracket(_, exp) => self.expression(exp),
             Exp::Application(place, function, argument) => {
-                let function = self.expression(function)?;
-                let argument = self.expression(argument)?;
-                self.applied(*place, &function, argument)
+                self.application(*place, function, argument)
             }
-            Exp::Typed(place, exp, ty) => {
-                let found = self.expression(exp)?;
-                self.constrained(*place, found, ty)
-            }
-            Exp::Handle(place, exp, rules) => {
-                let ty = self.expression(exp)?;
-                let handler = self.rules(rules)?;
-                self.handled(*place, ty, &handler, rules)
-            }
-            Exp::Raise(place, exp) => {
-                let ty = self.expression(exp)?;
-                self.raised(*place, &ty)
-            }
-            Exp::Function(place, rules) => {
-                let ty = self.rules(rules)?;
-                judge_rules(&self.scopes, &mut self.warnings, Kind::Fn, *place, rules)?;
-                Ok(ty)
-            }
+            Exp::Typed(place, exp, ty) => self.typed(*place, exp, ty),
+            Exp::Handle(place, exp, rules) => self.handle(*place, exp, rules),
+            Exp::Raise(place, exp) => self.raise(*place, exp),
+            Exp::Function(place, rules) => self.function(*place, rules),
         }
+    }
+
+    #[inline(never)]
+    fn constant(&mut self, it: &Constant) -> Result<Rc<MlType>, CoreFault> {
+        Ok(constant(self.alloc, it)?)
+    }
+
+    #[cycle(core)]
+    #[inline(never)]
+    fn row(&mut self, fields: &[ExpField]) -> Result<Rc<MlType>, CoreFault> {
+        let fields = self.fields(fields)?;
+        Ok(row_of(self.alloc, fields)?)
+    }
+
+    #[cycle(core)]
+    #[inline(never)]
+    fn let_in(&mut self, place: Place, decs: &[Dec], exp: &Exp) -> Result<Rc<MlType>, CoreFault> {
+        let outside = self.outside();
+        self.decs(decs)?;
+        let ty = self.expression(exp)?;
+        self.left(place, outside, ty)
+    }
+
+    #[cycle(core)]
+    #[inline(never)]
+    fn application(
+        &mut self,
+        place: Place,
+        function: &Exp,
+        argument: &Exp,
+    ) -> Result<Rc<MlType>, CoreFault> {
+        let function = self.expression(function)?;
+        let argument = self.expression(argument)?;
+        self.applied(place, &function, argument)
+    }
+
+    #[cycle(core)]
+    #[inline(never)]
+    fn typed(&mut self, place: Place, exp: &Exp, ty: &Ty) -> Result<Rc<MlType>, CoreFault> {
+        let found = self.expression(exp)?;
+        self.constrained(place, found, ty)
+    }
+
+    #[cycle(core)]
+    #[inline(never)]
+    fn handle(&mut self, place: Place, exp: &Exp, rules: &[Rule]) -> Result<Rc<MlType>, CoreFault> {
+        let ty = self.expression(exp)?;
+        let handler = self.rules(rules)?;
+        self.handled(place, ty, &handler, rules)
+    }
+
+    #[cycle(core)]
+    #[inline(never)]
+    fn raise(&mut self, place: Place, exp: &Exp) -> Result<Rc<MlType>, CoreFault> {
+        let ty = self.expression(exp)?;
+        self.raised(place, &ty)
+    }
+
+    #[cycle(core)]
+    #[inline(never)]
+    fn function(&mut self, place: Place, rules: &[Rule]) -> Result<Rc<MlType>, CoreFault> {
+        let ty = self.rules(rules)?;
+        judge_rules(&self.scopes, &mut self.warnings, Kind::Fn, place, rules)?;
+        Ok(ty)
     }
 
     #[inline(never)]
@@ -116,12 +155,12 @@ impl Context<'_> {
 
     #[cycle(core)]
     #[inline(never)]
-    fn tuple(&mut self, exps: &[Exp]) -> Result<Vec<Rc<MlType>>, CoreFault> {
+    fn tuple(&mut self, exps: &[Exp]) -> Result<Rc<MlType>, CoreFault> {
         let mut types = Vec::new(self.alloc);
         for exp in exps {
             types.push(self.expression(exp)?)?;
         }
-        Ok(types)
+        Ok(tuple_of(self.alloc, types)?)
     }
 
     fn outside(&mut self) -> Outside {
@@ -155,12 +194,12 @@ impl Context<'_> {
         argument: Rc<MlType>,
     ) -> Result<Rc<MlType>, CoreFault> {
         if let MlType::Arrow(from, to) = function {
-            self.equal(place, from, &argument)?;
+            self.equal(place, Meeting::Argument, from, &argument)?;
             return Ok(to.clone()?);
         }
         let result = self.unknown()?;
         let wanted = arrow(self.alloc, argument, result.clone()?)?;
-        self.equal(place, function, &wanted)?;
+        self.equal(place, Meeting::Applied, function, &wanted)?;
         Ok(result)
     }
 
@@ -174,7 +213,7 @@ impl Context<'_> {
     ) -> Result<Rc<MlType>, CoreFault> {
         let exn = initial(self.alloc, Initial::Exn)?;
         let wanted = arrow(self.alloc, exn, ty.clone()?)?;
-        self.equal(place, handler, &wanted)?;
+        self.equal(place, Meeting::Handler, handler, &wanted)?;
         judge_rules(&self.scopes, &mut self.warnings, Kind::Handle, place, rules)?;
         Ok(ty)
     }
@@ -182,7 +221,7 @@ impl Context<'_> {
     #[inline(never)]
     fn raised(&mut self, place: Place, ty: &MlType) -> Result<Rc<MlType>, CoreFault> {
         let exn = initial(self.alloc, Initial::Exn)?;
-        self.equal(place, ty, &exn)?;
+        self.equal(place, Meeting::Wanted, ty, &exn)?;
         self.unknown()
     }
 
@@ -210,7 +249,7 @@ impl Context<'_> {
         match first {
             None => Ok(ty),
             Some(first) => {
-                self.equal(place, &first, &ty)?;
+                self.equal(place, Meeting::Rules, &first, &ty)?;
                 Ok(first)
             }
         }

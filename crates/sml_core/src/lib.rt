@@ -6,4 +6,5 @@ pub mod declarations;
 mod explicit;
 mod expressions;
 mod patterns;
+pub mod recorder;
 pub mod values;

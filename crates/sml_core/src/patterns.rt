@@ -2,6 +2,7 @@
 
 use crate::context::{Context, refused};
 use crate::expressions::constant;
+use crate::recorder::Meeting;
 use indexmap::IndexMap;
 use sml_asks::asks::ask_row;
 use sml_bases::objects::Value;
@@ -82,7 +83,7 @@ impl Context<'_> {
             Pat::As(place, name, ty, pat) => {
                 let whole = self.layered(variables, name, ty)?;
                 let part = self.pattern(variables, pat)?;
-                self.equal(*place, &whole, &part)?;
+                self.equal(*place, Meeting::Layered, &whole, &part)?;
                 Ok(whole)
             }
         }
@@ -230,7 +231,7 @@ impl Context<'_> {
         ty: &Ty,
     ) -> Result<Rc<MlType>, CoreFault> {
         let wanted = self.ty(ty)?;
-        self.equal(place, &found, &wanted)?;
+        self.equal(place, Meeting::Wanted, &found, &wanted)?;
         Ok(wanted)
     }
 }

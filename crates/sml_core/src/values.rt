@@ -2,6 +2,7 @@
 
 use crate::context::{Context, refused};
 use crate::patterns::Variables;
+use crate::recorder::Meeting;
 use indexmap::IndexSet;
 use sml_asks::asks::{
     ask_equality, ask_fixed, ask_general, ask_labels, ask_reading, ask_scheme, ask_settled,
@@ -126,7 +127,7 @@ impl Context<'_> {
         pattern: &MlType,
         ty: &MlType,
     ) -> Result<(), CoreFault> {
-        self.equal(pattern_place(&bind.pat), pattern, ty)?;
+        self.equal(pattern_place(&bind.pat), Meeting::Binding, pattern, ty)?;
         let is_expansive = is_expansive(&self.scopes, &bind.exp)?;
         let count = declaration.variables.types.len();
         if declaration.expansive.len() < count {
@@ -149,7 +150,8 @@ impl Context<'_> {
             if let Some(pattern) = patterns.next() {
                 check_function(&bind.exp)?;
                 let ty = self.expression(&bind.exp)?;
-                self.equal(pattern_place(&bind.pat), &pattern, &ty)?;
+                let place = pattern_place(&bind.pat);
+                self.equal(place, Meeting::Binding, &pattern, &ty)?;
             }
         }
         self.leave(mark)?;

@@ -1,11 +1,13 @@
 //! Functors and their applications (the Definition, section 5.7, rules 54, 85 and 86).
 
+use crate::explain::note_match;
 use crate::settled::{Known, known_in, settled_by};
 use crate::structures::{begin, end_let, structure};
 use sml_bases::objects::{Basis, Env, FunSig, Sig};
 use sml_core::context::Context;
 use sml_envs::canonical::{applied_result, names_from};
 use sml_envs::mapping::mapped_env;
+use sml_envs::realisation::Realisation;
 use sml_lex::fault::{Code, Place};
 use sml_match::enrich::enriches;
 use sml_match::mismatch::placed;
@@ -36,6 +38,24 @@ pub(crate) fn applied(
     functor: &FunSig,
     argument: &Rc<Env>,
 ) -> Result<Rc<Env>, CoreFault> {
+    note_match(context, argument, &functor.argument)?;
+    let matched = match_argument(context, place, functor, argument);
+    if matched.is_err() {
+        context.recorder.refuse();
+    }
+    let realisation = matched?;
+    let alloc = context.alloc;
+    small_env_under(alloc, place, &functor.result.env, &realisation)?;
+    Ok(applied_result(alloc, functor, &realisation, &mut context.new)?)
+}
+
+/// The types of an argument for the names that a functor's argument binds.
+fn match_argument(
+    context: &mut Context,
+    place: Place,
+    functor: &FunSig,
+    argument: &Env,
+) -> Result<Realisation, CoreFault> {
     let alloc = context.alloc;
     let realisation = placed(realise(alloc, &functor.argument, argument), place)?;
     small_env_under(alloc, place, &functor.argument.env, &realisation)?;
@@ -44,8 +64,7 @@ pub(crate) fn applied(
         enriches(alloc, argument, &wanted, &mut context.solver),
         place,
     )?;
-    small_env_under(alloc, place, &functor.result.env, &realisation)?;
-    Ok(applied_result(alloc, functor, &realisation, &mut context.new)?)
+    Ok(realisation)
 }
 
 /// Binds functors. Types of their results that are still unknown when all bodies were gone through are Q2 at the place, and

@@ -44,7 +44,11 @@ fn numbered(context: &mut Context, basis: &Basis, dec: &TopDec) -> Result<Basis,
 }
 
 /// What the declaration binds, all types of which are known.
-fn own_basis(context: &mut Context, basis: &Basis, dec: &TopDec) -> Result<Basis, TopFault> {
+pub(crate) fn own_basis(
+    context: &mut Context,
+    basis: &Basis,
+    dec: &TopDec,
+) -> Result<Basis, TopFault> {
     let mut own = Basis::new(context.alloc, basis.unit);
     own.count = basis.count;
     match dec {

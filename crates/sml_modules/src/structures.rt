@@ -1,5 +1,6 @@
 //! Structure expressions and structure-level declarations (the Definition, section 5.7, rules 50 to 61).
 
+use crate::explain::note_match;
 use crate::functors::applied;
 use sml_bases::objects::Env;
 use sml_core::context::Context;
@@ -90,7 +91,8 @@ fn with_signature(
     let place = signature_place(sig);
     let basis = context.scopes.basis();
     let sig = signature_in(context.alloc, basis, &mut context.new, &context.scopes, sig)?;
-    ascribed(
+    note_match(context, env, &sig)?;
+    let answer = ascribed(
         context.alloc,
         &mut context.new,
         &mut context.solver,
@@ -98,7 +100,11 @@ fn with_signature(
         &sig,
         ascription,
         place,
-    )
+    );
+    if answer.is_err() {
+        context.recorder.refuse();
+    }
+    answer
 }
 
 fn signature_place(sig: &SigExp) -> Place {

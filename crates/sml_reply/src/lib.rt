@@ -8,3 +8,4 @@ pub mod paths;
 pub mod piece;
 pub mod reply;
 pub mod sink;
+pub mod wording;

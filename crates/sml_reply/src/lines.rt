@@ -49,27 +49,29 @@ pub(crate) fn paths_of(
     Ok(paths)
 }
 
-/// What the numbers of variables in a line mean: parameters by their places, or variables by first appearance.
+/// What the numbers of variables in a line mean: parameters by their places, variables by first appearance, or unknowns by
+/// first appearance, some of which stand for explicit type variables.
 #[derive(Clone, Copy)]
-enum Variables<'a> {
+pub(crate) enum Variables<'a> {
     Parameters,
     Scheme(&'a [bool]),
+    Unknowns(&'a [bool], &'a IndexMap<u32, Ident>),
 }
 
 /// A text that grows, the names that print as paths, the prefix of the paths in its next lines, the names that signatures
 /// and functors bind, the made names that were numbered, and the variables that were numbered in the last line.
 #[derive(Drop)]
-struct Lines {
-    text: Vec<u8>,
-    paths: IndexMap<TyName, Ident>,
+pub(crate) struct Lines {
+    pub text: Vec<u8>,
+    pub paths: IndexMap<TyName, Ident>,
     prefix: Vec<u8>,
     bound: IndexSet<TyName>,
-    names: IndexSet<TyName>,
-    variables: IndexSet<u32>,
+    pub names: IndexSet<TyName>,
+    pub variables: IndexSet<u32>,
 }
 
 impl Lines {
-    fn new(alloc: Global, paths: IndexMap<TyName, Ident>) -> Lines {
+    pub(crate) fn new(alloc: Global, paths: IndexMap<TyName, Ident>) -> Lines {
         Lines {
             text: Vec::new(alloc),
             paths,
@@ -80,12 +82,12 @@ impl Lines {
         }
     }
 
-    fn push(&mut self, bytes: &[u8]) -> Result<(), Memory> {
+    pub(crate) fn push(&mut self, bytes: &[u8]) -> Result<(), Memory> {
         self.text.extend_from_slice(bytes)?;
         Ok(())
     }
 
-    fn push_if(&mut self, wanted: bool, bytes: &[u8]) -> Result<(), Memory> {
+    pub(crate) fn push_if(&mut self, wanted: bool, bytes: &[u8]) -> Result<(), Memory> {
         if wanted { self.push(bytes) } else { Ok(()) }
     }
 
@@ -213,18 +215,18 @@ impl Lines {
     }
 
     /// `'a `, or `('a, 'b) `.
-    fn push_parameters(&mut self, count: usize) -> Result<(), Memory> {
+    pub(crate) fn push_parameters(&mut self, count: usize) -> Result<(), Memory> {
         self.push_if(count > 1, b"(")?;
         for index in 0..count {
             self.push_if(index > 0, b", ")?;
-            self.push_variable(false, index)?;
+            self.push_variable(b'\'', false, index)?;
         }
         self.push_if(count > 1, b")")?;
         self.push_if(count > 0, b" ")
     }
 
     #[cycle(types)]
-    fn push_type(
+    pub(crate) fn push_type(
         &mut self,
         variables: Variables<'_>,
         around: Around,
@@ -232,7 +234,7 @@ impl Lines {
     ) -> Result<(), Memory> {
         match ty {
             MlType::Bound(number) => self.push_bound(variables, *number),
-            MlType::Free(_) => self.push(b"_"),
+            MlType::Free(_) => self.push(unknown_text(variables)),
             MlType::Arrow(from, to) => {
                 let brackets = around.brackets_arrow();
                 self.push_if(brackets, b"(")?;
@@ -307,19 +309,28 @@ impl Lines {
     #[inline(never)]
     fn push_bound(&mut self, variables: Variables<'_>, number: u32) -> Result<(), Memory> {
         match variables {
-            Variables::Parameters => self.push_variable(false, number as usize),
-            Variables::Scheme(attributes) => {
-                let (place, _) = self.variables.insert_full(number)?;
-                let equality = attributes.get(number as usize) == Some(&true);
-                self.push_variable(equality, place)
-            }
+            Variables::Parameters => self.push_variable(b'\'', false, number as usize),
+            Variables::Scheme(attributes) => self.push_appeared(b'\'', attributes, number),
+            Variables::Unknowns(attributes, explicit) => match explicit.get(&number) {
+                Some(name) => self.push(name.as_slice()),
+                None => self.push_appeared(b'_', attributes, number),
+            },
         }
     }
 
-    /// `'a` to `'z`, then `'a1` and so on, with a second prime for an equality variable.
-    fn push_variable(&mut self, equality: bool, place: usize) -> Result<(), Memory> {
-        self.push_if(equality, b"'")?;
-        self.text.push(b'\'')?;
+    /// A variable by its first appearance.
+    fn push_appeared(&mut self, sign: u8, attributes: &[bool], number: u32) -> Result<(), Memory> {
+        let (place, _) = self.variables.insert_full(number)?;
+        let equality = attributes.get(number as usize) == Some(&true);
+        self.push_variable(sign, equality, place)
+    }
+
+    /// With a prime as its sign `'a` to `'z`, then `'a1` and so on, with a second sign for an equality variable.
+    fn push_variable(&mut self, sign: u8, equality: bool, place: usize) -> Result<(), Memory> {
+        if equality {
+            self.text.push(sign)?;
+        }
+        self.text.push(sign)?;
         self.text.push(b'a' + (place % 26) as u8)?;
         if place >= 26 {
             push_number(&mut self.text, place / 26)?;
@@ -346,6 +357,14 @@ impl Lines {
     }
 }
 
+/// What stands for an unknown that has no number: among numbered ones, that of a row some of whose labels are known.
+fn unknown_text(variables: Variables<'_>) -> &'static [u8] {
+    match variables {
+        Variables::Parameters | Variables::Scheme(_) => b"_",
+        Variables::Unknowns(_, _) => b"{...}",
+    }
+}
+
 fn type_word(constructors: &Constructors) -> &'static [u8] {
     if constructors.is_empty() {
         b"  type "
@@ -354,7 +373,7 @@ fn type_word(constructors: &Constructors) -> &'static [u8] {
     }
 }
 
-fn value_word(status: Status) -> &'static [u8] {
+pub(crate) fn value_word(status: Status) -> &'static [u8] {
     match status {
         Status::Variable => b"  val ",
         Status::Overloaded(_) => b"  val ",

@@ -131,6 +131,14 @@ impl Reply {
         }
     }
 
+    /// The fault of a declaration that is refused.
+    pub fn fault(&self) -> Option<&Fault> {
+        match self {
+            Reply::Accepted(_) => None,
+            Reply::Refused(reply) => Some(&reply.fault),
+        }
+    }
+
     /// The warnings of the declaration.
     pub fn warnings(&self) -> &[Warning]
         ensures { result.now ≡ warnings_of self.now }

@@ -31,11 +31,13 @@ pub enum Asked {
 
 /// What the help says after the switches.
 const AFTER_HELP: &str =
-    "Of each fault its place in the file, its code and its text are printed, and the line with a
-caret:
+    "Of each fault its place in the file, its code and its text are printed, the line with a
+caret, and the types that don't fit:
   main.sml:2:13: U1 types clash
     | val total = firsts + 1
     |             ^ declaration 2
+    the function takes _a * _a
+    its argument has type (int * int) list * int
 --explain CODE says what a code means, with an example and a cure.
 
 Status: 0, no declaration was refused; 1, some was; 2, the command line or the

@@ -46,6 +46,7 @@ pub fn push_remark(
     number: usize,
     remark: &Remark,
     source: Option<Followed>,
+    reason: &[Vec<u8>],
     text: &mut Vec<u8>,
 ) -> Result<(), Memory> {
     let spot = page.spot(number, remark);
@@ -58,7 +59,20 @@ pub fn push_remark(
     if let Some(source) = source {
         record.put_record("follows", source_record(alloc, &source)?)?;
     }
+    put_reason(alloc, &mut record, reason)?;
     record.push_line(text)
+}
+
+/// Adds the lines of a reason, if there are some.
+fn put_reason(alloc: Global, record: &mut Record, reason: &[Vec<u8>]) -> Result<(), Memory> {
+    if reason.is_empty() {
+        return Ok(());
+    }
+    let mut lines: Vec<&[u8]> = Vec::new(alloc);
+    for line in reason {
+        lines.push(line.as_slice())?;
+    }
+    record.put_texts("types", &lines)
 }
 
 /// The line of what a declaration binds.

@@ -5,6 +5,7 @@ use crate::page::{Followed, Page};
 use crate::records;
 use crate::show::is_shown;
 use sml_lex::fault::Memory;
+use sml_reasons::reasons::Reason;
 use sml_reply::form::{Form, Version};
 use sml_reply::reply::{Reply, print};
 use sml_reply::sink::VecOut;
@@ -34,24 +35,30 @@ pub fn show_all(
 ) -> Result<(), Memory> {
     for (index, reply) in replies.iter().enumerate() {
         let number = index.saturating_add(1);
-        show_reply(alloc, page, before, own, number, reply, text)?;
+        show_reply(alloc, page, before, own, number, reply, &[], text)?;
     }
     Ok(())
 }
 
-/// Shows the replies to a unit's declarations, and says which of its declarations were refused.
+/// Shows the replies to a unit's declarations, with these reasons of the first ones, and says which of its declarations
+/// were refused.
 pub fn note_all(
     alloc: Global,
     page: &Page,
     before: &Before,
     replies: &[Reply],
+    reasons: &[Reason],
     declarations: &[TopDec],
     text: &mut Vec<u8>,
 ) -> Result<Refusals, Memory> {
     let mut own = Refusals::new(alloc);
     for (index, reply) in replies.iter().enumerate() {
         let number = index.saturating_add(1);
-        show_reply(alloc, page, before, &own, number, reply, text)?;
+        let reason = match reasons.get(index) {
+            Some(reason) => reason.as_slice(),
+            None => &[],
+        };
+        show_reply(alloc, page, before, &own, number, reply, reason, text)?;
         if let Some(declaration) = declarations.get(index) {
             let refusal = if reply.is_accepted() {
                 None
@@ -75,6 +82,7 @@ fn show_reply(
     own: &Refusals,
     number: usize,
     reply: &Reply,
+    reason: &[Vec<u8>],
     text: &mut Vec<u8>,
 ) -> Result<(), Memory> {
     if !is_shown(reply, page.wish) {
@@ -94,7 +102,7 @@ fn show_reply(
     match fault_in(first) {
         Some(remark) => {
             let source = source_of(alloc, page, before, own, &remark)?;
-            show_remark(alloc, page, b"fault", number, &remark, source, text)
+            show_remark(alloc, page, b"fault", number, &remark, source, reason, text)
         }
         None => show_accepted(alloc, page, number, rest, text),
     }
@@ -141,7 +149,7 @@ fn followed<'a>(unit: &'a str, file: &'a str, refusal: Option<Refusal>) -> Optio
     }
 }
 
-/// Shows a fault or a warning.
+/// Shows a fault or a warning, and the lines of its reason.
 fn show_remark(
     alloc: Global,
     page: &Page,
@@ -149,13 +157,19 @@ fn show_remark(
     number: usize,
     remark: &Remark,
     source: Option<Followed>,
+    reason: &[Vec<u8>],
     text: &mut Vec<u8>,
 ) -> Result<(), Memory> {
     if page.wish.json {
-        records::push_remark(alloc, page, kind, number, remark, source, text)
-    } else {
-        page.push_remark(text, number, remark, source)
+        return records::push_remark(alloc, page, kind, number, remark, source, reason, text);
     }
+    page.push_remark(text, number, remark, source)?;
+    for line in reason {
+        text.extend_from_slice(b"  ")?;
+        text.extend_from_slice(line)?;
+        text.push(b'\n')?;
+    }
+    Ok(())
 }
 
 /// Shows these lines of the reply to an accepted declaration.
@@ -178,7 +192,7 @@ fn show_accepted(
     }
     for line in lines.as_slice() {
         if let Some(remark) = warning_in(*line) {
-            show_remark(alloc, page, b"warning", number, &remark, None, text)?;
+            show_remark(alloc, page, b"warning", number, &remark, None, &[], text)?;
         }
     }
     Ok(())

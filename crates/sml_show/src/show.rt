@@ -7,10 +7,12 @@ use crate::replies::{Before, note_all, show_all};
 use sml_lex::fault::Memory;
 use sml_parse::parse::{Parsed, parse, release};
 use sml_projects::project::ProjectUnit;
+use sml_reasons::reasons::reasons;
 use sml_reply::reply::Reply;
 use sml_shown::refusals::Refusals;
 use sml_shown::unit_map::UnitMap;
-use sml_units::project::{UnitReplies, check};
+use sml_tree::structures::TopDec;
+use sml_units::project::{Checked, check};
 use std::alloc::Global;
 
 /// What is shown, and how many declarations were accepted and refused.
@@ -33,7 +35,7 @@ pub fn show(alloc: Global, listed: &Listed, wish: Wish) -> Result<Shown, Memory>
     for unit in units {
         count(&unit.replies, &mut shown);
     }
-    show_units(alloc, listed, units, wish, &mut shown)?;
+    show_units(alloc, listed, &checked, wish, &mut shown)?;
     if !wish.json {
         push_counts(&mut shown)?;
     }
@@ -55,29 +57,41 @@ fn count(replies: &[Reply], shown: &mut Shown) {
 fn show_units(
     alloc: Global,
     listed: &Listed,
-    units: &[UnitReplies],
+    checked: &Checked,
     wish: Wish,
     shown: &mut Shown,
 ) -> Result<(), Memory> {
     let are_traced = shown.refused > 0;
     let mut known = Vec::new(alloc);
     for (index, unit) in listed.project.units.iter().enumerate() {
-        let own = match units.get(index) {
-            Some(answered) => show_unit(
-                alloc,
-                listed,
-                unit,
-                &answered.replies,
-                &known,
-                wish,
-                are_traced,
-                &mut shown.text,
-            )?,
-            None => Refusals::new(alloc),
+        let answered = Answered {
+            checked,
+            index,
+            are_traced,
         };
+        let own = show_unit(alloc, listed, unit, answered, &known, wish, &mut shown.text)?;
         known.push(own)?;
     }
     Ok(())
+}
+
+/// A project that was checked, a unit of it by its place in the order, and whether some declaration of the project was
+/// refused.
+#[derive(Clone, Copy)]
+struct Answered<'a> {
+    checked: &'a Checked,
+    index: usize,
+    are_traced: bool,
+}
+
+impl<'a> Answered<'a> {
+    /// The replies to the unit's declarations.
+    fn replies(&self) -> &'a [Reply] {
+        match self.checked.replies().units.get(self.index) {
+            Some(unit) => unit.replies.as_slice(),
+            None => &[],
+        }
+    }
 }
 
 /// The line that says how many declarations were accepted and refused.
@@ -110,12 +124,13 @@ fn show_unit<'a>(
     alloc: Global,
     listed: &'a Listed,
     unit: &'a ProjectUnit,
-    replies: &[Reply],
+    answered: Answered,
     known: &'a [Refusals],
     wish: Wish,
-    are_traced: bool,
     text: &mut Vec<u8>,
 ) -> Result<Refusals, Memory> {
+    let replies = answered.replies();
+    let are_traced = answered.are_traced;
     if !are_traced && !is_any_shown(replies, wish) {
         return Ok(Refusals::new(alloc));
     }
@@ -141,7 +156,27 @@ fn show_unit<'a>(
         piece,
         fault: _,
     } = parse(alloc, &map.lexed)?;
-    let own = note_all(alloc, &page, &before, replies, &declarations, text);
+    let own = show_traced(alloc, &page, &before, answered, &declarations, text);
     release(declarations, piece);
     own
+}
+
+/// Shows the replies to a unit's declarations with the reasons of their faults, and says which were refused.
+fn show_traced(
+    alloc: Global,
+    page: &Page,
+    before: &Before,
+    answered: Answered,
+    declarations: &[TopDec],
+    text: &mut Vec<u8>,
+) -> Result<Refusals, Memory> {
+    let replies = answered.replies();
+    let reasons = reasons(
+        alloc,
+        answered.checked,
+        answered.index,
+        replies,
+        declarations,
+    )?;
+    note_all(alloc, page, before, replies, &reasons, declarations, text)
 }

@@ -9,7 +9,7 @@ pub fn projects_have_own_places()
 {}
 
 /// The fault of a refused declaration stands at one of its tokens, counted from the first, and the last fault of a unit
-/// at a token of what is left behind the whole declarations, or where the tokens end.
+/// at a token of what is left after the whole declarations, or where the tokens end.
 pub fn faults_stand_in_their_declarations()
     ensures { FaultsStandInTheirDeclarations }
 {}

@@ -53,7 +53,7 @@ pub struct UnitReplies {
     pub replies: Vec<Reply>,
 }
 
-/// The beginning of a unit: the replies to declarations of the piece, what they bind, with the paths behind them, and how
+/// The beginning of a unit: the replies to declarations of the piece, what they bind, with the paths after them, and how
 /// many names they made.
 #[derive(Drop)]
 struct Beginning {
@@ -228,7 +228,7 @@ fn end(
     Ok((replies, own, declarations.len() as u64))
 }
 
-/// Whether a beginning of the piece is all of its unit, where these declarations stand behind it.
+/// Whether a beginning of the piece is all of its unit, where these declarations stand after it.
 fn is_all(is_whole: bool, rest: &[TopDec]) -> bool
     ensures { result ≡ (is_whole && (length rest.now == 0)) }
 {
@@ -259,7 +259,7 @@ fn own_exports(
     })
 }
 
-/// The declarations behind the first so many.
+/// The declarations after the first so many.
 fn behind(declarations: &[TopDec], count: usize) -> &[TopDec]
     requires { count ≤ length declarations.now }
     ensures { count + length result.now ≡ length declarations.now }

@@ -44,7 +44,7 @@ pub(crate) fn whole_basis(
     Ok(basis)
 }
 
-/// The replies with those to these declarations behind them.
+/// The replies with those to these declarations after them.
 pub(crate) fn answer_rest(
     alloc: Global,
     basis: &mut WholeBasis,
@@ -73,17 +73,28 @@ fn answer(
     match topdec(alloc, basis, dec) {
         Ok((own, warnings)) => {
             let reply = Reply::environment(alloc, number, &own, paths, warnings)?;
-            paths.bind(alloc, &own.env)?;
-            basis.add(&own)?;
-            basis.count = own.count;
-            for carried in own.names {
-                basis.names.push(carried)?;
-            }
+            put(alloc, basis, paths, own)?;
             Ok(reply)
         }
         Err(CoreFault::Fault(fault)) => Ok(Reply::refused(number, fault)),
         Err(CoreFault::Memory) => Err(Memory),
     }
+}
+
+/// Puts what a declaration binds into the basis, and its paths.
+pub(crate) fn put(
+    alloc: Global,
+    basis: &mut WholeBasis,
+    paths: &mut Paths,
+    own: WholeBasis,
+) -> Result<(), Memory> {
+    paths.bind(alloc, &own.env)?;
+    basis.add(&own)?;
+    basis.count = own.count;
+    for carried in own.names {
+        basis.names.push(carried)?;
+    }
+    Ok(())
 }
 
 /// What a unit with this basis exports.

@@ -72,7 +72,7 @@ pub enum Takes {
     All,
     /// One byte a call, so many in all; it fails from then on.
     Bytes(usize),
-    /// All, but it fails at the call behind so many.
+    /// All, but it fails at the call after so many.
     AllBut(usize),
     Nothing,
 }

@@ -42,7 +42,7 @@ fn sinks_that_fail_after_some_bytes(rt: HostRuntime) -> Result<(), Fail> {
     Ok(())
 }
 
-/// Nothing is written behind the call that failed.
+/// Nothing is written after the call that failed.
 #[test]
 fn sinks_that_fail_at_one_call(rt: HostRuntime) -> Result<(), Fail> {
     let alloc = rt.alloc();

@@ -1,0 +1,89 @@
+//! Why the declarations of a unit were refused.
+
+use crate::datatypes::constructors_of;
+use crate::words::lines_of;
+use sml_lex::fault::{Code, Fault, Memory};
+use sml_modules::explain::explain;
+use sml_reply::reply::Reply;
+use sml_tree::structures::TopDec;
+use sml_units::again::Again;
+use sml_units::project::Checked;
+use std::alloc::Global;
+
+/// The lines that say why a declaration was refused, none where its fault says all that is known.
+pub type Reason = Vec<Vec<u8>>;
+
+/// The reasons of a unit's declarations, which have these replies, by their order. The unit stands at this place in the
+/// order of the project that was checked. Declarations after the last one that has a reason aren't gone through.
+pub fn reasons(
+    alloc: Global,
+    checked: &Checked,
+    place: usize,
+    replies: &[Reply],
+    declarations: &[TopDec],
+) -> Result<Vec<Reason>, Memory> {
+    let mut reasons = Vec::new(alloc);
+    let count = count_explained(replies);
+    if count == 0 {
+        return Ok(reasons);
+    }
+    let Some(mut again) = checked.again(alloc, place)? else {
+        return Ok(reasons);
+    };
+    for (reply, dec) in replies.iter().zip(declarations) {
+        if reasons.len() == count {
+            return Ok(reasons);
+        }
+        let reason = match reply.fault() {
+            Some(fault) => reason_of(alloc, &mut again, fault, dec)?,
+            None => {
+                again.pass(alloc, dec)?;
+                Vec::new(alloc)
+            }
+        };
+        reasons.push(reason)?;
+    }
+    Ok(reasons)
+}
+
+/// How many replies there are up to the last one whose fault has a reason.
+fn count_explained(replies: &[Reply]) -> usize {
+    let mut count = 0;
+    for (index, reply) in replies.iter().enumerate() {
+        if let Some(fault) = reply.fault() {
+            if is_explained(fault.code) {
+                count = index.saturating_add(1);
+            }
+        }
+    }
+    count
+}
+
+/// Whether more can be said of a fault of this code.
+fn is_explained(code: Code) -> bool {
+    match code {
+        Code::U1 | Code::U2 | Code::U3 | Code::U4 | Code::U5 | Code::U7 | Code::E6 => true,
+        Code::M2 | Code::M3 | Code::M4 | Code::M5 | Code::M6 | Code::M7 => true,
+        Code::N5 | Code::N7 => true,
+        _ => false,
+    }
+}
+
+/// Why the next declaration was refused with this fault.
+fn reason_of(
+    alloc: Global,
+    again: &mut Again,
+    fault: &Fault,
+    dec: &TopDec,
+) -> Result<Reason, Memory> {
+    if fault.code == Code::N5 || fault.code == Code::N7 {
+        return constructors_of(alloc, fault.place, dec);
+    }
+    if !is_explained(fault.code) {
+        return Ok(Vec::new(alloc));
+    }
+    match explain(alloc, &again.basis, dec)? {
+        Some(explanation) => lines_of(alloc, &explanation, &mut again.paths),
+        None => Ok(Vec::new(alloc)),
+    }
+}

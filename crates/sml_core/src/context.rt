@@ -114,6 +114,7 @@ impl<'a> Context<'a> {
             structures,
             types,
             values,
+            ..
         } = env;
         self.bind_structures(structures)?;
         self.bind_types(types)?;

@@ -13,6 +13,7 @@ use crate::objects::{Env, TypeStr, Value};
 use sml_lex::fault::Memory;
 use sml_tree::bare::Ident;
 use std::alloc::Global;
+use std::cell::Cell;
 use std::collections::BTreeMap;
 use std::rc::Rc;
 
@@ -123,6 +124,7 @@ impl Env {
             structures: BTreeMap::new(alloc),
             types: BTreeMap::new(alloc),
             values: BTreeMap::new(alloc),
+            visit: Cell::new(0),
         }
     }
 
@@ -139,6 +141,7 @@ impl Env {
             structures,
             types,
             values,
+            visit: _,
         } = self;
         put_shared(structures, &other.structures)?;
         put_types(types, &other.types)?;

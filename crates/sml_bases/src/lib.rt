@@ -4,3 +4,4 @@
 pub mod bases;
 pub mod environments;
 pub mod objects;
+pub mod visits;

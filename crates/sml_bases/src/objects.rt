@@ -3,6 +3,7 @@
 use sml_layers::class::Class;
 use sml_objects::objects::{Scheme, TyName, UnitId};
 use sml_tree::bare::Ident;
+use std::cell::Cell;
 use std::collections::BTreeMap;
 use std::rc::Rc;
 
@@ -33,12 +34,14 @@ pub struct TypeStr {
     pub constructors: Rc<Constructors>,
 }
 
-/// An environment: structures, types and values, by identifier.
+/// An environment: structures, types and values, by identifier. The number is by which a walk finds it again (`visits`), and
+/// no part of what it means.
 #[derive(Drop)]
 pub struct Env {
     pub structures: BTreeMap<Ident, Rc<Env>>,
     pub types: BTreeMap<Ident, TypeStr>,
     pub values: BTreeMap<Ident, Value>,
+    pub(crate) visit: Cell<usize>,
 }
 
 /// A signature: the names that it binds, and its environment.

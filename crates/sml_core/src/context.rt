@@ -125,6 +125,7 @@ impl<'a> Context<'a> {
             structures,
             types,
             values,
+            ..
         } = env;
         self.bind_structures(structures)?;
         self.bind_types(types)?;

@@ -4,6 +4,7 @@ use crate::mapping::{Image, Mapping, mapped_env};
 use crate::new_names::NewNames;
 use indexmap::{IndexMap, IndexSet};
 use sml_bases::objects::{Basis, Env, FunSig, Sig, TypeStr, Value};
+use sml_bases::visits::Visits;
 use sml_lex::fault::Memory;
 use sml_objects::objects::{MadeName, MlType, TyName, UnitId};
 use sml_tree::bare::Ident;
@@ -11,12 +12,14 @@ use std::alloc::Global;
 use std::collections::BTreeMap;
 use std::rc::Rc;
 
-/// The names that a unit made with this number or a higher one, in the order in which they appear.
+/// The names that a unit made with this number or a higher one, in the order in which they appear, and the environments whose
+/// names were added.
 #[derive(Drop)]
 struct Appearance {
     unit: UnitId,
     first: u32,
     names: IndexSet<TyName>,
+    visits: Visits<()>,
 }
 
 impl Appearance {
@@ -25,6 +28,7 @@ impl Appearance {
             unit,
             first,
             names: IndexSet::new(alloc),
+            visits: Visits::new(alloc),
         }
     }
 
@@ -94,7 +98,10 @@ impl Appearance {
     #[cycle(envs)]
     fn add_structures(&mut self, structures: &BTreeMap<Ident, Rc<Env>>) -> Result<(), Memory> {
         for (_, structure) in structures {
-            self.add_env(structure)?;
+            if self.visits.get(structure).is_none() {
+                self.add_env(structure)?;
+                self.visits.put(structure, ())?;
+            }
         }
         Ok(())
     }

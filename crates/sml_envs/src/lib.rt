@@ -3,6 +3,7 @@
 
 pub mod canonical;
 pub mod comparisons;
+pub mod extents;
 pub mod functions;
 pub mod initial;
 pub mod mapping;

@@ -1,10 +1,11 @@
-//! Objects with other types for their variables and their names. What doesn't change is shared. Who gives type functions for
-//! names asks first how large what becomes of an object is.
+//! Objects with other types for their variables and their names. What doesn't change is shared, and so is what becomes of what
+//! was shared. Who gives type functions for names asks first how large what becomes of an object is.
 
 ghost use Rattle.std.specs.Prelude.{◌<◌, length};
 
 use crate::order::in_order;
 use sml_bases::objects::{Constructors, Env, TypeStr, Value};
+use sml_bases::visits::Visits;
 use sml_lex::fault::Memory;
 use sml_objects::applications::apply;
 use sml_objects::objects::{MlType, Scheme, TyName};
@@ -67,7 +68,7 @@ pub fn mapped_scheme<M: Mapping>(
 
 /// The environment that an environment becomes.
 pub fn mapped_env<M: Mapping>(alloc: Global, env: &Rc<Env>, by: &M) -> Result<Rc<Env>, Memory> {
-    match changed_env(alloc, env, by)? {
+    match changed_env(alloc, env, by, &mut Visits::new(alloc))? {
         Some(changed) => Ok(changed),
         None => Ok(env.clone()?),
     }
@@ -330,10 +331,15 @@ impl Changes {
     }
 }
 
-/// What an environment becomes, or `None` where it stays.
+/// What an environment becomes, or `None` where it stays. What became of those in it is kept.
 #[cycle(envs)]
-fn changed_env<M: Mapping>(alloc: Global, env: &Env, by: &M) -> Result<Option<Rc<Env>>, Memory> {
-    let structures = changed_structures(alloc, &env.structures, by)?;
+fn changed_env<M: Mapping>(
+    alloc: Global,
+    env: &Env,
+    by: &M,
+    visits: &mut Visits<Option<Rc<Env>>>,
+) -> Result<Option<Rc<Env>>, Memory> {
+    let structures = changed_structures(alloc, &env.structures, by, visits)?;
     let types = changed_types(alloc, &env.types, by)?;
     let values = changed_values(alloc, &env.values, by)?;
     let changes = Changes {
@@ -369,11 +375,16 @@ fn changed_structures<M: Mapping>(
     alloc: Global,
     structures: &BTreeMap<Ident, Rc<Env>>,
     by: &M,
+    visits: &mut Visits<Option<Rc<Env>>>,
 ) -> Result<Vec<(Ident, Rc<Env>)>, Memory> {
     let mut changes = Vec::new(alloc);
     for (name, structure) in structures {
-        if let Some(changed) = changed_env(alloc, structure, by)? {
-            changes.push((name.clone()?, changed))?;
+        if visits.get(structure).is_none() {
+            let changed = changed_env(alloc, structure, by, visits)?;
+            visits.put(structure, changed)?;
+        }
+        if let Some(Some(changed)) = visits.get(structure) {
+            changes.push((name.clone()?, changed.clone()?))?;
         }
     }
     Ok(changes)

@@ -2,6 +2,7 @@
 
 use crate::mapping::{Image, Mapping};
 use sml_bases::objects::{Constructors, Env, TypeStr, Value};
+use sml_bases::visits::Visits;
 use sml_lex::fault::Memory;
 use sml_objects::objects::{MlType, Scheme};
 use sml_tree::bare::Ident;
@@ -91,23 +92,37 @@ impl Count {
 }
 
 /// Whether some scheme or type function of an environment becomes larger than a scheme may be. Nothing is made.
-#[cycle(envs)]
 pub fn has_large_under<M: Mapping>(alloc: Global, env: &Env, by: &M) -> Result<bool, Memory> {
-    let is_large = have_large_under(alloc, &env.structures, by)?
+    has_large(alloc, env, by, &mut Visits::new(alloc))
+}
+
+/// The same, where none of the environments that were visited has one.
+#[cycle(envs)]
+fn has_large<M: Mapping>(
+    alloc: Global,
+    env: &Env,
+    by: &M,
+    visits: &mut Visits<()>,
+) -> Result<bool, Memory> {
+    let is_large = have_large(alloc, &env.structures, by, visits)?
         || types_are_large(alloc, &env.types, by)?
         || values_are_large(alloc, &env.values, by)?;
     Ok(is_large)
 }
 
 #[cycle(envs)]
-fn have_large_under<M: Mapping>(
+fn have_large<M: Mapping>(
     alloc: Global,
     structures: &BTreeMap<Ident, Rc<Env>>,
     by: &M,
+    visits: &mut Visits<()>,
 ) -> Result<bool, Memory> {
     for (_, structure) in structures {
-        if has_large_under(alloc, structure, by)? {
-            return Ok(true);
+        if visits.get(structure).is_none() {
+            if has_large(alloc, structure, by, visits)? {
+                return Ok(true);
+            }
+            visits.put(structure, ())?;
         }
     }
     Ok(false)

@@ -6,7 +6,8 @@ use crate::structures::declare;
 use sml_bases::objects::{Basis, Sig};
 use sml_core::context::Context;
 use sml_envs::canonical::canonical;
-use sml_lex::fault::{Code, FIRST, Warning};
+use sml_envs::extents::least_text;
+use sml_lex::fault::{Code, FIRST, Memory, Warning};
 use sml_sigs::sigs::signature_in;
 use sml_tree::structures::{SigBind, TopDec};
 use sml_types::fault::{CoreFault, plain_fault};
@@ -19,6 +20,9 @@ pub type TopFault = CoreFault;
 
 /// The greatest number of type names that a unit makes and exports.
 pub const MOST_NAMES: u32 = 1_048_576;
+
+/// The number of bytes from which on a reply is long.
+const LONG_TEXT: usize = 16_777_216;
 
 /// The declaration's own basis, with its warnings by place and code, each once, or why it has none. The basis lent is that of its unit so far. The new
 /// names are numbered from its count on, in the order in which they appear in the lines of the reply.
@@ -33,14 +37,31 @@ pub fn topdec(
     Ok((own, warnings))
 }
 
-/// What the declaration binds, with its new names numbered.
+/// What the declaration binds, with its new names numbered. There is room for the text of its reply.
 fn numbered(context: &mut Context, basis: &Basis, dec: &TopDec) -> Result<Basis, TopFault> {
     let own = own_basis(context, basis, dec)?;
     let own = canonical(context.alloc, own, basis.unit, basis.count, &context.new)?;
     if own.count > MOST_NAMES {
         return Err(plain_fault(Code::Q3, FIRST));
     }
+    require_room(context.alloc, &own)?;
     Ok(own)
+}
+
+/// That there is room for the text of the reply to a declaration that binds this, where it is long: what is shared in an
+/// environment is written out there, which can take all memory before one growth is refused.
+fn require_room(alloc: Global, own: &Basis) -> Result<(), Memory> {
+    let bytes = least_text(alloc, own)?;
+    if bytes >= LONG_TEXT {
+        let _ = room(alloc, bytes)?;
+    }
+    Ok(())
+}
+
+/// Room for so many bytes.
+#[inline(never)]
+fn room(alloc: Global, bytes: usize) -> Result<Vec<u8>, Memory> {
+    Ok(Vec::with_capacity(alloc, bytes)?)
 }
 
 /// What the declaration binds, all types of which are known.

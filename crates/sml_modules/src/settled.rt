@@ -3,6 +3,7 @@
 use indexmap::{IndexMap, IndexSet};
 use sml_asks::asks::{ask_fixed, ask_scheme};
 use sml_bases::objects::Env;
+use sml_bases::visits::Visits;
 use sml_core::context::Context;
 use sml_envs::mapping::{Image, Mapping, mapped_env};
 use sml_envs::sizes::GREATEST_SIZE;
@@ -86,7 +87,7 @@ pub(crate) fn settled_by(
 /// The unknowns in the types of an environment's values.
 fn unknowns_of(alloc: Global, env: &Env) -> Result<IndexSet<u32>, Memory> {
     let mut unknowns = IndexSet::new(alloc);
-    collect_env(env, &mut unknowns)?;
+    collect_env(env, &mut unknowns, &mut Visits::new(alloc))?;
     Ok(unknowns)
 }
 
@@ -154,11 +155,18 @@ fn require_known(
     Ok(())
 }
 
-/// Adds the unknowns in the types of an environment's values.
+/// Adds the unknowns in the types of an environment's values. Those of environments that were visited are added.
 #[cycle(collect)]
-fn collect_env(env: &Env, unknowns: &mut IndexSet<u32>) -> Result<(), Memory> {
+fn collect_env(
+    env: &Env,
+    unknowns: &mut IndexSet<u32>,
+    visits: &mut Visits<()>,
+) -> Result<(), Memory> {
     for (_, structure) in &env.structures {
-        collect_env(structure, unknowns)?;
+        if visits.get(structure).is_none() {
+            collect_env(structure, unknowns, visits)?;
+            visits.put(structure, ())?;
+        }
     }
     for (_, value) in &env.values {
         collect_free(&value.scheme.body, unknowns)?;

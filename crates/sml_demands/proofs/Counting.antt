@@ -128,6 +128,6 @@ counted-size u us b t g h r limit n k o x c = record {
       omega (arith, s, w);
   reached = λ q.
       let y = c.reached q in
-      let z = grown-back us t g h r u Finiteness x y.0 y.1 (nothing-asked u h.limits.items y.0) in
-      (through finite us y.0, (y.0, z.0, nothing-asked u g.limits.items y.0, λ v l. refl), ap type_size (sym z.2) ∙ y.2);
+      let z = grown-back us t g h r u Finiteness x y.0 y.1 (nothing-asked u h.limits y.0) in
+      (through finite us y.0, (y.0, z.0, nothing-asked u g.limits y.0, λ v l. refl), ap type_size (sym z.2) ∙ y.2);
 }

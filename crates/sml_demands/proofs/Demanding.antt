@@ -65,10 +65,10 @@ upto-as Equality u ks ls τ e k = λ j h. keeps-as j u ks ls τ e (k j h)
 upto-as Classes u ks ls τ e k = λ j h. keeps-as j u ks ls τ e (k j h)
 upto-as Rigidity u ks ls τ e k = λ j h. keeps-as j u ks ls τ e (k j h)
 
-through-finish : (l : Layer) (u : ℕ) (g h : Graph) (τ : Assignment finite) → Finishes u g h → Meets finite g.nodes.items τ → KeepsThrough l u g.limits.items τ ↔ KeepsThrough l u h.limits.items τ
+through-finish : (l : Layer) (u : ℕ) (g h : Graph) (τ : Assignment finite) → Finishes u g h → Meets finite g.nodes.items τ → KeepsThrough l u g.limits τ ↔ KeepsThrough l u h.limits τ
 through-finish l u g h τ f m = (λ k j p. (f.limits j τ m).0 (k j p), λ k j p. (f.limits j τ m).1 (k j p))
 
-upto-finish : (l : Layer) (u : ℕ) (g h : Graph) (τ : Assignment (world l)) → Finishes u g h → Meets (world l) g.nodes.items τ → KeepsUpTo l u g.limits.items τ ↔ KeepsUpTo l u h.limits.items τ
+upto-finish : (l : Layer) (u : ℕ) (g h : Graph) (τ : Assignment (world l)) → Finishes u g h → Meets (world l) g.nodes.items τ → KeepsUpTo l u g.limits τ ↔ KeepsUpTo l u h.limits τ
 upto-finish Equations u g h τ f m = (λ k. tt, λ k. tt)
 upto-finish Finiteness u g h τ f m = through-finish Finiteness u g h τ f m
 upto-finish Newness u g h τ f m = through-finish Newness u g h τ f m
@@ -80,19 +80,19 @@ upto-finish Rigidity u g h τ f m = through-finish Rigidity u g h τ f m
 -- A graph in which a demand stands: its types are those that were permitted and meet the demand.
 pub record Stands (s : Asked) (d : Demand) (g : Graph) : Type 0 where
   pub forth : (l : Layer) (σ : Assignment (world l)) → Permits l s σ → Holds l s.unit σ d
-      → (υ : Assignment (world l)) × Meets (world l) g.nodes.items υ × KeepsUpTo l s.unit g.limits.items υ
+      → (υ : Assignment (world l)) × Meets (world l) g.nodes.items υ × KeepsUpTo l s.unit g.limits υ
       × ((v : ℕ) → v < count s → through (world l) s.unknowns υ v ≡ σ v)
-  pub back : (l : Layer) (υ : Assignment (world l)) → Meets (world l) g.nodes.items υ → KeepsUpTo l s.unit g.limits.items υ
+  pub back : (l : Layer) (υ : Assignment (world l)) → Meets (world l) g.nodes.items υ → KeepsUpTo l s.unit g.limits υ
       → (σ : Assignment (world l)) → ((v : ℕ) → v < count s → through (world l) s.unknowns υ v ≡ σ v) → Permits l s σ × Holds l s.unit σ d
 
-can : (s : Asked) (d : Demand) (g : Graph) → Stands s d g → (l : Layer) (υ : Assignment (world l)) → Meets (world l) g.nodes.items υ → KeepsUpTo l s.unit g.limits.items υ → CanMeet l s d
+can : (s : Asked) (d : Demand) (g : Graph) → Stands s d g → (l : Layer) (υ : Assignment (world l)) → Meets (world l) g.nodes.items υ → KeepsUpTo l s.unit g.limits υ → CanMeet l s d
 unfolding CanMeet
 can s d g x l υ m k =
     let σ : Assignment (world l) = through (world l) s.unknowns υ in
     let b = x.back l υ m k σ (λ v h. refl) in
     (σ, b.0, b.1)
 
-cannot : (s : Asked) (d : Demand) (g : Graph) → Stands s d g → (l : Layer) → ((υ : Assignment (world l)) → Meets (world l) g.nodes.items υ → KeepsUpTo l s.unit g.limits.items υ → ⊥) → CanMeet l s d → ⊥
+cannot : (s : Asked) (d : Demand) (g : Graph) → Stands s d g → (l : Layer) → ((υ : Assignment (world l)) → Meets (world l) g.nodes.items υ → KeepsUpTo l s.unit g.limits υ → ⊥) → CanMeet l s d → ⊥
 unfolding CanMeet
 cannot s d g x l never c = let f = x.forth l c.0 c.1 c.2 in never f.0 f.1 f.2
 
@@ -100,21 +100,21 @@ can-equations : (s : Asked) (d : Demand) (g : Graph) → Stands s d g → IsSoun
 can-equations s d g x sound = let t = has_infinite g.nodes.items sound in can s d g x Equations t.0 t.1 tt
 
 can-finite : (s : Asked) (d : Demand) (g : Graph) → Stands s d g → HasRank g.nodes.items → CanMeet Finiteness s d
-can-finite s d g x r = let t = finite_of g.nodes.items r in can s d g x Finiteness t.0 t.1 (nothing-asked s.unit g.limits.items t.0)
+can-finite s d g x r = let t = finite_of g.nodes.items r in can s d g x Finiteness t.0 t.1 (nothing-asked s.unit g.limits t.0)
 
 -- what stands in a finished graph
 
-finished-types : (u : ℕ) (g h : Graph) → (0 ≡ u → ⊥) → Finishes u g h → (σ : Assignment finite) × Meets finite g.nodes.items σ × ((k : Layer) → KeepsAt k u g.limits.items σ)
+finished-types : (u : ℕ) (g h : Graph) → (0 ≡ u → ⊥) → Finishes u g h → (σ : Assignment finite) × Meets finite g.nodes.items σ × ((k : Layer) → KeepsAt k u g.limits σ)
 finished-types u g h d f =
     let w = f.whole in
-    let ρ = stand_ins h.limits.items in
+    let ρ = stand_ins h.limits in
     let σ = solution h.nodes.items ρ w.rank.rank in
     let m : Meets finite g.nodes.items σ = rw (sym f.nodes) (solution-meets h.nodes.items ρ w.rank.rank w.rank.ranked) in
-    (σ, m, λ k. (f.limits k σ m).1 (stands-keep k u h.nodes.items h.limits.items w.rank.rank d w.rank.ranked w.closed w.fit))
+    (σ, m, λ k. (f.limits k σ m).1 (stands-keep k u h.nodes.items h.limits w.rank.rank d w.rank.ranked w.closed w.fit))
 
 pub finished-met : (s : Asked) (d : Demand) (g h : Graph) → (0 ≡ s.unit → ⊥) → Stands s d g → Finishes s.unit g h → (l : Layer) → CanMeet l s d
 finished-met s d g h n x f l = go l (finished-types s.unit g h n f) where
-  go : (l : Layer) → ((σ : Assignment finite) × Meets finite g.nodes.items σ × ((k : Layer) → KeepsAt k s.unit g.limits.items σ)) → CanMeet l s d
+  go : (l : Layer) → ((σ : Assignment finite) × Meets finite g.nodes.items σ × ((k : Layer) → KeepsAt k s.unit g.limits σ)) → CanMeet l s d
   go Equations t = can-equations s d g x (rw (sym f.nodes) f.whole.sound)
   go Finiteness t = can s d g x Finiteness t.0 t.1 (λ k h. t.2 k)
   go Newness t = can s d g x Newness t.0 t.1 (λ k h. t.2 k)
@@ -169,24 +169,24 @@ failing-first s d g x sound Rigidity f = (cannot s d g x Rigidity (λ υ m k. f.
 -- A graph with nodes for a type more.
 pub record Grows (us : List ℕ) (t : MlType Name) (g h : Graph) (r : ℕ) : Type 0 where
   pub interns : Interns g.nodes.items us t h.nodes.items r
-  pub limits : (i : ℕ) → limit_at h.limits.items i ≡ limit_at g.limits.items i
+  pub limits : (i : ℕ) → limit_at h.limits i ≡ limit_at g.limits i
 
 module _ (us : List ℕ) (t : MlType Name) (g h : Graph) (r u : ℕ) (l : Layer) where
-  pub grown-forth : Grows us t g h r → IsFull g → (τ : Assignment (world l)) → Meets (world l) g.nodes.items τ → KeepsUpTo l u g.limits.items τ
-      → (υ : Assignment (world l)) × Meets (world l) h.nodes.items υ × KeepsUpTo l u h.limits.items υ × ((i : ℕ) → i < length g.nodes.items → υ i ≡ τ i)
+  pub grown-forth : Grows us t g h r → IsFull g → (τ : Assignment (world l)) → Meets (world l) g.nodes.items τ → KeepsUpTo l u g.limits τ
+      → (υ : Assignment (world l)) × Meets (world l) h.nodes.items υ × KeepsUpTo l u h.limits υ × ((i : ℕ) → i < length g.nodes.items → υ i ≡ τ i)
   grown-forth x f τ m k =
       let y = x.interns.forth (world l) τ m in (
         y.0,
         y.1,
-        upto-as l u g.limits.items h.limits.items y.0 x.limits (upto-agree l u (length g.nodes.items) g.limits.items τ y.0 f.limits y.2 k),
+        upto-as l u g.limits h.limits y.0 x.limits (upto-agree l u (length g.nodes.items) g.limits τ y.0 f.limits y.2 k),
         y.2,
       )
 
-  pub grown-back : Grows us t g h r → (υ : Assignment (world l)) → Meets (world l) h.nodes.items υ → KeepsUpTo l u h.limits.items υ
-      → Meets (world l) g.nodes.items υ × KeepsUpTo l u g.limits.items υ × (υ r ≡ typed (world l) (through (world l) us υ) t)
+  pub grown-back : Grows us t g h r → (υ : Assignment (world l)) → Meets (world l) h.nodes.items υ → KeepsUpTo l u h.limits υ
+      → Meets (world l) g.nodes.items υ × KeepsUpTo l u g.limits υ × (υ r ≡ typed (world l) (through (world l) us υ) t)
   grown-back x υ m k =
       let y = x.interns.back (world l) υ m in
-      (y.0, upto-as l u h.limits.items g.limits.items υ (λ i. sym (x.limits i)) k, y.1)
+      (y.0, upto-as l u h.limits g.limits υ (λ i. sym (x.limits i)) k, y.1)
 
 pub through-agree : (w : World) (us : List ℕ) (n : ℕ) (τ υ : Assignment w) (σ : Assignment w) → AllByRecursion (λ u. u < n) us → ((i : ℕ) → i < n → υ i ≡ τ i) → ((v : ℕ) → v < length us → through w us τ v ≡ σ v) → (v : ℕ) → v < length us → through w us υ v ≡ σ v
 through-agree w us n τ υ σ a e s v h = e (get_or us v 0) (inside-at n us v a h) ∙ s v h
@@ -195,7 +195,7 @@ through-agree w us n τ υ σ a e s v h = e (get_or us v 0) (inside-at n us v a 
 pub stands-equal : (u : ℕ) (us : List ℕ) (b : Bool) (t v : MlType Name) (g h k m : Graph) (x y : ℕ) → IsFull g → IsFull h → AllByRecursion (λ i. i < length g.nodes.items) us → IsOver (length us) t → IsOver (length us) v
     → Grows us t g h x → Grows us v h k y
     → ((w : World) (σ : Assignment w) → Meets w m.nodes.items σ ↔ (Meets w k.nodes.items σ × (σ x ≡ σ y)))
-    → m.limits.items ≡ k.limits.items
+    → m.limits ≡ k.limits
     → Stands (asked_of u us g b) (equal t v) m
 unfolding Permits
 stands-equal u us b t v g h k m x y fg fh a ot ov gx gy same en = record {
@@ -210,10 +210,10 @@ stands-equal u us b t v g h k m x y fg fh a ot ov gx gy same en = record {
       let bx = grown-back us t g h x u l gx υ by.0 by.1 in
       let tx = typed-same (world l) (through (world l) us υ) σ (length us) t e2 ot in
       let ty = typed-same (world l) (through (world l) us υ) σ (length us) v e2 ov in
-      (υ, (same (world l) υ).1 (two.1, bx.2 ∙ (tx ∙ (q ∙ (sym ty ∙ sym by.2)))), upto-as l u k.limits.items m.limits.items υ (λ i. ap (λ z. limit_at z i) en) two.2, e2);
+      (υ, (same (world l) υ).1 (two.1, bx.2 ∙ (tx ∙ (q ∙ (sym ty ∙ sym by.2)))), upto-as l u k.limits m.limits υ (λ i. ap (λ z. limit_at z i) en) two.2, e2);
   back = λ l υ z w σ e.
       let mk = (same (world l) υ).0 z in
-      let kk = upto-as l u m.limits.items k.limits.items υ (λ i. ap (λ z. limit_at z i) (sym en)) w in
+      let kk = upto-as l u m.limits k.limits υ (λ i. ap (λ z. limit_at z i) (sym en)) w in
       let by = grown-back us v h k y u l gy υ mk.0 kk in
       let bx = grown-back us t g h x u l gx υ by.0 by.1 in
       let tx = typed-same (world l) (through (world l) us υ) σ (length us) t e ot in
@@ -299,32 +299,32 @@ module _ (u r : ℕ) (a : Ask) (ls ms : List Limit) (js : List Change) (low : Lo
   through-lowered l τ k = (λ j h. (keeps-lowered j u (limit_of a) r ls ms js τ low (k j h)).0, λ h. at-asked u a (τ r) ((keeps-lowered (layer_of a) u (limit_of a) r ls ms js τ low (k (layer_of a) h)).1))
 
 module _ (u : ℕ) (us : List ℕ) (b : Bool) (a : Ask) (t : MlType Name) (g h m : Graph) (r : ℕ) (js : List Change) (o : IsOver (length us) t) (x : LowersLimit h r (limit_of a) m js) where
-  up : (l : Layer) (υ σ : Assignment (world l)) → KeepsUpTo l u h.limits.items υ → υ r ≡ typed (world l) σ t → Holds l u σ (asks a t) → KeepsUpTo l u m.limits.items υ
+  up : (l : Layer) (υ σ : Assignment (world l)) → KeepsUpTo l u h.limits υ → υ r ≡ typed (world l) σ t → Holds l u σ (asks a t) → KeepsUpTo l u m.limits υ
   up Equations υ σ k e w = tt
-  up Finiteness υ σ k e w = through-lower u r a h.limits.items m.limits.items js x.lowers Finiteness υ k (λ p. rw e (w p))
-  up Newness υ σ k e w = through-lower u r a h.limits.items m.limits.items js x.lowers Newness υ k (λ p. rw e (w p))
-  up Locality υ σ k e w = through-lower u r a h.limits.items m.limits.items js x.lowers Locality υ k (λ p. rw e (w p))
-  up Equality υ σ k e w = through-lower u r a h.limits.items m.limits.items js x.lowers Equality υ k (λ p. rw e (w p))
-  up Classes υ σ k e w = through-lower u r a h.limits.items m.limits.items js x.lowers Classes υ k (λ p. rw e (w p))
-  up Rigidity υ σ k e w = through-lower u r a h.limits.items m.limits.items js x.lowers Rigidity υ k (λ p. rw e (w p))
+  up Finiteness υ σ k e w = through-lower u r a h.limits m.limits js x.lowers Finiteness υ k (λ p. rw e (w p))
+  up Newness υ σ k e w = through-lower u r a h.limits m.limits js x.lowers Newness υ k (λ p. rw e (w p))
+  up Locality υ σ k e w = through-lower u r a h.limits m.limits js x.lowers Locality υ k (λ p. rw e (w p))
+  up Equality υ σ k e w = through-lower u r a h.limits m.limits js x.lowers Equality υ k (λ p. rw e (w p))
+  up Classes υ σ k e w = through-lower u r a h.limits m.limits js x.lowers Classes υ k (λ p. rw e (w p))
+  up Rigidity υ σ k e w = through-lower u r a h.limits m.limits js x.lowers Rigidity υ k (λ p. rw e (w p))
 
-  down : (l : Layer) (υ : Assignment (world l)) → KeepsUpTo l u m.limits.items υ → KeepsUpTo l u h.limits.items υ
+  down : (l : Layer) (υ : Assignment (world l)) → KeepsUpTo l u m.limits υ → KeepsUpTo l u h.limits υ
   down Equations υ k = tt
-  down Finiteness υ k = (through-lowered u r a h.limits.items m.limits.items js x.lowers Finiteness υ k).0
-  down Newness υ k = (through-lowered u r a h.limits.items m.limits.items js x.lowers Newness υ k).0
-  down Locality υ k = (through-lowered u r a h.limits.items m.limits.items js x.lowers Locality υ k).0
-  down Equality υ k = (through-lowered u r a h.limits.items m.limits.items js x.lowers Equality υ k).0
-  down Classes υ k = (through-lowered u r a h.limits.items m.limits.items js x.lowers Classes υ k).0
-  down Rigidity υ k = (through-lowered u r a h.limits.items m.limits.items js x.lowers Rigidity υ k).0
+  down Finiteness υ k = (through-lowered u r a h.limits m.limits js x.lowers Finiteness υ k).0
+  down Newness υ k = (through-lowered u r a h.limits m.limits js x.lowers Newness υ k).0
+  down Locality υ k = (through-lowered u r a h.limits m.limits js x.lowers Locality υ k).0
+  down Equality υ k = (through-lowered u r a h.limits m.limits js x.lowers Equality υ k).0
+  down Classes υ k = (through-lowered u r a h.limits m.limits js x.lowers Classes υ k).0
+  down Rigidity υ k = (through-lowered u r a h.limits m.limits js x.lowers Rigidity υ k).0
 
-  held : (l : Layer) (υ σ : Assignment (world l)) → KeepsUpTo l u m.limits.items υ → υ r ≡ typed (world l) σ t → Holds l u σ (asks a t)
+  held : (l : Layer) (υ σ : Assignment (world l)) → KeepsUpTo l u m.limits υ → υ r ≡ typed (world l) σ t → Holds l u σ (asks a t)
   held Equations υ σ k e = tt
-  held Finiteness υ σ k e = λ p. subst (IsAsAsked u a) e ((through-lowered u r a h.limits.items m.limits.items js x.lowers Finiteness υ k).1 p)
-  held Newness υ σ k e = λ p. subst (IsAsAsked u a) e ((through-lowered u r a h.limits.items m.limits.items js x.lowers Newness υ k).1 p)
-  held Locality υ σ k e = λ p. subst (IsAsAsked u a) e ((through-lowered u r a h.limits.items m.limits.items js x.lowers Locality υ k).1 p)
-  held Equality υ σ k e = λ p. subst (IsAsAsked u a) e ((through-lowered u r a h.limits.items m.limits.items js x.lowers Equality υ k).1 p)
-  held Classes υ σ k e = λ p. subst (IsAsAsked u a) e ((through-lowered u r a h.limits.items m.limits.items js x.lowers Classes υ k).1 p)
-  held Rigidity υ σ k e = λ p. subst (IsAsAsked u a) e ((through-lowered u r a h.limits.items m.limits.items js x.lowers Rigidity υ k).1 p)
+  held Finiteness υ σ k e = λ p. subst (IsAsAsked u a) e ((through-lowered u r a h.limits m.limits js x.lowers Finiteness υ k).1 p)
+  held Newness υ σ k e = λ p. subst (IsAsAsked u a) e ((through-lowered u r a h.limits m.limits js x.lowers Newness υ k).1 p)
+  held Locality υ σ k e = λ p. subst (IsAsAsked u a) e ((through-lowered u r a h.limits m.limits js x.lowers Locality υ k).1 p)
+  held Equality υ σ k e = λ p. subst (IsAsAsked u a) e ((through-lowered u r a h.limits m.limits js x.lowers Equality υ k).1 p)
+  held Classes υ σ k e = λ p. subst (IsAsAsked u a) e ((through-lowered u r a h.limits m.limits js x.lowers Classes υ k).1 p)
+  held Rigidity υ σ k e = λ p. subst (IsAsAsked u a) e ((through-lowered u r a h.limits m.limits js x.lowers Rigidity υ k).1 p)
 
   pub stands-asked : IsFull g → AllByRecursion (λ i. i < length g.nodes.items) us → Grows us t g h r → Stands (asked_of u us g b) (asks a t) m
   unfolding Permits
@@ -357,12 +357,12 @@ limit-changed u a h r m js w x =
       rank = w.rank;
       outside = λ i. inl (ap (λ z. node_at z i) e);
       ordered = λ i h. inl (rw (e, x.orders) (w.ordered i (rw x.orders at h)));
-      but = rw e (but-lowered u a h.nodes.items h.limits.items m.limits.items (r ∷ []) js w.closed w.fit x.lowers);
+      but = rw e (but-lowered u a h.nodes.items h.limits m.limits (r ∷ []) js w.closed w.fit x.lowers);
     }
 
 -- a solver with no unknown
 
-pub kept-none : (u : ℕ) (g : Graph) (us : List ℕ) → g.nodes.items ≡ [] → g.limits.items ≡ [] → g.orders.items ≡ [] → 0 < g.bottom → g.bottom ≤ no_order → us ≡ [] → IsKept u g us
+pub kept-none : (u : ℕ) (g : Graph) (us : List ℕ) → g.nodes.items ≡ [] → g.limits ≡ [] → g.orders.items ≡ [] → 0 < g.bottom → g.bottom ≤ no_order → us ≡ [] → IsKept u g us
 kept-none u g us a b d p m f = record {
   whole = record {
     full = record {
@@ -379,11 +379,11 @@ kept-none u g us a b d p m f = record {
   owners = owners-none g.nodes.items us a f;
 }
 
-whole-met-finite : (u : ℕ) (g : Graph) → (0 ≡ u → ⊥) → IsWhole u g → (σ : Assignment finite) × Meets finite g.nodes.items σ × ((k : Layer) → KeepsAt k u g.limits.items σ)
+whole-met-finite : (u : ℕ) (g : Graph) → (0 ≡ u → ⊥) → IsWhole u g → (σ : Assignment finite) × Meets finite g.nodes.items σ × ((k : Layer) → KeepsAt k u g.limits σ)
 whole-met-finite u g d w =
     let r = w.rank in
-    let ρ = stand_ins g.limits.items in
-    (solution g.nodes.items ρ r.rank, solution-meets g.nodes.items ρ r.rank r.ranked, λ k. stands-keep k u g.nodes.items g.limits.items r.rank d r.ranked w.closed w.fit)
+    let ρ = stand_ins g.limits in
+    (solution g.nodes.items ρ r.rank, solution-meets g.nodes.items ρ r.rank r.ranked, λ k. stands-keep k u g.nodes.items g.limits r.rank d r.ranked w.closed w.fit)
 
 pub whole-met : (u : ℕ) (g : Graph) (us : List ℕ) (b : Bool) → (0 ≡ u → ⊥) → IsWhole u g → IsMet (asked_of u us g b)
 unfolding IsMet Permits
@@ -397,7 +397,7 @@ whole-met u g us b d w Rigidity = let t = whole-met-finite u g d w in (through f
 
 -- an unknown more
 
-pub kept-fresh : (u : ℕ) (g h : Graph) (us vs : List ℕ) → IsKept u g us → h.nodes.items ≡ g.nodes.items ++ Unknown ∷ [] → ((i : ℕ) → limit_at h.limits.items i ≡ limit_at g.limits.items i) → ((i : ℕ) → order_at h.orders.items i ≡ order_at g.orders.items i) → IsFull h → vs ≡ us ++ length g.nodes.items ∷ [] → length us < 2 ^ 32 → IsKept u h vs
+pub kept-fresh : (u : ℕ) (g h : Graph) (us vs : List ℕ) → IsKept u g us → h.nodes.items ≡ g.nodes.items ++ Unknown ∷ [] → ((i : ℕ) → limit_at h.limits i ≡ limit_at g.limits i) → ((i : ℕ) → order_at h.orders.items i ≡ order_at g.orders.items i) → IsFull h → vs ≡ us ++ length g.nodes.items ∷ [] → length us < 2 ^ 32 → IsKept u h vs
 kept-fresh u g h us vs k e a o full f few =
     let ns = g.nodes.items in
     let w = k.whole in
@@ -409,13 +409,13 @@ kept-fresh u g h us vs k e a o full f few =
         sound = λ i. rw (same i) (sound-more (length ns) (length h.nodes.items) i (node_at ns i) (omega (arith, n)) (w.sound i));
         rank = record { rank = w.rank.rank; ranked = λ i. rw (same i) (w.rank.ranked i) };
         ordered = ordered-more ns h.nodes.items g.orders.items h.orders.items w.full.orders (λ i l. same i) o w.ordered;
-        closed = closed-more ns h.nodes.items g.limits.items h.limits.items w.full.limits (λ i l. same i) a w.closed;
-        fit = λ l. fit-more l u ns h.nodes.items g.limits.items h.limits.items w.full.limits (λ i l. same i) a (w.fit l);
+        closed = closed-more ns h.nodes.items g.limits h.limits w.full.limits (λ i l. same i) a w.closed;
+        fit = λ l. fit-more l u ns h.nodes.items g.limits h.limits w.full.limits (λ i l. same i) a (w.fit l);
       };
       owners = owners-fresh ns h.nodes.items us vs k.owners e f few;
     }
 
-pub permits-fresh : (u : ℕ) (g h : Graph) (us vs : List ℕ) (b d : Bool) → IsKept u g us → h.nodes.items ≡ g.nodes.items ++ Unknown ∷ [] → ((i : ℕ) → limit_at h.limits.items i ≡ limit_at g.limits.items i) → vs ≡ us ++ length g.nodes.items ∷ [] → PermitsSame (asked_of u us g b) (asked_of u vs h d)
+pub permits-fresh : (u : ℕ) (g h : Graph) (us vs : List ℕ) (b d : Bool) → IsKept u g us → h.nodes.items ≡ g.nodes.items ++ Unknown ∷ [] → ((i : ℕ) → limit_at h.limits i ≡ limit_at g.limits i) → vs ≡ us ++ length g.nodes.items ∷ [] → PermitsSame (asked_of u us g b) (asked_of u vs h d)
 unfolding PermitsSame Permits
 permits-fresh u g h us vs b d k e x f l σ =
     let ns = g.nodes.items in
@@ -423,14 +423,14 @@ permits-fresh u g h us vs b d k e x f l σ =
     let n : length vs ≡ length us + 1 = ap length f ∙ simp length-append in
     let same : (i : ℕ) → node_at h.nodes.items i ≡ node_at ns i = λ i. ap (λ z. node_at z i) e ∙ get_or-push ns Unknown i in
     let old : (v : ℕ) → v < length us → get_or vs v 0 ≡ get_or us v 0 = λ v z. ap (λ zs. get_or zs v 0) f ∙ get_or-left us (length ns ∷ []) v 0 z in (
-      λ p. (p.0, λ i. rw (same i) at (p.1 i), upto-as l u h.limits.items g.limits.items p.0 (λ i. sym (x i)) p.2, λ v z. ap p.0 (sym (old v z)) ∙ p.3 v (omega (arith, z, n))),
+      λ p. (p.0, λ i. rw (same i) at (p.1 i), upto-as l u h.limits g.limits p.0 (λ i. sym (x i)) p.2, λ v z. ap p.0 (sym (old v z)) ∙ p.3 v (omega (arith, z, n))),
       λ p.
           let υ : Assignment w = beyond w p.0 (length ns) (λ _. σ (length us)) in
           let agree : (i : ℕ) → i < length ns → υ i ≡ p.0 i = λ i z. beyond-below w p.0 (length ns) (λ _. σ (length us)) i z in
           let m = meets-beyond w ns p.0 (length ns) (λ _. σ (length us)) (omega arith) k.whole.sound p.1 in (
             υ,
             λ i. rw (same i) (m i),
-            upto-as l u g.limits.items h.limits.items υ x (upto-agree l u (length ns) g.limits.items p.0 υ k.whole.full.limits agree p.2),
+            upto-as l u g.limits h.limits υ x (upto-agree l u (length ns) g.limits p.0 υ k.whole.full.limits agree p.2),
             λ v z.
                 elim (cases_lt v (length us)) [
                   | inl a ↦ ap υ (old v a) ∙ (agree (get_or us v 0) (inside-at (length ns) us v k.owners.inside a) ∙ p.3 v a)

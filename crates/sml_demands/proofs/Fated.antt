@@ -80,7 +80,7 @@ module _ (u : ℕ) (us : List ℕ) (g : Graph) (b : Bool) (k : IsKept u g us) (d
   r = get_or us v 0
 
   abbrev a : Limit
-  a = limit_at g.limits.items r
+  a = limit_at g.limits r
 
   -- the unknown with a type, and all others with int
 
@@ -93,13 +93,13 @@ module _ (u : ℕ) (us : List ℕ) (g : Graph) (b : Bool) (k : IsKept u g us) (d
   picked-meets : (t : O.MlType Name) → Meets finite ns (picked t)
   picked-meets t = solution-meets ns (only r t) k.whole.rank.rank k.whole.rank.ranked
 
-  picked-keeps : (t : O.MlType Name) (l : Layer) → index_of l < index_of Rigidity → MeetsAt l u a t → KeepsAt l u g.limits.items (picked t)
+  picked-keeps : (t : O.MlType Name) (l : Layer) → index_of l < index_of Rigidity → MeetsAt l u a t → KeepsAt l u g.limits (picked t)
   picked-keeps t l q m =
       let w = k.whole in
-      solution-keeps l u ns g.limits.items (only r t) w.rank.rank w.rank.ranked w.closed (w.fit l) (λ i x.
+      solution-keeps l u ns g.limits (only r t) w.rank.rank w.rank.ranked w.closed (w.fit l) (λ i x.
       elim (same_or_not i r) [
-        | inl y ↦ subst (λ i. MeetsAt l u (limit_at g.limits.items i) (only r t i)) (sym y) (rw (only-here r t) m)
-        | inr n ↦ rw (only-there r t i n) (int-meets l u (limit_at g.limits.items i) q)
+        | inl y ↦ subst (λ i. MeetsAt l u (limit_at g.limits i) (only r t i)) (sym y) (rw (only-here r t) m)
+        | inr n ↦ rw (only-there r t i n) (int-meets l u (limit_at g.limits i) q)
       ])
 
   -- int alone
@@ -187,23 +187,23 @@ open-not-int u us g b v fs k h e f =
     let σ = solution g.nodes.items ints w.rank.rank in
     let m = solution-meets g.nodes.items ints w.rank.rank w.rank.ranked in
     let a : Agrees finite σ (get_or us v 0) (Open fs) = rw e at (m (get_or us v 0)) in
-    row-not-named (σ (get_or us v 0)) (fields_at σ (fields_of fs.value)) (initial N.int) a (f (through finite us σ) (σ, m, λ l x. ints-keep l u g.nodes.items g.limits.items w.rank.rank (omega (arith, x)) w.rank.ranked w.closed (w.fit l), λ v l. refl))
+    row-not-named (σ (get_or us v 0)) (fields_at σ (fields_of fs.value)) (initial N.int) a (f (through finite us σ) (σ, m, λ l x. ints-keep l u g.nodes.items g.limits w.rank.rank (omega (arith, x)) w.rank.ranked w.closed (w.fit l), λ v l. refl))
 
-fate-open : (u : ℕ) (us : List ℕ) (g : Graph) (b : Bool) (bs : List Bool) (x : Bool) (v : ℕ) (fs : Box Fields Global) → IsKept u g us → v < length us → node_at g.nodes.items (get_or us v 0) ≡ Open fs → IsFateOf (asked_of u us g b) bs x v (fate_at g.nodes.items g.limits.items us bs x v)
+fate-open : (u : ℕ) (us : List ℕ) (g : Graph) (b : Bool) (bs : List Bool) (x : Bool) (v : ℕ) (fs : Box Fields Global) → IsKept u g us → v < length us → node_at g.nodes.items (get_or us v 0) ≡ Open fs → IsFateOf (asked_of u us g b) bs x v (fate_at g.nodes.items g.limits us bs x v)
 fate-open u us g b bs x v fs k h e =
     let r = get_or us v 0 in
-    let a = limit_at g.limits.items r in
+    let a = limit_at g.limits r in
     let fits : FitsClass a.class (O.row []) 0 = subst (IsFitNode Classes u a) e (k.whole.fit Classes r) in
-    let q : fate_at g.nodes.items g.limits.items us bs x v ≡ Keep = keeps-open a (get_or bs v false || is_open (node_at g.nodes.items r)) x (no-class a.class a.equality fits) (or-right (get_or bs v false) (is_open (node_at g.nodes.items r)) (ap is_open e)) in
+    let q : fate_at g.nodes.items g.limits us bs x v ≡ Keep = keeps-open a (get_or bs v false || is_open (node_at g.nodes.items r)) x (no-class a.class a.equality fits) (or-right (get_or bs v false) (is_open (node_at g.nodes.items r)) (ap is_open e)) in
     subst (IsFateOf (asked_of u us g b) bs x v) (sym q) (open-not-int u us g b v fs k h e, inr (inr (open-flexible u us g b v fs k.whole.rank h e)))
 
-fate-node : (u : ℕ) (us : List ℕ) (g : Graph) (b : Bool) (k : IsKept u g us) → (0 ≡ u → ⊥) → (bs : List Bool) (x : Bool) (v : ℕ) (n : Node) → v < length us → node_at g.nodes.items (get_or us v 0) ≡ n → (IsKnown n → ⊥) → IsFateOf (asked_of u us g b) bs x v (fate_at g.nodes.items g.limits.items us bs x v)
+fate-node : (u : ℕ) (us : List ℕ) (g : Graph) (b : Bool) (k : IsKept u g us) → (0 ≡ u → ⊥) → (bs : List Bool) (x : Bool) (v : ℕ) (n : Node) → v < length us → node_at g.nodes.items (get_or us v 0) ≡ n → (IsKnown n → ⊥) → IsFateOf (asked_of u us g b) bs x v (fate_at g.nodes.items g.limits us bs x v)
 fate-node u us g b k d bs x v Unknown h e n = fate-cases u us g b k d v h e bs x _ _ refl refl
 fate-node u us g b k d bs x v (Link j) h e n = absurd (n tt)
 fate-node u us g b k d bs x v (App f kids) h e n = absurd (n tt)
 fate-node u us g b k d bs x v (Open fs) h e n = fate-open u us g b bs x v fs k h e
 
-pub fate-is : (u : ℕ) (us : List ℕ) (g : Graph) (b : Bool) (k : IsKept u g us) → (0 ≡ u → ⊥) → (bs : List Bool) (x : Bool) (v : ℕ) → IsLeft (asked_of u us g b) v → IsFateOf (asked_of u us g b) bs x v (fate_at g.nodes.items g.limits.items us bs x v)
+pub fate-is : (u : ℕ) (us : List ℕ) (g : Graph) (b : Bool) (k : IsKept u g us) → (0 ≡ u → ⊥) → (bs : List Bool) (x : Bool) (v : ℕ) → IsLeft (asked_of u us g b) v → IsFateOf (asked_of u us g b) bs x v (fate_at g.nodes.items g.limits us bs x v)
 fate-is u us g b k d bs x v l =
     let loose = left-loose u us g b v k.whole.sound k.whole.rank k.owners l in
     fate-node u us g b k d bs x v (node_at g.nodes.items (get_or us v 0)) loose.0 refl loose.1

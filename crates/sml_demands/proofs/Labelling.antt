@@ -108,24 +108,24 @@ module _ (u : ℕ) (us : List ℕ) (g : Graph) (b : Bool) (k : IsKept u g us) (d
   Others : List Id → Type 0
   Others ls = (τ : Assignment finite) × Meets finite ns τ × Permits Rigidity s (through finite us τ) × ((ts : O.MlTypes Name) → τ r ≡ O.app (O.row ls) ts → ⊥)
 
-  stands-permit : Permits Rigidity s (through finite us (solution ns (stand_ins g.limits.items) k.whole.rank.rank))
+  stands-permit : Permits Rigidity s (through finite us (solution ns (stand_ins g.limits) k.whole.rank.rank))
   unfolding Permits
   stands-permit =
       let w = k.whole in
-      (solution ns (stand_ins g.limits.items) w.rank.rank, solution-meets ns (stand_ins g.limits.items) w.rank.rank w.rank.ranked, λ l p. stands-keep l u ns g.limits.items w.rank.rank d w.rank.ranked w.closed w.fit, λ v l. refl)
+      (solution ns (stand_ins g.limits) w.rank.rank, solution-meets ns (stand_ins g.limits) w.rank.rank w.rank.ranked, λ l p. stands-keep l u ns g.limits w.rank.rank d w.rank.ranked w.closed w.fit, λ v l. refl)
 
   others : (x : Node) (ls : List Id) → node_at ns r ≡ x → IsRootNode x → r < length ns → has_labels x ≡ false → Others ls
   unfolding Others
   others Unknown ls e f i h =
       let w = k.whole in
-      let n = stand-named (limit_at g.limits.items r).variables in
-      let σ = solution ns (stand_ins g.limits.items) w.rank.rank in
-      (σ, solution-meets ns (stand_ins g.limits.items) w.rank.rank w.rank.ranked, stands-permit, λ ts q. named-no-row n.0 ls ts (sym n.1 ∙ (sym (solution-unknown ns (stand_ins g.limits.items) w.rank.rank r e) ∙ q)))
+      let n = stand-named (limit_at g.limits r).variables in
+      let σ = solution ns (stand_ins g.limits) w.rank.rank in
+      (σ, solution-meets ns (stand_ins g.limits) w.rank.rank w.rank.ranked, stands-permit, λ ts q. named-no-row n.0 ls ts (sym n.1 ∙ (sym (solution-unknown ns (stand_ins g.limits) w.rank.rank r e) ∙ q)))
   others (Link j) ls e f i h = absurd f
   others (App a kids) ls e f i h =
       let w = k.whole in
-      let σ = solution ns (stand_ins g.limits.items) w.rank.rank in
-      let m = solution-meets ns (stand_ins g.limits.items) w.rank.rank w.rank.ranked in
+      let σ = solution ns (stand_ins g.limits) w.rank.rank in
+      let m = solution-meets ns (stand_ins g.limits) w.rank.rank w.rank.ranked in
       let q : σ r ≡ make finite (head_over a (length kids.items)) (map σ kids.items) = rw e at (m r) in
       (σ, m, stands-permit, λ ts z. no-row a (length kids.items) ls h (row-head (head_over a (length kids.items)) ls (types_of (map σ kids.items)) ts (sym q ∙ z)))
   others (Open fs) ls e f i h =
@@ -140,7 +140,7 @@ module _ (u : ℕ) (us : List ℕ) (g : Graph) (b : Bool) (k : IsKept u g us) (d
       let more : lookup l (components (σ r)) ≡ Some (O.named (initial N.int)) = solution-more ns c w.rank r l (O.named (initial N.int)) (Open fs) e (λ z. z) (with-here u us g b k d o.0 o.1 r here q) (none-front l (node_labels (Open fs)) ls fresh) in (
         σ,
         solution-meets ns c w.rank.rank w.rank.ranked,
-        with-permits u us g b k d o.0 o.1 r here q (λ j. one-meets j u (limit_at g.limits.items r) fs l (subst (IsFitNode j u (limit_at g.limits.items r)) e (w.fit j r))),
+        with-permits u us g b k d o.0 o.1 r here q (λ j. one-meets j u (limit_at g.limits r) fs l (subst (IsFitNode j u (limit_at g.limits r)) e (w.fit j r))),
         λ ts z. found-or-not l (O.app (O.row ls) ts) (σ r) (O.named (initial N.int)) (sym z) (component-head l (O.row ls) ts (none-back l (node_labels (Open fs)) ls fresh)) more,
       )
 

@@ -1,5 +1,5 @@
 -- Unknowns that are left, told apart by a label that stands nowhere else, and the sizes of types that are read back.
-use Rattle.std.proofs.Common.{◌≡◌, ℕ, zero, suc, ◌+◌, ◌<◌, inl, inr, List, [], ◌∷◌, ◌++◌, length, map, get_or, Option, Some, None, sym, ◌∙◌, ap, refl, arith}
+use Rattle.std.proofs.Common.{◌≡◌, ℕ, zero, suc, ◌+◌, ◌<◌, ◌≤◌, inl, inr, List, [], ◌∷◌, ◌++◌, length, map, get_or, Option, Some, None, sym, ◌∙◌, ap, refl, arith}
 use Rattle.std.proofs.lemmas.Bool.{cases_lt}
 use Rattle.std.proofs.lemmas.List.Sums.{sum_by-cons}
 use Rattle.std.specs.Prelude.{Bool}
@@ -162,6 +162,58 @@ module _ (P : ℕ → Type 0) (σ : Assignment finite) (l : Id) (marks : (v : �
         let a = marked-typed t m.0 (none-front l (type_labels t) (types_labels ts) n) in
         let b = all-marked-typed ts m.1 (none-back l (type_labels t) (types_labels ts) n) in
         λ i. a i + b i
+
+-- a type is no larger than what it becomes
+
+module _ (σ : Assignment finite) (l : Id) where
+  mutual
+    unfolding replace_type replace_types type_labels types_labels marked_size marked_sizes type_size types_size
+
+    least-marked : (t : O.MlType Name) → IsNone l (type_labels t) → type_size t ≤ marked_size l (assign σ t)
+    least-marked (O.bound k) n = omega arith
+    least-marked (O.free v) n = marked-some l (σ v)
+    least-marked (O.app h ts) n =
+        let a = marked-head l h (replace_types O.bound σ ts) (none-front l (head_labels h) (types_labels ts) n) in
+        let b = all-least-marked ts (none-back l (head_labels h) (types_labels ts) n) in
+        omega (arith, a, b)
+
+    all-least-marked : (ts : O.MlTypes Name) → IsNone l (types_labels ts) → types_size ts ≤ marked_sizes l (replace_types O.bound σ ts)
+    all-least-marked O.no_type n = omega arith
+    all-least-marked (O.and_type t ts) n =
+        let a = least-marked t (none-front l (type_labels t) (types_labels ts) n) in
+        let b = all-least-marked ts (none-back l (type_labels t) (types_labels ts) n) in
+        omega (arith, a, b)
+
+mutual
+  unfolding replace_type replace_types type_size types_size
+
+  pub least-size : (σ : Assignment finite) (t : O.MlType Name) → type_size t ≤ type_size (assign σ t)
+  least-size σ (O.bound k) = omega arith
+  least-size σ (O.free v) = positive (σ v)
+  least-size σ (O.app h ts) = let a = least-sizes σ ts in omega (arith, a)
+
+  least-sizes : (σ : Assignment finite) (ts : O.MlTypes Name) → types_size ts ≤ types_size (replace_types O.bound σ ts)
+  least-sizes σ O.no_type = omega arith
+  least-sizes σ (O.and_type t ts) =
+      let a = least-size σ t in
+      let b = least-sizes σ ts in
+      omega (arith, a, b)
+
+pub least-reading : (u : ℕ) (us : List ℕ) (g : Graph) (b : Bool) (t r : O.MlType Name) → IsSound g.nodes.items → HasRank g.nodes.items → AreOwners g.nodes.items us → IsReading (asked_of u us g b) t r → type_size t ≤ type_size r
+unfolding IsReading
+least-reading u us g b t r s h o x =
+    let ns = g.nodes.items in
+    let fresh = fresh-none (nodes_labels ns ++ (type_labels r ++ type_labels t)) in
+    let l = fresh_label (nodes_labels ns ++ (type_labels r ++ type_labels t)) in
+    let here = none-front l (nodes_labels ns) (type_labels r ++ type_labels t) fresh in
+    let there = none-back l (nodes_labels ns) (type_labels r ++ type_labels t) fresh in
+    let τ = marked ns us o h l here in
+    let σ = through finite us τ in
+    let over = made-more (IsLeft (asked_of u us g b)) (IsLoose ns us) r (λ v i. left-loose u us g b v s h o i) x.0 in
+    let e : marked_size l (assign σ r) ≡ type_size r = marked-typed (IsLoose ns us) σ l (marked-is ns us o h l here) r over (none-front l (type_labels r) (type_labels t) there) in
+    let q : marked_size l (assign σ r) ≡ marked_size l (assign σ t) = ap (marked_size l) (x.1 σ (permitted u us g b τ (marked-meets ns us o h l here))) in
+    let a = least-marked σ l t (none-back l (type_labels r) (type_labels t) there) in
+    omega (arith, e, q, a)
 
 -- where more nodes were read than the limit, the type is larger
 pub too-large : (ns : List Node) (us : List ℕ) (at size limit i : ℕ) (ks : List Task) (ts : List (O.MlType Name)) → AreOwners ns us → HasRank ns → IsReadingOn ns us at size (Read i ∷ ks) ts → limit < size + 1 → (t : O.MlType Name) → IsTypeAt ns us at limit t → ⊥

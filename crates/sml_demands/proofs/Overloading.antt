@@ -135,43 +135,43 @@ unit-meets Rigidity u a e f = rw f tt
 
 module _ (u : ℕ) (us : List ℕ) (g : Graph) (b : Bool) (k : IsKept u g us) (d : 0 ≡ u → ⊥) (v : ℕ) (h : v < length us) (r : ℕ) (same : IsSame g.nodes.items (get_or us v 0) r) where
   abbrev pub choice-with : O.MlType Name → Assignment finite
-  choice-with t i = elim (same_or_not i r) [ inl _ ↦ t | inr _ ↦ stand_in (limit_at g.limits.items i).variables ]
+  choice-with t i = elim (same_or_not i r) [ inl _ ↦ t | inr _ ↦ stand_in (limit_at g.limits i).variables ]
 
   pub with-here : (t : O.MlType Name) → choice-with t r ≡ t
-  with-here t = elim (same_or_not r r) as (λ s. elim s as (λ _. O.MlType Name) [ inl _ ↦ t | inr _ ↦ stand_in (limit_at g.limits.items r).variables ] ≡ t) [ inl _ ↦ refl | inr n ↦ absurd (n refl) ]
+  with-here t = elim (same_or_not r r) as (λ s. elim s as (λ _. O.MlType Name) [ inl _ ↦ t | inr _ ↦ stand_in (limit_at g.limits r).variables ] ≡ t) [ inl _ ↦ refl | inr n ↦ absurd (n refl) ]
 
-  pub with-there : (t : O.MlType Name) (i : ℕ) → i ≢ r → choice-with t i ≡ stand_in (limit_at g.limits.items i).variables
-  with-there t i n = elim (same_or_not i r) as (λ s. elim s as (λ _. O.MlType Name) [ inl _ ↦ t | inr _ ↦ stand_in (limit_at g.limits.items i).variables ] ≡ stand_in (limit_at g.limits.items i).variables) [ inl e ↦ absurd (n e) | inr _ ↦ refl ]
+  pub with-there : (t : O.MlType Name) (i : ℕ) → i ≢ r → choice-with t i ≡ stand_in (limit_at g.limits i).variables
+  with-there t i n = elim (same_or_not i r) as (λ s. elim s as (λ _. O.MlType Name) [ inl _ ↦ t | inr _ ↦ stand_in (limit_at g.limits i).variables ] ≡ stand_in (limit_at g.limits i).variables) [ inl e ↦ absurd (n e) | inr _ ↦ refl ]
 
   abbrev pub types-with : O.MlType Name → Assignment finite
   types-with t = solution g.nodes.items (choice-with t) k.whole.rank.rank
 
-  pub with-keeps : (t : O.MlType Name) → ((l : Layer) → MeetsAt l u (limit_at g.limits.items r) t) → (l : Layer) → KeepsAt l u g.limits.items (types-with t)
+  pub with-keeps : (t : O.MlType Name) → ((l : Layer) → MeetsAt l u (limit_at g.limits r) t) → (l : Layer) → KeepsAt l u g.limits (types-with t)
   with-keeps t m l =
       let w = k.whole in
-      solution-keeps l u g.nodes.items g.limits.items (choice-with t) w.rank.rank w.rank.ranked w.closed (w.fit l) (λ i e.
+      solution-keeps l u g.nodes.items g.limits (choice-with t) w.rank.rank w.rank.ranked w.closed (w.fit l) (λ i e.
       elim (same_or_not i r) [
-        | inl q ↦ subst (λ i. MeetsAt l u (limit_at g.limits.items i) (choice-with t i)) (sym q) (rw (with-here t) (m l))
-        | inr n ↦ rw (with-there t i n) (stands-meets l u (limit_at g.limits.items i) d (loose-possible u (limit_at g.limits.items i) (node_at g.nodes.items i) e (w.fit Rigidity i)))
+        | inl q ↦ subst (λ i. MeetsAt l u (limit_at g.limits i) (choice-with t i)) (sym q) (rw (with-here t) (m l))
+        | inr n ↦ rw (with-there t i n) (stands-meets l u (limit_at g.limits i) d (loose-possible u (limit_at g.limits i) (node_at g.nodes.items i) e (w.fit Rigidity i)))
       ])
 
-  pub with-permits : (t : O.MlType Name) → ((l : Layer) → MeetsAt l u (limit_at g.limits.items r) t) → Permits Rigidity (asked_of u us g b) (through finite us (types-with t))
+  pub with-permits : (t : O.MlType Name) → ((l : Layer) → MeetsAt l u (limit_at g.limits r) t) → Permits Rigidity (asked_of u us g b) (through finite us (types-with t))
   unfolding Permits
   with-permits t m = (types-with t, solution-meets g.nodes.items (choice-with t) k.whole.rank.rank k.whole.rank.ranked, λ l p. with-keeps t m l, λ v l. refl)
 
   pub with-type : (t : O.MlType Name) → node_at g.nodes.items r ≡ Unknown → through finite us (types-with t) v ≡ t
   with-type t e = same finite (types-with t) (solution-meets g.nodes.items (choice-with t) k.whole.rank.rank k.whole.rank.ranked) ∙ (solution-unknown g.nodes.items (choice-with t) k.whole.rank.rank r e ∙ with-here t)
 
-  type-of : (σ : Assignment finite) → Permits Rigidity (asked_of u us g b) σ → (τ : Assignment finite) × Meets finite g.nodes.items τ × ((l : Layer) → MeetsAt l u (limit_at g.limits.items r) (τ r)) × (σ v ≡ τ r)
+  type-of : (σ : Assignment finite) → Permits Rigidity (asked_of u us g b) σ → (τ : Assignment finite) × Meets finite g.nodes.items τ × ((l : Layer) → MeetsAt l u (limit_at g.limits r) (τ r)) × (σ v ≡ τ r)
   unfolding Permits
   type-of σ p = (p.0, p.1, λ l. p.2 l (last l) r, sym (p.3 v h) ∙ same finite p.0 p.1)
 
   -- a name other than int
-  pub two-names : (c : Option Names) → (limit_at g.limits.items r).class ≡ c → node_at g.nodes.items r ≡ Unknown → has_several c (limit_at g.limits.items r).equality ≡ true
-      → (j : N.Initial) × (N.int ≢ j) × ((l : Layer) → MeetsAt l u (limit_at g.limits.items r) (O.named (initial N.int))) × ((l : Layer) → MeetsAt l u (limit_at g.limits.items r) (O.named (initial j)))
+  pub two-names : (c : Option Names) → (limit_at g.limits r).class ≡ c → node_at g.nodes.items r ≡ Unknown → has_several c (limit_at g.limits r).equality ≡ true
+      → (j : N.Initial) × (N.int ≢ j) × ((l : Layer) → MeetsAt l u (limit_at g.limits r) (O.named (initial N.int))) × ((l : Layer) → MeetsAt l u (limit_at g.limits r) (O.named (initial j)))
   two-names None q e s = cc
   two-names (Some c) q e s =
-      let a = limit_at g.limits.items r in
+      let a = limit_at g.limits r in
       let p : IsPossible a.variables a.equality a.class = subst (IsFitNode Rigidity u a) e (k.whole.fit Rigidity r) in
       let o = another c a.equality s in
       (o.0, o.3, λ l. name-meets l u a c N.int q p refl (int-admits a.equality), λ l. name-meets l u a c o.0 q p o.1 o.2)
@@ -182,7 +182,7 @@ module _ (u : ℕ) (us : List ℕ) (g : Graph) (b : Bool) (k : IsKept u g us) (d
       let y : N.int ≡ j = cc in
       n y
 
-  several-yes : (c : Option Names) → (limit_at g.limits.items r).class ≡ c → node_at g.nodes.items r ≡ Unknown → has_several c (limit_at g.limits.items r).equality ≡ true → IsOverloaded (asked_of u us g b) v
+  several-yes : (c : Option Names) → (limit_at g.limits r).class ≡ c → node_at g.nodes.items r ≡ Unknown → has_several c (limit_at g.limits r).equality ≡ true → IsOverloaded (asked_of u us g b) v
   several-yes None q e s = cc
   several-yes (Some c) q e s =
       let o = two-names (Some c) q e s in
@@ -197,10 +197,10 @@ module _ (u : ℕ) (us : List ℕ) (g : Graph) (b : Bool) (k : IsKept u g us) (d
 
   -- Where no more than one name is left, no two types that are permitted differ as names, though the unknown could be the empty row if it may be anything.
   module _ (one other : Assignment finite) (p : Permits Rigidity (asked_of u us g b) one) (q : Permits Rigidity (asked_of u us g b) other) (apart : one v ≢ other v) (named_so : (j : N.Initial) × (one v ≡ O.named (initial j))) where
-    unknown-apart : (c : Option Names) (x : Variables) → (limit_at g.limits.items r).class ≡ c → (limit_at g.limits.items r).variables ≡ x → node_at g.nodes.items r ≡ Unknown → has_several c (limit_at g.limits.items r).equality ≡ false
+    unknown-apart : (c : Option Names) (x : Variables) → (limit_at g.limits r).class ≡ c → (limit_at g.limits r).variables ≡ x → node_at g.nodes.items r ≡ Unknown → has_several c (limit_at g.limits r).equality ≡ false
         → (Permits Rigidity (asked_of u us g b) (through finite us (types-with unit)) → (j : N.Initial) × (through finite us (types-with unit) v ≡ O.named (initial j))) → ⊥
     unknown-apart None V.Any y z e s f =
-        let m : (l : Layer) → MeetsAt l u (limit_at g.limits.items r) unit = (λ l. unit-meets l u (limit_at g.limits.items r) y z) in
+        let m : (l : Layer) → MeetsAt l u (limit_at g.limits r) unit = (λ l. unit-meets l u (limit_at g.limits r) y z) in
         let n = f (with-permits unit m) in
         let w : unit ≡ O.named (initial n.0) = sym (with-type unit e) ∙ n.1 in
         cc
@@ -211,7 +211,7 @@ module _ (u : ℕ) (us : List ℕ) (g : Graph) (b : Bool) (k : IsKept u g us) (d
         cc
     unknown-apart None V.Several y z e s f = let t = type-of one p in rw z at (t.2 Rigidity)
     unknown-apart (Some c) x y z e s f =
-        let a = limit_at g.limits.items r in
+        let a = limit_at g.limits r in
         let ints : (σ : Assignment finite) → Permits Rigidity (asked_of u us g b) σ → σ v ≡ O.named (initial N.int) = (λ σ p.
         let t = type-of σ p in
         let w : MeetsClass (Some c) (t.0 r) = rw y at (t.2 Classes) in
@@ -232,9 +232,9 @@ module _ (u : ℕ) (us : List ℕ) (g : Graph) (b : Bool) (k : IsKept u g us) (d
           none-alike σ τ [] q = refl
           none-alike σ τ (i ∷ is) q = cc
 
-    pub node-apart : (x : Node) → node_at g.nodes.items r ≡ x → IsRootNode x → is_several x (limit_at g.limits.items r) ≡ false
+    pub node-apart : (x : Node) → node_at g.nodes.items r ≡ x → IsRootNode x → is_several x (limit_at g.limits r) ≡ false
         → (Permits Rigidity (asked_of u us g b) (through finite us (types-with unit)) → (j : N.Initial) × (through finite us (types-with unit) v ≡ O.named (initial j))) → ⊥
-    node-apart Unknown e root s f = unknown-apart (limit_at g.limits.items r).class (limit_at g.limits.items r).variables refl refl e s f
+    node-apart Unknown e root s f = unknown-apart (limit_at g.limits r).class (limit_at g.limits r).variables refl refl e s f
     node-apart (Link j) e root s f = absurd root
     node-apart (App x kids) e root s f = app-apart x kids e
     node-apart (Open fs) e root s f =
@@ -243,19 +243,19 @@ module _ (u : ℕ) (us : List ℕ) (g : Graph) (b : Bool) (k : IsKept u g us) (d
         let w : O.app (O.row a.labels) (types_of a.types) ≡ O.app (O.name (initial named_so.0)) O.no_type = sym a.is_row ∙ (sym t.3 ∙ named_so.1) in
         cc
 
-  pub overloaded-yes : (x : Node) → node_at g.nodes.items r ≡ x → is_several x (limit_at g.limits.items r) ≡ true → IsOverloaded (asked_of u us g b) v
-  overloaded-yes Unknown e s = several-yes (limit_at g.limits.items r).class refl e s
+  pub overloaded-yes : (x : Node) → node_at g.nodes.items r ≡ x → is_several x (limit_at g.limits r) ≡ true → IsOverloaded (asked_of u us g b) v
+  overloaded-yes Unknown e s = several-yes (limit_at g.limits r).class refl e s
   overloaded-yes (Link j) e s = cc
   overloaded-yes (App x kids) e s = cc
   overloaded-yes (Open fs) e s = cc
 
-  pub overloaded-no : IsRootNode (node_at g.nodes.items r) → is_several (node_at g.nodes.items r) (limit_at g.limits.items r) ≡ false → IsOverloaded (asked_of u us g b) v → ⊥
+  pub overloaded-no : IsRootNode (node_at g.nodes.items r) → is_several (node_at g.nodes.items r) (limit_at g.limits r) ≡ false → IsOverloaded (asked_of u us g b) v → ⊥
   overloaded-no root s o = node-apart o.one o.other o.may_be_one o.may_be_other o.apart (o.named_so o.one o.may_be_one) (node_at g.nodes.items r) refl root s (o.named_so (through finite us (types-with unit)))
 
-  pub overloaded-if : (s : Bool) → s ≡ is_several (node_at g.nodes.items r) (limit_at g.limits.items r) → OnTrue s (IsOverloaded (asked_of u us g b) v)
+  pub overloaded-if : (s : Bool) → s ≡ is_several (node_at g.nodes.items r) (limit_at g.limits r) → OnTrue s (IsOverloaded (asked_of u us g b) v)
   overloaded-if true e = overloaded-yes (node_at g.nodes.items r) refl (sym e)
   overloaded-if false e = tt
 
-  pub overloaded-only-if : (s : Bool) → IsRootNode (node_at g.nodes.items r) → s ≡ is_several (node_at g.nodes.items r) (limit_at g.limits.items r) → OnFalse s (IsOverloaded (asked_of u us g b) v → ⊥)
+  pub overloaded-only-if : (s : Bool) → IsRootNode (node_at g.nodes.items r) → s ≡ is_several (node_at g.nodes.items r) (limit_at g.limits r) → OnFalse s (IsOverloaded (asked_of u us g b) v → ⊥)
   overloaded-only-if true root e = tt
   overloaded-only-if false root e = overloaded-no root (sym e)

@@ -251,7 +251,7 @@ owners-none ns us e f = record {
 
 pub permitted : (u : ℕ) (us : List ℕ) (g : Graph) (b : Bool) (τ : Assignment finite) → Meets finite g.nodes.items τ → Permits Finiteness (asked_of u us g b) (through finite us τ)
 unfolding Permits
-permitted u us g b τ m = (τ, m, nothing-asked u g.limits.items τ, λ v l. refl)
+permitted u us g b τ m = (τ, m, nothing-asked u g.limits τ, λ v l. refl)
 
 pub through-permitted : (u : ℕ) (us : List ℕ) (g : Graph) (b : Bool) (σ : Assignment finite) → Permits Finiteness (asked_of u us g b) σ → (τ : Assignment finite) × Meets finite g.nodes.items τ × ((v : ℕ) → v < length us → through finite us τ v ≡ σ v)
 unfolding Permits
@@ -578,17 +578,17 @@ module _ (u : ℕ) (us : List ℕ) (g : Graph) (b : Bool) (w : IsWhole u g) (o :
       let inside = inside-at (length ns) us v o.inside k in
       same-below ns w.rank.rank τ chosen-types w.sound w.rank.ranked m chosen-meets one (suc (w.rank.rank (get_or us v 0))) (get_or us v 0) inside (omega arith)
 
-  chosen-keeps : ((v : ℕ) → IsLeft s v → (τ : Assignment finite) × KeepsThrough l u g.limits.items τ × (τ (get_or us v 0) ≡ ρ v)) → KeepsThrough l u g.limits.items chosen-types
+  chosen-keeps : ((v : ℕ) → IsLeft s v → (τ : Assignment finite) × KeepsThrough l u g.limits τ × (τ (get_or us v 0) ≡ ρ v)) → KeepsThrough l u g.limits chosen-types
   chosen-keeps may j h =
-      solution-keeps j u ns g.limits.items (choice ns us o ρ) w.rank.rank w.rank.ranked w.closed (w.fit j) (λ i e.
+      solution-keeps j u ns g.limits (choice ns us o ρ) w.rank.rank w.rank.ranked w.closed (w.fit j) (λ i e.
       elim (cases_lt i (length ns)) [
         | inl k ↦
             let x = o.owned i k e in
             let loose : IsLoose ns us x.0 = (x.1, λ q. e (subst (λ i. IsKnown (node_at ns i)) x.2 q)) in
             let t = may x.0 (loose-left u us g b x.0 w.sound w.rank o loose) in
             let y : choice ns us o ρ (get_or us x.0 0) ≡ ρ x.0 = choice-is ns us o ρ x.0 x.1 loose.1 in
-            subst (λ i. MeetsAt j u (limit_at g.limits.items i) (choice ns us o ρ i)) x.2 (rw (y, ← t.2) (t.1 j h (get_or us x.0 0)))
-        | inr k ↦ rw (get_or_past g.limits.items i no_limit (let z = w.full.limits in omega (arith, k, z))) (none-meets j u (choice ns us o ρ i))
+            subst (λ i. MeetsAt j u (limit_at g.limits i) (choice ns us o ρ i)) x.2 (rw (y, ← t.2) (t.1 j h (get_or us x.0 0)))
+        | inr k ↦ rw (get_or_past g.limits i no_limit (let z = w.full.limits in omega (arith, k, z))) (none-meets j u (choice ns us o ρ i))
       ])
 
 abbrev PermitsThrough : Layer → Asked → Assignment finite → Type 0

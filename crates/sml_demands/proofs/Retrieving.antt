@@ -18,6 +18,10 @@ use Rattle.sml_objects.specs.Objects.{types_of}
 use Rattle.sml_objects.specs.Views.{type_of}
 use Rattle.sml_objects.specs.declared.objects.MlType.{MlType}
 use Rattle.smallvec.specs.SmallVec.{SmallVec}
+use denote.Ref.{Bor}
+use Rattle.sml_graph.specs.declared.cell.Shape.{Shape}
+use Rattle.sml_graph.specs.declared.cell.Shape.TheVariants as S
+use Rattle.sml_graph.specs.declared.cell.Top.{Top}
 use Rattle.sml_graph.specs.declared.node.Head.{Head}
 use Rattle.sml_graph.specs.declared.node.Node.{Node}
 use Rattle.sml_graph.specs.declared.node.Node.TheVariants.{Unknown, Link, App, Open}
@@ -27,6 +31,7 @@ use Rattle.sml_layers.specs.Worlds.{finite, make}
 use Rattle.sml_graph.specs.Worlds.{Assignment}
 use Rattle.sml_graph.specs.Graphs.{node_at, head_over, IsSame, IsSoundNode, IsCountOf, IsRootNode, IsKnown, IsLoose}
 use Rattle.sml_graph.specs.Interned.{through, sizes}
+use Rattle.sml_graph.specs.CodeCells.{IsShape}
 use Rattle.sml_graph.specs.CodeRanks.{HasRank}
 use Rattle.sml_schemes.specs.Left.{IsMadeOf}
 use Rattle.sml_demands.specs.CodeReads.{IsTypeAt, stacked, Gives, heads, unread, IsTaskIn, IsReadingOn}
@@ -127,12 +132,12 @@ reads-inside : (n : ℕ) (is : List ℕ) → AllByRecursion (λ i. i < n) is →
 reads-inside n [] a = tt
 reads-inside n (i ∷ is) a = (a.0, reads-inside n is a.1)
 
--- a root that isn't a head isn't known
-pub not-app-known : (x : Node) → IsRootNode x → ((h : Head) (kids : SmallVec ℕ) → x ≡ App h kids → ⊥) → IsKnown x → ⊥
-not-app-known Unknown r d k = k
-not-app-known (Link j) r d k = r
-not-app-known (App h kids) r d k = d h kids refl
-not-app-known (Open fs) r d k = k
+-- a root that says nothing of a head isn't known
+pub not-app-known : (x : Node) (s : Shape) → IsShape x s → IsRootNode x → ((p : Top) (ks : Bor (List ℕ)) → s ≡ S.App p ks → ⊥) → IsKnown x → ⊥
+not-app-known x S.Unknown e r d k = rw e at k
+not-app-known x (S.Link j) e r d k = rw e at r
+not-app-known x (S.App p ks) e r d k = d p ks refl
+not-app-known x (S.Open b) e r d k = rw e.1 at k
 
 -- steps on the way to the type of a node
 

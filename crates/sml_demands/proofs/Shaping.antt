@@ -287,11 +287,11 @@ module _ (ns hs ks ms : List Node) (us : List ℕ) (t : O.MlType Name) (rs : Lis
         meets-push finite ks (Link at) σ c.2 c.3)
 
 -- a graph in which a row was asked for
-pub changed-row : (u : ℕ) (k m : Graph) (ls : List Node) (is : List Change) (f : Graph) → IsWhole u k → IsFull m → ((i : ℕ) → limit_at m.limits.items i ≡ limit_at k.limits.items i) → ((i : ℕ) → order_at m.orders.items i ≡ order_at k.orders.items i)
-    → f.nodes.items ≡ ls → f.limits.items ≡ m.limits.items → f.orders.items ≡ m.orders.items → f.bottom ≡ m.bottom → length ls ≡ length m.nodes.items → IsSound ls → AreInside (length ls) is → SameOutside k.nodes.items ls is → IsChanged u f is
+pub changed-row : (u : ℕ) (k m : Graph) (ls : List Node) (is : List Change) (f : Graph) → IsWhole u k → IsFull m → ((i : ℕ) → limit_at m.limits i ≡ limit_at k.limits i) → ((i : ℕ) → order_at m.orders.items i ≡ order_at k.orders.items i)
+    → f.nodes.items ≡ ls → f.limits ≡ m.limits → f.orders.items ≡ m.orders.items → f.bottom ≡ m.bottom → length ls ≡ length m.nodes.items → IsSound ls → AreInside (length ls) is → SameOutside k.nodes.items ls is → IsChanged u f is
 changed-row u k m ls is f w full lim ord en el eo eb len sound inside out =
-    let closed : IsClosed k.nodes.items m.limits.items = λ i. closed-as k.limits.items m.limits.items i (node_at k.nodes.items i) lim (w.closed i) in
-    let fit : (l : Layer) → IsFit l u k.nodes.items m.limits.items = λ l i. rw (lim i) (w.fit l i) in
+    let closed : IsClosed k.nodes.items m.limits = λ i. closed-as k.limits m.limits i (node_at k.nodes.items i) lim (w.closed i) in
+    let fit : (l : Layer) → IsFit l u k.nodes.items m.limits = λ l i. rw (lim i) (w.fit l i) in
     let ordered : AreOrdered k.nodes.items m.orders.items = λ i h. all-parts (λ j. (0 < order_at k.orders.items j) × (order_at k.orders.items j < order_at k.orders.items i)) (λ j. (0 < order_at m.orders.items j) × (order_at m.orders.items j < order_at m.orders.items i)) (parts (node_at k.nodes.items i)) (λ j a. rw (ord j, ord i) a) (w.ordered i (rw (ord i) at h)) in
     record {
       full = record {
@@ -305,20 +305,20 @@ changed-row u k m ls is f w full lim ord en el eo eb len sound inside out =
       rank = w.rank;
       outside = rw en out;
       ordered = rw (en, eo) (changed-ordered k.nodes.items ls m.orders.items is ordered out);
-      but = rw (en, el) (changed-but u k.nodes.items ls m.limits.items is closed fit out);
+      but = rw (en, el) (changed-but u k.nodes.items ls m.limits is closed fit out);
     }
 
 -- the types that are left
-pub stands-row : (u : ℕ) (us : List ℕ) (b : Bool) (t : O.MlType Name) (rs : List (Id × O.MlType Name)) (g m : Graph) → IsFull g → AllByRecursion (λ i. i < length g.nodes.items) us → IsOver (length us) t → AllByRecursion (λ f. IsOver (length us) f.1) rs → AsksRow g.nodes.items us t rs m.nodes.items → ((i : ℕ) → limit_at m.limits.items i ≡ limit_at g.limits.items i) → Stands (asked_of u us g b) (has_fields t rs) m
+pub stands-row : (u : ℕ) (us : List ℕ) (b : Bool) (t : O.MlType Name) (rs : List (Id × O.MlType Name)) (g m : Graph) → IsFull g → AllByRecursion (λ i. i < length g.nodes.items) us → IsOver (length us) t → AllByRecursion (λ f. IsOver (length us) f.1) rs → AsksRow g.nodes.items us t rs m.nodes.items → ((i : ℕ) → limit_at m.limits i ≡ limit_at g.limits i) → Stands (asked_of u us g b) (has_fields t rs) m
 unfolding Permits
 stands-row u us b t rs g m full inside ot os x lim = record {
   forth = λ l σ p q.
       let row : IsRowWith (world l) us p.0 t rs = row-same (world l) σ (through (world l) us p.0) (length us) t rs (λ v h. sym (p.3 v h)) ot os q in
       let f = x.forth (world l) p.0 p.1 row in
-      (f.0, f.1, upto-as l u g.limits.items m.limits.items f.0 lim (upto-agree l u (length g.nodes.items) g.limits.items p.0 f.0 full.limits f.2 p.2), through-agree (world l) us (length g.nodes.items) p.0 f.0 σ inside f.2 p.3);
+      (f.0, f.1, upto-as l u g.limits m.limits f.0 lim (upto-agree l u (length g.nodes.items) g.limits p.0 f.0 full.limits f.2 p.2), through-agree (world l) us (length g.nodes.items) p.0 f.0 σ inside f.2 p.3);
   back = λ l υ z k σ e.
       let a = x.back (world l) υ z in
-      ((υ, a.0, upto-as l u m.limits.items g.limits.items υ (λ i. sym (lim i)) k, e), row-same (world l) (through (world l) us υ) σ (length us) t rs e ot os a.1);
+      ((υ, a.0, upto-as l u m.limits g.limits υ (λ i. sym (lim i)) k, e), row-same (world l) (through (world l) us υ) σ (length us) t rs e ot os a.1);
 }
 
 -- where no type is such a row

@@ -5,12 +5,13 @@ ghost use Rattle.sml_graph.specs.Graphs.{IsSame, IsRoot, IsSound};
 ghost use Rattle.sml_graph.specs.CodeRanks.{HasRank};
 ghost use Rattle.sml_demands.specs.Counted.{IsCounted};
 
-use sml_graph::node::{Node, parts_of};
+use sml_graph::cell::{Cell, Shape};
+use sml_graph::node::NodeId;
 use sml_lex::fault::Memory;
 use std::alloc::Global;
 
 /// The node that another one leads to.
-pub(crate) fn root_of(nodes: &[Node], at: usize) -> usize
+pub(crate) fn root_of(nodes: &[Cell], at: NodeId) -> NodeId
     requires sound { IsSound nodes.now }
     requires inside { at < length nodes.now }
     ensures same { IsSame nodes.now at result }
@@ -18,7 +19,7 @@ pub(crate) fn root_of(nodes: &[Node], at: usize) -> usize
     ensures inside { result < length nodes.now }
 {
     let mut here = at;
-    while let Node::Link(next) = nodes[here] {
+    while let Shape::Link(next) = nodes[here as usize].shape() {
         here = next;
     }
     here
@@ -26,7 +27,7 @@ pub(crate) fn root_of(nodes: &[Node], at: usize) -> usize
 
 /// How many nodes the type of a node has, or one more than the limit where they are more. The time taken grows with the
 /// limit and not with the type.
-pub fn size_from(alloc: Global, nodes: &[Node], root: usize, limit: u32) -> Result<u32, Memory>
+pub fn size_from(alloc: Global, nodes: &[Cell], root: NodeId, limit: u32) -> Result<u32, Memory>
     requires sound { IsSound nodes.now }
     requires rank { HasRank nodes.now }
     requires inside { root < length nodes.now }
@@ -41,7 +42,7 @@ pub fn size_from(alloc: Global, nodes: &[Node], root: usize, limit: u32) -> Resu
         if limit < size {
             return Ok(size);
         }
-        pending.extend_from_slice(parts_of(&nodes[root_of(nodes, at)]))?;
+        pending.extend_from_slice(nodes[root_of(nodes, at) as usize].parts())?;
     }
     Ok(size)
 }

@@ -14,13 +14,14 @@ ghost use Rattle.sml_graph.specs.Asked.{asked_of, equal, has_fields, asks, Adds,
 ghost use Rattle.sml_demands.specs.CodeLevels.{Moves};
 ghost use Rattle.sml_graph.specs.CodeWhole.{IsFull, IsWhole, IsChanged, IsKept, LowersLimit};
 
+use sml_graph::cell::Cell;
 use sml_graph::change::Change;
 use sml_graph::demand::{Ask, Refusal};
 use sml_graph::fields::Fields;
 use sml_graph::graph::{Graph, add, fill, finish, merge_two};
 use sml_graph::limits::{Limit, lower};
 use sml_graph::merge::{Unsolved, solve};
-use sml_graph::node::Node;
+use sml_graph::node::{Node, NodeId};
 use sml_layers::layer::Layer;
 use sml_lex::fault::Memory;
 use sml_objects::objects::{MlType, UnitId};
@@ -33,7 +34,7 @@ pub fn equate(
     alloc: Global,
     unit: UnitId,
     graph: &mut Graph,
-    unknowns: &[usize],
+    unknowns: &[NodeId],
     left: &MlType,
     right: &MlType,
 ) -> Result<Vec<Change>, Refusal>
@@ -67,10 +68,10 @@ pub fn equate(
 fn add_kids(
     alloc: Global,
     graph: &mut Graph,
-    unknowns: &[usize],
+    unknowns: &[NodeId],
     fields: &[(Ident, Rc<MlType>)],
     row: &mut Fields,
-    pending: &mut Vec<(usize, usize)>,
+    pending: &mut Vec<(NodeId, NodeId)>,
 ) -> Result<(), Memory>
     requires full { IsFull graph.old }
     requires sound { IsSound graph.old.nodes.items }
@@ -79,7 +80,7 @@ fn add_kids(
     requires row { fields_of row.old ≡ [] }
     requires pending { pending.old.items ≡ [] }
     ensures interns { OnOk result (InternsFields graph.old.nodes.items unknowns.now (demanded fields.now) graph.new.nodes.items (fields_of row.new) pending.new.items) }
-    ensures limits { OnOk result ((i : ℕ) → limit_at graph.new.limits.items i ≡ limit_at graph.old.limits.items i) }
+    ensures limits { OnOk result ((i : ℕ) → limit_at graph.new.limits i ≡ limit_at graph.old.limits i) }
     ensures whole { OnOk result ((u : ℕ) → IsWhole u graph.old → IsWhole u graph.new) }
     ensures full { OnOk result (IsFull graph.new) }
 {
@@ -94,17 +95,19 @@ fn add_kids(
 }
 
 /// Adds a node for a row with some fields.
-fn push_row(alloc: Global, graph: &mut Graph, row: Fields) -> Result<usize, Memory>
+fn push_row(alloc: Global, graph: &mut Graph, row: Fields) -> Result<NodeId, Memory>
     requires { IsFull graph.old }
     ensures at { IfOk result (λ r. r ≡ length graph.old.nodes.items) }
     ensures nodes { OnOk result (IsPushed graph.old.nodes.items (fields_of row) graph.new.nodes.items) }
-    ensures limits { OnOk result ((i : ℕ) → limit_at graph.new.limits.items i ≡ limit_at graph.old.limits.items i) }
+    ensures limits { OnOk result ((i : ℕ) → limit_at graph.new.limits i ≡ limit_at graph.old.limits i) }
     ensures orders { OnOk result ((i : ℕ) → order_at graph.new.orders.items i ≡ order_at graph.old.orders.items i) }
     ensures full { OnOk result (IsFull graph.new) }
 {
-    let at = graph.nodes.len();
+    let Ok(at) = NodeId::try_from(graph.nodes.len()) else {
+        return Err(Memory);
+    };
     let fields = Box::new(alloc, row)?;
-    graph.nodes.push(Node::Open(fields))?;
+    graph.nodes.push(Cell::of(alloc, Node::Open(fields))?)?;
     fill(graph)?;
     Ok(at)
 }
@@ -113,7 +116,7 @@ fn push_row(alloc: Global, graph: &mut Graph, row: Fields) -> Result<usize, Memo
 fn open(
     alloc: Global,
     graph: &mut Graph,
-    unknowns: &[usize],
+    unknowns: &[NodeId],
     ty: &MlType,
     fields: &[(Ident, Rc<MlType>)],
 ) -> Result<Vec<Change>, Refusal>
@@ -123,7 +126,7 @@ fn open(
     requires ty { IsOver (length unknowns.now) (type_of ty.now) }
     requires fields { AllByRecursion (λ f. IsOver (length unknowns.now) f.1) (demanded fields.now) }
     ensures asks { OnOk result (AsksRow graph.old.nodes.items unknowns.now (type_of ty.now) (demanded fields.now) graph.new.nodes.items) }
-    ensures limits { OnOk result ((i : ℕ) → limit_at graph.new.limits.items i ≡ limit_at graph.old.limits.items i) }
+    ensures limits { OnOk result ((i : ℕ) → limit_at graph.new.limits i ≡ limit_at graph.old.limits i) }
     ensures changed { IfOk result (λ changed. (u : ℕ) → IsWhole u graph.old → IsChanged u graph.new changed.items) }
     ensures moves { IfOk result (λ changed. Moves graph.old.nodes.items graph.new.nodes.items changed.items) }
     ensures owners { OnOk result (HasRank graph.new.nodes.items → AreOwners graph.old.nodes.items unknowns.now → AreOwners graph.new.nodes.items unknowns.now) }
@@ -162,7 +165,7 @@ pub fn ask_row(
     alloc: Global,
     unit: UnitId,
     graph: &mut Graph,
-    unknowns: &[usize],
+    unknowns: &[NodeId],
     ty: &MlType,
     fields: &[(Ident, Rc<MlType>)],
 ) -> Result<Vec<Change>, Refusal>
@@ -191,7 +194,7 @@ pub fn impose(
     alloc: Global,
     unit: UnitId,
     graph: &mut Graph,
-    unknowns: &[usize],
+    unknowns: &[NodeId],
     ask: Ask,
     ty: &MlType,
 ) -> Result<(), Refusal>
@@ -221,7 +224,7 @@ pub fn impose(
 fn lower_limit(
     alloc: Global,
     graph: &mut Graph,
-    at: usize,
+    at: NodeId,
     limit: Limit,
 ) -> Result<Vec<Change>, Memory>
     requires full { IsFull graph.old }
@@ -229,6 +232,6 @@ fn lower_limit(
     ensures lowers { IfOk result (λ changed. LowersLimit graph.old at limit graph.new changed.items) }
 {
     let mut changed = Vec::new(alloc);
-    lower(graph.limits.as_mut_slice(), &mut changed, at, limit)?;
+    lower(&mut graph.limits, &mut changed, at, limit)?;
     Ok(changed)
 }

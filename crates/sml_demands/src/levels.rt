@@ -10,8 +10,9 @@ ghost use Rattle.sml_graph.specs.Changes.{AreCovered, AreInside};
 ghost use Rattle.sml_demands.specs.CodeLevels.{level_of, level_at, level_rank, AreHandedBut, AreHeld, BeginsLevel, LowersLevels, HandsLevels};
 
 use crate::count::root_of;
+use sml_graph::cell::{Cell, parts_from};
 use sml_graph::change::{Change, fewest};
-use sml_graph::node::{Node, parts_from};
+use sml_graph::node::NodeId;
 use sml_lex::fault::Memory;
 use std::alloc::Global;
 
@@ -42,15 +43,15 @@ pub fn begin_level(levels: &mut Vec<Option<u32>>, at: usize, level: u32) -> Resu
 fn lower_level(
     levels: &mut Vec<Option<u32>>,
     pending: &mut Vec<Change>,
-    at: usize,
+    at: NodeId,
     level: Option<u32>,
 ) -> Result<(), Memory>
     requires { at < length levels.old.items }
     ensures { OnOk result (LowersLevels levels.old.items pending.old.items (at ∷ []) (level_of level) levels.new.items pending.new.items) }
 {
-    if is_lower(level, levels[at]) {
+    if is_lower(level, levels[at as usize]) {
         pending.push(Change::of(at))?;
-        levels[at] = level;
+        levels[at as usize] = level;
     }
     Ok(())
 }
@@ -59,7 +60,7 @@ fn lower_level(
 fn lower_levels(
     levels: &mut Vec<Option<u32>>,
     pending: &mut Vec<Change>,
-    parts: &[usize],
+    parts: &[NodeId],
     level: Option<u32>,
 ) -> Result<(), Memory>
     requires { AllByRecursion (λ k. k < length levels.old.items) parts.now }
@@ -72,11 +73,11 @@ fn lower_levels(
 }
 
 /// Where a node comes in the order in which levels are handed on: the lower its level, the later.
-fn rank_of(levels: &[Option<u32>], node: usize) -> u32
+fn rank_of(levels: &[Option<u32>], node: NodeId) -> u32
     ensures { result ≡ level_rank levels.now node }
 {
-    if node < levels.len() {
-        match levels[node] {
+    if (node as usize) < levels.len() {
+        match levels[node as usize] {
             Some(level) => u32::MAX - level,
             None => 0,
         }
@@ -104,7 +105,7 @@ pub fn by_level(
 /// Hands levels on from the changes that are left to do to all that these lead to. Nodes that have no level yet may be
 /// missing at the end.
 pub fn hand_levels_on(
-    nodes: &[Node],
+    nodes: &[Cell],
     levels: &mut Vec<Option<u32>>,
     mut pending: Vec<Change>,
 ) -> Result<(), Memory>
@@ -116,20 +117,20 @@ pub fn hand_levels_on(
 {
     levels.resize(nodes.len(), None)?;
     while let Some(change) = pending.pop() {
-        let level = levels[change.node];
-        let parts = parts_from(&nodes[change.node], change.from);
+        let level = levels[change.node as usize];
+        let parts = parts_from(&nodes[change.node as usize], change.from);
         lower_levels(levels, &mut pending, parts, level)?;
     }
     Ok(())
 }
 
 /// Whether one of the first unknowns leads to a node.
-fn has_older(levels: &[Option<u32>], first: usize, node: usize) -> bool
+fn has_older(levels: &[Option<u32>], first: usize, node: NodeId) -> bool
     requires { first ≤ 2 ^ 32 }
     ensures { (result ≡ true) ↔ (level_at levels.now node < first) }
 {
-    if node < levels.len() {
-        match levels[node] {
+    if (node as usize) < levels.len() {
+        match levels[node as usize] {
             Some(level) => (level as usize) < first,
             None => false,
         }
@@ -138,17 +139,17 @@ fn has_older(levels: &[Option<u32>], first: usize, node: usize) -> bool
     }
 }
 
-fn has_mark(marks: &[bool], node: usize) -> bool
+fn has_mark(marks: &[bool], node: NodeId) -> bool
     ensures { result ≡ slice_index_or marks.now node false }
 {
-    node < marks.len() && marks[node]
+    (node as usize) < marks.len() && marks[node as usize]
 }
 
 /// For each unknown, whether it is one of the first, one of these leads to it, or its node has a mark.
 pub fn held_unknowns(
     alloc: Global,
-    nodes: &[Node],
-    unknowns: &[usize],
+    nodes: &[Cell],
+    unknowns: &[NodeId],
     levels: &[Option<u32>],
     first: usize,
     marks: &[bool],

@@ -7,12 +7,13 @@ ghost use Rattle.sml_objects.specs.Appearance.{Stands};
 ghost use Rattle.sml_graph.specs.Graphs.{IsSound};
 ghost use Rattle.sml_schemes.specs.Fixed.{IsMarked, IsReach, AreMarks, places_of};
 
-use sml_graph::node::{Node, push_parts};
+use sml_graph::cell::{Cell, push_parts};
+use sml_graph::node::NodeId;
 use sml_lex::fault::Memory;
 use std::alloc::Global;
 
 /// Marks some nodes and all that they lead to.
-pub(crate) fn reached(alloc: Global, nodes: &[Node], from: &[usize]) -> Result<Vec<bool>, Memory>
+pub(crate) fn reached(alloc: Global, nodes: &[Cell], from: &[NodeId]) -> Result<Vec<bool>, Memory>
     requires sound { IsSound nodes.now }
     requires inside { AllByRecursion (λ i. i < length nodes.now) from.now }
     ensures { IfOk result (λ marks. IsReach nodes.now from.now marks.items []) }
@@ -21,16 +22,16 @@ pub(crate) fn reached(alloc: Global, nodes: &[Node], from: &[usize]) -> Result<V
     marks.resize(nodes.len(), false)?;
     let mut pending = Vec::from_slice(alloc, from)?;
     while let Some(at) = pending.pop() {
-        if !marks[at] {
-            marks[at] = true;
-            push_parts(&mut pending, &nodes[at])?;
+        if !marks[at as usize] {
+            marks[at as usize] = true;
+            push_parts(&mut pending, &nodes[at as usize])?;
         }
     }
     Ok(marks)
 }
 
 /// The same. The nodes at the end that get no mark may be missing: where no node is given, nothing is gone through.
-pub fn marks_from(alloc: Global, nodes: &[Node], from: &[usize]) -> Result<Vec<bool>, Memory>
+pub fn marks_from(alloc: Global, nodes: &[Cell], from: &[NodeId]) -> Result<Vec<bool>, Memory>
     requires sound { IsSound nodes.now }
     requires inside { AllByRecursion (λ i. i < length nodes.now) from.now }
     ensures { IfOk result (λ marks. AreMarks nodes.now from.now marks.items) }
@@ -43,7 +44,7 @@ pub fn marks_from(alloc: Global, nodes: &[Node], from: &[usize]) -> Result<Vec<b
 }
 
 /// The places of some unknowns.
-pub fn places(alloc: Global, unknowns: &[usize], others: &[u32]) -> Result<Vec<usize>, Memory>
+pub fn places(alloc: Global, unknowns: &[NodeId], others: &[u32]) -> Result<Vec<NodeId>, Memory>
     requires { AllByRecursion (λ w. w < length unknowns.now) others.now }
     ensures { IfOk result (λ places. places.items ≡ places_of unknowns.now others.now) }
 {

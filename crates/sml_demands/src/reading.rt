@@ -13,11 +13,13 @@ ghost use Rattle.sml_demands.specs.declared.reading.Task.TheVariants.{Read};
 ghost use Rattle.sml_layers.specs.Worlds.{finite};
 ghost use Rattle.sml_graph.specs.Worlds.{Assignment};
 ghost use Rattle.sml_graph.specs.Graphs.{IsSound, IsCountOf, AreOwners, Meets, head_over};
+ghost use Rattle.sml_graph.specs.CodeCells.{head_of};
 ghost use Rattle.sml_graph.specs.CodeRanks.{HasRank};
 ghost use Rattle.sml_demands.specs.CodeReads.{IsTypeAt, stacked};
 
 use crate::count::root_of;
-use sml_graph::node::{Head, Node};
+use sml_graph::cell::{Cell, Shape, Top};
+use sml_graph::node::{Head, NodeId};
 use sml_lex::fault::Memory;
 use sml_objects::objects::MlType;
 use std::alloc::Global;
@@ -27,13 +29,13 @@ use std::rc::Rc;
 #[derive(Drop)]
 pub(crate) enum Task {
     /// The type of a node goes onto the stack of types.
-    Read(usize),
+    Read(NodeId),
     /// So many types on the stack, the first of them topmost, become one under a head.
     Apply(Head, usize),
 }
 
 /// The unknown that has a place.
-fn owner(unknowns: &[usize], place: usize) -> u32
+fn owner(unknowns: &[NodeId], place: NodeId) -> u32
     requires rising { (v w : ℕ) → v < w → w < length unknowns.now → slice_index unknowns.now v < slice_index unknowns.now w }
     requires few { length unknowns.now ≤ 2 ^ 32 }
     requires owned { (v : ℕ) × (v < length unknowns.now) × (slice_index unknowns.now v ≡ place) }
@@ -94,20 +96,20 @@ fn apply(
     }
 }
 
-/// The same head once more.
-fn copy_of(head: &Head) -> Result<Head, Memory>
-    ensures over { IfOk result (λ copy. (n : ℕ) → head_over copy n ≡ head_over head.now n) }
-    ensures count { IfOk result (λ copy. (n : ℕ) → IsCountOf head.now n → IsCountOf copy n) }
+/// A head that is lent, once more.
+fn copy_of(head: Top) -> Result<Head, Memory>
+    ensures over { IfOk result (λ copy. (n : ℕ) → head_over copy n ≡ head_over (head_of head.entry) n) }
+    ensures count { IfOk result (λ copy. (n : ℕ) → IsCountOf (head_of head.entry) n → IsCountOf copy n) }
 {
     match head {
-        Head::Arrow => Ok(Head::Arrow),
-        Head::Row(labels) => Ok(Head::Row(labels.clone()?)),
-        Head::Name(name) => Ok(Head::Name(*name)),
+        Top::Arrow => Ok(Head::Arrow),
+        Top::Row(labels) => Ok(Head::Row(labels.clone()?)),
+        Top::Name(name) => Ok(Head::Name(name)),
     }
 }
 
 /// Adds the reading of some nodes to what is left to do.
-fn push_reads(tasks: &mut Vec<Task>, kids: &[usize]) -> Result<(), Memory>
+fn push_reads(tasks: &mut Vec<Task>, kids: &[NodeId]) -> Result<(), Memory>
     ensures { OnOk result (tasks.new.items ≡ tasks.old.items ++ map Read kids.now) }
 {
     for kid in kids {
@@ -120,9 +122,9 @@ fn push_reads(tasks: &mut Vec<Task>, kids: &[usize]) -> Result<(), Memory>
 /// limit. The time taken grows with the limit and not with the type.
 pub fn type_up_to(
     alloc: Global,
-    nodes: &[Node],
-    unknowns: &[usize],
-    root: usize,
+    nodes: &[Cell],
+    unknowns: &[NodeId],
+    root: NodeId,
     limit: u32,
 ) -> Result<Option<Rc<MlType>>, Memory>
     requires sound { IsSound nodes.now }
@@ -146,10 +148,10 @@ pub fn type_up_to(
                     return Ok(None);
                 }
                 let here = root_of(nodes, at);
-                match &nodes[here] {
-                    Node::App(head, kids) => {
+                match nodes[here as usize].shape() {
+                    Shape::App(head, kids) => {
                         tasks.push(Task::Apply(copy_of(head)?, kids.len()))?;
-                        push_reads(&mut tasks, kids.as_slice())?;
+                        push_reads(&mut tasks, kids)?;
                     }
                     _ => types.push(Rc::new(alloc, MlType::Free(owner(unknowns, here)))?)?,
                 }

@@ -10,5 +10,7 @@ pub mod Ranking
 pub mod Ordering
 pub mod Walks
 pub mod Wholeness
+pub mod Tabling
+pub mod Celling
 pub mod Rebounds
 pub mod Saying

@@ -102,12 +102,12 @@ clash_is ns ps l r e h w σ m q = h w σ m (rw e (q, tt))
 
 -- a layer that fails is the first to fail
 
-fails-first : (l : Layer) (u : ℕ) (g : Graph) (σ : Assignment finite) → Meets finite g.nodes.items σ → ((k : Layer) → index_of k < index_of l → KeepsAt k u g.limits.items σ) → NoneKeeps u g.nodes.items g.limits.items l → FailsFirst l u g
+fails-first : (l : Layer) (u : ℕ) (g : Graph) (σ : Assignment finite) → Meets finite g.nodes.items σ → ((k : Layer) → index_of k < index_of l → KeepsAt k u g.limits σ) → NoneKeeps u g.nodes.items g.limits l → FailsFirst l u g
 fails-first l u g σ m k n = record { types = σ; meets = m; keeps = k; none = n }
 
-pub fails-at : (l : Layer) (u : ℕ) (g : Graph) (σ : Assignment finite) → Meets finite g.nodes.items σ → ((k : Layer) → index_of k < index_of l → KeepsAt k u g.limits.items σ) → NoneKeeps u g.nodes.items g.limits.items l → FailsAt l u g
-fails-at Equations u g σ m k n = n σ m (λ j h. nothing-asked u g.limits.items σ j (omega (arith, h)))
-fails-at Finiteness u g σ m k n = λ r. n σ m (nothing-asked u g.limits.items σ)
+pub fails-at : (l : Layer) (u : ℕ) (g : Graph) (σ : Assignment finite) → Meets finite g.nodes.items σ → ((k : Layer) → index_of k < index_of l → KeepsAt k u g.limits σ) → NoneKeeps u g.nodes.items g.limits l → FailsAt l u g
+fails-at Equations u g σ m k n = n σ m (λ j h. nothing-asked u g.limits σ j (omega (arith, h)))
+fails-at Finiteness u g σ m k n = λ r. n σ m (nothing-asked u g.limits σ)
 fails-at Newness u g σ m k n = fails-first Newness u g σ m k n
 fails-at Locality u g σ m k n = fails-first Locality u g σ m k n
 fails-at Equality u g σ m k n = fails-first Equality u g σ m k n
@@ -124,7 +124,7 @@ last Classes = omega arith
 last Rigidity = omega arith
 
 -- the limits were handed on in the layers before the one that failed
-pub handed-fails : (u : ℕ) (g : Graph) (ls : List Limit) (f : Option Layer) (l : Layer) → HasRank g.nodes.items → IsClosed g.nodes.items ls → ((k : Layer) → IsBefore k f → IsFit k u g.nodes.items ls) → SameLimits u g.nodes.items g.limits.items ls → IfSome f (NoneKeeps u g.nodes.items g.limits.items) → f ≡ Some l → FailsAt l u g
+pub handed-fails : (u : ℕ) (g : Graph) (ls : List Limit) (f : Option Layer) (l : Layer) → HasRank g.nodes.items → IsClosed g.nodes.items ls → ((k : Layer) → IsBefore k f → IsFit k u g.nodes.items ls) → SameLimits u g.nodes.items g.limits ls → IfSome f (NoneKeeps u g.nodes.items g.limits) → f ≡ Some l → FailsAt l u g
 handed-fails u g ls None l r c w s n e = let x : None ≡ Some l = e in absurd cc
 handed-fails u g ls (Some k) l r c w s n e =
     let q : k ≡ l = cc in

@@ -35,7 +35,7 @@ pub record Asked : Type 0 where
   pub spent : Bool
 
 abbrev pub asked_of : ℕ → List ℕ → Graph → Bool → Asked
-asked_of u us g b = record { nodes = g.nodes.items; unknowns = us; unit = u; limits = g.limits.items; spent = b }
+asked_of u us g b = record { nodes = g.nodes.items; unknowns = us; unit = u; limits = g.limits; spent = b }
 
 -- how many unknowns there are
 abbrev pub count : Asked → ℕ

@@ -21,7 +21,7 @@ pub record HasBottom (g : Graph) : Type 0 where
 
 -- a limit and an order for each node
 pub record IsFull (g : Graph) : Type 0 where
-  pub limits : length g.limits.items ≡ length g.nodes.items
+  pub limits : length g.limits ≡ length g.nodes.items
   pub orders : length g.orders.items ≡ length g.nodes.items
   pub bottom : HasBottom g
 
@@ -31,8 +31,8 @@ pub record IsWhole (u : ℕ) (g : Graph) : Type 0 where
   pub sound : IsSound g.nodes.items
   pub rank : HasRank g.nodes.items
   pub ordered : AreOrdered g.nodes.items g.orders.items
-  pub closed : IsClosed g.nodes.items g.limits.items
-  pub fit : (l : Layer) → IsFit l u g.nodes.items g.limits.items
+  pub closed : IsClosed g.nodes.items g.limits
+  pub fit : (l : Layer) → IsFit l u g.nodes.items g.limits
 
 -- The same, but for what was changed.
 pub record IsChanged (u : ℕ) (g : Graph) (cs : List Change) : Type 0 where
@@ -43,20 +43,20 @@ pub record IsChanged (u : ℕ) (g : Graph) (cs : List Change) : Type 0 where
   pub rank : HasRank before
   pub outside : SameOutside before g.nodes.items cs
   pub ordered : AreOrderedBut g.nodes.items g.orders.items cs
-  pub but : IsDoneBut u g.nodes.items g.limits.items None cs
+  pub but : IsDoneBut u g.nodes.items g.limits None cs
 
 -- the graph has become whole, and says the same
 pub record Finishes (u : ℕ) (g h : Graph) : Type 0 where
   pub whole : IsWhole u h
   pub nodes : h.nodes.items ≡ g.nodes.items
-  pub limits : SameLimits u g.nodes.items g.limits.items h.limits.items
+  pub limits : SameLimits u g.nodes.items g.limits h.limits
 
 -- Some types meet the graph in the layers before this one, and none in it.
 pub record FailsFirst (l : Layer) (u : ℕ) (g : Graph) : Type 0 where
   pub types : Assignment finite
   pub meets : Meets finite g.nodes.items types
-  pub keeps : (k : Layer) → index_of k < index_of l → KeepsAt k u g.limits.items types
-  pub none : NoneKeeps u g.nodes.items g.limits.items l
+  pub keeps : (k : Layer) → index_of k < index_of l → KeepsAt k u g.limits types
+  pub none : NoneKeeps u g.nodes.items g.limits l
 
 -- the first layer in which no types meet the graph
 abbrev pub FailsAt : Layer → ℕ → Graph → Type 0
@@ -71,7 +71,7 @@ FailsAt Rigidity u g = FailsFirst Rigidity u g
 -- only the limit of one node is lowered
 pub record LowersLimit (g : Graph) (r : ℕ) (a : Limit) (h : Graph) (cs : List Change) : Type 0 where
   pub nodes : h.nodes.items ≡ g.nodes.items
-  pub lowers : Lowers g.limits.items [] (r ∷ []) a h.limits.items cs
+  pub lowers : Lowers g.limits [] (r ∷ []) a h.limits cs
   pub orders : h.orders.items ≡ g.orders.items
   pub bottom : h.bottom ≡ g.bottom
 

@@ -1,11 +1,13 @@
 pub mod Worlds
 pub mod Rows
 pub mod Graphs
+pub mod CodeCells
 pub mod Changes
 pub mod Interned
 pub mod Bounds
 pub mod Variables
 pub mod Limits
+pub mod CodeLimits
 pub mod Refusals
 pub mod Asked
 pub mod Said

@@ -3,19 +3,20 @@
 ghost use Rattle.std.specs.Prelude.{◌≡◌, ℕ, IfOk, OnOk};
 ghost use Rattle.sml_graph.specs.Changes.{AddsChange, AreCovered, AreInside, IsNoLater, NodesRise};
 
+use crate::node::NodeId;
 use sml_lex::fault::Memory;
 use std::alloc::Global;
 
 /// A node that was changed: its parts from a place on may be new.
 #[derive(Clone, Copy)]
 pub struct Change {
-    pub node: usize,
+    pub node: NodeId,
     pub from: usize,
 }
 
 impl Change {
     /// All parts of a node may be new.
-    pub fn of(node: usize) -> Self
+    pub fn of(node: NodeId) -> Self
         ensures { result ≡ record { node = node; from = 0 } }
     {
         Change { node, from: 0 }

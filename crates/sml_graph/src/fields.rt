@@ -5,6 +5,7 @@ ghost use Rattle.std.specs.Option.{IfSome};
 ghost use Rattle.sml_tree.specs.Views.{ident_of};
 ghost use Rattle.sml_graph.specs.Rows.{AreDistinct, AreDistinct-prop, field_list, kids_of, IsField};
 
+use crate::node::NodeId;
 use indexmap::IndexMap;
 use sml_tree::bare::Ident;
 use std::alloc::{AllocError, Global};
@@ -12,7 +13,7 @@ use std::alloc::{AllocError, Global};
 /// Labels, each with the node that has the type of its field. Each label stands once.
 #[derive(Drop)]
 pub struct Fields {
-    map: IndexMap<Ident, usize>,
+    map: IndexMap<Ident, NodeId>,
     ghost distinct: { AreDistinct (field_list map.entries) } by { AreDistinct-prop (field_list map.entries) },
 }
 
@@ -27,7 +28,7 @@ impl Fields {
     }
 
     /// The nodes of the fields.
-    pub(crate) fn kids(&self) -> &[usize]
+    pub(crate) fn kids(&self) -> &[NodeId]
         ensures { result.now ≡ kids_of (field_list self.now.map.entries) }
     {
         self.map.values().as_slice()
@@ -41,7 +42,7 @@ impl Fields {
     }
 
     /// Adds a field. Where its label stands already, nothing is changed, and the node that stands there is given.
-    pub fn add(&mut self, label: Ident, kid: usize) -> Result<Option<usize>, AllocError>
+    pub fn add(&mut self, label: Ident, kid: NodeId) -> Result<Option<NodeId>, AllocError>
         ensures new { IfOk result (λ found. found ≡ None → field_list self.new.map.entries ≡ field_list self.old.map.entries ++ (ident_of label, kid) ∷ []) }
         ensures known { IfOk result (λ found. IfSome found (λ k. (field_list self.new.map.entries ≡ field_list self.old.map.entries) × IsField (ident_of label) k (field_list self.old.map.entries))) }
     {

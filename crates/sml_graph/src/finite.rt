@@ -10,8 +10,9 @@ ghost use Rattle.sml_graph.specs.Graphs.{IsSound, parts};
 ghost use Rattle.sml_graph.specs.Changes.{SameOutside, AreInside};
 ghost use Rattle.sml_graph.specs.CodeRanks.{HasRank, AreFrom, AreOrdered, AreOrderedBut, Gives, IsDone, IsSearch, order_at};
 
+use crate::cell::{Cell, parts_from};
 use crate::change::Change;
-use crate::node::{Node, parts_from, parts_of};
+use crate::node::NodeId;
 use crate::orders::{NO_ORDER, Orders, unordered};
 use sml_lex::fault::Memory;
 use std::alloc::Global;
@@ -19,18 +20,18 @@ use std::alloc::Global;
 /// A node whose parts are being gone through, and the next of them.
 #[derive(Clone, Copy)]
 pub struct Visit {
-    node: usize,
+    node: NodeId,
     next: usize,
 }
 
 /// A part of a node.
-fn part_at(node: &Node, next: usize) -> Option<usize>
+fn part_at(node: &Cell, next: usize) -> Option<NodeId>
     ensures none { IfNone result (length (parts node.now) ≤ next) }
     ensures within { OnSome result (next < length (parts node.now)) }
     ensures value { IfSome result (λ k. k ≡ slice_index (parts node.now) next) }
     ensures small { OnSome result (next + 1 < 2 ^ 64) }
 {
-    let parts = parts_of(node);
+    let parts = node.parts();
     if next < parts.len() {
         Some(parts[next])
     } else {
@@ -42,10 +43,10 @@ fn part_at(node: &Node, next: usize) -> Option<usize>
 /// node leads to itself.
 fn search(
     alloc: Global,
-    nodes: &[Node],
+    nodes: &[Cell],
     orders: &mut [u64],
     given: &mut Orders,
-    root: usize,
+    root: NodeId,
 ) -> Result<bool, Memory>
     requires sound { IsSound nodes.now }
     requires positive { 0 < given.old.lowest }
@@ -60,22 +61,22 @@ fn search(
     ensures no { IfOk result (λ found. OnFalse found (HasRank nodes.now → ⊥)) }
 {
     let mut visits = Vec::new(alloc);
-    orders[root] = 0;
+    orders[root as usize] = 0;
     visits.push(Visit {
         node: root,
         next: 0,
     })?;
     while let Some(visit) = visits.pop() {
-        match part_at(&nodes[visit.node], visit.next) {
-            None => orders[visit.node] = given.of(orders, &nodes[visit.node])?,
+        match part_at(&nodes[visit.node as usize], visit.next) {
+            None => orders[visit.node as usize] = given.of(orders, &nodes[visit.node as usize])?,
             Some(part) => {
-                let order = orders[part];
+                let order = orders[part as usize];
                 if order == 0 {
                     return Ok(false);
                 }
                 if given.limit <= order {
                     visits.push(visit)?;
-                    orders[part] = 0;
+                    orders[part as usize] = 0;
                     visits.push(Visit {
                         node: part,
                         next: 0,
@@ -95,10 +96,10 @@ fn search(
 /// Gives some nodes and all that they lead to an order below the limit. `false` where a node leads to itself.
 fn give_orders(
     alloc: Global,
-    nodes: &[Node],
+    nodes: &[Cell],
     orders: &mut [u64],
     given: &mut Orders,
-    from: &[usize],
+    from: &[NodeId],
 ) -> Result<bool, Memory>
     requires sound { IsSound nodes.now }
     requires positive { 0 < given.old.lowest }
@@ -110,7 +111,7 @@ fn give_orders(
     ensures no { IfOk result (λ found. OnFalse found (HasRank nodes.now → ⊥)) }
 {
     for root in from {
-        if given.limit <= orders[*root] && !search(alloc, nodes, orders, given, *root)? {
+        if given.limit <= orders[*root as usize] && !search(alloc, nodes, orders, given, *root)? {
             return Ok(false);
         }
     }
@@ -118,7 +119,7 @@ fn give_orders(
 }
 
 /// The nodes that were changed, and their parts that may be new.
-fn with_parts(alloc: Global, nodes: &[Node], changed: &[Change]) -> Result<Vec<usize>, Memory>
+fn with_parts(alloc: Global, nodes: &[Cell], changed: &[Change]) -> Result<Vec<NodeId>, Memory>
     requires sound { IsSound nodes.now }
     requires inside { AreInside (length nodes.now) changed.now }
     ensures inside { IfOk result (λ all. AllByRecursion (λ i. i < length nodes.now) all.items) }
@@ -127,7 +128,7 @@ fn with_parts(alloc: Global, nodes: &[Node], changed: &[Change]) -> Result<Vec<u
     let mut all = Vec::new(alloc);
     for change in changed {
         all.push(change.node)?;
-        all.extend_from_slice(parts_from(&nodes[change.node], change.from))?;
+        all.extend_from_slice(parts_from(&nodes[change.node as usize], change.from))?;
     }
     Ok(all)
 }
@@ -136,7 +137,7 @@ fn with_parts(alloc: Global, nodes: &[Node], changed: &[Change]) -> Result<Vec<u
 /// parts; a new part that isn't below its node goes with all that it leads to below all other nodes.
 pub(crate) fn is_finite(
     alloc: Global,
-    nodes: &[Node],
+    nodes: &[Cell],
     orders: &mut [u64],
     bottom: &mut u64,
     top: &mut u64,

@@ -16,13 +16,15 @@ ghost use Rattle.sml_graph.specs.CodeRanks.{order_at};
 ghost use Rattle.sml_graph.specs.Limits.{limit_at, IsClosed, IsFit, IsBefore, IsDoneBut, SameLimits, NoneKeeps};
 ghost use Rattle.sml_graph.specs.CodeWhole.{IsFull, HasBottom, IsWhole, IsChanged, Finishes, FailsAt};
 
+use crate::cell::Cell;
 use crate::change::Change;
 use crate::demand::Refusal;
 use crate::finite::is_finite;
 use crate::intern::intern;
-use crate::limits::{Limit, hand_on_all};
+use crate::limit_table::Limits;
+use crate::limits::hand_on_all;
 use crate::merge::{Unsolved, solve};
-use crate::node::Node;
+use crate::node::NodeId;
 use crate::orders::NO_ORDER;
 use sml_layers::layer::Layer;
 use sml_lex::fault::Memory;
@@ -32,8 +34,8 @@ use std::alloc::Global;
 /// Nodes, what is asked of each, and the order of each. All orders are at or above the bottom, and new ones come at the top.
 #[derive(Drop)]
 pub struct Graph {
-    pub nodes: Vec<Node>,
-    pub limits: Vec<Limit>,
+    pub nodes: Vec<Cell>,
+    pub limits: Limits,
     pub orders: Vec<u64>,
     pub bottom: u64,
     pub top: u64,
@@ -41,15 +43,15 @@ pub struct Graph {
 
 /// Adds limits and orders for the nodes that have none yet.
 pub fn fill(graph: &mut Graph) -> Result<(), Memory>
-    requires limits { length graph.old.limits.items ≡ length graph.old.orders.items }
+    requires limits { length graph.old.limits ≡ length graph.old.orders.items }
     requires bottom { HasBottom graph.old }
     ensures nodes { OnOk result (graph.new.nodes.items ≡ graph.old.nodes.items) }
-    ensures limits { OnOk result ((i : ℕ) → limit_at graph.new.limits.items i ≡ limit_at graph.old.limits.items i) }
+    ensures limits { OnOk result ((i : ℕ) → limit_at graph.new.limits i ≡ limit_at graph.old.limits i) }
     ensures orders { OnOk result ((i : ℕ) → order_at graph.new.orders.items i ≡ order_at graph.old.orders.items i) }
     ensures full { OnOk result (length graph.old.orders.items ≤ length graph.old.nodes.items → IsFull graph.new) }
 {
     while graph.orders.len() < graph.nodes.len() {
-        graph.limits.push(Limit::none())?;
+        graph.limits.push_none()?;
         graph.orders.push(NO_ORDER)?;
     }
     Ok(())
@@ -59,15 +61,15 @@ pub fn fill(graph: &mut Graph) -> Result<(), Memory>
 pub fn add(
     alloc: Global,
     graph: &mut Graph,
-    unknowns: &[usize],
+    unknowns: &[NodeId],
     ty: &MlType,
-) -> Result<usize, Memory>
+) -> Result<NodeId, Memory>
     requires full { IsFull graph.old }
     requires sound { IsSound graph.old.nodes.items }
     requires inside { AllByRecursion (λ u. u < length graph.old.nodes.items) unknowns.now }
     requires known { IsOver (length unknowns.now) (type_of ty.now) }
     ensures interns { IfOk result (λ r. Interns graph.old.nodes.items unknowns.now (type_of ty.now) graph.new.nodes.items r) }
-    ensures limits { OnOk result ((i : ℕ) → limit_at graph.new.limits.items i ≡ limit_at graph.old.limits.items i) }
+    ensures limits { OnOk result ((i : ℕ) → limit_at graph.new.limits i ≡ limit_at graph.old.limits i) }
     ensures whole { OnOk result ((u : ℕ) → IsWhole u graph.old → IsWhole u graph.new) }
     ensures full { OnOk result (IsFull graph.new) }
 {
@@ -79,9 +81,9 @@ pub fn add(
 /// Makes one node of two. Gives what was changed.
 pub fn merge_two(
     alloc: Global,
-    nodes: &mut Vec<Node>,
-    left: usize,
-    right: usize,
+    nodes: &mut Vec<Cell>,
+    left: NodeId,
+    right: NodeId,
 ) -> Result<Vec<Change>, Refusal>
     requires sound { IsSound nodes.old.items }
     requires left { left < length nodes.old.items }
@@ -110,23 +112,23 @@ pub fn merge_two(
 /// Hands limits on from what was changed. Gives the first layer in which a limit isn't kept.
 fn hand_on_from(
     alloc: Global,
-    nodes: &[Node],
-    limits: &mut Vec<Limit>,
+    nodes: &[Cell],
+    limits: &mut Limits,
     unit: UnitId,
     changed: &[Change],
 ) -> Result<Option<Layer>, Memory>
     requires sound { IsSound nodes.now }
-    requires len { length limits.old.items ≡ length nodes.now }
+    requires len { length limits.old ≡ length nodes.now }
     requires inside { AreInside (length nodes.now) changed.now }
-    requires but { IsDoneBut (maker_of unit) nodes.now limits.old.items None changed.now }
-    ensures len { OnOk result (length limits.new.items ≡ length nodes.now) }
-    ensures closed { OnOk result (IsClosed nodes.now limits.new.items) }
-    ensures fit { IfOk result (λ failed. (l : Layer) → IsBefore l failed → IsFit l (maker_of unit) nodes.now limits.new.items) }
-    ensures same { OnOk result (SameLimits (maker_of unit) nodes.now limits.old.items limits.new.items) }
-    ensures fails { IfOk result (λ failed. IfSome failed (NoneKeeps (maker_of unit) nodes.now limits.old.items)) }
+    requires but { IsDoneBut (maker_of unit) nodes.now limits.old None changed.now }
+    ensures len { OnOk result (length limits.new ≡ length nodes.now) }
+    ensures closed { OnOk result (IsClosed nodes.now limits.new) }
+    ensures fit { IfOk result (λ failed. (l : Layer) → IsBefore l failed → IsFit l (maker_of unit) nodes.now limits.new) }
+    ensures same { OnOk result (SameLimits (maker_of unit) nodes.now limits.old limits.new) }
+    ensures fails { IfOk result (λ failed. IfSome failed (NoneKeeps (maker_of unit) nodes.now limits.old)) }
 {
     let pending = Vec::from_slice(alloc, changed)?;
-    let failed = hand_on_all(nodes, limits.as_mut_slice(), unit, pending)?;
+    let failed = hand_on_all(nodes, limits, unit, pending)?;
     Ok(failed)
 }
 

@@ -7,7 +7,8 @@ ghost use Rattle.sml_graph.specs.declared.node.Node.TheVariants.{App};
 ghost use Rattle.sml_graph.specs.Graphs.{IsSound};
 ghost use Rattle.sml_graph.specs.Interned.{IsOver, Interns, Expands, numbers, seen};
 
-use crate::node::{Head, Node};
+use crate::cell::Cell;
+use crate::node::{Head, Node, NodeId};
 use smallvec::SmallVec;
 use sml_lex::fault::Memory;
 use sml_objects::objects::MlType;
@@ -18,32 +19,35 @@ use std::rc::Rc;
 /// the place of its node behind the nodes given.
 pub(crate) fn intern(
     alloc: Global,
-    nodes: &mut Vec<Node>,
-    unknowns: &[usize],
+    nodes: &mut Vec<Cell>,
+    unknowns: &[NodeId],
     ty: &MlType,
-) -> Result<usize, Memory>
+) -> Result<NodeId, Memory>
     requires sound { IsSound nodes.old.items }
     requires inside { AllByRecursion (λ u. u < length nodes.old.items) unknowns.now }
     requires known { IsOver (length unknowns.now) (type_of ty.now) }
     ensures { IfOk result (λ r. Interns nodes.old.items unknowns.now (type_of ty.now) nodes.new.items r) }
 {
     let base = nodes.len();
+    let Ok(first) = NodeId::try_from(base) else {
+        return Err(Memory);
+    };
     let mut types = Vec::new(alloc);
     types.push(ty)?;
     let mut next = 0;
     while next < types.len() {
         let here = types[next];
         let node = node_for(alloc, unknowns, base, &mut types, here)?;
-        nodes.push(node)?;
+        nodes.push(Cell::of(alloc, node)?)?;
         next += 1;
     }
-    Ok(base)
+    Ok(first)
 }
 
 /// The node for a type. The types of its parts are added to those whose nodes are to come.
 fn node_for<'a>(
     alloc: Global,
-    unknowns: &[usize],
+    unknowns: &[NodeId],
     base: usize,
     types: &mut Vec<&'a MlType>,
     ty: &'a MlType,
@@ -73,14 +77,16 @@ fn node_for<'a>(
 }
 
 /// The place of the node of a type that is added to those whose nodes are to come.
-fn place_for<'a>(base: usize, types: &mut Vec<&'a MlType>, ty: &'a MlType) -> Result<usize, Memory>
+fn place_for<'a>(base: usize, types: &mut Vec<&'a MlType>, ty: &'a MlType) -> Result<NodeId, Memory>
     ensures place { IfOk result (λ k. k ≡ base + vec_len types.old) }
     ensures types { IfOk result (λ _. seen types.new.items ≡ seen types.old.items ++ type_of ty.now ∷ []) }
     ensures len { IfOk result (λ _. vec_len types.new ≡ vec_len types.old + 1) }
 {
-    let place = match base.checked_add(types.len()) {
-        Some(place) => place,
-        None => return Err(Memory),
+    let Some(place) = base.checked_add(types.len()) else {
+        return Err(Memory);
+    };
+    let Ok(place) = NodeId::try_from(place) else {
+        return Err(Memory);
     };
     types.push(ty)?;
     Ok(place)
@@ -92,7 +98,7 @@ fn places_for<'a>(
     base: usize,
     types: &mut Vec<&'a MlType>,
     parts: &'a [Rc<MlType>],
-) -> Result<SmallVec<usize, 2, Global>, Memory>
+) -> Result<SmallVec<NodeId, 2, Global>, Memory>
     ensures places { IfOk result (λ kids. kids.items ≡ numbers (base + vec_len types.old) (length parts.now)) }
     ensures types { IfOk result (λ _. seen types.new.items ≡ seen types.old.items ++ map (λ t. type_of t.value) parts.now) }
 {

@@ -1,6 +1,7 @@
 // The graph of types: nodes, the equations between them, what is asked of each, and their order.
 #![tactic(auto)]
 
+pub mod cell;
 pub mod change;
 pub mod demand;
 pub mod fields;
@@ -8,6 +9,7 @@ mod finite;
 pub mod graph;
 mod intern;
 pub mod laws;
+pub mod limit_table;
 pub mod limits;
 pub mod merge;
 pub mod node;

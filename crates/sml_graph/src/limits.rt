@@ -11,14 +11,18 @@ ghost use Rattle.sml_layers.specs.declared.layer.Layer.{Layer};
 ghost use Rattle.sml_layers.specs.Worlds.{finite};
 ghost use Rattle.sml_graph.specs.Worlds.{Assignment};
 ghost use Rattle.sml_graph.specs.Graphs.{IsSound, Meets, head_over, parts};
+ghost use Rattle.sml_graph.specs.declared.node.Head.{Head};
+ghost use Rattle.sml_graph.specs.CodeCells.{head_of};
 ghost use Rattle.sml_graph.specs.Changes.{AreInside};
 ghost use Rattle.sml_layers.specs.Layers.{index_of};
 ghost use Rattle.sml_graph.specs.Variables.{IsPossible, FitsVariables};
 ghost use Rattle.sml_layers.specs.Classes.{has_several, has_one};
 ghost use Rattle.sml_graph.specs.Limits.{no_limit, both, both_bounds, both_classes, FitsBound, FitsEquality, FitsClass, FitsAt, IsFitNode, handed, IsClosed, IsFit, IsBefore, IsDoneBut, SameLimits, NoneKeeps, Lowers};
 
+use crate::cell::{Cell, Shape, Top, parts_from};
 use crate::change::Change;
-use crate::node::{Head, Node, parts_from};
+use crate::limit_table::Limits;
+use crate::node::NodeId;
 use crate::variables::Variables;
 use sml_layers::class::Names;
 use sml_layers::layer::Layer;
@@ -108,15 +112,15 @@ impl Limit {
 }
 
 /// What is asked of the parts of a node. Equality isn't asked of what a reference holds.
-fn handed_on(node: &Node, limit: Limit) -> Limit
+fn handed_on(node: &Cell, limit: Limit) -> Limit
     ensures { result ≡ handed node.now limit }
 {
-    let equality = match node {
-        Node::Unknown => return limit,
-        Node::Link(_) => return limit,
-        Node::App(Head::Name(name), _) => !is_reference(*name) && limit.equality,
-        Node::App(_, _) => limit.equality,
-        Node::Open(_) => limit.equality,
+    let equality = match node.shape() {
+        Shape::Unknown => return limit,
+        Shape::Link(_) => return limit,
+        Shape::App(Top::Name(name), _) => !is_reference(name) && limit.equality,
+        Shape::App(_, _) => limit.equality,
+        Shape::Open(_) => limit.equality,
     };
     Limit {
         newness: limit.newness,
@@ -165,7 +169,7 @@ fn are_same_variables(one: Variables, other: Variables) -> bool
     }
 }
 
-fn is_same_limit(one: Limit, other: Limit) -> bool
+pub(crate) fn is_same_limit(one: Limit, other: Limit) -> bool
     ensures yes { OnTrue result (one ≡ other) }
     ensures no { OnFalse result (one ≡ other → ⊥) }
 {
@@ -177,12 +181,12 @@ fn is_same_limit(one: Limit, other: Limit) -> bool
 }
 
 /// Whether a head is no name that the unit made with the bound's number or a higher one.
-fn is_head_within(head: &Head, unit: UnitId, bound: Option<u32>) -> bool
-    ensures yes { OnTrue result ((n : ℕ) → FitsBound (maker_of unit) bound (head_over head.now n)) }
-    ensures no { OnFalse result ((n : ℕ) → FitsBound (maker_of unit) bound (head_over head.now n) → ⊥) }
+fn is_head_within(head: Top, unit: UnitId, bound: Option<u32>) -> bool
+    ensures yes { OnTrue result ((n : ℕ) → FitsBound (maker_of unit) bound (head_over (head_of head.entry) n)) }
+    ensures no { OnFalse result ((n : ℕ) → FitsBound (maker_of unit) bound (head_over (head_of head.entry) n) → ⊥) }
 {
     match (head, bound) {
-        (Head::Name(TyName::Made(made)), Some(most)) => {
+        (Top::Name(TyName::Made(made)), Some(most)) => {
             made.unit.index != unit.index || made.number < most
         }
         _ => true,
@@ -190,25 +194,25 @@ fn is_head_within(head: &Head, unit: UnitId, bound: Option<u32>) -> bool
 }
 
 /// Whether a type with this head may admit equality.
-fn may_admit(head: &Head, equality: bool) -> bool
-    ensures yes { OnTrue result ((n : ℕ) → FitsEquality equality (head_over head.now n)) }
-    ensures no { OnFalse result ((n : ℕ) → FitsEquality equality (head_over head.now n) → ⊥) }
+fn may_admit(head: Top, equality: bool) -> bool
+    ensures yes { OnTrue result ((n : ℕ) → FitsEquality equality (head_over (head_of head.entry) n)) }
+    ensures no { OnFalse result ((n : ℕ) → FitsEquality equality (head_over (head_of head.entry) n) → ⊥) }
 {
     match head {
-        Head::Arrow => !equality,
-        Head::Row(_) => true,
-        Head::Name(name) => !equality || is_reference(*name) || has_equality(*name),
+        Top::Arrow => !equality,
+        Top::Row(_) => true,
+        Top::Name(name) => !equality || is_reference(name) || has_equality(name),
     }
 }
 
 /// Whether a head over so many parts is one of some names.
-fn is_in_class(head: &Head, count: usize, class: Option<Names>) -> bool
-    ensures yes { OnTrue result (FitsClass class (head_over head.now count) count) }
-    ensures no { OnFalse result (FitsClass class (head_over head.now count) count → ⊥) }
+fn is_in_class(head: Top, count: usize, class: Option<Names>) -> bool
+    ensures yes { OnTrue result (FitsClass class (head_over (head_of head.entry) count) count) }
+    ensures no { OnFalse result (FitsClass class (head_over (head_of head.entry) count) count → ⊥) }
 {
     match (class, head) {
         (None, _) => true,
-        (Some(names), Head::Name(TyName::Initial(name))) => count == 0 && names.has(*name),
+        (Some(names), Top::Name(TyName::Initial(name))) => count == 0 && names.has(name),
         (Some(_), _) => false,
     }
 }
@@ -236,9 +240,9 @@ fn is_any(variables: Variables) -> bool
 }
 
 /// The first layer in which a head over so many parts isn't what is asked.
-fn misfit_head(head: &Head, count: usize, limit: Limit, unit: UnitId) -> Option<Layer>
-    ensures fits { (l : Layer) → IsBefore l result → FitsAt l (maker_of unit) limit (head_over head.now count) count }
-    ensures fails { IfSome result (λ l. FitsAt l (maker_of unit) limit (head_over head.now count) count → ⊥) }
+fn misfit_head(head: Top, count: usize, limit: Limit, unit: UnitId) -> Option<Layer>
+    ensures fits { (l : Layer) → IsBefore l result → FitsAt l (maker_of unit) limit (head_over (head_of head.entry) count) count }
+    ensures fails { IfSome result (λ l. FitsAt l (maker_of unit) limit (head_over (head_of head.entry) count) count → ⊥) }
 {
     if !is_head_within(head, unit, limit.newness) {
         return Some(Layer::Newness);
@@ -273,21 +277,21 @@ fn misfit_row(limit: Limit) -> Option<Layer>
 }
 
 /// The first layer in which a node isn't what is asked.
-fn misfit(node: &Node, limit: Limit, unit: UnitId) -> Option<Layer>
+fn misfit(node: &Cell, limit: Limit, unit: UnitId) -> Option<Layer>
     ensures fits { (l : Layer) → IsBefore l result → IsFitNode l (maker_of unit) limit node.now }
     ensures fails { IfSome result (λ l. IsFitNode l (maker_of unit) limit node.now → ⊥) }
 {
-    match node {
-        Node::Unknown => {
+    match node.shape() {
+        Shape::Unknown => {
             if is_possible(limit) {
                 None
             } else {
                 Some(Layer::Rigidity)
             }
         }
-        Node::Link(_) => None,
-        Node::App(head, kids) => misfit_head(head, kids.len(), limit, unit),
-        Node::Open(_) => misfit_row(limit),
+        Shape::Link(_) => None,
+        Shape::App(head, kids) => misfit_head(head, kids.len(), limit, unit),
+        Shape::Open(_) => misfit_row(limit),
     }
 }
 
@@ -312,27 +316,28 @@ fn earlier(one: Option<Layer>, other: Option<Layer>) -> Option<Layer>
 
 /// Lowers the limit of a node, which is then left to do.
 pub fn lower(
-    limits: &mut [Limit],
+    limits: &mut Limits,
     pending: &mut Vec<Change>,
-    at: usize,
+    at: NodeId,
     limit: Limit,
 ) -> Result<(), Memory>
     requires { at < length limits.old }
     ensures { OnOk result (Lowers limits.old pending.old.items (at ∷ []) limit limits.new pending.new.items) }
 {
-    let lowered = limits[at].and(limit);
-    if !is_same_limit(lowered, limits[at]) {
+    let old = limits.get(at as usize);
+    let lowered = old.and(limit);
+    if !is_same_limit(lowered, old) {
         pending.push(Change::of(at))?;
-        limits[at] = lowered;
+        limits.set(at as usize, lowered)?;
     }
     Ok(())
 }
 
 /// The same for several nodes.
 fn lower_all(
-    limits: &mut [Limit],
+    limits: &mut Limits,
     pending: &mut Vec<Change>,
-    parts: &[usize],
+    parts: &[NodeId],
     limit: Limit,
 ) -> Result<(), Memory>
     requires { AllByRecursion (λ k. k < length limits.old) parts.now }
@@ -346,9 +351,9 @@ fn lower_all(
 
 /// Hands a limit on to the parts of a node from a place on.
 fn hand_on(
-    limits: &mut [Limit],
+    limits: &mut Limits,
     pending: &mut Vec<Change>,
-    node: &Node,
+    node: &Cell,
     from: usize,
     limit: Limit,
 ) -> Result<(), Memory>
@@ -366,8 +371,8 @@ fn hand_on(
 /// Hands limits on from the changes that are left to do to all that these lead to. Gives the first layer in which a
 /// limit isn't kept.
 pub(crate) fn hand_on_all(
-    nodes: &[Node],
-    limits: &mut [Limit],
+    nodes: &[Cell],
+    limits: &mut Limits,
     unit: UnitId,
     mut pending: Vec<Change>,
 ) -> Result<Option<Layer>, Memory>
@@ -375,6 +380,7 @@ pub(crate) fn hand_on_all(
     requires len { length limits.old ≡ length nodes.now }
     requires inside { AreInside (length limits.old) pending.items }
     requires but { IsDoneBut (maker_of unit) nodes.now limits.old None pending.items }
+    ensures len { OnOk result (length limits.new ≡ length nodes.now) }
     ensures closed { OnOk result (IsClosed nodes.now limits.new) }
     ensures fit { IfOk result (λ failed. (l : Layer) → IsBefore l failed → IsFit l (maker_of unit) nodes.now limits.new) }
     ensures same { OnOk result (SameLimits (maker_of unit) nodes.now limits.old limits.new) }
@@ -382,8 +388,8 @@ pub(crate) fn hand_on_all(
 {
     let mut failed = None;
     while let Some(change) = pending.pop() {
-        let limit = limits[change.node];
-        let node = &nodes[change.node];
+        let limit = limits.get(change.node as usize);
+        let node = &nodes[change.node as usize];
         failed = earlier(failed, misfit(node, limit, unit));
         hand_on(limits, &mut pending, node, change.from, limit)?;
     }

@@ -8,10 +8,12 @@ ghost use Rattle.sml_graph.specs.declared.node.Node.TheVariants.{App, Open};
 ghost use Rattle.sml_graph.specs.Graphs.{IsSame, IsRoot, IsSound, ArePairsIn, SameSolutions, HasNoSolution, Merges, Leads, IsRootNode, AreApart, Joins, JoinsFields, JoinsRow, LacksLabel, fields_of, pairs_of};
 ghost use Rattle.sml_graph.specs.Changes.{Changes, BeginsWith, KeepsFirst};
 
+use crate::cell::{Cell, Shape};
 use crate::change::{Change, fewest};
 use crate::fields::Fields;
-use crate::node::{Head, Node, is_same_head, parts_of};
+use crate::node::{Head, Node, NodeId, is_same_head, parts_of};
 use smallvec::SmallVec;
+use sml_lex::fault::Memory;
 use sml_objects::labels::Labels;
 use std::alloc::{AllocError, AllocFailed, Global};
 use std::mem;
@@ -23,6 +25,14 @@ pub enum Unsolved {
     Clash,
     /// A growth was refused.
     Memory,
+}
+
+impl From<Memory> for Unsolved {
+    ghost from_gives = { λ _ fault. fault ≡ Memory };
+
+    fn from(_memory: Memory) -> Self {
+        Unsolved::Memory
+    }
 }
 
 impl From<AllocError> for Unsolved {
@@ -42,7 +52,7 @@ impl<T: Drop> From<AllocFailed<T>> for Unsolved {
 }
 
 /// The node that another one leads to. Each link on the way is then led past the next one, and added to the changes.
-fn find(nodes: &mut Vec<Node>, changed: &mut Vec<Change>, at: usize) -> Result<usize, Unsolved>
+fn find(nodes: &mut Vec<Cell>, changed: &mut Vec<Change>, at: NodeId) -> Result<NodeId, Unsolved>
     requires sound { IsSound nodes.old.items }
     requires inside { at < vec_len nodes.old }
     ensures leads { OnOk result (Leads nodes.old.items nodes.new.items) }
@@ -53,10 +63,10 @@ fn find(nodes: &mut Vec<Node>, changed: &mut Vec<Change>, at: usize) -> Result<u
     ensures clash { result ≡ Err Unsolved.Clash → ⊥ }
 {
     let mut here = at;
-    while let Node::Link(next) = nodes[here] {
-        if let Node::Link(after) = nodes[next] {
+    while let Shape::Link(next) = nodes[here as usize].shape() {
+        if let Shape::Link(after) = nodes[next as usize].shape() {
             changed.push(Change::of(here))?;
-            nodes[here] = Node::Link(after);
+            nodes[here as usize] = Cell::link(after);
         }
         here = next;
     }
@@ -65,9 +75,9 @@ fn find(nodes: &mut Vec<Node>, changed: &mut Vec<Change>, at: usize) -> Result<u
 
 /// Adds the pairs of two lists of one length.
 fn push_pairs(
-    pending: &mut Vec<(usize, usize)>,
-    lefts: &[usize],
-    rights: &[usize],
+    pending: &mut Vec<(NodeId, NodeId)>,
+    lefts: &[NodeId],
+    rights: &[NodeId],
 ) -> Result<(), AllocError>
     requires { length lefts.now ≡ length rights.now }
     ensures { OnOk result (pending.new.items ≡ pending.old.items ++ pairs_of lefts.now rights.now) }
@@ -80,7 +90,7 @@ fn push_pairs(
 
 /// Adds the fields of one row to another one. Where a label stands in both, their nodes are a pair left to solve.
 fn add_fields(
-    pending: &mut Vec<(usize, usize)>,
+    pending: &mut Vec<(NodeId, NodeId)>,
     into: &mut Fields,
     from: &Fields,
 ) -> Result<(), Unsolved>
@@ -102,7 +112,7 @@ fn add_fields(
 /// One row with the fields of two: of the larger one, and behind them those that only the other has. With it, how many
 /// of the second row's fields stay where they are.
 fn join_fields(
-    pending: &mut Vec<(usize, usize)>,
+    pending: &mut Vec<(NodeId, NodeId)>,
     mut upper: Box<Fields>,
     mut lower: Box<Fields>,
 ) -> Result<(Node, usize), Unsolved>
@@ -122,11 +132,11 @@ fn join_fields(
 
 /// One node with the parts of two heads that are one: the first of the two.
 fn join_heads(
-    pending: &mut Vec<(usize, usize)>,
+    pending: &mut Vec<(NodeId, NodeId)>,
     head: Head,
-    kids: SmallVec<usize, 2, Global>,
+    kids: SmallVec<NodeId, 2, Global>,
     other: Head,
-    others: SmallVec<usize, 2, Global>,
+    others: SmallVec<NodeId, 2, Global>,
 ) -> Result<Node, Unsolved>
     ensures joins { IfOk result (λ n. Joins (App head kids) (App other others) n pending.old.items pending.new.items) }
     ensures first { IfOk result (λ n. n ≡ App head kids) }
@@ -143,10 +153,10 @@ fn join_heads(
 /// Adds pairs of the nodes of some fields and the parts of a row that have their labels. A label that the row lacks is a
 /// clash.
 fn push_fields(
-    pending: &mut Vec<(usize, usize)>,
+    pending: &mut Vec<(NodeId, NodeId)>,
     fields: &Fields,
     labels: &Labels,
-    kids: &[usize],
+    kids: &[NodeId],
 ) -> Result<(), Unsolved>
     ensures joins { OnOk result (JoinsRow (fields_of fields.now) (label_list labels.now) kids.now pending.old.items pending.new.items) }
     ensures clash { result ≡ Err Unsolved.Clash → LacksLabel (fields_of fields.now) (label_list labels.now) kids.now }
@@ -164,9 +174,9 @@ fn push_fields(
 
 /// One node of a head and a row that has some fields: the head's.
 fn close_row(
-    pending: &mut Vec<(usize, usize)>,
+    pending: &mut Vec<(NodeId, NodeId)>,
     head: Head,
-    kids: SmallVec<usize, 2, Global>,
+    kids: SmallVec<NodeId, 2, Global>,
     fields: Box<Fields>,
 ) -> Result<Node, Unsolved>
     ensures joins { IfOk result (λ n. Joins (App head kids) (Open fields) n pending.old.items pending.new.items) }
@@ -192,7 +202,7 @@ fn close_row(
 /// One node that says what two say, where neither leads to another. With it, how many of the lower node's first parts
 /// stay where they are.
 fn join(
-    pending: &mut Vec<(usize, usize)>,
+    pending: &mut Vec<(NodeId, NodeId)>,
     upper: Node,
     lower: Node,
 ) -> Result<(Node, usize), Unsolved>
@@ -226,11 +236,12 @@ fn join(
 
 /// Makes one node of two that others may lead to.
 fn merge(
-    nodes: &mut Vec<Node>,
-    pending: &mut Vec<(usize, usize)>,
+    alloc: Global,
+    nodes: &mut Vec<Cell>,
+    pending: &mut Vec<(NodeId, NodeId)>,
     changed: &mut Vec<Change>,
-    high: usize,
-    low: usize,
+    high: NodeId,
+    low: NodeId,
 ) -> Result<(), Unsolved>
     requires sound { IsSound nodes.old.items }
     requires inside { ArePairsIn (length nodes.old.items) pending.old.items }
@@ -242,11 +253,11 @@ fn merge(
     ensures changes { OnOk result (Changes nodes.old.items changed.old.items nodes.new.items changed.new.items) }
     ensures clash { result ≡ Err Unsolved.Clash → HasNoSolution nodes.old.items ((high, low) ∷ []) }
 {
-    let upper = mem::replace(&mut nodes[high], Node::Link(low));
-    let lower = mem::replace(&mut nodes[low], Node::Unknown);
-    match join(pending, upper, lower) {
+    let upper = mem::replace(&mut nodes[high as usize], Cell::link(low));
+    let lower = mem::replace(&mut nodes[low as usize], Cell::unknown());
+    match join(pending, upper.into_node(alloc), lower.into_node(alloc)) {
         Ok((joined, from)) => {
-            nodes[low] = joined;
+            nodes[low as usize] = Cell::of(alloc, joined)?;
             changed.push(Change::of(high))?;
             changed.push(Change { node: low, from })?;
             Ok(())
@@ -257,11 +268,12 @@ fn merge(
 
 /// Makes one node of the two that these lead to.
 fn step(
-    nodes: &mut Vec<Node>,
-    pending: &mut Vec<(usize, usize)>,
+    alloc: Global,
+    nodes: &mut Vec<Cell>,
+    pending: &mut Vec<(NodeId, NodeId)>,
     changed: &mut Vec<Change>,
-    left: usize,
-    right: usize,
+    left: NodeId,
+    right: NodeId,
 ) -> Result<(), Unsolved>
     requires sound { IsSound nodes.old.items }
     requires inside { ArePairsIn (length nodes.old.items) pending.old.items }
@@ -277,17 +289,17 @@ fn step(
         return Ok(());
     }
     if first < second {
-        merge(nodes, pending, changed, second, first)
+        merge(alloc, nodes, pending, changed, second, first)
     } else {
-        merge(nodes, pending, changed, first, second)
+        merge(alloc, nodes, pending, changed, first, second)
     }
 }
 
 /// Solves equations between nodes, over infinite types. Gives what was changed, besides what had been.
 pub fn solve(
     alloc: Global,
-    nodes: &mut Vec<Node>,
-    mut pending: Vec<(usize, usize)>,
+    nodes: &mut Vec<Cell>,
+    mut pending: Vec<(NodeId, NodeId)>,
     mut changed: Vec<Change>,
 ) -> Result<Vec<Change>, Unsolved>
     requires sound { IsSound nodes.old.items }
@@ -299,7 +311,7 @@ pub fn solve(
     ensures clash { result ≡ Err Unsolved.Clash → HasNoSolution nodes.old.items pending.items }
 {
     while let Some((left, right)) = pending.pop() {
-        match step(nodes, &mut pending, &mut changed, left, right) {
+        match step(alloc, nodes, &mut pending, &mut changed, left, right) {
             Ok(()) => {}
             Err(fault) => return Err(fault),
         }

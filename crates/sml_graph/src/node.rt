@@ -1,16 +1,18 @@
 //! Nodes, of which a solver's graph of types is made.
 
-ghost use Rattle.std.specs.Prelude.{◌≡◌, ◌≢◌, ℕ, true, false, drop, ◌++◌, OnOk};
+ghost use Rattle.std.specs.Prelude.{◌≡◌, ◌≢◌, ℕ, true, false};
 ghost use Rattle.sml_graph.specs.Graphs.{head_over, parts};
 
 use crate::fields::Fields;
 use smallvec::SmallVec;
-use sml_lex::fault::Memory;
 use sml_objects::labels::Labels;
 use sml_objects::objects::TyName;
 use std::alloc::Global;
 use std::rc::Rc;
 use std::slice;
+
+/// The number of a node, by which others speak of it: 32 bits, since there are so many.
+pub type NodeId = u32;
 
 /// What stands at the top of a type, over its parts.
 #[derive(Clone, Drop)]
@@ -26,15 +28,15 @@ pub enum Head {
 pub enum Node {
     Unknown,
     /// The type of an earlier node.
-    Link(usize),
+    Link(NodeId),
     /// A head over the types of other nodes.
-    App(Head, SmallVec<usize, 2, Global>),
+    App(Head, SmallVec<NodeId, 2, Global>),
     /// A row that has these fields and perhaps others.
     Open(Box<Fields>),
 }
 
 /// The nodes that a node speaks of.
-pub fn parts_of(node: &Node) -> &[usize]
+pub(crate) fn parts_of(node: &Node) -> &[NodeId]
     ensures { result.now ≡ parts node.now }
 {
     match node {
@@ -43,26 +45,6 @@ pub fn parts_of(node: &Node) -> &[usize]
         Node::App(_, kids) => kids.as_slice(),
         Node::Open(fields) => fields.kids(),
     }
-}
-
-/// The parts of a node from a place on.
-pub fn parts_from(node: &Node, from: usize) -> &[usize]
-    ensures { result.now ≡ drop from (parts node.now) }
-{
-    let parts = parts_of(node);
-    if from < parts.len() {
-        &parts[from..]
-    } else {
-        &[]
-    }
-}
-
-/// Adds the parts of a node.
-pub fn push_parts(pending: &mut Vec<usize>, node: &Node) -> Result<(), Memory>
-    ensures { OnOk result (pending.new.items ≡ pending.old.items ++ parts node.now) }
-{
-    pending.extend_from_slice(parts_of(node))?;
-    Ok(())
 }
 
 /// Whether two heads are one.

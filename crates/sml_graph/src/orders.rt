@@ -6,8 +6,9 @@ ghost use Rattle.sml_graph.specs.Graphs.{IsSound, parts};
 ghost use Rattle.sml_graph.specs.Changes.{AreInside};
 ghost use Rattle.sml_graph.specs.CodeRanks.{order_at, IsAbove, IsFoundIn, FindsUnordered};
 
+use crate::cell::{Cell, Shape, parts_from};
 use crate::change::Change;
-use crate::node::{Node, parts_from, parts_of};
+use crate::node::NodeId;
 use sml_lex::fault::Memory;
 use std::alloc::Global;
 
@@ -29,15 +30,15 @@ pub(crate) struct Orders {
 }
 
 /// An order above those of some nodes, from the least one on. None that a `u64` holds counts as want of memory.
-fn above_all(orders: &[u64], kids: &[usize], least: u64) -> Result<u64, Memory>
+fn above_all(orders: &[u64], kids: &[NodeId], least: u64) -> Result<u64, Memory>
     requires { AllByRecursion (λ k. k < length orders.now) kids.now }
     ensures above { IfOk result (λ n. AllByRecursion (λ k. order_at orders.now k < n) kids.now) }
     ensures least { IfOk result (λ n. least ≤ n) }
 {
     let mut order = least;
     for kid in kids {
-        if order <= orders[*kid] {
-            match orders[*kid].checked_add(1) {
+        if order <= orders[*kid as usize] {
+            match orders[*kid as usize].checked_add(1) {
                 Some(next) => order = next,
                 None => return Err(Memory),
             }
@@ -47,12 +48,12 @@ fn above_all(orders: &[u64], kids: &[usize], least: u64) -> Result<u64, Memory>
 }
 
 /// An order above those of a node's parts, from the least one on.
-fn above(orders: &[u64], node: &Node, least: u64) -> Result<u64, Memory>
+fn above(orders: &[u64], node: &Cell, least: u64) -> Result<u64, Memory>
     requires { AllByRecursion (λ k. k < length orders.now) (parts node.now) }
     ensures above { IfOk result (λ n. IsAbove orders.now node.now n) }
     ensures least { IfOk result (λ n. least ≤ n) }
 {
-    above_all(orders, parts_of(node), least)
+    above_all(orders, node.parts(), least)
 }
 
 impl Orders {
@@ -75,7 +76,7 @@ impl Orders {
     }
 
     /// The order of a node whose parts have theirs. None below the limit counts as want of memory.
-    pub(crate) fn of(&mut self, orders: &[u64], node: &Node) -> Result<u64, Memory>
+    pub(crate) fn of(&mut self, orders: &[u64], node: &Cell) -> Result<u64, Memory>
         requires { AllByRecursion (λ k. k < length orders.now) (parts node.now) }
         ensures lowest { self.new.lowest ≡ self.old.lowest }
         ensures limit { self.new.limit ≡ self.old.limit }
@@ -83,8 +84,8 @@ impl Orders {
         ensures below { IfOk result (λ n. n < self.old.limit) }
         ensures above { IfOk result (λ n. IsAbove orders.now node.now n) }
     {
-        let least = match node {
-            Node::Unknown => self.unknown()?,
+        let least = match node.shape() {
+            Shape::Unknown => self.unknown()?,
             _ => self.lowest,
         };
         let order = above(orders, node, least)?;
@@ -121,15 +122,15 @@ impl Orders {
 /// Adds those of some parts that aren't below an order.
 fn push_unordered(
     orders: &[u64],
-    found: &mut Vec<usize>,
-    parts: &[usize],
+    found: &mut Vec<NodeId>,
+    parts: &[NodeId],
     order: u64,
 ) -> Result<(), Memory>
     requires { AllByRecursion (λ k. k < length orders.now) parts.now }
     ensures { OnOk result (FindsUnordered orders.now parts.now order found.old.items found.new.items) }
 {
     for part in parts {
-        if order <= orders[*part] {
+        if order <= orders[*part as usize] {
             found.push(*part)?;
         }
     }
@@ -139,10 +140,10 @@ fn push_unordered(
 /// The new parts of what was changed that aren't below their nodes.
 pub(crate) fn unordered(
     alloc: Global,
-    nodes: &[Node],
+    nodes: &[Cell],
     orders: &[u64],
     changed: &[Change],
-) -> Result<Vec<usize>, Memory>
+) -> Result<Vec<NodeId>, Memory>
     requires sound { IsSound nodes.now }
     requires len { length orders.now ≡ length nodes.now }
     requires inside { AreInside (length nodes.now) changed.now }
@@ -151,8 +152,8 @@ pub(crate) fn unordered(
 {
     let mut found = Vec::new(alloc);
     for change in changed {
-        let parts = parts_from(&nodes[change.node], change.from);
-        push_unordered(orders, &mut found, parts, orders[change.node])?;
+        let parts = parts_from(&nodes[change.node as usize], change.from);
+        push_unordered(orders, &mut found, parts, orders[change.node as usize])?;
     }
     Ok(found)
 }

@@ -12,18 +12,20 @@ ghost use Rattle.sml_objects.specs.Views.{type_of, scheme_of};
 ghost use Rattle.sml_graph.specs.Interned.{IsOver, IsBodyOver};
 ghost use Rattle.sml_schemes.specs.Schemes.{is_open, fate_of, fate_at};
 
+use sml_graph::cell::{Cell, Shape};
+use sml_graph::limit_table::Limits;
 use sml_graph::limits::Limit;
-use sml_graph::node::Node;
+use sml_graph::node::NodeId;
 use sml_lex::fault::Memory;
 use sml_objects::fates::{Fate, close_as, free_variables};
 use sml_objects::objects::{MlType, Scheme};
 use std::alloc::Global;
 
 /// Whether a node is a row that may have more fields.
-fn is_open(node: &Node) -> bool
+fn is_open(node: &Cell) -> bool
     ensures { result ≡ is_open node.now }
 {
-    matches!(node, Node::Open(_))
+    matches!(node.shape(), Shape::Open(_))
 }
 
 /// What becomes of an unknown that is left, by what is asked of it, whether it is fixed, and whether the phrase is
@@ -43,9 +45,9 @@ fn fate(limit: Limit, fixed: bool, expansive: bool) -> Fate
 /// What becomes of some unknowns that are left.
 fn fates(
     alloc: Global,
-    nodes: &[Node],
-    limits: &[Limit],
-    unknowns: &[usize],
+    nodes: &[Cell],
+    limits: &Limits,
+    unknowns: &[NodeId],
     fixed: &[bool],
     expansive: bool,
     variables: &[u32],
@@ -59,9 +61,9 @@ fn fates(
     let mut fates = Vec::new(alloc);
     for variable in variables {
         let unknown = *variable as usize;
-        let place = unknowns[unknown];
+        let place = unknowns[unknown] as usize;
         let stays = fixed[unknown] || is_open(&nodes[place]);
-        fates.push(fate(limits[place], stays, expansive))?;
+        fates.push(fate(limits.get(place), stays, expansive))?;
     }
     Ok(fates)
 }
@@ -69,9 +71,9 @@ fn fates(
 /// The scheme of a type over unknowns that are left.
 pub fn closed(
     alloc: Global,
-    nodes: &[Node],
-    limits: &[Limit],
-    unknowns: &[usize],
+    nodes: &[Cell],
+    limits: &Limits,
+    unknowns: &[NodeId],
     fixed: &[bool],
     expansive: bool,
     ty: &MlType,

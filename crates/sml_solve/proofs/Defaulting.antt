@@ -185,7 +185,7 @@ module _ (u : ℕ) (us : List ℕ) (g : Graph) (b : Bool) (k : IsKept u g us) (d
   root v = leads-below ns k.whole.sound (suc (get_or us v 0)) (get_or us v 0) (omega arith)
 
   abbrev many : ℕ → Bool
-  many r = is_several (node_at ns r) (limit_at g.limits.items r)
+  many r = is_several (node_at ns r) (limit_at g.limits r)
 
   many-or-not : (r : ℕ) → (many r ≡ true) ⊎ (many r ≡ false)
   many-or-not r = cases (many r) where
@@ -206,10 +206,10 @@ module _ (u : ℕ) (us : List ℕ) (g : Graph) (b : Bool) (k : IsKept u g us) (d
   many-overloaded : (v : ℕ) → v < length us → many (root v).0 ≡ true → IsOverloaded s v
   many-overloaded v h e = overloaded-yes u us g b k d v h (root v).0 (root v).1.same (node_at ns (root v).0) refl e
 
-  many-node : (r : ℕ) → many r ≡ true → (node_at ns r ≡ Unknown) × (has_several (limit_at g.limits.items r).class (limit_at g.limits.items r).equality ≡ true) × (stand_in (limit_at g.limits.items r).variables ≡ O.named (initial N.int))
-  many-node r e = several-node u (node_at ns r) (limit_at g.limits.items r) e (k.whole.fit Rigidity r)
+  many-node : (r : ℕ) → many r ≡ true → (node_at ns r ≡ Unknown) × (has_several (limit_at g.limits r).class (limit_at g.limits r).equality ≡ true) × (stand_in (limit_at g.limits r).variables ≡ O.named (initial N.int))
+  many-node r e = several-node u (node_at ns r) (limit_at g.limits r) e (k.whole.fit Rigidity r)
 
-  can-meet : (v : ℕ) (τ : Assignment finite) → Meets finite ns τ → ((l : Layer) → KeepsAt l u g.limits.items τ) → through finite us τ v ≡ O.named (initial N.int) → (l : Layer) → CanMeet l s (to_int v)
+  can-meet : (v : ℕ) (τ : Assignment finite) → Meets finite ns τ → ((l : Layer) → KeepsAt l u g.limits τ) → through finite us τ v ≡ O.named (initial N.int) → (l : Layer) → CanMeet l s (to_int v)
   unfolding CanMeet Permits spread spread_all
   can-meet v τ m f e Equations =
       let ρ : Assignment infinite = λ i. spread nothing (τ i) in
@@ -239,7 +239,7 @@ module _ (u : ℕ) (us : List ℕ) (g : Graph) (b : Bool) (k : IsKept u g us) (d
     can-be-int o l =
         let r = (root v).0 in
         let e = many-node r (overloaded-many v h o) in
-        let j = two-names u us g b k d v h r (root v).1.same (limit_at g.limits.items r).class refl e.0 e.1 in
+        let j = two-names u us g b k d v h r (root v).1.same (limit_at g.limits r).class refl e.0 e.1 in
         can-meet v (with (O.named (initial N.int))) (solution-meets ns _ k.whole.rank.rank k.whole.rank.ranked) (with-keeps u us g b k d v h r (root v).1.same (O.named (initial N.int)) j.2) (with-type u us g b k d v h r (root v).1.same (O.named (initial N.int)) e.0) l
 
   -- what is overloaded after some unknowns became int was overloaded before
@@ -264,7 +264,7 @@ module _ (u : ℕ) (us : List ℕ) (g : Graph) (b : Bool) (k : IsKept u g us) (d
   still-overloaded vs cur c x v h apart o =
       let r = (root v).0 in
       let e = many-node r (overloaded-many v h o) in
-      let j = two-names u us g b k d v h r (root v).1.same (limit_at g.limits.items r).class refl e.0 e.1 in
+      let j = two-names u us g b k d v h r (root v).1.same (limit_at g.limits r).class refl e.0 e.1 in
       let up : (t : O.MlType Name) → Permits Rigidity s (through finite us (with v h t)) → Permits Rigidity cur (through finite us (with v h t)) = (λ t p.
       (x Rigidity (through finite us (with v h t))).1 (p, λ w a q. with-default v h t w (c w a) q (apart w a))) in
       record {

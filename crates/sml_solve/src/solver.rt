@@ -36,10 +36,12 @@ use sml_demands::levels::{begin_level, by_level, hand_levels_on, held_unknowns};
 use sml_demands::reach::{has_flag, marks_from, places};
 use sml_demands::reading::type_up_to;
 use sml_demands::settling::{has_labels, has_several_names};
+use sml_graph::cell::Cell;
 use sml_graph::change::Change;
 use sml_graph::demand::{Ask, Halt, Refusal};
 use sml_graph::graph::{Graph, add, fill};
-use sml_graph::node::Node;
+use sml_graph::limit_table::Limits;
+use sml_graph::node::NodeId;
 use sml_graph::orders::MIDDLE;
 use sml_layers::class::Class;
 use sml_layers::layer::{Bound, Layer};
@@ -47,6 +49,7 @@ use sml_layers::variable::Variable;
 use sml_lex::fault::Memory;
 use sml_objects::objects::{Initial, MlType, Scheme, TyName, UnitId};
 use sml_objects::schemes::instantiate;
+use sml_objects::sizes::size_up_to;
 use sml_schemes::closing::closed;
 use sml_tree::bare::Ident;
 use std::alloc::Global;
@@ -61,7 +64,7 @@ pub struct Solver {
     alloc: Global,
     unit: UnitId,
     graph: Graph,
-    unknowns: Vec<usize>,
+    unknowns: Vec<NodeId>,
     levels: Vec<Option<u32>>,
     left: Vec<Change>,
     spent: bool,
@@ -87,7 +90,7 @@ impl Solver {
     {
         let graph = Graph {
             nodes: Vec::new(alloc),
-            limits: Vec::new(alloc),
+            limits: Limits::new(alloc),
             orders: Vec::new(alloc),
             bottom: MIDDLE,
             top: MIDDLE,
@@ -114,11 +117,13 @@ impl Solver {
             return Err(Halt::Spent);
         }
         self.spent = true;
-        let at = self.graph.nodes.len();
         let Ok(number) = u32::try_from(self.unknowns.len()) else {
             return Err(Halt::Memory);
         };
-        if let Err(_) = self.graph.nodes.push(Node::Unknown) {
+        let Ok(at) = NodeId::try_from(self.graph.nodes.len()) else {
+            return Err(Halt::Memory);
+        };
+        if let Err(_) = self.graph.nodes.push(Cell::unknown()) {
             return Err(Halt::Memory);
         }
         if let Err(_) = fill(&mut self.graph) {
@@ -127,7 +132,7 @@ impl Solver {
         if let Err(_) = self.unknowns.push(at) {
             return Err(Halt::Memory);
         }
-        if let Err(_) = begin_level(&mut self.levels, at, number) {
+        if let Err(_) = begin_level(&mut self.levels, at as usize, number) {
             return Err(Halt::Memory);
         }
         self.spent = false;
@@ -200,7 +205,7 @@ impl Solver {
         }
         let at = self.unknowns[unknown as usize];
         let nodes = self.graph.nodes.as_slice();
-        Ok(has_several_names(nodes, self.graph.limits.as_slice(), at))
+        Ok(has_several_names(nodes, &self.graph.limits, at))
     }
 
     /// The number of unknowns.
@@ -355,6 +360,9 @@ impl Solver {
     {
         if self.spent {
             return Err(Halt::Spent);
+        }
+        if limit < size_up_to(ty, limit) {
+            return Ok(None);
         }
         self.spent = true;
         let Ok(at) = add(self.alloc, &mut self.graph, self.unknowns.as_slice(), ty) else {
@@ -566,7 +574,7 @@ fn close_reading(
     ensures err { OnErr result (solver.new.spent ≡ true) }
 {
     let nodes = solver.graph.nodes.as_slice();
-    let limits = solver.graph.limits.as_slice();
+    let limits = &solver.graph.limits;
     let unknowns = solver.unknowns.as_slice();
     match closed(solver.alloc, nodes, limits, unknowns, fixed, expansive, ty) {
         Ok(scheme) => Ok(scheme),

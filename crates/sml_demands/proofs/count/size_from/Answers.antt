@@ -32,7 +32,7 @@ loop-at-preserved c =
     let here = c.root_of.result in
     let x = c.index-nodes-root_of.result in
     let e : node_at ns here ≡ x = read_at ns here x c.root_of.ensures.inside c.index-nodes-root_of.is in
-    let f : c.extend_from_slice.new.self.items ≡ c.pop.new.self.items ++ parts (node_at ns here) = c.in_ok-extend_from_slice.ensures.items ∙ ap (λ xs. c.pop.new.self.items ++ xs) (c.parts_of.ensures ∙ ap parts (sym e)) in
+    let f : c.extend_from_slice.new.self.items ≡ c.pop.new.self.items ++ parts (node_at ns here) = c.in_ok-extend_from_slice.ensures.items ∙ ap (λ xs. c.pop.new.self.items ++ xs) (c.parts.ensures ∙ ap parts (sym e)) in
     let i : AllByRecursion (λ i. i < length ns) (c.pop.new.self.items ++ c.in-Some.at ∷ []) = rw c.in-Some.ensures.items at c.loop-at.invariant.inside in
     record {
       counting = counting-parts ns c.args.root c.loop-at.size c.loop-at.pending.items c.pop.new.self.items c.extend_from_slice.new.self.items c.in-Some.at here c.loop-at.invariant.counting c.in-Some.ensures.items c.root_of.ensures.same c.root_of.ensures.root f;

@@ -8,7 +8,7 @@ use Rattle.sml_demands.proofs.demands.add_kids.Given as goal
 abbrev pub invariant-loop-i : goal.invariant-loop-i
 invariant-loop-i l = record {
   interns : InternsFields l.initial.graph.nodes.items l.unknowns (take l.i (demanded l.fields)) l.graph.nodes.items (fields_of l.row) l.pending.items;
-  limits : (i : ℕ) → limit_at l.graph.limits.items i ≡ limit_at l.initial.graph.limits.items i;
+  limits : (i : ℕ) → limit_at l.graph.limits i ≡ limit_at l.initial.graph.limits i;
   whole : (u : ℕ) → IsWhole u l.initial.graph → IsWhole u l.graph;
   full : IsFull l.graph;
 }

@@ -46,7 +46,7 @@ finish-requires c =
       rank = w.rank;
       outside = c.in-Ok-merge_two.ensures.outside;
       ordered = changed-ordered k.nodes.items c.merge_two.new.nodes.items k.orders.items c.in-Ok-merge_two.changed.items w.ordered c.in-Ok-merge_two.ensures.outside;
-      but = changed-but u k.nodes.items c.merge_two.new.nodes.items k.limits.items c.in-Ok-merge_two.changed.items w.closed w.fit c.in-Ok-merge_two.ensures.outside;
+      but = changed-but u k.nodes.items c.merge_two.new.nodes.items k.limits c.in-Ok-merge_two.changed.items w.closed w.fit c.in-Ok-merge_two.ensures.outside;
     }
 
 pub returns-in-Err-finish-clause-unmet : goal.returns-in-Err-finish-clause-unmet

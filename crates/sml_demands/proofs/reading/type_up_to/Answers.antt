@@ -4,6 +4,8 @@ use Rattle.sml_objects.specs.Sizes.{type_size}
 use Rattle.sml_objects.specs.Views.{type_of}
 use Rattle.sml_objects.proofs.TypeViews.{type_of-free}
 use Rattle.sml_graph.specs.declared.node.Node.TheVariants.{App}
+use Rattle.sml_graph.specs.declared.cell.Shape.TheVariants as S
+use Rattle.sml_graph.specs.CodeCells.{head_of, IsShape}
 use Rattle.sml_demands.specs.declared.reading.Task.TheVariants.{Read, Apply}
 use Rattle.sml_graph.specs.Graphs.{node_at, IsRootNode, IsSoundNode, IsKnown}
 use Rattle.sml_demands.specs.CodeReads.{stacked, heads, IsReadingOn}
@@ -36,31 +38,33 @@ returns-then-limit-size-clause-none c =
 pub loop-task-smaller-in_ok-push_reads-in-App : goal.loop-task-smaller-in_ok-push_reads-in-App
 loop-task-smaller-in_ok-push_reads-in-App c =
     let q : reverse c.loop-task.tasks.items ≡ Read c.in-Read.at ∷ reverse c.pop.new.self.items = ap reverse c.in-Some.ensures.items ∙ (reverse-push c.pop.new.self.items c.in-Some.task ∙ ap (λ k. k ∷ reverse c.pop.new.self.items) c.in-Read.is) in
-    let p = reverse-reads c.pop.new.self.items c.push-in-App.new.self.items c.push_reads.new.tasks.items (Apply c.in_ok-copy_of-in-App.field-0 c.len.result) c.as_slice.result.now c.in_ok-push-in-App.ensures.items c.in_ok-push_reads-in-App.ensures in
+    let p = reverse-reads c.pop.new.self.items c.push-in-App.new.self.items c.push_reads.new.tasks.items (Apply c.in_ok-copy_of-in-App.field-0 (length c.in-App.kids.now)) c.in-App.kids.now c.in_ok-push-in-App.ensures.items c.in_ok-push_reads-in-App.ensures in
     let a = ap heads q in
-    let b = ap heads p ∙ heads-app c.as_slice.result.now c.in_ok-copy_of-in-App.field-0 c.len.result (reverse c.pop.new.self.items) in
+    let b = ap heads p ∙ heads-app c.in-App.kids.now c.in_ok-copy_of-in-App.field-0 (length c.in-App.kids.now) (reverse c.pop.new.self.items) in
     omega (arith, a, b, c.if-limit-size.false)
 
 pub loop-task-preserved-in_ok-push_reads-in-App : goal.loop-task-preserved-in_ok-push_reads-in-App
 loop-task-preserved-in_ok-push_reads-in-App c =
     let ns = c.args.nodes.now in
     let here = c.root_of-here.result in
-    let kids = c.in-App.kids in
+    let shape : IsShape c.index-nodes-here.result (S.App c.in-App.head c.in-App.kids) = rw c.in-App.is at c.shape.ensures in
+    let h = head_of c.in-App.head in
+    let kids = shape.0 in
     let copy = c.in_ok-copy_of-in-App.field-0 in
     let q : reverse c.loop-task.tasks.items ≡ Read c.in-Read.at ∷ reverse c.pop.new.self.items = ap reverse c.in-Some.ensures.items ∙ (reverse-push c.pop.new.self.items c.in-Some.task ∙ ap (λ k. k ∷ reverse c.pop.new.self.items) c.in-Read.is) in
     let r : IsReadingOn ns c.args.unknowns.now c.args.root c.loop-task.size (Read c.in-Read.at ∷ reverse c.pop.new.self.items) (stacked c.loop-task.types.items) = rw q at c.loop-task.invariant.on in
-    let e : node_at ns here ≡ App c.in-App.head kids = read_at ns here c.index-nodes-here.result c.root_of-here.ensures.inside c.index-nodes-here.is ∙ c.in-App.is in
-    let s : IsSoundNode (length ns) here (App c.in-App.head kids) = rw e at (c.requires.sound here) in
-    let n : c.len.result ≡ length kids.items = c.len.ensures.value in
+    let e : node_at ns here ≡ App h kids = read_at ns here c.index-nodes-here.result c.root_of-here.ensures.inside c.index-nodes-here.is ∙ shape.1 in
+    let s : IsSoundNode (length ns) here (App h kids) = rw e at (c.requires.sound here) in
+    let n : length c.in-App.kids.now ≡ length kids.items = ap length shape.2 in
     let p : reverse c.push_reads.new.tasks.items ≡ reverse (map Read kids.items) ++ Apply copy (length kids.items) ∷ reverse c.pop.new.self.items =
-    reverse-reads c.pop.new.self.items c.push-in-App.new.self.items c.push_reads.new.tasks.items (Apply copy (length kids.items)) kids.items (c.in_ok-push-in-App.ensures.items ∙ ap (λ k. c.pop.new.self.items ++ Apply copy k ∷ []) n) (c.in_ok-push_reads-in-App.ensures ∙ ap (λ is. c.push-in-App.new.self.items ++ map Read is) c.as_slice.ensures) in
+    reverse-reads c.pop.new.self.items c.push-in-App.new.self.items c.push_reads.new.tasks.items (Apply copy (length kids.items)) kids.items (c.in_ok-push-in-App.ensures.items ∙ ap (λ k. c.pop.new.self.items ++ Apply copy k ∷ []) n) (c.in_ok-push_reads-in-App.ensures ∙ ap (λ is. c.push-in-App.new.self.items ++ map Read is) shape.2) in
     record {
-      on = reading-app ns c.args.unknowns.now c.args.root c.loop-task.size (reverse c.pop.new.self.items) (reverse c.push_reads.new.tasks.items) (stacked c.loop-task.types.items) c.in-Read.at here c.in-App.head copy kids r c.root_of-here.ensures.same e s c.in_ok-copy_of-in-App.ensures.over c.in_ok-copy_of-in-App.ensures.count p;
+      on = reading-app ns c.args.unknowns.now c.args.root c.loop-task.size (reverse c.pop.new.self.items) (reverse c.push_reads.new.tasks.items) (stacked c.loop-task.types.items) c.in-Read.at here h copy kids r c.root_of-here.ensures.same e s c.in_ok-copy_of-in-App.ensures.over c.in_ok-copy_of-in-App.ensures.count p;
       within = c.if-limit-size.false;
     }
 
-pub loop-task-preserved-in_ok-push-in_default-nodes : goal.loop-task-preserved-in_ok-push-in_default-nodes
-loop-task-preserved-in_ok-push-in_default-nodes c =
+pub loop-task-preserved-in_ok-push-in_default-shape : goal.loop-task-preserved-in_ok-push-in_default-shape
+loop-task-preserved-in_ok-push-in_default-shape c =
     let ns = c.args.nodes.now in
     let us = c.args.unknowns.now in
     let here = c.root_of-here.result in
@@ -69,8 +73,8 @@ loop-task-preserved-in_ok-push-in_default-nodes c =
     let r : IsReadingOn ns us c.args.root c.loop-task.size (Read c.in-Read.at ∷ reverse c.pop.new.self.items) (stacked c.loop-task.types.items) = rw q at c.loop-task.invariant.on in
     let e = read_at ns here c.index-nodes-here.result c.root_of-here.ensures.inside c.index-nodes-here.is in
     let root : IsRootNode c.index-nodes-here.result = rw e at c.root_of-here.ensures.root in
-    let k : IsKnown (node_at ns here) → ⊥ = λ q. not-app-known c.index-nodes-here.result root c.in_default-nodes.not-App (subst IsKnown e q) in
-    let t : stacked c.push-in_default-nodes.new.self.items ≡ O.free v ∷ stacked c.loop-task.types.items = ap stacked c.in_ok-push-in_default-nodes.ensures.items ∙ (stacked-push c.loop-task.types.items c.in_ok-new-in_default-nodes.field-0 ∙ ap (λ t. t ∷ stacked c.loop-task.types.items) (ap type_of c.in_ok-new-in_default-nodes.ensures.ok ∙ type_of-free v)) in
+    let k : IsKnown (node_at ns here) → ⊥ = λ q. not-app-known c.index-nodes-here.result c.shape.result c.shape.ensures root c.in_default-shape.not-App (subst IsKnown e q) in
+    let t : stacked c.push-in_default-shape.new.self.items ≡ O.free v ∷ stacked c.loop-task.types.items = ap stacked c.in_ok-push-in_default-shape.ensures.items ∙ (stacked-push c.loop-task.types.items c.in_ok-new-in_default-shape.field-0 ∙ ap (λ t. t ∷ stacked c.loop-task.types.items) (ap type_of c.in_ok-new-in_default-shape.ensures.ok ∙ type_of-free v)) in
     record {
       on = rw t (reading-unknown ns us c.args.root c.loop-task.size (reverse c.pop.new.self.items) (stacked c.loop-task.types.items) c.in-Read.at here v r c.root_of-here.ensures.same k c.owner.ensures.known c.owner.ensures.place);
       within = c.if-limit-size.false;

@@ -13,8 +13,8 @@ returns-clause-whole c u w =
     let f = c.in_ok-fill.ensures in
     let x : Interns ns us t c.intern.new.nodes.items c.in_ok-at.at = c.in_ok-at.ensures in
     let rank : HasRank c.intern.new.nodes.items = ranked-more ns us t c.intern.new.nodes.items c.in_ok-at.at x w.rank in
-    let n = c.args.graph.now.limits.items in
-    let m = c.fill.new.graph.limits.items in
+    let n = c.args.graph.now.limits in
+    let m = c.fill.new.graph.limits in
     record {
       full = f.full (omega (arith, w.full.orders, x.len));
       sound = rw f.nodes x.sound;

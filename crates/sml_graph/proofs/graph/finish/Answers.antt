@@ -9,19 +9,19 @@ use Rattle.sml_graph.proofs.Wholeness.{handed-fails}
 use Rattle.sml_graph.proofs.graph.finish.Goals as goal
 
 pub hand_on_from-requires-clause-but : goal.hand_on_from-requires-clause-but
-hand_on_from-requires-clause-but c = subst (λ ns. IsDoneBut (maker_of c.args.unit) ns c.args.graph.now.limits.items None c.args.changed.now) (sym c.as_slice-nodes.ensures.value) c.requires.but
+hand_on_from-requires-clause-but c = subst (λ ns. IsDoneBut (maker_of c.args.unit) ns c.args.graph.now.limits None c.args.changed.now) (sym c.as_slice-nodes.ensures.value) c.requires.but
 
 pub returns-in-Some-clause-unmet : goal.returns-in-Some-clause-unmet
 returns-in-Some-clause-unmet c l e =
     let u = maker_of c.args.unit in
     let g = c.args.graph.now in
     let ns = g.nodes.items in
-    let ls = c.hand_on_from.new.limits.items in
+    let ls = c.hand_on_from.new.limits in
     let q : c.in-Some.layer ≡ l = cc in
     let v = c.as_slice-nodes.ensures.value in
     let rank : HasRank ns = rw v at (rw c.if-not-branch.false at c.in_ok-is_finite.ensures.yes c.requires.before c.requires.rank (rw v c.requires.outside)) in
     let closed : IsClosed ns ls = rw v at c.in_ok-layer.ensures.closed in
-    let same : SameLimits u ns g.limits.items ls = rw v at c.in_ok-layer.ensures.same in
+    let same : SameLimits u ns g.limits ls = rw v at c.in_ok-layer.ensures.same in
     let fit : (k : Layer) → IsBefore k c.in_ok-layer.field-0 → IsFit k u ns ls = rw v at c.in_ok-layer.ensures.fit in
     let fails = rw v at c.in_ok-layer.ensures.fails in
     subst (λ l. FailsAt l u g) q (handed-fails u g ls c.in_ok-layer.field-0 c.in-Some.layer rank closed fit same fails c.in-Some.is)
@@ -31,11 +31,11 @@ returns-in-None-clause-ok c =
     let u = maker_of c.args.unit in
     let g = c.args.graph.now in
     let ns = g.nodes.items in
-    let ls = c.hand_on_from.new.limits.items in
+    let ls = c.hand_on_from.new.limits in
     let v = c.as_slice-nodes.ensures.value in
     let rank : HasRank ns = rw v at (rw c.if-not-branch.false at c.in_ok-is_finite.ensures.yes c.requires.before c.requires.rank (rw v c.requires.outside)) in
     let closed : IsClosed ns ls = rw v at c.in_ok-layer.ensures.closed in
-    let same : SameLimits u ns g.limits.items ls = rw v at c.in_ok-layer.ensures.same in
+    let same : SameLimits u ns g.limits ls = rw v at c.in_ok-layer.ensures.same in
     let fit : (k : Layer) → IsBefore k c.in_ok-layer.field-0 → IsFit k u ns ls = rw v at c.in_ok-layer.ensures.fit in
     let yes = c.in_ok-is_finite.ensures in
     let t = c.if-not-branch.false in

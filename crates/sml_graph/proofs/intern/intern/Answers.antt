@@ -25,7 +25,7 @@ loop-next-preserved c =
     let n : length (seen ts) ≡ length ts = length-map ts (λ t. type_of t.now) in
     let h : c.loop-next.next < length (seen ts) = omega arith in
     let e : get_or (seen ts) c.loop-next.next (O.free 0) ≡ type_of c.index-here.result.now.now = get_or-map (λ t. type_of t.now) ts c.loop-next.next c.index-here.result.now (O.free 0) (omega arith) ∙ ap (λ t. type_of t.now) (sym c.index-here.ensures) in
-    rw c.in_ok-push-2.ensures.items (interning-next c.args.nodes.now.items c.args.unknowns.now (type_of c.args.ty.now) c.loop-next.nodes.items (seen ts) (seen c.node_for.new.types.items) c.loop-next.next (c.len-base.result + vec_len c.loop-next.types) c.in_ok-node.node (type_of c.index-here.result.now.now) c.requires.inside c.loop-next.invariant h (sym e) (omega arith) c.in_ok-node.ensures)
+    rw (c.in_ok-push-2.ensures.items, c.in_ok-of.ensures) (interning-next c.args.nodes.now.items c.args.unknowns.now (type_of c.args.ty.now) c.loop-next.nodes.items (seen ts) (seen c.node_for.new.types.items) c.loop-next.next (c.len-base.result + vec_len c.loop-next.types) c.in_ok-node.node (type_of c.index-here.result.now.now) c.requires.inside c.loop-next.invariant h (sym e) (omega arith) c.in_ok-node.ensures)
 
 pub loop-next-smaller : goal.loop-next-smaller
 loop-next-smaller c =
@@ -40,5 +40,5 @@ pub returns : goal.returns
 returns c =
     let ts = c.loop-next.types.items in
     let n : length (seen ts) ≡ length ts = length-map ts (λ t. type_of t.now) in
-    let m : c.len-base.result ≡ length c.args.nodes.now.items = omega arith in
+    let m : c.in-Ok.first ≡ length c.args.nodes.now.items = omega arith in
     rw m (interning-last c.args.nodes.now.items c.args.unknowns.now (type_of c.args.ty.now) c.loop-next.nodes.items (seen ts) c.loop-next.next c.loop-next.invariant (omega arith))

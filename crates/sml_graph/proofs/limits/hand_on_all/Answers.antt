@@ -32,13 +32,13 @@ loop-change-preserved c =
     let l : d.node < length ns = rw i.len at front.1 in
     let n : node_at ns d.node ≡ c.index-nodes-change.result = read_at ns d.node c.index-nodes-change.result l c.index-nodes-change.is in
     let b : IsDoneBut u ns ls c.loop-change.failed (c.pop.new.self.items ++ d ∷ []) = rw c.in-Some.ensures.items at i.but in
-    let low : Lowers ls c.pop.new.self.items (drop d.from (parts (node_at ns d.node))) (handed (node_at ns d.node) a) c.hand_on.new.limits c.hand_on.new.pending.items = rw n c.in_ok-hand_on.ensures in
+    let low : Lowers ls c.pop.new.self.items (drop d.from (parts (node_at ns d.node))) (handed (node_at ns d.node) a) c.hand_on.new.limits c.hand_on.new.pending.items = rw (n, ← c.get-limit.ensures) c.in_ok-hand_on.ensures in
     record {
       len = low.len ∙ i.len;
       inside = rw low.len (low.inside front.0);
-      but = but-handed u a ns ls c.hand_on.new.limits c.loop-change.failed c.earlier-failed.result c.pop.new.self.items c.hand_on.new.pending.items d b refl c.earlier-failed.ensures.first (λ k h. rw n (c.misfit.ensures.fits k (c.earlier-failed.ensures.second k h))) low;
+      but = but-handed u a ns ls c.hand_on.new.limits c.loop-change.failed c.earlier-failed.result c.pop.new.self.items c.hand_on.new.pending.items d b refl c.earlier-failed.ensures.first (λ k h. rw (n, ← c.get-limit.ensures) (c.misfit.ensures.fits k (c.earlier-failed.ensures.second k h))) low;
       same = same-then u ns c.args.limits.now ls c.hand_on.new.limits i.same (same-handed u a ns ls c.hand_on.new.limits c.pop.new.self.items c.hand_on.new.pending.items d.node d.from refl low);
-      fails = either-fails u ns c.args.limits.now c.loop-change.failed c.misfit.result c.earlier-failed.result c.earlier-failed.ensures.either i.fails (unfit-fails u ns c.args.limits.now ls d.node a c.misfit.result refl i.same (rw n c.misfit.ensures.fails));
+      fails = either-fails u ns c.args.limits.now c.loop-change.failed c.misfit.result c.earlier-failed.result c.earlier-failed.ensures.either i.fails (unfit-fails u ns c.args.limits.now ls d.node a c.misfit.result refl i.same (rw (n, ← c.get-limit.ensures) c.misfit.ensures.fails));
     }
 
 pub returns-clause-fit : goal.returns-clause-fit

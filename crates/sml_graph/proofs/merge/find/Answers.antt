@@ -21,13 +21,13 @@ loop-next-preserved-in_ok-push c =
     let here = c.loop-next.here in
     let next = c.in-Link.next in
     let inside : here < length ns = omega arith in
-    let e : node_at ns here ≡ Link next = read_node ns here c.index.result.now (Link next) inside c.index.ensures c.in-Link.is in
+    let e : node_at ns here ≡ Link next = read_node ns here c.index.result.now (Link next) inside c.index.ensures (rw c.in-Link.is at c.shape.ensures) in
     let a : IsSoundNode (length ns) here (Link next) = rw e at (i.leads.sound here) in
-    let d : node_at ns next ≡ Link c.in-Link-index.after = read_node ns next c.index-in-Link.result.now (Link c.in-Link-index.after) (omega (arith, a)) c.index-in-Link.ensures c.in-Link-index.is in
+    let d : node_at ns next ≡ Link c.in-Link-shape.after = read_node ns next c.index-in-Link.result.now (Link c.in-Link-shape.after) (omega (arith, a)) c.index-in-Link.ensures (rw c.in-Link-shape.is at c.shape-in-Link.ensures) in
     record {
       inside = omega (arith, a);
-      leads = leads-then old ns (set ns here (Link c.in-Link-index.after)) i.leads (leads-past ns here next c.in-Link-index.after i.leads.sound inside e d);
-      changes = rw (c.in_ok-push.ensures.items, c.of.ensures) (changes-then old ns (set ns here (Link c.in-Link-index.after)) c.args.changed.now.items c.loop-next.changed.items _ i.leads.len i.changes (changes-one ns c.loop-next.changed.items here (Link c.in-Link-index.after) inside));
+      leads = rw c.link.ensures (leads-then old ns (set ns here (Link c.in-Link-shape.after)) i.leads (leads-past ns here next c.in-Link-shape.after i.leads.sound inside e d));
+      changes = rw (c.in_ok-push.ensures.items, c.of.ensures, c.link.ensures) (changes-then old ns (set ns here (Link c.in-Link-shape.after)) c.args.changed.now.items c.loop-next.changed.items _ i.leads.len i.changes (changes-one ns c.loop-next.changed.items here (Link c.in-Link-shape.after) inside));
       same = same-led old ns c.args.at here next i.leads i.same (same-link ns here here next (λ w σ m. refl) e);
     }
 
@@ -39,7 +39,7 @@ loop-next-preserved c =
     let here = c.loop-next.here in
     let next = c.in-Link.next in
     let inside : here < length ns = omega arith in
-    let e : node_at ns here ≡ Link next = read_node ns here c.index.result.now (Link next) inside c.index.ensures c.in-Link.is in
+    let e : node_at ns here ≡ Link next = read_node ns here c.index.result.now (Link next) inside c.index.ensures (rw c.in-Link.is at c.shape.ensures) in
     let a : IsSoundNode (length ns) here (Link next) = rw e at (i.leads.sound here) in
     record {
       inside = omega (arith, a);

@@ -28,8 +28,8 @@ returns-in-Ok-clause-scheme c =
     let spent : b ≡ false = ap (λ (s : Asked). s.spent) c.solver.view_is ∙ c.requires.kept in
     let k : IsKept u g us = (c.solver.invariant spent).kept in
     let r : IsSchemeOfReading (asked_of u us g b) bs x (type_of c.args.ty.now) (scheme_of c.in-Ok.scheme) = record {
-      fate = fate_at g.nodes.items g.limits.items us bs x;
+      fate = fate_at g.nodes.items g.limits us bs x;
       fates = fate-is u us g b k (λ e. omega (arith, e)) bs x;
-      scheme = rw (c.as_slice-nodes.ensures.value, c.as_slice-limits.ensures.value, c.as_slice-unknowns.ensures.value) at c.in-Ok.ensures.scheme;
+      scheme = rw (c.as_slice-nodes.ensures.value, c.as_slice-unknowns.ensures.value) at c.in-Ok.ensures.scheme;
     } in
     subst (λ s. IsSchemeOfReading s bs x (type_of c.args.ty.now) (scheme_of c.in-Ok.scheme)) c.solver.view_is r

@@ -1,15 +1,39 @@
-use Rattle.std.proofs.Common.{rules, length, subst, sym}
+use Rattle.std.proofs.Common.{rules, ◌≡◌, ◌+◌, ◌∙◌, length, ap, subst, sym, refl, arith}
+use Rattle.std.proofs.Math.Nat.{min-le_left}
+use Rattle.std.proofs.lemmas.Bool.{true≢false}
+use Rattle.sml_objects.specs.Sizes.{type_size}
 use Rattle.std.specs.Prelude.{false}
 use Rattle.sml_objects.specs.Views.{type_of, maker_of}
 use Rattle.sml_layers.specs.Worlds.{finite}
 use Rattle.sml_graph.specs.Interned.{IsOver, Interns}
-use Rattle.sml_graph.specs.Asked.{asked_of, IsOf, PermitsSame}
+use Rattle.sml_graph.specs.Asked.{Asked, asked_of, IsOf, PermitsSame}
 use Rattle.sml_graph.specs.CodeWhole.{IsKept, IsWhole}
 use Rattle.sml_demands.proofs.Levelling.{grown-moves, levels-grown}
-use Rattle.sml_demands.proofs.Demanding.{Grows, permits-grown, kept-grown}
-use Rattle.sml_demands.proofs.Marking.{unread-larger}
+use Rattle.sml_demands.proofs.Demanding.{Grows, permits-grown, permits-refl, kept-grown}
+use Rattle.sml_schemes.specs.Left.{IsReading}
+use Rattle.sml_demands.proofs.Marking.{least-size, least-reading, unread-larger}
 use Rattle.sml_demands.proofs.Owning.{readings-are, larges-are}
 use Rattle.sml_solve.proofs.solver.Solver.reading.Goals as goal
+
+pub returns-then-limit-size_up_to-clause-none : goal.returns-then-limit-size_up_to-clause-none
+returns-then-limit-size_up_to-clause-none c r x =
+    let u = maker_of c.self.inside.unit in
+    let us = c.self.inside.unknowns.items in
+    let g = c.self.inside.graph in
+    let t = type_of c.args.ty.now in
+    let k : IsKept u g us = (c.self.invariant c.if-self.false).kept in
+    let a = least-reading u us g c.self.inside.spent t r k.whole.sound k.whole.rank k.owners (subst (λ s. IsReading s t r) (sym c.self.view_is) x) in
+    omega (arith, a, c.size_up_to.ensures, min-le_left (type_size (type_of c.args.ty.now)) (c.args.limit + 1), c.if-limit-size_up_to.true)
+
+pub returns-then-limit-size_up_to-clause-large : goal.returns-then-limit-size_up_to-clause-large
+returns-then-limit-size_up_to-clause-large c σ p =
+    let a = least-size σ (type_of c.args.ty.now) in
+    omega (arith, a, c.size_up_to.ensures, min-le_left (type_size (type_of c.args.ty.now)) (c.args.limit + 1), c.if-limit-size_up_to.true)
+
+pub returns-then-limit-size_up_to-clause-call : goal.returns-then-limit-size_up_to-clause-call
+returns-then-limit-size_up_to-clause-call c =
+    let new : c.args.self.now.spent ≡ false = ap (λ (s : Asked). s.spent) (sym c.self.view_is) ∙ c.if-self.false in
+    record { same = permits-refl c.args.self.now; count = refl; returns = record { unit = refl; kept = new; err = tt; spent = (λ e. cc, λ e. absurd (true≢false (sym e ∙ new))) } }
 
 pub type_up_to-requires-clause-rank : goal.type_up_to-requires-clause-rank
 type_up_to-requires-clause-rank c =

@@ -3,7 +3,7 @@
 use crate::draft::Draft;
 use crate::layers::{Layer, Layers};
 use crate::specs::{exceptions, new_datatypes, replication, types, values};
-use crate::wheres::with_type;
+use crate::wheres::Wheres;
 use sml_bases::objects::{Basis, Env, Sig};
 use sml_envs::canonical::renamed_sig;
 use sml_envs::new_names::NewNames;
@@ -48,10 +48,32 @@ fn read<S: Scope>(
         SigExp::Specs(_, specs) => read_specs(reader, specs, outer, inner),
         SigExp::Identifier(place, name) => named(reader, *place, name),
         SigExp::WhereType(_, sig, written) => {
-            let sig = read(reader, sig, outer, inner)?;
-            with_type(reader.alloc, &Layers { outer, inner }, sig, written)
+            let mut wheres = read_wheres(reader, sig, outer, inner)?;
+            wheres.add(&Layers { outer, inner }, written)?;
+            Ok(wheres.realised()?)
         }
     }
+}
+
+/// The same, where types are to become others.
+#[cycle(read)]
+#[inline(never)]
+fn read_wheres<S: Scope>(
+    reader: &mut Reader<'_, '_>,
+    sig: &SigExp,
+    outer: &S,
+    inner: Option<&Layer<'_>>,
+) -> Result<Box<Wheres>, CoreFault> {
+    let sig = match sig {
+        SigExp::Specs(_, specs) => read_specs(reader, specs, outer, inner)?,
+        SigExp::Identifier(place, name) => named(reader, *place, name)?,
+        SigExp::WhereType(_, sig, written) => {
+            let mut wheres = read_wheres(reader, sig, outer, inner)?;
+            wheres.add(&Layers { outer, inner }, written)?;
+            return Ok(wheres);
+        }
+    };
+    Ok(Wheres::new(reader.alloc, sig)?)
 }
 
 /// The signature of an identifier, with new names.
@@ -102,7 +124,7 @@ fn read_spec<S: Scope>(
         | Spec::Exception(place, _)
         | Spec::Structure(place, _)
         | Spec::Include(place, _) => {
-            draft.settle()?;
+            draft.settle_for(spec)?;
             let layer = Layer {
                 env: &draft.env,
                 around,

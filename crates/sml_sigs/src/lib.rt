@@ -3,6 +3,7 @@
 
 mod asked;
 mod bound;
+pub mod counts;
 mod draft;
 mod layers;
 mod mentions;

@@ -25,16 +25,41 @@ pub fn signature<S: Scope>(
     outer: &S,
     sig: &SigExp,
 ) -> Result<Sig, CoreFault> {
-    let mut reader = Reader { alloc, basis, new };
+    let mut reader = Reader {
+        alloc,
+        basis,
+        new,
+        renames: true,
+    };
     read(&mut reader, sig, outer, None)
 }
 
-/// What signature expressions are read with.
+/// The fault of a signature expression in which nothing is shared or realised, if it has one. No name is made for those of
+/// the signatures that it names.
+pub fn require_signature<S: Scope>(
+    alloc: Global,
+    basis: &Basis,
+    new: &mut NewNames,
+    outer: &S,
+    sig: &SigExp,
+) -> Result<(), CoreFault> {
+    let mut reader = Reader {
+        alloc,
+        basis,
+        new,
+        renames: false,
+    };
+    let _ = read(&mut reader, sig, outer, None)?;
+    Ok(())
+}
+
+/// What signature expressions are read with, and whether those that are named get new names.
 #[derive(Drop)]
 struct Reader<'a, 'b> {
     alloc: Global,
     basis: &'a Basis,
     new: &'a mut NewNames<'b>,
+    renames: bool,
 }
 
 #[cycle(read)]
@@ -80,7 +105,11 @@ fn read_wheres<S: Scope>(
 #[inline(never)]
 fn named(reader: &mut Reader<'_, '_>, place: Place, name: &Ident) -> Result<Sig, CoreFault> {
     match reader.basis.signature(name) {
-        Some(sig) => Ok(renamed_sig(reader.alloc, sig, reader.new)?),
+        Some(sig) if reader.renames => Ok(renamed_sig(reader.alloc, sig, reader.new)?),
+        Some(sig) => Ok(Sig {
+            names: Vec::new(reader.alloc),
+            env: sig.env.clone()?,
+        }),
         None => {
             let text = Vec::from_slice(reader.alloc, name.as_slice())?;
             Err(fault_about(Code::N1, place, text))

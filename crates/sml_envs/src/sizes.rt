@@ -170,7 +170,7 @@ fn values_are_large<M: Mapping>(
 }
 
 /// Whether a scheme or a type function becomes larger than a scheme may be.
-fn is_large_under<M: Mapping>(alloc: Global, scheme: &Scheme, by: &M) -> Result<bool, Memory> {
+pub fn is_large_under<M: Mapping>(alloc: Global, scheme: &Scheme, by: &M) -> Result<bool, Memory> {
     let mut count = Count::new(alloc, 0)?;
     add_under(alloc, &mut count, 1, &scheme.body, by)?;
     Ok(count.is_large())

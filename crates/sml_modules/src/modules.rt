@@ -8,7 +8,8 @@ use sml_core::context::Context;
 use sml_envs::canonical::canonical;
 use sml_envs::extents::least_text;
 use sml_lex::fault::{Code, FIRST, Memory, Warning};
-use sml_sigs::sigs::signature_in;
+use sml_sigs::counts::names_of_sig;
+use sml_sigs::sigs::{require_signature, signature_in};
 use sml_tree::structures::{SigBind, TopDec};
 use sml_types::fault::{CoreFault, plain_fault};
 use sml_warnings::sorted::sorted;
@@ -85,12 +86,17 @@ pub(crate) fn own_basis(
     Ok(own)
 }
 
+/// Binds signatures. Where they would bind too many names it is Q3, unless there is another fault; then none is made.
 fn signatures(
     context: &mut Context,
     basis: &Basis,
     own: &mut Basis,
     binds: &[SigBind],
 ) -> Result<(), TopFault> {
+    if bind_too_many(basis, binds) {
+        require_signatures(context, basis, binds)?;
+        return Err(plain_fault(Code::Q3, FIRST));
+    }
     for bind in binds {
         let sig: Sig = signature_in(
             context.alloc,
@@ -101,6 +107,36 @@ fn signatures(
         )?;
         let sig = Rc::new(context.alloc, sig)?;
         own.signatures.insert(bind.name.ident.clone()?, sig)?;
+    }
+    Ok(())
+}
+
+/// Whether signatures in which nothing is shared or realised bind too many names.
+fn bind_too_many(basis: &Basis, binds: &[SigBind]) -> bool {
+    let mut count = basis.count as usize;
+    for bind in binds {
+        match names_of_sig(basis, &bind.signature) {
+            Some(names) => count = count.saturating_add(names),
+            None => return false,
+        }
+    }
+    count > MOST_NAMES as usize
+}
+
+/// That no signature has a fault of its own.
+fn require_signatures(
+    context: &mut Context,
+    basis: &Basis,
+    binds: &[SigBind],
+) -> Result<(), TopFault> {
+    for bind in binds {
+        require_signature(
+            context.alloc,
+            basis,
+            &mut context.new,
+            &context.scopes,
+            &bind.signature,
+        )?;
     }
     Ok(())
 }

@@ -34,8 +34,13 @@ pub(crate) fn table_of(
     Ok(table)
 }
 
+/// Adds the constructors that an environment gives to bound names that have none in the table.
 #[cycle(collect)]
-fn collect(names: &IndexSet<TyName>, env: &Env, table: &mut Table) -> Result<(), Memory> {
+pub(crate) fn collect(
+    names: &IndexSet<TyName>,
+    env: &Env,
+    table: &mut Table,
+) -> Result<(), Memory> {
     collect_structures(names, &env.structures, table)?;
     for (_, ty) in &env.types {
         if !ty.constructors.is_empty() {

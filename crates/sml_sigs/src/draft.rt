@@ -1,5 +1,6 @@
 //! What the specifications of a `sig .. end` give so far.
 
+use crate::asked::{Asked, asked_by};
 use crate::layers::Inside;
 use crate::sharing::Joins;
 use indexmap::{IndexMap, IndexSet};
@@ -10,6 +11,7 @@ use sml_envs::new_names::NewNames;
 use sml_lex::fault::{Code, Memory, Place};
 use sml_objects::objects::{Scheme, TyName};
 use sml_tree::bare::{Ident, LongIdent};
+use sml_tree::signatures::Spec;
 use sml_types::fault::{CoreFault, plain_fault};
 use sml_types::scope::{long_text, structure_at, type_at};
 use std::alloc::Global;
@@ -17,8 +19,8 @@ use std::collections::BTreeMap;
 use std::mem;
 use std::rc::Rc;
 
-/// The environment and the bound names so far. Names that were shared since the last specification of another kind are
-/// still to be put in the environment.
+/// The environment and the bound names so far. Where names were joined, they stand in the environment still, and the bound
+/// names are those of the joins.
 #[derive(Drop)]
 pub(crate) struct Draft {
     alloc: Global,
@@ -43,8 +45,9 @@ impl Draft {
             return Err(plain_fault(Code::N2, place));
         }
         self.env.add(&part.env)?;
-        for name in &part.names {
-            self.names.insert(*name)?;
+        match &mut self.joins {
+            Some(joins) => joins.add(part)?,
+            None => add_names(&mut self.names, &part.names)?,
         }
         Ok(())
     }
@@ -99,8 +102,29 @@ impl Draft {
         Ok(pairs)
     }
 
+    /// Lets a specification ask of the names in the environment.
+    pub(crate) fn settle_for(&mut self, spec: &Spec) -> Result<(), Memory> {
+        if self.answers(spec) {
+            Ok(())
+        } else {
+            self.settle()
+        }
+    }
+
+    /// Whether the names in the environment answer what a specification asks.
+    fn answers(&self, spec: &Spec) -> bool {
+        let Some(joins) = &self.joins else {
+            return true;
+        };
+        match asked_by(spec) {
+            Asked::Nothing => true,
+            Asked::Equality => !joins.give_equality(),
+            Asked::Names => false,
+        }
+    }
+
     /// Puts the shared names in the environment.
-    pub(crate) fn settle(&mut self) -> Result<(), Memory> {
+    fn settle(&mut self) -> Result<(), Memory> {
         match self.joins.take() {
             Some(mut joins) => self.settle_by(&mut joins),
             None => Ok(()),
@@ -128,6 +152,14 @@ impl Draft {
             env: Rc::new(self.alloc, env)?,
         })
     }
+}
+
+/// Adds names to a set.
+pub(crate) fn add_names(set: &mut IndexSet<TyName>, names: &[TyName]) -> Result<(), Memory> {
+    for name in names {
+        set.insert(*name)?;
+    }
+    Ok(())
 }
 
 fn list_of(alloc: Global, names: &IndexSet<TyName>) -> Result<Vec<TyName>, Memory> {

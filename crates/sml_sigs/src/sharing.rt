@@ -1,8 +1,9 @@
 //! Names that are shared (the Definition, section 5.7, rule 78, and appendix A).
 
-use crate::bound::{Table, bound_name, table_of};
+use crate::bound::{Table, bound_name, collect, table_of};
+use crate::draft::add_names;
 use indexmap::{IndexMap, IndexSet};
-use sml_bases::objects::{Env, TypeStr};
+use sml_bases::objects::{Env, Sig, TypeStr};
 use sml_envs::comparisons::{same_function, same_identifiers};
 use sml_envs::mapping::{Image, Mapping, mapped_function};
 use sml_envs::new_names::NewNames;
@@ -22,6 +23,8 @@ pub(crate) struct Joins {
     others: IndexMap<TyName, TyName>,
     /// The constructors of the names that stand for themselves.
     constructors: Table,
+    /// Whether some name doesn't admit equality that was joined to one that does.
+    give_equality: bool,
 }
 
 impl Mapping for Joins {
@@ -50,7 +53,19 @@ impl Joins {
             bound,
             others: IndexMap::new(alloc),
             constructors,
+            give_equality: false,
         })
+    }
+
+    /// Adds what a specification gives.
+    pub(crate) fn add(&mut self, part: &Sig) -> Result<(), Memory> {
+        add_names(&mut self.bound, &part.names)?;
+        collect(&self.bound, &part.env, &mut self.constructors)
+    }
+
+    /// Whether some name doesn't admit equality where the one that stands for it does.
+    pub(crate) fn give_equality(&self) -> bool {
+        self.give_equality
     }
 
     /// The name that stands for a name in the end.
@@ -65,11 +80,18 @@ impl Joins {
         last
     }
 
-    /// The same. Finding it again costs nothing.
+    /// The same. Finding it again, from any name on the way to it, costs nothing.
     fn found(&mut self, name: TyName) -> Result<TyName, Memory> {
         let last = self.last(name);
-        if last != name {
-            self.others.insert(name, last)?;
+        let mut next = name;
+        for _ in 0..self.others.len() {
+            if next == last {
+                break;
+            }
+            match self.others.insert(next, last)? {
+                Some(other) => next = other,
+                None => break,
+            }
         }
         Ok(last)
     }
@@ -101,6 +123,9 @@ impl Joins {
         let joined = new.make(arity_of(one), has_equality(one) || has_equality(other))?;
         self.join_constructors(one, other, joined, place)?;
         new.carry_first(joined, one, other)?;
+        if has_equality(one) != has_equality(other) {
+            self.give_equality = true;
+        }
         self.others.insert(one, joined)?;
         self.others.insert(other, joined)?;
         self.bound.insert(joined)?;

@@ -3,7 +3,7 @@
 use crate::draft::Draft;
 use crate::layers::{Layer, Layers};
 use crate::specs::{exceptions, new_datatypes, replication, types, values};
-use crate::wheres::with_type;
+use crate::wheres::Wheres;
 use sml_bases::objects::{Basis, Env, Sig};
 use sml_envs::canonical::renamed_sig;
 use sml_envs::new_names::NewNames;
@@ -34,16 +34,41 @@ pub fn signature_in<S: Scope>(
     outer: &S,
     sig: &SigExp,
 ) -> Result<Sig, SigFault> {
-    let mut reader = Reader { alloc, basis, new };
+    let mut reader = Reader {
+        alloc,
+        basis,
+        new,
+        renames: true,
+    };
     read(&mut reader, sig, outer, None)
 }
 
-/// What signature expressions are read with.
+/// The fault of a signature expression in which nothing is shared or realised, if it has one. No name is made for those of
+/// the signatures that it names.
+pub fn require_signature<S: Scope>(
+    alloc: Global,
+    basis: &Basis,
+    new: &mut NewNames,
+    outer: &S,
+    sig: &SigExp,
+) -> Result<(), CoreFault> {
+    let mut reader = Reader {
+        alloc,
+        basis,
+        new,
+        renames: false,
+    };
+    let _ = read(&mut reader, sig, outer, None)?;
+    Ok(())
+}
+
+/// What signature expressions are read with, and whether those that are named get new names.
 #[derive(Drop)]
 struct Reader<'a, 'b> {
     alloc: Global,
     basis: &'a Basis,
     new: &'a mut NewNames<'b>,
+    renames: bool,
 }
 
 #[cycle(read)]
@@ -57,17 +82,43 @@ fn read<S: Scope>(
         SigExp::Specs(_, specs) => read_specs(reader, specs, outer, inner),
         SigExp::Identifier(place, name) => named(reader, *place, name),
         SigExp::WhereType(_, sig, written) => {
-            let sig = read(reader, sig, outer, inner)?;
-            with_type(reader.alloc, &Layers { outer, inner }, sig, written)
+            let mut wheres = read_wheres(reader, sig, outer, inner)?;
+            wheres.add(&Layers { outer, inner }, written)?;
+            Ok(wheres.realised()?)
         }
     }
+}
+
+/// The same, where types are to become others.
+#[cycle(read)]
+#[inline(never)]
+fn read_wheres<S: Scope>(
+    reader: &mut Reader<'_, '_>,
+    sig: &SigExp,
+    outer: &S,
+    inner: Option<&Layer<'_>>,
+) -> Result<Box<Wheres>, CoreFault> {
+    let sig = match sig {
+        SigExp::Specs(_, specs) => read_specs(reader, specs, outer, inner)?,
+        SigExp::Identifier(place, name) => named(reader, *place, name)?,
+        SigExp::WhereType(_, sig, written) => {
+            let mut wheres = read_wheres(reader, sig, outer, inner)?;
+            wheres.add(&Layers { outer, inner }, written)?;
+            return Ok(wheres);
+        }
+    };
+    Ok(Wheres::new(reader.alloc, sig)?)
 }
 
 /// The signature of an identifier, with new names.
 #[inline(never)]
 fn named(reader: &mut Reader<'_, '_>, place: Place, name: &Ident) -> Result<Sig, CoreFault> {
     match reader.basis.signature(name) {
-        Some(sig) => Ok(renamed_sig(reader.alloc, sig, reader.new)?),
+        Some(sig) if reader.renames => Ok(renamed_sig(reader.alloc, sig, reader.new)?),
+        Some(sig) => Ok(Sig {
+            names: Vec::new(reader.alloc),
+            env: sig.env.clone()?,
+        }),
         None => {
             let text = Vec::from_slice(reader.alloc, name.as_slice())?;
             Err(fault_about(Code::N1, place, text))
@@ -111,7 +162,7 @@ fn read_spec<S: Scope>(
         | Spec::Exception(place, _)
         | Spec::Structure(place, _)
         | Spec::Include(place, _) => {
-            draft.settle()?;
+            draft.settle_for(spec)?;
             let layer = Layer {
                 env: &draft.env,
                 around,

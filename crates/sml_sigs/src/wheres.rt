@@ -1,12 +1,15 @@
 //! `where type` (the Definition, section 5.7, rule 64).
 
-use crate::bound::{bound_name, table_of};
+use crate::bound::{Table, bound_name, table_of};
+use crate::draft::add_names;
 use crate::layers::Inside;
+use crate::mentions::Mentions;
 use indexmap::IndexSet;
 use sml_bases::objects::{Constructors, Sig};
 use sml_envs::comparisons::same_identifiers;
 use sml_envs::mapping::mapped_env;
 use sml_envs::realisation::Realisation;
+use sml_envs::sizes::is_large_under;
 use sml_lex::fault::{Code, Memory, Place};
 use sml_objects::equality::has_equality;
 use sml_objects::objects::{Scheme, TyName};
@@ -17,62 +20,111 @@ use sml_tree::types::Ty;
 use sml_types::bindings::parameters;
 use sml_types::fault::{CoreFault, plain_fault};
 use sml_types::scope::{Scope, type_at};
-use sml_types::sizes::{small, small_env_under};
+use sml_types::sizes::small;
 use sml_types::types::written_type;
 use sml_types::variables::Listed;
 use sml_types::written::Written;
 use std::alloc::Global;
 use std::rc::Rc;
 
-/// The signature where a type is what is written, or E2 to E4, E7, E8 or N3 to N5.
-#[inline(never)]
-pub(crate) fn with_type<S: Scope>(
+/// A signature in which bound names become type functions, one after the other. Each right side stands outside the signature,
+/// so none mentions a bound name, and all may be put in at once.
+#[derive(Drop)]
+pub(crate) struct Wheres {
     alloc: Global,
-    scope: &S,
     sig: Sig,
-    written: &WhereType,
-) -> Result<Sig, CoreFault> {
-    let bound = set_of(alloc, &sig.names)?;
-    let inside = Inside { env: &sig.env };
-    let ty = type_at(alloc, &inside, &written.constructor)?;
-    let side = right_side(alloc, scope, written)?;
-    let name = realised_name(&bound, &ty.function, written)?;
-    require_equality(alloc, name, &side, written)?;
-    require_constructors(alloc, scope, &bound, &sig, written, name)?;
-    let realisation = realisation_of(alloc, name, &side, written)?;
-    realised_sig(alloc, &sig, name, &realisation, written.constructor.place)
+    bound: IndexSet<TyName>,
+    constructors: Table,
+    mentions: Mentions,
+    realisation: Realisation,
 }
 
-fn set_of(alloc: Global, names: &[TyName]) -> Result<IndexSet<TyName>, Memory> {
-    let mut set = IndexSet::new(alloc);
-    for name in names {
-        set.insert(*name)?;
+impl Wheres {
+    /// The signature as it is.
+    pub(crate) fn new(alloc: Global, sig: Sig) -> Result<Box<Wheres>, Memory> {
+        let mut bound = IndexSet::new(alloc);
+        add_names(&mut bound, &sig.names)?;
+        let constructors = table_of(alloc, &bound, &sig.env)?;
+        let mentions = Mentions::of(alloc, &sig.env)?;
+        let wheres = Wheres {
+            alloc,
+            sig,
+            bound,
+            constructors,
+            mentions,
+            realisation: Realisation::new(alloc),
+        };
+        Ok(Box::new(alloc, wheres)?)
     }
-    Ok(set)
-}
 
-/// The signature where a name is its type function, or E7.
-fn realised_sig(
-    alloc: Global,
-    sig: &Sig,
-    name: TyName,
-    realisation: &Realisation,
-    place: Place,
-) -> Result<Sig, CoreFault> {
-    small_env_under(alloc, place, &sig.env, realisation)?;
-    let env = mapped_env(alloc, &sig.env, realisation)?;
-    let names = names_but(alloc, &sig.names, name)?;
-    Ok(Sig { names, env })
-}
+    /// Lets a type be what is written, or E2 to E4, E7, E8 or N3 to N5.
+    #[inline(never)]
+    pub(crate) fn add<S: Scope>(
+        &mut self,
+        scope: &S,
+        written: &WhereType,
+    ) -> Result<(), CoreFault> {
+        let inside = Inside { env: &self.sig.env };
+        let ty = type_at(self.alloc, &inside, &written.constructor)?;
+        let side = right_side(self.alloc, scope, written)?;
+        let name = self.realised_name(&ty.function, written)?;
+        require_equality(self.alloc, name, &side, written)?;
+        self.require_constructors(scope, written, name)?;
+        let function = function_of(self.alloc, &side, written)?;
+        self.realisation.insert(name, function)?;
+        self.require_small(name, written.constructor.place)
+    }
 
-fn names_but(alloc: Global, names: &[TyName], left_out: TyName) -> Result<Vec<TyName>, Memory> {
-    let mut others = Vec::new(alloc);
-    for name in names {
-        if *name != left_out {
-            others.push(*name)?;
+    /// The bound name of a type constructor with as many variables as are written, or E4 or N3.
+    fn realised_name(&self, function: &Scheme, written: &WhereType) -> Result<TyName, CoreFault> {
+        let place = written.constructor.place;
+        if function.variables.len() != written.variables.len() {
+            return Err(plain_fault(Code::E4, place));
+        }
+        match bound_name(&self.bound, function) {
+            Some(name) if !self.realisation.has(name) => Ok(name),
+            _ => Err(plain_fault(Code::N3, place)),
         }
     }
-    Ok(others)
+
+    /// That the constructors of the realised name, if it has some, have the identifiers of those of what is written, or N5.
+    fn require_constructors<S: Scope>(
+        &self,
+        scope: &S,
+        written: &WhereType,
+        name: TyName,
+    ) -> Result<(), CoreFault> {
+        let Some(constructors) = self.constructors.get(&name) else {
+            return Ok(());
+        };
+        if has_constructors(self.alloc, scope, written, constructors)? {
+            Ok(())
+        } else {
+            Err(plain_fault(Code::N5, written.constructor.place))
+        }
+    }
+
+    /// That nothing that mentions a name becomes too large, or E7 at the place.
+    fn require_small(&self, name: TyName, place: Place) -> Result<(), CoreFault> {
+        for scheme in self.mentions.schemes(name) {
+            if is_large_under(self.alloc, scheme, &self.realisation)? {
+                return Err(plain_fault(Code::E7, place));
+            }
+        }
+        Ok(())
+    }
+
+    /// The signature where the names are their type functions.
+    pub(crate) fn realised(&self) -> Result<Sig, Memory> {
+        let mut names = Vec::new(self.alloc);
+        for name in &self.sig.names {
+            if !self.realisation.has(*name) {
+                names.push(*name)?;
+            }
+        }
+        let env = mapped_env(self.alloc, &self.sig.env, &self.realisation)?;
+        Ok(Sig { names, env })
+    }
 }
 
 /// What the right side means, with its variables numbered from 0 on.
@@ -83,22 +135,6 @@ fn right_side<S: Scope>(
 ) -> Result<Rc<Written>, CoreFault> {
     let mut listed = Listed::bound(alloc, &written.variables)?;
     written_type(alloc, scope, &mut listed, &written.ty)
-}
-
-/// The bound name of a type constructor with as many variables as are written, or E4 or N3.
-fn realised_name(
-    bound: &IndexSet<TyName>,
-    function: &Scheme,
-    written: &WhereType,
-) -> Result<TyName, CoreFault> {
-    let place = written.constructor.place;
-    if function.variables.len() != written.variables.len() {
-        return Err(plain_fault(Code::E4, place));
-    }
-    match bound_name(bound, function) {
-        Some(name) => Ok(name),
-        None => Err(plain_fault(Code::N3, place)),
-    }
 }
 
 /// That the right side admits equality where the name does, if its variables do, or N4.
@@ -120,40 +156,16 @@ fn require_equality(
     }
 }
 
-/// The realisation of a name by the type function that its right side is, or E7.
-fn realisation_of(
+/// The type function that a right side is, or E7.
+fn function_of(
     alloc: Global,
-    name: TyName,
     side: &Written,
     written: &WhereType,
-) -> Result<Realisation, CoreFault> {
+) -> Result<Rc<Scheme>, CoreFault> {
     small(alloc, written.constructor.place, side)?;
     let variables = parameters(alloc, &written.variables)?;
     let body = side.make(alloc)?;
-    let function = Rc::new(alloc, Scheme { variables, body })?;
-    let mut realisation = Realisation::new(alloc);
-    realisation.insert(name, function)?;
-    Ok(realisation)
-}
-
-/// That the constructors of the realised name, if it has some, have the identifiers of those of what is written, or N5.
-fn require_constructors<S: Scope>(
-    alloc: Global,
-    scope: &S,
-    bound: &IndexSet<TyName>,
-    sig: &Sig,
-    written: &WhereType,
-    name: TyName,
-) -> Result<(), CoreFault> {
-    let table = table_of(alloc, bound, &sig.env)?;
-    let Some(constructors) = table.get(&name) else {
-        return Ok(());
-    };
-    if has_constructors(alloc, scope, written, constructors)? {
-        Ok(())
-    } else {
-        Err(plain_fault(Code::N5, written.constructor.place))
-    }
+    Ok(Rc::new(alloc, Scheme { variables, body })?)
 }
 
 /// Whether the type that is written is a type constructor applied to the parameters in order whose constructors have the

@@ -58,7 +58,7 @@ fn pop_all(
     ensures parts { IfOk result (λ parts. map (λ t. type_of t.value) parts.items ≡ take count (stacked types.old.items)) }
     ensures rest { OnOk result (stacked types.new.items ≡ drop count (stacked types.old.items)) }
 {
-    let mut parts = Vec::new(alloc);
+    let mut parts = Vec::with_capacity(alloc, count)?;
     while parts.len() < count {
         match types.pop() {
             Some(part) => parts.push(part)?,

@@ -1,5 +1,5 @@
 -- Arrows in a cell.
-use Rattle.std.proofs.Common.{◌≡◌, ℕ, List, [], ◌∷◌, ◌++◌, length, get_or, sym, ◌∙◌, ap, refl, arith}
+use Rattle.std.proofs.Common.{◌≡◌, ℕ, List, [], ◌∷◌, ◌++◌, length, get_or, ◌∙◌, ap, refl, arith}
 use Rattle.smallvec.specs.SmallVec.{SmallVec}
 use Rattle.sml_graph.specs.declared.node.Head.TheVariants.{Arrow}
 use Rattle.sml_graph.specs.declared.node.Node.TheVariants.{App}

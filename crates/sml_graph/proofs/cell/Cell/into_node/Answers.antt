@@ -1,4 +1,4 @@
-use Rattle.std.proofs.Common.{rules, sym, ap, ◌∙◌}
+use Rattle.std.proofs.Common.{sym, ap, ◌∙◌}
 use Rattle.sml_graph.specs.CodeCells.{node_in}
 use Rattle.sml_graph.proofs.Celling.{two-parts}
 use Rattle.sml_graph.proofs.cell.Cell.into_node.Goals as goal

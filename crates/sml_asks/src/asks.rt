@@ -161,7 +161,7 @@ pub fn ask_reading(
 }
 
 /// The scheme of a type whose variables may be bound unless the phrase is expansive, or `None` where it has more nodes
-/// than the limit. The unknowns with a flag are fixed, and stay; one behind the flags has none.
+/// than the limit. The unknowns with a flag are fixed, and stay; one after the flags has none.
 pub fn ask_scheme(
     alloc: Global,
     solver: &mut Solver,

@@ -136,7 +136,7 @@ impl Context<'_> {
         judge_binding(&self.scopes, &mut self.warnings, &bind.pat)
     }
 
-    /// The bindings behind `rec`.
+    /// The bindings after `rec`.
     #[cycle(core)]
     #[inline(never)]
     pub(crate) fn recursive_binds(
@@ -158,7 +158,7 @@ impl Context<'_> {
         Ok(())
     }
 
-    /// The types of the patterns behind `rec`, whose variables are bound in the right sides.
+    /// The types of the patterns after `rec`, whose variables are bound in the right sides.
     #[inline(never)]
     fn recursive_patterns(
         &mut self,
@@ -235,7 +235,7 @@ impl Context<'_> {
         Ok(())
     }
 
-    /// Demands that the flexible rows behind the first ones have their labels.
+    /// Demands that the flexible rows after the first ones have their labels.
     fn end_rows(&mut self, first: usize) -> Result<(), CoreFault> {
         for (place, row) in self.rows.iter().skip(first) {
             if let Err(refusal) = ask_labels(&mut self.solver, row) {
@@ -313,7 +313,7 @@ impl Context<'_> {
         Ok(())
     }
 
-    /// The scheme of a variable in a declaration that begins behind the first unknowns. Which unknowns are fixed is asked
+    /// The scheme of a variable in a declaration that begins after the first unknowns. Which unknowns are fixed is asked
     /// once.
     fn scheme(
         &mut self,
@@ -353,7 +353,7 @@ impl Context<'_> {
         Ok(())
     }
 
-    /// Which unknowns the context of a declaration fixes, which begins behind the first ones.
+    /// Which unknowns the context of a declaration fixes, which begins after the first ones.
     fn fixed(&mut self, first: usize) -> Result<Vec<bool>, CoreFault> {
         match ask_fixed(&mut self.solver, first, &[]) {
             Ok(flags) => Ok(flags),

@@ -16,7 +16,7 @@ use std::alloc::Global;
 use std::rc::Rc;
 
 /// Adds nodes for a type, and gives the node that has it. The types whose nodes are to come stand in a list, each at
-/// the place of its node behind the nodes given.
+/// the place of its node after the nodes given.
 pub(crate) fn intern(
     alloc: Global,
     nodes: &mut Vec<Cell>,

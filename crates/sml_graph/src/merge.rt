@@ -109,7 +109,7 @@ fn add_fields(
     Ok(())
 }
 
-/// One row with the fields of two: of the larger one, and behind them those that only the other has. With it, how many
+/// One row with the fields of two: of the larger one, and after them those that only the other has. With it, how many
 /// of the second row's fields stay where they are.
 fn join_fields(
     pending: &mut Vec<(NodeId, NodeId)>,

@@ -141,7 +141,7 @@ fn behind(solver: &Solver, last: usize) -> usize {
     solver.unknowns().saturating_sub(last)
 }
 
-/// The number of the unknown that is so many behind the first.
+/// The number of the unknown that is so many after the first.
 fn unknown(first: usize, index: usize) -> Result<u32, Memory> {
     let Some(number) = first.checked_add(index) else {
         return Err(Memory);

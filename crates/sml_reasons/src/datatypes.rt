@@ -27,7 +27,7 @@ struct Search<'a> {
     found: Reason,
 }
 
-/// The types that a declaration has at a place behind `where type` or `sharing type`, a line each: the one that is named
+/// The types that a declaration has at a place after `where type` or `sharing type`, a line each: the one that is named
 /// first, and the one that is to be the same.
 pub(crate) fn constructors_of(alloc: Global, place: Place, top: &TopDec) -> Result<Reason, Memory> {
     let mut search = Search {

@@ -75,7 +75,7 @@ impl<X: Drop> Table<X> {
         Ok(())
     }
 
-    /// Undoes the bindings behind the first ones.
+    /// Undoes the bindings after the first ones.
     pub(crate) fn leave(&mut self, first: usize) -> Result<(), Memory>
         ensures before { OnOk result ((least : ℕ) → least ≤ first → least ≤ vec_len self.old.log → (x : Id) → bound_at least self.new x ≡ bound_at least self.old x) }
         ensures count { OnOk result (first ≤ vec_len self.old.log → vec_len self.new.log ≡ first) }

@@ -266,7 +266,7 @@ impl Common {
         Ok(())
     }
 
-    /// Adds the type constructors of a structure behind a path.
+    /// Adds the type constructors of a structure after a path.
     #[cycle(common)]
     fn add(&mut self, index: usize, env: &Env, path: &[u8]) -> Result<(), Memory> {
         self.add_structures(index, &env.structures, path)?;

@@ -244,7 +244,7 @@ impl Solver {
     }
 
     /// A flag for each unknown that the types of the first unknowns and of others fix, so that it stands in the context of
-    /// what is made behind these. Of the unknowns that by the equations may be any type, or are flexible rows, no others
+    /// what is made after these. Of the unknowns that by the equations may be any type, or are flexible rows, no others
     /// have one.
     pub fn fixed_by(&mut self, first: usize, others: &[u32]) -> Result<Vec<bool>, Halt>
         requires first { first ≤ count self.old }

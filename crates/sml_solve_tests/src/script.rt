@@ -1,7 +1,7 @@
 //! Scripts: calls of a solver as text, each with what it has to answer.
 //!
 //! A script is steps with `; ` between them, over a new solver of the unit 2, which has no unknown. A step is a call, and
-//! behind ` -> ` the answer; where no answer stands, it is `done`.
+//! after ` -> ` the answer; where no answer stands, it is `done`.
 //!
 //! | call | what is called | answer |
 //! |---|---|---|
@@ -41,7 +41,7 @@
 //! | `tN!`, `oN!` | in answers alone: such a name that doesn't admit equality |
 //! | `'N` | in answers alone: a variable that the scheme binds; where it is bound, with two quotes if it admits equality |
 //!
-//! A step `for i in A..B, STEP, STEP ..` takes the steps behind it for each number from A up to B, without B. In these a
+//! A step `for i in A..B, STEP, STEP ..` takes the steps after it for each number from A up to B, without B. In these a
 //! number may also be `i`, `i+N`, `i-N` or `N-i`, and a label `#N` is the number's four bytes, the highest first.
 //!
 //! A script that isn't understood fails, and so does one that names an unknown that isn't there.
@@ -122,7 +122,7 @@ fn parts_of(step: &str) -> (&str, &str) {
     }
 }
 
-/// The numbers of a range, and the steps behind it.
+/// The numbers of a range, and the steps after it.
 fn read_turns(turns: &str) -> Option<(u32, u32, &str)> {
     let (range, steps) = turns.split_once(", ")?;
     let (from, to) = range.split_once("..")?;

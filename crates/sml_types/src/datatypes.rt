@@ -42,7 +42,7 @@ pub fn datatypes(alloc: Global, basis: &Basis, binds: &[DatBind]) -> Result<Env,
 }
 
 /// The types and the constructors that bindings of datatypes give, with new names in their order, as many of which admit
-/// equality as can. The types bound behind `withtype` stand for their right sides in the constructors' types; they are not
+/// equality as can. The types bound after `withtype` stand for their right sides in the constructors' types; they are not
 /// bound. Once all constructors' arguments are read, a constructor whose type is too large is E7 at the place.
 pub fn datatypes_with<S: Scope>(
     alloc: Global,

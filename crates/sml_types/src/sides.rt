@@ -1,4 +1,4 @@
-//! The right sides that type constructors bound behind `withtype` stand for in datatypes (the Definition, appendix A).
+//! The right sides that type constructors bound after `withtype` stand for in datatypes (the Definition, appendix A).
 //!
 //! A constructor's type is read as if each stood there written out, with the arguments in the place of its variables: an
 //! argument is read where its variable is, and one that the right side drops isn't. Each right side is read once.

@@ -136,7 +136,7 @@ fn side_at<'a, S: Scope>(scope: &'a S, long: &LongIdent) -> Option<&'a RightSide
     }
 }
 
-/// What a right side means behind these arguments, each of which is read where its variable stands first.
+/// What a right side means after these arguments, each of which is read where its variable stands first.
 #[cycle(meaning)]
 #[inline(never)]
 fn replaced<S: Scope, V: TypeVariables>(
@@ -177,7 +177,7 @@ fn put(types: &mut [Rc<Written>], index: usize, ty: Rc<Written>) {
     }
 }
 
-/// What a type constructor means behind these arguments.
+/// What a type constructor means after these arguments.
 fn application<S: Scope>(
     alloc: Global,
     scope: &S,

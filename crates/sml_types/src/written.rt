@@ -20,9 +20,9 @@ pub enum Written {
     /// A row: its labels, and what stands at them in the same order.
     Row(Rc<Labels>, Vec<Rc<Written>>),
     Arrow(Rc<Written>, Rc<Written>),
-    /// A type name behind its arguments.
+    /// A type name after its arguments.
     Name(TyName, Vec<Rc<Written>>),
-    /// A type function behind its arguments.
+    /// A type function after its arguments.
     Applied(Rc<Scheme>, Vec<Rc<Written>>),
     /// A right side whose bound variables stand for arguments.
     Side(Rc<Written>, Vec<Rc<Written>>),

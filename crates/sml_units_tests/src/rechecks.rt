@@ -52,7 +52,7 @@ const FILES: [&str; 4] = [
     "unit a a.sml\nunit b b.sml a\n",
 ];
 
-/// The texts of their units, each behind the letter that it has in a row.
+/// The texts of their units, each after the letter that it has in a row.
 const LETTERS: [&str; 18] = [
     "a structure S :> sig type t val a : t val f : t -> t end = struct type t = int val a = 3 fun f x = x end",
     "b structure S :> sig type t val a : t val f : t -> t end = struct datatype p = P datatype q = Q type t = int * bool val a = (3, true) fun f (x, b) = (x, b) end",
@@ -78,7 +78,7 @@ const LETTERS: [&str; 18] = [
 const FUNCTOR: &str = "functor F (X : G) = struct val g = X.f end";
 
 /// A row has the number of a project file and the letters of its units' texts, the same of the project that is checked
-/// behind it, which of its units are kept, and how many declarations are answered. `x` is the functor's letter.
+/// after it, which of its units are kept, and how many declarations are answered. `x` is the functor's letter.
 ///
 /// A body may change, but not what a signature lists, nor whether a type admits equality; the order of the lines alone
 /// changes nothing, but another name, or other needs, are another unit; and signatures whose types are listed in another
@@ -132,7 +132,7 @@ fn found_of(alloc: Global, checked: &Checked) -> Result<String, Fail> {
     Ok(text)
 }
 
-/// What is found where a project is checked again behind another, which has to give what a check from nothing gives.
+/// What is found where a project is checked again after another, which has to give what a check from nothing gives.
 fn found_behind(
     rt: &impl Abort,
     alloc: Global,
@@ -177,7 +177,7 @@ fn kept_units(rt: HostRuntime) -> Result<(), Fail> {
     Ok(())
 }
 
-/// A project that was checked again behind another, and what was found of that one.
+/// A project that was checked again after another, and what was found of that one.
 fn moved(alloc: Global) -> Result<(Checked, String), Fail> {
     let old = checked_by(alloc, "0", "aeg")?;
     let found = found_of(alloc, &old)?;
@@ -185,7 +185,7 @@ fn moved(alloc: Global) -> Result<(Checked, String), Fail> {
     Ok((recheck(alloc, &old, &second)?, found))
 }
 
-/// A project is checked again behind one that was checked again.
+/// A project is checked again after one that was checked again.
 #[test]
 fn units_that_move(rt: HostRuntime) -> Result<(), Fail> {
     let alloc = rt.alloc();

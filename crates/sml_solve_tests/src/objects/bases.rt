@@ -28,7 +28,7 @@ fn value_text(alloc: Global, basis: &Basis, name: &str) -> Result<String, Memory
     text_of(alloc, basis.env.value(&name))
 }
 
-/// What some names of types stand for, each with `; ` behind it.
+/// What some names of types stand for, each with `; ` after it.
 fn type_texts(alloc: Global, basis: &Basis, names: &[&str]) -> Result<String, Memory> {
     let mut text = String::new(alloc);
     for name in names {
@@ -62,7 +62,7 @@ fn with_value(alloc: Global, name: Initial) -> Result<Basis, Memory> {
     Ok(basis)
 }
 
-/// What `x` is in a basis with another behind it.
+/// What `x` is in a basis with another after it.
 fn extended(alloc: Global, first: &Basis, second: &Basis) -> Result<String, Memory> {
     let both = first.extend(alloc, second)?;
     value_text(alloc, &both, "x")

@@ -84,7 +84,7 @@ impl<'a> Words<'a> {
         Ok(number)
     }
 
-    /// The next word, a number that has one behind it.
+    /// The next word, a number that has one after it.
     pub(crate) fn limit(&mut self) -> Result<u32, Fault>
         ensures { IfOk result (λ limit. limit + 1 < 2 ^ 32) }
     {
@@ -108,7 +108,7 @@ impl<'a> Words<'a> {
         self.simple(word)
     }
 
-    /// The bytes of a label: those of the word, or behind `#` those of a number.
+    /// The bytes of a label: those of the word, or after `#` those of a number.
     pub(crate) fn label(&mut self, alloc: Global) -> Result<Ident, Fault> {
         let word = self.word()?;
         let bytes = match word.strip_prefix('#') {

@@ -14,14 +14,14 @@ const CALLS: &str =
 /// Two rows, and that they are one.
 const ROWS: &str = "fresh 1; fresh 1; has 0 a int; has 1 a int b int; equal 0 1";
 
-/// Calls behind one that was refused.
+/// Calls after one that was refused.
 const SPENT: &str =
     "fresh 1 -> spent; instance -> spent; equal int int -> spent; within newness 0 int -> spent; \
     equality int -> spent; class num int -> spent; settle -> spent; variable '0 int -> spent; \
     general in 0 -> spent; has int -> spent; labels int -> spent; fixed 0 -> spent; size 5 int -> spent; \
     reading 5 int -> spent; scheme none 5 int -> spent";
 
-/// What is wrong with calls: a step that answers neither what it has to nor want of memory, or one behind the latter
+/// What is wrong with calls: a step that answers neither what it has to nor want of memory, or one after the latter
 /// that isn't refused. Where memory is refused to the script itself, no more calls are made.
 fn wrong_step(alloc: Global, script: &str) -> Result<Option<String>, Fault> {
     let mut solver = new_solver(alloc);

@@ -1,4 +1,4 @@
-//! What specifications see: those before them in each `sig .. end` around them, and then an outer scope.
+//! What specifications see: those before them in each `sig .. end` around them, and then the scopes that are open.
 
 ghost use Rattle.std.specs.Prelude.{◌≡◌};
 ghost use Rattle.sml_objects.specs.Maps.{lookup};
@@ -7,6 +7,7 @@ ghost use Rattle.sml_bases.specs.Views.{env_of};
 
 use sml_bases::environments::Entry;
 use sml_bases::objects::{Env, TypeStr};
+use sml_scopes::scopes::Scopes;
 use sml_tree::bare::Ident;
 use sml_types::scope::Scope;
 use std::rc::Rc;
@@ -18,14 +19,15 @@ pub(crate) struct Layer<'a> {
     pub around: Option<&'a Layer<'a>>,
 }
 
-/// Specifications over an outer scope.
+/// Specifications over the scopes that are open. They are of one type: functions that go down signatures in each other have
+/// frames of their own only where they aren't generic.
 #[derive(Drop)]
-pub(crate) struct Layers<'a, S> {
-    pub outer: &'a S,
+pub(crate) struct Layers<'a, 'b> {
+    pub outer: &'a Scopes<'b>,
     pub inner: Option<&'a Layer<'a>>,
 }
 
-impl<S: Scope> Scope for Layers<'_, S> {
+impl Scope for Layers<'_, '_> {
     // What it tells is not stated yet.
     ghost says_structure = { λ _ _ _. Unit {0} };
 

@@ -9,10 +9,10 @@ use sml_envs::canonical::renamed_sig;
 use sml_envs::new_names::NewNames;
 use sml_lex::fault::{Code, Place};
 use sml_objects::objects::TyName;
+use sml_scopes::scopes::Scopes;
 use sml_tree::bare::Ident;
 use sml_tree::signatures::{SigExp, Spec, StrDesc, WhereType};
 use sml_types::fault::{CoreFault, fault_about};
-use sml_types::scope::Scope;
 use std::alloc::Global;
 use std::rc::Rc;
 
@@ -23,15 +23,15 @@ pub type SigFault = CoreFault;
 /// those that it binds. N1 to N7, E2, E3, E4, E7 or E8.
 pub fn signature(alloc: Global, basis: &Basis, sig: &SigExp) -> Result<Sig, SigFault> {
     let mut new = NewNames::new(alloc, basis);
-    signature_in(alloc, basis, &mut new, basis, sig)
+    signature_in(alloc, basis, &mut new, &Scopes::new(alloc, basis), sig)
 }
 
-/// The same in a scope over a basis, with the next new names.
-pub fn signature_in<S: Scope>(
+/// The same in the scopes that are open over a basis, with the next new names.
+pub fn signature_in(
     alloc: Global,
     basis: &Basis,
     new: &mut NewNames,
-    outer: &S,
+    outer: &Scopes<'_>,
     sig: &SigExp,
 ) -> Result<Sig, SigFault> {
     let mut reader = Reader {
@@ -45,11 +45,11 @@ pub fn signature_in<S: Scope>(
 
 /// The fault of a signature expression in which nothing is shared or realised, if it has one. No name is made for those of
 /// the signatures that it names.
-pub fn require_signature<S: Scope>(
+pub fn require_signature(
     alloc: Global,
     basis: &Basis,
     new: &mut NewNames,
-    outer: &S,
+    outer: &Scopes<'_>,
     sig: &SigExp,
 ) -> Result<(), CoreFault> {
     let mut reader = Reader {
@@ -72,18 +72,17 @@ struct Reader<'a, 'b> {
 }
 
 #[cycle(read)]
-fn read<S: Scope>(
+fn read(
     reader: &mut Reader<'_, '_>,
     sig: &SigExp,
-    outer: &S,
+    outer: &Scopes<'_>,
     inner: Option<&Layer<'_>>,
 ) -> Result<Sig, CoreFault> {
     match sig {
         SigExp::Specs(_, specs) => read_specs(reader, specs, outer, inner),
         SigExp::Identifier(place, name) => named(reader, *place, name),
-        SigExp::WhereType(_, sig, written) => {
-            let mut wheres = read_wheres(reader, sig, outer, inner)?;
-            wheres.add(&Layers { outer, inner }, written)?;
+        SigExp::WhereType(_, _, _) => {
+            let wheres = read_wheres(reader, sig, outer, inner)?;
             Ok(wheres.realised()?)
         }
     }
@@ -92,22 +91,23 @@ fn read<S: Scope>(
 /// The same, where types are to become others.
 #[cycle(read)]
 #[inline(never)]
-fn read_wheres<S: Scope>(
+fn read_wheres(
     reader: &mut Reader<'_, '_>,
     sig: &SigExp,
-    outer: &S,
+    outer: &Scopes<'_>,
     inner: Option<&Layer<'_>>,
 ) -> Result<Box<Wheres>, CoreFault> {
-    let sig = match sig {
-        SigExp::Specs(_, specs) => read_specs(reader, specs, outer, inner)?,
-        SigExp::Identifier(place, name) => named(reader, *place, name)?,
+    match sig {
         SigExp::WhereType(_, sig, written) => {
             let mut wheres = read_wheres(reader, sig, outer, inner)?;
             wheres.add(&Layers { outer, inner }, written)?;
-            return Ok(wheres);
+            Ok(wheres)
         }
-    };
-    Ok(Wheres::new(reader.alloc, sig)?)
+        SigExp::Specs(_, _) | SigExp::Identifier(_, _) => {
+            let sig = read(reader, sig, outer, inner)?;
+            Ok(Wheres::new(reader.alloc, sig)?)
+        }
+    }
 }
 
 /// The signature of an identifier, with new names.
@@ -128,10 +128,10 @@ fn named(reader: &mut Reader<'_, '_>, place: Place, name: &Ident) -> Result<Sig,
 
 #[cycle(read)]
 #[inline(never)]
-fn read_specs<S: Scope>(
+fn read_specs(
     reader: &mut Reader<'_, '_>,
     specs: &[Spec],
-    outer: &S,
+    outer: &Scopes<'_>,
     inner: Option<&Layer<'_>>,
 ) -> Result<Sig, CoreFault> {
     let mut draft = Draft::new(reader.alloc);
@@ -144,10 +144,10 @@ fn read_specs<S: Scope>(
 /// Adds what a specification gives to those before it.
 #[cycle(read)]
 #[inline(never)]
-fn read_spec<S: Scope>(
+fn read_spec(
     reader: &mut Reader<'_, '_>,
     spec: &Spec,
-    outer: &S,
+    outer: &Scopes<'_>,
     around: Option<&Layer<'_>>,
     draft: &mut Draft,
 ) -> Result<(), CoreFault> {
@@ -176,10 +176,10 @@ fn read_spec<S: Scope>(
 /// What a specification gives by itself.
 #[cycle(read)]
 #[inline(never)]
-fn part_of<S: Scope>(
+fn part_of(
     reader: &mut Reader<'_, '_>,
     spec: &Spec,
-    outer: &S,
+    outer: &Scopes<'_>,
     layer: &Layer<'_>,
 ) -> Result<Sig, CoreFault> {
     let alloc = reader.alloc;
@@ -205,10 +205,10 @@ fn part_of<S: Scope>(
 
 #[cycle(read)]
 #[inline(never)]
-fn structures<S: Scope>(
+fn structures(
     reader: &mut Reader<'_, '_>,
     descs: &[StrDesc],
-    outer: &S,
+    outer: &Scopes<'_>,
     layer: &Layer<'_>,
 ) -> Result<Sig, CoreFault> {
     let mut names: Vec<TyName> = Vec::new(reader.alloc);

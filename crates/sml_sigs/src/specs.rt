@@ -1,5 +1,6 @@
 //! Specifications without signatures in them (the Definition, section 5.7, rules 68 to 72).
 
+use crate::layers::Layers;
 use sml_bases::objects::{Constructors, Env, Sig, Status, TypeStr, Value};
 use sml_envs::functions::name_of;
 use sml_envs::new_names::NewNames;
@@ -13,7 +14,7 @@ use sml_types::bindings::no_constructors;
 use sml_types::datatypes::{datatypes_with, name_function, put_constructors};
 use sml_types::fault::CoreFault;
 use sml_types::rows::{arrow, initial, number_of};
-use sml_types::scope::{Scope, type_at};
+use sml_types::scope::type_at;
 use sml_types::sizes::{few, small, small_beside};
 use sml_types::types::written_type;
 use sml_types::variables::{Collected, NoVariables};
@@ -31,9 +32,9 @@ fn without_names(alloc: Global, env: Env) -> Result<Sig, Memory> {
 
 /// Values, each with the scheme that binds all variables of its type.
 #[inline(never)]
-pub(crate) fn values<S: Scope>(
+pub(crate) fn values(
     alloc: Global,
-    scope: &S,
+    scope: &Layers<'_, '_>,
     place: Place,
     descs: &[ValDesc],
 ) -> Result<Sig, CoreFault> {
@@ -59,9 +60,9 @@ fn value_of(alloc: Global, variables: &Collected, ty: &Written) -> Result<Value,
 }
 
 /// What the types of values mean, each with its variables.
-fn types_of<S: Scope>(
+fn types_of(
     alloc: Global,
-    scope: &S,
+    scope: &Layers<'_, '_>,
     descs: &[ValDesc],
 ) -> Result<Vec<(Collected, Rc<Written>)>, CoreFault> {
     let mut types = Vec::new(alloc);
@@ -123,9 +124,9 @@ fn type_str(
 
 /// Datatypes, with new names.
 #[inline(never)]
-pub(crate) fn new_datatypes<S: Scope>(
+pub(crate) fn new_datatypes(
     alloc: Global,
-    scope: &S,
+    scope: &Layers<'_, '_>,
     new: &mut NewNames,
     place: Place,
     binds: &[DatBind],
@@ -150,9 +151,9 @@ fn names_of(alloc: Global, env: &Env) -> Result<Vec<TyName>, Memory> {
 
 /// A type of the scope with its constructors.
 #[inline(never)]
-pub(crate) fn replication<S: Scope>(
+pub(crate) fn replication(
     alloc: Global,
-    scope: &S,
+    scope: &Layers<'_, '_>,
     name: &Name,
     long: &LongIdent,
 ) -> Result<Sig, CoreFault> {
@@ -165,9 +166,9 @@ pub(crate) fn replication<S: Scope>(
 
 /// Exceptions, whose types have no variables.
 #[inline(never)]
-pub(crate) fn exceptions<S: Scope>(
+pub(crate) fn exceptions(
     alloc: Global,
-    scope: &S,
+    scope: &Layers<'_, '_>,
     place: Place,
     descs: &[ConBind],
 ) -> Result<Sig, CoreFault> {
@@ -186,9 +187,9 @@ pub(crate) fn exceptions<S: Scope>(
 }
 
 /// What the types of exceptions' arguments mean.
-fn arguments_of<S: Scope>(
+fn arguments_of(
     alloc: Global,
-    scope: &S,
+    scope: &Layers<'_, '_>,
     descs: &[ConBind],
 ) -> Result<Vec<Option<Rc<Written>>>, CoreFault> {
     let mut arguments = Vec::new(alloc);

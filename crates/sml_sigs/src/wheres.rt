@@ -2,7 +2,7 @@
 
 use crate::bound::{Table, bound_name, table_of};
 use crate::draft::add_names;
-use crate::layers::Inside;
+use crate::layers::{Inside, Layers};
 use crate::mentions::Mentions;
 use indexmap::IndexSet;
 use sml_bases::objects::{Constructors, Sig};
@@ -19,7 +19,7 @@ use sml_tree::signatures::WhereType;
 use sml_tree::types::Ty;
 use sml_types::bindings::parameters;
 use sml_types::fault::{CoreFault, plain_fault};
-use sml_types::scope::{Scope, type_at};
+use sml_types::scope::type_at;
 use sml_types::sizes::small;
 use sml_types::types::written_type;
 use sml_types::variables::Listed;
@@ -41,6 +41,7 @@ pub(crate) struct Wheres {
 
 impl Wheres {
     /// The signature as it is.
+    #[inline(never)]
     pub(crate) fn new(alloc: Global, sig: Sig) -> Result<Box<Wheres>, Memory> {
         let mut bound = IndexSet::new(alloc);
         add_names(&mut bound, &sig.names)?;
@@ -59,9 +60,9 @@ impl Wheres {
 
     /// Lets a type be what is written, or E2 to E4, E7, E8 or N3 to N5.
     #[inline(never)]
-    pub(crate) fn add<S: Scope>(
+    pub(crate) fn add(
         &mut self,
-        scope: &S,
+        scope: &Layers<'_, '_>,
         written: &WhereType,
     ) -> Result<(), CoreFault> {
         let inside = Inside { env: &self.sig.env };
@@ -88,9 +89,9 @@ impl Wheres {
     }
 
     /// That the constructors of the realised name, if it has some, have the identifiers of those of what is written, or N5.
-    fn require_constructors<S: Scope>(
+    fn require_constructors(
         &self,
-        scope: &S,
+        scope: &Layers<'_, '_>,
         written: &WhereType,
         name: TyName,
     ) -> Result<(), CoreFault> {
@@ -115,6 +116,7 @@ impl Wheres {
     }
 
     /// The signature where the names are their type functions.
+    #[inline(never)]
     pub(crate) fn realised(&self) -> Result<Sig, Memory> {
         let mut names = Vec::new(self.alloc);
         for name in &self.sig.names {
@@ -128,9 +130,9 @@ impl Wheres {
 }
 
 /// What the right side means, with its variables numbered from 0 on.
-fn right_side<S: Scope>(
+fn right_side(
     alloc: Global,
-    scope: &S,
+    scope: &Layers<'_, '_>,
     written: &WhereType,
 ) -> Result<Rc<Written>, CoreFault> {
     let mut listed = Listed::bound(alloc, &written.variables)?;
@@ -170,9 +172,9 @@ fn function_of(
 
 /// Whether the type that is written is a type constructor applied to the parameters in order whose constructors have the
 /// identifiers of these.
-fn has_constructors<S: Scope>(
+fn has_constructors(
     alloc: Global,
-    scope: &S,
+    scope: &Layers<'_, '_>,
     written: &WhereType,
     constructors: &Constructors,
 ) -> Result<bool, CoreFault> {

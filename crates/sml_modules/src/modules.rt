@@ -115,7 +115,7 @@ fn signatures(
 fn bind_too_many(basis: &Basis, binds: &[SigBind]) -> bool {
     let mut count = basis.count as usize;
     for bind in binds {
-        match names_of_sig(basis, &bind.signature) {
+        match names_of_sig(&bind.signature, basis) {
             Some(names) => count = count.saturating_add(names),
             None => return false,
         }

@@ -6,9 +6,9 @@ use sml_tree::signatures::{SigExp, Spec, StrDesc};
 /// How many names the signature binds that a signature expression means, unless it has a fault; `None` where some are shared
 /// or realised. Numbers stop at the greatest of their type.
 #[cycle(counts)]
-pub fn names_of_sig(basis: &Basis, sig: &SigExp) -> Option<usize> {
+pub fn names_of_sig(sig: &SigExp, basis: &Basis) -> Option<usize> {
     match sig {
-        SigExp::Specs(_, specs) => names_of_specs(basis, specs),
+        SigExp::Specs(_, specs) => names_of_specs(specs, basis),
         SigExp::Identifier(_, name) => match basis.signature(name) {
             Some(sig) => Some(sig.names.len()),
             None => Some(0),
@@ -18,31 +18,31 @@ pub fn names_of_sig(basis: &Basis, sig: &SigExp) -> Option<usize> {
 }
 
 #[cycle(counts)]
-fn names_of_specs(basis: &Basis, specs: &[Spec]) -> Option<usize> {
+fn names_of_specs(specs: &[Spec], basis: &Basis) -> Option<usize> {
     let mut count: usize = 0;
     for spec in specs {
-        count = count.saturating_add(names_of_spec(basis, spec)?);
+        count = count.saturating_add(names_of_spec(spec, basis)?);
     }
     Some(count)
 }
 
 #[cycle(counts)]
-fn names_of_spec(basis: &Basis, spec: &Spec) -> Option<usize> {
+fn names_of_spec(spec: &Spec, basis: &Basis) -> Option<usize> {
     match spec {
         Spec::Value(_, _) | Spec::Replication(_, _, _) | Spec::Exception(_, _) => Some(0),
         Spec::Type(_, descs) | Spec::Eqtype(_, descs) => Some(descs.len()),
         Spec::Datatype(_, binds) => Some(binds.len()),
-        Spec::Structure(_, descs) => names_of_structures(basis, descs),
-        Spec::Include(_, sig) => names_of_sig(basis, sig),
+        Spec::Structure(_, descs) => names_of_structures(descs, basis),
+        Spec::Include(_, sig) => names_of_sig(sig, basis),
         Spec::SharingType(_, _) | Spec::Sharing(_, _) => None,
     }
 }
 
 #[cycle(counts)]
-fn names_of_structures(basis: &Basis, descs: &[StrDesc]) -> Option<usize> {
+fn names_of_structures(descs: &[StrDesc], basis: &Basis) -> Option<usize> {
     let mut count: usize = 0;
     for desc in descs {
-        count = count.saturating_add(names_of_sig(basis, &desc.signature)?);
+        count = count.saturating_add(names_of_sig(&desc.signature, basis)?);
     }
     Some(count)
 }

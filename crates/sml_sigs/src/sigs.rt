@@ -81,8 +81,9 @@ fn read(
     match sig {
         SigExp::Specs(_, specs) => read_specs(reader, specs, outer, inner),
         SigExp::Identifier(place, name) => named(reader, *place, name),
-        SigExp::WhereType(_, _, _) => {
-            let wheres = read_wheres(reader, sig, outer, inner)?;
+        SigExp::WhereType(_, sig, written) => {
+            let mut wheres = read_wheres(reader, sig, outer, inner)?;
+            wheres.add(&Layers { outer, inner }, written)?;
             Ok(wheres.realised()?)
         }
     }
@@ -97,17 +98,16 @@ fn read_wheres(
     outer: &Scopes<'_>,
     inner: Option<&Layer<'_>>,
 ) -> Result<Box<Wheres>, CoreFault> {
-    match sig {
+    let sig = match sig {
+        SigExp::Specs(_, specs) => read_specs(reader, specs, outer, inner)?,
+        SigExp::Identifier(place, name) => named(reader, *place, name)?,
         SigExp::WhereType(_, sig, written) => {
             let mut wheres = read_wheres(reader, sig, outer, inner)?;
             wheres.add(&Layers { outer, inner }, written)?;
-            Ok(wheres)
+            return Ok(wheres);
         }
-        SigExp::Specs(_, _) | SigExp::Identifier(_, _) => {
-            let sig = read(reader, sig, outer, inner)?;
-            Ok(Wheres::new(reader.alloc, sig)?)
-        }
-    }
+    };
+    Ok(Wheres::new(reader.alloc, sig)?)
 }
 
 /// The signature of an identifier, with new names.

@@ -52,7 +52,7 @@ struct Outside {
 }
 
 impl Context<'_> {
-    /// The type of an expression. Each form has a function of its own, so that a level of a nest takes little stack.
+    /// The type of an expression. Forms with one part have functions of their own, so that a level of a nest takes less stack.
     #[cycle(core)]
     pub(crate) fn expression(&mut self, exp: &Exp) -> Result<Rc<MlType>, CoreFault> {
         match exp {
@@ -60,13 +60,24 @@ impl Context<'_> {
             Exp::Identifier(place, long) => self.identifier(*place, long),
             Exp::Row(_, fields) => self.row(fields),
             Exp::Tuple(_, exps) => self.tuple(exps),
-            Exp::Let(place, decs, exp) => self.let_in(*place, decs, exp),
+            Exp::Let(place, decs, exp) => {
+                let outside = self.outside();
+                self.decs(decs)?;
+                let ty = self.expression(exp)?;
+                self.left(*place, outside, ty)
+            }
             Exp::Bracket(_, exp) => self.expression(exp),
             Exp::Application(place, function, argument) => {
-                self.application(*place, function, argument)
+                let function = self.expression(function)?;
+                let argument = self.expression(argument)?;
+                self.applied(*place, &function, argument)
             }
             Exp::Typed(place, exp, ty) => self.typed(*place, exp, ty),
-            Exp::Handle(place, exp, rules) => self.handle(*place, exp, rules),
+            Exp::Handle(place, exp, rules) => {
+                let ty = self.expression(exp)?;
+                let handler = self.rules(rules)?;
+                self.handled(*place, ty, &handler, rules)
+            }
             Exp::Raise(place, exp) => self.raise(*place, exp),
             Exp::Function(place, rules) => self.function(*place, rules),
         }
@@ -86,39 +97,9 @@ impl Context<'_> {
 
     #[cycle(core)]
     #[inline(never)]
-    fn let_in(&mut self, place: Place, decs: &[Dec], exp: &Exp) -> Result<Rc<MlType>, CoreFault> {
-        let outside = self.outside();
-        self.decs(decs)?;
-        let ty = self.expression(exp)?;
-        self.left(place, outside, ty)
-    }
-
-    #[cycle(core)]
-    #[inline(never)]
-    fn application(
-        &mut self,
-        place: Place,
-        function: &Exp,
-        argument: &Exp,
-    ) -> Result<Rc<MlType>, CoreFault> {
-        let function = self.expression(function)?;
-        let argument = self.expression(argument)?;
-        self.applied(place, &function, argument)
-    }
-
-    #[cycle(core)]
-    #[inline(never)]
     fn typed(&mut self, place: Place, exp: &Exp, ty: &Ty) -> Result<Rc<MlType>, CoreFault> {
         let found = self.expression(exp)?;
         self.constrained(place, found, ty)
-    }
-
-    #[cycle(core)]
-    #[inline(never)]
-    fn handle(&mut self, place: Place, exp: &Exp, rules: &[Rule]) -> Result<Rc<MlType>, CoreFault> {
-        let ty = self.expression(exp)?;
-        let handler = self.rules(rules)?;
-        self.handled(place, ty, &handler, rules)
     }
 
     #[cycle(core)]

@@ -4,6 +4,7 @@
 use sml_bases::objects::{Basis, Env, Sig};
 use sml_core::declarations::core;
 use sml_envs::initial::initial;
+use sml_graph::demand::Halt;
 use sml_lex::fault::{Fault, Memory};
 use sml_lex::lexer::lex;
 use sml_match::enrich::enriches;
@@ -87,8 +88,10 @@ impl Said<'_> {
                 None
             }
         };
-        if solver.fresh().is_err() {
-            self.text.push_str("spent;")?;
+        match solver.fresh() {
+            Ok(_) => {}
+            Err(Halt::Spent) => self.text.push_str("spent;")?,
+            Err(Halt::Memory) => return Err(Memory),
         }
         Ok(env)
     }

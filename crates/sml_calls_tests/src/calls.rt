@@ -44,7 +44,12 @@ impl Said<'_> {
     }
 
     fn env(&mut self, env: &Env) -> Result<(), Memory> {
-        write!(self.text, "{} types {} values;", env.types.len(), env.values.len())?;
+        write!(
+            self.text,
+            "{} types {} values;",
+            env.types.len(),
+            env.values.len()
+        )?;
         Ok(())
     }
 
@@ -163,7 +168,7 @@ impl Said<'_> {
 }
 
 /// What is said of the calls for a unit over the initial basis.
-fn said(alloc: Global, unit: &str) -> Result<String, Memory> {
+fn answers(alloc: Global, unit: &str) -> Result<String, Memory> {
     let basis = initial(alloc)?;
     let parsed = parse(alloc, &lex(alloc, unit.as_bytes())?)?;
     let mut said = Said {
@@ -182,8 +187,14 @@ const ROWS: [(&str, &str); 14] = [
     ("val x = y", "E1 1.9;spent;"),
     ("val x = 1 2", "U1 1.9;spent;"),
     ("type t = int", "name of 0;1 types 0 values;0 warnings;"),
-    ("type ('a, 'b) t = 'b", "variable 1;1 types 0 values;0 warnings;"),
-    ("type 'a t = 'a * int * 'a", "row of 3;1 types 0 values;0 warnings;"),
+    (
+        "type ('a, 'b) t = 'b",
+        "variable 1;1 types 0 values;0 warnings;",
+    ),
+    (
+        "type 'a t = 'a * int * 'a",
+        "row of 3;1 types 0 values;0 warnings;",
+    ),
     ("type t = u", "E2 1.10;E2 1.10;spent;"),
     (
         "datatype t = A | B of u and u = C",
@@ -206,7 +217,7 @@ const ROWS: [(&str, &str); 14] = [
 fn each_call(rt: HostRuntime) -> Result<(), Fail> {
     let alloc = rt.alloc();
     for (unit, expected) in ROWS {
-        assert_eq!(rt; said(alloc, unit)?.as_str(), expected);
+        assert_eq!(rt; answers(alloc, unit)?.as_str(), expected);
     }
     Ok(())
 }

@@ -5,7 +5,7 @@ use sml_bases::objects::{Basis, Env, Sig};
 use sml_core::declarations::core;
 use sml_envs::initial::initial;
 use sml_graph::demand::Halt;
-use sml_lex::fault::{Fault, Memory};
+use sml_lex::fault::{Code, Fault, Memory};
 use sml_lex::lexer::lex;
 use sml_match::enrich::enriches;
 use sml_match::mismatch::Mismatch;
@@ -15,6 +15,7 @@ use sml_parse::parse::parse;
 use sml_sigs::sigs::signature;
 use sml_solve::solver::Solver;
 use sml_tree::expressions::{DatBind, Dec, TypBind};
+use sml_tree::signatures::SigExp;
 use sml_tree::structures::{StrDec, TopDec};
 use sml_types::datatypes::datatypes;
 use sml_types::fault::CoreFault;
@@ -24,12 +25,23 @@ use std::fmt::Write;
 use std::process::Abort;
 use std::test::Fail;
 
-/// What is said of the calls for a unit.
+/// What is said of the calls for a unit, the last signature that was accepted, and what the last declaration of the core binds.
 #[derive(Drop)]
 struct Said<'a> {
     alloc: Global,
     basis: &'a Basis,
     text: String,
+    sig: Option<Sig>,
+    env: Option<Env>,
+}
+
+/// A code, where there is no match.
+fn code_of<T: Drop>(answer: Result<T, Mismatch>) -> Result<Option<Code>, Memory> {
+    match answer {
+        Ok(_) => Ok(None),
+        Err(Mismatch::Memory) => Err(Memory),
+        Err(Mismatch::Fault(code, _)) => Ok(Some(code)),
+    }
 }
 
 impl Said<'_> {
@@ -43,13 +55,8 @@ impl Said<'_> {
         }
     }
 
-    fn env(&mut self, env: &Env) -> Result<(), Memory> {
-        write!(
-            self.text,
-            "{} types {} values;",
-            env.types.len(),
-            env.values.len()
-        )?;
+    fn env(&mut self, types: usize, values: usize) -> Result<(), Memory> {
+        write!(self.text, "{types} types {values} values;")?;
         Ok(())
     }
 
@@ -74,34 +81,42 @@ impl Said<'_> {
 
     fn datatypes(&mut self, binds: &[DatBind]) -> Result<(), Memory> {
         match datatypes(self.alloc, self.basis, binds) {
-            Ok(env) => self.env(&env),
+            Ok(env) => self.env(env.types.len(), env.values.len()),
             Err(fault) => self.fault(&fault),
         }
     }
 
-    /// `core`; after a fault the solver is spent.
-    fn core(&mut self, dec: &Dec) -> Result<Option<Env>, Memory> {
-        let mut solver = Solver::new(self.alloc, self.basis.unit);
-        let env = match core(self.alloc, self.basis, dec, &mut solver) {
-            Ok((env, warnings)) => {
-                self.env(&env)?;
-                write!(self.text, "{} warnings;", warnings.len())?;
-                Some(env)
-            }
-            Err(fault) => {
-                self.fault(&fault)?;
-                None
-            }
-        };
-        match solver.fresh() {
-            Ok(_) => {}
-            Err(Halt::Spent) => self.text.push_str("spent;")?,
-            Err(Halt::Memory) => return Err(Memory),
-        }
-        Ok(env)
+    fn binds(&mut self, env: Env, warnings: usize) -> Result<(), Memory> {
+        let (types, values) = (env.types.len(), env.values.len());
+        self.env = Some(env);
+        self.env(types, values)?;
+        write!(self.text, "{warnings} warnings;")?;
+        Ok(())
     }
 
-    fn dec(&mut self, dec: &Dec) -> Result<Option<Env>, Memory> {
+    /// `core`; after a fault the solver is spent.
+    fn core(&mut self, dec: &Dec) -> Result<(), Memory> {
+        let mut solver = Solver::new(self.alloc, self.basis.unit);
+        let said = match core(self.alloc, self.basis, dec, &mut solver) {
+            Ok((env, warnings)) => self.binds(env, warnings.len()),
+            Err(fault) => self.fault(&fault),
+        };
+        let next = match solver.fresh() {
+            Ok(_) => Ok(""),
+            Err(Halt::Spent) => Ok("spent;"),
+            Err(Halt::Memory) => Err(Memory),
+        };
+        self.both(said, next)
+    }
+
+    fn both(&mut self, said: Result<(), Memory>, next: Result<&str, Memory>) -> Result<(), Memory> {
+        said?;
+        self.text.push_str(next?)?;
+        Ok(())
+    }
+
+    fn dec(&mut self, dec: &Dec) -> Result<(), Memory> {
+        self.env = None;
         match dec {
             Dec::Type(_, binds) => {
                 for bind in binds {
@@ -111,53 +126,57 @@ impl Said<'_> {
             Dec::Datatype(_, binds) => self.datatypes(binds)?,
             _ => {}
         }
-        self.core(dec)
+        self.core(dec)?;
+        self.matching()
     }
 
-    fn mismatch(&mut self, mismatch: &Mismatch) -> Result<(), Memory> {
-        match mismatch {
-            Mismatch::Memory => Err(Memory),
-            Mismatch::Fault(code, _) => {
-                write!(self.text, "{code:?};")?;
-                Ok(())
-            }
-        }
-    }
-
-    /// `realise` and `enriches`, of what a declaration binds against a signature.
-    fn matching(&mut self, sig: &Sig, env: &Env) -> Result<(), Memory> {
-        match realise(self.alloc, sig, env) {
-            Ok(_) => self.text.push_str("realised;")?,
-            Err(mismatch) => self.mismatch(&mismatch)?,
-        }
-        let mut solver = Solver::new(self.alloc, self.basis.unit);
-        match enriches(self.alloc, env, &sig.env, &mut solver) {
-            Ok(()) => self.text.push_str("enriches;")?,
-            Err(mismatch) => self.mismatch(&mismatch)?,
+    fn verdict(&mut self, code: Option<Code>, accepted: &str) -> Result<(), Memory> {
+        match code {
+            None => self.text.push_str(accepted)?,
+            Some(code) => write!(self.text, "{code:?};")?,
         }
         Ok(())
     }
 
+    /// `enriches`, of what a declaration binds against a signature.
+    fn enriched(&self, sig: &Sig, env: &Env) -> Result<Option<Code>, Memory> {
+        let mut solver = Solver::new(self.alloc, self.basis.unit);
+        code_of(enriches(self.alloc, env, &sig.env, &mut solver))
+    }
+
+    /// `realise` and `enriches`, of what the last declaration binds against the last signature.
+    fn matching(&mut self) -> Result<(), Memory> {
+        let (realised, enriched) = match (&self.sig, &self.env) {
+            (Some(sig), Some(env)) => (
+                code_of(realise(self.alloc, sig, env))?,
+                self.enriched(sig, env)?,
+            ),
+            _ => return Ok(()),
+        };
+        self.verdict(realised, "realised;")?;
+        self.verdict(enriched, "enriches;")
+    }
+
+    fn signature(&mut self, expression: &SigExp) -> Result<(), Memory> {
+        match signature(self.alloc, self.basis, expression) {
+            Ok(sig) => {
+                let names = sig.names.len();
+                self.sig = Some(sig);
+                write!(self.text, "{names} names;")?;
+                Ok(())
+            }
+            Err(fault) => self.fault(&fault),
+        }
+    }
+
     /// Each declaration by itself; what the core binds is held against the last signature before it.
     fn declarations(&mut self, declarations: &[TopDec]) -> Result<(), Memory> {
-        let mut last = None;
         for declaration in declarations {
             match declaration {
-                TopDec::Structure(StrDec::Core(dec)) => {
-                    let env = self.dec(dec)?;
-                    if let (Some(sig), Some(env)) = (&last, &env) {
-                        self.matching(sig, env)?;
-                    }
-                }
+                TopDec::Structure(StrDec::Core(dec)) => self.dec(dec)?,
                 TopDec::Signature(_, binds) => {
                     for bind in binds {
-                        match signature(self.alloc, self.basis, &bind.signature) {
-                            Ok(sig) => {
-                                write!(self.text, "{} names;", sig.names.len())?;
-                                last = Some(sig);
-                            }
-                            Err(fault) => self.fault(&fault)?,
-                        }
+                        self.signature(&bind.signature)?;
                     }
                 }
                 _ => self.text.push_str("other;")?,
@@ -175,10 +194,15 @@ fn answers(alloc: Global, unit: &str) -> Result<String, Memory> {
         alloc,
         basis: &basis,
         text: String::new(alloc),
+        sig: None,
+        env: None,
     };
-    said.declarations(&parsed.declarations)?;
+    let done = said.declarations(&parsed.declarations);
     let Said { text, .. } = said;
-    Ok(text)
+    match done {
+        Ok(()) => Ok(text),
+        Err(memory) => Err(memory),
+    }
 }
 
 const ROWS: [(&str, &str); 14] = [

@@ -44,9 +44,9 @@ module _ (unit : List ℕ) (tokens : List Token) (nodes : List Node) (fitted : L
   pub passed_on : (n i count : ℕ) (rule : Rule) (d : Node) → i < length nodes → get_or nodes i d ≡ Inner rule → begins_at rule ≡ false → rest n i count ≡ rest n (i + 1) count
   passed_on n i count rule d w e b = ap (λ ns. bare_decs unit tokens n ns (drop count fitted)) (split i (Inner rule) d w e) ∙ cond-false _ _ _ b
 
-  pub begun_on : (n i count : ℕ) (rule : Rule) (own behind : List Node) (d : Node) → i < length nodes → get_or nodes i d ≡ Inner rule → begins_at rule ≡ true → behind ≡ drop (i + 1) nodes → own ≡ before_first ends_at behind
+  pub begun_on : (n i count : ℕ) (rule : Rule) (own after : List Node) (d : Node) → i < length nodes → get_or nodes i d ≡ Inner rule → begins_at rule ≡ true → after ≡ drop (i + 1) nodes → own ≡ before_first ends_at after
       → rest n i count ≡ bare_dec_at unit tokens n own (drop count fitted) ∷ rest n (i + 1) (count + 1)
-  begun_on n i count rule own behind d w e b h o =
+  begun_on n i count rule own after d w e b h o =
       ap (λ ns. bare_decs unit tokens n ns (drop count fitted)) (split i (Inner rule) d w e) ∙ cond-true _ _ _ b
       ∙ ap (λ ns. bare_dec_at unit tokens n ns (drop count fitted) ∷ bare_decs unit tokens n (drop (i + 1) nodes) (drop 1 (drop count fitted))) (sym (o ∙ ap (before_first ends_at) h))
       ∙ ap (λ fs. bare_dec_at unit tokens n own (drop count fitted) ∷ bare_decs unit tokens n (drop (i + 1) nodes) fs) (drop-drop 1 count fitted)

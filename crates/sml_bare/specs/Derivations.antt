@@ -53,7 +53,7 @@ pub record Source : Type 0 where
   pub begun : ℕ
   pub fits : List Fit
 
--- the place of the n-th of these tokens, or of what comes behind them, counted from the first
+-- the place of the n-th of these tokens, or of what comes after them, counted from the first
 abbrev pub place_at : List ℕ → List Token → ℕ → Place
 place_at unit tokens n = place_from unit (start_of tokens 0 0) (start_of tokens n 0)
 
@@ -67,7 +67,7 @@ shape_from [] token = None
 shape_from (fit ∷ fits) token = if fit.token == token then Some fit.shape else shape_from fits token
 
 -- how many tokens of a phrase stand before the sequence that it begins with: the head of a further clause stands
--- behind `|`
+-- after `|`
 abbrev pub before_sequence_in : DeclarationRule → ℕ
 before_sequence_in ClauseMoreBar = 1
 before_sequence_in _ = 0
@@ -76,11 +76,11 @@ abbrev pub before_sequence : Rule → ℕ
 before_sequence (Declarations rule) = before_sequence_in rule
 before_sequence _ = 0
 
--- what a phrase makes by its rule and its first token, before what is made behind it
+-- what a phrase makes by its rule and its first token, before what is made after it
 abbrev pub made_by : Source → Rule → ℕ → List Phrase → Phrase
 made_by s rule n vs = rule_phrase rule (place_at s.unit s.tokens n) (shape_from s.fits (s.begun + (n + before_sequence rule))) vs
 
--- what is made from a node on, by its first token and what is made behind it
+-- what is made from a node on, by its first token and what is made after it
 abbrev pub phrases_from : Source → Node → ℕ → List Phrase → List Phrase
 phrases_from s Leaf n vs = token_phrase s.unit (place_at s.unit s.tokens n) (slice_get s.tokens n) ∷ vs
 phrases_from s (Inner rule) n vs = made_by s rule n vs ∷ drop (length (right_side rule)) vs
@@ -117,7 +117,7 @@ abbrev pub first_fits : List Fitted → List Fit
 first_fits [] = []
 first_fits (fitted ∷ others) = fitted.fits
 
--- the declaration of these nodes, behind so many tokens
+-- the declaration of these nodes, after so many tokens
 abbrev pub bare_dec_at : List ℕ → List Token → ℕ → List Node → List Fitted → Option (TopDec Place)
 bare_dec_at unit tokens n nodes fitted = bare_dec (record { unit = unit; tokens = drop n tokens; begun = n; fits = first_fits fitted }) nodes
 

@@ -138,7 +138,7 @@ impl<'a> Source<'a> {
         })
     }
 
-    /// The place of the n-th token, or of what comes behind them.
+    /// The place of the n-th token, or of what comes after them.
     pub fn place(&self, n: usize) -> Place
         ensures { result ≡ spec.place_at self.now.unit.now self.now.tokens.now n }
     {

@@ -208,14 +208,14 @@ fn declared(
     }
 }
 
-/// The tokens behind so many.
-fn behind<'a>(tokens: &'a [Token], count: usize) -> &'a [Token]
+/// The tokens after so many.
+fn after<'a>(tokens: &'a [Token], count: usize) -> &'a [Token]
     ensures { result.now ≡ drop count tokens.now }
 {
     &tokens[count.min(tokens.len())..]
 }
 
-/// What the sequences of a declaration stand for, behind so many declarations.
+/// What the sequences of a declaration stand for, after so many declarations.
 fn fits_at<'a>(fitted: &'a [Fitted], count: usize) -> &'a [Fit]
     ensures { map fit_of result.now ≡ spec.first_fits (drop count (map fitted_of fitted.now)) }
 {
@@ -225,7 +225,7 @@ fn fits_at<'a>(fitted: &'a [Fitted], count: usize) -> &'a [Fit]
     }
 }
 
-/// The declaration of these nodes behind so many tokens, and behind so many declarations of the unit.
+/// The declaration of these nodes after so many tokens, and after so many declarations of the unit.
 fn declared_at(
     unit: &[u8],
     tokens: &[Token],
@@ -242,7 +242,7 @@ fn declared_at(
 {
     let fits = fits_at(fitted, count);
     let placed = token_count(nodes).saturating_add(1);
-    let source = Source::new(unit, behind(tokens, first), first, fits, placed, tables)?;
+    let source = Source::new(unit, after(tokens, first), first, fits, placed, tables)?;
     declared(&source, names, expander, stack, nodes)
 }
 

@@ -1,4 +1,4 @@
--- Bindings, and others behind them.
+-- Bindings, and others after them.
 use Rattle.std.proofs.Common.{◌≡◌, ℕ, List, [], ◌∷◌, ◌++◌, map, reverse, max, drop, ap, sym, ◌∙◌, refl, arith}
 use Rattle.std.proofs.lemmas.List.{reverse-append, map-append}
 use Rattle.sml_lex.specs.declared.fault.Place.{Place}

@@ -189,7 +189,7 @@ pub functions_made : (v a : List Phrase) (xs : List (Name Place)) (b c : ValBind
 functions_made v a xs b c bs all p none hall hb hbs =
     ap (λ x. of_functions x all) none ∙ ap (of_functions []) (hall ∙ ap (λ x. and_bind x bs) hb ∙ ap (and_bind c) (hbs ∙ ap (λ l. binds_in (first l)) p))
 
--- a clause behind a bar, and others
+-- a clause after a bar, and others
 
 two_drop : (v : List Phrase) → drop 1 (drop 1 v) ≡ drop 2 v
 two_drop [] = refl

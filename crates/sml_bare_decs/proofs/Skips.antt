@@ -1,4 +1,4 @@
--- What is left of a stack behind one phrase more.
+-- What is left of a stack after one phrase more.
 use Rattle.std.proofs.Common.{◌≡◌, ℕ, ◌+◌, List, drop}
 use Rattle.sml_phrases.proofs.Drops.{dropped}
 

@@ -14,7 +14,7 @@ use Rattle.sml_pat_sequences.specs.RoundPatterns.{round_pat}
 use Rattle.sml_pat_sequences.specs.PatternSequences.{pat_place, round_sequence}
 use Rattle.sml_fixity.specs.Shapes.{Shape}
 
--- explicit type variables, the bindings before the first `rec`, and those behind it
+-- explicit type variables, the bindings before the first `rec`, and those after it
 pub record Values : Type 0 where
   pub variables : List (Name Place)
   pub plain : ValBinds Place
@@ -33,7 +33,7 @@ abbrev pub functions_in : Phrase → Functions
 functions_in (of_functions vs bs) = record { variables = vs; binds = bs }
 functions_in _ = record { variables = []; binds = no_bind }
 
--- atomic patterns, and the types behind colons that follow them
+-- atomic patterns, and the types after colons that follow them
 pub record Atoms : Type 0 where
   pub pats : Pats Place
   pub tys : Tys Place
@@ -42,7 +42,7 @@ abbrev pub atoms_in : Phrase → Atoms
 atoms_in (of_atoms qs ts) = record { pats = qs; tys = ts }
 atoms_in _ = record { pats = no_pat; tys = no_ty }
 
--- datatype bindings, and the type bindings behind `withtype`
+-- datatype bindings, and the type bindings after `withtype`
 pub record Datatypes : Type 0 where
   pub datatypes : List (DatBind Place)
   pub types : List (TypBind Place)
@@ -60,7 +60,7 @@ exn_bind_in (of_con_bind x t) = new_exception (record { name = x; argument = t }
 exn_bind_in (of_copy x c) = exception_copy x c
 exn_bind_in _ = new_exception (record { name = name_in nothing; argument = None })
 
--- bindings, and others behind them
+-- bindings, and others after them
 abbrev pub joined : ValBinds Place → ValBinds Place → ValBinds Place
 joined no_bind recs = recs
 joined (and_bind b bs) recs = and_bind b (joined bs recs)
@@ -95,7 +95,7 @@ datatype_from x (Some c) w = of_copy x c
 datatype_from x None (Some w) = of_datatypes (record { variables = []; name = x; constructors = w.constructors } ∷ w.datatypes) w.types
 datatype_from x None None = nothing
 
--- a type constructor without type variables, and what stands behind its `=`
+-- a type constructor without type variables, and what stands after its `=`
 abbrev pub datatype_rest : Name Place → Phrase → Phrase
 datatype_rest x v = datatype_from x (long_if_any v) (constructors_if_any v)
 
@@ -104,11 +104,11 @@ abbrev pub exception_of : Name Place → Option (LongName Place) → Option (Ty 
 exception_of x (Some c) t = of_copy x c
 exception_of x None t = of_con_bind x t
 
--- an exception, and what stands behind it
+-- an exception, and what stands after it
 abbrev pub exn_rest : Name Place → Phrase → Phrase
 exn_rest x v = exception_of x (long_if_any v) (ty_if_any v)
 
--- `val ..` behind `val`, with these explicit type variables
+-- `val ..` after `val`, with these explicit type variables
 abbrev pub with_variables : List (Name Place) → Values → Phrase
 with_variables vs w = of_values vs w.plain w.recursive
 
@@ -127,7 +127,7 @@ and_datatype d w = of_datatypes (d ∷ w.datatypes) w.types
 abbrev pub round_values : Pats Place → Atoms → Exp Place → Values → Phrase
 round_values rs a e w = of_round_values rs a.pats a.tys e w.plain w.recursive
 
--- `val (..` where it is a pattern, from what stands behind the bracket
+-- `val (..` where it is a pattern, from what stands after the bracket
 abbrev pub round_value : Option Shape → Place → Phrase → Phrase
 round_value shape p (of_round_values rs qs ts e bs recs) = of_values [] (and_bind (bind (round_sequence shape (round_pat p rs) qs ts) e) bs) recs
 round_value shape p v = v

@@ -52,7 +52,7 @@ heading (Some (headed Infix)) q qs = infix_head q qs
 heading (Some (headed Bracketed)) q qs = bracketed_head q qs
 heading _ q qs = nameless (and_pat q qs)
 
--- a clause behind its first atomic pattern
+-- a clause after its first atomic pattern
 pub record RightSide : Type 0 where
   pub pats : Pats Place
   pub result : Option (Ty Place)
@@ -76,7 +76,7 @@ function_from shape p q r cs = function_of (heading shape q r.pats).name (clause
 abbrev pub round_rest : Pats Place → RightSide → List (Clause Place) → ValBinds Place → Phrase
 round_rest rs r cs bs = of_round_functions rs r.pats r.result r.body cs bs
 
--- `fun (..`, from what stands behind the bracket
+-- `fun (..`, from what stands after the bracket
 abbrev pub round_functions : Option Shape → Place → Phrase → Phrase
 round_functions shape p (of_round_functions rs qs t e cs bs) = of_functions [] (and_bind (function_from shape p (round_pat p rs) (record { pats = qs; result = t; body = e }) cs) bs)
 round_functions shape p v = v

@@ -62,7 +62,7 @@ fn datatypes_dec(
     stack.put_dec(LowDec { tree, height })
 }
 
-/// `datatype ..` of all kinds, from what stands behind `datatype`.
+/// `datatype ..` of all kinds, from what stands after `datatype`.
 fn datatype_of(stack: &mut Stack, place: Place, rest: Phrase) -> Result<(), Failure>
     ensures { Puts (of_dec (datatype_of place (phrase_of rest))) 0 (seen stack.old) (seen stack.new) result }
 {
@@ -104,7 +104,7 @@ pub fn datatype_before(stack: &mut Stack) -> Result<(), Failure>
     stack.put_datatypes(datatypes, types)
 }
 
-/// A datatype before others, behind `and`.
+/// A datatype before others, after `and`.
 pub fn more_datatypes(stack: &mut Stack) -> Result<(), Failure>
     ensures { let vs = seen stack.old in Puts (and_datatype (record { variables = names_in (at vs 1); name = name_in (at vs 2); constructors = con_binds_in (at vs 4) }) (datatypes_in (at vs 5))) 6 vs (seen stack.new) result }
 {
@@ -126,7 +126,7 @@ pub fn no_dat_bind(stack: &mut Stack) -> Result<(), Failure>
     stack.put_datatypes(datatypes, types)
 }
 
-/// The type bindings behind `withtype`.
+/// The type bindings after `withtype`.
 pub fn with_types(stack: &mut Stack) -> Result<(), Failure>
     ensures { let vs = seen stack.old in Puts (of_datatypes [] (typ_bind_in (at vs 1) ∷ typ_binds_in (at vs 2))) 3 vs (seen stack.new) result }
 {
@@ -159,7 +159,7 @@ fn datatype_from(
     }
 }
 
-/// A type constructor without type variables, and what stands behind its `=`.
+/// A type constructor without type variables, and what stands after its `=`.
 pub fn plain_datatype(stack: &mut Stack) -> Result<(), Failure>
     ensures { let vs = seen stack.old in Puts (datatype_rest (name_in (at vs 0)) (at vs 2)) 3 vs (seen stack.new) result }
 {

@@ -26,7 +26,7 @@ pub fn and_bind(first: LowBind, others: LowBinds) -> Result<LowBinds, Memory>
     Ok(LowBinds { trees, height })
 }
 
-/// Bindings, and others behind them.
+/// Bindings, and others after them.
 pub fn joined(binds: LowBinds, others: LowBinds) -> Result<LowBinds, Memory>
     ensures { IfOk result (λ all. binds_of (map bind_of (reverse all.trees.items)) ≡ joined (binds_of (map bind_of (reverse binds.trees.items))) (binds_of (map bind_of (reverse others.trees.items)))) }
 {

@@ -23,7 +23,7 @@ use sml_tree::names::Name;
 use sml_tree::types::Ty;
 use std::rc::Rc;
 
-/// Explicit type variables, the bindings before the first `rec`, and those behind it.
+/// Explicit type variables, the bindings before the first `rec`, and those after it.
 #[derive(Drop)]
 pub struct Values {
     pub variables: Vec<Name>,
@@ -38,14 +38,14 @@ pub struct Functions {
     pub binds: LowBinds,
 }
 
-/// Atomic patterns, and the types behind colons that follow them.
+/// Atomic patterns, and the types after colons that follow them.
 #[derive(Drop)]
 pub struct Atoms {
     pub pats: LowPats,
     pub tys: LowTys,
 }
 
-/// Datatype bindings, and the type bindings behind `withtype`.
+/// Datatype bindings, and the type bindings after `withtype`.
 #[derive(Drop)]
 pub struct Datatypes {
     pub datatypes: LowDatBinds,
@@ -69,7 +69,7 @@ pub struct LowExnBind {
     ghost low: { height ≤ 4000 },
 }
 
-/// What stands behind an exception: another one that it copies, or the type of its argument, or neither.
+/// What stands after an exception: another one that it copies, or the type of its argument, or neither.
 #[derive(Drop)]
 pub struct ExceptionRest {
     pub copied: Option<LongIdent>,
@@ -84,7 +84,7 @@ pub struct Constructors {
     pub types: LowTypBinds,
 }
 
-/// What stands behind a type constructor: another one that it copies, or its constructors, or neither.
+/// What stands after a type constructor: another one that it copies, or its constructors, or neither.
 #[derive(Drop)]
 pub struct DatatypeRest {
     pub copied: Option<LongIdent>,

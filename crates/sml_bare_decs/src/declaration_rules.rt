@@ -24,12 +24,12 @@ use crate::declaration_parts::{
     pop_typ_bind, pop_values,
 };
 use crate::function_rules::{
-    clause_before, clauses, functions, functions_behind_bracket, functions_of_variable,
+    clause_before, clauses, functions, functions_after_bracket, functions_of_variable,
     functions_of_variables, more_functions, no_clause, no_function, no_pat, pat_before, right_side,
     round_functions,
 };
 use crate::value_rules::{
-    behind_bracket, no_value, of_variable, of_variables, recursive, round_value, value,
+    after_bracket, no_value, of_variable, of_variables, recursive, round_value, value,
 };
 use sml_derived::expander::Expander;
 use sml_fixity::shape::Shape;
@@ -51,7 +51,7 @@ pub fn skip_all(stack: &mut Stack, parts: usize)
     }
 }
 
-/// What the part behind so many others has made.
+/// What the part after so many others has made.
 #[tactic(auto, using(crate::proofs::Skips::skipped))]
 pub fn passed(stack: &mut Stack, before: usize) -> Result<(), Failure>
     ensures { Puts (at (seen stack.old) before) (before + 1) (seen stack.old) (seen stack.new) result }
@@ -112,7 +112,7 @@ fn function_dec(stack: &mut Stack, place: Place) -> Result<(), Failure>
     stack.put_dec(LowDec { tree, height })
 }
 
-/// A type binding, and others behind it.
+/// A type binding, and others after it.
 pub fn typ_binds(stack: &mut Stack) -> Result<LowTypBinds, Failure>
     ensures made { let vs = seen stack.old in Gives (λ bs. map typ_bind_of (reverse bs.trees.items)) (λ bs. low (highest typ_bind_height bs)) (typ_bind_in (at vs 0) ∷ typ_binds_in (at vs 1)) result }
     ensures rest { OnOk result (seen stack.new ≡ drop 2 (seen stack.old)) }
@@ -138,7 +138,7 @@ fn type_dec(stack: &mut Stack, place: Place) -> Result<(), Failure>
     stack.put_dec(LowDec { tree, height })
 }
 
-/// A type binding before others, behind `and`.
+/// A type binding before others, after `and`.
 fn more_types(stack: &mut Stack) -> Result<(), Failure>
     ensures { let vs = seen stack.old in Puts (of_typ_binds (typ_bind_in (at vs 1) ∷ typ_binds_in (at vs 2))) 3 vs (seen stack.new) result }
 {
@@ -168,7 +168,7 @@ fn no_typ_bind(stack: &mut Stack) -> Result<(), Failure>
     stack.put(Phrase::Declarations(DeclarationPhrase::TypBinds(none)))
 }
 
-/// An exception binding, and others behind it.
+/// An exception binding, and others after it.
 fn exn_binds(stack: &mut Stack) -> Result<LowExnBinds, Failure>
     ensures made { let vs = seen stack.old in Gives (λ bs. map exn_bind_of (reverse bs.trees.items)) (λ bs. low (highest exn_bind_height bs)) (exn_bind_in (at vs 0) ∷ exn_binds_in (at vs 1)) result }
     ensures rest { OnOk result (seen stack.new ≡ drop 2 (seen stack.old)) }
@@ -190,7 +190,7 @@ fn exception_dec(stack: &mut Stack, place: Place) -> Result<(), Failure>
     stack.put_dec(LowDec { tree, height })
 }
 
-/// An exception binding before others, behind `and`.
+/// An exception binding before others, after `and`.
 fn more_exceptions(stack: &mut Stack) -> Result<(), Failure>
     ensures { let vs = seen stack.old in Puts (of_exn_binds (exn_bind_in (at vs 1) ∷ exn_binds_in (at vs 2))) 3 vs (seen stack.new) result }
 {
@@ -209,7 +209,7 @@ fn no_exn_bind(stack: &mut Stack) -> Result<(), Failure>
     stack.put(Phrase::Declarations(DeclarationPhrase::ExnBinds(none)))
 }
 
-/// An exception, and what stands behind it.
+/// An exception, and what stands after it.
 fn exn_bind(stack: &mut Stack) -> Result<(), Failure>
     ensures { let vs = seen stack.old in Puts (exn_rest (name_in (at vs 1)) (at vs 2)) 3 vs (seen stack.new) result }
 {
@@ -309,7 +309,7 @@ pub fn declaration_phrase(
         DeclarationRule::ValDecRec | DeclarationRule::ValBindRec => recursive(stack),
         DeclarationRule::ValDecBarePat | DeclarationRule::ValBindPat => value(stack),
         DeclarationRule::ValRoundTypeVariable => of_variables(stack),
-        DeclarationRule::ValRoundPatRound => behind_bracket(stack),
+        DeclarationRule::ValRoundPatRound => after_bracket(stack),
         DeclarationRule::ValMoreNone => no_value(stack),
         DeclarationRule::ValMoreAnd
         | DeclarationRule::TypedColon
@@ -320,7 +320,7 @@ pub fn declaration_phrase(
         DeclarationRule::FunDecOpenRound => round_functions(stack, place, expander, shape),
         DeclarationRule::FunDecBareAtPat => functions(stack, expander, shape),
         DeclarationRule::FunRoundTypeVariable => functions_of_variables(stack),
-        DeclarationRule::FunRoundPatRound => functions_behind_bracket(stack),
+        DeclarationRule::FunRoundPatRound => functions_after_bracket(stack),
         DeclarationRule::ClausesAtPat => clauses(stack, expander, shape),
         DeclarationRule::ClausesMoreNone => no_function(stack),
         DeclarationRule::ClausesMoreAnd => more_functions(stack),

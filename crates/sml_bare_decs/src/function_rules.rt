@@ -227,7 +227,7 @@ pub fn pop_right_side(stack: &mut Stack) -> RightSide
     }
 }
 
-/// A clause behind its first atomic pattern.
+/// A clause after its first atomic pattern.
 pub fn right_side(stack: &mut Stack) -> Result<(), Failure>
     ensures { let vs = seen stack.old in Puts (of_right_side (pats_in (at vs 0)) (ty_if_any (at vs 1)) (exp_in (at vs 3))) 4 vs (seen stack.new) result }
 {
@@ -278,7 +278,7 @@ fn clause_on(stack: &mut Stack, shape: Option<&Shape>) -> Result<LowClause, Fail
     clause_from(stack.alloc, shape, first, right)
 }
 
-/// A clause before others, behind a bar.
+/// A clause before others, after a bar.
 pub fn clause_before(stack: &mut Stack, shape: Option<&Shape>) -> Result<(), Failure>
     ensures { let vs = seen stack.old in Puts (of_clauses (clause_from (option_map (λ s. shape_of s.now) shape.entry) (pat_in (at vs 1)) (right_side_in (at vs 2)) ∷ clauses_in (at vs 3))) 4 vs (seen stack.new) result }
 {
@@ -337,7 +337,7 @@ pub fn no_function(stack: &mut Stack) -> Result<(), Failure>
     stack.put(Phrase::Declarations(DeclarationPhrase::Binds(none)))
 }
 
-/// A function before others, behind `and`.
+/// A function before others, after `and`.
 pub fn more_functions(stack: &mut Stack) -> Result<(), Failure>
     ensures { let vs = seen stack.old in Puts (of_binds (and_bind (bind_in (at vs 1)) (binds_in (at vs 2)))) 3 vs (seen stack.new) result }
 {
@@ -346,7 +346,7 @@ pub fn more_functions(stack: &mut Stack) -> Result<(), Failure>
     stack.put(Phrase::Declarations(DeclarationPhrase::Binds(all)))
 }
 
-/// Functions behind one explicit type variable.
+/// Functions after one explicit type variable.
 pub fn functions_of_variable(stack: &mut Stack) -> Result<(), Failure>
     ensures { let vs = seen stack.old in Puts (of_functions (name_in (at vs 0) ∷ []) (and_bind (bind_in (at vs 1)) (binds_in (at vs 2)))) 3 vs (seen stack.new) result }
 {
@@ -377,7 +377,7 @@ fn all_functions(stack: &mut Stack) -> Result<LowBinds, Memory>
     and_bind(first, others)
 }
 
-/// Functions behind explicit type variables in round brackets, without the first bracket.
+/// Functions after explicit type variables in round brackets, without the first bracket.
 pub fn functions_of_variables(stack: &mut Stack) -> Result<(), Failure>
     ensures { let vs = seen stack.old in Puts (of_functions (name_in (at vs 0) ∷ names_in (at vs 1)) (and_bind (bind_in (at vs 3)) (binds_in (at vs 4)))) 5 vs (seen stack.new) result }
 {
@@ -387,8 +387,8 @@ pub fn functions_of_variables(stack: &mut Stack) -> Result<(), Failure>
     stack.put_functions(variables, functions)
 }
 
-/// What stands behind `fun (` where it is a pattern.
-pub fn functions_behind_bracket(stack: &mut Stack) -> Result<(), Failure>
+/// What stands after `fun (` where it is a pattern.
+pub fn functions_after_bracket(stack: &mut Stack) -> Result<(), Failure>
     ensures { let vs = seen stack.old in Puts (round_rest (pats_in (at vs 0)) (right_side_in (at vs 1)) (clauses_in (at vs 2)) (binds_in (at vs 3))) 4 vs (seen stack.new) result }
 {
     let inner = stack.pats();
@@ -417,7 +417,7 @@ fn round_function(
     stack.put_functions(Vec::new(stack.alloc), all)
 }
 
-/// What stands behind `fun (`, with the pattern in its brackets.
+/// What stands after `fun (`, with the pattern in its brackets.
 fn round_functions_of(
     stack: &mut Stack,
     expander: &Expander,
@@ -439,7 +439,7 @@ fn round_functions_of(
     }
 }
 
-/// Functions behind `fun (`.
+/// Functions after `fun (`.
 pub fn round_functions(
     stack: &mut Stack,
     place: Place,

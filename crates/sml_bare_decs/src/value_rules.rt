@@ -76,7 +76,7 @@ pub fn no_value(stack: &mut Stack) -> Result<(), Failure>
     stack.put_values(Vec::new(stack.alloc), plain, recursive)
 }
 
-/// Bindings behind `rec`.
+/// Bindings after `rec`.
 pub fn recursive(stack: &mut Stack) -> Result<(), Failure>
     ensures { Puts (all_recursive (values_in (at (seen stack.old) 1))) 2 (seen stack.old) (seen stack.new) result }
 {
@@ -94,7 +94,7 @@ pub fn recursive(stack: &mut Stack) -> Result<(), Failure>
     stack.put_values(Vec::new(stack.alloc), none, all)
 }
 
-/// Bindings behind one explicit type variable.
+/// Bindings after one explicit type variable.
 pub fn of_variable(stack: &mut Stack) -> Result<(), Failure>
     ensures { let vs = seen stack.old in Puts (with_variables (name_in (at vs 0) ∷ []) (values_in (at vs 1))) 2 vs (seen stack.new) result }
 {
@@ -108,7 +108,7 @@ pub fn of_variable(stack: &mut Stack) -> Result<(), Failure>
     stack.put_values(variables, plain, recursive)
 }
 
-/// Bindings behind explicit type variables in round brackets, without the first bracket.
+/// Bindings after explicit type variables in round brackets, without the first bracket.
 pub fn of_variables(stack: &mut Stack) -> Result<(), Failure>
     ensures { let vs = seen stack.old in Puts (with_variables (name_in (at vs 0) ∷ names_in (at vs 1)) (values_in (at vs 3))) 4 vs (seen stack.new) result }
 {
@@ -122,8 +122,8 @@ pub fn of_variables(stack: &mut Stack) -> Result<(), Failure>
     stack.put_values(variables, plain, recursive)
 }
 
-/// What stands behind `val (` where it is a pattern.
-pub fn behind_bracket(stack: &mut Stack) -> Result<(), Failure>
+/// What stands after `val (` where it is a pattern.
+pub fn after_bracket(stack: &mut Stack) -> Result<(), Failure>
     ensures { let vs = seen stack.old in Puts (round_values (pats_in (at vs 0)) (atoms_in (at vs 1)) (exp_in (at vs 3)) (values_in (at vs 4))) 5 vs (seen stack.new) result }
 {
     let inner = stack.pats();
@@ -157,7 +157,7 @@ fn round_binding(
     and_value(stack, pat, exp, plain, recursive)
 }
 
-/// What stands behind `val (`, with the pattern in its brackets.
+/// What stands after `val (`, with the pattern in its brackets.
 fn round_value_of(
     stack: &mut Stack,
     expander: &Expander,
@@ -189,7 +189,7 @@ fn round_value_of(
     }
 }
 
-/// Bindings behind `val (`.
+/// Bindings after `val (`.
 pub fn round_value(
     stack: &mut Stack,
     place: Place,

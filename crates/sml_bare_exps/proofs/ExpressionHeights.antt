@@ -29,7 +29,7 @@ all_of_grows : (es : List (Exp Place)) → highest exp_height es ≤ exp_height 
 all_of_grows [] = omega arith
 all_of_grows (e ∷ es) = joined_grows e es
 
--- the types behind an expression
+-- the types after an expression
 
 typed_grows : (p : Place) (e : Exp Place) (ts : Tys Place) → exp_height e ≤ exp_height (typed_by p e ts)
 typed_grows p e no_ty = omega arith

@@ -29,7 +29,7 @@ off m n v a b p q = q ∙ ap (drop n) p ∙ drop-drop n m v
 pub later : (m n : ℕ) (v a : List Phrase) → a ≡ drop m v → at a n ≡ at v (m + n)
 later m n v a p = ap first (ap (drop n) p ∙ drop-drop n m v)
 
--- an expression and those behind it, and the body that they are
+-- an expression and those after it, and the body that they are
 
 pub exps_made : (v a : List Phrase) (e : Exp Place) (es : Exps Place) → a ≡ drop 1 v → e ≡ exp_in (first v) → es ≡ exps_in (first a) → and_exp e es ≡ and_exp (exp_in (at v 0)) (exps_in (at v 1))
 exps_made v a e es p he hes = ap (λ x. and_exp x es) he ∙ ap (and_exp (exp_in (at v 0))) (hes ∙ ap (λ l. exps_in (first l)) p)
@@ -39,20 +39,20 @@ pub body_made : (v a : List Phrase) (q : Place) (e : Exp Place) (es all : Exps P
 body_made v a q e es all p he hes hq hall =
     ap (λ x. series_of x all) (hq ∙ ap (λ x. exp_place x) he) ∙ ap (series_of (exp_place (exp_in (at v 0)))) (hall ∙ exps_made v a e es p he hes)
 
--- a body behind declarations
+-- a body after declarations
 
-body_behind : (v a : List Phrase) → a ≡ drop 2 v → body_of (exp_in (at a 1)) (exps_in (at a 2)) ≡ body_of (exp_in (at v 3)) (exps_in (at v 4))
-body_behind v a p = ap (λ x. body_of (exp_in x) (exps_in (at a 2))) (later 2 1 v a p) ∙ ap (λ x. body_of (exp_in (at v 3)) (exps_in x)) (later 2 2 v a p)
+body_after : (v a : List Phrase) → a ≡ drop 2 v → body_of (exp_in (at a 1)) (exps_in (at a 2)) ≡ body_of (exp_in (at v 3)) (exps_in (at v 4))
+body_after v a p = ap (λ x. body_of (exp_in x) (exps_in (at a 2))) (later 2 1 v a p) ∙ ap (λ x. body_of (exp_in (at v 3)) (exps_in x)) (later 2 2 v a p)
 
 pub let_made : (q : Place) (v a : List Phrase) (ds : Decs Place) (e : Exp Place) → a ≡ drop 2 v → ds ≡ decs_in (at v 1) → e ≡ body_of (exp_in (at a 1)) (exps_in (at a 2))
     → let_in q ds e ≡ let_in q (decs_in (at v 1)) (body_of (exp_in (at v 3)) (exps_in (at v 4)))
-let_made q v a ds e p hds he = ap (λ x. let_in q x e) hds ∙ ap (let_in q (decs_in (at v 1))) (he ∙ body_behind v a p)
+let_made q v a ds e p hds he = ap (λ x. let_in q x e) hds ∙ ap (let_in q (decs_in (at v 1))) (he ∙ body_after v a p)
 
 pub body_in_let : (q : Place) (v a : List Phrase) → a ≡ drop 2 v
     → exp_height (body_of (exp_in (at a 1)) (exps_in (at a 2))) ≤ exp_height (let_in q (decs_in (at v 1)) (body_of (exp_in (at v 3)) (exps_in (at v 4))))
-body_in_let q v a p = let h = ap exp_height (body_behind v a p) in omega (arith, h)
+body_in_let q v a p = let h = ap exp_height (body_after v a p) in omega (arith, h)
 
--- a field before others, which the program has behind them
+-- a field before others, which the program has after them
 
 pub field_pushed : (old new : List ExpField) (f : ExpField) (x : Field Place) → new ≡ old ++ f ∷ [] → field_of f ≡ x → fields_of (map field_of (reverse new)) ≡ and_field x (fields_of (map field_of (reverse old)))
 field_pushed old new f x pushed seen =

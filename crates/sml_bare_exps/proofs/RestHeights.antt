@@ -1,4 +1,4 @@
--- An expression with what stands behind it is at least as high, so that one that is too high stays so.
+-- An expression with what stands after it is at least as high, so that one that is too high stays so.
 use Rattle.std.proofs.Common.{◌≡◌, ◌≤◌, Option, Some, None, Err, arith, ap}
 use Rattle.sml_lex.specs.declared.fault.Place.{Place}
 use Rattle.sml_tree.specs.Expressions.{Exp, Rules}

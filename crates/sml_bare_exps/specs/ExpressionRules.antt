@@ -22,12 +22,12 @@ abbrev pub disjunction : Place → Exp Place → Option (Exp Place) → Exp Plac
 disjunction p e None = e
 disjunction p e (Some o) = orelse_of p e o
 
--- an expression, and perhaps the match behind `handle`
+-- an expression, and perhaps the match after `handle`
 abbrev pub handled : Place → Exp Place → Option (Rules Place) → Exp Place
 handled p e None = e
 handled p e (Some rs) = handle p e rs
 
--- what stands behind an expression's first atomic one: an atomic one before it, and a type before it
+-- what stands after an expression's first atomic one: an atomic one before it, and a type before it
 abbrev pub with_operand : Exp Place → Phrase → Phrase
 with_operand e (of_rest es ts a o rs) = of_rest (and_exp e es) ts a o rs
 with_operand e v = of_exps (and_exp e (exps_in v))
@@ -36,7 +36,7 @@ abbrev pub with_type : Ty Place → Phrase → Phrase
 with_type t (of_rest es ts a o rs) = of_rest es (and_ty t ts) a o rs
 with_type t v = of_rest no_exp (and_ty t no_ty) None None None
 
--- an atomic expression and what stands behind it
+-- an atomic expression and what stands after it
 abbrev pub whole : Place → Option Shape → Exp Place → Phrase → Exp Place
 whole p s e (of_rest es ts a o rs) = handled p (disjunction p (conjunction p (sequence_exp s (and_exp e es) ts) a) o) rs
 whole p s e v = sequence_exp s (and_exp e (exps_in v)) no_ty
@@ -63,13 +63,13 @@ round_of p (of_exp e) = bracket p e
 round_of p (of_series es) = series_of p es
 round_of p v = tuple_of p (exps_in v)
 
--- an expression in round brackets, and what stands behind it
+-- an expression in round brackets, and what stands after it
 abbrev pub round_parts : Exp Place → Phrase → Phrase
 round_parts e nothing = of_exp e
 round_parts e (of_series es) = of_series (and_exp e es)
 round_parts e v = of_exps (and_exp e (exps_in v))
 
--- what stands behind `in`: `e` or `e; ..; z`
+-- what stands after `in`: `e` or `e; ..; z`
 abbrev pub body_of : Exp Place → Exps Place → Exp Place
 body_of e es = series_of (exp_place e) (and_exp e es)
 

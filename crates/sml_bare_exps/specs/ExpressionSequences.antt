@@ -1,4 +1,4 @@
--- What a sequence of atomic expressions stands for: the expression that its steps build on a stack, and the types behind
+-- What a sequence of atomic expressions stands for: the expression that its steps build on a stack, and the types after
 -- it. Each atomic expression is used once. What no right sequence leads to (an operand that lacks, several expressions at
 -- the end) stands for an expression with all the operands that there are. A sequence about which nothing is known stands for
 -- its first expression.
@@ -79,7 +79,7 @@ abbrev pub exp_of_steps : List Step → Building → Exp Place
 exp_of_steps [] b = all_of b.stack
 exp_of_steps (s ∷ ss) b = exp_of_steps ss (after s b)
 
--- an expression and the types behind its colons
+-- an expression and the types after its colons
 abbrev pub typed_by : Place → Exp Place → Tys Place → Exp Place
 typed_by p e no_ty = e
 typed_by p e (and_ty t ts) = typed_by p (typed p e t) ts

@@ -40,7 +40,7 @@ pub fn no_exps(stack: &mut Stack) -> Result<(), Failure>
     stack.put_exps(LowExps { trees, height: 0 })
 }
 
-/// A bracket behind an expression that stands in brackets alone.
+/// A bracket after an expression that stands in brackets alone.
 pub fn alone(stack: &mut Stack) -> Result<(), Failure>
     ensures { Puts nothing 1 (seen stack.old) (seen stack.new) result }
 {
@@ -48,7 +48,7 @@ pub fn alone(stack: &mut Stack) -> Result<(), Failure>
     stack.put_nothing()
 }
 
-/// A bracket or a word behind the last expression.
+/// A bracket or a word after the last expression.
 pub fn last_exp(stack: &mut Stack) -> Result<(), Failure>
     ensures { Puts (of_exps no_exp) 1 (seen stack.old) (seen stack.new) result }
 {
@@ -56,7 +56,7 @@ pub fn last_exp(stack: &mut Stack) -> Result<(), Failure>
     no_exps(stack)
 }
 
-/// Takes an expression and those behind it.
+/// Takes an expression and those after it.
 pub fn taken_exps(stack: &mut Stack) -> Result<LowExps, Memory>
     ensures made { IfOk result (λ es. exps_of (map low_exp_of (reverse es.trees.items)) ≡ and_exp (exp_in (at (seen stack.old) 0)) (exps_in (at (seen stack.old) 1))) }
     ensures rest { OnOk result (seen stack.new ≡ drop 2 (seen stack.old)) }
@@ -66,7 +66,7 @@ pub fn taken_exps(stack: &mut Stack) -> Result<LowExps, Memory>
     Ok(with(exp, exps)?)
 }
 
-/// An expression and those behind it.
+/// An expression and those after it.
 pub fn first_exps(stack: &mut Stack) -> Result<(), Failure>
     ensures { Puts (let vs = seen stack.old in of_exps (and_exp (exp_in (at vs 0)) (exps_in (at vs 1)))) 2 (seen stack.old) (seen stack.new) result }
 {
@@ -74,7 +74,7 @@ pub fn first_exps(stack: &mut Stack) -> Result<(), Failure>
     stack.put_exps(exps)
 }
 
-/// A comma or a semicolon, an expression and those behind it.
+/// A comma or a semicolon, an expression and those after it.
 pub fn more_exps(stack: &mut Stack) -> Result<(), Failure>
     ensures { Puts (let vs = seen stack.old in of_exps (and_exp (exp_in (at vs 1)) (exps_in (at vs 2)))) 3 (seen stack.old) (seen stack.new) result }
 {
@@ -91,7 +91,7 @@ pub fn more_series(stack: &mut Stack) -> Result<(), Failure>
     stack.put(Phrase::Expressions(ExpressionPhrase::Series(exps)))
 }
 
-/// An expression in round brackets, before what stands behind it.
+/// An expression in round brackets, before what stands after it.
 fn with_parts(stack: &mut Stack, exp: LowExp, rest: Phrase) -> Result<(), Failure>
     ensures { Puts (round_parts (low_exp_of exp) (phrase_of rest)) 0 (seen stack.old) (seen stack.new) result }
 {
@@ -236,7 +236,7 @@ pub fn square(expander: &Expander, place: Place, stack: &mut Stack) -> Result<()
     stack.put_exp(exp)
 }
 
-/// What stands behind `in`: `Exp LetMore`.
+/// What stands after `in`: `Exp LetMore`.
 fn body(expander: &Expander, stack: &mut Stack) -> Result<LowExp, Failure>
     ensures made { let vs = seen stack.old in GivesExp (body_of (exp_in (at vs 0)) (exps_in (at vs 1))) result }
     ensures rest { OnOk result (seen stack.new ≡ drop 2 (seen stack.old)) }
@@ -328,7 +328,7 @@ pub fn identifier(place: Place, stack: &mut Stack) -> Result<(), Failure>
 }
 
 /// `op ExpVid`
-pub fn behind_op(place: Place, stack: &mut Stack) -> Result<(), Failure>
+pub fn after_op(place: Place, stack: &mut Stack) -> Result<(), Failure>
     ensures { Puts (of_exp (name place (long_in (at (seen stack.old) 1)))) 2 (seen stack.old) (seen stack.new) result }
 {
     stack.skip();
@@ -358,7 +358,7 @@ pub fn row(place: Place, stack: &mut Stack) -> Result<(), Failure>
     stack.put_exp(LowExp { tree, height })
 }
 
-/// A bracket behind the last field.
+/// A bracket after the last field.
 pub fn last_field(stack: &mut Stack) -> Result<(), Failure>
     ensures { Puts (of_fields no_field) 1 (seen stack.old) (seen stack.new) result }
 {

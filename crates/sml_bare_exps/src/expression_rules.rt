@@ -17,7 +17,7 @@ ghost use Rattle.sml_bare_exps.specs.ExpressionViews.{GivesExp, low_exp_of};
 ghost use Rattle.sml_bare_exps.specs.ExpressionRules.{conjunction, disjunction, expression_phrase};
 
 use crate::atom_rules::{
-    alone, behind_op, constant, first_exps, first_fields, identifier, last_exp, last_field, local,
+    after_op, alone, constant, first_exps, first_fields, identifier, last_exp, last_field, local,
     more_exps, more_fields, more_series, no_exps, numeral, round, round_parts, row, selector,
     short, square, taken_exps,
 };
@@ -106,8 +106,8 @@ fn raising(place: Place, stack: &mut Stack) -> Result<(), Failure>
     stack.put_exp(LowExp { tree, height })
 }
 
-/// A word, and the expression behind it.
-fn behind_word(stack: &mut Stack) -> LowExp
+/// A word, and the expression after it.
+fn after_word(stack: &mut Stack) -> LowExp
     ensures value { low_exp_of result ≡ exp_in (at (seen stack.old) 1) }
     ensures rest { seen stack.new ≡ drop 2 (seen stack.old) }
 {
@@ -115,8 +115,8 @@ fn behind_word(stack: &mut Stack) -> LowExp
     stack.exp()
 }
 
-/// A word, and the match behind it.
-fn match_behind_word(stack: &mut Stack) -> LowRules
+/// A word, and the match after it.
+fn match_after_word(stack: &mut Stack) -> LowRules
     ensures value { rules_of (map rule_of (reverse result.trees.items)) ≡ rules_in (at (seen stack.old) 1) }
     ensures rest { seen stack.new ≡ drop 2 (seen stack.old) }
 {
@@ -124,7 +124,7 @@ fn match_behind_word(stack: &mut Stack) -> LowRules
     stack.rules()
 }
 
-/// `then Exp else Exp` behind a test
+/// `then Exp else Exp` after a test
 fn branches(
     expander: &Expander,
     place: Place,
@@ -134,8 +134,8 @@ fn branches(
     ensures made { let vs = seen stack.old in GivesExp (if_of place (low_exp_of test) (exp_in (at vs 1)) (exp_in (at vs 3))) result }
     ensures rest { OnOk result (seen stack.new ≡ drop 4 (seen stack.old)) }
 {
-    let yes = behind_word(stack);
-    let no = behind_word(stack);
+    let yes = after_word(stack);
+    let no = after_word(stack);
     low_conditional(expander, place, test, yes, no)
 }
 
@@ -144,7 +144,7 @@ fn chosen(expander: &Expander, place: Place, stack: &mut Stack) -> Result<LowExp
     ensures made { let vs = seen stack.old in GivesExp (if_of place (exp_in (at vs 1)) (exp_in (at vs 3)) (exp_in (at vs 5))) result }
     ensures rest { OnOk result (seen stack.new ≡ drop 6 (seen stack.old)) }
 {
-    let test = behind_word(stack);
+    let test = after_word(stack);
     branches(expander, place, test, stack)
 }
 
@@ -161,8 +161,8 @@ fn repetition(expander: &Expander, place: Place, stack: &mut Stack) -> Result<Lo
     ensures made { let vs = seen stack.old in GivesExp (while_of place (exp_in (at vs 1)) (exp_in (at vs 3))) result }
     ensures rest { OnOk result (seen stack.new ≡ drop 4 (seen stack.old)) }
 {
-    let test = behind_word(stack);
-    let body = behind_word(stack);
+    let test = after_word(stack);
+    let body = after_word(stack);
     low_repeat(expander, place, test, body)
 }
 
@@ -179,8 +179,8 @@ fn cases(expander: &Expander, place: Place, stack: &mut Stack) -> Result<LowExp,
     ensures made { let vs = seen stack.old in GivesExp (case_of place (exp_in (at vs 1)) (rules_in (at vs 3))) result }
     ensures rest { OnOk result (seen stack.new ≡ drop 4 (seen stack.old)) }
 {
-    let subject = behind_word(stack);
-    let rules = match_behind_word(stack);
+    let subject = after_word(stack);
+    let rules = match_after_word(stack);
     low_case(expander, place, subject, rules)
 }
 
@@ -263,7 +263,7 @@ pub fn expression_phrase(
         ExpressionRule::AndMoreAndalso
         | ExpressionRule::OrMoreOrelse
         | ExpressionRule::HandleMoreHandle
-        | ExpressionRule::MatchMoreBar => stack.put_behind_word(),
+        | ExpressionRule::MatchMoreBar => stack.put_after_word(),
         ExpressionRule::MoreNone
         | ExpressionRule::TyRestNone
         | ExpressionRule::AndMoreNone
@@ -302,7 +302,7 @@ pub fn expression_phrase(
         ExpressionRule::AtLongAlphanumeric
         | ExpressionRule::AtLongSymbolic
         | ExpressionRule::AtLongStar => identifier(place, stack),
-        ExpressionRule::AtOp => behind_op(place, stack),
+        ExpressionRule::AtOp => after_op(place, stack),
         ExpressionRule::AtOpenCurly => row(place, stack),
         ExpressionRule::AtHash => selector(expander, place, stack),
         ExpressionRule::AtOpenRound => round(expander, place, stack),

@@ -223,7 +223,7 @@ fn typed(alloc: Global, place: Place, exp: LowExp, ty: LowTy) -> Result<LowExp, 
     Ok(LowExp { tree, height })
 }
 
-/// An expression and the types behind its colons, which go from the last to the first.
+/// An expression and the types after its colons, which go from the last to the first.
 fn typed_by(alloc: Global, exp: LowExp, tys: Vec<LowTy>) -> Result<LowExp, Failure>
     ensures { GivesExp (let e = low_exp_of exp in typed_by (exp_place e) e (tys_of (map low_ty_of (reverse tys.items)))) result }
 {
@@ -236,7 +236,7 @@ fn typed_by(alloc: Global, exp: LowExp, tys: Vec<LowTy>) -> Result<LowExp, Failu
     Ok(exp)
 }
 
-/// The expression that atomic expressions and the types behind them stand for. Both go from the last to the first.
+/// The expression that atomic expressions and the types after them stand for. Both go from the last to the first.
 pub fn sequence_exp(
     expander: &Expander,
     shape: Option<&Shape>,

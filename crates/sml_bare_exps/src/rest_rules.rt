@@ -1,4 +1,4 @@
-//! What the rules of what stands behind an expression's first atomic one make of their parts.
+//! What the rules of what stands after an expression's first atomic one make of their parts.
 
 ghost use Rattle.std.specs.Prelude.{◌≡◌, true, map, reverse, drop, Some, None};
 ghost use Rattle.std.specs.Option.{option_map};
@@ -57,7 +57,7 @@ pub fn disjunction(
     }
 }
 
-/// An expression, and perhaps the match behind `handle`.
+/// An expression, and perhaps the match after `handle`.
 fn handled(
     alloc: Global,
     place: Place,
@@ -76,7 +76,7 @@ fn handled(
     Ok(LowExp { tree, height })
 }
 
-/// An expression with what may stand behind its sequence.
+/// An expression with what may stand after its sequence.
 fn operated(
     expander: &Expander,
     place: Place,
@@ -105,7 +105,7 @@ fn completed(
     handled(expander.alloc, place, exp, rules)
 }
 
-/// An atomic expression and what stands behind it, which has types or operators.
+/// An atomic expression and what stands after it, which has types or operators.
 fn whole_rest(
     expander: &Expander,
     place: Place,
@@ -162,7 +162,7 @@ fn single(expander: &Expander, shape: Option<&Shape>, exp: LowExp) -> Result<Low
     }
 }
 
-/// An atomic expression and what stands behind it.
+/// An atomic expression and what stands after it.
 fn whole_exp(
     expander: &Expander,
     place: Place,
@@ -224,7 +224,7 @@ fn untyped(alloc: Global) -> LowTys
     }
 }
 
-/// Puts an atomic expression before what stands behind it.
+/// Puts an atomic expression before what stands after it.
 fn put_with_operand(stack: &mut Stack, exp: LowExp, rest: Phrase) -> Result<(), Failure>
     ensures { Puts (with_operand (low_exp_of exp) (phrase_of rest)) 0 (seen stack.old) (seen stack.new) result }
 {
@@ -246,7 +246,7 @@ fn put_with_operand(stack: &mut Stack, exp: LowExp, rest: Phrase) -> Result<(), 
     }
 }
 
-/// `At More` behind an atomic expression
+/// `At More` after an atomic expression
 pub fn more_operands(stack: &mut Stack) -> Result<(), Failure>
     ensures { Puts (let vs = seen stack.old in with_operand (exp_in (at vs 0)) (at vs 1)) 2 (seen stack.old) (seen stack.new) result }
 {
@@ -255,7 +255,7 @@ pub fn more_operands(stack: &mut Stack) -> Result<(), Failure>
     put_with_operand(stack, exp, rest)
 }
 
-/// Puts a type before what stands behind it.
+/// Puts a type before what stands after it.
 fn put_with_type(stack: &mut Stack, ty: LowTy, rest: Phrase) -> Result<(), Failure>
     ensures { Puts (with_type (low_ty_of ty) (phrase_of rest)) 0 (seen stack.old) (seen stack.new) result }
 {
@@ -290,7 +290,7 @@ pub fn more_types(stack: &mut Stack) -> Result<(), Failure>
     put_with_type(stack, ty, rest)
 }
 
-/// Puts operands of `andalso` and `orelse`, and a match behind them, as far as they are there.
+/// Puts operands of `andalso` and `orelse`, and a match after them, as far as they are there.
 fn put_operands(
     stack: &mut Stack,
     conjunct: Option<LowExp>,

@@ -1,4 +1,4 @@
--- Signature, structure and functor bindings with what belongs to them, and those behind them.
+-- Signature, structure and functor bindings with what belongs to them, and those after them.
 use Rattle.std.proofs.Common.{◌≡◌, ℕ, ◌+◌, ◌≤◌, List, [], ◌∷◌, ◌++◌, Bool, map, max, drop, reverse, Result, refl, ap, sym, ◌∙◌, arith}
 use Rattle.sml_lex.specs.declared.fault.Place.{Place}
 use Rattle.sml_tree.specs.Clauses.{Constraint}

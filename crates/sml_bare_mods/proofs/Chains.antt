@@ -1,4 +1,4 @@
--- Signature expressions with what stands behind `where type`, and structure expressions with constraints behind them,
+-- Signature expressions with what stands after `where type`, and structure expressions with constraints after them,
 -- one after the other.
 use Rattle.std.proofs.Common.{◌≡◌, ℕ, ◌≤◌, List, [], ◌∷◌, ◌++◌, map, max, suc, reverse, false, Err, refl, ap, sym, ◌∙◌, arith}
 use Rattle.std.proofs.lemmas.List.{reverse-append}
@@ -45,13 +45,13 @@ pub failed_equation : {A B : Type 0} (view : B → SigExp Place) (g : A → Wher
 failed_equation view g p old whole left rest w TooHigh popped high e = high_equation g p old whole left rest w popped high e
 failed_equation view g p old whole left rest w Memory popped high e = tt
 
--- a signature expression that is too high makes it too high with equations behind it
+-- a signature expression that is too high makes it too high with equations after it
 pub failed_signature : {A : Type 0} (view : A → SigExp Place) (p : Place) (s : SigExp Place) (ws : List (WhereType Place)) (n : ℕ) (old new : List Phrase) (failure : Failure)
     → Gives view (λ s. low (sig_height s)) s (Err failure) → Puts (of_sig (where_types p s ws)) n old new (Err failure)
 failed_signature view p s ws n old new TooHigh high = still_high (sig_height s) (sig_height (where_types p s ws)) (where_types_grow p s ws) high
 failed_signature view p s ws n old new Memory high = tt
 
--- structure expressions with constraints behind them
+-- structure expressions with constraints after them
 
 constrained_grow : (e : StrExp Place) (cs : List (Constraint Place)) → str_height e ≤ str_height (constrained e cs)
 constrained_grow e [] = omega arith

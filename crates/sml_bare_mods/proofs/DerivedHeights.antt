@@ -31,7 +31,7 @@ pub failed_types : (p : Place) (b : TypBind Place) (bs : List (TypBind Place)) (
 failed_types p b bs h m n old new TooHigh e f high = let g = type_specs_height p b bs in still_high (m + 2) (specs_height (type_specs p b bs)) (omega (arith, e, f, g)) high
 failed_types p b bs h m n old new Memory e f high = tt
 
--- of signature identifiers behind `include`
+-- of signature identifiers after `include`
 included : (p : Place) (x : Name Place) (xs : List (Name Place)) → specs_height (includes p (x ∷ xs)) ≡ 2
 included p x [] = refl
 included p x (y ∷ ys) = let h = included p y ys in omega (arith, h)

@@ -1,4 +1,4 @@
--- A structure description with what belongs to it, and those behind it.
+-- A structure description with what belongs to it, and those after it.
 use Rattle.std.proofs.Common.{◌≡◌, ℕ, ◌≤◌, List, [], ◌∷◌, ◌++◌, map, max, drop, reverse, refl, ap, ◌∙◌, arith}
 use Rattle.sml_lex.specs.declared.fault.Place.{Place}
 use Rattle.sml_tree.specs.Heights.{sig_height, str_descs_height}

@@ -11,7 +11,7 @@ use Rattle.sml_phrases.specs.declared.low.LowWhere.{LowWhere}
 pub pushed : {A B : Type 0} (f : A → B) (old new : List A) (x : A) → new ≡ old ++ x ∷ [] → map f (reverse new) ≡ f x ∷ map f (reverse old)
 pushed f old new x e = ap (λ l. map f (reverse l)) e ∙ ap (map f) (reverse-append old (x ∷ []))
 
--- an equation in front of those that belong to the signature expression before it, with one kind of phrase behind it, and with two
+-- an equation in front of those that belong to the signature expression before it, with one kind of phrase after it, and with two
 pub where_pushed : {R : Type 0} (make : List (WhereType Place) → R → Phrase) (wheres : Phrase → List (WhereType Place)) (rest : Phrase → R) (v a : List Phrase) (old new : List LowWhere) (w : LowWhere) (r : R)
     → a ≡ drop 1 v → new ≡ old ++ w ∷ [] → low_where_of w ≡ where_in (first v) → map low_where_of (reverse old) ≡ wheres (first a) → r ≡ rest (first a)
     → make (map low_where_of (reverse new)) r ≡ make (where_in (at v 0) ∷ wheres (at v 1)) (rest (at v 1))

@@ -1,5 +1,5 @@
 -- What the rules of signature expressions and of signature bindings make of their parts (the Definition, sections 2.8
--- and 3.4): one line a rule, with the place of the phrase and all phrases from its first part on. What stands behind a
+-- and 3.4): one line a rule, with the place of the phrase and all phrases from its first part on. What stands after a
 -- signature expression in a binding is gathered from the end, and belongs to the binding that is met next.
 use Rattle.std.specs.Prelude.{List, [], ◌∷◌}
 use Rattle.sml_lex.specs.declared.fault.Place.{Place}
@@ -16,11 +16,11 @@ sig_place (sig_end p ss) = p
 sig_place (sig_name p x) = p
 sig_place (where_type p s w) = p
 
--- a signature expression with what stands behind `where type`
+-- a signature expression with what stands after `where type`
 abbrev pub with_wheres : SigExp Place → List (WhereType Place) → SigExp Place
 with_wheres s ws = where_types (sig_place s) s ws
 
--- a signature binding with what belongs to it, and those behind it
+-- a signature binding with what belongs to it, and those after it
 abbrev pub sig_binds : Phrase → Phrase → List (SigBind Place)
 sig_binds (of_begun_sig_bind x s) more = record { name = x; signature = with_wheres s (sig_wheres_in more) } ∷ sig_binds_in more
 sig_binds _ more = sig_binds_in more

@@ -1,5 +1,5 @@
 -- What the rules of specifications make of their parts (the Definition, sections 2.8 and 3.4): one line a rule, with the
--- place of the phrase and all phrases from its first part on. What stands behind a signature expression in a structure
+-- place of the phrase and all phrases from its first part on. What stands after a signature expression in a structure
 -- description is gathered from the end, and belongs to the description that is met next.
 use Rattle.std.specs.Prelude.{List, [], ◌∷◌}
 use Rattle.sml_lex.specs.declared.fault.Place.{Place}
@@ -16,35 +16,35 @@ use Rattle.sml_phrases.specs.Phrases.{Phrase, nothing, of_long, of_names, of_lon
 abbrev pub one : Spec Place → Phrase
 one s = of_specs (and_spec s no_spec)
 
--- a type or types behind `type`
+-- a type or types after `type`
 abbrev pub types : Place → Phrase → Phrase
 types p (of_typ_binds (b ∷ bs)) = of_specs (type_specs p b bs)
 types p (of_typ_descs ds) = one (type_spec p ds)
 types p _ = nothing
 
--- what stands behind the first type constructor behind `type`
+-- what stands after the first type constructor after `type`
 abbrev pub type_rest : List (Name Place) → Name Place → Phrase → Phrase
 type_rest xs x (of_type_rest t bs) = of_typ_binds (record { variables = xs; name = x; ty = t } ∷ bs)
 type_rest xs x (of_typ_descs ds) = of_typ_descs (record { variables = xs; name = x } ∷ ds)
 type_rest xs x _ = nothing
 
--- datatypes, or a copy, behind `datatype`
+-- datatypes, or a copy, after `datatype`
 abbrev pub datatypes : Place → Phrase → Phrase
 datatypes p (of_datatypes ds ts) = one (datatype_spec p ds)
 datatypes p (of_copy x c) = one (copy_spec p x c)
 datatypes p _ = nothing
 
--- a datatype and those behind it, from its constructors
+-- a datatype and those after it, from its constructors
 abbrev pub datatype : List (Name Place) → Name Place → Phrase → List (DatBind Place) → Phrase
 datatype xs x cs ds = of_datatypes (record { variables = xs; name = x; constructors = con_binds_in cs } ∷ ds) []
 
--- the same without type variables, or a copy, from what stands behind `=`
+-- the same without type variables, or a copy, from what stands after `=`
 abbrev pub datatype_rest : Name Place → Phrase → Phrase
 datatype_rest x (of_constructors cs ds ts) = of_datatypes (record { variables = []; name = x; constructors = cs } ∷ ds) []
 datatype_rest x (of_long c) = of_copy x c
 datatype_rest x _ = nothing
 
--- a structure description with what belongs to it, and those behind it
+-- a structure description with what belongs to it, and those after it
 abbrev pub str_descs : Phrase → Phrase → StrDescs Place
 str_descs (of_begun_str_desc x s) more = and_str_desc (str_desc x (with_wheres s (desc_wheres_in more))) (str_descs_in more)
 str_descs _ more = str_descs_in more
@@ -52,19 +52,19 @@ str_descs _ more = str_descs_in more
 abbrev pub where_str_desc : Phrase → Phrase → Phrase
 where_str_desc w more = of_str_descs (where_in w ∷ desc_wheres_in more) (str_descs_in more)
 
--- a signature expression or signature identifiers behind `include`
+-- a signature expression or signature identifiers after `include`
 abbrev pub included : Place → Phrase → Phrase
 included p (of_sig s) = one (include_spec p s)
 included p (of_names xs) = of_specs (includes p xs)
 included p _ = nothing
 
--- a signature identifier behind `include`, with what stands behind it
+-- a signature identifier after `include`, with what stands after it
 abbrev pub included_name : Place → Name Place → Phrase → Phrase
 included_name p x (of_wheres ws) = of_sig (where_types p (sig_name p x.id) ws)
 included_name p x (of_names xs) = of_names (x ∷ xs)
 included_name p x _ = nothing
 
--- type constructors or structures behind `sharing`
+-- type constructors or structures after `sharing`
 abbrev pub shared : Place → Phrase → Phrase
 shared p (of_shared_types cs) = one (sharing_types p cs)
 shared p (of_longs cs) = one (sharing_structures p cs)

@@ -1,6 +1,6 @@
 -- What the rules of declarations, of structure-level and of top-level declarations, and of specifications, one after the
 -- other, make of their parts (the Definition, sections 2.8 and 3.4): one line a rule, with the place of the phrase and
--- all phrases from its first part on. The rules of the program's beginning and of what stands behind a top-level
+-- all phrases from its first part on. The rules of the program's beginning and of what stands after a top-level
 -- declaration are no part of a declaration, and make nothing.
 use Rattle.std.specs.Prelude.{List}
 use Rattle.sml_lex.specs.declared.fault.Place.{Place}
@@ -13,7 +13,7 @@ use Rattle.sml_bare_mods.specs.SignatureRules.{sig_binds}
 use Rattle.sml_bare_mods.specs.StructureRules.{str_binds, fun_binds}
 use Rattle.sml_phrases.specs.Phrases.{Phrase, nothing, of_str_dec, of_str_decs, of_decs, of_specs, of_top, dec_in, decs_in, str_dec_in, str_decs_in, specs_in, at}
 
--- specifications, and others behind them
+-- specifications, and others after them
 abbrev pub and_specs : Specs Place → Specs Place → Specs Place
 and_specs no_spec rest = rest
 and_specs (and_spec s ss) rest = and_spec s (and_specs ss rest)

@@ -32,7 +32,7 @@ fn put_specs(stack: &mut Stack, trees: Vec<Spec>, height: u32) -> Result<(), Fai
     stack.put_specs(LowSpecs { trees, height })
 }
 
-/// What stands behind `type`.
+/// What stands after `type`.
 pub fn types(stack: &mut Stack, place: Place, expander: &Expander) -> Result<(), Failure>
     ensures { Puts (types place (at (seen stack.old) 1)) 2 (seen stack.old) (seen stack.new) result }
 {
@@ -65,7 +65,7 @@ fn types_of(
     }
 }
 
-/// `type .. = ..`, perhaps with others behind `and`.
+/// `type .. = ..`, perhaps with others after `and`.
 fn equations(
     stack: &mut Stack,
     expander: &Expander,
@@ -105,7 +105,7 @@ fn type_specs(
     }
 }
 
-/// What stands behind `include`.
+/// What stands after `include`.
 pub fn included(stack: &mut Stack, place: Place, expander: &Expander) -> Result<(), Failure>
     ensures { Puts (included place (at (seen stack.old) 1)) 2 (seen stack.old) (seen stack.new) result }
 {
@@ -136,7 +136,7 @@ fn included_of(
     }
 }
 
-/// Signature identifiers behind `include`, which go from the last to the first.
+/// Signature identifiers after `include`, which go from the last to the first.
 #[tactic(auto, using(crate::proofs::DerivedHeights::included_none, crate::proofs::DerivedHeights::included_some))]
 fn includes(
     stack: &mut Stack,

@@ -9,7 +9,7 @@ ghost use Rattle.sml_derived.specs.Derived.{open_functor};
 ghost use Rattle.sml_phrases.specs.PhraseHeights.{low};
 ghost use Rattle.sml_phrases.specs.Phrases.{of_fun_binds, of_functor_argument, at, constraints_in, name_in, sig_in, str_in};
 ghost use Rattle.sml_phrases.specs.PhraseViews.{Gives, Puts, low_constraint_of, phrase_of, seen};
-ghost use Rattle.sml_bare_mods.specs.StructureRules.{behind_fun_bind, fun_binds, begun_fun_bind, where_fun_bind};
+ghost use Rattle.sml_bare_mods.specs.StructureRules.{after_fun_bind, fun_binds, begun_fun_bind, where_fun_bind};
 
 use crate::module_stack::{pop_constraints, pop_fun_binds, pop_where_type};
 use crate::structure_rules::{and_constraint, bound};
@@ -69,7 +69,7 @@ fn begun_fun_bind_of(
     }
 }
 
-/// `functor F (spec) .. = e`, behind others, from `e ..`.
+/// `functor F (spec) .. = e`, after others, from `e ..`.
 fn and_open_functor(
     expander: &Expander,
     name: Name,
@@ -117,7 +117,7 @@ fn and_fun_bind(
     })
 }
 
-/// A functor binding with the constraints that belong to it, and those behind it.
+/// A functor binding with the constraints that belong to it, and those after it.
 pub fn fun_binds(stack: &mut Stack, expander: &Expander) -> Result<LowFunBinds, Failure>
     ensures made { let vs = seen stack.old in Gives (λ (bs : LowFunBinds). map fun_bind_of (reverse bs.trees.items)) (λ bs. low (highest fun_bind_height bs)) (fun_binds (at vs 0) (at vs 1)) result }
     ensures rest { OnOk result (seen stack.new ≡ drop 2 (seen stack.old)) }
@@ -140,7 +140,7 @@ pub fn fun_binds(stack: &mut Stack, expander: &Expander) -> Result<LowFunBinds, 
     }
 }
 
-/// The same behind a functor binding.
+/// The same after a functor binding.
 pub fn and_fun_binds(stack: &mut Stack, expander: &Expander) -> Result<(), Failure>
     ensures { let vs = seen stack.old in Puts (of_fun_binds [] [] (fun_binds (at vs 0) (at vs 1))) 2 vs (seen stack.new) result }
 {
@@ -148,7 +148,7 @@ pub fn and_fun_binds(stack: &mut Stack, expander: &Expander) -> Result<(), Failu
     stack.put_fun_binds(Vec::new(stack.alloc), Vec::new(stack.alloc), binds)
 }
 
-/// Nothing behind a functor binding.
+/// Nothing after a functor binding.
 pub fn no_fun_binds(stack: &mut Stack) -> Result<(), Failure>
     ensures { Puts (of_fun_binds [] [] []) 0 (seen stack.old) (seen stack.new) result }
 {
@@ -159,9 +159,9 @@ pub fn no_fun_binds(stack: &mut Stack) -> Result<(), Failure>
     stack.put_fun_binds(Vec::new(stack.alloc), Vec::new(stack.alloc), binds)
 }
 
-/// A constraint behind a functor binding, and what stands behind it.
-pub fn behind_fun_bind(stack: &mut Stack) -> Result<(), Failure>
-    ensures { let vs = seen stack.old in Puts (behind_fun_bind (at vs 0) (at vs 1)) 2 vs (seen stack.new) result }
+/// A constraint after a functor binding, and what stands after it.
+pub fn after_fun_bind(stack: &mut Stack) -> Result<(), Failure>
+    ensures { let vs = seen stack.old in Puts (after_fun_bind (at vs 0) (at vs 1)) 2 vs (seen stack.new) result }
 {
     let (_none, first) = pop_constraints(stack);
     let (equations, others, binds) = pop_fun_binds(stack);
@@ -169,7 +169,7 @@ pub fn behind_fun_bind(stack: &mut Stack) -> Result<(), Failure>
     stack.put_fun_binds(Vec::new(stack.alloc), constraints, binds)
 }
 
-/// An equation of the signature expression before it, and what stands behind it.
+/// An equation of the signature expression before it, and what stands after it.
 pub fn where_fun_bind(stack: &mut Stack) -> Result<(), Failure>
     ensures { let vs = seen stack.old in Puts (where_fun_bind (at vs 0) (at vs 1)) 2 vs (seen stack.new) result }
 {

@@ -60,7 +60,7 @@ pub fn pop_val_desc(stack: &mut Stack) -> Result<(Name, LowTy), Memory>
     }
 }
 
-/// Datatypes, without the types behind `withtype`.
+/// Datatypes, without the types after `withtype`.
 pub fn pop_dat_binds(stack: &mut Stack) -> LowDatBinds
     ensures value { map dat_bind_of (reverse result.trees.items) ≡ dat_binds_in (first (seen stack.old)) }
     ensures rest { seen stack.new ≡ drop 1 (seen stack.old) }
@@ -152,7 +152,7 @@ pub fn pop_str_descs(stack: &mut Stack) -> (Vec<LowWhere>, LowStrDescs)
     }
 }
 
-/// What belongs to the signature expression before it, and the constraints behind that.
+/// What belongs to the signature expression before it, and the constraints after that.
 pub fn pop_constraints(stack: &mut Stack) -> (Vec<LowWhere>, Vec<LowConstraint>)
     ensures wheres { map low_where_of (reverse result.0.items) ≡ constraint_wheres_in (first (seen stack.old)) }
     ensures constraints { map low_constraint_of (reverse result.1.items) ≡ constraints_in (first (seen stack.old)) }
@@ -170,7 +170,7 @@ pub fn pop_constraints(stack: &mut Stack) -> (Vec<LowWhere>, Vec<LowConstraint>)
     }
 }
 
-/// What belongs to the signature expression before it, the constraints behind that, and further structure bindings.
+/// What belongs to the signature expression before it, the constraints after that, and further structure bindings.
 pub fn pop_str_binds(stack: &mut Stack) -> (Vec<LowWhere>, Vec<LowConstraint>, LowStrBinds)
     ensures wheres { map low_where_of (reverse result.0.items) ≡ str_wheres_in (first (seen stack.old)) }
     ensures constraints { map low_constraint_of (reverse result.1.items) ≡ str_constraints_in (first (seen stack.old)) }
@@ -197,7 +197,7 @@ pub fn pop_str_binds(stack: &mut Stack) -> (Vec<LowWhere>, Vec<LowConstraint>, L
     }
 }
 
-/// What belongs to the signature expression before it, the constraints behind that, and further functor bindings.
+/// What belongs to the signature expression before it, the constraints after that, and further functor bindings.
 pub fn pop_fun_binds(stack: &mut Stack) -> (Vec<LowWhere>, Vec<LowConstraint>, LowFunBinds)
     ensures wheres { map low_where_of (reverse result.0.items) ≡ fun_wheres_in (first (seen stack.old)) }
     ensures constraints { map low_constraint_of (reverse result.1.items) ≡ fun_constraints_in (first (seen stack.old)) }

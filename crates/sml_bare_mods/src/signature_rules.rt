@@ -78,7 +78,7 @@ pub fn where_types(
     Ok(whole)
 }
 
-/// A signature expression with what stands behind `where type`.
+/// A signature expression with what stands after `where type`.
 pub fn with_wheres(
     alloc: Global,
     signature: LowSig,
@@ -89,7 +89,7 @@ pub fn with_wheres(
     where_types(alloc, sig_place(&signature.tree), signature, equations)
 }
 
-/// A signature expression and what stands behind it.
+/// A signature expression and what stands after it.
 fn signature(stack: &mut Stack) -> Result<(), Failure>
     ensures { let vs = seen stack.old in Puts (of_sig (with_wheres (sig_in (at vs 0)) (wheres_in (at vs 1)))) 2 vs (seen stack.new) result }
 {
@@ -127,7 +127,7 @@ fn no_wheres(stack: &mut Stack) -> Result<(), Failure>
     stack.put(Phrase::Signatures(SignaturePhrase::Wheres(Vec::new(stack.alloc))))
 }
 
-/// An equation behind a word, and those behind it.
+/// An equation after a word, and those after it.
 fn and_where(stack: &mut Stack) -> Result<(), Failure>
     ensures { let vs = seen stack.old in Puts (of_wheres (where_in (at vs 1) ∷ wheres_in (at vs 2))) 3 vs (seen stack.new) result }
 {
@@ -137,7 +137,7 @@ fn and_where(stack: &mut Stack) -> Result<(), Failure>
     put_wheres(stack, equation, equations)
 }
 
-/// An equation, and those behind it.
+/// An equation, and those after it.
 fn put_wheres(
     stack: &mut Stack,
     equation: LowWhere,
@@ -172,7 +172,7 @@ fn begun_sig_bind(stack: &mut Stack) -> Result<(), Failure>
     stack.put(Phrase::Signatures(SignaturePhrase::BegunSigBind(name, signature)))
 }
 
-/// Nothing behind a signature binding.
+/// Nothing after a signature binding.
 fn no_sig_binds(stack: &mut Stack) -> Result<(), Failure>
     ensures { Puts (of_sig_binds [] []) 0 (seen stack.old) (seen stack.new) result }
 {
@@ -183,7 +183,7 @@ fn no_sig_binds(stack: &mut Stack) -> Result<(), Failure>
     stack.put(Phrase::Signatures(SignaturePhrase::SigBinds(Vec::new(stack.alloc), binds)))
 }
 
-/// An equation of the signature binding before it, and what stands behind that.
+/// An equation of the signature binding before it, and what stands after that.
 fn sig_bind_where(stack: &mut Stack) -> Result<(), Failure>
     ensures { let vs = seen stack.old in Puts (of_sig_binds (where_in (at vs 0) ∷ sig_wheres_in (at vs 1)) (sig_binds_in (at vs 1))) 2 vs (seen stack.new) result }
 {
@@ -193,7 +193,7 @@ fn sig_bind_where(stack: &mut Stack) -> Result<(), Failure>
     stack.put(Phrase::Signatures(SignaturePhrase::SigBinds(equations, binds)))
 }
 
-/// A signature binding with what belongs to it, and those behind it.
+/// A signature binding with what belongs to it, and those after it.
 pub fn sig_binds(stack: &mut Stack) -> Result<LowSigBinds, Failure>
     ensures made { let vs = seen stack.old in Gives (λ (bs : LowSigBinds). map sig_bind_of (reverse bs.trees.items)) (λ bs. low (highest sig_bind_height bs)) (sig_binds (at vs 0) (at vs 1)) result }
     ensures rest { OnOk result (seen stack.new ≡ drop 2 (seen stack.old)) }
@@ -220,7 +220,7 @@ pub fn sig_binds(stack: &mut Stack) -> Result<LowSigBinds, Failure>
     }
 }
 
-/// The same behind a signature binding.
+/// The same after a signature binding.
 fn and_sig_binds(stack: &mut Stack) -> Result<(), Failure>
     ensures { let vs = seen stack.old in Puts (of_sig_binds [] (sig_binds (at vs 0) (at vs 1))) 2 vs (seen stack.new) result }
 {
@@ -254,6 +254,6 @@ pub fn signature_phrase(rule: SignatureRule, place: Place, stack: &mut Stack) ->
             and_sig_binds(stack)
         }
         SignatureRule::SigBindAndSigBind => and_sig_binds(stack),
-        SignatureRule::SigBindWhereAnd => { stack.put_behind_word() }
+        SignatureRule::SigBindWhereAnd => { stack.put_after_word() }
     }
 }

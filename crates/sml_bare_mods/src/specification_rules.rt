@@ -57,7 +57,7 @@ fn val_spec(stack: &mut Stack, place: Place) -> Result<(), Failure>
     one(stack, Spec::Value(place, trees), height)
 }
 
-/// A variable and its type, and those behind it.
+/// A variable and its type, and those after it.
 fn and_val_desc(stack: &mut Stack) -> Result<LowValDescs, Failure>
     ensures made { let vs = seen stack.old in Gives (λ (ds : LowValDescs). map val_desc_of (reverse ds.trees.items)) (λ ds. low (highest val_desc_height ds)) (val_desc_in (at vs 0) ∷ val_descs_in (at vs 1)) result }
     ensures rest { OnOk result (seen stack.new ≡ drop 2 (seen stack.old)) }
@@ -71,7 +71,7 @@ fn and_val_desc(stack: &mut Stack) -> Result<LowValDescs, Failure>
     })
 }
 
-/// `and ..` behind a variable and its type.
+/// `and ..` after a variable and its type.
 fn val_descs(stack: &mut Stack) -> Result<(), Failure>
     ensures { let vs = seen stack.old in Puts (of_val_descs (val_desc_in (at vs 1) ∷ val_descs_in (at vs 2))) 3 vs (seen stack.new) result }
 {
@@ -90,7 +90,7 @@ fn val_desc(stack: &mut Stack) -> Result<(), Failure>
     stack.put(Phrase::Signatures(SignaturePhrase::ValDesc(name, ty)))
 }
 
-/// A type constructor, and what stands behind it.
+/// A type constructor, and what stands after it.
 fn type_rest(stack: &mut Stack) -> Result<(), Failure>
     ensures { let vs = seen stack.old in Puts (type_rest (names_in (at vs 0)) (name_in (at vs 1)) (at vs 2)) 3 vs (seen stack.new) result }
 {
@@ -135,7 +135,7 @@ fn type_rest_of(
     }
 }
 
-/// `= ..` behind a type constructor.
+/// `= ..` after a type constructor.
 fn type_equals(stack: &mut Stack) -> Result<(), Failure>
     ensures { let vs = seen stack.old in Puts (of_type_rest (ty_in (at vs 1)) (typ_binds_in (at vs 2))) 3 vs (seen stack.new) result }
 {
@@ -145,7 +145,7 @@ fn type_equals(stack: &mut Stack) -> Result<(), Failure>
     stack.put(Phrase::Signatures(SignaturePhrase::TypeRest(ty, binds)))
 }
 
-/// A type description behind a word, and those behind it.
+/// A type description after a word, and those after it.
 fn typ_descs(stack: &mut Stack) -> Result<Vec<TypDesc>, Failure>
     ensures made { let vs = seen stack.old in IfOk result (λ ds. map typ_desc_of (reverse ds.items) ≡ record { variables = names_in (at vs 1); name = name_in (at vs 2) } ∷ typ_descs_in (at vs 3)) }
     ensures failure { IfErr result (λ e. e ≡ Memory) }
@@ -169,7 +169,7 @@ fn eqtype_spec(stack: &mut Stack, place: Place) -> Result<(), Failure>
     one(stack, Spec::Eqtype(place, descs), 1)
 }
 
-/// `and ..` behind a type description.
+/// `and ..` after a type description.
 fn and_typ_desc(stack: &mut Stack) -> Result<(), Failure>
     ensures { let vs = seen stack.old in Puts (of_typ_descs (record { variables = names_in (at vs 1); name = name_in (at vs 2) } ∷ typ_descs_in (at vs 3))) 4 vs (seen stack.new) result }
 {
@@ -177,7 +177,7 @@ fn and_typ_desc(stack: &mut Stack) -> Result<(), Failure>
     stack.put(Phrase::Signatures(SignaturePhrase::TypDescs(descs)))
 }
 
-/// What stands behind `datatype`.
+/// What stands after `datatype`.
 fn datatypes(stack: &mut Stack, place: Place) -> Result<(), Failure>
     ensures { Puts (datatypes place (at (seen stack.old) 1)) 2 (seen stack.old) (seen stack.new) result }
 {
@@ -208,7 +208,7 @@ fn datatypes_of(stack: &mut Stack, place: Place, phrase: Phrase) -> Result<(), F
     }
 }
 
-/// A type constructor, `=`, constructors, and the datatypes behind them.
+/// A type constructor, `=`, constructors, and the datatypes after them.
 fn datatype(stack: &mut Stack) -> Result<(), Failure>
     ensures { let vs = seen stack.old in Puts (datatype (names_in (at vs 0)) (name_in (at vs 1)) (at vs 3) (dat_binds_in (at vs 4))) 5 vs (seen stack.new) result }
 {
@@ -243,7 +243,7 @@ fn and_datatype(
     put_datatypes(stack, LowDatBinds { trees, height })
 }
 
-/// Datatypes with no types behind `withtype`.
+/// Datatypes with no types after `withtype`.
 fn put_datatypes(stack: &mut Stack, datatypes: LowDatBinds) -> Result<(), Failure>
     ensures { Puts (of_datatypes (map dat_bind_of (reverse datatypes.trees.items)) []) 0 (seen stack.old) (seen stack.new) result }
 {
@@ -254,7 +254,7 @@ fn put_datatypes(stack: &mut Stack, datatypes: LowDatBinds) -> Result<(), Failur
     stack.put_datatypes(datatypes, types)
 }
 
-/// A type constructor, `=`, and what stands behind that.
+/// A type constructor, `=`, and what stands after that.
 fn datatype_rest(stack: &mut Stack) -> Result<(), Failure>
     ensures { let vs = seen stack.old in Puts (datatype_rest (name_in (at vs 0)) (at vs 2)) 3 vs (seen stack.new) result }
 {
@@ -279,7 +279,7 @@ fn datatype_rest_of(stack: &mut Stack, name: Name, rest: Phrase) -> Result<(), F
     }
 }
 
-/// Constructors, and the datatypes behind them.
+/// Constructors, and the datatypes after them.
 fn constructors(stack: &mut Stack) -> Result<(), Failure>
     ensures { let vs = seen stack.old in Puts (of_constructors (con_binds_in (at vs 0)) (dat_binds_in (at vs 1)) []) 2 vs (seen stack.new) result }
 {
@@ -292,7 +292,7 @@ fn constructors(stack: &mut Stack) -> Result<(), Failure>
     stack.put(Phrase::Declarations(DeclarationPhrase::Constructors(constructors, datatypes, types)))
 }
 
-/// A constructor, and those behind it.
+/// A constructor, and those after it.
 fn con_binds(stack: &mut Stack) -> Result<(), Failure>
     ensures { let vs = seen stack.old in Puts (of_con_binds (record { name = name_in (at vs 0); argument = ty_if_any (at vs 1) } ∷ con_binds_in (at vs 2))) 3 vs (seen stack.new) result }
 {
@@ -337,7 +337,7 @@ fn con_bind(stack: &mut Stack) -> Result<(), Failure>
     stack.put(Phrase::Declarations(DeclarationPhrase::ConBind(name, ty)))
 }
 
-/// An exception behind a word, and those behind it.
+/// An exception after a word, and those after it.
 fn exceptions(stack: &mut Stack) -> Result<LowConBinds, Failure>
     ensures made { let vs = seen stack.old in Gives (λ (cs : LowConBinds). map con_bind_of (reverse cs.trees.items)) (λ cs. low (highest con_bind_height cs)) (con_bind_in (at vs 1) ∷ con_binds_in (at vs 2)) result }
     ensures rest { OnOk result (seen stack.new ≡ drop 3 (seen stack.old)) }
@@ -357,7 +357,7 @@ fn exception_spec(stack: &mut Stack, place: Place) -> Result<(), Failure>
     one(stack, Spec::Exception(place, trees), height)
 }
 
-/// `and ..` behind an exception.
+/// `and ..` after an exception.
 fn and_exception(stack: &mut Stack) -> Result<(), Failure>
     ensures { let vs = seen stack.old in Puts (of_con_binds (con_bind_in (at vs 1) ∷ con_binds_in (at vs 2))) 3 vs (seen stack.new) result }
 {
@@ -375,7 +375,7 @@ fn begun_str_desc(stack: &mut Stack) -> Result<(), Failure>
     stack.put(Phrase::Signatures(SignaturePhrase::BegunStrDesc(name, signature)))
 }
 
-/// An equation of the structure description before it, and what stands behind that.
+/// An equation of the structure description before it, and what stands after that.
 fn where_str_desc(stack: &mut Stack) -> Result<(), Failure>
     ensures { let vs = seen stack.old in Puts (where_str_desc (at vs 0) (at vs 1)) 2 vs (seen stack.new) result }
 {
@@ -385,7 +385,7 @@ fn where_str_desc(stack: &mut Stack) -> Result<(), Failure>
     stack.put(Phrase::Signatures(SignaturePhrase::StrDescs(equations, descs)))
 }
 
-/// A structure description with what belongs to it, and those behind it.
+/// A structure description with what belongs to it, and those after it.
 fn str_descs(stack: &mut Stack) -> Result<LowStrDescs, Failure>
     ensures made { let vs = seen stack.old in Gives (λ (ds : LowStrDescs). str_descs_of (map str_desc_of (reverse ds.trees.items))) (λ ds. low (str_descs_height ds)) (str_descs (at vs 0) (at vs 1)) result }
     ensures rest { OnOk result (seen stack.new ≡ drop 2 (seen stack.old)) }
@@ -412,7 +412,7 @@ fn str_descs(stack: &mut Stack) -> Result<LowStrDescs, Failure>
     }
 }
 
-/// The same behind a structure description.
+/// The same after a structure description.
 fn and_str_descs(stack: &mut Stack) -> Result<(), Failure>
     ensures { let vs = seen stack.old in Puts (of_str_descs [] (str_descs (at vs 0) (at vs 1))) 2 vs (seen stack.new) result }
 {
@@ -431,7 +431,7 @@ fn structure_spec(stack: &mut Stack, place: Place) -> Result<(), Failure>
     one(stack, Spec::Structure(place, trees), height)
 }
 
-/// `sig .. end` behind `include`, with what stands behind it.
+/// `sig .. end` after `include`, with what stands after it.
 fn included_sig(stack: &mut Stack, place: Place) -> Result<(), Failure>
     ensures { let vs = seen stack.old in Puts (of_sig (where_types place (sig_end place (specs_in (at vs 1))) (wheres_in (at vs 3)))) 4 vs (seen stack.new) result }
 {
@@ -445,13 +445,13 @@ fn included_sig(stack: &mut Stack, place: Place) -> Result<(), Failure>
     }
 }
 
-/// A signature identifier behind `include`, with what stands behind it.
+/// A signature identifier after `include`, with what stands after it.
 fn included_name(stack: &mut Stack, place: Place) -> Result<(), Failure>
     ensures { let vs = seen stack.old in Puts (included_name place (name_in (at vs 0)) (at vs 1)) 2 vs (seen stack.new) result }
 {
     let name = stack.name()?;
-    let behind = stack.pop();
-    included_name_of(stack, place, name, behind)
+    let after = stack.pop();
+    included_name_of(stack, place, name, after)
 }
 
 /// The same from the parts.
@@ -459,11 +459,11 @@ fn included_name_of(
     stack: &mut Stack,
     place: Place,
     name: Name,
-    behind: Phrase,
+    after: Phrase,
 ) -> Result<(), Failure>
-    ensures { Puts (included_name place (name_of name) (phrase_of behind)) 0 (seen stack.old) (seen stack.new) result }
+    ensures { Puts (included_name place (name_of name) (phrase_of after)) 0 (seen stack.old) (seen stack.new) result }
 {
-    match behind {
+    match after {
         Phrase::Signatures(SignaturePhrase::Wheres(equations)) => {
             let signature = LowSig {
                 tree: SigExp::Identifier(place, name.ident),
@@ -483,7 +483,7 @@ fn included_name_of(
     }
 }
 
-/// A signature identifier, and those behind it.
+/// A signature identifier, and those after it.
 fn names(stack: &mut Stack) -> Result<(), Failure>
     ensures { let vs = seen stack.old in Puts (of_names (name_in (at vs 0) ∷ names_in (at vs 1))) 2 vs (seen stack.new) result }
 {
@@ -493,7 +493,7 @@ fn names(stack: &mut Stack) -> Result<(), Failure>
     stack.put_names(names)
 }
 
-/// What stands behind `sharing`.
+/// What stands after `sharing`.
 fn shared(stack: &mut Stack, place: Place) -> Result<(), Failure>
     ensures { Puts (shared place (at (seen stack.old) 1)) 2 (seen stack.old) (seen stack.new) result }
 {
@@ -522,7 +522,7 @@ fn shared_of(stack: &mut Stack, place: Place, phrase: Phrase) -> Result<(), Fail
     }
 }
 
-/// A long identifier, a word, another one, and those behind it.
+/// A long identifier, a word, another one, and those after it.
 fn two_longs(stack: &mut Stack) -> Result<Vec<LongIdent>, Failure>
     ensures made { let vs = seen stack.old in IfOk result (λ cs. map long_name_of (reverse cs.items) ≡ long_in (at vs 0) ∷ long_in (at vs 2) ∷ longs_in (at vs 3)) }
     ensures failure { IfErr result (λ e. e ≡ Memory) }
@@ -530,11 +530,11 @@ fn two_longs(stack: &mut Stack) -> Result<Vec<LongIdent>, Failure>
 {
     let first = stack.long()?;
     stack.skip();
-    let behind = long_and_longs(stack)?;
-    and_long(first, behind)
+    let after = long_and_longs(stack)?;
+    and_long(first, after)
 }
 
-/// A long identifier, and those behind it.
+/// A long identifier, and those after it.
 fn long_and_longs(stack: &mut Stack) -> Result<Vec<LongIdent>, Failure>
     ensures made { let vs = seen stack.old in IfOk result (λ cs. map long_name_of (reverse cs.items) ≡ long_in (at vs 0) ∷ longs_in (at vs 1)) }
     ensures failure { IfErr result (λ e. e ≡ Memory) }
@@ -554,7 +554,7 @@ fn and_long(long: LongIdent, longs: Vec<LongIdent>) -> Result<Vec<LongIdent>, Fa
     Ok(longs)
 }
 
-/// Type constructors behind `sharing type`.
+/// Type constructors after `sharing type`.
 fn shared_types(stack: &mut Stack) -> Result<(), Failure>
     ensures { let vs = seen stack.old in Puts (of_shared_types (long_in (at vs 1) ∷ long_in (at vs 3) ∷ longs_in (at vs 4))) 5 vs (seen stack.new) result }
 {
@@ -563,7 +563,7 @@ fn shared_types(stack: &mut Stack) -> Result<(), Failure>
     stack.put(Phrase::Signatures(SignaturePhrase::SharedTypes(longs)))
 }
 
-/// Structures behind `sharing`.
+/// Structures after `sharing`.
 fn shared_structures(stack: &mut Stack) -> Result<(), Failure>
     ensures { let vs = seen stack.old in Puts (of_longs (long_in (at vs 0) ∷ long_in (at vs 2) ∷ longs_in (at vs 3))) 4 vs (seen stack.new) result }
 {
@@ -571,7 +571,7 @@ fn shared_structures(stack: &mut Stack) -> Result<(), Failure>
     stack.put_longs(longs)
 }
 
-/// A long identifier behind `=`, and those behind it.
+/// A long identifier after `=`, and those after it.
 fn longs(stack: &mut Stack) -> Result<(), Failure>
     ensures { let vs = seen stack.old in Puts (of_longs (long_in (at vs 1) ∷ longs_in (at vs 2))) 3 vs (seen stack.new) result }
 {
@@ -668,7 +668,7 @@ pub fn specification_phrase(
         SpecificationRule::DatSpecRestDatatype
         | SpecificationRule::ConSpecsMoreBar
         | SpecificationRule::OfTyOf
-        | SpecificationRule::StrSpecWhereAnd => stack.put_behind_word(),
+        | SpecificationRule::StrSpecWhereAnd => stack.put_after_word(),
         SpecificationRule::OfTyNone => stack.put_nothing(),
         SpecificationRule::ExnSpecVid => con_bind(stack),
         SpecificationRule::ExnSpecMoreAnd => and_exception(stack),

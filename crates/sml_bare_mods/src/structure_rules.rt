@@ -10,10 +10,10 @@ ghost use Rattle.sml_read.specs.declared.grammar.Rule.TheVariants.{Structures};
 ghost use Rattle.sml_phrases.specs.PhraseHeights.{constraint_height, low};
 ghost use Rattle.sml_phrases.specs.Phrases.{of_constraints, of_begun_str_bind, of_str, of_str_binds, at, constraints_in, long_in, name_in, sig_in, str_decs_in, str_in};
 ghost use Rattle.sml_phrases.specs.PhraseViews.{Gives, Puts, low_constraint_of, low_where_of, phrase_of, seen};
-ghost use Rattle.sml_bare_mods.specs.StructureRules.{and_constraint, applied, behind_str, behind_str_bind, constrained, own_constrained, str_binds, str_place, structure_phrase, where_str, where_str_bind};
+ghost use Rattle.sml_bare_mods.specs.StructureRules.{and_constraint, applied, after_str, after_str_bind, constrained, own_constrained, str_binds, str_place, structure_phrase, where_str, where_str_bind};
 
 use crate::functor_rules::{
-    and_fun_binds, begun_fun_bind, behind_fun_bind, functor_argument, no_fun_binds, where_fun_bind,
+    after_fun_bind, and_fun_binds, begun_fun_bind, functor_argument, no_fun_binds, where_fun_bind,
 };
 use crate::module_stack::{pop_constraints, pop_str_binds, pop_where_type};
 use crate::signature_rules::with_wheres;
@@ -59,7 +59,7 @@ fn ascribed(
     Ok(LowStr { tree, height })
 }
 
-/// A structure expression and the constraints behind it, which go from the last to the first.
+/// A structure expression and the constraints after it, which go from the last to the first.
 pub fn constrained(
     alloc: Global,
     body: LowStr,
@@ -78,7 +78,7 @@ pub fn constrained(
     Ok(whole)
 }
 
-/// A constraint, what belongs to its signature expression, and the constraints behind that.
+/// A constraint, what belongs to its signature expression, and the constraints after that.
 pub fn and_constraint(
     alloc: Global,
     first: Vec<LowConstraint>,
@@ -107,7 +107,7 @@ pub fn and_constraint(
     }
 }
 
-/// A signature expression behind `:` or `:>`.
+/// A signature expression after `:` or `:>`.
 fn one_constraint(stack: &mut Stack, ascription: Ascription) -> Result<(), Failure>
     ensures { let vs = seen stack.old in Puts (of_constraints [] (record { ascription = ascription; signature = sig_in (at vs 1) } ∷ [])) 2 vs (seen stack.new) result }
 {
@@ -148,7 +148,7 @@ pub fn own_constrained(
     }
 }
 
-/// The right side of a structure or functor binding, with the constraints behind the binding and then with its own.
+/// The right side of a structure or functor binding, with the constraints after the binding and then with its own.
 pub fn bound(
     alloc: Global,
     place: Place,
@@ -162,7 +162,7 @@ pub fn bound(
     own_constrained(alloc, place, own, body)
 }
 
-/// A structure binding with the constraints that belong to it, and those behind it.
+/// A structure binding with the constraints that belong to it, and those after it.
 pub fn str_binds(stack: &mut Stack) -> Result<LowStrBinds, Failure>
     ensures made { let vs = seen stack.old in Gives (λ (bs : LowStrBinds). str_binds_of (map str_bind_of (reverse bs.trees.items))) (λ bs. low (str_binds_height bs)) (str_binds (at vs 0) (at vs 1)) result }
     ensures rest { OnOk result (seen stack.new ≡ drop 2 (seen stack.old)) }
@@ -189,7 +189,7 @@ pub fn str_binds(stack: &mut Stack) -> Result<LowStrBinds, Failure>
     }
 }
 
-/// The same behind a structure binding.
+/// The same after a structure binding.
 fn and_str_binds(stack: &mut Stack) -> Result<(), Failure>
     ensures { let vs = seen stack.old in Puts (of_str_binds [] [] (str_binds (at vs 0) (at vs 1))) 2 vs (seen stack.new) result }
 {
@@ -197,7 +197,7 @@ fn and_str_binds(stack: &mut Stack) -> Result<(), Failure>
     stack.put_str_binds(Vec::new(stack.alloc), Vec::new(stack.alloc), binds)
 }
 
-/// Nothing behind a structure binding.
+/// Nothing after a structure binding.
 fn no_str_binds(stack: &mut Stack) -> Result<(), Failure>
     ensures { Puts (of_str_binds [] [] no_str_bind) 0 (seen stack.old) (seen stack.new) result }
 {
@@ -208,9 +208,9 @@ fn no_str_binds(stack: &mut Stack) -> Result<(), Failure>
     stack.put_str_binds(Vec::new(stack.alloc), Vec::new(stack.alloc), binds)
 }
 
-/// A constraint behind a structure binding, and what stands behind it.
-fn behind_str_bind(stack: &mut Stack) -> Result<(), Failure>
-    ensures { let vs = seen stack.old in Puts (behind_str_bind (at vs 0) (at vs 1)) 2 vs (seen stack.new) result }
+/// A constraint after a structure binding, and what stands after it.
+fn after_str_bind(stack: &mut Stack) -> Result<(), Failure>
+    ensures { let vs = seen stack.old in Puts (after_str_bind (at vs 0) (at vs 1)) 2 vs (seen stack.new) result }
 {
     let (_none, first) = pop_constraints(stack);
     let (equations, others, binds) = pop_str_binds(stack);
@@ -218,7 +218,7 @@ fn behind_str_bind(stack: &mut Stack) -> Result<(), Failure>
     stack.put_str_binds(Vec::new(stack.alloc), constraints, binds)
 }
 
-/// An equation of the signature expression before it, and what stands behind it.
+/// An equation of the signature expression before it, and what stands after it.
 fn where_str_bind(stack: &mut Stack) -> Result<(), Failure>
     ensures { let vs = seen stack.old in Puts (where_str_bind (at vs 0) (at vs 1)) 2 vs (seen stack.new) result }
 {
@@ -228,7 +228,7 @@ fn where_str_bind(stack: &mut Stack) -> Result<(), Failure>
     stack.put_str_binds(equations, constraints, binds)
 }
 
-/// A structure expression and the constraints behind it.
+/// A structure expression and the constraints after it.
 fn structure(stack: &mut Stack) -> Result<(), Failure>
     ensures { let vs = seen stack.old in Puts (of_str (constrained (str_in (at vs 0)) (constraints_in (at vs 1)))) 2 vs (seen stack.new) result }
 {
@@ -244,9 +244,9 @@ fn no_constraints(stack: &mut Stack) -> Result<(), Failure>
     stack.put_constraints(Vec::new(stack.alloc), Vec::new(stack.alloc))
 }
 
-/// A constraint behind a structure expression, and what stands behind it.
-fn behind_str(stack: &mut Stack) -> Result<(), Failure>
-    ensures { let vs = seen stack.old in Puts (behind_str (at vs 0) (at vs 1)) 2 vs (seen stack.new) result }
+/// A constraint after a structure expression, and what stands after it.
+fn after_str(stack: &mut Stack) -> Result<(), Failure>
+    ensures { let vs = seen stack.old in Puts (after_str (at vs 0) (at vs 1)) 2 vs (seen stack.new) result }
 {
     let (_none, first) = pop_constraints(stack);
     let (equations, others) = pop_constraints(stack);
@@ -254,7 +254,7 @@ fn behind_str(stack: &mut Stack) -> Result<(), Failure>
     stack.put_constraints(Vec::new(stack.alloc), constraints)
 }
 
-/// An equation of the signature expression before it, and what stands behind it.
+/// An equation of the signature expression before it, and what stands after it.
 fn where_str(stack: &mut Stack) -> Result<(), Failure>
     ensures { let vs = seen stack.old in Puts (where_str (at vs 1) (at vs 2)) 3 vs (seen stack.new) result }
 {
@@ -399,7 +399,7 @@ pub fn structure_phrase(
         | StructureRule::StrBindWhereNone => no_str_binds(stack),
         StructureRule::StrBindMoreAscription
         | StructureRule::StrBindSigAscription
-        | StructureRule::StrBindWhereAscription => behind_str_bind(stack),
+        | StructureRule::StrBindWhereAscription => after_str_bind(stack),
         StructureRule::StrBindMoreAnd | StructureRule::StrBindSigAnd => {
             stack.skip();
             and_str_binds(stack)
@@ -417,7 +417,7 @@ pub fn structure_phrase(
         | StructureRule::FunBindWhereNone => no_fun_binds(stack),
         StructureRule::FunBindMoreAscription
         | StructureRule::FunBindSigAscription
-        | StructureRule::FunBindWhereAscription => behind_fun_bind(stack),
+        | StructureRule::FunBindWhereAscription => after_fun_bind(stack),
         StructureRule::FunBindMoreAnd | StructureRule::FunBindSigAnd => {
             stack.skip();
             and_fun_binds(stack, expander)
@@ -431,7 +431,7 @@ pub fn structure_phrase(
         StructureRule::StrExpStrAtom => structure(stack),
         StructureRule::StrExpMoreAscription
         | StructureRule::StrExpSigAscription
-        | StructureRule::StrExpWhereAscription => behind_str(stack),
+        | StructureRule::StrExpWhereAscription => after_str(stack),
         StructureRule::StrExpSigWhere
         | StructureRule::StrExpWhereWhere
         | StructureRule::StrExpWhereAnd => where_str(stack),
@@ -441,7 +441,7 @@ pub fn structure_phrase(
         StructureRule::StrAtomLet => str_let(stack, place),
         StructureRule::ActualNone => stack.put_nothing(),
         StructureRule::StrBindWhereAnd | StructureRule::FunBindWhereAnd => {
-            stack.put_behind_word()
+            stack.put_after_word()
         }
         StructureRule::ActualOpenRound => { put_inner(stack) }
         StructureRule::FunArgSpecs | StructureRule::StrArgStrExp | StructureRule::StrArgStrs =>

@@ -27,7 +27,7 @@ use sml_phrases::stack::Stack;
 use sml_read::grammar::UnitRule;
 use sml_tree::structures::{StrDec, TopDec};
 
-/// A declaration, and those behind it.
+/// A declaration, and those after it.
 fn and_dec(stack: &mut Stack) -> Result<(), Failure>
     ensures { let vs = seen stack.old in Puts (of_decs (and_dec (dec_in (at vs 0)) (decs_in (at vs 1)))) 2 vs (seen stack.new) result }
 {
@@ -38,7 +38,7 @@ fn and_dec(stack: &mut Stack) -> Result<(), Failure>
     stack.put(Phrase::Declarations(DeclarationPhrase::Decs(LowDecs { trees, height })))
 }
 
-/// A structure-level declaration, and those behind it.
+/// A structure-level declaration, and those after it.
 fn and_str_dec(stack: &mut Stack) -> Result<(), Failure>
     ensures { let vs = seen stack.old in Puts (of_str_decs (and_str_dec (str_dec_in (at vs 0)) (str_decs_in (at vs 1)))) 2 vs (seen stack.new) result }
 {
@@ -49,7 +49,7 @@ fn and_str_dec(stack: &mut Stack) -> Result<(), Failure>
     stack.put(Phrase::Structures(StructurePhrase::StrDecs(LowStrDecs { trees, height })))
 }
 
-/// Specifications, and those behind them.
+/// Specifications, and those after them.
 fn and_specs(stack: &mut Stack) -> Result<(), Failure>
     ensures { let vs = seen stack.old in Puts (of_specs (and_specs (specs_in (at vs 0)) (specs_in (at vs 1)))) 2 vs (seen stack.new) result }
 {
@@ -196,7 +196,7 @@ pub fn unit_phrase(
         UnitRule::SpecsNone => no_specs(stack),
         UnitRule::SpecsSpec => and_specs(stack),
         UnitRule::StrsSemicolon | UnitRule::DecsSemicolon | UnitRule::SpecsSemicolon =>
-            stack.put_behind_word(),
+            stack.put_after_word(),
         UnitRule::StartNone | UnitRule::AfterTopNone | UnitRule::AfterExpNone =>
             stack.put_nothing(),
         UnitRule::StartSemicolon

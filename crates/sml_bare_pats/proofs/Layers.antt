@@ -1,4 +1,4 @@
--- The height of an identifier with what stands behind it.
+-- The height of an identifier with what stands after it.
 use Rattle.std.proofs.Common.{◌≡◌, ◌+◌, ◌≤◌, max, Option, Some, None, ap, ◌∙◌, arith}
 use Rattle.sml_lex.specs.declared.fault.Place.{Place}
 use Rattle.sml_tree.specs.Names.{Name}

@@ -1,4 +1,4 @@
--- A field of a pattern before others, which the program has behind them.
+-- A field of a pattern before others, which the program has after them.
 use Rattle.std.proofs.Common.{◌≡◌, ℕ, ◌≤◌, List, [], ◌∷◌, ◌++◌, map, reverse, max, drop, false, Result, Ok, Err, ap, ◌∙◌, arith, rules}
 use Rattle.std.specs.Result.{IsErrAnd}
 use Rattle.std.proofs.lemmas.List.{reverse-append}

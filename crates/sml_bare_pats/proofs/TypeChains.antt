@@ -1,4 +1,4 @@
--- Types behind which type constructors stand, and products of types.
+-- Types after which type constructors stand, and products of types.
 use Rattle.std.proofs.Common.{◌≡◌, ◌≤◌, List, [], ◌∷◌, ◌++◌, map, reverse, length, arith, refl, ap, sym, ◌∙◌}
 use Rattle.sml_lex.specs.declared.fault.Place.{Place}
 use Rattle.sml_tree.specs.Heights.{ty_height}

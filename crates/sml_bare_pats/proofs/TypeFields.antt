@@ -1,4 +1,4 @@
--- A field of a record type before others, which the program has behind them.
+-- A field of a record type before others, which the program has after them.
 use Rattle.std.proofs.Common.{◌≡◌, ℕ, List, [], ◌∷◌, ◌++◌, map, reverse, max, ap, ◌∙◌, arith}
 use Rattle.std.proofs.lemmas.List.{reverse-append}
 use Rattle.sml_lex.specs.declared.fault.Place.{Place}

@@ -20,36 +20,36 @@ abbrev pub list_pat : Place → Pats Place → Pat Place
 list_pat p no_pat = pat_nil p
 list_pat p (and_pat q qs) = pat_cons p q (list_pat p qs)
 
--- a sequence, from its first pattern and what stands behind that
+-- a sequence, from its first pattern and what stands after that
 abbrev pub sequence_from : Option Shape → Pat Place → Phrase → Pat Place
 sequence_from s q v = sequence_pat s (and_pat q (atoms_in v)) (colons_in v)
 
--- an identifier and what stands behind it
+-- an identifier and what stands after it
 abbrev pub from_vid : Option Shape → Place → Name Place → Phrase → Pat Place
 from_vid s p x (of_layer t q) = layered x t q
 from_vid s p x v = sequence_from s (pat_name p (long x)) v
 
--- the same behind `op`
+-- the same after `op`
 abbrev pub op_from_vid : Name Place → Phrase → Phrase
 op_from_vid x (of_layer t q) = of_op_layer x t q
 op_from_vid x v = of_op_atoms (long x) (atoms_in v) (colons_in v)
 
--- what stands behind `op`, as a pattern
-abbrev pub behind_op : Option Shape → Place → Phrase → Pat Place
-behind_op s p (of_op_layer x t (Some q)) = pat_as p x t q
-behind_op s p (of_op_atoms c qs ts) = sequence_pat s (and_pat (pat_name p c) qs) ts
-behind_op s p _ = no_operand
+-- what stands after `op`, as a pattern
+abbrev pub after_op : Option Shape → Place → Phrase → Pat Place
+after_op s p (of_op_layer x t (Some q)) = pat_as p x t q
+after_op s p (of_op_atoms c qs ts) = sequence_pat s (and_pat (pat_name p c) qs) ts
+after_op s p _ = no_operand
 
--- what stands behind an identifier that a colon follows
-abbrev pub behind_colon : Ty Place → Phrase → Phrase
-behind_colon t (of_layer u q) = of_layer (Some t) q
-behind_colon t v = of_atoms no_pat (and_ty t (tys_in v))
+-- what stands after an identifier that a colon follows
+abbrev pub after_colon : Ty Place → Phrase → Phrase
+after_colon t (of_layer u q) = of_layer (Some t) q
+after_colon t v = of_atoms no_pat (and_ty t (tys_in v))
 
 -- one atomic pattern more
 abbrev pub and_atom : Pat Place → Phrase → Phrase
 and_atom q v = of_atoms (and_pat q (atoms_in v)) (colons_in v)
 
--- the pattern of a field, from its identifier and what stands behind it
+-- the pattern of a field, from its identifier and what stands after it
 abbrev pub field_pat : Name Place → Phrase → Pat Place
 field_pat x (of_pat q) = q
 field_pat x (of_layer t q) = layered x t q
@@ -67,15 +67,15 @@ pattern_phrase PatStar p s vs = of_pat (from_vid s p (name_in (at vs 0)) (at vs 
 pattern_phrase BarePatAlphanumeric p s vs = of_pat (from_vid s p (name_in (at vs 0)) (at vs 1))
 pattern_phrase BarePatSymbolic p s vs = of_pat (from_vid s p (name_in (at vs 0)) (at vs 1))
 pattern_phrase BarePatStar p s vs = of_pat (from_vid s p (name_in (at vs 0)) (at vs 1))
-pattern_phrase PatOp p s vs = of_pat (behind_op s p (at vs 1))
-pattern_phrase BarePatOp p s vs = of_pat (behind_op s p (at vs 1))
+pattern_phrase PatOp p s vs = of_pat (after_op s p (at vs 1))
+pattern_phrase BarePatOp p s vs = of_pat (after_op s p (at vs 1))
 pattern_phrase PatOtherAtPat p s vs = of_pat (sequence_from s (pat_in (at vs 0)) (at vs 1))
 pattern_phrase BarePatOtherAtPat p s vs = of_pat (sequence_from s (pat_in (at vs 0)) (at vs 1))
 pattern_phrase OpPatVid p s vs = op_from_vid (name_in (at vs 0)) (at vs 1)
 pattern_phrase OpPatQualified p s vs = of_op_atoms (long_in (at vs 0)) (atoms_in (at vs 1)) (colons_in (at vs 1))
 pattern_phrase AfterVidNone p s vs = of_atoms no_pat no_ty
 pattern_phrase AfterVidAs p s vs = of_layer None (Some (pat_in (at vs 1)))
-pattern_phrase AfterVidColon p s vs = behind_colon (ty_in (at vs 1)) (at vs 2)
+pattern_phrase AfterVidColon p s vs = after_colon (ty_in (at vs 1)) (at vs 2)
 pattern_phrase AfterVidAtPat p s vs = and_atom (pat_in (at vs 0)) (at vs 1)
 pattern_phrase AfterVidTyNone p s vs = of_tys no_ty
 pattern_phrase AfterVidTyAs p s vs = of_layer None (Some (pat_in (at vs 1)))

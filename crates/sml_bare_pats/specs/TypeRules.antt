@@ -8,17 +8,17 @@ use Rattle.sml_read.specs.declared.grammar.TypeRule.{TypeRule}
 use Rattle.sml_read.specs.declared.grammar.TypeRule.TheVariants.{TyTup, TyArrowNone, TyArrowArrow, TupCon, TupMoreNone, TupMoreStar, ConATy, ConMoreNone, ConMoreLongTyCon, ATyTypeVariable, ATyLongTyCon, ATyOpenCurly, ATyOpenRound, TyRowCloseCurly, TyRowLab, TyRowMoreCloseCurly, TyRowMoreComma, TyRoundCloseRound, TyRoundComma, TyRoundMoreCloseRound, TyRoundMoreComma, TvsNone, SomeTvsTypeVariable, SomeTvsOpenRound, TvsMoreNone, TvsMoreComma}
 use Rattle.sml_phrases.specs.Phrases.{Phrase, nothing, of_names, of_longs, of_ty, of_tys, of_ty_fields, of_arguments, name_in, names_in, long_in, longs_in, ty_in, tys_in, ty_fields_in, ty_if_any, at}
 
--- a type, and perhaps another one behind an arrow
+-- a type, and perhaps another one after an arrow
 abbrev pub arrow : Place → Ty Place → Option (Ty Place) → Ty Place
 arrow p t None = t
 arrow p t (Some u) = ty_arrow p t u
 
--- a type, and others behind stars
+-- a type, and others after stars
 abbrev pub product : Place → Ty Place → Tys Place → Ty Place
 product p t no_ty = t
 product p t (and_ty u us) = ty_tuple p (and_ty t (and_ty u us))
 
--- a type and the type constructors behind it
+-- a type and the type constructors after it
 abbrev pub constructed : Place → Ty Place → List (LongName Place) → Ty Place
 constructed p t [] = t
 constructed p t (c ∷ cs) = constructed p (ty_constructor p (and_ty t no_ty) c) cs

@@ -88,7 +88,7 @@ fn pat_parts(pat: Option<LowPat>) -> (Option<Pat>, u32)
     }
 }
 
-/// An identifier, perhaps with a type and a pattern behind `as`.
+/// An identifier, perhaps with a type and a pattern after `as`.
 pub fn layered(
     alloc: Global,
     name: Name,
@@ -114,7 +114,7 @@ fn boxed(alloc: Global, ty: Option<Ty>) -> Result<Option<Box<Ty>>, Memory>
     }
 }
 
-/// A pattern behind an identifier and `as`, perhaps with a type between them.
+/// A pattern after an identifier and `as`, perhaps with a type between them.
 pub fn pat_as(
     alloc: Global,
     place: Place,
@@ -131,7 +131,7 @@ pub fn pat_as(
     Ok(LowPat { tree, height })
 }
 
-/// The pattern of a field, from its identifier and what stands behind it.
+/// The pattern of a field, from its identifier and what stands after it.
 pub fn field_pat(alloc: Global, name: Name, rest: Phrase) -> Result<LowPat, Failure>
     ensures { GivesPat (field_pat (name_of name) (phrase_of rest)) result }
 {
@@ -148,7 +148,7 @@ pub fn field_pat(alloc: Global, name: Name, rest: Phrase) -> Result<LowPat, Fail
     }
 }
 
-/// Atomic patterns, and the types behind the colons that follow them.
+/// Atomic patterns, and the types after the colons that follow them.
 pub fn atoms_in(alloc: Global, phrase: Phrase) -> (LowPats, LowTys)
     ensures atoms { low_pats_of result.0 ≡ atoms_in (phrase_of phrase) }
     ensures types { low_tys_of result.1 ≡ colons_in (phrase_of phrase) }
@@ -171,7 +171,7 @@ pub fn atoms_in(alloc: Global, phrase: Phrase) -> (LowPats, LowTys)
     }
 }
 
-/// The fields of a record pattern, and whether `...` stands behind them.
+/// The fields of a record pattern, and whether `...` stands after them.
 pub fn fields_in(alloc: Global, phrase: Phrase) -> (LowPatFields, bool)
     ensures fields { low_pat_fields_of result.0 ≡ pat_fields_in (phrase_of phrase) }
     ensures flexible { result.1 ≡ flexible_in (phrase_of phrase) }

@@ -10,7 +10,7 @@ ghost use Rattle.sml_tree.specs.TypeViews.{name_of};
 ghost use Rattle.sml_derived.specs.Derived.{long};
 ghost use Rattle.sml_pat_sequences.specs.LowViews.{GivesPat, low_ty_of, low_tys_of, low_pat_of, low_pats_of};
 ghost use Rattle.sml_bare_pats.specs.PatternPhrases.{pat_fields_in, flexible_in, atoms_in, colons_in};
-ghost use Rattle.sml_bare_pats.specs.PatternRules.{list_pat, sequence_from, from_vid, op_from_vid, behind_op, behind_colon, and_atom, field_pat, and_field, pattern_phrase};
+ghost use Rattle.sml_bare_pats.specs.PatternRules.{list_pat, sequence_from, from_vid, op_from_vid, after_op, after_colon, and_atom, field_pat, and_field, pattern_phrase};
 ghost use Rattle.sml_pat_sequences.specs.PatternSequences.{round_sequence, sequence_pat};
 ghost use Rattle.sml_pat_sequences.specs.RoundPatterns.{round_pat};
 ghost use Rattle.sml_phrases.specs.Phrases.{of_tys, of_pat, of_pats, of_pat_fields, of_atoms, of_layer, of_op_atoms, at, name_in, long_in, constant_in, ty_in, tys_in, pat_in, pats_in, ty_if_any, pat_if_any};
@@ -34,7 +34,7 @@ use sml_read::grammar::PatternRule;
 use sml_tree::names::Name;
 use sml_tree::patterns::Pat;
 
-/// A sequence, from its first pattern, the others and the types behind them.
+/// A sequence, from its first pattern, the others and the types after them.
 fn sequence_with(
     expander: &Expander,
     shape: Option<&Shape>,
@@ -53,7 +53,7 @@ fn sequence_with(
     }
 }
 
-/// A sequence, from its first pattern and what stands behind that.
+/// A sequence, from its first pattern and what stands after that.
 fn sequence_from(
     expander: &Expander,
     shape: Option<&Shape>,
@@ -66,7 +66,7 @@ fn sequence_from(
     sequence_with(expander, shape, first, atoms, types)
 }
 
-/// What stands between round brackets, and what stands behind them.
+/// What stands between round brackets, and what stands after them.
 fn round_and_rest(stack: &mut Stack) -> (LowPats, Phrase)
     ensures pats { low_pats_of result.0 ≡ pats_in (at (seen stack.old) 1) }
     ensures phrase { phrase_of result.1 ≡ at (seen stack.old) 2 }
@@ -141,14 +141,14 @@ fn vid(
     stack.put_pat(pat)
 }
 
-/// A pattern that begins with `op`, from what stands behind it.
-fn behind_op(
+/// A pattern that begins with `op`, from what stands after it.
+fn after_op(
     expander: &Expander,
     shape: Option<&Shape>,
     place: Place,
     rest: Phrase,
 ) -> Result<LowPat, Failure>
-    ensures { GivesPat (behind_op (option_map (λ s. shape_of s.now) shape.entry) place (phrase_of rest)) result }
+    ensures { GivesPat (after_op (option_map (λ s. shape_of s.now) shape.entry) place (phrase_of rest)) result }
 {
     match rest {
         Phrase::Patterns(PatternPhrase::OpLayer(name, layer)) => {
@@ -175,11 +175,11 @@ fn op(
     shape: Option<&Shape>,
     expander: &Expander,
 ) -> Result<(), Failure>
-    ensures { Puts (of_pat (behind_op (option_map (λ s. shape_of s.now) shape.entry) place (at (seen stack.old) 1))) 2 (seen stack.old) (seen stack.new) result }
+    ensures { Puts (of_pat (after_op (option_map (λ s. shape_of s.now) shape.entry) place (at (seen stack.old) 1))) 2 (seen stack.old) (seen stack.new) result }
 {
     stack.skip();
     let rest = stack.pop();
-    let pat = behind_op(expander, shape, place, rest)?;
+    let pat = after_op(expander, shape, place, rest)?;
     stack.put_pat(pat)
 }
 
@@ -209,7 +209,7 @@ fn op_from_vid(stack: &mut Stack, name: Name, rest: Phrase) -> Result<(), Failur
     }
 }
 
-/// An identifier, and what stands behind it.
+/// An identifier, and what stands after it.
 fn name_and_rest(stack: &mut Stack) -> Result<(Name, Phrase), Memory>
     ensures name { IfOk result (λ r. name_of r.0 ≡ name_in (at (seen stack.old) 0)) }
     ensures phrase { IfOk result (λ r. phrase_of r.1 ≡ at (seen stack.old) 1) }
@@ -220,7 +220,7 @@ fn name_and_rest(stack: &mut Stack) -> Result<(Name, Phrase), Memory>
     Ok((name, rest))
 }
 
-/// An identifier behind `op`, and what stands behind it.
+/// An identifier after `op`, and what stands after it.
 fn op_vid(stack: &mut Stack) -> Result<(), Failure>
     ensures { let vs = seen stack.old in Puts (op_from_vid (name_in (at vs 0)) (at vs 1)) 2 vs (seen stack.new) result }
 {
@@ -228,7 +228,7 @@ fn op_vid(stack: &mut Stack) -> Result<(), Failure>
     op_from_vid(stack, name, rest)
 }
 
-/// An identifier with a path behind `op`, and what stands behind it.
+/// An identifier with a path after `op`, and what stands after it.
 fn op_qualified(stack: &mut Stack) -> Result<(), Failure>
     ensures { let vs = seen stack.old in Puts (of_op_atoms (long_in (at vs 0)) (atoms_in (at vs 1)) (colons_in (at vs 1))) 2 vs (seen stack.new) result }
 {
@@ -252,8 +252,8 @@ fn no_atoms(stack: &mut Stack) -> Result<(), Failure>
     stack.put_atoms(atoms, types)
 }
 
-/// A pattern behind `as`.
-fn behind_as(stack: &mut Stack) -> Result<(), Failure>
+/// A pattern after `as`.
+fn after_as(stack: &mut Stack) -> Result<(), Failure>
     ensures { Puts (of_layer None (Some (pat_in (at (seen stack.old) 1)))) 2 (seen stack.old) (seen stack.new) result }
 {
     stack.skip();
@@ -261,8 +261,8 @@ fn behind_as(stack: &mut Stack) -> Result<(), Failure>
     stack.put_layer(None, Some(pat))
 }
 
-fn behind_colon(stack: &mut Stack, ty: LowTy, rest: Phrase) -> Result<(), Failure>
-    ensures { Puts (behind_colon (low_ty_of ty) (phrase_of rest)) 0 (seen stack.old) (seen stack.new) result }
+fn after_colon(stack: &mut Stack, ty: LowTy, rest: Phrase) -> Result<(), Failure>
+    ensures { Puts (after_colon (low_ty_of ty) (phrase_of rest)) 0 (seen stack.old) (seen stack.new) result }
 {
     match rest {
         Phrase::Patterns(PatternPhrase::Layer(layer)) => {
@@ -293,7 +293,7 @@ fn behind_colon(stack: &mut Stack, ty: LowTy, rest: Phrase) -> Result<(), Failur
     }
 }
 
-/// A type behind a colon, and what stands behind it.
+/// A type after a colon, and what stands after it.
 fn ty_and_rest(stack: &mut Stack) -> (LowTy, Phrase)
     ensures ty { low_ty_of result.0 ≡ ty_in (at (seen stack.old) 1) }
     ensures phrase { phrase_of result.1 ≡ at (seen stack.old) 2 }
@@ -305,12 +305,12 @@ fn ty_and_rest(stack: &mut Stack) -> (LowTy, Phrase)
     (ty, rest)
 }
 
-/// What stands behind an identifier that a colon follows.
+/// What stands after an identifier that a colon follows.
 fn vid_colon(stack: &mut Stack) -> Result<(), Failure>
-    ensures { let vs = seen stack.old in Puts (behind_colon (ty_in (at vs 1)) (at vs 2)) 3 vs (seen stack.new) result }
+    ensures { let vs = seen stack.old in Puts (after_colon (ty_in (at vs 1)) (at vs 2)) 3 vs (seen stack.new) result }
 {
     let (ty, rest) = ty_and_rest(stack);
-    behind_colon(stack, ty, rest)
+    after_colon(stack, ty, rest)
 }
 
 /// One atomic pattern more.
@@ -324,7 +324,7 @@ fn more_atoms(stack: &mut Stack) -> Result<(), Failure>
     stack.put_atoms(atoms, types)
 }
 
-/// The types behind colons.
+/// The types after colons.
 fn colons(stack: &mut Stack) -> Result<(), Failure>
     ensures { let vs = seen stack.old in Puts (of_tys (and_ty (ty_in (at vs 1)) (tys_in (at vs 2)))) 3 vs (seen stack.new) result }
 {
@@ -334,7 +334,7 @@ fn colons(stack: &mut Stack) -> Result<(), Failure>
     stack.put_tys(types)
 }
 
-/// The types behind the colons that follow atomic patterns.
+/// The types after the colons that follow atomic patterns.
 fn atom_colons(stack: &mut Stack) -> Result<(), Failure>
     ensures { let vs = seen stack.old in Puts (of_atoms no_pat (and_ty (ty_in (at vs 1)) (tys_in (at vs 2)))) 3 vs (seen stack.new) result }
 {
@@ -440,7 +440,7 @@ fn pats(stack: &mut Stack) -> Result<(), Failure>
     stack.put_pats(pats)
 }
 
-/// The same behind a comma.
+/// The same after a comma.
 fn more_pats(stack: &mut Stack) -> Result<(), Failure>
     ensures { let vs = seen stack.old in Puts (of_pats (and_pat (pat_in (at vs 1)) (pats_in (at vs 2)))) 3 vs (seen stack.new) result }
 {
@@ -508,8 +508,8 @@ fn vid_field(stack: &mut Stack) -> Result<(), Failure>
     with_field(stack, label, pat, fields)
 }
 
-/// A pattern behind a word.
-fn behind_word(stack: &mut Stack) -> Result<(), Failure>
+/// A pattern after a word.
+fn after_word(stack: &mut Stack) -> Result<(), Failure>
     ensures { Puts (of_pat (pat_in (at (seen stack.old) 1))) 2 (seen stack.old) (seen stack.new) result }
 {
     stack.skip();
@@ -517,7 +517,7 @@ fn behind_word(stack: &mut Stack) -> Result<(), Failure>
     stack.put_pat(pat)
 }
 
-/// Perhaps a type, and perhaps a pattern behind `as`.
+/// Perhaps a type, and perhaps a pattern after `as`.
 fn layer(stack: &mut Stack) -> Result<(), Failure>
     ensures { let vs = seen stack.old in Puts (of_layer (ty_if_any (at vs 0)) (pat_if_any (at vs 1))) 2 vs (seen stack.new) result }
 {
@@ -561,7 +561,7 @@ pub fn pattern_phrase(
         PatternRule::OpPatVid => op_vid(stack),
         PatternRule::OpPatQualified => op_qualified(stack),
         PatternRule::AfterVidNone | PatternRule::AtPatMoreNone => no_atoms(stack),
-        PatternRule::AfterVidAs | PatternRule::AfterVidTyAs => behind_as(stack),
+        PatternRule::AfterVidAs | PatternRule::AfterVidTyAs => after_as(stack),
         PatternRule::AfterVidColon => vid_colon(stack),
         PatternRule::AfterVidAtPat | PatternRule::AtPatMoreAtPat => more_atoms(stack),
         PatternRule::AfterVidTyNone => no_types(stack),
@@ -591,10 +591,10 @@ pub fn pattern_phrase(
         PatternRule::RowDots => end_of_fields(stack, true),
         PatternRule::RowNumeral => numeral_field(stack),
         PatternRule::RowVid => vid_field(stack),
-        PatternRule::RowRestEquals | PatternRule::RowAsAs => behind_word(stack),
+        PatternRule::RowRestEquals | PatternRule::RowAsAs => after_word(stack),
         PatternRule::RowRestTyped => layer(stack),
         PatternRule::RowAsNone => stack.put_nothing(),
         PatternRule::RowMoreNone => no_fields(stack, false),
-        PatternRule::RowMoreComma => stack.put_behind_word(),
+        PatternRule::RowMoreComma => stack.put_after_word(),
     }
 }

@@ -23,7 +23,7 @@ use sml_tree::names::Name;
 use sml_tree::types::{Ty, TyField};
 use std::alloc::Global;
 
-/// A type, with what stands behind it: another one behind an arrow, or nothing.
+/// A type, with what stands after it: another one after an arrow, or nothing.
 fn arrow(stack: &mut Stack, place: Place) -> Result<(), Failure>
     ensures { let vs = seen stack.old in Puts (of_ty (arrow place (ty_in (at vs 0)) (ty_if_any (at vs 1)))) 2 vs (seen stack.new) result }
 {
@@ -41,7 +41,7 @@ fn arrow(stack: &mut Stack, place: Place) -> Result<(), Failure>
     stack.put_ty(LowTy { tree, height })
 }
 
-/// The type behind an arrow.
+/// The type after an arrow.
 fn second(stack: &mut Stack) -> Result<(), Failure>
     ensures { Puts (of_ty (ty_in (at (seen stack.old) 1))) 2 (seen stack.old) (seen stack.new) result }
 {
@@ -71,7 +71,7 @@ fn product(alloc: Global, place: Place, first: LowTy, others: LowTys) -> Result<
     several(alloc, place, first, others)
 }
 
-/// A type, and others behind stars.
+/// A type, and others after stars.
 fn tuple(stack: &mut Stack, place: Place) -> Result<(), Failure>
     ensures { let vs = seen stack.old in Puts (of_ty (product place (ty_in (at vs 0)) (tys_in (at vs 1)))) 2 vs (seen stack.new) result }
 {
@@ -81,7 +81,7 @@ fn tuple(stack: &mut Stack, place: Place) -> Result<(), Failure>
     stack.put_ty(ty)
 }
 
-/// One type more behind a star.
+/// One type more after a star.
 fn more_types(stack: &mut Stack) -> Result<(), Failure>
     ensures { let vs = seen stack.old in Puts (of_tys (and_ty (ty_in (at vs 1)) (tys_in (at vs 2)))) 3 vs (seen stack.new) result }
 {
@@ -91,7 +91,7 @@ fn more_types(stack: &mut Stack) -> Result<(), Failure>
     stack.put_tys(types)
 }
 
-/// A type constructor behind one argument.
+/// A type constructor after one argument.
 fn of_one(alloc: Global, place: Place, ty: LowTy, constructor: LongIdent) -> Result<LowTy, Failure>
     ensures { GivesTy (ty_constructor place (and_ty (low_ty_of ty) no_ty) (long_name_of constructor)) result }
 {
@@ -104,7 +104,7 @@ fn of_one(alloc: Global, place: Place, ty: LowTy, constructor: LongIdent) -> Res
     })
 }
 
-/// A type and the type constructors behind it, the first one last.
+/// A type and the type constructors after it, the first one last.
 fn constructed(
     alloc: Global,
     place: Place,
@@ -228,7 +228,7 @@ fn fields(stack: &mut Stack) -> Result<(), Failure>
     stack.put(Phrase::Types(TypePhrase::TyFields(all)))
 }
 
-/// The same behind a comma.
+/// The same after a comma.
 fn more_fields(stack: &mut Stack) -> Result<(), Failure>
     ensures { let vs = seen stack.old in Puts (of_ty_fields (and_ty_field (ty_field (name_in (at vs 1)) (ty_in (at vs 3))) (ty_fields_in (at vs 4)))) 5 vs (seen stack.new) result }
 {
@@ -261,7 +261,7 @@ fn and_argument(stack: &mut Stack, ty: LowTy, rest: Phrase) -> Result<(), Failur
     }
 }
 
-/// One type more behind a comma.
+/// One type more after a comma.
 fn more_arguments(stack: &mut Stack) -> Result<(), Failure>
     ensures { let vs = seen stack.old in Puts (and_argument (ty_in (at vs 1)) (at vs 2)) 3 vs (seen stack.new) result }
 {
@@ -271,7 +271,7 @@ fn more_arguments(stack: &mut Stack) -> Result<(), Failure>
     and_argument(stack, ty, rest)
 }
 
-/// The type constructor behind types in round brackets.
+/// The type constructor after types in round brackets.
 fn no_arguments(stack: &mut Stack) -> Result<(), Failure>
     ensures { Puts (of_arguments no_ty (long_in (at (seen stack.old) 1))) 2 (seen stack.old) (seen stack.new) result }
 {
@@ -294,7 +294,7 @@ fn one_variable(stack: &mut Stack) -> Result<(), Failure>
     stack.put_names(names)
 }
 
-/// A type variable behind a bracket or a comma, and those behind it.
+/// A type variable after a bracket or a comma, and those after it.
 fn variables(stack: &mut Stack) -> Result<Vec<Name>, Memory>
     ensures names { let vs = seen stack.old in IfOk result (λ names. map name_of (reverse names.items) ≡ name_in (at vs 1) ∷ names_in (at vs 2)) }
     ensures rest { OnOk result (seen stack.new ≡ drop 3 (seen stack.old)) }
@@ -306,7 +306,7 @@ fn variables(stack: &mut Stack) -> Result<Vec<Name>, Memory>
     Ok(names)
 }
 
-/// One type variable more behind a comma.
+/// One type variable more after a comma.
 fn more_variables(stack: &mut Stack) -> Result<(), Failure>
     ensures { let vs = seen stack.old in Puts (of_names (name_in (at vs 1) ∷ names_in (at vs 2))) 3 vs (seen stack.new) result }
 {
@@ -323,7 +323,7 @@ fn some_variables(stack: &mut Stack) -> Result<(), Failure>
     stack.put_names(names)
 }
 
-/// What stands in round brackets behind one type: nothing.
+/// What stands in round brackets after one type: nothing.
 fn no_more(stack: &mut Stack) -> Result<(), Failure>
     ensures { Puts nothing 1 (seen stack.old) (seen stack.new) result }
 {

@@ -1,4 +1,4 @@
--- Gathering goes on behind what was gathered.
+-- Gathering goes on after what was gathered.
 use Rattle.std.proofs.Common.{◌≡◌, ℕ, ◌+◌, ◌<◌, List, [], ◌∷◌, ◌++◌, Bool, true, false, if◌then◌else◌, ◌||◌, drop, get_or, length, refl, ap, sym, ◌∙◌}
 use Rattle.std.specs.Prelude.{Vec}
 use Rattle.std.specs.Global.{Global}
@@ -11,19 +11,19 @@ use Rattle.sml_tree.specs.Trees.{Id}
 use Rattle.sml_tree.specs.Views.{ident_of}
 use Rattle.sml_closing.specs.Gathered.{ids_of, with_all}
 
-all_behind : (ks xs ys : List Id) → with_all (with_all ks xs) ys ≡ with_all ks (xs ++ ys)
-all_behind ks [] ys = refl
-all_behind ks (x ∷ xs) ys = all_behind (insert_key bytes_eq ks x) xs ys
+all_after : (ks xs ys : List Id) → with_all (with_all ks xs) ys ≡ with_all ks (xs ++ ys)
+all_after ks [] ys = refl
+all_after ks (x ∷ xs) ys = all_after (insert_key bytes_eq ks x) xs ys
 
 pub then_more : (a b c xs ys : List Id) → b ≡ with_all a xs → c ≡ with_all b ys → c ≡ with_all a (xs ++ ys)
-then_more a b c xs ys e f = f ∙ ap (λ ks. with_all ks ys) e ∙ all_behind a xs ys
+then_more a b c xs ys e f = f ∙ ap (λ ks. with_all ks ys) e ∙ all_after a xs ys
 
 -- one element more of a list, whose variables are those of its elements one after the other
 pub one_more : {A : Type 0} (variables : List A → List Id) (all : List A) (i : ℕ) (d x : A) (own now next whole : List Id)
     → ((rest : List A) → variables (x ∷ rest) ≡ own ++ variables rest) → i < length all → get_or all i d ≡ x
     → with_all now (variables (drop i all)) ≡ whole → next ≡ with_all now own → with_all next (variables (drop (i + 1) all)) ≡ whole
 one_more variables all i d x own now next whole split within here h n =
-    ap (λ ks. with_all ks (variables (drop (i + 1) all))) n ∙ all_behind now own (variables (drop (i + 1) all))
+    ap (λ ks. with_all ks (variables (drop (i + 1) all))) n ∙ all_after now own (variables (drop (i + 1) all))
     ∙ ap (with_all now) (sym (ap variables (drop_more all i d within ∙ ap (λ y. y ∷ drop (i + 1) all) here) ∙ split (drop (i + 1) all))) ∙ h
 
 any_same : (x : Id) (ks : List (Rc (Vec ℕ Global) Global)) → list_any (λ q. bytes_eq x (ident_of q)) ks ≡ list_any (bytes_eq x) (ids_of ks)

@@ -7,7 +7,7 @@ use Rattle.indexmap.specs.IndexSet.{insert_all}
 use Rattle.sml_tree.specs.Trees.{Id}
 use Rattle.sml_tree.specs.Views.{ident_of}
 
--- some, and behind them those of others that are not among them
+-- some, and after them those of others that are not among them
 abbrev pub with_all : List Id → List Id → List Id
 with_all = insert_all bytes_eq
 

@@ -22,7 +22,7 @@ use sml_tree::types::{Ty, TyField};
 /// Type variables in the order of their first occurrence.
 type Found = IndexSet<Ident>;
 
-/// Adds those of bindings, behind those that are there already.
+/// Adds those of bindings, after those that are there already.
 pub fn in_binds(binds: &[ValBind], found: &mut Found) -> Result<(), Memory>
     ensures { OnOk result (ids_of found.new.keys ≡ with_all (ids_of found.old.keys) (unguarded (binds_of (map bind_of binds.now)))) }
 {

@@ -225,15 +225,15 @@ module _ {P : Type 0} (F : Type 0 → Type 0) {N : Type 0} (scope : Scope N) (fa
   before : (C : Env N) (s : State P N) (n : N) → Stands n (names_env C) → Stands n (names_env C ++ s.names)
   before C s n j = left n (names_env C) s.names j
 
-  behind : (C : Env N) {k : Script P N (F N)} (s : State P N) → Settled k s → (j : Initial) → Stands (scope.names.initial j) (names_env C ++ s.names)
-  behind C s h j = right (scope.names.initial j) (names_env C) s.names (h.initials j)
+  after : (C : Env N) {k : Script P N (F N)} (s : State P N) → Settled k s → (j : Initial) → Stands (scope.names.initial j) (names_env C ++ s.names)
+  after C s h j = right (scope.names.initial j) (names_env C) s.names (h.initials j)
 
-  -- what comes behind new names is left by what leaves these too
+  -- what comes after new names is left by what leaves these too
 
-  behind-datatypes : (C : Env N) (ds : List (DatBind P)) (k : List N → List (Arguments N) → Script P N (F N)) (s : State P N) → Settled (makes_datatypes C ds k) s → (ms : List N)
+  after-datatypes : (C : Env N) (ds : List (DatBind P)) (k : List N → List (Arguments N) → Script P N (F N)) (s : State P N) → Settled (makes_datatypes C ds k) s → (ms : List N)
       → Settled (k ms (value_of (arguments_of C ds ms))) (with_made ms s)
   unfolding next later making
-  behind-datatypes C ds k s h ms = record {
+  after-datatypes C ds k s h ms = record {
     script = λ p u v.
         let K = h.script p u (become-right p ms s.names v) in
         let S = h.state p u (become-right p ms s.names v) in
@@ -246,9 +246,9 @@ module _ {P : Type 0} (F : Type 0 → Type 0) {N : Type 0} (scope : Scope N) (fa
     met = h.met;
   }
 
-  behind-names : (ws : List Attributes) (k : List N → Script P N (F N)) (s : State P N) → Settled (makes_names ws k) s → (ms : List N) → Settled (k ms) (with_made ms s)
+  after-names : (ws : List Attributes) (k : List N → Script P N (F N)) (s : State P N) → Settled (makes_names ws k) s → (ms : List N) → Settled (k ms) (with_made ms s)
   unfolding next later making
-  behind-names ws k s h ms = record {
+  after-names ws k s h ms = record {
     script = λ p u v.
         let K = h.script p u (become-right p ms s.names v) in
         let S = h.state p u (become-right p ms s.names v) in
@@ -261,7 +261,7 @@ module _ {P : Type 0} (F : Type 0 → Type 0) {N : Type 0} (scope : Scope N) (fa
     met = h.met;
   }
 
-  -- an answer behind some new names becomes one behind others
+  -- an answer after some new names becomes one after others
   carried : (k : Script P N (F N)) (s : State P N) → Settled k s → (old ns ms : List N) → ((n : N) → Stands n s.names → Stands n old)
       → ◌≡◌ {A = (M : Type 0) × Scope M × (List M × List M)} (N, scope, (old, ns)) (N, scope, (old, ms))
       → (o : Answer P (F N × State P N)) → IsAnswer scope (next (chosen k ns) k s) (later (chosen k ns) k s) o
@@ -340,21 +340,21 @@ module _ {P : Type 0} (F : Type 0 → Type 0) {N : Type 0} (scope : Scope N) (fa
           coe 0 1 (i. IsScheme (u i) (S i) (closing (K i)).0 (closing (K i)).1 (closing (K i)).2 (coe 0 i (j. Scheme (p j)) σ)) a in
           to_path_p (λ i. Scheme (p i)) (one-scheme scope s h.met.0 (finitely s h.met) n x t _ σ moved a)
   agree (makes_datatypes C ds k) s h o q (ns, new, made, inl a) (ms, also, done, inl b) =
-      let e = faults-same scope far C ds (names_env C ++ s.names) (before C s) (behind C s h) ns ms new also made done a.0 b.0 a.1 b.1 in λ i. (N, scope, s.names, (a.2 ∙ (ap refused e ∙ sym b.2)) i)
+      let e = faults-same scope far C ds (names_env C ++ s.names) (before C s) (after C s h) ns ms new also made done a.0 b.0 a.1 b.1 in λ i. (N, scope, s.names, (a.2 ∙ (ap refused e ∙ sym b.2)) i)
   agree (makes_datatypes C ds k) s h o q (ns, new, made, inl a) (ms, also, done, inr b) =
-      absurd (never-both scope far C ds (names_env C ++ s.names) (before C s) (behind C s h) ns ms new also made done a.0 b.0 a.1 b.1)
+      absurd (never-both scope far C ds (names_env C ++ s.names) (before C s) (after C s h) ns ms new also made done a.0 b.0 a.1 b.1)
   agree (makes_datatypes C ds k) s h o q (ns, new, made, inr a) (ms, also, done, inl b) =
-      absurd (never-both scope far C ds (names_env C ++ s.names) (before C s) (behind C s h) ms ns also new done made b.0 a.0 b.1 a.1)
+      absurd (never-both scope far C ds (names_env C ++ s.names) (before C s) (after C s h) ms ns also new done made b.0 a.0 b.1 a.1)
   agree (makes_datatypes C ds k) s h o q (ns, new, made, inr (gs, e, a, c)) (ms, also, done, inr (hs, f, b, d)) =
       let old = names_env C ++ s.names in
-      let ρ = choices-along scope far C ds old (before C s) (behind C s h) ns ms new also made done gs hs e f a b in
+      let ρ = choices-along scope far C ds old (before C s) (after C s h) ns ms new also made done gs hs e f a b in
       let c' : IsAnswer scope (k ns (value_of (arguments_of C ds ns))) (with_made ns s) o = subst (λ gs. IsAnswer scope (k ns gs) (with_made ns s) o) (sym (ap value_of e)) c in
       let d' : IsAnswer scope (k ms (value_of (arguments_of C ds ms))) (with_made ms s) q = subst (λ gs. IsAnswer scope (k ms gs) (with_made ms s) q) (sym (ap value_of f)) d in
       let r = carried (makes_datatypes C ds k) s h old ns ms (λ n j. right n (names_env C) s.names j) ρ o c' in
-      r.1 ∙ shorter ms s.names r.0 q (agree (k ms (value_of (arguments_of C ds ms))) (with_made ms s) (behind-datatypes C ds k s h ms) r.0 q r.2 d')
+      r.1 ∙ shorter ms s.names r.0 q (agree (k ms (value_of (arguments_of C ds ms))) (with_made ms s) (after-datatypes C ds k s h ms) r.0 q r.2 d')
   agree (makes_names ws k) s h o q (ns, new, c) (ms, also, d) =
       let ρ = names-along scope far ws s.names ns ms new also in
-      let r = carried (makes_names ws k) s h s.names ns ms (λ n j. j) ρ o c in r.1 ∙ shorter ms s.names r.0 q (agree (k ms) (with_made ms s) (behind-names ws k s h ms) r.0 q r.2 d)
+      let r = carried (makes_names ws k) s h s.names ns ms (λ n j. j) ρ o c in r.1 ∙ shorter ms s.names r.0 q (agree (k ms) (with_made ms s) (after-names ws k s h ms) r.0 q r.2 d)
   agree (requires_or d f k) s h o q (inl a) (inl b) =
       agree k (with_demand d s)
       (record { script = λ r u v i. next nothing (h.script r u v i) (h.state r u v i); state = λ r u v i. later nothing (h.script r u v i) (h.state r u v i); initials = h.initials; met = a.0 }) o q a.1 b.1

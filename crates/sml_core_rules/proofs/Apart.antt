@@ -46,15 +46,15 @@ nothing Less a b n h = h
 nothing Equal a b n h = absurd (n refl)
 nothing Greater a b n h = h
 
-lookup-behind : {X : Type 0} (x y : Id) (t : X) (bs : List (Id × X)) → lookup x bs ≡ None → ¬ (order_of x y ≡ Equal) → lookup x (bs ++ (y, t) ∷ []) ≡ None
-lookup-behind x y t [] h n = nothing (order_of x y) t None n refl
-lookup-behind x y t (b ∷ bs) h n =
-    let d = differs (order_of x b.0) b.1 (lookup x bs) h in nothing (order_of x b.0) b.1 (lookup x (bs ++ (y, t) ∷ [])) d.0 (lookup-behind x y t bs d.1 n)
+lookup-after : {X : Type 0} (x y : Id) (t : X) (bs : List (Id × X)) → lookup x bs ≡ None → ¬ (order_of x y ≡ Equal) → lookup x (bs ++ (y, t) ∷ []) ≡ None
+lookup-after x y t [] h n = nothing (order_of x y) t None n refl
+lookup-after x y t (b ∷ bs) h n =
+    let d = differs (order_of x b.0) b.1 (lookup x bs) h in nothing (order_of x b.0) b.1 (lookup x (bs ++ (y, t) ∷ [])) d.0 (lookup-after x y t bs d.1 n)
 
-apart-behind : {N : Type 0} (x : Id) (t : MlType N) (bs : Bindings N) → AreApart bs → lookup x bs ≡ None → AreApart (bs ++ (x, t) ∷ [])
-apart-behind x t [] a h = (refl, tt)
-apart-behind x t (b ∷ bs) a h =
-    let d = differs (order_of x b.0) b.1 (lookup x bs) h in (lookup-behind b.0 x t bs a.0 (λ e. d.0 (other-side b.0 x e)), apart-behind x t bs a.1 d.1)
+apart-after : {N : Type 0} (x : Id) (t : MlType N) (bs : Bindings N) → AreApart bs → lookup x bs ≡ None → AreApart (bs ++ (x, t) ∷ [])
+apart-after x t [] a h = (refl, tt)
+apart-after x t (b ∷ bs) a h =
+    let d = differs (order_of x b.0) b.1 (lookup x bs) h in (lookup-after b.0 x t bs a.0 (λ e. d.0 (other-side b.0 x e)), apart-after x t bs a.1 d.1)
 
 -- types for unknowns change no variable
 pub apart-assigned : {N : Type 0} (σ : ℕ → MlType N) (bs : Bindings N) → AreApart bs → AreApart (assign_bindings σ bs)
@@ -65,7 +65,7 @@ module _ {P N : Type 0} (scope : Scope N) (is_rec : Bool) (C : Env N) (vs : Map 
   variable-apart : (p : P) (x : Id) (bs : Bindings N) (s : State P N) (r : Typed N (MlType N) × State P N) → IsAnswer scope (bind_variable scope p x bs) s (accepted r) → AreApart bs
       → AreApart r.0.bound
   unfolding IsAnswer ◌>>=◌
-  variable-apart p x bs s r (inl (c, h)) a = subst (λ t. AreApart t.bound) (sym (ap (λ q. q.0) (accepted_same h))) (apart-behind x (free s.made) bs a c)
+  variable-apart p x bs s r (inl (c, h)) a = subst (λ t. AreApart t.bound) (sym (ap (λ q. q.0) (accepted_same h))) (apart-after x (free s.made) bs a c)
   variable-apart p x bs s r (inr h) a = absurd (not_refused h.1)
 
   bound-apart : (p : P) (x : Id) (ty : Option (Ty P)) (bs : Bindings N) (s : State P N) (r : Typed N (MlType N) × State P N)
@@ -74,7 +74,7 @@ module _ {P N : Type 0} (scope : Scope N) (is_rec : Bool) (C : Env N) (vs : Map 
   bound-apart p x None bs s r h a = variable-apart p x bs s r h a
   bound-apart p x (Some ty) bs s r (inl (c, h)) a =
       let b = bind-accepted scope (read_constraint C vs ty) _ s r h in
-      subst (λ t. AreApart t.bound) (sym (given scope (typed b.0.0 (bs ++ (x, b.0.0) ∷ [])) b.0.1 r b.2)) (apart-behind x b.0.0 bs a c)
+      subst (λ t. AreApart t.bound) (sym (given scope (typed b.0.0 (bs ++ (x, b.0.0) ∷ [])) b.0.1 r b.2)) (apart-after x b.0.0 bs a c)
   bound-apart p x (Some ty) bs s r (inr h) a = absurd (not_refused h.1)
 
   layered-apart : (x : Name P) (ty : Option (Ty P)) (bs : Bindings N) (s : State P N) (r : Typed N (MlType N) × State P N)

@@ -148,8 +148,8 @@ constant-assigned names σ K.Real = refl
 constant-assigned names σ K.String = refl
 constant-assigned names σ K.Character = refl
 
-behind : {N : Type 0} (bs cs ds : Bindings N) {x y : Bindings N} → x ≡ bs ++ cs → y ≡ x ++ ds → y ≡ bs ++ (cs ++ ds)
-behind bs cs ds e f = f ∙ (ap (λ x. x ++ ds) e ∙ append_assoc bs cs ds)
+after : {N : Type 0} (bs cs ds : Bindings N) {x y : Bindings N} → x ≡ bs ++ cs → y ≡ x ++ ds → y ≡ bs ++ (cs ++ ds)
+after bs cs ds e f = f ∙ (ap (λ x. x ++ ds) e ∙ append_assoc bs cs ds)
 
 module _ {P N : Type 0} (scope : Scope N) where
   looked : {X : Type 0} (a : Answer P X) (s : State P N) (r : X × State P N) → IsAnswer scope (look a) s (accepted r) → a ≡ accepted r.0
@@ -178,7 +178,7 @@ module _ {P N : Type 0} (scope : Scope N) (σ : ℕ → MlType N) (are : (v : �
   constructs-met x p q b v s r f (inl (c, inr h)) m = absurd (not_refused h.1)
   constructs-met x p q b v s r f (inr h) m = absurd (not_refused h.1)
 
-  -- what was read fits, with what is bound behind what was
+  -- what was read fits, with what is bound after what was
   abbrev Fitting : Bindings N → Pat P → Typed N (MlType N) → Type 0
   Fitting bs q t = (cs : Bindings N) × (t.bound ≡ bs ++ cs) × Fits scope.names eq (assign_context σ C) is_rec q (assign σ t.type) (assign_bindings σ cs)
 
@@ -349,7 +349,7 @@ module _ {P N : Type 0} (scope : Scope N) (σ : ℕ → MlType N) (are : (v : �
         let g = require-met p a.0.0.type c.0.0.type c.0.1 e.0 e.1 n in
         subst (Fitting bs (pat_as p x ty q)) (sym (given scope (typed a.0.0.type c.0.0.bound) e.0.1 r e.2)) (
           (x.id, a.0.0.type) ∷ f.0,
-          behind bs ((x.id, a.0.0.type) ∷ []) f.0 y.1 f.1,
+          after bs ((x.id, a.0.0.type) ∷ []) f.0 y.1 f.1,
           (
             assign_bindings σ f.0,
             ap (λ c. is_rec || not c) (constructor-assigned σ C.env x.id) ∙ y.0,
@@ -371,7 +371,7 @@ module _ {P N : Type 0} (scope : Scope N) (σ : ℕ → MlType N) (are : (v : �
         let g = all-fit qs a.0.0.bound a.0.1 c.0 c.1 n in
         subst (AllFitting bs (and_pat q qs)) (sym (given scope (typed (and_type a.0.0.type c.0.0.type) c.0.0.bound) c.0.1 r c.2)) (
           f.0 ++ g.0,
-          behind bs f.0 g.0 f.1 g.1,
+          after bs f.0 g.0 f.1 g.1,
           (
             assign σ a.0.0.type,
             assign_all σ c.0.0.type,
@@ -393,7 +393,7 @@ module _ {P N : Type 0} (scope : Scope N) (σ : ℕ → MlType N) (are : (v : �
         let f = pat-fits q bs s a.0 a.1 l in
         let g = fields-fit qs a.0.0.bound (put_field x.id a.0.0.type fs) a.0.1 r a.2 m in (
           f.0 ++ g.0,
-          behind bs f.0 g.0 f.1 g.1,
+          after bs f.0 g.0 f.1 g.1,
           (
             assign σ a.0.0.type,
             assign_bindings σ f.0,

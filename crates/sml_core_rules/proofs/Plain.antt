@@ -89,7 +89,7 @@ module _ {P : Type 0} (F : Type 0 → Type 0) {N : Type 0} (scope : Scope N) (fa
   covers-more : (ns old : List N) (s : State P N) → Covers old s → Covers (ns ++ old) (with_made ns s)
   covers-more ns old s h n o = outside-append n ns old (outside-left n ns s.names o) (h n (outside-right n ns s.names o))
 
-  -- an answer behind some new names becomes one behind others, from some state with as many names
+  -- an answer after some new names becomes one after others, from some state with as many names
   carried : (k : Script P N (F N)) (old : List N) → Fixed old k → (more ns ms : List N) → ((n : N) → Stands n old → Stands n more)
       → ◌≡◌ {A = (M : Type 0) × Scope M × (List M × List M)} (N, scope, (more, ns)) (N, scope, (more, ms))
       → (s : State P N) → Covers (ns ++ old) s → (o : Answer P (F N × State P N)) → IsAnswer scope (next (chosen k ns) k no_state) s o
@@ -110,19 +110,19 @@ module _ {P : Type 0} (F : Type 0 → Type 0) {N : Type 0} (scope : Scope N) (fa
       (i. IsAnswer (u i) (next (chosen (K i) ((ρ i).2.1)) (K i) no_state) (coe 0 i (j. State P (p j)) s) (coe 0 i (j. Answer P (F (p j) × State P (p j))) o)) a in
       (t, q, covers, same, moved)
 
-  behind-names : (ws : List Attributes) (k : List N → Script P N (F N)) (old : List N) → Fixed old (makes_names ws k) → (ms : List N) → Fixed (ms ++ old) (k ms)
+  after-names : (ws : List Attributes) (k : List N → Script P N (F N)) (old : List N) → Fixed old (makes_names ws k) → (ms : List N) → Fixed (ms ++ old) (k ms)
   unfolding next making
-  behind-names ws k old h ms = record {
+  after-names ws k old h ms = record {
     script = λ p u v.
         let K = h.script p u (become-right p ms old v) in
         let l = become-list p ms ms (become-left p ms old v) in λ i. next (chosen (K i) (l i)) (K i) no_state;
     initials = λ j. right (scope.names.initial j) ms old (h.initials j);
   }
 
-  behind-datatypes : (C : Env N) (ds : List (DatBind P)) (k : List N → List (Arguments N) → Script P N (F N)) (old : List N) → Fixed old (makes_datatypes C ds k) → (ms : List N)
+  after-datatypes : (C : Env N) (ds : List (DatBind P)) (k : List N → List (Arguments N) → Script P N (F N)) (old : List N) → Fixed old (makes_datatypes C ds k) → (ms : List N)
       → Fixed (ms ++ old) (k ms (value_of (arguments_of C ds ms)))
   unfolding next making
-  behind-datatypes C ds k old h ms = record {
+  after-datatypes C ds k old h ms = record {
     script = λ p u v.
         let K = h.script p u (become-right p ms old v) in
         let l = become-list p ms ms (become-left p ms old v) in λ i. next (chosen (K i) (l i)) (K i) no_state;
@@ -164,7 +164,7 @@ module _ {P : Type 0} (F : Type 0 → Type 0) {N : Type 0} (scope : Scope N) (fa
   agree-plain (makes_names ws k) e old h s t c d o q (ns, new, a) (ms, also, b) =
       let ρ = names-along scope far ws old ns ms (fewer-made scope ws old s.names ns c new) (fewer-made scope ws old t.names ms d also) in
       let r = carried (makes_names ws k) old h old ns ms (λ n j. j) ρ (with_made ns s) (covers-more ns old s c) o a in
-      r.3 ∙ fewer ms old r.1 q (agree-plain (k ms) (e ms) (ms ++ old) (behind-names ws k old h ms) r.0 (with_made ms t) r.2 (covers-more ms old t d) r.1 q r.4 b)
+      r.3 ∙ fewer ms old r.1 q (agree-plain (k ms) (e ms) (ms ++ old) (after-names ws k old h ms) r.0 (with_made ms t) r.2 (covers-more ms old t d) r.1 q r.4 b)
   agree-plain (makes_datatypes C ds k) e old h s t c d o q (ns, new, made, inl a) (ms, also, done, inl b) =
       let f =
       faults-same scope far C ds (names_env C ++ old) (λ n j. left n (names_env C) old j) (λ j. right (scope.names.initial j) (names_env C) old (h.initials j)) ns ms
@@ -185,4 +185,4 @@ module _ {P : Type 0} (F : Type 0 → Type 0) {N : Type 0} (scope : Scope N) (fa
       let r = carried (makes_datatypes C ds k) old h (names_env C ++ old) ns ms (λ n j. right n (names_env C) old j) ρ (with_made ns s) (covers-more ns old s c) o a' in
       r.3
       ∙ fewer ms old r.1 q
-      (agree-plain (k ms (value_of (arguments_of C ds ms))) (e ms (value_of (arguments_of C ds ms))) (ms ++ old) (behind-datatypes C ds k old h ms) r.0 (with_made ms t) r.2 (covers-more ms old t d) r.1 q r.4 b')
+      (agree-plain (k ms (value_of (arguments_of C ds ms))) (e ms (value_of (arguments_of C ds ms))) (ms ++ old) (after-datatypes C ds k old h ms) r.0 (with_made ms t) r.2 (covers-more ms old t d) r.1 q r.4 b')

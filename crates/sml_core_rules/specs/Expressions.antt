@@ -41,9 +41,9 @@ pub record Bound (N : Type 0) : Type 0 where
 abbrev pub bounds : {N : Type 0} → Bool → Bindings N → List (Bound N)
 bounds x bs = map (λ b. record { id = b.0; type = b.1; expansive = x }) bs
 
--- those behind the first ones
-abbrev pub behind : {N : Type 0} → Bindings N → Bindings N → Bindings N
-behind seen bs = drop (length seen) bs
+-- those after the first ones
+abbrev pub after : {N : Type 0} → Bindings N → Bindings N → Bindings N
+after seen bs = drop (length seen) bs
 
 -- the types that stay open
 abbrev pub staying : {N : Type 0} → List (Bound N) → List (MlType N)
@@ -257,7 +257,7 @@ module _ {P N : Type 0} (scope : Scope N) where
       t ← read_exp C vs e
       read_fields C vs (put_field l.id t fs) es
 
-    -- The rules of a match, behind the type of the first; each has the type of the first.
+    -- The rules of a match, after the type of the first; each has the type of the first.
     pub read_rules : Env N → Map (MlType N) → Option (MlType N) → Rules P → Script P N (MlType N)
     read_rules C vs first no_rule = or_unknown first
     read_rules C vs first (and_rule (rule p q e) m) = do
@@ -308,18 +308,18 @@ module _ {P N : Type 0} (scope : Scope N) where
       r ← read_pat scope false C vs seen q
       t ← read_exp C vs e
       u ← require_equal (pattern_place q) r.type t
-      read_binds C vs r.bound (done ++ bounds (is_expansive C e) (behind seen r.bound)) bs
+      read_binds C vs r.bound (done ++ bounds (is_expansive C e) (after seen r.bound)) bs
 
-    -- the patterns behind `rec`, their types and what they bind
+    -- the patterns after `rec`, their types and what they bind
     pub read_patterns : Env N → Map (MlType N) → Bindings N → Bindings N → ValBinds P → Script P N (List (MlType N) × Bindings N)
     read_patterns C vs seen new no_bind = give ([], new)
     read_patterns C vs seen new (and_bind (bind q e) bs) = do
       r ← read_pat scope true C vs seen q
-      u ← require_bindings (pattern_place q) (behind seen r.bound)
-      s ← read_patterns C vs r.bound (new ++ behind seen r.bound) bs
+      u ← require_bindings (pattern_place q) (after seen r.bound)
+      s ← read_patterns C vs r.bound (new ++ after seen r.bound) bs
       give (r.type ∷ s.0, s.1)
 
-    -- the right sides behind `rec`
+    -- the right sides after `rec`
     pub read_rights : Env N → Map (MlType N) → List (MlType N) → ValBinds P → Script P N (Unit {0})
     read_rights C vs ts no_bind = give tt
     read_rights C vs [] (and_bind b bs) = give tt

@@ -9,7 +9,7 @@ abbrev pub found_in : {T V X : Type 0} → List Id → (Maps T V → Found X) �
 found_in seen look None = no_path seen
 found_in seen look (Some E) = look E
 
--- along a path, behind the structures seen so far
+-- along a path, after the structures seen so far
 unfoldable pub find_at : {T V X : Type 0} → (Maps T V → Option X) → List Id → List Id → Maps T V → Found X
 find_at pick seen [] E = entry (pick E)
 find_at pick seen (s ∷ path) E = found_in (seen ++ s ∷ []) (find_at pick (seen ++ s ∷ []) path) (find_structure s (structures E))

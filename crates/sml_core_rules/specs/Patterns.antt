@@ -63,7 +63,7 @@ read_constraint C vs ty = do
   u ← test (type_size t ≤ 10000) (fault E7 (type_place ty))
   give t
 
--- Whether a short identifier that stands alone is a variable. Behind `rec` each is, but for `nil`, which only `[]` can be there.
+-- Whether a short identifier that stands alone is a variable. After `rec` each is, but for `nil`, which only `[]` can be there.
 abbrev pub is_variable_alone : {N : Type 0} → Bool → Env N → Id → Bool
 is_variable_alone is_rec C x = (is_rec && not (is_same x (codes "nil"))) || not (is_constructor C x)
 
@@ -160,7 +160,7 @@ module _ {P N : Type 0} (scope : Scope N) where
         rs ← read_pats r.bound qs
         give (typed (and_type r.type rs.type) rs.bound)
 
-      -- fields behind those before them
+      -- fields after those before them
       pub read_pat_fields : Bindings N → Fields (MlType N) → PatFields P → Script P N (Typed N (Fields (MlType N)))
       read_pat_fields bs fs no_pat_field = give (typed fs bs)
       read_pat_fields bs fs (and_pat_field (pat_field l q) qs) = do

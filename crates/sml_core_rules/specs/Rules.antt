@@ -26,7 +26,7 @@ use Rattle.sml_core_rules.specs.Datatypes.{Arguments, AreNew, AdmitAsManyAsCan, 
 use Rattle.sml_core_rules.specs.Expressions.{Bound, bounds, bound_values, exception_type, not_in_scope}
 use Rattle.sml_core_rules.specs.Contexts.{Context, plus, plus_names, with_explicit, IsWithin, context_variables, type_variables, IsType, IsInstance, IsClosing}
 
--- Type expressions (rules 44 to 49). The types in `vs` stand for the type variables that are in scope. Fields come behind those
+-- Type expressions (rules 44 to 49). The types in `vs` stand for the type variables that are in scope. Fields come after those
 -- before them.
 module _ {P N : Type 0} (C : Env N) (vs : Map (MlType N)) where
   unfoldable mutual
@@ -195,7 +195,7 @@ module _ {N : Type 0} (names : Naming N) where
       HaveAll C no_exp ts = ts ≡ no_type
       HaveAll C (and_exp e es) ts = (t : MlType N) × (rest : MlTypes N) × Has C e t × HaveAll C es rest × (ts ≡ and_type t rest)
 
-      -- fields behind those before them
+      -- fields after those before them
       pub HaveFields : {P : Type 0} → Context N → T.Fields (MlType N) → Fields P → T.Fields (MlType N) → Type 0
       HaveFields C fs no_field us = us ≡ fs
       HaveFields C fs (and_field (field l e) es) us = (t : MlType N) × Has C e t × HaveFields C (put_field l.id t fs) es us
@@ -239,14 +239,14 @@ module _ {N : Type 0} (names : Naming N) where
           (t : MlType N) × (cs : Bindings N) × (rest : List (Bound N)) × Fits C false q t cs × Has C e t × Bind C bs rest
           × (vs ≡ bounds (is_expansive C.env e) cs ++ rest)
 
-      -- the patterns behind `rec` (rule 26), their types and what they bind
+      -- the patterns after `rec` (rule 26), their types and what they bind
       pub FitEach : {P : Type 0} → Context N → ValBinds P → List (MlType N) → Bindings N → Type 0
       FitEach C no_bind ts bs = (ts ≡ []) × (bs ≡ [])
       FitEach C (and_bind (bind q e) rs) ts bs =
           (t : MlType N) × (us : List (MlType N)) × (cs : Bindings N) × (rest : Bindings N) × Fits C true q t cs × FitEach C rs us rest
           × (ts ≡ t ∷ us) × (bs ≡ cs ++ rest)
 
-      -- the right sides behind `rec`, which are functions
+      -- the right sides after `rec`, which are functions
       pub HaveEach : {P : Type 0} → Context N → ValBinds P → List (MlType N) → Type 0
       HaveEach C no_bind ts = ts ≡ []
       HaveEach C (and_bind (bind q e) rs) ts =

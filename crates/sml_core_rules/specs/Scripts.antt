@@ -24,7 +24,7 @@ use Rattle.sml_core_rules.specs.Datatypes.{Arguments, AreNew, AdmitAsManyAsCan, 
 -- It ends with an object or with a fault. Before that it tests a condition, or goes on by one; makes unknowns, and is told the
 -- number of the first; adds a demand, which has its place, or one with a fault of its own; sees the state; sets the window; says
 -- that an unknown may stand in what is bound; starts anew, unless that was said; closes a type, at the end of a declaration that
--- begins behind so many unknowns; takes the type that a type is in every case, or a fault; and makes names, of which this is seen
+-- begins after so many unknowns; takes the type that a type is in every case, or a fault; and makes names, of which this is seen
 -- beside their maker, or the names of datatypes in a context.
 pub data Script (P N X : Type 0) : Type 1 where
   give : X → Script P N X

@@ -78,7 +78,7 @@ module _ {P N : Type 0} (scope : Scope N) (s : State P N) where
   unfoldable pub AsksEquality : ℕ → Type 0
   AsksEquality v = (σ : Assignment N finite) → Meets Equality σ → admits scope.names (σ v) ≡ true
 
-  -- What becomes of an unknown that is left, at the end of a declaration that begins behind the first n unknowns: int, where
+  -- What becomes of an unknown that is left, at the end of a declaration that begins after the first n unknowns: int, where
   -- nothing else is left; bound, with its equality attribute, where the right side isn't expansive, the context doesn't fix it
   -- and it is no flexible row; else it stays.
   abbrev pub IsFateOf : ℕ → Bool → ℕ → Fate → Type 0

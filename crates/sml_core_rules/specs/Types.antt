@@ -12,7 +12,7 @@ use Rattle.sml_core_rules.specs.Answers.{give, ◌>>=◌, check, need}
 use Rattle.sml_core_rules.specs.Objects.{Env}
 use Rattle.sml_core_rules.specs.Lookups.{type_at}
 
--- The fields of a row, each behind its label; the labels rise. A label that stands already gets the later type.
+-- The fields of a row, each after its label; the labels rise. A label that stands already gets the later type.
 abbrev pub Fields : Type 0 → Type 0
 Fields X = List (Id × X)
 
@@ -74,7 +74,7 @@ module _ {P N : Type 0} (C : Env N) (vs : Map (MlType N)) where
       ts ← read_tys us
       give (and_type t ts)
 
-    -- fields behind those before them
+    -- fields after those before them
     pub read_fields : Fields (MlType N) → TyFields P → Answer P (Fields (MlType N))
     read_fields fs no_ty_field = give fs
     read_fields fs (and_ty_field (ty_field l u) us) = do

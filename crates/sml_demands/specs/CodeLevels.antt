@@ -74,7 +74,7 @@ pub record Moves (ns ms : List Node) (cs : List Change) : Type 0 where
   pub inside : AreInside (length ms) cs
   pub narrows : (σ : Assignment finite) → Meets finite ms σ → Meets finite ns σ
 
--- one level more, of a node behind the others
+-- one level more, of a node after the others
 pub record BeginsLevel (ls : List (Option ℕ)) (at n : ℕ) (ms : List (Option ℕ)) : Type 0 where
   pub len : length ms ≡ at + 1
   pub here : level_at ms at ≡ n

@@ -127,7 +127,7 @@ abbrev pub curried : {P : Type 0} → P → ℕ → ℕ → Exp P → Exp P
 curried p k zero e = e
 curried p k (suc n) e = fn p (one_rule p (pat_var p (hidden k)) (curried p (suc k) n e))
 
--- `f` and its clauses, behind `fun`: what stands behind `val rec`
+-- `f` and its clauses, after `fun`: what stands after `val rec`
 abbrev pub function_of : {P : Type 0} → Id → Clause P → List (Clause P) → ValBind P
 function_of f c cs = bind (pat_var c.place f) (curried c.place 1 (count c.pats) (case_of c.place (row_of c.place (hidden_from c.place 1 (count c.pats))) (clause_rules (c ∷ cs))))
 

@@ -1,9 +1,9 @@
-//! Signature expressions behind `:` or `:>`.
+//! Signature expressions after `:` or `:>`.
 
 use sml_tree::signatures::SigExp;
 use sml_tree::structures::Ascription;
 
-/// A signature expression behind `:` or `:>`.
+/// A signature expression after `:` or `:>`.
 #[derive(Drop)]
 pub struct Constraint {
     pub ascription: Ascription,

@@ -36,7 +36,7 @@ pub(crate) fn bracket(alloc: Global, place: Place, ty: Ty) -> Result<Ty, Memory>
     Ok(Ty::Bracket(place, Box::new(alloc, ty)?))
 }
 
-/// A type constructor behind its arguments.
+/// A type constructor after its arguments.
 pub(crate) fn constructor(
     alloc: Global,
     place: Place,
@@ -48,7 +48,7 @@ pub(crate) fn constructor(
     Ok(Ty::Constructor(place, arguments, copy_of_long(alloc, long)?))
 }
 
-/// A type constructor behind arguments of another number than its variables.
+/// A type constructor after arguments of another number than its variables.
 pub(crate) fn misapplied(
     alloc: Global,
     place: Place,

@@ -14,7 +14,7 @@ use sml_tree::names::Name;
 use std::alloc::Global;
 use std::rc::Rc;
 
-/// So many hidden variables are kept; of those behind them each is made where it is written.
+/// So many hidden variables are kept; of those after them each is made where it is written.
 const KEPT: usize = 8;
 
 /// Makes the bare trees of derived forms. Each identifier that the forms write is kept once, as are the first hidden

@@ -105,7 +105,7 @@ fn clause_rules(alloc: Global, first: Clause, others: Vec<Clause>) -> Result<Vec
 }
 
 impl Expander {
-    /// What stands behind `val rec` for a function and its clauses behind `fun`. As many arguments are taken as the
+    /// What stands after `val rec` for a function and its clauses after `fun`. As many arguments are taken as the
     /// first clause has.
     pub fn function(
         &self,

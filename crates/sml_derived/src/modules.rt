@@ -31,7 +31,7 @@ fn ascribed(
     Ok(StrExp::Ascribed(place, body, ascription, Box::new(alloc, signature)?))
 }
 
-/// What stands behind `type` for a type that is bound.
+/// What stands after `type` for a type that is bound.
 fn desc_of(alloc: Global, bind: &TypBind) -> Result<TypDesc, Memory>
     ensures { IfOk result (λ desc. typ_desc_of desc ≡ record { variables = (typ_bind_of bind.now).variables; name = (typ_bind_of bind.now).name }) }
 {
@@ -56,7 +56,7 @@ fn type_spec(alloc: Global, place: Place, bind: TypBind) -> Result<Spec, Memory>
     Ok(Spec::Include(place, SigExp::WhereType(place, signature, equation)))
 }
 
-/// A signature identifier behind `include`.
+/// A signature identifier after `include`.
 fn include(place: Place, signature: Name) -> Spec
     ensures { spec_of result ≡ include_of place (name_of signature) }
 {

@@ -98,7 +98,7 @@ impl Expander {
         Ok(Pat::Applied(place, operator, Box::new(self.alloc, argument)?))
     }
 
-    /// A field of a row that is written as an identifier, perhaps with a type and a pattern behind `as`.
+    /// A field of a row that is written as an identifier, perhaps with a type and a pattern after `as`.
     pub fn pun(&self, name: Name, ty: Option<Ty>, pat: Option<Pat>) -> Result<PatField, Memory>
         ensures { IfOk result (λ field. pat_field_of field ≡ pun (name_of name) (option_map ty_of ty) (option_map pat_of pat)) }
     {

@@ -1,4 +1,4 @@
-//! Datatypes with types bound behind `withtype`.
+//! Datatypes with types bound after `withtype`.
 
 ghost use Rattle.std.specs.Prelude.{◌≡◌, nat_eq, map, length, IfOk};
 ghost use Rattle.std.specs.Str.{bytes_eq};
@@ -151,7 +151,7 @@ fn has_all(bind: &TypBind, arguments: &[Ty]) -> bool
     bind.variables.len() == arguments.len()
 }
 
-/// A type constructor behind its arguments, from its binding.
+/// A type constructor after its arguments, from its binding.
 fn applied(
     alloc: Global,
     place: Place,
@@ -252,7 +252,7 @@ fn dat_replaced(alloc: Global, binds: &[TypBind], bind: DatBind) -> Result<DatBi
 
 impl Expander {
     /// `datatype ds withtype bs`: the datatypes with the right sides in the place of the type constructors of `bs`, and
-    /// behind them `type bs`. Where right sides stand in the arguments of others it can be far larger than the text.
+    /// after them `type bs`. Where right sides stand in the arguments of others it can be far larger than the text.
     pub fn datatypes_with_types(
         &self,
         place: Place,

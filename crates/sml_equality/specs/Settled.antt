@@ -22,7 +22,7 @@ abbrev pub settled_argument : Run → (ℕ → Bool) → Option (Rc MlType Globa
 settled_argument r kept None = None
 settled_argument r kept (Some t) = Some (rename_type (settled r kept) (type_of t.value))
 
--- Datatypes with the names and with the arguments of their constructors, each behind its identifier, in the end.
+-- Datatypes with the names and with the arguments of their constructors, each after its identifier, in the end.
 abbrev pub AreSettled : Run → (ℕ → Bool) → List Name → List (Vec (Option (Rc MlType Global)) Global) → List (Name × D.Arguments Name) → Type 0
 AreSettled r kept [] [] [] = Unit {0}
 AreSettled r kept (n ∷ ns) (d ∷ ds) (e ∷ es) = (e.0 ≡ settled r kept n) × (map (λ c. c.1) e.1 ≡ map (settled_argument r kept) d.items) × AreSettled r kept ns ds es

@@ -303,8 +303,8 @@ module _ (roles : List Role) (i : ℕ) (q : Operator) (within : i < length roles
   pub stray_fault : Begins (take i roles) → StrayAt roles i → StrayAt roles i × NoneBefore roles i × NoTree roles
   stray_fault b s = (s, none_before roles i within b, stray_no_tree roles i s)
 
-  not_stray_behind : (i + 1 ≡ length roles → ⊥) → HasOperand (take i roles) steps pending → StrayAt roles i → ⊥
-  not_stray_behind inner h s =
+  not_stray_after : (i + 1 ≡ length roles → ⊥) → HasOperand (take i roles) steps pending → StrayAt roles i → ⊥
+  not_stray_after inner h s =
       let t = close h.frames h.tree in
       let front : take i roles ≡ s.before =
       ap (λ (w : List Role). take i w) s.split ∙ take_at s.before (Infix s.operator ∷ s.after) i s.place_is in
@@ -327,7 +327,7 @@ module _ (roles : List Role) (i : ℕ) (q : Operator) (within : i < length roles
         place_is = length-take-le i roles (omega arith);
         clash = c;
       } in
-      (m, not_stray_behind inner h.has, none_before roles i within (begins true (take i roles) steps pending h), mixed_no_tree roles i m)
+      (m, not_stray_after inner h.has, none_before roles i within (begins true (take i roles) steps pending h), mixed_no_tree roles i m)
 
 pub the_tree : (roles : List Role) (steps : List Step) → IsBuilt roles steps → IsTheTree roles steps
 the_tree roles steps b = record {

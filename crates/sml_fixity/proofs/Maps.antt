@@ -44,12 +44,12 @@ apart_from Less a v h = refl
 apart_from Equal a v h = absurd (h refl)
 apart_from Greater a v h = refl
 
-behind : (y x z : Id) (b v a A : Option Fixity) (q : Ordering) → order_of x z ≡ Greater → order_of y z ≡ q → A ≡ where_same (order_of y x) v a
+after : (y x z : Id) (b v a A : Option Fixity) (q : Ordering) → order_of x z ≡ Greater → order_of y z ≡ q → A ≡ where_same (order_of y x) v a
     → where_same q b A ≡ where_same (order_of y x) v (where_same q b a)
 unfolding is_equal
-behind y x z b v a A Less h k e = e
-behind y x z b v a A Greater h k e = e
-behind y x z b v a A Equal h k e =
+after y x z b v a A Less h k e = e
+after y x z b v a A Greater h k e = e
+after y x z b v a A Equal h k e =
     apart_from (order_of y x) b v (λ s. subst is_equal (sym k ∙ ap (λ u. order_of u z) (same_ident y x s) ∙ h) tt)
 
 abbrev cmp : Key → Key → Ordering
@@ -61,7 +61,7 @@ found-insert-by : (y : Id) (k : Key) (v : Option Fixity) (e : Key × Option Fixi
 found-insert-by y k v e es Less h i = refl
 found-insert-by y k v e es Equal h i =
     over (order_of y (ident_of e.0)) (found y es) e.1 v ∙ ap (λ z. where_same (order_of y z) v (found y (e ∷ es))) (sym (same_ident (ident_of k) (ident_of e.0) h))
-found-insert-by y k v e es Greater h i = behind y (ident_of k) (ident_of e.0) e.1 v (found y es) (found y (insert_entry cmp es k v)) (order_of y (ident_of e.0)) h refl i
+found-insert-by y k v e es Greater h i = after y (ident_of k) (ident_of e.0) e.1 v (found y es) (found y (insert_entry cmp es k v)) (order_of y (ident_of e.0)) h refl i
 
 found-insert : (y : Id) (k : Key) (v : Option Fixity) (es : Stored) → found y (insert_entry cmp es k v) ≡ where_same (order_of y (ident_of k)) v (found y es)
 found-insert y k v [] = refl

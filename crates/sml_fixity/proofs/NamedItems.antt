@@ -13,13 +13,13 @@ use Rattle.sml_fixity.specs.Scopes.{Map}
 use Rattle.sml_fixity.specs.Sequences.{role_by, role_at, roles_from, roles_of, is_identifier}
 use Rattle.sml_fixity.specs.Patterns.{names_of}
 use Rattle.sml_fixity.specs.Heads.{is_operator, is_function_name, is_phrase, no_operator, infix_head, prefix_head, bracketed_head, IsHead}
-use Rattle.sml_fixity.specs.ItemNames.{Name, short, behind_op, long, phrase, name_of}
+use Rattle.sml_fixity.specs.ItemNames.{Name, short, after_op, long, phrase, name_of}
 
 -- roles
 
 role_named : Map → ℕ → Name → Role
 role_named f i (short x) = role_by i (f x)
-role_named f i behind_op = R.Atom i
+role_named f i after_op = R.Atom i
 role_named f i long = R.Atom i
 role_named f i phrase = R.Atom i
 
@@ -46,7 +46,7 @@ same_roles f xs ys e = roles_are f 0 xs ∙ ap (roles_named f 0) e ∙ sym (role
 
 identifier_named : Name → Bool
 identifier_named (short x) = true
-identifier_named behind_op = true
+identifier_named after_op = true
 identifier_named long = true
 identifier_named phrase = false
 
@@ -67,19 +67,19 @@ same_identifiers xs ys e = fun_ext (λ i. identifier_at xs i ∙ ap (λ ns. iden
 
 operator_named : Map → Name → Bool
 operator_named f (short x) = is_some (f x)
-operator_named f behind_op = false
+operator_named f after_op = false
 operator_named f long = false
 operator_named f phrase = false
 
 function_named : Name → Bool
 function_named (short x) = true
-function_named behind_op = true
+function_named after_op = true
 function_named long = false
 function_named phrase = false
 
 phrase_named : Name → Bool
 phrase_named (short x) = false
-phrase_named behind_op = false
+phrase_named after_op = false
 phrase_named long = false
 phrase_named phrase = true
 

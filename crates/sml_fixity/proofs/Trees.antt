@@ -53,7 +53,7 @@ right_agrees : (o p : Operator) → StandsRight o p → Agrees o p
 unfolding Agrees
 right_agrees o p h e = elim h [ inl l ↦ absurd (omega arith) | inr k ↦ k.1 ∙ sym k.2 ]
 
--- behind p, which stands in the left part of o, the right part of o
+-- after p, which stands in the left part of o, the right part of o
 left_right : (o p q : Operator) → StandsLeft o p → StandsRight o q → (level o < level p) ⊎ Agrees p q
 unfolding Agrees
 left_right o p q h k = elim h [
@@ -89,12 +89,12 @@ Free-append (Single a) rest ob g f = f
 Free-append (Applied h x) rest ob g f =
     rw append_assoc (Free-plain h (yield x ++ rest) ob.1 (Free-plain x rest (single_plain x ob.2) f))
 Free-append (Joined o l r) rest ob g f =
-    let behind : Free (yield r ++ rest) = Free-append r rest ob.1 g.2 f in
+    let rest_free : Free (yield r ++ rest) = Free-append r rest ob.1 g.2 f in
     let guard : Guard o (yield r ++ rest) =
     Guard-append o (yield r) rest (Guard-tree o r (each_weaker (StandsRight o) (Agrees o) (right_agrees o) r ob.3)) g.0 in
     let each : EachOperator (λ p. Guard p (Infix o ∷ (yield r ++ rest))) l =
     each_both (StandsLeft o) (λ p. Guard p rest) (λ p. Guard p (Infix o ∷ (yield r ++ rest))) (λ p a b. Guard-left o p r rest a ob.3 b) l ob.2 g.1 in
-    rw append_assoc (Free-append l (Infix o ∷ (yield r ++ rest)) ob.0 each (guard, behind))
+    rw append_assoc (Free-append l (Infix o ∷ (yield r ++ rest)) ob.0 each (guard, rest_free))
 
 Free-yield : (t : Tree) → Obeys t → Free (yield t)
 unfolding Free Guard

@@ -66,7 +66,7 @@ ReadsBy false roles steps pending = AwaitsOperand roles steps pending
 abbrev pub Reads : List Role → Reader → Type 0
 Reads roles reader = ReadsBy reader.after_operand roles reader.steps.items reader.pending.items
 
--- how two operators group, the second standing behind the first
+-- how two operators group, the second standing after the first
 abbrev pub Orders : Operator → Operator → Order → Type 0
 Orders p q EarlierFirst = StandsLeft q p
 Orders p q LaterFirst = StandsRight p q

@@ -86,7 +86,7 @@ NoneLooser p [] = Unit {0}
 NoneLooser p (Atom a ∷ roles) = NoneLooser p roles
 NoneLooser p (Infix q ∷ roles) = (level p ≤ level q) × NoneLooser p roles
 
--- among the roles there is an operator of q's level and the other side, with none looser behind it
+-- among the roles there is an operator of q's level and the other side, with none looser after it
 pub record Clashes (roles : List Role) (q : Operator) : Type 0 where
   pub before : List Role
   pub earlier : Operator

@@ -108,7 +108,7 @@ impl Reader {
         Ok(true)
     }
 
-    /// Reads an operator that stands behind an operand. `false` as above.
+    /// Reads an operator that stands after an operand. `false` as above.
     fn operator(&mut self, operator: Operator) -> Result<bool, AllocError>
         ensures { IfOk result (λ agrees. (roles : List Role) → HasAtoms roles self.old.steps.items self.old.pending.items → MatchBool agrees (Reads (roles ++ Infix operator ∷ []) self.new) (Clashes roles operator)) }
     {

@@ -17,7 +17,7 @@ use std::alloc::{AllocError, Global};
 pub enum Item {
     /// A short identifier without `op`: an operator where it has a fixity, and else an operand.
     Short(Ident),
-    /// A short identifier behind `op`.
+    /// A short identifier after `op`.
     Op,
     /// An identifier with a path, with or without `op`.
     Long,

@@ -1,4 +1,4 @@
--- A step over the nodes of a unit, behind some tokens and some declarations.
+-- A step over the nodes of a unit, after some tokens and some declarations.
 use Rattle.std.proofs.Common.{◌≡◌, ℕ, suc, ◌+◌, ◌<◌, List, [], ◌∷◌, zero, true, false, Option, Some, None, map, length, drop, get_or, refl, sym, ap, ◌∙◌, arith}
 use Rattle.std.proofs.lemmas.Bool.{cond-true, cond-false, false≢true}
 use Rattle.std.proofs.lemmas.List.{drop_more, drop-drop, drop-map}

@@ -19,7 +19,7 @@ use Rattle.sml_flaws.specs.declared.mark.Mark.{Mark}
 use Rattle.sml_flaws.specs.declared.mark.Mark.TheVariants as M
 use Rattle.sml_flaws.specs.Flaws.{lies_in, is_outer, scoped_at, scoped_of}
 use Rattle.sml_flaws.specs.declared.flaw.Flaw.{Flaw}
-use Rattle.sml_flaws.specs.CodeScopes.{owned_in, AreOwned, ends_behind, is_round, KnowsPassed, KnowsReaches}
+use Rattle.sml_flaws.specs.CodeScopes.{owned_in, AreOwned, ends_after, is_round, KnowsPassed, KnowsReaches}
 use Rattle.sml_flaws.specs.declared.scopes.Passed.{Passed}
 
 max_test : (n a b : ℕ) → nat_lt n (max a b) ≡ (nat_lt n a || nat_lt n b)
@@ -71,25 +71,25 @@ not_below : (a b : ℕ) → b ≤ a → nat_lt a b ≡ false
 not_below a b w = grind (arith, nat_tests)
 
 module _ (text : ℕ → Id) (ends : List ℕ) (name : Id) (node : ℕ) where
-  -- the scopes of declarations before a node are round it if they end behind it
-  pub before_all : (owned : List Owned) → All (λ v. v.owner < node) owned → list_any (is_round text ends name node) owned ≡ list_any (ends_behind text ends name node) owned
+  -- the scopes of declarations before a node are round it if they end after it
+  pub before_all : (owned : List Owned) → All (λ v. v.owner < node) owned → list_any (is_round text ends name node) owned ≡ list_any (ends_after text ends name node) owned
   before_all [] all = refl
   before_all (v ∷ owned) all =
-      ap (λ b. (b && ends_behind text ends name node v) || list_any (is_round text ends name node) owned) (below v.owner node (first_of (λ v. v.owner < node) v owned all))
-      ∙ ap (λ b. ends_behind text ends name node v || b) (before_all owned (others_of (λ v. v.owner < node) v owned all))
+      ap (λ b. (b && ends_after text ends name node v) || list_any (is_round text ends name node) owned) (below v.owner node (first_of (λ v. v.owner < node) v owned all))
+      ∙ ap (λ b. ends_after text ends name node v || b) (before_all owned (others_of (λ v. v.owner < node) v owned all))
 
-  -- those of declarations behind it aren't
-  pub behind_all : (owned : List Owned) → All (λ v. node ≤ v.owner) owned → list_any (is_round text ends name node) owned ≡ false
-  behind_all [] all = refl
-  behind_all (v ∷ owned) all =
-      ap (λ b. (b && ends_behind text ends name node v) || list_any (is_round text ends name node) owned) (not_below v.owner node (first_of (λ v. node ≤ v.owner) v owned all))
-      ∙ behind_all owned (others_of (λ v. node ≤ v.owner) v owned all)
+  -- those of declarations after it aren't
+  pub after_all : (owned : List Owned) → All (λ v. node ≤ v.owner) owned → list_any (is_round text ends name node) owned ≡ false
+  after_all [] all = refl
+  after_all (v ∷ owned) all =
+      ap (λ b. (b && ends_after text ends name node v) || list_any (is_round text ends name node) owned) (not_below v.owner node (first_of (λ v. node ≤ v.owner) v owned all))
+      ∙ after_all owned (others_of (λ v. node ≤ v.owner) v owned all)
 
   -- so those of the declarations before it tell
-  pub passed_all : (owned : List Owned) (count : ℕ) → All (λ v. v.owner < node) (take count owned) → All (λ v. node ≤ v.owner) (drop count owned) → list_any (ends_behind text ends name node) (take count owned) ≡ list_any (is_round text ends name node) owned
-  passed_all owned count before behind =
+  pub passed_all : (owned : List Owned) (count : ℕ) → All (λ v. v.owner < node) (take count owned) → All (λ v. node ≤ v.owner) (drop count owned) → list_any (ends_after text ends name node) (take count owned) ≡ list_any (is_round text ends name node) owned
+  passed_all owned count before after =
       sym (before_all (take count owned) before)
-      ∙ sym (or_none (list_any (is_round text ends name node) (take count owned)) (list_any (is_round text ends name node) (drop count owned)) (behind_all (drop count owned) behind))
+      ∙ sym (or_none (list_any (is_round text ends name node) (take count owned)) (list_any (is_round text ends name node) (drop count owned)) (after_all (drop count owned) after))
       ∙ sym (list_any-append (is_round text ends name node) (take count owned) (drop count owned))
       ∙ ap (list_any (is_round text ends name node)) (take-append-drop count owned)
 
@@ -137,7 +137,7 @@ module _ (text : ℕ → Id) (ends : List ℕ) (owned : List Owned) where
   none_passed node passed none empty = record {
     within = omega (arith, none);
     before = subst (λ n. All (λ v. v.owner < node) (take n owned)) (sym none) (λ k d w. absurd (omega (arith, w)));
-    reaches = λ name n. ap (λ es. nat_lt n (unwrap_or (lookup (λ k. bytes_eq name k.now) es) 0)) empty ∙ not_below n 0 (omega arith) ∙ ap (λ m. list_any (ends_behind text ends name n) (take m owned)) (sym none);
+    reaches = λ name n. ap (λ es. nat_lt n (unwrap_or (lookup (λ k. bytes_eq name k.now) es) 0)) empty ∙ not_below n 0 (omega arith) ∙ ap (λ m. list_any (ends_after text ends name n) (take m owned)) (sym none);
   }
 
   pub later_node : (node : ℕ) (passed : Passed) → passed.node ≤ node → KnowsPassed text ends owned passed → KnowsPassed text ends owned (record { node = node; count = passed.count; reaches = passed.reaches })
@@ -159,10 +159,10 @@ module _ (text : ℕ → Id) (ends : List ℕ) (owned : List Owned) where
       }
 
 -- the declarations from the first that doesn't begin before the node
-pub rest_behind : (owned : List Owned) (count node : ℕ) (v : Owned) → IsNonDecreasingBy (λ v. v.owner) owned → count < length owned → v ≡ get_or owned count v → node ≤ v.owner → All (λ v. node ≤ v.owner) (drop count owned)
-rest_behind owned count node v ascending within here behind k d w =
+pub rest_after : (owned : List Owned) (count node : ℕ) (v : Owned) → IsNonDecreasingBy (λ v. v.owner) owned → count < length owned → v ≡ get_or owned count v → node ≤ v.owner → All (λ v. node ≤ v.owner) (drop count owned)
+rest_after owned count node v ascending within here after k d w =
     let far : count + k < length owned = omega (arith, simp length-drop at w) in
     let up : (get_or owned count d).owner ≤ (get_or owned (count + k) d).owner = ascending count (count + k) d (omega arith) far in
     let first : v.owner ≡ (get_or owned count d).owner = ap (λ x. x.owner) (here ∙ get_or_default owned count v d within) in
     let there : (get_or (drop count owned) k d).owner ≡ (get_or owned (count + k) d).owner = ap (λ x. x.owner) (get_or-drop count owned k d) in
-    omega (arith, up, first, there, behind)
+    omega (arith, up, first, there, after)

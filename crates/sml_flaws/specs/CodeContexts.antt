@@ -11,4 +11,4 @@ contexts_in (run ∷ runs) = replicate run.count run.context ++ contexts_in runs
 
 -- those of all symbols, the next one first
 abbrev pub contexts_of : Runs → List Context
-contexts_of runs = contexts_in (runs.here ∷ reverse runs.behind.items)
+contexts_of runs = contexts_in (runs.here ∷ reverse runs.after.items)

@@ -23,17 +23,17 @@ pub record AreOwned (marks : List Mark) (owned : List Owned) : Type 0 where
   pub same : IsPermutation (filter_map owned_in marks) owned
   pub ascending : IsNonDecreasingBy (λ v. v.owner) owned
 
--- whether a type variable has this name and its scope ends behind this node
-abbrev pub ends_behind : (ℕ → Id) → List ℕ → Id → ℕ → Owned → Bool
-ends_behind text ends name node v = nat_lt node (get_or ends v.owner 0) && bytes_eq name (text v.token)
+-- whether a type variable has this name and its scope ends after this node
+abbrev pub ends_after : (ℕ → Id) → List ℕ → Id → ℕ → Owned → Bool
+ends_after text ends name node v = nat_lt node (get_or ends v.owner 0) && bytes_eq name (text v.token)
 
 -- whether its scope begins before this node too
 abbrev pub is_round : (ℕ → Id) → List ℕ → Id → ℕ → Owned → Bool
-is_round text ends name node v = nat_lt v.owner node && ends_behind text ends name node v
+is_round text ends name node v = nat_lt v.owner node && ends_after text ends name node v
 
 -- what the program knows: the last end of the scopes of each name
 abbrev pub KnowsReaches : {S : Type 0} → (ℕ → Id) → List ℕ → List Owned → IndexMap (Bor (List ℕ)) ℕ S → Type 0
-KnowsReaches text ends owned reaches = (name : Id) (node : ℕ) → nat_lt node (unwrap_or (get_by (λ k. bytes_eq name k.now) reaches) 0) ≡ list_any (ends_behind text ends name node) owned
+KnowsReaches text ends owned reaches = (name : Id) (node : ℕ) → nat_lt node (unwrap_or (get_by (λ k. bytes_eq name k.now) reaches) 0) ≡ list_any (ends_after text ends name node) owned
 
 -- the declarations of the first of these are passed, and all of them begin before the node
 pub record KnowsPassed (text : ℕ → Id) (ends : List ℕ) (owned : List Owned) (passed : Passed) : Type 0 where

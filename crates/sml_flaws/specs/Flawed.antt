@@ -15,7 +15,7 @@ use Rattle.sml_reach.specs.declared.reach.Misfit.{Misfit}
 use Rattle.sml_reach.specs.Fits.{Fitted}
 use Rattle.sml_flaws.specs.Flaws.{flaws, first_flaw}
 
--- whether a declaration begins behind a rule
+-- whether a declaration begins after a rule
 abbrev pub unit_begins : UnitRule → Bool
 unit_begins StartTop = true
 unit_begins StartExp = true
@@ -43,7 +43,7 @@ abbrev pub ends_at : Node → Bool
 ends_at (Inner (Units rule)) = unit_ends rule
 ends_at _ = false
 
--- the nodes of the declaration that begins behind the first of these, and that one
+-- the nodes of the declaration that begins after the first of these, and that one
 abbrev pub own_nodes : List Node → List Node
 own_nodes [] = []
 own_nodes (node ∷ nodes) = node ∷ before_first ends_at nodes
@@ -65,7 +65,7 @@ abbrev pub or_else : Option Misfit → Option Misfit → Option Misfit
 or_else None other = other
 or_else (Some m) other = Some m
 
--- The fault of the first declaration that has one, behind so many tokens and so many declarations. These nodes and
+-- The fault of the first declaration that has one, after so many tokens and so many declarations. These nodes and
 -- tokens are left, and these declarations, with what their sequences stand for.
 abbrev pub first_flawed : (ℕ → Id) → ℕ → ℕ → List Node → List Token → List Fitted → Option Misfit
 first_flawed text n count [] tokens fitted = None

@@ -86,7 +86,7 @@ names_constructor S.Constructors = true
 names_constructor S.Exceptions = true
 names_constructor _ = false
 
--- a name can't be bound: of a binding or a specification, of a pattern behind `rec` or of a clause
+-- a name can't be bound: of a binding or a specification, of a pattern after `rec` or of a clause
 abbrev pub barred_name : (ℕ → Id) → Space → ℕ → Option Flaw
 barred_name text space token = flaw_if ((names_value space && is_reserved (text token)) || (names_constructor space && is_it (text token))) token C.G4
 
@@ -111,7 +111,7 @@ abbrev pub flaws_by : (ℕ → Id) → List Fit → List Mark → Mark → Bool 
 flaws_by text fits known m again =
     cons_option (flaw_if again (token_in m) C.G3) (cons_option (unlike text fits known m) (cons_option (uneven fits known m) (cons_option (barred text fits known m) (cons_option (real m) []))))
 
--- the faults at these marks, behind those
+-- the faults at these marks, after those
 abbrev pub flaws_of : (ℕ → Id) → List Fit → List Mark → List Mark → List Flaw
 flaws_of text fits before [] = []
 flaws_of text fits before (m ∷ marks) = flaws_by text fits (m ∷ before) m (is_again text before m) ++ flaws_of text fits (m ∷ before) marks
@@ -122,7 +122,7 @@ owner_in (M.Listed v) = v.owner
 owner_in (M.Owned v) = Some v.owner
 owner_in _ = None
 
--- whether a node lies behind that of a value declaration and before the end of its phrase, the ends of all being these
+-- whether a node lies after that of a value declaration and before the end of its phrase, the ends of all being these
 abbrev pub lies_in : List ℕ → Option ℕ → ℕ → Bool
 lies_in ends None node = false
 lies_in ends (Some owner) node = nat_lt owner node && nat_lt node (get_or ends owner 0)

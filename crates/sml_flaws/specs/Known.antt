@@ -96,7 +96,7 @@ abbrev pub count_at : List Mark → ℕ → Option ℕ
 count_at [] n = None
 count_at (m ∷ before) n = if is_clause m n then Some (atoms_in m) else count_at before n
 
--- the atomic phrase that a step takes as an operator or applies, the step behind the next one being this
+-- the atomic phrase that a step takes as an operator or applies, the step after the next one being this
 abbrev pub use_of : Step → Option Step → Option ℕ
 use_of (Combine index) later = Some index
 use_of (Push index) (Some Apply) = Some index

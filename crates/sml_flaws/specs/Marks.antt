@@ -75,7 +75,7 @@ rule_mark (Patterns RowRestTyped) n c = if c.binds then Some (M.Pun (n - 1)) els
 rule_mark (Declarations AtPatsNone) n c = Some (M.Clause (record { function = c.function; sequence = c.sequence; atoms = c.index }))
 rule_mark _ n c = None
 
--- of a node: its mark, the contexts of its parts, and the first token behind it
+-- of a node: its mark, the contexts of its parts, and the first token after it
 abbrev pub mark_at : ℕ → Context → Node → Option Mark
 mark_at n c Leaf = word_mark c.word n c
 mark_at n c (Inner rule) = rule_mark rule n c
@@ -84,13 +84,13 @@ abbrev pub parts_of : ℕ → ℕ → Context → Node → List Context
 parts_of i n c Leaf = []
 parts_of i n c (Inner rule) = contexts_from (roles_of rule) (entered (entry_of rule) i n c) 0 (length (right_side rule))
 
-abbrev pub token_behind : ℕ → Node → ℕ
-token_behind n Leaf = n + 1
-token_behind n (Inner rule) = n
+abbrev pub token_after : ℕ → Node → ℕ
+token_after n Leaf = n + 1
+token_after n (Inner rule) = n
 
 -- The marks of nodes, the first of which is the i-th and begins at the n-th token. These are the contexts of the
 -- phrases that are still to come.
 abbrev pub marks_of : ℕ → ℕ → List Context → List Node → List Mark
 marks_of i n contexts [] = []
 marks_of i n [] (node ∷ nodes) = []
-marks_of i n (c ∷ contexts) (node ∷ nodes) = cons_option (mark_at n c node) (marks_of (suc i) (token_behind n node) (parts_of i n c node ++ contexts) nodes)
+marks_of i n (c ∷ contexts) (node ∷ nodes) = cons_option (mark_at n c node) (marks_of (suc i) (token_after n node) (parts_of i n c node ++ contexts) nodes)

@@ -108,7 +108,7 @@ type_roles TyRowLab = R.Word (W.Bound P.Labels) ∷ []
 type_roles TyRowMoreComma = R.Same ∷ R.Word (W.Bound P.Labels) ∷ []
 type_roles _ = []
 
--- the roles of the first symbols of a rule; those behind have the context of the whole
+-- the roles of the first symbols of a rule; those after have the context of the whole
 abbrev pub roles_of : Rule → List Role
 roles_of (Structures rule) = structure_roles rule
 roles_of (Signatures rule) = signature_roles rule

@@ -411,7 +411,7 @@ impl<'a> Judge<'a, '_> {
         }
     }
 
-    /// The faults at a mark, which is noted, go behind the others.
+    /// The faults at a mark, which is noted, go after the others.
     fn push_flaws(
         &self,
         flaws: &mut Vec<Flaw>,
@@ -445,7 +445,7 @@ impl<'a> Judge<'a, '_> {
         Ok(flaws)
     }
 
-    /// The faults of variables in lists go behind the others.
+    /// The faults of variables in lists go after the others.
     fn push_scoped(
         &self,
         flaws: &mut Vec<Flaw>,

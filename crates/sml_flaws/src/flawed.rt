@@ -15,7 +15,7 @@ use sml_read::grammar::{Node, Rule, UnitRule};
 use sml_read::phrases::token_count;
 use std::alloc::Global;
 
-/// Whether a declaration begins behind this rule.
+/// Whether a declaration begins after this rule.
 pub fn begins_at(rule: Rule) -> bool
     ensures { result ≡ spec.begins_at rule }
 {
@@ -66,7 +66,7 @@ pub fn before_end(nodes: &[Node]) -> &[Node]
     &nodes[..up_to_end(nodes)]
 }
 
-/// The nodes of the declaration that begins behind the node with this number, and that one.
+/// The nodes of the declaration that begins after the node with this number, and that one.
 fn own(nodes: &[Node], number: usize) -> &[Node]
     requires { number < length nodes.now }
     ensures { result.now ≡ spec.own_nodes (drop number nodes.now) }

@@ -134,7 +134,7 @@ fn step_at(steps: &[Step], index: usize) -> Option<Step>
     }
 }
 
-/// The atomic phrase that a step takes as an operator or applies, the step behind the next one being this.
+/// The atomic phrase that a step takes as an operator or applies, the step after the next one being this.
 fn use_of(step: Step, later: Option<Step>) -> Option<usize>
     ensures { result ≡ spec.use_of step later }
 {

@@ -60,7 +60,7 @@ pub enum Mark {
     Listed(Listed),
     Owned(Owned),
     Identifier(Identifier),
-    /// An identifier in a row of patterns behind `rec` that stands for a label and itself.
+    /// An identifier in a row of patterns after `rec` that stands for a label and itself.
     Pun(usize),
     /// A real constant in a pattern.
     Real(usize),
@@ -68,7 +68,7 @@ pub enum Mark {
 }
 
 /// What is known of a phrase by the phrases round it: what its token is, the innermost group, value declaration and
-/// function, the sequence of patterns and how many of it stand before, and whether it is a pattern behind `rec`.
+/// function, the sequence of patterns and how many of it stand before, and whether it is a pattern after `rec`.
 #[derive(Clone, Copy, PartialEq, Eq, Drop)]
 pub struct Context {
     pub word: Word,
@@ -87,11 +87,11 @@ struct Run {
     count: usize,
 }
 
-/// The symbols still to come: the first run of them, and those behind it from the last to the first.
+/// The symbols still to come: the first run of them, and those after it from the last to the first.
 #[derive(Drop)]
 pub struct Runs {
     here: Run,
-    behind: Vec<Run>,
+    after: Vec<Run>,
 }
 
 /// What is known of a declaration.
@@ -158,7 +158,7 @@ impl Runs {
                 context: START,
                 count: 0,
             },
-            behind: Vec::new(alloc),
+            after: Vec::new(alloc),
         }
     }
 
@@ -170,17 +170,17 @@ impl Runs {
             context: START,
             count: 1,
         };
-        self.behind.clear();
+        self.after.clear();
     }
 }
 
-/// The first run behind this one that has symbols comes to stand here, if there is one.
+/// The first run after this one that has symbols comes to stand here, if there is one.
 #[inline(never)]
 fn next_run(runs: &mut Runs) -> bool
-    ensures none { result ≡ false → contexts_in (reverse runs.old.behind.items) ≡ [] }
-    ensures some { result ≡ true → (0 < runs.new.here.count) × (contexts_in (reverse runs.old.behind.items) ≡ contexts_of runs.new) }
+    ensures none { result ≡ false → contexts_in (reverse runs.old.after.items) ≡ [] }
+    ensures some { result ≡ true → (0 < runs.new.here.count) × (contexts_in (reverse runs.old.after.items) ≡ contexts_of runs.new) }
 {
-    while let Some(run) = runs.behind.pop() {
+    while let Some(run) = runs.after.pop() {
         if run.count > 0 {
             runs.here = run;
             return true;
@@ -206,14 +206,14 @@ fn push_run(runs: &mut Runs, context: Context, count: usize) -> Result<(), Memor
     ensures { OnOk result (contexts_of runs.new ≡ replicate count context ++ contexts_of runs.old) }
 {
     if runs.here.count > 0 {
-        runs.behind.push(runs.here)?;
+        runs.after.push(runs.here)?;
     }
     runs.here = Run { context, count };
     Ok(())
 }
 
 /// So many parts of a phrase whose context stands here go before the other symbols, the last of them first: as one run
-/// those behind the last role, and then each that has a role.
+/// those after the last role, and then each that has a role.
 #[inline(never)]
 fn push_parts(
     runs: &mut Runs,
@@ -341,10 +341,10 @@ fn push_some(marks: &mut Vec<Mark>, mark: Option<Mark>) -> Result<(), Memory>
     Ok(())
 }
 
-/// The first token behind a node.
-fn token_behind(node: Node, token: usize) -> usize
+/// The first token after a node.
+fn token_after(node: Node, token: usize) -> usize
     requires { token + 1 < 2 ^ 64 }
-    ensures { result ≡ spec.token_behind token node }
+    ensures { result ≡ spec.token_after token node }
 {
     match node {
         Node::Leaf => token + 1,
@@ -373,7 +373,7 @@ pub fn note_marks(
         let mark = mark_at(nodes[i], token, &runs.here.context);
         push_some(marks, mark)?;
         enter(runs, nodes[i], i, token)?;
-        token = token_behind(nodes[i], token);
+        token = token_after(nodes[i], token);
     }
     Ok(())
 }

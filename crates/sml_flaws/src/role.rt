@@ -44,7 +44,7 @@ pub enum Word {
 pub enum Role {
     /// All as for the phrase.
     Same,
-    /// What stands behind one more atomic pattern of the sequence.
+    /// What stands after one more atomic pattern of the sequence.
     Next,
     /// An expression, whose patterns aren't those of `rec`.
     Expression,
@@ -61,13 +61,13 @@ pub enum Entry {
     Types,
     /// A value declaration, which type variables may belong to.
     Value,
-    /// Patterns behind `rec`.
+    /// Patterns after `rec`.
     Recursive,
     /// A sequence of atomic patterns.
     Sequence,
     /// A function, with the head of its first clause.
     Function,
-    /// The head of a further clause, behind `|`.
+    /// The head of a further clause, after `|`.
     Clause,
 }
 
@@ -207,7 +207,7 @@ fn type_roles(rule: TypeRule) -> &'static [Role]
     }
 }
 
-/// The roles of a rule's first symbols; those behind have the context of the whole.
+/// The roles of a rule's first symbols; those after have the context of the whole.
 pub fn roles_of(rule: Rule) -> &'static [Role]
     ensures { result.now ≡ spec.roles_of rule }
 {

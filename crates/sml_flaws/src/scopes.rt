@@ -18,7 +18,7 @@ use sml_lex::token::Token;
 use std::alloc::Global;
 
 /// The type variables of the value declarations among some marks, in the order of the declarations, and the numbers of
-/// the nodes behind the phrases of all nodes.
+/// the nodes after the phrases of all nodes.
 #[derive(Drop)]
 pub struct Scopes<'a> {
     pub unit: &'a [u8],
@@ -129,7 +129,7 @@ impl<'a> Passed<'a> {
         ensures known { let text = text_at scopes.now.unit.now scopes.now.tokens.now in
             KnowsPassed text scopes.now.ends.now scopes.now.owned.items self.old → OnOk result (KnowsPassed text scopes.now.ends.now scopes.now.owned.items self.new) }
         ensures node { self.new.node ≡ self.old.node }
-        ensures behind { IsNonDecreasingBy (λ v. v.owner) scopes.now.owned.items →
+        ensures after { IsNonDecreasingBy (λ v. v.owner) scopes.now.owned.items →
             OnOk result (All (λ v. self.old.node ≤ v.owner) (drop self.new.count scopes.now.owned.items)) }
     {
         while self.count < scopes.owned.len() {

@@ -179,16 +179,16 @@ adds-same bs cs xs l c e q f m n = rw (q, f) record {
   rise = λ r u. let p = rise-front xs l r in rise-push xs e p.0 (all-changes (λ d. d.node < l.node) (λ d. d.node < e.node) xs (λ d h. let z = m.0 in omega (arith, h, z)) p.1);
 }
 
-pub adds-behind : (bs cs : List Change) (c : Change) → cs ≡ bs ++ c ∷ [] → (NodesRise bs → AreInside (c.node + 1) bs → AllByRecursion (λ d. d.node < c.node) bs) → AddsChange bs c cs
-adds-behind bs cs c q f = rw q record {
+pub adds-after : (bs cs : List Change) (c : Change) → cs ≡ bs ++ c ∷ [] → (NodesRise bs → AreInside (c.node + 1) bs → AllByRecursion (λ d. d.node < c.node) bs) → AddsChange bs c cs
+adds-after bs cs c q f = rw q record {
   covers = covered-begins bs (bs ++ c ∷ []) (begins-one bs (bs ++ c ∷ []) c refl);
   new = has-back (IsNoLater c) bs (c ∷ []) (inl (refl, omega arith));
   inside = λ k a h. inside-both k bs (c ∷ []) a (h, tt);
   rise = λ r u. rise-push bs c r (f r u);
 }
 
-pub later-behind : (bs xs : List Change) (l c : Change) → bs ≡ xs ++ l ∷ [] → l.node ≢ c.node → NodesRise bs → AreInside (c.node + 1) bs → AllByRecursion (λ d. d.node < c.node) bs
-later-behind bs xs l c q n r u =
+pub later-after : (bs xs : List Change) (l c : Change) → bs ≡ xs ++ l ∷ [] → l.node ≢ c.node → NodesRise bs → AreInside (c.node + 1) bs → AllByRecursion (λ d. d.node < c.node) bs
+later-after bs xs l c q n r u =
     let p = rise-front xs l (rw q at r) in
     let v = both-last (λ d. d.node < c.node + 1) xs l (rw q at u) in
     let m = v.1 in

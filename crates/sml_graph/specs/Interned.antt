@@ -92,7 +92,7 @@ pub record AsksRow (ns : List Node) (us : List ℕ) (t : O.MlType Name) (rs : Li
 abbrev pub demanded : List (Rc (Vec ℕ Global) Global × Rc MlType Global) → List (Id × O.MlType Name)
 demanded fs = entries_of (λ t. type_of t.value) fs
 
--- the types behind these references
+-- the types after these references
 abbrev pub seen : List (Bor MlType) → List (O.MlType Name)
 seen ts = map (λ t. type_of t.now) ts
 
@@ -100,12 +100,12 @@ abbrev pub sizes : List (O.MlType Name) → ℕ
 sizes [] = 0
 sizes (t ∷ ts) = type_size t + sizes ts
 
--- k, the number behind it and so on: n numbers
+-- k, the number after it and so on: n numbers
 abbrev pub numbers : ℕ → ℕ → List ℕ
 numbers k zero = []
 numbers k (suc n) = k ∷ numbers (suc k) n
 
--- a node for a type, where the nodes of its parts are to come from k on; ts has the parts behind those of ss
+-- a node for a type, where the nodes of its parts are to come from k on; ts has the parts after those of ss
 pub record IsHeadOver (t : O.MlType Name) (k : ℕ) (n : Node) (ss ts : List (O.MlType Name)) : Type 0 where
   pub head : Head
   pub kids : SmallVec ℕ
@@ -126,7 +126,7 @@ pub record IsUnknownAt (t : O.MlType Name) (us : List ℕ) (n : Node) (ss ts : L
 abbrev pub Expands : O.MlType Name → List ℕ → ℕ → Node → List (O.MlType Name) → List (O.MlType Name) → Type 0
 Expands t us k n ss ts = IsUnknownAt t us n ss ts ⊎ IsHeadOver t k n ss ts
 
--- The way to nodes for a type: ms has, behind ns, nodes for the first k of the types; the rest are to come.
+-- The way to nodes for a type: ms has, after ns, nodes for the first k of the types; the rest are to come.
 pub record IsInterning (ns : List Node) (us : List ℕ) (t : O.MlType Name) (ms : List Node) (ts : List (O.MlType Name)) (k : ℕ) : Type 0 where
   pub place : length ms ≡ length ns + k
   pub known : k ≤ length ts

@@ -9,7 +9,7 @@ use Rattle.sml_lex.specs.declared.longest.Lexeme.{Lexeme}
 use Rattle.sml_lex.specs.declared.machine.State.{State}
 use Rattle.sml_lex.specs.declared.machine.State.TheVariants.{Dead}
 use Rattle.sml_lex.specs.Words.{is_text, word_kind}
-use Rattle.sml_lex.specs.CodeMachine.{Progress, fresh, step_state, part_behind, step, run, kind_at, kind_read, token_kind, IsLongestWithin}
+use Rattle.sml_lex.specs.CodeMachine.{Progress, fresh, step_state, part_after, step, run, kind_at, kind_read, token_kind, IsLongestWithin}
 
 pub run-append : (r : Progress) (a b : List ℕ) → run r (a ++ b) ≡ run (run r a) b
 run-append r [] b = refl
@@ -42,7 +42,7 @@ longest_yes bytes i kind e = (omega arith, e, λ n l h. absurd (omega (arith, l,
 pub longest_no : (bytes : List ℕ) (i : ℕ) (best : Option Lexeme) → token_kind (take (i + 1) bytes) ≡ None → IsLongestWithin bytes i best → IsLongestWithin bytes (i + 1) best
 longest_no bytes i best e = longer bytes i (i + 1) (omega arith) best (λ n l h. let z : n ≡ i + 1 = omega (arith, l, h) in ap (λ n. token_kind (take n bytes)) z ∙ e)
 
--- nothing is a token behind a byte after which nothing is
+-- nothing is a token after a byte after which nothing is
 pub longest_dead : (bytes : List ℕ) (i : ℕ) (best : Option Lexeme) → i < length bytes → (run fresh (take (i + 1) bytes)).state ≡ Dead → IsLongestWithin bytes i best → IsLongestWithin bytes (length bytes) best
 longest_dead bytes i best within e = longer bytes i (length bytes) (omega (arith, within)) best (λ n l h. refused (run fresh (take n bytes)) (dead n (omega (arith, l))))
   where
@@ -73,8 +73,8 @@ part_step bytes start i d c false before within e =
 pub part_on : (bytes : List ℕ) (start i d c now : ℕ) → start ≤ i → i < length bytes → c ≡ get_or bytes i d → take (i - start) (drop start bytes) ≡ (run fresh (take i bytes)).part → now ≡ cond (c == 46) (i + 1) start → take (i + 1 - now) (drop now bytes) ≡ (run fresh (take (i + 1) bytes)).part
 part_on bytes start i d c now before within e p n =
     ap (λ n. take (i + 1 - n) (drop n bytes)) n ∙ part_step bytes start i d c (c == 46) before within e
-    ∙ ap (λ x. part_behind x c) p
-    ∙ ap (λ c. part_behind (run fresh (take i bytes)).part c) e
+    ∙ ap (λ x. part_after x c) p
+    ∙ ap (λ c. part_after (run fresh (take i bytes)).part c) e
     ∙ sym (ap (λ r. r.part) (run_more bytes i d within))
 
 -- the kind of what was read

@@ -11,27 +11,27 @@ use Rattle.sml_lex.proofs.Comments.{opened, closed_last, closed_one, passed_one}
 use Rattle.sml_lex.proofs.MachineRuns.{false_is_true, first_true, second_true}
 
 -- what is read of a body
-passed_body : (body : Body) (behind : List ℕ) (depth : ℕ) → 0 < depth → IsBody body behind → after_comments depth (body_text body ++ behind) ≡ after_comments depth behind
-passed_body Empty behind depth some i = refl
-passed_body (Byte c body) behind depth some i = passed_one depth (c ∷ (body_text body ++ behind)) i.0 i.1 ∙ passed_body body behind depth some i.2
-passed_body (Nested inner body) behind depth some i =
-    ap (λ t. after_comments depth (40 ∷ 42 ∷ t)) (append_assoc (body_text inner) (42 ∷ 41 ∷ body_text body) behind)
-    ∙ opened depth (40 ∷ 42 ∷ (body_text inner ++ closing (body_text body ++ behind))) refl
-    ∙ passed_body inner (closing (body_text body ++ behind)) (depth + 1) (omega arith) i.0
-    ∙ closed_one (depth + 1) (closing (body_text body ++ behind)) refl refl (omega (arith, some))
-    ∙ ap (λ d. after_comments d (body_text body ++ behind)) (omega arith)
-    ∙ passed_body body behind depth some i.1
+passed_body : (body : Body) (after : List ℕ) (depth : ℕ) → 0 < depth → IsBody body after → after_comments depth (body_text body ++ after) ≡ after_comments depth after
+passed_body Empty after depth some i = refl
+passed_body (Byte c body) after depth some i = passed_one depth (c ∷ (body_text body ++ after)) i.0 i.1 ∙ passed_body body after depth some i.2
+passed_body (Nested inner body) after depth some i =
+    ap (λ t. after_comments depth (40 ∷ 42 ∷ t)) (append_assoc (body_text inner) (42 ∷ 41 ∷ body_text body) after)
+    ∙ opened depth (40 ∷ 42 ∷ (body_text inner ++ closing (body_text body ++ after))) refl
+    ∙ passed_body inner (closing (body_text body ++ after)) (depth + 1) (omega arith) i.0
+    ∙ closed_one (depth + 1) (closing (body_text body ++ after)) refl refl (omega (arith, some))
+    ∙ ap (λ d. after_comments d (body_text body ++ after)) (omega arith)
+    ∙ passed_body body after depth some i.1
 
-pub comment_read : (text : List ℕ) (size : ℕ) → (c : IsComment text size) → after_comments 1 (drop 2 text) ≡ Some c.behind
+pub comment_read : (text : List ℕ) (size : ℕ) → (c : IsComment text size) → after_comments 1 (drop 2 text) ≡ Some c.after
 comment_read text size c =
-    ap (λ t. after_comments 1 (drop 2 t)) (c.spelled ∙ ap (λ t. 40 ∷ 42 ∷ t) (append_assoc (body_text c.body) (closing []) c.behind))
-    ∙ passed_body c.body (closing c.behind) 1 (omega arith) c.is_body
-    ∙ closed_last 1 (closing c.behind) refl refl refl
+    ap (λ t. after_comments 1 (drop 2 t)) (c.spelled ∙ ap (λ t. 40 ∷ 42 ∷ t) (append_assoc (body_text c.body) (closing []) c.after))
+    ∙ passed_body c.body (closing c.after) 1 (omega arith) c.is_body
+    ∙ closed_last 1 (closing c.after) refl refl refl
 
 -- so many bodies, each with its closing
 Closes : ℕ → List ℕ → List ℕ → Type 0
 Closes zero text more = text ≡ more
-Closes (suc depth) text more = (body : Body) × (behind : List ℕ) × IsBody body (closing behind) × (text ≡ body_text body ++ closing behind) × Closes depth behind more
+Closes (suc depth) text more = (body : Body) × (after : List ℕ) × IsBody body (closing after) × (text ≡ body_text body ++ closing after) × Closes depth after more
 
 none_is_text : (text : List ℕ) → None ≡ Some text → ⊥
 none_is_text text e = cc
@@ -49,17 +49,17 @@ two_bytes x y a b text e = ap (λ a. a ∷ b ∷ text) (eqb-true _ _ (first_true
 -- an inner comment and what follows it are one body
 nested : (depth a b : ℕ) (text more : List ℕ) → a ∷ b ∷ text ≡ 40 ∷ 42 ∷ text → Closes (suc (suc depth)) text more → Closes (suc depth) (a ∷ b ∷ text) more
 unfolding Closes
-nested depth a b text more o (inner, rest, i, e, (body, behind, j, f, c)) = (
+nested depth a b text more o (inner, rest, i, e, (body, after, j, f, c)) = (
   Nested inner body,
-  behind,
+  after,
   (subst (λ t. IsBody inner (closing t)) f i, j),
-  o ∙ ap (λ t. 40 ∷ 42 ∷ t) (e ∙ ap (λ t. body_text inner ++ closing t) f ∙ sym (append_assoc (body_text inner) (closing (body_text body)) (closing behind))),
+  o ∙ ap (λ t. 40 ∷ 42 ∷ t) (e ∙ ap (λ t. body_text inner ++ closing t) f ∙ sym (append_assoc (body_text inner) (closing (body_text body)) (closing after))),
   c,
 )
 
 one_more : (depth c : ℕ) (text more : List ℕ) → opens_comment (c ∷ text) ≡ false → closes_comment (c ∷ text) ≡ false → Closes (suc depth) text more → Closes (suc depth) (c ∷ text) more
 unfolding Closes
-one_more depth c text more o k (body, behind, i, e, rest) = (Byte c body, behind, (subst (λ t. opens_comment (c ∷ t) ≡ false) e o, subst (λ t. closes_comment (c ∷ t) ≡ false) e k, i), ap (λ t. c ∷ t) e, rest)
+one_more depth c text more o k (body, after, i, e, rest) = (Byte c body, after, (subst (λ t. opens_comment (c ∷ t) ≡ false) e o, subst (λ t. closes_comment (c ∷ t) ≡ false) e k, i), ap (λ t. c ∷ t) e, rest)
 
 closed_here : (depth a b : ℕ) (text more : List ℕ) → a ∷ b ∷ text ≡ 42 ∷ 41 ∷ text → Closes depth text more → Closes (suc depth) (a ∷ b ∷ text) more
 unfolding Closes
@@ -112,7 +112,7 @@ comment_is text size o within e =
     let n = ap length w.4 in
     let d = length-drop size text in record {
       body = w.0;
-      behind = w.1;
+      after = w.1;
       spelled = spelled;
       is_body = w.2;
       bytes = omega (arith, l, m, n, d, within);
@@ -122,20 +122,20 @@ comment_is text size o within e =
 pub comment_opens : (text : List ℕ) (size : ℕ) → IsComment text size → opens_comment text ≡ true
 comment_opens text size c = ap opens_comment c.spelled
 
-pub comment_bytes : (text : List ℕ) (size : ℕ) → (c : IsComment text size) → (2 ≤ size) × (size + length c.behind ≡ length text)
+pub comment_bytes : (text : List ℕ) (size : ℕ) → (c : IsComment text size) → (2 ≤ size) × (size + length c.after ≡ length text)
 comment_bytes text size c =
     let b = c.bytes in
     let l = ap length c.spelled in
-    let m = length-append (comment_text c.body) c.behind in
+    let m = length-append (comment_text c.body) c.after in
     (omega (arith, b), omega (arith, b, l, m))
 
 pub comment_once : (text : List ℕ) (m n : ℕ) → IsComment text m → IsComment text n → m ≡ n
 comment_once text m n a b =
-    let same : a.behind ≡ b.behind = ap (λ o. unwrap_or o []) (sym (comment_read text m a) ∙ comment_read text n b) in
+    let same : a.after ≡ b.after = ap (λ o. unwrap_or o []) (sym (comment_read text m a) ∙ comment_read text n b) in
     let l = ap length same in
     let la = (comment_bytes text m a).1 in
     let lb = (comment_bytes text n b).1 in
     omega (arith, l, la, lb)
 
 pub comment_never : (text : List ℕ) (size : ℕ) → after_comments 1 (drop 2 text) ≡ None → IsComment text size → ⊥
-comment_never text size n c = none_is_text c.behind (sym n ∙ comment_read text size c)
+comment_never text size n c = none_is_text c.after (sym n ∙ comment_read text size c)

@@ -15,7 +15,7 @@ use Rattle.sml_lex.specs.Numbers.{fits}
 use Rattle.sml_lex.specs.Strings.{Item, AreItems, items_text, string_value, quoted, break_of, IsBroken, opens_string, opens_character, IsCharacter}
 use Rattle.sml_lex.specs.CodeStrings.{item_at}
 use Rattle.sml_lex.specs.Tokens.{IsToken}
-use Rattle.sml_lex.specs.CodeMachine.{first_state, part_behind, token_kind}
+use Rattle.sml_lex.specs.CodeMachine.{first_state, part_after, token_kind}
 use Rattle.sml_lex.specs.Comments.{opens_comment, IsComment}
 use Rattle.sml_lex.specs.Pieces.{is_cut, fault_here, IsLexeme, IsPiece, IsFault}
 use Rattle.sml_lex.proofs.ByteClasses.{white_no_letter, white_no_digit, white_no_sign, white_no_mark}
@@ -65,9 +65,9 @@ Answers rest (Err stop) = IsFault rest stop
 -- what the answer is, by what the text starts with
 record AtCharacter (rest : List ℕ) (answer : Answer) : Type 0 where
   items : List Item
-  behind : List ℕ
+  after : List ℕ
   are_items : AreItems items
-  spelled : drop 1 rest ≡ quoted items ++ behind
+  spelled : drop 1 rest ≡ quoted items ++ after
   is : answer ≡ (if length (string_value items) == 1 then Ok (Lexeme (record {
     kind = CharacterConstant;
     size = 1 + length (quoted items);
@@ -75,9 +75,9 @@ record AtCharacter (rest : List ℕ) (answer : Answer) : Type 0 where
 
 record AtString (rest : List ℕ) (answer : Answer) : Type 0 where
   items : List Item
-  behind : List ℕ
+  after : List ℕ
   are_items : AreItems items
-  spelled : rest ≡ quoted items ++ behind
+  spelled : rest ≡ quoted items ++ after
   is : answer ≡ Ok (Lexeme (record {
     kind = StringConstant;
     size = length (quoted items);
@@ -111,7 +111,7 @@ white_first c w =
     ∙ cond-false _ _ _ (apart is_white 46 refl c w)
 
 white_never : (c : ℕ) (text : List ℕ) (kind : Kind) → is_white c ≡ true → token_kind (c ∷ text) ≡ Some kind → ⊥
-white_never c text kind w e = never_fresh c text kind (λ h. dead _ text kind (subst (λ s. Reads s (part_behind [] c) text kind) (white_first c w) (next h))) e
+white_never c text kind w e = never_fresh c text kind (λ h. dead _ text kind (subst (λ s. Reads s (part_after [] c) text kind) (white_first c w) (next h))) e
 
 comment_never : (text : List ℕ) (kind : Kind) → token_kind (40 ∷ 42 ∷ text) ≡ Some kind → ⊥
 comment_never text kind e = never_fresh 40 (42 ∷ text) kind (λ h. dead _ text kind (next (next h))) e
@@ -189,7 +189,7 @@ string_at rest n answer l e =
     let t = l.token in
     let spelled : rest ≡ quoted t.0 ++ drop n rest = sym (take-append-drop n rest) ∙ ap (λ t. t ++ drop n rest) t.2 in record {
       items = t.0;
-      behind = drop n rest;
+      after = drop n rest;
       are_items = t.1;
       spelled = spelled;
       is = e ∙ ap (λ n. Ok (Lexeme (record {
@@ -206,7 +206,7 @@ character_at rest n answer l e =
     let t = l.token in
     let spelled : rest ≡ 35 ∷ (quoted t.0 ++ drop n rest) = sym (take-append-drop n rest) ∙ ap (λ t. t ++ drop n rest) t.3 in record {
       items = t.0;
-      behind = drop n rest;
+      after = drop n rest;
       are_items = t.1;
       spelled = ap (drop 1) spelled;
       is = e ∙ ap (λ n. Ok (Lexeme (record {
@@ -268,7 +268,7 @@ sort rest (Err stop) (inr (inl (inl b))) = subst (λ s. At s rest (Err stop)) (s
 sort rest (Err stop) (inr (inl (inr (inl (o, inner, b, e))))) = subst (λ s. At s rest (Err stop)) (sym (start_character rest o)) (inr (inner, b, ap Err e))
 sort rest (Err stop) (inr (inl (inr (inr (o, h, e))))) = subst (λ s. At s rest (Err stop)) (sym (start_character rest o)) (inl (record {
   items = h.items;
-  behind = h.rest;
+  after = h.rest;
   are_items = h.are_items;
   spelled = h.spelled;
   is = ap Err e ∙ sym (cond-false _ _ _ (other_number (length (string_value h.items)) 1 h.other));
@@ -284,9 +284,9 @@ none_there text stop b = go (item_at b.rest) refl
     go None e = e
     go (Some item) e = let s = item_sound b.rest item e in absurd (b.no_item item s.1 s.0 s.2)
 
-pub closed_or_broken : (text behind : List ℕ) (items : List Item) (stop : Stop) → AreItems items → text ≡ quoted items ++ behind → IsBroken text stop → ⊥
-closed_or_broken text behind items stop i e b =
-    let u = items_unique items b.items (34 ∷ behind) b.rest i b.are_items refl (none_there text stop b) (sym (append_assoc (items_text items) (34 ∷ []) behind) ∙ ap (drop 1) (sym e ∙ b.spelled)) in
+pub closed_or_broken : (text after : List ℕ) (items : List Item) (stop : Stop) → AreItems items → text ≡ quoted items ++ after → IsBroken text stop → ⊥
+closed_or_broken text after items stop i e b =
+    let u = items_unique items b.items (34 ∷ after) b.rest i b.are_items refl (none_there text stop b) (sym (append_assoc (items_text items) (34 ∷ []) after) ∙ ap (drop 1) (sym e ∙ b.spelled)) in
     false_is_true (sym b.not_closed ∙ ap (starts_with 34) (sym u.1))
 
 broken_once : (text : List ℕ) (stop other : Stop) → IsBroken text stop → IsBroken text other → stop ≡ other
@@ -329,7 +329,7 @@ token_once rest a b v w = v.is ∙ ap (of_lexeme v.kind) sizes ∙ ap (λ k. of_
     kinds = kind_once rest v.kind w.kind w.size (subst (λ n. IsToken v.kind (take n rest)) sizes v.lexeme.token) w.lexeme.token
 
 string_once : (rest : List ℕ) (a b : Answer) → AtString rest a → AtString rest b → a ≡ b
-string_once rest a b v w = v.is ∙ ap of_items (quoted_unique v.items w.items v.behind w.behind v.are_items w.are_items (sym v.spelled ∙ w.spelled)).0 ∙ sym w.is
+string_once rest a b v w = v.is ∙ ap of_items (quoted_unique v.items w.items v.after w.after v.are_items w.are_items (sym v.spelled ∙ w.spelled)).0 ∙ sym w.is
   where
     of_items : List Item → Answer
     of_items items = Ok (Lexeme (record {
@@ -338,7 +338,7 @@ string_once rest a b v w = v.is ∙ ap of_items (quoted_unique v.items w.items v
     }))
 
 character_once : (rest : List ℕ) (a b : Answer) → AtCharacter rest a → AtCharacter rest b → a ≡ b
-character_once rest a b v w = v.is ∙ ap of_items (quoted_unique v.items w.items v.behind w.behind v.are_items w.are_items (sym v.spelled ∙ w.spelled)).0 ∙ sym w.is
+character_once rest a b v w = v.is ∙ ap of_items (quoted_unique v.items w.items v.after w.after v.are_items w.are_items (sym v.spelled ∙ w.spelled)).0 ∙ sym w.is
   where
     of_items : List Item → Answer
     of_items items = if length (string_value items) == 1 then Ok (Lexeme (record {
@@ -354,12 +354,12 @@ once InComment rest a b (inl (m, v, e)) (inr (n, f)) = absurd (n m v)
 once InComment rest a b (inr (m, e)) (inl (n, w, f)) = absurd (m n w)
 once InComment rest a b (inr (m, e)) (inr (n, f)) = e ∙ sym f
 once InString rest a b (inl v) (inl w) = string_once rest a b v w
-once InString rest a b (inl v) (inr (stop, w, f)) = absurd (closed_or_broken rest v.behind v.items stop v.are_items v.spelled w)
-once InString rest a b (inr (stop, v, e)) (inl w) = absurd (closed_or_broken rest w.behind w.items stop w.are_items w.spelled v)
+once InString rest a b (inl v) (inr (stop, w, f)) = absurd (closed_or_broken rest v.after v.items stop v.are_items v.spelled w)
+once InString rest a b (inr (stop, v, e)) (inl w) = absurd (closed_or_broken rest w.after w.items stop w.are_items w.spelled v)
 once InString rest a b (inr (stop, v, e)) (inr (other, w, f)) = e ∙ ap Err (broken_once rest stop other v w) ∙ sym f
 once InCharacter rest a b (inl v) (inl w) = character_once rest a b v w
-once InCharacter rest a b (inl v) (inr (stop, w, f)) = absurd (closed_or_broken (drop 1 rest) v.behind v.items stop v.are_items v.spelled w)
-once InCharacter rest a b (inr (stop, v, e)) (inl w) = absurd (closed_or_broken (drop 1 rest) w.behind w.items stop w.are_items w.spelled v)
+once InCharacter rest a b (inl v) (inr (stop, w, f)) = absurd (closed_or_broken (drop 1 rest) v.after v.items stop v.are_items v.spelled w)
+once InCharacter rest a b (inr (stop, v, e)) (inl w) = absurd (closed_or_broken (drop 1 rest) w.after w.items stop w.are_items w.spelled v)
 once InCharacter rest a b (inr (stop, v, e)) (inr (other, w, f)) = e ∙ ap (λ s. Err (record {
   code = s.code;
   at = s.at + 1;

@@ -121,8 +121,8 @@ quoted_unique a b x y i j e =
     (r.0, ap (drop 1) r.1)
 
 -- a string at the front
-pub string_size : (rest : List ℕ) (items : List Item) (behind : List ℕ) (n : ℕ) → AreItems items → rest ≡ quoted items ++ behind → n ≤ length rest → IsString (take n rest) → n ≡ length (quoted items)
-string_size rest items behind n i e l s = sym (length-take-le n rest l) ∙ ap length s.2 ∙ ap (λ items. length (quoted items)) (quoted_unique s.0 items (drop n rest) behind s.1 i (ap (λ t. t ++ drop n rest) (sym s.2) ∙ take-append-drop n rest ∙ e)).0
+pub string_size : (rest : List ℕ) (items : List Item) (after : List ℕ) (n : ℕ) → AreItems items → rest ≡ quoted items ++ after → n ≤ length rest → IsString (take n rest) → n ≡ length (quoted items)
+string_size rest items after n i e l s = sym (length-take-le n rest l) ∙ ap length s.2 ∙ ap (λ items. length (quoted items)) (quoted_unique s.0 items (drop n rest) after s.1 i (ap (λ t. t ++ drop n rest) (sym s.2) ∙ take-append-drop n rest ∙ e)).0
 
 pub string_lexeme : (rest : List ℕ) (size : Extent) → IsQuoted rest size → IsLexeme rest StringConstant size.bytes
 string_lexeme rest size q = record {
@@ -149,9 +149,9 @@ pub hash_first : (rest : List ℕ) → opens_character rest ≡ true → rest �
 hash_first [] e = absurd (false_is_true e)
 hash_first (c ∷ rest) e = ap (λ c. c ∷ rest) (eqb-true _ _ (first_true (c == 35) (starts_with 34 rest) e))
 
-pub character_size : (rest : List ℕ) (items : List Item) (behind : List ℕ) (n : ℕ) → AreItems items → rest ≡ 35 ∷ (quoted items ++ behind) → n ≤ length rest → IsCharacter (take n rest) → n ≡ 1 + length (quoted items)
-character_size rest items behind n i e l s =
-    let same = ap (λ items. length (quoted items)) (quoted_unique s.0 items (drop n rest) behind s.1 i (ap (drop 1) (ap (λ t. t ++ drop n rest) (sym s.3) ∙ take-append-drop n rest ∙ e))).0 in
+pub character_size : (rest : List ℕ) (items : List Item) (after : List ℕ) (n : ℕ) → AreItems items → rest ≡ 35 ∷ (quoted items ++ after) → n ≤ length rest → IsCharacter (take n rest) → n ≡ 1 + length (quoted items)
+character_size rest items after n i e l s =
+    let same = ap (λ items. length (quoted items)) (quoted_unique s.0 items (drop n rest) after s.1 i (ap (drop 1) (ap (λ t. t ++ drop n rest) (sym s.3) ∙ take-append-drop n rest ∙ e))).0 in
     let size = sym (length-take-le n rest l) ∙ ap length s.3 in
     omega (arith, same, size)
 

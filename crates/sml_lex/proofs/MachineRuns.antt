@@ -7,7 +7,7 @@ use Rattle.sml_lex.specs.declared.machine.State.{State}
 use Rattle.sml_lex.specs.declared.machine.State.TheVariants.{Dead}
 use Rattle.sml_lex.specs.Words.{is_text, word_kind, is_reserved}
 use Rattle.sml_lex.specs.Bytes.{all_are}
-use Rattle.sml_lex.specs.CodeMachine.{Progress, step_state, part_behind, run, kind_at, kind_read}
+use Rattle.sml_lex.specs.CodeMachine.{Progress, step_state, part_after, run, kind_at, kind_read}
 
 abbrev pub at : State → List ℕ → Progress
 at s part = record {
@@ -19,7 +19,7 @@ at s part = record {
 pub record Reads (s : State) (part text : List ℕ) (kind : Kind) : Type 0 where
   pub read : kind_read (run (at s part) text) ≡ Some kind
 
-pub next : {s : State} {part : List ℕ} {c : ℕ} {text : List ℕ} {kind : Kind} → Reads s part (c ∷ text) kind → Reads (step_state s (is_reserved part) c) (part_behind part c) text kind
+pub next : {s : State} {part : List ℕ} {c : ℕ} {text : List ℕ} {kind : Kind} → Reads s part (c ∷ text) kind → Reads (step_state s (is_reserved part) c) (part_after part c) text kind
 next h = record { read = h.read }
 
 pub done : {s : State} {part : List ℕ} {kind : Kind} → Reads s part [] kind → kind_at s (word_kind part) (is_text part (codes "*")) ≡ Some kind
@@ -36,7 +36,7 @@ some_same k l e = ap (λ o. unwrap_or o k) e
 
 pub dead : (part text : List ℕ) (kind : Kind) → Reads Dead part text kind → ⊥
 dead part [] kind h = none_is_some kind (done h)
-dead part (c ∷ text) kind h = dead (part_behind part c) text kind (next h)
+dead part (c ∷ text) kind h = dead (part_after part c) text kind (next h)
 
 -- by the test on which the state depends
 pub on_if : {part text : List ℕ} {kind : Kind} (R : Type 0) (t : Bool) (s u : State) → (t ≡ true → Reads s part text kind → R) → (t ≡ false → Reads u part text kind → R) → Reads (if t then s else u) part text kind → R
@@ -71,14 +71,14 @@ apart f x n c h = go (c == x) refl
     go true e = absurd (false_is_true (sym n ∙ ap f (sym (eqb-true _ _ e)) ∙ h))
     go false e = e
 
-pub part_on_byte : (part : List ℕ) (c : ℕ) → (c == 46) ≡ false → part_behind part c ≡ part ++ c ∷ []
+pub part_on_byte : (part : List ℕ) (c : ℕ) → (c == 46) ≡ false → part_after part c ≡ part ++ c ∷ []
 part_on_byte part c e = cond-false _ _ _ e
 
 -- the bytes read in one state, and what follows them
 pub record Loops (f : ℕ → Bool) (s : State) (part text : List ℕ) (kind : Kind) : Type 0 where
   pub front : List ℕ
   pub all : all_are f front ≡ true
-  pub ending : ((text ≡ front) × Reads s (part ++ front) [] kind) ⊎ ((c : ℕ) × (rest : List ℕ) × (text ≡ front ++ c ∷ rest) × (f c ≡ false) × Reads (step_state s (is_reserved (part ++ front)) c) (part_behind (part ++ front) c) rest kind)
+  pub ending : ((text ≡ front) × Reads s (part ++ front) [] kind) ⊎ ((c : ℕ) × (rest : List ℕ) × (text ≡ front ++ c ∷ rest) × (f c ≡ false) × Reads (step_state s (is_reserved (part ++ front)) c) (part_after (part ++ front) c) rest kind)
 
 pub loops : (f : ℕ → Bool) (s : State) → f 46 ≡ false → ((b : Bool) (c : ℕ) → f c ≡ true → step_state s b c ≡ s) → (part text : List ℕ) (kind : Kind) → Reads s part text kind → Loops f s part text kind
 loops f s dot stays part [] kind h = record {
@@ -90,17 +90,17 @@ loops f s dot stays part (c ∷ text) kind h = go (f c) refl (λ h. loops f s do
   where
     go : (b : Bool) → f c ≡ b → (Reads s (part ++ c ∷ []) text kind → Loops f s (part ++ c ∷ []) text kind) → Loops f s part (c ∷ text) kind
     go true e rest =
-        let h1 : Reads s (part_behind part c) text kind = subst (λ t. Reads t (part_behind part c) text kind) (stays (is_reserved part) c e) (next h) in
+        let h1 : Reads s (part_after part c) text kind = subst (λ t. Reads t (part_after part c) text kind) (stays (is_reserved part) c e) (next h) in
         let l = rest (subst (λ p. Reads s p text kind) (part_on_byte part c (apart f 46 dot c e)) h1) in
         let joined : (part ++ c ∷ []) ++ l.front ≡ part ++ (c ∷ l.front) = append_assoc part (c ∷ []) l.front in record {
           front = c ∷ l.front;
           all = both_true _ _ e l.all;
-          ending = elim l.ending [ inl w ↦ inl (ap (λ t. c ∷ t) w.0, subst (λ p. Reads s p [] kind) joined w.1) | inr w ↦ inr (w.0, w.1, ap (λ t. c ∷ t) w.2, w.3, subst (λ p. Reads (step_state s (is_reserved p) w.0) (part_behind p w.0) w.1 kind) joined w.4) ];
+          ending = elim l.ending [ inl w ↦ inl (ap (λ t. c ∷ t) w.0, subst (λ p. Reads s p [] kind) joined w.1) | inr w ↦ inr (w.0, w.1, ap (λ t. c ∷ t) w.2, w.3, subst (λ p. Reads (step_state s (is_reserved p) w.0) (part_after p w.0) w.1 kind) joined w.4) ];
         }
     go false e rest = record {
       front = [];
       all = refl;
-      ending = inr (c, text, refl, e, subst (λ p. Reads (step_state s (is_reserved p) c) (part_behind p c) text kind) (sym (append-nil part)) (next h));
+      ending = inr (c, text, refl, e, subst (λ p. Reads (step_state s (is_reserved p) c) (part_after p c) text kind) (sym (append-nil part)) (next h));
     }
 
 -- a state that nothing else leaves
@@ -110,5 +110,5 @@ only f s dot steps part text kind h = go (loops f s dot (λ b c e. steps b c ∙
     go : Loops f s part text kind → (all_are f text ≡ true) × Reads s (part ++ text) [] kind
     go l = elim l.ending [
       | inl w ↦ (subst (λ t. all_are f t ≡ true) (sym w.0) l.all, subst (λ t. Reads s (part ++ t) [] kind) (sym w.0) w.1)
-      | inr w ↦ absurd (dead _ w.1 kind (subst (λ t. Reads t (part_behind (part ++ l.front) w.0) w.1 kind) (steps (is_reserved (part ++ l.front)) w.0 ∙ cond-false _ _ _ w.3) w.4))
+      | inr w ↦ absurd (dead _ w.1 kind (subst (λ t. Reads t (part_after (part ++ l.front) w.0) w.1 kind) (steps (is_reserved (part ++ l.front)) w.0 ∙ cond-false _ _ _ w.3) w.4))
     ]

@@ -17,7 +17,7 @@ use Rattle.sml_lex.specs.Pieces.{IsPiece, IsFault, size_of, SpellsFrom, tokens_o
 use Rattle.sml_lex.proofs.Spelling.{place_on}
 use Rattle.sml_lex.proofs.Unique.{piece_there}
 
--- the place behind a piece
+-- the place after a piece
 pub piece_on : (unit : List ℕ) (place : ℕ) (piece : Piece) → IsPiece (drop place unit) piece → (place < place + size_of piece) × (place + size_of piece ≤ length unit)
 piece_on unit place piece p = elim (cases_lt place (length unit)) [
   | inl w ↦ place_on unit place (size_of piece) piece w refl p
@@ -28,16 +28,16 @@ lower : (unit : List ℕ) (m n : ℕ) (tokens : List Token) → m ≤ n → AreI
 lower unit m n [] l o = omega (arith, l, o)
 lower unit m n (token ∷ tokens) l o = (let a = o.0 in omega (arith, l, a), o.1, o.2, o.3, o.4)
 
-behind : (unit : List ℕ) (place : ℕ) (piece : Piece) (pieces : List Piece) → place < place + size_of piece → IsPiece (drop place unit) piece → AreInOrder unit (place + size_of piece) (tokens_of (place + size_of piece) pieces) → AreInOrder unit place (tokens_of place (piece ∷ pieces))
-behind unit place Blank pieces l p o = lower unit place (place + 1) (tokens_of (place + 1) pieces) (omega (arith, l)) o
-behind unit place (Comment size) pieces l p o = lower unit place (place + size) (tokens_of (place + size) pieces) (omega (arith, l)) o
-behind unit place (Lexeme lexeme) pieces l p o = (omega arith, l, subst (λ n. IsToken lexeme.kind (take n (drop place unit))) (omega arith) p.0.token, subst (λ n. fits lexeme.kind (take n (drop place unit)) ≡ true) (omega arith) p.1, o)
+after : (unit : List ℕ) (place : ℕ) (piece : Piece) (pieces : List Piece) → place < place + size_of piece → IsPiece (drop place unit) piece → AreInOrder unit (place + size_of piece) (tokens_of (place + size_of piece) pieces) → AreInOrder unit place (tokens_of place (piece ∷ pieces))
+after unit place Blank pieces l p o = lower unit place (place + 1) (tokens_of (place + 1) pieces) (omega (arith, l)) o
+after unit place (Comment size) pieces l p o = lower unit place (place + size) (tokens_of (place + size) pieces) (omega (arith, l)) o
+after unit place (Lexeme lexeme) pieces l p o = (omega arith, l, subst (λ n. IsToken lexeme.kind (take n (drop place unit))) (omega arith) p.0.token, subst (λ n. fits lexeme.kind (take n (drop place unit)) ≡ true) (omega arith) p.1, o)
 
 order : (unit : List ℕ) (pieces : List Piece) (place : ℕ) (end : End) → place ≤ length unit → SpellsFrom unit place pieces end → AreInOrder unit place (tokens_of place pieces)
 order unit [] place end w s = w
 order unit (piece ∷ pieces) place end w s =
     let on = piece_on unit place piece s.0 in
-    behind unit place piece pieces on.0 s.0 (order unit pieces (place + size_of piece) end on.1 s.1)
+    after unit place piece pieces on.0 s.0 (order unit pieces (place + size_of piece) end on.1 s.1)
 
 pub tokens_are_in_order : TokensAreInOrder
 tokens_are_in_order unit tokens end (inl s) = subst (AreInOrder unit 0) (sym s.tokens_are) (order unit s.pieces 0 end (omega arith) s.spelled)

@@ -10,7 +10,7 @@ use Rattle.sml_lex.specs.Bytes.{is_digit}
 use Rattle.sml_lex.specs.Words.{is_reserved}
 use Rattle.sml_lex.specs.Bytes.{all_are}
 use Rattle.sml_lex.specs.Tokens.{is_digits, IsDecimal, IsFraction, IsExponent, IsToken}
-use Rattle.sml_lex.specs.CodeMachine.{step_state, part_behind, real_state, fraction_state, digit_or}
+use Rattle.sml_lex.specs.CodeMachine.{step_state, part_after, real_state, fraction_state, digit_or}
 use Rattle.sml_lex.proofs.MachineRuns.{Reads, next, done, none_is_some, false_is_true, some_same, dead, on_if, both_true, apart, Loops, loops, only}
 
 pub of_kind : (text : List ℕ) (k kind : Kind) → Some k ≡ Some kind → IsToken k text → IsToken kind text
@@ -25,16 +25,16 @@ exponent_digits part c text kind d h =
 exponent_read : (part text : List ℕ) (kind : Kind) → Reads ExponentMark part text kind → IsDecimal text × (Some RealConstant ≡ Some kind)
 exponent_read part [] kind h = absurd (none_is_some kind (done h))
 exponent_read part (c ∷ text) kind h =
-    on_if (IsDecimal (c ∷ text) × (Some RealConstant ≡ Some kind)) (c == 126) ExponentTilde (digit_or Exponent Dead c) (λ e h. behind_tilde text e h) (
+    on_if (IsDecimal (c ∷ text) × (Some RealConstant ≡ Some kind)) (c == 126) ExponentTilde (digit_or Exponent Dead c) (λ e h. after_tilde text e h) (
     λ e h.
     on_if (IsDecimal (c ∷ text) × (Some RealConstant ≡ Some kind)) (is_digit c) Exponent Dead (
     λ d h. let w = exponent_digits _ c text kind d h in ((c ∷ text, w.0, inl refl), w.1)
     ) (λ d h. absurd (dead _ text kind h)) h
     ) (next h)
   where
-    behind_tilde : (text : List ℕ) → (c == 126) ≡ true → Reads ExponentTilde (part_behind part c) text kind → IsDecimal (c ∷ text) × (Some RealConstant ≡ Some kind)
-    behind_tilde [] e h = absurd (none_is_some kind (done h))
-    behind_tilde (d ∷ text) e h =
+    after_tilde : (text : List ℕ) → (c == 126) ≡ true → Reads ExponentTilde (part_after part c) text kind → IsDecimal (c ∷ text) × (Some RealConstant ≡ Some kind)
+    after_tilde [] e h = absurd (none_is_some kind (done h))
+    after_tilde (d ∷ text) e h =
         on_if (IsDecimal (c ∷ d ∷ text) × (Some RealConstant ≡ Some kind)) (is_digit d) Exponent Dead (
         λ n h. let w = exponent_digits _ d text kind n h in ((d ∷ text, w.0, inr (ap (λ x. x ∷ d ∷ text) (eqb-true _ _ e))), w.1)
         ) (λ n h. absurd (dead _ text kind h)) (next h)
@@ -65,8 +65,8 @@ fraction_read : (part text : List ℕ) (kind : Kind) → Reads Point part text k
 fraction_read part [] kind h = absurd (none_is_some kind (done h))
 fraction_read part (c ∷ text) kind h = on_if (FractionRead (c ∷ text) kind) (is_digit c) Fraction Dead (λ d h. looped d (loops is_digit Fraction refl (λ b c d. cond-false _ _ _ (not_exponent c d) ∙ cond-true _ _ _ d) _ text kind h)) (λ d h. absurd (dead _ text kind h)) (next h)
   where
-    behind : {part : List ℕ} (l : List ℕ) (x : ℕ) (rest : List ℕ) → is_digits (c ∷ l) ≡ true → text ≡ l ++ x ∷ rest → is_digit x ≡ false → Reads (fraction_state x) part rest kind → FractionRead (c ∷ text) kind
-    behind {part} l x rest all e n h =
+    after : {part : List ℕ} (l : List ℕ) (x : ℕ) (rest : List ℕ) → is_digits (c ∷ l) ≡ true → text ≡ l ++ x ∷ rest → is_digit x ≡ false → Reads (fraction_state x) part rest kind → FractionRead (c ∷ text) kind
+    after {part} l x rest all e n h =
         on_if (FractionRead (c ∷ text) kind) ((x == 69) || (x == 101)) ExponentMark (digit_or Fraction Dead x) (
         λ m h. let w = exponent_read part rest kind h in record {
           digits = c ∷ l;
@@ -88,7 +88,7 @@ fraction_read part (c ∷ text) kind h = on_if (FractionRead (c ∷ text) kind) 
         tail = inl refl;
         real = done w.1;
       }
-      | inr w ↦ behind l.front w.0 w.1 (both_true _ _ d l.all) w.2 w.3 w.4
+      | inr w ↦ after l.front w.0 w.1 (both_true _ _ d l.all) w.2 w.3 w.4
     ]
 
 -- what may follow the whole part of a real
@@ -149,7 +149,7 @@ number_read s k steps own part text kind h = looped (loops is_digit s refl (λ b
         tail = w.0 ∷ w.1;
         joined = w.2;
         all = l.all;
-        ending = inr (real_tail _ w.0 w.1 kind (subst (λ s. Reads s (part_behind (part ++ l.front) w.0) w.1 kind) (steps (is_reserved (part ++ l.front)) w.0 ∙ cond-false _ _ _ w.3) w.4));
+        ending = inr (real_tail _ w.0 w.1 kind (subst (λ s. Reads s (part_after (part ++ l.front) w.0) w.1 kind) (steps (is_reserved (part ++ l.front)) w.0 ∙ cond-false _ _ _ w.3) w.4));
       }
     ]
 

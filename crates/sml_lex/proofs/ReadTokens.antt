@@ -11,7 +11,7 @@ use Rattle.sml_lex.specs.Bytes.{is_digit, is_hex_digit, is_letter, is_name_byte,
 use Rattle.sml_lex.specs.Words.{is_text, kind_among, reserved_words, word_kind, is_reserved}
 use Rattle.sml_lex.specs.Bytes.{all_are}
 use Rattle.sml_lex.specs.Tokens.{is_digits, is_hex_digits, is_alphanumeric, is_symbolic, is_star, qualifiers, AreQualifiers, IsLong, IsToken}
-use Rattle.sml_lex.specs.CodeMachine.{first_dot, first_mark, first_sign, first_tilde, first_prime, first_digit, first_zero, first_state, part_behind, real_state, digit_or, name_byte_or, sign_or_dead, dot_or_dead, token_kind}
+use Rattle.sml_lex.specs.CodeMachine.{first_dot, first_mark, first_sign, first_tilde, first_prime, first_digit, first_zero, first_state, part_after, real_state, digit_or, name_byte_or, sign_or_dead, dot_or_dead, token_kind}
 use Rattle.sml_lex.proofs.MachineRuns.{Reads, next, done, none_is_some, false_is_true, some_same, dead, on_if, both_true, first_true, second_true, apart, part_on_byte, only}
 use Rattle.sml_lex.proofs.ReadNumbers.{of_kind, RealTail, real_tail, real_is, NumberRead, number_read, with_digit}
 
@@ -121,7 +121,7 @@ long_signs c text kind d h =
       is = inr (both_true _ _ d o.0, w.1);
     }
 
--- behind a dot
+-- after a dot
 dot_read : (c : ℕ) (text : List ℕ) (kind : Kind) → (is_letter c ≡ true → Reads LongName (c ∷ []) text kind → LongRead (c ∷ text) kind) → Reads Dot [] (c ∷ text) kind → LongRead (c ∷ text) kind
 dot_read c text kind name h =
     on_if (LongRead (c ∷ text) kind) (is_letter c) LongName (sign_or_dead LongSign c) (λ e h. name e (subst (λ p. Reads LongName p text kind) (part_on_byte [] c (apart is_letter 46 refl c e)) h)) (
@@ -144,8 +144,8 @@ with_part part text c kind dot a free l = record {
   is = l.is;
 }
 
--- behind an alphanumeric part, by the byte that follows
-name_next : (R : Type 0) (s : State) (part : List ℕ) (c : ℕ) (text : List ℕ) (kind : Kind) → (is_name_byte c ≡ true → Reads s (part ++ c ∷ []) text kind → R) → ((c == 46) ≡ true → is_reserved part ≡ false → Reads Dot [] text kind → R) → Reads (name_byte_or s (if is_reserved part then Dead else dot_or_dead Dot c) c) (part_behind part c) text kind → R
+-- after an alphanumeric part, by the byte that follows
+name_next : (R : Type 0) (s : State) (part : List ℕ) (c : ℕ) (text : List ℕ) (kind : Kind) → (is_name_byte c ≡ true → Reads s (part ++ c ∷ []) text kind → R) → ((c == 46) ≡ true → is_reserved part ≡ false → Reads Dot [] text kind → R) → Reads (name_byte_or s (if is_reserved part then Dead else dot_or_dead Dot c) c) (part_after part c) text kind → R
 name_next R s part c text kind named dotted h =
     on_if R (is_name_byte c) s (if is_reserved part then Dead else dot_or_dead Dot c) (λ e h. named e (subst (λ p. Reads s p text kind) (part_on_byte part c (apart is_name_byte 46 refl c e)) h)) (
     λ n h.
@@ -180,7 +180,7 @@ long_read part (c ∷ d ∷ text) kind a h = name_next (LongRead (part ++ c ∷ 
     λ e free h. with_part part (d ∷ text) c kind e a free (dot_read d text kind (λ e h. long_read (d ∷ []) text kind (both_true _ _ e refl) h) h)
     ) (next h)
 
--- behind the first part's dot
+-- after the first part's dot
 long_with : (is_last : List ℕ → Bool) (first text : List ℕ) (c : ℕ) (kind : Kind) → (c == 46) ≡ true → is_alphanumeric first ≡ true → is_reserved first ≡ false → (l : LongRead text kind) → is_last l.last ≡ true → IsLong is_last (first ++ c ∷ text)
 long_with is_last first text c kind dot a free l i = record {
   first = first;
@@ -336,32 +336,32 @@ token_read (c ∷ text) kind e = letter (next (first e))
     first : token_kind (c ∷ text) ≡ Some kind → Reads Fresh [] (c ∷ text) kind
     first e = record { read = e }
 
-    alone : {s : State} (f : ℕ → Bool) → f 46 ≡ false → f c ≡ true → Reads s (part_behind [] c) text kind → Reads s (c ∷ []) text kind
+    alone : {s : State} (f : ℕ → Bool) → f 46 ≡ false → f c ≡ true → Reads s (part_after [] c) text kind → Reads s (c ∷ []) text kind
     alone {s} f dot e h = subst (λ p. Reads s p text kind) (part_on_byte [] c (apart f 46 dot c e)) h
 
-    dot : Reads (first_dot c) (part_behind [] c) text kind → IsToken kind (c ∷ text)
+    dot : Reads (first_dot c) (part_after [] c) text kind → IsToken kind (c ∷ text)
     dot h = on_if (IsToken kind (c ∷ text)) (c == 46) OneDot Dead (λ e h. subst (λ c. IsToken kind (c ∷ text)) (sym (eqb-true _ _ e)) (dots_read _ text kind h)) (λ e h. absurd (dead _ text kind h)) h
 
-    mark : Reads (first_mark c) (part_behind [] c) text kind → IsToken kind (c ∷ text)
+    mark : Reads (first_mark c) (part_after [] c) text kind → IsToken kind (c ∷ text)
     mark h = on_if (IsToken kind (c ∷ text)) (is_mark c) Mark (first_dot c) (λ e h. alone_read c text kind (alone is_mark refl e h)) (λ e h. dot h) h
 
-    sign : Reads (first_sign c) (part_behind [] c) text kind → IsToken kind (c ∷ text)
+    sign : Reads (first_sign c) (part_after [] c) text kind → IsToken kind (c ∷ text)
     sign h = on_if (IsToken kind (c ∷ text)) (is_sign c) Sign (first_mark c) (λ e h. signs_read c text kind e (alone is_sign refl e h)) (λ e h. mark h) h
 
-    tilde_only : (c : ℕ) → c ≡ 126 → Reads Tilde (part_behind [] c) text kind → IsToken kind (c ∷ text)
-    tilde_only c e h = subst (λ c. Reads Tilde (part_behind [] c) text kind → IsToken kind (c ∷ text)) (sym e) (λ h. tilde_read text kind h) h
+    tilde_only : (c : ℕ) → c ≡ 126 → Reads Tilde (part_after [] c) text kind → IsToken kind (c ∷ text)
+    tilde_only c e h = subst (λ c. Reads Tilde (part_after [] c) text kind → IsToken kind (c ∷ text)) (sym e) (λ h. tilde_read text kind h) h
 
-    tilde : Reads (first_tilde c) (part_behind [] c) text kind → IsToken kind (c ∷ text)
+    tilde : Reads (first_tilde c) (part_after [] c) text kind → IsToken kind (c ∷ text)
     tilde h = on_if (IsToken kind (c ∷ text)) (c == 126) Tilde (first_sign c) (λ e h. tilde_only c (eqb-true _ _ e) h) (λ e h. sign h) h
 
-    prime : Reads (first_prime c) (part_behind [] c) text kind → IsToken kind (c ∷ text)
+    prime : Reads (first_prime c) (part_after [] c) text kind → IsToken kind (c ∷ text)
     prime h = on_if (IsToken kind (c ∷ text)) (c == 39) Variable (first_tilde c) (λ e h. variable_read c _ text kind e h) (λ e h. tilde h) h
 
-    digit : (c == 48) ≡ false → Reads (first_digit c) (part_behind [] c) text kind → IsToken kind (c ∷ text)
+    digit : (c == 48) ≡ false → Reads (first_digit c) (part_after [] c) text kind → IsToken kind (c ∷ text)
     digit z h = on_if (IsToken kind (c ∷ text)) (is_digit c) Digits (first_prime c) (λ e h. digits_read c _ text kind z e h) (λ e h. prime h) h
 
-    zero : Reads (first_zero c) (part_behind [] c) text kind → IsToken kind (c ∷ text)
+    zero : Reads (first_zero c) (part_after [] c) text kind → IsToken kind (c ∷ text)
     zero h = on_if (IsToken kind (c ∷ text)) (c == 48) Zero (first_digit c) (λ e h. zero_read c _ text kind (eqb-true _ _ e) h) (λ e h. digit e h) h
 
-    letter : Reads (first_state c) (part_behind [] c) text kind → IsToken kind (c ∷ text)
+    letter : Reads (first_state c) (part_after [] c) text kind → IsToken kind (c ∷ text)
     letter h = on_if (IsToken kind (c ∷ text)) (is_letter c) Name (first_zero c) (λ e h. name_read (c ∷ []) text kind (both_true _ _ e refl) (alone is_letter refl e h)) (λ e h. zero h) h

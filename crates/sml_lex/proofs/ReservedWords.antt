@@ -21,24 +21,24 @@ passed text (word ∷ words) more e = by_test (is_text text word.0) refl (λ h. 
     by_test true t go = absurd (none_is_some word.1 (sym e ∙ cond-true _ _ _ t))
     by_test false t go = cond-false _ _ _ t ∙ go (sym (cond-false _ _ _ t) ∙ e)
 
--- the words behind each group
-abbrev pub behind_signs : List (List ℕ × Kind)
-behind_signs = words_of_marks
+-- the words after each group
+abbrev pub after_signs : List (List ℕ × Kind)
+after_signs = words_of_marks
 
-abbrev pub behind_w : List (List ℕ × Kind)
-behind_w = words_of_signs ++ behind_signs
+abbrev pub after_w : List (List ℕ × Kind)
+after_w = words_of_signs ++ after_signs
 
-abbrev pub behind_s : List (List ℕ × Kind)
-behind_s = words_t_to_w ++ behind_w
+abbrev pub after_s : List (List ℕ × Kind)
+after_s = words_t_to_w ++ after_w
 
-abbrev pub behind_o : List (List ℕ × Kind)
-behind_o = words_r_to_s ++ behind_s
+abbrev pub after_o : List (List ℕ × Kind)
+after_o = words_r_to_s ++ after_s
 
-abbrev pub behind_i : List (List ℕ × Kind)
-behind_i = words_l_to_o ++ behind_o
+abbrev pub after_i : List (List ℕ × Kind)
+after_i = words_l_to_o ++ after_o
 
-abbrev pub behind_f : List (List ℕ × Kind)
-behind_f = words_h_to_i ++ behind_i
+abbrev pub after_f : List (List ℕ × Kind)
+after_f = words_h_to_i ++ after_i
 
-abbrev pub behind_d : List (List ℕ × Kind)
-behind_d = words_e_to_f ++ behind_f
+abbrev pub after_d : List (List ℕ × Kind)
+after_d = words_e_to_f ++ after_f

@@ -12,7 +12,7 @@ use Rattle.sml_lex.specs.Pieces.{IsPiece, size_of, SpellsFrom, tokens_of}
 use Rattle.sml_lex.proofs.CommentBodies.{comment_bytes}
 use Rattle.sml_lex.proofs.FirstTokens.{never_empty}
 
--- whatever the rest spells, the whole spells it behind these tokens
+-- whatever the rest spells, the whole spells it after these tokens
 pub record Carries (unit : List ℕ) (place : ℕ) (tokens : List Token) : Type 0 where
   pub whole : (pieces : List Piece) (end : End) → SpellsFrom unit place pieces end → (all : List Piece) × (tokens ++ tokens_of place pieces ≡ tokens_of 0 all) × SpellsFrom unit 0 all end
 

@@ -66,8 +66,8 @@ some_bytes (Gap white) = omega arith
 pub record Found (rest : List ℕ) (found : Element) : Type 0 where
   pub item : Item
   pub is_item : IsItem item
-  pub behind : List ℕ
-  pub spelled : rest ≡ item_text item ++ behind
+  pub after : List ℕ
+  pub spelled : rest ≡ item_text item ++ after
   pub bytes : found.bytes ≡ length (item_text item)
   pub value : found.value ≡ first_of (item_value item)
 
@@ -81,7 +81,7 @@ found rest size e = go (item_at rest) refl e
         let s = item_sound rest item o in record {
           item = item;
           is_item = s.0;
-          behind = s.1;
+          after = s.1;
           spelled = s.2;
           bytes = sym (ap (λ x. x.bytes) same);
           value = sym (ap (λ x. x.value) same);
@@ -97,7 +97,7 @@ value_list (Gap white) = refl
 
 pub scan_on : (text : List ℕ) (bytes : ℕ) (value : List ℕ) (size : Element) → Found (drop bytes text) size → Scanned text bytes value → Scanned text (bytes + size.bytes) (value ++ option_to_list size.value)
 scan_on text bytes value size f s =
-    let behind : drop (bytes + size.bytes) text ≡ f.behind = sym (drop-drop size.bytes bytes text) ∙ ap (λ n. drop n (drop bytes text)) f.bytes ∙ ap (drop (length (item_text f.item))) f.spelled ∙ drop-append_seam (item_text f.item) f.behind in
+    let after : drop (bytes + size.bytes) text ≡ f.after = sym (drop-drop size.bytes bytes text) ∙ ap (λ n. drop n (drop bytes text)) f.bytes ∙ ap (drop (length (item_text f.item))) f.spelled ∙ drop-append_seam (item_text f.item) f.after in
     let own : option_to_list size.value ≡ item_value f.item = ap option_to_list f.value ∙ value_list f.item in
     let b = s.bytes_are in
     let fb = f.bytes in
@@ -108,10 +108,10 @@ scan_on text bytes value size f s =
     let lo = ap length own in
     let ld = length-drop bytes text in
     let within = s.within in
-    let lf = ap length f.spelled ∙ length-append (item_text f.item) f.behind in record {
+    let lf = ap length f.spelled ∙ length-append (item_text f.item) f.after in record {
       items = s.items ++ f.item ∷ [];
       are_items = items_more s.items f.item s.are_items f.is_item;
-      spelled = s.spelled ∙ ap (λ t. 34 ∷ (items_text s.items ++ t)) f.spelled ∙ ap (λ t. 34 ∷ t) (sym (append_assoc (items_text s.items) (item_text f.item) f.behind) ∙ ap (λ t. t ++ f.behind) (flat_map_more item_text [] s.items f.item)) ∙ ap (λ t. 34 ∷ (items_text (s.items ++ f.item ∷ []) ++ t)) (sym behind);
+      spelled = s.spelled ∙ ap (λ t. 34 ∷ (items_text s.items ++ t)) f.spelled ∙ ap (λ t. 34 ∷ t) (sym (append_assoc (items_text s.items) (item_text f.item) f.after) ∙ ap (λ t. t ++ f.after) (flat_map_more item_text [] s.items f.item)) ∙ ap (λ t. 34 ∷ (items_text (s.items ++ f.item ∷ []) ++ t)) (sym after);
       bytes_are = omega (arith, b, fb, lb);
       value_is = ap (λ v. v ++ option_to_list size.value) s.value_is ∙ ap (λ v. string_value s.items ++ v) own ∙ flat_map_more item_value [] s.items f.item;
       few = omega (arith, few, fb, lv, lo, less);
@@ -124,7 +124,7 @@ scan_smaller text bytes value size f s =
     let fb = f.bytes in
     let ld = length-drop bytes text in
     let within = s.within in
-    let lf = ap length f.spelled ∙ length-append (item_text f.item) f.behind in
+    let lf = ap length f.spelled ∙ length-append (item_text f.item) f.after in
     (omega (arith, some, fb), omega (arith, ld, lf, fb, within))
 
 pub scan_closed : (text : List ℕ) (bytes characters : ℕ) (first : Option ℕ) (value : List ℕ) → starts_with 34 (drop bytes text) ≡ true → Scanned text bytes value → characters ≡ length value → first ≡ first_of value → IsQuoted text (record {

@@ -11,7 +11,7 @@ use Rattle.sml_lex.specs.Bytes.{is_digit, is_hex_digit, is_letter, is_name_byte,
 use Rattle.sml_lex.specs.Words.{is_text, kind_among, reserved_words, word_kind, is_reserved}
 use Rattle.sml_lex.specs.Bytes.{all_are, is_run}
 use Rattle.sml_lex.specs.Tokens.{is_digits, is_hex_digits, is_alphanumeric, is_symbolic, is_star, qualifiers, AreQualifiers, IsLong, IsDecimal, IsFraction, IsExponent, IsReal, IsToken}
-use Rattle.sml_lex.specs.CodeMachine.{Progress, fresh, first_state, step_state, part_behind, name_byte_or, dot_or_dead, step, run, kind_at, kind_read, token_kind}
+use Rattle.sml_lex.specs.CodeMachine.{Progress, fresh, first_state, step_state, part_after, name_byte_or, dot_or_dead, step, run, kind_at, kind_read, token_kind}
 use Rattle.sml_lex.proofs.Beginnings.{run-append}
 use Rattle.sml_lex.proofs.ByteClasses.{digit_no_letter, sign_no_letter, sign_no_digit}
 use Rattle.sml_lex.proofs.MachineRuns.{at, none_is_some, false_is_true, first_true, second_true, apart, part_on_byte}
@@ -41,7 +41,7 @@ word_reads text kind e = token_found text reserved_words kind all_tokens e
 
 -- steps and runs of which the part matters
 step_to : (s t : State) (part : List ℕ) (c : ℕ) → (c == 46) ≡ false → step_state s (is_reserved part) c ≡ t → step (at s part) c ≡ at t (part ++ c ∷ [])
-step_to s t part c dot e = ap (λ t. at t (part_behind part c)) e ∙ ap (at t) (part_on_byte part c dot)
+step_to s t part c dot e = ap (λ t. at t (part_after part c)) e ∙ ap (at t) (part_on_byte part c dot)
 
 run_all : (f : ℕ → Bool) (s : State) → f 46 ≡ false → ((b : Bool) (c : ℕ) → f c ≡ true → step_state s b c ≡ s) → (part text : List ℕ) → all_are f text ≡ true → run (at s part) text ≡ at s (part ++ text)
 run_all f s dot stays part [] a = ap (at s) (sym (append-nil part))
@@ -77,18 +77,18 @@ long_signs_run [] a = absurd (false_is_true a)
 long_signs_run (c ∷ text) a = run_first is_sign is_sign Dot LongSign refl refl c text (cond-false _ _ _ (sign_no_letter c (head_is is_sign is_sign c text a)) ∙ cond-true _ _ _ (head_is is_sign is_sign c text a)) (λ b c e. cond-true _ _ _ e) (head_is is_sign is_sign c text a) (tail_is is_sign is_sign c text a)
 
 -- an alphanumeric part that isn't reserved, and its dot
-dot_behind : (s : State) (part : List ℕ) → ((b : Bool) (c : ℕ) → step_state s b c ≡ name_byte_or s (if b then Dead else dot_or_dead Dot c) c) → is_reserved part ≡ false → run (at s part) (46 ∷ []) ≡ at Dot []
-dot_behind s part steps free = ap (λ t. at t []) (steps (is_reserved part) 46 ∙ cond-false _ _ _ free)
+dot_after : (s : State) (part : List ℕ) → ((b : Bool) (c : ℕ) → step_state s b c ≡ name_byte_or s (if b then Dead else dot_or_dead Dot c) c) → is_reserved part ≡ false → run (at s part) (46 ∷ []) ≡ at Dot []
+dot_after s part steps free = ap (λ t. at t []) (steps (is_reserved part) 46 ∙ cond-false _ _ _ free)
 
 qualifiers_run : (parts : List (List ℕ)) → AreQualifiers parts → run (at Dot []) (qualifiers parts) ≡ at Dot []
 qualifiers_run [] q = refl
 qualifiers_run (part ∷ parts) q =
     run-append (at Dot []) (part ++ 46 ∷ []) (qualifiers parts)
-    ∙ ap (λ r. run r (qualifiers parts)) (run-append (at Dot []) part (46 ∷ []) ∙ ap (λ r. run r (46 ∷ [])) (long_name_runs part q.0) ∙ dot_behind LongName part (λ b c. refl) q.1)
+    ∙ ap (λ r. run r (qualifiers parts)) (run-append (at Dot []) part (46 ∷ []) ∙ ap (λ r. run r (46 ∷ [])) (long_name_runs part q.0) ∙ dot_after LongName part (λ b c. refl) q.1)
     ∙ qualifiers_run parts q.2
 
 first_runs : (first : List ℕ) → is_alphanumeric first ≡ true → is_reserved first ≡ false → run fresh (first ++ 46 ∷ []) ≡ at Dot []
-first_runs first a free = run-append fresh first (46 ∷ []) ∙ ap (λ r. run r (46 ∷ [])) (name_runs first a) ∙ dot_behind Name first (λ b c. refl) free
+first_runs first a free = run-append fresh first (46 ∷ []) ∙ ap (λ r. run r (46 ∷ [])) (name_runs first a) ∙ dot_after Name first (λ b c. refl) free
 
 long_runs : (s : State) (is_last : List ℕ → Bool) (text : List ℕ) → (l : IsLong is_last text) → run (at Dot []) l.last ≡ at s l.last → run fresh text ≡ at s l.last
 long_runs s is_last text l e =
@@ -139,7 +139,7 @@ state_kind r s k own e = ap (λ s. kind_at s (word_kind r.part) (is_text r.part 
 abbrev IsWhole : State → Type 0
 IsWhole s = (b : Bool) → (step_state s b 46 ≡ Point) × (step_state s b 69 ≡ ExponentMark) × (step_state s b 101 ≡ ExponentMark)
 
--- the state behind digits: first0 is the one behind a first 0, digits0 that behind more, other that behind others
+-- the state after digits: first0 is the one after a first 0, digits0 that after more, other that after others
 zero_digits : (r : Progress) (text : List ℕ) → r.state ≡ Zero → all_are is_digit text ≡ true → ((run r text).state ≡ Zero) ⊎ ((run r text).state ≡ ZeroDigits)
 zero_digits r [] e a = inl e
 zero_digits r (c ∷ text) e a = inr (state_run is_digit Zero ZeroDigits (λ b c d. cond-false _ _ _ (apart is_digit 120 refl c d) ∙ cond-false _ _ _ (apart is_digit 119 refl c d) ∙ cond-true _ _ _ d) (λ b c d. cond-true _ _ _ d) r c text e (first_true _ _ a) (second_true _ _ a))

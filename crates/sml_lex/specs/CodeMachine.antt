@@ -8,7 +8,7 @@ use Rattle.sml_lex.specs.declared.longest.Lexeme.{Lexeme}
 use Rattle.sml_lex.specs.Bytes.{is_digit, is_hex_digit, is_letter, is_name_byte, is_sign, is_mark}
 use Rattle.sml_lex.specs.Words.{is_text, word_kind}
 
--- the state behind the first byte, from the last class of bytes to the first
+-- the state after the first byte, from the last class of bytes to the first
 abbrev pub first_dot : ℕ → State
 first_dot c = if c == 46 then OneDot else Dead
 
@@ -33,7 +33,7 @@ first_zero c = if c == 48 then Zero else first_digit c
 abbrev pub first_state : ℕ → State
 first_state c = if is_letter c then Name else first_zero c
 
--- behind a byte that isn't a digit, in a decimal integer that may be the whole part of a real
+-- after a byte that isn't a digit, in a decimal integer that may be the whole part of a real
 abbrev pub real_state : ℕ → State
 real_state c = if c == 46 then Point else if (c == 69) || (c == 101) then ExponentMark else Dead
 
@@ -52,7 +52,7 @@ sign_or_dead next c = if is_sign c then next else Dead
 abbrev pub dot_or_dead : State → ℕ → State
 dot_or_dead next c = if c == 46 then next else Dead
 
--- behind an alphanumeric part, which no dot follows where it is reserved
+-- after an alphanumeric part, which no dot follows where it is reserved
 abbrev pub name_state : State → Bool → ℕ → State
 name_state next reserved c = name_byte_or next (if reserved then Dead else dot_or_dead Dot c) c
 
@@ -77,7 +77,7 @@ fraction_state c = if (c == 69) || (c == 101) then ExponentMark else digit_or Fr
 abbrev pub exponent_state : ℕ → State
 exponent_state c = if c == 126 then ExponentTilde else digit_or Exponent Dead c
 
--- The state behind one more byte. reserved: the part before the byte is a reserved word.
+-- The state after one more byte. reserved: the part before the byte is a reserved word.
 abbrev pub step_state : State → Bool → ℕ → State
 step_state Fresh reserved c = first_state c
 step_state Mark reserved c = Dead
@@ -121,13 +121,13 @@ fresh = record {
 }
 
 -- a part ends at a dot
-abbrev pub part_behind : List ℕ → ℕ → List ℕ
-part_behind part c = if c == 46 then [] else part ++ c ∷ []
+abbrev pub part_after : List ℕ → ℕ → List ℕ
+part_after part c = if c == 46 then [] else part ++ c ∷ []
 
 abbrev pub step : Progress → ℕ → Progress
 step r c = record {
   state = step_state r.state (is_some (word_kind r.part)) c;
-  part = part_behind r.part c;
+  part = part_after r.part c;
 }
 
 abbrev pub run : Progress → List ℕ → Progress

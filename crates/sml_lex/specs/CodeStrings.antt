@@ -32,7 +32,7 @@ hexadecimal_at (a ∷ b ∷ []) = None
 hexadecimal_at (a ∷ b ∷ c ∷ []) = None
 hexadecimal_at (a ∷ b ∷ c ∷ d ∷ rest) = if all_are is_hex_digit (a ∷ b ∷ c ∷ d ∷ []) && nat_lt (number 16 (a ∷ b ∷ c ∷ d ∷ [])) 256 then Some (Hexadecimal a b c d) else None
 
--- behind a backslash
+-- after a backslash
 abbrev pub escape_at : List ℕ → Option Item
 escape_at [] = None
 escape_at (c ∷ rest) = if is_escape_letter c then Some (Letter c) else if c == 94 then control_at rest else if c == 117 then hexadecimal_at rest else if is_digit c then decimal_at (c ∷ rest) else if is_white c then gap_at (c ∷ rest) else None

@@ -23,13 +23,13 @@ body_text (Byte c body) = c ∷ body_text body
 body_text (Nested inner body) = open_round ∷ asterisk ∷ (body_text inner ++ asterisk ∷ close_round ∷ body_text body)
 
 abbrev pub closing : List ℕ → List ℕ
-closing behind = asterisk ∷ close_round ∷ behind
+closing after = asterisk ∷ close_round ∷ after
 
 -- where this text follows, no byte begins the opening or the closing of a comment
 abbrev pub IsBody : Body → List ℕ → Type 0
-IsBody Empty behind = Unit {0}
-IsBody (Byte c body) behind = (opens_comment (c ∷ (body_text body ++ behind)) ≡ false) × (closes_comment (c ∷ (body_text body ++ behind)) ≡ false) × IsBody body behind
-IsBody (Nested inner body) behind = IsBody inner (closing (body_text body ++ behind)) × IsBody body behind
+IsBody Empty after = Unit {0}
+IsBody (Byte c body) after = (opens_comment (c ∷ (body_text body ++ after)) ≡ false) × (closes_comment (c ∷ (body_text body ++ after)) ≡ false) × IsBody body after
+IsBody (Nested inner body) after = IsBody inner (closing (body_text body ++ after)) × IsBody body after
 
 abbrev pub comment_text : Body → List ℕ
 comment_text body = open_round ∷ asterisk ∷ (body_text body ++ closing [])
@@ -37,9 +37,9 @@ comment_text body = open_round ∷ asterisk ∷ (body_text body ++ closing [])
 -- The comment at the front has this many bytes.
 pub record IsComment (text : List ℕ) (size : ℕ) : Type 0 where
   pub body : Body
-  pub behind : List ℕ
-  pub spelled : text ≡ comment_text body ++ behind
-  pub is_body : IsBody body (closing behind)
+  pub after : List ℕ
+  pub spelled : text ≡ comment_text body ++ after
+  pub is_body : IsBody body (closing after)
   pub bytes : size ≡ length (comment_text body)
 
 -- The comment that opens at the front is never closed.

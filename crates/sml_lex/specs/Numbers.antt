@@ -24,7 +24,7 @@ magnitude text = let digits = without_sign text in if starts_with_both 48 120 di
 abbrev pub integer_value : List ℕ → ℤ
 integer_value text = if starts_with tilde text then pos 0 -ℤ pos (magnitude text) else pos (magnitude text)
 
--- the value of a word, whose digits stand behind 0w or 0wx
+-- the value of a word, whose digits stand after 0w or 0wx
 abbrev pub word_value : List ℕ → ℕ
 word_value text = let digits = drop 2 text in if starts_with 120 digits then number 16 (drop 1 digits) else number 10 digits
 

@@ -106,7 +106,7 @@ Spells unit tokens end = SpellsUnit unit tokens end ⊎ IsOverLimit unit tokens 
 abbrev pub SpellingIsUnique : Type 0
 SpellingIsUnique = (unit : List ℕ) (tokens others : List Token) (end stop : End) → Spells unit tokens end → Spells unit others stop → (tokens ≡ others) × (end ≡ stop)
 
--- From this place on the tokens stand one behind another, and each text is a token of its kind, within its limit.
+-- From this place on the tokens stand one after another, and each text is a token of its kind, within its limit.
 abbrev pub AreInOrder : List ℕ → ℕ → List Token → Type 0
 AreInOrder unit place [] = place ≤ length unit
 AreInOrder unit place (token ∷ tokens) = (place ≤ token.span.start) × (token.span.start < token.span.end) × IsToken token.kind (slice_range unit token.span.start token.span.end) × (fits token.kind (slice_range unit token.span.start token.span.end) ≡ true) × AreInOrder unit token.span.end tokens

@@ -69,7 +69,7 @@ quoted items = quote ∷ (items_text items ++ quote ∷ [])
 abbrev pub IsString : List ℕ → Type 0
 IsString text = (items : List Item) × AreItems items × (text ≡ quoted items)
 
--- a string of length one behind #
+-- a string of length one after #
 abbrev pub IsCharacter : List ℕ → Type 0
 IsCharacter text = (items : List Item) × AreItems items × (length (string_value items) ≡ 1) × (text ≡ hash ∷ quoted items)
 
@@ -81,7 +81,7 @@ IsStringValue text value = (items : List Item) × AreItems items × (text ≡ qu
 abbrev pub IsCharacterValue : List ℕ → ℕ → Type 0
 IsCharacterValue text value = (items : List Item) × AreItems items × (text ≡ hash ∷ quoted items) × (string_value items ≡ value ∷ [])
 
--- the fault where neither an item nor the closing quote begins, so many bytes behind the opening one
+-- the fault where neither an item nor the closing quote begins, so many bytes after the opening one
 abbrev pub break_of : List ℕ → ℕ → Stop
 break_of [] point = record {
   code = L2;

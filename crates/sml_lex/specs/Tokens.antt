@@ -44,11 +44,11 @@ is_digits text = is_run is_digit is_digit text
 abbrev pub is_hex_digits : List ℕ → Bool
 is_hex_digits text = is_run is_hex_digit is_hex_digit text
 
--- digits, perhaps behind a negation sign
+-- digits, perhaps after a negation sign
 abbrev pub IsDecimal : List ℕ → Type 0
 IsDecimal text = (digits : List ℕ) × (is_digits digits ≡ true) × ((text ≡ digits) ⊎ (text ≡ tilde ∷ digits))
 
--- digits behind one mark or another
+-- digits after one mark or another
 abbrev pub IsMarked : (List ℕ → Bool) → List ℕ → List ℕ → Type 0
 IsMarked f mark text = (digits : List ℕ) × (text ≡ mark ++ digits) × (f digits ≡ true)
 

@@ -85,8 +85,8 @@ pub fn starts_with_both(text: &[u8], first: u8, second: u8) -> bool
     text[0] == first && text[1] == second
 }
 
-/// What is left behind so many bytes.
-pub fn behind(text: &[u8], count: usize) -> &[u8]
+/// What is left after so many bytes.
+pub fn after(text: &[u8], count: usize) -> &[u8]
     ensures { result.now ≡ drop count text.now }
 {
     if count <= text.len() {

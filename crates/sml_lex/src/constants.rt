@@ -4,7 +4,7 @@ ghost use Rattle.std.specs.Option.{MatchOption, option_to_list};
 ghost use Rattle.sml_lex.specs.Numbers.{magnitude, integer_value, word_value};
 ghost use Rattle.sml_lex.specs.Strings.{IsString, IsStringValue, IsCharacter, IsCharacterValue};
 
-use crate::bytes::{behind, starts_with, starts_with_both};
+use crate::bytes::{after, starts_with, starts_with_both};
 use crate::fault::Memory;
 use crate::items::item;
 use crate::numbers::{magnitude_of, word_value_of};
@@ -41,7 +41,7 @@ pub fn character(text: &[u8]) -> Option<u8>
     if !starts_with_both(text, b'#', b'"') {
         return None;
     }
-    match scan(behind(text, 1)) {
+    match scan(after(text, 1)) {
         Ok(extent) => {
             if extent.characters == 1 {
                 if extent.bytes + 1 == text.len() {
@@ -73,7 +73,7 @@ pub fn string(alloc: Global, text: &[u8]) -> Result<Option<Vec<u8>>, Memory>
     }
     let mut bytes = 1;
     'items: loop {
-        let rest = behind(text, bytes);
+        let rest = after(text, bytes);
         if starts_with(rest, b'"') {
             if bytes + 1 == text.len() {
                 return Ok(Some(value));

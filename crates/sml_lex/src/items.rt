@@ -6,7 +6,7 @@ ghost use Rattle.sml_lex.specs.Numbers.{number};
 ghost use Rattle.sml_lex.specs.Strings.{is_plain, is_escape_letter, escape_value};
 ghost use Rattle.sml_lex.specs.CodeStrings.{gap_at, control_at, decimal_at, hexadecimal_at, escape_at, item_at, element};
 
-use crate::bytes::{behind, is_digit, is_hex_digit, is_white, starts_with};
+use crate::bytes::{after, is_digit, is_hex_digit, is_white, starts_with};
 use crate::numbers::number_of;
 
 /// How many bytes an item of a string has, and the character that it stands for; a gap stands for none.
@@ -22,7 +22,7 @@ fn is_plain(byte: u8) -> bool
     byte >= b' ' && byte <= b'~' && !(byte == b'"' || byte == b'\\')
 }
 
-/// The character that a letter stands for behind a backslash.
+/// The character that a letter stands for after a backslash.
 fn letter_value(byte: u8) -> Option<u8>
     ensures { result ≡ (if is_escape_letter byte then Some (escape_value byte) else None) }
 {
@@ -130,7 +130,7 @@ fn gap(text: &[u8]) -> Option<Element>
     while count < text.len() && is_white(text[count]) {
         count += 1;
     }
-    if starts_with(behind(text, count), b'\\') {
+    if starts_with(after(text, count), b'\\') {
         Some(Element {
             bytes: count + 2,
             value: None,
@@ -140,7 +140,7 @@ fn gap(text: &[u8]) -> Option<Element>
     }
 }
 
-/// The escape or the gap behind a backslash, with that backslash.
+/// The escape or the gap after a backslash, with that backslash.
 fn escape(text: &[u8]) -> Option<Element>
     ensures { result ≡ element (escape_at text.now) }
 {

@@ -2,7 +2,7 @@
 ghost use Rattle.std.specs.Prelude.{◌≡◌, length, ◌==◌, if◌then◌else◌};
 ghost use Rattle.sml_lex.specs.CodeMachine.{IsLongestWithin};
 
-use crate::machine::{State, behind, kind_of};
+use crate::machine::{State, after, kind_of};
 use crate::token::Kind;
 use crate::words::{is_star, word_kind_of};
 
@@ -30,7 +30,7 @@ pub fn longest(bytes: &[u8]) -> Option<Lexeme>
     let mut best = None;
     for i in 0..bytes.len() {
         let byte = bytes[i];
-        state = behind(state, reserved, byte);
+        state = after(state, reserved, byte);
         if let State::Dead = state {
             return best;
         }

@@ -70,7 +70,7 @@ fn first(byte: u8) -> State
     }
 }
 
-/// Behind a byte that isn't a digit, in a decimal integer that may be the whole part of a real.
+/// After a byte that isn't a digit, in a decimal integer that may be the whole part of a real.
 fn in_real(byte: u8) -> State
     ensures { result ≡ real_state byte }
 {
@@ -117,7 +117,7 @@ fn on_dot(next: State, byte: u8) -> State
     if byte == b'.' { next } else { State::Dead }
 }
 
-/// Behind an alphanumeric part, which no dot follows where it is reserved.
+/// After an alphanumeric part, which no dot follows where it is reserved.
 fn in_name(next: State, reserved: bool, byte: u8) -> State
     ensures { result ≡ name_state next reserved byte }
 {
@@ -129,7 +129,7 @@ fn in_name(next: State, reserved: bool, byte: u8) -> State
     on_name_byte(next, other, byte)
 }
 
-fn behind_dot(byte: u8) -> State
+fn after_dot(byte: u8) -> State
     ensures { result ≡ part_state byte }
 {
     if is_letter(byte) {
@@ -139,7 +139,7 @@ fn behind_dot(byte: u8) -> State
     }
 }
 
-fn behind_tilde(byte: u8) -> State
+fn after_tilde(byte: u8) -> State
     ensures { result ≡ tilde_state byte }
 {
     if byte == b'0' {
@@ -149,7 +149,7 @@ fn behind_tilde(byte: u8) -> State
     }
 }
 
-fn behind_zero(byte: u8) -> State
+fn after_zero(byte: u8) -> State
     ensures { result ≡ zero_state byte }
 {
     if byte == b'x' {
@@ -161,7 +161,7 @@ fn behind_zero(byte: u8) -> State
     }
 }
 
-fn behind_negative_zero(byte: u8) -> State
+fn after_negative_zero(byte: u8) -> State
     ensures { result ≡ negative_zero_state byte }
 {
     if byte == b'x' {
@@ -171,7 +171,7 @@ fn behind_negative_zero(byte: u8) -> State
     }
 }
 
-fn behind_word_mark(byte: u8) -> State
+fn after_word_mark(byte: u8) -> State
     ensures { result ≡ word_mark_state byte }
 {
     if byte == b'x' {
@@ -191,7 +191,7 @@ fn in_fraction(byte: u8) -> State
     }
 }
 
-fn behind_exponent_mark(byte: u8) -> State
+fn after_exponent_mark(byte: u8) -> State
     ensures { result ≡ exponent_state byte }
 {
     if byte == b'~' {
@@ -201,8 +201,8 @@ fn behind_exponent_mark(byte: u8) -> State
     }
 }
 
-/// The state behind one more byte. Reserved: the part before the byte is a reserved word.
-pub fn behind(state: State, reserved: bool, byte: u8) -> State
+/// The state after one more byte. Reserved: the part before the byte is a reserved word.
+pub fn after(state: State, reserved: bool, byte: u8) -> State
     ensures { result ≡ step_state state reserved byte }
 {
     match state {
@@ -211,23 +211,23 @@ pub fn behind(state: State, reserved: bool, byte: u8) -> State
         State::TwoDots => on_dot(State::ThreeDots, byte),
         State::Variable => on_name_byte(State::Variable, State::Dead, byte),
         State::Name => in_name(State::Name, reserved, byte),
-        State::Dot => behind_dot(byte),
+        State::Dot => after_dot(byte),
         State::LongName => in_name(State::LongName, reserved, byte),
         State::LongSign => on_sign(State::LongSign, byte),
         State::Sign => on_sign(State::Sign, byte),
-        State::Tilde => behind_tilde(byte),
-        State::Zero => behind_zero(byte),
+        State::Tilde => after_tilde(byte),
+        State::Zero => after_zero(byte),
         State::ZeroDigits => on_digit(State::ZeroDigits, in_real(byte), byte),
         State::Digits => on_digit(State::Digits, in_real(byte), byte),
-        State::NegativeZero => behind_negative_zero(byte),
+        State::NegativeZero => after_negative_zero(byte),
         State::NegativeDigits => on_digit(State::NegativeDigits, in_real(byte), byte),
         State::HexMark | State::Hex => on_hex_digit(State::Hex, byte),
-        State::WordMark => behind_word_mark(byte),
+        State::WordMark => after_word_mark(byte),
         State::WordDigits => on_digit(State::WordDigits, State::Dead, byte),
         State::WordHexMark | State::WordHex => on_hex_digit(State::WordHex, byte),
         State::Point => on_digit(State::Fraction, State::Dead, byte),
         State::Fraction => in_fraction(byte),
-        State::ExponentMark => behind_exponent_mark(byte),
+        State::ExponentMark => after_exponent_mark(byte),
         State::ExponentTilde | State::Exponent => on_digit(State::Exponent, State::Dead, byte),
         State::Mark | State::ThreeDots | State::Dead => State::Dead,
     }

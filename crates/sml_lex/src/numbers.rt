@@ -3,7 +3,7 @@ ghost use Rattle.std.specs.Prelude.{◌≡◌, ◌+◌, ◌*◌, ◌^◌, ◌<�
 ghost use Rattle.std.specs.Option.{MatchOption};
 ghost use Rattle.sml_lex.specs.Numbers.{digit_value, number, magnitude, word_value, is_some_below, fits};
 
-use crate::bytes::{behind, is_digit, starts_with, starts_with_both};
+use crate::bytes::{after, is_digit, starts_with, starts_with_both};
 use crate::token::Kind;
 
 fn value_of_digit(byte: u8) -> u8
@@ -48,12 +48,12 @@ pub fn magnitude_of(text: &[u8]) -> Option<u64>
     ensures { MatchOption result (2 ^ 64 ≤ magnitude text.now) (λ value. value ≡ magnitude text.now) }
 {
     let digits = if starts_with(text, b'~') {
-        behind(text, 1)
+        after(text, 1)
     } else {
         text
     };
     if starts_with_both(digits, b'0', b'x') {
-        number_of(behind(digits, 2), 16)
+        number_of(after(digits, 2), 16)
     } else {
         number_of(digits, 10)
     }
@@ -63,9 +63,9 @@ pub fn magnitude_of(text: &[u8]) -> Option<u64>
 pub fn word_value_of(text: &[u8]) -> Option<u64>
     ensures { MatchOption result (2 ^ 64 ≤ word_value text.now) (λ value. value ≡ word_value text.now) }
 {
-    let digits = behind(text, 2);
+    let digits = after(text, 2);
     if starts_with(digits, b'x') {
-        number_of(behind(digits, 1), 16)
+        number_of(after(digits, 1), 16)
     } else {
         number_of(digits, 10)
     }

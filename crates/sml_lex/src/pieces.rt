@@ -8,7 +8,7 @@ ghost use Rattle.sml_lex.specs.Comments.{opens_comment};
 ghost use Rattle.sml_lex.specs.CodeComments.{after_comments};
 ghost use Rattle.sml_lex.specs.Pieces.{IsPiece, IsFault};
 
-use crate::bytes::{behind, is_white, stand_at, starts_with, starts_with_both};
+use crate::bytes::{after, is_white, stand_at, starts_with, starts_with_both};
 use crate::fault::Code;
 use crate::longest::{Lexeme, longest};
 use crate::numbers::is_within_limit;
@@ -68,7 +68,7 @@ fn character_piece(rest: &[u8]) -> Result<Piece, Stop>
     requires { opens_character rest.now ≡ true }
     ensures { MatchResult result (IsPiece rest.now) (IsFault rest.now) }
 {
-    match scan(behind(rest, 1)) {
+    match scan(after(rest, 1)) {
         Ok(extent) => {
             if extent.characters == 1 {
                 Ok(Piece::Lexeme(Lexeme {

@@ -5,7 +5,7 @@ ghost use Rattle.sml_lex.specs.Bytes.{starts_with};
 ghost use Rattle.sml_lex.specs.Strings.{break_of, IsBroken};
 ghost use Rattle.sml_lex.specs.CodeStrings.{IsQuoted, count_of, earlier_of};
 
-use crate::bytes::{behind, starts_with};
+use crate::bytes::{after, starts_with};
 use crate::fault::Code;
 use crate::items::item;
 use crate::token::Stop;
@@ -36,7 +36,7 @@ fn earlier(first: Option<u8>, next: Option<u8>) -> Option<u8>
     }
 }
 
-/// The fault where neither an item nor the closing quote begins, so many bytes behind the opening one.
+/// The fault where neither an item nor the closing quote begins, so many bytes after the opening one.
 fn break_at(text: &[u8], point: usize) -> Stop
     ensures { result ≡ break_of text.now point }
 {
@@ -71,7 +71,7 @@ pub fn scan(text: &[u8]) -> Result<Extent, Stop>
     let mut characters = 0;
     let mut first = None;
     'items: loop {
-        let rest = behind(text, bytes);
+        let rest = after(text, bytes);
         if starts_with(rest, b'"') {
             return Ok(Extent {
                 bytes: bytes + 1,

@@ -15,7 +15,7 @@ use sml_types::sizes::small_env_under;
 use std::alloc::Global;
 use std::rc::Rc;
 
-/// The environment that a structure has behind an ascription: the signature's, with the structure's types for the names
+/// The environment that a structure has after an ascription: the signature's, with the structure's types for the names
 /// that it binds where the ascription is transparent, and with new names where it is opaque. Where the signature becomes too
 /// large with the structure's types, that is E7 at the place before anything is compared.
 pub fn ascribed(

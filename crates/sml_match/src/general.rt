@@ -124,7 +124,7 @@ fn ask_if_general(
     specified: &Scheme,
 ) -> Result<(), Refusal> {
     let ty = ask_instance(solver, scheme)?;
-    let first = behind(solver, scheme.variables.len());
+    let first = after(solver, scheme.variables.len());
     for (index, equality) in scheme.variables.iter().enumerate() {
         if *equality {
             ask_equality(solver, &MlType::Free(unknown(first, index)?))?;
@@ -137,7 +137,7 @@ fn ask_if_general(
 }
 
 /// The number of unknowns before the last ones.
-fn behind(solver: &Solver, last: usize) -> usize {
+fn after(solver: &Solver, last: usize) -> usize {
     solver.unknowns().saturating_sub(last)
 }
 
@@ -151,7 +151,7 @@ fn unknown(first: usize, index: usize) -> Result<u32, Memory> {
 
 /// Asks that the last unknowns, as many as there are attributes, are explicit type variables of their own.
 fn ask_rigid(alloc: Global, solver: &mut Solver, attributes: &[bool]) -> Result<Vec<u32>, Refusal> {
-    let first = behind(solver, attributes.len());
+    let first = after(solver, attributes.len());
     let mut rigid = Vec::new(alloc);
     for (index, equality) in attributes.iter().enumerate() {
         let unknown = unknown(first, index)?;

@@ -16,7 +16,7 @@ value_of (R.Character c) = Character c
 value_of (R.Text s) = Text s.items
 value_of (R.Exception x) = Exception x.items
 
--- the fields with these labels, and those of the row behind them
+-- the fields with these labels, and those of the row after them
 abbrev pub row_on : List Id → List Plain → Row → Row
 row_on [] ps r = r
 row_on (l ∷ ls) [] r = r

@@ -69,11 +69,11 @@ all_admit-append (t ∷ ts) us =
       | false ↦ refl
     ]
 
--- a part behind those that admit equality
-pub all_admit-behind : (ts us : List (Rc MlType Global)) (t : Rc MlType Global) → all_admit naming (types_of (parts_of ts)) ≡ true
+-- a part after those that admit equality
+pub all_admit-after : (ts us : List (Rc MlType Global)) (t : Rc MlType Global) → all_admit naming (types_of (parts_of ts)) ≡ true
     → all_admit naming (types_of (parts_of (ts ++ (t ∷ us)))) ≡ admits naming (type_of t.value) && all_admit naming (types_of (parts_of us))
 unfolding all_admit
-all_admit-behind ts us t h =
+all_admit-after ts us t h =
     ap (λ l. all_admit naming (types_of l)) (map-append (λ t. type_of t.value) ts (t ∷ us))
     ∙ all_admit-append (parts_of ts) (parts_of (t ∷ us))
     ∙ ap (λ b. b && (admits naming (type_of t.value) && all_admit naming (types_of (parts_of us)))) h

@@ -45,9 +45,9 @@ not-both x y h k = let e : Less ≡ Greater = sym h ∙ k in cc
 not-own : (x : Id) → label_order x x ≡ Greater → ⊥
 not-own x h = let e : Greater ≡ Less = sym h ∙ label_total.antisymm x x ∙ ap ordering_reverse h in cc
 
--- a label stands behind what is below it
-pub behind : (ls : List Id) (x : Id) (m k : ℕ) → AreRising ls → m < length ls → label_order (get_or ls m []) x ≡ Less → StandsAt ls x k → m < k
-behind ls x m k r n o s = by (nat_lt m k) refl
+-- a label stands after what is below it
+pub after : (ls : List Id) (x : Id) (m k : ℕ) → AreRising ls → m < length ls → label_order (get_or ls m []) x ≡ Less → StandsAt ls x k → m < k
+after ls x m k r n o s = by (nat_lt m k) refl
   where
     earlier : (b : Bool) → nat_lt k m ≡ b → k ≤ m → ⊥
     earlier true e l = turned (get_or ls m []) x o (ap (λ y. label_order y (get_or ls m [])) (sym s.1) ∙ rising-far ls r k m (ltb-true _ _ e) n)

@@ -27,11 +27,11 @@ apart_from Less a v h = refl
 apart_from Equal a v h = absurd (h refl)
 apart_from Greater a v h = refl
 
-behind : {X : Type 0} (y x z : Id) (b v a A : Option X) (q : Ordering) → order_of x z ≡ Greater → order_of y z ≡ q → A ≡ at (order_of y x) v a
+after : {X : Type 0} (y x z : Id) (b v a A : Option X) (q : Ordering) → order_of x z ≡ Greater → order_of y z ≡ q → A ≡ at (order_of y x) v a
     → at q b A ≡ at (order_of y x) v (at q b a)
-behind y x z b v a A Less h k e = e
-behind y x z b v a A Greater h k e = e
-behind y x z b v a A Equal h k e =
+after y x z b v a A Less h k e = e
+after y x z b v a A Greater h k e = e
+after y x z b v a A Equal h k e =
     apart_from (order_of y x) b v (λ s. subst is_equal (sym k ∙ ap (λ u. order_of u z) (same_ident y x s) ∙ h) tt)
 
 lookup-put-by : {X : Type 0} (y x : Id) (v : X) (e : Id × X) (m : Map X) (o : Ordering) → order_of x e.0 ≡ o
@@ -40,7 +40,7 @@ lookup-put-by : {X : Type 0} (y x : Id) (v : X) (e : Id × X) (m : Map X) (o : O
 lookup-put-by y x v e m Less h k = refl
 lookup-put-by y x v e m Equal h k =
     over (order_of y e.0) (lookup y m) (Some e.1) (Some v) ∙ ap (λ z. at (order_of y z) (Some v) (lookup y (e ∷ m))) (sym (same_ident x e.0 h))
-lookup-put-by y x v e m Greater h k = behind y x e.0 (Some e.1) (Some v) (lookup y m) (lookup y (put x v m)) (order_of y e.0) h refl k
+lookup-put-by y x v e m Greater h k = after y x e.0 (Some e.1) (Some v) (lookup y m) (lookup y (put x v m)) (order_of y e.0) h refl k
 
 pub lookup-put : {X : Type 0} (y x : Id) (v : X) (m : Map X) → lookup y (put x v m) ≡ at (order_of y x) (Some v) (lookup y m)
 lookup-put y x v [] = refl

@@ -14,7 +14,7 @@ use Rattle.sml_objects.specs.declared.objects.MlType.TheFolds.{fold-roll-MlType}
 use Rattle.sml_objects.specs.declared.objects.MlType.TheVariants.{rolls-Bound, rolls-Free, rolls-Row, rolls-Arrow, rolls-Name}
 use Rattle.sml_objects.proofs.EnvViews.{map-map}
 
--- the types behind these pointers
+-- the types after these pointers
 abbrev pub parts_of : List (Rc MlType Global) → List (O.MlType Name)
 parts_of ts = map (λ t. type_of t.value) ts
 

@@ -19,7 +19,7 @@ label_rank x = cond (is_number x) (length x) (2 ^ 64 - 1)
 abbrev pub label_order : Id → Id → Ordering
 label_order x y = ordering_then (nat_cmp (label_rank x) (label_rank y)) (order_of x y)
 
--- each label is below those behind it
+-- each label is below those after it
 abbrev pub AreRising : List Id → Type 0
 AreRising ls = IsStrictlySortedBy label_order ls
 
@@ -27,7 +27,7 @@ AreRising ls = IsStrictlySortedBy label_order ls
 abbrev pub StandsAt : List Id → Id → ℕ → Type 0
 StandsAt ls l i = (i < length ls) × (slice_index_or ls i [] ≡ l)
 
--- the fields of a row, each behind its label
+-- the fields of a row, each after its label
 abbrev pub with_labels : {X : Type 0} → List Id → List X → Map X
 with_labels [] xs = []
 with_labels (l ∷ ls) [] = []

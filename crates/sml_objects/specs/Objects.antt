@@ -186,7 +186,7 @@ arrow_of a b = app arrow (and_type a (and_type b no_type))
 abbrev pub named : {N : Type 0} → N → MlType N
 named n = app (name n) no_type
 
--- the labels of a row of so many fields: k, the number behind it and so on
+-- the labels of a row of so many fields: k, the number after it and so on
 abbrev pub labels_of : {N : Type 0} → ℕ → MlTypes N → List Id
 labels_of k no_type = []
 labels_of k (and_type t ts) = decimal k ∷ labels_of (suc k) ts

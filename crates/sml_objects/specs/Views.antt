@@ -61,7 +61,7 @@ type_of = fold-MlType (O.MlType Name) type_layer
 abbrev pub scheme_of : Scheme → O.Scheme Name
 scheme_of s = record { variables = s.variables.items; body = type_of s.body.value }
 
--- the entries of a map, each behind its identifier
+-- the entries of a map, each after its identifier
 abbrev pub entries_of : {A X : Type 0} → (A → X) → List (Rc (Vec ℕ Global) Global × A) → List (Id × X)
 entries_of f es = map (λ e. (ident_of e.0, f e.1)) es
 

@@ -101,7 +101,7 @@ module _ (Q : Place → Type 0) (origin : Q first_place) where
       let e = shaped_each s es h in
       typed_by_each (S.exp_place (S.shaped s es)) (S.shaped s es) ts (exp_place_each (S.shaped s es) e) e k
 
-  -- an expression and what stands behind it
+  -- an expression and what stands after it
   conjunction_each : (p : Place) (e : Exp Place) (a : Option (Exp Place)) → Q p → EachInExp Q e → EachInExpIfAny Q a → EachInExp Q (conjunction p e a)
   conjunction_each p e None o h k = h
   conjunction_each p e (Some a) o h k = andalso_of_each Q p e a o h k
@@ -129,7 +129,7 @@ module _ (Q : Place → Type 0) (origin : Q first_place) where
       handled_each p (disjunction p (conjunction p d a) o) rs q (disjunction_each p (conjunction p d a) o q f k.3) k.4
   whole_each p s e v q h k = sequence_exp_each s (and_exp e (exps_in v)) no_ty (h, exps_in_each Q origin v k) tt
 
-  -- expressions in brackets, and behind `in`
+  -- expressions in brackets, and after `in`
   series_each : (p : Place) (es : Exps Place) → Q p → EachInExps Q es → EachInExp Q (series_of p es)
   series_each p no_exp o h = (o, tt)
   series_each p (and_exp e no_exp) o h = h.0

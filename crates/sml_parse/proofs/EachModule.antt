@@ -24,7 +24,7 @@ use Rattle.sml_read.specs.declared.grammar.UnitRule.TheVariants.{TopStr, TopSign
 use Rattle.sml_phrases.specs.Phrases.{Phrase, of_long, of_names, of_longs, of_typ_binds, of_typ_descs, of_datatypes, of_constructors, of_copy, of_sig, of_wheres, of_specs, of_begun_sig_bind, of_type_rest, of_begun_str_desc, of_shared_types, of_str, of_str_decs, of_begun_str_bind, of_functor_argument, of_begun_fun_bind, of_begun_functor, at, name_in, names_in, dat_binds_in, sig_in, wheres_in, specs_in, sig_wheres_in, desc_wheres_in, str_in, constraint_wheres_in, constraints_in, str_wheres_in, str_constraints_in, fun_wheres_in, fun_constraints_in}
 use Rattle.sml_bare_mods.specs.SignatureRules.{sig_place, with_wheres, sig_binds, signature_phrase}
 use Rattle.sml_bare_mods.specs.SpecificationRules.{types, type_rest, datatypes, datatype, datatype_rest, str_descs, where_str_desc, included, included_name, shared, specification_phrase}
-use Rattle.sml_bare_mods.specs.StructureRules.{str_place, constrained, and_constraint, own_constrained, str_binds, fun_binds, begun_fun_bind, applied, behind_str, behind_str_bind, behind_fun_bind, where_str, where_str_bind, where_fun_bind, structure_phrase}
+use Rattle.sml_bare_mods.specs.StructureRules.{str_place, constrained, and_constraint, own_constrained, str_binds, fun_binds, begun_fun_bind, applied, after_str, after_str_bind, after_fun_bind, where_str, where_str_bind, where_fun_bind, structure_phrase}
 use Rattle.sml_bare_mods.specs.UnitRules.{and_specs, unit_phrase}
 use Rattle.sml_parse.specs.EachPlace.{EachInName, EachInNames, EachInTypBind, EachInDatBind, EachInWhere, EachInSig, EachInSpec, EachInSpecs, EachInStrDescs, EachInStr, EachInStrBinds, EachInSigBind, EachInFunBind}
 use Rattle.sml_parse.proofs.EachPhrase.{EachInConstraint, EachInPhrase, EachInPhrases, at_each, name_in_each, names_in_each, long_in_each, longs_in_each, ty_in_each, ty_if_any_each, dec_in_each, decs_in_each, typ_binds_in_each, con_bind_in_each, con_binds_in_each, dat_binds_in_each, sig_in_each, where_in_each, wheres_in_each, specs_in_each, val_desc_in_each, val_descs_in_each, typ_descs_in_each, sig_wheres_in_each, sig_binds_in_each, desc_wheres_in_each, str_descs_in_each, str_in_each, str_dec_in_each, str_decs_in_each, constraint_wheres_in_each, constraints_in_each, str_wheres_in_each, str_constraints_in_each, str_binds_in_each, fun_wheres_in_each, fun_constraints_in_each, fun_binds_in_each}
@@ -166,22 +166,22 @@ module _ (Q : Place → Type 0) (origin : Q first_place) where
   applied_each f (of_str_decs ds) n h = (n, (n, h))
   applied_each f _ n h = n
 
-  -- what stands behind a structure expression
-  behind_str_each : (c more : Phrase) → EachInPhrase Q c → EachInPhrase Q more → EachInPhrase Q (behind_str c more)
-  behind_str_each c more h k = (
+  -- what stands after a structure expression
+  after_str_each : (c more : Phrase) → EachInPhrase Q c → EachInPhrase Q more → EachInPhrase Q (after_str c more)
+  after_str_each c more h k = (
     tt,
     and_constraint_each (constraints_in c) (constraint_wheres_in more) (constraints_in more) (constraints_in_each Q origin c h) (constraint_wheres_in_each Q origin more k) (constraints_in_each Q origin more k),
   )
 
-  behind_str_bind_each : (c more : Phrase) → EachInPhrase Q c → EachInPhrase Q more → EachInPhrase Q (behind_str_bind c more)
-  behind_str_bind_each c more h k = (
+  after_str_bind_each : (c more : Phrase) → EachInPhrase Q c → EachInPhrase Q more → EachInPhrase Q (after_str_bind c more)
+  after_str_bind_each c more h k = (
     tt,
     and_constraint_each (constraints_in c) (str_wheres_in more) (str_constraints_in more) (constraints_in_each Q origin c h) (str_wheres_in_each Q origin more k) (str_constraints_in_each Q origin more k),
     str_binds_in_each Q origin more k,
   )
 
-  behind_fun_bind_each : (c more : Phrase) → EachInPhrase Q c → EachInPhrase Q more → EachInPhrase Q (behind_fun_bind c more)
-  behind_fun_bind_each c more h k = (
+  after_fun_bind_each : (c more : Phrase) → EachInPhrase Q c → EachInPhrase Q more → EachInPhrase Q (after_fun_bind c more)
+  after_fun_bind_each c more h k = (
     tt,
     and_constraint_each (constraints_in c) (fun_wheres_in more) (fun_constraints_in more) (constraints_in_each Q origin c h) (fun_wheres_in_each Q origin more k) (fun_constraints_in_each Q origin more k),
     fun_binds_in_each Q origin more k,
@@ -291,17 +291,17 @@ module _ (Q : Place → Type 0) (origin : Q first_place) where
   structure_of_parts SealColon p vs o h = (tt, (sig_in_each Q origin (at vs 1) (h 1), tt))
   structure_of_parts SealSeals p vs o h = (tt, (sig_in_each Q origin (at vs 1) (h 1), tt))
   structure_of_parts StrBindMoreNone p vs o h = (tt, tt, tt)
-  structure_of_parts StrBindMoreAscription p vs o h = behind_str_bind_each (at vs 0) (at vs 1) (h 0) (h 1)
+  structure_of_parts StrBindMoreAscription p vs o h = after_str_bind_each (at vs 0) (at vs 1) (h 0) (h 1)
   structure_of_parts StrBindMoreAnd p vs o h = (tt, tt, str_binds_each (at vs 1) (at vs 2) (h 1) (h 2))
   structure_of_parts AscriptionColon p vs o h = (tt, (sig_in_each Q origin (at vs 1) (h 1), tt))
   structure_of_parts AscriptionSeals p vs o h = (tt, (sig_in_each Q origin (at vs 1) (h 1), tt))
   structure_of_parts StrBindSigNone p vs o h = (tt, tt, tt)
   structure_of_parts StrBindSigWhere p vs o h = where_str_bind_each (at vs 1) (at vs 2) (h 1) (h 2)
-  structure_of_parts StrBindSigAscription p vs o h = behind_str_bind_each (at vs 0) (at vs 1) (h 0) (h 1)
+  structure_of_parts StrBindSigAscription p vs o h = after_str_bind_each (at vs 0) (at vs 1) (h 0) (h 1)
   structure_of_parts StrBindSigAnd p vs o h = (tt, tt, str_binds_each (at vs 1) (at vs 2) (h 1) (h 2))
   structure_of_parts StrBindWhereNone p vs o h = (tt, tt, tt)
   structure_of_parts StrBindWhereWhere p vs o h = where_str_bind_each (at vs 1) (at vs 2) (h 1) (h 2)
-  structure_of_parts StrBindWhereAscription p vs o h = behind_str_bind_each (at vs 0) (at vs 1) (h 0) (h 1)
+  structure_of_parts StrBindWhereAscription p vs o h = after_str_bind_each (at vs 0) (at vs 1) (h 0) (h 1)
   structure_of_parts StrBindWhereAnd p vs o h = h 1
   structure_of_parts StrBindAndWhere p vs o h = where_str_bind_each (at vs 0) (at vs 1) (h 0) (h 1)
   structure_of_parts StrBindAndStrBind p vs o h = (tt, tt, str_binds_each (at vs 0) (at vs 1) (h 0) (h 1))
@@ -310,27 +310,27 @@ module _ (Q : Place → Type 0) (origin : Q first_place) where
       (name_in_each Q origin (at vs 0) (h 0)) (h 2) (constraints_in_each Q origin (at vs 4) (h 4)) (str_in_each Q origin (at vs 6) (h 6))
   structure_of_parts FunArgAlphanumeric p vs o h = (name_in_each Q origin (at vs 0) (h 0), sig_in_each Q origin (at vs 2) (h 2))
   structure_of_parts FunBindMoreNone p vs o h = (tt, tt, tt)
-  structure_of_parts FunBindMoreAscription p vs o h = behind_fun_bind_each (at vs 0) (at vs 1) (h 0) (h 1)
+  structure_of_parts FunBindMoreAscription p vs o h = after_fun_bind_each (at vs 0) (at vs 1) (h 0) (h 1)
   structure_of_parts FunBindMoreAnd p vs o h = (tt, tt, fun_binds_each (at vs 1) (at vs 2) (h 1) (h 2))
   structure_of_parts FunBindSigNone p vs o h = (tt, tt, tt)
   structure_of_parts FunBindSigWhere p vs o h = where_fun_bind_each (at vs 1) (at vs 2) (h 1) (h 2)
-  structure_of_parts FunBindSigAscription p vs o h = behind_fun_bind_each (at vs 0) (at vs 1) (h 0) (h 1)
+  structure_of_parts FunBindSigAscription p vs o h = after_fun_bind_each (at vs 0) (at vs 1) (h 0) (h 1)
   structure_of_parts FunBindSigAnd p vs o h = (tt, tt, fun_binds_each (at vs 1) (at vs 2) (h 1) (h 2))
   structure_of_parts FunBindWhereNone p vs o h = (tt, tt, tt)
   structure_of_parts FunBindWhereWhere p vs o h = where_fun_bind_each (at vs 1) (at vs 2) (h 1) (h 2)
-  structure_of_parts FunBindWhereAscription p vs o h = behind_fun_bind_each (at vs 0) (at vs 1) (h 0) (h 1)
+  structure_of_parts FunBindWhereAscription p vs o h = after_fun_bind_each (at vs 0) (at vs 1) (h 0) (h 1)
   structure_of_parts FunBindWhereAnd p vs o h = h 1
   structure_of_parts FunBindAndWhere p vs o h = where_fun_bind_each (at vs 0) (at vs 1) (h 0) (h 1)
   structure_of_parts FunBindAndFunBind p vs o h = (tt, tt, fun_binds_each (at vs 0) (at vs 1) (h 0) (h 1))
   structure_of_parts StrExpStrAtom p vs o h = constrained_each (str_in (at vs 0)) (constraints_in (at vs 1)) (str_in_each Q origin (at vs 0) (h 0)) (constraints_in_each Q origin (at vs 1) (h 1))
   structure_of_parts StrExpMoreNone p vs o h = (tt, tt)
-  structure_of_parts StrExpMoreAscription p vs o h = behind_str_each (at vs 0) (at vs 1) (h 0) (h 1)
+  structure_of_parts StrExpMoreAscription p vs o h = after_str_each (at vs 0) (at vs 1) (h 0) (h 1)
   structure_of_parts StrExpSigNone p vs o h = (tt, tt)
   structure_of_parts StrExpSigWhere p vs o h = where_str_each (at vs 1) (at vs 2) (h 1) (h 2)
-  structure_of_parts StrExpSigAscription p vs o h = behind_str_each (at vs 0) (at vs 1) (h 0) (h 1)
+  structure_of_parts StrExpSigAscription p vs o h = after_str_each (at vs 0) (at vs 1) (h 0) (h 1)
   structure_of_parts StrExpWhereNone p vs o h = (tt, tt)
   structure_of_parts StrExpWhereWhere p vs o h = where_str_each (at vs 1) (at vs 2) (h 1) (h 2)
-  structure_of_parts StrExpWhereAscription p vs o h = behind_str_each (at vs 0) (at vs 1) (h 0) (h 1)
+  structure_of_parts StrExpWhereAscription p vs o h = after_str_each (at vs 0) (at vs 1) (h 0) (h 1)
   structure_of_parts StrExpWhereAnd p vs o h = where_str_each (at vs 1) (at vs 2) (h 1) (h 2)
   structure_of_parts StrAtomStruct p vs o h = (o refl, str_decs_in_each Q origin (at vs 1) (h 1))
   structure_of_parts StrAtomLongAlphanumeric p vs o h = long_in_each Q origin (at vs 0) (h 0)

@@ -26,7 +26,7 @@ use Rattle.sml_pat_sequences.specs.RoundPatterns.{round_pat}
 use Rattle.sml_bare_pats.specs.NameRules.{name_phrase}
 use Rattle.sml_bare_pats.specs.TypeRules.{arrow, product, constructed, round_ty, and_argument, type_phrase}
 use Rattle.sml_bare_pats.specs.PatternPhrases.{pat_fields_in, atoms_in, colons_in}
-use Rattle.sml_bare_pats.specs.PatternRules.{list_pat, sequence_from, from_vid, op_from_vid, behind_op, behind_colon, and_atom, field_pat, and_field, pattern_phrase}
+use Rattle.sml_bare_pats.specs.PatternRules.{list_pat, sequence_from, from_vid, op_from_vid, after_op, after_colon, and_atom, field_pat, and_field, pattern_phrase}
 use Rattle.sml_parse.specs.EachPlace.{EachInName, EachInLongs, EachInTy, EachInTys, EachInTyIfAny, EachInPat, EachInPats, EachInPatFields}
 use Rattle.sml_parse.proofs.EachPhrase.{EachInPatIfAny, EachInPhrase, EachInPhrases, all_get_or, all_set, all_drop, at_each, name_in_each, long_in_each, names_in_each, longs_in_each, ty_in_each, tys_in_each, ty_fields_in_each, ty_if_any_each, pat_in_each, pats_in_each, pat_if_any_each}
 
@@ -179,15 +179,15 @@ module _ (Q : Place → Type 0) (origin : Q first_place) where
   op_from_vid_each x (of_layer t q) n h = (n, h.0, h.1)
   op_from_vid_each x v n h = (n, atoms_in_each v h, colons_in_each v h)
 
-  behind_op_each : (s : Option Shape) (p : Place) (v : Phrase) → Q p → EachInPhrase Q v → EachInPat Q (behind_op s p v)
-  behind_op_each s p (of_op_layer x t (Some q)) o h = (o, h.0, h.1, h.2)
-  behind_op_each s p (of_op_layer x t None) o h = (origin, tt)
-  behind_op_each s p (of_op_atoms c qs ts) o h = sequence_pat_each s (and_pat (pat_name p c) qs) ts ((o, h.0), h.1) h.2
-  behind_op_each s p _ o h = (origin, tt)
+  after_op_each : (s : Option Shape) (p : Place) (v : Phrase) → Q p → EachInPhrase Q v → EachInPat Q (after_op s p v)
+  after_op_each s p (of_op_layer x t (Some q)) o h = (o, h.0, h.1, h.2)
+  after_op_each s p (of_op_layer x t None) o h = (origin, tt)
+  after_op_each s p (of_op_atoms c qs ts) o h = sequence_pat_each s (and_pat (pat_name p c) qs) ts ((o, h.0), h.1) h.2
+  after_op_each s p _ o h = (origin, tt)
 
-  behind_colon_each : (t : Ty Place) (v : Phrase) → EachInTy Q t → EachInPhrase Q v → EachInPhrase Q (behind_colon t v)
-  behind_colon_each t (of_layer u q) h k = (h, k.1)
-  behind_colon_each t v h k = (tt, (h, tys_in_each Q origin v k))
+  after_colon_each : (t : Ty Place) (v : Phrase) → EachInTy Q t → EachInPhrase Q v → EachInPhrase Q (after_colon t v)
+  after_colon_each t (of_layer u q) h k = (h, k.1)
+  after_colon_each t v h k = (tt, (h, tys_in_each Q origin v k))
 
   and_atom_each : (q : Pat Place) (v : Phrase) → EachInPat Q q → EachInPhrase Q v → EachInPhrase Q (and_atom q v)
   and_atom_each q v h k = ((h, atoms_in_each v k), colons_in_each v k)
@@ -262,15 +262,15 @@ module _ (Q : Place → Type 0) (origin : Q first_place) where
   pattern_parts BarePatAlphanumeric p s vs o h = from_vid_each s p (name_in (at vs 0)) (at vs 1) (o refl) (name_in_each Q origin (at vs 0) (h 0)) (h 1)
   pattern_parts BarePatSymbolic p s vs o h = from_vid_each s p (name_in (at vs 0)) (at vs 1) (o refl) (name_in_each Q origin (at vs 0) (h 0)) (h 1)
   pattern_parts BarePatStar p s vs o h = from_vid_each s p (name_in (at vs 0)) (at vs 1) (o refl) (name_in_each Q origin (at vs 0) (h 0)) (h 1)
-  pattern_parts PatOp p s vs o h = behind_op_each s p (at vs 1) (o refl) (h 1)
-  pattern_parts BarePatOp p s vs o h = behind_op_each s p (at vs 1) (o refl) (h 1)
+  pattern_parts PatOp p s vs o h = after_op_each s p (at vs 1) (o refl) (h 1)
+  pattern_parts BarePatOp p s vs o h = after_op_each s p (at vs 1) (o refl) (h 1)
   pattern_parts PatOtherAtPat p s vs o h = sequence_from_each s (pat_in (at vs 0)) (at vs 1) (pat_in_each Q origin (at vs 0) (h 0)) (h 1)
   pattern_parts BarePatOtherAtPat p s vs o h = sequence_from_each s (pat_in (at vs 0)) (at vs 1) (pat_in_each Q origin (at vs 0) (h 0)) (h 1)
   pattern_parts OpPatVid p s vs o h = op_from_vid_each (name_in (at vs 0)) (at vs 1) (name_in_each Q origin (at vs 0) (h 0)) (h 1)
   pattern_parts OpPatQualified p s vs o h = (long_in_each Q origin (at vs 0) (h 0), atoms_in_each (at vs 1) (h 1), colons_in_each (at vs 1) (h 1))
   pattern_parts AfterVidNone p s vs o h = (tt, tt)
   pattern_parts AfterVidAs p s vs o h = (tt, pat_in_each Q origin (at vs 1) (h 1))
-  pattern_parts AfterVidColon p s vs o h = behind_colon_each (ty_in (at vs 1)) (at vs 2) (ty_in_each Q origin (at vs 1) (h 1)) (h 2)
+  pattern_parts AfterVidColon p s vs o h = after_colon_each (ty_in (at vs 1)) (at vs 2) (ty_in_each Q origin (at vs 1) (h 1)) (h 2)
   pattern_parts AfterVidAtPat p s vs o h = and_atom_each (pat_in (at vs 0)) (at vs 1) (pat_in_each Q origin (at vs 0) (h 0)) (h 1)
   pattern_parts AfterVidTyNone p s vs o h = tt
   pattern_parts AfterVidTyAs p s vs o h = (tt, pat_in_each Q origin (at vs 1) (h 1))

@@ -118,7 +118,7 @@ module _ {A : Type 0} (P : A → Type 0) where
   all_drop (suc n) (x ∷ xs) h = all_drop n xs h.1
 
 module _ (Q : Place → Type 0) (origin : Q first_place) where
-  -- the first of some phrases, some of them left out, and one behind these
+  -- the first of some phrases, some of them left out, and one after these
   pub first_each : (vs : List Phrase) → EachInPhrases Q vs → EachInPhrase Q (first vs)
   first_each [] h = tt
   first_each (v ∷ vs) h = h.0
@@ -289,7 +289,7 @@ module _ (Q : Place → Type 0) (origin : Q first_place) where
   where_in_each (of_where xs c t) h = h
   where_in_each _ h = (tt, origin, (origin, tt))
 
-  -- what belongs to the signature expression before it, and what stands behind that
+  -- what belongs to the signature expression before it, and what stands after that
   pub sig_wheres_in_each : (v : Phrase) → EachInPhrase Q v → AllByRecursion (EachInWhere Q) (sig_wheres_in v)
   sig_wheres_in_each (of_sig_binds ws bs) h = h.0
   sig_wheres_in_each _ h = tt

@@ -29,7 +29,7 @@ use Rattle.sml_read.proofs.Tables.{each_rule, implies, implied}
 use Rattle.sml_fixity.specs.Shapes.{Shape}
 use Rattle.sml_phrases.specs.Phrases.{Phrase, of_exp, first}
 use Rattle.sml_phrases.specs.PhraseHeights.{low}
-use Rattle.sml_reach.specs.Places.{place_behind, place_from, start_of}
+use Rattle.sml_reach.specs.Places.{place_after, place_from, start_of}
 use Rattle.sml_reach.specs.Fits.{Fitted}
 use Rattle.sml_flaws.specs.Flawed.{ends_at}
 use Rattle.sml_bare.specs.RulePhrases.{rule_phrase, declaration}
@@ -163,7 +163,7 @@ start_is tokens index token e = ap (λ (t : Option Token). unwrap_or (option_map
 
 -- a byte counted from itself
 pub same_place : (unit : List ℕ) (at : ℕ) → first_place ≡ place_from unit at at
-same_place unit at = let e : 0 ≡ at - at = omega arith in ap (λ n. place_behind (take n (drop at unit))) e
+same_place unit at = let e : 0 ≡ at - at = omega arith in ap (λ n. place_after (take n (drop at unit))) e
 
 -- the declarations of a unit
 
@@ -177,7 +177,7 @@ TopsInTurn unit tokens (extent ∷ extents) (top ∷ tops) = TopStands unit toke
 
 module _ (unit : List ℕ) (tokens : List Token) (o : AreInOrder unit 0 tokens) where
   -- a token of an extent, by its number in it
-  at_token : (extent : Extent) (k : ℕ) → extent.first + k < extent.behind → extent.behind ≤ length tokens → IsOfToken unit tokens extent (place_at unit (drop extent.first tokens) k)
+  at_token : (extent : Extent) (k : ℕ) → extent.first + k < extent.after → extent.after ≤ length tokens → IsOfToken unit tokens extent (place_at unit (drop extent.first tokens) k)
   at_token extent k b most =
       let n = extent.first in
       let token = get_or tokens (n + k) no_token in
@@ -186,7 +186,7 @@ module _ (unit : List ℕ) (tokens : List Token) (o : AreInOrder unit 0 tokens) 
       (ap (λ at. place_from unit at (start_of (drop n tokens) k 0)) (start_dropped tokens n 0 ∙ ap (λ i. start_of tokens i 0) (let z : n + 0 ≡ n = omega arith in z))
       ∙ ap (place_from unit (start_of tokens n 0)) (start_dropped tokens n k ∙ start_is tokens (n + k) token e))
 
-  pub first_stands : (extent : Extent) → extent.first < extent.behind → extent.behind ≤ length tokens → IsOfToken unit tokens extent first_place
+  pub first_stands : (extent : Extent) → extent.first < extent.after → extent.after ≤ length tokens → IsOfToken unit tokens extent first_place
   first_stands extent b most =
       subst (IsOfToken unit tokens extent) (sym (same_place unit (start_of (drop extent.first tokens) 0 0))) (at_token extent 0 (omega (arith, b)) most)
 
@@ -204,7 +204,7 @@ module _ (unit : List ℕ) (tokens : List Token) (o : AreInOrder unit 0 tokens) 
       (by_begin (begins_next r) (declaration_so r) (own (right_side r) h.2) (λ fitted. tops_stand nodes (right_side r ++ old) n kinds next rest fitted l m h.2))
     where
       extent : Extent
-      extent = record { first = n; behind = n + tokens_before nodes }
+      extent = record { first = n; after = n + tokens_before nodes }
 
       top : Option (TopDec Place)
       top = bare_dec_at unit tokens n (before_first ends_at nodes) fitted

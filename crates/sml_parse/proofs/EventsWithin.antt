@@ -59,8 +59,8 @@ is_full _ = true
 
 abbrev gives_full : Sense → Bool
 gives_full S.More = true
-gives_full S.MoreBehind = true
-gives_full S.Behind = true
+gives_full S.MoreAfter = true
+gives_full S.After = true
 gives_full _ = false
 
 heads_are : (r : Rule) → is_head (deed_of r) ≡ true → gives_full (sense_of r) ≡ true
@@ -77,8 +77,8 @@ from_full n (directed level atoms) = refl
 
 full_by : (text : ℕ → Id) (n : ℕ) (sense : Sense) (a b c d : Found) → gives_full sense ≡ true → is_full (found_by text n sense a b c d) ≡ true
 full_by text n S.More a b c d q = refl
-full_by text n S.MoreBehind a b c d q = refl
-full_by text n S.Behind a b c d q = from_full n b
+full_by text n S.MoreAfter a b c d q = refl
+full_by text n S.After a b c d q = from_full n b
 full_by text n S.Nothing a b c d q = absurd (false≢true q)
 full_by text n S.Passed a b c d q = absurd (false≢true q)
 full_by text n S.Short a b c d q = absurd (false≢true q)

@@ -19,7 +19,7 @@ reaches unit place (t ∷ ts) o =
     let b = o.1 in
     omega (arith, r, a, b)
 
--- a token of the unit stands behind its front, and within it
+-- a token of the unit stands after its front, and within it
 within : (unit : List ℕ) (place : ℕ) (tokens : List Token) (i : ℕ) (token : Token) → AreInOrder unit place tokens → slice_get tokens i ≡ Some token
     → (place ≤ token.span.start) × (token.span.start < length unit)
 within unit place [] i token o e = absurd (none_some e)
@@ -51,12 +51,12 @@ not_before unit place (t ∷ ts) (suc i) (suc j) token o l e = not_before unit t
 
 -- a token of an extent, counted from its first
 pub of_token : (unit : List ℕ) (tokens : List Token) (extent : Extent) (index : ℕ) (token : Token) (place : Place) → AreInOrder unit 0 tokens
-    → slice_get tokens index ≡ Some token → extent.first ≤ index → index < extent.behind → place ≡ place_from unit (start_of tokens extent.first 0) token.span.start → IsOfToken unit tokens extent place
+    → slice_get tokens index ≡ Some token → extent.first ≤ index → index < extent.after → place ≡ place_from unit (start_of tokens extent.first 0) token.span.start → IsOfToken unit tokens extent place
 of_token unit tokens extent index token place o e f b p = record {
   index = index;
   token = token;
   stands = e;
-  behind_first = f;
+  after_first = f;
   before_end = b;
   ahead = not_before unit 0 tokens extent.first index token o f e;
   within = (within unit 0 tokens index token o e).1;

@@ -178,7 +178,7 @@ module _ (text : ℕ → Id) (extents : List Extent) (most : ℕ) where
   abbrev MaybePlaced : Option Misfit → Type 0
   MaybePlaced m = IfSome m (IsPlaced extents)
 
-  -- these extents are left behind so many
+  -- these extents are left after so many
   abbrev AreLeft : ℕ → List Extent → Type 0
   AreLeft count left = (i : ℕ) → slice_get extents (count + i) ≡ slice_get left i
 
@@ -186,12 +186,12 @@ module _ (text : ℕ → Id) (extents : List Extent) (most : ℕ) where
   either None b h k = k
   either (Some m) b h k = h
 
-  here_placed : (r : Rule) (n count : ℕ) (nodes : List Node) (left : List Extent) (flaw : Option Flaw) → n < n + tokens_before nodes → AreLeft count (record { first = n; behind = n + tokens_before nodes } ∷ left) → MaybeOfPhrases flaw
+  here_placed : (r : Rule) (n count : ℕ) (nodes : List Node) (left : List Extent) (flaw : Option Flaw) → n < n + tokens_before nodes → AreLeft count (record { first = n; after = n + tokens_before nodes } ∷ left) → MaybeOfPhrases flaw
       → MaybePlaced (flaw_in (suc count) n (own_nodes (Inner r ∷ nodes)) flaw)
   here_placed r n count nodes left None some l h = tt
   here_placed r n count nodes left (Some flaw) some l h =
       let c = own_count nodes in (
-        record { first = n; behind = n + tokens_before nodes },
+        record { first = n; after = n + tokens_before nodes },
         ap (slice_get extents) (let e : suc count - 1 ≡ count + 0 = omega arith in e) ∙ l 0,
         omega arith,
         refl,
@@ -199,7 +199,7 @@ module _ (text : ℕ → Id) (extents : List Extent) (most : ℕ) where
         h,
       )
 
-  flawed_here : (r : Rule) (n count : ℕ) (nodes : List Node) (left : List Extent) (fitted : List Fitted) → n < n + tokens_before nodes → AreLeft count (record { first = n; behind = n + tokens_before nodes } ∷ left)
+  flawed_here : (r : Rule) (n count : ℕ) (nodes : List Node) (left : List Extent) (fitted : List Fitted) → n < n + tokens_before nodes → AreLeft count (record { first = n; after = n + tokens_before nodes } ∷ left)
       → MaybePlaced (flaw_here text (suc count) n (own_nodes (Inner r ∷ nodes)) fitted)
   flawed_here r n count nodes left [] some l = tt
   flawed_here r n count nodes left (f ∷ fitted) some l = here_placed r n count nodes left _ some l (first_of _ (all_of text f.fits (own_nodes (Inner r ∷ nodes)) (marks_of 0 n (start ∷ []) (own_nodes (Inner r ∷ nodes)))))
@@ -214,7 +214,7 @@ module _ (text : ℕ → Id) (extents : List Extent) (most : ℕ) where
       (by_begin (begins_next r) h l (flawed_placed nodes n (suc count) tokens (drop 1 fitted)) (flawed_placed nodes n count tokens fitted))
     where
       extent : Extent
-      extent = record { first = n; behind = n + tokens_before nodes }
+      extent = record { first = n; after = n + tokens_before nodes }
 
       by_begin : (b : Bool) → HaveTokens most (if b then extent ∷ extents_of n nodes else extents_of n nodes) → AreLeft count (if b then extent ∷ extents_of n nodes else extents_of n nodes)
           → (HaveTokens most (extents_of n nodes) → AreLeft (suc count) (extents_of n nodes) → MaybePlaced (first_flawed text n (suc count) nodes tokens (drop 1 fitted)))

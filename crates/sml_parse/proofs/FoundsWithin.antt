@@ -29,7 +29,7 @@ use Rattle.sml_parse.proofs.Nonempty.{all_inner, inner_so, inner_append, not_bot
 
 -- a token from this one on, and before that one
 abbrev pub IsIn : ℕ → ℕ → ℕ → Type 0
-IsIn n behind token = (n ≤ token) × (token < behind)
+IsIn n after token = (n ≤ token) × (token < after)
 
 abbrev pub AtomsIn : ℕ → ℕ → List Atom → Type 0
 AtomsIn n e [] = Unit {0}
@@ -113,7 +113,7 @@ names_first S.Phrase = true
 names_first S.Round = true
 names_first S.Named = true
 names_first S.OpNamed = true
-names_first S.Behind = true
+names_first S.After = true
 names_first S.RoundMore = true
 names_first S.OpenRoundMore = true
 names_first _ = false
@@ -121,7 +121,7 @@ names_first _ = false
 -- the part that stands first in a sequence is an atomic phrase
 abbrev has_first : Sense → List Symbol → Bool
 has_first S.More ss = atomic_at 0 ss
-has_first S.MoreBehind ss = atomic_at 1 ss
+has_first S.MoreAfter ss = atomic_at 1 ss
 has_first _ ss = true
 
 abbrev gives_one : Sense → List Symbol → Bool
@@ -162,10 +162,10 @@ part_one n e (Word k ∷ ss) (f ∷ founds) zero h q = absurd (false≢true q)
 part_one n e (Of p ∷ ss) (f ∷ founds) zero h q = h.1 q
 part_one n e (s ∷ ss) (f ∷ founds) (suc i) h q = part_one n e ss founds i h.2 q
 
-parts_behind : (n e : ℕ) (a b : List Symbol) (founds : List Found) → FoundsIn n e (a ++ b) founds → FoundsIn n e b (drop (length a) founds)
-parts_behind n e [] b founds h = h
-parts_behind n e (s ∷ a) b [] h = absurd h
-parts_behind n e (s ∷ a) b (f ∷ founds) h = parts_behind n e a b founds h.2
+parts_after : (n e : ℕ) (a b : List Symbol) (founds : List Found) → FoundsIn n e (a ++ b) founds → FoundsIn n e b (drop (length a) founds)
+parts_after n e [] b founds h = h
+parts_after n e (s ∷ a) b [] h = absurd h
+parts_after n e (s ∷ a) b (f ∷ founds) h = parts_after n e a b founds h.2
 
 parts_before : (n e : ℕ) (a b : List Symbol) (founds : List Found) → FoundsIn n e (a ++ b) founds → FoundsIn n e a founds
 parts_before n e [] b founds h = tt
@@ -232,11 +232,11 @@ module _ (text : ℕ → Id) (n e : ℕ) where
   by_sense S.Empty ss a b c d ha hb hc hd f oa ob i = tt
   by_sense S.Typed ss a b c d ha hb hc hd f oa ob i = tt
   by_sense S.More ss a b c d ha hb hc hd f oa ob i = (the_atom a ha (oa f), the_atoms b hb)
-  by_sense S.MoreBehind ss a b c d ha hb hc hd f oa ob i = (the_atom b hb (ob f), the_atoms c hc)
+  by_sense S.MoreAfter ss a b c d ha hb hc hd f oa ob i = (the_atom b hb (ob f), the_atoms c hc)
   by_sense S.Third ss a b c d ha hb hc hd f oa ob i = hc
   by_sense S.Named ss a b c d ha hb hc hd f oa ob i = put_before _ b (i refl) hb
   by_sense S.OpNamed ss a b c d ha hb hc hd f oa ob i = put_before _ b (i refl) hb
-  by_sense S.Behind ss a b c d ha hb hc hd f oa ob i = begun_at b (i refl) hb
+  by_sense S.After ss a b c d ha hb hc hd f oa ob i = begun_at b (i refl) hb
   by_sense S.RoundMore ss a b c d ha hb hc hd f oa ob i = (i refl, the_atoms b hb)
   by_sense S.OpenRoundMore ss a b c d ha hb hc hd f oa ob i = (i refl, the_atoms c hc)
   by_sense S.Inner ss a b c d ha hb hc hd f oa ob i = names_in (is_word b) (inner_in a)
@@ -254,11 +254,11 @@ module _ (text : ℕ → Id) (n e : ℕ) where
   one_by S.Empty ss a b c d o q = absurd (false≢true q)
   one_by S.Typed ss a b c d o q = absurd (false≢true q)
   one_by S.More ss a b c d o q = absurd (false≢true q)
-  one_by S.MoreBehind ss a b c d o q = absurd (false≢true q)
+  one_by S.MoreAfter ss a b c d o q = absurd (false≢true q)
   one_by S.Third ss a b c d o q = absurd (false≢true q)
   one_by S.Named ss a b c d o q = absurd (false≢true q)
   one_by S.OpNamed ss a b c d o q = absurd (false≢true q)
-  one_by S.Behind ss a b c d o q = absurd (false≢true q)
+  one_by S.After ss a b c d o q = absurd (false≢true q)
   one_by S.RoundMore ss a b c d o q = absurd (false≢true q)
   one_by S.OpenRoundMore ss a b c d o q = absurd (false≢true q)
   one_by S.Inner ss a b c d o q = absurd (false≢true q)
@@ -274,7 +274,7 @@ module _ (text : ℕ → Id) (n e : ℕ) where
       by_sense (sense_of r) ss _ _ _ _ (part_in n e ss founds 0 h) (part_in n e ss founds 1 h) (part_in n e ss founds 2 h) (part_in n e ss founds 3 h)
       (and_parts _ _ fit.1).0 (part_one n e ss founds 0 h) (part_one n e ss founds 1 h) named
 
-  -- and behind it
+  -- and after it
   by_deed : (deed : Deed) (f : Found) → FoundIn n e f → FoundIn n e (left deed f)
   by_deed D.Nothing f h = h
   by_deed D.Begins f h = h
@@ -321,5 +321,5 @@ founds_in text (Inner r ∷ nodes) (Of p ∷ a) ss n tokens next rest i o h =
     subst (λ (b : Bool). FoundsIn n (n + (if b then 0 else tokens_before nodes)) (Of p ∷ a) (left (deed_of r) (found_at text n r founds) ∷ drop (length side) founds)) (sym (when_not (ends_before r) inner)) (
       by_deed text n e (deed_of r) _ (phrase_in text n e r founds parts has),
       subst (λ p. is_atomic p ≡ true → is_one (left (deed_of r) (found_at text n r founds)) ≡ true) h.0 (suited text n e r founds parts),
-      parts_behind n e side a founds more,
+      parts_after n e side a founds more,
     )

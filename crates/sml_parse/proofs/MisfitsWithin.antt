@@ -59,7 +59,7 @@ next_begins r = implied _ _ (each_rule (λ r. implies (begins_next r) (is_beginn
 beginning_outer : (r : Rule) → is_beginning (deed_of r) ≡ true → is_outer (part_of r) ≡ true
 beginning_outer r = implied _ _ (each_rule (λ r. implies (is_beginning (deed_of r)) (ends_before r)) refl r)
 
--- elsewhere what is left of a unit does nothing, and no declaration is behind it
+-- elsewhere what is left of a unit does nothing, and no declaration is after it
 abbrev is_rest : Rule → Bool
 is_rest r = not (goes_in (right_side r)) && is_idle (deed_of r)
 
@@ -95,7 +95,7 @@ outer_last p ss q t = none_so ss (subst (λ (c : Bool). (if c then is_none ss el
 
 -- a fault of fixity in the extent of its declaration
 abbrev pub IsPlaced : List Extent → Misfit → Type 0
-IsPlaced extents m = (extent : Extent) × (slice_get extents (m.number - 1) ≡ Some extent) × (0 < m.number) × (m.begun ≡ extent.first) × IsIn extent.first extent.behind m.token × (reason_of m.code ≡ of_phrases)
+IsPlaced extents m = (extent : Extent) × (slice_get extents (m.number - 1) ≡ Some extent) × (0 < m.number) × (m.begun ≡ extent.first) × IsIn extent.first extent.after m.token × (reason_of m.code ≡ of_phrases)
 
 abbrev AllPlaced : List Extent → List Misfit → Type 0
 AllPlaced extents [] = Unit {0}
@@ -156,7 +156,7 @@ module _ (unit : List ℕ) (tokens : List Token) (extents : List Extent) where
 
   -- these nodes are of the declaration that began last, up to its end
   abbrev IsOpen : State → ℕ → ℕ → Type 0
-  IsOpen s n size = (extent : Extent) × (slice_get extents (s.count - 1) ≡ Some extent) × (0 < s.count) × (s.begun ≡ extent.first) × (extent.first ≤ n) × (n + size ≤ extent.behind)
+  IsOpen s n size = (extent : Extent) × (slice_get extents (s.count - 1) ≡ Some extent) × (0 < s.count) × (s.begun ≡ extent.first) × (extent.first ≤ n) × (n + size ≤ extent.after)
 
   open_on : (s t : State) (n m size rest : ℕ) → n ≤ m → m + rest ≤ n + size → t.count ≡ s.count → t.begun ≡ s.begun → IsOpen s n size → IsOpen t m rest
   open_on s t n m size rest l k c b x =
@@ -185,8 +185,8 @@ module _ (unit : List ℕ) (tokens : List Token) (extents : List Extent) where
   fewer_left : (s : State) (n : ℕ) (extent : Extent) (left : List Extent) → AreLeft s (extent ∷ left) → AreLeft (begun s n) left
   fewer_left s n extent left f i = ap (slice_get extents) (omega arith) ∙ f (suc i)
 
-  next_open : (s : State) (n size : ℕ) (left : List Extent) → AreLeft s (record { first = n; behind = n + size } ∷ left) → IsOpen (begun s n) n size
-  next_open s n size left f = (record { first = n; behind = n + size }, ap (slice_get extents) (omega arith) ∙ f 0, omega arith, refl, omega arith, omega arith)
+  next_open : (s : State) (n size : ℕ) (left : List Extent) → AreLeft s (record { first = n; after = n + size } ∷ left) → IsOpen (begun s n) n size
+  next_open s n size left f = (record { first = n; after = n + size }, ap (slice_get extents) (omega arith) ∙ f 0, omega arith, refl, omega arith, omega arith)
 
   -- the all from these nodes on are in their extents, whatever the state
   abbrev GoesOn : List Node → List Symbol → ℕ → Type 0
@@ -202,7 +202,7 @@ module _ (unit : List ℕ) (tokens : List Token) (extents : List Extent) where
     next_events = events_of unit tokens nodes (starts_of n nodes)
 
     abbrev lefts : Bool → List Extent
-    lefts b = if b then record { first = n; behind = n + tokens_before nodes } ∷ extents_of n nodes else extents_of n nodes
+    lefts b = if b then record { first = n; after = n + tokens_before nodes } ∷ extents_of n nodes else extents_of n nodes
 
     -- a phrase of a declaration
     inside : (kinds : List Kind) (next : Option Kind) (rest : Part) → is_outer rest ≡ true → Leads nodes (right_side r ++ old) kinds next (Of rest ∷ []) → (s : State) (all : List Outcome) → not (is_outer (part_of r)) ≡ true → is_tidy old ≡ true
@@ -231,7 +231,7 @@ module _ (unit : List ℕ) (tokens : List Token) (extents : List Extent) where
         by_next true e =
             let left = subst (λ b. AreLeft s (lefts b)) e f in
             let x = beginning s (deed_of r) n found next_events all (next_begins r e) h in
-            subst (AllPlaced extents) (sym x.2) (more (begun s n) x.0 tidy (λ _. next_open s n (tokens_before nodes) (extents_of n nodes) left) (fewer_left s n (record { first = n; behind = n + tokens_before nodes }) (extents_of n nodes) left) x.1)
+            subst (AllPlaced extents) (sym x.2) (more (begun s n) x.0 tidy (λ _. next_open s n (tokens_before nodes) (extents_of n nodes) left) (fewer_left s n (record { first = n; after = n + tokens_before nodes }) (extents_of n nodes) left) x.1)
         by_next false e =
             let both = and_parts _ _ (outer_rest r q e) in
             more s all tidy (λ k. absurd (not_both (goes_in (right_side r)) both.0 (sym (ap goes_in last) ∙ k))) (subst (λ b. AreLeft s (lefts b)) e f) (idle s (deed_of r) n found next_events all both.1 h)

@@ -88,7 +88,7 @@ few_tokens (Inner r ∷ nodes) (Of p ∷ old) tokens next now h = by_end (ends_b
     by_end false f = f
 
 abbrev pub HasToken : ℕ → Extent → Type 0
-HasToken most extent = (extent.first < extent.behind) × (extent.behind ≤ most)
+HasToken most extent = (extent.first < extent.after) × (extent.after ≤ most)
 
 abbrev pub HaveTokens : ℕ → List Extent → Type 0
 HaveTokens most [] = Unit {0}
@@ -115,6 +115,6 @@ have_tokens (Inner r ∷ nodes) (Of p ∷ old) n most tokens next rest o l h =
         some_token nodes (Of p ∷ []) (side ++ old) tokens next rest (and_from _ _ both.0 refl) (λ k. not_both (may_be_empty p) both.1 (and_parts _ _ k).0) o h
 
     by_start : (b : Bool) → (opens (right_side r) ≡ true → 0 < tokens_before nodes) → tokens_before nodes ≤ length tokens → HaveTokens most (extents_of n nodes) → (b ≡ true → opens (right_side r) ≡ true)
-        → HaveTokens most (if b then record { first = n; behind = n + tokens_before nodes } ∷ extents_of n nodes else extents_of n nodes)
+        → HaveTokens most (if b then record { first = n; after = n + tokens_before nodes } ∷ extents_of n nodes else extents_of n nodes)
     by_start true s f k e = let t = s (e refl) in ((omega (arith, t), omega (arith, f, l)), k)
     by_start false s f k e = k

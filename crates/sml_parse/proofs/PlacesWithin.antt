@@ -28,14 +28,14 @@ use Rattle.sml_read.specs.declared.read.Cause.{Cause}
 use Rattle.sml_read.specs.declared.read.Cause.TheVariants.{Unexpected, TooEarly, Lexical}
 use Rattle.sml_read.specs.Spelling.{kinds_of}
 use Rattle.sml_read.specs.Answer.{is_done, IsCauseOf}
-use Rattle.sml_reach.specs.Places.{place_behind, place_from}
+use Rattle.sml_reach.specs.Places.{place_after, place_from}
 use Rattle.sml_reach.specs.Places.{start_of}
 use Rattle.sml_reach.specs.declared.reach.Misfit.{Misfit}
 use Rattle.sml_reach.specs.Reach.{up_to, before_misfit}
 use Rattle.sml_reach.specs.Fits.{Fitted}
 use Rattle.sml_bare.specs.Derivations.{bare_dec_at, bare_decs, before_none}
 use Rattle.sml_piece_trees.specs.Piece.{piece_of}
-use Rattle.sml_parse.specs.Trees.{fault_from, fault_read, fault_behind}
+use Rattle.sml_parse.specs.Trees.{fault_from, fault_read, fault_after}
 use Rattle.sml_parse.specs.Within.{Extent, begins_next, tokens_before, extents_of, IsOfToken, TopsStandInTurn, StandInTurn, Reason, of_bytes, reason_of, StandsBy, StandsLast, PlacesAreWithin}
 use Rattle.sml_parse.proofs.Nonempty.{HasToken, HaveTokens, have_tokens}
 use Rattle.sml_parse.proofs.Extents.{of_token}
@@ -73,23 +73,23 @@ module _ (unit : List ℕ) (tokens : List Token) where
   pieces_in_turn [] (top ∷ tops) h = absurd h
   pieces_in_turn (extent ∷ extents) (top ∷ tops) h = (piece_each (IsOfToken unit tokens extent) top h.0.0 h.0.1, pieces_in_turn extents tops h.1)
 
--- the lexical fault stands behind the tokens
+-- the lexical fault stands after the tokens
 
 stop_on : (unit : List ℕ) (place : ℕ) (pieces : List Piece) (stop : Stop) → SpellsFrom unit place pieces (E.Fault stop) → place ≤ stop.at
 stop_on unit place [] stop s = let e = ap (λ (s : Stop). s.at) s.3 in omega (arith, e)
 stop_on unit place (piece ∷ pieces) stop s = let r = stop_on unit (place + size_of piece) pieces stop s.1 in omega (arith, r)
 
-stop_behind : (unit : List ℕ) (place : ℕ) (pieces : List Piece) (stop : Stop) (index : ℕ) → SpellsFrom unit place pieces (E.Fault stop)
+stop_after : (unit : List ℕ) (place : ℕ) (pieces : List Piece) (stop : Stop) (index : ℕ) → SpellsFrom unit place pieces (E.Fault stop)
     → start_of (tokens_of place pieces) index stop.at ≤ stop.at
-stop_behind unit place [] stop index s = omega arith
-stop_behind unit place (Blank ∷ pieces) stop index s = stop_behind unit (place + 1) pieces stop index s.1
-stop_behind unit place (Comment size ∷ pieces) stop index s = stop_behind unit (place + size) pieces stop index s.1
-stop_behind unit place (Lexeme lexeme ∷ pieces) stop zero s = stop_on unit place (Lexeme lexeme ∷ pieces) stop s
-stop_behind unit place (Lexeme lexeme ∷ pieces) stop (suc index) s = stop_behind unit (place + lexeme.size) pieces stop index s.1
+stop_after unit place [] stop index s = omega arith
+stop_after unit place (Blank ∷ pieces) stop index s = stop_after unit (place + 1) pieces stop index s.1
+stop_after unit place (Comment size ∷ pieces) stop index s = stop_after unit (place + size) pieces stop index s.1
+stop_after unit place (Lexeme lexeme ∷ pieces) stop zero s = stop_on unit place (Lexeme lexeme ∷ pieces) stop s
+stop_after unit place (Lexeme lexeme ∷ pieces) stop (suc index) s = stop_after unit (place + lexeme.size) pieces stop index s.1
 
-behind_tokens : (unit : List ℕ) (tokens : List Token) (stop : Stop) (index : ℕ) → Spells unit tokens (E.Fault stop) → start_of tokens index stop.at ≤ stop.at
-behind_tokens unit tokens stop index (inl s) = subst (λ ts. start_of ts index stop.at ≤ stop.at) (sym s.tokens_are) (stop_behind unit 0 s.pieces stop index s.spelled)
-behind_tokens unit tokens stop index (inr s) = subst (λ ts. start_of ts index stop.at ≤ stop.at) (sym s.none) (omega arith)
+after_tokens : (unit : List ℕ) (tokens : List Token) (stop : Stop) (index : ℕ) → Spells unit tokens (E.Fault stop) → start_of tokens index stop.at ≤ stop.at
+after_tokens unit tokens stop index (inl s) = subst (λ ts. start_of ts index stop.at ≤ stop.at) (sym s.tokens_are) (stop_after unit 0 s.pieces stop index s.spelled)
+after_tokens unit tokens stop index (inr s) = subst (λ ts. start_of ts index stop.at ≤ stop.at) (sym s.none) (omega arith)
 
 -- the codes of lexical faults
 
@@ -144,11 +144,11 @@ have_at most (x ∷ extents) zero extent h e = subst (HasToken most) (some_same 
 have_at most (x ∷ extents) (suc i) extent h e = have_at most extents i extent h.1 e
 
 module _ (unit : List ℕ) (tokens : List Token) (o : AreInOrder unit 0 tokens) (nodes : List Node) (before : ℕ) where
-  at_token : (begun index : ℕ) → begun ≤ index → index < length tokens → IsOfToken unit tokens (record { first = begun; behind = length tokens }) (place_from unit (start_of tokens begun 0) (start_of tokens index 0))
+  at_token : (begun index : ℕ) → begun ≤ index → index < length tokens → IsOfToken unit tokens (record { first = begun; after = length tokens }) (place_from unit (start_of tokens begun 0) (start_of tokens index 0))
   at_token begun index f b =
       let token = get_or tokens index no_token in
       let e = slice_get-get_or tokens index no_token b in
-      of_token unit tokens (record { first = begun; behind = length tokens }) index token _ o e f b (ap (place_from unit (start_of tokens begun 0)) (start_is tokens index token e))
+      of_token unit tokens (record { first = begun; after = length tokens }) index token _ o e f b (ap (place_from unit (start_of tokens begun 0)) (start_is tokens index token e))
 
   last_read : (end : End) (begun : ℕ) (cause : Option Cause) → Spells unit tokens end → IsCauseOf (kinds_of tokens) (is_done end) begun cause
       → IfSome (fault_read unit tokens end begun cause) (StandsLast unit tokens end nodes begun before)
@@ -164,7 +164,7 @@ module _ (unit : List ℕ) (tokens : List Token) (o : AreInOrder unit 0 tokens) 
   last_read E.Done begun (Some Lexical) s c = tt
   last_read (E.Fault stop) begun (Some Lexical) s c =
       subst (λ r. StandsBy r unit tokens (E.Fault stop) nodes begun before (place_from unit (start_of tokens begun stop.at) stop.at)) (sym (bytes_reason unit tokens stop s))
-      (record { stop = stop; ended = refl; ahead = behind_tokens unit tokens stop begun s; within = faults_are_within unit tokens stop s; counted = refl })
+      (record { stop = stop; ended = refl; ahead = after_tokens unit tokens stop begun s; within = faults_are_within unit tokens stop s; counted = refl })
 
   -- that of fixity
   misfit_stands : (m : Misfit) (end : End) (begun : ℕ) → HaveTokens (length tokens) (extents_of 0 nodes) → IsPlaced (extents_of 0 nodes) m → before ≡ m.number - 1
@@ -182,7 +182,7 @@ module _ (unit : List ℕ) (tokens : List Token) (o : AreInOrder unit 0 tokens) 
 
   last_stands : (misfit : Option Misfit) (end : End) (begun : ℕ) (cause : Option Cause) → Spells unit tokens end → IsCauseOf (kinds_of tokens) (is_done end) begun cause
       → HaveTokens (length tokens) (extents_of 0 nodes) → IfSome misfit (IsPlaced (extents_of 0 nodes)) → IfSome misfit (λ m. before ≡ m.number - 1)
-      → IfSome (fault_behind unit tokens end begun cause misfit) (StandsLast unit tokens end nodes begun before)
+      → IfSome (fault_after unit tokens end begun cause misfit) (StandsLast unit tokens end nodes begun before)
   last_stands None end begun cause s c have x n = last_read end begun cause s c
   last_stands (Some m) end begun cause s c have x n = misfit_stands m end begun have x n
 
@@ -223,7 +223,7 @@ module _ (unit : List ℕ) (tokens : List Token) where
   as_many_bare n (Leaf ∷ nodes) fitted = as_many_bare (suc n) nodes fitted
   as_many_bare n (Inner rule ∷ nodes) fitted =
       let dec = bare_dec_at unit tokens n (before_first ends_at nodes) fitted in
-      let extent : Extent = record { first = n; behind = n + tokens_before nodes } in
+      let extent : Extent = record { first = n; after = n + tokens_before nodes } in
       subst (λ (b : Bool). length (if b then dec ∷ bare_decs unit tokens n nodes (drop 1 fitted) else bare_decs unit tokens n nodes fitted) ≡ length (if begins_next rule then extent ∷ extents_of n nodes else extents_of n nodes)) (sym (begins_same rule))
       (by_begin dec extent (begins_next rule) (as_many_bare n nodes (drop 1 fitted)) (as_many_bare n nodes fitted))
     where
@@ -264,7 +264,7 @@ places_within unit tokens end tops decs fault s trees =
 
     by_test : AreInOrder unit 0 tokens → HaveTokens (length tokens) (extents_of 0 trees.nodes) → IfSome trees.misfit (IsPlaced (extents_of 0 trees.nodes))
         → (list_all is_some until_misfit ≡ true → IfSome trees.misfit (λ m. length decs ≡ m.number - 1)) → (b : Bool) → list_all is_some until_misfit ≡ b
-        → IfSome (if b then fault_behind unit tokens end trees.begun trees.cause trees.misfit else Some (record { code = C.S3; place = first_place; detail = None })) (StandsLast unit tokens end trees.nodes trees.begun (length decs))
+        → IfSome (if b then fault_after unit tokens end trees.begun trees.cause trees.misfit else Some (record { code = C.S3; place = first_place; detail = None })) (StandsLast unit tokens end trees.nodes trees.begun (length decs))
     by_test o have placed n true q =
         last_stands unit tokens o trees.nodes (length decs) trees.misfit end trees.begun trees.cause s trees.reading.fault have placed (n q)
     by_test o have placed n false q = refl

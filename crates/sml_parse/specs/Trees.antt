@@ -39,15 +39,15 @@ fault_read unit tokens end begun (Some TooEarly) = fault_from unit C.S2 (start_o
 fault_read unit tokens E.Done begun (Some Lexical) = None
 fault_read unit tokens (E.Fault stop) begun (Some Lexical) = fault_from unit stop.code (start_of tokens begun stop.at) stop.at
 
--- the fault behind the last of the declarations: that of its sequences or of what it binds, or the one at which reading ended
-abbrev pub fault_behind : List ℕ → List Token → End → ℕ → Option Cause → Option Misfit → Option (Fault Place)
-fault_behind unit tokens end begun cause None = fault_read unit tokens end begun cause
-fault_behind unit tokens end begun cause (Some m) = fault_from unit m.code (start_of tokens m.begun 0) (start_of tokens m.token 0)
+-- the fault after the last of the declarations: that of its sequences or of what it binds, or the one at which reading ended
+abbrev pub fault_after : List ℕ → List Token → End → ℕ → Option Cause → Option Misfit → Option (Fault Place)
+fault_after unit tokens end begun cause None = fault_read unit tokens end begun cause
+fault_after unit tokens end begun cause (Some m) = fault_from unit m.code (start_of tokens m.begun 0) (start_of tokens m.token 0)
 
 -- the last fault: that of a tree that is too high, unless all are low
 abbrev pub last_fault : List ℕ → List Token → End → ℕ → Option Cause → Option Misfit → Bool → Option (Fault Place)
 last_fault unit tokens end begun cause misfit are_low =
-    if are_low then fault_behind unit tokens end begun cause misfit else Some (record { code = C.S3; place = first_place; detail = None })
+    if are_low then fault_after unit tokens end begun cause misfit else Some (record { code = C.S3; place = first_place; detail = None })
 
 -- The tokens are read. These are the declarations that they spell, up to the first that has a fault of fixity or of
 -- what it binds or is too high, as whole trees, and what these are as trees of the first piece of the language. The

@@ -26,10 +26,10 @@ use Rattle.sml_reach.specs.Places.{start_of}
 use Rattle.sml_parse.specs.Trees.{AreTrees}
 use Rattle.sml_parse.specs.EachPlace.{EachInTop}
 
--- the tokens of a declaration: the number of the first, and that of the one behind the last
+-- the tokens of a declaration: the number of the first, and that of the one after the last
 pub record Extent : Type 0 where
   pub first : ℕ
-  pub behind : ℕ
+  pub after : ℕ
 
 -- a rule for what is left of a unit stands where the declaration before it has ended
 abbrev pub ends_before : Rule → Bool
@@ -53,15 +53,15 @@ tokens_before (Inner rule ∷ nodes) = if ends_before rule then 0 else tokens_be
 abbrev pub extents_of : ℕ → List Node → List Extent
 extents_of n [] = []
 extents_of n (Leaf ∷ nodes) = extents_of (suc n) nodes
-extents_of n (Inner rule ∷ nodes) = if begins_next rule then record { first = n; behind = n + tokens_before nodes } ∷ extents_of n nodes else extents_of n nodes
+extents_of n (Inner rule ∷ nodes) = if begins_next rule then record { first = n; after = n + tokens_before nodes } ∷ extents_of n nodes else extents_of n nodes
 
 -- The place is that of a token of this extent, counted from where its first token begins. It isn't before that.
 pub record IsOfToken (unit : List ℕ) (tokens : List Token) (extent : Extent) (place : Place) : Type 0 where
   pub index : ℕ
   pub token : Token
   pub stands : slice_get tokens index ≡ Some token
-  pub behind_first : extent.first ≤ index
-  pub before_end : index < extent.behind
+  pub after_first : extent.first ≤ index
+  pub before_end : index < extent.after
   pub ahead : start_of tokens extent.first 0 ≤ token.span.start
   pub within : token.span.start < length unit
   pub counted : place ≡ place_from unit (start_of tokens extent.first 0) token.span.start
@@ -120,7 +120,7 @@ reason_of _ = of_bytes
 -- so many before it, and that of a tree that is too high at 1.1.
 abbrev pub StandsBy : Reason → List ℕ → List Token → End → List Node → ℕ → ℕ → Place → Type 0
 StandsBy of_bytes unit tokens end nodes begun before place = IsOfStop unit tokens end begun place
-StandsBy of_grammar unit tokens end nodes begun before place = IsOfToken unit tokens (record { first = begun; behind = length tokens }) place
+StandsBy of_grammar unit tokens end nodes begun before place = IsOfToken unit tokens (record { first = begun; after = length tokens }) place
 StandsBy of_phrases unit tokens end nodes begun before place = IsOfDeclaration unit tokens (extents_of 0 nodes) before place
 StandsBy of_height unit tokens end nodes begun before place = place ≡ first_place
 

@@ -6,7 +6,7 @@ ghost use Rattle.std.specs.Option.{is_some, option_map};
 ghost use Rattle.sml_lex.specs.Faults.{fault_of};
 ghost use Rattle.sml_tree.specs.Views.{dec_of};
 ghost use Rattle.sml_tree.specs.StructureViews.{top_of};
-ghost use Rattle.sml_parse.specs.Trees.{fault_from, fault_read, fault_behind, last_fault, AreTrees};
+ghost use Rattle.sml_parse.specs.Trees.{fault_from, fault_read, fault_after, last_fault, AreTrees};
 ghost use Rattle.sml_read.specs.Extents.{starts_of};
 ghost use Rattle.sml_piece_trees.specs.Piece.{piece_of};
 ghost use Rattle.sml_reach.specs.Events.{text_at, events_of};
@@ -76,10 +76,10 @@ fn fault_of_reading(lexed: &Lexed, begun: usize, cause: Option<Cause>) -> Option
     }
 }
 
-/// The fault behind the last of the declarations.
-fn fault_behind(lexed: &Lexed, full: &Full, misfit: Option<Misfit>) -> Option<Fault>
+/// The fault after the last of the declarations.
+fn fault_after(lexed: &Lexed, full: &Full, misfit: Option<Misfit>) -> Option<Fault>
     ensures { option_map fault_of result
-        ≡ fault_behind lexed.now.unit.now lexed.now.tokens.items lexed.now.end full.now.begun full.now.cause misfit }
+        ≡ fault_after lexed.now.unit.now lexed.now.tokens.items lexed.now.end full.now.begun full.now.cause misfit }
 {
     match misfit {
         None => fault_of_reading(lexed, full.begun, full.cause),
@@ -97,7 +97,7 @@ fn last_fault(lexed: &Lexed, full: &Full, misfit: Option<Misfit>, are_low: bool)
         ≡ last_fault lexed.now.unit.now lexed.now.tokens.items lexed.now.end full.now.begun full.now.cause misfit are_low }
 {
     if are_low {
-        return fault_behind(lexed, full, misfit);
+        return fault_after(lexed, full, misfit);
     }
     Some(Fault {
         code: Code::S3,

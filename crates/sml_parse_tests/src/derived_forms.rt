@@ -257,7 +257,7 @@ fn seals_by_call(rt: HostRuntime) -> Result<(), Fail> {
     Ok(())
 }
 
-/// A type constructor with the type `a`, four columns behind it.
+/// A type constructor with the type `a`, four columns after it.
 fn equation(alloc: Global, column: u32, text: &str) -> Result<WhereType, Memory> {
     Ok(WhereType {
         variables: Vec::new(alloc),
@@ -301,7 +301,7 @@ fn expanded(alloc: Global, top: TopDec) -> Result<Option<Dec>, Memory> {
     }
 }
 
-fn behind_datatypes(alloc: Global, unit: &str) -> Result<String, Memory> {
+fn after_datatypes(alloc: Global, unit: &str) -> Result<String, Memory> {
     let mut declarations = parse(alloc, &lex(alloc, unit.as_bytes())?)?.declarations;
     let mut shown = Shown::new(alloc);
     if let Some(top) = declarations.pop() {
@@ -313,9 +313,9 @@ fn behind_datatypes(alloc: Global, unit: &str) -> Result<String, Memory> {
 }
 
 #[test]
-fn types_behind_datatypes(rt: HostRuntime) -> Result<(), Fail> {
+fn types_after_datatypes(rt: HostRuntime) -> Result<(), Fail> {
     let unit = "datatype d = A of u t | B of t withtype 'a t = 'a -> u and u = d";
-    let text = behind_datatypes(rt.alloc(), unit)?;
+    let text = after_datatypes(rt.alloc(), unit)?;
     let expected =
         "1{1datatype d|A of 48<64()d->54()u>|B of 30!()t; 1type 'a t=48<48'a->54()u>; u=64()d; }";
     assert_eq!(rt; text.as_str(), expected);

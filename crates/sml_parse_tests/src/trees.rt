@@ -321,7 +321,7 @@ fn fixities(rt: HostRuntime) -> Result<(), Fail> {
     )
 }
 
-/// Units of a declaration each that isn't of the piece, with one behind it that is.
+/// Units of a declaration each that isn't of the piece, with one after it that is.
 fn expect_outside(rt: &(impl Abort + AllocGlobal), units: &[&str]) -> Result<(), Fail> {
     for unit in units {
         let text = read_as(rt.alloc(), unit.as_bytes())?;

@@ -1,4 +1,4 @@
--- What a sequence of atomic patterns stands for: the pattern that its steps build on a stack, with the types behind it.
+-- What a sequence of atomic patterns stands for: the pattern that its steps build on a stack, with the types after it.
 -- Each atomic pattern is used once. What no right sequence leads to (an operand that lacks, a function that is no
 -- identifier, several patterns at the end) stands for a pattern with all the parts that there are.
 use Rattle.std.specs.Prelude.{ℕ, Bool, false, if◌then◌else◌, nat_eq, List, [], ◌∷◌, get_or, set, drop, Option, Some}
@@ -81,7 +81,7 @@ abbrev pub pat_of_steps : List Step → Building → Pat Place
 pat_of_steps [] b = joined (operand 0 b) (drop 1 b.stack)
 pat_of_steps (s ∷ ss) b = pat_of_steps ss (step s b)
 
--- a pattern and the types behind its colons
+-- a pattern and the types after its colons
 abbrev pub typed_by : Place → Pat Place → Tys Place → Pat Place
 typed_by p q no_ty = q
 typed_by p q (and_ty t ts) = typed_by p (pat_typed p q t) ts

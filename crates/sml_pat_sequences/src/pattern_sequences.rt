@@ -232,7 +232,7 @@ fn typed(alloc: Global, place: Place, pat: LowPat, ty: LowTy) -> Result<LowPat, 
     Ok(LowPat { tree, height })
 }
 
-/// A pattern and the types behind its colons.
+/// A pattern and the types after its colons.
 fn typed_by(alloc: Global, place: Place, pat: LowPat, types: LowTys) -> Result<LowPat, Failure>
     ensures { GivesPat (typed_by place (low_pat_of pat) (tys_of (map (λ t. ty_of t.tree) (reverse types.trees.items)))) result }
 {
@@ -257,7 +257,7 @@ fn shaped(expander: &Expander, shape: Option<&Shape>, atoms: LowPats) -> Result<
     }
 }
 
-/// The pattern that a sequence of atomic patterns stands for, with the types behind its colons.
+/// The pattern that a sequence of atomic patterns stands for, with the types after its colons.
 pub fn sequence(
     expander: &Expander,
     shape: Option<&Shape>,

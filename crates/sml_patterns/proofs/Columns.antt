@@ -10,7 +10,7 @@ use Rattle.std.proofs.Math.ListN.{drop_of_length-le}
 use Rattle.sml_patterns.specs.declared.keys.Key as P
 use Rattle.sml_patterns.specs.CodeColumns.{Key, same, kept, keyless, grouped, key_in, same_key, items_in}
 
--- those of the groups from this one on, each but the last with the one behind it that has no key
+-- those of the groups from this one on, each but the last with the one after it that has no key
 abbrev pub gathered : (ℕ → List ℕ) → List ℕ → ℕ → List ℕ
 gathered L [] g = L g
 gathered L (o ∷ os) g = L g ++ (o ∷ gathered L os (suc g))
@@ -32,7 +32,7 @@ more_eq g j h = go (g == j) refl
     go true e = absurd (let f = eqb-true g j e in omega (arith, h, f))
     go false e = e
 
--- behind fewer stands none
+-- after fewer stands none
 grouped_before : (n g : ℕ) (ks : List (Option Key)) (k : Key) (j : ℕ) → j < g → grouped n g ks k j ≡ []
 grouped_before n g [] k j h = refl
 grouped_before n g (None ∷ ks) k j h = grouped_before (suc n) (suc g) ks k j (omega (arith, h))

@@ -152,12 +152,12 @@ module _ (N : LongId → Meaning) where
   no_rules [] h = refl
   no_rules (r ∷ rs) h = absurd h
 
-  nothing_behind : (xs : List Rule) → xs ++ [] ≡ xs
-  nothing_behind [] = refl
-  nothing_behind (x ∷ xs) = ap (λ l. x ∷ l) (nothing_behind xs)
+  nothing_after : (xs : List Rule) → xs ++ [] ≡ xs
+  nothing_after [] = refl
+  nothing_after (x ∷ xs) = ap (λ l. x ∷ l) (nothing_after xs)
 
   pub rules_end : (ps : List (Place × Bor Pat)) (k : ℕ) (rules : List Judged) → length ps ≤ k → ReadsRules ps k rules → (rs : List Rule) → AreRules N ps rs → rules_of rules ≡ rs
   rules_end ps k rules h reads rs g =
       let s = reads rs g in
       let e = no_rules s.0 (subst (λ xs. AreRules N xs s.0) (drop_all k ps h) s.1) in
-      sym (s.2 ∙ ap (λ xs. rules_of rules ++ xs) e ∙ nothing_behind (rules_of rules))
+      sym (s.2 ∙ ap (λ xs. rules_of rules ++ xs) e ∙ nothing_after (rules_of rules))

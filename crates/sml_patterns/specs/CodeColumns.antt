@@ -61,7 +61,7 @@ keyless n [] = []
 keyless n (None ∷ ks) = n ∷ keyless (suc n) ks
 keyless n (Some a ∷ ks) = keyless (suc n) ks
 
--- of those that have this key and stand behind so many that have none; behind as many stands the first one
+-- of those that have this key and stand after so many that have none; after as many stands the first one
 abbrev pub grouped : ℕ → ℕ → List (Option Key) → Key → ℕ → List ℕ
 grouped n g [] k group = []
 grouped n g (None ∷ ks) k group = grouped (suc n) (suc g) ks k group

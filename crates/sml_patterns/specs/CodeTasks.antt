@@ -59,7 +59,7 @@ near p (q ∷ qs) = cond (is_apart p q) (near p qs) (q ∷ near p qs)
 abbrev pub is_free : List Plain → Plain → Bool
 is_free above p = is_useful (singles (near p above)) (p ∷ [])
 
--- the warnings that the search gives: of the rules behind the first ones, and of them all
+-- the warnings that the search gives: of the rules after the first ones, and of them all
 abbrev pub redundant_from : List Rule → List Rule → List Warning
 redundant_from above [] = []
 redundant_from above (r ∷ rs) =

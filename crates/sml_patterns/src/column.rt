@@ -8,7 +8,7 @@ ghost use Rattle.sml_narrowing.specs.Views.{plain_of};
 ghost use Rattle.sml_patterns.specs.CodeColumns as spec;
 ghost use Rattle.sml_patterns.specs.CodeColumns.{key_in, key_at, kept, grouped, label_of, Holds};
 
-use crate::keys::{Key, behind, key_of};
+use crate::keys::{Key, after, key_of};
 use indexmap::IndexMap;
 use sml_lex::fault::Memory;
 use sml_narrowing::narrow::field;
@@ -17,7 +17,7 @@ use sml_tree::bare::Ident;
 use std::alloc::Global;
 
 /// What stands at a label of rows, or the patterns themselves where there is no label. Of the patterns noted, those with one
-/// key that stand behind as many without a key are kept together, and those without a key in a list of their own.
+/// key that stand after as many without a key are kept together, and those without a key in a list of their own.
 #[derive(Drop)]
 pub struct Column {
     alloc: Global,
@@ -83,11 +83,11 @@ impl Column {
         Ok(())
     }
 
-    /// The indices of the patterns with this key that stand behind so many without one.
+    /// The indices of the patterns with this key that stand after so many without one.
     fn same<'a>(&'a self, key: &Key, group: usize) -> Result<&'a [usize], Memory>
         ensures { (keys : List (Option spec.Key)) → Holds keys self.now → IfOk result (λ indices. indices.now ≡ grouped 0 0 keys (key_in key.now) group) }
     {
-        let key = behind(self.alloc, key, group)?;
+        let key = after(self.alloc, key, group)?;
         match self.known.get(&key) {
             Some(indices) => Ok(indices.as_slice()),
             None => Ok(&[]),

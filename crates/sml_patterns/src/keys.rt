@@ -11,7 +11,7 @@ use sml_narrowing::pattern::{Pattern, Value};
 use std::alloc::Global;
 
 /// The outermost constructor or value of a pattern: of which kind it is, and its number, its integer or its bytes. In a
-/// column it is also kept behind how many patterns without a key it stands.
+/// column it is also kept after how many patterns without a key it stands.
 #[derive(PartialEq, Eq, Hash, Drop)]
 pub struct Key {
     pub group: usize,
@@ -75,8 +75,8 @@ pub fn key_of(alloc: Global, pattern: &Pattern) -> Result<Option<Key>, Memory>
     }
 }
 
-/// The key behind so many patterns without one.
-pub fn behind(alloc: Global, key: &Key, group: usize) -> Result<Key, Memory>
+/// The key after so many patterns without one.
+pub fn after(alloc: Global, key: &Key, group: usize) -> Result<Key, Memory>
     ensures { IfOk result (λ new. (key_in new ≡ key_in key.now) × (new.group ≡ group)) }
 {
     Ok(Key {

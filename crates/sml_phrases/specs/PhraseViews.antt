@@ -28,14 +28,14 @@ use Rattle.sml_phrases.specs.declared.phrase.Failure.TheVariants.{TooHigh, Memor
 use Rattle.sml_phrases.specs.declared.stack.Held.{Held}
 use Rattle.sml_phrases.specs.declared.stack.Stack.{Stack}
 
--- what stands behind `where type`, and a constraint
+-- what stands after `where type`, and a constraint
 abbrev pub low_where_of : LowWhere → WhereType Place
 low_where_of w = record { variables = names_of w.variables.items; constructor = long_name_of w.constructor; ty = ty_of w.ty.tree }
 
 abbrev pub low_constraint_of : LowConstraint → Constraint Place
 low_constraint_of c = record { ascription = c.ascription; signature = sig_of c.signature.tree }
 
--- what stands behind an expression's first atomic one
+-- what stands after an expression's first atomic one
 abbrev pub rest_of : Rest → Phrase
 rest_of rest = of_rest (exps_of (map (λ e. exp_of e.tree) (reverse rest.exps.trees.items))) (tys_of (map (λ t. ty_of t.tree) (reverse rest.tys.trees.items))) (option_map (λ e. exp_of e.tree) rest.conjunct) (option_map (λ e. exp_of e.tree) rest.disjunct) (option_map (λ rs. rules_of (map rule_of (reverse rs.trees.items))) rest.rules)
 
@@ -116,7 +116,7 @@ held_in (h ∷ hs) = phrase_of h.phrase ∷ (replicate h.below nothing ++ held_i
 abbrev pub seen : Stack → List Phrase
 seen stack = replicate stack.nothings nothing ++ held_in (reverse stack.held.items)
 
--- whether an expression comes first, and nothing behind it
+-- whether an expression comes first, and nothing after it
 abbrev pub is_exp : Phrase → Bool
 is_exp (of_exp e) = true
 is_exp _ = false

@@ -33,21 +33,21 @@ pub data Phrase : Type 0 where
   of_tys : Tys Place → Phrase
   -- fields of a record type
   of_ty_fields : TyFields Place → Phrase
-  -- types behind the first one in round brackets, and the type constructor behind these
+  -- types after the first one in round brackets, and the type constructor after these
   of_arguments : Tys Place → LongName Place → Phrase
   -- a pattern
   of_pat : Pat Place → Phrase
   -- patterns
   of_pats : Pats Place → Phrase
-  -- fields of a record pattern, and whether `...` stands behind them
+  -- fields of a record pattern, and whether `...` stands after them
   of_pat_fields : PatFields Place → Bool → Phrase
-  -- atomic patterns, and the types behind colons that follow them
+  -- atomic patterns, and the types after colons that follow them
   of_atoms : Pats Place → Tys Place → Phrase
-  -- a type behind `:` and a pattern behind `as`, if they are there
+  -- a type after `:` and a pattern after `as`, if they are there
   of_layer : Option (Ty Place) → Option (Pat Place) → Phrase
-  -- what stands behind `op`: an identifier, atomic patterns, and types behind colons
+  -- what stands after `op`: an identifier, atomic patterns, and types after colons
   of_op_atoms : LongName Place → Pats Place → Tys Place → Phrase
-  -- what stands behind `op`: an identifier, perhaps a type, and a pattern behind `as`
+  -- what stands after `op`: an identifier, perhaps a type, and a pattern after `as`
   of_op_layer : Name Place → Option (Ty Place) → Option (Pat Place) → Phrase
   -- an expression
   of_exp : Exp Place → Phrase
@@ -59,8 +59,8 @@ pub data Phrase : Type 0 where
   of_fields : Fields Place → Phrase
   -- rules of a match
   of_rules : Rules Place → Phrase
-  -- what stands behind an expression's first atomic one: further atomic ones, the types behind these, the right
-  -- operands of `andalso` and of `orelse`, and the match behind `handle`
+  -- what stands after an expression's first atomic one: further atomic ones, the types after these, the right
+  -- operands of `andalso` and of `orelse`, and the match after `handle`
   of_rest : Exps Place → Tys Place → Option (Exp Place) → Option (Exp Place) → Option (Rules Place) → Phrase
   -- a declaration of the core
   of_dec : Dec Place → Phrase
@@ -70,18 +70,18 @@ pub data Phrase : Type 0 where
   of_bind : ValBind Place → Phrase
   -- value bindings
   of_binds : ValBinds Place → Phrase
-  -- explicit type variables, the bindings before the first `rec`, and those behind it
+  -- explicit type variables, the bindings before the first `rec`, and those after it
   of_values : List (Name Place) → ValBinds Place → ValBinds Place → Phrase
-  -- what stands behind `val (`: the patterns in the brackets, the atomic patterns and types behind them, the right
+  -- what stands after `val (`: the patterns in the brackets, the atomic patterns and types after them, the right
   -- side, and further bindings without and with `rec`
   of_round_values : Pats Place → Pats Place → Tys Place → Exp Place → ValBinds Place → ValBinds Place → Phrase
   -- explicit type variables, and functions
   of_functions : List (Name Place) → ValBinds Place → Phrase
-  -- a clause behind its first atomic pattern: the other patterns, perhaps a type, and the right side
+  -- a clause after its first atomic pattern: the other patterns, perhaps a type, and the right side
   of_right_side : Pats Place → Option (Ty Place) → Exp Place → Phrase
   -- clauses of a function
   of_clauses : List (Clause Place) → Phrase
-  -- what stands behind `fun (`: the patterns in the brackets, the rest of the first clause, the other clauses, and
+  -- what stands after `fun (`: the patterns in the brackets, the rest of the first clause, the other clauses, and
   -- further functions
   of_round_functions : Pats Place → Pats Place → Option (Ty Place) → Exp Place → List (Clause Place) → ValBinds Place → Phrase
   -- a type binding: type variables, a type constructor and its right side
@@ -92,9 +92,9 @@ pub data Phrase : Type 0 where
   of_con_bind : Name Place → Option (Ty Place) → Phrase
   -- constructors or exceptions, with the types of their arguments
   of_con_binds : List (ConBind Place) → Phrase
-  -- datatype bindings, and the type bindings behind `withtype`
+  -- datatype bindings, and the type bindings after `withtype`
   of_datatypes : List (DatBind Place) → List (TypBind Place) → Phrase
-  -- the constructors of a datatype, further datatype bindings, and the type bindings behind `withtype`
+  -- the constructors of a datatype, further datatype bindings, and the type bindings after `withtype`
   of_constructors : List (ConBind Place) → List (DatBind Place) → List (TypBind Place) → Phrase
   -- a type constructor, and the one that it copies
   of_copy : Name Place → LongName Place → Phrase
@@ -102,9 +102,9 @@ pub data Phrase : Type 0 where
   of_exn_binds : List (ExnBind Place) → Phrase
   -- a signature expression
   of_sig : SigExp Place → Phrase
-  -- what stands behind `where`: type variables, a type constructor and a type
+  -- what stands after `where`: type variables, a type constructor and a type
   of_where : List (Name Place) → LongName Place → Ty Place → Phrase
-  -- what stands behind `where type`, one after the other
+  -- what stands after `where type`, one after the other
   of_wheres : List (WhereType Place) → Phrase
   -- a signature binding to which more may belong: its identifier and its right side
   of_begun_sig_bind : Name Place → SigExp Place → Phrase
@@ -132,7 +132,7 @@ pub data Phrase : Type 0 where
   of_str_dec : StrDec Place → Phrase
   -- structure-level declarations
   of_str_decs : StrDecs Place → Phrase
-  -- what belongs to the signature expression before it, and the constraints behind that
+  -- what belongs to the signature expression before it, and the constraints after that
   of_constraints : List (WhereType Place) → List (Constraint Place) → Phrase
   -- the same, and further structure bindings
   of_str_binds : List (WhereType Place) → List (Constraint Place) → StrBinds Place → Phrase
@@ -141,7 +141,7 @@ pub data Phrase : Type 0 where
   of_begun_str_bind : Name Place → List (Constraint Place) → StrExp Place → Phrase
   -- the argument of a functor, and its signature expression
   of_functor_argument : Name Place → SigExp Place → Phrase
-  -- what belongs to the signature expression before it, the constraints behind that, and further functor bindings
+  -- what belongs to the signature expression before it, the constraints after that, and further functor bindings
   of_fun_binds : List (WhereType Place) → List (Constraint Place) → List (FunBind Place) → Phrase
   -- a functor binding to which constraints may still belong: its identifier, its argument with the signature
   -- expression, its own constraint if it has one, and its right side
@@ -314,7 +314,7 @@ abbrev pub dat_binds_in : Phrase → List (DatBind Place)
 dat_binds_in (of_datatypes ds ts) = ds
 dat_binds_in _ = []
 
--- what stands behind `where`
+-- what stands after `where`
 abbrev pub where_in : Phrase → WhereType Place
 where_in (of_where xs c t) = record { variables = xs; constructor = c; ty = t }
 where_in _ = record { variables = []; constructor = record { place = first_place; id = record { path = []; last = [] } }; ty = ty_tuple first_place no_ty }
@@ -337,7 +337,7 @@ abbrev pub str_descs_in : Phrase → StrDescs Place
 str_descs_in (of_str_descs ws ds) = ds
 str_descs_in _ = no_str_desc
 
--- what belongs to the signature expression before it, and the constraints behind that
+-- what belongs to the signature expression before it, and the constraints after that
 abbrev pub constraint_wheres_in : Phrase → List (WhereType Place)
 constraint_wheres_in (of_constraints ws cs) = ws
 constraint_wheres_in _ = []
@@ -372,7 +372,7 @@ abbrev pub fun_binds_in : Phrase → List (FunBind Place)
 fun_binds_in (of_fun_binds ws cs bs) = bs
 fun_binds_in _ = []
 
--- the first of these, and one behind some others
+-- the first of these, and one after some others
 abbrev pub first : List Phrase → Phrase
 first [] = nothing
 first (x ∷ xs) = x

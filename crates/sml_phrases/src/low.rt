@@ -205,7 +205,7 @@ pub struct LowSig {
     ghost low: { height ≤ 4000 },
 }
 
-/// What stands behind `where type`.
+/// What stands after `where type`.
 #[derive(Drop)]
 pub struct LowWhere {
     pub variables: Vec<Name>,
@@ -276,7 +276,7 @@ pub struct LowStrDecs {
     ghost low: { height ≤ 4000 },
 }
 
-/// A signature expression behind `:` or `:>`.
+/// A signature expression after `:` or `:>`.
 #[derive(Drop)]
 pub struct LowConstraint {
     pub ascription: Ascription,

@@ -84,7 +84,7 @@ pub enum TypePhrase {
     Tys(LowTys),
     /// Fields of a record type.
     TyFields(LowTyFields),
-    /// Types behind the first one in round brackets, and the type constructor behind these.
+    /// Types after the first one in round brackets, and the type constructor after these.
     Arguments(LowTys, LongIdent),
 }
 
@@ -94,19 +94,19 @@ pub enum PatternPhrase {
     Pat(LowPat),
     /// Patterns.
     Pats(LowPats),
-    /// Fields of a record pattern, and whether `...` stands behind them.
+    /// Fields of a record pattern, and whether `...` stands after them.
     PatFields(LowPatFields, bool),
-    /// Atomic patterns, and the types behind colons that follow them.
+    /// Atomic patterns, and the types after colons that follow them.
     Atoms(LowPats, LowTys),
-    /// A type behind `:` and a pattern behind `as`, if they are there.
+    /// A type after `:` and a pattern after `as`, if they are there.
     Layer(Box<Layer>),
-    /// What stands behind `op`: an identifier, atomic patterns, and types behind colons.
+    /// What stands after `op`: an identifier, atomic patterns, and types after colons.
     OpAtoms(LongIdent, LowPats, LowTys),
-    /// What stands behind `op`: an identifier, perhaps a type, and a pattern behind `as`.
+    /// What stands after `op`: an identifier, perhaps a type, and a pattern after `as`.
     OpLayer(Name, Box<Layer>),
 }
 
-/// A type behind `:` and a pattern behind `as`, if they are there.
+/// A type after `:` and a pattern after `as`, if they are there.
 #[derive(Drop)]
 pub struct Layer {
     pub ty: Option<LowTy>,
@@ -125,12 +125,12 @@ pub enum ExpressionPhrase {
     Fields(LowFields),
     /// Rules of a match.
     Rules(LowRules),
-    /// What stands behind an expression's first atomic one.
+    /// What stands after an expression's first atomic one.
     Rest(Box<Rest>),
 }
 
-/// What stands behind an expression's first atomic one: further atomic ones, the types behind these, the right operands
-/// of `andalso` and of `orelse`, and the match behind `handle`.
+/// What stands after an expression's first atomic one: further atomic ones, the types after these, the right operands
+/// of `andalso` and of `orelse`, and the match after `handle`.
 #[derive(Drop)]
 pub struct Rest {
     pub exps: LowExps,
@@ -150,17 +150,17 @@ pub enum DeclarationPhrase {
     Bind(LowBind),
     /// Value bindings.
     Binds(LowBinds),
-    /// Explicit type variables, the bindings before the first `rec`, and those behind it.
+    /// Explicit type variables, the bindings before the first `rec`, and those after it.
     Values(Vec<Name>, LowBinds, LowBinds),
-    /// What stands behind `val (`.
+    /// What stands after `val (`.
     RoundValues(Box<RoundValues>),
     /// Explicit type variables, and functions.
     Functions(Vec<Name>, LowBinds),
-    /// A clause behind its first atomic pattern: the other patterns, perhaps a type, and the right side.
+    /// A clause after its first atomic pattern: the other patterns, perhaps a type, and the right side.
     RightSide(Box<RightSide>),
     /// Clauses of a function.
     Clauses(LowClauses),
-    /// What stands behind `fun (`: the patterns in the brackets, the rest of the first clause, the other clauses, and further functions.
+    /// What stands after `fun (`: the patterns in the brackets, the rest of the first clause, the other clauses, and further functions.
     RoundFunctions(LowPats, Box<RightSide>, LowClauses, LowBinds),
     /// A type binding: type variables, a type constructor and its right side.
     TypBind(Vec<Name>, Name, LowTy),
@@ -170,9 +170,9 @@ pub enum DeclarationPhrase {
     ConBind(Name, Option<LowTy>),
     /// Constructors or exceptions, with the types of their arguments.
     ConBinds(LowConBinds),
-    /// Datatype bindings, and the type bindings behind `withtype`.
+    /// Datatype bindings, and the type bindings after `withtype`.
     Datatypes(LowDatBinds, LowTypBinds),
-    /// The constructors of a datatype, further datatype bindings, and the type bindings behind `withtype`.
+    /// The constructors of a datatype, further datatype bindings, and the type bindings after `withtype`.
     Constructors(LowConBinds, LowDatBinds, LowTypBinds),
     /// A type constructor, and the one that it copies.
     Copy(Name, LongIdent),
@@ -180,7 +180,7 @@ pub enum DeclarationPhrase {
     ExnBinds(LowExnBinds),
 }
 
-/// What stands behind `val (`: the patterns in the brackets, the atomic patterns and types behind them, the right side,
+/// What stands after `val (`: the patterns in the brackets, the atomic patterns and types after them, the right side,
 /// and further bindings without and with `rec`.
 #[derive(Drop)]
 pub struct RoundValues {
@@ -192,7 +192,7 @@ pub struct RoundValues {
     pub recursive: LowBinds,
 }
 
-/// A clause behind its first atomic pattern: the other patterns, perhaps a type, and the right side.
+/// A clause after its first atomic pattern: the other patterns, perhaps a type, and the right side.
 #[derive(Drop)]
 pub struct RightSide {
     pub pats: LowPats,
@@ -204,9 +204,9 @@ pub struct RightSide {
 pub enum SignaturePhrase {
     /// A signature expression.
     Sig(LowSig),
-    /// What stands behind `where`: type variables, a type constructor and a type.
+    /// What stands after `where`: type variables, a type constructor and a type.
     Where(Vec<Name>, LongIdent, Box<LowTy>),
-    /// What stands behind `where type`, one after the other.
+    /// What stands after `where type`, one after the other.
     Wheres(Vec<LowWhere>),
     /// A signature binding to which more may belong: its identifier and its right side.
     BegunSigBind(Name, LowSig),
@@ -238,7 +238,7 @@ pub enum StructurePhrase {
     StrDec(LowStrDec),
     /// Structure-level declarations.
     StrDecs(LowStrDecs),
-    /// What belongs to the signature expression before it, and the constraints behind that.
+    /// What belongs to the signature expression before it, and the constraints after that.
     Constraints(Vec<LowWhere>, Vec<LowConstraint>),
     /// The same, and further structure bindings.
     StrBinds(Vec<LowWhere>, Vec<LowConstraint>, LowStrBinds),
@@ -246,7 +246,7 @@ pub enum StructurePhrase {
     BegunStrBind(Name, Vec<LowConstraint>, LowStr),
     /// The argument of a functor, and its signature expression.
     FunctorArgument(Name, LowSig),
-    /// What belongs to the signature expression before it, the constraints behind that, and further functor bindings.
+    /// What belongs to the signature expression before it, the constraints after that, and further functor bindings.
     FunBinds(Vec<LowWhere>, Vec<LowConstraint>, LowFunBinds),
     /// A functor binding to which constraints may still belong: its identifier, its argument with the signature expression, its own constraint if it has one, and its right side.
     BegunFunBind(Name, Name, Box<LowSig>, Vec<LowConstraint>, LowStr),

@@ -39,7 +39,7 @@ impl Stack {
     }
 
     /// Takes the word on top off, and leaves the phrase below it where it is.
-    pub fn put_behind_word(&mut self) -> Result<(), Failure>
+    pub fn put_after_word(&mut self) -> Result<(), Failure>
         ensures { Puts (at (seen self.old) 1) 2 (seen self.old) (seen self.new) result }
     {
         self.skip();

@@ -44,16 +44,16 @@ pub record IsEach (R : List Item → Test) (S : Item → Test) : Type 0 where
   pub stop : (x : Item) (xs : List Item) (f : F.Fault Place) → S x (refused f) → R (x ∷ xs) (refused f)
   pub parts : (x : Item) (xs : List Item) → R (x ∷ xs) (accepted tt) → S x (accepted tt) × R xs (accepted tt)
 
-pub behind : (R : List Item → Test) (S : Item → Test) → IsEach R S → (xs ys : List Item) (o : Answer Place (Unit {0})) → R xs (accepted tt) → R ys o → R (xs ++ ys) o
-behind R S e [] ys o h k = k
-behind R S e (x ∷ xs) ys o h k = let p = e.parts x xs h in e.on x (xs ++ ys) o p.0 (behind R S e xs ys o p.1 k)
+pub each_after : (R : List Item → Test) (S : Item → Test) → IsEach R S → (xs ys : List Item) (o : Answer Place (Unit {0})) → R xs (accepted tt) → R ys o → R (xs ++ ys) o
+each_after R S e [] ys o h k = k
+each_after R S e (x ∷ xs) ys o h k = let p = e.parts x xs h in e.on x (xs ++ ys) o p.0 (each_after R S e xs ys o p.1 k)
 
 pub more : (R : List Item → Test) (S : Item → Test) → IsEach R S → (xs : List Item) (x : Item) → R xs (accepted tt) → S x (accepted tt) → R (xs ++ x ∷ []) (accepted tt)
-more R S e xs x h k = behind R S e xs (x ∷ []) (accepted tt) h (e.on x [] (accepted tt) k e.none)
+more R S e xs x h k = each_after R S e xs (x ∷ []) (accepted tt) h (e.on x [] (accepted tt) k e.none)
 
 pub stops_at : (R : List Item → Test) (S : Item → Test) → IsEach R S → (xs : List Item) (x : Item) (ys : List Item) (f : F.Fault Place) → R xs (accepted tt) → S x (refused f)
     → R (xs ++ x ∷ ys) (refused f)
-stops_at R S e xs x ys f h k = behind R S e xs (x ∷ ys) (refused f) h (e.stop x ys f k)
+stops_at R S e xs x ys f h k = each_after R S e xs (x ∷ ys) (refused f) h (e.stop x ys f k)
 
 not_both : {f : F.Fault Place} → yes_answer ≡ refused f → ⊥
 not_both e = cc
@@ -191,7 +191,7 @@ pub entries_more : (ys : Lent) (x : Bor (Rc (Vec ℕ Global) Global)) (s : Bor (
 entries_more ys x s =
     ap schemes_of (map-append deref_pair ys ((x, s) ∷ [])) ∙ map-append (λ e. (ident_of e.0, scheme_of e.1.value)) (map deref_pair ys) ((x.now, s.now) ∷ [])
 
--- all entries: those seen, the one at hand, and those behind it
+-- all entries: those seen, the one at hand, and those after it
 pub entries_split : (all s t u : List (Rc (Vec ℕ Global) Global × Rc Scheme Global)) (ys : Lent) (x : Bor (Rc (Vec ℕ Global) Global)) (σ : Bor (Rc Scheme Global))
     → s ≡ all → s ≡ map deref_pair ys ++ t → t ≡ (x.now, σ.now) ∷ u
     → schemes_of all ≡ schemes_of (map deref_pair ys) ++ (ident_of x.now, scheme_of σ.now.value) ∷ schemes_of u

@@ -63,7 +63,7 @@ Agrees found args = (k : ℕ) (t : O.MlType Name) → found k ≡ Some t → arg
 abbrev pub AreOpenIn : Found → Type 0
 AreOpenIn found = (k : ℕ) (t : O.MlType Name) → found k ≡ Some t → IsOpen t
 
--- Whether a body becomes the type by the types found before and more: then those found behind it are what it asks.
+-- Whether a body becomes the type by the types found before and more: then those found after it are what it asks.
 abbrev pub Fits : Found → Found → O.MlType Name → O.MlType Name → Bool → Type 0
 Fits old new body t true =
     ((args : ℕ → O.MlType Name) → Agrees new args ↔ (Agrees old args × (t ≡ replace_type args free body))) × (AreOpenIn old → IsOpen t → AreOpenIn new)

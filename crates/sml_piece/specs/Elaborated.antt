@@ -112,7 +112,7 @@ pub record IsBasisOf (p : PB.Basis) (B : Basis Name) : Type 0 where
   pub below : Every (IsBelow (maker_of p.unit) (length p.names.items)) (names_basis B)
   pub opened : OpenEnv B.body
 
--- what a declaration gives belongs to the basis' unit, and its names have the numbers behind those of the basis
+-- what a declaration gives belongs to the basis' unit, and its names have the numbers after those of the basis
 pub record IsOwnBasis (p own : PB.Basis) : Type 0 where
   pub unit_is : own.unit ≡ p.unit
   pub own_below : Every (IsBelow (maker_of p.unit) (length p.names.items + length own.names.items)) (names_sig (sig_of own))

@@ -135,7 +135,7 @@ abbrev pub binds_piece : {Q : Type 0} → Q → E.ValBinds Q → Option (CoreDec
 binds_piece p (E.and_bind b E.no_bind) = bind_piece p b
 binds_piece p bs = None
 
--- without type variables, and with no binding behind `rec`
+-- without type variables, and with no binding after `rec`
 abbrev pub val_piece : {A Q : Type 0} → Q → List A → E.ValBinds Q → E.ValBinds Q → Option (CoreDec Q)
 val_piece p [] bs E.no_bind = binds_piece p bs
 val_piece p [] bs (E.and_bind r rs) = None

@@ -155,7 +155,7 @@ fn one_bind_piece(
     }
 }
 
-/// A value declaration without type variables, with one binding and none behind `rec`.
+/// A value declaration without type variables, with one binding and none after `rec`.
 pub fn val_piece(
     alloc: Global,
     place: Place,

@@ -14,7 +14,7 @@ use Rattle.sml_projects.specs.ProjectFiles.{UnitLine}
 use Rattle.sml_projects.specs.Orders.{IsOrder, IsNext, MayCome, HasUnknown, IsOrderFault, IsNeedFault, IsFirstLeft, HaveOwnNames, IsMarked, AreWaiting, Stands, is_marked, unit_at}
 use Rattle.sml_projects.proofs.Needs.{marked-within, ones, waits-kept}
 
--- Each unit taken is the next behind those before it, and their marks and what the others wait for are kept.
+-- Each unit taken is the next after those before it, and their marks and what the others wait for are kept.
 pub record Taking (us : List UnitLine) (order : List ℕ) (marks : List Bool) (waiting : List (List ℕ)) : Type 0 where
   pub stands : Stands us order marks waiting
   pub next : (i : ℕ) → i < length order → IsNext us (take i order) (get_or order i 0)

@@ -59,15 +59,15 @@ no_words [] h = refl
 no_words (w ∷ ws) h = absurd (omega arith)
 
 -- what a line means whose first word is no remark
-abbrev meaning_behind : List ℕ → List (List ℕ) → Meaning
-meaning_behind w ws = cond (bytes_eq w (codes "unit")) (listing ws) bad_form
+abbrev meaning_after : List ℕ → List (List ℕ) → Meaning
+meaning_after w ws = cond (bytes_eq w (codes "unit")) (listing ws) bad_form
 
 remark : (items : List (Bor (List ℕ))) → (length items ≡ 0 → ⊥) → is_remark (word_at items 0) ≡ true → meaning_of_words (bytes_in items) ≡ passed_over
 remark [] h r = absurd (h refl)
-remark (w ∷ ws) h r = λ i. cond (r i) passed_over (meaning_behind w.now (bytes_in ws))
+remark (w ∷ ws) h r = λ i. cond (r i) passed_over (meaning_after w.now (bytes_in ws))
 
-unremarked : (w : List ℕ) (ws : List (List ℕ)) → is_remark w ≡ false → meaning_of_words (w ∷ ws) ≡ meaning_behind w ws
-unremarked w ws r = λ i. cond (r i) passed_over (meaning_behind w ws)
+unremarked : (w : List ℕ) (ws : List (List ℕ)) → is_remark w ≡ false → meaning_of_words (w ∷ ws) ≡ meaning_after w ws
+unremarked w ws r = λ i. cond (r i) passed_over (meaning_after w ws)
 
 too_much : (us : List UnitLine) (u : UnitLine) → is_too_much us u ≡ true → line_fault us (lists u) ≡ Some O4
 too_much us u e = λ i. cond (e i) (Some O4) (cond (is_repeated us u) (Some O3) None)
@@ -136,7 +136,7 @@ pub line_of_bad_words : (line : List ℕ) (items : List (Bor (List ℕ))) → ma
     → listing_tests (word_at items 0) (word_at items 1) (word_at items 2) (bytes_in (drop 3 items)) ≡ false → (us : List UnitLine) → line_fault us (meaning line) ≡ Some O4
 line_of_bad_words line items e r n t us = ap (line_fault us) (means_listing line items e n) ∙ bad_words us (word_at items 0) (word_at items 1) (word_at items 2) (bytes_in (drop 3 items)) r t
 
--- behind as many units as there may be
+-- after as many units as there may be
 pub line_too_late : (line : List ℕ) (items : List (Bor (List ℕ))) → map (λ w. w.now) items ≡ words_of line → is_remark (word_at items 0) ≡ false → 3 ≤ length items
     → (us : List UnitLine) → 4096 ≤ length us → line_fault us (meaning line) ≡ Some O4
 line_too_late line items e r n us h =
@@ -243,6 +243,6 @@ pub texts-more : (items : List (Bor (List ℕ))) (i : ℕ) (made new : List (Str
     → new ≡ made ++ s ∷ [] → map string_bytes new ≡ bytes_in (take (i + 1) items)
 texts-more items i made new s h m is e = ap (map string_bytes) e ∙ map-append string_bytes made (s ∷ []) ∙ (λ j. m j ++ is j ∷ []) ∙ sym (more_bytes items i h)
 
--- what is behind a listing's first words
+-- what is after a listing's first words
 pub rest_words : (items : List (Bor (List ℕ))) → take (length items - 3) (drop 3 items) ≡ drop 3 items
 rest_words items = take_all (length items - 3) (drop 3 items) (omega (arith, length-drop 3 items))

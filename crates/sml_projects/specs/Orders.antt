@@ -13,7 +13,7 @@ use Rattle.sml_projects.specs.ProjectFiles.{UnitLine}
 abbrev pub unit_at : List UnitLine → ℕ → UnitLine
 unit_at us k = slice_index_or us k (record { name = []; file = []; needs = [] })
 
--- The unit at k may come behind the units taken, all by their places from 0: each of its needs names one of these.
+-- The unit at k may come after the units taken, all by their places from 0: each of its needs names one of these.
 pub record MayCome (us : List UnitLine) (taken : List ℕ) (k : ℕ) : Type 0 where
   pub listed : k < length us
   pub left : ¬ (Contains taken k)
@@ -24,7 +24,7 @@ pub record IsNext (us : List UnitLine) (taken : List ℕ) (k : ℕ) : Type 0 whe
   pub may : MayCome us taken k
   pub earliest : (j : ℕ) → j < k → ¬ (MayCome us taken j)
 
--- Each unit of the order is the next behind those before it, and none is left out.
+-- Each unit of the order is the next after those before it, and none is left out.
 pub record IsOrder (us : List UnitLine) (order : List ℕ) : Type 0 where
   pub next : (i : ℕ) → i < length order → IsNext us (take i order) (slice_index_or order i 0)
   pub whole : length order ≡ length us
@@ -83,7 +83,7 @@ pub record IsUnknownUnit (us : List UnitLine) (lines : List ℕ) (f : ProjectFau
   pub first : (j : ℕ) → j < at → ¬ (HasUnknown us j)
   pub fault : f ≡ record { code = O1; line = slice_index_or lines at 0 }
 
--- Each unit taken is the next behind those before it, none may come behind them, and O2 stands at the earliest that is left.
+-- Each unit taken is the next after those before it, none may come after them, and O2 stands at the earliest that is left.
 pub record IsCycle (us : List UnitLine) (lines : List ℕ) (f : ProjectFault) : Type 0 where
   pub taken : List ℕ
   pub next : (i : ℕ) → i < length taken → IsNext us (take i taken) (slice_index_or taken i 0)

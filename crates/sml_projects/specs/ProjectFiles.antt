@@ -65,7 +65,7 @@ pub data Meaning : Type 0 where
   lists : UnitLine → Meaning
   bad_form : Meaning
 
--- the words behind `unit`: NAME FILE NEED ..
+-- the words after `unit`: NAME FILE NEED ..
 abbrev pub listing : List (List ℕ) → Meaning
 listing [] = bad_form
 listing (name ∷ []) = bad_form
@@ -108,7 +108,7 @@ is_too_much us u = nat_le most_units (length us) || has_repeats u.needs
 abbrev pub is_repeated : List UnitLine → UnitLine → Bool
 is_repeated us u = list_any (λ v. bytes_eq v.name u.name) us
 
--- the fault of a line behind lines that list these units; O4 comes before O3
+-- the fault of a line after lines that list these units; O4 comes before O3
 abbrev pub line_fault : List UnitLine → Meaning → Option ProjectCode
 line_fault us passed_over = None
 line_fault us (lists u) = cond (is_too_much us u) (Some O4) (cond (is_repeated us u) (Some O3) None)
@@ -152,7 +152,7 @@ IsAnswerTo bytes (Ok m) = IsManifestOf bytes m
 IsAnswerTo bytes (Err (Fault f)) = IsFault bytes f
 IsAnswerTo bytes (Err Memory) = Unit {0}
 
--- What the code makes of one line behind so many units. No public contract rests on it.
+-- What the code makes of one line after so many units. No public contract rests on it.
 unfoldable pub LineGives : ℕ → List ℕ → Line → Type 0
 LineGives listed line PassedOver = meaning line ≡ passed_over
 LineGives listed line (Listed u) = (meaning line ≡ lists (record { name = string_bytes u.name; file = string_bytes u.file; needs = map string_bytes u.needs.items })) × (listed < most_units) × (has_repeats (map string_bytes u.needs.items) ≡ false)

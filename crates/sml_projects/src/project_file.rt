@@ -16,7 +16,7 @@ const MOST_BYTES: usize = 1_048_576;
 /// The longest name of a unit.
 const LONGEST_NAME: usize = 64;
 
-/// What a line gives behind the lines before it.
+/// What a line gives after the lines before it.
 #[derive(Drop)]
 enum Line {
     PassedOver,
@@ -99,7 +99,7 @@ fn without_return(line: &[u8]) -> &[u8]
     line
 }
 
-/// Reads a line behind so many units.
+/// Reads a line after so many units.
 fn read_line(alloc: Global, line: &[u8], listed: usize) -> Result<Line, Memory>
     ensures { IfOk result (LineGives listed line.now) }
 {

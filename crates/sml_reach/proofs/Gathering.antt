@@ -1,4 +1,4 @@
--- One outcome behind others.
+-- One outcome after others.
 use Rattle.std.proofs.Common.{◌≡◌, ℕ, List, [], ◌∷◌, ◌++◌, Option, Some, None, map, refl, sym, ap, ◌∙◌, subst, append-nil}
 use Rattle.std.proofs.lemmas.List.{map-append}
 use Rattle.std.specs.List.{cons_option}
@@ -143,7 +143,7 @@ fails_gathered os g m misfits o e f h =
     subst (λ o. AreDeclared ds g.begun fs (declarations_in (os ++ outcome_of o ∷ [])) × (misfits ≡ misfits_in (os ++ outcome_of o ∷ []))) (sym e)
     (subst (AreDeclared ds g.begun fs) (sym (quiet os (fails m) tt)) h.0, f ∙ ap (λ ms. ms ++ m ∷ []) h.1 ∙ sym (misfits_more os (fails m)))
 
--- a declaration begins behind those that have ended
+-- a declaration begins after those that have ended
 
 pub begun_gathered : (os : List Outcome) (t : ℕ) (ds : List Fitted) (fits : List F.Fit) (misfits : List Misfit) → ds ≡ declarations_in os → fits ≡ [] → misfits ≡ misfits_in os
     → (declarations_in (os ++ declares t ∷ []) ≡ ds ++ record { begun = t; fits = map fit_of fits } ∷ []) × (misfits ≡ misfits_in (os ++ declares t ∷ []))

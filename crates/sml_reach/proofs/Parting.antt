@@ -27,7 +27,7 @@ length-starts_of n [] = refl
 length-starts_of n (Leaf ∷ nodes) = ap suc (length-starts_of (suc n) nodes)
 length-starts_of n (Inner rule ∷ nodes) = ap suc (length-starts_of n nodes)
 
--- an element before those behind it
+-- an element before those after it
 pub one_before : {A : Type 0} (xs : List A) (i : ℕ) (d x : A) → 0 < i → i ≤ length xs → get_or xs (i - 1) d ≡ x → drop (i - 1) xs ≡ x ∷ drop i xs
 one_before xs i d x some within e =
     drop_more xs (i - 1) d (omega (arith, some, within))

@@ -8,9 +8,9 @@ use Rattle.std.proofs.lemmas.List.{take_all}
 use Rattle.sml_tree.specs.Trees.{Id, LongId}
 use Rattle.sml_reach.specs.Idents.{long_of_parts, long_id}
 
--- a long identifier, behind some structures
-abbrev pub behind : List Id → LongId → LongId
-behind path long = record { path = path ++ long.path; last = long.last }
+-- a long identifier, after some structures
+abbrev pub after : List Id → LongId → LongId
+after path long = record { path = path ++ long.path; last = long.last }
 
 abbrev is_dot : ℕ → Bool
 is_dot b = eqb b 46
@@ -48,16 +48,16 @@ undivided (x ∷ xs) h = by_test (is_dot x) refl (undivided xs)
         let z : position_or_len is_dot (x ∷ xs) ≡ 1 + position_or_len is_dot xs = cond-true _ _ _ (ap not q) in
         slice_split-cons_no is_dot x xs q ∙ ap (onto_first x) (r (omega (arith, h, z)))
 
-behind_more : (first : Id) (parts : List Id) → 0 < length parts → long_of_parts (first ∷ parts) ≡ behind (first ∷ []) (long_of_parts parts)
-behind_more first [] h = absurd (omega (arith, h))
-behind_more first (second ∷ parts) h = refl
+after_more : (first : Id) (parts : List Id) → 0 < length parts → long_of_parts (first ∷ parts) ≡ after (first ∷ []) (long_of_parts parts)
+after_more first [] h = absurd (omega (arith, h))
+after_more first (second ∷ parts) h = refl
 
-pub long_id_more : (xs : List ℕ) (i : ℕ) → Some i ≡ position is_dot xs → long_id xs ≡ behind (take i xs ∷ []) (long_id (drop (i + 1) xs))
+pub long_id_more : (xs : List ℕ) (i : ℕ) → Some i ≡ position is_dot xs → long_id xs ≡ after (take i xs ∷ []) (long_id (drop (i + 1) xs))
 long_id_more xs i e =
     let f = found_at xs i e in
     ap long_of_parts (slice_split_first is_dot xs 0 f.0)
     ∙ ap (λ k. long_of_parts (take k xs ∷ slice_split is_dot (drop (k + 1) xs))) (sym f.1)
-    ∙ behind_more (take i xs) (slice_split is_dot (drop (i + 1) xs)) (omega (arith, length-slice_split is_dot (drop (i + 1) xs)))
+    ∙ after_more (take i xs) (slice_split is_dot (drop (i + 1) xs)) (omega (arith, length-slice_split is_dot (drop (i + 1) xs)))
 
 pub long_id_last : (xs : List ℕ) → None ≡ position is_dot xs → long_id xs ≡ record { path = []; last = xs }
 long_id_last xs e = ap long_of_parts (undivided xs (not_found xs e))
@@ -66,16 +66,16 @@ map_more : {A B : Type 0} (f : A → B) (xs : List A) (x : A) → map f (xs ++ x
 map_more f [] x = refl
 map_more f (y ∷ ys) x = ap (λ z. f y ∷ z) (map_more f ys x)
 
-pub cut_more : {A : Type 0} (f : A → Id) (old new : List A) (x : A) (text rest : List ℕ) (i : ℕ) → long_id text ≡ behind (map f old) (long_id rest) → Some i ≡ position is_dot rest → f x ≡ take i rest → new ≡ old ++ x ∷ [] → long_id text ≡ behind (map f new) (long_id (take (length rest - (i + 1)) (drop (i + 1) rest)))
+pub cut_more : {A : Type 0} (f : A → Id) (old new : List A) (x : A) (text rest : List ℕ) (i : ℕ) → long_id text ≡ after (map f old) (long_id rest) → Some i ≡ position is_dot rest → f x ≡ take i rest → new ≡ old ++ x ∷ [] → long_id text ≡ after (map f new) (long_id (take (length rest - (i + 1)) (drop (i + 1) rest)))
 cut_more f old new x text rest i h e g n =
     let path : map f new ≡ map f old ++ take i rest ∷ [] = ap (map f) n ∙ map_more f old x ∙ ap (λ y. map f old ++ y ∷ []) g in
     let full : length (drop (i + 1) rest) ≤ length rest - (i + 1) = omega (arith, length-drop (i + 1) rest) in
-    h ∙ ap (behind (map f old)) (long_id_more rest i e)
+    h ∙ ap (after (map f old)) (long_id_more rest i e)
     ∙ ap (λ p. record { path = p; last = (long_id (drop (i + 1) rest)).last }) (sym (append_assoc (map f old) (take i rest ∷ []) (long_id (drop (i + 1) rest)).path))
-    ∙ ap (λ p. behind p (long_id (drop (i + 1) rest))) (sym path)
-    ∙ ap (λ r. behind (map f new) (long_id r)) (sym (take_all (length rest - (i + 1)) (drop (i + 1) rest) full))
+    ∙ ap (λ p. after p (long_id (drop (i + 1) rest))) (sym path)
+    ∙ ap (λ r. after (map f new) (long_id r)) (sym (take_all (length rest - (i + 1)) (drop (i + 1) rest) full))
 
-pub cut_all : (path : List Id) (text rest last : List ℕ) → long_id text ≡ behind path (long_id rest) → None ≡ position is_dot rest → last ≡ rest → record { path = path; last = last } ≡ long_id text
+pub cut_all : (path : List Id) (text rest last : List ℕ) → long_id text ≡ after path (long_id rest) → None ≡ position is_dot rest → last ≡ rest → record { path = path; last = last } ≡ long_id text
 cut_all path text rest last h e g =
     ap (λ x. record { path = path; last = x }) g ∙ ap (λ p. record { path = p; last = rest }) (sym (append-nil path))
-    ∙ ap (behind path) (sym (long_id_last rest e)) ∙ sym h
+    ∙ ap (after path) (sym (long_id_last rest e)) ∙ sym h

@@ -38,13 +38,13 @@ text_of unit (Some token) = slice_range unit token.span.start token.span.«end»
 abbrev pub text_at : List ℕ → List Token → ℕ → Id
 text_at unit tokens n = text_of unit (slice_get tokens n)
 
--- what a phrase of a rule is, where what is found behind its beginning is this
+-- what a phrase of a rule is, where what is found after its beginning is this
 abbrev pub found_at : (ℕ → Id) → ℕ → Rule → List Found → Found
 found_at text n rule founds =
     let parts = take (length (right_side rule)) founds in
     found_by text n (sense_of rule) (get_or parts 0 nothing) (get_or parts 1 nothing) (get_or parts 2 nothing) (get_or parts 3 nothing)
 
--- what a node is to the phrases round it, before what is found behind it
+-- what a node is to the phrases round it, before what is found after it
 abbrev pub founds_from : (ℕ → Id) → Node → ℕ → List Found → List Found
 founds_from text Leaf n founds = word n ∷ founds
 founds_from text (Inner rule) n founds = left (deed_of rule) (found_at text n rule founds) ∷ drop (length (right_side rule)) founds
@@ -86,7 +86,7 @@ event_of D.Pattern n found = option_map pattern (sequence_in found)
 event_of D.Head n found = option_map head (sequence_in found)
 event_of _ n found = None
 
--- the event at a node, before what is found behind it
+-- the event at a node, before what is found after it
 abbrev pub event_from : List ℕ → List Token → Node → ℕ → List Found → Option Event
 event_from unit tokens Leaf n founds = scope_event (slice_get tokens n)
 event_from unit tokens (Inner rule) n founds = event_of (deed_of rule) n (found_at (text_at unit tokens) n rule founds)

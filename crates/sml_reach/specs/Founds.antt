@@ -2,7 +2,7 @@
 use Rattle.std.specs.Prelude.{ℕ, Bool, true, false, List, [], ◌∷◌, Option, Some, None, map, reverse, if◌then◌else◌, Vec}
 use Rattle.std.specs.Global.{Global}
 use Rattle.sml_tree.specs.Trees.{Id}
-use Rattle.sml_fixity.specs.ItemNames.{Name, short, behind_op, long, phrase, name_of}
+use Rattle.sml_fixity.specs.ItemNames.{Name, short, after_op, long, phrase, name_of}
 use Rattle.sml_reach.specs.declared.sense.Sense.{Sense}
 use Rattle.sml_reach.specs.declared.sense.Sense.TheVariants as S
 use Rattle.sml_reach.specs.declared.sense.Deed.{Deed}
@@ -24,7 +24,7 @@ pub data Found : Type 0 where
   nothing : Found
   word : ℕ → Found
   one : Atom → Found
-  -- atomic phrases, and whether a type stands behind them
+  -- atomic phrases, and whether a type stands after them
   several : List Atom → Bool → Found
   -- the names of a sequence of patterns without a type
   within : List Name → Found
@@ -60,10 +60,10 @@ abbrev pub inner_in : Found → List Name
 inner_in (within names) = names
 inner_in _ = []
 
--- a name behind `op`
-abbrev pub after_op : Name → Name
-after_op (short x) = behind_op
-after_op name = name
+-- a name after `op`
+abbrev pub with_op : Name → Name
+with_op (short x) = after_op
+with_op name = name
 
 -- the atomic phrase stands before those of a sequence, if what was found is one
 abbrev pub before : Atom → Found → Found
@@ -82,17 +82,17 @@ found_by text n S.Nothing a b c d = nothing
 found_by text n S.Passed a b c d = a
 found_by text n S.Short a b c d = one (atom (short (text n)) n [])
 found_by text n S.Long a b c d = one (atom long n [])
-found_by text n S.Op a b c d = one (atom (after_op (atom_in b).name) n [])
+found_by text n S.Op a b c d = one (atom (with_op (atom_in b).name) n [])
 found_by text n S.Phrase a b c d = one (atom phrase n [])
 found_by text n S.Round a b c d = one (atom phrase n (inner_in b))
 found_by text n S.Empty a b c d = several [] false
 found_by text n S.Typed a b c d = several [] true
 found_by text n S.More a b c d = several (atom_in a ∷ atoms_in b) (typed_in b)
-found_by text n S.MoreBehind a b c d = several (atom_in b ∷ atoms_in c) (typed_in c)
+found_by text n S.MoreAfter a b c d = several (atom_in b ∷ atoms_in c) (typed_in c)
 found_by text n S.Third a b c d = c
 found_by text n S.Named a b c d = before (atom (short (text n)) n []) b
-found_by text n S.OpNamed a b c d = before (atom behind_op n []) b
-found_by text n S.Behind a b c d = from n b
+found_by text n S.OpNamed a b c d = before (atom after_op n []) b
+found_by text n S.After a b c d = from n b
 found_by text n S.RoundMore a b c d = several (atom phrase n (inner_in a) ∷ atoms_in b) (typed_in b)
 found_by text n S.OpenRoundMore a b c d = several (atom phrase n (inner_in b) ∷ atoms_in c) (typed_in c)
 found_by text n S.Inner a b c d = if is_word b then within (inner_in a) else nothing

@@ -6,16 +6,16 @@ use Rattle.sml_lex.specs.declared.fault.Place.{Place}
 use Rattle.sml_lex.specs.declared.token.Token.{Token}
 use Rattle.sml_reach.specs.declared.place.Walk.{Walk}
 
--- The place behind these bytes, the first of which stands at 1.1: lines end at byte 10, and columns count bytes.
-abbrev pub place_behind : List ℕ → Place
-place_behind bytes = record {
+-- The place after these bytes, the first of which stands at 1.1: lines end at byte 10, and columns count bytes.
+abbrev pub place_after : List ℕ → Place
+place_after bytes = record {
   line = min (count_by (λ b. b == 10) bytes + 1) (2 ^ 32 - 1);
   column = min (suffix_len (λ b. not (b == 10)) bytes + 1) (2 ^ 32 - 1);
 }
 
 -- the place of the byte `at`, counted from the byte `start`
 abbrev pub place_from : List ℕ → ℕ → ℕ → Place
-place_from unit start at = place_behind (slice_range unit start at)
+place_from unit start at = place_after (slice_range unit start at)
 
 -- the first byte of the token at this index, or the other byte where there is none
 abbrev pub start_of : List Token → ℕ → ℕ → ℕ

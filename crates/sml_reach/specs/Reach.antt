@@ -1,5 +1,5 @@
 -- How far directives reach, and what sequences of atomic phrases stand for (the Definition, section 2.6): a
--- directive reaches over the text behind it, up to the end of the innermost scope that it stands in.
+-- directive reaches over the text after it, up to the end of the innermost scope that it stands in.
 use Rattle.std.specs.Prelude.{◌≡◌, ℕ, suc, ◌-◌, ◌<◌, Bool, false, ◌&&◌, ◌||◌, ◌==◌, nat_lt, nat_le, List, [], ◌∷◌, Option, Some, None, map, take, length, get_or, if◌then◌else◌}
 use Rattle.std.specs.List.{cons_option}
 use Rattle.std.specs.Option.{option_map}
@@ -113,7 +113,7 @@ abbrev pub level_token : Option ℕ → ℕ
 level_token None = 0
 level_token (Some token) = token
 
--- An event in a state: what it comes to, and the state behind it. The bytes of each token are known.
+-- An event in a state: what it comes to, and the state after it. The bytes of each token are known.
 abbrev pub Happens : (ℕ → Id) → State → Event → Outcome → State → Type 0
 Happens text s (begins token) o t = (o ≡ declares token) × (t ≡ record { here = s.here; outer = s.outer; count = suc s.count; begun = token })
 Happens text s enters o t = (o ≡ idle) × (t ≡ record { here = s.here; outer = s.here ∷ s.outer; count = s.count; begun = s.begun })

@@ -315,7 +315,7 @@ fn first_parts(founds: &mut Vec<Found>, count: usize) -> (Found, Found)
     (first, second)
 }
 
-/// Whether it is no atomic phrase, and no type stands behind it.
+/// Whether it is no atomic phrase, and no type stands after it.
 fn is_empty(found: &Found) -> bool
     ensures { result ≡ true → found_of found.now ≡ several [] false }
 {
@@ -347,7 +347,7 @@ fn sequence_event(alloc: Global, first: Atom, others: Found) -> Result<Option<Ev
     Ok(asked(atoms))
 }
 
-/// What a token does to scopes goes before the events behind it.
+/// What a token does to scopes goes before the events after it.
 fn put_scope(events: &mut Vec<Event>, token: Token) -> Result<(), Memory>
     ensures { OnOk result (map seen (reverse events.new.items) ≡ cons_option (scope_event (Some token)) (map seen (reverse events.old.items))) }
 {
@@ -363,7 +363,7 @@ fn put_scope(events: &mut Vec<Event>, token: Token) -> Result<(), Memory>
     Ok(())
 }
 
-/// A token goes before what is found behind it.
+/// A token goes before what is found after it.
 fn enter_word(founds: &mut Vec<Found>, token: usize) -> Result<(), Memory>
     ensures { OnOk result (map found_of (reverse founds.new.items) ≡ word token ∷ map found_of (reverse founds.old.items)) }
 {
@@ -372,7 +372,7 @@ fn enter_word(founds: &mut Vec<Found>, token: usize) -> Result<(), Memory>
     Ok(())
 }
 
-/// What the token with this number does to scopes goes before the events behind it, if scopes are looked for.
+/// What the token with this number does to scopes goes before the events after it, if scopes are looked for.
 fn enter_scope(
     tokens: &[Token],
     events: &mut Vec<Event>,
@@ -477,7 +477,7 @@ fn enter_expression(
     push_some(events, event)
 }
 
-/// A phrase with so many parts that is an atomic phrase and those behind it.
+/// A phrase with so many parts that is an atomic phrase and those after it.
 #[inline(never)]
 fn enter_more(alloc: Global, founds: &mut Vec<Found>, count: usize) -> Result<(), Memory>
     ensures { let old = map found_of (reverse founds.old.items) in
@@ -624,7 +624,7 @@ fn enter_other(
     push_some(events, event)
 }
 
-/// A phrase of this rule with this first token: its event goes to the others, and what it is to what is found behind it.
+/// A phrase of this rule with this first token: its event goes to the others, and what it is to what is found after it.
 /// Most phrases are nothing to a sequence, or what their first part is, or one atomic phrase or none whatever their parts
 /// are. Each kind has a function of its own, since a call pays at its entry for all that may be in it.
 fn enter_phrase(
@@ -658,7 +658,7 @@ fn enter_phrase(
     }
 }
 
-/// A node with this first token: its event goes to the others, and what it is to what is found behind it.
+/// A node with this first token: its event goes to the others, and what it is to what is found after it.
 fn at_node(
     finder: &Finder,
     names: &mut Names,

@@ -2,7 +2,7 @@
 
 ghost use Rattle.std.specs.Prelude.{◌≡◌, ℕ, true, false, [], ◌∷◌, Option, Some, None, if◌then◌else◌, map, reverse, IfOk};
 ghost use Rattle.sml_reach.specs.Founds as spec;
-ghost use Rattle.sml_fixity.specs.ItemNames.{short, behind_op, long, phrase, name_of};
+ghost use Rattle.sml_fixity.specs.ItemNames.{short, after_op, long, phrase, name_of};
 ghost use Rattle.sml_reach.specs.Founds.{within, atom, atom_of, found_of};
 ghost use Rattle.sml_reach.specs.Events.{text_at};
 
@@ -34,7 +34,7 @@ pub enum Found {
     /// An atomic phrase without patterns in round brackets: what it is to the operators, and its first token.
     Plain(Item, usize),
     One(Box<Atom>),
-    /// Some atomic phrases, and whether a type stands behind them.
+    /// Some atomic phrases, and whether a type stands after them.
     Several(Vec<Atom>, bool),
     /// The items of a sequence of patterns without a type.
     Inner(Vec<Item>),
@@ -151,9 +151,9 @@ fn only_inner(alloc: Global, found: Found) -> Found
     }
 }
 
-/// The item behind `op`.
-fn after_op(item: Item) -> Item
-    ensures { name_of result ≡ spec.after_op (name_of item) }
+/// The item after `op`.
+fn with_op(item: Item) -> Item
+    ensures { name_of result ≡ spec.with_op (name_of item) }
 {
     match item {
         Item::Short(_) => Item::Op,
@@ -265,7 +265,7 @@ impl Finder<'_> {
             Sense::Short => Found::Plain(self.short_item(names, token)?, token),
             Sense::Long => Found::Plain(Item::Long, token),
             Sense::Op => {
-                let item = after_op(atom_in(self.alloc, taken(&mut parts.second)).item);
+                let item = with_op(atom_in(self.alloc, taken(&mut parts.second)).item);
                 Found::Plain(item, token)
             }
             Sense::Phrase => Found::Plain(Item::Phrase, token),
@@ -276,14 +276,14 @@ impl Finder<'_> {
                 let first = atom_in(self.alloc, taken(&mut parts.first));
                 joined(self.alloc, first, taken(&mut parts.second))?
             }
-            Sense::MoreBehind => {
+            Sense::MoreAfter => {
                 let first = atom_in(self.alloc, taken(&mut parts.second));
                 joined(self.alloc, first, taken(&mut parts.third))?
             }
             Sense::Third => taken(&mut parts.third),
             Sense::Named => before(self.short(names, token)?, taken(&mut parts.second))?,
             Sense::OpNamed => before(self.plain(Item::Op, token), taken(&mut parts.second))?,
-            Sense::Behind => from(token, taken(&mut parts.second))?,
+            Sense::After => from(token, taken(&mut parts.second))?,
             Sense::RoundMore => round_more(
                 self.alloc,
                 token,
@@ -364,8 +364,8 @@ fn round_atom(alloc: Global, token: usize, found: Found) -> Result<Found, Memory
 
 /// Patterns in round brackets before the atomic phrases of the rest.
 fn round_more(alloc: Global, token: usize, found: Found, rest: Found) -> Result<Found, Memory>
-    ensures { let behind = found_of rest in
-        IfOk result (λ r. found_of r ≡ spec.several (atom phrase token (spec.inner_in (found_of found)) ∷ spec.atoms_in behind) (spec.typed_in behind)) }
+    ensures { let after = found_of rest in
+        IfOk result (λ r. found_of r ≡ spec.several (atom phrase token (spec.inner_in (found_of found)) ∷ spec.atoms_in after) (spec.typed_in after)) }
 {
     let first = round(alloc, token, found)?;
     joined(alloc, first, rest)

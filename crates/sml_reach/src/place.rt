@@ -1,7 +1,7 @@
 //! Places of bytes, counted from another byte of the unit.
 
 ghost use Rattle.std.specs.Prelude.{◌≡◌, ℕ, List, [], ◌∷◌, ◌++◌, slice_range};
-ghost use Rattle.sml_reach.specs.Places.{place_behind, place_from, start_of, IsOnWay};
+ghost use Rattle.sml_reach.specs.Places.{place_after, place_from, start_of, IsOnWay};
 
 use sml_lex::fault::{FIRST, Place};
 use sml_lex::token::{Span, Token};
@@ -24,10 +24,10 @@ pub fn start_of(tokens: &[Token], index: usize, other: usize) -> usize
     }
 }
 
-/// The place behind one more byte.
+/// The place after one more byte.
 fn after(place: Place, byte: u8) -> Place
-    ensures { (before : List ℕ) → place ≡ place_behind before →
-        result ≡ place_behind (before ++ byte ∷ []) }
+    ensures { (before : List ℕ) → place ≡ place_after before →
+        result ≡ place_after (before ++ byte ∷ []) }
 {
     if byte == b'\n' {
         Place {
@@ -42,10 +42,10 @@ fn after(place: Place, byte: u8) -> Place
     }
 }
 
-/// The place behind these bytes, the first of which stands at the given place.
-fn behind(place: Place, bytes: &[u8]) -> Place
-    ensures { (before : List ℕ) → place ≡ place_behind before →
-        result ≡ place_behind (before ++ bytes.now) }
+/// The place after these bytes, the first of which stands at the given place.
+fn after_all(place: Place, bytes: &[u8]) -> Place
+    ensures { (before : List ℕ) → place ≡ place_after before →
+        result ≡ place_after (before ++ bytes.now) }
 {
     let mut reached = place;
     for byte in bytes {
@@ -58,7 +58,7 @@ fn behind(place: Place, bytes: &[u8]) -> Place
 pub fn place_between(unit: &[u8], start: usize, at: usize) -> Place
     ensures { result ≡ place_from unit.now start at }
 {
-    behind(FIRST, text(unit, Span { start, end: at }))
+    after_all(FIRST, text(unit, Span { start, end: at }))
 }
 
 /// A walk over a unit, which knows the place where it stands.
@@ -83,7 +83,7 @@ impl Walk {
     }
 
     /// The place of the byte `at`. Costs no more than the way there from where the walk stands, unless that lies
-    /// behind `at`.
+    /// after `at`.
     pub fn go_to(&mut self, unit: &[u8], at: usize) -> Place
         requires { IsOnWay unit.now self.old }
         ensures place { result ≡ place_from unit.now self.old.start at }
@@ -100,7 +100,7 @@ impl Walk {
                 end: at,
             },
         );
-        self.place = behind(self.place, way);
+        self.place = after_all(self.place, way);
         self.at = at;
         self.place
     }

@@ -60,7 +60,7 @@ pub enum Outcome {
 }
 
 /// What was gathered from outcomes: the declarations before the last one that has begun, the first token of that, what
-/// the sequences behind it stand for, and the faults.
+/// the sequences after it stand for, and the faults.
 #[derive(Drop)]
 pub struct Gathered {
     declarations: Vec<Fitted>,

@@ -24,25 +24,25 @@ pub enum Sense {
     Round,
     /// No atomic phrase.
     Empty,
-    /// No atomic phrase, but a type behind the sequence.
+    /// No atomic phrase, but a type after the sequence.
     Typed,
-    /// An atomic phrase, and those behind it.
+    /// An atomic phrase, and those after it.
     More,
-    /// The same behind a token.
-    MoreBehind,
+    /// The same after a token.
+    MoreAfter,
     /// What its third part is.
     Third,
-    /// An identifier without a path, and the atomic phrases behind it, if it begins a sequence.
+    /// An identifier without a path, and the atomic phrases after it, if it begins a sequence.
     Named,
-    /// The same behind `op`, which isn't a part.
+    /// The same after `op`, which isn't a part.
     OpNamed,
-    /// A token, and the rest of the sequence's first phrase with what stands behind it.
-    Behind,
-    /// Patterns up to a bracket's end, and the atomic phrases behind it.
+    /// A token, and the rest of the sequence's first phrase with what stands after it.
+    After,
+    /// Patterns up to a bracket's end, and the atomic phrases after it.
     RoundMore,
-    /// `(`, patterns up to the bracket's end, and the atomic phrases behind it.
+    /// `(`, patterns up to the bracket's end, and the atomic phrases after it.
     OpenRoundMore,
-    /// A pattern, and what stands behind it in round brackets.
+    /// A pattern, and what stands after it in round brackets.
     Inner,
     /// A directive with its level, if one is written, and its identifiers.
     Level,
@@ -97,12 +97,12 @@ fn declaration_sense(rule: DeclarationRule) -> Sense
         DeclarationRule::FixityLevel | DeclarationRule::ClauseAtPats => Sense::Passed,
         DeclarationRule::VidMoreNone | DeclarationRule::AtPatsNone => Sense::Empty,
         DeclarationRule::VidMoreVid => Sense::Named,
-        DeclarationRule::ValDecOpenRound | DeclarationRule::FunDecOpenRound => Sense::Behind,
+        DeclarationRule::ValDecOpenRound | DeclarationRule::FunDecOpenRound => Sense::After,
         DeclarationRule::ValRoundPatRound | DeclarationRule::FunRoundPatRound => Sense::RoundMore,
         DeclarationRule::FunDecBareAtPat
         | DeclarationRule::ClausesAtPat
         | DeclarationRule::AtPatsAtPat => Sense::More,
-        DeclarationRule::ClauseMoreBar => Sense::MoreBehind,
+        DeclarationRule::ClauseMoreBar => Sense::MoreAfter,
         _ => Sense::Nothing,
     }
 }
@@ -160,7 +160,7 @@ fn pattern_sense(rule: PatternRule) -> Sense
         | PatternRule::BarePatAlphanumeric
         | PatternRule::BarePatSymbolic
         | PatternRule::BarePatStar => Sense::Named,
-        PatternRule::PatOp | PatternRule::BarePatOp => Sense::Behind,
+        PatternRule::PatOp | PatternRule::BarePatOp => Sense::After,
         PatternRule::OpPatVid => Sense::OpNamed,
         PatternRule::PatOtherAtPat
         | PatternRule::BarePatOtherAtPat

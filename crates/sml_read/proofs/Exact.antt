@@ -27,7 +27,7 @@ or_right : (a b : Bool) → b ≡ true → (a || b) ≡ true
 or_right true b h = refl
 or_right false b h = h
 
--- by its first part, or by what stands behind an empty one
+-- by its first part, or by what stands after an empty one
 pass : (begun empty more begins may : Bool) → (begun ≡ true → begins ≡ true) → (empty ≡ true → may ≡ true) → (begun || (empty && more)) ≡ true → (begins || (may && more)) ≡ true
 pass true empty more begins may f g h = or_left begins (may && more) (f refl)
 pass false true more begins may f g h = or_right begins (may && more) (and_from _ _ (g refl) h)
@@ -107,14 +107,14 @@ nothing_of p h = (shortest p, subst (Spells (shortest p) (Of p ∷ [])) (short_s
 abbrev First : List Symbol → Kind → Type 0
 First ss k = (nodes : List Node) × (ts : List Kind) × Spells nodes ss (k ∷ ts)
 
--- a tree of the first part, and short ones of those behind it
+-- a tree of the first part, and short ones of those after it
 first_part : (p : Part) (ss : List Symbol) (k : Kind) → First (Of p ∷ []) k → First (Of p ∷ ss) k
 first_part p ss k f =
     let s = short_trees ss in
     (f.0 ++ s.0, f.1 ++ s.1, joined f.0 (Of p ∷ []) (k ∷ f.1) s.0 ss s.1 f.2 s.2)
 
-behind_empty : (p : Part) (ss : List Symbol) (k : Kind) → SpellsNothing p → First ss k → First (Of p ∷ ss) k
-behind_empty p ss k n f =
+after_empty : (p : Part) (ss : List Symbol) (k : Kind) → SpellsNothing p → First ss k → First (Of p ∷ ss) k
+after_empty p ss k n f =
     (n.0 ++ f.0, f.1, joined n.0 (Of p ∷ []) [] f.0 ss (k ∷ f.1) n.1 f.2)
 
 first_of_side : (n : ℕ) (k : Kind) → ((p : Part) → weight p < n → begins_with p k ≡ true → First (Of p ∷ []) k) → (ss : List Symbol) → cost ss < n → side_begins_with ss k ≡ true → First ss k
@@ -126,7 +126,7 @@ first_of_side n k by_part (Of p ∷ ss) l h =
   where
     by_test : (cost ss < n → side_begins_with ss k ≡ true → First ss k) → (b m : Bool) → begins_with p k ≡ b → may_be_empty p ≡ m → (b || (m && side_begins_with ss k)) ≡ true → weight p + cond m (cost ss) 0 < n → First (Of p ∷ ss) k
     by_test on true m e d g l = first_part p ss k (by_part p (omega (arith, l)) e)
-    by_test on false true e d g l = behind_empty p ss k (nothing_of p d) (on (omega (arith, l)) g)
+    by_test on false true e d g l = after_empty p ss k (nothing_of p d) (on (omega (arith, l)) g)
     by_test on false false e d g l = absurd (false≢true g)
 
 first_of_part : (n : ℕ) (k : Kind) (p : Part) → weight p < n → begins_with p k ≡ true → First (Of p ∷ []) k

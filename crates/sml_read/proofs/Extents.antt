@@ -15,7 +15,7 @@ Ends nodes i ends = (k : ℕ) → get_or ends k (length nodes) ≡ i + size_of (
 pub no_ends : (nodes : List Node) (i : ℕ) → length nodes ≤ i → i ≤ length nodes → drop i nodes ≡ [] → Ends nodes i []
 no_ends nodes i past within none k = let e : length nodes ≡ i + 0 = omega (arith, past, within) in e ∙ ap (λ ns. i + size_of (suc k) ns) (sym none)
 
--- behind a token
+-- after a token
 pub leaf_ends : (nodes : List Node) (i : ℕ) (ns : List Node) (ends : List ℕ) (end : ℕ) → drop i nodes ≡ Leaf ∷ ns → ((k : ℕ) → get_or ends k (length nodes) ≡ suc i + size_of (suc k) ns) → end ≡ i + 1 → Ends nodes i (end ∷ ends)
 leaf_ends nodes i ns ends end d h e zero = e ∙ ap (λ xs. i + size_of 1 xs) (sym d)
 leaf_ends nodes i ns ends end d h e (suc k) =
@@ -23,7 +23,7 @@ leaf_ends nodes i ns ends end d h e (suc k) =
     let s : suc i + size_of (suc k) ns ≡ i + suc (size_of (suc k) ns) = omega arith in
     g ∙ s ∙ ap (λ xs. i + size_of (suc (suc k)) xs) (sym d)
 
--- behind a rule, whose parts end where the last of them does
+-- after a rule, whose parts end where the last of them does
 add_suc : (m k : ℕ) → m + suc k ≡ suc (m + k)
 add_suc m k = omega arith
 
@@ -85,7 +85,7 @@ first_left : (node : Node) (later : List Node) (t total : ℕ) → tokens_in (no
 first_left Leaf later t total some h = omega (arith, some, h)
 first_left (Inner r) later t total some h = h
 
--- how many tokens stand before a node and behind it
+-- how many tokens stand before a node and after it
 pub tokens_on : (nodes : List Node) (i : ℕ) (node : Node) (t n : ℕ) → drop (i - 1) nodes ≡ node ∷ drop i nodes → t + tokens_in (drop i nodes) ≡ tokens_in nodes → n ≡ first_token node t → n + tokens_in (drop (i - 1) nodes) ≡ tokens_in nodes
 tokens_on nodes i node t n a h e =
     let some : tokens_in (node ∷ drop i nodes) ≤ tokens_in nodes = subst (λ ns. tokens_in ns ≤ tokens_in nodes) a (fewer_left (i - 1) nodes) in

@@ -28,7 +28,7 @@ front (suc j) zero xs h = absurd (omega (arith, h))
 front (suc j) (suc k) [] h = refl
 front (suc j) (suc k) (x ∷ xs) h = ap (λ ys. x ∷ ys) (front j k xs (omega (arith, h)))
 
--- a token that no unit has there stands behind all at which one may go on
+-- a token that no unit has there stands after all at which one may go on
 not_before : (tokens : List Kind) (j k : ℕ) → IsUnexpectedAt tokens j → IsUnexpectedAt tokens k → j < k → ⊥
 not_before tokens j k h g l =
     h.upto (begins_shorter (take (j + 1) tokens) (drop (j + 1) (take k tokens)) (subst BeginsUnit (front (j + 1) k tokens (omega (arith, l))) g.before))

@@ -52,7 +52,7 @@ each_part f h p = every_at f all_parts h (part_number p) p (part_at p)
 pub each_rule : (f : Rule → Bool) → every f all_rules ≡ true → (r : Rule) → f r ≡ true
 each_rule f h r = every_at f all_rules h (rule_number r) r (rule_at r)
 
--- what may stand behind: a token of each kind, or none
+-- what may stand after: a token of each kind, or none
 abbrev every_ending : (Option Kind → Bool) → Bool
 every_ending f = f None && every (λ k. f (Some k)) all_kinds
 
@@ -122,7 +122,7 @@ cost_so r = ltb-true _ _ (each_rule (λ r. ltb (cost (right_side r)) (weight (pa
 pub safe_so : (r : Rule) (f : Option Kind) → not (goes_on (part_of r) f) ≡ true → is_safe (right_side r) f ≡ true
 safe_so r f = implied _ _ (each_ending (λ f. implies (not (goes_on (part_of r) f)) (is_safe (right_side r) f)) (each_rule (λ r. every_ending (λ f. implies (not (goes_on (part_of r) f)) (is_safe (right_side r) f))) refl r) f)
 
--- whether these nodes are trees of these symbols for these tokens, with next behind them
+-- whether these nodes are trees of these symbols for these tokens, with next after them
 abbrev pub runs : List Node → List Symbol → List Kind → Option Kind → Bool
 runs [] [] [] next = true
 runs (Leaf ∷ nodes) (Word k ∷ ss) (x ∷ ts) next = eqb (kind_number k) (kind_number x) && runs nodes ss ts next

@@ -415,7 +415,7 @@ refuse_none old k added x nodes tokens next after h =
 pub complete_none : (old : List Symbol) (next : Option Kind) → Completes old next [] old
 complete_none old next = record {
   leads = refl;
-  only = λ nodes k tokens behind after e h. (nodes, refl, h);
+  only = λ nodes k tokens beyond after e h. (nodes, refl, h);
   left = λ nodes after short h. (nodes, refl, h);
   safe = λ h. h;
   based = λ h. h;
@@ -429,16 +429,16 @@ complete_more old next added p t ss r e x =
     let so = rule_before_so p next r e in
     record {
       leads = join added old [] next (Of p ∷ t ∷ ss) (Inner r ∷ []) [] (right_side r ++ t ∷ ss) x.leads (so.0, so.1, refl);
-      only = λ nodes k tokens behind after is h. only nodes k tokens behind after is (x.only nodes k tokens behind after is h);
+      only = λ nodes k tokens beyond after is h. only nodes k tokens beyond after is (x.only nodes k tokens beyond after is h);
       left = λ nodes after short h. left nodes after short (x.left nodes after short h);
       safe = λ h. safe_step r p (t ∷ ss) so.0 (x.safe h);
       based = λ h. ends_full false (right_side r) t ss ∙ sym (ends_full false (Of p ∷ []) t ss) ∙ x.based h;
     }
   where
-    only : (nodes : List Node) (k : Kind) (tokens : List Kind) (behind : Option Kind) (after : List Symbol) → next ≡ Some k → Begun added (Of p ∷ t ∷ ss) nodes (k ∷ tokens) behind after → Begun (added ++ Inner r ∷ []) (right_side r ++ t ∷ ss) nodes (k ∷ tokens) behind after
-    only nodes k tokens behind after is b =
-        let n = next_rule b.0 p (t ∷ ss) k tokens behind after r (for_token p k next r is e) b.2 in
-        begun_more added (Inner r ∷ []) n.0 nodes (Of p ∷ t ∷ ss) (right_side r ++ t ∷ ss) (k ∷ tokens) (k ∷ tokens) behind after b n.1 n.2
+    only : (nodes : List Node) (k : Kind) (tokens : List Kind) (beyond : Option Kind) (after : List Symbol) → next ≡ Some k → Begun added (Of p ∷ t ∷ ss) nodes (k ∷ tokens) beyond after → Begun (added ++ Inner r ∷ []) (right_side r ++ t ∷ ss) nodes (k ∷ tokens) beyond after
+    only nodes k tokens beyond after is b =
+        let n = next_rule b.0 p (t ∷ ss) k tokens beyond after r (for_token p k next r is e) b.2 in
+        begun_more added (Inner r ∷ []) n.0 nodes (Of p ∷ t ∷ ss) (right_side r ++ t ∷ ss) (k ∷ tokens) (k ∷ tokens) beyond after b n.1 n.2
 
     left : (nodes : List Node) (after : List Symbol) → length after ≤ 1 → Begun added (Of p ∷ t ∷ ss) nodes [] next after → Begun (added ++ Inner r ∷ []) (right_side r ++ t ∷ ss) nodes [] next after
     left nodes after short b =

@@ -13,7 +13,7 @@ abbrev pub goes_on : Part → Option Kind → Bool
 goes_on p None = false
 goes_on p (Some k) = is_among k (continuations p)
 
--- the first token of the shortest texts of these symbols, with next behind them
+-- the first token of the shortest texts of these symbols, with next after them
 abbrev pub lead : List Symbol → Option Kind → Option Kind
 lead [] next = next
 lead (Word k ∷ ss) next = Some k
@@ -51,11 +51,11 @@ pub record Takes (old : List Symbol) (token : Kind) (added : List Node) (now : L
 abbrev pub Refuses : List Symbol → Kind → Type 0
 Refuses old token = (nodes : List Node) (tokens : List Kind) (next : Option Kind) (after : List Symbol) → Leads nodes old (token ∷ tokens) next after → ⊥
 
--- Without a token, but with next behind, the symbols old lead to the symbols now, by nodes with which all
+-- Without a token, but with next after, the symbols old lead to the symbols now, by nodes with which all
 -- begin that take next, and all that leave one symbol or none.
 pub record Completes (old : List Symbol) (next : Option Kind) (added : List Node) (now : List Symbol) : Type 0 where
   pub leads : Leads added old [] next now
-  pub only : (nodes : List Node) (k : Kind) (tokens : List Kind) (behind : Option Kind) (after : List Symbol) → next ≡ Some k → Leads nodes old (k ∷ tokens) behind after → Begun added now nodes (k ∷ tokens) behind after
+  pub only : (nodes : List Node) (k : Kind) (tokens : List Kind) (beyond : Option Kind) (after : List Symbol) → next ≡ Some k → Leads nodes old (k ∷ tokens) beyond after → Begun added now nodes (k ∷ tokens) beyond after
   pub left : (nodes : List Node) (after : List Symbol) → length after ≤ 1 → Leads nodes old [] next after → Begun added now nodes [] next after
   pub safe : is_safe old None ≡ true → is_safe now None ≡ true
   pub based : ends_outer false old ≡ true → ends_outer false now ≡ true

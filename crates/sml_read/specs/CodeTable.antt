@@ -27,7 +27,7 @@ first_empty (r ∷ rs) = if all_empty (right_side r) then Some r else first_empt
 abbrev pub rule_at_end : Part → Option Rule
 rule_at_end p = first_empty (rules_of p)
 
--- the rule for a part with this token behind it, or none
+-- the rule for a part with this token after it, or none
 abbrev pub rule_before : Part → Option Kind → Option Rule
 rule_before p None = rule_at_end p
 rule_before p (Some k) = rule_for p k

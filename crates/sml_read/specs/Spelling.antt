@@ -53,7 +53,7 @@ head_or [] next = next
 head_or (k ∷ ks) next = Some k
 
 -- These nodes are trees of the first of the symbols old, one after another, of the last perhaps a beginning.
--- They spell these tokens, behind which next stands, and leave the symbols now.
+-- They spell these tokens, after which next stands, and leave the symbols now.
 abbrev pub Leads : List Node → List Symbol → List Kind → Option Kind → List Symbol → Type 0
 Leads [] old [] next now = old ≡ now
 Leads (Leaf ∷ nodes) (Word k ∷ old) (x ∷ tokens) next now = (k ≡ x) × Leads nodes old tokens next now
@@ -84,7 +84,7 @@ pub record EndsTooEarly (tokens : List Kind) : Type 0 where
   pub begins : BeginsUnit tokens
   pub whole : IsUnit tokens → ⊥
 
--- The parts for what is left of a unit: at its start and behind a semicolon, behind a declaration, and behind an
+-- The parts for what is left of a unit: at its start and after a semicolon, after a declaration, and after an
 -- expression.
 abbrev pub is_outer : Part → Bool
 is_outer Start = true
@@ -99,8 +99,8 @@ is_closed _ None = true
 is_closed part (Some k) = not (part_number part == part_number AfterExp) || (kind_number k == kind_number Semicolon)
 
 -- Every declaration of the first tokens is whole, and these nodes are their trees, in the part for a unit:
--- the token behind them was seen, or the unit's end, or none is open (at the start and behind a semicolon).
--- Where done is false, a fault that is no token stands behind the last token.
+-- the token after them was seen, or the unit's end, or none is open (at the start and after a semicolon).
+-- Where done is false, a fault that is no token stands after the last token.
 pub record IsWholeTo (tokens : List Kind) (done : Bool) (place : ℕ) (nodes : List Node) : Type 0 where
   pub within : place ≤ length tokens
   pub part : Part

@@ -21,14 +21,14 @@ pub fn token_count(nodes: &[Node]) -> usize
     count
 }
 
-/// The number of the first token of a node's phrase, and of a phrase without tokens that of the token behind it, where so
-/// many tokens stand before what is behind the node. A phrase's place is its first token.
-pub fn first_token(node: Node, behind: usize) -> usize
-    ensures { result ≡ first_token node behind }
+/// The number of the first token of a node's phrase, and of a phrase without tokens that of the token after it, where so
+/// many tokens stand before what is after the node. A phrase's place is its first token.
+pub fn first_token(node: Node, after: usize) -> usize
+    ensures { result ≡ first_token node after }
 {
     match node {
-        Node::Leaf => behind.saturating_sub(1),
-        Node::Inner(_) => behind,
+        Node::Leaf => after.saturating_sub(1),
+        Node::Inner(_) => after,
     }
 }
 
@@ -55,7 +55,7 @@ fn pop_ends(later: &mut Vec<usize>, count: usize, first: usize, other: usize) ->
     end
 }
 
-/// For each node, in order, the number of the node behind its phrase.
+/// For each node, in order, the number of the node after its phrase.
 pub fn ends(alloc: Global, nodes: &[Node]) -> Result<Vec<usize>, Memory>
     ensures { IfOk result (λ v. v.items ≡ ends_of 0 nodes.now) }
 {

@@ -23,7 +23,7 @@ pub enum Cause {
     Unexpected(usize),
     /// The unit ends too early.
     TooEarly,
-    /// What stands behind the last token is no token.
+    /// What stands after the last token is no token.
     Lexical,
 }
 
@@ -51,7 +51,7 @@ fn expand(stack: &mut Vec<Symbol>, nodes: &mut Vec<Node>, rule: Rule) -> Result<
     Ok(())
 }
 
-/// Ends what may be ended with this token behind it, or none. Says which part is left where it is one alone.
+/// Ends what may be ended with this token after it, or none. Says which part is left where it is one alone.
 fn complete(
     stack: &mut Vec<Symbol>,
     nodes: &mut Vec<Node>,
@@ -119,7 +119,7 @@ fn is_whole(left: Option<Part>, next: Kind) -> bool
     }
 }
 
-/// Reads tokens of these kinds. Where `done` is false, a fault that is no token stands behind the last one.
+/// Reads tokens of these kinds. Where `done` is false, a fault that is no token stands after the last one.
 fn read_kinds(alloc: Global, kinds: &[Kind], done: bool) -> Result<Full, Memory>
     ensures { IfOk result (λ full. IsReading kinds.now done full.nodes.items full.begun full.cause) }
 {

@@ -52,7 +52,7 @@ pub fn choice(part: Part, kind: Kind) -> Option<Rule>
     rules_of_part(part).get(usize::from(cell - b'0')).copied()
 }
 
-/// The rule for a part with this token behind it, or none.
+/// The rule for a part with this token after it, or none.
 pub fn expected(part: Part, next: Option<Kind>) -> Option<Rule>
     ensures { result ≡ rule_before part next }
 {

@@ -155,14 +155,14 @@ class Grammar:
                 break
         return total
 
-    def is_safe(self, side, behind):
+    def is_safe(self, side, after):
         for s in reversed(side):
             if self.is_part(s):
-                if behind in self.ends[s]:
+                if after in self.ends[s]:
                     return False
-                behind = self.short[s][0][0] if self.short[s][0] else behind
+                after = self.short[s][0][0] if self.short[s][0] else after
             else:
-                behind = s
+                after = s
         return True
 
     def carry(self):

@@ -18,7 +18,7 @@ CRATE = Path(__file__).resolve().parent.parent
 sys.path.insert(0, str(CRATE / "tables"))
 import make  # the kinds of tokens, and for --check the factored grammar
 
-# Of a text, after so many tokens, the kinds that the bare grammar permits and greed forbids: behind `|` stands a rule of
+# Of a text, after so many tokens, the kinds that the bare grammar permits and greed forbids: after `|` stands a rule of
 # the innermost match, and not a clause of the function round it.
 CLAUSES = "fun f x = case x of A => 1 | g y => 2 | h z => 3"
 GREED = {(CLAUSES, after): {"Equals"} for after in (12, 13, 17, 18)}
@@ -267,8 +267,8 @@ def data(kinds, recogniser):
             out += '        ("%s", "%s"),\n' % (" ".join(words).replace('"', '\\"'), "".join(marks))
         out += "    ]\n}\n\n"
     out += "/// Texts, in sections. Of each beginning of a text, by its number of tokens, which kinds may stand next, as bits in\n"
-    out += "/// order from the lowest on in hexadecimal, and behind that `+` where the beginning is a unit and `-` where not. There is\n"
-    out += "/// none behind the last section.\n"
+    out += "/// order from the lowest on in hexadecimal, and after that `+` where the beginning is a unit and `-` where not. There is\n"
+    out += "/// none after the last section.\n"
     out += "pub fn forms(section: usize) -> &'static [(&'static str, &'static str)] {\n    match section {\n"
     out += "".join("        %d => forms_%d(),\n" % (n, n) for n in range(len(sections))) + "        _ => &[],\n    }\n}\n\n"
     out += "/// The number of sections.\npub const SECTIONS: usize = %d;\n" % len(sections)

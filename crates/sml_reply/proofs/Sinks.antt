@@ -71,15 +71,15 @@ parted zero xs = refl
 parted (suc i) [] = refl
 parted (suc i) (x ∷ xs) = ap (λ l. x ∷ l) (parted i xs)
 
-abbrev pub behind : ℕ → List ℕ → List ℕ
-behind i xs = take (length xs - i) (drop i xs)
+abbrev pub after : ℕ → List ℕ → List ℕ
+after i xs = take (length xs - i) (drop i xs)
 
-pub take_both : (i k : ℕ) (xs : List ℕ) → take i xs ++ take k (behind i xs) ≡ take (i + k) xs
+pub take_both : (i k : ℕ) (xs : List ℕ) → take i xs ++ take k (after i xs) ≡ take (i + k) xs
 take_both i k xs = ap (λ l. take i xs ++ take k l) (take_rest xs i) ∙ sym (take_many i k xs)
 
-pub parted_both : (i k : ℕ) (xs : List ℕ) → xs ≡ (take i xs ++ take k (behind i xs)) ++ drop k (behind i xs)
+pub parted_both : (i k : ℕ) (xs : List ℕ) → xs ≡ (take i xs ++ take k (after i xs)) ++ drop k (after i xs)
 parted_both i k xs =
-    parted i xs ∙ ap (λ l. take i xs ++ l) (sym (take_rest xs i) ∙ parted k (behind i xs)) ∙ sym (append_assoc (take i xs) (take k (behind i xs)) (drop k (behind i xs)))
+    parted i xs ∙ ap (λ l. take i xs ++ l) (sym (take_rest xs i) ∙ parted k (after i xs)) ∙ sym (append_assoc (take i xs) (take k (after i xs)) (drop k (after i xs)))
 
 pub counted_zero : (E : Type 0) (f k : ℕ) (bytes : List ℕ) → f ≡ 0 → 0 < length bytes → failures_after {E = E} k (Ok f) bytes ≡ one_more k
 counted_zero E f k bytes e h = λ i. cond (eq-eqb f 0 e i && lt-ltb 0 (length bytes) h i) (one_more k) k

@@ -8,7 +8,7 @@ dotted-more x [] y = append_assoc x (46 ∷ []) y
 dotted-more x (z ∷ xs) y =
     ap (λ t. (x ++ 46 ∷ []) ++ t) (dotted-more z xs y) ∙ sym (append_assoc (x ++ 46 ∷ []) (dotted (z ∷ xs)) (46 ∷ y))
 
--- after the first identifier, one behind a dot
+-- after the first identifier, one after a dot
 pub dotted-later : (xs : List Id) (y : Id) (text : List ℕ) → 0 < length xs → text ≡ dotted xs → (text ++ 46 ∷ []) ++ y ≡ dotted (xs ++ y ∷ [])
 dotted-later [] y text h e = absurd (omega (arith, h))
 dotted-later (x ∷ xs) y text h e = append_assoc text (46 ∷ []) y ∙ ap (λ t. t ++ 46 ∷ y) e ∙ sym (dotted-more x xs y)

@@ -18,7 +18,7 @@ abbrev pub found_in : {N X : Type 0} → List Id → (Env N → Found X) → Opt
 found_in seen look None = no_path seen
 found_in seen look (Some E) = look E
 
--- along a path, behind the structures seen so far
+-- along a path, after the structures seen so far
 unfoldable pub find_at : {N X : Type 0} → (Env N → Option X) → List Id → List Id → Env N → Found X
 find_at pick seen [] E = entry (pick E)
 find_at pick seen (s ∷ path) E = found_in (seen ++ s ∷ []) (find_at pick (seen ++ s ∷ []) path) (find_structure s (structures E))

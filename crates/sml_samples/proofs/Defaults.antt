@@ -22,8 +22,8 @@ use Rattle.sml_samples.proofs.Left.{settled}
 use Rattle.sml_samples.proofs.Loose.{loose}
 use Rattle.sml_samples.proofs.Names.{initial-within}
 
-abbrev pub behind : State Place Name
-behind = record {
+abbrev pub after : State Place Name
+after = record {
   made = 4;
   names = initial_names;
   demands = equal (free 0) (arrow_of (free 1) (free 2)) ∷ equal (free 2) (free 3) ∷ equal (twice (free 3)) (twice (free 1)) ∷ asks (of_class WordInt) (free 3)
@@ -34,14 +34,14 @@ behind = record {
 
 -- before it is settled
 abbrev pub unsettled : State Place Name
-unsettled = record behind { window = record { rows = []; overloaded = 2 ∷ 3 ∷ [] } }
+unsettled = record after { window = record { rows = []; overloaded = 2 ∷ 3 ∷ [] } }
 
-finitely : (t : MlType Name) → Meets scope behind Finiteness (types t)
+finitely : (t : MlType Name) → Meets scope after Finiteness (types t)
 unfolding replace_type replace_types
 finitely t =
     (refl, (refl, (refl, (λ h. absurd (omega (arith, h)), (λ h. absurd (omega (arith, h)), (λ h. absurd (omega (arith, h)), (λ h. absurd (omega (arith, h)), tt)))))))
 
-pub met : Meets scope behind Rigidity (types (type_of int))
+pub met : Meets scope after Rigidity (types (type_of int))
 unfolding replace_type replace_types Mentions naming
 met =
     (refl, (refl, (refl, (λ h. (int, refl, refl), (λ h. (int, refl, refl), (λ h. initial-within int, (λ h. (tt, (initial-within int, (initial-within int, tt))), tt)))))))
@@ -62,20 +62,20 @@ one t u e (j, a, f) (k, b, g) = go j k (let d : type_of j ≡ type_of k = sym f 
     go j list d a b g = absurd cc
     go j ref d a b g = absurd cc
 
-pub third : (σ : ℕ → MlType Name) → Meets scope behind Classes σ → σ 3 ≡ type_of int
+pub third : (σ : ℕ → MlType Name) → Meets scope after Classes σ → σ 3 ≡ type_of int
 unfolding replace_type replace_types naming
 third σ m = one (σ 2) (σ 3) m.1.0 (m.1.1.1.1.0 (omega arith)) (m.1.1.1.0 (omega arith))
 
-pub second : (σ : ℕ → MlType Name) → Meets scope behind Classes σ → σ 2 ≡ type_of int
+pub second : (σ : ℕ → MlType Name) → Meets scope after Classes σ → σ 2 ≡ type_of int
 unfolding replace_type replace_types
 second σ m = let e : σ 2 ≡ σ 3 = m.1.0 in e ∙ third σ m
 
 -- so they aren't settled as overloaded ones
-pub one-type : (v : ℕ) → ((σ : ℕ → MlType Name) → Meets scope behind Classes σ → σ v ≡ type_of int) → ¬ (IsOverloaded scope unsettled v)
+pub one-type : (v : ℕ) → ((σ : ℕ → MlType Name) → Meets scope after Classes σ → σ v ≡ type_of int) → ¬ (IsOverloaded scope unsettled v)
 unfolding IsOverloaded replace_type replace_types
 one-type v f o = o.5 (f o.1 (lower o.1 o.3) ∙ sym (f o.2 (lower o.2 o.4)))
   where
-    lower : (σ : ℕ → MlType Name) → Meets scope behind Rigidity σ → Meets scope behind Classes σ
+    lower : (σ : ℕ → MlType Name) → Meets scope after Rigidity σ → Meets scope after Classes σ
     lower σ m = (
       m.0,
       (
@@ -87,15 +87,15 @@ one-type v f o = o.5 (f o.1 (lower o.1 o.3) ∙ sym (f o.2 (lower o.2 o.4)))
       ),
     )
 
-left : IsLeft scope behind 1
-left = (omega arith, inl (loose behind 1 types (λ t. refl) finitely), apart)
+left : IsLeft scope after 1
+left = (omega arith, inl (loose after 1 types (λ t. refl) finitely), apart)
   where
-    apart : (u : ℕ) → u < 1 → (σ : ℕ → MlType Name) × Meets scope behind Finiteness σ × (σ u ≢ σ 1)
+    apart : (u : ℕ) → u < 1 → (σ : ℕ → MlType Name) × Meets scope after Finiteness σ × (σ u ≢ σ 1)
     apart zero h = (types (type_of int), finitely (type_of int), λ e. cc)
     apart (suc u) h = absurd (omega (arith, h))
 
 -- all are the same by the equations
-module _ (τ : ℕ → MlType Name) (m : Meets scope behind Finiteness τ) where
+module _ (τ : ℕ → MlType Name) (m : Meets scope after Finiteness τ) where
   of-both : τ 3 ≡ τ 1
   unfolding replace_type replace_types
   of-both = let e : twice (τ 3) ≡ twice (τ 1) = m.1.1.0 in cc
@@ -108,14 +108,14 @@ module _ (τ : ℕ → MlType Name) (m : Meets scope behind Finiteness τ) where
   unfolding replace_type replace_types
   whole = let e : τ 0 ≡ arrow_of (τ 1) (τ 2) = m.0 in e ∙ ap (arrow_of (τ 1)) of-abs
 
-fates : (v : ℕ) → IsLeft scope behind v → IsFateOf scope behind 0 false v Default
+fates : (v : ℕ) → IsLeft scope after v → IsFateOf scope after 0 false v Default
 unfolding replace_type replace_types IsInt naming
-fates zero l = absurd (settled scope behind (types (type_of int)) (finitely (type_of int)) 0 arrow (and_type (free 1) (and_type (free 1) no_type)) (λ ls e. cc) whole l)
+fates zero l = absurd (settled scope after (types (type_of int)) (finitely (type_of int)) 0 arrow (and_type (free 1) (and_type (free 1) no_type)) (λ ls e. cc) whole l)
 fates (suc zero) l = λ σ m. let e : twice (σ 3) ≡ twice (σ 1) = m.1.1.0 in let f : σ 3 ≡ type_of int = third σ m in cc
 fates (suc (suc zero)) l = let d = l.2 1 (omega arith) in absurd (d.2 (sym (of-abs d.0 d.1)))
 fates (suc (suc (suc zero))) l = let d = l.2 1 (omega arith) in absurd (d.2 (sym (of-both d.0 d.1)))
 fates (suc (suc (suc (suc v)))) l = absurd (omega (arith, l.0))
 
-pub scheme : IsScheme scope behind 0 false (free 0) (mono (arrow_of (type_of int) (type_of int)))
+pub scheme : IsScheme scope after 0 false (free 0) (mono (arrow_of (type_of int) (type_of int)))
 unfolding IsScheme StandsFor IsOfLeft AreOfLeft replace_type replace_types close_as variables_after variables_after_all index_among naming
 scheme = (arrow_of (free 1) (free 1), ((left, (left, tt)), λ σ m. sym (whole σ m)), λ _. Default, fates, refl)

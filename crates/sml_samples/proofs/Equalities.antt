@@ -25,8 +25,8 @@ types t zero = t
 types t (suc zero) = arrow_of t t
 types t (suc (suc v)) = t
 
-abbrev pub behind : State Place Name
-behind = record {
+abbrev pub after : State Place Name
+after = record {
   made = 3;
   names = initial_names;
   demands = equal (free 1) (arrow_of (free 0) (free 2)) ∷ asks (within Newness initial_names) (free 2) ∷ equal (free 2) (free 0)
@@ -35,7 +35,7 @@ behind = record {
   is_open = false;
 }
 
-pub finitely : (t : MlType Name) → Meets scope behind Finiteness (types t)
+pub finitely : (t : MlType Name) → Meets scope after Finiteness (types t)
 unfolding replace_type replace_types
 finitely t = (refl, (λ h. absurd (omega (arith, h)), (refl, (λ h. absurd (omega (arith, h)), (λ h. absurd (omega (arith, h)), (λ h. absurd (omega (arith, h)), tt))))))
 
@@ -43,40 +43,40 @@ finitely t = (refl, (λ h. absurd (omega (arith, h)), (refl, (λ h. absurd (omeg
 abbrev pub itself : MlType Name
 itself = named (made 0 0 0 true)
 
-pub met : Meets scope behind Rigidity (types itself)
+pub met : Meets scope after Rigidity (types itself)
 unfolding replace_type replace_types Mentions admits all_admit naming
 met = (refl, (λ h. own, (refl, (λ h. (tt, (own, (own, tt))), (λ h. refl, (λ h. refl, tt))))))
   where
     own : Mentions ((words scope).Allows initial_names) itself
     own = (inr (record { number = 0; equality = true }, refl), tt)
 
-met-classes : Meets scope behind Classes (types (type_of string))
+met-classes : Meets scope after Classes (types (type_of string))
 unfolding replace_type replace_types Mentions admits all_admit naming
 met-classes =
     (refl, (λ h. initial-within string, (refl, (λ h. (tt, (initial-within string, (initial-within string, tt))), (λ h. refl, (λ h. absurd (omega (arith, h)), tt))))))
 
-left : IsLeft scope behind 0
-left = (omega arith, inl (loose behind 0 types (λ t. refl) finitely), λ u h. absurd (omega (arith, h)))
+left : IsLeft scope after 0
+left = (omega arith, inl (loose after 0 types (λ t. refl) finitely), λ u h. absurd (omega (arith, h)))
 
-fates : (v : ℕ) → IsLeft scope behind v → IsFateOf scope behind 0 false v (Bind true)
+fates : (v : ℕ) → IsLeft scope after v → IsFateOf scope after 0 false v (Bind true)
 unfolding replace_type replace_types AsksEquality
 fates zero l = (
-  not-int behind 0 types (λ t. refl) finitely met-classes,
+  not-int after 0 types (λ t. refl) finitely met-classes,
   refl,
-  not-fixed behind 0 types (λ t. refl) finitely,
-  not-flexible behind 0 types (λ t. refl) finitely,
+  not-fixed after 0 types (λ t. refl) finitely,
+  not-flexible after 0 types (λ t. refl) finitely,
   (λ e σ m. m.1.1.1.1.0 (omega arith), λ f. refl),
 )
-fates (suc zero) l = absurd (settled scope behind (types (type_of int)) (finitely (type_of int)) 1 arrow (and_type (free 0) (and_type (free 2) no_type)) (λ ls e. cc) (λ τ m. m.0) l)
+fates (suc zero) l = absurd (settled scope after (types (type_of int)) (finitely (type_of int)) 1 arrow (and_type (free 0) (and_type (free 2) no_type)) (λ ls e. cc) (λ τ m. m.0) l)
 fates (suc (suc zero)) l = let d = l.2 0 (omega arith) in absurd (d.2 (sym d.1.1.1.0))
 fates (suc (suc (suc v))) l = absurd (omega (arith, l.0))
 
-pub general : ¬ (IsFixed scope behind 0 [] 0)
-general = not-fixed behind 0 types (λ t. refl) finitely
+pub general : ¬ (IsFixed scope after 0 [] 0)
+general = not-fixed after 0 types (λ t. refl) finitely
 
-pub scheme : IsScheme scope behind 0 false (free 1) (record { variables = true ∷ []; body = arrow_of (bound 0) (bound 0) })
+pub scheme : IsScheme scope after 0 false (free 1) (record { variables = true ∷ []; body = arrow_of (bound 0) (bound 0) })
 unfolding IsScheme StandsFor IsOfLeft AreOfLeft replace_type replace_types close_as variables_after variables_after_all index_among
 scheme = (arrow_of (free 0) (free 0), ((left, (left, tt)), λ σ m. same σ m), λ _. Bind true, fates, refl)
   where
-    same : (σ : ℕ → MlType Name) → Meets scope behind Finiteness σ → arrow_of (σ 0) (σ 0) ≡ σ 1
+    same : (σ : ℕ → MlType Name) → Meets scope after Finiteness σ → arrow_of (σ 0) (σ 0) ≡ σ 1
     same σ m = let e : σ 1 ≡ arrow_of (σ 0) (σ 2) = m.0 in let f : σ 2 ≡ σ 0 = m.1.1.0 in cc

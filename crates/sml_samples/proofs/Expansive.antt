@@ -24,8 +24,8 @@ types t zero = arrow_of t t
 types t (suc zero) = arrow_of t t
 types t (suc (suc v)) = t
 
-abbrev pub behind : State Place Name
-behind = record {
+abbrev pub after : State Place Name
+after = record {
   made = 3;
   names = initial_names;
   demands = equal (free 0) (free 1) ∷ equal (free 1) (arrow_of (free 2) (free 2)) ∷ asks (within Newness initial_names) (free 2)
@@ -34,45 +34,45 @@ behind = record {
   is_open = false;
 }
 
-finitely : (t : MlType Name) → Meets scope behind Finiteness (types t)
+finitely : (t : MlType Name) → Meets scope after Finiteness (types t)
 unfolding replace_type replace_types
 finitely t = (refl, (refl, (λ h. absurd (omega (arith, h)), (λ h. absurd (omega (arith, h)), tt))))
 
-pub met : (t : MlType Name) → Mentions ((words scope).Allows initial_names) t → Meets scope behind Rigidity (types t)
+pub met : (t : MlType Name) → Mentions ((words scope).Allows initial_names) t → Meets scope after Rigidity (types t)
 unfolding replace_type replace_types Mentions
 met t w = (refl, (refl, (λ h. w, (λ h. (tt, (w, (w, tt))), tt))))
 
 -- where the type is int
-pub met-int : Meets scope behind Rigidity (types (type_of int))
+pub met-int : Meets scope after Rigidity (types (type_of int))
 met-int = met (type_of int) (initial-within int)
 
-met-classes : Meets scope behind Classes (types (type_of string))
+met-classes : Meets scope after Classes (types (type_of string))
 unfolding replace_type replace_types Mentions
 met-classes = (refl, (refl, (λ h. initial-within string, (λ h. (tt, (initial-within string, (initial-within string, tt))), tt))))
 
-left : IsLeft scope behind 2
-left = (omega arith, inl (loose behind 2 types (λ t. refl) finitely), apart)
+left : IsLeft scope after 2
+left = (omega arith, inl (loose after 2 types (λ t. refl) finitely), apart)
   where
-    apart : (u : ℕ) → u < 2 → (σ : ℕ → MlType Name) × Meets scope behind Finiteness σ × (σ u ≢ σ 2)
+    apart : (u : ℕ) → u < 2 → (σ : ℕ → MlType Name) × Meets scope after Finiteness σ × (σ u ≢ σ 2)
     apart zero h = (types (type_of int), finitely (type_of int), λ e. cc)
     apart (suc zero) h = (types (type_of int), finitely (type_of int), λ e. cc)
     apart (suc (suc u)) h = absurd (omega (arith, h))
 
-fates : (v : ℕ) → IsLeft scope behind v → IsFateOf scope behind 0 true v Keep
+fates : (v : ℕ) → IsLeft scope after v → IsFateOf scope after 0 true v Keep
 unfolding replace_type replace_types
-fates zero l = absurd (settled scope behind (types (type_of int)) (finitely (type_of int)) 0 arrow (and_type (free 2) (and_type (free 2) no_type)) (λ ls e. cc) (λ τ m. m.0 ∙ m.1.0) l)
-fates (suc zero) l = absurd (settled scope behind (types (type_of int)) (finitely (type_of int)) 1 arrow (and_type (free 2) (and_type (free 2) no_type)) (λ ls e. cc) (λ τ m. m.1.0) l)
-fates (suc (suc zero)) l = (not-int behind 2 types (λ t. refl) finitely met-classes, inl refl)
+fates zero l = absurd (settled scope after (types (type_of int)) (finitely (type_of int)) 0 arrow (and_type (free 2) (and_type (free 2) no_type)) (λ ls e. cc) (λ τ m. m.0 ∙ m.1.0) l)
+fates (suc zero) l = absurd (settled scope after (types (type_of int)) (finitely (type_of int)) 1 arrow (and_type (free 2) (and_type (free 2) no_type)) (λ ls e. cc) (λ τ m. m.1.0) l)
+fates (suc (suc zero)) l = (not-int after 2 types (λ t. refl) finitely met-classes, inl refl)
 fates (suc (suc (suc v))) l = absurd (omega (arith, l.0))
 
-pub scheme : IsScheme scope behind 0 true (free 0) (mono (arrow_of (free 2) (free 2)))
+pub scheme : IsScheme scope after 0 true (free 0) (mono (arrow_of (free 2) (free 2)))
 unfolding IsScheme StandsFor IsOfLeft AreOfLeft replace_type replace_types close_as variables_after variables_after_all index_among
 scheme = (arrow_of (free 2) (free 2), ((left, (left, tt)), λ σ m. sym (m.0 ∙ m.1.0)), λ _. Keep, fates, refl)
 
 -- the type stays open, and mentions only names made so far
 
 abbrev pub closed : State Place Name
-closed = with_demand (asks (within Newness initial_names) (free 0)) (opened behind)
+closed = with_demand (asks (within Newness initial_names) (free 0)) (opened after)
 
 pub met-closed : (t : MlType Name) → Mentions ((words scope).Allows initial_names) t → Meets scope closed Rigidity (types t)
 unfolding replace_type replace_types Mentions
@@ -88,7 +88,7 @@ open-ended u f =
     let d : arrow_of (type_of string) (type_of string) ≡ u = f (types (type_of string)) (met-closed (type_of string) (initial-within string)) in
     let c : arrow_of (type_of int) (type_of int) ≡ arrow_of (type_of string) (type_of string) = e ∙ sym d in cc
 
--- `val j = i 3` behind it: unknown 3 is the type of j
+-- `val j = i 3` after it: unknown 3 is the type of j
 
 abbrev pub later : State Place Name
 later = record {

@@ -23,8 +23,8 @@ abbrev pub types : MlType Name → ℕ → MlType Name
 types t zero = arrow_of t t
 types t (suc v) = t
 
-abbrev pub behind : State Place Name
-behind = record {
+abbrev pub after : State Place Name
+after = record {
   made = 2;
   names = initial_names;
   demands = equal (free 0) (arrow_of (free 1) (free 1)) ∷ asks (within Newness initial_names) (free 1) ∷ asks (within Newness initial_names) (free 0) ∷ [];
@@ -32,35 +32,35 @@ behind = record {
   is_open = false;
 }
 
-met-finitely : (t : MlType Name) → Meets scope behind Finiteness (types t)
+met-finitely : (t : MlType Name) → Meets scope after Finiteness (types t)
 unfolding replace_type replace_types
 met-finitely t = (refl, (λ h. absurd (omega (arith, h)), (λ h. absurd (omega (arith, h)), tt)))
 
-met-equality : (k : Initial) → Meets scope behind Equality (types (type_of k))
+met-equality : (k : Initial) → Meets scope after Equality (types (type_of k))
 unfolding replace_type replace_types Mentions
 met-equality k = (refl, (λ h. initial-within k, (λ h. (tt, (initial-within k, (initial-within k, tt))), tt)))
 
-met-classes : (k : Initial) → Meets scope behind Classes (types (type_of k))
+met-classes : (k : Initial) → Meets scope after Classes (types (type_of k))
 unfolding replace_type replace_types Mentions
 met-classes k = (refl, (λ h. initial-within k, (λ h. (tt, (initial-within k, (initial-within k, tt))), tt)))
 
-pub met : (k : Initial) → Meets scope behind Rigidity (types (type_of k))
+pub met : (k : Initial) → Meets scope after Rigidity (types (type_of k))
 unfolding replace_type replace_types Mentions
 met k = (refl, (λ h. initial-within k, (λ h. (tt, (initial-within k, (initial-within k, tt))), tt)))
 
-left : IsLeft scope behind 1
-left = (omega arith, inl (loose behind 1 types (λ t. refl) met-finitely), apart)
+left : IsLeft scope after 1
+left = (omega arith, inl (loose after 1 types (λ t. refl) met-finitely), apart)
   where
-    apart : (u : ℕ) → u < 1 → (σ : ℕ → MlType Name) × Meets scope behind Finiteness σ × (σ u ≢ σ 1)
+    apart : (u : ℕ) → u < 1 → (σ : ℕ → MlType Name) × Meets scope after Finiteness σ × (σ u ≢ σ 1)
     apart zero h = (types (type_of int), met-finitely (type_of int), λ e. cc)
     apart (suc u) h = absurd (omega (arith, h))
 
-fates : (v : ℕ) → IsLeft scope behind v → IsFateOf scope behind 0 false v (Bind false)
+fates : (v : ℕ) → IsLeft scope after v → IsFateOf scope after 0 false v (Bind false)
 unfolding replace_types
-fates zero l = absurd (settled scope behind (types (type_of int)) (met-finitely (type_of int)) 0 arrow (and_type (free 1) (and_type (free 1) no_type)) (λ ls e. cc) (λ τ m. m.0) l)
-fates (suc zero) l = is-bound behind 1 types (λ t. refl) met-finitely (met-classes string) (met-equality real)
+fates zero l = absurd (settled scope after (types (type_of int)) (met-finitely (type_of int)) 0 arrow (and_type (free 1) (and_type (free 1) no_type)) (λ ls e. cc) (λ τ m. m.0) l)
+fates (suc zero) l = is-bound after 1 types (λ t. refl) met-finitely (met-classes string) (met-equality real)
 fates (suc (suc v)) l = absurd (omega (arith, l.0))
 
-pub scheme : IsScheme scope behind 0 false (free 0) (record { variables = false ∷ []; body = arrow_of (bound 0) (bound 0) })
+pub scheme : IsScheme scope after 0 false (free 0) (record { variables = false ∷ []; body = arrow_of (bound 0) (bound 0) })
 unfolding IsScheme StandsFor IsOfLeft AreOfLeft replace_type replace_types close_as variables_after variables_after_all index_among
 scheme = (arrow_of (free 1) (free 1), ((left, (left, tt)), λ σ m. sym m.0), λ _. Bind false, fates, refl)

@@ -38,7 +38,7 @@ use Rattle.sml_samples.proofs.Values.{int-scheme}
 use Rattle.sml_samples.proofs.Datatypes.{first-datatype, with-equality}
 use Rattle.sml_samples.proofs.Expansive as X
 
--- `datatype 'a d = D of 'a`, and once more behind it
+-- `datatype 'a d = D of 'a`, and once more after it
 boxes-new : (p : Place) → AreNew naming (names_env around ++ initial_names) (boxes_binding p ∷ []) (made 1 0 1 true ∷ [])
 unfolding AreNew names_in names_structures names_type names_types naming
 boxes-new p = (made 1 0 1 true, [], made-outside 1 0 1 true _ refl, λ k e. cc, refl, refl, refl, refl)
@@ -56,7 +56,7 @@ boxes-again p = (
   refl,
 )
 
--- behind the open value, a variable of a signature's value, which is number 3
+-- after the open value, a variable of a signature's value, which is number 3
 
 abbrev itself : MlType Name
 itself = named (made 0 3 0 false)

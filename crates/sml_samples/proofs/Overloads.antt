@@ -25,7 +25,7 @@ asked =
     equal (free 0) (arrow_of (free 1) (free 2)) ∷ equal (twice (free 2)) (twice (free 1)) ∷ asks (of_class Num) (free 2)
     ∷ asks (within Newness initial_names) (free 1) ∷ asks (within Newness initial_names) (free 0) ∷ []
 
--- before it is settled, and behind that
+-- before it is settled, and after that
 abbrev pub open_state : State Place Name
 open_state = record { made = 3; names = initial_names; demands = asked; window = record { rows = []; overloaded = 2 ∷ [] }; is_open = false }
 

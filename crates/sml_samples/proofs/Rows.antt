@@ -70,32 +70,32 @@ abbrev pub types : ℕ → MlType Name
 types zero = type_of int
 types (suc v) = two_fields
 
-abbrev pub behind : State Place Name
-behind = record { made = 2; names = initial_names; demands = equal (free 1) two_fields ∷ has_fields (free 1) ((codes "a", free 0) ∷ []) ∷ []; window = no_window; is_open = false }
+abbrev pub after : State Place Name
+after = record { made = 2; names = initial_names; demands = equal (free 1) two_fields ∷ has_fields (free 1) ((codes "a", free 0) ∷ []) ∷ []; window = no_window; is_open = false }
 
-pub met : Meets scope behind Rigidity types
+pub met : Meets scope after Rigidity types
 unfolding replace_type replace_types
 met = (refl, (two-have, tt))
 
-finitely : Meets scope behind Finiteness types
+finitely : Meets scope after Finiteness types
 unfolding replace_type replace_types
 finitely = (refl, (two-have, tt))
 
-field : (τ : ℕ → MlType Name) → Meets scope behind Finiteness τ → τ 0 ≡ type_of int
+field : (τ : ℕ → MlType Name) → Meets scope after Finiteness τ → τ 0 ≡ type_of int
 unfolding replace_type replace_types
 field τ m = first-field (τ 1) (τ 0) m.0 m.1.0
 
-pub one-set : HasOneSetOfLabels scope behind Rigidity (free 1)
+pub one-set : HasOneSetOfLabels scope after Rigidity (free 1)
 unfolding HasOneSetOfLabels replace_type replace_types
 one-set = (both_labels, λ σ m. (type_of int ∷ type_of int ∷ [], m.0))
 
-alone : (v : ℕ) → IsLeft scope behind v → ⊥
+alone : (v : ℕ) → IsLeft scope after v → ⊥
 unfolding replace_type replace_types
-alone zero l = settled scope behind types finitely 0 (name (initial int)) no_type (λ ls e. cc) field l
-alone (suc zero) l = settled-row scope behind types finitely 1 both_labels (type_of int ∷ type_of int ∷ []) (λ τ m. m.0) l
+alone zero l = settled scope after types finitely 0 (name (initial int)) no_type (λ ls e. cc) field l
+alone (suc zero) l = settled-row scope after types finitely 1 both_labels (type_of int ∷ type_of int ∷ []) (λ τ m. m.0) l
 alone (suc (suc v)) l = absurd (omega (arith, l.0))
 
-pub scheme : IsScheme scope behind 0 false (free 0) (mono (type_of int))
+pub scheme : IsScheme scope after 0 false (free 0) (mono (type_of int))
 unfolding IsScheme StandsFor IsOfLeft AreOfLeft replace_type replace_types close_as variables_after variables_after_all
 scheme = (type_of int, (tt, λ σ m. sym (field σ m)), λ _. Keep, λ v l. absurd (alone v l), refl)
 
@@ -106,8 +106,8 @@ open_types r zero = arrow_of r (type_of int)
 open_types r (suc zero) = type_of int
 open_types r (suc (suc v)) = r
 
-abbrev pub open_behind : State Place Name
-open_behind = record {
+abbrev pub open_after : State Place Name
+open_after = record {
   made = 3;
   names = initial_names;
   demands = equal (free 0) (arrow_of (free 2) (free 1)) ∷ asks (within Newness initial_names) (free 1) ∷ has_fields (free 2) ((codes "a", free 1) ∷ [])
@@ -117,19 +117,19 @@ open_behind = record {
 }
 
 met-open : (r : MlType Name) → HasFields Name finite r ((codes "a", type_of int) ∷ []) → Mentions ((words scope).Allows initial_names) r
-    → Meets scope open_behind Rigidity (open_types r)
+    → Meets scope open_after Rigidity (open_types r)
 unfolding replace_type replace_types Mentions
 met-open r h w = (refl, (λ _. initial-within int, (h, (λ _. (tt, (w, (initial-within int, tt))), tt))))
 
-pub met-open-one : Meets scope open_behind Rigidity (open_types one_field)
+pub met-open-one : Meets scope open_after Rigidity (open_types one_field)
 unfolding Mentions
 met-open-one = met-open one_field one-has (tt, (initial-within int, tt))
 
-met-open-two : Meets scope open_behind Rigidity (open_types two_fields)
+met-open-two : Meets scope open_after Rigidity (open_types two_fields)
 unfolding Mentions
 met-open-two = met-open two_fields two-have (tt, (initial-within int, (initial-within int, tt)))
 
-pub several-sets : ¬ (HasOneSetOfLabels scope open_behind Rigidity (free 2))
+pub several-sets : ¬ (HasOneSetOfLabels scope open_after Rigidity (free 2))
 unfolding HasOneSetOfLabels replace_type replace_types
 several-sets o =
     let a = o.1 (open_types one_field) met-open-one in

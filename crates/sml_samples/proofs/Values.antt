@@ -28,7 +28,7 @@ use Rattle.sml_samples.proofs.Steps.{◌⊳◌}
 use Rattle.sml_samples.proofs.Unmet.{clash}
 use Rattle.sml_samples.proofs.Known as K
 
--- behind `x = 3`: the type of x is int
+-- after `x = 3`: the type of x is int
 abbrev pub int-state : State Place Name
 int-state = record { made = 1; names = initial_names; demands = equal (free 0) (type_of int) ∷ []; window = no_window; is_open = false }
 

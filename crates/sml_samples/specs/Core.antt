@@ -35,7 +35,7 @@ constructor_of p x c = record { name = name_at p x; argument = Some (constructor
 abbrev pub one_value : Id → Status → MlType Name → Env Name
 one_value x s t = of_values ((x, value_of s t) ∷ [])
 
--- `x = c` behind `datatype`, where the constructor is given
+-- `x = c` after `datatype`, where the constructor is given
 abbrev pub datatype_binding : Place → Id → ConBind Place → DatBind Place
 datatype_binding p x c = record { variables = []; name = name_at p x; constructors = c ∷ [] }
 

@@ -56,7 +56,7 @@ one_structure ns E = basis_of ns [] [] (maps (and_structure (codes "A") E no_str
 abbrev pub core_at : Dec Place → StrDecs Place
 core_at d = and_str_dec (core_dec d) no_str_dec
 
--- `type t = int`, and behind it `val x = 3`, in `struct .. end`
+-- `type t = int`, and after it `val x = 3`, in `struct .. end`
 abbrev pub with_type : StrExp Place
 with_type = struct_end 4 (core_at (type_at 5 (codes "t") (codes "int")))
 
@@ -64,7 +64,7 @@ abbrev pub with_both : StrExp Place
 with_both =
     struct_end 4 (and_str_dec (core_dec (type_at 5 (codes "t") (codes "int"))) (core_at (val_dec 9 [] (one_binding (pattern_at 10 (codes "x")) (three 12)) no_bind)))
 
--- `val x = 3`, and behind it `val y = 3`, in `struct .. end`
+-- `val x = 3`, and after it `val y = 3`, in `struct .. end`
 abbrev pub three_at : Place → Id → Dec Place
 three_at p x = val_dec p [] (one_binding (pattern_at (p + 1) x) (three (p + 3))) no_bind
 
@@ -116,7 +116,7 @@ pub record StructureSamples : Type 0 where
   -- `structure A = struct type t = int val x = 3 end : sig type t val x : t end`, and without the value
   pub transparent_accepted : AcceptsTop (top_structure (ascribed 4 with_both Transparent (signature_at 15))) (one_structure [] (both_of (type_of int)))
   pub transparent_refused : RefusesTop (top_structure (ascribed 4 with_type Transparent (signature_at 11))) (fault_at M1 11 (codes "x" ∷ []))
-  -- the same with `:>`, behind which the type is a new one
+  -- the same with `:>`, after which the type is a new one
   pub opaque_accepted : AcceptsTop (top_structure (ascribed 4 with_both Opaque (signature_at 15))) (one_structure (made 1 1 0 false ∷ []) (both_of (named (made 1 1 0 false))))
   pub opaque_refused : RefusesTop (top_structure (ascribed 4 with_type Opaque (signature_at 11))) (fault_at M1 11 (codes "x" ∷ []))
   -- `local structure A = S in structure A = A end`, and `local structure A = S in structure A = B end`

@@ -45,7 +45,7 @@ structure_specified p x s = structure_spec p (and_str_desc (str_desc (name_at (p
 abbrev pub type_alone : Place → SigExp Place
 type_alone p = sig_end p (specs_of (type_specified (p + 1) (codes "t") ∷ []))
 
--- `t = c` behind `where type`
+-- `t = c` after `where type`
 abbrev pub is_type : Place → Id → Id → WhereType Place
 is_type p x c = record { variables = []; constructor = long_at p x; ty = constructor_at (p + 2) c }
 

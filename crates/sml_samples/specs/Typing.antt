@@ -14,7 +14,7 @@ use Rattle.sml_core_rules.specs.Objects.{Env, variable, of_values}
 use Rattle.sml_samples.specs.Around.{Place, name_at, constructor_at, type_of, Accepts, Refuses}
 use Rattle.sml_samples.specs.Core.{plain_constructor, datatype_binding, pattern_at, one_binding, three, variable_at, identity, identity_scheme}
 
--- `fn q => e`, at the place of `fn`; the pattern is behind it
+-- `fn q => e`, at the place of `fn`; the pattern is after it
 abbrev pub function_at : Place → Pat Place → Exp Place → Exp Place
 function_at p q e = fn p (and_rule (rule (p + 1) q e) no_rule)
 

@@ -22,7 +22,7 @@ hidden-more : {E : Type 0} (x : Id) (bs : Log E) (b : Ident × Option E) (now : 
 hidden-more x [] b now = refl
 hidden-more x (c ∷ bs) b now = ap (λ h. at (order_of x (ident_of c.0)) c.1 h) (hidden-more x bs b now)
 
--- behind one binding more of the log
+-- after one binding more of the log
 pub log-more : {E : Type 0} (x : Id) (first : ℕ) (log longer : Log E) (b : Ident × Option E) (now : Option E) → longer ≡ log ++ b ∷ [] → first ≤ length log
     → hidden_first x (drop first longer) now ≡ hidden_first x (drop first log) (at (order_of x (ident_of b.0)) b.1 now)
 log-more x first log longer b now e h =

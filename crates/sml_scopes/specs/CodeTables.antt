@@ -13,12 +13,12 @@ use Rattle.sml_scopes.specs.declared.table.Table.{Table}
 abbrev pub bound : {X : Type 0} → Table X → Id → Option (ℕ × X)
 bound t x = stored_in x t.entries.entries
 
--- what the first of these bindings of an identifier hid, or else what is bound to it behind them
+-- what the first of these bindings of an identifier hid, or else what is bound to it after them
 abbrev pub hidden_first : {E : Type 0} → Id → List (Rc (Vec ℕ Global) Global × Option E) → Option E → Option E
 hidden_first x [] now = now
 hidden_first x (b ∷ bs) now = by_order (order_of x (ident_of b.0)) (hidden_first x bs now) b.1 (hidden_first x bs now)
 
--- what was bound behind the first bindings
+-- what was bound after the first bindings
 abbrev pub bound_at : {X : Type 0} → ℕ → Table X → Id → Option (ℕ × X)
 bound_at first t x = hidden_first x (drop first t.log.items) (bound t x)
 

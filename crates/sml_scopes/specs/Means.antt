@@ -44,7 +44,7 @@ pub record MeansAt (s : Scopes) (m : Mark) (C : O.Env Name) : Type 0 where
   pub opened_inside : m.opened ≤ vec_len s.opened
   pub meant : AreMeant s.basis.now (take m.opened (opened_in s)) (bound_at m.values s.values) (bound_at m.types s.types) (bound_at m.structures s.structures) C
 
--- No mark of the first stands behind that of the second.
+-- No mark of the first stands after that of the second.
 pub record IsAround (m n : Mark) : Type 0 where
   pub values_are : m.values ≤ n.values
   pub types_are : m.types ≤ n.types

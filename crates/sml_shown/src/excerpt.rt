@@ -76,11 +76,11 @@ pub fn push_excerpt(text: &mut Vec<u8>, line: &[u8], column: u64) -> Result<(), 
     let from = first_shown(line, caret).min(caret);
     let to = last_shown(line, from).min(line.len()).max(caret);
     let before: &[u8] = if from > 0 { b"..." } else { b"" };
-    let behind: &[u8] = if to < line.len() { b"..." } else { b"" };
+    let after: &[u8] = if to < line.len() { b"..." } else { b"" };
     text.extend_from_slice(b"  | ")?;
     text.extend_from_slice(before)?;
     push_shown(text, &line[from..to])?;
-    text.extend_from_slice(behind)?;
+    text.extend_from_slice(after)?;
     text.extend_from_slice(b"\n  | ")?;
     push_blank(text, before)?;
     push_blank(text, &line[from..caret])

@@ -56,7 +56,7 @@ const LAYERS: [(&str, &str); 11] = [
         "fresh 2; class wordint 0; equality 0; equal 0 real -> equality",
     ),
     (
-        "equality is asked behind bounds",
+        "equality is asked after bounds",
         "fresh 2; equality 0; within locality 0 1; equal pair 0 1 pair real t0 -> locality",
     ),
 ];

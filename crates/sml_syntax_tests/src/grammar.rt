@@ -14,7 +14,7 @@ use std::process::Abort;
 use std::test::Fail;
 use texts::{SECTIONS, all_kinds, forms};
 
-/// Reads tokens of these kinds, of no bytes. Where `done` is false, a fault that is no token stands behind the last one.
+/// Reads tokens of these kinds, of no bytes. Where `done` is false, a fault that is no token stands after the last one.
 fn read_kinds(alloc: Global, kinds: &[Kind], done: bool) -> Result<Full, Memory> {
     let mut tokens = Vec::new(alloc);
     for kind in kinds {
@@ -59,8 +59,8 @@ fn is_among(mask: &[u8], number: usize) -> bool {
     }
 }
 
-/// Where reading ends, when this kind stands behind the others.
-fn cause_behind(alloc: Global, beginning: &[Kind], kind: Kind) -> Result<Option<Cause>, Memory> {
+/// Where reading ends, when this kind stands after the others.
+fn cause_after(alloc: Global, beginning: &[Kind], kind: Kind) -> Result<Option<Cause>, Memory> {
     let mut longer = Vec::from_slice(alloc, beginning)?;
     longer.push(kind)?;
     Ok(read_kinds(alloc, &longer, true)?.cause)
@@ -84,8 +84,8 @@ fn expect_cause(
     Ok(())
 }
 
-/// Demands that those kinds may stand behind a beginning of a text that are among the mask.
-fn expect_kinds_behind(
+/// Demands that those kinds may stand after a beginning of a text that are among the mask.
+fn expect_kinds_after(
     rt: &(impl Abort + AllocGlobal),
     beginning: &[Kind],
     mask: &[u8],
@@ -93,18 +93,18 @@ fn expect_kinds_behind(
 ) -> Result<(), Memory> {
     let count = beginning.len();
     for (number, kind) in all_kinds().iter().enumerate() {
-        let cause = cause_behind(rt.alloc(), beginning, *kind)?;
+        let cause = cause_after(rt.alloc(), beginning, *kind)?;
         let refused = cause == Some(Cause::Unexpected(count));
         assert_eq!(rt;
             refused,
             !is_among(mask, number),
-            "{kind:?} behind {count} tokens of {text}"
+            "{kind:?} after {count} tokens of {text}"
         );
     }
     Ok(())
 }
 
-/// Demands the answers to a text's beginnings, with each kind behind them.
+/// Demands the answers to a text's beginnings, with each kind after them.
 fn expect_marks(rt: &(impl Abort + AllocGlobal), text: &str, marks: &str) -> Result<(), Memory> {
     let lexed = lex(rt.alloc(), text.as_bytes())?;
     let kinds = kinds(rt.alloc(), &lexed.tokens)?;
@@ -117,7 +117,7 @@ fn expect_marks(rt: &(impl Abort + AllocGlobal), text: &str, marks: &str) -> Res
     for (count, mask) in masks.chunks(19).enumerate() {
         let beginning = &kinds[..count.min(kinds.len())];
         expect_cause(rt, beginning, mask, text)?;
-        expect_kinds_behind(rt, beginning, mask, text)?;
+        expect_kinds_after(rt, beginning, mask, text)?;
     }
     Ok(())
 }

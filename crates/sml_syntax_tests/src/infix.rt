@@ -22,7 +22,7 @@ fn ident(alloc: Global, text: &str) -> Result<Ident, Memory> {
     Ok(Rc::new(alloc, Vec::from_slice(alloc, text.as_bytes())?)?)
 }
 
-/// The item of a word: `0` and `(` are phrases, `op` an identifier behind `op`, `S.x` an identifier with a path, and any
+/// The item of a word: `0` and `(` are phrases, `op` an identifier after `op`, `S.x` an identifier with a path, and any
 /// other word a short identifier.
 fn item(alloc: Global, word: &str) -> Result<Item, Memory> {
     match word {

@@ -10,7 +10,7 @@ use Rattle.sml_texts.specs.Text.{Piece, a_name, say, variable, joined, bracketed
 use Rattle.sml_texts.specs.Spelling.{and_pieces}
 use Rattle.sml_texts.proofs.Spelling.{Spelt, then_more, on_ok_then}
 
--- pieces behind pieces
+-- pieces after pieces
 pub also : (t a b : Spelt) (xs ys : List (Piece Name)) → a ≡ and_pieces t xs → b ≡ and_pieces a ys → b ≡ and_pieces t (xs ++ ys)
 also t a b xs ys h k = then_more t a b xs ys (xs ++ ys) h k refl
 

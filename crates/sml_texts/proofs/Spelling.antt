@@ -56,7 +56,7 @@ pieces-append t xs ys =
     let text = append_assoc t.0 (spell naming t.1 xs) (spell naming (seen_after naming t.1 xs) ys) ∙ ap (λ u. t.0 ++ u) (sym (spell-append t.1 xs ys)) in
     λ i. (text i, sym (seen-append t.1 xs ys) i)
 
--- pieces behind pieces
+-- pieces after pieces
 pub then_more : (t a b : Spelt) (xs ys zs : List (Piece Name)) → a ≡ and_pieces t xs → b ≡ and_pieces a ys → zs ≡ xs ++ ys → b ≡ and_pieces t zs
 then_more t a b xs ys zs h k e = k ∙ ap (λ u. and_pieces u ys) h ∙ pieces-append t xs ys ∙ ap (and_pieces t) (sym e)
 

@@ -89,7 +89,7 @@ fits_nowhere bs p ts c plain knows =
     on None e = refl
     on (Some b) e = absurd (cc)
 
--- behind a path
+-- after a path
 pub pathed : (bs : List (E.TypBind Place)) (p : Place) (ts : T.Tys Place) (c : N.LongName Place) → (c.id.path ≡ [] → ⊥) → ty_height (applied p ts c (binding c.id.path c.id.last bs)) ≡ suc (tys_height ts)
 pathed bs p ts c far = on c.id.path far
   where

@@ -35,7 +35,7 @@ abbrev pub clause_rules : {P : Type 0} → List (Clause P) → Rules P
 clause_rules [] = no_rule
 clause_rules (c ∷ cs) = and_rule (clause_rule c) (clause_rules cs)
 
--- a signature expression behind `:` or `:>`
+-- a signature expression after `:` or `:>`
 pub record Constraint (P : Type 0) : Type 0 where
   pub ascription : Ascription
   pub signature : SigExp P

@@ -1,4 +1,4 @@
--- What the code keeps of the right sides behind `withtype`.
+-- What the code keeps of the right sides after `withtype`.
 use Rattle.std.specs.Prelude.{◌≡◌, ℕ, List, Option, unwrap_or, Vec}
 use Rattle.std.specs.Option.{option_map}
 use Rattle.std.specs.Map.{lookup}

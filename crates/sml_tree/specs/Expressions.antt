@@ -59,7 +59,7 @@ mutual
     and_rule : Rule P → Rules P → Rules P
 
   pub data Dec (P : Type 0) : Type 0 where
-    -- the explicit type variables, the bindings before the first `rec`, and those behind it
+    -- the explicit type variables, the bindings before the first `rec`, and those after it
     val_dec : P → List (Name P) → ValBinds P → ValBinds P → Dec P
     type_dec : P → List (TypBind P) → Dec P
     datatype_dec : P → List (DatBind P) → Dec P

@@ -111,7 +111,7 @@ abbrev mutual
   dec_height (val_dec p vs bs rs) = suc (max (binds_height bs) (binds_height rs))
   dec_height (type_dec p bs) = suc (highest typ_bind_height bs)
   dec_height (datatype_dec p bs) = suc (highest dat_bind_height bs)
-  -- what stands behind `withtype` stands in the datatypes too
+  -- what stands after `withtype` stands in the datatypes too
   dec_height (datatype_with p ds bs) = suc (max (highest dat_bind_height (map (dat_replaced bs) ds)) (highest typ_bind_height bs))
   dec_height (datatype_copy p t u) = 1
   dec_height (exception_dec p bs) = suc (highest exn_bind_height bs)

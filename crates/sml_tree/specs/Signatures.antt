@@ -6,7 +6,7 @@ use Rattle.sml_tree.specs.Names.{Name, LongName}
 use Rattle.sml_tree.specs.Types.{Ty}
 use Rattle.sml_tree.specs.Expressions.{ConBind, DatBind}
 
--- what stands behind `where type`
+-- what stands after `where type`
 pub record WhereType (P : Type 0) : Type 0 where
   pub variables : List (Name P)
   pub constructor : LongName P

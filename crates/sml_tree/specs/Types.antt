@@ -8,9 +8,9 @@ mutual
     ty_row : P → TyFields P → Ty P
     -- a row labelled from 1 on
     ty_tuple : P → Tys P → Ty P
-    -- a type constructor behind its arguments
+    -- a type constructor after its arguments
     ty_constructor : P → Tys P → LongName P → Ty P
-    -- a type constructor that is bound behind `withtype`, with another number of arguments than it has there
+    -- a type constructor that is bound after `withtype`, with another number of arguments than it has there
     ty_misapplied : P → Tys P → LongName P → Ty P
     ty_arrow : P → Ty P → Ty P → Ty P
     ty_bracket : P → Ty P → Ty P

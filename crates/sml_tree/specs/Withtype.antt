@@ -1,4 +1,4 @@
--- `datatype .. withtype ..` (the Definition, appendix A): in the datatypes each type constructor that is bound behind
+-- `datatype .. withtype ..` (the Definition, appendix A): in the datatypes each type constructor that is bound after
 -- `withtype` stands for its right side, all of them at once.
 use Rattle.std.specs.Prelude.{ℕ, suc, nat_eq, List, [], ◌∷◌, length, map, Option, Some, None, if◌then◌else◌}
 use Rattle.std.specs.Option.{option_map}
@@ -67,7 +67,7 @@ abbrev pub binding : {P : Type 0} → List Id → Id → List (TypBind P) → Op
 binding [] c bs = bound c bs
 binding (s ∷ path) c bs = None
 
--- a type constructor behind its arguments, from its binding
+-- a type constructor after its arguments, from its binding
 abbrev pub applied : {P : Type 0} → P → Tys P → LongName P → Option (TypBind P) → Ty P
 applied p ts c None = ty_constructor p ts c
 applied p ts c (Some b) = if nat_eq (length b.variables) (count_tys ts) then instance b.variables ts b.ty else ty_misapplied p ts c

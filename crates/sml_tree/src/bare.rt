@@ -7,7 +7,7 @@ use std::rc::Rc;
 /// An identifier: its bytes, shared by all phrases of a unit that write it.
 pub type Ident = Rc<Vec<u8>>;
 
-/// An identifier behind a path of structures, perhaps an empty one.
+/// An identifier after a path of structures, perhaps an empty one.
 #[derive(Drop)]
 pub struct LongIdent {
     pub place: Place,

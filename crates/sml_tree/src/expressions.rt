@@ -47,7 +47,7 @@ pub struct Rule {
 #[cycle(exp)]
 #[derive(Drop)]
 pub enum Dec {
-    /// The explicit type variables, the bindings before the first `rec`, and those behind it.
+    /// The explicit type variables, the bindings before the first `rec`, and those after it.
     Value(Place, Vec<Name>, Vec<ValBind>, Vec<ValBind>),
     Type(Place, Vec<TypBind>),
     Datatype(Place, Vec<DatBind>),

@@ -1,4 +1,4 @@
-//! Heights of datatypes with right sides in the place of the type constructors that are bound behind `withtype`.
+//! Heights of datatypes with right sides in the place of the type constructors that are bound after `withtype`.
 
 ghost use Rattle.std.specs.Prelude.{◌≡◌, suc, max, map, length, IfOk, IfSome, IfNone};
 ghost use Rattle.std.specs.Option.{option_map};
@@ -31,7 +31,7 @@ pub struct Side {
     depths: Vec<u32>,
 }
 
-/// Types that are bound behind `withtype`, and their right sides by type constructor.
+/// Types that are bound after `withtype`, and their right sides by type constructor.
 #[derive(Drop)]
 pub struct Sides {
     pub types: Vec<TypBind>,
@@ -73,7 +73,7 @@ impl Sides {
         Ok(Sides { types, table })
     }
 
-    /// The right side of a type constructor behind so many arguments, if it has one with as many variables.
+    /// The right side of a type constructor after so many arguments, if it has one with as many variables.
     fn side(&self, constructor: &LongIdent, arguments: usize) -> Option<&Side>
         ensures some { IfSome result (λ side. (length side.now.depths.items ≡ arguments) × ((p : Place) (ts : T.Tys Place) (c : N.LongName Place) → c.id ≡ long_of constructor.now → count_tys ts ≡ arguments →
             counted (ty_height (applied p ts c (binding c.id.path c.id.last (map typ_bind_of self.now.types.items)))) ≡ max side.now.height (reached side.now.depths.items ts))) }

@@ -16,7 +16,7 @@ pub enum SigExp {
     WhereType(Place, Box<SigExp>, WhereType),
 }
 
-/// What stands behind `where type`: type variables, a type constructor and a type.
+/// What stands after `where type`: type variables, a type constructor and a type.
 #[derive(Drop)]
 pub struct WhereType {
     pub variables: Vec<Name>,

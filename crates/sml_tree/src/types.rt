@@ -12,9 +12,9 @@ pub enum Ty {
     Row(Place, Vec<TyField>),
     /// A row labelled from 1 on.
     Tuple(Place, Vec<Ty>),
-    /// A type constructor behind its arguments.
+    /// A type constructor after its arguments.
     Constructor(Place, Vec<Ty>, LongIdent),
-    /// A type constructor that is bound behind `withtype`, with another number of arguments than it has there.
+    /// A type constructor that is bound after `withtype`, with another number of arguments than it has there.
     Misapplied(Place, Vec<Ty>, LongIdent),
     Arrow(Place, Box<Ty>, Box<Ty>),
     Bracket(Place, Box<Ty>),

@@ -1,4 +1,4 @@
-//! Datatypes with types bound behind `withtype`, as they are written.
+//! Datatypes with types bound after `withtype`, as they are written.
 
 ghost use Rattle.std.specs.Prelude.{◌≡◌, map, IfOk};
 ghost use Rattle.sml_tree.specs.BindingViews.{typ_bind_of, dat_bind_of};
@@ -11,7 +11,7 @@ use crate::sides::Sides;
 use sml_lex::fault::Memory;
 use std::alloc::Global;
 
-/// Datatypes, the types bound behind them, and how high the datatypes are with the types' right sides in the place of
+/// Datatypes, the types bound after them, and how high the datatypes are with the types' right sides in the place of
 /// their type constructors.
 #[derive(Drop)]
 pub struct WithTypes {

@@ -51,7 +51,7 @@ use Rattle.sml_tree_laws.proofs.PhrasesBound.{plain, class_of, Fits, PhraseBound
 use Rattle.sml_tree_laws.proofs.PartsBound.{WordBound, RoleBound, PartsBound}
 use Rattle.sml_tree_laws.proofs.MadeBound.{made_bound, made_fits, made_same, is_group}
 use Rattle.sml_tree_laws.proofs.Clean.{once, no_real, may_bind}
-use Rattle.sml_tree_laws.proofs.Walk.{Goes, is_type_variable, below_more, behind_more, stands_behind, context_in, context_behind, entered_word}
+use Rattle.sml_tree_laws.proofs.Walk.{Goes, is_type_variable, below_more, after_more, stands_after, context_in, context_after, entered_word}
 
 -- the tables
 
@@ -339,13 +339,13 @@ module _ (s : Source) (tokens : List Token) (all : List Mark) (own : (n : ℕ) �
   real_marked (G.Patterns rule) a c rest inc h e = false≢true h
   real_marked (G.Types rule) a c rest inc h e = false≢true h
 
-  -- a phrase by a rule, from the phrases behind its node
+  -- a phrase by a rule, from the phrases after its node
 
-  abbrev pub Behind : Rule → ℕ → ℕ → Context → List Node → List Phrase → Type 0
-  Behind r i a c nodes vs =
+  abbrev pub After : Rule → ℕ → ℕ → Context → List Node → List Phrase → Type 0
+  After r i a c nodes vs =
       (k : ℕ) → k < length (right_side r) → Claim (symbol (right_side r) k) (in_role (get_or (roles_of r) k Q.Same) (entered (entry_of r) i a c)) (a + width_of k nodes) (a + width_of (suc k) nodes) (at vs k)
 
-  named_word : (rule : NameRule) (i a n lo hi : ℕ) (c : Context) (nodes : List Node) (vs : List Phrase) → is_named (Of (part_of (G.Names rule))) ≡ true → lo ≤ a + 0 → a + width_of 1 nodes ≤ hi → Behind (G.Names rule) i a c nodes vs
+  named_word : (rule : NameRule) (i a n lo hi : ℕ) (c : Context) (nodes : List Node) (vs : List Phrase) → is_named (Of (part_of (G.Names rule))) ≡ true → lo ≤ a + 0 → a + width_of 1 nodes ≤ hi → After (G.Names rule) i a c nodes vs
       → WordBound Marked c.word c.group lo hi (made_by s (G.Names rule) n vs)
   named_word N.VidAlphanumeric i a n lo hi c nodes vs h l r b = word_wider c.word c.group (a + 0) (a + width_of 1 nodes) lo hi (at vs 0) l r (b 0 (omega arith)).1
   named_word N.VidSymbolic i a n lo hi c nodes vs h l r b = word_wider c.word c.group (a + 0) (a + width_of 1 nodes) lo hi (at vs 0) l r (b 0 (omega arith)).1
@@ -356,7 +356,7 @@ module _ (s : Source) (tokens : List Token) (all : List Mark) (own : (n : ℕ) �
   named_word N.LabNumeral i a n lo hi c nodes vs h l r b = word_wider c.word c.group (a + 0) (a + width_of 1 nodes) lo hi (at vs 0) l r (b 0 (omega arith)).1
   named_word _ i a n lo hi c nodes vs h l r b = absurd (false≢true h)
 
-  constant_word : (rule : NameRule) (i a n lo hi : ℕ) (c : Context) (nodes : List Node) (vs : List Phrase) → is_plain (Of (part_of (G.Names rule))) ≡ true → (is_real (G.Names rule) ≡ true → ⊥) → Behind (G.Names rule) i a c nodes vs
+  constant_word : (rule : NameRule) (i a n lo hi : ℕ) (c : Context) (nodes : List Node) (vs : List Phrase) → is_plain (Of (part_of (G.Names rule))) ≡ true → (is_real (G.Names rule) ≡ true → ⊥) → After (G.Names rule) i a c nodes vs
       → c.word ≡ W.Constant → (constant_in (made_by s (G.Names rule) n vs)).kind ≡ Real → ⊥
   constant_word N.ConstantNumeral i a n lo hi c nodes vs h real b e = λ k. cc
   constant_word N.ConstantZeroNumeral i a n lo hi c nodes vs h real b e = λ k. cc
@@ -368,7 +368,7 @@ module _ (s : Source) (tokens : List Token) (all : List Mark) (own : (n : ℕ) �
   constant_word _ i a n lo hi c nodes vs h real b e = absurd (false≢true h)
 
   module _ (r : Rule) (p : Part) (i a n lo hi : ℕ) (c : Context) (nodes : List Node) (vs : List Phrase) (same_part : part_of r ≡ p) (suited : suits c.word (Of p) ≡ true)
-      (real : is_real r ≡ true → c.word ≡ W.Constant → ⊥) (from : lo ≤ a + 0) (behind : a + width_of (length (right_side r) + 0) nodes ≤ hi) (parts_claimed : Behind r i a c nodes vs) where
+      (real : is_real r ≡ true → c.word ≡ W.Constant → ⊥) (from : lo ≤ a + 0) (after : a + width_of (length (right_side r) + 0) nodes ≤ hi) (parts_claimed : After r i a c nodes vs) where
     abbrev c' : Context
     c' = entered (entry_of r) i a c
 
@@ -398,12 +398,12 @@ module _ (s : Source) (tokens : List Token) (all : List Mark) (own : (n : ℕ) �
         go false e = subst (λ g. PhraseBound Marked (class_of (Of (part_of r))) g (t 0) (t (length (right_side r))) (made_by s r n vs)) (group_kept (entry_of r) i a c e) in_group
 
     end : t (length (right_side r)) ≤ hi
-    end = let e = ap (λ q. width_of q nodes) (let f : length (right_side r) + 0 ≡ length (right_side r) = omega arith in f) in omega (arith, behind, e)
+    end = let e = ap (λ q. width_of q nodes) (let f : length (right_side r) + 0 ≡ length (right_side r) = omega arith in f) in omega (arith, after, e)
 
-    by_rule : (r : Rule) → is_named (Of (part_of r)) ≡ true → a + width_of (length (right_side r) + 0) nodes ≤ hi → Behind r i a c nodes vs → WordBound Marked c.word c.group lo hi (made_by s r n vs)
+    by_rule : (r : Rule) → is_named (Of (part_of r)) ≡ true → a + width_of (length (right_side r) + 0) nodes ≤ hi → After r i a c nodes vs → WordBound Marked c.word c.group lo hi (made_by s r n vs)
     by_rule (G.Names rule) h e b = names rule h e b
       where
-        names : (rule : NameRule) → is_named (Of (part_of (G.Names rule))) ≡ true → a + width_of (length (right_side (G.Names rule)) + 0) nodes ≤ hi → Behind (G.Names rule) i a c nodes vs
+        names : (rule : NameRule) → is_named (Of (part_of (G.Names rule))) ≡ true → a + width_of (length (right_side (G.Names rule)) + 0) nodes ≤ hi → After (G.Names rule) i a c nodes vs
             → WordBound Marked c.word c.group lo hi (made_by s (G.Names rule) n vs)
         names rule h e b = named_word rule i a n lo hi c nodes vs h from (one rule h e) b
           where
@@ -425,7 +425,7 @@ module _ (s : Source) (tokens : List Token) (all : List Mark) (own : (n : ℕ) �
     by_rule (G.Patterns rule) h e b = absurd (false≢true (named_only (G.Patterns rule) h))
     by_rule (G.Types rule) h e b = absurd (false≢true (named_only (G.Types rule) h))
 
-    by_constant : (r : Rule) → is_plain (Of (part_of r)) ≡ true → (is_real r ≡ true → ⊥) → Behind r i a c nodes vs → c.word ≡ W.Constant → (constant_in (made_by s r n vs)).kind ≡ Real → ⊥
+    by_constant : (r : Rule) → is_plain (Of (part_of r)) ≡ true → (is_real r ≡ true → ⊥) → After r i a c nodes vs → c.word ≡ W.Constant → (constant_in (made_by s r n vs)).kind ≡ Real → ⊥
     by_constant (G.Names rule) h real b e = constant_word rule i a n lo hi c nodes vs h real b e
     by_constant (G.Units rule) h real b e = absurd (false≢true (plain_only (G.Units rule) h))
     by_constant (G.Structures rule) h real b e = absurd (false≢true (plain_only (G.Structures rule) h))
@@ -440,7 +440,7 @@ module _ (s : Source) (tokens : List Token) (all : List Mark) (own : (n : ℕ) �
     word_bound = go c.word refl suited
       where
         go : (w : Wd) → c.word ≡ w → suits w (Of p) ≡ true → WordBound Marked c.word c.group lo hi (made_by s r n vs)
-        go (W.Bound sp) e h = by_rule r (subst (λ q. is_named (Of q) ≡ true) (sym same_part) h) behind parts_claimed
+        go (W.Bound sp) e h = by_rule r (subst (λ q. is_named (Of q) ≡ true) (sym same_part) h) after parts_claimed
         go W.Listed e h = absurd (false≢true h)
         go W.Constant e h =
             subst (λ w. WordBound Marked w c.group lo hi (made_by s r n vs)) (sym e) (by_constant r (subst (λ q. is_plain (Of q) ≡ true) (sym same_part) h) (λ q. real q e) parts_claimed e)
@@ -455,7 +455,7 @@ module _ (s : Source) (tokens : List Token) (all : List Mark) (own : (n : ℕ) �
       subst (λ q. Fits (class_of (Of q)) (made_by s r n vs)) same_part (made_fits r _ _ vs),
     )
 
-  -- all phrases that are behind a node, each in its context
+  -- all phrases that are after a node, each in its context
   pub bounds : (nodes : List Node) (i n a : ℕ) (ss : List Symbol) (cs : List Context) (left : List Token) → a ≡ s.begun + n → Goes nodes ss (kinds_of left) → AllSuit ss cs
       → ((j : ℕ) (t : Token) → slice_get left j ≡ Some t → slice_get s.tokens (n + j) ≡ Some t) → ((m : Mark) → Stands m (marks_of i a cs nodes) → Stands m all)
       → (k : ℕ) → k < length ss → (lo hi : ℕ) → lo ≡ a + width_of k nodes → hi ≡ a + width_of (suc k) nodes
@@ -479,14 +479,14 @@ module _ (s : Source) (tokens : List Token) (all : List Mark) (own : (n : ℕ) �
   bounds (Leaf ∷ nodes) i n a (Word w ∷ ss) (c ∷ cs) (t ∷ left) at_token g suit reads inc (suc k) h lo hi el eh =
       bounds nodes (suc i) (suc n) (a + 1) ss cs left (omega (arith, at_token)) g.1 suit.1
       (λ j t e. ap (slice_get s.tokens) (let f : suc n + j ≡ n + suc j = omega arith in f) ∙ reads (suc j) t e)
-      (λ m st. inc m (stands_behind m (word_mark c.word a c) _ st))
+      (λ m st. inc m (stands_after m (word_mark c.word a c) _ st))
       k (omega (arith, h)) lo hi (omega (arith, el)) (omega (arith, eh))
   bounds (Inner r ∷ nodes) i n a [] cs left at_token g suit reads inc k h lo hi el eh = absurd g
   bounds (Inner r ∷ nodes) i n a (Word w ∷ ss) cs left at_token g suit reads inc k h lo hi el eh = absurd g
   bounds (Inner r ∷ nodes) i n a (Of p ∷ ss) [] left at_token g suit reads inc k h lo hi el eh = absurd suit
   bounds (Inner r ∷ nodes) i n a (Of p ∷ ss) (c ∷ cs) left at_token g suit reads inc k h lo hi el eh =
       by_place
-      (bounds nodes (suc i) n a (right_side r ++ ss) (parts_of i a c (Inner r) ++ cs) left at_token g.2 (suit_parts r p i a c ss cs g.0 suit.0 real suit.1) reads (λ m st. inc m (stands_behind m (mark_at a c (Inner r)) _ st)))
+      (bounds nodes (suc i) n a (right_side r ++ ss) (parts_of i a c (Inner r) ++ cs) left at_token g.2 (suit_parts r p i a c ss cs g.0 suit.0 real suit.1) reads (λ m st. inc m (stands_after m (mark_at a c (Inner r)) _ st)))
       k h lo hi el eh
     where
       real : is_real r ≡ true → c.word ≡ W.Constant → ⊥
@@ -498,9 +498,9 @@ module _ (s : Source) (tokens : List Token) (all : List Mark) (own : (n : ℕ) �
       vs : List Phrase
       vs = phrases_of s nodes (starts_of n nodes)
 
-      behind : ((k : ℕ) → k < length (right_side r ++ ss) → (lo hi : ℕ) → lo ≡ a + width_of k nodes → hi ≡ a + width_of (suc k) nodes → Claim (symbol (right_side r ++ ss) k) (get_or (parts_of i a c (Inner r) ++ cs) k start) lo hi (at vs k))
-          → Behind r i a c nodes vs
-      behind deeper k b =
+      after : ((k : ℕ) → k < length (right_side r ++ ss) → (lo hi : ℕ) → lo ≡ a + width_of k nodes → hi ≡ a + width_of (suc k) nodes → Claim (symbol (right_side r ++ ss) k) (get_or (parts_of i a c (Inner r) ++ cs) k start) lo hi (at vs k))
+          → After r i a c nodes vs
+      after deeper k b =
           subst (λ x. Claim x (in_role (get_or (roles_of r) k Q.Same) (entered (entry_of r) i a c)) (a + width_of k nodes) (a + width_of (suc k) nodes) (at vs k)) (get_or_append_left (right_side r) ss (Word K.Comma) k b)
           (subst (λ q. Claim (symbol (right_side r ++ ss) k) q (a + width_of k nodes) (a + width_of (suc k) nodes) (at vs k))
           (context_in (roles_of r) (entered (entry_of r) i a c) 0 len cs k b ∙ ap (λ q. in_role (get_or (roles_of r) q Q.Same) (entered (entry_of r) i a c)) (let e : 0 + k ≡ k = omega arith in e))
@@ -509,10 +509,10 @@ module _ (s : Source) (tokens : List Token) (all : List Mark) (own : (n : ℕ) �
       by_place : ((k : ℕ) → k < length (right_side r ++ ss) → (lo hi : ℕ) → lo ≡ a + width_of k nodes → hi ≡ a + width_of (suc k) nodes → Claim (symbol (right_side r ++ ss) k) (get_or (parts_of i a c (Inner r) ++ cs) k start) lo hi (at vs k))
           → (k : ℕ) → k < length (Of p ∷ ss) → (lo hi : ℕ) → lo ≡ a + width_of k (Inner r ∷ nodes) → hi ≡ a + width_of (suc k) (Inner r ∷ nodes)
           → Claim (symbol (Of p ∷ ss) k) (get_or (c ∷ cs) k start) lo hi (at (made_by s r n vs ∷ drop len vs) k)
-      by_place deeper zero h lo hi el eh = claimed r p i a n lo hi c nodes vs g.0 suit.0 real (omega (arith, el)) (omega (arith, eh)) (behind deeper)
+      by_place deeper zero h lo hi el eh = claimed r p i a n lo hi c nodes vs g.0 suit.0 real (omega (arith, el)) (omega (arith, eh)) (after deeper)
       by_place deeper (suc k) h lo hi el eh =
           let next = ap (λ q. width_of q nodes) (let e : len + suc k ≡ suc (len + k) = omega arith in e) in
-          let x = deeper (len + k) (behind_more k (right_side r) ss (omega (arith, h))) lo hi (omega (arith, el)) (omega (arith, eh, next)) in
+          let x = deeper (len + k) (after_more k (right_side r) ss (omega (arith, h))) lo hi (omega (arith, el)) (omega (arith, eh, next)) in
           subst (λ q. Claim (symbol ss k) (get_or cs k start) lo hi (first q)) (sym (drop-drop k len vs))
           (subst (λ y. Claim y (get_or cs k start) lo hi (at vs (len + k))) (get_or-append-add (right_side r) ss k (Word K.Comma))
-          (subst (λ q. Claim (symbol (right_side r ++ ss) (len + k)) q lo hi (at vs (len + k))) (context_behind (roles_of r) (entered (entry_of r) i a c) 0 len cs k (len + k) refl) x))
+          (subst (λ q. Claim (symbol (right_side r ++ ss) (len + k)) q lo hi (at vs (len + k))) (context_after (roles_of r) (entered (entry_of r) i a c) 0 len cs k (len + k) refl) x))

@@ -76,48 +76,48 @@ stands_either (m ∷ ms) more x (inr s) = go (stands_either ms more x s)
 same_some : {m m' : Mark} → Some m ≡ Some m' → m ≡ m'
 same_some e = cc
 
-abbrev IsBehind : ℕ → Mark → Type 0
-IsBehind a (Mk.Identifier x) = a ≤ x.token
-IsBehind a _ = Unit {0}
+abbrev IsAfter : ℕ → Mark → Type 0
+IsAfter a (Mk.Identifier x) = a ≤ x.token
+IsAfter a _ = Unit {0}
 
-behind_later : (a a' : ℕ) (m : Mark) → a ≤ a' → IsBehind a' m → IsBehind a m
-behind_later a a' (Mk.Identifier x) l h = omega (arith, l, h)
-behind_later a a' (Mk.Bound x) l h = tt
-behind_later a a' (Mk.Listed x) l h = tt
-behind_later a a' (Mk.Owned x) l h = tt
-behind_later a a' (Mk.Pun n) l h = tt
-behind_later a a' (Mk.Real n) l h = tt
-behind_later a a' (Mk.Clause x) l h = tt
+after_later : (a a' : ℕ) (m : Mark) → a ≤ a' → IsAfter a' m → IsAfter a m
+after_later a a' (Mk.Identifier x) l h = omega (arith, l, h)
+after_later a a' (Mk.Bound x) l h = tt
+after_later a a' (Mk.Listed x) l h = tt
+after_later a a' (Mk.Owned x) l h = tt
+after_later a a' (Mk.Pun n) l h = tt
+after_later a a' (Mk.Real n) l h = tt
+after_later a a' (Mk.Clause x) l h = tt
 
-word_behind : (a : ℕ) (c : Context) (w : Wd) (m : Mark) → word_mark w a c ≡ Some m → IsBehind a m
-word_behind a c W.Plain m e = absurd (no e)
+word_after : (a : ℕ) (c : Context) (w : Wd) (m : Mark) → word_mark w a c ≡ Some m → IsAfter a m
+word_after a c W.Plain m e = absurd (no e)
   where
     no : None ≡ Some m → ⊥
     no e = cc
-word_behind a c W.Constant m e = absurd (no e)
+word_after a c W.Constant m e = absurd (no e)
   where
     no : None ≡ Some m → ⊥
     no e = cc
-word_behind a c (W.Bound space) m e = subst (IsBehind a) (same_some e) tt
-word_behind a c W.Listed m e = subst (IsBehind a) (same_some e) tt
-word_behind a c W.Variable m e = go c.owner e
+word_after a c (W.Bound space) m e = subst (IsAfter a) (same_some e) tt
+word_after a c W.Listed m e = subst (IsAfter a) (same_some e) tt
+word_after a c W.Variable m e = go c.owner e
   where
-    go : (o : Option ℕ) → option_map (λ owner. Mk.Owned (record { owner = owner; token = a })) o ≡ Some m → IsBehind a m
+    go : (o : Option ℕ) → option_map (λ owner. Mk.Owned (record { owner = owner; token = a })) o ≡ Some m → IsAfter a m
     go None e = absurd (no e)
       where
         no : None ≡ Some m → ⊥
         no e = cc
-    go (Some o) e = subst (IsBehind a) (same_some e) tt
-word_behind a c W.Atom m e = subst (IsBehind a) (same_some e) (omega arith)
+    go (Some o) e = subst (IsAfter a) (same_some e) tt
+word_after a c W.Atom m e = subst (IsAfter a) (same_some e) (omega arith)
 
-rule_behind : (r : Rule) (a : ℕ) (c : Context) (m : Mark) → rule_mark r a c ≡ Some m → IsBehind a m
-rule_behind r a c (Mk.Identifier x) e = absurd (rule_elsewhere x.sequence x.index r a c (Mk.Identifier x) e (refl, refl))
-rule_behind r a c (Mk.Bound x) e = tt
-rule_behind r a c (Mk.Listed x) e = tt
-rule_behind r a c (Mk.Owned x) e = tt
-rule_behind r a c (Mk.Pun n) e = tt
-rule_behind r a c (Mk.Real n) e = tt
-rule_behind r a c (Mk.Clause x) e = tt
+rule_after : (r : Rule) (a : ℕ) (c : Context) (m : Mark) → rule_mark r a c ≡ Some m → IsAfter a m
+rule_after r a c (Mk.Identifier x) e = absurd (rule_elsewhere x.sequence x.index r a c (Mk.Identifier x) e (refl, refl))
+rule_after r a c (Mk.Bound x) e = tt
+rule_after r a c (Mk.Listed x) e = tt
+rule_after r a c (Mk.Owned x) e = tt
+rule_after r a c (Mk.Pun n) e = tt
+rule_after r a c (Mk.Real n) e = tt
+rule_after r a c (Mk.Clause x) e = tt
 
 first_or_later : (o : Option Mark) (ms : List Mark) (x : Mark) → Stands x (cons_option o ms) → (o ≡ Some x) ⊎ Stands x ms
 unfolding Stands
@@ -125,19 +125,19 @@ first_or_later None ms x h = inr h
 first_or_later (Some m) ms x (inl e) = inl (ap Some (sym e))
 first_or_later (Some m) ms x (inr s) = inr s
 
-marks_behind : (nodes : List Node) (i a : ℕ) (cs : List Context) (x : Mark) → Stands x (marks_of i a cs nodes) → IsBehind a x
+marks_after : (nodes : List Node) (i a : ℕ) (cs : List Context) (x : Mark) → Stands x (marks_of i a cs nodes) → IsAfter a x
 unfolding Stands
-marks_behind [] i a cs x h = absurd h
-marks_behind (node ∷ nodes) i a [] x h = absurd h
-marks_behind (Leaf ∷ nodes) i a (c ∷ cs) x h = go (first_or_later (word_mark c.word a c) (marks_of (suc i) (a + 1) cs nodes) x h) (marks_behind nodes (suc i) (a + 1) cs x)
+marks_after [] i a cs x h = absurd h
+marks_after (node ∷ nodes) i a [] x h = absurd h
+marks_after (Leaf ∷ nodes) i a (c ∷ cs) x h = go (first_or_later (word_mark c.word a c) (marks_of (suc i) (a + 1) cs nodes) x h) (marks_after nodes (suc i) (a + 1) cs x)
   where
-    go : (word_mark c.word a c ≡ Some x) ⊎ Stands x (marks_of (suc i) (a + 1) cs nodes) → (Stands x (marks_of (suc i) (a + 1) cs nodes) → IsBehind (a + 1) x) → IsBehind a x
-    go (inl e) f = word_behind a c c.word x e
-    go (inr s) f = behind_later a (a + 1) x (omega arith) (f s)
-marks_behind (Inner r ∷ nodes) i a (c ∷ cs) x h = go (first_or_later (rule_mark r a c) (marks_of (suc i) a (parts_of i a c (Inner r) ++ cs) nodes) x h) (marks_behind nodes (suc i) a (parts_of i a c (Inner r) ++ cs) x)
+    go : (word_mark c.word a c ≡ Some x) ⊎ Stands x (marks_of (suc i) (a + 1) cs nodes) → (Stands x (marks_of (suc i) (a + 1) cs nodes) → IsAfter (a + 1) x) → IsAfter a x
+    go (inl e) f = word_after a c c.word x e
+    go (inr s) f = after_later a (a + 1) x (omega arith) (f s)
+marks_after (Inner r ∷ nodes) i a (c ∷ cs) x h = go (first_or_later (rule_mark r a c) (marks_of (suc i) a (parts_of i a c (Inner r) ++ cs) nodes) x h) (marks_after nodes (suc i) a (parts_of i a c (Inner r) ++ cs) x)
   where
-    go : (rule_mark r a c ≡ Some x) ⊎ Stands x (marks_of (suc i) a (parts_of i a c (Inner r) ++ cs) nodes) → (Stands x (marks_of (suc i) a (parts_of i a c (Inner r) ++ cs) nodes) → IsBehind a x) → IsBehind a x
-    go (inl e) f = rule_behind r a c x e
+    go : (rule_mark r a c ≡ Some x) ⊎ Stands x (marks_of (suc i) a (parts_of i a c (Inner r) ++ cs) nodes) → (Stands x (marks_of (suc i) a (parts_of i a c (Inner r) ++ cs) nodes) → IsAfter a x) → IsAfter a x
+    go (inl e) f = rule_after r a c x e
     go (inr s) f = f s
 
 -- what is found at a place
@@ -203,7 +203,7 @@ module _ (text : ℕ → Id) (fits : List Fit) where
           where
             unlike : identifier n j t b ≡ Mk.Clause x → ⊥
             unlike q = cc
-        earlier n j (inr (inr s)) = let k = marks_behind nodes i a cs (identifier n j t b) s in absurd (omega (arith, l, k))
+        earlier n j (inr (inr s)) = let k = marks_after nodes i a cs (identifier n j t b) s in absurd (omega (arith, l, k))
 
         all_of : (y : Mark) → Stands y before ⊎ Stands y [] → Stands y all
         all_of y (inl s) = subst (λ ms. Stands y ms) (sym e) (stands_first before (Mk.Clause x ∷ marks_of i a cs nodes) y s)

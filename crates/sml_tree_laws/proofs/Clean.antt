@@ -99,7 +99,7 @@ module _ (text : ℕ → Id) (fits : List Fit) where
         let j = judged [] all clean (Mk.Bound (record { space = sp; group = g; token = t })) s in
         if_none ((names_value sp && is_reserved (text t)) || (names_constructor sp && is_it (text t))) t _ (none_by j.known (Mk.Bound (record { space = sp; group = g; token = t })) j.again j.none).1
 
-    -- an identifier that its sequence doesn't use, and one that stands for itself in a row, behind `rec`
+    -- an identifier that its sequence doesn't use, and one that stands for itself in a row, after `rec`
 
     pub may_stand : (n i t : ℕ) → Stands (Mk.Identifier (record { sequence = n; index = i; token = t; binds = true })) all → is_used fits (position n i) ≡ false → is_reserved (text t) ≡ false
     may_stand n i t s u =

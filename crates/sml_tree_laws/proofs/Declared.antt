@@ -99,9 +99,9 @@ pub none_or : (fl : List Flaw) → first_flaw fl ≡ None → fl ≡ []
 none_or [] e = refl
 none_or (a ∷ fl) e = cc
 
-behind_none : {A : Type 0} (xs ys : List A) → xs ++ ys ≡ [] → ys ≡ []
-behind_none [] ys e = e
-behind_none (x ∷ xs) ys e = cc
+after_none : {A : Type 0} (xs ys : List A) → xs ++ ys ≡ [] → ys ≡ []
+after_none [] ys e = e
+after_none (x ∷ xs) ys e = cc
 
 any_none : (f : Mark → Bool) (ms : List Mark) (m : Mark) → list_any f ms ≡ false → Stands m ms → f m ≡ false
 unfolding Stands
@@ -211,7 +211,7 @@ module _ (unit : List ℕ) (tokens : List Token) (n : ℕ) (fits : List Fit) (ow
     ends = ends_of 0 (Inner (Units rule) ∷ own)
 
     no_flaw : NoFlaw source tokens marks ends counted
-    no_flaw v d m l o st = none_of (text_at unit tokens) ends marks marks (behind_none (flaws_of (text_at unit tokens) fits [] marks) (scoped_of (text_at unit tokens) ends marks marks) clean) v d m l o st
+    no_flaw v d m l o st = none_of (text_at unit tokens) ends marks marks (after_none (flaws_of (text_at unit tokens) fits [] marks) (scoped_of (text_at unit tokens) ends marks marks) clean) v d m l o st
 
     later : (j : ℕ) → get_or ends (1 + j) 0 ≡ get_or (ends_of 1 own) j 0
     later j = ap (λ q. get_or ends q 0) (let e : 1 + j ≡ suc j = omega arith in e)

@@ -74,7 +74,7 @@ abbrev Free : Id → Type 0
 Free x = is_reserved x ≡ false
 
 module _ (text : ℕ → Id) (fits : List Fit) (all : List Mark) where
-  -- A head that begins at the token n: its first atomic pattern is marked in the context d, and the others in that behind it.
+  -- A head that begins at the token n: its first atomic pattern is marked in the context d, and the others in that after it.
   clause_free : (s : Option Shape) (n lo hi lo' : ℕ) (q : Pat Place) (qs : Pats Place) (a : Atom) (atoms : List Atom) (d : Context) → d.sequence ≡ n → d.index ≡ 0 → n ≤ lo → hi ≤ lo' → shape_from fits n ≡ s
       → ((how : Head) → s ≡ Some (headed how) → FitsHead (a ∷ atoms) (headed how)) → (is_named a.name ≡ true → NameOf (Marked text fits all d lo hi) q) → (InfixNames a.inner → BracketName (Second text fits all (n + 1) lo hi) q)
       → ClauseLink text fits all (in_role R.Next d) lo' qs atoms → is_reserved (heading s q qs).name ≡ false

@@ -12,7 +12,7 @@ use Rattle.sml_fixity.specs.declared.sequences.Item.{Item}
 use Rattle.sml_fixity.specs.declared.sequences.Item.TheVariants.{Short, Op, Long, Phrase}
 use Rattle.sml_fixity.specs.declared.sequences.Step.{Step}
 use Rattle.sml_fixity.specs.declared.sequences.Step.TheVariants.{Push, Combine}
-use Rattle.sml_fixity.specs.ItemNames.{Name, short, behind_op, long, phrase, name_of}
+use Rattle.sml_fixity.specs.ItemNames.{Name, short, after_op, long, phrase, name_of}
 use Rattle.sml_fixity.specs.Scopes.{Map}
 use Rattle.sml_fixity.specs.Sequences.{roles_of}
 use Rattle.sml_fixity.specs.Infix.{Tree, Single, Applied, Joined, yield, postfix, Obeys}
@@ -29,19 +29,19 @@ use Rattle.sml_tree_laws.proofs.SequenceFits.{FitsPattern, FitsHead}
 -- a short identifier, with `op` or without
 abbrev pub is_named : Name → Bool
 is_named (short x) = true
-is_named behind_op = true
+is_named after_op = true
 is_named long = false
 is_named phrase = false
 
 abbrev pub is_short : Name → Bool
 is_short (short x) = true
-is_short behind_op = false
+is_short after_op = false
 is_short long = false
 is_short phrase = false
 
 short_named : (x : Name) → is_short x ≡ true → is_named x ≡ true
 short_named (short x) h = refl
-short_named behind_op h = refl
+short_named after_op h = refl
 short_named long h = h
 short_named phrase h = h
 

@@ -94,7 +94,7 @@ made_op x (of_atoms a0 a1) h = refl
 made_op x (of_layer a0 a1) h = refl
 made_op x _ h = absurd (false≢true h)
 
-made_colon : (t : Ty Place) (v : Phrase) → (is_tys v || is_layer v) ≡ true → (is_atoms (Q.behind_colon t v) || is_layer (Q.behind_colon t v)) ≡ true
+made_colon : (t : Ty Place) (v : Phrase) → (is_tys v || is_layer v) ≡ true → (is_atoms (Q.after_colon t v) || is_layer (Q.after_colon t v)) ≡ true
 made_colon t (of_tys a0) h = refl
 made_colon t (of_layer a0 a1) h = refl
 made_colon t _ h = absurd (false≢true h)

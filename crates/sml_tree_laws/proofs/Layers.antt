@@ -9,7 +9,7 @@ use Rattle.sml_tree.specs.Types.{Ty}
 use Rattle.sml_read.specs.declared.grammar.Rule.TheVariants as G
 use Rattle.sml_read.specs.declared.grammar.PatternRule.TheVariants as P
 use Rattle.sml_phrases.specs.Phrases.{Phrase, of_layer, at}
-use Rattle.sml_bare_pats.specs.PatternRules.{op_from_vid, behind_colon}
+use Rattle.sml_bare_pats.specs.PatternRules.{op_from_vid, after_colon}
 use Rattle.sml_reach.specs.Founds.{Atom, Found, nothing, word, one, several, within, directed, before, from, sequence_in}
 use Rattle.sml_reach.specs.Events.{found_at}
 use Rattle.sml_tree_laws.proofs.RecPatterns.{is_layer}
@@ -31,7 +31,7 @@ from_none n (one b) e = refl
 from_none n (within names) e = refl
 from_none n (directed level atoms) e = refl
 
-pub colon_layer : (t : Ty Place) (v : Phrase) → is_layer (behind_colon t v) ≡ true → is_layer v ≡ true
+pub colon_layer : (t : Ty Place) (v : Phrase) → is_layer (after_colon t v) ≡ true → is_layer v ≡ true
 colon_layer t (of_layer u q) h = refl
 colon_layer t _ h = absurd (false≢true h)
 

@@ -11,7 +11,7 @@ use Rattle.sml_tree.specs.Types.{Ty, Tys}
 use Rattle.sml_tree.specs.Patterns.{Pat, Pats, pat_name, no_pat, and_pat}
 use Rattle.sml_objects.specs.Appearance.{Stands}
 use Rattle.sml_derived.specs.Derived.{long as as_long}
-use Rattle.sml_fixity.specs.ItemNames.{short, behind_op, long, phrase}
+use Rattle.sml_fixity.specs.ItemNames.{short, after_op, long, phrase}
 use Rattle.sml_fixity.specs.ItemNames as I
 use Rattle.sml_fixity.specs.Shapes.{Shape, tree}
 use Rattle.sml_fixity.specs.declared.sequences.Step.{Step}
@@ -45,10 +45,10 @@ use Rattle.sml_pat_sequences.specs.PatternSequences as Q
 use Rattle.sml_pat_sequences.specs.RoundPatterns.{round_pat}
 use Rattle.sml_bare_pats.specs.NameRules.{name_phrase}
 use Rattle.sml_bare_pats.specs.PatternPhrases.{atoms_in as pats_of, colons_in}
-use Rattle.sml_bare_pats.specs.PatternRules.{from_vid, op_from_vid, behind_op as pat_behind_op, behind_colon, pattern_phrase}
+use Rattle.sml_bare_pats.specs.PatternRules.{from_vid, op_from_vid, after_op as pat_after_op, after_colon, pattern_phrase}
 use Rattle.sml_bare_decs.specs.FunctionRules.{right_side_in}
 use Rattle.sml_bare_decs.specs.DeclarationRules.{declaration_phrase}
-use Rattle.sml_reach.specs.Founds.{Atom, Found, nothing, word, one, several, within, directed, atom_in, atoms_in, typed_in, inner_in, after_op, atom, is_word, before, from, sequence_in, untyped, left}
+use Rattle.sml_reach.specs.Founds.{Atom, Found, nothing, word, one, several, within, directed, atom_in, atoms_in, typed_in, inner_in, with_op, atom, is_word, before, from, sequence_in, untyped, left}
 use Rattle.sml_reach.specs.Senses.{deed_of}
 use Rattle.sml_reach.specs.Events.{found_at}
 use Rattle.sml_reach.specs.Fits.{Fit}
@@ -199,7 +199,7 @@ module _ (text : ℕ → Id) (fits : List Fit) (all : List Mark) where
       by_phrase (of_atoms qs ts) h = by_found f qs h
       by_phrase _ h = tt
 
-  colon_first : (A : Id → Type 0) (t : Ty Place) (v : Phrase) (atoms : List Atom) → First A (pats_of (behind_colon t v)) atoms
+  colon_first : (A : Id → Type 0) (t : Ty Place) (v : Phrase) (atoms : List Atom) → First A (pats_of (after_colon t v)) atoms
   colon_first A t (of_layer u q) atoms = tt
   colon_first A t _ atoms = tt
 
@@ -213,9 +213,9 @@ module _ (text : ℕ → Id) (fits : List Fit) (all : List Mark) where
   round_apply A p (and_pat q no_pat) = tt
   round_apply A p (and_pat q (and_pat r qs)) = tt
 
-  named_op : (x : I.Name) → is_named (after_op x) ≡ true → is_named x ≡ true
+  named_op : (x : I.Name) → is_named (with_op x) ≡ true → is_named x ≡ true
   named_op (short x) h = refl
-  named_op behind_op h = refl
+  named_op after_op h = refl
   named_op long h = h
   named_op phrase h = h
 
@@ -270,7 +270,7 @@ module _ (text : ℕ → Id) (fits : List Fit) (all : List Mark) where
     vid_apply p x v f own h none i = before_apply (Second (t 0) (t 0) (t 2)) (inl refl) s (pat_name p (as_long x)) (pats_of v) (colons_in v) (atom (short (text m)) m []) f own h i
 
     op_apply : (p : Place) (v : Phrase) (f : Found) → ((steps : List Step) → s ≡ Some (tree steps) → (atoms : List Atom) × (sequence_in (from m f) ≡ Some atoms) × FitsPattern atoms (tree steps))
-        → First (Second (t 0) (t 0) (t 2)) (op_pats v) (drop 1 (atoms_in f)) → InfixNames (untyped (from m f)) → ApplyName (Second (t 0) (t 0) (t 2)) (pat_behind_op s p v)
+        → First (Second (t 0) (t 0) (t 2)) (op_pats v) (drop 1 (atoms_in f)) → InfixNames (untyped (from m f)) → ApplyName (Second (t 0) (t 0) (t 2)) (pat_after_op s p v)
     op_apply p (of_op_layer x u (Some q)) f own h i = tt
     op_apply p (of_op_layer x u None) f own h i = tt
     op_apply p (of_op_atoms x qs ts) f own h i = from_apply (Second (t 0) (t 0) (t 2)) (inl refl) s (pat_name p x) qs ts m f own h i
@@ -336,9 +336,9 @@ module _ (text : ℕ → Id) (fits : List Fit) (all : List Mark) where
         (first_second (t 1) (t 2) (t 2) (pats_of (at vs 1)) (atoms_in (get_or (take 2 fs) 1 nothing)) l (omega arith) (h 1 refl))
     pattern_link P.OpPatVid p own h =
         let l = mono 0 in (
-          op_first (Marked (in_role R.Next c) (t 0) (t 2)) (name_in (at vs 0)) (atom behind_op m []) (at vs 1) (get_or (take 2 fs) 1 nothing)
+          op_first (Marked (in_role R.Next c) (t 0) (t 2)) (name_in (at vs 0)) (atom after_op m []) (at vs 1) (get_or (take 2 fs) 1 nothing)
               (first_more (Marked (in_role R.Next c) (t 1) (t 2)) (Marked (in_role R.Next c) (t 0) (t 2)) (marked_wider (in_role R.Next c) (t 1) (t 2) (t 0) (t 2) l (omega arith)) (pats_of (at vs 1)) (atoms_in (get_or (take 2 fs) 1 nothing)) (h 1 refl).0),
-          (λ e. before_none (atom behind_op m []) (get_or (take 2 fs) 1 nothing) ((h 1 refl).1 (op_layer (name_in (at vs 0)) (at vs 1) e))),
+          (λ e. before_none (atom after_op m []) (get_or (take 2 fs) 1 nothing) ((h 1 refl).1 (op_layer (name_in (at vs 0)) (at vs 1) e))),
         )
     pattern_link P.OpPatQualified p own h =
         let l = mono 0 in (

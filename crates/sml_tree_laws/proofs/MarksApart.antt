@@ -122,7 +122,7 @@ abbrev is_step : Symbol → Bool
 is_step (Word k) = true
 is_step (Of p) = not (may_be_empty p)
 
--- Of a sequence's parts the first may be atomic, and the last may be many, behind that or behind a token; many says whether.
+-- Of a sequence's parts the first may be atomic, and the last may be many, after that or after a token; many says whether.
 abbrev part_right : Bool → Bool → Bool → Role → Symbol → Bool → Bool
 part_right many seen started role x more =
     if part_in role x then (if role_atom role || is_single x then not seen && not (is_next role) else many && (implies seen (is_next role) && (implies (is_next role) started && not more))) else true
@@ -374,7 +374,7 @@ clear n j (Inner r ∷ nodes) i a (Of p ∷ ss) (c ∷ cs) kinds g enough h l =
     (clear n j nodes (suc i) a (right_side r ++ ss) (parts_of i a c (Inner r) ++ cs) kinds g.2 (enough_side (right_side r) (roles_of r) 0 (entered (entry_of r) i a c) ss cs enough)
     (avoid_parts n j r p i a c ss cs g.0 h l) (omega (arith, l, lower)))
 
--- The contexts of what is still to come: each stands for places that none behind it does. Before all sequences that are still to
+-- The contexts of what is still to come: each stands for places that none after it does. Before all sequences that are still to
 -- begin is b, and the index is at most the number of tokens that stand before.
 
 abbrev Later : Bool → Context → List Symbol → List Context → Type 0
@@ -419,10 +419,10 @@ module _ (b m : ℕ) (d : Context) (many : Bool) (ss : List Symbol) (cs : List C
   rest_avoids true h = h
   rest_avoids false h = nowhere_avoids d.sequence d.index ss cs h
 
-  -- behind an atomic part only many stand, with a greater index
-  behind_one : (role : Role) (x : Symbol) (started more : Bool) → d.index ≤ m → part_right many true started role x more ≡ true → in_sequence x (in_role role d).word ≡ true → (in_role role d).sequence ≡ d.sequence
+  -- after an atomic part only many stand, with a greater index
+  after_one : (role : Role) (x : Symbol) (started more : Bool) → d.index ≤ m → part_right many true started role x more ≡ true → in_sequence x (in_role role d).word ≡ true → (in_role role d).sequence ≡ d.sequence
       → (d.index < (in_role role d).index) × ((in_role role d).index ≤ 2 ^ 64 - 1)
-  behind_one role x started more l ok q e = go (role_atom role || is_single x) refl (if_true _ _ _ (word_part role x q) ok)
+  after_one role x started more l ok q e = go (role_atom role || is_single x) refl (if_true _ _ _ (word_part role x q) ok)
     where
       of_next : (role : Role) → is_next role ≡ true → (d.index < (in_role role d).index) × ((in_role role d).index ≤ 2 ^ 64 - 1)
       of_next Q.Next k = (omega (arith, l, few), omega (arith, l, few))
@@ -435,12 +435,12 @@ module _ (b m : ℕ) (d : Context) (many : Bool) (ss : List Symbol) (cs : List C
       go true k h = absurd (false≢true h)
       go false k h = of_next role (and_parts _ _ (and_parts _ _ h).1).0
 
-  behind : (side : List Symbol) (roles : List Role) (index : ℕ) (started : Bool) → d.index ≤ m → parts_right many true started roles index side ≡ true → Avoid d.sequence d.index ss cs
+  after : (side : List Symbol) (roles : List Role) (index : ℕ) (started : Bool) → d.index ≤ m → parts_right many true started roles index side ≡ true → Avoid d.sequence d.index ss cs
       → Avoid d.sequence d.index (side ++ ss) (contexts_from roles d index (length side) ++ cs)
-  behind [] roles index started l ok rest = rest
-  behind (x ∷ side) roles index started l ok rest =
+  after [] roles index started l ok rest = rest
+  after (x ∷ side) roles index started l ok rest =
       let both = and_parts _ _ ok in
-      (behind_one (get_or roles index Q.Same) x started (any_in roles (suc index) side) l both.0, behind side roles (suc index) (started || is_step x) l both.1 rest)
+      (after_one (get_or roles index Q.Same) x started (any_in roles (suc index) side) l both.0, after side roles (suc index) (started || is_step x) l both.1 rest)
 
   nothing_in : (side : List Symbol) (roles : List Role) (index : ℕ) → any_in roles index side ≡ false → Nowhere d.sequence ss cs → Nowhere d.sequence (side ++ ss) (contexts_from roles d index (length side) ++ cs)
   nothing_in [] roles index none rest = rest
@@ -519,7 +519,7 @@ module _ (b m : ℕ) (d : Context) (many : Bool) (ss : List Symbol) (cs : List C
             let part = word_part (get_or roles index Q.Same) x q in
             let fr = free (or_first _ _ part) in
             part_here (get_or roles index Q.Same) x seen started (any_in roles (suc index) side) base (side ++ ss) (contexts_from roles d (suc index) (length side) ++ cs) part both.0 fr l f
-            (behind side roles (suc index) (started || is_step x) fr.1 (subst (λ c. parts_right many c (started || is_step x) roles (suc index) side ≡ true) (or_second seen _ part) both.1) (rest_avoids (not many) fr.2))
+            (after side roles (suc index) (started || is_step x) fr.1 (subst (λ c. parts_right many c (started || is_step x) roles (suc index) side ≡ true) (or_second seen _ part) both.1) (rest_avoids (not many) fr.2))
             (λ none k. nothing_in side roles (suc index) none k)),
         vid_here (get_or roles index Q.Same) named.0,
         ordered_side side roles (suc index) (base + step x) (seen || part_in (get_or roles index Q.Same) x) (started || is_step x) both.1 named.1 (λ k. free (or_second _ _ k)) (omega (arith, l)) (go x)

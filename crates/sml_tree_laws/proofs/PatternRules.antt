@@ -10,7 +10,7 @@ use Rattle.sml_read.specs.declared.grammar.PatternRule.{PatternRule}
 use Rattle.sml_read.specs.declared.grammar.PatternRule.TheVariants.{PatOpenRound, PatAlphanumeric, PatSymbolic, PatStar, BarePatAlphanumeric, BarePatSymbolic, BarePatStar, PatOp, BarePatOp, PatOtherAtPat, BarePatOtherAtPat, OpPatVid, OpPatQualified, AfterVidNone, AfterVidAs, AfterVidColon, AfterVidAtPat, AfterVidTyNone, AfterVidTyAs, AfterVidTyColon, AtPatMoreNone, AtPatMoreAtPat, AtPatMoreColon, AtPatOpenRound, AtPatAlphanumeric, AtPatSymbolic, AtPatStar, BareAtPatAlphanumeric, BareAtPatSymbolic, BareAtPatStar, AtPatOp, BareAtPatOp, OtherAtPatWildcard, OtherAtPatConstant, OtherAtPatQualified, OtherAtPatOpenCurly, OtherAtPatOpenSquare, PatRoundCloseRound, PatRoundPat, PatRoundMoreCloseRound, PatRoundMoreComma, PatListCloseSquare, PatListPat, PatListMoreCloseSquare, PatListMoreComma, PatRowCloseCurly, RowDots, RowNumeral, RowVid, RowRestEquals, RowRestTyped, RowAsNone, RowAsAs, RowMoreNone, RowMoreComma}
 use Rattle.sml_pat_sequences.specs.RoundPatterns.{round_pat}
 use Rattle.sml_bare_pats.specs.PatternPhrases.{pat_fields_in, atoms_in, colons_in}
-use Rattle.sml_bare_pats.specs.PatternRules.{list_pat, from_vid, op_from_vid, behind_op, behind_colon, field_pat, pattern_phrase}
+use Rattle.sml_bare_pats.specs.PatternRules.{list_pat, from_vid, op_from_vid, after_op, after_colon, field_pat, pattern_phrase}
 use Rattle.sml_tree_laws.proofs.PatternSequences.{sequence_pat_sits, round_sequence_sits}
 use Rattle.sml_lex.specs.declared.fault.Place.{Place}
 use Rattle.sml_tree.specs.Trees.{Id}
@@ -56,15 +56,15 @@ module _ (L V R : Id → Type 0) where
   op_from_vid_sits x (of_layer t q) h = h
   op_from_vid_sits x v h = (atoms_sit v h, colons_sit v h)
 
-  behind_op_sits : (s : Option Shape) (p : Place) (v : Phrase) → PhraseSits L V R v → PatSits V (behind_op s p v)
-  behind_op_sits s p (of_op_layer x t (Some q)) h = h
-  behind_op_sits s p (of_op_layer x t None) h = tt
-  behind_op_sits s p (of_op_atoms c qs ts) h = sequence_pat_sits V s (and_pat (pat_name p c) qs) ts (tt, h.0) h.1
-  behind_op_sits s p _ h = tt
+  after_op_sits : (s : Option Shape) (p : Place) (v : Phrase) → PhraseSits L V R v → PatSits V (after_op s p v)
+  after_op_sits s p (of_op_layer x t (Some q)) h = h
+  after_op_sits s p (of_op_layer x t None) h = tt
+  after_op_sits s p (of_op_atoms c qs ts) h = sequence_pat_sits V s (and_pat (pat_name p c) qs) ts (tt, h.0) h.1
+  after_op_sits s p _ h = tt
 
-  behind_colon_sits : (t : Ty Place) (v : Phrase) → TySits V t → PhraseSits L V R v → PhraseSits L V R (behind_colon t v)
-  behind_colon_sits t (of_layer u q) h k = (h, k.1)
-  behind_colon_sits t v h k = (tt, (h, tys_sit L V R v k))
+  after_colon_sits : (t : Ty Place) (v : Phrase) → TySits V t → PhraseSits L V R v → PhraseSits L V R (after_colon t v)
+  after_colon_sits t (of_layer u q) h k = (h, k.1)
+  after_colon_sits t v h k = (tt, (h, tys_sit L V R v k))
 
   field_pat_sits : (x : Name Place) (v : Phrase) → PhraseSits L V R v → PatSits V (field_pat x v)
   field_pat_sits x (of_pat q) h = h
@@ -79,15 +79,15 @@ module _ (L V R : Id → Type 0) where
   pattern_sits BarePatAlphanumeric p s vs h = from_vid_sits s p (name_in (at vs 0)) (at vs 1) (h 1 refl).0
   pattern_sits BarePatSymbolic p s vs h = from_vid_sits s p (name_in (at vs 0)) (at vs 1) (h 1 refl).0
   pattern_sits BarePatStar p s vs h = from_vid_sits s p (name_in (at vs 0)) (at vs 1) (h 1 refl).0
-  pattern_sits PatOp p s vs h = behind_op_sits s p (at vs 1) (h 1 refl).0
-  pattern_sits BarePatOp p s vs h = behind_op_sits s p (at vs 1) (h 1 refl).0
+  pattern_sits PatOp p s vs h = after_op_sits s p (at vs 1) (h 1 refl).0
+  pattern_sits BarePatOp p s vs h = after_op_sits s p (at vs 1) (h 1 refl).0
   pattern_sits PatOtherAtPat p s vs h = sequence_pat_sits V s (and_pat (pat_in (at vs 0)) (atoms_in (at vs 1))) (colons_in (at vs 1)) ((pat_sits L V R (at vs 0) (h 0 refl).0), (atoms_sit (at vs 1) (h 1 refl).0)) (colons_sit (at vs 1) (h 1 refl).0)
   pattern_sits BarePatOtherAtPat p s vs h = sequence_pat_sits V s (and_pat (pat_in (at vs 0)) (atoms_in (at vs 1))) (colons_in (at vs 1)) ((pat_sits L V R (at vs 0) (h 0 refl).0), (atoms_sit (at vs 1) (h 1 refl).0)) (colons_sit (at vs 1) (h 1 refl).0)
   pattern_sits OpPatVid p s vs h = op_from_vid_sits (name_in (at vs 0)) (at vs 1) (h 1 refl).0
   pattern_sits OpPatQualified p s vs h = ((atoms_sit (at vs 1) (h 1 refl).0), (colons_sit (at vs 1) (h 1 refl).0))
   pattern_sits AfterVidNone p s vs h = (tt, tt)
   pattern_sits AfterVidAs p s vs h = (tt, (pat_sits L V R (at vs 1) (h 1 refl).0))
-  pattern_sits AfterVidColon p s vs h = behind_colon_sits (ty_in (at vs 1)) (at vs 2) (ty_sits L V R (at vs 1) (h 1 refl).0) (h 2 refl).0
+  pattern_sits AfterVidColon p s vs h = after_colon_sits (ty_in (at vs 1)) (at vs 2) (ty_sits L V R (at vs 1) (h 1 refl).0) (h 2 refl).0
   pattern_sits AfterVidAtPat p s vs h = (((pat_sits L V R (at vs 0) (h 0 refl).0), (atoms_sit (at vs 1) (h 1 refl).0)), (colons_sit (at vs 1) (h 1 refl).0))
   pattern_sits AfterVidTyNone p s vs h = tt
   pattern_sits AfterVidTyAs p s vs h = (tt, (pat_sits L V R (at vs 1) (h 1 refl).0))

@@ -28,7 +28,7 @@ use Rattle.sml_read.specs.declared.grammar.PatternRule.TheVariants.{PatOpenRound
 use Rattle.sml_pat_sequences.specs.PatternSequences as Q
 use Rattle.sml_pat_sequences.specs.RoundPatterns.{round_pat}
 use Rattle.sml_bare_pats.specs.PatternPhrases.{pat_fields_in, atoms_in, colons_in}
-use Rattle.sml_bare_pats.specs.PatternRules.{list_pat, from_vid, op_from_vid, behind_op, behind_colon, field_pat, pattern_phrase}
+use Rattle.sml_bare_pats.specs.PatternRules.{list_pat, from_vid, op_from_vid, after_op, after_colon, field_pat, pattern_phrase}
 use Rattle.sml_tree_laws.proofs.Phrases.{every_get_or, every_set, every_drop}
 use Rattle.std.specs.Prelude.{drop, if◌then◌else◌}
 
@@ -140,15 +140,15 @@ module _ (B : Space → ℕ → ℕ → Id → Type 0) (apart : (sp : Space) (g 
   op_from_vid_bound g lo hi lo' hi' x (of_layer t q) h = h
   op_from_vid_bound g lo hi lo' hi' x v h = (atoms_bound plain g lo hi v h, colons_bound plain g lo hi v h)
 
-  behind_op_bound : (g lo hi : ℕ) (s : Option Shape) (p : Place) (v : Phrase) → PhraseBound B plain g lo hi v → PatBound (behind_op s p v)
-  behind_op_bound g lo hi s p (of_op_layer x t (Some q)) h = h
-  behind_op_bound g lo hi s p (of_op_layer x t None) h = tt
-  behind_op_bound g lo hi s p (of_op_atoms c qs ts) h = sequence_bound s (and_pat (pat_name p c) qs) ts (tt, h.0) h.1
-  behind_op_bound g lo hi s p _ h = tt
+  after_op_bound : (g lo hi : ℕ) (s : Option Shape) (p : Place) (v : Phrase) → PhraseBound B plain g lo hi v → PatBound (after_op s p v)
+  after_op_bound g lo hi s p (of_op_layer x t (Some q)) h = h
+  after_op_bound g lo hi s p (of_op_layer x t None) h = tt
+  after_op_bound g lo hi s p (of_op_atoms c qs ts) h = sequence_bound s (and_pat (pat_name p c) qs) ts (tt, h.0) h.1
+  after_op_bound g lo hi s p _ h = tt
 
-  behind_colon_bound : (g lo hi lo' hi' : ℕ) (t : Ty Place) (v : Phrase) → TyBound t → PhraseBound B plain g lo hi v → PhraseBound B plain g lo' hi' (behind_colon t v)
-  behind_colon_bound g lo hi lo' hi' t (of_layer u q) h k = (h, k.1)
-  behind_colon_bound g lo hi lo' hi' t v h k = (tt, (h, tys_bound B plain g lo hi v k))
+  after_colon_bound : (g lo hi lo' hi' : ℕ) (t : Ty Place) (v : Phrase) → TyBound t → PhraseBound B plain g lo hi v → PhraseBound B plain g lo' hi' (after_colon t v)
+  after_colon_bound g lo hi lo' hi' t (of_layer u q) h k = (h, k.1)
+  after_colon_bound g lo hi lo' hi' t v h k = (tt, (h, tys_bound B plain g lo hi v k))
 
   field_pat_bound : (g lo hi : ℕ) (x : Name Place) (v : Phrase) → PhraseBound B plain g lo hi v → PatBound (field_pat x v)
   field_pat_bound g lo hi x (of_pat q) h = h
@@ -168,8 +168,8 @@ module _ (B : Space → ℕ → ℕ → Id → Type 0) (apart : (sp : Space) (g 
     pattern_bound BarePatAlphanumeric p s vs h = from_vid_bound g (t 1) (t 2) s p (name_in (at vs 0)) (at vs 1) (h 1 refl).0
     pattern_bound BarePatSymbolic p s vs h = from_vid_bound g (t 1) (t 2) s p (name_in (at vs 0)) (at vs 1) (h 1 refl).0
     pattern_bound BarePatStar p s vs h = from_vid_bound g (t 1) (t 2) s p (name_in (at vs 0)) (at vs 1) (h 1 refl).0
-    pattern_bound PatOp p s vs h = behind_op_bound g (t 1) (t 2) s p (at vs 1) (h 1 refl).0
-    pattern_bound BarePatOp p s vs h = behind_op_bound g (t 1) (t 2) s p (at vs 1) (h 1 refl).0
+    pattern_bound PatOp p s vs h = after_op_bound g (t 1) (t 2) s p (at vs 1) (h 1 refl).0
+    pattern_bound BarePatOp p s vs h = after_op_bound g (t 1) (t 2) s p (at vs 1) (h 1 refl).0
     pattern_bound PatOtherAtPat p s vs h =
         sequence_bound s (and_pat (pat_in (at vs 0)) (atoms_in (at vs 1))) (colons_in (at vs 1))
         ((pat_bound B plain g (t 0) (t 1) (at vs 0) (h 0 refl).0), (atoms_bound plain g (t 1) (t 2) (at vs 1) (h 1 refl).0))
@@ -182,7 +182,7 @@ module _ (B : Space → ℕ → ℕ → Id → Type 0) (apart : (sp : Space) (g 
     pattern_bound OpPatQualified p s vs h = ((atoms_bound plain g (t 1) (t 2) (at vs 1) (h 1 refl).0), (colons_bound plain g (t 1) (t 2) (at vs 1) (h 1 refl).0))
     pattern_bound AfterVidNone p s vs h = (tt, tt)
     pattern_bound AfterVidAs p s vs h = (tt, (pat_bound B plain g (t 1) (t 2) (at vs 1) (h 1 refl).0))
-    pattern_bound AfterVidColon p s vs h = behind_colon_bound g (t 2) (t 3) (t 0) (t 3) (ty_in (at vs 1)) (at vs 2) (ty_bound B plain g (t 1) (t 2) (at vs 1) (h 1 refl).0) (h 2 refl).0
+    pattern_bound AfterVidColon p s vs h = after_colon_bound g (t 2) (t 3) (t 0) (t 3) (ty_in (at vs 1)) (at vs 2) (ty_bound B plain g (t 1) (t 2) (at vs 1) (h 1 refl).0) (h 2 refl).0
     pattern_bound AfterVidAtPat p s vs h = (
       ((pat_bound B plain g (t 0) (t 1) (at vs 0) (h 0 refl).0), (atoms_bound plain g (t 1) (t 2) (at vs 1) (h 1 refl).0)),
       (colons_bound plain g (t 1) (t 2) (at vs 1) (h 1 refl).0),

@@ -1,4 +1,4 @@
--- What stands behind `rec` in declarations of the core.
+-- What stands after `rec` in declarations of the core.
 use Rattle.std.specs.Prelude.{◌≡◌, ℕ, zero, suc, false, length, List, [], ◌∷◌, Bool, Option, Some, None}
 use Rattle.std.proofs.Common.{refl, inl}
 use Rattle.sml_lex.specs.declared.fault.Place.{Place}
@@ -74,7 +74,7 @@ datatype_rec p (of_datatypes ds ts) = datatypes_rec p ds ts
 datatype_rec p (of_copy x c) = tt
 datatype_rec p _ = tt
 
--- all of these bindings stand behind `rec`
+-- all of these bindings stand after `rec`
 recursive_rec : (v : Phrase) → PhraseRec v → RecBinds (values_in v).plain → ValuesRec (record { variables = []; plain = no_bind; recursive = joined (values_in v).plain (values_in v).recursive })
 recursive_rec v h k =
     let w = values_rec v h in (joined_binds (values_in v).plain (values_in v).recursive k w.0, tt, joined_rec (values_in v).plain (values_in v).recursive w.1 w.2)

@@ -1,4 +1,4 @@
--- In each declaration that has no flaw, what stands behind `rec` may stand there.
+-- In each declaration that has no flaw, what stands after `rec` may stand there.
 use Rattle.std.proofs.Common.{◌≡◌, ℕ, zero, suc, ◌+◌, ◌<◌, ◌≤◌, List, [], ◌∷◌, ◌++◌, Bool, true, false, Option, Some, length, take, drop, eqb, refl, sym, ap, ◌∙◌, subst, inl, inr, ◌⊎◌, append_assoc, arith}
 use Rattle.std.specs.Prelude.{not, flat_map, slice_get, slice_range}
 use Rattle.std.specs.List.{position_or_len, slice_split}
@@ -127,7 +127,7 @@ goes_width (Inner r ∷ nodes) (Word w ∷ ss) kinds g = absurd g
 goes_width (Inner r ∷ nodes) (Of p ∷ ss) kinds g =
     let h = goes_width nodes (right_side r ++ ss) kinds g.2 in let e = ap (λ q. width_of q nodes) (length-append (right_side r) ss) in omega (arith, h, e)
 
--- so many of the tokens behind so many are no more than all
+-- so many of the tokens after so many are no more than all
 pub fewer : (b n : ℕ) (toks tokens : List Token) → toks ≡ drop n tokens → length (take b toks) ≤ length tokens
 fewer b n toks tokens e = let a = length-take b toks in let f = ap length e in let c = length-drop n tokens in omega (arith, a, f, c)
 

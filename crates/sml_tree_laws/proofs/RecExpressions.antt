@@ -1,4 +1,4 @@
--- What stands behind `rec` in expressions: sequences of atomic expressions, and the rules.
+-- What stands after `rec` in expressions: sequences of atomic expressions, and the rules.
 use Rattle.std.specs.Prelude.{◌≡◌, ℕ, List, [], ◌∷◌, Option, Some, None, get_or, nat_lt, length, true, false}
 use Rattle.std.proofs.Common.{refl, inl}
 use Rattle.sml_lex.specs.declared.fault.Place.{Place}

@@ -1,4 +1,4 @@
--- What stands behind `rec` in units and structures; in signatures and specifications there is no such thing.
+-- What stands after `rec` in units and structures; in signatures and specifications there is no such thing.
 use Rattle.std.specs.Prelude.{List, [], ◌∷◌}
 use Rattle.std.proofs.Common.{refl}
 use Rattle.sml_tree.specs.Names.{Name}

@@ -1,4 +1,4 @@
--- Rules by which nothing is made that stands behind `rec`: names, patterns and types.
+-- Rules by which nothing is made that stands after `rec`: names, patterns and types.
 use Rattle.std.specs.Prelude.{List, Option}
 use Rattle.std.proofs.Common.{refl}
 use Rattle.sml_lex.specs.declared.fault.Place.{Place}
@@ -15,7 +15,7 @@ use Rattle.sml_read.specs.declared.grammar.TypeRule.TheVariants as T
 use Rattle.sml_phrases.specs.Phrases.{Phrase, of_arguments, of_layer, at, name_in, ty_in}
 use Rattle.sml_bare_pats.specs.NameRules.{name_phrase}
 use Rattle.sml_bare_pats.specs.TypeRules.{and_argument, type_phrase}
-use Rattle.sml_bare_pats.specs.PatternRules.{op_from_vid, behind_colon, pattern_phrase}
+use Rattle.sml_bare_pats.specs.PatternRules.{op_from_vid, after_colon, pattern_phrase}
 use Rattle.sml_tree_laws.proofs.RecPhrases.{PhraseRec}
 use Rattle.sml_tree_laws.proofs.RecExpressions.{PartsRec}
 
@@ -68,9 +68,9 @@ op_from_vid_rec : (x : Name Place) (v : Phrase) → PhraseRec (op_from_vid x v)
 op_from_vid_rec x (of_layer t q) = tt
 op_from_vid_rec x _ = tt
 
-behind_colon_rec : (t : Ty Place) (v : Phrase) → PhraseRec (behind_colon t v)
-behind_colon_rec t (of_layer u q) = tt
-behind_colon_rec t _ = tt
+after_colon_rec : (t : Ty Place) (v : Phrase) → PhraseRec (after_colon t v)
+after_colon_rec t (of_layer u q) = tt
+after_colon_rec t _ = tt
 
 pub pattern_rec : (rule : PatternRule) (p : Place) (s : Option Shape) (vs : List Phrase) → PartsRec (G.Patterns rule) vs → PhraseRec (pattern_phrase rule p s vs)
 pattern_rec P.PatOpenRound p s vs h = tt
@@ -88,7 +88,7 @@ pattern_rec P.OpPatVid p s vs h = op_from_vid_rec (name_in (at vs 0)) (at vs 1)
 pattern_rec P.OpPatQualified p s vs h = tt
 pattern_rec P.AfterVidNone p s vs h = tt
 pattern_rec P.AfterVidAs p s vs h = tt
-pattern_rec P.AfterVidColon p s vs h = behind_colon_rec (ty_in (at vs 1)) (at vs 2)
+pattern_rec P.AfterVidColon p s vs h = after_colon_rec (ty_in (at vs 1)) (at vs 2)
 pattern_rec P.AfterVidAtPat p s vs h = tt
 pattern_rec P.AfterVidTyNone p s vs h = tt
 pattern_rec P.AfterVidTyAs p s vs h = tt

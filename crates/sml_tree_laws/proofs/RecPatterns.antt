@@ -1,4 +1,4 @@
--- What stands behind `rec`, as a phrase that is part of a pattern, in its context: what it may be where the context binds.
+-- What stands after `rec`, as a phrase that is part of a pattern, in its context: what it may be where the context binds.
 use Rattle.std.specs.Prelude.{◌≡◌, ℕ, suc, ◌+◌, ◌-◌, ◌≤◌, ◌<◌, nat_lt, length, get_or, List, [], Bool, true, false, Option, Some, None, if◌then◌else◌}
 use Rattle.std.proofs.Common.{refl, subst, sym, inl, inr, arith}
 use Rattle.sml_lex.specs.declared.fault.Place.{Place}
@@ -25,7 +25,7 @@ use Rattle.sml_pat_sequences.specs.PatternSequences as P
 use Rattle.sml_pat_sequences.specs.RoundPatterns.{round_pat}
 use Rattle.sml_bare_pats.specs.NameRules.{name_phrase}
 use Rattle.sml_bare_pats.specs.PatternPhrases.{pat_fields_in, atoms_in, colons_in}
-use Rattle.sml_bare_pats.specs.PatternRules.{list_pat, from_vid, op_from_vid, behind_op, behind_colon, field_pat, pattern_phrase}
+use Rattle.sml_bare_pats.specs.PatternRules.{list_pat, from_vid, op_from_vid, after_op, after_colon, field_pat, pattern_phrase}
 use Rattle.sml_bare_decs.specs.DeclarationRules.{values_in}
 use Rattle.sml_flaws.specs.declared.role.Word.TheVariants as W
 use Rattle.sml_flaws.specs.declared.role.Role.TheVariants as Q
@@ -187,9 +187,9 @@ module _ (used : ℕ → ℕ → Bool) (text : ℕ → Id) where
   op_from_vid_rec c lo mid hi x (of_atoms qs ts) l u h = let few = h.1 in ((λ e. u), h.0, omega (arith, l, few))
   op_from_vid_rec c lo mid hi x _ l u h = absurd h
 
-  behind_colon_rec : (c : Context) (lo hi : ℕ) (t : Ty Place) (v : Phrase) → lo ≤ hi → AfterTyRec c v → AfterRec c lo hi (behind_colon t v)
-  behind_colon_rec c lo hi t (of_layer u q) l h = h
-  behind_colon_rec c lo hi t _ l h = ((λ b. tt), omega (arith, l))
+  after_colon_rec : (c : Context) (lo hi : ℕ) (t : Ty Place) (v : Phrase) → lo ≤ hi → AfterTyRec c v → AfterRec c lo hi (after_colon t v)
+  after_colon_rec c lo hi t (of_layer u q) l h = h
+  after_colon_rec c lo hi t _ l h = ((λ b. tt), omega (arith, l))
 
   field_rec : (c : Context) (lo : ℕ) (x : Name Place) (v : Phrase) → text (lo - 1) ≡ x.id → c.binds ≡ true → RestRec c lo v → RecPat (field_pat x v)
   field_rec c lo x (of_pat q) e b h = h b
@@ -216,17 +216,17 @@ module _ (used : ℕ → ℕ → Bool) (text : ℕ → Id) where
         sequence (and_pat (pat_name p (long x)) qs) ts (omega (arith, l, r, len)) ((λ u f. inl (h u)), subst (λ m. AtomsFrom m (next 0) qs) n (subst (λ j. AtomsFrom d.sequence j qs) e (k.0 b)))
     from_vid_rec d lo hi p x _ b n e l r h w k = absurd k
 
-    behind_op_rec : (d : Context) (lo hi : ℕ) (p : Place) (v : Phrase) → d.binds ≡ true → d.sequence ≡ a → d.index ≡ 0 → a ≤ lo → hi ≤ a + 1048576 → (is_layer v ≡ true → used a 0 ≡ false) → OpRec d lo hi v → RecPat (behind_op s p v)
-    behind_op_rec d lo hi p (of_op_layer x u None) b n e l r w k = absurd (k.1 b)
-    behind_op_rec d lo hi p (of_op_layer x u (Some q)) b n e l r w k =
+    after_op_rec : (d : Context) (lo hi : ℕ) (p : Place) (v : Phrase) → d.binds ≡ true → d.sequence ≡ a → d.index ≡ 0 → a ≤ lo → hi ≤ a + 1048576 → (is_layer v ≡ true → used a 0 ≡ false) → OpRec d lo hi v → RecPat (after_op s p v)
+    after_op_rec d lo hi p (of_op_layer x u None) b n e l r w k = absurd (k.1 b)
+    after_op_rec d lo hi p (of_op_layer x u (Some q)) b n e l r w k =
         (k.0 b (subst (λ m. used m d.index ≡ false) (sym n) (subst (λ j. used a j ≡ false) (sym e) (w refl))), k.1 b)
-    behind_op_rec d lo hi p (of_op_atoms x qs ts) b n e l r w k =
+    after_op_rec d lo hi p (of_op_atoms x qs ts) b n e l r w k =
         let len = k.2 in
         sequence (and_pat (pat_name p x) qs) ts (omega (arith, l, r, len)) (
           (λ u f. inl (k.0 f b (subst (λ m. used m d.index ≡ false) (sym n) (subst (λ j. used a j ≡ false) (sym e) u)))),
           subst (λ m. AtomsFrom m (next 0) qs) n (subst (λ j. AtomsFrom d.sequence (next j) qs) e (k.1 b)),
         )
-    behind_op_rec d lo hi p _ b n e l r w k = absurd k
+    after_op_rec d lo hi p _ b n e l r w k = absurd k
 
     abbrev Sides : PatternRule → List Phrase → Type 0
     Sides r vs = PartsPat (entered (entry_of (G.Patterns r)) i a c) t (G.Patterns r) vs
@@ -249,8 +249,8 @@ module _ (used : ℕ → ℕ → Bool) (text : ℕ → Id) where
     by_rule BarePatAlphanumeric p vs same l w h = λ b. let m = mono 0 in from_vid_rec (in_role Q.Next (entered O.Sequence i a c)) (t 1) (t 2) p (name_in (at vs 0)) (at vs 1) b refl refl (omega (arith, m, begun)) l ((h 0 refl).0.2 refl b) w (h 1 refl).0
     by_rule BarePatSymbolic p vs same l w h = λ b. let m = mono 0 in from_vid_rec (in_role Q.Next (entered O.Sequence i a c)) (t 1) (t 2) p (name_in (at vs 0)) (at vs 1) b refl refl (omega (arith, m, begun)) l ((h 0 refl).0.2 refl b) w (h 1 refl).0
     by_rule BarePatStar p vs same l w h = λ b. let m = mono 0 in from_vid_rec (in_role Q.Next (entered O.Sequence i a c)) (t 1) (t 2) p (name_in (at vs 0)) (at vs 1) b refl refl (omega (arith, m, begun)) l ((h 0 refl).0.2 refl b) w (h 1 refl).0
-    by_rule PatOp p vs same l w h = λ b. let m = mono 0 in behind_op_rec (entered O.Sequence i a c) (t 1) (t 2) p (at vs 1) b refl refl (omega (arith, m, begun)) l w (h 1 refl).0
-    by_rule BarePatOp p vs same l w h = λ b. let m = mono 0 in behind_op_rec (entered O.Sequence i a c) (t 1) (t 2) p (at vs 1) b refl refl (omega (arith, m, begun)) l w (h 1 refl).0
+    by_rule PatOp p vs same l w h = λ b. let m = mono 0 in after_op_rec (entered O.Sequence i a c) (t 1) (t 2) p (at vs 1) b refl refl (omega (arith, m, begun)) l w (h 1 refl).0
+    by_rule BarePatOp p vs same l w h = λ b. let m = mono 0 in after_op_rec (entered O.Sequence i a c) (t 1) (t 2) p (at vs 1) b refl refl (omega (arith, m, begun)) l w (h 1 refl).0
     by_rule PatOtherAtPat p vs same l w h = λ b.
         let k = h 1 refl in
         let len = k.0.1 in
@@ -265,7 +265,7 @@ module _ (used : ℕ → ℕ → Bool) (text : ℕ → Id) where
     by_rule OpPatQualified p vs same l w h = let k = (h 1 refl).0.1 in let m = mono 0 in ((λ e. absurd ((h 0 refl).0 e)), (h 1 refl).0.0, omega (arith, k, m))
     by_rule AfterVidNone p vs same l w h = ((λ b. tt), omega arith)
     by_rule AfterVidAs p vs same l w h = (h 1 refl).0
-    by_rule AfterVidColon p vs same l w h = let m = mono 0 in let n = mono 1 in let o = mono 2 in behind_colon_rec c (t 0) (t 3) (ty_in (at vs 1)) (at vs 2) (omega (arith, m, n, o)) (h 2 refl).0
+    by_rule AfterVidColon p vs same l w h = let m = mono 0 in let n = mono 1 in let o = mono 2 in after_colon_rec c (t 0) (t 3) (ty_in (at vs 1)) (at vs 2) (omega (arith, m, n, o)) (h 2 refl).0
     by_rule AfterVidAtPat p vs same l w h = let m = (h 0 refl).1 refl in let k = (h 1 refl).0.1 in ((λ b. ((h 0 refl).0 b, (h 1 refl).0.0 b)), omega (arith, m, k))
     by_rule AfterVidTyNone p vs same l w h = tt
     by_rule AfterVidTyAs p vs same l w h = (h 1 refl).0

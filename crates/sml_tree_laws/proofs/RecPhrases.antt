@@ -1,4 +1,4 @@
--- What stands behind `rec` in the value declarations of a phrase.
+-- What stands after `rec` in the value declarations of a phrase.
 use Rattle.std.specs.Prelude.{List, [], ◌∷◌, Option, Some, None}
 use Rattle.sml_lex.specs.declared.fault.Place.{Place}
 use Rattle.sml_tree.specs.Expressions.{Exp, Rules, ValBind, ValBinds, bind}

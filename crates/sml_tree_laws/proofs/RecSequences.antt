@@ -1,4 +1,4 @@
--- Sequences of atomic patterns behind `rec`: the pattern that steps build, where each atomic pattern that its tree keeps may stand there.
+-- Sequences of atomic patterns after `rec`: the pattern that steps build, where each atomic pattern that its tree keeps may stand there.
 use Rattle.std.proofs.Common.{◌≡◌, ℕ, zero, suc, ◌+◌, List, [], ◌∷◌, ◌++◌, Bool, true, false, get_or, drop, refl, sym, ap, ◌∙◌, subst, inl, inr, arith}
 use Rattle.std.specs.Prelude.{set}
 use Rattle.std.proofs.lemmas.List.{append-nil}

@@ -1,4 +1,4 @@
--- The phrases of a declaration beside its marks and its sequences, node by node: what stands behind `rec` may stand there.
+-- The phrases of a declaration beside its marks and its sequences, node by node: what stands after `rec` may stand there.
 use Rattle.std.proofs.Common.{◌≡◌, ℕ, zero, suc, ◌+◌, ◌<◌, ◌≤◌, List, [], ◌∷◌, ◌++◌, Bool, true, false, Option, Some, None, length, get_or, drop, append_assoc, refl, sym, ap, ◌∙◌, subst, inl, arith}
 use Rattle.std.specs.Prelude.{◌-◌, slice_get, slice_range, if◌then◌else◌}
 use Rattle.std.specs.List.{cons_option}
@@ -82,7 +82,7 @@ use Rattle.sml_tree_laws.proofs.SequenceFits.{FitsRise, FitsPattern, FitsHead, I
 use Rattle.sml_tree_laws.proofs.BoundWalk.{width_of, width_more, symbol}
 use Rattle.sml_tree_laws.proofs.MarksApart.{Apart, Enough, enough_side}
 use Rattle.sml_tree_laws.proofs.Clean.{may_stand, may_stand_for_itself}
-use Rattle.sml_tree_laws.proofs.Walk.{Goes, below_more, behind_more, stands_behind, context_in, context_behind}
+use Rattle.sml_tree_laws.proofs.Walk.{Goes, below_more, after_more, stands_after, context_in, context_after}
 
 -- the tables
 
@@ -125,9 +125,9 @@ type_none : (used : ℕ → ℕ → Bool) (text : ℕ → Id) (rule : TypeRule) 
 type_none used text T.TyTup c lo hi v = tt
 type_none used text _ c lo hi v = tt
 
-leads_behind : (next : Option Kind) (now : List Symbol) (w : Kind) (ss : List Symbol) (nodes : List Node) (kinds : List Kind) → Leads (Leaf ∷ nodes) (Word w ∷ ss) kinds next now → (others : List Kind) × Leads nodes ss others next now
-leads_behind next now w ss nodes [] h = absurd h
-leads_behind next now w ss nodes (k ∷ kinds) h = (kinds, h.1)
+leads_after : (next : Option Kind) (now : List Symbol) (w : Kind) (ss : List Symbol) (nodes : List Node) (kinds : List Kind) → Leads (Leaf ∷ nodes) (Word w ∷ ss) kinds next now → (others : List Kind) × Leads nodes ss others next now
+leads_after next now w ss nodes [] h = absurd h
+leads_after next now w ss nodes (k ∷ kinds) h = (kinds, h.1)
 
 -- sequences
 
@@ -186,7 +186,7 @@ module _ (s : Source) (tokens : List Token) (all : List Mark) (own : (n : ℕ) �
   abbrev pub Claim : Symbol → Context → ℕ → ℕ → Phrase → Found → Type 0
   Claim x c lo hi v f = PhraseRec v × PatRec used text x c lo hi v × Full x lo hi × Link text s.fits all x c lo hi v f
 
-  -- what is found of nodes, and what stands behind the declaration
+  -- what is found of nodes, and what stands after the declaration
   abbrev founds : ℕ → List Node → List Found
   founds m nodes = founds_of text (nodes ++ past) (starts_of m (nodes ++ past))
 
@@ -242,7 +242,7 @@ module _ (s : Source) (tokens : List Token) (all : List Mark) (own : (n : ℕ) �
       (refl, marked c K.Star a n p t is kind at_text rest inc few _ (name_is c K.Star a n p t is kind at_text rest inc (λ p b. refl)))
   leaf_link _ c a n m p t is kind at_text rest inc few = refl
 
-  -- a phrase by a rule, from the phrases behind its node
+  -- a phrase by a rule, from the phrases after its node
 
   module _ (i a n m : ℕ) (c : Context) (t : ℕ → ℕ) (vs : List Phrase) (fs : List Found) (rest : List Mark) (at_token : a ≡ s.begun + n) (same : m ≡ a) (begun : t 0 ≡ a) (mono : (k : ℕ) → t k ≤ t (suc k)) where
     abbrev Parts : Rule → Type 0
@@ -393,7 +393,7 @@ module _ (s : Source) (tokens : List Token) (all : List Mark) (own : (n : ℕ) �
   one_further before None rest = sym (append_assoc before [] rest)
   one_further before (Some m) rest = sym (append_assoc before (m ∷ []) rest)
 
-  -- all phrases that are behind a node, each in its context
+  -- all phrases that are after a node, each in its context
   pub recs : (nodes : List Node) (i n a m : ℕ) (ss : List Symbol) (cs : List Context) (toks : List Token) (kinds : List Kind) → Leads (nodes ++ past) (ss ++ old) kinds next (Of rest_part ∷ [])
       → Coming s.unit tokens next rest_part outer s.fits m (ss ++ old) (nodes ++ past) → m ≡ a → a ≡ s.begun + n → Goes nodes ss (kinds_of toks) → Enough ss cs
       → ((j : ℕ) (t : Token) → slice_get toks j ≡ Some t → slice_get s.tokens (n + j) ≡ Some t) → ((m : Mark) → Stands m (marks_of i a cs nodes) → Stands m all) → (before : List Mark) → all ≡ before ++ marks_of i a cs nodes → a + width_of (length ss) nodes ≤ s.begun + 1048576
@@ -418,10 +418,10 @@ module _ (s : Source) (tokens : List Token) (all : List Mark) (own : (n : ℕ) �
       there : slice_get tokens a ≡ Some t
       there = ap (slice_get tokens) at_token ∙ sym (own n) ∙ here
   recs (Leaf ∷ nodes) i n a m (Word w ∷ ss) (c ∷ cs) (t ∷ toks) kinds leads coming same at_token g enough reads inc before whole few (suc k) h lo hi el eh =
-      let more = leads_behind next (Of rest_part ∷ []) w (ss ++ old) (nodes ++ past) kinds leads in
+      let more = leads_after next (Of rest_part ∷ []) w (ss ++ old) (nodes ++ past) kinds leads in
       recs nodes (suc i) (suc n) (a + 1) (suc m) ss cs toks more.0 more.1 (coming_leaf s.unit tokens next rest_part outer s.fits m w (ss ++ old) (nodes ++ past) coming) (omega (arith, same)) (omega (arith, at_token)) g.1 enough
       (λ j t e. ap (slice_get s.tokens) (let f : suc n + j ≡ n + suc j = omega arith in f) ∙ reads (suc j) t e)
-      (λ m st. inc m (stands_behind m (word_mark c.word a c) _ st)) (before ++ cons_option (word_mark c.word a c) []) (whole ∙ one_further before (word_mark c.word a c) (marks_of (suc i) (a + 1) cs nodes)) (omega (arith, few))
+      (λ m st. inc m (stands_after m (word_mark c.word a c) _ st)) (before ++ cons_option (word_mark c.word a c) []) (whole ∙ one_further before (word_mark c.word a c) (marks_of (suc i) (a + 1) cs nodes)) (omega (arith, few))
       k (omega (arith, h)) lo hi (omega (arith, el)) (omega (arith, eh))
   recs (Inner r ∷ nodes) i n a m [] cs toks kinds leads coming same at_token g enough reads inc before whole few k h lo hi el eh = absurd g
   recs (Inner r ∷ nodes) i n a m (Word w ∷ ss) cs toks kinds leads coming same at_token g enough reads inc before whole few k h lo hi el eh = absurd g
@@ -432,7 +432,7 @@ module _ (s : Source) (tokens : List Token) (all : List Mark) (own : (n : ℕ) �
       (subst (λ q. Leads (nodes ++ past) q kinds next (Of rest_part ∷ [])) (sym (append_assoc (right_side r) ss old)) leads.2)
       (subst (λ q. Coming s.unit tokens next rest_part outer s.fits m q (nodes ++ past)) (sym (append_assoc (right_side r) ss old)) (coming_inner s.unit tokens next rest_part outer s.fits r p m (ss ++ old) (nodes ++ past) kinds leads.0 leads.2 coming))
       same at_token g.2 (enough_side (right_side r) (roles_of r) 0 (entered (entry_of r) i a c) ss cs enough) reads
-      (λ m st. inc m (stands_behind m (mark_at a c (Inner r)) _ st)) (before ++ cons_option (mark_at a c (Inner r)) []) (whole ∙ one_further before (mark_at a c (Inner r)) (marks_of (suc i) a (parts_of i a c (Inner r) ++ cs) nodes)) all_few)
+      (λ m st. inc m (stands_after m (mark_at a c (Inner r)) _ st)) (before ++ cons_option (mark_at a c (Inner r)) []) (whole ∙ one_further before (mark_at a c (Inner r)) (marks_of (suc i) a (parts_of i a c (Inner r) ++ cs) nodes)) all_few)
       k h lo hi el eh
     where
       len : ℕ
@@ -461,9 +461,9 @@ module _ (s : Source) (tokens : List Token) (all : List Mark) (own : (n : ℕ) �
           barred_at text s.fits all apart clean before (record { function = c.function; sequence = c.sequence; atoms = c.index }) nodes (suc i) a (parts_of i a c (Inner r) ++ cs)
           (whole ∙ ap (λ q. before ++ cons_option (rule_mark q a c) (marks_of (suc i) a (parts_of i a c (Inner r) ++ cs) nodes)) e)
 
-      behind : ((k : ℕ) → k < length (right_side r ++ ss) → (lo hi : ℕ) → lo ≡ a + width_of k nodes → hi ≡ a + width_of (suc k) nodes → Claim (symbol (right_side r ++ ss) k) (get_or (parts_of i a c (Inner r) ++ cs) k start) lo hi (at vs k) (get_or fs k nothing))
+      after : ((k : ℕ) → k < length (right_side r ++ ss) → (lo hi : ℕ) → lo ≡ a + width_of k nodes → hi ≡ a + width_of (suc k) nodes → Claim (symbol (right_side r ++ ss) k) (get_or (parts_of i a c (Inner r) ++ cs) k start) lo hi (at vs k) (get_or fs k nothing))
           → (k : ℕ) → k < length (right_side r) → Claim (symbol (right_side r) k) (in_role (get_or (roles_of r) k Roles.Same) (entered (entry_of r) i a c)) (a + width_of k nodes) (a + width_of (suc k) nodes) (at vs k) (get_or fs k nothing)
-      behind deeper k b =
+      after deeper k b =
           subst (λ x. Claim x (in_role (get_or (roles_of r) k Roles.Same) (entered (entry_of r) i a c)) (a + width_of k nodes) (a + width_of (suc k) nodes) (at vs k) (get_or fs k nothing)) (get_or_append_left (right_side r) ss (Word K.Comma) k b)
           (subst (λ q. Claim (symbol (right_side r ++ ss) k) q (a + width_of k nodes) (a + width_of (suc k) nodes) (at vs k) (get_or fs k nothing))
           (context_in (roles_of r) (entered (entry_of r) i a c) 0 len cs k b ∙ ap (λ q. in_role (get_or (roles_of r) q Roles.Same) (entered (entry_of r) i a c)) (let e : 0 + k ≡ k = omega arith in e))
@@ -476,11 +476,11 @@ module _ (s : Source) (tokens : List Token) (all : List Mark) (own : (n : ℕ) �
           let e = ap (λ q. width_of q nodes) (let f : length (right_side r) + 0 ≡ length (right_side r) = omega arith in f) in
           moved (Of p) c (a + width_of 0 nodes) (a + width_of len nodes) lo hi (made_by s r n vs) (left (deed_of r) (found_at text m r fs)) (omega (arith, el)) (omega (arith, eh, e))
           (subst (λ q. Claim (Of q) c (a + width_of 0 nodes) (a + width_of len nodes) (made_by s r n vs) (left (deed_of r) (found_at text m r fs))) g.0
-          (made_claim i a n m c (λ k. a + width_of k nodes) vs fs _ at_token same (omega arith) (λ k. let m = width_more nodes k (suc k) (omega arith) in omega (arith, m)) r absent owns bars inc own_few (behind deeper)))
+          (made_claim i a n m c (λ k. a + width_of k nodes) vs fs _ at_token same (omega arith) (λ k. let m = width_more nodes k (suc k) (omega arith) in omega (arith, m)) r absent owns bars inc own_few (after deeper)))
       by_place deeper (suc k) h lo hi el eh =
           let next = ap (λ q. width_of q nodes) (let e : len + suc k ≡ suc (len + k) = omega arith in e) in
-          let x = deeper (len + k) (behind_more k (right_side r) ss (omega (arith, h))) lo hi (omega (arith, el)) (omega (arith, eh, next)) in
+          let x = deeper (len + k) (after_more k (right_side r) ss (omega (arith, h))) lo hi (omega (arith, el)) (omega (arith, eh, next)) in
           subst (λ f. Claim (symbol ss k) (get_or cs k start) lo hi (first (drop k (drop len vs))) f) (sym (get_or-drop len fs k nothing))
           (subst (λ q. Claim (symbol ss k) (get_or cs k start) lo hi (first q) (get_or fs (len + k) nothing)) (sym (drop-drop k len vs))
           (subst (λ y. Claim y (get_or cs k start) lo hi (at vs (len + k)) (get_or fs (len + k) nothing)) (get_or-append-add (right_side r) ss k (Word K.Comma))
-          (subst (λ q. Claim (symbol (right_side r ++ ss) (len + k)) q lo hi (at vs (len + k)) (get_or fs (len + k) nothing)) (context_behind (roles_of r) (entered (entry_of r) i a c) 0 len cs k (len + k) refl) x)))
+          (subst (λ q. Claim (symbol (right_side r ++ ss) (len + k)) q lo hi (at vs (len + k)) (get_or fs (len + k) nothing)) (context_after (roles_of r) (entered (entry_of r) i a c) 0 len cs k (len + k) refl) x)))

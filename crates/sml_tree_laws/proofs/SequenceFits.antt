@@ -87,7 +87,7 @@ Tells (enters ∷ es) ds = Tells es ds
 Tells (leaves ∷ es) ds = Tells es ds
 Tells (directs directive level atoms ∷ es) ds = Tells es ds
 
--- what is known of outcomes, whose sequences begin at lo or behind it
+-- what is known of outcomes, whose sequences begin at lo or after it
 abbrev Known : ℕ → List Event → List Outcome → Type 0
 Known lo es os = (FitsRise lo (fits_before os) × AreBuilt (fits_before os) × AllCome (fits_before os) es) × Tells es (declarations_in os)
 

@@ -1,4 +1,4 @@
--- Where the sequences of a declaration begin: node by node, those that begin at a node's first token or behind it are of the
+-- Where the sequences of a declaration begin: node by node, those that begin at a node's first token or after it are of the
 -- nodes from there on.
 use Rattle.std.proofs.Common.{◌≡◌, ℕ, suc, ◌+◌, ◌≤◌, List, [], ◌∷◌, ◌++◌, Bool, true, false, Option, Some, None, refl, sym, ◌∙◌, inl, inr, ◌⊎◌, arith}
 use Rattle.std.specs.Prelude.{slice_get, if◌then◌else◌}
@@ -110,7 +110,7 @@ event_token fit Deeds.Begins atoms h c = absurd c
 event_token fit (Deeds.Directs directive) atoms h c = absurd c
 
 module _ (unit : List ℕ) (tokens : List Token) (next : Option Kind) (rest : Part) (outer : is_outer rest ≡ true) (fits : List Fit) where
-  -- a sequence that begins where the next may, or behind that, comes from the nodes
+  -- a sequence that begins where the next may, or after that, comes from the nodes
   abbrev pub Coming : ℕ → List Symbol → List Node → Type 0
   Coming n ss nodes = Every (λ fit. n + ahead ss ≤ fit.token → ComesFrom fit (events_of unit tokens nodes (starts_of n nodes))) fits
 

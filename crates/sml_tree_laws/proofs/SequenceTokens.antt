@@ -1,4 +1,4 @@
--- The sequences of a unit begin at tokens of their own, each behind the one before.
+-- The sequences of a unit begin at tokens of their own, each after the one before.
 use Rattle.std.proofs.Common.{◌≡◌, ℕ, suc, ◌+◌, ◌<◌, ◌≤◌, List, [], ◌∷◌, ◌++◌, Bool, true, false, Option, Some, None, length, get_or, take, refl, sym, ap, ◌∙◌, subst, arith}
 use Rattle.std.specs.Prelude.{not, nat_lt, nat_le, slice_get, ◌&&◌, ◌||◌, if◌then◌else◌}
 use Rattle.std.specs.List.{cons_option}
@@ -265,7 +265,7 @@ module _ (text : ℕ → Id) (n : ℕ) (fs : List Found) where
   sequence_token (G.Specifications rule) h f g atoms e = absurd (false≢true h)
   sequence_token (G.Types rule) h f g atoms e = absurd (false≢true h)
 
--- each sequence among events begins at lo or behind it, and each behind the one before
+-- each sequence among events begins at lo or after it, and each after the one before
 
 abbrev pub EventsRise : ℕ → List Event → Type 0
 EventsRise lo [] = Unit {0}

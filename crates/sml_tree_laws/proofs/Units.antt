@@ -136,7 +136,7 @@ few_declared text s (expression atoms ∷ events) all h = other text h.0 h.2 all
 few_declared text s (pattern atoms ∷ events) all h = other text h.0 h.2 all events (few_declared text h.1 events h.2 h.4) h.5
 few_declared text s (head atoms ∷ events) all h = other text h.0 h.2 all events (few_declared text h.1 events h.2 h.4) h.5
 
--- what is told of the declarations behind an event
+-- what is told of the declarations after an event
 
 abbrev is_begins : Deed → Bool
 is_begins D.Begins = true
@@ -191,15 +191,15 @@ tells_drop : (n : ℕ) (es : List Event) (ds : List Fitted) → Tells (begins n 
 tells_drop n es [] h = tells_none es
 tells_drop n es (d ∷ ds) h = h.1
 
--- the nodes of a declaration, and those behind it
+-- the nodes of a declaration, and those after it
 
-behind_first : List Node → List Node
-behind_first nodes = drop (length (before_first ends_at nodes)) nodes
+after_first : List Node → List Node
+after_first nodes = drop (length (before_first ends_at nodes)) nodes
 
-first_and_behind : (nodes : List Node) → before_first ends_at nodes ++ behind_first nodes ≡ nodes
-unfolding behind_first
-first_and_behind [] = refl
-first_and_behind (node ∷ nodes) = go (ends_at node) refl (first_and_behind nodes)
+first_and_after : (nodes : List Node) → before_first ends_at nodes ++ after_first nodes ≡ nodes
+unfolding after_first
+first_and_after [] = refl
+first_and_after (node ∷ nodes) = go (ends_at node) refl (first_and_after nodes)
   where
     go : (b : Bool) → ends_at node ≡ b → before_first ends_at nodes ++ drop (length (before_first ends_at nodes)) nodes ≡ nodes
         → before_first ends_at (node ∷ nodes) ++ drop (length (before_first ends_at (node ∷ nodes))) (node ∷ nodes) ≡ node ∷ nodes
@@ -335,11 +335,11 @@ module _ (unit : List ℕ) (tokens : List Token) (end : End) where
     abbrev own : List Node
     own = before_first ends_at nodes
 
-    own_come : AllCome fits (events_of unit tokens (own ++ behind_first nodes) (starts_of n (own ++ behind_first nodes)))
-    own_come = subst (λ ns. AllCome fits (events_of unit tokens ns (starts_of n ns))) (sym (first_and_behind nodes)) come
+    own_come : AllCome fits (events_of unit tokens (own ++ after_first nodes) (starts_of n (own ++ after_first nodes)))
+    own_come = subst (λ ns. AllCome fits (events_of unit tokens ns (starts_of n ns))) (sym (first_and_after nodes)) come
 
-    own_leads : (q : Part) (more : List Symbol) → Leads nodes (Of q ∷ more) (kinds_of (take b toks)) next (Of rest ∷ []) → Leads (own ++ behind_first nodes) (Of q ∷ more) (kinds_of (take b toks)) next (Of rest ∷ [])
-    own_leads q more leads = subst (λ ns. Leads ns (Of q ∷ more) (kinds_of (take b toks)) next (Of rest ∷ [])) (sym (first_and_behind nodes)) leads
+    own_leads : (q : Part) (more : List Symbol) → Leads nodes (Of q ∷ more) (kinds_of (take b toks)) next (Of rest ∷ []) → Leads (own ++ after_first nodes) (Of q ∷ more) (kinds_of (take b toks)) next (Of rest ∷ [])
+    own_leads q more leads = subst (λ ns. Leads ns (Of q ∷ more) (kinds_of (take b toks)) next (Of rest ∷ [])) (sym (first_and_after nodes)) leads
 
     unit_good : (rule : UnitRule) → begins_at (G.Units rule) ≡ true → Leads nodes (right_side (G.Units rule) ++ old) (kinds_of (take b toks)) next (Of rest ∷ [])
         → flaws (text_at unit tokens) fits n (Inner (G.Units rule) ∷ own) ≡ [] → TopLawful K (declaration p (made unit tokens n fits own (take b toks) (reads n b toks same)))
@@ -347,19 +347,19 @@ module _ (unit : List ℕ) (tokens : List Token) (end : End) where
         let goes = goes_of nodes (Of Top ∷ []) old AfterTop rest (kinds_of (take b toks)) next refl refl leads in (
           top_scoped unit tokens n fits own (take b toks) (reads n b toks same) clean goes p,
           top_well unit tokens n fits own (take b toks) (reads n b toks same) clean goes p,
-          (λ spells. top_recursive unit tokens n fits own (take b toks) (reads n b toks same) rise built end spells (fewer b n toks tokens same) (Of AfterTop ∷ old) (behind_first nodes) next rest outer own_come (kinds_of (take b toks)) (own_leads Top (Of AfterTop ∷ old) leads) clean goes p),
+          (λ spells. top_recursive unit tokens n fits own (take b toks) (reads n b toks same) rise built end spells (fewer b n toks tokens same) (Of AfterTop ∷ old) (after_first nodes) next rest outer own_come (kinds_of (take b toks)) (own_leads Top (Of AfterTop ∷ old) leads) clean goes p),
         )
     unit_good U.AfterTopTop h leads clean =
         let goes = goes_of nodes (Of Top ∷ []) old AfterTop rest (kinds_of (take b toks)) next refl refl leads in (
           next_scoped unit tokens n fits own (take b toks) (reads n b toks same) clean goes p,
           next_well unit tokens n fits own (take b toks) (reads n b toks same) clean goes p,
-          (λ spells. next_recursive unit tokens n fits own (take b toks) (reads n b toks same) rise built end spells (fewer b n toks tokens same) (Of AfterTop ∷ old) (behind_first nodes) next rest outer own_come (kinds_of (take b toks)) (own_leads Top (Of AfterTop ∷ old) leads) clean goes p),
+          (λ spells. next_recursive unit tokens n fits own (take b toks) (reads n b toks same) rise built end spells (fewer b n toks tokens same) (Of AfterTop ∷ old) (after_first nodes) next rest outer own_come (kinds_of (take b toks)) (own_leads Top (Of AfterTop ∷ old) leads) clean goes p),
         )
     unit_good U.StartExp h leads clean =
         let goes = goes_of nodes (Of Exp ∷ []) old AfterExp rest (kinds_of (take b toks)) next refl refl leads in (
           exp_scoped unit tokens n fits own (take b toks) (reads n b toks same) clean goes p,
           exp_well unit tokens n fits own (take b toks) (reads n b toks same) clean goes p,
-          (λ spells. exp_recursive unit tokens n fits own (take b toks) (reads n b toks same) rise built end spells (fewer b n toks tokens same) (Of AfterExp ∷ old) (behind_first nodes) next rest outer own_come (kinds_of (take b toks)) (own_leads Exp (Of AfterExp ∷ old) leads) clean goes p),
+          (λ spells. exp_recursive unit tokens n fits own (take b toks) (reads n b toks same) rise built end spells (fewer b n toks tokens same) (Of AfterExp ∷ old) (after_first nodes) next rest outer own_come (kinds_of (take b toks)) (own_leads Exp (Of AfterExp ∷ old) leads) clean goes p),
         )
     unit_good _ h leads clean = absurd (false≢true h)
 
@@ -375,7 +375,7 @@ module _ (unit : List ℕ) (tokens : List Token) (end : End) where
     rule_good (G.Patterns rule) h leads clean = absurd (false≢true h)
     rule_good (G.Types rule) h leads clean = absurd (false≢true h)
 
-  -- a declaration with this flaw or none, and those behind it
+  -- a declaration with this flaw or none, and those after it
   module _ (rule : Rule) (n count b : ℕ) (toks : List Token) (same : toks ≡ drop n tokens) (nodes : List Node) (old : List Symbol) (next : Option Kind) (rest : Part) (outer : is_outer rest ≡ true)
       (begin : begins_at rule ≡ true) (leads : Leads nodes (right_side rule ++ old) (kinds_of (take b toks)) next (Of rest ∷ [])) (later : Option Misfit) where
     here : (x : Fitted) (fitted : List Fitted) (flaw : Option Flaw) → FitsWell x × AllCome x.fits (events_of unit tokens nodes (starts_of n nodes)) → first_flaw (flaws (text_at unit tokens) x.fits n (Inner rule ∷ before_first ends_at nodes)) ≡ flaw

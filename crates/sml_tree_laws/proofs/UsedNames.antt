@@ -59,12 +59,12 @@ spans (Applied f x) m lo items more e =
     (b.0, b.1, (a.0, a.2, b.2), b.3)
 spans (Joined o l r) m lo items more e =
     let a = spans l m lo items (drop 1 (yield (Joined o (Single 0) r)) ++ more) (sym (append_assoc (yield l) (drop 1 (yield (Joined o (Single 0) r))) more) ∙ e) in
-    behind (λ lo xs k. spans r m lo xs more k) a.0 a.1 a.2 a.3
+    after (λ lo xs k. spans r m lo xs more k) a.0 a.1 a.2 a.3
   where
-    behind : ((lo : ℕ) (xs : List Item) → yield r ++ more ≡ roles_from m lo xs → (hi : ℕ) × (rest : List Item) × Spans lo r hi × (more ≡ roles_from m hi rest)) → (mid : ℕ) (rest : List Item) → Spans lo l mid
+    after : ((lo : ℕ) (xs : List Item) → yield r ++ more ≡ roles_from m lo xs → (hi : ℕ) × (rest : List Item) × Spans lo r hi × (more ≡ roles_from m hi rest)) → (mid : ℕ) (rest : List Item) → Spans lo l mid
         → drop 1 (yield (Joined o (Single 0) r)) ++ more ≡ roles_from m mid rest → (hi : ℕ) × (rest : List Item) × Spans lo (Joined o l r) hi × (more ≡ roles_from m hi rest)
-    behind again mid [] h e = cc
-    behind again mid (x ∷ xs) h e = let b = again (mid + 1) xs (others e) in (b.0, b.1, (mid, h, operator_index o r m x xs mid more e, b.2), b.3)
+    after again mid [] h e = cc
+    after again mid (x ∷ xs) h e = let b = again (mid + 1) xs (others e) in (b.0, b.1, (mid, h, operator_index o r m x xs mid more e, b.2), b.3)
 
 -- the leaves that a tree keeps, and the leaves and operators that it takes; at the head of an application its leaf is taken
 
@@ -151,7 +151,7 @@ second_push (Joined o l r) rest h =
     subst (λ q. is_apply (slice_get q 1) ≡ false) (sym (two_parts (postfix l) (postfix r) (Combine o.index) rest))
     (second_push l (postfix r ++ Combine o.index ∷ rest) (first_push r (Combine o.index ∷ rest)))
 
--- neither the next step nor the one behind it applies
+-- neither the next step nor the one after it applies
 abbrev Calm : List Step → Type 0
 Calm rest = (is_apply (slice_get rest 0) ≡ false) × (is_apply (slice_get rest 1) ≡ false)
 

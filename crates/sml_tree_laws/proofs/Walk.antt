@@ -160,13 +160,13 @@ size_more (Inner r ∷ nodes) (suc m) (suc n) h = let k = size_more nodes (lengt
 pub below_more : {A : Type 0} (k : ℕ) (xs ys : List A) → k < length xs → k < length (xs ++ ys)
 below_more k xs ys h = let l = length-append xs ys in omega (arith, h, l)
 
-pub behind_more : {A : Type 0} (k : ℕ) (xs ys : List A) → k < length ys → length xs + k < length (xs ++ ys)
-behind_more k xs ys h = let l = length-append xs ys in omega (arith, h, l)
+pub after_more : {A : Type 0} (k : ℕ) (xs ys : List A) → k < length ys → length xs + k < length (xs ++ ys)
+after_more k xs ys h = let l = length-append xs ys in omega (arith, h, l)
 
-pub stands_behind : (m : Mark) (o : Option Mark) (marks : List Mark) → Stands m marks → Stands m (cons_option o marks)
+pub stands_after : (m : Mark) (o : Option Mark) (marks : List Mark) → Stands m marks → Stands m (cons_option o marks)
 unfolding Stands
-stands_behind m None marks h = h
-stands_behind m (Some x) marks h = inr h
+stands_after m None marks h = h
+stands_after m (Some x) marks h = inr h
 
 -- contexts
 
@@ -177,10 +177,10 @@ context_in roles c index (suc count) cs zero h = ap (λ n. in_role (get_or roles
 context_in roles c index (suc count) cs (suc k) h =
     context_in roles c (suc index) count cs k (omega (arith, h)) ∙ ap (λ n. in_role (get_or roles n Q.Same) c) (let e : suc index + k ≡ index + suc k = omega arith in e)
 
-pub context_behind : (roles : List Role) (c : Context) (index count : ℕ) (cs : List Context) (k n : ℕ) → n ≡ count + k → get_or (contexts_from roles c index count ++ cs) n start ≡ get_or cs k start
-context_behind roles c index zero cs k n e = ap (λ j. get_or cs j start) (let f : n ≡ k = omega (arith, e) in f)
-context_behind roles c index (suc count) cs k zero e = absurd (omega (arith, e))
-context_behind roles c index (suc count) cs k (suc n) e = context_behind roles c (suc index) count cs k n (omega (arith, e))
+pub context_after : (roles : List Role) (c : Context) (index count : ℕ) (cs : List Context) (k n : ℕ) → n ≡ count + k → get_or (contexts_from roles c index count ++ cs) n start ≡ get_or cs k start
+context_after roles c index zero cs k n e = ap (λ j. get_or cs j start) (let f : n ≡ k = omega (arith, e) in f)
+context_after roles c index (suc count) cs k zero e = absurd (omega (arith, e))
+context_after roles c index (suc count) cs k (suc n) e = context_after roles c (suc index) count cs k n (omega (arith, e))
 
 role_owner : (role : Role) (c : Context) → (in_role role c).owner ≡ c.owner
 role_owner Q.Same c = refl
@@ -386,24 +386,24 @@ module _ (s : Source) (tokens : List Token) (all : List Mark) (ends : List ℕ) 
           role_sits role c (L o) (V o) (R lo hi) (R lo' hi') v (subst (λ q. WordSits (L q) (V q) (R lo hi) (in_role role c).word v) same h.1),
         )
 
-    -- a phrase by a rule, from the phrases behind its node
+    -- a phrase by a rule, from the phrases after its node
 
     module _ (r : Rule) (p : Part) (i a n lo hi end : ℕ) (c : Context) (vs : List Phrase) (same : part_of r ≡ p) (inner : not (is_outer p) ≡ true) (fits : Fits (Of p) c)
-        (from : lo ≤ i) (past : suc i ≤ end) (behind : end ≤ hi) (ended : get_or ends i 0 ≡ end) where
+        (from : lo ≤ i) (past : suc i ≤ end) (after : end ≤ hi) (ended : get_or ends i 0 ≡ end) where
       abbrev c' : Context
       c' = entered (entry_of r) i a c
 
       -- what holds of its parts
-      abbrev pub Behind : Type 0
-      Behind = (k : ℕ) → k < length (right_side r) → (j : ℕ) × (e : ℕ) × (suc i ≤ j) × (e ≤ end) × Claim (in_role (get_or (roles_of r) k Q.Same) c') j e (at vs k)
+      abbrev pub After : Type 0
+      After = (k : ℕ) → k < length (right_side r) → (j : ℕ) × (e : ℕ) × (suc i ≤ j) × (e ≤ end) × Claim (in_role (get_or (roles_of r) k Q.Same) c') j e (at vs k)
 
-      parts : Behind → (o : Option ℕ) → c'.owner ≡ o → (from : ℕ) → from ≤ suc i → PartsSit (L o) (V o) (R from end) r vs
+      parts : After → (o : Option ℕ) → c'.owner ≡ o → (from : ℕ) → from ≤ suc i → PartsSit (L o) (V o) (R from end) r vs
       parts h o e from l k b =
           let x = h k (ltb-true k (length (right_side r)) b) in
           let y = x.2 in
           part_sits (get_or (roles_of r) k Q.Same) c' o x.0 x.1 from end (at vs k) e (omega (arith, y, l)) x.3 x.4
 
-      plain : Behind → scopes r ≡ false → PhraseSits (L c.owner) (V c.owner) (R i end) (made_by s r n vs)
+      plain : After → scopes r ≡ false → PhraseSits (L c.owner) (V c.owner) (R i end) (made_by s r n vs)
       plain h e =
           let same_owner = plain_owner (entry_of r) i a c e in
           made_sits (L c.owner) (V c.owner) (R i end) r _ _ vs e (λ names x. none_listed names x c.owner refl) (parts h c.owner same_owner i (omega arith))
@@ -414,7 +414,7 @@ module _ (s : Source) (tokens : List Token) (all : List Mark) (ends : List ℕ) 
               let core = subst (λ q. not (is_round_names q) ≡ true) (sym same) (fits.core (subst (λ q. is_some q ≡ true) (sym k) refl)) in
               absurd (false≢true (subst (λ b. not b ≡ true) names (names_so r core)))
 
-      value : Behind → opens_value r ≡ true → entry_of r ≡ O.Value → PhraseSits (L c.owner) (V c.owner) (R i end) (made_by s r n vs)
+      value : After → opens_value r ≡ true → entry_of r ≡ O.Value → PhraseSits (L c.owner) (V c.owner) (R i end) (made_by s r n vs)
       value h e o =
           let owned : c'.owner ≡ Some i = ap (λ q. (entered q i a c).owner) o in
           scoped_sits (L (Some i)) (V (Some i)) (R (suc i) end) (R i end)
@@ -424,7 +424,7 @@ module _ (s : Source) (tokens : List Token) (all : List Mark) (ends : List ℕ) 
           (λ x q v. clash i q.owner end x v.mark q.from q.before ended q.has v.among v.owner_is v.text_is)
           (L c.owner) (V c.owner) r _ _ vs e (parts h (Some i) owned (suc i) (omega arith))
 
-      by_entry : Behind → (o : Entry) → entry_of r ≡ o → PhraseSits (L c.owner) (V c.owner) (R i end) (made_by s r n vs)
+      by_entry : After → (o : Entry) → entry_of r ≡ o → PhraseSits (L c.owner) (V c.owner) (R i end) (made_by s r n vs)
       by_entry h O.Value e = value h (ap is_value e) e
       by_entry h O.Types e = types_sit (L c.owner) (V c.owner) (R i end) r _ _ vs (ap is_types e)
       by_entry h O.Nothing e = plain h (ap opens_scope e)
@@ -434,9 +434,9 @@ module _ (s : Source) (tokens : List Token) (all : List Mark) (ends : List ℕ) 
       by_entry h O.Function e = plain h (ap opens_scope e)
       by_entry h O.Clause e = plain h (ap opens_scope e)
 
-      pub phrase_sits : Behind → Claim c lo hi (made_by s r n vs)
+      pub phrase_sits : After → Claim c lo hi (made_by s r n vs)
       phrase_sits h = (
-        phrase_more (wider i end lo hi from behind) (L c.owner) (V c.owner) (made_by s r n vs) (by_entry h (entry_of r) refl),
+        phrase_more (wider i end lo hi from after) (L c.owner) (V c.owner) (made_by s r n vs) (by_entry h (entry_of r) refl),
         plain_word (L c.owner) (V c.owner) (R lo hi) c.word (made_by s r n vs) (not_variable (Of p) c fits refl),
       )
 
@@ -444,7 +444,7 @@ module _ (s : Source) (tokens : List Token) (all : List Mark) (ends : List ℕ) 
     type_variable K.TypeVariable h = refl
     type_variable _ h = absurd (false≢true h)
 
-    -- all phrases that are behind a node, each in its context
+    -- all phrases that are after a node, each in its context
     pub sits : (nodes : List Node) (i n a : ℕ) (ss : List Symbol) (cs : List Context) (left : List Token) → a ≡ s.begun + n → Goes nodes ss (kinds_of left) → FitAll ss cs
         → ((j : ℕ) (t : Token) → slice_get left j ≡ Some t → slice_get s.tokens (n + j) ≡ Some t) → ((m : Mark) → Stands m (marks_of i a cs nodes) → Stands m all)
         → ((j : ℕ) → get_or ends (i + j) 0 ≡ get_or (ends_of i nodes) j 0)
@@ -471,7 +471,7 @@ module _ (s : Source) (tokens : List Token) (all : List Mark) (ends : List ℕ) 
     sits (Leaf ∷ nodes) i n a (Word w ∷ ss) (c ∷ cs) (t ∷ left) at_token g fit reads inc ended (suc k) h lo hi el eh =
         sits nodes (suc i) (suc n) (a + 1) ss cs left (omega (arith, at_token)) g.1 fit.1
         (λ j t e. ap (slice_get s.tokens) (let f : suc n + j ≡ n + suc j = omega arith in f) ∙ reads (suc j) t e)
-        (λ m st. inc m (stands_behind m (word_mark c.word a c) _ st))
+        (λ m st. inc m (stands_after m (word_mark c.word a c) _ st))
         (λ j. ap (λ q. get_or ends q 0) (let e : suc i + j ≡ i + suc j = omega arith in e) ∙ ended (suc j))
         k (omega (arith, h)) lo hi (omega (arith, el)) (omega (arith, eh))
     sits (Inner r ∷ nodes) i n a [] cs left at_token g fit reads inc ended k h lo hi el eh = absurd g
@@ -480,7 +480,7 @@ module _ (s : Source) (tokens : List Token) (all : List Mark) (ends : List ℕ) 
     sits (Inner r ∷ nodes) i n a (Of p ∷ ss) (c ∷ cs) left at_token g fit reads inc ended k h lo hi el eh =
         by_place
         (sits nodes (suc i) n a (right_side r ++ ss) (parts_of i a c (Inner r) ++ cs) left at_token g.2 (fit_parts r p i a c ss cs g.0 g.1 fit.0 fit.1) reads
-        (λ m st. inc m (stands_behind m (mark_at a c (Inner r)) _ st))
+        (λ m st. inc m (stands_after m (mark_at a c (Inner r)) _ st))
         (λ j. ap (λ q. get_or ends q 0) (let e : suc i + j ≡ i + suc j = omega arith in e) ∙ ended (suc j)))
         k h lo hi el eh
       where
@@ -493,9 +493,9 @@ module _ (s : Source) (tokens : List Token) (all : List Mark) (ends : List ℕ) 
         end : ℕ
         end = suc i + size_of (len + 0) nodes
 
-        behind : ((k : ℕ) → k < length (right_side r ++ ss) → (lo hi : ℕ) → lo ≡ suc i + size_of k nodes → hi ≡ suc i + size_of (suc k) nodes → Claim (get_or (parts_of i a c (Inner r) ++ cs) k start) lo hi (at vs k))
+        after : ((k : ℕ) → k < length (right_side r ++ ss) → (lo hi : ℕ) → lo ≡ suc i + size_of k nodes → hi ≡ suc i + size_of (suc k) nodes → Claim (get_or (parts_of i a c (Inner r) ++ cs) k start) lo hi (at vs k))
             → (k : ℕ) → k < len → (j : ℕ) × (e : ℕ) × (suc i ≤ j) × (e ≤ end) × Claim (in_role (get_or (roles_of r) k Q.Same) (entered (entry_of r) i a c)) j e (at vs k)
-        behind deeper k b =
+        after deeper k b =
             let few = size_more nodes (suc k) (len + 0) (omega (arith, b)) in (
               suc i + size_of k nodes,
               suc i + size_of (suc k) nodes,
@@ -511,9 +511,9 @@ module _ (s : Source) (tokens : List Token) (all : List Mark) (ends : List ℕ) 
             → Claim (get_or (c ∷ cs) k start) lo hi (at (made_by s r n vs ∷ drop len vs) k)
         by_place deeper zero h lo hi el eh =
             phrase_sits r p i a n lo hi end c vs g.0 g.1 fit.0 (omega (arith, el)) (omega arith) (omega (arith, eh))
-            (ap (λ q. get_or ends q 0) (let e : i ≡ i + 0 = omega arith in e) ∙ ended 0 ∙ (let e : i + suc (size_of (len + 0) nodes) ≡ suc i + size_of (len + 0) nodes = omega arith in e)) (behind deeper)
+            (ap (λ q. get_or ends q 0) (let e : i ≡ i + 0 = omega arith in e) ∙ ended 0 ∙ (let e : i + suc (size_of (len + 0) nodes) ≡ suc i + size_of (len + 0) nodes = omega arith in e)) (after deeper)
         by_place deeper (suc k) h lo hi el eh =
             let next = ap (λ q. size_of q nodes) (let e : len + suc k ≡ suc (len + k) = omega arith in e) in
-            let x = deeper (len + k) (behind_more k (right_side r) ss (omega (arith, h))) lo hi (omega (arith, el)) (omega (arith, eh, next)) in
+            let x = deeper (len + k) (after_more k (right_side r) ss (omega (arith, h))) lo hi (omega (arith, el)) (omega (arith, eh, next)) in
             subst (λ q. Claim (get_or cs k start) lo hi (first q)) (sym (drop-drop k len vs))
-            (subst (λ q. Claim q lo hi (at vs (len + k))) (context_behind (roles_of r) (entered (entry_of r) i a c) 0 len cs k (len + k) refl) x)
+            (subst (λ q. Claim q lo hi (at vs (len + k))) (context_after (roles_of r) (entered (entry_of r) i a c) 0 len cs k (len + k) refl) x)

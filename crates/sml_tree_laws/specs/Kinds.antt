@@ -479,7 +479,7 @@ abbrev pub AreOf : List Symbol → ℕ → List Phrase → Type 0
 AreOf [] n vs = Unit {0}
 AreOf (x ∷ symbols) n vs = (is_of x (at vs n) ≡ true) × AreOf symbols (suc n) vs
 
--- what is made behind a node are the parts of its rule
+-- what is made after a node are the parts of its rule
 abbrev pub FindsParts : Node → List Phrase → Type 0
 FindsParts Leaf vs = Unit {0}
 FindsParts (Inner rule) vs = AreOf (right_side rule) 0 vs

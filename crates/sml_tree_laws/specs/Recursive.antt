@@ -1,4 +1,4 @@
--- What value declarations bind behind `rec`, and functions (the Definition, section 2.9): no name that stands by itself is
+-- What value declarations bind after `rec`, and functions (the Definition, section 2.9): no name that stands by itself is
 -- `true`, `false`, `::` or `ref`, and none before `as` is one of these or `nil`. Where a name stands by itself `nil` is also
 -- what `[]` stands for.
 use Rattle.std.specs.Prelude.{◌≡◌, ◌⊎◌, ℕ, List, [], ◌∷◌, Option, false}
@@ -43,7 +43,7 @@ abbrev mutual
   RecPatFields no_pat_field = Unit {0}
   RecPatFields (and_pat_field (pat_field l q) fs) = RecPat q × RecPatFields fs
 
--- a binding behind `rec`, as which a function with its clauses is written too
+-- a binding after `rec`, as which a function with its clauses is written too
 abbrev pub RecBind : {P : Type 0} → ValBind P → Type 0
 RecBind (bind q e) = RecPat q
 

@@ -17,7 +17,7 @@ pub fn trees_are_well_bound()
     ensures { TreesAreWellBound }
 {}
 
-/// In the declarations that bytes spell, no name that stands by itself in a pattern behind `rec`, or is that of a function, is
+/// In the declarations that bytes spell, no name that stands by itself in a pattern after `rec`, or is that of a function, is
 /// `true`, `false`, `::` or `ref`, and none before `as` there is one of these or `nil` (the Definition, section 2.9).
 pub fn recursive_names_may_be_bound()
     ensures { RecursiveNamesMayBeBound }

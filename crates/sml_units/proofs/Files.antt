@@ -155,9 +155,9 @@ both_accepted o q e = (
   (λ h. to_accepted o (e ∙ from_accepted q h)),
 )
 
-last_behind : (o : Answered) (os : List Answered) (last : Option (Fault Place)) → with_last (o ∷ os) last ≡ o ∷ with_last os last
-last_behind o os None = refl
-last_behind o os (Some f) = refl
+last_after : (o : Answered) (os : List Answered) (last : Option (Fault Place)) → with_last (o ∷ os) last ≡ o ∷ with_last os last
+last_after o os None = refl
+last_after o os (Some f) = refl
 
 agree_by : (k : ℕ) (ds es : List (Dec Place)) (os qs : List Answered) (last other : Option (Fault Place)) (rs ps : List Reply) → AreRepliesTo k (with_last os last) rs → AreRepliesTo k (with_last qs other) ps
     → AgreeOnSeals ds es rs ps → AgreeAtSeals ds es os qs
@@ -167,12 +167,12 @@ agree_by k (d ∷ ds) [] os qs last other rs ps h g a = tt
 agree_by k (d ∷ ds) (e ∷ es) [] qs last other rs ps h g a = tt
 agree_by k (d ∷ ds) (e ∷ es) (o ∷ os) [] last other rs ps h g a = tt
 agree_by k (d ∷ ds) (e ∷ es) (o ∷ os) (q ∷ qs) last other [] ps h g a =
-    absurd (subst (λ xs. AreRepliesTo k xs []) (last_behind o os last) h)
+    absurd (subst (λ xs. AreRepliesTo k xs []) (last_after o os last) h)
 agree_by k (d ∷ ds) (e ∷ es) (o ∷ os) (q ∷ qs) last other (r ∷ rs) [] h g a =
-    absurd (subst (λ xs. AreRepliesTo k xs []) (last_behind q qs other) g)
+    absurd (subst (λ xs. AreRepliesTo k xs []) (last_after q qs other) g)
 agree_by k (d ∷ ds) (e ∷ es) (o ∷ os) (q ∷ qs) last other (r ∷ rs) (p ∷ ps) h g a =
-    let x = subst (λ xs. AreRepliesTo k xs (r ∷ rs)) (last_behind o os last) h in
-    let y = subst (λ xs. AreRepliesTo k xs (p ∷ ps)) (last_behind q qs other) g in
+    let x = subst (λ xs. AreRepliesTo k xs (r ∷ rs)) (last_after o os last) h in
+    let y = subst (λ xs. AreRepliesTo k xs (p ∷ ps)) (last_after q qs other) g in
     ((λ differ. both_accepted o q (sym x.0.accepting ∙ a.0 differ ∙ y.0.accepting)), agree_by (suc k) ds es os qs last other rs ps x.1 y.1 a.1)
 
 all_agree : (xs : List Pair) (ss ts : List SourceUnit) (oss qss : List (List Answered)) (rs ps : List UnitReplies) → Told xs ss ts → Replied ss oss rs → Replied ts qss ps
@@ -231,12 +231,12 @@ equal_by k [] [] [] [] (Some b) (r ∷ []) (p ∷ s ∷ ps) a f g e' h i = absur
 equal_by k (d ∷ ds) (e ∷ es) [] qs last rs ps a f g e' h i = absurd f
 equal_by k (d ∷ ds) (e ∷ es) (o ∷ os) [] last rs ps a f g e' h i = absurd g
 equal_by k (d ∷ ds) (e ∷ es) (o ∷ os) (q ∷ qs) last [] ps a f g e' h i =
-    absurd (subst (λ xs. AreRepliesTo k xs []) (last_behind o os last) h)
+    absurd (subst (λ xs. AreRepliesTo k xs []) (last_after o os last) h)
 equal_by k (d ∷ ds) (e ∷ es) (o ∷ os) (q ∷ qs) last (r ∷ rs) [] a f g e' h i =
-    absurd (subst (λ xs. AreRepliesTo k xs []) (last_behind q qs last) i)
+    absurd (subst (λ xs. AreRepliesTo k xs []) (last_after q qs last) i)
 equal_by k (d ∷ ds) (e ∷ es) (o ∷ os) (q ∷ qs) last (r ∷ rs) (p ∷ ps) a f g e' h i =
-    let x = subst (λ xs. AreRepliesTo k xs (r ∷ rs)) (last_behind o os last) h in
-    let y = subst (λ xs. AreRepliesTo k xs (p ∷ ps)) (last_behind q qs last) i in (
+    let x = subst (λ xs. AreRepliesTo k xs (r ∷ rs)) (last_after o os last) h in
+    let y = subst (λ xs. AreRepliesTo k xs (p ∷ ps)) (last_after q qs last) i in (
       (λ same. same_bytes k o q r p x.0 y.0 (e'.0 same)),
       (λ is also. same_bytes k o q r p x.0 y.0 (e'.1 (to_accepted o (sym x.0.accepting ∙ is)) (to_accepted q (sym y.0.accepting ∙ also)))),
       equal_by (suc k) ds es os qs last rs ps a.1 f g e'.2 x.1 y.1,

@@ -36,7 +36,7 @@ pub as_many : {A B : Type 0} (f : A → B) (o : Option A) → length (option_to_
 as_many f (Some x) = refl
 as_many f None = refl
 
--- the basis behind these answers
+-- the basis after these answers
 abbrev pub after_all : Basis Name → List Answered → Basis Name
 after_all B [] = B
 after_all B (o ∷ os) = after_all (basis_after B o) os
@@ -210,10 +210,10 @@ pub ends_as_many : {X Y : Type 0} (g : X → Y) (o : Option X) → length (optio
 ends_as_many g None = refl
 ends_as_many g (Some x) = refl
 
-nothing_behind : (rs tail : List Reply) → length (rs ++ tail) ≡ length rs → rs ++ tail ≡ rs
-nothing_behind [] [] h = refl
-nothing_behind [] (r ∷ tail) h = absurd (omega (arith, h))
-nothing_behind (r ∷ rs) tail h = ap (λ l. r ∷ l) (nothing_behind rs tail (omega (arith, h)))
+nothing_after : (rs tail : List Reply) → length (rs ++ tail) ≡ length rs → rs ++ tail ≡ rs
+nothing_after [] [] h = refl
+nothing_after [] (r ∷ tail) h = absurd (omega (arith, h))
+nothing_after (r ∷ rs) tail h = ap (λ l. r ∷ l) (nothing_after rs tail (omega (arith, h)))
 
 begun_by : (whole : Bool) (os : List Answered) (last : Option (Fault Place)) (rs tail ends : List Reply) → AreRepliesTo 1 os rs
     → (whole ≡ true → rs ++ tail ≡ rs) → (AreRepliesTo 1 os (rs ++ tail) → AreRepliesTo 1 (with_last os last) ((rs ++ tail) ++ ends))
@@ -260,7 +260,7 @@ unit_answered fs Ss u ds last spelt b tail ends x begun all count more kept =
     let len = answered parts.0 inner.0 in
     let num = eqb-true (length ds) n inner.1 in
     let app = length-append rs tail in
-    nothing_behind rs tail (omega (arith, len, num, app, all))) in
+    nothing_after rs tail (omega (arith, len, num, app, all))) in
     record {
       source = s;
       is = record { label_is = refl; maker_is = refl; needs_are = refl; spelt = spelt; number_is = refl };

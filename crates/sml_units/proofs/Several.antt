@@ -21,7 +21,7 @@ use Rattle.sml_units.specs.CodeUnits.{IsAnswered, IsExported, AreExported, AreRe
 use Rattle.sml_units.proofs.Names.{exports_below, exports_open, start_below, needed_open, open_push, names_push}
 use Rattle.sml_units.proofs.Replying.{initial_open}
 
--- the flags and the exports behind these units
+-- the flags and the exports after these units
 abbrev pub flags_after : List Bool → List SourceUnit → List Bool
 flags_after fs [] = fs
 flags_after fs (s ∷ ss) = flags_after (fs ++ is_whole fs s ∷ []) ss

@@ -45,7 +45,7 @@ summary-more rs r s t e a b w =
     ∙ ap capped (sym (sum_by_push (λ x. length (warnings_of x)) rs r)) in
     λ i. record { accepted = accepted i; refused = refused i; warnings = warnings i }
 
--- the next reply of a unit, behind those of the units before it
+-- the next reply of a unit, after those of the units before it
 pub summary-next : (before rs : List Reply) (i : ℕ) (r : Reply) (s t : Summary) → i < length rs → r ≡ get_or rs i r → s ≡ summary_of (before ++ take i rs)
     → t.accepted ≡ capped (s.accepted + cond (accepts r) 1 0) → t.refused ≡ capped (s.refused + cond (accepts r) 0 1) → t.warnings ≡ capped (s.warnings + length (warnings_of r))
     → t ≡ summary_of (before ++ take (i + 1) rs)
@@ -53,7 +53,7 @@ summary-next before rs i r s t h is e a b w =
     summary-more (before ++ take i rs) r s t e a b w
     ∙ ap summary_of (append_assoc before (take i rs) (r ∷ []) ∙ ap (λ y. before ++ (take i rs ++ y ∷ [])) is ∙ ap (λ l. before ++ l) (sym (take_more rs i r h)))
 
--- all replies of the next unit, behind those of the units before it
+-- all replies of the next unit, after those of the units before it
 pub replies-next : (us : List UnitReplies) (i : ℕ) (u : UnitReplies) (rs : List Reply) (k : ℕ) → i < length us → u ≡ get_or us i u → rs ≡ u.replies.items → length rs ≤ k
     → replies_of (take i us) ++ take k rs ≡ replies_of (take (i + 1) us)
 replies-next us i u rs k h is own all =

@@ -79,7 +79,7 @@ NeedsGive fs Ss ks unit (Some b) = (list_all (flag_at fs) ks ≡ true) × ((need
 abbrev pub Keeps : Beginning → ℕ → Exports → Type 0
 Keeps b n x = (is_some x.specified ≡ (b.is_whole && (length b.replies.items == n))) × IfSome x.specified (λ e. env_of e.value ≡ env_of b.bound.env)
 
--- A unit is begun and ended so, behind others with these flags and exports.
+-- A unit is begun and ended so, after others with these flags and exports.
 pub record AreBegunAndEnded (maker : ℕ) (fs : List Bool) (Ss : List (Sig Name)) (ks : List ℕ) (ds : List (Dec Place)) (n : ℕ) (last : Option (Fault Place)) (rs : List Reply) (x : Exports) : Type 0 where
   pub beginning_is : Beginning
   pub begun : IsBegun maker (list_all (flag_at fs) ks) (start initial_basis Ss ks) ds beginning_is

@@ -221,7 +221,7 @@ fn end(
         is_whole,
     } = begun;
     let mut basis = whole_basis(alloc, initial, needs, exports, count, &bound)?;
-    let rest = behind(declarations, replies.len());
+    let rest = after(declarations, replies.len());
     let replies = answer_rest(alloc, &mut basis, &mut paths, replies, rest)?;
     let replies = and_last(replies, fault)?;
     let own = own_exports(alloc, basis, paths, bound, is_all(is_whole, rest))?;
@@ -260,7 +260,7 @@ fn own_exports(
 }
 
 /// The declarations after the first so many.
-fn behind(declarations: &[TopDec], count: usize) -> &[TopDec]
+fn after(declarations: &[TopDec], count: usize) -> &[TopDec]
     requires { count ≤ length declarations.now }
     ensures { count + length result.now ≡ length declarations.now }
 {
@@ -274,7 +274,7 @@ fn and_last(mut replies: Vec<Reply>, fault: Option<Fault>) -> Result<Vec<Reply>,
 {
     match fault {
         Some(fault) => {
-            let number = number_behind(replies.len())?;
+            let number = number_after(replies.len())?;
             replies.push(Reply::refused(number, fault))?;
             Ok(replies)
         }
@@ -333,7 +333,7 @@ fn answer_piece(
                 is_whole: false,
             });
         }
-        let number = number_behind(replies.len())?;
+        let number = number_after(replies.len())?;
         let reply = answer(alloc, &mut basis, &mut bound, &mut paths, number, dec)?;
         replies.push(reply)?;
     }
@@ -399,7 +399,7 @@ fn accept(
 }
 
 /// The number of a reply with so many before it. Where no `u32` holds it, that counts as want of memory.
-pub(crate) fn number_behind(count: usize) -> Result<u32, Memory>
+pub(crate) fn number_after(count: usize) -> Result<u32, Memory>
     ensures { IfOk result (λ n. n ≡ count + 1) }
 {
     let Ok(count) = u32::try_from(count) else {

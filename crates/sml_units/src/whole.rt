@@ -3,7 +3,7 @@
 ghost use Rattle.std.specs.Prelude.{◌≡◌, ◌++◌, IfOk, List, length};
 ghost use Rattle.sml_reply.specs.declared.reply.Reply.{Reply};
 
-use crate::project::number_behind;
+use crate::project::number_after;
 use sml_bases::objects::Basis as WholeBasis;
 use sml_exports::exports::Exports;
 use sml_lex::fault::Memory;
@@ -55,7 +55,7 @@ pub(crate) fn answer_rest(
     ensures { IfOk result (λ rs. (tail : List Reply) × (rs.items ≡ replies.items ++ tail) × (length tail ≡ length declarations.now)) }
 {
     for dec in declarations {
-        let number = number_behind(replies.len())?;
+        let number = number_after(replies.len())?;
         let reply = answer(alloc, basis, paths, number, dec)?;
         replies.push(reply)?;
     }

@@ -133,7 +133,7 @@ fn found_of(alloc: Global, checked: &Checked) -> Result<String, Fail> {
 }
 
 /// What is found where a project is checked again after another, which has to give what a check from nothing gives.
-fn found_behind(
+fn found_after(
     rt: &impl Abort,
     alloc: Global,
     old: &Checked,
@@ -159,7 +159,7 @@ fn found_by(
     letters: &str,
 ) -> Result<String, Fail> {
     let project = project_by(alloc, number, letters)?;
-    found_behind(rt, alloc, old, &project)
+    found_after(rt, alloc, old, &project)
 }
 
 #[test]

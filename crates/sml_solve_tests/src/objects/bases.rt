@@ -135,10 +135,10 @@ fn turned(alloc: Global) -> Result<Renaming, Memory> {
 #[test]
 fn names_change_places(rt: HostRuntime) -> Result<(), Fail> {
     let by = turned(rt.alloc())?;
-    for (before, behind) in [(5, 6), (6, 7), (7, 5)] {
+    for (before, after) in [(5, 6), (6, 7), (7, 5)] {
         assert_eq!(rt;
             by.name(TyName::Made(made(before))),
-            TyName::Made(made(behind))
+            TyName::Made(made(after))
         );
     }
     Ok(())

@@ -1,4 +1,4 @@
--- What is made by the nodes behind here, and that all of it is low.
+-- What is made by the nodes after here, and that all of it is low.
 use Rattle.std.proofs.Common.{◌≡◌, ◌≤◌, ◌+◌, true, drop, length}
 use Rattle.sml_read.specs.Extents.{starts_of, tokens_in}
 use Rattle.sml_phrases.specs.PhraseViews.{seen}

@@ -10,6 +10,6 @@ pub returns-clause-made : goal.returns-clause-made
 returns-clause-made c =
     let v = seen c.args.stack.now in
     gives_same _ _ c.low_repeat.result
-    (ap (λ e. while_of c.args.place e (low_exp_of c.behind_word-body.result)) c.behind_word-test.ensures.value
-    ∙ ap (while_of c.args.place (exp_in (at v 1))) (c.behind_word-body.ensures.value ∙ ap (λ x. exp_in x) (later 2 1 v (seen c.behind_word-test.new.stack) c.behind_word-test.ensures.rest)))
+    (ap (λ e. while_of c.args.place e (low_exp_of c.after_word-body.result)) c.after_word-test.ensures.value
+    ∙ ap (while_of c.args.place (exp_in (at v 1))) (c.after_word-body.ensures.value ∙ ap (λ x. exp_in x) (later 2 1 v (seen c.after_word-test.new.stack) c.after_word-test.ensures.rest)))
     c.low_repeat.ensures

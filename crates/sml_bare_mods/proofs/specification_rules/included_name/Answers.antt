@@ -12,7 +12,7 @@ returns c =
     let a = seen c.name.new.self in
     let p = c.in_ok-name.ensures.rest in
     puts_same _ _ 2 v _ _ c.included_name_of.result
-    (ap (λ x. included_name c.args.place x (phrase_of c.pop-behind.result)) c.in_ok-name.ensures.value
-    ∙ ap (included_name c.args.place (name_in (at v 0))) (c.pop-behind.ensures.value ∙ ap first p))
-    (two_off v a _ p c.pop-behind.ensures.rest)
+    (ap (λ x. included_name c.args.place x (phrase_of c.pop-after.result)) c.in_ok-name.ensures.value
+    ∙ ap (included_name c.args.place (name_in (at v 0))) (c.pop-after.ensures.value ∙ ap first p))
+    (two_off v a _ p c.pop-after.ensures.rest)
     c.included_name_of.ensures

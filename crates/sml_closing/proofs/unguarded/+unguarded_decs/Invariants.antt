@@ -1,4 +1,4 @@
--- What is left to gather, behind what was.
+-- What is left to gather, after what was.
 use Rattle.std.proofs.Common.{◌≡◌, map, drop}
 use Rattle.sml_tree.specs.ExpressionViews.{dec_of, decs_of}
 use Rattle.sml_core_rules.specs.Closing.{decs_variables}

@@ -1,4 +1,4 @@
--- What is left to gather, behind what was.
+-- What is left to gather, after what was.
 use Rattle.std.proofs.Common.{◌≡◌, map, drop}
 use Rattle.sml_tree.specs.PatternViews.{pat_of, pats_of, pat_field_of, pat_fields_of}
 use Rattle.sml_core_rules.specs.Closing.{pats_variables, pat_field_variables}

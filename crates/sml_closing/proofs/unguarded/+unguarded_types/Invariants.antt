@@ -1,4 +1,4 @@
--- What is left to gather, behind what was.
+-- What is left to gather, after what was.
 use Rattle.std.proofs.Common.{◌≡◌, map, drop}
 use Rattle.sml_tree.specs.TypeViews.{ty_of, tys_of, ty_field_of, ty_fields_of}
 use Rattle.sml_core_rules.specs.Closing.{tys_variables, ty_field_variables}

@@ -3,10 +3,10 @@ use Rattle.std.proofs.lemmas.Fmt.{decimal_injective}
 use Rattle.sml_derived.specs.Words.{hidden}
 use Rattle.sml_derived.proofs.laws.hidden_differ.Goals as goal
 
-abbrev behind : List ℕ → List ℕ
-behind [] = []
-behind (b ∷ bs) = bs
+abbrev after : List ℕ → List ℕ
+after [] = []
+after (b ∷ bs) = bs
 
 pub returns : goal.returns
 unfolding hidden
-returns c m n m_fits n_fits same = decimal_injective m n m_fits n_fits (ap behind same)
+returns c m n m_fits n_fits same = decimal_injective m n m_fits n_fits (ap after same)

@@ -1,4 +1,4 @@
--- What is left to look at, behind what was.
+-- What is left to look at, after what was.
 use Rattle.std.proofs.Common.{◌≡◌, ◌&&◌, Bool, true, ℕ, map, drop}
 use Rattle.std.specs.List.{list_all}
 use Rattle.sml_objects.specs.Objects.{types_of}

@@ -1,4 +1,4 @@
--- What is left to look at, behind what was.
+-- What is left to look at, after what was.
 use Rattle.std.proofs.Common.{◌≡◌, ◌&&◌, Bool, ℕ, drop}
 use Rattle.std.specs.List.{list_all}
 use Rattle.sml_equality.specs.Runs.{arguments_admit}

@@ -1,4 +1,4 @@
--- The nodes so far are the declaration's, and what else is its own stands behind them.
+-- The nodes so far are the declaration's, and what else is its own stands after them.
 use Rattle.std.proofs.Common.{◌≡◌, ◌-◌, ◌≤◌, ◌++◌, take, drop, length}
 use Rattle.std.specs.List.{before_first}
 use Rattle.sml_flaws.specs.Flawed.{ends_at}

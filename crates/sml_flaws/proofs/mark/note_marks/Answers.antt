@@ -18,10 +18,10 @@ loop-i-preserved c =
     let next = c.take.ensures.some c.if-not-take.false in
     let f = c.loop-i.invariant.few in
     let o = one_token token (get_or nodes i Leaf) in
-    let b = c.token_behind-token.ensures in
+    let b = c.token_after-token.ensures in
     record {
       kept =
-          mark_on _ marks c.push_some.new.marks.items i token c.token_behind-token.result runs.here.context (contexts_of runs) _ (contexts_of c.enter.new.runs) nodes c.loop-i.invariant.kept c.loop-i-test.true next
+          mark_on _ marks c.push_some.new.marks.items i token c.token_after-token.result runs.here.context (contexts_of runs) _ (contexts_of c.enter.new.runs) nodes c.loop-i.invariant.kept c.loop-i-test.true next
           (c.in_ok-push_some.ensures ∙ ap (λ mark. marks ++ cons_option mark []) c.mark_at-mark.ensures) c.in_ok-enter.ensures b;
       few = omega (arith, f, o, b);
     }

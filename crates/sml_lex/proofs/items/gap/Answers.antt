@@ -11,11 +11,11 @@ loop-count-preserved c = record {
 }
 
 pub returns-then-starts_with : goal.returns-then-starts_with
-returns-then-starts_with c = sym (sym (gap_first c.args.text.now) ∙ sym c.loop-count.invariant.rest ∙ gap_closed c.loop-count.count (drop c.loop-count.count c.args.text.now) (ap (starts_with 92) (sym c.behind.ensures) ∙ sym c.starts_with.ensures ∙ c.if-starts_with.true))
+returns-then-starts_with c = sym (sym (gap_first c.args.text.now) ∙ sym c.loop-count.invariant.rest ∙ gap_closed c.loop-count.count (drop c.loop-count.count c.args.text.now) (ap (starts_with 92) (sym c.after.ensures) ∙ sym c.starts_with.ensures ∙ c.if-starts_with.true))
 
 pub returns-else-starts_with : goal.returns-else-starts_with
 returns-else-starts_with c =
-    let open_at = ap (starts_with 92) (sym c.behind.ensures) ∙ sym c.starts_with.ensures ∙ c.if-starts_with.false in
+    let open_at = ap (starts_with 92) (sym c.after.ensures) ∙ sym c.starts_with.ensures ∙ c.if-starts_with.false in
     sym (
     sym (gap_first c.args.text.now) ∙ sym c.loop-count.invariant.rest
     ∙ elim c.loop-count-test.branch [

@@ -1,4 +1,4 @@
--- What the rest spells stands behind the tokens so far.
+-- What the rest spells stands after the tokens so far.
 use Rattle.std.proofs.Common.{◌≤◌, ◌-◌, length}
 use Rattle.sml_lex.proofs.Spelling.{Carries}
 use Rattle.sml_lex.proofs.lexer.lex.Given as goal

@@ -18,12 +18,12 @@ loop-i-init c = record {
 pub returns-in-Dead : goal.returns-in-Dead
 returns-in-Dead c =
     let inv = c.loop-i.invariant in
-    longest_dead _ _ _ c.loop-i-test.true (sym (state_on c.args.bytes.now c.loop-i.i 0 _ _ _ _ c.loop-i-test.true refl inv.state inv.reserved c.behind-state.ensures) ∙ c.in-Dead.is) inv.longest
+    longest_dead _ _ _ c.loop-i-test.true (sym (state_on c.args.bytes.now c.loop-i.i 0 _ _ _ _ c.loop-i-test.true refl inv.state inv.reserved c.after-state.ensures) ∙ c.in-Dead.is) inv.longest
 
 pub loop-i-preserved : goal.loop-i-preserved
 loop-i-preserved c =
     let inv = c.loop-i.invariant in
-    let s = state_on c.args.bytes.now c.loop-i.i 0 _ _ _ _ c.loop-i-test.true refl inv.state inv.reserved c.behind-state.ensures in
+    let s = state_on c.args.bytes.now c.loop-i.i 0 _ _ _ _ c.loop-i-test.true refl inv.state inv.reserved c.after-state.ensures in
     let p = part_on c.args.bytes.now c.loop-i.start c.loop-i.i 0 _ _ inv.before c.loop-i-test.true refl inv.part c.part_start-start.ensures in
     let k = kind_on c.args.bytes.now c.loop-i.i _ _ _ _ _ s p c.word_kind_of-word.ensures c.is_star.ensures c.kind_of.ensures in record {
       state = s;

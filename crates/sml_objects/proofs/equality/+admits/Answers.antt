@@ -9,7 +9,7 @@ use Rattle.sml_objects.specs.Initial.{naming, attributes_of}
 use Rattle.sml_objects.specs.Objects.{types_of}
 use Rattle.sml_objects.specs.Views.{type_of, name_of}
 use Rattle.sml_objects.proofs.TypeViews.{parts_of}
-use Rattle.sml_objects.proofs.EqualityViews.{admits-bound, admits-free, admits-row, admits-arrow, admits-name, all_admit-none, all_admit-behind}
+use Rattle.sml_objects.proofs.EqualityViews.{admits-bound, admits-free, admits-row, admits-arrow, admits-name, all_admit-none, all_admit-after}
 use Rattle.sml_objects.proofs.equality.+admits.Goals as goal
 
 pub admits_equality-returns-in-Bound : goal.admits_equality-returns-in-Bound
@@ -64,7 +64,7 @@ all_admit_equality-returns-then-not-admits_equality t c =
     let split : take i xs ++ (x ∷ rest) ≡ xs =
     ap (λ y. take i xs ++ (y ∷ rest)) c.part-item.is ∙ ap (λ l. take i xs ++ l) (sym (drop-cons xs i x c.loop-part-test.true)) ∙ take-append-drop i xs in
     ap (λ b. b && all_admit naming (types_of (parts_of rest))) (c.if-not-admits_equality.ensures ∙ ap (λ u. admits naming (type_of u)) c.deref.ensures)
-    ∙ sym (all_admit-behind (take i xs) rest x c.loop-part.invariant)
+    ∙ sym (all_admit-after (take i xs) rest x c.loop-part.invariant)
     ∙ ap (λ l. all_admit naming (types_of (parts_of l))) split
 
 pub all_admit_equality-loop-part-preserved : goal.all_admit_equality-loop-part-preserved
@@ -74,5 +74,5 @@ all_admit_equality-loop-part-preserved t c =
     let i = c.loop-part.part-index in
     let taken = (take_at_read xs i x c.loop-part-test.true).1 ∙ ap (λ y. take i xs ++ (y ∷ [])) (sym c.part-item.is) in
     ap (λ l. all_admit naming (types_of (parts_of l))) taken
-    ∙ all_admit-behind (take i xs) [] x c.loop-part.invariant
+    ∙ all_admit-after (take i xs) [] x c.loop-part.invariant
     ∙ (λ i. sym (c.if-not-admits_equality.ensures ∙ ap (λ u. admits naming (type_of u)) c.deref.ensures) i && all_admit-none i)

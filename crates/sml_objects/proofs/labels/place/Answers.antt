@@ -2,7 +2,7 @@ use Rattle.std.proofs.Common.{ℕ, ◌+◌, ◌-◌, ◌/◌, ◌<◌, length, m
 use Rattle.sml_tree.specs.Views.{ident_of}
 use Rattle.sml_objects.specs.Labels.{label_order}
 use Rattle.sml_objects.proofs.RisingLabels.{ident-at}
-use Rattle.sml_objects.proofs.LabelPlaces.{behind, in-front, stands-at}
+use Rattle.sml_objects.proofs.LabelPlaces.{after, in-front, stands-at}
 use Rattle.std.proofs.lemmas.List.{length-map}
 use Rattle.sml_objects.proofs.labels.place.Goals as goal
 
@@ -16,7 +16,7 @@ loop-low-preserved-in-Less c =
     let o = ap (λ z. label_order z c.args.label.now) (ident-at xs m c.index-list-middle.result c.index-list-middle.is below) ∙ sym c.in-Less.ensures in (
       omega (arith, c.loop-low-test.true),
       inv.1,
-      λ k s. (omega (arith, behind (map ident_of xs) c.args.label.now m k c.requires (omega (arith, c.loop-low-test.true, inv.1, length-map xs ident_of)) o s), (inv.2 k s).1),
+      λ k s. (omega (arith, after (map ident_of xs) c.args.label.now m k c.requires (omega (arith, c.loop-low-test.true, inv.1, length-map xs ident_of)) o s), (inv.2 k s).1),
     )
 
 pub returns-in-Equal-clause-some : goal.returns-in-Equal-clause-some

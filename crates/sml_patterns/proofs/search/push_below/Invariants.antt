@@ -1,4 +1,4 @@
--- The tasks of the constructors behind these are there, and the rows of these are still to come.
+-- The tasks of the constructors after these are there, and the rows of these are still to come.
 use Rattle.std.proofs.Common.{◌≡◌, ◌++◌, ◌<◌, ℕ, length}
 use Rattle.sml_narrowing.specs.CodeTasks.{line, lines, group_at}
 use Rattle.sml_patterns.specs.CodeTasks.{problems}

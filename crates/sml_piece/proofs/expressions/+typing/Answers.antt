@@ -84,7 +84,7 @@ typed_function-returns-in-Ok-set-clause-locals t c =
     ∙ sym (over (order_of y x) (old y) (Some c.args.made) c.in-Ok.hidden)
     ∙ ap (λ h. at (order_of y x) h (old y)) c.in-Ok.ensures.hidden ∙ same_at old y x (order_of y x) refl)
 
--- the parts from one on: that one, and those behind it
+-- the parts from one on: that one, and those after it
 rest_at : (xs : List Exp) (i : ℕ) (x : Exp) → i < length xs → x ≡ get_or xs i x → map exp_of (drop i xs) ≡ exp_of x ∷ map exp_of (drop (i + 1) xs)
 rest_at xs i x h e = ap (map exp_of) (drop_more xs i x h ∙ ap (λ y. y ∷ drop (i + 1) xs) (sym e))
 

@@ -22,7 +22,7 @@ loop-dec-init c =
       λ o h. subst (λ e. read_cores naming outer e ds o) c.new-bound.ensures h,
     )
 
--- the declarations from one on: that one, and those behind it
+-- the declarations from one on: that one, and those after it
 rest_at : (xs : List CoreDec) (i : ℕ) (x : CoreDec) → i < length xs → x ≡ get_or xs i x → map core_dec_of (drop i xs) ≡ core_dec_of x ∷ map core_dec_of (drop (i + 1) xs)
 rest_at xs i x h e = ap (map core_dec_of) (drop_more xs i x h ∙ ap (λ y. y ∷ drop (i + 1) xs) (sym e))
 

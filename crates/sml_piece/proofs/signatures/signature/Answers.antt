@@ -38,7 +38,7 @@ loop-spec-init c = λ B same below.
       λ o h. subst (λ T. summed T (read_specs naming unit B [] rest) o) sig h,
     )
 
--- the specifications from one on: that one, and those behind it
+-- the specifications from one on: that one, and those after it
 rest_at : (xs : List Spec) (i : ℕ) (x : Spec) → i < length xs → x ≡ get_or xs i x → map spec_of (drop i xs) ≡ spec_of x ∷ map spec_of (drop (i + 1) xs)
 rest_at xs i x h e = ap (map spec_of) (drop_more xs i x h ∙ ap (λ y. y ∷ drop (i + 1) xs) (sym e))
 

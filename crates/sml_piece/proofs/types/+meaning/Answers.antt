@@ -78,7 +78,7 @@ type_of-returns-in-Bracket t c = λ locals C shows.
     subst (λ u. Answers type_view c.type_of-in-Bracket.result (read_ty C u)) (sym (ap ty_of c.in-Bracket.is ∙ ty_of-bracket c.in-Bracket.inner))
     (subst (λ u. Answers type_view c.type_of-in-Bracket.result (read_ty C (ty_of u))) c.deref-in-Bracket.ensures (c.type_of-in-Bracket.ensures locals C shows))
 
--- the parts from one on: that one, and those behind it
+-- the parts from one on: that one, and those after it
 rest_at : (xs : List Ty) (i : ℕ) (x : Ty) → i < length xs → x ≡ get_or xs i x → map ty_of (drop i xs) ≡ ty_of x ∷ map ty_of (drop (i + 1) xs)
 rest_at xs i x h e = ap (map ty_of) (drop_more xs i x h ∙ ap (λ y. y ∷ drop (i + 1) xs) (sym e))
 

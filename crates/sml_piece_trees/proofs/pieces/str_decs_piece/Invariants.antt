@@ -1,4 +1,4 @@
--- What is left, behind what was made, is what all are.
+-- What is left, after what was made, is what all are.
 use Rattle.std.proofs.Common.{◌≡◌, ◌∷◌, map, drop}
 use Rattle.std.specs.Option.{option_map}
 use Rattle.sml_tree.specs.Views.{core_dec_of}

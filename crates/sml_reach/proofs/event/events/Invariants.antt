@@ -1,4 +1,4 @@
--- What the phrases behind here are, and the events there.
+-- What the phrases after here are, and the events there.
 use Rattle.std.proofs.Common.{◌≡◌, ◌+◌, map, reverse, drop, length, ◌≤◌}
 use Rattle.sml_read.specs.Extents.{starts_of, tokens_in}
 use Rattle.sml_reach.specs.Founds.{found_of}

@@ -10,11 +10,11 @@ loop-i-preserved c =
     let i = c.loop-i.i in
     let inv = c.loop-i.invariant in
     let n = c.match-nodes-i.end in
-    let behind = later nodes i (reverse c.loop-i.later.items) (omega arith) inv.later in
+    let after = later nodes i (reverse c.loop-i.later.items) (omega arith) inv.later in
     let all : Ends nodes (i - 1) (n ∷ reverse c.match-nodes-i.later.items) = elim c.match-nodes-i.branch [
       | in-Leaf w ↦ subst (λ v. Ends nodes (i - 1) (n ∷ reverse v.items)) (sym w.later-is)
-          (leaf_ends nodes (i - 1) (drop i nodes) (reverse c.loop-i.later.items) n (before nodes i _ Leaf (omega arith) (omega arith) w.in-Leaf.is) behind w.end-is)
-      | in-Inner w ↦ inner_on nodes (i - 1) w.in-Inner.rule (drop i nodes) (reverse c.loop-i.later.items) (reverse c.match-nodes-i.later.items) n _ w.backwards.result.now (before nodes i _ (Inner w.in-Inner.rule) (omega arith) (omega arith) w.in-Inner.is) behind w.backwards.ensures refl (w.end-is ∙ w.pop_ends-end.ensures.value) (ap (λ v. reverse v.items) w.later-is ∙ w.pop_ends-end.ensures.rest)
+          (leaf_ends nodes (i - 1) (drop i nodes) (reverse c.loop-i.later.items) n (before nodes i _ Leaf (omega arith) (omega arith) w.in-Leaf.is) after w.end-is)
+      | in-Inner w ↦ inner_on nodes (i - 1) w.in-Inner.rule (drop i nodes) (reverse c.loop-i.later.items) (reverse c.match-nodes-i.later.items) n _ w.backwards.result.now (before nodes i _ (Inner w.in-Inner.rule) (omega arith) (omega arith) w.in-Inner.is) after w.backwards.ensures refl (w.end-is ∙ w.pop_ends-end.ensures.value) (ap (λ v. reverse v.items) w.later-is ∙ w.pop_ends-end.ensures.rest)
     ] in
     record {
       kept = ends_on nodes i (get_or nodes (i - 1) Leaf) c.loop-i.ends.items c.push-in-loop-i.new.self.items (reverse c.match-nodes-i.later.items) n (omega arith) (before nodes i Leaf (get_or nodes (i - 1) Leaf) (omega arith) (omega arith) refl) inv.kept c.in_ok-push-2.ensures.items all;

@@ -16,12 +16,12 @@ returns-clause-replies c =
       tail = rest.0;
       ends = all.0;
       replies = all.1 ∙ ap (λ l. l ++ all.0) rest.1;
-      number = (let a = c.len.ensures in let b = c.behind-rest.ensures in let n = rest.2 in omega (arith, a, b, n));
+      number = (let a = c.len.ensures in let b = c.after-rest.ensures in let n = rest.2 in omega (arith, a, b, n));
       one = all.2 ∙ as_many fault_of c.args.fault;
       last_is = λ os h. c.in_ok-replies-2.ensures.last os (subst (AreRepliesTo 1 os) (sym rest.1) h);
     }
 
--- nothing is left behind the first k of n where k is n
+-- nothing is left after the first k of n where k is n
 rest_none : (k r n : ℕ) → k + r ≡ n → (r == 0) ≡ (k == n)
 rest_none k zero n h = sym (eq-eqb k n (omega (arith, h)))
 rest_none k (suc r) n h = eqb-suc-zero r ∙ sym (others (eqb_tells k n))
@@ -34,7 +34,7 @@ pub returns-clause-kept : goal.returns-clause-kept
 returns-clause-kept c =
     let k = length c.args.begun.replies.items in
     let n = length c.args.declarations.now in
-    let left = length c.behind-rest.result.now in (
-      c.in_ok-own.ensures.there ∙ c.is_all.ensures ∙ ap (λ b. c.args.begun.is_whole && b) (rest_none k left n (let a = c.len.ensures in let b = c.behind-rest.ensures in omega (arith, a, b))),
+    let left = length c.after-rest.result.now in (
+      c.in_ok-own.ensures.there ∙ c.is_all.ensures ∙ ap (λ b. c.args.begun.is_whole && b) (rest_none k left n (let a = c.len.ensures in let b = c.after-rest.ensures in omega (arith, a, b))),
       c.in_ok-own.ensures.env,
     )

@@ -21,7 +21,7 @@ returns-clause-scoped c = λ ascending known.
     let passed = c.pass.new.self in
     let kept = c.in_ok-pass.ensures.known (c.turn_to.ensures.known text ends owned known) in
     let before = subst (λ n. All (λ v. v.owner < n) (take passed.count owned)) (c.in_ok-pass.ensures.node ∙ c.turn_to.ensures.node) kept.before in
-    let behind = subst (λ n. All (λ v. n ≤ v.owner) (drop passed.count owned)) c.turn_to.ensures.node (c.in_ok-pass.ensures.behind ascending) in
+    let after = subst (λ n. All (λ v. n ≤ v.owner) (drop passed.count owned)) c.turn_to.ensures.node (c.in_ok-pass.ensures.after ascending) in
     ap (nat_lt node) (c.unwrap_or.ensures ∙ ap (λ o. unwrap_or o 0) (c.copied.ensures ∙ c.get.ensures.value))
     ∙ ap (λ q. nat_lt node (unwrap_or (get_by (λ k. bytes_eq q k.now) passed.reaches) 0)) c.bytes-name.ensures
-    ∙ kept.reaches name node ∙ passed_all text ends name node owned passed.count before behind
+    ∙ kept.reaches name node ∙ passed_all text ends name node owned passed.count before after

@@ -1,6 +1,6 @@
 use Rattle.std.proofs.Common.{◌+◌, arith, refl, sym, take}
 use Rattle.sml_reach.specs.Events.{text_at}
-use Rattle.sml_flaws.proofs.Scoping.{one_passed, rest_behind}
+use Rattle.sml_flaws.proofs.Scoping.{one_passed, rest_after}
 use Rattle.sml_flaws.proofs.scopes.Passed.pass.Goals as goal
 
 pub loop-self-preserved : goal.loop-self-preserved
@@ -15,7 +15,7 @@ loop-self-preserved c = record {
   node = c.loop-self.invariant.node;
 }
 
-pub returns-then-self-owned-clause-behind : goal.returns-then-self-owned-clause-behind
-returns-then-self-owned-clause-behind c = λ ascending.
+pub returns-then-self-owned-clause-after : goal.returns-then-self-owned-clause-after
+returns-then-self-owned-clause-after c = λ ascending.
     let owned = c.args.scopes.now.owned.items in
-    rest_behind owned c.loop-self.self.count c.args.self.now.node c.index-owned.result.now ascending (omega arith) c.index-owned.ensures (omega (arith, c.loop-self.invariant.node))
+    rest_after owned c.loop-self.self.count c.args.self.now.node c.index-owned.result.now ascending (omega arith) c.index-owned.ensures (omega (arith, c.loop-self.invariant.node))

@@ -8,7 +8,7 @@ use Rattle.sml_phrases.specs.PhraseViews.{seen}
 use Rattle.sml_bare_decs.specs.DeclarationRules.{atoms_in, values_in, round_values}
 use Rattle.sml_phrases.proofs.Answers.{puts_same}
 use Rattle.sml_phrases.proofs.Drops.{three_off, four_off, next_off}
-use Rattle.sml_bare_decs.proofs.value_rules.behind_bracket.Goals as goal
+use Rattle.sml_bare_decs.proofs.value_rules.after_bracket.Goals as goal
 
 round_made : (v a d e : List Phrase) (rs qs : Pats Place) (ts : Tys Place) (x : Exp Place) (bs recs : ValBinds Place) → a ≡ drop 1 v → d ≡ drop 3 v → e ≡ drop 4 v
     → rs ≡ pats_in (first v) → qs ≡ (atoms_in (first a)).pats → ts ≡ (atoms_in (first a)).tys → x ≡ exp_in (first d) → bs ≡ (values_in (first e)).plain → recs ≡ (values_in (first e)).recursive

@@ -40,7 +40,6 @@ impl Draft {
     }
 
     /// Adds what a specification gives, or N2.
-    #[inline(never)]
     pub(crate) fn add(&mut self, place: Place, part: &Sig) -> Result<(), CoreFault> {
         if specifies_again(&self.env, &part.env) {
             return Err(plain_fault(Code::N2, place));
@@ -63,7 +62,6 @@ impl Draft {
     }
 
     /// Shares type constructors.
-    #[inline(never)]
     pub(crate) fn share_types(
         &mut self,
         new: &mut NewNames,
@@ -78,7 +76,6 @@ impl Draft {
     }
 
     /// Shares structures.
-    #[inline(never)]
     pub(crate) fn share_structures(
         &mut self,
         new: &mut NewNames,
@@ -106,7 +103,6 @@ impl Draft {
     }
 
     /// Lets a specification ask of the names in the environment.
-    #[inline(never)]
     pub(crate) fn settle_for(&mut self, spec: &Spec) -> Result<(), Memory> {
         if self.answers(spec) {
             Ok(())
@@ -147,7 +143,6 @@ impl Draft {
     }
 
     /// The signature that the specifications give.
-    #[inline(never)]
     pub(crate) fn signature(&mut self) -> Result<Sig, Memory> {
         self.settle()?;
         let names = list_of(self.alloc, &self.names)?;
@@ -283,7 +278,6 @@ impl Common {
     }
 
     #[cycle(common)]
-    #[inline(never)]
     fn add_structures(
         &mut self,
         index: usize,

@@ -5,6 +5,7 @@ ghost use Rattle.sml_objects.specs.Maps.{lookup};
 ghost use Rattle.sml_core_rules.specs.Objects.{find_structure, structures, types};
 ghost use Rattle.sml_bases.specs.Views.{env_of};
 
+use crate::draft::Draft;
 use sml_bases::environments::Entry;
 use sml_bases::objects::{Env, TypeStr};
 use sml_scopes::scopes::Scopes;
@@ -12,19 +13,12 @@ use sml_tree::bare::Ident;
 use sml_types::scope::Scope;
 use std::rc::Rc;
 
-/// The specifications of a `sig .. end` so far, and those around it.
-#[derive(Clone, Copy)]
-pub(crate) struct Layer<'a> {
-    pub env: &'a Env,
-    pub around: Option<&'a Layer<'a>>,
-}
-
-/// Specifications over the scopes that are open. They are of one type: functions that go down signatures in each other have
-/// frames of their own only where they aren't generic.
+/// Specifications over the scopes that are open.
 #[derive(Drop)]
 pub(crate) struct Layers<'a, 'b> {
     pub outer: &'a Scopes<'b>,
-    pub inner: Option<&'a Layer<'a>>,
+    /// Those before them in each `sig .. end` around them, the innermost last.
+    pub inner: &'a [Draft],
 }
 
 impl Scope for Layers<'_, '_> {
@@ -34,34 +28,28 @@ impl Scope for Layers<'_, '_> {
     ghost says_type = { λ _ _ _. Unit {0} };
 
     fn structure(&self, name: &Ident) -> Option<&Rc<Env>> {
-        if let Some(layer) = self.inner {
-            if let Some(found) = found_in(layer, name) {
-                return Some(found);
-            }
+        match found_in(self.inner, name) {
+            Some(found) => Some(found),
+            None => self.outer.structure(name),
         }
-        self.outer.structure(name)
     }
 
     fn type_str(&self, name: &Ident) -> Option<&TypeStr> {
-        if let Some(layer) = self.inner {
-            if let Some(found) = found_in(layer, name) {
-                return Some(found);
-            }
+        match found_in(self.inner, name) {
+            Some(found) => Some(found),
+            None => self.outer.type_str(name),
         }
-        self.outer.type_str(name)
     }
 }
 
 /// The entry of the innermost specifications that have it.
-#[cycle(entries)]
-fn found_in<'a, T: Entry>(layer: &'a Layer<'a>, name: &Ident) -> Option<&'a T> {
-    match T::entries(layer.env).get(name) {
-        Some(found) => Some(found),
-        None => match layer.around {
-            Some(around) => found_in(around, name),
-            None => None,
-        },
+fn found_in<'a, T: Entry>(drafts: &'a [Draft], name: &Ident) -> Option<&'a T> {
+    for draft in drafts.iter().rev() {
+        if let Some(found) = T::entries(&draft.env).get(name) {
+            return Some(found);
+        }
     }
+    None
 }
 
 /// The environment of a signature as a scope of its own.

@@ -7,6 +7,7 @@ pub mod counts;
 mod draft;
 mod layers;
 mod mentions;
+mod reading;
 mod sharing;
 pub mod sigs;
 mod specs;

@@ -31,7 +31,6 @@ fn without_names(alloc: Global, env: Env) -> Result<Sig, Memory> {
 }
 
 /// Values, each with the scheme that binds all variables of its type.
-#[inline(never)]
 pub(crate) fn values(
     alloc: Global,
     scope: &Layers<'_, '_>,
@@ -75,7 +74,6 @@ fn types_of(
 }
 
 /// Types without right sides: new names, which admit equality or not.
-#[inline(never)]
 pub(crate) fn types(
     alloc: Global,
     new: &mut NewNames,
@@ -123,7 +121,6 @@ fn type_str(
 }
 
 /// Datatypes, with new names.
-#[inline(never)]
 pub(crate) fn new_datatypes(
     alloc: Global,
     scope: &Layers<'_, '_>,
@@ -150,7 +147,6 @@ fn names_of(alloc: Global, env: &Env) -> Result<Vec<TyName>, Memory> {
 }
 
 /// A type of the scope with its constructors.
-#[inline(never)]
 pub(crate) fn replication(
     alloc: Global,
     scope: &Layers<'_, '_>,
@@ -165,7 +161,6 @@ pub(crate) fn replication(
 }
 
 /// Exceptions, whose types have no variables.
-#[inline(never)]
 pub(crate) fn exceptions(
     alloc: Global,
     scope: &Layers<'_, '_>,

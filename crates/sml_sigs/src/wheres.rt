@@ -30,7 +30,7 @@ use std::rc::Rc;
 /// A signature in which bound names become type functions, one after the other. Each right side stands outside the signature,
 /// so none mentions a bound name, and all may be put in at once.
 #[derive(Drop)]
-pub(crate) struct Wheres {
+struct Wheres {
     alloc: Global,
     sig: Sig,
     bound: IndexSet<TyName>,
@@ -39,10 +39,23 @@ pub(crate) struct Wheres {
     realisation: Realisation,
 }
 
+/// A signature in which types are what is written, the last one first, in a scope. E2 to E4, E7, E8 or N3 to N5.
+pub(crate) fn realised(
+    alloc: Global,
+    scope: &Layers<'_, '_>,
+    sig: Sig,
+    written: &[&WhereType],
+) -> Result<Sig, CoreFault> {
+    let mut wheres = Wheres::new(alloc, sig)?;
+    for one in written.iter().rev() {
+        wheres.add(scope, one)?;
+    }
+    Ok(wheres.realised()?)
+}
+
 impl Wheres {
     /// The signature as it is.
-    #[inline(never)]
-    pub(crate) fn new(alloc: Global, sig: Sig) -> Result<Box<Wheres>, Memory> {
+    fn new(alloc: Global, sig: Sig) -> Result<Box<Wheres>, Memory> {
         let mut bound = IndexSet::new(alloc);
         add_names(&mut bound, &sig.names)?;
         let constructors = table_of(alloc, &bound, &sig.env)?;
@@ -59,12 +72,7 @@ impl Wheres {
     }
 
     /// Lets a type be what is written, or E2 to E4, E7, E8 or N3 to N5.
-    #[inline(never)]
-    pub(crate) fn add(
-        &mut self,
-        scope: &Layers<'_, '_>,
-        written: &WhereType,
-    ) -> Result<(), CoreFault> {
+    fn add(&mut self, scope: &Layers<'_, '_>, written: &WhereType) -> Result<(), CoreFault> {
         let inside = Inside { env: &self.sig.env };
         let ty = type_at(self.alloc, &inside, &written.constructor)?;
         let side = right_side(self.alloc, scope, written)?;
@@ -116,8 +124,7 @@ impl Wheres {
     }
 
     /// The signature where the names are their type functions.
-    #[inline(never)]
-    pub(crate) fn realised(&self) -> Result<Sig, Memory> {
+    fn realised(&self) -> Result<Sig, Memory> {
         let mut names = Vec::new(self.alloc);
         for name in &self.sig.names {
             if !self.realisation.has(*name) {

@@ -13,3 +13,14 @@ structure L = struct
   val u = r := [1]
   structure M : sig val r : string list ref end = struct val r = r end
 end
+signature N = sig
+  structure P : sig structure Q : sig datatype t = X end end
+  structure R : sig structure Q : sig datatype t = Y end end
+  sharing P = R
+end
+signature O = sig
+  structure P : sig type a end
+  structure Q : sig datatype b = X end
+  structure R : sig type a datatype b = Y end
+  sharing P = Q = R
+end

@@ -47,6 +47,8 @@ pub enum Seen {
     Types(Meeting, Scheme, Vec<Ident>),
     /// What a structure has, and what its signature asks for.
     Components(Component, Component),
+    /// The long identifiers of types that structures have and that can't be shared.
+    Unshared(Vec<u8>, Vec<u8>),
 }
 
 /// Which comparison is wanted, and how the declaration is refused there.

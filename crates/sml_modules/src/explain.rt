@@ -12,7 +12,9 @@ use sml_match::mismatch::Mismatch;
 use sml_match::realise::realise;
 use sml_objects::equality::has_equality;
 use sml_objects::objects::{Scheme, TyName};
+use sml_sigs::sigs::{Unshared, signature_in};
 use sml_tree::bare::Ident;
+use sml_tree::signatures::SigExp;
 use sml_tree::structures::TopDec;
 use sml_types::fault::CoreFault;
 use sml_types::variables::is_ground;
@@ -29,24 +31,29 @@ pub struct Explanation {
 }
 
 /// Why a declaration is refused in a basis, where more is known of it than its fault says. The declaration is gone through
-/// once to find what is refused, and once more to keep what is at hand before that.
+/// once to find what is refused, and once more to keep what is at hand before that, where it is a comparison.
 pub fn explain(alloc: Global, basis: &Basis, dec: &TopDec) -> Result<Option<Explanation>, Memory> {
     let mut context = Context::new(alloc, basis);
     let Some(fault) = fault_of(&mut context, basis, dec)? else {
         return Ok(None);
     };
     let Some(number) = context.recorder.refused() else {
-        return Ok(None);
+        return Ok(explanation(context, fault));
     };
     let mut context = Context::new(alloc, basis);
     context.recorder.want(Wanted { number, fault });
     let Some(fault) = fault_of(&mut context, basis, dec)? else {
         return Ok(None);
     };
+    Ok(explanation(context, fault))
+}
+
+/// The fault with what was kept of it, if something was.
+fn explanation(context: Context, fault: Fault) -> Option<Explanation> {
     let Context { recorder, .. } = context;
     match recorder.into_seen() {
-        Some((seen, names)) => Ok(Some(Explanation { fault, seen, names })),
-        None => Ok(None),
+        Some((seen, names)) => Some(Explanation { fault, seen, names }),
+        None => None,
     }
 }
 
@@ -57,6 +64,24 @@ fn fault_of(context: &mut Context, basis: &Basis, dec: &TopDec) -> Result<Option
         Err(CoreFault::Fault(fault)) => Ok(Some(fault)),
         Err(CoreFault::Memory) => Err(Memory),
     }
+}
+
+/// The signature that a signature expression means in the scopes that are open. Types that couldn't be shared are kept.
+pub(crate) fn signature_of(context: &mut Context, sig: &SigExp) -> Result<Sig, CoreFault> {
+    let basis = context.scopes.basis();
+    let mut unshared: Unshared = None;
+    let answer = signature_in(
+        context.alloc,
+        basis,
+        &mut context.new,
+        &context.scopes,
+        sig,
+        &mut unshared,
+    );
+    if let Some((earlier, later)) = unshared {
+        context.recorder.keep(Seen::Unshared(earlier, later));
+    }
+    answer
 }
 
 /// Keeps the component of a structure and of a signature that a fault speaks of, where they are compared next and that is

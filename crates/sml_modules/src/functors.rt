@@ -1,6 +1,6 @@
 //! Functors and their applications (the Definition, section 5.7, rules 54, 85 and 86).
 
-use crate::explain::note_match;
+use crate::explain::{note_match, signature_of};
 use crate::settled::{Known, known_in, settled_by};
 use crate::structures::{begin, end_let, structure};
 use sml_bases::objects::{Basis, Env, FunSig, Sig};
@@ -12,7 +12,6 @@ use sml_lex::fault::{Code, Place};
 use sml_match::enrich::enriches;
 use sml_match::mismatch::placed;
 use sml_match::realise::realise;
-use sml_sigs::sigs::signature_in;
 use sml_tree::names::Name;
 use sml_tree::structures::FunBind;
 use sml_types::fault::{CoreFault, fault_about};
@@ -115,14 +114,7 @@ struct Body {
 }
 
 fn body_of(context: &mut Context, bind: &FunBind) -> Result<Body, CoreFault> {
-    let basis = context.scopes.basis();
-    let argument = signature_in(
-        context.alloc,
-        basis,
-        &mut context.new,
-        &context.scopes,
-        &bind.signature,
-    )?;
+    let argument = signature_of(context, &bind.signature)?;
     let first = context.new.next;
     let env = result_of(context, bind, argument.env.clone()?)?;
     Ok(Body {

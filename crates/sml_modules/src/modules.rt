@@ -1,15 +1,16 @@
 //! Top-level declarations (the Definition, section 5.7, rules 87 to 89, and appendix D).
 
+use crate::explain::signature_of;
 use crate::functors::functors;
 use crate::settled::settled_env;
 use crate::structures::declare;
-use sml_bases::objects::{Basis, Sig};
+use sml_bases::objects::Basis;
 use sml_core::context::Context;
 use sml_envs::canonical::canonical;
 use sml_envs::extents::least_text;
 use sml_lex::fault::{Code, FIRST, Memory, Warning};
 use sml_sigs::counts::names_of_sig;
-use sml_sigs::sigs::{require_signature, signature_in};
+use sml_sigs::sigs::require_signature;
 use sml_tree::structures::{SigBind, TopDec};
 use sml_types::fault::{CoreFault, plain_fault};
 use sml_warnings::sorted::sorted;
@@ -98,13 +99,7 @@ fn signatures(
         return Err(plain_fault(Code::Q3, FIRST));
     }
     for bind in binds {
-        let sig: Sig = signature_in(
-            context.alloc,
-            basis,
-            &mut context.new,
-            &context.scopes,
-            &bind.signature,
-        )?;
+        let sig = signature_of(context, &bind.signature)?;
         let sig = Rc::new(context.alloc, sig)?;
         own.signatures.insert(bind.name.ident.clone()?, sig)?;
     }

@@ -1,13 +1,12 @@
 //! Structure expressions and structure-level declarations (the Definition, section 5.7, rules 50 to 61).
 
-use crate::explain::note_match;
+use crate::explain::{note_match, signature_of};
 use crate::functors::applied;
 use sml_bases::objects::Env;
 use sml_core::context::Context;
 use sml_lex::fault::Place;
 use sml_match::ascribe::ascribed;
 use sml_scopes::scopes::Mark;
-use sml_sigs::sigs::signature_in;
 use sml_tree::signatures::SigExp;
 use sml_tree::structures::{Ascription, StrBind, StrDec, StrExp};
 use sml_types::fault::CoreFault;
@@ -89,8 +88,7 @@ fn with_signature(
     sig: &SigExp,
 ) -> Result<Rc<Env>, CoreFault> {
     let place = signature_place(sig);
-    let basis = context.scopes.basis();
-    let sig = signature_in(context.alloc, basis, &mut context.new, &context.scopes, sig)?;
+    let sig = signature_of(context, sig)?;
     note_match(context, env, &sig)?;
     let answer = ascribed(
         context.alloc,

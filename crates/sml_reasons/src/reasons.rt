@@ -76,11 +76,14 @@ fn reason_of(
     fault: &Fault,
     dec: &TopDec,
 ) -> Result<Reason, Memory> {
-    if fault.code == Code::N5 || fault.code == Code::N7 {
-        return constructors_of(alloc, fault.place, dec);
-    }
     if !is_explained(fault.code) {
         return Ok(Vec::new(alloc));
+    }
+    if fault.code == Code::N5 || fault.code == Code::N7 {
+        let reason = constructors_of(alloc, fault.place, dec)?;
+        if !reason.is_empty() {
+            return Ok(reason);
+        }
     }
     match explain(alloc, &again.basis, dec)? {
         Some(explanation) => lines_of(alloc, &explanation, &mut again.paths),

@@ -94,6 +94,14 @@ fn worded(
             push_component(&mut wording, path, specified)?;
             wording.end_line()?;
         }
+        Seen::Unshared(earlier, later) => {
+            wording.push(b"the first type is ")?;
+            wording.push(earlier)?;
+            wording.end_line()?;
+            wording.push(b"the type here is ")?;
+            wording.push(later)?;
+            wording.end_line()?;
+        }
     }
     Ok(wording.into_parts())
 }

@@ -3,6 +3,7 @@
 use crate::asked::{Asked, asked_by};
 use crate::layers::Inside;
 use crate::sharing::Joins;
+use crate::sigs::Unshared;
 use indexmap::{IndexMap, IndexSet};
 use sml_bases::environments::Entry;
 use sml_bases::objects::{Env, Sig, TypeStr, Value};
@@ -80,11 +81,12 @@ impl Draft {
         &mut self,
         new: &mut NewNames,
         longs: &[LongIdent],
+        unshared: &mut Unshared,
     ) -> Result<(), CoreFault> {
         self.begin_joins()?;
         let pairs = self.common_types(longs)?;
         match &mut self.joins {
-            Some(joins) => share_all(joins, new, longs, &pairs),
+            Some(joins) => share_all(self.alloc, joins, new, longs, &pairs, unshared),
             None => Ok(()),
         }
     }
@@ -202,19 +204,53 @@ fn join_all(
     Ok(())
 }
 
-/// Shares what structures have in common.
+/// Shares what structures have in common. Where it is N7, the types are put down.
 fn share_all(
+    alloc: Global,
     joins: &mut Joins,
     new: &mut NewNames,
     longs: &[LongIdent],
     pairs: &Pairs,
+    unshared: &mut Unshared,
 ) -> Result<(), CoreFault> {
-    for (((_, later), _), pair) in pairs {
-        if let Some(long) = longs.get(*later) {
-            joins.share(new, &pair.earlier, &pair.later, long.place)?;
+    for (((first, later), path), pair) in pairs {
+        if let (Some(earlier), Some(long)) = (longs.get(*first), longs.get(*later)) {
+            if let Err(fault) = joins.share(new, &pair.earlier, &pair.later, long.place) {
+                if is_of(&fault, Code::N7) {
+                    *unshared = Some(types_at(alloc, earlier, long, path)?);
+                }
+                return Err(fault);
+            }
         }
     }
     Ok(())
+}
+
+/// Whether a fault has a code.
+fn is_of(fault: &CoreFault, code: Code) -> bool {
+    match fault {
+        CoreFault::Memory => false,
+        CoreFault::Fault(fault) => fault.code == code,
+    }
+}
+
+/// The long identifiers of the types that two structures have at a path.
+fn types_at(
+    alloc: Global,
+    earlier: &LongIdent,
+    later: &LongIdent,
+    path: &Ident,
+) -> Result<(Vec<u8>, Vec<u8>), Memory> {
+    let earlier = type_in(alloc, earlier, path)?;
+    let later = type_in(alloc, later, path)?;
+    Ok((earlier, later))
+}
+
+fn type_in(alloc: Global, structure: &LongIdent, path: &Ident) -> Result<Vec<u8>, Memory> {
+    let mut text = long_text(alloc, structure)?;
+    text.push(b'.')?;
+    text.extend_from_slice(path.as_slice())?;
+    Ok(text)
 }
 
 /// Whether an environment has an identifier that another one has.

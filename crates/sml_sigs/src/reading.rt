@@ -2,6 +2,7 @@
 
 use crate::draft::Draft;
 use crate::layers::Layers;
+use crate::sigs::Unshared;
 use crate::specs::{exceptions, new_datatypes, replication, types, values};
 use crate::wheres::realised;
 use sml_bases::objects::{Basis, Env, Sig};
@@ -17,13 +18,15 @@ use sml_types::fault::{CoreFault, fault_about};
 use std::alloc::Global;
 use std::rc::Rc;
 
-/// What signature expressions are read with, and whether those that are named get new names.
+/// What signature expressions are read with, whether those that are named get new names, and where types are put down that
+/// structures have and that can't be shared.
 #[derive(Drop)]
 pub(crate) struct Reader<'a, 'b> {
     pub alloc: Global,
     pub basis: &'a Basis,
     pub new: &'a mut NewNames<'b>,
     pub renames: bool,
+    pub unshared: &'a mut Unshared,
 }
 
 /// What is done next.
@@ -114,11 +117,7 @@ impl<'t> Reading<'t> {
     }
 
     /// Begins a signature expression.
-    fn signature(
-        &mut self,
-        reader: &mut Reader<'_, '_>,
-        sig: &'t SigExp,
-    ) -> Result<(), CoreFault> {
+    fn signature(&mut self, reader: &mut Reader<'_, '_>, sig: &'t SigExp) -> Result<(), CoreFault> {
         match sig {
             SigExp::Specs(_, specs) => Ok(self.begin(specs)?),
             SigExp::Identifier(place, name) => {
@@ -188,7 +187,7 @@ impl<'t> Reading<'t> {
         };
         match spec {
             Spec::SharingType(_, longs) => draft.share_types(reader.new, longs),
-            Spec::Sharing(_, longs) => draft.share_structures(reader.new, longs),
+            Spec::Sharing(_, longs) => draft.share_structures(reader.new, longs, reader.unshared),
             Spec::Structure(place, descs) => {
                 draft.settle_for(spec)?;
                 Ok(self.begin_structures(*place, descs)?)

@@ -87,11 +87,15 @@ fn warnings_of(context: &mut Context, dec: &Dec) -> Result<Vec<Warning>, CoreFau
 }
 
 impl Context<'_> {
-    /// Declarations one after the other, each of which sees those before it.
+    /// Declarations one after the other, each of which sees those before it. (A `local` goes to its own function at once, so
+    /// that a level of a nest takes less stack.)
     #[cycle(core)]
     pub fn decs(&mut self, decs: &[Dec]) -> Result<(), CoreFault> {
         for dec in decs {
-            self.dec(dec)?;
+            match dec {
+                Dec::Local(_, _, _) => self.local_dec(dec)?,
+                _ => self.dec(dec)?,
+            }
         }
         Ok(())
     }
@@ -107,13 +111,7 @@ impl Context<'_> {
                 self.recursive_binds(&mut declaration, recursive)?;
                 self.end_values(*place, declaration)
             }
-            Dec::Local(_, hidden, decs) => {
-                let outside = self.hide();
-                self.decs(hidden)?;
-                self.show();
-                self.decs(decs)?;
-                self.shown(outside)
-            }
+            Dec::Local(_, _, _) => self.local_dec(dec),
             Dec::Sequence(_, decs) => self.decs(decs),
             Dec::Type(place, binds) => self.type_dec(*place, binds),
             Dec::Datatype(place, binds) => self.datatype_dec(*place, binds, &[]),
@@ -126,6 +124,19 @@ impl Context<'_> {
             Dec::Open(_, longs) => self.open_dec(longs),
             Dec::Fixity(_) => Ok(()),
         }
+    }
+
+    #[cycle(core)]
+    #[inline(never)]
+    fn local_dec(&mut self, dec: &Dec) -> Result<(), CoreFault> {
+        let Dec::Local(_, hidden, decs) = dec else {
+            return Ok(());
+        };
+        let outside = self.hide();
+        self.decs(hidden)?;
+        self.show();
+        self.decs(decs)?;
+        self.shown(outside)
     }
 
     /// Begins the first part of `local`.

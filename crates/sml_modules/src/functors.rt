@@ -19,6 +19,7 @@ use sml_types::sizes::small_env_under;
 use std::rc::Rc;
 
 /// The functor of a name.
+#[inline(never)]
 pub(crate) fn found(context: &Context, name: &Name) -> Result<Rc<FunSig>, CoreFault> {
     match context.scopes.basis().functor(&name.ident) {
         Some(functor) => Ok(functor.clone()?),

@@ -7,6 +7,7 @@ use sml_core::context::Context;
 use sml_lex::fault::Place;
 use sml_match::ascribe::ascribed;
 use sml_scopes::scopes::Mark;
+use sml_tree::bare::LongIdent;
 use sml_tree::signatures::SigExp;
 use sml_tree::structures::{Ascription, StrBind, StrDec, StrExp};
 use sml_types::fault::CoreFault;
@@ -29,9 +30,7 @@ pub(crate) fn structure(context: &mut Context, exp: &StrExp) -> Result<Rc<Env>, 
             declare_all(context, decs)?;
             end_struct(context, outside)
         }
-        StrExp::Identifier(long) => {
-            Ok(structure_at(context.alloc, &context.scopes, long)?.clone()?)
-        }
+        StrExp::Identifier(long) => named(context, long),
         StrExp::Ascribed(_, exp, ascription, sig) => {
             let env = structure(context, exp)?;
             with_signature(context, &env, *ascription, sig)
@@ -50,7 +49,14 @@ pub(crate) fn structure(context: &mut Context, exp: &StrExp) -> Result<Rc<Env>, 
     }
 }
 
+/// The structure of a long identifier.
+#[inline(never)]
+fn named(context: &Context, long: &LongIdent) -> Result<Rc<Env>, CoreFault> {
+    Ok(structure_at(context.alloc, &context.scopes, long)?.clone()?)
+}
+
 /// Begins a scope, what is bound in which is exported or not.
+#[inline(never)]
 pub(crate) fn begin(context: &mut Context, is_exported: bool) -> Outside {
     Outside {
         mark: context.mark(),

@@ -1,5 +1,6 @@
 //! Top-level declarations (the Definition, section 5.7, rules 87 to 89, and appendix D).
 
+use crate::counts::names_of_top;
 use crate::explain::signature_of;
 use crate::functors::functors;
 use crate::settled::settled_env;
@@ -41,6 +42,9 @@ pub fn topdec(
 
 /// What the declaration binds, with its new names numbered. There is room for the text of its reply.
 fn numbered(context: &mut Context, basis: &Basis, dec: &TopDec) -> Result<Basis, TopFault> {
+    if makes_too_many(context.alloc, basis, dec)? {
+        return Err(plain_fault(Code::Q3, FIRST));
+    }
     let own = own_basis(context, basis, dec)?;
     let own = canonical(context.alloc, own, basis.unit, basis.count, &context.new)?;
     if own.count > MOST_NAMES {
@@ -48,6 +52,14 @@ fn numbered(context: &mut Context, basis: &Basis, dec: &TopDec) -> Result<Basis,
     }
     require_room(context.alloc, &own)?;
     Ok(own)
+}
+
+/// Whether a declaration makes too many names that can be refused for nothing else.
+fn makes_too_many(alloc: Global, basis: &Basis, dec: &TopDec) -> Result<bool, Memory> {
+    match names_of_top(alloc, dec, basis)? {
+        Some(names) => Ok(names.saturating_add(basis.count as usize) > MOST_NAMES as usize),
+        None => Ok(false),
+    }
 }
 
 /// That there is room for the text of the reply to a declaration that binds this, where it is long: what is shared in an

@@ -131,7 +131,7 @@ fn read_units<S: Source>(
 }
 
 /// A file that starts with `/`, or else one in the folder of the project file.
-fn unit_path(alloc: Global, project: &str, file: &str) -> Result<String, AllocError> {
+pub fn unit_path(alloc: Global, project: &str, file: &str) -> Result<String, AllocError> {
     let mut path = String::new(alloc);
     if !file.starts_with('/') {
         if let Some((folder, _)) = project.rsplit_once('/') {

@@ -1,0 +1,88 @@
+//! Where texts are read: open documents stand in for their files.
+
+use crate::documents::Documents;
+use crate::paths::normal;
+use sml_session::disk::Disk;
+use sml_session::session::{Source, SourceFault};
+use std::alloc::Global;
+use std::fs::read_dir;
+use std::rt::Files;
+
+/// Where folders are listed.
+pub trait Folders {
+    /// The names of the files in a folder.
+    fn names(&mut self, alloc: Global, folder: &str) -> Result<Vec<String>, SourceFault>;
+}
+
+/// The files and the folders of a disk.
+#[derive(Drop)]
+pub struct Tree<'a, R> {
+    rt: &'a R,
+}
+
+impl<'a, R> Tree<'a, R> {
+    pub fn new(rt: &'a R) -> Tree<'a, R> {
+        Tree { rt }
+    }
+}
+
+impl<R: Files> Source for Tree<'_, R> {
+    fn read(&mut self, alloc: Global, path: &str, most: usize) -> Result<Vec<u8>, SourceFault> {
+        let mut disk = Disk::new(self.rt);
+        disk.read(alloc, path, most)
+    }
+}
+
+impl<R: Files + Alloc + Clone + Drop> Folders for Tree<'_, R> {
+    fn names(&mut self, alloc: Global, folder: &str) -> Result<Vec<String>, SourceFault> {
+        let Ok(entries) = read_dir(self.rt, folder) else {
+            return Err(SourceFault::Unreadable);
+        };
+        let mut names = Vec::new(alloc);
+        for entry in entries {
+            let Ok(entry) = entry else {
+                return Err(SourceFault::Unreadable);
+            };
+            let Ok(name) = String::from_str(alloc, entry.file_name()) else {
+                return Err(SourceFault::Memory);
+            };
+            if names.push(name).is_err() {
+                return Err(SourceFault::Memory);
+            }
+        }
+        Ok(names)
+    }
+}
+
+/// The texts of open documents, and those of files where none is open.
+#[derive(Drop)]
+pub struct Overlay<'a, S> {
+    documents: &'a Documents,
+    files: &'a mut S,
+}
+
+impl<'a, S> Overlay<'a, S> {
+    pub fn new(documents: &'a Documents, files: &'a mut S) -> Overlay<'a, S> {
+        Overlay { documents, files }
+    }
+}
+
+impl<S: Source> Source for Overlay<'_, S> {
+    fn read(&mut self, alloc: Global, path: &str, most: usize) -> Result<Vec<u8>, SourceFault> {
+        let Ok(name) = normal(alloc, path) else {
+            return Err(SourceFault::Memory);
+        };
+        match self.documents.get(&name) {
+            Some(document) => first_bytes(alloc, document.text.as_slice(), most),
+            None => self.files.read(alloc, path, most),
+        }
+    }
+}
+
+/// The first so many bytes.
+fn first_bytes(alloc: Global, text: &[u8], most: usize) -> Result<Vec<u8>, SourceFault> {
+    match Vec::from_slice(alloc, &text[..most.min(text.len())]) {
+        Ok(bytes) => Ok(bytes),
+        Err(_) => Err(SourceFault::Memory),
+    }
+}

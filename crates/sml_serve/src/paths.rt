@@ -1,0 +1,89 @@
+//! Addresses of files, and paths.
+
+use percent_encoding::{AsciiSet, NON_ALPHANUMERIC, percent_decode, percent_encode};
+use sml_lex::fault::Memory;
+use std::alloc::Global;
+
+/// The bytes that are escaped in the address of a file.
+fn escaped() -> AsciiSet {
+    NON_ALPHANUMERIC
+        .remove(b'/')
+        .remove(b'-')
+        .remove(b'.')
+        .remove(b'_')
+        .remove(b'~')
+}
+
+/// What the address of a file begins with.
+const SCHEME: &str = "file://";
+
+/// The path of a file with this address. An address of another kind stands for itself.
+pub fn path_of(alloc: Global, uri: &str) -> Result<String, Memory> {
+    let Some(rest) = uri.strip_prefix(SCHEME) else {
+        return Ok(String::from_str(alloc, uri)?);
+    };
+    let path = match rest.find('/') {
+        Some(at) => rest.get(at..).unwrap_or(rest),
+        None => rest,
+    };
+    let mut bytes = Vec::new(alloc);
+    percent_decode(path.as_bytes()).append_to(&mut bytes)?;
+    let text = String::from_utf8_lossy(alloc, &bytes)?;
+    normal(alloc, &text)
+}
+
+/// The address of the file at a path.
+pub fn uri_of(alloc: Global, path: &str) -> Result<String, Memory> {
+    let mut uri = String::from_str(alloc, SCHEME)?;
+    percent_encode(path.as_bytes(), escaped()).append_to(&mut uri)?;
+    Ok(uri)
+}
+
+/// A path without empty parts, `.`, and `..` after another part.
+pub fn normal(alloc: Global, path: &str) -> Result<String, Memory> {
+    let mut parts: Vec<&str> = Vec::new(alloc);
+    let is_absolute = path.starts_with('/');
+    for part in path.split('/') {
+        match part {
+            "" | "." => {}
+            ".." => up(&mut parts, is_absolute)?,
+            _ => parts.push(part)?,
+        }
+    }
+    let mut text = String::new(alloc);
+    for (index, part) in parts.iter().enumerate() {
+        if is_absolute || index > 0 {
+            text.push('/')?;
+        }
+        text.push_str(*part)?;
+    }
+    if is_absolute && parts.is_empty() {
+        text.push('/')?;
+    }
+    Ok(text)
+}
+
+/// Goes to the folder above.
+fn up(parts: &mut Vec<&str>, is_absolute: bool) -> Result<(), Memory> {
+    let can_go = match parts.last() {
+        Some(last) => *last != "..",
+        None => is_absolute,
+    };
+    if can_go {
+        let _ = parts.pop();
+    } else {
+        parts.push("..")?;
+    }
+    Ok(())
+}
+
+/// A path that begins with `/`, or else one in a folder.
+pub fn joined(alloc: Global, folder: &str, file: &str) -> Result<String, Memory> {
+    let mut path = String::new(alloc);
+    if !file.starts_with('/') && !folder.is_empty() {
+        path.push_str(folder)?;
+        path.push('/')?;
+    }
+    path.push_str(file)?;
+    normal(alloc, &path)
+}

@@ -1,0 +1,191 @@
+//! Positions in a text, as the client counts them.
+
+use crate::values::Object;
+use serde_json::Value;
+use sml_lex::fault::Memory;
+use sml_shown::spots::Spot;
+use std::alloc::Global;
+
+/// What the characters of a line are counted in.
+#[derive(Clone, Copy, PartialEq, Eq, Debug)]
+pub enum Encoding {
+    Utf8,
+    Utf16,
+}
+
+/// A line and a character in it, both from 0.
+#[derive(Clone, Copy, PartialEq, Eq, Debug)]
+pub struct Position {
+    pub line: u64,
+    pub character: u64,
+}
+
+/// What lies from one position up to another one.
+#[derive(Clone, Copy, PartialEq, Eq, Debug)]
+pub struct Range {
+    pub start: Position,
+    pub end: Position,
+}
+
+/// A text with the bytes at which its lines begin: those that newlines end, from which places are counted, and those of
+/// the client, which a carriage return ends too.
+#[derive(Drop)]
+pub struct Lines<'a> {
+    text: &'a [u8],
+    encoding: Encoding,
+    feeds: Vec<usize>,
+    starts: Vec<usize>,
+}
+
+/// How many units a byte adds to the characters before it.
+fn width(byte: u8, encoding: Encoding) -> u64 {
+    match encoding {
+        Encoding::Utf8 => 1,
+        Encoding::Utf16 => {
+            if goes_on(byte) {
+                0
+            } else if byte >= 0xf0 {
+                2
+            } else {
+                1
+            }
+        }
+    }
+}
+
+/// Whether a byte goes on a character that began before it.
+fn goes_on(byte: u8) -> bool {
+    byte & 0xc0 == 0x80
+}
+
+/// Whether a line of the client ends after the byte at this index.
+fn ends_line(text: &[u8], index: usize, byte: u8) -> bool {
+    byte == b'\n' || byte == b'\r' && text.get(index.saturating_add(1)) != Some(&b'\n')
+}
+
+/// How many of these numbers, which ascend, are at most this one.
+fn count_up_to(numbers: &[usize], most: usize) -> usize {
+    match numbers.binary_search(&most) {
+        Ok(index) => index.saturating_add(1),
+        Err(index) => index,
+    }
+}
+
+impl<'a> Lines<'a> {
+    pub fn new(alloc: Global, text: &'a [u8], encoding: Encoding) -> Result<Lines<'a>, Memory> {
+        let mut feeds = Vec::new(alloc);
+        feeds.push(0)?;
+        let mut starts = Vec::new(alloc);
+        starts.push(0)?;
+        for (index, byte) in text.iter().enumerate() {
+            if *byte == b'\n' {
+                feeds.push(index.saturating_add(1))?;
+            }
+            if ends_line(text, index, *byte) {
+                starts.push(index.saturating_add(1))?;
+            }
+        }
+        Ok(Lines {
+            text,
+            encoding,
+            feeds,
+            starts,
+        })
+    }
+
+    /// The byte at a place of the file, or the text's end where it has no such line.
+    pub fn byte_at(&self, spot: Spot) -> usize {
+        let line = usize::try_from(spot.line.saturating_sub(1)).unwrap_or(usize::MAX);
+        let column = usize::try_from(spot.column.saturating_sub(1)).unwrap_or(usize::MAX);
+        match self.feeds.get(line) {
+            Some(start) => start.saturating_add(column).min(self.text.len()),
+            None => self.text.len(),
+        }
+    }
+
+    /// The position of a byte.
+    pub fn position(&self, at: usize) -> Position {
+        let line = count_up_to(&self.starts, at).saturating_sub(1);
+        let start = self.starts.get(line).copied().unwrap_or(0);
+        let mut character: u64 = 0;
+        for byte in self.text.get(start..at).unwrap_or(&[]) {
+            character = character.saturating_add(width(*byte, self.encoding));
+        }
+        Position {
+            line: line as u64,
+            character,
+        }
+    }
+
+    /// The byte at a position. One past the end of a line is that end.
+    pub fn byte(&self, position: Position) -> usize {
+        let line = usize::try_from(position.line).unwrap_or(usize::MAX);
+        let Some(start) = self.starts.get(line) else {
+            return self.text.len();
+        };
+        let mut at = *start;
+        let mut passed: u64 = 0;
+        for byte in self.text.get(*start..).unwrap_or(&[]) {
+            let is_whole = !goes_on(*byte) || self.encoding == Encoding::Utf8;
+            if *byte == b'\n' || *byte == b'\r' || is_whole && passed >= position.character {
+                return at;
+            }
+            passed = passed.saturating_add(width(*byte, self.encoding));
+            at = at.saturating_add(1);
+        }
+        at
+    }
+
+    /// The byte after the character at this byte, on the same line.
+    pub fn after(&self, at: usize) -> usize {
+        match self.text.get(at) {
+            None | Some(b'\n') | Some(b'\r') => return at,
+            Some(_) => {}
+        }
+        let mut end = at.saturating_add(1);
+        for byte in self.text.get(end..).unwrap_or(&[]) {
+            if !goes_on(*byte) {
+                return end;
+            }
+            end = end.saturating_add(1);
+        }
+        end
+    }
+
+    /// The range from one byte up to another one.
+    pub fn range(&self, start: usize, end: usize) -> Range {
+        Range {
+            start: self.position(start),
+            end: self.position(end.max(start)),
+        }
+    }
+
+    /// The range of a line, counted from 1, without its end.
+    pub fn line_range(&self, line: u64) -> Range {
+        let start = self.byte_at(Spot { line, column: 1 });
+        let mut end = start;
+        for byte in self.text.get(start..).unwrap_or(&[]) {
+            if *byte == b'\n' || *byte == b'\r' {
+                return self.range(start, end);
+            }
+            end = end.saturating_add(1);
+        }
+        self.range(start, end)
+    }
+}
+
+/// A position as JSON.
+pub fn position_value(alloc: Global, position: Position) -> Result<Value, Memory> {
+    let mut object = Object::new(alloc);
+    object.put_number("line", position.line)?;
+    object.put_number("character", position.character)?;
+    Ok(object.into_value())
+}
+
+/// A range as JSON.
+pub fn range_value(alloc: Global, range: Range) -> Result<Value, Memory> {
+    let mut object = Object::new(alloc);
+    object.put("start", position_value(alloc, range.start)?)?;
+    object.put("end", position_value(alloc, range.end)?)?;
+    Ok(object.into_value())
+}

@@ -1,0 +1,93 @@
+//! The diagnostics that the client was told of last.
+
+use crate::diagnostics::params_text;
+use crate::messages::send_notice;
+use sml_lex::fault::Memory;
+use sml_reply::sink::VecOut;
+use std::alloc::Global;
+use std::collections::BTreeMap;
+
+/// What was told of a file: in which round it was looked at last, whether there were diagnostics, and the parameters.
+#[derive(Drop)]
+struct Told {
+    round: u64,
+    is_empty: bool,
+    params: Vec<u8>,
+}
+
+/// What was told of each file, by its address, and the number of the round.
+#[derive(Drop)]
+pub struct Published {
+    round: u64,
+    told: BTreeMap<String, Told>,
+}
+
+impl Published {
+    pub fn new(alloc: Global) -> Published {
+        Published {
+            round: 0,
+            told: BTreeMap::new(alloc),
+        }
+    }
+
+    /// Begins a round, in which each file that has diagnostics is told of.
+    pub fn begin(&mut self) {
+        self.round = self.round.saturating_add(1);
+    }
+
+    /// Whether the file at this address was told of.
+    pub fn has(&self, uri: &str) -> bool {
+        self.told.get(uri).is_some()
+    }
+
+    /// Tells of a file, unless nothing changed and it needn't be told.
+    pub fn tell(
+        &mut self,
+        alloc: Global,
+        uri: &str,
+        params: Vec<u8>,
+        is_empty: bool,
+        is_needed: bool,
+        out: &mut VecOut,
+    ) -> Result<(), Memory> {
+        let is_same = match self.told.get(uri) {
+            Some(told) => told.params.as_slice() == params.as_slice(),
+            None => false,
+        };
+        if !is_same || is_needed {
+            send_notice(alloc, "textDocument/publishDiagnostics", &params, out)?;
+        }
+        let told = Told {
+            round: self.round,
+            is_empty,
+            params,
+        };
+        self.told.insert(String::from_str(alloc, uri)?, told)?;
+        Ok(())
+    }
+
+    /// Ends a round: the diagnostics of files that weren't looked at go.
+    pub fn end(&mut self, alloc: Global, out: &mut VecOut) -> Result<(), Memory> {
+        let gone = self.gone(alloc)?;
+        for uri in gone.as_slice() {
+            if let Some(told) = self.told.remove(uri) {
+                if !told.is_empty {
+                    let params = params_text(alloc, uri, None, Vec::new(alloc))?;
+                    send_notice(alloc, "textDocument/publishDiagnostics", &params, out)?;
+                }
+            }
+        }
+        Ok(())
+    }
+
+    /// The addresses of files that weren't looked at in this round.
+    fn gone(&self, alloc: Global) -> Result<Vec<String>, Memory> {
+        let mut gone = Vec::new(alloc);
+        for (uri, told) in self.told.iter() {
+            if told.round != self.round {
+                gone.push(uri.clone()?)?;
+            }
+        }
+        Ok(gone)
+    }
+}

@@ -12,6 +12,7 @@ use itoa::Buffer;
 use serde_json::{Value, push};
 use sml_lex::fault::Memory;
 use sml_projects::project::ProjectUnit;
+use sml_shown::explained::section_of;
 use sml_shown::refusals::{Refusal, Refusals};
 use sml_shown::spots::Spot;
 use std::alloc::Global;
@@ -69,9 +70,34 @@ fn put_code(
     let mut address = Vec::from_slice(alloc, pages.as_bytes())?;
     address.push(b'/')?;
     address.extend_from_slice(page_of(code))?;
+    push_anchor(&mut address, code)?;
     let mut description = Object::new(alloc);
     description.put_text("href", &address)?;
     object.put("codeDescription", description.into_value())
+}
+
+/// Where the section of a code stands on its page: `#u1-types-clash`, the heading in small letters, with `-` between its
+/// words.
+fn push_anchor(address: &mut Vec<u8>, code: &[u8]) -> Result<(), Memory> {
+    let Some(section) = section_of(code) else {
+        return Ok(());
+    };
+    address.push(b'#')?;
+    push_small(address, code)?;
+    address.push(b'-')?;
+    push_small(address, section.meaning.as_bytes())
+}
+
+/// Letters and digits in small letters, and `-` for spaces.
+fn push_small(address: &mut Vec<u8>, bytes: &[u8]) -> Result<(), Memory> {
+    for byte in bytes {
+        if *byte == b' ' {
+            address.push(b'-')?;
+        } else if byte.is_ascii_alphanumeric() {
+            address.push(byte.to_ascii_lowercase())?;
+        }
+    }
+    Ok(())
 }
 
 /// The line of a message that names the page of a code.

@@ -1,11 +1,15 @@
 //! Messages of JSON-RPC: what comes, and what is answered.
 
+ghost use Rattle.std.specs.Prelude.{◌≡◌, codes, Some, IfOk};
+ghost use Rattle.serde_json.specs.Find.{get};
+ghost use Rattle.serde_json.specs.View.{view};
+
 use crate::frames::write_frame;
 use crate::values::Object;
-use serde_json::{Map, Value, put};
+use serde_json::{Value, json};
 use sml_lex::fault::Memory;
 use sml_reply::sink::VecOut;
-use std::alloc::Global;
+use std::alloc::{AllocError, Global};
 
 /// What is wrong with a message.
 #[derive(Clone, Copy, PartialEq, Eq, Debug)]
@@ -95,21 +99,20 @@ fn is_id(value: &Value) -> bool {
     value.is_string() || value.is_number() || value.is_null()
 }
 
-/// The members that each message of the server has.
-fn members(alloc: Global) -> Result<Map<String, Value>, Memory> {
-    let mut members = Map::new(alloc);
-    let version = Value::try_from_str(alloc, "2.0")?;
-    put(&mut members, alloc, "jsonrpc", version)?;
-    Ok(members)
+/// The answer to a request: its id, and the result.
+fn result_message(alloc: Global, id: &Value, value: Value) -> Result<Value, AllocError>
+    ensures id { IfOk result (λ v. get (codes "id") (view v) ≡ Some (view id.now)) }
+    ensures given { IfOk result (λ v. get (codes "result") (view v) ≡ Some (view value)) }
+{
+    json!(in alloc; {"id": id, "jsonrpc": "2.0", "result": value})
 }
 
-/// An answer to the request of this id, under this name.
-fn answer(alloc: Global, id: &Value, name: &str, value: Value) -> Result<Value, Memory> {
-    let mut members = members(alloc)?;
-    put(&mut members, alloc, name, value)?;
-    let id = id.clone()?;
-    put(&mut members, alloc, "id", id)?;
-    Ok(Value::Object(members))
+/// The answer to a request: its id, and the error.
+fn error_message(alloc: Global, id: &Value, error: Value) -> Result<Value, AllocError>
+    ensures id { IfOk result (λ v. get (codes "id") (view v) ≡ Some (view id.now)) }
+    ensures given { IfOk result (λ v. get (codes "error") (view v) ≡ Some (view error)) }
+{
+    json!(in alloc; {"id": id, "jsonrpc": "2.0", "error": error})
 }
 
 /// The error of a message.
@@ -136,7 +139,7 @@ pub fn send_result(
     value: Value,
     out: &mut VecOut,
 ) -> Result<(), Memory> {
-    let message = answer(alloc, id, "result", value)?;
+    let message = result_message(alloc, id, value)?;
     send(alloc, &message, out)
 }
 
@@ -148,7 +151,7 @@ pub fn send_error(
     out: &mut VecOut,
 ) -> Result<(), Memory> {
     let error = error_value(alloc, wrong)?;
-    let message = answer(alloc, id, "error", error)?;
+    let message = error_message(alloc, id, error)?;
     send(alloc, &message, out)
 }
 

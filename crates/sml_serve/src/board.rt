@@ -71,11 +71,7 @@ impl Board {
     }
 
     /// Looks for the project file, and reads it and its units.
-    pub fn reload<S: Source + Folders>(
-        &mut self,
-        view: View,
-        files: &mut S,
-    ) -> Result<(), Memory> {
+    pub fn reload<S: Source + Folders>(&mut self, view: View, files: &mut S) -> Result<(), Memory> {
         let path = project_path(view.alloc, view.settings, files)?;
         if !is_same(&path, &self.path) {
             self.work = None;
@@ -157,7 +153,8 @@ impl Board {
         paths.push(String::from_str(view.alloc, path)?)?;
         let listed = single(view.alloc, text)?;
         let work = begun(view.alloc, listed, paths, view.encoding())?;
-        self.singles.insert(String::from_str(view.alloc, path)?, work)?;
+        self.singles
+            .insert(String::from_str(view.alloc, path)?, work)?;
         Ok(())
     }
 

@@ -12,8 +12,7 @@ pub enum Asked {
 }
 
 /// What is printed for `--help`.
-const HELP: &[u8] =
-    b"Serves editors by the Language Server Protocol over standard input and output
+const HELP: &[u8] = b"Serves editors by the Language Server Protocol over standard input and output
 
 Usage: smlserve [--stdio]
 

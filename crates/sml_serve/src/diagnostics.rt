@@ -19,7 +19,9 @@ use std::alloc::Global;
 
 /// The severities of diagnostics.
 const ERROR: u64 = 1;
+
 const WARNING: u64 = 2;
+
 const HINT: u64 = 4;
 
 /// What diagnostics are made of.
@@ -269,7 +271,12 @@ impl Desk<'_> {
             Some(unit) => unit.text.as_slice(),
             None => &[],
         };
-        first_range(self.alloc, text, self.settings.encoding, source.refusal.spot)
+        first_range(
+            self.alloc,
+            text,
+            self.settings.encoding,
+            source.refusal.spot,
+        )
     }
 }
 

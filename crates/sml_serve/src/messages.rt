@@ -144,12 +144,7 @@ pub fn send_result(
 }
 
 /// Answers a request with an error.
-pub fn send_error(
-    alloc: Global,
-    id: &Value,
-    wrong: Wrong,
-    out: &mut VecOut,
-) -> Result<(), Memory> {
+pub fn send_error(alloc: Global, id: &Value, wrong: Wrong, out: &mut VecOut) -> Result<(), Memory> {
     let error = error_value(alloc, wrong)?;
     let message = error_message(alloc, id, error)?;
     send(alloc, &message, out)
@@ -176,7 +171,8 @@ pub fn send_notice(
 
 /// Asks the client to tell of files that change on disk.
 pub fn send_watch(out: &mut VecOut) -> Result<(), Memory> {
-    let body: &[u8] = b"{\"jsonrpc\":\"2.0\",\"id\":\"watch\",\"method\":\"client/registerCapability\",\"params\":{\"registrations\":[{\"id\":\"watch\",\"method\":\"workspace/didChangeWatchedFiles\",\"registerOptions\":{\"watchers\":[{\"globPattern\":\"**/*.{sml,sig,fun,project}\"}]}}]}}";
+    let body: &[u8] =
+        b"{\"jsonrpc\":\"2.0\",\"id\":\"watch\",\"method\":\"client/registerCapability\",\"params\":{\"registrations\":[{\"id\":\"watch\",\"method\":\"workspace/didChangeWatchedFiles\",\"registerOptions\":{\"watchers\":[{\"globPattern\":\"**/*.{sml,sig,fun,project}\"}]}}]}}";
     match write_frame(out, body) {
         Ok(_) => Ok(()),
         Err(_) => Err(Memory),

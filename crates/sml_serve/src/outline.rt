@@ -93,5 +93,9 @@ pub fn bound_text(alloc: Global, reply: &Reply) -> Result<Vec<u8>, Memory> {
 /// The reply to the declaration of this number, if it was accepted.
 pub fn accepted<'a>(answered: &Answered<'a>, number: usize) -> Option<&'a Reply> {
     let reply = answered.replies().get(number.checked_sub(1)?)?;
-    if reply.is_accepted() { Some(reply) } else { None }
+    if reply.is_accepted() {
+        Some(reply)
+    } else {
+        None
+    }
 }

@@ -362,12 +362,7 @@ struct Telling<'a> {
 
 impl Telling<'_> {
     /// Tells of the files of a project.
-    fn work(
-        &self,
-        work: &Work,
-        published: &mut Published,
-        out: &mut VecOut,
-    ) -> Result<(), Memory> {
+    fn work(&self, work: &Work, published: &mut Published, out: &mut VecOut) -> Result<(), Memory> {
         let desk = Desk {
             alloc: self.alloc,
             settings: self.settings,

@@ -113,10 +113,7 @@ fn project_of(
 /// The address of the folder with the pages of codes.
 fn pages_of(alloc: Global, params: &Value) -> Result<Option<String>, Memory> {
     match text_at(params, &["initializationOptions", "pages"]) {
-        Some(pages) => Ok(Some(String::from_str(
-            alloc,
-            pages.trim_end_matches('/'),
-        )?)),
+        Some(pages) => Ok(Some(String::from_str(alloc, pages.trim_end_matches('/'))?)),
         None => Ok(None),
     }
 }

@@ -14,12 +14,19 @@ use std::collections::BTreeMap;
 
 /// The kinds of symbols.
 const MODULE: u64 = 2;
+
 const ENUM: u64 = 10;
+
 const INTERFACE: u64 = 11;
+
 const FUNCTION: u64 = 12;
+
 const VARIABLE: u64 = 13;
+
 const ENUM_MEMBER: u64 = 22;
+
 const STRUCT: u64 = 23;
+
 const EVENT: u64 = 24;
 
 /// How deep symbols are nested at most. Below, they are listed by longer names.

@@ -5,9 +5,8 @@ use sml_reply::sink::StdOut;
 use sml_serve::files::Tree;
 use sml_serve::session::{out_of_memory, session};
 use sml_serve::streams::StdIn;
-use std::env;
-use std::io;
 use std::process::ExitCode;
+use std::{env, io};
 
 /// The status where memory wasn't there.
 const FAILED: u8 = 3;

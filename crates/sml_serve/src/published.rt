@@ -35,11 +35,6 @@ impl Published {
         self.round = self.round.saturating_add(1);
     }
 
-    /// Whether the file at this address was told of.
-    pub fn has(&self, uri: &str) -> bool {
-        self.told.get(uri).is_some()
-    }
-
     /// Tells of a file, unless nothing changed and it needn't be told.
     pub fn tell(
         &mut self,

@@ -159,7 +159,7 @@ impl Findings {
         number: usize,
         remark: &Remark,
     ) -> Result<(), Memory> {
-        let finding = finding(alloc, chart, number, remark, true)?;
+        let finding = make_finding(alloc, chart, number, remark, true)?;
         self.items.push(finding)?;
         Ok(())
     }
@@ -173,7 +173,7 @@ impl Findings {
         remark: &Remark,
         reason: &[Vec<u8>],
     ) -> Result<(), Memory> {
-        let mut finding = finding(alloc, chart, number, remark, false)?;
+        let mut finding = make_finding(alloc, chart, number, remark, false)?;
         finding.origin = self.origin(alloc, remark)?;
         for line in reason {
             finding.reason.push(line.clone()?)?;
@@ -216,7 +216,7 @@ impl Findings {
 }
 
 /// A fault or a warning of the declaration of this number.
-fn finding(
+fn make_finding(
     alloc: Global,
     chart: &Chart,
     number: usize,

@@ -89,7 +89,7 @@ fn after_parameters(rest: &[u8]) -> &[u8] {
 }
 
 /// A path and what stands after it and after a sign with spaces around it.
-fn entry<'a>(kind: u64, rest: &'a [u8], is_open: bool) -> Entry<'a> {
+fn make_entry<'a>(kind: u64, rest: &'a [u8], is_open: bool) -> Entry<'a> {
     let (path, others) = match cut(rest, b' ') {
         Some((path, others)) => (path, others),
         None => (rest, &rest[rest.len()..]),
@@ -108,7 +108,7 @@ fn entry<'a>(kind: u64, rest: &'a [u8], is_open: bool) -> Entry<'a> {
 
 /// A value: a function, if an arrow stands in its type outside of brackets.
 fn value_entry<'a>(rest: &'a [u8]) -> Entry<'a> {
-    let found = entry(VARIABLE, rest, false);
+    let found = make_entry(VARIABLE, rest, false);
     Entry {
         kind: if is_arrow(found.detail) {
             FUNCTION
@@ -139,14 +139,14 @@ fn is_arrow(ty: &[u8]) -> bool {
 fn entry_in<'a>(line: &'a [u8]) -> Option<Entry<'a>> {
     let (word, rest) = cut(line, b' ')?;
     match word {
-        b"structure" => Some(entry(MODULE, rest, true)),
-        b"signature" => Some(entry(INTERFACE, rest, true)),
-        b"functor" => Some(entry(MODULE, rest, true)),
-        b"type" => Some(entry(STRUCT, after_parameters(rest), false)),
-        b"datatype" => Some(entry(ENUM, after_parameters(rest), false)),
+        b"structure" => Some(make_entry(MODULE, rest, true)),
+        b"signature" => Some(make_entry(INTERFACE, rest, true)),
+        b"functor" => Some(make_entry(MODULE, rest, true)),
+        b"type" => Some(make_entry(STRUCT, after_parameters(rest), false)),
+        b"datatype" => Some(make_entry(ENUM, after_parameters(rest), false)),
         b"val" => Some(value_entry(rest)),
-        b"con" => Some(entry(ENUM_MEMBER, rest, false)),
-        b"exception" => Some(entry(EVENT, rest, false)),
+        b"con" => Some(make_entry(ENUM_MEMBER, rest, false)),
+        b"exception" => Some(make_entry(EVENT, rest, false)),
         _ => None,
     }
 }

@@ -38,18 +38,18 @@ pub fn explain(alloc: Global, basis: &Basis, dec: &TopDec) -> Result<Option<Expl
         return Ok(None);
     };
     let Some(number) = context.recorder.refused() else {
-        return Ok(explanation(context, fault));
+        return Ok(explained(context, fault));
     };
     let mut context = Context::new(alloc, basis);
     context.recorder.want(Wanted { number, fault });
     let Some(fault) = fault_of(&mut context, basis, dec)? else {
         return Ok(None);
     };
-    Ok(explanation(context, fault))
+    Ok(explained(context, fault))
 }
 
 /// The fault with what was kept of it, if something was.
-fn explanation(context: Context, fault: Fault) -> Option<Explanation> {
+fn explained(context: Context, fault: Fault) -> Option<Explanation> {
     let Context { recorder, .. } = context;
     match recorder.into_seen() {
         Some((seen, names)) => Some(Explanation { fault, seen, names }),

@@ -12,7 +12,7 @@ use sml_reply::sink::VecOut;
 use sml_shown::binders::bound_by;
 use sml_shown::refusals::{Refusal, Refusals, unbound_key};
 use sml_shown::remark::{Remark, cut, fault_in, warning_in};
-use sml_shown::spots::{Spot, in_file};
+use sml_shown::spots::Spot;
 use sml_shown::unit_map::UnitMap;
 use sml_tree::structures::TopDec;
 use sml_units::project::Checked;
@@ -77,7 +77,7 @@ pub struct Chart<'a> {
 impl Chart<'_> {
     /// Where a place of the declaration of this number stands in the file.
     fn spot(&self, number: usize, place: Place) -> Spot {
-        in_file(self.map.declaration(number), place)
+        self.map.in_file(number, place)
     }
 
     /// From a place to the end of the token that begins there, or of the character where none does.

@@ -6,7 +6,7 @@ use sml_lex::fault::Memory;
 use sml_shown::excerpt::push_excerpt;
 use sml_shown::refusals::Refusal;
 use sml_shown::remark::Remark;
-use sml_shown::spots::{Spot, in_file};
+use sml_shown::spots::Spot;
 use sml_shown::unit_map::UnitMap;
 
 /// A unit that is shown: its name, its file as the project file has it, and where its declarations begin.
@@ -50,7 +50,7 @@ pub fn push_spot(text: &mut Vec<u8>, file: &str, spot: Spot) -> Result<(), Memor
 impl Page<'_> {
     /// Where a place of the declaration of this number stands in the file.
     pub fn spot(&self, number: usize, remark: &Remark) -> Spot {
-        in_file(self.map.declaration(number), remark.place)
+        self.map.in_file(number, remark.place)
     }
 
     /// Bytes in color, where colors are wished for.

@@ -5,7 +5,7 @@ use sml_lex::fault::Memory;
 /// How many bytes of a line are shown at most.
 const MOST_SHOWN: usize = 160;
 
-/// How many bytes before the caret's column are shown at most.
+/// How many bytes before the caret's column are shown at most of a line that isn't shown whole.
 const MOST_BEFORE: usize = 100;
 
 /// Whether a byte goes on a character that began before it, where the text is UTF-8.
@@ -15,6 +15,9 @@ fn goes_on(byte: u8) -> bool {
 
 /// The first byte that is shown, for a caret under this one: a character begins there.
 fn first_shown(line: &[u8], caret: usize) -> usize {
+    if line.len() <= MOST_SHOWN {
+        return 0;
+    }
     let from = caret.saturating_sub(MOST_BEFORE).min(line.len());
     for i in from..line.len() {
         if !goes_on(line[i]) {

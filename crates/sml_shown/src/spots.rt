@@ -1,6 +1,7 @@
 //! Places in a file, made of places in a declaration.
 
-ghost use Rattle.std.specs.Prelude.{◌≡◌, ◌+◌, ◌-◌, ◌<◌};
+ghost use Rattle.std.specs.Prelude.{◌≡◌};
+ghost use Rattle.sml_shown.specs.Spots as spec;
 ghost use Rattle.sml_shown.specs.Spots.{column_in_file, line_in_file};
 
 use sml_lex::fault::Place;
@@ -12,13 +13,22 @@ pub struct Spot {
     pub column: u64,
 }
 
+/// A place that is counted from the file's first byte.
+fn spot_of(place: Place) -> Spot
+    ensures { result ≡ spec.spot_of place }
+{
+    Spot {
+        line: u64::from(place.line),
+        column: u64::from(place.column),
+    }
+}
+
 /// Where a place of a declaration stands in the file, if the declaration's first token stands at `start`.
-pub fn in_file(start: Spot, place: Place) -> Spot
-    requires line { start.line < 4294967296 }
-    requires column { start.column < 4294967296 }
+pub fn in_file(start: Place, place: Place) -> Spot
     ensures line { result.line ≡ line_in_file start.line place.line }
     ensures column { result.column ≡ column_in_file start.column place.line place.column }
 {
+    let start = spot_of(start);
     let line = u64::from(place.line);
     let column = u64::from(place.column);
     if line > 1 {

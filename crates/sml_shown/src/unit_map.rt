@@ -1,14 +1,18 @@
 //! Where the lines, the tokens and the declarations of a unit begin.
 
-ghost use Rattle.std.specs.Prelude.{◌<◌, ◌≡◌};
+ghost use Rattle.std.specs.Prelude.{◌≡◌, ◌-◌, ◌<◌, ℕ, List, length, IfOk, slice_get, unwrap_or};
+ghost use Rattle.sml_lex.specs.Faults.{first_place};
+ghost use Rattle.sml_parse.specs.Within.{extents_of};
+ghost use Rattle.sml_reach.specs.Places.{start_of};
+ghost use Rattle.sml_shown.specs.Maps.{IsMap, NamesOneByte, end_of, starts_in};
 
 use crate::remark::cut;
-use crate::spots::Spot;
+use crate::spots::{Spot, in_file};
 use sml_flaws::flawed::begins_at;
-use sml_lex::fault::Memory;
+use sml_lex::fault::{FIRST, Memory, Place};
 use sml_lex::lexer::lex;
-use sml_lex::token::{End, Lexed, Span, Token};
-use sml_reach::place::start_of;
+use sml_lex::token::{End, Lexed, Span};
+use sml_reach::place::{Walk, place_between, start_of};
 use sml_read::grammar::Node;
 use sml_read::read::read;
 use std::alloc::Global;
@@ -19,8 +23,8 @@ use std::alloc::Global;
 pub struct UnitMap<'a> {
     pub lexed: Lexed<'a>,
     lines: Vec<usize>,
-    starts: Vec<usize>,
-    left: usize,
+    starts: Vec<Place>,
+    left: Place,
 }
 
 /// The bytes at which lines begin.
@@ -35,20 +39,20 @@ fn line_starts(alloc: Global, unit: &[u8]) -> Result<Vec<usize>, Memory> {
     Ok(lines)
 }
 
-/// The bytes at which the declarations of a derivation begin.
-fn declaration_starts(
-    alloc: Global,
-    tokens: &[Token],
-    nodes: &[Node],
-) -> Result<Vec<usize>, Memory> {
+/// Where the declarations of a derivation begin, counted from the unit's first byte.
+fn declaration_starts(alloc: Global, lexed: &Lexed, nodes: &[Node]) -> Result<Vec<Place>, Memory>
+    ensures { IfOk result (λ starts. starts.items ≡ starts_in lexed.now.unit.now lexed.now.tokens.items (extents_of 0 nodes.now)) }
+{
     let mut starts = Vec::new(alloc);
+    let mut walk = Walk::new(0);
     let mut first: usize = 0;
     for i in 0..nodes.len() {
         match nodes[i] {
-            Node::Leaf => first = first.saturating_add(1),
+            Node::Leaf => first += 1,
             Node::Inner(rule) => {
                 if begins_at(rule) {
-                    starts.push(start_of(tokens, first, 0))?;
+                    let at = start_of(&lexed.tokens, first, 0);
+                    starts.push(walk.go_to(lexed.unit, at))?;
                 }
             }
         }
@@ -56,8 +60,10 @@ fn declaration_starts(
     Ok(starts)
 }
 
-/// The byte of the token of this number; where there is none that of the fault which ends the tokens, or the last one.
-fn start_or_end(lexed: &Lexed, index: usize) -> usize {
+/// The byte of the token of this number; where there is none that of the fault which ends the tokens, or the unit's end.
+fn start_or_end(lexed: &Lexed, index: usize) -> usize
+    ensures { result ≡ start_of lexed.now.tokens.items index (end_of lexed.now.unit.now lexed.now.end) }
+{
     let end = match lexed.end {
         End::Done => lexed.unit.len(),
         End::Fault(stop) => stop.at,
@@ -65,21 +71,15 @@ fn start_or_end(lexed: &Lexed, index: usize) -> usize {
     start_of(&lexed.tokens, index, end)
 }
 
-/// How many of these numbers, which ascend, are at most this one.
-fn count_up_to(numbers: &[usize], most: usize) -> usize {
-    match numbers.binary_search(&most) {
-        Ok(index) => index.saturating_add(1),
-        Err(index) => index,
-    }
-}
-
 impl<'a> UnitMap<'a> {
     /// The map of a unit.
-    pub fn new(alloc: Global, unit: &'a [u8]) -> Result<UnitMap<'a>, Memory> {
+    pub fn new(alloc: Global, unit: &'a [u8]) -> Result<UnitMap<'a>, Memory>
+        ensures { IfOk result (λ map. IsMap unit.now map) }
+    {
         let lexed = lex(alloc, unit)?;
         let full = read(alloc, &lexed)?;
-        let starts = declaration_starts(alloc, &lexed.tokens, &full.nodes)?;
-        let left = start_or_end(&lexed, full.begun);
+        let starts = declaration_starts(alloc, &lexed, &full.nodes)?;
+        let left = place_between(unit, 0, start_or_end(&lexed, full.begun));
         let lines = line_starts(alloc, unit)?;
         Ok(UnitMap {
             lexed,
@@ -96,29 +96,29 @@ impl<'a> UnitMap<'a> {
         self.lines.get(index.min(last)).copied().unwrap_or(0)
     }
 
-    /// The line and the column of a byte.
-    fn spot(&self, at: usize) -> Spot
-        ensures line { result.line < 4294967296 }
-        ensures column { result.column < 4294967296 }
+    /// Where the declaration of this number begins, counted from the unit's first byte.
+    fn start(&self, number: usize) -> Place
+        ensures { result ≡ unwrap_or (slice_get self.now.starts.items (number - 1)) self.now.left }
     {
-        let line = count_up_to(&self.lines, at) as u64;
-        let column = at.saturating_sub(self.line_start(line)) as u64;
-        Spot {
-            line: line.min(0xffff_fffe),
-            column: column.min(0xffff_fffe) + 1,
+        match self.starts.get(number.saturating_sub(1)) {
+            Some(start) => *start,
+            None => self.left,
         }
     }
 
-    /// Where the declaration of this number begins, counted from 1.
-    pub fn declaration(&self, number: usize) -> Spot
-        ensures line { result.line < 4294967296 }
-        ensures column { result.column < 4294967296 }
+    /// Where a place of the declaration of this number stands in the file. Numbers count from 1; what is left after the whole
+    /// declarations has the number after the last.
+    pub fn in_file(&self, number: usize, place: Place) -> Spot
+        ensures { (unit : List ℕ) → length unit < 4294967295 → IsMap unit self.now → NamesOneByte unit number place result }
     {
-        let at = match self.starts.get(number.saturating_sub(1)) {
-            Some(start) => *start,
-            None => self.left,
-        };
-        self.spot(at)
+        in_file(self.start(number), place)
+    }
+
+    /// Where the declaration of this number begins.
+    pub fn declaration(&self, number: usize) -> Spot
+        ensures { (unit : List ℕ) → length unit < 4294967295 → IsMap unit self.now → NamesOneByte unit number first_place result }
+    {
+        self.in_file(number, FIRST)
     }
 
     /// The bytes of a line, without its end, and without a carriage return before that.

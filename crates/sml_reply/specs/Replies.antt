@@ -23,15 +23,19 @@ warnings_text ws = in_turn (map warning_text ws)
 unfoldable pub refusal_text : RefusedReply → List ℕ
 refusal_text r = decimal r.number ++ fault_text (fault_of r.fault)
 
+-- the lines of what a declaration binds; there are no second ones where they are the same
+abbrev pub version_lines : AcceptedReply → Version → List ℕ
+version_lines r One = r.lines.items
+version_lines r Two = elim r.second [ Some v ↦ v.items | None ↦ r.lines.items ]
+
+-- the text without warnings
+abbrev pub version_text : AcceptedReply → Version → List ℕ
+version_text r version = decimal r.number ++ (codes " ok\n" ++ version_lines r version)
+
 -- version 1
 unfoldable pub reply_text : Reply → Bool → List ℕ
-reply_text (Accepted r) asked = r.text.items ++ cond asked (warnings_text r.warnings.items) []
+reply_text (Accepted r) asked = version_text r One ++ cond asked (warnings_text r.warnings.items) []
 reply_text (Refused r) asked = refusal_text r
-
--- the text without warnings; there is no second one where it is the same
-abbrev pub version_text : AcceptedReply → Version → List ℕ
-version_text r One = r.text.items
-version_text r Two = elim r.second [ Some v ↦ v.items | None ↦ r.text.items ]
 
 unfoldable pub form_text : Reply → Form → List ℕ
 form_text (Accepted r) form = version_text r form.version ++ cond form.warnings (warnings_text r.warnings.items) []
@@ -44,3 +48,8 @@ warnings_of (Refused r) = []
 abbrev pub accepts : Reply → Bool
 accepts (Accepted r) = true
 accepts (Refused r) = false
+
+-- the number with which the text begins
+abbrev pub number_of : Reply → ℕ
+number_of (Accepted r) = r.number
+number_of (Refused r) = r.number

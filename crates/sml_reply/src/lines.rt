@@ -1,4 +1,4 @@
-//! The text of an accepted declaration of the whole language.
+//! The lines of what an accepted declaration of the whole language binds.
 
 use crate::paths::Paths;
 use indexmap::{IndexMap, IndexSet};
@@ -13,23 +13,21 @@ use std::alloc::Global;
 use std::collections::BTreeMap;
 use std::rc::Rc;
 
-/// The text of a reply, and the names that are numbered in it.
+/// The lines of a reply, and the names that are numbered in it.
 #[derive(Drop)]
 pub(crate) struct NumberedText {
     pub text: Vec<u8>,
     pub names: IndexSet<TyName>,
 }
 
-/// The text of the reply with this number to a declaration that binds what the basis itself binds. Names that have a path
-/// print as it.
-pub(crate) fn accepted_text(
+/// The lines of what the basis itself binds. Names that have a path print as it.
+pub(crate) fn text_of(
     alloc: Global,
-    number: u32,
     basis: &Basis,
     paths: IndexMap<TyName, Ident>,
 ) -> Result<NumberedText, Memory> {
     let mut lines = Lines::new(alloc, paths);
-    lines.push_basis(number, basis)?;
+    lines.push_basis(basis)?;
     let Lines { text, names, .. } = lines;
     Ok(NumberedText { text, names })
 }
@@ -112,10 +110,8 @@ impl Lines {
         Ok(())
     }
 
-    /// The line of an accepted declaration, and those of what the basis itself binds.
-    fn push_basis(&mut self, number: u32, basis: &Basis) -> Result<(), Memory> {
-        push_number(&mut self.text, number as usize)?;
-        self.push(b" ok\n")?;
+    /// The lines of what the basis itself binds.
+    fn push_basis(&mut self, basis: &Basis) -> Result<(), Memory> {
         self.push_env(&basis.env)?;
         for (name, sig) in &basis.signatures {
             self.push_signature(name, sig)?;

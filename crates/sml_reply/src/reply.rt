@@ -5,13 +5,13 @@ ghost use Rattle.sml_lex.specs.Faults.{fault_of};
 ghost use Rattle.sml_objects.specs.Initial.{naming};
 ghost use Rattle.sml_objects.specs.Views.{sig_of};
 ghost use Rattle.sml_rules.specs.Answers as Answers;
-ghost use Rattle.sml_reply.specs.Replies.{reply_text, form_text, version_text, refusal_text, warning_text, warnings_text, warnings_of, accepts};
+ghost use Rattle.sml_reply.specs.Replies.{reply_text, form_text, version_lines, version_text, refusal_text, warning_text, warnings_text, warnings_of, accepts, number_of};
 ghost use Rattle.std.specs.Option.{option_map};
 ghost use Rattle.sml_reply.specs.Sinks.{Prints, in_turn};
 ghost use Rattle.sml_texts.specs.Text as T;
 
 use crate::form::{Form, Version};
-use crate::lines::{NumberedText, accepted_text, paths_of};
+use crate::lines::{NumberedText, paths_of, text_of};
 use crate::paths::Paths;
 use crate::piece::whole_env;
 use crate::sink::{Out, OutFault, write_all, write_each};
@@ -20,7 +20,6 @@ use itoa::Buffer;
 use sml_bases::objects::Basis as WholeBasis;
 use sml_lex::fault::{Code, Fault, Memory, Place, Warning};
 use sml_objects::objects::{Basis, TyName};
-use sml_texts::numerals::push_number;
 use sml_texts::texts::Lines;
 use sml_tree::bare::Ident;
 use std::alloc::Global;
@@ -32,11 +31,12 @@ pub enum Reply {
     Refused(RefusedReply),
 }
 
-/// The text of an accepted declaration without its warnings in version 1, and in version 2 where it differs, and the
-/// warnings.
+/// The number of an accepted declaration, the lines of what it binds in version 1, and in version 2 where they differ, and
+/// the warnings.
 #[derive(Drop)]
 pub struct AcceptedReply {
-    text: Vec<u8>,
+    number: u32,
+    lines: Vec<u8>,
     second: Option<Vec<u8>>,
     warnings: Vec<Warning>,
 }
@@ -59,15 +59,15 @@ impl Reply {
         ensures text { IfOk result (λ r. reply_text r false ≡ T.text naming number (Answers.accepted (sig_of basis.now))) }
         ensures warnings { IfOk result (λ r. warnings_of r ≡ warnings.items) }
         ensures accepted { IfOk result (λ r. accepts r ≡ true) }
+        ensures number { IfOk result (λ r. number_of r ≡ number) }
     {
         let mut lines = Lines::new(alloc);
-        push_number(&mut lines.text, number as usize)?;
-        lines.text.extend_from_slice(b" ok\n")?;
         lines.push_env(alloc, b"", &basis.env)?;
         let Lines { text, names } = lines;
-        let second = second_of_piece(alloc, number, basis, &names, before)?;
+        let second = second_of_piece(alloc, basis, &names, before)?;
         Ok(Reply::Accepted(AcceptedReply {
-            text,
+            number,
+            lines: text,
             second,
             warnings,
         }))
@@ -84,17 +84,14 @@ impl Reply {
     ) -> Result<Reply, Memory>
         ensures warnings { IfOk result (λ r. warnings_of r ≡ warnings.items) }
         ensures accepted { IfOk result (λ r. accepts r ≡ true) }
+        ensures number { IfOk result (λ r. number_of r ≡ number) }
     {
-        let NumberedText { text, names } = accepted_text(
-            alloc,
-            number,
-            basis,
-            IndexMap::new(alloc),
-        )?;
+        let NumberedText { text, names } = text_of(alloc, basis, IndexMap::new(alloc))?;
         let paths = paths_of(alloc, &names, before)?;
-        let second = second_text(alloc, number, basis, paths)?;
+        let second = second_text(alloc, basis, paths)?;
         Ok(Reply::Accepted(AcceptedReply {
-            text,
+            number,
+            lines: text,
             second,
             warnings,
         }))
@@ -105,6 +102,7 @@ impl Reply {
         ensures text { reply_text result false ≡ T.text naming number (Answers.refused (fault_of fault)) }
         ensures warnings { warnings_of result ≡ [] }
         ensures refused { accepts result ≡ false }
+        ensures number { number_of result ≡ number }
     {
         Reply::Refused(RefusedReply { number, fault })
     }
@@ -114,6 +112,7 @@ impl Reply {
         ensures text { IfOk result (λ r. (form : Form) → form_text r form ≡ form_text self.now form) }
         ensures warnings { IfOk result (λ r. warnings_of r ≡ warnings_of self.now) }
         ensures accepted { IfOk result (λ r. accepts r ≡ accepts self.now) }
+        ensures number { IfOk result (λ r. number_of r ≡ number_of self.now) }
     {
         match self {
             Reply::Accepted(reply) => Ok(Reply::Accepted(reply.copy(alloc)?)),
@@ -154,26 +153,29 @@ impl AcceptedReply {
     fn copy(&self, alloc: Global) -> Result<AcceptedReply, Memory>
         ensures text { IfOk result (λ r. (version : Version) → version_text r version ≡ version_text self.now version) }
         ensures warnings { IfOk result (λ r. r.warnings.items ≡ self.now.warnings.items) }
+        ensures number { IfOk result (λ r. r.number ≡ self.now.number) }
     {
-        let text = Vec::from_slice(alloc, self.text.as_slice())?;
+        let number = self.number;
+        let lines = Vec::from_slice(alloc, self.lines.as_slice())?;
         let second = bytes_copied(alloc, &self.second)?;
         let warnings = Vec::from_slice(alloc, self.warnings.as_slice())?;
         Ok(AcceptedReply {
-            text,
+            number,
+            lines,
             second,
             warnings,
         })
     }
 
-    /// The text without warnings.
+    /// The lines of what the declaration binds.
     fn lines(&self, version: Version) -> &[u8]
-        ensures { result.now ≡ version_text self.now version }
+        ensures { result.now ≡ version_lines self.now version }
     {
         match version {
-            Version::One => self.text.as_slice(),
+            Version::One => self.lines.as_slice(),
             Version::Two => match &self.second {
                 Some(second) => second.as_slice(),
-                None => self.text.as_slice(),
+                None => self.lines.as_slice(),
             },
         }
     }
@@ -181,7 +183,8 @@ impl AcceptedReply {
 
 impl RefusedReply {
     fn copy(&self, alloc: Global) -> Result<RefusedReply, Memory>
-        ensures { IfOk result (λ r. refusal_text r ≡ refusal_text self.now) }
+        ensures text { IfOk result (λ r. refusal_text r ≡ refusal_text self.now) }
+        ensures number { IfOk result (λ r. r.number ≡ self.now.number) }
     {
         let detail = bytes_copied(alloc, &self.fault.detail)?;
         let fault = Fault {
@@ -205,24 +208,22 @@ fn bytes_copied(alloc: Global, bytes: &Option<Vec<u8>>) -> Result<Option<Vec<u8>
     }
 }
 
-/// Version 2 of the text, where it differs: where some of the names that are numbered in version 1 has a path.
+/// Version 2 of the lines, where it differs: where some of the names that are numbered in version 1 has a path.
 fn second_text(
     alloc: Global,
-    number: u32,
     basis: &WholeBasis,
     paths: IndexMap<TyName, Ident>,
 ) -> Result<Option<Vec<u8>>, Memory> {
     if paths.is_empty() {
         return Ok(None);
     }
-    let NumberedText { text, .. } = accepted_text(alloc, number, basis, paths)?;
+    let NumberedText { text, .. } = text_of(alloc, basis, paths)?;
     Ok(Some(text))
 }
 
 /// The same for a declaration of the piece.
 fn second_of_piece(
     alloc: Global,
-    number: u32,
     basis: &Basis,
     names: &IndexSet<TyName>,
     before: &mut Paths,
@@ -231,7 +232,7 @@ fn second_of_piece(
     if paths.is_empty() {
         return Ok(None);
     }
-    second_text(alloc, number, &whole_basis(alloc, basis)?, paths)
+    second_text(alloc, &whole_basis(alloc, basis)?, paths)
 }
 
 fn whole_basis(alloc: Global, basis: &Basis) -> Result<WholeBasis, Memory> {
@@ -245,7 +246,7 @@ pub fn print<O: Out>(reply: &Reply, form: Form, out: &mut O) -> Result<(), OutFa
     ensures { Prints (O.taken out.old) (O.taken out.new) (O.failures out.old) (O.failures out.new) result (form_text reply.now form) }
 {
     match reply {
-        Reply::Accepted(reply) => match write_all(out, reply.lines(form.version)) {
+        Reply::Accepted(reply) => match print_accepted(reply, form.version, out) {
             Ok(_) => {
                 if form.warnings {
                     print_warnings(reply.warnings.as_slice(), out)
@@ -257,6 +258,23 @@ pub fn print<O: Out>(reply: &Reply, form: Form, out: &mut O) -> Result<(), OutFa
         },
         Reply::Refused(reply) => print_refused(reply, out),
     }
+}
+
+/// Writes the line that says that a declaration is accepted, and the lines of what it binds.
+fn print_accepted<O: Out>(
+    reply: &AcceptedReply,
+    version: Version,
+    out: &mut O,
+) -> Result<(), OutFault>
+    ensures { Prints (O.taken out.old) (O.taken out.new) (O.failures out.old) (O.failures out.new) result (version_text reply.now version) }
+{
+    let mut numeral = Buffer::new();
+    let parts: [&[u8]; 3] = [
+        numeral.format(reply.number).as_bytes(),
+        b" ok\n",
+        reply.lines(version),
+    ];
+    write_each(out, &parts)
 }
 
 fn print_warnings<O: Out>(warnings: &[Warning], out: &mut O) -> Result<(), OutFault>

@@ -14,7 +14,8 @@ use Rattle.sml_objects.specs.Objects.{Sig, Basis}
 use Rattle.sml_objects.specs.Initial.{Name, naming, initial_basis}
 use Rattle.sml_rules.specs.Answers.{Answer, refused, accepted}
 use Rattle.sml_parse.proofs.OneList.{trees_one}
-use Rattle.sml_reply.specs.Replies.{reply_text, warnings_text, warnings_of, accepts}
+use Rattle.sml_reply.specs.Replies.{reply_text, version_text, warnings_text, warnings_of, accepts}
+use Rattle.sml_reply.specs.declared.form.Version.TheVariants.{One}
 use Rattle.sml_texts.specs.Text.{text}
 use Rattle.sml_reply.specs.declared.reply.Reply.{Reply}
 use Rattle.sml_reply.specs.declared.reply.Reply.TheVariants.{Accepted, Refused}
@@ -192,7 +193,7 @@ all_agree (x ∷ xs) (s ∷ ss) (t ∷ ts) (os ∷ oss) (qs ∷ qss) (r ∷ rs) 
 -- without warnings a reply is the same whether they are asked for or not
 unasked : (r : Reply) (asked : Bool) → warnings_of r ≡ [] → reply_text r asked ≡ reply_text r false
 unfolding reply_text
-unasked (Accepted r) true h = ap (λ ws. r.text.items ++ warnings_text ws) h
+unasked (Accepted r) true h = ap (λ ws. version_text r One ++ warnings_text ws) h
 unasked (Accepted r) false h = refl
 unasked (Refused r) asked h = refl
 

@@ -20,6 +20,7 @@ use Rattle.sml_rules.specs.Readings.{read_top, is_specified}
 use Rattle.sml_rules.specs.Rules.{IsOpen, AreOpen}
 use Rattle.sml_rules.proofs.Open.{extended}
 use Rattle.sml_rules.proofs.Sound.{readings_sound}
+use Rattle.sml_reply.specs.Replies.{number_of}
 use Rattle.sml_reply.specs.declared.reply.Reply.{Reply}
 use Rattle.sml_piece.specs.Elaborated.{IsBasisOf, IsOwnBasis, IsBelow}
 use Rattle.sml_piece.proofs.Specifying.{all_below_more, basis_below}
@@ -27,7 +28,7 @@ use Rattle.sml_exports.specs.declared.exports.Exports.{Exports}
 use Rattle.sml_units.specs.Runs.{Run, basis_after, start, needed, all_names, SourceUnit, RunProject, exports_after, exports, nothing, specified_beginning, flag_at, is_whole}
 use Rattle.sml_projects.specs.Orders.{UnitText}
 use Rattle.sml_units.specs.declared.project.Beginning.{Beginning}
-use Rattle.sml_units.specs.Checked.{Answered, IsReplyTo, AreRepliesTo, AreSound, AreAllSound, IsSoundAnswer, AreSpelt, BeginWith, AreReplies, with_last}
+use Rattle.sml_units.specs.Checked.{Answered, IsReplyTo, AreRepliesTo, AreNumbered, AreSound, AreAllSound, IsSoundAnswer, AreSpelt, BeginWith, AreReplies, with_last}
 use Rattle.sml_units.specs.CodeUnits.{IsStep, IsBegun, AreBegunAndEnded, IsAnswered, Keeps, env_after}
 use Rattle.sml_units.proofs.Names.{start_below, needed_open}
 
@@ -160,6 +161,21 @@ run_length unit B [] (o ∷ os) h = absurd h
 run_length unit B (d ∷ ds) [] h = absurd h
 run_length unit B (d ∷ ds) (o ∷ os) h = ap suc (run_length unit (basis_after B o) ds os h.1)
 
+-- numbers of replies
+
+pub numbered_append : (k : ℕ) (rs more : List Reply) → AreNumbered k rs → AreNumbered (k + length rs) more → AreNumbered k (rs ++ more)
+numbered_append k [] more h g = subst (λ n. AreNumbered n more) (omega arith) g
+numbered_append k (r ∷ rs) more h g = (h.0, numbered_append (suc k) rs more h.1 (subst (λ n. AreNumbered n more) (omega arith) g))
+
+pub numbered_push : (k : ℕ) (rs : List Reply) (r : Reply) → AreNumbered k rs → number_of r ≡ k + length rs → AreNumbered k (rs ++ r ∷ [])
+numbered_push k rs r h e = numbered_append k rs (r ∷ []) h (e, tt)
+
+replies_numbered : (k : ℕ) (os : List Answered) (rs : List Reply) → AreRepliesTo k os rs → AreNumbered k rs
+replies_numbered k [] [] h = tt
+replies_numbered k [] (r ∷ rs) h = absurd h
+replies_numbered k (o ∷ os) [] h = absurd h
+replies_numbered k (o ∷ os) (r ∷ rs) h = (h.0.numbered, replies_numbered (suc k) os rs h.1)
+
 begin_with : (k : ℕ) (os : List Answered) (rs more : List Reply) → AreRepliesTo k os rs → BeginWith k os (rs ++ more)
 begin_with k [] rs more h = tt
 begin_with k (o ∷ os) [] more h = absurd h
@@ -243,8 +259,9 @@ whole_same false all j k n h = refl
 pub unit_answered : (fs : List Bool) (Ss : List (Sig Name)) (u : UnitText) (ds : List (Dec Place)) (last : Option (Fault Place)) (spelt : AreSpelt u.text ds last) (b : Beginning) (tail ends : List Reply) (x : Exports)
     → IsBegun (suc u.place) (list_all (flag_at fs) u.needs) (start initial_basis Ss u.needs) ds b → length b.replies.items + length tail ≡ length spelt.tops → length ends ≡ length (option_to_list last)
     → ((os : List Answered) → AreRepliesTo 1 os (b.replies.items ++ tail) → AreRepliesTo 1 (with_last os last) ((b.replies.items ++ tail) ++ ends))
+    → AreNumbered (suc (length b.replies.items)) tail → AreRepliesTo (suc (length spelt.tops)) (with_last [] last) ends
     → Keeps b (length spelt.tops) x → IsAnswered fs Ss u ((b.replies.items ++ tail) ++ ends) x
-unit_answered fs Ss u ds last spelt b tail ends x begun all count more kept =
+unit_answered fs Ss u ds last spelt b tail ends x begun all count more numbered to_last kept =
     let n = length spelt.tops in
     let s = source_of u n ds last in
     let B = start initial_basis Ss u.needs in
@@ -269,6 +286,10 @@ unit_answered fs Ss u ds last spelt b tail ends x begun all count more kept =
       replies = record {
         begun = begun_by (is_whole fs s) os last rs tail ends begun.replies same (more os);
         number = (let a = length-append (rs ++ tail) ends in let b = length-append rs tail in omega (arith, a, b, all, count));
+        numbered = numbered_append 1 (rs ++ tail) ends
+            (numbered_append 1 rs tail (replies_numbered 1 os rs begun.replies) (subst (λ k. AreNumbered k tail) (omega arith) numbered))
+            (subst (λ k. AreNumbered k ends) (let b = length-append rs tail in omega (arith, b, all)) (replies_numbered (suc n) (with_last [] last) ends to_last));
+        ended = record { front = rs ++ tail; ends = ends; whole = refl; many = length-append rs tail ∙ all; to_last = to_last };
       };
       kept = record {
         is_there = kept.0 ∙ ap (λ w. w && (length rs == n)) begun.whole_is ∙ whole_same ready (list_all is_specified ds) (length rs) (length ds) n answered;
@@ -292,4 +313,5 @@ answered_unit fs Ss u ds last spelt n e rs x m =
     let y = m.ended in
     subst (λ rs. IsAnswered fs Ss u rs x) (sym y.replies)
     (unit_answered fs Ss u ds last spelt m.beginning_is y.tail y.ends x m.begun (y.number ∙ e) y.one (λ os h. subst (AreRepliesTo 1 (with_last os last)) y.replies (y.last_is os h))
+    y.numbered (subst (λ n. AreRepliesTo (suc n) (with_last [] last) y.ends) e y.to_last)
     (subst (λ n. Keeps m.beginning_is n x) e m.kept))

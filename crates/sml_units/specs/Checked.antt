@@ -16,7 +16,7 @@ use Rattle.sml_rules.specs.Answers.{Answer, refused, accepted}
 use Rattle.sml_rules.specs.Every.{Every}
 use Rattle.sml_rules.specs.Sound.{IsSound}
 use Rattle.sml_texts.specs.Text.{text}
-use Rattle.sml_reply.specs.Replies.{reply_text, warnings_of, accepts}
+use Rattle.sml_reply.specs.Replies.{reply_text, warnings_of, accepts, number_of}
 use Rattle.sml_reply.specs.declared.reply.Reply.{Reply}
 use Rattle.sml_units.specs.Runs.{SourceUnit, RunProject, basis_after, start, exports, nothing, specified}
 use Rattle.sml_projects.specs.ProjectFiles.{UnitLine}
@@ -46,6 +46,7 @@ pub record IsReplyTo (number : ℕ) (o : Answered) (r : Reply) : Type 0 where
   pub printed : reply_text r false ≡ text naming number o
   pub unwarned : warnings_of r ≡ []
   pub accepting : accepts r ≡ is_acceptance o
+  pub numbered : number_of r ≡ number
 
 -- the replies from this number on, one for each answer
 abbrev pub AreRepliesTo : ℕ → List Answered → List Reply → Type 0
@@ -94,10 +95,26 @@ BeginWith k [] rs = Unit {0}
 BeginWith k (o ∷ os) [] = ⊥
 BeginWith k (o ∷ os) (r ∷ rs) = IsReplyTo k o r × BeginWith (suc k) os rs
 
--- There is a reply to each declaration and to the last fault. They begin with those to these answers and this last fault.
+-- replies are numbered in order, from this number on
+abbrev pub AreNumbered : ℕ → List Reply → Type 0
+AreNumbered k [] = Unit {0}
+AreNumbered k (r ∷ rs) = (number_of r ≡ k) × AreNumbered (suc k) rs
+
+-- After so many replies stands the one to the last fault, if there is one, and no other.
+pub record EndWith (n : ℕ) (last : Option (Fault Place)) (rs : List Reply) : Type 0 where
+  pub front : List Reply
+  pub ends : List Reply
+  pub whole : rs ≡ front ++ ends
+  pub many : length front ≡ n
+  pub to_last : AreRepliesTo (suc n) (with_last [] last) ends
+
+-- There is a reply to each declaration, whatever it declares, in order and numbered from 1, and after them one to the last
+-- fault. They begin with those to these answers and this last fault.
 pub record AreReplies (s : SourceUnit) (os : List Answered) (last : Option (Fault Place)) (rs : List Reply) : Type 0 where
   pub begun : BeginWith 1 (with_last os last) rs
   pub number : length rs ≡ s.number + length (option_to_list s.last)
+  pub numbered : AreNumbered 1 rs
+  pub ended : EndWith s.number s.last rs
 
 -- of each unit, and of what is specified of it
 abbrev pub AreUnitReplies : List SourceUnit → List SourceUnit → List (List Answered) → List UnitReplies → Type 0

@@ -1,5 +1,5 @@
 -- What the code makes of one unit, and keeps of it for those that need it. No public contract rests on this.
-use Rattle.std.specs.Prelude.{◌≡◌, ℕ, Bool, true, false, cond, ◌&&◌, ◌==◌, List, [], ◌∷◌, ◌++◌, ◌+◌, length, Option, Some, None, IfSome}
+use Rattle.std.specs.Prelude.{◌≡◌, ℕ, suc, Bool, true, false, cond, ◌&&◌, ◌==◌, List, [], ◌∷◌, ◌++◌, ◌+◌, length, Option, Some, None, IfSome}
 use Rattle.std.specs.List.{list_all}
 use Rattle.std.specs.Option.{is_some, option_to_list}
 use Rattle.sml_lex.specs.declared.fault.Place.{Place}
@@ -20,7 +20,7 @@ use Rattle.sml_exports.specs.declared.exports.Exports.{Exports}
 use Rattle.sml_units.specs.Runs.{SourceUnit, Run, basis_after, start, needed, all_names, exports, nothing, specified_unit, specified_beginning, flag_at, is_whole}
 use Rattle.sml_units.specs.declared.project.Beginning.{Beginning}
 use Rattle.sml_projects.specs.Orders.{UnitText}
-use Rattle.sml_units.specs.Checked.{Answered, IsReplyTo, AreRepliesTo, AreReplies, IsSourceOf, with_last}
+use Rattle.sml_units.specs.Checked.{Answered, IsReplyTo, AreRepliesTo, AreNumbered, AreReplies, IsSourceOf, with_last}
 
 -- what an answered declaration adds to an environment
 abbrev pub env_after : Env Name → Answered → Env Name
@@ -45,7 +45,8 @@ pub record IsBegun (maker : ℕ) (ready : Bool) (B : Basis Name) (ds : List (Dec
   pub bound_is : env_of b.bound.env ≡ (exports nothing answers).body
   pub whole_is : b.is_whole ≡ (ready && list_all is_specified ds)
 
--- Replies begin with these, there is one to each of so many declarations and to the last fault, and this is the last.
+-- Replies begin with these, there is one to each of so many declarations and to the last fault, numbered in order, and this
+-- is the last.
 pub record AreEnded (begun : List Reply) (n : ℕ) (last : Option (Fault Place)) (rs : List Reply) : Type 0 where
   pub tail : List Reply
   pub ends : List Reply
@@ -53,6 +54,8 @@ pub record AreEnded (begun : List Reply) (n : ℕ) (last : Option (Fault Place))
   pub number : length begun + length tail ≡ n
   pub one : length ends ≡ length (option_to_list last)
   pub last_is : (os : List Answered) → AreRepliesTo 1 os (begun ++ tail) → AreRepliesTo 1 (with_last os last) rs
+  pub numbered : AreNumbered (suc (length begun)) tail
+  pub to_last : AreRepliesTo (suc n) (with_last [] last) ends
 
 -- What is kept of a unit for those that need it: what its declarations bind, where all of it is specified.
 pub record IsExported (whole : Bool) (S : Sig Name) (x : Exports) : Type 0 where

@@ -270,7 +270,7 @@ fn after(declarations: &[TopDec], count: usize) -> &[TopDec]
 /// The replies with that to the unit's last fault, if there is one.
 fn and_last(mut replies: Vec<Reply>, fault: Option<Fault>) -> Result<Vec<Reply>, Memory>
     ensures last { IfOk result (λ rs. (os : List Answered) → AreRepliesTo 1 os replies.items → AreRepliesTo 1 (with_last os (option_map fault_of fault)) rs.items) }
-    ensures more { IfOk result (λ rs. (tail : List Reply) × (rs.items ≡ replies.items ++ tail) × (length tail ≡ length (option_to_list fault))) }
+    ensures more { IfOk result (λ rs. (tail : List Reply) × (rs.items ≡ replies.items ++ tail) × (length tail ≡ length (option_to_list fault)) × AreRepliesTo (length replies.items + 1) (with_last [] (option_map fault_of fault)) tail) }
 {
     match fault {
         Some(fault) => {

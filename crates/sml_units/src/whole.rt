@@ -1,7 +1,9 @@
 //! The whole language: units that aren't all of the piece.
 
-ghost use Rattle.std.specs.Prelude.{◌≡◌, ◌++◌, IfOk, List, length};
+ghost use Rattle.std.specs.Prelude.{◌≡◌, ◌+◌, ◌++◌, IfOk, List, length};
+ghost use Rattle.sml_reply.specs.Replies.{number_of};
 ghost use Rattle.sml_reply.specs.declared.reply.Reply.{Reply};
+ghost use Rattle.sml_units.specs.Checked.{AreNumbered};
 
 use crate::project::number_after;
 use sml_bases::objects::Basis as WholeBasis;
@@ -52,7 +54,7 @@ pub(crate) fn answer_rest(
     mut replies: Vec<Reply>,
     declarations: &[TopDec],
 ) -> Result<Vec<Reply>, Memory>
-    ensures { IfOk result (λ rs. (tail : List Reply) × (rs.items ≡ replies.items ++ tail) × (length tail ≡ length declarations.now)) }
+    ensures { IfOk result (λ rs. (tail : List Reply) × (rs.items ≡ replies.items ++ tail) × (length tail ≡ length declarations.now) × AreNumbered (length replies.items + 1) tail) }
 {
     for dec in declarations {
         let number = number_after(replies.len())?;
@@ -69,7 +71,9 @@ fn answer(
     paths: &mut Paths,
     number: u32,
     dec: &TopDec,
-) -> Result<Reply, Memory> {
+) -> Result<Reply, Memory>
+    ensures { IfOk result (λ r. number_of r ≡ number) }
+{
     match topdec(alloc, basis, dec) {
         Ok((own, warnings)) => {
             let reply = Reply::environment(alloc, number, &own, paths, warnings)?;

@@ -1,11 +1,13 @@
-use Rattle.std.proofs.Common.{◌≡◌, ◌≢◌, ◌+◌, ◌++◌, ◌⊎◌, ℕ, zero, suc, true, false, ◌&&◌, inl, inr, length, ap, sym, subst, ◌∙◌, arith}
+use Rattle.std.proofs.Common.{◌≡◌, ◌≢◌, ◌+◌, ◌++◌, ◌⊎◌, ℕ, zero, suc, [], true, false, ◌&&◌, inl, inr, length, ap, sym, subst, ◌∙◌, arith}
 use Rattle.std.specs.Prelude.{◌==◌}
 use Rattle.std.proofs.Math.Dec.{eqb, eqb-suc-zero}
 use Rattle.std.proofs.lemmas.Bool.{eq-eqb}
 use Rattle.std.proofs.lemmas.Bool.Decides.{eqb_tells}
-use Rattle.sml_units.specs.Checked.{AreRepliesTo}
+use Rattle.sml_units.specs.Checked.{AreRepliesTo, AreNumbered, with_last}
 use Rattle.sml_lex.specs.Faults.{fault_of}
 use Rattle.sml_units.proofs.Replying.{as_many}
+use Rattle.std.specs.Option.{option_map}
+use Rattle.std.proofs.lemmas.List.{length-append}
 use Rattle.sml_units.proofs.project.end.Goals as goal
 
 pub returns-clause-replies : goal.returns-clause-replies
@@ -19,6 +21,9 @@ returns-clause-replies c =
       number = (let a = c.len.ensures in let b = c.after-rest.ensures in let n = rest.2 in omega (arith, a, b, n));
       one = all.2 ∙ as_many fault_of c.args.fault;
       last_is = λ os h. c.in_ok-replies-2.ensures.last os (subst (AreRepliesTo 1 os) (sym rest.1) h);
+      numbered = subst (λ k. AreNumbered k rest.0) (omega arith) rest.3;
+      to_last = subst (λ k. AreRepliesTo k (with_last [] (option_map fault_of c.args.fault)) all.0)
+          (let a = c.len.ensures in let b = c.after-rest.ensures in let n = rest.2 in let l = ap length rest.1 ∙ length-append c.args.begun.replies.items rest.0 in omega (arith, a, b, n, l)) all.3;
     }
 
 -- nothing is left after the first k of n where k is n

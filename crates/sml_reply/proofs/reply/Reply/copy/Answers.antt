@@ -11,4 +11,4 @@ returns-in_ok-copy-in-Accepted-clause-text c =
 pub returns-in_ok-copy-in-Refused-clause-text : goal.returns-in_ok-copy-in-Refused-clause-text
 unfolding form_text
 returns-in_ok-copy-in-Refused-clause-text c =
-    λ form. c.in_ok-copy-in-Refused.ensures ∙ sym (ap (λ r. form_text r form) c.in-Refused.is)
+    λ form. c.in_ok-copy-in-Refused.ensures.text ∙ sym (ap (λ r. form_text r form) c.in-Refused.is)

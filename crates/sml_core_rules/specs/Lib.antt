@@ -11,6 +11,8 @@ pub mod Patterns
 pub mod Closing
 pub mod Expressions
 pub mod Contexts
+pub mod Initial
+pub mod Scopes
 pub mod Assigned
 pub mod Rules
 pub mod Statements

@@ -4,6 +4,9 @@ pub mod Matching
 pub mod Bound
 pub mod Signatures
 pub mod Structures
+pub mod WellFormed
+pub mod Rules
 pub mod Programs
 pub mod Projects
+pub mod Soundness
 pub mod Statements

@@ -1,0 +1,6 @@
+pub mod Places
+pub mod Sources
+pub mod Runs
+pub mod Likeness
+pub mod Seals
+pub mod Samples

@@ -3,17 +3,12 @@
 use Rattle.std.specs.Prelude.{ℕ, true, false, Bool, List, [], ◌∷◌, ◌++◌, codes, map}
 use Rattle.sml_tree.specs.Trees.{Id}
 use Rattle.sml_objects.specs.Initial.{Name, initial}
-use Rattle.sml_objects.specs.Maps.{Map, put}
+use Rattle.sml_objects.specs.Maps.{Map, join}
 use Rattle.sml_objects.specs.Names.{Initial, int, word, char, string, bool, exn, real, list, ref}
 use Rattle.sml_objects.specs.Objects.{MlType, Scheme, bound, app, row, name, no_type, and_type, arrow_of, named, tuple_of}
 use Rattle.sml_layers.specs.declared.class.Class.{Class}
 use Rattle.sml_layers.specs.declared.class.Class.TheVariants.{WordInt, RealInt, Num, NumTxt}
 use Rattle.sml_core_rules.specs.Objects.{Env, Value, TyStr, Basis, Status, variable, constructor, exception, overloaded, maps, no_structure}
-
--- the entries of a list as a map
-abbrev pub in_order : {X : Type 0} → List (Id × X) → Map X
-in_order [] = []
-in_order (e ∷ es) = put e.0 e.1 (in_order es)
 
 -- Types: `'a`, `'b` and `'c`, names with no argument or with one, pairs and arrows
 
@@ -76,8 +71,8 @@ list_constructors = (codes "::", poly (a ⊗ of list a ⟶ of list a)) ∷ (code
 abbrev pub ref_constructors : Map (Scheme Name)
 ref_constructors = (codes "ref", poly (a ⟶ of ref a)) ∷ []
 
-abbrev pub type_constructors : List (Id × TyStr Name)
-type_constructors =
+abbrev pub initial_types : List (Id × TyStr Name)
+initial_types =
     (codes "unit", plain (mono unit))
     ∷ (codes "int", plain (mono (ty int)))
     ∷ (codes "word", plain (mono (ty word)))
@@ -164,8 +159,12 @@ functions =
 abbrev pub initial_names : List Name
 initial_names = map initial (int ∷ word ∷ char ∷ string ∷ bool ∷ exn ∷ real ∷ list ∷ ref ∷ [])
 
+abbrev pub initial_values : List (Id × Value Name)
+initial_values = constructors ++ (exceptions ++ (overloaded_values ++ functions))
+
+-- in byte order
 unfoldable pub initial_env : Env Name
-initial_env = maps no_structure (in_order type_constructors) (in_order (constructors ++ (exceptions ++ (overloaded_values ++ functions))))
+initial_env = maps no_structure (join [] initial_types) (join [] initial_values)
 
 abbrev pub initial_basis : Basis Name
 initial_basis = record { names = initial_names; functors = []; signatures = []; body = initial_env }

@@ -1,0 +1,5 @@
+// The initial basis.
+#![tactic(auto)]
+
+pub mod initial;
+mod table;

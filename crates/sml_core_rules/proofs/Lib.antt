@@ -14,6 +14,7 @@ pub mod Plain
 pub mod Accepted
 pub mod Steady
 pub mod Claims
+pub mod Runs
 pub mod Assigned
 pub mod Fits
 pub mod Apart

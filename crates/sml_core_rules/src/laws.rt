@@ -2,6 +2,7 @@
 
 ghost use Rattle.sml_objects.specs.Initial.{Name, naming};
 ghost use Rattle.sml_core_rules.specs.Statements.{DerivationsMove, ObjectsObeyLaws, PatternsFit, ReadingsAgree, ReadingsDerive, ReadingsMove, SchemesAreOne};
+ghost use Rattle.sml_core_rules.specs.Scopes.{RunsHaveScopes};
 ghost use Rattle.sml_core_rules.specs.States.{Scope};
 
 /// Renaming by the identity changes nothing, renaming twice is renaming by the composition, and the names of a renamed
@@ -42,4 +43,9 @@ pub fn schemes_are_one()
 /// whichever new names were taken.
 pub fn readings_agree()
     ensures { (scope : Scope Name) → ReadingsAgree scope }
+{}
+
+/// The names of a run are a scope for each of its units: explicit variables have names of their own, which no unit makes.
+pub fn runs_have_scopes()
+    ensures { RunsHaveScopes }
 {}

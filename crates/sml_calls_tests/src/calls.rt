@@ -3,8 +3,8 @@
 
 use sml_bases::objects::{Basis, Env, Sig};
 use sml_core::declarations::core;
-use sml_envs::initial::initial;
 use sml_graph::demand::Halt;
+use sml_initial::initial::initial;
 use sml_lex::fault::{Code, Fault, Memory};
 use sml_lex::lexer::lex;
 use sml_match::enrich::enriches;

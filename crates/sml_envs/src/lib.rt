@@ -1,11 +1,10 @@
-// What is done with environments, signatures, functors and bases: replaced, numbered, compared; the initial basis.
+// What is done with environments, signatures, functors and bases: replaced, numbered, compared.
 #![tactic(auto)]
 
 pub mod canonical;
 pub mod comparisons;
 pub mod extents;
 pub mod functions;
-pub mod initial;
 pub mod mapping;
 pub mod new_names;
 mod order;

@@ -4,7 +4,7 @@ use crate::needs::{empty, paths_of_needs};
 use crate::project::Checked;
 use crate::whole::{put, whole_basis};
 use sml_bases::objects::Basis as WholeBasis;
-use sml_envs::initial::initial;
+use sml_initial::initial::initial;
 use sml_lex::fault::Memory;
 use sml_modules::modules::topdec;
 use sml_reply::paths::Paths;

@@ -3,11 +3,11 @@
 use crate::project::{Checked, Read, Replies, UnitReplies, check_unit, sources_of};
 use indexmap::IndexMap;
 use sml_bases::objects::Basis as WholeBasis;
-use sml_envs::initial::initial;
 use sml_exports::comparison::are_same_exports;
 use sml_exports::exports::Exports;
 use sml_exports::moved::moved;
 use sml_exports::moves::Moves;
+use sml_initial::initial::initial;
 use sml_lex::fault::Memory;
 use sml_projects::project::{Project, ProjectUnit};
 use sml_reply::reply::Reply;

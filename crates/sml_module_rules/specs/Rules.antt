@@ -6,8 +6,8 @@ use Rattle.sml_tree.specs.Trees.{Id, LongId}
 use Rattle.sml_tree.specs.Names.{LongName}
 use Rattle.sml_tree.specs.Types.{Ty}
 use Rattle.sml_tree.specs.Expressions.{ConBind, DatBind}
-use Rattle.sml_tree.specs.Signatures.{WhereType, ValDesc, TypDesc, SigExp, Spec, Specs, StrDescs, SigBind, sig_end, sig_name, where_type, val_spec, type_spec, eqtype_spec, datatype_spec, copy_spec, exception_spec, structure_spec, include_spec, sharing_types, sharing_structures, no_spec, and_spec, str_desc, no_str_desc, and_str_desc}
-use Rattle.sml_tree.specs.Structures.{StrExp, StrDec, StrDecs, StrBinds, FunBind, TopDec, struct_end, str_name, ascribed, functor_apply, str_let, core_dec, structure_dec, str_local, no_str_dec, and_str_dec, str_bind, no_str_bind, and_str_bind, top_str, signature_dec, functor_dec}
+use Rattle.sml_tree.specs.Signatures.{WhereType, ValDesc, TypDesc, SigExp, Spec, Specs, StrDescs, sig_end, sig_name, where_type, val_spec, type_spec, eqtype_spec, datatype_spec, copy_spec, exception_spec, structure_spec, include_spec, sharing_types, sharing_structures, no_spec, and_spec, str_desc, no_str_desc, and_str_desc}
+use Rattle.sml_tree.specs.Structures.{StrExp, StrDec, StrDecs, StrBinds, SigBind, FunBind, TopDec, struct_end, str_name, ascribed, functor_apply, str_let, core_dec, structure_dec, str_local, no_str_dec, and_str_dec, str_bind, no_str_bind, and_str_bind, top_str, signature_dec, functor_dec}
 use Rattle.sml_tree.specs.declared.structures.Ascription.TheVariants.{Transparent, Opaque}
 use Rattle.sml_objects.specs.Appearance.{Stands, HaveSameNames}
 use Rattle.sml_objects.specs.Equality.{has_equality}
@@ -179,6 +179,10 @@ module _ {N : Type 0} (scope : Scope N) where
       pub names : HasNames R.names S.names (name ∷ []) []
       pub body : R.body ≡ realise_env (with_function scope.names name (type_function w.variables type) (no_function scope.names)) S.body
 
+    -- the second after the first, which specifies nothing of it
+    abbrev pub Adds : Sig N → Sig N → Sig N → Type 0
+    Adds S R Q = (specifies_again S.body R.body ≡ false) × (Q ≡ record { names = S.names ++ R.names; body = extend S.body R.body })
+
     unfoldable mutual
       -- Signature expressions (rules 62 to 65), with the names that they bind
       pub Signs : {P : Type 0} → Basis N → SigExp P → Sig N → Type 0
@@ -208,9 +212,6 @@ module _ {N : Type 0} (scope : Scope N) where
       Follows B S (sharing_types p xs) Q = (ns : List N) × AreBoundAt S xs ns × Joins B S ns Q
       Follows B S (sharing_structures p xs) Q =
           AllByRecursion (λ x. (E : Env N) × (structure_at S.body x.id ≡ found E)) xs × SharesPairs B S (all_pairs S xs) Q
-
-      pub Adds : Sig N → Sig N → Sig N → Type 0
-      Adds S R Q = (specifies_again S.body R.body ≡ false) × (Q ≡ record { names = S.names ++ R.names; body = extend S.body R.body })
 
       -- structures, which see none of each other (rules 74 and 84)
       pub DescribeStructures : {P : Type 0} → Basis N → Sig N → StrDescs P → Sig N → Type 0

@@ -44,13 +44,21 @@ use Part::{Function, Name, Of, OfLists, Unit, Variable};
 use Shape::{OfOne, OfTwo, Plain};
 
 const A: Part = Variable(0);
+
 const INT: Part = Name(Initial::Int);
+
 const REAL: Part = Name(Initial::Real);
+
 const STRING: Part = Name(Initial::String);
+
 const CHAR: Part = Name(Initial::Char);
+
 const BOOL: Part = Name(Initial::Bool);
+
 const EXN: Part = Name(Initial::Exn);
+
 const LIST: Part = Of(Initial::List, 0);
+
 const REF: Part = Of(Initial::Ref, 0);
 
 pub(crate) const TYPES: [TypeRow; 10] = [
@@ -77,26 +85,36 @@ pub(crate) const TYPES: [TypeRow; 10] = [
 ];
 
 const VALUE: Status = Status::Variable;
+
 const EXCEPTION: Status = Status::Exception;
+
 const NUM: Status = Status::Overloaded(Class::Num);
+
 const REAL_INT: Status = Status::Overloaded(Class::RealInt);
+
 const WORD_INT: Status = Status::Overloaded(Class::WordInt);
+
 const NUM_TXT: Status = Status::Overloaded(Class::NumTxt);
+
 const FIRST_OF_TWO: Status = Status::Constructor {
     number: 0,
     count: 2,
 };
+
 const SECOND_OF_TWO: Status = Status::Constructor {
     number: 1,
     count: 2,
 };
+
 const ONE: Status = Status::Constructor {
     number: 0,
     count: 1,
 };
 
 const OPERATION: Shape = OfTwo(A, A, A);
+
 const SIGN: Shape = OfOne(A, A);
+
 const COMPARISON: Shape = OfTwo(A, A, BOOL);
 
 pub(crate) const VALUES: [ValueRow; 43] = [

@@ -20,13 +20,21 @@ sealed-bodies = record {
 pub likeness-samples : LikenessSamples
 likeness-samples = record {
   sealed_alike = (refl, inr sealed-bodies, refl, inl refl, tt);
-  opened_alike = ((refl, refl, refl, inr (record {
-    first_body = sealed 5 empty_body;
-    second_body = sealed 7 other_body;
-    first = record { place = at 30; open_place = at 30; name_place = at 30; is = refl };
-    second = record { place = at 30; open_place = at 30; name_place = at 30; is = refl };
-    alike = sealed-bodies;
-  })), tt);
+  opened_alike = (
+    (
+      refl,
+      refl,
+      refl,
+      inr (record {
+        first_body = sealed 5 empty_body;
+        second_body = sealed 7 other_body;
+        first = record { place = at 30; open_place = at 30; name_place = at 30; is = refl };
+        second = record { place = at 30; open_place = at 30; name_place = at 30; is = refl };
+        alike = sealed-bodies;
+      }),
+    ),
+    tt,
+  );
   transparent_differ = λ h. elim h.1.0 [ inl e ↦ cc | inr s ↦ cc ];
   plain_differ = λ h. elim h.1.0 [ inl e ↦ cc | inr s ↦ cc ];
 }

@@ -42,48 +42,53 @@ list_of u = app (name (initial list)) (and_type u no_type)
 abbrev pub sealed : Basis Name
 sealed =
     of_env (maps
-      (and_structure (codes "S")
-        (maps no_structure ((codes "t", plain t) ∷ []) ((codes "a", value variable t) ∷ (codes "f", value variable (arrow_of t t)) ∷ []))
-        no_structure)
-      [] [])
+    (and_structure (codes "S")
+    (maps no_structure ((codes "t", plain t) ∷ []) ((codes "a", value variable t) ∷ (codes "f", value variable (arrow_of t t)) ∷ []))
+    no_structure)
+    [] [])
 
 -- datatype t = A of int -> int | B of t
 abbrev pub datatypes : Basis Name
 datatypes =
     of_env (maps no_structure
-      ((codes "t", record { function = mono t; constructors = (codes "A", mono (arrow_of (arrow_of integer integer) t)) ∷ (codes "B", mono (arrow_of t t)) ∷ [] }) ∷ [])
-      ((codes "A", value (constructor 0 2) (arrow_of (arrow_of integer integer) t)) ∷ (codes "B", value (constructor 1 2) (arrow_of t t)) ∷ []))
+    ((codes "t", record { function = mono t; constructors = (codes "A", mono (arrow_of (arrow_of integer integer) t)) ∷ (codes "B", mono (arrow_of t t)) ∷ [] }) ∷ [])
+    ((codes "A", value (constructor 0 2) (arrow_of (arrow_of integer integer) t)) ∷ (codes "B", value (constructor 1 2) (arrow_of t t)) ∷ []))
 
 -- type ('a, 'b) p = {x : 'b list, y : 'a}, type 'a q = 'a list list, exception E of int * (int * int),
 -- val f = fn (x, y) => (x = x; fn {1 = z, a = ()} => (z : 'b -> unit))
 abbrev pub types : Basis Name
 types =
     of_env (maps no_structure
-      ((codes "p", record { function = record { variables = false ∷ false ∷ []; body = app (row (codes "x" ∷ codes "y" ∷ [])) (and_type (list_of (bound 1)) (and_type (bound 0) no_type)) }; constructors = [] })
-      ∷ (codes "q", record { function = record { variables = false ∷ []; body = list_of (list_of (bound 0)) }; constructors = [] }) ∷ [])
-      ((codes "E", value exception (arrow_of (pair integer (pair integer integer)) (named (initial exn))))
-      ∷ (codes "f", record {
-          scheme = record {
-            variables = true ∷ false ∷ [];
-            body = arrow_of (pair (bound 0) (bound 1))
+    ((codes "p", record { function = record { variables = false ∷ false ∷ []; body = app (row (codes "x" ∷ codes "y" ∷ [])) (and_type (list_of (bound 1)) (and_type (bound 0) no_type)) }; constructors = [] })
+    ∷ (codes "q", record { function = record { variables = false ∷ []; body = list_of (list_of (bound 0)) }; constructors = [] }) ∷ [])
+    ((codes "E", value exception (arrow_of (pair integer (pair integer integer)) (named (initial exn))))
+    ∷ (
+      codes "f",
+      record {
+        scheme = record {
+          variables = true ∷ false ∷ [];
+          body = arrow_of (pair (bound 0) (bound 1))
               (arrow_of (app (row (codes "1" ∷ codes "a" ∷ [])) (and_type (arrow_of (bound 1) (app (row []) no_type)) (and_type (list_of (pair integer (bound 0))) no_type))) integer);
-          };
-          status = variable;
-        }) ∷ []))
+        };
+        status = variable;
+      },
+    ) ∷ []))
 
 -- functor F () = struct datatype d = C fun g C = 0 end
 abbrev pub functors : Basis Name
 functors = record {
   names = made 1 7 0 true ∷ [];
-  functors =
-    (codes "F", record {
+  functors = (
+    codes "F",
+    record {
       argument = record { names = []; body = empty };
       result = record {
         names = made 1 7 0 true ∷ [];
         body = maps no_structure ((codes "d", record { function = mono d; constructors = (codes "C", mono d) ∷ [] }) ∷ [])
-          ((codes "C", value (constructor 0 1) d) ∷ (codes "g", value variable (arrow_of d integer)) ∷ []);
+            ((codes "C", value (constructor 0 1) d) ∷ (codes "g", value variable (arrow_of d integer)) ∷ []);
       };
-    }) ∷ [];
+    },
+  ) ∷ [];
   signatures = [];
   body = empty;
 }
@@ -93,11 +98,13 @@ abbrev pub signatures : Basis Name
 signatures = record {
   names = made 1 0 0 false ∷ [];
   functors = [];
-  signatures =
-    (codes "G", record {
+  signatures = (
+    codes "G",
+    record {
       names = made 1 0 0 false ∷ [];
       body = maps no_structure ((codes "t", plain t) ∷ (codes "u", plain t) ∷ []) ((codes "x", value variable t) ∷ []);
-    }) ∷ [];
+    },
+  ) ∷ [];
   body = empty;
 }
 
@@ -105,10 +112,10 @@ signatures = record {
 abbrev pub before : Env Name
 before =
     maps
-      (and_structure (codes "R") (maps no_structure ((codes "t", plain t) ∷ []) [])
-        (and_structure (codes "S") (maps (and_structure (codes "T") (maps no_structure ((codes "t", plain t) ∷ []) []) no_structure) ((codes "a", plain t) ∷ []) [])
-          no_structure))
-      ((codes "bool", plain t) ∷ (codes "s", plain (pair t d)) ∷ []) []
+    (and_structure (codes "R") (maps no_structure ((codes "t", plain t) ∷ []) [])
+    (and_structure (codes "S") (maps (and_structure (codes "T") (maps no_structure ((codes "t", plain t) ∷ []) []) no_structure) ((codes "a", plain t) ∷ []) [])
+    no_structure))
+    ((codes "bool", plain t) ∷ (codes "s", plain (pair t d)) ∷ []) []
 
 -- val y = .. of the type d * t * t, and the same after its names were numbered from 5 on
 abbrev pub value_before : MlType Name → MlType Name → Basis Name

@@ -18,9 +18,12 @@ AreSameStructures e g = place_str {Q = Unit {0}} (λ p. tt) e ≡ place_str (λ 
 
 -- `e :> s` and `g :> r`, where s and r are the same
 pub record AreSealedAlike (e g : StrExp Place) : Type 0 where
-  pub first_place second_place : Place
-  pub first_body second_body : StrExp Place
-  pub first_signature second_signature : SigExp Place
+  pub first_place : Place
+  pub second_place : Place
+  pub first_body : StrExp Place
+  pub second_body : StrExp Place
+  pub first_signature : SigExp Place
+  pub second_signature : SigExp Place
   pub first : e ≡ ascribed first_place first_body Opaque first_signature
   pub second : g ≡ ascribed second_place second_body Opaque second_signature
   pub signatures : AreSameSignatures first_signature second_signature
@@ -36,12 +39,15 @@ AreBindingsAlike bs cs = ⊥
 
 -- `let open x in e end`, as which the body of a functor is written whose argument is given by specifications
 pub record Opens (x : Id) (e body : StrExp Place) : Type 0 where
-  pub place open_place name_place : Place
+  pub place : Place
+  pub open_place : Place
+  pub name_place : Place
   pub is : e ≡ str_let place (and_str_dec (core_dec (open_dec open_place (record { place = name_place; id = record { path = []; last = x } } ∷ []))) no_str_dec) body
 
 -- both open the argument around bodies that are alike
 pub record AreOpenedAlike (x : Id) (e g : StrExp Place) : Type 0 where
-  pub first_body second_body : StrExp Place
+  pub first_body : StrExp Place
+  pub second_body : StrExp Place
   pub first : Opens x e first_body
   pub second : Opens x g second_body
   pub alike : AreSealedAlike first_body second_body

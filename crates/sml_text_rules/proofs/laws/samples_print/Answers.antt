@@ -1,3 +1,4 @@
+use Rattle.std.proofs.Common.{refl}
 use Rattle.sml_text_rules.proofs.laws.samples_print.Goals as goal
 
 pub returns : goal.returns

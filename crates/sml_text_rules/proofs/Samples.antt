@@ -1,19 +1,16 @@
 -- Samples of what is printed, by computing.
 use Rattle.std.proofs.Common.{refl}
-use Rattle.sml_objects.specs.Appearance.{appear_type, appear_types, stands, firsts_after}
-use Rattle.sml_objects.specs.Canonical.{index_of, renumber}
-use Rattle.sml_objects.specs.Initial.{naming}
-use Rattle.sml_objects.specs.Objects.{rename_type, rename_types, rename_scheme}
+use Rattle.sml_objects.specs.Appearance.{stands}
+use Rattle.sml_objects.specs.Canonical.{index_of}
 use Rattle.sml_objects.specs.Types.{replace_type, replace_types, variables_after, variables_after_all, index_among}
 use Rattle.sml_texts.specs.Text.{say, variable, joined, bracketed, show_head, levels, initial_text, initial_among, code_text, meaning, detail_text, fault_text}
-use Rattle.sml_core_rules.specs.Objects.{replace, replace_structures}
 use Rattle.sml_module_rules.specs.Lines.{lines, structure_lines}
 use Rattle.sml_module_rules.specs.Realising.{are_parameters}
-use Rattle.sml_text_rules.specs.Samples.{TextSamples}
+use Rattle.sml_text_rules.specs.Samples.{TextSamples, same}
 use Rattle.sml_text_rules.specs.Texts.{type_pieces, types_pieces, spell, warning_text}
 
 pub text-samples : TextSamples
-unfolding appear_type appear_types stands firsts_after index_of renumber naming rename_type rename_types rename_scheme replace_type replace_types variables_after variables_after_all index_among say variable joined bracketed show_head levels initial_text initial_among code_text meaning detail_text fault_text replace replace_structures lines structure_lines are_parameters type_pieces types_pieces spell warning_text
+unfolding same stands index_of replace_type replace_types variables_after variables_after_all index_among say variable joined bracketed show_head levels initial_text initial_among code_text meaning detail_text fault_text lines structure_lines are_parameters type_pieces types_pieces spell warning_text
 text-samples = record {
   structure = refl;
   datatype = refl;
@@ -21,9 +18,7 @@ text-samples = record {
   functor = refl;
   signature = refl;
   path = refl;
-  canonical_names = refl;
-  kept_names = refl;
   refusal = refl;
-  warned = refl;
+  warning = refl;
   unwarned = refl;
 }

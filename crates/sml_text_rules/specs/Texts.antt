@@ -1,7 +1,7 @@
 -- The text of the lines of a reply. A name prints as its path, where it is given one; the other names are numbered in the order in
 -- which they are printed first.
-use Rattle.std.specs.Prelude.{ℕ, suc, Bool, true, false, ◌&&◌, nat_eq, nat_lt, cond, List, [], ◌∷◌, ◌++◌, length, map, codes, decimal, slice_index_or, Option, Some, None}
-use Rattle.std.specs.List.{flat_map, range_with_len}
+use Rattle.std.specs.Prelude.{ℕ, zero, suc, Bool, true, false, ◌&&◌, nat_eq, nat_lt, cond, List, [], ◌∷◌, ◌++◌, length, codes, decimal, slice_index_or, Option, Some, None}
+use Rattle.std.specs.List.{flat_map}
 use Rattle.sml_lex.specs.declared.fault.Place.{Place}
 use Rattle.sml_lex.specs.declared.fault.Warning.{Warning}
 use Rattle.sml_tree.specs.Trees.{Id, LongId}
@@ -69,10 +69,14 @@ variable_name false k = variable k
 abbrev pub scheme_pieces : {N : Type 0} → Scheme N → List (Piece N)
 scheme_pieces σ = type_pieces (λ k. variable_name (slice_index_or σ.variables k false) (index_among k (variables_after [] (instance_from 0 σ.body)))) 0 σ.body
 
+-- so many variables from k on
+abbrev pub variables_from : {N : Type 0} → ℕ → ℕ → List (List (Piece N))
+variables_from k zero = []
+variables_from k (suc n) = say (variable k) ∷ variables_from (suc k) n
+
 -- the parameters of a type function, by position
 abbrev pub parameters : {N : Type 0} → ℕ → List (Piece N)
-parameters n =
-    bracketed (nat_lt 1 n) (joined (codes ", ") (map (λ k. say (variable k)) (range_with_len 0 n))) ++ cond (nat_lt 0 n) (say (codes " ")) []
+parameters n = bracketed (nat_lt 1 n) (joined (codes ", ") (variables_from 0 n)) ++ cond (nat_lt 0 n) (say (codes " ")) []
 
 abbrev pub type_word : {X : Type 0} → Map X → List ℕ
 type_word [] = codes "  type "

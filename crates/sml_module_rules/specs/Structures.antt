@@ -57,7 +57,7 @@ add_basis B A = record {
 abbrev pub IsSmallBasis : {N : Type 0} → Basis N → Type 0
 IsSmallBasis A = AllByRecursion (λ e. IsSmallEnv e.1.result.body) A.functors × IsSmallEnv A.body
 
--- Parts, each with all types of its values determined, or None in its place.
+-- Parts of a declaration: what each binds, or None where a type of it was left open
 
 abbrev pub names_part : {N : Type 0} → Option (Basis N) → List N
 names_part None = []
@@ -121,12 +121,14 @@ module _ {P N : Type 0} (scope : Scope N) where
   abbrev pub IsDetermined : State P N → Basis N → Basis N → Type 0
   IsDetermined s A C = (σ : Assignment N finite) → Meets scope s Rigidity σ → basis_with_types σ A ≡ C
 
+  -- an answer to a part without its state, where all types are determined, or None in its place
   abbrev pub IsMarked : Answer P (Basis N × State P N) → Answer P (Option (Basis N)) → Type 0
   IsMarked (refused f) o = o ≡ refused f
   IsMarked (accepted r) o =
       ((C : Basis N) × IsDetermined r.1 r.0 C × (o ≡ accepted (Some C))) ⊎ (((C : Basis N) → ¬ (IsDetermined r.1 r.0 C)) × (o ≡ accepted None))
 
-  -- what a part may be answered that is read alone: nothing was made before but these names, and nothing asked
+  -- What a part may be answered that is read alone: no name is made again that is one of these, and nothing was asked or made before
+  -- it.
   abbrev pub IsAlone : List N → Script P N (Basis N) → Answer P (Option (Basis N)) → Type 0
   IsAlone ns k o = (r : Answer P (Basis N × State P N)) × IsAnswer scope k (at_first ns) r × IsMarked r o
 
@@ -209,6 +211,7 @@ module _ {P N : Type 0} (scope : Scope N) where
       E ← read_str (extend B.body (one_structure b.argument.id S.body)) b.body
       give (of_functor b.name.id (record { argument = S; result = record { names = []; body = E } }))
 
+    -- a declaration of one part
     abbrev pub read_inside : StrDec P → Script P N (Basis N)
     read_inside d = do
       E ← read_strdec B.body d
@@ -235,6 +238,7 @@ module _ {P N : Type 0} (scope : Scope N) where
         ⊎ (IsSmallBasis A × ¬ (AreFew scope B.names (own_basis scope B.names A)) × (o ≡ refused (fault Q3 p)))
         ⊎ (IsSmallBasis A × AreFew scope B.names (own_basis scope B.names A) × (o ≡ accepted (own_basis scope B.names A)))
 
+    -- the same, or the fault of a part
     abbrev pub IsAnswered : P → Answer P (List (Option (Basis N))) → Answer P (Basis N) → Type 0
     IsAnswered p (refused f) o = o ≡ refused f
     IsAnswered p (accepted ms) o = IsExported p (all_bound ms) o

@@ -1,5 +1,5 @@
 -- Samples of structures against signatures.
-use Rattle.std.specs.Prelude.{◌≡◌, ◌++◌, true, false, [], ◌∷◌, codes}
+use Rattle.std.specs.Prelude.{◌≡◌, ◌++◌, true, false, [], ◌∷◌, codes, None}
 use mathlib.Core.Path.{refl, ap}
 use mathlib.Core.Logic.{inl, inr}
 use native.Mathlib.Decide.{ℕ_discrete}
@@ -12,6 +12,8 @@ use Rattle.sml_objects.specs.Objects.{MlType, Outside, names_type, names_types, 
 use Rattle.sml_objects.specs.Sizes.{type_size, types_size}
 use Rattle.sml_objects.specs.Fates.{close_as}
 use Rattle.sml_objects.specs.Types.{replace_type, replace_types, variables_after, variables_after_all, index_among}
+use Rattle.sml_lex.specs.declared.fault.Code.TheVariants.{E3}
+use Rattle.sml_rules.specs.Answers.{refused, accepted, fault_at}
 use Rattle.sml_rules.specs.Matching.{realise_type, realise_types}
 use Rattle.sml_layers.specs.Demands.{equal, asks, Mentions}
 use Rattle.sml_layers.specs.Demands as D
@@ -19,7 +21,7 @@ use Rattle.sml_core_rules.specs.Answers as A
 use Rattle.sml_core_rules.specs.Closing.{unguarded, ty_variables, tys_variables, is_expansive, pat_variables, exp_variables}
 use Rattle.sml_core_rules.specs.Datatypes.{AreNew, admits_by, all_admit_by, read_type_binds, read_arguments, read_all_arguments}
 use Rattle.sml_core_rules.specs.Lookups.{find_at, type_at, value_at, structure_at}
-use Rattle.sml_core_rules.specs.Objects.{Basis, Value, variable, values, of_values, names_in, names_structures, names_env, replace, replace_structures}
+use Rattle.sml_core_rules.specs.Objects.{Basis, Value, no_structure, and_structure, structures, variable, values, of_values, names_in, names_structures, names_env, replace, replace_structures}
 use Rattle.sml_core_rules.specs.Patterns.{read_pat}
 use Rattle.sml_core_rules.specs.Solutions.{IsAlways, IsFixed}
 use Rattle.sml_core_rules.specs.States.{State, words, with_demand, with_unknowns}
@@ -31,10 +33,10 @@ use Rattle.sml_module_rules.specs.Lines.{lines, structure_lines}
 use Rattle.sml_module_rules.specs.Matching.{read_realisation, require_lines}
 use Rattle.sml_module_rules.specs.Realising.{are_parameters, with_names}
 use Rattle.sml_module_rules.specs.Signatures.{read_sig, read_specs, read_spec, read_values, read_exceptions}
-use Rattle.sml_module_rules.specs.Structures.{read_str, read_strs, read_strdec, read_str_binds}
+use Rattle.sml_module_rules.specs.Structures.{AreAlone, read_str, read_strs, read_strdec, read_str_binds}
 use Rattle.sml_samples.specs.Around.{Place, scope, initial_names, around, type_of, value_of}
-use Rattle.sml_samples.specs.Modules.{one_structure}
-use Rattle.sml_samples.specs.Matches.{MatchSamples, boxes_binding}
+use Rattle.sml_samples.specs.Modules.{RefusesTop, one_structure}
+use Rattle.sml_samples.specs.Matches.{MatchSamples, boxes_binding, open_group}
 use Rattle.sml_samples.proofs.Alone.{top, accepts, refuses, stays-open}
 use Rattle.sml_samples.proofs.Steps.{◌⊳◌}
 use Rattle.sml_samples.proofs.Names.{first-made, made-outside, outside-both}
@@ -93,6 +95,20 @@ type_of_first (e ∷ vs) = e.1.scheme.body
 
 abbrev first_type : Basis Name → MlType Name
 first_type C = type_of_first (values C.body)
+
+-- an open type in a part, and a fault in the next one
+
+abbrev inner_type : Basis Name → MlType Name
+inner_type C = elim (structures C.body) [ no_structure ↦ itself | and_structure x E ss ↦ type_of_first (values E) ]
+
+group-refused : RefusesTop open_group (fault_at E3 24 (codes "C" ∷ []))
+unfolding AreAlone IsAnswer ◌>>=◌ A.◌>>=◌ read_dec read_binds read_patterns read_rights read_exp read_pat find_at structure_at value_at type_size types_size replace_type replace_types close_as variables_after variables_after_all index_among naming unguarded pat_variables exp_variables is_expansive read_str read_strs read_strdec replace replace_structures IsAlways has_unknown
+group-refused =
+    let open_part =
+    refl ⊳ refl ⊳ (X.types (type_of int), X.met-int.1.1.1) ⊳ refl ⊳ (X.types (type_of int), X.met-int.1.1)
+    ⊳ (X.types (type_of int), X.met-int.1) ⊳ (X.types (type_of int), X.met-int) ⊳ tt
+    ⊳ (mono (arrow_of (free 2) (free 2)), X.scheme, (omega arith, tt) ⊳ (X.types (type_of int), X.met-closed-int) ⊳ refl) in
+    (refused _, inr (None, (accepted _, open_part, inr ((λ C h. X.open-ended (inner_type C) (λ σ m. ap inner_type (h σ m))), refl)), _, inl (_, (refused _, refl, refl), refl), refl), refl)
 
 pub match-samples : MatchSamples
 unfolding IsAnswer ◌>>=◌ A.◌>>=◌ read_dec read_binds read_patterns read_rights read_exp read_pat read_type_binds read_ty read_tys find_at type_at value_at structure_at type_size types_size replace_type replace_types close_as variables_after variables_after_all index_among naming unguarded pat_variables exp_variables is_expansive has_unknown have_unknown names_in names_structures names_type names_types read_str read_strs read_strdec read_str_binds lines structure_lines stands read_sig read_specs read_spec read_values read_realisation require_lines are_parameters with_names replace replace_structures realise_type realise_types ty_variables tys_variables IsAlways ℕ_discrete read_arguments read_all_arguments read_exceptions admits_by all_admit_by
@@ -186,6 +202,7 @@ match-samples = record {
               (omega arith, tt) ⊳ refl,
             ),
       )) (λ σ m i. with_values (X.turned-out σ m i)) (tt, (omega arith, (omega arith, tt))) (omega arith) refl;
+  group_refused = group-refused;
   top_refused =
       stays-open top _ _ (refl ⊳ refl ⊳ (X.types (type_of int), X.met-int.1.1.1) ⊳ refl ⊳ (X.types (type_of int), X.met-int.1.1)
       ⊳ (X.types (type_of int), X.met-int.1) ⊳ (X.types (type_of int), X.met-int) ⊳ tt

@@ -1,19 +1,11 @@
--- Any two answers to a top-level declaration differ in the names that were made.
-use Rattle.std.specs.Prelude.{◌≡◌, List, [], ◌++◌}
+-- Objects along a path that leaves the names of a basis.
+use Rattle.std.specs.Prelude.{◌≡◌, List, ◌++◌}
 use std.Path.{PathP}
-use Rattle.sml_tree.specs.Structures.{TopDec}
 use Rattle.sml_objects.specs.Appearance.{Stands}
-use Rattle.sml_objects.specs.Names.{Initial, int}
-use Rattle.sml_layers.specs.declared.variable.Variable.{Variable}
-use Rattle.sml_objects.specs.Objects.{app, row, no_type}
+use Rattle.sml_objects.specs.Names.{int}
 use Rattle.sml_rules.proofs.Worlds.{Named}
 use Rattle.sml_core_rules.specs.Objects.{Basis, Sig, FunSig, rename_basis, names_map, names_sig, names_fun_sig, names_env, names_basis}
-use Rattle.sml_core_rules.specs.Expressions.{at_first}
 use Rattle.sml_core_rules.specs.States.{Scope}
-use Rattle.sml_module_rules.specs.Structures.{read_top}
-use Rattle.sml_module_rules.specs.Statements.{TopReadingsAgree}
-use Rattle.sml_core_rules.proofs.Agree.{Settled, agree}
-use Rattle.sml_core_rules.proofs.Alike.{alike}
 use Rattle.sml_core_rules.proofs.Along.{Become, become-list, become-left, become-right, become-known, env-along, map-along}
 use Rattle.sml_core_rules.proofs.Renaming.{basis-id}
 
@@ -45,18 +37,3 @@ basis_named = record { rename = rename_basis; rename-id = basis-id }
 pub basis-kept : {N : Type 0} (scope : Scope N) (r : N ≡ N) → PathP (λ i. Scope (r i)) scope scope → (ns : List N) → PathP (λ i. List (r i)) ns ns
     → (B : Basis N) → ((n : N) → Stands n (names_basis B) → Stands n ns) → PathP (λ i. Basis (r i)) B B
 basis-kept scope r u ns l B h = basis-along r B (become-known r (scope.names.initial int) (scope.names.initial int) (λ i. (u i).names.initial int) ns l (names_basis B) h)
-
-pub top-settled : {P N : Type 0} (scope : Scope N) (far : (x : Variable) → ¬ ((scope.names.attributes (scope.variable x)).maker ≡ scope.unit)) (B : Basis N)
-    → ((n : N) → Stands n (names_basis B) → Stands n B.names) → ((k : Initial) → Stands (scope.names.initial k) B.names) → (p : P) (d : TopDec P)
-    → Settled Basis scope far (read_top scope B p d) (at_first B.names)
-top-settled scope far B inside initials p d = record {
-  script = λ r u v. let C = basis-kept scope r u B.names (become-list r B.names B.names v) B inside in λ i. read_top (u i) (C i) p d;
-  state = λ r u v. let l = become-list r B.names B.names v in λ i. at_first (l i);
-  initials = initials;
-  met = ((λ v. app (row []) no_type), tt);
-}
-
-pub top-readings-agree : {N : Type 0} (scope : Scope N) → TopReadingsAgree scope
-unfolding basis_named
-top-readings-agree scope far B inside initials p d o q a b =
-    alike basis_named scope B.names o q (agree Basis scope far (read_top scope B p d) (at_first B.names) (top-settled scope far B inside initials p d) o q a b)

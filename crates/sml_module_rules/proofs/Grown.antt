@@ -12,8 +12,7 @@ use Rattle.sml_rules.specs.Every.{Every}
 use Rattle.sml_rules.proofs.Within.{first, last, both}
 use Rattle.sml_core_rules.specs.Objects.{Maps, Structures, Basis, maps, no_structure, and_structure, put_structure, join_structures, extend, names_map, names_in, names_structures, names_ty_str, names_scheme, names_sig, names_fun_sig, names_env, names_basis}
 use Rattle.sml_core_rules.specs.States.{Scope}
-use Rattle.sml_module_rules.specs.Structures.{besides}
-use Rattle.sml_module_rules.specs.Programs.{add_basis}
+use Rattle.sml_module_rules.specs.Structures.{add_basis, besides}
 
 -- of each name that stands in a list
 

@@ -1,4 +1,6 @@
 pub mod Agree
+pub mod Parts
+pub mod Groups
 pub mod PlainSignatures
 pub mod Closed
 pub mod Settled
@@ -10,3 +12,4 @@ pub mod FunctorSeals
 pub mod Isolation
 pub mod UnitNames
 pub mod ProjectSeals
+pub mod Tops

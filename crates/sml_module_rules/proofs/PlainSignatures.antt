@@ -17,7 +17,7 @@ use Rattle.sml_module_rules.specs.Matching.{renewed_signature}
 use Rattle.sml_module_rules.specs.Realising.{is_same_name}
 use Rattle.sml_module_rules.specs.Signatures.{need_name, join, share_named, share, need_names, share_others, share_types, need_structures, share_paths, share_with, share_pairs, share_structures, realise_name, read_where, read_types, read_datatypes, add, named, no_names, read_sig, read_specs, read_spec, read_descs}
 
-plain-look : {P X : Type 0} (N : Type 0) (a : Answer P X) → IsPlain (look {N = N} a)
+pub plain-look : {P X : Type 0} (N : Type 0) (a : Answer P X) → IsPlain (look {N = N} a)
 unfolding IsPlain
 plain-look N (refused f) = tt
 plain-look N (accepted x) = tt

@@ -1,32 +1,30 @@
--- What declarations one after the other add to a basis, and replies along paths of names.
-use Rattle.std.specs.Prelude.{◌≡◌, List, [], ◌∷◌, ◌++◌, map, Option, Some, None, is_some}
+-- What declarations one after the other add to a basis, and answers along paths of names.
+use Rattle.std.specs.Prelude.{◌≡◌, true, List, [], ◌∷◌, ◌++◌, map, Option, Some, None, is_some}
 use mathlib.Core.Path.{refl, sym, ap, subst, ◌∙◌}
-use std.Path.{PathP}
-use Rattle.sml_lex.specs.declared.fault.Code.TheVariants.{Q3}
-use Rattle.sml_tree.specs.Structures.{TopDec, top_str, signature_dec, functor_dec}
+use mathlib.Core.Logic.{inl, inr}
+use std.Path.{PathP, to_path_p}
+use Rattle.sml_tree.specs.Structures.{TopDec}
 use Rattle.sml_objects.specs.Alike.{Renaming}
 use Rattle.sml_objects.specs.Appearance.{Stands}
-use Rattle.sml_objects.specs.Maps.{Map}
 use Rattle.sml_objects.specs.Names.{Initial}
 use Rattle.sml_objects.proofs.Standing.{left, right}
 use Rattle.sml_layers.specs.declared.variable.Variable.{Variable}
-use Rattle.sml_rules.specs.Answers.{Answer, refused, accepted, fault}
-use Rattle.sml_rules.proofs.Sound.{accepted_same}
+use Rattle.sml_rules.specs.Answers.{Answer, refused, accepted}
+use Rattle.sml_rules.proofs.Sound.{accepted_same, not_refused}
 use Rattle.sml_rules.proofs.Within.{both}
 use Rattle.sml_rules.proofs.Worlds.{Named}
-use Rattle.sml_core_rules.specs.Objects.{Env, Sig, FunSig, Basis, empty, names_basis}
+use Rattle.sml_core_rules.specs.Objects.{Basis, names_basis}
 use Rattle.sml_core_rules.specs.Expressions.{at_first}
-use Rattle.sml_core_rules.specs.States.{Scope, State}
-use Rattle.sml_core_rules.specs.Scripts.{test, result, IsAnswer}
-use Rattle.sml_core_rules.proofs.Accepted.{given, bind-accepted}
+use Rattle.sml_core_rules.specs.States.{Scope}
 use Rattle.sml_core_rules.proofs.Alike.{alike}
+use Rattle.sml_core_rules.proofs.Along.{become-list}
 use Rattle.sml_core_rules.proofs.Renaming.{basis-id}
-use Rattle.sml_core_rules.proofs.Agree.{agree}
-use Rattle.sml_module_rules.specs.Structures.{besides, own_basis, own, read_strdec, settle, read_signatures, read_functors, settle_functors, read_top, IsTopReading}
+use Rattle.sml_module_rules.specs.Structures.{nothing, all_bound, besides, exported_functors, own_basis, parts, IsExported, IsAnswered, IsTopReading}
 use Rattle.sml_module_rules.specs.Programs.{basis_after, AreReadings, Pair, first, shown, all_shown}
-use Rattle.sml_module_rules.specs.Statements.{rename_reply}
-use Rattle.sml_module_rules.proofs.Agree.{basis-kept, top-settled}
+use Rattle.sml_module_rules.specs.Statements.{rename_added, rename_shown}
+use Rattle.sml_module_rules.proofs.Agree.{basis-kept}
 use Rattle.sml_module_rules.proofs.Grown.{every-stands, stands-every, IsWhole, whole-sum, covered}
+use Rattle.sml_module_rules.proofs.Parts.{is_whole, SameParts, PartsSettled, parts-agree}
 
 -- an addition to a basis mentions names of the basis, or its own
 abbrev IsCovered : {N : Type 0} → Basis N → Basis N → Type 0
@@ -35,41 +33,60 @@ IsCovered {N} B A = (n : N) → Stands n (names_basis A) → Stands n (A.names +
 abbrev pub HasInitials : {N : Type 0} → Scope N → Basis N → Type 0
 HasInitials scope B = (j : Initial) → Stands (scope.names.initial j) B.names
 
-own-covered : {N : Type 0} (scope : Scope N) (B : Basis N) (fs : Map (FunSig N)) (gs : Map (Sig N)) (E : Env N) → IsCovered B (own_basis scope B.names fs gs E)
-own-covered {N} scope B fs gs E =
-    let ms = names_basis (record { names = []; functors = fs; signatures = gs; body = E }) in
+own-covered : {N : Type 0} (scope : Scope N) (B A : Basis N) → IsCovered B (own_basis scope B.names A)
+own-covered {N} scope B A =
+    let ms = names_basis (record (exported_functors scope B.names A) { names = [] }) in
     let Q : N → Type 0 = λ n. Stands n (besides scope B.names ms ++ B.names) in
     stands-every Q (besides scope B.names ms ++ ms)
     (both Q (besides scope B.names ms) ms (every-stands Q (besides scope B.names ms) (λ n h. left n (besides scope B.names ms) B.names h)) (every-stands Q ms (covered scope B.names ms)))
 
-module _ {P N : Type 0} (scope : Scope N) where
-  pub own-answer : (B : Basis N) (p : P) (fs : Map (FunSig N)) (gs : Map (Sig N)) (E : Env N) (s : State P N) (r : Basis N × State P N)
-      → IsAnswer scope (own scope B p fs gs E) s (accepted r) → r.0 ≡ own_basis scope B.names fs gs E
-  own-answer B p fs gs E s r h = let t = bind-accepted scope (test _ (fault Q3 p)) _ s r h in given scope (own_basis scope B.names fs gs E) t.0.1 r t.2
+-- what all parts bind, or nothing
 
-  own-kept : (B : Basis N) (p : P) (fs : Map (FunSig N)) (gs : Map (Sig N)) (E : Env N) (s : State P N) (r : Basis N × State P N)
-      → IsAnswer scope (own scope B p fs gs E) s (accepted r) → IsCovered B r.0
-  own-kept B p fs gs E s r h = subst (IsCovered B) (sym (own-answer B p fs gs E s r h)) (own-covered scope B fs gs E)
+abbrev or_nothing : {N : Type 0} → Option (Basis N) → Basis N
+or_nothing None = nothing
+or_nothing (Some A) = A
 
-  pub answer-covered : (B : Basis N) (p : P) (d : TopDec P) (r : Basis N × State P N) → IsTopReading scope p B d (accepted r) → IsCovered B r.0
-  answer-covered B p (top_str d) r h =
-      let a = bind-accepted scope (read_strdec scope B B.body d) _ (at_first B.names) r h in
-      let b = bind-accepted scope (settle scope B p a.0.0) _ a.0.1 r a.2 in own-kept B p [] [] b.0.0 b.0.1 r b.2
-  answer-covered B p (signature_dec q bs) r h =
-      let a = bind-accepted scope (read_signatures scope B [] bs) _ (at_first B.names) r h in own-kept B p [] a.0.0 empty a.0.1 r a.2
-  answer-covered B p (functor_dec q bs) r h =
-      let a = bind-accepted scope (read_functors scope B [] bs) _ (at_first B.names) r h in
-      let b = bind-accepted scope (settle_functors scope B p a.0.0) _ a.0.1 r a.2 in own-kept B p b.0.0 [] empty b.0.1 r b.2
+abbrev pub bound_of : {P N : Type 0} → Answer P (List (Option (Basis N))) → Basis N
+bound_of (refused f) = nothing
+bound_of (accepted ms) = or_nothing (all_bound ms)
 
--- what a reply adds to a basis
+module _ {P N : Type 0} (scope : Scope N) (B : Basis N) (p : P) where
+  exported-own : (m : Option (Basis N)) (A : Basis N) → IsExported scope B p m (accepted A) → (is_some m ≡ true) × (A ≡ own_basis scope B.names (or_nothing m))
+  exported-own None A e = absurd (not_refused e)
+  exported-own (Some C) A (inl (n, e)) = absurd (not_refused e)
+  exported-own (Some C) A (inr (inl (y, n, e))) = absurd (not_refused e)
+  exported-own (Some C) A (inr (inr (y, z, e))) = (refl, accepted_same e)
+
+  -- an accepted answer is what the parts bind
+  pub answered-own : (ms : Answer P (List (Option (Basis N)))) (A : Basis N) → IsAnswered scope B p ms (accepted A) → (is_whole ms ≡ true) × (A ≡ own_basis scope B.names (bound_of ms))
+  answered-own (refused f) A e = absurd (not_refused e)
+  answered-own (accepted ms) A e = exported-own (all_bound ms) A e
+
+  exported-once : (m : Option (Basis N)) (o q : Answer P (Basis N)) → IsExported scope B p m o → IsExported scope B p m q → o ≡ q
+  exported-once None o q a b = a ∙ sym b
+  exported-once (Some C) o q (inl (n, a)) (inl (m, b)) = a ∙ sym b
+  exported-once (Some C) o q (inl (n, a)) (inr (inl (y, m, b))) = absurd (n y)
+  exported-once (Some C) o q (inl (n, a)) (inr (inr (y, z, b))) = absurd (n y)
+  exported-once (Some C) o q (inr (inl (y, n, a))) (inl (m, b)) = absurd (m y)
+  exported-once (Some C) o q (inr (inl (y, n, a))) (inr (inl (z, m, b))) = a ∙ sym b
+  exported-once (Some C) o q (inr (inl (y, n, a))) (inr (inr (z, w, b))) = absurd (n w)
+  exported-once (Some C) o q (inr (inr (y, z, a))) (inl (m, b)) = absurd (m y)
+  exported-once (Some C) o q (inr (inr (y, z, a))) (inr (inl (w, m, b))) = absurd (m z)
+  exported-once (Some C) o q (inr (inr (y, z, a))) (inr (inr (w, v, b))) = a ∙ sym b
+
+  answered-once : (ms : Answer P (List (Option (Basis N)))) (o q : Answer P (Basis N)) → IsAnswered scope B p ms o → IsAnswered scope B p ms q → o ≡ q
+  answered-once (refused f) o q a b = a ∙ sym b
+  answered-once (accepted ms) o q a b = exported-once (all_bound ms) o q a b
+
+-- what an answer adds to a basis
 abbrev pub IsAddition : {P N : Type 0} → Basis N → Answer P (Basis N) → Type 0
 IsAddition B (refused f) = Unit {0}
 IsAddition B (accepted A) = IsCovered B A
 
 module _ {P N : Type 0} (scope : Scope N) where
-  pub reply-added : (B : Basis N) (p : P) (d : TopDec P) (o : Answer P (Basis N × State P N)) → IsTopReading scope p B d o → IsAddition B (result o)
-  reply-added B p d (refused f) h = tt
-  reply-added B p d (accepted r) h = answer-covered scope B p d r h
+  pub answer-added : (B : Basis N) (p : P) (d : TopDec P) (o : Answer P (Basis N)) → IsTopReading scope p B d o → IsAddition B o
+  answer-added B p d (refused f) h = tt
+  answer-added B p d (accepted A) (ms, a, e) = let own = answered-own scope B p ms A e in subst (IsCovered B) (sym own.1) (own-covered scope B (bound_of ms))
 
   pub after-whole : (B : Basis N) (o : Answer P (Basis N)) → IsWhole B → IsAddition B o → IsWhole (basis_after B o)
   after-whole B (refused f) w h = w
@@ -79,24 +96,24 @@ module _ {P N : Type 0} (scope : Scope N) where
   after-all B (refused f) n h = h
   after-all B (accepted A) n h = right n A.names B.names h
 
-  reply-kept : (B : Basis N) (o : Answer P (Basis N)) → IsAddition B o → (r : N ≡ N) → PathP (λ i. Scope (r i)) scope scope
+  answer-kept : (B : Basis N) (o : Answer P (Basis N)) → IsAddition B o → (r : N ≡ N) → PathP (λ i. Scope (r i)) scope scope
       → PathP (λ i. List (r i)) (basis_after B o).names (basis_after B o).names → PathP (λ i. Answer P (Basis (r i))) o o
-  reply-kept B (refused f) h r u l = λ i. refused f
-  reply-kept B (accepted A) h r u l = let C = basis-kept scope r u (A.names ++ B.names) l A h in λ i. accepted (C i)
+  answer-kept B (refused f) h r u l = λ i. refused f
+  answer-kept B (accepted A) h r u l = let C = basis-kept scope r u (A.names ++ B.names) l A h in λ i. accepted (C i)
 
-  -- two replies, over the names of a basis; and two lists of replies, over the basis
+  -- two answers, over the names of a basis; and two lists of answers, over the basis
 
-  abbrev pub SameReply : Basis N → Answer P (Basis N) → Answer P (Basis N) → Type 1
-  SameReply B o q = ◌≡◌ {A = (M : Type 0) × Scope M × List M × Answer P (Basis M)} (N, scope, B.names, o) (N, scope, B.names, q)
+  abbrev pub SameAnswer : Basis N → Answer P (Basis N) → Answer P (Basis N) → Type 1
+  SameAnswer B o q = ◌≡◌ {A = (M : Type 0) × Scope M × List M × Answer P (Basis M)} (N, scope, B.names, o) (N, scope, B.names, q)
 
-  abbrev pub SameReplies : List (Pair P) → Basis N → List (Answer P (Basis N)) → List (Answer P (Basis N)) → Type 1
-  SameReplies ds B os qs = ◌≡◌ {A = (M : Type 0) × Scope M × Basis M × List (Option (Answer P (Basis M)))} (N, scope, B, all_shown ds os) (N, scope, B, all_shown ds qs)
+  abbrev pub SameAnswers : List (Pair P) → Basis N → List (Answer P (Basis N)) → List (Answer P (Basis N)) → Type 1
+  SameAnswers ds B os qs = ◌≡◌ {A = (M : Type 0) × Scope M × Basis M × List (Option (Answer P (Basis M)))} (N, scope, B, all_shown ds os) (N, scope, B, all_shown ds qs)
 
-  pub first-agrees : (d : Pair P) (ds : List (Pair P)) (B : Basis N) → IsWhole B → (o q : Answer P (Basis N)) → IsAddition B q → SameReply B o q
+  pub first-agrees : (d : Pair P) (ds : List (Pair P)) (B : Basis N) → IsWhole B → (o q : Answer P (Basis N)) → IsAddition B q → SameAnswer B o q
       → (os qs : List (Answer P (Basis N))) → AreReadings scope (basis_after B o) (map first ds) os
       → ((ps : List (Answer P (Basis N))) → AreReadings scope (basis_after B q) (map first ds) ps → map is_some (all_shown ds os) ≡ map is_some (all_shown ds ps)
-      → SameReplies ds (basis_after B q) ps qs)
-      → SameReplies (d ∷ ds) B (o ∷ os) (q ∷ qs)
+      → SameAnswers ds (basis_after B q) ps qs)
+      → SameAnswers (d ∷ ds) B (o ∷ os) (q ∷ qs)
   first-agrees d ds B w o q k ρ os qs a rest =
       let p : N ≡ N = λ i. (ρ i).0 in
       let u : PathP (λ i. Scope (p i)) scope scope = λ i. (ρ i).1 in
@@ -110,39 +127,61 @@ module _ {P N : Type 0} (scope : Scope N) where
       let u' : PathP (λ i. Scope (p' i)) scope scope = λ i. (τ i).1 in
       let l : PathP (λ i. List (p' i)) D.names D.names = λ i. (τ i).2.names in
       let E = basis-kept scope p' u' D.names l B (λ n s. after-all B q n (w n s)) in
-      let R = reply-kept B q k p' u' l in
-      let x : SameReplies (d ∷ ds) B (o ∷ os) (q ∷ ps) = λ i. (p i, u i, C i, shown d (ρ i).3 ∷ all_shown ds (coe 0 i (j. List (Answer P (Basis (p j)))) os)) in
-      let y : SameReplies (d ∷ ds) B (q ∷ ps) (q ∷ qs) = λ i. (p' i, u' i, E i, shown d (R i) ∷ (τ i).3) in x ∙ y
+      let R = answer-kept B q k p' u' l in
+      let x : SameAnswers (d ∷ ds) B (o ∷ os) (q ∷ ps) = λ i. (p i, u i, C i, shown d (ρ i).3 ∷ all_shown ds (coe 0 i (j. List (Answer P (Basis (p j)))) os)) in
+      let y : SameAnswers (d ∷ ds) B (q ∷ ps) (q ∷ qs) = λ i. (p' i, u' i, E i, shown d (R i) ∷ (τ i).3) in x ∙ y
+
+  top-settled : (far : (x : Variable) → ¬ ((scope.names.attributes (scope.variable x)).maker ≡ scope.unit)) (B : Basis N) → IsWhole B → HasInitials scope B → (d : TopDec P)
+      → PartsSettled {P = P} scope far B.names (parts scope B d)
+  top-settled far B w z d = record { scripts = λ p u v. let C = basis-kept scope p u B.names (become-list p B.names B.names v) B w in λ i. parts (u i) (C i) d; initials = z }
 
   -- two answers to one declaration
   pub one-agrees : (far : (x : Variable) → ¬ ((scope.names.attributes (scope.variable x)).maker ≡ scope.unit)) (B : Basis N) → IsWhole B → HasInitials scope B → (p : P) (d : TopDec P)
-      → (r t : Answer P (Basis N × State P N)) → IsTopReading scope p B d r → IsTopReading scope p B d t → SameReply B (result r) (result t)
-  one-agrees far B w z p d r t h k =
-      let ρ = agree Basis scope far (read_top scope B p d) (at_first B.names) (top-settled scope far B w z p d) r t h k in λ i. ((ρ i).0, (ρ i).1, (ρ i).2, result (ρ i).3)
+      → (o q : Answer P (Basis N)) → IsTopReading scope p B d o → IsTopReading scope p B d q → SameAnswer B o q
+  one-agrees far B w z pl d o q (ms, a, e) (ns, b, f) =
+      let π = parts-agree scope far (parts scope B d) B.names (top-settled far B w z d) ms ns a b in
+      let p : N ≡ N = λ i. (π i).0 in
+      let C = basis-kept scope p (λ i. (π i).1) B.names (λ i. (π i).2) B w in
+      let moved : IsAnswered scope B pl ns (coe 0 1 (i. Answer P (Basis (p i))) o) =
+      coe 0 1 (i. IsAnswered (π i).1 (C i) pl (π i).3 (coe 0 i (j. Answer P (Basis (p j))) o)) e in
+      let same = to_path_p (λ i. Answer P (Basis (p i))) (answered-once scope B pl ns (coe 0 1 (i. Answer P (Basis (p i))) o) q moved f) in
+      λ i. (p i, (π i).1, (π i).2, same i)
 
--- replies, over the names of a basis
+  -- two accepted answers, where the parts agree
+  pub accepted-agree : (B : Basis N) (p r : P) (ms ns : Answer P (List (Option (Basis N)))) → SameParts scope B.names ms ns → (A C : Basis N) → IsAnswered scope B p ms (accepted A)
+      → IsAnswered scope B r ns (accepted C) → SameAnswer B (accepted A) (accepted C)
+  accepted-agree B p r ms ns π A C a b =
+      let here : SameAnswer B (accepted (own_basis scope B.names (bound_of ms))) (accepted (own_basis scope B.names (bound_of ns))) =
+      λ i. ((π i).0, (π i).1, (π i).2, accepted (own_basis (π i).1 (π i).2 (bound_of (π i).3))) in
+      subst (λ A. SameAnswer B (accepted A) (accepted C)) (sym (answered-own scope B p ms A a).1)
+      (subst (λ C. SameAnswer B (accepted (own_basis scope B.names (bound_of ms))) (accepted C)) (sym (answered-own scope B r ns C b).1) here)
 
-abbrev pub Replies : Type 0 → Type 0 → Type 0
-Replies P N = List (Option (Answer P (Basis N)))
+-- shown answers, over the names of a basis
 
-reply-id : {P N : Type 0} (o : Option (Answer P (Basis N))) → rename_reply (λ n. n) o ≡ o
-reply-id None = refl
-reply-id (Some (refused f)) = refl
-reply-id (Some (accepted A)) = λ i. Some (accepted (basis-id A i))
+abbrev pub Shown : Type 0 → Type 0 → Type 0
+Shown P N = List (Option (Answer P (Basis N)))
 
-pub replies-id : {P N : Type 0} (os : Replies P N) → map (rename_reply (λ n. n)) os ≡ os
-replies-id [] = refl
-replies-id (o ∷ os) = λ i. reply-id o i ∷ replies-id os i
+pub added-id : {P N : Type 0} (o : Answer P (Basis N)) → rename_added (λ n. n) o ≡ o
+added-id (refused f) = refl
+added-id (accepted A) = λ i. accepted (basis-id A i)
 
-replies_named : {P : Type 0} → Named (Replies P)
-replies_named = record { rename = λ f os. map (rename_reply f) os; rename-id = replies-id }
+one-shown-id : {P N : Type 0} (o : Option (Answer P (Basis N))) → rename_shown (λ n. n) o ≡ o
+one-shown-id None = refl
+one-shown-id (Some o) = λ i. Some (added-id o i)
 
--- a path between two lists of replies, as a renaming
-pub replies-alike : {P N : Type 0} (scope : Scope N) (ns : List N) (os qs : Replies P N)
-    → ◌≡◌ {A = (M : Type 0) × Scope M × List M × Replies P M} (N, scope, ns, os) (N, scope, ns, qs)
-    → (f : Renaming scope.names) × ((n : N) → Stands n ns → f.to n ≡ n) × (qs ≡ map (rename_reply f.to) os)
-unfolding replies_named
-replies-alike {P} scope ns os qs π =
+pub shown-id : {P N : Type 0} (os : Shown P N) → map (rename_shown (λ n. n)) os ≡ os
+shown-id [] = refl
+shown-id (o ∷ os) = λ i. one-shown-id o i ∷ shown-id os i
+
+shown_named : {P : Type 0} → Named (Shown P)
+shown_named = record { rename = λ f os. map (rename_shown f) os; rename-id = shown-id }
+
+-- a path between two lists of shown answers, as a renaming
+pub answers-alike : {P N : Type 0} (scope : Scope N) (ns : List N) (os qs : Shown P N)
+    → ◌≡◌ {A = (M : Type 0) × Scope M × List M × Shown P M} (N, scope, ns, os) (N, scope, ns, qs)
+    → (f : Renaming scope.names) × ((n : N) → Stands n ns → f.to n ≡ n) × (qs ≡ map (rename_shown f.to) os)
+unfolding shown_named
+answers-alike {P} scope ns os qs π =
     let f =
-    alike {P = P} {F = Replies P} replies_named scope ns (accepted (os, at_first [])) (accepted (qs, at_first [])) (λ i. ((π i).0, (π i).1, (π i).2, accepted ((π i).3, at_first []))) in
+    alike {P = P} {F = Shown P} shown_named scope ns (accepted (os, at_first [])) (accepted (qs, at_first [])) (λ i. ((π i).0, (π i).1, (π i).2, accepted ((π i).3, at_first []))) in
     (f.0, f.1, ap (λ q. q.0) (accepted_same f.2))

@@ -1,34 +1,34 @@
 -- What stands behind `:>` can't be seen.
-use Rattle.std.specs.Prelude.{◌≡◌, List, [], ◌∷◌}
-use mathlib.Core.Path.{sym, ap, subst, ◌∙◌}
+use Rattle.std.specs.Prelude.{◌≡◌, ℕ, true, false, List, [], ◌∷◌, map, Option, Some, None, is_some}
+use mathlib.Core.Path.{refl, sym, ap, subst, ◌∙◌}
+use mathlib.Core.Logic.{inl, inr}
+use Rattle.sml_tree.specs.Names.{Name}
 use Rattle.sml_tree.specs.Signatures.{SigExp}
-use Rattle.sml_tree.specs.Structures.{structure_dec, top_str}
 use Rattle.sml_tree.specs.declared.structures.Ascription.TheVariants.{Opaque}
-use Rattle.sml_objects.specs.Objects.{Outside, app, row, no_type}
-use Rattle.sml_lex.specs.declared.fault.Code.TheVariants.{E7}
-use Rattle.sml_layers.specs.declared.layer.Layer.TheVariants.{Rigidity}
+use Rattle.sml_objects.specs.Objects.{MlType, Outside, app, row, no_type}
 use Rattle.sml_layers.specs.declared.variable.Variable.{Variable}
-use Rattle.sml_layers.specs.Demands.{CanBeMet}
-use Rattle.sml_rules.specs.Answers.{Answer, refused, accepted, fault}
-use Rattle.sml_rules.proofs.Sound.{accepted_same}
-use Rattle.sml_core_rules.specs.Objects.{Env, Sig, Basis, empty, extend}
+use Rattle.sml_rules.specs.Answers.{Answer, refused, accepted}
+use Rattle.sml_rules.proofs.Sound.{accepted_same, not_refused}
+use Rattle.sml_core_rules.specs.Objects.{Env, Sig, Basis, empty, replace, replace_structures}
 use Rattle.sml_core_rules.specs.Expressions.{at_first}
-use Rattle.sml_core_rules.specs.States.{Scope, State, words}
-use Rattle.sml_core_rules.specs.Scripts.{Script, give, test, ◌>>=◌, IsAnswer}
+use Rattle.sml_core_rules.specs.States.{Scope, State}
+use Rattle.sml_core_rules.specs.Scripts.{Script, give, ◌>>=◌, IsAnswer}
 use Rattle.sml_core_rules.proofs.Accepted.{given, bind-accepted, bind-joined, kept, kept-outside}
+use Rattle.sml_core_rules.proofs.Agree.{Settled}
 use Rattle.sml_core_rules.proofs.Along.{become-list}
 use Rattle.sml_core_rules.proofs.Plain.{IsPlain, plain-bind, Fixed, agree-plain}
-use Rattle.sml_module_rules.specs.Lines.{IsSmallEnv}
 use Rattle.sml_module_rules.specs.Matching.{match_signature, renewed_signature, ascribe}
 use Rattle.sml_module_rules.specs.Signatures.{read_sig}
-use Rattle.sml_module_rules.specs.Structures.{read_str, read_strdec, read_str_binds, settle_env, settle, own_basis, one_structure, signature_place, IsTopReading}
-use Rattle.sml_module_rules.specs.Programs.{Behind, SealedStructure, sealed, sealed_structures, Places}
+use Rattle.sml_module_rules.specs.Structures.{read_str, read_structure, structure_parts, of_body, one_structure, signature_place, basis_with_types, IsAlone, AreAlone}
+use Rattle.sml_module_rules.specs.Programs.{Behind, SealedStructure, StructurePair, kept_structure, sealed_structure, sealed, structure_name, structure_body, structure_group}
+use Rattle.sml_module_rules.proofs.Agree.{basis-kept}
 use Rattle.sml_module_rules.proofs.Earlier.{Within, earlier}
 use Rattle.sml_module_rules.proofs.Grown.{IsWhole}
-use Rattle.sml_module_rules.proofs.Programs.{HasInitials, SameReply, own-answer}
-use Rattle.sml_module_rules.proofs.Agree.{basis-kept}
+use Rattle.sml_module_rules.proofs.Groups.{Among, AreAlike, groups-agree}
+use Rattle.sml_module_rules.proofs.Parts.{is_whole, SameMark, SameParts, part-agrees}
 use Rattle.sml_module_rules.proofs.PlainSignatures.{plain-sig, plain-renewed}
-use Rattle.sml_module_rules.proofs.Settled.{EachOf, EachInside, EachValue, HasNoUnknown, each-added, env-settled, realised-closed}
+use Rattle.sml_module_rules.proofs.Programs.{HasInitials}
+use Rattle.sml_module_rules.proofs.Settled.{EachOf, EachInside, EachValue, HasNoUnknown, env-settled, realised-closed}
 
 -- the signature with new names
 abbrev pub fresh : {P N : Type 0} → Scope N → Basis N → Env N → SigExp P → Script P N (Sig N)
@@ -74,88 +74,88 @@ module _ {P N : Type 0} (scope : Scope N) where
         a.5,
       )
 
-  -- an environment without unknowns is settled as it is
-  pub settled-same : (B : Basis N) (p : P) (E : Env N) (s : State P N) (f : Env N × State P N) → IsAnswer scope (settle scope B p E) s (accepted f) → EachValue HasNoUnknown E
-      → CanBeMet (words scope) Rigidity s.demands → f.0 ≡ E
-  settled-same B p E s f h c m =
-      let v = bind-accepted scope (settle_env scope B p E) _ s f h in
-      let y = bind-accepted scope (test (IsSmallEnv v.0.0) (fault E7 p)) _ v.0.1 f v.2 in given scope _ y.0.1 f y.2 ∙ env-settled scope B p E c s m v.0 v.1
+-- parts of answers
 
--- the structures that some signatures with new names give, behind others
-abbrev fresh_all : {P N : Type 0} → Scope N → Basis N → Env N → List (SealedStructure P) → Script P N (Env N)
-fresh_all scope B F [] = give F
-fresh_all scope B F (b ∷ bs) = fresh scope B B.body b.signature >>= λ R. fresh_all scope B (extend F (one_structure b.name.id R.body)) bs
-
-plain-fresh-all : {P N : Type 0} (scope : Scope N) (B : Basis N) (F : Env N) (bs : List (SealedStructure P)) → IsPlain (fresh_all scope B F bs)
-unfolding IsPlain
-plain-fresh-all scope B F [] = tt
-plain-fresh-all {P} scope B F (b ∷ bs) =
-    plain-bind _ _ (plain-fresh P scope B B.body b.signature) (λ R. plain-fresh-all scope B (extend F (one_structure b.name.id R.body)) bs)
-
-module _ {P N : Type 0} (scope : Scope N) (B : Basis N) (side : SealedStructure P → Behind P) where
-  -- sealed structures, read in a state in which at least the names of another one were made
-  structures-read : (bs : List (SealedStructure P)) (F : Env N) → EachValue HasNoUnknown F → (t v : State P N) → Within v t → (u : Env N × State P N)
-      → IsAnswer scope (read_str_binds scope B B.body F (sealed_structures side bs)) t (accepted u)
-      → (y : State P N) × IsAnswer scope (fresh_all scope B F bs) v (accepted (u.0, y)) × EachValue HasNoUnknown u.0
-  unfolding read_str_binds IsAnswer
-  structures-read [] F c t v w u h = (v, (λ i. accepted ((accepted_same h i).0, v)), subst (EachValue HasNoUnknown) (sym (ap (λ q. q.0) (accepted_same h))) c)
-  structures-read (b ∷ bs) F c t v w u h =
-      let x = b.name.id in
-      let a = bind-accepted scope (read_str scope B B.body (sealed (side b) b.signature)) _ t u h in
-      let g = sealed-read scope B B.body b.signature v.names (side b) t w a.0 a.1 in
-      let p = earlier scope (fresh scope B B.body b.signature) (plain-fresh P scope B B.body b.signature) v g.0 g.1 g.2 g.3 in
-      let k = each-added HasNoUnknown x a.0.0 (subst (EachValue HasNoUnknown) (sym g.4) g.5) F c in
-      let r = structures-read bs (extend F (one_structure x a.0.0)) k a.0.1 p.0 (λ n o. p.2 n (g.6 n o)) u a.2 in
-      let j = subst (λ G. IsAnswer scope (fresh_all scope B (extend F (one_structure x G)) bs) p.0 (accepted (u.0, r.0))) g.4 r.1 in
-      (r.0, bind-joined scope (fresh scope B B.body b.signature) (λ R. fresh_all scope B (extend F (one_structure x R.body)) bs) v (g.2.0, p.0) (accepted (u.0, r.0)) p.1 j, r.2)
-
-module _ {P N : Type 0} (scope : Scope N) (B : Basis N) (bs : List (SealedStructure P)) where
-  -- what an accepted answer holds
-  record Export (u : Basis N × State P N) : Type 0 where
-    made : Env N
-    after : State P N
-    answer : IsAnswer scope (fresh_all scope B empty bs) (at_first B.names) (accepted (made, after))
-    basis : u.0 ≡ own_basis scope B.names [] [] made
-
-  export : (side : SealedStructure P → Behind P) (here : Places P) (u : Basis N × State P N)
-      → IsTopReading scope here.declaration B (top_str (structure_dec here.bindings (sealed_structures side bs))) (accepted u) → Export u
-  unfolding read_strdec EachValue EachInside EachOf
-  export side here u h =
-      let p = here.declaration in
-      let b = at_first B.names in
-      let d = bind-accepted scope (read_strdec scope B B.body (structure_dec here.bindings (sealed_structures side bs))) _ b u h in
-      let g = structures-read scope B side bs empty (tt, tt) b b (λ n o. o) d.0 d.1 in
-      let f = bind-accepted scope (settle scope B p d.0.0) _ d.0.1 u d.2 in
-      let m = (kept scope (read_strdec scope B B.body (structure_dec here.bindings (sealed_structures side bs))) b d.0 d.1).met ((λ v. app (row []) no_type), tt) in
-      let same = settled-same scope B p d.0.0 d.0.1 f.0 f.1 g.2 m in
-      record {
-        made = d.0.0;
-        after = g.0;
-        answer = g.1;
-        basis = own-answer scope B p [] [] f.0.0 f.0.1 u f.2 ∙ ap (own_basis scope B.names [] []) same;
-      }
+abbrev basis_or : {N : Type 0} → Basis N → Option (Basis N) → Basis N
+basis_or A None = A
+basis_or A (Some C) = C
 
 abbrev pub body_or_none : {P N : Type 0} → Answer P (Sig N) → Env N
 body_or_none (refused f) = empty
 body_or_none (accepted R) = R.body
 
-abbrev env_or_none : {P N : Type 0} → Answer P (Env N) → Env N
-env_or_none (refused f) = empty
-env_or_none (accepted E) = E
-
-module _ {P N : Type 0} (scope : Scope N) (far : (x : Variable) → ¬ ((scope.names.attributes (scope.variable x)).maker ≡ scope.unit)) where
-  pub structures-agree : (B : Basis N) → IsWhole B → HasInitials scope B → (bs : List (SealedStructure P)) (here there : Places P) (u v : Basis N × State P N)
-      → IsTopReading scope here.declaration B (top_str (structure_dec here.bindings (sealed_structures (λ b. b.first) bs))) (accepted u)
-      → IsTopReading scope there.declaration B (top_str (structure_dec there.bindings (sealed_structures (λ b. b.second) bs))) (accepted v)
-      → SameReply {P = P} scope B (accepted u.0) (accepted v.0)
-  structures-agree B w z bs here there u v h k =
-      let a = export scope B bs (λ b. b.first) here u h in
-      let b = export scope B bs (λ b. b.second) there v k in
-      let t : State P N = at_first B.names in
-      let π = agree-plain Env scope far (fresh_all scope B empty bs) (plain-fresh-all scope B empty bs) B.names fixed t t (λ n o. o) (λ n o. o) (accepted (a.made, a.after)) (accepted (b.made, b.after)) a.answer b.answer in
-      let ρ : SameReply {P = P} scope B (accepted (own_basis scope B.names [] [] a.made)) (accepted (own_basis scope B.names [] [] b.made)) =
-      λ i. ((π i).0, (π i).1, (π i).2, accepted (own_basis (π i).1 (π i).2 [] [] (env_or_none (π i).3))) in
-      subst (λ A. SameReply {P = P} scope B (accepted A) (accepted v.0)) (sym a.basis) (subst (λ A. SameReply {P = P} scope B (accepted (own_basis scope B.names [] [] a.made)) (accepted A)) (sym b.basis) ρ)
+module _ {P N : Type 0} (scope : Scope N) where
+  -- an accepted answer to a part, all types of which are determined, and which is closed
+  pub alone-accepted : (k : Script P N (Basis N)) (ns : List N) (A : Basis N) → IsAlone scope ns k (accepted (Some A))
+      → (r : Basis N × State P N) × IsAnswer scope k (at_first ns) (accepted r) × ((C : Basis N) → ((σ : ℕ → MlType N) → basis_with_types σ r.0 ≡ C) → A ≡ C)
+  alone-accepted k ns A (refused f, a, e) = absurd (not_refused e)
+  alone-accepted k ns A (accepted r, a, inl (C, d, e)) =
+      let m = (kept scope k (at_first ns) r a).met ((λ v. app (row []) no_type), tt) in
+      (r, a, (λ D f. some-same (accepted_same e) ∙ (sym (d m.0 m.1) ∙ f m.0)))
     where
-      fixed : Fixed Env scope far B.names (fresh_all scope B empty bs)
-      fixed = record { script = λ r u v. let C = basis-kept scope r u B.names (become-list r B.names B.names v) B w in λ i. fresh_all (u i) (C i) empty bs; initials = z }
+      some-same : {C : Basis N} → Some A ≡ Some C → A ≡ C
+      some-same e = ap (basis_or A) e
+  alone-accepted k ns A (accepted r, a, inr (n, e)) = let f : true ≡ false = ap (λ m. is_some m) (accepted_same e) in absurd cc
+
+module _ {P N : Type 0} (scope : Scope N) (B : Basis N) where
+  -- a sealed structure is what its signature with new names gives
+  structure-read : (x : Name P) (s : SigExp P) (e : Behind P) (ns : List N) (A : Basis N) → IsAlone scope ns (read_structure scope B x (sealed e s)) (accepted (Some A))
+      → (w : State P N) × ((n : N) → Outside n w.names → Outside n ns) × (R : Sig N × State P N) × IsAnswer scope (fresh scope B B.body s) w (accepted R)
+      × (A ≡ of_body (one_structure x.id R.0.body))
+  unfolding EachValue EachInside EachOf replace replace_structures
+  structure-read x s e ns A h =
+      let a = alone-accepted scope (read_structure scope B x (sealed e s)) ns A h in
+      let b = bind-accepted scope (read_str scope B B.body (sealed e s)) _ (at_first ns) a.0 a.1 in
+      let g = sealed-read scope B B.body s ns e (at_first ns) (λ n o. o) b.0 b.1 in
+      let same : a.0.0 ≡ of_body (one_structure x.id g.2.0.body) = given scope _ b.0.1 a.0 b.2 ∙ ap (λ E. of_body (one_structure x.id E)) g.4 in
+      let closed : (σ : ℕ → MlType N) → basis_with_types σ a.0.0 ≡ of_body (one_structure x.id g.2.0.body) =
+      λ σ. ap (basis_with_types σ) same ∙ ap (λ E. of_body (one_structure x.id E)) (env-settled σ g.2.0.body g.5) in
+      (g.0, g.1, g.2, g.3, a.2 (of_body (one_structure x.id g.2.0.body)) closed)
+
+module _ {P N : Type 0} (scope : Scope N) (far : (x : Variable) → ¬ ((scope.names.attributes (scope.variable x)).maker ≡ scope.unit)) (B : Basis N) (whole : IsWhole B)
+    (initials : HasInitials scope B) where
+  sealed-alike : (x : Name P) (s : SigExp P) (e f : Behind P) → AreAlike {P = P} scope far B.names (read_structure scope B x (sealed e s)) (read_structure scope B x (sealed f s))
+  sealed-alike x s e f ns inside A C h k =
+      let a = structure-read scope B x s e ns A h in
+      let b = structure-read scope B x s f ns C k in
+      let π = agree-plain Sig scope far (fresh scope B B.body s) (plain-fresh P scope B B.body s) ns fixed a.0 b.0 a.1 b.1 (accepted a.2) (accepted b.2) a.3 b.3 in
+      let here : SameMark {P = P} scope ns (accepted (Some (of_body (one_structure x.id a.2.0.body)))) (accepted (Some (of_body (one_structure x.id b.2.0.body)))) =
+      λ i. ((π i).0, (π i).1, (π i).2, accepted (Some (of_body (one_structure x.id (body_or_none (π i).3))))) in
+      subst (λ A. SameMark {P = P} scope ns (accepted (Some A)) (accepted (Some C))) (sym a.4)
+      (subst (λ C. SameMark {P = P} scope ns (accepted (Some (of_body (one_structure x.id a.2.0.body)))) (accepted (Some C))) (sym b.4) here)
+    where
+      fixed : Fixed Sig scope far ns (fresh scope B B.body s)
+      fixed = record {
+        script = λ r u v. let C = basis-kept scope r u ns (become-list r ns ns v) B (λ n m. inside n (whole n m)) in λ i. fresh (u i) (C i) (C i).body s;
+        initials = λ j. inside (scope.names.initial j) (initials j);
+      }
+
+  structure_part : (SealedStructure P → Behind P) → StructurePair P → Script P N (Basis N)
+  structure_part side b = read_structure scope B (structure_name b) (structure_body side b)
+
+  structures-alike : (b : StructurePair P) → AreAlike {P = P} scope far B.names (structure_part (λ b. b.first) b) (structure_part (λ b. b.second) b)
+  unfolding structure_part
+  structures-alike (sealed_structure b) = sealed-alike b.name b.signature b.first b.second
+  structures-alike (kept_structure x e) = λ ns inside A C h k. part-agrees {P = P} scope far (read_structure scope B x e) ns (settled ns inside) (accepted (Some A)) (accepted (Some C)) h k
+    where
+      settled : (ns : List N) → Among B.names ns → Settled {P = P} Basis scope far (read_structure scope B x e) (at_first ns)
+      settled ns inside = record {
+        script = λ r u v. let C = basis-kept scope r u ns (become-list r ns ns v) B (λ n m. inside n (whole n m)) in λ i. read_structure (u i) (C i) x e;
+        state = λ r u v. let l = become-list r ns ns v in λ i. at_first (l i);
+        initials = λ j. inside (scope.names.initial j) (initials j);
+        met = ((λ v. app (row []) no_type), tt);
+      }
+
+  group-parts : (side : SealedStructure P → Behind P) (bs : List (StructurePair P)) → structure_parts scope B (structure_group side bs) ≡ map (structure_part side) bs
+  unfolding structure_part
+  group-parts side [] = refl
+  group-parts side (b ∷ bs) = ap (λ ks. structure_part side b ∷ ks) (group-parts side bs)
+
+  pub structures-agree : (bs : List (StructurePair P)) (o q : Answer P (List (Option (Basis N)))) → AreAlone scope B.names (structure_parts scope B (structure_group (λ b. b.first) bs)) o
+      → AreAlone scope B.names (structure_parts scope B (structure_group (λ b. b.second) bs)) q → is_whole o ≡ true → is_whole q ≡ true → SameParts scope B.names o q
+  unfolding structure_part
+  structures-agree bs o q a b w z =
+      groups-agree scope far (structure_part (λ b. b.first)) (structure_part (λ b. b.second)) B.names initials
+      (λ r u v. let C = basis-kept scope r u B.names (become-list r B.names B.names v) B whole in λ i b. read_structure (u i) (C i) (structure_name b) (structure_body (λ b. b.first) b))
+      structures-alike bs B.names (λ n s. s) o q (subst (λ ks. AreAlone scope B.names ks o) (group-parts (λ b. b.first) bs) a)
+      (subst (λ ks. AreAlone scope B.names ks q) (group-parts (λ b. b.second) bs) b) w z

@@ -1,23 +1,14 @@
--- Types without unknowns turn out to be what they are.
-use Rattle.std.specs.Prelude.{◌≡◌, [], ◌∷◌}
-use mathlib.Core.Path.{sym, ap, ◌∙◌}
-use mathlib.Core.Logic.{inl, inr}
-use Rattle.sml_lex.specs.Faults.{Fault}
+-- Environments without unknowns are determined as they are.
+use Rattle.std.specs.Prelude.{◌≡◌, ℕ, [], ◌∷◌}
+use mathlib.Core.Path.{refl}
 use Rattle.sml_tree.specs.Trees.{Id}
 use Rattle.sml_objects.specs.Maps.{Map, order_of}
 use Rattle.sml_objects.specs.Objects.{MlType}
-use Rattle.sml_layers.specs.declared.layer.Layer.TheVariants.{Rigidity}
-use Rattle.sml_layers.specs.Demands.{CanBeMet}
-use Rattle.sml_rules.specs.Answers.{accepted}
 use Rattle.sml_rules.specs.Matching.{Realisation}
-use Rattle.sml_rules.proofs.Sound.{accepted_same, not_refused}
-use Rattle.sml_core_rules.specs.Objects.{Env, Maps, Structures, Value, TyStr, Basis, maps, no_structure, and_structure, put_structure, extend, replace, replace_structures, replaced}
-use Rattle.sml_core_rules.specs.Solutions.{IsAlways}
-use Rattle.sml_core_rules.specs.States.{Scope, State, words}
-use Rattle.sml_core_rules.specs.Scripts.{determine, IsAnswer}
-use Rattle.sml_core_rules.proofs.Accepted.{given, bind-accepted, kept}
+use Rattle.sml_core_rules.specs.Objects.{Env, Maps, Structures, Value, TyStr, maps, no_structure, and_structure, put_structure, extend, replace, replace_structures, replaced}
 use Rattle.sml_module_rules.specs.Realising.{realise_env, realise_value, realise_ty_str}
-use Rattle.sml_module_rules.specs.Structures.{settle_values, settle_env, settle_structures}
+use Rattle.sml_core_rules.specs.Assigned.{assign_value}
+use Rattle.sml_module_rules.specs.Structures.{with_types}
 use Rattle.sml_module_rules.proofs.Grown.{ordered}
 use Rattle.sml_module_rules.proofs.Closed.{IsClosed, assign-closed, scheme-closed}
 
@@ -68,40 +59,23 @@ HasNoUnknown v = IsClosed v.scheme.body
 pub realised-closed : {N : Type 0} (φ : Realisation N) (E : Env N) → EachValue HasNoUnknown (realise_env φ E)
 realised-closed φ E = values-replaced (realise_ty_str φ) (realise_value φ) HasNoUnknown (λ v. scheme-closed v.scheme.variables _) E
 
-module _ {P N : Type 0} (scope : Scope N) (B : Basis N) (p : P) where
-  determined : (t : MlType N) (f : Fault P) → IsClosed t → (s : State P N) → CanBeMet (words scope) Rigidity s.demands → (q : MlType N × State P N) → IsAnswer scope (determine t f) s (accepted q) → q.0 ≡ t
-  unfolding IsAnswer IsAlways
-  determined t f c s m q (inl (u, a, h)) = ap (λ q. q.0) (accepted_same h) ∙ (sym (a m.0 m.1) ∙ assign-closed m.0 t c)
-  determined t f c s m q (inr h) = absurd (not_refused h.1)
-
-  values-settled : (vs : Map (Value N)) → EachOf HasNoUnknown vs → (s : State P N) → CanBeMet (words scope) Rigidity s.demands → (r : Map (Value N) × State P N)
-      → IsAnswer scope (settle_values scope B p vs) s (accepted r) → r.0 ≡ vs
+module _ {N : Type 0} (σ : ℕ → MlType N) where
+  values-settled : (vs : Map (Value N)) → EachOf HasNoUnknown vs → replaced (assign_value σ) vs ≡ vs
   unfolding EachOf
-  values-settled [] c s m r h = given scope [] s r h
-  values-settled (e ∷ vs) c s m r h =
-      let a = bind-accepted scope _ _ s r h in
-      let b = bind-accepted scope _ _ a.0.1 r a.2 in
-      let t = determined e.1.scheme.body _ c.0 s m a.0 a.1 in
-      let n = (kept scope _ s a.0 a.1).met m in
-      let w = values-settled vs c.1 a.0.1 n b.0 b.1 in
-      given scope _ b.0.1 r b.2 ∙ λ i. (e.0, record { scheme = record { variables = e.1.scheme.variables; body = t i }; status = e.1.status }) ∷ w i
+  values-settled [] c = refl
+  values-settled (e ∷ vs) c = λ i. (e.0, record { scheme = record { variables = e.1.scheme.variables; body = assign-closed σ e.1.scheme.body c.0 i }; status = e.1.status }) ∷ values-settled vs c.1 i
+
+  types-same : (ts : Map (TyStr N)) → replaced (λ t. t) ts ≡ ts
+  types-same [] = refl
+  types-same (e ∷ ts) = λ i. e ∷ types-same ts i
 
   mutual
-    unfolding EachValue settle_env settle_structures
+    unfolding EachValue replace replace_structures
 
-    pub env-settled : (E : Maps (TyStr N) (Value N)) → EachValue HasNoUnknown E → (s : State P N) → CanBeMet (words scope) Rigidity s.demands → (r : Env N × State P N)
-        → IsAnswer scope (settle_env scope B p E) s (accepted r) → r.0 ≡ E
-    env-settled (maps ss ts vs) c s m r h =
-        let a = bind-accepted scope _ _ s r h in
-        let b = bind-accepted scope _ _ a.0.1 r a.2 in
-        let q = structures-settled ss c.0 s m a.0 a.1 in
-        let w = values-settled vs c.1 a.0.1 ((kept scope _ s a.0 a.1).met m) b.0 b.1 in given scope _ b.0.1 r b.2 ∙ λ i. maps (q i) ts (w i)
+    -- an environment without unknowns is determined as it is
+    pub env-settled : (E : Env N) → EachValue HasNoUnknown E → with_types σ E ≡ E
+    env-settled (maps ss ts vs) c = λ i. maps (structures-settled ss c.0 i) (types-same ts i) (values-settled vs c.1 i)
 
-    structures-settled : (ss : Structures (TyStr N) (Value N)) → EachInside HasNoUnknown ss → (s : State P N) → CanBeMet (words scope) Rigidity s.demands
-        → (r : Structures (TyStr N) (Value N) × State P N) → IsAnswer scope (settle_structures scope B p ss) s (accepted r) → r.0 ≡ ss
-    structures-settled no_structure c s m r h = given scope no_structure s r h
-    structures-settled (and_structure x E ss) c s m r h =
-        let a = bind-accepted scope _ _ s r h in
-        let b = bind-accepted scope _ _ a.0.1 r a.2 in
-        let e = env-settled E c.0 s m a.0 a.1 in
-        let q = structures-settled ss c.1 a.0.1 ((kept scope _ s a.0 a.1).met m) b.0 b.1 in given scope _ b.0.1 r b.2 ∙ λ i. and_structure x (e i) (q i)
+    structures-settled : (ss : Structures (TyStr N) (Value N)) → EachInside HasNoUnknown ss → replace_structures (λ t. t) (assign_value σ) ss ≡ ss
+    structures-settled no_structure c = refl
+    structures-settled (and_structure x E ss) c = λ i. and_structure x (env-settled E c.0 i) (structures-settled ss c.1 i)

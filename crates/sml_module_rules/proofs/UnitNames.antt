@@ -1,6 +1,5 @@
--- Which names stand in what units export, in what a unit begins with, and in the replies to it.
+-- Which names stand in what units export, in what a unit begins with, and in the answers to it.
 use Rattle.std.specs.Prelude.{◌≡◌, ℕ, zero, suc, List, [], ◌∷◌, ◌++◌, Option, Some, None, map, get_or}
-use mathlib.Core.Path.{subst}
 use mathlib.Core.Logic.{inl, inr}
 use Rattle.sml_tree.specs.Structures.{TopDec}
 use Rattle.sml_objects.specs.Appearance.{Stands}
@@ -9,10 +8,11 @@ use Rattle.sml_rules.specs.Answers.{Answer, refused, accepted}
 use Rattle.sml_rules.proofs.Within.{last, both}
 use Rattle.sml_core_rules.specs.Objects.{Basis, names_map, names_in, names_structures, names_fun_sig, names_sig, names_env, names_basis}
 use Rattle.sml_core_rules.specs.States.{Scope}
-use Rattle.sml_module_rules.specs.Programs.{add_basis, basis_after, AreReadings, Pair, same, structures, functors, shown, all_shown}
-use Rattle.sml_module_rules.specs.Projects.{Exports, nothing, after_all, with_needs, beginning}
+use Rattle.sml_module_rules.specs.Structures.{nothing, add_basis}
+use Rattle.sml_module_rules.specs.Programs.{basis_after, AreReadings, Pair, same, structures, functors, shown, all_shown}
+use Rattle.sml_module_rules.specs.Projects.{Exports, after_all, with_needs, beginning}
 use Rattle.sml_module_rules.proofs.Grown.{every-stands, stands-every, in-sum, IsWhole, whole-sum}
-use Rattle.sml_module_rules.proofs.Programs.{IsAddition, reply-added}
+use Rattle.sml_module_rules.proofs.Programs.{IsAddition, answer-added}
 
 -- an object mentions these names alone
 abbrev pub Mentions : {N : Type 0} → Basis N → List N → Type 0
@@ -66,27 +66,27 @@ beginning-whole {N} I E ks h e =
     let rest = names_map names_fun_sig B.functors ++ (names_map names_sig B.signatures ++ names_env B.body) in
     stands-every P (E.names ++ rest) (both P E.names rest (every-stands P E.names (λ n s. s)) (last P B.names rest a))
 
--- what stands in replies
-unfoldable pub RepliesMention : {P N : Type 0} → List (Option (Answer P (Basis N))) → List N → Type 0
-RepliesMention [] ns = Unit {0}
-RepliesMention (None ∷ os) ns = RepliesMention os ns
-RepliesMention (Some (refused f) ∷ os) ns = RepliesMention os ns
-RepliesMention (Some (accepted A) ∷ os) ns = Mentions A ns × RepliesMention os ns
+-- what stands in shown answers
+unfoldable pub ShownMention : {P N : Type 0} → List (Option (Answer P (Basis N))) → List N → Type 0
+ShownMention [] ns = Unit {0}
+ShownMention (None ∷ os) ns = ShownMention os ns
+ShownMention (Some (refused f) ∷ os) ns = ShownMention os ns
+ShownMention (Some (accepted A) ∷ os) ns = Mentions A ns × ShownMention os ns
 
--- what shown replies add
+-- what shown answers add
 abbrev pub after_shown : {P N : Type 0} → Basis N → List (Option (Answer P (Basis N))) → Basis N
 after_shown B [] = B
 after_shown B (None ∷ os) = after_shown B os
 after_shown B (Some o ∷ os) = after_shown (basis_after B o) os
 
-keep-refused : {P N : Type 0} (d : Pair P) (f : _) (os : List (Option (Answer P (Basis N)))) (ns : List N) → RepliesMention os ns → RepliesMention (shown d (refused f) ∷ os) ns
-unfolding RepliesMention
+keep-refused : {P N : Type 0} (d : Pair P) (f : _) (os : List (Option (Answer P (Basis N)))) (ns : List N) → ShownMention os ns → ShownMention (shown d (refused f) ∷ os) ns
+unfolding ShownMention
 keep-refused (same p d) f os ns h = h
 keep-refused (structures p q bs) f os ns h = h
 keep-refused (functors p q bs) f os ns h = h
 
-keep-accepted : {P N : Type 0} (d : Pair P) (A : Basis N) (os : List (Option (Answer P (Basis N)))) (ns : List N) → Mentions A ns → RepliesMention os ns → RepliesMention (shown d (accepted A) ∷ os) ns
-unfolding RepliesMention
+keep-accepted : {P N : Type 0} (d : Pair P) (A : Basis N) (os : List (Option (Answer P (Basis N)))) (ns : List N) → Mentions A ns → ShownMention os ns → ShownMention (shown d (accepted A) ∷ os) ns
+unfolding ShownMention
 keep-accepted (same p d) A os ns h k = (h, k)
 keep-accepted (structures p q bs) A os ns h k = (h, k)
 keep-accepted (functors p q bs) A os ns h k = (h, k)
@@ -103,26 +103,26 @@ module _ {P N : Type 0} (scope : Scope N) (side : Pair P → P × TopDec P) wher
   exported-shown (functors p q bs ∷ ds) B X (refused f ∷ os) h = exported-shown ds B X os h.1
   exported-shown (functors p q bs ∷ ds) B X (accepted A ∷ os) h = exported-shown ds (add_basis B A) (add_basis X A) os h.1
 
-  -- what replies mention, and what they add to what came before: names that were made there, or before all of it
-  pub replies-mention : (T : List N) (ds : List (Pair P)) (B X : Basis N) → IsWhole B → Mentions X (X.names ++ T) → ((n : N) → Stands n B.names → Stands n (X.names ++ T))
+  -- what shown answers mention, and what they add to what came before: names that were made there, or before all of it
+  pub shown-mention : (T : List N) (ds : List (Pair P)) (B X : Basis N) → IsWhole B → Mentions X (X.names ++ T) → ((n : N) → Stands n B.names → Stands n (X.names ++ T))
       → (os : List (Answer P (Basis N))) → AreReadings scope B (map side ds) os
-      → Mentions (after_all X os) ((after_all X os).names ++ T) × RepliesMention (all_shown ds os) ((after_all X os).names ++ T)
+      → Mentions (after_all X os) ((after_all X os).names ++ T) × ShownMention (all_shown ds os) ((after_all X os).names ++ T)
       × ((n : N) → Stands n X.names → Stands n (after_all X os).names)
-  unfolding AreReadings RepliesMention
-  replies-mention T [] B X w h b [] r = (h, tt, λ n s. s)
-  replies-mention T [] B X w h b (o ∷ os) r = absurd r
-  replies-mention T (d ∷ ds) B X w h b [] r = absurd r
-  replies-mention T (d ∷ ds) B X w h b (refused f ∷ os) r =
-      let a = replies-mention T ds B X w h b os r.1 in (a.0, keep-refused d f (all_shown ds os) ((after_all X os).names ++ T) a.1, a.2)
-  replies-mention T (d ∷ ds) B X w h b (accepted A ∷ os) r =
-      let c : IsAddition {P = P} B (accepted A) = subst (IsAddition B) r.0.2 (reply-added scope B (side d).0 (side d).1 r.0.0 r.0.1) in
+  unfolding AreReadings ShownMention
+  shown-mention T [] B X w h b [] r = (h, tt, λ n s. s)
+  shown-mention T [] B X w h b (o ∷ os) r = absurd r
+  shown-mention T (d ∷ ds) B X w h b [] r = absurd r
+  shown-mention T (d ∷ ds) B X w h b (refused f ∷ os) r =
+      let a = shown-mention T ds B X w h b os r.1 in (a.0, keep-refused d f (all_shown ds os) ((after_all X os).names ++ T) a.1, a.2)
+  shown-mention T (d ∷ ds) B X w h b (accepted A ∷ os) r =
+      let c : IsAddition {P = P} B (accepted A) = answer-added scope B (side d).0 (side d).1 (accepted A) r.0 in
       let own : List N = A.names ++ X.names in
       let old : (n : N) → Stands n (X.names ++ T) → Stands n (own ++ T) =
       λ n s. either (Stands n (own ++ T)) n X.names T (λ k. left n own T (right n A.names X.names k)) (λ k. right n own T k) s in
       let new : (n : N) → Stands n (A.names ++ B.names) → Stands n (own ++ T) =
       λ n s. either (Stands n (own ++ T)) n A.names B.names (λ k. left n own T (left n A.names X.names k)) (λ k. old n (b n k)) s in
       let x = sum-mentions (own ++ T) X A (λ n s. old n (h n s)) (λ n s. new n (c n s)) in
-      let a = replies-mention T ds (add_basis B A) (add_basis X A) (whole-sum B A w c) x new os r.1 in
+      let a = shown-mention T ds (add_basis B A) (add_basis X A) (whole-sum B A w c) x new os r.1 in
       let all : List N = (after_all (add_basis X A) os).names in
       let there : Mentions A (all ++ T) = λ n s. either (Stands n (all ++ T)) n own T (λ k. left n all T (a.2 n k)) (λ k. right n all T k) (new n (c n s)) in
       (a.0, keep-accepted d A (all_shown ds os) (all ++ T) there a.1, λ n s. a.2 n (right n A.names X.names s))

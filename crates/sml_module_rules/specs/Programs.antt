@@ -1,24 +1,14 @@
 -- Programs: top-level declarations one after the other (the Definition, section 8, without the dynamic part).
-use Rattle.std.specs.Prelude.{◌≡◌, List, [], ◌∷◌, ◌++◌, map, Option, Some, None}
+use Rattle.std.specs.Prelude.{List, [], ◌∷◌, map, Option, Some, None}
 use Rattle.sml_tree.specs.Names.{Name}
+use Rattle.sml_tree.specs.Expressions.{open_dec}
 use Rattle.sml_tree.specs.Signatures.{SigExp}
 use Rattle.sml_tree.specs.declared.structures.Ascription.TheVariants.{Opaque}
-use Rattle.sml_tree.specs.Structures.{StrExp, StrBinds, FunBind, TopDec, ascribed, structure_dec, str_bind, no_str_bind, and_str_bind, top_str, functor_dec}
-use Rattle.sml_objects.specs.Maps.{join}
+use Rattle.sml_tree.specs.Structures.{StrExp, StrBinds, FunBind, TopDec, ascribed, str_let, core_dec, structure_dec, no_str_dec, and_str_dec, str_bind, no_str_bind, and_str_bind, top_str, functor_dec}
 use Rattle.sml_rules.specs.Answers.{Answer, refused, accepted}
-use Rattle.sml_core_rules.specs.Objects.{Basis, extend}
-use Rattle.sml_core_rules.specs.States.{Scope, State}
-use Rattle.sml_core_rules.specs.Scripts.{result}
-use Rattle.sml_module_rules.specs.Structures.{IsTopReading}
-
--- a basis with what a declaration adds, which hides what it binds again
-abbrev pub add_basis : {N : Type 0} → Basis N → Basis N → Basis N
-add_basis B A = record {
-  names = A.names ++ B.names;
-  functors = join B.functors A.functors;
-  signatures = join B.signatures A.signatures;
-  body = extend B.body A.body;
-}
+use Rattle.sml_core_rules.specs.Objects.{Basis}
+use Rattle.sml_core_rules.specs.States.{Scope}
+use Rattle.sml_module_rules.specs.Structures.{add_basis, IsTopReading}
 
 -- a fault adds nothing
 abbrev pub basis_after : {P N : Type 0} → Basis N → Answer P (Basis N) → Basis N
@@ -30,8 +20,7 @@ unfoldable pub AreReadings : {P N : Type 0} → Scope N → Basis N → List (P 
 AreReadings scope B [] [] = Unit {0}
 AreReadings scope B [] (o ∷ os) = ⊥
 AreReadings scope B (d ∷ ds) [] = ⊥
-AreReadings {P} {N} scope B (d ∷ ds) (o ∷ os) =
-    ((r : Answer P (Basis N × State P N)) × IsTopReading scope d.0 B d.1 r × (result r ≡ o)) × AreReadings scope (basis_after B o) ds os
+AreReadings scope B (d ∷ ds) (o ∷ os) = IsTopReading scope d.0 B d.1 o × AreReadings scope (basis_after B o) ds os
 
 -- What stands behind a seal: the place of the ascription, and the structure.
 pub record Behind (P : Type 0) : Type 0 where
@@ -59,45 +48,73 @@ pub record SealedFunctor (P : Type 0) : Type 0 where
   pub first : Behind P
   pub second : Behind P
 
+-- A structure of a group that two programs have: the same in both, or sealed by one signature.
+pub data StructurePair (P : Type 0) : Type 0 where
+  kept_structure : Name P → StrExp P → StructurePair P
+  sealed_structure : SealedStructure P → StructurePair P
+
+-- A functor of a group that two programs have: the same in both, or with a body that one signature seals. In the last case the argument
+-- is opened around the body, as where it is written by its specifications.
+pub data FunctorPair (P : Type 0) : Type 0 where
+  kept_functor : FunBind P → FunctorPair P
+  sealed_functor : SealedFunctor P → FunctorPair P
+  opened_functor : SealedFunctor P → FunctorPair P
+
 -- `.. :> s`
 abbrev pub sealed : {P : Type 0} → Behind P → SigExp P → StrExp P
 sealed e s = ascribed e.ascription e.body Opaque s
 
--- `x = .. :> s and ..`, as one of the programs has it
-abbrev pub sealed_structures : {P : Type 0} → (SealedStructure P → Behind P) → List (SealedStructure P) → StrBinds P
-sealed_structures side [] = no_str_bind
-sealed_structures side (b ∷ bs) = and_str_bind (str_bind b.name (sealed (side b) b.signature)) (sealed_structures side bs)
+-- `let open x in .. end`, at the place of x
+abbrev pub opened : {P : Type 0} → Name P → StrExp P → StrExp P
+opened x e = str_let x.place (and_str_dec (core_dec (open_dec x.place (record { place = x.place; id = record { path = []; last = x.id } } ∷ []))) no_str_dec) e
 
--- `f (x : s) = .. :> t and ..`, likewise
-abbrev pub sealed_functor : {P : Type 0} → Behind P → SealedFunctor P → FunBind P
-sealed_functor e b = record { name = b.name; argument = b.argument; signature = b.signature; body = sealed e b.result }
+-- `x = .. and ..`, as one of the programs has it
 
-abbrev pub sealed_functors : {P : Type 0} → (SealedFunctor P → Behind P) → List (SealedFunctor P) → List (FunBind P)
-sealed_functors side bs = map (λ b. sealed_functor (side b) b) bs
+abbrev pub structure_name : {P : Type 0} → StructurePair P → Name P
+structure_name (kept_structure x e) = x
+structure_name (sealed_structure b) = b.name
 
--- A declaration of one program and that of another in its place: the same, or two that are alike but for what stands behind
+abbrev pub structure_body : {P : Type 0} → (SealedStructure P → Behind P) → StructurePair P → StrExp P
+structure_body side (kept_structure x e) = e
+structure_body side (sealed_structure b) = sealed (side b) b.signature
+
+abbrev pub structure_group : {P : Type 0} → (SealedStructure P → Behind P) → List (StructurePair P) → StrBinds P
+structure_group side [] = no_str_bind
+structure_group side (b ∷ bs) = and_str_bind (str_bind (structure_name b) (structure_body side b)) (structure_group side bs)
+
+-- `f (x : s) = .. and ..`, likewise
+abbrev pub functor_of : {P : Type 0} → (SealedFunctor P → Behind P) → FunctorPair P → FunBind P
+functor_of side (kept_functor b) = b
+functor_of side (sealed_functor b) = record { name = b.name; argument = b.argument; signature = b.signature; body = sealed (side b) b.result }
+functor_of side (opened_functor b) =
+    record { name = b.name; argument = b.argument; signature = b.signature; body = opened b.argument (sealed (side b) b.result) }
+
+abbrev pub functor_group : {P : Type 0} → (SealedFunctor P → Behind P) → List (FunctorPair P) → List (FunBind P)
+functor_group side bs = map (functor_of side) bs
+
+-- A declaration of one program and that of another in its place: the same, or two groups that are alike but for what stands behind
 -- seals: structures joined by `and`, or functors.
 pub data Pair (P : Type 0) : Type 0 where
   same : P → TopDec P → Pair P
-  structures : Places P → Places P → List (SealedStructure P) → Pair P
-  functors : Places P → Places P → List (SealedFunctor P) → Pair P
+  structures : Places P → Places P → List (StructurePair P) → Pair P
+  functors : Places P → Places P → List (FunctorPair P) → Pair P
 
 abbrev pub first : {P : Type 0} → Pair P → P × TopDec P
 first (same p d) = (p, d)
-first (structures p q bs) = (p.declaration, top_str (structure_dec p.bindings (sealed_structures (λ b. b.first) bs)))
-first (functors p q bs) = (p.declaration, functor_dec p.bindings (sealed_functors (λ b. b.first) bs))
+first (structures p q bs) = (p.declaration, top_str (structure_dec p.bindings (structure_group (λ b. b.first) bs)))
+first (functors p q bs) = (p.declaration, functor_dec p.bindings (functor_group (λ b. b.first) bs))
 
 abbrev pub second : {P : Type 0} → Pair P → P × TopDec P
 second (same p d) = (p, d)
-second (structures p q bs) = (q.declaration, top_str (structure_dec q.bindings (sealed_structures (λ b. b.second) bs)))
-second (functors p q bs) = (q.declaration, functor_dec q.bindings (sealed_functors (λ b. b.second) bs))
+second (structures p q bs) = (q.declaration, top_str (structure_dec q.bindings (structure_group (λ b. b.second) bs)))
+second (functors p q bs) = (q.declaration, functor_dec q.bindings (functor_group (λ b. b.second) bs))
 
--- the reply to one of two that differ: not its fault
+-- the answer to one of two that differ: not its fault
 abbrev pub acceptance : {P N : Type 0} → Answer P (Basis N) → Option (Answer P (Basis N))
 acceptance (refused f) = None
 acceptance (accepted A) = Some (accepted A)
 
--- the reply to one of the two, but for faults of those that differ
+-- the answer to one of the two, but for faults of those that differ
 abbrev pub shown : {P N : Type 0} → Pair P → Answer P (Basis N) → Option (Answer P (Basis N))
 shown (same p d) o = Some o
 shown (structures p q bs) o = acceptance o

@@ -1,4 +1,5 @@
--- Signature expressions and specifications (the Definition, section 5.7, rules 62 to 65 and 68 to 82).
+-- Signature expressions and specifications (the Definition, section 5.7, rules 62 to 65 and 68 to 84).
+-- The names of a signature stand in the order in which the text makes them.
 use Rattle.std.specs.Prelude.{◌≡◌, ◌⊎◌, ℕ, suc, Bool, true, false, ◌&&◌, ◌||◌, not, is_some, cond, List, [], ◌∷◌, ◌++◌, map, length, Option, Some, None}
 use Rattle.sml_lex.specs.declared.fault.Code.TheVariants.{E2, E3, E4, E7, N1, N2, N3, N4, N5, N6, N7}
 use Rattle.sml_tree.specs.Trees.{Id, LongId}
@@ -49,7 +50,7 @@ abbrev pub once : List Id → List Id → List Id
 once seen [] = []
 once seen (x ∷ xs) = cond (is_listed x seen) (once seen xs) (x ∷ once (x ∷ seen) xs)
 
--- the variables with the unknowns from 0 on
+-- the variables, each with a free variable, from 0 on
 abbrev pub standing : {N : Type 0} → ℕ → List Id → Map (MlType N)
 standing k [] = []
 standing k (x ∷ xs) = (x, free k) ∷ standing (suc k) xs

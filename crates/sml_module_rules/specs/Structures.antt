@@ -1,19 +1,26 @@
--- Structure expressions, structure-level declarations and top-level declarations (the Definition, section 5.7, rules 50 to 61 and
--- 83 to 89).
-use Rattle.std.specs.Prelude.{◌≤◌, ◌+◌, ℕ, cond, List, [], ◌∷◌, ◌++◌, Option, Some, None, nat_eq}
+-- Structure expressions, structure-level declarations and top-level declarations (the Definition, section 5.7, rules 50 to 61, 66, 67
+-- and 85 to 89).
+use Rattle.std.specs.Prelude.{◌≡◌, ◌⊎◌, ◌≤◌, ◌+◌, ℕ, cond, List, [], ◌∷◌, ◌++◌, map, Option, Some, None, nat_eq}
+use Rattle.std.specs.List.{AllByRecursion}
 use Rattle.sml_lex.specs.declared.fault.Code.TheVariants.{E3, E7, Q1, Q2, Q3}
 use Rattle.sml_tree.specs.Trees.{Id}
 use Rattle.sml_tree.specs.Names.{Name}
 use Rattle.sml_tree.specs.Signatures.{SigExp, sig_end, sig_name, where_type}
 use Rattle.sml_tree.specs.Structures.{StrExp, StrDec, StrDecs, StrBinds, SigBind, FunBind, TopDec, struct_end, str_name, ascribed, functor_apply, str_let, core_dec, structure_dec, str_local, no_str_dec, and_str_dec, str_bind, no_str_bind, and_str_bind, top_str, signature_dec, functor_dec}
 use Rattle.sml_objects.specs.Appearance.{stands}
-use Rattle.sml_objects.specs.Maps.{Map, lookup, put}
-use Rattle.sml_rules.specs.Answers.{Answer, fault, fault_at}
-use Rattle.sml_core_rules.specs.Objects.{Env, Maps, Structures, Value, TyStr, Sig, FunSig, Basis, maps, no_structure, and_structure, empty, extend, names_env, names_basis}
+use Rattle.sml_objects.specs.Maps.{Map, lookup, put, join}
+use Rattle.sml_objects.specs.Objects.{MlType}
+use Rattle.sml_layers.specs.declared.layer.Layer.TheVariants.{Rigidity}
+use Rattle.sml_layers.specs.Worlds.{Assignment, finite}
+use Rattle.sml_lex.specs.Faults.{Fault}
+use Rattle.sml_rules.specs.Answers.{Answer, refused, accepted, fault, fault_at}
+use Rattle.sml_core_rules.specs.Objects.{Env, Sig, FunSig, Basis, maps, no_structure, and_structure, empty, extend, replace, replaced, names_env, names_basis}
+use Rattle.sml_core_rules.specs.Assigned.{assign_value}
+use Rattle.sml_core_rules.specs.Solutions.{Meets}
 use Rattle.sml_core_rules.specs.Lookups.{structure_at}
 use Rattle.sml_core_rules.specs.Expressions.{read_dec, at_first}
 use Rattle.sml_core_rules.specs.States.{Scope, State}
-use Rattle.sml_core_rules.specs.Scripts.{Script, give, refuse, ◌>>=◌, need, test, start_anew, determine, IsAnswer}
+use Rattle.sml_core_rules.specs.Scripts.{Script, give, refuse, ◌>>=◌, need, start_anew, IsAnswer}
 use Rattle.sml_module_rules.specs.Lines.{IsSmallEnv}
 use Rattle.sml_module_rules.specs.Matching.{ascribe, apply_functor}
 use Rattle.sml_module_rules.specs.Signatures.{read_sig}
@@ -26,13 +33,49 @@ signature_place (where_type p e w) = p
 abbrev pub one_structure : {N : Type 0} → Id → Env N → Env N
 one_structure x E = maps (and_structure x E no_structure) [] []
 
--- functors in text order, each with its argument and what its body is
-abbrev pub Bodies : Type 0 → Type 0
-Bodies N = List (Id × (Sig N × Env N))
+-- bases of one kind of things, without names
 
-abbrev pub AreSmallBodies : {N : Type 0} → Bodies N → Type 0
-AreSmallBodies [] = Unit {0}
-AreSmallBodies (e ∷ es) = IsSmallEnv e.1.1 × AreSmallBodies es
+abbrev pub nothing : {N : Type 0} → Basis N
+nothing = record { names = []; functors = []; signatures = []; body = empty }
+
+abbrev pub of_body : {N : Type 0} → Env N → Basis N
+of_body E = record nothing { body = E }
+
+abbrev pub of_functor : {N : Type 0} → Id → FunSig N → Basis N
+of_functor x F = record nothing { functors = (x, F) ∷ [] }
+
+-- a basis with what a declaration adds, which hides what it binds again
+abbrev pub add_basis : {N : Type 0} → Basis N → Basis N → Basis N
+add_basis B A = record {
+  names = A.names ++ B.names;
+  functors = join B.functors A.functors;
+  signatures = join B.signatures A.signatures;
+  body = extend B.body A.body;
+}
+
+-- no scheme and no type function of what is exported is over the limit
+abbrev pub IsSmallBasis : {N : Type 0} → Basis N → Type 0
+IsSmallBasis A = AllByRecursion (λ e. IsSmallEnv e.1.result.body) A.functors × IsSmallEnv A.body
+
+-- Parts of a declaration: what each binds, or None where a type of it was left open
+
+abbrev pub names_part : {N : Type 0} → Option (Basis N) → List N
+names_part None = []
+names_part (Some A) = names_basis A
+
+abbrev pub and_part : {P N : Type 0} → Option (Basis N) → Answer P (List (Option (Basis N))) → Answer P (List (Option (Basis N)))
+and_part m (refused f) = refused f
+and_part m (accepted ms) = accepted (m ∷ ms)
+
+abbrev pub and_bound : {N : Type 0} → Option (Basis N) → Option (Basis N) → Option (Basis N)
+and_bound None m = None
+and_bound (Some A) None = None
+and_bound (Some A) (Some C) = Some (add_basis A C)
+
+-- what all of them bind
+abbrev pub all_bound : {N : Type 0} → List (Option (Basis N)) → Option (Basis N)
+all_bound [] = Some nothing
+all_bound (m ∷ ms) = and_bound m (all_bound ms)
 
 module _ {N : Type 0} (scope : Scope N) where
   -- those of the names that are none of the others
@@ -40,29 +83,61 @@ module _ {N : Type 0} (scope : Scope N) where
   besides old [] = []
   besides old (n ∷ ns) = cond (stands scope.names n old) (besides old ns) (n ∷ besides (n ∷ old) ns)
 
-  -- what a declaration adds to a basis with such names
-  abbrev pub own_basis : List N → Map (FunSig N) → Map (Sig N) → Env N → Basis N
-  own_basis old fs gs E = record {
-    names = besides old (names_basis (record { names = []; functors = fs; signatures = gs; body = E }));
-    functors = fs;
-    signatures = gs;
-    body = E;
-  }
-
   -- a functor with this argument and body: the names of its result are those of the body that are neither the argument's nor
-  -- names of the basis (rule 86)
-  abbrev pub fun_sig : List N → Sig N → Env N → FunSig N
-  fun_sig old S E = record { argument = S; result = record { names = besides (S.names ++ old) (names_env E); body = E } }
+  -- names of the basis (rule 86), in the order in which they first appear in it
+  abbrev pub fun_sig : List N → FunSig N → FunSig N
+  fun_sig old F = record { argument = F.argument; result = record { names = besides (F.argument.names ++ old) (names_env F.result.body); body = F.result.body } }
 
   -- functors as they are exported, over the names of a basis
-  abbrev pub fun_sigs : List N → Bodies N → Map (FunSig N)
-  fun_sigs old [] = []
-  fun_sigs old (e ∷ es) = put e.0 (fun_sig old e.1.0 e.1.1) (fun_sigs old es)
+  abbrev pub exported_functors : List N → Basis N → Basis N
+  exported_functors old A = record A { functors = replaced (fun_sig old) A.functors }
+
+  -- what a declaration that binds this adds to a basis with such names; its own names stand in the order in which they first appear
+  -- in it
+  abbrev pub own_basis : List N → Basis N → Basis N
+  own_basis old A = record (exported_functors old A) { names = besides old (names_basis (record (exported_functors old A) { names = [] })) }
 
   -- how many of the names the unit has made
   abbrev pub count_made : List N → ℕ
   count_made [] = 0
   count_made (n ∷ ns) = cond (nat_eq (scope.names.attributes n).maker scope.unit) 1 0 + count_made ns
+
+  -- the names of a declaration, with those that its unit had before, are at most 1,048,576
+  abbrev pub AreFew : List N → Basis N → Type 0
+  AreFew old A = count_made (besides [] old ++ A.names) ≤ 1048576
+
+-- an environment with types for the unknowns of its values
+abbrev pub with_types : {N : Type 0} → (ℕ → MlType N) → Env N → Env N
+with_types σ E = replace (λ t. t) (assign_value σ) E
+
+abbrev pub basis_with_types : {N : Type 0} → (ℕ → MlType N) → Basis N → Basis N
+basis_with_types σ A = record A {
+  functors = replaced (λ F. record { argument = F.argument; result = record { names = F.result.names; body = with_types σ F.result.body } }) A.functors;
+  body = with_types σ A.body;
+}
+
+module _ {P N : Type 0} (scope : Scope N) where
+  -- the types are determined, and so it is this basis
+  abbrev pub IsDetermined : State P N → Basis N → Basis N → Type 0
+  IsDetermined s A C = (σ : Assignment N finite) → Meets scope s Rigidity σ → basis_with_types σ A ≡ C
+
+  -- an answer to a part without its state, where all types are determined, or None in its place
+  abbrev pub IsMarked : Answer P (Basis N × State P N) → Answer P (Option (Basis N)) → Type 0
+  IsMarked (refused f) o = o ≡ refused f
+  IsMarked (accepted r) o =
+      ((C : Basis N) × IsDetermined r.1 r.0 C × (o ≡ accepted (Some C))) ⊎ (((C : Basis N) → ¬ (IsDetermined r.1 r.0 C)) × (o ≡ accepted None))
+
+  -- What a part may be answered that is read alone: no name is made again that is one of these, and nothing was asked or made before
+  -- it.
+  abbrev pub IsAlone : List N → Script P N (Basis N) → Answer P (Option (Basis N)) → Type 0
+  IsAlone ns k o = (r : Answer P (Basis N × State P N)) × IsAnswer scope k (at_first ns) r × IsMarked r o
+
+  -- Parts, each read alone, up to the first that is refused. Those after one make none of the names that stand in it.
+  unfoldable pub AreAlone : List N → List (Script P N (Basis N)) → Answer P (List (Option (Basis N))) → Type 0
+  AreAlone ns [] o = o ≡ accepted []
+  AreAlone ns (k ∷ ks) o =
+      ((f : Fault P) × IsAlone ns k (refused f) × (o ≡ refused f))
+      ⊎ ((m : Option (Basis N)) × IsAlone ns k (accepted m) × (ms : Answer P (List (Option (Basis N)))) × AreAlone (names_part m ++ ns) ks ms × (o ≡ and_part m ms))
 
 module _ {P N : Type 0} (scope : Scope N) where
   abbrev pub functor_named : Name P → Option (FunSig N) → Script P N (FunSig N)
@@ -110,90 +185,64 @@ module _ {P N : Type 0} (scope : Scope N) where
         E ← read_str C e
         read_str_binds C (extend F (one_structure x.id E)) bs
 
-    -- Types of exported values that were left open are what they turned out to be, or Q2.
-
-    abbrev pub settle_values : P → Map (Value N) → Script P N (Map (Value N))
-    settle_values p [] = give []
-    settle_values p (e ∷ vs) = do
-      t ← determine e.1.scheme.body (fault Q2 p)
-      ws ← settle_values p vs
-      give ((e.0, record { scheme = record { variables = e.1.scheme.variables; body = t }; status = e.1.status }) ∷ ws)
-
-    unfoldable mutual
-      pub settle_env : P → Maps (TyStr N) (Value N) → Script P N (Env N)
-      settle_env p (maps ss ts vs) = do
-        rs ← settle_structures p ss
-        ws ← settle_values p vs
-        give (maps rs ts ws)
-
-      pub settle_structures : P → Structures (TyStr N) (Value N) → Script P N (Structures (TyStr N) (Value N))
-      settle_structures p no_structure = give no_structure
-      settle_structures p (and_structure s E ss) = do
-        F ← settle_env p E
-        rs ← settle_structures p ss
-        give (and_structure s F rs)
-
-    abbrev pub settle : P → Env N → Script P N (Env N)
-    settle p E = do
-      F ← settle_env p E
-      a ← test (IsSmallEnv F) (fault E7 p)
-      give F
-
-    -- Those of a list of functors, each by itself: first all types are what they turned out to be, and then none is too large.
-    abbrev pub settle_bodies : P → Bodies N → Script P N (Bodies N)
-    settle_bodies p [] = give []
-    settle_bodies p (e ∷ es) = do
-      E ← settle_env p e.1.1
-      rest ← settle_bodies p es
-      give ((e.0, (e.1.0, E)) ∷ rest)
-
-    -- signatures and functors, which see none of each other
-
+    -- signatures, which see none of each other
     unfoldable pub read_signatures : Map (Sig N) → List (SigBind P) → Script P N (Map (Sig N))
     read_signatures m [] = give m
     read_signatures m (b ∷ bs) = do
       S ← read_sig scope B.signatures B.body b.signature
       read_signatures (put b.name.id S m) bs
 
-    -- the argument of a functor, and what its body is
-    abbrev pub read_functor : FunBind P → Script P N (Sig N × Env N)
+    -- The parts of a top-level declaration: structures joined by `and`, or functors, each by itself, or all of another one. Each gives
+    -- what it binds.
+
+    abbrev pub read_structure : Name P → StrExp P → Script P N (Basis N)
+    read_structure x e = do
+      E ← read_str B.body e
+      give (of_body (one_structure x.id E))
+
+    abbrev pub structure_parts : StrBinds P → List (Script P N (Basis N))
+    structure_parts no_str_bind = []
+    structure_parts (and_str_bind (str_bind x e) bs) = read_structure x e ∷ structure_parts bs
+
+    -- the body sees the argument
+    abbrev pub read_functor : FunBind P → Script P N (Basis N)
     read_functor b = do
       S ← read_sig scope B.signatures B.body b.signature
       E ← read_str (extend B.body (one_structure b.argument.id S.body)) b.body
-      give (S, E)
+      give (of_functor b.name.id (record { argument = S; result = record { names = []; body = E } }))
 
-    unfoldable pub read_functors : Bodies N → List (FunBind P) → Script P N (Bodies N)
-    read_functors m [] = give m
-    read_functors m (b ∷ bs) = do
-      F ← read_functor b
-      read_functors (m ++ (b.name.id, F) ∷ []) bs
-
-    abbrev pub settle_functors : P → Bodies N → Script P N (Map (FunSig N))
-    settle_functors p m = do
-      n ← settle_bodies p m
-      a ← test (AreSmallBodies n) (fault E7 p)
-      give (fun_sigs scope B.names n)
-
-    -- its names are at most 1,048,576 with those that its unit had before
-    abbrev pub own : P → Map (FunSig N) → Map (Sig N) → Env N → Script P N (Basis N)
-    own p fs gs E = do
-      a ← test (count_made scope (besides scope [] B.names ++ (own_basis scope B.names fs gs E).names) ≤ 1048576) (fault Q3 p)
-      give (own_basis scope B.names fs gs E)
-
-    -- a top-level declaration, whose place is given
-    abbrev pub read_top : P → TopDec P → Script P N (Basis N)
-    read_top p (top_str d) = do
+    -- a declaration of one part
+    abbrev pub read_inside : StrDec P → Script P N (Basis N)
+    read_inside d = do
       E ← read_strdec B.body d
-      F ← settle p E
-      own p [] [] F
-    read_top p (signature_dec q bs) = do
-      gs ← read_signatures [] bs
-      own p [] gs empty
-    read_top p (functor_dec q bs) = do
-      m ← read_functors [] bs
-      fs ← settle_functors p m
-      own p fs [] empty
+      give (of_body E)
 
--- what a top-level declaration may be answered
-abbrev pub IsTopReading : {P N : Type 0} → Scope N → P → Basis N → TopDec P → Answer P (Basis N × State P N) → Type 0
-IsTopReading scope p B d o = IsAnswer scope (read_top scope B p d) (at_first B.names) o
+    abbrev pub str_parts : StrDec P → List (Script P N (Basis N))
+    str_parts (core_dec d) = read_inside (core_dec d) ∷ []
+    str_parts (structure_dec p bs) = structure_parts bs
+    str_parts (str_local p ds es) = read_inside (str_local p ds es) ∷ []
+
+    abbrev pub parts : TopDec P → List (Script P N (Basis N))
+    parts (top_str d) = str_parts d
+    parts (signature_dec p bs) = (do
+      gs ← read_signatures [] bs
+      give (record nothing { signatures = gs })) ∷ []
+    parts (functor_dec p bs) = map read_functor bs
+
+    -- What a declaration may be answered whose parts bind this, at its place: Q2 where a type was left open, E7 where one is too large,
+    -- Q3 where it has too many names, or what it adds.
+    abbrev pub IsExported : P → Option (Basis N) → Answer P (Basis N) → Type 0
+    IsExported p None o = o ≡ refused (fault Q2 p)
+    IsExported p (Some A) o =
+        (¬ (IsSmallBasis A) × (o ≡ refused (fault E7 p)))
+        ⊎ (IsSmallBasis A × ¬ (AreFew scope B.names (own_basis scope B.names A)) × (o ≡ refused (fault Q3 p)))
+        ⊎ (IsSmallBasis A × AreFew scope B.names (own_basis scope B.names A) × (o ≡ accepted (own_basis scope B.names A)))
+
+    -- the same, or the fault of a part
+    abbrev pub IsAnswered : P → Answer P (List (Option (Basis N))) → Answer P (Basis N) → Type 0
+    IsAnswered p (refused f) o = o ≡ refused f
+    IsAnswered p (accepted ms) o = IsExported p (all_bound ms) o
+
+-- what a top-level declaration may be answered, whose place is given
+abbrev pub IsTopReading : {P N : Type 0} → Scope N → P → Basis N → TopDec P → Answer P (Basis N) → Type 0
+IsTopReading {P} {N} scope p B d o = (ms : Answer P (List (Option (Basis N)))) × AreAlone scope B.names (parts scope B d) ms × IsAnswered scope B p ms o

@@ -8,6 +8,7 @@ pub mod Loose
 pub mod Functions
 pub mod Values
 pub mod Datatypes
+pub mod Alone
 pub mod Structures
 pub mod Signatures
 pub mod Overloads

@@ -25,23 +25,24 @@ use Rattle.sml_module_rules.specs.Lines.{lines, structure_lines}
 use Rattle.sml_module_rules.specs.Matching.{read_realisation, require_lines}
 use Rattle.sml_module_rules.specs.Realising.{are_parameters, with_names}
 use Rattle.sml_module_rules.specs.Signatures.{read_sig, read_specs, read_spec, read_values}
-use Rattle.sml_module_rules.specs.Structures.{read_str, read_strs, read_strdec, read_str_binds, settle_env, settle_structures, read_signatures, read_functors}
-use Rattle.sml_samples.specs.Modules.{SignatureSamples}
+use Rattle.sml_module_rules.specs.Structures.{read_str, read_strs, read_strdec, read_str_binds, read_signatures}
+use Rattle.sml_samples.specs.Modules.{functor_basis, SignatureSamples}
+use Rattle.sml_samples.proofs.Alone.{top, accepts, refuses}
 use Rattle.sml_samples.proofs.Steps.{◌⊳◌}
 use Rattle.sml_samples.proofs.Names.{first-made, third-made}
 
 pub signature-samples : SignatureSamples
-unfolding IsAnswer ◌>>=◌ A.◌>>=◌ read_dec read_binds read_patterns read_rights read_exp read_pat read_type_binds read_ty read_tys find_at type_at value_at structure_at type_size types_size replace_type replace_types close_as variables_after variables_after_all naming unguarded pat_variables exp_variables is_expansive has_unknown have_unknown names_in names_structures names_type names_types read_str read_strs read_strdec read_str_binds settle_env settle_structures lines structure_lines stands read_sig read_specs read_spec read_values read_realisation require_lines are_parameters with_names replace replace_structures realise_type realise_types ty_variables tys_variables read_signatures read_functors ℕ_discrete Outside
+unfolding IsAnswer ◌>>=◌ A.◌>>=◌ read_dec read_binds read_patterns read_rights read_exp read_pat read_type_binds read_ty read_tys find_at type_at value_at structure_at type_size types_size replace_type replace_types close_as variables_after variables_after_all naming unguarded pat_variables exp_variables is_expansive has_unknown have_unknown names_in names_structures names_type names_types read_str read_strs read_strdec read_str_binds lines structure_lines stands read_sig read_specs read_spec read_values read_realisation require_lines are_parameters with_names replace replace_structures realise_type realise_types ty_variables tys_variables read_signatures ℕ_discrete Outside
 signature-samples = record {
-  signature_accepted = (_, (made 1 0 0 false ∷ [], first-made 0 false, (omega arith, tt, tt) ⊳ refl ⊳ (omega arith, tt) ⊳ refl ⊳ omega arith ⊳ refl));
-  signature_refused = refl;
-  functor_accepted = (_, (made 1 0 0 false ∷ [], first-made 0 false, (omega arith, tt, tt) ⊳ refl ⊳ (omega arith, tt) ⊳ ((omega arith, tt, tt), tt) ⊳ omega arith ⊳ refl));
-  functor_refused = refl;
-  application_accepted = (
-    _,
-    (omega arith, tt, tt) ⊳ refl ⊳ refl ⊳ inl refl
-        ⊳ (made 1 2 0 true ∷ [], third-made false true true, (omega arith, tt, (omega arith, tt, tt)) ⊳ (omega arith, tt, (omega arith, tt, tt)) ⊳ omega arith ⊳ refl),
-  );
-  application_refused = refl;
-  argument_refused = refl;
+  signature_accepted =
+      accepts top _ _ (made 1 0 0 false ∷ [], first-made 0 false, (omega arith, tt, tt) ⊳ refl ⊳ (omega arith, tt) ⊳ refl ⊳ refl) (λ σ m. refl) (tt, tt) (omega arith) refl;
+  signature_refused = refuses top _ refl;
+  functor_accepted =
+      accepts top _ _ (made 1 0 0 false ∷ [], first-made 0 false, (omega arith, tt, tt) ⊳ refl ⊳ (omega arith, tt) ⊳ refl) (λ σ m. refl) (((omega arith, tt, tt), tt), tt) (omega arith) refl;
+  functor_refused = refuses top _ refl;
+  application_accepted =
+      accepts functor_basis _ _ ((omega arith, tt, tt) ⊳ refl ⊳ refl ⊳ inl refl ⊳ (made 1 2 0 true ∷ [], third-made false true true, (omega arith, tt, (omega arith, tt, tt)) ⊳ refl)) (λ σ m. refl)
+      (tt, (omega arith, tt, (omega arith, tt, tt))) (omega arith) refl;
+  application_refused = refuses functor_basis _ refl;
+  argument_refused = refuses functor_basis _ refl;
 }

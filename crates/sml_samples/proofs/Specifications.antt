@@ -26,7 +26,8 @@ use Rattle.sml_module_rules.specs.Realising.{are_parameters, with_names}
 use Rattle.sml_module_rules.specs.Signatures.{read_sig, read_specs, read_spec, read_values, read_exceptions, need_names, share_others, need_structures, share_paths, share_with, share_pairs}
 use Rattle.sml_module_rules.specs.Structures.{read_signatures}
 use Rattle.sml_samples.specs.Around.{initial_names}
-use Rattle.sml_samples.specs.Specifications.{SpecificationSamples}
+use Rattle.sml_samples.specs.Specifications.{with_signature, SpecificationSamples}
+use Rattle.sml_samples.proofs.Alone.{top, accepts, refuses}
 use Rattle.sml_samples.proofs.Steps.{◌⊳◌}
 use Rattle.sml_samples.proofs.Names.{first-made, second-made, third-made, made-new, outside-by}
 use Rattle.sml_samples.proofs.Datatypes.{first-datatype, new-datatype, with-equality}
@@ -48,55 +49,49 @@ letters-differ e = let n : 68 ≡ 69 = ap first_letter e in omega (arith, n)
 pub specification-samples : SpecificationSamples
 unfolding IsAnswer ◌>>=◌ A.◌>>=◌ read_type_binds read_arguments read_all_arguments read_ty read_tys find_at type_at value_at structure_at type_size types_size replace_type replace_types close_as variables_after variables_after_all naming names_in names_structures names_type names_types lines structure_lines stands read_sig read_specs read_spec read_values read_exceptions need_names share_others need_structures share_paths share_with share_pairs are_parameters with_names replace replace_structures realise_type realise_types ty_variables tys_variables read_signatures admits_by all_admit_by ℕ_discrete
 specification-samples = record {
-  name_accepted = (_, (made 1 1 0 false ∷ [], second-made false false, omega arith ⊳ refl));
-  val_refused = refl;
-  type_refused = (
+  name_accepted = accepts with_signature _ _ ((made 1 1 0 false ∷ [], second-made false false, refl)) (λ σ m. refl) (tt, tt) (omega arith) refl;
+  val_refused = refuses top _ (refl);
+  type_refused = refuses top _ ((
     made 1 0 0 false ∷ [],
     first-made 0 false,
     (omega arith, tt, tt) ⊳ refl
         ⊳ (made 1 1 0 false ∷ [], second-made false false, (omega arith, tt, tt) ⊳ inr (λ e. cc, refl)),
-  );
-  eqtype_accepted = (_, (made 1 0 0 true ∷ [], first-made 0 true, (omega arith, tt, tt) ⊳ refl ⊳ omega arith ⊳ refl));
-  datatype_accepted = (
-    _,
-    (
-      made 1 0 0 true ∷ [],
-      first-datatype _ _ true,
-      (refl, tt),
-      inr (_, refl, with-equality 0 0 _ refl, (omega arith, (omega arith, tt), (omega arith, tt)) ⊳ refl ⊳ omega arith ⊳ refl),
-    ),
-  );
-  datatype_refused = (made 1 0 0 true ∷ [], first-datatype _ _ true, (refl, tt), inl (_, refl, refl));
-  copy_accepted = (_, refl ⊳ omega arith ⊳ refl);
-  copy_refused = refl;
-  exception_accepted = (_, (omega arith, tt) ⊳ refl ⊳ omega arith ⊳ refl);
-  exception_refused = refl;
-  structure_accepted = (_, (made 1 0 0 false ∷ [], first-made 0 false, (omega arith, tt, tt) ⊳ refl ⊳ refl ⊳ omega arith ⊳ refl));
-  structure_refused = refl;
-  include_accepted = (_, (made 1 0 0 false ∷ [], first-made 0 false, (omega arith, tt, tt) ⊳ refl ⊳ refl ⊳ omega arith ⊳ refl));
-  include_refused = refl;
-  sharing_accepted = (
-    _,
-    (
-      made 1 0 0 false ∷ [],
-      first-made 0 false,
-      (omega arith, tt, tt) ⊳ refl
-          ⊳ (
-            made 1 1 0 false ∷ [],
-            second-made false false,
-            (omega arith, tt, tt) ⊳ refl ⊳ refl
-                ⊳ (made 1 2 0 false ∷ [], third-made false false false, inl refl ⊳ omega arith ⊳ refl),
-          ),
-    ),
-  );
-  sharing_refused = refl ⊳ (made 1 0 0 false ∷ [], first-made 0 false, (omega arith, tt, tt) ⊳ refl ⊳ refl);
-  arities_refused = (
+  ));
+  eqtype_accepted = accepts top _ _ ((made 1 0 0 true ∷ [], first-made 0 true, (omega arith, tt, tt) ⊳ refl ⊳ refl)) (λ σ m. refl) (tt, tt) (omega arith) refl;
+  datatype_accepted = accepts top _ _ ((
+    made 1 0 0 true ∷ [],
+    first-datatype _ _ true,
+    (refl, tt),
+    inr (_, refl, with-equality 0 0 _ refl, (omega arith, (omega arith, tt), (omega arith, tt)) ⊳ refl ⊳ refl),
+  )) (λ σ m. refl) (tt, tt) (omega arith) refl;
+  datatype_refused = refuses top _ ((made 1 0 0 true ∷ [], first-datatype _ _ true, (refl, tt), inl (_, refl, refl)));
+  copy_accepted = accepts top _ _ (refl ⊳ refl) (λ σ m. refl) (tt, tt) (omega arith) refl;
+  copy_refused = refuses top _ (refl);
+  exception_accepted = accepts top _ _ ((omega arith, tt) ⊳ refl ⊳ refl) (λ σ m. refl) (tt, tt) (omega arith) refl;
+  exception_refused = refuses top _ (refl);
+  structure_accepted = accepts top _ _ ((made 1 0 0 false ∷ [], first-made 0 false, (omega arith, tt, tt) ⊳ refl ⊳ refl ⊳ refl)) (λ σ m. refl) (tt, tt) (omega arith) refl;
+  structure_refused = refuses top _ (refl);
+  include_accepted = accepts top _ _ ((made 1 0 0 false ∷ [], first-made 0 false, (omega arith, tt, tt) ⊳ refl ⊳ refl ⊳ refl)) (λ σ m. refl) (tt, tt) (omega arith) refl;
+  include_refused = refuses top _ (refl);
+  sharing_accepted = accepts top _ _ ((
+    made 1 0 0 false ∷ [],
+    first-made 0 false,
+    (omega arith, tt, tt) ⊳ refl
+        ⊳ (
+          made 1 1 0 false ∷ [],
+          second-made false false,
+          (omega arith, tt, tt) ⊳ refl ⊳ refl
+              ⊳ (made 1 2 0 false ∷ [], third-made false false false, inl refl ⊳ refl),
+        ),
+  )) (λ σ m. refl) (tt, tt) (omega arith) refl;
+  sharing_refused = refuses top _ (refl ⊳ (made 1 0 0 false ∷ [], first-made 0 false, (omega arith, tt, tt) ⊳ refl ⊳ refl));
+  arities_refused = refuses top _ ((
     made 1 0 0 false ∷ [],
     first-made 0 false,
     (omega arith, tt, tt) ⊳ refl
         ⊳ (made 1 1 1 false ∷ [], made-new 1 1 false _ (outside-by (made 1 1 1 false) (made 1 0 0 false ∷ initial_names) refl), (omega arith, tt, tt) ⊳ refl ⊳ inr (λ e. cc, refl)),
-  );
-  constructors_refused = (
+  ));
+  constructors_refused = refuses top _ ((
     made 1 0 0 true ∷ [],
     first-datatype _ _ true,
     (refl, tt),
@@ -118,26 +113,23 @@ specification-samples = record {
             ),
           ),
     ),
-  );
-  structures_accepted = (
-    _,
-    (
-      made 1 0 0 false ∷ [],
-      first-made 0 false,
-      (omega arith, tt, tt) ⊳ refl ⊳ refl
-          ⊳ (
-            made 1 1 0 false ∷ [],
-            second-made false false,
-            (omega arith, tt, tt) ⊳ refl ⊳ refl ⊳ refl
-                ⊳ (made 1 2 0 false ∷ [], third-made false false false, inl refl ⊳ omega arith ⊳ refl),
-          ),
-    ),
-  );
-  structures_refused = (made 1 0 0 false ∷ [], first-made 0 false, (omega arith, tt, tt) ⊳ refl ⊳ refl ⊳ refl);
-  where_accepted = (_, (made 1 0 0 false ∷ [], first-made 0 false, (omega arith, tt, tt) ⊳ refl ⊳ refl ⊳ refl ⊳ inl refl ⊳ (omega arith, tt, tt) ⊳ omega arith ⊳ refl));
-  where_refused = (made 1 0 0 false ∷ [], first-made 0 false, (omega arith, tt, tt) ⊳ refl ⊳ refl);
-  where_equality_refused = (made 1 0 0 true ∷ [], first-made 0 true, (omega arith, tt, tt) ⊳ refl ⊳ refl ⊳ inr (λ e. cc, refl));
-  where_constructors_refused = (
+  ));
+  structures_accepted = accepts top _ _ ((
+    made 1 0 0 false ∷ [],
+    first-made 0 false,
+    (omega arith, tt, tt) ⊳ refl ⊳ refl
+        ⊳ (
+          made 1 1 0 false ∷ [],
+          second-made false false,
+          (omega arith, tt, tt) ⊳ refl ⊳ refl ⊳ refl
+              ⊳ (made 1 2 0 false ∷ [], third-made false false false, inl refl ⊳ refl),
+        ),
+  )) (λ σ m. refl) (tt, tt) (omega arith) refl;
+  structures_refused = refuses top _ ((made 1 0 0 false ∷ [], first-made 0 false, (omega arith, tt, tt) ⊳ refl ⊳ refl ⊳ refl));
+  where_accepted = accepts top _ _ ((made 1 0 0 false ∷ [], first-made 0 false, (omega arith, tt, tt) ⊳ refl ⊳ refl ⊳ refl ⊳ inl refl ⊳ (omega arith, tt, tt) ⊳ refl)) (λ σ m. refl) (tt, tt) (omega arith) refl;
+  where_refused = refuses top _ ((made 1 0 0 false ∷ [], first-made 0 false, (omega arith, tt, tt) ⊳ refl ⊳ refl));
+  where_equality_refused = refuses top _ ((made 1 0 0 true ∷ [], first-made 0 true, (omega arith, tt, tt) ⊳ refl ⊳ refl ⊳ inr (λ e. cc, refl)));
+  where_constructors_refused = refuses top _ ((
     made 1 0 0 true ∷ [],
     first-datatype _ _ true,
     (refl, tt),
@@ -147,5 +139,5 @@ specification-samples = record {
       with-equality 0 0 _ refl,
       (omega arith, (omega arith, tt), (omega arith, tt)) ⊳ refl ⊳ refl ⊳ refl ⊳ inr (λ o. elim o [ inl e ↦ absurd cc | inr h ↦ let e : codes "false" ∷ codes "true" ∷ [] ≡ codes "D" ∷ [] = ap constructors_of h.1 ∙ h.2 in absurd cc ], refl),
     ),
-  );
+  ));
 }

@@ -1,18 +1,18 @@
 -- Samples of structures against signatures, each beside what it is.
 use Rattle.std.specs.Prelude.{◌+◌, false, true, [], ◌∷◌, codes, Some}
-use Rattle.sml_lex.specs.declared.fault.Code.TheVariants.{M2, M3, M4, M5, M6, M7, Q2}
+use Rattle.sml_lex.specs.declared.fault.Code.TheVariants.{E3, M2, M3, M4, M5, M6, M7, Q2}
 use Rattle.sml_tree.specs.declared.structures.Ascription.TheVariants.{Transparent}
 use Rattle.sml_tree.specs.Trees.{Id}
 use Rattle.sml_tree.specs.Types.{Ty, ty_variable, ty_arrow}
 use Rattle.sml_tree.specs.Expressions.{Dec, DatBind, apply, bracket, val_dec, datatype_dec, no_bind}
 use Rattle.sml_tree.specs.Signatures.{SigExp, Spec, sig_end, where_type, val_spec, type_spec, datatype_spec, exception_spec}
-use Rattle.sml_tree.specs.Structures.{TopDec, struct_end, and_str_dec, ascribed, core_dec, top_str}
+use Rattle.sml_tree.specs.Structures.{TopDec, struct_end, str_name, and_str_dec, ascribed, core_dec, structure_dec, str_bind, no_str_bind, and_str_bind, top_str}
 use Rattle.sml_objects.specs.Names.{int}
 use Rattle.sml_objects.specs.Initial.{Name, made}
 use Rattle.sml_objects.specs.Objects.{MlType, Scheme, app, name, bound, no_type, and_type, arrow_of}
 use Rattle.sml_rules.specs.Answers.{fault, fault_at}
 use Rattle.sml_core_rules.specs.Objects.{Env, constructor, variable, of_values, maps, no_structure}
-use Rattle.sml_samples.specs.Around.{Place, name_at, constructor_at, type_of, value_of}
+use Rattle.sml_samples.specs.Around.{Place, name_at, long_at, constructor_at, type_of, value_of}
 use Rattle.sml_samples.specs.Core.{plain_constructor, datatype_binding, type_at, pattern_at, one_binding, three, variable_at, identity, one_value}
 use Rattle.sml_samples.specs.Modules.{AcceptsTop, RefusesTop, core_at, top_structure, one_structure}
 use Rattle.sml_samples.specs.Specifications.{specs_of, eqtype_specified, type_alone, is_type}
@@ -54,6 +54,11 @@ boxes_of n =
     ((codes "d", record { function = record { variables = false ∷ []; body = boxed n }; constructors = (codes "D", box_scheme n) ∷ [] }) ∷ [])
     ((codes "D", record { scheme = box_scheme n; status = constructor 0 1 }) ∷ [])
 
+-- `structure A = struct val i = .. end and B = C`
+abbrev pub open_group : TopDec Place
+open_group =
+    top_str (structure_dec 1 (and_str_bind (str_bind (name_at 2 (codes "A")) (struct_end 4 (core_at open_value))) (and_str_bind (str_bind (name_at 22 (codes "B")) (str_name (long_at 24 (codes "C")))) no_str_bind)))
+
 pub record MatchSamples : Type 0 where
   -- `struct datatype 'a d = D of 'a end : sig datatype 'a d = D of 'a end`
   pub datatype_accepted : AcceptsTop (against (datatype_dec 5 (boxes_binding 6 ∷ [])) (one_spec 14 (datatype_spec 15 (boxes_binding 16 ∷ []))))
@@ -88,5 +93,7 @@ pub record MatchSamples : Type 0 where
       (struct_end 4 (and_str_dec (core_dec open_value) (core_at (val_dec 20 [] (one_binding (pattern_at 21 (codes "j")) (apply 23 (variable_at 23 (codes "i")) (three 24))) no_bind)))))
       (one_structure []
       (of_values ((codes "i", value_of variable (arrow_of (type_of int) (type_of int))) ∷ (codes "j", value_of variable (type_of int)) ∷ [])))
+  -- an open type in a structure, where the structure after it in the group is refused: `structure A = struct .. end and B = C`
+  pub group_refused : RefusesTop open_group (fault_at E3 24 (codes "C" ∷ []))
   -- an open type at the top
   pub top_refused : RefusesTop (top_str (core_dec open_value)) (fault Q2 1)

@@ -14,7 +14,6 @@ use Rattle.sml_objects.specs.Initial.{Name, made}
 use Rattle.sml_objects.specs.Objects.{MlType, named}
 use Rattle.sml_rules.specs.Answers.{refused, accepted, fault_at}
 use Rattle.sml_core_rules.specs.Objects.{Env, Sig, FunSig, Basis, variable, maps, no_structure, and_structure, empty, of_types, of_values}
-use Rattle.sml_core_rules.specs.States.{State}
 use Rattle.sml_module_rules.specs.Structures.{IsTopReading}
 use Rattle.sml_samples.specs.Around.{Place, name_at, long_at, constructor_at, scope, initial_names, around, inner, type_of, plain, value_of}
 use Rattle.sml_samples.specs.Core.{type_at, pattern_at, three, one_binding, one_type}
@@ -28,7 +27,7 @@ abbrev pub basis_of : List Name → Map (FunSig Name) → Map (Sig Name) → Env
 basis_of ns fs gs E = record { names = ns; functors = fs; signatures = gs; body = E }
 
 abbrev pub AcceptsIn : Basis Name → TopDec Place → Basis Name → Type 0
-AcceptsIn B d A = (s : State Place Name) × IsTopReading scope 1 B d (accepted (A, s))
+AcceptsIn B d A = IsTopReading scope 1 B d (accepted A)
 
 abbrev pub RefusesIn : Basis Name → TopDec Place → Fault Place → Type 0
 RefusesIn B d f = IsTopReading scope 1 B d (refused f)
@@ -52,6 +51,18 @@ top_structure e = top_str (structure_is 1 (codes "A") e)
 
 abbrev pub one_structure : List Name → Env Name → Basis Name
 one_structure ns E = basis_of ns [] [] (maps (and_structure (codes "A") E no_structure) [] [])
+
+-- a structure by this name alone, as a part of a declaration
+abbrev pub named_alone : Id → Env Name → Basis Name
+named_alone x E = basis_of [] [] [] (maps (and_structure x E no_structure) [] [])
+
+-- `structure A = S and B = x`
+abbrev pub two_structures : Id → TopDec Place
+two_structures x = top_str (structure_dec 1 (and_str_bind (str_bind (name_at 2 (codes "A")) (str_name (long_at 4 (codes "S")))) (and_str_bind (str_bind (name_at 6 (codes "B")) (str_name (long_at 8 x))) no_str_bind)))
+
+-- `S` by two names
+abbrev pub both_structures : Basis Name
+both_structures = basis_of [] [] [] (maps (and_structure (codes "A") inner (and_structure (codes "B") inner no_structure)) [] [])
 
 abbrev pub core_at : Dec Place → StrDecs Place
 core_at d = and_str_dec (core_dec d) no_str_dec
@@ -119,6 +130,9 @@ pub record StructureSamples : Type 0 where
   -- the same with `:>`, after which the type is a new one
   pub opaque_accepted : AcceptsTop (top_structure (ascribed 4 with_both Opaque (signature_at 15))) (one_structure (made 1 1 0 false ∷ []) (both_of (named (made 1 1 0 false))))
   pub opaque_refused : RefusesTop (top_structure (ascribed 4 with_type Opaque (signature_at 11))) (fault_at M1 11 (codes "x" ∷ []))
+  -- `structure A = S and B = S`, and `structure A = S and B = A`: structures of a group see none of each other
+  pub group_accepted : AcceptsTop (two_structures (codes "S")) both_structures
+  pub group_refused : RefusesTop (two_structures (codes "A")) (fault_at E3 8 (codes "A" ∷ []))
   -- `local structure A = S in structure A = A end`, and `local structure A = S in structure A = B end`
   pub local_accepted : AcceptsTop
       (top_str

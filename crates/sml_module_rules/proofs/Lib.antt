@@ -13,3 +13,4 @@ pub mod Isolation
 pub mod UnitNames
 pub mod ProjectSeals
 pub mod Tops
+pub mod RunSeals

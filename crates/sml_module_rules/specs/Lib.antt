@@ -10,3 +10,4 @@ pub mod Programs
 pub mod Projects
 pub mod Soundness
 pub mod Statements
+pub mod Runs

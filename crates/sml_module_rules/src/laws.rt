@@ -2,6 +2,7 @@
 
 ghost use Rattle.sml_objects.specs.Initial.{Name, naming};
 ghost use Rattle.sml_core_rules.specs.States.{Scope};
+ghost use Rattle.sml_module_rules.specs.Runs.{RunsHide};
 ghost use Rattle.sml_module_rules.specs.Statements.{ProjectsHide, SealsHide, TopReadingsAgree, TopReadingsMove};
 
 /// Any two answers to a top-level declaration in one basis are the same fault, or bases alike over that basis, whichever new
@@ -25,4 +26,9 @@ pub fn seals_hide()
 /// The same of projects, whose units see what units before them export.
 pub fn projects_hide()
     ensures { (scope : Scope Name) → ProjectsHide scope }
+{}
+
+/// The same of the names of a run, over the initial basis: no premise is left but that units are counted from 1.
+pub fn runs_hide()
+    ensures { RunsHide }
 {}

@@ -1,17 +1,16 @@
 -- Which replies a project may be given.
 use Rattle.std.specs.Prelude.{◌≡◌, ℕ, suc, Bool, true, false, List, [], ◌∷◌, ◌++◌, map, Option, Some, None}
-use Rattle.std.specs.List.Sorted.{IsStrictlySortedBy}
 use Rattle.sml_lex.specs.declared.fault.Place.{Place}
 use Rattle.sml_lex.specs.declared.fault.Warning.{Warning}
 use Rattle.sml_lex.specs.Faults.{Fault}
 use Rattle.sml_tree.specs.Trees.{Id}
 use Rattle.sml_objects.specs.Initial.{Name, naming}
 use Rattle.sml_rules.specs.Answers.{Answer, refused, accepted}
-use Rattle.sml_core_rules.specs.Initial.{initial_names, initial_basis}
+use Rattle.sml_core_rules.specs.Initial.{initial_basis}
 use Rattle.sml_core_rules.specs.Objects.{Basis}
-use Rattle.sml_core_rules.specs.Scopes.{run_scope}
 use Rattle.sml_module_rules.specs.Programs.{basis_after}
-use Rattle.sml_module_rules.specs.Projects.{Exports, AreRuns, beginning, and_unit, exported}
+use Rattle.sml_module_rules.specs.Projects.{Exports, beginning, and_unit, exported}
+use Rattle.sml_module_rules.specs.Runs.{at_first, AreAnswers}
 use Rattle.sml_text_rules.specs.Paths.{path_in}
 use Rattle.sml_text_rules.specs.Texts.{Answered, answer_text, no_path}
 use Rattle.sml_reply.specs.Replies.{form_text, warnings_of, accepts, number_of}
@@ -35,15 +34,6 @@ is_acceptance (accepted r) = true
 abbrev pub warnings_in : Answered Name → List Warning
 warnings_in (refused f) = []
 warnings_in (accepted r) = r.1
-
--- before the first unit: the initial names are the only ones that were used
-abbrev pub at_first : Exports Name
-at_first = record { names = initial_names; units = [] }
-
--- Unit by unit, over the initial basis with the exports of its needs, each answer is one of the readings of its declaration, whose
--- new names the unit makes and were used nowhere before; an accepted one extends the basis, and a refused one leaves it.
-abbrev pub AreAnswers : List Source → List (List (Answered Name)) → Type 0
-AreAnswers sources answers = AreRuns (run_scope 1) initial_basis at_first (map unit_of sources) (map (map unwarned) answers)
 
 -- the paths of names in the basis before a declaration, which the second version prints
 abbrev pub paths_for : Version → Basis Name → Name → Option (List Id)
@@ -81,10 +71,11 @@ AreUnitReplies E (s ∷ ss) (os ∷ oss) (r ∷ rs) =
     × AreUnitReplies (and_unit E (exported (map unwarned os))) ss oss rs
 AreUnitReplies E ss oss rs = ⊥
 
--- The units of a project have these replies: some answers to what their bytes spell, in their order.
+-- The units of a project have these replies: to some answers to what their bytes spell, in their order. Which warnings an accepted
+-- declaration has isn't said here yet.
 pub record MayReply (us : List UnitText) (rs : List UnitReplies) : Type 0 where
   pub sources : List Source
   pub sources_are : AreSourcesOf us sources
   pub answers : List (List (Answered Name))
-  pub run : AreAnswers sources answers
+  pub run : AreAnswers (map unit_of sources) (map (map unwarned) answers)
   pub replies : AreUnitReplies at_first sources answers rs

@@ -3,9 +3,10 @@ use Rattle.std.specs.Prelude.{◌≡◌, ◌↔◌, ◌⊎◌, ◌<◌, ℕ, Lis
 use Rattle.std.specs.List.{AllByRecursion}
 use Rattle.sml_objects.specs.Names.{Initial}
 use Rattle.sml_objects.specs.Appearance.{Stands}
-use Rattle.sml_objects.specs.Initial.{Name, initial, made, naming}
+use Rattle.sml_objects.specs.Initial.{Name, initial, naming}
 use Rattle.sml_layers.specs.declared.layer.Layer.{Layer}
 use Rattle.sml_layers.specs.declared.variable.Variable.{Variable}
+use Rattle.sml_layers.specs.Explicit.{variable_name}
 use Rattle.sml_layers.specs.Demands as D
 use Rattle.sml_layers.specs.Demands.{Words, CanBeMet, IsFirstUnmet}
 use Rattle.sml_layers.specs.Rebound.{rebound, DemandMentions}
@@ -27,10 +28,6 @@ abbrev pub demand_of : Demand → D.Demand Name ℕ
 demand_of (equal t u) = D.equal t u
 demand_of (has_fields t fs) = D.has_fields t fs
 demand_of (asks a t) = D.asks (ask_of a) t
-
--- the name that stands for an explicit variable
-abbrev pub variable_name : Variable → Name
-variable_name x = made 0 x.number 0 x.equality
 
 -- A bound is a number: of the unit's names it allows those that were made before so many had been.
 abbrev pub by_number : ℕ → Words Name ℕ

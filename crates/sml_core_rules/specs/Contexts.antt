@@ -2,7 +2,7 @@
 use Rattle.std.specs.Prelude.{◌≡◌, ◌⊎◌, ℕ, suc, Bool, true, false, List, [], ◌∷◌, ◌++◌, map, length}
 use Rattle.sml_tree.specs.Trees.{Id}
 use Rattle.sml_objects.specs.Appearance.{Stands}
-use Rattle.sml_objects.specs.Equality.{is_ref}
+use Rattle.sml_objects.specs.Equality.{is_ref, admits_by, has_equality}
 use Rattle.sml_objects.specs.Fates.{close_as}
 use Rattle.sml_objects.specs.declared.fates.Fate.{Fate}
 use Rattle.sml_objects.specs.declared.fates.Fate.TheVariants.{Bind, Keep}
@@ -15,7 +15,6 @@ use Rattle.sml_layers.specs.Classes.{names_in, allows}
 use Rattle.sml_layers.specs.Demands.{Mentions}
 use Rattle.sml_core_rules.specs.Objects.{Env, Value, TyStr, Status, variable, constructor, exception, overloaded, extend, names_env, names_in as fold_env, names_map}
 use Rattle.sml_core_rules.specs.Types.{count_types}
-use Rattle.sml_core_rules.specs.Datatypes.{admits_by, has_equality}
 
 -- `(T, U, E)` (section 4.2): the type names that types may mention, the explicit type variables in scope, each with the type
 -- that it is, and the environment.

@@ -6,7 +6,7 @@ use Rattle.std.proofs.Common.{arith}
 use Rattle.sml_tree.specs.Trees.{Id}
 use Rattle.sml_tree.specs.Expressions.{ConBind}
 use Rattle.sml_objects.specs.Appearance.{Stands}
-use Rattle.sml_objects.specs.Equality.{is_ref}
+use Rattle.sml_objects.specs.Equality.{is_ref, admits_by, all_admit_by, has_equality}
 use Rattle.sml_objects.specs.Initial.{Name, initial, made, naming}
 use Rattle.sml_objects.specs.Names.{real}
 use Rattle.sml_objects.specs.Objects.{Outside, names_type, names_types}
@@ -14,7 +14,7 @@ use Rattle.sml_objects.specs.Sizes.{type_size, types_size}
 use Rattle.sml_objects.specs.Fates.{close_as}
 use Rattle.sml_objects.specs.Types.{replace_type, replace_types, variables_after, variables_after_all}
 use Rattle.sml_core_rules.specs.Answers as A
-use Rattle.sml_core_rules.specs.Datatypes.{AreNew, AdmitAsManyAsCan, Arguments, Respects, arguments_admit, admits_by, all_admit_by, has_equality, read_all_arguments, read_arguments, read_type_binds}
+use Rattle.sml_core_rules.specs.Datatypes.{AreNew, AdmitAsManyAsCan, Arguments, Respects, arguments_admit, read_all_arguments, read_arguments, read_type_binds}
 use Rattle.sml_core_rules.specs.Lookups.{find_at, type_at}
 use Rattle.sml_core_rules.specs.Objects.{names_in, names_structures, names_env}
 use Rattle.sml_core_rules.specs.Scripts.{IsAnswer, ◌>>=◌}

@@ -6,7 +6,7 @@ use Rattle.std.proofs.Common.{arith}
 use Rattle.sml_objects.specs.Initial.{made, naming}
 use Rattle.sml_objects.specs.Names.{int}
 use Rattle.sml_objects.specs.Objects.{names_type, names_types, arrow_of, free, bound, named, mono}
-use Rattle.sml_objects.specs.Equality.{admits, all_admit}
+use Rattle.sml_objects.specs.Equality.{admits_by, all_admit_by}
 use Rattle.sml_objects.specs.Sizes.{type_size, types_size}
 use Rattle.sml_objects.specs.Fates.{close_as}
 use Rattle.sml_objects.specs.Types.{replace_type, replace_types, variables_after, variables_after_all}
@@ -37,7 +37,7 @@ use Rattle.sml_samples.proofs.Unmet.{rigid, circular, escaping, of-no-class, une
 use Rattle.sml_samples.proofs.Datatypes.{with-equality, first-datatype}
 
 pub typing-samples : TypingSamples
-unfolding IsAnswer ◌>>=◌ A.◌>>=◌ read_dec read_decs read_binds read_patterns read_rights read_exp read_exps read_fields read_rules read_pat read_pat_fields read_ty read_tys find_at type_at value_at type_size types_size replace_type replace_types naming unguarded pat_variables pat_field_variables exp_variables exps_variables rules_variables field_variables decs_variables dec_variables ty_variables tys_variables has_unknown have_unknown is_expansive is_any_field_expansive read_all_arguments read_arguments close_as variables_after variables_after_all HasOneSetOfLabels names_in names_structures names_type names_types admits all_admit
+unfolding IsAnswer ◌>>=◌ A.◌>>=◌ read_dec read_decs read_binds read_patterns read_rights read_exp read_exps read_fields read_rules read_pat read_pat_fields read_ty read_tys find_at type_at value_at type_size types_size replace_type replace_types naming unguarded pat_variables pat_field_variables exp_variables exps_variables rules_variables field_variables decs_variables dec_variables ty_variables tys_variables has_unknown have_unknown is_expansive is_any_field_expansive read_all_arguments read_arguments close_as variables_after variables_after_all HasOneSetOfLabels names_in names_structures names_type names_types admits_by all_admit_by
 typing-samples = record {
   overloaded_accepted = (
     _,

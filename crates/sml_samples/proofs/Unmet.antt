@@ -7,7 +7,7 @@ use Rattle.sml_objects.specs.Appearance.{Stands}
 use Rattle.sml_objects.specs.Initial.{Name, initial, made, naming}
 use Rattle.sml_objects.specs.Names.{Initial, int, bool, real}
 use Rattle.sml_objects.specs.Objects.{MlType, Head, arrow, free, name, arrow_of, named}
-use Rattle.sml_objects.specs.Equality.{admits, all_admit}
+use Rattle.sml_objects.specs.Equality.{admits, admits_by, all_admit_by}
 use Rattle.sml_objects.specs.Sizes.{type_size, types_size}
 use Rattle.sml_objects.specs.Types.{replace_type, replace_types}
 use Rattle.sml_layers.specs.declared.layer.Bound.TheVariants.{Newness, Locality}
@@ -152,7 +152,7 @@ abbrev equality_demands : List (Demand Name (List Name))
 equality_demands = equal (twice (free 1)) (twice (type_of real)) ∷ asks equality (free 1) ∷ []
 
 pub unequal : IsFirstUnmet (words scope) L.Equality equality_demands
-unfolding spread spread_all replace_type replace_types naming admits all_admit
+unfolding spread spread_all replace_type replace_types naming admits_by all_admit_by
 unequal = (
   λ m.
       let e : twice (m.0 1) ≡ twice (type_of real) = m.1.0 in

@@ -3,7 +3,7 @@ use Rattle.std.specs.Prelude.{◌≡◌, ◌⊎◌, ℕ, suc, Bool, true, false,
 use Rattle.sml_tree.specs.Trees.{Id}
 use Rattle.sml_objects.specs.Appearance.{Stands}
 use Rattle.sml_objects.specs.Equality.{is_ref, admits_by, has_equality}
-use Rattle.sml_objects.specs.Fates.{close_as}
+use Rattle.sml_objects.specs.Fates.{closed}
 use Rattle.sml_objects.specs.declared.fates.Fate.{Fate}
 use Rattle.sml_objects.specs.declared.fates.Fate.TheVariants.{Bind, Keep}
 use Rattle.sml_objects.specs.Labels.{AreRising}
@@ -96,4 +96,4 @@ module _ {N : Type 0} (names : Naming N) where
     abbrev pub IsClosing : Context N → Bool → MlType N → Scheme N → Type 0
     IsClosing C true t σ = σ ≡ mono t
     IsClosing C false t σ =
-        (fate : ℕ → Fate) × ((v : ℕ) → IsFate C v (fate v)) × (σ ≡ close_as t (map fate (type_variables t)) t)
+        (fate : ℕ → Fate) × ((v : ℕ) → IsFate C v (fate v)) × (σ ≡ closed (map fate (type_variables t)) t)

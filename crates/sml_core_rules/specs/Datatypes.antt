@@ -6,7 +6,7 @@ use Rattle.sml_tree.specs.Types.{Ty}
 use Rattle.sml_tree.specs.Expressions.{TypBind, ConBind, DatBind}
 use Rattle.sml_objects.specs.Appearance.{Stands}
 use Rattle.sml_objects.specs.Equality.{is_ref, has_equality, admits_by}
-use Rattle.sml_objects.specs.Fates.{close_as}
+use Rattle.sml_objects.specs.Fates.{closed}
 use Rattle.sml_objects.specs.declared.fates.Fate.TheVariants.{Bind}
 use Rattle.sml_objects.specs.Maps.{Map, put}
 use Rattle.sml_objects.specs.Names.{Naming, Initial}
@@ -50,7 +50,7 @@ name_function n k = record { variables = replicate k false; body = app (name n) 
 
 -- The type of a constructor of a datatype, closed over the parameters, of which these admit equality.
 abbrev pub constructor_scheme : {N : Type 0} → List Bool → MlType N → Scheme N
-constructor_scheme es t = close_as t (map (λ v. Bind (slice_index_or es v false)) (variables_after [] t)) t
+constructor_scheme es t = closed (map (λ v. Bind (slice_index_or es v false)) (variables_after [] t)) t
 
 abbrev pub constructor_type : {N : Type 0} → MlType N → Option (MlType N) → MlType N
 constructor_type t None = t

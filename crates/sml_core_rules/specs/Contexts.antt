@@ -13,7 +13,7 @@ use Rattle.sml_objects.specs.Objects.{MlType, MlTypes, Head, Scheme, bound, free
 use Rattle.sml_objects.specs.Types.{replace_type, variables_after}
 use Rattle.sml_layers.specs.Classes.{names_in, allows}
 use Rattle.sml_layers.specs.Demands.{Mentions}
-use Rattle.sml_core_rules.specs.Objects.{Env, Value, TyStr, Status, variable, constructor, exception, overloaded, extend, names_env, names_in as fold_env, names_map}
+use Rattle.sml_core_rules.specs.Objects.{Basis, Env, Value, TyStr, Status, variable, constructor, exception, overloaded, extend, names_env, names_in as fold_env, names_map}
 use Rattle.sml_core_rules.specs.Types.{count_types}
 
 -- `(T, U, E)` (section 4.2): the type names that types may mention, the explicit type variables in scope, each with the type
@@ -22,6 +22,10 @@ pub record Context (N : Type 0) : Type 0 where
   pub names : List N
   pub explicit : Map (MlType N)
   pub env : Env N
+
+-- the context in which the declarations of a basis are
+abbrev pub context_of : {N : Type 0} → Basis N → Context N
+context_of B = record { names = B.names; explicit = []; env = B.body }
 
 -- `C + E`
 abbrev pub plus : {N : Type 0} → Context N → Env N → Context N

@@ -14,3 +14,4 @@ pub mod Contexts
 pub mod Assigned
 pub mod Rules
 pub mod Statements
+pub mod Soundness

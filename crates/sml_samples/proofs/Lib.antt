@@ -12,6 +12,7 @@ pub mod Structures
 pub mod Signatures
 pub mod Overloads
 pub mod Equalities
+pub mod Scopings
 pub mod Expansive
 pub mod Defaults
 pub mod Inner

@@ -4,7 +4,7 @@ use mathlib.Core.Path.{refl, sym, ◌∙◌}
 use mathlib.Core.Logic.{inl, inr}
 use Rattle.std.proofs.Common.{arith}
 use Rattle.sml_objects.specs.Initial.{Name, initial, made, naming}
-use Rattle.sml_objects.specs.Names.{int, bool, exn, string}
+use Rattle.sml_objects.specs.Names.{int, word, char, bool, exn, string, real}
 use Rattle.sml_objects.specs.Objects.{MlType, app, row, names_type, names_types, no_type, and_type, name, labels_of, arrow_of, tuple_of, free, named, mono}
 use Rattle.sml_objects.specs.Equality.{admits_by, all_admit_by}
 use Rattle.sml_objects.specs.Sizes.{type_size, types_size}
@@ -176,6 +176,17 @@ phrase-samples = record {
     ),
   );
   constructor_refused = inr (λ e. cc, refl);
+  argument_refused = refl ⊳ inr (λ e. cc, refl);
+  no_argument_refused = (
+    made 1 0 0 true ∷ [],
+    first-datatype _ _ true,
+    (refl, tt),
+    inr (_, refl, with-equality 0 0 _ refl, (omega arith, tt) ⊳ refl ⊳ inr (λ e. cc, refl)),
+  );
+  string_accepted = (_, omega arith ⊳ (λ _. type_of string, (refl, tt)) ⊳ (λ _. type_of string, (refl, (refl, tt))) ⊳ tt ⊳ tt ⊳ refl);
+  real_accepted = (_, omega arith ⊳ (λ _. type_of real, (refl, tt)) ⊳ (λ _. type_of real, (refl, (refl, tt))) ⊳ tt ⊳ tt ⊳ refl);
+  character_refused = omega arith ⊳ inr (Equations, clash char string (λ e. cc) [], refl);
+  word_refused = omega arith ⊳ inr (Equations, clash word int (λ e. cc) [], refl);
   handle_accepted = (
     _,
     (omega arith, tt) ⊳ refl ⊳ (ints, (refl, tt)) ⊳ refl ⊳ refl ⊳ omega arith ⊳ (ints, (refl, (refl, tt))) ⊳ (ints, (refl, (refl, (refl, tt))))

@@ -31,6 +31,7 @@ use Rattle.sml_samples.proofs.Overloads as O
 use Rattle.sml_samples.proofs.Defaults as D
 use Rattle.sml_samples.proofs.Inner as I
 use Rattle.sml_samples.proofs.Equalities as E
+use Rattle.sml_samples.proofs.Scopings as S
 use Rattle.sml_samples.proofs.Expansive as X
 use Rattle.sml_samples.proofs.Rows as R
 use Rattle.sml_samples.proofs.Unmet.{rigid, circular, escaping, of-no-class, unequal, too-new}
@@ -69,7 +70,14 @@ typing-samples = record {
         ⊳ (E.types E.itself, E.met.1.1) ⊳ (E.types E.itself, E.met.1) ⊳ (E.types E.itself, E.met) ⊳ (E.general, tt)
         ⊳ (record { variables = true ∷ []; body = arrow_of (bound 0) (bound 0) }, E.scheme, (omega arith, tt) ⊳ refl),
   );
-  rigid_refused = (λ _. named (made 0 0 0 false), (λ h. refl, tt)) ⊳ refl ⊳ omega arith ⊳ (λ _. named (made 0 0 0 false), (refl, (λ h. refl, tt))) ⊳ inr (Rigidity, rigid, refl);
+  rigid_refused = (λ _. named (made 0 0 0 false), (λ h. refl, tt)) ⊳ refl ⊳ omega arith ⊳ (λ _. named (made 0 0 0 false), (refl, (λ h. refl, tt))) ⊳ inr (Rigidity, rigid 0, refl);
+  scoped_accepted = (
+    _,
+    (S.types S.itself, S.met.1.1.1.1.1.1) ⊳ refl ⊳ omega arith ⊳ (S.types S.itself, S.met.1.1.1.1.1) ⊳ (S.types S.itself, S.met.1.1.1.1) ⊳ omega arith
+        ⊳ (S.types S.itself, S.met.1.1.1) ⊳ (S.types S.itself, S.met.1.1) ⊳ tt ⊳ tt ⊳ (S.types S.itself, S.met.1) ⊳ (S.types S.itself, S.met) ⊳ (S.general, tt) ⊳ tt ⊳ refl,
+  );
+  scoped_refused =
+      (λ _. named (made 0 1 0 false), (λ h. refl, tt)) ⊳ omega arith ⊳ (λ _. named (made 0 1 0 false), (refl, (λ h. refl, tt))) ⊳ inr (Rigidity, rigid 1, refl);
   circular_refused = refl ⊳ (F.types (type_of int), (F.met int).1.1) ⊳ refl ⊳ refl ⊳ (F.types (type_of int), (F.met int).1) ⊳ inr (Finiteness, circular, refl);
   expansive_accepted = (
     _,

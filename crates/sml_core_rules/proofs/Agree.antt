@@ -7,6 +7,7 @@ use mathlib.Core.Logic.{inl, inr}
 use mathlib.Core.List.{map}
 use std.Path.{PathP, to_path_p}
 use Rattle.sml_tree.specs.Expressions.{DatBind}
+use Rattle.sml_objects.specs.Equality.{has_equality}
 use Rattle.sml_objects.specs.Appearance.{Stands}
 use Rattle.sml_objects.specs.Names.{Naming, Attributes, Initial, int}
 use Rattle.sml_objects.specs.Objects.{MlType, Scheme, free}
@@ -20,7 +21,7 @@ use Rattle.sml_rules.specs.Answers.{Answer, refused, accepted, fault}
 use Rattle.sml_core_rules.specs.Objects.{Env, names_env, empty}
 use Rattle.sml_core_rules.specs.States.{Scope, State, words, AreMade, with_unknowns, with_made, with_demand, with_window, opened, afresh}
 use Rattle.sml_core_rules.specs.Solutions.{Meets, IsScheme, IsAlways}
-use Rattle.sml_core_rules.specs.Datatypes.{Arguments, AreNew, AdmitAsManyAsCan, has_equality, with_names, arguments_of}
+use Rattle.sml_core_rules.specs.Datatypes.{Arguments, AreNew, AdmitAsManyAsCan, with_names, arguments_of}
 use Rattle.sml_core_rules.specs.Scripts.{Script, give, refuse, tests, either, makes_unknowns, requires, sees, sets_window, stays_open, starts_anew, requires_or, closes, determines, makes_names, makes_datatypes, IsAnswer}
 use Rattle.sml_core_rules.proofs.Accepted.{met-afresh}
 use Rattle.sml_core_rules.proofs.Along.{Become, become-list, become-left, become-right, become-known}

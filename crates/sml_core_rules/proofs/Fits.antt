@@ -5,7 +5,7 @@ use mathlib.Core.Path.{refl, sym, ap, subst, ◌∙◌}
 use mathlib.Core.Logic.{inl, inr}
 use Rattle.std.proofs.lemmas.Bool.{false≢true}
 use Rattle.std.proofs.lemmas.List.{map-append}
-use Rattle.sml_objects.specs.Equality.{admits, all_admit, is_ref}
+use Rattle.sml_objects.specs.Equality.{admits, all_admit, is_ref, admits_by, all_admit_by, has_equality}
 use Rattle.sml_tree.specs.Trees.{Id}
 use Rattle.sml_objects.specs.Maps.{lookup}
 use Rattle.sml_objects.specs.Names.{Naming}
@@ -31,7 +31,6 @@ use Rattle.sml_core_rules.specs.Types.{Fields, put_field, read_ty, type_place}
 use Rattle.sml_tree.specs.Types.{Ty}
 use Rattle.sml_core_rules.specs.Lookups.{value_at, is_same}
 use Rattle.sml_rules.specs.Lookups.{Found, found, no_path, no_entry}
-use Rattle.sml_core_rules.specs.Datatypes.{admits_by, all_admit_by, has_equality}
 use Rattle.sml_core_rules.specs.Contexts.{Context, IsType, AdmitWhereAsked, IsOfClass, IsInstance}
 use Rattle.sml_core_rules.specs.Assigned.{assign_value, assign_env, assign_context, assign_bindings}
 use Rattle.sml_lex.specs.declared.fault.Code.TheVariants.{E1, E7}
@@ -52,7 +51,7 @@ both-true false c h = absurd (false≢true h)
 
 module _ {N : Type 0} (names : Naming N) (eq : ℕ → Bool) where
   mutual
-    unfolding admits admits_by
+    unfolding admits_by
 
     admits-more : (t : MlType N) → admits names t ≡ true → admits_by (is_ref names) eq (has_equality names) t ≡ true
     admits-more (bound k) h = absurd (false≢true h)

@@ -11,11 +11,11 @@ use mathlib.Core.Logic.{Dec-prop}
 use Rattle.sml_lex.specs.Faults.{Fault}
 use Rattle.sml_tree.specs.Expressions.{DatBind}
 use Rattle.sml_objects.specs.Appearance.{Stands, stands}
-use Rattle.sml_objects.specs.Equality.{is_ref}
+use Rattle.sml_objects.specs.Equality.{is_ref, has_equality}
 use Rattle.sml_objects.specs.Names.{Naming, Initial, int, ref}
 use Rattle.sml_rules.specs.Answers.{Answer, refused, accepted}
 use Rattle.sml_core_rules.specs.Objects.{Env, names_env}
-use Rattle.sml_core_rules.specs.Datatypes.{Arguments, Respects, AdmitAsManyAsCan, AreNew, has_equality, with_names, arguments_of}
+use Rattle.sml_core_rules.specs.Datatypes.{Arguments, Respects, AdmitAsManyAsCan, AreNew, with_names, arguments_of}
 use Rattle.sml_core_rules.specs.Rules.{MeanAllArguments}
 use Rattle.sml_objects.proofs.Standing.{found, was_found, stands-or-not}
 use Rattle.sml_core_rules.proofs.Along.{Become, become-known, env-along}

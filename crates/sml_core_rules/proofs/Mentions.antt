@@ -9,6 +9,7 @@ use Rattle.sml_tree.specs.Trees.{Id, LongId}
 use Rattle.sml_tree.specs.Names.{Name}
 use Rattle.sml_tree.specs.Types.{Ty, Tys, TyFields, ty_variable, ty_row, ty_tuple, ty_constructor, ty_misapplied, ty_arrow, ty_bracket, no_ty, and_ty, ty_field, no_ty_field, and_ty_field}
 use Rattle.sml_tree.specs.Expressions.{ConBind, DatBind}
+use Rattle.sml_objects.specs.Equality.{admits_by, all_admit_by}
 use Rattle.sml_objects.specs.Appearance.{Stands}
 use Rattle.sml_objects.specs.Labels.{label_order}
 use Rattle.sml_objects.specs.Maps.{Map, lookup, put, join, by_order, order_of}
@@ -20,7 +21,7 @@ use Rattle.sml_rules.specs.Answers.{accepted}
 use Rattle.sml_core_rules.specs.Objects.{Env, Maps, Structures, TyStr, maps, no_structure, and_structure, types, find_structure, extend, of_types, names_map, names_in, names_structures, names_ty_str, names_scheme, names_env}
 use Rattle.sml_core_rules.specs.Lookups.{found_in, find_at, type_at}
 use Rattle.sml_core_rules.specs.Types.{Fields, put_field}
-use Rattle.sml_core_rules.specs.Datatypes.{Arguments, Respects, admits_by, all_admit_by, argument_admits, arguments_admit, with_names, listed, types_from, name_function, datatype_types, arguments_of}
+use Rattle.sml_core_rules.specs.Datatypes.{Arguments, Respects, argument_admits, arguments_admit, with_names, listed, types_from, name_function, datatype_types, arguments_of}
 use Rattle.sml_core_rules.proofs.Derived.{all-arguments-to}
 use Rattle.sml_core_rules.specs.Rules.{Means, MeanAll, MeanFields, MeansArgument, MeanArguments, MeanAllArguments}
 

@@ -2,8 +2,8 @@
 use Rattle.std.specs.Prelude.{◌≡◌, ◌⊎◌, ℕ, suc, Bool, true, false, List, [], ◌∷◌, ◌++◌, map, length}
 use Rattle.sml_tree.specs.Trees.{Id}
 use Rattle.sml_objects.specs.Appearance.{Stands}
-use Rattle.sml_objects.specs.Equality.{is_ref}
-use Rattle.sml_objects.specs.Fates.{close_as}
+use Rattle.sml_objects.specs.Equality.{is_ref, admits_by, has_equality}
+use Rattle.sml_objects.specs.Fates.{closed}
 use Rattle.sml_objects.specs.declared.fates.Fate.{Fate}
 use Rattle.sml_objects.specs.declared.fates.Fate.TheVariants.{Bind, Keep}
 use Rattle.sml_objects.specs.Labels.{AreRising}
@@ -13,9 +13,8 @@ use Rattle.sml_objects.specs.Objects.{MlType, MlTypes, Head, Scheme, bound, free
 use Rattle.sml_objects.specs.Types.{replace_type, variables_after}
 use Rattle.sml_layers.specs.Classes.{names_in, allows}
 use Rattle.sml_layers.specs.Demands.{Mentions}
-use Rattle.sml_core_rules.specs.Objects.{Env, Value, TyStr, Status, variable, constructor, exception, overloaded, extend, names_env, names_in as fold_env, names_map}
+use Rattle.sml_core_rules.specs.Objects.{Basis, Env, Value, TyStr, Status, variable, constructor, exception, overloaded, extend, names_env, names_in as fold_env, names_map}
 use Rattle.sml_core_rules.specs.Types.{count_types}
-use Rattle.sml_core_rules.specs.Datatypes.{admits_by, has_equality}
 
 -- `(T, U, E)` (section 4.2): the type names that types may mention, the explicit type variables in scope, each with the type
 -- that it is, and the environment.
@@ -23,6 +22,10 @@ pub record Context (N : Type 0) : Type 0 where
   pub names : List N
   pub explicit : Map (MlType N)
   pub env : Env N
+
+-- the context in which the declarations of a basis are
+abbrev pub context_of : {N : Type 0} → Basis N → Context N
+context_of B = record { names = B.names; explicit = []; env = B.body }
 
 -- `C + E`
 abbrev pub plus : {N : Type 0} → Context N → Env N → Context N
@@ -97,4 +100,4 @@ module _ {N : Type 0} (names : Naming N) where
     abbrev pub IsClosing : Context N → Bool → MlType N → Scheme N → Type 0
     IsClosing C true t σ = σ ≡ mono t
     IsClosing C false t σ =
-        (fate : ℕ → Fate) × ((v : ℕ) → IsFate C v (fate v)) × (σ ≡ close_as t (map fate (type_variables t)) t)
+        (fate : ℕ → Fate) × ((v : ℕ) → IsFate C v (fate v)) × (σ ≡ closed (map fate (type_variables t)) t)

@@ -1,22 +1,21 @@
 -- Bindings of types and of datatypes (the Definition, section 4.10, rules 16, 17 and 27 to 29, and section 4.9).
-use Rattle.std.specs.Prelude.{◌≡◌, ◌≤◌, ℕ, zero, suc, Bool, true, false, ◌&&◌, ◌||◌, cond, nat_eq, List, [], ◌∷◌, map, length, replicate, slice_index_or, Option, Some, None}
-use Rattle.sml_tree.specs.Trees.{Id, LongId}
-use Rattle.sml_tree.specs.Names.{Name, LongName}
-use Rattle.sml_tree.specs.Types.{Ty, Tys, TyFields, ty_variable, ty_row, ty_tuple, ty_constructor, ty_misapplied, ty_arrow, ty_bracket, no_ty, and_ty, ty_field, no_ty_field, and_ty_field}
+use Rattle.std.specs.Prelude.{◌≡◌, ◌≤◌, ℕ, zero, suc, Bool, true, false, ◌&&◌, nat_eq, List, [], ◌∷◌, map, length, replicate, slice_index_or, Option, Some, None}
+use Rattle.sml_tree.specs.Trees.{Id}
+use Rattle.sml_tree.specs.Names.{Name}
+use Rattle.sml_tree.specs.Types.{Ty}
 use Rattle.sml_tree.specs.Expressions.{TypBind, ConBind, DatBind}
 use Rattle.sml_objects.specs.Appearance.{Stands}
-use Rattle.sml_objects.specs.Equality.{is_ref}
-use Rattle.sml_objects.specs.Fates.{close_as}
+use Rattle.sml_objects.specs.Equality.{is_ref, has_equality, admits_by}
+use Rattle.sml_objects.specs.Fates.{closed}
 use Rattle.sml_objects.specs.declared.fates.Fate.TheVariants.{Bind}
-use Rattle.sml_objects.specs.Maps.{Map, lookup, put}
+use Rattle.sml_objects.specs.Maps.{Map, put}
 use Rattle.sml_objects.specs.Names.{Naming, Initial}
-use Rattle.sml_objects.specs.Objects.{MlType, MlTypes, Scheme, bound, free, app, arrow, row, name, no_type, and_type, arrow_of, Outside}
+use Rattle.sml_objects.specs.Objects.{MlType, MlTypes, Scheme, bound, free, app, name, no_type, and_type, arrow_of, Outside}
 use Rattle.sml_objects.specs.Sizes.{type_size}
 use Rattle.sml_objects.specs.Types.{variables_after}
 use Rattle.sml_rules.specs.Answers.{Answer}
 use Rattle.sml_core_rules.specs.Answers.{give, ◌>>=◌}
 use Rattle.sml_core_rules.specs.Objects.{Env, Value, TyStr, constructor, of_types, maps, no_structure, extend, empty}
-use Rattle.sml_core_rules.specs.Lookups.{is_same}
 use Rattle.sml_core_rules.specs.Types.{read_ty}
 
 -- A scheme and the body of a type function have at most 10,000 nodes.
@@ -51,7 +50,7 @@ name_function n k = record { variables = replicate k false; body = app (name n) 
 
 -- The type of a constructor of a datatype, closed over the parameters, of which these admit equality.
 abbrev pub constructor_scheme : {N : Type 0} → List Bool → MlType N → Scheme N
-constructor_scheme es t = close_as t (map (λ v. Bind (slice_index_or es v false)) (variables_after [] t)) t
+constructor_scheme es t = closed (map (λ v. Bind (slice_index_or es v false)) (variables_after [] t)) t
 
 abbrev pub constructor_type : {N : Type 0} → MlType N → Option (MlType N) → MlType N
 constructor_type t None = t
@@ -60,21 +59,6 @@ constructor_type t (Some u) = arrow_of u t
 -- a constructor with the type of its argument, in which the parameters are free variables numbered from 0 on
 abbrev pub Arguments : Type 0 → Type 0
 Arguments N = List (Id × Option (MlType N))
-
--- Which name is `ref`, and which variables and names admit equality, is given.
-module _ {N : Type 0} (refs : N → Bool) (var : ℕ → Bool) (eq : N → Bool) where
-  -- the type admits equality (section 4.4)
-  unfoldable mutual
-    pub admits_by : MlType N → Bool
-    admits_by (bound k) = false
-    admits_by (free v) = var v
-    admits_by (app arrow ts) = false
-    admits_by (app (row ls) ts) = all_admit_by ts
-    admits_by (app (name n) ts) = refs n || (eq n && all_admit_by ts)
-
-    pub all_admit_by : MlTypes N → Bool
-    all_admit_by no_type = true
-    all_admit_by (and_type t ts) = admits_by t && all_admit_by ts
 
 module _ {N : Type 0} (refs : N → Bool) (eq : N → Bool) where
   -- an argument admits equality, where each parameter does
@@ -90,9 +74,6 @@ module _ {N : Type 0} (refs : N → Bool) (eq : N → Bool) where
   abbrev pub Respects : List (N × Arguments N) → Type 0
   Respects [] = Unit {0}
   Respects (d ∷ ds) = (eq d.0 ≡ true → arguments_admit d.1 ≡ true) × Respects ds
-
-abbrev pub has_equality : {N : Type 0} → Naming N → N → Bool
-has_equality names n = (names.attributes n).equality
 
 -- The new names that admit equality are the largest set that respects it: they contain every other such set.
 unfoldable pub AdmitAsManyAsCan : {N : Type 0} → Naming N → List (N × Arguments N) → Type 0

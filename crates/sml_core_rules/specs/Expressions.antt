@@ -250,7 +250,7 @@ module _ {P N : Type 0} (scope : Scope N) where
       ts ← read_exps C vs es
       give (and_type t ts)
 
-    -- fields, of which these stand before
+    -- fields; fs has the fields before these
     pub read_fields : Env N → Map (MlType N) → T.Fields (MlType N) → Fields P → Script P N (T.Fields (MlType N))
     read_fields C vs fs no_field = give fs
     read_fields C vs fs (and_field (field l e) es) = do

@@ -16,3 +16,4 @@ pub mod Scopes
 pub mod Assigned
 pub mod Rules
 pub mod Statements
+pub mod Soundness

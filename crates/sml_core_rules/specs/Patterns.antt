@@ -160,7 +160,7 @@ module _ {P N : Type 0} (scope : Scope N) where
         rs ← read_pats r.bound qs
         give (typed (and_type r.type rs.type) rs.bound)
 
-      -- fields after those before them
+      -- fields; fs has the fields before these
       pub read_pat_fields : Bindings N → Fields (MlType N) → PatFields P → Script P N (Typed N (Fields (MlType N)))
       read_pat_fields bs fs no_pat_field = give (typed fs bs)
       read_pat_fields bs fs (and_pat_field (pat_field l q) qs) = do

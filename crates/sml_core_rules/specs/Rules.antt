@@ -26,8 +26,8 @@ use Rattle.sml_core_rules.specs.Datatypes.{Arguments, AreNew, AdmitAsManyAsCan, 
 use Rattle.sml_core_rules.specs.Expressions.{Bound, bounds, bound_values, exception_type, not_in_scope}
 use Rattle.sml_core_rules.specs.Contexts.{Context, plus, plus_names, with_explicit, IsWithin, context_variables, type_variables, IsType, IsInstance, IsClosing}
 
--- Type expressions (rules 44 to 49). The types in `vs` stand for the type variables that are in scope. Fields come after those
--- before them.
+-- Type expressions (rules 44 to 49). The types in `vs` stand for the type variables that are in scope. Of fields, `fs` has the
+-- fields before these.
 module _ {P N : Type 0} (C : Env N) (vs : Map (MlType N)) where
   unfoldable mutual
     pub Means : Ty P → MlType N → Type 0
@@ -195,7 +195,7 @@ module _ {N : Type 0} (names : Naming N) where
       HaveAll C no_exp ts = ts ≡ no_type
       HaveAll C (and_exp e es) ts = (t : MlType N) × (rest : MlTypes N) × Has C e t × HaveAll C es rest × (ts ≡ and_type t rest)
 
-      -- fields after those before them
+      -- fields; fs has the fields before these
       pub HaveFields : {P : Type 0} → Context N → T.Fields (MlType N) → Fields P → T.Fields (MlType N) → Type 0
       HaveFields C fs no_field us = us ≡ fs
       HaveFields C fs (and_field (field l e) es) us = (t : MlType N) × Has C e t × HaveFields C (put_field l.id t fs) es us

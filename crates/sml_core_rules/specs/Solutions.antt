@@ -22,17 +22,18 @@ module _ {P N : Type 0} (scope : Scope N) (s : State P N) where
   abbrev pub Meets : (l : Layer) → Assignment N (world l) → Type 0
   Meets l σ = AllHold (words scope) (world l) l σ s.demands
 
-  unfoldable pub MayBe : (l : Layer) → ℕ → In N (world l) → Type 0
-  MayBe l v t = (σ : Assignment N (world l)) × Meets l σ × (σ v ≡ t)
+  -- by the equations the unknown may be this type
+  unfoldable pub MayBe : ℕ → MlType N → Type 0
+  MayBe v t = (σ : Assignment N finite) × Meets Finiteness σ × (σ v ≡ t)
 
   -- the type is a row with one set of labels
   unfoldable pub HasOneSetOfLabels : Layer → MlType N → Type 0
   HasOneSetOfLabels l t =
       (ls : List Id) × ((σ : Assignment N (world l)) → Meets l σ → (ts : List (In N (world l))) × (typed (world l) σ t ≡ make (world l) (row ls) ts))
 
-  -- by the equations the unknown may be any type
+  -- it may be any type
   abbrev pub IsFree : ℕ → Type 0
-  IsFree v = (t : MlType N) → MayBe Finiteness v t
+  IsFree v = (t : MlType N) → MayBe v t
 
   -- by the equations it is a row, which may have several sets of labels
   abbrev pub IsFlexible : ℕ → Type 0

@@ -1,8 +1,8 @@
 -- What elaboration keeps from phrase to phrase.
-use Rattle.std.specs.Prelude.{◌≡◌, ◌⊎◌, ℕ, ◌+◌, Bool, true, cond, List, [], ◌∷◌, ◌++◌}
+use Rattle.std.specs.Prelude.{◌≡◌, ◌⊎◌, ℕ, ◌+◌, Bool, true, false, cond, List, [], ◌∷◌, ◌++◌}
 use Rattle.sml_objects.specs.Appearance.{Stands}
 use Rattle.sml_objects.specs.Names.{Naming, Attributes, Initial}
-use Rattle.sml_objects.specs.Objects.{MlType, Outside}
+use Rattle.sml_objects.specs.Objects.{MlType, Outside, named}
 use Rattle.sml_layers.specs.declared.variable.Variable.{Variable}
 use Rattle.sml_layers.specs.Demands.{Demand, Words}
 
@@ -16,7 +16,8 @@ pub record Scope (N : Type 0) : Type 0 where
 abbrev pub words : {N : Type 0} → Scope N → Words N (List N)
 words scope = record {
   names = scope.names;
-  variable = scope.variable;
+  variable = λ x. named (scope.variable x);
+  equality = λ _. false;
   Allows = λ T n. Stands n T ⊎ ((x : Variable) × (n ≡ scope.variable x));
 }
 

@@ -74,7 +74,7 @@ module _ {P N : Type 0} (C : Env N) (vs : Map (MlType N)) where
       ts ← read_tys us
       give (and_type t ts)
 
-    -- fields after those before them
+    -- fields; fs has the fields before these
     pub read_fields : Fields (MlType N) → TyFields P → Answer P (Fields (MlType N))
     read_fields fs no_ty_field = give fs
     read_fields fs (and_ty_field (ty_field l u) us) = do

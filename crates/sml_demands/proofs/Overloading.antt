@@ -4,7 +4,7 @@ use Rattle.std.specs.Bool.{OnTrue, OnFalse}
 use Rattle.smallvec.specs.SmallVec.{SmallVec}
 use Rattle.sml_objects.specs.Names as N
 use Rattle.sml_objects.specs.Initial.{Name, initial, naming}
-use Rattle.sml_objects.specs.Equality.{admits, all_admit}
+use Rattle.sml_objects.specs.Equality.{admits, all_admit_by}
 use Rattle.sml_objects.specs.Objects as O
 use Rattle.sml_objects.specs.Objects.{types_of}
 use Rattle.sml_layers.specs.declared.class.Names.{Names}
@@ -48,22 +48,22 @@ is-off true q = cc
 is-off false q = refl
 
 pub int-admits : (e : Bool) → MeetsEquality e (O.named (initial N.int))
-unfolding all_admit
+unfolding all_admit_by
 int-admits false = tt
 int-admits true = admits-named (initial N.int) [] ∙ refl
 
 word-admits : (e : Bool) → MeetsEquality e (O.named (initial N.word))
-unfolding all_admit
+unfolding all_admit_by
 word-admits false = tt
 word-admits true = admits-named (initial N.word) [] ∙ refl
 
 string-admits : (e : Bool) → MeetsEquality e (O.named (initial N.string))
-unfolding all_admit
+unfolding all_admit_by
 string-admits false = tt
 string-admits true = admits-named (initial N.string) [] ∙ refl
 
 real-admits-not : admits naming (O.named (initial N.real)) ≡ true → ⊥
-unfolding all_admit
+unfolding all_admit_by
 real-admits-not e = let f : false ≡ true = sym (admits-named (initial N.real) []) ∙ e in cc
 
 another : (c : Names) (e : Bool) → has_several (Some c) e ≡ true → (k : N.Initial) × (allows c k ≡ true) × MeetsEquality e (O.named (initial k)) × (N.int ≢ k)
@@ -118,7 +118,7 @@ bound-unit u None = tt
 bound-unit u (Some n) = (tt, tt)
 
 pub equality-unit : (e : Bool) → MeetsEquality e unit
-unfolding all_admit
+unfolding all_admit_by
 equality-unit false = tt
 equality-unit true = row-admits [] [] ∙ refl
 

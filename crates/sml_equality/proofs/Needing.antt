@@ -4,7 +4,7 @@ use Rattle.std.proofs.lemmas.List.{drop_more}
 use Rattle.std.specs.List.{list_all}
 use Rattle.std.specs.declared.rc.Rc.{Rc}
 use Rattle.sml_lex.specs.declared.fault.Memory.{Memory}
-use Rattle.sml_objects.specs.Equality.{is_reference_name}
+use Rattle.sml_objects.specs.Equality.{is_reference_name, admits_by, all_admit_by}
 use Rattle.sml_objects.specs.Objects.{types_of}
 use Rattle.sml_objects.specs.Views.{type_of, name_of}
 use Rattle.sml_objects.specs.declared.labels.Labels.{Labels}
@@ -12,7 +12,6 @@ use Rattle.sml_objects.specs.declared.objects.TyName.{TyName}
 use Rattle.sml_objects.specs.declared.objects.MlType.{MlType}
 use Rattle.sml_objects.specs.declared.objects.MlType.TheViews as V
 use Rattle.sml_objects.proofs.TypeViews.{parts_of, type_of-row, type_of-name}
-use Rattle.sml_core_rules.specs.Datatypes.{admits_by, all_admit_by}
 use Rattle.sml_equality.specs.declared.runs.Run.{Run}
 use Rattle.sml_equality.specs.Runs.{admits_in, type_admits}
 

@@ -2,7 +2,7 @@
 use Rattle.std.proofs.Common.{◌≡◌, ℕ, zero, suc, ◌+◌, ◌<◌, inl, inr, Bool, true, false, ◌&&◌, ◌||◌, Option, Some, None, List, [], ◌∷◌, map, length, Vec, Global, refl, ap, sym, ◌∙◌, arith}
 use Rattle.std.specs.declared.rc.Rc.{Rc}
 use Rattle.sml_objects.specs.Appearance.{Stands}
-use Rattle.sml_objects.specs.Equality.{is_ref, is_reference_name}
+use Rattle.sml_objects.specs.Equality.{is_ref, is_reference_name, admits_by, all_admit_by, has_equality}
 use Rattle.sml_objects.specs.Initial.{Name, initial, made, naming, attributes_of}
 use Rattle.sml_objects.specs.Objects as O
 use Rattle.sml_objects.specs.Objects.{names_type, names_types, rename_type, rename_types}
@@ -11,7 +11,7 @@ use Rattle.sml_objects.specs.declared.objects.MlType.{MlType}
 use Rattle.sml_objects.proofs.EqualityViews.{is_ref-name}
 use Rattle.sml_objects.proofs.Standing.{left, right}
 use Rattle.sml_core_rules.specs.Datatypes as D
-use Rattle.sml_core_rules.specs.Datatypes.{AdmitAsManyAsCan, Respects, admits_by, all_admit_by, has_equality}
+use Rattle.sml_core_rules.specs.Datatypes.{AdmitAsManyAsCan, Respects}
 use Rattle.sml_equality.specs.declared.runs.Run.{Run}
 use Rattle.sml_equality.specs.Runs as R
 use Rattle.sml_equality.specs.Runs.{IsLargest, admits_in, arguments_at, kept_or, place_in, type_admits}

@@ -3,12 +3,11 @@ use Rattle.std.specs.Prelude.{◌≡◌, ◌<◌, ◌-◌, ◌&&◌, ℕ, zero, 
 use Rattle.std.specs.Prelude.{Vec}
 use Rattle.std.specs.Global.{Global}
 use Rattle.std.specs.declared.rc.Rc.{Rc}
-use Rattle.sml_objects.specs.Equality.{is_reference_name}
+use Rattle.sml_objects.specs.Equality.{is_reference_name, admits_by}
 use Rattle.sml_objects.specs.Initial.{Name, initial, made, attributes_of}
 use Rattle.sml_objects.specs.Objects as O
 use Rattle.sml_objects.specs.Views.{maker_of, type_of}
 use Rattle.sml_objects.specs.declared.objects.MlType.{MlType}
-use Rattle.sml_core_rules.specs.Datatypes.{admits_by}
 use Rattle.sml_equality.specs.declared.runs.Run.{Run}
 
 -- where a name stands among those of a run

@@ -1,13 +1,12 @@
 //! Which names of a run a type needs to admit equality.
 
-#![tactic(auto, using(crate::proofs::Needing::one_more, crate::proofs::Needing::none_more), unfolding(sml_core_rules::specs::Datatypes::admits_by, sml_core_rules::specs::Datatypes::all_admit_by))]
+#![tactic(auto, using(crate::proofs::Needing::one_more, crate::proofs::Needing::none_more), unfolding(sml_objects::specs::Equality::admits_by, sml_objects::specs::Equality::all_admit_by))]
 
 ghost use Rattle.std.specs.Prelude.{◌≡◌, ◌&&◌, Bool, true, ℕ, map, IfOk, OnOk};
 ghost use Rattle.std.specs.List.{list_all};
 ghost use Rattle.sml_objects.specs.Objects.{types_of};
 ghost use Rattle.sml_objects.specs.Views.{type_of};
-ghost use Rattle.sml_core_rules.specs.Datatypes.{all_admit_by};
-ghost use Rattle.sml_objects.specs.Equality.{is_reference_name};
+ghost use Rattle.sml_objects.specs.Equality.{is_reference_name, all_admit_by};
 ghost use Rattle.sml_equality.specs.Runs.{admits_in, argument_admits, arguments_admit, type_admits};
 ghost use Rattle.sml_equality.specs.CodeUsers.{AreInside};
 

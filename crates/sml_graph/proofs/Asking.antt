@@ -5,7 +5,7 @@ use Rattle.std.proofs.lemmas.List.{length-map}
 use Rattle.std.specs.List.{AllByRecursion}
 use Rattle.sml_objects.specs.Names as N
 use Rattle.sml_objects.specs.Initial.{Name, initial, made, naming, attributes_of}
-use Rattle.sml_objects.specs.Equality.{admits, all_admit, is_reference_name}
+use Rattle.sml_objects.specs.Equality.{admits, all_admit, is_reference_name, admits_by, all_admit_by}
 use Rattle.sml_objects.specs.Objects.{MlType, MlTypes, Head, bound, free, app, arrow, row, name, no_type, and_type, named, types_of}
 use Rattle.sml_objects.proofs.EqualityViews.{is_ref-name}
 use Rattle.sml_layers.specs.declared.class.Names.{Names}
@@ -340,17 +340,17 @@ off-parts true ts = all-unit ts
 off-parts false ts = all-unit ts
 
 all-admitting : (ts : List (MlType Name)) → all_admit naming (types_of ts) ≡ true → AllByRecursion (MeetsEquality true) ts
-unfolding all_admit
+unfolding all_admit_by
 all-admitting [] e = tt
 all-admitting (t ∷ ts) e = (and-left (admits naming t) (all_admit naming (types_of ts)) e, all-admitting ts (and-right (admits naming t) (all_admit naming (types_of ts)) e))
 
 admitting-all : (ts : List (MlType Name)) → AllByRecursion (MeetsEquality true) ts → all_admit naming (types_of ts) ≡ true
-unfolding all_admit
+unfolding all_admit_by
 admitting-all [] a = refl
 admitting-all (t ∷ ts) a = and-both (admits naming t) (all_admit naming (types_of ts)) a.0 (admitting-all ts a.1)
 
 pub admits-named : (m : Name) (ts : List (MlType Name)) → admits naming (app (name m) (types_of ts)) ≡ (is_reference_name m || ((attributes_of m).equality && all_admit naming (types_of ts)))
-unfolding admits naming
+unfolding admits_by naming
 admits-named m ts = ap (λ b. b || ((attributes_of m).equality && all_admit naming (types_of ts))) (is_ref-name m)
 
 ref-fits : (b e a : Bool) → (b || (e && a)) ≡ true → (b || e) ≡ true
@@ -366,11 +366,11 @@ ref-meets true e ts q a = refl
 ref-meets false e ts q a = and-both e (all_admit naming (types_of ts)) q (admitting-all ts a)
 
 pub arrow-admits-not : (ts : List (MlType Name)) → admits naming (app arrow (types_of ts)) ≡ true → ⊥
-unfolding admits
+unfolding admits_by
 arrow-admits-not ts e = let f : false ≡ true = e in cc
 
 pub row-admits : (ls : List (List ℕ)) (ts : List (MlType Name)) → admits naming (app (row ls) (types_of ts)) ≡ all_admit naming (types_of ts)
-unfolding admits
+unfolding admits_by
 row-admits ls ts = refl
 
 equality-fits : (e : Bool) (h : Head Name) (ts : List (MlType Name)) → MeetsEquality e (app h (types_of ts)) → FitsEquality e h
@@ -515,7 +515,7 @@ mapped-all P σ [] a = tt
 mapped-all P σ (k ∷ ks) a = (a.0, mapped-all P σ ks a.1)
 
 variable-admits : (x : Variable) → admits naming (variable_type x) ≡ true → x.equality ≡ true
-unfolding all_admit
+unfolding all_admit_by
 variable-admits x e = and-left x.equality true (sym (admits-named (made 0 x.number 0 x.equality) []) ∙ e)
 
 possible : (v : Variables) (e : Bool) (c : Option Names) (t : MlType Name) → MeetsVariables v t → MeetsEquality e t → MeetsClass c t → IsPossible v e c
@@ -579,7 +579,7 @@ bound-initial u None k = tt
 bound-initial u (Some n) k = (tt, tt)
 
 equality-int : (e : Bool) → MeetsEquality e (named (initial N.int))
-unfolding all_admit
+unfolding all_admit_by
 equality-int false = tt
 equality-int true = admits-named (initial N.int) [] ∙ refl
 
@@ -606,7 +606,7 @@ bound-stand u (Some n) (V.One x) d = ((λ e. absurd (d e)), tt)
 bound-stand u (Some n) V.Several d = (tt, tt)
 
 equality-stand : (e : Bool) (c : Option Names) (v : Variables) → IsPossible v e c → MeetsEquality e (stand_in v)
-unfolding all_admit
+unfolding all_admit_by
 equality-stand e c V.Any p = equality-int e
 equality-stand false c (V.One x) p = tt
 equality-stand true None (V.One x) p = admits-named (made 0 x.number 0 x.equality) [] ∙ and-both x.equality true p refl

@@ -6,7 +6,7 @@ use Rattle.std.specs.List.{AllByRecursion}
 use Rattle.std.proofs.lemmas.List.{length-map}
 use Rattle.sml_tree.specs.Trees.{Id}
 use Rattle.sml_objects.specs.Names.{Naming, Initial}
-use Rattle.sml_objects.specs.Equality.{admits, all_admit, is_ref}
+use Rattle.sml_objects.specs.Equality.{admits, all_admit, is_ref, admits_by, all_admit_by}
 use Rattle.sml_objects.specs.Labels.{with_labels}
 use Rattle.sml_objects.specs.Maps.{lookup}
 use Rattle.sml_objects.specs.Objects.{MlType, MlTypes, bound, free, app, arrow, row, name, no_type, and_type, named, types_of}
@@ -32,7 +32,7 @@ both false b c d f g h = absurd (subst (λ x. cond x ⊥ (Unit {0})) h tt)
 
 -- the same names, variables and bounds, in words
 abbrev pub words : {N B : Type 0} → Naming N → (Variable → N) → (B → N → Type 0) → Words N B
-words names var Allows = record { names = names; variable = var; Allows = Allows }
+words names var Allows = record { names = names; variable = λ x. named (var x); equality = λ _. false; Allows = Allows }
 
 module _ {N : Type 0} (keep : N → Bool) where
   abbrev pub Kept : N → Type 0
@@ -71,7 +71,7 @@ module _ {N : Type 0} (keep : N → Bool) where
         ∙ ap (and_type (assign (λ v. led (σ v)) t)) (all-led-assigned σ ts m.1)
 
   mutual
-    unfolding led all_led admits all_admit
+    unfolding led all_led admits_by all_admit_by
 
     pub led-admits : (names : Naming N) (t : MlType N) → admits names t ≡ true → admits names (led t) ≡ true
     led-admits names (bound k) h = h

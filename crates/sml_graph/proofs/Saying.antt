@@ -11,6 +11,7 @@ use Rattle.sml_layers.specs.declared.layer.Bound.TheVariants as K
 use Rattle.sml_layers.specs.declared.layer.Layer.{Layer}
 use Rattle.sml_layers.specs.declared.layer.Layer.TheVariants.{Equations, Finiteness, Newness, Locality, Equality, Classes, Rigidity}
 use Rattle.sml_layers.specs.declared.variable.Variable.{Variable}
+use Rattle.sml_layers.specs.Explicit.{variable_name}
 use Rattle.sml_layers.specs.Demands as D
 use Rattle.sml_layers.specs.Demands.{CanBeMet, Mentions, AllMention}
 use Rattle.sml_layers.specs.Layers.{index_of}
@@ -22,7 +23,7 @@ use Rattle.sml_graph.specs.Worlds.{Assignment}
 use Rattle.sml_graph.specs.Bounds.{IsWithin, AreWithin, IsNameWithin}
 use Rattle.sml_graph.specs.Asked as R
 use Rattle.sml_graph.specs.Asked.{Asked, Demand, equal, has_fields, asks, count, layer_of, IsAsAsked, Holds, CanMeet, Adds, IsMet, Permits, PermitsSame}
-use Rattle.sml_graph.specs.Said.{ask_of, demand_of, variable_name, by_number, Says, AreSoFar, IsOfNames, NumbersAreLists, SaysItsDemands}
+use Rattle.sml_graph.specs.Said.{ask_of, demand_of, by_number, Says, AreSoFar, IsOfNames, NumbersAreLists, SaysItsDemands}
 use Rattle.sml_graph.proofs.Rebounds.{Kept, AllowsSame, met-alike, mentions-more}
 
 -- bounds as numbers and as lists

@@ -1,11 +1,13 @@
 -- What a solver has been asked, as a list of demands, and the same with the names themselves in place of their numbers.
-use Rattle.std.specs.Prelude.{◌≡◌, ◌↔◌, ◌⊎◌, ◌<◌, ℕ, List, [], ◌∷◌, map}
+use Rattle.std.specs.Prelude.{◌≡◌, ◌↔◌, ◌⊎◌, ◌<◌, ℕ, false, List, [], ◌∷◌, map}
 use Rattle.std.specs.List.{AllByRecursion}
 use Rattle.sml_objects.specs.Names.{Initial}
 use Rattle.sml_objects.specs.Appearance.{Stands}
-use Rattle.sml_objects.specs.Initial.{Name, initial, made, naming}
+use Rattle.sml_objects.specs.Initial.{Name, initial, naming}
+use Rattle.sml_objects.specs.Objects.{named}
 use Rattle.sml_layers.specs.declared.layer.Layer.{Layer}
 use Rattle.sml_layers.specs.declared.variable.Variable.{Variable}
+use Rattle.sml_layers.specs.Explicit.{variable_name}
 use Rattle.sml_layers.specs.Demands as D
 use Rattle.sml_layers.specs.Demands.{Words, CanBeMet, IsFirstUnmet}
 use Rattle.sml_layers.specs.Rebound.{rebound, DemandMentions}
@@ -28,17 +30,14 @@ demand_of (equal t u) = D.equal t u
 demand_of (has_fields t fs) = D.has_fields t fs
 demand_of (asks a t) = D.asks (ask_of a) t
 
--- the name that stands for an explicit variable
-abbrev pub variable_name : Variable → Name
-variable_name x = made 0 x.number 0 x.equality
-
--- A bound is a number: of the unit's names it allows those that were made before so many had been.
+-- A name stands for an explicit variable, and no type variable is known to admit equality. A bound is a number: of the unit's
+-- names it allows those that were made before so many had been.
 abbrev pub by_number : ℕ → Words Name ℕ
-by_number u = record { names = naming; variable = variable_name; Allows = IsNameWithin u }
+by_number u = record { names = naming; variable = λ x. named (variable_name x); equality = λ _. false; Allows = IsNameWithin u }
 
 -- A bound is a list of names: it allows these, and those that stand for explicit variables.
 abbrev pub by_list : Words Name (List Name)
-by_list = record { names = naming; variable = variable_name; Allows = λ T n. Stands n T ⊎ ((x : Variable) × (n ≡ variable_name x)) }
+by_list = record { names = naming; variable = λ x. named (variable_name x); equality = λ _. false; Allows = λ T n. Stands n T ⊎ ((x : Variable) × (n ≡ variable_name x)) }
 
 -- In each layer exactly the types that meet the demands are permitted.
 unfoldable pub Says : Asked → List Demand → Type 0

@@ -1,10 +1,10 @@
 -- Demands on unknown types, over any type `N` of type names: what may be asked, what it says, and which layers can be
 -- met. A bound says which names a type may mention; what bounds are is a parameter too, `B`: in the rules the list of the
 -- names, in the solver the number of those that had been made.
-use Rattle.std.specs.Prelude.{◌≡◌, ◌≤◌, ◌<◌, true, List, [], ◌∷◌}
+use Rattle.std.specs.Prelude.{◌≡◌, ◌≤◌, ◌<◌, ℕ, Bool, true, List, [], ◌∷◌}
 use Rattle.sml_tree.specs.Trees.{Id}
 use Rattle.sml_objects.specs.Names.{Naming, Initial}
-use Rattle.sml_objects.specs.Equality.{admits}
+use Rattle.sml_objects.specs.Equality.{is_ref, has_equality, admits_by}
 use Rattle.sml_objects.specs.Objects.{MlType, MlTypes, Head, bound, free, app, arrow, row, name, no_type, and_type, named}
 use Rattle.sml_objects.specs.Types.{assign}
 use Rattle.sml_layers.specs.declared.class.Class.{Class}
@@ -56,19 +56,20 @@ unfoldable mutual
   AllMention P no_type = Unit {0}
   AllMention P (and_type t ts) = Mentions P t × AllMention P ts
 
--- What may be seen of names: their naming, the name that stands for an explicit variable, which no unit made, and the names
--- that a bound allows.
+-- What may be seen of names and of type variables: the naming, the type that stands for an explicit variable, which type
+-- variables admit equality, and the names that a bound allows.
 pub record Words (N B : Type 0) : Type 1 where
   pub names : Naming N
-  pub variable : Variable → N
+  pub variable : Variable → MlType N
+  pub equality : ℕ → Bool
   pub Allows : B → N → Type 0
 
 module _ {N B : Type 0} (words : Words N B) where
   abbrev pub IsAsAsked : Ask B → MlType N → Type 0
   IsAsAsked (within k b) t = Mentions (words.Allows b) t
-  IsAsAsked equality t = admits words.names t ≡ true
+  IsAsAsked equality t = admits_by (is_ref words.names) words.equality (has_equality words.names) t ≡ true
   IsAsAsked (of_class c) t = (k : Initial) × (allows (names_in c) k ≡ true) × (t ≡ named (words.names.initial k))
-  IsAsAsked (variable x) t = t ≡ named (words.variable x)
+  IsAsAsked (variable x) t = t ≡ words.variable x
 
   -- the type is as asked, as far as the layers up to this one see it
   abbrev pub HoldsUpTo : Layer → Assignment N finite → Ask B → MlType N → Type 0

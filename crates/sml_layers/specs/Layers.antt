@@ -5,9 +5,8 @@ use Rattle.sml_lex.specs.declared.fault.Code.TheVariants.{U1, U2, U3, E6, U4, U5
 use Rattle.sml_layers.specs.declared.layer.Layer.{Layer}
 use Rattle.sml_layers.specs.declared.layer.Layer.TheVariants.{Equations, Finiteness, Newness, Locality, Equality, Classes, Rigidity}
 
--- the fault of a layer that can't be met: types clash, circular type, type name too new, local type
--- escapes, no equality, not of the class, explicit
--- variable too general
+-- the fault of a layer that can't be met: types clash, circular type, type name too new, local type escapes, no equality, not
+-- of the class, explicit type variable not general
 abbrev pub code_of : Layer → Code
 code_of Equations = U1
 code_of Finiteness = U2

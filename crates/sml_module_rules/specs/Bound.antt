@@ -2,6 +2,7 @@
 -- rule 78, and appendix A).
 use Rattle.std.specs.Prelude.{◌≡◌, ◌⊎◌, Bool, true, false, ◌||◌, cond, List, [], ◌∷◌, ◌++◌, map, length, Option, Some, None}
 use Rattle.sml_tree.specs.Trees.{Id, LongId}
+use Rattle.sml_objects.specs.Equality.{has_equality}
 use Rattle.sml_objects.specs.Appearance.{stands}
 use Rattle.sml_objects.specs.Maps.{Map, put}
 use Rattle.sml_objects.specs.Names.{Naming, Attributes}
@@ -11,7 +12,7 @@ use Rattle.sml_rules.specs.Lookups.{Found, found, no_path, no_entry}
 use Rattle.sml_rules.specs.Matching.{Realisation}
 use Rattle.sml_core_rules.specs.Objects.{Env, Value, TyStr, Sig}
 use Rattle.sml_core_rules.specs.Lookups.{type_at}
-use Rattle.sml_core_rules.specs.Datatypes.{has_equality, name_function}
+use Rattle.sml_core_rules.specs.Datatypes.{name_function}
 use Rattle.sml_core_rules.specs.States.{Scope}
 use Rattle.sml_module_rules.specs.Lines.{Line, a_structure, a_type, a_value, lines, path_of}
 use Rattle.sml_module_rules.specs.Realising.{name_of, is_same_name, no_function, with_function}

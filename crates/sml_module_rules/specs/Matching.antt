@@ -9,7 +9,7 @@ use Rattle.sml_tree.specs.declared.structures.Ascription.{Ascription}
 use Rattle.sml_tree.specs.declared.structures.Ascription.TheVariants.{Transparent, Opaque}
 use Rattle.sml_objects.specs.Appearance.{stands}
 use Rattle.sml_objects.specs.Names.{Naming}
-use Rattle.sml_objects.specs.Equality.{is_ref}
+use Rattle.sml_objects.specs.Equality.{is_ref, admits_by, has_equality}
 use Rattle.sml_objects.specs.Objects.{MlType, Scheme, free}
 use Rattle.sml_objects.specs.Types.{replace_type, instance_from}
 use Rattle.sml_layers.specs.Demands as D
@@ -18,7 +18,6 @@ use Rattle.sml_rules.specs.Matching.{Realisation}
 use Rattle.sml_core_rules.specs.Answers as A
 use Rattle.sml_core_rules.specs.Objects.{Env, Value, TyStr, Sig, FunSig, Status, variable, constructor, exception, overloaded}
 use Rattle.sml_core_rules.specs.Lookups.{type_at, value_at, structure_at}
-use Rattle.sml_core_rules.specs.Datatypes.{admits_by, has_equality}
 use Rattle.sml_core_rules.specs.States.{Scope}
 use Rattle.sml_core_rules.specs.Values.{has_unknown}
 use Rattle.sml_core_rules.specs.Solutions.{IsFixed}

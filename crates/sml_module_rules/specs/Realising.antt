@@ -1,13 +1,13 @@
 -- Type functions in the places of names (the Definition, section 5.2).
 use Rattle.std.specs.Prelude.{ℕ, suc, Bool, true, false, ◌&&◌, nat_eq, cond, List, [], ◌∷◌, length, Option, Some, None}
-use Rattle.sml_objects.specs.Equality.{is_ref}
+use Rattle.sml_objects.specs.Equality.{is_ref, admits_by, has_equality}
 use Rattle.sml_objects.specs.Names.{Naming}
 use Rattle.sml_objects.specs.Objects.{MlType, MlTypes, Scheme, bound, free, app, arrow, row, name, no_type, and_type}
 use Rattle.sml_objects.specs.Types.{instance_from}
 use Rattle.sml_rules.specs.Matching.{Realisation, realise_scheme}
 use Rattle.sml_core_rules.specs.Objects.{Env, Value, TyStr, replace, replaced}
 use Rattle.sml_core_rules.specs.Types.{count_types}
-use Rattle.sml_core_rules.specs.Datatypes.{constructor_scheme, name_function, admits_by, has_equality}
+use Rattle.sml_core_rules.specs.Datatypes.{constructor_scheme, name_function}
 
 -- A scheme without unknowns whose variables are numbered by first appearance again, and dropped where they appear no more.
 abbrev pub renumbered : {N : Type 0} → Scheme N → Scheme N

@@ -7,6 +7,7 @@ use Rattle.sml_tree.specs.Names.{Name, LongName}
 use Rattle.sml_tree.specs.Types.{Ty, Tys, ty_variable, ty_row, ty_tuple, ty_constructor, ty_misapplied, ty_arrow, ty_bracket, no_ty, and_ty}
 use Rattle.sml_tree.specs.Expressions.{ConBind, DatBind}
 use Rattle.sml_tree.specs.Signatures.{WhereType, ValDesc, TypDesc, SigExp, Spec, Specs, StrDescs, sig_end, sig_name, where_type, val_spec, type_spec, eqtype_spec, datatype_spec, copy_spec, exception_spec, structure_spec, include_spec, sharing_types, sharing_structures, no_spec, and_spec, str_desc, no_str_desc, and_str_desc}
+use Rattle.sml_objects.specs.Equality.{has_equality}
 use Rattle.sml_objects.specs.Maps.{Map, lookup, put}
 use Rattle.sml_objects.specs.Names.{Attributes}
 use Rattle.sml_objects.specs.Objects.{MlType, Scheme, bound, free, mono}
@@ -17,7 +18,7 @@ use Rattle.sml_core_rules.specs.Objects.{Env, Structures, Value, TyStr, Sig, var
 use Rattle.sml_core_rules.specs.Lookups.{type_at, structure_at, is_listed, is_same}
 use Rattle.sml_core_rules.specs.Types.{read_ty}
 use Rattle.sml_core_rules.specs.Closing.{ty_variables}
-use Rattle.sml_core_rules.specs.Datatypes.{IsSmall, AreSmall, has_equality, is_equality, listed, type_function, name_function, constructor_scheme, constructor_values, datatype_envs, read_argument}
+use Rattle.sml_core_rules.specs.Datatypes.{IsSmall, AreSmall, is_equality, listed, type_function, name_function, constructor_scheme, constructor_values, datatype_envs, read_argument}
 use Rattle.sml_core_rules.specs.Datatypes as T
 use Rattle.sml_core_rules.specs.Expressions.{exception_type}
 use Rattle.sml_core_rules.specs.States.{Scope}

@@ -39,6 +39,10 @@ close_as u fs t = record {
   body = assign (standing_for (variables_after [] t) (substitutes u 0 fs)) t;
 }
 
+-- the same where no fate is the default
+abbrev pub closed : {N : Type 0} → List Fate → O.MlType N → O.Scheme N
+closed fs t = close_as t fs t
+
 abbrev pub seen_type : Option (Rc MlType Global) → Option (O.MlType Name)
 seen_type None = None
 seen_type (Some t) = Some (type_of t.value)

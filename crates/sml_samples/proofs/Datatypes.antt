@@ -6,22 +6,22 @@ use Rattle.std.proofs.Common.{arith}
 use Rattle.sml_tree.specs.Trees.{Id}
 use Rattle.sml_tree.specs.Expressions.{ConBind}
 use Rattle.sml_objects.specs.Appearance.{Stands}
-use Rattle.sml_objects.specs.Equality.{is_ref}
+use Rattle.sml_objects.specs.Equality.{is_ref, admits_by, all_admit_by, has_equality}
 use Rattle.sml_objects.specs.Initial.{Name, initial, made, naming}
 use Rattle.sml_objects.specs.Names.{real}
 use Rattle.sml_objects.specs.Objects.{Outside, names_type, names_types}
 use Rattle.sml_objects.specs.Sizes.{type_size, types_size}
 use Rattle.sml_objects.specs.Fates.{close_as}
-use Rattle.sml_objects.specs.Types.{replace_type, replace_types, variables_after, variables_after_all}
+use Rattle.sml_objects.specs.Types.{replace_type, replace_types, variables_after, variables_after_all, index_among}
 use Rattle.sml_core_rules.specs.Answers as A
-use Rattle.sml_core_rules.specs.Datatypes.{AreNew, AdmitAsManyAsCan, Arguments, Respects, arguments_admit, admits_by, all_admit_by, has_equality, read_all_arguments, read_arguments, read_type_binds}
+use Rattle.sml_core_rules.specs.Datatypes.{AreNew, AdmitAsManyAsCan, Arguments, Respects, arguments_admit, read_all_arguments, read_arguments, read_type_binds}
 use Rattle.sml_core_rules.specs.Lookups.{find_at, type_at}
 use Rattle.sml_core_rules.specs.Objects.{names_in, names_structures, names_env}
 use Rattle.sml_core_rules.specs.Scripts.{IsAnswer, ◌>>=◌}
 use Rattle.sml_core_rules.specs.Expressions.{read_dec}
 use Rattle.sml_core_rules.specs.Types.{read_ty, read_tys}
 use Rattle.sml_samples.specs.Around.{Place, initial_names, type_of, around}
-use Rattle.sml_samples.specs.Core.{DatatypeSamples, datatype_binding}
+use Rattle.sml_samples.specs.Core.{DatatypeSamples, datatype_binding, parametric_binding}
 use Rattle.sml_samples.proofs.Steps.{◌⊳◌}
 use Rattle.sml_samples.proofs.Names.{made-outside, stands-alone}
 
@@ -55,13 +55,20 @@ pub first-datatype : (p : Place) (c : ConBind Place) (q : Bool) → AreNew namin
 unfolding names_in names_structures names_type names_types
 first-datatype p c q = new-datatype 0 q _ p (codes "d") c (made-outside 1 0 0 q (names_env around ++ initial_names) refl)
 
+parametric : (x y : Id) → AreNew naming (names_env around ++ initial_names) (parametric_binding x y ∷ []) (made 1 0 1 true ∷ [])
+unfolding AreNew naming names_in names_structures names_type names_types
+parametric x y = (made 1 0 1 true, [], made-outside 1 0 1 true (names_env around ++ initial_names) refl, λ j e. cc, refl, refl, refl, refl)
+
 pub datatype-samples : DatatypeSamples
-unfolding IsAnswer ◌>>=◌ A.◌>>=◌ read_dec read_type_binds read_all_arguments read_arguments read_ty read_tys find_at type_at naming type_size types_size replace_type replace_types close_as variables_after variables_after_all admits_by all_admit_by
+unfolding IsAnswer ◌>>=◌ A.◌>>=◌ read_dec read_type_binds read_all_arguments read_arguments read_ty read_tys find_at type_at naming type_size types_size replace_type replace_types close_as variables_after variables_after_all index_among admits_by all_admit_by
 datatype-samples = record {
   datatype_accepted = (_, (made 1 0 0 true ∷ [], first-datatype _ _ true, (refl, tt), inr (_, refl, with-equality 0 0 _ refl, (omega arith, tt) ⊳ refl)));
   recursive_datatype_accepted = (_, (made 1 0 0 true ∷ [], first-datatype _ _ true, (refl, tt), inr (_, refl, with-equality 0 0 _ refl, (omega arith, tt) ⊳ refl)));
   real_datatype_accepted = (_, (made 1 0 0 false ∷ [], first-datatype _ _ false, (refl, tt), inr (_, refl, without-equality, (omega arith, tt) ⊳ refl)));
   datatype_refused = (made 1 0 0 true ∷ [], first-datatype _ _ true, (refl, tt), inl (_, refl, refl));
+  parametric_accepted = (_, (made 1 0 1 true ∷ [], parametric _ _, (refl, tt), inr (_, refl, with-equality 0 1 _ refl, (omega arith, tt) ⊳ refl)));
+  equality_accepted = (_, (made 1 0 1 true ∷ [], parametric _ _, (refl, tt), inr (_, refl, with-equality 0 1 _ refl, (omega arith, tt) ⊳ refl)));
+  parametric_refused = (made 1 0 1 true ∷ [], parametric _ _, (refl, tt), inl (_, refl, refl));
   withtype_accepted = (_, (made 1 0 0 true ∷ [], first-datatype _ _ true, (refl, tt), inr (_, refl, with-equality 0 0 _ refl, (omega arith, tt) ⊳ (omega arith, tt) ⊳ refl)));
   withtype_refused = (made 1 0 0 true ∷ [], first-datatype _ _ true, (refl, tt), inl (_, refl, refl));
 }

@@ -3,7 +3,7 @@ use Rattle.std.specs.Prelude.{◌≡◌, ℕ, zero, suc, true, false, [], ◌∷
 use mathlib.Core.Path.{refl, sym}
 use mathlib.Core.Logic.{inl, inr}
 use Rattle.std.proofs.Common.{arith}
-use Rattle.sml_objects.specs.Equality.{admits, all_admit}
+use Rattle.sml_objects.specs.Equality.{admits_by, all_admit_by}
 use Rattle.sml_objects.specs.Initial.{Name, made, naming}
 use Rattle.sml_objects.specs.Names.{int, string}
 use Rattle.sml_objects.specs.Objects.{MlType, free, bound, arrow, no_type, and_type, arrow_of, named}
@@ -44,14 +44,14 @@ abbrev pub itself : MlType Name
 itself = named (made 0 0 0 true)
 
 pub met : Meets scope after Rigidity (types itself)
-unfolding replace_type replace_types Mentions admits all_admit naming
+unfolding replace_type replace_types Mentions admits_by all_admit_by naming
 met = (refl, (λ h. own, (refl, (λ h. (tt, (own, (own, tt))), (λ h. refl, (λ h. refl, tt))))))
   where
     own : Mentions ((words scope).Allows initial_names) itself
     own = (inr (record { number = 0; equality = true }, refl), tt)
 
 met-classes : Meets scope after Classes (types (type_of string))
-unfolding replace_type replace_types Mentions admits all_admit naming
+unfolding replace_type replace_types Mentions admits_by all_admit_by naming
 met-classes =
     (refl, (λ h. initial-within string, (refl, (λ h. (tt, (initial-within string, (initial-within string, tt))), (λ h. refl, (λ h. absurd (omega (arith, h)), tt))))))
 

@@ -13,6 +13,7 @@ pub mod Structures
 pub mod Signatures
 pub mod Overloads
 pub mod Equalities
+pub mod Scopings
 pub mod Expansive
 pub mod Defaults
 pub mod Inner

@@ -2,7 +2,7 @@
 use Rattle.std.specs.Prelude.{◌≡◌, ℕ, true, false, []}
 use mathlib.Core.Path.{refl, sym, ap, ◌∙◌}
 use Rattle.std.proofs.Common.{arith}
-use Rattle.sml_objects.specs.Equality.{admits, all_admit}
+use Rattle.sml_objects.specs.Equality.{admits, admits_by, all_admit_by}
 use Rattle.sml_objects.specs.Initial.{Name, naming}
 use Rattle.sml_objects.specs.Names.{int, string, real}
 use Rattle.sml_objects.specs.Objects.{MlType, app, row, types_of}
@@ -35,7 +35,7 @@ module _ (s : State Place Name) (v : ℕ) (types : MlType Name → ℕ → MlTyp
 
   -- so it is bound by the scheme, and needn't admit equality where no demand asks it
   pub is-bound : Meets scope s Classes (types (type_of string)) → Meets scope s Equality (types (type_of real)) → IsFateOf scope s 0 false v (Bind false)
-  unfolding AsksEquality admits all_admit naming
+  unfolding AsksEquality admits_by all_admit_by naming
   is-bound m k = (
     not-int m,
     refl,

@@ -4,6 +4,7 @@ use mathlib.Core.Path.{refl, ap}
 use mathlib.Core.Logic.{inl, inr}
 use native.Mathlib.Decide.{ℕ_discrete}
 use Rattle.std.proofs.Common.{arith}
+use Rattle.sml_objects.specs.Equality.{admits_by, all_admit_by}
 use Rattle.sml_objects.specs.Appearance.{stands}
 use Rattle.sml_objects.specs.Initial.{Name, made, naming}
 use Rattle.sml_objects.specs.Maps.{Map}
@@ -19,7 +20,7 @@ use Rattle.sml_layers.specs.Demands.{equal, asks, Mentions}
 use Rattle.sml_layers.specs.Demands as D
 use Rattle.sml_core_rules.specs.Answers as A
 use Rattle.sml_core_rules.specs.Closing.{unguarded, ty_variables, tys_variables, is_expansive, pat_variables, exp_variables}
-use Rattle.sml_core_rules.specs.Datatypes.{AreNew, admits_by, all_admit_by, read_type_binds, read_arguments, read_all_arguments}
+use Rattle.sml_core_rules.specs.Datatypes.{AreNew, read_type_binds, read_arguments, read_all_arguments}
 use Rattle.sml_core_rules.specs.Lookups.{find_at, type_at, value_at, structure_at}
 use Rattle.sml_core_rules.specs.Objects.{Basis, Value, no_structure, and_structure, structures, variable, values, of_values, names_in, names_structures, names_env, replace, replace_structures}
 use Rattle.sml_core_rules.specs.Patterns.{read_pat}

@@ -4,9 +4,9 @@ use mathlib.Core.Path.{refl, sym, ◌∙◌}
 use mathlib.Core.Logic.{inl, inr}
 use Rattle.std.proofs.Common.{arith}
 use Rattle.sml_objects.specs.Initial.{Name, initial, made, naming}
-use Rattle.sml_objects.specs.Names.{int, bool, exn, string}
+use Rattle.sml_objects.specs.Names.{int, word, char, bool, exn, string, real}
 use Rattle.sml_objects.specs.Objects.{MlType, app, row, names_type, names_types, no_type, and_type, name, labels_of, arrow_of, tuple_of, free, named, mono}
-use Rattle.sml_objects.specs.Equality.{admits}
+use Rattle.sml_objects.specs.Equality.{admits_by, all_admit_by}
 use Rattle.sml_objects.specs.Sizes.{type_size, types_size}
 use Rattle.sml_objects.specs.Fates.{close_as}
 use Rattle.sml_objects.specs.declared.fates.Fate.TheVariants.{Keep}
@@ -15,7 +15,7 @@ use Rattle.sml_layers.specs.declared.layer.Layer.TheVariants.{Equations, Finiten
 use Rattle.sml_layers.specs.Demands.{equal}
 use Rattle.sml_core_rules.specs.Answers as A
 use Rattle.sml_core_rules.specs.Closing.{unguarded, ty_variables, tys_variables, is_expansive, is_any_field_expansive, pat_variables, pat_field_variables, exp_variables, exps_variables, rules_variables, field_variables, decs_variables, dec_variables}
-use Rattle.sml_core_rules.specs.Datatypes.{admits_by, all_admit_by, read_type_binds, read_all_arguments, read_arguments}
+use Rattle.sml_core_rules.specs.Datatypes.{read_type_binds, read_all_arguments, read_arguments}
 use Rattle.sml_core_rules.specs.Objects.{names_in, names_structures}
 use Rattle.sml_core_rules.specs.Lookups.{find_at, type_at, value_at}
 use Rattle.sml_core_rules.specs.Patterns.{read_pat, read_pat_fields}
@@ -148,7 +148,7 @@ abbrev ints : ℕ → MlType Name
 ints v = type_of int
 
 pub phrase-samples : PhraseSamples
-unfolding IsAnswer ◌>>=◌ A.◌>>=◌ read_dec read_decs read_binds read_patterns read_rights read_exp read_exps read_fields read_rules read_pat read_pat_fields read_ty read_tys find_at type_at value_at type_size types_size replace_type replace_types naming unguarded pat_variables pat_field_variables exp_variables exps_variables rules_variables field_variables decs_variables dec_variables ty_variables tys_variables has_unknown have_unknown is_expansive is_any_field_expansive read_all_arguments read_arguments close_as variables_after variables_after_all names_in names_structures names_type names_types admits read_type_binds admits_by all_admit_by
+unfolding IsAnswer ◌>>=◌ A.◌>>=◌ read_dec read_decs read_binds read_patterns read_rights read_exp read_exps read_fields read_rules read_pat read_pat_fields read_ty read_tys find_at type_at value_at type_size types_size replace_type replace_types naming unguarded pat_variables pat_field_variables exp_variables exps_variables rules_variables field_variables decs_variables dec_variables ty_variables tys_variables has_unknown have_unknown is_expansive is_any_field_expansive read_all_arguments read_arguments close_as variables_after variables_after_all names_in names_structures names_type names_types admits_by read_type_binds all_admit_by
 phrase-samples = record {
   types_accepted = (_, (omega arith, tt) ⊳ refl);
   arity_refused = refl;
@@ -176,6 +176,17 @@ phrase-samples = record {
     ),
   );
   constructor_refused = inr (λ e. cc, refl);
+  argument_refused = refl ⊳ inr (λ e. cc, refl);
+  no_argument_refused = (
+    made 1 0 0 true ∷ [],
+    first-datatype _ _ true,
+    (refl, tt),
+    inr (_, refl, with-equality 0 0 _ refl, (omega arith, tt) ⊳ refl ⊳ inr (λ e. cc, refl)),
+  );
+  string_accepted = (_, omega arith ⊳ (λ _. type_of string, (refl, tt)) ⊳ (λ _. type_of string, (refl, (refl, tt))) ⊳ tt ⊳ tt ⊳ refl);
+  real_accepted = (_, omega arith ⊳ (λ _. type_of real, (refl, tt)) ⊳ (λ _. type_of real, (refl, (refl, tt))) ⊳ tt ⊳ tt ⊳ refl);
+  character_refused = omega arith ⊳ inr (Equations, clash char string (λ e. cc) [], refl);
+  word_refused = omega arith ⊳ inr (Equations, clash word int (λ e. cc) [], refl);
   handle_accepted = (
     _,
     (omega arith, tt) ⊳ refl ⊳ (ints, (refl, tt)) ⊳ refl ⊳ refl ⊳ omega arith ⊳ (ints, (refl, (refl, tt))) ⊳ (ints, (refl, (refl, (refl, tt))))

@@ -4,6 +4,7 @@ use mathlib.Core.Path.{refl, ap, ◌∙◌}
 use mathlib.Core.Logic.{inl, inr}
 use native.Mathlib.Decide.{ℕ_discrete}
 use Rattle.std.proofs.Common.{arith}
+use Rattle.sml_objects.specs.Equality.{admits_by, all_admit_by}
 use Rattle.sml_objects.specs.Appearance.{stands}
 use Rattle.sml_objects.specs.Initial.{Name, made, naming}
 use Rattle.sml_objects.specs.Objects.{names_type, names_types}
@@ -16,7 +17,7 @@ use Rattle.sml_module_rules.specs.Bound.{identifiers}
 use Rattle.sml_rules.specs.Matching.{realise_type, realise_types}
 use Rattle.sml_core_rules.specs.Answers as A
 use Rattle.sml_core_rules.specs.Closing.{ty_variables, tys_variables}
-use Rattle.sml_core_rules.specs.Datatypes.{admits_by, all_admit_by, read_type_binds, read_arguments, read_all_arguments}
+use Rattle.sml_core_rules.specs.Datatypes.{read_type_binds, read_arguments, read_all_arguments}
 use Rattle.sml_core_rules.specs.Lookups.{find_at, type_at, value_at, structure_at}
 use Rattle.sml_core_rules.specs.Objects.{TyStr, names_in, names_structures, replace, replace_structures}
 use Rattle.sml_core_rules.specs.Types.{read_ty, read_tys}

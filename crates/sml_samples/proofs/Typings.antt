@@ -6,7 +6,7 @@ use Rattle.std.proofs.Common.{arith}
 use Rattle.sml_objects.specs.Initial.{made, naming}
 use Rattle.sml_objects.specs.Names.{int}
 use Rattle.sml_objects.specs.Objects.{names_type, names_types, arrow_of, free, bound, named, mono}
-use Rattle.sml_objects.specs.Equality.{admits, all_admit}
+use Rattle.sml_objects.specs.Equality.{admits_by, all_admit_by}
 use Rattle.sml_objects.specs.Sizes.{type_size, types_size}
 use Rattle.sml_objects.specs.Fates.{close_as}
 use Rattle.sml_objects.specs.Types.{replace_type, replace_types, variables_after, variables_after_all}
@@ -31,13 +31,14 @@ use Rattle.sml_samples.proofs.Overloads as O
 use Rattle.sml_samples.proofs.Defaults as D
 use Rattle.sml_samples.proofs.Inner as I
 use Rattle.sml_samples.proofs.Equalities as E
+use Rattle.sml_samples.proofs.Scopings as S
 use Rattle.sml_samples.proofs.Expansive as X
 use Rattle.sml_samples.proofs.Rows as R
 use Rattle.sml_samples.proofs.Unmet.{rigid, circular, escaping, of-no-class, unequal, too-new}
 use Rattle.sml_samples.proofs.Datatypes.{with-equality, first-datatype}
 
 pub typing-samples : TypingSamples
-unfolding IsAnswer ◌>>=◌ A.◌>>=◌ read_dec read_decs read_binds read_patterns read_rights read_exp read_exps read_fields read_rules read_pat read_pat_fields read_ty read_tys find_at type_at value_at type_size types_size replace_type replace_types naming unguarded pat_variables pat_field_variables exp_variables exps_variables rules_variables field_variables decs_variables dec_variables ty_variables tys_variables has_unknown have_unknown is_expansive is_any_field_expansive read_all_arguments read_arguments close_as variables_after variables_after_all HasOneSetOfLabels names_in names_structures names_type names_types admits all_admit
+unfolding IsAnswer ◌>>=◌ A.◌>>=◌ read_dec read_decs read_binds read_patterns read_rights read_exp read_exps read_fields read_rules read_pat read_pat_fields read_ty read_tys find_at type_at value_at type_size types_size replace_type replace_types naming unguarded pat_variables pat_field_variables exp_variables exps_variables rules_variables field_variables decs_variables dec_variables ty_variables tys_variables has_unknown have_unknown is_expansive is_any_field_expansive read_all_arguments read_arguments close_as variables_after variables_after_all HasOneSetOfLabels names_in names_structures names_type names_types admits_by all_admit_by
 typing-samples = record {
   overloaded_accepted = (
     _,
@@ -69,7 +70,14 @@ typing-samples = record {
         ⊳ (E.types E.itself, E.met.1.1) ⊳ (E.types E.itself, E.met.1) ⊳ (E.types E.itself, E.met) ⊳ (E.general, tt)
         ⊳ (record { variables = true ∷ []; body = arrow_of (bound 0) (bound 0) }, E.scheme, (omega arith, tt) ⊳ refl),
   );
-  rigid_refused = (λ _. named (made 0 0 0 false), (λ h. refl, tt)) ⊳ refl ⊳ omega arith ⊳ (λ _. named (made 0 0 0 false), (refl, (λ h. refl, tt))) ⊳ inr (Rigidity, rigid, refl);
+  rigid_refused = (λ _. named (made 0 0 0 false), (λ h. refl, tt)) ⊳ refl ⊳ omega arith ⊳ (λ _. named (made 0 0 0 false), (refl, (λ h. refl, tt))) ⊳ inr (Rigidity, rigid 0, refl);
+  scoped_accepted = (
+    _,
+    (S.types S.itself, S.met.1.1.1.1.1.1) ⊳ refl ⊳ omega arith ⊳ (S.types S.itself, S.met.1.1.1.1.1) ⊳ (S.types S.itself, S.met.1.1.1.1) ⊳ omega arith
+        ⊳ (S.types S.itself, S.met.1.1.1) ⊳ (S.types S.itself, S.met.1.1) ⊳ tt ⊳ tt ⊳ (S.types S.itself, S.met.1) ⊳ (S.types S.itself, S.met) ⊳ (S.general, tt) ⊳ tt ⊳ refl,
+  );
+  scoped_refused =
+      (λ _. named (made 0 1 0 false), (λ h. refl, tt)) ⊳ omega arith ⊳ (λ _. named (made 0 1 0 false), (refl, (λ h. refl, tt))) ⊳ inr (Rigidity, rigid 1, refl);
   circular_refused = refl ⊳ (F.types (type_of int), (F.met int).1.1) ⊳ refl ⊳ refl ⊳ (F.types (type_of int), (F.met int).1) ⊳ inr (Finiteness, circular, refl);
   expansive_accepted = (
     _,

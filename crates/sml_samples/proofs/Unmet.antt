@@ -7,7 +7,7 @@ use Rattle.sml_objects.specs.Appearance.{Stands}
 use Rattle.sml_objects.specs.Initial.{Name, initial, made, naming}
 use Rattle.sml_objects.specs.Names.{Initial, int, bool, real}
 use Rattle.sml_objects.specs.Objects.{MlType, Head, arrow, free, name, arrow_of, named}
-use Rattle.sml_objects.specs.Equality.{admits, all_admit}
+use Rattle.sml_objects.specs.Equality.{admits, admits_by, all_admit_by}
 use Rattle.sml_objects.specs.Sizes.{type_size, types_size}
 use Rattle.sml_objects.specs.Types.{replace_type, replace_types}
 use Rattle.sml_layers.specs.declared.layer.Bound.TheVariants.{Newness, Locality}
@@ -75,25 +75,25 @@ circular = (
     below L.Classes h = absurd (omega (arith, h))
     below L.Rigidity h = absurd (omega (arith, h))
 
--- `val x : 'a = 3`
+-- `val x : 'a = 3`, where unknown k is the explicit variable
 
-abbrev pub own : Demand Name (List Name)
-own = asks (variable (record { number = 0; equality = false })) (free 0)
+abbrev pub own : ℕ → Demand Name (List Name)
+own k = asks (variable (record { number = k; equality = false })) (free k)
 
-abbrev rigid_demands : List (Demand Name (List Name))
-rigid_demands = equal (free 0) (type_of int) ∷ equal (free 1) (free 0) ∷ own ∷ []
+abbrev rigid_demands : ℕ → List (Demand Name (List Name))
+rigid_demands k = equal (free k) (type_of int) ∷ equal (free (suc k)) (free k) ∷ own k ∷ []
 
-pub rigid : IsFirstUnmet (words scope) L.Rigidity rigid_demands
+pub rigid : (k : ℕ) → IsFirstUnmet (words scope) L.Rigidity (rigid_demands k)
 unfolding spread spread_all replace_type replace_types
-rigid = (
+rigid k = (
   λ m.
-      let e : m.0 0 ≡ type_of int = m.1.0 in
-      let f : m.0 0 ≡ named (made 0 0 0 false) = m.1.1.1.0 (omega arith) in
-      let d : type_of int ≡ named (made 0 0 0 false) = sym e ∙ f in cc,
+      let e : m.0 k ≡ type_of int = m.1.0 in
+      let f : m.0 k ≡ named (made 0 k 0 false) = m.1.1.1.0 (omega arith) in
+      let d : type_of int ≡ named (made 0 k 0 false) = sym e ∙ f in cc,
   below,
 )
   where
-    below : (k : Layer) → index_of k < 6 → CanBeMet (words scope) k rigid_demands
+    below : (l : Layer) → index_of l < 6 → CanBeMet (words scope) l (rigid_demands k)
     below L.Equations h = (λ _. tree (name (initial int)) [], (refl, (refl, (tt, tt))))
     below L.Finiteness h = (λ _. type_of int, (refl, (refl, (λ h. absurd (omega (arith, h)), tt))))
     below L.Newness h = (λ _. type_of int, (refl, (refl, (λ h. absurd (omega (arith, h)), tt))))
@@ -152,7 +152,7 @@ abbrev equality_demands : List (Demand Name (List Name))
 equality_demands = equal (twice (free 1)) (twice (type_of real)) ∷ asks equality (free 1) ∷ []
 
 pub unequal : IsFirstUnmet (words scope) L.Equality equality_demands
-unfolding spread spread_all replace_type replace_types naming admits all_admit
+unfolding spread spread_all replace_type replace_types naming admits_by all_admit_by
 unequal = (
   λ m.
       let e : twice (m.0 1) ≡ twice (type_of real) = m.1.0 in

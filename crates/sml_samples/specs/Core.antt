@@ -1,14 +1,16 @@
 -- Samples of the declarations of the core, each beside what it is: one of each form that is accepted, and one that is refused,
 -- where the form can be.
-use Rattle.std.specs.Prelude.{◌+◌, true, false, [], ◌∷◌, codes, Some, None}
-use Rattle.sml_lex.specs.declared.fault.Code.TheVariants.{E1, E2, E3, E5, E9, U1}
+use Rattle.std.specs.Prelude.{◌+◌, Bool, true, false, [], ◌∷◌, codes, Some, None}
+use Rattle.sml_lex.specs.declared.fault.Code.TheVariants.{E1, E2, E3, E5, E8, E9, U1}
 use Rattle.sml_tree.specs.declared.patterns.ConstantKind.TheVariants.{Integer}
 use Rattle.sml_tree.specs.Trees.{Id}
+use Rattle.sml_tree.specs.Types.{ty_variable}
 use Rattle.sml_tree.specs.Patterns.{Pat, pat_name, pat_typed}
 use Rattle.sml_tree.specs.Expressions.{Exp, Dec, TypBind, ConBind, DatBind, ValBinds, constant, name, fn, rule, no_rule, and_rule, val_dec, type_dec, datatype_dec, datatype_with, datatype_copy, exception_dec, local_dec, sequence_dec, open_dec, fixity_dec, no_dec, and_dec, bind, no_bind, and_bind, new_exception, exception_copy}
 use Rattle.sml_objects.specs.Names.{int, real, bool, exn}
 use Rattle.sml_objects.specs.Initial.{Name, made}
-use Rattle.sml_objects.specs.Objects.{MlType, Scheme, named, bound, arrow_of, mono}
+use Rattle.sml_objects.specs.Objects as O
+use Rattle.sml_objects.specs.Objects.{MlType, Scheme, app, no_type, and_type, named, bound, arrow_of, mono}
 use Rattle.sml_rules.specs.Answers.{fault, fault_at}
 use Rattle.sml_core_rules.specs.Objects.{Env, Status, TyStr, variable, constructor, exception, maps, no_structure, of_types, of_values, empty}
 use Rattle.sml_samples.specs.Around.{Place, name_at, long_at, constructor_at, type_of, plain, value_of, booleans, inner, Accepts, Refuses}
@@ -43,6 +45,26 @@ datatype_binding p x c = record { variables = []; name = name_at p x; constructo
 abbrev pub one_datatype : Id → Name → Id → MlType Name → Env Name
 one_datatype x n c t =
     maps no_structure ((x, record { function = mono (named n); constructors = (c, mono t) ∷ [] }) ∷ []) ((c, value_of (constructor 0 1) t) ∷ [])
+
+-- `x d = D of y` after `datatype`, and what it binds where x is the parameter, which admits equality or not
+abbrev pub parametric_binding : Id → Id → DatBind Place
+parametric_binding x y = record {
+  variables = name_at 2 x ∷ [];
+  name = name_at 3 (codes "d");
+  constructors = record { name = name_at 5 (codes "D"); argument = Some (ty_variable 7 y) } ∷ [];
+}
+
+abbrev pub parametric_type : MlType Name
+parametric_type = app (O.name (made 1 0 1 true)) (and_type (bound 0) no_type)
+
+abbrev pub parametric_scheme : Bool → Scheme Name
+parametric_scheme q = record { variables = q ∷ []; body = arrow_of (bound 0) parametric_type }
+
+abbrev pub parametric_datatype : Bool → Env Name
+parametric_datatype q =
+    maps no_structure
+    ((codes "d", record { function = record { variables = false ∷ []; body = parametric_type }; constructors = (codes "D", parametric_scheme q) ∷ [] }) ∷ [])
+    ((codes "D", record { scheme = parametric_scheme q; status = constructor 0 1 }) ∷ [])
 
 abbrev pub pattern_at : Place → Id → Pat Place
 pattern_at p x = pat_name p (long_at p x)
@@ -118,6 +140,10 @@ pub record DatatypeSamples : Type 0 where
   pub real_datatype_accepted : Accepts (datatype_dec 1 (datatype_binding 2 (codes "d") (constructor_of 4 (codes "D") (codes "real")) ∷ []))
       (one_datatype (codes "d") (made 1 0 0 false) (codes "D") (arrow_of (type_of real) (named (made 1 0 0 false))))
   pub datatype_refused : Refuses (datatype_dec 1 (datatype_binding 2 (codes "d") (constructor_of 4 (codes "D") (codes "u")) ∷ [])) (fault_at E2 6 (codes "u" ∷ []))
+  -- `datatype 'a d = D of 'a`, `datatype ''a d = D of ''a`, and `datatype 'a d = D of 'b`
+  pub parametric_accepted : Accepts (datatype_dec 1 (parametric_binding (codes "'a") (codes "'a") ∷ [])) (parametric_datatype false)
+  pub equality_accepted : Accepts (datatype_dec 1 (parametric_binding (codes "''a") (codes "''a") ∷ [])) (parametric_datatype true)
+  pub parametric_refused : Refuses (datatype_dec 1 (parametric_binding (codes "'a") (codes "'b") ∷ [])) (fault E8 7)
   -- `datatype d = D of t withtype t = int`, and `datatype d = D of t withtype t = u`
   pub withtype_accepted : Accepts (datatype_with 1 (datatype_binding 2 (codes "d") (constructor_of 4 (codes "D") (codes "t")) ∷ []) (type_binding 8 (codes "t") (codes "int") ∷ []))
       (maps no_structure

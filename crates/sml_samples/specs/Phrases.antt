@@ -1,16 +1,17 @@
 -- Samples of type expressions, patterns and expressions of each form, in declarations, each beside what it is.
 use Rattle.std.specs.Prelude.{false, [], ◌∷◌, codes, Some, None}
 use Rattle.sml_lex.specs.declared.fault.Code.TheVariants.{E4, E5, E8, E10, U1}
-use Rattle.sml_tree.specs.declared.patterns.ConstantKind.TheVariants.{Integer}
+use Rattle.sml_tree.specs.declared.patterns.ConstantKind.{ConstantKind}
+use Rattle.sml_tree.specs.declared.patterns.ConstantKind.TheVariants.{Integer, Word, Real, String, Character}
 use Rattle.sml_tree.specs.Trees.{Id}
 use Rattle.sml_tree.specs.Types.{Ty, ty_variable, ty_row, ty_tuple, ty_constructor, ty_arrow, ty_bracket, no_ty, and_ty, ty_field, no_ty_field, and_ty_field}
 use Rattle.sml_tree.specs.Patterns.{Pat, wildcard, pat_constant, pat_row, pat_tuple, pat_bracket, pat_apply, pat_as, no_pat, and_pat, pat_field, no_pat_field, and_pat_field}
-use Rattle.sml_tree.specs.Expressions.{Dec, row, field, no_field, and_field, tuple, bracket, apply, typed, handle, raise, no_exp, and_exp, rule, no_rule, and_rule, val_dec, type_dec, datatype_dec, datatype_with, exception_dec, local_dec, no_dec, and_dec, no_bind, new_exception}
+use Rattle.sml_tree.specs.Expressions.{Dec, constant, row, field, no_field, and_field, tuple, bracket, apply, typed, handle, raise, no_exp, and_exp, rule, no_rule, and_rule, val_dec, type_dec, datatype_dec, datatype_with, exception_dec, local_dec, no_dec, and_dec, no_bind, new_exception}
 use Rattle.sml_objects.specs.Names.{int}
 use Rattle.sml_objects.specs.Objects as O
 use Rattle.sml_objects.specs.Objects.{app, bound, no_type, and_type, arrow_of, tuple_of}
 use Rattle.sml_rules.specs.Answers.{fault}
-use Rattle.sml_core_rules.specs.Objects.{variable}
+use Rattle.sml_core_rules.specs.Objects.{variable, of_values}
 use Rattle.sml_samples.specs.Around.{Place, name_at, long_at, constructor_at, type_of, twice, Accepts, Refuses}
 use Rattle.sml_samples.specs.Core.{type_binding, plain_constructor, constructor_of, datatype_binding, one_type, one_value, pattern_at, one_binding, three, variable_at}
 use Rattle.sml_samples.specs.Typing.{val_is}
@@ -25,6 +26,10 @@ applied_at p ty q c = ty_constructor p (and_ty ty no_ty) (long_at q c)
 
 abbrev pub three_pattern : Place → Pat Place
 three_pattern p = pat_constant p (record { kind = Integer; literal = codes "3" })
+
+-- `val _ = c : ty`, where the constant c is of this kind
+abbrev pub constant_is : ConstantKind → Id → Dec Place
+constant_is kind c = val_is (wildcard 2) (typed 4 (constant 4 (record { kind = kind; literal = [] })) (constructor_at 6 c))
 
 pub record PhraseSamples : Type 0 where
   -- `type 'a t = {a : 'a, b : int * (int -> 'a)}`
@@ -80,6 +85,17 @@ pub record PhraseSamples : Type 0 where
       (one_value (codes "x") variable (type_of int))
   pub constructor_refused : Refuses (val_is (pat_apply 2 (record { place = 2; id = record { path = codes "S" ∷ []; last = codes "x" } }) (pattern_at 3 (codes "y"))) (three 5))
       (fault E5 2)
+  -- `val true x = 3`, and `local datatype d = D of int in val D = D 3 end`
+  pub argument_refused : Refuses (val_is (pat_apply 2 (long_at 2 (codes "true")) (pattern_at 3 (codes "x"))) (three 5)) (fault E5 2)
+  pub no_argument_refused : Refuses
+      (local_dec 1 (and_dec (datatype_dec 2 (datatype_binding 3 (codes "d") (constructor_of 5 (codes "D") (codes "int")) ∷ [])) no_dec)
+      (and_dec (val_dec 9 [] (one_binding (pattern_at 10 (codes "D")) (apply 12 (variable_at 12 (codes "D")) (three 13))) no_bind) no_dec))
+      (fault E5 10)
+  -- constants: `val _ = "a" : string`, `val _ = 3.0 : real`, and `val _ = #"a" : string`, `val _ = 0w3 : int`
+  pub string_accepted : Accepts (constant_is String (codes "string")) (of_values [])
+  pub real_accepted : Accepts (constant_is Real (codes "real")) (of_values [])
+  pub character_refused : Refuses (constant_is Character (codes "string")) (fault U1 4)
+  pub word_refused : Refuses (constant_is Word (codes "int")) (fault U1 4)
   -- `local exception X in val x = (raise X) handle X => 3 : int end`, and `val x = raise true`, `val x = 3 : string`
   pub handle_accepted : Accepts
       (local_dec 1 (and_dec (exception_dec 2 (new_exception (plain_constructor 3 (codes "X")) ∷ [])) no_dec)

@@ -4,7 +4,7 @@ use Rattle.sml_lex.specs.declared.fault.Code.TheVariants.{E6, U2, U3, U4, U5, U6
 use Rattle.sml_tree.specs.declared.patterns.ConstantKind.TheVariants.{Real}
 use Rattle.sml_tree.specs.Trees.{Id}
 use Rattle.sml_tree.specs.Types.{ty_variable}
-use Rattle.sml_tree.specs.Patterns.{Pat, pat_typed, pat_row, pat_field, no_pat_field, and_pat_field}
+use Rattle.sml_tree.specs.Patterns.{Pat, wildcard, pat_typed, pat_row, pat_field, no_pat_field, and_pat_field}
 use Rattle.sml_tree.specs.Expressions.{Exp, Dec, constant, typed, row, tuple, let_in, bracket, apply, fn, no_exp, and_exp, field, no_field, and_field, rule, no_rule, and_rule, val_dec, datatype_dec, no_dec, and_dec, no_bind}
 use Rattle.sml_objects.specs.Names.{int}
 use Rattle.sml_objects.specs.Initial.{Name}
@@ -62,6 +62,17 @@ pub record TypingSamples : Type 0 where
       (with_scheme (codes "f") (record { variables = true ∷ []; body = arrow_of (bound 0) (bound 0) }))
   -- `val x : 'a = 3`
   pub rigid_refused : Refuses (val_is (pat_typed 2 (pattern_at 2 (codes "x")) (ty_variable 4 (codes "'a"))) (three 6)) (fault U7 2)
+  -- `val _ = fn x : 'a => let val _ : 'a = x in 3 end`: the variable is scoped by the outer declaration alone; and
+  -- `val _ = let val _ : 'a = 3 in 3 end`, where the inner one scopes it
+  pub scoped_accepted : Accepts
+      (val_is (wildcard 2)
+      (function_at 4 (pat_typed 5 (pattern_at 5 (codes "x")) (ty_variable 7 (codes "'a")))
+      (let_in 9 (and_dec (val_dec 10 [] (one_binding (pat_typed 11 (wildcard 11) (ty_variable 13 (codes "'a"))) (variable_at 15 (codes "x"))) no_bind) no_dec) (three 17))))
+      (of_values [])
+  pub scoped_refused : Refuses
+      (val_is (wildcard 2)
+      (let_in 4 (and_dec (val_dec 5 [] (one_binding (pat_typed 6 (wildcard 6) (ty_variable 8 (codes "'a"))) (three 10)) no_bind) no_dec) (three 12)))
+      (fault U7 6)
   -- `val rec f = fn x => x x`
   pub circular_refused : Refuses (rec_is (function_at 5 (pattern_at 6 (codes "x")) (apply 8 (variable_at 8 (codes "x")) (variable_at 9 (codes "x"))))) (fault U2 8)
   -- `val i = (fn x => x) (fn x => x)`, whose right side is expansive: an unknown stays open

@@ -2,10 +2,9 @@ use Rattle.std.proofs.Common.{◌≡◌, ◌&&◌, Bool, true, ap, sym, ◌∙�
 use Rattle.std.specs.List.{list_all}
 use Rattle.sml_objects.specs.Objects.{types_of}
 use Rattle.sml_objects.specs.Views.{type_of, name_of}
-use Rattle.sml_objects.specs.Equality.{is_reference_name}
+use Rattle.sml_objects.specs.Equality.{is_reference_name, all_admit_by}
 use Rattle.sml_objects.specs.Initial.{attributes_of}
 use Rattle.sml_objects.proofs.TypeViews.{parts_of}
-use Rattle.sml_core_rules.specs.Datatypes.{all_admit_by}
 use Rattle.sml_equality.specs.Runs.{admits_in, kept_or, type_admits}
 use Rattle.sml_equality.proofs.Needing.{all_end, one_more, same_answer, row_admits, applied, then_both}
 use Rattle.sml_equality.proofs.needs.+admits.Goals as goal

@@ -3,8 +3,7 @@ use Rattle.std.proofs.Common.{◌≡◌, ◌&&◌, Bool, true, ℕ, map, drop}
 use Rattle.std.specs.List.{list_all}
 use Rattle.sml_objects.specs.Objects.{types_of}
 use Rattle.sml_objects.specs.Views.{type_of}
-use Rattle.sml_objects.specs.Equality.{is_reference_name}
-use Rattle.sml_core_rules.specs.Datatypes.{all_admit_by}
+use Rattle.sml_objects.specs.Equality.{is_reference_name, all_admit_by}
 use Rattle.sml_equality.specs.Runs.{admits_in}
 use Rattle.sml_equality.specs.CodeUsers.{AreInside}
 use Rattle.sml_equality.proofs.needs.+admits.Given as goal

@@ -13,16 +13,13 @@ use Rattle.sml_layers.specs.Explicit.{variable_name}
 use Rattle.sml_layers.specs.Worlds.{Assignment, finite}
 use Rattle.sml_rules.specs.Answers.{accepted}
 use Rattle.sml_core_rules.specs.Objects.{Basis, Env, TyStr, names_env, names_in as fold_env}
-use Rattle.sml_core_rules.specs.States.{Scope, State}
+use Rattle.sml_core_rules.specs.Scopes.{run_scope}
+use Rattle.sml_core_rules.specs.States.{State}
 use Rattle.sml_core_rules.specs.Types.{count_types}
 use Rattle.sml_core_rules.specs.Expressions.{IsReading, at_first}
 use Rattle.sml_core_rules.specs.Contexts.{Takes, IsType, context_of}
 use Rattle.sml_core_rules.specs.Assigned.{assign_env}
 use Rattle.sml_core_rules.specs.Rules.{Declares}
-
--- the names of a run, where this unit makes names
-abbrev pub scope_of : ℕ → Scope Name
-scope_of u = record { names = naming; unit = u; variable = variable_name }
 
 module _ {N : Type 0} (names : Naming N) where
   -- the body of a scheme or of a type function that has k variables: no other variable stands in it
@@ -61,6 +58,6 @@ words_of var equality = record { names = naming; variable = λ x. free (var x); 
 abbrev pub ReadingsAreSound : Type 0
 ReadingsAreSound =
     (u : ℕ) → 0 < u → (B : Basis Name) → IsWellFormed B → (d : Dec Place) (E : Env Name) (s : State Place Name)
-    → IsReading (scope_of u) B.body [] d (at_first B.names) (accepted (E, s))
+    → IsReading (run_scope u) B.body [] d (at_first B.names) (accepted (E, s))
     → (σ : Assignment Name finite) × (var : Variable → ℕ) × (equality : ℕ → Bool) × ((v : ℕ) → IsType naming (σ v) × Mentions (λ n. Stands n s.names) (σ v))
     × AllHold (words_of var equality) finite Rigidity σ s.demands × Declares naming equality (context_of B) d (assign_env σ E)

@@ -1,6 +1,7 @@
 -- Seals hide in runs over the initial basis.
 use Rattle.std.specs.Prelude.{◌≡◌, ◌<◌, ◌&&◌, ℕ, Bool, true, false, List, [], ◌∷◌}
-use Rattle.std.proofs.Common.{refl, arith, sym, ◌∙◌}
+use Rattle.std.proofs.Common.{arith}
+use mathlib.Core.Path.{refl, sym, subst}
 use mathlib.Core.Logic.{inl, inr}
 use Rattle.std.specs.List.{AllByRecursion}
 use Rattle.sml_lex.specs.declared.fault.Place.{Place}
@@ -36,7 +37,7 @@ are_initial (made u k a q ∷ ns) = false
 all-initial : (ns : List Name) → are_initial ns ≡ true → (n : Name) → Stands n ns → Stands n initial_names
 unfolding Stands are_initial
 all-initial [] e n h = absurd h
-all-initial (initial k ∷ ns) e n (inl h) = λ i. Stands (sym h i) initial_names
+all-initial (initial k ∷ ns) e n (inl h) = subst (λ m. Stands m initial_names) (sym h) (initial-stands k)
 all-initial (initial k ∷ ns) e n (inr h) = all-initial ns e n h
 all-initial (made u k a q ∷ ns) e n h = absurd cc
 
@@ -51,6 +52,7 @@ none-made [] h = tt
 none-made (u ∷ us) h = (λ x e. let p = h.0 in omega (arith, p, e), none-made us h.1)
 
 pub runs-hide : RunsHide
+unfolding naming
 runs-hide us numbered oss qss first second same =
     let r = projects-hide (run_scope 1) us (none-made us numbered) initial_basis (all-initial (names_basis initial_basis) only-initial) initial-stands oss qss first second same in
-    (r.0, r.1.1)
+    (r.0, r.2)

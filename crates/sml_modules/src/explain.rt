@@ -4,7 +4,7 @@ use crate::modules::own_basis;
 use sml_asks::asks::{ask_instance, ask_scheme};
 use sml_bases::objects::{Basis, Env, Sig, TypeStr, Value};
 use sml_core::context::{Context, MOST_SHOWN};
-use sml_core::recorder::{Component, OwnNames, Seen, Wanted};
+use sml_core::recorder::{Component, OwnNames, Recorder, Seen, Wanted};
 use sml_envs::functions::name_of;
 use sml_envs::mapping::mapped_env;
 use sml_lex::fault::{Code, Fault, Memory};
@@ -30,30 +30,61 @@ pub struct Explanation {
     pub names: OwnNames,
 }
 
+/// The fault of a declaration, and what was kept up to it.
+#[derive(Drop)]
+struct Refused {
+    fault: Fault,
+    recorder: Recorder,
+}
+
 /// Why a declaration is refused in a basis, where more is known of it than its fault says. The declaration is gone through
 /// once to find what is refused, and once more to keep what is at hand before that, where it is a comparison.
 pub fn explain(alloc: Global, basis: &Basis, dec: &TopDec) -> Result<Option<Explanation>, Memory> {
-    let mut context = Context::new(alloc, basis);
-    let Some(fault) = fault_of(&mut context, basis, dec)? else {
+    let Some(Refused { fault, recorder }) = refused_in(Context::new(alloc, basis), basis, dec)?
+    else {
         return Ok(None);
     };
-    let Some(number) = context.recorder.refused() else {
-        return Ok(explained(context, fault));
-    };
+    match recorder.refused() {
+        Some(number) => explain_at(alloc, basis, dec, Wanted { number, fault }),
+        None => Ok(explained(Refused { fault, recorder })),
+    }
+}
+
+/// Why a declaration is refused at this comparison.
+fn explain_at(
+    alloc: Global,
+    basis: &Basis,
+    dec: &TopDec,
+    wanted: Wanted,
+) -> Result<Option<Explanation>, Memory> {
     let mut context = Context::new(alloc, basis);
-    context.recorder.want(Wanted { number, fault });
-    let Some(fault) = fault_of(&mut context, basis, dec)? else {
-        return Ok(None);
-    };
-    Ok(explained(context, fault))
+    context.recorder.want(wanted);
+    match refused_in(context, basis, dec)? {
+        Some(refused) => Ok(explained(refused)),
+        None => Ok(None),
+    }
 }
 
 /// The fault with what was kept of it, if something was.
-fn explained(context: Context, fault: Fault) -> Option<Explanation> {
-    let Context { recorder, .. } = context;
+fn explained(refused: Refused) -> Option<Explanation> {
+    let Refused { fault, recorder } = refused;
     match recorder.into_seen() {
         Some((seen, names)) => Some(Explanation { fault, seen, names }),
         None => None,
+    }
+}
+
+/// The fault of a declaration, if it is refused in this context, and what the context kept.
+fn refused_in(
+    mut context: Context,
+    basis: &Basis,
+    dec: &TopDec,
+) -> Result<Option<Refused>, Memory> {
+    let answer = fault_of(&mut context, basis, dec);
+    let Context { recorder, .. } = context;
+    match answer? {
+        Some(fault) => Ok(Some(Refused { fault, recorder })),
+        None => Ok(None),
     }
 }
 

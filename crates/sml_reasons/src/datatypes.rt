@@ -36,25 +36,30 @@ pub(crate) fn constructors_of(alloc: Global, place: Place, top: &TopDec) -> Resu
         tasks: Vec::new(alloc),
         found: Vec::new(alloc),
     };
-    match top {
-        TopDec::Structure(dec) => search.tasks.push(Task::Declaration(dec))?,
-        TopDec::Signature(_, binds) => {
-            for bind in binds.as_slice() {
-                search.tasks.push(Task::Signature(&bind.signature))?;
-            }
-        }
-        TopDec::Functor(_, binds) => {
-            for bind in binds.as_slice() {
-                search.tasks.push(Task::Signature(&bind.signature))?;
-                search.tasks.push(Task::Structure(&bind.body))?;
-            }
-        }
-    }
+    search.top(top)?;
     search.look()?;
     Ok(search.found)
 }
 
 impl<'a> Search<'a> {
+    fn top(&mut self, top: &'a TopDec) -> Result<(), Memory> {
+        match top {
+            TopDec::Structure(dec) => self.tasks.push(Task::Declaration(dec))?,
+            TopDec::Signature(_, binds) => {
+                for bind in binds.as_slice() {
+                    self.tasks.push(Task::Signature(&bind.signature))?;
+                }
+            }
+            TopDec::Functor(_, binds) => {
+                for bind in binds.as_slice() {
+                    self.tasks.push(Task::Signature(&bind.signature))?;
+                    self.tasks.push(Task::Structure(&bind.body))?;
+                }
+            }
+        }
+        Ok(())
+    }
+
     /// Looks at all that has to be looked at.
     fn look(&mut self) -> Result<(), Memory> {
         for _turn in 0..u64::MAX {

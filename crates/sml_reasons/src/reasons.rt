@@ -22,28 +22,49 @@ pub fn reasons(
     replies: &[Reply],
     declarations: &[TopDec],
 ) -> Result<Vec<Reason>, Memory> {
-    let mut reasons = Vec::new(alloc);
     let count = count_explained(replies);
     if count == 0 {
-        return Ok(reasons);
+        return Ok(Vec::new(alloc));
     }
-    let Some(mut again) = checked.again(alloc, place)? else {
-        return Ok(reasons);
-    };
+    match checked.again(alloc, place)? {
+        Some(mut again) => first_reasons(alloc, &mut again, count, replies, declarations),
+        None => Ok(Vec::new(alloc)),
+    }
+}
+
+/// The reasons of the first so many declarations.
+fn first_reasons(
+    alloc: Global,
+    again: &mut Again,
+    count: usize,
+    replies: &[Reply],
+    declarations: &[TopDec],
+) -> Result<Vec<Reason>, Memory> {
+    let mut reasons = Vec::new(alloc);
     for (reply, dec) in replies.iter().zip(declarations) {
         if reasons.len() == count {
             return Ok(reasons);
         }
-        let reason = match reply.fault() {
-            Some(fault) => reason_of(alloc, &mut again, fault, dec)?,
-            None => {
-                again.pass(alloc, dec)?;
-                Vec::new(alloc)
-            }
-        };
+        let reason = next_reason(alloc, again, reply, dec)?;
         reasons.push(reason)?;
     }
     Ok(reasons)
+}
+
+/// Why the next declaration was refused, if it was; else what it binds is bound.
+fn next_reason(
+    alloc: Global,
+    again: &mut Again,
+    reply: &Reply,
+    dec: &TopDec,
+) -> Result<Reason, Memory> {
+    match reply.fault() {
+        Some(fault) => reason_of(alloc, again, fault, dec),
+        None => {
+            again.pass(alloc, dec)?;
+            Ok(Vec::new(alloc))
+        }
+    }
 }
 
 /// How many replies there are up to the last one whose fault has a reason.

@@ -78,32 +78,54 @@ fn worded(
     texts: IndexMap<TyName, Ident>,
 ) -> Result<(Vec<Vec<u8>>, IndexSet<TyName>), Memory> {
     let mut wording = Wording::new(alloc, texts);
+    push_seen(alloc, &mut wording, explanation)?;
+    Ok(wording.into_parts())
+}
+
+/// The lines of what was at hand.
+fn push_seen(
+    alloc: Global,
+    wording: &mut Wording,
+    explanation: &Explanation,
+) -> Result<(), Memory> {
     match &explanation.seen {
         Seen::Types(meeting, scheme, explicit) => {
-            push_types(alloc, &mut wording, *meeting, scheme, explicit)?;
+            push_types(alloc, wording, *meeting, scheme, explicit)
         }
         Seen::Components(found, specified) => {
             let path = match &explanation.fault.detail {
                 Some(path) => path.as_slice(),
                 None => b"",
             };
-            wording.push(b"the structure has ")?;
-            push_component(&mut wording, path, found)?;
-            wording.end_line()?;
-            wording.push(b"the signature asks for ")?;
-            push_component(&mut wording, path, specified)?;
-            wording.end_line()?;
+            push_components(wording, path, found, specified)
         }
-        Seen::Unshared(earlier, later) => {
-            wording.push(b"the first type is ")?;
-            wording.push(earlier)?;
-            wording.end_line()?;
-            wording.push(b"the type here is ")?;
-            wording.push(later)?;
-            wording.end_line()?;
-        }
+        Seen::Unshared(earlier, later) => push_unshared(wording, earlier, later),
     }
-    Ok(wording.into_parts())
+}
+
+/// A line for each of two components at a path.
+fn push_components(
+    wording: &mut Wording,
+    path: &[u8],
+    found: &Component,
+    specified: &Component,
+) -> Result<(), Memory> {
+    wording.push(b"the structure has ")?;
+    push_component(wording, path, found)?;
+    wording.end_line()?;
+    wording.push(b"the signature asks for ")?;
+    push_component(wording, path, specified)?;
+    wording.end_line()
+}
+
+/// A line for each of two types that can't be shared.
+fn push_unshared(wording: &mut Wording, earlier: &[u8], later: &[u8]) -> Result<(), Memory> {
+    wording.push(b"the first type is ")?;
+    wording.push(earlier)?;
+    wording.end_line()?;
+    wording.push(b"the type here is ")?;
+    wording.push(later)?;
+    wording.end_line()
 }
 
 /// A line for each type of a demand.

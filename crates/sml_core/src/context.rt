@@ -176,6 +176,12 @@ impl<'a> Context<'a> {
         }
     }
 
+    /// Begins a part of the declaration that sees no unknown of the parts before, all of which are forgotten.
+    pub fn begin_part(&mut self) {
+        self.is_open = false;
+        self.refresh();
+    }
+
     /// Whether an unknown may still stand in what was bound.
     pub fn is_open(&self) -> bool {
         self.is_open

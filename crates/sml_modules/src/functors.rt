@@ -1,7 +1,7 @@
 //! Functors and their applications (the Definition, section 5.7, rules 54, 85 and 86).
 
 use crate::explain::{note_match, signature_of};
-use crate::settled::{Known, known_in, settled_by};
+use crate::settled::{Known, known_in, require_known, settled_by};
 use crate::structures::{begin, end_let, structure};
 use sml_bases::objects::{Basis, Env, FunSig, Sig};
 use sml_core::context::Context;
@@ -67,8 +67,8 @@ fn match_argument(
     Ok(realisation)
 }
 
-/// Binds functors. Types of their results that are still unknown when all bodies were gone through are Q2 at the place, and
-/// then such as are too large E7.
+/// Binds functors, each of which is read alone. Types of their results that are still unknown when all bodies were gone
+/// through are Q2 at the place, and then such as are too large E7.
 pub(crate) fn functors(
     context: &mut Context,
     own: &mut Basis,
@@ -79,49 +79,40 @@ pub(crate) fn functors(
     for bind in binds {
         bodies.push(body_of(context, bind)?)?;
     }
-    let known = known_in_all(context, &bodies, place)?;
-    let mut known = known.iter();
+    for body in bodies.iter() {
+        require_known(&body.known, place)?;
+    }
     let mut bodies = bodies.into_iter();
     for bind in binds {
-        if let (Some(body), Some(known)) = (bodies.next(), known.next()) {
-            let functor = settled(context, body, known, place)?;
-            let functor = Rc::new(context.alloc, functor)?;
+        if let Some(body) = bodies.next() {
+            let functor = Rc::new(context.alloc, settled(context, body, place)?)?;
             own.functors.insert(bind.name.ident.clone()?, functor)?;
         }
     }
     Ok(())
 }
 
-/// What the unknowns in what each body gives turned out to be.
-fn known_in_all(
-    context: &mut Context,
-    bodies: &[Body],
-    place: Place,
-) -> Result<Vec<Known>, CoreFault> {
-    let mut all = Vec::new(context.alloc);
-    for body in bodies {
-        all.push(known_in(context, &body.env, place)?)?;
-    }
-    Ok(all)
-}
-
-/// A functor's argument, the number of the first name that its body could make, and what the body is, whose types may be
-/// unknown still.
+/// A functor's argument, the number of the first name that its body could make, what the body is, and what its unknowns
+/// turned out to be, if none is still unknown.
 #[derive(Drop)]
 struct Body {
     argument: Sig,
     first: u32,
     env: Rc<Env>,
+    known: Option<Known>,
 }
 
 fn body_of(context: &mut Context, bind: &FunBind) -> Result<Body, CoreFault> {
+    context.begin_part();
     let argument = signature_of(context, &bind.signature)?;
     let first = context.new.next;
     let env = result_of(context, bind, argument.env.clone()?)?;
+    let known = known_in(context, &env)?;
     Ok(Body {
         argument,
         first,
         env,
+        known,
     })
 }
 
@@ -138,14 +129,10 @@ fn result_of(
     Ok(env)
 }
 
-/// The functor once the types of its result are known. It makes the names that its body made and that stand there.
-fn settled(
-    context: &Context,
-    body: Body,
-    known: &Known,
-    place: Place,
-) -> Result<FunSig, CoreFault> {
-    let env = settled_by(context.alloc, &body.env, known, place)?;
+/// The functor with the types that the unknowns of its result turned out to be. It makes the names that its body made and that
+/// stand there.
+fn settled(context: &Context, body: Body, place: Place) -> Result<FunSig, CoreFault> {
+    let env = settled_by(context.alloc, &body.env, &body.known, place)?;
     let names = names_from(context.alloc, &env, context.new.unit, body.first)?;
     let Body { argument, .. } = body;
     Ok(FunSig {

@@ -3,16 +3,16 @@
 use crate::counts::names_of_top;
 use crate::explain::signature_of;
 use crate::functors::functors;
-use crate::settled::settled_env;
-use crate::structures::declare;
-use sml_bases::objects::Basis;
+use crate::settled::{Known, known_in, require_known, settled_by};
+use crate::structures::{declare, structure};
+use sml_bases::objects::{Basis, Env};
 use sml_core::context::Context;
 use sml_envs::canonical::canonical;
 use sml_envs::extents::least_text;
 use sml_lex::fault::{Code, FIRST, Memory, Warning};
 use sml_sigs::counts::names_of_sig;
 use sml_sigs::sigs::require_signature;
-use sml_tree::structures::{SigBind, TopDec};
+use sml_tree::structures::{SigBind, StrBind, StrDec, TopDec};
 use sml_types::fault::{CoreFault, plain_fault};
 use sml_warnings::sorted::sorted;
 use std::alloc::Global;
@@ -87,16 +87,59 @@ pub(crate) fn own_basis(
     let mut own = Basis::new(context.alloc, basis.unit);
     own.count = basis.count;
     match dec {
-        TopDec::Structure(dec) => {
-            context.export(true);
-            declare(context, dec)?;
-            let env = context.exported(None);
-            own.env = settled_env(context, env, FIRST)?;
-        }
+        TopDec::Structure(StrDec::Structure(_, binds)) => structures(context, &mut own, binds)?,
+        TopDec::Structure(dec) => own.env = declared(context, dec)?,
         TopDec::Signature(_, binds) => signatures(context, basis, &mut own, binds)?,
         TopDec::Functor(_, binds) => functors(context, &mut own, binds, FIRST)?,
     }
     Ok(own)
+}
+
+/// What a declaration binds that is no group of structures. A type that is still unknown is Q2, and then a scheme that is
+/// too large E7.
+fn declared(context: &mut Context, dec: &StrDec) -> Result<Env, TopFault> {
+    context.export(true);
+    declare(context, dec)?;
+    let env = Rc::new(context.alloc, context.exported(None))?;
+    let known = known_in(context, &env)?;
+    let settled = settled_by(context.alloc, &env, &known, FIRST)?;
+    let mut own = Env::new(context.alloc);
+    own.add(&settled)?;
+    Ok(own)
+}
+
+/// A structure that was read alone, and what its unknowns turned out to be, if none is still unknown.
+#[derive(Drop)]
+struct Part {
+    env: Rc<Env>,
+    known: Option<Known>,
+}
+
+/// Binds structures, each of which is read alone. Types of any that are still unknown when all were gone through are Q2, and
+/// then such as are too large E7.
+fn structures(context: &mut Context, own: &mut Basis, binds: &[StrBind]) -> Result<(), TopFault> {
+    let mut parts = Vec::new(context.alloc);
+    for bind in binds {
+        parts.push(part_of(context, bind)?)?;
+    }
+    for part in parts.iter() {
+        require_known(&part.known, FIRST)?;
+    }
+    let mut parts = parts.iter();
+    for bind in binds {
+        if let Some(part) = parts.next() {
+            let env = settled_by(context.alloc, &part.env, &part.known, FIRST)?;
+            own.env.structures.insert(bind.name.ident.clone()?, env)?;
+        }
+    }
+    Ok(())
+}
+
+fn part_of(context: &mut Context, bind: &StrBind) -> Result<Part, TopFault> {
+    context.begin_part();
+    let env = structure(context, &bind.body)?;
+    let known = known_in(context, &env)?;
+    Ok(Part { env, known })
 }
 
 /// Binds signatures. Where they would bind too many names it is Q3, unless there is another fault; then none is made.

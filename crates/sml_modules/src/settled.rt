@@ -41,34 +41,40 @@ impl Mapping for Known {
     }
 }
 
-/// The environment with the types that its unknowns turned out to be. One that is still unknown is Q2, and then a scheme
-/// that is too large is E7.
-pub(crate) fn settled_env(context: &mut Context, env: Env, place: Place) -> Result<Env, CoreFault> {
+/// What the unknowns of an environment turned out to be, if none is still unknown.
+pub(crate) fn known_in(context: &mut Context, env: &Env) -> Result<Option<Known>, Memory> {
     if !context.is_open() {
-        return Ok(env);
-    }
-    let env = Rc::new(context.alloc, env)?;
-    let known = known_in(context, &env, place)?;
-    let settled = settled_by(context.alloc, &env, &known, place)?;
-    let mut own = Env::new(context.alloc);
-    own.add(&settled)?;
-    Ok(own)
-}
-
-/// What the unknowns of an environment turned out to be. One that is still unknown is Q2.
-pub(crate) fn known_in(context: &mut Context, env: &Env, place: Place) -> Result<Known, CoreFault> {
-    if !context.is_open() {
-        return Ok(Known {
+        return Ok(Some(Known {
             types: IndexMap::new(context.alloc),
             has_large: false,
-        });
+        }));
     }
     let unknowns = unknowns_of(context.alloc, env)?;
-    readings(context, &unknowns, place)
+    readings(context, &unknowns)
 }
 
-/// The environment with the types that its unknowns turned out to be. A scheme that is too large with these is E7.
+/// That no unknown is still unknown, or Q2.
+pub(crate) fn require_known(known: &Option<Known>, place: Place) -> Result<(), CoreFault> {
+    match known {
+        Some(_) => Ok(()),
+        None => Err(plain_fault(Code::Q2, place)),
+    }
+}
+
+/// The environment with the types that its unknowns turned out to be, or Q2. A scheme that is too large with these is E7.
 pub(crate) fn settled_by(
+    alloc: Global,
+    env: &Rc<Env>,
+    known: &Option<Known>,
+    place: Place,
+) -> Result<Rc<Env>, CoreFault> {
+    match known {
+        Some(known) => with_types(alloc, env, known, place),
+        None => Err(plain_fault(Code::Q2, place)),
+    }
+}
+
+fn with_types(
     alloc: Global,
     env: &Rc<Env>,
     known: &Known,
@@ -91,68 +97,74 @@ fn unknowns_of(alloc: Global, env: &Env) -> Result<IndexSet<u32>, Memory> {
     Ok(unknowns)
 }
 
-fn readings(
-    context: &mut Context,
-    unknowns: &IndexSet<u32>,
-    place: Place,
-) -> Result<Known, CoreFault> {
+fn readings(context: &mut Context, unknowns: &IndexSet<u32>) -> Result<Option<Known>, Memory> {
     let mut types = IndexMap::new(context.alloc);
     let mut large = Vec::new(context.alloc);
     let left = vec![in context.alloc; false; context.solver.unknowns()]?;
     for unknown in unknowns {
-        match reading(context, *unknown, &left, GREATEST_SIZE, place)? {
-            Some(ty) => {
+        match reading(context, *unknown, &left, GREATEST_SIZE)? {
+            Outcome::Type(ty) => {
                 types.insert(*unknown, ty)?;
             }
-            None => large.push(*unknown)?,
+            Outcome::Large => large.push(*unknown)?,
+            Outcome::Open => return Ok(None),
         }
     }
     let has_large = !large.is_empty();
-    if has_large {
-        require_known(context, &large, &left, place)?;
+    if has_large && !are_known(context, &large, &left)? {
+        return Ok(None);
     }
-    Ok(Known { types, has_large })
+    Ok(Some(Known { types, has_large }))
 }
 
-/// The type that an unknown turned out to be, by all that is asked of it, or Q2; none where it is larger than the limit. No
-/// unknown has one of the flags.
+/// What an unknown turned out to be: a type, one that is larger than the limit, or one that is still unknown.
+#[derive(Drop)]
+enum Outcome {
+    Type(Rc<MlType>),
+    Large,
+    Open,
+}
+
+/// What an unknown turned out to be, by all that is asked of it. No unknown has one of the flags.
 fn reading(
     context: &mut Context,
     unknown: u32,
     left: &[bool],
     limit: u32,
-    place: Place,
-) -> Result<Option<Rc<MlType>>, CoreFault> {
+) -> Result<Outcome, Memory> {
     let ty = MlType::Free(unknown);
     match ask_scheme(context.alloc, &mut context.solver, &ty, left, true, limit) {
         Ok(Some(Scheme { body, .. })) => {
             if is_ground(&body) {
-                Ok(Some(body))
+                Ok(Outcome::Type(body))
             } else {
-                Err(plain_fault(Code::Q2, place))
+                Ok(Outcome::Open)
             }
         }
-        Ok(None) => Ok(None),
-        Err(_) => Err(CoreFault::Memory),
+        Ok(None) => Ok(Outcome::Large),
+        Err(_) => Err(Memory),
     }
 }
 
-/// That no unknown is left in the types that some unknowns turned out to be, which aren't made, or Q2.
-fn require_known(
-    context: &mut Context,
-    unknowns: &[u32],
-    left: &[bool],
-    place: Place,
-) -> Result<(), CoreFault> {
+/// Whether no unknown is left in the types that some unknowns turned out to be, which aren't made.
+fn are_known(context: &mut Context, unknowns: &[u32], left: &[bool]) -> Result<bool, Memory> {
     let Ok(flags) = ask_fixed(&mut context.solver, 0, unknowns) else {
-        return Err(CoreFault::Memory);
+        return Err(Memory);
     };
     for (unknown, is_inside) in flags.iter().enumerate() {
-        if *is_inside {
-            reading(context, number_of(unknown)?, left, 1, place)?;
+        if *is_inside && is_left(context, number_of(unknown)?, left)? {
+            return Ok(false);
         }
     }
-    Ok(())
+    Ok(true)
+}
+
+/// Whether an unknown is left by all that is asked of it.
+fn is_left(context: &mut Context, unknown: u32, left: &[bool]) -> Result<bool, Memory> {
+    match reading(context, unknown, left, 1)? {
+        Outcome::Open => Ok(true),
+        _ => Ok(false),
+    }
 }
 
 /// Adds the unknowns in the types of an environment's values. Those of environments that were visited are added.

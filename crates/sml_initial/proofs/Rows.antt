@@ -13,17 +13,12 @@ use Rattle.sml_objects.proofs.Joins.{join-push}
 -- one row more
 pub row-next : {A X R : Type 0} (f : A → X) (g : R → Id × X) (before : Map X) (old new : List (Rc (Vec ℕ Global) Global × A)) (rows : List R) (i : ℕ)
     (k : Rc (Vec ℕ Global) Global) (v : A) (r : R)
-    → new ≡ insert_entry (λ x y. order_of (ident_of x) (ident_of y)) old k v → i < length rows → get_or rows i r ≡ r → ident_of k ≡ (g r).0 → f v ≡ (g r).1
+    → new ≡ insert_entry (λ x y. order_of (ident_of x) (ident_of y)) old k v → i < length rows → ident_of k ≡ (g (get_or rows i r)).0 → f v ≡ (g (get_or rows i r)).1
     → entries_of f old ≡ join before (map g (take i rows)) → entries_of f new ≡ join before (map g (take (i + 1) rows))
-row-next f g before old new rows i k v r inserted inside here key value h =
+row-next f g before old new rows i k v r inserted inside key value h =
     ap (entries_of f) inserted
     ∙ entries-put f old k v
     ∙ (λ j. put (key j) (value j) (h j))
-    ∙ sym (join-push before (map g (take i rows)) (g r).0 (g r).1)
-    ∙ ap (join before) (sym (map-append g (take i rows) (r ∷ [])))
-    ∙ ap (λ l. join before (map g (take i rows ++ l ∷ []))) (sym here)
+    ∙ sym (join-push before (map g (take i rows)) (g (get_or rows i r)).0 (g (get_or rows i r)).1)
+    ∙ ap (join before) (sym (map-append g (take i rows) (get_or rows i r ∷ [])))
     ∙ ap (λ l. join before (map g l)) (sym (take_more rows i r inside))
-
--- all rows
-pub all-rows : {X R : Type 0} (g : R → Id × X) (before : Map X) (rows : List R) (m : Map X) (i n : ℕ) → i ≡ n → m ≡ join before (map g (take i rows)) → m ≡ join before (map g (take n rows))
-all-rows g before rows m i n e h = h ∙ ap (λ k. join before (map g (take k rows))) e

@@ -4,15 +4,15 @@ ghost use Rattle.std.specs.Prelude.{◌≡◌, ℕ, [], ◌∷◌, map, IfOk, On
 ghost use Rattle.sml_tree.specs.Views.{ident_of};
 ghost use Rattle.sml_objects.specs.Maps.{join};
 ghost use Rattle.sml_objects.specs.Views.{entries_of, scheme_of, schemes_of, type_of};
-ghost use Rattle.sml_core_rules.specs.Initial.{initial_env, initial_types, initial_values};
+ghost use Rattle.sml_core_rules.specs.Initial.{initial_env};
 ghost use Rattle.sml_bases.specs.Layers.{functors_in, layers, signatures_in};
-ghost use Rattle.sml_bases.specs.Views.{ty_str_of, value_of};
+ghost use Rattle.sml_bases.specs.Views.{env_of, ty_str_of, value_of};
 ghost use Rattle.sml_bases.specs.declared.objects.Basis.TheViews.{out-Basis};
 ghost use Rattle.sml_objects.specs.Objects.{arrow_of, bound};
-ghost use Rattle.sml_initial.specs.CodeTable.{constructor_row, name_of_variable, part_of, shape_of};
+ghost use Rattle.sml_initial.specs.CodeTable.{constructor_row, name_of_variable, part_of, shape_of, type_row, value_row};
 
-use crate::table::{ConstructorRow, Part, Shape, TYPES, VALUES};
-use sml_bases::objects::{Basis, Constructors, TypeStr, Value};
+use crate::table::{ConstructorRow, Part, Shape, TYPES, TypeRow, VALUES, ValueRow};
+use sml_bases::objects::{Basis, Constructors, Env, TypeStr, Value};
 use sml_lex::fault::Memory;
 use sml_objects::labels::Labels;
 use sml_objects::objects::{Initial, MlType, Scheme, TyName, UnitId};
@@ -29,29 +29,51 @@ pub fn initial(alloc: Global) -> Result<Basis, Memory>
     ensures unit { IfOk result (λ b. (out-Basis b).unit.index ≡ 0) }
     ensures count { IfOk result (λ b. (out-Basis b).count ≡ 0) }
 {
-    let mut basis = Basis::new(alloc, UnitId { index: 0 });
-    put_types(alloc, &mut basis.env.types)?;
-    put_values(alloc, &mut basis.env.values)?;
-    Ok(basis)
+    Ok(Basis {
+        unit: UnitId { index: 0 },
+        count: 0,
+        names: Vec::new(alloc),
+        below: Vec::new(alloc),
+        env: environment(alloc)?,
+        signatures: BTreeMap::new(alloc),
+        functors: BTreeMap::new(alloc),
+    })
 }
 
-fn put_types(alloc: Global, types: &mut BTreeMap<Ident, TypeStr>) -> Result<(), Memory>
-    ensures { OnOk result (entries_of ty_str_of types.new.entries ≡ join (entries_of ty_str_of types.old.entries) initial_types) }
+fn environment(alloc: Global) -> Result<Env, Memory>
+    ensures { IfOk result (λ e. env_of e ≡ initial_env) }
 {
-    for (name, variables, shape, rows) in &TYPES {
+    let mut env = Env::new(alloc);
+    put_types(alloc, &mut env.types, &TYPES)?;
+    put_values(alloc, &mut env.values, &VALUES)?;
+    Ok(env)
+}
+
+fn put_types(
+    alloc: Global,
+    types: &mut BTreeMap<Ident, TypeStr>,
+    rows: &[TypeRow],
+) -> Result<(), Memory>
+    ensures { OnOk result (entries_of ty_str_of types.new.entries ≡ join (entries_of ty_str_of types.old.entries) (map type_row rows.now)) }
+{
+    for (name, variables, shape, own) in rows {
         let ty = TypeStr {
             function: scheme(alloc, variables, shape)?,
-            constructors: Rc::new(alloc, constructors(alloc, variables, rows)?)?,
+            constructors: Rc::new(alloc, constructors(alloc, variables, own)?)?,
         };
         types.insert(ident(alloc, name)?, ty)?;
     }
     Ok(())
 }
 
-fn put_values(alloc: Global, values: &mut BTreeMap<Ident, Value>) -> Result<(), Memory>
-    ensures { OnOk result (entries_of value_of values.new.entries ≡ join (entries_of value_of values.old.entries) initial_values) }
+fn put_values(
+    alloc: Global,
+    values: &mut BTreeMap<Ident, Value>,
+    rows: &[ValueRow],
+) -> Result<(), Memory>
+    ensures { OnOk result (entries_of value_of values.new.entries ≡ join (entries_of value_of values.old.entries) (map value_row rows.now)) }
 {
-    for (name, status, variables, shape) in &VALUES {
+    for (name, status, variables, shape) in rows {
         let value = Value {
             status: *status,
             scheme: scheme(alloc, variables, shape)?,

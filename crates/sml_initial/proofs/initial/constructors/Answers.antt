@@ -1,16 +1,10 @@
+use Rattle.std.proofs.Common.{[]}
+use Rattle.sml_objects.specs.Views.{scheme_of}
+use Rattle.sml_initial.specs.CodeTable.{constructor_row}
+use Rattle.sml_initial.proofs.Rows.{row-next}
 use Rattle.sml_initial.proofs.initial.constructors.Goals as goal
 
-a1 : goal.loop-name-preserved
-a1 c = let k : ⊥ = c.in_ok-ident.ensures in absurd k
-
-a2 : goal.loop-name-preserved
-a2 c = let k : ⊥ = c.in_ok-scheme.ensures in absurd k
-
-a3 : goal.loop-name-preserved
-a3 c = let k : ⊥ = c.in_ok-insert.ensures.entries in absurd k
-
-a4 : goal.loop-name-preserved
-a4 c = let k : ⊥ = c.loop-name-test.true in absurd k
-
-a5 : goal.loop-name-preserved
-a5 c = let k : ⊥ = c.loop-name.invariant in absurd k
+pub loop-name-preserved : goal.loop-name-preserved
+loop-name-preserved c =
+    row-next (λ s. scheme_of s.value) (constructor_row c.args.variables.now) [] c.loop-name.constructors.entries c.insert.new.self.entries c.args.rows.now c.loop-name.name-index
+    c.in_ok-ident.field-0 c.in_ok-scheme.field-0 _ c.in_ok-insert.ensures.entries c.loop-name-test.true c.in_ok-ident.ensures c.in_ok-scheme.ensures c.loop-name.invariant

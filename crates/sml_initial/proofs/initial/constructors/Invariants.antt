@@ -5,4 +5,4 @@ use Rattle.sml_initial.specs.CodeTable.{constructor_row}
 use Rattle.sml_initial.proofs.initial.constructors.Given as goal
 
 abbrev pub invariant-loop-name : goal.invariant-loop-name
-invariant-loop-name l = schemes_of l.constructors.entries ≡ join [] (map (constructor_row l.fn.variables.now) (take l.name-index l.fn.rows.now))
+invariant-loop-name l = schemes_of l.constructors.entries ≡ join [] (map (constructor_row l.variables) (take l.name-index l.rows))

@@ -1,16 +1,11 @@
+use Rattle.sml_objects.specs.Views.{entries_of}
+use Rattle.sml_bases.specs.Views.{value_of}
+use Rattle.sml_initial.specs.CodeTable.{value_row}
+use Rattle.sml_initial.proofs.Filled.{value-seen}
+use Rattle.sml_initial.proofs.Rows.{row-next}
 use Rattle.sml_initial.proofs.initial.put_values.Goals as goal
 
-a1 : goal.loop-name-preserved
-a1 c = let k : ⊥ = c.in_ok-ident.ensures in absurd k
-
-a2 : goal.loop-name-preserved
-a2 c = let k : ⊥ = c.in_ok-scheme.ensures in absurd k
-
-a3 : goal.loop-name-preserved
-a3 c = let k : ⊥ = c.in_ok-insert.ensures.entries in absurd k
-
-a4 : goal.loop-name-preserved
-a4 c = let k : ⊥ = c.loop-name-test.true in absurd k
-
-a5 : goal.loop-name-preserved
-a5 c = let k : ⊥ = c.loop-name.invariant in absurd k
+pub loop-name-preserved : goal.loop-name-preserved
+loop-name-preserved c =
+    row-next value_of value_row (entries_of value_of c.args.values.now.entries) c.loop-name.values.entries c.insert.new.self.entries c.args.rows.now c.loop-name.name-index
+    c.in_ok-ident.field-0 _ _ c.in_ok-insert.ensures.entries c.loop-name-test.true c.in_ok-ident.ensures (value-seen _ _ _ c.in_ok-scheme.ensures) c.loop-name.invariant

@@ -6,4 +6,4 @@ use Rattle.sml_initial.specs.CodeTable.{value_row}
 use Rattle.sml_initial.proofs.initial.put_values.Given as goal
 
 abbrev pub invariant-loop-name : goal.invariant-loop-name
-invariant-loop-name l = entries_of value_of l.values.entries ≡ join (entries_of value_of l.initial.values.entries) (map value_row (take l.name-index l.name-items))
+invariant-loop-name l = entries_of value_of l.values.entries ≡ join (entries_of value_of l.initial.values.entries) (map value_row (take l.name-index l.rows))

@@ -1,12 +1,12 @@
 //! What is checked: the project, or else each open document by itself.
 
 use crate::documents::Documents;
-use crate::files::{Folders, Overlay};
+use crate::files::Folders;
 use crate::findings::Answered;
 use crate::positions::Encoding;
-use crate::projects::{Outcome, Trouble, project_path, read_listed, unit_paths};
+use crate::projects::{Outcome, Trouble, project_path, read_listed};
 use crate::settings::Settings;
-use crate::works::{Work, begun, followed, single};
+use crate::works::{Work, single};
 use sml_lex::fault::Memory;
 use sml_session::session::{Source, SourceFault};
 use std::alloc::Global;
@@ -20,7 +20,7 @@ const MOST_BYTES: usize = 1_048_577;
 #[derive(Drop)]
 pub struct Board {
     pub path: Option<String>,
-    pub work: Option<Work>,
+    pub work: Work,
     pub trouble: Option<Trouble>,
     pub singles: BTreeMap<String, Work>,
 }
@@ -61,130 +61,98 @@ fn is_same(one: &Option<String>, other: &Option<String>) -> bool {
 }
 
 impl Board {
-    pub fn new(alloc: Global) -> Board {
-        Board {
+    /// Nothing is checked.
+    pub fn new(alloc: Global) -> Result<Board, Memory> {
+        Ok(Board {
             path: None,
-            work: None,
+            work: Work::new(alloc)?,
             trouble: None,
             singles: BTreeMap::new(alloc),
-        }
+        })
     }
 
     /// Looks for the project file, and reads it and its units.
     pub fn reload<S: Source + Folders>(&mut self, view: View, files: &mut S) -> Result<(), Memory> {
         let path = project_path(view.alloc, view.settings, files)?;
         if !is_same(&path, &self.path) {
-            self.work = None;
-            self.trouble = None;
+            self.begin(view.alloc, path)?;
         }
-        self.path = path;
-        match self.project(view)? {
-            Some(path) => {
-                self.singles = BTreeMap::new(view.alloc);
-                self.read(view, files, &path)
-            }
-            None => self.open_all(view),
-        }
-    }
-
-    /// A copy of the path of the project file.
-    fn project(&self, view: View) -> Result<Option<String>, Memory> {
         match &self.path {
-            Some(path) => Ok(Some(String::from_str(view.alloc, path)?)),
-            None => Ok(None),
+            Some(path) => {
+                let outcome = read_listed(view.alloc, view.documents, files, path)?;
+                self.put(view, outcome)
+            }
+            None => open_all(&mut self.singles, view),
         }
     }
 
-    /// Reads the project file and its units. Where something is wrong, the last good project stays.
-    fn read<S: Source>(&mut self, view: View, files: &mut S, path: &str) -> Result<(), Memory> {
-        let outcome = {
-            let mut overlay = Overlay::new(view.documents, files);
-            read_listed(view.alloc, &mut overlay, path)?
-        };
+    /// Begins with the project file at another path.
+    fn begin(&mut self, alloc: Global, path: Option<String>) -> Result<(), Memory> {
+        self.path = path;
+        self.trouble = None;
+        self.work = Work::new(alloc)?;
+        Ok(())
+    }
+
+    /// Takes over what the project file lists. Where something is wrong, the last good project stays.
+    fn put(&mut self, view: View, outcome: Outcome) -> Result<(), Memory> {
+        self.singles = BTreeMap::new(view.alloc);
         match outcome {
-            Outcome::Project(listed) => {
-                let paths = unit_paths(view.alloc, path, &listed)?;
-                let work = match self.work.take() {
-                    Some(old) => followed(view.alloc, old, listed, paths, view.encoding())?,
-                    None => begun(view.alloc, listed, paths, view.encoding())?,
-                };
-                self.work = Some(work);
+            Outcome::Project(listed, paths) => {
                 self.trouble = None;
-                Ok(())
+                self.work.list(view.alloc, listed, paths)
             }
             Outcome::Trouble(trouble) => {
                 self.trouble = Some(trouble);
-                self.set_open(view)
+                set_open(&mut self.work, view)
             }
         }
     }
 
-    /// Gives the units of the last good project the texts of the open documents.
-    fn set_open(&mut self, view: View) -> Result<(), Memory> {
-        let Some(work) = &mut self.work else {
-            return Ok(());
-        };
-        for path in view.documents.paths(view.alloc)? {
-            if let Some(text) = view.open_text(&path) {
-                work.set_text(view.alloc, &path, text)?;
+    /// Takes over the texts at these paths. Says whether all has to be read again.
+    pub fn touch_all<S: Source>(
+        &mut self,
+        view: View,
+        files: &mut S,
+        paths: &[String],
+    ) -> Result<bool, Memory> {
+        for path in paths {
+            if self.touch(view, files, path)? {
+                return Ok(true);
             }
         }
-        Ok(())
-    }
-
-    /// Makes each open document a project of its own.
-    fn open_all(&mut self, view: View) -> Result<(), Memory> {
-        for path in view.documents.paths(view.alloc)? {
-            self.touch_single(view, &path)?;
-        }
-        Ok(())
-    }
-
-    /// Takes over the text of the document at a path, if it is open.
-    fn touch_single(&mut self, view: View, path: &str) -> Result<(), Memory> {
-        let Some(text) = view.open_text(path) else {
-            let _ = self.singles.remove(path);
-            return Ok(());
-        };
-        if let Some(work) = self.singles.get_mut(path) {
-            return work.set_text(view.alloc, path, text);
-        }
-        let mut paths = Vec::new(view.alloc);
-        paths.push(String::from_str(view.alloc, path)?)?;
-        let listed = single(view.alloc, text)?;
-        let work = begun(view.alloc, listed, paths, view.encoding())?;
-        self.singles
-            .insert(String::from_str(view.alloc, path)?, work)?;
-        Ok(())
+        Ok(false)
     }
 
     /// Takes over the text at a path, from the open document or from the disk. Says whether all has to be read again.
-    pub fn touch<S: Source>(
+    fn touch<S: Source>(&mut self, view: View, files: &mut S, path: &str) -> Result<bool, Memory> {
+        match &self.path {
+            Some(project) if self.trouble.is_some() || project.as_str() == path => Ok(true),
+            Some(_) => self.touch_unit(view, files, path),
+            None => {
+                touch_single(&mut self.singles, view, path)?;
+                Ok(false)
+            }
+        }
+    }
+
+    /// The same of a path that isn't the project file's.
+    fn touch_unit<S: Source>(
         &mut self,
         view: View,
         files: &mut S,
         path: &str,
     ) -> Result<bool, Memory> {
-        let Some(project) = &self.path else {
-            self.touch_single(view, path)?;
-            return Ok(false);
-        };
-        if self.trouble.is_some() || project.as_str() == path {
-            return Ok(true);
-        }
-        let Some(work) = &mut self.work else {
-            return Ok(true);
-        };
-        if work.place_of(path).is_none() {
+        if self.work.place_of(path).is_none() {
             return Ok(false);
         }
         if let Some(text) = view.open_text(path) {
-            work.set_text(view.alloc, path, text)?;
+            self.work.set_text(view.alloc, path, text)?;
             return Ok(false);
         }
         match files.read(view.alloc, path, MOST_BYTES) {
             Ok(text) => {
-                work.set_text(view.alloc, path, &text)?;
+                self.work.set_text(view.alloc, path, &text)?;
                 Ok(false)
             }
             Err(SourceFault::Unreadable) => Ok(true),
@@ -194,23 +162,64 @@ impl Board {
 
     /// Checks again what changed.
     pub fn renew(&mut self, view: View) -> Result<(), Memory> {
-        if let Some(work) = &mut self.work {
-            work.renew(view.alloc, view.encoding())?;
-        }
-        for path in view.documents.paths(view.alloc)? {
-            if let Some(work) = self.singles.get_mut(&path) {
-                work.renew(view.alloc, view.encoding())?;
-            }
-        }
-        Ok(())
+        self.work.renew(view.alloc, view.encoding())?;
+        renew_singles(&mut self.singles, view)
     }
 
     /// The unit at a path as it was answered.
     pub fn answered(&self, path: &str, encoding: Encoding) -> Option<Answered<'_>> {
         let work = match self.singles.get(path) {
             Some(work) => work,
-            None => self.work.as_ref()?,
+            None => &self.work,
         };
         work.answered(work.place_of(path)?, encoding)
+    }
+}
+
+/// Gives the units of a project the texts of the open documents.
+fn set_open(work: &mut Work, view: View) -> Result<(), Memory> {
+    for path in view.documents.open.keys() {
+        if let Some(text) = view.open_text(path) {
+            work.set_text(view.alloc, path, text)?;
+        }
+    }
+    Ok(())
+}
+
+/// Checks again the documents that are projects of one unit.
+fn renew_singles(singles: &mut BTreeMap<String, Work>, view: View) -> Result<(), Memory> {
+    for path in view.documents.open.keys() {
+        if let Some(work) = singles.get_mut(path) {
+            work.renew(view.alloc, view.encoding())?;
+        }
+    }
+    Ok(())
+}
+
+/// Makes each open document a project of its own.
+fn open_all(singles: &mut BTreeMap<String, Work>, view: View) -> Result<(), Memory> {
+    for path in view.documents.open.keys() {
+        touch_single(singles, view, path)?;
+    }
+    Ok(())
+}
+
+/// Takes over the text of the document at a path, if it is open.
+fn touch_single(
+    singles: &mut BTreeMap<String, Work>,
+    view: View,
+    path: &str,
+) -> Result<(), Memory> {
+    let Some(text) = view.open_text(path) else {
+        let _ = singles.remove(path);
+        return Ok(());
+    };
+    match singles.get_mut(path) {
+        Some(work) => work.set_text(view.alloc, path, text),
+        None => {
+            let work = single(view.alloc, path, text)?;
+            singles.insert(String::from_str(view.alloc, path)?, work)?;
+            Ok(())
+        }
     }
 }

@@ -1,7 +1,7 @@
 //! The command line: what is asked for beside serving.
 
 /// What the words of a command line ask for.
-#[derive(Clone, Copy, PartialEq, Eq, Debug)]
+#[derive(Clone, Copy)]
 pub enum Asked {
     /// Serve a client.
     Serve,

@@ -1,35 +1,31 @@
 //! Faults and warnings as diagnostics.
 
+use crate::board::View;
 use crate::documents::Documents;
 use crate::findings::{Finding, Findings, Origin};
 use crate::paths::uri_of;
-use crate::positions::{Encoding, Lines, Range, range_value};
+use crate::positions::{Lines, Range, push_range};
 use crate::projects::{Trouble, code_text};
-use crate::settings::Settings;
-use crate::values::{Object, string};
+use crate::values::{push_all, push_string};
 use crate::works::Work;
 use itoa::Buffer;
-use serde_json::{Value, push};
 use sml_lex::fault::Memory;
 use sml_projects::project::ProjectUnit;
 use sml_shown::explained::section_of;
-use sml_shown::refusals::{Refusal, Refusals};
-use sml_shown::spots::Spot;
+use sml_shown::refusals::Refusal;
 use std::alloc::Global;
 
 /// The severities of diagnostics.
-const ERROR: u64 = 1;
+const ERROR: &[u8] = b"1";
 
-const WARNING: u64 = 2;
+const WARNING: &[u8] = b"2";
 
-const HINT: u64 = 4;
+const HINT: &[u8] = b"4";
 
 /// What diagnostics are made of.
 #[derive(Clone, Copy)]
 pub struct Desk<'a> {
-    pub alloc: Global,
-    pub settings: &'a Settings,
-    pub documents: &'a Documents,
+    pub view: View<'a>,
     pub work: &'a Work,
 }
 
@@ -59,35 +55,37 @@ fn page_of(code: &[u8]) -> &'static [u8] {
 }
 
 /// Adds the code of a diagnostic, and its page where the client said where the pages are.
-fn put_code(
+fn push_code(
     alloc: Global,
-    settings: &Settings,
-    object: &mut Object,
+    text: &mut Vec<u8>,
+    pages: &Option<String>,
     code: &[u8],
 ) -> Result<(), Memory> {
-    object.put_text("code", code)?;
-    let Some(pages) = &settings.pages else {
-        return Ok(());
-    };
-    let mut address = Vec::from_slice(alloc, pages.as_bytes())?;
-    address.push(b'/')?;
-    address.extend_from_slice(page_of(code))?;
-    push_anchor(&mut address, code)?;
-    let mut description = Object::new(alloc);
-    description.put_text("href", &address)?;
-    object.put("codeDescription", description.into_value())
+    push_all(text, &[b",\"code\":\"", code, b"\""])?;
+    match pages {
+        Some(pages) => {
+            let page = page_address(alloc, pages, code)?;
+            text.extend_from_slice(b",\"codeDescription\":{\"href\":")?;
+            push_string(alloc, text, &page)?;
+            text.push(b'}')?;
+            Ok(())
+        }
+        None => Ok(()),
+    }
 }
 
-/// Where the section of a code stands on its page: `#u1-types-clash`, the heading in small letters, with `-` between its
+/// The address of the section of a code on its page: `#u1-types-clash`, the heading in small letters, with `-` between its
 /// words.
-fn push_anchor(address: &mut Vec<u8>, code: &[u8]) -> Result<(), Memory> {
-    let Some(section) = section_of(code) else {
-        return Ok(());
-    };
-    address.push(b'#')?;
-    push_small(address, code)?;
-    address.push(b'-')?;
-    push_small(address, section.meaning.as_bytes())
+fn page_address(alloc: Global, pages: &str, code: &[u8]) -> Result<Vec<u8>, Memory> {
+    let mut address = Vec::from_slice(alloc, pages.as_bytes())?;
+    push_all(&mut address, &[b"/", page_of(code)])?;
+    if let Some(section) = section_of(code) {
+        address.push(b'#')?;
+        push_small(&mut address, code)?;
+        address.push(b'-')?;
+        push_small(&mut address, section.meaning.as_bytes())?;
+    }
+    Ok(address)
 }
 
 /// Letters and digits in small letters, and `-` for spaces.
@@ -104,19 +102,21 @@ fn push_small(address: &mut Vec<u8>, bytes: &[u8]) -> Result<(), Memory> {
 
 /// The line of a message that names the page of a code.
 fn push_page(message: &mut Vec<u8>, code: &[u8]) -> Result<(), Memory> {
-    message.extend_from_slice(b"\n(")?;
-    message.extend_from_slice(code)?;
-    message.extend_from_slice(b" in docs/")?;
-    message.extend_from_slice(page_of(code))?;
-    message.push(b')')?;
-    Ok(())
+    push_all(message, &[b"\n(", code, b" in docs/"])?;
+    push_all(message, &[page_of(code), b")"])
 }
 
-/// The digits of a number.
-fn push_number(text: &mut Vec<u8>, number: u64) -> Result<(), Memory> {
-    let mut digits = Buffer::new();
-    text.extend_from_slice(digits.format(number).as_bytes())?;
-    Ok(())
+/// Adds the range and the severity, with which a diagnostic begins.
+fn push_beginning(text: &mut Vec<u8>, range: Range, severity: &[u8]) -> Result<(), Memory> {
+    text.push(b'{')?;
+    push_range(text, b"range", range)?;
+    push_all(text, &[b",\"source\":\"smlserve\",\"severity\":", severity])
+}
+
+/// Adds the message of a diagnostic.
+fn push_message(alloc: Global, text: &mut Vec<u8>, message: &[u8]) -> Result<(), Memory> {
+    text.extend_from_slice(b",\"message\":")?;
+    push_string(alloc, text, message)
 }
 
 impl Desk<'_> {
@@ -130,40 +130,52 @@ impl Desk<'_> {
         self.work.findings.get(place)
     }
 
-    /// Adds the diagnostics of the unit at a place.
-    pub fn push_all(&self, place: usize, list: &mut Vec<Value>) -> Result<(), Memory> {
+    /// The diagnostics of the file of the unit at a place, the first one with it: its own, and those of the others with it.
+    pub fn list(&self, place: usize) -> Result<Vec<u8>, Memory> {
+        let mut list = Vec::new(self.view.alloc);
+        for (other, first) in self.work.firsts.iter().enumerate() {
+            if *first == place {
+                self.push_all(other, &mut list)?;
+            }
+        }
+        Ok(list)
+    }
+
+    /// Adds the diagnostics of the unit at a place to a list.
+    fn push_all(&self, place: usize, list: &mut Vec<u8>) -> Result<(), Memory> {
         let Some(findings) = self.findings(place) else {
             return Ok(());
         };
         for finding in findings.items.as_slice() {
-            let value = self.diagnostic(place, finding)?;
-            push(list, value)?;
+            if !list.is_empty() {
+                list.push(b',')?;
+            }
+            self.push(place, finding, list)?;
         }
         Ok(())
     }
 
-    /// A fault or a warning of the unit at a place.
-    fn diagnostic(&self, place: usize, finding: &Finding) -> Result<Value, Memory> {
+    /// Adds a fault or a warning of the unit at a place.
+    fn push(&self, place: usize, finding: &Finding, text: &mut Vec<u8>) -> Result<(), Memory> {
         let source = self.source_of(place, finding);
-        let severity = if finding.is_warning {
-            WARNING
-        } else if source.is_some() {
-            HINT
-        } else {
-            ERROR
+        let severity = match source {
+            Some(_) => HINT,
+            None if finding.is_warning => WARNING,
+            None => ERROR,
         };
-        let mut object = Object::new(self.alloc);
-        object.put("range", range_value(self.alloc, finding.range)?)?;
-        object.put_number("severity", severity)?;
-        object.put_text("source", b"smlserve")?;
-        put_code(self.alloc, self.settings, &mut object, &finding.code)?;
-        let message = self.message(finding, source)?;
-        object.put_text("message", &message)?;
-        if let Some(source) = source {
-            let related = self.related(source)?;
-            object.put("relatedInformation", related)?;
+        push_beginning(text, finding.range, severity)?;
+        push_code(
+            self.view.alloc,
+            text,
+            &self.view.settings.pages,
+            &finding.code,
+        )?;
+        match source {
+            Some(source) => self.push_following(finding, source, text)?,
+            None => self.push_own(finding, text)?,
         }
-        Ok(object.into_value())
+        text.push(b'}')?;
+        Ok(())
     }
 
     /// The refused declaration that a fault follows from, if there is one.
@@ -180,9 +192,8 @@ impl Desk<'_> {
 
     /// The refused declaration of the units needed that would bind the identifier of this key last.
     fn needed(&self, place: usize, key: &[u8]) -> Option<Source> {
-        let unit = self.unit(place)?;
-        for need in unit.needs.as_slice().iter().rev() {
-            if let Some(last) = self.last_in(*need, key) {
+        for need in self.unit(place)?.needs.as_slice().iter().rev() {
+            if let Some(last) = self.findings(*need)?.refusals.last(key) {
                 return match last {
                     Some(refusal) => Some(Source {
                         place: *need,
@@ -195,38 +206,44 @@ impl Desk<'_> {
         None
     }
 
-    /// The last declaration of a unit that would bind the identifier of this key, and whether it was refused.
-    fn last_in(&self, place: usize, key: &[u8]) -> Option<Option<Refusal>> {
-        last_of(&self.findings(place)?.refusals, key)
-    }
-
-    /// What a diagnostic says: what its code means, the lines of its reason, what it follows from, and the page.
-    fn message(&self, finding: &Finding, source: Option<Source>) -> Result<Vec<u8>, Memory> {
-        let mut message = Vec::from_slice(self.alloc, finding.text.as_slice())?;
-        for line in finding.reason.iter() {
-            message.push(b'\n')?;
-            message.extend_from_slice(line)?;
-        }
-        if let Some(source) = source {
-            message.extend_from_slice(b"\nfollows from ")?;
-            self.push_source(&mut message, source)?;
-        }
+    /// Adds what is said of a fault or a warning that follows from nothing.
+    fn push_own(&self, finding: &Finding, text: &mut Vec<u8>) -> Result<(), Memory> {
+        let mut message = Vec::from_slice(self.view.alloc, finding.text.as_slice())?;
         push_page(&mut message, &finding.code)?;
-        Ok(message)
+        push_message(self.view.alloc, text, &message)
     }
 
-    /// `declaration N (FILE:LINE:COL)`
+    /// Adds what is said of a fault that follows from a refused declaration, and where that stands.
+    fn push_following(
+        &self,
+        finding: &Finding,
+        source: Source,
+        text: &mut Vec<u8>,
+    ) -> Result<(), Memory> {
+        let mut message = Vec::from_slice(self.view.alloc, finding.text.as_slice())?;
+        self.push_source(&mut message, source)?;
+        push_page(&mut message, &finding.code)?;
+        push_message(self.view.alloc, text, &message)?;
+        self.push_related(source, text)
+    }
+
+    /// `follows from declaration N (FILE:LINE:COL)`, as a line.
     fn push_source(&self, text: &mut Vec<u8>, source: Source) -> Result<(), Memory> {
-        text.extend_from_slice(b"declaration ")?;
-        push_number(text, source.refusal.number as u64)?;
-        text.extend_from_slice(b" (")?;
-        text.extend_from_slice(self.name(source.place).as_bytes())?;
-        text.push(b':')?;
-        push_number(text, source.refusal.spot.line)?;
-        text.push(b':')?;
-        push_number(text, source.refusal.spot.column)?;
-        text.push(b')')?;
-        Ok(())
+        let mut number = Buffer::new();
+        let mut line = Buffer::new();
+        let mut column = Buffer::new();
+        let parts: [&[u8]; 9] = [
+            b"\nfollows from declaration ",
+            number.format(source.refusal.number).as_bytes(),
+            b" (",
+            self.name(source.place).as_bytes(),
+            b":",
+            line.format(source.refusal.spot.line).as_bytes(),
+            b":",
+            column.format(source.refusal.spot.column).as_bytes(),
+            b")",
+        ];
+        push_all(text, &parts)
     }
 
     /// The file of the unit at a place, as the project file has it, or else its path.
@@ -243,100 +260,77 @@ impl Desk<'_> {
     }
 
     /// The path of the file of the unit at a place.
-    fn path(&self, place: usize) -> &str {
+    pub fn path(&self, place: usize) -> &str {
         match self.work.paths.get(place) {
             Some(path) => path.as_str(),
             None => "",
         }
     }
 
-    /// The list of the place of a refused declaration.
-    fn related(&self, source: Source) -> Result<Value, Memory> {
-        let mut location = Object::new(self.alloc);
-        let address = address(self.alloc, self.documents, self.path(source.place))?;
-        location.put_text("uri", address.as_bytes())?;
-        let range = self.spot_range(source)?;
-        location.put("range", range_value(self.alloc, range)?)?;
-        let mut information = Object::new(self.alloc);
-        information.put("location", location.into_value())?;
-        information.put_text("message", b"this declaration is refused")?;
-        let mut list = Vec::new(self.alloc);
-        push(&mut list, information.into_value())?;
-        Ok(Value::Array(list))
+    /// Adds the place of a refused declaration.
+    fn push_related(&self, source: Source, text: &mut Vec<u8>) -> Result<(), Memory> {
+        let address = address(
+            self.view.alloc,
+            self.view.documents,
+            self.path(source.place),
+        )?;
+        text.extend_from_slice(b",\"relatedInformation\":[{\"location\":{\"uri\":")?;
+        push_string(self.view.alloc, text, address.as_bytes())?;
+        text.push(b',')?;
+        push_range(text, b"range", self.first_word(source)?)?;
+        text.extend_from_slice(b"},\"message\":\"this declaration is refused\"}]")?;
+        Ok(())
     }
 
-    /// The range of the first character of a refused declaration.
-    fn spot_range(&self, source: Source) -> Result<Range, Memory> {
-        let text = match self.unit(source.place) {
+    /// The range of the first word of a refused declaration.
+    fn first_word(&self, source: Source) -> Result<Range, Memory> {
+        let unit = match self.unit(source.place) {
             Some(unit) => unit.text.as_slice(),
             None => &[],
         };
-        first_range(
-            self.alloc,
-            text,
-            self.settings.encoding,
-            source.refusal.spot,
-        )
+        let lines = Lines::new(self.view.alloc, unit, self.view.encoding())?;
+        Ok(lines.word_range(source.refusal.spot))
     }
-}
-
-fn last_of(refusals: &Refusals, key: &[u8]) -> Option<Option<Refusal>> {
-    refusals.last(key)
-}
-
-/// The range of the word at a place of a text.
-fn first_range(
-    alloc: Global,
-    text: &[u8],
-    encoding: Encoding,
-    spot: Spot,
-) -> Result<Range, Memory> {
-    let lines = Lines::new(alloc, text, encoding)?;
-    let start = lines.byte_at(spot);
-    let mut end = start;
-    for byte in text.get(start..).unwrap_or(&[]) {
-        if !byte.is_ascii_alphanumeric() {
-            return Ok(lines.range(start, end));
-        }
-        end = end.saturating_add(1);
-    }
-    Ok(lines.range(start, end))
 }
 
 /// The diagnostic of a project file with this text.
-pub fn trouble_value(
-    alloc: Global,
-    settings: &Settings,
-    text: &[u8],
-    trouble: &Trouble,
-) -> Result<Value, Memory> {
-    let lines = Lines::new(alloc, text, settings.encoding)?;
-    let range = lines.line_range(trouble.line);
-    let mut object = Object::new(alloc);
-    object.put("range", range_value(alloc, range)?)?;
-    object.put_number("severity", ERROR)?;
-    object.put_text("source", b"smlserve")?;
-    let mut message = Vec::from_slice(alloc, trouble.text.as_slice())?;
-    if let Some(code) = trouble.code {
-        put_code(alloc, settings, &mut object, code_text(code))?;
-        push_page(&mut message, code_text(code))?;
-    }
-    object.put_text("message", &message)?;
-    Ok(object.into_value())
+pub fn trouble_text(view: View, file: &[u8], trouble: &Trouble) -> Result<Vec<u8>, Memory> {
+    let lines = Lines::new(view.alloc, file, view.encoding())?;
+    let mut text = Vec::new(view.alloc);
+    push_beginning(&mut text, lines.line_range(trouble.line), ERROR)?;
+    push_trouble(view, trouble, &mut text)?;
+    Ok(text)
 }
 
-/// The parameters of a notification of these diagnostics, as text.
+/// Adds the code of a project file's fault, if it has one, and what is said of it.
+fn push_trouble(view: View, trouble: &Trouble, text: &mut Vec<u8>) -> Result<(), Memory> {
+    let mut message = Vec::from_slice(view.alloc, trouble.text.as_slice())?;
+    if let Some(code) = trouble.code {
+        push_code(view.alloc, text, &view.settings.pages, code_text(code))?;
+        push_page(&mut message, code_text(code))?;
+    }
+    push_message(view.alloc, text, &message)?;
+    text.push(b'}')?;
+    Ok(())
+}
+
+/// The parameters of a notification of these diagnostics.
 pub fn params_text(
     alloc: Global,
     uri: &str,
     version: Option<i64>,
-    list: Vec<Value>,
+    list: &[u8],
 ) -> Result<Vec<u8>, Memory> {
-    let mut object = Object::new(alloc);
-    object.put("diagnostics", Value::Array(list))?;
-    object.put("uri", string(alloc, uri.as_bytes())?)?;
+    let mut text = Vec::new(alloc);
+    push_all(&mut text, &[b"{\"diagnostics\":[", list, b"],\"uri\":"])?;
+    push_string(alloc, &mut text, uri.as_bytes())?;
     if let Some(version) = version {
-        object.put("version", version.into())?;
+        let mut digits = Buffer::new();
+        push_all(
+            &mut text,
+            &[b",\"version\":", digits.format(version).as_bytes()],
+        )?;
     }
-    Ok(object.into_value().to_vec(alloc)?)
+    text.push(b'}')?;
+    Ok(text)
 }

@@ -12,10 +12,26 @@ pub struct Document {
     pub text: Vec<u8>,
 }
 
+impl Document {
+    /// A document that is opened.
+    pub fn new(
+        alloc: Global,
+        uri: &str,
+        version: Option<i64>,
+        text: &str,
+    ) -> Result<Document, Memory> {
+        Ok(Document {
+            uri: String::from_str(alloc, uri)?,
+            version,
+            text: Vec::from_slice(alloc, text.as_bytes())?,
+        })
+    }
+}
+
 /// The open documents, by the paths of their files.
 #[derive(Drop)]
 pub struct Documents {
-    open: BTreeMap<String, Document>,
+    pub open: BTreeMap<String, Document>,
 }
 
 impl Documents {
@@ -51,14 +67,5 @@ impl Documents {
             }
             None => false,
         }
-    }
-
-    /// The paths of the open documents.
-    pub fn paths(&self, alloc: Global) -> Result<Vec<String>, Memory> {
-        let mut paths = Vec::new(alloc);
-        for path in self.open.keys() {
-            paths.push(path.clone()?)?;
-        }
-        Ok(paths)
     }
 }

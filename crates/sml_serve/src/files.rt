@@ -1,7 +1,8 @@
 //! Where texts are read: open documents stand in for their files.
 
-use crate::documents::Documents;
+use crate::documents::{Document, Documents};
 use crate::paths::normal;
+use sml_lex::fault::Memory;
 use sml_session::disk::Disk;
 use sml_session::session::{Source, SourceFault};
 use std::alloc::Global;
@@ -43,14 +44,20 @@ impl<R: Files + Alloc + Clone + Drop> Folders for Tree<'_, R> {
             let Ok(entry) = entry else {
                 return Err(SourceFault::Unreadable);
             };
-            let Ok(name) = String::from_str(alloc, entry.file_name()) else {
-                return Err(SourceFault::Memory);
-            };
-            if names.push(name).is_err() {
-                return Err(SourceFault::Memory);
-            }
+            add_name(alloc, &mut names, entry.file_name())?;
         }
         Ok(names)
+    }
+}
+
+/// Adds the name of a file.
+fn add_name(alloc: Global, names: &mut Vec<String>, name: &str) -> Result<(), SourceFault> {
+    match String::from_str(alloc, name) {
+        Ok(name) => match names.push(name) {
+            Ok(_) => Ok(()),
+            Err(_) => Err(SourceFault::Memory),
+        },
+        Err(_) => Err(SourceFault::Memory),
     }
 }
 
@@ -69,13 +76,19 @@ impl<'a, S> Overlay<'a, S> {
 
 impl<S: Source> Source for Overlay<'_, S> {
     fn read(&mut self, alloc: Global, path: &str, most: usize) -> Result<Vec<u8>, SourceFault> {
-        let Ok(name) = normal(alloc, path) else {
-            return Err(SourceFault::Memory);
-        };
-        match self.documents.get(&name) {
-            Some(document) => first_bytes(alloc, document.text.as_slice(), most),
-            None => self.files.read(alloc, path, most),
+        match self.open_at(alloc, path) {
+            Ok(Some(document)) => first_bytes(alloc, document.text.as_slice(), most),
+            Ok(None) => self.files.read(alloc, path, most),
+            Err(_) => Err(SourceFault::Memory),
         }
+    }
+}
+
+impl<S> Overlay<'_, S> {
+    /// The open document at a path.
+    fn open_at(&self, alloc: Global, path: &str) -> Result<Option<&Document>, Memory> {
+        let name = normal(alloc, path)?;
+        Ok(self.documents.get(&name))
     }
 }
 

@@ -1,6 +1,8 @@
 //! What is found in a unit: its faults and warnings, and which of its declarations were refused.
 
+use crate::outline::first_from;
 use crate::positions::{Encoding, Lines, Range};
+use crate::values::push_all;
 use sml_lex::fault::{Memory, Place};
 use sml_lex::token::Token;
 use sml_parse::parse::{Parsed, parse, release};
@@ -12,7 +14,6 @@ use sml_reply::sink::VecOut;
 use sml_shown::binders::bound_by;
 use sml_shown::refusals::{Refusal, Refusals, unbound_key};
 use sml_shown::remark::{Remark, cut, fault_in, warning_in};
-use sml_shown::spots::Spot;
 use sml_shown::unit_map::UnitMap;
 use sml_tree::structures::TopDec;
 use sml_units::project::Checked;
@@ -29,15 +30,13 @@ pub enum Origin {
     Needs(Vec<u8>),
 }
 
-/// A fault or a warning.
+/// A fault or a warning, with what is said of it: what its code means, and the lines of its reason.
 #[derive(Drop)]
 pub struct Finding {
     pub is_warning: bool,
     pub range: Range,
     pub code: Vec<u8>,
     pub text: Vec<u8>,
-    /// The lines that say why.
-    pub reason: Reason,
     pub origin: Origin,
 }
 
@@ -70,19 +69,16 @@ impl<'a> Answered<'a> {
 /// Where the text of a unit has its tokens, its declarations and its lines.
 #[derive(Clone, Copy)]
 pub struct Chart<'a> {
+    pub alloc: Global,
     pub map: &'a UnitMap<'a>,
     pub lines: &'a Lines<'a>,
 }
 
 impl Chart<'_> {
-    /// Where a place of the declaration of this number stands in the file.
-    fn spot(&self, number: usize, place: Place) -> Spot {
-        self.map.in_file(number, place)
-    }
-
-    /// From a place to the end of the token that begins there, or of the character where none does.
-    pub fn range(&self, spot: Spot) -> Range {
-        let start = self.lines.byte_at(spot);
+    /// From a place of the declaration of this number to the end of the token that begins there, or of the character where
+    /// none does.
+    fn range(&self, number: usize, place: Place) -> Range {
+        let start = self.lines.byte_at(self.map.in_file(number, place));
         let end = match token_end(&self.map.lexed.tokens, start) {
             Some(end) => end,
             None => self.lines.after(start),
@@ -93,12 +89,11 @@ impl Chart<'_> {
 
 /// The end of the token that begins at this byte.
 fn token_end(tokens: &[Token], start: usize) -> Option<usize> {
-    match tokens.binary_search_by(|token| token.span.start.cmp(&start)) {
-        Ok(index) => match tokens.get(index) {
-            Some(token) => Some(token.span.end),
-            None => None,
-        },
-        Err(_) => None,
+    let token = tokens.get(first_from(tokens, start))?;
+    if token.span.start == start {
+        Some(token.span.end)
+    } else {
+        None
     }
 }
 
@@ -111,20 +106,9 @@ impl Findings {
         }
     }
 
-    /// Whether some fault may come from the units needed.
-    pub fn looks_up(&self) -> bool {
-        for item in self.items.iter() {
-            if let Origin::Needs(_) = &item.origin {
-                return true;
-            }
-        }
-        false
-    }
-
     /// Adds the fault or the warnings of the reply to the declaration of this number.
     fn take(
         &mut self,
-        alloc: Global,
         chart: &Chart,
         number: usize,
         reply: &Reply,
@@ -133,51 +117,51 @@ impl Findings {
         if reply.is_accepted() && reply.warnings().is_empty() {
             return Ok(());
         }
-        let printed = printed(alloc, reply, true)?;
+        let printed = printed(chart.alloc, reply, true)?;
         let mut rest = printed.as_slice();
         for _turn in 0..printed.len() {
             let Some((line, others)) = cut(rest, b'\n') else {
                 return Ok(());
             };
+            self.line(chart, number, line, reason)?;
             rest = others;
-            if reply.is_accepted() {
-                if let Some(remark) = warning_in(line) {
-                    self.warn(alloc, chart, number, &remark)?;
-                }
-            } else if let Some(remark) = fault_in(line) {
-                self.refuse(alloc, chart, number, &remark, reason)?;
-            }
         }
         Ok(())
     }
 
-    /// Adds a warning.
-    fn warn(
+    /// Adds the fault or the warning that a line of a reply tells, if it tells one.
+    fn line(
         &mut self,
-        alloc: Global,
         chart: &Chart,
         number: usize,
-        remark: &Remark,
-    ) -> Result<(), Memory> {
-        let finding = make_finding(alloc, chart, number, remark, true)?;
-        self.items.push(finding)?;
-        Ok(())
-    }
-
-    /// Adds a fault.
-    fn refuse(
-        &mut self,
-        alloc: Global,
-        chart: &Chart,
-        number: usize,
-        remark: &Remark,
+        line: &[u8],
         reason: &[Vec<u8>],
     ) -> Result<(), Memory> {
-        let mut finding = make_finding(alloc, chart, number, remark, false)?;
-        finding.origin = self.origin(alloc, remark)?;
-        for line in reason {
-            finding.reason.push(line.clone()?)?;
+        if let Some(remark) = warning_in(line) {
+            self.put(chart, number, &remark, true, &[])
+        } else if let Some(remark) = fault_in(line) {
+            self.put(chart, number, &remark, false, reason)
+        } else {
+            Ok(())
         }
+    }
+
+    /// Adds a fault or a warning.
+    fn put(
+        &mut self,
+        chart: &Chart,
+        number: usize,
+        remark: &Remark,
+        is_warning: bool,
+        reason: &[Vec<u8>],
+    ) -> Result<(), Memory> {
+        let finding = Finding {
+            is_warning,
+            range: chart.range(number, remark.place),
+            code: Vec::from_slice(chart.alloc, remark.code)?,
+            text: said(chart.alloc, remark.text, reason)?,
+            origin: self.origin(chart.alloc, remark)?,
+        };
         self.items.push(finding)?;
         Ok(())
     }
@@ -197,13 +181,12 @@ impl Findings {
     /// Notes what a declaration binds, or would bind.
     fn note(
         &mut self,
-        alloc: Global,
         chart: &Chart,
         number: usize,
-        reply: &Reply,
+        is_accepted: bool,
         declaration: &TopDec,
     ) -> Result<(), Memory> {
-        let refusal = if reply.is_accepted() {
+        let refusal = if is_accepted {
             None
         } else {
             Some(Refusal {
@@ -211,26 +194,18 @@ impl Findings {
                 spot: chart.map.declaration(number),
             })
         };
-        self.refusals.note(bound_by(alloc, declaration)?, refusal)
+        self.refusals
+            .note(bound_by(chart.alloc, declaration)?, refusal)
     }
 }
 
-/// A fault or a warning of the declaration of this number.
-fn make_finding(
-    alloc: Global,
-    chart: &Chart,
-    number: usize,
-    remark: &Remark,
-    is_warning: bool,
-) -> Result<Finding, Memory> {
-    Ok(Finding {
-        is_warning,
-        range: chart.range(chart.spot(number, remark.place)),
-        code: Vec::from_slice(alloc, remark.code)?,
-        text: Vec::from_slice(alloc, remark.text)?,
-        reason: Vec::new(alloc),
-        origin: Origin::Nowhere,
-    })
+/// A text, and the lines of its reason.
+fn said(alloc: Global, text: &[u8], reason: &[Vec<u8>]) -> Result<Vec<u8>, Memory> {
+    let mut said = Vec::from_slice(alloc, text)?;
+    for line in reason {
+        push_all(&mut said, &[b"\n", line.as_slice()])?;
+    }
+    Ok(said)
 }
 
 /// A reply as it is printed in version 2.
@@ -248,85 +223,86 @@ pub fn printed(alloc: Global, reply: &Reply, warnings: bool) -> Result<Vec<u8>, 
 
 /// Whether one of the replies is no acceptance.
 fn is_any_refused(replies: &[Reply]) -> bool {
-    replies.iter().any(|reply| !reply.is_accepted())
+    for reply in replies {
+        if !reply.is_accepted() {
+            return true;
+        }
+    }
+    false
 }
 
 /// Whether one of the replies has warnings.
 fn is_any_warned(replies: &[Reply]) -> bool {
-    replies.iter().any(|reply| !reply.warnings().is_empty())
+    for reply in replies {
+        if !reply.warnings().is_empty() {
+            return true;
+        }
+    }
+    false
 }
 
 /// What is found in a unit.
 pub fn findings_of(alloc: Global, answered: Answered) -> Result<Findings, Memory> {
     let replies = answered.replies();
-    let is_refused = is_any_refused(replies);
-    if !is_refused && !is_any_warned(replies) {
-        return Ok(Findings::new(alloc));
+    if is_any_refused(replies) || is_any_warned(replies) {
+        let map = UnitMap::new(alloc, &answered.unit.text)?;
+        let lines = Lines::new(alloc, &answered.unit.text, answered.encoding)?;
+        let chart = Chart {
+            alloc,
+            map: &map,
+            lines: &lines,
+        };
+        findings_in(answered, &chart)
+    } else {
+        Ok(Findings::new(alloc))
     }
-    let map = UnitMap::new(alloc, &answered.unit.text)?;
-    let lines = Lines::new(alloc, &answered.unit.text, answered.encoding)?;
-    let chart = Chart {
-        map: &map,
-        lines: &lines,
-    };
-    if !is_refused {
-        return warnings_of(alloc, &chart, replies);
+}
+
+/// What is found in a unit with this chart. The unit is parsed again where a declaration was refused.
+fn findings_in(answered: Answered, chart: &Chart) -> Result<Findings, Memory> {
+    if !is_any_refused(answered.replies()) {
+        return all_of(chart, answered.replies(), &[], &[]);
     }
     let Parsed {
         declarations,
         piece,
         fault: _,
-    } = parse(alloc, &map.lexed)?;
-    let found = traced(alloc, &chart, answered, &declarations);
+    } = parse(chart.alloc, &chart.map.lexed)?;
+    let found = traced(answered, chart, &declarations);
     release(declarations, piece);
     found
 }
 
-/// The warnings of a unit that has no refused declaration.
-fn warnings_of(alloc: Global, chart: &Chart, replies: &[Reply]) -> Result<Findings, Memory> {
-    let mut found = Findings::new(alloc);
-    for (index, reply) in replies.iter().enumerate() {
-        found.take(alloc, chart, index.saturating_add(1), reply, &[])?;
-    }
-    Ok(found)
-}
-
 /// What is found in a unit with these declarations.
-fn traced(
-    alloc: Global,
-    chart: &Chart,
-    answered: Answered,
-    declarations: &[TopDec],
-) -> Result<Findings, Memory> {
+fn traced(answered: Answered, chart: &Chart, declarations: &[TopDec]) -> Result<Findings, Memory> {
     let replies = answered.replies();
     let reasons = reasons(
-        alloc,
+        chart.alloc,
         answered.checked,
         answered.place,
         replies,
         declarations,
     )?;
-    all_of(alloc, chart, replies, &reasons, declarations)
+    all_of(chart, replies, &reasons, declarations)
 }
 
-/// What the replies say, with these reasons of the first ones.
+/// What the replies say, with these reasons and these declarations of the first ones.
 fn all_of(
-    alloc: Global,
     chart: &Chart,
     replies: &[Reply],
     reasons: &[Reason],
     declarations: &[TopDec],
 ) -> Result<Findings, Memory> {
-    let mut found = Findings::new(alloc);
+    let mut found = Findings::new(chart.alloc);
     for (index, reply) in replies.iter().enumerate() {
         let number = index.saturating_add(1);
         let reason = match reasons.get(index) {
             Some(reason) => reason.as_slice(),
             None => &[],
         };
-        found.take(alloc, chart, number, reply, reason)?;
+        found.take(chart, number, reply, reason)?;
         if let Some(declaration) = declarations.get(index) {
-            found.note(alloc, chart, number, reply, declaration)?;
+            found.note(chart, number, reply.is_accepted(), declaration)?;
         }
     }
     Ok(found)

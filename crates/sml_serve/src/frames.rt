@@ -1,7 +1,9 @@
 //! Frames: a head that tells a length, and so many bytes.
 
-ghost use Rattle.std.specs.Prelude.{◌≡◌, ◌∷◌, [], codes, decimal, length};
+ghost use Rattle.std.specs.Prelude.{◌≡◌, ◌∷◌, ◌++◌, ℕ, List, [], IfOk, OnOk, codes, decimal, length, min, take, drop};
+ghost use Rattle.std.specs.Io.KnownBytes.{Consumes, Keeps};
 ghost use Rattle.sml_reply.specs.Sinks.{Prints, in_turn};
+ghost use Rattle.sml_serve.specs.Streams.{IfBody, stream};
 
 use crate::streams::In;
 use itoa::Buffer;
@@ -9,6 +11,7 @@ use sml_lex::fault::Memory;
 use sml_reply::sink::{Out, OutFault, write_each};
 use sml_shown::remark::cut;
 use std::alloc::{AllocError, Global};
+use std::mem::replace;
 
 /// How many bytes are asked for at once.
 const CHUNK: usize = 65_536;
@@ -20,7 +23,7 @@ const MOST_BYTES: u64 = 16_777_216;
 const MOST_HEAD: usize = 8_192;
 
 /// Why no frame can be read.
-#[derive(Clone, Copy, PartialEq, Eq, Debug)]
+#[derive(Clone, Copy)]
 pub enum Broken {
     Read,
     Memory,
@@ -52,7 +55,6 @@ pub enum Frame {
 pub struct Held {
     alloc: Global,
     bytes: Vec<u8>,
-    at: usize,
     chunk: Vec<u8>,
 }
 
@@ -74,19 +76,13 @@ impl Held {
         Ok(Held {
             alloc,
             bytes: Vec::new(alloc),
-            at: 0,
             chunk: vec![in alloc; 0; CHUNK]?,
         })
     }
 
-    /// The bytes that weren't taken yet.
-    fn bytes(&self) -> &[u8] {
-        &self.bytes[self.at.min(self.bytes.len())..]
-    }
-
     /// Whether the beginning of another frame was read.
     pub fn has_more(&self) -> bool {
-        for byte in self.bytes() {
+        for byte in self.bytes.as_slice() {
             if *byte != b'\r' && *byte != b'\n' {
                 return true;
             }
@@ -94,32 +90,25 @@ impl Held {
         false
     }
 
-    /// Takes the first so many bytes.
-    fn take(&mut self, count: usize) {
-        self.at = self.at.saturating_add(count);
-        if self.at >= self.bytes.len() {
-            self.bytes = Vec::new(self.alloc);
-            self.at = 0;
-        }
-    }
-
-    /// Lets go of the bytes that were taken, where there are many.
-    fn let_go(&mut self) -> Result<(), Broken> {
-        if self.at > CHUNK {
-            let rest = Vec::from_slice(self.alloc, self.bytes())?;
-            self.bytes = rest;
-            self.at = 0;
-        }
-        Ok(())
+    /// Takes the first so many bytes, or all where there are fewer.
+    fn take(&mut self, count: usize) -> Result<Vec<u8>, Broken>
+        ensures taken { IfOk result (λ b. b.items ≡ take count self.old.bytes.items) }
+        ensures left { OnOk result (self.new.bytes.items ≡ drop count self.old.bytes.items) }
+    {
+        let count = count.min(self.bytes.len());
+        let rest = Vec::from_slice(self.alloc, &self.bytes[count..])?;
+        let mut taken = replace(&mut self.bytes, rest);
+        taken.truncate(count);
+        Ok(taken)
     }
 
     /// Reads some more bytes, and says whether there were any.
-    fn fill<I: In>(&mut self, input: &mut I) -> Result<bool, Broken> {
-        self.let_go()?;
+    fn fill<I: In>(&mut self, input: &mut I) -> Result<bool, Broken>
+        ensures { OnOk result (Keeps (stream self.old.bytes.items (I.remaining input.old)) (stream self.new.bytes.items (I.remaining input.new))) }
+    {
         let Ok(count) = input.read(self.chunk.as_mut_slice()) else {
             return Err(Broken::Read);
         };
-        let count = count.min(self.chunk.len());
         self.bytes.extend_from_slice(&self.chunk[..count])?;
         Ok(count > 0)
     }
@@ -242,22 +231,26 @@ fn whole(size: usize, length: Option<u64>, lines: usize) -> Head {
     }
 }
 
-/// The next frame.
-pub fn next_frame<I: In>(held: &mut Held, input: &mut I) -> Result<Frame, Broken> {
+/// The next frame. A body is the bytes of the stream after its head; what stands after it is left.
+pub fn next_frame<I: In>(held: &mut Held, input: &mut I) -> Result<Frame, Broken>
+    ensures { IfOk result (IfBody (λ body. (head : List ℕ) × Consumes (stream held.old.bytes.items (I.remaining input.old)) (stream held.new.bytes.items (I.remaining input.new)) (head ++ body))) }
+{
     for _ in 0..u64::MAX {
-        match head_of(held.bytes()) {
+        match head_of(&held.bytes) {
             Head::Open => {
                 if !held.fill(input)? {
                     return Ok(end_of(held));
                 }
             }
-            Head::Blank(size) => held.take(size),
+            Head::Blank(size) => {
+                held.take(size)?;
+            }
             Head::Bad(size) => {
-                held.take(size);
+                held.take(size)?;
                 return Ok(Frame::NoLength);
             }
             Head::Whole(size, length) => {
-                held.take(size);
+                held.take(size)?;
                 return body(held, input, length);
             }
         }
@@ -266,7 +259,9 @@ pub fn next_frame<I: In>(held: &mut Held, input: &mut I) -> Result<Frame, Broken
 }
 
 /// What is read at the end of the source.
-fn end_of(held: &Held) -> Frame {
+fn end_of(held: &Held) -> Frame
+    ensures { IfBody (λ _. ⊥) result }
+{
     if held.has_more() {
         Frame::CutOff
     } else {
@@ -275,13 +270,15 @@ fn end_of(held: &Held) -> Frame {
 }
 
 /// The frame of this length, after its head.
-fn body<I: In>(held: &mut Held, input: &mut I, length: u64) -> Result<Frame, Broken> {
-    if length > MOST_BYTES {
-        return skip(held, input, length);
+fn body<I: In>(held: &mut Held, input: &mut I, size: u64) -> Result<Frame, Broken>
+    ensures { IfOk result (IfBody (λ body. (length body ≡ size) × Consumes (stream held.old.bytes.items (I.remaining input.old)) (stream held.new.bytes.items (I.remaining input.new)) body)) }
+{
+    if size > MOST_BYTES {
+        return skip(held, input, size);
     }
     for _ in 0..u64::MAX {
-        if held.bytes().len() as u64 >= length {
-            return taken(held, length as usize);
+        if held.bytes.len() as u64 >= size {
+            return Ok(Frame::Body(held.take(size as usize)?));
         }
         if !held.fill(input)? {
             return Ok(Frame::CutOff);
@@ -290,20 +287,14 @@ fn body<I: In>(held: &mut Held, input: &mut I, length: u64) -> Result<Frame, Bro
     Ok(Frame::CutOff)
 }
 
-/// The first so many bytes.
-fn taken(held: &mut Held, length: usize) -> Result<Frame, Broken> {
-    let bytes = held.bytes();
-    let body = Vec::from_slice(held.alloc, &bytes[..length.min(bytes.len())])?;
-    held.take(length);
-    Ok(Frame::Body(body))
-}
-
 /// Passes over so many bytes.
-fn skip<I: In>(held: &mut Held, input: &mut I, length: u64) -> Result<Frame, Broken> {
+fn skip<I: In>(held: &mut Held, input: &mut I, length: u64) -> Result<Frame, Broken>
+    ensures { IfOk result (IfBody (λ _. ⊥)) }
+{
     let mut left = length;
     for _ in 0..u64::MAX {
-        let count = (held.bytes().len() as u64).min(left);
-        held.take(count as usize);
+        let count = (held.bytes.len() as u64).min(left);
+        held.take(count as usize)?;
         left = left.saturating_sub(count);
         if left == 0 {
             return Ok(Frame::TooLarge);

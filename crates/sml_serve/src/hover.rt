@@ -2,56 +2,50 @@
 
 use crate::findings::{Answered, Chart};
 use crate::outline::{accepted, bound_text};
-use crate::positions::{Lines, Position, range_value};
-use crate::values::Object;
-use serde_json::Value;
+use crate::positions::{Lines, Position, Range, push_range};
+use crate::values::push_string;
 use sml_lex::fault::Memory;
 use sml_shown::unit_map::UnitMap;
 use std::alloc::Global;
 
-/// What the declaration at a position binds; `null` where there is none, or where it binds nothing.
-pub fn hover(alloc: Global, answered: Answered, position: Position) -> Result<Value, Memory> {
+/// What is shown where there is nothing.
+pub const NOTHING: &[u8] = b"null";
+
+/// What the declaration at a position binds, as JSON; nothing where there is none, or where it binds nothing.
+pub fn hover(alloc: Global, answered: Answered, position: Position) -> Result<Vec<u8>, Memory> {
     let map = UnitMap::new(alloc, &answered.unit.text)?;
     let lines = Lines::new(alloc, &answered.unit.text, answered.encoding)?;
     let chart = Chart {
+        alloc,
         map: &map,
         lines: &lines,
     };
-    hover_in(alloc, answered, &chart, position)
+    hover_in(answered, &chart, position)
 }
 
-fn hover_in(
-    alloc: Global,
-    answered: Answered,
-    chart: &Chart,
-    position: Position,
-) -> Result<Value, Memory> {
+fn hover_in(answered: Answered, chart: &Chart, position: Position) -> Result<Vec<u8>, Memory> {
     let count = answered.replies().len();
-    let Some(number) = chart.number_at(chart.lines.byte(position), count) else {
-        return Ok(Value::Null);
-    };
-    let Some(reply) = accepted(&answered, number) else {
-        return Ok(Value::Null);
-    };
-    let text = bound_text(alloc, reply)?;
-    if text.is_empty() {
-        return Ok(Value::Null);
+    let number = chart.number_at(chart.lines.byte(position), count);
+    match accepted(answered, number) {
+        Some(reply) => {
+            let bound = bound_text(chart.alloc, reply)?;
+            let extent = chart.extent(number, count);
+            let range = chart.lines.range(extent.start, extent.end);
+            shown(chart.alloc, &bound, range)
+        }
+        None => Ok(Vec::from_slice(chart.alloc, NOTHING)?),
     }
-    let mut object = Object::new(alloc);
-    object.put("contents", contents(alloc, &text)?)?;
-    let range = chart.span_range(chart.extent(number, count));
-    object.put("range", range_value(alloc, range)?)?;
-    Ok(object.into_value())
 }
 
-/// Plain text, without the end of its last line.
-fn contents(alloc: Global, text: &[u8]) -> Result<Value, Memory> {
-    let text = match text.split_last() {
-        Some((b'\n', before)) => before,
-        _ => text,
+/// Plain text, without the end of its last line, and its range.
+fn shown(alloc: Global, bound: &[u8], range: Range) -> Result<Vec<u8>, Memory> {
+    let Some((_, plain)) = bound.split_last() else {
+        return Ok(Vec::from_slice(alloc, NOTHING)?);
     };
-    let mut object = Object::new(alloc);
-    object.put_text("kind", b"plaintext")?;
-    object.put_text("value", text)?;
-    Ok(object.into_value())
+    let mut text = Vec::from_slice(alloc, b"{\"contents\":{\"kind\":\"plaintext\",\"value\":")?;
+    push_string(alloc, &mut text, plain)?;
+    text.extend_from_slice(b"},")?;
+    push_range(&mut text, b"range", range)?;
+    text.push(b'}')?;
+    Ok(text)
 }

@@ -20,5 +20,6 @@ pub mod session;
 pub mod settings;
 pub mod streams;
 pub mod symbols;
+pub mod telling;
 pub mod values;
 pub mod works;

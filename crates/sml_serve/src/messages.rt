@@ -1,18 +1,20 @@
 //! Messages of JSON-RPC: what comes, and what is answered.
 
-ghost use Rattle.std.specs.Prelude.{◌≡◌, codes, Some, IfOk};
-ghost use Rattle.serde_json.specs.Find.{get};
+ghost use Rattle.std.specs.Prelude.{◌≡◌, ◌≤◌, ◌++◌, ℕ, List, OnOk, codes, map};
+ghost use Rattle.serde_json.specs.Data.{depth};
+ghost use Rattle.serde_json.specs.Read.{max_depth};
 ghost use Rattle.serde_json.specs.View.{view};
+ghost use Rattle.sml_reply.specs.Sinks.{in_turn};
+ghost use Rattle.sml_serve.specs.Answers.{IsAnswered, message};
 
 use crate::frames::write_frame;
-use crate::values::Object;
-use serde_json::{Value, json};
+use serde_json::Value;
 use sml_lex::fault::Memory;
-use sml_reply::sink::VecOut;
-use std::alloc::{AllocError, Global};
+use sml_reply::sink::{VecOut, write_each};
+use std::alloc::Global;
 
 /// What is wrong with a message.
-#[derive(Clone, Copy, PartialEq, Eq, Debug)]
+#[derive(Clone, Copy)]
 pub enum Wrong {
     /// It is no JSON.
     NoJson,
@@ -30,29 +32,16 @@ pub enum Wrong {
     TooEarly,
 }
 
-impl Wrong {
-    /// The number of the error.
-    fn number(self) -> i64 {
-        match self {
-            Wrong::NoJson | Wrong::NoLength => -32_700,
-            Wrong::NoRequest | Wrong::TooLarge => -32_600,
-            Wrong::NoMethod => -32_601,
-            Wrong::NoParams => -32_602,
-            Wrong::TooEarly => -32_002,
-        }
-    }
-
-    /// What the error says.
-    fn text(self) -> &'static str {
-        match self {
-            Wrong::NoJson => "no JSON",
-            Wrong::NoRequest => "no request that can be answered",
-            Wrong::NoLength => "a head without Content-Length",
-            Wrong::TooLarge => "a message over 16 MiB",
-            Wrong::NoMethod => "no such method",
-            Wrong::NoParams => "parameters of another form",
-            Wrong::TooEarly => "not initialized",
-        }
+/// The error that is answered, as JSON.
+fn error_text(wrong: Wrong) -> &'static [u8] {
+    match wrong {
+        Wrong::NoJson => b"{\"code\":-32700,\"message\":\"no JSON\"}",
+        Wrong::NoLength => b"{\"code\":-32700,\"message\":\"a head without Content-Length\"}",
+        Wrong::NoRequest => b"{\"code\":-32600,\"message\":\"no request that can be answered\"}",
+        Wrong::TooLarge => b"{\"code\":-32600,\"message\":\"a message over 16 MiB\"}",
+        Wrong::NoMethod => b"{\"code\":-32601,\"message\":\"no such method\"}",
+        Wrong::NoParams => b"{\"code\":-32602,\"message\":\"parameters of another form\"}",
+        Wrong::TooEarly => b"{\"code\":-32002,\"message\":\"not initialized\"}",
     }
 }
 
@@ -99,82 +88,74 @@ fn is_id(value: &Value) -> bool {
     value.is_string() || value.is_number() || value.is_null()
 }
 
-/// The answer to a request: its id, and the result.
-fn result_message(alloc: Global, id: &Value, value: Value) -> Result<Value, AllocError>
-    ensures id { IfOk result (λ v. get (codes "id") (view v) ≡ Some (view id.now)) }
-    ensures given { IfOk result (λ v. get (codes "result") (view v) ≡ Some (view value)) }
-{
-    json!(in alloc; {"id": id, "jsonrpc": "2.0", "result": value})
-}
-
-/// The answer to a request: its id, and the error.
-fn error_message(alloc: Global, id: &Value, error: Value) -> Result<Value, AllocError>
-    ensures id { IfOk result (λ v. get (codes "id") (view v) ≡ Some (view id.now)) }
-    ensures given { IfOk result (λ v. get (codes "error") (view v) ≡ Some (view error)) }
-{
-    json!(in alloc; {"id": id, "jsonrpc": "2.0", "error": error})
-}
-
-/// The error of a message.
-fn error_value(alloc: Global, wrong: Wrong) -> Result<Value, Memory> {
-    let mut error = Object::new(alloc);
-    error.put("code", wrong.number().into())?;
-    error.put_text("message", wrong.text().as_bytes())?;
-    Ok(error.into_value())
-}
-
 /// Writes a message.
-fn send(alloc: Global, message: &Value, out: &mut VecOut) -> Result<(), Memory> {
-    let body = message.to_vec(alloc)?;
-    match write_frame(out, &body) {
+fn send(alloc: Global, parts: &[&[u8]], out: &mut VecOut) -> Result<(), Memory>
+    ensures { OnOk result (out.new.bytes.items ≡ out.old.bytes.items ++ message (in_turn (map (λ p. p.now) parts.now))) }
+{
+    let mut body = VecOut::new(alloc);
+    match write_each(&mut body, parts) {
+        Ok(_) => write(body.bytes(), out),
+        Err(_) => Err(Memory),
+    }
+}
+
+/// Writes a message with this body.
+fn write(body: &[u8], out: &mut VecOut) -> Result<(), Memory>
+    ensures { OnOk result (out.new.bytes.items ≡ out.old.bytes.items ++ message body.now) }
+{
+    match write_frame(out, body) {
         Ok(_) => Ok(()),
         Err(_) => Err(Memory),
     }
 }
 
-/// Answers a request with a result.
-pub fn send_result(
+/// Answers a request with a result or an error, as its name is, which is JSON.
+fn answer(
     alloc: Global,
     id: &Value,
-    value: Value,
+    name: &[u8],
+    given: &[u8],
     out: &mut VecOut,
-) -> Result<(), Memory> {
-    let message = result_message(alloc, id, value)?;
-    send(alloc, &message, out)
+) -> Result<(), Memory>
+    ensures { depth (view id.now) ≤ max_depth → OnOk result (IsAnswered (view id.now) name.now given.now out.old.bytes.items out.new.bytes.items) }
+{
+    let id = id.to_vec(alloc)?;
+    let parts: [&[u8]; 7] = [
+        b"{\"jsonrpc\":\"2.0\",\"id\":",
+        &id,
+        b",\"",
+        name,
+        b"\":",
+        given,
+        b"}",
+    ];
+    send(alloc, &parts, out)
+}
+
+/// Answers a request with a result, which is JSON.
+pub fn send_result(alloc: Global, id: &Value, given: &[u8], out: &mut VecOut) -> Result<(), Memory>
+    ensures { depth (view id.now) ≤ max_depth → OnOk result (IsAnswered (view id.now) (codes "result") given.now out.old.bytes.items out.new.bytes.items) }
+{
+    answer(alloc, id, b"result", given, out)
 }
 
 /// Answers a request with an error.
-pub fn send_error(alloc: Global, id: &Value, wrong: Wrong, out: &mut VecOut) -> Result<(), Memory> {
-    let error = error_value(alloc, wrong)?;
-    let message = error_message(alloc, id, error)?;
-    send(alloc, &message, out)
+pub fn send_error(alloc: Global, id: &Value, wrong: Wrong, out: &mut VecOut) -> Result<(), Memory>
+    ensures { depth (view id.now) ≤ max_depth → OnOk result ((given : List ℕ) × IsAnswered (view id.now) (codes "error") given out.old.bytes.items out.new.bytes.items) }
+{
+    answer(alloc, id, b"error", error_text(wrong), out)
 }
 
-/// Writes a notification with these parameters, which are JSON.
-pub fn send_notice(
-    alloc: Global,
-    method: &str,
-    params: &[u8],
-    out: &mut VecOut,
-) -> Result<(), Memory> {
-    let mut body = Vec::new(alloc);
-    body.extend_from_slice(b"{\"jsonrpc\":\"2.0\",\"method\":\"")?;
-    body.extend_from_slice(method.as_bytes())?;
-    body.extend_from_slice(b"\",\"params\":")?;
-    body.extend_from_slice(params)?;
-    body.push(b'}')?;
-    match write_frame(out, &body) {
-        Ok(_) => Ok(()),
-        Err(_) => Err(Memory),
-    }
+/// Tells of diagnostics, whose parameters these are, which are JSON.
+pub fn send_diagnostics(alloc: Global, params: &[u8], out: &mut VecOut) -> Result<(), Memory> {
+    let head: &[u8] =
+        b"{\"jsonrpc\":\"2.0\",\"method\":\"textDocument/publishDiagnostics\",\"params\":";
+    send(alloc, &[head, params, b"}"], out)
 }
 
 /// Asks the client to tell of files that change on disk.
 pub fn send_watch(out: &mut VecOut) -> Result<(), Memory> {
     let body: &[u8] =
         b"{\"jsonrpc\":\"2.0\",\"id\":\"watch\",\"method\":\"client/registerCapability\",\"params\":{\"registrations\":[{\"id\":\"watch\",\"method\":\"workspace/didChangeWatchedFiles\",\"registerOptions\":{\"watchers\":[{\"globPattern\":\"**/*.{sml,sig,fun,project}\"}]}}]}}";
-    match write_frame(out, body) {
-        Ok(_) => Ok(()),
-        Err(_) => Err(Memory),
-    }
+    write(body, out)
 }

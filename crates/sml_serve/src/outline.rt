@@ -1,7 +1,6 @@
 //! Where the declarations of a unit stand, and what they bind.
 
 use crate::findings::{Answered, Chart, printed};
-use crate::positions::Range;
 use sml_lex::fault::Memory;
 use sml_lex::token::{Kind, Span, Token};
 use sml_reply::reply::Reply;
@@ -25,23 +24,18 @@ impl Chart<'_> {
         }
     }
 
-    /// The number of the declaration at a byte, one of so many.
-    pub fn number_at(&self, at: usize, count: usize) -> Option<usize> {
+    /// The number of the declaration at a byte, one of so many; 0 where there is none.
+    pub fn number_at(&self, at: usize, count: usize) -> usize {
         for number in 1..=count {
             let extent = self.extent(number, count);
             if extent.start <= at && at < extent.end {
-                return Some(number);
+                return number;
             }
             if extent.start > at {
-                return None;
+                return 0;
             }
         }
-        None
-    }
-
-    /// The range of these bytes.
-    pub fn span_range(&self, span: Span) -> Range {
-        self.lines.range(span.start, span.end)
+        0
     }
 }
 
@@ -90,8 +84,8 @@ pub fn bound_text(alloc: Global, reply: &Reply) -> Result<Vec<u8>, Memory> {
     Ok(text)
 }
 
-/// The reply to the declaration of this number, if it was accepted.
-pub fn accepted<'a>(answered: &Answered<'a>, number: usize) -> Option<&'a Reply> {
+/// The reply to the declaration of this number, if there is one, and if it was accepted.
+pub fn accepted<'a>(answered: Answered<'a>, number: usize) -> Option<&'a Reply> {
     let reply = answered.replies().get(number.checked_sub(1)?)?;
     if reply.is_accepted() {
         Some(reply)

@@ -41,14 +41,10 @@ pub fn uri_of(alloc: Global, path: &str) -> Result<String, Memory> {
 
 /// A path without empty parts, `.`, and `..` after another part.
 pub fn normal(alloc: Global, path: &str) -> Result<String, Memory> {
-    let mut parts: Vec<&str> = Vec::new(alloc);
     let is_absolute = path.starts_with('/');
-    for part in path.split('/') {
-        match part {
-            "" | "." => {}
-            ".." => up(&mut parts, is_absolute)?,
-            _ => parts.push(part)?,
-        }
+    let parts = parts_of(alloc, path, is_absolute)?;
+    if is_absolute && parts.is_empty() {
+        return Ok(String::from_str(alloc, "/")?);
     }
     let mut text = String::new(alloc);
     for (index, part) in parts.iter().enumerate() {
@@ -57,10 +53,20 @@ pub fn normal(alloc: Global, path: &str) -> Result<String, Memory> {
         }
         text.push_str(*part)?;
     }
-    if is_absolute && parts.is_empty() {
-        text.push('/')?;
-    }
     Ok(text)
+}
+
+/// The parts of a path that are left then.
+fn parts_of<'a>(alloc: Global, path: &'a str, is_absolute: bool) -> Result<Vec<&'a str>, Memory> {
+    let mut parts = Vec::new(alloc);
+    for part in path.split('/') {
+        match part {
+            "" | "." => {}
+            ".." => up(&mut parts, is_absolute)?,
+            _ => parts.push(part)?,
+        }
+    }
+    Ok(parts)
 }
 
 /// Goes to the folder above.

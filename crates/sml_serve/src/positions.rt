@@ -1,27 +1,27 @@
 //! Positions in a text, as the client counts them.
 
-use crate::values::Object;
-use serde_json::Value;
+use crate::values::push_all;
+use itoa::Buffer;
 use sml_lex::fault::Memory;
 use sml_shown::spots::Spot;
 use std::alloc::Global;
 
 /// What the characters of a line are counted in.
-#[derive(Clone, Copy, PartialEq, Eq, Debug)]
+#[derive(Clone, Copy)]
 pub enum Encoding {
     Utf8,
     Utf16,
 }
 
 /// A line and a character in it, both from 0.
-#[derive(Clone, Copy, PartialEq, Eq, Debug)]
+#[derive(Clone, Copy)]
 pub struct Position {
     pub line: u64,
     pub character: u64,
 }
 
 /// What lies from one position up to another one.
-#[derive(Clone, Copy, PartialEq, Eq, Debug)]
+#[derive(Clone, Copy)]
 pub struct Range {
     pub start: Position,
     pub end: Position,
@@ -56,6 +56,11 @@ fn width(byte: u8, encoding: Encoding) -> u64 {
 /// Whether a byte goes on a character that began before it.
 fn goes_on(byte: u8) -> bool {
     byte & 0xc0 == 0x80
+}
+
+/// Whether a byte is one of those that end lines.
+fn is_end(byte: u8) -> bool {
+    byte == b'\n' || byte == b'\r'
 }
 
 /// Whether a line of the client ends after the byte at this index.
@@ -126,11 +131,11 @@ impl<'a> Lines<'a> {
         let mut at = *start;
         let mut passed: u64 = 0;
         for byte in self.text.get(*start..).unwrap_or(&[]) {
-            let is_whole = !goes_on(*byte) || self.encoding == Encoding::Utf8;
-            if *byte == b'\n' || *byte == b'\r' || is_whole && passed >= position.character {
+            let width = width(*byte, self.encoding);
+            if is_end(*byte) || width > 0 && passed >= position.character {
                 return at;
             }
-            passed = passed.saturating_add(width(*byte, self.encoding));
+            passed = passed.saturating_add(width);
             at = at.saturating_add(1);
         }
         at
@@ -160,12 +165,25 @@ impl<'a> Lines<'a> {
         }
     }
 
+    /// The range of the word at a place of the file.
+    pub fn word_range(&self, spot: Spot) -> Range {
+        let start = self.byte_at(spot);
+        let mut end = start;
+        for byte in self.text.get(start..).unwrap_or(&[]) {
+            if !byte.is_ascii_alphanumeric() {
+                return self.range(start, end);
+            }
+            end = end.saturating_add(1);
+        }
+        self.range(start, end)
+    }
+
     /// The range of a line, counted from 1, without its end.
     pub fn line_range(&self, line: u64) -> Range {
         let start = self.byte_at(Spot { line, column: 1 });
         let mut end = start;
         for byte in self.text.get(start..).unwrap_or(&[]) {
-            if *byte == b'\n' || *byte == b'\r' {
+            if is_end(*byte) {
                 return self.range(start, end);
             }
             end = end.saturating_add(1);
@@ -174,18 +192,26 @@ impl<'a> Lines<'a> {
     }
 }
 
-/// A position as JSON.
-pub fn position_value(alloc: Global, position: Position) -> Result<Value, Memory> {
-    let mut object = Object::new(alloc);
-    object.put_number("line", position.line)?;
-    object.put_number("character", position.character)?;
-    Ok(object.into_value())
+/// Adds a position, as JSON.
+fn push_position(text: &mut Vec<u8>, position: Position) -> Result<(), Memory> {
+    let mut line = Buffer::new();
+    let mut character = Buffer::new();
+    let parts: [&[u8]; 5] = [
+        b"{\"line\":",
+        line.format(position.line).as_bytes(),
+        b",\"character\":",
+        character.format(position.character).as_bytes(),
+        b"}",
+    ];
+    push_all(text, &parts)
 }
 
-/// A range as JSON.
-pub fn range_value(alloc: Global, range: Range) -> Result<Value, Memory> {
-    let mut object = Object::new(alloc);
-    object.put("start", position_value(alloc, range.start)?)?;
-    object.put("end", position_value(alloc, range.end)?)?;
-    Ok(object.into_value())
+/// Adds a range after a name, as a member of an object of JSON.
+pub fn push_range(text: &mut Vec<u8>, name: &[u8], range: Range) -> Result<(), Memory> {
+    push_all(text, &[b"\"", name, b"\":{\"start\":"])?;
+    push_position(text, range.start)?;
+    text.extend_from_slice(b",\"end\":")?;
+    push_position(text, range.end)?;
+    text.push(b'}')?;
+    Ok(())
 }

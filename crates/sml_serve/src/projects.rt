@@ -1,6 +1,7 @@
 //! The project file: where it is, what it lists, and its fault.
 
-use crate::files::Folders;
+use crate::documents::Documents;
+use crate::files::{Folders, Overlay};
 use crate::paths::joined;
 use crate::settings::Settings;
 use sml_lex::fault::Memory;
@@ -21,10 +22,10 @@ pub struct Trouble {
     pub text: Vec<u8>,
 }
 
-/// A project, or what is wrong with its file.
+/// A project and the paths of its units' files, in their order; or what is wrong with its file.
 #[derive(Drop)]
 pub enum Outcome {
-    Project(Listed),
+    Project(Listed, Vec<String>),
     Trouble(Trouble),
 }
 
@@ -65,16 +66,24 @@ fn only_project(alloc: Global, root: &str, names: &[String]) -> Result<Option<St
     }
 }
 
-/// The project of a project file and its units.
+/// The project of a project file and its units, for which open documents stand in.
 pub fn read_listed<S: Source>(
     alloc: Global,
-    source: &mut S,
+    documents: &Documents,
+    files: &mut S,
     path: &str,
 ) -> Result<Outcome, Memory> {
-    match read_project(alloc, source, path) {
-        Ok(listed) => Ok(Outcome::Project(listed)),
-        Err(stop) => Ok(Outcome::Trouble(trouble_of(alloc, source, path, &stop)?)),
+    let mut source = Overlay::new(documents, files);
+    match read_project(alloc, &mut source, path) {
+        Ok(listed) => listed_at(alloc, path, listed),
+        Err(stop) => Ok(Outcome::Trouble(trouble_of(alloc, &mut source, path, &stop)?)),
     }
+}
+
+/// A project with the paths of its units' files.
+fn listed_at(alloc: Global, path: &str, listed: Listed) -> Result<Outcome, Memory> {
+    let paths = unit_paths(alloc, path, &listed)?;
+    Ok(Outcome::Project(listed, paths))
 }
 
 /// Why there is no project.
@@ -172,7 +181,7 @@ fn third_word(line: &[u8]) -> Option<&[u8]> {
 }
 
 /// The paths of the files of a project's units, in their order.
-pub fn unit_paths(alloc: Global, project: &str, listed: &Listed) -> Result<Vec<String>, Memory> {
+fn unit_paths(alloc: Global, project: &str, listed: &Listed) -> Result<Vec<String>, Memory> {
     let mut paths = Vec::new(alloc);
     for unit in listed.project.units.as_slice() {
         let written = unit_path(alloc, project, listed.file_of(unit))?;

@@ -1,7 +1,7 @@
 //! The diagnostics that the client was told of last.
 
 use crate::diagnostics::params_text;
-use crate::messages::send_notice;
+use crate::messages::send_diagnostics;
 use sml_lex::fault::Memory;
 use sml_reply::sink::VecOut;
 use std::alloc::Global;
@@ -35,30 +35,34 @@ impl Published {
         self.round = self.round.saturating_add(1);
     }
 
-    /// Tells of a file, unless nothing changed and it needn't be told.
+    /// Tells of a file by these parameters, unless nothing changed and it needn't be told.
     pub fn tell(
         &mut self,
         alloc: Global,
-        uri: &str,
+        uri: String,
         params: Vec<u8>,
         is_empty: bool,
         is_needed: bool,
         out: &mut VecOut,
     ) -> Result<(), Memory> {
-        let is_same = match self.told.get(uri) {
-            Some(told) => told.params.as_slice() == params.as_slice(),
-            None => false,
-        };
-        if !is_same || is_needed {
-            send_notice(alloc, "textDocument/publishDiagnostics", &params, out)?;
+        if is_needed || !self.is_told(&uri, &params) {
+            send_diagnostics(alloc, &params, out)?;
         }
         let told = Told {
             round: self.round,
             is_empty,
             params,
         };
-        self.told.insert(String::from_str(alloc, uri)?, told)?;
+        self.told.insert(uri, told)?;
         Ok(())
+    }
+
+    /// Whether a file was told of last by these parameters.
+    fn is_told(&self, uri: &str, params: &[u8]) -> bool {
+        match self.told.get(uri) {
+            Some(told) => told.params.as_slice() == params,
+            None => false,
+        }
     }
 
     /// Ends a round: the diagnostics of files that weren't looked at go.
@@ -67,8 +71,7 @@ impl Published {
         for uri in gone.as_slice() {
             if let Some(told) = self.told.remove(uri) {
                 if !told.is_empty {
-                    let params = params_text(alloc, uri, None, Vec::new(alloc))?;
-                    send_notice(alloc, "textDocument/publishDiagnostics", &params, out)?;
+                    clear(alloc, uri, out)?;
                 }
             }
         }
@@ -85,4 +88,10 @@ impl Published {
         }
         Ok(gone)
     }
+}
+
+/// Tells that a file has no diagnostics.
+fn clear(alloc: Global, uri: &str, out: &mut VecOut) -> Result<(), Memory> {
+    let params = params_text(alloc, uri, None, &[])?;
+    send_diagnostics(alloc, &params, out)
 }

@@ -1,20 +1,25 @@
 //! What each message does, and what is answered to it.
 
+ghost use Rattle.std.specs.Prelude.{◌≤◌, OnOk};
+ghost use Rattle.serde_json.specs.Data.{depth};
+ghost use Rattle.serde_json.specs.Read.{max_depth};
+ghost use Rattle.serde_json.specs.View.{view};
+ghost use Rattle.sml_serve.specs.Answers.{EndsWithAnswer};
+
 use crate::board::{Board, View};
-use crate::diagnostics::{Desk, address, params_text, trouble_value};
 use crate::documents::{Document, Documents};
-use crate::files::{Folders, Overlay};
+use crate::files::Folders;
 use crate::frames::Frame;
-use crate::hover::hover;
+use crate::hover::{NOTHING, hover};
 use crate::messages::{Call, Wrong, call_of, send_error, send_result, send_watch};
 use crate::paths::path_of;
 use crate::positions::Position;
 use crate::published::Published;
 use crate::settings::{Settings, settings_of, welcome};
 use crate::symbols::symbols;
+use crate::telling::Telling;
 use crate::values::{list_at, number_at, text_at, value_at};
-use crate::works::Work;
-use serde_json::{Value, push};
+use serde_json::Value;
 use sml_lex::fault::Memory;
 use sml_reply::sink::VecOut;
 use sml_session::session::Source;
@@ -26,21 +31,25 @@ const ENDED: u8 = 0;
 /// The status of `exit` without `shutdown`.
 const BROKEN_OFF: u8 = 1;
 
-/// One byte more than the greatest project file has.
-const MOST_BYTES: usize = 1_048_577;
-
 /// How far a session has come.
-#[derive(Clone, Copy, PartialEq, Eq)]
+#[derive(Clone, Copy)]
 enum Phase {
     Fresh,
     Ready,
     Shut,
 }
 
+/// What a request is answered: a result, which is JSON, or an error.
+#[derive(Drop)]
+enum Answer {
+    Result(Vec<u8>),
+    Error(Wrong),
+}
+
 /// A server: what the client said, its documents, what is checked, and what the client was told.
 #[derive(Drop)]
 pub struct Server {
-    alloc: Global,
+    pub alloc: Global,
     folder: String,
     phase: Phase,
     settings: Settings,
@@ -53,6 +62,8 @@ pub struct Server {
     is_stale: bool,
     /// The paths of which something changed.
     touched: Vec<String>,
+    /// Whether what changed was taken over, and not all of it is checked yet.
+    is_begun: bool,
 }
 
 impl Server {
@@ -64,11 +75,12 @@ impl Server {
             phase: Phase::Fresh,
             settings: Settings::new(),
             documents: Documents::new(alloc),
-            board: Board::new(alloc),
+            board: Board::new(alloc)?,
             published: Published::new(alloc),
             is_loaded: false,
             is_stale: false,
             touched: Vec::new(alloc),
+            is_begun: false,
         })
     }
 
@@ -112,9 +124,7 @@ impl Server {
             }
             Call::Notification("exit", _) => Ok(Some(self.exit_status())),
             Call::Notification(method, params) => {
-                if self.phase == Phase::Ready {
-                    self.notice(method, params, out)?;
-                }
+                self.notice(method, params, out)?;
                 Ok(None)
             }
             Call::Answer => Ok(None),
@@ -138,89 +148,89 @@ impl Server {
         params: &Value,
         files: &mut S,
         out: &mut VecOut,
-    ) -> Result<(), Memory> {
-        match self.result_of(method, params, files, out)? {
-            Ok(result) => send_result(self.alloc, id, result, out),
-            Err(wrong) => send_error(self.alloc, id, wrong, out),
+    ) -> Result<(), Memory>
+        ensures { depth (view id.now) ≤ max_depth → OnOk result (EndsWithAnswer (view id.now) out.new.bytes.items) }
+    {
+        if is_of_texts(method) {
+            self.settle(files, out)?;
+        }
+        match self.answer_to(method, params)? {
+            Answer::Result(result) => send_result(self.alloc, id, &result, out),
+            Answer::Error(wrong) => send_error(self.alloc, id, wrong, out),
         }
     }
 
     /// What a request is answered.
-    fn result_of<S: Source + Folders>(
-        &mut self,
-        method: &str,
-        params: &Value,
-        files: &mut S,
-        out: &mut VecOut,
-    ) -> Result<Result<Value, Wrong>, Memory> {
+    fn answer_to(&mut self, method: &str, params: &Value) -> Result<Answer, Memory> {
         match self.phase {
             Phase::Fresh if method == "initialize" => self.initialize(params),
-            Phase::Fresh => Ok(Err(Wrong::TooEarly)),
-            Phase::Shut => Ok(Err(Wrong::NoRequest)),
+            Phase::Fresh => Ok(Answer::Error(Wrong::TooEarly)),
+            Phase::Shut => Ok(Answer::Error(Wrong::NoRequest)),
             Phase::Ready => match method {
-                "initialize" => Ok(Err(Wrong::NoRequest)),
-                "shutdown" => {
-                    self.phase = Phase::Shut;
-                    Ok(Ok(Value::Null))
-                }
-                "textDocument/hover" => {
-                    self.settle(files, out)?;
-                    self.hover(params)
-                }
-                "textDocument/documentSymbol" => {
-                    self.settle(files, out)?;
-                    self.symbols(params)
-                }
-                _ => Ok(Err(Wrong::NoMethod)),
+                "initialize" => Ok(Answer::Error(Wrong::NoRequest)),
+                "shutdown" => self.shut_down(),
+                "textDocument/hover" => self.hover(params),
+                "textDocument/documentSymbol" => self.symbols(params),
+                _ => Ok(Answer::Error(Wrong::NoMethod)),
             },
         }
     }
 
     /// Answers `initialize`.
-    fn initialize(&mut self, params: &Value) -> Result<Result<Value, Wrong>, Memory> {
+    fn initialize(&mut self, params: &Value) -> Result<Answer, Memory> {
         self.settings = settings_of(self.alloc, params, &self.folder)?;
         self.phase = Phase::Ready;
-        Ok(Ok(welcome(self.alloc, &self.settings)?))
+        let text = Vec::from_slice(self.alloc, welcome(&self.settings))?;
+        Ok(Answer::Result(text))
+    }
+
+    /// Answers `shutdown`.
+    fn shut_down(&mut self) -> Result<Answer, Memory> {
+        self.phase = Phase::Shut;
+        let text = Vec::from_slice(self.alloc, NOTHING)?;
+        Ok(Answer::Result(text))
     }
 
     /// What is shown at a position.
-    fn hover(&self, params: &Value) -> Result<Result<Value, Wrong>, Memory> {
-        let Some(uri) = text_at(params, &["textDocument", "uri"]) else {
-            return Ok(Err(Wrong::NoParams));
-        };
-        let Some(line) = number_at(params, &["position", "line"]) else {
-            return Ok(Err(Wrong::NoParams));
-        };
-        let Some(character) = number_at(params, &["position", "character"]) else {
-            return Ok(Err(Wrong::NoParams));
+    fn hover(&self, params: &Value) -> Result<Answer, Memory> {
+        let Some((uri, position)) = position_in(params) else {
+            return Ok(Answer::Error(Wrong::NoParams));
         };
         let path = path_of(self.alloc, uri)?;
-        match self.board.answered(&path, self.settings.encoding) {
-            Some(answered) => {
-                let position = Position { line, character };
-                Ok(Ok(hover(self.alloc, answered, position)?))
-            }
-            None => Ok(Ok(Value::Null)),
-        }
+        let text = match self.board.answered(&path, self.settings.encoding) {
+            Some(answered) => hover(self.alloc, answered, position)?,
+            None => Vec::from_slice(self.alloc, NOTHING)?,
+        };
+        Ok(Answer::Result(text))
     }
 
     /// The symbols of a document.
-    fn symbols(&self, params: &Value) -> Result<Result<Value, Wrong>, Memory> {
+    fn symbols(&self, params: &Value) -> Result<Answer, Memory> {
         let Some(uri) = text_at(params, &["textDocument", "uri"]) else {
-            return Ok(Err(Wrong::NoParams));
+            return Ok(Answer::Error(Wrong::NoParams));
         };
         let path = path_of(self.alloc, uri)?;
-        match self.board.answered(&path, self.settings.encoding) {
-            Some(answered) => {
-                let is_nested = self.settings.is_nested;
-                Ok(Ok(symbols(self.alloc, answered, uri, is_nested)?))
-            }
-            None => Ok(Ok(Value::Null)),
+        let text = match self.board.answered(&path, self.settings.encoding) {
+            Some(answered) => symbols(self.alloc, answered, uri, self.settings.is_nested)?,
+            None => Vec::from_slice(self.alloc, NOTHING)?,
+        };
+        Ok(Answer::Result(text))
+    }
+
+    /// Takes a notification. Before `initialize` and after `shutdown` it is passed over.
+    fn notice(&mut self, method: &str, params: &Value, out: &mut VecOut) -> Result<(), Memory> {
+        match self.phase {
+            Phase::Ready => self.take_notice(method, params, out),
+            Phase::Fresh | Phase::Shut => Ok(()),
         }
     }
 
-    /// Takes a notification.
-    fn notice(&mut self, method: &str, params: &Value, out: &mut VecOut) -> Result<(), Memory> {
+    fn take_notice(
+        &mut self,
+        method: &str,
+        params: &Value,
+        out: &mut VecOut,
+    ) -> Result<(), Memory> {
         match method {
             "initialized" => {
                 self.is_stale = true;
@@ -232,16 +242,18 @@ impl Server {
             "textDocument/didOpen" => self.did_open(params),
             "textDocument/didChange" => self.did_change(params),
             "textDocument/didClose" => self.did_close(params),
-            "textDocument/didSave" => {
-                self.is_stale = true;
-                Ok(())
-            }
-            "workspace/didChangeWatchedFiles" => {
+            "textDocument/didSave" | "workspace/didChangeWatchedFiles" => {
                 self.is_stale = true;
                 Ok(())
             }
             _ => Ok(()),
         }
+    }
+
+    /// Notes that something of a path changed.
+    fn touch(&mut self, path: &str) -> Result<(), Memory> {
+        self.touched.push(String::from_str(self.alloc, path)?)?;
+        Ok(())
     }
 
     /// Opens a document.
@@ -253,12 +265,8 @@ impl Server {
             return Ok(());
         };
         let path = path_of(self.alloc, uri)?;
-        let document = Document {
-            uri: String::from_str(self.alloc, uri)?,
-            version: version_of(params),
-            text: Vec::from_slice(self.alloc, text.as_bytes())?,
-        };
-        self.touched.push(path.clone()?)?;
+        self.touch(&path)?;
+        let document = Document::new(self.alloc, uri, version_of(params), text)?;
         self.documents.put(path, document)
     }
 
@@ -273,7 +281,7 @@ impl Server {
         let path = path_of(self.alloc, uri)?;
         let text = Vec::from_slice(self.alloc, text.as_bytes())?;
         if self.documents.set(&path, version_of(params), text) {
-            self.touched.push(path)?;
+            self.touch(&path)?;
         }
         Ok(())
     }
@@ -285,7 +293,79 @@ impl Server {
         };
         let path = path_of(self.alloc, uri)?;
         self.documents.remove(&path);
-        self.touched.push(path)?;
+        self.touch(&path)
+    }
+
+    /// Whether something changed that isn't taken over yet.
+    fn is_due(&self) -> bool {
+        match self.phase {
+            Phase::Ready => self.is_stale || !self.touched.is_empty(),
+            Phase::Fresh | Phase::Shut => false,
+        }
+    }
+
+    /// Takes over what changed. Where that is the text of one unit, the units up to it are checked, and the client is told of
+    /// its file before the others are.
+    pub fn begin<S: Source + Folders>(
+        &mut self,
+        files: &mut S,
+        out: &mut VecOut,
+    ) -> Result<(), Memory> {
+        if self.is_begun || !self.is_due() {
+            return Ok(());
+        }
+        self.take_over(files)?;
+        self.is_begun = true;
+        match self.only_unit() {
+            Some(place) => self.tell_first(place, out),
+            None => Ok(()),
+        }
+    }
+
+    /// Takes over the texts that changed.
+    fn take_over<S: Source + Folders>(&mut self, files: &mut S) -> Result<(), Memory> {
+        if !self.is_loaded {
+            self.is_loaded = true;
+            self.is_stale = true;
+        }
+        let view = View {
+            alloc: self.alloc,
+            settings: &self.settings,
+            documents: &self.documents,
+        };
+        if !self.is_stale {
+            self.is_stale = self.board.touch_all(view, files, &self.touched)?;
+        }
+        if self.is_stale {
+            self.board.reload(view, files)?;
+        }
+        Ok(())
+    }
+
+    /// The place of the first unit of the project's whose text changed, if nothing else did.
+    fn only_unit(&self) -> Option<usize> {
+        match self.touched.as_slice() {
+            [path] if !self.is_stale => self.board.work.place_of(path),
+            _ => None,
+        }
+    }
+
+    /// Checks the units up to the last one with the file of the unit at a place, and tells the client of that file.
+    fn tell_first(&mut self, place: usize, out: &mut VecOut) -> Result<(), Memory> {
+        let work = &mut self.board.work;
+        let end = work.end_of(place);
+        work.renew_to(self.alloc, self.settings.encoding, end)?;
+        let view = View {
+            alloc: self.alloc,
+            settings: &self.settings,
+            documents: &self.documents,
+        };
+        let telling = Telling {
+            view,
+            touched: self.touched.as_slice(),
+        };
+        telling.unit(&self.board.work, place, &mut self.published, out)?;
+        self.touched = Vec::new(self.alloc);
         Ok(())
     }
 
@@ -295,140 +375,39 @@ impl Server {
         files: &mut S,
         out: &mut VecOut,
     ) -> Result<(), Memory> {
-        if self.phase != Phase::Ready || !self.is_stale && self.touched.is_empty() {
+        self.begin(files, out)?;
+        if !self.is_begun {
             return Ok(());
         }
-        self.take_over(files)?;
         let view = View {
             alloc: self.alloc,
             settings: &self.settings,
             documents: &self.documents,
         };
         self.board.renew(view)?;
-        self.tell_all(files, out)?;
+        let telling = Telling {
+            view,
+            touched: self.touched.as_slice(),
+        };
+        telling.all(&self.board, files, &mut self.published, out)?;
+        self.is_begun = false;
         self.is_stale = false;
         self.touched = Vec::new(self.alloc);
         Ok(())
     }
-
-    /// Takes over the texts that changed.
-    fn take_over<S: Source + Folders>(&mut self, files: &mut S) -> Result<(), Memory> {
-        let mut is_stale = self.is_stale || !self.is_loaded;
-        self.is_loaded = true;
-        let view = View {
-            alloc: self.alloc,
-            settings: &self.settings,
-            documents: &self.documents,
-        };
-        for path in self.touched.as_slice() {
-            if !is_stale && self.board.touch(view, files, path)? {
-                is_stale = true;
-            }
-        }
-        if is_stale {
-            self.board.reload(view, files)?;
-        }
-        Ok(())
-    }
-
-    /// Tells of all files that are checked.
-    fn tell_all<S: Source>(&mut self, files: &mut S, out: &mut VecOut) -> Result<(), Memory> {
-        self.published.begin();
-        let told = Telling {
-            alloc: self.alloc,
-            settings: &self.settings,
-            documents: &self.documents,
-            touched: self.touched.as_slice(),
-        };
-        if let Some(work) = &self.board.work {
-            told.work(work, &mut self.published, out)?;
-        }
-        for work in self.board.singles.values() {
-            told.work(work, &mut self.published, out)?;
-        }
-        told.project(&self.board, files, &mut self.published, out)?;
-        self.published.end(self.alloc, out)
-    }
 }
 
-/// What is told of.
-#[derive(Clone, Copy)]
-struct Telling<'a> {
-    alloc: Global,
-    settings: &'a Settings,
-    documents: &'a Documents,
-    touched: &'a [String],
+/// Whether a request asks about a text, which is checked before.
+fn is_of_texts(method: &str) -> bool {
+    method == "textDocument/hover" || method == "textDocument/documentSymbol"
 }
 
-impl Telling<'_> {
-    /// Tells of the files of a project.
-    fn work(&self, work: &Work, published: &mut Published, out: &mut VecOut) -> Result<(), Memory> {
-        let desk = Desk {
-            alloc: self.alloc,
-            settings: self.settings,
-            documents: self.documents,
-            work,
-        };
-        for (place, path) in work.paths.iter().enumerate() {
-            if work.firsts.get(place) == Some(&place) {
-                let list = list_of(&desk, place)?;
-                self.file(path, list, published, out)?;
-            }
-        }
-        Ok(())
-    }
-
-    /// Tells of the diagnostics of a file.
-    fn file(
-        &self,
-        path: &str,
-        list: Vec<Value>,
-        published: &mut Published,
-        out: &mut VecOut,
-    ) -> Result<(), Memory> {
-        let uri = address(self.alloc, self.documents, path)?;
-        let version = match self.documents.get(path) {
-            Some(document) => document.version,
-            None => None,
-        };
-        let is_empty = list.is_empty();
-        let params = params_text(self.alloc, &uri, version, list)?;
-        let is_needed = self.touched.iter().any(|other| other.as_str() == path);
-        published.tell(self.alloc, &uri, params, is_empty, is_needed, out)
-    }
-
-    /// Tells of the project file, if something is wrong with it or was.
-    fn project<S: Source>(
-        &self,
-        board: &Board,
-        files: &mut S,
-        published: &mut Published,
-        out: &mut VecOut,
-    ) -> Result<(), Memory> {
-        let (Some(path), Some(trouble)) = (&board.path, &board.trouble) else {
-            return Ok(());
-        };
-        let text = {
-            let mut overlay = Overlay::new(self.documents, files);
-            overlay.read(self.alloc, path, MOST_BYTES)
-        };
-        let text = text.unwrap_or(Vec::new(self.alloc));
-        let value = trouble_value(self.alloc, self.settings, &text, trouble)?;
-        let mut list = Vec::new(self.alloc);
-        push(&mut list, value)?;
-        self.file(path, list, published, out)
-    }
-}
-
-/// The diagnostics of the file of the unit at a place, and of those after it that have the same file.
-fn list_of(desk: &Desk, place: usize) -> Result<Vec<Value>, Memory> {
-    let mut list = Vec::new(desk.alloc);
-    for (other, first) in desk.work.firsts.iter().enumerate() {
-        if *first == place {
-            desk.push_all(other, &mut list)?;
-        }
-    }
-    Ok(list)
+/// The document and the position that a request asks about.
+fn position_in(params: &Value) -> Option<(&str, Position)> {
+    let uri = text_at(params, &["textDocument", "uri"])?;
+    let line = number_at(params, &["position", "line"])?;
+    let character = number_at(params, &["position", "character"])?;
+    Some((uri, Position { line, character }))
 }
 
 /// The version of a document.

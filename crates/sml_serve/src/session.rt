@@ -95,7 +95,7 @@ fn report<E: Out>(stop: Stop, err: &mut E) -> u8 {
     FAILED
 }
 
-/// Reads messages and answers them. What changed is checked once no other message has begun to come.
+/// Reads messages and answers them.
 fn turns<I: In, S: Source + Folders, O: Out>(
     alloc: Global,
     folder: &str,
@@ -105,43 +105,72 @@ fn turns<I: In, S: Source + Folders, O: Out>(
 ) -> Result<u8, Stop> {
     let mut held = Held::new(alloc)?;
     let mut server = Server::new(alloc, folder)?;
+    turns_of(&mut held, &mut server, input, files, out)
+}
+
+/// Reads messages and answers them, with these bytes and this server.
+fn turns_of<I: In, S: Source + Folders, O: Out>(
+    held: &mut Held,
+    server: &mut Server,
+    input: &mut I,
+    files: &mut S,
+    out: &mut O,
+) -> Result<u8, Stop> {
     for _ in 0..u64::MAX {
-        let frame = next_frame(&mut held, input)?;
-        if let Some(stop) = stop_at(&frame) {
-            return Err(stop);
-        }
-        let mut answers = VecOut::new(alloc);
-        let status = turn(&mut server, &held, frame, files, &mut answers)?;
-        write_all(out, answers.bytes())?;
-        if let Some(status) = status {
+        let frame = next_frame(held, input)?;
+        if let Some(status) = turn(held, server, frame, files, out)? {
             return Ok(status);
         }
     }
     Err(Stop::Ended)
 }
 
-/// Why a session ends at what was read, if it does.
-fn stop_at(frame: &Frame) -> Option<Stop> {
-    match frame {
-        Frame::Ended => Some(Stop::Ended),
-        Frame::CutOff => Some(Stop::CutOff),
-        Frame::Body(_) | Frame::NoLength | Frame::TooLarge => None,
-    }
-}
-
-/// Takes a frame. What changed is checked if nothing more was read.
-fn turn<S: Source + Folders>(
-    server: &mut Server,
+/// Takes a frame. What changed is checked once no other message has begun to come.
+fn turn<S: Source + Folders, O: Out>(
     held: &Held,
+    server: &mut Server,
     frame: Frame,
     files: &mut S,
-    answers: &mut VecOut,
-) -> Result<Option<u8>, Memory> {
-    let status = server.take(frame, files, answers)?;
+    out: &mut O,
+) -> Result<Option<u8>, Stop> {
+    match frame {
+        Frame::Ended => return Err(Stop::Ended),
+        Frame::CutOff => return Err(Stop::CutOff),
+        Frame::Body(_) | Frame::NoLength | Frame::TooLarge => {}
+    }
+    let status = take(server, frame, files, out)?;
     if status.is_none() && !held.has_more() {
-        server.settle(files, answers)?;
+        check(server, files, out)?;
     }
     Ok(status)
+}
+
+/// Takes a frame, and writes what is answered to it.
+fn take<S: Source + Folders, O: Out>(
+    server: &mut Server,
+    frame: Frame,
+    files: &mut S,
+    out: &mut O,
+) -> Result<Option<u8>, Stop> {
+    let mut answers = VecOut::new(server.alloc);
+    let status = server.take(frame, files, &mut answers)?;
+    write_all(out, answers.bytes())?;
+    Ok(status)
+}
+
+/// Checks what changed. What the client is told first is written before the rest is checked.
+fn check<S: Source + Folders, O: Out>(
+    server: &mut Server,
+    files: &mut S,
+    out: &mut O,
+) -> Result<(), Stop> {
+    let mut first = VecOut::new(server.alloc);
+    server.begin(files, &mut first)?;
+    write_all(out, first.bytes())?;
+    let mut rest = VecOut::new(server.alloc);
+    server.settle(files, &mut rest)?;
+    write_all(out, rest.bytes())?;
+    Ok(())
 }
 
 /// What is said where a session ends early.

@@ -2,7 +2,7 @@
 
 use crate::paths::{joined, path_of};
 use crate::positions::Encoding;
-use crate::values::{Object, is_true_at, list_at, text_at};
+use crate::values::{is_true_at, list_at, text_at};
 use serde_json::Value;
 use sml_lex::fault::Memory;
 use std::alloc::Global;
@@ -118,45 +118,13 @@ fn pages_of(alloc: Global, params: &Value) -> Result<Option<String>, Memory> {
     }
 }
 
-/// The name of an encoding.
-fn encoding_name(encoding: Encoding) -> &'static [u8] {
-    match encoding {
-        Encoding::Utf8 => b"utf-8",
-        Encoding::Utf16 => b"utf-16",
+/// What is answered to `initialize`: what the server can do, and its name. Documents are told of when they are opened,
+/// closed and saved, and whole after a change.
+pub fn welcome(settings: &Settings) -> &'static [u8] {
+    match settings.encoding {
+        Encoding::Utf8 =>
+            b"{\"capabilities\":{\"positionEncoding\":\"utf-8\",\"textDocumentSync\":{\"openClose\":true,\"change\":1,\"save\":true},\"hoverProvider\":true,\"documentSymbolProvider\":true},\"serverInfo\":{\"name\":\"smlserve\",\"version\":\"1\"}}",
+        Encoding::Utf16 =>
+            b"{\"capabilities\":{\"positionEncoding\":\"utf-16\",\"textDocumentSync\":{\"openClose\":true,\"change\":1,\"save\":true},\"hoverProvider\":true,\"documentSymbolProvider\":true},\"serverInfo\":{\"name\":\"smlserve\",\"version\":\"1\"}}",
     }
-}
-
-/// How documents are told of: when they are opened and closed, their whole text after a change, and when they are saved.
-fn sync_value(alloc: Global) -> Result<Value, Memory> {
-    let mut sync = Object::new(alloc);
-    sync.put_flag("openClose", true)?;
-    sync.put_number("change", 1)?;
-    sync.put_flag("save", true)?;
-    Ok(sync.into_value())
-}
-
-/// What the server can do.
-fn capabilities(alloc: Global, settings: &Settings) -> Result<Value, Memory> {
-    let mut object = Object::new(alloc);
-    object.put_text("positionEncoding", encoding_name(settings.encoding))?;
-    object.put("textDocumentSync", sync_value(alloc)?)?;
-    object.put_flag("hoverProvider", true)?;
-    object.put_flag("documentSymbolProvider", true)?;
-    Ok(object.into_value())
-}
-
-/// The name of the server.
-fn info_value(alloc: Global) -> Result<Value, Memory> {
-    let mut object = Object::new(alloc);
-    object.put_text("name", b"smlserve")?;
-    object.put_text("version", b"1")?;
-    Ok(object.into_value())
-}
-
-/// What is answered to `initialize`.
-pub fn welcome(alloc: Global, settings: &Settings) -> Result<Value, Memory> {
-    let mut object = Object::new(alloc);
-    object.put("capabilities", capabilities(alloc, settings)?)?;
-    object.put("serverInfo", info_value(alloc)?)?;
-    Ok(object.into_value())
 }

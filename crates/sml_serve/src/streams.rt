@@ -1,18 +1,23 @@
 //! Where the bytes of messages come from.
 
-ghost use Rattle.std.specs.Prelude.{◌≤◌, IfOk, length};
+ghost use Rattle.std.specs.Prelude.{◌≤◌, ℕ, IfOk, List, Option, length};
+ghost use Rattle.std.specs.Io.KnownBytes.{ReadConsumes};
 
 use std::io::Read;
 
 /// A read that failed.
-#[derive(Clone, Copy, PartialEq, Eq, Debug)]
+#[derive(Clone, Copy)]
 pub struct InFault;
 
 /// A source of bytes.
 pub trait In {
+    // The bytes that reads will give from here on, where they are known.
+    ghost remaining: { Self → Option (List ℕ) };
+
     /// Puts some bytes into the front of the buffer, and says how many. There are none at the end of the source.
     fn read(&mut self, buffer: &mut [u8]) -> Result<usize, InFault>
-        ensures bound { IfOk result (λ n. n ≤ length buffer.old) };
+        ensures bound { IfOk result (λ n. n ≤ length buffer.new) }
+        ensures bytes { ReadConsumes (remaining self.old) (remaining self.new) result buffer.new };
 }
 
 /// A source that takes its bytes from a reader.
@@ -28,6 +33,8 @@ impl<R: Read> StdIn<R> {
 }
 
 impl<R: Read> In for StdIn<R> {
+    ghost remaining = { λ s. R.remaining s.reader };
+
     fn read(&mut self, buffer: &mut [u8]) -> Result<usize, InFault> {
         match self.reader.read(buffer) {
             Ok(count) => Ok(count),

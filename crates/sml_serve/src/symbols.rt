@@ -2,9 +2,8 @@
 
 use crate::findings::{Answered, Chart};
 use crate::outline::{accepted, bound_text, first_from};
-use crate::positions::{Lines, Range, range_value};
-use crate::values::Object;
-use serde_json::{Value, push};
+use crate::positions::{Lines, Range, push_range};
+use crate::values::{push_all, push_string};
 use sml_lex::fault::Memory;
 use sml_lex::token::{Kind, Span, Token};
 use sml_shown::remark::{after, cut};
@@ -13,21 +12,21 @@ use std::alloc::Global;
 use std::collections::BTreeMap;
 
 /// The kinds of symbols.
-const MODULE: u64 = 2;
+const MODULE: &[u8] = b"2";
 
-const ENUM: u64 = 10;
+const ENUM: &[u8] = b"10";
 
-const INTERFACE: u64 = 11;
+const INTERFACE: &[u8] = b"11";
 
-const FUNCTION: u64 = 12;
+const FUNCTION: &[u8] = b"12";
 
-const VARIABLE: u64 = 13;
+const VARIABLE: &[u8] = b"13";
 
-const ENUM_MEMBER: u64 = 22;
+const ENUM_MEMBER: &[u8] = b"22";
 
-const STRUCT: u64 = 23;
+const STRUCT: &[u8] = b"23";
 
-const EVENT: u64 = 24;
+const EVENT: &[u8] = b"24";
 
 /// How deep symbols are nested at most. Below, they are listed by longer names.
 const MOST_OPEN: usize = 16;
@@ -36,18 +35,17 @@ const MOST_OPEN: usize = 16;
 /// in it.
 #[derive(Clone, Copy)]
 struct Entry<'a> {
-    kind: u64,
+    kind: &'static [u8],
     path: &'a [u8],
     detail: &'a [u8],
     is_open: bool,
 }
 
-/// A symbol in which others may stand.
-#[derive(Drop)]
+/// A symbol that stands open: its path, and whether another one stands in it.
+#[derive(Clone, Copy)]
 struct Node<'a> {
     path: &'a [u8],
-    object: Object,
-    children: Vec<Value>,
+    is_parent: bool,
 }
 
 /// Where an identifier stands, and whether a word before it says that it is bound there.
@@ -67,12 +65,11 @@ struct Site<'a> {
     names: BTreeMap<Vec<u8>, Named>,
 }
 
-/// The symbols that stand open, and those that are done.
+/// The symbols that stand open, and the list of all, to which more are added.
 #[derive(Drop)]
-struct Nest<'a> {
-    alloc: Global,
+struct Nest<'a, 'b> {
     open: Vec<Node<'a>>,
-    done: Vec<Value>,
+    text: &'b mut Vec<u8>,
 }
 
 /// The type after the parameters that stand before it.
@@ -89,7 +86,7 @@ fn after_parameters(rest: &[u8]) -> &[u8] {
 }
 
 /// A path and what stands after it and after a sign with spaces around it.
-fn make_entry<'a>(kind: u64, rest: &'a [u8], is_open: bool) -> Entry<'a> {
+fn make_entry<'a>(kind: &'static [u8], rest: &'a [u8], is_open: bool) -> Entry<'a> {
     let (path, others) = match cut(rest, b' ') {
         Some((path, others)) => (path, others),
         None => (rest, &rest[rest.len()..]),
@@ -232,11 +229,6 @@ fn below<'a>(path: &'a [u8], above: &[u8]) -> Option<&'a [u8]> {
 }
 
 impl Site<'_> {
-    /// The range of the declaration.
-    fn range(&self) -> Range {
-        self.lines.range(self.extent.start, self.extent.end)
-    }
-
     /// The range of the identifier of a path, or of the declaration's beginning where it doesn't stand there.
     fn name_range(&self, path: &[u8]) -> Range {
         match self.names.get(last_part(path)) {
@@ -245,67 +237,78 @@ impl Site<'_> {
         }
     }
 
-    /// A symbol by this name.
-    fn symbol(&self, entry: &Entry, name: &[u8]) -> Result<Object, Memory> {
-        let mut object = Object::new(self.alloc);
-        object.put_text("name", name)?;
-        object.put_number("kind", entry.kind)?;
+    /// Adds a symbol by this name, without its end.
+    fn push_nested(&self, text: &mut Vec<u8>, entry: &Entry, name: &[u8]) -> Result<(), Memory> {
+        push_named(self.alloc, text, entry, name)?;
         if !entry.detail.is_empty() {
-            object.put_text("detail", entry.detail)?;
+            text.extend_from_slice(b",\"detail\":")?;
+            push_string(self.alloc, text, entry.detail)?;
         }
-        object.put("range", range_value(self.alloc, self.range())?)?;
-        let named = self.name_range(entry.path);
-        object.put("selectionRange", range_value(self.alloc, named)?)?;
-        Ok(object)
+        text.push(b',')?;
+        let whole = self.lines.range(self.extent.start, self.extent.end);
+        push_range(text, b"range", whole)?;
+        text.push(b',')?;
+        push_range(text, b"selectionRange", self.name_range(entry.path))
     }
 
-    /// A symbol of a list that isn't nested.
-    fn flat_symbol(&self, entry: &Entry) -> Result<Value, Memory> {
+    /// Adds a symbol of a list that isn't nested.
+    fn push_flat(&self, text: &mut Vec<u8>, entry: &Entry) -> Result<(), Memory> {
         let name = last_part(entry.path);
-        let mut location = Object::new(self.alloc);
-        location.put_text("uri", self.uri.as_bytes())?;
-        let named = self.name_range(entry.path);
-        location.put("range", range_value(self.alloc, named)?)?;
-        let mut object = Object::new(self.alloc);
-        object.put_text("name", name)?;
-        object.put_number("kind", entry.kind)?;
-        object.put("location", location.into_value())?;
+        push_named(self.alloc, text, entry, name)?;
+        text.extend_from_slice(b",\"location\":{\"uri\":")?;
+        push_string(self.alloc, text, self.uri.as_bytes())?;
+        text.push(b',')?;
+        push_range(text, b"range", self.name_range(entry.path))?;
+        text.push(b'}')?;
         let size = entry.path.len().saturating_sub(name.len());
         let holder = entry.path.get(..size.saturating_sub(1)).unwrap_or(&[]);
         if !holder.is_empty() {
-            object.put_text("containerName", holder)?;
+            text.extend_from_slice(b",\"containerName\":")?;
+            push_string(self.alloc, text, holder)?;
         }
-        Ok(object.into_value())
+        text.push(b'}')?;
+        Ok(())
     }
 }
 
-impl<'a> Node<'a> {
-    /// The symbol with those in it.
-    fn into_value(self) -> Result<Value, Memory> {
-        let Node {
-            path: _,
-            mut object,
-            children,
-        } = self;
-        if !children.is_empty() {
-            object.put("children", Value::Array(children))?;
-        }
-        Ok(object.into_value())
-    }
+/// Adds the beginning of a symbol: its name and its kind.
+fn push_named(alloc: Global, text: &mut Vec<u8>, entry: &Entry, name: &[u8]) -> Result<(), Memory> {
+    text.extend_from_slice(b"{\"name\":")?;
+    push_string(alloc, text, name)?;
+    push_all(text, &[b",\"kind\":", entry.kind])
 }
 
-impl<'a> Nest<'a> {
-    /// Puts a symbol into the innermost one that stands open.
-    fn attach(&mut self, value: Value) -> Result<(), Memory> {
-        match self.open.last_mut() {
-            Some(node) => push(&mut node.children, value)?,
-            None => push(&mut self.done, value)?,
+/// Adds a comma, unless a list begins here.
+fn separate(text: &mut Vec<u8>) -> Result<(), Memory> {
+    if text.last() != Some(&b'[') {
+        text.push(b',')?;
+    }
+    Ok(())
+}
+
+impl<'a> Nest<'a, '_> {
+    /// Begins a symbol in the innermost one that stands open.
+    fn begin(&mut self) -> Result<(), Memory> {
+        if let Some(node) = self.open.last_mut() {
+            if !node.is_parent {
+                node.is_parent = true;
+                self.text.extend_from_slice(b",\"children\":[")?;
+            }
+        }
+        separate(self.text)
+    }
+
+    /// Closes the innermost symbol that stands open.
+    fn close(&mut self) -> Result<(), Memory> {
+        if let Some(node) = self.open.pop() {
+            let end: &[u8] = if node.is_parent { b"]}" } else { b"}" };
+            self.text.extend_from_slice(end)?;
         }
         Ok(())
     }
 
     /// The path below the innermost open symbol; the whole path where none stands open.
-    fn inner<'b>(&self, path: &'b [u8]) -> Option<&'b [u8]> {
+    fn inner<'c>(&self, path: &'c [u8]) -> Option<&'c [u8]> {
         match self.open.last() {
             Some(node) => below(path, node.path),
             None => Some(path),
@@ -313,15 +316,12 @@ impl<'a> Nest<'a> {
     }
 
     /// Closes symbols until this path lies below the innermost open one, and gives what is left of the path there.
-    fn close_to<'b>(&mut self, path: &'b [u8]) -> Result<&'b [u8], Memory> {
+    fn close_to<'c>(&mut self, path: &'c [u8]) -> Result<&'c [u8], Memory> {
         for _turn in 0..=MOST_OPEN {
             if let Some(inner) = self.inner(path) {
                 return Ok(inner);
             }
-            if let Some(node) = self.open.pop() {
-                let value = node.into_value()?;
-                self.attach(value)?;
-            }
+            self.close()?;
         }
         Ok(path)
     }
@@ -329,32 +329,25 @@ impl<'a> Nest<'a> {
     /// Adds what a line says.
     fn take(&mut self, site: &Site, entry: Entry<'a>) -> Result<(), Memory> {
         let name = self.close_to(entry.path)?;
-        let object = site.symbol(&entry, name)?;
+        self.begin()?;
+        site.push_nested(self.text, &entry, name)?;
         if entry.is_open && self.open.len() < MOST_OPEN {
             self.open.push(Node {
                 path: entry.path,
-                object,
-                children: Vec::new(self.alloc),
+                is_parent: false,
             })?;
-            return Ok(());
+        } else {
+            self.text.push(b'}')?;
         }
-        self.attach(object.into_value())
+        Ok(())
     }
 
     /// Closes all symbols.
-    fn finish(mut self) -> Result<Vec<Value>, Memory> {
+    fn finish(&mut self) -> Result<(), Memory> {
         for _turn in 0..=MOST_OPEN {
-            if let Some(node) = self.open.pop() {
-                let value = node.into_value()?;
-                self.attach(value)?;
-            }
+            self.close()?;
         }
-        let Nest {
-            alloc: _,
-            open: _,
-            done,
-        } = self;
-        Ok(done)
+        Ok(())
     }
 }
 
@@ -374,80 +367,89 @@ fn entries<'a>(alloc: Global, text: &'a [u8]) -> Result<Vec<Entry<'a>>, Memory> 
     Ok(found)
 }
 
-/// The nested symbols of a declaration that binds this.
-fn nested(site: &Site, text: &[u8]) -> Result<Vec<Value>, Memory> {
+/// Adds the nested symbols of a declaration that binds these.
+fn push_all_nested(site: &Site, entries: &[Entry], text: &mut Vec<u8>) -> Result<(), Memory> {
     let mut nest = Nest {
-        alloc: site.alloc,
         open: Vec::new(site.alloc),
-        done: Vec::new(site.alloc),
+        text,
     };
-    let entries = entries(site.alloc, text)?;
-    for entry in entries.as_slice() {
+    for entry in entries {
         nest.take(site, *entry)?;
     }
     nest.finish()
 }
 
-/// The symbols of a declaration that binds this, one after the other.
-fn flat(site: &Site, text: &[u8]) -> Result<Vec<Value>, Memory> {
-    let mut found = Vec::new(site.alloc);
-    let entries = entries(site.alloc, text)?;
-    for entry in entries.as_slice() {
-        let symbol = site.flat_symbol(entry)?;
-        push(&mut found, symbol)?;
+/// Adds the symbols of a declaration that binds these, one after the other.
+fn push_all_flat(site: &Site, entries: &[Entry], text: &mut Vec<u8>) -> Result<(), Memory> {
+    for entry in entries {
+        separate(text)?;
+        site.push_flat(text, entry)?;
     }
-    Ok(found)
+    Ok(())
 }
 
-/// The symbols of a document with this address.
+/// The symbols of a document with this address, as JSON.
 pub fn symbols(
     alloc: Global,
     answered: Answered,
     uri: &str,
     is_nested: bool,
-) -> Result<Value, Memory> {
+) -> Result<Vec<u8>, Memory> {
     let map = UnitMap::new(alloc, &answered.unit.text)?;
     let lines = Lines::new(alloc, &answered.unit.text, answered.encoding)?;
     let chart = Chart {
+        alloc,
         map: &map,
         lines: &lines,
     };
-    let mut list = Vec::new(alloc);
-    for index in 0..answered.replies().len() {
-        let number = index.saturating_add(1);
-        let found = symbols_at(alloc, answered, &chart, number, uri, is_nested)?;
-        for symbol in found {
-            push(&mut list, symbol)?;
-        }
-    }
-    Ok(Value::Array(list))
+    let mut text = Vec::from_slice(alloc, b"[")?;
+    push_declarations(answered, &chart, uri, is_nested, &mut text)?;
+    text.push(b']')?;
+    Ok(text)
 }
 
-/// The symbols of the declaration of this number.
-fn symbols_at(
-    alloc: Global,
+/// Adds the symbols of all declarations.
+fn push_declarations<'a>(
     answered: Answered,
-    chart: &Chart,
-    number: usize,
-    uri: &str,
+    chart: &Chart<'a>,
+    uri: &'a str,
     is_nested: bool,
-) -> Result<Vec<Value>, Memory> {
-    let Some(reply) = accepted(&answered, number) else {
-        return Ok(Vec::new(alloc));
-    };
-    let text = bound_text(alloc, reply)?;
-    let extent = chart.extent(number, answered.replies().len());
+    text: &mut Vec<u8>,
+) -> Result<(), Memory> {
+    let count = answered.replies().len();
+    for number in 1..=count {
+        if let Some(reply) = accepted(answered, number) {
+            let bound = bound_text(chart.alloc, reply)?;
+            let site = site_of(chart, uri, chart.extent(number, count))?;
+            push_symbols(&site, &bound, is_nested, text)?;
+        }
+    }
+    Ok(())
+}
+
+/// A declaration in a document with this address.
+fn site_of<'a>(chart: &Chart<'a>, uri: &'a str, extent: Span) -> Result<Site<'a>, Memory> {
     let lexed = &chart.map.lexed;
-    let site = Site {
-        alloc,
+    Ok(Site {
+        alloc: chart.alloc,
         uri,
         lines: chart.lines,
         extent,
-        names: names_in(alloc, lexed.unit, &lexed.tokens, extent)?,
-    };
+        names: names_in(chart.alloc, lexed.unit, &lexed.tokens, extent)?,
+    })
+}
+
+/// Adds the symbols of a declaration that binds this.
+fn push_symbols(
+    site: &Site,
+    bound: &[u8],
+    is_nested: bool,
+    text: &mut Vec<u8>,
+) -> Result<(), Memory> {
+    let entries = entries(site.alloc, bound)?;
     if is_nested {
-        nested(&site, &text)
+        push_all_nested(site, &entries, text)
     } else {
-        flat(&site, &text)
+        push_all_flat(site, &entries, text)
     }
 }

@@ -1,6 +1,7 @@
-//! Members of JSON values, and objects that are built.
+//! Members of JSON values, and JSON that is written.
 
-use serde_json::{Map, Value, put};
+use itoa::Buffer;
+use serde_json::Value;
 use sml_lex::fault::Memory;
 use std::alloc::Global;
 
@@ -43,50 +44,24 @@ pub fn is_true_at(value: &Value, names: &[&str]) -> bool {
     }
 }
 
-/// A string of JSON; what is no UTF-8 is replaced.
-pub fn string(alloc: Global, bytes: &[u8]) -> Result<Value, Memory> {
-    Ok(Value::String(String::from_utf8_lossy(alloc, bytes)?))
+/// Adds texts, one after the other.
+pub fn push_all(text: &mut Vec<u8>, parts: &[&[u8]]) -> Result<(), Memory> {
+    for part in parts {
+        text.extend_from_slice(*part)?;
+    }
+    Ok(())
 }
 
-/// An object of JSON that is built.
-#[derive(Drop)]
-pub struct Object {
-    alloc: Global,
-    members: Map<String, Value>,
+/// Adds the digits of a number.
+pub fn push_number(text: &mut Vec<u8>, number: u64) -> Result<(), Memory> {
+    let mut digits = Buffer::new();
+    text.extend_from_slice(digits.format(number).as_bytes())?;
+    Ok(())
 }
 
-impl Object {
-    pub fn new(alloc: Global) -> Object {
-        Object {
-            alloc,
-            members: Map::new(alloc),
-        }
-    }
-
-    /// Adds a value.
-    pub fn put(&mut self, name: &str, value: Value) -> Result<(), Memory> {
-        Ok(put(&mut self.members, self.alloc, name, value)?)
-    }
-
-    /// Adds a text.
-    pub fn put_text(&mut self, name: &str, bytes: &[u8]) -> Result<(), Memory> {
-        let value = string(self.alloc, bytes)?;
-        self.put(name, value)
-    }
-
-    /// Adds a number.
-    pub fn put_number(&mut self, name: &str, number: u64) -> Result<(), Memory> {
-        self.put(name, number.into())
-    }
-
-    /// Adds `true` or `false`.
-    pub fn put_flag(&mut self, name: &str, flag: bool) -> Result<(), Memory> {
-        self.put(name, Value::Bool(flag))
-    }
-
-    /// The object.
-    pub fn into_value(self) -> Value {
-        let Object { alloc: _, members } = self;
-        Value::Object(members)
-    }
+/// Adds a string of JSON; what is no UTF-8 is replaced.
+pub fn push_string(alloc: Global, text: &mut Vec<u8>, bytes: &[u8]) -> Result<(), Memory> {
+    let value = Value::String(String::from_utf8_lossy(alloc, bytes)?);
+    text.extend_from_slice(&value.to_vec(alloc)?)?;
+    Ok(())
 }

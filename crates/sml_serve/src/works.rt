@@ -7,7 +7,7 @@ use sml_objects::objects::UnitId;
 use sml_projects::project::{Project, ProjectUnit};
 use sml_show::files::Listed;
 use sml_units::project::{Checked, check};
-use sml_units::recheck::recheck;
+use sml_units::recheck::Recheck;
 use std::alloc::Global;
 use std::collections::BTreeMap;
 use std::mem::replace;
@@ -19,62 +19,55 @@ pub struct Work {
     pub paths: Vec<String>,
     /// Of each unit the first one that has the same file.
     pub firsts: Vec<usize>,
-    pub checked: Checked,
     pub findings: Vec<Findings>,
-    /// Whether a text changed since the check.
+    checked: Checked,
+    /// The check after what changed, as long as it isn't done.
+    again: Option<Recheck>,
+    /// Whether something changed since the check.
     is_old: bool,
 }
 
-/// A project of one unit, with the text of a document.
-pub fn single(alloc: Global, text: &[u8]) -> Result<Listed, Memory> {
-    let unit = ProjectUnit {
+/// A project of one unit, a document with this path and this text.
+pub fn single(alloc: Global, path: &str, text: &[u8]) -> Result<Work, Memory> {
+    let mut work = Work::new(alloc)?;
+    let mut listed = empty(alloc);
+    listed.project.units.push(only_unit(alloc, text)?)?;
+    let mut paths = Vec::new(alloc);
+    paths.push(String::from_str(alloc, path)?)?;
+    work.list(alloc, listed, paths)?;
+    Ok(work)
+}
+
+/// The unit of a document with this text.
+fn only_unit(alloc: Global, text: &[u8]) -> Result<ProjectUnit, Memory> {
+    Ok(ProjectUnit {
         id: UnitId { index: 0 },
         name: String::from_str(alloc, "unit")?,
         text: Vec::from_slice(alloc, text)?,
         needs: Vec::new(alloc),
-    };
-    let mut units = Vec::new(alloc);
-    units.push(unit)?;
-    Ok(Listed {
-        project: Project { units },
-        files: Vec::new(alloc),
     })
 }
 
-/// Checks a project for the first time.
-pub fn begun(
-    alloc: Global,
-    listed: Listed,
-    paths: Vec<String>,
-    encoding: Encoding,
-) -> Result<Work, Memory> {
-    let checked = check(alloc, &listed.project)?;
-    let mut findings = Vec::new(alloc);
-    for place in 0..listed.project.units.len() {
-        findings.push(found_at(alloc, &listed, &checked, place, encoding)?)?;
+/// A project without units.
+fn empty(alloc: Global) -> Listed {
+    Listed {
+        project: Project {
+            units: Vec::new(alloc),
+        },
+        files: Vec::new(alloc),
     }
-    Ok(Work {
-        firsts: firsts_of(alloc, &paths)?,
-        listed,
-        paths,
-        checked,
-        findings,
-        is_old: false,
-    })
 }
 
 /// Of each path the place of the first one that is the same.
 fn firsts_of(alloc: Global, paths: &[String]) -> Result<Vec<usize>, Memory> {
-    let mut known: BTreeMap<String, usize> = BTreeMap::new(alloc);
+    let mut known: BTreeMap<&str, usize> = BTreeMap::new(alloc);
     let mut firsts = Vec::new(alloc);
     for (place, path) in paths.iter().enumerate() {
-        let first = match known.get(path) {
+        let first = match known.get(path.as_str()) {
             Some(first) => *first,
             None => place,
         };
-        if first == place {
-            known.insert(path.clone()?, place)?;
-        }
+        known.insert(path.as_str(), first)?;
         firsts.push(first)?;
     }
     Ok(firsts)
@@ -102,77 +95,44 @@ fn found_at(
     }
 }
 
-/// Checks a project after another one, of which it keeps what it can.
-pub fn followed(
-    alloc: Global,
-    old: Work,
-    listed: Listed,
-    paths: Vec<String>,
-    encoding: Encoding,
-) -> Result<Work, Memory> {
-    let checked = recheck(alloc, &old.checked, &listed.project)?;
-    let Work {
-        listed: before,
-        paths: _,
-        firsts: _,
-        checked: _,
-        findings: mut found,
-        is_old: _,
-    } = old;
-    let findings = kept_findings(alloc, &before, &mut found, &listed, &checked, encoding)?;
-    Ok(Work {
-        firsts: firsts_of(alloc, &paths)?,
-        listed,
-        paths,
-        checked,
-        findings,
-        is_old: false,
-    })
-}
-
-/// What is found in the units: what was found before in those that were kept.
-fn kept_findings(
+/// What was found in units of the same names, as far as there were such.
+fn moved(
     alloc: Global,
     before: &Listed,
-    found: &mut Vec<Findings>,
+    found: &mut [Findings],
     listed: &Listed,
-    checked: &Checked,
-    encoding: Encoding,
 ) -> Result<Vec<Findings>, Memory> {
     let mut findings = Vec::new(alloc);
     for (place, unit) in listed.project.units.iter().enumerate() {
-        let own = match kept_place(before, checked, place, unit) {
-            Some(old) => taken(alloc, found, old),
-            None => found_at(alloc, listed, checked, place, encoding)?,
-        };
-        findings.push(own)?;
+        let old = old_place(&before.project.units, place, &unit.name);
+        findings.push(taken(alloc, found, old))?;
     }
     Ok(findings)
 }
 
-/// The place that a kept unit had before.
-fn kept_place(
-    before: &Listed,
-    checked: &Checked,
-    place: usize,
-    unit: &ProjectUnit,
-) -> Option<usize> {
-    if checked.kept().get(place) != Some(&true) {
-        return None;
+/// The place that the unit of a name had before, where it has this place now; a greater one than any where there was none.
+fn old_place(units: &[ProjectUnit], place: usize, name: &str) -> usize {
+    if is_named(units.get(place), name) {
+        return place;
     }
-    let units = before.project.units.as_slice();
-    if let Some(same) = units.get(place) {
-        if same.name.as_str() == unit.name.as_str() {
-            return Some(place);
+    for (other, unit) in units.iter().enumerate() {
+        if unit.name.as_str() == name {
+            return other;
         }
     }
-    units
-        .iter()
-        .position(|other| other.name.as_str() == unit.name.as_str())
+    units.len()
+}
+
+/// Whether there is a unit, and has this name.
+fn is_named(unit: Option<&ProjectUnit>, name: &str) -> bool {
+    match unit {
+        Some(unit) => unit.name.as_str() == name,
+        None => false,
+    }
 }
 
 /// What was found at a place, in whose stead nothing is left.
-fn taken(alloc: Global, found: &mut Vec<Findings>, place: usize) -> Findings {
+fn taken(alloc: Global, found: &mut [Findings], place: usize) -> Findings {
     if place < found.len() {
         replace(&mut found[place], Findings::new(alloc))
     } else {
@@ -181,53 +141,102 @@ fn taken(alloc: Global, found: &mut Vec<Findings>, place: usize) -> Findings {
 }
 
 impl Work {
+    /// A project without units.
+    pub fn new(alloc: Global) -> Result<Work, Memory> {
+        let listed = empty(alloc);
+        Ok(Work {
+            checked: check(alloc, &listed.project)?,
+            listed,
+            paths: Vec::new(alloc),
+            firsts: Vec::new(alloc),
+            findings: Vec::new(alloc),
+            again: None,
+            is_old: false,
+        })
+    }
+
+    /// Puts another project, with these paths, in place of the one that was checked, of which is kept what can be.
+    pub fn list(
+        &mut self,
+        alloc: Global,
+        listed: Listed,
+        paths: Vec<String>,
+    ) -> Result<(), Memory> {
+        self.firsts = firsts_of(alloc, &paths)?;
+        self.findings = moved(alloc, &self.listed, &mut self.findings, &listed)?;
+        self.listed = listed;
+        self.paths = paths;
+        self.change();
+        Ok(())
+    }
+
+    /// Notes that something changed.
+    fn change(&mut self) {
+        self.again = None;
+        self.is_old = true;
+    }
+
     /// The place of the first unit whose file has this path.
     pub fn place_of(&self, path: &str) -> Option<usize> {
-        self.paths.iter().position(|other| other.as_str() == path)
+        for (place, other) in self.paths.iter().enumerate() {
+            if other.as_str() == path {
+                return Some(place);
+            }
+        }
+        None
+    }
+
+    /// How many units there are up to the last one with the file of the unit at a place.
+    pub fn end_of(&self, place: usize) -> usize {
+        let mut end = 0;
+        for (other, first) in self.firsts.iter().enumerate() {
+            if *first == place {
+                end = other.saturating_add(1);
+            }
+        }
+        end
     }
 
     /// Gives the units whose file has this path another text.
     pub fn set_text(&mut self, alloc: Global, path: &str, text: &[u8]) -> Result<(), Memory> {
-        for place in 0..self.paths.len() {
-            if self.is_at(place, path) {
-                self.put_text(alloc, place, text)?;
-            }
+        if set_texts(alloc, &mut self.listed, &self.paths, path, text)? {
+            self.change();
         }
         Ok(())
     }
 
-    /// Whether the file of the unit at a place has this path.
-    fn is_at(&self, place: usize, path: &str) -> bool {
-        match self.paths.get(place) {
-            Some(other) => other.as_str() == path,
-            None => false,
+    /// Checks up to so many units again, if something changed.
+    pub fn renew_to(
+        &mut self,
+        alloc: Global,
+        encoding: Encoding,
+        count: usize,
+    ) -> Result<(), Memory> {
+        if self.is_old && self.again.is_none() {
+            let again = Recheck::new(alloc, &self.checked, &self.listed.project)?;
+            self.again = Some(again);
+        }
+        match &mut self.again {
+            Some(again) => go_on(
+                alloc,
+                again,
+                &self.checked,
+                &self.listed,
+                &mut self.findings,
+                count,
+                encoding,
+            ),
+            None => Ok(()),
         }
     }
 
-    /// Gives the unit at a place another text.
-    fn put_text(&mut self, alloc: Global, place: usize, text: &[u8]) -> Result<(), Memory> {
-        let units = &mut self.listed.project.units;
-        if place < units.len() && units[place].text.as_slice() != text {
-            let copy = Vec::from_slice(alloc, text)?;
-            units[place].text = copy;
-            self.is_old = true;
-        }
-        Ok(())
-    }
-
-    /// Checks the project again, if a text changed.
+    /// Checks the project again, if something changed.
     pub fn renew(&mut self, alloc: Global, encoding: Encoding) -> Result<(), Memory> {
-        if !self.is_old {
-            return Ok(());
+        let count = self.listed.project.units.len();
+        self.renew_to(alloc, encoding, count)?;
+        if let Some(again) = self.again.take() {
+            self.checked = again.into_checked();
         }
-        let checked = recheck(alloc, &self.checked, &self.listed.project)?;
-        for (place, is_kept) in checked.kept().iter().enumerate() {
-            if !*is_kept && place < self.findings.len() {
-                let own = found_at(alloc, &self.listed, &checked, place, encoding)?;
-                self.findings[place] = own;
-            }
-        }
-        self.checked = checked;
         self.is_old = false;
         Ok(())
     }
@@ -242,4 +251,43 @@ impl Work {
             encoding,
         })
     }
+}
+
+/// Goes on with a check up to so many units, and finds what there is in those that aren't kept.
+fn go_on(
+    alloc: Global,
+    again: &mut Recheck,
+    old: &Checked,
+    listed: &Listed,
+    findings: &mut [Findings],
+    count: usize,
+    encoding: Encoding,
+) -> Result<(), Memory> {
+    let from = again.done();
+    again.go_on(alloc, old, &listed.project, count)?;
+    let checked = again.checked();
+    for place in from..again.done() {
+        if checked.kept().get(place) == Some(&false) && place < findings.len() {
+            findings[place] = found_at(alloc, listed, checked, place, encoding)?;
+        }
+    }
+    Ok(())
+}
+
+/// Gives the units whose file has this path another text, and says whether one changed.
+fn set_texts(
+    alloc: Global,
+    listed: &mut Listed,
+    paths: &[String],
+    path: &str,
+    text: &[u8],
+) -> Result<bool, Memory> {
+    let mut is_any = false;
+    for (unit, other) in listed.project.units.iter_mut().zip(paths) {
+        if other.as_str() == path && unit.text.as_slice() != text {
+            unit.text = Vec::from_slice(alloc, text)?;
+            is_any = true;
+        }
+    }
+    Ok(is_any)
 }

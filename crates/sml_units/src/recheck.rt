@@ -17,28 +17,20 @@ use std::rc::Rc;
 /// What `check` gives for the project. A unit is kept if the old project has one of that name with the same text and
 /// needs, and each need exports the same in both: then its replies and exports are the old ones, and it isn't read.
 pub fn recheck(alloc: Global, old: &Checked, project: &Project) -> Result<Checked, Memory> {
-    let initial = Rc::new(alloc, initial(alloc)?)?;
-    let befores = befores_of(alloc, old, project)?;
-    let mut moves = moves_between(alloc, old, project, &befores)?;
-    let mut again = Again::new(alloc);
-    for (place, unit) in project.units.as_slice().iter().enumerate() {
-        let before = before_of(old, &befores, place);
-        again.take(alloc, &initial, before, &befores, &mut moves, unit)?;
-    }
-    let Again {
-        units,
-        exports,
-        kept,
-        readings,
-        ..
-    } = again;
-    Ok(Checked {
-        replies: Replies { units },
-        sources: sources_of(alloc, project)?,
-        exports,
-        kept,
-        readings,
-    })
+    let mut again = Recheck::new(alloc, old, project)?;
+    again.go_on(alloc, old, project, project.units.len())?;
+    Ok(again.into_checked())
+}
+
+/// A project that is checked again, of which the first units are done: what is given of these, whether each exports what it
+/// did, and for each unit the place of that of the same name in the old order.
+#[derive(Drop)]
+pub struct Recheck {
+    initial: Rc<WholeBasis>,
+    befores: Vec<Option<usize>>,
+    moves: Moves,
+    is_unchanged: Vec<bool>,
+    checked: Checked,
 }
 
 /// What the old project has of a unit: its text, the places of its needs in the old order, its replies and exports.
@@ -50,49 +42,79 @@ struct Before<'a> {
     exports: &'a Exports,
 }
 
-/// The units of a project that were checked again so far, and whether each exports what it did.
-#[derive(Drop)]
-struct Again {
-    units: Vec<UnitReplies>,
-    exports: Vec<Exports>,
-    kept: Vec<bool>,
-    is_unchanged: Vec<bool>,
-    readings: u64,
-}
-
-impl Again {
-    fn new(alloc: Global) -> Again {
-        Again {
-            units: Vec::new(alloc),
-            exports: Vec::new(alloc),
-            kept: Vec::new(alloc),
+impl Recheck {
+    /// Begins to check a project again, of which no unit is done.
+    pub fn new(alloc: Global, old: &Checked, project: &Project) -> Result<Recheck, Memory> {
+        let befores = befores_of(alloc, old, project)?;
+        Ok(Recheck {
+            initial: Rc::new(alloc, initial(alloc)?)?,
+            moves: moves_between(alloc, old, project, &befores)?,
+            befores,
             is_unchanged: Vec::new(alloc),
-            readings: 0,
+            checked: Checked {
+                replies: Replies {
+                    units: Vec::new(alloc),
+                },
+                sources: sources_of(alloc, project)?,
+                exports: Vec::new(alloc),
+                kept: Vec::new(alloc),
+                readings: 0,
+            },
+        })
+    }
+
+    /// Goes on up to so many units. The old project and the new one are those that it was begun with.
+    pub fn go_on(
+        &mut self,
+        alloc: Global,
+        old: &Checked,
+        project: &Project,
+        count: usize,
+    ) -> Result<(), Memory> {
+        for place in self.done()..count {
+            if let Some(unit) = project.units.get(place) {
+                let before = before_of(old, &self.befores, place);
+                self.take(alloc, before, unit)?;
+            }
         }
+        Ok(())
+    }
+
+    /// How many units are done.
+    pub fn done(&self) -> usize {
+        self.checked.kept.len()
+    }
+
+    /// What is given of the units that are done.
+    pub fn checked(&self) -> &Checked {
+        &self.checked
+    }
+
+    /// What is given of all units, where all are done.
+    pub fn into_checked(self) -> Checked {
+        let Recheck { checked, .. } = self;
+        checked
     }
 
     /// Keeps the next unit, or reads it.
     fn take(
         &mut self,
         alloc: Global,
-        initial: &Rc<WholeBasis>,
         before: Option<Before<'_>>,
-        befores: &[Option<usize>],
-        moves: &mut Moves,
         unit: &ProjectUnit,
     ) -> Result<(), Memory> {
         let Some(before) = before else {
-            let read = check_unit(alloc, initial, &self.exports, unit)?;
+            let read = check_unit(alloc, &self.initial, &self.checked.exports, unit)?;
             return self.put(unit, read, false, false);
         };
-        if self.is_as_before(before, befores, unit) {
-            let read = kept_read(alloc, before, moves, unit)?;
+        if self.is_as_before(before, unit) {
+            let read = kept_read(alloc, before, &self.moves, unit)?;
             return self.put(unit, read, true, true);
         }
-        let read = check_unit(alloc, initial, &self.exports, unit)?;
+        let read = check_unit(alloc, &self.initial, &self.checked.exports, unit)?;
         let (old, new) = (&before.exports.whole, &read.1.whole);
-        moves.note(alloc, unit.id, &old.names, &new.names)?;
-        let is_unchanged = are_same_exports(alloc, moves, before.exports, &read.1)?;
+        self.moves.note(alloc, unit.id, &old.names, &new.names)?;
+        let is_unchanged = are_same_exports(alloc, &self.moves, before.exports, &read.1)?;
         self.put(unit, read, false, is_unchanged)
     }
 
@@ -105,26 +127,24 @@ impl Again {
     ) -> Result<(), Memory> {
         let (replies, own, count) = read;
         let name = unit.name.clone()?;
-        self.units.push(UnitReplies { name, replies })?;
-        self.exports.push(own)?;
-        self.kept.push(is_kept)?;
+        self.checked
+            .replies
+            .units
+            .push(UnitReplies { name, replies })?;
+        self.checked.exports.push(own)?;
+        self.checked.kept.push(is_kept)?;
+        self.checked.readings = self.checked.readings.saturating_add(count);
         self.is_unchanged.push(is_unchanged)?;
-        self.readings = self.readings.saturating_add(count);
         Ok(())
     }
 
     /// Whether a unit has the text that it had, and the needs, each of which exports what it did.
-    fn is_as_before(
-        &self,
-        before: Before<'_>,
-        befores: &[Option<usize>],
-        unit: &ProjectUnit,
-    ) -> bool {
+    fn is_as_before(&self, before: Before<'_>, unit: &ProjectUnit) -> bool {
         if unit.text.as_slice() != before.text || unit.needs.len() != before.needs.len() {
             return false;
         }
         for (need, old_need) in unit.needs.as_slice().iter().zip(before.needs) {
-            if befores.get(*need) != Some(&Some(*old_need)) {
+            if self.befores.get(*need) != Some(&Some(*old_need)) {
                 return false;
             }
             if self.is_unchanged.get(*need) != Some(&true) {

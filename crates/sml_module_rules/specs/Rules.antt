@@ -36,6 +36,10 @@ use Rattle.sml_module_rules.specs.Structures.{one_structure}
 abbrev pub plus : {N : Type 0} → Basis N → Env N → Basis N
 plus B E = record B { names = names_env E ++ B.names; body = extend B.body E }
 
+-- with the names of an environment alone
+abbrev pub with_names_of : {N : Type 0} → Env N → Basis N → Basis N
+with_names_of E B = record B { names = names_env E ++ B.names }
+
 -- with the specifications so far of a signature
 abbrev pub plus_sig : {N : Type 0} → Basis N → Sig N → Basis N
 plus_sig B S = record B { names = S.names ++ B.names; body = extend B.body S.body }
@@ -226,9 +230,9 @@ module _ {N : Type 0} (scope : Scope N) where
       Builds B (struct_end p ds) E = DeclareAll B empty ds E
       Builds B (str_name x) E = structure_at B.body x.id ≡ found E
       Builds B (ascribed p e Transparent s) E =
-          (F : Env N) × (S : Sig N) × (φ : Realisation N) × Builds B e F × Signs (plus B F) s S × MatchesBy F S φ × (E ≡ realise_env φ S.body)
+          (F : Env N) × (S : Sig N) × (φ : Realisation N) × Builds B e F × Signs (with_names_of F B) s S × MatchesBy F S φ × (E ≡ realise_env φ S.body)
       Builds B (ascribed p e Opaque s) E =
-          (F : Env N) × (S : Sig N) × (φ : Realisation N) × (ns : List N) × Builds B e F × Signs (plus B F) s S × MatchesBy F S φ
+          (F : Env N) × (S : Sig N) × (φ : Realisation N) × (ns : List N) × Builds B e F × Signs (with_names_of F B) s S × MatchesBy F S φ
           × AreRenewed B.names S.names ns × (E ≡ realise_env (with_names scope.names S.names ns (no_function scope.names)) S.body)
       Builds B (functor_apply x e) E =
           (F : Env N) × (f : FunSig N) × (φ : Realisation N) × (ns : List N) × (lookup x.id B.functors ≡ Some f) × Builds B e F × MatchesBy F f.argument φ
@@ -249,7 +253,7 @@ module _ {N : Type 0} (scope : Scope N) where
       pub BindStructures : {P : Type 0} → Basis N → Env N → StrBinds P → Env N → Type 0
       BindStructures B F no_str_bind E = E ≡ F
       BindStructures B F (and_str_bind (str_bind x e) bs) E =
-          (G : Env N) × Builds B e G × BindStructures (record B { names = names_env G ++ B.names }) (extend F (one_structure x.id G)) bs E
+          (G : Env N) × Builds B e G × BindStructures (with_names_of G B) (extend F (one_structure x.id G)) bs E
 
     -- Signatures (rules 66 and 67) and functors (85 and 86), which see none of each other
 

@@ -2,7 +2,7 @@
 use Rattle.std.specs.Prelude.{ℕ, Bool, true, false, List, [], ◌++◌, cond, Option, Some, None, codes, decimal, map}
 use Rattle.sml_lex.specs.declared.fault.Warning.{Warning}
 use Rattle.sml_lex.specs.Faults.{fault_of}
-use Rattle.sml_texts.specs.Text.{code_text, meaning, fault_text}
+use Rattle.sml_texts.specs.Text.{fault_text, warning_text}
 use Rattle.sml_reply.specs.Sinks.{in_turn}
 use Rattle.sml_reply.specs.declared.form.Form.{Form}
 use Rattle.sml_reply.specs.declared.form.Version.{Version}
@@ -11,11 +11,6 @@ use Rattle.sml_reply.specs.declared.reply.AcceptedReply.{AcceptedReply}
 use Rattle.sml_reply.specs.declared.reply.RefusedReply.{RefusedReply}
 use Rattle.sml_reply.specs.declared.reply.Reply.{Reply}
 use Rattle.sml_reply.specs.declared.reply.Reply.TheVariants.{Accepted, Refused}
-
-unfoldable pub warning_text : Warning → List ℕ
-warning_text w =
-    codes "  warning " ++ (code_text w.code ++ (codes " " ++ (decimal w.place.line ++ (codes "." ++ (decimal w.place.column
-    ++ (codes " " ++ (meaning w.code ++ codes "\n")))))))
 
 abbrev pub warnings_text : List Warning → List ℕ
 warnings_text ws = in_turn (map warning_text ws)

@@ -5,10 +5,11 @@ ghost use Rattle.sml_lex.specs.Faults.{fault_of};
 ghost use Rattle.sml_objects.specs.Initial.{naming};
 ghost use Rattle.sml_objects.specs.Views.{sig_of};
 ghost use Rattle.sml_rules.specs.Answers as Answers;
-ghost use Rattle.sml_reply.specs.Replies.{reply_text, form_text, version_lines, version_text, refusal_text, warning_text, warnings_text, warnings_of, accepts, number_of};
+ghost use Rattle.sml_reply.specs.Replies.{reply_text, form_text, version_lines, version_text, refusal_text, warnings_text, warnings_of, accepts, number_of};
 ghost use Rattle.std.specs.Option.{option_map};
 ghost use Rattle.sml_reply.specs.Sinks.{Prints, in_turn};
 ghost use Rattle.sml_texts.specs.Text as T;
+ghost use Rattle.sml_texts.specs.Text.{warning_text};
 
 use crate::form::{Form, Version};
 use crate::lines::{NumberedText, paths_of, text_of};

@@ -13,7 +13,7 @@ use Rattle.sml_objects.specs.Objects.{Head, MlType, MlTypes, Scheme, arrow, row,
 use Rattle.sml_objects.specs.Types.{instance_from, variables_after, index_among}
 use Rattle.sml_rules.specs.Answers.{Answer, refused, accepted, dotted}
 use Rattle.sml_texts.specs.Text as T
-use Rattle.sml_texts.specs.Text.{Piece, byte, a_name, say, variable, joined, bracketed, initial_text, initial_among, code_text, meaning, fault_text}
+use Rattle.sml_texts.specs.Text.{Piece, byte, a_name, say, variable, joined, bracketed, initial_text, initial_among, fault_text, warning_text}
 use Rattle.sml_core_rules.specs.Lookups.{is_same}
 use Rattle.sml_core_rules.specs.Objects.{Env, Value, TyStr, Basis, Status, variable as a_variable, constructor, exception, overloaded}
 use Rattle.sml_module_rules.specs.Lines.{Component, a_structure, a_type, a_value, path_of}
@@ -139,11 +139,6 @@ lines_text names path B = spell names path (bound_names B) [] (basis_pieces B)
 
 abbrev pub no_path : {N : Type 0} → N → Option (List Id)
 no_path n = None
-
-unfoldable pub warning_text : Warning → List ℕ
-warning_text w =
-    codes "  warning " ++ (code_text w.code ++ (codes " " ++ (decimal w.place.line ++ (codes "." ++ (decimal w.place.column
-    ++ (codes " " ++ (meaning w.code ++ codes "\n")))))))
 
 -- What a declaration is answered, with its warnings.
 abbrev pub Answered : Type 0 → Type 0

@@ -3,6 +3,7 @@ use Rattle.std.specs.Prelude.{ℕ, suc, Bool, true, List, [], ◌∷◌, ◌++�
 use Rattle.sml_lex.specs.declared.fault.Code.{Code}
 use Rattle.sml_lex.specs.declared.fault.Code.TheVariants.{L1, L2, L3, L4, L5, L6, S1, S2, S3, F1, F2, F3, F4, G1, G2, G3, G4, G5, U1, U2, U3, U4, U5, U6, U7, E1, E2, E3, E4, E5, E6, E7, E8, E9, E10, N1, N2, N3, N4, N5, N6, N7, M1, M2, M3, M4, M5, M6, M7, Q1, Q2, Q3, P1, P2, P3}
 use Rattle.sml_lex.specs.declared.fault.Place.{Place}
+use Rattle.sml_lex.specs.declared.fault.Warning.{Warning}
 use Rattle.sml_lex.specs.Faults.{Fault}
 use Rattle.sml_tree.specs.Trees.{Id}
 use Rattle.sml_objects.specs.Canonical.{index_of}
@@ -232,6 +233,11 @@ unfoldable pub fault_text : Fault Place → List ℕ
 fault_text f =
     codes " fault " ++ (code_text f.code ++ (codes " " ++ (decimal f.place.line ++ (codes "." ++ (decimal f.place.column
     ++ (codes " " ++ (meaning f.code ++ (detail_text f.detail ++ codes "\n"))))))))
+
+unfoldable pub warning_text : Warning → List ℕ
+warning_text w =
+    codes "  warning " ++ (code_text w.code ++ (codes " " ++ (decimal w.place.line ++ (codes "." ++ (decimal w.place.column
+    ++ (codes " " ++ (meaning w.code ++ codes "\n")))))))
 
 -- the reply with the number k
 unfoldable pub text : {N : Type 0} (names : Naming N) → ℕ → Answer Place (Sig N) → List ℕ

@@ -1,5 +1,5 @@
 use Rattle.std.proofs.Common.{◌∙◌, ◌++◌, codes}
-use Rattle.sml_reply.specs.Replies.{warning_text}
+use Rattle.sml_texts.specs.Text.{warning_text}
 use Rattle.sml_reply.proofs.Sinks.{same_text}
 use Rattle.sml_reply.proofs.reply.print_warning.Goals as goal
 

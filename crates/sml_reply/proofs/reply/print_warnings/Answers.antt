@@ -3,7 +3,7 @@ use Rattle.std.proofs.lemmas.List.{take_all}
 use Rattle.std.specs.Io.KnownBytes.{Appends}
 use Rattle.sml_reply.specs.Sinks.{in_turn}
 use Rattle.sml_lex.specs.declared.fault.Code.TheVariants.{L1}
-use Rattle.sml_reply.specs.Replies.{warning_text}
+use Rattle.sml_texts.specs.Text.{warning_text}
 use Rattle.sml_reply.proofs.Sinks.{goes_on, stops, prints_all, turn-more, turn-rest}
 use Rattle.sml_reply.proofs.reply.print_warnings.Goals as goal
 

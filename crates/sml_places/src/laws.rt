@@ -1,0 +1,1 @@
+//! That accepted answers look at no place.

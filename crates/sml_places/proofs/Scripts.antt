@@ -21,7 +21,7 @@ fault_or : {P X : Type 0} → Fault P → Answer P X → Fault P
 fault_or d (refused e) = e
 fault_or d (accepted x) = d
 
-refused-same : {P X : Type 0} {d e : Fault P} → ◌≡◌ {A = Answer P X} (refused d) (refused e) → d ≡ e
+pub refused-same : {P X : Type 0} {d e : Fault P} → ◌≡◌ {A = Answer P X} (refused d) (refused e) → d ≡ e
 unfolding fault_or
 refused-same {d = d} h = ap (fault_or d) h
 
@@ -104,8 +104,30 @@ module _ {P Q N : Type 0} (scope : Scope N) (f : P → Q) where
   abbrev pub AreSame : {X : Type 0} → Script P N X → Script Q N X → Type 0
   AreSame k j = AreAlike (λ x. x) k j
 
-  module _ {X Y Z W : Type 0} (g : X → Y) (h : Z → W) (k : Script P N X) (j : Script Q N Y) (n : X → Script P N Z) (m : Y → Script Q N W) (a : AreAlike g k j)
-      (b : (x : X) → AreAlike h (n x) (m (g x))) where
+  -- schemes speak of no place
+
+  mutual
+    unfolding IsOfLeft AreOfLeft MayBe HasOneSetOfLabels
+
+    left-same : (s : State P N) (t : MlType N) → IsOfLeft scope (place_state f s) t ≡ IsOfLeft scope s t
+    left-same s (bound k) = refl
+    left-same s (free v) = refl
+    left-same s (app h ts) = lefts-same s ts
+
+    lefts-same : (s : State P N) (ts : MlTypes N) → AreOfLeft scope (place_state f s) ts ≡ AreOfLeft scope s ts
+    lefts-same s no_type = refl
+    lefts-same s (and_type t ts) = λ i. left-same s t i × lefts-same s ts i
+
+  scheme-same : (s : State P N) (n : ℕ) (x : Bool) (t : MlType N) (σ : Scheme N) → IsScheme scope s n x t σ ↔ IsScheme scope (place_state f s) n x t σ
+  unfolding IsScheme StandsFor IsFixed IsInt AsksEquality MayBe HasOneSetOfLabels
+  scheme-same s n x t σ = (
+    λ h. (h.0, (coe 1 0 (i. left-same s h.0 i) h.1.0, h.1.1), h.2, h.3, h.4),
+    λ h. (h.0, (coe 0 1 (i. left-same s h.0 i) h.1.0, h.1.1), h.2, h.3, h.4),
+  )
+
+module _ {P Q N : Type 0} {scope : Scope N} {f : P → Q} where
+  module _ {X Y Z W : Type 0} (g : X → Y) (h : Z → W) (k : Script P N X) (j : Script Q N Y) (n : X → Script P N Z) (m : Y → Script Q N W) (a : AreAlike scope f g k j)
+      (b : (x : X) → AreAlike scope f h (n x) (m (g x))) where
     then-given : (s : State P N) (o : Answer P (Z × State P N)) → IsAnswer scope (k >>= n) s o → IsAnswer scope (j >>= m) (place_state f s) (place_reply f h o)
     then-given s (refused e) r = elim (bind-split scope k n s e r) [
       | inl q ↦ bind-refused scope j m (place_state f s) (place_fault f e) (a.given s (refused e) q)
@@ -140,39 +162,39 @@ module _ {P Q N : Type 0} (scope : Scope N) (f : P → Q) where
         let q = bind-accepted scope j m (place_state f s) r t in
         let c = a.taken s (accepted q.0) q.1 in then-found s (accepted r) c.0 c.1 q.0 c.2 q.2
 
-    both-then : AreAlike h (k >>= n) (j >>= m)
+    both-then : AreAlike scope f h (k >>= n) (j >>= m)
     unfolding Found
     both-then = record { given = then-given; taken = then-taken }
 
   -- one after the other
-  pub alike-then : {X Z W : Type 0} {h : Z → W} {k : Script P N X} {j : Script Q N X} {n : X → Script P N Z} {m : X → Script Q N W} → AreSame k j
-      → ((x : X) → AreAlike h (n x) (m x)) → AreAlike h (k >>= n) (j >>= m)
+  pub alike-then : {X Z W : Type 0} {h : Z → W} {k : Script P N X} {j : Script Q N X} {n : X → Script P N Z} {m : X → Script Q N W} → AreSame scope f k j
+      → ((x : X) → AreAlike scope f h (n x) (m x)) → AreAlike scope f h (k >>= n) (j >>= m)
   alike-then {h = h} {k = k} {j = j} {n = n} {m = m} a b = both-then (λ x. x) h k j n m a b
 
-  pub alike-with : {X Y Z W : Type 0} {g : X → Y} {h : Z → W} {k : Script P N X} {j : Script Q N Y} {n : X → Script P N Z} (m : Y → Script Q N W) → AreAlike g k j
-      → ((x : X) → AreAlike h (n x) (m (g x))) → AreAlike h (k >>= n) (j >>= m)
+  pub alike-with : {X Y Z W : Type 0} {g : X → Y} {h : Z → W} {k : Script P N X} {j : Script Q N Y} {n : X → Script P N Z} (m : Y → Script Q N W) → AreAlike scope f g k j
+      → ((x : X) → AreAlike scope f h (n x) (m (g x))) → AreAlike scope f h (k >>= n) (j >>= m)
   alike-with {g = g} {h = h} {k = k} {j = j} {n = n} m a b = both-then g h k j n m a b
 
   -- an object, or a fault
 
-  pub alike-give : {X Y : Type 0} {g : X → Y} (x : X) → AreAlike g (give x) (give (g x))
+  pub alike-give : {X Y : Type 0} {g : X → Y} (x : X) → AreAlike scope f g (give x) (give (g x))
   unfolding IsAnswer
   alike-give {g = g} x = record { given = λ s o h. ap (place_reply f g) h; taken = λ s o h. (accepted (x, s), refl, h) }
 
-  pub alike-refuse : {X Y : Type 0} {g : X → Y} (e : Fault P) → AreAlike g (refuse e) (refuse (place_fault f e))
+  pub alike-refuse : {X Y : Type 0} {g : X → Y} (e : Fault P) → AreAlike scope f g (refuse e) (refuse (place_fault f e))
   unfolding IsAnswer
   alike-refuse {g = g} e = record { given = λ s o h. ap (place_reply f g) h; taken = λ s o h. (refused e, refl, h) }
 
   -- conditions that hold alike
 
-  pub alike-tests : {X Y : Type 0} {g : X → Y} {C D : Type 0} {k : Script P N X} {j : Script Q N Y} → (C ↔ D) → (e : Fault P) → AreAlike g k j → AreAlike g (tests C e k) (tests D (place_fault f e) j)
+  pub alike-tests : {X Y : Type 0} {g : X → Y} {C D : Type 0} {k : Script P N X} {j : Script Q N Y} → (C ↔ D) → (e : Fault P) → AreAlike scope f g k j → AreAlike scope f g (tests C e k) (tests D (place_fault f e) j)
   unfolding IsAnswer
   alike-tests {g = g} c e a = record {
     given = λ s o. elim [ inl x ↦ inl (c.0 x.0, a.given s o x.1) | inr x ↦ inr ((λ y. x.0 (c.1 y)), ap (place_reply f g) x.1) ];
     taken = λ s o. elim [ inl x ↦ let b = a.taken s o x.1 in (b.0, inl (c.1 x.0, b.1), b.2) | inr x ↦ (refused e, inr ((λ y. x.0 (c.0 y)), refl), x.1) ];
   }
 
-  pub alike-either : {X Y : Type 0} {g : X → Y} {C D : Type 0} {k l : Script P N X} {j m : Script Q N Y} → (C ↔ D) → AreAlike g k j → AreAlike g l m → AreAlike g (either C k l) (either D j m)
+  pub alike-either : {X Y : Type 0} {g : X → Y} {C D : Type 0} {k l : Script P N X} {j m : Script Q N Y} → (C ↔ D) → AreAlike scope f g k j → AreAlike scope f g l m → AreAlike scope f g (either C k l) (either D j m)
   unfolding IsAnswer
   alike-either {g = g} c a b = record {
     given = λ s o. elim [ inl x ↦ inl (c.0 x.0, a.given s o x.1) | inr x ↦ inr ((λ y. x.0 (c.1 y)), b.given s o x.1) ];
@@ -181,14 +203,14 @@ module _ {P Q N : Type 0} (scope : Scope N) (f : P → Q) where
 
   -- what is made, asked, seen and set
 
-  pub alike-unknowns : {X Y : Type 0} {g : X → Y} (n : ℕ) {k : ℕ → Script P N X} {j : ℕ → Script Q N Y} → ((v : ℕ) → AreAlike g (k v) (j v)) → AreAlike g (makes_unknowns n k) (makes_unknowns n j)
+  pub alike-unknowns : {X Y : Type 0} {g : X → Y} (n : ℕ) {k : ℕ → Script P N X} {j : ℕ → Script Q N Y} → ((v : ℕ) → AreAlike scope f g (k v) (j v)) → AreAlike scope f g (makes_unknowns n k) (makes_unknowns n j)
   unfolding IsAnswer
   alike-unknowns n a = record {
     given = λ s o h. (a s.made).given (with_unknowns n s) o h;
     taken = λ s o h. (a s.made).taken (with_unknowns n s) o h;
   }
 
-  pub alike-requires : {X Y : Type 0} {g : X → Y} (d : Demand N (List N)) (p : P) {k : Script P N X} {j : Script Q N Y} → AreAlike g k j → AreAlike g (requires d p k) (requires d (f p) j)
+  pub alike-requires : {X Y : Type 0} {g : X → Y} (d : Demand N (List N)) (p : P) {k : Script P N X} {j : Script Q N Y} → AreAlike scope f g k j → AreAlike scope f g (requires d p k) (requires d (f p) j)
   unfolding IsAnswer
   alike-requires {g = g} d p a = record {
     given = λ s o. elim [ inl x ↦ inl (x.0, a.given (with_demand d s) o x.1) | inr x ↦ inr (x.0, x.1, ap (place_reply f g) x.2) ];
@@ -198,60 +220,39 @@ module _ {P Q N : Type 0} (scope : Scope N) (f : P → Q) where
     ];
   }
 
-  pub alike-sees : {X Y : Type 0} {g : X → Y} {k : State P N → Script P N X} (j : State Q N → Script Q N Y) → ((s : State P N) → AreAlike g (k s) (j (place_state f s))) → AreAlike g (sees k) (sees j)
+  pub alike-sees : {X Y : Type 0} {g : X → Y} {k : State P N → Script P N X} (j : State Q N → Script Q N Y) → ((s : State P N) → AreAlike scope f g (k s) (j (place_state f s))) → AreAlike scope f g (sees k) (sees j)
   unfolding IsAnswer
   alike-sees j a = record { given = λ s o h. (a s).given s o h; taken = λ s o h. (a s).taken s o h }
 
-  pub alike-sets : {X Y : Type 0} {g : X → Y} (w : Window P N) {k : Script P N X} {j : Script Q N Y} → AreAlike g k j → AreAlike g (sets_window w k) (sets_window (place_window f w) j)
+  pub alike-sets : {X Y : Type 0} {g : X → Y} (w : Window P N) {k : Script P N X} {j : Script Q N Y} → AreAlike scope f g k j → AreAlike scope f g (sets_window w k) (sets_window (place_window f w) j)
   unfolding IsAnswer
   alike-sets w a = record { given = λ s o h. a.given (with_window w s) o h; taken = λ s o h. a.taken (with_window w s) o h }
 
-  pub alike-open : {X Y : Type 0} {g : X → Y} {k : Script P N X} {j : Script Q N Y} → AreAlike g k j → AreAlike g (stays_open k) (stays_open j)
+  pub alike-open : {X Y : Type 0} {g : X → Y} {k : Script P N X} {j : Script Q N Y} → AreAlike scope f g k j → AreAlike scope f g (stays_open k) (stays_open j)
   unfolding IsAnswer
   alike-open a = record { given = λ s o h. a.given (opened s) o h; taken = λ s o h. a.taken (opened s) o h }
 
-  pub alike-anew : {X Y : Type 0} {g : X → Y} {k : Script P N X} {j : Script Q N Y} → AreAlike g k j → AreAlike g (starts_anew k) (starts_anew j)
+  pub alike-anew : {X Y : Type 0} {g : X → Y} {k : Script P N X} {j : Script Q N Y} → AreAlike scope f g k j → AreAlike scope f g (starts_anew k) (starts_anew j)
   unfolding IsAnswer
   alike-anew a = record { given = λ s o h. a.given (afresh s) o h; taken = λ s o h. a.taken (afresh s) o h }
 
-  pub alike-requires-or : {X Y : Type 0} {g : X → Y} (d : Demand N (List N)) (e : Fault P) {k : Script P N X} {j : Script Q N Y} → AreAlike g k j → AreAlike g (requires_or d e k) (requires_or d (place_fault f e) j)
+  pub alike-requires-or : {X Y : Type 0} {g : X → Y} (d : Demand N (List N)) (e : Fault P) {k : Script P N X} {j : Script Q N Y} → AreAlike scope f g k j → AreAlike scope f g (requires_or d e k) (requires_or d (place_fault f e) j)
   unfolding IsAnswer
   alike-requires-or {g = g} d e a = record {
     given = λ s o. elim [ inl x ↦ inl (x.0, a.given (with_demand d s) o x.1) | inr x ↦ inr (x.0, ap (place_reply f g) x.1) ];
     taken = λ s o. elim [ inl x ↦ let b = a.taken (with_demand d s) o x.1 in (b.0, inl (x.0, b.1), b.2) | inr x ↦ (refused e, inr (x.0, refl), x.1) ];
   }
 
-  pub alike-names : {X Y : Type 0} {g : X → Y} (ws : List Attributes) {k : List N → Script P N X} {j : List N → Script Q N Y} → ((ns : List N) → AreAlike g (k ns) (j ns)) → AreAlike g (makes_names ws k) (makes_names ws j)
+  pub alike-names : {X Y : Type 0} {g : X → Y} (ws : List Attributes) {k : List N → Script P N X} {j : List N → Script Q N Y} → ((ns : List N) → AreAlike scope f g (k ns) (j ns)) → AreAlike scope f g (makes_names ws k) (makes_names ws j)
   unfolding IsAnswer
   alike-names ws a = record {
     given = λ s o h. (h.0, h.1, (a h.0).given (with_made h.0 s) o h.2);
     taken = λ s o h. let b = (a h.0).taken (with_made h.0 s) o h.2 in (b.0, (h.0, h.1, b.1), b.2);
   }
 
-  -- schemes speak of no place
-
-  mutual
-    unfolding IsOfLeft AreOfLeft MayBe HasOneSetOfLabels
-
-    left-same : (s : State P N) (t : MlType N) → IsOfLeft scope (place_state f s) t ≡ IsOfLeft scope s t
-    left-same s (bound k) = refl
-    left-same s (free v) = refl
-    left-same s (app h ts) = lefts-same s ts
-
-    lefts-same : (s : State P N) (ts : MlTypes N) → AreOfLeft scope (place_state f s) ts ≡ AreOfLeft scope s ts
-    lefts-same s no_type = refl
-    lefts-same s (and_type t ts) = λ i. left-same s t i × lefts-same s ts i
-
-  scheme-same : (s : State P N) (n : ℕ) (x : Bool) (t : MlType N) (σ : Scheme N) → IsScheme scope s n x t σ ↔ IsScheme scope (place_state f s) n x t σ
-  unfolding IsScheme StandsFor IsFixed IsInt AsksEquality MayBe HasOneSetOfLabels
-  scheme-same s n x t σ = (
-    λ h. (h.0, (coe 1 0 (i. left-same s h.0 i) h.1.0, h.1.1), h.2, h.3, h.4),
-    λ h. (h.0, (coe 0 1 (i. left-same s h.0 i) h.1.0, h.1.1), h.2, h.3, h.4),
-  )
-
-  pub alike-closes : {X Y : Type 0} {g : X → Y} (n : ℕ) (x : Bool) (t : MlType N) {k : Scheme N → Script P N X} {j : Scheme N → Script Q N Y} → ((σ : Scheme N) → AreAlike g (k σ) (j σ)) → AreAlike g (closes n x t k) (closes n x t j)
+  pub alike-closes : {X Y : Type 0} {g : X → Y} (n : ℕ) (x : Bool) (t : MlType N) {k : Scheme N → Script P N X} {j : Scheme N → Script Q N Y} → ((σ : Scheme N) → AreAlike scope f g (k σ) (j σ)) → AreAlike scope f g (closes n x t k) (closes n x t j)
   unfolding IsAnswer
   alike-closes n x t a = record {
-    given = λ s o h. (h.0, (scheme-same s n x t h.0).0 h.1, (a h.0).given s o h.2);
-    taken = λ s o h. let b = (a h.0).taken s o h.2 in (b.0, (h.0, (scheme-same s n x t h.0).1 h.1, b.1), b.2);
+    given = λ s o h. (h.0, (scheme-same scope f s n x t h.0).0 h.1, (a h.0).given s o h.2);
+    taken = λ s o h. let b = (a h.0).taken s o h.2 in (b.0, (h.0, (scheme-same scope f s n x t h.0).1 h.1, b.1), b.2);
   }

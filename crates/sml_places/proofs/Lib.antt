@@ -1,3 +1,5 @@
 pub mod Scripts
 pub mod Types
 pub mod Steps
+pub mod Trees
+pub mod Patterns

@@ -3,3 +3,5 @@ pub mod Types
 pub mod Steps
 pub mod Trees
 pub mod Patterns
+pub mod Withtype
+pub mod Values

@@ -5,3 +5,4 @@ pub mod Trees
 pub mod Patterns
 pub mod Withtype
 pub mod Values
+pub mod Expressions

@@ -6,3 +6,6 @@ pub mod Patterns
 pub mod Withtype
 pub mod Values
 pub mod Expressions
+pub mod Matching
+pub mod Sharing
+pub mod Structures

@@ -9,3 +9,4 @@ pub mod Expressions
 pub mod Matching
 pub mod Sharing
 pub mod Structures
+pub mod Tops

@@ -26,11 +26,11 @@ use Rattle.sml_places.proofs.Types.{AreEqual, equal-need, equal-arguments-of, ne
 
 -- an answer with other places is a fault or an object where the answer is
 
-refused-by : {P Q X : Type 0} (f : P → Q) (a : Answer P X) (e : Fault Q) → place_answer f a ≡ refused e → (d : Fault P) × (a ≡ refused d) × (e ≡ place_fault f d)
+pub refused-by : {P Q X : Type 0} (f : P → Q) (a : Answer P X) (e : Fault Q) → place_answer f a ≡ refused e → (d : Fault P) × (a ≡ refused d) × (e ≡ place_fault f d)
 refused-by f (refused d) e h = (d, refl, refused-same (sym h))
 refused-by f (accepted x) e h = absurd (not_refused h)
 
-accepted-by : {P Q X : Type 0} (f : P → Q) (a : Answer P X) (x : X) → place_answer f a ≡ accepted x → a ≡ accepted x
+pub accepted-by : {P Q X : Type 0} (f : P → Q) (a : Answer P X) (x : X) → place_answer f a ≡ accepted x → a ≡ accepted x
 accepted-by f (refused d) x h = absurd (not_refused (sym h))
 accepted-by f (accepted y) x h = ap accepted (accepted_same h)
 

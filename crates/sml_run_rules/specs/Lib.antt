@@ -1,4 +1,3 @@
-pub mod Places
 pub mod Sources
 pub mod Runs
 pub mod Likeness

@@ -6,7 +6,7 @@ use Rattle.sml_tree.specs.Expressions.{open_dec}
 use Rattle.sml_tree.specs.Signatures.{SigExp}
 use Rattle.sml_tree.specs.Structures.{StrExp, StrBinds, FunBind, TopDec, ascribed, str_let, str_bind, no_str_bind, and_str_bind, top_str, core_dec, structure_dec, functor_dec, no_str_dec, and_str_dec}
 use Rattle.sml_tree.specs.declared.structures.Ascription.TheVariants.{Opaque}
-use Rattle.sml_run_rules.specs.Places.{place_sig, place_str}
+use Rattle.sml_places.specs.Places.{place_sig, place_str}
 use Rattle.sml_run_rules.specs.Sources.{Source}
 
 -- places don't count

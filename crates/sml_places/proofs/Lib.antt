@@ -1,0 +1,12 @@
+pub mod Scripts
+pub mod Types
+pub mod Steps
+pub mod Trees
+pub mod Patterns
+pub mod Withtype
+pub mod Values
+pub mod Expressions
+pub mod Matching
+pub mod Sharing
+pub mod Structures
+pub mod Tops

@@ -7,7 +7,7 @@ use Rattle.sml_tree.specs.Expressions.{open_dec}
 use Rattle.sml_tree.specs.Signatures.{SigExp, sig_end, no_spec}
 use Rattle.sml_tree.specs.Structures.{StrExp, StrBinds, TopDec, struct_end, str_name, ascribed, str_let, core_dec, structure_dec, no_str_dec, and_str_dec, str_bind, no_str_bind, and_str_bind, top_str, functor_dec}
 use Rattle.sml_tree.specs.declared.structures.Ascription.TheVariants.{Transparent, Opaque}
-use Rattle.sml_run_rules.specs.Likeness.{AreGroupsAlike}
+use Rattle.sml_places.specs.Likeness.{AreGroupsAlike}
 
 -- on the first line
 abbrev pub at : ℕ → Place

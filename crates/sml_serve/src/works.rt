@@ -7,7 +7,7 @@ use sml_objects::objects::UnitId;
 use sml_projects::project::{Project, ProjectUnit};
 use sml_show::files::Listed;
 use sml_units::project::{Checked, check};
-use sml_units::recheck::Recheck;
+use sml_units::recheck::Rechecking;
 use std::alloc::Global;
 use std::collections::BTreeMap;
 use std::mem::replace;
@@ -22,7 +22,7 @@ pub struct Work {
     pub findings: Vec<Findings>,
     checked: Checked,
     /// The check after what changed, as long as it isn't done.
-    again: Option<Recheck>,
+    again: Option<Rechecking>,
     /// Whether something changed since the check.
     is_old: bool,
 }
@@ -213,7 +213,7 @@ impl Work {
         count: usize,
     ) -> Result<(), Memory> {
         if self.is_old && self.again.is_none() {
-            let again = Recheck::new(alloc, &self.checked, &self.listed.project)?;
+            let again = Rechecking::new(alloc, &self.checked, &self.listed.project)?;
             self.again = Some(again);
         }
         match &mut self.again {
@@ -256,7 +256,7 @@ impl Work {
 /// Goes on with a check up to so many units, and finds what there is in those that aren't kept.
 fn go_on(
     alloc: Global,
-    again: &mut Recheck,
+    again: &mut Rechecking,
     old: &Checked,
     listed: &Listed,
     findings: &mut [Findings],

@@ -17,7 +17,7 @@ use std::rc::Rc;
 /// What `check` gives for the project. A unit is kept if the old project has one of that name with the same text and
 /// needs, and each need exports the same in both: then its replies and exports are the old ones, and it isn't read.
 pub fn recheck(alloc: Global, old: &Checked, project: &Project) -> Result<Checked, Memory> {
-    let mut again = Recheck::new(alloc, old, project)?;
+    let mut again = Rechecking::new(alloc, old, project)?;
     again.go_on(alloc, old, project, project.units.len())?;
     Ok(again.into_checked())
 }
@@ -25,7 +25,7 @@ pub fn recheck(alloc: Global, old: &Checked, project: &Project) -> Result<Checke
 /// A project that is checked again, of which the first units are done: what is given of these, whether each exports what it
 /// did, and for each unit the place of that of the same name in the old order.
 #[derive(Drop)]
-pub struct Recheck {
+pub struct Rechecking {
     initial: Rc<WholeBasis>,
     befores: Vec<Option<usize>>,
     moves: Moves,
@@ -42,11 +42,11 @@ struct Before<'a> {
     exports: &'a Exports,
 }
 
-impl Recheck {
+impl Rechecking {
     /// Begins to check a project again, of which no unit is done.
-    pub fn new(alloc: Global, old: &Checked, project: &Project) -> Result<Recheck, Memory> {
+    pub fn new(alloc: Global, old: &Checked, project: &Project) -> Result<Rechecking, Memory> {
         let befores = befores_of(alloc, old, project)?;
-        Ok(Recheck {
+        Ok(Rechecking {
             initial: Rc::new(alloc, initial(alloc)?)?,
             moves: moves_between(alloc, old, project, &befores)?,
             befores,
@@ -92,7 +92,7 @@ impl Recheck {
 
     /// What is given of all units, where all are done.
     pub fn into_checked(self) -> Checked {
-        let Recheck { checked, .. } = self;
+        let Rechecking { checked, .. } = self;
         checked
     }
 

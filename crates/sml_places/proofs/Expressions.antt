@@ -1,12 +1,12 @@
 -- Expressions and declarations of the core with other places have the same answers, but for places.
-use Rattle.std.specs.Prelude.{◌≡◌, ℕ, Bool, true, false, List, [], ◌∷◌, ◌++◌, map, Option, Some, None}
-use mathlib.Core.Path.{refl, sym, subst, ◌∙◌}
-use Rattle.sml_lex.specs.declared.fault.Code.TheVariants.{E1, E2, E7, E9}
+use Rattle.std.specs.Prelude.{true, false, List, [], ◌∷◌, ◌++◌, map, Option, Some, None}
+use mathlib.Core.Path.{sym, subst, ◌∙◌}
+use Rattle.sml_lex.specs.declared.fault.Code.TheVariants.{E2, E7, E9}
 use Rattle.sml_tree.specs.Patterns.{Pat}
 use Rattle.sml_tree.specs.Withtype.{dat_replaced}
 use Rattle.sml_tree.specs.Expressions.{Exp, Exps, Fields, Rules, Dec, Decs, ValBinds, DatBind, TypBind, constant, name, row, tuple, let_in, bracket, apply, typed, handle, raise, fn, no_exp, and_exp, field, no_field, and_field, rule, no_rule, and_rule, val_dec, type_dec, datatype_dec, datatype_with, datatype_copy, exception_dec, local_dec, sequence_dec, open_dec, fixity_dec, no_dec, and_dec, bind, no_bind, and_bind}
 use Rattle.sml_objects.specs.Maps.{Map}
-use Rattle.sml_objects.specs.Objects.{MlType, MlTypes, no_type, and_type, arrow_of, tuple_of}
+use Rattle.sml_objects.specs.Objects.{MlType, no_type, and_type, arrow_of, tuple_of}
 use Rattle.sml_layers.specs.declared.layer.Bound.TheVariants.{Locality}
 use Rattle.sml_layers.specs.Demands as D
 use Rattle.sml_rules.specs.Answers.{fault}
@@ -17,17 +17,17 @@ use Rattle.sml_core_rules.specs.Types as T
 use Rattle.sml_core_rules.specs.Types.{put_field, row_of}
 use Rattle.sml_core_rules.specs.Values.{require_equal}
 use Rattle.sml_core_rules.specs.Patterns.{Bindings, constant_type, pattern_place}
-use Rattle.sml_core_rules.specs.Closing.{is_expansive, is_function, expression_place, unguarded}
+use Rattle.sml_core_rules.specs.Closing.{is_expansive}
 use Rattle.sml_core_rules.specs.Datatypes.{constructor_values}
 use Rattle.sml_core_rules.specs.Expressions.{Bound, bound_values, bounds, after, exn_type, require_bindings, read_datatypes, read_exp, read_exps, read_fields, read_rules, read_decs, read_dec, read_binds, read_patterns, read_rights}
-use Rattle.sml_places.specs.Places.{place_exp, place_exps, place_fields, place_rules, place_dec, place_decs, place_binds, place_pat, place_names, place_typ_bind, place_dat_bind}
-use Rattle.sml_places.proofs.Scripts.{AreAlike, AreSame, alike-then, alike-with, alike-give}
+use Rattle.sml_places.specs.Places.{place_exp, place_exps, place_fields, place_rules, place_dec, place_decs, place_binds, place_pat, place_typ_bind, place_dat_bind}
+use Rattle.sml_places.proofs.Scripts.{AreSame, alike-then, alike-with, alike-give}
 use Rattle.sml_places.proofs.Types.{equal-exceptions, equal-opened}
 use Rattle.sml_places.proofs.Steps.{itself, same-look, same-need, same-test, same-unknown, same-require, alike-so-far}
 use Rattle.sml_places.proofs.Trees.{pattern-placed, expression-placed, expansive-same, function-same, ids-same, unguarded-same}
 use Rattle.sml_places.proofs.Patterns.{same-test-at, same-equal, same-instance, same-applied, same-value, same-constraint, same-pat}
 use Rattle.sml_places.proofs.Withtype.{datatypes-placed}
-use Rattle.sml_places.proofs.Values.{place_begun, same-bindings, alike-begin-at, same-end, same-types, same-datatypes, same-first, same-or-unknown}
+use Rattle.sml_places.proofs.Values.{same-bindings, alike-begin-at, same-end, same-types, same-datatypes, same-first, same-or-unknown}
 
 module _ {P Q N : Type 0} (scope : Scope N) (f : P → Q) where
   -- at the place of a pattern

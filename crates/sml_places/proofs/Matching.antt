@@ -1,5 +1,5 @@
 -- Structures against signatures, at another place.
-use Rattle.std.specs.Prelude.{◌≡◌, ℕ, suc, Bool, true, false, cond, ◌||◌, not, nat_eq, List, [], ◌∷◌, map, length, Option, Some, None}
+use Rattle.std.specs.Prelude.{ℕ, suc, Bool, true, false, cond, ◌||◌, not, nat_eq, List, [], ◌∷◌, map, length, Option, Some, None}
 use mathlib.Core.Path.{refl}
 use Rattle.sml_lex.specs.declared.fault.Code.TheVariants.{E7, M2, M3, M4, M5, M6, M7}
 use Rattle.sml_lex.specs.Faults.{Fault}

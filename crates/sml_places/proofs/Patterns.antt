@@ -1,6 +1,6 @@
 -- Patterns with other places have the same answers, but for places.
-use Rattle.std.specs.Prelude.{◌≡◌, ◌≤◌, ℕ, suc, Bool, true, false, cond, List, [], ◌∷◌, ◌++◌, length, Option, Some, None}
-use mathlib.Core.Path.{refl, sym, ap, subst, ◌∙◌}
+use Rattle.std.specs.Prelude.{◌≡◌, ℕ, suc, Bool, true, false, cond, List, [], ◌∷◌, ◌++◌, length, Option, Some, None}
+use mathlib.Core.Path.{sym, subst}
 use Rattle.sml_lex.specs.declared.fault.Code.{Code}
 use Rattle.sml_lex.specs.declared.fault.Code.TheVariants.{E1, E3, E5, E7, E10}
 use Rattle.sml_lex.specs.Faults.{Fault}
@@ -8,9 +8,8 @@ use Rattle.sml_tree.specs.Trees.{Id}
 use Rattle.sml_tree.specs.Names.{Name, LongName}
 use Rattle.sml_tree.specs.Types.{Ty}
 use Rattle.sml_tree.specs.Patterns.{Pat, Pats, PatFields, wildcard, pat_constant, pat_name, pat_row, pat_tuple, pat_bracket, pat_apply, pat_typed, pat_as, no_pat, and_pat, pat_field, no_pat_field, and_pat_field}
-use Rattle.sml_objects.specs.Maps.{Map, lookup}
-use Rattle.sml_objects.specs.Objects.{MlType, MlTypes, bound, free, app, arrow, row, name, no_type, and_type, arrow_of, tuple_of}
-use Rattle.sml_objects.specs.Sizes.{type_size}
+use Rattle.sml_objects.specs.Maps.{Map}
+use Rattle.sml_objects.specs.Objects.{MlType, bound, free, app, arrow, row, name, no_type, and_type, arrow_of, tuple_of}
 use Rattle.sml_objects.specs.Types.{instance_from}
 use Rattle.sml_layers.specs.declared.layer.Bound.{Bound}
 use Rattle.sml_layers.specs.Demands.{equal, has_fields, asks, within, equality, of_class}
@@ -19,13 +18,13 @@ use Rattle.sml_rules.specs.Lookups.{Found, found, no_path, no_entry}
 use Rattle.sml_core_rules.specs.Objects.{Env, Value, Status, variable, constructor, exception, overloaded}
 use Rattle.sml_core_rules.specs.Lookups.{value_at}
 use Rattle.sml_core_rules.specs.States.{Scope}
-use Rattle.sml_core_rules.specs.Scripts.{Script, give, refuse, test, ◌>>=◌}
-use Rattle.sml_core_rules.specs.Types.{Fields, put_field, row_of, type_place}
+use Rattle.sml_core_rules.specs.Scripts.{Script, refuse, test}
+use Rattle.sml_core_rules.specs.Types.{Fields, put_field, row_of}
 use Rattle.sml_core_rules.specs.Values.{require_equal, require_so_far, require_attributes, require_status, instance, apply_general, applied, find_value}
-use Rattle.sml_core_rules.specs.Patterns.{Bindings, Typed, typed, is_empty, constant_type, read_constraint, bind_variable, constructor_instance, found_constructor, read_named, read_row, bind_layered, read_layered, read_pat, read_pats, read_pat_fields}
+use Rattle.sml_core_rules.specs.Patterns.{Bindings, typed, is_empty, constant_type, read_constraint, bind_variable, constructor_instance, found_constructor, read_named, read_row, bind_layered, read_layered, read_pat, read_pats, read_pat_fields}
 use Rattle.sml_places.specs.Places.{place_name, place_long, place_ty, place_optional, place_pat, place_pats, place_pat_fields}
 use Rattle.sml_places.specs.Answers.{place_fault}
-use Rattle.sml_places.proofs.Scripts.{AreAlike, AreSame, alike-then, alike-with, alike-give, alike-refuse}
+use Rattle.sml_places.proofs.Scripts.{AreSame, alike-then, alike-with, alike-give, alike-refuse}
 use Rattle.sml_places.proofs.Types.{equal-ty}
 use Rattle.sml_places.proofs.Steps.{itself, same-look, same-need, same-test, same-unknown, same-unknowns, same-require, alike-so-far, same-row, same-overloaded}
 use Rattle.sml_places.proofs.Trees.{type-placed}

@@ -1,6 +1,6 @@
 -- Scripts that have the same answers, but for places.
-use Rattle.std.specs.Prelude.{◌≡◌, ◌↔◌, ◌⊎◌, ℕ, Bool, true, false, cond, List, [], ◌∷◌, map}
-use mathlib.Core.Path.{refl, sym, ap, subst, ◌∙◌}
+use Rattle.std.specs.Prelude.{◌≡◌, ◌↔◌, ◌⊎◌, ℕ, Bool, List, map}
+use mathlib.Core.Path.{refl, sym, ap, subst}
 use mathlib.Core.Logic.{inl, inr}
 use Rattle.sml_lex.specs.Faults.{Fault}
 use Rattle.sml_objects.specs.Names.{Attributes}
@@ -13,7 +13,7 @@ use Rattle.sml_core_rules.specs.States.{Scope, State, Window, with_unknowns, wit
 use Rattle.sml_core_rules.specs.Solutions.{MayBe, HasOneSetOfLabels, IsOfLeft, AreOfLeft, StandsFor, IsFixed, IsInt, AsksEquality, IsScheme}
 use Rattle.sml_core_rules.specs.Scripts.{Script, give, refuse, tests, either, makes_unknowns, requires, sees, sets_window, stays_open, starts_anew, requires_or, closes, determines, makes_names, makes_datatypes, ◌>>=◌, IsAnswer}
 use Rattle.sml_core_rules.proofs.Accepted.{bind-accepted, bind-joined}
-use Rattle.sml_places.specs.Answers.{place_fault, place_answer}
+use Rattle.sml_places.specs.Answers.{place_fault}
 
 -- equal faults, of answers of any type
 

@@ -1,8 +1,8 @@
 -- Sharing, `where type` and what types and datatypes specify, with other places.
-use Rattle.std.specs.Prelude.{◌≡◌, ◌↔◌, ◌⊎◌, ℕ, Bool, true, false, cond, ◌&&◌, ◌||◌, not, is_some, List, [], ◌∷◌, ◌++◌, map, length, Option, Some, None}
+use Rattle.std.specs.Prelude.{◌≡◌, ◌↔◌, ℕ, Bool, true, false, cond, ◌&&◌, ◌||◌, not, is_some, List, [], ◌∷◌, ◌++◌, map, length, Option, Some, None}
 use Rattle.std.specs.Option.{option_map}
 use Rattle.std.proofs.lemmas.List.{length-map}
-use mathlib.Core.Path.{refl, sym, ap, subst, ◌∙◌}
+use mathlib.Core.Path.{refl, sym, subst, ◌∙◌}
 use mathlib.Core.Logic.{inl, inr}
 use Rattle.sml_lex.specs.declared.fault.Code.TheVariants.{E2, E3, E4, E7, N1, N2, N3, N4, N5, N6, N7}
 use Rattle.sml_tree.specs.Trees.{Id, LongId}
@@ -12,8 +12,7 @@ use Rattle.sml_tree.specs.Expressions.{ConBind, DatBind}
 use Rattle.sml_tree.specs.Signatures.{WhereType, ValDesc, TypDesc}
 use Rattle.sml_objects.specs.Equality.{has_equality}
 use Rattle.sml_objects.specs.Maps.{Map, put}
-use Rattle.sml_objects.specs.Names.{Attributes}
-use Rattle.sml_objects.specs.Objects.{Scheme, bound, mono}
+use Rattle.sml_objects.specs.Objects.{bound, mono}
 use Rattle.sml_rules.specs.Answers.{fault, fault_at}
 use Rattle.sml_rules.specs.Matching.{Realisation}
 use Rattle.sml_core_rules.specs.Answers as A
@@ -25,13 +24,12 @@ use Rattle.sml_core_rules.specs.Datatypes.{is_equality, listed, type_function, n
 use Rattle.sml_core_rules.specs.Datatypes as T
 use Rattle.sml_core_rules.specs.Expressions.{exception_type}
 use Rattle.sml_core_rules.specs.States.{Scope}
-use Rattle.sml_core_rules.specs.Scripts.{Script, give, ◌>>=◌, look, test, new_names}
+use Rattle.sml_core_rules.specs.Scripts.{give, ◌>>=◌, look, test, new_names}
 use Rattle.sml_module_rules.specs.Lines.{lines, IsSmallEnv}
 use Rattle.sml_module_rules.specs.Realising.{realise_env, is_same_name, admits_function, no_function, with_function}
 use Rattle.sml_module_rules.specs.Bound.{constructors_in, identifiers, inside, bound_name, function_at, name_at, joined_attributes, for_both, without, common_paths}
 use Rattle.sml_module_rules.specs.Signatures.{once, standing, is_variable, are_variables, applied_constructor, HasConstructors, read_values, read_exceptions, need_name, join, share_named, share, need_names, share_others, share_types, need_structures, share_paths, share_with, share_pairs, share_structures, KeepsConstructors, realise_name, read_where, attributes_of, described, read_types, read_datatypes, add, named}
 use Rattle.sml_places.specs.Places.{place_name, place_long, place_names, place_ty, place_tys, place_con_bind, place_dat_bind, place_where, place_val_desc, place_typ_desc}
-use Rattle.sml_places.specs.Answers.{place_fault}
 use Rattle.sml_places.proofs.Scripts.{AreSame, alike-then, alike-give, alike-refuse}
 use Rattle.sml_places.proofs.Types.{AreEqual, equal-then, equal-give, equal-ty, equal-argument, listed-same, function-same, datatypes-same}
 use Rattle.sml_places.proofs.Steps.{itself, same-look, same-need, same-test, same-names, alike-datatypes}

@@ -3,25 +3,23 @@ use Rattle.std.specs.Prelude.{◌≡◌, ◌↔◌, ℕ, Bool, List, [], ◌∷�
 use Rattle.std.proofs.lemmas.List.{map-append}
 use mathlib.Core.Path.{refl, sym, ap, subst, ◌∙◌}
 use mathlib.Core.Logic.{inl, inr}
-use Rattle.std.specs.List.{AllByRecursion}
 use Rattle.sml_lex.specs.declared.fault.Code.{Code}
 use Rattle.sml_lex.specs.Faults.{Fault}
 use Rattle.sml_tree.specs.Trees.{LongId}
 use Rattle.sml_tree.specs.Expressions.{DatBind}
 use Rattle.sml_objects.specs.Names.{Attributes}
-use Rattle.sml_objects.specs.Objects.{MlType, Scheme, free}
+use Rattle.sml_objects.specs.Objects.{MlType, free}
 use Rattle.sml_layers.specs.Demands.{Demand}
 use Rattle.sml_rules.specs.Answers.{Answer, refused, accepted}
 use Rattle.sml_rules.specs.Lookups.{Found}
 use Rattle.sml_rules.proofs.Sound.{accepted_same, not_refused}
-use Rattle.sml_core_rules.specs.Answers as A
 use Rattle.sml_core_rules.specs.Objects.{Env, names_env}
-use Rattle.sml_core_rules.specs.States.{Scope, State, Window, with_made}
-use Rattle.sml_core_rules.specs.Datatypes.{Arguments, AreNew, arguments_of}
-use Rattle.sml_core_rules.specs.Scripts.{Script, give, refuse, makes_datatypes, look, need, test, where_so, new_unknown, new_unknowns, require, so_far, set_window, stay_open, start_anew, new_row, new_overloaded, close, new_names, IsAnswer}
+use Rattle.sml_core_rules.specs.States.{Scope, Window, with_made}
+use Rattle.sml_core_rules.specs.Datatypes.{Arguments, arguments_of}
+use Rattle.sml_core_rules.specs.Scripts.{Script, makes_datatypes, look, need, test, where_so, new_unknown, new_unknowns, require, so_far, set_window, stay_open, start_anew, new_row, new_overloaded, close, new_names, IsAnswer}
 use Rattle.sml_places.specs.Places.{place_dat_bind}
 use Rattle.sml_places.specs.Answers.{place_fault, place_answer}
-use Rattle.sml_places.proofs.Scripts.{refused-same, place_rows, place_window, place_state, place_reply, AreAlike, AreSame, alike-give, alike-refuse, alike-tests, alike-either, alike-unknowns, alike-requires, alike-sees, alike-sets, alike-open, alike-anew, alike-names, alike-closes}
+use Rattle.sml_places.proofs.Scripts.{refused-same, place_window, place_state, place_reply, AreAlike, AreSame, alike-give, alike-refuse, alike-tests, alike-either, alike-unknowns, alike-requires, alike-sees, alike-sets, alike-open, alike-anew, alike-names, alike-closes}
 use Rattle.sml_places.proofs.Types.{AreEqual, equal-need, equal-arguments-of, new-same}
 
 -- an answer with other places is a fault or an object where the answer is

@@ -1,6 +1,6 @@
 -- Signatures, structures and the parts of top-level declarations with other places have the same answers, but for places.
-use Rattle.std.specs.Prelude.{◌≡◌, Bool, true, false, List, [], ◌∷◌, ◌++◌, map, Option, Some, None}
-use mathlib.Core.Path.{refl, sym, subst, ◌∙◌}
+use Rattle.std.specs.Prelude.{◌≡◌, true, false, List, [], ◌∷◌, ◌++◌, map, Option, Some, None}
+use mathlib.Core.Path.{refl, sym, subst}
 use Rattle.sml_lex.specs.declared.fault.Code.TheVariants.{E2, E3, E7, Q1}
 use Rattle.sml_tree.specs.Names.{Name}
 use Rattle.sml_tree.specs.Signatures.{SigExp, Spec, Specs, StrDescs, sig_end, sig_name, where_type, val_spec, type_spec, eqtype_spec, datatype_spec, copy_spec, exception_spec, structure_spec, include_spec, sharing_types, sharing_structures, no_spec, and_spec, str_desc, no_str_desc, and_str_desc}

@@ -1,7 +1,6 @@
 -- What is seen of trees but their places is the same where they have other places.
-use Rattle.std.specs.Prelude.{◌≡◌, Bool, true, false, not, ◌||◌, List, [], ◌∷◌, ◌++◌, map, Option, Some, None}
-use mathlib.Core.Path.{refl, sym, ap, ap₂, subst, ◌∙◌}
-use Rattle.sml_tree.specs.Trees.{Id}
+use Rattle.std.specs.Prelude.{◌≡◌, not, ◌||◌, List, [], ◌∷◌, ◌++◌, map, Option, Some, None}
+use mathlib.Core.Path.{refl, ap}
 use Rattle.sml_tree.specs.Names.{Name}
 use Rattle.sml_tree.specs.Types.{Ty, Tys, TyFields, ty_variable, ty_row, ty_tuple, ty_constructor, ty_misapplied, ty_arrow, ty_bracket, no_ty, and_ty, ty_field, no_ty_field, and_ty_field}
 use Rattle.sml_tree.specs.Patterns.{Pat, Pats, PatFields, wildcard, pat_constant, pat_name, pat_row, pat_tuple, pat_bracket, pat_apply, pat_typed, pat_as, no_pat, and_pat, pat_field, no_pat_field, and_pat_field}

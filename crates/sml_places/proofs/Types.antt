@@ -1,22 +1,22 @@
 -- Type expressions and bindings with other places: the answers are the same, but for places.
-use Rattle.std.specs.Prelude.{◌≡◌, ℕ, suc, Bool, true, false, List, [], ◌∷◌, ◌++◌, map, length, replicate, Option, Some, None}
+use Rattle.std.specs.Prelude.{◌≡◌, ℕ, suc, Bool, true, false, List, [], ◌∷◌, map, length, replicate, Option, Some, None}
 use Rattle.std.proofs.lemmas.List.{length-map}
-use mathlib.Core.Path.{refl, sym, ap, subst, ◌∙◌}
+use mathlib.Core.Path.{refl, ap, ◌∙◌}
 use Rattle.sml_lex.specs.declared.fault.Code.{Code}
-use Rattle.sml_lex.specs.declared.fault.Code.TheVariants.{E1, E2, E3, E4, E5, E8}
+use Rattle.sml_lex.specs.declared.fault.Code.TheVariants.{E1, E2, E3, E4, E5}
 use Rattle.sml_lex.specs.Faults.{Fault}
-use Rattle.sml_tree.specs.Trees.{Id, LongId}
+use Rattle.sml_tree.specs.Trees.{LongId}
 use Rattle.sml_tree.specs.Names.{Name, LongName}
 use Rattle.sml_tree.specs.Types.{Ty, Tys, TyFields, ty_variable, ty_row, ty_tuple, ty_constructor, ty_misapplied, ty_arrow, ty_bracket, no_ty, and_ty, ty_field, no_ty_field, and_ty_field}
 use Rattle.sml_tree.specs.Expressions.{TypBind, ConBind, DatBind, ExnBind, new_exception, exception_copy}
 use Rattle.sml_objects.specs.Maps.{Map, lookup, put}
 use Rattle.sml_objects.specs.Names.{Naming, Initial}
-use Rattle.sml_objects.specs.Objects.{MlType, MlTypes, Scheme, Outside, bound, free, app, name, and_type, arrow_of, tuple_of, mono}
+use Rattle.sml_objects.specs.Objects.{MlType, Scheme, Outside, bound, free, app, name, and_type, arrow_of, tuple_of, mono}
 use Rattle.sml_objects.specs.Types.{applied}
 use Rattle.sml_rules.specs.Answers.{Answer, refused, accepted, fault}
 use Rattle.sml_rules.specs.Lookups.{Found, found, no_path, no_entry}
 use Rattle.sml_core_rules.specs.Answers.{give, ◌>>=◌, check, need}
-use Rattle.sml_core_rules.specs.Objects.{Env, Value, TyStr, exception, maps, no_structure, of_types, extend, empty}
+use Rattle.sml_core_rules.specs.Objects.{Env, Value, TyStr, exception, maps, no_structure, of_types, extend}
 use Rattle.sml_core_rules.specs.Lookups.{value_at, type_at, structure_at}
 use Rattle.sml_core_rules.specs.Types.{Fields, put_field, row_of, variable_type, read_ty, read_tys, read_fields}
 use Rattle.sml_core_rules.specs.Datatypes.{Arguments, listed, types_from, type_function, name_function, is_equality, constructors_of, constructor_values, read_type_binds, read_argument, read_arguments, read_all_arguments, datatype_types, arguments_of, datatype_env, datatype_envs, AreNew}

@@ -1,7 +1,7 @@
 -- The beginning and the end of value declarations, types and datatypes, with other places.
 use Rattle.std.specs.Prelude.{◌≡◌, ◌↔◌, ℕ, Bool, true, false, List, [], ◌∷◌, map, Option, Some, None}
 use Rattle.std.specs.List.{AllByRecursion}
-use mathlib.Core.Path.{refl, sym, subst}
+use mathlib.Core.Path.{sym, subst}
 use Rattle.sml_lex.specs.declared.fault.Code.TheVariants.{E7, U6, U7}
 use Rattle.sml_tree.specs.Trees.{Id}
 use Rattle.sml_tree.specs.Expressions.{TypBind, DatBind}
@@ -15,7 +15,7 @@ use Rattle.sml_rules.specs.Answers.{fault}
 use Rattle.sml_core_rules.specs.Objects.{Env, of_types, of_values, values}
 use Rattle.sml_core_rules.specs.States.{Scope, State, no_window}
 use Rattle.sml_core_rules.specs.Solutions.{HasOneSetOfLabels, IsFixed, IsOverloaded}
-use Rattle.sml_core_rules.specs.Scripts.{Script, give, test, ◌>>=◌}
+use Rattle.sml_core_rules.specs.Scripts.{give, test, ◌>>=◌}
 use Rattle.sml_core_rules.specs.Values.{has_unknown}
 use Rattle.sml_core_rules.specs.Patterns.{Bindings}
 use Rattle.sml_core_rules.specs.Datatypes.{AreSmall, is_equality, with_names, datatype_envs}

@@ -1,5 +1,4 @@
 -- Answers with other places in the place of theirs.
-use Rattle.std.specs.Prelude.{map}
 use Rattle.sml_lex.specs.Faults.{Fault}
 use Rattle.sml_rules.specs.Answers.{Answer, refused, accepted}
 

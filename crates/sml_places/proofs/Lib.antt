@@ -10,3 +10,6 @@ pub mod Matching
 pub mod Sharing
 pub mod Structures
 pub mod Tops
+pub mod Pairs
+pub mod Carried
+pub mod AlikeRuns

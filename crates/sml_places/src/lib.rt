@@ -1,4 +1,4 @@
-// That answers look at no place: definitions, and the law. Nothing here runs.
+// That answers look at no place, and not behind seals: definitions, and the laws. Nothing here runs.
 #![tactic(auto)]
 
 pub mod laws;

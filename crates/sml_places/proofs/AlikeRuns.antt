@@ -1,4 +1,4 @@
--- Units that are alike are answered the same, but for what stands behind seals.
+-- Units that are alike, as their declarations are given, are answered the same but for what stands behind seals.
 use Rattle.std.specs.Prelude.{◌≡◌, ◌<◌, List, [], ◌∷◌, Option, Some, None, map, drop, is_some}
 use mathlib.Core.Path.{refl, sym, ap, ◌∙◌}
 use mathlib.Core.Logic.{inl, inr}

@@ -6,7 +6,7 @@ use mathlib.Core.Logic.{inl, inr}
 use mathlib.Core.Bool.{true≢false}
 use Rattle.sml_lex.specs.declared.fault.Place.{Place}
 use Rattle.sml_objects.specs.Initial.{Name}
-use Rattle.sml_rules.specs.Answers.{Answer, refused, accepted}
+use Rattle.sml_rules.specs.Answers.{refused, accepted}
 use Rattle.sml_rules.proofs.Sound.{not_refused}
 use Rattle.sml_module_rules.specs.Programs.{acceptance}
 use Rattle.sml_module_rules.specs.Projects.{UnitText}

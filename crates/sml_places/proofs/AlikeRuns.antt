@@ -1,20 +1,21 @@
--- Units that are alike are answered the same, but for what stands behind seals.
+-- Units that are alike, as their declarations are given, are answered the same but for what stands behind seals.
 use Rattle.std.specs.Prelude.{◌≡◌, ◌<◌, List, [], ◌∷◌, Option, Some, None, map, drop, is_some}
 use mathlib.Core.Path.{refl, sym, ap, ◌∙◌}
 use mathlib.Core.Logic.{inl, inr}
 use Rattle.std.specs.List.{AllByRecursion}
 use Rattle.sml_lex.specs.declared.fault.Place.{Place}
-use Rattle.sml_objects.specs.Initial.{Name}
+use Rattle.sml_objects.specs.Alike.{Renaming}
+use Rattle.sml_objects.specs.Initial.{Name, naming}
 use Rattle.sml_core_rules.specs.Initial.{initial_basis}
 use Rattle.sml_core_rules.specs.Objects.{Basis}
 use Rattle.sml_core_rules.specs.Scopes.{run_scope}
 use Rattle.sml_core_rules.specs.States.{Scope}
-use Rattle.sml_module_rules.specs.Programs.{basis_after, AreReadings, Pair, same, first, second, shown, all_shown}
+use Rattle.sml_module_rules.specs.Programs.{basis_after, AreReadings, Pair, same, first, second, acceptance, shown, all_shown}
 use Rattle.sml_module_rules.specs.Projects.{UnitText, UnitPair, Exports, exported, and_unit, AreRuns, units_shown}
-use Rattle.sml_module_rules.specs.Runs.{at_first}
-use Rattle.sml_module_rules.specs.Statements.{rename_shown}
+use Rattle.sml_module_rules.specs.Runs.{at_first, AreAnswers}
+use Rattle.sml_module_rules.specs.Statements.{rename_added, rename_shown}
 use Rattle.sml_module_rules.proofs.RunSeals.{runs-hide}
-use Rattle.sml_places.specs.Units.{Placed, IsAlike, AreAlike, AreUnitsAlike, Given, Agrees, AllAgree, UnitsAgree, IsRenamed, AreRenamed, UnitsAreRenamed, RunsOfAlikeUnitsHide}
+use Rattle.sml_places.specs.Units.{Placed, IsAlike, AreAlike, AreUnitsAlike, Given}
 use Rattle.sml_places.proofs.Pairs.{IsSide, made}
 use Rattle.sml_places.proofs.Carried.{AreSides, AreUnitSides, runs-carried}
 
@@ -22,9 +23,39 @@ abbrev head_or : {A : Type 0} → A → List A → A
 head_or d [] = d
 head_or d (x ∷ xs) = x
 
-abbrev shown_or : Given → Option Given → Given
+abbrev pub shown_or : Given → Option Given → Given
 shown_or d None = d
 shown_or d (Some o) = o
+
+-- Declarations are given as the same, or as groups that are alike. One given as a group is accepted in both or refused in both.
+
+abbrev pub AgreesBy : {d e : Placed} → IsAlike d e → Given → Given → Type 0
+AgreesBy (inl equal) o q = Unit {0}
+AgreesBy (inr alike) o q = is_some (acceptance o) ≡ is_some (acceptance q)
+
+abbrev pub AllAgreeBy : (ds es : List Placed) → AreAlike ds es → List Given → List Given → Type 0
+AllAgreeBy (d ∷ ds) (e ∷ es) alike (o ∷ os) (q ∷ qs) = AgreesBy alike.0 o q × AllAgreeBy ds es alike.1 os qs
+AllAgreeBy ds es alike os qs = Unit {0}
+
+abbrev pub UnitsAgreeBy : (us ws : List (UnitText Place)) → AreUnitsAlike us ws → List (List Given) → List (List Given) → Type 0
+UnitsAgreeBy (u ∷ us) (w ∷ ws) alike (os ∷ oss) (qs ∷ qss) = AllAgreeBy u.declarations w.declarations alike.0.2 os qs × UnitsAgreeBy us ws alike.1 oss qss
+UnitsAgreeBy us ws alike oss qss = Unit {0}
+
+-- The answer to the second of two is the answer to the first, renamed. Where they are given as groups, both may be refused instead.
+module _ (f : Name → Name) where
+  abbrev pub IsRenamedBy : {d e : Placed} → IsAlike d e → Given → Given → Type 0
+  IsRenamedBy (inl equal) o q = q ≡ rename_added f o
+  IsRenamedBy (inr alike) o q = acceptance q ≡ rename_shown f (acceptance o)
+
+  abbrev pub AreRenamedBy : (ds es : List Placed) → AreAlike ds es → List Given → List Given → Type 0
+  AreRenamedBy [] [] alike [] [] = Unit {0}
+  AreRenamedBy (d ∷ ds) (e ∷ es) alike (o ∷ os) (q ∷ qs) = IsRenamedBy alike.0 o q × AreRenamedBy ds es alike.1 os qs
+  AreRenamedBy ds es alike os qs = ⊥
+
+  abbrev pub UnitsAreRenamedBy : (us ws : List (UnitText Place)) → AreUnitsAlike us ws → List (List Given) → List (List Given) → Type 0
+  UnitsAreRenamedBy [] [] alike [] [] = Unit {0}
+  UnitsAreRenamedBy (u ∷ us) (w ∷ ws) alike (os ∷ oss) (qs ∷ qss) = AreRenamedBy u.declarations w.declarations alike.0.2 os qs × UnitsAreRenamedBy us ws alike.1 oss qss
+  UnitsAreRenamedBy us ws alike oss qss = ⊥
 
 -- the pairs
 
@@ -70,13 +101,13 @@ numbered (u ∷ us) (w ∷ ws) alike h = (h.0, numbered us ws alike.1 h.1)
 
 -- what agrees
 
-answer-agrees : (x y : Placed) (alike : IsAlike x y) (o q : Given) → Agrees alike o q → is_some (shown (pair_of x y alike) o) ≡ is_some (shown (pair_of x y alike) q)
+answer-agrees : (x y : Placed) (alike : IsAlike x y) (o q : Given) → AgreesBy alike o q → is_some (shown (pair_of x y alike) o) ≡ is_some (shown (pair_of x y alike) q)
 answer-agrees x y (inl s) o q h = refl
 answer-agrees x y (inr g) o q h =
     let m = made x.0 y.0 x.1 y.1 g in ap (λ a. is_some a) (m.is_shown o) ∙ (h ∙ ap (λ a. is_some a) (sym (m.is_shown q)))
 
 answers-agree : (s t : Scope Name) (xs ys : List Placed) (alike : AreAlike xs ys) (B C : Basis Name) (os qs : List Given) → AreReadings s B xs os → AreReadings t C ys qs
-    → AllAgree xs ys alike os qs → map is_some (all_shown (pairs_of xs ys alike) os) ≡ map is_some (all_shown (pairs_of xs ys alike) qs)
+    → AllAgreeBy xs ys alike os qs → map is_some (all_shown (pairs_of xs ys alike) os) ≡ map is_some (all_shown (pairs_of xs ys alike) qs)
 unfolding AreReadings
 answers-agree s t [] ys alike B C os qs a b h = refl
 answers-agree s t (x ∷ xs) [] alike B C os qs a b h = refl
@@ -87,7 +118,7 @@ answers-agree s t (x ∷ xs) (y ∷ ys) alike B C (o ∷ os) (q ∷ qs) a b h =
     let rest = answers-agree s t xs ys alike.1 (basis_after B o) (basis_after C q) os qs a.1 b.1 h.1 in λ i. e i ∷ rest i
 
 units-agree : (s : Scope Name) (I : Basis Name) (us ws : List (UnitText Place)) (alike : AreUnitsAlike us ws) (E F : Exports Name) (oss qss : List (List Given)) → AreRuns s I E us oss
-    → AreRuns s I F ws qss → UnitsAgree us ws alike oss qss
+    → AreRuns s I F ws qss → UnitsAgreeBy us ws alike oss qss
     → map (map is_some) (units_shown (units_of us ws alike) oss) ≡ map (map is_some) (units_shown (units_of us ws alike) qss)
 unfolding AreRuns
 units-agree s I [] ws alike E F oss qss a b h = refl
@@ -101,13 +132,13 @@ units-agree s I (u ∷ us) (w ∷ ws) alike E F (os ∷ oss) (qs ∷ qss) a b h 
 -- what is renamed
 
 module _ (f : Name → Name) where
-  answer-renamed : (x y : Placed) (alike : IsAlike x y) (o q : Given) → shown (pair_of x y alike) q ≡ rename_shown f (shown (pair_of x y alike) o) → IsRenamed f alike o q
+  answer-renamed : (x y : Placed) (alike : IsAlike x y) (o q : Given) → shown (pair_of x y alike) q ≡ rename_shown f (shown (pair_of x y alike) o) → IsRenamedBy f alike o q
   answer-renamed x y (inl s) o q h = ap (shown_or q) h
   answer-renamed x y (inr g) o q h =
       let m = made x.0 y.0 x.1 y.1 g in sym (m.is_shown q) ∙ (h ∙ ap (λ a. rename_shown f a) (m.is_shown o))
 
   answers-renamed : (s t : Scope Name) (xs ys : List Placed) (alike : AreAlike xs ys) (B C : Basis Name) (os qs : List Given) → AreReadings s B xs os → AreReadings t C ys qs
-      → all_shown (pairs_of xs ys alike) qs ≡ map (rename_shown f) (all_shown (pairs_of xs ys alike) os) → AreRenamed f xs ys alike os qs
+      → all_shown (pairs_of xs ys alike) qs ≡ map (rename_shown f) (all_shown (pairs_of xs ys alike) os) → AreRenamedBy f xs ys alike os qs
   unfolding AreReadings
   answers-renamed s t [] [] alike B C [] [] a b h = tt
   answers-renamed s t [] [] alike B C [] (q ∷ qs) a b h = absurd b
@@ -122,7 +153,7 @@ module _ (f : Name → Name) where
   )
 
   units-renamed : (s : Scope Name) (I : Basis Name) (us ws : List (UnitText Place)) (alike : AreUnitsAlike us ws) (E F : Exports Name) (oss qss : List (List Given)) → AreRuns s I E us oss
-      → AreRuns s I F ws qss → units_shown (units_of us ws alike) qss ≡ map (map (rename_shown f)) (units_shown (units_of us ws alike) oss) → UnitsAreRenamed f us ws alike oss qss
+      → AreRuns s I F ws qss → units_shown (units_of us ws alike) qss ≡ map (map (rename_shown f)) (units_shown (units_of us ws alike) oss) → UnitsAreRenamedBy f us ws alike oss qss
   unfolding AreRuns
   units-renamed s I [] [] alike E F [] [] a b h = tt
   units-renamed s I [] [] alike E F [] (qs ∷ qss) a b h = absurd b
@@ -136,8 +167,9 @@ module _ (f : Name → Name) where
     units-renamed s I us ws alike.1 (and_unit E (exported os)) (and_unit F (exported qs)) oss qss a.1 b.1 (ap (drop 1) h),
   )
 
-pub alike-units : RunsOfAlikeUnitsHide
-alike-units us ws counted alike oss qss a b agree =
+pub units-hide : (us ws : List (UnitText Place)) → AllByRecursion (λ u. 0 < u.number) us → (alike : AreUnitsAlike us ws) → (oss qss : List (List Given)) → AreAnswers us oss → AreAnswers ws qss
+    → UnitsAgreeBy us ws alike oss qss → (f : Renaming naming) × UnitsAreRenamedBy f.to us ws alike oss qss
+units-hide us ws counted alike oss qss a b agree =
     let rs = units_of us ws alike in
     let on = unit-sides us ws alike in
     let x = runs-carried first (run_scope 1) initial_basis rs us on.0 at_first oss a in

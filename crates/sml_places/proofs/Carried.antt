@@ -16,7 +16,7 @@ use Rattle.sml_places.specs.Units.{Placed}
 use Rattle.sml_places.proofs.Pairs.{IsSide}
 
 module _ {N : Type 0} where
-  -- one is a fault where the other is, and adds what it adds
+  -- the second is shown as the first is, and adds what it adds
   record Carries (r : Pair Place) (o q : Answer Place (Basis N)) : Type 0 where
     pub is_shown : shown r q ≡ shown r o
     pub adds : (B : Basis N) → basis_after B q ≡ basis_after B o

@@ -13,3 +13,4 @@ pub mod Tops
 pub mod Pairs
 pub mod Carried
 pub mod AlikeRuns
+pub mod Differing

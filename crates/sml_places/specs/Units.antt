@@ -1,7 +1,6 @@
 -- Units that are alike but for what stands behind seals, and what they may be answered.
 use Rattle.std.specs.Prelude.{◌≡◌, ◌⊎◌, ◌<◌, List, [], ◌∷◌, is_some}
 use Rattle.std.specs.List.{AllByRecursion}
-use mathlib.Core.Logic.{inl, inr}
 use Rattle.sml_lex.specs.declared.fault.Place.{Place}
 use Rattle.sml_tree.specs.Structures.{TopDec}
 use Rattle.sml_objects.specs.Alike.{Renaming}
@@ -39,40 +38,35 @@ AreUnitsAlike (u ∷ us) (w ∷ ws) = ((u.number ≡ w.number) × (u.needs ≡ w
 abbrev pub Given : Type 0
 Given = Answer Place (Basis Name)
 
--- a declaration that differs is accepted in both or refused in both
+-- each declaration that differs is accepted in both or refused in both
 
-abbrev pub Agrees : {d e : Placed} → IsAlike d e → Given → Given → Type 0
-Agrees (inl same) o q = Unit {0}
-Agrees (inr alike) o q = is_some (acceptance o) ≡ is_some (acceptance q)
+abbrev pub AllAgree : List Placed → List Placed → List Given → List Given → Type 0
+AllAgree (d ∷ ds) (e ∷ es) (o ∷ os) (q ∷ qs) = (¬ (d ≡ e) → is_some (acceptance o) ≡ is_some (acceptance q)) × AllAgree ds es os qs
+AllAgree ds es os qs = Unit {0}
 
-abbrev pub AllAgree : (ds es : List Placed) → AreAlike ds es → List Given → List Given → Type 0
-AllAgree (d ∷ ds) (e ∷ es) alike (o ∷ os) (q ∷ qs) = Agrees alike.0 o q × AllAgree ds es alike.1 os qs
-AllAgree ds es alike os qs = Unit {0}
+abbrev pub UnitsAgree : List (UnitText Place) → List (UnitText Place) → List (List Given) → List (List Given) → Type 0
+UnitsAgree (u ∷ us) (w ∷ ws) (os ∷ oss) (qs ∷ qss) = AllAgree u.declarations w.declarations os qs × UnitsAgree us ws oss qss
+UnitsAgree us ws oss qss = Unit {0}
 
-abbrev pub UnitsAgree : (us ws : List (UnitText Place)) → AreUnitsAlike us ws → List (List Given) → List (List Given) → Type 0
-UnitsAgree (u ∷ us) (w ∷ ws) alike (os ∷ oss) (qs ∷ qss) = AllAgree u.declarations w.declarations alike.0.2 os qs × UnitsAgree us ws alike.1 oss qss
-UnitsAgree us ws alike oss qss = Unit {0}
-
--- The answer to the second of two is the answer to the first, renamed. Where they differ, both may be refused instead.
+-- Each answer to the second of two is the answer to the first, renamed. Where they differ, both may be refused instead.
 module _ (f : Name → Name) where
-  abbrev pub IsRenamed : {d e : Placed} → IsAlike d e → Given → Given → Type 0
-  IsRenamed (inl same) o q = q ≡ rename_added f o
-  IsRenamed (inr alike) o q = acceptance q ≡ rename_shown f (acceptance o)
+  abbrev pub IsRenamed : Placed → Placed → Given → Given → Type 0
+  IsRenamed d e o q = (d ≡ e → q ≡ rename_added f o) × (acceptance q ≡ rename_shown f (acceptance o))
 
-  abbrev pub AreRenamed : (ds es : List Placed) → AreAlike ds es → List Given → List Given → Type 0
-  AreRenamed [] [] alike [] [] = Unit {0}
-  AreRenamed (d ∷ ds) (e ∷ es) alike (o ∷ os) (q ∷ qs) = IsRenamed alike.0 o q × AreRenamed ds es alike.1 os qs
-  AreRenamed ds es alike os qs = ⊥
+  abbrev pub AreRenamed : List Placed → List Placed → List Given → List Given → Type 0
+  AreRenamed [] [] [] [] = Unit {0}
+  AreRenamed (d ∷ ds) (e ∷ es) (o ∷ os) (q ∷ qs) = IsRenamed d e o q × AreRenamed ds es os qs
+  AreRenamed ds es os qs = ⊥
 
-  abbrev pub UnitsAreRenamed : (us ws : List (UnitText Place)) → AreUnitsAlike us ws → List (List Given) → List (List Given) → Type 0
-  UnitsAreRenamed [] [] alike [] [] = Unit {0}
-  UnitsAreRenamed (u ∷ us) (w ∷ ws) alike (os ∷ oss) (qs ∷ qss) = AreRenamed u.declarations w.declarations alike.0.2 os qs × UnitsAreRenamed us ws alike.1 oss qss
-  UnitsAreRenamed us ws alike oss qss = ⊥
+  abbrev pub UnitsAreRenamed : List (UnitText Place) → List (UnitText Place) → List (List Given) → List (List Given) → Type 0
+  UnitsAreRenamed [] [] [] [] = Unit {0}
+  UnitsAreRenamed (u ∷ us) (w ∷ ws) (os ∷ oss) (qs ∷ qss) = AreRenamed u.declarations w.declarations os qs × UnitsAreRenamed us ws oss qss
+  UnitsAreRenamed us ws oss qss = ⊥
 
 -- What stands behind `:>` can't be seen, and places don't count there. Of units that are alike, where each declaration that differs is
 -- accepted in both or refused in both, all answers are the same but for the names that the units made, and but for the faults of the
 -- declarations that differ.
 abbrev pub RunsOfAlikeUnitsHide : Type 0
 RunsOfAlikeUnitsHide =
-    (us ws : List (UnitText Place)) → AllByRecursion (λ u. 0 < u.number) us → (alike : AreUnitsAlike us ws) → (oss qss : List (List Given)) → AreAnswers us oss → AreAnswers ws qss
-    → UnitsAgree us ws alike oss qss → (f : Renaming naming) × UnitsAreRenamed f.to us ws alike oss qss
+    (us ws : List (UnitText Place)) → AllByRecursion (λ u. 0 < u.number) us → AreUnitsAlike us ws → (oss qss : List (List Given)) → AreAnswers us oss → AreAnswers ws qss
+    → UnitsAgree us ws oss qss → (f : Renaming naming) × UnitsAreRenamed f.to us ws oss qss

@@ -1,4 +1,4 @@
-use Rattle.sml_places.proofs.AlikeRuns.{alike-units}
+use Rattle.sml_places.proofs.Differing.{alike-units}
 use Rattle.sml_places.proofs.laws.alike_units_are_answered_alike.Goals as goal
 
 pub returns : goal.returns

@@ -1,6 +1,7 @@
 -- What is claimed of projects that are alike but for what stands behind seals. It is proved of the answers to their declarations
--- (`projects_hide` of sml_module_rules); of the bytes of replies it is a statement, on which no contract rests yet.
-use Rattle.std.specs.Prelude.{◌≡◌, true, false, List, [], ◌∷◌}
+-- (`alike_units_are_answered_alike` of sml_places, which speaks of such projects by `SourcesMakeUnits`); of the bytes of replies it is a
+-- statement, on which no contract rests yet.
+use Rattle.std.specs.Prelude.{◌≡◌, true, false, List, [], ◌∷◌, map}
 use Rattle.sml_lex.specs.declared.fault.Place.{Place}
 use Rattle.sml_tree.specs.Structures.{TopDec}
 use Rattle.sml_projects.specs.Orders.{UnitText}
@@ -8,7 +9,8 @@ use Rattle.sml_reply.specs.Replies.{form_text, accepts}
 use Rattle.sml_reply.specs.declared.form.Form.{Form}
 use Rattle.sml_reply.specs.declared.form.Version.{Version}
 use Rattle.sml_reply.specs.declared.reply.Reply.{Reply}
-use Rattle.sml_run_rules.specs.Sources.{Source}
+use Rattle.sml_places.specs.Units.{AreUnitsAlike}
+use Rattle.sml_run_rules.specs.Sources.{Source, unit_of}
 use Rattle.sml_run_rules.specs.Runs.{MayReply, UnitReplies}
 use Rattle.sml_run_rules.specs.Likeness.{AreSourcesAlike}
 
@@ -51,3 +53,7 @@ abbrev pub SealsIsolate : Type 0
 SealsIsolate =
     (us ws : List UnitText) (rs qs : List UnitReplies) (h : MayReply us rs) (k : MayReply ws qs) → AreSourcesAlike h.sources k.sources
     → AllAgreeAtSeals h.sources k.sources rs qs → AllHaveEqualReplies h.sources k.sources rs qs
+
+-- Units of sources that are alike are alike.
+abbrev pub SourcesMakeUnits : Type 0
+SourcesMakeUnits = (ss ts : List Source) → AreSourcesAlike ss ts → AreUnitsAlike (map unit_of ss) (map unit_of ts)

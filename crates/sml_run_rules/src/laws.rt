@@ -1,8 +1,15 @@
-//! That likeness is what it should be, in samples.
+//! That likeness is what it should be, in samples, and what is known of projects that are alike.
 
 ghost use Rattle.sml_run_rules.specs.Samples.{LikenessSamples};
+ghost use Rattle.sml_run_rules.specs.Seals.{SourcesMakeUnits};
 
 /// Groups of structures and functors are alike where their bodies differ behind equal seals, and not where they differ elsewhere.
 pub fn groups_are_alike_in_samples()
     ensures { LikenessSamples }
+{}
+
+/// The units of projects that are alike but for what stands behind seals are alike, so that what is known of the answers to alike units
+/// is known of the answers to them.
+pub fn sources_make_units()
+    ensures { SourcesMakeUnits }
 {}

@@ -1,10 +1,12 @@
 -- Samples of likeness.
 use Rattle.std.proofs.Common.{refl, inl, inr}
 use Rattle.sml_places.specs.Likeness.{AreSealedAlike, AreOpenedAlike, Opens}
+use Rattle.sml_places.specs.Places.{place_sig, place_specs, place_str, place_str_decs}
 use Rattle.sml_run_rules.specs.Samples.{LikenessSamples, at, empty_body, other_body, sealed}
 use Rattle.sml_tree.specs.Signatures.{sig_end, no_spec}
 
 sealed-bodies : AreSealedAlike (sealed 5 empty_body) (sealed 7 other_body)
+unfolding place_sig place_specs
 sealed-bodies = record {
   first_place = at 5;
   second_place = at 7;
@@ -18,8 +20,9 @@ sealed-bodies = record {
 }
 
 pub likeness-samples : LikenessSamples
+unfolding place_sig place_specs place_str place_str_decs
 likeness-samples = record {
-  sealed_alike = (refl, inr sealed-bodies, refl, inl refl, tt);
+  sealed_alike = (refl, inr sealed-bodies, (refl, inl refl, tt));
   opened_alike = (
     (
       refl,
@@ -35,6 +38,6 @@ likeness-samples = record {
     ),
     tt,
   );
-  transparent_differ = λ h. elim h.1.0 [ inl e ↦ cc | inr s ↦ cc ];
-  plain_differ = λ h. elim h.1.0 [ inl e ↦ cc | inr s ↦ cc ];
+  transparent_differ = λ h. elim h.1 [ inl e ↦ cc | inr s ↦ let first = s.first in cc ];
+  plain_differ = λ h. elim h.1 [ inl e ↦ cc | inr s ↦ let first = s.first in cc ];
 }

@@ -1,1 +1,4 @@
 pub mod Samples
+pub mod MovedPieces
+pub mod MovedLines
+pub mod MovedTexts

@@ -2,4 +2,5 @@ pub mod BasisLines
 pub mod Canonical
 pub mod Paths
 pub mod Texts
+pub mod Statements
 pub mod Samples

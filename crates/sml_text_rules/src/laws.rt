@@ -1,9 +1,17 @@
-//! That the definitions print what they should: samples of each form of line.
+//! That the definitions print what they should: samples of each form of line. And that texts don't change when names are renamed.
 
+ghost use Rattle.sml_objects.specs.Initial.{naming};
 ghost use Rattle.sml_text_rules.specs.Samples.{TextSamples};
+ghost use Rattle.sml_text_rules.specs.Statements.{TextsMove};
 
 /// Structures, datatypes, exceptions, values, functors and signatures print as they should in samples, names by their numbers and
 /// by their paths, and so do refusals and warnings; and new names are numbered anew.
 pub fn samples_print()
     ensures { TextSamples }
+{}
+
+/// The text of a basis and of an answer stays the same where a renaming is carried through it and through the basis before it, in
+/// both versions of replies. So no text depends on which new names were taken.
+pub fn texts_move_with_names()
+    ensures { TextsMove naming }
 {}

@@ -58,10 +58,10 @@ module _ {A B : Type 0} (f g : A → B) where
   abbrev pub Agree : List A → Type 0
   Agree ns = (n : A) → Stands n ns → f n ≡ g n
 
-  on-left : (ms ns : List A) → Agree (ms ++ ns) → Agree ms
+  pub on-left : (ms ns : List A) → Agree (ms ++ ns) → Agree ms
   on-left ms ns h n s = h n (left n ms ns s)
 
-  on-right : (ms ns : List A) → Agree (ms ++ ns) → Agree ns
+  pub on-right : (ms ns : List A) → Agree (ms ++ ns) → Agree ns
   on-right ms ns h n s = h n (right n ms ns s)
 
   head-agrees : (h : Head A) → Agree (names_head h) → rename_head f h ≡ rename_head g h
@@ -84,7 +84,7 @@ module _ {A B : Type 0} (f g : A → B) where
     types-agree (and_type t ts) a =
         λ i. and_type (type-agrees t (on-left (appear_type t) (appear_types ts) a) i) (types-agree ts (on-right (appear_type t) (appear_types ts) a) i)
 
-  scheme-agrees : (σ : Scheme A) → Agree (appear_type σ.body) → rename_scheme f σ ≡ rename_scheme g σ
+  pub scheme-agrees : (σ : Scheme A) → Agree (appear_type σ.body) → rename_scheme f σ ≡ rename_scheme g σ
   unfolding rename_scheme
   scheme-agrees σ a = λ i. record { variables = σ.variables; body = type-agrees σ.body a i }
 

@@ -3,4 +3,6 @@ pub mod MovedPieces
 pub mod MovedLines
 pub mod MovedTexts
 pub mod Appearances
-pub mod CanonicalLines
+pub mod StandingLines
+pub mod Agreeing
+pub mod CanonicalBases

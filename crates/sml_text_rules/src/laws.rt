@@ -1,8 +1,8 @@
-//! That the definitions print what they should: samples of each form of line. And that the new names that were taken show neither
-//! in texts nor in the lines of canonical bases.
+//! That the definitions print what they should: samples of each form of line. And that it shows neither in texts nor in canonical
+//! bases which new names were taken.
 
 ghost use Rattle.sml_objects.specs.Initial.{naming};
-ghost use Rattle.sml_text_rules.specs.CanonicalLaws.{CanonicalLinesAreOne};
+ghost use Rattle.sml_text_rules.specs.CanonicalLaws.{CanonicalIsOne, CanonicalLinesAreOne};
 ghost use Rattle.sml_text_rules.specs.Samples.{TextSamples};
 ghost use Rattle.sml_text_rules.specs.Statements.{TextsMove};
 
@@ -21,4 +21,9 @@ pub fn texts_move_with_names()
 /// Bases that are alike over a basis have canonical bases with the same lines.
 pub fn canonical_lines_are_one()
     ensures { CanonicalLinesAreOne }
+{}
+
+/// Bases that are alike over a basis have one canonical basis, where each new name appears in a line.
+pub fn canonical_is_one()
+    ensures { CanonicalIsOne }
 {}

@@ -1,4 +1,4 @@
-use Rattle.sml_text_rules.proofs.CanonicalLines.{canonical-lines-are-one}
+use Rattle.sml_text_rules.proofs.CanonicalBases.{canonical-lines-are-one}
 use Rattle.sml_text_rules.proofs.laws.canonical_lines_are_one.Goals as goal
 
 pub returns : goal.returns

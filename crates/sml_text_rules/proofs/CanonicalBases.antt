@@ -1,4 +1,4 @@
--- Bases that are alike have canonical bases with the same lines.
+-- Bases that are alike have one canonical basis.
 use Rattle.std.proofs.Common.{◌≡◌, ◌⊎◌, ℕ, ◌+◌, Bool, true, false, cond, List, [], map, filter, refl, ap, sym, subst, ◌∙◌, inl, inr}
 use Rattle.sml_objects.specs.Alike.{Renaming}
 use Rattle.sml_objects.specs.Appearance.{Stands, stands, firsts_after}
@@ -9,9 +9,11 @@ use Rattle.sml_objects.proofs.Standing.{image, kept, found, stands-or-not, first
 use Rattle.sml_core_rules.specs.Objects.{Basis, rename_basis, names_basis}
 use Rattle.sml_text_rules.specs.BasisLines.{basis_lines, appear_basis}
 use Rattle.sml_text_rules.specs.Canonical.{new_names, canonical}
-use Rattle.sml_text_rules.specs.CanonicalLaws.{IsOver, CanonicalLinesAreOne}
+use Rattle.sml_text_rules.specs.CanonicalLaws.{AreOver, CanonicalLinesAreOne, CanonicalIsOne}
 use Rattle.sml_text_rules.proofs.MovedLines.{basis-lines-moved}
 use Rattle.sml_text_rules.proofs.Appearances.{basis-image, lines-agree}
+use Rattle.sml_text_rules.proofs.StandingLines.{basis-stands}
+use Rattle.sml_text_rules.proofs.Agreeing.{basis-agrees}
 use Rattle.sml_core_rules.proofs.Renaming.{objects-obey}
 
 module _ (unit count : ℕ) where
@@ -26,12 +28,12 @@ module _ (unit count : ℕ) where
       go (inl s) = absurd s
       go (inr s) = s
 
-  -- a name in the lines that is not among the new ones is old
-  not-new : (D : Basis Name) (n : Name) → Stands n (appear_basis D) → stands naming n (new_names unit count D) ≡ false → is_new unit count n ≡ false
+  -- a name that appears in the lines if it is new, and that is not among the new ones, is old
+  not-new : (D : Basis Name) (n : Name) → (is_new unit count n ≡ true → Stands n (appear_basis D)) → stands naming n (new_names unit count D) ≡ false → is_new unit count n ≡ false
   not-new D n h e = go (is_new unit count n) refl
     where
       go : (b : Bool) → is_new unit count n ≡ b → is_new unit count n ≡ false
-      go true k = let s : stands naming n (new_names unit count D) ≡ true = found naming n (new_names unit count D) (in-new D n h k) in cc
+      go true k = let s : stands naming n (new_names unit count D) ≡ true = found naming n (new_names unit count D) (in-new D n (h k) k) in cc
       go false k = k
 
   kept-place : (ns : List Name) (n : Name) → stands naming n ns ≡ true → renumber unit count ns n ≡ with_number unit (count + index_of naming n ns) n
@@ -44,7 +46,7 @@ module _ (unit count : ℕ) where
 
   -- two bases that are alike
 
-  module _ (B R S : Basis Name) (over : IsOver unit count B R) (over' : IsOver unit count B S)
+  module _ (B R S : Basis Name) (over : AreOver unit count B (appear_basis R)) (over' : AreOver unit count B (appear_basis S))
       (f : Renaming naming) (fixed : (n : Name) → Stands n (names_basis B) → f.to n ≡ n) (e : rename_basis f.to R ≡ S) where
     one : (m n : Name) → f.to m ≡ f.to n → m ≡ n
     one m n h = one_to_one naming f m n h
@@ -76,9 +78,9 @@ module _ (unit count : ℕ) where
     unfolding naming
     number-kept k n = λ i. made unit k (sym (f.keeps n) i).arity (sym (f.keeps n) i).equality
 
-    renumbered-alike : (n : Name) → Stands n (appear_basis R)
+    renumbered-alike : (n : Name) → (is_new unit count n ≡ true → Stands n (appear_basis R)) → (is_new unit count n ≡ false → f.to n ≡ n)
         → renumber unit count (map f.to (new_names unit count R)) (f.to n) ≡ renumber unit count (new_names unit count R) n
-    renumbered-alike n h = go (stands-or-not naming n ns)
+    renumbered-alike n h k = go (stands-or-not naming n ns)
       where
         ns : List Name
         ns = new_names unit count R
@@ -91,7 +93,7 @@ module _ (unit count : ℕ) where
             ∙ sym (kept-place ns n s)
         go (inr s) =
             kept-name (map f.to ns) (f.to n) (stands-map naming f.to one n ns ∙ s)
-            ∙ stays n h (not-new R n h s)
+            ∙ k (not-new R n h s)
             ∙ sym (kept-name ns n s)
 
     lines-equal : basis_lines (canonical unit count R) ≡ basis_lines (canonical unit count S)
@@ -99,10 +101,23 @@ module _ (unit count : ℕ) where
         let r : Name → Name = renumber unit count (new_names unit count R) in
         let q : Name → Name = renumber unit count (map f.to (new_names unit count R)) in
         basis-lines-moved r R
-        ∙ sym (lines-agree (λ n. q (f.to n)) r (basis_lines R) renumbered-alike)
+        ∙ sym (lines-agree (λ n. q (f.to n)) r (basis_lines R) (λ n h. renumbered-alike n (λ _. h) (stays n h)))
         ∙ sym (basis-lines-moved (λ n. q (f.to n)) R)
         ∙ ap basis_lines (sym (objects-obey.bases.composition f.to q R))
         ∙ (λ i. basis_lines (rename_basis (renumber unit count (sym new-moved i)) (e i)))
 
+    bases-equal : AreOver unit count B (names_basis R) → ((n : Name) → Stands n (names_basis R) → is_new unit count n ≡ true → Stands n (appear_basis R))
+        → canonical unit count R ≡ canonical unit count S
+    bases-equal whole shown =
+        let r : Name → Name = renumber unit count (new_names unit count R) in
+        let q : Name → Name = renumber unit count (map f.to (new_names unit count R)) in
+        sym (basis-agrees (λ n. q (f.to n)) r R (λ n h. renumbered-alike n (shown n h) (λ k. fixed n (whole n h k))))
+        ∙ sym (objects-obey.bases.composition f.to q R)
+        ∙ (λ i. rename_basis (renumber unit count (sym new-moved i)) (e i))
+
 pub canonical-lines-are-one : CanonicalLinesAreOne
 canonical-lines-are-one unit count B R S over over' (f, fixed, e) = lines-equal unit count B R S over over' f fixed e
+
+pub canonical-is-one : CanonicalIsOne
+canonical-is-one unit count B R S over over' shown (f, fixed, e) =
+    bases-equal unit count B R S (λ n h. over n (basis-stands n R h)) (λ n h. over' n (basis-stands n S h)) f fixed e over shown

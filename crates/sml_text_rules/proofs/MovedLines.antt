@@ -1,16 +1,14 @@
 -- The lines of what is renamed are the lines with their components renamed.
-use Rattle.std.proofs.Common.{◌≡◌, ℕ, List, [], ◌∷◌, ◌++◌, map, codes, refl, ap, ◌∙◌}
+use Rattle.std.proofs.Common.{◌≡◌, List, [], ◌∷◌, ◌++◌, map, codes, refl, ap, ◌∙◌}
 use Rattle.std.specs.List.{flat_map}
 use Rattle.sml_tree.specs.Trees.{Id}
 use Rattle.sml_objects.specs.Maps.{Map}
-use Rattle.sml_objects.specs.Objects.{rename_scheme}
 use Rattle.sml_objects.proofs.Renaming.{parts-image}
-use Rattle.sml_texts.specs.Text.{say}
-use Rattle.sml_core_rules.specs.Objects.{Env, Maps, Structures, Value, TyStr, Sig, FunSig, Basis, maps, no_structure, and_structure, replaced, replace, replace_structures, rename_value, rename_ty_str, rename_env, rename_sig, rename_fun_sig, rename_basis, names_map}
-use Rattle.sml_module_rules.specs.Lines.{Line, Component, a_structure, a_type, a_value, at_path, path_of, type_lines, value_lines, lines, structure_lines}
+use Rattle.sml_core_rules.specs.Objects.{Env, Structures, Value, TyStr, Sig, FunSig, Basis, maps, no_structure, and_structure, replaced, replace, replace_structures, rename_value, rename_ty_str, rename_env, rename_sig, rename_fun_sig, rename_basis, names_map}
+use Rattle.sml_module_rules.specs.Lines.{Line, a_structure, a_type, a_value, at_path, path_of, type_lines, value_lines, lines, structure_lines}
 use Rattle.sml_rules.specs.Answers.{dotted}
 use Rattle.sml_text_rules.specs.BasisLines.{BasisLine, of_env, of_signature, of_functor, signature_lines, functor_lines, basis_lines, bound_names}
-use Rattle.sml_text_rules.specs.Texts.{component_pieces, line_pieces, basis_pieces}
+use Rattle.sml_text_rules.specs.Texts.{line_pieces, basis_pieces}
 use Rattle.sml_text_rules.proofs.MovedPieces.{move_all, move_component, both, said, component-moved}
 
 module _ {A B : Type 0} (f : A → B) where
@@ -93,7 +91,7 @@ module _ {A B : Type 0} (f : A → B) where
 
   -- the names that are bound
 
-  map-names : {X Y : Type 0} (r : X → Y) (names : X → List A) (names' : Y → List B) → ((x : X) → names' (r x) ≡ map f (names x))
+  pub map-names : {X Y : Type 0} (r : X → Y) (names : X → List A) (names' : Y → List B) → ((x : X) → names' (r x) ≡ map f (names x))
       → (m : Map X) → names_map names' (replaced r m) ≡ map f (names_map names m)
   map-names r names names' h [] = refl
   map-names r names names' h (e ∷ m) = parts-image f (names e.1) (names_map names m) _ _ (h e.1) (map-names r names names' h m)

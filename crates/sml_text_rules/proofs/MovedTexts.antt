@@ -3,9 +3,8 @@ use Rattle.std.proofs.Common.{◌≡◌, ℕ, suc, Bool, true, false, cond, not,
 use Rattle.std.proofs.lemmas.List.{map-append, length-map}
 use Rattle.std.specs.Option.{option_map}
 use Rattle.std.specs.List.{flat_map}
-use Rattle.sml_tree.specs.Trees.{Id, LongId}
+use Rattle.sml_tree.specs.Trees.{Id}
 use Rattle.sml_objects.specs.Alike.{Renaming}
-use Rattle.sml_objects.specs.Appearance.{stands}
 use Rattle.sml_objects.specs.Canonical.{index_of}
 use Rattle.sml_objects.specs.Names.{Naming, Initial, int, word, char, string, bool, exn, real, list, ref}
 use Rattle.sml_objects.specs.Objects.{MlType, MlTypes, Scheme, arrow, row, name, bound, free, app, no_type, and_type, rename_type, rename_types, rename_scheme}

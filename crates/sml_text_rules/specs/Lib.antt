@@ -1,5 +1,6 @@
 pub mod BasisLines
 pub mod Canonical
+pub mod CanonicalLaws
 pub mod Paths
 pub mod Texts
 pub mod Statements

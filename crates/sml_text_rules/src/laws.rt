@@ -7,7 +7,7 @@ ghost use Rattle.sml_text_rules.specs.Samples.{TextSamples};
 ghost use Rattle.sml_text_rules.specs.Statements.{TextsMove};
 
 /// Structures, datatypes, exceptions, values, functors and signatures print as they should in samples, names by their numbers and
-/// by their paths, and so do refusals and warnings; and new names are numbered anew.
+/// by their paths, and so do refusals and warnings.
 pub fn samples_print()
     ensures { TextSamples }
 {}

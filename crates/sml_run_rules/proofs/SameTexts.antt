@@ -1,5 +1,5 @@
 -- Texts of an answer and of the same answer renamed, without warnings.
-use Rattle.std.specs.Prelude.{◌≡◌, ℕ, Bool, true, false, List, [], Option, Some, None, is_some}
+use Rattle.std.specs.Prelude.{◌≡◌, ℕ, true, false, List, [], Option, Some, None, is_some}
 use mathlib.Core.Path.{refl, sym, ap, ◌∙◌}
 use mathlib.Core.Bool.{true≢false}
 use Rattle.sml_tree.specs.Trees.{Id}
@@ -11,7 +11,7 @@ use Rattle.sml_module_rules.specs.Programs.{acceptance, basis_after}
 use Rattle.sml_module_rules.specs.Statements.{rename_added, rename_shown}
 use Rattle.sml_places.specs.Units.{Given}
 use Rattle.sml_text_rules.specs.Paths.{path_in}
-use Rattle.sml_text_rules.specs.Texts.{Answered, answer_text, no_path}
+use Rattle.sml_text_rules.specs.Texts.{Answered, answer_text}
 use Rattle.sml_text_rules.specs.Statements.{rename_answered}
 use Rattle.sml_text_rules.proofs.MovedTexts.{texts-move}
 use Rattle.sml_reply.specs.declared.form.Version.{Version}

@@ -2,7 +2,7 @@
 use Rattle.std.specs.Prelude.{◌≡◌, ◌<◌, ℕ, zero, suc, true, false, List, [], ◌∷◌, ◌++◌, map, Option, Some, None, get_or}
 use Rattle.std.proofs.Common.{arith}
 use Rattle.std.specs.List.{AllByRecursion}
-use mathlib.Core.Path.{refl, sym, ap, subst, ◌∙◌}
+use mathlib.Core.Path.{refl, sym, subst, ◌∙◌}
 use Rattle.sml_lex.specs.declared.fault.Place.{Place}
 use Rattle.sml_lex.specs.Faults.{Fault, first_place}
 use Rattle.sml_tree.specs.Structures.{TopDec}
@@ -11,7 +11,7 @@ use Rattle.sml_objects.specs.Initial.{Name, naming}
 use Rattle.sml_core_rules.specs.Initial.{initial_basis}
 use Rattle.sml_core_rules.specs.Objects.{Basis, extend, rename_env, replace, replace_structures}
 use Rattle.sml_module_rules.specs.Structures.{nothing, add_basis}
-use Rattle.sml_module_rules.specs.Programs.{acceptance, basis_after}
+use Rattle.sml_module_rules.specs.Programs.{basis_after}
 use Rattle.sml_module_rules.specs.Projects.{Exports, after_all, exported, with_needs, beginning, and_unit}
 use Rattle.sml_module_rules.specs.Runs.{at_first}
 use Rattle.sml_module_rules.specs.Statements.{rename_added}

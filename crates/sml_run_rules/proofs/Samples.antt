@@ -1,6 +1,6 @@
 -- Samples of likeness.
 use Rattle.std.proofs.Common.{refl, inl, inr}
-use Rattle.sml_places.specs.Likeness.{AreSealedAlike, AreOpenedAlike, Opens}
+use Rattle.sml_places.specs.Likeness.{AreSealedAlike}
 use Rattle.sml_places.specs.Places.{place_sig, place_specs, place_str, place_str_decs}
 use Rattle.sml_run_rules.specs.Samples.{LikenessSamples, at, empty_body, other_body, sealed}
 use Rattle.sml_tree.specs.Signatures.{sig_end, no_spec}

@@ -1,11 +1,11 @@
 -- Samples of declarations that are alike, and of some that are not.
-use Rattle.std.specs.Prelude.{ℕ, List, [], ◌∷◌, codes}
+use Rattle.std.specs.Prelude.{ℕ, [], ◌∷◌, codes}
 use Rattle.sml_lex.specs.declared.fault.Place.{Place}
 use Rattle.sml_tree.specs.Trees.{Id}
 use Rattle.sml_tree.specs.Names.{Name, LongName}
 use Rattle.sml_tree.specs.Expressions.{open_dec}
-use Rattle.sml_tree.specs.Signatures.{SigExp, sig_end, no_spec}
-use Rattle.sml_tree.specs.Structures.{StrExp, StrBinds, TopDec, struct_end, str_name, ascribed, str_let, core_dec, structure_dec, no_str_dec, and_str_dec, str_bind, no_str_bind, and_str_bind, top_str, functor_dec}
+use Rattle.sml_tree.specs.Signatures.{sig_end, no_spec}
+use Rattle.sml_tree.specs.Structures.{StrExp, TopDec, struct_end, str_name, ascribed, str_let, core_dec, structure_dec, no_str_dec, and_str_dec, str_bind, no_str_bind, and_str_bind, top_str, functor_dec}
 use Rattle.sml_tree.specs.declared.structures.Ascription.TheVariants.{Transparent, Opaque}
 use Rattle.sml_places.specs.Likeness.{AreGroupsAlike}
 

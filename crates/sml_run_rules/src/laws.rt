@@ -1,7 +1,7 @@
 //! That likeness is what it should be, in samples, and what is known of projects that are alike.
 
 ghost use Rattle.sml_run_rules.specs.Samples.{LikenessSamples};
-ghost use Rattle.sml_run_rules.specs.Seals.{SourcesMakeUnits};
+ghost use Rattle.sml_run_rules.specs.Seals.{SourcesMakeUnits, SealsIsolateLines};
 
 /// Groups of structures and functors are alike where their bodies differ behind equal seals, and not where they differ elsewhere.
 pub fn groups_are_alike_in_samples()
@@ -12,4 +12,11 @@ pub fn groups_are_alike_in_samples()
 /// is known of the answers to them.
 pub fn sources_make_units()
     ensures { SourcesMakeUnits }
+{}
+
+/// Of two projects that differ only in what stands behind seals, where each declaration that differs is accepted in both or refused in
+/// both, all other declarations are replied to with the same bytes in both versions, without warnings. So are those that differ and are
+/// accepted, and a last fault is replied to with the same bytes in every form.
+pub fn seals_isolate_lines()
+    ensures { SealsIsolateLines }
 {}

@@ -9,8 +9,8 @@ use Rattle.sml_layers.specs.Demands.{CanBeMet}
 use Rattle.sml_rules.specs.Answers.{Answer, accepted}
 use Rattle.sml_rules.proofs.Settled.{outside-right}
 use Rattle.sml_rules.proofs.Sound.{accepted_same, not_refused}
-use Rattle.sml_core_rules.specs.States.{Scope, State, words, with_unknowns, with_made, with_demand, with_window, opened, afresh}
-use Rattle.sml_core_rules.specs.Scripts.{Script, give, refuse, tests, either, makes_unknowns, requires, sees, sets_window, stays_open, starts_anew, requires_or, closes, determines, makes_names, makes_datatypes, ◌>>=◌, IsAnswer}
+use Rattle.sml_core_rules.specs.States.{Scope, State, words, with_unknowns, with_made, with_demand, with_window, with_judged, opened, afresh}
+use Rattle.sml_core_rules.specs.Scripts.{Script, give, refuse, tests, either, makes_unknowns, requires, sees, sets_window, stays_open, judges, starts_anew, requires_or, closes, determines, makes_names, makes_datatypes, ◌>>=◌, IsAnswer}
 
 module _ {P N : Type 0} (scope : Scope N) where
   pub given : {X : Type 0} (x : X) (s : State P N) (r : X × State P N) → IsAnswer scope (give x) s (accepted r) → r.0 ≡ x
@@ -40,6 +40,7 @@ module _ {P N : Type 0} (scope : Scope N) where
   bind-accepted (sees k) f s r h = bind-accepted (k s) f s r h
   bind-accepted (sets_window w k) f s r h = bind-accepted k f (with_window w s) r h
   bind-accepted (stays_open k) f s r h = bind-accepted k f (opened s) r h
+  bind-accepted (judges j k) f s r h = bind-accepted k f (with_judged j s) r h
   bind-accepted (starts_anew k) f s r h = bind-accepted k f (afresh s) r h
   bind-accepted (requires_or d e k) f s r (inl (c, h)) = let a = bind-accepted k f (with_demand d s) r h in (a.0, inl (c, a.1), a.2)
   bind-accepted (requires_or d e k) f s r (inr h) = absurd (not_refused h.1)
@@ -65,6 +66,7 @@ module _ {P N : Type 0} (scope : Scope N) where
   bind-joined (sees m) f s q o h k = bind-joined (m s) f s q o h k
   bind-joined (sets_window w m) f s q o h k = bind-joined m f (with_window w s) q o h k
   bind-joined (stays_open m) f s q o h k = bind-joined m f (opened s) q o h k
+  bind-joined (judges j m) f s q o h k = bind-joined m f (with_judged j s) q o h k
   bind-joined (starts_anew m) f s q o h k = bind-joined m f (afresh s) q o h k
   bind-joined (requires_or d e m) f s q o (inl (c, h)) k = inl (c, bind-joined m f (with_demand d s) q o h k)
   bind-joined (requires_or d e m) f s q o (inr h) k = absurd (not_refused h.1)
@@ -117,6 +119,7 @@ module _ {P N : Type 0} (scope : Scope N) where
   kept (sees k) s r h = kept (k s) s r h
   kept (sets_window w k) s r h = kept-after s (with_window w s) r.1 (record { met = λ m. m; added = ([], refl) }) (kept k (with_window w s) r h)
   kept (stays_open k) s r h = kept-after s (opened s) r.1 (record { met = λ m. m; added = ([], refl) }) (kept k (opened s) r h)
+  kept (judges j k) s r h = kept-after s (with_judged j s) r.1 (record { met = λ m. m; added = ([], refl) }) (kept k (with_judged j s) r h)
   kept (starts_anew k) s r h = kept-after s (afresh s) r.1 (record { met = met-afresh s; added = ([], refl) }) (kept k (afresh s) r h)
   kept (requires_or d e k) s r (inl (c, h)) = kept-after s (with_demand d s) r.1 (record { met = λ m. c; added = ([], refl) }) (kept k (with_demand d s) r h)
   kept (requires_or d e k) s r (inr h) = absurd (not_refused h.1)

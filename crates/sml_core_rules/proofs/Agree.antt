@@ -19,10 +19,10 @@ use Rattle.sml_lex.specs.Faults.{Fault}
 use Rattle.sml_objects.proofs.Standing.{left, right}
 use Rattle.sml_rules.specs.Answers.{Answer, refused, accepted, fault}
 use Rattle.sml_core_rules.specs.Objects.{Env, names_env, empty}
-use Rattle.sml_core_rules.specs.States.{Scope, State, words, AreMade, with_unknowns, with_made, with_demand, with_window, opened, afresh}
+use Rattle.sml_core_rules.specs.States.{Scope, State, words, AreMade, with_unknowns, with_made, with_demand, with_window, with_judged, opened, afresh}
 use Rattle.sml_core_rules.specs.Solutions.{Meets, IsScheme, IsAlways}
 use Rattle.sml_core_rules.specs.Datatypes.{Arguments, AreNew, AdmitAsManyAsCan, with_names, arguments_of}
-use Rattle.sml_core_rules.specs.Scripts.{Script, give, refuse, tests, either, makes_unknowns, requires, sees, sets_window, stays_open, starts_anew, requires_or, closes, determines, makes_names, makes_datatypes, IsAnswer}
+use Rattle.sml_core_rules.specs.Scripts.{Script, give, refuse, tests, either, makes_unknowns, requires, sees, sets_window, stays_open, judges, starts_anew, requires_or, closes, determines, makes_names, makes_datatypes, IsAnswer}
 use Rattle.sml_core_rules.proofs.Accepted.{met-afresh}
 use Rattle.sml_core_rules.proofs.Along.{Become, become-list, become-left, become-right, become-known}
 use Rattle.sml_core_rules.proofs.Flags.{value_of, same-fault, not-both, becomes, become-others, follows, equal-lists, equal-kinds, new-count, same-count}
@@ -52,6 +52,7 @@ module _ {P N X : Type 0} where
   next c (sees k) s = k s
   next c (sets_window w k) s = k
   next c (stays_open k) s = k
+  next c (judges j k) s = k
   next c (starts_anew k) s = k
   next c (requires_or d f k) s = k
   next c (closes n x t k) s = k c.scheme
@@ -69,6 +70,7 @@ module _ {P N X : Type 0} where
   later c (sees k) s = s
   later c (sets_window w k) s = with_window w s
   later c (stays_open k) s = opened s
+  later c (judges j k) s = with_judged j s
   later c (starts_anew k) s = afresh s
   later c (requires_or d f k) s = with_demand d s
   later c (closes n x t k) s = s
@@ -88,6 +90,7 @@ module _ {P N X : Type 0} where
   closing (sees k) = (0, false, free 0)
   closing (sets_window w k) = (0, false, free 0)
   closing (stays_open k) = (0, false, free 0)
+  closing (judges j k) = (0, false, free 0)
   closing (starts_anew k) = (0, false, free 0)
   closing (requires_or d f k) = (0, false, free 0)
   closing (closes n x t k) = (n, x, t)
@@ -105,6 +108,7 @@ module _ {P N X : Type 0} where
   making (sees k) = (empty, [])
   making (sets_window w k) = (empty, [])
   making (stays_open k) = (empty, [])
+  making (judges j k) = (empty, [])
   making (starts_anew k) = (empty, [])
   making (requires_or d f k) = (empty, [])
   making (closes n x t k) = (empty, [])
@@ -318,6 +322,9 @@ module _ {P : Type 0} (F : Type 0 → Type 0) {N : Type 0} (scope : Scope N) (fa
       (record { script = λ p u v i. next nothing (h.script p u v i) (h.state p u v i); state = λ p u v i. later nothing (h.script p u v i) (h.state p u v i); initials = h.initials; met = h.met }) o q a b
   agree (stays_open k) s h o q a b =
       agree k (opened s)
+      (record { script = λ p u v i. next nothing (h.script p u v i) (h.state p u v i); state = λ p u v i. later nothing (h.script p u v i) (h.state p u v i); initials = h.initials; met = h.met }) o q a b
+  agree (judges j k) s h o q a b =
+      agree k (with_judged j s)
       (record { script = λ p u v i. next nothing (h.script p u v i) (h.state p u v i); state = λ p u v i. later nothing (h.script p u v i) (h.state p u v i); initials = h.initials; met = h.met }) o q a b
   agree (starts_anew k) s h o q a b =
       agree k (afresh s)

@@ -44,6 +44,7 @@ state-id s = λ i. record {
     overloaded = s.window.overloaded;
   };
   is_open = s.is_open;
+  judged = s.judged;
 }
 
 pub answer-id : {P N X : Type 0} (g : X → X) → ((x : X) → g x ≡ x) → (o : Answer P (X × State P N)) → rename_answer g (λ n. n) o ≡ o

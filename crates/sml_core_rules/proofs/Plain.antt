@@ -14,7 +14,7 @@ use Rattle.sml_rules.proofs.Settled.{outside-left, outside-right, outside-append
 use Rattle.sml_core_rules.specs.Objects.{Env, names_env}
 use Rattle.sml_core_rules.specs.States.{Scope, State, AreMade, with_made, no_window}
 use Rattle.sml_core_rules.specs.Datatypes.{Arguments, AreNew, arguments_of}
-use Rattle.sml_core_rules.specs.Scripts.{Script, give, refuse, tests, either, makes_unknowns, requires, sees, sets_window, stays_open, starts_anew, requires_or, closes, determines, makes_names, makes_datatypes, ◌>>=◌, result, IsAnswer}
+use Rattle.sml_core_rules.specs.Scripts.{Script, give, refuse, tests, either, makes_unknowns, requires, sees, sets_window, stays_open, judges, starts_anew, requires_or, closes, determines, makes_names, makes_datatypes, ◌>>=◌, result, IsAnswer}
 use Rattle.sml_core_rules.proofs.Along.{Become, become-list, become-left, become-right, become-known}
 use Rattle.sml_core_rules.proofs.Agree.{nothing, next, making, chosen, faults-same, never-both, choices-along, names-along, dropped}
 use Rattle.sml_core_rules.proofs.Flags.{value_of}
@@ -29,6 +29,7 @@ IsPlain (requires d p k) = ⊥
 IsPlain (sees k) = ⊥
 IsPlain (sets_window w k) = ⊥
 IsPlain (stays_open k) = ⊥
+IsPlain (judges j k) = ⊥
 IsPlain (starts_anew k) = ⊥
 IsPlain (requires_or d f k) = ⊥
 IsPlain (closes n x t k) = ⊥
@@ -47,6 +48,7 @@ plain-bind (requires d p m) f h k = absurd h
 plain-bind (sees m) f h k = absurd h
 plain-bind (sets_window w m) f h k = absurd h
 plain-bind (stays_open m) f h k = absurd h
+plain-bind (judges j m) f h k = absurd h
 plain-bind (starts_anew m) f h k = absurd h
 plain-bind (requires_or d e m) f h k = absurd h
 plain-bind (closes n x t m) f h k = absurd h
@@ -67,7 +69,7 @@ fewer-new names [] old more ns f h = h
 fewer-new names (d ∷ ds) old more ns f (n, rest, o, i, a, c, h, e) = (n, rest, f n o, i, a, c, fewer-new names ds (n ∷ old) (n ∷ more) rest (λ m k. (k.0, f m k.1)) h, e)
 
 no_state : {P N : Type 0} → State P N
-no_state = record { made = 0; names = []; demands = []; window = no_window; is_open = false }
+no_state = record { made = 0; names = []; demands = []; window = no_window; is_open = false; judged = [] }
 
 module _ {P : Type 0} (F : Type 0 → Type 0) {N : Type 0} (scope : Scope N) (far : (x : Variable) → ¬ ((scope.names.attributes (scope.variable x)).maker ≡ scope.unit)) where
   -- a path that leaves what may be seen of names, and these, leaves the script; the initial names are among them
@@ -157,6 +159,7 @@ module _ {P : Type 0} (F : Type 0 → Type 0) {N : Type 0} (scope : Scope N) (fa
   agree-plain (sees k) e old h s t c d o q a b = absurd e
   agree-plain (sets_window w k) e old h s t c d o q a b = absurd e
   agree-plain (stays_open k) e old h s t c d o q a b = absurd e
+  agree-plain (judges j k) e old h s t c d o q a b = absurd e
   agree-plain (starts_anew k) e old h s t c d o q a b = absurd e
   agree-plain (requires_or x f k) e old h s t c d o q a b = absurd e
   agree-plain (closes n x u k) e old h s t c d o q a b = absurd e

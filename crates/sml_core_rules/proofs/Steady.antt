@@ -19,7 +19,7 @@ use Rattle.sml_core_rules.specs.Objects.{Env, Value, Status, variable, construct
 use Rattle.sml_core_rules.specs.States.{Scope, State, with_demand}
 use Rattle.sml_core_rules.specs.Solutions.{Meets}
 use Rattle.sml_core_rules.specs.Datatypes.{Arguments}
-use Rattle.sml_core_rules.specs.Scripts.{Script, give, refuse, tests, either, makes_unknowns, requires, sees, sets_window, stays_open, starts_anew, requires_or, closes, determines, makes_names, makes_datatypes, ◌>>=◌, look, test, new_overloaded, IsAnswer}
+use Rattle.sml_core_rules.specs.Scripts.{Script, give, refuse, tests, either, makes_unknowns, requires, sees, sets_window, stays_open, judges, starts_anew, requires_or, closes, determines, makes_names, makes_datatypes, ◌>>=◌, look, test, new_overloaded, IsAnswer}
 use Rattle.sml_core_rules.specs.Lookups.{value_at}
 use Rattle.sml_core_rules.specs.Types.{Fields, put_field, read_ty, type_place}
 use Rattle.sml_core_rules.specs.Values.{instance, applied, apply_general, require_attributes, require_status, require_equal, find_value}
@@ -35,6 +35,7 @@ IsSteady (requires d p k) = IsSteady k
 IsSteady {P} {N} (sees k) = (s : State P N) → IsSteady (k s)
 IsSteady (sets_window w k) = IsSteady k
 IsSteady (stays_open k) = IsSteady k
+IsSteady (judges j k) = IsSteady k
 IsSteady (starts_anew k) = ⊥
 IsSteady (requires_or d f k) = IsSteady k
 IsSteady {N = N} (closes n x t k) = (σ : Scheme N) → IsSteady (k σ)
@@ -53,6 +54,7 @@ steady-bind (requires d p m) f h k = steady-bind m f h k
 steady-bind (sees m) f h k = λ s. steady-bind (m s) f (h s) k
 steady-bind (sets_window w m) f h k = steady-bind m f h k
 steady-bind (stays_open m) f h k = steady-bind m f h k
+steady-bind (judges j m) f h k = steady-bind m f h k
 steady-bind (starts_anew m) f h k = absurd h
 steady-bind (requires_or d e m) f h k = steady-bind m f h k
 steady-bind (closes n x t m) f h k = λ σ. steady-bind (m σ) f (h σ) k
@@ -75,6 +77,7 @@ module _ {P N : Type 0} (scope : Scope N) (σ : ℕ → MlType N) where
   met-before (sees k) e s r h m = met-before (k s) (e s) s r h m
   met-before (sets_window w k) e s r h m = met-before k e _ r h m
   met-before (stays_open k) e s r h m = met-before k e _ r h m
+  met-before (judges j k) e s r h m = met-before k e _ r h m
   met-before (starts_anew k) e s r h m = absurd e
   met-before (requires_or d f k) e s r (inl h) m = (met-before k e (with_demand d s) r h.1 m).1
   met-before (requires_or d f k) e s r (inr h) m = absurd (not_refused h.1)

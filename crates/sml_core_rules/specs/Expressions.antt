@@ -6,6 +6,7 @@ use Rattle.sml_lex.specs.declared.fault.Code.TheVariants.{E1, E2, E3, E5, E7, E9
 use Rattle.sml_tree.specs.Trees.{Id}
 use Rattle.sml_tree.specs.Names.{LongName}
 use Rattle.sml_tree.specs.Withtype.{dat_replaced}
+use Rattle.sml_tree.specs.Patterns.{Pat}
 use Rattle.sml_tree.specs.Expressions.{Exp, Exps, Fields, Rules, Dec, Decs, ValBinds, TypBind, DatBind, ExnBind, constant, name, row, tuple, let_in, bracket, apply, typed, handle, raise, fn, no_exp, and_exp, field, no_field, and_field, rule, no_rule, and_rule, val_dec, type_dec, datatype_dec, datatype_with, datatype_copy, exception_dec, local_dec, sequence_dec, open_dec, fixity_dec, no_dec, and_dec, bind, no_bind, and_bind, new_exception, exception_copy}
 use Rattle.sml_objects.specs.Maps.{Map, lookup, put}
 use Rattle.sml_objects.specs.Names.{Naming, int, exn}
@@ -16,9 +17,9 @@ use Rattle.sml_layers.specs.Demands as D
 use Rattle.sml_rules.specs.Answers.{Answer, fault}
 use Rattle.sml_core_rules.specs.Answers as A
 use Rattle.sml_core_rules.specs.Objects.{Env, Value, Status, variable, constructor, exception, overloaded, of_types, of_values, values, maps, no_structure, empty, extend}
-use Rattle.sml_core_rules.specs.Lookups.{value_at, type_at, structure_at, is_listed}
-use Rattle.sml_core_rules.specs.States.{Scope, State, Window, no_window}
-use Rattle.sml_core_rules.specs.Scripts.{Script, give, makes_datatypes, ◌>>=◌, look, test, need, new_unknown, new_unknowns, set_window, stay_open, so_far, where_so, require, close, IsAnswer}
+use Rattle.sml_core_rules.specs.Lookups.{status_at, value_at, type_at, structure_at, is_listed}
+use Rattle.sml_core_rules.specs.States.{Scope, State, Window, Holder, of_fn, of_handle, of_val, no_window}
+use Rattle.sml_core_rules.specs.Scripts.{Script, give, makes_datatypes, ◌>>=◌, look, test, judge, need, new_unknown, new_unknowns, set_window, stay_open, so_far, where_so, require, close, IsAnswer}
 use Rattle.sml_core_rules.specs.Solutions.{HasOneSetOfLabels, IsFixed, IsOverloaded}
 use Rattle.sml_core_rules.specs.Types as T
 use Rattle.sml_core_rules.specs.Types.{put_field, row_of}
@@ -82,6 +83,11 @@ exn_type scope = named (scope.names.initial exn)
 abbrev pub exception_type : {N : Type 0} → Naming N → Option (MlType N) → MlType N
 exception_type names None = named (names.initial exn)
 exception_type names (Some t) = arrow_of t (named (names.initial exn))
+
+-- the patterns of a match, each with the place of its rule
+abbrev pub rule_patterns : {P : Type 0} → Rules P → List (P × Pat P)
+rule_patterns no_rule = []
+rule_patterns (and_rule (rule p q e) m) = (p, q) ∷ rule_patterns m
 
 module _ {P N : Type 0} (scope : Scope N) where
   -- the variables of a pattern mention only names made so far
@@ -192,6 +198,10 @@ module _ {P N : Type 0} (scope : Scope N) where
   read_opened C F [] = A.give F
   read_opened C F (s ∷ ss) = A.◌>>=◌ (A.need E3 s.place s.id (structure_at C s.id)) (λ E. read_opened C (extend F E) ss)
 
+  -- warnings are those of these patterns in a context
+  abbrev pub judge_patterns : Holder P → Env N → List (P × Pat P) → Script P N (Unit {0})
+  judge_patterns h C qs = judge (record { holder = h; patterns = qs; status = status_at C })
+
   -- A type that is like that of the first rule, if there is one.
   abbrev pub like_first : P → Option (MlType N) → MlType N → Script P N (MlType N)
   like_first p None t = give t
@@ -236,12 +246,16 @@ module _ {P N : Type 0} (scope : Scope N) where
       t ← read_exp C vs e
       h ← read_rules C vs None m
       u ← require_equal p h (arrow_of (exn_type scope) t)
+      j ← judge_patterns (of_handle p) C (rule_patterns m)
       give t
     read_exp C vs (raise p e) = do
       t ← read_exp C vs e
       u ← require_equal p t (exn_type scope)
       new_unknown
-    read_exp C vs (fn p m) = read_rules C vs None m
+    read_exp C vs (fn p m) = do
+      t ← read_rules C vs None m
+      j ← judge_patterns (of_fn p) C (rule_patterns m)
+      give t
 
     pub read_exps : Env N → Map (MlType N) → Exps P → Script P N (MlTypes N)
     read_exps C vs no_exp = give no_type
@@ -308,6 +322,7 @@ module _ {P N : Type 0} (scope : Scope N) where
       r ← read_pat scope false C vs seen q
       t ← read_exp C vs e
       u ← require_equal (pattern_place q) r.type t
+      j ← judge_patterns (of_val (pattern_place q)) C ((pattern_place q, q) ∷ [])
       read_binds C vs r.bound (done ++ bounds (is_expansive C e) (after seen r.bound)) bs
 
     -- the patterns after `rec`, their types and what they bind
@@ -335,4 +350,4 @@ IsReading scope C vs d s o = IsAnswer scope (read_dec scope C vs d) s o
 
 -- A declaration of the core in a basis: no unknown has been made and nothing asked.
 abbrev pub at_first : {P N : Type 0} → List N → State P N
-at_first ns = record { made = 0; names = ns; demands = []; window = no_window; is_open = false }
+at_first ns = record { made = 0; names = ns; demands = []; window = no_window; is_open = false; judged = [] }

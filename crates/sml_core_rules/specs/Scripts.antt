@@ -17,15 +17,15 @@ use Rattle.sml_rules.specs.Answers.{Answer, refused, accepted, fault}
 use Rattle.sml_rules.specs.Lookups.{Found}
 use Rattle.sml_core_rules.specs.Answers as A
 use Rattle.sml_core_rules.specs.Objects.{Env, names_env}
-use Rattle.sml_core_rules.specs.States.{Scope, State, words, AreMade, Window, with_unknowns, with_made, with_demand, with_window, opened, afresh}
+use Rattle.sml_core_rules.specs.States.{Scope, State, words, AreMade, Window, Judged, with_unknowns, with_made, with_demand, with_window, with_judged, opened, afresh}
 use Rattle.sml_core_rules.specs.Solutions.{IsScheme, IsAlways}
 use Rattle.sml_core_rules.specs.Datatypes.{Arguments, AreNew, AdmitAsManyAsCan, with_names, arguments_of}
 
 -- It ends with an object or with a fault. Before that it tests a condition, or goes on by one; makes unknowns, and is told the
 -- number of the first; adds a demand, which has its place, or one with a fault of its own; sees the state; sets the window; says
--- that an unknown may stand in what is bound; starts anew, unless that was said; closes a type, at the end of a declaration that
--- begins after so many unknowns; takes the type that a type is in every case, or a fault; and makes names, of which this is seen
--- beside their maker, or the names of datatypes in a context.
+-- that an unknown may stand in what is bound; says what is to be judged; starts anew, unless an unknown may stand in what was bound;
+-- closes a type, at the end of a declaration that begins after so many unknowns; takes the type that a type is in every case, or a
+-- fault; and makes names, of which this is seen beside their maker, or the names of datatypes in a context.
 pub data Script (P N X : Type 0) : Type 1 where
   give : X → Script P N X
   refuse : Fault P → Script P N X
@@ -36,6 +36,7 @@ pub data Script (P N X : Type 0) : Type 1 where
   sees : (State P N → Script P N X) → Script P N X
   sets_window : Window P N → Script P N X → Script P N X
   stays_open : Script P N X → Script P N X
+  judges : Judged P → Script P N X → Script P N X
   starts_anew : Script P N X → Script P N X
   requires_or : Demand N (List N) → Fault P → Script P N X → Script P N X
   closes : ℕ → Bool → MlType N → (Scheme N → Script P N X) → Script P N X
@@ -55,6 +56,7 @@ module _ {P N : Type 0} where
   ◌>>=◌ (sees k) next = sees (λ s. k s >>= next)
   ◌>>=◌ (sets_window w k) next = sets_window w (k >>= next)
   ◌>>=◌ (stays_open k) next = stays_open (k >>= next)
+  ◌>>=◌ (judges j k) next = judges j (k >>= next)
   ◌>>=◌ (starts_anew k) next = starts_anew (k >>= next)
   ◌>>=◌ (requires_or d f k) next = requires_or d f (k >>= next)
   ◌>>=◌ (closes n x t k) next = closes n x t (λ σ. k σ >>= next)
@@ -96,6 +98,9 @@ module _ {P N : Type 0} where
   abbrev pub stay_open : Script P N (Unit {0})
   stay_open = stays_open (give tt)
 
+  abbrev pub judge : Judged P → Script P N (Unit {0})
+  judge j = judges j (give tt)
+
   abbrev pub start_anew : Script P N (Unit {0})
   start_anew = starts_anew (give tt)
 
@@ -135,6 +140,7 @@ module _ {P N : Type 0} where
     IsAnswer (sees k) s o = IsAnswer (k s) s o
     IsAnswer (sets_window w k) s o = IsAnswer k (with_window w s) o
     IsAnswer (stays_open k) s o = IsAnswer k (opened s) o
+    IsAnswer (judges j k) s o = IsAnswer k (with_judged j s) o
     IsAnswer (starts_anew k) s o = IsAnswer k (afresh s) o
     IsAnswer (requires_or d f k) s o =
         (CanBeMet (words scope) Rigidity (d ∷ s.demands) × IsAnswer k (with_demand d s) o) ⊎ (¬ (CanBeMet (words scope) Rigidity (d ∷ s.demands)) × (o ≡ refused f))

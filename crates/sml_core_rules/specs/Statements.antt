@@ -53,6 +53,7 @@ rename_state f s = record {
   demands = map (rename_demand f) s.demands;
   window = record { rows = map (λ r. (r.0, rename_type f r.1)) s.window.rows; overloaded = s.window.overloaded };
   is_open = s.is_open;
+  judged = s.judged;
 }
 
 abbrev pub rename_answer : {P A B X Y : Type 0} → (X → Y) → (A → B) → Answer P (X × State P A) → Answer P (Y × State P B)

@@ -1,10 +1,13 @@
 -- What elaboration keeps from phrase to phrase.
-use Rattle.std.specs.Prelude.{◌≡◌, ◌⊎◌, ℕ, ◌+◌, Bool, true, false, cond, List, [], ◌∷◌, ◌++◌}
+use Rattle.std.specs.Prelude.{◌≡◌, ◌⊎◌, ℕ, ◌+◌, Bool, true, false, cond, List, [], ◌∷◌, ◌++◌, Option}
+use Rattle.sml_tree.specs.Trees.{LongId}
+use Rattle.sml_tree.specs.Patterns.{Pat}
 use Rattle.sml_objects.specs.Appearance.{Stands}
 use Rattle.sml_objects.specs.Names.{Naming, Attributes, Initial}
 use Rattle.sml_objects.specs.Objects.{MlType, Outside, named}
 use Rattle.sml_layers.specs.declared.variable.Variable.{Variable}
 use Rattle.sml_layers.specs.Demands.{Demand, Words}
+use Rattle.sml_core_rules.specs.Objects.{Status}
 
 -- A naming, the unit that makes names, counted from 1, and the names that stand for explicit type variables, which no unit makes.
 -- A bound is a list of names: it allows these, and those of explicit variables.
@@ -34,14 +37,28 @@ pub record Window (P N : Type 0) : Type 0 where
   pub rows : List (P × MlType N)
   pub overloaded : List ℕ
 
+-- What holds patterns: the match of `fn` or of `handle`, at its place, or a value binding, at that of its pattern.
+pub data Holder (P : Type 0) : Type 0 where
+  of_fn : P → Holder P
+  of_handle : P → Holder P
+  of_val : P → Holder P
+
+-- The patterns of a match or of a value binding, which is to be judged for warnings, each with the place of its rule, and the status
+-- of long identifiers where they stand.
+pub record Judged (P : Type 0) : Type 0 where
+  pub holder : Holder P
+  pub patterns : List (P × Pat P)
+  pub status : LongId → Option Status
+
 -- The unknowns made so far, the names of types made so far, the demands so far, the newest first, the window of the value
--- declaration, and whether an unknown may stand in what was bound.
+-- declaration, whether an unknown may stand in what was bound, and what is to be judged, the newest first.
 pub record State (P N : Type 0) : Type 0 where
   pub made : ℕ
   pub names : List N
   pub demands : List (Demand N (List N))
   pub window : Window P N
   pub is_open : Bool
+  pub judged : List (Judged P)
 
 module _ {P N : Type 0} where
   abbrev pub with_unknowns : ℕ → State P N → State P N
@@ -58,6 +75,9 @@ module _ {P N : Type 0} where
 
   abbrev pub opened : State P N → State P N
   opened s = record s { is_open = true }
+
+  abbrev pub with_judged : Judged P → State P N → State P N
+  with_judged j s = record s { judged = j ∷ s.judged }
 
   -- Where no unknown can stand in what was bound, none has been made and nothing asked.
   abbrev pub afresh : State P N → State P N

@@ -8,7 +8,7 @@ use Rattle.sml_rules.proofs.Settled.{outside-left, outside-right, outside-append
 use Rattle.sml_rules.proofs.Sound.{accepted_same, not_refused}
 use Rattle.sml_core_rules.specs.Objects.{names_env}
 use Rattle.sml_core_rules.specs.States.{Scope, State, with_made}
-use Rattle.sml_core_rules.specs.Scripts.{Script, give, refuse, tests, either, makes_unknowns, requires, sees, sets_window, stays_open, starts_anew, requires_or, closes, determines, makes_names, makes_datatypes, IsAnswer}
+use Rattle.sml_core_rules.specs.Scripts.{Script, give, refuse, tests, either, makes_unknowns, requires, sees, sets_window, stays_open, judges, starts_anew, requires_or, closes, determines, makes_names, makes_datatypes, IsAnswer}
 use Rattle.sml_core_rules.proofs.Plain.{IsPlain, fewer-made, fewer-new}
 
 -- every name made in one state was made in the other
@@ -32,6 +32,7 @@ earlier scope (requires d p k) e t w c r h = absurd e
 earlier scope (sees k) e t w c r h = absurd e
 earlier scope (sets_window v k) e t w c r h = absurd e
 earlier scope (stays_open k) e t w c r h = absurd e
+earlier scope (judges j k) e t w c r h = absurd e
 earlier scope (starts_anew k) e t w c r h = absurd e
 earlier scope (requires_or d f k) e t w c r h = absurd e
 earlier scope (closes n x u k) e t w c r h = absurd e

@@ -16,16 +16,16 @@ use Rattle.sml_core_rules.proofs.Agree.{Settled}
 use Rattle.sml_core_rules.proofs.Along.{become-list}
 use Rattle.sml_core_rules.proofs.Plain.{IsPlain, plain-bind, Fixed, agree-plain}
 use Rattle.sml_module_rules.specs.Signatures.{read_sig}
-use Rattle.sml_module_rules.specs.Structures.{read_str, read_strs, read_strdec, read_functor, of_functor, one_structure, basis_with_types, IsAlone, AreAlone}
+use Rattle.sml_module_rules.specs.Structures.{Added, read_str, read_strs, read_strdec, read_functor, of_functor, one_structure, basis_with_types, IsAlone, AreAlone}
 use Rattle.sml_module_rules.specs.Programs.{Behind, SealedFunctor, FunctorPair, kept_functor, sealed_functor, opened_functor, sealed, opened, functor_of, functor_group}
 use Rattle.sml_module_rules.proofs.Agree.{basis-kept}
 use Rattle.sml_module_rules.proofs.Earlier.{earlier}
 use Rattle.sml_module_rules.proofs.Grown.{IsWhole}
-use Rattle.sml_module_rules.proofs.Groups.{Among, AreAlike, groups-agree}
-use Rattle.sml_module_rules.proofs.Parts.{is_whole, SameMark, SameParts, part-agrees}
+use Rattle.sml_module_rules.proofs.Groups.{Among, AreAlike, same-unjudged, groups-agree}
+use Rattle.sml_module_rules.proofs.Parts.{is_whole, unjudged_parts, SameMark, SameParts, part-agrees}
 use Rattle.sml_module_rules.proofs.PlainSignatures.{plain-sig, plain-look}
 use Rattle.sml_module_rules.proofs.Programs.{HasInitials}
-use Rattle.sml_module_rules.proofs.Seals.{fresh, plain-fresh, sealed-read, alone-accepted}
+use Rattle.sml_module_rules.proofs.Seals.{added, fresh, plain-fresh, sealed-read, alone-accepted}
 use Rattle.sml_module_rules.proofs.Settled.{env-settled}
 
 -- the sealed body, in which the argument is opened or not
@@ -90,8 +90,8 @@ module _ {P N : Type 0} (scope : Scope N) (B : Basis N) where
       )
 
   -- a functor with a sealed body is what its signatures with new names give
-  functor-read : (o : Bool) (b : SealedFunctor P) (e : Behind P) (ns : List N) (A : Basis N) → IsAlone scope ns (read_functor scope B (bind_of o b e)) (accepted (Some A))
-      → (r : (Sig N × Env N) × State P N) × IsAnswer scope (fresh_functor o scope B b) (at_first ns) (accepted r) × (A ≡ basis_of b r.0)
+  functor-read : (o : Bool) (b : SealedFunctor P) (e : Behind P) (ns : List N) (A : Added P N) → IsAlone scope ns (read_functor scope B (bind_of o b e)) (accepted (Some A))
+      → (r : (Sig N × Env N) × State P N) × IsAnswer scope (fresh_functor o scope B b) (at_first ns) (accepted r) × (A.basis ≡ basis_of b r.0)
   unfolding IsAnswer replace replace_structures
   functor-read o b e ns A h =
       let a = alone-accepted scope (read_functor scope B (bind_of o b e)) ns A h in
@@ -125,10 +125,10 @@ module _ {P N : Type 0} (scope : Scope N) (far : (x : Variable) → ¬ ((scope.n
       let c = functor-read scope B o b f ns C k in
       let t : State P N = at_first ns in
       let π = agree-plain (λ M. Sig M × Env M) scope far (fresh_functor o scope B b) (plain-functor o scope B b) ns fixed t t (λ n o. o) (λ n o. o) (accepted a.0) (accepted c.0) a.1 c.1 in
-      let here : SameMark {P = P} scope ns (accepted (Some (basis_of b a.0.0))) (accepted (Some (basis_of b c.0.0))) =
-      λ i. ((π i).0, (π i).1, (π i).2, accepted (Some (basis_of b (pair_or_none (π i).3)))) in
-      subst (λ A. SameMark {P = P} scope ns (accepted (Some A)) (accepted (Some C))) (sym a.2)
-      (subst (λ C. SameMark {P = P} scope ns (accepted (Some (basis_of b a.0.0))) (accepted (Some C))) (sym c.2) here)
+      let here : SameMark {P = P} scope ns (accepted (Some (added (basis_of b a.0.0)))) (accepted (Some (added (basis_of b c.0.0)))) =
+      λ i. ((π i).0, (π i).1, (π i).2, accepted (Some (added (basis_of b (pair_or_none (π i).3))))) in
+      subst (λ A. SameMark {P = P} scope ns (accepted (Some (added A))) (accepted (Some (added C.basis)))) (sym a.2)
+      (subst (λ C. SameMark {P = P} scope ns (accepted (Some (added (basis_of b a.0.0)))) (accepted (Some (added C)))) (sym c.2) here)
     where
       fixed : Fixed (λ M. Sig M × Env M) scope far ns (fresh_functor o scope B b)
       fixed = record {
@@ -143,7 +143,8 @@ module _ {P N : Type 0} (scope : Scope N) (far : (x : Variable) → ¬ ((scope.n
   unfolding functor_part
   functors-alike (sealed_functor b) = sealed-alike false b b.first b.second
   functors-alike (opened_functor b) = sealed-alike true b b.first b.second
-  functors-alike (kept_functor b) = λ ns inside A C h k. part-agrees {P = P} scope far (read_functor scope B b) ns (settled ns inside) (accepted (Some A)) (accepted (Some C)) h k
+  functors-alike (kept_functor b) = λ ns inside A C h k.
+      same-unjudged scope far ns (accepted (Some A)) (accepted (Some C)) (part-agrees {P = P} scope far (read_functor scope B b) ns (settled ns inside) (accepted (Some A)) (accepted (Some C)) h k)
     where
       settled : (ns : List N) → Among B.names ns → Settled {P = P} Basis scope far (read_functor scope B b) (at_first ns)
       settled ns inside = record {
@@ -158,8 +159,8 @@ module _ {P N : Type 0} (scope : Scope N) (far : (x : Variable) → ¬ ((scope.n
   group-parts side [] = refl
   group-parts side (b ∷ bs) = ap (λ ks. functor_part side b ∷ ks) (group-parts side bs)
 
-  pub functors-agree : (bs : List (FunctorPair P)) (o q : Answer P (List (Option (Basis N)))) → AreAlone scope B.names (map (read_functor scope B) (functor_group (λ b. b.first) bs)) o
-      → AreAlone scope B.names (map (read_functor scope B) (functor_group (λ b. b.second) bs)) q → is_whole o ≡ true → is_whole q ≡ true → SameParts scope B.names o q
+  pub functors-agree : (bs : List (FunctorPair P)) (o q : Answer P (List (Option (Added P N)))) → AreAlone scope B.names (map (read_functor scope B) (functor_group (λ b. b.first) bs)) o
+      → AreAlone scope B.names (map (read_functor scope B) (functor_group (λ b. b.second) bs)) q → is_whole o ≡ true → is_whole q ≡ true → SameParts scope B.names (unjudged_parts o) (unjudged_parts q)
   unfolding functor_part
   functors-agree bs o q a b w z =
       groups-agree scope far (functor_part (λ b. b.first)) (functor_part (λ b. b.second)) B.names initials

@@ -16,7 +16,7 @@ use Rattle.sml_core_rules.specs.Expressions.{at_first}
 use Rattle.sml_core_rules.specs.States.{Scope}
 use Rattle.sml_core_rules.proofs.Alike.{alike}
 use Rattle.sml_core_rules.proofs.Along.{become-list, become-known}
-use Rattle.sml_module_rules.specs.Structures.{nothing}
+use Rattle.sml_module_rules.specs.Structures.{Added, nothing}
 use Rattle.sml_module_rules.specs.Programs.{first, second, all_shown}
 use Rattle.sml_module_rules.specs.Projects.{UnitPair, Exports, exported, beginning, and_unit, in_unit, AreRuns, first_unit, second_unit, units_shown}
 use Rattle.sml_module_rules.specs.Statements.{ProjectsHide, rename_shown}
@@ -39,14 +39,14 @@ module _ {N : Type 0} (scope : Scope N) (p : N ≡ N) (u : PathP (λ i. Scope (p
       let m = become-list p E.names E.names (become-known p (scope.names.initial int) (scope.names.initial int) (λ i. (u i).names.initial int) ns l E.names h) in
       let us = bases-kept E.units e in λ i. record { names = m i; units = us i }
 
-  shown-kept : {P : Type 0} (os : List (Option (Answer P (Basis N)))) → ShownMention os ns → PathP (λ i. List (Option (Answer P (Basis (p i))))) os os
+  shown-kept : {P : Type 0} (os : List (Option (Answer P (Added P N)))) → ShownMention os ns → PathP (λ i. List (Option (Answer P (Added P (p i))))) os os
   unfolding ShownMention
   shown-kept [] h = λ i. []
   shown-kept (None ∷ os) h = let rest = shown-kept os h in λ i. None ∷ rest i
   shown-kept (Some (refused f) ∷ os) h = let rest = shown-kept os h in λ i. Some (refused f) ∷ rest i
   shown-kept (Some (accepted A) ∷ os) h =
-      let C = basis-kept scope p u ns l A h.0 in
-      let rest = shown-kept os h.1 in λ i. Some (accepted (C i)) ∷ rest i
+      let C = basis-kept scope p u ns l A.basis h.0 in
+      let rest = shown-kept os h.1 in λ i. Some (accepted (record { basis = C i; judged = A.judged })) ∷ rest i
 
 abbrev first_list : {A : Type 0} → List (List A) → List A
 first_list [] = []
@@ -61,15 +61,15 @@ module _ {P N : Type 0} (scope : Scope N) where
   abbrev AreFar : List (UnitPair P) → Type 0
   AreFar us = AllByRecursion (λ u. (x : Variable) → ¬ ((scope.names.attributes (scope.variable x)).maker ≡ u.number)) us
 
-  abbrev SameRuns : List (UnitPair P) → Basis N → Exports N → List (List (Answer P (Basis N))) → List (List (Answer P (Basis N))) → Type 1
+  abbrev SameRuns : List (UnitPair P) → Basis N → Exports N → List (List (Answer P (Added P N))) → List (List (Answer P (Added P N))) → Type 1
   SameRuns us I E oss qss =
       ◌≡◌ {A = (M : Type 0) × Scope M × Basis M × Exports M × UnitsShown P M} (N, scope, I, E, units_shown us oss) (N, scope, I, E, units_shown us qss)
 
-  abbrev AreBothRuns : List (UnitPair P) → List (List (Answer P (Basis N))) → List (List (Answer P (Basis N))) → Type 0
+  abbrev AreBothRuns : List (UnitPair P) → List (List (Answer P (Added P N))) → List (List (Answer P (Added P N))) → Type 0
   AreBothRuns us oss qss = map (map is_some) (units_shown us oss) ≡ map (map is_some) (units_shown us qss)
 
   runs-agree : (us : List (UnitPair P)) → AreFar us → (I : Basis N) (E : Exports N) → Mentions I E.names → EachMentions E.units E.names → ((j : Initial) → Stands (scope.names.initial j) E.names)
-      → (oss qss : List (List (Answer P (Basis N)))) → AreRuns scope I E (map first_unit us) oss → AreRuns scope I E (map second_unit us) qss → AreBothRuns us oss qss
+      → (oss qss : List (List (Answer P (Added P N)))) → AreRuns scope I E (map first_unit us) oss → AreRuns scope I E (map second_unit us) qss → AreBothRuns us oss qss
       → SameRuns us I E oss qss
   unfolding AreRuns
   runs-agree [] far I E h e z [] [] a b m = λ i. (N, scope, I, E, [])
@@ -89,15 +89,15 @@ module _ {P N : Type 0} (scope : Scope N) where
       let D = exports-kept scope p v E.names l E (λ n s. s) e in
       let moved : AreRuns scope I (and_unit E (after_shown nothing (all_shown u.pairs os))) (map first_unit us) oss =
       subst (λ A. AreRuns scope I (and_unit E A) (map first_unit us) oss) (sym (exported-shown here first u.pairs B nothing os a)) later in
-      let ps : List (List (Answer P (Basis N))) = coe 0 1 (i. List (List (Answer P (Basis (p i))))) oss in
+      let ps : List (List (Answer P (Added P N))) = coe 0 1 (i. List (List (Answer P (Added P (p i))))) oss in
       let cs : AreRuns scope I (and_unit E (after_shown nothing (all_shown u.pairs qs))) (map first_unit us) ps =
-      coe 0 1 (i. AreRuns (v i) (C i) (and_unit (D i) (after_shown nothing (σ i).3)) (map first_unit us) (coe 0 i (j. List (List (Answer P (Basis (p j))))) oss)) moved in
+      coe 0 1 (i. AreRuns (v i) (C i) (and_unit (D i) (after_shown nothing (σ i).3)) (map first_unit us) (coe 0 i (j. List (List (Answer P (Added P (p j))))) oss)) moved in
       let cs' = subst (λ A. AreRuns scope I (and_unit E A) (map first_unit us) ps) (exported-shown here second u.pairs B nothing qs b) cs in
       let r = shown-mention here second E.names u.pairs B nothing whole (nothing-mentions E.names) (λ n s. s) qs b in
       let all : List N = (exported qs).names ++ E.names in
       let grow : (n : N) → Stands n E.names → Stands n all = λ n s. right n (exported qs).names E.names s in
       let more = more-mention E.units E.names all grow e in
-      let both : AreBothRuns us ps qss = sym (λ i. map (map is_some) (units_shown us (coe 0 i (j. List (List (Answer P (Basis (p j))))) oss))) ∙ ap (drop 1) m in
+      let both : AreBothRuns us ps qss = sym (λ i. map (map is_some) (units_shown us (coe 0 i (j. List (List (Answer P (Added P (p j))))) oss))) ∙ ap (drop 1) m in
       let τ = runs-agree us far.1 I (and_unit E (exported qs)) (λ n s. grow n (h n s)) (and-mentions E.units (exported qs) all more r.0) (λ j. grow (scope.names.initial j) (z j)) ps qss cs' others both in
       let p' : N ≡ N = λ i. (τ i).0 in
       let v' : PathP (λ i. Scope (p' i)) scope scope = λ i. (τ i).1 in
@@ -105,7 +105,7 @@ module _ {P N : Type 0} (scope : Scope N) where
       let C' = basis-kept scope p' v' all l' I (λ n s. grow n (h n s)) in
       let D' = exports-kept scope p' v' all l' E grow more in
       let R = shown-kept scope p' v' all l' (all_shown u.pairs qs) r.1 in
-      let x : SameRuns (u ∷ us) I E (os ∷ oss) (qs ∷ ps) = λ i. (p i, v i, C i, D i, (σ i).3 ∷ units_shown us (coe 0 i (j. List (List (Answer P (Basis (p j))))) oss)) in
+      let x : SameRuns (u ∷ us) I E (os ∷ oss) (qs ∷ ps) = λ i. (p i, v i, C i, D i, (σ i).3 ∷ units_shown us (coe 0 i (j. List (List (Answer P (Added P (p j))))) oss)) in
       let y : SameRuns (u ∷ us) I E (qs ∷ ps) (qs ∷ qss) = λ i. (p' i, v' i, C' i, D' i, R i ∷ (τ i).4) in x ∙ y
 
 units-shown-id : {P N : Type 0} (oss : UnitsShown P N) → map (map (rename_shown (λ n. n))) oss ≡ oss

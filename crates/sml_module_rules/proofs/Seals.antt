@@ -19,13 +19,13 @@ use Rattle.sml_core_rules.proofs.Along.{become-list}
 use Rattle.sml_core_rules.proofs.Plain.{IsPlain, plain-bind, Fixed, agree-plain}
 use Rattle.sml_module_rules.specs.Matching.{match_signature, renewed_signature, ascribe}
 use Rattle.sml_module_rules.specs.Signatures.{read_sig}
-use Rattle.sml_module_rules.specs.Structures.{read_str, read_structure, structure_parts, of_body, one_structure, signature_place, basis_with_types, IsAlone, AreAlone}
+use Rattle.sml_module_rules.specs.Structures.{Added, read_str, read_structure, structure_parts, of_body, one_structure, signature_place, basis_with_types, IsAlone, AreAlone}
 use Rattle.sml_module_rules.specs.Programs.{Behind, SealedStructure, StructurePair, kept_structure, sealed_structure, sealed, structure_name, structure_body, structure_group}
 use Rattle.sml_module_rules.proofs.Agree.{basis-kept}
 use Rattle.sml_module_rules.proofs.Earlier.{Within, earlier}
 use Rattle.sml_module_rules.proofs.Grown.{IsWhole}
-use Rattle.sml_module_rules.proofs.Groups.{Among, AreAlike, groups-agree}
-use Rattle.sml_module_rules.proofs.Parts.{is_whole, SameMark, SameParts, part-agrees}
+use Rattle.sml_module_rules.proofs.Groups.{Among, AreAlike, same-unjudged, groups-agree}
+use Rattle.sml_module_rules.proofs.Parts.{is_whole, unjudged_parts, SameMark, SameParts, part-agrees}
 use Rattle.sml_module_rules.proofs.PlainSignatures.{plain-sig, plain-renewed}
 use Rattle.sml_module_rules.proofs.Programs.{HasInitials}
 use Rattle.sml_module_rules.proofs.Settled.{EachOf, EachInside, EachValue, HasNoUnknown, env-settled, realised-closed}
@@ -76,9 +76,13 @@ module _ {P N : Type 0} (scope : Scope N) where
 
 -- parts of answers
 
-abbrev basis_or : {N : Type 0} → Basis N → Option (Basis N) → Basis N
+abbrev basis_or : {P N : Type 0} → Basis N → Option (Added P N) → Basis N
 basis_or A None = A
-basis_or A (Some C) = C
+basis_or A (Some C) = C.basis
+
+-- a basis in which nothing is to be judged
+abbrev pub added : {P N : Type 0} → Basis N → Added P N
+added A = record { basis = A; judged = [] }
 
 abbrev pub body_or_none : {P N : Type 0} → Answer P (Sig N) → Env N
 body_or_none (refused f) = empty
@@ -86,22 +90,19 @@ body_or_none (accepted R) = R.body
 
 module _ {P N : Type 0} (scope : Scope N) where
   -- an accepted answer to a part, all types of which are determined, and which is closed
-  pub alone-accepted : (k : Script P N (Basis N)) (ns : List N) (A : Basis N) → IsAlone scope ns k (accepted (Some A))
-      → (r : Basis N × State P N) × IsAnswer scope k (at_first ns) (accepted r) × ((C : Basis N) → ((σ : ℕ → MlType N) → basis_with_types σ r.0 ≡ C) → A ≡ C)
+  pub alone-accepted : (k : Script P N (Basis N)) (ns : List N) (A : Added P N) → IsAlone scope ns k (accepted (Some A))
+      → (r : Basis N × State P N) × IsAnswer scope k (at_first ns) (accepted r) × ((C : Basis N) → ((σ : ℕ → MlType N) → basis_with_types σ r.0 ≡ C) → A.basis ≡ C)
   alone-accepted k ns A (refused f, a, e) = absurd (not_refused e)
   alone-accepted k ns A (accepted r, a, inl (C, d, e)) =
       let m = (kept scope k (at_first ns) r a).met ((λ v. app (row []) no_type), tt) in
-      (r, a, (λ D f. some-same (accepted_same e) ∙ (sym (d m.0 m.1) ∙ f m.0)))
-    where
-      some-same : {C : Basis N} → Some A ≡ Some C → A ≡ C
-      some-same e = ap (basis_or A) e
+      (r, a, (λ D f. ap (basis_or A.basis) (accepted_same e) ∙ (sym (d m.0 m.1) ∙ f m.0)))
   alone-accepted k ns A (accepted r, a, inr (n, e)) = let f : true ≡ false = ap (λ m. is_some m) (accepted_same e) in absurd cc
 
 module _ {P N : Type 0} (scope : Scope N) (B : Basis N) where
   -- a sealed structure is what its signature with new names gives
-  structure-read : (x : Name P) (s : SigExp P) (e : Behind P) (ns : List N) (A : Basis N) → IsAlone scope ns (read_structure scope B x (sealed e s)) (accepted (Some A))
+  structure-read : (x : Name P) (s : SigExp P) (e : Behind P) (ns : List N) (A : Added P N) → IsAlone scope ns (read_structure scope B x (sealed e s)) (accepted (Some A))
       → (w : State P N) × ((n : N) → Outside n w.names → Outside n ns) × (R : Sig N × State P N) × IsAnswer scope (fresh scope B B.body s) w (accepted R)
-      × (A ≡ of_body (one_structure x.id R.0.body))
+      × (A.basis ≡ of_body (one_structure x.id R.0.body))
   unfolding EachValue EachInside EachOf replace replace_structures
   structure-read x s e ns A h =
       let a = alone-accepted scope (read_structure scope B x (sealed e s)) ns A h in
@@ -119,10 +120,10 @@ module _ {P N : Type 0} (scope : Scope N) (far : (x : Variable) → ¬ ((scope.n
       let a = structure-read scope B x s e ns A h in
       let b = structure-read scope B x s f ns C k in
       let π = agree-plain Sig scope far (fresh scope B B.body s) (plain-fresh P scope B B.body s) ns fixed a.0 b.0 a.1 b.1 (accepted a.2) (accepted b.2) a.3 b.3 in
-      let here : SameMark {P = P} scope ns (accepted (Some (of_body (one_structure x.id a.2.0.body)))) (accepted (Some (of_body (one_structure x.id b.2.0.body)))) =
-      λ i. ((π i).0, (π i).1, (π i).2, accepted (Some (of_body (one_structure x.id (body_or_none (π i).3))))) in
-      subst (λ A. SameMark {P = P} scope ns (accepted (Some A)) (accepted (Some C))) (sym a.4)
-      (subst (λ C. SameMark {P = P} scope ns (accepted (Some (of_body (one_structure x.id a.2.0.body)))) (accepted (Some C))) (sym b.4) here)
+      let here : SameMark {P = P} scope ns (accepted (Some (added (of_body (one_structure x.id a.2.0.body))))) (accepted (Some (added (of_body (one_structure x.id b.2.0.body))))) =
+      λ i. ((π i).0, (π i).1, (π i).2, accepted (Some (added (of_body (one_structure x.id (body_or_none (π i).3)))))) in
+      subst (λ A. SameMark {P = P} scope ns (accepted (Some (added A))) (accepted (Some (added C.basis)))) (sym a.4)
+      (subst (λ C. SameMark {P = P} scope ns (accepted (Some (added (of_body (one_structure x.id a.2.0.body))))) (accepted (Some (added C)))) (sym b.4) here)
     where
       fixed : Fixed Sig scope far ns (fresh scope B B.body s)
       fixed = record {
@@ -136,7 +137,8 @@ module _ {P N : Type 0} (scope : Scope N) (far : (x : Variable) → ¬ ((scope.n
   structures-alike : (b : StructurePair P) → AreAlike {P = P} scope far B.names (structure_part (λ b. b.first) b) (structure_part (λ b. b.second) b)
   unfolding structure_part
   structures-alike (sealed_structure b) = sealed-alike b.name b.signature b.first b.second
-  structures-alike (kept_structure x e) = λ ns inside A C h k. part-agrees {P = P} scope far (read_structure scope B x e) ns (settled ns inside) (accepted (Some A)) (accepted (Some C)) h k
+  structures-alike (kept_structure x e) = λ ns inside A C h k.
+      same-unjudged scope far ns (accepted (Some A)) (accepted (Some C)) (part-agrees {P = P} scope far (read_structure scope B x e) ns (settled ns inside) (accepted (Some A)) (accepted (Some C)) h k)
     where
       settled : (ns : List N) → Among B.names ns → Settled {P = P} Basis scope far (read_structure scope B x e) (at_first ns)
       settled ns inside = record {
@@ -151,8 +153,8 @@ module _ {P N : Type 0} (scope : Scope N) (far : (x : Variable) → ¬ ((scope.n
   group-parts side [] = refl
   group-parts side (b ∷ bs) = ap (λ ks. structure_part side b ∷ ks) (group-parts side bs)
 
-  pub structures-agree : (bs : List (StructurePair P)) (o q : Answer P (List (Option (Basis N)))) → AreAlone scope B.names (structure_parts scope B (structure_group (λ b. b.first) bs)) o
-      → AreAlone scope B.names (structure_parts scope B (structure_group (λ b. b.second) bs)) q → is_whole o ≡ true → is_whole q ≡ true → SameParts scope B.names o q
+  pub structures-agree : (bs : List (StructurePair P)) (o q : Answer P (List (Option (Added P N)))) → AreAlone scope B.names (structure_parts scope B (structure_group (λ b. b.first) bs)) o
+      → AreAlone scope B.names (structure_parts scope B (structure_group (λ b. b.second) bs)) q → is_whole o ≡ true → is_whole q ≡ true → SameParts scope B.names (unjudged_parts o) (unjudged_parts q)
   unfolding structure_part
   structures-agree bs o q a b w z =
       groups-agree scope far (structure_part (λ b. b.first)) (structure_part (λ b. b.second)) B.names initials

@@ -13,29 +13,29 @@ use Rattle.sml_core_rules.specs.Expressions.{at_first}
 use Rattle.sml_core_rules.specs.States.{Scope}
 use Rattle.sml_core_rules.proofs.Alike.{alike}
 use Rattle.sml_core_rules.proofs.Renaming.{basis-id}
-use Rattle.sml_module_rules.specs.Structures.{IsTopReading}
+use Rattle.sml_module_rules.specs.Structures.{Added, IsTopReading}
 use Rattle.sml_module_rules.specs.Statements.{rename_added, TopReadingsAgree, TopReadingsMove}
 use Rattle.sml_module_rules.proofs.Programs.{added-id, one-agrees}
 
-abbrev Added : Type 0 → Type 0
-Added N = Answer Place (Basis N)
+abbrev Given : Type 0 → Type 0
+Given N = Answer Place (Added Place N)
 
-added_named : Named Added
-added_named = record { rename = rename_added; rename-id = added-id }
+given_named : Named Given
+given_named = record { rename = rename_added; rename-id = added-id }
 
 pub top-readings-agree : {N : Type 0} (scope : Scope N) → TopReadingsAgree scope
-unfolding added_named
+unfolding given_named
 top-readings-agree {N} scope far B inside initials p d o q a b =
     let π = one-agrees scope far B inside initials p d o q a b in
     let f =
-    alike {P = Place} {F = Added} added_named scope B.names (accepted (o, at_first [])) (accepted (q, at_first [])) (λ i. ((π i).0, (π i).1, (π i).2, accepted ((π i).3, at_first []))) in
+    alike {P = Place} {F = Given} given_named scope B.names (accepted (o, at_first [])) (accepted (q, at_first [])) (λ i. ((π i).0, (π i).1, (π i).2, accepted ((π i).3, at_first []))) in
     (f.0, f.1, ap (λ r. r.0) (accepted_same f.2))
 
 -- what a reading speaks of: the names of explicit variables, the basis, and the answer
 record Told (N : Type 0) : Type 0 where
   variable : Variable → N
   basis : Basis N
-  answer : Added N
+  answer : Given N
 
 told_named : Named Told
 told_named = record {

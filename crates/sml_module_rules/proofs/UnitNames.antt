@@ -8,7 +8,7 @@ use Rattle.sml_rules.specs.Answers.{Answer, refused, accepted}
 use Rattle.sml_rules.proofs.Within.{last, both}
 use Rattle.sml_core_rules.specs.Objects.{Basis, names_map, names_in, names_structures, names_fun_sig, names_sig, names_env, names_basis}
 use Rattle.sml_core_rules.specs.States.{Scope}
-use Rattle.sml_module_rules.specs.Structures.{nothing, add_basis}
+use Rattle.sml_module_rules.specs.Structures.{Added, nothing, add_basis}
 use Rattle.sml_module_rules.specs.Programs.{basis_after, AreReadings, Pair, same, structures, functors, shown, all_shown}
 use Rattle.sml_module_rules.specs.Projects.{Exports, after_all, with_needs, beginning}
 use Rattle.sml_module_rules.proofs.Grown.{every-stands, stands-every, in-sum, IsWhole, whole-sum}
@@ -67,45 +67,45 @@ beginning-whole {N} I E ks h e =
     stands-every P (E.names ++ rest) (both P E.names rest (every-stands P E.names (λ n s. s)) (last P B.names rest a))
 
 -- what stands in shown answers
-unfoldable pub ShownMention : {P N : Type 0} → List (Option (Answer P (Basis N))) → List N → Type 0
+unfoldable pub ShownMention : {P N : Type 0} → List (Option (Answer P (Added P N))) → List N → Type 0
 ShownMention [] ns = Unit {0}
 ShownMention (None ∷ os) ns = ShownMention os ns
 ShownMention (Some (refused f) ∷ os) ns = ShownMention os ns
-ShownMention (Some (accepted A) ∷ os) ns = Mentions A ns × ShownMention os ns
+ShownMention (Some (accepted A) ∷ os) ns = Mentions A.basis ns × ShownMention os ns
 
 -- what shown answers add
-abbrev pub after_shown : {P N : Type 0} → Basis N → List (Option (Answer P (Basis N))) → Basis N
+abbrev pub after_shown : {P N : Type 0} → Basis N → List (Option (Answer P (Added P N))) → Basis N
 after_shown B [] = B
 after_shown B (None ∷ os) = after_shown B os
 after_shown B (Some o ∷ os) = after_shown (basis_after B o) os
 
-keep-refused : {P N : Type 0} (d : Pair P) (f : _) (os : List (Option (Answer P (Basis N)))) (ns : List N) → ShownMention os ns → ShownMention (shown d (refused f) ∷ os) ns
+keep-refused : {P N : Type 0} (d : Pair P) (f : _) (os : List (Option (Answer P (Added P N)))) (ns : List N) → ShownMention os ns → ShownMention (shown d (refused f) ∷ os) ns
 unfolding ShownMention
 keep-refused (same p d) f os ns h = h
 keep-refused (structures p q bs) f os ns h = h
 keep-refused (functors p q bs) f os ns h = h
 
-keep-accepted : {P N : Type 0} (d : Pair P) (A : Basis N) (os : List (Option (Answer P (Basis N)))) (ns : List N) → Mentions A ns → ShownMention os ns → ShownMention (shown d (accepted A) ∷ os) ns
+keep-accepted : {P N : Type 0} (d : Pair P) (A : Added P N) (os : List (Option (Answer P (Added P N)))) (ns : List N) → Mentions A.basis ns → ShownMention os ns → ShownMention (shown d (accepted A) ∷ os) ns
 unfolding ShownMention
 keep-accepted (same p d) A os ns h k = (h, k)
 keep-accepted (structures p q bs) A os ns h k = (h, k)
 keep-accepted (functors p q bs) A os ns h k = (h, k)
 
 module _ {P N : Type 0} (scope : Scope N) (side : Pair P → P × TopDec P) where
-  pub exported-shown : (ds : List (Pair P)) (B X : Basis N) (os : List (Answer P (Basis N))) → AreReadings scope B (map side ds) os → after_shown X (all_shown ds os) ≡ after_all X os
+  pub exported-shown : (ds : List (Pair P)) (B X : Basis N) (os : List (Answer P (Added P N))) → AreReadings scope B (map side ds) os → after_shown X (all_shown ds os) ≡ after_all X os
   unfolding AreReadings
   exported-shown [] B X [] h = λ i. X
   exported-shown [] B X (o ∷ os) h = absurd h
   exported-shown (d ∷ ds) B X [] h = absurd h
   exported-shown (same p d ∷ ds) B X (o ∷ os) h = exported-shown ds (basis_after B o) (basis_after X o) os h.1
   exported-shown (structures p q bs ∷ ds) B X (refused f ∷ os) h = exported-shown ds B X os h.1
-  exported-shown (structures p q bs ∷ ds) B X (accepted A ∷ os) h = exported-shown ds (add_basis B A) (add_basis X A) os h.1
+  exported-shown (structures p q bs ∷ ds) B X (accepted A ∷ os) h = exported-shown ds (add_basis B A.basis) (add_basis X A.basis) os h.1
   exported-shown (functors p q bs ∷ ds) B X (refused f ∷ os) h = exported-shown ds B X os h.1
-  exported-shown (functors p q bs ∷ ds) B X (accepted A ∷ os) h = exported-shown ds (add_basis B A) (add_basis X A) os h.1
+  exported-shown (functors p q bs ∷ ds) B X (accepted A ∷ os) h = exported-shown ds (add_basis B A.basis) (add_basis X A.basis) os h.1
 
   -- what shown answers mention, and what they add to what came before: names that were made there, or before all of it
   pub shown-mention : (T : List N) (ds : List (Pair P)) (B X : Basis N) → IsWhole B → Mentions X (X.names ++ T) → ((n : N) → Stands n B.names → Stands n (X.names ++ T))
-      → (os : List (Answer P (Basis N))) → AreReadings scope B (map side ds) os
+      → (os : List (Answer P (Added P N))) → AreReadings scope B (map side ds) os
       → Mentions (after_all X os) ((after_all X os).names ++ T) × ShownMention (all_shown ds os) ((after_all X os).names ++ T)
       × ((n : N) → Stands n X.names → Stands n (after_all X os).names)
   unfolding AreReadings ShownMention
@@ -115,14 +115,15 @@ module _ {P N : Type 0} (scope : Scope N) (side : Pair P → P × TopDec P) wher
   shown-mention T (d ∷ ds) B X w h b (refused f ∷ os) r =
       let a = shown-mention T ds B X w h b os r.1 in (a.0, keep-refused d f (all_shown ds os) ((after_all X os).names ++ T) a.1, a.2)
   shown-mention T (d ∷ ds) B X w h b (accepted A ∷ os) r =
+      let E = A.basis in
       let c : IsAddition {P = P} B (accepted A) = answer-added scope B (side d).0 (side d).1 (accepted A) r.0 in
-      let own : List N = A.names ++ X.names in
+      let own : List N = E.names ++ X.names in
       let old : (n : N) → Stands n (X.names ++ T) → Stands n (own ++ T) =
-      λ n s. either (Stands n (own ++ T)) n X.names T (λ k. left n own T (right n A.names X.names k)) (λ k. right n own T k) s in
-      let new : (n : N) → Stands n (A.names ++ B.names) → Stands n (own ++ T) =
-      λ n s. either (Stands n (own ++ T)) n A.names B.names (λ k. left n own T (left n A.names X.names k)) (λ k. old n (b n k)) s in
-      let x = sum-mentions (own ++ T) X A (λ n s. old n (h n s)) (λ n s. new n (c n s)) in
-      let a = shown-mention T ds (add_basis B A) (add_basis X A) (whole-sum B A w c) x new os r.1 in
-      let all : List N = (after_all (add_basis X A) os).names in
-      let there : Mentions A (all ++ T) = λ n s. either (Stands n (all ++ T)) n own T (λ k. left n all T (a.2 n k)) (λ k. right n all T k) (new n (c n s)) in
-      (a.0, keep-accepted d A (all_shown ds os) (all ++ T) there a.1, λ n s. a.2 n (right n A.names X.names s))
+      λ n s. either (Stands n (own ++ T)) n X.names T (λ k. left n own T (right n E.names X.names k)) (λ k. right n own T k) s in
+      let new : (n : N) → Stands n (E.names ++ B.names) → Stands n (own ++ T) =
+      λ n s. either (Stands n (own ++ T)) n E.names B.names (λ k. left n own T (left n E.names X.names k)) (λ k. old n (b n k)) s in
+      let x = sum-mentions (own ++ T) X E (λ n s. old n (h n s)) (λ n s. new n (c n s)) in
+      let a = shown-mention T ds (add_basis B E) (add_basis X E) (whole-sum B E w c) x new os r.1 in
+      let all : List N = (after_all (add_basis X E) os).names in
+      let there : Mentions E (all ++ T) = λ n s. either (Stands n (all ++ T)) n own T (λ k. left n all T (a.2 n k)) (λ k. right n all T k) (new n (c n s)) in
+      (a.0, keep-accepted d A (all_shown ds os) (all ++ T) there a.1, λ n s. a.2 n (right n E.names X.names s))

@@ -8,15 +8,15 @@ use Rattle.sml_tree.specs.Structures.{StrExp, StrBinds, FunBind, TopDec, ascribe
 use Rattle.sml_rules.specs.Answers.{Answer, refused, accepted}
 use Rattle.sml_core_rules.specs.Objects.{Basis}
 use Rattle.sml_core_rules.specs.States.{Scope}
-use Rattle.sml_module_rules.specs.Structures.{add_basis, IsTopReading}
+use Rattle.sml_module_rules.specs.Structures.{Added, unjudged, add_basis, IsTopReading}
 
 -- a fault adds nothing
-abbrev pub basis_after : {P N : Type 0} → Basis N → Answer P (Basis N) → Basis N
+abbrev pub basis_after : {P N : Type 0} → Basis N → Answer P (Added P N) → Basis N
 basis_after B (refused f) = B
-basis_after B (accepted A) = add_basis B A
+basis_after B (accepted A) = add_basis B A.basis
 
 -- what declarations, each with its place, may be answered one after the other
-unfoldable pub AreReadings : {P N : Type 0} → Scope N → Basis N → List (P × TopDec P) → List (Answer P (Basis N)) → Type 0
+unfoldable pub AreReadings : {P N : Type 0} → Scope N → Basis N → List (P × TopDec P) → List (Answer P (Added P N)) → Type 0
 AreReadings scope B [] [] = Unit {0}
 AreReadings scope B [] (o ∷ os) = ⊥
 AreReadings scope B (d ∷ ds) [] = ⊥
@@ -109,18 +109,18 @@ second (same p d) = (p, d)
 second (structures p q bs) = (q.declaration, top_str (structure_dec q.bindings (structure_group (λ b. b.second) bs)))
 second (functors p q bs) = (q.declaration, functor_dec q.bindings (functor_group (λ b. b.second) bs))
 
--- the answer to one of two that differ: not its fault
-abbrev pub acceptance : {P N : Type 0} → Answer P (Basis N) → Option (Answer P (Basis N))
+-- the answer to one of two that differ: neither its fault nor what is to be judged in it
+abbrev pub acceptance : {P N : Type 0} → Answer P (Added P N) → Option (Answer P (Added P N))
 acceptance (refused f) = None
-acceptance (accepted A) = Some (accepted A)
+acceptance (accepted A) = Some (accepted (unjudged A))
 
--- the answer to one of the two, but for faults of those that differ
-abbrev pub shown : {P N : Type 0} → Pair P → Answer P (Basis N) → Option (Answer P (Basis N))
+-- the answer to one of the two, but for faults of those that differ and what is to be judged in them
+abbrev pub shown : {P N : Type 0} → Pair P → Answer P (Added P N) → Option (Answer P (Added P N))
 shown (same p d) o = Some o
 shown (structures p q bs) o = acceptance o
 shown (functors p q bs) o = acceptance o
 
-abbrev pub all_shown : {P N : Type 0} → List (Pair P) → List (Answer P (Basis N)) → List (Option (Answer P (Basis N)))
+abbrev pub all_shown : {P N : Type 0} → List (Pair P) → List (Answer P (Added P N)) → List (Option (Answer P (Added P N)))
 all_shown [] os = []
 all_shown (d ∷ ds) [] = []
 all_shown (d ∷ ds) (o ∷ os) = shown d o ∷ all_shown ds os

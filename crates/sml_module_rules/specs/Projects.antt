@@ -4,7 +4,7 @@ use Rattle.sml_tree.specs.Structures.{TopDec}
 use Rattle.sml_rules.specs.Answers.{Answer}
 use Rattle.sml_core_rules.specs.Objects.{Basis}
 use Rattle.sml_core_rules.specs.States.{Scope}
-use Rattle.sml_module_rules.specs.Structures.{nothing, add_basis}
+use Rattle.sml_module_rules.specs.Structures.{Added, nothing, add_basis}
 use Rattle.sml_module_rules.specs.Programs.{basis_after, AreReadings, Pair, first, second, all_shown}
 
 -- The number of a unit, which is that of its line among the unit lines of the project file, counted from 1; its declarations, each with
@@ -20,12 +20,12 @@ pub record Exports (N : Type 0) : Type 0 where
   pub units : List (Basis N)
 
 -- what answers add to a basis, one after the other
-abbrev pub after_all : {P N : Type 0} → Basis N → List (Answer P (Basis N)) → Basis N
+abbrev pub after_all : {P N : Type 0} → Basis N → List (Answer P (Added P N)) → Basis N
 after_all B [] = B
 after_all B (o ∷ os) = after_all (basis_after B o) os
 
 -- what a unit exports, by the answers to its declarations
-abbrev pub exported : {P N : Type 0} → List (Answer P (Basis N)) → Basis N
+abbrev pub exported : {P N : Type 0} → List (Answer P (Added P N)) → Basis N
 exported os = after_all nothing os
 
 -- a basis with what these units export
@@ -45,7 +45,7 @@ abbrev pub in_unit : {N : Type 0} → ℕ → Scope N → Scope N
 in_unit k scope = record scope { unit = k }
 
 -- what units may be answered one after the other
-unfoldable pub AreRuns : {P N : Type 0} → Scope N → Basis N → Exports N → List (UnitText P) → List (List (Answer P (Basis N))) → Type 0
+unfoldable pub AreRuns : {P N : Type 0} → Scope N → Basis N → Exports N → List (UnitText P) → List (List (Answer P (Added P N))) → Type 0
 AreRuns scope I E [] [] = Unit {0}
 AreRuns scope I E [] (os ∷ oss) = ⊥
 AreRuns scope I E (u ∷ us) [] = ⊥
@@ -64,7 +64,7 @@ abbrev pub second_unit : {P : Type 0} → UnitPair P → UnitText P
 second_unit u = record { number = u.number; declarations = map second u.pairs; needs = u.needs }
 
 -- the answers to each unit of one of the two, but for faults of declarations that differ
-abbrev pub units_shown : {P N : Type 0} → List (UnitPair P) → List (List (Answer P (Basis N))) → List (List (Option (Answer P (Basis N))))
+abbrev pub units_shown : {P N : Type 0} → List (UnitPair P) → List (List (Answer P (Added P N))) → List (List (Option (Answer P (Added P N))))
 units_shown [] oss = []
 units_shown (u ∷ us) [] = []
 units_shown (u ∷ us) (os ∷ oss) = all_shown u.pairs os ∷ units_shown us oss

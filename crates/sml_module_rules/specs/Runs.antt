@@ -10,6 +10,7 @@ use Rattle.sml_core_rules.specs.Objects.{Basis}
 use Rattle.sml_core_rules.specs.Scopes.{run_scope}
 use Rattle.sml_module_rules.specs.Projects.{UnitText, UnitPair, Exports, AreRuns, first_unit, second_unit, units_shown}
 use Rattle.sml_module_rules.specs.Statements.{rename_shown}
+use Rattle.sml_module_rules.specs.Structures.{Added}
 
 -- before the first unit: the initial names are the only ones that were used
 abbrev pub at_first : Exports Name
@@ -17,7 +18,7 @@ at_first = record { names = initial_names; units = [] }
 
 -- Unit by unit, over the initial basis with the exports of its needs, each answer is one of the readings of its declaration, whose
 -- new names the unit makes and were used nowhere before; an accepted one extends the basis, and a refused one leaves it.
-abbrev pub AreAnswers : List (UnitText Place) → List (List (Answer Place (Basis Name))) → Type 0
+abbrev pub AreAnswers : List (UnitText Place) → List (List (Answer Place (Added Place Name))) → Type 0
 AreAnswers us oss = AreRuns (run_scope 1) initial_basis at_first us oss
 
 -- What stands behind `:>` can't be seen. Of two projects whose units are alike but for what stands behind `:>`, where each such
@@ -25,6 +26,6 @@ AreAnswers us oss = AreRuns (run_scope 1) initial_basis at_first us oss
 -- faults of these declarations.
 abbrev pub RunsHide : Type 0
 RunsHide =
-    (us : List (UnitPair Place)) → AllByRecursion (λ u. 0 < u.number) us → (oss qss : List (List (Answer Place (Basis Name))))
+    (us : List (UnitPair Place)) → AllByRecursion (λ u. 0 < u.number) us → (oss qss : List (List (Answer Place (Added Place Name))))
     → AreAnswers (map first_unit us) oss → AreAnswers (map second_unit us) qss → map (map is_some) (units_shown us oss) ≡ map (map is_some) (units_shown us qss)
     → (f : Renaming naming) × (units_shown us qss ≡ map (map (rename_shown f.to)) (units_shown us oss))

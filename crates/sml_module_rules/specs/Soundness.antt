@@ -11,7 +11,7 @@ use Rattle.sml_core_rules.specs.Objects.{Basis, Sig, FunSig, rename_basis}
 use Rattle.sml_core_rules.specs.Scopes.{IsScope}
 use Rattle.sml_core_rules.specs.States.{Scope}
 use Rattle.sml_module_rules.specs.Rules.{DeclaresTop}
-use Rattle.sml_module_rules.specs.Structures.{IsTopReading}
+use Rattle.sml_module_rules.specs.Structures.{Added, IsTopReading}
 use Rattle.sml_module_rules.specs.WellFormed.{IsBasis}
 
 -- The same objects, whose bound names are sets.
@@ -36,6 +36,6 @@ pub record AreSameBases {N : Type 0} (A B : Basis N) : Type 0 where
 -- Of each accepted declaration the rules derive a basis that is alike to the one that it is given, over the basis before it.
 abbrev pub TopReadingsAreSound : {N : Type 0} → Scope N → Type 0
 TopReadingsAreSound {N} scope =
-    IsScope scope → (B : Basis N) → IsBasis scope.names B → (p : Place) (d : TopDec Place) (A : Basis N) → IsTopReading scope p B d (accepted A)
+    IsScope scope → (B : Basis N) → IsBasis scope.names B → (p : Place) (d : TopDec Place) (A : Added Place N) → IsTopReading scope p B d (accepted A)
     → (equality : ℕ → Bool) × (D : Basis N) × DeclaresTop scope equality B d D
-    × (f : Renaming scope.names) × ((n : N) → Stands n B.names → f.to n ≡ n) × AreSameBases (rename_basis f.to D) A
+    × (f : Renaming scope.names) × ((n : N) → Stands n B.names → f.to n ≡ n) × AreSameBases (rename_basis f.to D) A.basis

@@ -19,7 +19,7 @@ use Rattle.sml_core_rules.specs.Assigned.{assign_value}
 use Rattle.sml_core_rules.specs.Solutions.{Meets}
 use Rattle.sml_core_rules.specs.Lookups.{structure_at}
 use Rattle.sml_core_rules.specs.Expressions.{read_dec, at_first}
-use Rattle.sml_core_rules.specs.States.{Scope, State}
+use Rattle.sml_core_rules.specs.States.{Scope, State, Judged}
 use Rattle.sml_core_rules.specs.Scripts.{Script, give, refuse, ◌>>=◌, need, start_anew, IsAnswer}
 use Rattle.sml_module_rules.specs.Lines.{IsSmallEnv}
 use Rattle.sml_module_rules.specs.Matching.{ascribe, apply_functor}
@@ -44,6 +44,15 @@ of_body E = record nothing { body = E }
 abbrev pub of_functor : {N : Type 0} → Id → FunSig N → Basis N
 of_functor x F = record nothing { functors = (x, F) ∷ [] }
 
+-- what a declaration adds, and what is to be judged in it
+pub record Added (P N : Type 0) : Type 0 where
+  pub basis : Basis N
+  pub judged : List (Judged P)
+
+-- without what is to be judged
+abbrev pub unjudged : {P N : Type 0} → Added P N → Added P N
+unjudged A = record A { judged = [] }
+
 -- a basis with what a declaration adds, which hides what it binds again
 abbrev pub add_basis : {N : Type 0} → Basis N → Basis N → Basis N
 add_basis B A = record {
@@ -57,24 +66,24 @@ add_basis B A = record {
 abbrev pub IsSmallBasis : {N : Type 0} → Basis N → Type 0
 IsSmallBasis A = AllByRecursion (λ e. IsSmallEnv e.1.result.body) A.functors × IsSmallEnv A.body
 
--- Parts of a declaration: what each binds, or None where a type of it was left open
+-- Parts of a declaration: what each adds, or None where a type of it was left open
 
-abbrev pub names_part : {N : Type 0} → Option (Basis N) → List N
+abbrev pub names_part : {P N : Type 0} → Option (Added P N) → List N
 names_part None = []
-names_part (Some A) = names_basis A
+names_part (Some A) = names_basis A.basis
 
-abbrev pub and_part : {P N : Type 0} → Option (Basis N) → Answer P (List (Option (Basis N))) → Answer P (List (Option (Basis N)))
+abbrev pub and_part : {P N : Type 0} → Option (Added P N) → Answer P (List (Option (Added P N))) → Answer P (List (Option (Added P N)))
 and_part m (refused f) = refused f
 and_part m (accepted ms) = accepted (m ∷ ms)
 
-abbrev pub and_bound : {N : Type 0} → Option (Basis N) → Option (Basis N) → Option (Basis N)
+abbrev pub and_bound : {P N : Type 0} → Option (Added P N) → Option (Added P N) → Option (Added P N)
 and_bound None m = None
 and_bound (Some A) None = None
-and_bound (Some A) (Some C) = Some (add_basis A C)
+and_bound (Some A) (Some C) = Some (record { basis = add_basis A.basis C.basis; judged = A.judged ++ C.judged })
 
 -- what all of them bind
-abbrev pub all_bound : {N : Type 0} → List (Option (Basis N)) → Option (Basis N)
-all_bound [] = Some nothing
+abbrev pub all_bound : {P N : Type 0} → List (Option (Added P N)) → Option (Added P N)
+all_bound [] = Some (record { basis = nothing; judged = [] })
 all_bound (m ∷ ms) = and_bound m (all_bound ms)
 
 module _ {N : Type 0} (scope : Scope N) where
@@ -96,6 +105,9 @@ module _ {N : Type 0} (scope : Scope N) where
   -- in it
   abbrev pub own_basis : List N → Basis N → Basis N
   own_basis old A = record (exported_functors old A) { names = besides old (names_basis (record (exported_functors old A) { names = [] })) }
+
+  abbrev pub own_added : {P : Type 0} → List N → Added P N → Added P N
+  own_added old A = record A { basis = own_basis old A.basis }
 
   -- how many of the names the unit has made
   abbrev pub count_made : List N → ℕ
@@ -122,22 +134,22 @@ module _ {P N : Type 0} (scope : Scope N) where
   IsDetermined s A C = (σ : Assignment N finite) → Meets scope s Rigidity σ → basis_with_types σ A ≡ C
 
   -- an answer to a part without its state, where all types are determined, or None in its place
-  abbrev pub IsMarked : Answer P (Basis N × State P N) → Answer P (Option (Basis N)) → Type 0
+  abbrev pub IsMarked : Answer P (Basis N × State P N) → Answer P (Option (Added P N)) → Type 0
   IsMarked (refused f) o = o ≡ refused f
   IsMarked (accepted r) o =
-      ((C : Basis N) × IsDetermined r.1 r.0 C × (o ≡ accepted (Some C))) ⊎ (((C : Basis N) → ¬ (IsDetermined r.1 r.0 C)) × (o ≡ accepted None))
+      ((C : Basis N) × IsDetermined r.1 r.0 C × (o ≡ accepted (Some (record { basis = C; judged = r.1.judged })))) ⊎ (((C : Basis N) → ¬ (IsDetermined r.1 r.0 C)) × (o ≡ accepted None))
 
   -- What a part may be answered that is read alone: no name is made again that is one of these, and nothing was asked or made before
   -- it.
-  abbrev pub IsAlone : List N → Script P N (Basis N) → Answer P (Option (Basis N)) → Type 0
+  abbrev pub IsAlone : List N → Script P N (Basis N) → Answer P (Option (Added P N)) → Type 0
   IsAlone ns k o = (r : Answer P (Basis N × State P N)) × IsAnswer scope k (at_first ns) r × IsMarked r o
 
   -- Parts, each read alone, up to the first that is refused. Those after one make none of the names that stand in it.
-  unfoldable pub AreAlone : List N → List (Script P N (Basis N)) → Answer P (List (Option (Basis N))) → Type 0
+  unfoldable pub AreAlone : List N → List (Script P N (Basis N)) → Answer P (List (Option (Added P N))) → Type 0
   AreAlone ns [] o = o ≡ accepted []
   AreAlone ns (k ∷ ks) o =
       ((f : Fault P) × IsAlone ns k (refused f) × (o ≡ refused f))
-      ⊎ ((m : Option (Basis N)) × IsAlone ns k (accepted m) × (ms : Answer P (List (Option (Basis N)))) × AreAlone (names_part m ++ ns) ks ms × (o ≡ and_part m ms))
+      ⊎ ((m : Option (Added P N)) × IsAlone ns k (accepted m) × (ms : Answer P (List (Option (Added P N)))) × AreAlone (names_part m ++ ns) ks ms × (o ≡ and_part m ms))
 
 module _ {P N : Type 0} (scope : Scope N) where
   abbrev pub functor_named : Name P → Option (FunSig N) → Script P N (FunSig N)
@@ -231,18 +243,18 @@ module _ {P N : Type 0} (scope : Scope N) where
 
     -- What a declaration may be answered whose parts bind this, at its place: Q2 where a type was left open, E7 where one is too large,
     -- Q3 where it has too many names, or what it adds.
-    abbrev pub IsExported : P → Option (Basis N) → Answer P (Basis N) → Type 0
+    abbrev pub IsExported : P → Option (Added P N) → Answer P (Added P N) → Type 0
     IsExported p None o = o ≡ refused (fault Q2 p)
     IsExported p (Some A) o =
-        (¬ (IsSmallBasis A) × (o ≡ refused (fault E7 p)))
-        ⊎ (IsSmallBasis A × ¬ (AreFew scope B.names (own_basis scope B.names A)) × (o ≡ refused (fault Q3 p)))
-        ⊎ (IsSmallBasis A × AreFew scope B.names (own_basis scope B.names A) × (o ≡ accepted (own_basis scope B.names A)))
+        (¬ (IsSmallBasis A.basis) × (o ≡ refused (fault E7 p)))
+        ⊎ (IsSmallBasis A.basis × ¬ (AreFew scope B.names (own_basis scope B.names A.basis)) × (o ≡ refused (fault Q3 p)))
+        ⊎ (IsSmallBasis A.basis × AreFew scope B.names (own_basis scope B.names A.basis) × (o ≡ accepted (own_added scope B.names A)))
 
     -- the same, or the fault of a part
-    abbrev pub IsAnswered : P → Answer P (List (Option (Basis N))) → Answer P (Basis N) → Type 0
+    abbrev pub IsAnswered : P → Answer P (List (Option (Added P N))) → Answer P (Added P N) → Type 0
     IsAnswered p (refused f) o = o ≡ refused f
     IsAnswered p (accepted ms) o = IsExported p (all_bound ms) o
 
 -- what a top-level declaration may be answered, whose place is given
-abbrev pub IsTopReading : {P N : Type 0} → Scope N → P → Basis N → TopDec P → Answer P (Basis N) → Type 0
-IsTopReading {P} {N} scope p B d o = (ms : Answer P (List (Option (Basis N)))) × AreAlone scope B.names (parts scope B d) ms × IsAnswered scope B p ms o
+abbrev pub IsTopReading : {P N : Type 0} → Scope N → P → Basis N → TopDec P → Answer P (Added P N) → Type 0
+IsTopReading {P} {N} scope p B d o = (ms : Answer P (List (Option (Added P N)))) × AreAlone scope B.names (parts scope B d) ms × IsAnswered scope B p ms o

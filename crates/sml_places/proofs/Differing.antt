@@ -8,6 +8,8 @@ use Rattle.sml_lex.specs.declared.fault.Place.{Place}
 use Rattle.sml_objects.specs.Initial.{Name}
 use Rattle.sml_rules.specs.Answers.{refused, accepted}
 use Rattle.sml_rules.proofs.Sound.{not_refused}
+use Rattle.sml_core_rules.specs.Objects.{Basis}
+use Rattle.sml_core_rules.specs.States.{Judged}
 use Rattle.sml_module_rules.specs.Programs.{acceptance}
 use Rattle.sml_module_rules.specs.Projects.{UnitText}
 use Rattle.sml_module_rules.specs.Statements.{rename_added, rename_shown}
@@ -95,6 +97,16 @@ units-can-agree (u ∷ us) (w ∷ ws) alike (os ∷ oss) [] h = λ k. k (alike, 
 units-can-agree (u ∷ us) (w ∷ ws) alike (os ∷ oss) (qs ∷ qss) h =
     λ k. can-agree u.declarations w.declarations alike.0.2 os qs h.0 (λ x. units-can-agree us ws alike.1 oss qss h.1 (λ y. k (((alike.0.0, alike.0.1, x.0), y.0), (x.1, y.1))))
 
+-- parts of answers
+
+abbrev basis_or : Basis Name → Given → Basis Name
+basis_or B (refused x) = B
+basis_or B (accepted A) = A.basis
+
+abbrev judged_or : List (Judged Place) → Given → List (Judged Place)
+judged_or js (refused x) = js
+judged_or js (accepted A) = A.judged
+
 module _ (f : Name → Name) where
   -- what is renamed is both
 
@@ -131,7 +143,9 @@ module _ (f : Name → Name) where
   same-fault : (g : Name → Name) (o q : Given) → q ≡ rename_added g o → acceptance q ≡ rename_shown f (acceptance o) → q ≡ rename_added f o
   same-fault g (refused x) q h k = h
   same-fault g (accepted A) (refused x) h k = absurd (not_refused (sym h))
-  same-fault g (accepted A) (accepted B) h k = ap (shown_or (accepted A)) k
+  same-fault g (accepted A) (accepted C) h k =
+      let basis = ap (λ o. basis_or A.basis (shown_or (accepted A) o)) k in
+      let judged = ap (λ o. judged_or A.judged o) h in λ i. accepted (record { basis = basis i; judged = judged i })
 
   is-renamed : (d e : Placed) (o q : Given) → ((alike : IsAlike d e) → (g : Name → Name) × IsRenamedBy g alike o q) → (alike : IsAlike d e) → IsRenamedBy f alike o q → IsRenamed f d e o q
   is-renamed d e o q however alike h =

@@ -1,6 +1,6 @@
 -- Expressions and declarations of the core with other places have the same answers, but for places.
-use Rattle.std.specs.Prelude.{true, false, List, [], ◌∷◌, ◌++◌, map, Option, Some, None}
-use mathlib.Core.Path.{sym, subst, ◌∙◌}
+use Rattle.std.specs.Prelude.{◌≡◌, true, false, List, [], ◌∷◌, ◌++◌, map, Option, Some, None}
+use mathlib.Core.Path.{refl, sym, ap, subst, ◌∙◌}
 use Rattle.sml_lex.specs.declared.fault.Code.TheVariants.{E2, E7, E9}
 use Rattle.sml_tree.specs.Patterns.{Pat}
 use Rattle.sml_tree.specs.Withtype.{dat_replaced}
@@ -11,17 +11,18 @@ use Rattle.sml_layers.specs.declared.layer.Bound.TheVariants.{Locality}
 use Rattle.sml_layers.specs.Demands as D
 use Rattle.sml_rules.specs.Answers.{fault}
 use Rattle.sml_core_rules.specs.Objects.{Env, of_values, maps, no_structure, empty, extend}
-use Rattle.sml_core_rules.specs.Lookups.{type_at}
-use Rattle.sml_core_rules.specs.States.{Scope}
+use Rattle.sml_core_rules.specs.Lookups.{status_at, type_at}
+use Rattle.sml_core_rules.specs.States.{Scope, Holder, of_fn, of_handle, of_val}
 use Rattle.sml_core_rules.specs.Types as T
 use Rattle.sml_core_rules.specs.Types.{put_field, row_of}
 use Rattle.sml_core_rules.specs.Values.{require_equal}
 use Rattle.sml_core_rules.specs.Patterns.{Bindings, constant_type, pattern_place}
 use Rattle.sml_core_rules.specs.Closing.{is_expansive}
 use Rattle.sml_core_rules.specs.Datatypes.{constructor_values}
-use Rattle.sml_core_rules.specs.Expressions.{Bound, bound_values, bounds, after, exn_type, require_bindings, read_datatypes, read_exp, read_exps, read_fields, read_rules, read_decs, read_dec, read_binds, read_patterns, read_rights}
+use Rattle.sml_core_rules.specs.Expressions.{Bound, bound_values, bounds, after, exn_type, rule_patterns, require_bindings, judge_patterns, read_datatypes, read_exp, read_exps, read_fields, read_rules, read_decs, read_dec, read_binds, read_patterns, read_rights}
 use Rattle.sml_places.specs.Places.{place_exp, place_exps, place_fields, place_rules, place_dec, place_decs, place_binds, place_pat, place_typ_bind, place_dat_bind}
-use Rattle.sml_places.proofs.Scripts.{AreSame, alike-then, alike-with, alike-give}
+use Rattle.sml_places.specs.Answers.{place_holder, place_patterns}
+use Rattle.sml_places.proofs.Scripts.{AreSame, alike-then, alike-with, alike-give, alike-judges}
 use Rattle.sml_places.proofs.Types.{equal-exceptions, equal-opened}
 use Rattle.sml_places.proofs.Steps.{itself, same-look, same-need, same-test, same-unknown, same-require, alike-so-far}
 use Rattle.sml_places.proofs.Trees.{pattern-placed, expression-placed, expansive-same, function-same, ids-same, unguarded-same}
@@ -39,6 +40,25 @@ module _ {P Q N : Type 0} (scope : Scope N) (f : P → Q) where
   bindings-at-pattern : (q : Pat P) (bs : Bindings N) → AreSame scope f (require_bindings scope (pattern_place q) bs) (require_bindings scope (pattern_place (place_pat f q)) bs)
   bindings-at-pattern q bs =
       subst (λ p. AreSame scope f (require_bindings scope (pattern_place q) bs) (require_bindings scope p bs)) (sym (pattern-placed f q)) (same-bindings scope f (pattern_place q) bs)
+
+  -- what is to be judged
+
+  rules-placed : (m : Rules P) → rule_patterns (place_rules f m) ≡ place_patterns f (rule_patterns m)
+  unfolding place_rules
+  rules-placed no_rule = refl
+  rules-placed (and_rule (rule p q e) m) = ap (λ qs. (f p, place_pat f q) ∷ qs) (rules-placed m)
+
+  same-judged : (h : Holder P) (C : Env N) {qs : List (P × Pat P)} {rs : List (Q × Pat Q)} → rs ≡ place_patterns f qs
+      → AreSame scope f (judge_patterns scope h C qs) (judge_patterns scope (place_holder f h) C rs)
+  same-judged h C {qs = qs} e =
+      subst (λ rs. AreSame scope f (judge_patterns scope h C qs) (judge_patterns scope (place_holder f h) C rs)) (sym e)
+      (alike-judges (record { holder = h; patterns = qs; status = status_at C }) (alike-give tt))
+
+  judged-at-pattern : (C : Env N) (q : Pat P) → AreSame scope f (judge_patterns scope (of_val (pattern_place q)) C ((pattern_place q, q) ∷ []))
+      (judge_patterns scope (of_val (pattern_place (place_pat f q))) C ((pattern_place (place_pat f q), place_pat f q) ∷ []))
+  judged-at-pattern C q =
+      subst (λ p. AreSame scope f (judge_patterns scope (of_val (pattern_place q)) C ((pattern_place q, q) ∷ [])) (judge_patterns scope (of_val p) C ((p, place_pat f q) ∷ [])))
+      (sym (pattern-placed f q)) (same-judged (of_val (pattern_place q)) C refl)
 
   same-withtype : (p : P) (C : Env N) (ds : List (DatBind P)) (bs : List (TypBind P))
       → AreSame scope f (read_datatypes scope p C (map (dat_replaced bs) ds)) (read_datatypes scope (f p) C (map (dat_replaced (map (place_typ_bind f) bs)) (map (place_dat_bind f) ds)))
@@ -61,9 +81,10 @@ module _ {P Q N : Type 0} (scope : Scope N) (f : P → Q) where
     same-exp C vs (apply p g e) = alike-then (same-exp C vs g) (λ t. alike-then (same-exp C vs e) (λ a. same-applied p t a))
     same-exp C vs (typed p e ty) = alike-then (same-exp C vs e) (λ t. alike-then (same-constraint C vs ty) (λ w. alike-then (same-equal p t w) (λ u. alike-give w)))
     same-exp C vs (handle p e m) =
-        alike-then (same-exp C vs e) (λ t. alike-then (same-rules C vs None m) (λ h. alike-then (same-equal p h (arrow_of (exn_type scope) t)) (λ u. alike-give t)))
+        alike-then (same-exp C vs e) (λ t. alike-then (same-rules C vs None m) (λ h.
+        alike-then (same-equal p h (arrow_of (exn_type scope) t)) (λ u. alike-then (same-judged (of_handle p) C (rules-placed m)) (λ j. alike-give t))))
     same-exp C vs (raise p e) = alike-then (same-exp C vs e) (λ t. alike-then (same-equal p t (exn_type scope)) (λ u. same-unknown))
-    same-exp C vs (fn p m) = same-rules C vs None m
+    same-exp C vs (fn p m) = alike-then (same-rules C vs None m) (λ t. alike-then (same-judged (of_fn p) C (rules-placed m)) (λ j. alike-give t))
 
     same-exps : (C : Env N) (vs : Map (MlType N)) (es : Exps P) → AreSame scope f (read_exps scope C vs es) (read_exps scope C vs (place_exps f es))
     same-exps C vs no_exp = alike-give no_type
@@ -105,9 +126,9 @@ module _ {P Q N : Type 0} (scope : Scope N) (f : P → Q) where
     same-binds C vs seen done no_bind = alike-give (seen, done)
     same-binds C vs seen done (and_bind (bind q e) bs) =
         alike-then (same-pat scope f false C vs seen q) (λ r. alike-then (same-exp C vs e) (λ t. alike-then (equal-at-pattern q r.type t) (λ u.
-        coe 1 0 (i. AreSame scope f (read_binds scope C vs r.bound (done ++ bounds (is_expansive C e) (after seen r.bound)) bs)
+        alike-then (judged-at-pattern C q) (λ j. coe 1 0 (i. AreSame scope f (read_binds scope C vs r.bound (done ++ bounds (is_expansive C e) (after seen r.bound)) bs)
         (read_binds scope C vs r.bound (done ++ bounds (expansive-same f C e i) (after seen r.bound)) (place_binds f bs)))
-        (same-binds C vs r.bound (done ++ bounds (is_expansive C e) (after seen r.bound)) bs))))
+        (same-binds C vs r.bound (done ++ bounds (is_expansive C e) (after seen r.bound)) bs)))))
 
     same-patterns : (C : Env N) (vs : Map (MlType N)) (seen new : Bindings N) (bs : ValBinds P)
         → AreSame scope f (read_patterns scope C vs seen new bs) (read_patterns scope C vs seen new (place_binds f bs))

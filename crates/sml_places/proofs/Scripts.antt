@@ -9,11 +9,11 @@ use Rattle.sml_layers.specs.Demands.{Demand}
 use Rattle.sml_layers.specs.Layers.{code_of}
 use Rattle.sml_rules.specs.Answers.{Answer, refused, accepted, fault}
 use Rattle.sml_rules.proofs.Sound.{accepted_same, not_refused}
-use Rattle.sml_core_rules.specs.States.{Scope, State, Window, with_unknowns, with_made, with_demand, with_window, opened, afresh}
+use Rattle.sml_core_rules.specs.States.{Scope, State, Window, Judged, with_unknowns, with_made, with_demand, with_window, with_judged, opened, afresh}
 use Rattle.sml_core_rules.specs.Solutions.{MayBe, HasOneSetOfLabels, IsOfLeft, AreOfLeft, StandsFor, IsFixed, IsInt, AsksEquality, IsScheme}
-use Rattle.sml_core_rules.specs.Scripts.{Script, give, refuse, tests, either, makes_unknowns, requires, sees, sets_window, stays_open, starts_anew, requires_or, closes, determines, makes_names, makes_datatypes, ◌>>=◌, IsAnswer}
+use Rattle.sml_core_rules.specs.Scripts.{Script, give, refuse, tests, either, makes_unknowns, requires, sees, sets_window, stays_open, judges, starts_anew, requires_or, closes, determines, makes_names, makes_datatypes, ◌>>=◌, IsAnswer}
 use Rattle.sml_core_rules.proofs.Accepted.{bind-accepted, bind-joined}
-use Rattle.sml_places.specs.Answers.{place_fault}
+use Rattle.sml_places.specs.Answers.{place_fault, place_judged}
 
 -- equal faults, of answers of any type
 
@@ -42,6 +42,7 @@ module _ {P N : Type 0} (scope : Scope N) where
   bind-refused (sees k) n s e h = bind-refused (k s) n s e h
   bind-refused (sets_window w k) n s e h = bind-refused k n (with_window w s) e h
   bind-refused (stays_open k) n s e h = bind-refused k n (opened s) e h
+  bind-refused (judges j k) n s e h = bind-refused k n (with_judged j s) e h
   bind-refused (starts_anew k) n s e h = bind-refused k n (afresh s) e h
   bind-refused (requires_or d x k) n s e (inl (c, h)) = inl (c, bind-refused k n (with_demand d s) e h)
   bind-refused (requires_or d x k) n s e (inr (c, h)) = inr (c, ap refused (refused-same h))
@@ -67,6 +68,7 @@ module _ {P N : Type 0} (scope : Scope N) where
   bind-split (sees k) n s e h = bind-split (k s) n s e h
   bind-split (sets_window w k) n s e h = bind-split k n (with_window w s) e h
   bind-split (stays_open k) n s e h = bind-split k n (opened s) e h
+  bind-split (judges j k) n s e h = bind-split k n (with_judged j s) e h
   bind-split (starts_anew k) n s e h = bind-split k n (afresh s) e h
   bind-split (requires_or d x k) n s e (inl (c, h)) = elim (bind-split k n (with_demand d s) e h) [ inl a ↦ inl (inl (c, a)) | inr a ↦ inr (a.0, inl (c, a.1), a.2) ]
   bind-split (requires_or d x k) n s e (inr (c, h)) = inl (inr (c, ap refused (refused-same h)))
@@ -88,7 +90,7 @@ module _ {P Q N : Type 0} (f : P → Q) where
   place_window w = record { rows = place_rows w.rows; overloaded = w.overloaded }
 
   abbrev pub place_state : State P N → State Q N
-  place_state s = record { made = s.made; names = s.names; demands = s.demands; window = place_window s.window; is_open = s.is_open }
+  place_state s = record { made = s.made; names = s.names; demands = s.demands; window = place_window s.window; is_open = s.is_open; judged = map (place_judged f) s.judged }
 
   abbrev pub place_reply : {X Y : Type 0} → (X → Y) → Answer P (X × State P N) → Answer Q (Y × State Q N)
   place_reply g (refused e) = refused (place_fault f e)
@@ -231,6 +233,10 @@ module _ {P Q N : Type 0} {scope : Scope N} {f : P → Q} where
   pub alike-open : {X Y : Type 0} {g : X → Y} {k : Script P N X} {j : Script Q N Y} → AreAlike scope f g k j → AreAlike scope f g (stays_open k) (stays_open j)
   unfolding IsAnswer
   alike-open a = record { given = λ s o h. a.given (opened s) o h; taken = λ s o h. a.taken (opened s) o h }
+
+  pub alike-judges : {X Y : Type 0} {g : X → Y} (w : Judged P) {k : Script P N X} {j : Script Q N Y} → AreAlike scope f g k j → AreAlike scope f g (judges w k) (judges (place_judged f w) j)
+  unfolding IsAnswer
+  alike-judges w a = record { given = λ s o h. a.given (with_judged w s) o h; taken = λ s o h. a.taken (with_judged w s) o h }
 
   pub alike-anew : {X Y : Type 0} {g : X → Y} {k : Script P N X} {j : Script Q N Y} → AreAlike scope f g k j → AreAlike scope f g (starts_anew k) (starts_anew j)
   unfolding IsAnswer

@@ -6,11 +6,11 @@ use Rattle.sml_tree.specs.Structures.{TopDec}
 use Rattle.sml_objects.specs.Alike.{Renaming}
 use Rattle.sml_objects.specs.Initial.{Name, naming}
 use Rattle.sml_rules.specs.Answers.{Answer}
-use Rattle.sml_core_rules.specs.Objects.{Basis}
 use Rattle.sml_module_rules.specs.Programs.{acceptance}
 use Rattle.sml_module_rules.specs.Projects.{UnitText}
 use Rattle.sml_module_rules.specs.Runs.{AreAnswers}
 use Rattle.sml_module_rules.specs.Statements.{rename_added, rename_shown}
+use Rattle.sml_module_rules.specs.Structures.{Added}
 use Rattle.sml_places.specs.Likeness.{AreGroupsAlike}
 
 -- a declaration with its place
@@ -36,7 +36,7 @@ AreUnitsAlike (u ∷ us) (w ∷ ws) = ((u.number ≡ w.number) × (u.needs ≡ w
 
 -- what a declaration may be answered, over the names of a run
 abbrev pub Given : Type 0
-Given = Answer Place (Basis Name)
+Given = Answer Place (Added Place Name)
 
 -- each declaration that differs is accepted in both or refused in both
 
@@ -48,7 +48,8 @@ abbrev pub UnitsAgree : List (UnitText Place) → List (UnitText Place) → List
 UnitsAgree (u ∷ us) (w ∷ ws) (os ∷ oss) (qs ∷ qss) = AllAgree u.declarations w.declarations os qs × UnitsAgree us ws oss qss
 UnitsAgree us ws oss qss = Unit {0}
 
--- Each answer to the second of two is the answer to the first, renamed. Where they differ, both may be refused instead.
+-- Each answer to the second of two is the answer to the first, renamed. Where they differ, it is so but for what is to be judged, and
+-- both may be refused instead.
 module _ (f : Name → Name) where
   abbrev pub IsRenamed : Placed → Placed → Given → Given → Type 0
   IsRenamed d e o q = (d ≡ e → q ≡ rename_added f o) × (acceptance q ≡ rename_shown f (acceptance o))
@@ -65,7 +66,7 @@ module _ (f : Name → Name) where
 
 -- What stands behind `:>` can't be seen, and places don't count there. Of units that are alike, where each declaration that differs is
 -- accepted in both or refused in both, all answers are the same but for the names that the units made, and but for the faults of the
--- declarations that differ.
+-- declarations that differ and what is to be judged in them.
 abbrev pub RunsOfAlikeUnitsHide : Type 0
 RunsOfAlikeUnitsHide =
     (us ws : List (UnitText Place)) → AllByRecursion (λ u. 0 < u.number) us → AreUnitsAlike us ws → (oss qss : List (List Given)) → AreAnswers us oss → AreAnswers ws qss

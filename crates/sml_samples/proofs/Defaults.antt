@@ -1,5 +1,5 @@
 -- `val rec f = fn x => abs (x div x)`: unknown 0 is the type of f, 1 that of x, 2 that of `abs`, and 3 that of `div`.
-use Rattle.std.specs.Prelude.{◌≡◌, ◌≢◌, ◌<◌, ℕ, zero, suc, true, false, [], ◌∷◌}
+use Rattle.std.specs.Prelude.{◌≡◌, ◌≢◌, ◌<◌, ℕ, zero, suc, true, false, List, [], ◌∷◌}
 use mathlib.Core.Path.{refl, sym, ap, subst, ◌∙◌}
 use mathlib.Core.Logic.{inl}
 use Rattle.std.proofs.Common.{arith}
@@ -15,7 +15,8 @@ use Rattle.sml_layers.specs.declared.class.Class.TheVariants.{RealInt, WordInt}
 use Rattle.sml_layers.specs.declared.layer.Bound.TheVariants.{Newness}
 use Rattle.sml_layers.specs.declared.layer.Layer.TheVariants.{Finiteness, Classes, Rigidity}
 use Rattle.sml_core_rules.specs.Solutions.{Meets, IsScheme, StandsFor, IsLeft, IsOfLeft, AreOfLeft, IsFateOf, IsInt, IsOverloaded}
-use Rattle.sml_core_rules.specs.States.{State, no_window}
+use Rattle.sml_core_rules.specs.States.{State, Judged, no_window}
+use Rattle.sml_samples.proofs.Judged.{scheme-judged}
 use Rattle.sml_samples.specs.Around.{Place, scope, initial_names, type_of, twice}
 use Rattle.sml_samples.proofs.Functions.{types}
 use Rattle.sml_samples.proofs.Left.{settled}
@@ -30,6 +31,7 @@ after = record {
       ∷ asks (of_class RealInt) (free 2) ∷ asks (within Newness initial_names) (free 1) ∷ asks (within Newness initial_names) (free 0) ∷ [];
   window = no_window;
   is_open = false;
+  judged = [];
 }
 
 -- before it is settled
@@ -71,9 +73,9 @@ unfolding replace_type replace_types
 second σ m = let e : σ 2 ≡ σ 3 = m.1.0 in e ∙ third σ m
 
 -- so they aren't settled as overloaded ones
-pub one-type : (v : ℕ) → ((σ : ℕ → MlType Name) → Meets scope after Classes σ → σ v ≡ type_of int) → ¬ (IsOverloaded scope unsettled v)
+pub one-type : (js : List (Judged Place)) → (v : ℕ) → ((σ : ℕ → MlType Name) → Meets scope after Classes σ → σ v ≡ type_of int) → ¬ (IsOverloaded scope (record unsettled { judged = js }) v)
 unfolding IsOverloaded replace_type replace_types
-one-type v f o = o.5 (f o.1 (lower o.1 o.3) ∙ sym (f o.2 (lower o.2 o.4)))
+one-type js v f o = o.5 (f o.1 (lower o.1 o.3) ∙ sym (f o.2 (lower o.2 o.4)))
   where
     lower : (σ : ℕ → MlType Name) → Meets scope after Rigidity σ → Meets scope after Classes σ
     lower σ m = (
@@ -116,6 +118,9 @@ fates (suc (suc zero)) l = let d = l.2 1 (omega arith) in absurd (d.2 (sym (of-a
 fates (suc (suc (suc zero))) l = let d = l.2 1 (omega arith) in absurd (d.2 (sym (of-both d.0 d.1)))
 fates (suc (suc (suc (suc v)))) l = absurd (omega (arith, l.0))
 
-pub scheme : IsScheme scope after 0 false (free 0) (mono (arrow_of (type_of int) (type_of int)))
+own-scheme : IsScheme scope after 0 false (free 0) (mono (arrow_of (type_of int) (type_of int)))
 unfolding IsScheme StandsFor IsOfLeft AreOfLeft replace_type replace_types close_as variables_after variables_after_all index_among naming
-scheme = (arrow_of (free 1) (free 1), ((left, (left, tt)), λ σ m. sym (whole σ m)), λ _. Default, fates, refl)
+own-scheme = (arrow_of (free 1) (free 1), ((left, (left, tt)), λ σ m. sym (whole σ m)), λ _. Default, fates, refl)
+
+pub scheme : (js : List (Judged Place)) → IsScheme scope (record after { judged = js }) 0 false (free 0) (mono (arrow_of (type_of int) (type_of int)))
+scheme js = scheme-judged _ js _ _ _ _ own-scheme

@@ -1,5 +1,5 @@
 -- `val rec f = fn x : ''a => x`: unknown 0 is the explicit variable, 1 the type of f, and 2 that of x.
-use Rattle.std.specs.Prelude.{◌≡◌, ℕ, zero, suc, true, false, [], ◌∷◌}
+use Rattle.std.specs.Prelude.{◌≡◌, ℕ, zero, suc, true, false, List, [], ◌∷◌}
 use mathlib.Core.Path.{refl, sym}
 use mathlib.Core.Logic.{inl, inr}
 use Rattle.std.proofs.Common.{arith}
@@ -14,7 +14,8 @@ use Rattle.sml_layers.specs.Demands.{equal, asks, within, variable, equality, Me
 use Rattle.sml_layers.specs.declared.layer.Bound.TheVariants.{Newness}
 use Rattle.sml_layers.specs.declared.layer.Layer.TheVariants.{Finiteness, Classes, Rigidity}
 use Rattle.sml_core_rules.specs.Solutions.{Meets, IsScheme, StandsFor, IsLeft, IsOfLeft, AreOfLeft, IsFixed, IsFateOf, AsksEquality}
-use Rattle.sml_core_rules.specs.States.{State, words, no_window}
+use Rattle.sml_core_rules.specs.States.{State, Judged, words, no_window}
+use Rattle.sml_samples.proofs.Judged.{scheme-judged}
 use Rattle.sml_samples.specs.Around.{Place, scope, initial_names, type_of}
 use Rattle.sml_samples.proofs.Left.{settled}
 use Rattle.sml_samples.proofs.Loose.{loose, not-int, not-fixed, not-flexible}
@@ -33,6 +34,7 @@ after = record {
       ∷ asks (within Newness initial_names) (free 1) ∷ asks equality (free 0) ∷ asks (variable (record { number = 0; equality = true })) (free 0) ∷ [];
   window = no_window;
   is_open = false;
+  judged = [];
 }
 
 pub finitely : (t : MlType Name) → Meets scope after Finiteness (types t)
@@ -71,12 +73,15 @@ fates (suc zero) l = absurd (settled scope after (types (type_of int)) (finitely
 fates (suc (suc zero)) l = let d = l.2 0 (omega arith) in absurd (d.2 (sym d.1.1.1.0))
 fates (suc (suc (suc v))) l = absurd (omega (arith, l.0))
 
-pub general : ¬ (IsFixed scope after 0 [] 0)
-general = not-fixed after 0 types (λ t. refl) finitely
+pub general : (js : List (Judged Place)) → ¬ (IsFixed scope (record after { judged = js }) 0 [] 0)
+general js = not-fixed (record after { judged = js }) 0 types (λ t. refl) finitely
 
-pub scheme : IsScheme scope after 0 false (free 1) (record { variables = true ∷ []; body = arrow_of (bound 0) (bound 0) })
+own-scheme : IsScheme scope after 0 false (free 1) (record { variables = true ∷ []; body = arrow_of (bound 0) (bound 0) })
 unfolding IsScheme StandsFor IsOfLeft AreOfLeft replace_type replace_types close_as variables_after variables_after_all index_among
-scheme = (arrow_of (free 0) (free 0), ((left, (left, tt)), λ σ m. same σ m), λ _. Bind true, fates, refl)
+own-scheme = (arrow_of (free 0) (free 0), ((left, (left, tt)), λ σ m. same σ m), λ _. Bind true, fates, refl)
   where
     same : (σ : ℕ → MlType Name) → Meets scope after Finiteness σ → arrow_of (σ 0) (σ 0) ≡ σ 1
     same σ m = let e : σ 1 ≡ arrow_of (σ 0) (σ 2) = m.0 in let f : σ 2 ≡ σ 0 = m.1.1.0 in cc
+
+pub scheme : (js : List (Judged Place)) → IsScheme scope (record after { judged = js }) 0 false (free 1) (record { variables = true ∷ []; body = arrow_of (bound 0) (bound 0) })
+scheme js = scheme-judged _ js _ _ _ _ own-scheme

@@ -1,5 +1,5 @@
 -- `val i = (fn x => x) (fn x => x)`: unknown 0 is the type of i, and 1 and 2 those of the variables.
-use Rattle.std.specs.Prelude.{◌≡◌, ◌≢◌, ◌<◌, ℕ, zero, suc, true, false, [], ◌∷◌}
+use Rattle.std.specs.Prelude.{◌≡◌, ◌≢◌, ◌<◌, ℕ, zero, suc, true, false, List, [], ◌∷◌}
 use mathlib.Core.Path.{refl, sym, ◌∙◌}
 use mathlib.Core.Logic.{inl}
 use Rattle.std.proofs.Common.{arith}
@@ -13,7 +13,8 @@ use Rattle.sml_layers.specs.Demands.{equal, asks, within, Mentions}
 use Rattle.sml_layers.specs.declared.layer.Bound.TheVariants.{Newness}
 use Rattle.sml_layers.specs.declared.layer.Layer.TheVariants.{Finiteness, Classes, Rigidity}
 use Rattle.sml_core_rules.specs.Solutions.{Meets, IsScheme, StandsFor, IsLeft, IsOfLeft, AreOfLeft, IsFateOf, IsAlways}
-use Rattle.sml_core_rules.specs.States.{State, words, no_window, with_demand, opened}
+use Rattle.sml_core_rules.specs.States.{State, Judged, words, no_window, with_demand, opened}
+use Rattle.sml_samples.proofs.Judged.{scheme-judged}
 use Rattle.sml_samples.specs.Around.{Place, scope, initial_names, type_of}
 use Rattle.sml_samples.proofs.Left.{settled}
 use Rattle.sml_samples.proofs.Loose.{loose, not-int}
@@ -32,6 +33,7 @@ after = record {
       ∷ asks (within Newness initial_names) (free 1) ∷ [];
   window = no_window;
   is_open = false;
+  judged = [];
 }
 
 finitely : (t : MlType Name) → Meets scope after Finiteness (types t)
@@ -65,9 +67,12 @@ fates (suc zero) l = absurd (settled scope after (types (type_of int)) (finitely
 fates (suc (suc zero)) l = (not-int after 2 types (λ t. refl) finitely met-classes, inl refl)
 fates (suc (suc (suc v))) l = absurd (omega (arith, l.0))
 
-pub scheme : IsScheme scope after 0 true (free 0) (mono (arrow_of (free 2) (free 2)))
+own-scheme : IsScheme scope after 0 true (free 0) (mono (arrow_of (free 2) (free 2)))
 unfolding IsScheme StandsFor IsOfLeft AreOfLeft replace_type replace_types close_as variables_after variables_after_all index_among
-scheme = (arrow_of (free 2) (free 2), ((left, (left, tt)), λ σ m. sym (m.0 ∙ m.1.0)), λ _. Keep, fates, refl)
+own-scheme = (arrow_of (free 2) (free 2), ((left, (left, tt)), λ σ m. sym (m.0 ∙ m.1.0)), λ _. Keep, fates, refl)
+
+pub scheme : (js : List (Judged Place)) → IsScheme scope (record after { judged = js }) 0 true (free 0) (mono (arrow_of (free 2) (free 2)))
+scheme js = scheme-judged _ js _ _ _ _ own-scheme
 
 -- the type stays open, and mentions only names made so far
 
@@ -81,9 +86,9 @@ met-closed t w = (λ h. (tt, (w, (w, tt))), met t w)
 pub met-closed-int : Meets scope closed Rigidity (types (type_of int))
 met-closed-int = met-closed (type_of int) (initial-within int)
 
-pub open-ended : (u : MlType Name) → ¬ (IsAlways scope closed (arrow_of (free 2) (free 2)) u)
+pub open-ended : (js : List (Judged Place)) → (u : MlType Name) → ¬ (IsAlways scope (record closed { judged = js }) (arrow_of (free 2) (free 2)) u)
 unfolding IsAlways replace_type replace_types
-open-ended u f =
+open-ended js u f =
     let e : arrow_of (type_of int) (type_of int) ≡ u = f (types (type_of int)) met-closed-int in
     let d : arrow_of (type_of string) (type_of string) ≡ u = f (types (type_of string)) (met-closed (type_of string) (initial-within string)) in
     let c : arrow_of (type_of int) (type_of int) ≡ arrow_of (type_of string) (type_of string) = e ∙ sym d in cc
@@ -97,6 +102,7 @@ later = record {
   demands = equal (free 3) (free 2) ∷ equal (free 2) (type_of int) ∷ closed.demands;
   window = no_window;
   is_open = true;
+  judged = [];
 }
 
 pub met-later : Meets scope later Rigidity (types (type_of int))
@@ -128,10 +134,13 @@ alone (suc (suc zero)) l = settled scope later (types (type_of int)) later-finit
 alone (suc (suc (suc zero))) l = settled scope later (types (type_of int)) later-finitely 3 (name (initial int)) no_type (λ ls e. cc) third l
 alone (suc (suc (suc (suc v)))) l = absurd (omega (arith, l.0))
 
-pub later-scheme : IsScheme scope later 3 true (free 3) (mono (type_of int))
+own-later-scheme : IsScheme scope later 3 true (free 3) (mono (type_of int))
 unfolding IsScheme StandsFor IsOfLeft AreOfLeft replace_type replace_types close_as variables_after variables_after_all
-later-scheme = (type_of int, (tt, λ τ m. sym (third τ m)), λ _. Keep, λ v l. absurd (alone v l), refl)
+own-later-scheme = (type_of int, (tt, λ τ m. sym (third τ m)), λ _. Keep, λ v l. absurd (alone v l), refl)
 
-pub turned-out : IsAlways scope later (arrow_of (free 2) (free 2)) (arrow_of (type_of int) (type_of int))
+pub later-scheme : (js : List (Judged Place)) → IsScheme scope (record later { judged = js }) 3 true (free 3) (mono (type_of int))
+later-scheme js = scheme-judged _ js _ _ _ _ own-later-scheme
+
+pub turned-out : (js : List (Judged Place)) → IsAlways scope (record later { judged = js }) (arrow_of (free 2) (free 2)) (arrow_of (type_of int) (type_of int))
 unfolding IsAlways replace_type replace_types
-turned-out σ m = let e : σ 2 ≡ type_of int = m.1.0 in cc
+turned-out js σ m = let e : σ 2 ≡ type_of int = m.1.0 in cc

@@ -1,5 +1,5 @@
 -- `val rec f = fn x => x`: unknown 0 is the type of f, and 1 that of x.
-use Rattle.std.specs.Prelude.{◌≢◌, ◌<◌, ℕ, zero, suc, false, [], ◌∷◌}
+use Rattle.std.specs.Prelude.{◌≢◌, ◌<◌, ℕ, zero, suc, false, List, [], ◌∷◌}
 use mathlib.Core.Path.{refl, sym}
 use mathlib.Core.Logic.{inl}
 use Rattle.std.proofs.Common.{arith}
@@ -13,7 +13,8 @@ use Rattle.sml_layers.specs.Demands.{equal, asks, within, Mentions}
 use Rattle.sml_layers.specs.declared.layer.Bound.TheVariants.{Newness}
 use Rattle.sml_layers.specs.declared.layer.Layer.TheVariants.{Finiteness, Equality, Classes, Rigidity}
 use Rattle.sml_core_rules.specs.Solutions.{Meets, IsScheme, StandsFor, IsLeft, IsOfLeft, AreOfLeft, IsFateOf}
-use Rattle.sml_core_rules.specs.States.{State, no_window}
+use Rattle.sml_core_rules.specs.States.{State, Judged, no_window}
+use Rattle.sml_samples.proofs.Judged.{scheme-judged}
 use Rattle.sml_samples.specs.Around.{Place, scope, initial_names, type_of}
 use Rattle.sml_samples.proofs.Left.{settled}
 use Rattle.sml_samples.proofs.Loose.{loose, is-bound}
@@ -30,6 +31,7 @@ after = record {
   demands = equal (free 0) (arrow_of (free 1) (free 1)) ∷ asks (within Newness initial_names) (free 1) ∷ asks (within Newness initial_names) (free 0) ∷ [];
   window = no_window;
   is_open = false;
+  judged = [];
 }
 
 met-finitely : (t : MlType Name) → Meets scope after Finiteness (types t)
@@ -61,6 +63,9 @@ fates zero l = absurd (settled scope after (types (type_of int)) (met-finitely (
 fates (suc zero) l = is-bound after 1 types (λ t. refl) met-finitely (met-classes string) (met-equality real)
 fates (suc (suc v)) l = absurd (omega (arith, l.0))
 
-pub scheme : IsScheme scope after 0 false (free 0) (record { variables = false ∷ []; body = arrow_of (bound 0) (bound 0) })
+own-scheme : IsScheme scope after 0 false (free 0) (record { variables = false ∷ []; body = arrow_of (bound 0) (bound 0) })
 unfolding IsScheme StandsFor IsOfLeft AreOfLeft replace_type replace_types close_as variables_after variables_after_all index_among
-scheme = (arrow_of (free 1) (free 1), ((left, (left, tt)), λ σ m. sym m.0), λ _. Bind false, fates, refl)
+own-scheme = (arrow_of (free 1) (free 1), ((left, (left, tt)), λ σ m. sym m.0), λ _. Bind false, fates, refl)
+
+pub scheme : (js : List (Judged Place)) → IsScheme scope (record after { judged = js }) 0 false (free 0) (record { variables = false ∷ []; body = arrow_of (bound 0) (bound 0) })
+scheme js = scheme-judged _ js _ _ _ _ own-scheme

@@ -1,5 +1,5 @@
 -- `val rec f = fn x => let val y = x in y end`: unknown 0 is the type of f, 1 that of x, and 2 that of y.
-use Rattle.std.specs.Prelude.{◌≢◌, ◌<◌, ℕ, zero, suc, true, false, [], ◌∷◌}
+use Rattle.std.specs.Prelude.{◌≢◌, ◌<◌, ℕ, zero, suc, true, false, List, [], ◌∷◌}
 use mathlib.Core.Path.{refl, sym}
 use mathlib.Core.Logic.{inl, inr}
 use Rattle.std.proofs.Common.{arith}
@@ -13,7 +13,8 @@ use Rattle.sml_layers.specs.Demands.{equal, asks, within, Mentions}
 use Rattle.sml_layers.specs.declared.layer.Bound.TheVariants.{Newness, Locality}
 use Rattle.sml_layers.specs.declared.layer.Layer.TheVariants.{Finiteness, Equality, Classes, Rigidity}
 use Rattle.sml_core_rules.specs.Solutions.{Meets, IsScheme, StandsFor, IsLeft, IsOfLeft, AreOfLeft, IsFateOf, IsFixed}
-use Rattle.sml_core_rules.specs.States.{State, no_window}
+use Rattle.sml_core_rules.specs.States.{State, Judged, no_window}
+use Rattle.sml_samples.proofs.Judged.{scheme-judged}
 use Rattle.sml_samples.specs.Around.{Place, scope, initial_names, type_of}
 use Rattle.sml_samples.specs.Core.{identity_scheme}
 use Rattle.sml_samples.proofs.Functions.{types}
@@ -30,6 +31,7 @@ inner_state = record {
   demands = equal (free 2) (free 1) ∷ asks (within Newness initial_names) (free 1) ∷ asks (within Newness initial_names) (free 0) ∷ [];
   window = no_window;
   is_open = false;
+  judged = [];
 }
 
 abbrev all : MlType Name → ℕ → MlType Name
@@ -58,9 +60,12 @@ inner-fates (suc zero) l = (not-int inner_state 1 all (λ t. refl) all-finitely 
 inner-fates (suc (suc zero)) l = let d = l.2 1 (omega arith) in absurd (d.2 (sym d.1.0))
 inner-fates (suc (suc (suc v))) l = absurd (omega (arith, l.0))
 
-pub inner-scheme : IsScheme scope inner_state 2 false (free 2) (mono (free 1))
+own-inner-scheme : IsScheme scope inner_state 2 false (free 2) (mono (free 1))
 unfolding IsScheme StandsFor IsOfLeft replace_type close_as variables_after index_among
-inner-scheme = (free 1, (inner-left, λ σ m. sym m.0), λ _. Keep, inner-fates, refl)
+own-inner-scheme = (free 1, (inner-left, λ σ m. sym m.0), λ _. Keep, inner-fates, refl)
+
+pub inner-scheme : (js : List (Judged Place)) → IsScheme scope (record inner_state { judged = js }) 2 false (free 2) (mono (free 1))
+inner-scheme js = scheme-judged _ js _ _ _ _ own-inner-scheme
 
 -- at the end of the outer one
 
@@ -72,6 +77,7 @@ after = record {
       ∷ inner_state.demands;
   window = no_window;
   is_open = true;
+  judged = [];
 }
 
 finitely : (t : MlType Name) → Meets scope after Finiteness (types t)
@@ -104,6 +110,9 @@ fates (suc zero) l = is-bound after 1 types (λ t. refl) finitely (met-classes s
 fates (suc (suc zero)) l = let d = l.2 1 (omega arith) in absurd (d.2 (sym d.1.1.1.1.0))
 fates (suc (suc (suc v))) l = absurd (omega (arith, l.0))
 
-pub scheme : IsScheme scope after 0 false (free 0) identity_scheme
+own-scheme : IsScheme scope after 0 false (free 0) identity_scheme
 unfolding IsScheme StandsFor IsOfLeft AreOfLeft replace_type replace_types close_as variables_after variables_after_all index_among
-scheme = (arrow_of (free 1) (free 1), ((left, (left, tt)), λ σ m. sym m.0), λ _. Bind false, fates, refl)
+own-scheme = (arrow_of (free 1) (free 1), ((left, (left, tt)), λ σ m. sym m.0), λ _. Bind false, fates, refl)
+
+pub scheme : (js : List (Judged Place)) → IsScheme scope (record after { judged = js }) 0 false (free 0) identity_scheme
+scheme js = scheme-judged _ js _ _ _ _ own-scheme

@@ -4,6 +4,7 @@ pub mod Names
 pub mod Unmet
 pub mod Left
 pub mod Known
+pub mod Judged
 pub mod Loose
 pub mod Functions
 pub mod Values

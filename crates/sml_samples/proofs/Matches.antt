@@ -1,5 +1,5 @@
 -- Samples of structures against signatures.
-use Rattle.std.specs.Prelude.{◌≡◌, ◌++◌, true, false, [], ◌∷◌, codes, None}
+use Rattle.std.specs.Prelude.{◌≡◌, ◌++◌, true, false, List, [], ◌∷◌, codes, None}
 use mathlib.Core.Path.{refl, ap}
 use mathlib.Core.Logic.{inl, inr}
 use native.Mathlib.Decide.{ℕ_discrete}
@@ -25,7 +25,7 @@ use Rattle.sml_core_rules.specs.Lookups.{find_at, type_at, value_at, structure_a
 use Rattle.sml_core_rules.specs.Objects.{Basis, Value, no_structure, and_structure, structures, variable, values, of_values, names_in, names_structures, names_env, replace, replace_structures}
 use Rattle.sml_core_rules.specs.Patterns.{read_pat}
 use Rattle.sml_core_rules.specs.Solutions.{IsAlways, IsFixed}
-use Rattle.sml_core_rules.specs.States.{State, words, with_demand, with_unknowns}
+use Rattle.sml_core_rules.specs.States.{State, Judged, words, with_demand, with_unknowns}
 use Rattle.sml_core_rules.specs.Types.{read_ty, read_tys}
 use Rattle.sml_core_rules.specs.Values.{has_unknown, have_unknown}
 use Rattle.sml_core_rules.specs.Scripts.{IsAnswer, ◌>>=◌}
@@ -77,9 +77,9 @@ matched =
     with_demand (equal (arrow_of (free 2) (free 2)) (arrow_of (free 3) (free 3)))
     (with_demand (asks (D.variable (record { number = 3; equality = false })) (free 3)) (with_unknowns 1 X.closed))
 
-fixed : IsFixed scope matched 3 [] 3
+fixed : (js : List (Judged Place)) → IsFixed scope (record matched { judged = js }) 3 [] 3
 unfolding IsFixed replace_type replace_types
-fixed σ τ m k same u =
+fixed js σ τ m k same u =
     let a : arrow_of (σ 2) (σ 2) ≡ arrow_of (σ 3) (σ 3) = m.0 in
     let b : arrow_of (τ 2) (τ 2) ≡ arrow_of (τ 3) (τ 3) = k.0 in
     let c : σ 2 ≡ τ 2 = same 2 (omega arith) in cc
@@ -108,8 +108,8 @@ group-refused =
     let open_part =
     refl ⊳ refl ⊳ (X.types (type_of int), X.met-int.1.1.1) ⊳ refl ⊳ (X.types (type_of int), X.met-int.1.1)
     ⊳ (X.types (type_of int), X.met-int.1) ⊳ (X.types (type_of int), X.met-int) ⊳ tt
-    ⊳ (mono (arrow_of (free 2) (free 2)), X.scheme, (omega arith, tt) ⊳ (X.types (type_of int), X.met-closed-int) ⊳ refl) in
-    (refused _, inr (None, (accepted _, open_part, inr ((λ C h. X.open-ended (inner_type C) (λ σ m. ap inner_type (h σ m))), refl)), _, inl (_, (refused _, refl, refl), refl), refl), refl)
+    ⊳ (mono (arrow_of (free 2) (free 2)), (X.scheme _), (omega arith, tt) ⊳ (X.types (type_of int), X.met-closed-int) ⊳ refl) in
+    (refused _, inr (None, (accepted _, open_part, inr ((λ C h. X.open-ended [] (inner_type C) (λ σ m. ap inner_type (h σ m))), refl)), _, inl (_, (refused _, refl, refl), refl), refl), refl)
 
 pub match-samples : MatchSamples
 unfolding IsAnswer ◌>>=◌ A.◌>>=◌ read_dec read_binds read_patterns read_rights read_exp read_pat read_type_binds read_ty read_tys find_at type_at value_at structure_at type_size types_size replace_type replace_types close_as variables_after variables_after_all index_among naming unguarded pat_variables exp_variables is_expansive has_unknown have_unknown names_in names_structures names_type names_types read_str read_strs read_strdec read_str_binds lines structure_lines stands read_sig read_specs read_spec read_values read_realisation require_lines are_parameters with_names replace replace_structures realise_type realise_types ty_variables tys_variables IsAlways ℕ_discrete read_arguments read_all_arguments read_exceptions admits_by all_admit_by
@@ -161,14 +161,14 @@ match-samples = record {
   value_refused =
       refuses top _ (refl ⊳ (λ _. type_of int, (refl, tt)) ⊳ tt ⊳ (
         mono (type_of int),
-        int-scheme,
+        (int-scheme _),
         (omega arith, tt) ⊳ (omega arith, tt) ⊳ refl ⊳ (omega arith, tt) ⊳ refl
             ⊳ inr (λ g. let e : type_of int ≡ type_of bool = g.2 in cc, refl),
       ));
   status_refused =
       refuses top _ (refl ⊳ (λ _. type_of int, (refl, tt)) ⊳ tt ⊳ (
         mono (type_of int),
-        int-scheme,
+        (int-scheme _),
         (omega arith, tt) ⊳ (omega arith, tt) ⊳ refl ⊳ (omega arith, tt)
             ⊳ inr (λ e. cc, refl),
       ));
@@ -177,7 +177,7 @@ match-samples = record {
       ⊳ (X.types (type_of int), X.met-int.1) ⊳ (X.types (type_of int), X.met-int) ⊳ tt
       ⊳ (
         mono (arrow_of (free 2) (free 2)),
-        X.scheme,
+        (X.scheme _),
         (omega arith, tt) ⊳ (X.types (type_of int), X.met-closed-int)
             ⊳ (omega arith, tt) ⊳ refl ⊳ (omega arith, tt) ⊳ refl ⊳ (X.types (type_of int), (refl, X.met-closed-int)) ⊳ tt ⊳ refl,
       )) (λ σ m. refl) (tt, (omega arith, tt)) (omega arith) refl;
@@ -186,26 +186,26 @@ match-samples = record {
       ⊳ (X.types (type_of int), X.met-int.1) ⊳ (X.types (type_of int), X.met-int) ⊳ tt
       ⊳ (
         mono (arrow_of (free 2) (free 2)),
-        X.scheme,
+        (X.scheme _),
         (omega arith, tt) ⊳ (X.types (type_of int), X.met-closed-int)
             ⊳ (omega arith, tt) ⊳ refl ⊳ (omega arith, tt) ⊳ refl ⊳ (X.types itself, (λ h. refl, X.met-closed itself itself-within))
-            ⊳ (X.types itself, (refl, (λ h. refl, X.met-closed itself itself-within))) ⊳ inr (λ f. f.0 fixed, refl),
+            ⊳ (X.types itself, (refl, (λ h. refl, X.met-closed itself itself-within))) ⊳ inr (λ f. f.0 (fixed _), refl),
       ));
   later_accepted = accepts top _ _ (
       refl ⊳ refl ⊳ (X.types (type_of int), X.met-int.1.1.1) ⊳ refl ⊳ (X.types (type_of int), X.met-int.1.1) ⊳ (X.types (type_of int), X.met-int.1)
       ⊳ (X.types (type_of int), X.met-int) ⊳ tt ⊳ (
         mono (arrow_of (free 2) (free 2)),
-        X.scheme,
+        (X.scheme _),
         (omega arith, tt) ⊳ (X.types (type_of int), X.met-closed-int)
             ⊳ refl ⊳ (X.types (type_of int), X.met-later.1) ⊳ (X.types (type_of int), X.met-later) ⊳ tt ⊳ (
               mono (type_of int),
-              X.later-scheme,
+              (X.later-scheme _),
               (omega arith, tt) ⊳ refl,
             ),
-      )) (λ σ m i. with_values (X.turned-out σ m i)) (tt, (omega arith, (omega arith, tt))) (omega arith) refl;
+      )) (λ σ m i. with_values (X.turned-out [] σ m i)) (tt, (omega arith, (omega arith, tt))) (omega arith) refl;
   group_refused = group-refused;
   top_refused =
       stays-open top _ _ (refl ⊳ refl ⊳ (X.types (type_of int), X.met-int.1.1.1) ⊳ refl ⊳ (X.types (type_of int), X.met-int.1.1)
       ⊳ (X.types (type_of int), X.met-int.1) ⊳ (X.types (type_of int), X.met-int) ⊳ tt
-      ⊳ (mono (arrow_of (free 2) (free 2)), X.scheme, (omega arith, tt) ⊳ (X.types (type_of int), X.met-closed-int) ⊳ refl)) (λ C h. X.open-ended (first_type C) (λ σ m. ap first_type (h σ m)));
+      ⊳ (mono (arrow_of (free 2) (free 2)), (X.scheme _), (omega arith, tt) ⊳ (X.types (type_of int), X.met-closed-int) ⊳ refl)) (λ C h. X.open-ended [] (first_type C) (λ σ m. ap first_type (h σ m)));
 }

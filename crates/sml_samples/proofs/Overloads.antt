@@ -14,7 +14,8 @@ use Rattle.sml_layers.specs.declared.class.Class.TheVariants.{Num}
 use Rattle.sml_layers.specs.declared.layer.Bound.TheVariants.{Newness}
 use Rattle.sml_layers.specs.declared.layer.Layer.TheVariants.{Finiteness, Rigidity}
 use Rattle.sml_core_rules.specs.Solutions.{Meets, IsScheme, StandsFor, IsLeft, IsOfLeft, AreOfLeft, IsOverloaded}
-use Rattle.sml_core_rules.specs.States.{State, no_window}
+use Rattle.sml_core_rules.specs.States.{State, Judged, no_window}
+use Rattle.sml_samples.proofs.Judged.{scheme-judged}
 use Rattle.sml_samples.specs.Around.{Place, scope, initial_names, type_of, twice}
 use Rattle.sml_samples.proofs.Functions.{types}
 use Rattle.sml_samples.proofs.Left.{settled}
@@ -27,10 +28,10 @@ asked =
 
 -- before it is settled, and after that
 abbrev pub open_state : State Place Name
-open_state = record { made = 3; names = initial_names; demands = asked; window = record { rows = []; overloaded = 2 ∷ [] }; is_open = false }
+open_state = record { made = 3; names = initial_names; demands = asked; window = record { rows = []; overloaded = 2 ∷ [] }; is_open = false; judged = [] }
 
 abbrev pub settled_state : State Place Name
-settled_state = record { made = 3; names = initial_names; demands = equal (free 2) (type_of int) ∷ asked; window = no_window; is_open = false }
+settled_state = record { made = 3; names = initial_names; demands = equal (free 2) (type_of int) ∷ asked; window = no_window; is_open = false; judged = [] }
 
 pub met : (k : Initial) → allows (names_in Num) k ≡ true → Meets scope open_state Rigidity (types (type_of k))
 unfolding replace_type replace_types Mentions naming
@@ -40,9 +41,9 @@ pub met-settled : Meets scope settled_state Rigidity (types (type_of int))
 unfolding replace_type
 met-settled = (refl, met int refl)
 
-pub overloaded : IsOverloaded scope open_state 2
+pub overloaded : (js : List (Judged Place)) → IsOverloaded scope (record open_state { judged = js }) 2
 unfolding IsOverloaded replace_type
-overloaded = (λ σ m. let q = m.1.1.0 (omega arith) in (q.0, q.2), types (type_of int), types (type_of word), met int refl, met word refl, λ e. cc)
+overloaded js = (λ σ m. let q = m.1.1.0 (omega arith) in (q.0, q.2), types (type_of int), types (type_of word), met int refl, met word refl, λ e. cc)
 
 finitely : Meets scope settled_state Finiteness (types (type_of int))
 unfolding replace_type replace_types
@@ -65,6 +66,9 @@ alone (suc zero) l = settled scope settled_state (types (type_of int)) finitely 
 alone (suc (suc zero)) l = settled scope settled_state (types (type_of int)) finitely 2 (name (initial int)) no_type (λ ls e. cc) (λ τ m. m.0) l
 alone (suc (suc (suc v))) l = absurd (omega (arith, l.0))
 
-pub scheme : IsScheme scope settled_state 0 false (free 0) (mono (arrow_of (type_of int) (type_of int)))
+own-scheme : IsScheme scope settled_state 0 false (free 0) (mono (arrow_of (type_of int) (type_of int)))
 unfolding IsScheme StandsFor IsOfLeft AreOfLeft replace_type replace_types close_as variables_after variables_after_all
-scheme = (arrow_of (type_of int) (type_of int), ((tt, (tt, tt)), λ τ m. sym (whole τ m)), λ _. Keep, λ v l. absurd (alone v l), refl)
+own-scheme = (arrow_of (type_of int) (type_of int), ((tt, (tt, tt)), λ τ m. sym (whole τ m)), λ _. Keep, λ v l. absurd (alone v l), refl)
+
+pub scheme : (js : List (Judged Place)) → IsScheme scope (record settled_state { judged = js }) 0 false (free 0) (mono (arrow_of (type_of int) (type_of int)))
+scheme js = scheme-judged _ js _ _ _ _ own-scheme

@@ -1,5 +1,5 @@
 -- Samples of phrases.
-use Rattle.std.specs.Prelude.{◌≡◌, ◌<◌, ℕ, zero, suc, true, false, [], ◌∷◌, codes}
+use Rattle.std.specs.Prelude.{◌≡◌, ◌<◌, ℕ, zero, suc, true, false, List, [], ◌∷◌, codes}
 use mathlib.Core.Path.{refl, sym, ◌∙◌}
 use mathlib.Core.Logic.{inl, inr}
 use Rattle.std.proofs.Common.{arith}
@@ -21,10 +21,11 @@ use Rattle.sml_core_rules.specs.Lookups.{find_at, type_at, value_at}
 use Rattle.sml_core_rules.specs.Patterns.{read_pat, read_pat_fields}
 use Rattle.sml_core_rules.specs.Solutions.{Meets, IsScheme, StandsFor, IsLeft, IsOfLeft, AreOfLeft}
 use Rattle.sml_core_rules.specs.Types.{read_ty, read_tys}
-use Rattle.sml_core_rules.specs.States.{State, no_window}
+use Rattle.sml_core_rules.specs.States.{State, Judged, no_window}
 use Rattle.sml_core_rules.specs.Values.{has_unknown, have_unknown}
 use Rattle.sml_core_rules.specs.Scripts.{IsAnswer, ◌>>=◌}
 use Rattle.sml_core_rules.specs.Expressions.{read_dec, read_decs, read_binds, read_patterns, read_rights, read_exp, read_exps, read_fields, read_rules}
+use Rattle.sml_samples.proofs.Judged.{scheme-judged}
 use Rattle.sml_samples.specs.Around.{Place, scope, initial_names, type_of, twice}
 use Rattle.sml_samples.specs.Phrases.{PhraseSamples}
 use Rattle.sml_samples.proofs.Steps.{◌⊳◌}
@@ -45,6 +46,7 @@ of_pair = record {
   demands = equal (pair (free 0) (type_of bool)) (pair (twice (type_of int)) (type_of bool)) ∷ equal (free 0) (pair (free 1) (type_of int)) ∷ [];
   window = no_window;
   is_open = false;
+  judged = [];
 }
 
 abbrev types : ℕ → MlType Name
@@ -75,9 +77,12 @@ alone zero l =
 alone (suc zero) l = settled scope of_pair types finitely 1 (name (initial int)) no_type (λ ls e. cc) part l
 alone (suc (suc v)) l = absurd (omega (arith, l.0))
 
-pair-scheme : IsScheme scope of_pair 0 false (free 0) (mono (twice (type_of int)))
+own-pair-scheme : IsScheme scope of_pair 0 false (free 0) (mono (twice (type_of int)))
 unfolding IsScheme StandsFor IsOfLeft AreOfLeft replace_type replace_types close_as variables_after variables_after_all
-pair-scheme = (twice (type_of int), ((tt, (tt, tt)), λ τ m. sym (whole τ m)), λ _. Keep, λ v l. absurd (alone v l), refl)
+own-pair-scheme = (twice (type_of int), ((tt, (tt, tt)), λ τ m. sym (whole τ m)), λ _. Keep, λ v l. absurd (alone v l), refl)
+
+pair-scheme : (js : List (Judged Place)) → IsScheme scope (record of_pair { judged = js }) 0 false (free 0) (mono (twice (type_of int)))
+pair-scheme js = scheme-judged _ js _ _ _ _ own-pair-scheme
 
 -- `val D x = D 3`
 
@@ -91,15 +96,19 @@ of_box = record {
   demands = equal box box ∷ equal (type_of int) (type_of int) ∷ equal (type_of int) (free 0) ∷ [];
   window = no_window;
   is_open = false;
+  judged = [];
 }
 
-box-scheme : IsScheme scope of_box 0 false (free 0) (mono (type_of int))
+own-box-scheme : IsScheme scope of_box 0 false (free 0) (mono (type_of int))
 unfolding replace_type replace_types
-box-scheme = K.int-scheme of_box (refl, (refl, (refl, tt))) known 0 false (omega arith)
+own-box-scheme = K.int-scheme of_box (refl, (refl, (refl, tt))) known 0 false (omega arith)
   where
     known : (τ : ℕ → MlType Name) → Meets scope of_box Finiteness τ → (v : ℕ) → v < 1 → τ v ≡ type_of int
     known τ m zero h = sym m.1.1.0
     known τ m (suc v) h = absurd (omega (arith, h))
+
+box-scheme : (js : List (Judged Place)) → IsScheme scope (record of_box { judged = js }) 0 false (free 0) (mono (type_of int))
+box-scheme js = scheme-judged _ js _ _ _ _ own-box-scheme
 
 -- `val x = (raise X) handle X => 3 : int`: unknown 1 is the type of what is raised
 
@@ -113,11 +122,12 @@ handled = record {
   demands = equal (free 0) (free 1) ∷ equal (handler (type_of int)) (handler (free 1)) ∷ equal (type_of int) (type_of int) ∷ equal (type_of exn) (type_of exn) ∷ [];
   window = no_window;
   is_open = false;
+  judged = [];
 }
 
-handled-scheme : IsScheme scope handled 0 true (free 0) (mono (type_of int))
+own-handled-scheme : IsScheme scope handled 0 true (free 0) (mono (type_of int))
 unfolding replace_type replace_types
-handled-scheme = K.int-scheme handled (refl, (refl, (refl, (refl, tt)))) known 0 true (omega arith)
+own-handled-scheme = K.int-scheme handled (refl, (refl, (refl, (refl, tt)))) known 0 true (omega arith)
   where
     second : (τ : ℕ → MlType Name) → Meets scope handled Finiteness τ → τ 1 ≡ type_of int
     second τ m = let e : handler (type_of int) ≡ handler (τ 1) = m.1.0 in cc
@@ -127,21 +137,27 @@ handled-scheme = K.int-scheme handled (refl, (refl, (refl, (refl, tt)))) known 0
     known τ m (suc zero) h = second τ m
     known τ m (suc (suc v)) h = absurd (omega (arith, h))
 
+handled-scheme : (js : List (Judged Place)) → IsScheme scope (record handled { judged = js }) 0 true (free 0) (mono (type_of int))
+handled-scheme js = scheme-judged _ js _ _ _ _ own-handled-scheme
+
 -- `val {a = x} = {a = 3}`
 
 abbrev one_field : MlType Name → MlType Name
 one_field t = app (row (codes "a" ∷ [])) (and_type t no_type)
 
 abbrev of_row : State Place Name
-of_row = record { made = 1; names = initial_names; demands = equal (one_field (free 0)) (one_field (type_of int)) ∷ []; window = no_window; is_open = false }
+of_row = record { made = 1; names = initial_names; demands = equal (one_field (free 0)) (one_field (type_of int)) ∷ []; window = no_window; is_open = false; judged = [] }
 
-of-row-scheme : IsScheme scope of_row 0 false (free 0) (mono (type_of int))
+own-of-row-scheme : IsScheme scope of_row 0 false (free 0) (mono (type_of int))
 unfolding replace_type replace_types
-of-row-scheme = K.int-scheme of_row (refl, tt) known 0 false (omega arith)
+own-of-row-scheme = K.int-scheme of_row (refl, tt) known 0 false (omega arith)
   where
     known : (τ : ℕ → MlType Name) → Meets scope of_row Finiteness τ → (v : ℕ) → v < 1 → τ v ≡ type_of int
     known τ m zero h = let e : one_field (τ 0) ≡ one_field (type_of int) = m.0 in cc
     known τ m (suc v) h = absurd (omega (arith, h))
+
+of-row-scheme : (js : List (Judged Place)) → IsScheme scope (record of_row { judged = js }) 0 false (free 0) (mono (type_of int))
+of-row-scheme js = scheme-judged _ js _ _ _ _ own-of-row-scheme
 
 -- all unknowns are int
 abbrev ints : ℕ → MlType Name
@@ -156,9 +172,9 @@ phrase-samples = record {
   variable_refused = refl;
   patterns_accepted = (
     _,
-    refl ⊳ refl ⊳ (types, met.1) ⊳ refl ⊳ refl ⊳ (types, met) ⊳ tt ⊳ (mono (twice (type_of int)), pair-scheme, (omega arith, tt) ⊳ refl),
+    refl ⊳ refl ⊳ (types, met.1) ⊳ refl ⊳ refl ⊳ (types, met) ⊳ tt ⊳ (mono (twice (type_of int)), (pair-scheme _), (omega arith, tt) ⊳ refl),
   );
-  row_accepted = (_, refl ⊳ (ints, (refl, tt)) ⊳ tt ⊳ (mono (type_of int), of-row-scheme, (omega arith, tt) ⊳ refl));
+  row_accepted = (_, refl ⊳ (ints, (refl, tt)) ⊳ tt ⊳ (mono (type_of int), (of-row-scheme _), (omega arith, tt) ⊳ refl));
   repeated_refused = refl ⊳ inr (λ e. cc, refl);
   constructor_accepted = (
     _,
@@ -171,7 +187,7 @@ phrase-samples = record {
         refl,
         with-equality 0 0 _ refl,
         (omega arith, tt) ⊳ refl ⊳ refl ⊳ refl ⊳ (ints, (refl, tt))
-            ⊳ (ints, (refl, (refl, tt))) ⊳ (ints, (refl, (refl, (refl, tt)))) ⊳ tt ⊳ (mono (type_of int), box-scheme, (omega arith, tt) ⊳ refl),
+            ⊳ (ints, (refl, (refl, tt))) ⊳ (ints, (refl, (refl, (refl, tt)))) ⊳ tt ⊳ (mono (type_of int), (box-scheme _), (omega arith, tt) ⊳ refl),
       ),
     ),
   );
@@ -190,7 +206,7 @@ phrase-samples = record {
   handle_accepted = (
     _,
     (omega arith, tt) ⊳ refl ⊳ (ints, (refl, tt)) ⊳ refl ⊳ refl ⊳ omega arith ⊳ (ints, (refl, (refl, tt))) ⊳ (ints, (refl, (refl, (refl, tt))))
-        ⊳ (ints, (refl, (refl, (refl, (refl, tt))))) ⊳ tt ⊳ (mono (type_of int), handled-scheme, (omega arith, tt) ⊳ refl),
+        ⊳ (ints, (refl, (refl, (refl, (refl, tt))))) ⊳ tt ⊳ (mono (type_of int), (handled-scheme _), (omega arith, tt) ⊳ refl),
   );
   raise_refused = refl ⊳ inr (Equations, clash bool exn (λ e. cc) [], refl);
   typed_refused = refl ⊳ omega arith ⊳ inr (Equations, clash int string (λ e. cc) [], refl);

@@ -18,7 +18,8 @@ use Rattle.sml_layers.specs.declared.layer.Layer.TheVariants.{Finiteness, Rigidi
 use Rattle.sml_layers.specs.Rows.{HasFields}
 use Rattle.sml_layers.specs.Worlds.{finite}
 use Rattle.sml_core_rules.specs.Solutions.{Meets, HasOneSetOfLabels, IsScheme, StandsFor, IsLeft, IsOfLeft, AreOfLeft}
-use Rattle.sml_core_rules.specs.States.{State, words, no_window}
+use Rattle.sml_core_rules.specs.States.{State, Judged, words, no_window}
+use Rattle.sml_samples.proofs.Judged.{scheme-judged}
 use Rattle.sml_samples.specs.Around.{Place, scope, initial_names, type_of}
 use Rattle.sml_samples.proofs.Left.{settled, settled-row}
 use Rattle.sml_samples.proofs.Names.{initial-within}
@@ -71,7 +72,7 @@ types zero = type_of int
 types (suc v) = two_fields
 
 abbrev pub after : State Place Name
-after = record { made = 2; names = initial_names; demands = equal (free 1) two_fields ∷ has_fields (free 1) ((codes "a", free 0) ∷ []) ∷ []; window = no_window; is_open = false }
+after = record { made = 2; names = initial_names; demands = equal (free 1) two_fields ∷ has_fields (free 1) ((codes "a", free 0) ∷ []) ∷ []; window = no_window; is_open = false; judged = [] }
 
 pub met : Meets scope after Rigidity types
 unfolding replace_type replace_types
@@ -85,9 +86,9 @@ field : (τ : ℕ → MlType Name) → Meets scope after Finiteness τ → τ 0 
 unfolding replace_type replace_types
 field τ m = first-field (τ 1) (τ 0) m.0 m.1.0
 
-pub one-set : HasOneSetOfLabels scope after Rigidity (free 1)
+pub one-set : (js : List (Judged Place)) → HasOneSetOfLabels scope (record after { judged = js }) Rigidity (free 1)
 unfolding HasOneSetOfLabels replace_type replace_types
-one-set = (both_labels, λ σ m. (type_of int ∷ type_of int ∷ [], m.0))
+one-set js = (both_labels, λ σ m. (type_of int ∷ type_of int ∷ [], m.0))
 
 alone : (v : ℕ) → IsLeft scope after v → ⊥
 unfolding replace_type replace_types
@@ -95,9 +96,12 @@ alone zero l = settled scope after types finitely 0 (name (initial int)) no_type
 alone (suc zero) l = settled-row scope after types finitely 1 both_labels (type_of int ∷ type_of int ∷ []) (λ τ m. m.0) l
 alone (suc (suc v)) l = absurd (omega (arith, l.0))
 
-pub scheme : IsScheme scope after 0 false (free 0) (mono (type_of int))
+own-scheme : IsScheme scope after 0 false (free 0) (mono (type_of int))
 unfolding IsScheme StandsFor IsOfLeft AreOfLeft replace_type replace_types close_as variables_after variables_after_all
-scheme = (type_of int, (tt, λ σ m. sym (field σ m)), λ _. Keep, λ v l. absurd (alone v l), refl)
+own-scheme = (type_of int, (tt, λ σ m. sym (field σ m)), λ _. Keep, λ v l. absurd (alone v l), refl)
+
+pub scheme : (js : List (Judged Place)) → IsScheme scope (record after { judged = js }) 0 false (free 0) (mono (type_of int))
+scheme js = scheme-judged _ js _ _ _ _ own-scheme
 
 -- `val rec f = fn {a, ...} => a`: unknown 0 is the type of f, 1 that of a, and 2 that of the row
 
@@ -114,6 +118,7 @@ open_after = record {
       ∷ asks (within Newness initial_names) (free 0) ∷ [];
   window = no_window;
   is_open = false;
+  judged = [];
 }
 
 met-open : (r : MlType Name) → HasFields Name finite r ((codes "a", type_of int) ∷ []) → Mentions ((words scope).Allows initial_names) r
@@ -129,9 +134,9 @@ met-open-two : Meets scope open_after Rigidity (open_types two_fields)
 unfolding Mentions
 met-open-two = met-open two_fields two-have (tt, (initial-within int, (initial-within int, tt)))
 
-pub several-sets : ¬ (HasOneSetOfLabels scope open_after Rigidity (free 2))
+pub several-sets : (js : List (Judged Place)) → ¬ (HasOneSetOfLabels scope (record open_after { judged = js }) Rigidity (free 2))
 unfolding HasOneSetOfLabels replace_type replace_types
-several-sets o =
+several-sets js o =
     let a = o.1 (open_types one_field) met-open-one in
     let b = o.1 (open_types two_fields) met-open-two in
     let e : one_field ≡ app (row o.0) (types_of a.0) = a.1 in

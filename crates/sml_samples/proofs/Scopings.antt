@@ -1,6 +1,6 @@
 -- `val _ = fn x : 'a => let val _ : 'a = x in 3 end`: unknown 0 is the explicit variable, 1 the type of the function, 2 that of x,
 -- and 3 that of the inner pattern.
-use Rattle.std.specs.Prelude.{ℕ, zero, suc, false, [], ◌∷◌}
+use Rattle.std.specs.Prelude.{ℕ, zero, suc, false, List, [], ◌∷◌}
 use mathlib.Core.Path.{refl}
 use mathlib.Core.Logic.{inr}
 use Rattle.std.proofs.Common.{arith}
@@ -12,7 +12,7 @@ use Rattle.sml_layers.specs.Demands.{equal, asks, within, variable, Mentions}
 use Rattle.sml_layers.specs.declared.layer.Bound.TheVariants.{Newness, Locality}
 use Rattle.sml_layers.specs.declared.layer.Layer.TheVariants.{Finiteness, Rigidity}
 use Rattle.sml_core_rules.specs.Solutions.{Meets, IsFixed}
-use Rattle.sml_core_rules.specs.States.{State, words, no_window}
+use Rattle.sml_core_rules.specs.States.{State, Judged, words, no_window}
 use Rattle.sml_samples.specs.Around.{Place, scope, initial_names, type_of}
 use Rattle.sml_samples.proofs.Loose.{not-fixed}
 use Rattle.sml_samples.proofs.Names.{initial-within}
@@ -30,6 +30,7 @@ after = record {
       ∷ asks (within Newness initial_names) (free 2) ∷ equal (free 2) (free 0) ∷ asks (variable (record { number = 0; equality = false })) (free 0) ∷ [];
   window = no_window;
   is_open = false;
+  judged = [];
 }
 
 finitely : (t : MlType Name) → Meets scope after Finiteness (types t)
@@ -47,5 +48,5 @@ met = (refl, (λ h. initial-within int, (refl, (refl, (λ h. own, (refl, (λ h. 
     own : Mentions ((words scope).Allows initial_names) itself
     own = (inr (record { number = 0; equality = false }, refl), tt)
 
-pub general : ¬ (IsFixed scope after 0 [] 0)
-general = not-fixed after 0 types (λ t. refl) finitely
+pub general : (js : List (Judged Place)) → ¬ (IsFixed scope (record after { judged = js }) 0 [] 0)
+general js = not-fixed (record after { judged = js }) 0 types (λ t. refl) finitely

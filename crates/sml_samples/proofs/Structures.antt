@@ -4,8 +4,9 @@ use mathlib.Core.Path.{refl}
 use mathlib.Core.Logic.{inl, inr}
 use native.Mathlib.Decide.{ℕ_discrete}
 use Rattle.std.proofs.Common.{arith}
+use Rattle.sml_tree.specs.Trees.{Id}
 use Rattle.sml_objects.specs.Appearance.{stands}
-use Rattle.sml_objects.specs.Initial.{made, naming}
+use Rattle.sml_objects.specs.Initial.{Name, made, naming}
 use Rattle.sml_objects.specs.Names.{int}
 use Rattle.sml_objects.specs.Objects.{names_type, names_types, bound, mono}
 use Rattle.sml_objects.specs.Sizes.{type_size, types_size}
@@ -26,10 +27,10 @@ use Rattle.sml_module_rules.specs.Lines.{lines, structure_lines}
 use Rattle.sml_module_rules.specs.Matching.{read_realisation, require_lines}
 use Rattle.sml_module_rules.specs.Realising.{are_parameters, with_names}
 use Rattle.sml_module_rules.specs.Signatures.{read_sig, read_specs, read_spec, read_values}
-use Rattle.sml_module_rules.specs.Structures.{AreAlone, read_str, read_strs, read_strdec, read_str_binds}
+use Rattle.sml_module_rules.specs.Structures.{Added, AreAlone, read_str, read_strs, read_strdec, read_str_binds}
 use Rattle.sml_lex.specs.declared.fault.Code.TheVariants.{E3}
 use Rattle.sml_rules.specs.Answers.{refused, accepted, fault_at}
-use Rattle.sml_samples.specs.Around.{inner, type_of}
+use Rattle.sml_samples.specs.Around.{Place, inner, type_of}
 use Rattle.sml_samples.specs.Modules.{AcceptsTop, RefusesTop, named_alone, two_structures, both_structures, StructureSamples}
 use Rattle.sml_samples.proofs.Alone.{top, accepts, refuses}
 use Rattle.sml_samples.proofs.Steps.{◌⊳◌}
@@ -38,42 +39,48 @@ use Rattle.sml_samples.proofs.Values.{int-scheme}
 
 -- a group of two structures
 
+abbrev unjudged_alone : Id → Added Place Name
+unjudged_alone x = record { basis = named_alone x inner; judged = [] }
+
 group-accepted : AcceptsTop (two_structures (codes "S")) both_structures
 unfolding IsAnswer ◌>>=◌ AreAlone A.◌>>=◌ find_at structure_at read_str replace replace_structures replace_type names_in names_structures names_type names_types lines structure_lines stands naming type_size types_size
 group-accepted = (
-  accepted (Some (named_alone (codes "A") inner) ∷ Some (named_alone (codes "B") inner) ∷ []),
-  inr (
-    _,
-    (accepted _, refl, inl (_, (λ σ m. refl), refl)),
-    _,
-    inr (_, (accepted _, refl, inl (_, (λ σ m. refl), refl)), _, refl, refl),
-    refl,
+  [],
+  (
+    accepted (Some (unjudged_alone (codes "A")) ∷ Some (unjudged_alone (codes "B")) ∷ []),
+    inr (
+      _,
+      (accepted _, refl, inl (_, (λ σ m. refl), refl)),
+      _,
+      inr (_, (accepted _, refl, inl (_, (λ σ m. refl), refl)), _, refl, refl),
+      refl,
+    ),
+    inr (inr ((tt, (omega arith, tt, (omega arith, (omega arith, tt, (omega arith, tt))))), omega arith, refl)),
   ),
-  inr (inr ((tt, (omega arith, tt, (omega arith, (omega arith, tt, (omega arith, tt))))), omega arith, refl)),
 )
 
 group-refused : RefusesTop (two_structures (codes "A")) (fault_at E3 8 (codes "A" ∷ []))
 unfolding IsAnswer ◌>>=◌ AreAlone A.◌>>=◌ find_at structure_at read_str replace replace_structures replace_type
-group-refused = (refused _, inr (Some (named_alone (codes "A") inner), (accepted _, refl, inl (_, (λ σ m. refl), refl)), _, inl (_, (refused _, refl, refl), refl), refl), refl)
+group-refused = (refused _, inr (Some (unjudged_alone (codes "A")), (accepted _, refl, inl (_, (λ σ m. refl), refl)), _, inl (_, (refused _, refl, refl), refl), refl), refl)
 
 pub structure-samples : StructureSamples
 unfolding IsAnswer ◌>>=◌ A.◌>>=◌ read_dec read_binds read_patterns read_rights read_exp read_pat read_type_binds read_ty read_tys find_at type_at value_at structure_at type_size types_size replace_type replace_types close_as variables_after variables_after_all naming unguarded pat_variables exp_variables is_expansive has_unknown have_unknown names_in names_structures names_type names_types read_str read_strs read_strdec read_str_binds lines structure_lines stands read_sig read_specs read_spec read_values read_realisation require_lines are_parameters with_names replace replace_structures realise_type realise_types ty_variables tys_variables ℕ_discrete
 structure-samples = record {
   structure_accepted =
-      accepts top _ _ ((omega arith, tt) ⊳ refl ⊳ (λ _. type_of int, (refl, tt)) ⊳ tt ⊳ (mono (type_of int), int-scheme, (omega arith, tt) ⊳ refl)) (λ σ m. refl)
+      accepts top _ _ ((omega arith, tt) ⊳ refl ⊳ (λ _. type_of int, (refl, tt)) ⊳ tt ⊳ (mono (type_of int), (int-scheme _), (omega arith, tt) ⊳ refl)) (λ σ m. refl)
       (tt, (omega arith, tt, (omega arith, tt))) (omega arith) refl;
   anew_accepted =
       accepts top _ _ (refl ⊳ (λ _. type_of int, (refl, tt)) ⊳ tt ⊳ (
         mono (type_of int),
-        int-scheme,
-        (omega arith, tt) ⊳ refl ⊳ (λ _. type_of int, (refl, tt)) ⊳ tt ⊳ (mono (type_of int), int-scheme, (omega arith, tt) ⊳ refl),
+        (int-scheme _),
+        (omega arith, tt) ⊳ refl ⊳ (λ _. type_of int, (refl, tt)) ⊳ tt ⊳ (mono (type_of int), (int-scheme _), (omega arith, tt) ⊳ refl),
       )) (λ σ m. refl) (tt, (omega arith, (omega arith, tt))) (omega arith) refl;
   named_accepted = accepts top _ _ refl (λ σ m. refl) (tt, (omega arith, tt, (omega arith, tt))) (omega arith) refl;
   structure_refused = refuses top _ refl;
   transparent_accepted =
       accepts top _ _ ((omega arith, tt) ⊳ refl ⊳ (λ _. type_of int, (refl, tt)) ⊳ tt ⊳ (
         mono (type_of int),
-        int-scheme,
+        (int-scheme _),
         (omega arith, tt) ⊳ (
           made 1 0 0 false ∷ [],
           first-made 0 false,
@@ -91,7 +98,7 @@ structure-samples = record {
   opaque_accepted =
       accepts top _ _ ((omega arith, tt) ⊳ refl ⊳ (λ _. type_of int, (refl, tt)) ⊳ tt ⊳ (
         mono (type_of int),
-        int-scheme,
+        (int-scheme _),
         (omega arith, tt) ⊳ (
           made 1 0 0 false ∷ [],
           first-made 0 false,

@@ -15,6 +15,7 @@ use Rattle.sml_objects.specs.Objects.{MlType, named}
 use Rattle.sml_rules.specs.Answers.{refused, accepted, fault_at}
 use Rattle.sml_core_rules.specs.Objects.{Env, Sig, FunSig, Basis, variable, maps, no_structure, and_structure, empty, of_types, of_values}
 use Rattle.sml_module_rules.specs.Structures.{IsTopReading}
+use Rattle.sml_core_rules.specs.States.{Judged}
 use Rattle.sml_samples.specs.Around.{Place, name_at, long_at, constructor_at, scope, initial_names, around, inner, type_of, plain, value_of}
 use Rattle.sml_samples.specs.Core.{type_at, pattern_at, three, one_binding, one_type}
 
@@ -27,7 +28,7 @@ abbrev pub basis_of : List Name → Map (FunSig Name) → Map (Sig Name) → Env
 basis_of ns fs gs E = record { names = ns; functors = fs; signatures = gs; body = E }
 
 abbrev pub AcceptsIn : Basis Name → TopDec Place → Basis Name → Type 0
-AcceptsIn B d A = IsTopReading scope 1 B d (accepted A)
+AcceptsIn B d A = (js : List (Judged Place)) × IsTopReading scope 1 B d (accepted (record { basis = A; judged = js }))
 
 abbrev pub RefusesIn : Basis Name → TopDec Place → Fault Place → Type 0
 RefusesIn B d f = IsTopReading scope 1 B d (refused f)

@@ -8,6 +8,7 @@ use Rattle.sml_lex.specs.declared.fault.Code.{Code}
 use Rattle.sml_lex.specs.declared.fault.Code.TheVariants.{P1, P2, P3}
 use Rattle.sml_lex.specs.declared.fault.Warning.{Warning}
 use Rattle.sml_tree.specs.Trees.{LongId}
+use Rattle.sml_tree.specs.Patterns as T
 use Rattle.sml_tree.specs.PatternViews.{pat_of}
 use Rattle.sml_tree.specs.declared.patterns.Pat.{Pat}
 use Rattle.sml_patterns.specs.declared.names.Meaning.{Meaning}
@@ -23,11 +24,19 @@ pub record Rule : Type 0 where
   pub plain : Plain
 
 -- the rules that patterns with their places stand for
+abbrev pub MakeRules : (LongId → Meaning) → List (Place × T.Pat Place) → List Rule → Type 0
+MakeRules N [] [] = Unit {0}
+MakeRules N [] (r ∷ rs) = ⊥
+MakeRules N (p ∷ ps) [] = ⊥
+MakeRules N (p ∷ ps) (r ∷ rs) = (r.place ≡ p.0) × StandsFor N p.1 r.plain × MakeRules N ps rs
+
+-- the program's patterns as trees
+abbrev pub written : List (Place × Bor Pat) → List (Place × T.Pat Place)
+written [] = []
+written (p ∷ ps) = (p.0, pat_of p.1.now) ∷ written ps
+
 abbrev pub AreRules : (LongId → Meaning) → List (Place × Bor Pat) → List Rule → Type 0
-AreRules N [] [] = Unit {0}
-AreRules N [] (r ∷ rs) = ⊥
-AreRules N (p ∷ ps) [] = ⊥
-AreRules N (p ∷ ps) (r ∷ rs) = (r.place ≡ p.0) × StandsFor N (pat_of p.1.now) r.plain × AreRules N ps rs
+AreRules N ps rs = MakeRules N (written ps) rs
 
 -- each rule's pattern has the type
 abbrev pub AllFit : World → Column → List Rule → Type 0

@@ -2,4 +2,6 @@ pub mod Samples
 pub mod Units
 pub mod MovedBodies
 pub mod SameTexts
-pub mod SealedLines
+pub mod OneWarnings
+pub mod SealedReplies
+pub mod OneReply

@@ -1,5 +1,7 @@
 pub mod Sources
+pub mod Warnings
 pub mod Runs
 pub mod Likeness
 pub mod Seals
+pub mod One
 pub mod Samples

@@ -1,6 +1,5 @@
--- What is claimed of projects that are alike but for what stands behind seals. It is proved of the answers to their declarations
--- (`alike_units_are_answered_alike` of sml_places, which speaks of such projects by `SourcesMakeUnits`), and of the bytes of replies
--- without warnings. Of those with warnings it is a statement, on which no contract rests yet.
+-- What is claimed of projects that are alike but for what stands behind seals: of the answers to their declarations
+-- (`alike_units_are_answered_alike` of sml_places, which speaks of such projects by `SourcesMakeUnits`), and of the bytes of replies.
 use Rattle.std.specs.Prelude.{◌≡◌, true, false, List, [], ◌∷◌, map}
 use Rattle.sml_lex.specs.declared.fault.Place.{Place}
 use Rattle.sml_tree.specs.Structures.{TopDec}
@@ -31,36 +30,28 @@ AreSameBytes r q = (form : Form) → form_text r form ≡ form_text q form
 abbrev pub AreSameLines : Reply → Reply → Type 0
 AreSameLines r q = (version : Version) → form_text r (record { version = version; warnings = false }) ≡ form_text q (record { version = version; warnings = false })
 
--- There are as many replies. Those to equal declarations are the same, as the parameter says, that to the last fault is the same bytes,
--- and those to declarations that differ and are accepted in both are the same lines.
-module _ (AreSame : Reply → Reply → Type 0) where
-  abbrev pub AreEqualReplies : List (TopDec Place) → List (TopDec Place) → List Reply → List Reply → Type 0
-  AreEqualReplies (d ∷ ds) (e ∷ es) (r ∷ rs) (q ∷ qs) =
-      ((d ≡ e → AreSame r q) × (accepts r ≡ true → accepts q ≡ true → AreSameLines r q)) × AreEqualReplies ds es rs qs
-  AreEqualReplies [] [] (r ∷ rs) (q ∷ qs) = AreSameBytes r q × AreEqualReplies [] [] rs qs
-  AreEqualReplies [] [] [] [] = Unit {0}
-  AreEqualReplies ds es rs qs = ⊥
+-- There are as many replies. Those to equal declarations are the same bytes in every form, and so is that to the last fault; those to
+-- declarations that differ and are accepted in both are the same lines.
+abbrev pub AreEqualReplies : List (TopDec Place) → List (TopDec Place) → List Reply → List Reply → Type 0
+AreEqualReplies (d ∷ ds) (e ∷ es) (r ∷ rs) (q ∷ qs) =
+    ((d ≡ e → AreSameBytes r q) × (accepts r ≡ true → accepts q ≡ true → AreSameLines r q)) × AreEqualReplies ds es rs qs
+AreEqualReplies [] [] (r ∷ rs) (q ∷ qs) = AreSameBytes r q × AreEqualReplies [] [] rs qs
+AreEqualReplies [] [] [] [] = Unit {0}
+AreEqualReplies ds es rs qs = ⊥
 
-  abbrev pub AllHaveEqualReplies : List Source → List Source → List UnitReplies → List UnitReplies → Type 0
-  AllHaveEqualReplies [] [] [] [] = Unit {0}
-  AllHaveEqualReplies (u ∷ us) (w ∷ ws) (r ∷ rs) (q ∷ qs) =
-      ((r.name ≡ q.name) × AreEqualReplies u.declarations w.declarations r.replies q.replies) × AllHaveEqualReplies us ws rs qs
-  AllHaveEqualReplies us ws rs qs = ⊥
+abbrev pub AllHaveEqualReplies : List Source → List Source → List UnitReplies → List UnitReplies → Type 0
+AllHaveEqualReplies [] [] [] [] = Unit {0}
+AllHaveEqualReplies (u ∷ us) (w ∷ ws) (r ∷ rs) (q ∷ qs) =
+    ((r.name ≡ q.name) × AreEqualReplies u.declarations w.declarations r.replies q.replies) × AllHaveEqualReplies us ws rs qs
+AllHaveEqualReplies us ws rs qs = ⊥
 
 -- Take two projects that differ only in what stands behind `:>` in structures at top level and in the bodies of functors, and any
 -- replies that they may be given, such that each declaration that differs is accepted in both or refused in both. Then all other
--- declarations are replied to with the same bytes, and those that are accepted with the same lines. This waits for warnings: it isn't
--- said yet which ones an accepted declaration has, so with warnings it isn't so.
+-- declarations are replied to with the same bytes, warnings asked for or not, and those that are accepted with the same lines.
 abbrev pub SealsIsolate : Type 0
 SealsIsolate =
     (us ws : List UnitText) (rs qs : List UnitReplies) (h : MayReply us rs) (k : MayReply ws qs) → AreSourcesAlike h.sources k.sources
-    → AllAgreeAtSeals h.sources k.sources rs qs → AllHaveEqualReplies AreSameBytes h.sources k.sources rs qs
-
--- The same without warnings: all other declarations are replied to with the same lines in both versions, also those that are refused.
-abbrev pub SealsIsolateLines : Type 0
-SealsIsolateLines =
-    (us ws : List UnitText) (rs qs : List UnitReplies) (h : MayReply us rs) (k : MayReply ws qs) → AreSourcesAlike h.sources k.sources
-    → AllAgreeAtSeals h.sources k.sources rs qs → AllHaveEqualReplies AreSameLines h.sources k.sources rs qs
+    → AllAgreeAtSeals h.sources k.sources rs qs → AllHaveEqualReplies h.sources k.sources rs qs
 
 -- Units of sources that are alike are alike.
 abbrev pub SourcesMakeUnits : Type 0

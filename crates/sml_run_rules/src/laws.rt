@@ -1,7 +1,9 @@
 //! That likeness is what it should be, in samples, and what is known of projects that are alike.
 
 ghost use Rattle.sml_run_rules.specs.Samples.{LikenessSamples};
-ghost use Rattle.sml_run_rules.specs.Seals.{SourcesMakeUnits, SealsIsolateLines};
+ghost use Rattle.sml_run_rules.specs.Seals.{SourcesMakeUnits, SealsIsolate};
+ghost use Rattle.sml_run_rules.specs.Warnings.{WarningsAreOne};
+ghost use Rattle.sml_run_rules.specs.One.{RepliesAreOne};
 
 /// Groups of structures and functors are alike where their bodies differ behind equal seals, and not where they differ elsewhere.
 pub fn groups_are_alike_in_samples()
@@ -14,9 +16,19 @@ pub fn sources_make_units()
     ensures { SourcesMakeUnits }
 {}
 
+/// A declaration has one list of warnings.
+pub fn warnings_are_one()
+    ensures { WarningsAreOne }
+{}
+
 /// Of two projects that differ only in what stands behind seals, where each declaration that differs is accepted in both or refused in
-/// both, all other declarations are replied to with the same bytes in both versions, without warnings. So are those that differ and are
-/// accepted, and a last fault is replied to with the same bytes in every form.
-pub fn seals_isolate_lines()
-    ensures { SealsIsolateLines }
+/// both, all other declarations are replied to with the same bytes in both versions, with warnings and without. Those that differ and
+/// are accepted are replied to with the same bytes in both versions without warnings.
+pub fn seals_isolate_replies()
+    ensures { SealsIsolate }
+{}
+
+/// A project is replied to in one way: whichever names are taken, the bytes of its replies are the same in every form.
+pub fn replies_are_one()
+    ensures { RepliesAreOne }
 {}

@@ -1,8 +1,8 @@
--- Replies of projects that differ behind seals alone are the same lines elsewhere.
+-- Replies of projects that differ behind seals alone are the same elsewhere.
 use Rattle.std.specs.Prelude.{◌≡◌, ◌<◌, ℕ, zero, suc, true, false, List, [], ◌∷◌, ◌++◌, map, Option, Some, None, get_or}
 use Rattle.std.proofs.Common.{arith}
 use Rattle.std.specs.List.{AllByRecursion}
-use mathlib.Core.Path.{refl, sym, subst, ◌∙◌}
+use mathlib.Core.Path.{refl, sym, ap, subst, ◌∙◌}
 use Rattle.sml_lex.specs.declared.fault.Place.{Place}
 use Rattle.sml_lex.specs.Faults.{Fault, first_place}
 use Rattle.sml_tree.specs.Structures.{TopDec}
@@ -18,37 +18,38 @@ use Rattle.sml_module_rules.specs.Statements.{rename_added}
 use Rattle.sml_places.specs.Units.{Placed, AllAgree, UnitsAgree, IsRenamed, AreRenamed, UnitsAreRenamed, Given}
 use Rattle.sml_places.proofs.Differing.{alike-units}
 use Rattle.sml_projects.specs.Orders.{UnitText}
-use Rattle.sml_text_rules.specs.Texts.{Answered}
-use Rattle.sml_reply.specs.Replies.{accepts}
+use Rattle.sml_reply.specs.Replies.{warnings_of, accepts}
 use Rattle.sml_reply.specs.declared.form.Form.{Form}
 use Rattle.sml_reply.specs.declared.reply.Reply.{Reply}
 use Rattle.sml_run_rules.specs.Sources.{Source, AreSourcesOf, unit_of}
-use Rattle.sml_run_rules.specs.Runs.{unwarned, IsReplyTo, AreRepliesTo, with_last, UnitReplies, AreUnitReplies}
+use Rattle.sml_run_rules.specs.Runs.{judged_in, IsReplyTo, AreRepliesTo, with_last, UnitReplies, AreUnitReplies}
+use Rattle.sml_run_rules.specs.Warnings.{AreWarnings}
 use Rattle.sml_run_rules.specs.Likeness.{AreSourcesAlike}
-use Rattle.sml_run_rules.specs.Seals.{AgreeAtSeals, AllAgreeAtSeals, AreSameLines, AreEqualReplies, AllHaveEqualReplies, SealsIsolateLines}
+use Rattle.sml_run_rules.specs.Seals.{AgreeAtSeals, AllAgreeAtSeals, AreSameBytes, AreSameLines, AreEqualReplies, AllHaveEqualReplies, SealsIsolate}
 use Rattle.sml_run_rules.proofs.MovedBodies.{sum-moved, initial-kept}
-use Rattle.sml_run_rules.proofs.SameTexts.{some-accepted, same-text, both-accepted, after-moved}
+use Rattle.sml_run_rules.proofs.OneWarnings.{warnings-are-one}
+use Rattle.sml_run_rules.proofs.SameTexts.{plain, judged-renamed, some-accepted, text_of, unwarned-text, same-text, both-accepted, after-moved}
 use Rattle.sml_run_rules.proofs.Units.{sources-make-units}
 
 abbrev placed : TopDec Place → Placed
 placed d = (first_place, d)
 
 -- an answer before a last fault
-more : (o : Answered Name) (os : List (Answered Name)) (l : Option (Fault Place)) → with_last (o ∷ os) l ≡ o ∷ with_last os l
+more : (o : Given) (os : List Given) (l : Option (Fault Place)) → with_last (o ∷ os) l ≡ o ∷ with_last os l
 more o os None = refl
 more o os (Some x) = refl
 
-abbrev Replied : ℕ → Basis Name → List (Answered Name) → Option (Fault Place) → List Reply → Type 0
+abbrev Replied : ℕ → Basis Name → List Given → Option (Fault Place) → List Reply → Type 0
 Replied k B os l rs = AreRepliesTo k B (with_last os l) rs
 
-split : (k : ℕ) (B : Basis Name) (o : Answered Name) (os : List (Answered Name)) (l : Option (Fault Place)) (rs : List Reply) → Replied k B (o ∷ os) l rs
+split : (k : ℕ) (B : Basis Name) (o : Given) (os : List Given) (l : Option (Fault Place)) (rs : List Reply) → Replied k B (o ∷ os) l rs
     → AreRepliesTo k B (o ∷ with_last os l) rs
 split k B o os l rs h = subst (λ a. AreRepliesTo k B a rs) (more o os l) h
 
 -- what is asked of replies holds of the answers
 
-answers-agree : (ds es : List (TopDec Place)) (k j : ℕ) (B C : Basis Name) (l m : Option (Fault Place)) (os qs : List (Answered Name)) (rs ss : List Reply) → AreRepliesTo k B (with_last os l) rs
-    → AreRepliesTo j C (with_last qs m) ss → AgreeAtSeals ds es rs ss → AllAgree (map placed ds) (map placed es) (map unwarned os) (map unwarned qs)
+answers-agree : (ds es : List (TopDec Place)) (k j : ℕ) (B C : Basis Name) (l m : Option (Fault Place)) (os qs : List Given) (rs ss : List Reply) → AreRepliesTo k B (with_last os l) rs
+    → AreRepliesTo j C (with_last qs m) ss → AgreeAtSeals ds es rs ss → AllAgree (map placed ds) (map placed es) os qs
 answers-agree [] es k j B C l m os qs rs ss a b h = tt
 answers-agree (d ∷ ds) [] k j B C l m os qs rs ss a b h = tt
 answers-agree (d ∷ ds) (e ∷ es) k j B C l m [] qs rs ss a b h = tt
@@ -59,11 +60,11 @@ answers-agree (d ∷ ds) (e ∷ es) k j B C l m (o ∷ os) (q ∷ qs) (r ∷ rs)
     let x = split k B o os l (r ∷ rs) a in
     let y = split j C q qs m (s ∷ ss) b in (
       (λ differ. some-accepted o ∙ (sym x.0.accepting ∙ (h.0 (λ p. differ (λ i. (first_place, p i))) ∙ (y.0.accepting ∙ sym (some-accepted q))))),
-      answers-agree ds es (suc k) (suc j) (basis_after B (unwarned o)) (basis_after C (unwarned q)) l m os qs rs ss x.1 y.1 h.1,
+      answers-agree ds es (suc k) (suc j) (basis_after B o) (basis_after C q) l m os qs rs ss x.1 y.1 h.1,
     )
 
-units-agree : (us ws : List Source) (E F : Exports Name) (oss qss : List (List (Answered Name))) (rs ss : List UnitReplies) → AreUnitReplies E us oss rs → AreUnitReplies F ws qss ss
-    → AllAgreeAtSeals us ws rs ss → UnitsAgree (map unit_of us) (map unit_of ws) (map (map unwarned) oss) (map (map unwarned) qss)
+units-agree : (us ws : List Source) (E F : Exports Name) (oss qss : List (List Given)) (rs ss : List UnitReplies) → AreUnitReplies E us oss rs → AreUnitReplies F ws qss ss
+    → AllAgreeAtSeals us ws rs ss → UnitsAgree (map unit_of us) (map unit_of ws) oss qss
 units-agree [] ws E F oss qss rs ss a b h = tt
 units-agree (u ∷ us) [] E F oss qss rs ss a b h = tt
 units-agree (u ∷ us) (w ∷ ws) E F [] qss rs ss a b h = tt
@@ -72,7 +73,7 @@ units-agree (u ∷ us) (w ∷ ws) E F (os ∷ oss) (qs ∷ qss) [] ss a b h = ab
 units-agree (u ∷ us) (w ∷ ws) E F (os ∷ oss) (qs ∷ qss) (r ∷ rs) [] a b h = absurd b
 units-agree (u ∷ us) (w ∷ ws) E F (os ∷ oss) (qs ∷ qss) (r ∷ rs) (s ∷ ss) a b h = (
   answers-agree u.declarations w.declarations 1 1 (beginning initial_basis E u.needs) (beginning initial_basis F w.needs) u.last w.last os qs r.replies s.replies a.0.1 b.0.1 h.0,
-  units-agree us ws (and_unit E (exported (map unwarned os))) (and_unit F (exported (map unwarned qs))) oss qss rs ss a.1 b.1 h.1,
+  units-agree us ws (and_unit E (exported os)) (and_unit F (exported qs)) oss qss rs ss a.1 b.1 h.1,
 )
 
 numbered : (us : List UnitText) (ss : List Source) → AreSourcesOf us ss → AllByRecursion (λ u. 0 < u.number) (map unit_of ss)
@@ -132,19 +133,27 @@ module _ (f : Renaming naming) where
 
   -- two replies
 
-  reply-same : (k : ℕ) (B C : Basis Name) → IsMoved B C → (d e : TopDec Place) (o q : Answered Name) → IsRenamed f.to (placed d) (placed e) (unwarned o) (unwarned q)
-      → (r s : Reply) → IsReplyTo k B o r → IsReplyTo k C q s → (d ≡ e → AreSameLines r s) × (accepts r ≡ true → accepts s ≡ true → AreSameLines r s)
+  reply-same : (k : ℕ) (B C : Basis Name) → IsMoved B C → (d e : TopDec Place) (o q : Given) → IsRenamed f.to (placed d) (placed e) o q
+      → (r s : Reply) → IsReplyTo k B o r → IsReplyTo k C q s → (d ≡ e → AreSameBytes r s) × (accepts r ≡ true → accepts s ≡ true → AreSameLines r s)
   reply-same k B C h d e o q n r s a b = (
-    λ same. lines (n.0 (λ i. (first_place, same i))),
-    λ x y. lines (both-accepted f (unwarned o) (unwarned q) (some-accepted o ∙ (sym a.accepting ∙ x)) n.1 (some-accepted q ∙ (sym b.accepting ∙ y))),
+    λ same. bytes (n.0 (λ i. (first_place, same i))),
+    λ x y. lines (both-accepted f o q (some-accepted o ∙ (sym a.accepting ∙ x)) n.1 (some-accepted q ∙ (sym b.accepting ∙ y))),
   )
     where
-      lines : unwarned q ≡ rename_added f.to (unwarned o) → AreSameLines r s
+      bytes : q ≡ rename_added f.to o → AreSameBytes r s
+      bytes g form =
+          let judged : judged_in q ≡ judged_in o = ap (λ q. judged_in q) g ∙ judged-renamed f.to o in
+          let ws = warnings-are-one (judged_in o) (warnings_of r) (warnings_of s) a.warned (subst (λ js. AreWarnings js (warnings_of s)) judged b.warned) in
+          a.printed form ∙ (ap (λ ws. text_of form.version B form.warnings k o ws) ws ∙ (sym (same-text f form.version B C h form.warnings k o q g (warnings_of s)) ∙ sym (b.printed form)))
+
+      lines : plain q ≡ rename_added f.to (plain o) → AreSameLines r s
       lines g version =
-          let form : Form = record { version = version; warnings = false } in a.printed form ∙ (sym (same-text f version B C h k o q g) ∙ sym (b.printed form))
+          let form : Form = record { version = version; warnings = false } in
+          a.printed form ∙ (unwarned-text version B k o (warnings_of r) []
+          ∙ (sym (same-text f version B C h false k (plain o) (plain q) g []) ∙ (sym (unwarned-text version C k q (warnings_of s) []) ∙ sym (b.printed form))))
 
   last-same : (k : ℕ) (B C : Basis Name) (l : Option (Fault Place)) (rs ss : List Reply) → AreRepliesTo k B (with_last [] l) rs → AreRepliesTo k C (with_last [] l) ss
-      → AreEqualReplies AreSameLines [] [] rs ss
+      → AreEqualReplies [] [] rs ss
   last-same k B C None [] [] a b = tt
   last-same k B C None [] (s ∷ ss) a b = absurd b
   last-same k B C None (r ∷ rs) ss a b = absurd a
@@ -154,9 +163,9 @@ module _ (f : Renaming naming) where
   last-same k B C (Some x) (r ∷ []) (s ∷ t ∷ ss) a b = absurd b.1
   last-same k B C (Some x) (r ∷ t ∷ rs) (s ∷ ss) a b = absurd a.1
 
-  replies-same : (ds es : List (TopDec Place)) (l : Option (Fault Place)) (k : ℕ) (B C : Basis Name) → IsMoved B C → (os qs : List (Answered Name))
-      → AreRenamed f.to (map placed ds) (map placed es) (map unwarned os) (map unwarned qs) → (rs ss : List Reply) → AreRepliesTo k B (with_last os l) rs
-      → AreRepliesTo k C (with_last qs l) ss → AreEqualReplies AreSameLines ds es rs ss
+  replies-same : (ds es : List (TopDec Place)) (l : Option (Fault Place)) (k : ℕ) (B C : Basis Name) → IsMoved B C → (os qs : List Given)
+      → AreRenamed f.to (map placed ds) (map placed es) os qs → (rs ss : List Reply) → AreRepliesTo k B (with_last os l) rs
+      → AreRepliesTo k C (with_last qs l) ss → AreEqualReplies ds es rs ss
   replies-same [] [] l k B C h [] [] n rs ss a b = last-same k B C l rs ss a b
   replies-same [] [] l k B C h [] (q ∷ qs) n rs ss a b = absurd n
   replies-same [] [] l k B C h (o ∷ os) qs n rs ss a b = absurd n
@@ -170,12 +179,12 @@ module _ (f : Renaming naming) where
       let x = split k B o os l (r ∷ rs) a in
       let y = split k C q qs l (s ∷ ss) b in (
         reply-same k B C h d e o q n.0 r s x.0 y.0,
-        replies-same ds es l (suc k) (basis_after B (unwarned o)) (basis_after C (unwarned q)) (after-moved f B C h (unwarned o) (unwarned q) n.0.1) os qs n.1 rs ss x.1 y.1,
+        replies-same ds es l (suc k) (basis_after B o) (basis_after C q) (after-moved f B C h o q n.0.1) os qs n.1 rs ss x.1 y.1,
       )
 
-  units-same : (us ws : List Source) → AreSourcesAlike us ws → (E F : Exports Name) → AreMoved E.units F.units → (oss qss : List (List (Answered Name)))
-      → UnitsAreRenamed f.to (map unit_of us) (map unit_of ws) (map (map unwarned) oss) (map (map unwarned) qss) → (rs ss : List UnitReplies) → AreUnitReplies E us oss rs
-      → AreUnitReplies F ws qss ss → AllHaveEqualReplies AreSameLines us ws rs ss
+  units-same : (us ws : List Source) → AreSourcesAlike us ws → (E F : Exports Name) → AreMoved E.units F.units → (oss qss : List (List Given))
+      → UnitsAreRenamed f.to (map unit_of us) (map unit_of ws) oss qss → (rs ss : List UnitReplies) → AreUnitReplies E us oss rs
+      → AreUnitReplies F ws qss ss → AllHaveEqualReplies us ws rs ss
   units-same [] [] alike E F h [] [] n [] [] a b = tt
   units-same [] [] alike E F h [] [] n [] (s ∷ ss) a b = absurd b
   units-same [] [] alike E F h [] [] n (r ∷ rs) ss a b = absurd a
@@ -193,15 +202,15 @@ module _ (f : Renaming naming) where
       let e : IsMoved B C = needs-moved u.needs E.units F.units h initial_basis initial_basis (sym (initial-kept f)) in
       let y : AreRepliesTo 1 C (with_last qs u.last) s.replies =
       subst (λ l. AreRepliesTo 1 C (with_last qs l) s.replies) (sym alike.0.3) (subst (λ ks. AreRepliesTo 1 (beginning initial_basis F ks) (with_last qs w.last) s.replies) (sym alike.0.2) b.0.1) in
-      let more = exported-moved (map placed u.declarations) (map placed w.declarations) (map unwarned os) (map unwarned qs) n.0 nothing nothing nothing-moved in (
+      let more = exported-moved (map placed u.declarations) (map placed w.declarations) os qs n.0 nothing nothing nothing-moved in (
         (a.0.0 ∙ (alike.0.0 ∙ sym b.0.0), replies-same u.declarations w.declarations u.last 1 B C e os qs n.0 r.replies s.replies a.0.1 y),
-        units-same us ws alike.1 (and_unit E (exported (map unwarned os))) (and_unit F (exported (map unwarned qs)))
-            (and-moved E.units F.units h (exported (map unwarned os)) (exported (map unwarned qs)) more) oss qss n.1 rs ss a.1 b.1,
+        units-same us ws alike.1 (and_unit E (exported os)) (and_unit F (exported qs))
+            (and-moved E.units F.units h (exported os) (exported qs) more) oss qss n.1 rs ss a.1 b.1,
       )
 
-pub seals-isolate-lines : SealsIsolateLines
-seals-isolate-lines us ws rs ss h k alike agree =
+pub seals-isolate : SealsIsolate
+seals-isolate us ws rs ss h k alike agree =
     let n =
-    alike-units (map unit_of h.sources) (map unit_of k.sources) (numbered us h.sources h.sources_are) (sources-make-units h.sources k.sources alike) (map (map unwarned) h.answers) (map (map unwarned) k.answers) h.run k.run
+    alike-units (map unit_of h.sources) (map unit_of k.sources) (numbered us h.sources h.sources_are) (sources-make-units h.sources k.sources alike) h.answers k.answers h.run k.run
     (units-agree h.sources k.sources at_first at_first h.answers k.answers rs ss h.replies k.replies agree) in
     units-same n.0 h.sources k.sources alike at_first at_first tt h.answers k.answers n.1 rs ss h.replies k.replies

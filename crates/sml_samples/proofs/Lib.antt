@@ -23,3 +23,4 @@ pub mod Typings
 pub mod Specifications
 pub mod Matches
 pub mod Phrases
+pub mod Judgings

@@ -108,7 +108,7 @@ group-refused =
     let open_part =
     refl ⊳ refl ⊳ (X.types (type_of int), X.met-int.1.1.1) ⊳ refl ⊳ (X.types (type_of int), X.met-int.1.1)
     ⊳ (X.types (type_of int), X.met-int.1) ⊳ (X.types (type_of int), X.met-int) ⊳ tt
-    ⊳ (mono (arrow_of (free 2) (free 2)), (X.scheme _), (omega arith, tt) ⊳ (X.types (type_of int), X.met-closed-int) ⊳ refl) in
+    ⊳ (mono (arrow_of (free 2) (free 2)), X.scheme _, (omega arith, tt) ⊳ (X.types (type_of int), X.met-closed-int) ⊳ refl) in
     (refused _, inr (None, (accepted _, open_part, inr ((λ C h. X.open-ended [] (inner_type C) (λ σ m. ap inner_type (h σ m))), refl)), _, inl (_, (refused _, refl, refl), refl), refl), refl)
 
 pub match-samples : MatchSamples
@@ -161,14 +161,14 @@ match-samples = record {
   value_refused =
       refuses top _ (refl ⊳ (λ _. type_of int, (refl, tt)) ⊳ tt ⊳ (
         mono (type_of int),
-        (int-scheme _),
+        int-scheme _,
         (omega arith, tt) ⊳ (omega arith, tt) ⊳ refl ⊳ (omega arith, tt) ⊳ refl
             ⊳ inr (λ g. let e : type_of int ≡ type_of bool = g.2 in cc, refl),
       ));
   status_refused =
       refuses top _ (refl ⊳ (λ _. type_of int, (refl, tt)) ⊳ tt ⊳ (
         mono (type_of int),
-        (int-scheme _),
+        int-scheme _,
         (omega arith, tt) ⊳ (omega arith, tt) ⊳ refl ⊳ (omega arith, tt)
             ⊳ inr (λ e. cc, refl),
       ));
@@ -177,7 +177,7 @@ match-samples = record {
       ⊳ (X.types (type_of int), X.met-int.1) ⊳ (X.types (type_of int), X.met-int) ⊳ tt
       ⊳ (
         mono (arrow_of (free 2) (free 2)),
-        (X.scheme _),
+        X.scheme _,
         (omega arith, tt) ⊳ (X.types (type_of int), X.met-closed-int)
             ⊳ (omega arith, tt) ⊳ refl ⊳ (omega arith, tt) ⊳ refl ⊳ (X.types (type_of int), (refl, X.met-closed-int)) ⊳ tt ⊳ refl,
       )) (λ σ m. refl) (tt, (omega arith, tt)) (omega arith) refl;
@@ -186,7 +186,7 @@ match-samples = record {
       ⊳ (X.types (type_of int), X.met-int.1) ⊳ (X.types (type_of int), X.met-int) ⊳ tt
       ⊳ (
         mono (arrow_of (free 2) (free 2)),
-        (X.scheme _),
+        X.scheme _,
         (omega arith, tt) ⊳ (X.types (type_of int), X.met-closed-int)
             ⊳ (omega arith, tt) ⊳ refl ⊳ (omega arith, tt) ⊳ refl ⊳ (X.types itself, (λ h. refl, X.met-closed itself itself-within))
             ⊳ (X.types itself, (refl, (λ h. refl, X.met-closed itself itself-within))) ⊳ inr (λ f. f.0 (fixed _), refl),
@@ -195,11 +195,11 @@ match-samples = record {
       refl ⊳ refl ⊳ (X.types (type_of int), X.met-int.1.1.1) ⊳ refl ⊳ (X.types (type_of int), X.met-int.1.1) ⊳ (X.types (type_of int), X.met-int.1)
       ⊳ (X.types (type_of int), X.met-int) ⊳ tt ⊳ (
         mono (arrow_of (free 2) (free 2)),
-        (X.scheme _),
+        X.scheme _,
         (omega arith, tt) ⊳ (X.types (type_of int), X.met-closed-int)
             ⊳ refl ⊳ (X.types (type_of int), X.met-later.1) ⊳ (X.types (type_of int), X.met-later) ⊳ tt ⊳ (
               mono (type_of int),
-              (X.later-scheme _),
+              X.later-scheme _,
               (omega arith, tt) ⊳ refl,
             ),
       )) (λ σ m i. with_values (X.turned-out [] σ m i)) (tt, (omega arith, (omega arith, tt))) (omega arith) refl;
@@ -207,5 +207,5 @@ match-samples = record {
   top_refused =
       stays-open top _ _ (refl ⊳ refl ⊳ (X.types (type_of int), X.met-int.1.1.1) ⊳ refl ⊳ (X.types (type_of int), X.met-int.1.1)
       ⊳ (X.types (type_of int), X.met-int.1) ⊳ (X.types (type_of int), X.met-int) ⊳ tt
-      ⊳ (mono (arrow_of (free 2) (free 2)), (X.scheme _), (omega arith, tt) ⊳ (X.types (type_of int), X.met-closed-int) ⊳ refl)) (λ C h. X.open-ended [] (first_type C) (λ σ m. ap first_type (h σ m)));
+      ⊳ (mono (arrow_of (free 2) (free 2)), X.scheme _, (omega arith, tt) ⊳ (X.types (type_of int), X.met-closed-int) ⊳ refl)) (λ C h. X.open-ended [] (first_type C) (λ σ m. ap first_type (h σ m)));
 }

@@ -137,7 +137,7 @@ own-handled-scheme = K.int-scheme handled (refl, (refl, (refl, (refl, tt)))) kno
     known τ m (suc zero) h = second τ m
     known τ m (suc (suc v)) h = absurd (omega (arith, h))
 
-handled-scheme : (js : List (Judged Place)) → IsScheme scope (record handled { judged = js }) 0 true (free 0) (mono (type_of int))
+pub handled-scheme : (js : List (Judged Place)) → IsScheme scope (record handled { judged = js }) 0 true (free 0) (mono (type_of int))
 handled-scheme js = scheme-judged _ js _ _ _ _ own-handled-scheme
 
 -- `val {a = x} = {a = 3}`
@@ -160,7 +160,7 @@ of-row-scheme : (js : List (Judged Place)) → IsScheme scope (record of_row { j
 of-row-scheme js = scheme-judged _ js _ _ _ _ own-of-row-scheme
 
 -- all unknowns are int
-abbrev ints : ℕ → MlType Name
+abbrev pub ints : ℕ → MlType Name
 ints v = type_of int
 
 pub phrase-samples : PhraseSamples
@@ -172,9 +172,9 @@ phrase-samples = record {
   variable_refused = refl;
   patterns_accepted = (
     _,
-    refl ⊳ refl ⊳ (types, met.1) ⊳ refl ⊳ refl ⊳ (types, met) ⊳ tt ⊳ (mono (twice (type_of int)), (pair-scheme _), (omega arith, tt) ⊳ refl),
+    refl ⊳ refl ⊳ (types, met.1) ⊳ refl ⊳ refl ⊳ (types, met) ⊳ tt ⊳ (mono (twice (type_of int)), pair-scheme _, (omega arith, tt) ⊳ refl),
   );
-  row_accepted = (_, refl ⊳ (ints, (refl, tt)) ⊳ tt ⊳ (mono (type_of int), (of-row-scheme _), (omega arith, tt) ⊳ refl));
+  row_accepted = (_, refl ⊳ (ints, (refl, tt)) ⊳ tt ⊳ (mono (type_of int), of-row-scheme _, (omega arith, tt) ⊳ refl));
   repeated_refused = refl ⊳ inr (λ e. cc, refl);
   constructor_accepted = (
     _,
@@ -187,7 +187,7 @@ phrase-samples = record {
         refl,
         with-equality 0 0 _ refl,
         (omega arith, tt) ⊳ refl ⊳ refl ⊳ refl ⊳ (ints, (refl, tt))
-            ⊳ (ints, (refl, (refl, tt))) ⊳ (ints, (refl, (refl, (refl, tt)))) ⊳ tt ⊳ (mono (type_of int), (box-scheme _), (omega arith, tt) ⊳ refl),
+            ⊳ (ints, (refl, (refl, tt))) ⊳ (ints, (refl, (refl, (refl, tt)))) ⊳ tt ⊳ (mono (type_of int), box-scheme _, (omega arith, tt) ⊳ refl),
       ),
     ),
   );
@@ -206,7 +206,7 @@ phrase-samples = record {
   handle_accepted = (
     _,
     (omega arith, tt) ⊳ refl ⊳ (ints, (refl, tt)) ⊳ refl ⊳ refl ⊳ omega arith ⊳ (ints, (refl, (refl, tt))) ⊳ (ints, (refl, (refl, (refl, tt))))
-        ⊳ (ints, (refl, (refl, (refl, (refl, tt))))) ⊳ tt ⊳ (mono (type_of int), (handled-scheme _), (omega arith, tt) ⊳ refl),
+        ⊳ (ints, (refl, (refl, (refl, (refl, tt))))) ⊳ tt ⊳ (mono (type_of int), handled-scheme _, (omega arith, tt) ⊳ refl),
   );
   raise_refused = refl ⊳ inr (Equations, clash bool exn (λ e. cc) [], refl);
   typed_refused = refl ⊳ omega arith ⊳ inr (Equations, clash int string (λ e. cc) [], refl);

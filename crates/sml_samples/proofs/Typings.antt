@@ -43,23 +43,23 @@ typing-samples = record {
   overloaded_accepted = (
     _,
     refl ⊳ (F.types (type_of int), (O.met int refl).1.1.1.1) ⊳ refl ⊳ refl ⊳ (F.types (type_of int), (O.met int refl).1.1.1) ⊳ (F.types (type_of int), (O.met int refl).1.1)
-        ⊳ (F.types (type_of int), (O.met int refl).1) ⊳ (F.types (type_of int), O.met int refl) ⊳ (O.overloaded _) ⊳ (F.types (type_of int), O.met-settled) ⊳ tt
-        ⊳ (mono (arrow_of (type_of int) (type_of int)), (O.scheme _), (omega arith, tt) ⊳ refl),
+        ⊳ (F.types (type_of int), (O.met int refl).1) ⊳ (F.types (type_of int), O.met int refl) ⊳ O.overloaded _ ⊳ (F.types (type_of int), O.met-settled) ⊳ tt
+        ⊳ (mono (arrow_of (type_of int) (type_of int)), O.scheme _, (omega arith, tt) ⊳ refl),
   );
   default_accepted = (
     _,
     refl ⊳ (F.types (type_of int), D.met.1.1.1.1.1.1) ⊳ refl ⊳ refl ⊳ (F.types (type_of int), D.met.1.1.1.1.1) ⊳ (F.types (type_of int), D.met.1.1.1.1)
         ⊳ (F.types (type_of int), D.met.1.1.1) ⊳ (F.types (type_of int), D.met.1.1) ⊳ (F.types (type_of int), D.met.1) ⊳ (F.types (type_of int), D.met)
-        ⊳ inr (D.one-type _ 2 D.second, inr (D.one-type _ 3 D.third, tt ⊳ (mono (arrow_of (type_of int) (type_of int)), (D.scheme _), (omega arith, tt) ⊳ refl))),
+        ⊳ inr (D.one-type _ 2 D.second, inr (D.one-type _ 3 D.third, tt ⊳ (mono (arrow_of (type_of int) (type_of int)), D.scheme _, (omega arith, tt) ⊳ refl))),
   );
   fixed_accepted = (
     _,
     refl ⊳ (F.types (type_of int), (I.met int).1.1.1.1.1) ⊳ refl ⊳ refl ⊳ (F.types (type_of int), (I.met int).1.1.1.1) ⊳ refl ⊳ (F.types (type_of int), (I.met int).1.1.1)
         ⊳ tt ⊳ (
           mono (free 1),
-          (I.inner-scheme _),
+          I.inner-scheme _,
           (omega arith, tt) ⊳ (F.types (type_of int), (I.met int).1.1) ⊳ (F.types (type_of int), (I.met int).1)
-              ⊳ (F.types (type_of int), I.met int) ⊳ tt ⊳ (identity_scheme, (I.scheme _), (omega arith, tt) ⊳ refl),
+              ⊳ (F.types (type_of int), I.met int) ⊳ tt ⊳ (identity_scheme, I.scheme _, (omega arith, tt) ⊳ refl),
         ),
   );
   class_refused = refl ⊳ (λ _. type_of int, (λ h. (int, refl, refl), tt)) ⊳ inr (Classes, of-no-class, refl);
@@ -67,14 +67,14 @@ typing-samples = record {
   equality_accepted = (
     _,
     (E.types E.itself, E.met.1.1.1.1.1) ⊳ (E.types E.itself, E.met.1.1.1.1) ⊳ refl ⊳ (E.types E.itself, E.met.1.1.1) ⊳ refl ⊳ refl ⊳ omega arith
-        ⊳ (E.types E.itself, E.met.1.1) ⊳ (E.types E.itself, E.met.1) ⊳ (E.types E.itself, E.met) ⊳ ((E.general _), tt)
-        ⊳ (record { variables = true ∷ []; body = arrow_of (bound 0) (bound 0) }, (E.scheme _), (omega arith, tt) ⊳ refl),
+        ⊳ (E.types E.itself, E.met.1.1) ⊳ (E.types E.itself, E.met.1) ⊳ (E.types E.itself, E.met) ⊳ (E.general _, tt)
+        ⊳ (record { variables = true ∷ []; body = arrow_of (bound 0) (bound 0) }, E.scheme _, (omega arith, tt) ⊳ refl),
   );
   rigid_refused = (λ _. named (made 0 0 0 false), (λ h. refl, tt)) ⊳ refl ⊳ omega arith ⊳ (λ _. named (made 0 0 0 false), (refl, (λ h. refl, tt))) ⊳ inr (Rigidity, rigid 0, refl);
   scoped_accepted = (
     _,
     (S.types S.itself, S.met.1.1.1.1.1.1) ⊳ refl ⊳ omega arith ⊳ (S.types S.itself, S.met.1.1.1.1.1) ⊳ (S.types S.itself, S.met.1.1.1.1) ⊳ omega arith
-        ⊳ (S.types S.itself, S.met.1.1.1) ⊳ (S.types S.itself, S.met.1.1) ⊳ tt ⊳ tt ⊳ (S.types S.itself, S.met.1) ⊳ (S.types S.itself, S.met) ⊳ ((S.general _), tt) ⊳ tt ⊳ refl,
+        ⊳ (S.types S.itself, S.met.1.1.1) ⊳ (S.types S.itself, S.met.1.1) ⊳ tt ⊳ tt ⊳ (S.types S.itself, S.met.1) ⊳ (S.types S.itself, S.met) ⊳ (S.general _, tt) ⊳ tt ⊳ refl,
   );
   scoped_refused =
       (λ _. named (made 0 1 0 false), (λ h. refl, tt)) ⊳ omega arith ⊳ (λ _. named (made 0 1 0 false), (refl, (λ h. refl, tt))) ⊳ inr (Rigidity, rigid 1, refl);
@@ -82,7 +82,7 @@ typing-samples = record {
   expansive_accepted = (
     _,
     refl ⊳ refl ⊳ (X.types (type_of int), X.met-int.1.1.1) ⊳ refl ⊳ (X.types (type_of int), X.met-int.1.1) ⊳ (X.types (type_of int), X.met-int.1)
-        ⊳ (X.types (type_of int), X.met-int) ⊳ tt ⊳ (mono (arrow_of (free 2) (free 2)), (X.scheme _), (omega arith, tt) ⊳ (X.types (type_of int), X.met-closed-int) ⊳ refl),
+        ⊳ (X.types (type_of int), X.met-int) ⊳ tt ⊳ (mono (arrow_of (free 2) (free 2)), X.scheme _, (omega arith, tt) ⊳ (X.types (type_of int), X.met-closed-int) ⊳ refl),
   );
   local_type_refused =
       refl ⊳ (made 1 0 0 true ∷ [], first-datatype _ _ true, (refl, tt), inr (_, refl, with-equality 0 0 _ refl, (omega arith, tt) ⊳ inr (Locality, escaping, refl)));
@@ -91,7 +91,7 @@ typing-samples = record {
       ⊳ (made 1 0 0 true ∷ [], first-datatype _ _ true, (refl, tt), inr (_, refl, with-equality 0 0 _ refl, (omega arith, tt) ⊳ omega arith ⊳ inr (Newness, too-new, refl)));
   row_accepted = (
     _,
-    refl ⊳ (R.types, R.met.1) ⊳ (R.types, R.met) ⊳ R.one-set [] ⊳ tt ⊳ (mono (type_of int), (R.scheme _), (omega arith, tt) ⊳ refl),
+    refl ⊳ (R.types, R.met.1) ⊳ (R.types, R.met) ⊳ R.one-set [] ⊳ tt ⊳ (mono (type_of int), R.scheme _, (omega arith, tt) ⊳ refl),
   );
   row_refused =
       refl ⊳ (R.open_types R.one_field, R.met-open-one.1.1.1) ⊳ refl ⊳ refl ⊳ (R.open_types R.one_field, R.met-open-one.1.1) ⊳ (R.open_types R.one_field, R.met-open-one.1)

@@ -31,6 +31,16 @@ three_pattern p = pat_constant p (record { kind = Integer; literal = codes "3" }
 abbrev pub constant_is : ConstantKind → Id → Dec Place
 constant_is kind c = val_is (wildcard 2) (typed 4 (constant 4 (record { kind = kind; literal = [] })) (constructor_at 6 c))
 
+-- `local exception X in val x = (raise X) handle X => 3 : int end`
+abbrev pub exception_handled : Dec Place
+exception_handled =
+    local_dec 1 (and_dec (exception_dec 2 (new_exception (plain_constructor 3 (codes "X")) ∷ [])) no_dec)
+    (and_dec
+    (val_dec 5 []
+    (one_binding (pattern_at 6 (codes "x"))
+    (handle 8 (bracket 8 (raise 9 (variable_at 10 (codes "X")))) (and_rule (rule 13 (pattern_at 13 (codes "X")) (typed 15 (three 15) (constructor_at 17 (codes "int")))) no_rule))) no_bind)
+    no_dec)
+
 pub record PhraseSamples : Type 0 where
   -- `type 'a t = {a : 'a, b : int * (int -> 'a)}`
   pub types_accepted : Accepts
@@ -96,14 +106,7 @@ pub record PhraseSamples : Type 0 where
   pub real_accepted : Accepts (constant_is Real (codes "real")) (of_values [])
   pub character_refused : Refuses (constant_is Character (codes "string")) (fault U1 4)
   pub word_refused : Refuses (constant_is Word (codes "int")) (fault U1 4)
-  -- `local exception X in val x = (raise X) handle X => 3 : int end`, and `val x = raise true`, `val x = 3 : string`
-  pub handle_accepted : Accepts
-      (local_dec 1 (and_dec (exception_dec 2 (new_exception (plain_constructor 3 (codes "X")) ∷ [])) no_dec)
-      (and_dec
-      (val_dec 5 []
-      (one_binding (pattern_at 6 (codes "x"))
-      (handle 8 (bracket 8 (raise 9 (variable_at 10 (codes "X")))) (and_rule (rule 13 (pattern_at 13 (codes "X")) (typed 15 (three 15) (constructor_at 17 (codes "int")))) no_rule))) no_bind)
-      no_dec))
-      (one_value (codes "x") variable (type_of int))
+  -- that, and `val x = raise true`, `val x = 3 : string`
+  pub handle_accepted : Accepts exception_handled (one_value (codes "x") variable (type_of int))
   pub raise_refused : Refuses (val_is (pattern_at 2 (codes "x")) (raise 4 (variable_at 5 (codes "true")))) (fault U1 4)
   pub typed_refused : Refuses (val_is (pattern_at 2 (codes "x")) (typed 4 (three 4) (constructor_at 6 (codes "string")))) (fault U1 4)

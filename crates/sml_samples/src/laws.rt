@@ -1,6 +1,7 @@
 //! That the readings are not empty: samples of each form of declaration, over the names of a run.
 
 ghost use Rattle.sml_samples.specs.Core.{CoreSamples};
+ghost use Rattle.sml_samples.specs.Judged.{JudgedSamples};
 ghost use Rattle.sml_samples.specs.Matches.{MatchSamples};
 ghost use Rattle.sml_samples.specs.Modules.{ModuleSamples};
 ghost use Rattle.sml_samples.specs.Phrases.{PhraseSamples};
@@ -35,4 +36,9 @@ pub fn matches_have_answers()
 /// Each form of type expression, of pattern and of expression is accepted in a sample, and refused in another where it can be.
 pub fn phrases_have_answers()
     ensures { PhraseSamples }
+{}
+
+/// Matches and value bindings are to be judged for warnings, in samples, and patterns after `rec` aren't.
+pub fn patterns_are_to_be_judged()
+    ensures { JudgedSamples }
 {}

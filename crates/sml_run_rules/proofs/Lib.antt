@@ -1,4 +1,5 @@
 pub mod Samples
+pub mod JudgedSamples
 pub mod Units
 pub mod MovedBodies
 pub mod SameTexts

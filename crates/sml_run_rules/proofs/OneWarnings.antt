@@ -24,7 +24,7 @@ not-below Greater e f = let g : Greater ≡ Less = e in absurd cc
 
 -- none is before another one that is before it
 never : (x y : Warning) → warning_cmp x y ≡ Less → warning_cmp y x ≡ Less → ⊥
-never x y h k = not-below (warning_cmp x y) h (total.antisym x y ∙ k)
+never x y h k = not-below (warning_cmp y x) k (sym (total.antisymm x y) ∙ h)
 
 later : (x y : Warning) (ys : List Warning) → AllByRecursion (λ z. warning_cmp y z ≡ Less) ys → Stands x ys → warning_cmp y x ≡ Less
 unfolding Stands

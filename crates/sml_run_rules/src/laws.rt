@@ -1,6 +1,6 @@
-//! That likeness is what it should be, in samples, and what is known of projects that are alike.
+//! That likeness and warnings are what they should be, in samples, and what is known of projects that are alike.
 
-ghost use Rattle.sml_run_rules.specs.Samples.{LikenessSamples};
+ghost use Rattle.sml_run_rules.specs.Samples.{LikenessSamples, WarningSamples};
 ghost use Rattle.sml_run_rules.specs.Seals.{SourcesMakeUnits, SealsIsolate};
 ghost use Rattle.sml_run_rules.specs.Warnings.{WarningsAreOne};
 ghost use Rattle.sml_run_rules.specs.One.{RepliesAreOne};
@@ -14,6 +14,11 @@ pub fn groups_are_alike_in_samples()
 /// is known of the answers to them.
 pub fn sources_make_units()
     ensures { SourcesMakeUnits }
+{}
+
+/// Matches and bindings have the warnings that they should in samples: none, one that isn't exhaustive, one with a redundant rule.
+pub fn warnings_are_told_in_samples()
+    ensures { WarningSamples }
 {}
 
 /// A declaration has one list of warnings.

@@ -1,0 +1,9 @@
+pub mod Lifted
+pub mod Placed
+pub mod Refusing
+pub mod CodesOfTypes
+pub mod CodesOfPatterns
+pub mod CodesOfCore
+pub mod CodesOfSignatures
+pub mod CodesOfModules
+pub mod Codes

@@ -122,30 +122,43 @@ second-alone x i = go i.rules i.made i.fit i.is_warning
       | inr o ↦ a.4 ∙ ap (λ p. warning p P1) (ap (λ r. r.place) (sym o.1) ∙ m.2.0)
     ]
 
+-- a match, and a binding, that aren't exhaustive
+
+open-fn : (x : Warning) → IsWarningOf (constructors (of_fn (at 1)) (one_rule 4 (codes "true") ∷ [])) x ↔ x ≡ warning (at 1) P2
+open-fn x = (
+  λ i. (open-alone (of_fn (at 1)) 4 x i).1.0,
+  λ e. record { rules = ruled 4 second ∷ []; made = (refl, refl, tt); world = booleans; depth = 1; type = 0; fit = (fits, tt); is_warning = inr (e, escaping) },
+)
+
+open-val : (x : Warning) → IsWarningOf (constructors (of_val (at 5)) (one_rule 5 (codes "true") ∷ [])) x ↔ x ≡ warning (at 5) P3
+open-val x = (
+  λ i. (open-alone (of_val (at 5)) 5 x i).1.0,
+  λ e. record { rules = ruled 5 second ∷ []; made = (refl, refl, tt); world = booleans; depth = 1; type = 0; fit = (fits, tt); is_warning = inr (e, escaping) },
+)
+
 pub warning-samples : WarningSamples
 unfolding Stands IsStrictlySortedBy
 warning-samples = record {
   whole = record { sorted = tt; all = λ x. (λ s. absurd s, λ w. elim w [ inl i ↦ whole-none x i | inr n ↦ n ]) };
   open_match = record {
     sorted = (tt, tt);
-    all = λ x. (
-      λ s. elim s [
-        | inl e ↦
-            inl (record { rules = ruled 4 second ∷ []; made = (refl, refl, tt); world = booleans; depth = 1; type = 0; fit = (fits, tt); is_warning = inr (e, escaping) })
-        | inr n ↦ absurd n
-      ],
-      λ w. elim w [ inl i ↦ inl (open-alone (of_fn (at 1)) 4 x i).1.0 | inr n ↦ absurd n ],
-    );
+    all = λ x. (λ s. elim s [ inl e ↦ inl ((open-fn x).1 e) | inr n ↦ absurd n ], λ w. elim w [ inl i ↦ inl ((open-fn x).0 i) | inr n ↦ absurd n ]);
   };
   open_binding = record {
     sorted = (tt, tt);
+    all = λ x. (λ s. elim s [ inl e ↦ inl ((open-val x).1 e) | inr n ↦ absurd n ], λ w. elim w [ inl i ↦ inl ((open-val x).0 i) | inr n ↦ absurd n ]);
+  };
+  both = record {
+    sorted = ((refl, tt), (tt, tt));
     all = λ x. (
       λ s. elim s [
-        | inl e ↦
-            inl (record { rules = ruled 5 second ∷ []; made = (refl, refl, tt); world = booleans; depth = 1; type = 0; fit = (fits, tt); is_warning = inr (e, escaping) })
-        | inr n ↦ absurd n
+        | inl e ↦ inr (inl ((open-fn x).1 e))
+        | inr r ↦ elim r [ inl e ↦ inl ((open-val x).1 e) | inr n ↦ absurd n ]
       ],
-      λ w. elim w [ inl i ↦ inl (open-alone (of_val (at 5)) 5 x i).1.0 | inr n ↦ absurd n ],
+      λ w. elim w [
+        | inl i ↦ inr (inl ((open-val x).0 i))
+        | inr r ↦ elim r [ inl i ↦ inl ((open-fn x).0 i) | inr n ↦ absurd n ]
+      ],
     );
   };
   handler = record { sorted = tt; all = λ x. (λ s. absurd s, λ w. elim w [ inl i ↦ (open-alone (of_handle (at 1)) 4 x i).1 | inr n ↦ n ]) };

@@ -72,11 +72,13 @@ variables h rs = record { holder = h; patterns = rs; status = λ x. None }
 abbrev pub constructors : Holder Place → List (Place × Pat Place) → Judged Place
 constructors h rs = record { holder = h; patterns = rs; status = λ x. Some (constructor 1 2) }
 
--- `fn x => ..` has no warning, `fn true => ..` is open, so is `val true = ..`, and a match after `handle` never is; a rule after one of
--- the same pattern is redundant.
+-- `fn x => ..` has no warning, `fn true => ..` is open, so is `val true = ..`, and both have both, in the order of their places; a match
+-- after `handle` never is; a rule after one of the same pattern is redundant.
 pub record WarningSamples : Type 0 where
   pub whole : AreWarnings (variables (of_fn (at 1)) (one_rule 4 (codes "x") ∷ []) ∷ []) []
   pub open_match : AreWarnings (constructors (of_fn (at 1)) (one_rule 4 (codes "true") ∷ []) ∷ []) (warning (at 1) P2 ∷ [])
   pub open_binding : AreWarnings (constructors (of_val (at 5)) (one_rule 5 (codes "true") ∷ []) ∷ []) (warning (at 5) P3 ∷ [])
+  pub both : AreWarnings (constructors (of_val (at 5)) (one_rule 5 (codes "true") ∷ []) ∷ constructors (of_fn (at 1)) (one_rule 4 (codes "true") ∷ []) ∷ [])
+      (warning (at 1) P2 ∷ warning (at 5) P3 ∷ [])
   pub handler : AreWarnings (constructors (of_handle (at 1)) (one_rule 4 (codes "true") ∷ []) ∷ []) []
   pub redundant : AreWarnings (constructors (of_handle (at 1)) (one_rule 4 (codes "true") ∷ one_rule 9 (codes "true") ∷ []) ∷ []) (warning (at 9) P1 ∷ [])

@@ -30,10 +30,10 @@ mod UsedNames
 mod SequenceTokens
 mod SequenceFits
 mod SequenceOrigins
+mod NoExpressions
 mod RecPhrases
 mod RecExpressions
 mod RecModules
-mod RecOthers
 mod RecSequences
 mod RecPatterns
 mod Layers
@@ -46,5 +46,11 @@ mod Links
 mod FunctionNames
 mod RecDeclared
 mod Units
+mod PartWalk
 mod KindRules
 pub mod KindWalk
+mod RuledPhrases
+mod RuledExpressions
+mod RuledDeclarations
+mod RuledModules
+mod RuledUnits

@@ -1,5 +1,5 @@
 -- What stands after `rec` in expressions: sequences of atomic expressions, and the rules.
-use Rattle.std.specs.Prelude.{◌≡◌, ℕ, List, [], ◌∷◌, Option, Some, None, get_or, nat_lt, length, true, false}
+use Rattle.std.specs.Prelude.{◌≡◌, ℕ, List, [], ◌∷◌, Option, Some, None, get_or, false}
 use Rattle.std.proofs.Common.{refl, inl}
 use Rattle.sml_lex.specs.declared.fault.Place.{Place}
 use Rattle.sml_tree.specs.Names.{Name}
@@ -9,7 +9,6 @@ use Rattle.sml_rules.specs.Every.{Every}
 use Rattle.sml_fixity.specs.declared.sequences.Step.{Step}
 use Rattle.sml_fixity.specs.declared.sequences.Step.TheVariants.{Push, Apply, Combine}
 use Rattle.sml_fixity.specs.Shapes.{Shape, tree, headed}
-use Rattle.sml_read.specs.Grammar.{right_side}
 use Rattle.sml_read.specs.declared.grammar.Rule.{Rule}
 use Rattle.sml_read.specs.declared.grammar.Rule.TheVariants as G
 use Rattle.sml_read.specs.declared.grammar.ExpressionRule.{ExpressionRule}
@@ -22,11 +21,12 @@ use Rattle.sml_derived.specs.Words.{hidden}
 use Rattle.sml_flaws.specs.Flaws.{is_reserved}
 use Rattle.sml_tree_laws.specs.Recursive.{ExpRec, ExpsRec}
 use Rattle.sml_tree_laws.proofs.Phrases.{every_get_or, every_set}
+use Rattle.sml_tree_laws.proofs.NoExpressions.{EachPart}
 use Rattle.sml_tree_laws.proofs.RecPhrases.{PhraseRec, ExpRecIfAny, RulesRecIfAny, exp_rec, exps_rec, exp_rec_if_any, fields_rec, rules_rec, rules_rec_if_any, decs_rec}
 
 -- what stands so in the parts of a phrase
 abbrev pub PartsRec : Rule → List Phrase → Type 0
-PartsRec rule vs = (k : ℕ) → nat_lt k (length (right_side rule)) ≡ true → PhraseRec (at vs k)
+PartsRec rule vs = EachPart PhraseRec rule vs
 
 exps_listed_rec : (es : Exps Place) → ExpsRec es → Every (λ e. ExpRec e) (E.list_of_exps es)
 exps_listed_rec no_exp h = tt

@@ -1,4 +1,4 @@
--- What stands after `rec` in units and structures; in signatures and specifications there is no such thing.
+-- What stands after `rec` in units and structures.
 use Rattle.std.specs.Prelude.{List, [], ◌∷◌}
 use Rattle.std.proofs.Common.{refl}
 use Rattle.sml_tree.specs.Names.{Name}
@@ -8,133 +8,15 @@ use Rattle.sml_read.specs.declared.grammar.UnitRule.{UnitRule}
 use Rattle.sml_read.specs.declared.grammar.UnitRule.TheVariants as U
 use Rattle.sml_read.specs.declared.grammar.StructureRule.{StructureRule}
 use Rattle.sml_read.specs.declared.grammar.StructureRule.TheVariants as S
-use Rattle.sml_read.specs.declared.grammar.SignatureRule.{SignatureRule}
-use Rattle.sml_read.specs.declared.grammar.SignatureRule.TheVariants as N
-use Rattle.sml_read.specs.declared.grammar.SpecificationRule.{SpecificationRule}
-use Rattle.sml_read.specs.declared.grammar.SpecificationRule.TheVariants as C
-use Rattle.sml_phrases.specs.Phrases.{of_longs, of_long, of_typ_binds, of_typ_descs, of_datatypes, of_constructors, of_sig, of_wheres, of_specs, of_type_rest, of_shared_types, of_str, of_str_decs, of_begun_str_bind, of_functor_argument, of_begun_fun_bind, of_begun_functor, str_constraints_in, fun_constraints_in}
-use Rattle.sml_bare_mods.specs.SignatureRules.{signature_phrase}
-use Rattle.sml_bare_mods.specs.SpecificationRules.{types, type_rest, datatypes, datatype_rest, included, included_name, shared, specification_phrase}
+use Rattle.sml_phrases.specs.Phrases.{of_specs, of_str, of_str_decs, of_begun_str_bind, of_functor_argument, of_begun_fun_bind, of_begun_functor, str_constraints_in, fun_constraints_in}
 use Rattle.sml_bare_mods.specs.StructureRules.{str_place, constrained, own_constrained, str_binds, fun_binds, begun_fun_bind, applied, structure_phrase}
 use Rattle.sml_bare_mods.specs.UnitRules.{unit_phrase}
 use Rattle.sml_lex.specs.declared.fault.Place.{Place}
 use Rattle.sml_read.specs.declared.grammar.Rule.TheVariants as G
-use Rattle.sml_phrases.specs.Phrases.{Phrase, of_names, of_copy, at, name_in, names_in, str_in, constraints_in}
+use Rattle.sml_phrases.specs.Phrases.{Phrase, at, name_in, str_in, constraints_in}
 use Rattle.sml_tree_laws.specs.Recursive.{StrRec, StrBindsRec, FunBindsRec}
 use Rattle.sml_tree_laws.proofs.RecPhrases.{PhraseRec, dec_rec, decs_rec, str_rec, str_dec_rec, str_decs_rec, str_binds_rec, fun_binds_rec}
 use Rattle.sml_tree_laws.proofs.RecExpressions.{PartsRec}
-
--- specifications and signatures: nothing in them is a value declaration
-
-types_rec : (p : Place) (v : Phrase) → PhraseRec (types p v)
-types_rec p (of_typ_binds []) = tt
-types_rec p (of_typ_binds (b ∷ bs)) = tt
-types_rec p (of_typ_descs ds) = tt
-types_rec p _ = tt
-
-type_rest_rec : (xs : List (Name Place)) (x : Name Place) (v : Phrase) → PhraseRec (type_rest xs x v)
-type_rest_rec xs x (of_type_rest t bs) = tt
-type_rest_rec xs x (of_typ_descs ds) = tt
-type_rest_rec xs x _ = tt
-
-datatypes_rec : (p : Place) (v : Phrase) → PhraseRec (datatypes p v)
-datatypes_rec p (of_datatypes ds ts) = tt
-datatypes_rec p (of_copy x c) = tt
-datatypes_rec p _ = tt
-
-datatype_rest_rec : (x : Name Place) (v : Phrase) → PhraseRec (datatype_rest x v)
-datatype_rest_rec x (of_constructors cs ds ts) = tt
-datatype_rest_rec x (of_long c) = tt
-datatype_rest_rec x _ = tt
-
-included_rec : (p : Place) (v : Phrase) → PhraseRec (included p v)
-included_rec p (of_sig s) = tt
-included_rec p (of_names xs) = tt
-included_rec p _ = tt
-
-included_name_rec : (p : Place) (x : Name Place) (v : Phrase) → PhraseRec (included_name p x v)
-included_name_rec p x (of_wheres ws) = tt
-included_name_rec p x (of_names xs) = tt
-included_name_rec p x _ = tt
-
-shared_rec : (p : Place) (v : Phrase) → PhraseRec (shared p v)
-shared_rec p (of_shared_types cs) = tt
-shared_rec p (of_longs cs) = tt
-shared_rec p _ = tt
-
-pub signature_rec : (rule : SignatureRule) (p : Place) (vs : List Phrase) → PartsRec (G.Signatures rule) vs → PhraseRec (signature_phrase rule p vs)
-signature_rec N.SigSigAtom p vs h = tt
-signature_rec N.SigAtomSig p vs h = tt
-signature_rec N.SigAtomAlphanumeric p vs h = tt
-signature_rec N.SigMoreNone p vs h = tt
-signature_rec N.SigMoreWhere p vs h = tt
-signature_rec N.SigWhereNone p vs h = tt
-signature_rec N.SigWhereWhere p vs h = tt
-signature_rec N.SigWhereAnd p vs h = tt
-signature_rec N.WhereType p vs h = tt
-signature_rec N.SigBindAlphanumeric p vs h = tt
-signature_rec N.SigBindMoreNone p vs h = tt
-signature_rec N.SigBindMoreWhere p vs h = tt
-signature_rec N.SigBindMoreAnd p vs h = tt
-signature_rec N.SigBindWhereNone p vs h = tt
-signature_rec N.SigBindWhereWhere p vs h = tt
-signature_rec N.SigBindAndWhere p vs h = tt
-signature_rec N.SigBindAndSigBind p vs h = tt
-signature_rec N.SigBindWhereAnd p vs h = (h 1 refl)
-
-pub specification_rec : (rule : SpecificationRule) (p : Place) (vs : List Phrase) → PartsRec (G.Specifications rule) vs → PhraseRec (specification_phrase rule p vs)
-specification_rec C.SpecVal p vs h = tt
-specification_rec C.SpecEqtype p vs h = tt
-specification_rec C.SpecException p vs h = tt
-specification_rec C.SpecStructure p vs h = tt
-specification_rec C.ValSpecVid p vs h = tt
-specification_rec C.ValSpecMoreNone p vs h = tt
-specification_rec C.ValSpecMoreAnd p vs h = tt
-specification_rec C.TypeSpecRestEquals p vs h = tt
-specification_rec C.TypeSpecMoreNone p vs h = tt
-specification_rec C.TypeSpecMoreAnd p vs h = tt
-specification_rec C.DatSpecSomeTvs p vs h = tt
-specification_rec C.DatSpecRestConSpecs p vs h = tt
-specification_rec C.DatSpecMoreNone p vs h = tt
-specification_rec C.DatSpecMoreAnd p vs h = tt
-specification_rec C.ConSpecsVid p vs h = tt
-specification_rec C.ConSpecsMoreNone p vs h = tt
-specification_rec C.ExnSpecMoreNone p vs h = tt
-specification_rec C.ExnSpecMoreAnd p vs h = tt
-specification_rec C.StrSpecAlphanumeric p vs h = tt
-specification_rec C.StrSpecMoreNone p vs h = tt
-specification_rec C.StrSpecMoreWhere p vs h = tt
-specification_rec C.StrSpecMoreAnd p vs h = tt
-specification_rec C.StrSpecWhereNone p vs h = tt
-specification_rec C.StrSpecWhereWhere p vs h = tt
-specification_rec C.StrSpecAndWhere p vs h = tt
-specification_rec C.StrSpecAndStrSpec p vs h = tt
-specification_rec C.IncludeSig p vs h = tt
-specification_rec C.OfTyNone p vs h = tt
-specification_rec C.SharingType p vs h = tt
-specification_rec C.SharingLongStrId p vs h = tt
-specification_rec C.TypeShareMoreNone p vs h = tt
-specification_rec C.TypeShareMoreEquals p vs h = tt
-specification_rec C.StrShareMoreNone p vs h = tt
-specification_rec C.StrShareMoreEquals p vs h = tt
-specification_rec C.SpecType p vs h = types_rec p (at vs 1)
-specification_rec C.SpecDatatype p vs h = datatypes_rec p (at vs 1)
-specification_rec C.SpecInclude p vs h = included_rec p (at vs 1)
-specification_rec C.SpecSharing p vs h = shared_rec p (at vs 1)
-specification_rec C.TypeSpecTvs p vs h = type_rest_rec (names_in (at vs 0)) (name_in (at vs 1)) (at vs 2)
-specification_rec C.DatSpecTyCon p vs h = datatype_rest_rec (name_in (at vs 0)) (at vs 2)
-specification_rec C.DatSpecRestDatatype p vs h = (h 1 refl)
-specification_rec C.ConSpecsMoreBar p vs h = (h 1 refl)
-specification_rec C.OfTyOf p vs h = (h 1 refl)
-specification_rec C.StrSpecWhereAnd p vs h = (h 1 refl)
-specification_rec C.ExnSpecVid p vs h = tt
-specification_rec C.IncludeAlphanumeric p vs h = included_name_rec p (name_in (at vs 0)) (at vs 1)
-specification_rec C.IncludeMoreAlphanumeric p vs h = tt
-specification_rec C.IncludeIdsAlphanumeric p vs h = tt
-specification_rec C.IncludeIdsNone p vs h = tt
-specification_rec _ p vs h = (h 0 refl)
-
--- structures
 
 constrained_rec : (e : StrExp Place) (cs : List (Constraint Place)) → StrRec e → StrRec (constrained e cs)
 constrained_rec e [] h = h

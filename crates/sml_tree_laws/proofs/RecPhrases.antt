@@ -1,10 +1,12 @@
 -- What stands after `rec` in the value declarations of a phrase.
-use Rattle.std.specs.Prelude.{List, [], ◌∷◌, Option, Some, None}
+use Rattle.std.specs.Prelude.{◌≡◌, List, [], ◌∷◌, Option, Some, None, true}
+use Rattle.std.proofs.lemmas.Bool.{false≢true}
 use Rattle.sml_lex.specs.declared.fault.Place.{Place}
 use Rattle.sml_tree.specs.Expressions.{Exp, Rules, ValBind, ValBinds, bind}
 use Rattle.sml_tree.specs.Clauses.{Clause}
 use Rattle.sml_phrases.specs.Phrases.{Phrase, of_exp, of_exps, of_series, of_fields, of_rules, of_rest, of_dec, of_decs, of_bind, of_binds, of_values, of_round_values, of_functions, of_right_side, of_clauses, of_round_functions, of_str, of_str_dec, of_str_decs, of_str_binds, of_begun_str_bind, of_fun_binds, of_begun_fun_bind, of_begun_functor, of_top, exp_in, exps_in, exp_if_any, fields_in, rules_in, rules_if_any, dec_in, decs_in, bind_in, binds_in, clauses_in, str_in, str_dec_in, str_decs_in, str_binds_in, fun_binds_in, top_in}
 use Rattle.sml_tree_laws.specs.Recursive.{RecBind, RecBinds, ExpRec, ExpsRec, FieldsRec, RulesRec, DecRec, DecsRec, BindsRec, StrRec, StrDecRec, StrDecsRec, StrBindsRec, FunBindsRec, TopRec}
+use Rattle.sml_tree_laws.proofs.NoExpressions.{is_free}
 
 abbrev pub ExpRecIfAny : Option (Exp Place) → Type 0
 ExpRecIfAny None = Unit {0}
@@ -52,6 +54,35 @@ PhraseRec (of_begun_fun_bind f x s cs e) = StrRec e
 PhraseRec (of_begun_functor f ss cs e) = StrRec e
 PhraseRec (of_top d) = TopRec d
 PhraseRec _ = Unit {0}
+
+-- where no expression stands in a phrase
+pub free_rec : (v : Phrase) → is_free v ≡ true → PhraseRec v
+free_rec (of_exp e) h = absurd (false≢true h)
+free_rec (of_exps es) h = absurd (false≢true h)
+free_rec (of_series es) h = absurd (false≢true h)
+free_rec (of_fields fs) h = absurd (false≢true h)
+free_rec (of_rules rs) h = absurd (false≢true h)
+free_rec (of_rest es ts a o rs) h = absurd (false≢true h)
+free_rec (of_dec d) h = absurd (false≢true h)
+free_rec (of_decs ds) h = absurd (false≢true h)
+free_rec (of_bind b) h = absurd (false≢true h)
+free_rec (of_binds bs) h = absurd (false≢true h)
+free_rec (of_values xs bs rs) h = absurd (false≢true h)
+free_rec (of_round_values ps qs ts e bs rs) h = absurd (false≢true h)
+free_rec (of_functions xs bs) h = absurd (false≢true h)
+free_rec (of_right_side qs t e) h = absurd (false≢true h)
+free_rec (of_clauses cs) h = absurd (false≢true h)
+free_rec (of_round_functions ps qs t e cs bs) h = absurd (false≢true h)
+free_rec (of_str e) h = absurd (false≢true h)
+free_rec (of_str_dec d) h = absurd (false≢true h)
+free_rec (of_str_decs ds) h = absurd (false≢true h)
+free_rec (of_str_binds ws cs bs) h = absurd (false≢true h)
+free_rec (of_begun_str_bind x cs e) h = absurd (false≢true h)
+free_rec (of_fun_binds ws cs bs) h = absurd (false≢true h)
+free_rec (of_begun_fun_bind f x s cs e) h = absurd (false≢true h)
+free_rec (of_begun_functor f ss cs e) h = absurd (false≢true h)
+free_rec (of_top d) h = absurd (false≢true h)
+free_rec _ h = tt
 
 -- what is taken out of a phrase
 

@@ -63,10 +63,10 @@ use Rattle.sml_flaws.specs.Known.{is_used_in, is_used}
 use Rattle.sml_flaws.specs.Flaws.{position, is_reserved, flaws_of}
 use Rattle.sml_bare.specs.Derivations.{Source, place_at, token_phrase, word_phrase, shape_from, before_sequence, made_by, phrases_of}
 use Rattle.sml_tree_laws.specs.Recursive.{RecPat}
-use Rattle.sml_tree_laws.proofs.RecPhrases.{PhraseRec}
+use Rattle.sml_tree_laws.proofs.RecPhrases.{PhraseRec, free_rec}
 use Rattle.sml_tree_laws.proofs.RecExpressions.{PartsRec, expression_rec}
-use Rattle.sml_tree_laws.proofs.RecModules.{unit_rec, structure_rec, signature_rec, specification_rec}
-use Rattle.sml_tree_laws.proofs.RecOthers.{name_rec, pattern_rec, type_rec}
+use Rattle.sml_tree_laws.proofs.RecModules.{unit_rec, structure_rec}
+use Rattle.sml_tree_laws.proofs.NoExpressions.{name_free, pattern_free, type_free, signature_free, specification_free}
 use Rattle.sml_tree_laws.proofs.RecDeclarations.{HeadFree, declaration_rec, declaration_pat}
 use Rattle.sml_tree_laws.proofs.RecPatterns.{starts, AtomsFrom, NameRec, VidRec, PatRec, PartsPat, Free, name_pat, pattern_pat}
 use Rattle.sml_tree_laws.proofs.Layers.{vid_none, op_none}
@@ -361,15 +361,15 @@ module _ (s : Source) (tokens : List Token) (all : List Mark) (own : (n : ℕ) �
     made_link (G.Types rule) owns bars h = type_link text s.fits all rule c _ _ _ _
 
     made_rec : (r : Rule) → Owns r → Parts r → PhraseRec (made_by s r n vs)
-    made_rec (G.Names rule) owns h = name_rec rule _ vs (phrases (G.Names rule) h)
+    made_rec (G.Names rule) owns h = name_free PhraseRec free_rec rule _ vs (phrases (G.Names rule) h)
     made_rec (G.Units rule) owns h = unit_rec rule _ vs (phrases (G.Units rule) h)
     made_rec (G.Structures rule) owns h = structure_rec rule _ vs (phrases (G.Structures rule) h)
-    made_rec (G.Signatures rule) owns h = signature_rec rule _ vs (phrases (G.Signatures rule) h)
-    made_rec (G.Specifications rule) owns h = specification_rec rule _ vs (phrases (G.Specifications rule) h)
+    made_rec (G.Signatures rule) owns h = signature_free PhraseRec free_rec rule _ vs (phrases (G.Signatures rule) h)
+    made_rec (G.Specifications rule) owns h = specification_free PhraseRec free_rec rule _ vs (phrases (G.Specifications rule) h)
     made_rec (G.Declarations rule) owns h = declaration_rec used text rule i a c t _ _ vs (phrases (G.Declarations rule) h) (pats (G.Declarations rule) h) (heads rule _ owns h)
     made_rec (G.Expressions rule) owns h = expression_rec rule _ _ vs (phrases (G.Expressions rule) h)
-    made_rec (G.Patterns rule) owns h = pattern_rec rule _ _ vs (phrases (G.Patterns rule) h)
-    made_rec (G.Types rule) owns h = type_rec rule _ vs (phrases (G.Types rule) h)
+    made_rec (G.Patterns rule) owns h = pattern_free PhraseRec free_rec rule _ _ vs (phrases (G.Patterns rule) h)
+    made_rec (G.Types rule) owns h = type_free PhraseRec free_rec rule _ vs (phrases (G.Types rule) h)
 
     up : (d k n : ℕ) → n ≡ k + d → t k ≤ t n
     up zero k n e = let same = ap t (let f : k ≡ n = omega (arith, e) in f) in omega (arith, same)

@@ -1,5 +1,5 @@
 -- Patterns bind no variable twice.
-use Rattle.std.specs.Prelude.{◌≡◌, ℕ, Bool, true, false, ◌||◌, not, List, [], ◌∷◌, ◌++◌, Option, Some, None}
+use Rattle.std.specs.Prelude.{◌≡◌, ℕ, Bool, true, false, List, [], ◌∷◌, ◌++◌, Option, Some, None}
 use Rattle.std.specs.declared.cmp.Ordering.{Ordering}
 use Rattle.std.specs.declared.cmp.Ordering.TheVariants.{Less, Equal, Greater}
 use Rattle.std.specs.Ordering.{ordering_reverse}
@@ -11,15 +11,15 @@ use Rattle.sml_tree.specs.Names.{Name, LongName}
 use Rattle.sml_tree.specs.Types.{Ty}
 use Rattle.sml_tree.specs.Patterns.{Pat, Pats, PatFields, wildcard, pat_constant, pat_name, pat_row, pat_tuple, pat_bracket, pat_apply, pat_typed, pat_as, no_pat, and_pat, pat_field, no_pat_field, and_pat_field}
 use Rattle.sml_objects.specs.Maps.{Map, lookup, by_order, order_of}
-use Rattle.sml_objects.specs.Objects.{MlType, MlTypes, free, and_type, arrow_of, tuple_of}
+use Rattle.sml_objects.specs.Objects.{MlType, MlTypes, free, and_type, tuple_of}
 use Rattle.sml_rules.specs.Answers.{accepted}
 use Rattle.sml_rules.proofs.Sound.{accepted_same, not_refused}
 use Rattle.sml_core_rules.specs.Objects.{Env}
 use Rattle.sml_core_rules.specs.Lookups.{value_at}
-use Rattle.sml_core_rules.specs.States.{Scope, State, with_unknowns}
-use Rattle.sml_core_rules.specs.Scripts.{give, ◌>>=◌, look, IsAnswer}
-use Rattle.sml_core_rules.specs.Types.{Fields, put_field, read_ty}
-use Rattle.sml_core_rules.specs.Values.{is_constructor, applied, require_equal, find_value}
+use Rattle.sml_core_rules.specs.States.{Scope, State}
+use Rattle.sml_core_rules.specs.Scripts.{give, ◌>>=◌, IsAnswer}
+use Rattle.sml_core_rules.specs.Types.{Fields, put_field}
+use Rattle.sml_core_rules.specs.Values.{applied, require_equal, find_value}
 use Rattle.sml_core_rules.specs.Patterns.{Bindings, Typed, typed, is_empty, is_variable_alone, read_constraint, bind_variable, constructor_instance, found_constructor, read_row, bind_layered, read_layered, read_pat, read_pats, read_pat_fields}
 use Rattle.sml_core_rules.specs.Rules.{AreApart}
 use Rattle.sml_core_rules.specs.Assigned.{assign_bindings}

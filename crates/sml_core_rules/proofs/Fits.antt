@@ -19,7 +19,7 @@ use Rattle.sml_rules.proofs.Sound.{accepted_same, not_refused}
 use Rattle.sml_core_rules.specs.Objects.{Env, Value, Status, variable, constructor, exception, overloaded, maps, replace, replaced}
 use Rattle.sml_core_rules.specs.States.{Scope, State, with_unknowns, with_demand}
 use Rattle.sml_core_rules.specs.Solutions.{Meets}
-use Rattle.sml_core_rules.specs.Scripts.{Script, give, ◌>>=◌, look, test, new_overloaded, IsAnswer}
+use Rattle.sml_core_rules.specs.Scripts.{give, ◌>>=◌, look, test, new_overloaded, IsAnswer}
 use Rattle.sml_core_rules.specs.Values.{instance, apply_general, applied, require_attributes, require_status, value_constructs, is_constructor, is_arrow, find_value, require_equal}
 use Rattle.sml_tree.specs.declared.patterns.ConstantKind.{ConstantKind}
 use Rattle.sml_tree.specs.declared.patterns.ConstantKind.TheVariants as K

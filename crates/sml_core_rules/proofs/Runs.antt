@@ -1,11 +1,11 @@
 -- The scopes of a run.
-use Rattle.std.specs.Prelude.{◌≡◌, ℕ, ◌<◌, Bool, true, false}
+use Rattle.std.specs.Prelude.{◌≡◌, ℕ, Bool, false}
 use Rattle.std.proofs.Common.{refl, ap}
 use Rattle.sml_objects.specs.Initial.{Name, initial, made, naming}
 use Rattle.sml_objects.specs.Names.{Initial, int, word, char, string, bool, exn, real, list, ref}
 use Rattle.sml_layers.specs.Explicit.{variable_name}
 use Rattle.sml_layers.specs.declared.variable.Variable.{Variable}
-use Rattle.sml_core_rules.specs.Scopes.{IsScope, run_scope, RunsHaveScopes}
+use Rattle.sml_core_rules.specs.Scopes.{RunsHaveScopes}
 
 abbrev number_in : Name → ℕ
 number_in (initial k) = 0

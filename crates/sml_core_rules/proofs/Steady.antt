@@ -1,5 +1,5 @@
 -- Scripts that never start anew: what meets the demands at the end met those before. Patterns are read by such.
-use Rattle.std.specs.Prelude.{◌≡◌, ◌≤◌, ◌⊎◌, ◌&&◌, ◌||◌, not, ℕ, suc, Bool, true, false, cond, List, [], ◌∷◌, ◌++◌, Option, Some, None}
+use Rattle.std.specs.Prelude.{◌≤◌, ℕ, suc, Bool, true, false, cond, List, [], ◌∷◌, ◌++◌, Option, Some, None}
 use mathlib.Core.Path.{ap, subst}
 use mathlib.Core.Logic.{inl, inr}
 use Rattle.sml_tree.specs.Trees.{Id}

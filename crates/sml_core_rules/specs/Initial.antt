@@ -1,6 +1,6 @@
 -- The initial basis (the Definition, appendices C to E): its types, its constructors, exceptions and other values. Which of them
 -- are operators is said where fixity is.
-use Rattle.std.specs.Prelude.{ℕ, true, false, Bool, List, [], ◌∷◌, ◌++◌, codes, map}
+use Rattle.std.specs.Prelude.{true, false, Bool, List, [], ◌∷◌, ◌++◌, codes, map}
 use Rattle.sml_tree.specs.Trees.{Id}
 use Rattle.sml_objects.specs.Initial.{Name, initial}
 use Rattle.sml_objects.specs.Maps.{Map, join}

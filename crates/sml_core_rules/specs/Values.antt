@@ -1,5 +1,5 @@
 -- Instances of values, and what is asked of types (the Definition, sections 4.5 and 4.8, and appendix E).
-use Rattle.std.specs.Prelude.{ℕ, suc, Bool, true, false, ◌||◌, List, [], ◌∷◌, ◌++◌, length, Option, Some, None}
+use Rattle.std.specs.Prelude.{ℕ, suc, Bool, true, false, ◌||◌, List, [], ◌∷◌, length, Option, Some, None}
 use Rattle.sml_lex.specs.declared.fault.Code.TheVariants.{E1}
 use Rattle.sml_tree.specs.Trees.{Id}
 use Rattle.sml_tree.specs.Names.{LongName}

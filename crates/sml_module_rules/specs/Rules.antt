@@ -1,15 +1,14 @@
 -- The rules of modules, `B ⊢ phrase ⇒ object` (the Definition, sections 5.2 to 5.7, rules 50 to 89). Realisations, types and new names
 -- are guessed: there is no unknown, no demand and no order of solving. Rules look at no place, and of a scope at its naming alone.
-use Rattle.std.specs.Prelude.{◌≡◌, ◌⊎◌, ◌↔◌, ℕ, true, false, Bool, List, [], ◌∷◌, ◌++◌, map, length, Option, Some, None, is_some}
+use Rattle.std.specs.Prelude.{◌≡◌, ◌⊎◌, ◌↔◌, ℕ, true, false, Bool, List, [], ◌∷◌, ◌++◌, map, length, Option, Some, None}
 use Rattle.std.specs.List.{AllByRecursion}
 use Rattle.sml_tree.specs.Trees.{Id, LongId}
 use Rattle.sml_tree.specs.Names.{LongName}
-use Rattle.sml_tree.specs.Types.{Ty}
 use Rattle.sml_tree.specs.Expressions.{ConBind, DatBind}
 use Rattle.sml_tree.specs.Signatures.{WhereType, ValDesc, TypDesc, SigExp, Spec, Specs, StrDescs, sig_end, sig_name, where_type, val_spec, type_spec, eqtype_spec, datatype_spec, copy_spec, exception_spec, structure_spec, include_spec, sharing_types, sharing_structures, no_spec, and_spec, str_desc, no_str_desc, and_str_desc}
 use Rattle.sml_tree.specs.Structures.{StrExp, StrDec, StrDecs, StrBinds, SigBind, FunBind, TopDec, struct_end, str_name, ascribed, functor_apply, str_let, core_dec, structure_dec, str_local, no_str_dec, and_str_dec, str_bind, no_str_bind, and_str_bind, top_str, signature_dec, functor_dec}
 use Rattle.sml_tree.specs.declared.structures.Ascription.TheVariants.{Transparent, Opaque}
-use Rattle.sml_objects.specs.Appearance.{Stands, HaveSameNames}
+use Rattle.sml_objects.specs.Appearance.{Stands}
 use Rattle.sml_objects.specs.Equality.{has_equality}
 use Rattle.sml_objects.specs.Maps.{Map, lookup, put}
 use Rattle.sml_objects.specs.Names.{Initial}

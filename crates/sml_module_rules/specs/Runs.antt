@@ -1,12 +1,11 @@
 -- What the units of a project may be answered: over the initial basis, with the names of a run.
-use Rattle.std.specs.Prelude.{◌≡◌, ◌<◌, ℕ, List, [], map, is_some}
+use Rattle.std.specs.Prelude.{◌≡◌, ◌<◌, List, [], map, is_some}
 use Rattle.std.specs.List.{AllByRecursion}
 use Rattle.sml_lex.specs.declared.fault.Place.{Place}
 use Rattle.sml_objects.specs.Alike.{Renaming}
 use Rattle.sml_objects.specs.Initial.{Name, naming}
 use Rattle.sml_rules.specs.Answers.{Answer}
 use Rattle.sml_core_rules.specs.Initial.{initial_names, initial_basis}
-use Rattle.sml_core_rules.specs.Objects.{Basis}
 use Rattle.sml_core_rules.specs.Scopes.{run_scope}
 use Rattle.sml_module_rules.specs.Projects.{UnitText, UnitPair, Exports, AreRuns, first_unit, second_unit, units_shown}
 use Rattle.sml_module_rules.specs.Statements.{rename_shown}

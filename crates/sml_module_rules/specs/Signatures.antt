@@ -10,7 +10,7 @@ use Rattle.sml_tree.specs.Signatures.{WhereType, ValDesc, TypDesc, SigExp, Spec,
 use Rattle.sml_objects.specs.Equality.{has_equality}
 use Rattle.sml_objects.specs.Maps.{Map, lookup, put}
 use Rattle.sml_objects.specs.Names.{Attributes}
-use Rattle.sml_objects.specs.Objects.{MlType, Scheme, bound, free, mono}
+use Rattle.sml_objects.specs.Objects.{MlType, bound, free, mono}
 use Rattle.sml_rules.specs.Answers.{Answer, fault, fault_at}
 use Rattle.sml_rules.specs.Lookups.{found}
 use Rattle.sml_core_rules.specs.Answers as A

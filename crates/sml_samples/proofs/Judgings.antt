@@ -1,5 +1,4 @@
 -- Samples of what is to be judged.
-use Rattle.std.specs.Prelude.{[], ◌∷◌}
 use mathlib.Core.Path.{refl}
 use Rattle.std.proofs.Common.{arith}
 use Rattle.sml_objects.specs.Initial.{naming}

@@ -4,7 +4,7 @@ use Rattle.std.specs.Prelude.{ℕ, zero, suc, Bool, true, false, ◌&&◌, nat_e
 use Rattle.std.specs.List.{flat_map}
 use Rattle.sml_lex.specs.declared.fault.Place.{Place}
 use Rattle.sml_lex.specs.declared.fault.Warning.{Warning}
-use Rattle.sml_tree.specs.Trees.{Id, LongId}
+use Rattle.sml_tree.specs.Trees.{Id}
 use Rattle.sml_objects.specs.Appearance.{stands}
 use Rattle.sml_objects.specs.Canonical.{index_of}
 use Rattle.sml_objects.specs.Maps.{Map}
@@ -15,7 +15,7 @@ use Rattle.sml_rules.specs.Answers.{Answer, refused, accepted, dotted}
 use Rattle.sml_texts.specs.Text as T
 use Rattle.sml_texts.specs.Text.{Piece, byte, a_name, say, variable, joined, bracketed, initial_text, initial_among, fault_text, warning_text}
 use Rattle.sml_core_rules.specs.Lookups.{is_same}
-use Rattle.sml_core_rules.specs.Objects.{Env, Value, TyStr, Basis, Status, variable as a_variable, constructor, exception, overloaded}
+use Rattle.sml_core_rules.specs.Objects.{Value, TyStr, Basis, Status, variable as a_variable, constructor, exception, overloaded}
 use Rattle.sml_module_rules.specs.Lines.{Component, a_structure, a_type, a_value, path_of}
 use Rattle.sml_text_rules.specs.BasisLines.{BasisLine, of_env, of_signature, of_functor, basis_lines, bound_names}
 

@@ -1,1 +1,4 @@
 mod Overs
+pub mod Rebinding
+pub mod Stepping
+pub mod Making

@@ -1,9 +1,13 @@
 //! What may be asked of types, whatever variables they have: a free variable that is no unknown yet becomes one first.
 //! Where that can't be, as for a type with a bound variable, it counts as want of memory.
 
-ghost use Rattle.std.specs.Prelude.{◌≡◌, length, OnOk, IfOk};
-ghost use Rattle.sml_objects.specs.Views.{type_of};
-ghost use Rattle.sml_graph.specs.Asked.{IsOf};
+ghost use Rattle.std.specs.Prelude.{◌≡◌, ◌<◌, length, Ok, OnOk, IfOk};
+ghost use Rattle.std.specs.List.{AllByRecursion};
+ghost use Rattle.sml_objects.specs.Views.{scheme_of, type_of};
+ghost use Rattle.sml_graph.specs.declared.demand.Ask.{Ask};
+ghost use Rattle.sml_graph.specs.Asked.{IsOf, IsSchemeOf, count, equal, has_fields, asks};
+ghost use Rattle.sml_graph.specs.Interned.{demanded};
+ghost use Rattle.sml_asks.specs.Steps.{Asks, Instantiates};
 
 use crate::known::{
     are_unknowns, fields_are_over, is_body_over, is_over, make_all_known, make_known,
@@ -11,7 +15,7 @@ use crate::known::{
 use sml_lex::fault::Memory;
 use sml_objects::objects::{MlType, Scheme};
 use sml_solve::class::Class;
-use sml_solve::demand::{Halt, Refusal};
+use sml_solve::demand::{Ask, Halt, Refusal};
 use sml_solve::layer::Bound;
 use sml_solve::solver::Solver;
 use sml_solve::variable::Variable;
@@ -21,7 +25,8 @@ use std::rc::Rc;
 
 /// Makes the variables of a type known.
 fn know(solver: &mut Solver, ty: &MlType) -> Result<(), Halt>
-    ensures { OnOk result (IsOf solver.new (type_of ty.now)) }
+    ensures known { OnOk result (IsOf solver.new (type_of ty.now)) }
+    ensures same { IsOf solver.old (type_of ty.now) → (result ≡ Ok tt) × (solver.new ≡ solver.old) }
 {
     if is_over(ty, solver.unknowns()) {
         return Ok(());
@@ -34,8 +39,42 @@ fn know(solver: &mut Solver, ty: &MlType) -> Result<(), Halt>
     }
 }
 
+/// Makes the free variables of a scheme known.
+fn know_body(solver: &mut Solver, scheme: &Scheme) -> Result<(), Halt>
+    ensures known { OnOk result (IsSchemeOf solver.new (scheme_of scheme.now)) }
+    ensures same { IsSchemeOf solver.old (scheme_of scheme.now) → (result ≡ Ok tt) × (solver.new ≡ solver.old) }
+{
+    if is_body_over(&scheme.body, scheme.variables.len(), solver.unknowns()) {
+        return Ok(());
+    }
+    make_all_known(solver, &scheme.body)?;
+    if is_body_over(&scheme.body, scheme.variables.len(), solver.unknowns()) {
+        Ok(())
+    } else {
+        Err(Halt::Memory)
+    }
+}
+
+/// Makes the variables of fields known.
+fn know_fields(solver: &mut Solver, fields: &[(Ident, Rc<MlType>)]) -> Result<(), Halt>
+    ensures { AllByRecursion (λ f. IsOf solver.old f.1) (demanded fields.now) → (result ≡ Ok tt) × (solver.new ≡ solver.old) }
+{
+    if fields_are_over(fields, solver.unknowns()) {
+        return Ok(());
+    }
+    for (_, field) in fields {
+        make_all_known(solver, field)?;
+    }
+    Ok(())
+}
+
 /// Makes numbers those of unknowns.
-fn know_numbers(solver: &mut Solver, numbers: &[u32]) -> Result<(), Halt> {
+fn know_numbers(solver: &mut Solver, numbers: &[u32]) -> Result<(), Halt>
+    ensures { AllByRecursion (λ v. v < count solver.old) numbers.now → (result ≡ Ok tt) × (solver.new ≡ solver.old) }
+{
+    if are_unknowns(numbers, solver.unknowns()) {
+        return Ok(());
+    }
     for number in numbers {
         make_known(solver, *number)?;
     }
@@ -43,7 +82,9 @@ fn know_numbers(solver: &mut Solver, numbers: &[u32]) -> Result<(), Halt> {
 }
 
 /// Demands that two types are equal.
-pub fn ask_equal(solver: &mut Solver, left: &MlType, right: &MlType) -> Result<(), Refusal> {
+pub fn ask_equal(solver: &mut Solver, left: &MlType, right: &MlType) -> Result<(), Refusal>
+    ensures { Asks solver.old (equal (type_of left.now) (type_of right.now)) solver.new result }
+{
     know(solver, left)?;
     know(solver, right)?;
     if !is_over(left, solver.unknowns()) {
@@ -57,10 +98,10 @@ pub fn ask_row(
     solver: &mut Solver,
     ty: &MlType,
     fields: &[(Ident, Rc<MlType>)],
-) -> Result<(), Refusal> {
-    for (_, field) in fields {
-        make_all_known(solver, field)?;
-    }
+) -> Result<(), Refusal>
+    ensures { Asks solver.old (has_fields (type_of ty.now) (demanded fields.now)) solver.new result }
+{
+    know_fields(solver, fields)?;
     know(solver, ty)?;
     if !fields_are_over(fields, solver.unknowns()) {
         return Err(Refusal::Memory);
@@ -69,30 +110,33 @@ pub fn ask_row(
 }
 
 /// Demands that a type is one of the names of a class.
-pub fn ask_class(solver: &mut Solver, ty: &MlType, class: Class) -> Result<(), Refusal> {
+pub fn ask_class(solver: &mut Solver, ty: &MlType, class: Class) -> Result<(), Refusal>
+    ensures { Asks solver.old (asks (Ask.Class class) (type_of ty.now)) solver.new result }
+{
     know(solver, ty)?;
     solver.require_class(ty, class)
 }
 
 /// Demands that a type admits equality.
-pub fn ask_equality(solver: &mut Solver, ty: &MlType) -> Result<(), Refusal> {
+pub fn ask_equality(solver: &mut Solver, ty: &MlType) -> Result<(), Refusal>
+    ensures { Asks solver.old (asks Ask.Equality (type_of ty.now)) solver.new result }
+{
     know(solver, ty)?;
     solver.require_equality(ty)
 }
 
 /// Demands that a type mentions no name that the unit made with the number given or a higher one.
-pub fn ask_within(
-    solver: &mut Solver,
-    ty: &MlType,
-    bound: Bound,
-    most: u32,
-) -> Result<(), Refusal> {
+pub fn ask_within(solver: &mut Solver, ty: &MlType, bound: Bound, most: u32) -> Result<(), Refusal>
+    ensures { Asks solver.old (asks (Ask.Within bound most) (type_of ty.now)) solver.new result }
+{
     know(solver, ty)?;
     solver.require_within(ty, bound, most)
 }
 
 /// Demands that a type is an explicit type variable.
-pub fn ask_variable(solver: &mut Solver, ty: &MlType, variable: Variable) -> Result<(), Refusal> {
+pub fn ask_variable(solver: &mut Solver, ty: &MlType, variable: Variable) -> Result<(), Refusal>
+    ensures { Asks solver.old (asks (Ask.Variable variable) (type_of ty.now)) solver.new result }
+{
     know(solver, ty)?;
     solver.require_variable(ty, variable)
 }
@@ -104,13 +148,10 @@ pub fn ask_labels(solver: &mut Solver, ty: &MlType) -> Result<(), Refusal> {
 }
 
 /// The body of a scheme with new unknowns for its variables, which follow those before, in the order of the variables.
-pub fn ask_instance(solver: &mut Solver, scheme: &Scheme) -> Result<Rc<MlType>, Halt> {
-    if !is_body_over(&scheme.body, scheme.variables.len(), solver.unknowns()) {
-        make_all_known(solver, &scheme.body)?;
-    }
-    if !is_body_over(&scheme.body, scheme.variables.len(), solver.unknowns()) {
-        return Err(Halt::Memory);
-    }
+pub fn ask_instance(solver: &mut Solver, scheme: &Scheme) -> Result<Rc<MlType>, Halt>
+    ensures { IfOk result (λ t. Instantiates solver.old (scheme_of scheme.now) (type_of t.value) solver.new) }
+{
+    know_body(solver, scheme)?;
     solver.instance(scheme)
 }
 

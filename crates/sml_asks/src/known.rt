@@ -1,6 +1,6 @@
 //! Types and schemes that speak of a solver's unknowns alone.
 
-ghost use Rattle.std.specs.Prelude.{◌≡◌, ◌<◌, true, map};
+ghost use Rattle.std.specs.Prelude.{◌≡◌, ◌↔◌, ◌<◌, true, map};
 ghost use Rattle.std.specs.List.{AllByRecursion};
 ghost use Rattle.sml_objects.specs.Objects.{types_of};
 ghost use Rattle.sml_objects.specs.Views.{type_of};
@@ -14,7 +14,7 @@ use std::rc::Rc;
 
 /// Whether a type has no bound variable, and each free one is among so many unknowns.
 pub(crate) fn is_over(ty: &MlType, count: usize) -> bool
-    ensures { result ≡ true → IsOver count (type_of ty.now) }
+    ensures { result ≡ true ↔ IsOver count (type_of ty.now) }
 {
     is_body_over(ty, 0, count)
 }
@@ -22,7 +22,7 @@ pub(crate) fn is_over(ty: &MlType, count: usize) -> bool
 /// Whether the bound variables of a type are among so many, and each free one is among so many unknowns.
 #[cycle(body)]
 pub(crate) fn is_body_over(ty: &MlType, variables: usize, count: usize) -> bool
-    ensures { result ≡ true → IsBodyOver variables count (type_of ty.now) }
+    ensures { result ≡ true ↔ IsBodyOver variables count (type_of ty.now) }
 {
     match ty {
         MlType::Bound(variable) => (*variable as usize) < variables,
@@ -36,7 +36,7 @@ pub(crate) fn is_body_over(ty: &MlType, variables: usize, count: usize) -> bool
 
 #[cycle(body)]
 fn are_bodies_over(parts: &[Rc<MlType>], variables: usize, count: usize) -> bool
-    ensures { result ≡ true → AreBodiesOver variables count (types_of (map (λ t. type_of t.value) parts.now)) }
+    ensures { result ≡ true ↔ AreBodiesOver variables count (types_of (map (λ t. type_of t.value) parts.now)) }
 {
     for part in parts {
         if !is_body_over(part, variables, count) {
@@ -48,7 +48,7 @@ fn are_bodies_over(parts: &[Rc<MlType>], variables: usize, count: usize) -> bool
 
 /// Whether the types of fields are over so many unknowns.
 pub(crate) fn fields_are_over(fields: &[(Ident, Rc<MlType>)], count: usize) -> bool
-    ensures { result ≡ true → AllByRecursion (λ f. IsOver count f.1) (demanded fields.now) }
+    ensures { result ≡ true ↔ AllByRecursion (λ f. IsOver count f.1) (demanded fields.now) }
 {
     for field in fields {
         if !is_over(&field.1, count) {
@@ -60,7 +60,7 @@ pub(crate) fn fields_are_over(fields: &[(Ident, Rc<MlType>)], count: usize) -> b
 
 /// Whether each number is that of one of so many unknowns.
 pub(crate) fn are_unknowns(numbers: &[u32], count: usize) -> bool
-    ensures { result ≡ true → AllByRecursion (λ v. v < count) numbers.now }
+    ensures { result ≡ true ↔ AllByRecursion (λ v. v < count) numbers.now }
 {
     for number in numbers {
         if *number as usize >= count {

@@ -3,3 +3,4 @@
 
 pub mod asks;
 mod known;
+pub mod laws;

@@ -1,0 +1,5 @@
+use Rattle.sml_asks.proofs.Making.{solvers-start-anew}
+use Rattle.sml_asks.proofs.laws.solvers_start_anew.Goals as goal
+
+pub returns : goal.returns
+returns c = solvers-start-anew

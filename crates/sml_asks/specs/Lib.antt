@@ -1,0 +1,2 @@
+pub mod Solvers
+pub mod Steps

@@ -2,3 +2,6 @@ mod Overs
 pub mod Rebinding
 pub mod Stepping
 pub mod Making
+pub mod Moving
+pub mod Leaving
+pub mod Closing

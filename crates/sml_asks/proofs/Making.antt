@@ -4,6 +4,7 @@ use Rattle.std.specs.Prelude.{IfOk}
 use Rattle.std.specs.List.{AllByRecursion}
 use Rattle.std.specs.declared.rc.Rc.{Rc}
 use Rattle.sml_tree.specs.Trees.{Id}
+use Rattle.sml_lex.specs.Faults.{Fault}
 use Rattle.sml_lex.specs.declared.fault.Place.{Place}
 use Rattle.sml_objects.specs.Appearance.{Stands}
 use Rattle.sml_objects.specs.Initial as N
@@ -31,8 +32,9 @@ use Rattle.sml_graph.proofs.Saying.{says-its-demands}
 use Rattle.sml_rules.specs.Answers.{Answer, refused, fault}
 use Rattle.sml_solve.specs.Calls.{Returns}
 use Rattle.sml_core_rules.specs.Scopes.{run_scope}
-use Rattle.sml_core_rules.specs.Scripts.{Script, requires, IsAnswer}
+use Rattle.sml_core_rules.specs.Scripts.{Script, requires, requires_or, IsAnswer}
 use Rattle.sml_core_rules.specs.States.{State, with_demand}
+use Rattle.sml_core_rules.proofs.Lower.{can-lower}
 use Rattle.sml_asks.specs.Solvers.{AreNames, IsBound, IsReboundAsk, IsRebound, IsTypeIn, IsDemandIn, AreDemands}
 use Rattle.sml_asks.specs.Steps.{Answers, AnswersAreOfScripts, Makes, Instantiates, UnknownsAreSteps, IsNew, NamesAreSteps, SolversStartAnew}
 use Rattle.sml_asks.proofs.Overs.{over-more}
@@ -43,7 +45,16 @@ module _ {X : Type 0} (unit next : ℕ) (s : State Place Name) (e : Demand Name 
   pub answer-ok : Answers unit next s e new (Ok tt) → (o : Answer Place (X × State Place Name)) → IsAnswer (run_scope unit) k (with_demand e s) o
       → IsAnswer (run_scope unit) (requires e p k) s o
   unfolding IsAnswer
-  answer-ok is o a = inl (is.met Rigidity, a)
+  answer-ok is o a = inl (is.met, a)
+
+  pub answer-or : Answers unit next s e new (Ok tt) → (f : Fault Place) (o : Answer Place (X × State Place Name)) → IsAnswer (run_scope unit) k (with_demand e s) o
+      → IsAnswer (run_scope unit) (requires_or e f k) s o
+  unfolding IsAnswer
+  answer-or is f o a = inl (is.met, a)
+
+  pub answer-or-unmet : (l : Layer) → Answers unit next s e new (Err (R.Unmet l)) → (f : Fault Place) → IsAnswer (run_scope unit) (requires_or e f k) s (refused f)
+  unfolding IsAnswer
+  answer-or-unmet l u f = inr ((λ m. u.0 (can-lower by_list l (e ∷ s.demands) m)), refl)
 
   pub answer-unmet : (l : Layer) → Answers unit next s e new (Err (R.Unmet l)) → IsAnswer (run_scope unit) (requires e p k) s (refused (fault (code_of l) p))
   unfolding IsAnswer
@@ -52,8 +63,10 @@ module _ {X : Type 0} (unit next : ℕ) (s : State Place Name) (e : Demand Name 
 pub answers-are-of-scripts : AnswersAreOfScripts
 unfolding IsAnswer
 answers-are-of-scripts = record {
-  ok = λ unit next s e p new is. inl (is.met Rigidity, refl);
+  ok = λ unit next s e p new is. inl (is.met, refl);
   unmet = λ unit next s e p new l f. inr (l, f, refl);
+  or_ok = λ unit next s e f new is. inl (is.met, refl);
+  or_unmet = λ unit next s e f new l u. inr ((λ m. u.0 (can-lower by_list l (e ∷ s.demands) m)), refl);
 }
 
 -- more unknowns, and more names
@@ -194,7 +207,7 @@ solvers-start-anew unit next solver s c u p n m k e q = record {
   demands = [];
   says = says-its-demands.at_first solver n m;
   same = subst (AreDemands unit next s.made s.names []) (sym q) tt;
-  met = λ l. subst (CanBeMet by_list l) (sym q) ((m l).0, tt);
+  met = subst (CanBeMet by_list Rigidity) (sym q) ((m Rigidity).0, tt);
 }
 
 pub instance-asked : (old mid new : Asked) (σ : Scheme Name) (made : Result (Unit {0}) Halt) (result : Result (Rc P.MlType Global) Halt)

@@ -1,23 +1,31 @@
 -- The demands of a solver can be met just where those of its state can: a bound as a number allows of the names made so far those
 -- that stand in its list.
-use Rattle.std.proofs.Common.{◌≡◌, ◌↔◌, ◌⊎◌, ◌<◌, ℕ, zero, suc, Bool, true, false, ◌||◌, List, [], ◌∷◌, map, inl, inr, sym, subst, refl, arith}
+use Rattle.std.proofs.Common.{◌≡◌, ◌↔◌, ◌⊎◌, ◌<◌, ◌≤◌, ℕ, zero, suc, Bool, true, false, ◌||◌, List, [], ◌∷◌, map, inl, inr, sym, ap, ◌∙◌, subst, refl, arith}
 use Rattle.std.specs.List.{AllByRecursion}
 use Rattle.sml_tree.specs.Trees.{Id}
 use Rattle.sml_objects.specs.Appearance.{Stands, stands}
 use Rattle.sml_objects.specs.Initial as N
 use Rattle.sml_objects.specs.Initial.{Name, initial, naming}
-use Rattle.sml_objects.specs.Objects.{MlType}
+use Rattle.sml_objects.specs.Objects.{MlType, named}
+use Rattle.sml_objects.specs.Names.{Initial}
+use Rattle.sml_objects.specs.Types.{assign}
 use Rattle.sml_objects.proofs.Standing.{found, was_found}
+use Rattle.sml_layers.specs.declared.layer.Bound.TheVariants as K
 use Rattle.sml_layers.specs.declared.layer.Layer.{Layer}
+use Rattle.sml_layers.specs.declared.layer.Layer.TheVariants.{Finiteness}
 use Rattle.sml_layers.specs.declared.variable.Variable.{Variable}
-use Rattle.sml_layers.specs.Demands.{Ask, within, equality, of_class, variable, Demand, equal, has_fields, asks, CanBeMet, IsFirstUnmet, Mentions}
+use Rattle.sml_layers.specs.Demands as D
+use Rattle.sml_layers.specs.Demands.{Ask, within, equality, of_class, variable, Demand, equal, has_fields, asks, AllHold, CanBeMet, IsFirstUnmet, Mentions, layer_of}
 use Rattle.sml_layers.specs.Explicit.{variable_name}
-use Rattle.sml_layers.specs.Rebound.{rebound, DemandMentions}
+use Rattle.sml_layers.specs.Layers.{index_of}
+use Rattle.sml_layers.specs.Rows.{HasFields, fields_at}
+use Rattle.sml_layers.specs.Worlds.{World, Assignment, finite, infinite, world}
 use Rattle.sml_graph.specs.Asked as R
 use Rattle.sml_graph.specs.Bounds.{IsNameWithin}
 use Rattle.sml_graph.specs.Said.{demand_of, by_number, by_list}
-use Rattle.sml_graph.proofs.Rebounds.{Kept, AllowsSame, met-alike, mentions-more}
+use Rattle.sml_graph.proofs.Rebounds.{mentions-more}
 use Rattle.sml_asks.specs.Solvers.{AreNames, IsBound, IsReboundAsk, IsRebound, IsTypeIn, IsDemandIn, AreDemands}
+use Rattle.sml_asks.proofs.Moving.{Kept, moved, moved-assigned, moved-mentions, moved-named, moved-fields, moved-admits, fields-assigned}
 
 -- the names that are kept: those made so far, and those of explicit variables
 
@@ -44,132 +52,168 @@ was-variable (N.made zero k zero q) h = (record { number = k; equality = q }, re
 was-variable (N.made zero k (suc a) q) h = cc
 was-variable (N.made (suc u) k a q) h = cc
 
-module _ (unit next : ℕ) (names : List Name) (known : AreNames unit next names) where
-  kept : Name → Bool
+module _ (unit next : ℕ) (names : List Name) (known : AreNames unit next names) (counted : 0 < unit) where
+  pub kept : Name → Bool
   kept n = stands naming n names || is_variable n
 
-  named-kept : (n : Name) → Stands n names → kept n ≡ true
+  abbrev IsKept : Name → Type 0
+  IsKept n = Stands n names ⊎ ((x : Variable) × (n ≡ variable_name x))
+
+  pub named-kept : (n : Name) → Stands n names → kept n ≡ true
   unfolding kept
   named-kept n s = or-left (stands naming n names) (is_variable n) (found naming n names s)
 
-  variable-kept : (x : Variable) → kept (variable_name x) ≡ true
+  pub variable-kept : (x : Variable) → kept (variable_name x) ≡ true
   unfolding kept is_variable
   variable-kept x = or-right (stands naming (variable_name x) names) (is_variable (variable_name x)) refl
 
-  was-kept : (n : Name) → kept n ≡ true → Stands n names ⊎ ((x : Variable) × (n ≡ variable_name x))
+  pub initial-kept : (k : Initial) → kept (initial k) ≡ true
+  initial-kept k = named-kept (initial k) (known.initials k)
+
+  was-kept : (n : Name) → kept n ≡ true → IsKept n
   unfolding kept
   was-kept n h = go (or-cases (stands naming n names) (is_variable n) h)
     where
-      go : (stands naming n names ≡ true) ⊎ (is_variable n ≡ true) → Stands n names ⊎ ((x : Variable) × (n ≡ variable_name x))
+      go : (stands naming n names ≡ true) ⊎ (is_variable n ≡ true) → IsKept n
       go (inl s) = inl (was_found naming n names s)
       go (inr v) = inr (was-variable n v)
 
-  -- a bound both ways
-  record Both : Type 0 where
-    number : ℕ
-    list : List Name
-    same : IsBound unit next names number list
+  abbrev pub moves : MlType Name → MlType Name
+  moves t = moved kept t
 
-  abbrev V : Both → Name → Type 0
-  V b n = IsNameWithin unit b.number n
+  pub mentions-kept : (t : MlType Name) → Mentions (λ n. Stands n names) t → Mentions (Kept kept) t
+  mentions-kept t m = mentions-more kept (λ n. Stands n names) (Kept kept) named-kept t m
+
+  -- what is asked of a type
 
   abbrev W : List Name → Name → Type 0
   W T n = Stands n T ⊎ ((x : Variable) × (n ≡ variable_name x))
 
-  list-same : 0 < unit → AllowsSame naming variable_name V W (λ b. b.list) kept
+  allowed-list : (most : ℕ) (T : List Name) → IsBound unit next names most T → (n : Name) → IsNameWithin unit most n → IsKept n → W T n
+  allowed-list most T b n w (inl h) = inl ((b.lists n).1 (h, w))
+  allowed-list most T b n w (inr v) = inr v
+
+  allowed-number : (most : ℕ) (T : List Name) → IsBound unit next names most T → (n : Name) → W T n → IsNameWithin unit most n
+  allowed-number most T b n (inl h) = ((b.lists n).0 h).1
+  allowed-number most T b n (inr v) = subst (IsNameWithin unit most) (sym v.1) (λ e. absurd (omega (arith, counted, e)))
+
+  asked-list : (a : Ask ℕ) (b : Ask (List Name)) → IsReboundAsk (IsBound unit next names) a b → (t : MlType Name)
+      → D.IsAsAsked (by_number unit) a t → D.IsAsAsked by_list b (moves t)
   unfolding naming
-  list-same c = record {
-    initials = λ k. named-kept (initial k) (known.initials k);
-    variables = variable-kept;
-    forth = λ b n w k. forth b n w (was-kept n k);
-    back = back;
-  }
+  asked-list (within k most) b h t q =
+      subst (λ b. D.IsAsAsked by_list b (moves t)) (sym h.2)
+      (mentions-more kept (λ n. IsNameWithin unit most n × Kept kept n) (W h.0) (λ n x. allowed-list most h.0 h.1 n x.0 (was-kept n x.1)) (moves t)
+      (moved-mentions kept (IsNameWithin unit most) (λ k. tt) initial-kept t q))
+  asked-list equality b h t q = subst (λ b. D.IsAsAsked by_list b (moves t)) (sym h) (moved-admits kept initial-kept t ∙ q)
+  asked-list (of_class c) b h t q = subst (λ b. D.IsAsAsked by_list b (moves t)) (sym h) (q.0, q.1, ap moves q.2 ∙ initial-named q.0)
     where
-      forth : (b : Both) (n : Name) → IsNameWithin unit b.number n → Stands n names ⊎ ((x : Variable) × (n ≡ variable_name x)) → W b.list n
-      forth b n w (inl h) = inl ((b.same.lists n).1 (h, w))
-      forth b n w (inr v) = inr v
+      initial-named : (k : Initial) → moves (named (naming.initial k)) ≡ named (naming.initial k)
+      initial-named k = moved-named kept (initial k) (initial-kept k)
+  asked-list (variable x) b h t q = subst (λ b. D.IsAsAsked by_list b (moves t)) (sym h) (ap moves q ∙ moved-named kept (variable_name x) (variable-kept x))
 
-      back : (b : Both) (n : Name) → W b.list n → IsNameWithin unit b.number n
-      back b n (inl h) = ((b.same.lists n).0 h).1
-      back b n (inr v) = subst (IsNameWithin unit b.number) (sym v.1) (λ e. absurd (omega (arith, c, e)))
+  asked-number : (a : Ask ℕ) (b : Ask (List Name)) → IsReboundAsk (IsBound unit next names) a b → (t : MlType Name)
+      → D.IsAsAsked by_list b t → D.IsAsAsked (by_number unit) a t
+  asked-number (within k most) b h t q =
+      let m : Mentions (W h.0) t = subst (λ b. D.IsAsAsked by_list b t) h.2 q in
+      mentions-more kept (W h.0) (IsNameWithin unit most) (allowed-number most h.0 h.1) t m
+  asked-number equality b h t q = subst (λ b. D.IsAsAsked by_list b t) h q
+  asked-number (of_class c) b h t q = subst (λ b. D.IsAsAsked by_list b t) h q
+  asked-number (variable x) b h t q = subst (λ b. D.IsAsAsked by_list b t) h q
 
-  number-same : AllowsSame naming variable_name V (IsNameWithin unit) (λ b. b.number) (λ n. true)
-  number-same = record { initials = λ k. refl; variables = λ x. refl; forth = λ b n w k. w; back = λ b n w. w }
+  same-layer : (a : Ask ℕ) (b : Ask (List Name)) → IsReboundAsk (IsBound unit next names) a b → layer_of b ≡ layer_of a
+  same-layer (within K.Newness most) b h = ap layer_of h.2
+  same-layer (within K.Locality most) b h = ap layer_of h.2
+  same-layer equality b h = ap layer_of h
+  same-layer (of_class c) b h = ap layer_of h
+  same-layer (variable x) b h = ap layer_of h
 
-  -- a demand with its bounds both ways
-  record Joined (d : Demand Name ℕ) (e : Demand Name (List Name)) : Type 0 where
-    both : Demand Name Both
-    number : rebound (λ b. b.number) both ≡ d
-    list : rebound (λ b. b.list) both ≡ e
-    named : DemandMentions (λ n. Stands n names) both
+  -- the layer of finite types asks for nothing more
+  late : (a : Ask (List Name)) → index_of (layer_of a) ≤ index_of Finiteness → ⊥
+  late (within K.Newness T) h = omega (arith, h)
+  late (within K.Locality T) h = omega (arith, h)
+  late equality h = omega (arith, h)
+  late (of_class c) h = omega (arith, h)
+  late (variable x) h = omega (arith, h)
 
-  joined-asks : (made : ℕ) (a : Ask ℕ) (t : MlType Name) (e : Demand Name (List Name)) (b : Ask (List Name))
-      → IsReboundAsk (IsBound unit next names) a b → e ≡ asks b t → Mentions (λ n. Stands n names) t → Joined (asks a t) e
-  joined-asks made (within k n) t e b h q m = record {
-    both = asks (within k (record { number = n; list = h.0; same = h.1 })) t;
-    number = refl;
-    list = sym (subst (λ x. e ≡ asks x t) h.2 q);
-    named = m;
-  }
-  joined-asks made equality t e b h q m = record { both = asks equality t; number = refl; list = sym (subst (λ x. e ≡ asks x t) h q); named = m }
-  joined-asks made (of_class c) t e b h q m = record { both = asks (of_class c) t; number = refl; list = sym (subst (λ x. e ≡ asks x t) h q); named = m }
-  joined-asks made (variable x) t e b h q m = record { both = asks (variable x) t; number = refl; list = sym (subst (λ y. e ≡ asks y t) h q); named = m }
+  -- demands
 
-  fields-named : (made : ℕ) (fs : List (Id × MlType Name)) → AllByRecursion (λ f. IsTypeIn made names f.1) fs → AllByRecursion (λ f. Mentions (λ n. Stands n names) f.1) fs
-  fields-named made [] h = tt
-  fields-named made (f ∷ fs) h = (h.0.1, fields-named made fs h.1)
+  fields-kept : (m : ℕ) (fs : List (Id × MlType Name)) → AllByRecursion (λ f. IsTypeIn m names f.1) fs → AllByRecursion (λ f. Mentions (Kept kept) f.1) fs
+  fields-kept m [] h = tt
+  fields-kept m (f ∷ fs) h = (mentions-kept f.1 h.0.1, fields-kept m fs h.1)
 
-  joined : (made : ℕ) (d : Demand Name ℕ) (e : Demand Name (List Name)) → IsDemandIn made names d → IsRebound (IsBound unit next names) d e → Joined d e
-  joined made (equal t u) e k s = record { both = equal t u; number = refl; list = sym s; named = (k.0.1, k.1.1) }
-  joined made (has_fields t fs) e k s = record { both = has_fields t fs; number = refl; list = sym s; named = (k.0.1, fields-named made fs k.1) }
-  joined made (asks a t) e k s = joined-asks made a t e s.0 s.1 s.2 k.1
+  holds-list : (m : ℕ) (l : Layer) (σ : Assignment Name finite) (d : Demand Name ℕ) (e : Demand Name (List Name)) → IsDemandIn m names d
+      → IsRebound (IsBound unit next names) d e → D.Holds (by_number unit) finite l σ d → D.Holds by_list finite l (λ v. moves (σ v)) e
+  holds-list m l σ (equal t u) e k s h =
+      subst (D.Holds by_list finite l (λ v. moves (σ v))) (sym s)
+      (sym (moved-assigned kept σ t (mentions-kept t k.0.1)) ∙ (ap moves h ∙ moved-assigned kept σ u (mentions-kept u k.1.1)))
+  holds-list m l σ (has_fields t fs) e k s h =
+      subst (D.Holds by_list finite l (λ v. moves (σ v))) (sym s)
+      (subst (λ u. HasFields Name finite u (fields_at (assign (λ v. moves (σ v))) fs)) (moved-assigned kept σ t (mentions-kept t k.0.1))
+      (subst (HasFields Name finite (moves (assign σ t))) (fields-assigned kept σ fs (fields-kept m fs k.1)) (moved-fields kept (assign σ t) (fields_at (assign σ) fs) h)))
+  holds-list m l σ (asks a t) e k s h =
+      subst (D.Holds by_list finite l (λ v. moves (σ v))) (sym s.2)
+      (λ p. subst (D.IsAsAsked by_list s.0) (moved-assigned kept σ t (mentions-kept t k.1))
+      (asked-list a s.0 s.1 (assign σ t) (h (subst (λ n. index_of n ≤ index_of l) (same-layer a s.0 s.1) p))))
 
-  record AllJoined (ds : List (Demand Name ℕ)) (es : List (Demand Name (List Name))) : Type 0 where
-    both : List (Demand Name Both)
-    number : map (rebound (λ b. b.number)) both ≡ ds
-    list : map (rebound (λ b. b.list)) both ≡ es
-    named : AllByRecursion (DemandMentions (λ n. Stands n names)) both
+  holds-number : (w : World) (l : Layer) (σ : Assignment Name w) (d : Demand Name ℕ) (e : Demand Name (List Name)) → IsRebound (IsBound unit next names) d e
+      → D.Holds by_list w l σ e → D.Holds (by_number unit) w l σ d
+  holds-number w l σ (equal t u) e s h = subst (D.Holds by_list w l σ) s h
+  holds-number w l σ (has_fields t fs) e s h = subst (D.Holds by_list w l σ) s h
+  holds-number finite l σ (asks a t) e s h =
+      let k : D.HoldsUpTo by_list l σ s.0 t = subst (D.Holds by_list finite l σ) s.2 h in
+      λ p. asked-number a s.0 s.1 (assign σ t) (k (subst (λ n. index_of n ≤ index_of l) (sym (same-layer a s.0 s.1)) p))
+  holds-number infinite l σ (asks a t) e s h = tt
 
-  all-joined : (made : ℕ) (ds : List R.Demand) (es : List (Demand Name (List Name))) → AreDemands unit next made names ds es → AllJoined (map demand_of ds) es
-  all-joined made [] [] h = record { both = []; number = refl; list = refl; named = tt }
-  all-joined made (d ∷ ds) (e ∷ es) h = more (joined made (demand_of d) e h.0.known h.0.same) (all-joined made ds es h.1)
-    where
-      more : Joined (demand_of d) e → AllJoined (map demand_of ds) es → AllJoined (map demand_of (d ∷ ds)) (e ∷ es)
-      more j js = record { both = j.both ∷ js.both; number = cc (j.number, js.number); list = cc (j.list, js.list); named = (j.named, js.named) }
-  all-joined made [] (e ∷ es) h = absurd h
-  all-joined made (d ∷ ds) [] h = absurd h
+  holds-infinite : (l : Layer) (σ : Assignment Name infinite) (d : Demand Name ℕ) (e : Demand Name (List Name)) → IsRebound (IsBound unit next names) d e
+      → D.Holds (by_number unit) infinite l σ d → D.Holds by_list infinite l σ e
+  holds-infinite l σ (equal t u) e s h = subst (D.Holds by_list infinite l σ) (sym s) h
+  holds-infinite l σ (has_fields t fs) e s h = subst (D.Holds by_list infinite l σ) (sym s) h
+  holds-infinite l σ (asks a t) e s h = subst (D.Holds by_list infinite l σ) (sym s.2) tt
 
-  all-kept : (P : Name → Type 0) (keep : Name → Bool) → ((n : Name) → P n → keep n ≡ true) → (d : Demand Name Both) → DemandMentions P d → DemandMentions (Kept keep) d
-  all-kept P keep f (equal t u) m = (mentions-more keep P (Kept keep) f t m.0, mentions-more keep P (Kept keep) f u m.1)
-  all-kept P keep f (has_fields t fs) m = (mentions-more keep P (Kept keep) f t m.0, all fs m.1)
-    where
-      all : (fs : List (Id × MlType Name)) → AllByRecursion (λ f. Mentions P f.1) fs → AllByRecursion (λ f. Mentions (Kept keep) f.1) fs
-      all [] m = tt
-      all (g ∷ fs) m = (mentions-more keep P (Kept keep) f g.1 m.0, all fs m.1)
-  all-kept P keep f (asks a t) m = mentions-more keep P (Kept keep) f t m
+  holds-finite : (σ : Assignment Name finite) (d : Demand Name ℕ) (e : Demand Name (List Name)) → IsRebound (IsBound unit next names) d e
+      → D.Holds (by_number unit) finite Finiteness σ d → D.Holds by_list finite Finiteness σ e
+  holds-finite σ (equal t u) e s h = subst (D.Holds by_list finite Finiteness σ) (sym s) h
+  holds-finite σ (has_fields t fs) e s h = subst (D.Holds by_list finite Finiteness σ) (sym s) h
+  holds-finite σ (asks a t) e s h = subst (D.Holds by_list finite Finiteness σ) (sym s.2) (λ p. absurd (late s.0 p))
 
-  demands-kept : (P : Name → Type 0) (keep : Name → Bool) → ((n : Name) → P n → keep n ≡ true) → (ds : List (Demand Name Both))
-      → AllByRecursion (DemandMentions P) ds → AllByRecursion (DemandMentions (Kept keep)) ds
-  demands-kept P keep f [] m = tt
-  demands-kept P keep f (d ∷ ds) m = (all-kept P keep f d m.0, demands-kept P keep f ds m.1)
+  module _ (m : ℕ) where
+    -- The types by number, moved, meet the demands by list, and types by list those by number. Where nothing is asked of names,
+    -- they are the same.
+    pub to-list : (ds : List R.Demand) (es : List (Demand Name (List Name))) → AreDemands unit next m names ds es → (l : Layer) (σ : Assignment Name finite)
+        → AllHold (by_number unit) finite l σ (map demand_of ds) → AllHold by_list finite l (λ v. moves (σ v)) es
+    to-list [] [] s l σ h = tt
+    to-list (d ∷ ds) (e ∷ es) s l σ h = (holds-list m l σ (demand_of d) e s.0.known s.0.same h.0, to-list ds es s.1 l σ h.1)
+    to-list [] (e ∷ es) s l σ h = absurd s
+    to-list (d ∷ ds) [] s l σ h = absurd s
 
-  pub met-both : 0 < unit → (made : ℕ) (ds : List R.Demand) (es : List (Demand Name (List Name))) → AreDemands unit next made names ds es
-      → (l : Layer) → CanBeMet (by_number unit) l (map demand_of ds) ↔ CanBeMet by_list l es
-  met-both c made ds es h l = go (all-joined made ds es h)
-    where
-      go : AllJoined (map demand_of ds) es → CanBeMet (by_number unit) l (map demand_of ds) ↔ CanBeMet by_list l es
-      go j =
-          let stands = λ (n : Name). Stands n names in
-          let a = met-alike naming variable_name V W (λ b. b.list) kept (list-same c) j.both (demands-kept stands kept named-kept j.both j.named) l in
-          let b = met-alike naming variable_name V (IsNameWithin unit) (λ b. b.number) (λ n. true) number-same j.both
-          (demands-kept stands (λ n. true) (λ n h. refl) j.both j.named) l in (
-            λ m. subst (CanBeMet by_list l) j.list (a.0 (b.1 (subst (CanBeMet (by_number unit) l) (sym j.number) m))),
-            λ m. subst (CanBeMet (by_number unit) l) j.number (b.0 (a.1 (subst (CanBeMet by_list l) (sym j.list) m))),
-          )
+    pub to-number : (w : World) (ds : List R.Demand) (es : List (Demand Name (List Name))) → AreDemands unit next m names ds es → (l : Layer) (σ : Assignment Name w)
+        → AllHold by_list w l σ es → AllHold (by_number unit) w l σ (map demand_of ds)
+    to-number w [] [] s l σ h = tt
+    to-number w (d ∷ ds) (e ∷ es) s l σ h = (holds-number w l σ (demand_of d) e s.0.same h.0, to-number w ds es s.1 l σ h.1)
+    to-number w [] (e ∷ es) s l σ h = absurd s
+    to-number w (d ∷ ds) [] s l σ h = absurd s
 
-  pub first-both : 0 < unit → (made : ℕ) (ds : List R.Demand) (es : List (Demand Name (List Name))) → AreDemands unit next made names ds es
-      → (l : Layer) → IsFirstUnmet (by_number unit) l (map demand_of ds) → IsFirstUnmet by_list l es
-  first-both c made ds es h l f = (
-    λ m. f.0 ((met-both c made ds es h l).1 m),
-    λ k p. (met-both c made ds es h k).0 (f.1 k p),
-  )
+    to-infinite : (ds : List R.Demand) (es : List (Demand Name (List Name))) → AreDemands unit next m names ds es → (l : Layer) (σ : Assignment Name infinite)
+        → AllHold (by_number unit) infinite l σ (map demand_of ds) → AllHold by_list infinite l σ es
+    to-infinite [] [] s l σ h = tt
+    to-infinite (d ∷ ds) (e ∷ es) s l σ h = (holds-infinite l σ (demand_of d) e s.0.same h.0, to-infinite ds es s.1 l σ h.1)
+    to-infinite [] (e ∷ es) s l σ h = absurd s
+    to-infinite (d ∷ ds) [] s l σ h = absurd s
+
+    pub to-finite : (ds : List R.Demand) (es : List (Demand Name (List Name))) → AreDemands unit next m names ds es → (σ : Assignment Name finite)
+        → AllHold (by_number unit) finite Finiteness σ (map demand_of ds) → AllHold by_list finite Finiteness σ es
+    to-finite [] [] s σ h = tt
+    to-finite (d ∷ ds) (e ∷ es) s σ h = (holds-finite σ (demand_of d) e s.0.same h.0, to-finite ds es s.1 σ h.1)
+    to-finite [] (e ∷ es) s σ h = absurd s
+    to-finite (d ∷ ds) [] s σ h = absurd s
+
+    module _ (ds : List R.Demand) (es : List (Demand Name (List Name))) (s : AreDemands unit next m names ds es) where
+      met-list : (w : World) (l : Layer) (σ : Assignment Name w) → AllHold (by_number unit) w l σ (map demand_of ds) → (τ : Assignment Name w) × AllHold by_list w l τ es
+      met-list finite l σ h = ((λ v. moves (σ v)), to-list ds es s l σ h)
+      met-list infinite l σ h = (σ, to-infinite ds es s l σ h)
+
+      pub met-both : (l : Layer) → CanBeMet (by_number unit) l (map demand_of ds) ↔ CanBeMet by_list l es
+      met-both l = (λ x. met-list (world l) l x.0 x.1, λ x. (x.0, to-number (world l) ds es s l x.0 x.1))
+
+      pub first-both : (l : Layer) → IsFirstUnmet (by_number unit) l (map demand_of ds) → IsFirstUnmet by_list l es
+      first-both l f = (λ x. f.0 ((met-both l).1 x), λ k p. (met-both k).0 (f.1 k p))

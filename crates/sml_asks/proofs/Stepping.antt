@@ -6,6 +6,7 @@ use Rattle.sml_tree.specs.Trees.{Id}
 use Rattle.sml_objects.specs.Initial.{Name}
 use Rattle.sml_objects.specs.Objects.{MlType}
 use Rattle.sml_layers.specs.declared.layer.Layer.{Layer}
+use Rattle.sml_layers.specs.declared.layer.Layer.TheVariants.{Rigidity}
 use Rattle.sml_layers.specs.Demands.{Demand, CanBeMet, IsFirstUnmet}
 use Rattle.sml_graph.specs.declared.demand.Halt.{Halt}
 use Rattle.sml_graph.specs.declared.demand.Refusal.{Refusal}
@@ -45,8 +46,8 @@ module _ (unit next : ℕ) (old new : Asked) (s : State Place Name) (d : A.Deman
         demands = d ∷ is.demands;
         says = says;
         same = both;
-        met = λ l. (met-both unit next s.names is.known is.counted s.made (d ∷ is.demands) (e ∷ s.demands) both l).0
-            (subst (λ u. CanBeMet (by_number u) l (map demand_of (d ∷ is.demands))) (c.returns.unit ∙ is.maker) (met-said old new d is.demands c.ok says l (c.met l)));
+        met = (met-both unit next s.names is.known is.counted s.made (d ∷ is.demands) (e ∷ s.demands) both Rigidity).0
+            (subst (λ u. CanBeMet (by_number u) Rigidity (map demand_of (d ∷ is.demands))) (c.returns.unit ∙ is.maker) (met-said old new d is.demands c.ok says Rigidity (c.met Rigidity)));
       }
   answers (Err (R.Unmet l)) c =
       first-both unit next s.names is.known is.counted s.made (d ∷ is.demands) (e ∷ s.demands) both l

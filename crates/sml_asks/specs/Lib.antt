@@ -1,2 +1,3 @@
 pub mod Solvers
 pub mod Steps
+pub mod Closings

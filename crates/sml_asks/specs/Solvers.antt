@@ -6,7 +6,7 @@ use Rattle.sml_objects.specs.Appearance.{Stands}
 use Rattle.sml_objects.specs.Initial.{Name, initial}
 use Rattle.sml_objects.specs.Names.{Initial}
 use Rattle.sml_objects.specs.Objects.{MlType}
-use Rattle.sml_layers.specs.declared.layer.Layer.{Layer}
+use Rattle.sml_layers.specs.declared.layer.Layer.TheVariants.{Rigidity}
 use Rattle.sml_layers.specs.declared.variable.Variable.{Variable}
 use Rattle.sml_layers.specs.Demands.{Ask, within, equality, of_class, variable, Demand, equal, has_fields, asks, CanBeMet, Mentions}
 use Rattle.sml_layers.specs.Explicit.{variable_name}
@@ -72,7 +72,7 @@ pub record WasAsked (unit next : ℕ) (solver : Asked) (made : ℕ) (names : Lis
   pub demands : List R.Demand
   pub says : Says solver demands
   pub same : AreDemands unit next made names demands es
-  pub met : (l : Layer) → CanBeMet (words (run_scope unit)) l es
+  pub met : CanBeMet (words (run_scope unit)) Rigidity es
 
 abbrev pub SolverIs : {P : Type 0} → ℕ → ℕ → Asked → State P Name → Type 0
 SolverIs unit next solver s = WasAsked unit next solver s.made s.names s.demands

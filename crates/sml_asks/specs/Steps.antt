@@ -1,6 +1,7 @@
 -- What calls of a solver say of scripts: one call is one step of a script, in each state that is the solver's.
 use Rattle.std.specs.Prelude.{◌≡◌, ◌+◌, ◌<◌, ◌≤◌, ℕ, Bool, false, Result, Ok, Err, List, [], ◌∷◌, length}
 use Rattle.std.specs.List.{AllByRecursion}
+use Rattle.sml_lex.specs.Faults.{Fault}
 use Rattle.sml_lex.specs.declared.fault.Place.{Place}
 use Rattle.sml_objects.specs.Initial.{Name, made}
 use Rattle.sml_objects.specs.Objects.{MlType, Scheme}
@@ -15,7 +16,7 @@ use Rattle.sml_graph.specs.Asked.{Asked, count, IsMet, PermitsSame}
 use Rattle.sml_graph.specs.Interned.{IsBodyOver}
 use Rattle.sml_rules.specs.Answers.{refused, accepted, fault}
 use Rattle.sml_core_rules.specs.Scopes.{run_scope}
-use Rattle.sml_core_rules.specs.Scripts.{IsAnswer, require}
+use Rattle.sml_core_rules.specs.Scripts.{IsAnswer, give, require, requires_or}
 use Rattle.sml_core_rules.specs.States.{State, words, with_demand, with_made, with_unknowns}
 use Rattle.sml_asks.specs.Solvers.{AreNames, SolverIs, IsDemand}
 
@@ -46,12 +47,16 @@ Instantiates old σ t new =
 
 -- laws of steps
 
--- What was answered to a demand is what its script may be answered.
+-- What was answered to a demand is what its script may be answered, with the code of the layer or with a fault of its own.
 pub record AnswersAreOfScripts : Type 0 where
   pub ok : (unit next : ℕ) (s : State Place Name) (e : Demand Name (List Name)) (p : Place) (new : Asked)
       → Answers unit next s e new (Ok tt) → IsAnswer (run_scope unit) (require e p) s (accepted (tt, with_demand e s))
   pub unmet : (unit next : ℕ) (s : State Place Name) (e : Demand Name (List Name)) (p : Place) (new : Asked) (l : Layer)
       → Answers unit next s e new (Err (R.Unmet l)) → IsAnswer (run_scope unit) (require e p) s (refused (fault (code_of l) p))
+  pub or_ok : (unit next : ℕ) (s : State Place Name) (e : Demand Name (List Name)) (f : Fault Place) (new : Asked)
+      → Answers unit next s e new (Ok tt) → IsAnswer (run_scope unit) (requires_or e f (give (tt {0}))) s (accepted (tt, with_demand e s))
+  pub or_unmet : (unit next : ℕ) (s : State Place Name) (e : Demand Name (List Name)) (f : Fault Place) (new : Asked) (l : Layer)
+      → Answers unit next s e new (Err (R.Unmet l)) → IsAnswer (run_scope unit) (requires_or e f (give (tt {0}))) s (refused f)
 
 -- New unknowns of which nothing is asked are a step.
 abbrev pub UnknownsAreSteps : Type 0

@@ -7,6 +7,7 @@ ghost use Rattle.sml_objects.specs.Views.{scheme_of, type_of};
 ghost use Rattle.sml_graph.specs.declared.demand.Ask.{Ask};
 ghost use Rattle.sml_graph.specs.Asked.{IsOf, IsSchemeOf, count, equal, has_fields, asks};
 ghost use Rattle.sml_graph.specs.Interned.{demanded};
+ghost use Rattle.sml_asks.specs.Closings.{AsksLabels};
 ghost use Rattle.sml_asks.specs.Steps.{Asks, Instantiates};
 
 use crate::known::{
@@ -142,7 +143,9 @@ pub fn ask_variable(solver: &mut Solver, ty: &MlType, variable: Variable) -> Res
 }
 
 /// Demands that a type is a row with one set of labels.
-pub fn ask_labels(solver: &mut Solver, ty: &MlType) -> Result<(), Refusal> {
+pub fn ask_labels(solver: &mut Solver, ty: &MlType) -> Result<(), Refusal>
+    ensures { AsksLabels solver.old (type_of ty.now) solver.new result }
+{
     know(solver, ty)?;
     solver.require_labels(ty)
 }

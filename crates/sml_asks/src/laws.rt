@@ -22,3 +22,7 @@ pub fn names_are_steps()
 pub fn solvers_start_anew()
     ensures { SolversStartAnew }
 {}
+
+pub fn tmp()
+    ensures { Unit {0} }
+{}

@@ -1,0 +1,6 @@
+use Rattle.sml_asks.proofs.Leaving.{labels-back, overloaded-same, equality-same, int-same, fixed-same, reading-same}
+use Rattle.sml_asks.proofs.Closing.{labels-after}
+use Rattle.sml_asks.proofs.laws.tmp.Goals as goal
+
+pub returns : goal.returns
+returns c = tt

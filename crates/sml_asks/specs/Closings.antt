@@ -1,0 +1,85 @@
+-- What calls of a solver say of the end of a value declaration, in each state that is the solver's.
+use Rattle.std.specs.Prelude.{◌≡◌, ◌↔◌, ◌⊎◌, ◌+◌, ◌^◌, ◌<◌, ◌≤◌, ℕ, Bool, false, Option, Some, None, Result, Ok, Err, List, [], ◌∷◌, length, map}
+use Rattle.std.specs.List.{AllByRecursion}
+use Rattle.sml_lex.specs.declared.fault.Place.{Place}
+use Rattle.sml_objects.specs.Initial.{Name}
+use Rattle.sml_objects.specs.Objects.{MlType, Scheme, free}
+use Rattle.sml_objects.specs.Sizes.{type_size}
+use Rattle.sml_layers.specs.declared.layer.Layer.TheVariants.{Rigidity}
+use Rattle.sml_layers.specs.Demands.{Demand}
+use Rattle.sml_graph.specs.declared.demand.Refusal.{Refusal}
+use Rattle.sml_graph.specs.declared.demand.Refusal.TheVariants as R
+use Rattle.sml_graph.specs.Asked.{Asked}
+use Rattle.sml_graph.specs.Interned.{IsOver, IsBodyOver}
+use Rattle.sml_schemes.specs.Fixed.{IsMarked}
+use Rattle.sml_rules.specs.Answers.{accepted}
+use Rattle.sml_core_rules.specs.Expressions.{settle}
+use Rattle.sml_core_rules.specs.Scopes.{run_scope}
+use Rattle.sml_core_rules.specs.Scripts.{IsAnswer}
+use Rattle.sml_core_rules.specs.Solutions.{HasOneSetOfLabels, IsFixed, IsFlexible, IsFree, IsLeft, IsScheme, StandsFor}
+use Rattle.sml_core_rules.specs.States.{State}
+use Rattle.sml_asks.specs.Solvers.{SolverIs, IsTypeIn}
+
+-- What was answered to a test, which this refusal answers where it fails. Nothing is known after want of memory.
+abbrev pub AnswersTest : ℕ → ℕ → State Place Name → Type 0 → Refusal → Asked → Result (Unit {0}) Refusal → Type 0
+AnswersTest unit next s holds failed new (Ok x) = holds × SolverIs unit next new s
+AnswersTest unit next s holds failed new (Err r) = (r ≡ R.Memory) ⊎ ((r ≡ failed) × ¬ holds)
+
+-- A call tests whether a type, which speaks of what was made, is a row with one set of labels.
+unfoldable pub AsksLabels : Asked → MlType Name → Asked → Result (Unit {0}) Refusal → Type 0
+AsksLabels old t new result =
+    (unit next : ℕ) (s : State Place Name) → SolverIs unit next old s → IsTypeIn s.made s.names t
+    → AnswersTest unit next s (HasOneSetOfLabels (run_scope unit) s Rigidity t) R.Labels new result
+
+-- A call tests whether none of some unknowns, which by the equations may be any type, is fixed by the first ones and others.
+unfoldable pub AsksGeneral : Asked → List ℕ → ℕ → List ℕ → Asked → Result (Unit {0}) Refusal → Type 0
+AsksGeneral old vs first others new result =
+    (unit next : ℕ) (s : State Place Name) → SolverIs unit next old s → first ≤ s.made → AllByRecursion (λ w. w < s.made) others
+    → AllByRecursion (λ v. v < s.made) vs → AllByRecursion (IsFree (run_scope unit) s) vs
+    → AnswersTest unit next s (AllByRecursion (λ v. ¬ (IsFixed (run_scope unit) s first (map free others) v)) vs) (R.Unmet Rigidity) new result
+
+-- A call settles some unknowns.
+unfoldable pub AsksSettled : Asked → List ℕ → Asked → Type 0
+AsksSettled old vs new =
+    (unit next : ℕ) (s : State Place Name) → SolverIs unit next old s → AllByRecursion (λ v. v < s.made) vs
+    → (ds : List (Demand Name (List Name))) × SolverIs unit next new (record s { demands = ds })
+    × ((p : Place) → IsAnswer (run_scope unit) (settle (run_scope unit) p vs) s (accepted (tt, record s { demands = ds })))
+
+-- Flags of unknowns: those with one are fixed by the first ones and others, and of those that by the equations may be any type, or
+-- are flexible rows, no others are.
+pub record AreFlags (unit : ℕ) (s : State Place Name) (first : ℕ) (others : List ℕ) (flags : List Bool) : Type 0 where
+  pub len : length flags ≡ s.made
+  pub fixes : (v : ℕ) → v < s.made → IsMarked flags v → IsFixed (run_scope unit) s first (map free others) v
+  pub all : (v : ℕ) → v < s.made → IsFree (run_scope unit) s v ⊎ IsFlexible (run_scope unit) s v → IsFixed (run_scope unit) s first (map free others) v
+      → IsMarked flags v
+
+unfoldable pub AsksFixed : Asked → ℕ → List ℕ → List Bool → Asked → Type 0
+AsksFixed old first others flags new =
+    (unit next : ℕ) (s : State Place Name) → SolverIs unit next old s → first ≤ s.made → AllByRecursion (λ w. w < s.made) others
+    → AreFlags unit s first others flags × SolverIs unit next new s
+
+-- What was found as far as a limit of sizes: it is the one that is meant, or all that are meant are larger.
+abbrev pub IsFoundUpTo : {X : Type 0} → (X → ℕ) → ℕ → (X → Type 0) → Option X → Type 0
+IsFoundUpTo size limit IsMeant (Some x) = IsMeant x × (size x ≤ limit)
+IsFoundUpTo {X} size limit IsMeant None = (x : X) → IsMeant x → limit < size x
+
+-- A call seeks the type that a type stands for.
+unfoldable pub AsksReading : Asked → MlType Name → ℕ → Option (MlType Name) → Asked → Type 0
+AsksReading old t limit found new =
+    (unit next : ℕ) (s : State Place Name) → SolverIs unit next old s → IsOver s.made t → limit + 1 < 2 ^ 32
+    → IsFoundUpTo type_size limit (StandsFor (run_scope unit) s t) found × SolverIs unit next new s
+
+-- The unknowns with a flag, of those that are left, are those which the first ones fix. Flags don't matter where nothing is bound.
+abbrev pub AreContext : ℕ → State Place Name → ℕ → Bool → List Bool → Type 0
+AreContext unit s first expansive flags =
+    expansive ≡ false → (v : ℕ) → IsLeft (run_scope unit) s v → IsMarked flags v ↔ IsFixed (run_scope unit) s first [] v
+
+abbrev pub IsSchemeOver : Option (Scheme Name) → ℕ → Type 0
+IsSchemeOver None n = Unit {0}
+IsSchemeOver (Some σ) n = IsBodyOver (length σ.variables) n σ.body
+
+-- A call seeks the scheme of a type, at the end of a declaration that begins after the first unknowns.
+unfoldable pub AsksScheme : Asked → MlType Name → List Bool → Bool → ℕ → Option (Scheme Name) → Asked → Type 0
+AsksScheme old t flags expansive limit found new =
+    (unit next first : ℕ) (s : State Place Name) → SolverIs unit next old s → IsOver s.made t → AreContext unit s first expansive flags → limit + 1 < 2 ^ 32
+    → IsFoundUpTo (λ σ. type_size σ.body) limit (IsScheme (run_scope unit) s first expansive t) found × IsSchemeOver found s.made × SolverIs unit next new s

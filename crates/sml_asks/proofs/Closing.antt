@@ -1,5 +1,6 @@
 -- Steps of the end of a value declaration.
-use Rattle.std.proofs.Common.{◌≡◌, ◌≢◌, ◌↔◌, ◌⊎◌, ◌<◌, ◌≤◌, ◌+◌, ℕ, Bool, true, false, Result, Ok, Err, OnOk, List, [], ◌∷◌, ◌++◌, length, map, inl, inr, sym, ◌∙◌, ap, subst, refl, arith}
+use Rattle.std.proofs.Common.{◌≡◌, ◌≢◌, ◌↔◌, ◌⊎◌, ◌<◌, ◌≤◌, ◌+◌, ℕ, Bool, true, false, Result, Ok, Err, OnOk, Vec, Global, List, [], ◌∷◌, ◌++◌, length, map, inl, inr, sym, ◌∙◌, ap, subst, refl, arith}
+use Rattle.std.specs.Prelude.{IfOk}
 use Rattle.std.specs.List.{AllByRecursion}
 use Rattle.sml_lex.specs.declared.fault.Place.{Place}
 use Rattle.sml_objects.specs.Appearance.{Stands}
@@ -30,8 +31,8 @@ use Rattle.sml_core_rules.specs.Scopes.{run_scope}
 use Rattle.sml_core_rules.specs.Solutions as C
 use Rattle.sml_core_rules.specs.States.{State, with_demand}
 use Rattle.sml_asks.specs.Solvers.{SolverIs, WasAsked, IsTypeIn}
-use Rattle.sml_asks.specs.Closings.{AnswersTest, AsksLabels, AsksGeneral}
-use Rattle.sml_asks.proofs.Leaving.{free-same, fixed-same, labels-ok, labels-back}
+use Rattle.sml_asks.specs.Closings.{AnswersTest, AsksLabels, AsksGeneral, AreFlags, AsksFixed}
+use Rattle.sml_asks.proofs.Leaving.{free-same, undetermined-same, fixed-same, labels-ok, labels-back}
 
 -- the solver stays that of the state where the same types are permitted
 stays : (unit next : ℕ) (old new : Asked) (s : State Place Name) → SolverIs unit next old s → PermitsSame old new → count new ≡ count old → new.unit ≡ old.unit
@@ -99,11 +100,58 @@ module _ (old new : Asked) (first : ℕ) (others : List ℕ) (unit next : ℕ) (
   one-fixed (w ∷ vs) (v, inr h, x) a = one-fixed vs (v, h, x) a.1
 
   general-answer : (vs : List ℕ) → AllByRecursion (C.IsFree (run_scope unit) s) vs → (result : Result (Unit {0}) Refusal) → OnOk result (IsGeneral old vs first others)
-      → ((l : Layer) → result ≡ Err (R.Unmet l) → (l ≡ Rigidity) × (IsFixedOne old vs first others)) → (result ≡ Err R.Labels → ⊥) → Keeps old new result R.Spent
+      → ((l : Layer) → result ≡ Err (R.Unmet l) → (l ≡ Rigidity) × (v : ℕ) × Stands v vs × F.IsFixed old first others v) → (result ≡ Err R.Labels → ⊥) → Keeps old new result R.Spent
       → AnswersTest unit next s (AllByRecursion (λ v. ¬ (C.IsFixed (run_scope unit) s first (map free others) v)) vs) (R.Unmet Rigidity) new result
   general-answer vs f (Ok x) general unmet labels c = (none-fixed vs f general, stays unit next old new s is c.same c.count c.returns.unit c.returns.kept)
   general-answer vs f (Err (R.Unmet l)) general unmet labels c =
-      let u : (l ≡ Rigidity) × IsFixedOne old vs first others = unmet l refl in inr (ap R.Unmet u.0, one-fixed vs u.1)
+      let u : (l ≡ Rigidity) × (v : ℕ) × Stands v vs × F.IsFixed old first others v = unmet l refl in inr (ap R.Unmet u.0, one-fixed vs (u.1, u.2, u.3))
   general-answer vs f (Err R.Labels) general unmet labels c = absurd (labels refl)
   general-answer vs f (Err R.Memory) general unmet labels c = inl refl
   general-answer vs f (Err R.Spent) general unmet labels c = absurd (let e : old.spent ≡ true = c.returns.spent.0 refl in let q : old.spent ≡ false = is.spent in cc)
+
+abbrev pub AreBelow : ℕ → List ℕ → Type 0
+AreBelow n vs = AllByRecursion (λ v. v < n) vs
+
+pub general-after : (old mid new : Asked) (vs : List ℕ) (first low : ℕ) (others : List ℕ) (made : Result (Unit {0}) Halt) (result : Result (Unit {0}) Refusal)
+    → (AreBelow (count old) vs × AreBelow (count old) others → (made ≡ Ok tt) × (mid ≡ old)) → (first ≤ count mid → low ≡ first)
+    → OnOk result (IsGeneral mid vs low others) → ((l : Layer) → result ≡ Err (R.Unmet l) → (l ≡ Rigidity) × (v : ℕ) × Stands v vs × F.IsFixed mid low others v)
+    → (result ≡ Err R.Labels → ⊥) → Keeps mid new result R.Spent → AsksGeneral old vs first others new result
+unfolding AsksGeneral
+general-after old mid new vs first low others made result same lower general unmet labels c unit next s is le below vs-below any =
+    let b : AreBelow (count old) vs × AreBelow (count old) others = (subst (λ n. AreBelow n vs) (sym is.unknowns) vs-below, subst (λ n. AreBelow n others) (sym is.unknowns) below) in
+    let e : mid ≡ old = (same b).1 in
+    let q : low ≡ first = lower (subst (λ n. first ≤ n) (sym (ap count e ∙ is.unknowns)) le) in
+    general-answer old new first others unit next s is vs any result
+    (subst (λ n. OnOk result (IsGeneral old vs n others)) q (subst (λ m. OnOk result (IsGeneral m vs low others)) e general))
+    (λ l h. let u : (l ≡ Rigidity) × (v : ℕ) × Stands v vs × F.IsFixed mid low others v = unmet l h in
+        (u.0, u.1, u.2, subst (λ n. F.IsFixed old n others u.1) q (subst (λ m. F.IsFixed m low others u.1) e u.3)))
+    labels (subst (λ m. Keeps m new result R.Spent) e c)
+
+pub general-never : (old new : Asked) (vs : List ℕ) (first : ℕ) (others : List ℕ) (result : Result (Unit {0}) Refusal)
+    → (AreBelow (count old) vs × AreBelow (count old) others → ⊥) → AsksGeneral old vs first others new result
+unfolding AsksGeneral
+general-never old new vs first others result never unit next s is le below vs-below any =
+    absurd (never (subst (λ n. AreBelow n vs) (sym is.unknowns) vs-below, subst (λ n. AreBelow n others) (sym is.unknowns) below))
+
+-- flags
+
+flags-same : (old : Asked) (first : ℕ) (others : List ℕ) (unit next : ℕ) (s : State Place Name) → SolverIs unit next old s → (flags : List Bool) → F.AreFixed old first others flags
+    → AreFlags unit s first others flags
+flags-same old first others unit next s is flags f = record {
+  len = f.len ∙ is.unknowns;
+  fixes = λ v k m. (fixed-same unit next old s is first others v).1 (f.fixes v (subst (λ n. v < n) (sym is.unknowns) k) m);
+  all = λ v k u x. f.all v (subst (λ n. v < n) (sym is.unknowns) k) ((undetermined-same unit next old s is v).0 u) ((fixed-same unit next old s is first others v).0 x);
+}
+
+pub fixed-after : (old mid new : Asked) (first low : ℕ) (others : List ℕ) (made : Result (Unit {0}) Halt) (result : Result (Vec Bool Global) Halt)
+    → (AreBelow (count old) others → (made ≡ Ok tt) × (mid ≡ old)) → (first ≤ count mid → low ≡ first)
+    → IfOk result (λ flags. F.AreFixed mid low others flags.items) → Keeps mid new result H.Spent → IfOk result (λ flags. AsksFixed old first others flags.items new)
+unfolding AsksFixed
+fixed-after old mid new first low others made (Err h) same lower flags c = tt
+fixed-after old mid new first low others made (Ok bs) same lower flags c = λ unit next s is le below.
+    let e : mid ≡ old = (same (subst (λ n. AreBelow n others) (sym is.unknowns) below)).1 in
+    let q : low ≡ first = lower (subst (λ n. first ≤ n) (sym (ap count e ∙ is.unknowns)) le) in
+    (
+      flags-same old first others unit next s is bs.items (subst (λ n. F.AreFixed old n others bs.items) q (subst (λ m. F.AreFixed m low others bs.items) e flags)),
+      stays unit next old new s is (subst (λ m. PermitsSame m new) e c.same) (c.count ∙ ap count e) (c.returns.unit ∙ ap (λ m. m.unit) e) c.returns.kept,
+    )

@@ -80,8 +80,8 @@ module _ (unit next : ℕ) (solver : Asked) (s : State Place Name) (is : SolverI
     λ f. ((λ σ h. f.is_row σ (permits Finiteness σ h)), λ o. f.several ((labels-same (free v)).0 o)),
   )
 
-  either : (v : ℕ) → (C.IsFree (run_scope unit) s v ⊎ C.IsFlexible (run_scope unit) s v) ↔ L.IsUndetermined solver v
-  either v = (there, back)
+  pub undetermined-same : (v : ℕ) → (C.IsFree (run_scope unit) s v ⊎ C.IsFlexible (run_scope unit) s v) ↔ L.IsUndetermined solver v
+  undetermined-same v = (there, back)
     where
       there : C.IsFree (run_scope unit) s v ⊎ C.IsFlexible (run_scope unit) s v → L.IsUndetermined solver v
       there (inl f) = inl ((free-same v).0 f)
@@ -95,10 +95,10 @@ module _ (unit next : ℕ) (solver : Asked) (s : State Place Name) (is : SolverI
   left-same v = (
     λ h. record {
       known = subst (λ n. v < n) (sym is.unknowns) h.0;
-      undetermined = (either v).0 h.1;
+      undetermined = (undetermined-same v).0 h.1;
       first = λ u k. let x : (σ : Assignment Name finite) × Meets (run_scope unit) s Finiteness σ × (σ u ≢ σ v) = h.2 u k in (x.0, permits Finiteness x.0 x.1, x.2);
     },
-    λ h. (subst (λ n. v < n) is.unknowns h.known, (either v).1 h.undetermined, λ u k.
+    λ h. (subst (λ n. v < n) is.unknowns h.known, (undetermined-same v).1 h.undetermined, λ u k.
         let x : (σ : Assignment Name finite) × Permits Finiteness solver σ × (σ u ≢ σ v) = h.first u k in (x.0, meets-finite x.0 x.1, x.2)),
   )
 

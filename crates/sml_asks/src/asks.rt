@@ -7,7 +7,7 @@ ghost use Rattle.sml_objects.specs.Views.{scheme_of, type_of};
 ghost use Rattle.sml_graph.specs.declared.demand.Ask.{Ask};
 ghost use Rattle.sml_graph.specs.Asked.{IsOf, IsSchemeOf, count, equal, has_fields, asks};
 ghost use Rattle.sml_graph.specs.Interned.{demanded};
-ghost use Rattle.sml_asks.specs.Closings.{AsksLabels};
+ghost use Rattle.sml_asks.specs.Closings.{AsksFixed, AsksGeneral, AsksLabels};
 ghost use Rattle.sml_asks.specs.Steps.{Asks, Instantiates};
 
 use crate::known::{
@@ -71,7 +71,8 @@ fn know_fields(solver: &mut Solver, fields: &[(Ident, Rc<MlType>)]) -> Result<()
 
 /// Makes numbers those of unknowns.
 fn know_numbers(solver: &mut Solver, numbers: &[u32]) -> Result<(), Halt>
-    ensures { AllByRecursion (λ v. v < count solver.old) numbers.now → (result ≡ Ok tt) × (solver.new ≡ solver.old) }
+    ensures known { OnOk result (AllByRecursion (λ v. v < count solver.new) numbers.now) }
+    ensures same { AllByRecursion (λ v. v < count solver.old) numbers.now → (result ≡ Ok tt) × (solver.new ≡ solver.old) }
 {
     if are_unknowns(numbers, solver.unknowns()) {
         return Ok(());
@@ -79,7 +80,11 @@ fn know_numbers(solver: &mut Solver, numbers: &[u32]) -> Result<(), Halt>
     for number in numbers {
         make_known(solver, *number)?;
     }
-    Ok(())
+    if are_unknowns(numbers, solver.unknowns()) {
+        Ok(())
+    } else {
+        Err(Halt::Memory)
+    }
 }
 
 /// Demands that two types are equal.
@@ -165,11 +170,13 @@ pub fn ask_general(
     variables: &[u32],
     first: usize,
     others: &[u32],
-) -> Result<(), Refusal> {
+) -> Result<(), Refusal>
+    ensures { AsksGeneral solver.old variables.now first others.now solver.new result }
+{
     know_numbers(solver, variables)?;
     know_numbers(solver, others)?;
     let count = solver.unknowns();
-    if !are_unknowns(variables, count) || !are_unknowns(others, count) {
+    if !are_unknowns(variables, count) {
         return Err(Refusal::Memory);
     }
     solver.require_general(variables, first.min(count), others)
@@ -185,12 +192,11 @@ pub fn ask_settled(solver: &mut Solver, unknowns: &[u32]) -> Result<(), Halt> {
 }
 
 /// A flag for each unknown that the types of the first unknowns and of others fix.
-pub fn ask_fixed(solver: &mut Solver, first: usize, others: &[u32]) -> Result<Vec<bool>, Halt> {
+pub fn ask_fixed(solver: &mut Solver, first: usize, others: &[u32]) -> Result<Vec<bool>, Halt>
+    ensures { IfOk result (λ flags. AsksFixed solver.old first others.now flags.items solver.new) }
+{
     know_numbers(solver, others)?;
     let count = solver.unknowns();
-    if !are_unknowns(others, count) {
-        return Err(Halt::Memory);
-    }
     solver.fixed_by(first.min(count), others)
 }
 

@@ -49,6 +49,11 @@ stays unit next old new s is p n u q = record {
   met = is.met;
 }
 
+pub kept-stays : (unit next : ℕ) (old mid new : Asked) (s : State Place Name) → SolverIs unit next old s → mid ≡ old → PermitsSame mid new → count new ≡ count mid
+    → new.unit ≡ mid.unit → new.spent ≡ false → SolverIs unit next new s
+kept-stays unit next old mid new s is e p n u q =
+    stays unit next old new s is (subst (λ m. PermitsSame m new) e p) (n ∙ ap count e) (u ∙ ap (λ m. m.unit) e) q
+
 -- rows
 
 labels-answer : (old new : Asked) (t : MlType Name) (unit next : ℕ) (s : State Place Name) → SolverIs unit next old s → IsTypeIn s.made s.names t

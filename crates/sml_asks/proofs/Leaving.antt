@@ -74,7 +74,7 @@ module _ (unit next : ℕ) (solver : Asked) (s : State Place Name) (is : SolverI
   unfolding C.HasOneSetOfLabels L.HasOneSetOfLabels
   labels-same t = (λ o. (o.0, λ σ h. o.1 σ (meets-finite σ h)), λ o. (o.0, λ σ h. o.1 σ (permits Finiteness σ h)))
 
-  flexible-same : (v : ℕ) → C.IsFlexible (run_scope unit) s v ↔ L.IsFlexible solver v
+  pub flexible-same : (v : ℕ) → C.IsFlexible (run_scope unit) s v ↔ L.IsFlexible solver v
   flexible-same v = (
     λ f. record { is_row = λ σ h. f.0 σ (meets-finite σ h); several = λ o. f.1 ((labels-same (free v)).1 o) },
     λ f. ((λ σ h. f.is_row σ (permits Finiteness σ h)), λ o. f.several ((labels-same (free v)).0 o)),

@@ -5,3 +5,4 @@ pub mod Making
 pub mod Moving
 pub mod Leaving
 pub mod Closing
+pub mod Schemes

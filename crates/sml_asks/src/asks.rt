@@ -1,13 +1,13 @@
 //! What may be asked of types, whatever variables they have: a free variable that is no unknown yet becomes one first.
 //! Where that can't be, as for a type with a bound variable, it counts as want of memory.
 
-ghost use Rattle.std.specs.Prelude.{◌≡◌, ◌<◌, length, Ok, OnOk, IfOk};
+ghost use Rattle.std.specs.Prelude.{◌≡◌, ◌<◌, ℕ, false, length, slice_index_or, Ok, OnOk, IfOk, option_map};
 ghost use Rattle.std.specs.List.{AllByRecursion};
 ghost use Rattle.sml_objects.specs.Views.{scheme_of, type_of};
 ghost use Rattle.sml_graph.specs.declared.demand.Ask.{Ask};
 ghost use Rattle.sml_graph.specs.Asked.{IsOf, IsSchemeOf, count, equal, has_fields, asks};
 ghost use Rattle.sml_graph.specs.Interned.{demanded};
-ghost use Rattle.sml_asks.specs.Closings.{AsksFixed, AsksGeneral, AsksLabels};
+ghost use Rattle.sml_asks.specs.Closings.{AsksFixed, AsksGeneral, AsksLabels, AsksReading, AsksScheme};
 ghost use Rattle.sml_asks.specs.Steps.{Asks, Instantiates};
 
 use crate::known::{
@@ -205,7 +205,9 @@ pub fn ask_reading(
     solver: &mut Solver,
     ty: &MlType,
     limit: u32,
-) -> Result<Option<Rc<MlType>>, Halt> {
+) -> Result<Option<Rc<MlType>>, Halt>
+    ensures { IfOk result (λ found. AsksReading solver.old (type_of ty.now) limit (option_map (λ t. type_of t.value) found) solver.new) }
+{
     know(solver, ty)?;
     solver.reading(ty, limit.min(u32::MAX - 1))
 }
@@ -219,7 +221,9 @@ pub fn ask_scheme(
     fixed: &[bool],
     expansive: bool,
     limit: u32,
-) -> Result<Option<Scheme>, Halt> {
+) -> Result<Option<Scheme>, Halt>
+    ensures { IfOk result (λ found. AsksScheme solver.old (type_of ty.now) fixed.now expansive limit (option_map scheme_of found) solver.new) }
+{
     know(solver, ty)?;
     let count = solver.unknowns();
     let limit = limit.min(u32::MAX - 1);
@@ -234,7 +238,8 @@ pub fn ask_scheme(
 
 /// So many flags: the first of these, and no further ones.
 fn padded(alloc: Global, flags: &[bool], count: usize) -> Result<Vec<bool>, Memory>
-    ensures { IfOk result (λ all. length all.items ≡ count) }
+    ensures len { IfOk result (λ all. length all.items ≡ count) }
+    ensures same { IfOk result (λ all. (v : ℕ) → v < count → slice_index_or all.items v false ≡ slice_index_or flags.now v false) }
 {
     let mut all = Vec::from_slice(alloc, flags)?;
     all.resize(count, false)?;

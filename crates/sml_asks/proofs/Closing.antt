@@ -1,36 +1,27 @@
 -- Steps of the end of a value declaration.
-use Rattle.std.proofs.Common.{◌≡◌, ◌≢◌, ◌↔◌, ◌⊎◌, ◌<◌, ◌≤◌, ◌+◌, ℕ, Bool, true, false, Result, Ok, Err, OnOk, Vec, Global, List, [], ◌∷◌, ◌++◌, length, map, inl, inr, sym, ◌∙◌, ap, subst, refl, arith}
+use Rattle.std.proofs.Common.{◌≡◌, ◌<◌, ◌≤◌, ℕ, Bool, true, false, Result, Ok, Err, OnOk, Vec, Global, List, [], ◌∷◌, map, inl, inr, sym, ◌∙◌, ap, subst, refl}
 use Rattle.std.specs.Prelude.{IfOk}
 use Rattle.std.specs.List.{AllByRecursion}
 use Rattle.sml_lex.specs.declared.fault.Place.{Place}
 use Rattle.sml_objects.specs.Appearance.{Stands}
-use Rattle.sml_objects.specs.Initial.{Name, initial, naming}
-use Rattle.sml_objects.specs.Names.{int}
-use Rattle.sml_objects.specs.Objects.{MlType, free, name, named, no_type}
-use Rattle.sml_objects.specs.Types.{replace_type, replace_types}
+use Rattle.sml_objects.specs.Initial.{Name}
+use Rattle.sml_objects.specs.Objects.{MlType, free}
 use Rattle.sml_layers.specs.declared.layer.Layer.{Layer}
 use Rattle.sml_layers.specs.declared.layer.Layer.TheVariants.{Finiteness, Rigidity}
-use Rattle.sml_layers.specs.Demands as D
-use Rattle.sml_layers.specs.Demands.{Demand}
-use Rattle.sml_layers.specs.Worlds.{World, finite, infinite, make, typed, spread, spread_all, world}
-use Rattle.sml_graph.specs.Worlds.{Assignment}
 use Rattle.sml_graph.specs.declared.demand.Halt.{Halt}
 use Rattle.sml_graph.specs.declared.demand.Halt.TheVariants as H
 use Rattle.sml_graph.specs.declared.demand.Refusal.{Refusal}
 use Rattle.sml_graph.specs.declared.demand.Refusal.TheVariants as R
-use Rattle.sml_graph.specs.Asked as A
-use Rattle.sml_graph.specs.Asked.{Asked, IsOf, count, Adds, CanMeet, Permits, PermitsSame}
+use Rattle.sml_graph.specs.Asked.{Asked, IsOf, count, PermitsSame}
 use Rattle.sml_graph.specs.Interned.{IsOver}
-use Rattle.sml_graph.specs.Said.{demand_of}
 use Rattle.sml_graph.proofs.Saying.{says-its-demands}
 use Rattle.sml_schemes.specs.Left as L
 use Rattle.sml_schemes.specs.Fixed as F
-use Rattle.sml_demands.specs.Overloaded as O
-use Rattle.sml_solve.specs.Calls.{Keeps, Returns}
+use Rattle.sml_solve.specs.Calls.{Keeps}
 use Rattle.sml_core_rules.specs.Scopes.{run_scope}
 use Rattle.sml_core_rules.specs.Solutions as C
-use Rattle.sml_core_rules.specs.States.{State, with_demand}
-use Rattle.sml_asks.specs.Solvers.{SolverIs, WasAsked, IsTypeIn}
+use Rattle.sml_core_rules.specs.States.{State}
+use Rattle.sml_asks.specs.Solvers.{SolverIs, IsTypeIn}
 use Rattle.sml_asks.specs.Closings.{AnswersTest, AsksLabels, AsksGeneral, AreFlags, AsksFixed}
 use Rattle.sml_asks.proofs.Leaving.{free-same, undetermined-same, fixed-same, labels-ok, labels-back}
 
@@ -129,7 +120,7 @@ general-after old mid new vs first low others made result same lower general unm
     general-answer old new first others unit next s is vs any result
     (subst (λ n. OnOk result (IsGeneral old vs n others)) q (subst (λ m. OnOk result (IsGeneral m vs low others)) e general))
     (λ l h. let u : (l ≡ Rigidity) × (v : ℕ) × Stands v vs × F.IsFixed mid low others v = unmet l h in
-        (u.0, u.1, u.2, subst (λ n. F.IsFixed old n others u.1) q (subst (λ m. F.IsFixed m low others u.1) e u.3)))
+    (u.0, u.1, u.2, subst (λ n. F.IsFixed old n others u.1) q (subst (λ m. F.IsFixed m low others u.1) e u.3)))
     labels (subst (λ m. Keeps m new result R.Spent) e c)
 
 pub general-never : (old new : Asked) (vs : List ℕ) (first : ℕ) (others : List ℕ) (result : Result (Unit {0}) Refusal)
@@ -155,8 +146,7 @@ unfolding AsksFixed
 fixed-after old mid new first low others made (Err h) same lower flags c = tt
 fixed-after old mid new first low others made (Ok bs) same lower flags c = λ unit next s is le below.
     let e : mid ≡ old = (same (subst (λ n. AreBelow n others) (sym is.unknowns) below)).1 in
-    let q : low ≡ first = lower (subst (λ n. first ≤ n) (sym (ap count e ∙ is.unknowns)) le) in
-    (
+    let q : low ≡ first = lower (subst (λ n. first ≤ n) (sym (ap count e ∙ is.unknowns)) le) in (
       flags-same old first others unit next s is bs.items (subst (λ n. F.AreFixed old n others bs.items) q (subst (λ m. F.AreFixed m low others bs.items) e flags)),
       stays unit next old new s is (subst (λ m. PermitsSame m new) e c.same) (c.count ∙ ap count e) (c.returns.unit ∙ ap (λ m. m.unit) e) c.returns.kept,
     )

@@ -1,20 +1,16 @@
 -- What a solver leaves of unknown types is what its state leaves of them.
-use Rattle.std.proofs.Common.{◌≡◌, ◌≢◌, ◌↔◌, ◌⊎◌, ◌<◌, ◌≤◌, ℕ, Bool, true, false, List, [], ◌∷◌, map, inl, inr, sym, ◌∙◌, ap, subst, refl, arith}
+use Rattle.std.proofs.Common.{◌≡◌, ◌≢◌, ◌↔◌, ◌⊎◌, ◌<◌, ℕ, List, [], ◌∷◌, map, inl, inr, sym, ◌∙◌, ap, subst, arith}
 use Rattle.std.specs.List.{AllByRecursion}
 use Rattle.sml_lex.specs.declared.fault.Place.{Place}
-use Rattle.sml_tree.specs.Trees.{Id}
-use Rattle.sml_objects.specs.Appearance.{Stands}
-use Rattle.sml_objects.specs.Equality.{admits}
 use Rattle.sml_objects.specs.Initial.{Name, initial, naming}
 use Rattle.sml_objects.specs.Names.{Initial, int}
-use Rattle.sml_objects.specs.Objects.{MlType, MlTypes, bound, free, app, row, name, no_type, and_type, named, types_of}
+use Rattle.sml_objects.specs.Objects.{MlType, MlTypes, bound, free, app, row, no_type, and_type, named, types_of}
 use Rattle.sml_objects.specs.Types.{assign, replace_type}
 use Rattle.sml_layers.specs.declared.layer.Layer.{Layer}
 use Rattle.sml_layers.specs.declared.layer.Layer.TheVariants.{Finiteness, Equality, Classes, Rigidity}
 use Rattle.sml_layers.specs.Demands.{AllHold}
-use Rattle.sml_layers.specs.Rows.{HasFields}
 use Rattle.sml_layers.specs.Worlds.{Assignment, finite, world}
-use Rattle.sml_graph.specs.Asked.{Asked, count, Permits}
+use Rattle.sml_graph.specs.Asked.{Asked, Permits}
 use Rattle.sml_graph.specs.Said.{demand_of, by_number, by_list, Says}
 use Rattle.sml_graph.proofs.Rowing.{list_of, types-list_of}
 use Rattle.sml_schemes.specs.Left as L
@@ -98,8 +94,12 @@ module _ (unit next : ℕ) (solver : Asked) (s : State Place Name) (is : SolverI
       undetermined = (undetermined-same v).0 h.1;
       first = λ u k. let x : (σ : Assignment Name finite) × Meets (run_scope unit) s Finiteness σ × (σ u ≢ σ v) = h.2 u k in (x.0, permits Finiteness x.0 x.1, x.2);
     },
-    λ h. (subst (λ n. v < n) is.unknowns h.known, (undetermined-same v).1 h.undetermined, λ u k.
-        let x : (σ : Assignment Name finite) × Permits Finiteness solver σ × (σ u ≢ σ v) = h.first u k in (x.0, meets-finite x.0 x.1, x.2)),
+    λ h. (
+      subst (λ n. v < n) is.unknowns h.known,
+      (undetermined-same v).1 h.undetermined,
+      λ u k.
+          let x : (σ : Assignment Name finite) × Permits Finiteness solver σ × (σ u ≢ σ v) = h.first u k in (x.0, meets-finite x.0 x.1, x.2),
+    ),
   )
 
   mutual
@@ -185,9 +185,12 @@ module _ (unit next : ℕ) (solver : Asked) (s : State Place Name) (is : SolverI
 
   pub labels-back : (t : MlType Name) → IsTypeIn s.made s.names t → C.HasOneSetOfLabels (run_scope unit) s Rigidity t → L.HasOneSetOfLabels Rigidity solver t
   unfolding C.HasOneSetOfLabels L.HasOneSetOfLabels move
-  labels-back t k o = (o.0, λ σ h.
-      let x : (ts : List (MlType Name)) × (assign (λ v. move (σ v)) t ≡ app (row o.0) (types_of ts)) = o.1 (λ v. move (σ v)) (meets-rigidity σ h) in
-      let keep = kept unit next s.names is.known is.counted in
-      let y : (ts : MlTypes Name) × (assign σ t ≡ app (row o.0) ts) = was-row keep (assign σ t) o.0 (types_of x.0)
-          (moved-assigned keep σ t (mentions-kept unit next s.names is.known is.counted t k.1) ∙ x.1) in
-      (list_of y.0, y.1 ∙ ap (app (row o.0)) (sym (types-list_of y.0))))
+  labels-back t k o = (
+    o.0,
+    λ σ h.
+        let x : (ts : List (MlType Name)) × (assign (λ v. move (σ v)) t ≡ app (row o.0) (types_of ts)) = o.1 (λ v. move (σ v)) (meets-rigidity σ h) in
+        let keep = kept unit next s.names is.known is.counted in
+        let y : (ts : MlTypes Name) × (assign σ t ≡ app (row o.0) ts) = was-row keep (assign σ t) o.0 (types_of x.0)
+        (moved-assigned keep σ t (mentions-kept unit next s.names is.known is.counted t k.1) ∙ x.1) in
+        (list_of y.0, y.1 ∙ ap (app (row o.0)) (sym (types-list_of y.0))),
+  )

@@ -6,3 +6,4 @@ pub mod Moving
 pub mod Leaving
 pub mod Closing
 pub mod Schemes
+pub mod Settling

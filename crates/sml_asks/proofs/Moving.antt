@@ -1,6 +1,6 @@
 -- Types in which each name that isn't kept gives way to an initial one. It admits equality where the name did, and has an argument
 -- more, so that it stands for no initial type.
-use Rattle.std.proofs.Common.{◌≡◌, ◌↔◌, ℕ, Bool, true, false, cond, ◌&&◌, ◌||◌, List, [], ◌∷◌, map, Some, sym, ◌∙◌, ap, subst, refl}
+use Rattle.std.proofs.Common.{◌≡◌, ℕ, Bool, true, false, cond, ◌&&◌, ◌||◌, List, [], ◌∷◌, map, Some, sym, ◌∙◌, ap, subst, refl}
 use Rattle.std.specs.Prelude.{option_map}
 use Rattle.std.specs.List.{AllByRecursion}
 use Rattle.std.proofs.lemmas.List.{length-map}
@@ -10,7 +10,7 @@ use Rattle.sml_objects.specs.Equality.{admits, all_admit, is_ref, has_equality, 
 use Rattle.sml_objects.specs.Initial.{Name, initial, naming}
 use Rattle.sml_objects.specs.Labels.{with_labels}
 use Rattle.sml_objects.specs.Maps.{lookup}
-use Rattle.sml_objects.specs.Objects.{MlType, MlTypes, Head, bound, free, app, arrow, row, name, no_type, and_type, named, types_of}
+use Rattle.sml_objects.specs.Objects.{MlType, MlTypes, bound, free, app, arrow, row, name, no_type, and_type, named, types_of}
 use Rattle.sml_objects.specs.Types.{assign, replace_type, replace_types}
 use Rattle.sml_layers.specs.Demands.{Mentions, AllMention}
 use Rattle.sml_layers.specs.Rows.{HasFields, fields_at}

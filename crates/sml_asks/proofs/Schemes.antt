@@ -1,14 +1,11 @@
 -- The types that types stand for, and their schemes, as steps.
-use Rattle.std.proofs.Common.{◌≡◌, ◌≢◌, ◌↔◌, ◌⊎◌, ◌<◌, ◌≤◌, ◌+◌, ◌^◌, ℕ, Bool, true, false, Option, Some, None, Result, Ok, Err, OnOk, Global, List, [], ◌∷◌, length, map, inl, inr, sym, ◌∙◌, ap, subst, refl, arith}
+use Rattle.std.proofs.Common.{◌≡◌, ◌↔◌, ◌⊎◌, ◌<◌, ◌≤◌, ◌+◌, ◌^◌, ℕ, Bool, true, false, Option, Some, None, Result, Ok, Err, Global, List, [], length, inl, inr, sym, ◌∙◌, ap, subst, refl}
 use Rattle.std.specs.Prelude.{IfOk, IfSome, IfNone, option_map}
 use Rattle.std.specs.declared.rc.Rc.{Rc}
 use Rattle.sml_lex.specs.declared.fault.Place.{Place}
-use Rattle.sml_objects.specs.Initial.{Name, initial, naming}
-use Rattle.sml_objects.specs.Names.{int}
-use Rattle.sml_objects.specs.Objects.{MlType, Scheme, free, named}
-use Rattle.sml_objects.specs.Fates.{close_as}
+use Rattle.sml_objects.specs.Initial.{Name, naming}
+use Rattle.sml_objects.specs.Objects.{MlType, Scheme}
 use Rattle.sml_objects.specs.Sizes.{type_size}
-use Rattle.sml_objects.specs.Types.{variables_after}
 use Rattle.sml_objects.specs.Views.{type_of, scheme_of}
 use Rattle.sml_objects.specs.declared.fates.Fate.{Fate}
 use Rattle.sml_objects.specs.declared.fates.Fate.TheVariants.{Bind, Keep, Default}
@@ -16,7 +13,7 @@ use Rattle.sml_objects.specs.declared.objects.MlType as P
 use Rattle.sml_objects.specs.declared.objects.Scheme as Q
 use Rattle.sml_graph.specs.declared.demand.Halt.{Halt}
 use Rattle.sml_graph.specs.declared.demand.Halt.TheVariants as H
-use Rattle.sml_graph.specs.Asked.{Asked, IsOf, IsSchemeOf, count, PermitsSame}
+use Rattle.sml_graph.specs.Asked.{Asked, IsOf, IsSchemeOf, count}
 use Rattle.sml_graph.specs.Interned.{IsOver, IsBodyOver}
 use Rattle.sml_schemes.specs.Left as L
 use Rattle.sml_schemes.specs.Fixed as F
@@ -48,8 +45,7 @@ unfolding AsksReading
 reading-after old mid new t limit low made (Err h) same lower reads within none c = tt
 reading-after old mid new t limit low made (Ok found) same lower reads within none c = λ unit next s is over small.
     let e : mid ≡ old = (same (subst (λ n. IsOver n t) (sym is.unknowns) over)).1 in
-    let is' : SolverIs unit next new s = kept-stays unit next old mid new s is e c.same c.count c.returns.unit c.returns.kept in
-    (
+    let is' : SolverIs unit next new s = kept-stays unit next old mid new s is e c.same c.count c.returns.unit c.returns.kept in (
       reading-found new t limit unit next s is' found reads (subst (λ n. IfSome found (λ r. type_size (type_of r.value) ≤ n)) (lower small) within)
           (subst (λ n. IfNone found ((r : MlType Name) → L.IsReading new t r → n < type_size r)) (lower small) none),
       is',
@@ -79,11 +75,17 @@ module _ (new : Asked) (unit next first : ℕ) (s : State Place Name) (is : Solv
   fate-same : (v : ℕ) → C.IsLeft (run_scope unit) s v → (f : Fate) → C.IsFateOf (run_scope unit) s first x v f ↔ S.IsFateOf new more x v f
   fate-same v left (Bind e) = (
     λ (i, q, m, f, a). (
-      (λ k. i ((int-same unit next new s is v).1 k)), q, (λ k. m ((marked q v left).1 k)), (λ k. f ((flexible-same unit next new s is v).1 k)),
+      (λ k. i ((int-same unit next new s is v).1 k)),
+      q,
+      (λ k. m ((marked q v left).1 k)),
+      (λ k. f ((flexible-same unit next new s is v).1 k)),
       ((λ k. (equality-same unit next new s is v).0 (a.0 k)), λ k. a.1 ((equality-same unit next new s is v).1 k)),
     ),
     λ (i, q, m, f, a). (
-      (λ k. i ((int-same unit next new s is v).0 k)), q, (λ k. m ((marked q v left).0 k)), (λ k. f ((flexible-same unit next new s is v).0 k)),
+      (λ k. i ((int-same unit next new s is v).0 k)),
+      q,
+      (λ k. m ((marked q v left).0 k)),
+      (λ k. f ((flexible-same unit next new s is v).0 k)),
       ((λ k. (equality-same unit next new s is v).1 (a.0 k)), λ k. a.1 ((equality-same unit next new s is v).0 k)),
     ),
   )
@@ -101,8 +103,13 @@ module _ (new : Asked) (unit next first : ℕ) (s : State Place Name) (is : Solv
       reads = (reading-same unit next new s is t r).0 reads;
       closed = record { fate = fate; fates = λ v k. let left = (left-same unit next new s is v).1 k in (fate-same v left (fate v)).0 (fates v left); scheme = e };
     },
-    λ h. (h.reading, (reading-same unit next new s is t h.reading).1 h.reads, h.closed.fate,
-        λ v left. (fate-same v left (h.closed.fate v)).1 (h.closed.fates v ((left-same unit next new s is v).0 left)), h.closed.scheme),
+    λ h. (
+      h.reading,
+      (reading-same unit next new s is t h.reading).1 h.reads,
+      h.closed.fate,
+      λ v left. (fate-same v left (h.closed.fate v)).1 (h.closed.fates v ((left-same unit next new s is v).0 left)),
+      h.closed.scheme,
+    ),
   )
 
   scheme-found : (t : MlType Name) (limit : ℕ) (found : Option Q.Scheme) → IfSome found (λ θ. S.IsScheme new more x t (scheme_of θ)) → IfSome found (λ θ. IsSchemeOf new (scheme_of θ))
@@ -125,6 +132,6 @@ scheme-after old mid new t flags more x limit low made (Ok found) same lower mar
     let is' : SolverIs unit next new s = kept-stays unit next old mid new s is e c.same c.count c.returns.unit c.returns.kept in
     let marks' : (v : ℕ) → v < s.made → F.IsMarked more v ↔ F.IsMarked flags v = λ v k. marks v (subst (λ n. v < n) (sym (ap count e ∙ is.unknowns)) k) in
     let q = scheme-found new unit next first s is' x flags more context marks' t limit found reads known
-        (subst (λ n. IfSome found (λ θ. type_size (scheme_of θ).body ≤ n)) (lower small) within)
-        (subst (λ n. IfNone found ((θ : Scheme Name) → S.IsScheme new more x t θ → n < type_size θ.body)) (lower small) none) in
+    (subst (λ n. IfSome found (λ θ. type_size (scheme_of θ).body ≤ n)) (lower small) within)
+    (subst (λ n. IfNone found ((θ : Scheme Name) → S.IsScheme new more x t θ → n < type_size θ.body)) (lower small) none) in
     (q.0, q.1, is')

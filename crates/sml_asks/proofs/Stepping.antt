@@ -31,10 +31,10 @@ met-said old new d ds a says l m = (m.0, (says l m.0).0 ((a l m.0).1 (m.1, m.2))
 
 module _ (unit next : ℕ) (old new : Asked) (s : State Place Name) (d : A.Demand) (e : Demand Name (List Name))
     (is : SolverIs unit next old s) (asked : IsDemand unit next s.made s.names d e) where
-  both : AreDemands unit next s.made s.names (d ∷ is.demands) (e ∷ s.demands)
-  both = (asked, is.same)
+  asked-too : AreDemands unit next s.made s.names (d ∷ is.demands) (e ∷ s.demands)
+  asked-too = (asked, is.same)
 
-  answers : (result : Result (Unit {0}) Refusal) → Demands old d new result → Answers unit next s e new result
+  pub answers : (result : Result (Unit {0}) Refusal) → Demands old d new result → Answers unit next s e new result
   answers (Ok x) c =
       let says : Says new (d ∷ is.demands) = says-its-demands.added old new d is.demands c.returns.unit c.ok is.says in
       record {
@@ -45,12 +45,12 @@ module _ (unit next : ℕ) (old new : Asked) (s : State Place Name) (d : A.Deman
         known = is.known;
         demands = d ∷ is.demands;
         says = says;
-        same = both;
-        met = (met-both unit next s.names is.known is.counted s.made (d ∷ is.demands) (e ∷ s.demands) both Rigidity).0
+        same = asked-too;
+        met = (met-both unit next s.names is.known is.counted s.made (d ∷ is.demands) (e ∷ s.demands) asked-too Rigidity).0
             (subst (λ u. CanBeMet (by_number u) Rigidity (map demand_of (d ∷ is.demands))) (c.returns.unit ∙ is.maker) (met-said old new d is.demands c.ok says Rigidity (c.met Rigidity)));
       }
   answers (Err (R.Unmet l)) c =
-      first-both unit next s.names is.known is.counted s.made (d ∷ is.demands) (e ∷ s.demands) both l
+      first-both unit next s.names is.known is.counted s.made (d ∷ is.demands) (e ∷ s.demands) asked-too l
       (subst (λ u. IsFirstUnmet (by_number u) l (map demand_of (d ∷ is.demands))) is.maker ((says-its-demands.refused old d is.demands l is.says).0 (c.unmet l refl)))
   answers (Err R.Labels) c = c.labels refl
   answers (Err R.Memory) c = tt

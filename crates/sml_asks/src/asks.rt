@@ -1,13 +1,13 @@
 //! What may be asked of types, whatever variables they have: a free variable that is no unknown yet becomes one first.
 //! Where that can't be, as for a type with a bound variable, it counts as want of memory.
 
-ghost use Rattle.std.specs.Prelude.{◌≡◌, ◌<◌, ℕ, false, length, slice_index_or, Ok, OnOk, IfOk, option_map};
+ghost use Rattle.std.specs.Prelude.{◌≡◌, ◌<◌, [], ◌∷◌, ℕ, false, length, slice_index_or, Ok, OnOk, IfOk, option_map};
 ghost use Rattle.std.specs.List.{AllByRecursion};
 ghost use Rattle.sml_objects.specs.Views.{scheme_of, type_of};
 ghost use Rattle.sml_graph.specs.declared.demand.Ask.{Ask};
 ghost use Rattle.sml_graph.specs.Asked.{IsOf, IsSchemeOf, count, equal, has_fields, asks};
 ghost use Rattle.sml_graph.specs.Interned.{demanded};
-ghost use Rattle.sml_asks.specs.Closings.{AsksFixed, AsksGeneral, AsksLabels, AsksReading, AsksScheme};
+ghost use Rattle.sml_asks.specs.Closings.{AsksFixed, AsksGeneral, AsksLabels, AsksReading, AsksScheme, AsksSettled};
 ghost use Rattle.sml_asks.specs.Steps.{Asks, Instantiates};
 
 use crate::known::{
@@ -182,13 +182,33 @@ pub fn ask_general(
     solver.require_general(variables, first.min(count), others)
 }
 
-/// Makes each of these unknowns that is overloaded the default.
-pub fn ask_settled(solver: &mut Solver, unknowns: &[u32]) -> Result<(), Halt> {
+/// Makes each of these unknowns the default, in turn, where it is overloaded.
+pub fn ask_settled(solver: &mut Solver, unknowns: &[u32]) -> Result<(), Halt>
+    ensures { OnOk result (AsksSettled solver.old unknowns.now solver.new) }
+{
     know_numbers(solver, unknowns)?;
-    if !are_unknowns(unknowns, solver.unknowns()) {
-        return Err(Halt::Memory);
+    settle_all(solver, unknowns)
+}
+
+fn settle_all(solver: &mut Solver, unknowns: &[u32]) -> Result<(), Halt>
+    requires { AllByRecursion (λ v. v < count solver.old) unknowns.now }
+    ensures { OnOk result (AsksSettled solver.old unknowns.now solver.new) }
+{
+    for unknown in unknowns {
+        settle_one(solver, *unknown)?;
     }
-    solver.settle(unknowns)
+    Ok(())
+}
+
+fn settle_one(solver: &mut Solver, unknown: u32) -> Result<(), Halt>
+    requires { unknown < count solver.old }
+    ensures ok { OnOk result (AsksSettled solver.old (unknown ∷ []) solver.new) }
+    ensures count { count solver.new ≡ count solver.old }
+{
+    if solver.is_overloaded(unknown)? {
+        return solver.settle(&[unknown]);
+    }
+    Ok(())
 }
 
 /// A flag for each unknown that the types of the first unknowns and of others fix.
@@ -201,11 +221,7 @@ pub fn ask_fixed(solver: &mut Solver, first: usize, others: &[u32]) -> Result<Ve
 }
 
 /// The type that a type stands for, over the unknowns that are left, or `None` where it has more nodes than the limit.
-pub fn ask_reading(
-    solver: &mut Solver,
-    ty: &MlType,
-    limit: u32,
-) -> Result<Option<Rc<MlType>>, Halt>
+pub fn ask_reading(solver: &mut Solver, ty: &MlType, limit: u32) -> Result<Option<Rc<MlType>>, Halt>
     ensures { IfOk result (λ found. AsksReading solver.old (type_of ty.now) limit (option_map (λ t. type_of t.value) found) solver.new) }
 {
     know(solver, ty)?;

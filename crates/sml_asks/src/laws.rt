@@ -22,7 +22,3 @@ pub fn names_are_steps()
 pub fn solvers_start_anew()
     ensures { SolversStartAnew }
 {}
-
-pub fn tmp()
-    ensures { Unit {0} }
-{}

@@ -13,14 +13,14 @@ pub returns-in_err-know_numbers-2 : goal.returns-in_err-know_numbers-2
 returns-in_err-know_numbers-2 c =
     general-never c.args.solver.now c.know_numbers-2.new.solver c.args.variables.now c.args.first c.args.others.now c.from_residual-in_err-know_numbers-2.result (λ k.
     let two = twice-same (λ m. AreBelow (count m) c.args.variables.now) (λ m. AreBelow (count m) c.args.others.now) c.args.solver.now c.know_numbers.new.solver c.know_numbers-2.new.solver
-        c.know_numbers.result c.know_numbers-2.result c.know_numbers.ensures.same c.know_numbers-2.ensures.same k in
+    c.know_numbers.result c.know_numbers-2.result c.know_numbers.ensures.same c.know_numbers-2.ensures.same k in
     let p = two.0 in let q = c.in_err-know_numbers-2.was in cc)
 
 pub returns-then-not-are_unknowns : goal.returns-then-not-are_unknowns
 returns-then-not-are_unknowns c =
     general-never c.args.solver.now c.know_numbers-2.new.solver c.args.variables.now c.args.first c.args.others.now _ (λ k.
     let two = twice-same (λ m. AreBelow (count m) c.args.variables.now) (λ m. AreBelow (count m) c.args.others.now) c.args.solver.now c.know_numbers.new.solver c.know_numbers-2.new.solver
-        c.know_numbers.result c.know_numbers-2.result c.know_numbers.ensures.same c.know_numbers-2.ensures.same k in
+    c.know_numbers.result c.know_numbers-2.result c.know_numbers.ensures.same c.know_numbers-2.ensures.same k in
     let below = subst (λ n. AreBelow n c.args.variables.now) (sym (c.unknowns-count.ensures ∙ ap count two.1)) k.0 in
     let e : false ≡ true = sym c.if-not-are_unknowns.true ∙ c.are_unknowns.ensures.1 below in
     cc)

@@ -1,6 +1,5 @@
-use Rattle.std.proofs.Common.{◌≡◌, ◌<◌, ℕ, true, false, slice_index_or, arith, sym, subst, ◌∙◌}
+use Rattle.std.proofs.Common.{◌≡◌, ◌<◌, ℕ, false, slice_index_or, arith, sym, subst, ◌∙◌}
 use Rattle.sml_objects.specs.Views.{type_of}
-use Rattle.sml_schemes.specs.Fixed.{IsMarked}
 use Rattle.sml_graph.specs.Asked.{count}
 use Rattle.sml_asks.proofs.Schemes.{scheme-after}
 use Rattle.sml_asks.proofs.asks.ask_scheme.Goals as goal
@@ -14,8 +13,8 @@ returns-then-fixed-count c =
 pub returns-in-Ok : goal.returns-in-Ok
 returns-in-Ok c =
     let same : (v : ℕ) → v < count c.know.new.solver → slice_index_or c.deref.result.now v false ≡ slice_index_or c.args.fixed.now v false =
-        λ v k. subst (λ all. slice_index_or all v false ≡ slice_index_or c.args.fixed.now v false) (sym c.deref.ensures.value)
-            (c.in-Ok.ensures.same v (subst (λ n. v < n) (sym c.unknowns-count.ensures) k)) in
+    λ v k. subst (λ all. slice_index_or all v false ≡ slice_index_or c.args.fixed.now v false) (sym c.deref.ensures.value)
+    (c.in-Ok.ensures.same v (subst (λ n. v < n) (sym c.unknowns-count.ensures) k)) in
     scheme-after c.args.solver.now c.know.new.solver c.generalise-in-Ok.new.self (type_of c.args.ty.now) c.args.fixed.now c.deref.result.now c.args.expansive c.args.limit c.min-limit.result
     c.know.result c.generalise-in-Ok.result c.know.ensures.same (λ h. omega (arith, c.min-limit.ensures, h))
     (λ v k. (λ m. sym (same v k) ∙ m, λ m. same v k ∙ m))

@@ -7,3 +7,4 @@ pub mod Leaving
 pub mod Closing
 pub mod Schemes
 pub mod Settling
+pub mod Fates

@@ -23,16 +23,17 @@ use Rattle.sml_core_rules.specs.Scopes.{run_scope}
 use Rattle.sml_core_rules.specs.Solutions as C
 use Rattle.sml_core_rules.specs.States.{State}
 use Rattle.sml_asks.specs.Solvers.{SolverIs}
-use Rattle.sml_asks.specs.Closings.{IsFoundUpTo, IsSchemeOver, AreContext, AsksReading, AsksScheme}
+use Rattle.sml_asks.specs.Closings.{IsReadingUpTo, IsSchemeUpTo, AreContext, AsksReading, AsksScheme}
 use Rattle.sml_asks.proofs.Leaving.{left-same, reading-same, flexible-same, int-same, equality-same}
 use Rattle.sml_asks.proofs.Closing.{kept-stays}
+use Rattle.sml_asks.proofs.Fates.{readings-large}
 
 -- readings
 
 reading-found : (new : Asked) (t : MlType Name) (limit : ℕ) (unit next : ℕ) (s : State Place Name) → SolverIs unit next new s → (found : Option (Rc P.MlType Global))
     → IfSome found (λ r. L.IsReading new t (type_of r.value)) → IfSome found (λ r. type_size (type_of r.value) ≤ limit)
     → IfNone found ((r : MlType Name) → L.IsReading new t r → limit < type_size r)
-    → IsFoundUpTo type_size limit (C.StandsFor (run_scope unit) s t) (option_map (λ r. type_of r.value) found)
+    → IsReadingUpTo unit s t limit (option_map (λ r. type_of r.value) found)
 reading-found new t limit unit next s is (Some r) reads within none = ((reading-same unit next new s is t (type_of r.value)).1 reads, within)
 reading-found new t limit unit next s is None reads within none = λ r h. none r ((reading-same unit next new s is t r).0 h)
 
@@ -114,10 +115,11 @@ module _ (new : Asked) (unit next first : ℕ) (s : State Place Name) (is : Solv
 
   scheme-found : (t : MlType Name) (limit : ℕ) (found : Option Q.Scheme) → IfSome found (λ θ. S.IsScheme new more x t (scheme_of θ)) → IfSome found (λ θ. IsSchemeOf new (scheme_of θ))
       → IfSome found (λ θ. type_size (scheme_of θ).body ≤ limit) → IfNone found ((θ : Scheme Name) → S.IsScheme new more x t θ → limit < type_size θ.body)
-      → IsFoundUpTo (λ σ. type_size σ.body) limit (C.IsScheme (run_scope unit) s first x t) (option_map scheme_of found) × IsSchemeOver (option_map scheme_of found) s.made
+      → IsSchemeUpTo unit s first x t limit (option_map scheme_of found)
   scheme-found t limit (Some θ) reads known within none =
-      (((scheme-same t (scheme_of θ)).1 reads, within), subst (λ n. IsBodyOver (length (scheme_of θ).variables) n (scheme_of θ).body) is.unknowns known)
-  scheme-found t limit None reads known within none = ((λ θ h. none θ ((scheme-same t θ).0 h)), tt)
+      ((scheme-same t (scheme_of θ)).1 reads, within, subst (λ n. IsBodyOver (length (scheme_of θ).variables) n (scheme_of θ).body) is.unknowns known)
+  scheme-found t limit None reads known within none =
+      ((λ θ h. none θ ((scheme-same t θ).0 h)), λ r h. readings-large new more x t limit none r ((reading-same unit next new s is t r).0 h))
 
 pub scheme-after : (old mid new : Asked) (t : MlType Name) (flags more : List Bool) (x : Bool) (limit low : ℕ) (made : Result (Unit {0}) Halt) (result : Result (Option Q.Scheme) Halt)
     → (IsOf old t → (made ≡ Ok tt) × (mid ≡ old)) → (limit + 1 < 2 ^ 32 → low ≡ limit) → ((v : ℕ) → v < count mid → F.IsMarked more v ↔ F.IsMarked flags v)
@@ -134,4 +136,4 @@ scheme-after old mid new t flags more x limit low made (Ok found) same lower mar
     let q = scheme-found new unit next first s is' x flags more context marks' t limit found reads known
     (subst (λ n. IfSome found (λ θ. type_size (scheme_of θ).body ≤ n)) (lower small) within)
     (subst (λ n. IfNone found ((θ : Scheme Name) → S.IsScheme new more x t θ → n < type_size θ.body)) (lower small) none) in
-    (q.0, q.1, is')
+    (q, is')

@@ -58,28 +58,32 @@ AsksFixed old first others flags new =
     (unit next : ℕ) (s : State Place Name) → SolverIs unit next old s → first ≤ s.made → AllByRecursion (λ w. w < s.made) others
     → AreFlags unit s first others flags × SolverIs unit next new s
 
--- What was found as far as a limit of sizes: it is the one that is meant, or all that are meant are larger.
-abbrev pub IsFoundUpTo : {X : Type 0} → (X → ℕ) → ℕ → (X → Type 0) → Option X → Type 0
-IsFoundUpTo size limit IsMeant (Some x) = IsMeant x × (size x ≤ limit)
-IsFoundUpTo {X} size limit IsMeant None = (x : X) → IsMeant x → limit < size x
+-- The type that a type stands for, or none: then it is larger than the limit.
+abbrev pub IsReadingUpTo : ℕ → State Place Name → MlType Name → ℕ → Option (MlType Name) → Type 0
+IsReadingUpTo unit s t limit (Some r) = StandsFor (run_scope unit) s t r × (type_size r ≤ limit)
+IsReadingUpTo unit s t limit None = (r : MlType Name) → StandsFor (run_scope unit) s t r → limit < type_size r
 
 -- A call seeks the type that a type stands for.
 unfoldable pub AsksReading : Asked → MlType Name → ℕ → Option (MlType Name) → Asked → Type 0
 AsksReading old t limit found new =
     (unit next : ℕ) (s : State Place Name) → SolverIs unit next old s → IsOver s.made t → limit + 1 < 2 ^ 32
-    → IsFoundUpTo type_size limit (StandsFor (run_scope unit) s t) found × SolverIs unit next new s
+    → IsReadingUpTo unit s t limit found × SolverIs unit next new s
 
 -- The unknowns with a flag, of those that are left, are those which the first ones fix. Flags don't matter where nothing is bound.
 abbrev pub AreContext : ℕ → State Place Name → ℕ → Bool → List Bool → Type 0
 AreContext unit s first expansive flags =
     expansive ≡ false → (v : ℕ) → IsLeft (run_scope unit) s v → IsMarked flags v ↔ IsFixed (run_scope unit) s first [] v
 
-abbrev pub IsSchemeOver : Option (Scheme Name) → ℕ → Type 0
-IsSchemeOver None n = Unit {0}
-IsSchemeOver (Some σ) n = IsBodyOver (length σ.variables) n σ.body
+-- A scheme that was found, or none: then all types that this one stands for are larger than the limit, and so are all schemes.
+abbrev pub IsSchemeUpTo : ℕ → State Place Name → ℕ → Bool → MlType Name → ℕ → Option (Scheme Name) → Type 0
+IsSchemeUpTo unit s first expansive t limit (Some σ) =
+    IsScheme (run_scope unit) s first expansive t σ × (type_size σ.body ≤ limit) × IsBodyOver (length σ.variables) s.made σ.body
+IsSchemeUpTo unit s first expansive t limit None =
+    ((σ : Scheme Name) → IsScheme (run_scope unit) s first expansive t σ → limit < type_size σ.body)
+    × ((r : MlType Name) → StandsFor (run_scope unit) s t r → limit < type_size r)
 
 -- A call seeks the scheme of a type, at the end of a declaration that begins after the first unknowns.
 unfoldable pub AsksScheme : Asked → MlType Name → List Bool → Bool → ℕ → Option (Scheme Name) → Asked → Type 0
 AsksScheme old t flags expansive limit found new =
     (unit next first : ℕ) (s : State Place Name) → SolverIs unit next old s → IsOver s.made t → AreContext unit s first expansive flags → limit + 1 < 2 ^ 32
-    → IsFoundUpTo (λ σ. type_size σ.body) limit (IsScheme (run_scope unit) s first expansive t) found × IsSchemeOver found s.made × SolverIs unit next new s
+    → IsSchemeUpTo unit s first expansive t limit found × SolverIs unit next new s

@@ -1,5 +1,5 @@
 -- A type that stands for another has a scheme, as far as sizes tell: each unknown in it has a fate, though none need be known.
-use Rattle.std.proofs.Common.{◌≡◌, ◌↔◌, ◌⊎◌, ◌<◌, ◌≤◌, ◌+◌, ℕ, zero, suc, Bool, true, false, None, Some, List, [], ◌∷◌, cond, map, slice_index_or, inl, inr, sym, ◌∙◌, ap, subst, refl, arith}
+use Rattle.std.proofs.Common.{◌≡◌, ◌⊎◌, ◌<◌, ◌≤◌, ℕ, zero, suc, Bool, true, false, None, List, [], ◌∷◌, map, slice_index_or, inl, inr, sym, ◌∙◌, ap, subst, refl, arith}
 use Rattle.std.proofs.lemmas.Bool.{cases_order}
 use Rattle.sml_objects.specs.Fates.{close_as, substitutes, standing_for, type_or}
 use Rattle.sml_objects.specs.Initial.{Name, initial}
@@ -10,7 +10,7 @@ use Rattle.sml_objects.specs.Types.{assign, replace_type, replace_types, variabl
 use Rattle.sml_objects.specs.declared.fates.Fate.{Fate}
 use Rattle.sml_objects.specs.declared.fates.Fate.TheVariants.{Bind, Keep, Default}
 use Rattle.sml_graph.specs.Asked.{Asked, count}
-use Rattle.sml_schemes.specs.Left.{IsLeft, IsFlexible, IsReading}
+use Rattle.sml_schemes.specs.Left.{IsFlexible, IsReading}
 use Rattle.sml_schemes.specs.Fixed.{IsMarked}
 use Rattle.sml_schemes.specs.Schemes.{AsksEquality, IsFateOf, IsInt, IsScheme}
 
@@ -105,10 +105,10 @@ module _ (s : Asked) (flags : List Bool) (x : Bool) where
       never le = all-fates (count s) (λ (fate, have).
           let fs : List Fate = map fate (variables_after [] r) in
           let above : limit < type_size (close_as int_type fs r).body = large (close_as int_type fs r) (record {
-              reading = r;
-              reads = reads;
-              closed = record { fate = fate; fates = λ v left. have v left.known; scheme = refl };
-            }) in
+            reading = r;
+            reads = reads;
+            closed = record { fate = fate; fates = λ v left. have v left.known; scheme = refl };
+          }) in
           omega (arith, le, above, closed-size fs r))
 
       go : (limit ≡ type_size r) ⊎ ((limit < type_size r) ⊎ (type_size r < limit)) → limit < type_size r

@@ -23,7 +23,8 @@ use Rattle.sml_core_rules.specs.Solutions.{Meets}
 use Rattle.sml_core_rules.specs.States.{State}
 use Rattle.sml_core_rules.proofs.Lower.{lower}
 use Rattle.sml_asks.specs.Solvers.{SolverIs, IsTypeIn}
-use Rattle.sml_asks.proofs.Moving.{moved-assigned, moved-named, moved-admits, was-named, was-row}
+use Rattle.sml_asks.proofs.Giving.{given-assigned, given-named}
+use Rattle.sml_asks.proofs.Moving.{away, moved-admits, was-named, was-row}
 use Rattle.sml_asks.proofs.Rebinding.{moves, mentions-kept, initial-kept, kept, to-list, to-number, to-finite}
 
 module _ (unit next : ℕ) (solver : Asked) (s : State Place Name) (is : SolverIs unit next solver s) where
@@ -153,7 +154,7 @@ module _ (unit next : ℕ) (solver : Asked) (s : State Place Name) (is : SolverI
   same-initial : (t : MlType Name) → (k : Initial) × (t ≡ named (initial k)) → move t ≡ t
   unfolding move
   same-initial t (k, e) =
-      subst (λ t. moves unit next s.names is.known is.counted t ≡ t) (sym e) (moved-named (kept unit next s.names is.known is.counted) (initial k) (initial-kept unit next s.names is.known is.counted k))
+      subst (λ t. moves unit next s.names is.known is.counted t ≡ t) (sym e) (given-named (kept unit next s.names is.known is.counted) away (initial k) (initial-kept unit next s.names is.known is.counted k))
 
   pub overloaded-same : (v : ℕ) → C.IsOverloaded (run_scope unit) s v ↔ O.IsOverloaded solver v
   unfolding C.IsOverloaded naming move
@@ -191,6 +192,6 @@ module _ (unit next : ℕ) (solver : Asked) (s : State Place Name) (is : SolverI
         let x : (ts : List (MlType Name)) × (assign (λ v. move (σ v)) t ≡ app (row o.0) (types_of ts)) = o.1 (λ v. move (σ v)) (meets-rigidity σ h) in
         let keep = kept unit next s.names is.known is.counted in
         let y : (ts : MlTypes Name) × (assign σ t ≡ app (row o.0) ts) = was-row keep (assign σ t) o.0 (types_of x.0)
-        (moved-assigned keep σ t (mentions-kept unit next s.names is.known is.counted t k.1) ∙ x.1) in
+        (given-assigned keep away σ t (mentions-kept unit next s.names is.known is.counted t k.1) ∙ x.1) in
         (list_of y.0, y.1 ∙ ap (app (row o.0)) (sym (types-list_of y.0))),
   )

@@ -2,9 +2,12 @@ mod Overs
 pub mod Rebinding
 pub mod Stepping
 pub mod Making
+pub mod Giving
 pub mod Moving
 pub mod Leaving
 pub mod Closing
 pub mod Schemes
 pub mod Settling
 pub mod Fates
+pub mod Freeing
+pub mod Beginning

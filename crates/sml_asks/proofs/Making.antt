@@ -15,8 +15,7 @@ use Rattle.sml_objects.specs.declared.objects.MlType as P
 use Rattle.sml_objects.specs.Types.{instance_from}
 use Rattle.sml_objects.proofs.Standing.{right, either}
 use Rattle.sml_layers.specs.declared.layer.Layer.{Layer}
-use Rattle.sml_layers.specs.declared.layer.Layer.TheVariants.{Rigidity}
-use Rattle.sml_layers.specs.Demands.{Ask, within, equality, of_class, variable, Demand, equal, has_fields, asks, CanBeMet}
+use Rattle.sml_layers.specs.Demands.{Ask, within, equality, of_class, variable, Demand, equal, has_fields, asks}
 use Rattle.sml_layers.specs.Explicit.{variable_name}
 use Rattle.sml_layers.specs.Layers.{code_of}
 use Rattle.sml_graph.specs.declared.demand.Halt.{Halt}
@@ -36,7 +35,7 @@ use Rattle.sml_core_rules.specs.Scripts.{Script, requires, requires_or, IsAnswer
 use Rattle.sml_core_rules.specs.States.{State, with_demand}
 use Rattle.sml_core_rules.proofs.Lower.{can-lower}
 use Rattle.sml_asks.specs.Solvers.{AreNames, IsBound, IsReboundAsk, IsRebound, IsTypeIn, IsDemandIn, AreDemands}
-use Rattle.sml_asks.specs.Steps.{Answers, AnswersAreOfScripts, Makes, Instantiates, UnknownsAreSteps, IsNew, NamesAreSteps, SolversStartAnew}
+use Rattle.sml_asks.specs.Steps.{Answers, AnswersAreOfScripts, Makes, Instantiates, UnknownsAreSteps, IsNew, NamesAreSteps, NamesAreBounds}
 use Rattle.sml_asks.proofs.Overs.{over-more}
 
 -- what a script goes on with
@@ -132,6 +131,16 @@ instances-are-steps old new σ t e step unit next s is over =
     let k : IsBodyOver (length σ.variables) (count old) σ.body = subst (λ n. IsBodyOver (length σ.variables) n σ.body) (sym is.unknowns) over in
     (e k ∙ ap (λ n. instance_from n σ.body) is.unknowns, (step k unit next s is).1)
 
+pub instance-asked : (old mid new : Asked) (σ : Scheme Name) (made : Result (Unit {0}) Halt) (result : Result (Rc P.MlType Global) Halt)
+    → (IsSchemeOf old σ → (made ≡ Ok tt) × (mid ≡ old)) → IfOk result (λ t. type_of t.value ≡ instance_from (count mid) σ.body)
+    → OnOk result (count new ≡ count mid + length σ.variables) → OnOk result (PermitsSame mid new) → Returns mid new result H.Spent
+    → IfOk result (λ t. Instantiates old σ (type_of t.value) new)
+instance-asked old mid new σ made (Err h) same t n p r = tt
+instance-asked old mid new σ made (Ok x) same t n p r =
+    instances-are-steps old new σ (type_of x.value) (λ k. t ∙ ap (λ m. instance_from (count m) σ.body) (same k).1) (λ k.
+    let e : mid ≡ old = (same k).1 in
+    unknowns-are-steps old new (length σ.variables) (n ∙ ap (λ m. count m + length σ.variables) e) (subst (λ m. PermitsSame m new) e p) (r.unit ∙ ap (λ m. m.unit) e) r.kept)
+
 -- names
 
 module _ (unit next last : ℕ) (names ns : List Name) (known : AreNames unit next names) (counted : 0 < unit) (le : next ≤ last) where
@@ -181,41 +190,21 @@ module _ (unit next last : ℕ) (names ns : List Name) (known : AreNames unit ne
       back n (inr h) w = (b.lists n).1 (h, w)
 
 pub names-are-steps : NamesAreSteps
-names-are-steps unit next last solver s ns is le new = record {
-  counted = is.counted;
-  maker = is.maker;
-  spent = is.spent;
-  unknowns = is.unknowns;
-  known = names-more unit next last s.names ns is.known is.counted le new;
-  demands = is.demands;
-  says = is.says;
-  same = demands-more unit next last s.made s.made s.names (ns ++ s.names) (omega arith) (λ x h. right x ns s.names h)
-      (bound-more unit next last s.names ns is.known is.counted le new) is.demands s.demands is.same;
-  met = is.met;
-}
+names-are-steps unit next last solver s ns is le new = (
+  record {
+    counted = is.counted;
+    maker = is.maker;
+    spent = is.spent;
+    unknowns = is.unknowns;
+    known = names-more unit next last s.names ns is.known is.counted le new;
+    demands = is.demands;
+    says = is.says;
+    same = demands-more unit next last s.made s.made s.names (ns ++ s.names) (omega arith) (λ x h. right x ns s.names h)
+        (bound-more unit next last s.names ns is.known is.counted le new) is.demands s.demands is.same;
+    met = is.met;
+  },
+  bound-more unit next last s.names ns is.known is.counted le new,
+)
 
--- the beginning
-
-pub solvers-start-anew : SolversStartAnew
-unfolding IsMet
-solvers-start-anew unit next solver s c u p n m k e q = record {
-  counted = c;
-  maker = u;
-  spent = p;
-  unknowns = n ∙ sym e;
-  known = k;
-  demands = [];
-  says = says-its-demands.at_first solver n m;
-  same = subst (AreDemands unit next s.made s.names []) (sym q) tt;
-  met = subst (CanBeMet by_list Rigidity) (sym q) ((m Rigidity).0, tt);
-}
-
-pub instance-asked : (old mid new : Asked) (σ : Scheme Name) (made : Result (Unit {0}) Halt) (result : Result (Rc P.MlType Global) Halt)
-    → (IsSchemeOf old σ → (made ≡ Ok tt) × (mid ≡ old)) → IfOk result (λ t. type_of t.value ≡ instance_from (count mid) σ.body)
-    → OnOk result (count new ≡ count mid + length σ.variables) → OnOk result (PermitsSame mid new) → Returns mid new result H.Spent
-    → IfOk result (λ t. Instantiates old σ (type_of t.value) new)
-instance-asked old mid new σ made (Err h) same t n p r = tt
-instance-asked old mid new σ made (Ok x) same t n p r =
-    instances-are-steps old new σ (type_of x.value) (λ k. t ∙ ap (λ m. instance_from (count m) σ.body) (same k).1) (λ k.
-    let e : mid ≡ old = (same k).1 in
-    unknowns-are-steps old new (length σ.variables) (n ∙ ap (λ m. count m + length σ.variables) e) (subst (λ m. PermitsSame m new) e p) (r.unit ∙ ap (λ m. m.unit) e) r.kept)
+pub names-are-bounds : NamesAreBounds
+names-are-bounds unit next names known = record { past = omega arith; lists = λ n. ((λ h. (h, known.within n h)), λ h. h.0) }

@@ -1,91 +1,59 @@
 -- Types in which each name that isn't kept gives way to an initial one. It admits equality where the name did, and has an argument
 -- more, so that it stands for no initial type.
-use Rattle.std.proofs.Common.{◌≡◌, ℕ, Bool, true, false, cond, ◌&&◌, ◌||◌, List, [], ◌∷◌, map, Some, sym, ◌∙◌, ap, subst, refl}
-use Rattle.std.specs.Prelude.{option_map}
-use Rattle.std.specs.List.{AllByRecursion}
-use Rattle.std.proofs.lemmas.List.{length-map}
+use Rattle.std.proofs.Common.{◌≡◌, Bool, true, false, cond, ◌&&◌, ◌||◌, List, [], sym, ◌∙◌, ap, subst, refl}
 use Rattle.sml_tree.specs.Trees.{Id}
 use Rattle.sml_objects.specs.Names.{Initial, exn, list, ref}
 use Rattle.sml_objects.specs.Equality.{admits, all_admit, is_ref, has_equality, admits_by, all_admit_by}
 use Rattle.sml_objects.specs.Initial.{Name, initial, naming}
-use Rattle.sml_objects.specs.Labels.{with_labels}
-use Rattle.sml_objects.specs.Maps.{lookup}
-use Rattle.sml_objects.specs.Objects.{MlType, MlTypes, bound, free, app, arrow, row, name, no_type, and_type, named, types_of}
-use Rattle.sml_objects.specs.Types.{assign, replace_type, replace_types}
+use Rattle.sml_objects.specs.Objects.{MlType, MlTypes, bound, free, app, arrow, row, name, no_type, and_type, named}
 use Rattle.sml_layers.specs.Demands.{Mentions, AllMention}
-use Rattle.sml_layers.specs.Rows.{HasFields, fields_at}
-use Rattle.sml_layers.specs.Worlds.{finite}
-use Rattle.sml_graph.proofs.Rowing.{labels-map, lookup-at}
+use Rattle.sml_asks.proofs.Giving.{given, all_given}
+
+abbrev stand_in : Name → Name
+stand_in n = cond (has_equality naming n) (initial list) (initial exn)
+
+abbrev unit_type : MlType Name
+unit_type = app (row []) no_type
+
+abbrev pub away : Name → MlTypes Name → MlType Name
+away n ts = app (name (stand_in n)) (and_type unit_type ts)
+
+abbrev moved_name : Name → Bool → MlTypes Name → MlType Name
+moved_name n b ts = cond b (app (name n) ts) (away n ts)
 
 module _ (keep : Name → Bool) where
-  abbrev pub Kept : Name → Type 0
-  Kept n = keep n ≡ true
+  abbrev pub moved : MlType Name → MlType Name
+  moved t = given keep away t
 
-  abbrev stand_in : Name → Name
-  stand_in n = cond (has_equality naming n) (initial list) (initial exn)
+  abbrev all_moved : MlTypes Name → MlTypes Name
+  all_moved ts = all_given keep away ts
 
-  abbrev unit_type : MlType Name
-  unit_type = app (row []) no_type
-
-  abbrev moved_name : Name → Bool → MlTypes Name → MlType Name
-  moved_name n b ts = cond b (app (name n) ts) (app (name (stand_in n)) (and_type unit_type ts))
-
-  unfoldable mutual
-    pub moved : MlType Name → MlType Name
-    moved (bound k) = bound k
-    moved (free v) = free v
-    moved (app arrow ts) = app arrow (all_moved ts)
-    moved (app (row ls) ts) = app (row ls) (all_moved ts)
-    moved (app (name n) ts) = moved_name n (keep n) (all_moved ts)
-
-    pub all_moved : MlTypes Name → MlTypes Name
-    all_moved no_type = no_type
-    all_moved (and_type t ts) = and_type (moved t) (all_moved ts)
-
-  mutual
-    unfolding moved all_moved replace_type replace_types Mentions AllMention
-
-    pub moved-assigned : (σ : ℕ → MlType Name) (t : MlType Name) → Mentions Kept t → moved (assign σ t) ≡ assign (λ v. moved (σ v)) t
-    moved-assigned σ (bound k) m = refl
-    moved-assigned σ (free v) m = refl
-    moved-assigned σ (app arrow ts) m = ap (app arrow) (all-moved-assigned σ ts m.1)
-    moved-assigned σ (app (row ls) ts) m = ap (app (row ls)) (all-moved-assigned σ ts m.1)
-    moved-assigned σ (app (name n) ts) m =
-        ap (λ b. moved_name n b (all_moved (replace_types bound σ ts))) m.0 ∙ ap (app (name n)) (all-moved-assigned σ ts m.1)
-
-    pub all-moved-assigned : (σ : ℕ → MlType Name) (ts : MlTypes Name) → AllMention Kept ts → all_moved (replace_types bound σ ts) ≡ replace_types bound (λ v. moved (σ v)) ts
-    all-moved-assigned σ no_type m = refl
-    all-moved-assigned σ (and_type t ts) m =
-        ap (λ u. and_type u (all_moved (replace_types bound σ ts))) (moved-assigned σ t m.0)
-        ∙ ap (and_type (assign (λ v. moved (σ v)) t)) (all-moved-assigned σ ts m.1)
+  abbrev IsKept : Name → Type 0
+  IsKept n = keep n ≡ true
 
   -- what a kept name admits
 
   mutual
-    unfolding moved all_moved Mentions AllMention
+    unfolding given all_given Mentions AllMention
 
-    pub moved-mentions : (P : Name → Type 0) → ((k : Initial) → P (initial k)) → ((k : Initial) → Kept (initial k)) → (t : MlType Name) → Mentions P t → Mentions (λ n. P n × Kept n) (moved t)
+    pub moved-mentions : (P : Name → Type 0) → ((k : Initial) → P (initial k)) → ((k : Initial) → IsKept (initial k)) → (t : MlType Name) → Mentions P t → Mentions (λ n. P n × IsKept n) (moved t)
     moved-mentions P p k (bound v) m = tt
     moved-mentions P p k (free v) m = tt
     moved-mentions P p k (app arrow ts) m = (tt, all-moved-mention P p k ts m.1)
     moved-mentions P p k (app (row ls) ts) m = (tt, all-moved-mention P p k ts m.1)
     moved-mentions P p k (app (name n) ts) m = by_keep (keep n) refl (all-moved-mention P p k ts m.1)
       where
-        by_equality : (b : Bool) → P (cond b (initial list) (initial exn)) × Kept (cond b (initial list) (initial exn))
+        by_equality : (b : Bool) → P (cond b (initial list) (initial exn)) × IsKept (cond b (initial list) (initial exn))
         by_equality true = (p list, k list)
         by_equality false = (p exn, k exn)
 
-        by_keep : (b : Bool) → keep n ≡ b → AllMention (λ n. P n × Kept n) (all_moved ts) → Mentions (λ n. P n × Kept n) (moved_name n b (all_moved ts))
+        by_keep : (b : Bool) → keep n ≡ b → AllMention (λ n. P n × IsKept n) (all_moved ts) → Mentions (λ n. P n × IsKept n) (moved_name n b (all_moved ts))
         by_keep true e a = ((m.0, e), a)
         by_keep false e a = (by_equality (has_equality naming n), ((tt, tt), a))
 
-    pub all-moved-mention : (P : Name → Type 0) → ((k : Initial) → P (initial k)) → ((k : Initial) → Kept (initial k)) → (ts : MlTypes Name) → AllMention P ts → AllMention (λ n. P n × Kept n) (all_moved ts)
+    pub all-moved-mention : (P : Name → Type 0) → ((k : Initial) → P (initial k)) → ((k : Initial) → IsKept (initial k)) → (ts : MlTypes Name) → AllMention P ts → AllMention (λ n. P n × IsKept n) (all_moved ts)
     all-moved-mention P p k no_type m = tt
     all-moved-mention P p k (and_type t ts) m = (moved-mentions P p k t m.0, all-moved-mention P p k ts m.1)
-
-  pub moved-named : (n : Name) → Kept n → moved (named n) ≡ named n
-  unfolding moved all_moved
-  moved-named n k = ap (λ b. moved_name n b no_type) k
 
   -- what is moved to an initial type, and to a row
 
@@ -99,12 +67,12 @@ module _ (keep : Name → Bool) where
   parts (app h ts) = ts
 
   none-moved : (ts : MlTypes Name) → all_moved ts ≡ no_type → ts ≡ no_type
-  unfolding all_moved
+  unfolding all_given
   none-moved no_type e = refl
   none-moved (and_type t ts) e = cc
 
   pub was-named : (t : MlType Name) (n : Name) → moved t ≡ named n → t ≡ named n
-  unfolding moved
+  unfolding given
   was-named (bound k) n e = cc
   was-named (free v) n e = cc
   was-named (app arrow ts) n e = cc
@@ -116,7 +84,7 @@ module _ (keep : Name → Bool) where
       by_keep false h = cc
 
   pub was-row : (t : MlType Name) (ls : List Id) (us : MlTypes Name) → moved t ≡ app (row ls) us → (ts : MlTypes Name) × (t ≡ app (row ls) ts)
-  unfolding moved
+  unfolding given
   was-row (bound k) ls us e = cc
   was-row (free v) ls us e = cc
   was-row (app arrow ts) ls us e = cc
@@ -127,55 +95,19 @@ module _ (keep : Name → Bool) where
       by_keep true h = cc
       by_keep false h = cc
 
-  -- rows
-
-  pub all-moved-list : (ts : List (MlType Name)) → all_moved (types_of ts) ≡ types_of (map moved ts)
-  unfolding moved all_moved
-  all-moved-list [] = refl
-  all-moved-list (t ∷ ts) = ap (and_type (moved t)) (all-moved-list ts)
-
-  moved-row : (ls : List Id) (ts : List (MlType Name)) → moved (app (row ls) (types_of ts)) ≡ app (row ls) (types_of (map moved ts))
-  unfolding moved
-  moved-row ls ts = ap (app (row ls)) (all-moved-list ts)
-
-  field-moved : (ls : List Id) (ts : List (MlType Name)) (l : Id) (t : MlType Name) → lookup l (with_labels ls ts) ≡ Some t → lookup l (with_labels ls (map moved ts)) ≡ Some (moved t)
-  field-moved ls ts l t h = ap (lookup l) (labels-map moved ls ts) ∙ (sym (lookup-at moved l (with_labels ls ts)) ∙ ap (option_map moved) h)
-
-  fields-moved : (ls : List Id) (ts : List (MlType Name)) (fs : List (Id × MlType Name))
-      → AllByRecursion (λ f. lookup f.0 (with_labels ls ts) ≡ Some f.1) fs → AllByRecursion (λ f. lookup f.0 (with_labels ls (map moved ts)) ≡ Some f.1) (fields_at moved fs)
-  fields-moved ls ts [] h = tt
-  fields-moved ls ts (f ∷ fs) h = (field-moved ls ts f.0 f.1 h.0, fields-moved ls ts fs h.1)
-
-  pub moved-fields : (t : MlType Name) (fs : List (Id × MlType Name)) → HasFields Name finite t fs → HasFields Name finite (moved t) (fields_at moved fs)
-  moved-fields t fs h = record {
-    labels = h.labels;
-    types = map moved h.types;
-    rising = h.rising;
-    count = length-map h.types moved ∙ h.count;
-    is_row = ap moved h.is_row ∙ moved-row h.labels h.types;
-    fields = fields-moved h.labels h.types fs h.fields;
-  }
-
-  pub fields-assigned : (σ : ℕ → MlType Name) (fs : List (Id × MlType Name)) → AllByRecursion (λ f. Mentions Kept f.1) fs
-      → fields_at moved (fields_at (assign σ) fs) ≡ fields_at (assign (λ v. moved (σ v))) fs
-  fields-assigned σ [] m = refl
-  fields-assigned σ (f ∷ fs) m =
-      ap (λ t. (f.0, t) ∷ fields_at moved (fields_at (assign σ) fs)) (moved-assigned σ f.1 m.0)
-      ∙ ap (λ gs. (f.0, assign (λ v. moved (σ v)) f.1) ∷ gs) (fields-assigned σ fs m.1)
-
   -- equality
 
-  module _ (kept : (k : Initial) → Kept (initial k)) where
+  module _ (kept : (k : Initial) → IsKept (initial k)) where
     no-ref : (n : Name) → keep n ≡ false → is_ref naming n ≡ false
     unfolding naming
     no-ref n e = go (naming.same (initial ref) n)
       where
         go : (d : Dec (initial ref ≡ n)) → elim d [ yes _ ↦ true | no _ ↦ false ] ≡ false
-        go (yes p) = sym (subst Kept p (kept ref)) ∙ e
+        go (yes p) = sym (subst IsKept p (kept ref)) ∙ e
         go (no p) = refl
 
     mutual
-      unfolding moved all_moved admits_by all_admit_by naming
+      unfolding given all_given admits_by all_admit_by naming
 
       pub moved-admits : (t : MlType Name) → admits naming (moved t) ≡ admits naming t
       moved-admits (bound k) = refl

@@ -25,7 +25,8 @@ use Rattle.sml_graph.specs.Bounds.{IsNameWithin}
 use Rattle.sml_graph.specs.Said.{demand_of, by_number, by_list}
 use Rattle.sml_graph.proofs.Rebounds.{mentions-more}
 use Rattle.sml_asks.specs.Solvers.{AreNames, IsBound, IsReboundAsk, IsRebound, IsTypeIn, IsDemandIn, AreDemands}
-use Rattle.sml_asks.proofs.Moving.{Kept, moved, moved-assigned, moved-mentions, moved-named, moved-fields, moved-admits, fields-assigned}
+use Rattle.sml_asks.proofs.Giving.{given-assigned, given-named, given-fields, fields-assigned}
+use Rattle.sml_asks.proofs.Moving.{away, moved, moved-mentions, moved-admits}
 
 -- the names that are kept: those made so far, and those of explicit variables
 
@@ -51,6 +52,14 @@ was-variable (initial k) h = cc
 was-variable (N.made zero k zero q) h = (record { number = k; equality = q }, refl)
 was-variable (N.made zero k (suc a) q) h = cc
 was-variable (N.made (suc u) k a q) h = cc
+
+-- the layer of finite types asks for nothing more
+pub late : (a : Ask (List Name)) → index_of (layer_of a) ≤ index_of Finiteness → ⊥
+late (within K.Newness T) h = omega (arith, h)
+late (within K.Locality T) h = omega (arith, h)
+late equality h = omega (arith, h)
+late (of_class c) h = omega (arith, h)
+late (variable x) h = omega (arith, h)
 
 module _ (unit next : ℕ) (names : List Name) (known : AreNames unit next names) (counted : 0 < unit) where
   pub kept : Name → Bool
@@ -81,8 +90,8 @@ module _ (unit next : ℕ) (names : List Name) (known : AreNames unit next names
   abbrev pub moves : MlType Name → MlType Name
   moves t = moved kept t
 
-  pub mentions-kept : (t : MlType Name) → Mentions (λ n. Stands n names) t → Mentions (Kept kept) t
-  mentions-kept t m = mentions-more kept (λ n. Stands n names) (Kept kept) named-kept t m
+  pub mentions-kept : (t : MlType Name) → Mentions (λ n. Stands n names) t → Mentions (λ n. kept n ≡ true) t
+  mentions-kept t m = mentions-more kept (λ n. Stands n names) (λ n. kept n ≡ true) named-kept t m
 
   -- what is asked of a type
 
@@ -102,14 +111,14 @@ module _ (unit next : ℕ) (names : List Name) (known : AreNames unit next names
   unfolding naming
   asked-list (within k most) b h t q =
       subst (λ b. D.IsAsAsked by_list b (moves t)) (sym h.2)
-      (mentions-more kept (λ n. IsNameWithin unit most n × Kept kept n) (W h.0) (λ n x. allowed-list most h.0 h.1 n x.0 (was-kept n x.1)) (moves t)
+      (mentions-more kept (λ n. IsNameWithin unit most n × (kept n ≡ true)) (W h.0) (λ n x. allowed-list most h.0 h.1 n x.0 (was-kept n x.1)) (moves t)
       (moved-mentions kept (IsNameWithin unit most) (λ k. tt) initial-kept t q))
   asked-list equality b h t q = subst (λ b. D.IsAsAsked by_list b (moves t)) (sym h) (moved-admits kept initial-kept t ∙ q)
   asked-list (of_class c) b h t q = subst (λ b. D.IsAsAsked by_list b (moves t)) (sym h) (q.0, q.1, ap moves q.2 ∙ initial-named q.0)
     where
       initial-named : (k : Initial) → moves (named (naming.initial k)) ≡ named (naming.initial k)
-      initial-named k = moved-named kept (initial k) (initial-kept k)
-  asked-list (variable x) b h t q = subst (λ b. D.IsAsAsked by_list b (moves t)) (sym h) (ap moves q ∙ moved-named kept (variable_name x) (variable-kept x))
+      initial-named k = given-named kept away (initial k) (initial-kept k)
+  asked-list (variable x) b h t q = subst (λ b. D.IsAsAsked by_list b (moves t)) (sym h) (ap moves q ∙ given-named kept away (variable_name x) (variable-kept x))
 
   asked-number : (a : Ask ℕ) (b : Ask (List Name)) → IsReboundAsk (IsBound unit next names) a b → (t : MlType Name)
       → D.IsAsAsked by_list b t → D.IsAsAsked (by_number unit) a t
@@ -127,17 +136,9 @@ module _ (unit next : ℕ) (names : List Name) (known : AreNames unit next names
   same-layer (of_class c) b h = ap layer_of h
   same-layer (variable x) b h = ap layer_of h
 
-  -- the layer of finite types asks for nothing more
-  late : (a : Ask (List Name)) → index_of (layer_of a) ≤ index_of Finiteness → ⊥
-  late (within K.Newness T) h = omega (arith, h)
-  late (within K.Locality T) h = omega (arith, h)
-  late equality h = omega (arith, h)
-  late (of_class c) h = omega (arith, h)
-  late (variable x) h = omega (arith, h)
-
   -- demands
 
-  fields-kept : (m : ℕ) (fs : List (Id × MlType Name)) → AllByRecursion (λ f. IsTypeIn m names f.1) fs → AllByRecursion (λ f. Mentions (Kept kept) f.1) fs
+  fields-kept : (m : ℕ) (fs : List (Id × MlType Name)) → AllByRecursion (λ f. IsTypeIn m names f.1) fs → AllByRecursion (λ f. Mentions (λ n. kept n ≡ true) f.1) fs
   fields-kept m [] h = tt
   fields-kept m (f ∷ fs) h = (mentions-kept f.1 h.0.1, fields-kept m fs h.1)
 
@@ -145,14 +146,14 @@ module _ (unit next : ℕ) (names : List Name) (known : AreNames unit next names
       → IsRebound (IsBound unit next names) d e → D.Holds (by_number unit) finite l σ d → D.Holds by_list finite l (λ v. moves (σ v)) e
   holds-list m l σ (equal t u) e k s h =
       subst (D.Holds by_list finite l (λ v. moves (σ v))) (sym s)
-      (sym (moved-assigned kept σ t (mentions-kept t k.0.1)) ∙ (ap moves h ∙ moved-assigned kept σ u (mentions-kept u k.1.1)))
+      (sym (given-assigned kept away σ t (mentions-kept t k.0.1)) ∙ (ap moves h ∙ given-assigned kept away σ u (mentions-kept u k.1.1)))
   holds-list m l σ (has_fields t fs) e k s h =
       subst (D.Holds by_list finite l (λ v. moves (σ v))) (sym s)
-      (subst (λ u. HasFields Name finite u (fields_at (assign (λ v. moves (σ v))) fs)) (moved-assigned kept σ t (mentions-kept t k.0.1))
-      (subst (HasFields Name finite (moves (assign σ t))) (fields-assigned kept σ fs (fields-kept m fs k.1)) (moved-fields kept (assign σ t) (fields_at (assign σ) fs) h)))
+      (subst (λ u. HasFields Name finite u (fields_at (assign (λ v. moves (σ v))) fs)) (given-assigned kept away σ t (mentions-kept t k.0.1))
+      (subst (HasFields Name finite (moves (assign σ t))) (fields-assigned kept away σ fs (fields-kept m fs k.1)) (given-fields kept away (assign σ t) (fields_at (assign σ) fs) h)))
   holds-list m l σ (asks a t) e k s h =
       subst (D.Holds by_list finite l (λ v. moves (σ v))) (sym s.2)
-      (λ p. subst (D.IsAsAsked by_list s.0) (moved-assigned kept σ t (mentions-kept t k.1))
+      (λ p. subst (D.IsAsAsked by_list s.0) (given-assigned kept away σ t (mentions-kept t k.1))
       (asked-list a s.0 s.1 (assign σ t) (h (subst (λ n. index_of n ≤ index_of l) (same-layer a s.0 s.1) p))))
 
   holds-number : (w : World) (l : Layer) (σ : Assignment Name w) (d : Demand Name ℕ) (e : Demand Name (List Name)) → IsRebound (IsBound unit next names) d e

@@ -23,7 +23,7 @@ use Rattle.sml_core_rules.specs.Scopes.{run_scope}
 use Rattle.sml_core_rules.specs.Solutions as C
 use Rattle.sml_core_rules.specs.States.{State}
 use Rattle.sml_asks.specs.Solvers.{SolverIs}
-use Rattle.sml_asks.specs.Closings.{IsReadingUpTo, IsSchemeUpTo, AreContext, AsksReading, AsksScheme}
+use Rattle.sml_asks.specs.Closings.{IsReadingUpTo, IsSchemeUpTo, AreContext, FlagsAreContexts, ReadingsHaveSchemes, AsksReading, AsksScheme}
 use Rattle.sml_asks.proofs.Leaving.{left-same, reading-same, flexible-same, int-same, equality-same}
 use Rattle.sml_asks.proofs.Closing.{kept-stays}
 use Rattle.sml_asks.proofs.Fates.{readings-large}
@@ -137,3 +137,15 @@ scheme-after old mid new t flags more x limit low made (Ok found) same lower mar
     (subst (λ n. IfSome found (λ θ. type_size (scheme_of θ).body ≤ n)) (lower small) within)
     (subst (λ n. IfNone found ((θ : Scheme Name) → S.IsScheme new more x t θ → n < type_size θ.body)) (lower small) none) in
     (q, is')
+
+-- what follows of states alone
+
+pub flags-are-contexts : FlagsAreContexts
+flags-are-contexts unit s first x flags f e v left = (f.fixes v left.0, f.all v left.0 left.1)
+
+pub readings-have-schemes : ReadingsHaveSchemes
+unfolding C.IsScheme C.StandsFor
+readings-have-schemes unit s first x t r σ stands = (
+  λ (q, reads, fate, fates, e). (q, (reads.0, λ τ h. reads.1 τ h ∙ stands.1 τ h), fate, fates, e),
+  λ (q, reads, fate, fates, e). (q, (reads.0, λ τ h. reads.1 τ h ∙ sym (stands.1 τ h)), fate, fates, e),
+)

@@ -2,11 +2,13 @@
 use Rattle.std.specs.Prelude.{◌≡◌, ◌↔◌, ◌⊎◌, ◌+◌, ◌^◌, ◌<◌, ◌≤◌, ℕ, Bool, false, Option, Some, None, Result, Ok, Err, List, [], length, map}
 use Rattle.std.specs.List.{AllByRecursion}
 use Rattle.sml_lex.specs.declared.fault.Place.{Place}
+use Rattle.sml_objects.specs.Appearance.{Stands}
 use Rattle.sml_objects.specs.Initial.{Name}
 use Rattle.sml_objects.specs.Objects.{MlType, Scheme, free}
 use Rattle.sml_objects.specs.Sizes.{type_size}
 use Rattle.sml_layers.specs.declared.layer.Layer.TheVariants.{Rigidity}
-use Rattle.sml_layers.specs.Demands.{Demand}
+use Rattle.sml_layers.specs.declared.variable.Variable.{Variable}
+use Rattle.sml_layers.specs.Demands.{Demand, asks, variable}
 use Rattle.sml_graph.specs.declared.demand.Refusal.{Refusal}
 use Rattle.sml_graph.specs.declared.demand.Refusal.TheVariants as R
 use Rattle.sml_graph.specs.Asked.{Asked}
@@ -87,3 +89,22 @@ unfoldable pub AsksScheme : Asked → MlType Name → List Bool → Bool → ℕ
 AsksScheme old t flags expansive limit found new =
     (unit next first : ℕ) (s : State Place Name) → SolverIs unit next old s → IsOver s.made t → AreContext unit s first expansive flags → limit + 1 < 2 ^ 32
     → IsSchemeUpTo unit s first expansive t limit found × SolverIs unit next new s
+
+-- laws of closing
+
+-- The unknown that stands for an explicit variable may be any type, by the equations.
+abbrev pub VariablesAreFree : Type 0
+VariablesAreFree =
+    (unit next : ℕ) (solver : Asked) (s : State Place Name) (x : Variable) (v : ℕ) → SolverIs unit next solver s → Stands (asks (variable x) (free v)) s.demands
+    → IsFree (run_scope unit) s v
+
+-- Flags of what the first unknowns fix are those that closing needs.
+abbrev pub FlagsAreContexts : Type 0
+FlagsAreContexts =
+    (unit : ℕ) (s : State Place Name) (first : ℕ) (expansive : Bool) (flags : List Bool) → AreFlags unit s first [] flags → AreContext unit s first expansive flags
+
+-- A type has the schemes of the type that it stands for.
+abbrev pub ReadingsHaveSchemes : Type 0
+ReadingsHaveSchemes =
+    (unit : ℕ) (s : State Place Name) (first : ℕ) (expansive : Bool) (t r : MlType Name) (σ : Scheme Name) → StandsFor (run_scope unit) s t r
+    → IsScheme (run_scope unit) s first expansive r σ ↔ IsScheme (run_scope unit) s first expansive t σ

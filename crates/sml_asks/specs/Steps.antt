@@ -1,9 +1,9 @@
 -- What calls of a solver say of scripts: one call is one step of a script, in each state that is the solver's.
-use Rattle.std.specs.Prelude.{◌≡◌, ◌+◌, ◌<◌, ◌≤◌, ℕ, Bool, false, Result, Ok, Err, List, [], ◌∷◌, length}
+use Rattle.std.specs.Prelude.{◌≡◌, ◌+◌, ◌<◌, ◌≤◌, ℕ, Bool, false, Result, Ok, Err, List, [], ◌∷◌, ◌++◌, length}
 use Rattle.std.specs.List.{AllByRecursion}
 use Rattle.sml_lex.specs.Faults.{Fault}
 use Rattle.sml_lex.specs.declared.fault.Place.{Place}
-use Rattle.sml_objects.specs.Initial.{Name, made}
+use Rattle.sml_objects.specs.Initial.{Name, initial_basis, made}
 use Rattle.sml_objects.specs.Objects.{MlType, Scheme}
 use Rattle.sml_objects.specs.Types.{instance_from}
 use Rattle.sml_layers.specs.declared.layer.Layer.{Layer}
@@ -18,7 +18,7 @@ use Rattle.sml_rules.specs.Answers.{refused, accepted, fault}
 use Rattle.sml_core_rules.specs.Scopes.{run_scope}
 use Rattle.sml_core_rules.specs.Scripts.{IsAnswer, give, require, requires_or}
 use Rattle.sml_core_rules.specs.States.{State, words, with_demand, with_made, with_unknowns}
-use Rattle.sml_asks.specs.Solvers.{AreNames, SolverIs, IsDemand}
+use Rattle.sml_asks.specs.Solvers.{AreNames, IsBound, SolverIs, IsDemand}
 
 -- What was answered to a demand that was asked in a state. Nothing is known after want of memory.
 abbrev pub Answers : ℕ → ℕ → State Place Name → Demand Name (List Name) → Asked → Result (Unit {0}) Refusal → Type 0
@@ -73,11 +73,20 @@ pub record IsNew (unit first last : ℕ) (n : Name) : Type 0 where
   pub from : first ≤ number
   pub below : number < last
 
--- New names are a step, of which the solver sees nothing.
+-- New names are a step, of which the solver sees nothing. What was a bound is still one.
 abbrev pub NamesAreSteps : Type 0
 NamesAreSteps =
     (unit next last : ℕ) (solver : Asked) (s : State Place Name) (ns : List Name) → SolverIs unit next solver s → next ≤ last
-    → AllByRecursion (IsNew unit next last) ns → SolverIs unit last solver (with_made ns s)
+    → AllByRecursion (IsNew unit next last) ns
+    → SolverIs unit last solver (with_made ns s) × ((most : ℕ) (list : List Name) → IsBound unit next s.names most list → IsBound unit last (ns ++ s.names) most list)
+
+-- The names made so far are a bound.
+abbrev pub NamesAreBounds : Type 0
+NamesAreBounds = (unit next : ℕ) (names : List Name) → AreNames unit next names → IsBound unit next names next names
+
+-- A run begins with the initial names.
+abbrev pub RunsBegin : Type 0
+RunsBegin = (unit : ℕ) → 0 < unit → AreNames unit 0 initial_basis.names
 
 -- A new solver is that of a state where nothing was made but names, and nothing asked.
 abbrev pub SolversStartAnew : Type 0

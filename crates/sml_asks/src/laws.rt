@@ -1,6 +1,7 @@
 //! What calls of a solver say of scripts, beside what the calls promise themselves.
 
-ghost use Rattle.sml_asks.specs.Steps.{AnswersAreOfScripts, NamesAreSteps, SolversStartAnew, UnknownsAreSteps};
+ghost use Rattle.sml_asks.specs.Closings.{FlagsAreContexts, ReadingsHaveSchemes, VariablesAreFree};
+ghost use Rattle.sml_asks.specs.Steps.{AnswersAreOfScripts, NamesAreBounds, NamesAreSteps, RunsBegin, SolversStartAnew, UnknownsAreSteps};
 
 /// What was answered to a demand is what its script may be answered: it goes on where the demand can be met together with
 /// those before, and is refused with the code of the first layer that can't.
@@ -13,7 +14,7 @@ pub fn unknowns_are_steps()
     ensures { UnknownsAreSteps }
 {}
 
-/// New names of the unit are a step of a script, and the solver stays as it is.
+/// New names of the unit are a step of a script, and the solver stays as it is. What was a bound is still one.
 pub fn names_are_steps()
     ensures { NamesAreSteps }
 {}
@@ -21,4 +22,29 @@ pub fn names_are_steps()
 /// A new solver is that of a state in which no unknown was made and nothing asked.
 pub fn solvers_start_anew()
     ensures { SolversStartAnew }
+{}
+
+/// The names made so far are a bound, which allows all of them.
+pub fn names_are_bounds()
+    ensures { NamesAreBounds }
+{}
+
+/// A run begins with the initial names, and no unit has made one yet.
+pub fn runs_begin()
+    ensures { RunsBegin }
+{}
+
+/// The unknown of an explicit type variable may be any type by the equations alone, as `ask_general` needs it.
+pub fn variables_are_free()
+    ensures { VariablesAreFree }
+{}
+
+/// The flags that `ask_fixed` gives for the context of a declaration are those that `ask_scheme` needs.
+pub fn flags_are_contexts()
+    ensures { FlagsAreContexts }
+{}
+
+/// A type has the schemes of the type that it stands for, which `ask_reading` gives, and no others.
+pub fn readings_have_schemes()
+    ensures { ReadingsHaveSchemes }
 {}

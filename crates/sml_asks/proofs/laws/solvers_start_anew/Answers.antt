@@ -1,4 +1,4 @@
-use Rattle.sml_asks.proofs.Making.{solvers-start-anew}
+use Rattle.sml_asks.proofs.Beginning.{solvers-start-anew}
 use Rattle.sml_asks.proofs.laws.solvers_start_anew.Goals as goal
 
 pub returns : goal.returns

@@ -11,3 +11,4 @@ pub mod Settling
 pub mod Fates
 pub mod Freeing
 pub mod Beginning
+pub mod Variables

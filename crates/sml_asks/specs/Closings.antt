@@ -4,8 +4,9 @@ use Rattle.std.specs.List.{AllByRecursion}
 use Rattle.sml_lex.specs.declared.fault.Place.{Place}
 use Rattle.sml_objects.specs.Appearance.{Stands}
 use Rattle.sml_objects.specs.Initial.{Name}
-use Rattle.sml_objects.specs.Objects.{MlType, Scheme, free}
+use Rattle.sml_objects.specs.Objects.{MlType, Scheme, free, types_of}
 use Rattle.sml_objects.specs.Sizes.{type_size}
+use Rattle.sml_objects.specs.Types.{variables_after_all}
 use Rattle.sml_layers.specs.declared.layer.Layer.TheVariants.{Rigidity}
 use Rattle.sml_layers.specs.declared.variable.Variable.{Variable}
 use Rattle.sml_layers.specs.Demands.{Demand, asks, variable}
@@ -108,3 +109,9 @@ abbrev pub ReadingsHaveSchemes : Type 0
 ReadingsHaveSchemes =
     (unit : ℕ) (s : State Place Name) (first : ℕ) (expansive : Bool) (t r : MlType Name) (σ : Scheme Name) → StandsFor (run_scope unit) s t r
     → IsScheme (run_scope unit) s first expansive r σ ↔ IsScheme (run_scope unit) s first expansive t σ
+
+-- Types fix what their variables fix.
+abbrev pub TypesFixAsVariables : Type 0
+TypesFixAsVariables =
+    (unit : ℕ) (s : State Place Name) (n : ℕ) (ts : List (MlType Name)) (v : ℕ)
+    → IsFixed (run_scope unit) s n ts v ↔ IsFixed (run_scope unit) s n (map free (variables_after_all [] (types_of ts))) v

@@ -1,6 +1,6 @@
 //! What calls of a solver say of scripts, beside what the calls promise themselves.
 
-ghost use Rattle.sml_asks.specs.Closings.{FlagsAreContexts, ReadingsHaveSchemes, VariablesAreFree};
+ghost use Rattle.sml_asks.specs.Closings.{FlagsAreContexts, ReadingsHaveSchemes, TypesFixAsVariables, VariablesAreFree};
 ghost use Rattle.sml_asks.specs.Steps.{AnswersAreOfScripts, NamesAreBounds, NamesAreSteps, RunsBegin, SolversStartAnew, UnknownsAreSteps};
 
 /// What was answered to a demand is what its script may be answered: it goes on where the demand can be met together with
@@ -47,4 +47,9 @@ pub fn flags_are_contexts()
 /// A type has the schemes of the type that it stands for, which `ask_reading` gives, and no others.
 pub fn readings_have_schemes()
     ensures { ReadingsHaveSchemes }
+{}
+
+/// What types fix their variables fix, which `ask_general` takes in place of types that stay open.
+pub fn types_fix_as_variables()
+    ensures { TypesFixAsVariables }
 {}

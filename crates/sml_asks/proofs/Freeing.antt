@@ -22,9 +22,9 @@ use Rattle.sml_core_rules.specs.Solutions as C
 use Rattle.sml_asks.specs.Closings.{VariablesAreFree}
 use Rattle.sml_asks.specs.Solvers.{AreNames, IsBound, IsRebound, IsTypeIn, IsDemandIn, AreDemands}
 use Rattle.sml_asks.proofs.Giving.{given, all_given, given-assigned, given-fields, fields-assigned}
-use Rattle.sml_asks.proofs.Rebinding.{late}
+use Rattle.sml_asks.proofs.Holding.{all-given-hold}
 
-module _ (unit next made : ℕ) (names : List Name) (known : AreNames unit next names) (x : Variable) (t : MlType Name) where
+module _ (unit next : ℕ) (names : List Name) (known : AreNames unit next names) (x : Variable) (t : MlType Name) where
   abbrev is_other : Bool → Bool
   is_other b = cond b false true
 
@@ -55,32 +55,6 @@ module _ (unit next made : ℕ) (names : List Name) (known : AreNames unit next 
       let e : stands naming (variable_name x) (variable_name x ∷ []) ≡ true = found naming (variable_name x) (variable_name x ∷ []) (inl refl) in
       ap (λ b. cond (is_other b) (named (variable_name x)) t) e
 
-  mentions-kept : (u : MlType Name) → Mentions (λ n. Stands n names) u → Mentions (λ n. keep n ≡ true) u
-  mentions-kept u m = mentions-more keep (λ n. Stands n names) (λ n. keep n ≡ true) named-kept u m
-
-  fields-kept : (fs : List (Id × MlType Name)) → AllByRecursion (λ f. IsTypeIn made names f.1) fs → AllByRecursion (λ f. Mentions (λ n. keep n ≡ true) f.1) fs
-  fields-kept [] h = tt
-  fields-kept (f ∷ fs) h = (mentions-kept f.1 h.0.1, fields-kept fs h.1)
-
-  holds-given : (σ : Assignment Name finite) (d : Demand Name ℕ) (e : Demand Name (List Name)) → IsDemandIn made names d → IsRebound (IsBound unit next names) d e
-      → D.Holds by_list finite Rigidity σ e → D.Holds by_list finite Finiteness (λ v. gave (σ v)) e
-  holds-given σ (equal u w) e k s h =
-      subst (D.Holds by_list finite Finiteness (λ v. gave (σ v))) (sym s)
-      (sym (given-assigned keep gives σ u (mentions-kept u k.0.1)) ∙ (ap gave (subst (D.Holds by_list finite Rigidity σ) s h) ∙ given-assigned keep gives σ w (mentions-kept w k.1.1)))
-  holds-given σ (has_fields u fs) e k s h =
-      let fields : HasFields Name finite (assign σ u) (fields_at (assign σ) fs) = subst (D.Holds by_list finite Rigidity σ) s h in
-      subst (D.Holds by_list finite Finiteness (λ v. gave (σ v))) (sym s)
-      (subst (λ w. HasFields Name finite w (fields_at (assign (λ v. gave (σ v))) fs)) (given-assigned keep gives σ u (mentions-kept u k.0.1))
-      (subst (HasFields Name finite (gave (assign σ u))) (fields-assigned keep gives σ fs (fields-kept fs k.1)) (given-fields keep gives (assign σ u) (fields_at (assign σ) fs) fields)))
-  holds-given σ (asks a u) e k s h = subst (D.Holds by_list finite Finiteness (λ v. gave (σ v))) (sym s.2) (λ p. absurd (late s.0 p))
-
-  all-given-hold : (ds : List R.Demand) (es : List (Demand Name (List Name))) → AreDemands unit next made names ds es → (σ : Assignment Name finite)
-      → AllHold by_list finite Rigidity σ es → AllHold by_list finite Finiteness (λ v. gave (σ v)) es
-  all-given-hold [] [] s σ h = tt
-  all-given-hold (d ∷ ds) (e ∷ es) s σ h = (holds-given σ (demand_of d) e s.0.known s.0.same h.0, all-given-hold ds es s.1 σ h.1)
-  all-given-hold [] (e ∷ es) s σ h = absurd s
-  all-given-hold (d ∷ ds) [] s σ h = absurd s
-
 one-holds : (σ : Assignment Name finite) (es : List (Demand Name (List Name))) (e : Demand Name (List Name)) → Stands e es → AllHold by_list finite Rigidity σ es
     → D.Holds by_list finite Rigidity σ e
 unfolding Stands
@@ -93,7 +67,7 @@ unfolding C.MayBe replace_type
 variables-are-free unit next solver s x v is asked t =
     let σ : Assignment Name finite = is.met.0 in
     let stands_so : σ v ≡ named (variable_name x) = one-holds σ s.demands (asks (D.variable x) (free v)) asked is.met.1 (omega arith) in (
-      (λ w. given (keep unit next s.made s.names is.known x t) (gives unit next s.made s.names is.known x t) (σ w)),
-      all-given-hold unit next s.made s.names is.known x t is.demands s.demands is.same σ is.met.1,
-      ap (given (keep unit next s.made s.names is.known x t) (gives unit next s.made s.names is.known x t)) stands_so ∙ variable-given unit next s.made s.names is.known x t,
+      (λ w. given (keep unit next s.names is.known x t) (gives unit next s.names is.known x t) (σ w)),
+      all-given-hold unit next s.made s.names (keep unit next s.names is.known x t) (gives unit next s.names is.known x t) (named-kept unit next s.names is.known x t) is.demands s.demands is.same σ is.met.1,
+      ap (given (keep unit next s.names is.known x t) (gives unit next s.names is.known x t)) stands_so ∙ variable-given unit next s.names is.known x t,
     )

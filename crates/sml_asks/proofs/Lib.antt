@@ -12,3 +12,5 @@ pub mod Fates
 pub mod Freeing
 pub mod Beginning
 pub mod Variables
+pub mod Holding
+pub mod Mentioning

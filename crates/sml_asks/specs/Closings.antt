@@ -9,7 +9,7 @@ use Rattle.sml_objects.specs.Sizes.{type_size}
 use Rattle.sml_objects.specs.Types.{variables_after_all}
 use Rattle.sml_layers.specs.declared.layer.Layer.TheVariants.{Rigidity}
 use Rattle.sml_layers.specs.declared.variable.Variable.{Variable}
-use Rattle.sml_layers.specs.Demands.{Demand, asks, variable}
+use Rattle.sml_layers.specs.Demands.{Demand, asks, variable, Mentions}
 use Rattle.sml_graph.specs.declared.demand.Refusal.{Refusal}
 use Rattle.sml_graph.specs.declared.demand.Refusal.TheVariants as R
 use Rattle.sml_graph.specs.Asked.{Asked}
@@ -115,3 +115,15 @@ abbrev pub TypesFixAsVariables : Type 0
 TypesFixAsVariables =
     (unit : ℕ) (s : State Place Name) (n : ℕ) (ts : List (MlType Name)) (v : ℕ)
     → IsFixed (run_scope unit) s n ts v ↔ IsFixed (run_scope unit) s n (map free (variables_after_all [] (types_of ts))) v
+
+-- What a type stands for speaks of what was made, where the type does.
+abbrev pub ReadingsAreTypes : Type 0
+ReadingsAreTypes =
+    (unit next : ℕ) (solver : Asked) (s : State Place Name) (t r : MlType Name) → SolverIs unit next solver s → IsTypeIn s.made s.names t
+    → StandsFor (run_scope unit) s t r → IsTypeIn s.made s.names r
+
+-- So does its scheme.
+abbrev pub SchemesMentionNames : Type 0
+SchemesMentionNames =
+    (unit next : ℕ) (solver : Asked) (s : State Place Name) (first : ℕ) (expansive : Bool) (t : MlType Name) (σ : Scheme Name) → SolverIs unit next solver s
+    → IsTypeIn s.made s.names t → IsScheme (run_scope unit) s first expansive t σ → Mentions (λ n. Stands n s.names) σ.body

@@ -1,6 +1,6 @@
 //! What calls of a solver say of scripts, beside what the calls promise themselves.
 
-ghost use Rattle.sml_asks.specs.Closings.{FlagsAreContexts, ReadingsHaveSchemes, TypesFixAsVariables, VariablesAreFree};
+ghost use Rattle.sml_asks.specs.Closings.{FlagsAreContexts, ReadingsAreTypes, ReadingsHaveSchemes, SchemesMentionNames, TypesFixAsVariables, VariablesAreFree};
 ghost use Rattle.sml_asks.specs.Steps.{AnswersAreOfScripts, NamesAreBounds, NamesAreSteps, RunsBegin, SolversStartAnew, UnknownsAreSteps};
 
 /// What was answered to a demand is what its script may be answered: it goes on where the demand can be met together with
@@ -52,4 +52,14 @@ pub fn readings_have_schemes()
 /// What types fix their variables fix, which `ask_general` takes in place of types that stay open.
 pub fn types_fix_as_variables()
     ensures { TypesFixAsVariables }
+{}
+
+/// What a type stands for speaks of unknowns and names that were made, where the type does.
+pub fn readings_are_types()
+    ensures { ReadingsAreTypes }
+{}
+
+/// A scheme mentions only names that were made, where its type does.
+pub fn schemes_mention_names()
+    ensures { SchemesMentionNames }
 {}

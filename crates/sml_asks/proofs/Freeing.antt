@@ -1,27 +1,22 @@
 -- The unknown of an explicit variable may be any type, by the equations: where the variable's name gives way to the type, they hold
 -- still.
 use Rattle.std.proofs.Common.{◌≡◌, ℕ, Bool, true, false, cond, List, [], ◌∷◌, inl, inr, sym, ◌∙◌, ap, subst, refl, arith}
-use Rattle.std.specs.List.{AllByRecursion}
-use Rattle.sml_tree.specs.Trees.{Id}
 use Rattle.sml_objects.specs.Appearance.{Stands, stands}
 use Rattle.sml_objects.specs.Initial.{Name, naming}
 use Rattle.sml_objects.specs.Objects.{MlType, MlTypes, free, named}
-use Rattle.sml_objects.specs.Types.{assign, replace_type}
+use Rattle.sml_objects.specs.Types.{replace_type}
 use Rattle.sml_objects.proofs.Standing.{found, was_found}
-use Rattle.sml_layers.specs.declared.layer.Layer.TheVariants.{Finiteness, Rigidity}
+use Rattle.sml_layers.specs.declared.layer.Layer.TheVariants.{Rigidity}
 use Rattle.sml_layers.specs.declared.variable.Variable.{Variable}
 use Rattle.sml_layers.specs.Demands as D
 use Rattle.sml_layers.specs.Demands.{Demand, equal, has_fields, asks, AllHold, Mentions}
 use Rattle.sml_layers.specs.Explicit.{variable_name}
-use Rattle.sml_layers.specs.Rows.{HasFields, fields_at}
 use Rattle.sml_layers.specs.Worlds.{Assignment, finite}
-use Rattle.sml_graph.specs.Asked as R
-use Rattle.sml_graph.specs.Said.{demand_of, by_list}
-use Rattle.sml_graph.proofs.Rebounds.{mentions-more}
+use Rattle.sml_graph.specs.Said.{by_list}
 use Rattle.sml_core_rules.specs.Solutions as C
 use Rattle.sml_asks.specs.Closings.{VariablesAreFree}
-use Rattle.sml_asks.specs.Solvers.{AreNames, IsBound, IsRebound, IsTypeIn, IsDemandIn, AreDemands}
-use Rattle.sml_asks.proofs.Giving.{given, all_given, given-assigned, given-fields, fields-assigned}
+use Rattle.sml_asks.specs.Solvers.{AreNames}
+use Rattle.sml_asks.proofs.Giving.{given, all_given}
 use Rattle.sml_asks.proofs.Holding.{all-given-hold}
 
 module _ (unit next : ℕ) (names : List Name) (known : AreNames unit next names) (x : Variable) (t : MlType Name) where

@@ -14,3 +14,4 @@ pub mod Beginning
 pub mod Variables
 pub mod Holding
 pub mod Mentioning
+pub mod Numbering

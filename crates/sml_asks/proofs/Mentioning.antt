@@ -1,5 +1,5 @@
 -- What a type stands for mentions only names made so far, where it does, and so does its scheme.
-use Rattle.std.proofs.Common.{◌≡◌, ◌⊎◌, ◌<◌, ℕ, zero, suc, Bool, true, false, cond, None, Some, List, [], ◌∷◌, map, slice_index_or, inl, inr, sym, ◌∙◌, ap, subst, refl}
+use Rattle.std.proofs.Common.{◌≡◌, ℕ, zero, suc, Bool, true, false, cond, None, List, [], ◌∷◌, map, slice_index_or, sym, subst, refl}
 use Rattle.sml_lex.specs.declared.fault.Place.{Place}
 use Rattle.sml_objects.specs.Appearance.{Stands, stands}
 use Rattle.sml_objects.specs.Fates.{close_as, substitutes, standing_for, type_or}
@@ -102,8 +102,7 @@ module _ (unit next : ℕ) (solver : Asked) (s : State Place Name) (is : SolverI
   reading-in : (t r : MlType Name) → Mentions (λ n. Stands n s.names) t → C.StandsFor (run_scope unit) s t r → IsTypeIn s.made s.names r
   unfolding C.StandsFor plain
   reading-in t r m h =
-      let met : C.Meets (run_scope unit) s Finiteness plain = all-given-hold unit next s.made s.names (keep s.names) (gives s.names) (named-kept s.names) is.demands s.demands is.same is.met.0 is.met.1 in
-      (
+      let met : C.Meets (run_scope unit) s Finiteness plain = all-given-hold unit next s.made s.names (keep s.names) (gives s.names) (named-kept s.names) is.demands s.demands is.same is.met.0 is.met.1 in (
         left-over r h.0,
         was-mentioned (λ n. Stands n s.names) plain r
             (subst (Mentions (λ n. Stands n s.names)) (sym (h.1 plain met)) (assigned-mention (λ n. Stands n s.names) plain (λ v. given-mentions s.names (is.met.0 v)) t m)),

@@ -1,17 +1,14 @@
 -- Types are the same under two assignments where their variables have the same types.
-use Rattle.std.proofs.Common.{◌≡◌, ◌↔◌, ◌⊎◌, ◌<◌, ℕ, Bool, true, false, cond, ◌||◌, List, [], ◌∷◌, ◌++◌, map, inl, inr, sym, ◌∙◌, ap, subst, refl, nat_eq}
+use Rattle.std.proofs.Common.{◌≡◌, ◌↔◌, ◌⊎◌, ℕ, Bool, true, false, cond, ◌||◌, List, [], ◌∷◌, ◌++◌, map, inl, inr, sym, ◌∙◌, ap, refl, nat_eq}
 use Rattle.std.specs.List.{AllByRecursion, list_any}
 use Rattle.std.proofs.lemmas.Bool.{eqb-true}
-use Rattle.sml_lex.specs.declared.fault.Place.{Place}
 use Rattle.sml_objects.specs.Appearance.{Stands}
 use Rattle.sml_objects.specs.Initial.{Name}
 use Rattle.sml_objects.specs.Objects.{MlType, MlTypes, bound, free, app, no_type, and_type, types_of}
 use Rattle.sml_objects.specs.Types.{assign, replace_type, replace_types, variables_after, variables_after_all}
 use Rattle.sml_objects.proofs.Standing.{left, right, either}
 use Rattle.sml_layers.specs.Worlds.{Assignment, finite}
-use Rattle.sml_core_rules.specs.Scopes.{run_scope}
 use Rattle.sml_core_rules.specs.Solutions as C
-use Rattle.sml_core_rules.specs.States.{State}
 use Rattle.sml_asks.specs.Closings.{TypesFixAsVariables}
 
 listed : (v : ℕ) (seen : List ℕ) → list_any (nat_eq v) seen ≡ true → Stands v seen

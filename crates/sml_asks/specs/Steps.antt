@@ -1,9 +1,10 @@
 -- What calls of a solver say of scripts: one call is one step of a script, in each state that is the solver's.
-use Rattle.std.specs.Prelude.{◌≡◌, ◌+◌, ◌<◌, ◌≤◌, ℕ, Bool, false, Result, Ok, Err, List, [], ◌∷◌, ◌++◌, length}
+use Rattle.std.specs.Prelude.{◌≡◌, ◌+◌, ◌<◌, ◌≤◌, ℕ, suc, Bool, false, Result, Ok, Err, List, [], ◌∷◌, ◌++◌, length}
 use Rattle.std.specs.List.{AllByRecursion}
 use Rattle.sml_lex.specs.Faults.{Fault}
 use Rattle.sml_lex.specs.declared.fault.Place.{Place}
 use Rattle.sml_objects.specs.Initial.{Name, initial_basis, made}
+use Rattle.sml_objects.specs.Names.{Attributes}
 use Rattle.sml_objects.specs.Objects.{MlType, Scheme}
 use Rattle.sml_objects.specs.Types.{instance_from}
 use Rattle.sml_layers.specs.declared.layer.Layer.{Layer}
@@ -17,7 +18,7 @@ use Rattle.sml_graph.specs.Interned.{IsBodyOver}
 use Rattle.sml_rules.specs.Answers.{refused, accepted, fault}
 use Rattle.sml_core_rules.specs.Scopes.{run_scope}
 use Rattle.sml_core_rules.specs.Scripts.{IsAnswer, give, require, requires_or}
-use Rattle.sml_core_rules.specs.States.{State, words, with_demand, with_made, with_unknowns}
+use Rattle.sml_core_rules.specs.States.{AreMade, State, words, with_demand, with_made, with_unknowns}
 use Rattle.sml_asks.specs.Solvers.{AreNames, IsBound, SolverIs, IsDemand}
 
 -- What was answered to a demand that was asked in a state. Nothing is known after want of memory.
@@ -72,6 +73,17 @@ pub record IsNew (unit first last : ℕ) (n : Name) : Type 0 where
   pub is : n ≡ made unit number arity equality
   pub from : first ≤ number
   pub below : number < last
+
+-- names of the unit with these attributes, numbered from here on
+abbrev pub numbered : ℕ → ℕ → List Attributes → List Name
+numbered unit next [] = []
+numbered unit next (w ∷ ws) = made unit next w.arity w.equality ∷ numbered unit (suc next) ws
+
+-- They are new. No name of the program has constructors of its own.
+abbrev pub NamesAreMade : Type 0
+NamesAreMade =
+    (unit next : ℕ) (names : List Name) (ws : List Attributes) → 0 < unit → AreNames unit next names → AllByRecursion (λ w. w.constructors ≡ []) ws
+    → AreMade (run_scope unit) names ws (numbered unit next ws) × AllByRecursion (IsNew unit next (next + length ws)) (numbered unit next ws)
 
 -- New names are a step, of which the solver sees nothing. What was a bound is still one.
 abbrev pub NamesAreSteps : Type 0

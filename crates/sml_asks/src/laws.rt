@@ -1,7 +1,7 @@
 //! What calls of a solver say of scripts, beside what the calls promise themselves.
 
 ghost use Rattle.sml_asks.specs.Closings.{FlagsAreContexts, ReadingsAreTypes, ReadingsHaveSchemes, SchemesMentionNames, TypesFixAsVariables, VariablesAreFree};
-ghost use Rattle.sml_asks.specs.Steps.{AnswersAreOfScripts, NamesAreBounds, NamesAreSteps, RunsBegin, SolversStartAnew, UnknownsAreSteps};
+ghost use Rattle.sml_asks.specs.Steps.{AnswersAreOfScripts, NamesAreBounds, NamesAreMade, NamesAreSteps, RunsBegin, SolversStartAnew, UnknownsAreSteps};
 
 /// What was answered to a demand is what its script may be answered: it goes on where the demand can be met together with
 /// those before, and is refused with the code of the first layer that can't.
@@ -22,6 +22,11 @@ pub fn names_are_steps()
 /// A new solver is that of a state in which no unknown was made and nothing asked.
 pub fn solvers_start_anew()
     ensures { SolversStartAnew }
+{}
+
+/// Names numbered from the next one on are new, and carry what was asked.
+pub fn names_are_made()
+    ensures { NamesAreMade }
 {}
 
 /// The names made so far are a bound, which allows all of them.

@@ -6,3 +6,4 @@ pub mod SameTexts
 pub mod OneWarnings
 pub mod SealedReplies
 pub mod OneReply
+pub mod Exported

@@ -4,4 +4,5 @@ pub mod Runs
 pub mod Likeness
 pub mod Seals
 pub mod One
+pub mod Exported
 pub mod Samples

@@ -4,6 +4,7 @@ ghost use Rattle.sml_run_rules.specs.Samples.{LikenessSamples, WarningSamples};
 ghost use Rattle.sml_run_rules.specs.Seals.{SourcesMakeUnits, SealsIsolate};
 ghost use Rattle.sml_run_rules.specs.Warnings.{WarningsAreOne};
 ghost use Rattle.sml_run_rules.specs.One.{RepliesAreOne};
+ghost use Rattle.sml_run_rules.specs.Exported.{SealsExport};
 
 /// Groups of structures and functors are alike where their bodies differ behind equal seals, and not where they differ elsewhere.
 pub fn groups_are_alike_in_samples()
@@ -36,4 +37,10 @@ pub fn seals_isolate_replies()
 /// A project is replied to in one way: whichever names are taken, the bytes of its replies are the same in every form.
 pub fn replies_are_one()
     ensures { RepliesAreOne }
+{}
+
+/// What a seal exports is fixed by the basis and the signature expression: two accepted groups that are alike but for what stands behind
+/// seals bind the same but for new names, which carry the same, and their replies have the same lines in both versions.
+pub fn seals_export()
+    ensures { SealsExport }
 {}

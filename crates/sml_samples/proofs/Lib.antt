@@ -24,3 +24,5 @@ pub mod Specifications
 pub mod Matches
 pub mod Phrases
 pub mod Judgings
+pub mod Largest
+pub mod MadeDatatypes

@@ -24,5 +24,3 @@ pub mod Specifications
 pub mod Matches
 pub mod Phrases
 pub mod Judgings
-pub mod Largest
-pub mod MadeDatatypes

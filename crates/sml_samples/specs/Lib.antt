@@ -6,4 +6,3 @@ pub mod Judged
 pub mod Modules
 pub mod Specifications
 pub mod Matches
-pub mod Largest

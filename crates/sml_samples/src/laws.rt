@@ -1,9 +1,7 @@
 //! That the readings are not empty: samples of each form of declaration, over the names of a run.
 
-ghost use Rattle.sml_objects.specs.Initial.{naming};
 ghost use Rattle.sml_samples.specs.Core.{CoreSamples};
 ghost use Rattle.sml_samples.specs.Judged.{JudgedSamples};
-ghost use Rattle.sml_samples.specs.Largest.{DatatypesHaveAnswers, LargestIsOne};
 ghost use Rattle.sml_samples.specs.Matches.{MatchSamples};
 ghost use Rattle.sml_samples.specs.Modules.{ModuleSamples};
 ghost use Rattle.sml_samples.specs.Phrases.{PhraseSamples};
@@ -43,15 +41,4 @@ pub fn phrases_have_answers()
 /// Matches and value bindings are to be judged for warnings, in samples, and patterns after `rec` aren't.
 pub fn patterns_are_to_be_judged()
     ensures { JudgedSamples }
-{}
-
-/// Of datatypes that are bound together there is a largest set that admits equality, whatever their constructors' arguments are, and
-/// there is one.
-pub fn largest_sets_are_one()
-    ensures { LargestIsOne naming }
-{}
-
-/// So bindings of datatypes always have an answer: new names, with the equality attributes of that set, or the fault of an argument.
-pub fn datatypes_have_answers()
-    ensures { DatatypesHaveAnswers }
 {}

@@ -14,8 +14,7 @@ use Rattle.sml_objects.specs.Appearance.{Stands, stands}
 use Rattle.sml_objects.specs.Equality.{admits_by, all_admit_by, is_ref, has_equality}
 use Rattle.sml_objects.specs.Initial.{Name, initial, made, naming}
 use Rattle.sml_objects.specs.Names.{int}
-use Rattle.sml_objects.specs.Objects.{MlType, MlTypes, bound, free, app, arrow, row, name, no_type, and_type, rename_scheme, rename_type, rename_types, Outside}
-use Rattle.sml_objects.proofs.Renaming.{scheme_laws}
+use Rattle.sml_objects.specs.Objects.{MlType, MlTypes, bound, free, app, arrow, row, name, no_type, and_type, rename_type, rename_types, Outside}
 use Rattle.sml_objects.proofs.Standing.{left, found, was_found}
 use Rattle.sml_rules.specs.Answers.{Answer, refused, accepted}
 use Rattle.sml_core_rules.specs.Datatypes.{Arguments, Respects, AdmitAsManyAsCan, AreNew, argument_admits, arguments_admit, with_names, arguments_of}
@@ -27,48 +26,10 @@ use Rattle.sml_core_rules.proofs.Along.{become-known, env-along}
 use Rattle.sml_core_rules.proofs.Flags.{same-count}
 use Rattle.sml_core_rules.proofs.Mentions.{arguments_of-mention, respects-same}
 use Rattle.sml_core_rules.proofs.Renaming.{env-id, list-id}
-use Rattle.sml_samples.specs.Largest.{IsLargest, DatatypesHaveAnswers}
-use Rattle.sml_samples.proofs.Largest.{largest-there}
-
--- arguments with other names
-
-abbrev rename_argument : {A B : Type 0} → (A → B) → Option (MlType A) → Option (MlType B)
-rename_argument f None = None
-rename_argument f (Some t) = Some (rename_type f t)
-
-abbrev rename_arguments : {A B : Type 0} → (A → B) → Arguments A → Arguments B
-rename_arguments f cs = map (λ c. (c.0, rename_argument f c.1)) cs
-
-abbrev rename_answer : {P A B : Type 0} → (A → B) → Answer P (List (Arguments A)) → Answer P (List (Arguments B))
-rename_answer f (refused x) = refused x
-rename_answer f (accepted gs) = accepted (map (rename_arguments f) gs)
-
-argument-id : {A : Type 0} (a : Option (MlType A)) → rename_argument (λ n. n) a ≡ a
-unfolding rename_scheme
-argument-id None = refl
-argument-id (Some t) = ap (λ σ. Some σ.body) (scheme_laws.identity (record { variables = []; body = t }))
-
-arguments-id : {A : Type 0} (cs : Arguments A) → rename_arguments (λ n. n) cs ≡ cs
-arguments-id [] = refl
-arguments-id (c ∷ cs) = λ i. (c.0, argument-id c.1 i) ∷ arguments-id cs i
-
-all-arguments-id : {A : Type 0} (gs : List (Arguments A)) → map (rename_arguments (λ n. n)) gs ≡ gs
-all-arguments-id [] = refl
-all-arguments-id (g ∷ gs) = λ i. arguments-id g i ∷ all-arguments-id gs i
-
-answer-id : {P A : Type 0} (o : Answer P (List (Arguments A))) → rename_answer (λ n. n) o ≡ o
-answer-id (refused x) = refl
-answer-id (accepted gs) = ap accepted (all-arguments-id gs)
-
--- the arguments of datatypes with other names
-
-arguments-renamed : {P A B : Type 0} (ds : List (DatBind P)) (e : A ≃ B) (C : Env A) (ns : List A)
-    → arguments_of (rename_env e.0 C) ds (map e.0 ns) ≡ rename_answer e.0 (arguments_of C ds ns)
-unfolding id_equiv
-arguments-renamed {P} {A} {B} ds e =
-    equiv_j (λ A e. (C : Env A) (ns : List A) → arguments_of (rename_env e.0 C) ds (map e.0 ns) ≡ rename_answer e.0 (arguments_of C ds ns))
-    (λ C ns. (λ i. arguments_of (env-id C i) ds (list-id ns i)) ∙ sym (answer-id (arguments_of C ds ns)))
-    e
+use Rattle.sml_core_laws.specs.Natural.{answer_with, rename_argument, rename_arguments}
+use Rattle.sml_core_laws.specs.Largest.{IsLargest, DatatypesHaveAnswers}
+use Rattle.sml_core_laws.proofs.Largest.{largest-there}
+use Rattle.sml_core_laws.proofs.Natural.{arguments-renamed}
 
 -- an environment whose names stay
 
@@ -403,7 +364,7 @@ module _ (u : ℕ) (C : Env Name) (ds : List (DatBind Place)) (old : List Name) 
     unfolding exchange exchanges
     renamed =
         let same = env-left (exchanges eq) C refl (λ n h. stays n (context-below n h)) in
-        ap (λ C. arguments_of C ds named) (sym same) ∙ (arguments-renamed ds (exchanges eq) C plain ∙ ap (rename_answer to) given)
+        ap (λ C. arguments_of C ds named) (sym same) ∙ (arguments-renamed to C ds plain ∙ ap (answer_with (map (rename_arguments to))) given)
 
     are-new-named : AreNew naming (names_env C ++ old) ds named
     are-new-named = subst (AreNew naming (names_env C ++ old) ds) (sym named-numbered) (are-new u flag k (names_env C ++ old) ds below)

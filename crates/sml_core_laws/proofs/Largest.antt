@@ -10,7 +10,7 @@ use Rattle.sml_objects.specs.Names.{Naming}
 use Rattle.sml_objects.specs.Objects.{MlType, MlTypes, bound, free, app, arrow, row, name, no_type, and_type}
 use Rattle.sml_objects.proofs.Standing.{image, kept, was_kept, found, was_found, stands-or-not}
 use Rattle.sml_core_rules.specs.Datatypes.{Arguments, Respects, argument_admits, arguments_admit}
-use Rattle.sml_samples.specs.Largest.{AgreeOutside, IsLargest, LargestIsOne}
+use Rattle.sml_core_laws.specs.Largest.{AgreeOutside, IsLargest, LargestIsOne}
 
 -- truth values
 

@@ -1,0 +1,3 @@
+pub mod Natural
+pub mod Largest
+pub mod MadeDatatypes

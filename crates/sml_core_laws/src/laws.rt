@@ -1,0 +1,21 @@
+//! What is known of the definitions of the core beside what sml_core_rules promises.
+
+ghost use Rattle.sml_objects.specs.Initial.{naming};
+ghost use Rattle.sml_core_laws.specs.Largest.{DatatypesHaveAnswers, LargestIsOne};
+ghost use Rattle.sml_core_laws.specs.Natural.{ReadingsAreNatural};
+
+/// Of datatypes that are bound together there is a largest set that admits equality, whatever their constructors' arguments are, and
+/// there is one.
+pub fn largest_sets_are_one()
+    ensures { LargestIsOne naming }
+{}
+
+/// So bindings of datatypes always have an answer: new names, with the equality attributes of that set, or the fault of an argument.
+pub fn datatypes_have_answers()
+    ensures { DatatypesHaveAnswers }
+{}
+
+/// Types are read alike whatever names stand for their constructors, different ones or the same.
+pub fn readings_are_natural()
+    ensures { ReadingsAreNatural }
+{}

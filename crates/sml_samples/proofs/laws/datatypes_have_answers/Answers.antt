@@ -1,5 +1,0 @@
-use Rattle.sml_samples.proofs.MadeDatatypes.{datatypes-have-answers}
-use Rattle.sml_samples.proofs.laws.datatypes_have_answers.Goals as goal
-
-pub returns : goal.returns
-returns c = datatypes-have-answers

@@ -24,3 +24,4 @@ pub mod Specifications
 pub mod Matches
 pub mod Phrases
 pub mod Judgings
+pub mod WellFormed

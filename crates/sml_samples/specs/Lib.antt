@@ -6,3 +6,4 @@ pub mod Judged
 pub mod Modules
 pub mod Specifications
 pub mod Matches
+pub mod WellFormed

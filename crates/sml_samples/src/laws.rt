@@ -7,6 +7,7 @@ ghost use Rattle.sml_samples.specs.Modules.{ModuleSamples};
 ghost use Rattle.sml_samples.specs.Phrases.{PhraseSamples};
 ghost use Rattle.sml_samples.specs.Specifications.{SpecificationSamples};
 ghost use Rattle.sml_samples.specs.Typing.{TypingSamples};
+ghost use Rattle.sml_samples.specs.WellFormed.{WellFormedSamples};
 
 /// Each form of declaration of the core is accepted in a sample, and refused in another where it can be refused.
 pub fn core_declarations_have_answers()
@@ -41,4 +42,10 @@ pub fn phrases_have_answers()
 /// Matches and value bindings are to be judged for warnings, in samples, and patterns after `rec` aren't.
 pub fn patterns_are_to_be_judged()
     ensures { JudgedSamples }
+{}
+
+/// The initial basis is well formed, and so are a signature and a functor; objects that bind a name or a variable which stands nowhere in
+/// them, or none for one that does, aren't.
+pub fn objects_are_well_formed_in_samples()
+    ensures { WellFormedSamples }
 {}

@@ -1,6 +1,7 @@
 -- Of new datatypes there is one largest set that respects equality: those that don't are taken away until none is left.
 use Rattle.std.specs.Prelude.{◌≡◌, ◌≤◌, ◌<◌, ◌&&◌, ◌||◌, ◌⊎◌, ℕ, zero, suc, Bool, true, false, cond, List, [], ◌∷◌, map, filter, length, Option, Some, None}
 use Rattle.std.proofs.Common.{arith}
+use Rattle.std.proofs.lemmas.Bool.{and_from, and_parts}
 use mathlib.Core.Path.{refl, sym, ap, subst, ◌∙◌}
 use mathlib.Core.Logic.{inl, inr}
 use mathlib.Core.Bool.{true≢false}
@@ -13,14 +14,6 @@ use Rattle.sml_core_rules.specs.Datatypes.{Arguments, Respects, argument_admits,
 use Rattle.sml_core_laws.specs.Largest.{AgreeOutside, IsLargest, LargestIsOne}
 
 -- truth values
-
-both : (a b : Bool) → a && b ≡ true → (a ≡ true) × (b ≡ true)
-both true true h = (refl, refl)
-both true false h = absurd (true≢false (sym h))
-both false b h = absurd (true≢false (sym h))
-
-together : (a b : Bool) → a ≡ true → b ≡ true → a && b ≡ true
-together a b h k = λ i. (ap (λ a. a && b) h ∙ k) i
 
 or-more : (r a b : Bool) → (a ≡ true → b ≡ true) → r || a ≡ true → r || b ≡ true
 or-more true a b f h = refl
@@ -47,12 +40,12 @@ module _ {N : Type 0} (refs : N → Bool) (f g : N → Bool) (more : (n : N) →
     type-more v (app (row ls) ts) h = types-more v ts h
     type-more v (app (name n) ts) h =
         or-more (refs n) (f n && all_admit_by refs v f ts) (g n && all_admit_by refs v g ts)
-        (λ k. let p = both (f n) (all_admit_by refs v f ts) k in together (g n) (all_admit_by refs v g ts) (more n p.0) (types-more v ts p.1)) h
+        (λ k. let p = and_parts (f n) (all_admit_by refs v f ts) k in and_from (g n) (all_admit_by refs v g ts) (more n p.0) (types-more v ts p.1)) h
 
     types-more : (v : ℕ → Bool) (ts : MlTypes N) → all_admit_by refs v f ts ≡ true → all_admit_by refs v g ts ≡ true
     types-more v no_type h = h
     types-more v (and_type t ts) h =
-        let p = both (admits_by refs v f t) (all_admit_by refs v f ts) h in together (admits_by refs v g t) (all_admit_by refs v g ts) (type-more v t p.0) (types-more v ts p.1)
+        let p = and_parts (admits_by refs v f t) (all_admit_by refs v f ts) h in and_from (admits_by refs v g t) (all_admit_by refs v g ts) (type-more v t p.0) (types-more v ts p.1)
 
   argument-more : (a : Option (MlType N)) → argument_admits refs f a ≡ true → argument_admits refs g a ≡ true
   argument-more None h = h
@@ -61,8 +54,8 @@ module _ {N : Type 0} (refs : N → Bool) (f g : N → Bool) (more : (n : N) →
   pub arguments-more : (cs : Arguments N) → arguments_admit refs f cs ≡ true → arguments_admit refs g cs ≡ true
   arguments-more [] h = h
   arguments-more (c ∷ cs) h =
-      let p = both (argument_admits refs f c.1) (arguments_admit refs f cs) h in
-      together (argument_admits refs g c.1) (arguments_admit refs g cs) (argument-more c.1 p.0) (arguments-more cs p.1)
+      let p = and_parts (argument_admits refs f c.1) (arguments_admit refs f cs) h in
+      and_from (argument_admits refs g c.1) (arguments_admit refs g cs) (argument-more c.1 p.0) (arguments-more cs p.1)
 
 -- one of datatypes that respect equality
 respects-at : {N : Type 0} (refs : N → Bool) (eq : N → Bool) (d : N × Arguments N) (ds : List (N × Arguments N)) → Respects refs eq ds → Stands d ds → eq d.0 ≡ true

@@ -1,3 +1,4 @@
 pub mod Natural
 pub mod Largest
+pub mod Left
 pub mod MadeDatatypes

@@ -5,62 +5,27 @@ use Rattle.std.specs.List.{AllByRecursion}
 use Rattle.std.proofs.Common.{arith}
 use mathlib.Core.Path.{refl, sym, ap, subst, ◌∙◌, fun_ext}
 use mathlib.Core.Logic.{inl, inr}
-use std.Equiv.{◌≃◌, id_equiv, iso_to_equiv}
-use std.Path.{PathP, from_path_p}
-use std.Univalence.{equiv_j}
+use std.Equiv.{◌≃◌, iso_to_equiv}
 use Rattle.sml_lex.specs.declared.fault.Place.{Place}
 use Rattle.sml_tree.specs.Expressions.{DatBind}
 use Rattle.sml_objects.specs.Appearance.{Stands, stands}
 use Rattle.sml_objects.specs.Equality.{admits_by, all_admit_by, is_ref, has_equality}
 use Rattle.sml_objects.specs.Initial.{Name, initial, made, naming}
-use Rattle.sml_objects.specs.Names.{int}
 use Rattle.sml_objects.specs.Objects.{MlType, MlTypes, bound, free, app, arrow, row, name, no_type, and_type, rename_type, rename_types, Outside}
 use Rattle.sml_objects.proofs.Standing.{left, found, was_found}
 use Rattle.sml_rules.specs.Answers.{Answer, refused, accepted}
 use Rattle.sml_core_rules.specs.Datatypes.{Arguments, Respects, AdmitAsManyAsCan, AreNew, argument_admits, arguments_admit, with_names, arguments_of}
-use Rattle.sml_core_rules.specs.Objects.{Env, rename_env, names_env}
+use Rattle.sml_core_rules.specs.Objects.{Env, names_env}
 use Rattle.sml_core_rules.specs.Scopes.{run_scope}
 use Rattle.sml_core_rules.specs.Scripts.{IsAnswer, give, makes_datatypes}
 use Rattle.sml_core_rules.specs.States.{State, with_made}
-use Rattle.sml_core_rules.proofs.Along.{become-known, env-along}
 use Rattle.sml_core_rules.proofs.Flags.{same-count}
 use Rattle.sml_core_rules.proofs.Mentions.{arguments_of-mention, respects-same}
-use Rattle.sml_core_rules.proofs.Renaming.{env-id, list-id}
 use Rattle.sml_core_laws.specs.Natural.{answer_with, rename_argument, rename_arguments}
 use Rattle.sml_core_laws.specs.Largest.{IsLargest, DatatypesHaveAnswers}
 use Rattle.sml_core_laws.proofs.Largest.{largest-there}
+use Rattle.sml_core_laws.proofs.Left.{env-left}
 use Rattle.sml_core_laws.proofs.Natural.{arguments-renamed}
-
--- an environment whose names stay
-
-record Listed (N : Type 0) : Type 0 where
-  env : Env N
-  names : List N
-  some : N
-
-listed-renamed : {A B : Type 0} (e : A ≃ B) (x : Listed A)
-    → ◌≡◌ {A = (N : Type 0) × Listed N} (A, x) (B, record { env = rename_env e.0 x.env; names = map e.0 x.names; some = e.0 x.some })
-unfolding id_equiv
-listed-renamed {A} {B} e =
-    equiv_j (λ A e. (x : Listed A) → ◌≡◌ {A = (N : Type 0) × Listed N} (A, x) (B, record { env = rename_env e.0 x.env; names = map e.0 x.names; some = e.0 x.some }))
-    (λ x i. (B, record { env = sym (env-id x.env) i; names = sym (list-id x.names) i; some = x.some }))
-    e
-
-left-same : (f : Name → Name) (ns : List Name) → ((n : Name) → Stands n ns → f n ≡ n) → map f ns ≡ ns
-unfolding Stands
-left-same f [] h = refl
-left-same f (n ∷ ns) h = let e = h n (inl refl) in let rest = left-same f ns (λ m k. h m (inr k)) in λ i. e i ∷ rest i
-
-env-left : (e : Name ≃ Name) (E : Env Name) → e.0 (initial int) ≡ initial int → ((n : Name) → Stands n (names_env E) → e.0 n ≡ n) → rename_env e.0 E ≡ E
-env-left e E first stay =
-    let ns = names_env E in
-    let π = listed-renamed e (record { env = E; names = ns; some = initial int })
-    ∙ (λ i. (Name, record { env = rename_env e.0 E; names = left-same e.0 ns stay i; some = first i })) in
-    let p : Name ≡ Name = λ i. (π i).0 in
-    let k : PathP (λ i. p i) (initial int) (initial int) = λ i. (π i).1.some in
-    let known : PathP (λ i. List (p i)) ns ns = λ i. (π i).1.names in
-    let stays = env-along p E (become-known p (initial int) (initial int) k ns known ns (λ n h. h)) in
-    sym (from_path_p (λ i. Env (p i)) (λ i. (π i).1.env)) ∙ from_path_p (λ i. Env (p i)) stays
 
 -- what admits equality with other names
 

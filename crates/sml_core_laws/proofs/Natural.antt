@@ -21,6 +21,7 @@ use Rattle.sml_core_rules.specs.Datatypes.{listed, type_function, name_function,
 use Rattle.sml_core_rules.specs.Lookups.{found_in, find_at, type_at}
 use Rattle.sml_core_rules.specs.Objects.{Env, Maps, Structures, TyStr, maps, no_structure, and_structure, structures, types, find_structure, put_structure, join_structures, extend, of_types, replaced, replace, replace_structures, rename_env, rename_ty_str, rename_value}
 use Rattle.sml_core_rules.specs.Types.{Fields, put_field, row_of, count_types, variable_type, read_ty, read_tys, read_fields}
+use Rattle.sml_core_rules.proofs.Assigned.{there, found_there, lookup-there}
 use Rattle.sml_core_laws.specs.Natural.{ReadingsAreNatural, answer_with, rename_argument, rename_arguments}
 
 -- one answer after the other
@@ -32,24 +33,10 @@ in-turn g h (accepted x) q j k e n = ap (λ q. q >>= k) e ∙ n x
 
 -- what is found
 
-abbrev there : {X Y : Type 0} → (X → Y) → Option X → Option Y
-there f None = None
-there f (Some x) = Some (f x)
-
-abbrev found_there : {X Y : Type 0} → (X → Y) → Found X → Found Y
-found_there f (found x) = found (f x)
-found_there f (no_path s) = no_path s
-found_there f no_entry = no_entry
-
 there-order : {X Y : Type 0} (f : X → Y) (o : Ordering) (a b c : Option X) → by_order o (there f a) (there f b) (there f c) ≡ there f (by_order o a b c)
 there-order f Less a b c = refl
 there-order f Equal a b c = refl
 there-order f Greater a b c = refl
-
-lookup-there : {X Y : Type 0} (f : X → Y) (x : Id) (m : Map X) → lookup x (replaced f m) ≡ there f (lookup x m)
-lookup-there f x [] = refl
-lookup-there f x (e ∷ m) =
-    let r = lookup-there f x m in (λ i. by_order (order_of x e.0) (r i) (Some (f e.1)) (r i)) ∙ there-order f (order_of x e.0) (lookup x m) (Some e.1) (lookup x m)
 
 put-there : {X Y : Type 0} (h : X → Y) (x : Id) (v : X) (m : Map X) → put x (h v) (replaced h m) ≡ replaced h (put x v m)
 put-there h x v [] = refl

@@ -1,10 +1,8 @@
 -- What a seal exports is fixed by the basis and the signature expression.
 use Rattle.std.specs.Prelude.{◌≡◌, ◌<◌, ℕ, false, List, [], ◌∷◌, ◌++◌, map, Option, Some, None, is_some}
 use Rattle.std.proofs.Common.{arith}
-use mathlib.Core.Path.{refl, sym, ap, ◌∙◌}
-use mathlib.Core.Logic.{inl, inr}
-use std.Equiv.{◌≃◌, iso_to_equiv}
-use std.Path.{PathP, from_path_p}
+use mathlib.Core.Path.{sym, ap, ◌∙◌}
+use std.Equiv.{iso_to_equiv}
 use Rattle.sml_lex.specs.declared.fault.Place.{Place}
 use Rattle.sml_tree.specs.Structures.{TopDec}
 use Rattle.sml_objects.specs.Alike.{Renaming}
@@ -13,11 +11,9 @@ use Rattle.sml_objects.specs.Initial.{Name, initial, naming}
 use Rattle.sml_objects.specs.Names.{Initial, int}
 use Rattle.sml_objects.proofs.Standing.{right}
 use Rattle.sml_rules.specs.Answers.{accepted, refused}
-use Rattle.sml_rules.proofs.Worlds.{Named, Keeps, Over, moved}
 use Rattle.sml_core_rules.specs.Objects.{Env, Basis, rename_env, rename_basis, names_map, names_sig, names_fun_sig, names_env, names_basis}
 use Rattle.sml_core_rules.specs.Scopes.{run_scope}
-use Rattle.sml_core_rules.proofs.Along.{become-known, env-along}
-use Rattle.sml_core_rules.proofs.Renaming.{env-id}
+use Rattle.sml_core_laws.proofs.Left.{env-left}
 use Rattle.sml_module_rules.specs.Programs.{AreReadings, Pair, same, structures, functors, first, second, acceptance, shown}
 use Rattle.sml_module_rules.specs.Statements.{rename_shown}
 use Rattle.sml_module_rules.specs.Structures.{Added, IsTopReading}
@@ -30,40 +26,12 @@ use Rattle.sml_places.proofs.Tops.{places-dont-count}
 use Rattle.sml_run_rules.specs.Exported.{SealsExport}
 use Rattle.sml_run_rules.proofs.SameTexts.{plain, same-text}
 
--- an environment all of whose names a renaming leaves
-
-record Listed (N : Type 0) : Type 0 where
-  env : Env N
-  names : List N
-
-map-id : {N : Type 0} (ns : List N) → map (λ n. n) ns ≡ ns
-map-id [] = refl
-map-id (n ∷ ns) = λ i. n ∷ map-id ns i
-
-listed_named : Named Listed
-listed_named = record {
-  rename = λ f x. record { env = rename_env f x.env; names = map f x.names };
-  rename-id = λ x i. record { env = env-id x.env i; names = map-id x.names i };
-}
-
-left-same : (f : Name → Name) (ns : List Name) → ((n : Name) → Stands n ns → f n ≡ n) → map f ns ≡ ns
-unfolding Stands
-left-same f [] h = refl
-left-same f (n ∷ ns) h = let e = h n (inl refl) in let rest = left-same f ns (λ m k. h m (inr k)) in λ i. e i ∷ rest i
-
-env-left : (f : Renaming naming) (E : Env Name) (ns : List Name) → ((n : Name) → Stands n (names_env E) → Stands n ns) → ((n : Name) → Stands n ns → f.to n ≡ n)
+-- a body all of whose names a renaming leaves
+body-left : (f : Renaming naming) (E : Env Name) (ns : List Name) → ((n : Name) → Stands n (names_env E) → Stands n ns) → ((n : Name) → Stands n ns → f.to n ≡ n)
     → rename_env f.to E ≡ E
-unfolding listed_named naming
-env-left f E ns inside left =
-    let exchanged : Name ≃ Name = iso_to_equiv (record { fun = f.to; inv = f.from; rinv = f.to-from; linv = f.from-to }) in
-    let kept : Keeps naming naming f.to = record { attributes = f.keeps; initial = f.initial } in
-    let π = moved listed_named exchanged naming naming kept (record { env = E; names = ns })
-    ∙ ap {A = List Name} {B = Over Listed} (λ ms. (Name, naming, record { env = rename_env f.to E; names = ms })) (left-same f.to ns left) in
-    let p : Name ≡ Name = λ i. (π i).0 in
-    let k : PathP (λ i. p i) (initial int) (initial int) = λ i. (π i).1.initial int in
-    let known : PathP (λ i. List (p i)) ns ns = λ i. (π i).2.names in
-    let stays = env-along p E (become-known p (initial int) (initial int) k ns known (names_env E) inside) in
-    sym (from_path_p (λ i. Env (p i)) (λ i. (π i).2.env)) ∙ from_path_p (λ i. Env (p i)) stays
+unfolding naming
+body-left f E ns inside left =
+    env-left (iso_to_equiv (record { fun = f.to; inv = f.from; rinv = f.to-from; linv = f.from-to })) E (f.initial int) (λ n h. left n (inside n h))
 
 -- both sides of a pair
 
@@ -118,7 +86,7 @@ pub seals-export : SealsExport
 unfolding Renames
 seals-export unit counted B inside initials p q d e alike A C a c =
     let r = groups-rename unit counted B inside initials p q d e alike A C a c in
-    let stays = env-left r.0 B.body B.names (body-inside unit counted B inside initials) r.1 in
+    let stays = body-left r.0 B.body B.names (body-inside unit counted B inside initials) r.1 in
     record {
       renaming = r.0;
       keeps = r.1;

@@ -1,5 +1,5 @@
 -- Samples of warnings.
-use Rattle.std.specs.Prelude.{◌≡◌, ◌⊎◌, ◌↔◌, ◌<◌, ℕ, zero, suc, true, List, [], ◌∷◌, ◌++◌, codes, Some, None}
+use Rattle.std.specs.Prelude.{◌≡◌, ◌⊎◌, ◌↔◌, ℕ, zero, suc, true, List, [], ◌∷◌, ◌++◌, codes, Some, None}
 use Rattle.std.specs.List.Sorted.{IsStrictlySortedBy}
 use Rattle.std.proofs.Common.{arith}
 use mathlib.Core.Path.{refl, sym, ap, subst, ◌∙◌}
@@ -8,7 +8,7 @@ use Rattle.sml_lex.specs.declared.fault.Place.{Place}
 use Rattle.sml_lex.specs.declared.fault.Warning.{Warning}
 use Rattle.sml_lex.specs.declared.fault.Code.TheVariants.{P1, P2, P3}
 use Rattle.sml_patterns.specs.Shape.{World, Kind, Constructors, Labels, Values, Opaque, Shape, Cut, OfConstructor, IsShape, Matches, Fits, FitsKind, column, part, part_at}
-use Rattle.sml_patterns.specs.Warnings.{Rule, MakeRules, AllFit, Escapes, IsRedundant, IsOpen, IsOpenAt, IsWarning, warning, warning_cmp}
+use Rattle.sml_patterns.specs.Warnings.{Rule, MakeRules, AllFit, Escapes, IsRedundant, IsOpen, IsOpenAt, IsWarning, warning}
 use Rattle.sml_patterns.proofs.Vectors.{some_shape}
 use Rattle.sml_narrowing.specs.Plain.{Plain, Wild, Made}
 use Rattle.sml_objects.specs.Appearance.{Stands}

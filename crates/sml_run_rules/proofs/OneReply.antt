@@ -1,6 +1,6 @@
 -- A project is replied to in one way: it is alike to itself.
 use Rattle.std.specs.Prelude.{◌≡◌, List, [], ◌∷◌}
-use Rattle.std.proofs.Common.{inl, inr}
+use Rattle.std.proofs.Common.{inl}
 use mathlib.Core.Path.{refl, sym, subst, ◌∙◌}
 use Rattle.sml_lex.specs.declared.fault.Place.{Place}
 use Rattle.sml_tree.specs.Structures.{TopDec}

@@ -7,7 +7,7 @@ use Rattle.std.specs.Ordering.{ordering_reverse}
 use Rattle.std.specs.declared.cmp.Ordering.{Ordering}
 use Rattle.std.specs.declared.cmp.Ordering.TheVariants.{Less, Equal, Greater}
 use Rattle.std.proofs.lemmas.Cmp.{nat_cmp_total, on_total, then_total}
-use mathlib.Core.Path.{refl, sym, ap, subst, ◌∙◌}
+use mathlib.Core.Path.{refl, sym, subst, ◌∙◌}
 use mathlib.Core.Logic.{inl, inr}
 use Rattle.sml_lex.specs.declared.fault.Warning.{Warning}
 use Rattle.sml_patterns.specs.Warnings.{code_rank, warning_cmp}

@@ -1,5 +1,5 @@
 -- Samples of declarations that are alike, and of some that are not; and of warnings.
-use Rattle.std.specs.Prelude.{ℕ, List, [], ◌∷◌, codes, Option, Some, None}
+use Rattle.std.specs.Prelude.{ℕ, List, [], ◌∷◌, codes, Some, None}
 use Rattle.sml_lex.specs.declared.fault.Place.{Place}
 use Rattle.sml_lex.specs.declared.fault.Code.TheVariants.{P1, P2, P3}
 use Rattle.sml_tree.specs.Trees.{Id}
@@ -10,7 +10,7 @@ use Rattle.sml_tree.specs.Signatures.{sig_end, no_spec}
 use Rattle.sml_tree.specs.Structures.{StrExp, TopDec, struct_end, str_name, ascribed, str_let, core_dec, structure_dec, no_str_dec, and_str_dec, str_bind, no_str_bind, and_str_bind, top_str, functor_dec}
 use Rattle.sml_tree.specs.declared.structures.Ascription.TheVariants.{Transparent, Opaque}
 use Rattle.sml_patterns.specs.Warnings.{warning}
-use Rattle.sml_core_rules.specs.Objects.{Status, constructor}
+use Rattle.sml_core_rules.specs.Objects.{constructor}
 use Rattle.sml_core_rules.specs.States.{Holder, of_fn, of_handle, of_val, Judged}
 use Rattle.sml_places.specs.Likeness.{AreGroupsAlike}
 use Rattle.sml_run_rules.specs.Warnings.{AreWarnings}

@@ -3,7 +3,6 @@ use Rattle.std.specs.Prelude.{◌≡◌, ◌⊎◌, ◌↔◌, ℕ, List, [], �
 use Rattle.std.specs.List.Sorted.{IsStrictlySortedBy}
 use Rattle.sml_lex.specs.declared.fault.Place.{Place}
 use Rattle.sml_lex.specs.declared.fault.Warning.{Warning}
-use Rattle.sml_tree.specs.Trees.{LongId}
 use Rattle.sml_patterns.specs.declared.judge.Holder as J
 use Rattle.sml_patterns.specs.declared.judge.Holder.TheVariants.{Fn, Handle, Val}
 use Rattle.sml_patterns.specs.declared.names.Meaning.{Meaning}

@@ -6,6 +6,7 @@ use Rattle.std.specs.List.Sorted.{IsStrictlySortedBy}
 use Rattle.std.specs.declared.cmp.Ordering.{Ordering}
 use Rattle.std.specs.declared.cmp.Ordering.TheVariants.{Less, Equal, Greater}
 use Rattle.std.proofs.Common.{arith}
+use Rattle.std.proofs.lemmas.Bool.{and_parts}
 use mathlib.Core.Path.{refl, sym, ap, subst}
 use mathlib.Core.Logic.{inl, inr}
 use mathlib.Core.Bool.{true≢false}
@@ -33,11 +34,6 @@ use Rattle.sml_samples.proofs.Names.{initial-stands, are_initial}
 
 -- truth values, numbers and lists
 
-both : (a b : Bool) → a && b ≡ true → (a ≡ true) × (b ≡ true)
-both true true h = (refl, refl)
-both true false h = absurd (true≢false (sym h))
-both false b h = absurd (true≢false (sym h))
-
 abbrev same_number : ℕ → ℕ → Bool
 same_number a b = elim (ℕ_discrete a b) [ yes _ ↦ true | no _ ↦ false ]
 
@@ -58,7 +54,7 @@ same-numbers [] [] h = refl
 same-numbers [] (b ∷ js) h = absurd (true≢false (sym h))
 same-numbers (a ∷ ks) [] h = absurd (true≢false (sym h))
 same-numbers (a ∷ ks) (b ∷ js) h =
-    let p = both (same_number a b) (same_numbers ks js) h in let e = same-number a b p.0 in let r = same-numbers ks js p.1 in λ i. e i ∷ r i
+    let p = and_parts (same_number a b) (same_numbers ks js) h in let e = same-number a b p.0 in let r = same-numbers ks js p.1 in λ i. e i ∷ r i
 
 abbrev at_most : ℕ → ℕ → Bool
 at_most zero b = true
@@ -87,7 +83,7 @@ module _ {K : Type 0} (c : K → K → Ordering) where
 
   below-all : (k : K) (xs : List K) → below_all k xs ≡ true → AllByRecursion (λ y. c k y ≡ Less) xs
   below-all k [] h = tt
-  below-all k (x ∷ xs) h = let p = both (is_less (c k x)) (below_all k xs) h in (is-less (c k x) p.0, below-all k xs p.1)
+  below-all k (x ∷ xs) h = let p = and_parts (is_less (c k x)) (below_all k xs) h in (is-less (c k x) p.0, below-all k xs p.1)
 
   abbrev sorted : List K → Bool
   sorted [] = true
@@ -96,7 +92,7 @@ module _ {K : Type 0} (c : K → K → Ordering) where
   are-sorted : (xs : List K) → sorted xs ≡ true → IsStrictlySortedBy c xs
   unfolding IsStrictlySortedBy
   are-sorted [] h = tt
-  are-sorted (x ∷ xs) h = let p = both (below_all x xs) (sorted xs) h in (below-all x xs p.0, are-sorted xs p.1)
+  are-sorted (x ∷ xs) h = let p = and_parts (below_all x xs) (sorted xs) h in (below-all x xs p.0, are-sorted xs p.1)
 
 -- types over the initial names
 
@@ -119,7 +115,7 @@ abbrev mutual
 takes-ok : (h : Head Name) (k : ℕ) → takes h k ≡ true → Takes naming h k
 unfolding naming
 takes-ok arrow k h = same-number k 2 h
-takes-ok (row ls) k h = let p = both (same_number k (length ls)) (sorted label_order ls) h in (same-number k (length ls) p.0, are-sorted label_order ls p.1)
+takes-ok (row ls) k h = let p = and_parts (same_number k (length ls)) (sorted label_order ls) h in (same-number k (length ls) p.0, are-sorted label_order ls p.1)
 takes-ok (name (initial j)) k h = same-number k (initial_attributes j).arity h
 takes-ok (name (made u n a q)) k h = absurd (true≢false (sym h))
 
@@ -129,11 +125,11 @@ mutual
   type-ok : (t : MlType Name) → type_ok t ≡ true → IsType naming t
   type-ok (bound k) h = absurd (true≢false (sym h))
   type-ok (free v) h = tt
-  type-ok (app g ts) h = let p = both (takes g (count_types ts)) (types_ok ts) h in (takes-ok g (count_types ts) p.0, types-ok ts p.1)
+  type-ok (app g ts) h = let p = and_parts (takes g (count_types ts)) (types_ok ts) h in (takes-ok g (count_types ts) p.0, types-ok ts p.1)
 
   types-ok : (ts : MlTypes Name) → types_ok ts ≡ true → AreTypes naming ts
   types-ok no_type h = tt
-  types-ok (and_type t ts) h = let p = both (type_ok t) (types_ok ts) h in (type-ok t p.0, types-ok ts p.1)
+  types-ok (and_type t ts) h = let p = and_parts (type_ok t) (types_ok ts) h in (type-ok t p.0, types-ok ts p.1)
 
 head-mentions : (h : Head Name) (k : ℕ) → takes h k ≡ true → HeadMentions (λ n. Stands n initial_names) h
 head-mentions arrow k e = tt
@@ -147,11 +143,11 @@ mutual
   mentions-ok : (t : MlType Name) → type_ok t ≡ true → Mentions (λ n. Stands n initial_names) t
   mentions-ok (bound k) h = tt
   mentions-ok (free v) h = tt
-  mentions-ok (app g ts) h = let p = both (takes g (count_types ts)) (types_ok ts) h in (head-mentions g (count_types ts) p.0, all-mention-ok ts p.1)
+  mentions-ok (app g ts) h = let p = and_parts (takes g (count_types ts)) (types_ok ts) h in (head-mentions g (count_types ts) p.0, all-mention-ok ts p.1)
 
   all-mention-ok : (ts : MlTypes Name) → types_ok ts ≡ true → AllMention (λ n. Stands n initial_names) ts
   all-mention-ok no_type h = tt
-  all-mention-ok (and_type t ts) h = let p = both (type_ok t) (types_ok ts) h in (mentions-ok t p.0, all-mention-ok ts p.1)
+  all-mention-ok (and_type t ts) h = let p = and_parts (type_ok t) (types_ok ts) h in (mentions-ok t p.0, all-mention-ok ts p.1)
 
 -- schemes and values over the initial names
 
@@ -163,10 +159,10 @@ scheme_ok σ =
 scheme-ok : (σ : Scheme Name) → scheme_ok σ ≡ true → IsSchemeOver naming initial_names σ
 scheme-ok σ h =
     let halves =
-    both (same_numbers (variables_after [] σ.body) [] && same_numbers (variables_after [] (instance_from 0 σ.body)) (range_with_len 0 (length σ.variables)))
+    and_parts (same_numbers (variables_after [] σ.body) [] && same_numbers (variables_after [] (instance_from 0 σ.body)) (range_with_len 0 (length σ.variables)))
     (type_ok (instance_from 0 σ.body) && at_most (type_size σ.body) 10000) h in
-    let p = both (same_numbers (variables_after [] σ.body) []) (same_numbers (variables_after [] (instance_from 0 σ.body)) (range_with_len 0 (length σ.variables))) halves.0 in
-    let q = both (type_ok (instance_from 0 σ.body)) (at_most (type_size σ.body) 10000) halves.1 in
+    let p = and_parts (same_numbers (variables_after [] σ.body) []) (same_numbers (variables_after [] (instance_from 0 σ.body)) (range_with_len 0 (length σ.variables))) halves.0 in
+    let q = and_parts (type_ok (instance_from 0 σ.body)) (at_most (type_size σ.body) 10000) halves.1 in
     record {
       closed = same-numbers (variables_after [] σ.body) [] p.0;
       numbered = same-numbers (variables_after [] (instance_from 0 σ.body)) (range_with_len 0 (length σ.variables)) p.1;
@@ -213,7 +209,7 @@ abbrev value_ok : Value Name → Bool
 value_ok v = scheme_ok v.scheme && status_ok v.status v.scheme
 
 value-ok : (v : Value Name) → value_ok v ≡ true → IsValueOver naming initial_names v
-value-ok v h = let p = both (scheme_ok v.scheme) (status_ok v.status v.scheme) h in record { scheme = scheme-ok v.scheme p.0; status = status-ok v.status v.scheme p.1 }
+value-ok v h = let p = and_parts (scheme_ok v.scheme) (status_ok v.status v.scheme) h in record { scheme = scheme-ok v.scheme p.0; status = status-ok v.status v.scheme p.1 }
 
 abbrev values_ok : Map (Value Name) → Bool
 values_ok [] = true
@@ -221,7 +217,7 @@ values_ok (e ∷ es) = value_ok e.1 && values_ok es
 
 values-ok : (m : Map (Value Name)) → values_ok m ≡ true → HoldsOfAll (IsValueOver naming initial_names) m
 values-ok [] h = tt
-values-ok (e ∷ es) h = let p = both (value_ok e.1) (values_ok es) h in (value-ok e.1 p.0, values-ok es p.1)
+values-ok (e ∷ es) h = let p = and_parts (value_ok e.1) (values_ok es) h in (value-ok e.1 p.0, values-ok es p.1)
 
 -- the initial basis
 
@@ -330,11 +326,11 @@ mutual
   body-ok : (k : ℕ) (t : MlType Name) → body_ok k t ≡ true → IsBody naming k t
   body-ok k (bound j) h = at-most (suc j) k h
   body-ok k (free v) h = absurd (true≢false (sym h))
-  body-ok k (app g ts) h = let p = both (takes g (count_types ts)) (bodies_ok k ts) h in (takes-ok g (count_types ts) p.0, bodies-ok k ts p.1)
+  body-ok k (app g ts) h = let p = and_parts (takes g (count_types ts)) (bodies_ok k ts) h in (takes-ok g (count_types ts) p.0, bodies-ok k ts p.1)
 
   bodies-ok : (k : ℕ) (ts : MlTypes Name) → bodies_ok k ts ≡ true → AreBodies naming k ts
   bodies-ok k no_type h = tt
-  bodies-ok k (and_type t ts) h = let p = both (body_ok k t) (bodies_ok k ts) h in (body-ok k t p.0, bodies-ok k ts p.1)
+  bodies-ok k (and_type t ts) h = let p = and_parts (body_ok k t) (bodies_ok k ts) h in (body-ok k t p.0, bodies-ok k ts p.1)
 
 abbrev schemes_ok : List (Scheme Name) → Bool
 schemes_ok [] = true
@@ -344,8 +340,8 @@ schemes-ok : (θs : List (Scheme Name)) → schemes_ok θs ≡ true → (θ : Sc
 unfolding Stands
 schemes-ok [] h θ s = absurd s
 schemes-ok (θ ∷ θs) h σ (inl e) =
-    subst (λ σ. IsBody naming (length σ.variables) σ.body) (sym e) (body-ok (length θ.variables) θ.body (both (body_ok (length θ.variables) θ.body) (schemes_ok θs) h).0)
-schemes-ok (θ ∷ θs) h σ (inr s) = schemes-ok θs (both (body_ok (length θ.variables) θ.body) (schemes_ok θs) h).1 σ s
+    subst (λ σ. IsBody naming (length σ.variables) σ.body) (sym e) (body-ok (length θ.variables) θ.body (and_parts (body_ok (length θ.variables) θ.body) (schemes_ok θs) h).0)
+schemes-ok (θ ∷ θs) h σ (inr s) = schemes-ok θs (and_parts (body_ok (length θ.variables) θ.body) (schemes_ok θs) h).1 σ s
 
 made-is-not-initial : (u k a : ℕ) (q : Bool) (ns : List Name) → are_initial ns ≡ true → ¬ (Stands (made u k a q) ns)
 unfolding Stands

@@ -10,41 +10,10 @@ use Rattle.sml_objects.specs.Types.{assign, replace_type, replace_types, variabl
 use Rattle.sml_objects.specs.declared.fates.Fate.{Fate}
 use Rattle.sml_objects.specs.declared.fates.Fate.TheVariants.{Bind, Keep, Default}
 use Rattle.sml_graph.specs.Asked.{Asked, count}
+use Rattle.sml_core_rules.proofs.Schemes.{closed-size}
 use Rattle.sml_schemes.specs.Left.{IsFlexible, IsReading}
 use Rattle.sml_schemes.specs.Fixed.{IsMarked}
 use Rattle.sml_schemes.specs.Schemes.{AsksEquality, IsFateOf, IsInt, IsScheme}
-
--- sizes
-
-abbrev int_type : MlType Name
-int_type = named (initial int)
-
-substitute-size : (v k i : ℕ) (fs : List Fate) → type_size (type_or (free v) (slice_index_or (substitutes int_type k fs) i None)) ≡ 1
-unfolding type_size types_size
-substitute-size v k i [] = refl
-substitute-size v k zero (Bind e ∷ fs) = refl
-substitute-size v k zero (Keep ∷ fs) = refl
-substitute-size v k zero (Default ∷ fs) = refl
-substitute-size v k (suc i) (Bind e ∷ fs) = substitute-size v (suc k) i fs
-substitute-size v k (suc i) (Keep ∷ fs) = substitute-size v k i fs
-substitute-size v k (suc i) (Default ∷ fs) = substitute-size v k i fs
-
-mutual
-  unfolding type_size types_size replace_type replace_types
-
-  assigned-size : (f : ℕ → MlType Name) → ((v : ℕ) → type_size (f v) ≡ 1) → (t : MlType Name) → type_size (assign f t) ≡ type_size t
-  assigned-size f one (bound k) = refl
-  assigned-size f one (free v) = one v
-  assigned-size f one (app h ts) = ap suc (all-assigned-size f one ts)
-
-  all-assigned-size : (f : ℕ → MlType Name) → ((v : ℕ) → type_size (f v) ≡ 1) → (ts : MlTypes Name) → types_size (replace_types bound f ts) ≡ types_size ts
-  all-assigned-size f one no_type = refl
-  all-assigned-size f one (and_type t ts) = omega (arith, assigned-size f one t, all-assigned-size f one ts)
-
-closed-size : (fs : List Fate) (r : MlType Name) → type_size (close_as int_type fs r).body ≡ type_size r
-unfolding close_as
-closed-size fs r =
-    assigned-size (standing_for (variables_after [] r) (substitutes int_type 0 fs)) (λ v. substitute-size v 0 (index_among v (variables_after [] r)) fs) r
 
 -- fates
 
@@ -97,6 +66,10 @@ module _ (s : Asked) (flags : List Bool) (x : Bool) where
       at fate have f is v k (inr (inl l)) = subst (IsFateOf s flags x v) (sym (other-fate n f fate v l)) (have v l)
       at fate have f is v k (inr (inr l)) = absurd (omega (arith, k, l))
 
+  int-size : type_size (named (initial int)) ≡ 1
+  unfolding type_size types_size
+  int-size = refl
+
   -- where all schemes of a type are larger than a limit, so are all that it stands for
   pub readings-large : (t : MlType Name) (limit : ℕ) → ((θ : Scheme Name) → IsScheme s flags x t θ → limit < type_size θ.body) → (r : MlType Name) → IsReading s t r → limit < type_size r
   readings-large t limit large r reads = go (cases_order limit (type_size r))
@@ -104,12 +77,12 @@ module _ (s : Asked) (flags : List Bool) (x : Bool) where
       never : type_size r ≤ limit → ⊥
       never le = all-fates (count s) (λ (fate, have).
           let fs : List Fate = map fate (variables_after [] r) in
-          let above : limit < type_size (close_as int_type fs r).body = large (close_as int_type fs r) (record {
+          let above : limit < type_size (close_as (named (initial int)) fs r).body = large (close_as (named (initial int)) fs r) (record {
             reading = r;
             reads = reads;
             closed = record { fate = fate; fates = λ v left. have v left.known; scheme = refl };
           }) in
-          omega (arith, le, above, closed-size fs r))
+          omega (arith, le, above, closed-size (named (initial int)) int-size fs r))
 
       go : (limit ≡ type_size r) ⊎ ((limit < type_size r) ⊎ (type_size r < limit)) → limit < type_size r
       go (inl e) = absurd (never (omega (arith, e)))

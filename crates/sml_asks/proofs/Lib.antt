@@ -15,3 +15,4 @@ pub mod Variables
 pub mod Holding
 pub mod Mentioning
 pub mod Numbering
+pub mod Scoping

@@ -124,6 +124,12 @@ unknowns-are-steps old new n e p q r unit next s is = (
   },
 )
 
+-- so is a call of a solver that makes one
+pub fresh-makes : (old new : Asked) (result : Result ℕ Halt) → IfOk result (λ v. v ≡ count old) → OnOk result (count new ≡ count old + 1) → OnOk result (PermitsSame old new)
+    → Returns old new result H.Spent → IfOk result (λ v. Makes old v 1 new)
+fresh-makes old new (Err h) v n p r = tt
+fresh-makes old new (Ok u) v n p r = subst (λ w. Makes old w 1 new) (sym v) (unknowns-are-steps old new 1 n p r.unit r.kept)
+
 pub instances-are-steps : (old new : Asked) (σ : Scheme Name) (t : MlType Name) → (IsBodyOver (length σ.variables) (count old) σ.body → t ≡ instance_from (count old) σ.body)
     → (IsBodyOver (length σ.variables) (count old) σ.body → Makes old (count old) (length σ.variables) new) → Instantiates old σ t new
 unfolding Makes Instantiates

@@ -1,11 +1,13 @@
 -- The types that types stand for, and their schemes, as steps.
-use Rattle.std.proofs.Common.{◌≡◌, ◌↔◌, ◌⊎◌, ◌<◌, ◌≤◌, ◌+◌, ◌^◌, ℕ, Bool, true, false, Option, Some, None, Result, Ok, Err, Global, List, [], length, inl, inr, sym, ◌∙◌, ap, subst, refl}
+use Rattle.std.proofs.Common.{◌≡◌, ◌↔◌, ◌⊎◌, ◌<◌, ◌≤◌, ◌+◌, ◌^◌, ℕ, Bool, true, false, Option, Some, None, Result, Ok, Err, Global, List, [], ◌∷◌, length, inl, inr, sym, ◌∙◌, ap, subst, refl}
 use Rattle.std.specs.Prelude.{IfOk, IfSome, IfNone, option_map}
+use Rattle.std.specs.List.{AllByRecursion}
 use Rattle.std.specs.declared.rc.Rc.{Rc}
 use Rattle.sml_lex.specs.declared.fault.Place.{Place}
 use Rattle.sml_objects.specs.Initial.{Name, naming}
 use Rattle.sml_objects.specs.Objects.{MlType, Scheme}
 use Rattle.sml_objects.specs.Sizes.{type_size}
+use Rattle.sml_objects.specs.Types.{variables_after}
 use Rattle.sml_objects.specs.Views.{type_of, scheme_of}
 use Rattle.sml_objects.specs.declared.fates.Fate.{Fate}
 use Rattle.sml_objects.specs.declared.fates.Fate.TheVariants.{Bind, Keep, Default}
@@ -19,6 +21,7 @@ use Rattle.sml_schemes.specs.Left as L
 use Rattle.sml_schemes.specs.Fixed as F
 use Rattle.sml_schemes.specs.Schemes as S
 use Rattle.sml_solve.specs.Calls.{Keeps}
+use Rattle.sml_core_rules.proofs.Schemes.{scheme-size, variables-left}
 use Rattle.sml_core_rules.specs.Scopes.{run_scope}
 use Rattle.sml_core_rules.specs.Solutions as C
 use Rattle.sml_core_rules.specs.States.{State}
@@ -96,30 +99,29 @@ module _ (new : Asked) (unit next first : ℕ) (s : State Place Name) (is : Solv
   )
   fate-same v left Default = int-same unit next new s is v
 
-  scheme-same : (t : MlType Name) (θ : Scheme Name) → C.IsScheme (run_scope unit) s first x t θ ↔ S.IsScheme new more x t θ
-  unfolding C.IsScheme naming
-  scheme-same t θ = (
-    λ (r, reads, fate, fates, e). record {
-      reading = r;
-      reads = (reading-same unit next new s is t r).0 reads;
-      closed = record { fate = fate; fates = λ v k. let left = (left-same unit next new s is v).1 k in (fate-same v left (fate v)).0 (fates v left); scheme = e };
-    },
-    λ h. (
-      h.reading,
-      (reading-same unit next new s is t h.reading).1 h.reads,
-      h.closed.fate,
-      λ v left. (fate-same v left (h.closed.fate v)).1 (h.closed.fates v ((left-same unit next new s is v).0 left)),
-      h.closed.scheme,
-    ),
-  )
+  left-fates : (fate : ℕ → Fate) → ((v : ℕ) → L.IsLeft new v → S.IsFateOf new more x v (fate v)) → (vs : List ℕ) → AllByRecursion (C.IsLeft (run_scope unit) s) vs
+      → AllByRecursion (λ v. C.IsFateOf (run_scope unit) s first x v (fate v)) vs
+  left-fates fate fates [] left = tt
+  left-fates fate fates (v ∷ vs) left = ((fate-same v left.0 (fate v)).1 (fates v ((left-same unit next new s is v).0 left.0)), left-fates fate fates vs left.1)
+
+  scheme-there : (t : MlType Name) (θ : Scheme Name) → S.IsScheme new more x t θ → C.IsScheme (run_scope unit) s first x t θ
+  unfolding C.IsScheme C.StandsFor naming
+  scheme-there t θ h =
+      let stands : C.StandsFor (run_scope unit) s t h.reading = (reading-same unit next new s is t h.reading).1 h.reads in
+      (h.reading, stands, h.closed.fate, left-fates h.closed.fate h.closed.fates (variables_after [] h.reading) (variables-left (run_scope unit) s [] h.reading tt stands.0), h.closed.scheme)
 
   scheme-found : (t : MlType Name) (limit : ℕ) (found : Option Q.Scheme) → IfSome found (λ θ. S.IsScheme new more x t (scheme_of θ)) → IfSome found (λ θ. IsSchemeOf new (scheme_of θ))
       → IfSome found (λ θ. type_size (scheme_of θ).body ≤ limit) → IfNone found ((θ : Scheme Name) → S.IsScheme new more x t θ → limit < type_size θ.body)
       → IsSchemeUpTo unit s first x t limit (option_map scheme_of found)
   scheme-found t limit (Some θ) reads known within none =
-      ((scheme-same t (scheme_of θ)).1 reads, within, subst (λ n. IsBodyOver (length (scheme_of θ).variables) n (scheme_of θ).body) is.unknowns known)
-  scheme-found t limit None reads known within none =
-      ((λ θ h. none θ ((scheme-same t θ).0 h)), λ r h. readings-large new more x t limit none r ((reading-same unit next new s is t r).0 h))
+      (scheme-there t (scheme_of θ) reads, within, subst (λ n. IsBodyOver (length (scheme_of θ).variables) n (scheme_of θ).body) is.unknowns known)
+  scheme-found t limit None reads known within none = ((λ θ h. subst (λ n. limit < n) (sym (scheme-size (run_scope unit) s first x t θ h)) (large h.0 (stood h))), large)
+    where
+      large : (r : MlType Name) → C.StandsFor (run_scope unit) s t r → limit < type_size r
+      large r h = readings-large new more x t limit none r ((reading-same unit next new s is t r).0 h)
+
+      stood : {θ : Scheme Name} (h : C.IsScheme (run_scope unit) s first x t θ) → C.StandsFor (run_scope unit) s t h.0
+      stood h = h.1
 
 pub scheme-after : (old mid new : Asked) (t : MlType Name) (flags more : List Bool) (x : Bool) (limit low : ℕ) (made : Result (Unit {0}) Halt) (result : Result (Option Q.Scheme) Halt)
     → (IsOf old t → (made ≡ Ok tt) × (mid ≡ old)) → (limit + 1 < 2 ^ 32 → low ≡ limit) → ((v : ℕ) → v < count mid → F.IsMarked more v ↔ F.IsMarked flags v)

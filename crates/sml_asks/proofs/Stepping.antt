@@ -7,19 +7,21 @@ use Rattle.sml_objects.specs.Initial.{Name}
 use Rattle.sml_objects.specs.Objects.{MlType}
 use Rattle.sml_layers.specs.declared.layer.Layer.{Layer}
 use Rattle.sml_layers.specs.declared.layer.Layer.TheVariants.{Rigidity}
-use Rattle.sml_layers.specs.Demands.{Demand, CanBeMet, IsFirstUnmet}
+use Rattle.sml_layers.specs.Demands as D
+use Rattle.sml_layers.specs.Demands.{Demand, equal, has_fields, asks, CanBeMet, IsFirstUnmet}
+use Rattle.sml_graph.specs.declared.demand.Ask.{Ask}
 use Rattle.sml_graph.specs.declared.demand.Halt.{Halt}
 use Rattle.sml_graph.specs.declared.demand.Refusal.{Refusal}
 use Rattle.sml_graph.specs.declared.demand.Refusal.TheVariants as R
 use Rattle.sml_graph.specs.Asked as A
 use Rattle.sml_graph.specs.Asked.{Asked, count, Adds, CanMeet}
 use Rattle.sml_graph.specs.Interned.{IsOver}
-use Rattle.sml_graph.specs.Said.{demand_of, by_number, Says}
+use Rattle.sml_graph.specs.Said.{ask_of, demand_of, by_number, Says}
 use Rattle.sml_graph.proofs.Saying.{says-its-demands}
 use Rattle.sml_solve.specs.Calls.{Demands}
 use Rattle.sml_solve.specs.Clashes.{IsDemandOf}
 use Rattle.sml_core_rules.specs.States.{State}
-use Rattle.sml_asks.specs.Solvers.{SolverIs, IsTypeIn, IsDemandIn, IsDemand, AreDemands}
+use Rattle.sml_asks.specs.Solvers.{IsBound, IsReboundAsk, SolverIs, IsTypeIn, IsDemandIn, IsDemand, AreDemands}
 use Rattle.sml_asks.specs.Steps.{Answers, Asks}
 use Rattle.sml_asks.proofs.Rebinding.{met-both, first-both}
 
@@ -55,11 +57,6 @@ module _ (unit next : ℕ) (old new : Asked) (s : State Place Name) (d : A.Deman
   answers (Err R.Labels) c = c.labels refl
   answers (Err R.Memory) c = tt
   answers (Err R.Spent) c = cc (is.spent, c.returns.spent.0 refl)
-
--- a demand of a solver is a step
-pub asks : (old new : Asked) (d : A.Demand) (result : Result (Unit {0}) Refusal) → Demands old d new result → Asks old d new result
-unfolding Asks
-asks old new d result c unit next s e is asked = answers unit next old new s d e is asked result c
 
 -- what the demand speaks of was made
 
@@ -98,3 +95,21 @@ twice-same P Q old mid last first second f g h =
     let a : (first ≡ Ok tt) × (mid ≡ old) = f h.0 in
     let b : (second ≡ Ok tt) × (last ≡ mid) = g (subst Q (sym a.1) h.1) in
     (b.0, b.1 ∙ a.1)
+
+-- what callers read off
+
+module _ (unit next : ℕ) (old new : Asked) (s : State Place Name) (is : SolverIs unit next old s) (result : Result (Unit {0}) Refusal) where
+  pub equal-answer : (t u : MlType Name) → Asks old (A.equal t u) new result → IsTypeIn s.made s.names t → IsTypeIn s.made s.names u → Answers unit next s (equal t u) new result
+  unfolding Asks
+  equal-answer t u f k l = f unit next s (equal t u) is (record { known = (k, l); same = refl })
+
+  pub row-answer : (t : MlType Name) (fs : List (Id × MlType Name)) → Asks old (A.has_fields t fs) new result → IsTypeIn s.made s.names t
+      → AllByRecursion (λ f. IsTypeIn s.made s.names f.1) fs → Answers unit next s (has_fields t fs) new result
+  unfolding Asks
+  row-answer t fs f k l = f unit next s (has_fields t fs) is (record { known = (k, l); same = refl })
+
+  -- of one type, where the second asks the same with a list for a bound
+  pub ask-answer : (a : Ask) (b : D.Ask (List Name)) (t : MlType Name) → Asks old (A.asks a t) new result → IsReboundAsk (IsBound unit next s.names) (ask_of a) b
+      → IsTypeIn s.made s.names t → Answers unit next s (asks b t) new result
+  unfolding Asks
+  ask-answer a b t f same k = f unit next s (asks b t) is (record { known = k; same = (b, same, refl) })

@@ -1,5 +1,5 @@
 -- What calls of a solver say of the end of a value declaration, in each state that is the solver's.
-use Rattle.std.specs.Prelude.{◌≡◌, ◌↔◌, ◌⊎◌, ◌+◌, ◌^◌, ◌<◌, ◌≤◌, ℕ, Bool, false, Option, Some, None, Result, Ok, Err, List, [], length, map}
+use Rattle.std.specs.Prelude.{◌≡◌, ◌↔◌, ◌⊎◌, ◌+◌, ◌^◌, ◌<◌, ◌≤◌, ℕ, Bool, true, false, Option, Some, None, Result, Ok, Err, List, [], ◌∷◌, length, map}
 use Rattle.std.specs.List.{AllByRecursion}
 use Rattle.sml_lex.specs.declared.fault.Place.{Place}
 use Rattle.sml_objects.specs.Appearance.{Stands}
@@ -7,9 +7,10 @@ use Rattle.sml_objects.specs.Initial.{Name}
 use Rattle.sml_objects.specs.Objects.{MlType, Scheme, free, types_of}
 use Rattle.sml_objects.specs.Sizes.{type_size}
 use Rattle.sml_objects.specs.Types.{variables_after_all}
+use Rattle.sml_layers.specs.declared.layer.Layer.{Layer}
 use Rattle.sml_layers.specs.declared.layer.Layer.TheVariants.{Rigidity}
 use Rattle.sml_layers.specs.declared.variable.Variable.{Variable}
-use Rattle.sml_layers.specs.Demands.{Demand, asks, variable, Mentions}
+use Rattle.sml_layers.specs.Demands.{Demand, asks, equality, variable, IsFirstUnmet, Mentions}
 use Rattle.sml_graph.specs.declared.demand.Refusal.{Refusal}
 use Rattle.sml_graph.specs.declared.demand.Refusal.TheVariants as R
 use Rattle.sml_graph.specs.Asked.{Asked}
@@ -20,7 +21,7 @@ use Rattle.sml_core_rules.specs.Expressions.{settle}
 use Rattle.sml_core_rules.specs.Scopes.{run_scope}
 use Rattle.sml_core_rules.specs.Scripts.{IsAnswer}
 use Rattle.sml_core_rules.specs.Solutions.{HasOneSetOfLabels, IsFixed, IsFlexible, IsFree, IsLeft, IsScheme, StandsFor}
-use Rattle.sml_core_rules.specs.States.{State}
+use Rattle.sml_core_rules.specs.States.{State, words}
 use Rattle.sml_asks.specs.Solvers.{SolverIs, IsTypeIn}
 
 -- What was answered to a test, which this refusal answers where it fails. Nothing is known after want of memory.
@@ -98,6 +99,13 @@ abbrev pub VariablesAreFree : Type 0
 VariablesAreFree =
     (unit next : ℕ) (solver : Asked) (s : State Place Name) (x : Variable) (v : ℕ) → SolverIs unit next solver s → Stands (asks (variable x) (free v)) s.demands
     → IsFree (run_scope unit) s v
+
+-- No layer refuses that a new unknown stands for an explicit variable, nor that it admits equality where the variable does.
+abbrev pub VariablesAreMet : Type 0
+VariablesAreMet =
+    (unit next : ℕ) (solver : Asked) (s : State Place Name) (x : Variable) → SolverIs unit next solver s → (l : Layer)
+    → (IsFirstUnmet (words (run_scope unit)) l (asks (variable x) (free s.made) ∷ s.demands) → ⊥)
+    × (x.equality ≡ true → IsFirstUnmet (words (run_scope unit)) l (asks equality (free s.made) ∷ asks (variable x) (free s.made) ∷ s.demands) → ⊥)
 
 -- Flags of what the first unknowns fix are those that closing needs.
 abbrev pub FlagsAreContexts : Type 0

@@ -1,7 +1,7 @@
 //! What may be asked of types, whatever variables they have: a free variable that is no unknown yet becomes one first.
 //! Where that can't be, as for a type with a bound variable, it counts as want of memory.
 
-ghost use Rattle.std.specs.Prelude.{◌≡◌, ◌<◌, [], ◌∷◌, ℕ, false, length, slice_index_or, Ok, OnOk, IfOk, option_map};
+ghost use Rattle.std.specs.Prelude.{◌≡◌, ◌<◌, [], ◌∷◌, ℕ, false, true, length, slice_index_or, Ok, Err, OnOk, IfOk, option_map};
 ghost use Rattle.std.specs.List.{AllByRecursion};
 ghost use Rattle.sml_objects.specs.Views.{scheme_of, type_of};
 ghost use Rattle.sml_graph.specs.declared.demand.Ask.{Ask};
@@ -157,7 +157,8 @@ pub fn ask_labels(solver: &mut Solver, ty: &MlType) -> Result<(), Refusal>
 
 /// The body of a scheme with new unknowns for its variables, which follow those before, in the order of the variables.
 pub fn ask_instance(solver: &mut Solver, scheme: &Scheme) -> Result<Rc<MlType>, Halt>
-    ensures { IfOk result (λ t. Instantiates solver.old (scheme_of scheme.now) (type_of t.value) solver.new) }
+    ensures ok { IfOk result (λ t. Instantiates solver.old (scheme_of scheme.now) (type_of t.value) solver.new) }
+    ensures spent { result ≡ Err Halt.Spent → IsSchemeOf solver.old (scheme_of scheme.now) → solver.old.spent ≡ true }
 {
     know_body(solver, scheme)?;
     solver.instance(scheme)
@@ -182,17 +183,20 @@ pub fn ask_general(
     solver.require_general(variables, first.min(count), others)
 }
 
-/// Makes each of these unknowns the default, in turn, where it is overloaded.
+/// Makes each of these unknowns the default, in turn, where it is overloaded when it is come to.
 pub fn ask_settled(solver: &mut Solver, unknowns: &[u32]) -> Result<(), Halt>
-    ensures { OnOk result (AsksSettled solver.old unknowns.now solver.new) }
+    ensures ok { OnOk result (AsksSettled solver.old unknowns.now solver.new) }
+    ensures spent { result ≡ Err Halt.Spent → AllByRecursion (λ v. v < count solver.old) unknowns.now → solver.old.spent ≡ true }
 {
     know_numbers(solver, unknowns)?;
     settle_all(solver, unknowns)
 }
 
+/// Makes each of these unknowns the default, in turn, where it is overloaded.
 fn settle_all(solver: &mut Solver, unknowns: &[u32]) -> Result<(), Halt>
     requires { AllByRecursion (λ v. v < count solver.old) unknowns.now }
-    ensures { OnOk result (AsksSettled solver.old unknowns.now solver.new) }
+    ensures ok { OnOk result (AsksSettled solver.old unknowns.now solver.new) }
+    ensures spent { result ≡ Err Halt.Spent → solver.old.spent ≡ true }
 {
     for unknown in unknowns {
         settle_one(solver, *unknown)?;
@@ -200,10 +204,13 @@ fn settle_all(solver: &mut Solver, unknowns: &[u32]) -> Result<(), Halt>
     Ok(())
 }
 
+/// Makes an unknown the default where it is overloaded.
 fn settle_one(solver: &mut Solver, unknown: u32) -> Result<(), Halt>
     requires { unknown < count solver.old }
     ensures ok { OnOk result (AsksSettled solver.old (unknown ∷ []) solver.new) }
     ensures count { count solver.new ≡ count solver.old }
+    ensures spent { result ≡ Err Halt.Spent → solver.old.spent ≡ true }
+    ensures open { OnOk result (solver.new.spent ≡ true → solver.old.spent ≡ true) }
 {
     if solver.is_overloaded(unknown)? {
         return solver.settle(&[unknown]);
@@ -213,7 +220,8 @@ fn settle_one(solver: &mut Solver, unknown: u32) -> Result<(), Halt>
 
 /// A flag for each unknown that the types of the first unknowns and of others fix.
 pub fn ask_fixed(solver: &mut Solver, first: usize, others: &[u32]) -> Result<Vec<bool>, Halt>
-    ensures { IfOk result (λ flags. AsksFixed solver.old first others.now flags.items solver.new) }
+    ensures ok { IfOk result (λ flags. AsksFixed solver.old first others.now flags.items solver.new) }
+    ensures spent { result ≡ Err Halt.Spent → AllByRecursion (λ v. v < count solver.old) others.now → solver.old.spent ≡ true }
 {
     know_numbers(solver, others)?;
     let count = solver.unknowns();
@@ -222,7 +230,8 @@ pub fn ask_fixed(solver: &mut Solver, first: usize, others: &[u32]) -> Result<Ve
 
 /// The type that a type stands for, over the unknowns that are left, or `None` where it has more nodes than the limit.
 pub fn ask_reading(solver: &mut Solver, ty: &MlType, limit: u32) -> Result<Option<Rc<MlType>>, Halt>
-    ensures { IfOk result (λ found. AsksReading solver.old (type_of ty.now) limit (option_map (λ t. type_of t.value) found) solver.new) }
+    ensures ok { IfOk result (λ found. AsksReading solver.old (type_of ty.now) limit (option_map (λ t. type_of t.value) found) solver.new) }
+    ensures spent { result ≡ Err Halt.Spent → IsOf solver.old (type_of ty.now) → solver.old.spent ≡ true }
 {
     know(solver, ty)?;
     solver.reading(ty, limit.min(u32::MAX - 1))
@@ -238,7 +247,8 @@ pub fn ask_scheme(
     expansive: bool,
     limit: u32,
 ) -> Result<Option<Scheme>, Halt>
-    ensures { IfOk result (λ found. AsksScheme solver.old (type_of ty.now) fixed.now expansive limit (option_map scheme_of found) solver.new) }
+    ensures ok { IfOk result (λ found. AsksScheme solver.old (type_of ty.now) fixed.now expansive limit (option_map scheme_of found) solver.new) }
+    ensures spent { result ≡ Err Halt.Spent → IsOf solver.old (type_of ty.now) → solver.old.spent ≡ true }
 {
     know(solver, ty)?;
     let count = solver.unknowns();

@@ -1,6 +1,6 @@
 //! What calls of a solver say of scripts, beside what the calls promise themselves.
 
-ghost use Rattle.sml_asks.specs.Closings.{FlagsAreContexts, ReadingsAreTypes, ReadingsHaveSchemes, SchemesMentionNames, TypesFixAsVariables, VariablesAreFree};
+ghost use Rattle.sml_asks.specs.Closings.{FlagsAreContexts, ReadingsAreTypes, ReadingsHaveSchemes, SchemesMentionNames, TypesFixAsVariables, VariablesAreFree, VariablesAreMet};
 ghost use Rattle.sml_asks.specs.Steps.{AnswersAreOfScripts, NamesAreBounds, NamesAreMade, NamesAreSteps, RunsBegin, SolversStartAnew, UnknownsAreSteps};
 
 /// What was answered to a demand is what its script may be answered: it goes on where the demand can be met together with
@@ -67,4 +67,9 @@ pub fn readings_are_types()
 /// A scheme mentions only names that were made, where its type does.
 pub fn schemes_mention_names()
     ensures { SchemesMentionNames }
+{}
+
+/// A new unknown may stand for an explicit type variable, and admits equality where the variable does: no layer refuses it.
+pub fn variables_are_met()
+    ensures { VariablesAreMet }
 {}

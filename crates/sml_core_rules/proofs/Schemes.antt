@@ -1,17 +1,18 @@
--- The demands leave a type one scheme.
-use Rattle.std.proofs.Common.{◌≡◌, ◌↔◌, ℕ, inl, inr, Bool, true, false, cond, List, [], ◌∷◌, ◌++◌, map, refl, sym, ◌∙◌, ap, nat_eq}
+-- The demands leave a type one scheme, and closing leaves the size as it is.
+use Rattle.std.proofs.Common.{◌≡◌, ◌↔◌, ◌≤◌, ℕ, zero, suc, inl, inr, Bool, true, false, None, cond, List, [], ◌∷◌, ◌++◌, map, slice_index_or, nat_eq, refl, sym, ◌∙◌, ap, subst, arith}
 use Rattle.std.specs.List.{AllByRecursion, list_any}
 use Rattle.std.proofs.lemmas.Bool.{cases_order}
 use Rattle.sml_objects.specs.declared.fates.Fate.{Fate}
 use Rattle.sml_objects.specs.declared.fates.Fate.TheVariants.{Bind, Keep, Default}
-use Rattle.sml_objects.specs.Fates.{close_as}
+use Rattle.sml_objects.specs.Fates.{close_as, substitutes, standing_for, type_or}
 use Rattle.sml_objects.specs.Names.{int}
 use Rattle.sml_objects.specs.Objects.{MlType, MlTypes, Head, Scheme, bound, free, app, arrow, row, name, no_type, and_type, types_of, named}
-use Rattle.sml_objects.specs.Types.{assign, replace_type, replace_types, variables_after, variables_after_all}
+use Rattle.sml_objects.specs.Sizes.{type_size, types_size}
+use Rattle.sml_objects.specs.Types.{assign, replace_type, replace_types, variables_after, variables_after_all, index_among}
 use Rattle.sml_layers.specs.declared.layer.Layer.TheVariants.{Finiteness}
 use Rattle.sml_layers.specs.Worlds.{Assignment, finite}
 use Rattle.sml_core_rules.specs.States.{Scope, State}
-use Rattle.sml_core_rules.specs.Solutions.{Meets, MayBe, HasOneSetOfLabels, IsLeft, IsOfLeft, AreOfLeft, StandsFor, IsFateOf, IsScheme}
+use Rattle.sml_core_rules.specs.Solutions.{Meets, MayBe, HasOneSetOfLabels, IsLeft, IsOfLeft, AreOfLeft, StandsFor, IsFateOf, IsScheme, StandsForSmall}
 
 -- the types in a list
 listed : {N : Type 0} → MlTypes N → List (MlType N)
@@ -124,7 +125,7 @@ module _ {P N : Type 0} (scope : Scope N) (s : State P N) where
   mutual
     unfolding IsOfLeft AreOfLeft variables_after variables_after_all
 
-    variables-left : (seen : List ℕ) (t : MlType N) → AllByRecursion (IsLeft scope s) seen → IsOfLeft scope s t → AllByRecursion (IsLeft scope s) (variables_after seen t)
+    pub variables-left : (seen : List ℕ) (t : MlType N) → AllByRecursion (IsLeft scope s) seen → IsOfLeft scope s t → AllByRecursion (IsLeft scope s) (variables_after seen t)
     variables-left seen (bound k) a m = absurd m
     variables-left seen (free v) a m = seen-also (IsLeft scope s) v (list_any (nat_eq v) seen) seen a m
     variables-left seen (app h ts) a m = all-variables-left seen ts a m
@@ -133,14 +134,56 @@ module _ {P N : Type 0} (scope : Scope N) (s : State P N) where
     all-variables-left seen no_type a m = a
     all-variables-left seen (and_type t ts) a m = all-variables-left (variables_after seen t) ts (variables-left seen t a m.0) m.1
 
-  same-fates : (n : ℕ) (x : Bool) (f g : ℕ → Fate) → ((v : ℕ) → IsLeft scope s v → IsFateOf scope s n x v (f v)) → ((v : ℕ) → IsLeft scope s v → IsFateOf scope s n x v (g v))
-      → (vs : List ℕ) → AllByRecursion (IsLeft scope s) vs → map f vs ≡ map g vs
-  same-fates n x f g p q [] a = refl
-  same-fates n x f g p q (v ∷ vs) a = λ i. one-fate scope s n x v (f v) (g v) (p v a.0) (q v a.0) i ∷ same-fates n x f g p q vs a.1 i
+  same-fates : (n : ℕ) (x : Bool) (f g : ℕ → Fate) (vs : List ℕ) → AllByRecursion (λ v. IsFateOf scope s n x v (f v)) vs → AllByRecursion (λ v. IsFateOf scope s n x v (g v)) vs → map f vs ≡ map g vs
+  same-fates n x f g [] p q = refl
+  same-fates n x f g (v ∷ vs) p q = λ i. one-fate scope s n x v (f v) (g v) p.0 q.0 i ∷ same-fates n x f g vs p.1 q.1 i
 
   pub one-scheme : (σ : Assignment N finite) → Meets scope s Finiteness σ → (n : ℕ) (x : Bool) (t : MlType N) (θ η : Scheme N) → IsScheme scope s n x t θ → IsScheme scope s n x t η → θ ≡ η
   unfolding IsScheme StandsFor
   one-scheme σ met n x t θ η (r, a, f, p, e) (q, b, g, k, h) =
       let same : r ≡ q = one-type scope s σ met t r q a b in
-      let fates : map f (variables_after [] r) ≡ map g (variables_after [] r) = same-fates n x f g p k (variables_after [] r) (variables-left [] r tt a.0) in
+      let fates : map f (variables_after [] r) ≡ map g (variables_after [] r) =
+          same-fates n x f g (variables_after [] r) p (subst (λ q. AllByRecursion (λ v. IsFateOf scope s n x v (g v)) (variables_after [] q)) (sym same) k) in
       e ∙ (ap (λ fs. close_as (named (scope.names.initial int)) fs r) fates ∙ (ap (λ q. close_as (named (scope.names.initial int)) (map g (variables_after [] q)) q) same ∙ sym h))
+
+-- sizes
+
+module _ {N : Type 0} (t : MlType N) (one : type_size t ≡ 1) where
+  substitute-size : (v k i : ℕ) (fs : List Fate) → type_size (type_or (free v) (slice_index_or (substitutes t k fs) i None)) ≡ 1
+  unfolding type_size
+  substitute-size v k i [] = refl
+  substitute-size v k zero (Bind e ∷ fs) = refl
+  substitute-size v k zero (Keep ∷ fs) = refl
+  substitute-size v k zero (Default ∷ fs) = one
+  substitute-size v k (suc i) (Bind e ∷ fs) = substitute-size v (suc k) i fs
+  substitute-size v k (suc i) (Keep ∷ fs) = substitute-size v k i fs
+  substitute-size v k (suc i) (Default ∷ fs) = substitute-size v k i fs
+
+  mutual
+    unfolding type_size types_size replace_type replace_types
+
+    assigned-size : (f : ℕ → MlType N) → ((v : ℕ) → type_size (f v) ≡ 1) → (u : MlType N) → type_size (assign f u) ≡ type_size u
+    assigned-size f single (bound k) = refl
+    assigned-size f single (free v) = single v
+    assigned-size f single (app h ts) = ap suc (all-assigned-size f single ts)
+
+    all-assigned-size : (f : ℕ → MlType N) → ((v : ℕ) → type_size (f v) ≡ 1) → (ts : MlTypes N) → types_size (replace_types bound f ts) ≡ types_size ts
+    all-assigned-size f single no_type = refl
+    all-assigned-size f single (and_type u ts) = omega (arith, assigned-size f single u, all-assigned-size f single ts)
+
+  pub closed-size : (fs : List Fate) (r : MlType N) → type_size (close_as t fs r).body ≡ type_size r
+  unfolding close_as
+  closed-size fs r = assigned-size (standing_for (variables_after [] r) (substitutes t 0 fs)) (λ v. substitute-size v 0 (index_among v (variables_after [] r)) fs) r
+
+module _ {P N : Type 0} (scope : Scope N) where
+  int-size : type_size (named (scope.names.initial int)) ≡ 1
+  unfolding type_size types_size
+  int-size = refl
+
+  pub scheme-size : (s : State P N) (n : ℕ) (x : Bool) (t : MlType N) (σ : Scheme N) (is : IsScheme scope s n x t σ) → type_size σ.body ≡ type_size is.0
+  unfolding IsScheme
+  scheme-size s n x t σ (r, stands, fate, fates, e) = ap (λ (σ : Scheme N). type_size σ.body) e ∙ closed-size (named (scope.names.initial int)) int-size (map fate (variables_after [] r)) r
+
+  pub scheme-small : (s : State P N) (n : ℕ) (x : Bool) (t : MlType N) (σ : Scheme N) → IsScheme scope s n x t σ → type_size σ.body ≤ 10000 → StandsForSmall scope s t
+  unfolding IsScheme
+  scheme-small s n x t σ is le = (is.0, is.1, subst (λ k. k ≤ 10000) (scheme-size s n x t σ is) le)

@@ -20,7 +20,7 @@ use Rattle.sml_core_rules.specs.Objects.{Env, Value, Status, variable, construct
 use Rattle.sml_core_rules.specs.Lookups.{status_at, value_at, type_at, structure_at, is_listed}
 use Rattle.sml_core_rules.specs.States.{Scope, State, Window, Holder, of_fn, of_handle, of_val, no_window}
 use Rattle.sml_core_rules.specs.Scripts.{Script, give, makes_datatypes, ◌>>=◌, look, test, judge, need, new_unknown, new_unknowns, set_window, stay_open, so_far, where_so, require, close, IsAnswer}
-use Rattle.sml_core_rules.specs.Solutions.{HasOneSetOfLabels, IsFixed, IsOverloaded}
+use Rattle.sml_core_rules.specs.Solutions.{HasOneSetOfLabels, IsFixed, IsOverloaded, StandsForSmall}
 use Rattle.sml_core_rules.specs.Types as T
 use Rattle.sml_core_rules.specs.Types.{put_field, row_of}
 use Rattle.sml_core_rules.specs.Values.{instance, applied, find_value, has_unknown, require_equal, require_so_far}
@@ -141,6 +141,12 @@ module _ {P N : Type 0} (scope : Scope N) where
     s ← so_far
     test (AllByRecursion (λ v. ¬ (IsFixed scope s b.made (staying bs) v)) b.scoped) (fault U7 p)
 
+  -- what the types of its variables stand for isn't too large
+  abbrev pub require_small : P → List (Bound N) → Script P N (Unit {0})
+  require_small p bs = do
+    s ← so_far
+    test (AllByRecursion (λ b. StandsForSmall scope s b.type) bs) (fault E7 p)
+
   -- the schemes of its variables
   abbrev pub close_all : ℕ → List (Bound N) → Script P N (List (Scheme N))
   close_all k [] = give []
@@ -165,8 +171,8 @@ module _ {P N : Type 0} (scope : Scope N) where
     v ← require_labels s.window.rows
     w ← set_window b.window
     g ← require_general p b bs
+    x ← require_small p bs
     σs ← close_all b.made bs
-    x ← test (AreSmall (λ v. v.scheme) (closed_values bs σs)) (fault E7 p)
     y ← require_bounds p bs σs
     give (of_values (closed_values bs σs))
 

@@ -1,6 +1,6 @@
 -- What the demands so far leave of unknown types, and the scheme of a type at the end of a value declaration. No solution
 -- is chosen: all is said of every assignment that meets the demands.
-use Rattle.std.specs.Prelude.{◌≡◌, ◌≢◌, ◌↔◌, ◌⊎◌, ◌<◌, ℕ, Bool, true, false, List, [], map}
+use Rattle.std.specs.Prelude.{◌≡◌, ◌≢◌, ◌↔◌, ◌⊎◌, ◌<◌, ◌≤◌, ℕ, Bool, true, false, List, [], map}
 use Rattle.std.specs.List.{AllByRecursion}
 use Rattle.sml_tree.specs.Trees.{Id}
 use Rattle.sml_objects.specs.Equality.{admits}
@@ -9,6 +9,7 @@ use Rattle.sml_objects.specs.Names.{Initial, int}
 use Rattle.sml_objects.specs.declared.fates.Fate.{Fate}
 use Rattle.sml_objects.specs.declared.fates.Fate.TheVariants.{Bind, Keep, Default}
 use Rattle.sml_objects.specs.Objects.{MlType, MlTypes, Scheme, row, bound, free, app, no_type, and_type, named}
+use Rattle.sml_objects.specs.Sizes.{type_size}
 use Rattle.sml_objects.specs.Types.{assign, variables_after}
 use Rattle.sml_layers.specs.declared.layer.Layer.{Layer}
 use Rattle.sml_layers.specs.declared.layer.Layer.TheVariants.{Finiteness, Equality, Classes, Rigidity}
@@ -59,6 +60,10 @@ module _ {P N : Type 0} (scope : Scope N) (s : State P N) where
   unfoldable pub StandsFor : MlType N → MlType N → Type 0
   StandsFor t r = IsOfLeft r × ((σ : Assignment N finite) → Meets Finiteness σ → assign σ r ≡ assign σ t)
 
+  -- what it stands for isn't too large for a scheme
+  abbrev pub StandsForSmall : MlType N → Type 0
+  StandsForSmall t = (r : MlType N) × StandsFor t r × (type_size r ≤ 10000)
+
   -- Where two assignments make the first n unknowns and these types the same, they give this unknown the same type.
   unfoldable pub IsFixed : ℕ → List (MlType N) → ℕ → Type 0
   IsFixed n ts v =
@@ -90,7 +95,7 @@ module _ {P N : Type 0} (scope : Scope N) (s : State P N) where
   -- The scheme of a type: that of a type which stands for the same, with the fates of the unknowns in it.
   unfoldable pub IsScheme : ℕ → Bool → MlType N → Scheme N → Type 0
   IsScheme n x t σ =
-      (r : MlType N) × StandsFor t r × (fate : ℕ → Fate) × ((v : ℕ) → IsLeft v → IsFateOf n x v (fate v))
+      (r : MlType N) × StandsFor t r × (fate : ℕ → Fate) × AllByRecursion (λ v. IsFateOf n x v (fate v)) (variables_after [] r)
       × (σ ≡ close_as (named (scope.names.initial int)) (map fate (variables_after [] r)) r)
 
   -- The type is the same under every assignment that meets the demands.

@@ -10,7 +10,7 @@ use Rattle.sml_layers.specs.Layers.{code_of}
 use Rattle.sml_rules.specs.Answers.{Answer, refused, accepted, fault}
 use Rattle.sml_rules.proofs.Sound.{accepted_same, not_refused}
 use Rattle.sml_core_rules.specs.States.{Scope, State, Window, Judged, with_unknowns, with_made, with_demand, with_window, with_judged, opened, afresh}
-use Rattle.sml_core_rules.specs.Solutions.{MayBe, HasOneSetOfLabels, IsOfLeft, AreOfLeft, StandsFor, IsFixed, IsInt, AsksEquality, IsScheme}
+use Rattle.sml_core_rules.specs.Solutions.{MayBe, HasOneSetOfLabels, IsOfLeft, AreOfLeft, StandsFor, IsFixed, IsInt, AsksEquality, IsScheme, StandsForSmall}
 use Rattle.sml_core_rules.specs.Scripts.{Script, give, refuse, tests, either, makes_unknowns, requires, sees, sets_window, stays_open, judges, starts_anew, requires_or, closes, determines, makes_names, makes_datatypes, ◌>>=◌, IsAnswer}
 use Rattle.sml_core_rules.proofs.Accepted.{bind-accepted, bind-joined}
 use Rattle.sml_places.specs.Answers.{place_fault, place_judged}
@@ -119,6 +119,13 @@ module _ {P Q N : Type 0} (scope : Scope N) (f : P → Q) where
     lefts-same : (s : State P N) (ts : MlTypes N) → AreOfLeft scope (place_state f s) ts ≡ AreOfLeft scope s ts
     lefts-same s no_type = refl
     lefts-same s (and_type t ts) = λ i. left-same s t i × lefts-same s ts i
+
+  pub small-same : (s : State P N) (t : MlType N) → StandsForSmall scope s t ↔ StandsForSmall scope (place_state f s) t
+  unfolding StandsFor MayBe HasOneSetOfLabels
+  small-same s t = (
+    λ h. (h.0, (coe 1 0 (i. left-same s h.0 i) h.1.0, h.1.1), h.2),
+    λ h. (h.0, (coe 0 1 (i. left-same s h.0 i) h.1.0, h.1.1), h.2),
+  )
 
   scheme-same : (s : State P N) (n : ℕ) (x : Bool) (t : MlType N) (σ : Scheme N) → IsScheme scope s n x t σ ↔ IsScheme scope (place_state f s) n x t σ
   unfolding IsScheme StandsFor IsFixed IsInt AsksEquality MayBe HasOneSetOfLabels

@@ -14,14 +14,14 @@ use Rattle.sml_layers.specs.Demands as D
 use Rattle.sml_rules.specs.Answers.{fault}
 use Rattle.sml_core_rules.specs.Objects.{Env, of_types, of_values, values}
 use Rattle.sml_core_rules.specs.States.{Scope, State, no_window}
-use Rattle.sml_core_rules.specs.Solutions.{HasOneSetOfLabels, IsFixed, IsOverloaded}
+use Rattle.sml_core_rules.specs.Solutions.{HasOneSetOfLabels, IsFixed, IsOverloaded, StandsForSmall}
 use Rattle.sml_core_rules.specs.Scripts.{give, test, ◌>>=◌}
 use Rattle.sml_core_rules.specs.Values.{has_unknown}
 use Rattle.sml_core_rules.specs.Patterns.{Bindings}
 use Rattle.sml_core_rules.specs.Datatypes.{AreSmall, is_equality, with_names, datatype_envs}
-use Rattle.sml_core_rules.specs.Expressions.{Bound, Begun, staying, closed_values, not_in_scope, require_bindings, admit_equality, scope_variables, begin_values, settle, require_labels, require_general, close_all, require_bounds, end_values, read_types, read_datatypes, like_first, or_unknown}
+use Rattle.sml_core_rules.specs.Expressions.{Bound, Begun, staying, closed_values, not_in_scope, require_bindings, admit_equality, scope_variables, begin_values, settle, require_labels, require_general, require_small, close_all, require_bounds, end_values, read_types, read_datatypes, like_first, or_unknown}
 use Rattle.sml_places.specs.Places.{place_typ_bind, place_dat_bind}
-use Rattle.sml_places.proofs.Scripts.{place_rows, place_window, place_state, AreAlike, AreSame, alike-then, alike-with, alike-give}
+use Rattle.sml_places.proofs.Scripts.{place_rows, place_window, place_state, AreAlike, AreSame, small-same, alike-then, alike-with, alike-give}
 use Rattle.sml_places.proofs.Types.{equal-type-binds, datatypes-same}
 use Rattle.sml_places.proofs.Steps.{itself, same-look, same-test, same-where, same-unknown, same-unknowns, same-require, alike-so-far, same-window, same-open, same-close, alike-datatypes}
 use Rattle.sml_places.proofs.Patterns.{same-cond, same-equal, same-so-far}
@@ -82,6 +82,16 @@ module _ {P Q N : Type 0} (scope : Scope N) (f : P → Q) where
   same-general : (p : P) (b : Begun P N) (bs : List (Bound N)) → AreSame scope f (require_general scope p b bs) (require_general scope (f p) (place_begun f b) bs)
   same-general p b bs = alike-with _ alike-so-far (λ s. same-test (none-fixed s b.made (staying bs) b.scoped) (fault U7 p))
 
+  same-sizes : (p : P) (bs : List (Bound N)) → AreSame scope f (require_small scope p bs) (require_small scope (f p) bs)
+  same-sizes p bs = alike-with _ alike-so-far (λ s. same-test (all-small s bs) (fault E7 p))
+    where
+      all-small : (s : State P N) (bs : List (Bound N)) → AllByRecursion (λ b. StandsForSmall scope s b.type) bs ↔ AllByRecursion (λ b. StandsForSmall scope (place_state f s) b.type) bs
+      all-small s [] = itself
+      all-small s (b ∷ bs) = (
+        λ h. ((small-same scope f s b.type).0 h.0, (all-small s bs).0 h.1),
+        λ h. ((small-same scope f s b.type).1 h.0, (all-small s bs).1 h.1),
+      )
+
   same-closed : (k : ℕ) (bs : List (Bound N)) → AreSame scope f (close_all scope k bs) (close_all scope k bs)
   same-closed k [] = alike-give []
   same-closed k (b ∷ bs) = alike-then (same-close k b.expansive b.type) (λ σ. alike-then (same-closed k bs) (λ σs. alike-give (σ ∷ σs)))
@@ -95,8 +105,8 @@ module _ {P Q N : Type 0} (scope : Scope N) (f : P → Q) where
   pub same-end : (p : P) (b : Begun P N) (bs : List (Bound N)) → AreSame scope f (end_values scope p b bs) (end_values scope (f p) (place_begun f b) bs)
   same-end p b bs =
       alike-with _ alike-so-far (λ s. alike-then (same-settle p s.window.overloaded) (λ u. alike-then (same-labels s.window.rows) (λ v.
-      alike-then (same-window b.window) (λ w. alike-then (same-general p b bs) (λ g. alike-then (same-closed b.made bs) (λ σs.
-      alike-then (same-test itself (fault E7 p)) (λ x. alike-then (same-bounds p bs σs) (λ y. alike-give (of_values (closed_values bs σs))))))))))
+      alike-then (same-window b.window) (λ w. alike-then (same-general p b bs) (λ g. alike-then (same-sizes p bs) (λ x. alike-then (same-closed b.made bs) (λ σs.
+      alike-then (same-bounds p bs σs) (λ y. alike-give (of_values (closed_values bs σs))))))))))
 
   -- types and datatypes
 

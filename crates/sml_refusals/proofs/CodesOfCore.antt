@@ -19,7 +19,7 @@ use Rattle.sml_layers.specs.declared.layer.Bound.TheVariants.{Newness}
 use Rattle.sml_core_rules.specs.Patterns.{Bindings, pattern_place}
 use Rattle.sml_core_rules.specs.Closing.{is_expansive, unguarded}
 use Rattle.sml_core_rules.specs.Datatypes.{is_equality}
-use Rattle.sml_core_rules.specs.Expressions.{Bound, Begun, bound_values, bounds, after, not_in_scope, require_bindings, admit_equality, scope_variables, begin_values, settle, require_labels, require_general, close_all, require_bounds, end_values, read_types, read_datatypes, like_first, or_unknown, read_exp, read_exps, read_fields, read_rules, read_decs, read_dec, read_binds, read_patterns, read_rights}
+use Rattle.sml_core_rules.specs.Expressions.{Bound, Begun, bound_values, bounds, after, not_in_scope, require_bindings, admit_equality, scope_variables, begin_values, settle, require_labels, require_general, require_small, close_all, require_bounds, end_values, read_types, read_datatypes, like_first, or_unknown, read_exp, read_exps, read_fields, read_rules, read_decs, read_dec, read_binds, read_patterns, read_rights}
 use Rattle.sml_refusals.specs.Codes.{variable_code, pattern_code, binding_code, type_code, size_code, value_code, core_code}
 use Rattle.sml_refusals.proofs.Refusing.{or-left, or-right, RefusesBy, refuses-then, refuses-look, refuses-cond}
 use Rattle.sml_refusals.proofs.CodesOfTypes.{code-need, codes-opened, codes-type-binds, codes-datatypes, codes-exceptions}
@@ -101,6 +101,10 @@ module _ (D : Code → Bool) (inside : (c : Code) → core_code c ≡ true → D
     unfolding RefusesBy
     codes-general p b bs = refuses-then D _ _ (λ s. tt) (λ s. (inside U7 refl, tt))
 
+    codes-small : (p : P) (bs : List (Bound N)) → RefusesBy D (require_small scope p bs)
+    unfolding RefusesBy
+    codes-small p bs = refuses-then D _ _ (λ s. tt) (λ s. (inside E7 refl, tt))
+
     codes-bounds : (p : P) (bs : List (Bound N)) (σs : List (Scheme N)) → RefusesBy D (require_bounds scope p bs σs)
     unfolding RefusesBy
     codes-bounds p [] σs = tt
@@ -113,8 +117,8 @@ module _ (D : Code → Bool) (inside : (c : Code) → core_code c ≡ true → D
     unfolding RefusesBy
     codes-end p b bs =
         refuses-then D _ _ (λ s. tt) (λ s. refuses-then D _ _ (codes-settle p s.window.overloaded) (λ u. refuses-then D _ _ (codes-labels s.window.rows) (λ v.
-        refuses-then D _ _ tt (λ w. refuses-then D _ _ (codes-general p b bs) (λ g. refuses-then D _ _ (codes-close P scope b.made bs) (λ σs.
-        refuses-then D _ _ (inside E7 refl, tt) (λ x. refuses-then D _ _ (codes-bounds p bs σs) (λ y. tt))))))))
+        refuses-then D _ _ tt (λ w. refuses-then D _ _ (codes-general p b bs) (λ g. refuses-then D _ _ (codes-small p bs) (λ x. refuses-then D _ _ (codes-close P scope b.made bs) (λ σs.
+        refuses-then D _ _ (codes-bounds p bs σs) (λ y. tt))))))))
 
     codes-first : (p : P) (t : Option (MlType N)) (u : MlType N) → RefusesBy D (like_first scope p t u)
     unfolding RefusesBy

@@ -110,17 +110,13 @@ module _ (τ : ℕ → MlType Name) (m : Meets scope after Finiteness τ) where
   unfolding replace_type replace_types
   whole = let e : τ 0 ≡ arrow_of (τ 1) (τ 2) = m.0 in e ∙ ap (arrow_of (τ 1)) of-abs
 
-fates : (v : ℕ) → IsLeft scope after v → IsFateOf scope after 0 false v Default
+fate : IsFateOf scope after 0 false 1 Default
 unfolding replace_type replace_types IsInt naming
-fates zero l = absurd (settled scope after (types (type_of int)) (finitely (type_of int)) 0 arrow (and_type (free 1) (and_type (free 1) no_type)) (λ ls e. cc) whole l)
-fates (suc zero) l = λ σ m. let e : twice (σ 3) ≡ twice (σ 1) = m.1.1.0 in let f : σ 3 ≡ type_of int = third σ m in cc
-fates (suc (suc zero)) l = let d = l.2 1 (omega arith) in absurd (d.2 (sym (of-abs d.0 d.1)))
-fates (suc (suc (suc zero))) l = let d = l.2 1 (omega arith) in absurd (d.2 (sym (of-both d.0 d.1)))
-fates (suc (suc (suc (suc v)))) l = absurd (omega (arith, l.0))
+fate = λ σ m. let e : twice (σ 3) ≡ twice (σ 1) = m.1.1.0 in let f : σ 3 ≡ type_of int = third σ m in cc
 
 own-scheme : IsScheme scope after 0 false (free 0) (mono (arrow_of (type_of int) (type_of int)))
 unfolding IsScheme StandsFor IsOfLeft AreOfLeft replace_type replace_types close_as variables_after variables_after_all index_among naming
-own-scheme = (arrow_of (free 1) (free 1), ((left, (left, tt)), λ σ m. sym (whole σ m)), λ _. Default, fates, refl)
+own-scheme = (arrow_of (free 1) (free 1), ((left, (left, tt)), λ σ m. sym (whole σ m)), λ _. Default, (fate, tt), refl)
 
 pub scheme : (js : List (Judged Place)) → IsScheme scope (record after { judged = js }) 0 false (free 0) (mono (arrow_of (type_of int) (type_of int)))
 scheme js = scheme-judged _ js _ _ _ _ own-scheme

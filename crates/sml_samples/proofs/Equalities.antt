@@ -60,25 +60,22 @@ met-classes =
 left : IsLeft scope after 0
 left = (omega arith, inl (loose after 0 types (λ t. refl) finitely), λ u h. absurd (omega (arith, h)))
 
-fates : (v : ℕ) → IsLeft scope after v → IsFateOf scope after 0 false v (Bind true)
+fate : IsFateOf scope after 0 false 0 (Bind true)
 unfolding replace_type replace_types AsksEquality
-fates zero l = (
+fate = (
   not-int after 0 types (λ t. refl) finitely met-classes,
   refl,
   not-fixed after 0 types (λ t. refl) finitely,
   not-flexible after 0 types (λ t. refl) finitely,
   (λ e σ m. m.1.1.1.1.0 (omega arith), λ f. refl),
 )
-fates (suc zero) l = absurd (settled scope after (types (type_of int)) (finitely (type_of int)) 1 arrow (and_type (free 0) (and_type (free 2) no_type)) (λ ls e. cc) (λ τ m. m.0) l)
-fates (suc (suc zero)) l = let d = l.2 0 (omega arith) in absurd (d.2 (sym d.1.1.1.0))
-fates (suc (suc (suc v))) l = absurd (omega (arith, l.0))
 
 pub general : (js : List (Judged Place)) → ¬ (IsFixed scope (record after { judged = js }) 0 [] 0)
 general js = not-fixed (record after { judged = js }) 0 types (λ t. refl) finitely
 
 own-scheme : IsScheme scope after 0 false (free 1) (record { variables = true ∷ []; body = arrow_of (bound 0) (bound 0) })
 unfolding IsScheme StandsFor IsOfLeft AreOfLeft replace_type replace_types close_as variables_after variables_after_all index_among
-own-scheme = (arrow_of (free 0) (free 0), ((left, (left, tt)), λ σ m. same σ m), λ _. Bind true, fates, refl)
+own-scheme = (arrow_of (free 0) (free 0), ((left, (left, tt)), λ σ m. same σ m), λ _. Bind true, (fate, tt), refl)
   where
     same : (σ : ℕ → MlType Name) → Meets scope after Finiteness σ → arrow_of (σ 0) (σ 0) ≡ σ 1
     same σ m = let e : σ 1 ≡ arrow_of (σ 0) (σ 2) = m.0 in let f : σ 2 ≡ σ 0 = m.1.1.0 in cc

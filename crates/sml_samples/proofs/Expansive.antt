@@ -60,16 +60,12 @@ left = (omega arith, inl (loose after 2 types (λ t. refl) finitely), apart)
     apart (suc zero) h = (types (type_of int), finitely (type_of int), λ e. cc)
     apart (suc (suc u)) h = absurd (omega (arith, h))
 
-fates : (v : ℕ) → IsLeft scope after v → IsFateOf scope after 0 true v Keep
-unfolding replace_type replace_types
-fates zero l = absurd (settled scope after (types (type_of int)) (finitely (type_of int)) 0 arrow (and_type (free 2) (and_type (free 2) no_type)) (λ ls e. cc) (λ τ m. m.0 ∙ m.1.0) l)
-fates (suc zero) l = absurd (settled scope after (types (type_of int)) (finitely (type_of int)) 1 arrow (and_type (free 2) (and_type (free 2) no_type)) (λ ls e. cc) (λ τ m. m.1.0) l)
-fates (suc (suc zero)) l = (not-int after 2 types (λ t. refl) finitely met-classes, inl refl)
-fates (suc (suc (suc v))) l = absurd (omega (arith, l.0))
+fate : IsFateOf scope after 0 true 2 Keep
+fate = (not-int after 2 types (λ t. refl) finitely met-classes, inl refl)
 
 own-scheme : IsScheme scope after 0 true (free 0) (mono (arrow_of (free 2) (free 2)))
 unfolding IsScheme StandsFor IsOfLeft AreOfLeft replace_type replace_types close_as variables_after variables_after_all index_among
-own-scheme = (arrow_of (free 2) (free 2), ((left, (left, tt)), λ σ m. sym (m.0 ∙ m.1.0)), λ _. Keep, fates, refl)
+own-scheme = (arrow_of (free 2) (free 2), ((left, (left, tt)), λ σ m. sym (m.0 ∙ m.1.0)), λ _. Keep, (fate, tt), refl)
 
 pub scheme : (js : List (Judged Place)) → IsScheme scope (record after { judged = js }) 0 true (free 0) (mono (arrow_of (free 2) (free 2)))
 scheme js = scheme-judged _ js _ _ _ _ own-scheme
@@ -126,17 +122,9 @@ module _ (τ : ℕ → MlType Name) (m : Meets scope later Finiteness τ) where
   unfolding replace_type replace_types
   first = m.1.1.1.0 ∙ second
 
-alone : (v : ℕ) → IsLeft scope later v → ⊥
-unfolding replace_types
-alone zero l = settled scope later (types (type_of int)) later-finitely 0 arrow (and_type (type_of int) (and_type (type_of int) no_type)) (λ ls e. cc) first l
-alone (suc zero) l = settled scope later (types (type_of int)) later-finitely 1 arrow (and_type (type_of int) (and_type (type_of int) no_type)) (λ ls e. cc) second l
-alone (suc (suc zero)) l = settled scope later (types (type_of int)) later-finitely 2 (name (initial int)) no_type (λ ls e. cc) (λ τ m. m.1.0) l
-alone (suc (suc (suc zero))) l = settled scope later (types (type_of int)) later-finitely 3 (name (initial int)) no_type (λ ls e. cc) third l
-alone (suc (suc (suc (suc v)))) l = absurd (omega (arith, l.0))
-
 own-later-scheme : IsScheme scope later 3 true (free 3) (mono (type_of int))
 unfolding IsScheme StandsFor IsOfLeft AreOfLeft replace_type replace_types close_as variables_after variables_after_all
-own-later-scheme = (type_of int, (tt, λ τ m. sym (third τ m)), λ _. Keep, λ v l. absurd (alone v l), refl)
+own-later-scheme = (type_of int, (tt, λ τ m. sym (third τ m)), λ _. Keep, tt, refl)
 
 pub later-scheme : (js : List (Judged Place)) → IsScheme scope (record later { judged = js }) 3 true (free 3) (mono (type_of int))
 later-scheme js = scheme-judged _ js _ _ _ _ own-later-scheme

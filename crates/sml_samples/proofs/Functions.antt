@@ -57,15 +57,12 @@ left = (omega arith, inl (loose after 1 types (λ t. refl) met-finitely), apart)
     apart zero h = (types (type_of int), met-finitely (type_of int), λ e. cc)
     apart (suc u) h = absurd (omega (arith, h))
 
-fates : (v : ℕ) → IsLeft scope after v → IsFateOf scope after 0 false v (Bind false)
-unfolding replace_types
-fates zero l = absurd (settled scope after (types (type_of int)) (met-finitely (type_of int)) 0 arrow (and_type (free 1) (and_type (free 1) no_type)) (λ ls e. cc) (λ τ m. m.0) l)
-fates (suc zero) l = is-bound after 1 types (λ t. refl) met-finitely (met-classes string) (met-equality real)
-fates (suc (suc v)) l = absurd (omega (arith, l.0))
+fate : IsFateOf scope after 0 false 1 (Bind false)
+fate = is-bound after 1 types (λ t. refl) met-finitely (met-classes string) (met-equality real)
 
 own-scheme : IsScheme scope after 0 false (free 0) (record { variables = false ∷ []; body = arrow_of (bound 0) (bound 0) })
 unfolding IsScheme StandsFor IsOfLeft AreOfLeft replace_type replace_types close_as variables_after variables_after_all index_among
-own-scheme = (arrow_of (free 1) (free 1), ((left, (left, tt)), λ σ m. sym m.0), λ _. Bind false, fates, refl)
+own-scheme = (arrow_of (free 1) (free 1), ((left, (left, tt)), λ σ m. sym m.0), λ _. Bind false, (fate, tt), refl)
 
 pub scheme : (js : List (Judged Place)) → IsScheme scope (record after { judged = js }) 0 false (free 0) (record { variables = false ∷ []; body = arrow_of (bound 0) (bound 0) })
 scheme js = scheme-judged _ js _ _ _ _ own-scheme

@@ -53,16 +53,13 @@ inner-left = (omega arith, inl (loose inner_state 1 all (λ t. refl) all-finitel
     apart zero h = (types (type_of int), (refl, (λ h. absurd (omega (arith, h)), (λ h. absurd (omega (arith, h)), tt))), λ e. cc)
     apart (suc u) h = absurd (omega (arith, h))
 
-inner-fates : (v : ℕ) → IsLeft scope inner_state v → IsFateOf scope inner_state 2 false v Keep
+inner-fate : IsFateOf scope inner_state 2 false 1 Keep
 unfolding replace_type IsFixed
-inner-fates zero l = (not-int inner_state 0 all (λ t. refl) all-finitely all-classes, inr (inl (λ σ τ m k same u. same 0 (omega arith))))
-inner-fates (suc zero) l = (not-int inner_state 1 all (λ t. refl) all-finitely all-classes, inr (inl (λ σ τ m k same u. same 1 (omega arith))))
-inner-fates (suc (suc zero)) l = let d = l.2 1 (omega arith) in absurd (d.2 (sym d.1.0))
-inner-fates (suc (suc (suc v))) l = absurd (omega (arith, l.0))
+inner-fate = (not-int inner_state 1 all (λ t. refl) all-finitely all-classes, inr (inl (λ σ τ m k same u. same 1 (omega arith))))
 
 own-inner-scheme : IsScheme scope inner_state 2 false (free 2) (mono (free 1))
 unfolding IsScheme StandsFor IsOfLeft replace_type close_as variables_after index_among
-own-inner-scheme = (free 1, (inner-left, λ σ m. sym m.0), λ _. Keep, inner-fates, refl)
+own-inner-scheme = (free 1, (inner-left, λ σ m. sym m.0), λ _. Keep, (inner-fate, tt), refl)
 
 pub inner-scheme : (js : List (Judged Place)) → IsScheme scope (record inner_state { judged = js }) 2 false (free 2) (mono (free 1))
 inner-scheme js = scheme-judged _ js _ _ _ _ own-inner-scheme
@@ -103,16 +100,12 @@ left = (omega arith, inl (loose after 1 types (λ t. refl) finitely), apart)
     apart zero h = (types (type_of int), finitely (type_of int), λ e. cc)
     apart (suc u) h = absurd (omega (arith, h))
 
-fates : (v : ℕ) → IsLeft scope after v → IsFateOf scope after 0 false v (Bind false)
-unfolding replace_type replace_types
-fates zero l = absurd (settled scope after (types (type_of int)) (finitely (type_of int)) 0 arrow (and_type (free 1) (and_type (free 1) no_type)) (λ ls e. cc) (λ τ m. m.0) l)
-fates (suc zero) l = is-bound after 1 types (λ t. refl) finitely (met-classes string) (met-equality real)
-fates (suc (suc zero)) l = let d = l.2 1 (omega arith) in absurd (d.2 (sym d.1.1.1.1.0))
-fates (suc (suc (suc v))) l = absurd (omega (arith, l.0))
+fate : IsFateOf scope after 0 false 1 (Bind false)
+fate = is-bound after 1 types (λ t. refl) finitely (met-classes string) (met-equality real)
 
 own-scheme : IsScheme scope after 0 false (free 0) identity_scheme
 unfolding IsScheme StandsFor IsOfLeft AreOfLeft replace_type replace_types close_as variables_after variables_after_all index_among
-own-scheme = (arrow_of (free 1) (free 1), ((left, (left, tt)), λ σ m. sym m.0), λ _. Bind false, fates, refl)
+own-scheme = (arrow_of (free 1) (free 1), ((left, (left, tt)), λ σ m. sym m.0), λ _. Bind false, (fate, tt), refl)
 
 pub scheme : (js : List (Judged Place)) → IsScheme scope (record after { judged = js }) 0 false (free 0) identity_scheme
 scheme js = scheme-judged _ js _ _ _ _ own-scheme

@@ -1,9 +1,11 @@
--- What is to be judged says nothing of types: schemes are the same whatever it is.
-use Rattle.std.specs.Prelude.{◌≡◌, ℕ, Bool, List}
+-- What is to be judged says nothing of types: schemes are the same whatever it is. A type with a small scheme stands for a small one.
+use Rattle.std.specs.Prelude.{◌≡◌, ◌≤◌, ℕ, Bool, List}
 use mathlib.Core.Path.{refl}
 use Rattle.sml_objects.specs.Initial.{Name}
 use Rattle.sml_objects.specs.Objects.{MlType, MlTypes, Scheme, bound, free, app, no_type, and_type}
-use Rattle.sml_core_rules.specs.Solutions.{MayBe, HasOneSetOfLabels, IsFixed, IsInt, AsksEquality, IsOfLeft, AreOfLeft, StandsFor, IsScheme}
+use Rattle.sml_objects.specs.Sizes.{type_size}
+use Rattle.sml_core_rules.proofs.Schemes.{scheme-small}
+use Rattle.sml_core_rules.specs.Solutions.{MayBe, HasOneSetOfLabels, IsFixed, IsInt, AsksEquality, IsOfLeft, AreOfLeft, StandsFor, IsScheme, StandsForSmall}
 use Rattle.sml_core_rules.specs.States.{State, Judged}
 use Rattle.sml_samples.specs.Around.{Place, scope}
 
@@ -24,3 +26,6 @@ pub scheme-judged : (s : State Place Name) (js : List (Judged Place)) (n : ℕ) 
     → IsScheme scope (record s { judged = js }) n x t σ
 unfolding IsScheme StandsFor IsFixed IsInt AsksEquality MayBe HasOneSetOfLabels
 scheme-judged s js n x t σ h = (h.0, (coe 0 1 (i. left-same s js h.0 i) h.1.0, h.1.1), h.2, h.3, h.4)
+
+pub small : {s : State Place Name} {n : ℕ} {x : Bool} {t : MlType Name} {σ : Scheme Name} → IsScheme scope s n x t σ → type_size σ.body ≤ 10000 → StandsForSmall scope s t
+small {s = s} {n = n} {x = x} {t = t} {σ = σ} is within = scheme-small scope s n x t σ is within

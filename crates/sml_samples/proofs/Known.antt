@@ -15,11 +15,7 @@ use Rattle.sml_samples.proofs.Left.{settled}
 
 module _ (s : State Place Name) (met : Meets scope s Finiteness (λ _. type_of int))
     (known : (τ : ℕ → MlType Name) → Meets scope s Finiteness τ → (v : ℕ) → v < s.made → τ v ≡ type_of int) where
-  alone : (v : ℕ) → IsLeft scope s v → ⊥
-  unfolding replace_types
-  alone v l = settled scope s (λ _. type_of int) met v (name (initial int)) no_type (λ ls e. cc) (λ τ m. known τ m v l.0) l
-
   -- so is the type of the first
   pub int-scheme : (n : ℕ) (x : Bool) → 0 < s.made → IsScheme scope s n x (free 0) (mono (type_of int))
   unfolding IsScheme StandsFor IsOfLeft AreOfLeft replace_type replace_types close_as variables_after variables_after_all
-  int-scheme n x h = (type_of int, (tt, λ σ m. sym (known σ m 0 h)), λ _. Keep, λ v l. absurd (alone v l), refl)
+  int-scheme n x h = (type_of int, (tt, λ σ m. sym (known σ m 0 h)), λ _. Keep, tt, refl)

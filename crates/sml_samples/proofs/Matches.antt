@@ -35,6 +35,7 @@ use Rattle.sml_module_rules.specs.Matching.{read_realisation, require_lines}
 use Rattle.sml_module_rules.specs.Realising.{are_parameters, with_names}
 use Rattle.sml_module_rules.specs.Signatures.{read_sig, read_specs, read_spec, read_values, read_exceptions}
 use Rattle.sml_module_rules.specs.Structures.{AreAlone, read_str, read_strs, read_strdec, read_str_binds}
+use Rattle.sml_samples.proofs.Judged.{small}
 use Rattle.sml_samples.specs.Around.{Place, scope, initial_names, around, type_of, value_of}
 use Rattle.sml_samples.specs.Modules.{RefusesTop, one_structure}
 use Rattle.sml_samples.specs.Matches.{MatchSamples, boxes_binding, open_group}
@@ -108,7 +109,7 @@ group-refused =
     let open_part =
     refl ⊳ refl ⊳ (X.types (type_of int), X.met-int.1.1.1) ⊳ refl ⊳ (X.types (type_of int), X.met-int.1.1)
     ⊳ (X.types (type_of int), X.met-int.1) ⊳ (X.types (type_of int), X.met-int) ⊳ tt
-    ⊳ (mono (arrow_of (free 2) (free 2)), X.scheme _, (omega arith, tt) ⊳ (X.types (type_of int), X.met-closed-int) ⊳ refl) in
+    ⊳ (small (X.scheme _) (omega arith), tt) ⊳ (mono (arrow_of (free 2) (free 2)), X.scheme _, (X.types (type_of int), X.met-closed-int) ⊳ refl) in
     (refused _, inr (None, (accepted _, open_part, inr ((λ C h. X.open-ended [] (inner_type C) (λ σ m. ap inner_type (h σ m))), refl)), _, inl (_, (refused _, refl, refl), refl), refl), refl)
 
 pub match-samples : MatchSamples
@@ -175,37 +176,33 @@ match-samples = record {
   open_accepted = accepts top _ _ (
       refl ⊳ refl ⊳ (X.types (type_of int), X.met-int.1.1.1) ⊳ refl ⊳ (X.types (type_of int), X.met-int.1.1)
       ⊳ (X.types (type_of int), X.met-int.1) ⊳ (X.types (type_of int), X.met-int) ⊳ tt
-      ⊳ (
+      ⊳ (small (X.scheme _) (omega arith), tt) ⊳ (
         mono (arrow_of (free 2) (free 2)),
         X.scheme _,
-        (omega arith, tt) ⊳ (X.types (type_of int), X.met-closed-int)
+        (X.types (type_of int), X.met-closed-int)
             ⊳ (omega arith, tt) ⊳ refl ⊳ (omega arith, tt) ⊳ refl ⊳ (X.types (type_of int), (refl, X.met-closed-int)) ⊳ tt ⊳ refl,
       )) (λ σ m. refl) (tt, (omega arith, tt)) (omega arith) refl;
   open_refused =
       refuses top _ (refl ⊳ refl ⊳ (X.types (type_of int), X.met-int.1.1.1) ⊳ refl ⊳ (X.types (type_of int), X.met-int.1.1)
       ⊳ (X.types (type_of int), X.met-int.1) ⊳ (X.types (type_of int), X.met-int) ⊳ tt
-      ⊳ (
+      ⊳ (small (X.scheme _) (omega arith), tt) ⊳ (
         mono (arrow_of (free 2) (free 2)),
         X.scheme _,
-        (omega arith, tt) ⊳ (X.types (type_of int), X.met-closed-int)
+        (X.types (type_of int), X.met-closed-int)
             ⊳ (omega arith, tt) ⊳ refl ⊳ (omega arith, tt) ⊳ refl ⊳ (X.types itself, (λ h. refl, X.met-closed itself itself-within))
             ⊳ (X.types itself, (refl, (λ h. refl, X.met-closed itself itself-within))) ⊳ inr (λ f. f.0 (fixed _), refl),
       ));
   later_accepted = accepts top _ _ (
       refl ⊳ refl ⊳ (X.types (type_of int), X.met-int.1.1.1) ⊳ refl ⊳ (X.types (type_of int), X.met-int.1.1) ⊳ (X.types (type_of int), X.met-int.1)
-      ⊳ (X.types (type_of int), X.met-int) ⊳ tt ⊳ (
+      ⊳ (X.types (type_of int), X.met-int) ⊳ tt ⊳ (small (X.scheme _) (omega arith), tt) ⊳ (
         mono (arrow_of (free 2) (free 2)),
         X.scheme _,
-        (omega arith, tt) ⊳ (X.types (type_of int), X.met-closed-int)
-            ⊳ refl ⊳ (X.types (type_of int), X.met-later.1) ⊳ (X.types (type_of int), X.met-later) ⊳ tt ⊳ (
-              mono (type_of int),
-              X.later-scheme _,
-              (omega arith, tt) ⊳ refl,
-            ),
+        (X.types (type_of int), X.met-closed-int)
+            ⊳ refl ⊳ (X.types (type_of int), X.met-later.1) ⊳ (X.types (type_of int), X.met-later) ⊳ tt ⊳ (small (X.later-scheme _) (omega arith), tt) ⊳ (mono (type_of int), X.later-scheme _, refl),
       )) (λ σ m i. with_values (X.turned-out [] σ m i)) (tt, (omega arith, (omega arith, tt))) (omega arith) refl;
   group_refused = group-refused;
   top_refused =
       stays-open top _ _ (refl ⊳ refl ⊳ (X.types (type_of int), X.met-int.1.1.1) ⊳ refl ⊳ (X.types (type_of int), X.met-int.1.1)
       ⊳ (X.types (type_of int), X.met-int.1) ⊳ (X.types (type_of int), X.met-int) ⊳ tt
-      ⊳ (mono (arrow_of (free 2) (free 2)), X.scheme _, (omega arith, tt) ⊳ (X.types (type_of int), X.met-closed-int) ⊳ refl)) (λ C h. X.open-ended [] (first_type C) (λ σ m. ap first_type (h σ m)));
+      ⊳ (small (X.scheme _) (omega arith), tt) ⊳ (mono (arrow_of (free 2) (free 2)), X.scheme _, (X.types (type_of int), X.met-closed-int) ⊳ refl)) (λ C h. X.open-ended [] (first_type C) (λ σ m. ap first_type (h σ m)));
 }

@@ -58,17 +58,9 @@ module _ (τ : ℕ → MlType Name) (m : Meets scope settled_state Finiteness τ
   unfolding replace_type replace_types
   whole = let e : τ 0 ≡ arrow_of (τ 1) (τ 2) = m.1.0 in let f : τ 2 ≡ type_of int = m.0 in let g = argument in cc
 
-alone : (v : ℕ) → IsLeft scope settled_state v → ⊥
-unfolding replace_types
-alone zero l =
-    settled scope settled_state (types (type_of int)) finitely 0 arrow (and_type (type_of int) (and_type (type_of int) no_type)) (λ ls e. cc) whole l
-alone (suc zero) l = settled scope settled_state (types (type_of int)) finitely 1 (name (initial int)) no_type (λ ls e. cc) argument l
-alone (suc (suc zero)) l = settled scope settled_state (types (type_of int)) finitely 2 (name (initial int)) no_type (λ ls e. cc) (λ τ m. m.0) l
-alone (suc (suc (suc v))) l = absurd (omega (arith, l.0))
-
 own-scheme : IsScheme scope settled_state 0 false (free 0) (mono (arrow_of (type_of int) (type_of int)))
 unfolding IsScheme StandsFor IsOfLeft AreOfLeft replace_type replace_types close_as variables_after variables_after_all
-own-scheme = (arrow_of (type_of int) (type_of int), ((tt, (tt, tt)), λ τ m. sym (whole τ m)), λ _. Keep, λ v l. absurd (alone v l), refl)
+own-scheme = (arrow_of (type_of int) (type_of int), ((tt, (tt, tt)), λ τ m. sym (whole τ m)), λ _. Keep, tt, refl)
 
 pub scheme : (js : List (Judged Place)) → IsScheme scope (record settled_state { judged = js }) 0 false (free 0) (mono (arrow_of (type_of int) (type_of int)))
 scheme js = scheme-judged _ js _ _ _ _ own-scheme

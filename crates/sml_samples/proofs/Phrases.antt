@@ -25,7 +25,7 @@ use Rattle.sml_core_rules.specs.States.{State, Judged, no_window}
 use Rattle.sml_core_rules.specs.Values.{has_unknown, have_unknown}
 use Rattle.sml_core_rules.specs.Scripts.{IsAnswer, ◌>>=◌}
 use Rattle.sml_core_rules.specs.Expressions.{read_dec, read_decs, read_binds, read_patterns, read_rights, read_exp, read_exps, read_fields, read_rules}
-use Rattle.sml_samples.proofs.Judged.{scheme-judged}
+use Rattle.sml_samples.proofs.Judged.{scheme-judged, small}
 use Rattle.sml_samples.specs.Around.{Place, scope, initial_names, type_of, twice}
 use Rattle.sml_samples.specs.Phrases.{PhraseSamples}
 use Rattle.sml_samples.proofs.Steps.{◌⊳◌}
@@ -70,16 +70,9 @@ module _ (τ : ℕ → MlType Name) (m : Meets scope of_pair Finiteness τ) wher
   unfolding replace_type replace_types
   part = let e : τ 0 ≡ pair (τ 1) (type_of int) = m.1.0 in let f = whole in cc
 
-alone : (v : ℕ) → IsLeft scope of_pair v → ⊥
-unfolding replace_types
-alone zero l =
-    settled-row scope of_pair types finitely 0 (labels_of 1 (and_type (type_of int) (and_type (type_of int) no_type))) (type_of int ∷ type_of int ∷ []) whole l
-alone (suc zero) l = settled scope of_pair types finitely 1 (name (initial int)) no_type (λ ls e. cc) part l
-alone (suc (suc v)) l = absurd (omega (arith, l.0))
-
 own-pair-scheme : IsScheme scope of_pair 0 false (free 0) (mono (twice (type_of int)))
 unfolding IsScheme StandsFor IsOfLeft AreOfLeft replace_type replace_types close_as variables_after variables_after_all
-own-pair-scheme = (twice (type_of int), ((tt, (tt, tt)), λ τ m. sym (whole τ m)), λ _. Keep, λ v l. absurd (alone v l), refl)
+own-pair-scheme = (twice (type_of int), ((tt, (tt, tt)), λ τ m. sym (whole τ m)), λ _. Keep, tt, refl)
 
 pair-scheme : (js : List (Judged Place)) → IsScheme scope (record of_pair { judged = js }) 0 false (free 0) (mono (twice (type_of int)))
 pair-scheme js = scheme-judged _ js _ _ _ _ own-pair-scheme
@@ -172,9 +165,9 @@ phrase-samples = record {
   variable_refused = refl;
   patterns_accepted = (
     _,
-    refl ⊳ refl ⊳ (types, met.1) ⊳ refl ⊳ refl ⊳ (types, met) ⊳ tt ⊳ (mono (twice (type_of int)), pair-scheme _, (omega arith, tt) ⊳ refl),
+    refl ⊳ refl ⊳ (types, met.1) ⊳ refl ⊳ refl ⊳ (types, met) ⊳ tt ⊳ (small (pair-scheme _) (omega arith), tt) ⊳ (mono (twice (type_of int)), pair-scheme _, refl),
   );
-  row_accepted = (_, refl ⊳ (ints, (refl, tt)) ⊳ tt ⊳ (mono (type_of int), of-row-scheme _, (omega arith, tt) ⊳ refl));
+  row_accepted = (_, refl ⊳ (ints, (refl, tt)) ⊳ tt ⊳ (small (of-row-scheme _) (omega arith), tt) ⊳ (mono (type_of int), of-row-scheme _, refl));
   repeated_refused = refl ⊳ inr (λ e. cc, refl);
   constructor_accepted = (
     _,
@@ -187,7 +180,7 @@ phrase-samples = record {
         refl,
         with-equality 0 0 _ refl,
         (omega arith, tt) ⊳ refl ⊳ refl ⊳ refl ⊳ (ints, (refl, tt))
-            ⊳ (ints, (refl, (refl, tt))) ⊳ (ints, (refl, (refl, (refl, tt)))) ⊳ tt ⊳ (mono (type_of int), box-scheme _, (omega arith, tt) ⊳ refl),
+            ⊳ (ints, (refl, (refl, tt))) ⊳ (ints, (refl, (refl, (refl, tt)))) ⊳ tt ⊳ (small (box-scheme _) (omega arith), tt) ⊳ (mono (type_of int), box-scheme _, refl),
       ),
     ),
   );
@@ -206,7 +199,7 @@ phrase-samples = record {
   handle_accepted = (
     _,
     (omega arith, tt) ⊳ refl ⊳ (ints, (refl, tt)) ⊳ refl ⊳ refl ⊳ omega arith ⊳ (ints, (refl, (refl, tt))) ⊳ (ints, (refl, (refl, (refl, tt))))
-        ⊳ (ints, (refl, (refl, (refl, (refl, tt))))) ⊳ tt ⊳ (mono (type_of int), handled-scheme _, (omega arith, tt) ⊳ refl),
+        ⊳ (ints, (refl, (refl, (refl, (refl, tt))))) ⊳ tt ⊳ (small (handled-scheme _) (omega arith), tt) ⊳ (mono (type_of int), handled-scheme _, refl),
   );
   raise_refused = refl ⊳ inr (Equations, clash bool exn (λ e. cc) [], refl);
   typed_refused = refl ⊳ omega arith ⊳ inr (Equations, clash int string (λ e. cc) [], refl);

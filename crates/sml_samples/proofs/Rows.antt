@@ -90,15 +90,9 @@ pub one-set : (js : List (Judged Place)) → HasOneSetOfLabels scope (record aft
 unfolding HasOneSetOfLabels replace_type replace_types
 one-set js = (both_labels, λ σ m. (type_of int ∷ type_of int ∷ [], m.0))
 
-alone : (v : ℕ) → IsLeft scope after v → ⊥
-unfolding replace_type replace_types
-alone zero l = settled scope after types finitely 0 (name (initial int)) no_type (λ ls e. cc) field l
-alone (suc zero) l = settled-row scope after types finitely 1 both_labels (type_of int ∷ type_of int ∷ []) (λ τ m. m.0) l
-alone (suc (suc v)) l = absurd (omega (arith, l.0))
-
 own-scheme : IsScheme scope after 0 false (free 0) (mono (type_of int))
 unfolding IsScheme StandsFor IsOfLeft AreOfLeft replace_type replace_types close_as variables_after variables_after_all
-own-scheme = (type_of int, (tt, λ σ m. sym (field σ m)), λ _. Keep, λ v l. absurd (alone v l), refl)
+own-scheme = (type_of int, (tt, λ σ m. sym (field σ m)), λ _. Keep, tt, refl)
 
 pub scheme : (js : List (Judged Place)) → IsScheme scope (record after { judged = js }) 0 false (free 0) (mono (type_of int))
 scheme js = scheme-judged _ js _ _ _ _ own-scheme

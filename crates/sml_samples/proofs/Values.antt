@@ -21,7 +21,7 @@ use Rattle.sml_core_rules.specs.Types.{read_ty, read_tys}
 use Rattle.sml_core_rules.specs.Values.{has_unknown, have_unknown}
 use Rattle.sml_core_rules.specs.Scripts.{IsAnswer, ◌>>=◌}
 use Rattle.sml_core_rules.specs.Expressions.{read_dec, read_binds, read_patterns, read_rights, read_exp, read_rules}
-use Rattle.sml_samples.proofs.Judged.{scheme-judged}
+use Rattle.sml_samples.proofs.Judged.{scheme-judged, small}
 use Rattle.sml_samples.specs.Around.{Place, scope, initial_names, type_of}
 use Rattle.sml_samples.specs.Core.{ValueSamples, identity_scheme}
 use Rattle.sml_samples.proofs.Functions.{types, met, scheme}
@@ -47,13 +47,13 @@ int-scheme js = scheme-judged _ js _ _ _ _ own-int-scheme
 pub value-samples : ValueSamples
 unfolding IsAnswer ◌>>=◌ A.◌>>=◌ read_dec read_binds read_patterns read_rights read_exp read_rules read_pat read_ty read_tys find_at type_at value_at type_size types_size replace_type replace_types naming unguarded pat_variables exp_variables rules_variables ty_variables tys_variables has_unknown have_unknown is_expansive spread spread_all
 value-samples = record {
-  val_accepted = (_, refl ⊳ (λ _. type_of int, (refl, tt)) ⊳ tt ⊳ (mono (type_of int), int-scheme _, (omega arith, tt) ⊳ refl));
+  val_accepted = (_, refl ⊳ (λ _. type_of int, (refl, tt)) ⊳ tt ⊳ (small (int-scheme _) (omega arith), tt) ⊳ (mono (type_of int), int-scheme _, refl));
   val_refused = refl ⊳ refl;
   constrained_val_refused = refl ⊳ omega arith ⊳ (λ _. type_of string, (refl, tt)) ⊳ inr (Equations, clash string int (λ e. cc) (equal (free 0) (type_of string) ∷ []), refl);
   rec_accepted = (
     _,
     refl ⊳ (types (type_of int), (met int).1.1) ⊳ refl ⊳ refl ⊳ (types (type_of int), (met int).1) ⊳ (types (type_of int), met int) ⊳ tt
-        ⊳ (identity_scheme, scheme _, (omega arith, tt) ⊳ refl),
+        ⊳ (small (scheme _) (omega arith), tt) ⊳ (identity_scheme, scheme _, refl),
   );
   rec_refused = refl ⊳ (types (type_of int), (met int).1.1) ⊳ inr (λ e. cc, refl);
 }

@@ -143,7 +143,7 @@ module _ {P N : Type 0} (scope : Scope N) (s : State P N) where
   one-scheme σ met n x t θ η (r, a, f, p, e) (q, b, g, k, h) =
       let same : r ≡ q = one-type scope s σ met t r q a b in
       let fates : map f (variables_after [] r) ≡ map g (variables_after [] r) =
-          same-fates n x f g (variables_after [] r) p (subst (λ q. AllByRecursion (λ v. IsFateOf scope s n x v (g v)) (variables_after [] q)) (sym same) k) in
+      same-fates n x f g (variables_after [] r) p (subst (λ q. AllByRecursion (λ v. IsFateOf scope s n x v (g v)) (variables_after [] q)) (sym same) k) in
       e ∙ (ap (λ fs. close_as (named (scope.names.initial int)) fs r) fates ∙ (ap (λ q. close_as (named (scope.names.initial int)) (map g (variables_after [] q)) q) same ∙ sym h))
 
 -- sizes
@@ -175,15 +175,16 @@ module _ {N : Type 0} (t : MlType N) (one : type_size t ≡ 1) where
   unfolding close_as
   closed-size fs r = assigned-size (standing_for (variables_after [] r) (substitutes t 0 fs)) (λ v. substitute-size v 0 (index_among v (variables_after [] r)) fs) r
 
-module _ {P N : Type 0} (scope : Scope N) where
-  int-size : type_size (named (scope.names.initial int)) ≡ 1
-  unfolding type_size types_size
-  int-size = refl
+pub named-size : {N : Type 0} (n : N) → type_size (named n) ≡ 1
+unfolding type_size types_size
+named-size n = refl
 
-  pub scheme-size : (s : State P N) (n : ℕ) (x : Bool) (t : MlType N) (σ : Scheme N) (is : IsScheme scope s n x t σ) → type_size σ.body ≡ type_size is.0
+module _ {P N : Type 0} (scope : Scope N) where
+  pub scheme-size : (s : State P N) (n : ℕ) (x : Bool) (t : MlType N) (σ : Scheme N) → IsScheme scope s n x t σ → (r : MlType N) × StandsFor scope s t r × (type_size σ.body ≡ type_size r)
   unfolding IsScheme
-  scheme-size s n x t σ (r, stands, fate, fates, e) = ap (λ (σ : Scheme N). type_size σ.body) e ∙ closed-size (named (scope.names.initial int)) int-size (map fate (variables_after [] r)) r
+  scheme-size s n x t σ (r, stands, fate, fates, e) =
+      (r, stands, ap (λ (σ : Scheme N). type_size σ.body) e ∙ closed-size (named (scope.names.initial int)) (named-size (scope.names.initial int)) (map fate (variables_after [] r)) r)
 
   pub scheme-small : (s : State P N) (n : ℕ) (x : Bool) (t : MlType N) (σ : Scheme N) → IsScheme scope s n x t σ → type_size σ.body ≤ 10000 → StandsForSmall scope s t
-  unfolding IsScheme
-  scheme-small s n x t σ is le = (is.0, is.1, subst (λ k. k ≤ 10000) (scheme-size s n x t σ is) le)
+  scheme-small s n x t σ is le =
+      let z : (r : MlType N) × StandsFor scope s t r × (type_size σ.body ≡ type_size r) = scheme-size s n x t σ is in (z.0, z.1, subst (λ k. k ≤ 10000) z.2 le)

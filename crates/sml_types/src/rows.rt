@@ -1,5 +1,10 @@
 //! Rows, arrows and applied names.
 
+ghost use Rattle.std.specs.Prelude.{◌≡◌, IfOk};
+ghost use Rattle.sml_objects.specs.Initial as made;
+ghost use Rattle.sml_objects.specs.Objects.{arrow_of, named};
+ghost use Rattle.sml_objects.specs.Views.{initial_of, type_of};
+
 use sml_lex::fault::Memory;
 use sml_objects::labels::Labels;
 use sml_objects::objects::{Initial, MlType, TyName};
@@ -60,23 +65,31 @@ pub fn tuple_of(alloc: Global, types: Vec<Rc<MlType>>) -> Result<Rc<MlType>, Mem
 }
 
 /// An arrow.
-pub fn arrow(alloc: Global, from: Rc<MlType>, to: Rc<MlType>) -> Result<Rc<MlType>, Memory> {
+pub fn arrow(alloc: Global, from: Rc<MlType>, to: Rc<MlType>) -> Result<Rc<MlType>, Memory>
+    ensures { IfOk result (λ t. type_of t.value ≡ arrow_of (type_of from.value) (type_of to.value)) }
+{
     boxed(alloc, MlType::Arrow(from, to))
 }
 
 /// An initial type name without arguments.
-pub fn initial(alloc: Global, name: Initial) -> Result<Rc<MlType>, Memory> {
+pub fn initial(alloc: Global, name: Initial) -> Result<Rc<MlType>, Memory>
+    ensures { IfOk result (λ t. type_of t.value ≡ named (made.initial (initial_of name))) }
+{
     boxed(alloc, MlType::Name(TyName::Initial(name), Vec::new(alloc)))
 }
 
 /// A type that is shared. Out of line, so that the frames of a recursion have no room for a type.
 #[inline(never)]
-pub fn boxed(alloc: Global, ty: MlType) -> Result<Rc<MlType>, Memory> {
+pub fn boxed(alloc: Global, ty: MlType) -> Result<Rc<MlType>, Memory>
+    ensures { IfOk result (λ t. t.value ≡ ty) }
+{
     Ok(Rc::new(alloc, ty)?)
 }
 
 /// A count or an index as the number of a variable. One that no `u32` holds counts as want of memory.
-pub fn number_of(index: usize) -> Result<u32, Memory> {
+pub fn number_of(index: usize) -> Result<u32, Memory>
+    ensures { IfOk result (λ number. number ≡ index) }
+{
     match u32::try_from(index) {
         Ok(number) => Ok(number),
         Err(_) => Err(Memory),

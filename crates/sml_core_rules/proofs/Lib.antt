@@ -12,6 +12,7 @@ pub mod Agree
 pub mod Alike
 pub mod Plain
 pub mod Accepted
+pub mod Refused
 pub mod Steady
 pub mod Claims
 pub mod Runs

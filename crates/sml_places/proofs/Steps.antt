@@ -19,7 +19,8 @@ use Rattle.sml_core_rules.specs.Datatypes.{Arguments, arguments_of}
 use Rattle.sml_core_rules.specs.Scripts.{Script, makes_datatypes, look, need, test, where_so, new_unknown, new_unknowns, require, so_far, set_window, stay_open, start_anew, new_row, new_overloaded, close, new_names, IsAnswer}
 use Rattle.sml_places.specs.Places.{place_dat_bind}
 use Rattle.sml_places.specs.Answers.{place_fault, place_answer}
-use Rattle.sml_places.proofs.Scripts.{refused-same, place_window, place_state, place_reply, AreAlike, AreSame, alike-give, alike-refuse, alike-tests, alike-either, alike-unknowns, alike-requires, alike-sees, alike-sets, alike-open, alike-anew, alike-names, alike-closes}
+use Rattle.sml_core_rules.proofs.Refused.{refused-same}
+use Rattle.sml_places.proofs.Scripts.{place_window, place_state, place_reply, AreAlike, AreSame, alike-give, alike-refuse, alike-tests, alike-either, alike-unknowns, alike-requires, alike-sees, alike-sets, alike-open, alike-anew, alike-names, alike-closes}
 use Rattle.sml_places.proofs.Types.{AreEqual, equal-need, equal-arguments-of, new-same}
 
 -- an answer with other places is a fault or an object where the answer is

@@ -16,7 +16,8 @@ use Rattle.sml_module_rules.specs.Structures.{Added, nothing, add_basis, names_p
 use Rattle.sml_places.specs.Places.{place_str_dec, place_str_binds, place_fun_bind, place_top, forget_top}
 use Rattle.sml_places.specs.Answers.{place_fault, place_judged, place_added, place_reading}
 use Rattle.sml_places.specs.Statements.{AreSameAdded, PlacesDontCount}
-use Rattle.sml_places.proofs.Scripts.{refused-same, place_reply, AreSame, alike-then, alike-give}
+use Rattle.sml_core_rules.proofs.Refused.{refused-same}
+use Rattle.sml_places.proofs.Scripts.{place_reply, AreSame, alike-then, alike-give}
 use Rattle.sml_places.proofs.Structures.{same-signatures, same-structure, same-functor-bound, same-inside}
 
 -- answers to parts with other places

@@ -28,7 +28,7 @@ use Rattle.sml_module_rules.specs.Realising.{name_of, no_function, with_function
 use Rattle.sml_module_rules.specs.Matching.{IsGeneral, function_for, is_next, read_realisation, admit_equality, stand_alone, require_general, require_lines, match_signature, renewed, renewed_signature, ascribe, apply_functor}
 use Rattle.sml_module_rules.specs.Signatures.{read_sig}
 use Rattle.sml_module_rules.specs.Structures.{Added, nothing, names_part, all_bound, signature_place, one_structure, functor_named, read_str, read_strs, read_strdec, read_str_binds, read_signatures, read_structure, structure_parts, read_functor, str_parts, parts, IsAlone, AreAlone, IsExported, IsAnswered, IsTopReading}
-use Rattle.sml_places.proofs.Scripts.{refused-same}
+use Rattle.sml_core_rules.proofs.Refused.{refused-same}
 use Rattle.sml_refusals.specs.Codes.{core_code, signature_code, line_code, size_code, matching_code, functor_code, structure_code, export_code, top_code}
 use Rattle.sml_refusals.proofs.Refusing.{or-left, or-right, CodeOf, code-then, RefusesBy, refuses-then, refuses-look, refuses-cond, refusal}
 use Rattle.sml_refusals.proofs.CodesOfTypes.{code-need, code-check}

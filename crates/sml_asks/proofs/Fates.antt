@@ -1,16 +1,16 @@
 -- A type that stands for another has a scheme, as far as sizes tell: each unknown in it has a fate, though none need be known.
-use Rattle.std.proofs.Common.{◌≡◌, ◌⊎◌, ◌<◌, ◌≤◌, ℕ, zero, suc, Bool, true, false, None, List, [], ◌∷◌, map, slice_index_or, inl, inr, sym, ◌∙◌, ap, subst, refl, arith}
+use Rattle.std.proofs.Common.{◌≡◌, ◌⊎◌, ◌<◌, ◌≤◌, ℕ, zero, suc, Bool, true, false, List, [], map, slice_index_or, inl, inr, sym, ◌∙◌, subst, refl, arith}
 use Rattle.std.proofs.lemmas.Bool.{cases_order}
-use Rattle.sml_objects.specs.Fates.{close_as, substitutes, standing_for, type_or}
+use Rattle.sml_objects.specs.Fates.{close_as}
 use Rattle.sml_objects.specs.Initial.{Name, initial}
 use Rattle.sml_objects.specs.Names.{int}
-use Rattle.sml_objects.specs.Objects.{MlType, MlTypes, Scheme, bound, free, app, no_type, and_type, named}
-use Rattle.sml_objects.specs.Sizes.{type_size, types_size}
-use Rattle.sml_objects.specs.Types.{assign, replace_type, replace_types, variables_after, index_among}
+use Rattle.sml_objects.specs.Objects.{MlType, Scheme, named}
+use Rattle.sml_objects.specs.Sizes.{type_size}
+use Rattle.sml_objects.specs.Types.{variables_after}
 use Rattle.sml_objects.specs.declared.fates.Fate.{Fate}
 use Rattle.sml_objects.specs.declared.fates.Fate.TheVariants.{Bind, Keep, Default}
 use Rattle.sml_graph.specs.Asked.{Asked, count}
-use Rattle.sml_core_rules.proofs.Schemes.{closed-size}
+use Rattle.sml_core_rules.proofs.Schemes.{closed-size, named-size}
 use Rattle.sml_schemes.specs.Left.{IsFlexible, IsReading}
 use Rattle.sml_schemes.specs.Fixed.{IsMarked}
 use Rattle.sml_schemes.specs.Schemes.{AsksEquality, IsFateOf, IsInt, IsScheme}
@@ -66,10 +66,6 @@ module _ (s : Asked) (flags : List Bool) (x : Bool) where
       at fate have f is v k (inr (inl l)) = subst (IsFateOf s flags x v) (sym (other-fate n f fate v l)) (have v l)
       at fate have f is v k (inr (inr l)) = absurd (omega (arith, k, l))
 
-  int-size : type_size (named (initial int)) ≡ 1
-  unfolding type_size types_size
-  int-size = refl
-
   -- where all schemes of a type are larger than a limit, so are all that it stands for
   pub readings-large : (t : MlType Name) (limit : ℕ) → ((θ : Scheme Name) → IsScheme s flags x t θ → limit < type_size θ.body) → (r : MlType Name) → IsReading s t r → limit < type_size r
   readings-large t limit large r reads = go (cases_order limit (type_size r))
@@ -82,7 +78,7 @@ module _ (s : Asked) (flags : List Bool) (x : Bool) where
             reads = reads;
             closed = record { fate = fate; fates = λ v left. have v left.known; scheme = refl };
           }) in
-          omega (arith, le, above, closed-size (named (initial int)) int-size fs r))
+          omega (arith, le, above, closed-size (named (initial int)) (named-size (initial int)) fs r))
 
       go : (limit ≡ type_size r) ⊎ ((limit < type_size r) ⊎ (type_size r < limit)) → limit < type_size r
       go (inl e) = absurd (never (omega (arith, e)))

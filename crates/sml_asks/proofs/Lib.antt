@@ -16,3 +16,4 @@ pub mod Holding
 pub mod Mentioning
 pub mod Numbering
 pub mod Scoping
+pub mod Allowing

@@ -65,7 +65,7 @@ module _ (unit next : ℕ) (names : List Name) (known : AreNames unit next names
   pub kept : Name → Bool
   kept n = stands naming n names || is_variable n
 
-  abbrev IsKept : Name → Type 0
+  abbrev pub IsKept : Name → Type 0
   IsKept n = Stands n names ⊎ ((x : Variable) × (n ≡ variable_name x))
 
   pub named-kept : (n : Name) → Stands n names → kept n ≡ true
@@ -79,7 +79,7 @@ module _ (unit next : ℕ) (names : List Name) (known : AreNames unit next names
   pub initial-kept : (k : Initial) → kept (initial k) ≡ true
   initial-kept k = named-kept (initial k) (known.initials k)
 
-  was-kept : (n : Name) → kept n ≡ true → IsKept n
+  pub was-kept : (n : Name) → kept n ≡ true → IsKept n
   unfolding kept
   was-kept n h = go (or-cases (stands naming n names) (is_variable n) h)
     where

@@ -115,13 +115,15 @@ module _ (new : Asked) (unit next first : ℕ) (s : State Place Name) (is : Solv
       → IsSchemeUpTo unit s first x t limit (option_map scheme_of found)
   scheme-found t limit (Some θ) reads known within none =
       (scheme-there t (scheme_of θ) reads, within, subst (λ n. IsBodyOver (length (scheme_of θ).variables) n (scheme_of θ).body) is.unknowns known)
-  scheme-found t limit None reads known within none = ((λ θ h. subst (λ n. limit < n) (sym (scheme-size (run_scope unit) s first x t θ h)) (large h.0 (stood h))), large)
+  scheme-found t limit None reads known within none = (schemes-large, large)
     where
       large : (r : MlType Name) → C.StandsFor (run_scope unit) s t r → limit < type_size r
       large r h = readings-large new more x t limit none r ((reading-same unit next new s is t r).0 h)
 
-      stood : {θ : Scheme Name} (h : C.IsScheme (run_scope unit) s first x t θ) → C.StandsFor (run_scope unit) s t h.0
-      stood h = h.1
+      schemes-large : (θ : Scheme Name) → C.IsScheme (run_scope unit) s first x t θ → limit < type_size θ.body
+      schemes-large θ h =
+          let z : (r : MlType Name) × C.StandsFor (run_scope unit) s t r × (type_size θ.body ≡ type_size r) = scheme-size (run_scope unit) s first x t θ h in
+          subst (λ n. limit < n) (sym z.2) (large z.0 z.1)
 
 pub scheme-after : (old mid new : Asked) (t : MlType Name) (flags more : List Bool) (x : Bool) (limit low : ℕ) (made : Result (Unit {0}) Halt) (result : Result (Option Q.Scheme) Halt)
     → (IsOf old t → (made ≡ Ok tt) × (mid ≡ old)) → (limit + 1 < 2 ^ 32 → low ≡ limit) → ((v : ℕ) → v < count mid → F.IsMarked more v ↔ F.IsMarked flags v)

@@ -7,10 +7,11 @@ use Rattle.sml_objects.specs.Initial.{Name}
 use Rattle.sml_objects.specs.Objects.{MlType, Scheme, free, types_of}
 use Rattle.sml_objects.specs.Sizes.{type_size}
 use Rattle.sml_objects.specs.Types.{variables_after_all}
+use Rattle.sml_layers.specs.declared.layer.Bound.{Bound}
 use Rattle.sml_layers.specs.declared.layer.Layer.{Layer}
 use Rattle.sml_layers.specs.declared.layer.Layer.TheVariants.{Rigidity}
 use Rattle.sml_layers.specs.declared.variable.Variable.{Variable}
-use Rattle.sml_layers.specs.Demands.{Demand, asks, equality, variable, IsFirstUnmet, Mentions}
+use Rattle.sml_layers.specs.Demands.{Demand, asks, within, equality, variable, CanBeMet, IsFirstUnmet, Mentions}
 use Rattle.sml_graph.specs.declared.demand.Refusal.{Refusal}
 use Rattle.sml_graph.specs.declared.demand.Refusal.TheVariants as R
 use Rattle.sml_graph.specs.Asked.{Asked}
@@ -106,6 +107,14 @@ VariablesAreMet =
     (unit next : ℕ) (solver : Asked) (s : State Place Name) (x : Variable) → SolverIs unit next solver s → (l : Layer)
     → (IsFirstUnmet (words (run_scope unit)) l (asks (variable x) (free s.made) ∷ s.demands) → ⊥)
     × (x.equality ≡ true → IsFirstUnmet (words (run_scope unit)) l (asks equality (free s.made) ∷ asks (variable x) (free s.made) ∷ s.demands) → ⊥)
+
+-- All demands can be met together with one that a type mentions only names made so far, where it speaks of what was made: so no layer
+-- refuses that.
+abbrev pub NamesSoFarAreAllowed : Type 0
+NamesSoFarAreAllowed =
+    (unit next : ℕ) (solver : Asked) (s : State Place Name) (b : Bound) (t : MlType Name) → SolverIs unit next solver s → IsTypeIn s.made s.names t
+    → CanBeMet (words (run_scope unit)) Rigidity (asks (within b s.names) t ∷ s.demands)
+    × ((l : Layer) → ¬ (IsFirstUnmet (words (run_scope unit)) l (asks (within b s.names) t ∷ s.demands)))
 
 -- Flags of what the first unknowns fix are those that closing needs.
 abbrev pub FlagsAreContexts : Type 0

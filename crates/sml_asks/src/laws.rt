@@ -1,6 +1,6 @@
 //! What calls of a solver say of scripts, beside what the calls promise themselves.
 
-ghost use Rattle.sml_asks.specs.Closings.{FlagsAreContexts, ReadingsAreTypes, ReadingsHaveSchemes, SchemesMentionNames, TypesFixAsVariables, VariablesAreFree, VariablesAreMet};
+ghost use Rattle.sml_asks.specs.Closings.{FlagsAreContexts, NamesSoFarAreAllowed, ReadingsAreTypes, ReadingsHaveSchemes, SchemesMentionNames, TypesFixAsVariables, VariablesAreFree, VariablesAreMet};
 ghost use Rattle.sml_asks.specs.Steps.{AnswersAreOfScripts, NamesAreBounds, NamesAreMade, NamesAreSteps, RunsBegin, SolversStartAnew, UnknownsAreSteps};
 
 /// What was answered to a demand is what its script may be answered: it goes on where the demand can be met together with
@@ -72,4 +72,9 @@ pub fn schemes_mention_names()
 /// A new unknown may stand for an explicit type variable, and admits equality where the variable does: no layer refuses it.
 pub fn variables_are_met()
     ensures { VariablesAreMet }
+{}
+
+/// A type may be asked to mention only names made so far, where it speaks of unknowns and names that were made: no layer refuses it.
+pub fn names_so_far_are_allowed()
+    ensures { NamesSoFarAreAllowed }
 {}

@@ -7,7 +7,7 @@ use Rattle.sml_asks.proofs.Settling.{settled-none, settled-more}
 use Rattle.sml_asks.proofs.asks.settle_all.Goals as goal
 
 pub loop-unknown-init : goal.loop-unknown-init
-loop-unknown-init c = record { count = refl; settled = settled-none c.args.solver.now }
+loop-unknown-init c = record { count = refl; settled = settled-none c.args.solver.now; spent = λ e. e }
 
 pub settle_one-requires : goal.settle_one-requires
 settle_one-requires c =
@@ -23,4 +23,5 @@ loop-unknown-preserved c =
       count = c.settle_one.ensures.count ∙ c.loop-unknown.invariant.count;
       settled = subst (λ vs. AsksSettled c.args.solver.now vs c.settle_one.new.solver) (sym (take_at_read xs i 0 c.loop-unknown-test.true).1)
           (settled-more c.args.solver.now c.loop-unknown.solver c.settle_one.new.solver (take i xs) v c.loop-unknown.invariant.settled c.in_ok-settle_one.ensures.ok);
+      spent = λ e. c.loop-unknown.invariant.spent (c.in_ok-settle_one.ensures.open e);
     }

@@ -2,3 +2,8 @@ pub mod Natural
 pub mod Largest
 pub mod Left
 pub mod MadeDatatypes
+pub mod MadeTypes
+pub mod MadeEnvs
+pub mod MadeReadings
+pub mod MadeGiving
+pub mod MadeClosing

@@ -7,3 +7,4 @@ pub mod MadeEnvs
 pub mod MadeReadings
 pub mod MadeGiving
 pub mod MadeClosing
+pub mod MadeScripts

@@ -8,3 +8,4 @@ pub mod MadeReadings
 pub mod MadeGiving
 pub mod MadeClosing
 pub mod MadeScripts
+pub mod MadePatterns

@@ -19,13 +19,13 @@ module _ {N : Type 0} (made : ℕ) (names : List N) (more : ℕ) (others : List 
   pub type-more : (t : MlType N) → IsTypeIn made names t → IsTypeIn more others t
   type-more t h = speaks-more _ _ _ _ _ _ t h (λ k b. b) (λ v l. omega arith) ns
 
-  scheme-more : (σ : Scheme N) → IsSchemeIn made names σ → IsSchemeIn more others σ
+  pub scheme-more : (σ : Scheme N) → IsSchemeIn made names σ → IsSchemeIn more others σ
   scheme-more σ h = speaks-more _ _ _ _ _ _ σ.body h (λ k b. b) (λ v l. omega arith) ns
 
   closed-more : (σ : Scheme N) → IsClosedIn names σ → IsClosedIn others σ
   closed-more σ h = speaks-more _ _ _ _ _ _ σ.body h (λ k b. b) (λ v l. l) ns
 
-  str-more : (t : TyStr N) → IsTyStrIn names t → IsTyStrIn others t
+  pub str-more : (t : TyStr N) → IsTyStrIn names t → IsTyStrIn others t
   str-more t h = (closed-more t.function h.0, all-more (λ c. IsClosedIn names c.1) (λ c. IsClosedIn others c.1) (λ c k. closed-more c.1 k) t.constructors h.1)
 
   mutual

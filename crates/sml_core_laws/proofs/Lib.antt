@@ -9,3 +9,4 @@ pub mod MadeGiving
 pub mod MadeClosing
 pub mod MadeScripts
 pub mod MadePatterns
+pub mod MadeBindings

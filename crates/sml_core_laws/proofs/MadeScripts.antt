@@ -123,7 +123,7 @@ module _ {P N : Type 0} {scope : Scope N} where
       go w r (inr h) = (gives {Q = Done} (λ w. tt)).ends w r h.1
 
   -- a state in which more was made, and nothing else
-  grown-well : (s t : State P N) → IsGrown s t → t.demands ≡ s.demands → t.window ≡ s.window → IsWellMade scope s → IsWellMade scope t
+  pub grown-well : (s t : State P N) → IsGrown s t → t.demands ≡ s.demands → t.window ≡ s.window → IsWellMade scope s → IsWellMade scope t
   grown-well s t g d e w = record {
     initials = λ k. g.names (scope.names.initial k) (w.initials k);
     demands = subst (AllByRecursion (IsDemandIn t.made t.names)) (sym d) (demands-up g s.demands w.demands);
@@ -132,7 +132,7 @@ module _ {P N : Type 0} {scope : Scope N} where
   }
 
   -- a script that goes on in another state
-  continues : {X : Type 0} {Q : X → State P N → Type 0} (s t : State P N) (m : Script P N X) → IsGrown s t → (IsWellMade scope s → IsWellMade scope t) → Leads scope t m Q
+  pub continues : {X : Type 0} {Q : X → State P N → Type 0} (s t : State P N) (m : Script P N X) → IsGrown s t → (IsWellMade scope s → IsWellMade scope t) → Leads scope t m Q
       → IsWellMade scope s → (r : X × State P N) → IsAnswer scope m t (accepted r) → IsWellMade scope r.1 × IsGrown s r.1 × Q r.0 r.1
   continues s t m g f h w r a = let c = h.ends (f w) r a in (c.0, onwards g c.1, c.2)
 

@@ -10,3 +10,4 @@ pub mod MadeClosing
 pub mod MadeScripts
 pub mod MadePatterns
 pub mod MadeBindings
+pub mod MadeValues

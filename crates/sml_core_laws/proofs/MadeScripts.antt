@@ -94,6 +94,10 @@ module _ {P N : Type 0} {scope : Scope N} where
   unfolding IsAnswer
   gives {X} {s} {x} {Q} q = record { ends = λ w r a. subst (λ r. IsWellMade scope r.1 × IsGrown s r.1 × Q r.0 r.1) (sym (accepted_same a)) (w, unchanged, q w) }
 
+  -- what is known of the state before
+  pub knows : {X : Type 0} {s : State P N} {m : Script P N X} {Q : X → State P N → Type 0} → (IsWellMade scope s → Leads scope s m Q) → Leads scope s m Q
+  knows h = record { ends = λ w. let k = h w in k.ends w }
+
   pub refuses : {X : Type 0} {s : State P N} {f : Fault P} {Q : X → State P N → Type 0} → Leads scope s (refuse f) Q
   unfolding IsAnswer
   refuses = record { ends = λ w r a. absurd (not_refused a) }

@@ -11,3 +11,5 @@ pub mod MadeScripts
 pub mod MadePatterns
 pub mod MadeBindings
 pub mod MadeValues
+pub mod MadeExpressions
+pub mod Made

@@ -5,6 +5,7 @@ use Rattle.std.proofs.Common.{arith}
 use Rattle.std.proofs.lemmas.List.{length-replicate}
 use mathlib.Core.Path.{refl, sym, subst}
 use mathlib.Core.Logic.{inl, inr}
+use Rattle.sml_tree.specs.Trees.{Id}
 use Rattle.sml_tree.specs.Names.{Name, LongName}
 use Rattle.sml_tree.specs.Types.{Ty}
 use Rattle.sml_tree.specs.Expressions.{TypBind, ConBind, DatBind, ExnBind, new_exception, exception_copy}
@@ -15,9 +16,9 @@ use Rattle.sml_objects.specs.Objects.{MlType, Scheme, bound, free, app, name}
 use Rattle.sml_objects.proofs.Standing.{left, right}
 use Rattle.sml_rules.specs.Answers.{accepted}
 use Rattle.sml_rules.proofs.Sound.{not_refused}
-use Rattle.sml_core_rules.specs.Datatypes.{Arguments, listed, types_from, type_function, name_function, constructor_scheme, constructor_type, constructors_of, constructors_from, read_type_binds, datatype_types, datatype_env, datatype_envs, with_names, is_equality}
+use Rattle.sml_core_rules.specs.Datatypes.{Arguments, listed, types_from, type_function, name_function, constructor_scheme, constructor_type, constructors_of, constructors_from, constructor_values, read_type_binds, datatype_types, datatype_env, datatype_envs, with_names, is_equality}
 use Rattle.sml_core_rules.specs.Expressions.{exception_type, read_types, read_datatypes, read_exceptions, read_opened}
-use Rattle.sml_core_rules.specs.Objects.{Env, Value, TyStr, empty, extend, of_types}
+use Rattle.sml_core_rules.specs.Objects.{Env, TyStr, Value, empty, extend, maps, no_structure, of_types}
 use Rattle.sml_core_rules.specs.Rules.{BindTypes, MeansArgument, MeanArguments, MeanAllArguments, BindsException, BindExceptions, Opens}
 use Rattle.sml_core_rules.specs.Scripts.{IsAnswer, look}
 use Rattle.sml_core_rules.specs.States.{Scope, State, with_made}
@@ -127,9 +128,13 @@ module _ {N : Type 0} where
         let s : TyStr N = record { function = name_function n (length d.variables); constructors = [] } in
         types-of-datatypes-in (put d.name.id s m) ds ns q.1 (each-put (IsTyStrIn names) d.name.id s m (name-function-in n (length d.variables) q.0, tt) h)
 
-    pub constructor-values-in : (made k n : ℕ) (cs : Map (Scheme N)) → Each (IsClosedIn names) cs → Each (IsValueIn made names) (constructors_from k n cs)
+    constructor-values-in : (made k n : ℕ) (cs : Map (Scheme N)) → Each (IsClosedIn names) cs → Each (IsValueIn made names) (constructors_from k n cs)
     constructor-values-in made k n [] h = tt
     constructor-values-in made k n (c ∷ cs) h = ((closed-scheme made names c.1 h.0, tt), constructor-values-in made (suc k) n cs h.1)
+
+    pub copied-in : (made : ℕ) (x : Id) (t : TyStr N) → IsTyStrIn names t → IsEnvIn made names (maps no_structure ((x, t) ∷ []) (constructor_values t.constructors))
+    unfolding IsEnvIn
+    copied-in made x t h = (tt, (h, tt), constructor-values-in made 0 (length t.constructors) t.constructors h.1)
 
     -- datatypes with their arguments
     abbrev AreDatatypesIn : List (N × Arguments N) → Type 0
@@ -168,8 +173,10 @@ module _ {P N : Type 0} {scope : Scope N} {s : State P N} where
       first tests (λ u t' g' d. gives (λ w. types-in t'.made t'.names ts (all-more (λ e. IsTyStrIn t.names e.1) (λ e. IsTyStrIn t'.names e.1) (λ e k. str-more t.made t.names t'.made t'.names g'.made g'.names e.1 k) ts q))))
 
   pub exceptions-lead : (C : Env N) (vs : Map (MlType N)) (bs : List (ExnBind P)) → EnvAt C s → TypesAt vs s → Leads scope s (look (read_exceptions scope C vs [] bs)) (λ m t. Each (IsValueIn t.made t.names) m)
-  exceptions-lead C vs bs c h = record { ends = λ w r a. (looks {Q = λ m t. Each (IsValueIn t.made t.names) m} (read_exceptions scope C vs [] bs) (λ m e.
-    exceptions-in s.made s.names C c scope.names w.initials vs h [] bs m tt (exceptions-to scope C vs [] bs m e))).ends w r a }
+  exceptions-lead C vs bs c h = record {
+    ends = λ w r a. (looks {Q = λ m t. Each (IsValueIn t.made t.names) m} (read_exceptions scope C vs [] bs) (λ m e.
+        exceptions-in s.made s.names C c scope.names w.initials vs h [] bs m tt (exceptions-to scope C vs [] bs m e))).ends w r a;
+  }
 
   pub opened-leads : (C : Env N) (ss : List (LongName P)) → EnvAt C s → Leads scope s (look (read_opened scope C empty ss)) EnvAt
   opened-leads C ss c = looks (read_opened scope C empty ss) (λ E e. opened-in s.made s.names C c empty ss E (empty-in s.made s.names) (opened-to scope C empty ss E e))

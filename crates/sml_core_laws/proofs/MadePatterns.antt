@@ -22,7 +22,7 @@ use Rattle.sml_core_rules.specs.Types.{Fields, put_field, read_ty}
 use Rattle.sml_core_rules.specs.Values.{require_attributes, require_status, instance, apply_general, applied, find_value}
 use Rattle.sml_core_rules.proofs.Derived.{needed, ty-to}
 use Rattle.sml_core_laws.specs.Made.{Speaks, HasVariable, IsTypeIn, IsValueIn, AllSpeak, IsGrown}
-use Rattle.sml_core_laws.proofs.MadeTypes.{replaced-speaks, fields-speak, all-join, each-field}
+use Rattle.sml_core_laws.proofs.MadeTypes.{replaced-speaks, fields-speak, all-more, Each, all-join, each-field}
 use Rattle.sml_core_laws.proofs.MadeEnvs.{value-found, scheme-more}
 use Rattle.sml_core_laws.proofs.MadeReadings.{ty-speaks}
 use Rattle.sml_core_laws.proofs.MadeScripts.{TypeAt, TypesAt, EnvAt, Done, Leads, onwards, type-up, types-up, env-up, first, gives, refuses, looks, chooses, tests, makes, makes-one, requires, equals, rows, overloads}
@@ -52,13 +52,11 @@ module _ {P N : Type 0} where
   abbrev FieldsAt : Typed N (Fields (MlType N)) → State P N → Type 0
   FieldsAt r s = TypesAt r.type s × TypesAt r.bound s
 
-  pub all-up : {s t : State P N} → IsGrown s t → (us : MlTypes N) → AllAt us s → AllAt us t
-  unfolding Speaks
-  all-up g no_type h = tt
-  all-up g (and_type u us) h = (type-up g u h.0, all-up g us h.1)
-
-  pub value-up : {s t : State P N} → IsGrown s t → (v : Value N) → ValueAt v s → ValueAt v t
+  value-up : {s t : State P N} → IsGrown s t → (v : Value N) → ValueAt v s → ValueAt v t
   value-up {s} {t} g v h = (scheme-more s.made s.names t.made t.names g.made g.names v.scheme h.0, h.1)
+
+  pub values-up : {s t : State P N} → IsGrown s t → (vs : Map (Value N)) → Each (IsValueIn s.made s.names) vs → Each (IsValueIn t.made t.names) vs
+  values-up {s} {t} g vs h = all-more (λ v. ValueAt v.1 s) (λ v. ValueAt v.1 t) (λ v k. value-up g v.1 k) vs h
 
   pub added : (s : State P N) (bs : Bindings N) (x : Id) (t : MlType N) → TypesAt bs s → TypeAt t s → TypesAt (bs ++ (x, t) ∷ []) s
   added s bs x t h k = all-join (λ b. TypeAt b.1 s) bs ((x, t) ∷ []) h (k, tt)

@@ -84,11 +84,13 @@ module _ {P N : Type 0} (scope : Scope N) where
 module _ {P N : Type 0} {scope : Scope N} where
   pub first : {X Y : Type 0} {s : State P N} {m : Script P N X} {f : X → Script P N Y} {Q : X → State P N → Type 0} {R : Y → State P N → Type 0} → Leads scope s m Q
       → ((x : X) (t : State P N) → IsGrown s t → Q x t → Leads scope t (f x) R) → Leads scope s (m >>= f) R
-  first {X} {Y} {s} {m} {f} {Q} {R} h k = record { ends = λ w r a.
-    let b = bind-accepted scope m f s r a in
-    let c = h.ends w b.0 b.1 in
-    let next : Leads scope b.0.1 (f b.0.0) R = k b.0.0 b.0.1 c.1 c.2 in
-    let d = next.ends c.0 r b.2 in (d.0, onwards c.1 d.1, d.2) }
+  first {X} {Y} {s} {m} {f} {Q} {R} h k = record {
+    ends = λ w r a.
+        let b = bind-accepted scope m f s r a in
+        let c = h.ends w b.0 b.1 in
+        let next : Leads scope b.0.1 (f b.0.0) R = k b.0.0 b.0.1 c.1 c.2 in
+        let d = next.ends c.0 r b.2 in (d.0, onwards c.1 d.1, d.2);
+  }
 
   pub gives : {X : Type 0} {s : State P N} {x : X} {Q : X → State P N → Type 0} → (IsWellMade scope s → Q x s) → Leads scope s (give x) Q
   unfolding IsAnswer
@@ -164,18 +166,24 @@ module _ {P N : Type 0} {scope : Scope N} where
 
   pub sets : {s : State P N} {v : Window P N} → IsWindowIn s.made s.names v → Leads scope s (set_window v) Done
   unfolding IsAnswer
-  sets {s} {v} i = record { ends = continues s (with_window v s) (give tt) (record { made = omega arith; names = λ n h. h })
-    (λ w. record { initials = w.initials; demands = w.demands; window = i; met = w.met }) (gives (λ w. tt)) }
+  sets {s} {v} i = record {
+    ends = continues s (with_window v s) (give tt) (record { made = omega arith; names = λ n h. h })
+        (λ w. record { initials = w.initials; demands = w.demands; window = i; met = w.met }) (gives (λ w. tt));
+  }
 
   pub opens : {s : State P N} → Leads scope s stay_open Done
   unfolding IsAnswer
-  opens {s} = record { ends = continues s (record s { is_open = true }) (give tt) (record { made = omega arith; names = λ n h. h })
-    (λ w. record { initials = w.initials; demands = w.demands; window = w.window; met = w.met }) (gives (λ w. tt)) }
+  opens {s} = record {
+    ends = continues s (record s { is_open = true }) (give tt) (record { made = omega arith; names = λ n h. h })
+        (λ w. record { initials = w.initials; demands = w.demands; window = w.window; met = w.met }) (gives (λ w. tt));
+  }
 
   pub judges : {s : State P N} {j : Judged P} → Leads scope s (judge j) Done
   unfolding IsAnswer
-  judges {s} {j} = record { ends = continues s (record s { judged = j ∷ s.judged }) (give tt) (record { made = omega arith; names = λ n h. h })
-    (λ w. record { initials = w.initials; demands = w.demands; window = w.window; met = w.met }) (gives (λ w. tt)) }
+  judges {s} {j} = record {
+    ends = continues s (record s { judged = j ∷ s.judged }) (give tt) (record { made = omega arith; names = λ n h. h })
+        (λ w. record { initials = w.initials; demands = w.demands; window = w.window; met = w.met }) (gives (λ w. tt));
+  }
 
   -- the state, of which the window is looked at
   pub sees : {s : State P N} → Leads scope s so_far (λ x t. WindowAt x.window t)
@@ -184,15 +192,21 @@ module _ {P N : Type 0} {scope : Scope N} where
 
   pub rows : {s : State P N} {p : P} {t : MlType N} → TypeAt t s → Leads scope s (new_row p t) Done
   unfolding IsAnswer
-  rows {s} {p} {t} h = record { ends = λ w r a.
-    (sets {s = s} {v = record s.window { rows = s.window.rows ++ (p, t) ∷ [] }} (all-join (λ r. TypeAt r.1 s) s.window.rows ((p, t) ∷ []) w.window.0 (h, tt), w.window.1)).ends w r a }
+  rows {s} {p} {t} h = record {
+    ends = λ w r a.
+        (sets {s = s} {v = record s.window { rows = s.window.rows ++ (p, t) ∷ [] }} (all-join (λ r. TypeAt r.1 s) s.window.rows ((p, t) ∷ []) w.window.0 (h, tt), w.window.1)).ends w r a;
+  }
 
   pub overloads : {s : State P N} {v : ℕ} → v < s.made → Leads scope s (new_overloaded v) Done
   unfolding IsAnswer
-  overloads {s} {v} l = record { ends = λ w r a.
-    (sets {s = s} {v = record s.window { overloaded = s.window.overloaded ++ v ∷ [] }} (w.window.0, all-join (λ v. v < s.made) s.window.overloaded (v ∷ []) w.window.1 (l, tt))).ends w r a }
+  overloads {s} {v} l = record {
+    ends = λ w r a.
+        (sets {s = s} {v = record s.window { overloaded = s.window.overloaded ++ v ∷ [] }} (w.window.0, all-join (λ v. v < s.made) s.window.overloaded (v ∷ []) w.window.1 (l, tt))).ends w r a;
+  }
 
   pub closes : {s : State P N} {n : ℕ} {x : Bool} {t : MlType N} → TypeAt t s → Leads scope s (close n x t) SchemeAt
   unfolding IsAnswer
-  closes {s} {n} {x} {t} h = record { ends = λ w r a.
-    (gives {x = a.0} {Q = SchemeAt} (λ w. scheme-in scope s n x t a.0 w h a.1)).ends w r a.2 }
+  closes {s} {n} {x} {t} h = record {
+    ends = λ w r a.
+        (gives {x = a.0} {Q = SchemeAt} (λ w. scheme-in scope s n x t a.0 w h a.1)).ends w r a.2;
+  }

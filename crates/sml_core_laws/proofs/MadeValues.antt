@@ -36,6 +36,9 @@ module _ {P N : Type 0} where
   pub bounds-up : {s t : State P N} → IsGrown s t → (bs : List (E.Bound N)) → BoundsAt bs s → BoundsAt bs t
   bounds-up {s} {t} g bs h = all-more (λ b. TypeAt b.type s) (λ b. TypeAt b.type t) (λ b k. type-up g b.type k) bs h
 
+  pub begun-up : {s t : State P N} → IsGrown s t → (b : Begun P N) → BegunAt b s → BegunAt b t
+  begun-up g b h = (window-up g b.window h.0, types-up g b.variables h.1)
+
   schemes-up : {s t : State P N} → IsGrown s t → (σs : List (Scheme N)) → SchemesAt σs s → SchemesAt σs t
   schemes-up {s} {t} g σs h = all-more (λ σ. SchemeAt σ s) (λ σ. SchemeAt σ t) (λ σ k. scheme-more s.made s.names t.made t.names g.made g.names σ k) σs h
 

@@ -2,3 +2,14 @@ pub mod Natural
 pub mod Largest
 pub mod Left
 pub mod MadeDatatypes
+pub mod MadeTypes
+pub mod MadeEnvs
+pub mod MadeReadings
+pub mod MadeGiving
+pub mod MadeClosing
+pub mod MadeScripts
+pub mod MadePatterns
+pub mod MadeBindings
+pub mod MadeValues
+pub mod MadeExpressions
+pub mod Made

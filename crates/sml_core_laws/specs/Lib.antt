@@ -1,2 +1,3 @@
 pub mod Largest
+pub mod Made
 pub mod Natural

@@ -2,6 +2,7 @@
 
 ghost use Rattle.sml_objects.specs.Initial.{naming};
 ghost use Rattle.sml_core_laws.specs.Largest.{DatatypesHaveAnswers, LargestIsOne};
+ghost use Rattle.sml_core_laws.specs.Made.{ReadingsSpeakOfWhatWasMade};
 ghost use Rattle.sml_core_laws.specs.Natural.{ReadingsAreNatural};
 
 /// Of datatypes that are bound together there is a largest set that admits equality, whatever their constructors' arguments are, and
@@ -18,4 +19,10 @@ pub fn datatypes_have_answers()
 /// Types are read alike whatever names stand for their constructors, different ones or the same.
 pub fn readings_are_natural()
     ensures { ReadingsAreNatural }
+{}
+
+/// What is read speaks of what was made: a declaration that is read with types of unknowns and names that were made so far binds such
+/// types and leaves such demands, and all that was made before it stays.
+pub fn readings_speak_of_what_was_made()
+    ensures { ReadingsSpeakOfWhatWasMade }
 {}

@@ -3,6 +3,7 @@ pub mod Largest
 pub mod Left
 pub mod MadeDatatypes
 pub mod MadeTypes
+pub mod MadeShapes
 pub mod MadeEnvs
 pub mod MadeReadings
 pub mod MadeGiving

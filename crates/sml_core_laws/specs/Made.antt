@@ -1,29 +1,32 @@
 -- That readings of the core speak of what was made. A reading that begins with types of unknowns and names that were made so far gives
 -- such types, leaves such demands, and makes only more: so no instance has an unknown of before or one that is numbered twice, no
 -- scheme an unknown of a declaration that has ended, and no type a name that no binding made.
-use Rattle.std.specs.Prelude.{◌≤◌, ◌<◌, ℕ, List, length}
+use Rattle.std.specs.Prelude.{◌≡◌, ◌≤◌, ◌<◌, ◌^◌, ℕ, List, length}
 use Rattle.std.specs.List.{AllByRecursion}
 use Rattle.sml_lex.specs.declared.fault.Place.{Place}
 use Rattle.sml_tree.specs.Expressions.{Dec}
 use Rattle.sml_objects.specs.Appearance.{Stands}
-use Rattle.sml_objects.specs.Initial.{Name}
+use Rattle.sml_objects.specs.Initial.{Name, naming}
+use Rattle.sml_objects.specs.Labels.{AreRising}
 use Rattle.sml_objects.specs.Maps.{Map}
-use Rattle.sml_objects.specs.Names.{Initial}
-use Rattle.sml_objects.specs.Objects.{MlType, MlTypes, Scheme, bound, free, app, no_type, and_type}
+use Rattle.sml_objects.specs.Names.{Naming, Initial}
+use Rattle.sml_objects.specs.Objects.{MlType, MlTypes, Head, Scheme, bound, free, app, arrow, row, name, no_type, and_type}
 use Rattle.sml_layers.specs.declared.layer.Layer.TheVariants.{Rigidity}
 use Rattle.sml_layers.specs.Demands.{Demand, equal, has_fields, asks, HeadMentions, CanBeMet}
 use Rattle.sml_rules.specs.Answers.{accepted}
 use Rattle.sml_core_rules.specs.Expressions.{IsReading}
 use Rattle.sml_core_rules.specs.Objects.{Env, Structures, Status, Value, TyStr, variable, constructor, exception, overloaded, maps, no_structure, and_structure}
+use Rattle.sml_core_rules.specs.Scopes.{run_scope}
 use Rattle.sml_core_rules.specs.States.{Scope, State, Window, words}
+use Rattle.sml_core_rules.specs.Types.{count_types}
 
--- The bound variables of a type, its unknowns and its names are such.
-module _ {N : Type 0} (B V : ℕ → Type 0) (Q : N → Type 0) where
+-- The bound variables of a type, its unknowns and its heads, each with the number of its parts, are such.
+module _ {N : Type 0} (B V : ℕ → Type 0) (H : Head N → ℕ → Type 0) where
   unfoldable mutual
     pub Speaks : MlType N → Type 0
     Speaks (bound k) = B k
     Speaks (free v) = V v
-    Speaks (app h ts) = HeadMentions Q h × AllSpeak ts
+    Speaks (app h ts) = H h (count_types ts) × AllSpeak ts
 
     pub AllSpeak : MlTypes N → Type 0
     AllSpeak no_type = Unit {0}
@@ -36,22 +39,26 @@ HasVariable (constructor k n) σ = Unit {0}
 HasVariable exception σ = Unit {0}
 HasVariable (overloaded c) σ = 0 < length σ.variables
 
--- Types and the schemes of constructors, of which no unknown is, with the bound variables of the scheme and with these names.
-module _ {N : Type 0} (names : List N) where
+-- Of heads with so many parts more may be asked than that their names were made.
+module _ {N : Type 0} (S : Head N → ℕ → Type 0) (names : List N) where
+  abbrev pub IsHeadIn : Head N → ℕ → Type 0
+  IsHeadIn h k = HeadMentions (λ n. Stands n names) h × S h k
+
+  -- Type functions and the schemes of constructors speak of no unknown.
   abbrev pub IsClosedIn : Scheme N → Type 0
-  IsClosedIn σ = Speaks (λ k. k < length σ.variables) (λ v. ⊥) (λ n. Stands n names) σ.body
+  IsClosedIn σ = Speaks (λ k. k < length σ.variables) (λ v. ⊥) IsHeadIn σ.body
 
   abbrev pub IsTyStrIn : TyStr N → Type 0
   IsTyStrIn t = IsClosedIn t.function × AllByRecursion (λ c. IsClosedIn c.1) t.constructors
 
 -- What speaks of the first unknowns, so many as were made, and of these names.
-module _ {N : Type 0} (made : ℕ) (names : List N) where
+module _ {N : Type 0} (S : Head N → ℕ → Type 0) (made : ℕ) (names : List N) where
   -- a type, without bound variables
   abbrev pub IsTypeIn : MlType N → Type 0
-  IsTypeIn t = Speaks (λ k. ⊥) (λ v. v < made) (λ n. Stands n names) t
+  IsTypeIn t = Speaks (λ k. ⊥) (λ v. v < made) (IsHeadIn S names) t
 
   abbrev pub IsSchemeIn : Scheme N → Type 0
-  IsSchemeIn σ = Speaks (λ k. k < length σ.variables) (λ v. v < made) (λ n. Stands n names) σ.body
+  IsSchemeIn σ = Speaks (λ k. k < length σ.variables) (λ v. v < made) (IsHeadIn S names) σ.body
 
   abbrev pub IsValueIn : Value N → Type 0
   IsValueIn v = IsSchemeIn v.scheme × HasVariable v.status v.scheme
@@ -59,7 +66,7 @@ module _ {N : Type 0} (made : ℕ) (names : List N) where
   -- an environment, at every depth
   unfoldable mutual
     pub IsEnvIn : Env N → Type 0
-    IsEnvIn (maps ss ts vs) = AreStructuresIn ss × AllByRecursion (λ t. IsTyStrIn names t.1) ts × AllByRecursion (λ v. IsValueIn v.1) vs
+    IsEnvIn (maps ss ts vs) = AreStructuresIn ss × AllByRecursion (λ t. IsTyStrIn S names t.1) ts × AllByRecursion (λ v. IsValueIn v.1) vs
 
     pub AreStructuresIn : Structures (TyStr N) (Value N) → Type 0
     AreStructuresIn no_structure = Unit {0}
@@ -79,10 +86,10 @@ module _ {N : Type 0} (made : ℕ) (names : List N) where
 
 module _ {P N : Type 0} where
   -- A state speaks of what it has made, the initial names are among them, and its demands can be met.
-  pub record IsWellMade (scope : Scope N) (s : State P N) : Type 0 where
+  pub record IsWellMade (S : Head N → ℕ → Type 0) (scope : Scope N) (s : State P N) : Type 0 where
     pub initials : (k : Initial) → Stands (scope.names.initial k) s.names
-    pub demands : AllByRecursion (IsDemandIn s.made s.names) s.demands
-    pub window : IsWindowIn s.made s.names s.window
+    pub demands : AllByRecursion (IsDemandIn S s.made s.names) s.demands
+    pub window : IsWindowIn S s.made s.names s.window
     pub met : CanBeMet (words scope) Rigidity s.demands
 
   -- All that was made in the first state was in the second.
@@ -90,9 +97,24 @@ module _ {P N : Type 0} where
     pub made : s.made ≤ t.made
     pub names : (n : N) → Stands n s.names → Stands n t.names
 
--- Whatever a declaration is read with.
+-- A declaration keeps to what was made, whatever it is read with.
+abbrev pub ReadingsKeep : (Head Name → ℕ → Type 0) → Scope Name → Type 0
+ReadingsKeep S scope =
+    (C : Env Name) (vs : Map (MlType Name)) (d : Dec Place) (s t : State Place Name) (E : Env Name)
+    → IsWellMade S scope s → IsEnvIn S s.made s.names C → AreTypesIn S s.made s.names vs → IsReading scope C vs d s (accepted (E, t))
+    → IsWellMade S scope t × IsGrown s t × IsEnvIn S t.made t.names E
+
+-- Nothing more is asked of heads.
 abbrev pub ReadingsSpeakOfWhatWasMade : Type 0
-ReadingsSpeakOfWhatWasMade =
-    (scope : Scope Name) (C : Env Name) (vs : Map (MlType Name)) (d : Dec Place) (s t : State Place Name) (E : Env Name)
-    → IsWellMade scope s → IsEnvIn s.made s.names C → AreTypesIn s.made s.names vs → IsReading scope C vs d s (accepted (E, t))
-    → IsWellMade scope t × IsGrown s t × IsEnvIn t.made t.names E
+ReadingsSpeakOfWhatWasMade = (scope : Scope Name) → ReadingsKeep (λ h k. Unit {0}) scope
+
+-- Heads have the parts that they take: two of an arrow, as many of a name as its arity is, and one for each label of a row, whose labels
+-- rise. Numbers rise as labels up to 2^64; so nothing is said of the order in a row that has as many fields.
+abbrev pub Takes : {N : Type 0} → Naming N → Head N → ℕ → Type 0
+Takes names arrow k = k ≡ 2
+Takes names (row ls) k = (k ≡ length ls) × (k < 2 ^ 64 → AreRising ls)
+Takes names (name n) k = k ≡ (names.attributes n).arity
+
+-- What is read with such types gives and asks such types, over the names of a run.
+abbrev pub ReadingsGiveTypes : Type 0
+ReadingsGiveTypes = (unit : ℕ) → ReadingsKeep (Takes naming) (run_scope unit)

@@ -2,7 +2,7 @@
 
 ghost use Rattle.sml_objects.specs.Initial.{naming};
 ghost use Rattle.sml_core_laws.specs.Largest.{DatatypesHaveAnswers, LargestIsOne};
-ghost use Rattle.sml_core_laws.specs.Made.{ReadingsSpeakOfWhatWasMade};
+ghost use Rattle.sml_core_laws.specs.Made.{ReadingsGiveTypes, ReadingsSpeakOfWhatWasMade};
 ghost use Rattle.sml_core_laws.specs.Natural.{ReadingsAreNatural};
 
 /// Of datatypes that are bound together there is a largest set that admits equality, whatever their constructors' arguments are, and
@@ -25,4 +25,9 @@ pub fn readings_are_natural()
 /// types and leaves such demands, and all that was made before it stays.
 pub fn readings_speak_of_what_was_made()
     ensures { ReadingsSpeakOfWhatWasMade }
+{}
+
+/// And what is read with types gives types: each name in them has as many arguments as its arity says, and the labels of rows rise.
+pub fn readings_give_types()
+    ensures { ReadingsGiveTypes }
 {}

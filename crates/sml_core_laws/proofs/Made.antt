@@ -5,7 +5,7 @@ use Rattle.std.specs.List.Sorted.{IsStrictlySortedBy}
 use Rattle.std.specs.Ordering.{is_lt}
 use Rattle.std.proofs.Common.{arith}
 use Rattle.std.specs.declared.cmp.Ordering.TheVariants.{Less}
-use Rattle.std.proofs.lemmas.Bool.{eqb-true, eq-eqb, ltb-true, lt-ltb}
+use Rattle.std.proofs.lemmas.Bool.{eqb-true, eq-eqb, ltb-true, lt-ltb, false≢true}
 use mathlib.Core.Path.{refl, sym, ap, subst, ◌∙◌}
 use Rattle.sml_tree.specs.Trees.{Id}
 use Rattle.sml_objects.specs.Initial.{Name, naming}
@@ -18,15 +18,17 @@ use Rattle.sml_core_rules.specs.Expressions.{read_dec}
 use Rattle.sml_core_rules.specs.Scopes.{run_scope}
 use Rattle.sml_core_rules.specs.States.{Scope}
 use Rattle.sml_core_rules.specs.Types.{count_types}
-use Rattle.sml_core_laws.specs.Made.{ReadingsKeep, ReadingsSpeakOfWhatWasMade, ReadingsGiveTypes, Takes}
+use Rattle.sml_core_laws.specs.Made.{ReadingsKeep, ReadingsSpeakOfWhatWasMade, ReadingsGiveTypes, Takes, IsGrown}
 use Rattle.sml_core_laws.proofs.MadeShapes.{IsShape, IsAlone, both-true}
-use Rattle.sml_core_laws.proofs.MadeScripts.{EnvAt, Leads}
-use Rattle.sml_core_laws.proofs.MadeExpressions.{dec-leads}
+use Rattle.sml_core_laws.proofs.MadeScripts.{Leads, NoneAt, NoTypesAt, Known}
+use Rattle.sml_core_laws.proofs.MadeExpressions.{dec-leads, DecAt}
 
 readings-keep : (S : Head Name → ℕ → Type 0) (scope : Scope Name) → IsShape scope.names S → ReadingsKeep S scope
 readings-keep S scope shape C vs d s t E w c h a =
-    let leads : Leads S scope s (read_dec scope C vs d) (EnvAt S) = dec-leads C vs d c h in
-    let r = leads.ends (record { shape = shape; well = w }) (E, t) a in (r.0.well, r.1, r.2)
+    let leads : (b : Bool) → (b ≡ true → NoneAt S C s × NoTypesAt S vs s) → Leads S scope s (read_dec scope C vs d) (DecAt S b) = λ b none. dec-leads C vs d b c h (λ e o. (none e).0) (λ e o. (none e).1) in
+    let ends : (b : Bool) → (b ≡ true → NoneAt S C s × NoTypesAt S vs s) → Known S scope t × IsGrown s t × DecAt S b E t = λ b none. let l = leads b none in l.ends (record { shape = shape; well = w }) (E, t) a in
+    let r = ends false (λ e. absurd (false≢true e)) in
+    (r.0.well, r.1, record { inside = r.2.0; closed = λ o m n. (ends true (λ e. (m, n))).2.1 refl o })
 
 -- any number of parts
 

@@ -30,7 +30,7 @@ use Rattle.sml_core_laws.proofs.MadeTypes.{speaks-more, all-more, Each, each-put
 use Rattle.sml_core_laws.proofs.MadeEnvs.{closed-scheme, str-more, extend-in, empty-in, types-in, value-found, opened-found}
 use Rattle.sml_core_laws.proofs.MadeReadings.{ty-speaks}
 use Rattle.sml_core_laws.proofs.MadeClosing.{constructor-in}
-use Rattle.sml_core_laws.proofs.MadeScripts.{TypesAt, EnvAt, Leads, grown-well, continues, env-up, first, gives, looks, tests, knows, Known}
+use Rattle.sml_core_laws.proofs.MadeScripts.{EnvAt, Leads, grown-well, continues, env-up, first, gives, looks, tests, knows, Known, NoneAt, none-up}
 
 Any : ℕ → Type 0
 Any k = Unit {0}
@@ -182,39 +182,40 @@ module _ {N : Type 0} where
         (tt, ((name-function-in a.0 n h.0.0, own), tt), constructor-values-in made 0 (length cs) cs own) (datatypes-in made ds gs h.1)
 
 module _ {P N : Type 0} {S : Head N → ℕ → Type 0} {scope : Scope N} {s : State P N} where
-  pub types-lead : (p : P) (C : Env N) (bs : List (TypBind P)) → EnvAt S C s → Leads S scope s (read_types scope p C bs) (EnvAt S)
+  pub types-lead : (p : P) (C : Env N) (bs : List (TypBind P)) → EnvAt S C s → Leads S scope s (read_types scope p C bs) (NoneAt S)
   types-lead p C bs c =
       first (knows (λ w. looks {Q = λ ts s. Each (IsTyStrIn S s.names) ts} (read_type_binds C [] bs) (λ ts e. bindings-in scope.names S w.shape s.made s.names C c [] bs ts tt (type-binds-to C [] bs ts e)))) (λ ts t g q.
-      first tests (λ u t' g' d. gives (λ w. types-in S t'.made t'.names ts (all-more (λ e. IsTyStrIn S t.names e.1) (λ e. IsTyStrIn S t'.names e.1) (λ e k. str-more S t.made t.names t'.made t'.names g'.made g'.names e.1 k) ts q))))
+      first tests (λ u t' g' d. gives (λ w. types-in S 0 t'.names ts (all-more (λ e. IsTyStrIn S t.names e.1) (λ e. IsTyStrIn S t'.names e.1) (λ e k. str-more S t.made t.names t'.made t'.names g'.made g'.names e.1 k) ts q))))
 
-  pub exceptions-lead : (C : Env N) (vs : Map (MlType N)) (bs : List (ExnBind P)) → EnvAt S C s → TypesAt S vs s
-      → Leads S scope s (look (read_exceptions scope C vs [] bs)) (λ m t. Each (IsValueIn S t.made t.names) m)
-  exceptions-lead C vs bs c h =
-      knows (λ w. looks {Q = λ m t. Each (IsValueIn S t.made t.names) m} (read_exceptions scope C vs [] bs) (λ m e.
-      exceptions-in scope.names S w.shape s.made s.names C c w.well.initials vs h [] bs m tt (exceptions-to scope C vs [] bs m e)))
+  -- below whatever number the unknowns are
+  pub exceptions-lead : (C : Env N) (vs : Map (MlType N)) (bs : List (ExnBind P))
+      → Leads S scope s (look (read_exceptions scope C vs [] bs)) (λ m t. (k : ℕ) → IsEnvIn S k t.names C → AreTypesIn S k t.names vs → Each (IsValueIn S k t.names) m)
+  exceptions-lead C vs bs =
+      knows (λ w. looks (read_exceptions scope C vs [] bs) (λ m e k c h.
+      exceptions-in scope.names S w.shape k s.names C c w.well.initials vs h [] bs m tt (exceptions-to scope C vs [] bs m e)))
 
-  pub opened-leads : (C : Env N) (ss : List (LongName P)) → EnvAt S C s → Leads S scope s (look (read_opened scope C empty ss)) (EnvAt S)
-  opened-leads C ss c =
-      knows (λ w. looks (read_opened scope C empty ss) (λ E e. opened-in scope.names S w.shape s.made s.names C c empty ss E (empty-in S s.made s.names) (opened-to scope C empty ss E e)))
+  pub opened-leads : (C : Env N) (ss : List (LongName P)) → Leads S scope s (look (read_opened scope C empty ss)) (λ E t. (k : ℕ) → IsEnvIn S k t.names C → IsEnvIn S k t.names E)
+  opened-leads C ss =
+      knows (λ w. looks (read_opened scope C empty ss) (λ E e k c. opened-in scope.names S w.shape k s.names C c empty ss E (empty-in S k s.names) (opened-to scope C empty ss E e)))
 
-  pub copied-leads : (x : Id) (t : TyStr N) → IsTyStrIn S s.names t → Leads S scope s (give (maps no_structure ((x, t) ∷ []) (constructor_values t.constructors))) (EnvAt S)
-  copied-leads x t h = gives (λ w. copied-in scope.names S w.shape s.names s.made x t h)
+  pub copied-leads : (x : Id) (t : TyStr N) → IsTyStrIn S s.names t → Leads S scope s (give (maps no_structure ((x, t) ∷ []) (constructor_values t.constructors))) (NoneAt S)
+  copied-leads x t h = gives (λ w. copied-in scope.names S w.shape s.names 0 x t h)
 
-  pub datatypes-lead : (p : P) (C : Env N) (ds : List (DatBind P)) → EnvAt S C s → Leads S scope s (read_datatypes scope p C ds) (EnvAt S)
+  pub datatypes-lead : (p : P) (C : Env N) (ds : List (DatBind P)) → EnvAt S C s → Leads S scope s (read_datatypes scope p C ds) (NoneAt S)
   unfolding IsAnswer
   datatypes-lead p C ds c = record { ends = λ w r a. go w r a }
     where
-      go : Known S scope s → (r : Env N × State P N) → IsAnswer scope (read_datatypes scope p C ds) s (accepted r) → Known S scope r.1 × IsGrown s r.1 × EnvAt S r.0 r.1
+      go : Known S scope s → (r : Env N × State P N) → IsAnswer scope (read_datatypes scope p C ds) s (accepted r) → Known S scope r.1 × IsGrown s r.1 × NoneAt S r.0 r.1
       go w r (ns, new, made, inl h) = absurd (not_refused h.2)
       go w r (ns, new, made, inr (gs, e, admits, a)) =
           let t : State P N = with_made ns s in
-          let g : IsGrown s t = record { made = omega arith; names = λ n h. right n ns s.names h } in
+          let g : IsGrown s t = record { made = omega arith; names = λ n h. right n ns s.names h; stays_open = λ e. e } in
           let own : AreNamed scope.names S w.shape t.names ds ns = new-named scope.names S w.shape t.names ds (names_env C ++ s.names) ns new (λ n h. left n ns s.names h) in
           let inside : EnvAt S (extend C (of_types (datatype_types [] ds ns))) t =
           extend-in S s.made t.names C (of_types (datatype_types [] ds ns)) (env-up S g C c)
           (types-in S s.made t.names (datatype_types [] ds ns) (types-of-datatypes-in scope.names S w.shape t.names [] ds ns own tt)) in
           let args = all-arguments-in scope.names S w.shape s.made t.names (extend C (of_types (datatype_types [] ds ns))) inside ds gs (all-arguments-to (extend C (of_types (datatype_types [] ds ns))) ds gs e) in
-          let given : EnvAt S (datatype_envs ds (with_names ns gs)) t =
-          datatypes-in scope.names S w.shape t.names s.made ds (with_names ns gs) (with-names-in scope.names S w.shape t.names ds ns gs own args) in
-          continues {Q = EnvAt S} s t _ g (grown-well s t g refl refl)
-          (first tests (λ u t' g' d. gives (λ w. env-up S g' (datatype_envs ds (with_names ns gs)) given))) w r a
+          let given : NoneAt S (datatype_envs ds (with_names ns gs)) t =
+          datatypes-in scope.names S w.shape t.names 0 ds (with_names ns gs) (with-names-in scope.names S w.shape t.names ds ns gs own args) in
+          continues {Q = NoneAt S} s t _ g (grown-well s t g refl refl)
+          (first tests (λ u t' g' d. gives (λ w. none-up S g' (datatype_envs ds (with_names ns gs)) given))) w r a

@@ -1,5 +1,5 @@
 -- Expressions and declarations are read to what was made.
-use Rattle.std.specs.Prelude.{ℕ, ◌++◌, true, false, List, [], ◌∷◌, map, Option, Some, None}
+use Rattle.std.specs.Prelude.{Bool, ℕ, ◌++◌, true, false, List, [], ◌∷◌, map, Option, Some, None, ◌≡◌}
 use Rattle.std.specs.List.{AllByRecursion}
 use Rattle.sml_tree.specs.Withtype.{dat_replaced}
 use Rattle.sml_tree.specs.Expressions.{Exp, Exps, Fields, Rules, Dec, Decs, ValBinds, constant, name, row, tuple, let_in, bracket, apply, typed, handle, raise, fn, no_exp, and_exp, field, no_field, and_field, rule, no_rule, and_rule, val_dec, type_dec, datatype_dec, datatype_with, datatype_copy, exception_dec, local_dec, sequence_dec, open_dec, fixity_dec, no_dec, and_dec, bind, no_bind, and_bind}
@@ -16,11 +16,12 @@ use Rattle.sml_core_rules.specs.Types as T
 use Rattle.sml_core_rules.specs.Types.{put_field}
 use Rattle.sml_core_rules.proofs.Derived.{needed}
 use Rattle.std.specs.List.Sorted.{IsStrictlySortedBy}
+use Rattle.std.proofs.lemmas.Bool.{false≢true}
 use Rattle.sml_core_laws.proofs.MadeShapes.{Rise, put-rises, row-speaks}
 use Rattle.sml_core_laws.specs.Made.{Speaks, IsTyStrIn, IsGrown, IsHeadIn}
 use Rattle.sml_core_laws.proofs.MadeTypes.{all-more, all-join, each-field}
 use Rattle.sml_core_laws.proofs.MadeEnvs.{extend-in, empty-in, values-in, type-found}
-use Rattle.sml_core_laws.proofs.MadeScripts.{TypeAt, TypesAt, EnvAt, Done, Leads, onwards, type-up, types-up, env-up, first, gives, knows, looks, tests, makes-one, requires, equals, judges, sees}
+use Rattle.sml_core_laws.proofs.MadeScripts.{TypeAt, TypesAt, EnvAt, Done, Leads, onwards, type-up, types-up, env-up, first, gives, knows, looks, tests, makes-one, requires, equals, judges, sees, NoneAt, NoTypesAt, none-up, no-types-up, none-env, weakens}
 use Rattle.sml_core_laws.proofs.MadePatterns.{AllAt, values-up, constant-in, instance-leads, applied-leads, value-leads, constraint-leads, pat-leads}
 use Rattle.sml_core_laws.proofs.MadeBindings.{types-lead, datatypes-lead, exceptions-lead, opened-leads, copied-leads}
 use Rattle.sml_core_laws.proofs.MadeValues.{BoundsAt, bounds-up, bounds-at, after-at, bound-at, begun-up, bindings-lead, begins, value-ends}
@@ -47,6 +48,28 @@ module _ {P N : Type 0} (S : Head N → ℕ → Type 0) where
   abbrev RisingAt : T.Fields (MlType N) → State P N → Type 0
   RisingAt fs s = TypesAt S fs s × Rise fs
 
+  -- where this is asked and the state isn't open, no unknown stands in an environment, or in types
+  abbrev ClosedAt : Bool → Env N → State P N → Type 0
+  ClosedAt flag E s = flag ≡ true → s.is_open ≡ false → NoneAt S E s
+
+  abbrev NoneOpenAt : Bool → Map (MlType N) → State P N → Type 0
+  NoneOpenAt flag ts s = flag ≡ true → s.is_open ≡ false → NoTypesAt S ts s
+
+  abbrev pub DecAt : Bool → Env N → State P N → Type 0
+  DecAt flag E s = EnvAt S E s × ClosedAt flag E s
+
+  closed-up : {s t : State P N} → IsGrown s t → (flag : Bool) (E : Env N) → ClosedAt flag E s → ClosedAt flag E t
+  closed-up g flag E h = λ a o. none-up S g E (h a (g.stays_open o))
+
+  none-open-up : {s t : State P N} → IsGrown s t → (flag : Bool) (ts : Map (MlType N)) → NoneOpenAt flag ts s → NoneOpenAt flag ts t
+  none-open-up g flag ts h = λ a o. no-types-up S g ts (h a (g.stays_open o))
+
+  closed-extend : (flag : Bool) (s : State P N) (E F : Env N) → ClosedAt flag E s → ClosedAt flag F s → ClosedAt flag (extend E F) s
+  closed-extend flag s E F h k = λ a o. extend-in S 0 s.names E F (h a o) (k a o)
+
+  none-dec : (flag : Bool) (s : State P N) (E : Env N) → NoneAt S E s → DecAt flag E s
+  none-dec flag s E h = (none-env S s E h, (λ a o. h))
+
 module _ {P N : Type 0} {S : Head N → ℕ → Type 0} {scope : Scope N} where
   like-first-leads : {s : State P N} (p : P) (f : Option (MlType N)) (t : MlType N) → FirstAt S f s → TypeAt S t s → Leads S scope s (like_first scope p f t) (TypeAt S)
   like-first-leads p None t h k = gives (λ w. k)
@@ -66,9 +89,9 @@ module _ {P N : Type 0} {S : Head N → ℕ → Type 0} {scope : Scope N} where
     exp-leads C vs (tuple p es) c h = first (exps-lead C vs es c h) (λ ts s g q. gives (λ w. ((tt, w.shape.tuples ts), q)))
     exp-leads C vs (let_in p ds e) c h =
         first sees (λ x s g q.
-        first (decs-lead C vs empty ds (env-up S g C c) (types-up S g vs h) (empty-in S s.made s.names)) (λ E t g' f.
+        first (decs-lead C vs empty ds false (env-up S g C c) (types-up S g vs h) (empty-in S s.made s.names) (λ a. absurd (false≢true a)) (λ a. absurd (false≢true a)) (λ a. absurd (false≢true a))) (λ E t g' f.
         let k = onwards g g' in
-        first (exp-leads (extend C E) vs e (extend-in S t.made t.names C E (env-up S k C c) f) (types-up S k vs h)) (λ t u i a.
+        first (exp-leads (extend C E) vs e (extend-in S t.made t.names C E (env-up S k C c) f.0) (types-up S k vs h)) (λ t u i a.
         first (requires a) (λ x z j d. gives (λ w. type-up S j t a)))))
     exp-leads C vs (bracket p e) c h = exp-leads C vs e c h
     exp-leads C vs (apply p f e) c h =
@@ -114,37 +137,51 @@ module _ {P N : Type 0} {S : Head N → ℕ → Type 0} {scope : Scope N} where
         first (knows (λ w. like-first-leads p f (arrow_of r.type t) (first-up S i f k) ((tt, w.shape.arrows), (type-up S (onwards g2 g3) r.type a.0, (b, tt))))) (λ v s4 g4 l.
         let j = onwards i g4 in rules-lead C vs (Some v) m (env-up S j C c) (types-up S j vs h) l))))
 
-    decs-lead : (C : Env N) (vs : Map (MlType N)) (F : Env N) (ds : Decs P) {s : State P N} → EnvAt S C s → TypesAt S vs s → EnvAt S F s → Leads S scope s (read_decs scope C vs F ds) (EnvAt S)
-    decs-lead C vs F no_dec c h k = gives (λ w. k)
-    decs-lead C vs F (and_dec d ds) c h k =
-        first (dec-leads C vs d c h) (λ E s g a.
-        decs-lead (extend C E) vs (extend F E) ds (extend-in S s.made s.names C E (env-up S g C c) a) (types-up S g vs h) (extend-in S s.made s.names F E (env-up S g F k) a))
+    -- Where this is asked and the state isn't open, no unknown stands in what is read with, and then none in what is given.
+    decs-lead : (C : Env N) (vs : Map (MlType N)) (F : Env N) (ds : Decs P) {s : State P N} (flag : Bool) → EnvAt S C s → TypesAt S vs s → EnvAt S F s → ClosedAt S flag C s → NoneOpenAt S flag vs s → ClosedAt S flag F s
+        → Leads S scope s (read_decs scope C vs F ds) (DecAt S flag)
+    decs-lead C vs F no_dec flag c h k c0 h0 k0 = gives (λ w. (k, k0))
+    decs-lead C vs F (and_dec d ds) flag c h k c0 h0 k0 =
+        first (dec-leads C vs d flag c h c0 h0) (λ E s g a.
+        decs-lead (extend C E) vs (extend F E) ds flag (extend-in S s.made s.names C E (env-up S g C c) a.0) (types-up S g vs h) (extend-in S s.made s.names F E (env-up S g F k) a.0)
+        (closed-extend S flag s C E (closed-up S g flag C c0) a.1) (none-open-up S g flag vs h0) (closed-extend S flag s F E (closed-up S g flag F k0) a.1))
 
-    pub dec-leads : (C : Env N) (vs : Map (MlType N)) (d : Dec P) {s : State P N} → EnvAt S C s → TypesAt S vs s → Leads S scope s (read_dec scope C vs d) (EnvAt S)
-    dec-leads C vs (val_dec p xs bs rs) c h =
+    pub dec-leads : (C : Env N) (vs : Map (MlType N)) (d : Dec P) {s : State P N} (flag : Bool) → EnvAt S C s → TypesAt S vs s → ClosedAt S flag C s → NoneOpenAt S flag vs s
+        → Leads S scope s (read_dec scope C vs d) (DecAt S flag)
+    dec-leads C vs (val_dec p xs bs rs) flag c h c0 h0 =
         first (begins p vs (map (λ x. x.id) xs ++ (unguarded bs ++ unguarded rs)) h) (λ b s1 g1 k.
         first (binds-lead C b.variables [] [] bs (env-up S g1 C c) k.1 tt tt) (λ r s2 g2 a.
         let g12 = onwards g1 g2 in
         first (patterns-lead C b.variables r.0 [] rs (env-up S g12 C c) (types-up S g2 b.variables k.1) a.0 tt) (λ q s3 g3 l.
         let g23 = onwards g2 g3 in
         first (rights-lead (extend C (of_values (bound_values q.1))) b.variables q.0 rs (bound-env S s3 C q.1 (env-up S (onwards g1 g23) C c) l.1) (types-up S g23 b.variables k.1) l.0) (λ u s4 g4 d.
-        value-ends p b (r.1 ++ bounds false q.1) (begun-up S (onwards g23 g4) b k)
-        (all-join (λ b. TypeAt S b.type s4) r.1 (bounds false q.1) (bounds-up S (onwards g3 g4) r.1 a.1) (bounds-at S s4 false q.1 (types-up S g4 q.1 l.1)))))))
-    dec-leads C vs (type_dec p bs) c h = types-lead p C bs c
-    dec-leads C vs (datatype_dec p ds) c h = datatypes-lead p C ds c
-    dec-leads C vs (datatype_with p ds bs) c h =
+        weakens
+        (value-ends p b (r.1 ++ bounds false q.1) (begun-up S (onwards g23 g4) b k)
+        (all-join (λ b. TypeAt S b.type s4) r.1 (bounds false q.1) (bounds-up S (onwards g3 g4) r.1 a.1) (bounds-at S s4 false q.1 (types-up S g4 q.1 l.1))))
+        (λ E t g e. (e.0, (λ a. e.1)))))))
+    dec-leads C vs (type_dec p bs) flag c h c0 h0 = weakens (types-lead p C bs c) (λ E t g e. none-dec S flag t E e)
+    dec-leads C vs (datatype_dec p ds) flag c h c0 h0 = weakens (datatypes-lead p C ds c) (λ E t g e. none-dec S flag t E e)
+    dec-leads C vs (datatype_with p ds bs) flag c h c0 h0 =
         first (datatypes-lead p C (map (dat_replaced bs) ds) c) (λ E s g a.
-        first (types-lead p (extend C E) bs (extend-in S s.made s.names C E (env-up S g C c) a)) (λ F s' g' b. gives (λ w. extend-in S s'.made s'.names E F (env-up S g' E a) b)))
-    dec-leads C vs (datatype_copy p x y) {s} c h =
-        first (looks {Q = λ t s. IsTyStrIn S s.names t} _ (λ t e. type-found S s.made s.names C y.id t c (needed _ _ y.id _ t e))) (λ t s' g a. copied-leads x.id t a)
-    dec-leads C vs (exception_dec p bs) c h =
-        first (exceptions-lead C vs bs c h) (λ m s g a. first tests (λ u s' g' d. gives (λ w. values-in S s'.made s'.names m (values-up S g' m a))))
-    dec-leads C vs (local_dec p ds es) {s} c h =
-        first (decs-lead C vs empty ds c h (empty-in S s.made s.names)) (λ E s g a.
-        decs-lead (extend C E) vs empty es (extend-in S s.made s.names C E (env-up S g C c) a) (types-up S g vs h) (empty-in S s.made s.names))
-    dec-leads C vs (sequence_dec p ds) {s} c h = decs-lead C vs empty ds c h (empty-in S s.made s.names)
-    dec-leads C vs (open_dec p ss) c h = opened-leads C ss c
-    dec-leads C vs (fixity_dec p) {s} c h = gives (λ w. empty-in S s.made s.names)
+        first (types-lead p (extend C E) bs (extend-in S s.made s.names C E (env-up S g C c) (none-env S s E a))) (λ F t i b.
+        gives (λ w. none-dec S flag t (extend E F) (extend-in S 0 t.names E F (none-up S i E a) b))))
+    dec-leads C vs (datatype_copy p x y) {s} flag c h c0 h0 =
+        first (looks {Q = λ t s. IsTyStrIn S s.names t} _ (λ t e. type-found S s.made s.names C y.id t c (needed _ _ y.id _ t e))) (λ t s g a.
+        weakens (copied-leads x.id t a) (λ E z i e. none-dec S flag z E e))
+    dec-leads C vs (exception_dec p bs) flag c h c0 h0 =
+        first (exceptions-lead C vs bs) (λ m s g q.
+        first tests (λ u t i d.
+        gives (λ w. (
+          values-in S t.made t.names m (values-up S i m (q s.made (env-up S g C c) (types-up S g vs h))),
+          (λ a o. let f = g.stays_open (i.stays_open o) in none-up S i (of_values m) (values-in S 0 s.names m (q 0 (none-up S g C (c0 a f)) (no-types-up S g vs (h0 a f))))),
+        ))))
+    dec-leads C vs (local_dec p ds es) {s} flag c h c0 h0 =
+        first (decs-lead C vs empty ds flag c h (empty-in S s.made s.names) c0 h0 (λ a o. empty-in S 0 s.names)) (λ E t g a.
+        decs-lead (extend C E) vs empty es flag (extend-in S t.made t.names C E (env-up S g C c) a.0) (types-up S g vs h) (empty-in S t.made t.names)
+        (closed-extend S flag t C E (closed-up S g flag C c0) a.1) (none-open-up S g flag vs h0) (λ a o. empty-in S 0 t.names))
+    dec-leads C vs (sequence_dec p ds) {s} flag c h c0 h0 = decs-lead C vs empty ds flag c h (empty-in S s.made s.names) c0 h0 (λ a o. empty-in S 0 s.names)
+    dec-leads C vs (open_dec p ss) flag c h c0 h0 = weakens (opened-leads C ss) (λ E t g q. (q t.made (env-up S g C c), (λ a o. q 0 (none-up S g C (c0 a (g.stays_open o))))))
+    dec-leads C vs (fixity_dec p) {s} flag c h c0 h0 = gives (λ w. none-dec S flag s empty (empty-in S 0 s.names))
 
     binds-lead : (C : Env N) (vs : Map (MlType N)) (seen : Bindings N) (done : List (E.Bound N)) (bs : ValBinds P) {s : State P N} → EnvAt S C s → TypesAt S vs s → TypesAt S seen s → BoundsAt S done s
         → Leads S scope s (read_binds scope C vs seen done bs) (λ r t. TypesAt S r.0 t × BoundsAt S r.1 t)

@@ -132,7 +132,7 @@ module _ {P N : Type 0} {S : Head N → ℕ → Type 0} {scope : Scope N} where
 
   module _ (is_rec : Bool) (C : Env N) (vs : Map (MlType N)) where
     named-leads : {s : State P N} (p : P) (x : LongName P) (bs : Bindings N) → EnvAt S C s → TypesAt S bs s → Leads S scope s (read_named scope is_rec C vs p x bs) (PatternAt S)
-    named-leads {s} p x bs c h = chooses (is_empty x.id.path) (chooses (is_variable_alone is_rec C x.id.last) (variable-leads x.place x.id.last bs h) constant) constant
+    named-leads {s} p x bs c h = chooses (is_empty x.id.path) (λ e. chooses (is_variable_alone is_rec C x.id.last) (λ e. variable-leads x.place x.id.last bs h) (λ e. constant)) (λ e. constant)
       where
         constant : Leads S scope s (find_value C x >>= λ v. constructor_instance scope p x.place false v >>= λ t. give (typed t bs)) (PatternAt S)
         constant = first (value-leads C x c) (λ v t g q. first (constructor-leads p x.place false v q) (λ u t' g' q. gives (λ w. (q, types-up S (onwards g g') bs h))))

@@ -27,16 +27,19 @@ module _ {P N : Type 0} where
   abbrev pub Done : Unit {0} → State P N → Type 0
   Done u s = Unit {0}
 
+  abbrev pub Opened : Unit {0} → State P N → Type 0
+  Opened u s = s.is_open ≡ true
+
   -- growing
 
   pub unchanged : {s : State P N} → IsGrown s s
-  unchanged = record { made = omega arith; names = λ n h. h }
+  unchanged = record { made = omega arith; names = λ n h. h; stays_open = λ e. e }
 
   pub onwards : {s t u : State P N} → IsGrown s t → IsGrown t u → IsGrown s u
-  onwards g h = record { made = (let l = g.made in let m = h.made in omega arith); names = λ n k. h.names n (g.names n k) }
+  onwards g h = record { made = (let l = g.made in let m = h.made in omega arith); names = λ n k. h.names n (g.names n k); stays_open = λ e. g.stays_open (h.stays_open e) }
 
   unknowns-grown : (n : ℕ) (s : State P N) → IsGrown s (with_unknowns n s)
-  unknowns-grown n s = record { made = omega arith; names = λ n h. h }
+  unknowns-grown n s = record { made = omega arith; names = λ n h. h; stays_open = λ e. e }
 
 -- what speaks of what a state has made
 module _ {P N : Type 0} (S : Head N → ℕ → Type 0) where
@@ -49,11 +52,21 @@ module _ {P N : Type 0} (S : Head N → ℕ → Type 0) where
   abbrev pub EnvAt : Env N → State P N → Type 0
   EnvAt E s = IsEnvIn S s.made s.names E
 
+  -- without unknowns
+  abbrev pub NoneAt : Env N → State P N → Type 0
+  NoneAt E s = IsEnvIn S 0 s.names E
+
+  abbrev pub NoTypesAt : Map (MlType N) → State P N → Type 0
+  NoTypesAt ts s = AreTypesIn S 0 s.names ts
+
   abbrev pub WindowAt : Window P N → State P N → Type 0
   WindowAt w s = IsWindowIn S s.made s.names w
 
   abbrev pub SchemeAt : Scheme N → State P N → Type 0
   SchemeAt σ s = IsSchemeIn S s.made s.names σ
+
+  pub none-env : (s : State P N) (E : Env N) → NoneAt E s → EnvAt E s
+  none-env s E h = env-more S 0 s.names s.made s.names (omega arith) (λ n k. k) E h
 
   module _ {s t : State P N} (g : IsGrown s t) where
     pub type-up : (u : MlType N) → TypeAt u s → TypeAt u t
@@ -64,6 +77,12 @@ module _ {P N : Type 0} (S : Head N → ℕ → Type 0) where
 
     pub env-up : (E : Env N) → EnvAt E s → EnvAt E t
     env-up E h = env-more S s.made s.names t.made t.names g.made g.names E h
+
+    pub none-up : (E : Env N) → NoneAt E s → NoneAt E t
+    none-up E h = env-more S 0 s.names 0 t.names (omega arith) g.names E h
+
+    pub no-types-up : (us : Map (MlType N)) → NoTypesAt us s → NoTypesAt us t
+    no-types-up us h = all-more (λ u. IsTypeIn S 0 s.names u.1) (λ u. IsTypeIn S 0 t.names u.1) (λ u k. type-more S 0 s.names 0 t.names (omega arith) g.names u.1 k) us h
 
     demand-up : (d : Demand N (List N)) → IsDemandIn S s.made s.names d → IsDemandIn S t.made t.names d
     demand-up (equal u w) h = (type-up u h.0, type-up w h.1)
@@ -116,9 +135,14 @@ module _ {P N : Type 0} {S : Head N → ℕ → Type 0} {scope : Scope N} where
   looks (refused f) q = refuses
   looks (accepted x) q = gives (λ w. q x refl)
 
-  pub chooses : {X : Type 0} {s : State P N} {k j : Script P N X} {Q : X → State P N → Type 0} (b : Bool) → Leads S scope s k Q → Leads S scope s j Q → Leads S scope s (cond b k j) Q
-  chooses true h i = h
-  chooses false h i = i
+  pub chooses : {X : Type 0} {s : State P N} {k j : Script P N X} {Q : X → State P N → Type 0} (b : Bool) → (b ≡ true → Leads S scope s k Q) → (b ≡ false → Leads S scope s j Q)
+      → Leads S scope s (cond b k j) Q
+  chooses true h i = h refl
+  chooses false h i = i refl
+
+  -- less of what is given
+  pub weakens : {X : Type 0} {s : State P N} {m : Script P N X} {Q R : X → State P N → Type 0} → Leads S scope s m Q → ((x : X) (t : State P N) → IsGrown s t → Q x t → R x t) → Leads S scope s m R
+  weakens h f = record { ends = λ w r a. let c = h.ends w r a in (c.0, c.1, f r.0 r.1 c.1 c.2) }
 
   pub tests : {s : State P N} {C : Type 0} {f : Fault P} → Leads S scope s (test C f) Done
   unfolding IsAnswer
@@ -168,7 +192,7 @@ module _ {P N : Type 0} {S : Head N → ℕ → Type 0} {scope : Scope N} where
     where
       go : Known S scope s → (r : Unit {0} × State P N) → IsAnswer scope (require d p) s (accepted r) → Known S scope r.1 × IsGrown s r.1 × Unit {0}
       go w r (inl h) =
-          continues {Q = Done} s (with_demand d s) (give tt) (record { made = omega arith; names = λ n h. h })
+          continues {Q = Done} s (with_demand d s) (give tt) (record { made = omega arith; names = λ n h. h; stays_open = λ e. e })
           (λ w. record { shape = w.shape; well = record { initials = w.well.initials; demands = (i, w.well.demands); window = w.well.window; met = h.0 } }) (gives (λ w. tt)) w r h.1
       go w r (inr h) = absurd (not_refused h.2)
 
@@ -178,21 +202,21 @@ module _ {P N : Type 0} {S : Head N → ℕ → Type 0} {scope : Scope N} where
   pub sets : {s : State P N} {v : Window P N} → IsWindowIn S s.made s.names v → Leads S scope s (set_window v) Done
   unfolding IsAnswer
   sets {s} {v} i = record {
-    ends = continues s (with_window v s) (give tt) (record { made = omega arith; names = λ n h. h })
+    ends = continues s (with_window v s) (give tt) (record { made = omega arith; names = λ n h. h; stays_open = λ e. e })
         (λ w. record { shape = w.shape; well = record { initials = w.well.initials; demands = w.well.demands; window = i; met = w.well.met } }) (gives (λ w. tt));
   }
 
-  pub opens : {s : State P N} → Leads S scope s stay_open Done
+  pub opens : {s : State P N} → Leads S scope s stay_open Opened
   unfolding IsAnswer
   opens {s} = record {
-    ends = continues s (record s { is_open = true }) (give tt) (record { made = omega arith; names = λ n h. h })
-        (λ w. record { shape = w.shape; well = record { initials = w.well.initials; demands = w.well.demands; window = w.well.window; met = w.well.met } }) (gives (λ w. tt));
+    ends = continues {Q = Opened} s (record s { is_open = true }) (give tt) (record { made = omega arith; names = λ n h. h; stays_open = λ e. let f : true ≡ false = e in absurd cc })
+        (λ w. record { shape = w.shape; well = record { initials = w.well.initials; demands = w.well.demands; window = w.well.window; met = w.well.met } }) (gives (λ w. refl));
   }
 
   pub judges : {s : State P N} {j : Judged P} → Leads S scope s (judge j) Done
   unfolding IsAnswer
   judges {s} {j} = record {
-    ends = continues s (record s { judged = j ∷ s.judged }) (give tt) (record { made = omega arith; names = λ n h. h })
+    ends = continues s (record s { judged = j ∷ s.judged }) (give tt) (record { made = omega arith; names = λ n h. h; stays_open = λ e. e })
         (λ w. record { shape = w.shape; well = record { initials = w.well.initials; demands = w.well.demands; window = w.well.window; met = w.well.met } }) (gives (λ w. tt));
   }
 

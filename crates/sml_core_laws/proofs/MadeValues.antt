@@ -1,27 +1,53 @@
 -- The beginning and the end of a value declaration keep to what was made.
-use Rattle.std.specs.Prelude.{◌<◌, ℕ, zero, suc, Bool, true, false, List, [], ◌∷◌, length, drop}
+use Rattle.std.specs.Prelude.{◌<◌, ℕ, zero, suc, Bool, true, false, List, [], ◌∷◌, length, drop, ◌≡◌, ◌||◌}
 use Rattle.std.specs.List.{AllByRecursion}
 use Rattle.std.proofs.Common.{arith}
 use Rattle.sml_tree.specs.Trees.{Id}
 use Rattle.sml_objects.specs.Maps.{Map}
 use Rattle.sml_objects.specs.Names.{int}
-use Rattle.sml_objects.specs.Objects.{MlType, Scheme, free, Head}
+use Rattle.sml_objects.specs.Objects.{MlType, Scheme, free, Head, MlTypes, bound, app, no_type, and_type}
 use Rattle.sml_layers.specs.declared.layer.Bound.{Bound}
 use Rattle.sml_core_rules.specs.Datatypes.{is_equality}
 use Rattle.sml_core_rules.specs.Expressions as E
 use Rattle.sml_core_rules.specs.Expressions.{Begun, bound_values, bounds, after, closed_values, not_in_scope, require_bindings, admit_equality, scope_variables, begin_values, settle, require_labels, require_general, require_small, close_all, require_bounds, end_values}
 use Rattle.sml_core_rules.specs.Patterns.{Bindings}
 use Rattle.sml_core_rules.specs.States.{Scope, State}
-use Rattle.sml_core_rules.specs.Values.{require_so_far, has_unknown}
-use Rattle.sml_core_laws.specs.Made.{Speaks, IsValueIn, IsGrown}
+use Rattle.sml_core_rules.specs.Values.{require_so_far, has_unknown, have_unknown}
+use Rattle.std.proofs.lemmas.Bool.{false≢true}
+use mathlib.Core.Path.{refl, sym, ◌∙◌}
+use Rattle.sml_core_laws.specs.Made.{Speaks, IsValueIn, IsGrown, AllSpeak}
 use Rattle.sml_core_laws.proofs.MadeTypes.{speaks-more, all-more, Each, each-put}
 use Rattle.sml_core_laws.proofs.MadeEnvs.{values-in, scheme-more}
-use Rattle.sml_core_laws.proofs.MadeScripts.{TypeAt, TypesAt, EnvAt, WindowAt, SchemeAt, Done, Leads, onwards, type-up, types-up, window-up, first, gives, knows, chooses, tests, where-so, makes, requires, equals, sets, opens, sees, closes}
+use Rattle.sml_core_laws.proofs.MadeScripts.{TypeAt, TypesAt, EnvAt, WindowAt, SchemeAt, Done, Leads, onwards, type-up, types-up, window-up, first, gives, knows, chooses, tests, where-so, makes, requires, equals, sets, opens, sees, closes, NoneAt, weakens}
 
 all-drop : {X : Type 0} (F : X → Type 0) (n : ℕ) (xs : List X) → AllByRecursion F xs → AllByRecursion F (drop n xs)
 all-drop F zero xs h = h
 all-drop F (suc n) [] h = h
 all-drop F (suc n) (x ∷ xs) h = all-drop F n xs h.1
+
+neither : (b c : Bool) → (b || c) ≡ false → (b ≡ false) × (c ≡ false)
+neither true c h = absurd (false≢true (sym h))
+neither false c h = (refl, h)
+
+-- types in which no unknown stands
+module _ {N : Type 0} (B V W : ℕ → Type 0) (H : Head N → ℕ → Type 0) where
+  mutual
+    unfolding Speaks has_unknown
+
+    no-unknown : (t : MlType N) → Speaks B V H t → has_unknown t ≡ false → Speaks B W H t
+    no-unknown (bound k) h e = h
+    no-unknown (free v) h e = absurd (false≢true (sym e))
+    no-unknown (app g ts) h e = (h.0, all-no-unknown ts h.1 e)
+
+    all-no-unknown : (ts : MlTypes N) → AllSpeak B V H ts → have_unknown ts ≡ false → AllSpeak B W H ts
+    all-no-unknown no_type h e = tt
+    all-no-unknown (and_type t ts) h e = let b = neither (has_unknown t) (have_unknown ts) e in (no-unknown t h.0 b.0, all-no-unknown ts h.1 b.1)
+
+-- the schemes of a declaration, of which no unknown stands in any
+abbrev HaveNone : {N : Type 0} → List (E.Bound N) → List (Scheme N) → Type 0
+HaveNone [] σs = Unit {0}
+HaveNone (b ∷ bs) [] = Unit {0}
+HaveNone (b ∷ bs) (σ ∷ σs) = (has_unknown σ.body ≡ false) × HaveNone bs σs
 
 module _ {P N : Type 0} (S : Head N → ℕ → Type 0) where
   abbrev pub BoundsAt : List (E.Bound N) → State P N → Type 0
@@ -58,6 +84,11 @@ module _ {P N : Type 0} (S : Head N → ℕ → Type 0) where
   closed-at s [] σs h = tt
   closed-at s (b ∷ bs) [] h = tt
   closed-at s (b ∷ bs) (σ ∷ σs) h = each-put (IsValueIn S s.made s.names) b.id _ (closed_values bs σs) (h.0, tt) (closed-at s bs σs h.1)
+
+  none-at : (s : State P N) (bs : List (E.Bound N)) (σs : List (Scheme N)) → SchemesAt σs s → HaveNone bs σs → Each (IsValueIn S 0 s.names) (closed_values bs σs)
+  none-at s [] σs h k = tt
+  none-at s (b ∷ bs) [] h k = tt
+  none-at s (b ∷ bs) (σ ∷ σs) h k = each-put (IsValueIn S 0 s.names) b.id _ (closed_values bs σs) (no-unknown _ _ _ _ σ.body h.0 k.0, tt) (none-at s bs σs h.1 k.1)
 
 module _ {P N : Type 0} {S : Head N → ℕ → Type 0} {scope : Scope N} where
   pub so-far-leads : {s : State P N} (b : Bound) (p : P) (t : MlType N) → TypeAt S t s → Leads S scope s (require_so_far b p t) Done
@@ -106,15 +137,16 @@ module _ {P N : Type 0} {S : Head N → ℕ → Type 0} {scope : Scope N} where
   all-close k (b ∷ bs) h =
       first (closes h.0) (λ σ s g q. first (all-close k bs (bounds-up S g bs h.1)) (λ σs t i r. gives (λ w. (scheme-more S s.made s.names t.made t.names i.made i.names σ q, r))))
 
-  bounds-lead : (p : P) (bs : List (E.Bound N)) (σs : List (Scheme N)) {s : State P N} → BoundsAt S bs s → Leads S scope s (require_bounds scope p bs σs) Done
-  bounds-lead p [] σs h = gives (λ w. tt)
-  bounds-lead p (b ∷ bs) [] h = gives (λ w. tt)
+  bounds-lead : (p : P) (bs : List (E.Bound N)) (σs : List (Scheme N)) {s : State P N} → BoundsAt S bs s → Leads S scope s (require_bounds scope p bs σs) (λ u t. t.is_open ≡ false → HaveNone bs σs)
+  bounds-lead p [] σs h = gives (λ w e. tt)
+  bounds-lead p (b ∷ bs) [] h = gives (λ w e. tt)
   bounds-lead p (b ∷ bs) (σ ∷ σs) h =
       chooses (has_unknown σ.body)
-      (first opens (λ u s g d. first (so-far-leads _ p b.type (type-up S g b.type h.0)) (λ u t i d. bounds-lead p bs σs (bounds-up S (onwards g i) bs h.1))))
-      (bounds-lead p bs σs h.1)
+      (λ e. first opens (λ u s g o. first (so-far-leads _ p b.type (type-up S g b.type h.0)) (λ u t i d.
+      weakens (bounds-lead p bs σs (bounds-up S (onwards g i) bs h.1)) (λ u z j q f. absurd (false≢true (sym (i.stays_open (j.stays_open f)) ∙ o))))))
+      (λ e. weakens (bounds-lead p bs σs h.1) (λ u z j q f. (e, q f)))
 
-  pub value-ends : {s : State P N} (p : P) (b : Begun P N) (bs : List (E.Bound N)) → BegunAt S b s → BoundsAt S bs s → Leads S scope s (end_values scope p b bs) (EnvAt S)
+  pub value-ends : {s : State P N} (p : P) (b : Begun P N) (bs : List (E.Bound N)) → BegunAt S b s → BoundsAt S bs s → Leads S scope s (end_values scope p b bs) (λ E t. EnvAt S E t × (t.is_open ≡ false → NoneAt S E t))
   value-ends p b bs h k =
       first sees (λ x s g q.
       first (settles p x.window.overloaded q.1) (λ u s1 g1 d.
@@ -125,4 +157,6 @@ module _ {P N : Type 0} {S : Head N → ℕ → Type 0} {scope : Scope N} where
       first (first sees (λ x t i q. tests)) (λ u s5 g5 d.
       let all = onwards g012 (onwards g3 (onwards g4 g5)) in
       first (all-close b.made bs (bounds-up S all bs k)) (λ σs s6 g6 c.
-      first (bounds-lead p bs σs (bounds-up S (onwards all g6) bs k)) (λ u s7 g7 d. gives (λ w. values-in S s7.made s7.names (closed_values bs σs) (closed-at S s7 bs σs (schemes-up S g7 σs c)))))))))))
+      first (bounds-lead p bs σs (bounds-up S (onwards all g6) bs k)) (λ u s7 g7 d.
+      let own = schemes-up S g7 σs c in
+      gives (λ w. (values-in S s7.made s7.names (closed_values bs σs) (closed-at S s7 bs σs own), (λ e. values-in S 0 s7.names (closed_values bs σs) (none-at S s7 bs σs own (d e)))))))))))))

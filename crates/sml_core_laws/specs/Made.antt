@@ -1,7 +1,7 @@
 -- That readings of the core speak of what was made. A reading that begins with types of unknowns and names that were made so far gives
 -- such types, leaves such demands, and makes only more: so no instance has an unknown of before or one that is numbered twice, no
 -- scheme an unknown of a declaration that has ended, and no type a name that no binding made.
-use Rattle.std.specs.Prelude.{◌≡◌, ◌≤◌, ◌<◌, ◌^◌, ℕ, List, length}
+use Rattle.std.specs.Prelude.{◌≡◌, ◌≤◌, ◌<◌, ◌^◌, ℕ, false, List, length}
 use Rattle.std.specs.List.{AllByRecursion}
 use Rattle.sml_lex.specs.declared.fault.Place.{Place}
 use Rattle.sml_tree.specs.Expressions.{Dec}
@@ -92,17 +92,24 @@ module _ {P N : Type 0} where
     pub window : IsWindowIn S s.made s.names s.window
     pub met : CanBeMet (words scope) Rigidity s.demands
 
-  -- All that was made in the first state was in the second.
+  -- All that was made in the first state was in the second, which is open where that was.
   pub record IsGrown (s t : State P N) : Type 0 where
     pub made : s.made ≤ t.made
     pub names : (n : N) → Stands n s.names → Stands n t.names
+    pub stays_open : t.is_open ≡ false → s.is_open ≡ false
+
+  -- An environment that is given in a state t, of one that is read with in a state s: it speaks of what was made. And where the state isn't
+  -- open, no unknown stands in it, if none did in what was read with.
+  pub record IsGiven (S : Head N → ℕ → Type 0) (C : Env N) (vs : Map (MlType N)) (s : State P N) (E : Env N) (t : State P N) : Type 0 where
+    pub inside : IsEnvIn S t.made t.names E
+    pub closed : t.is_open ≡ false → IsEnvIn S 0 s.names C → AreTypesIn S 0 s.names vs → IsEnvIn S 0 t.names E
 
 -- A declaration keeps to what was made, whatever it is read with.
 abbrev pub ReadingsKeep : (Head Name → ℕ → Type 0) → Scope Name → Type 0
 ReadingsKeep S scope =
     (C : Env Name) (vs : Map (MlType Name)) (d : Dec Place) (s t : State Place Name) (E : Env Name)
     → IsWellMade S scope s → IsEnvIn S s.made s.names C → AreTypesIn S s.made s.names vs → IsReading scope C vs d s (accepted (E, t))
-    → IsWellMade S scope t × IsGrown s t × IsEnvIn S t.made t.names E
+    → IsWellMade S scope t × IsGrown s t × IsGiven S C vs s E t
 
 -- Nothing more is asked of heads.
 abbrev pub ReadingsSpeakOfWhatWasMade : Type 0

@@ -4,6 +4,7 @@ pub mod Left
 pub mod MadeDatatypes
 pub mod MadeTypes
 pub mod MadeShapes
+pub mod MadeTakes
 pub mod MadeEnvs
 pub mod MadeReadings
 pub mod MadeGiving
@@ -14,3 +15,5 @@ pub mod MadeBindings
 pub mod MadeValues
 pub mod MadeExpressions
 pub mod Made
+pub mod MadeInitial
+pub mod MadeSmall

@@ -1,6 +1,6 @@
--- That readings of the core speak of what was made. A reading that begins with types of unknowns and names that were made so far gives
--- such types, leaves such demands, and makes only more: so no instance has an unknown of before or one that is numbered twice, no
--- scheme an unknown of a declaration that has ended, and no type a name that no binding made.
+-- That readings of the core keep to what was made. Unknowns are numbered as they are made, and names are new: so a type or a scheme with
+-- an unknown that was not made would share it with what makes it later, and a name that no binding made could be made again. Where all
+-- that a declaration is read with speaks of what was made, so does all that it gives and asks.
 use Rattle.std.specs.Prelude.{◌≡◌, ◌≤◌, ◌<◌, ◌^◌, ℕ, false, List, length}
 use Rattle.std.specs.List.{AllByRecursion}
 use Rattle.sml_lex.specs.declared.fault.Place.{Place}
@@ -11,10 +11,13 @@ use Rattle.sml_objects.specs.Labels.{AreRising}
 use Rattle.sml_objects.specs.Maps.{Map}
 use Rattle.sml_objects.specs.Names.{Naming, Initial}
 use Rattle.sml_objects.specs.Objects.{MlType, MlTypes, Head, Scheme, bound, free, app, arrow, row, name, no_type, and_type}
+use Rattle.sml_objects.specs.Sizes.{type_size}
 use Rattle.sml_layers.specs.declared.layer.Layer.TheVariants.{Rigidity}
 use Rattle.sml_layers.specs.Demands.{Demand, equal, has_fields, asks, HeadMentions, CanBeMet}
 use Rattle.sml_rules.specs.Answers.{accepted}
-use Rattle.sml_core_rules.specs.Expressions.{IsReading}
+use Rattle.sml_core_rules.specs.Contexts.{IsType}
+use Rattle.sml_core_rules.specs.Expressions.{IsReading, at_first}
+use Rattle.sml_core_rules.specs.Initial.{initial_names, initial_env}
 use Rattle.sml_core_rules.specs.Objects.{Env, Structures, Status, Value, TyStr, variable, constructor, exception, overloaded, maps, no_structure, and_structure}
 use Rattle.sml_core_rules.specs.Scopes.{run_scope}
 use Rattle.sml_core_rules.specs.States.{Scope, State, Window, words}
@@ -98,8 +101,8 @@ module _ {P N : Type 0} where
     pub names : (n : N) → Stands n s.names → Stands n t.names
     pub stays_open : t.is_open ≡ false → s.is_open ≡ false
 
-  -- An environment that is given in a state t, of one that is read with in a state s: it speaks of what was made. And where the state isn't
-  -- open, no unknown stands in it, if none did in what was read with.
+  -- A declaration that is read with C and vs in the state s gives E, and leaves the state t: E speaks of what was made. Where t isn't open,
+  -- no unknown stands in E, if none did in C and vs.
   pub record IsGiven (S : Head N → ℕ → Type 0) (C : Env N) (vs : Map (MlType N)) (s : State P N) (E : Env N) (t : State P N) : Type 0 where
     pub inside : IsEnvIn S t.made t.names E
     pub closed : t.is_open ≡ false → IsEnvIn S 0 s.names C → AreTypesIn S 0 s.names vs → IsEnvIn S 0 t.names E
@@ -125,3 +128,13 @@ Takes names (name n) k = k ≡ (names.attributes n).arity
 -- What is read with such types gives and asks such types, over the names of a run.
 abbrev pub ReadingsGiveTypes : Type 0
 ReadingsGiveTypes = (unit : ℕ) → ReadingsKeep (Takes naming) (run_scope unit)
+
+-- They are types as the rules have them, where they have fewer than 2^64 nodes.
+abbrev pub TypesOfHeadsAreTypes : Type 0
+TypesOfHeadsAreTypes = (made : ℕ) (names : List Name) (t : MlType Name) → type_size t < 2 ^ 64 → IsTypeIn (Takes naming) made names t → IsType naming t
+
+-- A run begins so: the initial environment speaks of the initial names and of no unknown, and the state before the first declaration
+-- is well made.
+abbrev pub BeginningsAreWellMade : Type 0
+BeginningsAreWellMade =
+    IsEnvIn (Takes naming) 0 initial_names initial_env × ((unit : ℕ) → IsWellMade {P = Place} (Takes naming) (run_scope unit) (at_first initial_names))

@@ -50,25 +50,25 @@ module _ {P N : Type 0} (S : Head N → ℕ → Type 0) where
 
   -- where this is asked and the state isn't open, no unknown stands in an environment, or in types
   abbrev ClosedAt : Bool → Env N → State P N → Type 0
-  ClosedAt flag E s = flag ≡ true → s.is_open ≡ false → NoneAt S E s
+  ClosedAt asked E s = asked ≡ true → s.is_open ≡ false → NoneAt S E s
 
   abbrev NoneOpenAt : Bool → Map (MlType N) → State P N → Type 0
-  NoneOpenAt flag ts s = flag ≡ true → s.is_open ≡ false → NoTypesAt S ts s
+  NoneOpenAt asked ts s = asked ≡ true → s.is_open ≡ false → NoTypesAt S ts s
 
   abbrev pub DecAt : Bool → Env N → State P N → Type 0
-  DecAt flag E s = EnvAt S E s × ClosedAt flag E s
+  DecAt asked E s = EnvAt S E s × ClosedAt asked E s
 
-  closed-up : {s t : State P N} → IsGrown s t → (flag : Bool) (E : Env N) → ClosedAt flag E s → ClosedAt flag E t
-  closed-up g flag E h = λ a o. none-up S g E (h a (g.stays_open o))
+  closed-up : {s t : State P N} → IsGrown s t → (asked : Bool) (E : Env N) → ClosedAt asked E s → ClosedAt asked E t
+  closed-up g asked E h = λ a o. none-up S g E (h a (g.stays_open o))
 
-  none-open-up : {s t : State P N} → IsGrown s t → (flag : Bool) (ts : Map (MlType N)) → NoneOpenAt flag ts s → NoneOpenAt flag ts t
-  none-open-up g flag ts h = λ a o. no-types-up S g ts (h a (g.stays_open o))
+  none-open-up : {s t : State P N} → IsGrown s t → (asked : Bool) (ts : Map (MlType N)) → NoneOpenAt asked ts s → NoneOpenAt asked ts t
+  none-open-up g asked ts h = λ a o. no-types-up S g ts (h a (g.stays_open o))
 
-  closed-extend : (flag : Bool) (s : State P N) (E F : Env N) → ClosedAt flag E s → ClosedAt flag F s → ClosedAt flag (extend E F) s
-  closed-extend flag s E F h k = λ a o. extend-in S 0 s.names E F (h a o) (k a o)
+  closed-extend : (asked : Bool) (s : State P N) (E F : Env N) → ClosedAt asked E s → ClosedAt asked F s → ClosedAt asked (extend E F) s
+  closed-extend asked s E F h k = λ a o. extend-in S 0 s.names E F (h a o) (k a o)
 
-  none-dec : (flag : Bool) (s : State P N) (E : Env N) → NoneAt S E s → DecAt flag E s
-  none-dec flag s E h = (none-env S s E h, (λ a o. h))
+  none-dec : (asked : Bool) (s : State P N) (E : Env N) → NoneAt S E s → DecAt asked E s
+  none-dec asked s E h = (none-env S s E h, (λ a o. h))
 
 module _ {P N : Type 0} {S : Head N → ℕ → Type 0} {scope : Scope N} where
   like-first-leads : {s : State P N} (p : P) (f : Option (MlType N)) (t : MlType N) → FirstAt S f s → TypeAt S t s → Leads S scope s (like_first scope p f t) (TypeAt S)
@@ -138,17 +138,17 @@ module _ {P N : Type 0} {S : Head N → ℕ → Type 0} {scope : Scope N} where
         let j = onwards i g4 in rules-lead C vs (Some v) m (env-up S j C c) (types-up S j vs h) l))))
 
     -- Where this is asked and the state isn't open, no unknown stands in what is read with, and then none in what is given.
-    decs-lead : (C : Env N) (vs : Map (MlType N)) (F : Env N) (ds : Decs P) {s : State P N} (flag : Bool) → EnvAt S C s → TypesAt S vs s → EnvAt S F s → ClosedAt S flag C s → NoneOpenAt S flag vs s → ClosedAt S flag F s
-        → Leads S scope s (read_decs scope C vs F ds) (DecAt S flag)
-    decs-lead C vs F no_dec flag c h k c0 h0 k0 = gives (λ w. (k, k0))
-    decs-lead C vs F (and_dec d ds) flag c h k c0 h0 k0 =
-        first (dec-leads C vs d flag c h c0 h0) (λ E s g a.
-        decs-lead (extend C E) vs (extend F E) ds flag (extend-in S s.made s.names C E (env-up S g C c) a.0) (types-up S g vs h) (extend-in S s.made s.names F E (env-up S g F k) a.0)
-        (closed-extend S flag s C E (closed-up S g flag C c0) a.1) (none-open-up S g flag vs h0) (closed-extend S flag s F E (closed-up S g flag F k0) a.1))
+    decs-lead : (C : Env N) (vs : Map (MlType N)) (F : Env N) (ds : Decs P) {s : State P N} (asked : Bool) → EnvAt S C s → TypesAt S vs s → EnvAt S F s → ClosedAt S asked C s → NoneOpenAt S asked vs s → ClosedAt S asked F s
+        → Leads S scope s (read_decs scope C vs F ds) (DecAt S asked)
+    decs-lead C vs F no_dec asked c h k c0 h0 k0 = gives (λ w. (k, k0))
+    decs-lead C vs F (and_dec d ds) asked c h k c0 h0 k0 =
+        first (dec-leads C vs d asked c h c0 h0) (λ E s g a.
+        decs-lead (extend C E) vs (extend F E) ds asked (extend-in S s.made s.names C E (env-up S g C c) a.0) (types-up S g vs h) (extend-in S s.made s.names F E (env-up S g F k) a.0)
+        (closed-extend S asked s C E (closed-up S g asked C c0) a.1) (none-open-up S g asked vs h0) (closed-extend S asked s F E (closed-up S g asked F k0) a.1))
 
-    pub dec-leads : (C : Env N) (vs : Map (MlType N)) (d : Dec P) {s : State P N} (flag : Bool) → EnvAt S C s → TypesAt S vs s → ClosedAt S flag C s → NoneOpenAt S flag vs s
-        → Leads S scope s (read_dec scope C vs d) (DecAt S flag)
-    dec-leads C vs (val_dec p xs bs rs) flag c h c0 h0 =
+    pub dec-leads : (C : Env N) (vs : Map (MlType N)) (d : Dec P) {s : State P N} (asked : Bool) → EnvAt S C s → TypesAt S vs s → ClosedAt S asked C s → NoneOpenAt S asked vs s
+        → Leads S scope s (read_dec scope C vs d) (DecAt S asked)
+    dec-leads C vs (val_dec p xs bs rs) asked c h c0 h0 =
         first (begins p vs (map (λ x. x.id) xs ++ (unguarded bs ++ unguarded rs)) h) (λ b s1 g1 k.
         first (binds-lead C b.variables [] [] bs (env-up S g1 C c) k.1 tt tt) (λ r s2 g2 a.
         let g12 = onwards g1 g2 in
@@ -159,29 +159,29 @@ module _ {P N : Type 0} {S : Head N → ℕ → Type 0} {scope : Scope N} where
         (value-ends p b (r.1 ++ bounds false q.1) (begun-up S (onwards g23 g4) b k)
         (all-join (λ b. TypeAt S b.type s4) r.1 (bounds false q.1) (bounds-up S (onwards g3 g4) r.1 a.1) (bounds-at S s4 false q.1 (types-up S g4 q.1 l.1))))
         (λ E t g e. (e.0, (λ a. e.1)))))))
-    dec-leads C vs (type_dec p bs) flag c h c0 h0 = weakens (types-lead p C bs c) (λ E t g e. none-dec S flag t E e)
-    dec-leads C vs (datatype_dec p ds) flag c h c0 h0 = weakens (datatypes-lead p C ds c) (λ E t g e. none-dec S flag t E e)
-    dec-leads C vs (datatype_with p ds bs) flag c h c0 h0 =
+    dec-leads C vs (type_dec p bs) asked c h c0 h0 = weakens (types-lead p C bs c) (λ E t g e. none-dec S asked t E e)
+    dec-leads C vs (datatype_dec p ds) asked c h c0 h0 = weakens (datatypes-lead p C ds c) (λ E t g e. none-dec S asked t E e)
+    dec-leads C vs (datatype_with p ds bs) asked c h c0 h0 =
         first (datatypes-lead p C (map (dat_replaced bs) ds) c) (λ E s g a.
         first (types-lead p (extend C E) bs (extend-in S s.made s.names C E (env-up S g C c) (none-env S s E a))) (λ F t i b.
-        gives (λ w. none-dec S flag t (extend E F) (extend-in S 0 t.names E F (none-up S i E a) b))))
-    dec-leads C vs (datatype_copy p x y) {s} flag c h c0 h0 =
+        gives (λ w. none-dec S asked t (extend E F) (extend-in S 0 t.names E F (none-up S i E a) b))))
+    dec-leads C vs (datatype_copy p x y) {s} asked c h c0 h0 =
         first (looks {Q = λ t s. IsTyStrIn S s.names t} _ (λ t e. type-found S s.made s.names C y.id t c (needed _ _ y.id _ t e))) (λ t s g a.
-        weakens (copied-leads x.id t a) (λ E z i e. none-dec S flag z E e))
-    dec-leads C vs (exception_dec p bs) flag c h c0 h0 =
+        weakens (copied-leads x.id t a) (λ E z i e. none-dec S asked z E e))
+    dec-leads C vs (exception_dec p bs) asked c h c0 h0 =
         first (exceptions-lead C vs bs) (λ m s g q.
         first tests (λ u t i d.
         gives (λ w. (
           values-in S t.made t.names m (values-up S i m (q s.made (env-up S g C c) (types-up S g vs h))),
           (λ a o. let f = g.stays_open (i.stays_open o) in none-up S i (of_values m) (values-in S 0 s.names m (q 0 (none-up S g C (c0 a f)) (no-types-up S g vs (h0 a f))))),
         ))))
-    dec-leads C vs (local_dec p ds es) {s} flag c h c0 h0 =
-        first (decs-lead C vs empty ds flag c h (empty-in S s.made s.names) c0 h0 (λ a o. empty-in S 0 s.names)) (λ E t g a.
-        decs-lead (extend C E) vs empty es flag (extend-in S t.made t.names C E (env-up S g C c) a.0) (types-up S g vs h) (empty-in S t.made t.names)
-        (closed-extend S flag t C E (closed-up S g flag C c0) a.1) (none-open-up S g flag vs h0) (λ a o. empty-in S 0 t.names))
-    dec-leads C vs (sequence_dec p ds) {s} flag c h c0 h0 = decs-lead C vs empty ds flag c h (empty-in S s.made s.names) c0 h0 (λ a o. empty-in S 0 s.names)
-    dec-leads C vs (open_dec p ss) flag c h c0 h0 = weakens (opened-leads C ss) (λ E t g q. (q t.made (env-up S g C c), (λ a o. q 0 (none-up S g C (c0 a (g.stays_open o))))))
-    dec-leads C vs (fixity_dec p) {s} flag c h c0 h0 = gives (λ w. none-dec S flag s empty (empty-in S 0 s.names))
+    dec-leads C vs (local_dec p ds es) {s} asked c h c0 h0 =
+        first (decs-lead C vs empty ds asked c h (empty-in S s.made s.names) c0 h0 (λ a o. empty-in S 0 s.names)) (λ E t g a.
+        decs-lead (extend C E) vs empty es asked (extend-in S t.made t.names C E (env-up S g C c) a.0) (types-up S g vs h) (empty-in S t.made t.names)
+        (closed-extend S asked t C E (closed-up S g asked C c0) a.1) (none-open-up S g asked vs h0) (λ a o. empty-in S 0 t.names))
+    dec-leads C vs (sequence_dec p ds) {s} asked c h c0 h0 = decs-lead C vs empty ds asked c h (empty-in S s.made s.names) c0 h0 (λ a o. empty-in S 0 s.names)
+    dec-leads C vs (open_dec p ss) asked c h c0 h0 = weakens (opened-leads C ss) (λ E t g q. (q t.made (env-up S g C c), (λ a o. q 0 (none-up S g C (c0 a (g.stays_open o))))))
+    dec-leads C vs (fixity_dec p) {s} asked c h c0 h0 = gives (λ w. none-dec S asked s empty (empty-in S 0 s.names))
 
     binds-lead : (C : Env N) (vs : Map (MlType N)) (seen : Bindings N) (done : List (E.Bound N)) (bs : ValBinds P) {s : State P N} → EnvAt S C s → TypesAt S vs s → TypesAt S seen s → BoundsAt S done s
         → Leads S scope s (read_binds scope C vs seen done bs) (λ r t. TypesAt S r.0 t × BoundsAt S r.1 t)

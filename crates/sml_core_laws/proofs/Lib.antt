@@ -3,6 +3,8 @@ pub mod Largest
 pub mod Left
 pub mod MadeDatatypes
 pub mod MadeTypes
+pub mod MadeShapes
+pub mod MadeTakes
 pub mod MadeEnvs
 pub mod MadeReadings
 pub mod MadeGiving
@@ -13,3 +15,5 @@ pub mod MadeBindings
 pub mod MadeValues
 pub mod MadeExpressions
 pub mod Made
+pub mod MadeInitial
+pub mod MadeSmall

@@ -1,66 +1,60 @@
--- Types that speak of such variables, unknowns and names.
-use Rattle.std.specs.Prelude.{◌≡◌, ◌<◌, ℕ, zero, suc, List, [], ◌∷◌, ◌++◌, map, Some, None}
+-- Types that speak of such variables, unknowns and heads.
+use Rattle.std.specs.Prelude.{◌≡◌, ◌<◌, ℕ, zero, suc, List, [], ◌∷◌, ◌++◌, Some, None}
 use Rattle.std.specs.List.{AllByRecursion}
 use Rattle.std.proofs.Common.{arith}
 use Rattle.std.specs.declared.cmp.Ordering.{Ordering}
 use Rattle.std.specs.declared.cmp.Ordering.TheVariants.{Less, Equal, Greater}
-use mathlib.Core.Path.{subst}
+use mathlib.Core.Path.{refl, sym, ap, subst}
 use Rattle.sml_tree.specs.Trees.{Id}
 use Rattle.sml_objects.specs.Labels.{label_order}
 use Rattle.sml_objects.specs.Maps.{Map, lookup, put, join, by_order, order_of}
-use Rattle.sml_objects.specs.Objects.{MlType, MlTypes, Head, bound, free, app, arrow, row, name, no_type, and_type, types_of}
+use Rattle.sml_objects.specs.Objects.{MlType, MlTypes, Head, bound, free, app, no_type, and_type}
 use Rattle.sml_objects.specs.Types.{replace_type, replace_types, argument_or}
-use Rattle.sml_layers.specs.Demands.{HeadMentions}
 use Rattle.sml_core_rules.specs.Types.{Fields, put_field, count_types}
 use Rattle.sml_core_laws.specs.Made.{Speaks, AllSpeak}
 
-pub head-more : {N : Type 0} (Q Q' : N → Type 0) → ((n : N) → Q n → Q' n) → (h : Head N) → HeadMentions Q h → HeadMentions Q' h
-head-more Q Q' q arrow m = tt
-head-more Q Q' q (row ls) m = tt
-head-more Q Q' q (name n) m = q n m
+-- other types for variables, and more heads
+module _ {N : Type 0} (b f : ℕ → MlType N) where
+  pub count-replaced : (ts : MlTypes N) → count_types (replace_types b f ts) ≡ count_types ts
+  unfolding replace_type
+  count-replaced no_type = refl
+  count-replaced (and_type t ts) = ap suc (count-replaced ts)
 
--- other types for variables, and more names
-module _ {N : Type 0} (B V C W : ℕ → Type 0) (Q R : N → Type 0) (b f : ℕ → MlType N) where
-  mutual
-    unfolding Speaks replace_type
+  module _ (B V C W : ℕ → Type 0) (H I : Head N → ℕ → Type 0) where
+    mutual
+      unfolding Speaks replace_type
 
-    pub replaced-speaks : (t : MlType N) → Speaks B V Q t → ((k : ℕ) → B k → Speaks C W R (b k)) → ((v : ℕ) → V v → Speaks C W R (f v)) → ((n : N) → Q n → R n)
-        → Speaks C W R (replace_type b f t)
-    replaced-speaks (bound k) h bs fs ns = bs k h
-    replaced-speaks (free v) h bs fs ns = fs v h
-    replaced-speaks (app g ts) h bs fs ns = (head-more Q R ns g h.0, all-replaced-speak ts h.1 bs fs ns)
+      pub replaced-speaks : (t : MlType N) → Speaks B V H t → ((k : ℕ) → B k → Speaks C W I (b k)) → ((v : ℕ) → V v → Speaks C W I (f v)) → ((h : Head N) (k : ℕ) → H h k → I h k)
+          → Speaks C W I (replace_type b f t)
+      replaced-speaks (bound k) h bs fs hs = bs k h
+      replaced-speaks (free v) h bs fs hs = fs v h
+      replaced-speaks (app g ts) h bs fs hs = (subst (I g) (sym (count-replaced ts)) (hs g (count_types ts) h.0), all-replaced-speak ts h.1 bs fs hs)
 
-    all-replaced-speak : (ts : MlTypes N) → AllSpeak B V Q ts → ((k : ℕ) → B k → Speaks C W R (b k)) → ((v : ℕ) → V v → Speaks C W R (f v)) → ((n : N) → Q n → R n)
-        → AllSpeak C W R (replace_types b f ts)
-    all-replaced-speak no_type h bs fs ns = tt
-    all-replaced-speak (and_type t ts) h bs fs ns = (replaced-speaks t h.0 bs fs ns, all-replaced-speak ts h.1 bs fs ns)
+      all-replaced-speak : (ts : MlTypes N) → AllSpeak B V H ts → ((k : ℕ) → B k → Speaks C W I (b k)) → ((v : ℕ) → V v → Speaks C W I (f v)) → ((h : Head N) (k : ℕ) → H h k → I h k)
+          → AllSpeak C W I (replace_types b f ts)
+      all-replaced-speak no_type h bs fs hs = tt
+      all-replaced-speak (and_type t ts) h bs fs hs = (replaced-speaks t h.0 bs fs hs, all-replaced-speak ts h.1 bs fs hs)
 
 -- more of each
-module _ {N : Type 0} (B V C W : ℕ → Type 0) (Q R : N → Type 0) where
+module _ {N : Type 0} (B V C W : ℕ → Type 0) (H I : Head N → ℕ → Type 0) where
   mutual
     unfolding Speaks
 
-    pub speaks-more : (t : MlType N) → Speaks B V Q t → ((k : ℕ) → B k → C k) → ((v : ℕ) → V v → W v) → ((n : N) → Q n → R n) → Speaks C W R t
-    speaks-more (bound k) h bs vs ns = bs k h
-    speaks-more (free v) h bs vs ns = vs v h
-    speaks-more (app g ts) h bs vs ns = (head-more Q R ns g h.0, all-speak-more ts h.1 bs vs ns)
+    pub speaks-more : (t : MlType N) → Speaks B V H t → ((k : ℕ) → B k → C k) → ((v : ℕ) → V v → W v) → ((h : Head N) (k : ℕ) → H h k → I h k) → Speaks C W I t
+    speaks-more (bound k) h bs vs hs = bs k h
+    speaks-more (free v) h bs vs hs = vs v h
+    speaks-more (app g ts) h bs vs hs = (hs g (count_types ts) h.0, all-speak-more ts h.1 bs vs hs)
 
-    all-speak-more : (ts : MlTypes N) → AllSpeak B V Q ts → ((k : ℕ) → B k → C k) → ((v : ℕ) → V v → W v) → ((n : N) → Q n → R n) → AllSpeak C W R ts
-    all-speak-more no_type h bs vs ns = tt
-    all-speak-more (and_type t ts) h bs vs ns = (speaks-more t h.0 bs vs ns, all-speak-more ts h.1 bs vs ns)
+    all-speak-more : (ts : MlTypes N) → AllSpeak B V H ts → ((k : ℕ) → B k → C k) → ((v : ℕ) → V v → W v) → ((h : Head N) (k : ℕ) → H h k → I h k) → AllSpeak C W I ts
+    all-speak-more no_type h bs vs hs = tt
+    all-speak-more (and_type t ts) h bs vs hs = (speaks-more t h.0 bs vs hs, all-speak-more ts h.1 bs vs hs)
 
-module _ {N : Type 0} (B V : ℕ → Type 0) (Q : N → Type 0) where
-  -- what stands for a variable of a type function
-  pub argument-speaks : (u : MlType N) (ts : MlTypes N) (k : ℕ) → k < count_types ts → AllSpeak B V Q ts → Speaks B V Q (argument_or u ts k)
-  unfolding Speaks
-  argument-speaks u no_type k l h = absurd (omega arith)
-  argument-speaks u (and_type t ts) zero l h = h.0
-  argument-speaks u (and_type t ts) (suc k) l h = argument-speaks u ts k (omega arith) h.1
-
-  pub fields-speak : (fs : Fields (MlType N)) → AllByRecursion (λ f. Speaks B V Q f.1) fs → AllSpeak B V Q (types_of (map (λ f. f.1) fs))
-  unfolding Speaks
-  fields-speak [] h = tt
-  fields-speak (f ∷ fs) h = (h.0, fields-speak fs h.1)
+-- what stands for a variable of a type function
+pub argument-speaks : {N : Type 0} (B V : ℕ → Type 0) (H : Head N → ℕ → Type 0) (u : MlType N) (ts : MlTypes N) (k : ℕ) → k < count_types ts → AllSpeak B V H ts → Speaks B V H (argument_or u ts k)
+unfolding Speaks
+argument-speaks B V H u no_type k l h = absurd (omega arith)
+argument-speaks B V H u (and_type t ts) zero l h = h.0
+argument-speaks B V H u (and_type t ts) (suc k) l h = argument-speaks B V H u ts k (omega arith) h.1
 
 -- finite maps
 

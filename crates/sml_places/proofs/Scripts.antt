@@ -1,5 +1,5 @@
 -- Scripts that have the same answers, but for places.
-use Rattle.std.specs.Prelude.{◌≡◌, ◌↔◌, ◌⊎◌, ℕ, Bool, List, map}
+use Rattle.std.specs.Prelude.{◌≡◌, ◌↔◌, ℕ, Bool, List, map}
 use mathlib.Core.Path.{refl, sym, ap, subst}
 use mathlib.Core.Logic.{inl, inr}
 use Rattle.sml_lex.specs.Faults.{Fault}
@@ -11,7 +11,7 @@ use Rattle.sml_rules.specs.Answers.{Answer, refused, accepted, fault}
 use Rattle.sml_rules.proofs.Sound.{accepted_same, not_refused}
 use Rattle.sml_core_rules.specs.States.{Scope, State, Window, Judged, with_unknowns, with_made, with_demand, with_window, with_judged, opened, afresh}
 use Rattle.sml_core_rules.specs.Solutions.{MayBe, HasOneSetOfLabels, IsOfLeft, AreOfLeft, StandsFor, IsFixed, IsInt, AsksEquality, IsScheme, StandsForSmall}
-use Rattle.sml_core_rules.specs.Scripts.{Script, give, refuse, tests, either, makes_unknowns, requires, sees, sets_window, stays_open, judges, starts_anew, requires_or, closes, determines, makes_names, makes_datatypes, ◌>>=◌, IsAnswer}
+use Rattle.sml_core_rules.specs.Scripts.{Script, give, refuse, tests, either, makes_unknowns, requires, sees, sets_window, stays_open, judges, starts_anew, requires_or, closes, makes_names, ◌>>=◌, IsAnswer}
 use Rattle.sml_core_rules.proofs.Accepted.{bind-accepted, bind-joined}
 use Rattle.sml_core_rules.proofs.Refused.{bind-refused, bind-split, refused-same}
 use Rattle.sml_places.specs.Answers.{place_fault, place_judged}

@@ -1,12 +1,12 @@
 -- `val rec f = fn x : ''a => x`: unknown 0 is the explicit variable, 1 the type of f, and 2 that of x.
 use Rattle.std.specs.Prelude.{◌≡◌, ℕ, zero, suc, true, false, List, [], ◌∷◌}
-use mathlib.Core.Path.{refl, sym}
+use mathlib.Core.Path.{refl}
 use mathlib.Core.Logic.{inl, inr}
 use Rattle.std.proofs.Common.{arith}
 use Rattle.sml_objects.specs.Equality.{admits_by, all_admit_by}
 use Rattle.sml_objects.specs.Initial.{Name, made, naming}
-use Rattle.sml_objects.specs.Names.{int, string}
-use Rattle.sml_objects.specs.Objects.{MlType, free, bound, arrow, no_type, and_type, arrow_of, named}
+use Rattle.sml_objects.specs.Names.{string}
+use Rattle.sml_objects.specs.Objects.{MlType, free, bound, arrow_of, named}
 use Rattle.sml_objects.specs.Fates.{close_as}
 use Rattle.sml_objects.specs.declared.fates.Fate.TheVariants.{Bind}
 use Rattle.sml_objects.specs.Types.{replace_type, replace_types, variables_after, variables_after_all, index_among}
@@ -17,7 +17,6 @@ use Rattle.sml_core_rules.specs.Solutions.{Meets, IsScheme, StandsFor, IsLeft, I
 use Rattle.sml_core_rules.specs.States.{State, Judged, words, no_window}
 use Rattle.sml_samples.proofs.Judged.{scheme-judged}
 use Rattle.sml_samples.specs.Around.{Place, scope, initial_names, type_of}
-use Rattle.sml_samples.proofs.Left.{settled}
 use Rattle.sml_samples.proofs.Loose.{loose, not-int, not-fixed, not-flexible}
 use Rattle.sml_samples.proofs.Names.{initial-within}
 

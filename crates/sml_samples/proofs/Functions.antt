@@ -5,7 +5,7 @@ use mathlib.Core.Logic.{inl}
 use Rattle.std.proofs.Common.{arith}
 use Rattle.sml_objects.specs.Initial.{Name}
 use Rattle.sml_objects.specs.Names.{Initial, int, string, real}
-use Rattle.sml_objects.specs.Objects.{MlType, free, bound, arrow, no_type, and_type, arrow_of}
+use Rattle.sml_objects.specs.Objects.{MlType, free, bound, arrow_of}
 use Rattle.sml_objects.specs.Fates.{close_as}
 use Rattle.sml_objects.specs.declared.fates.Fate.TheVariants.{Bind}
 use Rattle.sml_objects.specs.Types.{replace_type, replace_types, variables_after, variables_after_all, index_among}
@@ -16,7 +16,6 @@ use Rattle.sml_core_rules.specs.Solutions.{Meets, IsScheme, StandsFor, IsLeft, I
 use Rattle.sml_core_rules.specs.States.{State, Judged, no_window}
 use Rattle.sml_samples.proofs.Judged.{scheme-judged}
 use Rattle.sml_samples.specs.Around.{Place, scope, initial_names, type_of}
-use Rattle.sml_samples.proofs.Left.{settled}
 use Rattle.sml_samples.proofs.Loose.{loose, is-bound}
 use Rattle.sml_samples.proofs.Names.{initial-within}
 

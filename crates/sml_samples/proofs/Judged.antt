@@ -27,5 +27,5 @@ pub scheme-judged : (s : State Place Name) (js : List (Judged Place)) (n : ℕ) 
 unfolding IsScheme StandsFor IsFixed IsInt AsksEquality MayBe HasOneSetOfLabels
 scheme-judged s js n x t σ h = (h.0, (coe 0 1 (i. left-same s js h.0 i) h.1.0, h.1.1), h.2, h.3, h.4)
 
-pub small : {s : State Place Name} {n : ℕ} {x : Bool} {t : MlType Name} {σ : Scheme Name} → IsScheme scope s n x t σ → type_size σ.body ≤ 10000 → StandsForSmall scope s t
-small {s = s} {n = n} {x = x} {t = t} {σ = σ} is within = scheme-small scope s n x t σ is within
+pub small : (s : State Place Name) (n : ℕ) (x : Bool) (t : MlType Name) (σ : Scheme Name) → IsScheme scope s n x t σ → type_size σ.body ≤ 10000 → StandsForSmall scope s t
+small s n x t σ is within = scheme-small scope s n x t σ is within

@@ -26,19 +26,19 @@ use Rattle.sml_samples.proofs.Values.{int-scheme}
 pub judged-samples : JudgedSamples
 unfolding IsAnswer ◌>>=◌ A.◌>>=◌ read_dec read_decs read_binds read_patterns read_rights read_exp read_rules read_pat read_ty read_tys find_at type_at value_at type_size types_size replace_type replace_types naming unguarded pat_variables exp_variables rules_variables ty_variables tys_variables has_unknown have_unknown is_expansive
 judged-samples = record {
-  binding = (_, _, refl ⊳ (ints, (refl, tt)) ⊳ tt ⊳ (small (int-scheme _) (omega arith), tt) ⊳ (mono (type_of int), int-scheme _, refl), refl);
+  binding = (_, _, refl ⊳ (ints, (refl, tt)) ⊳ tt ⊳ (small _ _ _ _ _ (int-scheme _) (omega arith), tt) ⊳ (mono (type_of int), int-scheme _, refl), refl);
   function = (
     _,
     _,
     refl ⊳ (types (type_of int), (met int).1.1) ⊳ refl ⊳ refl ⊳ (types (type_of int), (met int).1) ⊳ (types (type_of int), met int) ⊳ tt
-        ⊳ (small (scheme _) (omega arith), tt) ⊳ (identity_scheme, scheme _, refl),
+        ⊳ (small _ _ _ _ _ (scheme _) (omega arith), tt) ⊳ (identity_scheme, scheme _, refl),
     refl,
   );
   handler = (
     _,
     _,
     (omega arith, tt) ⊳ refl ⊳ (ints, (refl, tt)) ⊳ refl ⊳ refl ⊳ omega arith ⊳ (ints, (refl, (refl, tt))) ⊳ (ints, (refl, (refl, (refl, tt))))
-        ⊳ (ints, (refl, (refl, (refl, (refl, tt))))) ⊳ tt ⊳ (small (handled-scheme _) (omega arith), tt) ⊳ (mono (type_of int), handled-scheme _, refl),
+        ⊳ (ints, (refl, (refl, (refl, (refl, tt))))) ⊳ tt ⊳ (small _ _ _ _ _ (handled-scheme _) (omega arith), tt) ⊳ (mono (type_of int), handled-scheme _, refl),
     refl,
   );
 }

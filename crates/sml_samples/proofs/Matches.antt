@@ -109,7 +109,7 @@ group-refused =
     let open_part =
     refl ⊳ refl ⊳ (X.types (type_of int), X.met-int.1.1.1) ⊳ refl ⊳ (X.types (type_of int), X.met-int.1.1)
     ⊳ (X.types (type_of int), X.met-int.1) ⊳ (X.types (type_of int), X.met-int) ⊳ tt
-    ⊳ (small (X.scheme _) (omega arith), tt) ⊳ (mono (arrow_of (free 2) (free 2)), X.scheme _, (X.types (type_of int), X.met-closed-int) ⊳ refl) in
+    ⊳ (small _ _ _ _ _ (X.scheme _) (omega arith), tt) ⊳ (mono (arrow_of (free 2) (free 2)), X.scheme _, (X.types (type_of int), X.met-closed-int) ⊳ refl) in
     (refused _, inr (None, (accepted _, open_part, inr ((λ C h. X.open-ended [] (inner_type C) (λ σ m. ap inner_type (h σ m))), refl)), _, inl (_, (refused _, refl, refl), refl), refl), refl)
 
 pub match-samples : MatchSamples
@@ -160,23 +160,23 @@ match-samples = record {
         ),
       ));
   value_refused =
-      refuses top _ (refl ⊳ (λ _. type_of int, (refl, tt)) ⊳ tt ⊳ (
+      refuses top _ (refl ⊳ (λ _. type_of int, (refl, tt)) ⊳ tt ⊳ (small _ _ _ _ _ (int-scheme _) (omega arith), tt) ⊳ (
         mono (type_of int),
         int-scheme _,
-        (omega arith, tt) ⊳ (omega arith, tt) ⊳ refl ⊳ (omega arith, tt) ⊳ refl
+        (omega arith, tt) ⊳ refl ⊳ (omega arith, tt) ⊳ refl
             ⊳ inr (λ g. let e : type_of int ≡ type_of bool = g.2 in cc, refl),
       ));
   status_refused =
-      refuses top _ (refl ⊳ (λ _. type_of int, (refl, tt)) ⊳ tt ⊳ (
+      refuses top _ (refl ⊳ (λ _. type_of int, (refl, tt)) ⊳ tt ⊳ (small _ _ _ _ _ (int-scheme _) (omega arith), tt) ⊳ (
         mono (type_of int),
         int-scheme _,
-        (omega arith, tt) ⊳ (omega arith, tt) ⊳ refl ⊳ (omega arith, tt)
+        (omega arith, tt) ⊳ refl ⊳ (omega arith, tt)
             ⊳ inr (λ e. cc, refl),
       ));
   open_accepted = accepts top _ _ (
       refl ⊳ refl ⊳ (X.types (type_of int), X.met-int.1.1.1) ⊳ refl ⊳ (X.types (type_of int), X.met-int.1.1)
       ⊳ (X.types (type_of int), X.met-int.1) ⊳ (X.types (type_of int), X.met-int) ⊳ tt
-      ⊳ (small (X.scheme _) (omega arith), tt) ⊳ (
+      ⊳ (small _ _ _ _ _ (X.scheme _) (omega arith), tt) ⊳ (
         mono (arrow_of (free 2) (free 2)),
         X.scheme _,
         (X.types (type_of int), X.met-closed-int)
@@ -185,7 +185,7 @@ match-samples = record {
   open_refused =
       refuses top _ (refl ⊳ refl ⊳ (X.types (type_of int), X.met-int.1.1.1) ⊳ refl ⊳ (X.types (type_of int), X.met-int.1.1)
       ⊳ (X.types (type_of int), X.met-int.1) ⊳ (X.types (type_of int), X.met-int) ⊳ tt
-      ⊳ (small (X.scheme _) (omega arith), tt) ⊳ (
+      ⊳ (small _ _ _ _ _ (X.scheme _) (omega arith), tt) ⊳ (
         mono (arrow_of (free 2) (free 2)),
         X.scheme _,
         (X.types (type_of int), X.met-closed-int)
@@ -194,15 +194,15 @@ match-samples = record {
       ));
   later_accepted = accepts top _ _ (
       refl ⊳ refl ⊳ (X.types (type_of int), X.met-int.1.1.1) ⊳ refl ⊳ (X.types (type_of int), X.met-int.1.1) ⊳ (X.types (type_of int), X.met-int.1)
-      ⊳ (X.types (type_of int), X.met-int) ⊳ tt ⊳ (small (X.scheme _) (omega arith), tt) ⊳ (
+      ⊳ (X.types (type_of int), X.met-int) ⊳ tt ⊳ (small _ _ _ _ _ (X.scheme _) (omega arith), tt) ⊳ (
         mono (arrow_of (free 2) (free 2)),
         X.scheme _,
         (X.types (type_of int), X.met-closed-int)
-            ⊳ refl ⊳ (X.types (type_of int), X.met-later.1) ⊳ (X.types (type_of int), X.met-later) ⊳ tt ⊳ (small (X.later-scheme _) (omega arith), tt) ⊳ (mono (type_of int), X.later-scheme _, refl),
+            ⊳ refl ⊳ (X.types (type_of int), X.met-later.1) ⊳ (X.types (type_of int), X.met-later) ⊳ tt ⊳ (small _ _ _ _ _ (X.later-scheme _) (omega arith), tt) ⊳ (mono (type_of int), X.later-scheme _, refl),
       )) (λ σ m i. with_values (X.turned-out [] σ m i)) (tt, (omega arith, (omega arith, tt))) (omega arith) refl;
   group_refused = group-refused;
   top_refused =
       stays-open top _ _ (refl ⊳ refl ⊳ (X.types (type_of int), X.met-int.1.1.1) ⊳ refl ⊳ (X.types (type_of int), X.met-int.1.1)
       ⊳ (X.types (type_of int), X.met-int.1) ⊳ (X.types (type_of int), X.met-int) ⊳ tt
-      ⊳ (small (X.scheme _) (omega arith), tt) ⊳ (mono (arrow_of (free 2) (free 2)), X.scheme _, (X.types (type_of int), X.met-closed-int) ⊳ refl)) (λ C h. X.open-ended [] (first_type C) (λ σ m. ap first_type (h σ m)));
+      ⊳ (small _ _ _ _ _ (X.scheme _) (omega arith), tt) ⊳ (mono (arrow_of (free 2) (free 2)), X.scheme _, (X.types (type_of int), X.met-closed-int) ⊳ refl)) (λ C h. X.open-ended [] (first_type C) (λ σ m. ap first_type (h σ m)));
 }

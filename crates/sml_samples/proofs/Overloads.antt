@@ -1,10 +1,10 @@
 -- `val rec f = fn x => x + x`: unknown 0 is the type of f, 1 that of x, and 2 that of `+`, which is int.
-use Rattle.std.specs.Prelude.{◌≡◌, ℕ, zero, suc, true, false, List, [], ◌∷◌}
+use Rattle.std.specs.Prelude.{◌≡◌, ℕ, true, false, List, [], ◌∷◌}
 use mathlib.Core.Path.{refl, sym}
 use Rattle.std.proofs.Common.{arith}
-use Rattle.sml_objects.specs.Initial.{Name, initial, naming}
+use Rattle.sml_objects.specs.Initial.{Name, naming}
 use Rattle.sml_objects.specs.Names.{Initial, int, word}
-use Rattle.sml_objects.specs.Objects.{MlType, free, name, arrow, no_type, and_type, arrow_of, mono}
+use Rattle.sml_objects.specs.Objects.{MlType, free, arrow_of, mono}
 use Rattle.sml_objects.specs.Fates.{close_as}
 use Rattle.sml_objects.specs.declared.fates.Fate.TheVariants.{Keep}
 use Rattle.sml_objects.specs.Types.{replace_type, replace_types, variables_after, variables_after_all}
@@ -13,12 +13,11 @@ use Rattle.sml_layers.specs.Demands.{Demand, equal, asks, within, of_class, Ment
 use Rattle.sml_layers.specs.declared.class.Class.TheVariants.{Num}
 use Rattle.sml_layers.specs.declared.layer.Bound.TheVariants.{Newness}
 use Rattle.sml_layers.specs.declared.layer.Layer.TheVariants.{Finiteness, Rigidity}
-use Rattle.sml_core_rules.specs.Solutions.{Meets, IsScheme, StandsFor, IsLeft, IsOfLeft, AreOfLeft, IsOverloaded}
+use Rattle.sml_core_rules.specs.Solutions.{Meets, IsScheme, StandsFor, IsOfLeft, AreOfLeft, IsOverloaded}
 use Rattle.sml_core_rules.specs.States.{State, Judged, no_window}
 use Rattle.sml_samples.proofs.Judged.{scheme-judged}
 use Rattle.sml_samples.specs.Around.{Place, scope, initial_names, type_of, twice}
 use Rattle.sml_samples.proofs.Functions.{types}
-use Rattle.sml_samples.proofs.Left.{settled}
 use Rattle.sml_samples.proofs.Names.{initial-within}
 
 abbrev pub asked : List (Demand Name (List Name))

@@ -3,9 +3,9 @@ use Rattle.std.specs.Prelude.{◌≡◌, ◌<◌, ℕ, zero, suc, true, false, L
 use mathlib.Core.Path.{refl, sym, ◌∙◌}
 use mathlib.Core.Logic.{inl, inr}
 use Rattle.std.proofs.Common.{arith}
-use Rattle.sml_objects.specs.Initial.{Name, initial, made, naming}
+use Rattle.sml_objects.specs.Initial.{Name, made, naming}
 use Rattle.sml_objects.specs.Names.{int, word, char, bool, exn, string, real}
-use Rattle.sml_objects.specs.Objects.{MlType, app, row, names_type, names_types, no_type, and_type, name, labels_of, arrow_of, tuple_of, free, named, mono}
+use Rattle.sml_objects.specs.Objects.{MlType, app, row, names_type, names_types, no_type, and_type, arrow_of, tuple_of, free, named, mono}
 use Rattle.sml_objects.specs.Equality.{admits_by, all_admit_by}
 use Rattle.sml_objects.specs.Sizes.{type_size, types_size}
 use Rattle.sml_objects.specs.Fates.{close_as}
@@ -19,7 +19,7 @@ use Rattle.sml_core_rules.specs.Datatypes.{read_type_binds, read_all_arguments, 
 use Rattle.sml_core_rules.specs.Objects.{names_in, names_structures}
 use Rattle.sml_core_rules.specs.Lookups.{find_at, type_at, value_at}
 use Rattle.sml_core_rules.specs.Patterns.{read_pat, read_pat_fields}
-use Rattle.sml_core_rules.specs.Solutions.{Meets, IsScheme, StandsFor, IsLeft, IsOfLeft, AreOfLeft}
+use Rattle.sml_core_rules.specs.Solutions.{Meets, IsScheme, StandsFor, IsOfLeft, AreOfLeft}
 use Rattle.sml_core_rules.specs.Types.{read_ty, read_tys}
 use Rattle.sml_core_rules.specs.States.{State, Judged, no_window}
 use Rattle.sml_core_rules.specs.Values.{has_unknown, have_unknown}
@@ -29,7 +29,6 @@ use Rattle.sml_samples.proofs.Judged.{scheme-judged, small}
 use Rattle.sml_samples.specs.Around.{Place, scope, initial_names, type_of, twice}
 use Rattle.sml_samples.specs.Phrases.{PhraseSamples}
 use Rattle.sml_samples.proofs.Steps.{◌⊳◌}
-use Rattle.sml_samples.proofs.Left.{settled, settled-row}
 use Rattle.sml_samples.proofs.Unmet.{clash}
 use Rattle.sml_samples.proofs.Datatypes.{first-datatype, with-equality}
 use Rattle.sml_samples.proofs.Known as K
@@ -165,9 +164,9 @@ phrase-samples = record {
   variable_refused = refl;
   patterns_accepted = (
     _,
-    refl ⊳ refl ⊳ (types, met.1) ⊳ refl ⊳ refl ⊳ (types, met) ⊳ tt ⊳ (small (pair-scheme _) (omega arith), tt) ⊳ (mono (twice (type_of int)), pair-scheme _, refl),
+    refl ⊳ refl ⊳ (types, met.1) ⊳ refl ⊳ refl ⊳ (types, met) ⊳ tt ⊳ (small _ _ _ _ _ (pair-scheme _) (omega arith), tt) ⊳ (mono (twice (type_of int)), pair-scheme _, refl),
   );
-  row_accepted = (_, refl ⊳ (ints, (refl, tt)) ⊳ tt ⊳ (small (of-row-scheme _) (omega arith), tt) ⊳ (mono (type_of int), of-row-scheme _, refl));
+  row_accepted = (_, refl ⊳ (ints, (refl, tt)) ⊳ tt ⊳ (small _ _ _ _ _ (of-row-scheme _) (omega arith), tt) ⊳ (mono (type_of int), of-row-scheme _, refl));
   repeated_refused = refl ⊳ inr (λ e. cc, refl);
   constructor_accepted = (
     _,
@@ -180,7 +179,7 @@ phrase-samples = record {
         refl,
         with-equality 0 0 _ refl,
         (omega arith, tt) ⊳ refl ⊳ refl ⊳ refl ⊳ (ints, (refl, tt))
-            ⊳ (ints, (refl, (refl, tt))) ⊳ (ints, (refl, (refl, (refl, tt)))) ⊳ tt ⊳ (small (box-scheme _) (omega arith), tt) ⊳ (mono (type_of int), box-scheme _, refl),
+            ⊳ (ints, (refl, (refl, tt))) ⊳ (ints, (refl, (refl, (refl, tt)))) ⊳ tt ⊳ (small _ _ _ _ _ (box-scheme _) (omega arith), tt) ⊳ (mono (type_of int), box-scheme _, refl),
       ),
     ),
   );
@@ -199,7 +198,7 @@ phrase-samples = record {
   handle_accepted = (
     _,
     (omega arith, tt) ⊳ refl ⊳ (ints, (refl, tt)) ⊳ refl ⊳ refl ⊳ omega arith ⊳ (ints, (refl, (refl, tt))) ⊳ (ints, (refl, (refl, (refl, tt))))
-        ⊳ (ints, (refl, (refl, (refl, (refl, tt))))) ⊳ tt ⊳ (small (handled-scheme _) (omega arith), tt) ⊳ (mono (type_of int), handled-scheme _, refl),
+        ⊳ (ints, (refl, (refl, (refl, (refl, tt))))) ⊳ tt ⊳ (small _ _ _ _ _ (handled-scheme _) (omega arith), tt) ⊳ (mono (type_of int), handled-scheme _, refl),
   );
   raise_refused = refl ⊳ inr (Equations, clash bool exn (λ e. cc) [], refl);
   typed_refused = refl ⊳ omega arith ⊳ inr (Equations, clash int string (λ e. cc) [], refl);

@@ -2,26 +2,24 @@
 use Rattle.std.specs.Prelude.{◌≡◌, ℕ, zero, suc, false, List, [], ◌∷◌, codes, Some}
 use Rattle.std.specs.List.Sorted.{IsStrictlySortedBy}
 use mathlib.Core.Path.{refl, sym, subst, ◌∙◌}
-use Rattle.std.proofs.Common.{arith}
 use Rattle.sml_tree.specs.Trees.{Id}
 use Rattle.sml_objects.specs.Fates.{close_as}
 use Rattle.sml_objects.specs.declared.fates.Fate.TheVariants.{Keep}
-use Rattle.sml_objects.specs.Initial.{Name, initial}
+use Rattle.sml_objects.specs.Initial.{Name}
 use Rattle.sml_objects.specs.Labels.{with_labels}
 use Rattle.sml_objects.specs.Maps.{lookup}
 use Rattle.sml_objects.specs.Names.{int}
-use Rattle.sml_objects.specs.Objects.{MlType, app, row, name, free, no_type, and_type, arrow_of, mono, types_of}
+use Rattle.sml_objects.specs.Objects.{MlType, app, row, free, no_type, and_type, arrow_of, mono, types_of}
 use Rattle.sml_objects.specs.Types.{replace_type, replace_types, variables_after, variables_after_all}
 use Rattle.sml_layers.specs.Demands.{equal, has_fields, asks, within, Mentions}
 use Rattle.sml_layers.specs.declared.layer.Bound.TheVariants.{Newness}
 use Rattle.sml_layers.specs.declared.layer.Layer.TheVariants.{Finiteness, Rigidity}
 use Rattle.sml_layers.specs.Rows.{HasFields}
 use Rattle.sml_layers.specs.Worlds.{finite}
-use Rattle.sml_core_rules.specs.Solutions.{Meets, HasOneSetOfLabels, IsScheme, StandsFor, IsLeft, IsOfLeft, AreOfLeft}
+use Rattle.sml_core_rules.specs.Solutions.{Meets, HasOneSetOfLabels, IsScheme, StandsFor, IsOfLeft, AreOfLeft}
 use Rattle.sml_core_rules.specs.States.{State, Judged, words, no_window}
 use Rattle.sml_samples.proofs.Judged.{scheme-judged}
 use Rattle.sml_samples.specs.Around.{Place, scope, initial_names, type_of}
-use Rattle.sml_samples.proofs.Left.{settled, settled-row}
 use Rattle.sml_samples.proofs.Names.{initial-within}
 
 -- `{a : int}` and `{a : int, b : int}`

@@ -68,18 +68,18 @@ pub structure-samples : StructureSamples
 unfolding IsAnswer ◌>>=◌ A.◌>>=◌ read_dec read_binds read_patterns read_rights read_exp read_pat read_type_binds read_ty read_tys find_at type_at value_at structure_at type_size types_size replace_type replace_types close_as variables_after variables_after_all naming unguarded pat_variables exp_variables is_expansive has_unknown have_unknown names_in names_structures names_type names_types read_str read_strs read_strdec read_str_binds lines structure_lines stands read_sig read_specs read_spec read_values read_realisation require_lines are_parameters with_names replace replace_structures realise_type realise_types ty_variables tys_variables ℕ_discrete
 structure-samples = record {
   structure_accepted =
-      accepts top _ _ ((omega arith, tt) ⊳ refl ⊳ (λ _. type_of int, (refl, tt)) ⊳ tt ⊳ (small (int-scheme _) (omega arith), tt) ⊳ (mono (type_of int), int-scheme _, refl)) (λ σ m. refl)
+      accepts top _ _ ((omega arith, tt) ⊳ refl ⊳ (λ _. type_of int, (refl, tt)) ⊳ tt ⊳ (small _ _ _ _ _ (int-scheme _) (omega arith), tt) ⊳ (mono (type_of int), int-scheme _, refl)) (λ σ m. refl)
       (tt, (omega arith, tt, (omega arith, tt))) (omega arith) refl;
   anew_accepted =
-      accepts top _ _ (refl ⊳ (λ _. type_of int, (refl, tt)) ⊳ tt ⊳ (
+      accepts top _ _ (refl ⊳ (λ _. type_of int, (refl, tt)) ⊳ tt ⊳ (small _ _ _ _ _ (int-scheme _) (omega arith), tt) ⊳ (
         mono (type_of int),
         int-scheme _,
-        (omega arith, tt) ⊳ refl ⊳ (λ _. type_of int, (refl, tt)) ⊳ tt ⊳ (small (int-scheme _) (omega arith), tt) ⊳ (mono (type_of int), int-scheme _, refl),
+        refl ⊳ (λ _. type_of int, (refl, tt)) ⊳ tt ⊳ (small _ _ _ _ _ (int-scheme _) (omega arith), tt) ⊳ (mono (type_of int), int-scheme _, refl),
       )) (λ σ m. refl) (tt, (omega arith, (omega arith, tt))) (omega arith) refl;
   named_accepted = accepts top _ _ refl (λ σ m. refl) (tt, (omega arith, tt, (omega arith, tt))) (omega arith) refl;
   structure_refused = refuses top _ refl;
   transparent_accepted =
-      accepts top _ _ ((omega arith, tt) ⊳ refl ⊳ (λ _. type_of int, (refl, tt)) ⊳ tt ⊳ (small (int-scheme _) (omega arith), tt) ⊳ (
+      accepts top _ _ ((omega arith, tt) ⊳ refl ⊳ (λ _. type_of int, (refl, tt)) ⊳ tt ⊳ (small _ _ _ _ _ (int-scheme _) (omega arith), tt) ⊳ (
         mono (type_of int),
         int-scheme _,
         (
@@ -97,7 +97,7 @@ structure-samples = record {
             ⊳ (omega arith, tt, (omega arith, tt)) ⊳ refl ⊳ refl ⊳ inl refl ⊳ refl,
       ));
   opaque_accepted =
-      accepts top _ _ ((omega arith, tt) ⊳ refl ⊳ (λ _. type_of int, (refl, tt)) ⊳ tt ⊳ (small (int-scheme _) (omega arith), tt) ⊳ (
+      accepts top _ _ ((omega arith, tt) ⊳ refl ⊳ (λ _. type_of int, (refl, tt)) ⊳ tt ⊳ (small _ _ _ _ _ (int-scheme _) (omega arith), tt) ⊳ (
         mono (type_of int),
         int-scheme _,
         (

@@ -45,22 +45,22 @@ typing-samples = record {
     _,
     refl ⊳ (F.types (type_of int), (O.met int refl).1.1.1.1) ⊳ refl ⊳ refl ⊳ (F.types (type_of int), (O.met int refl).1.1.1) ⊳ (F.types (type_of int), (O.met int refl).1.1)
         ⊳ (F.types (type_of int), (O.met int refl).1) ⊳ (F.types (type_of int), O.met int refl) ⊳ O.overloaded _ ⊳ (F.types (type_of int), O.met-settled) ⊳ tt
-        ⊳ (small (O.scheme _) (omega arith), tt) ⊳ (mono (arrow_of (type_of int) (type_of int)), O.scheme _, refl),
+        ⊳ (small _ _ _ _ _ (O.scheme _) (omega arith), tt) ⊳ (mono (arrow_of (type_of int) (type_of int)), O.scheme _, refl),
   );
   default_accepted = (
     _,
     refl ⊳ (F.types (type_of int), D.met.1.1.1.1.1.1) ⊳ refl ⊳ refl ⊳ (F.types (type_of int), D.met.1.1.1.1.1) ⊳ (F.types (type_of int), D.met.1.1.1.1)
         ⊳ (F.types (type_of int), D.met.1.1.1) ⊳ (F.types (type_of int), D.met.1.1) ⊳ (F.types (type_of int), D.met.1) ⊳ (F.types (type_of int), D.met)
-        ⊳ inr (D.one-type _ 2 D.second, inr (D.one-type _ 3 D.third, tt ⊳ (small (D.scheme _) (omega arith), tt) ⊳ (mono (arrow_of (type_of int) (type_of int)), D.scheme _, refl))),
+        ⊳ inr (D.one-type _ 2 D.second, inr (D.one-type _ 3 D.third, tt ⊳ (small _ _ _ _ _ (D.scheme _) (omega arith), tt) ⊳ (mono (arrow_of (type_of int) (type_of int)), D.scheme _, refl))),
   );
   fixed_accepted = (
     _,
     refl ⊳ (F.types (type_of int), (I.met int).1.1.1.1.1) ⊳ refl ⊳ refl ⊳ (F.types (type_of int), (I.met int).1.1.1.1) ⊳ refl ⊳ (F.types (type_of int), (I.met int).1.1.1)
-        ⊳ tt ⊳ (small (I.inner-scheme _) (omega arith), tt) ⊳ (
+        ⊳ tt ⊳ (small _ _ _ _ _ (I.inner-scheme _) (omega arith), tt) ⊳ (
           mono (free 1),
           I.inner-scheme _,
           (F.types (type_of int), (I.met int).1.1) ⊳ (F.types (type_of int), (I.met int).1)
-              ⊳ (F.types (type_of int), I.met int) ⊳ tt ⊳ (small (I.scheme _) (omega arith), tt) ⊳ (identity_scheme, I.scheme _, refl),
+              ⊳ (F.types (type_of int), I.met int) ⊳ tt ⊳ (small _ _ _ _ _ (I.scheme _) (omega arith), tt) ⊳ (identity_scheme, I.scheme _, refl),
         ),
   );
   class_refused = refl ⊳ (λ _. type_of int, (λ h. (int, refl, refl), tt)) ⊳ inr (Classes, of-no-class, refl);
@@ -69,7 +69,7 @@ typing-samples = record {
     _,
     (E.types E.itself, E.met.1.1.1.1.1) ⊳ (E.types E.itself, E.met.1.1.1.1) ⊳ refl ⊳ (E.types E.itself, E.met.1.1.1) ⊳ refl ⊳ refl ⊳ omega arith
         ⊳ (E.types E.itself, E.met.1.1) ⊳ (E.types E.itself, E.met.1) ⊳ (E.types E.itself, E.met) ⊳ (E.general _, tt)
-        ⊳ (small (E.scheme _) (omega arith), tt) ⊳ (record { variables = true ∷ []; body = arrow_of (bound 0) (bound 0) }, E.scheme _, refl),
+        ⊳ (small _ _ _ _ _ (E.scheme _) (omega arith), tt) ⊳ (record { variables = true ∷ []; body = arrow_of (bound 0) (bound 0) }, E.scheme _, refl),
   );
   rigid_refused = (λ _. named (made 0 0 0 false), (λ h. refl, tt)) ⊳ refl ⊳ omega arith ⊳ (λ _. named (made 0 0 0 false), (refl, (λ h. refl, tt))) ⊳ inr (Rigidity, rigid 0, refl);
   scoped_accepted = (
@@ -83,7 +83,7 @@ typing-samples = record {
   expansive_accepted = (
     _,
     refl ⊳ refl ⊳ (X.types (type_of int), X.met-int.1.1.1) ⊳ refl ⊳ (X.types (type_of int), X.met-int.1.1) ⊳ (X.types (type_of int), X.met-int.1)
-        ⊳ (X.types (type_of int), X.met-int) ⊳ tt ⊳ (small (X.scheme _) (omega arith), tt) ⊳ (mono (arrow_of (free 2) (free 2)), X.scheme _, (X.types (type_of int), X.met-closed-int) ⊳ refl),
+        ⊳ (X.types (type_of int), X.met-int) ⊳ tt ⊳ (small _ _ _ _ _ (X.scheme _) (omega arith), tt) ⊳ (mono (arrow_of (free 2) (free 2)), X.scheme _, (X.types (type_of int), X.met-closed-int) ⊳ refl),
   );
   local_type_refused =
       refl ⊳ (made 1 0 0 true ∷ [], first-datatype _ _ true, (refl, tt), inr (_, refl, with-equality 0 0 _ refl, (omega arith, tt) ⊳ inr (Locality, escaping, refl)));
@@ -92,7 +92,7 @@ typing-samples = record {
       ⊳ (made 1 0 0 true ∷ [], first-datatype _ _ true, (refl, tt), inr (_, refl, with-equality 0 0 _ refl, (omega arith, tt) ⊳ omega arith ⊳ inr (Newness, too-new, refl)));
   row_accepted = (
     _,
-    refl ⊳ (R.types, R.met.1) ⊳ (R.types, R.met) ⊳ R.one-set [] ⊳ tt ⊳ (small (R.scheme _) (omega arith), tt) ⊳ (mono (type_of int), R.scheme _, refl),
+    refl ⊳ (R.types, R.met.1) ⊳ (R.types, R.met) ⊳ R.one-set [] ⊳ tt ⊳ (small _ _ _ _ _ (R.scheme _) (omega arith), tt) ⊳ (mono (type_of int), R.scheme _, refl),
   );
   row_refused =
       refl ⊳ (R.open_types R.one_field, R.met-open-one.1.1.1) ⊳ refl ⊳ refl ⊳ (R.open_types R.one_field, R.met-open-one.1.1) ⊳ (R.open_types R.one_field, R.met-open-one.1)

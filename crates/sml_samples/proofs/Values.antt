@@ -47,13 +47,13 @@ int-scheme js = scheme-judged _ js _ _ _ _ own-int-scheme
 pub value-samples : ValueSamples
 unfolding IsAnswer ◌>>=◌ A.◌>>=◌ read_dec read_binds read_patterns read_rights read_exp read_rules read_pat read_ty read_tys find_at type_at value_at type_size types_size replace_type replace_types naming unguarded pat_variables exp_variables rules_variables ty_variables tys_variables has_unknown have_unknown is_expansive spread spread_all
 value-samples = record {
-  val_accepted = (_, refl ⊳ (λ _. type_of int, (refl, tt)) ⊳ tt ⊳ (small (int-scheme _) (omega arith), tt) ⊳ (mono (type_of int), int-scheme _, refl));
+  val_accepted = (_, refl ⊳ (λ _. type_of int, (refl, tt)) ⊳ tt ⊳ (small _ _ _ _ _ (int-scheme _) (omega arith), tt) ⊳ (mono (type_of int), int-scheme _, refl));
   val_refused = refl ⊳ refl;
   constrained_val_refused = refl ⊳ omega arith ⊳ (λ _. type_of string, (refl, tt)) ⊳ inr (Equations, clash string int (λ e. cc) (equal (free 0) (type_of string) ∷ []), refl);
   rec_accepted = (
     _,
     refl ⊳ (types (type_of int), (met int).1.1) ⊳ refl ⊳ refl ⊳ (types (type_of int), (met int).1) ⊳ (types (type_of int), met int) ⊳ tt
-        ⊳ (small (scheme _) (omega arith), tt) ⊳ (identity_scheme, scheme _, refl),
+        ⊳ (small _ _ _ _ _ (scheme _) (omega arith), tt) ⊳ (identity_scheme, scheme _, refl),
   );
   rec_refused = refl ⊳ (types (type_of int), (met int).1.1) ⊳ inr (λ e. cc, refl);
 }

@@ -1,5 +1,22 @@
 //! What elaboration knows while it goes through a top-level declaration.
 
+ghost use Rattle.std.specs.Prelude.{◌≡◌, ◌+◌, [], ◌∷◌, Some, None};
+ghost use Rattle.sml_lex.specs.declared.fault.Code.{Code};
+ghost use Rattle.sml_lex.specs.declared.fault.Code.TheVariants.{E1};
+ghost use Rattle.sml_tree.specs.Views.{long_of};
+ghost use Rattle.sml_objects.specs.Initial.{Name};
+ghost use Rattle.sml_objects.specs.Views.{type_of};
+ghost use Rattle.sml_graph.specs.Refusals.{refusal_code};
+ghost use Rattle.sml_core_rules.specs.Answers.{need};
+ghost use Rattle.sml_core_rules.specs.Lookups as found;
+ghost use Rattle.sml_core_rules.specs.Objects as O;
+ghost use Rattle.sml_core_rules.specs.Objects.{overloaded};
+ghost use Rattle.sml_bases.specs.Views.{status_of, value_of};
+ghost use Rattle.sml_scopes.specs.Means.{Means};
+ghost use Rattle.sml_types.specs.Answered.{IsAnswer, IsFault};
+ghost use Rattle.sml_types.specs.declared.fault.CoreFault.TheVariants as CoreFault;
+ghost use Rattle.sml_core.specs.Answered.{AsksAttributes, AsksStatus, Equates, FindsValue, MakesInstance, MakesUnknown, Watches};
+
 use crate::explicit::Explicit;
 use crate::recorder::{Meeting, Recorder, Seen};
 use sml_asks::asks::{ask_class, ask_equal, ask_equality, ask_instance, ask_scheme, ask_within};
@@ -50,7 +67,10 @@ pub struct Context<'a> {
 pub const MOST_SHOWN: u32 = 1_000;
 
 /// The fault of a demand that was refused there.
-pub(crate) fn refused(refusal: Refusal, place: Place) -> CoreFault {
+pub(crate) fn refused(refusal: Refusal, place: Place) -> CoreFault
+    ensures fault { (c : Code) → refusal_code refusal ≡ Some c → IsFault result (record { code = c; place = place; detail = None }) }
+    ensures memory { refusal_code refusal ≡ None → result ≡ CoreFault.Memory }
+{
     match refusal.code() {
         Some(code) => plain_fault(code, place),
         None => CoreFault::Memory,
@@ -188,7 +208,9 @@ impl<'a> Context<'a> {
     }
 
     /// The value that a long identifier means, or E3, or none.
-    pub(crate) fn find(&self, long: &LongIdent) -> Result<Option<Value>, CoreFault> {
+    pub(crate) fn find(&self, long: &LongIdent) -> Result<Option<Value>, CoreFault>
+        ensures { (C : O.Env Name) → Means self.now.scopes C → FindsValue long.now.place result (found.value_at C (long_of long.now)) }
+    {
         match value_at(&self.scopes, long)? {
             None => Ok(None),
             Some(value) => Ok(Some(value.share()?)),
@@ -196,7 +218,9 @@ impl<'a> Context<'a> {
     }
 
     /// The value that a long identifier means, or E3 or E1.
-    pub(crate) fn value(&self, long: &LongIdent) -> Result<Value, CoreFault> {
+    pub(crate) fn value(&self, long: &LongIdent) -> Result<Value, CoreFault>
+        ensures { (C : O.Env Name) → Means self.now.scopes C → IsAnswer value_of result (need E1 long.now.place (long_of long.now) (found.value_at C (long_of long.now))) }
+    {
         match self.find(long)? {
             Some(value) => Ok(value),
             None => Err(unbound(self.alloc, Code::E1, long)?),
@@ -212,7 +236,9 @@ impl<'a> Context<'a> {
     }
 
     /// A new unknown.
-    pub(crate) fn unknown(&mut self) -> Result<Rc<MlType>, CoreFault> {
+    pub(crate) fn unknown(&mut self) -> Result<Rc<MlType>, CoreFault>
+        ensures { MakesUnknown self.entry.now self.exit.now result }
+    {
         let Ok(number) = self.solver.fresh() else {
             return Err(CoreFault::Memory);
         };
@@ -226,10 +252,10 @@ impl<'a> Context<'a> {
         meeting: Meeting,
         left: &MlType,
         right: &MlType,
-    ) -> Result<(), CoreFault> {
-        if self.recorder.is_next() {
-            self.keep(meeting, &[left, right])?;
-        }
+    ) -> Result<(), CoreFault>
+        ensures { Equates self.entry.now place (type_of left.now) (type_of right.now) self.exit.now result }
+    {
+        self.watch(meeting, &[left, right])?;
         match ask_equal(&mut self.solver, left, right) {
             Ok(()) => Ok(()),
             Err(refusal) => {
@@ -237,6 +263,16 @@ impl<'a> Context<'a> {
                 Err(refused(refusal, place))
             }
         }
+    }
+
+    /// Keeps the types of a demand that is made now, where they are wanted.
+    fn watch(&mut self, meeting: Meeting, types: &[&MlType]) -> Result<(), CoreFault>
+        ensures { Watches self.entry.now self.exit.now result }
+    {
+        if self.recorder.is_next() {
+            return self.keep(meeting, types);
+        }
+        Ok(())
     }
 
     /// Keeps the types of a demand that is refused next, unless they are too large to be shown.
@@ -271,9 +307,7 @@ impl<'a> Context<'a> {
         bound: Bound,
         most: u32,
     ) -> Result<(), CoreFault> {
-        if self.recorder.is_next() {
-            self.keep(Meeting::Late, &[ty])?;
-        }
+        self.watch(Meeting::Late, &[ty])?;
         match ask_within(&mut self.solver, ty, bound, most) {
             Ok(()) => Ok(()),
             Err(refusal) => {
@@ -284,19 +318,15 @@ impl<'a> Context<'a> {
     }
 
     /// An instance of a value's scheme with new unknowns, and what is asked of these.
-    pub(crate) fn instance(
-        &mut self,
-        place: Place,
-        value: &Value,
-    ) -> Result<Rc<MlType>, CoreFault> {
-        let from = self.solver.unknowns();
+    pub(crate) fn instance(&mut self, place: Place, value: &Value) -> Result<Rc<MlType>, CoreFault>
+        ensures { MakesInstance self.entry.now place (value_of value.now) self.exit.now result }
+    {
+        let from = number_of(self.solver.unknowns())?;
         let Ok(ty) = ask_instance(&mut self.solver, &value.scheme) else {
             return Err(CoreFault::Memory);
         };
-        self.ask_attributes(place, &value.scheme, from)?;
-        if let Status::Overloaded(class) = value.status {
-            self.ask_overload(place, class, from)?;
-        }
+        self.ask_attributes(place, &value.scheme.variables, from)?;
+        self.ask_status(place, value.status, from)?;
         Ok(ty)
     }
 
@@ -304,34 +334,63 @@ impl<'a> Context<'a> {
     fn ask_attributes(
         &mut self,
         place: Place,
-        scheme: &Scheme,
-        from: usize,
-    ) -> Result<(), CoreFault> {
-        let mut unknown = from;
-        for equality in &scheme.variables {
-            if *equality {
-                let ty = MlType::Free(number_of(unknown)?);
-                if let Err(refusal) = ask_equality(&mut self.solver, &ty) {
-                    return Err(refused(refusal, place));
-                }
-            }
-            unknown = unknown.saturating_add(1);
+        attributes: &[bool],
+        from: u32,
+    ) -> Result<(), CoreFault>
+        ensures { AsksAttributes self.entry.now place from attributes.now self.exit.now result }
+    {
+        for (index, equality) in attributes.iter().enumerate() {
+            self.ask_attribute(place, from, index, *equality)?;
         }
         Ok(())
     }
 
-    fn ask_overload(
+    /// Demands equality, where that is so, of the unknown that stands for the variable with an index, after the first unknown.
+    fn ask_attribute(
         &mut self,
         place: Place,
-        class: Class,
-        unknown: usize,
-    ) -> Result<(), CoreFault> {
-        let number = number_of(unknown)?;
-        if let Err(refusal) = ask_class(&mut self.solver, &MlType::Free(number), class) {
-            return Err(refused(refusal, place));
+        from: u32,
+        index: usize,
+        equality: bool,
+    ) -> Result<(), CoreFault>
+        ensures { AsksAttributes self.entry.now place (from + index) (equality ∷ []) self.exit.now result }
+    {
+        if !equality {
+            return Ok(());
         }
-        self.overloaded.push(number)?;
-        Ok(())
+        let Some(number) = (from as usize).checked_add(index) else {
+            return Err(CoreFault::Memory);
+        };
+        let ty = MlType::Free(number_of(number)?);
+        match ask_equality(&mut self.solver, &ty) {
+            Ok(()) => Ok(()),
+            Err(refusal) => Err(refused(refusal, place)),
+        }
+    }
+
+    /// Demands of the unknown that stands for a value's first variable what the value's status asks.
+    fn ask_status(&mut self, place: Place, status: Status, unknown: u32) -> Result<(), CoreFault>
+        ensures { AsksStatus self.entry.now place unknown (status_of status) self.exit.now result }
+    {
+        match status {
+            Status::Overloaded(class) => self.ask_overload(place, class, unknown),
+            Status::Variable => Ok(()),
+            Status::Constructor { .. } => Ok(()),
+            Status::Exception => Ok(()),
+        }
+    }
+
+    /// Demands a class of the unknown of an overloaded identifier, which is settled at the end of the value declaration.
+    fn ask_overload(&mut self, place: Place, class: Class, unknown: u32) -> Result<(), CoreFault>
+        ensures { AsksStatus self.entry.now place unknown (overloaded class) self.exit.now result }
+    {
+        match ask_class(&mut self.solver, &MlType::Free(unknown), class) {
+            Ok(()) => {
+                self.overloaded.push(unknown)?;
+                Ok(())
+            }
+            Err(refusal) => Err(refused(refusal, place)),
+        }
     }
 
     /// What a type expression means, with the explicit type variables in scope.

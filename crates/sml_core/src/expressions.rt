@@ -1,5 +1,16 @@
 //! Expressions and matches (the Definition, section 4.10, rules 1 to 14).
 
+ghost use Rattle.std.specs.Prelude.{◌≡◌, IfOk, OnErr, Err};
+ghost use Rattle.sml_tree.specs.Expressions.{name};
+ghost use Rattle.sml_tree.specs.ExpressionViews.{exp_of};
+ghost use Rattle.sml_tree.specs.TypeViews.{long_name_of};
+ghost use Rattle.sml_tree.specs.PatternViews.{constant_of};
+ghost use Rattle.sml_objects.specs.Initial.{naming};
+ghost use Rattle.sml_objects.specs.Views.{type_of};
+ghost use Rattle.sml_core_rules.specs.Patterns.{constant_type};
+ghost use Rattle.sml_types.specs.declared.fault.CoreFault.TheVariants as CoreFault;
+ghost use Rattle.sml_core.specs.Answered.{Applies, AppliesSo, Reads};
+
 use crate::context::Context;
 use crate::patterns::Variables;
 use crate::recorder::Meeting;
@@ -21,7 +32,9 @@ use std::collections::BTreeMap;
 use std::rc::Rc;
 
 /// The type of a special constant.
-pub(crate) fn constant(alloc: Global, constant: &Constant) -> Result<Rc<MlType>, Memory> {
+pub(crate) fn constant(alloc: Global, constant: &Constant) -> Result<Rc<MlType>, Memory>
+    ensures { IfOk result (λ t. type_of t.value ≡ constant_type naming (constant_of constant.now).kind) }
+{
     match constant.kind {
         ConstantKind::Integer => initial(alloc, Initial::Int),
         ConstantKind::Word => initial(alloc, Initial::Word),
@@ -54,7 +67,9 @@ struct Outside {
 impl Context<'_> {
     /// The type of an expression. Forms with one part have functions of their own, so that a level of a nest takes less stack.
     #[cycle(core)]
-    pub(crate) fn expression(&mut self, exp: &Exp) -> Result<Rc<MlType>, CoreFault> {
+    pub fn expression(&mut self, exp: &Exp) -> Result<Rc<MlType>, CoreFault>
+        ensures { Reads self.entry.now (exp_of exp.now) self.exit.now result }
+    {
         match exp {
             Exp::Constant(_, it) => self.constant(it),
             Exp::Identifier(place, long) => self.identifier(*place, long),
@@ -84,7 +99,11 @@ impl Context<'_> {
     }
 
     #[inline(never)]
-    fn constant(&mut self, it: &Constant) -> Result<Rc<MlType>, CoreFault> {
+    fn constant(&mut self, it: &Constant) -> Result<Rc<MlType>, CoreFault>
+        ensures ty { IfOk result (λ t. type_of t.value ≡ constant_type naming (constant_of it.now).kind) }
+        ensures memory { OnErr result (result ≡ Err CoreFault.Memory) }
+        ensures same { self.exit.now ≡ self.entry.now }
+    {
         Ok(constant(self.alloc, it)?)
     }
 
@@ -118,7 +137,9 @@ impl Context<'_> {
     }
 
     #[inline(never)]
-    fn identifier(&mut self, place: Place, long: &LongIdent) -> Result<Rc<MlType>, CoreFault> {
+    fn identifier(&mut self, place: Place, long: &LongIdent) -> Result<Rc<MlType>, CoreFault>
+        ensures { Reads self.entry.now (name place (long_name_of long.now)) self.exit.now result }
+    {
         let value = self.value(long)?;
         self.instance(place, &value)
     }
@@ -168,16 +189,35 @@ impl Context<'_> {
 
     /// The result of what has a type applied to an argument of another one. A type that is written as an arrow is taken apart.
     #[inline(never)]
-    pub(crate) fn applied(
+    pub fn applied(
         &mut self,
         place: Place,
         function: &MlType,
         argument: Rc<MlType>,
-    ) -> Result<Rc<MlType>, CoreFault> {
-        if let MlType::Arrow(from, to) = function {
-            self.equal(place, Meeting::Argument, from, &argument)?;
-            return Ok(to.clone()?);
+    ) -> Result<Rc<MlType>, CoreFault>
+        ensures { Applies self.entry.now place (type_of function.now) (type_of argument.value) self.exit.now result }
+    {
+        match function {
+            MlType::Arrow(from, to) => {
+                self.equal(place, Meeting::Argument, from, &argument)?;
+                Ok(to.clone()?)
+            }
+            MlType::Bound(_) => self.applied_so(place, function, argument),
+            MlType::Free(_) => self.applied_so(place, function, argument),
+            MlType::Row(_, _) => self.applied_so(place, function, argument),
+            MlType::Name(_, _) => self.applied_so(place, function, argument),
         }
+    }
+
+    /// The result of what has a type that is made equal to an arrow from that of its argument.
+    fn applied_so(
+        &mut self,
+        place: Place,
+        function: &MlType,
+        argument: Rc<MlType>,
+    ) -> Result<Rc<MlType>, CoreFault>
+        ensures { AppliesSo self.entry.now place (type_of function.now) (type_of argument.value) self.exit.now result }
+    {
         let result = self.unknown()?;
         let wanted = arrow(self.alloc, argument, result.clone()?)?;
         self.equal(place, Meeting::Applied, function, &wanted)?;

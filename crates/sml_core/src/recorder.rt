@@ -1,5 +1,7 @@
 //! What is at hand where a declaration is refused, kept for who asks why.
 
+ghost use Rattle.std.specs.Prelude.{◌≡◌, false, None};
+
 use indexmap::IndexMap;
 use sml_bases::objects::{Env, TypeStr, Value};
 use sml_envs::functions::name_of;
@@ -119,7 +121,9 @@ impl Recorder {
     }
 
     /// Counts a comparison that is made now, and says whether it is wanted.
-    pub fn is_next(&mut self) -> bool {
+    pub fn is_next(&mut self) -> bool
+        ensures { self.old.wanted ≡ None → (result ≡ false) × (self.new.wanted ≡ None) }
+    {
         self.made = self.made.saturating_add(1);
         match &self.wanted {
             Some(wanted) => wanted.number == self.made,
@@ -128,7 +132,9 @@ impl Recorder {
     }
 
     /// Notes that the last comparison was refused.
-    pub fn refuse(&mut self) {
+    pub fn refuse(&mut self)
+        ensures { self.new.wanted ≡ self.old.wanted }
+    {
         self.is_refused = true;
     }
 

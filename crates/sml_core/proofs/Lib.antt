@@ -1,0 +1,6 @@
+pub mod Sequences
+pub mod Steps
+pub mod Applying
+pub mod Instances
+pub mod Finding
+pub mod Views

@@ -1,0 +1,108 @@
+-- Answers of scripts in sequence, of the contexts before, between and after.
+use Rattle.std.proofs.Common.{◌≡◌, ◌≤◌, ℕ, length, Result, Ok, Err, subst, sym, ◌∙◌, arith}
+use Rattle.std.specs.Result.{IsErrAnd}
+use Rattle.sml_lex.specs.Faults.{Fault}
+use Rattle.sml_lex.specs.declared.fault.Place.{Place}
+use Rattle.sml_objects.specs.Appearance.{Stands}
+use Rattle.sml_objects.specs.Initial.{Name}
+use Rattle.sml_objects.specs.Objects.{MlType, MlTypes, bound, free, app, arrow, row, name, no_type, and_type}
+use Rattle.sml_layers.specs.Demands.{Mentions, AllMention}
+use Rattle.sml_graph.specs.Interned.{IsOver, AreOver, IsBodyOver, AreBodiesOver}
+use Rattle.sml_rules.specs.Answers.{accepted, refused}
+use Rattle.sml_core_rules.specs.Objects.{Env}
+use Rattle.sml_core_rules.specs.Scopes.{run_scope}
+use Rattle.sml_core_rules.specs.Scripts.{Script, IsAnswer, ◌>>=◌}
+use Rattle.sml_core_rules.specs.States.{State, Window}
+use Rattle.sml_core_rules.proofs.Accepted.{bind-joined}
+use Rattle.sml_core_rules.proofs.Refused.{bind-refused}
+use Rattle.sml_types.specs.declared.fault.CoreFault.{CoreFault}
+use Rattle.sml_asks.specs.Solvers.{IsTypeIn}
+use Rattle.sml_core.specs.declared.context.Context.{Context}
+use Rattle.sml_core.specs.Answered.{IsLater, Reaches, AreValuesIn, unit_of}
+
+-- an error that was handed on
+pub by-err : {X : Type 0} (Q : Result X CoreFault → Type 0) (result : Result X CoreFault) (e : CoreFault) → IsErrAnd result (λ f. f ≡ e) → Q (Err e) → Q result
+by-err Q (Ok x) e is q = absurd is
+by-err Q (Err f) e is q = subst (λ f. Q (Err f)) (sym is) q
+
+pub no-later : (s : State Place Name) → IsLater s s
+no-later s = record { made = omega arith; names = λ n h. h }
+
+-- a type that speaks of what was made speaks of what was made later
+
+mutual
+  unfolding IsOver AreOver
+
+  over-later : (k n : ℕ) → k ≤ n → (t : MlType Name) → IsOver k t → IsOver n t
+  over-later k n le (bound v) o = o
+  over-later k n le (free v) o = omega (arith, le, o)
+  over-later k n le (app h ts) o = all-over-later k n le ts o
+
+  all-over-later : (k n : ℕ) → k ≤ n → (ts : MlTypes Name) → AreOver k ts → AreOver n ts
+  all-over-later k n le no_type o = tt
+  all-over-later k n le (and_type t ts) o = (over-later k n le t o.0, all-over-later k n le ts o.1)
+
+module _ (P Q : Name → Type 0) (more : (n : Name) → P n → Q n) where
+  mutual
+    unfolding Mentions AllMention
+
+    mentions-more : (t : MlType Name) → Mentions P t → Mentions Q t
+    mentions-more (bound v) m = tt
+    mentions-more (free v) m = tt
+    mentions-more (app arrow ts) m = (tt, all-mention-more ts m.1)
+    mentions-more (app (row ls) ts) m = (tt, all-mention-more ts m.1)
+    mentions-more (app (name n) ts) m = (more n m.0, all-mention-more ts m.1)
+
+    all-mention-more : (ts : MlTypes Name) → AllMention P ts → AllMention Q ts
+    all-mention-more no_type m = tt
+    all-mention-more (and_type t ts) m = (mentions-more t m.0, all-mention-more ts m.1)
+
+pub type-later : (s t : State Place Name) → IsLater s t → (u : MlType Name) → IsTypeIn s.made s.names u → IsTypeIn t.made t.names u
+type-later s t l u k = (over-later s.made t.made l.made u k.0, mentions-more (λ n. Stands n s.names) (λ n. Stands n t.names) l.names u k.1)
+
+-- so do the values of an environment
+
+mutual
+  unfolding IsBodyOver AreBodiesOver
+
+  body-later : (b k n : ℕ) → k ≤ n → (t : MlType Name) → IsBodyOver b k t → IsBodyOver b n t
+  body-later b k n le (bound i) o = o
+  body-later b k n le (free v) o = omega (arith, le, o)
+  body-later b k n le (app h ts) o = bodies-later b k n le ts o
+
+  bodies-later : (b k n : ℕ) → k ≤ n → (ts : MlTypes Name) → AreBodiesOver b k ts → AreBodiesOver b n ts
+  bodies-later b k n le no_type o = tt
+  bodies-later b k n le (and_type t ts) o = (body-later b k n le t o.0, bodies-later b k n le ts o.1)
+
+pub values-later : (s t : State Place Name) → IsLater s t → (C : Env Name) → AreValuesIn s.made s.names C → AreValuesIn t.made t.names C
+unfolding AreValuesIn
+values-later s t l C known = λ x v f.
+    let is = known x v f in
+    record {
+      unknowns = body-later (length v.scheme.variables) s.made t.made l.made v.scheme.body is.unknowns;
+      mentions = mentions-more (λ n. Stands n s.names) (λ n. Stands n t.names) l.names v.scheme.body is.mentions;
+      status = is.status;
+    }
+
+-- one after the other
+
+module _ {X Y : Type 0} (around : Window Place Name) (old mid : Context) (k : Script Place Name X) (next : X → Script Place Name Y) (s t : State Place Name) (x : X)
+    (first : Reaches around old k s mid x t) where
+  joined : (o : _) → IsAnswer (run_scope (unit_of mid)) (next x) t o → IsAnswer (run_scope (unit_of old)) (k >>= next) s o
+  joined o a = bind-joined (run_scope (unit_of old)) k next s (x, t) o first.answer (subst (λ u. IsAnswer (run_scope u) (next x) t o) first.unit a)
+
+  pub then-reaches : (new : Context) (y : Y) (u : State Place Name) → Reaches around mid (next x) t new y u → Reaches around old (k >>= next) s new y u
+  then-reaches new y u then = record {
+    answer = joined (accepted (y, u)) then.answer;
+    at = then.at;
+    unit = then.unit ∙ first.unit;
+    scopes = then.scopes ∙ first.scopes;
+    later = record { made = omega (arith, first.later.made, then.later.made); names = λ n h. then.later.names n (first.later.names n h) };
+  }
+
+  pub then-refused : (f : Fault Place) → IsAnswer (run_scope (unit_of mid)) (next x) t (refused f) → IsAnswer (run_scope (unit_of old)) (k >>= next) s (refused f)
+  then-refused f a = joined (refused f) a
+
+pub first-refused : {X Y : Type 0} (old : Context) (k : Script Place Name X) (next : X → Script Place Name Y) (s : State Place Name) (f : Fault Place) → IsAnswer (run_scope (unit_of old)) k s (refused f)
+    → IsAnswer (run_scope (unit_of old)) (k >>= next) s (refused f)
+first-refused old k next s f a = bind-refused (run_scope (unit_of old)) k next s f a

@@ -34,7 +34,7 @@ module _ {N : Type 0} where
       go Equal k = (e, h.1)
       go Greater k = (h.0, k)
 
-  join-usual : (ss rs : Structures (TyStr N) (Value N)) → HaveNoOverloaded ss → HaveNoOverloaded rs → HaveNoOverloaded (join_structures ss rs)
+  pub join-usual : (ss rs : Structures (TyStr N) (Value N)) → HaveNoOverloaded ss → HaveNoOverloaded rs → HaveNoOverloaded (join_structures ss rs)
   unfolding HasNoOverloaded
   join-usual ss no_structure h k = h
   join-usual ss (and_structure r E rs) h k = join-usual (put_structure r E ss) rs (put-usual r E ss k.0 h) k.1

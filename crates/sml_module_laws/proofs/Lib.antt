@@ -3,4 +3,9 @@ pub mod Realised
 pub mod Steps
 pub mod Described
 pub mod Signatures
+pub mod Matched
+pub mod Windows
+pub mod Usual
+pub mod Structures
+pub mod Parts
 pub mod Made

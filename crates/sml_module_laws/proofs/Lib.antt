@@ -8,4 +8,7 @@ pub mod Windows
 pub mod Usual
 pub mod Structures
 pub mod Parts
+pub mod Cleaned
+pub mod Listed
+pub mod Tops
 pub mod Made

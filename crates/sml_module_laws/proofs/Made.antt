@@ -3,6 +3,9 @@ use Rattle.std.specs.Prelude.{◌≡◌, ℕ, List, [], ◌∷◌}
 use mathlib.Core.Path.{refl}
 use Rattle.sml_lex.specs.declared.fault.Place.{Place}
 use Rattle.sml_objects.specs.Initial.{Name, naming}
+use Rattle.sml_objects.specs.Objects.{name}
+use Rattle.sml_layers.specs.Explicit.{variable_name}
+use Rattle.sml_layers.specs.declared.variable.Variable.{Variable}
 use Rattle.sml_core_rules.specs.Objects.{Basis}
 use Rattle.sml_core_rules.specs.Scopes.{run_scope}
 use Rattle.sml_core_rules.specs.Scripts.{Script}
@@ -10,13 +13,14 @@ use Rattle.sml_core_rules.specs.States.{State, Window, no_window}
 use Rattle.sml_core_laws.specs.Made.{IsWellMade, Takes}
 use Rattle.sml_core_laws.proofs.MadeTakes.{takes-shape}
 use Rattle.sml_module_rules.specs.Structures.{read_str, read_strdec, parts}
-use Rattle.sml_module_laws.specs.Made.{IsResultAt, IsAddedAt, AllKeep, SignaturesSpeakOfWhatWasMade, AscriptionsSpeakOfWhatWasMade, ApplicationsSpeakOfWhatWasMade, StructuresSpeakOfWhatWasMade, DeclarationsSpeakOfWhatWasMade, PartsSpeakOfWhatWasMade}
+use Rattle.sml_module_laws.specs.Made.{IsResultAt, IsAddedAt, AllKeep, SignaturesSpeakOfWhatWasMade, AscriptionsSpeakOfWhatWasMade, ApplicationsSpeakOfWhatWasMade, StructuresSpeakOfWhatWasMade, DeclarationsSpeakOfWhatWasMade, PartsSpeakOfWhatWasMade, ReadingsOfModulesSpeakOfWhatWasMade}
 use Rattle.sml_module_laws.proofs.Steps.{Ready, Goes, BodyAt}
 use Rattle.sml_module_laws.proofs.Described.{SigAt}
 use Rattle.sml_module_laws.proofs.Signatures.{sig-goes}
 use Rattle.sml_module_laws.proofs.Matched.{ascribe-goes, functor-goes}
 use Rattle.sml_module_laws.proofs.Structures.{Reaches, str-reaches, strdec-reaches}
 use Rattle.sml_module_laws.proofs.Parts.{AllReach, parts-reach}
+use Rattle.sml_module_laws.proofs.Tops.{tops-in}
 
 ready : {P : Type 0} (unit : ℕ) (s : State P Name) (w : Window P Name) → s.window ≡ w → IsWellMade (Takes naming) (run_scope unit) s → Ready (Takes naming) (run_scope unit) w s
 ready unit s w e h = record { exact = λ n k e. e; known = record { shape = takes-shape; well = h }; window = e }
@@ -57,3 +61,11 @@ parts-speak unit B d = all (parts (run_scope unit) B d) (parts-reach (Takes nami
           let d = g.ends (ready unit s no_window o w) (A, t) a in (d.0.known.well, d.0.window, d.1, d.2),
       all ks h.1,
     )
+
+-- the names of explicit variables have no parameters
+variables : (x : Variable) → Takes naming (name (variable_name x)) 0
+unfolding naming
+variables x = refl
+
+pub tops-speak : ReadingsOfModulesSpeakOfWhatWasMade
+tops-speak unit B p d A initials inside h = tops-in (Takes naming) (run_scope unit) (λ n k e. e) takes-shape variables B initials inside p d A h

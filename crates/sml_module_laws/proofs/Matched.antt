@@ -1,6 +1,5 @@
 -- What structures are matched to, and what functors give, speaks of what was made.
 use Rattle.std.specs.Prelude.{◌≡◌, ◌+◌, ◌<◌, ◌≤◌, ◌||◌, ℕ, suc, Bool, true, false, cond, nat_eq, List, [], ◌∷◌, ◌++◌, map, length, Option, Some, None}
-use Rattle.std.specs.List.{AllByRecursion}
 use Rattle.std.proofs.Common.{arith}
 use Rattle.std.proofs.lemmas.Bool.{eqb-true}
 use mathlib.Core.Path.{refl, sym, ap, subst, ◌∙◌}
@@ -9,14 +8,14 @@ use Rattle.sml_tree.specs.Trees.{Id, LongId}
 use Rattle.sml_tree.specs.declared.structures.Ascription.{Ascription}
 use Rattle.sml_tree.specs.declared.structures.Ascription.TheVariants.{Transparent, Opaque}
 use Rattle.sml_objects.specs.Maps.{Map}
-use Rattle.sml_objects.specs.Objects.{MlType, Scheme, Head, free}
+use Rattle.sml_objects.specs.Objects.{Scheme, Head, free}
 use Rattle.sml_objects.specs.Types.{instance_from}
-use Rattle.sml_rules.specs.Answers.{Answer, refused, accepted}
+use Rattle.sml_rules.specs.Answers.{Answer, accepted}
 use Rattle.sml_rules.specs.Lookups.{Found, found, no_path, no_entry}
 use Rattle.sml_rules.specs.Matching.{Realisation}
 use Rattle.sml_rules.proofs.Sound.{accepted_same, not_refused}
 use Rattle.sml_core_rules.specs.Answers.{check, ◌>>=◌}
-use Rattle.sml_core_rules.specs.Lookups.{type_at, value_at, structure_at}
+use Rattle.sml_core_rules.specs.Lookups.{type_at, value_at}
 use Rattle.sml_core_rules.specs.Objects.{Env, Structures, TyStr, Value, Sig, FunSig, maps, no_structure, and_structure}
 use Rattle.sml_core_rules.specs.Scripts.{test}
 use Rattle.sml_core_rules.specs.States.{Scope, State, Window}
@@ -26,12 +25,11 @@ use Rattle.sml_core_laws.proofs.MadeShapes.{heads-more}
 use Rattle.sml_core_laws.proofs.MadeTypes.{Each, replaced-speaks}
 use Rattle.sml_core_laws.proofs.MadeEnvs.{type-found, value-found, str-more, scheme-more}
 use Rattle.sml_core_laws.proofs.MadeScripts.{EnvAt, Done, env-up, onwards}
-use Rattle.sml_module_rules.specs.Lines.{Line, a_structure, a_type, a_value, at_path, lines, structure_lines, type_lines, value_lines, component}
+use Rattle.sml_module_rules.specs.Lines.{Line, a_structure, a_type, a_value, lines, structure_lines, type_lines, value_lines, component}
 use Rattle.sml_module_rules.specs.Matching.{read_realisation, function_for, is_next, admit_equality, stand_alone, require_general, require_lines, match_signature, ascribe, apply_functor}
 use Rattle.sml_module_rules.specs.Realising.{realise_env, name_of, no_function, with_function, with_names}
-use Rattle.sml_module_laws.specs.Made.{IsBodyIn}
 use Rattle.sml_module_laws.proofs.Realised.{IsExact, AreFunctionsIn, none-in, with-in, names-in, named-arity, env-realised}
-use Rattle.sml_module_laws.proofs.Steps.{Ready, Goes, BodyAt, body-up, first, knows, gives, looks, chooses, checks, unknowns, requires, sees, makes-names}
+use Rattle.sml_module_laws.proofs.Steps.{Goes, BodyAt, body-up, first, knows, gives, looks, chooses, checks, unknowns, requires, sees, makes-names}
 use Rattle.sml_module_laws.proofs.Described.{SigAt, bound-by}
 use Rattle.sml_module_laws.proofs.Signatures.{renewed-goes}
 

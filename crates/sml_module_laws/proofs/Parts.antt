@@ -1,11 +1,10 @@
 -- The parts of top-level declarations are read to what was made: structures, signatures and functors.
 use Rattle.std.specs.Prelude.{ℕ, List, [], ◌∷◌, map}
-use Rattle.std.specs.List.{AllByRecursion}
 use Rattle.sml_tree.specs.Names.{Name}
 use Rattle.sml_tree.specs.Structures.{StrExp, StrDec, StrBinds, SigBind, FunBind, TopDec, core_dec, structure_dec, str_local, str_bind, no_str_bind, and_str_bind, top_str, signature_dec, functor_dec}
 use Rattle.sml_objects.specs.Maps.{Map, put}
 use Rattle.sml_objects.specs.Objects.{Head}
-use Rattle.sml_core_rules.specs.Objects.{Env, Sig, Basis, extend}
+use Rattle.sml_core_rules.specs.Objects.{Sig, Basis, extend}
 use Rattle.sml_core_rules.specs.Scripts.{Script}
 use Rattle.sml_core_rules.specs.States.{Scope, State, no_window}
 use Rattle.sml_core_laws.proofs.MadeTypes.{each-put}

@@ -1,6 +1,5 @@
 -- Structure expressions and structure-level declarations are read to what was made.
-use Rattle.std.specs.Prelude.{◌≡◌, ◌≤◌, ◌<◌, ℕ, Bool, true, false, cond, List, [], ◌∷◌, Option, Some, None}
-use Rattle.std.specs.List.{AllByRecursion}
+use Rattle.std.specs.Prelude.{◌≡◌, ◌≤◌, ℕ, Bool, true, false, cond, [], Option, Some, None}
 use Rattle.std.proofs.Common.{arith}
 use Rattle.std.proofs.lemmas.Bool.{false≢true}
 use mathlib.Core.Path.{refl, sym, subst, ◌∙◌}
@@ -9,18 +8,18 @@ use Rattle.sml_tree.specs.Trees.{Id}
 use Rattle.sml_tree.specs.Names.{Name}
 use Rattle.sml_tree.specs.Expressions.{Dec}
 use Rattle.sml_tree.specs.Structures.{StrExp, StrDec, StrDecs, StrBinds, struct_end, str_name, ascribed, functor_apply, str_let, core_dec, structure_dec, str_local, no_str_dec, and_str_dec, str_bind, no_str_bind, and_str_bind}
-use Rattle.sml_objects.specs.Maps.{Map, lookup}
+use Rattle.sml_objects.specs.Maps.{lookup}
 use Rattle.sml_objects.specs.Objects.{Head}
 use Rattle.sml_rules.specs.Answers.{accepted}
 use Rattle.sml_rules.proofs.Sound.{accepted_same, not_refused}
 use Rattle.sml_core_rules.specs.Expressions.{read_dec}
 use Rattle.sml_core_rules.specs.Lookups.{structure_at}
-use Rattle.sml_core_rules.specs.Objects.{Env, FunSig, Basis, maps, no_structure, and_structure, empty, extend}
+use Rattle.sml_core_rules.specs.Objects.{Env, FunSig, Basis, empty, extend}
 use Rattle.sml_core_rules.specs.Scripts.{Script, give, refuse, ◌>>=◌, start_anew, IsAnswer}
-use Rattle.sml_core_rules.specs.States.{Scope, State, words, no_window, afresh}
+use Rattle.sml_core_rules.specs.States.{Scope, State, no_window, afresh}
 use Rattle.sml_core_rules.proofs.Accepted.{bind-accepted}
 use Rattle.sml_core_rules.proofs.Derived.{needed}
-use Rattle.sml_core_laws.specs.Made.{IsEnvIn, IsDemandIn, IsWindowIn, IsWellMade, IsGrown}
+use Rattle.sml_core_laws.specs.Made.{IsEnvIn, IsWindowIn, IsGrown}
 use Rattle.sml_core_laws.proofs.MadeTypes.{each-lookup, all-more}
 use Rattle.sml_core_laws.proofs.MadeEnvs.{env-more, extend-in, empty-in, opened-found}
 use Rattle.sml_core_laws.proofs.MadeExpressions.{dec-leads, DecAt}
@@ -30,7 +29,7 @@ use Rattle.sml_module_laws.specs.Made.{HasNoOverloaded, IsEnvAt, IsContextAt, Is
 use Rattle.sml_module_laws.proofs.Bodies.{body-env, body-more, extend-usual, empty-usual}
 use Rattle.sml_module_laws.proofs.Steps.{Ready, Goes, BodyAt, looks}
 use Rattle.sml_module_laws.proofs.Described.{SigAt}
-use Rattle.sml_module_laws.proofs.Signatures.{SignaturesAt, sig-goes}
+use Rattle.sml_module_laws.proofs.Signatures.{sig-goes}
 use Rattle.sml_module_laws.proofs.Matched.{FunctorAt, ascribe-goes, functor-goes}
 use Rattle.sml_module_laws.proofs.Windows.{dec-keeps}
 use Rattle.sml_module_laws.proofs.Usual.{structure-usual, extend-inside, dec-brings}

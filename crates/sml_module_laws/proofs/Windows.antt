@@ -14,7 +14,7 @@ use Rattle.sml_rules.proofs.Sound.{accepted_same, not_refused}
 use Rattle.sml_core_rules.specs.Datatypes.{Arguments}
 use Rattle.sml_core_rules.specs.Expressions.{Begun, Bound, bounds, close_all, require_bounds, not_in_scope, scope_variables, end_values, begin_values, read_types, read_datatypes, read_dec, read_decs, read_exp}
 use Rattle.sml_core_rules.specs.Objects.{Env, empty, extend}
-use Rattle.sml_core_rules.specs.Scripts.{Script, give, sees, makes_datatypes, ◌>>=◌, look, test, require, so_far, set_window, stay_open, close, IsAnswer}
+use Rattle.sml_core_rules.specs.Scripts.{Script, give, makes_datatypes, ◌>>=◌, look, test, require, so_far, set_window, stay_open, close, IsAnswer}
 use Rattle.sml_core_rules.specs.States.{Scope, State, Window, no_window, with_made}
 use Rattle.sml_core_rules.specs.Values.{has_unknown}
 use Rattle.sml_core_rules.proofs.Accepted.{bind-accepted}

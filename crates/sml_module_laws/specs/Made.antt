@@ -1,6 +1,6 @@
 -- That readings of modules keep to what was made: names that were made and, in environments, unknowns that were made. A signature has
 -- no unknown, and no overloaded identifier, which only the initial basis has.
-use Rattle.std.specs.Prelude.{◌≡◌, ◌≤◌, ℕ, true, false, List, [], ◌∷◌}
+use Rattle.std.specs.Prelude.{◌≡◌, ◌≤◌, ℕ, true, false, List, [], ◌∷◌, ◌++◌}
 use Rattle.std.specs.List.{AllByRecursion}
 use Rattle.sml_lex.specs.declared.fault.Place.{Place}
 use Rattle.sml_tree.specs.Signatures.{SigExp}
@@ -9,6 +9,7 @@ use Rattle.sml_tree.specs.Structures.{StrExp, StrDec, TopDec}
 use Rattle.sml_objects.specs.Appearance.{Stands}
 use Rattle.sml_objects.specs.Initial.{Name, naming}
 use Rattle.sml_objects.specs.Maps.{Map}
+use Rattle.sml_objects.specs.Names.{Initial}
 use Rattle.sml_objects.specs.Objects.{Head}
 use Rattle.sml_rules.specs.Answers.{accepted}
 use Rattle.sml_core_rules.specs.Objects.{Env, Structures, Status, TyStr, Value, Sig, FunSig, Basis, variable, constructor, exception, overloaded, maps, no_structure, and_structure, structures}
@@ -18,7 +19,7 @@ use Rattle.sml_core_rules.specs.States.{State, no_window}
 use Rattle.sml_core_laws.specs.Made.{IsEnvIn, IsWellMade, IsGrown, Takes}
 use Rattle.sml_module_rules.specs.Matching.{ascribe, apply_functor}
 use Rattle.sml_module_rules.specs.Signatures.{read_sig}
-use Rattle.sml_module_rules.specs.Structures.{read_str, read_strdec, parts}
+use Rattle.sml_module_rules.specs.Structures.{Added, add_basis, read_str, read_strdec, parts, IsTopReading}
 
 abbrev pub IsNotOverloaded : Status → Type 0
 IsNotOverloaded variable = Unit {0}
@@ -129,3 +130,18 @@ AllKeep unit B (k ∷ ks) = PartKeeps unit B k × AllKeep unit B ks
 
 abbrev pub PartsSpeakOfWhatWasMade : Type 0
 PartsSpeakOfWhatWasMade = (unit : ℕ) (B : Basis Name) (d : TopDec Place) → AllKeep unit B (parts (run_scope unit) B d)
+
+-- Top-level declarations: a basis speaks of no unknown, and only of names that are listed.
+
+-- what is added, whose environment is behind structures too
+abbrev pub IsPartIn : {N : Type 0} → (Head N → ℕ → Type 0) → List N → Basis N → Type 0
+IsPartIn S names A = IsBodyIn S names A.body × IsScopeIn S names A
+
+abbrev pub IsBasisIn : {N : Type 0} → (Head N → ℕ → Type 0) → List N → Basis N → Type 0
+IsBasisIn S names B = (IsEnvIn S 0 names B.body × HaveNoOverloaded (structures B.body)) × IsScopeIn S names B
+
+-- With the names of the basis, among them the initial ones, the names that a declaration lists are all that it adds.
+abbrev pub ReadingsOfModulesSpeakOfWhatWasMade : Type 0
+ReadingsOfModulesSpeakOfWhatWasMade =
+    (unit : ℕ) (B : Basis Name) (p : Place) (d : TopDec Place) (A : Added Place Name) → ((k : Initial) → Stands (naming.initial k) B.names) → IsBasisIn (Takes naming) B.names B
+    → IsTopReading (run_scope unit) p B d (accepted A) → IsBasisIn (Takes naming) (A.basis.names ++ B.names) (add_basis B A.basis)

@@ -1,6 +1,6 @@
 //! What is known of the readings of modules beside what sml_module_rules promises.
 
-ghost use Rattle.sml_module_laws.specs.Made.{ApplicationsSpeakOfWhatWasMade, AscriptionsSpeakOfWhatWasMade, DeclarationsSpeakOfWhatWasMade, PartsSpeakOfWhatWasMade, SignaturesSpeakOfWhatWasMade, StructuresSpeakOfWhatWasMade};
+ghost use Rattle.sml_module_laws.specs.Made.{ApplicationsSpeakOfWhatWasMade, AscriptionsSpeakOfWhatWasMade, DeclarationsSpeakOfWhatWasMade, PartsSpeakOfWhatWasMade, ReadingsOfModulesSpeakOfWhatWasMade, SignaturesSpeakOfWhatWasMade, StructuresSpeakOfWhatWasMade};
 
 /// What a signature expression is read to speaks of what was made: names of its environment and of the signatures in scope, and those
 /// that it made. It has no unknown, and all that was made before stays.
@@ -31,4 +31,9 @@ pub fn declarations_speak_of_what_was_made()
 /// And so does what each part of a top-level declaration binds: structures, signatures, and functors with their arguments and results.
 pub fn parts_speak_of_what_was_made()
     ensures { PartsSpeakOfWhatWasMade }
+{}
+
+/// A basis with what a top-level declaration adds to it speaks of no unknown, and only of the names that are listed, if the basis did.
+pub fn readings_of_modules_speak_of_what_was_made()
+    ensures { ReadingsOfModulesSpeakOfWhatWasMade }
 {}

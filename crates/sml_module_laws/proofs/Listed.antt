@@ -46,9 +46,10 @@ module _ {N : Type 0} (S : Head N → ℕ → Type 0) (M : List N) where
         (closed-listed c.1 h.0 (λ n k. a n (left n (names_scheme c.1) (names_map names_scheme cs) k)), constructors-listed cs h.1 (λ n k. a n (right n (names_scheme c.1) (names_map names_scheme cs) k)))
 
     str-listed : (t : TyStr N) → IsTyStrIn S L t → Among (names_ty_str t) M → IsTyStrIn S M t
-    str-listed t h a =
-        (closed-listed t.function h.0 (λ n k. a n (left n (names_scheme t.function) (names_map names_scheme t.constructors) k)),
-        constructors-listed t.constructors h.1 (λ n k. a n (right n (names_scheme t.function) (names_map names_scheme t.constructors) k)))
+    str-listed t h a = (
+      closed-listed t.function h.0 (λ n k. a n (left n (names_scheme t.function) (names_map names_scheme t.constructors) k)),
+      constructors-listed t.constructors h.1 (λ n k. a n (right n (names_scheme t.function) (names_map names_scheme t.constructors) k)),
+    )
 
     strs-listed : (ts : Map (TyStr N)) → Each (IsTyStrIn S L) ts → Among (names_map names_ty_str ts) M → Each (IsTyStrIn S M) ts
     strs-listed [] h a = tt
@@ -60,9 +61,10 @@ module _ {N : Type 0} (S : Head N → ℕ → Type 0) (M : List N) where
 
     values-listed : (vs : Map (Value N)) → Each (IsValueIn S 0 L) vs → Among (names_map value_names vs) M → Each (IsValueIn S 0 M) vs
     values-listed [] h a = tt
-    values-listed (v ∷ vs) h a =
-        ((type-listed _ _ (IsHeadIn S L) (λ h k q. q.1) v.1.scheme.body h.0.0 (λ n k. a n (left n (value_names v.1) (names_map value_names vs) k)), h.0.1),
-        values-listed vs h.1 (λ n k. a n (right n (value_names v.1) (names_map value_names vs) k)))
+    values-listed (v ∷ vs) h a = (
+      (type-listed _ _ (IsHeadIn S L) (λ h k q. q.1) v.1.scheme.body h.0.0 (λ n k. a n (left n (value_names v.1) (names_map value_names vs) k)), h.0.1),
+      values-listed vs h.1 (λ n k. a n (right n (value_names v.1) (names_map value_names vs) k)),
+    )
 
     mutual
       unfolding IsEnvIn names_in

@@ -107,8 +107,8 @@ module _ {N : Type 0} (S : Head N → ℕ → Type 0) (names : List N) where
 
         go : (o : Option N) → name_of t.function ≡ o
             → ◌≡◌ {A = Answer P (Realisation N)} (elim o [
-            | None ↦ read_realisation scope.names p bound E φ ls
-            | Some n ↦ cond (is_next scope.names p bound E φ n) (function_for scope.names p bound E x n t >>= (λ θ. read_realisation scope.names p bound E (with_function scope.names n θ φ) ls)) (read_realisation scope.names p bound E φ ls)
+              | None ↦ read_realisation scope.names p bound E φ ls
+              | Some n ↦ cond (is_next scope.names p bound E φ n) (function_for scope.names p bound E x n t >>= (λ θ. read_realisation scope.names p bound E (with_function scope.names n θ φ) ls)) (read_realisation scope.names p bound E φ ls)
             ]) (accepted ψ) → Next → AreFunctionsIn scope.names S names ψ
         go None e a next = next φ good a
         go (Some n) e a next = then n e (is_next scope.names p bound E φ n) a next

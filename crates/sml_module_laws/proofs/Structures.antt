@@ -62,7 +62,7 @@ module _ {P N : Type 0} (S : Head N → ℕ → Type 0) where
     scope-up B h = (
       all-more (λ R. BodyAt S R.1.body s) (λ R. BodyAt S R.1.body t) (λ R k. body-more S s.names t.names l.names R.1.body k) B.signatures h.0,
       all-more (λ F. FunctorAt S F.1 s) (λ F. FunctorAt S F.1 t)
-      (λ F k. (body-more S s.names t.names l.names F.1.argument.body k.0, body-more S s.names t.names l.names F.1.result.body k.1)) B.functors h.1,
+          (λ F k. (body-more S s.names t.names l.names F.1.argument.body k.0, body-more S s.names t.names l.names F.1.result.body k.1)) B.functors h.1,
     )
 
   both-extend : (s : State P N) (E F : Env N) → IsEnvAt S s E → IsEnvAt S s F → IsEnvAt S s (extend E F)

@@ -115,10 +115,12 @@ module _ {N : Type 0} (S : Head N → ℕ → Type 0) where
       → IsPartIn S L (basis_with_types σ A)
   basis-given s L more σ given A h = (
     (env-given s.made s.names L more σ given A.body h.0.0.0, usual-given s.made s.names L more σ given A.body h.0.1),
-    (all-more (λ e. IsBodyIn S s.names e.1.body) (λ e. IsBodyIn S L e.1.body) (λ e k. body-more S s.names L more e.1.body k) A.signatures h.1,
-    functors-given s.made s.names L more σ given A.functors
-    (all-more (λ e. IsBodyIn S s.names e.1.argument.body × IsResultAt S s e.1.result.body)
-    (λ e. IsBodyIn S s.names e.1.argument.body × (IsEnvIn S s.made s.names e.1.result.body × HasNoOverloaded e.1.result.body)) (λ e k. (k.0, (k.1.0.0, k.1.1))) A.functors h.2)),
+    (
+      all-more (λ e. IsBodyIn S s.names e.1.body) (λ e. IsBodyIn S L e.1.body) (λ e k. body-more S s.names L more e.1.body k) A.signatures h.1,
+      functors-given s.made s.names L more σ given A.functors
+          (all-more (λ e. IsBodyIn S s.names e.1.argument.body × IsResultAt S s e.1.result.body)
+          (λ e. IsBodyIn S s.names e.1.argument.body × (IsEnvIn S s.made s.names e.1.result.body × HasNoOverloaded e.1.result.body)) (λ e k. (k.0, (k.1.0.0, k.1.1))) A.functors h.2),
+    ),
   )
 
   -- over the names that stand in it
@@ -139,9 +141,10 @@ module _ {N : Type 0} (S : Head N → ℕ → Type 0) where
     functors-listed scope old (e ∷ fs) h a =
         let F : FunSig N = fun_sig scope old e.1 in
         let rest = names_map names_fun_sig (replaced (fun_sig scope old) fs) in
-        let here : Among (names_fun_sig F) M = λ n k. a n (left n (names_fun_sig F) rest k) in
-        ((sig-listed F.argument h.0.0 (λ n k. here n (left n (names_sig F.argument) (names_sig F.result) k)), sig-listed F.result h.0.1 (λ n k. here n (right n (names_sig F.argument) (names_sig F.result) k))),
-        functors-listed scope old fs h.1 (λ n k. a n (right n (names_fun_sig F) rest k)))
+        let here : Among (names_fun_sig F) M = λ n k. a n (left n (names_fun_sig F) rest k) in (
+          (sig-listed F.argument h.0.0 (λ n k. here n (left n (names_sig F.argument) (names_sig F.result) k)), sig-listed F.result h.0.1 (λ n k. here n (right n (names_sig F.argument) (names_sig F.result) k))),
+          functors-listed scope old fs h.1 (λ n k. a n (right n (names_fun_sig F) rest k)),
+        )
 
   own-listed : (scope : Scope N) (old L : List N) (A : Basis N) → IsPartIn S L A → IsPartIn S ((own_basis scope old A).names ++ old) (own_basis scope old A)
   own-listed scope old L A h =

@@ -1,0 +1,14 @@
+pub mod Bodies
+pub mod Realised
+pub mod Steps
+pub mod Described
+pub mod Signatures
+pub mod Matched
+pub mod Windows
+pub mod Usual
+pub mod Structures
+pub mod Parts
+pub mod Cleaned
+pub mod Listed
+pub mod Tops
+pub mod Made

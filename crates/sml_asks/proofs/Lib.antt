@@ -17,3 +17,5 @@ pub mod Mentioning
 pub mod Numbering
 pub mod Scoping
 pub mod Allowing
+pub mod Choosing
+pub mod Determining

@@ -7,7 +7,7 @@ use Rattle.sml_lex.specs.declared.fault.Place.{Place}
 use Rattle.sml_objects.specs.Initial.{Name, naming}
 use Rattle.sml_objects.specs.Objects.{MlType, Scheme}
 use Rattle.sml_objects.specs.Sizes.{type_size}
-use Rattle.sml_objects.specs.Types.{variables_after}
+use Rattle.sml_objects.specs.Types.{assign, variables_after}
 use Rattle.sml_objects.specs.Views.{type_of, scheme_of}
 use Rattle.sml_objects.specs.declared.fates.Fate.{Fate}
 use Rattle.sml_objects.specs.declared.fates.Fate.TheVariants.{Bind, Keep, Default}
@@ -15,7 +15,9 @@ use Rattle.sml_objects.specs.declared.objects.MlType as P
 use Rattle.sml_objects.specs.declared.objects.Scheme as Q
 use Rattle.sml_graph.specs.declared.demand.Halt.{Halt}
 use Rattle.sml_graph.specs.declared.demand.Halt.TheVariants as H
-use Rattle.sml_graph.specs.Asked.{Asked, IsOf, IsSchemeOf, count}
+use Rattle.sml_layers.specs.declared.layer.Layer.TheVariants.{Finiteness}
+use Rattle.sml_layers.specs.Worlds.{Assignment, finite}
+use Rattle.sml_graph.specs.Asked.{Asked, IsOf, IsSchemeOf, Permits, count}
 use Rattle.sml_graph.specs.Interned.{IsOver, IsBodyOver}
 use Rattle.sml_schemes.specs.Left as L
 use Rattle.sml_schemes.specs.Fixed as F
@@ -27,7 +29,7 @@ use Rattle.sml_core_rules.specs.Solutions as C
 use Rattle.sml_core_rules.specs.States.{State}
 use Rattle.sml_asks.specs.Solvers.{SolverIs}
 use Rattle.sml_asks.specs.Closings.{IsReadingUpTo, IsSchemeUpTo, AreContext, FlagsAreContexts, ReadingsHaveSchemes, AsksReading, AsksScheme}
-use Rattle.sml_asks.proofs.Leaving.{left-same, reading-same, flexible-same, int-same, equality-same}
+use Rattle.sml_asks.proofs.Leaving.{left-same, reading-same, flexible-same, int-same, equality-same, permits}
 use Rattle.sml_asks.proofs.Closing.{kept-stays}
 use Rattle.sml_asks.proofs.Fates.{readings-large}
 
@@ -112,10 +114,11 @@ module _ (new : Asked) (unit next first : ℕ) (s : State Place Name) (is : Solv
 
   scheme-found : (t : MlType Name) (limit : ℕ) (found : Option Q.Scheme) → IfSome found (λ θ. S.IsScheme new more x t (scheme_of θ)) → IfSome found (λ θ. IsSchemeOf new (scheme_of θ))
       → IfSome found (λ θ. type_size (scheme_of θ).body ≤ limit) → IfNone found ((θ : Scheme Name) → S.IsScheme new more x t θ → limit < type_size θ.body)
+      → IfNone found ((σ : Assignment Name finite) → Permits Finiteness new σ → limit < type_size (assign σ t))
       → IsSchemeUpTo unit s first x t limit (option_map scheme_of found)
-  scheme-found t limit (Some θ) reads known within none =
+  scheme-found t limit (Some θ) reads known within none all-large =
       (scheme-there t (scheme_of θ) reads, within, subst (λ n. IsBodyOver (length (scheme_of θ).variables) n (scheme_of θ).body) is.unknowns known)
-  scheme-found t limit None reads known within none = (schemes-large, large)
+  scheme-found t limit None reads known within none all-large = (schemes-large, large, λ σ h. all-large σ (permits unit next new s is Finiteness σ h))
     where
       large : (r : MlType Name) → C.StandsFor (run_scope unit) s t r → limit < type_size r
       large r h = readings-large new more x t limit none r ((reading-same unit next new s is t r).0 h)
@@ -129,17 +132,19 @@ pub scheme-after : (old mid new : Asked) (t : MlType Name) (flags more : List Bo
     → (IsOf old t → (made ≡ Ok tt) × (mid ≡ old)) → (limit + 1 < 2 ^ 32 → low ≡ limit) → ((v : ℕ) → v < count mid → F.IsMarked more v ↔ F.IsMarked flags v)
     → IfOk result (λ found. IfSome found (λ θ. S.IsScheme new more x t (scheme_of θ))) → IfOk result (λ found. IfSome found (λ θ. IsSchemeOf new (scheme_of θ)))
     → IfOk result (λ found. IfSome found (λ θ. type_size (scheme_of θ).body ≤ low))
-    → IfOk result (λ found. IfNone found ((θ : Scheme Name) → S.IsScheme new more x t θ → low < type_size θ.body)) → Keeps mid new result H.Spent
+    → IfOk result (λ found. IfNone found ((θ : Scheme Name) → S.IsScheme new more x t θ → low < type_size θ.body))
+    → IfOk result (λ found. IfNone found ((σ : Assignment Name finite) → Permits Finiteness new σ → low < type_size (assign σ t))) → Keeps mid new result H.Spent
     → IfOk result (λ found. AsksScheme old t flags x limit (option_map scheme_of found) new)
 unfolding AsksScheme
-scheme-after old mid new t flags more x limit low made (Err h) same lower marks reads known within none c = tt
-scheme-after old mid new t flags more x limit low made (Ok found) same lower marks reads known within none c = λ unit next first s is over context small.
+scheme-after old mid new t flags more x limit low made (Err h) same lower marks reads known within none large c = tt
+scheme-after old mid new t flags more x limit low made (Ok found) same lower marks reads known within none large c = λ unit next first s is over context small.
     let e : mid ≡ old = (same (subst (λ n. IsOver n t) (sym is.unknowns) over)).1 in
     let is' : SolverIs unit next new s = kept-stays unit next old mid new s is e c.same c.count c.returns.unit c.returns.kept in
     let marks' : (v : ℕ) → v < s.made → F.IsMarked more v ↔ F.IsMarked flags v = λ v k. marks v (subst (λ n. v < n) (sym (ap count e ∙ is.unknowns)) k) in
     let q = scheme-found new unit next first s is' x flags more context marks' t limit found reads known
     (subst (λ n. IfSome found (λ θ. type_size (scheme_of θ).body ≤ n)) (lower small) within)
-    (subst (λ n. IfNone found ((θ : Scheme Name) → S.IsScheme new more x t θ → n < type_size θ.body)) (lower small) none) in
+    (subst (λ n. IfNone found ((θ : Scheme Name) → S.IsScheme new more x t θ → n < type_size θ.body)) (lower small) none)
+    (subst (λ n. IfNone found ((σ : Assignment Name finite) → Permits Finiteness new σ → n < type_size (assign σ t))) (lower small) large) in
     (q, is')
 
 -- what follows of states alone

@@ -29,7 +29,7 @@ module _ (n : ℕ) (σ τ : ℕ → MlType Name) (same : (v : ℕ) → v < n →
   mutual
     unfolding IsOver AreOver replace_type replace_types
 
-    assigned-same : (t : MlType Name) → IsOver n t → assign σ t ≡ assign τ t
+    pub assigned-same : (t : MlType Name) → IsOver n t → assign σ t ≡ assign τ t
     assigned-same (bound k) o = refl
     assigned-same (free v) o = same v o
     assigned-same (app h ts) o = ap (app h) (all-assigned-same ts o)

@@ -21,7 +21,7 @@ listed v (w ∷ ws) h = go (nat_eq v w) refl h (listed v ws)
     go false e k next = inr (next k)
 
 module _ (σ τ : Assignment Name finite) where
-  abbrev Agree : List ℕ → Type 0
+  abbrev pub Agree : List ℕ → Type 0
   Agree ws = (w : ℕ) → Stands w ws → σ w ≡ τ w
 
   and-one : (seen : List ℕ) (v : ℕ) → Agree seen → σ v ≡ τ v → Agree (seen ++ v ∷ [])
@@ -40,7 +40,7 @@ module _ (σ τ : Assignment Name finite) where
   mutual
     unfolding replace_type replace_types variables_after variables_after_all
 
-    there : (t : MlType Name) (seen : List ℕ) → Agree seen → assign σ t ≡ assign τ t → Agree (variables_after seen t)
+    pub there : (t : MlType Name) (seen : List ℕ) → Agree seen → assign σ t ≡ assign τ t → Agree (variables_after seen t)
     there (bound k) seen a e = a
     there (free v) seen a e = elim (list_any (nat_eq v) seen) as (λ b. Agree (cond b seen (seen ++ v ∷ []))) [ true ↦ a | false ↦ and-one seen v a e ]
     there (app h ts) seen a e = all-there ts seen a (cc)
@@ -52,7 +52,7 @@ module _ (σ τ : Assignment Name finite) where
   mutual
     unfolding replace_type replace_types variables_after variables_after_all
 
-    back : (t : MlType Name) (seen : List ℕ) → Agree (variables_after seen t) → (assign σ t ≡ assign τ t) × Agree seen
+    pub back : (t : MlType Name) (seen : List ℕ) → Agree (variables_after seen t) → (assign σ t ≡ assign τ t) × Agree seen
     back (bound k) seen a = (refl, a)
     back (free v) seen a = go (list_any (nat_eq v) seen) refl a
       where

@@ -6,12 +6,13 @@ use Rattle.sml_objects.specs.Appearance.{Stands}
 use Rattle.sml_objects.specs.Initial.{Name}
 use Rattle.sml_objects.specs.Objects.{MlType, Scheme, free, types_of}
 use Rattle.sml_objects.specs.Sizes.{type_size}
-use Rattle.sml_objects.specs.Types.{variables_after_all}
+use Rattle.sml_objects.specs.Types.{assign, variables_after_all}
 use Rattle.sml_layers.specs.declared.layer.Bound.{Bound}
 use Rattle.sml_layers.specs.declared.layer.Layer.{Layer}
-use Rattle.sml_layers.specs.declared.layer.Layer.TheVariants.{Rigidity}
+use Rattle.sml_layers.specs.declared.layer.Layer.TheVariants.{Finiteness, Rigidity}
 use Rattle.sml_layers.specs.declared.variable.Variable.{Variable}
 use Rattle.sml_layers.specs.Demands.{Demand, asks, within, equality, variable, CanBeMet, IsFirstUnmet, Mentions}
+use Rattle.sml_layers.specs.Worlds.{Assignment, finite}
 use Rattle.sml_graph.specs.declared.demand.Refusal.{Refusal}
 use Rattle.sml_graph.specs.declared.demand.Refusal.TheVariants as R
 use Rattle.sml_graph.specs.Asked.{Asked}
@@ -21,7 +22,7 @@ use Rattle.sml_rules.specs.Answers.{accepted}
 use Rattle.sml_core_rules.specs.Expressions.{settle}
 use Rattle.sml_core_rules.specs.Scopes.{run_scope}
 use Rattle.sml_core_rules.specs.Scripts.{IsAnswer}
-use Rattle.sml_core_rules.specs.Solutions.{HasOneSetOfLabels, IsFixed, IsFlexible, IsFree, IsLeft, IsScheme, StandsFor}
+use Rattle.sml_core_rules.specs.Solutions.{HasOneSetOfLabels, IsFixed, IsFlexible, IsFree, IsLeft, IsScheme, Meets, StandsFor}
 use Rattle.sml_core_rules.specs.States.{State, words}
 use Rattle.sml_asks.specs.Solvers.{SolverIs, IsTypeIn}
 
@@ -79,13 +80,15 @@ abbrev pub AreContext : ℕ → State Place Name → ℕ → Bool → List Bool 
 AreContext unit s first expansive flags =
     expansive ≡ false → (v : ℕ) → IsLeft (run_scope unit) s v → IsMarked flags v ↔ IsFixed (run_scope unit) s first [] v
 
--- A scheme that was found, or none: then all types that this one stands for are larger than the limit, and so are all schemes.
+-- A scheme that was found, or none: then all types that this one stands for are larger than the limit, and so are all schemes, and all
+-- that it may be by the equations.
 abbrev pub IsSchemeUpTo : ℕ → State Place Name → ℕ → Bool → MlType Name → ℕ → Option (Scheme Name) → Type 0
 IsSchemeUpTo unit s first expansive t limit (Some σ) =
     IsScheme (run_scope unit) s first expansive t σ × (type_size σ.body ≤ limit) × IsBodyOver (length σ.variables) s.made σ.body
 IsSchemeUpTo unit s first expansive t limit None =
     ((σ : Scheme Name) → IsScheme (run_scope unit) s first expansive t σ → limit < type_size σ.body)
     × ((r : MlType Name) → StandsFor (run_scope unit) s t r → limit < type_size r)
+    × ((σ : Assignment Name finite) → Meets (run_scope unit) s Finiteness σ → limit < type_size (assign σ t))
 
 -- A call seeks the scheme of a type, at the end of a declaration that begins after the first unknowns.
 unfoldable pub AsksScheme : Asked → MlType Name → List Bool → Bool → ℕ → Option (Scheme Name) → Asked → Type 0

@@ -1,3 +1,4 @@
 pub mod Solvers
 pub mod Steps
 pub mod Closings
+pub mod Determined

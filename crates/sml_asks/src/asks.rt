@@ -248,6 +248,7 @@ pub fn ask_scheme(
     limit: u32,
 ) -> Result<Option<Scheme>, Halt>
     ensures ok { IfOk result (λ found. AsksScheme solver.old (type_of ty.now) fixed.now expansive limit (option_map scheme_of found) solver.new) }
+    ensures kept { OnOk result (solver.new.spent ≡ false) }
     ensures spent { result ≡ Err Halt.Spent → IsOf solver.old (type_of ty.now) → solver.old.spent ≡ true }
 {
     know(solver, ty)?;

@@ -4,3 +4,4 @@
 pub mod asks;
 mod known;
 pub mod laws;
+pub mod outcomes;

@@ -1,18 +1,19 @@
 //! Exported types that were unknown where they were bound.
 
 use indexmap::{IndexMap, IndexSet};
-use sml_asks::asks::{ask_fixed, ask_scheme};
+use sml_asks::asks::ask_fixed;
+use sml_asks::outcomes::{Outcome, ask_outcome};
 use sml_bases::objects::Env;
 use sml_bases::visits::Visits;
 use sml_core::context::Context;
 use sml_envs::mapping::{Image, Mapping, mapped_env};
 use sml_envs::sizes::GREATEST_SIZE;
 use sml_lex::fault::{Code, Memory, Place};
-use sml_objects::objects::{MlType, Scheme, TyName};
+use sml_objects::objects::{MlType, TyName};
 use sml_types::fault::{CoreFault, plain_fault};
 use sml_types::rows::number_of;
 use sml_types::sizes::small_env_under;
-use sml_types::variables::{collect_free, is_ground};
+use sml_types::variables::collect_free;
 use std::alloc::Global;
 use std::rc::Rc;
 
@@ -103,11 +104,11 @@ fn readings(context: &mut Context, unknowns: &IndexSet<u32>) -> Result<Option<Kn
     let left = vec![in context.alloc; false; context.solver.unknowns()]?;
     for unknown in unknowns {
         match reading(context, *unknown, &left, GREATEST_SIZE)? {
-            Outcome::Type(ty) => {
+            Outcome::Same(ty) => {
                 types.insert(*unknown, ty)?;
             }
             Outcome::Large => large.push(*unknown)?,
-            Outcome::Open => return Ok(None),
+            Outcome::Several => return Ok(None),
         }
     }
     let has_large = !large.is_empty();
@@ -115,14 +116,6 @@ fn readings(context: &mut Context, unknowns: &IndexSet<u32>) -> Result<Option<Kn
         return Ok(None);
     }
     Ok(Some(Known { types, has_large }))
-}
-
-/// What an unknown turned out to be: a type, one that is larger than the limit, or one that is still unknown.
-#[derive(Drop)]
-enum Outcome {
-    Type(Rc<MlType>),
-    Large,
-    Open,
 }
 
 /// What an unknown turned out to be, by all that is asked of it. No unknown has one of the flags.
@@ -133,15 +126,8 @@ fn reading(
     limit: u32,
 ) -> Result<Outcome, Memory> {
     let ty = MlType::Free(unknown);
-    match ask_scheme(context.alloc, &mut context.solver, &ty, left, true, limit) {
-        Ok(Some(Scheme { body, .. })) => {
-            if is_ground(&body) {
-                Ok(Outcome::Type(body))
-            } else {
-                Ok(Outcome::Open)
-            }
-        }
-        Ok(None) => Ok(Outcome::Large),
+    match ask_outcome(context.alloc, &mut context.solver, &ty, left, limit) {
+        Ok(outcome) => Ok(outcome),
         Err(_) => Err(Memory),
     }
 }
@@ -162,7 +148,7 @@ fn are_known(context: &mut Context, unknowns: &[u32], left: &[bool]) -> Result<b
 /// Whether an unknown is left by all that is asked of it.
 fn is_left(context: &mut Context, unknown: u32, left: &[bool]) -> Result<bool, Memory> {
     match reading(context, unknown, left, 1)? {
-        Outcome::Open => Ok(true),
+        Outcome::Several => Ok(true),
         _ => Ok(false),
     }
 }

@@ -8,7 +8,7 @@ pub returns-then-fixed-count-clause-ok : goal.returns-then-fixed-count-clause-ok
 returns-then-fixed-count-clause-ok c =
     scheme-after c.args.solver.now c.know.new.solver c.generalise.new.self (type_of c.args.ty.now) c.args.fixed.now c.args.fixed.now c.args.expansive c.args.limit c.min-limit.result
     c.know.result c.generalise.result c.know.ensures.same (λ h. omega (arith, c.min-limit.ensures, h)) (λ v k. (λ m. m, λ m. m))
-    c.generalise.ensures.scheme c.generalise.ensures.known c.generalise.ensures.within c.generalise.ensures.none c.generalise.ensures.call
+    c.generalise.ensures.scheme c.generalise.ensures.known c.generalise.ensures.within c.generalise.ensures.none c.generalise.ensures.large c.generalise.ensures.call
 
 pub returns-in-Ok-clause-ok : goal.returns-in-Ok-clause-ok
 returns-in-Ok-clause-ok c =
@@ -18,4 +18,4 @@ returns-in-Ok-clause-ok c =
     scheme-after c.args.solver.now c.know.new.solver c.generalise-in-Ok.new.self (type_of c.args.ty.now) c.args.fixed.now c.deref.result.now c.args.expansive c.args.limit c.min-limit.result
     c.know.result c.generalise-in-Ok.result c.know.ensures.same (λ h. omega (arith, c.min-limit.ensures, h))
     (λ v k. (λ m. sym (same v k) ∙ m, λ m. same v k ∙ m))
-    c.generalise-in-Ok.ensures.scheme c.generalise-in-Ok.ensures.known c.generalise-in-Ok.ensures.within c.generalise-in-Ok.ensures.none c.generalise-in-Ok.ensures.call
+    c.generalise-in-Ok.ensures.scheme c.generalise-in-Ok.ensures.known c.generalise-in-Ok.ensures.within c.generalise-in-Ok.ensures.none c.generalise-in-Ok.ensures.large c.generalise-in-Ok.ensures.call

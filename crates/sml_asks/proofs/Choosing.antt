@@ -7,7 +7,7 @@ use Rattle.std.proofs.lemmas.List.{length-map}
 use Rattle.sml_lex.specs.declared.fault.Place.{Place}
 use Rattle.sml_tree.specs.Trees.{Id}
 use Rattle.sml_objects.specs.Appearance.{Stands}
-use Rattle.sml_objects.specs.Equality.{admits, all_admit, admits_by, all_admit_by}
+use Rattle.sml_objects.specs.Equality.{admits, all_admit, admits_by, all_admit_by, is_ref, has_equality}
 use Rattle.sml_objects.specs.Initial.{Name, initial, naming}
 use Rattle.sml_objects.specs.Labels.{with_labels}
 use Rattle.sml_objects.specs.Maps.{lookup}
@@ -119,7 +119,7 @@ module _ (σ τ : Assignment Name finite) where
       admits-other (app arrow ts) h = h
       admits-other (app (row ls) ts) h = all-admit-other ts h
       admits-other (app (name n) ts) h =
-          or-and (elim (naming.same (naming.initial _) n) [ yes _ ↦ true | no _ ↦ false ]) (naming.attributes n).equality (all_admit naming (replace_types bound σ ts)) (all_admit naming (replace_types bound τ ts)) (all-admit-other ts) h
+          or-and (is_ref naming n) (has_equality naming n) (all_admit naming (replace_types bound σ ts)) (all_admit naming (replace_types bound τ ts)) (all-admit-other ts) h
 
       all-admit-other : (ts : MlTypes Name) → all_admit naming (replace_types bound σ ts) ≡ true → all_admit naming (replace_types bound τ ts) ≡ true
       all-admit-other no_type h = h

@@ -15,7 +15,7 @@ use Rattle.sml_objects.specs.Views.{type_of, scheme_of}
 use Rattle.sml_objects.specs.declared.fates.Fate.{Fate}
 use Rattle.sml_objects.specs.declared.fates.Fate.TheVariants.{Bind, Keep, Default}
 use Rattle.sml_objects.specs.declared.objects.Scheme as Q
-use Rattle.sml_layers.specs.declared.layer.Layer.TheVariants.{Classes, Rigidity}
+use Rattle.sml_layers.specs.declared.layer.Layer.TheVariants.{Finiteness, Classes, Rigidity}
 use Rattle.sml_layers.specs.Worlds.{Assignment, finite}
 use Rattle.sml_graph.specs.Asked.{Asked}
 use Rattle.sml_graph.specs.Interned.{IsOver, AreOver}
@@ -59,13 +59,14 @@ module _ (fate : ℕ → Fate) (w : ℕ) (found : Option (MlType Name)) (so : (k
   unfolding Stands index_among
   image-at k [] h = absurd h
   image-at k (v ∷ vs) h =
-      ap (λ ts. slice_index_or ts (cond (nat_eq w v) 0 (suc (index_among w vs))) None) (first-image k (fate v) (map fate vs)) ∙ go (nat_eq w v) refl h
+      ap (λ ts. slice_index_or ts (cond (nat_eq w v) 0 (suc (index_among w vs))) None) (first-image k (fate v) (map fate vs)) ∙ go (nat_eq w v) refl h (λ s. image-at (later k (fate v)) vs s)
     where
       go : (b : Bool) → nat_eq w v ≡ b → (w ≡ v) ⊎ Stands w vs
+          → (Stands w vs → slice_index_or (substitutes (named (initial int)) (later k (fate v)) (map fate vs)) (index_among w vs) None ≡ found)
           → slice_index_or (image k (fate v) ∷ substitutes (named (initial int)) (later k (fate v)) (map fate vs)) (cond b 0 (suc (index_among w vs))) None ≡ found
-      go true e s = ap (λ u. image k (fate u)) (sym (eqb-true w v e)) ∙ so k
-      go false e (inl q) = absurd (let f : false ≡ true = sym e ∙ eq-eqb w v q in cc)
-      go false e (inr s) = image-at (later k (fate v)) vs s
+      go true e s rest = ap (λ u. image k (fate u)) (sym (eqb-true w v e)) ∙ so k
+      go false e (inl q) rest = absurd (let f : false ≡ true = sym e ∙ eq-eqb w v q in cc)
+      go false e (inr s) rest = rest s
 
 module _ (sub : Assignment Name finite) where
   mutual
@@ -164,7 +165,7 @@ module _ (unit : ℕ) (s : State Place Name) where
   unfolding C.IsScheme C.StandsFor C.IsAlways sub naming
   ground-always n t θ (r, stands, fate, fates, e) over σ met =
       let b : θ.body ≡ assign (sub n r fate fates) r = body-is r fate θ e in
-      sym (stands.1 σ (lower by_list _ Rigidity (omega arith) σ s.demands met))
+      sym (stands.1 σ (lower by_list Finiteness Rigidity (omega arith) σ s.demands met))
       ∙ ((back σ (sub n r fate fates) r [] (ground-agrees n r fate fates (subst (IsOver 0) b over) σ met)).0 ∙ sym b)
 
   pub not-always : (next : ℕ) (solver : Asked) (n : ℕ) (t : MlType Name) (θ : Scheme Name) → SolverIs unit next solver s → IsMostGeneral solver → C.IsScheme (run_scope unit) s n true t θ
@@ -179,7 +180,7 @@ module _ (unit : ℕ) (s : State Place Name) where
 -- the call
 
 large-outcome : (unit next : ℕ) (solver : Asked) (s : State Place Name) (t : MlType Name) (limit : ℕ) → SolverIs unit next solver s
-    → ((σ : Assignment Name finite) → Meets (run_scope unit) s _ σ → limit < type_size (assign σ t)) → IsOutcome unit s t limit Large
+    → ((σ : Assignment Name finite) → Meets (run_scope unit) s Finiteness σ → limit < type_size (assign σ t)) → IsOutcome unit s t limit Large
 unfolding C.IsAlways
 large-outcome unit next solver s t limit is large u always =
     subst (λ r. limit < type_size r) (always is.met.0 is.met.1) (large is.met.0 (lowered unit next solver s is is.met.0 is.met.1))

@@ -55,7 +55,7 @@ module _ (unit next : ℕ) (solver : Asked) (s : State Place Name) (is : SolverI
   unfolding move
   meets-rigidity σ h = to-list unit next s.names is.known is.counted s.made is.demands s.demands is.same Rigidity σ ((says Rigidity σ).0 h)
 
-  lowered : (σ : Assignment Name finite) → Meets (run_scope unit) s Rigidity σ → Meets (run_scope unit) s Finiteness σ
+  pub lowered : (σ : Assignment Name finite) → Meets (run_scope unit) s Rigidity σ → Meets (run_scope unit) s Finiteness σ
   lowered σ h = lower by_list Finiteness Rigidity (omega arith) σ s.demands h
 
   -- what they leave by the equations

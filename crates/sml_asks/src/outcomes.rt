@@ -1,6 +1,6 @@
 //! What a type is, whatever becomes of the unknowns.
 
-ghost use Rattle.std.specs.Prelude.{◌≡◌, Err, IfOk};
+ghost use Rattle.std.specs.Prelude.{◌≡◌, true, Err, IfOk};
 ghost use Rattle.sml_objects.specs.Views.{type_of};
 ghost use Rattle.sml_graph.specs.Asked.{IsOf};
 ghost use Rattle.sml_asks.specs.Determined.{AsksOutcome, IsSameOrSeveral};
@@ -48,7 +48,7 @@ pub fn ask_outcome(
 
 /// What a type is that has a scheme with this body, of which nothing is bound.
 fn same_or_several(body: Rc<MlType>) -> Outcome
-    ensures { IsSameOrSeveral (type_of body.now.value) result }
+    ensures { IsSameOrSeveral (type_of body.value) result }
 {
     if is_over(&body, 0) {
         Outcome::Same(body)

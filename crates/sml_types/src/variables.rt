@@ -1,5 +1,11 @@
 //! What type variables stand for.
 
+ghost use Rattle.std.specs.Prelude.{◌≡◌, OnOk, map, not};
+ghost use Rattle.sml_objects.specs.Objects.{types_of};
+ghost use Rattle.sml_objects.specs.Types.{variables_after, variables_after_all};
+ghost use Rattle.sml_objects.specs.Views.{type_of};
+ghost use Rattle.sml_core_rules.specs.Values.{has_unknown, have_unknown};
+
 use crate::fault::{CoreFault, plain_fault};
 use crate::rows::{boxed, number_of};
 use indexmap::{IndexMap, IndexSet};
@@ -179,7 +185,9 @@ pub fn closed(alloc: Global, ty: &Rc<MlType>, equality: &[bool]) -> Result<Schem
 
 /// Adds the free variables of a type, in the order in which they appear.
 #[cycle(free)]
-pub fn collect_free(ty: &MlType, seen: &mut IndexSet<u32>) -> Result<(), Memory> {
+pub fn collect_free(ty: &MlType, seen: &mut IndexSet<u32>) -> Result<(), Memory>
+    ensures { OnOk result (seen.new.keys ≡ variables_after seen.old.keys (type_of ty.now)) }
+{
     match ty {
         MlType::Bound(_) => Ok(()),
         MlType::Free(variable) => {
@@ -196,7 +204,9 @@ pub fn collect_free(ty: &MlType, seen: &mut IndexSet<u32>) -> Result<(), Memory>
 }
 
 #[cycle(free)]
-fn collect_all_free(parts: &[Rc<MlType>], seen: &mut IndexSet<u32>) -> Result<(), Memory> {
+fn collect_all_free(parts: &[Rc<MlType>], seen: &mut IndexSet<u32>) -> Result<(), Memory>
+    ensures { OnOk result (seen.new.keys ≡ variables_after_all seen.old.keys (types_of (map (λ t. type_of t.value) parts.now))) }
+{
     for part in parts {
         collect_free(part, seen)?;
     }
@@ -205,7 +215,9 @@ fn collect_all_free(parts: &[Rc<MlType>], seen: &mut IndexSet<u32>) -> Result<()
 
 /// Whether no unknown stands in a type.
 #[cycle(ground)]
-pub fn is_ground(ty: &MlType) -> bool {
+pub fn is_ground(ty: &MlType) -> bool
+    ensures { result ≡ not (has_unknown (type_of ty.now)) }
+{
     match ty {
         MlType::Bound(_) => true,
         MlType::Free(_) => false,
@@ -216,7 +228,9 @@ pub fn is_ground(ty: &MlType) -> bool {
 }
 
 #[cycle(ground)]
-fn are_ground(parts: &[Rc<MlType>]) -> bool {
+fn are_ground(parts: &[Rc<MlType>]) -> bool
+    ensures { result ≡ not (have_unknown (types_of (map (λ t. type_of t.value) parts.now))) }
+{
     for part in parts {
         if !is_ground(part) {
             return false;

@@ -1,12 +1,12 @@
 //! What is checked: the project, or else each open document by itself.
 
-use crate::documents::Documents;
 use crate::files::Folders;
 use crate::findings::Answered;
-use crate::positions::Encoding;
 use crate::projects::{Outcome, Trouble, project_path, read_listed};
-use crate::settings::Settings;
 use crate::works::{Work, single};
+use sml_client::documents::Documents;
+use sml_client::positions::Encoding;
+use sml_client::settings::Settings;
 use sml_lex::fault::Memory;
 use sml_session::session::{Source, SourceFault};
 use std::alloc::Global;
@@ -74,9 +74,7 @@ impl Board {
     /// Looks for the project file, and reads it and its units.
     pub fn reload<S: Source + Folders>(&mut self, view: View, files: &mut S) -> Result<(), Memory> {
         let path = project_path(view.alloc, view.settings, files)?;
-        if !is_same(&path, &self.path) {
-            self.begin(view.alloc, path)?;
-        }
+        self.begin(view.alloc, path)?;
         match &self.path {
             Some(path) => {
                 let outcome = read_listed(view.alloc, view.documents, files, path)?;
@@ -86,8 +84,11 @@ impl Board {
         }
     }
 
-    /// Begins with the project file at another path.
+    /// Begins with the project file at a path, if it isn't the one that there is.
     fn begin(&mut self, alloc: Global, path: Option<String>) -> Result<(), Memory> {
+        if is_same(&path, &self.path) {
+            return Ok(());
+        }
         self.path = path;
         self.trouble = None;
         self.work = Work::new(alloc)?;
@@ -151,10 +152,10 @@ impl Board {
             return Ok(false);
         }
         match files.read(view.alloc, path, MOST_BYTES) {
-            Ok(text) => {
-                self.work.set_text(view.alloc, path, &text)?;
-                Ok(false)
-            }
+            Ok(text) => match self.work.set_text(view.alloc, path, &text) {
+                Ok(_) => Ok(false),
+                Err(_) => Err(Memory),
+            },
             Err(SourceFault::Unreadable) => Ok(true),
             Err(SourceFault::Memory) => Err(Memory),
         }
@@ -217,8 +218,8 @@ fn touch_single(
     match singles.get_mut(path) {
         Some(work) => work.set_text(view.alloc, path, text),
         None => {
-            let work = single(view.alloc, path, text)?;
-            singles.insert(String::from_str(view.alloc, path)?, work)?;
+            let name = String::from_str(view.alloc, path)?;
+            singles.insert(name, single(view.alloc, path, text)?)?;
             Ok(())
         }
     }

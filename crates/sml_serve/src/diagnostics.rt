@@ -1,14 +1,13 @@
 //! Faults and warnings as diagnostics.
 
 use crate::board::View;
-use crate::documents::Documents;
 use crate::findings::{Finding, Findings, Origin};
-use crate::paths::uri_of;
-use crate::positions::{Lines, Range, push_range};
 use crate::projects::{Trouble, code_text};
-use crate::values::{push_all, push_string};
 use crate::works::Work;
-use itoa::Buffer;
+use sml_client::documents::Documents;
+use sml_client::paths::uri_of;
+use sml_client::positions::{Lines, Range, push_range};
+use sml_client::written::Text;
 use sml_lex::fault::Memory;
 use sml_projects::project::ProjectUnit;
 use sml_shown::explained::section_of;
@@ -55,68 +54,56 @@ fn page_of(code: &[u8]) -> &'static [u8] {
 }
 
 /// Adds the code of a diagnostic, and its page where the client said where the pages are.
-fn push_code(
-    alloc: Global,
-    text: &mut Vec<u8>,
-    pages: &Option<String>,
-    code: &[u8],
-) -> Result<(), Memory> {
-    push_all(text, &[b",\"code\":\"", code, b"\""])?;
-    match pages {
-        Some(pages) => {
-            let page = page_address(alloc, pages, code)?;
-            text.extend_from_slice(b",\"codeDescription\":{\"href\":")?;
-            push_string(alloc, text, &page)?;
-            text.push(b'}')?;
-            Ok(())
-        }
-        None => Ok(()),
+fn push_code(view: View, text: &mut Text, code: &[u8]) {
+    text.push_all(&[b",\"code\":\"", code, b"\""]);
+    if let Some(pages) = &view.settings.pages {
+        text.push(b",\"codeDescription\":{\"href\":");
+        push_page_address(view.alloc, text, pages, code);
+        text.push(b"}");
     }
 }
 
-/// The address of the section of a code on its page: `#u1-types-clash`, the heading in small letters, with `-` between its
-/// words.
-fn page_address(alloc: Global, pages: &str, code: &[u8]) -> Result<Vec<u8>, Memory> {
-    let mut address = Vec::from_slice(alloc, pages.as_bytes())?;
-    push_all(&mut address, &[b"/", page_of(code)])?;
+/// Adds the address of the section of a code on its page: `#u1-types-clash`, the heading in small letters, with `-` between
+/// its words.
+fn push_page_address(alloc: Global, text: &mut Text, pages: &str, code: &[u8]) {
+    let mut address = Text::new(alloc);
+    address.push_all(&[pages.as_bytes(), b"/", page_of(code)]);
     if let Some(section) = section_of(code) {
-        address.push(b'#')?;
-        push_small(&mut address, code)?;
-        address.push(b'-')?;
-        push_small(&mut address, section.meaning.as_bytes())?;
+        address.push(b"#");
+        push_small(&mut address, code);
+        address.push(b"-");
+        push_small(&mut address, section.meaning.as_bytes());
     }
-    Ok(address)
+    text.push_quoted(&address);
 }
 
-/// Letters and digits in small letters, and `-` for spaces.
-fn push_small(address: &mut Vec<u8>, bytes: &[u8]) -> Result<(), Memory> {
+/// Adds letters and digits in small letters, and `-` for spaces.
+fn push_small(address: &mut Text, bytes: &[u8]) {
     for byte in bytes {
         if *byte == b' ' {
-            address.push(b'-')?;
+            address.push(b"-");
         } else if byte.is_ascii_alphanumeric() {
-            address.push(byte.to_ascii_lowercase())?;
+            address.push(&[byte.to_ascii_lowercase()]);
         }
     }
-    Ok(())
 }
 
-/// The line of a message that names the page of a code.
-fn push_page(message: &mut Vec<u8>, code: &[u8]) -> Result<(), Memory> {
-    push_all(message, &[b"\n(", code, b" in docs/"])?;
-    push_all(message, &[page_of(code), b")"])
+/// Adds the line of a message that names the page of a code.
+fn push_page(message: &mut Text, code: &[u8]) {
+    message.push_all(&[b"\n(", code, b" in docs/", page_of(code), b")"]);
 }
 
 /// Adds the range and the severity, with which a diagnostic begins.
-fn push_beginning(text: &mut Vec<u8>, range: Range, severity: &[u8]) -> Result<(), Memory> {
-    text.push(b'{')?;
-    push_range(text, b"range", range)?;
-    push_all(text, &[b",\"source\":\"smlserve\",\"severity\":", severity])
+fn push_beginning(text: &mut Text, range: Range, severity: &[u8]) {
+    text.push(b"{");
+    push_range(text, b"range", range);
+    text.push_all(&[b",\"source\":\"smlserve\",\"severity\":", severity]);
 }
 
 /// Adds the message of a diagnostic.
-fn push_message(alloc: Global, text: &mut Vec<u8>, message: &[u8]) -> Result<(), Memory> {
-    text.extend_from_slice(b",\"message\":")?;
-    push_string(alloc, text, message)
+fn push_message(text: &mut Text, message: &Text) {
+    text.push(b",\"message\":");
+    text.push_quoted(message);
 }
 
 impl Desk<'_> {
@@ -132,50 +119,43 @@ impl Desk<'_> {
 
     /// The diagnostics of the file of the unit at a place, the first one with it: its own, and those of the others with it.
     pub fn list(&self, place: usize) -> Result<Vec<u8>, Memory> {
-        let mut list = Vec::new(self.view.alloc);
+        let mut list = Text::new(self.view.alloc);
         for (other, first) in self.work.firsts.iter().enumerate() {
             if *first == place {
-                self.push_all(other, &mut list)?;
+                self.push_all(other, &mut list);
             }
         }
-        Ok(list)
+        list.finish()
     }
 
     /// Adds the diagnostics of the unit at a place to a list.
-    fn push_all(&self, place: usize, list: &mut Vec<u8>) -> Result<(), Memory> {
+    fn push_all(&self, place: usize, list: &mut Text) {
         let Some(findings) = self.findings(place) else {
-            return Ok(());
+            return;
         };
         for finding in findings.items.as_slice() {
-            if !list.is_empty() {
-                list.push(b',')?;
+            if !list.bytes().is_empty() {
+                list.push(b",");
             }
-            self.push(place, finding, list)?;
+            self.push(place, finding, list);
         }
-        Ok(())
     }
 
     /// Adds a fault or a warning of the unit at a place.
-    fn push(&self, place: usize, finding: &Finding, text: &mut Vec<u8>) -> Result<(), Memory> {
+    fn push(&self, place: usize, finding: &Finding, text: &mut Text) {
         let source = self.source_of(place, finding);
         let severity = match source {
             Some(_) => HINT,
             None if finding.is_warning => WARNING,
             None => ERROR,
         };
-        push_beginning(text, finding.range, severity)?;
-        push_code(
-            self.view.alloc,
-            text,
-            &self.view.settings.pages,
-            &finding.code,
-        )?;
-        match source {
-            Some(source) => self.push_following(finding, source, text)?,
-            None => self.push_own(finding, text)?,
+        push_beginning(text, finding.range, severity);
+        push_code(self.view, text, &finding.code);
+        self.push_said(finding, source, text);
+        if let Some(source) = source {
+            self.push_related(source, text);
         }
-        text.push(b'}')?;
-        Ok(())
+        text.push(b"}");
     }
 
     /// The refused declaration that a fault follows from, if there is one.
@@ -206,44 +186,26 @@ impl Desk<'_> {
         None
     }
 
-    /// Adds what is said of a fault or a warning that follows from nothing.
-    fn push_own(&self, finding: &Finding, text: &mut Vec<u8>) -> Result<(), Memory> {
-        let mut message = Vec::from_slice(self.view.alloc, finding.text.as_slice())?;
-        push_page(&mut message, &finding.code)?;
-        push_message(self.view.alloc, text, &message)
-    }
-
-    /// Adds what is said of a fault that follows from a refused declaration, and where that stands.
-    fn push_following(
-        &self,
-        finding: &Finding,
-        source: Source,
-        text: &mut Vec<u8>,
-    ) -> Result<(), Memory> {
-        let mut message = Vec::from_slice(self.view.alloc, finding.text.as_slice())?;
-        self.push_source(&mut message, source)?;
-        push_page(&mut message, &finding.code)?;
-        push_message(self.view.alloc, text, &message)?;
-        self.push_related(source, text)
+    /// Adds what is said of a fault or a warning, which follows from a refused declaration or from nothing.
+    fn push_said(&self, finding: &Finding, source: Option<Source>, text: &mut Text) {
+        let mut message = Text::new(self.view.alloc);
+        message.push(&finding.text);
+        if let Some(source) = source {
+            self.push_source(&mut message, source);
+        }
+        push_page(&mut message, &finding.code);
+        push_message(text, &message);
     }
 
     /// `follows from declaration N (FILE:LINE:COL)`, as a line.
-    fn push_source(&self, text: &mut Vec<u8>, source: Source) -> Result<(), Memory> {
-        let mut number = Buffer::new();
-        let mut line = Buffer::new();
-        let mut column = Buffer::new();
-        let parts: [&[u8]; 9] = [
-            b"\nfollows from declaration ",
-            number.format(source.refusal.number).as_bytes(),
-            b" (",
-            self.name(source.place).as_bytes(),
-            b":",
-            line.format(source.refusal.spot.line).as_bytes(),
-            b":",
-            column.format(source.refusal.spot.column).as_bytes(),
-            b")",
-        ];
-        push_all(text, &parts)
+    fn push_source(&self, text: &mut Text, source: Source) {
+        text.push(b"\nfollows from declaration ");
+        text.push_number(source.refusal.number as u64);
+        text.push_all(&[b" (", self.name(source.place).as_bytes(), b":"]);
+        text.push_number(source.refusal.spot.line);
+        text.push(b":");
+        text.push_number(source.refusal.spot.column);
+        text.push(b")");
     }
 
     /// The file of the unit at a place, as the project file has it, or else its path.
@@ -268,69 +230,54 @@ impl Desk<'_> {
     }
 
     /// Adds the place of a refused declaration.
-    fn push_related(&self, source: Source, text: &mut Vec<u8>) -> Result<(), Memory> {
-        let address = address(
+    fn push_related(&self, source: Source, text: &mut Text) {
+        text.push(b",\"relatedInformation\":[{\"location\":{\"uri\":");
+        match address(
             self.view.alloc,
             self.view.documents,
             self.path(source.place),
-        )?;
-        text.extend_from_slice(b",\"relatedInformation\":[{\"location\":{\"uri\":")?;
-        push_string(self.view.alloc, text, address.as_bytes())?;
-        text.push(b',')?;
-        push_range(text, b"range", self.first_word(source)?)?;
-        text.extend_from_slice(b"},\"message\":\"this declaration is refused\"}]")?;
-        Ok(())
+        ) {
+            Ok(uri) => text.push_string(uri.as_bytes()),
+            Err(_) => text.lose(),
+        }
+        text.push(b",");
+        self.push_first_word(source, text);
+        text.push(b"},\"message\":\"this declaration is refused\"}]");
     }
 
-    /// The range of the first word of a refused declaration.
-    fn first_word(&self, source: Source) -> Result<Range, Memory> {
+    /// Adds the range of the first word of a refused declaration.
+    fn push_first_word(&self, source: Source, text: &mut Text) {
         let unit = match self.unit(source.place) {
             Some(unit) => unit.text.as_slice(),
             None => &[],
         };
-        let lines = Lines::new(self.view.alloc, unit, self.view.encoding())?;
-        Ok(lines.word_range(source.refusal.spot))
+        let spot = source.refusal.spot;
+        match Lines::new(self.view.alloc, unit, self.view.encoding()) {
+            Ok(lines) => push_range(text, b"range", lines.word_range(spot.line, spot.column)),
+            Err(_) => text.lose(),
+        }
     }
 }
 
 /// The diagnostic of a project file with this text.
 pub fn trouble_text(view: View, file: &[u8], trouble: &Trouble) -> Result<Vec<u8>, Memory> {
-    let lines = Lines::new(view.alloc, file, view.encoding())?;
-    let mut text = Vec::new(view.alloc);
-    push_beginning(&mut text, lines.line_range(trouble.line), ERROR)?;
-    push_trouble(view, trouble, &mut text)?;
-    Ok(text)
+    let mut text = Text::new(view.alloc);
+    match Lines::new(view.alloc, file, view.encoding()) {
+        Ok(lines) => push_beginning(&mut text, lines.line_range(trouble.line), ERROR),
+        Err(_) => text.lose(),
+    }
+    push_trouble(view, trouble, &mut text);
+    text.finish()
 }
 
 /// Adds the code of a project file's fault, if it has one, and what is said of it.
-fn push_trouble(view: View, trouble: &Trouble, text: &mut Vec<u8>) -> Result<(), Memory> {
-    let mut message = Vec::from_slice(view.alloc, trouble.text.as_slice())?;
+fn push_trouble(view: View, trouble: &Trouble, text: &mut Text) {
+    let mut message = Text::new(view.alloc);
+    message.push(&trouble.text);
     if let Some(code) = trouble.code {
-        push_code(view.alloc, text, &view.settings.pages, code_text(code))?;
-        push_page(&mut message, code_text(code))?;
+        push_code(view, text, code_text(code));
+        push_page(&mut message, code_text(code));
     }
-    push_message(view.alloc, text, &message)?;
-    text.push(b'}')?;
-    Ok(())
-}
-
-/// The parameters of a notification of these diagnostics.
-pub fn params_text(
-    alloc: Global,
-    uri: &str,
-    version: Option<i64>,
-    list: &[u8],
-) -> Result<Vec<u8>, Memory> {
-    let mut text = Vec::new(alloc);
-    push_all(&mut text, &[b"{\"diagnostics\":[", list, b"],\"uri\":"])?;
-    push_string(alloc, &mut text, uri.as_bytes())?;
-    if let Some(version) = version {
-        let mut digits = Buffer::new();
-        push_all(
-            &mut text,
-            &[b",\"version\":", digits.format(version).as_bytes()],
-        )?;
-    }
-    text.push(b'}')?;
-    Ok(text)
+    push_message(text, &message);
+    text.push(b"}");
 }

@@ -1,7 +1,7 @@
 //! Where texts are read: open documents stand in for their files.
 
-use crate::documents::{Document, Documents};
-use crate::paths::normal;
+use sml_client::documents::{Document, Documents};
+use sml_client::paths::normal;
 use sml_lex::fault::Memory;
 use sml_session::disk::Disk;
 use sml_session::session::{Source, SourceFault};

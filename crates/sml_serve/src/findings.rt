@@ -1,8 +1,8 @@
 //! What is found in a unit: its faults and warnings, and which of its declarations were refused.
 
 use crate::outline::first_from;
-use crate::positions::{Encoding, Lines, Range};
-use crate::values::push_all;
+use sml_client::positions::{Encoding, Lines, Range};
+use sml_client::written::Text;
 use sml_lex::fault::{Memory, Place};
 use sml_lex::token::Token;
 use sml_parse::parse::{Parsed, parse, release};
@@ -14,6 +14,7 @@ use sml_reply::sink::VecOut;
 use sml_shown::binders::bound_by;
 use sml_shown::refusals::{Refusal, Refusals, unbound_key};
 use sml_shown::remark::{Remark, cut, fault_in, warning_in};
+use sml_shown::spots::Spot;
 use sml_shown::unit_map::UnitMap;
 use sml_tree::structures::TopDec;
 use sml_units::project::Checked;
@@ -67,18 +68,30 @@ impl<'a> Answered<'a> {
 }
 
 /// Where the text of a unit has its tokens, its declarations and its lines.
-#[derive(Clone, Copy)]
+#[derive(Drop)]
 pub struct Chart<'a> {
     pub alloc: Global,
-    pub map: &'a UnitMap<'a>,
-    pub lines: &'a Lines<'a>,
+    pub map: UnitMap<'a>,
+    pub lines: Lines<'a>,
 }
 
-impl Chart<'_> {
+impl<'a> Chart<'a> {
+    /// The chart of a unit.
+    pub fn new(alloc: Global, answered: Answered<'a>) -> Result<Chart<'a>, Memory> {
+        let lines = Lines::new(alloc, &answered.unit.text, answered.encoding)?;
+        let map = UnitMap::new(alloc, &answered.unit.text)?;
+        Ok(Chart { alloc, map, lines })
+    }
+
+    /// The byte at a place of the file.
+    pub fn byte_at(&self, spot: Spot) -> usize {
+        self.lines.byte_at(spot.line, spot.column)
+    }
+
     /// From a place of the declaration of this number to the end of the token that begins there, or of the character where
     /// none does.
     fn range(&self, number: usize, place: Place) -> Range {
-        let start = self.lines.byte_at(self.map.in_file(number, place));
+        let start = self.byte_at(self.map.in_file(number, place));
         let end = match token_end(&self.map.lexed.tokens, start) {
             Some(end) => end,
             None => self.lines.after(start),
@@ -118,7 +131,18 @@ impl Findings {
             return Ok(());
         }
         let printed = printed(chart.alloc, reply, true)?;
-        let mut rest = printed.as_slice();
+        self.lines(chart, number, printed.bytes(), reason)
+    }
+
+    /// Adds the faults and the warnings that these lines of a reply tell.
+    fn lines(
+        &mut self,
+        chart: &Chart,
+        number: usize,
+        printed: &[u8],
+        reason: &[Vec<u8>],
+    ) -> Result<(), Memory> {
+        let mut rest = printed;
         for _turn in 0..printed.len() {
             let Some((line, others)) = cut(rest, b'\n') else {
                 return Ok(());
@@ -155,14 +179,15 @@ impl Findings {
         is_warning: bool,
         reason: &[Vec<u8>],
     ) -> Result<(), Memory> {
-        let finding = Finding {
+        let origin = self.origin(chart.alloc, remark)?;
+        let text = said(chart.alloc, remark.text, reason)?;
+        self.items.push(Finding {
             is_warning,
             range: chart.range(number, remark.place),
             code: Vec::from_slice(chart.alloc, remark.code)?,
-            text: said(chart.alloc, remark.text, reason)?,
-            origin: self.origin(chart.alloc, remark)?,
-        };
-        self.items.push(finding)?;
+            text,
+            origin,
+        })?;
         Ok(())
     }
 
@@ -175,6 +200,22 @@ impl Findings {
             Some(Some(refusal)) => Ok(Origin::Own(refusal)),
             Some(None) => Ok(Origin::Nowhere),
             None => Ok(Origin::Needs(key)),
+        }
+    }
+
+    /// Adds what is found in the declaration of this number, with its reply, its reason, and its tree where there is one.
+    fn add(
+        &mut self,
+        chart: &Chart,
+        number: usize,
+        reply: &Reply,
+        reason: &[Vec<u8>],
+        declaration: Option<&TopDec>,
+    ) -> Result<(), Memory> {
+        self.take(chart, number, reply, reason)?;
+        match declaration {
+            Some(declaration) => self.note(chart, number, reply.is_accepted(), declaration),
+            None => Ok(()),
         }
     }
 
@@ -201,22 +242,24 @@ impl Findings {
 
 /// A text, and the lines of its reason.
 fn said(alloc: Global, text: &[u8], reason: &[Vec<u8>]) -> Result<Vec<u8>, Memory> {
-    let mut said = Vec::from_slice(alloc, text)?;
+    let mut said = Text::new(alloc);
+    said.push(text);
     for line in reason {
-        push_all(&mut said, &[b"\n", line.as_slice()])?;
+        said.push(b"\n");
+        said.push(line);
     }
-    Ok(said)
+    said.finish()
 }
 
 /// A reply as it is printed in version 2.
-pub fn printed(alloc: Global, reply: &Reply, warnings: bool) -> Result<Vec<u8>, Memory> {
+pub fn printed(alloc: Global, reply: &Reply, warnings: bool) -> Result<VecOut, Memory> {
     let form = Form {
         version: Version::Two,
         warnings,
     };
     let mut out = VecOut::new(alloc);
     match print(reply, form, &mut out) {
-        Ok(_) => Ok(Vec::from_slice(alloc, out.bytes())?),
+        Ok(_) => Ok(out),
         Err(_) => Err(Memory),
     }
 }
@@ -245,13 +288,7 @@ fn is_any_warned(replies: &[Reply]) -> bool {
 pub fn findings_of(alloc: Global, answered: Answered) -> Result<Findings, Memory> {
     let replies = answered.replies();
     if is_any_refused(replies) || is_any_warned(replies) {
-        let map = UnitMap::new(alloc, &answered.unit.text)?;
-        let lines = Lines::new(alloc, &answered.unit.text, answered.encoding)?;
-        let chart = Chart {
-            alloc,
-            map: &map,
-            lines: &lines,
-        };
+        let chart = Chart::new(alloc, answered)?;
         findings_in(answered, &chart)
     } else {
         Ok(Findings::new(alloc))
@@ -300,10 +337,7 @@ fn all_of(
             Some(reason) => reason.as_slice(),
             None => &[],
         };
-        found.take(chart, number, reply, reason)?;
-        if let Some(declaration) = declarations.get(index) {
-            found.note(chart, number, reply.is_accepted(), declaration)?;
-        }
+        found.add(chart, number, reply, reason, declarations.get(index))?;
     }
     Ok(found)
 }

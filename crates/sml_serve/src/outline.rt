@@ -1,6 +1,7 @@
 //! Where the declarations of a unit stand, and what they bind.
 
 use crate::findings::{Answered, Chart, printed};
+use sml_client::written::Text;
 use sml_lex::fault::Memory;
 use sml_lex::token::{Kind, Span, Token};
 use sml_reply::reply::Reply;
@@ -10,10 +11,10 @@ use std::alloc::Global;
 impl Chart<'_> {
     /// The bytes of the declaration of this number, one of so many: from its first token to the end of its last one.
     pub fn extent(&self, number: usize, count: usize) -> Span {
-        let start = self.lines.byte_at(self.map.declaration(number));
+        let start = self.byte_at(self.map.declaration(number));
         let limit = if number < count {
             let next = number.saturating_add(1);
-            self.lines.byte_at(self.map.declaration(next))
+            self.byte_at(self.map.declaration(next))
         } else {
             usize::MAX
         };
@@ -68,20 +69,25 @@ fn last_end(tokens: &[Token], start: usize, limit: usize) -> usize {
 /// The lines of what an accepted declaration binds, without the spaces before them and with the ends of the lines.
 pub fn bound_text(alloc: Global, reply: &Reply) -> Result<Vec<u8>, Memory> {
     let printed = printed(alloc, reply, false)?;
-    let mut text = Vec::new(alloc);
-    let Some((_, first)) = cut(&printed, b'\n') else {
-        return Ok(text);
+    let mut text = Text::new(alloc);
+    push_bound(printed.bytes(), &mut text);
+    text.finish()
+}
+
+/// Adds the lines after the first one of a reply.
+fn push_bound(printed: &[u8], text: &mut Text) {
+    let Some((_, first)) = cut(printed, b'\n') else {
+        return;
     };
     let mut rest = first;
     for _turn in 0..printed.len() {
         let Some((line, others)) = cut(rest, b'\n') else {
-            return Ok(text);
+            return;
         };
-        text.extend_from_slice(after(line, b"  ").unwrap_or(line))?;
-        text.push(b'\n')?;
+        text.push(after(line, b"  ").unwrap_or(line));
+        text.push(b"\n");
         rest = others;
     }
-    Ok(text)
 }
 
 /// The reply to the declaration of this number, if there is one, and if it was accepted.

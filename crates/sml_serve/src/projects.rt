@@ -1,9 +1,10 @@
 //! The project file: where it is, what it lists, and its fault.
 
-use crate::documents::Documents;
 use crate::files::{Folders, Overlay};
-use crate::paths::joined;
-use crate::settings::Settings;
+use sml_client::documents::Documents;
+use sml_client::paths::joined;
+use sml_client::settings::Settings;
+use sml_client::written::Text;
 use sml_lex::fault::Memory;
 use sml_projects::manifest::ProjectCode;
 use sml_session::session::{Source, SourceFault};
@@ -131,17 +132,17 @@ fn unreadable<S: Source>(
     path: &str,
     file: &str,
 ) -> Result<Trouble, Memory> {
-    let mut text = Vec::from_slice(alloc, b"cannot read ")?;
-    text.extend_from_slice(file.as_bytes())?;
     let line = match source.read(alloc, path, MOST_BYTES) {
         Ok(listed) => line_of(&listed, file.as_bytes()),
         Err(SourceFault::Unreadable) => 1,
         Err(SourceFault::Memory) => return Err(Memory),
     };
+    let mut text = Text::new(alloc);
+    text.push_all(&[b"cannot read ", file.as_bytes()]);
     Ok(Trouble {
         line,
         code: None,
-        text,
+        text: text.finish()?,
     })
 }
 
@@ -184,8 +185,13 @@ fn third_word(line: &[u8]) -> Option<&[u8]> {
 fn unit_paths(alloc: Global, project: &str, listed: &Listed) -> Result<Vec<String>, Memory> {
     let mut paths = Vec::new(alloc);
     for unit in listed.project.units.as_slice() {
-        let written = unit_path(alloc, project, listed.file_of(unit))?;
-        paths.push(joined(alloc, "", &written)?)?;
+        paths.push(path_in(alloc, project, listed.file_of(unit))?)?;
     }
     Ok(paths)
+}
+
+/// The path of a file that a project names.
+fn path_in(alloc: Global, project: &str, file: &str) -> Result<String, Memory> {
+    let written = unit_path(alloc, project, file)?;
+    joined(alloc, "", &written)
 }

@@ -4,22 +4,24 @@ ghost use Rattle.std.specs.Prelude.{◌≤◌, OnOk};
 ghost use Rattle.serde_json.specs.Data.{depth};
 ghost use Rattle.serde_json.specs.Read.{max_depth};
 ghost use Rattle.serde_json.specs.View.{view};
-ghost use Rattle.sml_serve.specs.Answers.{EndsWithAnswer};
+ghost use Rattle.sml_client.specs.Answers.{EndsWithAnswer};
 
 use crate::board::{Board, View};
-use crate::documents::{Document, Documents};
 use crate::files::Folders;
-use crate::frames::Frame;
+use crate::findings::Answered;
 use crate::hover::{NOTHING, hover};
-use crate::messages::{Call, Wrong, call_of, send_error, send_result, send_watch};
-use crate::paths::path_of;
-use crate::positions::Position;
-use crate::published::Published;
-use crate::settings::{Settings, settings_of, welcome};
 use crate::symbols::symbols;
 use crate::telling::Telling;
-use crate::values::{list_at, number_at, text_at, value_at};
 use serde_json::Value;
+use sml_client::documents::{Document, Documents};
+use sml_client::frames::Frame;
+use sml_client::messages::{Call, Wrong, call_of, send_error, send_result, send_watch};
+use sml_client::paths::path_of;
+use sml_client::positions::Position;
+use sml_client::published::Published;
+use sml_client::settings::{Settings, settings_of, welcome};
+use sml_client::values::{list_at, number_at, text_at, value_at};
+use sml_client::written::Text;
 use sml_lex::fault::Memory;
 use sml_reply::sink::VecOut;
 use sml_session::session::Source;
@@ -37,13 +39,6 @@ enum Phase {
     Fresh,
     Ready,
     Shut,
-}
-
-/// What a request is answered: a result, which is JSON, or an error.
-#[derive(Drop)]
-enum Answer {
-    Result(Vec<u8>),
-    Error(Wrong),
 }
 
 /// A server: what the client said, its documents, what is checked, and what the client was told.
@@ -69,13 +64,14 @@ pub struct Server {
 impl Server {
     /// A server to which no message came yet. Relative paths lie in this folder where the client names no root.
     pub fn new(alloc: Global, folder: &str) -> Result<Server, Memory> {
+        let board = Board::new(alloc)?;
         Ok(Server {
             alloc,
             folder: String::from_str(alloc, folder)?,
             phase: Phase::Fresh,
             settings: Settings::new(),
             documents: Documents::new(alloc),
-            board: Board::new(alloc)?,
+            board,
             published: Published::new(alloc),
             is_loaded: false,
             is_stale: false,
@@ -87,17 +83,26 @@ impl Server {
     /// Takes a frame, and answers it. A status ends the session.
     pub fn take<S: Source + Folders>(
         &mut self,
-        frame: Frame,
+        frame: &Frame,
         files: &mut S,
         out: &mut VecOut,
     ) -> Result<Option<u8>, Memory> {
-        let body = match frame {
-            Frame::Body(body) => body,
-            Frame::NoLength => return self.refuse(Wrong::NoLength, out),
-            Frame::TooLarge => return self.refuse(Wrong::TooLarge, out),
-            Frame::Ended | Frame::CutOff => return Ok(Some(BROKEN_OFF)),
-        };
-        match Value::from_slice(self.alloc, &body) {
+        match frame {
+            Frame::Body(body) => self.take_body(body, files, out),
+            Frame::NoLength => self.refuse(Wrong::NoLength, out),
+            Frame::TooLarge => self.refuse(Wrong::TooLarge, out),
+            Frame::Ended | Frame::CutOff => Ok(Some(BROKEN_OFF)),
+        }
+    }
+
+    /// Takes the body of a frame.
+    fn take_body<S: Source + Folders>(
+        &mut self,
+        body: &[u8],
+        files: &mut S,
+        out: &mut VecOut,
+    ) -> Result<Option<u8>, Memory> {
+        match Value::from_slice(self.alloc, body) {
             Ok(message) => self.message(&message, files, out),
             Err(error) if error.is_memory() => Err(Memory),
             Err(_) => self.refuse(Wrong::NoJson, out),
@@ -154,67 +159,85 @@ impl Server {
         if is_of_texts(method) {
             self.settle(files, out)?;
         }
-        match self.answer_to(method, params)? {
-            Answer::Result(result) => send_result(self.alloc, id, &result, out),
-            Answer::Error(wrong) => send_error(self.alloc, id, wrong, out),
+        let mut text = Text::new(self.alloc);
+        match self.answer_to(method, params, &mut text) {
+            Ok(_) => send_result(self.alloc, id, &text.finish()?, out),
+            Err(wrong) => send_error(self.alloc, id, wrong, out),
         }
     }
 
-    /// What a request is answered.
-    fn answer_to(&mut self, method: &str, params: &Value) -> Result<Answer, Memory> {
+    /// Adds what a request is answered, as JSON, if that isn't an error.
+    fn answer_to(&mut self, method: &str, params: &Value, text: &mut Text) -> Result<(), Wrong> {
         match self.phase {
-            Phase::Fresh if method == "initialize" => self.initialize(params),
-            Phase::Fresh => Ok(Answer::Error(Wrong::TooEarly)),
-            Phase::Shut => Ok(Answer::Error(Wrong::NoRequest)),
+            Phase::Fresh if method == "initialize" => self.initialize(params, text),
+            Phase::Fresh => Err(Wrong::TooEarly),
+            Phase::Shut => Err(Wrong::NoRequest),
             Phase::Ready => match method {
-                "initialize" => Ok(Answer::Error(Wrong::NoRequest)),
-                "shutdown" => self.shut_down(),
-                "textDocument/hover" => self.hover(params),
-                "textDocument/documentSymbol" => self.symbols(params),
-                _ => Ok(Answer::Error(Wrong::NoMethod)),
+                "initialize" => Err(Wrong::NoRequest),
+                "shutdown" => self.shut_down(text),
+                "textDocument/hover" => self.hover(params, text),
+                "textDocument/documentSymbol" => self.symbols(params, text),
+                _ => Err(Wrong::NoMethod),
             },
         }
     }
 
     /// Answers `initialize`.
-    fn initialize(&mut self, params: &Value) -> Result<Answer, Memory> {
-        self.settings = settings_of(self.alloc, params, &self.folder)?;
+    fn initialize(&mut self, params: &Value, text: &mut Text) -> Result<(), Wrong> {
+        match settings_of(self.alloc, params, &self.folder) {
+            Ok(settings) => self.settings = settings,
+            Err(_) => text.lose(),
+        }
         self.phase = Phase::Ready;
-        let text = Vec::from_slice(self.alloc, welcome(&self.settings))?;
-        Ok(Answer::Result(text))
+        text.push(welcome(&self.settings));
+        Ok(())
     }
 
     /// Answers `shutdown`.
-    fn shut_down(&mut self) -> Result<Answer, Memory> {
+    fn shut_down(&mut self, text: &mut Text) -> Result<(), Wrong> {
         self.phase = Phase::Shut;
-        let text = Vec::from_slice(self.alloc, NOTHING)?;
-        Ok(Answer::Result(text))
+        text.push(NOTHING);
+        Ok(())
     }
 
-    /// What is shown at a position.
-    fn hover(&self, params: &Value) -> Result<Answer, Memory> {
+    /// Adds what is shown at a position.
+    fn hover(&self, params: &Value, text: &mut Text) -> Result<(), Wrong> {
         let Some((uri, position)) = position_in(params) else {
-            return Ok(Answer::Error(Wrong::NoParams));
+            return Err(Wrong::NoParams);
         };
-        let path = path_of(self.alloc, uri)?;
-        let text = match self.board.answered(&path, self.settings.encoding) {
-            Some(answered) => hover(self.alloc, answered, position)?,
-            None => Vec::from_slice(self.alloc, NOTHING)?,
-        };
-        Ok(Answer::Result(text))
+        match self.answered(uri) {
+            Ok(Some(answered)) => {
+                if hover(self.alloc, answered, position, text).is_err() {
+                    text.lose();
+                }
+            }
+            Ok(None) => text.push(NOTHING),
+            Err(_) => text.lose(),
+        }
+        Ok(())
     }
 
-    /// The symbols of a document.
-    fn symbols(&self, params: &Value) -> Result<Answer, Memory> {
+    /// Adds the symbols of a document.
+    fn symbols(&self, params: &Value, text: &mut Text) -> Result<(), Wrong> {
         let Some(uri) = text_at(params, &["textDocument", "uri"]) else {
-            return Ok(Answer::Error(Wrong::NoParams));
+            return Err(Wrong::NoParams);
         };
+        match self.answered(uri) {
+            Ok(Some(answered)) => {
+                if symbols(self.alloc, answered, uri, self.settings.is_nested, text).is_err() {
+                    text.lose();
+                }
+            }
+            Ok(None) => text.push(NOTHING),
+            Err(_) => text.lose(),
+        }
+        Ok(())
+    }
+
+    /// The unit of a document with this address as it was answered.
+    fn answered(&self, uri: &str) -> Result<Option<Answered<'_>>, Memory> {
         let path = path_of(self.alloc, uri)?;
-        let text = match self.board.answered(&path, self.settings.encoding) {
-            Some(answered) => symbols(self.alloc, answered, uri, self.settings.is_nested)?,
-            None => Vec::from_slice(self.alloc, NOTHING)?,
-        };
-        Ok(Answer::Result(text))
+        Ok(self.board.answered(&path, self.settings.encoding))
     }
 
     /// Takes a notification. Before `initialize` and after `shutdown` it is passed over.
@@ -235,9 +258,10 @@ impl Server {
             "initialized" => {
                 self.is_stale = true;
                 if self.settings.is_watching {
-                    send_watch(out)?;
+                    send_watch(out)
+                } else {
+                    Ok(())
                 }
-                Ok(())
             }
             "textDocument/didOpen" => self.did_open(params),
             "textDocument/didChange" => self.did_change(params),
@@ -251,8 +275,8 @@ impl Server {
     }
 
     /// Notes that something of a path changed.
-    fn touch(&mut self, path: &str) -> Result<(), Memory> {
-        self.touched.push(String::from_str(self.alloc, path)?)?;
+    fn touch(&mut self, path: String) -> Result<(), Memory> {
+        self.touched.push(path)?;
         Ok(())
     }
 
@@ -264,10 +288,9 @@ impl Server {
         let Some(text) = text_at(params, &["textDocument", "text"]) else {
             return Ok(());
         };
-        let path = path_of(self.alloc, uri)?;
-        self.touch(&path)?;
         let document = Document::new(self.alloc, uri, version_of(params), text)?;
-        self.documents.put(path, document)
+        self.documents.put(path_of(self.alloc, uri)?, document)?;
+        self.touch(path_of(self.alloc, uri)?)
     }
 
     /// Takes over the whole text of a document.
@@ -279,11 +302,17 @@ impl Server {
             return Ok(());
         };
         let path = path_of(self.alloc, uri)?;
-        let text = Vec::from_slice(self.alloc, text.as_bytes())?;
-        if self.documents.set(&path, version_of(params), text) {
-            self.touch(&path)?;
+        if self.set_text(&path, version_of(params), text)? {
+            self.touch(path)
+        } else {
+            Ok(())
         }
-        Ok(())
+    }
+
+    /// Gives an open document another text, and says whether it is open.
+    fn set_text(&mut self, path: &str, version: Option<i64>, text: &str) -> Result<bool, Memory> {
+        let text = Vec::from_slice(self.alloc, text.as_bytes())?;
+        Ok(self.documents.set(path, version, text))
     }
 
     /// Closes a document.
@@ -293,7 +322,7 @@ impl Server {
         };
         let path = path_of(self.alloc, uri)?;
         self.documents.remove(&path);
-        self.touch(&path)
+        self.touch(path)
     }
 
     /// Whether something changed that isn't taken over yet.

@@ -1,10 +1,10 @@
 //! From the bytes of a client to a status.
 
-use crate::command_line::{Asked, asked_by};
 use crate::files::Folders;
-use crate::frames::{Broken, Frame, Held, next_frame};
 use crate::server::Server;
-use crate::streams::In;
+use sml_client::command_line::{Asked, asked_by};
+use sml_client::frames::{Broken, Frame, Held, next_frame};
+use sml_client::streams::In;
 use sml_lex::fault::Memory;
 use sml_reply::sink::{Out, OutFault, VecOut, write_all};
 use sml_session::session::Source;
@@ -118,7 +118,7 @@ fn turns_of<I: In, S: Source + Folders, O: Out>(
 ) -> Result<u8, Stop> {
     for _ in 0..u64::MAX {
         let frame = next_frame(held, input)?;
-        if let Some(status) = turn(held, server, frame, files, out)? {
+        if let Some(status) = turn(held, server, &frame, files, out)? {
             return Ok(status);
         }
     }
@@ -129,7 +129,7 @@ fn turns_of<I: In, S: Source + Folders, O: Out>(
 fn turn<S: Source + Folders, O: Out>(
     held: &Held,
     server: &mut Server,
-    frame: Frame,
+    frame: &Frame,
     files: &mut S,
     out: &mut O,
 ) -> Result<Option<u8>, Stop> {
@@ -140,7 +140,8 @@ fn turn<S: Source + Folders, O: Out>(
     }
     let status = take(server, frame, files, out)?;
     if status.is_none() && !held.has_more() {
-        check(server, files, out)?;
+        begin(server, files, out)?;
+        settle(server, files, out)?;
     }
     Ok(status)
 }
@@ -148,29 +149,46 @@ fn turn<S: Source + Folders, O: Out>(
 /// Takes a frame, and writes what is answered to it.
 fn take<S: Source + Folders, O: Out>(
     server: &mut Server,
-    frame: Frame,
+    frame: &Frame,
     files: &mut S,
     out: &mut O,
 ) -> Result<Option<u8>, Stop> {
     let mut answers = VecOut::new(server.alloc);
-    let status = server.take(frame, files, &mut answers)?;
-    write_all(out, answers.bytes())?;
-    Ok(status)
+    let taken = server.take(frame, files, &mut answers);
+    written(taken, &answers, out)
 }
 
-/// Checks what changed. What the client is told first is written before the rest is checked.
-fn check<S: Source + Folders, O: Out>(
+/// Begins to check what changed, and writes what the client is told first.
+fn begin<S: Source + Folders, O: Out>(
     server: &mut Server,
     files: &mut S,
     out: &mut O,
 ) -> Result<(), Stop> {
     let mut first = VecOut::new(server.alloc);
-    server.begin(files, &mut first)?;
-    write_all(out, first.bytes())?;
+    let begun = server.begin(files, &mut first);
+    written(begun, &first, out)
+}
+
+/// Checks what changed, and writes what the client is told.
+fn settle<S: Source + Folders, O: Out>(
+    server: &mut Server,
+    files: &mut S,
+    out: &mut O,
+) -> Result<(), Stop> {
     let mut rest = VecOut::new(server.alloc);
-    server.settle(files, &mut rest)?;
-    write_all(out, rest.bytes())?;
-    Ok(())
+    let settled = server.settle(files, &mut rest);
+    written(settled, &rest, out)
+}
+
+/// Writes the answers to what was done, unless memory was refused.
+fn written<T: Drop, O: Out>(
+    done: Result<T, Memory>,
+    answers: &VecOut,
+    out: &mut O,
+) -> Result<T, Stop> {
+    let value = done?;
+    write_all(out, answers.bytes())?;
+    Ok(value)
 }
 
 /// What is said where a session ends early.

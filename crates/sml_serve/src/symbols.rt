@@ -2,12 +2,12 @@
 
 use crate::findings::{Answered, Chart};
 use crate::outline::{accepted, bound_text, first_from};
-use crate::positions::{Lines, Range, push_range};
-use crate::values::{push_all, push_string};
+use sml_client::positions::{Lines, Range, push_range};
+use sml_client::written::Text;
 use sml_lex::fault::Memory;
 use sml_lex::token::{Kind, Span, Token};
+use sml_reply::reply::Reply;
 use sml_shown::remark::{after, cut};
-use sml_shown::unit_map::UnitMap;
 use std::alloc::Global;
 use std::collections::BTreeMap;
 
@@ -69,7 +69,7 @@ struct Site<'a> {
 #[derive(Drop)]
 struct Nest<'a, 'b> {
     open: Vec<Node<'a>>,
-    text: &'b mut Vec<u8>,
+    text: &'b mut Text,
 }
 
 /// The type after the parameters that stand before it.
@@ -86,7 +86,7 @@ fn after_parameters(rest: &[u8]) -> &[u8] {
 }
 
 /// A path and what stands after it and after a sign with spaces around it.
-fn make_entry<'a>(kind: &'static [u8], rest: &'a [u8], is_open: bool) -> Entry<'a> {
+fn make_entry<'a>(kind: &'static [u8], rest: &'a [u8]) -> Entry<'a> {
     let (path, others) = match cut(rest, b' ') {
         Some((path, others)) => (path, others),
         None => (rest, &rest[rest.len()..]),
@@ -99,20 +99,7 @@ fn make_entry<'a>(kind: &'static [u8], rest: &'a [u8], is_open: bool) -> Entry<'
         kind,
         path,
         detail,
-        is_open,
-    }
-}
-
-/// A value: a function, if an arrow stands in its type outside of brackets.
-fn value_entry<'a>(rest: &'a [u8]) -> Entry<'a> {
-    let found = make_entry(VARIABLE, rest, false);
-    Entry {
-        kind: if is_arrow(found.detail) {
-            FUNCTION
-        } else {
-            VARIABLE
-        },
-        ..found
+        is_open: kind == MODULE || kind == INTERFACE,
     }
 }
 
@@ -132,19 +119,38 @@ fn is_arrow(ty: &[u8]) -> bool {
     false
 }
 
-/// What a line says.
+/// The kind of the symbol of a line that begins with this word.
+fn kind_of(word: &[u8]) -> Option<&'static [u8]> {
+    let kinds: [(&[u8], &'static [u8]); 8] = [
+        (b"structure", MODULE),
+        (b"signature", INTERFACE),
+        (b"functor", MODULE),
+        (b"type", STRUCT),
+        (b"datatype", ENUM),
+        (b"val", VARIABLE),
+        (b"con", ENUM_MEMBER),
+        (b"exception", EVENT),
+    ];
+    for (name, kind) in kinds {
+        if name == word {
+            return Some(kind);
+        }
+    }
+    None
+}
+
+/// What a line says. A value is a function if an arrow stands in its type outside of brackets.
 fn entry_in<'a>(line: &'a [u8]) -> Option<Entry<'a>> {
     let (word, rest) = cut(line, b' ')?;
-    match word {
-        b"structure" => Some(make_entry(MODULE, rest, true)),
-        b"signature" => Some(make_entry(INTERFACE, rest, true)),
-        b"functor" => Some(make_entry(MODULE, rest, true)),
-        b"type" => Some(make_entry(STRUCT, after_parameters(rest), false)),
-        b"datatype" => Some(make_entry(ENUM, after_parameters(rest), false)),
-        b"val" => Some(value_entry(rest)),
-        b"con" => Some(make_entry(ENUM_MEMBER, rest, false)),
-        b"exception" => Some(make_entry(EVENT, rest, false)),
-        _ => None,
+    let kind = kind_of(word)?;
+    if kind == STRUCT || kind == ENUM {
+        return Some(make_entry(kind, after_parameters(rest)));
+    }
+    let found = make_entry(kind, rest);
+    if kind == VARIABLE && is_arrow(found.detail) {
+        Some(make_entry(FUNCTION, rest))
+    } else {
+        Some(found)
     }
 }
 
@@ -238,73 +244,70 @@ impl Site<'_> {
     }
 
     /// Adds a symbol by this name, without its end.
-    fn push_nested(&self, text: &mut Vec<u8>, entry: &Entry, name: &[u8]) -> Result<(), Memory> {
-        push_named(self.alloc, text, entry, name)?;
+    fn push_nested(&self, text: &mut Text, entry: &Entry, name: &[u8]) {
+        push_named(text, entry, name);
         if !entry.detail.is_empty() {
-            text.extend_from_slice(b",\"detail\":")?;
-            push_string(self.alloc, text, entry.detail)?;
+            text.push(b",\"detail\":");
+            text.push_string(entry.detail);
         }
-        text.push(b',')?;
+        text.push(b",");
         let whole = self.lines.range(self.extent.start, self.extent.end);
-        push_range(text, b"range", whole)?;
-        text.push(b',')?;
-        push_range(text, b"selectionRange", self.name_range(entry.path))
+        push_range(text, b"range", whole);
+        text.push(b",");
+        push_range(text, b"selectionRange", self.name_range(entry.path));
     }
 
     /// Adds a symbol of a list that isn't nested.
-    fn push_flat(&self, text: &mut Vec<u8>, entry: &Entry) -> Result<(), Memory> {
+    fn push_flat(&self, text: &mut Text, entry: &Entry) {
         let name = last_part(entry.path);
-        push_named(self.alloc, text, entry, name)?;
-        text.extend_from_slice(b",\"location\":{\"uri\":")?;
-        push_string(self.alloc, text, self.uri.as_bytes())?;
-        text.push(b',')?;
-        push_range(text, b"range", self.name_range(entry.path))?;
-        text.push(b'}')?;
+        push_named(text, entry, name);
+        text.push(b",\"location\":{\"uri\":");
+        text.push_string(self.uri.as_bytes());
+        text.push(b",");
+        push_range(text, b"range", self.name_range(entry.path));
+        text.push(b"}");
         let size = entry.path.len().saturating_sub(name.len());
         let holder = entry.path.get(..size.saturating_sub(1)).unwrap_or(&[]);
         if !holder.is_empty() {
-            text.extend_from_slice(b",\"containerName\":")?;
-            push_string(self.alloc, text, holder)?;
+            text.push(b",\"containerName\":");
+            text.push_string(holder);
         }
-        text.push(b'}')?;
-        Ok(())
+        text.push(b"}");
     }
 }
 
 /// Adds the beginning of a symbol: its name and its kind.
-fn push_named(alloc: Global, text: &mut Vec<u8>, entry: &Entry, name: &[u8]) -> Result<(), Memory> {
-    text.extend_from_slice(b"{\"name\":")?;
-    push_string(alloc, text, name)?;
-    push_all(text, &[b",\"kind\":", entry.kind])
+fn push_named(text: &mut Text, entry: &Entry, name: &[u8]) {
+    text.push(b"{\"name\":");
+    text.push_string(name);
+    text.push_all(&[b",\"kind\":", entry.kind]);
 }
 
 /// Adds a comma, unless a list begins here.
-fn separate(text: &mut Vec<u8>) -> Result<(), Memory> {
-    if text.last() != Some(&b'[') {
-        text.push(b',')?;
+fn separate(text: &mut Text) {
+    if text.bytes().last() != Some(&b'[') {
+        text.push(b",");
     }
-    Ok(())
 }
 
 impl<'a> Nest<'a, '_> {
     /// Begins a symbol in the innermost one that stands open.
-    fn begin(&mut self) -> Result<(), Memory> {
+    fn begin(&mut self) {
         if let Some(node) = self.open.last_mut() {
             if !node.is_parent {
                 node.is_parent = true;
-                self.text.extend_from_slice(b",\"children\":[")?;
+                self.text.push(b",\"children\":[");
             }
         }
-        separate(self.text)
+        separate(self.text);
     }
 
     /// Closes the innermost symbol that stands open.
-    fn close(&mut self) -> Result<(), Memory> {
+    fn close(&mut self) {
         if let Some(node) = self.open.pop() {
             let end: &[u8] = if node.is_parent { b"]}" } else { b"}" };
-            self.text.extend_from_slice(end)?;
+            self.text.push(end);
         }
-        Ok(())
     }
 
     /// The path below the innermost open symbol; the whole path where none stands open.
@@ -316,38 +319,44 @@ impl<'a> Nest<'a, '_> {
     }
 
     /// Closes symbols until this path lies below the innermost open one, and gives what is left of the path there.
-    fn close_to<'c>(&mut self, path: &'c [u8]) -> Result<&'c [u8], Memory> {
+    fn close_to<'c>(&mut self, path: &'c [u8]) -> &'c [u8] {
         for _turn in 0..=MOST_OPEN {
             if let Some(inner) = self.inner(path) {
-                return Ok(inner);
+                return inner;
             }
-            self.close()?;
+            self.close();
         }
-        Ok(path)
+        path
     }
 
     /// Adds what a line says.
-    fn take(&mut self, site: &Site, entry: Entry<'a>) -> Result<(), Memory> {
-        let name = self.close_to(entry.path)?;
-        self.begin()?;
-        site.push_nested(self.text, &entry, name)?;
+    fn take(&mut self, site: &Site, entry: Entry<'a>) {
+        let name = self.close_to(entry.path);
+        self.begin();
+        site.push_nested(self.text, &entry, name);
         if entry.is_open && self.open.len() < MOST_OPEN {
-            self.open.push(Node {
-                path: entry.path,
-                is_parent: false,
-            })?;
+            self.open(entry.path);
         } else {
-            self.text.push(b'}')?;
+            self.text.push(b"}");
         }
-        Ok(())
+    }
+
+    /// Lets a symbol stand open.
+    fn open(&mut self, path: &'a [u8]) {
+        let node = Node {
+            path,
+            is_parent: false,
+        };
+        if self.open.push(node).is_err() {
+            self.text.lose();
+        }
     }
 
     /// Closes all symbols.
-    fn finish(&mut self) -> Result<(), Memory> {
+    fn finish(&mut self) {
         for _turn in 0..=MOST_OPEN {
-            self.close()?;
+            self.close();
         }
-        Ok(())
     }
 }
 
@@ -368,88 +377,83 @@ fn entries<'a>(alloc: Global, text: &'a [u8]) -> Result<Vec<Entry<'a>>, Memory> 
 }
 
 /// Adds the nested symbols of a declaration that binds these.
-fn push_all_nested(site: &Site, entries: &[Entry], text: &mut Vec<u8>) -> Result<(), Memory> {
+fn push_all_nested(site: &Site, entries: &[Entry], text: &mut Text) {
     let mut nest = Nest {
         open: Vec::new(site.alloc),
         text,
     };
     for entry in entries {
-        nest.take(site, *entry)?;
+        nest.take(site, *entry);
     }
-    nest.finish()
+    nest.finish();
 }
 
 /// Adds the symbols of a declaration that binds these, one after the other.
-fn push_all_flat(site: &Site, entries: &[Entry], text: &mut Vec<u8>) -> Result<(), Memory> {
+fn push_all_flat(site: &Site, entries: &[Entry], text: &mut Text) {
     for entry in entries {
-        separate(text)?;
-        site.push_flat(text, entry)?;
+        separate(text);
+        site.push_flat(text, entry);
     }
-    Ok(())
 }
 
-/// The symbols of a document with this address, as JSON.
+/// Adds the symbols of a document with this address, as JSON.
 pub fn symbols(
     alloc: Global,
     answered: Answered,
     uri: &str,
     is_nested: bool,
-) -> Result<Vec<u8>, Memory> {
-    let map = UnitMap::new(alloc, &answered.unit.text)?;
-    let lines = Lines::new(alloc, &answered.unit.text, answered.encoding)?;
-    let chart = Chart {
-        alloc,
-        map: &map,
-        lines: &lines,
-    };
-    let mut text = Vec::from_slice(alloc, b"[")?;
-    push_declarations(answered, &chart, uri, is_nested, &mut text)?;
-    text.push(b']')?;
-    Ok(text)
+    text: &mut Text,
+) -> Result<(), Memory> {
+    let chart = Chart::new(alloc, answered)?;
+    text.push(b"[");
+    push_declarations(answered, &chart, uri, is_nested, text)?;
+    text.push(b"]");
+    Ok(())
 }
 
 /// Adds the symbols of all declarations.
 fn push_declarations<'a>(
     answered: Answered,
-    chart: &Chart<'a>,
+    chart: &'a Chart<'a>,
     uri: &'a str,
     is_nested: bool,
-    text: &mut Vec<u8>,
+    text: &mut Text,
 ) -> Result<(), Memory> {
     let count = answered.replies().len();
     for number in 1..=count {
         if let Some(reply) = accepted(answered, number) {
-            let bound = bound_text(chart.alloc, reply)?;
             let site = site_of(chart, uri, chart.extent(number, count))?;
-            push_symbols(&site, &bound, is_nested, text)?;
+            push_reply(&site, reply, is_nested, text)?;
         }
     }
     Ok(())
 }
 
 /// A declaration in a document with this address.
-fn site_of<'a>(chart: &Chart<'a>, uri: &'a str, extent: Span) -> Result<Site<'a>, Memory> {
+fn site_of<'a>(chart: &'a Chart<'a>, uri: &'a str, extent: Span) -> Result<Site<'a>, Memory> {
     let lexed = &chart.map.lexed;
     Ok(Site {
         alloc: chart.alloc,
         uri,
-        lines: chart.lines,
+        lines: &chart.lines,
         extent,
         names: names_in(chart.alloc, lexed.unit, &lexed.tokens, extent)?,
     })
 }
 
+/// Adds the symbols of a declaration that was accepted.
+fn push_reply(site: &Site, reply: &Reply, is_nested: bool, text: &mut Text) -> Result<(), Memory> {
+    let bound = bound_text(site.alloc, reply)?;
+    push_symbols(site, &bound, is_nested, text)
+}
+
 /// Adds the symbols of a declaration that binds this.
-fn push_symbols(
-    site: &Site,
-    bound: &[u8],
-    is_nested: bool,
-    text: &mut Vec<u8>,
-) -> Result<(), Memory> {
+fn push_symbols(site: &Site, bound: &[u8], is_nested: bool, text: &mut Text) -> Result<(), Memory> {
     let entries = entries(site.alloc, bound)?;
     if is_nested {
-        push_all_nested(site, &entries, text)
+        push_all_nested(site, &entries, text);
     } else {
-        push_all_flat(site, &entries, text)
+        push_all_flat(site, &entries, text);
     }
+    Ok(())
 }

@@ -1,10 +1,10 @@
 //! What the client is told of what is checked.
 
 use crate::board::{Board, View};
-use crate::diagnostics::{Desk, address, params_text, trouble_text};
+use crate::diagnostics::{Desk, address, trouble_text};
 use crate::files::Overlay;
-use crate::published::Published;
 use crate::works::Work;
+use sml_client::published::{Published, params_text};
 use sml_lex::fault::Memory;
 use sml_reply::sink::VecOut;
 use sml_session::session::Source;

@@ -1,7 +1,7 @@
 //! Projects that are checked, and checked again after each change.
 
 use crate::findings::{Answered, Findings, findings_of};
-use crate::positions::Encoding;
+use sml_client::positions::Encoding;
 use sml_lex::fault::Memory;
 use sml_objects::objects::UnitId;
 use sml_projects::project::{Project, ProjectUnit};
@@ -12,8 +12,8 @@ use std::alloc::Global;
 use std::collections::BTreeMap;
 use std::mem::replace;
 
-/// A project that was checked, what is found in its units, and the paths of their files, by the order of the units.
-#[derive(Drop)]
+/// A project that was checked, what is found in its units, and the paths of their files, by the order of the units. It lets
+/// go of what it holds in one place.
 pub struct Work {
     pub listed: Listed,
     pub paths: Vec<String>,
@@ -27,15 +27,34 @@ pub struct Work {
     is_old: bool,
 }
 
+impl Drop for Work {
+    fn drop(self) {
+        let Work {
+            listed: _,
+            paths: _,
+            firsts: _,
+            findings: _,
+            checked: _,
+            again: _,
+            is_old: _,
+        } = self;
+    }
+}
+
 /// A project of one unit, a document with this path and this text.
 pub fn single(alloc: Global, path: &str, text: &[u8]) -> Result<Work, Memory> {
     let mut work = Work::new(alloc)?;
+    set_single(alloc, &mut work, path, text)?;
+    Ok(work)
+}
+
+/// Makes a project without units one of this unit.
+fn set_single(alloc: Global, work: &mut Work, path: &str, text: &[u8]) -> Result<(), Memory> {
     let mut listed = empty(alloc);
     listed.project.units.push(only_unit(alloc, text)?)?;
     let mut paths = Vec::new(alloc);
     paths.push(String::from_str(alloc, path)?)?;
-    work.list(alloc, listed, paths)?;
-    Ok(work)
+    work.list(alloc, listed, paths)
 }
 
 /// The unit of a document with this text.
@@ -144,8 +163,9 @@ impl Work {
     /// A project without units.
     pub fn new(alloc: Global) -> Result<Work, Memory> {
         let listed = empty(alloc);
+        let checked = check(alloc, &listed.project)?;
         Ok(Work {
-            checked: check(alloc, &listed.project)?,
+            checked,
             listed,
             paths: Vec::new(alloc),
             firsts: Vec::new(alloc),
@@ -205,6 +225,15 @@ impl Work {
         Ok(())
     }
 
+    /// Begins to check again, if something changed and that isn't begun yet.
+    fn begin(&mut self, alloc: Global) -> Result<(), Memory> {
+        if self.is_old && self.again.is_none() {
+            let again = Rechecking::new(alloc, &self.checked, &self.listed.project)?;
+            self.again = Some(again);
+        }
+        Ok(())
+    }
+
     /// Checks up to so many units again, if something changed.
     pub fn renew_to(
         &mut self,
@@ -212,10 +241,7 @@ impl Work {
         encoding: Encoding,
         count: usize,
     ) -> Result<(), Memory> {
-        if self.is_old && self.again.is_none() {
-            let again = Rechecking::new(alloc, &self.checked, &self.listed.project)?;
-            self.again = Some(again);
-        }
+        self.begin(alloc)?;
         match &mut self.again {
             Some(again) => go_on(
                 alloc,

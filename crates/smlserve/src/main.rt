@@ -1,10 +1,10 @@
 // The program: a language server over standard input and output.
 #![tactic(auto)]
 
+use sml_client::streams::StdIn;
 use sml_reply::sink::StdOut;
 use sml_serve::files::Tree;
 use sml_serve::session::{out_of_memory, session};
-use sml_serve::streams::StdIn;
 use std::process::ExitCode;
 use std::{env, io};
 

@@ -1,0 +1,4 @@
+mod Ends
+mod Parts
+mod Lines
+mod Taking

@@ -1,0 +1,8 @@
+use Rattle.std.proofs.Common.{ℕ, List}
+use Rattle.std.specs.Io.KnownBytes.{Consumes}
+use Rattle.sml_client.specs.Streams.{stream}
+use Rattle.sml_client.proofs.frames.skip.Given as goal
+
+abbrev pub invariant-loop : goal.invariant-loop
+invariant-loop g l = (skipped : List ℕ)
+    × Consumes (stream l.initial.held.bytes.items (g.I.In.remaining l.initial.input)) (stream l.held.bytes.items (g.I.In.remaining l.input)) skipped

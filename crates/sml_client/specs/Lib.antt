@@ -1,0 +1,4 @@
+pub mod Lengths
+pub mod Heads
+pub mod Streams
+pub mod Answers

@@ -1,7 +1,0 @@
-use Rattle.std.specs.Io.KnownBytes.{Keeps}
-use Rattle.sml_serve.specs.Streams.{stream}
-use Rattle.sml_serve.proofs.frames.body.Given as goal
-
-abbrev pub invariant-loop : goal.invariant-loop
-invariant-loop g l =
-    Keeps (stream l.initial.held.bytes.items (g.I.In.remaining l.initial.input)) (stream l.held.bytes.items (g.I.In.remaining l.input))

@@ -1,8 +1,0 @@
-use Rattle.std.proofs.Common.{ℕ, List}
-use Rattle.std.specs.Io.KnownBytes.{Consumes}
-use Rattle.sml_serve.specs.Streams.{stream}
-use Rattle.sml_serve.proofs.frames.next_frame.Given as goal
-
-abbrev pub invariant-loop : goal.invariant-loop
-invariant-loop g l = (head : List ℕ)
-    × Consumes (stream l.initial.held.bytes.items (g.I.In.remaining l.initial.input)) (stream l.held.bytes.items (g.I.In.remaining l.input)) head

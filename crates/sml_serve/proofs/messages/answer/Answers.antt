@@ -1,9 +1,0 @@
-use Rattle.std.proofs.Common.{◌∙◌, ap}
-use Rattle.serde_json.specs.Read.{read}
-use Rattle.sml_serve.specs.Answers.{answer}
-use Rattle.sml_serve.proofs.Taking.{on_ok}
-use Rattle.sml_serve.proofs.messages.answer.Goals as goal
-
-pub returns : goal.returns
-unfolding answer
-returns c = λ few. on_ok c.send.result (λ h. record { text = c.deref.result.now; same = ap read c.deref.ensures.value ∙ c.in_ok-id.ensures.reads_back few; written = h }) c.send.ensures

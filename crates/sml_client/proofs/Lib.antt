@@ -2,3 +2,4 @@ mod Ends
 mod Parts
 mod Lines
 mod Taking
+mod Telling

@@ -1,5 +1,5 @@
 -- What is written for an answer.
-use Rattle.std.specs.Prelude.{◌≡◌, ◌++◌, ◌∷◌, ℕ, List, [], Some, codes, decimal, length}
+use Rattle.std.specs.Prelude.{◌≡◌, ◌++◌, ◌∷◌, ◌⊎◌, ℕ, Bool, false, List, [], Some, codes, decimal, length}
 use Rattle.serde_json.specs.Data.{Data}
 use Rattle.serde_json.specs.Read.{read}
 use Rattle.sml_reply.specs.Sinks.{in_turn}
@@ -19,6 +19,23 @@ pub record IsAnswered (id : Data) (name given before after : List ℕ) : Type 0 
   pub same : read text ≡ Some id
   pub written : after ≡ before ++ message (answer text name given)
 
--- What was written last is one answer to the request of this id.
-abbrev pub EndsWithAnswer : Data → List ℕ → Type 0
-EndsWithAnswer id after = (name : List ℕ) × (given : List ℕ) × (before : List ℕ) × IsAnswered id name given before after
+-- a notification of diagnostics, which has these parameters
+unfoldable pub notice : List ℕ → List ℕ
+notice params = message (in_turn (codes "{\"jsonrpc\":\"2.0\",\"method\":\"textDocument/publishDiagnostics\",\"params\":" ∷ params ∷ codes "}" ∷ []))
+
+-- such notifications, one after the other
+abbrev pub notices : List (List ℕ) → List ℕ
+notices [] = []
+notices (p ∷ ps) = notice p ++ notices ps
+
+-- Since then nothing was written but notifications of diagnostics.
+abbrev pub OnlyTells : List ℕ → List ℕ → Type 0
+OnlyTells before after = (ps : List (List ℕ)) × (after ≡ before ++ notices ps)
+
+-- The client is told by these parameters, or, where it needn't be, of nothing.
+abbrev pub TellsOf : List ℕ → Bool → List ℕ → List ℕ → Type 0
+TellsOf params is_needed before after = (after ≡ before ++ notice params) ⊎ ((is_needed ≡ false) × (after ≡ before))
+
+-- Since then one answer to the request of this id was written, and before it nothing but notifications of diagnostics.
+abbrev pub AnswersOnce : Data → List ℕ → List ℕ → Type 0
+AnswersOnce id before after = (told : List ℕ) × (name : List ℕ) × (given : List ℕ) × OnlyTells before told × IsAnswered id name given told after

@@ -5,7 +5,7 @@ ghost use Rattle.serde_json.specs.Data.{depth};
 ghost use Rattle.serde_json.specs.Read.{max_depth};
 ghost use Rattle.serde_json.specs.View.{view};
 ghost use Rattle.sml_reply.specs.Sinks.{in_turn};
-ghost use Rattle.sml_client.specs.Answers.{IsAnswered, message};
+ghost use Rattle.sml_client.specs.Answers.{IsAnswered, message, notice};
 
 use crate::frames::write_frame;
 use serde_json::Value;
@@ -147,7 +147,9 @@ pub fn send_error(alloc: Global, id: &Value, wrong: Wrong, out: &mut VecOut) -> 
 }
 
 /// Tells of diagnostics, whose parameters these are, which are JSON.
-pub fn send_diagnostics(alloc: Global, params: &[u8], out: &mut VecOut) -> Result<(), Memory> {
+pub fn send_diagnostics(alloc: Global, params: &[u8], out: &mut VecOut) -> Result<(), Memory>
+    ensures { OnOk result (out.new.bytes.items ≡ out.old.bytes.items ++ notice params.now) }
+{
     let head: &[u8] =
         b"{\"jsonrpc\":\"2.0\",\"method\":\"textDocument/publishDiagnostics\",\"params\":";
     send(alloc, &[head, params, b"}"], out)

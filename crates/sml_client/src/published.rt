@@ -1,5 +1,8 @@
 //! The diagnostics that the client was told of last.
 
+ghost use Rattle.std.specs.Prelude.{OnOk};
+ghost use Rattle.sml_client.specs.Answers.{OnlyTells, TellsOf};
+
 use crate::messages::send_diagnostics;
 use crate::written::Text;
 use itoa::Buffer;
@@ -45,7 +48,9 @@ impl Published {
         is_empty: bool,
         is_needed: bool,
         out: &mut VecOut,
-    ) -> Result<(), Memory> {
+    ) -> Result<(), Memory>
+        ensures { OnOk result (TellsOf params.items is_needed out.old.bytes.items out.new.bytes.items) }
+    {
         let sent = if is_needed || !self.is_told(&uri, &params) {
             send_diagnostics(alloc, &params, out)
         } else {
@@ -71,7 +76,9 @@ impl Published {
     }
 
     /// Ends a round: the diagnostics of files that weren't looked at go.
-    pub fn end(&mut self, alloc: Global, out: &mut VecOut) -> Result<(), Memory> {
+    pub fn end(&mut self, alloc: Global, out: &mut VecOut) -> Result<(), Memory>
+        ensures { OnOk result (OnlyTells out.old.bytes.items out.new.bytes.items) }
+    {
         let gone = self.gone(alloc)?;
         for uri in gone.as_slice() {
             if let Some(told) = self.told.remove(uri) {
@@ -96,7 +103,9 @@ impl Published {
 }
 
 /// Tells that a file has no diagnostics.
-fn clear(alloc: Global, uri: &str, out: &mut VecOut) -> Result<(), Memory> {
+fn clear(alloc: Global, uri: &str, out: &mut VecOut) -> Result<(), Memory>
+    ensures { OnOk result (OnlyTells out.old.bytes.items out.new.bytes.items) }
+{
     let params = params_text(alloc, uri, None, &[])?;
     send_diagnostics(alloc, &params, out)
 }

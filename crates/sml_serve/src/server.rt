@@ -4,7 +4,7 @@ ghost use Rattle.std.specs.Prelude.{◌≤◌, OnOk};
 ghost use Rattle.serde_json.specs.Data.{depth};
 ghost use Rattle.serde_json.specs.Read.{max_depth};
 ghost use Rattle.serde_json.specs.View.{view};
-ghost use Rattle.sml_client.specs.Answers.{EndsWithAnswer};
+ghost use Rattle.sml_client.specs.Answers.{AnswersOnce, OnlyTells};
 
 use crate::board::{Board, View};
 use crate::files::Folders;
@@ -154,7 +154,7 @@ impl Server {
         files: &mut S,
         out: &mut VecOut,
     ) -> Result<(), Memory>
-        ensures { depth (view id.now) ≤ max_depth → OnOk result (EndsWithAnswer (view id.now) out.new.bytes.items) }
+        ensures { depth (view id.now) ≤ max_depth → OnOk result (AnswersOnce (view id.now) out.old.bytes.items out.new.bytes.items) }
     {
         if is_of_texts(method) {
             self.settle(files, out)?;
@@ -339,7 +339,9 @@ impl Server {
         &mut self,
         files: &mut S,
         out: &mut VecOut,
-    ) -> Result<(), Memory> {
+    ) -> Result<(), Memory>
+        ensures { OnOk result (OnlyTells out.old.bytes.items out.new.bytes.items) }
+    {
         if self.is_begun || !self.is_due() {
             return Ok(());
         }
@@ -380,7 +382,9 @@ impl Server {
     }
 
     /// Checks the units up to the last one with the file of the unit at a place, and tells the client of that file.
-    fn tell_first(&mut self, place: usize, out: &mut VecOut) -> Result<(), Memory> {
+    fn tell_first(&mut self, place: usize, out: &mut VecOut) -> Result<(), Memory>
+        ensures { OnOk result (OnlyTells out.old.bytes.items out.new.bytes.items) }
+    {
         let work = &mut self.board.work;
         let end = work.end_of(place);
         work.renew_to(self.alloc, self.settings.encoding, end)?;
@@ -403,7 +407,9 @@ impl Server {
         &mut self,
         files: &mut S,
         out: &mut VecOut,
-    ) -> Result<(), Memory> {
+    ) -> Result<(), Memory>
+        ensures { OnOk result (OnlyTells out.old.bytes.items out.new.bytes.items) }
+    {
         self.begin(files, out)?;
         if !self.is_begun {
             return Ok(());

@@ -1,5 +1,8 @@
 //! What the client is told of what is checked.
 
+ghost use Rattle.std.specs.Prelude.{OnOk};
+ghost use Rattle.sml_client.specs.Answers.{OnlyTells};
+
 use crate::board::{Board, View};
 use crate::diagnostics::{Desk, address, trouble_text};
 use crate::files::Overlay;
@@ -27,7 +30,9 @@ impl Telling<'_> {
         files: &mut S,
         published: &mut Published,
         out: &mut VecOut,
-    ) -> Result<(), Memory> {
+    ) -> Result<(), Memory>
+        ensures { OnOk result (OnlyTells out.old.bytes.items out.new.bytes.items) }
+    {
         published.begin();
         self.work(&board.work, published, out)?;
         for work in board.singles.values() {
@@ -38,7 +43,9 @@ impl Telling<'_> {
     }
 
     /// Tells of the files of a project.
-    fn work(&self, work: &Work, published: &mut Published, out: &mut VecOut) -> Result<(), Memory> {
+    fn work(&self, work: &Work, published: &mut Published, out: &mut VecOut) -> Result<(), Memory>
+        ensures { OnOk result (OnlyTells out.old.bytes.items out.new.bytes.items) }
+    {
         for (place, first) in work.firsts.iter().enumerate() {
             if *first == place {
                 self.unit(work, place, published, out)?;
@@ -54,7 +61,9 @@ impl Telling<'_> {
         place: usize,
         published: &mut Published,
         out: &mut VecOut,
-    ) -> Result<(), Memory> {
+    ) -> Result<(), Memory>
+        ensures { OnOk result (OnlyTells out.old.bytes.items out.new.bytes.items) }
+    {
         let desk = Desk {
             view: self.view,
             work,
@@ -70,7 +79,9 @@ impl Telling<'_> {
         list: &[u8],
         published: &mut Published,
         out: &mut VecOut,
-    ) -> Result<(), Memory> {
+    ) -> Result<(), Memory>
+        ensures { OnOk result (OnlyTells out.old.bytes.items out.new.bytes.items) }
+    {
         let view = self.view;
         let version = match view.documents.get(path) {
             Some(document) => document.version,
@@ -99,7 +110,9 @@ impl Telling<'_> {
         files: &mut S,
         published: &mut Published,
         out: &mut VecOut,
-    ) -> Result<(), Memory> {
+    ) -> Result<(), Memory>
+        ensures { OnOk result (OnlyTells out.old.bytes.items out.new.bytes.items) }
+    {
         let (Some(path), Some(trouble)) = (&board.path, &board.trouble) else {
             return Ok(());
         };

@@ -1,5 +1,5 @@
 -- How bytes end.
-use Rattle.std.proofs.Common.{◌≡◌, ◌++◌, ◌∷◌, ◌<◌, ◌⊎◌, inl, inr, ℕ, List, [], Bool, false, true, refl, sym, ap, ◌∙◌, append_assoc, append-nil, length, subst, arith}
+use Rattle.std.proofs.Common.{◌≡◌, ◌++◌, ◌∷◌, ◌⊎◌, inl, inr, ℕ, List, [], Bool, refl, sym, ap, ◌∙◌, append_assoc, append-nil, subst}
 use mathlib.Core.Bool.{true≢false}
 use Rattle.sml_client.specs.Lengths.{EachPasses, EndsOff}
 

@@ -1,9 +1,9 @@
 -- Lines of heads, one after the other.
-use Rattle.std.proofs.Common.{◌≡◌, ◌++◌, ◌∷◌, ◌+◌, ◌-◌, ◌<◌, ◌==◌, ◌⊎◌, ℕ, zero, List, [], Bool, true, false, Option, Some, None, inl, inr, refl, sym, ap, ◌∙◌, append_assoc, append-nil, length, length-append, subst, arith}
+use Rattle.std.proofs.Common.{◌≡◌, ◌++◌, ◌∷◌, ◌+◌, ◌-◌, ◌<◌, ◌==◌, ◌⊎◌, ℕ, List, [], Bool, true, false, Option, Some, None, inl, inr, refl, sym, ap, ◌∙◌, append_assoc, append-nil, length, length-append, subst, arith}
 use Rattle.std.proofs.lemmas.Bool.{eqb-true, eqb-false}
 use Rattle.std.specs.List.{AllByRecursion}
 use Rattle.sml_client.specs.Lengths.{TellsLength, TellsNone}
-use Rattle.sml_client.specs.Heads.{BeginsWithHead, HasText, IsHead, IsHeadOf, IsLine, LineTells, LineTellsNone, Told, ended, head_with}
+use Rattle.sml_client.specs.Heads.{BeginsWithHead, HasText, IsHeadOf, IsLine, LineTellsNone, Told, ended, head_with}
 use Rattle.sml_client.specs.Streams.{AreEmptyLines}
 
 pub each_more : {X : Type 0} (P : X → Type 0) (xs : List X) (x : X) → AllByRecursion P xs → P x → AllByRecursion P (xs ++ (x ∷ []))

@@ -1,5 +1,5 @@
 -- The parts of a line that tells a length, which are the same however they are found.
-use Rattle.std.proofs.Common.{◌≡◌, ◌++◌, ◌∷◌, ◌+◌, ◌-◌, ◌*◌, ◌<◌, ◌≤◌, ◌↔◌, ◌==◌, ◌||◌, inl, inr, ℕ, List, [], Bool, true, false, MatchBool, refl, sym, ap, ◌∙◌, append_assoc, append-nil, length, map, codes, drop, subst, arith}
+use Rattle.std.proofs.Common.{◌≡◌, ◌++◌, ◌∷◌, ◌+◌, ◌-◌, ◌*◌, ◌<◌, ◌≤◌, ◌↔◌, ◌==◌, inl, inr, ℕ, List, [], Bool, true, false, MatchBool, refl, sym, ap, ◌∙◌, append_assoc, append-nil, length, map, codes, drop, subst, arith}
 use Rattle.std.proofs.lemmas.List.{map-append, length-append, length-map}
 use Rattle.std.proofs.lemmas.List.Prefix.{end_rest}
 use Rattle.std.proofs.lemmas.Bool.{and_parts, leb-true, eqb-true, ne_eqb, or_cases, or_from, cases_from_iff, false_from_ne_true}

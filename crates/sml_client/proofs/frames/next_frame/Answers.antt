@@ -15,7 +15,7 @@ returns-in-Whole g c =
     let begun = c.in-Whole.ensures in
     let t = c.in_ok-take-in-Whole.field-0.items in
     let taken = takes_first c.in-Whole.size c.loop.held.bytes.items (g.I.In.remaining c.loop.input) t _ c.in_ok-take-in-Whole.ensures.taken c.in_ok-take-in-Whole.ensures.left in
-    let same : t ≡ begun.1.head = takes_head c.in-Whole.size c.loop.held.bytes.items begun.1.head begun.1.rest t begun.1.whole begun.1.counted c.in_ok-take-in-Whole.ensures.taken in
+    let same : t ≡ begun.1.head = takes_head c.in-Whole.size c.loop.held.bytes.items begun.1.head begun.1.rest t (sym c.deref.ensures.value ∙ begun.1.whole) begun.1.counted c.in_ok-take-in-Whole.ensures.taken in
     taken_after _ _ _ passed t c.in-Whole.length c.body.result (takes_both _ _ _ passed t c.loop.invariant.1 taken) c.loop.invariant.2
     (subst (λ h. TellsInHead h c.in-Whole.length) (sym same) (begun.0, begun.1.is_head, begun.2)) c.body.ensures
 
@@ -28,10 +28,10 @@ returns-in-Bad g c =
     let all = takes_both _ _ _ passed t c.loop.invariant.1 (takes_first c.in-Bad.size bytes (g.I.In.remaining c.loop.input) t _ cut c.in_ok-take-in-Bad.ensures.left) in
     elim c.in-Bad.ensures [
       | inl h ↦
-          let same : t ≡ h.1.head = takes_head c.in-Bad.size bytes h.1.head h.1.rest t h.1.whole h.1.counted cut in
+          let same : t ≡ h.1.head = takes_head c.in-Bad.size bytes h.1.head h.1.rest t (sym c.deref.ensures.value ∙ h.1.whole) h.1.counted cut in
           (passed, t, all, c.loop.invariant.2, inl (h.0, subst (λ x. IsHead x h.0) (sym same) h.1.is_head, h.2, h.3))
       | inr h ↦
-          let same : t ≡ bytes = takes_all c.in-Bad.size bytes t h.2 cut in
+          let same : t ≡ c.deref.result.now = takes_all c.in-Bad.size bytes t (h.2 ∙ ap length c.deref.ensures.value) cut ∙ sym c.deref.ensures.value in
           (passed, t, all, c.loop.invariant.2, inr (subst HasNoEnd (sym same) h.0, subst (λ x. 8192 < length x) (sym same) h.1))
     ]
 
@@ -48,7 +48,7 @@ loop-preserved g c =
       | in-Blank+in_ok-take-in-Blank w ↦ (
           let t = w.in_ok-take-in-Blank.field-0.items in
           let begun = w.in-Blank.ensures in
-          let same : t ≡ begun.head = takes_head w.in-Blank.size c.loop.held.bytes.items begun.head begun.rest t begun.whole begun.counted w.in_ok-take-in-Blank.ensures.taken in (
+          let same : t ≡ begun.head = takes_head w.in-Blank.size c.loop.held.bytes.items begun.head begun.rest t (sym c.deref.ensures.value ∙ begun.whole) begun.counted w.in_ok-take-in-Blank.ensures.taken in (
             passed ++ t,
             takes_to _ _ _ (passed ++ t) (λ i. stream (w.held-is i).bytes.items (g.I.In.remaining (w.input-is i)))
                 (takes_both _ _ _ passed t c.loop.invariant.1
@@ -57,3 +57,6 @@ loop-preserved g c =
           )
           )
     ]
+
+pub returns-then-not-branch : goal.returns-then-not-branch
+returns-then-not-branch g c = c.end_of.ensures _ _

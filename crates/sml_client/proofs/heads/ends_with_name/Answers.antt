@@ -1,4 +1,4 @@
-use Rattle.std.proofs.Common.{◌≡◌, ◌++◌, ◌+◌, ◌-◌, sym, ap, ◌∙◌, length, drop, take, take-append-drop, length-drop, arith}
+use Rattle.std.proofs.Common.{◌≡◌, ◌++◌, ◌-◌, sym, ap, ◌∙◌, length, drop, take, take-append-drop, length-drop, arith}
 use Rattle.std.proofs.lemmas.List.{take_rest}
 use Rattle.sml_client.proofs.Parts.{name_tested}
 use Rattle.sml_client.proofs.heads.ends_with_name.Goals as goal

@@ -1,4 +1,4 @@
-use Rattle.std.proofs.Common.{[], sym, ◌∙◌, subst}
+use Rattle.std.proofs.Common.{sym, ◌∙◌, subst}
 use Rattle.sml_client.specs.Heads.{HasText, IsHeadOf}
 use Rattle.sml_client.proofs.Lines.{head_ends, is_none, is_some, so_far_more, told_next}
 use Rattle.sml_client.proofs.heads.head_of.Goals as goal

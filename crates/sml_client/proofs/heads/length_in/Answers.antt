@@ -1,4 +1,4 @@
-use Rattle.std.proofs.Common.{◌≡◌, ◌≤◌, ◌-◌, sym, ap, ◌∙◌, length, drop, take, length-drop, arith}
+use Rattle.std.proofs.Common.{◌≡◌, ◌-◌, sym, ap, ◌∙◌, length, drop, take, length-drop, arith}
 use Rattle.std.proofs.lemmas.Bool.{MatchBool-at_false, eqb-true}
 use Rattle.std.proofs.lemmas.List.{take_rest}
 use Rattle.sml_client.proofs.Parts.{none_left, none_named}

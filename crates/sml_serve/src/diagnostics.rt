@@ -67,7 +67,9 @@ fn push_code(view: View, text: &mut Text, code: &[u8]) {
 /// its words.
 fn push_page_address(alloc: Global, text: &mut Text, pages: &str, code: &[u8]) {
     let mut address = Text::new(alloc);
-    address.push_all(&[pages.as_bytes(), b"/", page_of(code)]);
+    address.push(pages.as_bytes());
+    address.push(b"/");
+    address.push(page_of(code));
     if let Some(section) = section_of(code) {
         address.push(b"#");
         push_small(&mut address, code);
@@ -90,7 +92,11 @@ fn push_small(address: &mut Text, bytes: &[u8]) {
 
 /// Adds the line of a message that names the page of a code.
 fn push_page(message: &mut Text, code: &[u8]) {
-    message.push_all(&[b"\n(", code, b" in docs/", page_of(code), b")"]);
+    message.push(b"\n(");
+    message.push(code);
+    message.push(b" in docs/");
+    message.push(page_of(code));
+    message.push(b")");
 }
 
 /// Adds the range and the severity, with which a diagnostic begins.

@@ -1,5 +1,5 @@
 mod Ends
 mod Parts
 mod Lines
-mod Taking
-mod Telling
+pub mod Taking
+pub mod Telling

@@ -3,6 +3,7 @@ pub mod Lookups
 pub mod Answers
 pub mod Types
 pub mod Datatypes
+pub mod Functions
 pub mod States
 pub mod Solutions
 pub mod Scripts

@@ -1,1 +1,9 @@
+mod AppliedSizes
+mod Counts
+mod FunctionViews
+mod LargeEntries
+mod Listed
+mod Orders
 mod SameMaps
+mod SchemeMaps
+mod TypeMaps

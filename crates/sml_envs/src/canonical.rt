@@ -1,5 +1,11 @@
 //! Names in the order in which they appear, and objects with new names in their place.
 
+ghost use Rattle.std.specs.Prelude.{◌≡◌, ℕ};
+ghost use Rattle.std.specs.Option.{option_map};
+ghost use Rattle.sml_objects.specs.Objects as O;
+ghost use Rattle.sml_objects.specs.Views.{name_of};
+ghost use Rattle.sml_envs.specs.Mapped.{by_name, names_of, or_by_name};
+
 use crate::mapping::{Image, Mapping, mapped_env};
 use crate::new_names::NewNames;
 use indexmap::{IndexMap, IndexSet};
@@ -142,7 +148,9 @@ struct Renaming {
 }
 
 impl Renaming {
-    fn image(&self, name: TyName) -> Option<TyName> {
+    fn image(&self, name: TyName) -> Option<TyName>
+        ensures { option_map name_of result ≡ names_of self.now.names.entries (name_of name) }
+    {
         match self.names.get(&name) {
             Some(other) => Some(*other),
             None => None,
@@ -175,6 +183,12 @@ impl Renaming {
 }
 
 impl Mapping for Renaming {
+    ghost bound_gives = { λ _ k. O.bound k };
+
+    ghost free_gives = { λ _ v. O.free v };
+
+    ghost name_gives = { λ s n ts. by_name (names_of s.names.entries n) n ts };
+
     fn bound(&self, _alloc: Global, _variable: u32) -> Result<Option<Rc<MlType>>, Memory> {
         Ok(None)
     }
@@ -315,6 +329,12 @@ struct Both<'a, M> {
 }
 
 impl<M: Mapping> Mapping for Both<'_, M> {
+    ghost bound_gives = { λ _ k. O.bound k };
+
+    ghost free_gives = { λ _ v. O.free v };
+
+    ghost name_gives = { λ s n ts. or_by_name (names_of s.renaming.names.entries n) ts (M.name_gives s.others.now n ts) };
+
     fn bound(&self, _alloc: Global, _variable: u32) -> Result<Option<Rc<MlType>>, Memory> {
         Ok(None)
     }

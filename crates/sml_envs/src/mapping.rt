@@ -1,7 +1,14 @@
 //! Objects with other types for their variables and their names. What doesn't change is shared, and so is what becomes of what
 //! was shared. Who gives type functions for names asks first how large what becomes of an object is.
 
-ghost use Rattle.std.specs.Prelude.{◌<◌, length};
+ghost use Rattle.std.specs.Prelude.{◌≡◌, ◌++◌, ◌∷◌, ℕ, List, [], IfOk, Some, false, map};
+ghost use Rattle.sml_objects.specs.Initial.{Name};
+ghost use Rattle.sml_objects.specs.Objects as O;
+ghost use Rattle.sml_objects.specs.Objects.{types_of};
+ghost use Rattle.sml_objects.specs.Fates.{type_or, seen_type};
+ghost use Rattle.sml_objects.specs.Views.{type_of, name_of, scheme_of, schemes_of};
+ghost use Rattle.sml_envs.specs.Orders.{AreOrdered, IsOrdered, scheme_by, schemes_by};
+ghost use Rattle.sml_envs.specs.Mapped.{IsChanged, image_of, mapped, mapped_body, scheme_or, seen, seen_scheme, types_or};
 
 use crate::order::in_order;
 use sml_bases::objects::{Constructors, Env, TypeStr, Value};
@@ -23,19 +30,26 @@ pub enum Image<'a> {
 
 /// What variables and names become. `None` is that a variable stays.
 pub trait Mapping {
-    fn bound(&self, alloc: Global, variable: u32) -> Result<Option<Rc<MlType>>, Memory>;
+    ghost bound_gives: { Self → ℕ → O.MlType Name };
 
-    fn free(&self, alloc: Global, variable: u32) -> Result<Option<Rc<MlType>>, Memory>;
+    ghost free_gives: { Self → ℕ → O.MlType Name };
 
-    fn name(&self, name: TyName) -> Image<'_>;
+    ghost name_gives: { Self → Name → O.MlTypes Name → O.MlType Name };
+
+    fn bound(&self, alloc: Global, variable: u32) -> Result<Option<Rc<MlType>>, Memory>
+        ensures { IfOk result (λ o. IsChanged o (O.bound variable) (bound_gives self.now variable)) };
+
+    fn free(&self, alloc: Global, variable: u32) -> Result<Option<Rc<MlType>>, Memory>
+        ensures { IfOk result (λ o. IsChanged o (O.free variable) (free_gives self.now variable)) };
+
+    fn name(&self, name: TyName) -> Image<'_>
+        ensures { (ts : O.MlTypes Name) → image_of result (name_of name) ts ≡ name_gives self.now (name_of name) ts };
 }
 
 /// The type that a type becomes.
-pub fn mapped_type<M: Mapping>(
-    alloc: Global,
-    ty: &Rc<MlType>,
-    by: &M,
-) -> Result<Rc<MlType>, Memory> {
+pub fn mapped_type<M: Mapping>(alloc: Global, ty: &Rc<MlType>, by: &M) -> Result<Rc<MlType>, Memory>
+    ensures { IfOk result (λ t. type_of t.value ≡ mapped (M.bound_gives by.now) (M.free_gives by.now) (M.name_gives by.now) (type_of ty.now.value)) }
+{
     match changed_type(alloc, ty, by)? {
         Some(changed) => Ok(changed),
         None => Ok(ty.clone()?),
@@ -47,7 +61,9 @@ pub fn mapped_function<M: Mapping>(
     alloc: Global,
     scheme: &Rc<Scheme>,
     by: &M,
-) -> Result<Rc<Scheme>, Memory> {
+) -> Result<Rc<Scheme>, Memory>
+    ensures { IfOk result (λ s. scheme_of s.value ≡ mapped_body (M.bound_gives by.now) (M.free_gives by.now) (M.name_gives by.now) (scheme_of scheme.now.value)) }
+{
     match changed_function(alloc, scheme, by)? {
         Some(changed) => Ok(changed),
         None => Ok(scheme.clone()?),
@@ -59,7 +75,9 @@ pub fn mapped_scheme<M: Mapping>(
     alloc: Global,
     scheme: &Rc<Scheme>,
     by: &M,
-) -> Result<Rc<Scheme>, Memory> {
+) -> Result<Rc<Scheme>, Memory>
+    ensures { IsOrdered (scheme_of scheme.now.value) → IfOk result (λ s. scheme_of s.value ≡ scheme_by (M.bound_gives by.now) (M.free_gives by.now) (M.name_gives by.now) (scheme_of scheme.now.value)) }
+{
     match changed_scheme(alloc, scheme, by)? {
         Some(changed) => Ok(changed),
         None => Ok(scheme.clone()?),
@@ -80,7 +98,9 @@ fn changed_type<M: Mapping>(
     alloc: Global,
     ty: &MlType,
     by: &M,
-) -> Result<Option<Rc<MlType>>, Memory> {
+) -> Result<Option<Rc<MlType>>, Memory>
+    ensures { IfOk result (λ o. IsChanged o (type_of ty.now) (mapped (M.bound_gives by.now) (M.free_gives by.now) (M.name_gives by.now) (type_of ty.now))) }
+{
     match ty {
         MlType::Bound(variable) => by.bound(alloc, *variable),
         MlType::Free(variable) => by.free(alloc, *variable),
@@ -89,8 +109,9 @@ fn changed_type<M: Mapping>(
             Some(parts) => boxed(alloc, MlType::Row(labels.clone()?, parts)),
         },
         MlType::Arrow(from, to) => {
-            let changed = (changed_type(alloc, from, by)?, changed_type(alloc, to, by)?);
-            changed_arrow(alloc, from, to, changed)
+            let new_from = changed_type(alloc, from, by)?;
+            let new_to = changed_type(alloc, to, by)?;
+            changed_arrow(alloc, from, to, new_from, new_to)
         }
         MlType::Name(name, parts) => {
             let changed = changed_parts(alloc, parts, by)?;
@@ -104,13 +125,17 @@ fn changed_arrow(
     alloc: Global,
     from: &Rc<MlType>,
     to: &Rc<MlType>,
-    changed: (Option<Rc<MlType>>, Option<Rc<MlType>>),
-) -> Result<Option<Rc<MlType>>, Memory> {
-    if changed.0.is_none() && changed.1.is_none() {
+    new_from: Option<Rc<MlType>>,
+    new_to: Option<Rc<MlType>>,
+) -> Result<Option<Rc<MlType>>, Memory>
+    ensures { IfOk result (λ o. IsChanged o (O.arrow_of (type_of from.now.value) (type_of to.now.value))
+        (O.arrow_of (type_or (type_of from.now.value) (seen_type new_from)) (type_or (type_of to.now.value) (seen_type new_to)))) }
+{
+    if new_from.is_none() && new_to.is_none() {
         return Ok(None);
     }
-    let from = or_shared(changed.0, from)?;
-    let to = or_shared(changed.1, to)?;
+    let from = or_shared(new_from, from)?;
+    let to = or_shared(new_to, to)?;
     boxed(alloc, MlType::Arrow(from, to))
 }
 
@@ -121,7 +146,10 @@ fn changed_name<M: Mapping>(
     parts: &[Rc<MlType>],
     changed: Option<Vec<Rc<MlType>>>,
     by: &M,
-) -> Result<Option<Rc<MlType>>, Memory> {
+) -> Result<Option<Rc<MlType>>, Memory>
+    ensures { IfOk result (λ o. IsChanged o (O.app (O.name (name_of name)) (types_of (seen parts.now)))
+        (M.name_gives by.now (name_of name) (types_of (types_or (seen parts.now) changed)))) }
+{
     match by.name(name) {
         Image::Same => match changed {
             None => Ok(None),
@@ -139,11 +167,15 @@ fn changed_name<M: Mapping>(
 }
 
 #[inline(never)]
-fn boxed(alloc: Global, ty: MlType) -> Result<Option<Rc<MlType>>, Memory> {
+fn boxed(alloc: Global, ty: MlType) -> Result<Option<Rc<MlType>>, Memory>
+    ensures { IfOk result (λ o. seen_type o ≡ Some (type_of ty)) }
+{
     Ok(Some(Rc::new(alloc, ty)?))
 }
 
-fn or_shared(changed: Option<Rc<MlType>>, ty: &Rc<MlType>) -> Result<Rc<MlType>, Memory> {
+fn or_shared(changed: Option<Rc<MlType>>, ty: &Rc<MlType>) -> Result<Rc<MlType>, Memory>
+    ensures { IfOk result (λ t. type_of t.value ≡ type_or (type_of ty.now.value) (seen_type changed)) }
+{
     match changed {
         Some(changed) => Ok(changed),
         None => Ok(ty.clone()?),
@@ -154,7 +186,9 @@ fn or_all_shared(
     alloc: Global,
     changed: Option<Vec<Rc<MlType>>>,
     types: &[Rc<MlType>],
-) -> Result<Vec<Rc<MlType>>, Memory> {
+) -> Result<Vec<Rc<MlType>>, Memory>
+    ensures { IfOk result (λ ts. seen ts.items ≡ types_or (seen types.now) changed) }
+{
     match changed {
         Some(changed) => Ok(changed),
         None => all_shared(alloc, types),
@@ -162,7 +196,9 @@ fn or_all_shared(
 }
 
 /// The same types, shared.
-pub fn all_shared(alloc: Global, types: &[Rc<MlType>]) -> Result<Vec<Rc<MlType>>, Memory> {
+pub fn all_shared(alloc: Global, types: &[Rc<MlType>]) -> Result<Vec<Rc<MlType>>, Memory>
+    ensures { IfOk result (λ ts. seen ts.items ≡ seen types.now) }
+{
     let mut shared = Vec::new(alloc);
     for ty in types {
         shared.push(ty.clone()?)?;
@@ -177,11 +213,14 @@ fn changed_parts<M: Mapping>(
     alloc: Global,
     parts: &[Rc<MlType>],
     by: &M,
-) -> Result<Option<Vec<Rc<MlType>>>, Memory> {
+) -> Result<Option<Vec<Rc<MlType>>>, Memory>
+    ensures { IfOk result (λ o. types_or (seen parts.now) o ≡ map (λ t. mapped (M.bound_gives by.now) (M.free_gives by.now) (M.name_gives by.now) (type_of t.value)) parts.now) }
+{
     let mut copies: Option<Vec<Rc<MlType>>> = None;
     for index in 0..parts.len() {
-        let changed = changed_type(alloc, &parts[index], by)?;
-        copies = and_part(alloc, copies, changed, parts, index)?;
+        let part = &parts[index];
+        let changed = changed_type(alloc, part, by)?;
+        copies = and_part(alloc, copies, changed, &parts[..index], part)?;
     }
     Ok(copies)
 }
@@ -192,27 +231,18 @@ fn and_part(
     alloc: Global,
     copies: Option<Vec<Rc<MlType>>>,
     changed: Option<Rc<MlType>>,
-    parts: &[Rc<MlType>],
-    index: usize,
+    before: &[Rc<MlType>],
+    part: &Rc<MlType>,
 ) -> Result<Option<Vec<Rc<MlType>>>, Memory>
-    requires { index < length parts.now }
+    ensures { IfOk result (λ o. types_or (seen before.now ++ (type_of part.now.value ∷ [])) o
+        ≡ types_or (seen before.now) copies ++ (type_or (type_of part.now.value) (seen_type changed) ∷ [])) }
 {
-    match (copies, changed) {
-        (None, None) => Ok(None),
-        (Some(mut copies), None) => {
-            copies.push(parts[index].clone()?)?;
-            Ok(Some(copies))
-        }
-        (Some(mut copies), Some(changed)) => {
-            copies.push(changed)?;
-            Ok(Some(copies))
-        }
-        (None, Some(changed)) => {
-            let mut copies = all_shared(alloc, &parts[..index])?;
-            copies.push(changed)?;
-            Ok(Some(copies))
-        }
+    if copies.is_none() && changed.is_none() {
+        return Ok(None);
     }
+    let mut copies = or_all_shared(alloc, copies, before)?;
+    copies.push(or_shared(changed, part)?)?;
+    Ok(Some(copies))
 }
 
 /// The scheme that a scheme becomes, or `None` where it stays. A type function in the place of a name may change the order
@@ -221,7 +251,9 @@ fn changed_scheme<M: Mapping>(
     alloc: Global,
     scheme: &Scheme,
     by: &M,
-) -> Result<Option<Rc<Scheme>>, Memory> {
+) -> Result<Option<Rc<Scheme>>, Memory>
+    ensures { IsOrdered (scheme_of scheme.now) → IfOk result (λ o. scheme_or (scheme_of scheme.now) (seen_scheme o) ≡ scheme_by (M.bound_gives by.now) (M.free_gives by.now) (M.name_gives by.now) (scheme_of scheme.now)) }
+{
     match changed_type(alloc, &scheme.body, by)? {
         None => Ok(None),
         Some(body) => {
@@ -235,7 +267,9 @@ fn changed_function<M: Mapping>(
     alloc: Global,
     scheme: &Scheme,
     by: &M,
-) -> Result<Option<Rc<Scheme>>, Memory> {
+) -> Result<Option<Rc<Scheme>>, Memory>
+    ensures { IfOk result (λ o. scheme_or (scheme_of scheme.now) (seen_scheme o) ≡ mapped_body (M.bound_gives by.now) (M.free_gives by.now) (M.name_gives by.now) (scheme_of scheme.now)) }
+{
     match changed_type(alloc, &scheme.body, by)? {
         None => Ok(None),
         Some(body) => {
@@ -249,7 +283,9 @@ fn mapped_schemes<M: Mapping>(
     alloc: Global,
     schemes: &Constructors,
     by: &M,
-) -> Result<Constructors, Memory> {
+) -> Result<Constructors, Memory>
+    ensures { AreOrdered (schemes_of schemes.now.entries) → IfOk result (λ c. schemes_of c.entries ≡ schemes_by (M.bound_gives by.now) (M.free_gives by.now) (M.name_gives by.now) (schemes_of schemes.now.entries)) }
+{
     let mut copies = BTreeMap::new(alloc);
     for (name, scheme) in schemes {
         copies.insert(name.clone()?, mapped_scheme(alloc, scheme, by)?)?;
@@ -261,7 +297,9 @@ fn changes_schemes<M: Mapping>(
     alloc: Global,
     schemes: &Constructors,
     by: &M,
-) -> Result<bool, Memory> {
+) -> Result<bool, Memory>
+    ensures { AreOrdered (schemes_of schemes.now.entries) → IfOk result (λ b. b ≡ false → schemes_by (M.bound_gives by.now) (M.free_gives by.now) (M.name_gives by.now) (schemes_of schemes.now.entries) ≡ schemes_of schemes.now.entries) }
+{
     for (_, scheme) in schemes {
         if changed_scheme(alloc, scheme, by)?.is_some() {
             return Ok(true);
@@ -275,7 +313,9 @@ pub fn mapped_constructors<M: Mapping>(
     alloc: Global,
     constructors: &Rc<Constructors>,
     by: &M,
-) -> Result<Rc<Constructors>, Memory> {
+) -> Result<Rc<Constructors>, Memory>
+    ensures { AreOrdered (schemes_of constructors.now.value.entries) → IfOk result (λ c. schemes_of c.value.entries ≡ schemes_by (M.bound_gives by.now) (M.free_gives by.now) (M.name_gives by.now) (schemes_of constructors.now.value.entries)) }
+{
     if changes_schemes(alloc, constructors, by)? {
         let copies = mapped_schemes(alloc, constructors, by)?;
         return Ok(Rc::new(alloc, copies)?);

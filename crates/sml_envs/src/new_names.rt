@@ -1,5 +1,13 @@
 //! New type names of a unit.
 
+ghost use Rattle.std.specs.Prelude.{◌≡◌, ◌≤◌, ◌^◌, [], IfOk, None, OnErr, OnOk, suc, true};
+ghost use Rattle.std.specs.Option.{option_map, option_or};
+ghost use Rattle.sml_objects.specs.Initial.{Name, made};
+ghost use Rattle.sml_objects.specs.Views.{maker_of, name_of, schemes_of};
+ghost use Rattle.sml_bases.specs.declared.objects.Basis.{out-Basis};
+ghost use Rattle.sml_envs.specs.Comparisons.{identifiers};
+ghost use Rattle.sml_envs.specs.NewNames.{carried_of, carries, carries_too, idents_of, is_new, like, next_after, listed as listed_at, listed_by, unless_none};
+
 use indexmap::IndexMap;
 use sml_bases::objects::{Basis, Carried, Constructors};
 use sml_lex::fault::Memory;
@@ -22,7 +30,13 @@ pub struct NewNames<'a> {
 
 impl<'a> NewNames<'a> {
     /// No name made yet. The first one gets the number after those of the basis.
-    pub fn new(alloc: Global, basis: &'a Basis) -> NewNames<'a> {
+    pub fn new(alloc: Global, basis: &'a Basis) -> NewNames<'a>
+        ensures basis { result.basis ≡ basis.entry }
+        ensures unit { result.unit ≡ (out-Basis basis.now).unit }
+        ensures next { result.next ≡ (out-Basis basis.now).count }
+        ensures carried { result.carried.entries ≡ [] }
+        ensures carries { (n : Name) → is_new result n ≡ true → carries result n ≡ None }
+    {
         NewNames {
             alloc,
             basis,
@@ -33,7 +47,15 @@ impl<'a> NewNames<'a> {
     }
 
     /// A new name. A number that no `u32` holds counts as want of memory.
-    pub fn make(&mut self, arity: u32, equality: bool) -> Result<TyName, Memory> {
+    pub fn make(&mut self, arity: u32, equality: bool) -> Result<TyName, Memory>
+        ensures made { IfOk result (λ n. name_of n ≡ made (maker_of self.old.unit) self.old.next arity equality) }
+        ensures next { OnOk result (self.new.next ≡ suc self.old.next) }
+        ensures err { OnErr result ((2 ^ 32 ≤ suc self.old.next) × (self.new.next ≡ self.old.next)) }
+        ensures basis { self.new.basis ≡ self.old.basis }
+        ensures unit { self.new.unit ≡ self.old.unit }
+        ensures carried { self.new.carried ≡ self.old.carried }
+        ensures carries { (n : Name) → carries self.new n ≡ carries self.old n }
+    {
         let number = self.next;
         match number.checked_add(1) {
             Some(next) => self.next = next,
@@ -48,7 +70,14 @@ impl<'a> NewNames<'a> {
     }
 
     /// A new name with what a name carries. An initial one stays.
-    pub fn make_like(&mut self, name: TyName) -> Result<TyName, Memory> {
+    pub fn make_like(&mut self, name: TyName) -> Result<TyName, Memory>
+        ensures made { IfOk result (λ n. name_of n ≡ like self.old (name_of name)) }
+        ensures next { OnOk result (self.new.next ≡ next_after self.old (name_of name)) }
+        ensures carried { OnOk result ((n : Name) → carries self.new n ≡ carries_too self.old (like self.old (name_of name)) (carries self.old (name_of name)) n) }
+        ensures err { OnErr result ((n : Name) → carries self.new n ≡ carries self.old n) }
+        ensures basis { self.new.basis ≡ self.old.basis }
+        ensures unit { self.new.unit ≡ self.old.unit }
+    {
         match name {
             TyName::Initial(_) => Ok(name),
             TyName::Made(MadeName { arity, .. }) => {
@@ -64,7 +93,14 @@ impl<'a> NewNames<'a> {
         &mut self,
         name: TyName,
         constructors: &Constructors,
-    ) -> Result<(), Memory> {
+    ) -> Result<(), Memory>
+        ensures carried { OnOk result ((n : Name) → carries self.new n
+            ≡ carries_too self.old (name_of name) (unless_none (identifiers (schemes_of constructors.now.entries))) n) }
+        ensures err { OnErr result ((n : Name) → carries self.new n ≡ carries self.old n) }
+        ensures basis { self.new.basis ≡ self.old.basis }
+        ensures unit { self.new.unit ≡ self.old.unit }
+        ensures next { self.new.next ≡ self.old.next }
+    {
         if constructors.is_empty() {
             return Ok(());
         }
@@ -77,7 +113,14 @@ impl<'a> NewNames<'a> {
     }
 
     /// Lets a name carry what the first of two others that has constructors does.
-    pub fn carry_first(&mut self, name: TyName, one: TyName, other: TyName) -> Result<(), Memory> {
+    pub fn carry_first(&mut self, name: TyName, one: TyName, other: TyName) -> Result<(), Memory>
+        ensures carried { OnOk result ((n : Name) → carries self.new n
+            ≡ carries_too self.old (name_of name) (option_or (carries self.old (name_of one)) (carries self.old (name_of other))) n) }
+        ensures err { OnErr result ((n : Name) → carries self.new n ≡ carries self.old n) }
+        ensures basis { self.new.basis ≡ self.old.basis }
+        ensures unit { self.new.unit ≡ self.old.unit }
+        ensures next { self.new.next ≡ self.old.next }
+    {
         let carried = match self.carried(one)? {
             Some(identifiers) => Some(identifiers),
             None => self.carried(other)?,
@@ -85,7 +128,13 @@ impl<'a> NewNames<'a> {
         self.carry(name, carried)
     }
 
-    fn carry(&mut self, name: TyName, carried: Carried) -> Result<(), Memory> {
+    fn carry(&mut self, name: TyName, carried: Carried) -> Result<(), Memory>
+        ensures carried { OnOk result ((n : Name) → carries self.new n ≡ carries_too self.old (name_of name) (carried_of carried) n) }
+        ensures err { OnErr result ((n : Name) → carries self.new n ≡ carries self.old n) }
+        ensures basis { self.new.basis ≡ self.old.basis }
+        ensures unit { self.new.unit ≡ self.old.unit }
+        ensures next { self.new.next ≡ self.old.next }
+    {
         if let (TyName::Made(made), Some(identifiers)) = (name, carried) {
             self.carried.insert(made.number, identifiers)?;
         }
@@ -93,7 +142,9 @@ impl<'a> NewNames<'a> {
     }
 
     /// What a name carries.
-    pub fn carried(&self, name: TyName) -> Result<Carried, Memory> {
+    pub fn carried(&self, name: TyName) -> Result<Carried, Memory>
+        ensures { IfOk result (λ o. carried_of o ≡ carries self.now (name_of name)) }
+    {
         match name {
             TyName::Initial(_) => Ok(None),
             TyName::Made(made) => {
@@ -112,7 +163,9 @@ impl<'a> NewNames<'a> {
 }
 
 /// The constructors that a name of an earlier declaration carries: one of the unit, or one that a unit made that it needs.
-fn earlier(basis: &Basis, name: MadeName) -> Option<&Rc<Vec<Ident>>> {
+fn earlier(basis: &Basis, name: MadeName) -> Option<&Rc<Vec<Ident>>>
+    ensures { option_map (λ x. idents_of x.now) result ≡ listed_by basis.now (maker_of name.unit) name.number }
+{
     if basis.unit == name.unit {
         return listed(&basis.names, name.number);
     }
@@ -126,7 +179,9 @@ fn earlier(basis: &Basis, name: MadeName) -> Option<&Rc<Vec<Ident>>> {
     None
 }
 
-fn listed(names: &[Carried], number: u32) -> Option<&Rc<Vec<Ident>>> {
+fn listed(names: &[Carried], number: u32) -> Option<&Rc<Vec<Ident>>>
+    ensures { option_map (λ x. idents_of x.now) result ≡ listed_at names.now number }
+{
     match names.get(number as usize) {
         Some(Some(identifiers)) => Some(identifiers),
         _ => None,

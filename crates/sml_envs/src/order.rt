@@ -1,5 +1,12 @@
 //! The variables of schemes in the order of their first appearance.
 
+ghost use Rattle.std.specs.Prelude.{◌≡◌, ℕ, IfOk, OnOk, Some, false, map, nat_eq, position, slice_index_or, true};
+ghost use Rattle.sml_objects.specs.Objects as O;
+ghost use Rattle.sml_objects.specs.Objects.{types_of};
+ghost use Rattle.sml_objects.specs.Views.{scheme_of, type_of};
+ghost use Rattle.sml_envs.specs.Mapped.{bound_at};
+ghost use Rattle.sml_envs.specs.Orders.{all_bound_after, bound_after, ordered};
+
 use crate::mapping::{Image, Mapping, mapped_type};
 use indexmap::IndexSet;
 use sml_lex::fault::Memory;
@@ -14,6 +21,12 @@ struct Order<'a> {
 }
 
 impl Mapping for Order<'_> {
+    ghost bound_gives = { λ s k. bound_at s.variables.now.keys k };
+
+    ghost free_gives = { λ _ v. O.free v };
+
+    ghost name_gives = { λ _ n ts. O.app (O.name n) ts };
+
     fn bound(&self, alloc: Global, variable: u32) -> Result<Option<Rc<MlType>>, Memory> {
         let Some(place) = self.variables.get_index_of(&variable) else {
             return Ok(None);
@@ -35,11 +48,9 @@ impl Mapping for Order<'_> {
 
 /// The scheme of a type over these variables, by their equality attributes, where those that stand in it are numbered by
 /// first appearance.
-pub(crate) fn in_order(
-    alloc: Global,
-    equality: &[bool],
-    body: Rc<MlType>,
-) -> Result<Scheme, Memory> {
+pub(crate) fn in_order(alloc: Global, equality: &[bool], body: Rc<MlType>) -> Result<Scheme, Memory>
+    ensures { IfOk result (λ s. scheme_of s ≡ ordered equality.now (type_of body.value)) }
+{
     let mut order = IndexSet::new(alloc);
     collect_bound(&body, &mut order)?;
     let variables = attributes_of(alloc, equality, &order)?;
@@ -55,7 +66,9 @@ fn attributes_of(
     alloc: Global,
     equality: &[bool],
     order: &IndexSet<u32>,
-) -> Result<Vec<bool>, Memory> {
+) -> Result<Vec<bool>, Memory>
+    ensures { IfOk result (λ qs. qs.items ≡ map (λ k. slice_index_or equality.now k false) order.now.keys) }
+{
     let mut attributes = Vec::new(alloc);
     for variable in order {
         attributes.push(match equality.get(*variable as usize) {
@@ -67,10 +80,13 @@ fn attributes_of(
 }
 
 /// Whether each variable stands at its own place.
-fn is_ascending(order: &IndexSet<u32>) -> bool {
-    for (place, variable) in order.iter().enumerate() {
-        if *variable as usize != place {
-            return false;
+fn is_ascending(order: &IndexSet<u32>) -> bool
+    ensures { result ≡ true → (k i : ℕ) → position (nat_eq k) order.now.keys ≡ Some i → i ≡ k }
+{
+    for place in 0..order.len() {
+        match order.get_index(place) {
+            Some(variable) if *variable as usize == place => {}
+            _ => return false,
         }
     }
     true
@@ -78,7 +94,9 @@ fn is_ascending(order: &IndexSet<u32>) -> bool {
 
 /// Adds the bound variables of a type, in the order in which they appear.
 #[cycle(bound)]
-fn collect_bound(ty: &MlType, seen: &mut IndexSet<u32>) -> Result<(), Memory> {
+fn collect_bound(ty: &MlType, seen: &mut IndexSet<u32>) -> Result<(), Memory>
+    ensures { OnOk result (seen.new.keys ≡ bound_after seen.old.keys (type_of ty.now)) }
+{
     match ty {
         MlType::Bound(variable) => {
             seen.insert(*variable)?;
@@ -95,7 +113,9 @@ fn collect_bound(ty: &MlType, seen: &mut IndexSet<u32>) -> Result<(), Memory> {
 }
 
 #[cycle(bound)]
-fn collect_all_bound(parts: &[Rc<MlType>], seen: &mut IndexSet<u32>) -> Result<(), Memory> {
+fn collect_all_bound(parts: &[Rc<MlType>], seen: &mut IndexSet<u32>) -> Result<(), Memory>
+    ensures { OnOk result (seen.new.keys ≡ all_bound_after seen.old.keys (types_of (map (λ t. type_of t.value) parts.now))) }
+{
     for part in parts {
         collect_bound(part, seen)?;
     }

@@ -1,5 +1,17 @@
 //! The limit on the sizes of types, asked of types that are not made yet.
 
+ghost use Rattle.std.specs.Prelude.{◌≡◌, ◌+◌, ◌*◌, ◌-◌, ◌^◌, suc, min, nat_lt, replicate, true, vec_len, IfOk};
+ghost use Rattle.sml_objects.specs.Objects as O;
+ghost use Rattle.sml_objects.specs.Objects.{types_of};
+ghost use Rattle.sml_objects.specs.Sizes.{type_size, types_size};
+ghost use Rattle.sml_objects.specs.Types.{applied};
+ghost use Rattle.sml_objects.specs.Fates.{seen_type};
+ghost use Rattle.sml_objects.specs.Views.{entries_of, scheme_of, schemes_of, type_of};
+ghost use Rattle.sml_bases.specs.Views.{env_of, structures_of, ty_str_of, value_of};
+ghost use Rattle.sml_envs.specs.Counted.{HasAddedAbove, HasAddedType, HasNodes, IsCountOf, size_or_one};
+ghost use Rattle.sml_envs.specs.Large.{has_large, have_large, is_large, is_large_type, is_large_value, some_entry};
+ghost use Rattle.sml_envs.specs.Mapped.{mapped, all_mapped, seen};
+
 use crate::mapping::{Image, Mapping};
 use sml_bases::objects::{Constructors, Env, TypeStr, Value};
 use sml_bases::visits::Visits;
@@ -24,32 +36,43 @@ pub struct Count {
 
 impl Count {
     /// A count of nothing, in which so many bound variables are counted by themselves.
-    pub fn new(alloc: Global, variables: usize) -> Result<Count, Memory> {
+    pub fn new(alloc: Global, variables: usize) -> Result<Count, Memory>
+        ensures { IfOk result (λ c. (c.nodes ≡ 0) × (c.uses.items ≡ replicate variables 0)) }
+    {
         let mut uses = Vec::new(alloc);
         uses.resize(variables, 0)?;
         Ok(Count { nodes: 0, uses })
     }
 
     /// The count of the body of a type function, in which its variables are counted by themselves.
-    pub fn of_function(alloc: Global, function: &Scheme) -> Result<Count, Memory> {
+    pub fn of_function(alloc: Global, function: &Scheme) -> Result<Count, Memory>
+        ensures { IfOk result (λ c. IsCountOf (vec_len function.now.variables) (type_of function.now.body.value) c) }
+    {
         let mut count = Count::new(alloc, function.variables.len())?;
         count.add_type(1, &function.body);
         Ok(count)
     }
 
     /// Whether there are more nodes than a scheme may have.
-    pub fn is_large(&self) -> bool {
+    pub fn is_large(&self) -> bool
+        ensures { result ≡ nat_lt 10000 self.now.nodes }
+    {
         self.nodes > GREATEST_SIZE
     }
 
     /// Adds so many nodes.
-    pub fn add(&mut self, nodes: u32) {
+    pub fn add(&mut self, nodes: u32)
+        ensures nodes { self.new.nodes ≡ min (self.old.nodes + nodes) (2 ^ 32 - 1) }
+        ensures uses { self.new.uses ≡ self.old.uses }
+    {
         self.nodes = self.nodes.saturating_add(nodes);
     }
 
     /// Adds a type so many times.
     #[cycle(count)]
-    pub fn add_type(&mut self, times: u32, ty: &MlType) {
+    pub fn add_type(&mut self, times: u32, ty: &MlType)
+        ensures { HasAddedType self.old self.new times (type_of ty.now) }
+    {
         if self.is_large() {
             return;
         }
@@ -68,14 +91,18 @@ impl Count {
 
     /// Adds a node above these types so many times.
     #[cycle(count)]
-    fn add_types(&mut self, times: u32, parts: &[Rc<MlType>]) {
+    fn add_types(&mut self, times: u32, parts: &[Rc<MlType>])
+        ensures { HasAddedAbove self.old self.new times (types_of (seen parts.now)) }
+    {
         self.add(times);
         for part in parts {
             self.add_type(times, part);
         }
     }
 
-    fn add_bound(&mut self, times: u32, variable: u32) {
+    fn add_bound(&mut self, times: u32, variable: u32)
+        ensures { HasAddedType self.old self.new times (O.bound variable) }
+    {
         match self.uses.get_mut(variable as usize) {
             Some(uses) => *uses = uses.saturating_add(times),
             None => self.add(times),
@@ -83,7 +110,9 @@ impl Count {
     }
 
     /// Adds what stands for a variable so many times; `None` is that it stays.
-    fn add_image(&mut self, times: u32, image: Option<Rc<MlType>>) {
+    fn add_image(&mut self, times: u32, image: Option<Rc<MlType>>)
+        ensures { HasNodes self.old self.new (times * size_or_one (seen_type image)) }
+    {
         match image {
             Some(ty) => self.add_type(times, &ty),
             None => self.add(times),
@@ -91,8 +120,11 @@ impl Count {
     }
 }
 
-/// Whether some scheme or type function of an environment becomes larger than a scheme may be. Nothing is made.
-pub fn has_large_under<M: Mapping>(alloc: Global, env: &Env, by: &M) -> Result<bool, Memory> {
+/// Whether some scheme or type function of an environment becomes larger than a scheme may be. Nothing is made. The contract
+/// speaks of a yes alone, since what was visited is found by a number in a cell.
+pub fn has_large_under<M: Mapping>(alloc: Global, env: &Env, by: &M) -> Result<bool, Memory>
+    ensures { IfOk result (λ b. b ≡ true → has_large (M.bound_gives by.now) (M.free_gives by.now) (M.name_gives by.now) (env_of env.now) ≡ true) }
+{
     has_large(alloc, env, by, &mut Visits::new(alloc))
 }
 
@@ -103,7 +135,9 @@ fn has_large<M: Mapping>(
     env: &Env,
     by: &M,
     visits: &mut Visits<()>,
-) -> Result<bool, Memory> {
+) -> Result<bool, Memory>
+    ensures { IfOk result (λ b. b ≡ true → has_large (M.bound_gives by.now) (M.free_gives by.now) (M.name_gives by.now) (env_of env.now) ≡ true) }
+{
     let is_large = have_large(alloc, &env.structures, by, visits)?
         || types_are_large(alloc, &env.types, by)?
         || values_are_large(alloc, &env.values, by)?;
@@ -116,7 +150,9 @@ fn have_large<M: Mapping>(
     structures: &BTreeMap<Ident, Rc<Env>>,
     by: &M,
     visits: &mut Visits<()>,
-) -> Result<bool, Memory> {
+) -> Result<bool, Memory>
+    ensures { IfOk result (λ b. b ≡ true → have_large (M.bound_gives by.now) (M.free_gives by.now) (M.name_gives by.now) (structures_of (entries_of (λ s. env_of s.value) structures.now.entries)) ≡ true) }
+{
     for (_, structure) in structures {
         if visits.get(structure).is_none() {
             if has_large(alloc, structure, by, visits)? {
@@ -132,7 +168,9 @@ fn types_are_large<M: Mapping>(
     alloc: Global,
     types: &BTreeMap<Ident, TypeStr>,
     by: &M,
-) -> Result<bool, Memory> {
+) -> Result<bool, Memory>
+    ensures { IfOk result (λ b. b ≡ some_entry (is_large_type (M.bound_gives by.now) (M.free_gives by.now) (M.name_gives by.now)) (entries_of ty_str_of types.now.entries)) }
+{
     for (_, ty) in types {
         if is_large_under(alloc, &ty.function, by)?
             || schemes_are_large(alloc, &ty.constructors, by)?
@@ -147,7 +185,9 @@ fn schemes_are_large<M: Mapping>(
     alloc: Global,
     schemes: &Constructors,
     by: &M,
-) -> Result<bool, Memory> {
+) -> Result<bool, Memory>
+    ensures { IfOk result (λ b. b ≡ some_entry (is_large (M.bound_gives by.now) (M.free_gives by.now) (M.name_gives by.now)) (schemes_of schemes.now.entries)) }
+{
     for (_, scheme) in schemes {
         if is_large_under(alloc, scheme, by)? {
             return Ok(true);
@@ -160,7 +200,9 @@ fn values_are_large<M: Mapping>(
     alloc: Global,
     values: &BTreeMap<Ident, Value>,
     by: &M,
-) -> Result<bool, Memory> {
+) -> Result<bool, Memory>
+    ensures { IfOk result (λ b. b ≡ some_entry (is_large_value (M.bound_gives by.now) (M.free_gives by.now) (M.name_gives by.now)) (entries_of value_of values.now.entries)) }
+{
     for (_, value) in values {
         if is_large_under(alloc, &value.scheme, by)? {
             return Ok(true);
@@ -170,7 +212,9 @@ fn values_are_large<M: Mapping>(
 }
 
 /// Whether a scheme or a type function becomes larger than a scheme may be.
-pub fn is_large_under<M: Mapping>(alloc: Global, scheme: &Scheme, by: &M) -> Result<bool, Memory> {
+pub fn is_large_under<M: Mapping>(alloc: Global, scheme: &Scheme, by: &M) -> Result<bool, Memory>
+    ensures { IfOk result (λ b. b ≡ nat_lt 10000 (type_size (mapped (M.bound_gives by.now) (M.free_gives by.now) (M.name_gives by.now) (type_of scheme.now.body.value)))) }
+{
     let mut count = Count::new(alloc, 0)?;
     add_under(alloc, &mut count, 1, &scheme.body, by)?;
     Ok(count.is_large())
@@ -184,7 +228,9 @@ fn add_under<M: Mapping>(
     times: u32,
     ty: &MlType,
     by: &M,
-) -> Result<(), Memory> {
+) -> Result<(), Memory>
+    ensures { IfOk result (λ _. HasNodes count.old count.new (times * type_size (mapped (M.bound_gives by.now) (M.free_gives by.now) (M.name_gives by.now) (type_of ty.now)))) }
+{
     if count.is_large() {
         return Ok(());
     }
@@ -219,7 +265,9 @@ fn add_all_under<M: Mapping>(
     times: u32,
     parts: &[Rc<MlType>],
     by: &M,
-) -> Result<(), Memory> {
+) -> Result<(), Memory>
+    ensures { IfOk result (λ _. HasNodes count.old count.new (times * suc (types_size (all_mapped (M.bound_gives by.now) (M.free_gives by.now) (M.name_gives by.now) (types_of (seen parts.now)))))) }
+{
     count.add(times);
     for part in parts {
         add_under(alloc, count, times, part, by)?;
@@ -227,7 +275,8 @@ fn add_all_under<M: Mapping>(
     Ok(())
 }
 
-/// Adds what a type function gives for what these types become so many times.
+/// Adds what a type function gives for what these types become so many times. In its body the variables that stand for these
+/// types are counted by themselves.
 #[cycle(under)]
 #[inline(never)]
 fn add_applied<M: Mapping>(
@@ -237,8 +286,11 @@ fn add_applied<M: Mapping>(
     function: &Scheme,
     parts: &[Rc<MlType>],
     by: &M,
-) -> Result<(), Memory> {
-    let body = Count::of_function(alloc, function)?;
+) -> Result<(), Memory>
+    ensures { IfOk result (λ _. HasNodes count.old count.new (times * type_size (applied (scheme_of function.now) (all_mapped (M.bound_gives by.now) (M.free_gives by.now) (M.name_gives by.now) (types_of (seen parts.now)))))) }
+{
+    let mut body = Count::new(alloc, parts.len())?;
+    body.add_type(1, &function.body);
     count.add(times.saturating_mul(body.nodes));
     for (part, uses) in parts.iter().zip(&body.uses) {
         if *uses > 0 {

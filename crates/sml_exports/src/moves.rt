@@ -1,5 +1,10 @@
 //! The places that units have in another project file.
 
+ghost use Rattle.std.specs.Prelude.{◌≡◌, ℕ};
+ghost use Rattle.sml_objects.specs.Objects as O;
+ghost use Rattle.sml_objects.specs.Views.{name_of};
+ghost use Rattle.sml_exports.specs.Moved.{moved_name};
+
 use indexmap::{IndexMap, IndexSet};
 use sml_bases::objects::Carried;
 use sml_envs::mapping::{Image, Mapping};
@@ -95,7 +100,9 @@ impl Moves {
     }
 
     /// The name with its unit at its place in the other project file.
-    pub fn moved(&self, name: TyName) -> TyName {
+    pub fn moved(&self, name: TyName) -> TyName
+        ensures { name_of result ≡ moved_name self.now.places.items (name_of name) }
+    {
         match name {
             TyName::Initial(_) => name,
             TyName::Made(made) => match self.place(made.unit) {
@@ -116,6 +123,12 @@ fn carry_same(one: &Carried, other: &Carried) -> bool {
 }
 
 impl Mapping for Moves {
+    ghost bound_gives = { λ _ k. O.bound k };
+
+    ghost free_gives = { λ _ v. O.free v };
+
+    ghost name_gives = { λ s n ts. O.app (O.name (moved_name s.places.items n)) ts };
+
     fn bound(&self, _alloc: Global, _variable: u32) -> Result<Option<Rc<MlType>>, Memory> {
         Ok(None)
     }

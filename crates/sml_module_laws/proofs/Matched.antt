@@ -27,7 +27,8 @@ use Rattle.sml_core_laws.proofs.MadeEnvs.{type-found, value-found, str-more, sch
 use Rattle.sml_core_laws.proofs.MadeScripts.{EnvAt, Done, env-up, onwards}
 use Rattle.sml_module_rules.specs.Lines.{Line, a_structure, a_type, a_value, lines, structure_lines, type_lines, value_lines, component}
 use Rattle.sml_module_rules.specs.Matching.{read_realisation, function_for, is_next, admit_equality, stand_alone, require_general, require_lines, match_signature, ascribe, apply_functor}
-use Rattle.sml_module_rules.specs.Realising.{realise_env, name_of, no_function, with_function, with_names}
+use Rattle.sml_core_rules.specs.Functions.{name_of}
+use Rattle.sml_module_rules.specs.Realising.{realise_env, no_function, with_function, with_names}
 use Rattle.sml_module_laws.proofs.Realised.{IsExact, AreFunctionsIn, none-in, with-in, names-in, named-arity, env-realised}
 use Rattle.sml_module_laws.proofs.Steps.{Goes, BodyAt, body-up, first, knows, gives, looks, chooses, checks, unknowns, requires, sees, makes-names}
 use Rattle.sml_module_laws.proofs.Described.{SigAt, bound-by}

@@ -17,7 +17,8 @@ use Rattle.sml_core_laws.proofs.MadeShapes.{both-true}
 use Rattle.sml_core_laws.proofs.MadeTypes.{speaks-more, replaced-speaks, argument-speaks, Each}
 use Rattle.sml_core_laws.proofs.MadeClosing.{constructor-in}
 use Rattle.sml_core_laws.proofs.MadeEnvs.{closed-scheme}
-use Rattle.sml_module_rules.specs.Realising.{renumbered, realise_value, realise_ty_str, realise_env, are_parameters, named_type, name_of, no_function, with_function, with_names}
+use Rattle.sml_core_rules.specs.Functions.{are_parameters, named_type, name_of}
+use Rattle.sml_module_rules.specs.Realising.{renumbered, realise_value, realise_ty_str, realise_env, no_function, with_function, with_names}
 use Rattle.sml_module_laws.specs.Made.{IsNotOverloaded, HasNoOverloaded, HaveNoOverloaded, IsBodyIn}
 use Rattle.sml_module_laws.proofs.Bodies.{IsUsual}
 

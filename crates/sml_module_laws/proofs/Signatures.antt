@@ -25,7 +25,8 @@ use Rattle.sml_core_laws.proofs.MadeBindings.{copied-in}
 use Rattle.sml_core_laws.proofs.MadeScripts.{EnvAt, Done, env-up, onwards}
 use Rattle.sml_module_rules.specs.Bound.{inside, bound_name, function_at, name_at, for_both, common_paths}
 use Rattle.sml_module_rules.specs.Matching.{renewed_signature}
-use Rattle.sml_module_rules.specs.Realising.{realise_env, name_of, is_same_name, no_function, with_function, with_names}
+use Rattle.sml_core_rules.specs.Functions.{name_of}
+use Rattle.sml_module_rules.specs.Realising.{realise_env, is_same_name, no_function, with_function, with_names}
 use Rattle.sml_module_rules.specs.Signatures.{no_names, need_name, join, share_named, share, need_names, share_others, share_types, need_structures, share_paths, share_with, share_pairs, share_structures, realise_name, read_where, add, named, read_sig, read_specs, read_spec, read_descs}
 use Rattle.sml_module_laws.specs.Made.{IsBodyIn, AreSignaturesIn}
 use Rattle.sml_module_laws.proofs.Bodies.{body-env, body-extend, body-empty, body-put, type-usual}

@@ -15,7 +15,8 @@ use Rattle.sml_core_rules.specs.Lookups.{type_at}
 use Rattle.sml_core_rules.specs.Datatypes.{name_function}
 use Rattle.sml_core_rules.specs.States.{Scope}
 use Rattle.sml_module_rules.specs.Lines.{Line, a_structure, a_type, a_value, lines, path_of}
-use Rattle.sml_module_rules.specs.Realising.{name_of, is_same_name, no_function, with_function}
+use Rattle.sml_core_rules.specs.Functions.{name_of}
+use Rattle.sml_module_rules.specs.Realising.{is_same_name, no_function, with_function}
 
 abbrev pub first_of : {X : Type 0} → Bool → Map X → Map X → Map X
 first_of false cs ds = ds

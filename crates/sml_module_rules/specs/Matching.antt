@@ -23,7 +23,8 @@ use Rattle.sml_core_rules.specs.Values.{has_unknown}
 use Rattle.sml_core_rules.specs.Solutions.{IsFixed}
 use Rattle.sml_core_rules.specs.Scripts.{Script, give, requires_or, ◌>>=◌, look, test, so_far, new_unknowns, new_names}
 use Rattle.sml_module_rules.specs.Lines.{Line, a_structure, a_type, a_value, lines, path_of, component, IsSmallEnv}
-use Rattle.sml_module_rules.specs.Realising.{realise_env, name_of, admits_function, no_function, with_function, with_names}
+use Rattle.sml_core_rules.specs.Functions.{name_of}
+use Rattle.sml_module_rules.specs.Realising.{realise_env, admits_function, no_function, with_function, with_names}
 
 -- The realisation: each bound name of a signature is the type function that the structure has at the name's first path.
 module _ {P N : Type 0} (names : Naming N) (p : P) (bound : List N) (E : Env N) where

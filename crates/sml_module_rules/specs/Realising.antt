@@ -1,12 +1,11 @@
 -- Type functions in the places of names (the Definition, section 5.2).
-use Rattle.std.specs.Prelude.{ℕ, suc, Bool, true, false, ◌&&◌, nat_eq, cond, List, [], ◌∷◌, length, Option, Some, None}
+use Rattle.std.specs.Prelude.{Bool, true, false, cond, List, [], ◌∷◌, Option, Some, None}
 use Rattle.sml_objects.specs.Equality.{is_ref, admits_by, has_equality}
 use Rattle.sml_objects.specs.Names.{Naming}
-use Rattle.sml_objects.specs.Objects.{MlType, MlTypes, Scheme, bound, free, app, arrow, row, name, no_type, and_type}
+use Rattle.sml_objects.specs.Objects.{Scheme}
 use Rattle.sml_objects.specs.Types.{instance_from}
 use Rattle.sml_rules.specs.Matching.{Realisation, realise_scheme}
 use Rattle.sml_core_rules.specs.Objects.{Env, Value, TyStr, replace, replaced}
-use Rattle.sml_core_rules.specs.Types.{count_types}
 use Rattle.sml_core_rules.specs.Datatypes.{constructor_scheme, name_function}
 
 -- A scheme without unknowns whose variables are numbered by first appearance again, and dropped where they appear no more.
@@ -21,24 +20,6 @@ realise_ty_str φ t = record { function = realise_scheme φ t.function; construc
 
 abbrev pub realise_env : {N : Type 0} → Realisation N → Env N → Env N
 realise_env φ E = replace (realise_ty_str φ) (realise_value φ) E
-
--- the bound variables from k on, in order
-unfoldable pub are_parameters : {N : Type 0} → ℕ → MlTypes N → Bool
-are_parameters k no_type = true
-are_parameters k (and_type (bound j) ts) = nat_eq j k && are_parameters (suc k) ts
-are_parameters k (and_type (free v) ts) = false
-are_parameters k (and_type (app h us) ts) = false
-
-abbrev pub named_type : {N : Type 0} → ℕ → MlType N → Option N
-named_type k (bound j) = None
-named_type k (free v) = None
-named_type k (app arrow ts) = None
-named_type k (app (row ls) ts) = None
-named_type k (app (name n) ts) = cond (nat_eq (count_types ts) k && are_parameters 0 ts) (Some n) None
-
--- the name that a type function is, applied to its variables in order
-abbrev pub name_of : {N : Type 0} → Scheme N → Option N
-name_of θ = named_type (length θ.variables) θ.body
 
 module _ {N : Type 0} (names : Naming N) where
   abbrev pub is_same_name : N → N → Bool

@@ -27,7 +27,8 @@ use Rattle.sml_core_rules.specs.States.{Scope}
 use Rattle.sml_module_rules.specs.Bound.{constructors_in, identifiers, inside, function_at, common_paths, AreEqualFunctions}
 use Rattle.sml_module_rules.specs.Lines.{Line, a_structure, a_type, a_value, lines}
 use Rattle.sml_module_rules.specs.Matching.{serves}
-use Rattle.sml_module_rules.specs.Realising.{realise_env, name_of, admits_function, no_function, with_function, with_names}
+use Rattle.sml_core_rules.specs.Functions.{name_of}
+use Rattle.sml_module_rules.specs.Realising.{realise_env, admits_function, no_function, with_function, with_names}
 use Rattle.sml_module_rules.specs.Signatures.{no_names, once, standing, applied_constructor, HasConstructors, specifies_again, described}
 use Rattle.sml_module_rules.specs.Structures.{one_structure}
 

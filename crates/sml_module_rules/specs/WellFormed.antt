@@ -14,7 +14,7 @@ use Rattle.sml_core_rules.specs.Contexts.{IsType}
 use Rattle.sml_core_rules.specs.Datatypes.{IsSmall}
 use Rattle.sml_core_rules.specs.Objects.{Value, TyStr, Sig, FunSig, Basis, Maps, Structures, Status, variable, constructor, exception, overloaded, maps, no_structure, and_structure, names_basis}
 use Rattle.sml_module_rules.specs.Lines.{Line, a_structure, a_type, a_value, lines}
-use Rattle.sml_module_rules.specs.Realising.{name_of}
+use Rattle.sml_core_rules.specs.Functions.{name_of}
 
 -- the identifiers rise, so each stands once
 abbrev pub IsMap : {X : Type 0} → Map X → Type 0

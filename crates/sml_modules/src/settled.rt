@@ -1,5 +1,9 @@
 //! Exported types that were unknown where they were bound.
 
+ghost use Rattle.std.specs.Prelude.{ℕ};
+ghost use Rattle.sml_objects.specs.Objects as O;
+ghost use Rattle.sml_envs.specs.Mapped.{known_at};
+
 use indexmap::{IndexMap, IndexSet};
 use sml_asks::asks::ask_fixed;
 use sml_asks::outcomes::{Outcome, ask_outcome};
@@ -26,6 +30,12 @@ pub(crate) struct Known {
 }
 
 impl Mapping for Known {
+    ghost bound_gives = { λ _ k. O.bound k };
+
+    ghost free_gives = { λ s v. known_at s.types.entries v };
+
+    ghost name_gives = { λ _ n ts. O.app (O.name n) ts };
+
     fn bound(&self, _alloc: Global, _variable: u32) -> Result<Option<Rc<MlType>>, Memory> {
         Ok(None)
     }

@@ -19,7 +19,8 @@ use Rattle.sml_core_rules.specs.Lookups.{type_at, value_at, structure_at}
 use Rattle.sml_core_rules.specs.States.{Scope}
 use Rattle.sml_core_rules.specs.Values.{has_unknown}
 use Rattle.sml_module_rules.specs.Lines.{Line, a_structure, a_type, a_value, lines, path_of, component}
-use Rattle.sml_module_rules.specs.Realising.{realise_env, name_of, admits_function, no_function, with_function, with_names}
+use Rattle.sml_core_rules.specs.Functions.{name_of}
+use Rattle.sml_module_rules.specs.Realising.{realise_env, admits_function, no_function, with_function, with_names}
 use Rattle.sml_module_rules.specs.Matching.{function_for, is_next, read_realisation, numbers, require_or, admit_equality, stand_alone, require_general, require_lines, match_signature, renewed, renewed_signature, ascribe, apply_functor}
 use Rattle.sml_places.specs.Answers.{place_fault}
 use Rattle.sml_places.proofs.Scripts.{AreSame, alike-then, alike-with, alike-give, alike-requires-or}

@@ -24,7 +24,8 @@ use Rattle.sml_core_rules.specs.Expressions.{at_first}
 use Rattle.sml_core_rules.specs.Scripts.{Script, give, test, IsAnswer}
 use Rattle.sml_core_rules.specs.Values.{has_unknown}
 use Rattle.sml_module_rules.specs.Lines.{Line, a_structure, a_type, a_value, lines, path_of, component}
-use Rattle.sml_module_rules.specs.Realising.{name_of, no_function, with_function, realise_env}
+use Rattle.sml_core_rules.specs.Functions.{name_of}
+use Rattle.sml_module_rules.specs.Realising.{no_function, with_function, realise_env}
 use Rattle.sml_module_rules.specs.Matching.{IsGeneral, function_for, is_next, read_realisation, admit_equality, stand_alone, require_general, require_lines, match_signature, renewed, renewed_signature, ascribe, apply_functor}
 use Rattle.sml_module_rules.specs.Signatures.{read_sig}
 use Rattle.sml_module_rules.specs.Structures.{Added, nothing, names_part, all_bound, signature_place, one_structure, functor_named, read_str, read_strs, read_strdec, read_str_binds, read_signatures, read_structure, structure_parts, read_functor, str_parts, parts, IsAlone, AreAlone, IsExported, IsAnswered, IsTopReading}

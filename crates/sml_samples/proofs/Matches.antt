@@ -32,7 +32,8 @@ use Rattle.sml_core_rules.specs.Scripts.{IsAnswer, ◌>>=◌}
 use Rattle.sml_core_rules.specs.Expressions.{read_dec, read_binds, read_patterns, read_rights, read_exp}
 use Rattle.sml_module_rules.specs.Lines.{lines, structure_lines}
 use Rattle.sml_module_rules.specs.Matching.{read_realisation, require_lines}
-use Rattle.sml_module_rules.specs.Realising.{are_parameters, with_names}
+use Rattle.sml_core_rules.specs.Functions.{are_parameters}
+use Rattle.sml_module_rules.specs.Realising.{with_names}
 use Rattle.sml_module_rules.specs.Signatures.{read_sig, read_specs, read_spec, read_values, read_exceptions}
 use Rattle.sml_module_rules.specs.Structures.{AreAlone, read_str, read_strs, read_strdec, read_str_binds}
 use Rattle.sml_samples.proofs.Judged.{small}

@@ -23,7 +23,8 @@ use Rattle.sml_core_rules.specs.Objects.{TyStr, names_in, names_structures, repl
 use Rattle.sml_core_rules.specs.Types.{read_ty, read_tys}
 use Rattle.sml_core_rules.specs.Scripts.{IsAnswer, ◌>>=◌}
 use Rattle.sml_module_rules.specs.Lines.{lines, structure_lines}
-use Rattle.sml_module_rules.specs.Realising.{are_parameters, with_names}
+use Rattle.sml_core_rules.specs.Functions.{are_parameters}
+use Rattle.sml_module_rules.specs.Realising.{with_names}
 use Rattle.sml_module_rules.specs.Signatures.{read_sig, read_specs, read_spec, read_values, read_exceptions, need_names, share_others, need_structures, share_paths, share_with, share_pairs}
 use Rattle.sml_module_rules.specs.Structures.{read_signatures}
 use Rattle.sml_samples.specs.Around.{initial_names}

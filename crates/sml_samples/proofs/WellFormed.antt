@@ -26,7 +26,7 @@ use Rattle.sml_core_rules.specs.Objects.{Value, Status, variable, constructor, e
 use Rattle.sml_core_rules.specs.Soundness.{IsBody, AreBodies, IsWellFormed, schemes_of}
 use Rattle.sml_core_rules.specs.Types.{count_types}
 use Rattle.sml_module_rules.specs.Lines.{lines, structure_lines}
-use Rattle.sml_module_rules.specs.Realising.{are_parameters}
+use Rattle.sml_core_rules.specs.Functions.{are_parameters}
 use Rattle.sml_module_rules.specs.WellFormed.{HoldsOfAll, IsSchemeOver, IsFunctionOver, IsTypeStructureOver, IsValueOver, IsEnvOver, AreEnvsOver, IsSigOver, IsFunSigOver, IsBasis, Gives, AgreesWith}
 use Rattle.sml_samples.specs.Around.{initial_names}
 use Rattle.sml_samples.specs.WellFormed.{WellFormedSamples, type_and_value, signature, functor}

@@ -1,5 +1,11 @@
 //! Names that are shared (the Definition, section 5.7, rule 78, and appendix A).
 
+ghost use Rattle.std.specs.Prelude.{◌≡◌, ℕ};
+ghost use Rattle.indexmap.specs.IndexMap.{index_map_len};
+ghost use Rattle.sml_objects.specs.Objects as O;
+ghost use Rattle.sml_objects.specs.Views.{name_of};
+ghost use Rattle.sml_envs.specs.Mapped.{last_of, names_of};
+
 use crate::bound::{Table, bound_name, collect, table_of};
 use crate::draft::add_names;
 use indexmap::{IndexMap, IndexSet};
@@ -28,6 +34,12 @@ pub(crate) struct Joins {
 }
 
 impl Mapping for Joins {
+    ghost bound_gives = { λ _ k. O.bound k };
+
+    ghost free_gives = { λ _ v. O.free v };
+
+    ghost name_gives = { λ s n ts. O.app (O.name (last_of (index_map_len s.others) (names_of s.others.entries) n)) ts };
+
     fn bound(&self, _alloc: Global, _variable: u32) -> Result<Option<Rc<MlType>>, Memory> {
         Ok(None)
     }
@@ -69,7 +81,9 @@ impl Joins {
     }
 
     /// The name that stands for a name in the end.
-    fn last(&self, name: TyName) -> TyName {
+    fn last(&self, name: TyName) -> TyName
+        ensures { name_of result ≡ last_of (index_map_len self.now.others) (names_of self.now.others.entries) (name_of name) }
+    {
         let mut last = name;
         for _ in 0..self.others.len() {
             match self.others.get(&last) {

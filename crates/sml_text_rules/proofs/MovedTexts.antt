@@ -16,7 +16,7 @@ use Rattle.sml_core_rules.specs.Objects.{Env, Value, TyStr, Basis, rename_env, r
 use Rattle.sml_core_rules.specs.Types.{count_types}
 use Rattle.sml_module_rules.specs.Bound.{is_of}
 use Rattle.sml_module_rules.specs.Lines.{Line, a_structure, a_type, a_value, lines, path_of}
-use Rattle.sml_module_rules.specs.Realising.{are_parameters, named_type, name_of}
+use Rattle.sml_core_rules.specs.Functions.{are_parameters, named_type, name_of}
 use Rattle.sml_text_rules.specs.BasisLines.{bound_names}
 use Rattle.sml_text_rules.specs.Paths.{is_initial_path, least, paths_among, path_in}
 use Rattle.sml_text_rules.specs.Texts.{Answered, mark, numbered, spell, basis_pieces, lines_text, no_path, answer_text}

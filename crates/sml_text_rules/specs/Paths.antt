@@ -11,7 +11,7 @@ use Rattle.sml_core_rules.specs.Lookups.{is_listed}
 use Rattle.sml_core_rules.specs.Objects.{Env, Value, TyStr}
 use Rattle.sml_module_rules.specs.Bound.{is_of}
 use Rattle.sml_module_rules.specs.Lines.{Line, a_structure, a_type, a_value, lines, path_of}
-use Rattle.sml_module_rules.specs.Realising.{name_of}
+use Rattle.sml_core_rules.specs.Functions.{name_of}
 
 -- In a reply these mean the initial types, whatever they are bound to.
 abbrev pub is_initial_path : LongId → Bool

@@ -1,3 +1,4 @@
 pub mod Paths
 pub mod Entries
 mod Unknowns
+mod Numbered

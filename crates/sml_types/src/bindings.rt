@@ -1,5 +1,7 @@
 //! Bindings of types (the Definition, section 4.10, rule 27).
 
+ghost use Rattle.std.specs.Prelude.{◌≡◌, IfOk, [], false, length, replicate};
+
 use crate::fault::CoreFault;
 use crate::scope::Scope;
 use crate::sizes::small;
@@ -70,13 +72,17 @@ fn right_sides<S: Scope>(
 }
 
 /// The variables of a type function, whose equality attributes have no effect.
-pub fn parameters(alloc: Global, names: &[Name]) -> Result<Vec<bool>, Memory> {
+pub fn parameters(alloc: Global, names: &[Name]) -> Result<Vec<bool>, Memory>
+    ensures { IfOk result (λ vs. vs.items ≡ replicate (length names.now) false) }
+{
     let mut variables = Vec::new(alloc);
     variables.resize(names.len(), false)?;
     Ok(variables)
 }
 
 /// The constructors of what is no datatype.
-pub fn no_constructors(alloc: Global) -> Result<Rc<Constructors>, Memory> {
+pub fn no_constructors(alloc: Global) -> Result<Rc<Constructors>, Memory>
+    ensures { IfOk result (λ c. c.value.entries ≡ []) }
+{
     Ok(Rc::new(alloc, BTreeMap::new(alloc))?)
 }

@@ -1,9 +1,15 @@
 //! Bindings of datatypes (the Definition, section 4.10, rules 17, 28 and 29, and section 4.9).
 
-ghost use Rattle.sml_objects.specs.Maps.{lookup};
-ghost use Rattle.sml_objects.specs.Views.{entries_of};
-ghost use Rattle.sml_bases.specs.Views.{ty_str_of};
+ghost use Rattle.std.specs.Prelude.{◌≡◌, ℕ, IfOk, OnOk, length, unwrap_or};
+ghost use Rattle.sml_objects.specs.Maps.{join, lookup};
+ghost use Rattle.sml_objects.specs.Objects.{types_of};
+ghost use Rattle.sml_objects.specs.Views.{entries_of, scheme_of, schemes_of, type_of};
+ghost use Rattle.sml_objects.specs.Objects as O;
+ghost use Rattle.sml_objects.specs.Views as view;
+ghost use Rattle.sml_core_rules.specs.Datatypes as read;
+ghost use Rattle.sml_bases.specs.Views.{ty_str_of, value_of};
 ghost use Rattle.sml_types.specs.Answered.{there_or};
+ghost use Rattle.sml_types.specs.Losses.{losing};
 
 use crate::bindings::{no_constructors, parameters};
 use crate::fault::CoreFault;
@@ -157,7 +163,9 @@ fn named_types(
 }
 
 /// The type function that is a name alone.
-pub fn name_function(alloc: Global, name: TyName, names: &[Name]) -> Result<Rc<Scheme>, Memory> {
+pub fn name_function(alloc: Global, name: TyName, names: &[Name]) -> Result<Rc<Scheme>, Memory>
+    ensures { IfOk result (λ s. scheme_of s.value ≡ read.name_function (view.name_of name) (length names.now)) }
+{
     let mut parts = Vec::new(alloc);
     for index in 0..names.len() {
         parts.push(boxed(alloc, MlType::Bound(number_of(index)?))?)?;
@@ -269,7 +277,9 @@ struct Losing<'a> {
 
 impl Losing<'_> {
     /// The name as it is in the end.
-    fn settled(&self, name: TyName) -> Option<TyName> {
+    fn settled(&self, name: TyName) -> Option<TyName>
+        ensures { view.name_of (unwrap_or result name) ≡ losing self.now.run self.now.lost.now (view.name_of name) }
+    {
         let index = self.run.index_of(name)?;
         match (name, self.lost.get(index)) {
             (TyName::Made(made), Some(true)) => Some(TyName::Made(MadeName {
@@ -282,6 +292,12 @@ impl Losing<'_> {
 }
 
 impl Mapping for Losing<'_> {
+    ghost bound_gives = { λ _ k. O.bound k };
+
+    ghost free_gives = { λ _ v. O.free v };
+
+    ghost name_gives = { λ s n ts. O.app (O.name (losing s.run s.lost.now n)) ts };
+
     fn bound(&self, _alloc: Global, _variable: u32) -> Result<Option<Rc<MlType>>, Memory> {
         Ok(None)
     }
@@ -373,16 +389,18 @@ fn constructor_type(
 pub fn put_constructors(
     values: &mut BTreeMap<Ident, Value>,
     constructors: &Constructors,
-) -> Result<(), Memory> {
+) -> Result<(), Memory>
+    ensures { OnOk result (entries_of value_of values.new.entries
+        ≡ join (entries_of value_of values.old.entries) (read.constructor_values (schemes_of constructors.now.entries))) }
+{
     let count = number_of(constructors.len())?;
-    let mut number: u32 = 0;
-    for (name, scheme) in constructors {
+    for (index, (name, scheme)) in constructors.iter().enumerate() {
+        let number = number_of(index)?;
         let value = Value {
             status: Status::Constructor { number, count },
             scheme: scheme.clone()?,
         };
         values.insert(name.clone()?, value)?;
-        number = number.saturating_add(1);
     }
     Ok(())
 }

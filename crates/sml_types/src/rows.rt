@@ -1,8 +1,11 @@
 //! Rows, arrows and applied names.
 
-ghost use Rattle.std.specs.Prelude.{◌≡◌, IfOk};
+ghost use Rattle.std.specs.Prelude.{◌≡◌, IfOk, map};
 ghost use Rattle.sml_objects.specs.Initial as made;
-ghost use Rattle.sml_objects.specs.Objects.{arrow_of, named};
+ghost use Rattle.sml_tree.specs.Views.{ident_of};
+ghost use Rattle.sml_objects.specs.Labels.{label_rank};
+ghost use Rattle.sml_objects.specs.Objects as O;
+ghost use Rattle.sml_objects.specs.Objects.{arrow_of, named, types_of};
 ghost use Rattle.sml_objects.specs.Views.{initial_of, type_of};
 
 use sml_lex::fault::Memory;
@@ -20,7 +23,9 @@ pub type Labelled<T> = BTreeMap<(usize, Ident), T>;
 pub type Fields = Labelled<Rc<MlType>>;
 
 /// Where a label stands among others: numbers before words, shorter numbers first.
-pub fn label_key(label: &Ident) -> Result<(usize, Ident), Memory> {
+pub fn label_key(label: &Ident) -> Result<(usize, Ident), Memory>
+    ensures { IfOk result (λ k. (k.0 ≡ label_rank (ident_of label.now)) × (ident_of k.1 ≡ ident_of label.now)) }
+{
     let rank = match label.as_slice() {
         [b'1'..=b'9', ..] => label.len(),
         _ => usize::MAX,
@@ -58,7 +63,9 @@ fn labels_of(alloc: Global, list: Vec<Ident>) -> Result<Rc<Labels>, Memory> {
 }
 
 /// The row of these types, labelled from 1 on.
-pub fn tuple_of(alloc: Global, types: Vec<Rc<MlType>>) -> Result<Rc<MlType>, Memory> {
+pub fn tuple_of(alloc: Global, types: Vec<Rc<MlType>>) -> Result<Rc<MlType>, Memory>
+    ensures { IfOk result (λ t. type_of t.value ≡ O.tuple_of (types_of (map (λ t. type_of t.value) types.items))) }
+{
     let labels = Labels::numbered(alloc, types.len())?;
     let labels = Rc::new(alloc, labels)?;
     boxed(alloc, MlType::Row(labels, types))

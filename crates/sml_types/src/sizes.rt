@@ -1,5 +1,10 @@
 //! That schemes and type functions aren't too large, asked before they are made.
 
+ghost use Rattle.std.specs.Prelude.{None, nat_lt, not};
+ghost use Rattle.sml_lex.specs.declared.fault.Code.TheVariants.{E7};
+ghost use Rattle.sml_core_rules.specs.Answers.{check};
+ghost use Rattle.sml_types.specs.Answered.{IsAnswer};
+
 use crate::fault::{CoreFault, plain_fault};
 use crate::written::Written;
 use sml_bases::objects::Env;
@@ -27,7 +32,9 @@ pub fn small_beside(
 }
 
 /// That so many nodes aren't too many for a scheme, or E7 at the place.
-pub fn few(place: Place, nodes: usize) -> Result<(), CoreFault> {
+pub fn few(place: Place, nodes: usize) -> Result<(), CoreFault>
+    ensures { IsAnswer (λ _. tt) result (check (not (nat_lt 10000 nodes)) (record { code = E7; place = place; detail = None })) }
+{
     if nodes > GREATEST_SIZE as usize {
         return Err(plain_fault(Code::E7, place));
     }

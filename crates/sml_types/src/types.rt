@@ -1,5 +1,9 @@
 //! The types that type expressions mean (the Definition, section 4.10, rules 44 to 49).
 
+ghost use Rattle.std.specs.Prelude.{◌≡◌};
+ghost use Rattle.sml_tree.specs.TypeViews.{ty_of};
+ghost use Rattle.sml_core_rules.specs.Types as read;
+
 use crate::fault::{CoreFault, plain_fault};
 use crate::rows::{Labelled, label_key, parted};
 use crate::scope::{Scope, type_at};
@@ -17,7 +21,9 @@ use std::collections::BTreeMap;
 use std::rc::Rc;
 
 /// The place of the first token of a type expression.
-pub fn type_place(ty: &Ty) -> Place {
+pub fn type_place(ty: &Ty) -> Place
+    ensures { result ≡ read.type_place (ty_of ty.now) }
+{
     match ty {
         Ty::Variable(place, _)
         | Ty::Row(place, _)

@@ -1,10 +1,14 @@
 //! What type variables stand for.
 
 ghost use Rattle.std.specs.Prelude.{◌≡◌, OnOk, map, not};
+ghost use Rattle.sml_objects.specs.Objects as O;
 ghost use Rattle.sml_objects.specs.Objects.{types_of};
+ghost use Rattle.sml_envs.specs.Mapped.{closed_at};
 ghost use Rattle.sml_objects.specs.Types.{variables_after, variables_after_all};
 ghost use Rattle.sml_objects.specs.Views.{type_of};
+ghost use Rattle.sml_core_rules.specs.Datatypes.{is_equality};
 ghost use Rattle.sml_core_rules.specs.Values.{has_unknown, have_unknown};
+ghost use Rattle.sml_tree.specs.Views.{ident_of};
 
 use crate::fault::{CoreFault, plain_fault};
 use crate::rows::{boxed, number_of};
@@ -29,7 +33,9 @@ pub trait TypeVariables {
 }
 
 /// Whether a type variable is one of equality types: it begins with two primes (the Definition, section 2.4).
-pub fn is_equality_variable(name: &Ident) -> bool {
+pub fn is_equality_variable(name: &Ident) -> bool
+    ensures { result ≡ is_equality (ident_of name.now) }
+{
     match name.as_slice() {
         [b'\'', b'\'', ..] => true,
         _ => false,
@@ -150,6 +156,12 @@ struct Closing<'a> {
 }
 
 impl Mapping for Closing<'_> {
+    ghost bound_gives = { λ _ k. O.bound k };
+
+    ghost free_gives = { λ s v. closed_at s.order.now.keys v };
+
+    ghost name_gives = { λ _ n ts. O.app (O.name n) ts };
+
     fn bound(&self, _alloc: Global, _variable: u32) -> Result<Option<Rc<MlType>>, Memory> {
         Ok(None)
     }

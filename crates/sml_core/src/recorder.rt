@@ -4,10 +4,10 @@ ghost use Rattle.std.specs.Prelude.{◌≡◌, false, None};
 
 use indexmap::IndexMap;
 use sml_bases::objects::{Env, TypeStr, Value};
-use sml_envs::functions::name_of;
 use sml_lex::fault::{Fault, Memory};
 use sml_objects::objects::{Scheme, TyName, UnitId};
 use sml_tree::bare::Ident;
+use sml_type_maps::functions::name_of;
 use std::alloc::Global;
 use std::rc::Rc;
 

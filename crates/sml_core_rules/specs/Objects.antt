@@ -88,6 +88,10 @@ join_structures ss (and_structure r E rs) = join_structures (put_structure r E s
 abbrev pub extend : {T V : Type 0} → Maps T V → Maps T V → Maps T V
 extend (maps ss ts vs) (maps rs us ws) = maps (join_structures ss rs) (join ts us) (join vs ws)
 
+-- the identifiers of a map, in byte order
+abbrev pub identifiers : {X : Type 0} → Map X → List Id
+identifiers m = map (λ e. e.0) m
+
 -- Renaming (section 5.2), by one function that replaces what stands in maps
 
 abbrev pub replaced : {X Y : Type 0} → (X → Y) → Map X → Map Y

@@ -1,9 +1,3 @@
-mod AppliedSizes
-mod Counts
-mod FunctionViews
 mod LargeEntries
-mod Listed
-mod Orders
 mod SameMaps
 mod SchemeMaps
-mod TypeMaps

@@ -9,8 +9,8 @@ use Rattle.sml_objects.specs.Objects as O
 use Rattle.sml_objects.specs.Initial.{Name}
 use Rattle.sml_objects.specs.Views.{scheme_of, schemes_of}
 use Rattle.sml_objects.specs.declared.objects.Scheme.{Scheme}
-use Rattle.sml_envs.specs.Mapped.{scheme_or, seen_scheme}
-use Rattle.sml_envs.specs.Orders.{AreOrdered, IsOrdered, scheme_by, schemes_by}
+use Rattle.sml_type_maps.specs.Mapped.{scheme_or, seen_scheme}
+use Rattle.sml_type_maps.specs.Orders.{AreOrdered, IsOrdered, scheme_by, schemes_by}
 
 abbrev Key : Type 0
 Key = Rc (Vec ℕ Global) Global

@@ -5,7 +5,7 @@ use Rattle.sml_objects.specs.Maps.{Map}
 use Rattle.sml_objects.specs.Objects.{MlType, MlTypes, Scheme}
 use Rattle.sml_objects.specs.Sizes.{type_size}
 use Rattle.sml_core_rules.specs.Objects.{Env, Structures, TyStr, Value, maps, no_structure, and_structure}
-use Rattle.sml_envs.specs.Mapped.{mapped}
+use Rattle.sml_type_maps.specs.Mapped.{mapped}
 
 -- some thing in a map
 abbrev pub some_entry : {X : Type 0} → (X → Bool) → Map X → Bool

@@ -2,7 +2,8 @@
 
 ghost use Rattle.std.specs.Prelude.{◌≡◌, true, false};
 ghost use Rattle.sml_objects.specs.Views.{scheme_of, schemes_of};
-ghost use Rattle.sml_envs.specs.Comparisons.{AreSameFunction, identifiers};
+ghost use Rattle.sml_core_rules.specs.Objects.{identifiers};
+ghost use Rattle.sml_envs.specs.Comparisons.{AreSameFunction};
 
 use sml_bases::objects::Constructors;
 use sml_objects::comparisons::same_type;

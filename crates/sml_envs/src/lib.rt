@@ -4,9 +4,5 @@
 pub mod canonical;
 pub mod comparisons;
 pub mod extents;
-pub mod functions;
 pub mod mapping;
-pub mod new_names;
-mod order;
-pub mod realisation;
 pub mod sizes;

@@ -3,11 +3,12 @@
 use crate::exports::Exports;
 use crate::moves::Moves;
 use sml_bases::objects::{Basis as WholeBasis, Carried, Env as WholeEnv, FunSig, Sig};
-use sml_envs::mapping::{mapped_env, mapped_function, mapped_scheme};
+use sml_envs::mapping::mapped_env;
 use sml_lex::fault::Memory;
 use sml_objects::objects::{Env, TyName, UnitId};
 use sml_reply::layer::Layer;
 use sml_tree::bare::Ident;
+use sml_type_maps::mapping::{mapped_function, mapped_scheme};
 use std::alloc::Global;
 use std::collections::BTreeMap;
 use std::rc::Rc;

@@ -7,9 +7,9 @@ ghost use Rattle.sml_exports.specs.Moved.{moved_name};
 
 use indexmap::{IndexMap, IndexSet};
 use sml_bases::objects::Carried;
-use sml_envs::mapping::{Image, Mapping};
 use sml_lex::fault::Memory;
 use sml_objects::objects::{MadeName, MlType, TyName, UnitId};
+use sml_type_maps::mapping::{Image, Mapping};
 use std::alloc::Global;
 use std::rc::Rc;
 

@@ -3,15 +3,15 @@
 use crate::enrich::enriches;
 use crate::mismatch::placed;
 use crate::realise::realise;
+use crate::sizes::small_env_under;
 use sml_bases::objects::{Env, Sig};
 use sml_envs::canonical::renamed_sig;
 use sml_envs::mapping::mapped_env;
-use sml_envs::new_names::NewNames;
 use sml_lex::fault::Place;
 use sml_solve::solver::Solver;
 use sml_tree::structures::Ascription;
+use sml_type_maps::new_names::NewNames;
 use sml_types::fault::CoreFault;
-use sml_types::sizes::small_env_under;
 use std::alloc::Global;
 use std::rc::Rc;
 

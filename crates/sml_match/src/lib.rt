@@ -6,4 +6,5 @@ pub mod enrich;
 mod general;
 pub mod mismatch;
 pub mod realise;
+pub mod sizes;
 mod way;

@@ -10,7 +10,7 @@ use Rattle.sml_objects.specs.Objects.{Scheme}
 use Rattle.sml_rules.specs.Answers.{dotted}
 use Rattle.sml_rules.specs.Lookups.{Found, found, no_path, no_entry}
 use Rattle.sml_rules.specs.Matching.{Realisation}
-use Rattle.sml_core_rules.specs.Objects.{Env, Value, TyStr, Sig}
+use Rattle.sml_core_rules.specs.Objects.{Env, Value, TyStr, Sig, identifiers}
 use Rattle.sml_core_rules.specs.Lookups.{type_at}
 use Rattle.sml_core_rules.specs.Datatypes.{name_function}
 use Rattle.sml_core_rules.specs.States.{Scope}
@@ -33,10 +33,6 @@ constructors_in names n [] = []
 constructors_in names n ((x, a_structure) ∷ ls) = constructors_in names n ls
 constructors_in names n ((x, a_value v) ∷ ls) = constructors_in names n ls
 constructors_in names n ((x, a_type t) ∷ ls) = first_of (is_of names n (name_of t.function)) t.constructors (constructors_in names n ls)
-
--- the identifiers of a map
-abbrev pub identifiers : {X : Type 0} → Map X → List Id
-identifiers m = map (λ e. e.0) m
 
 -- a path in a structure at a path
 abbrev pub inside : LongId → LongId → LongId

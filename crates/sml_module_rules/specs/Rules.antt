@@ -24,7 +24,8 @@ use Rattle.sml_core_rules.specs.Lookups.{type_at, value_at, structure_at}
 use Rattle.sml_core_rules.specs.Objects.{Env, Value, TyStr, Sig, FunSig, Basis, variable, exception, maps, no_structure, structures, empty, extend, of_types, of_values, put_structure, names_env}
 use Rattle.sml_core_rules.specs.Rules.{Means, MeansArgument, MeanAllArguments, Declares}
 use Rattle.sml_core_rules.specs.States.{Scope}
-use Rattle.sml_module_rules.specs.Bound.{constructors_in, identifiers, inside, function_at, common_paths, AreEqualFunctions}
+use Rattle.sml_core_rules.specs.Objects.{identifiers}
+use Rattle.sml_module_rules.specs.Bound.{constructors_in, inside, function_at, common_paths, AreEqualFunctions}
 use Rattle.sml_module_rules.specs.Lines.{Line, a_structure, a_type, a_value, lines}
 use Rattle.sml_module_rules.specs.Matching.{serves}
 use Rattle.sml_core_rules.specs.Functions.{name_of}

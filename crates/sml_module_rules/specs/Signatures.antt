@@ -25,7 +25,8 @@ use Rattle.sml_core_rules.specs.States.{Scope}
 use Rattle.sml_core_rules.specs.Scripts.{Script, give, refuse, makes_datatypes, ◌>>=◌, look, need, test, new_names}
 use Rattle.sml_module_rules.specs.Lines.{lines, IsSmallEnv}
 use Rattle.sml_module_rules.specs.Realising.{realise_env, is_same_name, admits_function, no_function, with_function}
-use Rattle.sml_module_rules.specs.Bound.{constructors_in, identifiers, inside, bound_name, function_at, name_at, joined_attributes, for_both, without, HaveSameConstructors, AreEqualFunctions, common_paths}
+use Rattle.sml_core_rules.specs.Objects.{identifiers}
+use Rattle.sml_module_rules.specs.Bound.{constructors_in, inside, bound_name, function_at, name_at, joined_attributes, for_both, without, HaveSameConstructors, AreEqualFunctions, common_paths}
 use Rattle.sml_module_rules.specs.Matching.{renewed_signature}
 use Rattle.sml_rules.specs.Matching.{Realisation}
 

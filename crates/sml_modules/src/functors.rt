@@ -7,15 +7,15 @@ use sml_bases::objects::{Basis, Env, FunSig, Sig};
 use sml_core::context::Context;
 use sml_envs::canonical::{applied_result, names_from};
 use sml_envs::mapping::mapped_env;
-use sml_envs::realisation::Realisation;
 use sml_lex::fault::{Code, Place};
 use sml_match::enrich::enriches;
 use sml_match::mismatch::placed;
 use sml_match::realise::realise;
+use sml_match::sizes::small_env_under;
 use sml_tree::names::Name;
 use sml_tree::structures::FunBind;
+use sml_type_maps::realisation::Realisation;
 use sml_types::fault::{CoreFault, fault_about};
-use sml_types::sizes::small_env_under;
 use std::rc::Rc;
 
 /// The functor of a name.

@@ -2,7 +2,7 @@
 
 ghost use Rattle.std.specs.Prelude.{ℕ};
 ghost use Rattle.sml_objects.specs.Objects as O;
-ghost use Rattle.sml_envs.specs.Mapped.{known_at};
+ghost use Rattle.sml_type_maps.specs.Mapped.{known_at};
 
 use indexmap::{IndexMap, IndexSet};
 use sml_asks::asks::ask_fixed;
@@ -10,13 +10,14 @@ use sml_asks::outcomes::{Outcome, ask_outcome};
 use sml_bases::objects::Env;
 use sml_bases::visits::Visits;
 use sml_core::context::Context;
-use sml_envs::mapping::{Image, Mapping, mapped_env};
-use sml_envs::sizes::GREATEST_SIZE;
+use sml_envs::mapping::mapped_env;
 use sml_lex::fault::{Code, Memory, Place};
+use sml_match::sizes::small_env_under;
 use sml_objects::objects::{MlType, TyName};
+use sml_type_maps::mapping::{Image, Mapping};
+use sml_type_maps::sizes::GREATEST_SIZE;
 use sml_types::fault::{CoreFault, plain_fault};
 use sml_types::rows::number_of;
-use sml_types::sizes::small_env_under;
 use sml_types::variables::collect_free;
 use std::alloc::Global;
 use std::rc::Rc;

@@ -27,7 +27,8 @@ use Rattle.sml_core_rules.specs.States.{Scope}
 use Rattle.sml_core_rules.specs.Scripts.{give, ◌>>=◌, look, test, new_names}
 use Rattle.sml_module_rules.specs.Lines.{lines, IsSmallEnv}
 use Rattle.sml_module_rules.specs.Realising.{realise_env, is_same_name, admits_function, no_function, with_function}
-use Rattle.sml_module_rules.specs.Bound.{constructors_in, identifiers, inside, bound_name, function_at, name_at, joined_attributes, for_both, without, common_paths}
+use Rattle.sml_core_rules.specs.Objects.{identifiers}
+use Rattle.sml_module_rules.specs.Bound.{constructors_in, inside, bound_name, function_at, name_at, joined_attributes, for_both, without, common_paths}
 use Rattle.sml_module_rules.specs.Signatures.{once, standing, is_variable, are_variables, applied_constructor, HasConstructors, read_values, read_exceptions, need_name, join, share_named, share, need_names, share_others, share_types, need_structures, share_paths, share_with, share_pairs, share_structures, KeepsConstructors, realise_name, read_where, attributes_of, described, read_types, read_datatypes, add, named}
 use Rattle.sml_places.specs.Places.{place_name, place_long, place_names, place_ty, place_tys, place_con_bind, place_dat_bind, place_where, place_val_desc, place_typ_desc}
 use Rattle.sml_places.proofs.Scripts.{AreSame, alike-then, alike-give, alike-refuse}

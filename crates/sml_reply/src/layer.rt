@@ -2,10 +2,10 @@
 
 use indexmap::IndexMap;
 use sml_bases::objects::{Env, TypeStr};
-use sml_envs::functions::name_of;
 use sml_lex::fault::Memory;
 use sml_objects::objects::{Scheme, TyName};
 use sml_tree::bare::Ident;
+use sml_type_maps::functions::name_of;
 use std::alloc::Global;
 use std::collections::{BTreeMap, BTreeSet};
 use std::rc::Rc;

@@ -3,11 +3,11 @@
 use crate::lines::{Lines, Variables, value_word};
 use indexmap::{IndexMap, IndexSet};
 use sml_bases::objects::{Constructors, TypeStr, Value};
-use sml_envs::functions::name_of;
 use sml_lex::fault::Memory;
 use sml_objects::objects::{MlType, Scheme, TyName};
 use sml_texts::texts::Around;
 use sml_tree::bare::Ident;
+use sml_type_maps::functions::name_of;
 use std::alloc::Global;
 use std::mem;
 

@@ -13,7 +13,7 @@ use Rattle.sml_objects.specs.Fates.{close_as}
 use Rattle.sml_objects.specs.Types.{replace_type, replace_types, variables_after, variables_after_all}
 use Rattle.sml_tree.specs.Trees.{Id}
 use Rattle.sml_rules.specs.Lookups.{Found, found, no_path, no_entry}
-use Rattle.sml_module_rules.specs.Bound.{identifiers}
+use Rattle.sml_core_rules.specs.Objects.{identifiers}
 use Rattle.sml_rules.specs.Matching.{realise_type, realise_types}
 use Rattle.sml_core_rules.specs.Answers as A
 use Rattle.sml_core_rules.specs.Closing.{ty_variables, tys_variables}

@@ -2,9 +2,9 @@
 
 use crate::reading::{Reader, read};
 use sml_bases::objects::{Basis, Sig};
-use sml_envs::new_names::NewNames;
 use sml_scopes::scopes::Scopes;
 use sml_tree::signatures::SigExp;
+use sml_type_maps::new_names::NewNames;
 use sml_types::fault::CoreFault;
 use std::alloc::Global;
 

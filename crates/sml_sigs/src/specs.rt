@@ -2,14 +2,14 @@
 
 use crate::layers::Layers;
 use sml_bases::objects::{Constructors, Env, Sig, Status, TypeStr, Value};
-use sml_envs::functions::name_of;
-use sml_envs::new_names::NewNames;
 use sml_lex::fault::{Memory, Place};
 use sml_objects::objects::{Initial, Scheme, TyName};
 use sml_tree::bare::LongIdent;
 use sml_tree::expressions::{ConBind, DatBind};
 use sml_tree::names::Name;
 use sml_tree::signatures::{TypDesc, ValDesc};
+use sml_type_maps::functions::name_of;
+use sml_type_maps::new_names::NewNames;
 use sml_types::bindings::no_constructors;
 use sml_types::datatypes::{datatypes_with, name_function, put_constructors};
 use sml_types::fault::CoreFault;

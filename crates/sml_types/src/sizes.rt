@@ -7,10 +7,8 @@ ghost use Rattle.sml_types.specs.Answered.{IsAnswer};
 
 use crate::fault::{CoreFault, plain_fault};
 use crate::written::Written;
-use sml_bases::objects::Env;
-use sml_envs::mapping::Mapping;
-use sml_envs::sizes::{GREATEST_SIZE, has_large_under};
 use sml_lex::fault::{Code, Place};
+use sml_type_maps::sizes::GREATEST_SIZE;
 use std::alloc::Global;
 
 /// That a type isn't too large for a scheme, or E7 at the place.
@@ -36,19 +34,6 @@ pub fn few(place: Place, nodes: usize) -> Result<(), CoreFault>
     ensures { IsAnswer (λ _. tt) result (check (not (nat_lt 10000 nodes)) (record { code = E7; place = place; detail = None })) }
 {
     if nodes > GREATEST_SIZE as usize {
-        return Err(plain_fault(Code::E7, place));
-    }
-    Ok(())
-}
-
-/// That no scheme or type function of an environment becomes too large, or E7 at the place.
-pub fn small_env_under<M: Mapping>(
-    alloc: Global,
-    place: Place,
-    env: &Env,
-    by: &M,
-) -> Result<(), CoreFault> {
-    if has_large_under(alloc, env, by)? {
         return Err(plain_fault(Code::E7, place));
     }
     Ok(())

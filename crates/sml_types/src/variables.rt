@@ -3,7 +3,7 @@
 ghost use Rattle.std.specs.Prelude.{◌≡◌, OnOk, map, not};
 ghost use Rattle.sml_objects.specs.Objects as O;
 ghost use Rattle.sml_objects.specs.Objects.{types_of};
-ghost use Rattle.sml_envs.specs.Mapped.{closed_at};
+ghost use Rattle.sml_type_maps.specs.Mapped.{closed_at};
 ghost use Rattle.sml_objects.specs.Types.{variables_after, variables_after_all};
 ghost use Rattle.sml_objects.specs.Views.{type_of};
 ghost use Rattle.sml_core_rules.specs.Datatypes.{is_equality};
@@ -13,11 +13,11 @@ ghost use Rattle.sml_tree.specs.Views.{ident_of};
 use crate::fault::{CoreFault, plain_fault};
 use crate::rows::{boxed, number_of};
 use indexmap::{IndexMap, IndexSet};
-use sml_envs::mapping::{Image, Mapping, mapped_type};
 use sml_lex::fault::{Code, Memory, Place};
 use sml_objects::objects::{MlType, Scheme, TyName};
 use sml_tree::bare::Ident;
 use sml_tree::names::Name;
+use sml_type_maps::mapping::{Image, Mapping, mapped_type};
 use std::alloc::Global;
 use std::rc::Rc;
 

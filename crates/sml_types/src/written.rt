@@ -2,13 +2,13 @@
 //! gives for them is made only where it is asked for, and how large that is is known before.
 
 use crate::rows::{arrow, boxed, number_of, tuple_of};
-use sml_envs::functions::admits_equality_under;
-use sml_envs::sizes::Count;
 use sml_lex::fault::Memory;
 use sml_objects::applications::apply;
 use sml_objects::equality::{has_equality, is_reference};
 use sml_objects::labels::Labels;
 use sml_objects::objects::{MlType, Scheme, TyName};
+use sml_type_maps::functions::admits_equality_under;
+use sml_type_maps::sizes::Count;
 use std::alloc::Global;
 use std::rc::Rc;
 

@@ -2,7 +2,7 @@ use Rattle.std.proofs.Common.{◌≡◌, subst, map, [], ◌∷◌}
 use Rattle.std.proofs.lemmas.List.{map-append}
 use Rattle.std.specs.Map.Iter.{deref_pair}
 use Rattle.sml_objects.specs.Views.{scheme_of, schemes_of}
-use Rattle.sml_envs.specs.Orders.{AreOrdered, scheme_by}
+use Rattle.sml_type_maps.specs.Orders.{AreOrdered, scheme_by}
 use Rattle.sml_envs.proofs.SchemeMaps.{ordered-split, stays-at, stays-next}
 use Rattle.sml_envs.proofs.mapping.changes_schemes.Goals as goal
 

@@ -1,7 +1,7 @@
 use Rattle.std.proofs.Common.{◌≡◌, map}
 use Rattle.std.specs.Map.Iter.{deref_pair}
 use Rattle.sml_objects.specs.Views.{schemes_of}
-use Rattle.sml_envs.specs.Orders.{AreOrdered, schemes_by}
+use Rattle.sml_type_maps.specs.Orders.{AreOrdered, schemes_by}
 use Rattle.sml_envs.proofs.mapping.changes_schemes.Given as goal
 
 abbrev pub invariant-loop-scheme : goal.invariant-loop-scheme

@@ -5,7 +5,7 @@ use Rattle.std.specs.Map.Iter.{deref_pair}
 use Rattle.sml_objects.specs.Maps.{join}
 use Rattle.sml_objects.specs.Views.{scheme_of, schemes_of}
 use Rattle.sml_objects.proofs.SortedMaps.{mapped-next, put-in-order}
-use Rattle.sml_envs.specs.Orders.{AreOrdered, scheme_by, schemes_by}
+use Rattle.sml_type_maps.specs.Orders.{AreOrdered, scheme_by, schemes_by}
 use Rattle.sml_envs.proofs.SchemeMaps.{ordered-split}
 use Rattle.sml_envs.proofs.mapping.mapped_schemes.Goals as goal
 

@@ -2,7 +2,7 @@ use Rattle.std.proofs.Common.{◌≡◌, map, []}
 use Rattle.std.specs.Map.Iter.{deref_pair}
 use Rattle.sml_objects.specs.Maps.{join}
 use Rattle.sml_objects.specs.Views.{schemes_of}
-use Rattle.sml_envs.specs.Orders.{AreOrdered, schemes_by}
+use Rattle.sml_type_maps.specs.Orders.{AreOrdered, schemes_by}
 use Rattle.sml_envs.proofs.mapping.mapped_schemes.Given as goal
 
 abbrev pub invariant-loop-name : goal.invariant-loop-name

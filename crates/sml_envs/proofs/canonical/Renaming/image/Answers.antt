@@ -1,7 +1,7 @@
 use Rattle.std.proofs.Common.{◌≡◌, ap, ◌∙◌}
 use Rattle.std.specs.Option.{option_map}
 use Rattle.sml_objects.specs.Views.{name_of}
-use Rattle.sml_envs.proofs.Listed.{looked-up}
+use Rattle.sml_type_maps.proofs.Listed.{looked-up}
 use Rattle.sml_envs.proofs.canonical.Renaming.image.Goals as goal
 
 pub returns-in-Some : goal.returns-in-Some

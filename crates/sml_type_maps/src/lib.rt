@@ -1,0 +1,9 @@
+// Type functions, what maps make of types and schemes, the limit on sizes, and new type names.
+#![tactic(auto)]
+
+pub mod functions;
+pub mod mapping;
+pub mod new_names;
+mod order;
+pub mod realisation;
+pub mod sizes;

@@ -2,5 +2,5 @@ mod AppliedSizes
 mod Counts
 mod FunctionViews
 pub mod Listed
-mod Orders
+pub mod Orders
 mod TypeMaps

@@ -4,6 +4,6 @@
 pub mod functions;
 pub mod mapping;
 pub mod new_names;
-mod order;
+pub mod order;
 pub mod realisation;
 pub mod sizes;

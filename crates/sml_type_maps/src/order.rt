@@ -62,7 +62,7 @@ pub(crate) fn in_order(alloc: Global, equality: &[bool], body: Rc<MlType>) -> Re
 }
 
 /// The equality attributes of variables, in the order of a set.
-fn attributes_of(
+pub fn attributes_of(
     alloc: Global,
     equality: &[bool],
     order: &IndexSet<u32>,

@@ -1,3 +1,4 @@
+mod Closings
 pub mod Paths
 pub mod Entries
 mod Unknowns

@@ -1,2 +1,3 @@
 pub mod Answered
 pub mod Losses
+pub mod Variables

@@ -1,14 +1,15 @@
 //! What type variables stand for.
 
-ghost use Rattle.std.specs.Prelude.{◌≡◌, OnOk, map, not};
+ghost use Rattle.std.specs.Prelude.{◌≡◌, IfOk, OnOk, map, not};
 ghost use Rattle.sml_objects.specs.Objects as O;
 ghost use Rattle.sml_objects.specs.Objects.{types_of};
 ghost use Rattle.sml_type_maps.specs.Mapped.{closed_at};
 ghost use Rattle.sml_objects.specs.Types.{variables_after, variables_after_all};
-ghost use Rattle.sml_objects.specs.Views.{type_of};
-ghost use Rattle.sml_core_rules.specs.Datatypes.{is_equality};
+ghost use Rattle.sml_objects.specs.Views.{scheme_of, type_of};
+ghost use Rattle.sml_core_rules.specs.Datatypes.{constructor_scheme, is_equality};
 ghost use Rattle.sml_core_rules.specs.Values.{has_unknown, have_unknown};
 ghost use Rattle.sml_tree.specs.Views.{ident_of};
+ghost use Rattle.sml_types.specs.Variables.{collected};
 
 use crate::fault::{CoreFault, plain_fault};
 use crate::rows::{boxed, number_of};
@@ -18,6 +19,7 @@ use sml_objects::objects::{MlType, Scheme, TyName};
 use sml_tree::bare::Ident;
 use sml_tree::names::Name;
 use sml_type_maps::mapping::{Image, Mapping, mapped_type};
+use sml_type_maps::order::attributes_of;
 use std::alloc::Global;
 use std::rc::Rc;
 
@@ -113,7 +115,9 @@ impl Collected {
     }
 
     /// The scheme of a type that binds these variables, numbered by first appearance in it.
-    pub fn close(&self, alloc: Global, ty: &Rc<MlType>) -> Result<Scheme, Memory> {
+    pub fn close(&self, alloc: Global, ty: &Rc<MlType>) -> Result<Scheme, Memory>
+        ensures { IfOk result (λ s. scheme_of s ≡ constructor_scheme (map is_equality (collected self.now)) (type_of ty.now.value)) }
+    {
         let mut equality = Vec::new(alloc);
         for name in &self.names {
             equality.push(is_equality_variable(name))?;
@@ -180,17 +184,12 @@ impl Mapping for Closing<'_> {
 
 /// The scheme that binds the free variables of a type, numbered by first appearance; the flags tell by number which are
 /// equality variables.
-pub fn closed(alloc: Global, ty: &Rc<MlType>, equality: &[bool]) -> Result<Scheme, Memory> {
+pub fn closed(alloc: Global, ty: &Rc<MlType>, equality: &[bool]) -> Result<Scheme, Memory>
+    ensures { IfOk result (λ s. scheme_of s ≡ constructor_scheme equality.now (type_of ty.now.value)) }
+{
     let mut order = IndexSet::new(alloc);
     collect_free(ty, &mut order)?;
-    let mut variables = Vec::new(alloc);
-    for variable in &order {
-        let flag = match equality.get(*variable as usize) {
-            Some(flag) => *flag,
-            None => false,
-        };
-        variables.push(flag)?;
-    }
+    let variables = attributes_of(alloc, equality, &order)?;
     let body = mapped_type(alloc, ty, &Closing { order: &order })?;
     Ok(Scheme { variables, body })
 }

@@ -239,7 +239,7 @@ fn collect(
 }
 
 /// Sorts the items and drops the repeats.
-fn sort_distinct<T: Ord + Drop>(items: &mut Vec<T>)
+pub fn sort_distinct<T: Ord + Drop>(items: &mut Vec<T>)
     ensures rises { IsStrictlySortedBy T.cmp items.new.items }
     ensures keeps { ((x y : T) → T.eq x y ≡ true → x ≡ y) → (x : T) → Contains items.old.items x → Contains items.new.items x }
     ensures adds_none { (x : T) → Contains items.new.items x → Contains items.old.items x }

@@ -3,10 +3,10 @@
 ghost use Rattle.std.specs.Prelude.{◌≡◌, IfOk, map};
 ghost use Rattle.sml_objects.specs.Initial as made;
 ghost use Rattle.sml_tree.specs.Views.{ident_of};
-ghost use Rattle.sml_objects.specs.Labels.{label_rank};
+ghost use Rattle.sml_objects.specs.Labels.{AreRising, label_rank};
 ghost use Rattle.sml_objects.specs.Objects as O;
 ghost use Rattle.sml_objects.specs.Objects.{arrow_of, named, types_of};
-ghost use Rattle.sml_objects.specs.Views.{initial_of, type_of};
+ghost use Rattle.sml_objects.specs.Views.{initial_of, label_list, type_of};
 
 use sml_lex::fault::Memory;
 use sml_objects::labels::Labels;
@@ -54,7 +54,9 @@ pub(crate) fn parted<T: Drop>(
 }
 
 /// The labels of a list that rises, as keys do.
-fn labels_of(alloc: Global, list: Vec<Ident>) -> Result<Rc<Labels>, Memory> {
+fn labels_of(alloc: Global, list: Vec<Ident>) -> Result<Rc<Labels>, Memory>
+    ensures { AreRising (map ident_of list.items) → IfOk result (λ ls. label_list ls.value ≡ map ident_of list.items) }
+{
     let labels = match Labels::from_list(list) {
         Ok(labels) => labels,
         Err(list) => Labels::numbered(alloc, list.len())?,

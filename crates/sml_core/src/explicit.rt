@@ -1,5 +1,12 @@
 //! Explicit type variables in scope (the Definition, section 4.6).
 
+ghost use Rattle.std.specs.Prelude.{◌≡◌};
+ghost use Rattle.std.specs.Option.{option_map};
+ghost use Rattle.sml_tree.specs.Trees.{Id};
+ghost use Rattle.sml_objects.specs.Maps.{lookup};
+ghost use Rattle.sml_objects.specs.Objects as O;
+ghost use Rattle.sml_types.specs.Variables.{place_in};
+
 use indexmap::IndexMap;
 use sml_lex::fault::{Code, Memory, Place};
 use sml_objects::objects::MlType;
@@ -58,6 +65,8 @@ impl Explicit {
 }
 
 impl TypeVariables for Explicit {
+    ghost says = { λ e vs. (x : Id) → lookup x vs ≡ option_map O.free (place_in e.unknowns.entries x) };
+
     fn variable(
         &mut self,
         alloc: Global,

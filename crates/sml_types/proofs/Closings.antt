@@ -57,7 +57,7 @@ pub stands-at : (u : O.MlType Name) (g : ℕ → Bool) (ks : List ℕ) (v : ℕ)
 stands-at u g ks v =
     let j : ℕ = prefix_len (λ w. not (nat_eq v w)) ks in
     ap (type_or (O.free v))
-        (ap (λ i. slice_index_or (substitutes u 0 (bindings g ks)) i None) (place-is v ks) ∙ substitute-at u g 0 j ks ∙ go (nat_lt j (length ks)) j)
+    (ap (λ i. slice_index_or (substitutes u 0 (bindings g ks)) i None) (place-is v ks) ∙ substitute-at u g 0 j ks ∙ go (nat_lt j (length ks)) j)
   where
     go : (b : Bool) (j : ℕ) → ◌≡◌ {A = Option (O.MlType Name)} (cond b (Some (O.bound (0 + j))) None) (option_map (λ (i : ℕ). O.bound i) (cond b (Some j) None))
     go true j = ap (λ i. Some (O.bound i)) (omega (arith))

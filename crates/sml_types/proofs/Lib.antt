@@ -3,3 +3,4 @@ pub mod Paths
 pub mod Entries
 mod Unknowns
 mod Numbered
+mod Listing

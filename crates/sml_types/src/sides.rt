@@ -3,6 +3,8 @@
 //! A constructor's type is read as if each stood there written out, with the arguments in the place of its variables: an
 //! argument is read where its variable is, and one that the right side drops isn't. Each right side is read once.
 
+ghost use Rattle.sml_types.specs.Variables.{AreListed};
+
 use crate::fault::{CoreFault, again};
 use crate::scope::Scope;
 use crate::types::written_type;
@@ -33,6 +35,8 @@ struct Noted {
 }
 
 impl TypeVariables for Noted {
+    ghost says = { λ n vs. AreListed n.listed vs };
+
     fn variable(
         &mut self,
         alloc: Global,

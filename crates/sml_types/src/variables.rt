@@ -1,15 +1,21 @@
 //! What type variables stand for.
 
-ghost use Rattle.std.specs.Prelude.{◌≡◌, IfOk, OnOk, map, not};
+ghost use Rattle.std.specs.Prelude.{◌≡◌, [], IfOk, None, OnOk, map, not};
+ghost use Rattle.sml_objects.specs.Initial as I;
+ghost use Rattle.sml_objects.specs.Maps.{Map, lookup};
 ghost use Rattle.sml_objects.specs.Objects as O;
 ghost use Rattle.sml_objects.specs.Objects.{types_of};
 ghost use Rattle.sml_type_maps.specs.Mapped.{closed_at};
 ghost use Rattle.sml_objects.specs.Types.{variables_after, variables_after_all};
 ghost use Rattle.sml_objects.specs.Views.{scheme_of, type_of};
-ghost use Rattle.sml_core_rules.specs.Datatypes.{constructor_scheme, is_equality};
+ghost use Rattle.sml_core_rules.specs.Datatypes.{constructor_scheme, is_equality, listed};
+ghost use Rattle.sml_core_rules.specs.Types.{variable_type};
 ghost use Rattle.sml_core_rules.specs.Values.{has_unknown, have_unknown};
+ghost use Rattle.sml_tree.specs.Trees.{Id};
+ghost use Rattle.sml_tree.specs.TypeViews.{names_of};
 ghost use Rattle.sml_tree.specs.Views.{ident_of};
-ghost use Rattle.sml_types.specs.Variables.{collected};
+ghost use Rattle.sml_types.specs.Answered.{IsAnswer};
+ghost use Rattle.sml_types.specs.Variables.{AreCollected, AreListed, collected, place_from, place_in};
 
 use crate::fault::{CoreFault, plain_fault};
 use crate::rows::{boxed, number_of};
@@ -25,13 +31,19 @@ use std::rc::Rc;
 
 /// What the type variables of a type expression stand for.
 pub trait TypeVariables {
-    /// The type that a variable stands for, or why it stands for none.
+    // What may be said of the types that stand for variables, by those that were asked for.
+    ghost says: { Self → Map (O.MlType I.Name) → Type 0 };
+
+    /// The type that a variable stands for, or E8 where it stands for none. What may be said of variables then could be said
+    /// before.
     fn variable(
         &mut self,
         alloc: Global,
         place: Place,
         name: &Ident,
-    ) -> Result<Rc<MlType>, CoreFault>;
+    ) -> Result<Rc<MlType>, CoreFault>
+        ensures answer { (vs : Map (O.MlType I.Name)) → says self.new vs → IsAnswer (λ t. type_of t.value) result (variable_type place (lookup (ident_of name.now) vs)) }
+        ensures kept { (vs : Map (O.MlType I.Name)) → says self.new vs → says self.old vs };
 }
 
 /// Whether a type variable is one of equality types: it begins with two primes (the Definition, section 2.4).
@@ -53,7 +65,9 @@ pub struct Listed {
 
 impl Listed {
     /// Bound variables, as in a type function.
-    pub fn bound(alloc: Global, names: &[Name]) -> Result<Listed, Memory> {
+    pub fn bound(alloc: Global, names: &[Name]) -> Result<Listed, Memory>
+        ensures { IfOk result (λ l. AreListed l (listed O.bound 0 (names_of names.now))) }
+    {
         let places = places_of(alloc, names)?;
         Ok(Listed {
             places,
@@ -62,7 +76,9 @@ impl Listed {
     }
 
     /// Free variables.
-    pub fn free(alloc: Global, names: &[Name]) -> Result<Listed, Memory> {
+    pub fn free(alloc: Global, names: &[Name]) -> Result<Listed, Memory>
+        ensures { IfOk result (λ l. AreListed l (listed O.free 0 (names_of names.now))) }
+    {
         let places = places_of(alloc, names)?;
         Ok(Listed {
             places,
@@ -71,17 +87,22 @@ impl Listed {
     }
 }
 
-fn places_of(alloc: Global, names: &[Name]) -> Result<IndexMap<Ident, u32>, Memory> {
+/// The place of each name, the first where it stands twice.
+fn places_of(alloc: Global, names: &[Name]) -> Result<IndexMap<Ident, u32>, Memory>
+    ensures { IfOk result (λ m. (x : Id) → place_in m.entries x ≡ place_from x 0 (names_of names.now)) }
+{
     let mut places = IndexMap::new(alloc);
-    let mut place: u32 = 0;
-    for name in names {
-        places.insert(name.ident.clone()?, place)?;
-        place = place.saturating_add(1);
+    for (index, name) in names.iter().enumerate() {
+        if !places.contains_key(&name.ident) {
+            places.insert(name.ident.clone()?, number_of(index)?)?;
+        }
     }
     Ok(places)
 }
 
 impl TypeVariables for Listed {
+    ghost says = { λ l vs. AreListed l vs };
+
     fn variable(
         &mut self,
         alloc: Global,
@@ -108,7 +129,10 @@ pub struct Collected {
 }
 
 impl Collected {
-    pub fn new(alloc: Global) -> Collected {
+    /// None was taken yet.
+    pub fn new(alloc: Global) -> Collected
+        ensures { collected result ≡ [] }
+    {
         Collected {
             names: IndexSet::new(alloc),
         }
@@ -127,6 +151,8 @@ impl Collected {
 }
 
 impl TypeVariables for Collected {
+    ghost says = { λ c vs. AreCollected c vs };
+
     fn variable(
         &mut self,
         alloc: Global,
@@ -143,6 +169,8 @@ impl TypeVariables for Collected {
 pub struct NoVariables;
 
 impl TypeVariables for NoVariables {
+    ghost says = { λ _ vs. (x : Id) → lookup x vs ≡ None };
+
     fn variable(
         &mut self,
         _alloc: Global,

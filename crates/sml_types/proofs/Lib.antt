@@ -4,3 +4,4 @@ pub mod Entries
 mod Unknowns
 mod Numbered
 mod Listing
+mod RowLabels

@@ -1,3 +1,4 @@
 pub mod Answered
 pub mod Losses
+pub mod Rows
 pub mod Variables

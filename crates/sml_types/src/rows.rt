@@ -1,12 +1,15 @@
 //! Rows, arrows and applied names.
 
 ghost use Rattle.std.specs.Prelude.{◌≡◌, IfOk, map};
+ghost use Rattle.std.specs.BTreeMap.{values};
+ghost use Rattle.sml_core_rules.specs.Types as read;
 ghost use Rattle.sml_objects.specs.Initial as made;
 ghost use Rattle.sml_tree.specs.Views.{ident_of};
 ghost use Rattle.sml_objects.specs.Labels.{AreRising, label_rank};
 ghost use Rattle.sml_objects.specs.Objects as O;
 ghost use Rattle.sml_objects.specs.Objects.{arrow_of, named, types_of};
 ghost use Rattle.sml_objects.specs.Views.{initial_of, label_list, type_of};
+ghost use Rattle.sml_types.specs.Rows.{AreRanked, fields_of};
 
 use sml_lex::fault::Memory;
 use sml_objects::labels::Labels;
@@ -34,7 +37,9 @@ pub fn label_key(label: &Ident) -> Result<(usize, Ident), Memory>
 }
 
 /// The row of these fields.
-pub fn row_of(alloc: Global, fields: Fields) -> Result<Rc<MlType>, Memory> {
+pub fn row_of(alloc: Global, fields: Fields) -> Result<Rc<MlType>, Memory>
+    ensures { AreRanked fields.entries → IfOk result (λ t. type_of t.value ≡ read.row_of (fields_of (λ t. type_of t.value) fields.entries)) }
+{
     let (labels, types) = parted(alloc, fields)?;
     boxed(alloc, MlType::Row(labels, types))
 }
@@ -43,7 +48,10 @@ pub fn row_of(alloc: Global, fields: Fields) -> Result<Rc<MlType>, Memory> {
 pub(crate) fn parted<T: Drop>(
     alloc: Global,
     fields: Labelled<T>,
-) -> Result<(Rc<Labels>, Vec<T>), Memory> {
+) -> Result<(Rc<Labels>, Vec<T>), Memory>
+    ensures labels { AreRanked fields.entries → IfOk result (λ p. label_list p.0.value ≡ map (λ e. ident_of e.0.1) fields.entries) }
+    ensures parts { IfOk result (λ p. p.1.items ≡ values fields) }
+{
     let mut labels = Vec::new(alloc);
     let mut parts = Vec::new(alloc);
     for ((_, label), part) in fields {

@@ -1,5 +1,9 @@
 //! The way to a component of a signature, for the faults that speak of it.
 
+ghost use Rattle.std.specs.Prelude.{◌≡◌, ◌++◌, ◌∷◌, [], ◌-◌, length, take, OnOk};
+ghost use Rattle.sml_tree.specs.Views.{ident_of};
+ghost use Rattle.sml_match.specs.Paths.{path_in};
+
 use crate::mismatch::Mismatch;
 use sml_lex::fault::{Code, Memory};
 use sml_tree::bare::Ident;
@@ -14,24 +18,32 @@ pub(crate) struct Way {
 }
 
 impl Way {
-    pub(crate) fn new(alloc: Global) -> Way {
+    pub(crate) fn new(alloc: Global) -> Way
+        ensures { path_in result ≡ [] }
+    {
         Way {
             alloc,
             idents: Vec::new(alloc),
         }
     }
 
-    pub(crate) fn enter(&mut self, name: &Ident) -> Result<(), Memory> {
+    pub(crate) fn enter(&mut self, name: &Ident) -> Result<(), Memory>
+        ensures { OnOk result (path_in self.new ≡ path_in self.old ++ ident_of name.now ∷ []) }
+    {
         self.idents.push(name.clone()?)?;
         Ok(())
     }
 
-    pub(crate) fn leave(&mut self) {
+    pub(crate) fn leave(&mut self)
+        ensures { path_in self.new ≡ take (length (path_in self.old) - 1) (path_in self.old) }
+    {
         self.idents.pop();
     }
 
     /// How many identifiers there are.
-    pub(crate) fn length(&self) -> usize {
+    pub(crate) fn length(&self) -> usize
+        ensures { result ≡ length (path_in self.now) }
+    {
         self.idents.len()
     }
 

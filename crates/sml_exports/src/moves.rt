@@ -1,6 +1,6 @@
 //! The places that units have in another project file.
 
-ghost use Rattle.std.specs.Prelude.{◌≡◌, ℕ};
+ghost use Rattle.std.specs.Prelude.{◌≡◌, ℕ, None, slice_index_or};
 ghost use Rattle.sml_objects.specs.Objects as O;
 ghost use Rattle.sml_objects.specs.Views.{name_of};
 ghost use Rattle.sml_exports.specs.Moved.{moved_name};
@@ -78,7 +78,9 @@ impl Moves {
     }
 
     /// The place of a unit in the other project file.
-    fn place(&self, unit: UnitId) -> Option<UnitId> {
+    fn place(&self, unit: UnitId) -> Option<UnitId>
+        ensures { result ≡ slice_index_or self.now.places.items unit.index None }
+    {
         match self.places.get(unit.index as usize) {
             Some(place) => *place,
             None => None,

@@ -1,6 +1,6 @@
 //! Names that are shared (the Definition, section 5.7, rule 78, and appendix A).
 
-ghost use Rattle.std.specs.Prelude.{◌≡◌, ℕ};
+ghost use Rattle.std.specs.Prelude.{◌≡◌, ℕ, suc};
 ghost use Rattle.indexmap.specs.IndexMap.{index_map_len};
 ghost use Rattle.sml_objects.specs.Objects as O;
 ghost use Rattle.sml_objects.specs.Views.{name_of};
@@ -38,7 +38,7 @@ impl Mapping for Joins {
 
     ghost free_gives = { λ _ v. O.free v };
 
-    ghost name_gives = { λ s n ts. O.app (O.name (last_of (index_map_len s.others) (names_of s.others.entries) n)) ts };
+    ghost name_gives = { λ s n ts. O.app (O.name (last_of (suc (index_map_len s.others)) (names_of s.others.entries) n)) ts };
 
     fn bound(&self, _alloc: Global, _variable: u32) -> Result<Option<Rc<MlType>>, Memory> {
         Ok(None)

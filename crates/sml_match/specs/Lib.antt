@@ -1,1 +1,4 @@
+pub mod Mismatches
 pub mod Paths
+pub mod Required
+pub mod Searches

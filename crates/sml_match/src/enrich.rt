@@ -1,5 +1,21 @@
 //! Whether an environment has what another one specifies (the Definition, section 5.5).
 
+ghost use Rattle.std.specs.Prelude.{◌≡◌, ◌∷◌, [], OnOk};
+ghost use Rattle.sml_lex.specs.declared.fault.Place.{Place};
+ghost use Rattle.sml_tree.specs.Trees.{LongId};
+ghost use Rattle.sml_objects.specs.Initial.{Name};
+ghost use Rattle.sml_objects.specs.Views.{entries_of};
+ghost use Rattle.sml_rules.specs.Lookups.{found};
+ghost use Rattle.sml_core_rules.specs.Lookups.{type_at};
+ghost use Rattle.sml_core_rules.specs.Objects as O;
+ghost use Rattle.sml_core_rules.specs.States.{Scope, State};
+ghost use Rattle.sml_bases.specs.Views.{env_of, status_of, ty_str_of};
+ghost use Rattle.sml_module_rules.specs.Lines.{a_type, path_of, type_lines};
+ghost use Rattle.sml_module_rules.specs.Matching.{serves};
+ghost use Rattle.sml_types.specs.Answered.{env_at};
+ghost use Rattle.sml_match.specs.Paths.{path_in};
+ghost use Rattle.sml_match.specs.Required.{HasRequired};
+
 use crate::general::is_general;
 use crate::mismatch::Mismatch;
 use crate::way::Way;
@@ -67,7 +83,11 @@ fn types_enrich(
     way: &mut Way,
     env: &Env,
     specified: &BTreeMap<Ident, TypeStr>,
-) -> Result<(), Mismatch> {
+) -> Result<(), Mismatch>
+    ensures path { OnOk result (path_in way.new ≡ path_in way.old) }
+    ensures required { (scope : Scope Name) (s : State Place Name) (p : Place) (E : O.Env Name) → env_at E (path_in way.old) ≡ found (env_of env.now)
+        → HasRequired scope s p E (type_lines (path_in way.old) (entries_of ty_str_of specified.now.entries)) result }
+{
     for (name, ty) in specified {
         way.enter(name)?;
         match env.types.get(name) {
@@ -79,7 +99,10 @@ fn types_enrich(
     Ok(())
 }
 
-fn type_enriches(way: &Way, ty: &TypeStr, specified: &TypeStr) -> Result<(), Mismatch> {
+fn type_enriches(way: &Way, ty: &TypeStr, specified: &TypeStr) -> Result<(), Mismatch>
+    ensures { (scope : Scope Name) (s : State Place Name) (p : Place) (E : O.Env Name) (x : LongId) → path_of x ≡ path_in way.now → type_at E x ≡ found (ty_str_of ty.now)
+        → HasRequired scope s p E ((x, a_type (ty_str_of specified.now)) ∷ []) result }
+{
     if ty.function.variables.len() != specified.function.variables.len() {
         return Err(way.fault(Code::M2)?);
     }
@@ -128,7 +151,9 @@ fn value_enriches(
 }
 
 /// Whether a value of the first status serves where one of the second is specified.
-fn serves_as(status: Status, specified: Status) -> bool {
+fn serves_as(status: Status, specified: Status) -> bool
+    ensures { result ≡ serves (status_of status) (status_of specified) }
+{
     match specified {
         Status::Variable | Status::Overloaded(_) => true,
         Status::Constructor { .. } => match status {

@@ -1,7 +1,8 @@
 //! The way to a component of a signature, for the faults that speak of it.
 
-ghost use Rattle.std.specs.Prelude.{◌≡◌, ◌++◌, ◌∷◌, [], ◌-◌, length, take, OnOk};
+ghost use Rattle.std.specs.Prelude.{◌≡◌, ◌++◌, ◌∷◌, [], ◌-◌, length, take, IfOk, OnOk};
 ghost use Rattle.sml_tree.specs.Views.{ident_of};
+ghost use Rattle.sml_match.specs.Mismatches.{IsMismatch};
 ghost use Rattle.sml_match.specs.Paths.{path_in};
 
 use crate::mismatch::Mismatch;
@@ -48,12 +49,16 @@ impl Way {
     }
 
     /// The fault of the component.
-    pub(crate) fn fault(&self, code: Code) -> Result<Mismatch, Memory> {
+    pub(crate) fn fault(&self, code: Code) -> Result<Mismatch, Memory>
+        ensures { IfOk result (λ m. IsMismatch m code (path_in self.now)) }
+    {
         self.fault_before(code, self.idents.len())
     }
 
     /// The fault of the component so many identifiers from the signature.
-    pub(crate) fn fault_before(&self, code: Code, length: usize) -> Result<Mismatch, Memory> {
+    pub(crate) fn fault_before(&self, code: Code, length: usize) -> Result<Mismatch, Memory>
+        ensures { IfOk result (λ m. IsMismatch m code (take length (path_in self.now))) }
+    {
         let length = length.min(self.idents.len());
         let path = dotted_text(self.alloc, &self.idents[..length])?;
         Ok(Mismatch::Fault(code, path))

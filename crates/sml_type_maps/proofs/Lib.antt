@@ -1,6 +1,6 @@
-mod AppliedSizes
+pub mod AppliedSizes
 mod Counts
-mod FunctionViews
+pub mod FunctionViews
 pub mod Listed
 pub mod Orders
 mod TypeMaps

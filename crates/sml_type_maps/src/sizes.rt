@@ -1,13 +1,13 @@
 //! The limit on the sizes of types, asked of types that are not made yet.
 
-ghost use Rattle.std.specs.Prelude.{◌≡◌, ◌+◌, ◌*◌, ◌-◌, ◌^◌, suc, min, nat_lt, replicate, vec_len, IfOk};
+ghost use Rattle.std.specs.Prelude.{◌≡◌, ◌+◌, ◌*◌, ◌-◌, ◌^◌, suc, min, nat_lt, replicate, IfOk};
 ghost use Rattle.sml_objects.specs.Objects as O;
 ghost use Rattle.sml_objects.specs.Objects.{types_of};
 ghost use Rattle.sml_objects.specs.Sizes.{type_size, types_size};
 ghost use Rattle.sml_objects.specs.Types.{applied};
 ghost use Rattle.sml_objects.specs.Fates.{seen_type};
 ghost use Rattle.sml_objects.specs.Views.{scheme_of, type_of};
-ghost use Rattle.sml_type_maps.specs.Counted.{HasAddedAbove, HasAddedType, HasNodes, IsCountOf, size_or_one};
+ghost use Rattle.sml_type_maps.specs.Counted.{HasAddedAbove, HasAddedType, HasNodes, size_or_one};
 ghost use Rattle.sml_type_maps.specs.Mapped.{mapped, all_mapped, seen};
 
 use crate::mapping::{Image, Mapping};
@@ -36,15 +36,6 @@ impl Count {
         let mut uses = Vec::new(alloc);
         uses.resize(variables, 0)?;
         Ok(Count { nodes: 0, uses })
-    }
-
-    /// The count of the body of a type function, in which its variables are counted by themselves.
-    pub fn of_function(alloc: Global, function: &Scheme) -> Result<Count, Memory>
-        ensures { IfOk result (λ c. IsCountOf (vec_len function.now.variables) (type_of function.now.body.value) c) }
-    {
-        let mut count = Count::new(alloc, function.variables.len())?;
-        count.add_type(1, &function.body);
-        Ok(count)
     }
 
     /// Whether there are more nodes than a scheme may have.

@@ -5,3 +5,6 @@ mod Unknowns
 mod Numbered
 mod Listing
 mod RowLabels
+mod Admitting
+mod Arguments
+mod Meanings

@@ -1,4 +1,5 @@
 pub mod Answered
 pub mod Losses
+pub mod Meant
 pub mod Rows
 pub mod Variables

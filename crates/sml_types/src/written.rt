@@ -1,6 +1,16 @@
 //! What type expressions mean, as they are written. A type function stands beside its arguments, so that the type which it
 //! gives for them is made only where it is asked for, and how large that is is known before.
 
+ghost use Rattle.std.specs.Prelude.{◌≡◌, ℕ, IfOk, drop, false, map};
+ghost use Rattle.sml_core_rules.specs.Values.{has_unknown};
+ghost use Rattle.sml_objects.specs.Equality.{admits_by, has_equality as with_equality, is_ref};
+ghost use Rattle.sml_objects.specs.Initial.{naming};
+ghost use Rattle.sml_objects.specs.Objects as O;
+ghost use Rattle.sml_objects.specs.Types.{applied, argument, instance_from};
+ghost use Rattle.sml_objects.specs.Views.{scheme_of, type_of};
+ghost use Rattle.sml_type_maps.specs.Functions.{admits_where, all_admit_where, by_attributes};
+ghost use Rattle.sml_types.specs.Meant.{all_meant, meant};
+
 use crate::rows::{arrow, boxed, number_of, tuple_of};
 use sml_lex::fault::Memory;
 use sml_objects::applications::apply;
@@ -30,19 +40,25 @@ pub enum Written {
 
 /// Something written that is shared. Out of line, so that the frames of a recursion have no room for it.
 #[inline(never)]
-pub(crate) fn shared(alloc: Global, written: Written) -> Result<Rc<Written>, Memory> {
+pub(crate) fn shared(alloc: Global, written: Written) -> Result<Rc<Written>, Memory>
+    ensures { IfOk result (λ w. w.value ≡ written) }
+{
     Ok(Rc::new(alloc, written)?)
 }
 
 /// The row of these, labelled from 1 on.
-pub(crate) fn written_tuple(alloc: Global, parts: Vec<Rc<Written>>) -> Result<Rc<Written>, Memory> {
+pub(crate) fn written_tuple(alloc: Global, parts: Vec<Rc<Written>>) -> Result<Rc<Written>, Memory>
+    ensures { IfOk result (λ w. meant w.value ≡ O.tuple_of (all_meant parts.items)) }
+{
     let labels = Labels::numbered(alloc, parts.len())?;
     let labels = Rc::new(alloc, labels)?;
     shared(alloc, Written::Row(labels, parts))
 }
 
 /// The same, made where it isn't larger than a scheme may be.
-pub(crate) fn made_if_small(alloc: Global, written: Rc<Written>) -> Result<Rc<Written>, Memory> {
+pub(crate) fn made_if_small(alloc: Global, written: Rc<Written>) -> Result<Rc<Written>, Memory>
+    ensures { IfOk result (λ w. meant w.value ≡ meant written.value) }
+{
     if written.is_large(alloc, 0)? {
         return Ok(written);
     }
@@ -60,13 +76,19 @@ impl Written {
     }
 
     /// Whether the type admits equality where its bound variables do by these attributes. Nothing is made.
-    pub fn admits_equality(&self, alloc: Global, attributes: &[bool]) -> Result<bool, Memory> {
+    pub fn admits_equality(&self, alloc: Global, attributes: &[bool]) -> Result<bool, Memory>
+        ensures given { IfOk result (λ b. b ≡ admits_where (by_attributes attributes.now) (meant self.now)) }
+        ensures known { has_unknown (meant self.now) ≡ false
+            → IfOk result (λ b. b ≡ admits_by (is_ref naming) (by_attributes attributes.now) (with_equality naming) (instance_from 0 (meant self.now))) }
+    {
         admits(alloc, self, attributes)
     }
 
-    /// The type. Of the arguments of a type function those are made that its body mentions, each once; so where the type
-    /// isn't larger than a scheme may be, nothing that is made is.
-    pub fn make(&self, alloc: Global) -> Result<Rc<MlType>, Memory> {
+    /// The type. Of the arguments of a type function those are made that its body mentions, each once, and all where it is
+    /// larger than a scheme may be; so where the type isn't larger than that, nothing that is made is.
+    pub fn make(&self, alloc: Global) -> Result<Rc<MlType>, Memory>
+        ensures { IfOk result (λ t. type_of t.value ≡ meant self.now) }
+    {
         made(alloc, self)
     }
 }
@@ -89,7 +111,8 @@ fn add(alloc: Global, count: &mut Count, times: u32, written: &Written) -> Resul
             add(alloc, count, times, to)
         }
         Written::Applied(function, arguments) => {
-            let body = Count::of_function(alloc, function)?;
+            let mut body = Count::new(alloc, arguments.len())?;
+            body.add_type(1, &function.body);
             add_applied(alloc, count, times, &body, arguments)
         }
         Written::Side(side, arguments) => {
@@ -136,7 +159,9 @@ fn add_applied(
 }
 
 #[cycle(admits)]
-fn admits(alloc: Global, written: &Written, attributes: &[bool]) -> Result<bool, Memory> {
+fn admits(alloc: Global, written: &Written, attributes: &[bool]) -> Result<bool, Memory>
+    ensures { IfOk result (λ b. b ≡ admits_where (by_attributes attributes.now) (meant written.now)) }
+{
     match written {
         Written::Made(ty) => Ok(admits_equality_under(ty, attributes)),
         Written::Row(_, parts) => all_admit(alloc, parts, attributes),
@@ -163,7 +188,9 @@ fn admits(alloc: Global, written: &Written, attributes: &[bool]) -> Result<bool,
 
 #[cycle(admits)]
 #[inline(never)]
-fn all_admit(alloc: Global, parts: &[Rc<Written>], attributes: &[bool]) -> Result<bool, Memory> {
+fn all_admit(alloc: Global, parts: &[Rc<Written>], attributes: &[bool]) -> Result<bool, Memory>
+    ensures { IfOk result (λ b. b ≡ all_admit_where (by_attributes attributes.now) (all_meant parts.now)) }
+{
     for part in parts {
         if !admits(alloc, part, attributes)? {
             return Ok(false);
@@ -172,23 +199,39 @@ fn all_admit(alloc: Global, parts: &[Rc<Written>], attributes: &[bool]) -> Resul
     Ok(true)
 }
 
-/// Whether each of these admits equality.
+/// Whether each of these admits equality. Variables past them keep their attributes.
 #[cycle(admits)]
 #[inline(never)]
 fn each_admits(
     alloc: Global,
     parts: &[Rc<Written>],
     attributes: &[bool],
-) -> Result<Vec<bool>, Memory> {
+) -> Result<Vec<bool>, Memory>
+    ensures { IfOk result (λ bs. (k : ℕ) → by_attributes bs.items k ≡ admits_where (by_attributes attributes.now) (argument (all_meant parts.now) k)) }
+{
     let mut all = Vec::new(alloc);
     for part in parts {
         all.push(admits(alloc, part, attributes)?)?;
     }
+    all.extend_from_slice(after(attributes, parts.len()))?;
     Ok(all)
 }
 
+/// The attributes after so many.
+fn after(attributes: &[bool], count: usize) -> &[bool]
+    ensures { result.now ≡ drop count attributes.now }
+{
+    if count <= attributes.len() {
+        &attributes[count..]
+    } else {
+        &[]
+    }
+}
+
 #[cycle(made)]
-fn made(alloc: Global, written: &Written) -> Result<Rc<MlType>, Memory> {
+fn made(alloc: Global, written: &Written) -> Result<Rc<MlType>, Memory>
+    ensures { IfOk result (λ t. type_of t.value ≡ meant written.now) }
+{
     match written {
         Written::Made(ty) => Ok(ty.clone()?),
         Written::Row(labels, parts) => {
@@ -214,7 +257,9 @@ fn made(alloc: Global, written: &Written) -> Result<Rc<MlType>, Memory> {
 
 #[cycle(made)]
 #[inline(never)]
-fn all_made(alloc: Global, parts: &[Rc<Written>]) -> Result<Vec<Rc<MlType>>, Memory> {
+fn all_made(alloc: Global, parts: &[Rc<Written>]) -> Result<Vec<Rc<MlType>>, Memory>
+    ensures { IfOk result (λ ts. map (λ t. type_of t.value) ts.items ≡ map (λ w. meant w.value) parts.now) }
+{
     let mut types = Vec::new(alloc);
     for part in parts {
         types.push(made(alloc, part)?)?;
@@ -225,7 +270,9 @@ fn all_made(alloc: Global, parts: &[Rc<Written>]) -> Result<Vec<Rc<MlType>>, Mem
 /// The type function that a right side with so many variables is.
 #[cycle(made)]
 #[inline(never)]
-fn function_of_side(alloc: Global, side: &Written, variables: usize) -> Result<Scheme, Memory> {
+fn function_of_side(alloc: Global, side: &Written, variables: usize) -> Result<Scheme, Memory>
+    ensures { IfOk result (λ s. type_of s.body.value ≡ meant side.now) }
+{
     let body = made(alloc, side)?;
     let mut attributes = Vec::new(alloc);
     attributes.resize(variables, false)?;
@@ -236,22 +283,30 @@ fn function_of_side(alloc: Global, side: &Written, variables: usize) -> Result<S
 }
 
 /// What a type function gives for these. In the place of those that its body doesn't mention stands the row with no field.
+/// Where the body is larger than a scheme may be, its variables aren't counted, and all are made.
 #[cycle(made)]
 #[inline(never)]
 fn made_applied(
     alloc: Global,
     function: &Scheme,
     arguments: &[Rc<Written>],
-) -> Result<Rc<MlType>, Memory> {
-    let body = Count::of_function(alloc, function)?;
+) -> Result<Rc<MlType>, Memory>
+    ensures { IfOk result (λ t. type_of t.value ≡ applied (scheme_of function.now) (all_meant arguments.now)) }
+{
+    let mut body = Count::new(alloc, arguments.len())?;
+    body.add_type(1, &function.body);
+    if body.is_large() {
+        let types = all_made(alloc, arguments)?;
+        return apply(alloc, function, &types);
+    }
     let unit = tuple_of(alloc, Vec::new(alloc))?;
     let mut types = Vec::new(alloc);
     for (argument, uses) in arguments.iter().zip(&body.uses) {
-        types.push(if *uses > 0 {
-            made(alloc, argument)?
+        if *uses > 0 {
+            types.push(made(alloc, argument)?)?;
         } else {
-            unit.clone()?
-        })?;
+            types.push(unit.clone()?)?;
+        }
     }
     apply(alloc, function, &types)
 }

@@ -67,6 +67,10 @@ impl Explicit {
 impl TypeVariables for Explicit {
     ghost says = { λ e vs. (x : Id) → lookup x vs ≡ option_map O.free (place_in e.unknowns.entries x) };
 
+    ghost stays = { λ e vs. (x : Id) → lookup x vs ≡ option_map O.free (place_in e.unknowns.entries x) };
+
+    ghost notes = { λ _ _ _. Unit {0} };
+
     fn variable(
         &mut self,
         alloc: Global,

@@ -1,6 +1,6 @@
 //! What is bound in the scopes that are open, over a basis. To leave a scope goes back over what was bound in it.
 
-ghost use Rattle.std.specs.Prelude.{◌≡◌, [], ◌∷◌, false, OnOk};
+ghost use Rattle.std.specs.Prelude.{◌≡◌, [], ◌∷◌, None, false, OnOk};
 ghost use Rattle.std.specs.Option.{option_map};
 ghost use Rattle.sml_tree.specs.Views.{ident_of};
 ghost use Rattle.sml_objects.specs.Initial.{Name};
@@ -16,6 +16,7 @@ use sml_bases::objects::{Basis, Env, TypeStr, Value};
 use sml_lex::fault::Memory;
 use sml_tree::bare::Ident;
 use sml_types::scope::Scope;
+use sml_types::sides::RightSide;
 use std::alloc::Global;
 use std::rc::Rc;
 
@@ -147,6 +148,8 @@ impl Scope for Scopes<'_> {
 
     ghost says_type = { λ s x o. o ≡ type_in s x };
 
+    ghost says_side = { λ _ _ o. o ≡ None };
+
     fn structure(&self, name: &Ident) -> Option<&Rc<Env>> {
         match self.structures.find(&self.opened, name) {
             Some(found) => Some(found),
@@ -159,5 +162,9 @@ impl Scope for Scopes<'_> {
             Some(found) => Some(found),
             None => self.basis.type_str(name),
         }
+    }
+
+    fn right_side(&self, _name: &Ident) -> Option<&RightSide> {
+        None
     }
 }

@@ -1,6 +1,6 @@
 //! What specifications see: those before them in each `sig .. end` around them, and then the scopes that are open.
 
-ghost use Rattle.std.specs.Prelude.{◌≡◌};
+ghost use Rattle.std.specs.Prelude.{◌≡◌, None};
 ghost use Rattle.sml_objects.specs.Maps.{lookup};
 ghost use Rattle.sml_core_rules.specs.Objects.{find_structure, structures, types};
 ghost use Rattle.sml_bases.specs.Views.{env_of};
@@ -11,6 +11,7 @@ use sml_bases::objects::{Env, TypeStr};
 use sml_scopes::scopes::Scopes;
 use sml_tree::bare::Ident;
 use sml_types::scope::Scope;
+use sml_types::sides::RightSide;
 use std::rc::Rc;
 
 /// Specifications over the scopes that are open.
@@ -27,6 +28,8 @@ impl Scope for Layers<'_, '_> {
 
     ghost says_type = { λ _ _ _. Unit {0} };
 
+    ghost says_side = { λ _ _ o. o ≡ None };
+
     fn structure(&self, name: &Ident) -> Option<&Rc<Env>> {
         match found_in(self.inner, name) {
             Some(found) => Some(found),
@@ -39,6 +42,10 @@ impl Scope for Layers<'_, '_> {
             Some(found) => Some(found),
             None => self.outer.type_str(name),
         }
+    }
+
+    fn right_side(&self, _name: &Ident) -> Option<&RightSide> {
+        None
     }
 }
 
@@ -63,11 +70,17 @@ impl Scope for Inside<'_> {
 
     ghost says_type = { λ s x o. o ≡ lookup x (types (env_of s.env.now)) };
 
+    ghost says_side = { λ _ _ o. o ≡ None };
+
     fn structure(&self, name: &Ident) -> Option<&Rc<Env>> {
         self.env.structures.get(name)
     }
 
     fn type_str(&self, name: &Ident) -> Option<&TypeStr> {
         self.env.types.get(name)
+    }
+
+    fn right_side(&self, _name: &Ident) -> Option<&RightSide> {
+        None
     }
 }

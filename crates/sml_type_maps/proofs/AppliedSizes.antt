@@ -1,5 +1,5 @@
 -- The sizes of types that type functions give, and what was added to counts of all nodes.
-use Rattle.std.proofs.Common.{inl, inr, ◌⊎◌, ◌≡◌, ◌≤◌, ◌<◌, ℕ, zero, suc, ◌+◌, ◌*◌, min, cond, nat_eq, nat_lt, List, [], ◌∷◌, ◌++◌, length, map, take, get_or, replicate, Global, refl, ap, ◌∙◌, sym, subst, arith, Result, Ok, Err, IfOk, Option, Some, None, vec_len, slice_index}
+use Rattle.std.proofs.Common.{inl, inr, ◌⊎◌, ◌≡◌, ◌≤◌, ◌<◌, ℕ, zero, suc, ◌+◌, ◌*◌, min, cond, nat_eq, nat_lt, List, [], ◌∷◌, ◌++◌, length, map, take, get_or, replicate, Global, refl, ap, ◌∙◌, sym, subst, arith, Result, Ok, Err, IfOk, Option, Some, None, vec_len}
 use Rattle.std.proofs.lemmas.Grind.{take_at_read}
 use Rattle.std.proofs.lemmas.Bool.Decides.{nat_tests, leb_tells}
 use Rattle.std.proofs.lemmas.List.{map-append, get_or-replicate, length-replicate, length-map, length-take, take_all}
@@ -18,7 +18,7 @@ use Rattle.sml_type_maps.specs.declared.mapping.Image.{Image}
 use Rattle.sml_type_maps.specs.declared.mapping.Image.TheVariants.{Same, Name as Other}
 use Rattle.sml_type_maps.specs.Mapped.{mapped, all_mapped, image_of, seen}
 use Rattle.sml_type_maps.specs.declared.sizes.Count.{Count}
-use Rattle.sml_type_maps.specs.Counted.{HasAddedType, HasNodes, SameNodes, SameUses, nodes_past, all_nodes_past, size_or_one, uses_in, uses_in_all}
+use Rattle.sml_type_maps.specs.Counted.{HasAddedType, HasNodes, IsCountOf, SameNodes, nodes_past, all_nodes_past, size_or_one, uses_in, uses_in_all}
 use Rattle.sml_type_maps.proofs.Counts.{is-first, is-past}
 
 -- the sum of the sizes of these types, each as often as the function of its place says
@@ -91,7 +91,7 @@ module _ (ts : List (O.MlType Name)) where
 mutual
   unfolding type_size types_size nodes_past all_nodes_past
 
-  past-none : (t : O.MlType Name) → nodes_past 0 t ≡ type_size t
+  pub past-none : (t : O.MlType Name) → nodes_past 0 t ≡ type_size t
   past-none (O.bound k) = is-past k 0 0 1 (omega arith)
   past-none (O.free v) = refl
   past-none (O.app h ts) = ap suc (all-past-none ts)
@@ -112,10 +112,10 @@ size-or-one (Some v) t u h e = ap type_size e
 
 -- numbers that are the same up to a limit
 
-alike : (limit m n : ℕ) → min m limit ≡ min n limit → (m ≡ n) ⊎ ((limit ≤ m) × (limit ≤ n))
+pub alike : (limit m n : ℕ) → min m limit ≡ min n limit → (m ≡ n) ⊎ ((limit ≤ m) × (limit ≤ n))
 alike limit m n h = elim (leb_tells limit m) [ inl e ↦ inr (omega (arith, e.1), omega (arith, e.1)) | inr e ↦ inl (omega (arith, e.1)) ]
 
-scaled : (t m n : ℕ) → SameNodes m n → SameNodes (t * m) (t * n)
+pub scaled : (t m n : ℕ) → SameNodes m n → SameNodes (t * m) (t * n)
 scaled zero m n h = omega arith
 scaled (suc t) m n h =
     elim (alike 10001 m n h) [
@@ -236,12 +236,6 @@ module _ (b f : ℕ → O.MlType Name) (n : Name → O.MlTypes Name → O.MlType
       ap seen more ∙ map-append (λ (t : Rc MlType Global). type_of t.value) ts (t ∷ []) ∙ ap (λ x. seen ts ++ (x ∷ [])) (sym is) in
       nodes-then x y z _ _ _ one other
       (ap (λ l. times * suc (types_size (all_mapped b f n (types_of l)))) pushed ∙ ap (λ s. times * suc s) (push-size (seen ts) u) ∙ omega arith)
-
--- That a count is of a type, whose first n bound variables are counted by themselves.
-pub record IsCountOf (n : ℕ) (t : O.MlType Name) (c : Count) : Type 0 where
-  pub variables : vec_len c.uses ≡ n
-  pub nodes : SameNodes c.nodes (nodes_past n t)
-  pub each : c.nodes ≤ 10000 → (k : ℕ) → k < n → SameUses (slice_index c.uses.items k) (uses_in t k)
 
 -- a count of a body from nothing
 pub counted : (n : ℕ) (a b : Count) (t u : O.MlType Name) → t ≡ u → a.nodes ≡ 0 → a.uses.items ≡ replicate n 0 → HasAddedType a b 1 t → IsCountOf n u b

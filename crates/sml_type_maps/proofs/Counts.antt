@@ -95,17 +95,21 @@ unfolding uses_in_all
 uses-push k [] t = omega arith
 uses-push k (u ∷ ts) t = omega (arith, uses-push k ts t)
 
+-- one more of the types
+pub more-added : (a b c : Count) (times : ℕ) (ts us : List (O.MlType Name)) (u : O.MlType Name) → us ≡ ts ++ (u ∷ [])
+    → HasAddedAbove a b times (types_of ts) → HasAddedType b c times u → HasAddedAbove a c times (types_of us)
+more-added a b c times ts us u more one other =
+    subst (λ l. HasAddedAbove a c times (types_of l)) (sym more)
+    (and-type a b c times u _ _ _ _ one other
+    (ap (λ x. times * suc x) (nodes-push (vec_len a.uses) ts u) ∙ omega arith)
+    (λ i. ap (λ x. times * x) (uses-push i ts u) ∙ omega arith))
+
 pub push-added : (a b c : Count) (times : ℕ) (ts us : List (Rc MlType Global)) (t : Rc MlType Global) (u : O.MlType Name)
     → us ≡ ts ++ (t ∷ []) → u ≡ type_of t.value → HasAddedAbove a b times (types_of (seen ts)) → HasAddedType b c times u
     → HasAddedAbove a c times (types_of (seen us))
-push-added a b c times ts us t u more is one other =
-    let pushed : seen us ≡ seen ts ++ (u ∷ []) =
-    ap seen more ∙ map-append (λ (t : Rc MlType Global). type_of t.value) ts (t ∷ []) ∙ ap (λ x. seen ts ++ (x ∷ [])) (sym is) in
-    let n = vec_len a.uses in
-    subst (λ l. HasAddedAbove a c times (types_of l)) (sym pushed)
-    (and-type a b c times u _ _ _ _ one other
-    (ap (λ x. times * suc x) (nodes-push n (seen ts) u) ∙ omega arith)
-    (λ i. ap (λ x. times * x) (uses-push i (seen ts) u) ∙ omega arith))
+push-added a b c times ts us t u more is =
+    more-added a b c times (seen ts) (seen us) u
+    (ap seen more ∙ map-append (λ (t : Rc MlType Global). type_of t.value) ts (t ∷ []) ∙ ap (λ x. seen ts ++ (x ∷ [])) (sym is))
 
 -- a variable that is counted by itself, and one that isn't
 

@@ -1,6 +1,8 @@
 pub mod AppliedSizes
-mod Counts
+pub mod Arities
+pub mod Counts
 pub mod FunctionViews
 pub mod Listed
 pub mod Orders
 mod TypeMaps
+pub mod Replacing

@@ -54,6 +54,19 @@ HasAddedType old new times t = HasAdded old new (times * nodes_past (vec_len old
 abbrev pub HasAddedAbove : Count → Count → ℕ → MlTypes Name → Type 0
 HasAddedAbove old new times ts = HasAdded old new (times * suc (all_nodes_past (vec_len old.uses) ts)) (λ k. times * uses_in_all ts k)
 
+-- That a count is of a type, whose first n bound variables are counted by themselves.
+pub record IsCountOf (n : ℕ) (t : MlType Name) (c : Count) : Type 0 where
+  pub variables : vec_len c.uses ≡ n
+  pub nodes : SameNodes c.nodes (nodes_past n t)
+  pub each : c.nodes ≤ 10000 → (k : ℕ) → k < n → SameUses (slice_index c.uses.items k) (uses_in t k)
+
+-- That a count is of a body for so many arguments, where so many variables around it are counted by themselves. The count has
+-- the variables that stand for the arguments, and of the others those that stand in the body.
+pub record IsBodyFor (arguments around : ℕ) (t : MlType Name) (c : Count) : Type 0 where
+  pub is : IsCountOf (vec_len c.uses) t c
+  pub first : arguments ≤ vec_len c.uses
+  pub others : (k : ℕ) → vec_len c.uses ≤ k → k < around → uses_in t k ≡ 0
+
 -- That so many nodes were added to a count of all nodes, in which no variable is counted by itself.
 abbrev pub HasNodes : Count → Count → ℕ → Type 0
 HasNodes old new more = vec_len old.uses ≡ 0 → (vec_len new.uses ≡ 0) × SameNodes new.nodes (old.nodes + more)

@@ -1,5 +1,5 @@
--- Types that admit equality (the Definition, section 4.4), over the names of a run.
-use Rattle.std.specs.Prelude.{ℕ, Bool, true, false, ◌&&◌, ◌||◌, slice_index_or, List, Option, None, Some}
+-- Types that admit equality (the Definition, section 4.4), over the names of a run, and how many variables type functions need.
+use Rattle.std.specs.Prelude.{ℕ, suc, max, Bool, true, false, ◌&&◌, ◌||◌, slice_index_or, List, Option, None, Some}
 use denote.Ref.{Bor}
 use Rattle.sml_objects.specs.Initial.{Name, attributes_of}
 use Rattle.sml_objects.specs.Equality.{is_reference_name}
@@ -28,3 +28,14 @@ by_attributes qs k = slice_index_or qs k false
 abbrev pub by_given : Option (Bor (List Bool)) → ℕ → Bool
 by_given None k = true
 by_given (Some qs) k = by_attributes qs.now k
+
+unfoldable mutual
+  -- the least number of variables of a type function with this body
+  pub arity_needed : {N : Type 0} → MlType N → ℕ
+  arity_needed (bound k) = suc k
+  arity_needed (free v) = 0
+  arity_needed (app h ts) = arity_needed_all ts
+
+  pub arity_needed_all : {N : Type 0} → MlTypes N → ℕ
+  arity_needed_all no_type = 0
+  arity_needed_all (and_type t ts) = max (arity_needed t) (arity_needed_all ts)

@@ -10,7 +10,7 @@ ghost use Rattle.sml_objects.specs.Types.{instance_from};
 ghost use Rattle.sml_objects.specs.Views as V;
 ghost use Rattle.sml_objects.specs.Views.{scheme_of, type_of};
 ghost use Rattle.sml_core_rules.specs.Functions.{are_parameters, name_of as named_by};
-ghost use Rattle.sml_type_maps.specs.Functions.{admits_where, all_admit_where, by_attributes, by_given};
+ghost use Rattle.sml_type_maps.specs.Functions.{admits_where, all_admit_where, arity_needed, arity_needed_all, by_attributes, by_given};
 ghost use Rattle.sml_type_maps.specs.Mapped.{seen};
 
 use sml_objects::equality::{has_equality, is_reference};
@@ -105,4 +105,28 @@ fn all_admit(parts: &[Rc<MlType>], attributes: Option<&[bool]>) -> bool
         }
     }
     true
+}
+
+/// The least number of variables that a type function with this body has.
+#[cycle(arity)]
+pub fn least_arity(body: &MlType) -> usize
+    ensures { result ≡ arity_needed (type_of body.now) }
+{
+    match body {
+        MlType::Bound(variable) => *variable as usize + 1,
+        MlType::Free(_) => 0,
+        MlType::Row(_, parts) | MlType::Name(_, parts) => greatest_arity(parts),
+        MlType::Arrow(from, to) => least_arity(from).max(least_arity(to)),
+    }
+}
+
+#[cycle(arity)]
+fn greatest_arity(parts: &[Rc<MlType>]) -> usize
+    ensures { result ≡ arity_needed_all (types_of (seen parts.now)) }
+{
+    let mut arity: usize = 0;
+    for part in parts {
+        arity = arity.max(least_arity(part));
+    }
+    arity
 }

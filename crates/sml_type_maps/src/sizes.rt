@@ -85,7 +85,8 @@ impl Count {
         }
     }
 
-    fn add_bound(&mut self, times: u32, variable: u32)
+    /// Adds a bound variable so many times.
+    pub fn add_bound(&mut self, times: u32, variable: u32)
         ensures { HasAddedType self.old self.new times (O.bound variable) }
     {
         match self.uses.get_mut(variable as usize) {

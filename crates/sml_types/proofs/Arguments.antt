@@ -12,9 +12,8 @@ use Rattle.sml_objects.specs.Types.{argument, replace_type}
 use Rattle.sml_objects.specs.Views.{type_of}
 use Rattle.sml_objects.specs.declared.objects.MlType.{MlType}
 use Rattle.sml_objects.proofs.TypeViews.{parts_of}
-use Rattle.sml_type_maps.specs.Counted.{uses_in}
+use Rattle.sml_type_maps.specs.Counted.{IsCountOf, uses_in}
 use Rattle.sml_type_maps.specs.declared.sizes.Count.{Count}
-use Rattle.sml_type_maps.proofs.AppliedSizes.{IsCountOf}
 use Rattle.sml_types.specs.Meant.{all_meant, meant}
 use Rattle.sml_types.specs.declared.written.Written.{Written}
 use Rattle.sml_types.proofs.Meanings.{AreAlike, alike-push, applied-alike, meanings}

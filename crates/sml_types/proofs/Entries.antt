@@ -18,10 +18,10 @@ use Rattle.sml_bases.proofs.EnvViews.{env_of-out, find-entries}
 abbrev stored-at : {A : Type 0} → Rc (Vec ℕ Global) Global → List (Rc (Vec ℕ Global) Global × A) → Option A
 stored-at k es = stored.lookup (is_at (λ x. order_of (ident_of k) (ident_of x))) es
 
--- type structures, in any map
-pub types-looked : (es : List (Rc (Vec ℕ Global) Global × TypeStr)) (k : Rc (Vec ℕ Global) Global) (r : Option (Bor TypeStr)) → option_copied r ≡ stored-at k es
-    → option_map (λ t. ty_str_of t.now) r ≡ lookup (ident_of k) (entries_of ty_str_of es)
-types-looked es k r h = map-copied ty_str_of r ∙ ap (option_map ty_str_of) h ∙ lookup-entries ty_str_of es k
+-- what a map has for an identifier
+pub looked : {A X : Type 0} (f : A → X) (es : List (Rc (Vec ℕ Global) Global × A)) (k : Rc (Vec ℕ Global) Global) (r : Option (Bor A)) → option_copied r ≡ stored-at k es
+    → option_map (λ a. f a.now) r ≡ lookup (ident_of k) (entries_of f es)
+looked f es k r h = map-copied f r ∙ ap (option_map f) h ∙ lookup-entries f es k
 
 pub structure-read : (e : Env) (k : Rc (Vec ℕ Global) Global) (r : Option (Bor (Rc Env Global))) → option_copied r ≡ stored-at k (out-Env e).structures.entries
     → option_map (λ s. env_of s.now.value) r ≡ find_structure (ident_of k) (structures (env_of e))
@@ -35,5 +35,5 @@ structure-read e k r h =
 pub type-read : (e : Env) (k : Rc (Vec ℕ Global) Global) (r : Option (Bor TypeStr)) → option_copied r ≡ stored-at k (out-Env e).types.entries
     → option_map (λ t. ty_str_of t.now) r ≡ lookup (ident_of k) (types (env_of e))
 type-read e k r h =
-    types-looked (out-Env e).types.entries k r h
+    looked ty_str_of (out-Env e).types.entries k r h
     ∙ ap (λ E. lookup (ident_of k) (types E)) (sym (env_of-out e))

@@ -8,3 +8,12 @@ mod RowLabels
 mod Admitting
 mod Arguments
 mod Meanings
+mod TyViews
+mod ReadLists
+mod Readings
+mod NamedFunctions
+mod RowFields
+mod Counting
+mod Instances
+mod UsedArguments
+mod SideArguments

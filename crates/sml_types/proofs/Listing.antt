@@ -1,5 +1,5 @@
 -- Variables by their places in a list, as a table has them.
-use Rattle.std.proofs.Common.{◌≡◌, ◌++◌, ◌+◌, ℕ, zero, suc, slice_get, Bool, true, false, cond, inl, inr, Option, Some, None, List, [], ◌∷◌, length, map, take, refl, ap, sym, ◌∙◌, arith, Vec, Global}
+use Rattle.std.proofs.Common.{◌≡◌, ◌++◌, ◌+◌, ℕ, zero, suc, slice_get, Bool, true, false, cond, inl, inr, Option, Some, None, List, [], ◌∷◌, length, map, refl, ap, sym, ◌∙◌, arith, Vec, Global}
 use Rattle.std.proofs.lemmas.Cmp.{nat_list_cmp_total}
 use Rattle.std.specs.Option.{is_some, option_map, option_or}
 use Rattle.std.specs.List.{list_any}

@@ -101,7 +101,7 @@ argument-alike d f j (t ∷ ts) [] a h = absurd a
 argument-alike d f zero (t ∷ ts) (u ∷ us) a h = elim a.0 [ inl e ↦ absurd (h e) | inr e ↦ e ]
 argument-alike d f (suc j) (t ∷ ts) (u ∷ us) a h = argument-alike d (λ k. f (suc k)) j ts us a.1 h
 
-itself-used : (j : ℕ) → ◌≡◌ {A = ℕ} (cond (nat_eq j j) 1 0) 0 → ⊥
+pub itself-used : (j : ℕ) → ◌≡◌ {A = ℕ} (cond (nat_eq j j) 1 0) 0 → ⊥
 itself-used j h = grind (arith, nat_tests)
 
 module _ (ts us : List (O.MlType Name)) where

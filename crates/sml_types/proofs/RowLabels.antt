@@ -1,5 +1,5 @@
 -- The labels of fields that stand in the order of their keys.
-use Rattle.std.proofs.Common.{◌≡◌, ℕ, List, [], ◌∷◌, length, map, refl, ap, ◌∙◌, sym, subst, Vec, Global, Result, Ok, Err, IfOk}
+use Rattle.std.proofs.Common.{◌≡◌, ℕ, List, [], ◌∷◌, map, ap, ◌∙◌, sym, subst, Vec, Global, Result, IfOk}
 use Rattle.std.specs.List.{AllByRecursion}
 use Rattle.std.specs.List.Sorted.{IsStrictlySortedBy}
 use Rattle.std.specs.Ordering.{nat_cmp, ordering_then}
@@ -9,9 +9,6 @@ use Rattle.std.specs.declared.rc.Rc.{Rc}
 use Rattle.sml_tree.specs.Views.{ident_of}
 use Rattle.sml_objects.specs.Labels.{AreRising, label_order, label_rank}
 use Rattle.sml_objects.specs.Maps.{order_of}
-use Rattle.sml_objects.specs.Initial.{Name}
-use Rattle.sml_objects.specs.Objects as O
-use Rattle.sml_objects.specs.Objects.{types_of}
 use Rattle.sml_objects.specs.Views as view
 use Rattle.sml_objects.specs.Views.{label_list, type_of}
 use Rattle.sml_objects.specs.declared.labels.Labels.{Labels}

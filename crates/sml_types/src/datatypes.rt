@@ -116,6 +116,8 @@ impl<S: Scope> Scope for Inner<'_, S> {
 
     ghost says_type = { λ i x o. there_or (lookup x (entries_of ty_str_of i.types.now.entries)) (S.says_type i.outer.now x) o };
 
+    ghost says_side = { λ i x o. o ≡ lookup x (entries_of (λ r. r) i.sides.now.entries) };
+
     fn structure(&self, name: &Ident) -> Option<&Rc<Env>> {
         self.outer.structure(name)
     }

@@ -1,6 +1,7 @@
 //! Why a phrase has no meaning.
 
-ghost use Rattle.std.specs.Prelude.{◌≡◌, Some, None};
+ghost use Rattle.std.specs.Prelude.{◌≡◌, IfOk, Some, None};
+ghost use Rattle.sml_lex.specs.Faults.{fault_of};
 ghost use Rattle.sml_types.specs.Answered.{IsFault};
 ghost use Rattle.sml_types.specs.declared.fault.CoreFault.TheVariants.{Memory};
 
@@ -50,7 +51,9 @@ pub fn plain_fault(code: Code, place: Place) -> CoreFault
 }
 
 /// A fault as it stands.
-pub(crate) fn again(alloc: Global, fault: &Fault) -> Result<CoreFault, Memory> {
+pub(crate) fn again(alloc: Global, fault: &Fault) -> Result<CoreFault, Memory>
+    ensures { IfOk result (λ f. IsFault f (fault_of fault.now)) }
+{
     match &fault.detail {
         None => Ok(plain_fault(fault.code, fault.place)),
         Some(text) => Ok(fault_about(

@@ -15,6 +15,7 @@ ghost use Rattle.sml_core_rules.specs.Objects.{find_structure, structures, types
 ghost use Rattle.sml_bases.specs.Views.{env_of, ty_str_of};
 ghost use Rattle.sml_bases.specs.Layers.{first_found, layers};
 ghost use Rattle.sml_types.specs.Answered.{IsAnswer, IsFault, IsFaultOf, LeadsTo, TellsOf, env_at};
+ghost use Rattle.sml_types.specs.declared.sides.RightSide.{RightSide as Side};
 
 use crate::fault::{CoreFault, fault_about};
 use crate::sides::RightSide;
@@ -31,6 +32,9 @@ pub trait Scope {
 
     ghost says_type: { Self → Id → Option (O.TyStr Name) → Type 0 };
 
+    // And which right side it stands for, or that it stands for none.
+    ghost says_side: { Self → Id → Option Side → Type 0 };
+
     /// The structure that an identifier means.
     fn structure(&self, name: &Ident) -> Option<&Rc<Env>>
         ensures { says_structure self.now (ident_of name.now) (option_map (λ s. env_of s.now.value) result) };
@@ -40,9 +44,8 @@ pub trait Scope {
         ensures { says_type self.now (ident_of name.now) (option_map (λ t. ty_str_of t.now) result) };
 
     /// The right side that a type constructor stands for, where it stands for one.
-    fn right_side(&self, _name: &Ident) -> Option<&RightSide> {
-        None
-    }
+    fn right_side(&self, name: &Ident) -> Option<&RightSide>
+        ensures { says_side self.now (ident_of name.now) (option_map (λ r. r.now) result) };
 }
 
 impl Scope for Basis {
@@ -50,12 +53,18 @@ impl Scope for Basis {
 
     ghost says_type = { λ b x o. o ≡ first_found (λ E. lookup x (types E)) (layers b) };
 
+    ghost says_side = { λ _ _ o. o ≡ None };
+
     fn structure(&self, name: &Ident) -> Option<&Rc<Env>> {
         Basis::structure(self, name)
     }
 
     fn type_str(&self, name: &Ident) -> Option<&TypeStr> {
         Basis::type_str(self, name)
+    }
+
+    fn right_side(&self, _name: &Ident) -> Option<&RightSide> {
+        None
     }
 }
 

@@ -1,8 +1,28 @@
 //! The types that type expressions mean (the Definition, section 4.10, rules 44 to 49).
 
-ghost use Rattle.std.specs.Prelude.{◌≡◌};
-ghost use Rattle.sml_tree.specs.TypeViews.{ty_of};
+ghost use Rattle.std.specs.Prelude.{◌≡◌, ◌++◌, ◌∷◌, [], List, None, Some, IfOk, length, map, slice_set};
+ghost use Rattle.std.specs.Option.{option_map};
+ghost use Rattle.sml_lex.specs.declared.fault.Place.{Place as P};
+ghost use Rattle.sml_tree.specs.Expressions.{TypBind};
+ghost use Rattle.sml_tree.specs.Trees.{Id};
+ghost use Rattle.sml_tree.specs.TypeViews.{long_name_of, names_of, ty_field_of, ty_fields_of, ty_of, tys_of};
+ghost use Rattle.sml_tree.specs.Types as T;
+ghost use Rattle.sml_tree.specs.Views.{ident_of, long_of};
+ghost use Rattle.sml_tree.specs.Withtype as W;
+ghost use Rattle.sml_tree.specs.Withtype.{all_replaced, fields_replaced, replaced as replaced_in, unlisted};
+ghost use Rattle.sml_objects.specs.Initial.{Name as TypeName};
+ghost use Rattle.sml_objects.specs.Maps.{Map, lookup};
+ghost use Rattle.sml_objects.specs.Objects as O;
+ghost use Rattle.sml_objects.specs.Views as view;
+ghost use Rattle.sml_core_rules.specs.Datatypes.{listed};
+ghost use Rattle.sml_core_rules.specs.Objects.{Env};
 ghost use Rattle.sml_core_rules.specs.Types as read;
+ghost use Rattle.sml_core_rules.specs.Types.{read_ty, read_tys};
+ghost use Rattle.sml_types.specs.Answered.{IsAnswer, TellsOf};
+ghost use Rattle.sml_types.specs.Meant.{all_meant, meant};
+ghost use Rattle.sml_types.specs.Reads.{IfAnswered, Supposing, application_answer};
+ghost use Rattle.sml_types.specs.Sides.{ArgumentsAnswer, HasSides, IsSide, IsSideOf, answers_of, asked, asked_in_all, asked_in_fields};
+ghost use Rattle.sml_types.specs.declared.sides.RightSide.{RightSide as Side};
 
 use crate::fault::{CoreFault, plain_fault};
 use crate::rows::{Labelled, label_key, parted};
@@ -42,7 +62,11 @@ pub fn type_of<S: Scope>(
     scope: &S,
     variables: &[Name],
     ty: &Ty,
-) -> Result<Rc<MlType>, CoreFault> {
+) -> Result<Rc<MlType>, CoreFault>
+    ensures { (C : Env TypeName) (bs : List (TypBind P)) → TellsOf (S.says_structure scope.now) (S.says_type scope.now) C → HasSides (S.says_side scope.now) C bs
+        → lookup unlisted (listed {N = TypeName} O.bound 0 (names_of variables.now)) ≡ None
+        → IsAnswer (λ t. view.type_of t.value) result (read_ty C (listed {N = TypeName} O.bound 0 (names_of variables.now)) (replaced_in bs (ty_of ty.now))) }
+{
     let mut listed = Listed::bound(alloc, variables)?;
     let written = written_type(alloc, scope, &mut listed, ty)?;
     Ok(written.make(alloc)?)
@@ -55,7 +79,14 @@ pub fn written_type<S: Scope, V: TypeVariables>(
     scope: &S,
     variables: &mut V,
     ty: &Ty,
-) -> Result<Rc<Written>, CoreFault> {
+) -> Result<Rc<Written>, CoreFault>
+    ensures answer { Supposing (S.says_structure scope.now) (S.says_type scope.now) (S.says_side scope.now) (V.says variables.new)
+        (λ C bs vs. IsAnswer (λ w. meant w.value) result (read_ty C vs (replaced_in bs (ty_of ty.now)))) }
+    ensures kept { (vs : Map (O.MlType TypeName)) → V.says variables.new vs → V.says variables.old vs }
+    ensures stays { (vs : Map (O.MlType TypeName)) → V.stays variables.old vs → V.stays variables.new vs }
+    ensures noted { Supposing (S.says_structure scope.now) (S.says_type scope.now) (S.says_side scope.now) (V.says variables.new)
+        (λ C bs vs. bs ≡ [] → (xs : List Id) → V.notes variables.old vs xs → IfAnswered result (V.notes variables.new vs (xs ++ asked C vs (replaced_in bs (ty_of ty.now))))) }
+{
     match ty {
         Ty::Variable(place, name) => variable_type(alloc, variables, *place, name),
         Ty::Row(_, fields) => row_type(alloc, scope, variables, fields),
@@ -80,7 +111,12 @@ fn variable_type<V: TypeVariables>(
     variables: &mut V,
     place: Place,
     name: &Ident,
-) -> Result<Rc<Written>, CoreFault> {
+) -> Result<Rc<Written>, CoreFault>
+    ensures answer { (vs : Map (O.MlType TypeName)) → V.says variables.new vs → IsAnswer (λ w. meant w.value) result (read.variable_type place (lookup (ident_of name.now) vs)) }
+    ensures kept { (vs : Map (O.MlType TypeName)) → V.says variables.new vs → V.says variables.old vs }
+    ensures stays { (vs : Map (O.MlType TypeName)) → V.stays variables.old vs → V.stays variables.new vs }
+    ensures noted { (vs : Map (O.MlType TypeName)) (xs : List Id) → V.notes variables.old vs xs → IfAnswered result (V.notes variables.new vs (xs ++ ident_of name.now ∷ [])) }
+{
     let ty = variables.variable(alloc, place, name)?;
     Ok(shared(alloc, Written::Made(ty))?)
 }
@@ -92,7 +128,14 @@ fn types_of<S: Scope, V: TypeVariables>(
     scope: &S,
     variables: &mut V,
     tys: &[Ty],
-) -> Result<Vec<Rc<Written>>, CoreFault> {
+) -> Result<Vec<Rc<Written>>, CoreFault>
+    ensures answer { Supposing (S.says_structure scope.now) (S.says_type scope.now) (S.says_side scope.now) (V.says variables.new)
+        (λ C bs vs. IsAnswer (λ ws. all_meant ws.items) result (read_tys C vs (all_replaced bs (tys_of (map ty_of tys.now))))) }
+    ensures kept { (vs : Map (O.MlType TypeName)) → V.says variables.new vs → V.says variables.old vs }
+    ensures stays { (vs : Map (O.MlType TypeName)) → V.stays variables.old vs → V.stays variables.new vs }
+    ensures noted { Supposing (S.says_structure scope.now) (S.says_type scope.now) (S.says_side scope.now) (V.says variables.new)
+        (λ C bs vs. bs ≡ [] → (xs : List Id) → V.notes variables.old vs xs → IfAnswered result (V.notes variables.new vs (xs ++ asked_in_all C vs (all_replaced bs (tys_of (map ty_of tys.now)))))) }
+{
     let mut types = Vec::new(alloc);
     for ty in tys {
         types.push(written_type(alloc, scope, variables, ty)?)?;
@@ -107,7 +150,14 @@ fn row_type<S: Scope, V: TypeVariables>(
     scope: &S,
     variables: &mut V,
     fields: &[TyField],
-) -> Result<Rc<Written>, CoreFault> {
+) -> Result<Rc<Written>, CoreFault>
+    ensures answer { Supposing (S.says_structure scope.now) (S.says_type scope.now) (S.says_side scope.now) (V.says variables.new)
+        (λ C bs vs. (p : P) → IsAnswer (λ w. meant w.value) result (read_ty C vs (T.ty_row p (fields_replaced bs (ty_fields_of (map ty_field_of fields.now)))))) }
+    ensures kept { (vs : Map (O.MlType TypeName)) → V.says variables.new vs → V.says variables.old vs }
+    ensures stays { (vs : Map (O.MlType TypeName)) → V.stays variables.old vs → V.stays variables.new vs }
+    ensures noted { Supposing (S.says_structure scope.now) (S.says_type scope.now) (S.says_side scope.now) (V.says variables.new)
+        (λ C bs vs. bs ≡ [] → (xs : List Id) → V.notes variables.old vs xs → IfAnswered result (V.notes variables.new vs (xs ++ asked_in_fields C vs (fields_replaced bs (ty_fields_of (map ty_field_of fields.now)))))) }
+{
     let mut row: Labelled<Rc<Written>> = BTreeMap::new(alloc);
     for field in fields {
         let ty = written_type(alloc, scope, variables, &field.ty)?;
@@ -125,7 +175,14 @@ fn applied<S: Scope, V: TypeVariables>(
     variables: &mut V,
     tys: &[Ty],
     long: &LongIdent,
-) -> Result<Rc<Written>, CoreFault> {
+) -> Result<Rc<Written>, CoreFault>
+    ensures answer { Supposing (S.says_structure scope.now) (S.says_type scope.now) (S.says_side scope.now) (V.says variables.new)
+        (λ C bs vs. IsAnswer (λ w. meant w.value) result (read_ty C vs (W.applied long.now.place (all_replaced bs (tys_of (map ty_of tys.now))) (long_name_of long.now) (W.binding (long_of long.now).path (long_of long.now).last bs)))) }
+    ensures kept { (vs : Map (O.MlType TypeName)) → V.says variables.new vs → V.says variables.old vs }
+    ensures stays { (vs : Map (O.MlType TypeName)) → V.stays variables.old vs → V.stays variables.new vs }
+    ensures noted { Supposing (S.says_structure scope.now) (S.says_type scope.now) (S.says_side scope.now) (V.says variables.new)
+        (λ C bs vs. bs ≡ [] → (xs : List Id) → V.notes variables.old vs xs → IfAnswered result (V.notes variables.new vs (xs ++ asked_in_all C vs (all_replaced bs (tys_of (map ty_of tys.now)))))) }
+{
     if let Some(side) = side_at(scope, long) {
         return replaced(alloc, scope, variables, tys, long, side);
     }
@@ -134,7 +191,9 @@ fn applied<S: Scope, V: TypeVariables>(
 }
 
 /// The right side that a type constructor stands for, where it stands for one; with a path it doesn't.
-fn side_at<'a, S: Scope>(scope: &'a S, long: &LongIdent) -> Option<&'a RightSide> {
+fn side_at<'a, S: Scope>(scope: &'a S, long: &LongIdent) -> Option<&'a RightSide>
+    ensures { (C : Env TypeName) (bs : List (TypBind P)) → HasSides (S.says_side scope.now) C bs → IsSideOf C (W.binding (long_of long.now).path (long_of long.now).last bs) (option_map (λ r. r.now) result) }
+{
     if long.path.is_empty() {
         scope.right_side(&long.last)
     } else {
@@ -152,23 +211,49 @@ fn replaced<S: Scope, V: TypeVariables>(
     tys: &[Ty],
     long: &LongIdent,
     side: &RightSide,
-) -> Result<Rc<Written>, CoreFault> {
+) -> Result<Rc<Written>, CoreFault>
+    ensures answer { Supposing (S.says_structure scope.now) (S.says_type scope.now) (S.says_side scope.now) (V.says variables.new)
+        (λ C bs vs. (b : TypBind P) → IsSide C b side.now → IsAnswer (λ w. meant w.value) result (read_ty C vs (W.applied long.now.place (all_replaced bs (tys_of (map ty_of tys.now))) (long_name_of long.now) (Some b)))) }
+    ensures kept { (vs : Map (O.MlType TypeName)) → V.says variables.new vs → V.says variables.old vs }
+    ensures stays { (vs : Map (O.MlType TypeName)) → V.stays variables.old vs → V.stays variables.new vs }
+{
     if tys.len() != side.arity {
         return misapplied(alloc, scope, variables, tys, long);
     }
+    let types = used_arguments(alloc, scope, variables, tys, &side.used)?;
+    side.with(alloc, types)
+}
+
+/// The arguments at these numbers, read in their order, and the row with no field in the place of the others.
+#[cycle(meaning)]
+#[inline(never)]
+fn used_arguments<S: Scope, V: TypeVariables>(
+    alloc: Global,
+    scope: &S,
+    variables: &mut V,
+    tys: &[Ty],
+    used: &[u32],
+) -> Result<Vec<Rc<Written>>, CoreFault>
+    ensures answer { Supposing (S.says_structure scope.now) (S.says_type scope.now) (S.says_side scope.now) (V.says variables.new)
+        (λ C bs vs. ArgumentsAnswer (answers_of C vs (all_replaced bs (tys_of (map ty_of tys.now)))) used.now result) }
+    ensures kept { (vs : Map (O.MlType TypeName)) → V.says variables.new vs → V.says variables.old vs }
+    ensures stays { (vs : Map (O.MlType TypeName)) → V.stays variables.old vs → V.stays variables.new vs }
+{
     let mut types = units(alloc, tys.len())?;
-    for index in &side.used {
-        let index = *index as usize;
+    for number in used {
+        let index = *number as usize;
         if index < tys.len() {
             let ty = written_type(alloc, scope, variables, &tys[index])?;
             put(&mut types, index, ty);
         }
     }
-    side.with(alloc, types)
+    Ok(types)
 }
 
 /// So many of the row with no field.
-fn units(alloc: Global, count: usize) -> Result<Vec<Rc<Written>>, Memory> {
+fn units(alloc: Global, count: usize) -> Result<Vec<Rc<Written>>, Memory>
+    ensures { IfOk result (λ ws. length ws.items ≡ count) }
+{
     let unit = written_tuple(alloc, Vec::new(alloc))?;
     let mut types = Vec::new(alloc);
     for _ in 0..count {
@@ -177,7 +262,9 @@ fn units(alloc: Global, count: usize) -> Result<Vec<Rc<Written>>, Memory> {
     Ok(types)
 }
 
-fn put(types: &mut [Rc<Written>], index: usize, ty: Rc<Written>) {
+fn put(types: &mut [Rc<Written>], index: usize, ty: Rc<Written>)
+    ensures { types.new ≡ slice_set types.old index ty }
+{
     if index < types.len() {
         types[index] = ty;
     }
@@ -189,7 +276,10 @@ fn application<S: Scope>(
     scope: &S,
     types: Vec<Rc<Written>>,
     long: &LongIdent,
-) -> Result<Rc<Written>, CoreFault> {
+) -> Result<Rc<Written>, CoreFault>
+    ensures { (C : Env TypeName) → TellsOf (S.says_structure scope.now) (S.says_type scope.now) C
+        → IsAnswer (λ w. meant w.value) result (application_answer C (long_name_of long.now) (all_meant types.items)) }
+{
     let found = type_at(alloc, scope, long)?;
     if found.function.variables.len() != types.len() {
         return Err(plain_fault(Code::E4, long.place));
@@ -209,7 +299,14 @@ fn misapplied<S: Scope, V: TypeVariables>(
     variables: &mut V,
     tys: &[Ty],
     long: &LongIdent,
-) -> Result<Rc<Written>, CoreFault> {
+) -> Result<Rc<Written>, CoreFault>
+    ensures answer { Supposing (S.says_structure scope.now) (S.says_type scope.now) (S.says_side scope.now) (V.says variables.new)
+        (λ C bs vs. IsAnswer (λ w. meant w.value) result (read_ty C vs (T.ty_misapplied long.now.place (all_replaced bs (tys_of (map ty_of tys.now))) (long_name_of long.now)))) }
+    ensures kept { (vs : Map (O.MlType TypeName)) → V.says variables.new vs → V.says variables.old vs }
+    ensures stays { (vs : Map (O.MlType TypeName)) → V.stays variables.old vs → V.stays variables.new vs }
+    ensures noted { Supposing (S.says_structure scope.now) (S.says_type scope.now) (S.says_side scope.now) (V.says variables.new)
+        (λ C bs vs. bs ≡ [] → (xs : List Id) → V.notes variables.old vs xs → IfAnswered result (V.notes variables.new vs (xs ++ asked_in_all C vs (all_replaced bs (tys_of (map ty_of tys.now)))))) }
+{
     types_of(alloc, scope, variables, tys)?;
     Err(plain_fault(Code::E4, long.place))
 }

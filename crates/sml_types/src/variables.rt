@@ -1,6 +1,6 @@
 //! What type variables stand for.
 
-ghost use Rattle.std.specs.Prelude.{◌≡◌, [], IfOk, None, OnOk, map, not};
+ghost use Rattle.std.specs.Prelude.{◌≡◌, ◌++◌, ◌∷◌, [], List, IfOk, None, OnOk, map, not};
 ghost use Rattle.sml_objects.specs.Initial as I;
 ghost use Rattle.sml_objects.specs.Maps.{Map, lookup};
 ghost use Rattle.sml_objects.specs.Objects as O;
@@ -15,6 +15,7 @@ ghost use Rattle.sml_tree.specs.Trees.{Id};
 ghost use Rattle.sml_tree.specs.TypeViews.{names_of};
 ghost use Rattle.sml_tree.specs.Views.{ident_of};
 ghost use Rattle.sml_types.specs.Answered.{IsAnswer};
+ghost use Rattle.sml_types.specs.Reads.{IfAnswered};
 ghost use Rattle.sml_types.specs.Variables.{AreCollected, AreListed, collected, place_from, place_in};
 
 use crate::fault::{CoreFault, plain_fault};
@@ -34,6 +35,12 @@ pub trait TypeVariables {
     // What may be said of the types that stand for variables, by those that were asked for.
     ghost says: { Self → Map (O.MlType I.Name) → Type 0 };
 
+    // What may be said of them for good.
+    ghost stays: { Self → Map (O.MlType I.Name) → Type 0 };
+
+    // What is kept of the variables that were asked for, in their order, where these types stand for variables.
+    ghost notes: { Self → Map (O.MlType I.Name) → List Id → Type 0 };
+
     /// The type that a variable stands for, or E8 where it stands for none. What may be said of variables then could be said
     /// before.
     fn variable(
@@ -43,7 +50,9 @@ pub trait TypeVariables {
         name: &Ident,
     ) -> Result<Rc<MlType>, CoreFault>
         ensures answer { (vs : Map (O.MlType I.Name)) → says self.new vs → IsAnswer (λ t. type_of t.value) result (variable_type place (lookup (ident_of name.now) vs)) }
-        ensures kept { (vs : Map (O.MlType I.Name)) → says self.new vs → says self.old vs };
+        ensures kept { (vs : Map (O.MlType I.Name)) → says self.new vs → says self.old vs }
+        ensures stays { (vs : Map (O.MlType I.Name)) → stays self.old vs → stays self.new vs }
+        ensures noted { (vs : Map (O.MlType I.Name)) (xs : List Id) → notes self.old vs xs → IfAnswered result (notes self.new vs (xs ++ ident_of name.now ∷ [])) };
 }
 
 /// Whether a type variable is one of equality types: it begins with two primes (the Definition, section 2.4).
@@ -85,6 +94,27 @@ impl Listed {
             are_bound: false,
         })
     }
+
+    /// The type that a variable stands for, or E8 where it stands for none.
+    pub(crate) fn at(
+        &self,
+        alloc: Global,
+        place: Place,
+        name: &Ident,
+    ) -> Result<Rc<MlType>, CoreFault>
+        ensures { (vs : Map (O.MlType I.Name)) → AreListed self.now vs → IsAnswer (λ t. type_of t.value) result (variable_type place (lookup (ident_of name.now) vs)) }
+    {
+        match self.places.get(name) {
+            Some(index) => {
+                if self.are_bound {
+                    Ok(boxed(alloc, MlType::Bound(*index))?)
+                } else {
+                    Ok(boxed(alloc, MlType::Free(*index))?)
+                }
+            }
+            None => Err(plain_fault(Code::E8, place)),
+        }
+    }
 }
 
 /// The place of each name, the first where it stands twice.
@@ -103,22 +133,17 @@ fn places_of(alloc: Global, names: &[Name]) -> Result<IndexMap<Ident, u32>, Memo
 impl TypeVariables for Listed {
     ghost says = { λ l vs. AreListed l vs };
 
+    ghost stays = { λ l vs. AreListed l vs };
+
+    ghost notes = { λ _ _ _. Unit {0} };
+
     fn variable(
         &mut self,
         alloc: Global,
         place: Place,
         name: &Ident,
     ) -> Result<Rc<MlType>, CoreFault> {
-        match self.places.get(name) {
-            Some(index) => {
-                if self.are_bound {
-                    Ok(boxed(alloc, MlType::Bound(*index))?)
-                } else {
-                    Ok(boxed(alloc, MlType::Free(*index))?)
-                }
-            }
-            None => Err(plain_fault(Code::E8, place)),
-        }
+        self.at(alloc, place, name)
     }
 }
 
@@ -153,6 +178,10 @@ impl Collected {
 impl TypeVariables for Collected {
     ghost says = { λ c vs. AreCollected c vs };
 
+    ghost stays = { λ _ _. Unit {0} };
+
+    ghost notes = { λ _ _ _. Unit {0} };
+
     fn variable(
         &mut self,
         alloc: Global,
@@ -170,6 +199,10 @@ pub struct NoVariables;
 
 impl TypeVariables for NoVariables {
     ghost says = { λ _ vs. (x : Id) → lookup x vs ≡ None };
+
+    ghost stays = { λ _ vs. (x : Id) → lookup x vs ≡ None };
+
+    ghost notes = { λ _ _ _. Unit {0} };
 
     fn variable(
         &mut self,

@@ -1,13 +1,15 @@
 //! What type expressions mean, as they are written. A type function stands beside its arguments, so that the type which it
 //! gives for them is made only where it is asked for, and how large that is is known before.
 
-ghost use Rattle.std.specs.Prelude.{◌≡◌, ℕ, IfOk, drop, false, map};
+ghost use Rattle.std.specs.Prelude.{◌≡◌, ◌≤◌, ◌<◌, ◌+◌, ℕ, IfOk, drop, false, length, map, nat_lt, vec_len};
 ghost use Rattle.sml_core_rules.specs.Values.{has_unknown};
 ghost use Rattle.sml_objects.specs.Equality.{admits_by, has_equality as with_equality, is_ref};
-ghost use Rattle.sml_objects.specs.Initial.{naming};
+ghost use Rattle.sml_objects.specs.Initial.{Name, naming};
 ghost use Rattle.sml_objects.specs.Objects as O;
-ghost use Rattle.sml_objects.specs.Types.{applied, argument, instance_from};
+ghost use Rattle.sml_objects.specs.Sizes.{type_size};
+ghost use Rattle.sml_objects.specs.Types.{applied, argument, instance_from, replace_type};
 ghost use Rattle.sml_objects.specs.Views.{scheme_of, type_of};
+ghost use Rattle.sml_type_maps.specs.Counted.{HasAddedAbove, HasAddedType, IsBodyFor, uses_in};
 ghost use Rattle.sml_type_maps.specs.Functions.{admits_where, all_admit_where, by_attributes};
 ghost use Rattle.sml_types.specs.Meant.{all_meant, meant};
 
@@ -17,7 +19,7 @@ use sml_objects::applications::apply;
 use sml_objects::equality::{has_equality, is_reference};
 use sml_objects::labels::Labels;
 use sml_objects::objects::{MlType, Scheme, TyName};
-use sml_type_maps::functions::admits_equality_under;
+use sml_type_maps::functions::{admits_equality_under, least_arity};
 use sml_type_maps::sizes::Count;
 use std::alloc::Global;
 use std::rc::Rc;
@@ -68,7 +70,9 @@ pub(crate) fn made_if_small(alloc: Global, written: Rc<Written>) -> Result<Rc<Wr
 
 impl Written {
     /// Whether the type has more nodes than a scheme may have, so many others beside it included. Nothing is made.
-    pub fn is_large(&self, alloc: Global, others: usize) -> Result<bool, Memory> {
+    pub fn is_large(&self, alloc: Global, others: usize) -> Result<bool, Memory>
+        ensures { IfOk result (λ b. b ≡ nat_lt 10000 (others + type_size (meant self.now))) }
+    {
         let mut count = Count::new(alloc, 0)?;
         count.add(number_of(others)?);
         add(alloc, &mut count, 1, self)?;
@@ -93,9 +97,11 @@ impl Written {
     }
 }
 
-/// Adds the nodes of the type so many times.
+/// Adds the type so many times.
 #[cycle(count)]
-fn add(alloc: Global, count: &mut Count, times: u32, written: &Written) -> Result<(), Memory> {
+fn add(alloc: Global, count: &mut Count, times: u32, written: &Written) -> Result<(), Memory>
+    ensures { IfOk result (λ _. HasAddedType count.old count.new times (meant written.now)) }
+{
     if count.is_large() {
         return Ok(());
     }
@@ -111,12 +117,13 @@ fn add(alloc: Global, count: &mut Count, times: u32, written: &Written) -> Resul
             add(alloc, count, times, to)
         }
         Written::Applied(function, arguments) => {
-            let mut body = Count::new(alloc, arguments.len())?;
+            let variables = counted_variables(count, function, arguments.len());
+            let mut body = Count::new(alloc, variables)?;
             body.add_type(1, &function.body);
             add_applied(alloc, count, times, &body, arguments)
         }
         Written::Side(side, arguments) => {
-            let mut body = Count::new(alloc, arguments.len())?;
+            let mut body = Count::new(alloc, arguments.len().max(count.uses.len()))?;
             add(alloc, &mut body, 1, side)?;
             add_applied(alloc, count, times, &body, arguments)
         }
@@ -131,7 +138,9 @@ fn add_all(
     count: &mut Count,
     times: u32,
     parts: &[Rc<Written>],
-) -> Result<(), Memory> {
+) -> Result<(), Memory>
+    ensures { IfOk result (λ _. HasAddedAbove count.old count.new times (all_meant parts.now)) }
+{
     count.add(times);
     for part in parts {
         add(alloc, count, times, part)?;
@@ -139,7 +148,20 @@ fn add_all(
     Ok(())
 }
 
-/// Adds a body so many times with arguments for the variables that are counted by themselves.
+/// How many variables are counted by themselves in the body of a type function: those that stand for so many arguments, and of
+/// the others that are counted by themselves around it those that stand in it.
+fn counted_variables(count: &Count, function: &Scheme, arguments: usize) -> usize
+    ensures first { arguments ≤ result }
+    ensures others { (k : ℕ) → result ≤ k → k < vec_len count.now.uses → uses_in (type_of function.now.body.value) k ≡ 0 }
+{
+    let around = count.uses.len();
+    if around <= arguments {
+        return arguments;
+    }
+    arguments.max(around.min(least_arity(&function.body)))
+}
+
+/// Adds what a body gives for these arguments so many times.
 #[cycle(count)]
 #[inline(never)]
 fn add_applied(
@@ -148,11 +170,18 @@ fn add_applied(
     times: u32,
     body: &Count,
     arguments: &[Rc<Written>],
-) -> Result<(), Memory> {
+) -> Result<(), Memory>
+    ensures { (t : O.MlType Name) → IsBodyFor (length arguments.now) (vec_len count.old.uses) t body.now
+        → IfOk result (λ _. HasAddedType count.old count.new times (replace_type (argument (all_meant arguments.now)) O.free t)) }
+{
     count.add(times.saturating_mul(body.nodes));
-    for (argument, uses) in arguments.iter().zip(&body.uses) {
+    for (variable, uses) in body.uses.iter().enumerate() {
         if *uses > 0 {
-            add(alloc, count, times.saturating_mul(*uses), argument)?;
+            let times = times.saturating_mul(*uses);
+            match arguments.get(variable) {
+                Some(argument) => add(alloc, count, times, argument)?,
+                None => count.add_bound(times, number_of(variable)?),
+            }
         }
     }
     Ok(())

@@ -1,7 +1,6 @@
-use Rattle.std.proofs.Common.{◌≡◌, length, map, ap, sym, ◌∙◌}
+use Rattle.std.proofs.Common.{ap, sym, ◌∙◌}
 use Rattle.std.proofs.lemmas.List.{length-map}
 use Rattle.sml_objects.specs.Labels.{numbers}
-use Rattle.sml_objects.specs.Objects as O
 use Rattle.sml_objects.specs.Views.{label_list, row_of, type_of}
 use Rattle.sml_objects.specs.declared.objects.MlType.TheViews as V
 use Rattle.sml_objects.proofs.TypeViews.{parts_of, type_of-row}

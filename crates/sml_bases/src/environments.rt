@@ -128,11 +128,6 @@ impl Env {
         }
     }
 
-    /// Whether there is no entry.
-    pub fn is_empty(&self) -> bool {
-        self.structures.is_empty() && self.types.is_empty() && self.values.is_empty()
-    }
-
     /// Puts the entries of another environment over these.
     pub fn add(&mut self, other: &Env) -> Result<(), Memory>
         ensures { OnOk result (env_of self.new ≡ extend (env_of self.old) (env_of other.now)) }

@@ -1,4 +1,4 @@
 mod Needing
 mod Spreading
 mod Keeping
-mod Settling
+pub mod Settling

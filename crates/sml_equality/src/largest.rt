@@ -20,7 +20,8 @@ pub fn without_equality(
     first: u32,
     arguments: &[Vec<Option<Rc<MlType>>>],
 ) -> Result<Vec<bool>, Memory>
-    ensures { IfOk result (λ lost. IsLargest (record { unit = unit; first = first; count = length arguments.now }) (λ k. not (slice_index_or lost.items k true)) arguments.now) }
+    ensures largest { IfOk result (λ lost. IsLargest (record { unit = unit; first = first; count = length arguments.now }) (λ k. not (slice_index_or lost.items k true)) arguments.now) }
+    ensures len { IfOk result (λ lost. length lost.items ≡ length arguments.now) }
 {
     let count = arguments.len();
     let run = Run { unit, first, count };

@@ -31,8 +31,13 @@ loop-index-preserved c =
           (i.spares kept) (rw (sym here) at (e.spares kept));
     }
 
-pub returns : goal.returns
-returns c =
+pub returns-clause-len : goal.returns-clause-len
+returns-clause-len c =
+    let s : IsSpread c.loop-index.users.items c.loop-index.lost.items c.in_ok-lost.lost.items [] = rw (c.deref-2.ensures.value, c.deref-3.ensures.value) at c.in_ok-lost.ensures in
+    s.len ∙ c.loop-index.invariant.len
+
+pub returns-clause-largest : goal.returns-clause-largest
+returns-clause-largest c =
     let us = c.loop-index.users.items in
     let from = c.loop-index.lost.items in
     let ms = c.in_ok-lost.lost.items in

@@ -1,6 +1,6 @@
 mod Stored
 mod Tables
 mod Nearest
-mod Joins
+pub mod Joins
 mod Meanings
 mod Finding

@@ -1,5 +1,12 @@
 //! The names that a signature binds, and their constructors.
 
+ghost use Rattle.std.specs.Prelude.{◌≡◌, map};
+ghost use Rattle.std.specs.Option.{option_map};
+ghost use Rattle.sml_objects.specs.Views as V;
+ghost use Rattle.sml_objects.specs.Views.{scheme_of};
+ghost use Rattle.sml_core_rules.specs.Functions.{name_of as named_by};
+ghost use Rattle.sml_sigs.specs.Bound.{bound_as};
+
 use indexmap::{IndexMap, IndexSet};
 use sml_bases::objects::{Constructors, Env};
 use sml_lex::fault::Memory;
@@ -14,7 +21,9 @@ use std::rc::Rc;
 pub(crate) type Table = IndexMap<TyName, Rc<Constructors>>;
 
 /// The bound name that a type function is.
-pub(crate) fn bound_name(names: &IndexSet<TyName>, function: &Scheme) -> Option<TyName> {
+pub(crate) fn bound_name(names: &IndexSet<TyName>, function: &Scheme) -> Option<TyName>
+    ensures { option_map V.name_of result ≡ bound_as (map V.name_of names.now.keys) (named_by (scheme_of function.now)) }
+{
     let name = name_of(function)?;
     if names.contains(&name) {
         Some(name)

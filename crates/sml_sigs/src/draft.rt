@@ -1,5 +1,10 @@
 //! What the specifications of a `sig .. end` give so far.
 
+ghost use Rattle.std.specs.Prelude.{◌≡◌, IfOk, OnOk, map};
+ghost use Rattle.sml_objects.specs.Appearance.{firsts_after};
+ghost use Rattle.sml_objects.specs.Initial.{naming};
+ghost use Rattle.sml_objects.specs.Views.{name_of};
+
 use crate::asked::{Asked, asked_by};
 use crate::layers::Inside;
 use crate::sharing::Joins;
@@ -157,14 +162,18 @@ impl Draft {
 }
 
 /// Adds names to a set.
-pub(crate) fn add_names(set: &mut IndexSet<TyName>, names: &[TyName]) -> Result<(), Memory> {
+pub(crate) fn add_names(set: &mut IndexSet<TyName>, names: &[TyName]) -> Result<(), Memory>
+    ensures { OnOk result (map name_of set.new.keys ≡ firsts_after naming (map name_of set.old.keys) (map name_of names.now)) }
+{
     for name in names {
         set.insert(*name)?;
     }
     Ok(())
 }
 
-fn list_of(alloc: Global, names: &IndexSet<TyName>) -> Result<Vec<TyName>, Memory> {
+fn list_of(alloc: Global, names: &IndexSet<TyName>) -> Result<Vec<TyName>, Memory>
+    ensures { IfOk result (λ list. list.items ≡ names.now.keys) }
+{
     let mut list = Vec::new(alloc);
     for name in names {
         list.push(*name)?;

@@ -1,9 +1,15 @@
 //! What specifications see: those before them in each `sig .. end` around them, and then the scopes that are open.
 
-ghost use Rattle.std.specs.Prelude.{◌≡◌, None};
+ghost use Rattle.std.specs.Prelude.{◌≡◌, None, reverse};
+ghost use Rattle.std.specs.Option.{option_copied};
+ghost use Rattle.sml_tree.specs.Views.{ident_of};
 ghost use Rattle.sml_objects.specs.Maps.{lookup};
 ghost use Rattle.sml_core_rules.specs.Objects.{find_structure, structures, types};
+ghost use Rattle.sml_bases.specs.Layers.{first_found};
 ghost use Rattle.sml_bases.specs.Views.{env_of};
+ghost use Rattle.sml_types.specs.Answered.{there_or};
+ghost use Rattle.sml_scopes.specs.CodeScopes.{structure_in, type_in};
+ghost use Rattle.sml_sigs.specs.Layers.{drafted_at, structure_drafted, type_drafted};
 
 use crate::draft::Draft;
 use sml_bases::environments::Entry;
@@ -23,10 +29,9 @@ pub(crate) struct Layers<'a, 'b> {
 }
 
 impl Scope for Layers<'_, '_> {
-    // What it tells is not stated yet.
-    ghost says_structure = { λ _ _ _. Unit {0} };
+    ghost says_structure = { λ l x o. there_or (structure_drafted l.inner.now x) (λ p. p ≡ structure_in l.outer.now x) o };
 
-    ghost says_type = { λ _ _ _. Unit {0} };
+    ghost says_type = { λ l x o. there_or (type_drafted l.inner.now x) (λ p. p ≡ type_in l.outer.now x) o };
 
     ghost says_side = { λ _ _ o. o ≡ None };
 
@@ -50,7 +55,9 @@ impl Scope for Layers<'_, '_> {
 }
 
 /// The entry of the innermost specifications that have it.
-fn found_in<'a, T: Entry>(drafts: &'a [Draft], name: &Ident) -> Option<&'a T> {
+fn found_in<'a, T: Entry>(drafts: &'a [Draft], name: &Ident) -> Option<&'a T>
+    ensures { option_copied result ≡ first_found (drafted_at T.held (ident_of name.now)) (reverse drafts.now) }
+{
     for draft in drafts.iter().rev() {
         if let Some(found) = T::entries(&draft.env).get(name) {
             return Some(found);

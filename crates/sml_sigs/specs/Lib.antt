@@ -1,0 +1,4 @@
+pub mod Layers
+pub mod Asked
+pub mod Bound
+pub mod Counts

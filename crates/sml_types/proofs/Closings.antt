@@ -1,11 +1,11 @@
 -- Closing over the free variables of a type, by their places in the order of their first appearance.
-use Rattle.std.proofs.Common.{◌≡◌, ◌+◌, ◌<◌, ℕ, zero, suc, Bool, true, false, cond, not, nat_eq, nat_lt, Option, Some, None, List, [], ◌∷◌, length, map, position, slice_index_or, refl, ap, sym, ◌∙◌, arith}
+use Rattle.std.proofs.Common.{◌≡◌, ◌+◌, ℕ, zero, suc, Bool, true, false, cond, not, nat_eq, nat_lt, Option, Some, None, List, [], ◌∷◌, length, map, slice_index_or, refl, ap, sym, ◌∙◌, arith}
 use Rattle.std.proofs.lemmas.Bool.{le-ltb, lt-ltb, ltb-false, ltb-true}
 use Rattle.std.specs.List.{prefix_len}
 use Rattle.std.specs.Option.{option_map}
 use Rattle.sml_objects.specs.Objects as O
 use Rattle.sml_objects.specs.Initial.{Name}
-use Rattle.sml_objects.specs.Types.{assign, index_among, replace_type, variables_after}
+use Rattle.sml_objects.specs.Types.{index_among, replace_type, variables_after}
 use Rattle.sml_objects.specs.Fates.{attributes, close_as, standing_for, substitutes, type_or}
 use Rattle.sml_objects.specs.declared.fates.Fate.{Fate}
 use Rattle.sml_objects.specs.declared.fates.Fate.TheVariants.{Bind}

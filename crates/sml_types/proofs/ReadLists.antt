@@ -1,5 +1,6 @@
 -- Lists of type expressions, read one after the other, and what is asked for there.
 use Rattle.std.proofs.Common.{◌≡◌, List, [], ◌∷◌, ◌++◌, refl, ap, sym, ◌∙◌, append_assoc}
+use Rattle.std.proofs.lemmas.List.{append-nil}
 use Rattle.sml_lex.specs.declared.fault.Place.{Place}
 use Rattle.sml_lex.specs.Faults.{Fault}
 use Rattle.sml_tree.specs.Trees.{Id}
@@ -26,10 +27,6 @@ unfolding ◌>>=◌
 bind-same (refused g) = refl
 bind-same (accepted x) = refl
 
-pub nothing-more : (xs : List Id) → xs ++ [] ≡ xs
-nothing-more [] = refl
-nothing-more (x ∷ xs) = ap (λ ys. x ∷ ys) (nothing-more xs)
-
 -- one list of types after the other
 abbrev joined : O.MlTypes Name → O.MlTypes Name → O.MlTypes Name
 joined O.no_type rs = rs
@@ -51,8 +48,8 @@ read-both (accepted s) (accepted ss) (accepted rs) = refl
 asked-both : (x y z : List Id) (a : Answer Place (O.MlType Name)) (b : Answer Place (O.MlTypes Name))
     → x ++ then_asked a (y ++ then_asked b z) ≡ (x ++ then_asked a y) ++ then_asked (a >>= (λ s. b >>= (λ ss. give (O.and_type s ss)))) z
 unfolding ◌>>=◌
-asked-both x y z (refused f) b = sym (nothing-more (x ++ []))
-asked-both x y z (accepted s) (refused f) = ap (λ w. x ++ w) (nothing-more y) ∙ sym (nothing-more (x ++ y))
+asked-both x y z (refused f) b = sym (append-nil (x ++ []))
+asked-both x y z (accepted s) (refused f) = ap (λ w. x ++ w) (append-nil y) ∙ sym (append-nil (x ++ y))
 asked-both x y z (accepted s) (accepted ss) = sym (append_assoc x y z)
 
 module _ (C : Env Name) (vs : Map (O.MlType Name)) where
@@ -97,15 +94,15 @@ module _ (C : Env Name) (vs : Map (O.MlType Name)) where
 
   asked-one : (u : T.Ty Place) (ws : List (T.Ty Place)) (f : Fault Place) → read_ty C vs u ≡ refused f → asked_in_all C vs (tys_of (u ∷ ws)) ≡ asked C vs u
   unfolding asked_in_all
-  asked-one u ws f r = ap (λ a. asked C vs u ++ then_asked a (asked_in_all C vs (tys_of ws))) r ∙ nothing-more (asked C vs u)
+  asked-one u ws f r = ap (λ a. asked C vs u ++ then_asked a (asked_in_all C vs (tys_of ws))) r ∙ append-nil (asked C vs u)
 
   asked-single : (u : T.Ty Place) → asked_in_all C vs (tys_of (u ∷ [])) ≡ asked C vs u
   unfolding asked_in_all
   asked-single u = go (read_ty C vs u)
     where
       go : (a : Answer Place (O.MlType Name)) → asked C vs u ++ then_asked a [] ≡ asked C vs u
-      go (refused f) = nothing-more (asked C vs u)
-      go (accepted t) = nothing-more (asked C vs u)
+      go (refused f) = append-nil (asked C vs u)
+      go (accepted t) = append-nil (asked C vs u)
 
   pub asked-next : (us : List (T.Ty Place)) (u : T.Ty Place) (ss : O.MlTypes Name) → read_tys C vs (tys_of us) ≡ accepted ss
       → asked_in_all C vs (tys_of (us ++ u ∷ [])) ≡ asked_in_all C vs (tys_of us) ++ asked C vs u
@@ -139,7 +136,7 @@ module _ (C : Env Name) (vs : Map (O.MlType Name)) where
       go : (a : Answer Place (O.MlType Name)) → ((t : O.MlType Name) → asked_in_fields C vs (ty_fields_of (us ++ ws))
           ≡ asked_in_fields C vs (ty_fields_of us) ++ then_asked (read_fields C vs (put_field l.id t fs) (ty_fields_of us)) (asked_in_fields C vs (ty_fields_of ws))) → asked C vs u ++ then_asked a (asked_in_fields C vs (ty_fields_of (us ++ ws)))
           ≡ (asked C vs u ++ then_asked a (asked_in_fields C vs (ty_fields_of us))) ++ then_asked (a >>= (λ t. read_fields C vs (put_field l.id t fs) (ty_fields_of us))) (asked_in_fields C vs (ty_fields_of ws))
-      go (refused f) h = sym (nothing-more (asked C vs u ++ []))
+      go (refused f) h = sym (append-nil (asked C vs u ++ []))
       go (accepted t) h =
           ap (λ xs. asked C vs u ++ xs) (h t)
           ∙ sym (append_assoc (asked C vs u) (asked_in_fields C vs (ty_fields_of us)) (then_asked (read_fields C vs (put_field l.id t fs) (ty_fields_of us)) (asked_in_fields C vs (ty_fields_of ws))))
@@ -171,15 +168,15 @@ module _ (C : Env Name) (vs : Map (O.MlType Name)) where
   asked-one-field : (l : N.Name Place) (u : T.Ty Place) (ws : List (T.TyField Place)) (f : Fault Place) → read_ty C vs u ≡ refused f
       → asked_in_fields C vs (ty_fields_of (T.ty_field l u ∷ ws)) ≡ asked C vs u
   unfolding asked_in_fields
-  asked-one-field l u ws f r = ap (λ a. asked C vs u ++ then_asked a (asked_in_fields C vs (ty_fields_of ws))) r ∙ nothing-more (asked C vs u)
+  asked-one-field l u ws f r = ap (λ a. asked C vs u ++ then_asked a (asked_in_fields C vs (ty_fields_of ws))) r ∙ append-nil (asked C vs u)
 
   asked-single-field : (l : N.Name Place) (u : T.Ty Place) → asked_in_fields C vs (ty_fields_of (T.ty_field l u ∷ [])) ≡ asked C vs u
   unfolding asked_in_fields
   asked-single-field l u = go (read_ty C vs u)
     where
       go : (a : Answer Place (O.MlType Name)) → asked C vs u ++ then_asked a [] ≡ asked C vs u
-      go (refused f) = nothing-more (asked C vs u)
-      go (accepted t) = nothing-more (asked C vs u)
+      go (refused f) = append-nil (asked C vs u)
+      go (accepted t) = append-nil (asked C vs u)
 
   pub asked-fields-next : (us : List (T.TyField Place)) (l : N.Name Place) (u : T.Ty Place) (gs : Fields (O.MlType Name)) → read_fields C vs [] (ty_fields_of us) ≡ accepted gs
       → asked_in_fields C vs (ty_fields_of (us ++ T.ty_field l u ∷ [])) ≡ asked_in_fields C vs (ty_fields_of us) ++ asked C vs u

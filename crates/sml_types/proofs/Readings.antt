@@ -1,5 +1,6 @@
 -- Steps of the reading of type expressions.
 use Rattle.std.proofs.Common.{◌≡◌, ℕ, suc, List, [], ◌∷◌, ◌++◌, length, Bool, true, false, nat_eq, refl, ap, sym, subst, ◌∙◌, Result, Ok, Err, Vec, Global, Option, Some, None, cond}
+use Rattle.std.proofs.lemmas.List.{append-nil}
 use Rattle.std.specs.Result.{IsErrAnd}
 use Rattle.std.specs.List.{list_any}
 use Rattle.sml_lex.specs.declared.fault.Place.{Place}
@@ -33,7 +34,7 @@ use Rattle.sml_types.specs.Reads.{IfAnswered, application_answer}
 use Rattle.sml_types.specs.Sides.{IsSide, IsSideOf, answer_map, asked, asked_in_all, asked_in_fields, bound_number, numbers_after, then_asked, with_number}
 use Rattle.sml_types.specs.declared.fault.CoreFault.{CoreFault}
 use Rattle.sml_types.specs.declared.fault.CoreFault.TheVariants as R
-use Rattle.sml_types.proofs.ReadLists.{bind-give, nothing-more}
+use Rattle.sml_types.proofs.ReadLists.{bind-give}
 
 -- what is meant by something written, and by a list of it
 abbrev pub one-meant : Rc Written Global → O.MlType Name
@@ -86,11 +87,11 @@ module _ (C : Env Name) (vs : Map (O.MlType Name)) where
 
   pub asked-none : (xs : List Id) → xs ++ asked_in_all {P = Place} C vs T.no_ty ≡ xs
   unfolding asked asked_in_all
-  asked-none xs = nothing-more xs
+  asked-none xs = append-nil xs
 
   pub asked-no-field : (xs : List Id) → xs ++ asked_in_fields {P = Place} C vs T.no_ty_field ≡ xs
   unfolding asked asked_in_fields
-  asked-no-field xs = nothing-more xs
+  asked-no-field xs = append-nil xs
 
   pub read-variable : (p : Place) (x : Id) → read_ty C vs (T.ty_variable p x) ≡ variable_type p (lookup x vs)
   unfolding read_ty
@@ -195,7 +196,7 @@ module _ (C : Env Name) (vs : Map (O.MlType Name)) where
 
   pub asked-arrow-first : (p : Place) (u v : T.Ty Place) (f : Fault Place) → read_ty C vs u ≡ refused f → asked C vs (T.ty_arrow p u v) ≡ asked C vs u
   unfolding asked
-  asked-arrow-first p u v f e = ap (λ a. asked C vs u ++ then_asked a (asked C vs v)) e ∙ nothing-more (asked C vs u)
+  asked-arrow-first p u v f e = ap (λ a. asked C vs u ++ then_asked a (asked C vs v)) e ∙ append-nil (asked C vs u)
 
 pub numbers-none : (vs : Map (O.MlType Name)) (ks : List ℕ) → numbers_after vs ks [] ≡ ks
 unfolding numbers_after

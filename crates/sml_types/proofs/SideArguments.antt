@@ -32,6 +32,7 @@ use Rattle.sml_types.specs.declared.written.Written.{Written}
 use Rattle.sml_types.proofs.Instances.{instance-read, instance-refused}
 use Rattle.sml_types.proofs.Meanings.{meanings}
 use Rattle.sml_types.proofs.Readings.{one-meant}
+use Rattle.sml_types.proofs.Taken.{taken-next}
 use Rattle.sml_types.proofs.UsedArguments.{accepted-next, stays-accepted, used-below}
 
 pub same : (a b : ℕ) → a ≡ b → nat_eq a b ≡ true
@@ -51,7 +52,7 @@ split-at xs i x lt at = sym (take-append-drop i xs) ∙ ap (λ ys. take i xs ++ 
 module _ {A B : Type 0} (g : A → B) (xs : List A) (i : ℕ) (x : A) (lt : i < length xs) (at : x ≡ get_or xs i x) where
   pub mapped-next : map g (take (i + 1) xs) ≡ map g (take i xs) ++ g x ∷ []
   mapped-next =
-      ap (map g) ((take_at_read xs i x lt).1 ∙ ap (λ y. take i xs ++ (y ∷ [])) (sym at)) ∙ map-append g (take i xs) (x ∷ [])
+      ap (map g) (taken-next xs i x x lt at) ∙ map-append g (take i xs) (x ∷ [])
 
   pub mapped-split : map g xs ≡ map g (take i xs) ++ g x ∷ map g (drop (i + 1) xs)
   mapped-split = ap (map g) (split-at xs i x lt at) ∙ map-append g (take i xs) (x ∷ drop (i + 1) xs)

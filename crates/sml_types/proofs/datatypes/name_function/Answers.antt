@@ -4,7 +4,7 @@ use Rattle.sml_objects.specs.Objects as O
 use Rattle.sml_objects.specs.Objects.{types_of}
 use Rattle.sml_objects.specs.Views.{name_of, scheme_of, type_of}
 use Rattle.sml_objects.proofs.TypeViews.{type_of-bound, type_of-name}
-use Rattle.sml_types.proofs.Numbered.{bound-push, bound-types, bound_from, named-scheme}
+use Rattle.sml_types.proofs.Numbered.{bound-push, bound_from, named-scheme}
 use Rattle.sml_types.proofs.datatypes.name_function.Goals as goal
 
 pub loop-index-preserved : goal.loop-index-preserved

@@ -1,7 +1,7 @@
-use Rattle.std.proofs.Common.{◌≡◌, ◌∷◌, [], ap, map, sym, ◌∙◌, length, arith}
+use Rattle.std.proofs.Common.{◌∷◌, [], ap, map, sym, ◌∙◌, arith}
 use Rattle.std.proofs.lemmas.List.{length-append, length-map, map-append}
 use Rattle.std.specs.Map.Iter.{deref_pair}
-use Rattle.sml_objects.specs.Views.{entries_of, scheme_of, schemes_of}
+use Rattle.sml_objects.specs.Views.{entries_of, scheme_of}
 use Rattle.sml_bases.specs.Views.{value_of}
 use Rattle.sml_types.proofs.Numbered.{constructors-next}
 use Rattle.sml_types.proofs.datatypes.put_constructors.Goals as goal

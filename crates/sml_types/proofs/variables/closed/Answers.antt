@@ -1,4 +1,4 @@
-use Rattle.std.proofs.Common.{◌≡◌, [], refl, sym, ◌∙◌}
+use Rattle.std.proofs.Common.{◌∙◌}
 use Rattle.sml_objects.specs.Types.{variables_after}
 use Rattle.sml_objects.specs.Views.{type_of}
 use Rattle.sml_types.proofs.Closings.{constructor-scheme-as}

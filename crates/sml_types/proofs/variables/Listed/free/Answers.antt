@@ -1,4 +1,4 @@
-use Rattle.std.proofs.Common.{◌≡◌, false, ap, sym, ◌∙◌}
+use Rattle.std.proofs.Common.{false, ap, sym, ◌∙◌}
 use Rattle.std.specs.Option.{option_map}
 use Rattle.sml_tree.specs.TypeViews.{names_of}
 use Rattle.sml_objects.specs.Objects as O

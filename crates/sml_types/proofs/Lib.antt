@@ -33,3 +33,4 @@ mod ArgumentBinds
 mod ConstructorSizes
 mod InnerScopes
 mod GivenDatatypes
+mod Carrying

@@ -2,6 +2,7 @@ pub mod Answered
 pub mod Datatypes
 pub mod DatatypeAnswers
 pub mod Bindings
+pub mod Carried
 pub mod Losses
 pub mod Meant
 pub mod Reads

@@ -31,7 +31,8 @@ ghost use Rattle.sml_tree.specs.BindingViews.{con_bind_of, dat_bind_of, typ_bind
 ghost use Rattle.sml_tree.specs.Expressions as trees;
 ghost use Rattle.sml_tree.specs.Withtype.{con_replaced, dat_replaced, replaced, unlisted};
 ghost use Rattle.sml_tree.specs.TypeViews.{names_of, ty_of};
-ghost use Rattle.sml_type_maps.specs.NewNames.{carries};
+ghost use Rattle.sml_type_maps.specs.NewNames.{carries, is_new};
+ghost use Rattle.sml_types.specs.Carried.{carries_all};
 
 use crate::bindings::{no_constructors, parameters, put_type};
 use crate::fault::CoreFault;
@@ -96,6 +97,7 @@ pub fn datatypes_with<S: Scope>(
     ensures next { OnOk result (new.new.next ≡ new.old.next + length binds.now) }
     ensures basis { new.new.basis ≡ new.old.basis }
     ensures unit { new.new.unit ≡ new.old.unit }
+    ensures carries { IfOk result (λ e. (n : I.Name) → carries new.new n ≡ carries_all (is_new new.old) (types (env_of e)) (carries new.old) n) }
 {
     let run = Run {
         unit: new.unit,
@@ -123,6 +125,7 @@ fn carry_all(new: &mut NewNames, types: &BTreeMap<Ident, TypeStr>) -> Result<(),
     ensures basis { new.new.basis ≡ new.old.basis }
     ensures unit { new.new.unit ≡ new.old.unit }
     ensures next { new.new.next ≡ new.old.next }
+    ensures carries { OnOk result ((n : I.Name) → carries new.new n ≡ carries_all (is_new new.old) (entries_of ty_str_of types.now.entries) (carries new.old) n) }
 {
     for (_, ty) in types {
         if let Some(name) = name_of(&ty.function) {

@@ -15,6 +15,12 @@ use Rattle.sml_types.specs.Answered.{IsAnswer, TellsOf, there_or}
 use Rattle.sml_types.specs.DatatypeAnswers.{DatatypesAnswer, with_datatypes}
 use Rattle.sml_types.specs.Datatypes.{SmallAnswer, all_with_idents, constructor_sizes, idents_in, meant_argument, names_from}
 use Rattle.sml_types.specs.Losses.{AreDatatypes}
+use Rattle.sml_core_rules.specs.Objects.{types as types-in}
+use Rattle.sml_bases.specs.declared.objects.Env.TheViews.{out-Env}
+use Rattle.sml_bases.proofs.EnvViews.{env_of-out}
+use Rattle.sml_type_maps.specs.NewNames.{carries, is_new}
+use Rattle.sml_types.specs.Carried.{carries_all}
+use Rattle.sml_types.proofs.Carrying.{carries-same, new-same}
 use Rattle.sml_types.proofs.ConstructorSizes.{AllFit}
 use Rattle.sml_types.proofs.GivenDatatypes.{given-large, given-refused, given-through, sizes-given}
 use Rattle.sml_types.proofs.InnerScopes.{tells-inner, types-replaced}
@@ -86,3 +92,12 @@ returns-clause-answer g c = λ C tells spelt list own.
             (subst (λ ns. AreDatatypes run ds ns c.deref-5.result.now (env_of c.in_ok-env.env)) c.deref-4.ensures.value c.in_ok-env.ensures);
       },
     )
+
+pub returns-clause-carries : goal.returns-clause-carries
+returns-clause-carries g c = λ n.
+    let old = c.args.new.now in
+    let made = c.new_names.new.new in
+    c.in_ok-carry_all.ensures.carries n
+    ∙ carries-same (is_new made) (is_new old) (new-same made old c.in_ok-names.ensures.unit c.in_ok-names.ensures.basis)
+    (entries_of ty_str_of (out-Env c.in_ok-env.env).types.entries) (carries made) (carries old) c.in_ok-names.ensures.carries n
+    ∙ ap (λ ts. carries_all (is_new old) ts (carries old) n) (sym (ap types-in (env_of-out c.in_ok-env.env)))

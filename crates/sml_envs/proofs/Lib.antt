@@ -1,3 +1,9 @@
+mod Appearances
+mod EntryMaps
+mod EnvMaps
 mod LargeEntries
+mod Numbers
+mod Renamings
+mod Renumbered
 mod SameMaps
 mod SchemeMaps

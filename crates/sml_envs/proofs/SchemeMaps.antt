@@ -1,5 +1,5 @@
 -- What maps of schemes become, entry by entry.
-use Rattle.std.proofs.Common.{◌≡◌, ◌++◌, ◌∷◌, ℕ, Bool, true, false, List, [], Option, Some, None, map, refl, ap, sym, subst, ◌∙◌, Vec, Global}
+use Rattle.std.proofs.Common.{◌≡◌, ◌++◌, ◌∷◌, ℕ, false, List, [], Option, Some, None, refl, ap, sym, subst, ◌∙◌, Vec, Global}
 use Rattle.std.proofs.lemmas.Bool.{true≢false}
 use Rattle.std.proofs.lemmas.List.{map-append}
 use Rattle.std.specs.Option.{is_some}

@@ -1,2 +1,5 @@
+pub mod Appearing
 pub mod Comparisons
 pub mod Large
+pub mod Mapped
+pub mod Renamed

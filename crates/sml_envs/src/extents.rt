@@ -12,6 +12,12 @@ use std::rc::Rc;
 /// one byte, and the newline.
 const REST_OF_LINE: usize = 9;
 
+/// From so many lines on, the room for what is made of them is asked for first.
+const MANY_LINES: usize = 1 << 20;
+
+/// What is made of a line takes some so many bytes.
+const BYTES_OF_LINE: usize = 128;
+
 /// How many lines of identifiers with paths there are, and how many bytes in all lines where the paths are left off. Numbers
 /// stop at the greatest of their type.
 #[derive(Clone, Copy)]
@@ -34,6 +40,11 @@ impl Extent {
         self.add_bytes(inner.bytes);
         let prefix = name.as_slice().len().saturating_add(1);
         self.add_bytes(inner.lines.saturating_mul(prefix));
+    }
+
+    fn add(&mut self, other: Extent) {
+        self.lines = self.lines.saturating_add(other.lines);
+        self.add_bytes(other.bytes);
     }
 
     fn add_bytes(&mut self, bytes: usize) {
@@ -83,16 +94,47 @@ fn add_structures(
     Ok(())
 }
 
+/// That there is room for what a walk makes of an environment, where it has many lines: what is shared in it is walked at each
+/// of its paths, which can take all memory before one growth is refused.
+pub(crate) fn require_room(alloc: Global, env: &Env) -> Result<(), Memory> {
+    let extent = extent_of(env, &mut Visits::new(alloc))?;
+    room_for_lines(alloc, extent.lines)
+}
+
+/// The same of what a basis binds.
+pub(crate) fn require_room_in(alloc: Global, basis: &Basis) -> Result<(), Memory> {
+    let extent = extent_of_basis(alloc, basis)?;
+    room_for_lines(alloc, extent.lines)
+}
+
+fn room_for_lines(alloc: Global, lines: usize) -> Result<(), Memory> {
+    if lines >= MANY_LINES {
+        let _ = room(alloc, lines.saturating_mul(BYTES_OF_LINE))?;
+    }
+    Ok(())
+}
+
+/// Room for so many bytes.
+#[inline(never)]
+fn room(alloc: Global, bytes: usize) -> Result<Vec<u8>, Memory> {
+    Ok(Vec::with_capacity(alloc, bytes)?)
+}
+
 /// How many bytes the text of the reply has at least to a declaration that binds what the basis itself binds.
 pub fn least_text(alloc: Global, basis: &Basis) -> Result<usize, Memory> {
+    Ok(extent_of_basis(alloc, basis)?.bytes)
+}
+
+/// The extent of what a basis binds, without the lines of signatures and of functors themselves.
+fn extent_of_basis(alloc: Global, basis: &Basis) -> Result<Extent, Memory> {
     let mut visits = Visits::new(alloc);
-    let mut bytes = extent_of(&basis.env, &mut visits)?.bytes;
+    let mut extent = extent_of(&basis.env, &mut visits)?;
     for (_, signature) in &basis.signatures {
-        bytes = bytes.saturating_add(extent_of(&signature.env, &mut visits)?.bytes);
+        extent.add(extent_of(&signature.env, &mut visits)?);
     }
     for (_, functor) in &basis.functors {
-        bytes = bytes.saturating_add(extent_of(&functor.argument.env, &mut visits)?.bytes);
-        bytes = bytes.saturating_add(extent_of(&functor.result.env, &mut visits)?.bytes);
+        extent.add(extent_of(&functor.argument.env, &mut visits)?);
+        extent.add(extent_of(&functor.result.env, &mut visits)?);
     }
-    Ok(bytes)
+    Ok(extent)
 }

@@ -5,4 +5,5 @@ pub mod canonical;
 pub mod comparisons;
 pub mod extents;
 pub mod mapping;
+pub mod renaming;
 pub mod sizes;

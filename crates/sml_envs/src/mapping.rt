@@ -1,12 +1,16 @@
-//! Environments with other types for the variables and the names in them. What doesn't change is shared, and so is what becomes of
-//! what was shared.
+//! Environments with other types for the variables and the names in them. What doesn't change is shared. What is shared in an
+//! environment becomes something of its own at each path.
 
-ghost use Rattle.std.specs.Prelude.{◌≡◌, IfOk, false};
-ghost use Rattle.sml_objects.specs.Views.{schemes_of};
-ghost use Rattle.sml_type_maps.specs.Orders.{AreOrdered, schemes_by};
+ghost use Rattle.std.specs.Prelude.{◌≡◌, IfOk, None, OnOk, false};
+ghost use Rattle.std.specs.Option.{option_map};
+ghost use Rattle.sml_objects.specs.Views.{entries_of, schemes_of};
+ghost use Rattle.sml_type_maps.specs.Orders.{AreOrdered, IsOrdered, schemes_by};
+ghost use Rattle.sml_core_rules.specs.Objects.{replaced, replace_structures};
+ghost use Rattle.sml_bases.specs.Views.{env_of, structures_of, ty_str_of, value_of};
+ghost use Rattle.sml_envs.specs.Mapped.{AreOrderedIn, AreOrderedInAll, Each, HaveOrdered, IsOrderedValue, HasOrdered, changed_or, env_by, ty_str_by, value_by};
 
+use crate::extents::require_room;
 use sml_bases::objects::{Constructors, Env, TypeStr, Value};
-use sml_bases::visits::Visits;
 use sml_lex::fault::Memory;
 use sml_tree::bare::Ident;
 use sml_type_maps::mapping::{Mapping, changed_function, changed_scheme, mapped_scheme};
@@ -14,9 +18,12 @@ use std::alloc::Global;
 use std::collections::BTreeMap;
 use std::rc::Rc;
 
-/// The environment that an environment becomes.
-pub fn mapped_env<M: Mapping>(alloc: Global, env: &Rc<Env>, by: &M) -> Result<Rc<Env>, Memory> {
-    match changed_env(alloc, env, by, &mut Visits::new(alloc))? {
+/// The environment that an environment becomes, whose schemes have their variables in order.
+pub fn mapped_env<M: Mapping>(alloc: Global, env: &Rc<Env>, by: &M) -> Result<Rc<Env>, Memory>
+    ensures { AreOrderedIn (env_of env.now.value) → IfOk result (λ e. env_of e.value ≡ env_by (M.bound_gives by.now) (M.free_gives by.now) (M.name_gives by.now) (env_of env.now.value)) }
+{
+    require_room(alloc, env)?;
+    match changed_env(alloc, env, by)? {
         Some(changed) => Ok(changed),
         None => Ok(env.clone()?),
     }
@@ -70,7 +77,9 @@ fn changed_type_str<M: Mapping>(
     alloc: Global,
     ty: &TypeStr,
     by: &M,
-) -> Result<Option<TypeStr>, Memory> {
+) -> Result<Option<TypeStr>, Memory>
+    ensures { HasOrdered (ty_str_of ty.now) → IfOk result (λ o. changed_or (ty_str_of ty.now) (option_map ty_str_of o) ≡ ty_str_by (M.bound_gives by.now) (M.free_gives by.now) (M.name_gives by.now) (ty_str_of ty.now)) }
+{
     let changed = changed_function(alloc, &ty.function, by)?;
     if changed.is_none() && !changes_schemes(alloc, &ty.constructors, by)? {
         return Ok(None);
@@ -86,11 +95,9 @@ fn changed_type_str<M: Mapping>(
     }))
 }
 
-fn changed_value<M: Mapping>(
-    alloc: Global,
-    value: &Value,
-    by: &M,
-) -> Result<Option<Value>, Memory> {
+fn changed_value<M: Mapping>(alloc: Global, value: &Value, by: &M) -> Result<Option<Value>, Memory>
+    ensures { IsOrderedValue (value_of value.now) → IfOk result (λ o. changed_or (value_of value.now) (option_map value_of o) ≡ value_by (M.bound_gives by.now) (M.free_gives by.now) (M.name_gives by.now) (value_of value.now)) }
+{
     match changed_scheme(alloc, &value.scheme, by)? {
         None => Ok(None),
         Some(scheme) => Ok(Some(Value {
@@ -100,103 +107,131 @@ fn changed_value<M: Mapping>(
     }
 }
 
-/// The entries of an environment that change.
-#[derive(Drop)]
-struct Changes {
-    structures: Vec<(Ident, Rc<Env>)>,
-    types: Vec<(Ident, TypeStr)>,
-    values: Vec<(Ident, Value)>,
-}
-
-impl Changes {
-    fn are_none(&self) -> bool {
-        self.structures.is_empty() && self.types.is_empty() && self.values.is_empty()
-    }
-}
-
-/// What an environment becomes, or `None` where it stays. What became of those in it is kept.
-#[cycle(envs)]
-fn changed_env<M: Mapping>(
+/// What a type structure becomes. The flag says whether anything changed, and stays where it was set.
+fn mapped_type_str<M: Mapping>(
     alloc: Global,
-    env: &Env,
+    ty: &TypeStr,
     by: &M,
-    visits: &mut Visits<Option<Rc<Env>>>,
-) -> Result<Option<Rc<Env>>, Memory> {
-    let structures = changed_structures(alloc, &env.structures, by, visits)?;
-    let types = changed_types(alloc, &env.types, by)?;
-    let values = changed_values(alloc, &env.values, by)?;
-    let changes = Changes {
-        structures,
-        types,
-        values,
-    };
-    with_changes(alloc, env, changes)
-}
-
-/// An environment with other entries for some, or `None` where there are none.
-fn with_changes(alloc: Global, env: &Env, changes: Changes) -> Result<Option<Rc<Env>>, Memory> {
-    if changes.are_none() {
-        return Ok(None);
-    }
-    let mut copy = Env::new(alloc);
-    copy.add(env)?;
-    put_all(&mut copy.structures, changes.structures)?;
-    put_all(&mut copy.types, changes.types)?;
-    put_all(&mut copy.values, changes.values)?;
-    Ok(Some(Rc::new(alloc, copy)?))
-}
-
-fn put_all<T: Drop>(map: &mut BTreeMap<Ident, T>, entries: Vec<(Ident, T)>) -> Result<(), Memory> {
-    for (name, entry) in entries {
-        map.insert(name, entry)?;
-    }
-    Ok(())
-}
-
-#[cycle(envs)]
-fn changed_structures<M: Mapping>(
-    alloc: Global,
-    structures: &BTreeMap<Ident, Rc<Env>>,
-    by: &M,
-    visits: &mut Visits<Option<Rc<Env>>>,
-) -> Result<Vec<(Ident, Rc<Env>)>, Memory> {
-    let mut changes = Vec::new(alloc);
-    for (name, structure) in structures {
-        if visits.get(structure).is_none() {
-            let changed = changed_env(alloc, structure, by, visits)?;
-            visits.put(structure, changed)?;
+    is_changed: &mut bool,
+) -> Result<TypeStr, Memory>
+    ensures becomes { HasOrdered (ty_str_of ty.now) → IfOk result (λ t. ty_str_of t ≡ ty_str_by (M.bound_gives by.now) (M.free_gives by.now) (M.name_gives by.now) (ty_str_of ty.now)) }
+    ensures stays { HasOrdered (ty_str_of ty.now) → OnOk result (is_changed.new ≡ false → (is_changed.old ≡ false) × (ty_str_by (M.bound_gives by.now) (M.free_gives by.now) (M.name_gives by.now) (ty_str_of ty.now) ≡ ty_str_of ty.now)) }
+{
+    match changed_type_str(alloc, ty, by)? {
+        Some(changed) => {
+            *is_changed = true;
+            Ok(changed)
         }
-        if let Some(Some(changed)) = visits.get(structure) {
-            changes.push((name.clone()?, changed.clone()?))?;
-        }
+        None => ty.share(),
     }
-    Ok(changes)
 }
 
-fn changed_types<M: Mapping>(
+pub(crate) fn mapped_types<M: Mapping>(
     alloc: Global,
     types: &BTreeMap<Ident, TypeStr>,
     by: &M,
-) -> Result<Vec<(Ident, TypeStr)>, Memory> {
-    let mut changes = Vec::new(alloc);
+    is_changed: &mut bool,
+) -> Result<BTreeMap<Ident, TypeStr>, Memory>
+    ensures becomes { HaveOrdered (entries_of ty_str_of types.now.entries) → IfOk result (λ m. entries_of ty_str_of m.entries ≡ replaced (ty_str_by (M.bound_gives by.now) (M.free_gives by.now) (M.name_gives by.now)) (entries_of ty_str_of types.now.entries)) }
+    ensures stays { HaveOrdered (entries_of ty_str_of types.now.entries) → OnOk result (is_changed.new ≡ false → (is_changed.old ≡ false) × (replaced (ty_str_by (M.bound_gives by.now) (M.free_gives by.now) (M.name_gives by.now)) (entries_of ty_str_of types.now.entries) ≡ entries_of ty_str_of types.now.entries)) }
+{
+    let mut copies = BTreeMap::new(alloc);
     for (name, ty) in types {
-        if let Some(changed) = changed_type_str(alloc, ty, by)? {
-            changes.push((name.clone()?, changed))?;
-        }
+        let copy = mapped_type_str(alloc, ty, by, is_changed)?;
+        copies.insert(name.clone()?, copy)?;
     }
-    Ok(changes)
+    Ok(copies)
 }
 
-fn changed_values<M: Mapping>(
+fn mapped_value<M: Mapping>(
+    alloc: Global,
+    value: &Value,
+    by: &M,
+    is_changed: &mut bool,
+) -> Result<Value, Memory>
+    ensures becomes { IsOrderedValue (value_of value.now) → IfOk result (λ v. value_of v ≡ value_by (M.bound_gives by.now) (M.free_gives by.now) (M.name_gives by.now) (value_of value.now)) }
+    ensures stays { IsOrderedValue (value_of value.now) → OnOk result (is_changed.new ≡ false → (is_changed.old ≡ false) × (value_by (M.bound_gives by.now) (M.free_gives by.now) (M.name_gives by.now) (value_of value.now) ≡ value_of value.now)) }
+{
+    match changed_value(alloc, value, by)? {
+        Some(changed) => {
+            *is_changed = true;
+            Ok(changed)
+        }
+        None => value.share(),
+    }
+}
+
+pub(crate) fn mapped_values<M: Mapping>(
     alloc: Global,
     values: &BTreeMap<Ident, Value>,
     by: &M,
-) -> Result<Vec<(Ident, Value)>, Memory> {
-    let mut changes = Vec::new(alloc);
+    is_changed: &mut bool,
+) -> Result<BTreeMap<Ident, Value>, Memory>
+    ensures becomes { Each IsOrderedValue (entries_of value_of values.now.entries) → IfOk result (λ m. entries_of value_of m.entries ≡ replaced (value_by (M.bound_gives by.now) (M.free_gives by.now) (M.name_gives by.now)) (entries_of value_of values.now.entries)) }
+    ensures stays { Each IsOrderedValue (entries_of value_of values.now.entries) → OnOk result (is_changed.new ≡ false → (is_changed.old ≡ false) × (replaced (value_by (M.bound_gives by.now) (M.free_gives by.now) (M.name_gives by.now)) (entries_of value_of values.now.entries) ≡ entries_of value_of values.now.entries)) }
+{
+    let mut copies = BTreeMap::new(alloc);
     for (name, value) in values {
-        if let Some(changed) = changed_value(alloc, value, by)? {
-            changes.push((name.clone()?, changed))?;
-        }
+        let copy = mapped_value(alloc, value, by, is_changed)?;
+        copies.insert(name.clone()?, copy)?;
     }
-    Ok(changes)
+    Ok(copies)
+}
+
+/// What an environment becomes, or `None` where it stays.
+#[cycle(envs)]
+fn changed_env<M: Mapping>(alloc: Global, env: &Env, by: &M) -> Result<Option<Rc<Env>>, Memory>
+    ensures { AreOrderedIn (env_of env.now) → IfOk result (λ o. changed_or (env_of env.now) (option_map (λ e. env_of e.value) o) ≡ env_by (M.bound_gives by.now) (M.free_gives by.now) (M.name_gives by.now) (env_of env.now)) }
+{
+    let mut is_changed = false;
+    let structures = mapped_structures(alloc, &env.structures, by, &mut is_changed)?;
+    let types = mapped_types(alloc, &env.types, by, &mut is_changed)?;
+    let values = mapped_values(alloc, &env.values, by, &mut is_changed)?;
+    if !is_changed {
+        return Ok(None);
+    }
+    let mut copy = Env::new(alloc);
+    copy.structures = structures;
+    copy.types = types;
+    copy.values = values;
+    Ok(Some(Rc::new(alloc, copy)?))
+}
+
+#[cycle(envs)]
+pub(crate) fn mapped_structures<M: Mapping>(
+    alloc: Global,
+    structures: &BTreeMap<Ident, Rc<Env>>,
+    by: &M,
+    is_changed: &mut bool,
+) -> Result<BTreeMap<Ident, Rc<Env>>, Memory>
+    ensures becomes { AreOrderedInAll (structures_of (entries_of (λ s. env_of s.value) structures.now.entries)) → IfOk result (λ m. structures_of (entries_of (λ s. env_of s.value) m.entries)
+        ≡ replace_structures (ty_str_by (M.bound_gives by.now) (M.free_gives by.now) (M.name_gives by.now)) (value_by (M.bound_gives by.now) (M.free_gives by.now) (M.name_gives by.now)) (structures_of (entries_of (λ s. env_of s.value) structures.now.entries))) }
+    ensures stays { AreOrderedInAll (structures_of (entries_of (λ s. env_of s.value) structures.now.entries)) → OnOk result (is_changed.new ≡ false → (is_changed.old ≡ false)
+        × (replace_structures (ty_str_by (M.bound_gives by.now) (M.free_gives by.now) (M.name_gives by.now)) (value_by (M.bound_gives by.now) (M.free_gives by.now) (M.name_gives by.now)) (structures_of (entries_of (λ s. env_of s.value) structures.now.entries)) ≡ structures_of (entries_of (λ s. env_of s.value) structures.now.entries))) }
+{
+    let mut copies = BTreeMap::new(alloc);
+    for (name, structure) in structures {
+        let changed = changed_env(alloc, structure, by)?;
+        let copy = or_shared(changed, structure, is_changed)?;
+        copies.insert(name.clone()?, copy)?;
+    }
+    Ok(copies)
+}
+
+/// The environment that is given, or else this one, shared.
+fn or_shared(
+    changed: Option<Rc<Env>>,
+    env: &Rc<Env>,
+    is_changed: &mut bool,
+) -> Result<Rc<Env>, Memory>
+    ensures becomes { IfOk result (λ e. env_of e.value ≡ changed_or (env_of env.now.value) (option_map (λ e. env_of e.value) changed)) }
+    ensures stays { OnOk result (is_changed.new ≡ false → (is_changed.old ≡ false) × (option_map (λ e. env_of e.value) changed ≡ None)) }
+{
+    match changed {
+        Some(changed) => {
+            *is_changed = true;
+            Ok(changed)
+        }
+        None => Ok(env.clone()?),
+    }
 }

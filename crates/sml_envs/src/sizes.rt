@@ -5,8 +5,8 @@ ghost use Rattle.sml_objects.specs.Views.{entries_of, schemes_of};
 ghost use Rattle.sml_bases.specs.Views.{env_of, structures_of, ty_str_of, value_of};
 ghost use Rattle.sml_envs.specs.Large.{has_large, have_large, is_large, is_large_type, is_large_value, some_entry};
 
+use crate::extents::require_room;
 use sml_bases::objects::{Constructors, Env, TypeStr, Value};
-use sml_bases::visits::Visits;
 use sml_lex::fault::Memory;
 use sml_tree::bare::Ident;
 use sml_type_maps::mapping::Mapping;
@@ -15,25 +15,19 @@ use std::alloc::Global;
 use std::collections::BTreeMap;
 use std::rc::Rc;
 
-/// Whether some scheme or type function of an environment becomes larger than a scheme may be. Nothing is made. The contract
-/// speaks of a yes alone, since what was visited is found by a number in a cell.
+/// Whether some scheme or type function of an environment becomes larger than a scheme may be. Nothing is made.
 pub fn has_large_under<M: Mapping>(alloc: Global, env: &Env, by: &M) -> Result<bool, Memory>
-    ensures { IfOk result (λ b. b ≡ true → has_large (M.bound_gives by.now) (M.free_gives by.now) (M.name_gives by.now) (env_of env.now) ≡ true) }
+    ensures { IfOk result (λ b. b ≡ has_large (M.bound_gives by.now) (M.free_gives by.now) (M.name_gives by.now) (env_of env.now)) }
 {
-    has_large(alloc, env, by, &mut Visits::new(alloc))
+    require_room(alloc, env)?;
+    has_large(alloc, env, by)
 }
 
-/// The same, where none of the environments that were visited has one.
 #[cycle(envs)]
-fn has_large<M: Mapping>(
-    alloc: Global,
-    env: &Env,
-    by: &M,
-    visits: &mut Visits<()>,
-) -> Result<bool, Memory>
-    ensures { IfOk result (λ b. b ≡ true → has_large (M.bound_gives by.now) (M.free_gives by.now) (M.name_gives by.now) (env_of env.now) ≡ true) }
+fn has_large<M: Mapping>(alloc: Global, env: &Env, by: &M) -> Result<bool, Memory>
+    ensures { IfOk result (λ b. b ≡ has_large (M.bound_gives by.now) (M.free_gives by.now) (M.name_gives by.now) (env_of env.now)) }
 {
-    let is_large = have_large(alloc, &env.structures, by, visits)?
+    let is_large = have_large(alloc, &env.structures, by)?
         || types_are_large(alloc, &env.types, by)?
         || values_are_large(alloc, &env.values, by)?;
     Ok(is_large)
@@ -44,16 +38,12 @@ fn have_large<M: Mapping>(
     alloc: Global,
     structures: &BTreeMap<Ident, Rc<Env>>,
     by: &M,
-    visits: &mut Visits<()>,
 ) -> Result<bool, Memory>
-    ensures { IfOk result (λ b. b ≡ true → have_large (M.bound_gives by.now) (M.free_gives by.now) (M.name_gives by.now) (structures_of (entries_of (λ s. env_of s.value) structures.now.entries)) ≡ true) }
+    ensures { IfOk result (λ b. b ≡ have_large (M.bound_gives by.now) (M.free_gives by.now) (M.name_gives by.now) (structures_of (entries_of (λ s. env_of s.value) structures.now.entries))) }
 {
     for (_, structure) in structures {
-        if visits.get(structure).is_none() {
-            if has_large(alloc, structure, by, visits)? {
-                return Ok(true);
-            }
-            visits.put(structure, ())?;
+        if has_large(alloc, structure, by)? {
+            return Ok(true);
         }
     }
     Ok(false)

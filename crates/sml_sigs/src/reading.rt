@@ -6,7 +6,7 @@ use crate::sigs::Unshared;
 use crate::specs::{exceptions, new_datatypes, replication, types, values};
 use crate::wheres::realised;
 use sml_bases::objects::{Basis, Env, Sig};
-use sml_envs::canonical::renamed_sig;
+use sml_envs::renaming::renamed_sig;
 use sml_lex::fault::{Code, Memory, Place};
 use sml_objects::objects::TyName;
 use sml_scopes::scopes::Scopes;

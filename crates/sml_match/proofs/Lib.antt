@@ -1,6 +1,11 @@
+mod Ascriptions
 mod Held
+mod KnownFunctions
+mod Ordered
 mod Reading
+mod Realised
 mod Refusals
+mod Renewed
 mod Requiring
 mod Sought
 mod Unmet

@@ -1,3 +1,4 @@
+pub mod Ascribed
 pub mod Mismatches
 pub mod Paths
 pub mod Required

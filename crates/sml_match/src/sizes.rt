@@ -1,5 +1,12 @@
 //! That nothing in an environment becomes too large, asked before it is made.
 
+ghost use Rattle.std.specs.Prelude.{None, not};
+ghost use Rattle.sml_lex.specs.declared.fault.Code.TheVariants.{E7};
+ghost use Rattle.sml_core_rules.specs.Answers.{check};
+ghost use Rattle.sml_bases.specs.Views.{env_of};
+ghost use Rattle.sml_envs.specs.Large.{has_large};
+ghost use Rattle.sml_types.specs.Answered.{IsAnswer};
+
 use sml_bases::objects::Env;
 use sml_envs::sizes::has_large_under;
 use sml_lex::fault::{Code, Place};
@@ -13,7 +20,9 @@ pub fn small_env_under<M: Mapping>(
     place: Place,
     env: &Env,
     by: &M,
-) -> Result<(), CoreFault> {
+) -> Result<(), CoreFault>
+    ensures { IsAnswer (λ _. tt) result (check (not (has_large (M.bound_gives by.now) (M.free_gives by.now) (M.name_gives by.now) (env_of env.now))) (record { code = E7; place = place; detail = None })) }
+{
     if has_large_under(alloc, env, by)? {
         return Err(plain_fault(Code::E7, place));
     }

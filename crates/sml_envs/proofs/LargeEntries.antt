@@ -90,9 +90,6 @@ module _ (b f : ℕ → O.MlType Name) (n : Name → O.MlTypes Name → O.MlType
   pub by-types : (e : Held) → some_entry (is_large_type b f n) (entries_of ty_str_of (out-Env e).types.entries) ≡ true → has_large b f n (env_of e) ≡ true
   by-types e h = parts-large e ∙ or-right _ _ (or-left _ _ h)
 
-  pub by-values : (e : Held) → some_entry (is_large_value b f n) (entries_of value_of (out-Env e).values.entries) ≡ true → has_large b f n (env_of e) ≡ true
-  by-values e h = parts-large e ∙ or-right _ _ (or-right _ _ h)
-
   -- where only the values are left
   pub by-rest : (e : Held) (v : Bool) → have_large b f n (structures_of (entries_of (λ s. env_of s.value) (out-Env e).structures.entries)) ≡ false
       → some_entry (is_large_type b f n) (entries_of ty_str_of (out-Env e).types.entries) ≡ false

@@ -316,8 +316,8 @@ impl Numbering<'_> {
     {
         let mut is_changed = false;
         let structures = mapped_structures(self.alloc, &env.structures, self, &mut is_changed)?;
-        let types = mapped_types(self.alloc, &env.types, self, &mut is_changed)?;
-        let values = mapped_values(self.alloc, &env.values, self, &mut is_changed)?;
+        let types = mapped_types(self.alloc, &env.types, self)?;
+        let values = mapped_values(self.alloc, &env.values, self)?;
         let mut own = Env::new(self.alloc);
         own.structures = structures;
         own.types = types;

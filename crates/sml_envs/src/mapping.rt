@@ -13,7 +13,9 @@ use crate::extents::require_room;
 use sml_bases::objects::{Constructors, Env, TypeStr, Value};
 use sml_lex::fault::Memory;
 use sml_tree::bare::Ident;
-use sml_type_maps::mapping::{Mapping, changed_function, changed_scheme, mapped_scheme};
+use sml_type_maps::mapping::{
+    Mapping, changed_function, changed_scheme, mapped_function, mapped_scheme,
+};
 use std::alloc::Global;
 use std::collections::BTreeMap;
 use std::rc::Rc;
@@ -73,106 +75,87 @@ pub fn mapped_constructors<M: Mapping>(
     Ok(constructors.clone()?)
 }
 
-fn changed_type_str<M: Mapping>(
-    alloc: Global,
-    ty: &TypeStr,
-    by: &M,
-) -> Result<Option<TypeStr>, Memory>
-    ensures { HasOrdered (ty_str_of ty.now) → IfOk result (λ o. changed_or (ty_str_of ty.now) (option_map ty_str_of o) ≡ ty_str_by (M.bound_gives by.now) (M.free_gives by.now) (M.name_gives by.now) (ty_str_of ty.now)) }
+fn changes_type_str<M: Mapping>(alloc: Global, ty: &TypeStr, by: &M) -> Result<bool, Memory>
+    ensures { HasOrdered (ty_str_of ty.now) → IfOk result (λ b. b ≡ false → ty_str_by (M.bound_gives by.now) (M.free_gives by.now) (M.name_gives by.now) (ty_str_of ty.now) ≡ ty_str_of ty.now) }
 {
-    let changed = changed_function(alloc, &ty.function, by)?;
-    if changed.is_none() && !changes_schemes(alloc, &ty.constructors, by)? {
-        return Ok(None);
-    }
-    let function = match changed {
-        Some(changed) => changed,
-        None => ty.function.clone()?,
-    };
-    let constructors = mapped_constructors(alloc, &ty.constructors, by)?;
-    Ok(Some(TypeStr {
-        function,
-        constructors,
-    }))
+    let is_changed = changed_function(alloc, &ty.function, by)?.is_some()
+        || changes_schemes(alloc, &ty.constructors, by)?;
+    Ok(is_changed)
 }
 
-fn changed_value<M: Mapping>(alloc: Global, value: &Value, by: &M) -> Result<Option<Value>, Memory>
-    ensures { IsOrderedValue (value_of value.now) → IfOk result (λ o. changed_or (value_of value.now) (option_map value_of o) ≡ value_by (M.bound_gives by.now) (M.free_gives by.now) (M.name_gives by.now) (value_of value.now)) }
-{
-    match changed_scheme(alloc, &value.scheme, by)? {
-        None => Ok(None),
-        Some(scheme) => Ok(Some(Value {
-            status: value.status,
-            scheme,
-        })),
-    }
-}
-
-/// What a type structure becomes. The flag says whether anything changed, and stays where it was set.
-fn mapped_type_str<M: Mapping>(
+fn types_change<M: Mapping>(
     alloc: Global,
-    ty: &TypeStr,
+    types: &BTreeMap<Ident, TypeStr>,
     by: &M,
-    is_changed: &mut bool,
-) -> Result<TypeStr, Memory>
-    ensures becomes { HasOrdered (ty_str_of ty.now) → IfOk result (λ t. ty_str_of t ≡ ty_str_by (M.bound_gives by.now) (M.free_gives by.now) (M.name_gives by.now) (ty_str_of ty.now)) }
-    ensures stays { HasOrdered (ty_str_of ty.now) → OnOk result (is_changed.new ≡ false → (is_changed.old ≡ false) × (ty_str_by (M.bound_gives by.now) (M.free_gives by.now) (M.name_gives by.now) (ty_str_of ty.now) ≡ ty_str_of ty.now)) }
+) -> Result<bool, Memory>
+    ensures { HaveOrdered (entries_of ty_str_of types.now.entries) → IfOk result (λ b. b ≡ false → replaced (ty_str_by (M.bound_gives by.now) (M.free_gives by.now) (M.name_gives by.now)) (entries_of ty_str_of types.now.entries) ≡ entries_of ty_str_of types.now.entries) }
 {
-    match changed_type_str(alloc, ty, by)? {
-        Some(changed) => {
-            *is_changed = true;
-            Ok(changed)
+    for (_, ty) in types {
+        if changes_type_str(alloc, ty, by)? {
+            return Ok(true);
         }
-        None => ty.share(),
     }
+    Ok(false)
+}
+
+fn values_change<M: Mapping>(
+    alloc: Global,
+    values: &BTreeMap<Ident, Value>,
+    by: &M,
+) -> Result<bool, Memory>
+    ensures { Each IsOrderedValue (entries_of value_of values.now.entries) → IfOk result (λ b. b ≡ false → replaced (value_by (M.bound_gives by.now) (M.free_gives by.now) (M.name_gives by.now)) (entries_of value_of values.now.entries) ≡ entries_of value_of values.now.entries) }
+{
+    for (_, value) in values {
+        if changed_scheme(alloc, &value.scheme, by)?.is_some() {
+            return Ok(true);
+        }
+    }
+    Ok(false)
+}
+
+fn mapped_type_str<M: Mapping>(alloc: Global, ty: &TypeStr, by: &M) -> Result<TypeStr, Memory>
+    ensures { HasOrdered (ty_str_of ty.now) → IfOk result (λ t. ty_str_of t ≡ ty_str_by (M.bound_gives by.now) (M.free_gives by.now) (M.name_gives by.now) (ty_str_of ty.now)) }
+{
+    Ok(TypeStr {
+        function: mapped_function(alloc, &ty.function, by)?,
+        constructors: mapped_constructors(alloc, &ty.constructors, by)?,
+    })
 }
 
 pub(crate) fn mapped_types<M: Mapping>(
     alloc: Global,
     types: &BTreeMap<Ident, TypeStr>,
     by: &M,
-    is_changed: &mut bool,
 ) -> Result<BTreeMap<Ident, TypeStr>, Memory>
-    ensures becomes { HaveOrdered (entries_of ty_str_of types.now.entries) → IfOk result (λ m. entries_of ty_str_of m.entries ≡ replaced (ty_str_by (M.bound_gives by.now) (M.free_gives by.now) (M.name_gives by.now)) (entries_of ty_str_of types.now.entries)) }
-    ensures stays { HaveOrdered (entries_of ty_str_of types.now.entries) → OnOk result (is_changed.new ≡ false → (is_changed.old ≡ false) × (replaced (ty_str_by (M.bound_gives by.now) (M.free_gives by.now) (M.name_gives by.now)) (entries_of ty_str_of types.now.entries) ≡ entries_of ty_str_of types.now.entries)) }
+    ensures { HaveOrdered (entries_of ty_str_of types.now.entries) → IfOk result (λ m. entries_of ty_str_of m.entries ≡ replaced (ty_str_by (M.bound_gives by.now) (M.free_gives by.now) (M.name_gives by.now)) (entries_of ty_str_of types.now.entries)) }
 {
     let mut copies = BTreeMap::new(alloc);
     for (name, ty) in types {
-        let copy = mapped_type_str(alloc, ty, by, is_changed)?;
+        let copy = mapped_type_str(alloc, ty, by)?;
         copies.insert(name.clone()?, copy)?;
     }
     Ok(copies)
 }
 
-fn mapped_value<M: Mapping>(
-    alloc: Global,
-    value: &Value,
-    by: &M,
-    is_changed: &mut bool,
-) -> Result<Value, Memory>
-    ensures becomes { IsOrderedValue (value_of value.now) → IfOk result (λ v. value_of v ≡ value_by (M.bound_gives by.now) (M.free_gives by.now) (M.name_gives by.now) (value_of value.now)) }
-    ensures stays { IsOrderedValue (value_of value.now) → OnOk result (is_changed.new ≡ false → (is_changed.old ≡ false) × (value_by (M.bound_gives by.now) (M.free_gives by.now) (M.name_gives by.now) (value_of value.now) ≡ value_of value.now)) }
+fn mapped_value<M: Mapping>(alloc: Global, value: &Value, by: &M) -> Result<Value, Memory>
+    ensures { IsOrderedValue (value_of value.now) → IfOk result (λ v. value_of v ≡ value_by (M.bound_gives by.now) (M.free_gives by.now) (M.name_gives by.now) (value_of value.now)) }
 {
-    match changed_value(alloc, value, by)? {
-        Some(changed) => {
-            *is_changed = true;
-            Ok(changed)
-        }
-        None => value.share(),
-    }
+    Ok(Value {
+        status: value.status,
+        scheme: mapped_scheme(alloc, &value.scheme, by)?,
+    })
 }
 
 pub(crate) fn mapped_values<M: Mapping>(
     alloc: Global,
     values: &BTreeMap<Ident, Value>,
     by: &M,
-    is_changed: &mut bool,
 ) -> Result<BTreeMap<Ident, Value>, Memory>
-    ensures becomes { Each IsOrderedValue (entries_of value_of values.now.entries) → IfOk result (λ m. entries_of value_of m.entries ≡ replaced (value_by (M.bound_gives by.now) (M.free_gives by.now) (M.name_gives by.now)) (entries_of value_of values.now.entries)) }
-    ensures stays { Each IsOrderedValue (entries_of value_of values.now.entries) → OnOk result (is_changed.new ≡ false → (is_changed.old ≡ false) × (replaced (value_by (M.bound_gives by.now) (M.free_gives by.now) (M.name_gives by.now)) (entries_of value_of values.now.entries) ≡ entries_of value_of values.now.entries)) }
+    ensures { Each IsOrderedValue (entries_of value_of values.now.entries) → IfOk result (λ m. entries_of value_of m.entries ≡ replaced (value_by (M.bound_gives by.now) (M.free_gives by.now) (M.name_gives by.now)) (entries_of value_of values.now.entries)) }
 {
     let mut copies = BTreeMap::new(alloc);
     for (name, value) in values {
-        let copy = mapped_value(alloc, value, by, is_changed)?;
+        let copy = mapped_value(alloc, value, by)?;
         copies.insert(name.clone()?, copy)?;
     }
     Ok(copies)
@@ -185,11 +168,14 @@ fn changed_env<M: Mapping>(alloc: Global, env: &Env, by: &M) -> Result<Option<Rc
 {
     let mut is_changed = false;
     let structures = mapped_structures(alloc, &env.structures, by, &mut is_changed)?;
-    let types = mapped_types(alloc, &env.types, by, &mut is_changed)?;
-    let values = mapped_values(alloc, &env.values, by, &mut is_changed)?;
-    if !is_changed {
+    if !is_changed
+        && !types_change(alloc, &env.types, by)?
+        && !values_change(alloc, &env.values, by)?
+    {
         return Ok(None);
     }
+    let types = mapped_types(alloc, &env.types, by)?;
+    let values = mapped_values(alloc, &env.values, by)?;
     let mut copy = Env::new(alloc);
     copy.structures = structures;
     copy.types = types;

@@ -73,16 +73,15 @@ mapped_structures-returns-clause-stays g t c = λ o no.
     let old = (c.loop-name.invariant each).1 no in
     (old.0, sym (structures-by (g.M.Mapping.bound_gives c.args.by.now) (g.M.Mapping.free_gives c.args.by.now) (g.M.Mapping.name_gives c.args.by.now) (entries_of (λ s. env_of s.value) all)) ∙ ap structures_of (subst (λ l. replaced h (entries_of (λ s. env_of s.value) l) ≡ entries_of (λ s. env_of s.value) l) whole old.1))
 
-pub changed_env-returns-then-not-is_changed : goal.changed_env-returns-then-not-is_changed
-changed_env-returns-then-not-is_changed g t c = λ o.
+pub changed_env-returns-then-not-branch-2 : goal.changed_env-returns-then-not-branch-2
+changed_env-returns-then-not-branch-2 g t c = λ o.
     let split = ordered-parts (out-Env c.args.env.now) (subst AreOrderedIn (env_of-out c.args.env.now) o) in
-    let values = c.in_ok-values.ensures.stays split.1.1 c.if-not-is_changed.true in
-    let types = c.in_ok-types.ensures.stays split.1.0 values.0 in
-    let structures = c.in_ok-structures.ensures.stays split.0 types.0 in
-    stays-by (g.M.Mapping.bound_gives c.args.by.now) (g.M.Mapping.free_gives c.args.by.now) (g.M.Mapping.name_gives c.args.by.now) c.args.env.now structures.1 types.1 values.1
+    let structures = c.in_ok-structures.ensures.stays split.0 c.if-not-is_changed.true in
+    stays-by (g.M.Mapping.bound_gives c.args.by.now) (g.M.Mapping.free_gives c.args.by.now) (g.M.Mapping.name_gives c.args.by.now) c.args.env.now structures.1
+    (c.in_ok-types_change.ensures split.1.0 c.if-not-branch.true) (c.in_ok-values_change.ensures split.1.1 c.if-not-branch-2.true)
 
 pub changed_env-returns : goal.changed_env-returns
 changed_env-returns g t c = λ o.
     let split = ordered-parts (out-Env c.args.env.now) (subst AreOrderedIn (env_of-out c.args.env.now) o) in
     made-by (g.M.Mapping.bound_gives c.args.by.now) (g.M.Mapping.free_gives c.args.by.now) (g.M.Mapping.name_gives c.args.by.now) c.args.env.now _ _ c.in_ok-new.ensures.ok
-    (c.in_ok-structures.ensures.becomes split.0) (c.in_ok-types.ensures.becomes split.1.0) (c.in_ok-values.ensures.becomes split.1.1)
+    (c.in_ok-structures.ensures.becomes split.0) (c.in_ok-types.ensures split.1.0) (c.in_ok-values.ensures split.1.1)

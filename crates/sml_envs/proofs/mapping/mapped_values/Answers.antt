@@ -8,7 +8,7 @@ use Rattle.sml_objects.proofs.SortedMaps.{mapped-next, put-in-order}
 use Rattle.sml_core_rules.specs.Objects.{replaced}
 use Rattle.sml_bases.specs.Views.{value_of}
 use Rattle.sml_envs.specs.Mapped.{Each, IsOrderedValue, value_by}
-use Rattle.sml_envs.proofs.EntryMaps.{each-split, stays-next}
+use Rattle.sml_envs.proofs.EntryMaps.{each-split}
 use Rattle.sml_envs.proofs.mapping.mapped_values.Goals as goal
 
 pub loop-name-preserved-in_ok-insert : goal.loop-name-preserved-in_ok-insert
@@ -17,15 +17,9 @@ loop-name-preserved-in_ok-insert g c = λ o.
     let ys = map deref_pair c.loop-name.yielded in
     let more = map-append deref_pair c.loop-name.yielded ((c.in-Some.name, c.in-Some.value) ∷ []) in
     let parts = each-split value_of IsOrderedValue ys c.in-Some.name.now c.in-Some.value.now (subst (λ l. Each IsOrderedValue (entries_of value_of l)) more o) in
-    let before = c.loop-name.invariant parts.0 in (
-      mapped-next value_of h c.loop-name.copies.entries c.insert.new.self.entries ys _ c.in_ok-clone.field-0 c.in-Some.name.now c.in_ok-copy.copy
-          c.in-Some.value.now c.in_ok-insert.ensures.entries more (ap (λ v. v.items) c.in_ok-clone.ensures.cases)
-          (c.in_ok-copy.ensures.becomes parts.1) before.0,
-      λ no.
-          let this = c.in_ok-copy.ensures.stays parts.1 no in
-          let old = before.1 this.0 in
-          (old.0, stays-next value_of h ys _ c.in-Some.name.now c.in-Some.value.now more old.1 this.1),
-    )
+    mapped-next value_of h c.loop-name.copies.entries c.insert.new.self.entries ys _ c.in_ok-clone.field-0 c.in-Some.name.now c.in_ok-copy.copy
+    c.in-Some.value.now c.in_ok-insert.ensures.entries more (ap (λ v. v.items) c.in_ok-clone.ensures.cases)
+    (c.in_ok-copy.ensures parts.1) (c.loop-name.invariant parts.0)
 
 pub loop-name-preserved : goal.loop-name-preserved
 loop-name-preserved g c = λ o.
@@ -33,20 +27,14 @@ loop-name-preserved g c = λ o.
     let ys = map deref_pair c.loop-name.yielded in
     let more = map-append deref_pair c.loop-name.yielded ((c.in-Some.name, c.in-Some.value) ∷ []) in
     let parts = each-split value_of IsOrderedValue ys c.in-Some.name.now c.in-Some.value.now (subst (λ l. Each IsOrderedValue (entries_of value_of l)) more o) in
-    let before = c.loop-name.invariant parts.0 in (
-      mapped-next value_of h c.loop-name.copies.entries c.insert.new.self.entries ys _ c.in_ok-clone.field-0 c.in-Some.name.now c.in_ok-copy.copy
-          c.in-Some.value.now c.in_ok-insert.ensures.entries more (ap (λ v. v.items) c.in_ok-clone.ensures.cases)
-          (c.in_ok-copy.ensures.becomes parts.1) before.0,
-      λ no.
-          let this = c.in_ok-copy.ensures.stays parts.1 no in
-          let old = before.1 this.0 in
-          (old.0, stays-next value_of h ys _ c.in-Some.name.now c.in-Some.value.now more old.1 this.1),
-    )
+    mapped-next value_of h c.loop-name.copies.entries c.insert.new.self.entries ys _ c.in_ok-clone.field-0 c.in-Some.name.now c.in_ok-copy.copy
+    c.in-Some.value.now c.in_ok-insert.ensures.entries more (ap (λ v. v.items) c.in_ok-clone.ensures.cases)
+    (c.in_ok-copy.ensures parts.1) (c.loop-name.invariant parts.0)
 
-pub returns-clause-becomes : goal.returns-clause-becomes
-returns-clause-becomes g c = λ o.
+pub returns : goal.returns
+returns g c = λ o.
     let h = value_by (g.M.Mapping.bound_gives c.args.by.now) (g.M.Mapping.free_gives c.args.by.now) (g.M.Mapping.name_gives c.args.by.now) in
     let whole : map deref_pair c.loop-name.yielded ≡ c.args.values.now.entries = search (rules, iter_end) in
-    (c.loop-name.invariant (subst (λ l. Each IsOrderedValue (entries_of value_of l)) (sym whole) o)).0
+    c.loop-name.invariant (subst (λ l. Each IsOrderedValue (entries_of value_of l)) (sym whole) o)
     ∙ ap (λ l. join [] (replaced h (entries_of value_of l))) whole
     ∙ put-in-order value_of h c.args.values.now.entries c.into_iter-name-iterator.ensures.into_iter_gives.5

@@ -1,4 +1,4 @@
-use Rattle.std.proofs.Common.{◌≡◌, [], false, map}
+use Rattle.std.proofs.Common.{◌≡◌, [], map}
 use Rattle.std.specs.Map.Iter.{deref_pair}
 use Rattle.sml_objects.specs.Maps.{join}
 use Rattle.sml_objects.specs.Views.{entries_of}
@@ -10,5 +10,4 @@ use Rattle.sml_envs.proofs.mapping.mapped_values.Given as goal
 abbrev pub invariant-loop-name : goal.invariant-loop-name
 invariant-loop-name g l =
     Each IsOrderedValue (entries_of value_of (map deref_pair l.yielded))
-    → (entries_of value_of l.copies.entries ≡ join [] (replaced (value_by (g.M.Mapping.bound_gives l.by) (g.M.Mapping.free_gives l.by) (g.M.Mapping.name_gives l.by)) (entries_of value_of (map deref_pair l.yielded))))
-    × (l.is_changed ≡ false → (l.initial.is_changed ≡ false) × (replaced (value_by (g.M.Mapping.bound_gives l.by) (g.M.Mapping.free_gives l.by) (g.M.Mapping.name_gives l.by)) (entries_of value_of (map deref_pair l.yielded)) ≡ entries_of value_of (map deref_pair l.yielded)))
+    → entries_of value_of l.copies.entries ≡ join [] (replaced (value_by (g.M.Mapping.bound_gives l.by) (g.M.Mapping.free_gives l.by) (g.M.Mapping.name_gives l.by)) (entries_of value_of (map deref_pair l.yielded)))

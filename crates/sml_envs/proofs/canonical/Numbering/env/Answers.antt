@@ -15,5 +15,5 @@ returns c = λ o.
     let r = renumber (maker_of c.args.self.now.unit) c.args.self.now.count (map name_of c.args.self.now.names.now.keys) in
     let split = ordered-parts (out-Env c.args.env.now) (subst AreOrderedIn (env_of-out c.args.env.now) o) in
     made-by O.bound O.free (named_by r) c.args.env.now _ _ refl
-    (c.in_ok-structures.ensures.becomes split.0) (c.in_ok-types.ensures.becomes split.1.0) (c.in_ok-values.ensures.becomes split.1.1)
+    (c.in_ok-structures.ensures.becomes split.0) (c.in_ok-types.ensures split.1.0) (c.in_ok-values.ensures split.1.1)
     ∙ env-named r (env_of c.args.env.now) o

@@ -1,8 +1,10 @@
 -- New names in the place of others.
-use Rattle.std.specs.Prelude.{ℕ, suc, cond, List, [], ◌∷◌, Option, None, Some}
+use Rattle.std.specs.Prelude.{ℕ, suc, Bool, ◌&&◌, cond, List, [], ◌∷◌, Option, None, Some}
 use Rattle.std.specs.Option.{option_or}
+use Rattle.sml_tree.specs.Trees.{Id}
 use Rattle.sml_objects.specs.Initial.{Name, initial, made}
 use Rattle.sml_type_maps.specs.Mapped.{is_same}
+use Rattle.sml_type_maps.specs.NewNames.{same_number}
 
 -- Names of a maker from a number on, each like one of a list. An initial one stays.
 abbrev pub made_like : ℕ → ℕ → List Name → List Name
@@ -21,3 +23,10 @@ abbrev pub new_for : List Name → List Name → Name → Option Name
 new_for [] ms n = None
 new_for (x ∷ xs) [] n = None
 new_for (x ∷ xs) (m ∷ ms) n = option_or (new_for xs ms n) (cond (is_same n x) (Some m) None)
+
+-- What names carry after those of the second list were made in order, each with what the one in its place in the first carries.
+-- It is told by numbers: a new name carries what one with its number was made with, or else what it carried.
+abbrev pub carries_like : (Name → Bool) → List Name → List Name → (Name → Option (List Id)) → Name → Option (List Id)
+carries_like is_new [] ms f n = f n
+carries_like is_new (x ∷ xs) [] f n = f n
+carries_like is_new (x ∷ xs) (m ∷ ms) f n = carries_like is_new xs ms (λ k. cond (is_new k && same_number k m) (option_or (f x) (f k)) (f k)) n

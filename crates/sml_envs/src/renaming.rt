@@ -7,8 +7,9 @@ ghost use Rattle.sml_objects.specs.Objects as O;
 ghost use Rattle.sml_objects.specs.Views.{maker_of, name_of};
 ghost use Rattle.sml_bases.specs.Views.{env_of};
 ghost use Rattle.sml_type_maps.specs.Mapped.{by_name, names_of, or_by_name};
+ghost use Rattle.sml_type_maps.specs.NewNames.{carries, is_new};
 ghost use Rattle.sml_envs.specs.Mapped.{AreOrderedIn, env_by};
-ghost use Rattle.sml_envs.specs.Renamed.{made_like, new_for, number_after};
+ghost use Rattle.sml_envs.specs.Renamed.{carries_like, made_like, new_for, number_after};
 
 use crate::mapping::mapped_env;
 use indexmap::IndexMap;
@@ -32,6 +33,7 @@ impl Renaming {
     fn of(alloc: Global, names: &[TyName], new: &mut NewNames) -> Result<Renaming, Memory>
         ensures made { IfOk result (λ r. map name_of r.made.items ≡ made_like (maker_of new.old.unit) new.old.next (map name_of names.now)) }
         ensures others { IfOk result (λ r. (n : Name) → names_of r.others.entries n ≡ new_for (map name_of names.now) (made_like (maker_of new.old.unit) new.old.next (map name_of names.now)) n) }
+        ensures carried { OnOk result ((n : Name) → carries new.new n ≡ carries_like (is_new new.old) (map name_of names.now) (made_like (maker_of new.old.unit) new.old.next (map name_of names.now)) (carries new.old) n) }
         ensures next { OnOk result (new.new.next ≡ number_after new.old.next (map name_of names.now)) }
         ensures basis { new.new.basis ≡ new.old.basis }
         ensures unit { new.new.unit ≡ new.old.unit }
@@ -86,6 +88,7 @@ pub fn renamed_sig(alloc: Global, sig: &Sig, new: &mut NewNames) -> Result<Sig, 
     ensures names { IfOk result (λ s. map name_of s.names.items ≡ made_like (maker_of new.old.unit) new.old.next (map name_of sig.now.names.items)) }
     ensures env { AreOrderedIn (env_of sig.now.env.value) → IfOk result (λ s. env_of s.env.value
         ≡ env_by O.bound O.free (λ n ts. by_name (new_for (map name_of sig.now.names.items) (made_like (maker_of new.old.unit) new.old.next (map name_of sig.now.names.items)) n) n ts) (env_of sig.now.env.value)) }
+    ensures carried { OnOk result ((n : Name) → carries new.new n ≡ carries_like (is_new new.old) (map name_of sig.now.names.items) (made_like (maker_of new.old.unit) new.old.next (map name_of sig.now.names.items)) (carries new.old) n) }
     ensures next { OnOk result (new.new.next ≡ number_after new.old.next (map name_of sig.now.names.items)) }
     ensures basis { new.new.basis ≡ new.old.basis }
     ensures unit { new.new.unit ≡ new.old.unit }
@@ -135,6 +138,7 @@ pub fn applied_result<M: Mapping>(
 ) -> Result<Rc<Env>, Memory>
     ensures env { AreOrderedIn (env_of functor.now.result.env.value) → IfOk result (λ e. env_of e.value
         ≡ env_by O.bound O.free (λ n ts. or_by_name (new_for (map name_of functor.now.result.names.items) (made_like (maker_of new.old.unit) new.old.next (map name_of functor.now.result.names.items)) n) ts (M.name_gives realisation.now n ts)) (env_of functor.now.result.env.value)) }
+    ensures carried { OnOk result ((n : Name) → carries new.new n ≡ carries_like (is_new new.old) (map name_of functor.now.result.names.items) (made_like (maker_of new.old.unit) new.old.next (map name_of functor.now.result.names.items)) (carries new.old) n) }
     ensures next { OnOk result (new.new.next ≡ number_after new.old.next (map name_of functor.now.result.names.items)) }
     ensures basis { new.new.basis ≡ new.old.basis }
     ensures unit { new.new.unit ≡ new.old.unit }

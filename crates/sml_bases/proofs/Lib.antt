@@ -1,2 +1,5 @@
 pub mod EnvViews
 mod Nearest
+pub mod SomeEntries
+pub mod Totals
+mod Unknowns

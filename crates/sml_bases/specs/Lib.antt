@@ -1,3 +1,5 @@
 pub mod Views
 pub mod Layers
 pub mod CodeStored
+pub mod Entries
+pub mod Summaries

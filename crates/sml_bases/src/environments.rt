@@ -9,11 +9,10 @@ ghost use Rattle.sml_core_rules.specs.Objects.{empty, extend};
 ghost use Rattle.sml_bases.specs.declared.objects.Env.TheViews.{out-Env};
 ghost use Rattle.sml_bases.specs.Views.{env_of, ty_str_of, value_of};
 
-use crate::objects::{Env, TypeStr, Value};
+use crate::objects::{Env, Summary, TypeStr, Value};
 use sml_lex::fault::Memory;
 use sml_tree::bare::Ident;
 use std::alloc::Global;
-use std::cell::Cell;
 use std::collections::BTreeMap;
 use std::rc::Rc;
 
@@ -124,7 +123,10 @@ impl Env {
             structures: BTreeMap::new(alloc),
             types: BTreeMap::new(alloc),
             values: BTreeMap::new(alloc),
-            visit: Cell::new(0),
+            summary: Summary {
+                lines: 0,
+                has_unknown: false,
+            },
         }
     }
 
@@ -136,7 +138,7 @@ impl Env {
             structures,
             types,
             values,
-            visit: _,
+            summary: _,
         } = self;
         put_shared(structures, &other.structures)?;
         put_types(types, &other.types)?;

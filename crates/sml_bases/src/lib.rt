@@ -3,5 +3,6 @@
 
 pub mod bases;
 pub mod environments;
+pub mod ground;
 pub mod objects;
-pub mod visits;
+pub mod summaries;

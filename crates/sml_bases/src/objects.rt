@@ -3,7 +3,6 @@
 use sml_layers::class::Class;
 use sml_objects::objects::{Scheme, TyName, UnitId};
 use sml_tree::bare::Ident;
-use std::cell::Cell;
 use std::collections::BTreeMap;
 use std::rc::Rc;
 
@@ -34,14 +33,22 @@ pub struct TypeStr {
     pub constructors: Rc<Constructors>,
 }
 
-/// An environment: structures, types and values, by identifier. The number is by which a walk finds it again (`visits`), and
-/// no part of what it means.
+/// What is kept of an environment where it is shared (`summaries`): how many lines of identifiers with paths it has in a reply,
+/// or the greatest number of the type; and whether an unknown stands in the type of one of its values.
+#[derive(Clone, Copy)]
+pub(crate) struct Summary {
+    pub(crate) lines: u32,
+    pub(crate) has_unknown: bool,
+}
+
+/// An environment: structures, types and values, by identifier. The summary is no part of what it means, and stands for
+/// nothing before the environment is shared.
 #[derive(Drop)]
 pub struct Env {
     pub structures: BTreeMap<Ident, Rc<Env>>,
     pub types: BTreeMap<Ident, TypeStr>,
     pub values: BTreeMap<Ident, Value>,
-    pub(crate) visit: Cell<usize>,
+    pub(crate) summary: Summary,
 }
 
 /// A signature: the names that it binds, and its environment.

@@ -8,6 +8,7 @@ use sml_asks::asks::{
     ask_equality, ask_fixed, ask_general, ask_labels, ask_reading, ask_scheme, ask_settled,
     ask_variable,
 };
+use sml_bases::ground::is_ground;
 use sml_bases::objects::{Status, Value};
 use sml_closing::functions::is_function;
 use sml_closing::places::{expression_place, pattern_place};
@@ -22,7 +23,7 @@ use sml_tree::expressions::{Exp, ValBind};
 use sml_tree::names::Name;
 use sml_type_maps::sizes::GREATEST_SIZE;
 use sml_types::fault::{CoreFault, plain_fault};
-use sml_types::variables::{collect_free, is_equality_variable, is_ground};
+use sml_types::variables::{collect_free, is_equality_variable};
 use sml_warnings::matches::judge_binding;
 use std::alloc::Global;
 use std::rc::Rc;

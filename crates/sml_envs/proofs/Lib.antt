@@ -1,5 +1,7 @@
 mod Appearances
+mod Caps
 mod EntryMaps
+mod EntrySums
 mod EnvMaps
 mod LargeEntries
 mod Numbers

@@ -1,16 +1,11 @@
 -- Schemes and type functions that become larger than a scheme may be.
-use Rattle.std.specs.Prelude.{ℕ, Bool, false, ◌||◌, [], ◌∷◌, nat_lt}
+use Rattle.std.specs.Prelude.{ℕ, Bool, false, ◌||◌, nat_lt}
 use Rattle.sml_objects.specs.Initial.{Name}
-use Rattle.sml_objects.specs.Maps.{Map}
 use Rattle.sml_objects.specs.Objects.{MlType, MlTypes, Scheme}
 use Rattle.sml_objects.specs.Sizes.{type_size}
 use Rattle.sml_core_rules.specs.Objects.{Env, Structures, TyStr, Value, maps, no_structure, and_structure}
+use Rattle.sml_bases.specs.Entries.{some_entry}
 use Rattle.sml_type_maps.specs.Mapped.{mapped}
-
--- some thing in a map
-abbrev pub some_entry : {X : Type 0} → (X → Bool) → Map X → Bool
-some_entry p [] = false
-some_entry p (e ∷ es) = p e.1 || some_entry p es
 
 -- Given are what variables and names become, as in `mapped`.
 module _ (b f : ℕ → MlType Name) (n : Name → MlTypes Name → MlType Name) where

@@ -15,7 +15,7 @@ ghost use Rattle.sml_type_maps.specs.NewNames.{carried_of, carries};
 ghost use Rattle.sml_envs.specs.Appearing.{appear_basis, appear_env, appear_fun_sig, appear_schemes, appear_sig, appear_ty_str, appear_value, new_in};
 ghost use Rattle.sml_envs.specs.Mapped.{AreOrderedIn, AreOrderedInBasis, AreOrderedInFunctors, AreOrderedInFunSig, AreOrderedInSignatures};
 
-use crate::extents::{require_room, require_room_in};
+use crate::extents::{room_for, room_for_bound};
 use crate::mapping::{mapped_env, mapped_structures, mapped_types, mapped_values};
 use indexmap::IndexSet;
 use sml_bases::objects::{Basis, Carried, Constructors, Env, FunSig, Sig, TypeStr, Value};
@@ -193,7 +193,7 @@ fn add_basis(basis: &Basis, made: Made, seen: &mut IndexSet<TyName>) -> Result<(
 pub fn names_from(alloc: Global, env: &Env, unit: UnitId, first: u32) -> Result<Vec<TyName>, Memory>
     ensures { IfOk result (λ ns. map name_of ns.items ≡ new_in (maker_of unit) first (appear_env (env_of env.now))) }
 {
-    require_room(alloc, env)?;
+    let _ = room_for(alloc, env)?;
     let mut seen = IndexSet::new(alloc);
     add_env(env, Made { unit, first }, &mut seen)?;
     let mut names = Vec::new(alloc);
@@ -367,10 +367,10 @@ pub fn canonical(
     ensures count { IfOk result (λ b. (out-Basis b).count ≡ count + length (new_in (maker_of unit) count (appear_basis (bound_env basis) (bound_signatures basis) (bound_functors basis)))) }
     ensures names { IfOk result (λ b. map carried_of (out-Basis b).names.items ≡ map (carries made.now) (new_in (maker_of unit) count (appear_basis (bound_env basis) (bound_signatures basis) (bound_functors basis)))) }
 {
-    require_room_in(alloc, &basis)?;
+    let _ = room_for_bound(alloc, &basis)?;
     let mut names = IndexSet::new(alloc);
     add_basis(&basis, Made { unit, first: count }, &mut names)?;
-    let next = number_after(count, names.len())?;
+    let next = number_past(count, names.len())?;
     let carried = carried_by(alloc, &names, made)?;
     let by = Numbering {
         alloc,
@@ -400,7 +400,7 @@ fn carried_by(
 }
 
 /// The number so many after another one. A number that no `u32` holds counts as want of memory.
-fn number_after(first: u32, many: usize) -> Result<u32, Memory>
+fn number_past(first: u32, many: usize) -> Result<u32, Memory>
     ensures sum { IfOk result (λ n. n ≡ first + many) }
     ensures fits { IfOk result (λ n. n < 2 ^ 32) }
 {

@@ -1,140 +1,151 @@
-//! How long the text of a reply is at least. An environment that stands at several paths is measured once.
+//! How much the lines of a reply take, before one of them is made.
+
+ghost use Rattle.std.specs.Prelude.{ℕ, ◌≡◌, ◌≤◌, ◌+◌, ◌*◌, ◌^◌, IfOk, length};
+ghost use Rattle.std.specs.Vec.{vec_capacity};
+ghost use Rattle.sml_tree.specs.Views.{ident_of};
+ghost use Rattle.sml_objects.specs.Views.{entries_of};
+ghost use Rattle.sml_bases.specs.Entries.{capped};
+ghost use Rattle.sml_bases.specs.Summaries.{lines_of};
+ghost use Rattle.sml_bases.specs.Views.{env_of, structures_of, ty_str_of, value_of};
+ghost use Rattle.sml_envs.specs.Extents.{bound_bytes, bound_lines, bytes_in, constructor_count, line_bytes, structure_bytes, total_by};
 
 use sml_bases::objects::{Basis, Env, TypeStr, Value};
-use sml_bases::visits::Visits;
 use sml_lex::fault::Memory;
 use sml_tree::bare::Ident;
 use std::alloc::Global;
 use std::collections::BTreeMap;
 use std::rc::Rc;
 
-/// What no line is without beside its identifier: two blanks, a sign, the blanks and the colon around the identifier, a type of
-/// one byte, and the newline.
+/// What no line is without beside its path: two blanks, a sign, the blanks and the colon around the path, a type of one byte,
+/// and the newline. A constructor takes as many bytes in the line of its type, at least.
 const REST_OF_LINE: usize = 9;
 
 /// From so many lines on, the room for what is made of them is asked for first.
-const MANY_LINES: usize = 1 << 20;
+const MANY_LINES: u32 = 1 << 20;
 
 /// What is made of a line takes some so many bytes.
 const BYTES_OF_LINE: usize = 128;
 
-/// How many lines of identifiers with paths there are, and how many bytes in all lines where the paths are left off. Numbers
-/// stop at the greatest of their type.
-#[derive(Clone, Copy)]
-struct Extent {
-    lines: usize,
-    bytes: usize,
-}
+/// The number of bytes from which on a text is long.
+const LONG_TEXT: usize = 1 << 24;
 
-impl Extent {
-    /// Adds the line of an identifier.
-    fn add_line(&mut self, name: &Ident) {
-        self.lines = self.lines.saturating_add(1);
-        self.add_bytes(name.as_slice().len().saturating_add(REST_OF_LINE));
-    }
-
-    /// Adds the lines of a structure, in whose paths its identifier and a dot stand.
-    fn add_structure(&mut self, name: &Ident, inner: Extent) {
-        self.add_line(name);
-        self.lines = self.lines.saturating_add(inner.lines);
-        self.add_bytes(inner.bytes);
-        let prefix = name.as_slice().len().saturating_add(1);
-        self.add_bytes(inner.lines.saturating_mul(prefix));
-    }
-
-    fn add(&mut self, other: Extent) {
-        self.lines = self.lines.saturating_add(other.lines);
-        self.add_bytes(other.bytes);
-    }
-
-    fn add_bytes(&mut self, bytes: usize) {
-        self.bytes = self.bytes.saturating_add(bytes);
-    }
-
-    fn add_types(&mut self, types: &BTreeMap<Ident, TypeStr>) {
-        for (name, ty) in types {
-            self.add_line(name);
-            let constructors = ty.constructors.len();
-            self.add_bytes(constructors.saturating_mul(REST_OF_LINE));
-        }
-    }
-
-    fn add_values(&mut self, values: &BTreeMap<Ident, Value>) {
-        for (name, _) in values {
-            self.add_line(name);
-        }
-    }
-}
-
-/// The extent of an environment. Those in it are kept.
-#[cycle(envs)]
-fn extent_of(env: &Env, visits: &mut Visits<Extent>) -> Result<Extent, Memory> {
-    let mut extent = Extent { lines: 0, bytes: 0 };
-    add_structures(&mut extent, &env.structures, visits)?;
-    extent.add_types(&env.types);
-    extent.add_values(&env.values);
-    Ok(extent)
-}
-
-#[cycle(envs)]
-fn add_structures(
-    extent: &mut Extent,
-    structures: &BTreeMap<Ident, Rc<Env>>,
-    visits: &mut Visits<Extent>,
-) -> Result<(), Memory> {
-    for (name, structure) in structures {
-        if visits.get(structure).is_none() {
-            let inner = extent_of(structure, visits)?;
-            visits.put(structure, inner)?;
-        }
-        if let Some(inner) = visits.get(structure) {
-            extent.add_structure(name, *inner);
-        }
-    }
-    Ok(())
-}
-
-/// That there is room for what a walk makes of an environment, where it has many lines: what is shared in it is walked at each
-/// of its paths, which can take all memory before one growth is refused.
-pub(crate) fn require_room(alloc: Global, env: &Env) -> Result<(), Memory> {
-    let extent = extent_of(env, &mut Visits::new(alloc))?;
-    room_for_lines(alloc, extent.lines)
-}
-
-/// The same of what a basis binds.
-pub(crate) fn require_room_in(alloc: Global, basis: &Basis) -> Result<(), Memory> {
-    let extent = extent_of_basis(alloc, basis)?;
-    room_for_lines(alloc, extent.lines)
-}
-
-fn room_for_lines(alloc: Global, lines: usize) -> Result<(), Memory> {
-    if lines >= MANY_LINES {
-        let _ = room(alloc, lines.saturating_mul(BYTES_OF_LINE))?;
-    }
-    Ok(())
-}
-
-/// Room for so many bytes.
+/// Room for so many bytes, which can be refused before anything is made.
 #[inline(never)]
-fn room(alloc: Global, bytes: usize) -> Result<Vec<u8>, Memory> {
+fn room(alloc: Global, bytes: usize) -> Result<Vec<u8>, Memory>
+    ensures { IfOk result (λ v. bytes ≤ vec_capacity v) }
+{
     Ok(Vec::with_capacity(alloc, bytes)?)
 }
 
-/// How many bytes the text of the reply has at least to a declaration that binds what the basis itself binds.
-pub fn least_text(alloc: Global, basis: &Basis) -> Result<usize, Memory> {
-    Ok(extent_of_basis(alloc, basis)?.bytes)
+/// Room for what a walk makes of an environment, where it has many lines: what is shared in it is walked at each of its paths,
+/// which can take all memory before one growth is refused.
+pub fn room_for(alloc: Global, env: &Env) -> Result<Vec<u8>, Memory>
+    ensures { IfOk result (λ v. 2 ^ 20 ≤ lines_of env.now → lines_of env.now * 128 ≤ vec_capacity v) }
+{
+    room_for_lines(alloc, env.lines())
 }
 
-/// The extent of what a basis binds, without the lines of signatures and of functors themselves.
-fn extent_of_basis(alloc: Global, basis: &Basis) -> Result<Extent, Memory> {
-    let mut visits = Visits::new(alloc);
-    let mut extent = extent_of(&basis.env, &mut visits)?;
+/// The same of what a basis binds.
+pub(crate) fn room_for_bound(alloc: Global, basis: &Basis) -> Result<Vec<u8>, Memory>
+    ensures { IfOk result (λ v. 2 ^ 20 ≤ bound_lines basis.now → bound_lines basis.now * 128 ≤ vec_capacity v) }
+{
+    let mut lines = basis.env.lines();
     for (_, signature) in &basis.signatures {
-        extent.add(extent_of(&signature.env, &mut visits)?);
+        lines = lines.saturating_add(signature.env.lines());
     }
     for (_, functor) in &basis.functors {
-        extent.add(extent_of(&functor.argument.env, &mut visits)?);
-        extent.add(extent_of(&functor.result.env, &mut visits)?);
+        lines = lines.saturating_add(functor.argument.env.lines());
+        lines = lines.saturating_add(functor.result.env.lines());
     }
-    Ok(extent)
+    room_for_lines(alloc, lines)
+}
+
+fn room_for_lines(alloc: Global, lines: u32) -> Result<Vec<u8>, Memory>
+    ensures { IfOk result (λ v. 2 ^ 20 ≤ lines → lines * 128 ≤ vec_capacity v) }
+{
+    if lines < MANY_LINES {
+        return Ok(Vec::new(alloc));
+    }
+    room(alloc, lines as usize * BYTES_OF_LINE)
+}
+
+/// Room for the text of the reply to a declaration that binds what the basis itself binds, where it is long.
+pub fn room_for_text(alloc: Global, basis: &Basis) -> Result<Vec<u8>, Memory>
+    ensures { IfOk result (λ v. 2 ^ 24 ≤ capped (bound_bytes basis.now) → capped (bound_bytes basis.now) ≤ vec_capacity v) }
+{
+    let bytes = least_text(basis);
+    if bytes < LONG_TEXT {
+        return Ok(Vec::new(alloc));
+    }
+    room(alloc, bytes)
+}
+
+/// How many bytes that text has at least, without the lines of signatures and of functors themselves, or the greatest number
+/// of the type.
+fn least_text(basis: &Basis) -> usize
+    ensures { result ≡ capped (bound_bytes basis.now) }
+{
+    let mut bytes = env_bytes(&basis.env, 0);
+    for (_, signature) in &basis.signatures {
+        bytes = bytes.saturating_add(env_bytes(&signature.env, 0));
+    }
+    for (_, functor) in &basis.functors {
+        bytes = bytes.saturating_add(env_bytes(&functor.argument.env, 0));
+        bytes = bytes.saturating_add(env_bytes(&functor.result.env, 0));
+    }
+    bytes
+}
+
+/// The bytes of an environment's lines, before whose identifiers a path of so many bytes stands.
+#[cycle(envs)]
+fn env_bytes(env: &Env, path: usize) -> usize
+    ensures { (p : ℕ) → path ≡ capped p → result ≡ capped (bytes_in constructor_count p (env_of env.now)) }
+{
+    structure_bytes(&env.structures, path)
+        .saturating_add(type_bytes(&env.types, path))
+        .saturating_add(value_bytes(&env.values, path))
+}
+
+#[cycle(envs)]
+fn structure_bytes(structures: &BTreeMap<Ident, Rc<Env>>, path: usize) -> usize
+    ensures { (p : ℕ) → path ≡ capped p → result ≡ capped (structure_bytes constructor_count p (structures_of (entries_of (λ s. env_of s.value) structures.now.entries))) }
+{
+    let mut bytes: usize = 0;
+    for (name, structure) in structures {
+        let own = ident_bytes(name, path);
+        bytes = bytes.saturating_add(own.saturating_add(REST_OF_LINE));
+        bytes = bytes.saturating_add(env_bytes(structure, own.saturating_add(1)));
+    }
+    bytes
+}
+
+fn type_bytes(types: &BTreeMap<Ident, TypeStr>, path: usize) -> usize
+    ensures { (p : ℕ) → path ≡ capped p → result ≡ capped (total_by (λ x t. line_bytes p x + 9 * constructor_count t) (entries_of ty_str_of types.now.entries)) }
+{
+    let mut bytes: usize = 0;
+    for (name, ty) in types {
+        let own = ident_bytes(name, path);
+        let signs = ty.constructors.len().saturating_add(1);
+        bytes = bytes.saturating_add(own);
+        bytes = bytes.saturating_add(signs.saturating_mul(REST_OF_LINE));
+    }
+    bytes
+}
+
+fn value_bytes(values: &BTreeMap<Ident, Value>, path: usize) -> usize
+    ensures { (p : ℕ) → path ≡ capped p → result ≡ capped (total_by (λ x v. line_bytes p x) (entries_of value_of values.now.entries)) }
+{
+    let mut bytes: usize = 0;
+    for (name, _) in values {
+        let own = ident_bytes(name, path);
+        bytes = bytes.saturating_add(own.saturating_add(REST_OF_LINE));
+    }
+    bytes
+}
+
+/// The bytes of an identifier and of the path before it.
+fn ident_bytes(name: &Ident, path: usize) -> usize
+    ensures { (p : ℕ) → path ≡ capped p → result ≡ capped (p + length (ident_of name.now)) }
+{
+    path.saturating_add(name.as_slice().len())
 }

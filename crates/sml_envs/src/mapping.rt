@@ -9,7 +9,7 @@ ghost use Rattle.sml_core_rules.specs.Objects.{replaced, replace_structures};
 ghost use Rattle.sml_bases.specs.Views.{env_of, structures_of, ty_str_of, value_of};
 ghost use Rattle.sml_envs.specs.Mapped.{AreOrderedIn, AreOrderedInAll, Each, HaveOrdered, IsOrderedValue, HasOrdered, changed_or, env_by, ty_str_by, value_by};
 
-use crate::extents::require_room;
+use crate::extents::room_for;
 use sml_bases::objects::{Constructors, Env, TypeStr, Value};
 use sml_lex::fault::Memory;
 use sml_tree::bare::Ident;
@@ -24,7 +24,7 @@ use std::rc::Rc;
 pub fn mapped_env<M: Mapping>(alloc: Global, env: &Rc<Env>, by: &M) -> Result<Rc<Env>, Memory>
     ensures { AreOrderedIn (env_of env.now.value) → IfOk result (λ e. env_of e.value ≡ env_by (M.bound_gives by.now) (M.free_gives by.now) (M.name_gives by.now) (env_of env.now.value)) }
 {
-    require_room(alloc, env)?;
+    let _ = room_for(alloc, env)?;
     match changed_env(alloc, env, by)? {
         Some(changed) => Ok(changed),
         None => Ok(env.clone()?),
@@ -180,7 +180,7 @@ fn changed_env<M: Mapping>(alloc: Global, env: &Env, by: &M) -> Result<Option<Rc
     copy.structures = structures;
     copy.types = types;
     copy.values = values;
-    Ok(Some(Rc::new(alloc, copy)?))
+    Ok(Some(copy.shared(alloc)?))
 }
 
 #[cycle(envs)]

@@ -2,10 +2,11 @@
 
 ghost use Rattle.std.specs.Prelude.{◌≡◌, true, IfOk};
 ghost use Rattle.sml_objects.specs.Views.{entries_of, schemes_of};
+ghost use Rattle.sml_bases.specs.Entries.{some_entry};
 ghost use Rattle.sml_bases.specs.Views.{env_of, structures_of, ty_str_of, value_of};
-ghost use Rattle.sml_envs.specs.Large.{has_large, have_large, is_large, is_large_type, is_large_value, some_entry};
+ghost use Rattle.sml_envs.specs.Large.{has_large, have_large, is_large, is_large_type, is_large_value};
 
-use crate::extents::require_room;
+use crate::extents::room_for;
 use sml_bases::objects::{Constructors, Env, TypeStr, Value};
 use sml_lex::fault::Memory;
 use sml_tree::bare::Ident;
@@ -19,7 +20,7 @@ use std::rc::Rc;
 pub fn has_large_under<M: Mapping>(alloc: Global, env: &Env, by: &M) -> Result<bool, Memory>
     ensures { IfOk result (λ b. b ≡ has_large (M.bound_gives by.now) (M.free_gives by.now) (M.name_gives by.now) (env_of env.now)) }
 {
-    require_room(alloc, env)?;
+    let _ = room_for(alloc, env)?;
     has_large(alloc, env, by)
 }
 

@@ -108,7 +108,7 @@ fn moved_functor(alloc: Global, functor: &FunSig, moves: &Moves) -> Result<FunSi
 fn moved_whole_env(alloc: Global, env: &WholeEnv, moves: &Moves) -> Result<WholeEnv, Memory> {
     let mut copy = WholeEnv::new(alloc);
     copy.add(env)?;
-    let copy = Rc::new(alloc, copy)?;
+    let copy = copy.shared(alloc)?;
     let moved = mapped_env(alloc, &copy, moves)?;
     let mut own = WholeEnv::new(alloc);
     own.add(&moved)?;

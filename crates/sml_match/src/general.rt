@@ -1,6 +1,7 @@
 //! Whether a scheme is at least as general as another one (the Definition, section 4.5).
 
 use sml_asks::asks::{ask_equal, ask_equality, ask_general, ask_instance, ask_variable};
+use sml_bases::ground::is_ground;
 use sml_lex::fault::Memory;
 use sml_objects::comparisons::same_type;
 use sml_objects::objects::{MlType, Scheme};
@@ -9,7 +10,6 @@ use sml_solve::solver::Solver;
 use sml_solve::variable::Variable;
 use sml_type_maps::functions::admits_equality_under;
 use sml_types::rows::number_of;
-use sml_types::variables::is_ground;
 use std::alloc::Global;
 use std::rc::Rc;
 

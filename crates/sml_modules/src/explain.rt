@@ -2,6 +2,7 @@
 
 use crate::modules::own_basis;
 use sml_asks::asks::{ask_instance, ask_scheme};
+use sml_bases::ground::is_ground;
 use sml_bases::objects::{Basis, Env, Sig, TypeStr, Value};
 use sml_core::context::{Context, MOST_SHOWN};
 use sml_core::recorder::{Component, OwnNames, Recorder, Seen, Wanted};
@@ -17,7 +18,6 @@ use sml_tree::signatures::SigExp;
 use sml_tree::structures::TopDec;
 use sml_type_maps::functions::name_of;
 use sml_types::fault::CoreFault;
-use sml_types::variables::is_ground;
 use std::alloc::Global;
 use std::mem;
 use std::rc::Rc;

@@ -8,7 +8,7 @@ use crate::structures::{declare, structure};
 use sml_bases::objects::{Basis, Env};
 use sml_core::context::Context;
 use sml_envs::canonical::canonical;
-use sml_envs::extents::least_text;
+use sml_envs::extents::room_for_text;
 use sml_lex::fault::{Code, FIRST, Memory, Warning};
 use sml_sigs::counts::names_of_sig;
 use sml_sigs::sigs::require_signature;
@@ -23,9 +23,6 @@ pub type TopFault = CoreFault;
 
 /// The greatest number of type names that a unit makes and exports.
 pub const MOST_NAMES: u32 = 1_048_576;
-
-/// The number of bytes from which on a reply is long.
-const LONG_TEXT: usize = 16_777_216;
 
 /// The declaration's own basis, with its warnings by place and code, each once, or why it has none. The basis lent is that of its unit so far. The new
 /// names are numbered from its count on, in the order in which they appear in the lines of the reply.
@@ -50,7 +47,7 @@ fn numbered(context: &mut Context, basis: &Basis, dec: &TopDec) -> Result<Basis,
     if own.count > MOST_NAMES {
         return Err(plain_fault(Code::Q3, FIRST));
     }
-    require_room(context.alloc, &own)?;
+    let _ = room_for_text(context.alloc, &own)?;
     Ok(own)
 }
 
@@ -60,22 +57,6 @@ fn makes_too_many(alloc: Global, basis: &Basis, dec: &TopDec) -> Result<bool, Me
         Some(names) => Ok(names.saturating_add(basis.count as usize) > MOST_NAMES as usize),
         None => Ok(false),
     }
-}
-
-/// That there is room for the text of the reply to a declaration that binds this, where it is long: what is shared in an
-/// environment is written out there, which can take all memory before one growth is refused.
-fn require_room(alloc: Global, own: &Basis) -> Result<(), Memory> {
-    let bytes = least_text(alloc, own)?;
-    if bytes >= LONG_TEXT {
-        let _ = room(alloc, bytes)?;
-    }
-    Ok(())
-}
-
-/// Room for so many bytes.
-#[inline(never)]
-fn room(alloc: Global, bytes: usize) -> Result<Vec<u8>, Memory> {
-    Ok(Vec::with_capacity(alloc, bytes)?)
 }
 
 /// What the declaration binds, all types of which are known.
@@ -100,7 +81,7 @@ pub(crate) fn own_basis(
 fn declared(context: &mut Context, dec: &StrDec) -> Result<Env, TopFault> {
     context.export(true);
     declare(context, dec)?;
-    let env = Rc::new(context.alloc, context.exported(None))?;
+    let env = context.exported(None).shared(context.alloc)?;
     let known = known_in(context, &env)?;
     let settled = settled_by(context.alloc, &env, &known, FIRST)?;
     let mut own = Env::new(context.alloc);

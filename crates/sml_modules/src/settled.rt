@@ -7,19 +7,21 @@ ghost use Rattle.sml_type_maps.specs.Mapped.{known_at};
 use indexmap::{IndexMap, IndexSet};
 use sml_asks::asks::ask_fixed;
 use sml_asks::outcomes::{Outcome, ask_outcome};
-use sml_bases::objects::Env;
-use sml_bases::visits::Visits;
+use sml_bases::objects::{Env, Value};
 use sml_core::context::Context;
+use sml_envs::extents::room_for;
 use sml_envs::mapping::mapped_env;
 use sml_lex::fault::{Code, Memory, Place};
 use sml_match::sizes::small_env_under;
 use sml_objects::objects::{MlType, TyName};
+use sml_tree::bare::Ident;
 use sml_type_maps::mapping::{Image, Mapping};
 use sml_type_maps::sizes::GREATEST_SIZE;
 use sml_types::fault::{CoreFault, plain_fault};
 use sml_types::rows::number_of;
 use sml_types::variables::collect_free;
 use std::alloc::Global;
+use std::collections::BTreeMap;
 use std::rc::Rc;
 
 /// The types that unknowns turned out to be, and whether there are others that turned out to be types too large for a
@@ -61,6 +63,12 @@ pub(crate) fn known_in(context: &mut Context, env: &Env) -> Result<Option<Known>
             has_large: false,
         }));
     }
+    let mut first = IndexSet::new(context.alloc);
+    collect_first(env, &mut first)?;
+    if readings(context, &first)?.is_none() {
+        return Ok(None);
+    }
+    let _ = room_for(context.alloc, env)?;
     let unknowns = unknowns_of(context.alloc, env)?;
     readings(context, &unknowns)
 }
@@ -105,7 +113,7 @@ fn with_types(
 /// The unknowns in the types of an environment's values.
 fn unknowns_of(alloc: Global, env: &Env) -> Result<IndexSet<u32>, Memory> {
     let mut unknowns = IndexSet::new(alloc);
-    collect_env(env, &mut unknowns, &mut Visits::new(alloc))?;
+    collect_env(env, &mut unknowns)?;
     Ok(unknowns)
 }
 
@@ -164,21 +172,35 @@ fn is_left(context: &mut Context, unknown: u32, left: &[bool]) -> Result<bool, M
     }
 }
 
-/// Adds the unknowns in the types of an environment's values. Those of environments that were visited are added.
+/// Adds the unknowns in the types of an environment's values.
 #[cycle(collect)]
-fn collect_env(
-    env: &Env,
-    unknowns: &mut IndexSet<u32>,
-    visits: &mut Visits<()>,
-) -> Result<(), Memory> {
-    for (_, structure) in &env.structures {
-        if visits.get(structure).is_none() {
-            collect_env(structure, unknowns, visits)?;
-            visits.put(structure, ())?;
-        }
+fn collect_env(env: &Env, unknowns: &mut IndexSet<u32>) -> Result<(), Memory> {
+    if !env.has_unknown() {
+        return Ok(());
     }
-    for (_, value) in &env.values {
+    for (_, structure) in &env.structures {
+        collect_env(structure, unknowns)?;
+    }
+    collect_values(&env.values, unknowns)
+}
+
+fn collect_values(
+    values: &BTreeMap<Ident, Value>,
+    unknowns: &mut IndexSet<u32>,
+) -> Result<(), Memory> {
+    for (_, value) in values {
         collect_free(&value.scheme.body, unknowns)?;
     }
     Ok(())
+}
+
+/// Adds the unknowns of one structure's values that are met first, of all structures that have any.
+#[cycle(first)]
+fn collect_first(env: &Env, unknowns: &mut IndexSet<u32>) -> Result<(), Memory> {
+    for (_, structure) in &env.structures {
+        if structure.has_unknown() {
+            return collect_first(structure, unknowns);
+        }
+    }
+    collect_values(&env.values, unknowns)
 }

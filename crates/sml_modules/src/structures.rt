@@ -68,7 +68,7 @@ pub(crate) fn begin(context: &mut Context, is_exported: bool) -> Outside {
 fn end_struct(context: &mut Context, outside: Outside) -> Result<Rc<Env>, CoreFault> {
     let env = context.exported(outside.exports);
     context.leave(outside.mark)?;
-    Ok(Rc::new(context.alloc, env)?)
+    Ok(env.shared(context.alloc)?)
 }
 
 /// Leaves a `let` with this environment.

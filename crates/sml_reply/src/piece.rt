@@ -57,7 +57,7 @@ fn put_structures(
     whole: &mut WholeEnv,
 ) -> Result<(), Memory> {
     for (name, structure) in structures {
-        let inner = Rc::new(alloc, env_with(alloc, none, structure)?)?;
+        let inner = env_with(alloc, none, structure)?.shared(alloc)?;
         whole.structures.insert(name.clone()?, inner)?;
     }
     Ok(())

@@ -19,7 +19,8 @@ use Rattle.sml_objects.specs.Views.{name_of}
 use Rattle.sml_core_rules.specs.Objects as O
 use Rattle.sml_bases.specs.Views.{sig_of as bound_sig}
 use Rattle.sml_bases.specs.declared.objects.Sig.{Sig}
-use Rattle.sml_sigs.specs.Counts.{capped, names_in, plus, sig_binds, str_desc_binds}
+use Rattle.sml_bases.specs.Entries.{capped}
+use Rattle.sml_sigs.specs.Counts.{names_in, plus, sig_binds, str_desc_binds}
 
 plus-assoc : (a b c : Option ℕ) → plus a (plus b c) ≡ plus (plus a b) c
 plus-assoc None b c = refl

@@ -1,5 +1,5 @@
 -- How many names a signature expression binds that has no fault, none where some are shared or realised.
-use Rattle.std.specs.Prelude.{ℕ, ◌+◌, ◌-◌, ◌^◌, length, min, Option, Some, None}
+use Rattle.std.specs.Prelude.{ℕ, ◌+◌, length, Option, Some, None}
 use Rattle.sml_tree.specs.Trees.{Id}
 use Rattle.sml_tree.specs.Signatures.{SigExp, Spec, Specs, StrDesc, StrDescs, sig_end, sig_name, where_type, val_spec, type_spec, eqtype_spec, datatype_spec, copy_spec, exception_spec, structure_spec, include_spec, sharing_types, sharing_structures, no_spec, and_spec, str_desc, no_str_desc, and_str_desc}
 use Rattle.sml_objects.specs.Initial.{Name}
@@ -7,10 +7,6 @@ use Rattle.sml_objects.specs.Maps.{lookup}
 use Rattle.sml_core_rules.specs.Objects as O
 use Rattle.sml_bases.specs.declared.objects.Basis.{Basis}
 use Rattle.sml_bases.specs.Layers.{first_found, signatures_in}
-
--- numbers stop at the greatest of 64 bits
-abbrev pub capped : ℕ → ℕ
-capped n = min n (2 ^ 64 - 1)
 
 abbrev pub plus : Option ℕ → Option ℕ → Option ℕ
 plus None o = None

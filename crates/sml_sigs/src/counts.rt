@@ -3,7 +3,8 @@
 ghost use Rattle.std.specs.Prelude.{◌≡◌, map};
 ghost use Rattle.std.specs.Option.{option_map};
 ghost use Rattle.sml_tree.specs.SignatureViews.{sig_of, spec_of, specs_of, str_desc_of, str_descs_of};
-ghost use Rattle.sml_sigs.specs.Counts.{bound_by, capped, sig_binds, spec_binds, specs_bind, str_descs_bind};
+ghost use Rattle.sml_bases.specs.Entries.{capped};
+ghost use Rattle.sml_sigs.specs.Counts.{bound_by, sig_binds, spec_binds, specs_bind, str_descs_bind};
 
 use sml_bases::objects::Basis;
 use sml_tree::signatures::{SigExp, Spec, StrDesc};

@@ -142,7 +142,7 @@ impl Draft {
         if !joins.is_empty() {
             joins.shorten()?;
             let env = mem::replace(&mut self.env, Env::new(self.alloc));
-            let env = Rc::new(self.alloc, env)?;
+            let env = env.shared(self.alloc)?;
             self.env.add(&*mapped_env(self.alloc, &env, joins)?)?;
         }
         self.names = joins.left()?;
@@ -156,7 +156,7 @@ impl Draft {
         let env = mem::replace(&mut self.env, Env::new(self.alloc));
         Ok(Sig {
             names,
-            env: Rc::new(self.alloc, env)?,
+            env: env.shared(self.alloc)?,
         })
     }
 }

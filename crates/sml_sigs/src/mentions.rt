@@ -2,7 +2,7 @@
 
 use indexmap::{IndexMap, IndexSet};
 use sml_bases::objects::{Env, TypeStr};
-use sml_bases::visits::Visits;
+use sml_envs::extents::room_for;
 use sml_lex::fault::Memory;
 use sml_objects::objects::{MlType, Scheme, TyName};
 use std::alloc::Global;
@@ -13,16 +13,15 @@ use std::rc::Rc;
 pub(crate) struct Mentions {
     alloc: Global,
     schemes: IndexMap<TyName, Vec<Rc<Scheme>>>,
-    visits: Visits<()>,
 }
 
 impl Mentions {
     /// Those of an environment.
     pub(crate) fn of(alloc: Global, env: &Env) -> Result<Mentions, Memory> {
+        let _ = room_for(alloc, env)?;
         let mut mentions = Mentions {
             alloc,
             schemes: IndexMap::new(alloc),
-            visits: Visits::new(alloc),
         };
         mentions.add_env(env)?;
         Ok(mentions)
@@ -39,10 +38,7 @@ impl Mentions {
     #[cycle(envs)]
     fn add_env(&mut self, env: &Env) -> Result<(), Memory> {
         for (_, structure) in &env.structures {
-            if self.visits.get(structure).is_none() {
-                self.add_env(structure)?;
-                self.visits.put(structure, ())?;
-            }
+            self.add_env(structure)?;
         }
         for (_, ty) in &env.types {
             self.add_type_str(ty)?;

@@ -277,7 +277,7 @@ impl Part {
         let Part { names, env } = self;
         Ok(Sig {
             names,
-            env: Rc::new(alloc, env)?,
+            env: env.shared(alloc)?,
         })
     }
 }
@@ -344,7 +344,7 @@ fn part_of(
         | Spec::SharingType(_, _)
         | Spec::Sharing(_, _) => Ok(Sig {
             names: Vec::new(alloc),
-            env: Rc::new(alloc, Env::new(alloc))?,
+            env: Env::new(alloc).shared(alloc)?,
         }),
     }
 }

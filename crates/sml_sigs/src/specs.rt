@@ -26,7 +26,7 @@ use std::rc::Rc;
 fn without_names(alloc: Global, env: Env) -> Result<Sig, Memory> {
     Ok(Sig {
         names: Vec::new(alloc),
-        env: Rc::new(alloc, env)?,
+        env: env.shared(alloc)?,
     })
 }
 
@@ -104,7 +104,7 @@ fn new_types(
     }
     Ok(Sig {
         names,
-        env: Rc::new(alloc, env)?,
+        env: env.shared(alloc)?,
     })
 }
 
@@ -131,7 +131,7 @@ pub(crate) fn new_datatypes(
     let env = datatypes_with(alloc, scope, new, place, binds, &[])?;
     Ok(Sig {
         names: names_of(alloc, &env)?,
-        env: Rc::new(alloc, env)?,
+        env: env.shared(alloc)?,
     })
 }
 

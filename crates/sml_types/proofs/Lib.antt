@@ -1,7 +1,6 @@
 mod Closings
 pub mod Paths
 pub mod Entries
-mod Unknowns
 mod Numbered
 mod Listing
 mod RowLabels

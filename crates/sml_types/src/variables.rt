@@ -1,6 +1,6 @@
 //! What type variables stand for.
 
-ghost use Rattle.std.specs.Prelude.{◌≡◌, ◌++◌, ◌∷◌, [], List, IfOk, None, OnOk, map, not};
+ghost use Rattle.std.specs.Prelude.{◌≡◌, ◌++◌, ◌∷◌, [], List, IfOk, None, OnOk, map};
 ghost use Rattle.sml_objects.specs.Initial as I;
 ghost use Rattle.sml_objects.specs.Maps.{Map, lookup};
 ghost use Rattle.sml_objects.specs.Objects as O;
@@ -10,7 +10,6 @@ ghost use Rattle.sml_objects.specs.Types.{variables_after, variables_after_all};
 ghost use Rattle.sml_objects.specs.Views.{scheme_of, type_of};
 ghost use Rattle.sml_core_rules.specs.Datatypes.{constructor_scheme, is_equality, listed};
 ghost use Rattle.sml_core_rules.specs.Types.{variable_type};
-ghost use Rattle.sml_core_rules.specs.Values.{has_unknown, have_unknown};
 ghost use Rattle.sml_tree.specs.Trees.{Id};
 ghost use Rattle.sml_tree.specs.TypeViews.{names_of};
 ghost use Rattle.sml_tree.specs.Views.{ident_of};
@@ -283,30 +282,4 @@ fn collect_all_free(parts: &[Rc<MlType>], seen: &mut IndexSet<u32>) -> Result<()
         collect_free(part, seen)?;
     }
     Ok(())
-}
-
-/// Whether no unknown stands in a type.
-#[cycle(ground)]
-pub fn is_ground(ty: &MlType) -> bool
-    ensures { result ≡ not (has_unknown (type_of ty.now)) }
-{
-    match ty {
-        MlType::Bound(_) => true,
-        MlType::Free(_) => false,
-        MlType::Row(_, parts) => are_ground(parts),
-        MlType::Arrow(from, to) => is_ground(from) && is_ground(to),
-        MlType::Name(_, parts) => are_ground(parts),
-    }
-}
-
-#[cycle(ground)]
-fn are_ground(parts: &[Rc<MlType>]) -> bool
-    ensures { result ≡ not (have_unknown (types_of (map (λ t. type_of t.value) parts.now))) }
-{
-    for part in parts {
-        if !is_ground(part) {
-            return false;
-        }
-    }
-    true
 }

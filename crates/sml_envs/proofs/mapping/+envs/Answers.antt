@@ -1,4 +1,4 @@
-use Rattle.std.proofs.Common.{◌≡◌, ap, sym, subst, ◌∙◌, map, [], ◌∷◌, rules}
+use Rattle.std.proofs.Common.{◌≡◌, refl, ap, sym, subst, ◌∙◌, map, [], ◌∷◌, rules}
 use Rattle.std.proofs.lemmas.List.{map-append}
 use Rattle.std.proofs.lemmas.Map.Iter.{iter_end}
 use Rattle.std.specs.Map.Iter.{deref_pair}
@@ -83,5 +83,6 @@ changed_env-returns-then-not-branch-2 g t c = λ o.
 pub changed_env-returns : goal.changed_env-returns
 changed_env-returns g t c = λ o.
     let split = ordered-parts (out-Env c.args.env.now) (subst AreOrderedIn (env_of-out c.args.env.now) o) in
-    made-by (g.M.Mapping.bound_gives c.args.by.now) (g.M.Mapping.free_gives c.args.by.now) (g.M.Mapping.name_gives c.args.by.now) c.args.env.now _ _ c.in_ok-new.ensures.ok
+    c.in_ok-shared.ensures.env
+    ∙ made-by (g.M.Mapping.bound_gives c.args.by.now) (g.M.Mapping.free_gives c.args.by.now) (g.M.Mapping.name_gives c.args.by.now) c.args.env.now _ _ refl
     (c.in_ok-structures.ensures.becomes split.0) (c.in_ok-types.ensures split.1.0) (c.in_ok-values.ensures split.1.1)

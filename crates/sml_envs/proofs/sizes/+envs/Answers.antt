@@ -4,8 +4,10 @@ use Rattle.std.proofs.lemmas.Map.Iter.{iter_end}
 use Rattle.std.specs.Map.Iter.{deref_pair}
 use Rattle.sml_objects.specs.Views.{entries_of}
 use Rattle.sml_bases.specs.Views.{env_of}
-use Rattle.sml_envs.specs.Large.{has_large, some_entry}
-use Rattle.sml_envs.proofs.LargeEntries.{by-rest, by-structures, by-types, found, none-more, some-structure}
+use Rattle.sml_bases.specs.Entries.{some_entry}
+use Rattle.sml_envs.specs.Large.{has_large}
+use Rattle.sml_bases.proofs.SomeEntries.{found, none-more}
+use Rattle.sml_envs.proofs.LargeEntries.{by-rest, by-structures, by-types, some-structure}
 use Rattle.sml_envs.proofs.sizes.+envs.Goals as goal
 use Rattle.sml_envs.proofs.sizes.+envs.Goals.{has_large-then-branch, has_large-else-branch+in_ok-is_large-2}
 

@@ -2,7 +2,8 @@ use Rattle.std.proofs.Common.{◌≡◌, false, map}
 use Rattle.std.specs.Map.Iter.{deref_pair}
 use Rattle.sml_objects.specs.Views.{entries_of}
 use Rattle.sml_bases.specs.Views.{env_of}
-use Rattle.sml_envs.specs.Large.{has_large, some_entry}
+use Rattle.sml_bases.specs.Entries.{some_entry}
+use Rattle.sml_envs.specs.Large.{has_large}
 use Rattle.sml_envs.proofs.sizes.+envs.Given as goal
 
 abbrev pub invariant-have_large-loop-structure : goal.invariant-have_large-loop-structure

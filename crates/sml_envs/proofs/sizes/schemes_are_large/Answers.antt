@@ -1,7 +1,7 @@
 use Rattle.std.proofs.Common.{ap, sym, ◌∙◌}
 use Rattle.sml_objects.specs.Views.{scheme_of}
 use Rattle.sml_envs.specs.Large.{is_large}
-use Rattle.sml_envs.proofs.LargeEntries.{found, none-more}
+use Rattle.sml_bases.proofs.SomeEntries.{found, none-more}
 use Rattle.sml_envs.proofs.sizes.schemes_are_large.Goals as goal
 
 pub returns-then-branch : goal.returns-then-branch

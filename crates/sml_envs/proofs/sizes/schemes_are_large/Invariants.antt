@@ -1,7 +1,8 @@
 use Rattle.std.proofs.Common.{◌≡◌, false, map}
 use Rattle.std.specs.Map.Iter.{deref_pair}
 use Rattle.sml_objects.specs.Views.{schemes_of}
-use Rattle.sml_envs.specs.Large.{is_large, some_entry}
+use Rattle.sml_bases.specs.Entries.{some_entry}
+use Rattle.sml_envs.specs.Large.{is_large}
 use Rattle.sml_envs.proofs.sizes.schemes_are_large.Given as goal
 
 abbrev pub invariant-loop-scheme : goal.invariant-loop-scheme

@@ -1,8 +1,9 @@
 use Rattle.std.proofs.Common.{◌≡◌, true, ap, sym, ◌∙◌}
 use Rattle.sml_objects.specs.Views.{scheme_of, schemes_of}
 use Rattle.sml_bases.specs.Views.{ty_str_of}
-use Rattle.sml_envs.specs.Large.{is_large, is_large_type, some_entry}
-use Rattle.sml_envs.proofs.LargeEntries.{found, none-more, or-left, or-none, or-right}
+use Rattle.sml_bases.specs.Entries.{some_entry}
+use Rattle.sml_envs.specs.Large.{is_large, is_large_type}
+use Rattle.sml_bases.proofs.SomeEntries.{found, none-more, or-left, or-none, or-right}
 use Rattle.sml_envs.proofs.sizes.types_are_large.Goals as goal
 use Rattle.sml_envs.proofs.sizes.types_are_large.Goals.{then-branch-via-then-branch, then-branch-via-else-branch+in_ok-schemes_are_large+then-branch-2}
 

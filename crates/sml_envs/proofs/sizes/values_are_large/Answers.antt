@@ -2,7 +2,7 @@ use Rattle.std.proofs.Common.{ap, sym, ◌∙◌}
 use Rattle.sml_objects.specs.Views.{scheme_of}
 use Rattle.sml_bases.specs.Views.{value_of}
 use Rattle.sml_envs.specs.Large.{is_large, is_large_value}
-use Rattle.sml_envs.proofs.LargeEntries.{found, none-more}
+use Rattle.sml_bases.proofs.SomeEntries.{found, none-more}
 use Rattle.sml_envs.proofs.sizes.values_are_large.Goals as goal
 
 pub returns-then-branch : goal.returns-then-branch

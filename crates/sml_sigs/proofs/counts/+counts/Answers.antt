@@ -8,7 +8,8 @@ use Rattle.sml_objects.specs.Maps.{lookup}
 use Rattle.sml_bases.specs.Layers.{first_found, signatures_in}
 use Rattle.sml_bases.specs.Views.{sig_of as bound_sig}
 use Rattle.sml_tree.specs.SignatureViews.{sig_of, spec_of, specs_of, str_desc_of, str_descs_of}
-use Rattle.sml_sigs.specs.Counts.{bound_by, capped, sig_binds, spec_binds, specs_bind, str_desc_binds, str_descs_bind}
+use Rattle.sml_bases.specs.Entries.{capped}
+use Rattle.sml_sigs.specs.Counts.{bound_by, sig_binds, spec_binds, specs_bind, str_desc_binds, str_descs_bind}
 use Rattle.sml_sigs.proofs.Counting.{binds-none, binds-on, desc-binds, in-signature, named-sig}
 use Rattle.sml_sigs.proofs.counts.+counts.Goals as goal
 

@@ -1,7 +1,8 @@
 use Rattle.std.proofs.Common.{◌≡◌, Some, map, take}
 use Rattle.std.specs.Option.{option_map}
 use Rattle.sml_tree.specs.SignatureViews.{spec_of, specs_of, str_desc_of, str_descs_of}
-use Rattle.sml_sigs.specs.Counts.{bound_by, capped, specs_bind, str_descs_bind}
+use Rattle.sml_bases.specs.Entries.{capped}
+use Rattle.sml_sigs.specs.Counts.{bound_by, specs_bind, str_descs_bind}
 use Rattle.sml_sigs.proofs.counts.+counts.Given as goal
 
 abbrev pub invariant-names_of_specs-loop-spec : goal.invariant-names_of_specs-loop-spec

@@ -36,7 +36,7 @@ loop-bind-preserved c =
     ap (λ s. iter_rest (zip_second s)) c.into_iter-bind-iterator.ensures.into_iter_gives ∙ c.zip-bind-items.ensures.second.0 in
     let turn = zip_turn bs ws c.loop-bind.yielded c.into_iter-bind-iterator.result c.loop-bind.bind-iterator c.next.new.self c.next.result first second c.loop-bind.yielded_by (c.in-Some.bind, c.in-Some.side) c.in-Some.is c.next.ensures.steps in
     let function : scheme_of c.in_ok-function.function.value ≡ read.type_function b.variables t = c.in_ok-function.ensures ∙ ap (λ w. read.type_function b.variables (meant w)) c.deref.ensures in
-    let last : Env-F Env = record { structures = (out-Env old).structures; types = c.put_type.new.types; values = (out-Env old).values; visit = (out-Env old).visit } in
+    let last : Env-F Env = record { structures = (out-Env old).structures; types = c.put_type.new.types; values = (out-Env old).values; summary = (out-Env old).summary } in
     let types : entries_of ty_str_of c.put_type.new.types.entries ≡ put b.name.id (type_str_of b t) (entries_of ty_str_of (out-Env old).types.entries) =
     c.in_ok-put_type.ensures
     ∙ (λ i. put b.name.id (record { function = function i; constructors = ap schemes_of c.in_ok-none.ensures i }) (entries_of ty_str_of (out-Env old).types.entries)) in

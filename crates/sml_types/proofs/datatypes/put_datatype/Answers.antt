@@ -41,9 +41,9 @@ returns c =
     c.in_ok-name_function.ensures ∙ (λ i. read.name_function (settles i) ((ap length c.deref.ensures.value ∙ sized) i)) in
     let constructors : schemes_of c.in_ok-new.field-0.value.entries ≡ made = ap (λ m. schemes_of m.entries) c.in_ok-new.ensures.ok ∙ has in
     let key : ident_of c.in_ok-clone.field-0 ≡ ident_of bind.name.ident = ap (λ v. v.items) c.in_ok-clone.ensures.cases in
-    let first : Env-F Env = record { structures = (out-Env old).structures; types = (out-Env old).types; values = c.put_constructors.new.values; visit = (out-Env old).visit } in
+    let first : Env-F Env = record { structures = (out-Env old).structures; types = (out-Env old).types; values = c.put_constructors.new.values; summary = (out-Env old).summary } in
     let same : out-Env (roll-Env first) ≡ first = out-roll-Env first in
-    let last : Env-F Env = record { structures = (out-Env (roll-Env first)).structures; types = c.insert.new.self; values = (out-Env (roll-Env first)).values; visit = (out-Env (roll-Env first)).visit } in
+    let last : Env-F Env = record { structures = (out-Env (roll-Env first)).structures; types = c.insert.new.self; values = (out-Env (roll-Env first)).values; summary = (out-Env (roll-Env first)).summary } in
     let ty : TypeStr = record { function = c.in_ok-name_function.field-0; constructors = c.in_ok-new.field-0 } in
     let types : entries_of ty_str_of c.insert.new.self.entries ≡ put (ident_of bind.name.ident) (record { function = read.name_function n (length d.variables); constructors = made }) (entries_of ty_str_of (out-Env old).types.entries) =
     ap (entries_of ty_str_of) c.in_ok-insert.ensures.entries

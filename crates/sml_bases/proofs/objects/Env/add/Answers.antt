@@ -10,6 +10,6 @@ pub returns : goal.returns
 returns c =
     let first : Env-F Env = out-Env c.args.self.now in
     let second : Env-F Env = out-Env c.args.other.now in
-    env_of-joined first second (record { structures = c.put_shared.new.map; types = c.put_types.new.map; values = c.put_values.new.map; visit = first.visit })
+    env_of-joined first second (record { structures = c.put_shared.new.map; types = c.put_types.new.map; values = c.put_values.new.map; summary = first.summary })
     c.in_ok-put_shared.ensures c.in_ok-put_types.ensures c.in_ok-put_values.ensures
     ∙ (λ i. extend (sym (env_of-out c.args.self.now) i) (sym (env_of-out c.args.other.now) i))

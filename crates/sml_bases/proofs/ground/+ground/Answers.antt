@@ -8,8 +8,8 @@ use Rattle.sml_objects.specs.Objects.{types_of}
 use Rattle.sml_objects.specs.Views.{type_of}
 use Rattle.sml_objects.proofs.TypeViews.{parts_of}
 use Rattle.sml_core_rules.specs.Values.{has_unknown, have_unknown}
-use Rattle.sml_types.proofs.Unknowns.{unknown-bound, unknown-free, unknown-row, unknown-arrow, unknown-name, unknown-none, unknown-after, some-unknown, no-unknown}
-use Rattle.sml_types.proofs.variables.+ground.Goals as goal
+use Rattle.sml_bases.proofs.Unknowns.{unknown-bound, unknown-free, unknown-row, unknown-arrow, unknown-name, unknown-none, unknown-after, some-unknown, no-unknown}
+use Rattle.sml_bases.proofs.ground.+ground.Goals as goal
 
 pub is_ground-returns-in-Bound : goal.is_ground-returns-in-Bound
 is_ground-returns-in-Bound t c = sym (ap (λ u. not (has_unknown (type_of u))) c.in-Bound.is ∙ ap not (unknown-bound c.in-Bound.field-0))

@@ -67,3 +67,7 @@ some-unknown false b h = cc
 pub no-unknown : (a : Bool) → true ≡ not a → a ≡ false
 no-unknown true h = h
 no-unknown false h = refl
+
+pub an-unknown : (a : Bool) → false ≡ not a → a ≡ true
+an-unknown true h = refl
+an-unknown false h = h

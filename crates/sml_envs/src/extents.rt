@@ -21,7 +21,7 @@ use std::rc::Rc;
 const REST_OF_LINE: usize = 9;
 
 /// From so many lines on, the room for what is made of them is asked for first.
-const MANY_LINES: u32 = 1 << 20;
+pub const MANY_LINES: u32 = 1 << 20;
 
 /// What is made of a line takes some so many bytes.
 const BYTES_OF_LINE: usize = 128;

@@ -5,3 +5,4 @@ pub mod comparison;
 pub mod exports;
 pub mod moved;
 pub mod moves;
+pub mod so_far;

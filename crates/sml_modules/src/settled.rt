@@ -9,7 +9,7 @@ use sml_asks::asks::ask_fixed;
 use sml_asks::outcomes::{Outcome, ask_outcome};
 use sml_bases::objects::{Env, Value};
 use sml_core::context::Context;
-use sml_envs::extents::room_for;
+use sml_envs::extents::{MANY_LINES, room_for};
 use sml_envs::mapping::mapped_env;
 use sml_lex::fault::{Code, Memory, Place};
 use sml_match::sizes::small_env_under;
@@ -63,14 +63,22 @@ pub(crate) fn known_in(context: &mut Context, env: &Env) -> Result<Option<Known>
             has_large: false,
         }));
     }
-    let mut first = IndexSet::new(context.alloc);
-    collect_first(env, &mut first)?;
-    if readings(context, &first)?.is_none() {
+    if is_first_left(context, env)? {
         return Ok(None);
     }
     let _ = room_for(context.alloc, env)?;
     let unknowns = unknowns_of(context.alloc, env)?;
     readings(context, &unknowns)
+}
+
+/// Whether an unknown of one structure is still unknown, where to look for all would take a long walk.
+fn is_first_left(context: &mut Context, env: &Env) -> Result<bool, Memory> {
+    if env.lines() < MANY_LINES {
+        return Ok(false);
+    }
+    let mut first = IndexSet::new(context.alloc);
+    collect_first(env, &mut first)?;
+    Ok(readings(context, &first)?.is_none())
 }
 
 /// That no unknown is still unknown, or Q2.

@@ -2,32 +2,34 @@
 
 use crate::datatypes::constructors_of;
 use crate::words::lines_of;
+use sml_exports::so_far::{SoFar, put};
 use sml_lex::fault::{Code, Fault, Memory};
 use sml_modules::explain::explain;
+use sml_modules::modules::topdec;
 use sml_reply::reply::Reply;
 use sml_tree::structures::TopDec;
-use sml_units::again::Again;
-use sml_units::project::Checked;
+use sml_types::fault::CoreFault;
 use std::alloc::Global;
 
 /// The lines that say why a declaration was refused, none where its fault says all that is known.
 pub type Reason = Vec<Vec<u8>>;
 
-/// The reasons of a unit's declarations, which have these replies, by their order. The unit stands at this place in the
-/// order of the project that was checked. Declarations after the last one that has a reason aren't gone through.
+/// The reasons of a unit's declarations, which have these replies, by their order. The unit starts from this. Declarations
+/// after the last one that has a reason aren't gone through.
 pub fn reasons(
     alloc: Global,
-    checked: &Checked,
-    place: usize,
+    unit: Option<SoFar>,
     replies: &[Reply],
     declarations: &[TopDec],
 ) -> Result<Vec<Reason>, Memory> {
-    let count = count_explained(replies);
-    if count == 0 {
-        return Ok(Vec::new(alloc));
-    }
-    match checked.again(alloc, place)? {
-        Some(mut again) => first_reasons(alloc, &mut again, count, replies, declarations),
+    match unit {
+        Some(mut unit) => first_reasons(
+            alloc,
+            &mut unit,
+            count_explained(replies),
+            replies,
+            declarations,
+        ),
         None => Ok(Vec::new(alloc)),
     }
 }
@@ -35,7 +37,7 @@ pub fn reasons(
 /// The reasons of the first so many declarations.
 fn first_reasons(
     alloc: Global,
-    again: &mut Again,
+    unit: &mut SoFar,
     count: usize,
     replies: &[Reply],
     declarations: &[TopDec],
@@ -45,7 +47,7 @@ fn first_reasons(
         if reasons.len() == count {
             return Ok(reasons);
         }
-        let reason = next_reason(alloc, again, reply, dec)?;
+        let reason = next_reason(alloc, unit, reply, dec)?;
         reasons.push(reason)?;
     }
     Ok(reasons)
@@ -54,16 +56,25 @@ fn first_reasons(
 /// Why the next declaration was refused, if it was; else what it binds is bound.
 fn next_reason(
     alloc: Global,
-    again: &mut Again,
+    unit: &mut SoFar,
     reply: &Reply,
     dec: &TopDec,
 ) -> Result<Reason, Memory> {
     match reply.fault() {
-        Some(fault) => reason_of(alloc, again, fault, dec),
+        Some(fault) => reason_of(alloc, unit, fault, dec),
         None => {
-            again.pass(alloc, dec)?;
+            pass(alloc, unit, dec)?;
             Ok(Vec::new(alloc))
         }
+    }
+}
+
+/// Goes through the next declaration. What it binds if it is accepted is bound.
+fn pass(alloc: Global, unit: &mut SoFar, dec: &TopDec) -> Result<(), Memory> {
+    match topdec(alloc, &unit.basis, dec) {
+        Ok((own, _)) => put(alloc, &mut unit.basis, &mut unit.paths, own),
+        Err(CoreFault::Fault(_)) => Ok(()),
+        Err(CoreFault::Memory) => Err(Memory),
     }
 }
 
@@ -93,7 +104,7 @@ fn is_explained(code: Code) -> bool {
 /// Why the next declaration was refused with this fault.
 fn reason_of(
     alloc: Global,
-    again: &mut Again,
+    unit: &mut SoFar,
     fault: &Fault,
     dec: &TopDec,
 ) -> Result<Reason, Memory> {
@@ -106,8 +117,8 @@ fn reason_of(
             return Ok(reason);
         }
     }
-    match explain(alloc, &again.basis, dec)? {
-        Some(explanation) => lines_of(alloc, &explanation, &mut again.paths),
+    match explain(alloc, &unit.basis, dec)? {
+        Some(explanation) => lines_of(alloc, &explanation, &mut unit.paths),
         None => Ok(Vec::new(alloc)),
     }
 }

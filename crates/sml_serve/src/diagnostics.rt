@@ -2,7 +2,7 @@
 
 use crate::board::View;
 use crate::findings::{Finding, Findings, Origin};
-use crate::projects::{Trouble, code_text};
+use crate::projects::Trouble;
 use crate::works::Work;
 use sml_client::documents::Documents;
 use sml_client::paths::uri_of;
@@ -10,6 +10,7 @@ use sml_client::positions::{Lines, Range, push_range};
 use sml_client::written::Text;
 use sml_lex::fault::Memory;
 use sml_projects::project::ProjectUnit;
+use sml_session::stops::code_text;
 use sml_shown::explained::section_of;
 use sml_shown::refusals::Refusal;
 use std::alloc::Global;

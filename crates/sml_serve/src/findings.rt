@@ -313,13 +313,8 @@ fn findings_in(answered: Answered, chart: &Chart) -> Result<Findings, Memory> {
 /// What is found in a unit with these declarations.
 fn traced(answered: Answered, chart: &Chart, declarations: &[TopDec]) -> Result<Findings, Memory> {
     let replies = answered.replies();
-    let reasons = reasons(
-        chart.alloc,
-        answered.checked,
-        answered.place,
-        replies,
-        declarations,
-    )?;
+    let unit = answered.checked.again(chart.alloc, answered.place)?;
+    let reasons = reasons(chart.alloc, unit, replies, declarations)?;
     all_of(chart, replies, &reasons, declarations)
 }
 

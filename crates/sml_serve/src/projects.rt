@@ -7,8 +7,9 @@ use sml_client::settings::Settings;
 use sml_client::written::Text;
 use sml_lex::fault::Memory;
 use sml_projects::manifest::ProjectCode;
+use sml_session::files::{Listed, read_project, unit_path};
 use sml_session::session::{Source, SourceFault};
-use sml_show::files::{Listed, Stop, read_project, unit_path};
+use sml_session::stops::Stop;
 use sml_shown::remark::cut;
 use std::alloc::Global;
 
@@ -101,7 +102,7 @@ fn trouble_of<S: Source>(
             text: Vec::from_slice(alloc, meaning(fault.code))?,
         }),
         Stop::Unreadable(file) => unreadable(alloc, source, path, file),
-        Stop::Code(_) | Stop::Write | Stop::Memory => Err(Memory),
+        Stop::Write | Stop::Memory => Err(Memory),
     }
 }
 
@@ -112,16 +113,6 @@ fn meaning(code: ProjectCode) -> &'static [u8] {
         ProjectCode::O2 => b"units need each other in a circle",
         ProjectCode::O3 => b"the unit's name was listed before",
         ProjectCode::O4 => b"the line has another form",
-    }
-}
-
-/// A code of project files as it is printed.
-pub fn code_text(code: ProjectCode) -> &'static [u8] {
-    match code {
-        ProjectCode::O1 => b"O1",
-        ProjectCode::O2 => b"O2",
-        ProjectCode::O3 => b"O3",
-        ProjectCode::O4 => b"O4",
     }
 }
 

@@ -5,7 +5,7 @@ use sml_client::positions::Encoding;
 use sml_lex::fault::Memory;
 use sml_objects::objects::UnitId;
 use sml_projects::project::{Project, ProjectUnit};
-use sml_show::files::Listed;
+use sml_session::files::Listed;
 use sml_units::project::{Checked, check};
 use sml_units::recheck::Rechecking;
 use std::alloc::Global;

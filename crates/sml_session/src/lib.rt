@@ -2,6 +2,8 @@
 #![tactic(auto)]
 
 pub mod disk;
+pub mod files;
 pub mod session;
+pub mod stops;
 #[cfg(test)]
 mod tests;

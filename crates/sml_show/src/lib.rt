@@ -2,7 +2,6 @@
 #![tactic(auto)]
 
 pub mod command_line;
-pub mod files;
 pub mod page;
 pub mod records;
 pub mod replies;

@@ -1,6 +1,5 @@
 //! What is shown of the replies to a unit's declarations.
 
-use crate::files::Listed;
 use crate::page::{Followed, Page};
 use crate::records;
 use crate::show::is_shown;
@@ -9,6 +8,7 @@ use sml_reasons::reasons::Reason;
 use sml_reply::form::{Form, Version};
 use sml_reply::reply::{Reply, print};
 use sml_reply::sink::VecOut;
+use sml_session::files::Listed;
 use sml_shown::binders::bound_by;
 use sml_shown::refusals::{Refusal, Refusals, unbound_key};
 use sml_shown::remark::{Remark, after, cut, fault_in, warning_in};

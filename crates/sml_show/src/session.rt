@@ -1,12 +1,11 @@
 //! From the words of a command line to a status.
 
 use crate::command_line::{Asked, Wish, asked_by};
-use crate::files::{Stop, read_project};
 use crate::show::show;
-use itoa::Buffer;
-use sml_projects::manifest::ProjectCode;
 use sml_reply::sink::{Out, OutFault, write_all};
+use sml_session::files::read_project;
 use sml_session::session::Source;
+use sml_session::stops::{BAD_PROJECT, Stop, report, say};
 use sml_shown::explained::section_of;
 use std::alloc::Global;
 
@@ -16,11 +15,8 @@ const ALL_ACCEPTED: u8 = 0;
 /// Some declaration was refused.
 const SOME_REFUSED: u8 = 1;
 
-/// The command line, the project or its order was refused.
-const BAD_PROJECT: u8 = 2;
-
-/// A file couldn't be read, output failed, or memory wasn't there.
-const FAILED: u8 = 3;
+/// What the program says stands after its name.
+const NAME: &[u8] = b"smlshow";
 
 /// Runs the program on the words of its command line, of which the first is its own name, and gives its status.
 pub fn session<S: Source, O: Out, E: Out>(
@@ -35,13 +31,13 @@ pub fn session<S: Source, O: Out, E: Out>(
             let answer = show_project(alloc, &project, wish, source, out);
             status(answer, err)
         }
-        Asked::Explain(code) => status(explain(code, out), err),
+        Asked::Explain(code) => explain(code.as_bytes(), out, err),
         Asked::Answer(text) => status(say_all(text.as_bytes(), out), err),
         Asked::Refused(text) => {
             let _ = write_all(err, text.as_bytes());
             BAD_PROJECT
         }
-        Asked::Memory => report(&Stop::Memory, err),
+        Asked::Memory => report(NAME, &Stop::Memory, err),
     }
 }
 
@@ -49,7 +45,7 @@ pub fn session<S: Source, O: Out, E: Out>(
 fn status<E: Out>(answer: Result<u8, Stop>, err: &mut E) -> u8 {
     match answer {
         Ok(status) => status,
-        Err(stop) => report(&stop, err),
+        Err(stop) => report(NAME, &stop, err),
     }
 }
 
@@ -71,12 +67,22 @@ fn show_project<S: Source, O: Out>(
     })
 }
 
-/// Writes the section of a code.
-fn explain<O: Out>(code: String, out: &mut O) -> Result<u8, Stop> {
-    match section_of(code.as_bytes()) {
-        Some(section) => say_all(section.text.as_bytes(), out),
-        None => Err(Stop::Code(code)),
+/// Writes the section of a code, if there is one.
+fn explain<O: Out, E: Out>(code: &[u8], out: &mut O, err: &mut E) -> u8 {
+    match section_of(code) {
+        Some(section) => status(say_all(section.text.as_bytes(), out), err),
+        None => {
+            let _ = say_no_code(code, err);
+            BAD_PROJECT
+        }
     }
+}
+
+fn say_no_code<E: Out>(code: &[u8], err: &mut E) -> Result<(), OutFault> {
+    write_all(err, NAME)?;
+    write_all(err, b": no code ")?;
+    write_all(err, code)?;
+    write_all(err, b"\n")
 }
 
 fn say_all<O: Out>(text: &[u8], out: &mut O) -> Result<u8, Stop> {
@@ -84,55 +90,12 @@ fn say_all<O: Out>(text: &[u8], out: &mut O) -> Result<u8, Stop> {
     Ok(ALL_ACCEPTED)
 }
 
-/// Says why the session ends, and gives its status.
-fn report<E: Out>(stop: &Stop, err: &mut E) -> u8 {
-    let _ = say(stop, err);
-    match stop {
-        Stop::Project(_) | Stop::Code(_) => BAD_PROJECT,
-        Stop::Unreadable(_) | Stop::Write | Stop::Memory => FAILED,
-    }
-}
-
-fn say<E: Out>(stop: &Stop, err: &mut E) -> Result<(), OutFault> {
-    match stop {
-        Stop::Project(fault) => {
-            let mut buffer = Buffer::new();
-            write_all(err, b"smlshow: ")?;
-            write_all(err, code_text(fault.code))?;
-            write_all(err, b" line ")?;
-            write_all(err, buffer.format(fault.line).as_bytes())?;
-            write_all(err, b"\n")
-        }
-        Stop::Unreadable(path) => {
-            write_all(err, b"smlshow: cannot read ")?;
-            write_all(err, path.as_bytes())?;
-            write_all(err, b"\n")
-        }
-        Stop::Code(code) => {
-            write_all(err, b"smlshow: no code ")?;
-            write_all(err, code.as_bytes())?;
-            write_all(err, b"\n")
-        }
-        Stop::Write => cannot_write(err),
-        Stop::Memory => out_of_memory(err),
-    }
-}
-
 /// Says that memory was refused.
 pub fn out_of_memory<E: Out>(err: &mut E) -> Result<(), OutFault> {
-    write_all(err, b"smlshow: out of memory\n")
+    say(NAME, &Stop::Memory, err)
 }
 
 /// Says that output failed.
 pub fn cannot_write<E: Out>(err: &mut E) -> Result<(), OutFault> {
-    write_all(err, b"smlshow: cannot write\n")
-}
-
-fn code_text(code: ProjectCode) -> &'static [u8] {
-    match code {
-        ProjectCode::O1 => b"O1",
-        ProjectCode::O2 => b"O2",
-        ProjectCode::O3 => b"O3",
-        ProjectCode::O4 => b"O4",
-    }
+    say(NAME, &Stop::Write, err)
 }

@@ -1,7 +1,6 @@
 //! What is shown of a project.
 
 use crate::command_line::Wish;
-use crate::files::Listed;
 use crate::page::{Page, push_number};
 use crate::replies::{Before, note_all, show_all};
 use sml_lex::fault::Memory;
@@ -9,6 +8,7 @@ use sml_parse::parse::{Parsed, parse, release};
 use sml_projects::project::ProjectUnit;
 use sml_reasons::reasons::reasons;
 use sml_reply::reply::Reply;
+use sml_session::files::Listed;
 use sml_shown::refusals::Refusals;
 use sml_shown::unit_map::UnitMap;
 use sml_tree::structures::TopDec;
@@ -171,12 +171,7 @@ fn show_traced(
     text: &mut Vec<u8>,
 ) -> Result<Refusals, Memory> {
     let replies = answered.replies();
-    let reasons = reasons(
-        alloc,
-        answered.checked,
-        answered.index,
-        replies,
-        declarations,
-    )?;
+    let unit = answered.checked.again(alloc, answered.index)?;
+    let reasons = reasons(alloc, unit, replies, declarations)?;
     note_all(alloc, page, before, replies, &reasons, declarations, text)
 }

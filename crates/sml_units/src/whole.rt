@@ -8,6 +8,7 @@ ghost use Rattle.sml_units.specs.Checked.{AreNumbered};
 use crate::project::number_after;
 use sml_bases::objects::Basis as WholeBasis;
 use sml_exports::exports::Exports;
+use sml_exports::so_far::put;
 use sml_lex::fault::Memory;
 use sml_modules::modules::topdec;
 use sml_objects::objects::Basis;
@@ -83,22 +84,6 @@ fn answer(
         Err(CoreFault::Fault(fault)) => Ok(Reply::refused(number, fault)),
         Err(CoreFault::Memory) => Err(Memory),
     }
-}
-
-/// Puts what a declaration binds into the basis, and its paths.
-pub(crate) fn put(
-    alloc: Global,
-    basis: &mut WholeBasis,
-    paths: &mut Paths,
-    own: WholeBasis,
-) -> Result<(), Memory> {
-    paths.bind(alloc, &own.env)?;
-    basis.add(&own)?;
-    basis.count = own.count;
-    for carried in own.names {
-        basis.names.push(carried)?;
-    }
-    Ok(())
 }
 
 /// What a unit with this basis exports.

@@ -1,67 +1,15 @@
 //! The project of a project file, with the files of its units.
 
+use crate::session::{Source, SourceFault};
+use crate::stops::Stop;
 use sml_lex::fault::Memory;
-use sml_projects::manifest::{Manifest, ManifestFault, OrderFault, ProjectFault};
+use sml_projects::manifest::Manifest;
 use sml_projects::project::{Project, ProjectUnit};
 use sml_projects::project_file::manifest;
-use sml_reply::sink::OutFault;
-use sml_session::session::{Source, SourceFault};
-use std::alloc::{AllocError, AllocFailed, Global};
+use std::alloc::{AllocError, Global};
 
 /// One byte more than the greatest unit and the greatest project file have.
 const MOST_BYTES: usize = 1_048_577;
-
-/// Why a session ends early.
-#[derive(Drop)]
-pub enum Stop {
-    Project(ProjectFault),
-    Unreadable(String),
-    Code(String),
-    Write,
-    Memory,
-}
-
-impl From<AllocError> for Stop {
-    fn from(_error: AllocError) -> Stop {
-        Stop::Memory
-    }
-}
-
-impl<T: Drop> From<AllocFailed<T>> for Stop {
-    fn from(_error: AllocFailed<T>) -> Stop {
-        Stop::Memory
-    }
-}
-
-impl From<Memory> for Stop {
-    fn from(_memory: Memory) -> Stop {
-        Stop::Memory
-    }
-}
-
-impl From<OutFault> for Stop {
-    fn from(_fault: OutFault) -> Stop {
-        Stop::Write
-    }
-}
-
-impl From<ManifestFault> for Stop {
-    fn from(fault: ManifestFault) -> Stop {
-        match fault {
-            ManifestFault::Memory => Stop::Memory,
-            ManifestFault::Fault(fault) => Stop::Project(fault),
-        }
-    }
-}
-
-impl From<OrderFault> for Stop {
-    fn from(fault: OrderFault) -> Stop {
-        match fault {
-            OrderFault::Memory => Stop::Memory,
-            OrderFault::Fault(fault) => Stop::Project(fault),
-        }
-    }
-}
 
 /// A project, and the files of its units as the project file has them, in the order listed.
 #[derive(Drop)]

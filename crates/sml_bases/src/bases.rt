@@ -82,6 +82,7 @@ impl Basis {
         ensures functors { functors_in result ≡ [] ∷ [] }
         ensures unit { (out-Basis result).unit ≡ unit }
         ensures count { (out-Basis result).count ≡ 0 }
+        ensures names { (out-Basis result).names.items ≡ [] }
     {
         Basis {
             unit,
@@ -102,6 +103,7 @@ impl Basis {
         ensures below { OnOk result ((out-Basis self.new).below ≡ (out-Basis self.old).below) }
         ensures unit { OnOk result ((out-Basis self.new).unit ≡ (out-Basis self.old).unit) }
         ensures count { OnOk result ((out-Basis self.new).count ≡ (out-Basis self.old).count) }
+        ensures names { OnOk result ((out-Basis self.new).names ≡ (out-Basis self.old).names) }
     {
         let Basis {
             unit: _,

@@ -295,6 +295,7 @@ impl Numbering<'_> {
         ensures functors { AreOrderedInBasis basis → IfOk result (λ b. bound_functors b ≡ replaced (rename_fun_sig (renumber (maker_of self.now.unit) self.now.count (map name_of self.now.names.now.keys))) (bound_functors basis)) }
         ensures unit { IfOk result (λ b. (out-Basis b).unit ≡ (out-Basis basis).unit) }
         ensures names { IfOk result (λ b. (out-Basis b).names.items ≡ []) }
+        ensures below { IfOk result (λ b. (out-Basis b).below.items ≡ []) }
     {
         let env = self.env(&basis.env)?;
         let signatures = self.signatures(&basis.signatures)?;
@@ -366,6 +367,7 @@ pub fn canonical(
     ensures unit { IfOk result (λ b. (out-Basis b).unit ≡ (out-Basis basis).unit) }
     ensures count { IfOk result (λ b. (out-Basis b).count ≡ count + length (new_in (maker_of unit) count (appear_basis (bound_env basis) (bound_signatures basis) (bound_functors basis)))) }
     ensures names { IfOk result (λ b. map carried_of (out-Basis b).names.items ≡ map (carries made.now) (new_in (maker_of unit) count (appear_basis (bound_env basis) (bound_signatures basis) (bound_functors basis)))) }
+    ensures below { IfOk result (λ b. (out-Basis b).below.items ≡ []) }
 {
     let _ = room_for_bound(alloc, &basis)?;
     let mut names = IndexSet::new(alloc);

@@ -28,6 +28,7 @@ pub fn initial(alloc: Global) -> Result<Basis, Memory>
     ensures functors { IfOk result (λ b. functors_in b ≡ [] ∷ []) }
     ensures unit { IfOk result (λ b. (out-Basis b).unit.index ≡ 0) }
     ensures count { IfOk result (λ b. (out-Basis b).count ≡ 0) }
+    ensures names { IfOk result (λ b. (out-Basis b).names.items ≡ []) }
 {
     Ok(Basis {
         unit: UnitId { index: 0 },

@@ -2,9 +2,9 @@
 use Rattle.std.proofs.Common.{◌≡◌, ℕ, ◌+◌, List, [], ◌∷◌, ◌++◌, ap, sym, ◌∙◌, refl}
 use Rattle.std.specs.List.{sum_by}
 use Rattle.std.proofs.lemmas.List.Sums.{sum_by_push}
+use Rattle.sml_bases.specs.Entries.{capped}
+use Rattle.sml_bases.proofs.Totals.{capped-more}
 use Rattle.sml_projects.specs.Orders.{UnitText}
-use Rattle.sml_units.specs.Written.{capped}
-use Rattle.sml_units.proofs.Written.{capped-more}
 use Rattle.sml_units.specs.Counts.{IsNumberOf, AreNumbersOf, IsCountOf}
 
 pub count_none : IsCountOf [] 0

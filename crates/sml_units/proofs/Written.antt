@@ -1,9 +1,11 @@
 -- Texts and counts of replies, one after the other.
-use Rattle.std.proofs.Common.{◌<◌, map, take, drop, get_or, ◌≡◌, ℕ, ◌+◌, ◌≤◌, Bool, true, false, not, cond, List, [], ◌∷◌, ◌++◌, length, Option, Result, Ok, Err, is_ok, IfOk, IfErr, refl, ap, sym, subst, ◌∙◌, append_assoc, arith}
+use Rattle.std.proofs.Common.{◌<◌, map, take, drop, get_or, ◌≡◌, ℕ, ◌+◌, ◌≤◌, Bool, true, false, not, cond, List, [], ◌∷◌, ◌++◌, length, Option, Result, Ok, Err, is_ok, IfOk, IfErr, refl, ap, sym, subst, ◌∙◌, append_assoc}
 use Rattle.std.specs.List.{count_by, sum_by}
 use Rattle.std.proofs.lemmas.Bool.{false≢true}
 use Rattle.std.proofs.lemmas.List.{take_all, take_more, flat_map_more}
 use Rattle.std.proofs.lemmas.List.Sums.{sum_by_push}
+use Rattle.sml_bases.specs.Entries.{capped}
+use Rattle.sml_bases.proofs.Totals.{capped-more}
 use Rattle.sml_reply.specs.declared.form.Form.{Form}
 use Rattle.sml_reply.specs.declared.reply.Reply.{Reply}
 use Rattle.sml_reply.specs.Replies.{warnings_of, accepts}
@@ -14,7 +16,7 @@ use Rattle.sml_units.specs.declared.project.UnitReplies.{UnitReplies}
 use Rattle.sml_units.specs.declared.run.Summary.{Summary}
 use Rattle.sml_units.specs.declared.run.RunFault.{RunFault}
 use Rattle.sml_units.specs.declared.run.RunFault.TheVariants.{Write}
-use Rattle.sml_units.specs.Written.{capped, replies_text, replies_of, summary_of, IsOutcome}
+use Rattle.sml_units.specs.Written.{replies_text, replies_of, summary_of, IsOutcome}
 
 pub turn-more-at : {A : Type 0} (f : A → List ℕ) (xs : List A) (i : ℕ) (x : A) → i < length xs → x ≡ get_or xs i x → in_turn (map f (take (i + 1) xs)) ≡ in_turn (map f (take i xs)) ++ f x
 turn-more-at f xs i x h is = turn-more f xs i x h ∙ ap (λ y. in_turn (map f (take i xs)) ++ f y) (sym is)
@@ -22,9 +24,6 @@ turn-more-at f xs i x h is = turn-more f xs i x h ∙ ap (λ y. in_turn (map f (
 pub turn-rest-at : {A : Type 0} (f : A → List ℕ) (xs : List A) (i : ℕ) (x : A) → i < length xs → x ≡ get_or xs i x
     → in_turn (map f xs) ≡ (in_turn (map f (take i xs)) ++ f x) ++ in_turn (map f (drop (i + 1) xs))
 turn-rest-at f xs i x h is = turn-rest f xs i x h ∙ ap (λ y. (in_turn (map f (take i xs)) ++ f y) ++ in_turn (map f (drop (i + 1) xs))) (sym is)
-
-pub capped-more : (a b : ℕ) → capped (capped a + b) ≡ capped (a + b)
-capped-more a b = omega arith
 
 refused-more : (b : Bool) → ◌≡◌ {A = ℕ} (cond b 0 1) (cond (not b) 1 0)
 refused-more true = refl

@@ -3,9 +3,9 @@ use Rattle.std.specs.Prelude.{◌≡◌, ℕ, List, [], ◌∷◌, length, sum_b
 use Rattle.sml_lex.specs.declared.fault.Place.{Place}
 use Rattle.sml_lex.specs.Faults.{Fault}
 use Rattle.sml_tree.specs.Trees.{Dec}
+use Rattle.sml_bases.specs.Entries.{capped}
 use Rattle.sml_projects.specs.Orders.{UnitText}
 use Rattle.sml_units.specs.Checked.{AreSpelt}
-use Rattle.sml_units.specs.Written.{capped}
 
 -- so many whole declarations
 pub record IsNumberOf (bytes : List ℕ) (n : ℕ) : Type 0 where

@@ -1,7 +1,8 @@
 -- What a run writes and counts.
-use Rattle.std.specs.Prelude.{◌≡◌, ℕ, ◌-◌, ◌^◌, min, not, List, [], ◌∷◌, ◌++◌, length, map, codes, count_by, sum_by, Option, Result, Ok, Err, IfOk}
+use Rattle.std.specs.Prelude.{◌≡◌, ℕ, not, List, [], ◌∷◌, ◌++◌, length, map, codes, count_by, sum_by, Option, Result, Ok, Err, IfOk}
 use Rattle.std.specs.List.{flat_map}
 use Rattle.std.specs.String.{string_bytes}
+use Rattle.sml_bases.specs.Entries.{capped}
 use Rattle.sml_reply.specs.declared.form.Form.{Form}
 use Rattle.sml_reply.specs.declared.reply.Reply.{Reply}
 use Rattle.sml_reply.specs.Replies.{form_text, warnings_of, accepts}
@@ -26,10 +27,6 @@ replies_text rs form = units_text rs.units.items form
 -- the replies of all units
 abbrev pub replies_of : List UnitReplies → List Reply
 replies_of us = flat_map (λ u. u.replies.items) us
-
--- counts stop at the greatest number of their type
-abbrev pub capped : ℕ → ℕ
-capped k = min k (2 ^ 64 - 1)
 
 unfoldable pub summary_of : List Reply → Summary
 summary_of rs = record {

@@ -5,7 +5,8 @@ ghost use Rattle.sml_reply.specs.Replies.{form_text, warnings_of, accepts};
 ghost use Rattle.sml_reply.specs.Sinks.{in_turn, Prints};
 ghost use Rattle.sml_units.specs.Checked.{MayReply, HaveOwnPlaces};
 ghost use Rattle.sml_projects.specs.Orders.{unit_texts};
-ghost use Rattle.sml_units.specs.Written.{unit_text, units_text, replies_text, replies_of, summary_of, capped, IsOutcome};
+ghost use Rattle.sml_bases.specs.Entries.{capped};
+ghost use Rattle.sml_units.specs.Written.{unit_text, units_text, replies_text, replies_of, summary_of, IsOutcome};
 
 use crate::project::{Checked, Replies, UnitReplies, check};
 use sml_projects::project::Project;

@@ -12,3 +12,4 @@ pub mod Cleaned
 pub mod Listed
 pub mod Tops
 pub mod Made
+pub mod Runs

@@ -63,7 +63,7 @@ parts-speak unit B d = all (parts (run_scope unit) B d) (parts-reach (Takes nami
     )
 
 -- the names of explicit variables have no parameters
-variables : (x : Variable) → Takes naming (name (variable_name x)) 0
+pub variables : (x : Variable) → Takes naming (name (variable_name x)) 0
 unfolding naming
 variables x = refl
 

@@ -45,7 +45,7 @@ module _ {N : Type 0} (S : Head N → ℕ → Type 0) where
     all-more (λ e. IsFunctorIn S L e.1) (λ e. IsFunctorIn S M e.1) (λ e k. (body-more S L M a e.1.argument.body k.0, body-more S L M a e.1.result.body k.1)) A.functors h.1,
   )
 
-  part-more : (L M : List N) → Among L M → (A : Basis N) → IsPartIn S L A → IsPartIn S M A
+  pub part-more : (L M : List N) → Among L M → (A : Basis N) → IsPartIn S L A → IsPartIn S M A
   part-more L M a A h = (body-more S L M a A.body h.0, scope-more L M a A h.1)
 
   scope-join : (M : List N) (B A : Basis N) → IsScopeIn S M B → IsScopeIn S M A → IsScopeIn S M (add_basis B A)
@@ -56,6 +56,15 @@ module _ {N : Type 0} (S : Head N → ℕ → Type 0) where
       let a = part-more L (L ++ M) (λ n s. left n L M s) A h in
       let b = part-more M (L ++ M) (λ n s. right n L M s) C k in
       (body-extend S (L ++ M) A.body C.body a.0 b.0, scope-join (L ++ M) A C a.1 b.1)
+
+  pub part-extend : (M : List N) (A C : Basis N) → IsPartIn S M A → IsPartIn S M C → IsPartIn S M (add_basis A C)
+  part-extend M A C h k = (body-extend S M A.body C.body h.0 k.0, scope-join M A C h.1 k.1)
+
+  pub basis-more : (L M : List N) → Among L M → (B : Basis N) → IsBasisIn S L B → IsBasisIn S M B
+  basis-more L M a B h = ((env-more S 0 L 0 M (omega arith) a B.body h.0.0, h.0.1), scope-more L M a B h.1)
+
+  pub basis-extend : (M : List N) (B A : Basis N) → IsBasisIn S M B → IsPartIn S M A → IsBasisIn S M (add_basis B A)
+  basis-extend M B A h k = ((extend-in S 0 M B.body A.body h.0.0 k.0.0, extend-inside B.body A.body h.0.1 k.0.1), scope-join M B A h.1 k.1)
 
   -- types for unknowns
 
@@ -237,24 +246,23 @@ module _ {P N : Type 0} (S : Head N → ℕ → Type 0) (scope : Scope N) (exact
             let d = next D w in
             (c.0 ++ d.0, subst (λ A. IsPartIn S (c.0 ++ d.0) A.basis) g (part-join S c.0 d.0 C.basis D.basis c.1 d.1))
 
-    -- a basis with what was declared
-    own-in : (C : Added P N) → Told C → (X : Basis N) → X ≡ own_basis scope B.names C.basis → IsBasisIn S (X.names ++ B.names) (add_basis B X)
-    unfolding Told
-    own-in C c X e =
-        subst (λ X. IsBasisIn S (X.names ++ B.names) (add_basis B X)) (sym e)
-        (let O = own_basis scope B.names C.basis in
-        let M = O.names ++ B.names in
-        let a : Among B.names M = λ n s. right n O.names B.names s in
-        let p = own-listed S scope B.names c.0 C.basis c.1 in
-        ((extend-in S 0 M B.body O.body (env-more S 0 B.names 0 M (omega arith) a B.body inside.0.0) p.0.0, extend-inside B.body O.body inside.0.1 p.0.1), scope-join S M B O (scope-more S B.names M a B inside.1) p.1))
+    -- what was declared, and a basis with it
 
-    pub tops-in : (p : P) (d : TopDec P) (A : Added P N) → IsTopReading scope p B d (accepted A) → IsBasisIn S (A.basis.names ++ B.names) (add_basis B A.basis)
-    tops-in p d A (refused f, x, e) = absurd (not_refused e)
-    tops-in p d A (accepted ms, x, e) = go (all_bound ms) refl e
+    own-in : (C : Added P N) → Told C → (X : Basis N) → X ≡ own_basis scope B.names C.basis → IsPartIn S (X.names ++ B.names) X
+    unfolding Told
+    own-in C c X e = subst (λ X. IsPartIn S (X.names ++ B.names) X) (sym e) (own-listed S scope B.names c.0 C.basis c.1)
+
+    pub tops-part : (p : P) (d : TopDec P) (A : Added P N) → IsTopReading scope p B d (accepted A) → IsPartIn S (A.basis.names ++ B.names) A.basis
+    tops-part p d A (refused f, x, e) = absurd (not_refused e)
+    tops-part p d A (accepted ms, x, e) = go (all_bound ms) refl e
       where
-        go : (b : Option (Added P N)) → all_bound ms ≡ b → IsExported scope B p b (accepted A) → IsBasisIn S (A.basis.names ++ B.names) (add_basis B A.basis)
+        go : (b : Option (Added P N)) → all_bound ms ≡ b → IsExported scope B p b (accepted A) → IsPartIn S (A.basis.names ++ B.names) A.basis
         go None w e = absurd (not_refused e)
         go (Some C) w (inl e) = absurd (not_refused e.1)
         go (Some C) w (inr (inl e)) = absurd (not_refused e.2)
         go (Some C) w (inr (inr e)) =
             own-in C (parts-in (parts scope B d) B.names (λ n s. s) (parts-reach S scope B d) ms x C w) A.basis (ap (λ A. A.basis) (accepted_same e.2))
+
+    pub tops-in : (p : P) (d : TopDec P) (A : Added P N) → IsTopReading scope p B d (accepted A) → IsBasisIn S (A.basis.names ++ B.names) (add_basis B A.basis)
+    tops-in p d A r =
+        let M = A.basis.names ++ B.names in basis-extend S M B A.basis (basis-more S B.names M (λ n s. right n A.basis.names B.names s) B inside) (tops-part p d A r)

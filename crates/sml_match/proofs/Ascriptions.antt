@@ -1,5 +1,5 @@
 -- What a structure has after an ascription.
-use Rattle.std.proofs.Common.{◌≡◌, List, [], refl, ap, ◌∙◌, Some, None, Result, Ok, Err}
+use Rattle.std.proofs.Common.{◌≡◌, List, [], ap, ◌∙◌, Result, Ok, Err}
 use Rattle.sml_lex.specs.declared.fault.Place.{Place}
 use Rattle.sml_tree.specs.declared.structures.Ascription.TheVariants.{Transparent, Opaque}
 use Rattle.sml_objects.specs.Initial.{Name, naming}

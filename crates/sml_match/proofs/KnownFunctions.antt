@@ -1,9 +1,8 @@
 -- The type functions that are read for a signature's names have no unknowns where those of the structure have none.
-use Rattle.std.proofs.Common.{◌≡◌, Bool, true, false, ◌||◌, ◌&&◌, not, nat_eq, cond, List, [], ◌∷◌, length, refl, ap, sym, subst, ◌∙◌, Option, Some, None}
+use Rattle.std.proofs.Common.{◌≡◌, Bool, true, false, ◌||◌, ◌&&◌, not, nat_eq, cond, List, [], ◌∷◌, length, refl, ap, subst, Option, Some, None}
 use Rattle.std.specs.Option.{is_none}
 use Rattle.sml_lex.specs.declared.fault.Place.{Place}
 use Rattle.sml_lex.specs.declared.fault.Code.TheVariants.{M2, M3}
-use Rattle.sml_lex.specs.Faults.{Fault}
 use Rattle.sml_tree.specs.Trees.{LongId}
 use Rattle.sml_objects.specs.Appearance.{stands}
 use Rattle.sml_objects.specs.Equality.{has_equality}

@@ -1,6 +1,9 @@
 mod Ascriptions
+mod Becoming
+mod Generality
 mod Held
 mod KnownFunctions
+mod Making
 mod Ordered
 mod Reading
 mod Realised

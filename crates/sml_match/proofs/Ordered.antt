@@ -1,18 +1,17 @@
 -- The schemes of well-formed environments have their variables in order.
-use Rattle.std.proofs.Common.{◌≡◌, ◌<◌, ◌+◌, ℕ, zero, suc, false, List, [], ◌∷◌, map, length, Some, slice_get, slice_index_or, refl, ap, sym, ◌∙◌, arith}
+use Rattle.std.proofs.Common.{◌≡◌, ◌<◌, ◌+◌, ℕ, zero, suc, false, List, [], ◌∷◌, length, Some, slice_get, slice_index_or, refl, ap, sym, ◌∙◌, arith}
 use Rattle.std.proofs.lemmas.List.FromFn.{fill_by_all, length-range_with_len}
 use Rattle.std.specs.List.{range_with_len}
 use Rattle.sml_objects.specs.Initial.{Name}
 use Rattle.sml_objects.specs.Maps.{Map}
 use Rattle.sml_objects.specs.Names.{Naming}
 use Rattle.sml_objects.specs.Objects as O
-use Rattle.sml_objects.specs.Types.{instance_from, replace_type, variables_after}
 use Rattle.sml_core_rules.specs.Objects.{Env, Structures, TyStr, Value, maps, no_structure, and_structure}
 use Rattle.sml_module_rules.specs.WellFormed.{AreEnvsOver, HoldsOfAll, IsEnvOver, IsSchemeOver, IsTypeStructureOver, IsValueOver}
 use Rattle.sml_type_maps.specs.Mapped.{bound_at}
 use Rattle.sml_type_maps.specs.Orders.{AreOrdered, IsOrdered, bound_after}
 use Rattle.sml_type_maps.proofs.Orders.{at-own, ordered-as, own-places, variables-stay}
-use Rattle.sml_envs.specs.Mapped.{AllInStructures, AllIn, AreOrderedIn, AreOrderedInAll, Each, HasOrdered, HaveOrdered, IsOrderedValue}
+use Rattle.sml_envs.specs.Mapped.{AllInStructures, AllIn, AreOrderedIn, AreOrderedInAll, Each, HaveOrdered, IsOrderedValue}
 use Rattle.sml_match.proofs.Realised.{closed-known, known-closed, variables-opened}
 
 range-at : (a n j : ℕ) → j < n → slice_get (range_with_len a n) j ≡ Some (a + j)

@@ -1,4 +1,5 @@
 pub mod Ascribed
+pub mod General
 pub mod Mismatches
 pub mod Paths
 pub mod Required

@@ -1,5 +1,15 @@
 //! Whether a scheme is at least as general as another one (the Definition, section 4.5).
 
+ghost use Rattle.std.specs.Prelude.{◌≡◌, ◌<◌, true, false, length, map, IfOk};
+ghost use Rattle.sml_objects.specs.Initial.{naming};
+ghost use Rattle.sml_objects.specs.Objects.{types_of};
+ghost use Rattle.sml_objects.specs.Types.{instance_from};
+ghost use Rattle.sml_objects.specs.Views.{scheme_of, type_of};
+ghost use Rattle.sml_core_rules.specs.Values.{has_unknown, have_unknown};
+ghost use Rattle.sml_graph.specs.Interned.{AreBodiesOver, IsBodyOver};
+ghost use Rattle.sml_module_rules.specs.Matching.{IsGeneral};
+ghost use Rattle.sml_match.specs.General.{AreKnown, Becomes, MakeAll, MakeOne};
+
 use sml_asks::asks::{ask_equal, ask_equality, ask_general, ask_instance, ask_variable};
 use sml_bases::ground::is_ground;
 use sml_lex::fault::Memory;
@@ -20,7 +30,13 @@ pub(crate) fn is_general(
     solver: &mut Solver,
     scheme: &Scheme,
     specified: &Scheme,
-) -> Result<bool, Memory> {
+) -> Result<bool, Memory>
+    ensures yes { has_unknown (scheme_of specified.now).body ≡ false → IsBodyOver (length (scheme_of scheme.now).variables) 0 (scheme_of scheme.now).body
+        → IfOk result (λ b. b ≡ true → IsGeneral naming (scheme_of scheme.now) (scheme_of specified.now)) }
+    ensures no { has_unknown (scheme_of specified.now).body ≡ false → IsBodyOver (length (scheme_of scheme.now).variables) 0 (scheme_of scheme.now).body
+        → IfOk result (λ b. b ≡ false → ¬ (IsGeneral naming (scheme_of scheme.now) (scheme_of specified.now))) }
+    ensures same { has_unknown (scheme_of specified.now).body ≡ false → has_unknown (scheme_of scheme.now).body ≡ false → solver.new ≡ solver.old }
+{
     if is_ground(&scheme.body) && is_ground(&specified.body) {
         return is_closed_general(alloc, scheme, specified);
     }
@@ -32,7 +48,12 @@ pub(crate) fn is_general(
 }
 
 /// The same for schemes without unknowns: types for the variables of the first make it the second.
-fn is_closed_general(alloc: Global, scheme: &Scheme, specified: &Scheme) -> Result<bool, Memory> {
+fn is_closed_general(alloc: Global, scheme: &Scheme, specified: &Scheme) -> Result<bool, Memory>
+    ensures yes { IsBodyOver (length (scheme_of scheme.now).variables) 0 (scheme_of scheme.now).body → has_unknown (scheme_of specified.now).body ≡ false
+        → IfOk result (λ b. b ≡ true → IsGeneral naming (scheme_of scheme.now) (scheme_of specified.now)) }
+    ensures no { IsBodyOver (length (scheme_of scheme.now).variables) 0 (scheme_of scheme.now).body → has_unknown (scheme_of specified.now).body ≡ false
+        → IfOk result (λ b. b ≡ false → ¬ (IsGeneral naming (scheme_of scheme.now) (scheme_of specified.now))) }
+{
     let mut images = Vec::new(alloc);
     for equality in &scheme.variables {
         images.push(VariableImage {
@@ -63,7 +84,10 @@ fn becomes<'a>(
     attributes: &[bool],
     ty: &MlType,
     wanted: &'a MlType,
-) -> bool {
+) -> bool
+    ensures { AreKnown images.old → IsBodyOver (length images.old) 0 (type_of ty.now) → has_unknown (type_of wanted.now) ≡ false
+        → Becomes attributes.now images.old (MakeOne (type_of ty.now) (type_of wanted.now)) result images.new }
+{
     match (ty, wanted) {
         (MlType::Bound(variable), _) => stands_for(images, attributes, *variable, wanted),
         (MlType::Row(labels, parts), MlType::Row(wanted_labels, wanted)) => {
@@ -86,7 +110,10 @@ fn become_all<'a>(
     attributes: &[bool],
     parts: &[Rc<MlType>],
     wanted: &'a [Rc<MlType>],
-) -> bool {
+) -> bool
+    ensures { AreKnown images.old → AreBodiesOver (length images.old) 0 (types_of (map (λ t. type_of t.value) parts.now)) → have_unknown (types_of (map (λ t. type_of t.value) wanted.now)) ≡ false
+        → Becomes attributes.now images.old (MakeAll (types_of (map (λ t. type_of t.value) parts.now)) (types_of (map (λ t. type_of t.value) wanted.now))) result images.new }
+{
     if parts.len() != wanted.len() {
         return false;
     }
@@ -103,15 +130,22 @@ fn stands_for<'a>(
     attributes: &[bool],
     variable: u32,
     wanted: &'a MlType,
-) -> bool {
-    let Some(entry) = images.get_mut(variable as usize) else {
+) -> bool
+    ensures { AreKnown images.old → variable < length images.old → has_unknown (type_of wanted.now) ≡ false → Becomes attributes.now images.old (λ f. f variable ≡ instance_from 0 (type_of wanted.now)) result images.new }
+{
+    let index = variable as usize;
+    if index >= images.len() {
         return false;
-    };
-    match entry.image {
+    }
+    let equality = images[index].equality;
+    match &images[index].image {
         Some(image) => same_type(image, wanted),
         None => {
-            entry.image = Some(wanted);
-            !entry.equality || admits_equality_under(wanted, attributes)
+            images[index] = VariableImage {
+                equality,
+                image: Some(wanted),
+            };
+            !equality || admits_equality_under(wanted, attributes)
         }
     }
 }

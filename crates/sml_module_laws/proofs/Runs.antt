@@ -110,7 +110,7 @@ runs-in (u ∷ us) (os ∷ oss) E k b e r =
     let a : IsPartIn S M A = part-more S (after_all B os).names M (after-among os B nothing E.names (λ n s. s)) A own in (
       a,
       runs-in us oss (and_unit E A) (λ i. more (naming.initial i) (k i)) (basis-more S E.names M more initial_basis b)
-      (units-and M E.units A (all-more (IsPartIn S E.names) (IsPartIn S M) (λ D d. part-more S E.names M more D d) E.units e) a) r.1,
+          (units-and M E.units A (all-more (IsPartIn S E.names) (IsPartIn S M) (λ D d. part-more S E.names M more D d) E.units e) a) r.1,
     )
 
 pub runs-speak : RunsSpeakOfWhatWasMade

@@ -4,8 +4,10 @@ use Rattle.std.proofs.lemmas.List.{map-append, take_all, take_more}
 use Rattle.sml_objects.specs.Equality.{is_ref, admits_by, has_equality}
 use Rattle.sml_objects.specs.Initial.{Name, initial, naming}
 use Rattle.sml_objects.specs.Names.{int}
-use Rattle.sml_objects.specs.Objects.{MlType, named}
+use Rattle.sml_objects.specs.Objects.{MlType, Scheme, named}
 use Rattle.sml_objects.specs.Types.{instance_from}
+use Rattle.sml_objects.specs.Views.{scheme_of}
+use Rattle.sml_objects.specs.declared.objects.Scheme as P
 use Rattle.sml_core_rules.specs.Values.{has_unknown}
 use Rattle.sml_graph.specs.Interned.{IsBodyOver}
 use Rattle.sml_type_maps.specs.Functions.{by_attributes}
@@ -112,3 +114,10 @@ searched es ds ls old new t u x y b e s p q o n f =
     (subst (λ t. Becomes ls old (MakeOne t u) b new) p
     (subst (λ u. Becomes ls old (MakeOne x u) b new) q
     (f (subst AreKnown (sym s) (fresh-known ds)) (subst (λ t. IsBodyOver (length old) 0 t) (sym p) (subst (λ n. IsBodyOver n 0 t) (sym (ap length s ∙ fresh-length ds)) o)) (subst (λ u. has_unknown u ≡ false) (sym q) n))))
+
+-- what is told of two schemes where one has no unknown and the other no variable of others
+abbrev Told : (Scheme Name → Scheme Name → Type 0) → Scheme Name → Scheme Name → Type 0
+Told A σ τ = has_unknown τ.body ≡ false → IsBodyOver (length σ.variables) 0 σ.body → A σ τ
+
+pub told-as : (A : Scheme Name → Scheme Name → Type 0) (a b c d : P.Scheme) → a ≡ c → b ≡ d → Told A (scheme_of a) (scheme_of b) → Told A (scheme_of c) (scheme_of d)
+told-as A a b c d e g h = subst (λ a. Told A (scheme_of a) (scheme_of d)) e (subst (λ b. Told A (scheme_of a) (scheme_of b)) g h)

@@ -1,18 +1,20 @@
--- What lines of types require.
-use Rattle.std.proofs.Common.{◌≡◌, ◌⊎◌, List, [], ◌∷◌, length, refl, sym, subst}
+-- What lines of types and of values require.
+use Rattle.std.proofs.Common.{◌≡◌, ◌⊎◌, ℕ, Bool, true, false, ◌||◌, cond, List, [], ◌∷◌, length, refl, sym, subst}
 use mathlib.Core.Logic.{inl, inr}
 use Rattle.sml_lex.specs.declared.fault.Place.{Place}
-use Rattle.sml_lex.specs.declared.fault.Code.TheVariants.{M1, M2, M4, M5}
+use Rattle.sml_lex.specs.declared.fault.Code.TheVariants.{M1, M2, M4, M5, M6, M7}
 use Rattle.sml_tree.specs.Trees.{LongId}
-use Rattle.sml_objects.specs.Initial.{Name}
+use Rattle.sml_objects.specs.Initial.{Name, naming}
 use Rattle.sml_rules.specs.Answers.{Answer, refused, fault_at}
 use Rattle.sml_rules.specs.Lookups.{Found, found, no_entry}
-use Rattle.sml_core_rules.specs.Lookups.{type_at}
+use Rattle.sml_core_rules.specs.Lookups.{type_at, value_at}
 use Rattle.sml_core_rules.specs.Objects.{Env, TyStr, Value}
+use Rattle.sml_core_rules.specs.Scopes.{run_scope}
 use Rattle.sml_core_rules.specs.Scripts.{Script, IsAnswer, look, test, ◌>>=◌}
 use Rattle.sml_core_rules.specs.States.{Scope, State}
-use Rattle.sml_module_rules.specs.Lines.{Line, a_type, component, path_of}
-use Rattle.sml_module_rules.specs.Matching.{require_lines}
+use Rattle.sml_core_rules.specs.Values.{has_unknown}
+use Rattle.sml_module_rules.specs.Lines.{Line, a_type, a_value, component, path_of}
+use Rattle.sml_module_rules.specs.Matching.{IsGeneral, require_general, require_lines, serves}
 use Rattle.sml_match.specs.Required.{answers}
 
 abbrev Lines : Type 0
@@ -64,3 +66,39 @@ module _ (scope : Scope Name) (s : State Place Name) (p : Place) (E : Env Name) 
   pub no-such-type : type_at E x ≡ no_entry → answers scope s p E ((x, a_type t) ∷ ls) (refused (fault_at M1 p (path_of x)))
   unfolding ◌>>=◌ IsAnswer
   no-such-type h = by-found no_entry _ h refl
+
+-- values in whose types, and in those that are specified, no unknown stands
+module _ (unit : ℕ) (s : State Place Name) (p : Place) (E : Env Name) (x : LongId) (v : Value Name) (ls : Lines) where
+  abbrev Serves : Value Name → Type 0
+  Serves u = serves u.status v.status ≡ true
+
+  abbrev General : Value Name → Type 0
+  General u = IsGeneral naming u.scheme v.scheme
+
+  abbrev compared : Bool → Value Name → Script Place Name (Unit {0})
+  compared b u = cond b (require_general (run_scope unit) (fault_at M6 p (path_of x)) u.scheme v.scheme) (test (General u) (fault_at M6 p (path_of x)))
+
+  abbrev after-value : Value Name → Script Place Name (Unit {0})
+  after-value u = test (Serves u) (fault_at M7 p (path_of x)) >>= (λ a. compared (has_unknown u.scheme.body || has_unknown v.scheme.body) u >>= (λ b. require_lines (run_scope unit) p E ls))
+
+  value-found : (u : Value Name) (o : Outcome) → value_at E x ≡ found u → IsAnswer (run_scope unit) (look (component p x (found u)) >>= after-value) s o → answers (run_scope unit) s p E ((x, a_value v) ∷ ls) o
+  unfolding require_lines
+  value-found u o h a = subst (λ r. IsAnswer (run_scope unit) (look (component p x r) >>= after-value) s o) (sym h) a
+
+  module _ (u : Value Name) (h : value_at E x ≡ found u) where
+    pub other-status : ¬ (Serves u) → answers (run_scope unit) s p E ((x, a_value v) ∷ ls) (refused (fault_at M7 p (path_of x)))
+    unfolding ◌>>=◌ IsAnswer
+    other-status a = value-found u _ h (inr (a, refl))
+
+    module _ (known : has_unknown u.scheme.body ≡ false) (specified : has_unknown v.scheme.body ≡ false) (a : Serves u) where
+      none : (has_unknown u.scheme.body || has_unknown v.scheme.body) ≡ false
+      none = λ i. known i || specified i
+
+      pub value-met : (o : Outcome) → General u → answers (run_scope unit) s p E ls o → answers (run_scope unit) s p E ((x, a_value v) ∷ ls) o
+      unfolding ◌>>=◌ IsAnswer
+      value-met o g rest = value-found u o h (inl (a, subst (λ b. IsAnswer (run_scope unit) (compared b u >>= (λ c. require_lines (run_scope unit) p E ls)) s o) (sym none) (inl (g, rest))))
+
+      pub not-general : ¬ (General u) → answers (run_scope unit) s p E ((x, a_value v) ∷ ls) (refused (fault_at M6 p (path_of x)))
+      unfolding ◌>>=◌ IsAnswer
+      not-general g =
+          value-found u _ h (inl (a, subst (λ b. IsAnswer (run_scope unit) (compared b u >>= (λ c. require_lines (run_scope unit) p E ls)) s (refused (fault_at M6 p (path_of x)))) (sym none) (inr (g, refl))))

@@ -1,17 +1,20 @@
--- A type that is less than specified, at the path that is told.
-use Rattle.std.proofs.Common.{◌≡◌, ◌⊎◌, List, [], ◌∷◌, ◌++◌, length, sym, subst, None, Ok, Err}
-use Rattle.sml_lex.specs.declared.fault.Code.TheVariants.{M1, M2, M4, M5}
+-- A type or a value that is less than specified, at the path that is told.
+use Rattle.std.proofs.Common.{◌≡◌, ◌⊎◌, ℕ, true, false, List, [], ◌∷◌, ◌++◌, length, sym, subst, None, Ok, Err}
+use Rattle.sml_lex.specs.declared.fault.Code.TheVariants.{M1, M2, M4, M5, M6, M7}
 use Rattle.sml_lex.specs.declared.fault.Place.{Place}
 use Rattle.sml_tree.specs.Trees.{Id, LongId}
 use Rattle.sml_tree.specs.Views.{ident_of}
-use Rattle.sml_objects.specs.Initial.{Name}
+use Rattle.sml_objects.specs.Initial.{Name, naming}
 use Rattle.sml_objects.specs.Maps.{lookup}
 use Rattle.sml_rules.specs.Answers.{fault_at, refused}
 use Rattle.sml_rules.specs.Lookups.{found}
-use Rattle.sml_core_rules.specs.Lookups.{type_at}
-use Rattle.sml_core_rules.specs.Objects.{Env, TyStr, types}
+use Rattle.sml_core_rules.specs.Lookups.{type_at, value_at}
+use Rattle.sml_core_rules.specs.Objects.{Env, TyStr, Value, types}
+use Rattle.sml_core_rules.specs.Scopes.{run_scope}
 use Rattle.sml_core_rules.specs.States.{Scope, State}
-use Rattle.sml_module_rules.specs.Lines.{a_type, at_path, path_of}
+use Rattle.sml_core_rules.specs.Values.{has_unknown}
+use Rattle.sml_module_rules.specs.Lines.{a_type, a_value, at_path, path_of}
+use Rattle.sml_module_rules.specs.Matching.{IsGeneral, serves}
 use Rattle.sml_bases.specs.Views.{ty_str_of}
 use Rattle.sml_bases.specs.declared.objects.TypeStr.{TypeStr}
 use Rattle.sml_types.specs.Answered.{env_at}
@@ -20,7 +23,7 @@ use Rattle.sml_match.specs.Required.{HasRequired, answers}
 use Rattle.sml_match.specs.declared.mismatch.Mismatch.{Mismatch}
 use Rattle.sml_match.specs.declared.mismatch.Mismatch.TheVariants.{Memory, Fault}
 use Rattle.sml_match.proofs.Refusals.{no-type, unmet}
-use Rattle.sml_match.proofs.Requiring.{Outcome, other-arity, other-body, other-constructors, no-such-type}
+use Rattle.sml_match.proofs.Requiring.{Outcome, other-arity, other-body, other-constructors, no-such-type, other-status, not-general}
 use Rattle.sml_match.proofs.Walks.{Key, Lines, types-left}
 
 module _ (U : Type 0) (scope : Scope Name) (s : State Place Name) (p : Place) (E : Env Name) (x : LongId) (t : TyStr Name) (way : List Id) (e : path_of x ≡ way) (m : Mismatch) where
@@ -42,6 +45,19 @@ module _ (U : Type 0) (scope : Scope Name) (s : State Place Name) (p : Place) (E
   constructors-unmet u h a b k i =
       unmet U scope s p E ((x, a_type t) ∷ []) m M5 way i
       (λ rest. subst (λ q. answers scope s p E ((x, a_type t) ∷ rest) (refused (fault_at M5 p q))) e (other-constructors scope s p E x t rest u h a b k))
+
+-- a value that is less, where no unknown stands in the two types
+module _ (U : Type 0) (unit : ℕ) (s : State Place Name) (p : Place) (E : Env Name) (x : LongId) (v : Value Name) (way : List Id) (e : path_of x ≡ way) (m : Mismatch) (u : Value Name) (h : value_at E x ≡ found u) where
+  pub status-unmet : ¬ (serves u.status v.status ≡ true) → IsMismatch m M7 way → HasRequired (run_scope unit) s p E {U = U} ((x, a_value v) ∷ []) (Err m)
+  status-unmet a i =
+      unmet U (run_scope unit) s p E ((x, a_value v) ∷ []) m M7 way i
+      (λ rest. subst (λ q. answers (run_scope unit) s p E ((x, a_value v) ∷ rest) (refused (fault_at M7 p q))) e (other-status unit s p E x v rest u h a))
+
+  pub general-unmet : has_unknown u.scheme.body ≡ false → has_unknown v.scheme.body ≡ false → serves u.status v.status ≡ true → ¬ (IsGeneral naming u.scheme v.scheme) → IsMismatch m M6 way
+      → HasRequired (run_scope unit) s p E {U = U} ((x, a_value v) ∷ []) (Err m)
+  general-unmet k l a g i =
+      unmet U (run_scope unit) s p E ((x, a_value v) ∷ []) m M6 way i
+      (λ rest. subst (λ q. answers (run_scope unit) s p E ((x, a_value v) ∷ rest) (refused (fault_at M6 p q))) e (not-general unit s p E x v rest u h k l a g))
 
 -- the next type of a map, after those that are as specified
 module _ (scope : Scope Name) (s : State Place Name) (p : Place) (E F : Env Name) (path : List Id) (all rest u : List (Key × TypeStr)) (k : Key) (a : TypeStr)

@@ -1,16 +1,19 @@
 //! Whether an environment has what another one specifies (the Definition, section 5.5).
 
-ghost use Rattle.std.specs.Prelude.{◌≡◌, ◌∷◌, [], OnOk};
+ghost use Rattle.std.specs.Prelude.{◌≡◌, ℕ, false, ◌∷◌, [], length, OnOk};
 ghost use Rattle.sml_lex.specs.declared.fault.Place.{Place};
 ghost use Rattle.sml_tree.specs.Trees.{LongId};
 ghost use Rattle.sml_objects.specs.Initial.{Name};
 ghost use Rattle.sml_objects.specs.Views.{entries_of};
 ghost use Rattle.sml_rules.specs.Lookups.{found};
-ghost use Rattle.sml_core_rules.specs.Lookups.{type_at};
+ghost use Rattle.sml_core_rules.specs.Lookups.{type_at, value_at};
 ghost use Rattle.sml_core_rules.specs.Objects as O;
+ghost use Rattle.sml_core_rules.specs.Scopes.{run_scope};
 ghost use Rattle.sml_core_rules.specs.States.{Scope, State};
-ghost use Rattle.sml_bases.specs.Views.{env_of, status_of, ty_str_of};
-ghost use Rattle.sml_module_rules.specs.Lines.{a_type, path_of, type_lines};
+ghost use Rattle.sml_core_rules.specs.Values.{has_unknown};
+ghost use Rattle.sml_graph.specs.Interned.{IsBodyOver};
+ghost use Rattle.sml_bases.specs.Views.{env_of, status_of, ty_str_of, value_of};
+ghost use Rattle.sml_module_rules.specs.Lines.{a_type, a_value, path_of, type_lines};
 ghost use Rattle.sml_module_rules.specs.Matching.{serves};
 ghost use Rattle.sml_types.specs.Answered.{env_at};
 ghost use Rattle.sml_match.specs.Paths.{path_in};
@@ -140,7 +143,11 @@ fn value_enriches(
     solver: &mut Solver,
     value: &Value,
     specified: &Value,
-) -> Result<(), Mismatch> {
+) -> Result<(), Mismatch>
+    ensures { (unit : ℕ) (s : State Place Name) (p : Place) (E : O.Env Name) (x : LongId) → path_of x ≡ path_in way.now → value_at E x ≡ found (value_of value.now)
+        → IsBodyOver (length (value_of value.now).scheme.variables) 0 (value_of value.now).scheme.body → has_unknown (value_of specified.now).scheme.body ≡ false
+        → HasRequired (run_scope unit) s p E ((x, a_value (value_of specified.now)) ∷ []) result }
+{
     if !serves_as(value.status, specified.status) {
         return Err(way.fault(Code::M7)?);
     }

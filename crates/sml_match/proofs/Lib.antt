@@ -11,5 +11,7 @@ mod Refusals
 mod Renewed
 mod Requiring
 mod Sought
+mod Structures
 mod Unmet
+mod Values
 mod Walks

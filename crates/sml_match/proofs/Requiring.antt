@@ -85,6 +85,10 @@ module _ (unit : ℕ) (s : State Place Name) (p : Place) (E : Env Name) (x : Lon
   unfolding require_lines
   value-found u o h a = subst (λ r. IsAnswer (run_scope unit) (look (component p x r) >>= after-value) s o) (sym h) a
 
+  pub no-such-value : value_at E x ≡ no_entry → answers (run_scope unit) s p E ((x, a_value v) ∷ ls) (refused (fault_at M1 p (path_of x)))
+  unfolding require_lines ◌>>=◌ IsAnswer
+  no-such-value h = subst (λ r. IsAnswer (run_scope unit) (look (component p x r) >>= after-value) s (refused (fault_at M1 p (path_of x)))) (sym h) refl
+
   module _ (u : Value Name) (h : value_at E x ≡ found u) where
     pub other-status : ¬ (Serves u) → answers (run_scope unit) s p E ((x, a_value v) ∷ ls) (refused (fault_at M7 p (path_of x)))
     unfolding ◌>>=◌ IsAnswer

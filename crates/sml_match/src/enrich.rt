@@ -8,16 +8,17 @@ ghost use Rattle.sml_objects.specs.Views.{entries_of};
 ghost use Rattle.sml_rules.specs.Lookups.{found};
 ghost use Rattle.sml_core_rules.specs.Lookups.{type_at, value_at};
 ghost use Rattle.sml_core_rules.specs.Objects as O;
+ghost use Rattle.sml_core_rules.specs.Objects.{values};
 ghost use Rattle.sml_core_rules.specs.Scopes.{run_scope};
 ghost use Rattle.sml_core_rules.specs.States.{Scope, State};
 ghost use Rattle.sml_core_rules.specs.Values.{has_unknown};
 ghost use Rattle.sml_graph.specs.Interned.{IsBodyOver};
-ghost use Rattle.sml_bases.specs.Views.{env_of, status_of, ty_str_of, value_of};
-ghost use Rattle.sml_module_rules.specs.Lines.{a_type, a_value, path_of, type_lines};
+ghost use Rattle.sml_bases.specs.Views.{env_of, status_of, structures_of, ty_str_of, value_of};
+ghost use Rattle.sml_module_rules.specs.Lines.{a_type, a_value, lines, path_of, structure_lines, type_lines, value_lines};
 ghost use Rattle.sml_module_rules.specs.Matching.{serves};
 ghost use Rattle.sml_types.specs.Answered.{env_at};
 ghost use Rattle.sml_match.specs.Paths.{path_in};
-ghost use Rattle.sml_match.specs.Required.{HasRequired};
+ghost use Rattle.sml_match.specs.Required.{AreClosedValues, AreKnownValues, HasClosedValues, HasKnownValues, HasRequired, HaveKnownValues};
 
 use crate::general::is_general;
 use crate::mismatch::Mismatch;
@@ -39,7 +40,10 @@ pub fn enriches(
     env: &Env,
     specified: &Env,
     solver: &mut Solver,
-) -> Result<(), Mismatch> {
+) -> Result<(), Mismatch>
+    ensures { (unit : ℕ) (s : State Place Name) (p : Place) → HasClosedValues (env_of env.now) → HasKnownValues (env_of specified.now)
+        → HasRequired (run_scope unit) s p (env_of env.now) (lines [] (env_of specified.now)) result }
+{
     let mut way = Way::new(alloc);
     match env_enriches(&mut way, solver, env, specified) {
         Ok(()) => Ok(()),
@@ -56,7 +60,12 @@ fn env_enriches(
     solver: &mut Solver,
     env: &Env,
     specified: &Env,
-) -> Result<(), Mismatch> {
+) -> Result<(), Mismatch>
+    ensures path { OnOk result (path_in way.new ≡ path_in way.old) }
+    ensures required { (unit : ℕ) (s : State Place Name) (p : Place) (E : O.Env Name) → env_at E (path_in way.old) ≡ found (env_of env.now)
+        → HasClosedValues (env_of env.now) → HasKnownValues (env_of specified.now)
+        → HasRequired (run_scope unit) s p E (lines (path_in way.old) (env_of specified.now)) result }
+{
     structures_enrich(way, solver, env, &specified.structures)?;
     types_enrich(way, env, &specified.types)?;
     values_enrich(way, solver, env, &specified.values)
@@ -69,7 +78,12 @@ fn structures_enrich(
     solver: &mut Solver,
     env: &Env,
     specified: &BTreeMap<Ident, Rc<Env>>,
-) -> Result<(), Mismatch> {
+) -> Result<(), Mismatch>
+    ensures path { OnOk result (path_in way.new ≡ path_in way.old) }
+    ensures required { (unit : ℕ) (s : State Place Name) (p : Place) (E : O.Env Name) → env_at E (path_in way.old) ≡ found (env_of env.now)
+        → HasClosedValues (env_of env.now) → HaveKnownValues (structures_of (entries_of (λ s. env_of s.value) specified.now.entries))
+        → HasRequired (run_scope unit) s p E (structure_lines (path_in way.old) (structures_of (entries_of (λ s. env_of s.value) specified.now.entries))) result }
+{
     for (name, structure) in specified {
         way.enter(name)?;
         match env.structures.get(name) {
@@ -126,7 +140,12 @@ fn values_enrich(
     solver: &mut Solver,
     env: &Env,
     specified: &BTreeMap<Ident, Value>,
-) -> Result<(), Mismatch> {
+) -> Result<(), Mismatch>
+    ensures path { OnOk result (path_in way.new ≡ path_in way.old) }
+    ensures required { (unit : ℕ) (s : State Place Name) (p : Place) (E : O.Env Name) → env_at E (path_in way.old) ≡ found (env_of env.now)
+        → AreClosedValues (values (env_of env.now)) → AreKnownValues (entries_of value_of specified.now.entries)
+        → HasRequired (run_scope unit) s p E (value_lines (path_in way.old) (entries_of value_of specified.now.entries)) result }
+{
     for (name, value) in specified {
         way.enter(name)?;
         match env.values.get(name) {

@@ -74,7 +74,7 @@ fn replaced_parts<R: Replacement>(
 ) -> Result<Vec<Rc<MlType>>, Memory>
     ensures { IfOk result (λ ts. map (λ t. type_of t.value) ts.items ≡ map (λ t. replace_type (R.bound_gives by.now) (R.free_gives by.now) (O.rename_type (R.name_gives by.now) (type_of t.value))) parts.now) }
 {
-    let mut copies = Vec::new(alloc);
+    let mut copies = Vec::with_capacity(alloc, parts.len())?;
     for part in parts {
         copies.push(replaced(alloc, part, by)?)?;
     }

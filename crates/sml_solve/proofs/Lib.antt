@@ -4,6 +4,7 @@ pub mod Fixing
 pub mod Uniqueness
 pub mod Renaming
 pub mod Agreeing
+mod Loose
 mod Members
 mod Discerning
 mod Subterms

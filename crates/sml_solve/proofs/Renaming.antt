@@ -143,7 +143,7 @@ mutual
     all-are-among P (variables_after seen t) ts m.1,
   )
 
-all-has : (P : ℕ → Type 0) (v : ℕ) (ws : List ℕ) → AllByRecursion P ws → list_any (nat_eq v) ws ≡ true → P v
+pub all-has : (P : ℕ → Type 0) (v : ℕ) (ws : List ℕ) → AllByRecursion P ws → list_any (nat_eq v) ws ≡ true → P v
 all-has P v [] a h = let q : false ≡ true = h in absurd cc
 all-has P v (w ∷ ws) a h =
     elim (eqb_tells v w) [

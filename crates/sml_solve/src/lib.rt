@@ -4,4 +4,5 @@
 pub use sml_graph::demand;
 pub use sml_layers::{class, layer, variable};
 
+mod read;
 pub mod solver;

@@ -30,6 +30,7 @@ ghost use Rattle.sml_demands.specs.CodeLevels.{IsKeptWith};
 ghost use Rattle.sml_schemes.specs.Schemes.{GiveOneScheme, HasOneScheme, IsScheme, IsSchemeOfReading};
 ghost use Rattle.sml_demands.specs.Overloaded.{IsOverloaded, Settles};
 
+use crate::read::is_read;
 use sml_demands::count::size_from;
 use sml_demands::demands::{ask_row, equate, impose};
 use sml_demands::levels::{begin_level, by_level, hand_levels_on, held_unknowns};
@@ -397,6 +398,20 @@ impl Solver {
         ensures large { IfOk result (λ found. IfNone found ((σ : Assignment finite) → Permits Finiteness self.new σ → limit < type_size (assign σ (type_of ty.now)))) }
         ensures call { Keeps self.old self.new result Halt.Spent }
     {
+        if self.spent {
+            return Err(Halt::Spent);
+        }
+        let nodes = self.graph.nodes.as_slice();
+        let Ok(is_read) = is_read(self.alloc, nodes, self.unknowns.as_slice(), ty) else {
+            self.spent = true;
+            return Err(Halt::Memory);
+        };
+        if is_read && size_up_to(ty, limit) <= limit {
+            let Ok(scheme) = close_reading(self, ty, fixed, expansive) else {
+                return Err(Halt::Memory);
+            };
+            return Ok(Some(scheme));
+        }
         match self.reading(ty, limit) {
             Err(halt) => Err(halt),
             Ok(None) => Ok(None),

@@ -27,7 +27,7 @@ use Rattle.sml_types.specs.declared.fault.CoreFault.{CoreFault}
 use Rattle.sml_types.specs.declared.fault.CoreFault.TheVariants as F
 use Rattle.sml_asks.specs.Solvers.{IsTypeIn}
 use Rattle.sml_core.specs.declared.context.Context.{Context}
-use Rattle.sml_core.specs.Answered.{IsAt, Types, Reaches, unit_of, MakesUnknown, Equates, Applies, AppliesSo, IsApplicative, Reads}
+use Rattle.sml_core.specs.Answered.{IsAt, Types, Reaches, unit_of, MakesUnknown, Equates, Applies, AppliesSo, IsPlain, Reads}
 use Rattle.sml_objects.proofs.TypeViews.{parts_of, type_of-arrow, type_of-bound, type_of-free, type_of-name, type_of-row}
 use Rattle.sml_objects.specs.Views.{label_list, name_of, row_of}
 use Rattle.sml_objects.specs.declared.labels.Labels.{Labels}
@@ -153,14 +153,14 @@ module _ (old new : Context) (p : Place) (t : P.MlType) (from to : Rc P.MlType G
 -- applications
 
 pub function-refused : (old new : Context) (p : Place) (g e : Exp Place) (f : CoreFault) → Reads old g new (Err f) → Reads old (apply p g e) new (Err f)
-unfolding Reads IsApplicative read_exp
+unfolding Reads IsPlain read_exp
 function-refused old new p g e F.Memory reads = λ h C vs around s is means known. tt
 function-refused old new p g e (F.Fault f) reads = λ h C vs around s is means known.
     first-refused old (read_exp (run_scope (unit_of old)) C vs g) (λ t. read_exp (run_scope (unit_of old)) C vs e >>= λ a. applied p t a) s (fault_of f) (reads h.0 C vs around s is means known)
 
 module _ (old mid last : Context) (p : Place) (g e : Exp Place) (function argument : Rc P.MlType Global) (reads : Reads old g mid (Ok function)) where
   pub argument-refused : (f : CoreFault) → Reads mid e last (Err f) → Reads old (apply p g e) last (Err f)
-  unfolding Reads IsApplicative read_exp
+  unfolding Reads IsPlain read_exp
   argument-refused F.Memory more = λ h C vs around s is means known. tt
   argument-refused (F.Fault f) more = λ h C vs around s is means known.
       let m = reads h.0 C vs around s is means known in
@@ -171,7 +171,7 @@ module _ (old mid last : Context) (p : Place) (g e : Exp Place) (function argume
 
   module _ (new : Context) (more : Reads mid e last (Ok argument)) where
     pub application-read : (result : Result (Rc P.MlType Global) CoreFault) → Applies last p (type_of function.value) (type_of argument.value) new result → Reads old (apply p g e) new result
-    unfolding Reads IsApplicative read_exp Applies
+    unfolding Reads IsPlain read_exp Applies
     application-read (Err F.Memory) applies = λ h C vs around s is means known. tt
     application-read (Err (F.Fault f)) applies = λ h C vs around s is means known.
         let m = reads h.0 C vs around s is means known in
@@ -212,7 +212,7 @@ constant-read old p c t e = λ h C vs around s is means known.
     go K.Character is = (tt, (is.solver.known.initials char, tt))
 
 pub bracket-read : (old new : Context) (p : Place) (e : Exp Place) (result : Result (Rc P.MlType Global) CoreFault) → Reads old e new result → Reads old (bracket p e) new result
-unfolding Reads IsApplicative read_exp
+unfolding Reads IsPlain read_exp
 bracket-read old new p e (Ok t) reads = reads
 bracket-read old new p e (Err F.Memory) reads = reads
 bracket-read old new p e (Err (F.Fault f)) reads = reads

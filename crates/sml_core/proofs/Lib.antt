@@ -3,4 +3,7 @@ pub mod Steps
 pub mod Applying
 pub mod Instances
 pub mod Finding
+pub mod Tuples
+pub mod Rows
+pub mod Raising
 pub mod Views

@@ -1,11 +1,12 @@
 -- What calls of elaboration say of scripts: in each state that a context is that of, the answer is one that the script of the phrase may
 -- be given there, and where it is an object, the context is that of the state after it. Nothing is said after want of memory.
-use Rattle.std.specs.Prelude.{◌≡◌, ◌≤◌, ℕ, List, ◌++◌, map, Option, Some, None, Result, Ok, Err, ◌<◌, ◌+◌, Bool, length}
+use Rattle.std.specs.List.{AllByRecursion}
+use Rattle.std.specs.Prelude.{◌≡◌, ◌≤◌, ℕ, List, [], ◌++◌, map, Option, Some, None, Result, Ok, Err, ◌<◌, ◌+◌, Bool, length}
 use Rattle.std.specs.Global.{Global}
 use Rattle.std.specs.declared.rc.Rc.{Rc}
 use Rattle.sml_lex.specs.Faults.{fault_of}
 use Rattle.sml_lex.specs.declared.fault.Place.{Place}
-use Rattle.sml_tree.specs.Expressions.{Exp, constant, name, row, tuple, let_in, bracket, apply, typed, handle, raise, fn}
+use Rattle.sml_tree.specs.Expressions.{Exp, Exps, Fields, constant, name, row, tuple, let_in, bracket, apply, typed, handle, raise, fn, no_exp, and_exp, field, no_field, and_field}
 use Rattle.sml_objects.specs.Appearance.{Stands}
 use Rattle.sml_objects.specs.Initial.{Name}
 use Rattle.sml_objects.specs.Maps.{Map}
@@ -23,10 +24,10 @@ use Rattle.sml_graph.specs.Interned.{IsBodyOver}
 use Rattle.sml_layers.specs.Demands.{Mentions}
 use Rattle.sml_core_rules.specs.Objects.{Env, Value, Status, variable, constructor, exception, overloaded}
 use Rattle.sml_core_rules.specs.Scopes.{run_scope}
-use Rattle.sml_core_rules.specs.Scripts.{Script, IsAnswer, new_unknown}
+use Rattle.sml_core_rules.specs.Scripts.{Script, IsAnswer, new_unknown, ◌>>=◌}
 use Rattle.sml_core_rules.specs.States.{State, Window}
 use Rattle.sml_core_rules.specs.Values.{applied, apply_general, instance, require_attributes, require_equal, require_status}
-use Rattle.sml_core_rules.specs.Expressions.{read_exp}
+use Rattle.sml_core_rules.specs.Expressions.{exn_type, read_exp, read_fields}
 use Rattle.sml_scopes.specs.Means.{Means}
 use Rattle.sml_types.specs.declared.fault.CoreFault.{CoreFault}
 use Rattle.sml_types.specs.declared.fault.CoreFault.TheVariants.{Memory, Fault}
@@ -142,23 +143,52 @@ unfoldable pub MakesInstance : Context → Place → Value Name → Context → 
 MakesInstance old p v new result =
     (around : Window Place Name) (s : State Place Name) → IsAt around old s → IsValueIn s.made s.names v → Types around old (instance p v) s new result
 
--- made of constants, identifiers, brackets and applications
-unfoldable pub IsApplicative : Exp Place → Type 0
-IsApplicative (constant p c) = Unit {0}
-IsApplicative (name p x) = Unit {0}
-IsApplicative (row p fs) = ⊥
-IsApplicative (tuple p es) = ⊥
-IsApplicative (let_in p ds e) = ⊥
-IsApplicative (bracket p e) = IsApplicative e
-IsApplicative (apply p f e) = IsApplicative f × IsApplicative e
-IsApplicative (typed p e t) = ⊥
-IsApplicative (handle p e m) = ⊥
-IsApplicative (raise p e) = ⊥
-IsApplicative (fn p m) = ⊥
+-- A call raises what has the type.
+unfoldable pub Raises : Context → Place → MlType Name → Context → Result (Rc P.MlType Global) CoreFault → Type 0
+Raises old p t new result =
+    (around : Window Place Name) (s : State Place Name) → IsAt around old s → IsTypeIn s.made s.names t
+    → Types around old (require_equal p t (exn_type (run_scope (unit_of old))) >>= λ u. new_unknown) s new result
+
+-- made of constants, identifiers, rows, tuples, brackets, applications and `raise`
+unfoldable mutual
+  pub IsPlain : Exp Place → Type 0
+  IsPlain (constant p c) = Unit {0}
+  IsPlain (name p x) = Unit {0}
+  IsPlain (row p fs) = ArePlainFields fs
+  IsPlain (tuple p es) = ArePlain es
+  IsPlain (let_in p ds e) = ⊥
+  IsPlain (bracket p e) = IsPlain e
+  IsPlain (apply p f e) = IsPlain f × IsPlain e
+  IsPlain (typed p e t) = ⊥
+  IsPlain (handle p e m) = ⊥
+  IsPlain (raise p e) = IsPlain e
+  IsPlain (fn p m) = ⊥
+
+  pub ArePlain : Exps Place → Type 0
+  ArePlain no_exp = Unit {0}
+  ArePlain (and_exp e es) = IsPlain e × ArePlain es
+
+  pub ArePlainFields : Fields Place → Type 0
+  ArePlainFields no_field = Unit {0}
+  ArePlainFields (and_field (field l e) fs) = IsPlain e × ArePlainFields fs
 
 -- A call reads an expression in an environment, which its scopes mean and which speaks of what was made, with the types of explicit
 -- variables.
 unfoldable pub Reads : Context → Exp Place → Context → Result (Rc P.MlType Global) CoreFault → Type 0
 Reads old e new result =
-    IsApplicative e → (C : Env Name) (vs : Map (MlType Name)) (around : Window Place Name) (s : State Place Name) → IsAt around old s → Means old.scopes C
+    IsPlain e → (C : Env Name) (vs : Map (MlType Name)) (around : Window Place Name) (s : State Place Name) → IsAt around old s → Means old.scopes C
     → AreValuesIn s.made s.names C → Types around old (read_exp (run_scope (unit_of old)) C vs e) s new result
+
+-- fields with their types
+abbrev pub Row : Type 0
+Row = List (Id × MlType Name)
+
+-- the types of fields speak of what was made
+abbrev pub AreFieldsIn : Row → State Place Name → Type 0
+AreFieldsIn r s = AllByRecursion (λ f. IsTypeIn s.made s.names f.1) r
+
+-- A call reads fields, one after the other.
+unfoldable pub ReadsFields : {Y : Type 0} → (Y → Row) → Context → Fields Place → Context → Result Y CoreFault → Type 0
+ReadsFields view old fs new result =
+    ArePlainFields fs → (C : Env Name) (vs : Map (MlType Name)) (around : Window Place Name) (s : State Place Name) → IsAt around old s → Means old.scopes C
+    → AreValuesIn s.made s.names C → AnswersAs view AreFieldsIn around old (read_fields (run_scope (unit_of old)) C vs [] fs) s new result

@@ -1,21 +1,24 @@
 //! What elaboration knows while it goes through a top-level declaration.
 
-ghost use Rattle.std.specs.Prelude.{◌≡◌, ◌+◌, [], ◌∷◌, Some, None};
+ghost use Rattle.std.specs.Prelude.{◌≡◌, ◌≢◌, ◌+◌, [], ◌∷◌, Some, None, true, false, OnOk};
+ghost use Rattle.std.specs.Option.{IfSome};
 ghost use Rattle.sml_lex.specs.declared.fault.Code.{Code};
 ghost use Rattle.sml_lex.specs.declared.fault.Code.TheVariants.{E1};
-ghost use Rattle.sml_tree.specs.Views.{long_of};
+ghost use Rattle.sml_tree.specs.Views.{ident_of, long_of};
 ghost use Rattle.sml_objects.specs.Initial.{Name};
 ghost use Rattle.sml_objects.specs.Views.{type_of};
 ghost use Rattle.sml_graph.specs.Refusals.{refusal_code};
 ghost use Rattle.sml_core_rules.specs.Answers.{need};
 ghost use Rattle.sml_core_rules.specs.Lookups as found;
 ghost use Rattle.sml_core_rules.specs.Objects as O;
-ghost use Rattle.sml_core_rules.specs.Objects.{overloaded};
-ghost use Rattle.sml_bases.specs.Views.{status_of, value_of};
-ghost use Rattle.sml_scopes.specs.Means.{Means};
+ghost use Rattle.sml_core_rules.specs.Objects.{and_structure, empty, maps, no_structure, overloaded};
+ghost use Rattle.sml_bases.specs.Views.{env_of, status_of, ty_str_of, value_of};
+ghost use Rattle.sml_bases.specs.declared.objects.Basis.{out-Basis};
+ghost use Rattle.sml_scopes.specs.Means.{BasisMeans, IsAround, Means, MeansAt};
 ghost use Rattle.sml_types.specs.Answered.{IsAnswer, IsFault};
 ghost use Rattle.sml_types.specs.declared.fault.CoreFault.TheVariants as CoreFault;
-ghost use Rattle.sml_core.specs.Answered.{AsksAttributes, AsksStatus, Equates, FindsValue, MakesInstance, MakesUnknown, Watches};
+ghost use Rattle.sml_core.specs.Answered.{AsksAttributes, AsksStatus, Equates, FindsValue, MakesInstance, MakesUnknown, Watches, unit_of};
+ghost use Rattle.sml_core.specs.Bound.{Extends, IsAnew};
 
 use crate::explicit::Explicit;
 use crate::recorder::{Meeting, Recorder, Seen};
@@ -79,7 +82,17 @@ pub(crate) fn refused(refusal: Refusal, place: Place) -> CoreFault
 
 impl<'a> Context<'a> {
     /// The context of a declaration in a basis. What it binds is exported.
-    pub fn new(alloc: Global, basis: &'a Basis) -> Context<'a> {
+    pub fn new(alloc: Global, basis: &'a Basis) -> Context<'a>
+        ensures scopes { (C : O.Env Name) → BasisMeans basis.now C → Means result.scopes C }
+        ensures solver { IsAnew (unit_of result) result.solver }
+        ensures unit { result.new.unit ≡ (out-Basis basis.now).unit }
+        ensures next { result.new.next ≡ (out-Basis basis.now).count }
+        ensures rows { result.rows.items ≡ [] }
+        ensures overloaded { result.overloaded.items ≡ [] }
+        ensures quiet { result.recorder.wanted ≡ None }
+        ensures exports { result.exports ≡ None }
+        ensures closed { result.is_open ≡ false }
+    {
         Context {
             alloc,
             scopes: Scopes::new(alloc, basis),
@@ -96,7 +109,12 @@ impl<'a> Context<'a> {
     }
 
     /// Sets what was exported aside, and begins anew, or with nothing wanted. `exported` takes it back.
-    pub fn export(&mut self, wanted: bool) -> Option<Env> {
+    pub fn export(&mut self, wanted: bool) -> Option<Env>
+        ensures aside { result ≡ self.entry.now.exports }
+        ensures same { self.exit.now ≡ record self.entry.now { exports = self.exit.now.exports } }
+        ensures wanted { wanted ≡ true → IfSome self.exit.now.exports (λ env. env_of env ≡ empty) × (self.exit.now.exports ≢ None) }
+        ensures unwanted { wanted ≡ false → self.exit.now.exports ≡ None }
+    {
         let exports = if wanted {
             Some(Env::new(self.alloc))
         } else {
@@ -106,21 +124,34 @@ impl<'a> Context<'a> {
     }
 
     /// What was bound since `export`, whose answer is what goes on.
-    pub fn exported(&mut self, aside: Option<Env>) -> Env {
+    pub fn exported(&mut self, aside: Option<Env>) -> Env
+        ensures some { IfSome self.entry.now.exports (λ env. result ≡ env) }
+        ensures none { self.entry.now.exports ≡ None → env_of result ≡ empty }
+        ensures same { self.exit.now ≡ record self.entry.now { exports = aside } }
+    {
         match mem::replace(&mut self.exports, aside) {
             Some(env) => env,
             None => Env::new(self.alloc),
         }
     }
 
-    pub fn bind_value(&mut self, name: &Ident, value: Value) -> Result<(), Memory> {
+    pub fn bind_value(&mut self, name: &Ident, value: Value) -> Result<(), Memory>
+        ensures bound { OnOk result (Extends self.entry.now.scopes (maps no_structure [] ((ident_of name.now, value_of value) ∷ [])) self.exit.now.scopes) }
+        ensures around { OnOk result ((C : O.Env Name) (m : Mark) → MeansAt self.entry.now.scopes m C → MeansAt self.exit.now.scopes m C) }
+        ensures same { self.exit.now ≡ record self.entry.now { scopes = self.exit.now.scopes; exports = self.exit.now.exports } }
+    {
         if let Some(env) = &mut self.exports {
             env.values.insert(name.clone()?, value.share()?)?;
         }
         self.scopes.bind_value(name, value)
     }
 
-    pub fn bind_type(&mut self, name: &Ident, ty: TypeStr) -> Result<(), Memory> {
+    pub fn bind_type(&mut self, name: &Ident, ty: TypeStr) -> Result<(), Memory>
+        ensures bound { OnOk result (Extends self.entry.now.scopes (maps no_structure ((ident_of name.now, ty_str_of ty) ∷ []) []) self.exit.now.scopes) }
+        ensures around { OnOk result ((C : O.Env Name) (m : Mark) → MeansAt self.entry.now.scopes m C → MeansAt self.exit.now.scopes m C) }
+        ensures same { self.exit.now ≡ record self.entry.now { scopes = self.exit.now.scopes; exports = self.exit.now.exports; recorder = self.exit.now.recorder } }
+        ensures wanted { self.exit.now.recorder.wanted ≡ self.entry.now.recorder.wanted }
+    {
         let basis = self.scopes.basis();
         self.recorder.note_type(basis.unit, basis.count, name, &ty)?;
         if let Some(env) = &mut self.exports {
@@ -129,7 +160,12 @@ impl<'a> Context<'a> {
         self.scopes.bind_type(name, ty)
     }
 
-    pub fn bind_structure(&mut self, name: &Ident, structure: Rc<Env>) -> Result<(), Memory> {
+    pub fn bind_structure(&mut self, name: &Ident, structure: Rc<Env>) -> Result<(), Memory>
+        ensures bound { OnOk result (Extends self.entry.now.scopes (maps (and_structure (ident_of name.now) (env_of structure.value) no_structure) [] []) self.exit.now.scopes) }
+        ensures around { OnOk result ((C : O.Env Name) (m : Mark) → MeansAt self.entry.now.scopes m C → MeansAt self.exit.now.scopes m C) }
+        ensures same { self.exit.now ≡ record self.entry.now { scopes = self.exit.now.scopes; exports = self.exit.now.exports; recorder = self.exit.now.recorder } }
+        ensures wanted { self.exit.now.recorder.wanted ≡ self.entry.now.recorder.wanted }
+    {
         let basis = self.scopes.basis();
         self.recorder
             .note_structure(basis.unit, basis.count, name, &structure)?;
@@ -174,36 +210,55 @@ impl<'a> Context<'a> {
     }
 
     /// Binds what a structure holds.
-    pub fn open(&mut self, structure: Rc<Env>) -> Result<(), Memory> {
+    pub fn open(&mut self, structure: Rc<Env>) -> Result<(), Memory>
+        ensures bound { OnOk result (Extends self.entry.now.scopes (env_of structure.value) self.exit.now.scopes) }
+        ensures around { OnOk result ((C : O.Env Name) (m : Mark) → MeansAt self.entry.now.scopes m C → MeansAt self.exit.now.scopes m C) }
+        ensures same { self.exit.now ≡ record self.entry.now { scopes = self.exit.now.scopes; exports = self.exit.now.exports } }
+    {
         if let Some(env) = &mut self.exports {
             env.add(&structure)?;
         }
         self.scopes.open(structure)
     }
 
-    pub fn mark(&self) -> Mark {
+    pub fn mark(&self) -> Mark
+        ensures { (C : O.Env Name) → Means self.now.scopes C → MeansAt self.now.scopes result C }
+    {
         self.scopes.mark()
     }
 
-    pub fn leave(&mut self, mark: Mark) -> Result<(), Memory> {
+    pub fn leave(&mut self, mark: Mark) -> Result<(), Memory>
+        ensures left { OnOk result ((C : O.Env Name) → MeansAt self.entry.now.scopes mark C → Means self.exit.now.scopes C) }
+        ensures around { OnOk result ((C D : O.Env Name) (m : Mark) → MeansAt self.entry.now.scopes mark D → IsAround m mark → MeansAt self.entry.now.scopes m C → MeansAt self.exit.now.scopes m C) }
+        ensures same { self.exit.now ≡ record self.entry.now { scopes = self.exit.now.scopes } }
+    {
         self.scopes.leave(mark)
     }
 
     /// Forgets the unknowns of the declarations before, unless one may still stand in the scopes.
-    pub fn refresh(&mut self) {
+    pub fn refresh(&mut self)
+        ensures stays { self.entry.now.is_open ≡ true → self.exit.now ≡ self.entry.now }
+        ensures anew { self.entry.now.is_open ≡ false → IsAnew (unit_of self.entry.now) self.exit.now.solver }
+        ensures same { self.exit.now ≡ record self.entry.now { solver = self.exit.now.solver } }
+    {
         if !self.is_open {
             self.solver = Solver::new(self.alloc, self.new.unit);
         }
     }
 
     /// Begins a part of the declaration that sees no unknown of the parts before, all of which are forgotten.
-    pub fn begin_part(&mut self) {
+    pub fn begin_part(&mut self)
+        ensures anew { IsAnew (unit_of self.entry.now) self.exit.now.solver }
+        ensures same { self.exit.now ≡ record self.entry.now { solver = self.exit.now.solver; is_open = false } }
+    {
         self.is_open = false;
         self.refresh();
     }
 
     /// Whether an unknown may still stand in what was bound.
-    pub fn is_open(&self) -> bool {
+    pub fn is_open(&self) -> bool
+        ensures { result ≡ self.now.is_open }
+    {
         self.is_open
     }
 

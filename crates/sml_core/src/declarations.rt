@@ -1,5 +1,13 @@
 //! Declarations (the Definition, section 4.10, rules 15 to 24, 30 and 31).
 
+ghost use Rattle.std.specs.Prelude.{◌≡◌, ◌≢◌, None};
+ghost use Rattle.std.specs.Option.{IfSome};
+ghost use Rattle.sml_objects.specs.Initial as I;
+ghost use Rattle.sml_core_rules.specs.Objects as O;
+ghost use Rattle.sml_core_rules.specs.Objects.{empty};
+ghost use Rattle.sml_bases.specs.Views.{env_of};
+ghost use Rattle.sml_scopes.specs.Means.{Means, MeansAt};
+
 use crate::context::Context;
 use crate::expressions::of_type;
 use sml_bases::objects::{Basis, Env, Status, Value};
@@ -140,7 +148,11 @@ impl Context<'_> {
     }
 
     /// Begins the first part of `local`.
-    pub fn hide(&mut self) -> Hidden {
+    pub fn hide(&mut self) -> Hidden
+        ensures mark { (C : O.Env I.Name) → Means self.entry.now.scopes C → MeansAt self.entry.now.scopes result.mark C }
+        ensures aside { result.exports ≡ self.entry.now.exports }
+        ensures same { self.exit.now ≡ record self.entry.now { exports = None } }
+    {
         Hidden {
             mark: self.mark(),
             exports: self.export(false),
@@ -148,7 +160,10 @@ impl Context<'_> {
     }
 
     /// Begins the second part of `local`.
-    pub fn show(&mut self) {
+    pub fn show(&mut self)
+        ensures wanted { IfSome self.exit.now.exports (λ env. env_of env ≡ empty) × (self.exit.now.exports ≢ None) }
+        ensures same { self.exit.now ≡ record self.entry.now { exports = self.exit.now.exports } }
+    {
         self.export(true);
     }
 

@@ -1,15 +1,18 @@
 //! Expressions and matches (the Definition, section 4.10, rules 1 to 14).
 
-ghost use Rattle.std.specs.Prelude.{◌≡◌, IfOk, OnErr, Err};
+ghost use Rattle.std.specs.Prelude.{◌≡◌, map, IfOk, OnErr, Err};
+ghost use Rattle.sml_lex.specs.declared.fault.Place.{Place};
+ghost use Rattle.sml_tree.specs.Expressions as E;
 ghost use Rattle.sml_tree.specs.Expressions.{name};
-ghost use Rattle.sml_tree.specs.ExpressionViews.{exp_of};
+ghost use Rattle.sml_tree.specs.ExpressionViews.{exp_of, exps_of, field_of, fields_of as exp_fields_of};
+ghost use Rattle.sml_types.specs.Rows.{AreRanked, fields_of};
 ghost use Rattle.sml_tree.specs.TypeViews.{long_name_of};
 ghost use Rattle.sml_tree.specs.PatternViews.{constant_of};
 ghost use Rattle.sml_objects.specs.Initial.{naming};
 ghost use Rattle.sml_objects.specs.Views.{type_of};
 ghost use Rattle.sml_core_rules.specs.Patterns.{constant_type};
 ghost use Rattle.sml_types.specs.declared.fault.CoreFault.TheVariants as CoreFault;
-ghost use Rattle.sml_core.specs.Answered.{Applies, AppliesSo, Reads};
+ghost use Rattle.sml_core.specs.Answered.{Applies, AppliesSo, Raises, Reads, ReadsFields};
 
 use crate::context::Context;
 use crate::patterns::Variables;
@@ -109,7 +112,9 @@ impl Context<'_> {
 
     #[cycle(core)]
     #[inline(never)]
-    fn row(&mut self, fields: &[ExpField]) -> Result<Rc<MlType>, CoreFault> {
+    fn row(&mut self, fields: &[ExpField]) -> Result<Rc<MlType>, CoreFault>
+        ensures { (p : Place) → Reads self.entry.now (E.row p (exp_fields_of (map field_of fields.now))) self.exit.now result }
+    {
         let fields = self.fields(fields)?;
         Ok(row_of(self.alloc, fields)?)
     }
@@ -123,7 +128,9 @@ impl Context<'_> {
 
     #[cycle(core)]
     #[inline(never)]
-    fn raise(&mut self, place: Place, exp: &Exp) -> Result<Rc<MlType>, CoreFault> {
+    fn raise(&mut self, place: Place, exp: &Exp) -> Result<Rc<MlType>, CoreFault>
+        ensures { Reads self.entry.now (E.raise place (exp_of exp.now)) self.exit.now result }
+    {
         let ty = self.expression(exp)?;
         self.raised(place, &ty)
     }
@@ -146,7 +153,10 @@ impl Context<'_> {
 
     #[cycle(core)]
     #[inline(never)]
-    fn fields(&mut self, fields: &[ExpField]) -> Result<Fields, CoreFault> {
+    fn fields(&mut self, fields: &[ExpField]) -> Result<Fields, CoreFault>
+        ensures ranked { IfOk result (λ row. AreRanked row.entries) }
+        ensures reads { ReadsFields (λ row. fields_of (λ t. type_of t.value) row.entries) self.entry.now (exp_fields_of (map field_of fields.now)) self.exit.now result }
+    {
         let mut row = BTreeMap::new(self.alloc);
         for field in fields {
             let ty = self.expression(&field.exp)?;
@@ -157,7 +167,9 @@ impl Context<'_> {
 
     #[cycle(core)]
     #[inline(never)]
-    fn tuple(&mut self, exps: &[Exp]) -> Result<Rc<MlType>, CoreFault> {
+    fn tuple(&mut self, exps: &[Exp]) -> Result<Rc<MlType>, CoreFault>
+        ensures { (p : Place) → Reads self.entry.now (E.tuple p (exps_of (map exp_of exps.now))) self.exit.now result }
+    {
         let mut types = Vec::new(self.alloc);
         for exp in exps {
             types.push(self.expression(exp)?)?;
@@ -240,7 +252,9 @@ impl Context<'_> {
     }
 
     #[inline(never)]
-    fn raised(&mut self, place: Place, ty: &MlType) -> Result<Rc<MlType>, CoreFault> {
+    fn raised(&mut self, place: Place, ty: &MlType) -> Result<Rc<MlType>, CoreFault>
+        ensures { Raises self.entry.now place (type_of ty.now) self.exit.now result }
+    {
         let exn = initial(self.alloc, Initial::Exn)?;
         self.equal(place, Meeting::Wanted, ty, &exn)?;
         self.unknown()

@@ -1,6 +1,7 @@
 //! What is at hand where a declaration is refused, kept for who asks why.
 
-ghost use Rattle.std.specs.Prelude.{◌≡◌, false, None};
+ghost use Rattle.std.specs.Prelude.{◌≡◌, true, false, Some, None};
+ghost use Rattle.std.specs.Option.{option_map};
 
 use indexmap::IndexMap;
 use sml_bases::objects::{Env, TypeStr, Value};
@@ -101,7 +102,9 @@ const DEPTH: u8 = 8;
 
 impl Recorder {
     /// Keeps nothing.
-    pub(crate) fn new(alloc: Global) -> Recorder {
+    pub(crate) fn new(alloc: Global) -> Recorder
+        ensures { result.wanted ≡ None }
+    {
         Recorder {
             alloc,
             made: 0,
@@ -116,7 +119,9 @@ impl Recorder {
     }
 
     /// Keeps what is at hand at one comparison.
-    pub fn want(&mut self, wanted: Wanted) {
+    pub fn want(&mut self, wanted: Wanted)
+        ensures { self.new ≡ record self.old { wanted = Some wanted } }
+    {
         self.wanted = Some(wanted);
     }
 
@@ -139,7 +144,10 @@ impl Recorder {
     }
 
     /// The number of the last comparison, if it was refused.
-    pub fn refused(&self) -> Option<u64> {
+    pub fn refused(&self) -> Option<u64>
+        ensures refused { self.now.is_refused ≡ true → result ≡ Some self.now.made }
+        ensures none { self.now.is_refused ≡ false → result ≡ None }
+    {
         if self.is_refused {
             Some(self.made)
         } else {
@@ -148,7 +156,9 @@ impl Recorder {
     }
 
     /// The fault of the comparison that is wanted.
-    pub fn fault(&self) -> Option<&Fault> {
+    pub fn fault(&self) -> Option<&Fault>
+        ensures { option_map (λ f. f.now) result ≡ option_map (λ w. w.fault) self.now.wanted }
+    {
         match &self.wanted {
             Some(wanted) => Some(&wanted.fault),
             None => None,
@@ -156,12 +166,16 @@ impl Recorder {
     }
 
     /// Keeps what is at hand.
-    pub fn keep(&mut self, seen: Seen) {
+    pub fn keep(&mut self, seen: Seen)
+        ensures { self.new ≡ record self.old { seen = Some seen } }
+    {
         self.seen = Some(seen);
     }
 
     /// What was kept, with the names that were made.
-    pub fn into_seen(self) -> Option<(Seen, OwnNames)> {
+    pub fn into_seen(self) -> Option<(Seen, OwnNames)>
+        ensures { result ≡ option_map (λ seen. (seen, self.names)) self.seen }
+    {
         let Recorder { seen, names, .. } = self;
         match seen {
             Some(seen) => Some((seen, names)),
@@ -176,7 +190,9 @@ impl Recorder {
         first: u32,
         name: &Ident,
         ty: &TypeStr,
-    ) -> Result<(), Memory> {
+    ) -> Result<(), Memory>
+        ensures { self.new.wanted ≡ self.old.wanted }
+    {
         if self.wanted.is_none() {
             return Ok(());
         }
@@ -190,14 +206,18 @@ impl Recorder {
         first: u32,
         name: &Ident,
         structure: &Env,
-    ) -> Result<(), Memory> {
+    ) -> Result<(), Memory>
+        ensures { self.new.wanted ≡ self.old.wanted }
+    {
         if self.wanted.is_none() {
             return Ok(());
         }
         self.note_env(unit, first, name.as_slice(), structure, DEPTH)
     }
 
-    fn note(&mut self, unit: UnitId, first: u32, ty: &TypeStr, text: &Ident) -> Result<(), Memory> {
+    fn note(&mut self, unit: UnitId, first: u32, ty: &TypeStr, text: &Ident) -> Result<(), Memory>
+        ensures { self.new.wanted ≡ self.old.wanted }
+    {
         if let Some(name) = name_of(&ty.function) {
             if is_made_from(name, unit, first) {
                 self.names.texts.insert(name, text.clone()?)?;
@@ -215,7 +235,9 @@ impl Recorder {
         prefix: &[u8],
         env: &Env,
         depth: u8,
-    ) -> Result<(), Memory> {
+    ) -> Result<(), Memory>
+        ensures { self.new.wanted ≡ self.old.wanted }
+    {
         for (name, ty) in &env.types {
             let text = joined(self.alloc, prefix, name)?;
             let text = Rc::new(self.alloc, text)?;

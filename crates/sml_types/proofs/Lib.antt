@@ -3,7 +3,7 @@ pub mod Paths
 pub mod Entries
 mod Numbered
 mod Listing
-mod RowLabels
+pub mod RowLabels
 mod Admitting
 mod Arguments
 mod Meanings
@@ -11,11 +11,11 @@ mod TyViews
 mod ReadLists
 mod Readings
 mod NamedFunctions
-mod RowFields
+pub mod RowFields
 mod Counting
 mod Instances
 mod UsedArguments
-mod SideArguments
+pub mod SideArguments
 mod Extensions
 mod Losing
 mod NewNames

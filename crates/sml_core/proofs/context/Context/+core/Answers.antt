@@ -1,12 +1,29 @@
-use Rattle.std.proofs.Common.{Ok, Err, ap, subst, sym, ◌∙◌}
-use Rattle.sml_tree.specs.ExpressionViews.{exp_of}
+use Rattle.std.proofs.Common.{◌≡◌, Ok, Err, ◌+◌, List, [], ◌∷◌, ◌++◌, map, take, drop, ap, subst, sym, ◌∙◌}
+use Rattle.std.proofs.lemmas.List.{take_all}
+use Rattle.std.specs.Global.{Global}
+use Rattle.std.specs.declared.rc.Rc.{Rc}
+use Rattle.sml_lex.specs.declared.fault.Place.{Place}
+use Rattle.sml_objects.specs.declared.objects.MlType as P
+use Rattle.sml_types.specs.declared.fault.CoreFault.TheVariants as F
+use Rattle.sml_types.specs.Rows.{AreRanked}
+use Rattle.sml_tree.specs.Expressions as E
+use Rattle.sml_tree.specs.TypeViews.{name_of}
+use Rattle.sml_tree.specs.declared.expressions.ExpField.{out-ExpField}
+use Rattle.sml_objects.specs.Labels.{label_rank}
+use Rattle.sml_core_rules.specs.Types.{put_field}
+use Rattle.sml_tree.specs.ExpressionViews.{exp_of, exps_of, field_of, fields_of}
 use Rattle.sml_tree.specs.PatternViews.{constant_of}
-use Rattle.sml_tree.proofs.ExpViews.{exp_of-application, exp_of-bracket}
+use Rattle.sml_tree.proofs.ExpViews.{exp_of-application, exp_of-bracket, exp_of-row, exp_of-tuple}
 use Rattle.sml_objects.specs.Views.{type_of}
 use Rattle.sml_core.proofs.Sequences.{by-err}
-use Rattle.sml_core.proofs.Applying.{application-read, argument-refused, bracket-read, constant-is, function-refused}
-use Rattle.sml_core.proofs.Views.{exp_of-constant, exp_of-identifier, function-never, handle-never, let-never, raise-never, row-never, tuple-never, typed-never}
-use Rattle.sml_core.specs.Answered.{Applies, Reads}
+use Rattle.sml_core.proofs.Applying.{application-read, argument-refused, bracket-read, constant-is, function-refused, read-memory}
+use Rattle.sml_core.proofs.Views.{exp_of-constant, exp_of-identifier, exp_of-raise, field_of-parts, function-never, handle-never, let-never, typed-never}
+use Rattle.sml_core.proofs.Tuples.{ReadsAll, none-read, one-more, one-refused, tuple-read}
+use Rattle.sml_core.proofs.Rows.{no-field-read, one-field-more, one-field-refused, fields-memory, fields-seen, row-read, row-refused, row_in, row_types}
+use Rattle.sml_types.proofs.RowFields.{fields-put, ranked-put}
+use Rattle.sml_types.proofs.SideArguments.{mapped-next, mapped-split}
+use Rattle.sml_core.proofs.Raising.{raise-read, raise-refused}
+use Rattle.sml_core.specs.Answered.{Applies, Raises, Reads, ReadsFields, Row}
 use Rattle.sml_core.proofs.context.Context.+core.Goals as goal
 
 pub expression-returns-in_err-ty-in-Let : goal.expression-returns-in_err-ty-in-Let
@@ -53,10 +70,12 @@ expression-returns-in-Constant t c =
     (constant-is c.args.self.now c.constant.new.self p (constant_of c.in-Constant.it) c.constant.result c.constant.ensures.ty c.constant.ensures.memory c.constant.ensures.same)
 
 pub expression-returns-in-Row : goal.expression-returns-in-Row
-expression-returns-in-Row t c = row-never c.args.self.now _ c.args.exp.now _ _ _ c.in-Row.is
+expression-returns-in-Row t c =
+    subst (λ d. Reads c.args.self.now d c.row.new.self c.row.result) (ap (λ fs. E.row c.in-Row.field-0 (fields_of (map field_of fs))) c.deref.ensures.value ∙ sym (ap exp_of c.in-Row.is ∙ exp_of-row c.in-Row.field-0 c.in-Row.fields)) (c.row.ensures c.in-Row.field-0)
 
 pub expression-returns-in-Tuple : goal.expression-returns-in-Tuple
-expression-returns-in-Tuple t c = tuple-never c.args.self.now _ c.args.exp.now _ _ _ c.in-Tuple.is
+expression-returns-in-Tuple t c =
+    subst (λ d. Reads c.args.self.now d c.tuple.new.self c.tuple.result) (ap (λ es. E.tuple c.in-Tuple.field-0 (exps_of (map exp_of es))) c.deref-in-Tuple.ensures.value ∙ sym (ap exp_of c.in-Tuple.is ∙ exp_of-tuple c.in-Tuple.field-0 c.in-Tuple.exps)) (c.tuple.ensures c.in-Tuple.field-0)
 
 pub expression-returns-in_ok-ty-in-Let : goal.expression-returns-in_ok-ty-in-Let
 expression-returns-in_ok-ty-in-Let t c = let-never c.args.self.now _ c.args.exp.now _ _ _ _ c.in-Let.is
@@ -90,7 +109,8 @@ pub expression-returns-in_ok-handler-in-Handle : goal.expression-returns-in_ok-h
 expression-returns-in_ok-handler-in-Handle t c = handle-never c.args.self.now _ c.args.exp.now _ _ _ _ c.in-Handle.is
 
 pub expression-returns-in-Raise : goal.expression-returns-in-Raise
-expression-returns-in-Raise t c = raise-never c.args.self.now _ c.args.exp.now _ _ _ c.in-Raise.is
+expression-returns-in-Raise t c =
+    subst (λ d. Reads c.args.self.now d c.raise.new.self c.raise.result) (ap (λ e. E.raise c.in-Raise.place (exp_of e)) c.deref-in-Raise.ensures ∙ sym (ap exp_of c.in-Raise.is ∙ exp_of-raise c.in-Raise.place c.in-Raise.exp)) c.raise.ensures
 
 pub expression-returns-in-Function : goal.expression-returns-in-Function
 expression-returns-in-Function t c = function-never c.args.self.now _ c.args.exp.now _ _ _ c.in-Function.is
@@ -98,3 +118,140 @@ expression-returns-in-Function t c = function-never c.args.self.now _ c.args.exp
 pub expression-returns-in-Identifier : goal.expression-returns-in-Identifier
 expression-returns-in-Identifier t c =
     subst (λ d. Reads c.args.self.now d c.identifier.new.self c.identifier.result) (sym (ap exp_of c.in-Identifier.is ∙ exp_of-identifier c.in-Identifier.place c.in-Identifier.long)) c.identifier.ensures
+
+-- the parts of a tuple
+
+pub tuple-loop-exp-init : goal.tuple-loop-exp-init
+tuple-loop-exp-init t c = subst (λ ts. ReadsAll c.args.self.now [] c.args.self.now ts) (sym c.new-types.ensures.items) (none-read c.args.self.now)
+
+pub tuple-loop-exp-preserved : goal.tuple-loop-exp-preserved
+tuple-loop-exp-preserved t c =
+    let old = c.args.self.now in
+    let last = c.expression.new.self in
+    let es = map exp_of (take c.loop-exp.exp-index c.args.exps.now) in
+    let e = exp_of c.exp-item.result in
+    let t = c.in_ok-expression.field-0 in
+    let next : map exp_of (take (c.loop-exp.exp-index + 1) c.args.exps.now) ≡ es ++ e ∷ [] = mapped-next exp_of c.args.exps.now c.loop-exp.exp-index c.exp-item.result c.loop-exp-test.true c.exp-item.is in
+    subst (λ (z : List (E.Exp Place) × List (Rc P.MlType Global)). ReadsAll old z.0 last z.1) (λ i. (sym next i, sym c.in_ok-push.ensures.items i))
+    (one-more old c.loop-exp.self last es c.loop-exp.types.items e c.loop-exp.invariant t c.in_ok-expression.ensures)
+
+pub tuple-returns-in_err-expression : goal.tuple-returns-in_err-expression
+tuple-returns-in_err-expression t c = λ p.
+    let old = c.args.self.now in
+    let last = c.expression.new.self in
+    let es = map exp_of (take c.loop-exp.exp-index c.args.exps.now) in
+    let rest = map exp_of (drop (c.loop-exp.exp-index + 1) c.args.exps.now) in
+    let e = exp_of c.exp-item.result in
+    by-err (Reads old (E.tuple p (exps_of (map exp_of c.args.exps.now))) last) c.from_residual.result c.in_err-expression.field-0.0 c.from_residual.ensures.1
+    (subst (λ xs. Reads old (E.tuple p (exps_of xs)) last (Err c.in_err-expression.field-0.0)) (sym (mapped-split exp_of c.args.exps.now c.loop-exp.exp-index c.exp-item.result c.loop-exp-test.true c.exp-item.is))
+    (one-refused old c.loop-exp.self last es c.loop-exp.types.items e c.loop-exp.invariant rest p c.in_err-expression.field-0.0 c.in_err-expression.ensures))
+
+pub tuple-returns-in_err-push : goal.tuple-returns-in_err-push
+tuple-returns-in_err-push t c = λ p.
+    by-err (Reads c.args.self.now (E.tuple p (exps_of (map exp_of c.args.exps.now))) c.expression.new.self) c.from_residual-in_err-push.result F.Memory c.from_residual-in_err-push.ensures.1
+    (read-memory c.args.self.now c.expression.new.self (E.tuple p (exps_of (map exp_of c.args.exps.now))))
+
+pub tuple-returns-in_err-tuple_of : goal.tuple-returns-in_err-tuple_of
+tuple-returns-in_err-tuple_of t c = λ p.
+    by-err (Reads c.args.self.now (E.tuple p (exps_of (map exp_of c.args.exps.now))) c.loop-exp.self) c.from_residual-in_err-tuple_of.result F.Memory c.from_residual-in_err-tuple_of.ensures.1
+    (read-memory c.args.self.now c.loop-exp.self (E.tuple p (exps_of (map exp_of c.args.exps.now))))
+
+pub tuple-returns : goal.tuple-returns
+tuple-returns t c = λ p.
+    let old = c.args.self.now in
+    let last = c.loop-exp.self in
+    let r = c.in_ok-tuple_of.field-0 in
+    subst (λ xs. Reads old (E.tuple p (exps_of (map exp_of xs))) last (Ok r)) (take_all c.loop-exp.exp-index c.args.exps.now c.loop-exp-test.false)
+    (tuple-read old last (map exp_of (take c.loop-exp.exp-index c.args.exps.now)) c.loop-exp.types.items p r c.loop-exp.invariant c.in_ok-tuple_of.ensures)
+
+-- the fields of a row
+
+pub fields-loop-field-init : goal.fields-loop-field-init
+fields-loop-field-init t c = record {
+  ranked = subst AreRanked (sym c.new-row.ensures.empty) tt;
+  reads = subst (λ es. ReadsFields (λ (r : Row). r) c.args.self.now E.no_field c.args.self.now (Ok (row_types es))) (sym c.new-row.ensures.empty) (no-field-read c.args.self.now);
+}
+
+pub fields-loop-field-preserved : goal.fields-loop-field-preserved
+fields-loop-field-preserved t c =
+    let old = c.args.self.now in
+    let last = c.expression.new.self in
+    let item = out-ExpField c.field-item.result in
+    let es = map field_of (take c.loop-field.field-index c.args.fields.now) in
+    let before = c.loop-field.row.entries in
+    let key = c.in_ok-label_key.field-0 in
+    let t = c.in_ok-ty.ty in
+    let rank = c.in_ok-label_key.ensures.0 ∙ ap label_rank (sym c.in_ok-label_key.ensures.1) in
+    let ranked = c.loop-field.invariant.ranked in
+    let next = mapped-next field_of c.args.fields.now c.loop-field.field-index c.field-item.result c.loop-field-test.true c.field-item.is ∙ ap (λ u. es ++ u ∷ []) (field_of-parts c.field-item.result) in
+    let put : row_types c.insert.new.self.entries ≡ put_field (name_of item.label).id (type_of t.value) (row_types before) =
+    ap row_types c.in_ok-insert.ensures.entries ∙ fields-put (λ t. type_of t.value) before key t ranked rank ∙ ap (λ l. put_field l (type_of t.value) (row_types before)) c.in_ok-label_key.ensures.1 in
+    record {
+      ranked = subst AreRanked (sym c.in_ok-insert.ensures.entries) (ranked-put before key t ranked rank);
+      reads = subst (λ (z : List (E.Field Place) × Row). ReadsFields (λ (r : Row). r) old (fields_of z.0) last (Ok z.1)) (λ i. (sym next i, sym put i))
+          (one-field-more old c.loop-field.self last es (row_types before) (name_of item.label) (exp_of item.exp) c.loop-field.invariant.reads t c.in_ok-ty.ensures);
+    }
+
+pub fields-returns-in_err-ty-clause-reads : goal.fields-returns-in_err-ty-clause-reads
+fields-returns-in_err-ty-clause-reads t c =
+    let old = c.args.self.now in
+    let last = c.expression.new.self in
+    let f = c.in_err-ty.field-0.0 in
+    let item = out-ExpField c.field-item.result in
+    let es = map field_of (take c.loop-field.field-index c.args.fields.now) in
+    let before = c.loop-field.row.entries in
+    let rest = map field_of (drop (c.loop-field.field-index + 1) c.args.fields.now) in
+    let split = mapped-split field_of c.args.fields.now c.loop-field.field-index c.field-item.result c.loop-field-test.true c.field-item.is ∙ ap (λ u. es ++ u ∷ rest) (field_of-parts c.field-item.result) in
+    by-err (ReadsFields row_in old (fields_of (map field_of c.args.fields.now)) last) c.from_residual.result f c.from_residual.ensures.1
+    (subst (λ xs. ReadsFields row_in old (fields_of xs) last (Err f)) (sym split)
+    (one-field-refused old c.loop-field.self last es (row_types before) (name_of item.label) (exp_of item.exp) c.loop-field.invariant.reads row_in rest f c.in_err-ty.ensures))
+
+pub fields-returns-in_err-label_key-clause-reads : goal.fields-returns-in_err-label_key-clause-reads
+fields-returns-in_err-label_key-clause-reads t c =
+    let fs = fields_of (map field_of c.args.fields.now) in
+    by-err (ReadsFields row_in c.args.self.now fs c.expression.new.self) c.from_residual-in_err-label_key.result F.Memory c.from_residual-in_err-label_key.ensures.1
+    (fields-memory row_in c.args.self.now c.expression.new.self fs)
+
+pub fields-returns-in_err-insert-clause-reads : goal.fields-returns-in_err-insert-clause-reads
+fields-returns-in_err-insert-clause-reads t c =
+    let fs = fields_of (map field_of c.args.fields.now) in
+    by-err (ReadsFields row_in c.args.self.now fs c.expression.new.self) c.from_residual-in_err-insert.result F.Memory c.from_residual-in_err-insert.ensures.1
+    (fields-memory row_in c.args.self.now c.expression.new.self fs)
+
+pub fields-returns-clause-ranked : goal.fields-returns-clause-ranked
+fields-returns-clause-ranked t c = c.loop-field.invariant.ranked
+
+pub fields-returns-clause-reads : goal.fields-returns-clause-reads
+fields-returns-clause-reads t c =
+    subst (λ xs. ReadsFields row_in c.args.self.now (fields_of (map field_of xs)) c.loop-field.self (Ok c.loop-field.row)) (take_all c.loop-field.field-index c.args.fields.now c.loop-field-test.false)
+    (fields-seen row_in c.args.self.now c.loop-field.self (fields_of (map field_of (take c.loop-field.field-index c.args.fields.now))) c.loop-field.row c.loop-field.invariant.reads)
+
+-- raise
+
+pub raise-returns-in_err-ty : goal.raise-returns-in_err-ty
+raise-returns-in_err-ty t c =
+    by-err (Reads c.args.self.now (E.raise c.args.place (exp_of c.args.exp.now)) c.expression.new.self) c.from_residual.result c.in_err-ty.field-0.0 c.from_residual.ensures.1
+    (raise-refused c.args.self.now c.expression.new.self c.args.place (exp_of c.args.exp.now) c.in_err-ty.field-0.0 c.in_err-ty.ensures)
+
+pub raise-returns : goal.raise-returns
+raise-returns t c =
+    raise-read c.args.self.now c.expression.new.self c.raised.new.self c.args.place (exp_of c.args.exp.now) c.in_ok-ty.ty c.raised.result c.in_ok-ty.ensures
+    (subst (λ x. Raises c.expression.new.self c.args.place (type_of x) c.raised.new.self c.raised.result) c.deref.ensures c.raised.ensures)
+
+-- rows
+
+pub row-returns-in_err-fields : goal.row-returns-in_err-fields
+row-returns-in_err-fields t c = λ p.
+    let fs = fields_of (map field_of c.args.fields.now) in
+    by-err (Reads c.args.self.now (E.row p fs) c.fields.new.self) c.from_residual.result c.in_err-fields.field-0.0 c.from_residual.ensures.1
+    (row-refused row_in c.args.self.now c.fields.new.self p fs c.in_err-fields.field-0.0 c.in_err-fields.ensures.reads)
+
+pub row-returns-in_err-row_of : goal.row-returns-in_err-row_of
+row-returns-in_err-row_of t c = λ p.
+    let fs = fields_of (map field_of c.args.fields.now) in
+    by-err (Reads c.args.self.now (E.row p fs) c.fields.new.self) c.from_residual-in_err-row_of.result F.Memory c.from_residual-in_err-row_of.ensures.1
+    (read-memory c.args.self.now c.fields.new.self (E.row p fs))
+
+pub row-returns : goal.row-returns
+row-returns t c = λ p.
+    row-read row_in c.args.self.now c.fields.new.self p (fields_of (map field_of c.args.fields.now)) c.in_ok-fields.fields c.in_ok-row_of.field-0 c.in_ok-fields.ensures.reads (c.in_ok-row_of.ensures c.in_ok-fields.ensures.ranked)

@@ -1,5 +1,8 @@
 //! From the bytes of a client to a status.
 
+ghost use Rattle.std.specs.Prelude.{codes};
+ghost use Rattle.sml_reply.specs.Sinks.{Prints};
+
 use crate::files::Folders;
 use crate::server::Server;
 use sml_client::command_line::{Asked, asked_by};
@@ -207,6 +210,8 @@ const CANNOT_WRITE: &[u8] = b"smlserve: cannot write\n";
 const OUT_OF_MEMORY: &[u8] = b"smlserve: out of memory\n";
 
 /// Says that memory was refused.
-pub fn out_of_memory<E: Out>(err: &mut E) -> Result<(), OutFault> {
+pub fn out_of_memory<E: Out>(err: &mut E) -> Result<(), OutFault>
+    ensures { Prints (E.taken err.old) (E.taken err.new) (E.failures err.old) (E.failures err.new) result (codes "smlserve: out of memory\n") }
+{
     write_all(err, OUT_OF_MEMORY)
 }

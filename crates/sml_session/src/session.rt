@@ -1,5 +1,8 @@
 //! From the words of a command line to a status.
 
+ghost use Rattle.std.specs.Prelude.{◌≤◌, IfOk, codes};
+ghost use Rattle.sml_reply.specs.Sinks.{Prints};
+
 use crate::files::read_project;
 use crate::stops::{BAD_PROJECT, Stop, report, say};
 use sml_command::command_line::{Asked, Request, asked_by};
@@ -40,7 +43,9 @@ pub fn session<S: Source, O: Out, E: Out>(
     source: &mut S,
     out: &mut O,
     err: &mut E,
-) -> u8 {
+) -> u8
+    ensures { result ≤ 3 }
+{
     match asked_by(alloc, words) {
         Asked::Check(request) => check_and_answer(alloc, &request, source, out, err),
         Asked::Help(text) => match write_all(out, text.as_bytes()) {
@@ -62,7 +67,9 @@ fn check_and_answer<S: Source, O: Out, E: Out>(
     source: &mut S,
     out: &mut O,
     err: &mut E,
-) -> u8 {
+) -> u8
+    ensures { result ≤ 3 }
+{
     match answer(alloc, request, source, out) {
         Ok(status) => status,
         Err(stop) => report(NAME, &stop, err),
@@ -75,7 +82,9 @@ fn answer<S: Source, O: Out>(
     request: &Request,
     source: &mut S,
     out: &mut O,
-) -> Result<u8, Stop> {
+) -> Result<u8, Stop>
+    ensures { IfOk result (λ status. status ≤ 1) }
+{
     let project = read_project(alloc, source, &request.project)?.project;
     let summary = match &request.then {
         None => run(alloc, &project, request.form, out)?,
@@ -105,11 +114,15 @@ fn run_again<O: Out>(
 }
 
 /// Says that memory was refused.
-pub fn out_of_memory<E: Out>(err: &mut E) -> Result<(), OutFault> {
+pub fn out_of_memory<E: Out>(err: &mut E) -> Result<(), OutFault>
+    ensures { Prints (E.taken err.old) (E.taken err.new) (E.failures err.old) (E.failures err.new) result (codes "smlcheck: out of memory\n") }
+{
     say(NAME, &Stop::Memory, err)
 }
 
 /// Says that output failed.
-pub fn cannot_write<E: Out>(err: &mut E) -> Result<(), OutFault> {
+pub fn cannot_write<E: Out>(err: &mut E) -> Result<(), OutFault>
+    ensures { Prints (E.taken err.old) (E.taken err.new) (E.failures err.old) (E.failures err.new) result (codes "smlcheck: cannot write\n") }
+{
     say(NAME, &Stop::Write, err)
 }

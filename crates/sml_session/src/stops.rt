@@ -1,9 +1,14 @@
 //! Why a session ends early, and what is said of it.
 
+ghost use Rattle.std.specs.Prelude.{◌≡◌, ◌++◌, Result};
+ghost use Rattle.sml_reply.specs.Sinks.{Prints};
+ghost use Rattle.sml_session.specs.Stops.{code_text, reason, status_of};
+ghost use Rattle.sml_session.specs.declared.stops.Stop.TheVariants as Stop;
+
 use itoa::Buffer;
 use sml_lex::fault::Memory;
 use sml_projects::manifest::{ManifestFault, OrderFault, ProjectCode, ProjectFault};
-use sml_reply::sink::{Out, OutFault, write_all};
+use sml_reply::sink::{Out, OutFault, write_all, write_each};
 use sml_units::run::RunFault;
 use std::alloc::{AllocError, AllocFailed};
 
@@ -73,39 +78,63 @@ impl From<RunFault> for Stop {
     }
 }
 
-/// Says why a session of the program ends, and gives its status.
-pub fn report<E: Out>(program: &[u8], stop: &Stop, err: &mut E) -> u8 {
+/// Says why a session of the program ends, and gives its status. Where that can't be said, nothing more is.
+pub fn report<E: Out>(program: &[u8], stop: &Stop, err: &mut E) -> u8
+    ensures status { result ≡ status_of stop.now }
+    ensures said { (said : Result (Unit {0}) OutFault) × Prints (E.taken err.old) (E.taken err.new) (E.failures err.old) (E.failures err.new) said (program.now ++ reason stop.now) }
+{
     let _ = say(program, stop, err);
     match stop {
         Stop::Project(_) => BAD_PROJECT,
-        Stop::Unreadable(_) | Stop::Write | Stop::Memory => FAILED,
+        Stop::Unreadable(_) => FAILED,
+        Stop::Write => FAILED,
+        Stop::Memory => FAILED,
     }
 }
 
 /// Says why a session of the program ends.
-pub fn say<E: Out>(program: &[u8], stop: &Stop, err: &mut E) -> Result<(), OutFault> {
-    write_all(err, program)?;
+pub fn say<E: Out>(program: &[u8], stop: &Stop, err: &mut E) -> Result<(), OutFault>
+    ensures { Prints (E.taken err.old) (E.taken err.new) (E.failures err.old) (E.failures err.new) result (program.now ++ reason stop.now) }
+{
+    match write_all(err, program) {
+        Ok(_) => say_reason(stop, err),
+        Err(fault) => Err(fault),
+    }
+}
+
+/// Says what stands after the program's name.
+fn say_reason<E: Out>(stop: &Stop, err: &mut E) -> Result<(), OutFault>
+    ensures { Prints (E.taken err.old) (E.taken err.new) (E.failures err.old) (E.failures err.new) result (reason stop.now) }
+{
     match stop {
-        Stop::Project(fault) => {
-            let mut buffer = Buffer::new();
-            write_all(err, b": ")?;
-            write_all(err, code_text(fault.code))?;
-            write_all(err, b" line ")?;
-            write_all(err, buffer.format(fault.line).as_bytes())?;
-            write_all(err, b"\n")
-        }
+        Stop::Project(fault) => say_fault(*fault, err),
         Stop::Unreadable(path) => {
-            write_all(err, b": cannot read ")?;
-            write_all(err, path.as_bytes())?;
-            write_all(err, b"\n")
+            let parts: [&[u8]; 3] = [b": cannot read ", path.as_bytes(), b"\n"];
+            write_each(err, &parts)
         }
         Stop::Write => write_all(err, b": cannot write\n"),
         Stop::Memory => write_all(err, b": out of memory\n"),
     }
 }
 
+fn say_fault<E: Out>(fault: ProjectFault, err: &mut E) -> Result<(), OutFault>
+    ensures { Prints (E.taken err.old) (E.taken err.new) (E.failures err.old) (E.failures err.new) result (reason (Stop.Project fault)) }
+{
+    let mut line = Buffer::new();
+    let parts: [&[u8]; 5] = [
+        b": ",
+        code_text(fault.code),
+        b" line ",
+        line.format(fault.line).as_bytes(),
+        b"\n",
+    ];
+    write_each(err, &parts)
+}
+
 /// A code of project files as it is printed.
-pub fn code_text(code: ProjectCode) -> &'static [u8] {
+pub fn code_text(code: ProjectCode) -> &'static [u8]
+    ensures { result.now ≡ code_text code }
+{
     match code {
         ProjectCode::O1 => b"O1",
         ProjectCode::O2 => b"O2",

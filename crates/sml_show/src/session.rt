@@ -1,5 +1,8 @@
 //! From the words of a command line to a status.
 
+ghost use Rattle.std.specs.Prelude.{◌≤◌, IfOk, codes};
+ghost use Rattle.sml_reply.specs.Sinks.{Prints};
+
 use crate::command_line::{Asked, Wish, asked_by};
 use crate::show::show;
 use sml_reply::sink::{Out, OutFault, write_all};
@@ -25,7 +28,9 @@ pub fn session<S: Source, O: Out, E: Out>(
     source: &mut S,
     out: &mut O,
     err: &mut E,
-) -> u8 {
+) -> u8
+    ensures { result ≤ 3 }
+{
     match asked_by(alloc, words) {
         Asked::Show(project, wish) => {
             let answer = show_project(alloc, &project, wish, source, out);
@@ -42,7 +47,9 @@ pub fn session<S: Source, O: Out, E: Out>(
 }
 
 /// The status of an answer, or of why there is none, which is said.
-fn status<E: Out>(answer: Result<u8, Stop>, err: &mut E) -> u8 {
+fn status<E: Out>(answer: Result<u8, Stop>, err: &mut E) -> u8
+    ensures { IfOk answer (λ status. status ≤ 1) → result ≤ 3 }
+{
     match answer {
         Ok(status) => status,
         Err(stop) => report(NAME, &stop, err),
@@ -56,7 +63,9 @@ fn show_project<S: Source, O: Out>(
     wish: Wish,
     source: &mut S,
     out: &mut O,
-) -> Result<u8, Stop> {
+) -> Result<u8, Stop>
+    ensures { IfOk result (λ status. status ≤ 1) }
+{
     let listed = read_project(alloc, source, path)?;
     let shown = show(alloc, &listed, wish)?;
     write_all(out, &shown.text)?;
@@ -68,7 +77,9 @@ fn show_project<S: Source, O: Out>(
 }
 
 /// Writes the section of a code, if there is one.
-fn explain<O: Out, E: Out>(code: &[u8], out: &mut O, err: &mut E) -> u8 {
+fn explain<O: Out, E: Out>(code: &[u8], out: &mut O, err: &mut E) -> u8
+    ensures { result ≤ 3 }
+{
     match section_of(code) {
         Some(section) => status(say_all(section.text.as_bytes(), out), err),
         None => {
@@ -85,17 +96,23 @@ fn say_no_code<E: Out>(code: &[u8], err: &mut E) -> Result<(), OutFault> {
     write_all(err, b"\n")
 }
 
-fn say_all<O: Out>(text: &[u8], out: &mut O) -> Result<u8, Stop> {
+fn say_all<O: Out>(text: &[u8], out: &mut O) -> Result<u8, Stop>
+    ensures { IfOk result (λ status. status ≤ 1) }
+{
     write_all(out, text)?;
     Ok(ALL_ACCEPTED)
 }
 
 /// Says that memory was refused.
-pub fn out_of_memory<E: Out>(err: &mut E) -> Result<(), OutFault> {
+pub fn out_of_memory<E: Out>(err: &mut E) -> Result<(), OutFault>
+    ensures { Prints (E.taken err.old) (E.taken err.new) (E.failures err.old) (E.failures err.new) result (codes "smlshow: out of memory\n") }
+{
     say(NAME, &Stop::Memory, err)
 }
 
 /// Says that output failed.
-pub fn cannot_write<E: Out>(err: &mut E) -> Result<(), OutFault> {
+pub fn cannot_write<E: Out>(err: &mut E) -> Result<(), OutFault>
+    ensures { Prints (E.taken err.old) (E.taken err.new) (E.failures err.old) (E.failures err.new) result (codes "smlshow: cannot write\n") }
+{
     say(NAME, &Stop::Write, err)
 }

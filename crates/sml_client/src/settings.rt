@@ -8,7 +8,6 @@ use sml_lex::fault::Memory;
 use std::alloc::Global;
 
 /// What the client says of itself.
-#[derive(Drop)]
 pub struct Settings {
     pub encoding: Encoding,
     /// The workspace's root.
@@ -21,6 +20,19 @@ pub struct Settings {
     pub is_nested: bool,
     /// Whether the client can be asked to tell of files that change.
     pub is_watching: bool,
+}
+
+impl Drop for Settings {
+    fn drop(self) {
+        let Settings {
+            encoding: _,
+            root: _,
+            project: _,
+            pages: _,
+            is_nested: _,
+            is_watching: _,
+        } = self;
+    }
 }
 
 impl Settings {

@@ -1,5 +1,15 @@
 //! The command line: its switches, its help, and what it asks for.
 
+ghost use Rattle.std.specs.Prelude.{◌≡◌, ◌⊎◌, IfErr, IfOk, false, map};
+ghost use Rattle.std.specs.String.{string_bytes};
+ghost use Rattle.clap.specs.Simple.{app_of};
+ghost use Rattle.clap.specs.Values.{kind_of};
+ghost use Rattle.clap.specs.declared.error.kind.ErrorKind.TheVariants.{OutOfMemory};
+ghost use Rattle.sml_command.specs.declared.command_line.Asked.TheVariants as Asked;
+ghost use Rattle.clap.specs.Walk.{rule_of};
+ghost use Rattle.clap.specs.declared.builder.value_parser.ValueParser.{ValueParser};
+ghost use Rattle.sml_command.specs.CommandLine.{AreVersions, Ask, HaveFault, IsFound, IsRequestOf, IsSaid, IsSmlcheck, project_rule, reply_rule, then_rule, warnings_rule};
+
 use clap::builder::ValueParser;
 use clap::error::ErrorKind;
 use clap::{Arg, ArgAction, ArgMatches, Command, Error};
@@ -48,14 +58,20 @@ failed.";
 /// The versions of replies by their numbers.
 const VERSIONS: [&str; 2] = ["1", "2"];
 
-fn warnings_switch<'a>(alloc: Global) -> Arg<'a> {
+fn warnings_switch<'a>(alloc: Global) -> Arg<'a>
+    ensures rule { rule_of result ≡ warnings_rule }
+    ensures local { result.global ≡ false }
+{
     Arg::new(alloc, "warnings")
         .long("warnings")
         .help("Prints the warnings of accepted declarations")
         .action(ArgAction::SetTrue)
 }
 
-fn reply_switch<'a>(alloc: Global) -> Arg<'a> {
+fn reply_switch<'a>(alloc: Global) -> Arg<'a>
+    ensures rule { (versions : ValueParser) × AreVersions versions × (rule_of result ≡ reply_rule versions) }
+    ensures local { result.global ≡ false }
+{
     Arg::new(alloc, "reply")
         .long("reply")
         .value_name("N")
@@ -65,7 +81,10 @@ fn reply_switch<'a>(alloc: Global) -> Arg<'a> {
         .action(ArgAction::Set)
 }
 
-fn then_switch<'a>(alloc: Global) -> Arg<'a> {
+fn then_switch<'a>(alloc: Global) -> Arg<'a>
+    ensures rule { rule_of result ≡ then_rule }
+    ensures local { result.global ≡ false }
+{
     Arg::new(alloc, "then")
         .long("then")
         .value_name("SECOND")
@@ -75,14 +94,19 @@ fn then_switch<'a>(alloc: Global) -> Arg<'a> {
         .action(ArgAction::Set)
 }
 
-fn project_word<'a>(alloc: Global) -> Arg<'a> {
+fn project_word<'a>(alloc: Global) -> Arg<'a>
+    ensures rule { rule_of result ≡ project_rule }
+    ensures local { result.global ≡ false }
+{
     Arg::new(alloc, "PROJECT")
         .help("A project file: a line `unit NAME FILE NEED ..` for each unit")
         .required(true)
         .action(ArgAction::Set)
 }
 
-fn command<'a>(alloc: Global) -> Result<Command<'a>, AllocError> {
+fn command<'a>(alloc: Global) -> Result<Command<'a>, AllocError>
+    ensures { IfOk result (λ c. IsSmlcheck (app_of c)) }
+{
     Command::new(alloc, "smlcheck")
         .about("Checks the declarations of Standard ML units")
         .after_help(AFTER_HELP)
@@ -93,7 +117,9 @@ fn command<'a>(alloc: Global) -> Result<Command<'a>, AllocError> {
 }
 
 /// What the words of a command line ask for. The first word is the program's own name.
-pub fn asked_by(alloc: Global, words: &[String]) -> Asked {
+pub fn asked_by(alloc: Global, words: &[String]) -> Asked
+    ensures { Ask (map string_bytes words.now) result }
+{
     match requested(alloc, words) {
         Ok(request) => Asked::Check(request),
         Err(error) => refused(alloc, &error),
@@ -101,12 +127,17 @@ pub fn asked_by(alloc: Global, words: &[String]) -> Asked {
 }
 
 /// The command line, as `clap` reads it.
-fn requested(alloc: Global, words: &[String]) -> Result<Request, Error> {
+fn requested(alloc: Global, words: &[String]) -> Result<Request, Error>
+    ensures request { IfOk result (IsRequestOf (map string_bytes words.now)) }
+    ensures fault { IfErr result (λ e. (kind_of e ≡ OutOfMemory) ⊎ HaveFault (map string_bytes words.now) (kind_of e)) }
+{
     let matches = command(alloc)?.try_get_matches_from(words)?;
     Ok(request_of(alloc, &matches)?)
 }
 
-fn request_of(alloc: Global, matches: &ArgMatches) -> Result<Request, AllocError> {
+fn request_of(alloc: Global, matches: &ArgMatches) -> Result<Request, AllocError>
+    ensures { IfOk result (IsFound matches.now) }
+{
     let version = if matches.get_str("reply") == Some("2") {
         Version::Two
     } else {
@@ -128,7 +159,10 @@ fn request_of(alloc: Global, matches: &ArgMatches) -> Result<Request, AllocError
 }
 
 /// What `clap` says of the command line: its help, or its fault.
-fn refused(alloc: Global, error: &Error) -> Asked {
+fn refused(alloc: Global, error: &Error) -> Asked
+    ensures said { IsSaid (kind_of error.now) result }
+    ensures memory { kind_of error.now ≡ OutOfMemory → result ≡ Asked.Memory }
+{
     if error.kind() == ErrorKind::OutOfMemory {
         return Asked::Memory;
     }

@@ -17,12 +17,22 @@ const MOST_BYTES: usize = 1_048_577;
 
 /// The path of the project file, the last project without a fault, what is wrong with the file now, and the documents that
 /// are projects of one unit.
-#[derive(Drop)]
 pub struct Board {
     pub path: Option<String>,
     pub work: Work,
     pub trouble: Option<Trouble>,
     pub singles: BTreeMap<String, Work>,
+}
+
+impl Drop for Board {
+    fn drop(self) {
+        let Board {
+            path: _,
+            work: _,
+            trouble: _,
+            singles: _,
+        } = self;
+    }
 }
 
 /// What the client said, and what it has open.

@@ -32,7 +32,6 @@ pub enum Origin {
 }
 
 /// A fault or a warning, with what is said of it: what its code means, and the lines of its reason.
-#[derive(Drop)]
 pub struct Finding {
     pub is_warning: bool,
     pub range: Range,
@@ -41,11 +40,31 @@ pub struct Finding {
     pub origin: Origin,
 }
 
+impl Drop for Finding {
+    fn drop(self) {
+        let Finding {
+            is_warning: _,
+            range: _,
+            code: _,
+            text: _,
+            origin: _,
+        } = self;
+    }
+}
+
 /// The faults and warnings of a unit, and what its refused declarations would bind.
-#[derive(Drop)]
 pub struct Findings {
     pub items: Vec<Finding>,
     pub refusals: Refusals,
+}
+
+impl Drop for Findings {
+    fn drop(self) {
+        let Findings {
+            items: _,
+            refusals: _,
+        } = self;
+    }
 }
 
 /// A unit that was checked, by its place in the order.
@@ -68,11 +87,20 @@ impl<'a> Answered<'a> {
 }
 
 /// Where the text of a unit has its tokens, its declarations and its lines.
-#[derive(Drop)]
 pub struct Chart<'a> {
     pub alloc: Global,
     pub map: UnitMap<'a>,
     pub lines: Lines<'a>,
+}
+
+impl Drop for Chart<'_> {
+    fn drop(self) {
+        let Chart {
+            alloc: _,
+            map: _,
+            lines: _,
+        } = self;
+    }
 }
 
 impl<'a> Chart<'a> {

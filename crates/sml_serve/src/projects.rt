@@ -17,11 +17,20 @@ use std::alloc::Global;
 const MOST_BYTES: usize = 1_048_577;
 
 /// What is wrong with a project file: the line, the code where there is one, and a text.
-#[derive(Drop)]
 pub struct Trouble {
     pub line: u64,
     pub code: Option<ProjectCode>,
     pub text: Vec<u8>,
+}
+
+impl Drop for Trouble {
+    fn drop(self) {
+        let Trouble {
+            line: _,
+            code: _,
+            text: _,
+        } = self;
+    }
 }
 
 /// A project and the paths of its units' files, in their order; or what is wrong with its file.

@@ -42,7 +42,6 @@ enum Phase {
 }
 
 /// A server: what the client said, its documents, what is checked, and what the client was told.
-#[derive(Drop)]
 pub struct Server {
     pub alloc: Global,
     folder: String,
@@ -59,6 +58,24 @@ pub struct Server {
     touched: Vec<String>,
     /// Whether what changed was taken over, and not all of it is checked yet.
     is_begun: bool,
+}
+
+impl Drop for Server {
+    fn drop(self) {
+        let Server {
+            alloc: _,
+            folder: _,
+            phase: _,
+            settings: _,
+            documents: _,
+            board: _,
+            published: _,
+            is_loaded: _,
+            is_stale: _,
+            touched: _,
+            is_begun: _,
+        } = self;
+    }
 }
 
 impl Server {

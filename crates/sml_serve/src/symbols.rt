@@ -56,13 +56,24 @@ struct Named {
 }
 
 /// A declaration: its range, where its identifiers stand, and the address of its document.
-#[derive(Drop)]
 struct Site<'a> {
     alloc: Global,
     uri: &'a str,
     lines: &'a Lines<'a>,
     extent: Span,
     names: BTreeMap<Vec<u8>, Named>,
+}
+
+impl Drop for Site<'_> {
+    fn drop(self) {
+        let Site {
+            alloc: _,
+            uri: _,
+            lines: _,
+            extent: _,
+            names: _,
+        } = self;
+    }
 }
 
 /// The symbols that stand open, and the list of all, to which more are added.

@@ -2,6 +2,12 @@
 use Rattle.std.specs.Prelude.{ℕ, List, ◌++◌, codes, decimal}
 use Rattle.sml_projects.specs.declared.manifest.ProjectCode.{ProjectCode}
 use Rattle.sml_projects.specs.declared.manifest.ProjectCode.TheVariants.{O1, O2, O3, O4}
+use Rattle.sml_projects.specs.declared.manifest.ManifestFault.{ManifestFault}
+use Rattle.sml_projects.specs.declared.manifest.ManifestFault.TheVariants as MF
+use Rattle.sml_projects.specs.declared.manifest.OrderFault.{OrderFault}
+use Rattle.sml_projects.specs.declared.manifest.OrderFault.TheVariants as OF
+use Rattle.sml_units.specs.declared.run.RunFault.{RunFault}
+use Rattle.sml_units.specs.declared.run.RunFault.TheVariants as RF
 use Rattle.sml_session.specs.declared.stops.Stop.{Stop}
 use Rattle.sml_session.specs.declared.stops.Stop.TheVariants.{Project, Unreadable, Write, Memory}
 
@@ -24,3 +30,16 @@ status_of (Project f) = 2
 status_of (Unreadable path) = 3
 status_of Write = 3
 status_of Memory = 3
+
+-- why a session ends where a project file is no manifest, where units have no order, and where a run has no summary
+abbrev pub stop_of_manifest : ManifestFault → Stop
+stop_of_manifest MF.Memory = Memory
+stop_of_manifest (MF.Fault f) = Project f
+
+abbrev pub stop_of_order : OrderFault → Stop
+stop_of_order OF.Memory = Memory
+stop_of_order (OF.Fault f) = Project f
+
+abbrev pub stop_of_run : RunFault → Stop
+stop_of_run RF.Memory = Memory
+stop_of_run RF.Write = Write

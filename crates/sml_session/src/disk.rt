@@ -1,5 +1,7 @@
 //! The disk as a source of files.
 
+ghost use Rattle.std.specs.Prelude.{◌≡◌};
+
 use crate::session::{Source, SourceFault};
 use std::alloc::Global;
 use std::fs;
@@ -13,7 +15,9 @@ pub struct Disk<'a, R> {
 }
 
 impl<'a, R: Files> Disk<'a, R> {
-    pub fn new(rt: &'a R) -> Disk<'a, R> {
+    pub fn new(rt: &'a R) -> Disk<'a, R>
+        ensures { result.rt ≡ rt.entry }
+    {
         Disk { rt }
     }
 }

@@ -2,7 +2,7 @@
 
 ghost use Rattle.std.specs.Prelude.{◌≡◌, ◌++◌, Result};
 ghost use Rattle.sml_reply.specs.Sinks.{Prints};
-ghost use Rattle.sml_session.specs.Stops.{code_text, reason, status_of};
+ghost use Rattle.sml_session.specs.Stops.{code_text, reason, status_of, stop_of_manifest, stop_of_order, stop_of_run};
 ghost use Rattle.sml_session.specs.declared.stops.Stop.TheVariants as Stop;
 
 use itoa::Buffer;
@@ -28,30 +28,40 @@ pub enum Stop {
 }
 
 impl From<AllocError> for Stop {
+    ghost from_gives = { λ _ s. s ≡ Stop.Memory };
+
     fn from(_error: AllocError) -> Stop {
         Stop::Memory
     }
 }
 
 impl<T: Drop> From<AllocFailed<T>> for Stop {
+    ghost from_gives = { λ _ s. s ≡ Stop.Memory };
+
     fn from(_error: AllocFailed<T>) -> Stop {
         Stop::Memory
     }
 }
 
 impl From<Memory> for Stop {
+    ghost from_gives = { λ _ s. s ≡ Stop.Memory };
+
     fn from(_memory: Memory) -> Stop {
         Stop::Memory
     }
 }
 
 impl From<OutFault> for Stop {
+    ghost from_gives = { λ _ s. s ≡ Stop.Write };
+
     fn from(_fault: OutFault) -> Stop {
         Stop::Write
     }
 }
 
 impl From<ManifestFault> for Stop {
+    ghost from_gives = { λ f s. s ≡ stop_of_manifest f };
+
     fn from(fault: ManifestFault) -> Stop {
         match fault {
             ManifestFault::Memory => Stop::Memory,
@@ -61,6 +71,8 @@ impl From<ManifestFault> for Stop {
 }
 
 impl From<OrderFault> for Stop {
+    ghost from_gives = { λ f s. s ≡ stop_of_order f };
+
     fn from(fault: OrderFault) -> Stop {
         match fault {
             OrderFault::Memory => Stop::Memory,
@@ -70,6 +82,8 @@ impl From<OrderFault> for Stop {
 }
 
 impl From<RunFault> for Stop {
+    ghost from_gives = { λ f s. s ≡ stop_of_run f };
+
     fn from(fault: RunFault) -> Stop {
         match fault {
             RunFault::Memory => Stop::Memory,

@@ -1,0 +1,5 @@
+mod Paths
+mod Texts
+mod Reading
+mod Answering
+mod Ending

@@ -13,6 +13,7 @@ use Rattle.sml_reply.specs.Sinks.{Prints}
 use Rattle.sml_units.specs.declared.project.Replies.{Replies}
 use Rattle.sml_units.specs.declared.run.Summary.{Summary}
 use Rattle.sml_units.specs.Checked.{HaveOwnPlaces, MayReply, ProjectsHaveOwnPlaces}
+use Rattle.sml_units.specs.Complete.{AreAllComplete}
 use Rattle.sml_units.specs.Written.{IsOutcome, replies_of, replies_text, summary_of}
 use Rattle.sml_session.specs.declared.files.Listed.{Listed}
 use Rattle.sml_session.specs.declared.stops.Stop.{Stop}
@@ -46,10 +47,10 @@ unfolding IsOutcome Prints
 run_answers May form old new before after s status h told = record { replies = h.replies; may = h.may; written = h.printed; status_is = status_told h.replies s status h.counted told }
 
 -- what is written of a check
-pub check_answers : (form : Form) (rs : Replies) (old new : Option (List ℕ)) (before after : ℕ) (s : Summary) (status : ℕ) → Prints {E = OutFault} old new before after (Ok s) (replies_text rs form)
-    → s ≡ summary_of (replies_of rs.units.items) → status ≡ cond (s.refused == 0) 0 1 → Answers (λ rs. Unit {0}) form (used old new before after) status
+pub check_answers : (May : Replies → Type 0) (form : Form) (rs : Replies) → May rs → (old new : Option (List ℕ)) (before after : ℕ) (s : Summary) (status : ℕ) → Prints {E = OutFault} old new before after (Ok s) (replies_text rs form)
+    → s ≡ summary_of (replies_of rs.units.items) → status ≡ cond (s.refused == 0) 0 1 → Answers May form (used old new before after) status
 unfolding Prints
-check_answers form rs old new before after s status h counted told = record { replies = rs; may = tt; written = h; status_is = status_told rs s status counted told }
+check_answers May form rs may old new before after s status h counted told = record { replies = rs; may = may; written = h; status_is = status_told rs s status counted told }
 
 -- the same answers, of which more is known
 widen : (A B : Replies → Type 0) (form : Form) (out : Use) (r : Result ℕ Stop) → ((rs : Replies) → A rs → B rs) → IfOk r (Answers A form out) → IfOk r (Answers B form out)
@@ -64,6 +65,6 @@ first_answers Gives path second l form out r own none read h =
 
 -- the answer to a second one
 pub second_answers : (Gives : Giving) (path : List ℕ) (second : Option (String Global)) (s : String Global) (l k : Listed) (form : Form) (out : Use) (r : Result ℕ Stop) → second ≡ Some s → IsRead Gives path l
-    → IsRead Gives (string_bytes s) k → IfOk r (Answers (λ rs. Unit {0}) form out) → IfOk r (Answers (MayAnswer Gives path second) form out)
+    → IsRead Gives (string_bytes s) k → IfOk r (Answers (λ rs. AreAllComplete (unit_texts k.project) rs.units.items) form out) → IfOk r (Answers (MayAnswer Gives path second) form out)
 second_answers Gives path second s l k form out r some read again h =
-    widen _ _ form out r (λ rs may. subst (λ s. MayAnswer Gives path s rs) (sym some) (l, read, (k, again))) h
+    widen _ _ form out r (λ rs may. subst (λ s. MayAnswer Gives path s rs) (sym some) (l, read, (k, again, may))) h

@@ -8,12 +8,14 @@ use Rattle.std.specs.String.{string_bytes}
 use Rattle.sml_command.specs.CommandLine.{Ask, IsRequestOf}
 use Rattle.sml_command.specs.declared.command_line.Asked.TheVariants.{Help, Refused}
 use Rattle.sml_command.specs.declared.command_line.Request.{Request}
+use Rattle.sml_projects.specs.Orders.{unit_texts}
 use Rattle.sml_reply.specs.declared.form.Form.{Form}
 use Rattle.sml_reply.specs.declared.sink.OutFault.{OutFault}
 use Rattle.sml_reply.specs.Replies.{accepts}
 use Rattle.sml_reply.specs.Sinks.{Prints}
 use Rattle.sml_units.specs.declared.project.Replies.{Replies}
 use Rattle.sml_units.specs.Checked.{MayReply}
+use Rattle.sml_units.specs.Complete.{AreAllComplete}
 use Rattle.sml_units.specs.Written.{replies_of, replies_text}
 use Rattle.sml_session.specs.declared.files.Listed.{Listed}
 use Rattle.sml_session.specs.declared.stops.Stop.{Stop}
@@ -53,11 +55,11 @@ pub record Answers (May : Replies → Type 0) (form : Form) (out : Use) (status 
   pub written : Took out (replies_text replies form)
   pub status_is : status ≡ status_after replies
 
--- The replies to the project of a project file. Of those to a second one, which is checked again after it, nothing is said
--- but that both projects were read.
+-- The replies to the project of a project file. Those to a second one, which is checked again after it, are one to each
+-- declaration and to each last fault of its units, whatever was kept.
 abbrev pub MayAnswer : Giving → List ℕ → Option (String Global) → Replies → Type 0
 MayAnswer Gives path None rs = (l : Listed) × IsRead Gives path l × MayReply l.project rs
-MayAnswer Gives path (Some second) rs = (l : Listed) × IsRead Gives path l × ((k : Listed) × IsRead Gives (string_bytes second) k)
+MayAnswer Gives path (Some second) rs = (l : Listed) × IsRead Gives path l × ((k : Listed) × IsRead Gives (string_bytes second) k × AreAllComplete (unit_texts k.project) rs.units.items)
 
 -- the answer to a request
 pub record Checks (Gives : Giving) (request : Request) (out err : Use) (status : ℕ) : Type 0 where

@@ -7,6 +7,7 @@ ghost use Rattle.sml_reply.specs.Sinks.{Prints};
 ghost use Rattle.sml_session.specs.Files.{Only};
 ghost use Rattle.sml_session.specs.Sessions.{Answers, Ends, EndsRequest, MayAnswer, used};
 ghost use Rattle.sml_units.specs.Checked.{HaveOwnPlaces, MayReply};
+ghost use Rattle.sml_units.specs.Complete.{AreAllComplete};
 
 use crate::files::read_project;
 use crate::stops::{BAD_PROJECT, Stop, report, say};
@@ -128,7 +129,7 @@ fn answer_second<O: Out>(
     form: Form,
     out: &mut O,
 ) -> Result<u8, Stop>
-    ensures { IfOk result (Answers (λ _. ⊤) form (used (O.taken out.old) (O.taken out.new) (O.failures out.old) (O.failures out.new))) }
+    ensures { IfOk result (Answers (λ rs. AreAllComplete (unit_texts second.now) rs.units.items) form (used (O.taken out.old) (O.taken out.new) (O.failures out.old) (O.failures out.new))) }
 {
     let old = check(alloc, project)?;
     let checked = recheck(alloc, &old, second)?;

@@ -9,3 +9,4 @@ pub mod Written
 pub mod Standing
 mod Files
 mod Counting
+pub mod Complete

@@ -170,7 +170,7 @@ numbered_append k (r ∷ rs) more h g = (h.0, numbered_append (suc k) rs more h.
 pub numbered_push : (k : ℕ) (rs : List Reply) (r : Reply) → AreNumbered k rs → number_of r ≡ k + length rs → AreNumbered k (rs ++ r ∷ [])
 numbered_push k rs r h e = numbered_append k rs (r ∷ []) h (e, tt)
 
-replies_numbered : (k : ℕ) (os : List Answered) (rs : List Reply) → AreRepliesTo k os rs → AreNumbered k rs
+pub replies_numbered : (k : ℕ) (os : List Answered) (rs : List Reply) → AreRepliesTo k os rs → AreNumbered k rs
 replies_numbered k [] [] h = tt
 replies_numbered k [] (r ∷ rs) h = absurd h
 replies_numbered k (o ∷ os) [] h = absurd h

@@ -14,13 +14,18 @@ use Rattle.sml_rules.specs.Answers.{refused, accepted}
 use Rattle.sml_rules.specs.Every.{Every}
 use Rattle.sml_rules.specs.Open.{OpenEnv}
 use Rattle.sml_rules.specs.Readings.{read_top, is_specified}
+use Rattle.sml_reply.specs.Replies.{form_text, warnings_of, accepts, number_of}
+use Rattle.sml_reply.specs.declared.form.Form.{Form}
 use Rattle.sml_reply.specs.declared.reply.Reply.{Reply}
 use Rattle.sml_piece.specs.Elaborated.{IsBasisOf, IsBelow}
 use Rattle.sml_exports.specs.declared.exports.Exports.{Exports}
 use Rattle.sml_units.specs.Runs.{SourceUnit, Run, basis_after, start, needed, all_names, exports, nothing, specified_unit, specified_beginning, flag_at, is_whole}
 use Rattle.sml_units.specs.declared.project.Beginning.{Beginning}
+use Rattle.sml_units.specs.declared.project.Checked.{Checked}
+use Rattle.sml_units.specs.declared.project.UnitReplies.{UnitReplies}
 use Rattle.sml_projects.specs.Orders.{UnitText}
 use Rattle.sml_units.specs.Checked.{Answered, IsReplyTo, AreRepliesTo, AreNumbered, AreReplies, IsSourceOf, with_last}
+use Rattle.sml_units.specs.Complete.{IsComplete}
 
 -- what an answered declaration adds to an environment
 abbrev pub env_after : Env Name → Answered → Env Name
@@ -98,3 +103,23 @@ pub record IsAnswered (fs : List Bool) (Ss : List (Sig Name)) (u : UnitText) (rs
   pub run : Run naming source.maker (start initial_basis Ss source.needs) (specified_unit fs source).declarations answers
   pub replies : AreReplies source answers (specified_unit fs source).last rs
   pub kept : IsExported (is_whole fs source) (exports nothing answers) x
+
+-- the same replies: alike in every form, in what is accepted, in warnings and number
+pub record IsCopy (r q : Reply) : Type 0 where
+  pub text : (form : Form) → form_text q form ≡ form_text r form
+  pub warnings : warnings_of q ≡ warnings_of r
+  pub accepting : accepts q ≡ accepts r
+  pub number : number_of q ≡ number_of r
+
+abbrev pub AreCopies : List Reply → List Reply → Type 0
+AreCopies [] [] = Unit {0}
+AreCopies [] (q ∷ qs) = ⊥
+AreCopies (r ∷ rs) [] = ⊥
+AreCopies (r ∷ rs) (q ∷ qs) = IsCopy r q × AreCopies rs qs
+
+-- with the replies to one unit more
+pub record IsOneMore (old new : Checked) (u : UnitText) : Type 0 where
+  pub sources : new.sources ≡ old.sources
+  pub added : UnitReplies
+  pub complete : IsComplete u added
+  pub units : new.replies.units.items ≡ old.replies.units.items ++ added ∷ []

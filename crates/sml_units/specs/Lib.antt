@@ -5,4 +5,5 @@ pub mod Checked
 pub mod Standing
 pub mod Files
 pub mod Counts
+pub mod Complete
 pub mod CodeUnits

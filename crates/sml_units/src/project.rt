@@ -14,8 +14,10 @@ ghost use Rattle.sml_rules.specs.Answers.{accepted};
 ghost use Rattle.sml_rules.specs.Open.{OpenEnv};
 ghost use Rattle.sml_rules.specs.Readings.{is_specified};
 ghost use Rattle.sml_piece.specs.Elaborated.{IsBasisOf, IsOwnBasis};
-ghost use Rattle.sml_units.specs.Checked.{MayReply, HaveOwnPlaces, IsReplyTo, Answered, AreRepliesTo, with_last};
+ghost use Rattle.sml_units.specs.Checked.{MayReply, HaveOwnPlaces, IsReplyTo, Answered, AreNumbered, AreRepliesTo, with_last};
 ghost use Rattle.sml_units.specs.CodeUnits.{AreBegunAndEnded, AreEnded, AreReady, IsAnswered, IsBegun, IsStep, Keeps};
+ghost use Rattle.sml_reply.specs.Replies.{number_of};
+ghost use Rattle.sml_units.specs.Complete.{AreComplete, AreTo, IsMadeOf, texts_of};
 ghost use Rattle.sml_units.specs.Counts.{IsCountOf, IsNumberOf};
 ghost use Rattle.sml_projects.specs.Orders.{unit_texts, unit_text_of};
 ghost use Rattle.sml_units.specs.Runs.{start, flag_at};
@@ -114,6 +116,7 @@ pub fn check(alloc: Global, project: &Project) -> Result<Checked, Memory>
     ensures replies { HaveOwnPlaces (unit_texts project.now) → IfOk result (λ c. MayReply project.now c.replies) }
     ensures kept { IfOk result (λ c. c.kept.items ≡ replicate (vec_len project.now.units) false) }
     ensures readings { IfOk result (λ c. IsCountOf (unit_texts project.now) c.readings) }
+    ensures complete { IfOk result (IsMadeOf (unit_texts project.now)) }
 {
     let initial = Rc::new(alloc, initial(alloc)?)?;
     let mut exports = Vec::new(alloc);
@@ -136,7 +139,9 @@ pub fn check(alloc: Global, project: &Project) -> Result<Checked, Memory>
 }
 
 /// What the units of a project are read from.
-pub(crate) fn sources_of(alloc: Global, project: &Project) -> Result<Vec<Source>, Memory> {
+pub(crate) fn sources_of(alloc: Global, project: &Project) -> Result<Vec<Source>, Memory>
+    ensures { IfOk result (λ ss. texts_of ss.items ≡ map (λ u. u.text) (unit_texts project.now)) }
+{
     let mut sources = Vec::new(alloc);
     for unit in project.units.as_slice() {
         sources.push(Source {
@@ -157,6 +162,7 @@ pub(crate) fn check_unit(
 ) -> Result<Read, Memory>
     ensures replies { (fs : List Bool) (Ss : List (O.Sig Name)) → AreReady (maker_of unit.now.id) fs Ss exports.now → IfOk result (λ r. IsAnswered fs Ss (unit_text_of unit.now) r.0.items r.1) }
     ensures count { IfOk result (λ r. IsNumberOf unit.now.text.items r.2) }
+    ensures complete { IfOk result (λ r. AreComplete unit.now.text.items r.0.items) }
 {
     let lexed = lex(alloc, &unit.text)?;
     let Parsed {
@@ -184,6 +190,7 @@ fn answer_unit(
     ensures replies { (fs : List Bool) (Ss : List (O.Sig Name)) → AreReady (maker_of unit.now.id) fs Ss exports.now
         → IfOk result (λ r. AreBegunAndEnded (maker_of unit.now.id) fs Ss unit.now.needs.items (map dec_of piece.now) (length declarations.now) (option_map fault_of fault) r.0.items r.1) }
     ensures count { IfOk result (λ r. r.2 ≡ length declarations.now) }
+    ensures complete { IfOk result (λ r. AreTo (length declarations.now) (option_map fault_of fault) r.0.items) }
 {
     let begun = begin(alloc, unit.id, &unit.needs, exports, piece)?;
     end(
@@ -294,6 +301,7 @@ fn begin(
     ensures begun { (fs : List Bool) (Ss : List (O.Sig Name)) → AreReady (maker_of id) fs Ss exports.now
         → IfOk result (IsBegun (maker_of id) (list_all (flag_at fs) needs.now) (start initial_basis Ss needs.now) (map dec_of declarations.now)) }
     ensures few { IfOk result (λ b. length b.replies.items ≤ length declarations.now) }
+    ensures numbered { IfOk result (λ b. AreNumbered 1 b.replies.items) }
 {
     let basis = Basis::initial(alloc, id)?;
     let paths = paths_of_needs(alloc, needs, exports)?;
@@ -318,6 +326,7 @@ fn answer_piece(
 ) -> Result<Beginning, Memory>
     ensures begun { (B : O.Basis Name) → IsBasisOf basis B → IfOk result (IsBegun (maker_of basis.unit) true B (map dec_of declarations.now)) }
     ensures few { IfOk result (λ b. length b.replies.items ≤ length declarations.now) }
+    ensures numbered { IfOk result (λ b. AreNumbered 1 b.replies.items) }
 {
     let mut basis = basis;
     let mut paths = paths;
@@ -367,7 +376,8 @@ fn answer(
     dec: &BareDec,
 ) -> Result<Reply, Memory>
     requires { is_specified (dec_of dec.now) ≡ true }
-    ensures { (B : O.Basis Name) → IsBasisOf basis.old B → IfOk result (IsStep basis.old basis.new bound.old bound.new B (dec_of dec.now) number) }
+    ensures step { (B : O.Basis Name) → IsBasisOf basis.old B → IfOk result (IsStep basis.old basis.new bound.old bound.new B (dec_of dec.now) number) }
+    ensures number { IfOk result (λ r. number_of r ≡ number) }
 {
     match topdec(alloc, basis, dec) {
         Ok((own, warnings)) => accept(alloc, basis, bound, paths, number, own, warnings),
@@ -386,6 +396,7 @@ fn accept(
     warnings: Vec<Warning>,
 ) -> Result<Reply, Memory>
     ensures reply { IfOk result (λ r. warnings.items ≡ [] → IsReplyTo number (accepted (sig_of own)) r) }
+    ensures number { IfOk result (λ r. number_of r ≡ number) }
     ensures basis { (B : O.Basis Name) → IsBasisOf basis.old B → IsOwnBasis basis.old own → OpenEnv (sig_of own).body
         → OnOk result (IsBasisOf basis.new (extend B (sig_of own))) }
     ensures unit { OnOk result (basis.new.unit ≡ basis.old.unit) }

@@ -1,5 +1,10 @@
 //! Projects that are checked again after an edit.
 
+ghost use Rattle.std.specs.Prelude.{◌≡◌, ◌≤◌, ◌+◌, [], IfOk, IfSome, List, OnOk, length, true, vec_len};
+ghost use Rattle.sml_projects.specs.Orders.{UnitText, unit_text_of, unit_texts};
+ghost use Rattle.sml_units.specs.CodeUnits.{AreCopies, IsOneMore};
+ghost use Rattle.sml_units.specs.Complete.{AreComplete, IsMadeOf};
+
 use crate::project::{Checked, Read, Replies, UnitReplies, check_unit, sources_of};
 use indexmap::IndexMap;
 use sml_bases::objects::Basis as WholeBasis;
@@ -16,7 +21,10 @@ use std::rc::Rc;
 
 /// What `check` gives for the project. A unit is kept if the old project has one of that name with the same text and
 /// needs, and each need exports the same in both: then its replies and exports are the old ones, and it isn't read.
-pub fn recheck(alloc: Global, old: &Checked, project: &Project) -> Result<Checked, Memory> {
+pub fn recheck(alloc: Global, old: &Checked, project: &Project) -> Result<Checked, Memory>
+    ensures complete { (us : List UnitText) → IsMadeOf us old.now → IfOk result (IsMadeOf (unit_texts project.now)) }
+    ensures done { IfOk result (λ c. length c.kept.items ≡ vec_len project.now.units) }
+{
     let mut again = Rechecking::new(alloc, old, project)?;
     again.go_on(alloc, old, project, project.units.len())?;
     Ok(again.into_checked())
@@ -44,7 +52,10 @@ struct Before<'a> {
 
 impl Rechecking {
     /// Begins to check a project again, of which no unit is done.
-    pub fn new(alloc: Global, old: &Checked, project: &Project) -> Result<Rechecking, Memory> {
+    pub fn new(alloc: Global, old: &Checked, project: &Project) -> Result<Rechecking, Memory>
+        ensures made { IfOk result (λ r. IsMadeOf (unit_texts project.now) r.checked) }
+        ensures none { IfOk result (λ r. r.checked.kept.items ≡ []) }
+    {
         let befores = befores_of(alloc, old, project)?;
         Ok(Rechecking {
             initial: Rc::new(alloc, initial(alloc)?)?,
@@ -70,7 +81,10 @@ impl Rechecking {
         old: &Checked,
         project: &Project,
         count: usize,
-    ) -> Result<(), Memory> {
+    ) -> Result<(), Memory>
+        ensures complete { (us : List UnitText) → IsMadeOf us old.now → IsMadeOf (unit_texts project.now) self.old.checked → OnOk result (IsMadeOf (unit_texts project.now) self.new.checked) }
+        ensures done { length self.old.checked.kept.items ≤ count → count ≤ vec_len project.now.units → OnOk result (length self.new.checked.kept.items ≡ count) }
+    {
         for place in self.done()..count {
             if let Some(unit) = project.units.get(place) {
                 let before = before_of(old, &self.befores, place);
@@ -81,17 +95,23 @@ impl Rechecking {
     }
 
     /// How many units are done.
-    pub fn done(&self) -> usize {
+    pub fn done(&self) -> usize
+        ensures { result ≡ length self.now.checked.kept.items }
+    {
         self.checked.kept.len()
     }
 
     /// What is given of the units that are done.
-    pub fn checked(&self) -> &Checked {
+    pub fn checked(&self) -> &Checked
+        ensures { result.now ≡ self.now.checked }
+    {
         &self.checked
     }
 
     /// What is given of all units, where all are done.
-    pub fn into_checked(self) -> Checked {
+    pub fn into_checked(self) -> Checked
+        ensures { result ≡ self.checked }
+    {
         let Rechecking { checked, .. } = self;
         checked
     }
@@ -102,7 +122,11 @@ impl Rechecking {
         alloc: Global,
         before: Option<Before<'_>>,
         unit: &ProjectUnit,
-    ) -> Result<(), Memory> {
+    ) -> Result<(), Memory>
+        ensures complete { IfSome before.entry (λ b. AreComplete b.text.now b.replies.now)
+            → OnOk result (IsOneMore self.old.checked self.new.checked (unit_text_of unit.now)) }
+        ensures done { OnOk result (length self.new.checked.kept.items ≡ length self.old.checked.kept.items + 1) }
+    {
         let Some(before) = before else {
             let read = check_unit(alloc, &self.initial, &self.checked.exports, unit)?;
             return self.put(unit, read, false, false);
@@ -124,7 +148,10 @@ impl Rechecking {
         read: Read,
         is_kept: bool,
         is_unchanged: bool,
-    ) -> Result<(), Memory> {
+    ) -> Result<(), Memory>
+        ensures complete { AreComplete unit.now.text.items read.0.items → OnOk result (IsOneMore self.old.checked self.new.checked (unit_text_of unit.now)) }
+        ensures done { OnOk result (length self.new.checked.kept.items ≡ length self.old.checked.kept.items + 1) }
+    {
         let (replies, own, count) = read;
         let name = unit.name.clone()?;
         self.checked
@@ -139,7 +166,9 @@ impl Rechecking {
     }
 
     /// Whether a unit has the text that it had, and the needs, each of which exports what it did.
-    fn is_as_before(&self, before: Before<'_>, unit: &ProjectUnit) -> bool {
+    fn is_as_before(&self, before: Before<'_>, unit: &ProjectUnit) -> bool
+        ensures { result ≡ true → unit.now.text.items ≡ before.entry.text.now }
+    {
         if unit.text.as_slice() != before.text || unit.needs.len() != before.needs.len() {
             return false;
         }
@@ -161,7 +190,9 @@ fn kept_read(
     before: Before<'_>,
     moves: &Moves,
     unit: &ProjectUnit,
-) -> Result<Read, Memory> {
+) -> Result<Read, Memory>
+    ensures { IfOk result (λ r. AreCopies before.entry.replies.now r.0.items) }
+{
     let mut replies = Vec::new(alloc);
     for reply in before.replies {
         replies.push(reply.copy(alloc)?)?;
@@ -192,7 +223,9 @@ fn befores_of(
 }
 
 /// What the old project has of the unit at a place of the new order.
-fn before_of<'a>(old: &'a Checked, befores: &[Option<usize>], place: usize) -> Option<Before<'a>> {
+fn before_of<'a>(old: &'a Checked, befores: &[Option<usize>], place: usize) -> Option<Before<'a>>
+    ensures { (us : List UnitText) → IsMadeOf us old.now → IfSome result (λ b. AreComplete b.text.now b.replies.now) }
+{
     let place = (*befores.get(place)?)?;
     let source = old.sources.get(place)?;
     let unit = old.replies.units.get(place)?;

@@ -8,8 +8,8 @@ use Rattle.sml_units.specs.Checked.{IsReplyTo}
 use Rattle.sml_units.proofs.Replying.{accepted_step, unwarned}
 use Rattle.sml_units.proofs.project.answer.Goals as goal
 
-pub returns-in-Ok : goal.returns-in-Ok
-returns-in-Ok c = λ B basis.
+pub returns-in-Ok-clause-step : goal.returns-in-Ok-clause-step
+returns-in-Ok-clause-step c = λ B basis.
     let own = c.in-Ok.own in
     let d = dec_of c.args.dec.now in
     let reading = c.in-Ok.ensures.reading B basis in

@@ -8,10 +8,10 @@ use Rattle.sml_objects.specs.Initial.{naming}
 use Rattle.sml_objects.specs.Views.{maker_of}
 use Rattle.sml_rules.specs.Readings.{read_top, is_specified}
 use Rattle.sml_piece.specs.Elaborated.{IsBasisOf}
-use Rattle.sml_units.specs.Checked.{AreRepliesTo, IsReplyTo}
+use Rattle.sml_units.specs.Checked.{AreNumbered, AreRepliesTo, IsReplyTo}
 use Rattle.sml_units.specs.CodeUnits.{env_after}
 use Rattle.sml_units.specs.Runs.{Run, specified_beginning, exports, nothing}
-use Rattle.sml_units.proofs.Replying.{after_all, after_push, run_none, run_push, replies_push, beginning_all, beginning_cut_at, all_push, not_all, exports_none, exports_push, after_env}
+use Rattle.sml_units.proofs.Replying.{after_all, after_push, run_none, run_push, replies_push, numbered_push, beginning_all, beginning_cut_at, all_push, not_all, exports_none, exports_push, after_env}
 use Rattle.sml_units.proofs.project.answer_piece.Goals as goal
 
 pub loop-dec-init : goal.loop-dec-init
@@ -20,6 +20,7 @@ loop-dec-init c = (
   ap length c.new-replies.ensures.items,
   omega arith,
   λ B basis. ([], run_none (maker_of c.args.basis.unit) B, subst (AreRepliesTo 1 []) (sym c.new-replies.ensures.items) tt, basis, refl, c.empty-bound.ensures ∙ sym exports_none),
+  subst (AreNumbered 1) (sym c.new-replies.ensures.items) tt,
 )
 
 -- the declarations up to one more
@@ -46,7 +47,7 @@ loop-dec-preserved c =
       λ B basis.
           let w = v.3 B basis in
           let os = w.0 in
-          let step = c.in_ok-reply.ensures (after_all B os) w.3 in
+          let step = c.in_ok-reply.ensures.step (after_all B os) w.3 in
           let o = step.answer in
           let reading = subst (λ u. read_top naming first_place (maker_of u) (after_all B os) (dec_of x) o) w.4 step.reading in (
             os ++ o ∷ [],
@@ -56,6 +57,7 @@ loop-dec-preserved c =
             step.unit ∙ w.4,
             step.bound_is ∙ ap (λ E. env_after E o) w.5 ∙ sym (after_env (exports nothing os) o) ∙ sym (ap (λ S. S.body) (exports_push nothing os o)),
           ),
+      subst (AreNumbered 1) (sym c.in_ok-push.ensures.items) (numbered_push 1 rs.items c.in_ok-reply.reply v.4 (c.in_ok-reply.ensures.number ∙ number)),
     )
 
 pub returns-then-not-is_specified-clause-begun : goal.returns-then-not-is_specified-clause-begun

@@ -1,4 +1,5 @@
 use Rattle.std.proofs.Common.{IfOk, map, true, refl, sym, subst, ◌∙◌}
+use Rattle.sml_units.specs.Checked.{AreNumbered}
 use Rattle.sml_tree.specs.Views.{dec_of}
 use Rattle.sml_objects.specs.Initial.{initial_basis}
 use Rattle.sml_objects.specs.Views.{maker_of}
@@ -25,3 +26,6 @@ pub returns-in-None-clause-begun : goal.returns-in-None-clause-begun
 returns-in-None-clause-begun c = λ fs Ss ready.
     let given = subst (NeedsGive fs Ss c.args.needs.now c.in_ok-basis.basis.unit) c.in-None.is (c.in_ok-basis-2.ensures fs Ss ready.kept c.in_ok-basis.ensures.env c.in_ok-basis.ensures.names) in
     none_begun _ _ _ _ _ given c.new.ensures.items c.empty.ensures refl
+
+pub returns-in-None-clause-numbered : goal.returns-in-None-clause-numbered
+returns-in-None-clause-numbered c = subst (AreNumbered 1) (sym c.new.ensures.items) tt

@@ -2,3 +2,10 @@ pub mod Lengths
 pub mod Heads
 pub mod Streams
 pub mod Answers
+pub mod Texts
+pub mod Positions
+pub mod Documents
+pub mod Values
+pub mod Settings
+pub mod Paths
+pub mod Commands

@@ -1,6 +1,7 @@
 //! Frames: a head, and as many bytes as it tells.
 
-ghost use Rattle.std.specs.Prelude.{◌≡◌, ◌∷◌, ℕ, List, [], Option, IfOk, OnOk, codes, decimal, length, take, drop};
+ghost use Rattle.std.specs.Prelude.{◌≡◌, ◌∷◌, ◌==◌, ◌||◌, ℕ, List, [], Option, IfOk, OnOk, codes, decimal, length, not, take, drop};
+ghost use Rattle.std.specs.List.{list_any};
 ghost use Rattle.std.specs.Io.KnownBytes.{Keeps};
 ghost use Rattle.sml_reply.specs.Sinks.{Prints, in_turn};
 ghost use Rattle.sml_client.specs.Streams.{IsSkipped, IsTaken, IsTakenAfter, stream};
@@ -56,7 +57,9 @@ pub struct Held {
 }
 
 impl Held {
-    pub fn new(alloc: Global) -> Result<Held, Memory> {
+    pub fn new(alloc: Global) -> Result<Held, Memory>
+        ensures { IfOk result (λ h. h.bytes.items ≡ []) }
+    {
         Ok(Held {
             alloc,
             bytes: Vec::new(alloc),
@@ -65,13 +68,12 @@ impl Held {
     }
 
     /// Whether the beginning of another frame was read.
-    pub fn has_more(&self) -> bool {
-        for byte in self.bytes.as_slice() {
-            if *byte != b'\r' && *byte != b'\n' {
-                return true;
-            }
-        }
-        false
+    pub fn has_more(&self) -> bool
+        ensures { result ≡ list_any (λ b. not (b == 13 || b == 10)) self.now.bytes.items }
+    {
+        self.bytes
+            .iter()
+            .any(|byte| !(*byte == b'\r' || *byte == b'\n'))
     }
 
     /// Takes the first so many bytes, or all where there are fewer.

@@ -1,11 +1,13 @@
 //! Messages of JSON-RPC: what comes, and what is answered.
 
-ghost use Rattle.std.specs.Prelude.{◌≡◌, ◌≤◌, ◌++◌, ℕ, List, OnOk, codes, map};
-ghost use Rattle.serde_json.specs.Data.{depth};
+ghost use Rattle.std.specs.Prelude.{◌≡◌, ◌≤◌, ◌++◌, ℕ, List, None, OnOk, codes, map};
+ghost use Rattle.serde_json.specs.Data.{Data, depth};
+ghost use Rattle.serde_json.specs.Find.{get};
 ghost use Rattle.serde_json.specs.Read.{max_depth};
 ghost use Rattle.serde_json.specs.View.{view};
 ghost use Rattle.sml_reply.specs.Sinks.{in_turn};
-ghost use Rattle.sml_client.specs.Answers.{IsAnswered, message, notice};
+ghost use Rattle.sml_client.specs.Answers.{IsAnswered, message, notice, watch_json};
+ghost use Rattle.sml_client.specs.Values.{IsCallOf, can_be_id};
 
 use crate::frames::write_frame;
 use serde_json::Value;
@@ -59,7 +61,9 @@ pub enum Call<'a> {
 }
 
 /// What a message asks for. Where it has no parameters, these are none of the other's members.
-pub fn call_of<'a>(message: &'a Value, none: &'a Value) -> Call<'a> {
+pub fn call_of<'a>(message: &'a Value, none: &'a Value) -> Call<'a>
+    ensures { IsCallOf (view message.now) (view none.now) result }
+{
     let params = message.get("params").unwrap_or(none);
     let Some(method) = message.get("method") else {
         return other_call(message);
@@ -75,7 +79,9 @@ pub fn call_of<'a>(message: &'a Value, none: &'a Value) -> Call<'a> {
 }
 
 /// A message without a method: an answer, or something else.
-fn other_call<'a>(message: &Value) -> Call<'a> {
+fn other_call<'a>(message: &Value) -> Call<'a>
+    ensures { (none : Data) → get (codes "method") (view message.now) ≡ None → IsCallOf (view message.now) none result }
+{
     if message.get("result").is_some() || message.get("error").is_some() {
         Call::Answer
     } else {
@@ -84,7 +90,9 @@ fn other_call<'a>(message: &Value) -> Call<'a> {
 }
 
 /// Whether a value can be the id of a request.
-fn is_id(value: &Value) -> bool {
+fn is_id(value: &Value) -> bool
+    ensures { result ≡ can_be_id (view value.now) }
+{
     value.is_string() || value.is_number() || value.is_null()
 }
 
@@ -156,7 +164,9 @@ pub fn send_diagnostics(alloc: Global, params: &[u8], out: &mut VecOut) -> Resul
 }
 
 /// Asks the client to tell of files that change on disk.
-pub fn send_watch(out: &mut VecOut) -> Result<(), Memory> {
+pub fn send_watch(out: &mut VecOut) -> Result<(), Memory>
+    ensures { OnOk result (out.new.bytes.items ≡ out.old.bytes.items ++ message watch_json) }
+{
     let body: &[u8] =
         b"{\"jsonrpc\":\"2.0\",\"id\":\"watch\",\"method\":\"client/registerCapability\",\"params\":{\"registrations\":[{\"id\":\"watch\",\"method\":\"workspace/didChangeWatchedFiles\",\"registerOptions\":{\"watchers\":[{\"globPattern\":\"**/*.{sml,sig,fun,project}\"}]}}]}}";
     write(body, out)

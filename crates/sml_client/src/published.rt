@@ -1,7 +1,10 @@
 //! The diagnostics that the client was told of last.
 
-ghost use Rattle.std.specs.Prelude.{OnOk};
-ghost use Rattle.sml_client.specs.Answers.{OnlyTells, TellsOf};
+ghost use Rattle.std.specs.Prelude.{◌≡◌, ◌+◌, ◌-◌, ◌^◌, ℕ, IfOk, List, None, OnOk, min};
+ghost use Rattle.std.specs.BTreeMap.{get_by_text};
+ghost use Rattle.std.specs.Fmt.{signed_decimal};
+ghost use Rattle.sml_client.specs.Answers.{OnlyTells, TellsOf, params_json, version_member};
+ghost use Rattle.sml_client.specs.Texts.{Adds};
 
 use crate::messages::send_diagnostics;
 use crate::written::Text;
@@ -27,7 +30,10 @@ pub struct Published {
 }
 
 impl Published {
-    pub fn new(alloc: Global) -> Published {
+    pub fn new(alloc: Global) -> Published
+        ensures round { result.round ≡ 0 }
+        ensures told { (uri : List ℕ) → get_by_text result.told uri ≡ None }
+    {
         Published {
             round: 0,
             told: BTreeMap::new(alloc),
@@ -35,7 +41,10 @@ impl Published {
     }
 
     /// Begins a round, in which each file that has diagnostics is told of.
-    pub fn begin(&mut self) {
+    pub fn begin(&mut self)
+        ensures round { self.new.round ≡ min (self.old.round + 1) (2 ^ 64 - 1) }
+        ensures told { self.new.told ≡ self.old.told }
+    {
         self.round = self.round.saturating_add(1);
     }
 
@@ -116,14 +125,32 @@ pub fn params_text(
     uri: &str,
     version: Option<i64>,
     list: &[u8],
-) -> Result<Vec<u8>, Memory> {
+) -> Result<Vec<u8>, Memory>
+    ensures { IfOk result (λ v. v.items ≡ params_json uri.now version list.now) }
+{
     let mut text = Text::new(alloc);
     text.push_all(&[b"{\"diagnostics\":[", list, b"],\"uri\":"]);
     text.push_string(uri.as_bytes());
-    if let Some(version) = version {
-        let mut digits = Buffer::new();
-        text.push_all(&[b",\"version\":", digits.format(version).as_bytes()]);
-    }
+    push_version(&mut text, &version);
     text.push(b"}");
     text.finish()
+}
+
+/// Adds the version of a document, where it has one, as a further member of an object of JSON.
+fn push_version(text: &mut Text, version: &Option<i64>)
+    ensures { Adds text.old text.new (version_member version.now) }
+{
+    if let Some(number) = version {
+        text.push(b",\"version\":");
+        push_signed(text, number);
+    }
+}
+
+/// Adds the digits of a number, after a minus where it is less than 0.
+fn push_signed(text: &mut Text, number: &i64)
+    ensures { Adds text.old text.new (signed_decimal number.now) }
+{
+    let number = *number;
+    let mut digits = Buffer::new();
+    text.push(digits.format(number).as_bytes());
 }

@@ -1,6 +1,6 @@
 //! Where the bytes of messages come from.
 
-ghost use Rattle.std.specs.Prelude.{◌≤◌, ℕ, IfOk, List, Option, length};
+ghost use Rattle.std.specs.Prelude.{◌≡◌, ◌≤◌, ℕ, IfOk, List, Option, length};
 ghost use Rattle.std.specs.Io.KnownBytes.{ReadConsumes};
 
 use std::io::Read;
@@ -27,7 +27,9 @@ pub struct StdIn<R: Read> {
 }
 
 impl<R: Read> StdIn<R> {
-    pub fn new(reader: R) -> StdIn<R> {
+    pub fn new(reader: R) -> StdIn<R>
+        ensures { result.reader ≡ reader }
+    {
         StdIn { reader }
     }
 }

@@ -1,5 +1,10 @@
 //! Where texts are read: open documents stand in for their files.
 
+ghost use Rattle.std.specs.Prelude.{◌≡◌, IfOk, option_copied, take};
+ghost use Rattle.sml_client.specs.Documents.{at_path};
+ghost use Rattle.sml_client.specs.Paths.{normal_path};
+ghost use Rattle.sml_serve.specs.Overlaid.{overlaid};
+
 use sml_client::documents::{Document, Documents};
 use sml_client::paths::normal;
 use sml_lex::fault::Memory;
@@ -69,12 +74,17 @@ pub struct Overlay<'a, S> {
 }
 
 impl<'a, S> Overlay<'a, S> {
-    pub fn new(documents: &'a Documents, files: &'a mut S) -> Overlay<'a, S> {
+    pub fn new(documents: &'a Documents, files: &'a mut S) -> Overlay<'a, S>
+        ensures documents { result.documents.now ≡ documents.now }
+        ensures files { result.files.now ≡ files.old }
+    {
         Overlay { documents, files }
     }
 }
 
 impl<S: Source> Source for Overlay<'_, S> {
+    ghost gives = { λ s path most text. overlaid s.documents.now (S.gives s.files.now) path most text };
+
     fn read(&mut self, alloc: Global, path: &str, most: usize) -> Result<Vec<u8>, SourceFault> {
         match self.open_at(alloc, path) {
             Ok(Some(document)) => first_bytes(alloc, document.text.as_slice(), most),
@@ -86,14 +96,18 @@ impl<S: Source> Source for Overlay<'_, S> {
 
 impl<S> Overlay<'_, S> {
     /// The open document at a path.
-    fn open_at(&self, alloc: Global, path: &str) -> Result<Option<&Document>, Memory> {
+    fn open_at(&self, alloc: Global, path: &str) -> Result<Option<&Document>, Memory>
+        ensures { IfOk result (λ o. option_copied o ≡ at_path self.now.documents.now (normal_path path.now)) }
+    {
         let name = normal(alloc, path)?;
         Ok(self.documents.get(&name))
     }
 }
 
 /// The first so many bytes.
-fn first_bytes(alloc: Global, text: &[u8], most: usize) -> Result<Vec<u8>, SourceFault> {
+fn first_bytes(alloc: Global, text: &[u8], most: usize) -> Result<Vec<u8>, SourceFault>
+    ensures { IfOk result (λ v. v.items ≡ take most text.now) }
+{
     match Vec::from_slice(alloc, &text[..most.min(text.len())]) {
         Ok(bytes) => Ok(bytes),
         Err(_) => Err(SourceFault::Memory),

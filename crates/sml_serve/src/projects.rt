@@ -1,5 +1,9 @@
 //! The project file: where it is, what it lists, and its fault.
 
+ghost use Rattle.std.specs.Prelude.{IfOk, map};
+ghost use Rattle.std.specs.String.{string_bytes};
+ghost use Rattle.sml_serve.specs.Overlaid.{ArePathsOf, IsListing, IsOutcome, IsPathOf, files_in, overlaid};
+
 use crate::files::{Folders, Overlay};
 use sml_client::documents::Documents;
 use sml_client::paths::joined;
@@ -83,7 +87,9 @@ pub fn read_listed<S: Source>(
     documents: &Documents,
     files: &mut S,
     path: &str,
-) -> Result<Outcome, Memory> {
+) -> Result<Outcome, Memory>
+    ensures { IfOk result (IsOutcome (overlaid documents.now (S.gives files.old)) path.now) }
+{
     let mut source = Overlay::new(documents, files);
     match read_project(alloc, &mut source, path) {
         Ok(listed) => listed_at(alloc, path, listed),
@@ -92,7 +98,9 @@ pub fn read_listed<S: Source>(
 }
 
 /// A project with the paths of its units' files.
-fn listed_at(alloc: Global, path: &str, listed: Listed) -> Result<Outcome, Memory> {
+fn listed_at(alloc: Global, path: &str, listed: Listed) -> Result<Outcome, Memory>
+    ensures { IfOk result (IsListing path.now listed) }
+{
     let paths = unit_paths(alloc, path, &listed)?;
     Ok(Outcome::Project(listed, paths))
 }
@@ -182,7 +190,9 @@ fn third_word(line: &[u8]) -> Option<&[u8]> {
 }
 
 /// The paths of the files of a project's units, in their order.
-fn unit_paths(alloc: Global, project: &str, listed: &Listed) -> Result<Vec<String>, Memory> {
+fn unit_paths(alloc: Global, project: &str, listed: &Listed) -> Result<Vec<String>, Memory>
+    ensures { IfOk result (λ paths. ArePathsOf project.now (files_in listed.now) (map string_bytes paths.items)) }
+{
     let mut paths = Vec::new(alloc);
     for unit in listed.project.units.as_slice() {
         paths.push(path_in(alloc, project, listed.file_of(unit))?)?;
@@ -191,7 +201,9 @@ fn unit_paths(alloc: Global, project: &str, listed: &Listed) -> Result<Vec<Strin
 }
 
 /// The path of a file that a project names.
-fn path_in(alloc: Global, project: &str, file: &str) -> Result<String, Memory> {
+fn path_in(alloc: Global, project: &str, file: &str) -> Result<String, Memory>
+    ensures { IfOk result (λ path. IsPathOf project.now file.now (string_bytes path)) }
+{
     let written = unit_path(alloc, project, file)?;
     joined(alloc, "", &written)
 }

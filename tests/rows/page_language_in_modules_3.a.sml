@@ -1,1 +1,2 @@
-structure S : sig type 'a t = 'a list end = struct type ''a t = ''a list end
+signature S = sig type t = int end
+signature T = sig structure A : S structure B : S sharing A = B end

@@ -1,1 +1,1 @@
-structure R :> sig val r : int list ref end = struct val r = ref nil end
+structure S : sig type 'a t = 'a list end = struct type ''a t = ''a list end

@@ -1,1 +1,1 @@
-structure S = struct signature T = sig end end
+structure R :> sig val r : int list ref end = struct val r = ref nil end

@@ -1,0 +1,1 @@
+structure S = struct signature T = sig end end

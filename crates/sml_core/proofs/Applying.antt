@@ -22,7 +22,6 @@ use Rattle.sml_core_rules.specs.States.{State, Window}
 use Rattle.sml_core_rules.specs.Values.{applied, apply_general, require_equal}
 use Rattle.sml_core_rules.specs.Expressions.{read_exp}
 use Rattle.sml_core_rules.specs.Patterns.{constant_type}
-use Rattle.sml_scopes.specs.Means.{Means}
 use Rattle.sml_types.specs.declared.fault.CoreFault.{CoreFault}
 use Rattle.sml_types.specs.declared.fault.CoreFault.TheVariants as F
 use Rattle.sml_asks.specs.Solvers.{IsTypeIn}
@@ -33,7 +32,7 @@ use Rattle.sml_objects.specs.Views.{label_list, name_of, row_of}
 use Rattle.sml_objects.specs.declared.labels.Labels.{Labels}
 use Rattle.sml_objects.specs.declared.objects.TyName.{TyName}
 use Rattle.sml_objects.specs.declared.objects.MlType.TheViews as V
-use Rattle.sml_core.proofs.Sequences.{no-later, values-later, type-later, then-reaches, then-refused, first-refused}
+use Rattle.sml_core.proofs.Sequences.{keeps-all, no-later, sees-after, type-later, then-reaches, then-refused, first-refused}
 
 -- the parts of an arrow
 
@@ -41,7 +40,7 @@ arrow-parts : (n : ℕ) (P : Name → Type 0) (t u : MlType Name) → IsOver n (
 unfolding IsOver AreOver Mentions AllMention
 arrow-parts n P t u k = ((k.0.0, k.1.1.0), (k.0.1.0, k.1.1.1.0))
 
-arrow-of-parts : (n : ℕ) (P : Name → Type 0) (t u : MlType Name) → IsOver n t × Mentions P t → IsOver n u × Mentions P u → IsOver n (arrow_of t u) × Mentions P (arrow_of t u)
+pub arrow-of-parts : (n : ℕ) (P : Name → Type 0) (t u : MlType Name) → IsOver n t × Mentions P t → IsOver n u × Mentions P u → IsOver n (arrow_of t u) × Mentions P (arrow_of t u)
 unfolding IsOver AreOver Mentions AllMention
 arrow-of-parts n P t u k l = ((k.0, (l.0, tt)), (tt, (k.1, (l.1, tt))))
 
@@ -49,7 +48,7 @@ arrow-of-parts n P t u k l = ((k.0, (l.0, tt)), (tt, (k.1, (l.1, tt))))
 module _ {X : Type 0} (around : Window Place Name) (c : Context) (s : State Place Name) (is : IsAt around c s) (x : X) where
   pub given-reaches : Reaches around c (give x) s c x s
   unfolding IsAnswer
-  given-reaches = record { answer = refl; at = is; unit = refl; scopes = refl; later = no-later s }
+  given-reaches = record { answer = refl; at = is; unit = refl; seen = keeps-all; later = no-later s }
 
 -- a written arrow
 
@@ -154,28 +153,28 @@ module _ (old new : Context) (p : Place) (t : P.MlType) (from to : Rc P.MlType G
 
 pub function-refused : (old new : Context) (p : Place) (g e : Exp Place) (f : CoreFault) → Reads old g new (Err f) → Reads old (apply p g e) new (Err f)
 unfolding Reads IsPlain read_exp
-function-refused old new p g e F.Memory reads = λ h C vs around s is means known. tt
-function-refused old new p g e (F.Fault f) reads = λ h C vs around s is means known.
-    first-refused old (read_exp (run_scope (unit_of old)) C vs g) (λ t. read_exp (run_scope (unit_of old)) C vs e >>= λ a. applied p t a) s (fault_of f) (reads h.0 C vs around s is means known)
+function-refused old new p g e F.Memory reads = λ h C vs around s is sees. tt
+function-refused old new p g e (F.Fault f) reads = λ h C vs around s is sees.
+    first-refused old (read_exp (run_scope (unit_of old)) C vs g) (λ t. read_exp (run_scope (unit_of old)) C vs e >>= λ a. applied p t a) s (fault_of f) (reads h.0 C vs around s is sees)
 
 module _ (old mid last : Context) (p : Place) (g e : Exp Place) (function argument : Rc P.MlType Global) (reads : Reads old g mid (Ok function)) where
   pub argument-refused : (f : CoreFault) → Reads mid e last (Err f) → Reads old (apply p g e) last (Err f)
   unfolding Reads IsPlain read_exp
-  argument-refused F.Memory more = λ h C vs around s is means known. tt
-  argument-refused (F.Fault f) more = λ h C vs around s is means known.
-      let m = reads h.0 C vs around s is means known in
+  argument-refused F.Memory more = λ h C vs around s is sees. tt
+  argument-refused (F.Fault f) more = λ h C vs around s is sees.
+      let m = reads h.0 C vs around s is sees in
       let t = type_of function.value in
       then-refused around old mid (read_exp (run_scope (unit_of old)) C vs g) (λ t. read_exp (run_scope (unit_of old)) C vs e >>= λ a. applied p t a) s m.0 t m.1 (fault_of f)
       (first-refused mid (read_exp (run_scope (unit_of old)) C vs e) (λ a. applied p t a) m.0 (fault_of f)
-      (subst (λ u. IsAnswer (run_scope (unit_of mid)) (read_exp (run_scope u) C vs e) m.0 (refused (fault_of f))) m.1.unit (more h.1 C vs around m.0 m.1.at (subst (λ (z : _). Means z C) (sym m.1.scopes) means) (values-later s m.0 m.1.later C known))))
+      (subst (λ u. IsAnswer (run_scope (unit_of mid)) (read_exp (run_scope u) C vs e) m.0 (refused (fault_of f))) m.1.unit (more h.1 C vs around m.0 m.1.at (sees-after m.1 sees))))
 
   module _ (new : Context) (more : Reads mid e last (Ok argument)) where
     pub application-read : (result : Result (Rc P.MlType Global) CoreFault) → Applies last p (type_of function.value) (type_of argument.value) new result → Reads old (apply p g e) new result
     unfolding Reads IsPlain read_exp Applies
-    application-read (Err F.Memory) applies = λ h C vs around s is means known. tt
-    application-read (Err (F.Fault f)) applies = λ h C vs around s is means known.
-        let m = reads h.0 C vs around s is means known in
-        let n = more h.1 C vs around m.0 m.1.at (subst (λ (z : _). Means z C) (sym m.1.scopes) means) (values-later s m.0 m.1.later C known) in
+    application-read (Err F.Memory) applies = λ h C vs around s is sees. tt
+    application-read (Err (F.Fault f)) applies = λ h C vs around s is sees.
+        let m = reads h.0 C vs around s is sees in
+        let n = more h.1 C vs around m.0 m.1.at (sees-after m.1 sees) in
         let t = type_of function.value in
         let a = type_of argument.value in
         let q = applies around n.0 n.1.at (type-later m.0 n.0 n.1.later t m.2) n.2 in
@@ -183,9 +182,9 @@ module _ (old mid last : Context) (p : Place) (g e : Exp Place) (function argume
         subst (λ u. Reaches around mid (read_exp (run_scope u) C vs e) m.0 last a n.0) m.1.unit n.1 in
         then-refused around old mid (read_exp (run_scope (unit_of old)) C vs g) (λ t. read_exp (run_scope (unit_of old)) C vs e >>= λ a. applied p t a) s m.0 t m.1 (fault_of f)
         (then-refused around mid last (read_exp (run_scope (unit_of old)) C vs e) (λ a. applied p t a) m.0 n.0 a second (fault_of f) q)
-    application-read (Ok result) applies = λ h C vs around s is means known.
-        let m = reads h.0 C vs around s is means known in
-        let n = more h.1 C vs around m.0 m.1.at (subst (λ (z : _). Means z C) (sym m.1.scopes) means) (values-later s m.0 m.1.later C known) in
+    application-read (Ok result) applies = λ h C vs around s is sees.
+        let m = reads h.0 C vs around s is sees in
+        let n = more h.1 C vs around m.0 m.1.at (sees-after m.1 sees) in
         let t = type_of function.value in
         let a = type_of argument.value in
         let q = applies around n.0 n.1.at (type-later m.0 n.0 n.1.later t m.2) n.2 in
@@ -201,7 +200,7 @@ module _ (old mid last : Context) (p : Place) (g e : Exp Place) (function argume
 
 pub constant-read : (old : Context) (p : Place) (c : Constant) (t : Rc P.MlType Global) → type_of t.value ≡ constant_type naming c.kind → Reads old (constant p c) old (Ok t)
 unfolding Reads read_exp IsOver AreOver Mentions AllMention naming
-constant-read old p c t e = λ h C vs around s is means known.
+constant-read old p c t e = λ h C vs around s is sees.
     (s, subst (λ u. Reaches around old (give (constant_type naming c.kind)) s old u s) (sym e) (given-reaches around old s is (constant_type naming c.kind)), subst (IsTypeIn s.made s.names) (sym e) (go c.kind is))
   where
     go : {s : State Place Name} {around : Window Place Name} (k : ConstantKind) → IsAt around old s → IsTypeIn s.made s.names (constant_type naming k)
@@ -221,7 +220,7 @@ bracket-read old new p e (Err (F.Fault f)) reads = reads
 
 pub read-memory : (old new : Context) (e : Exp Place) → Reads old e new (Err F.Memory)
 unfolding Reads
-read-memory old new e = λ h C vs around s is means known. tt
+read-memory old new e = λ h C vs around s is sees. tt
 
 pub applied-memory : (old new : Context) (p : Place) (t a : MlType Name) → Applies old p t a new (Err F.Memory)
 unfolding Applies

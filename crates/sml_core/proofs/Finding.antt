@@ -30,10 +30,11 @@ use Rattle.sml_types.specs.Answered.{IsAnswer, IsFault}
 use Rattle.sml_types.specs.declared.fault.CoreFault.{CoreFault}
 use Rattle.sml_types.specs.declared.fault.CoreFault.TheVariants as F
 use Rattle.sml_core.specs.declared.context.Context.{Context}
-use Rattle.sml_core.specs.Answered.{AreValuesIn, FindsValue, MakesInstance, Reads, Types, unit_of}
+use Rattle.sml_core.specs.Answered.{FindsValue, MakesInstance, Reads, Types, unit_of}
+use Rattle.sml_core.specs.Seen.{AreValuesIn}
 use Rattle.sml_core.proofs.Applying.{read-memory}
 
-need-found : {X : Type 0} (c : Code) (p : Place) (x : LongId) (r : Found X) (v : X) → need c p x r ≡ accepted v → r ≡ found v
+pub need-found : {X : Type 0} (c : Code) (p : Place) (x : LongId) (r : Found X) (v : X) → need c p x r ≡ accepted v → r ≡ found v
 need-found c p x (found w) v e = cc
 need-found c p x (no_path s) v e = absurd cc
 need-found c p x no_entry v e = absurd cc
@@ -42,15 +43,15 @@ module _ (old new : Context) (p : Place) (x : LongName Place) (result : Result (
   pub identifier-read : (v : Value Name) → ((C : Env Name) → Means old.scopes C → need E1 x.place x.id (value_at C x.id) ≡ accepted v) → MakesInstance old p v new result
       → Reads old (name p x) new result
   unfolding Reads MakesInstance AreValuesIn read_exp ◌>>=◌
-  identifier-read v finds makes = λ h C vs around s is means known.
-      subst (λ a. Types around old (look a >>= λ v. instance p v) s new result) (sym (finds C means))
-      (makes around s is (known x.id v (need-found E1 x.place x.id (value_at C x.id) v (finds C means))))
+  identifier-read v finds makes = λ h C vs around s is sees.
+      subst (λ a. Types around old (look a >>= λ v. instance p v) s new result) (sym (finds C sees.means))
+      (makes around s is (sees.values x.id v (need-found E1 x.place x.id (value_at C x.id) v (finds C sees.means))))
 
 pub identifier-unbound : (old new : Context) (p : Place) (x : LongName Place) (f : Fault) → ((C : Env Name) → Means old.scopes C → need E1 x.place x.id (value_at C x.id) ≡ refused (fault_of f))
     → Reads old (name p x) new (Err (F.Fault f))
 unfolding Reads S.IsAnswer read_exp ◌>>=◌
-identifier-unbound old new p x f finds = λ h C vs around s is means known.
-    subst (λ a. S.IsAnswer (run_scope (unit_of old)) (look a >>= λ v. instance p v) s (refused (fault_of f))) (sym (finds C means)) refl
+identifier-unbound old new p x f finds = λ h C vs around s is sees.
+    subst (λ a. S.IsAnswer (run_scope (unit_of old)) (look a >>= λ v. instance p v) s (refused (fault_of f))) (sym (finds C sees.means)) refl
 
 pub identifier-not : (old new : Context) (p : Place) (x : LongName Place) (f : CoreFault) → ((C : Env Name) → Means old.scopes C → IsAnswer value_of (Err f) (need E1 x.place x.id (value_at C x.id)))
     → Reads old (name p x) new (Err f)

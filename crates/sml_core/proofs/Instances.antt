@@ -36,8 +36,9 @@ use Rattle.sml_asks.specs.Solvers.{IsTypeIn}
 use Rattle.sml_asks.specs.Steps.{Answers, Asks, Instantiates}
 use Rattle.sml_asks.proofs.Stepping.{ask-answer}
 use Rattle.sml_core.specs.declared.context.Context.{Context}
-use Rattle.sml_core.specs.Answered.{IsAt, Reaches, Does, unit_of, AsksAttributes, AsksStatus, WhereOverloaded, IsValueIn, MakesInstance}
-use Rattle.sml_core.proofs.Sequences.{type-later, then-reaches, then-refused, first-refused}
+use Rattle.sml_core.specs.Answered.{IsAt, Reaches, Does, unit_of, AsksAttributes, AsksStatus, MakesInstance}
+use Rattle.sml_core.specs.Seen.{IsValueIn, WhereOverloaded}
+use Rattle.sml_core.proofs.Sequences.{keeps-more, type-later, then-reaches, then-refused, first-refused}
 use Rattle.sml_core.proofs.Steps.{asked_with, demanded, refused-so}
 use Rattle.sml_core.proofs.Applying.{given-reaches}
 
@@ -76,7 +77,7 @@ attributes-more old mid new p k m es fs result e first then = λ around s is le.
         answer = more-asked (unit_of old) p fs t (accepted (tt, rest.0)) m (subst (λ u. IsAnswer (run_scope u) (require_attributes p m fs) t (accepted (tt, rest.0))) q.unit rest.1.answer) k es s e q.answer;
         at = rest.1.at;
         unit = rest.1.unit ∙ q.unit;
-        scopes = rest.1.scopes ∙ q.scopes;
+        seen = keeps-more q.seen rest.1.seen;
         later = record { made = omega (arith, q.later.made, rest.1.later.made); names = λ n h. rest.1.later.names n (q.later.names n h) };
       },
       tt,
@@ -163,7 +164,7 @@ module _ (old : Context) (p : Place) (k : ℕ) (solver : Asked) where
             quiet = is.quiet;
           };
           unit = refl;
-          scopes = refl;
+          seen = record { means = λ C h. h; around = λ C m h. h; scoped = λ vs h. h };
           later = record { made = omega arith; names = λ n h. h };
         }),
         tt,
@@ -222,7 +223,7 @@ module _ (old mid last : Context) (p : Place) (v : Value Name) (solver : Asked) 
           answer = refl;
           at = record { solver = m.1; rows = is.rows; overloaded = is.overloaded; quiet = is.quiet };
           unit = refl;
-          scopes = refl;
+          seen = record { means = λ C h. h; around = λ C m h. h; scoped = λ vs h. h };
           later = record { made = omega arith; names = λ n h. h };
         })
 

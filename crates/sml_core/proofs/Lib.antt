@@ -7,3 +7,16 @@ pub mod Tuples
 pub mod Rows
 pub mod Raising
 pub mod Views
+pub mod Associating
+pub mod BoundVariables
+pub mod Opening
+pub mod Limiting
+pub mod Matches
+pub mod Lost
+pub mod Constraints
+pub mod Binding
+pub mod Layered
+pub mod PatternViews
+pub mod PatternRows
+pub mod PatternLists
+pub mod PatternForms

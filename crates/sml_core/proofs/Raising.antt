@@ -15,7 +15,7 @@ use Rattle.sml_layers.specs.Demands.{Mentions, AllMention}
 use Rattle.sml_graph.specs.Interned.{IsOver, AreOver}
 use Rattle.sml_rules.specs.Answers.{refused}
 use Rattle.sml_core_rules.specs.Scopes.{run_scope}
-use Rattle.sml_core_rules.specs.Scripts.{Script, IsAnswer, new_unknown, ◌>>=◌}
+use Rattle.sml_core_rules.specs.Scripts.{IsAnswer, new_unknown, ◌>>=◌}
 use Rattle.sml_core_rules.specs.States.{State, Window}
 use Rattle.sml_core_rules.specs.Values.{require_equal}
 use Rattle.sml_core_rules.specs.Expressions.{exn_type, read_exp}
@@ -23,7 +23,7 @@ use Rattle.sml_types.specs.declared.fault.CoreFault.{CoreFault}
 use Rattle.sml_types.specs.declared.fault.CoreFault.TheVariants as F
 use Rattle.sml_asks.specs.Solvers.{IsTypeIn}
 use Rattle.sml_core.specs.declared.context.Context.{Context}
-use Rattle.sml_core.specs.Answered.{IsAt, Types, Reaches, unit_of, MakesUnknown, Equates, Raises, IsPlain, Reads}
+use Rattle.sml_core.specs.Answered.{IsAt, Reaches, unit_of, MakesUnknown, Equates, Raises, IsPlain, Reads}
 use Rattle.sml_core.proofs.Sequences.{then-reaches, then-refused, first-refused}
 
 pub raises-memory : (old new : Context) (p : Place) (t : MlType Name) → Raises old p t new (Err F.Memory)
@@ -58,21 +58,21 @@ module _ (old mid : Context) (p : Place) (t : MlType Name) (exception : P.MlType
 
 pub raise-refused : (old new : Context) (p : Place) (e : Exp Place) (f : CoreFault) → Reads old e new (Err f) → Reads old (raise p e) new (Err f)
 unfolding Reads IsPlain read_exp
-raise-refused old new p e F.Memory reads = λ h C vs around s is means known. tt
-raise-refused old new p e (F.Fault f) reads = λ h C vs around s is means known.
+raise-refused old new p e F.Memory reads = λ h C vs around s is sees. tt
+raise-refused old new p e (F.Fault f) reads = λ h C vs around s is sees.
     let scope = run_scope (unit_of old) in
-    first-refused old (read_exp scope C vs e) (λ t. require_equal p t (exn_type scope) >>= λ u. new_unknown) s (fault_of f) (reads h C vs around s is means known)
+    first-refused old (read_exp scope C vs e) (λ t. require_equal p t (exn_type scope) >>= λ u. new_unknown) s (fault_of f) (reads h C vs around s is sees)
 
 pub raise-read : (old mid new : Context) (p : Place) (e : Exp Place) (t : Rc P.MlType Global) (result : Result (Rc P.MlType Global) CoreFault) → Reads old e mid (Ok t) → Raises mid p (type_of t.value) new result
     → Reads old (raise p e) new result
 unfolding Reads IsPlain read_exp Raises
-raise-read old mid new p e t (Err F.Memory) reads raises = λ h C vs around s is means known. tt
-raise-read old mid new p e t (Err (F.Fault f)) reads raises = λ h C vs around s is means known.
+raise-read old mid new p e t (Err F.Memory) reads raises = λ h C vs around s is sees. tt
+raise-read old mid new p e t (Err (F.Fault f)) reads raises = λ h C vs around s is sees.
     let scope = run_scope (unit_of old) in
-    let m = reads h C vs around s is means known in
+    let m = reads h C vs around s is sees in
     then-refused around old mid (read_exp scope C vs e) (λ t. require_equal p t (exn_type scope) >>= λ u. new_unknown) s m.0 (type_of t.value) m.1 (fault_of f) (raises around m.0 m.1.at m.2)
-raise-read old mid new p e t (Ok b) reads raises = λ h C vs around s is means known.
+raise-read old mid new p e t (Ok b) reads raises = λ h C vs around s is sees.
     let scope = run_scope (unit_of old) in
-    let m = reads h C vs around s is means known in
+    let m = reads h C vs around s is sees in
     let n = raises around m.0 m.1.at m.2 in
     (n.0, then-reaches around old mid (read_exp scope C vs e) (λ t. require_equal p t (exn_type scope) >>= λ u. new_unknown) s m.0 (type_of t.value) m.1 new (type_of b.value) n.0 n.1, n.2)

@@ -1,5 +1,5 @@
 -- Fields that are read one after the other, and rows of them.
-use Rattle.std.proofs.Common.{◌≡◌, ℕ, Result, Ok, Err, List, [], ◌∷◌, ◌++◌, map, ap, subst, sym, refl, ◌∙◌, arith}
+use Rattle.std.proofs.Common.{◌≡◌, ℕ, Ok, Err, List, [], ◌∷◌, ◌++◌, map, subst, sym, refl, ◌∙◌, arith}
 use Rattle.std.specs.Global.{Global}
 use Rattle.std.specs.List.{AllByRecursion}
 use Rattle.std.specs.declared.cmp.Ordering.{Ordering}
@@ -25,22 +25,20 @@ use Rattle.sml_rules.specs.Answers.{accepted, refused}
 use Rattle.sml_rules.proofs.Sound.{accepted_same}
 use Rattle.sml_core_rules.specs.Objects.{Env}
 use Rattle.sml_core_rules.specs.Scopes.{run_scope}
-use Rattle.sml_core_rules.specs.Scripts.{IsAnswer, give, ◌>>=◌}
-use Rattle.sml_core_rules.specs.States.{Scope, State, Window}
-use Rattle.sml_core_rules.specs.Types as T
+use Rattle.sml_core_rules.specs.Scripts.{IsAnswer, give}
+use Rattle.sml_core_rules.specs.States.{Scope, State}
 use Rattle.sml_core_rules.specs.Types.{put_field, row_of}
 use Rattle.sml_core_rules.specs.Expressions.{read_exp, read_fields}
 use Rattle.sml_core_rules.proofs.Accepted.{bind-accepted, bind-joined}
 use Rattle.sml_core_rules.proofs.Refused.{bind-refused}
-use Rattle.sml_scopes.specs.Means.{Means}
 use Rattle.sml_types.specs.Rows.{LabelKey, fields_of as row_fields}
 use Rattle.sml_types.specs.declared.fault.CoreFault.{CoreFault}
 use Rattle.sml_types.specs.declared.fault.CoreFault.TheVariants as F
 use Rattle.sml_asks.specs.Solvers.{IsTypeIn}
 use Rattle.sml_core.specs.declared.context.Context.{Context}
-use Rattle.sml_core.specs.Answered.{IsAt, IsLater, Reaches, AnswersAs, AreValuesIn, IsPlain, ArePlainFields, Reads, ReadsFields, AreFieldsIn, Row, unit_of}
+use Rattle.sml_core.specs.Answered.{IsLater, Reaches, IsPlain, ArePlainFields, Reads, ReadsFields, AreFieldsIn, Row, unit_of}
 use Rattle.sml_core.proofs.Applying.{given-reaches}
-use Rattle.sml_core.proofs.Sequences.{values-later, type-later, then-reaches, first-refused}
+use Rattle.sml_core.proofs.Sequences.{keeps-more, sees-after, type-later, then-reaches, first-refused}
 
 -- the types of the fields of a map
 abbrev pub row_types : List (LabelKey × Rc P.MlType Global) → Row
@@ -93,11 +91,11 @@ field-at (E.field n x ∷ xs) l e ys h = field-at xs l e ys h.1
 
 -- types of fields that speak of what was made
 
-fields-later : (s t : State Place Name) → IsLater s t → (r : Row) → AreFieldsIn r s → AreFieldsIn r t
+pub fields-later : (s t : State Place Name) → IsLater s t → (r : Row) → AreFieldsIn r s → AreFieldsIn r t
 fields-later s t l [] a = tt
 fields-later s t l (f ∷ fs) a = (type-later s t l f.1 a.0, fields-later s t l fs a.1)
 
-put-in : (s : State Place Name) (l : Id) (t : MlType Name) (r : Row) → AreFieldsIn r s → IsTypeIn s.made s.names t → AreFieldsIn (put_field l t r) s
+pub put-in : (s : State Place Name) (l : Id) (t : MlType Name) (r : Row) → AreFieldsIn r s → IsTypeIn s.made s.names t → AreFieldsIn (put_field l t r) s
 put-in s l t [] a k = (k, tt)
 put-in s l t (f ∷ fs) a k = go (label_order l f.0) (put-in s l t fs a.1 k)
   where
@@ -106,12 +104,12 @@ put-in s l t (f ∷ fs) a k = go (label_order l f.0) (put-in s l t fs a.1 k)
     go Equal rest = (k, a.1)
     go Greater rest = (a.0, rest)
 
-row-over : (k : ℕ) (ns : List Name) (r : Row) → AllByRecursion (λ f. IsTypeIn k ns f.1) r → AreOver k (types_of (map (λ f. f.1) r))
+pub row-over : (k : ℕ) (ns : List Name) (r : Row) → AllByRecursion (λ f. IsTypeIn k ns f.1) r → AreOver k (types_of (map (λ f. f.1) r))
 unfolding AreOver
 row-over k ns [] a = tt
 row-over k ns (f ∷ fs) a = (a.0.0, row-over k ns fs a.1)
 
-row-mentions : (s : State Place Name) (r : Row) → AreFieldsIn r s → AllMention (λ n. Stands n s.names) (types_of (map (λ f. f.1) r))
+pub row-mentions : (s : State Place Name) (r : Row) → AreFieldsIn r s → AllMention (λ n. Stands n s.names) (types_of (map (λ f. f.1) r))
 unfolding AllMention
 row-mentions s [] a = tt
 row-mentions s (f ∷ fs) a = (a.0.1, row-mentions s fs a.1)
@@ -120,15 +118,15 @@ row-mentions s (f ∷ fs) a = (a.0.1, row-mentions s fs a.1)
 
 pub no-field-read : (c : Context) → ReadsFields (λ (r : Row). r) c E.no_field c (Ok [])
 unfolding ReadsFields read_fields
-no-field-read c = λ h C vs around s is means known. (s, given-reaches around c s is [], tt)
+no-field-read c = λ h C vs around s is sees. (s, given-reaches around c s is [], tt)
 
 module _ (old mid last : Context) (es : List (E.Field Place)) (r : Row) (l : Named Place) (e : E.Exp Place) (reads : ReadsFields (λ (r : Row). r) old (fields_of es) mid (Ok r)) where
   pub one-field-more : (t : Rc P.MlType Global) → Reads mid e last (Ok t) → ReadsFields (λ (r : Row). r) old (fields_of (es ++ E.field l e ∷ [])) last (Ok (put_field l.id (type_of t.value) r))
   unfolding ReadsFields Reads
-  one-field-more t more = λ h C vs around s is means known.
+  one-field-more t more = λ h C vs around s is sees.
       let unit = unit_of old in
-      let m = reads (fields-front es (E.field l e ∷ []) h) C vs around s is means known in
-      let n = more (field-at es l e [] h) C vs around m.0 m.1.at (subst (λ (z : _). Means z C) (sym m.1.scopes) means) (values-later s m.0 m.1.later C known) in
+      let m = reads (fields-front es (E.field l e ∷ []) h) C vs around s is sees in
+      let n = more (field-at es l e [] h) C vs around m.0 m.1.at (sees-after m.1 sees) in
       let second : IsAnswer (run_scope unit) (read_exp (run_scope unit) C vs e) m.0 (accepted (type_of t.value, n.0)) =
       subst (λ u. IsAnswer (run_scope u) (read_exp (run_scope u) C vs e) m.0 (accepted (type_of t.value, n.0))) m.1.unit n.1.answer in (
         n.0,
@@ -136,7 +134,7 @@ module _ (old mid last : Context) (es : List (E.Field Place)) (r : Row) (l : Nam
           answer = next-field (run_scope unit) C vs es l e [] r s m.0 n.0 (type_of t.value) m.1.answer second;
           at = n.1.at;
           unit = n.1.unit ∙ m.1.unit;
-          scopes = n.1.scopes ∙ m.1.scopes;
+          seen = keeps-more m.1.seen n.1.seen;
           later = record { made = omega (arith, m.1.later.made, n.1.later.made); names = λ x h. n.1.later.names x (m.1.later.names x h) };
         },
         put-in n.0 l.id (type_of t.value) r (fields-later m.0 n.0 n.1.later r m.2) n.2,
@@ -144,18 +142,18 @@ module _ (old mid last : Context) (es : List (E.Field Place)) (r : Row) (l : Nam
 
   pub one-field-refused : {Y : Type 0} (view : Y → Row) (rest : List (E.Field Place)) (f : CoreFault) → Reads mid e last (Err f) → ReadsFields view old (fields_of (es ++ E.field l e ∷ rest)) last (Err f)
   unfolding ReadsFields Reads
-  one-field-refused view rest F.Memory more = λ h C vs around s is means known. tt
-  one-field-refused view rest (F.Fault f) more = λ h C vs around s is means known.
+  one-field-refused view rest F.Memory more = λ h C vs around s is sees. tt
+  one-field-refused view rest (F.Fault f) more = λ h C vs around s is sees.
       let unit = unit_of old in
-      let m = reads (fields-front es (E.field l e ∷ rest) h) C vs around s is means known in
-      let n = more (field-at es l e rest h) C vs around m.0 m.1.at (subst (λ (z : _). Means z C) (sym m.1.scopes) means) (values-later s m.0 m.1.later C known) in
+      let m = reads (fields-front es (E.field l e ∷ rest) h) C vs around s is sees in
+      let n = more (field-at es l e rest h) C vs around m.0 m.1.at (sees-after m.1 sees) in
       let second : IsAnswer (run_scope unit) (read_exp (run_scope unit) C vs e) m.0 (refused (fault_of f)) =
       subst (λ u. IsAnswer (run_scope u) (read_exp (run_scope u) C vs e) m.0 (refused (fault_of f))) m.1.unit n in
       field-refused (run_scope unit) C vs es l e rest [] r s m.0 (fault_of f) m.1.answer second
 
 pub fields-memory : {Y : Type 0} (view : Y → Row) (old new : Context) (fs : E.Fields Place) → ReadsFields view old fs new (Err F.Memory)
 unfolding ReadsFields
-fields-memory view old new fs = λ h C vs around s is means known. tt
+fields-memory view old new fs = λ h C vs around s is sees. tt
 
 -- the same fields, seen in a map
 pub fields-seen : {Y : Type 0} (view : Y → Row) (old new : Context) (fs : E.Fields Place) (y : Y) → ReadsFields (λ (r : Row). r) old fs new (Ok (view y)) → ReadsFields view old fs new (Ok y)
@@ -165,14 +163,14 @@ fields-seen view old new fs y reads = reads
 module _ {Y : Type 0} (view : Y → Row) (old new : Context) (p : Place) (fs : E.Fields Place) where
   pub row-refused : (f : CoreFault) → ReadsFields view old fs new (Err f) → Reads old (E.row p fs) new (Err f)
   unfolding ReadsFields Reads IsPlain read_exp
-  row-refused F.Memory reads = λ h C vs around s is means known. tt
-  row-refused (F.Fault f) reads = λ h C vs around s is means known.
-      first-refused old (read_fields (run_scope (unit_of old)) C vs [] fs) (λ r. give (row_of r)) s (fault_of f) (reads h C vs around s is means known)
+  row-refused F.Memory reads = λ h C vs around s is sees. tt
+  row-refused (F.Fault f) reads = λ h C vs around s is sees.
+      first-refused old (read_fields (run_scope (unit_of old)) C vs [] fs) (λ r. give (row_of r)) s (fault_of f) (reads h C vs around s is sees)
 
   pub row-read : (y : Y) (t : Rc P.MlType Global) → ReadsFields view old fs new (Ok y) → type_of t.value ≡ row_of (view y) → Reads old (E.row p fs) new (Ok t)
   unfolding ReadsFields Reads IsPlain read_exp IsOver Mentions
-  row-read y t reads e = λ h C vs around s is means known.
-      let m = reads h C vs around s is means known in (
+  row-read y t reads e = λ h C vs around s is sees.
+      let m = reads h C vs around s is sees in (
         m.0,
         then-reaches around old new (read_fields (run_scope (unit_of old)) C vs [] fs) (λ r. give (row_of r)) s m.0 (view y) m.1 new (type_of t.value) m.0
             (subst (λ u. Reaches around new (give (row_of (view y))) m.0 new u m.0) (sym e) (given-reaches around new m.0 m.1.at (row_of (view y)))),

@@ -50,7 +50,7 @@ module _ (around : Window Place Name) (old : Context) (s : State Place Name) (is
           answer = ap (λ t. accepted (t, with_unknowns 1 s)) f;
           at = record { solver = m.1; rows = is.rows; overloaded = is.overloaded; quiet = is.quiet };
           unit = refl;
-          scopes = refl;
+          seen = record { means = λ C h. h; around = λ C m h. h; scoped = λ vs h. h };
           later = record { made = omega arith; names = λ n h. h };
         },
         subst (IsTypeIn (s.made + 1) s.names) (sym f) (omega arith, tt),
@@ -66,7 +66,7 @@ module _ (around : Window Place Name) (old : Context) (s : State Place Name) (is
       answer = answers-are-of-scripts.ok (unit_of old) old.new.next s e p solver a;
       at = record { solver = a; rows = is.rows; overloaded = is.overloaded; quiet = quiet };
       unit = refl;
-      scopes = refl;
+      seen = record { means = λ C h. h; around = λ C m h. h; scoped = λ vs h. h };
       later = record { made = omega arith; names = λ n h. h };
     },
     tt,
@@ -118,9 +118,9 @@ watches-never old new result recorder true e quiet = λ q. let f : true ≡ fals
 watches-never old new result recorder false e quiet = absurd cc
 
 -- what was answered from a context is answered from the same one with another recorder
-with-recorder : (around : Window Place Name) (old new : Context) (recorder : Recorder) (k : Script Place Name (Unit {0})) (s : State Place Name) (result : Result (Unit {0}) CoreFault)
+pub with-recorder : (around : Window Place Name) (old new : Context) (recorder : Recorder) (k : Script Place Name (Unit {0})) (s : State Place Name) (result : Result (Unit {0}) CoreFault)
     → Does around (record old { recorder = recorder }) k s new result → Does around old k s new result
-with-recorder around old new recorder k s (Ok x) a = (a.0, record { answer = a.1.answer; at = a.1.at; unit = a.1.unit; scopes = a.1.scopes; later = a.1.later }, tt)
+with-recorder around old new recorder k s (Ok x) a = (a.0, record { answer = a.1.answer; at = a.1.at; unit = a.1.unit; seen = record { means = a.1.seen.means; around = a.1.seen.around; scoped = a.1.seen.scoped }; later = a.1.later }, tt)
 with-recorder around old new recorder k s (Err F.Memory) a = tt
 with-recorder around old new recorder k s (Err (F.Fault f)) a = a
 

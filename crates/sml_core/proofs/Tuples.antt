@@ -1,5 +1,5 @@
 -- Expressions that are read one after the other, and tuples of them.
-use Rattle.std.proofs.Common.{◌≡◌, ℕ, Result, Ok, Err, List, [], ◌∷◌, ◌++◌, ap, subst, sym, refl, ◌∙◌, arith}
+use Rattle.std.proofs.Common.{◌≡◌, ℕ, Ok, Err, List, [], ◌∷◌, ◌++◌, ap, subst, sym, refl, ◌∙◌, arith}
 use Rattle.std.specs.Global.{Global}
 use Rattle.std.specs.List.{AllByRecursion}
 use Rattle.std.specs.declared.rc.Rc.{Rc}
@@ -25,14 +25,14 @@ use Rattle.sml_core_rules.specs.States.{Scope, State, Window}
 use Rattle.sml_core_rules.specs.Expressions.{read_exp, read_exps}
 use Rattle.sml_core_rules.proofs.Accepted.{bind-accepted, bind-joined}
 use Rattle.sml_core_rules.proofs.Refused.{bind-refused}
-use Rattle.sml_scopes.specs.Means.{Means}
 use Rattle.sml_types.specs.declared.fault.CoreFault.{CoreFault}
 use Rattle.sml_types.specs.declared.fault.CoreFault.TheVariants as F
 use Rattle.sml_asks.specs.Solvers.{IsTypeIn}
 use Rattle.sml_core.specs.declared.context.Context.{Context}
-use Rattle.sml_core.specs.Answered.{IsAt, IsLater, Reaches, AreValuesIn, IsPlain, ArePlain, Reads, unit_of}
+use Rattle.sml_core.specs.Answered.{IsAt, IsLater, Reaches, IsPlain, ArePlain, Reads, unit_of}
+use Rattle.sml_core.specs.Seen.{Sees}
 use Rattle.sml_core.proofs.Applying.{given-reaches}
-use Rattle.sml_core.proofs.Sequences.{values-later, type-later, then-reaches, first-refused}
+use Rattle.sml_core.proofs.Sequences.{keeps-more, sees-after, type-later, then-reaches, first-refused}
 
 -- one type more
 abbrev pub with_last : MlTypes Name → MlType Name → MlTypes Name
@@ -117,21 +117,20 @@ parts-mention s (t ∷ ts) a = (a.0.1, parts-mention s ts a.1)
 -- A call reads expressions one after the other.
 unfoldable pub ReadsAll : Context → List (E.Exp Place) → Context → List (Rc P.MlType Global) → Type 0
 ReadsAll old es new ts =
-    ArePlain (exps_of es) → (C : Env Name) (vs : Map (MlType Name)) (around : Window Place Name) (s : State Place Name) → IsAt around old s → Means old.scopes C
-    → AreValuesIn s.made s.names C
+    ArePlain (exps_of es) → (C : Env Name) (vs : Map (MlType Name)) (around : Window Place Name) (s : State Place Name) → IsAt around old s → Sees C vs old s
     → (t : State Place Name) × Reaches around old (read_exps (run_scope (unit_of old)) C vs (exps_of es)) s new (types_of (parts_of ts)) t × AreIn t ts
 
 pub none-read : (c : Context) → ReadsAll c [] c []
 unfolding ReadsAll read_exps
-none-read c = λ h C vs around s is means known. (s, given-reaches around c s is no_type, tt)
+none-read c = λ h C vs around s is sees. (s, given-reaches around c s is no_type, tt)
 
 module _ (old mid last : Context) (es : List (E.Exp Place)) (ts : List (Rc P.MlType Global)) (e : E.Exp Place) (reads : ReadsAll old es mid ts) where
   pub one-more : (t : Rc P.MlType Global) → Reads mid e last (Ok t) → ReadsAll old (es ++ e ∷ []) last (ts ++ t ∷ [])
   unfolding ReadsAll Reads
-  one-more t more = λ h C vs around s is means known.
+  one-more t more = λ h C vs around s is sees.
       let unit = unit_of old in
-      let m = reads (plain-front es (e ∷ []) h) C vs around s is means known in
-      let n = more (plain-at es e [] h) C vs around m.0 m.1.at (subst (λ (z : _). Means z C) (sym m.1.scopes) means) (values-later s m.0 m.1.later C known) in
+      let m = reads (plain-front es (e ∷ []) h) C vs around s is sees in
+      let n = more (plain-at es e [] h) C vs around m.0 m.1.at (sees-after m.1 sees) in
       let second : IsAnswer (run_scope unit) (read_exp (run_scope unit) C vs e) m.0 (accepted (type_of t.value, n.0)) =
       subst (λ u. IsAnswer (run_scope u) (read_exp (run_scope u) C vs e) m.0 (accepted (type_of t.value, n.0))) m.1.unit n.1.answer in (
         n.0,
@@ -140,7 +139,7 @@ module _ (old mid last : Context) (es : List (E.Exp Place)) (ts : List (Rc P.MlT
               (next-read (run_scope unit) C vs es e s m.0 n.0 (types_of (parts_of ts)) (type_of t.value) m.1.answer second);
           at = n.1.at;
           unit = n.1.unit ∙ m.1.unit;
-          scopes = n.1.scopes ∙ m.1.scopes;
+          seen = keeps-more m.1.seen n.1.seen;
           later = record { made = omega (arith, m.1.later.made, n.1.later.made); names = λ x h. n.1.later.names x (m.1.later.names x h) };
         },
         last-in m.0 n.0 n.1.later ts t m.2 n.2,
@@ -148,11 +147,11 @@ module _ (old mid last : Context) (es : List (E.Exp Place)) (ts : List (Rc P.MlT
 
   pub one-refused : (rest : List (E.Exp Place)) (p : Place) (f : CoreFault) → Reads mid e last (Err f) → Reads old (E.tuple p (exps_of (es ++ e ∷ rest))) last (Err f)
   unfolding ReadsAll Reads IsPlain read_exp
-  one-refused rest p F.Memory more = λ h C vs around s is means known. tt
-  one-refused rest p (F.Fault f) more = λ h C vs around s is means known.
+  one-refused rest p F.Memory more = λ h C vs around s is sees. tt
+  one-refused rest p (F.Fault f) more = λ h C vs around s is sees.
       let unit = unit_of old in
-      let m = reads (plain-front es (e ∷ rest) h) C vs around s is means known in
-      let n = more (plain-at es e rest h) C vs around m.0 m.1.at (subst (λ (z : _). Means z C) (sym m.1.scopes) means) (values-later s m.0 m.1.later C known) in
+      let m = reads (plain-front es (e ∷ rest) h) C vs around s is sees in
+      let n = more (plain-at es e rest h) C vs around m.0 m.1.at (sees-after m.1 sees) in
       let second : IsAnswer (run_scope unit) (read_exp (run_scope unit) C vs e) m.0 (refused (fault_of f)) =
       subst (λ u. IsAnswer (run_scope u) (read_exp (run_scope u) C vs e) m.0 (refused (fault_of f))) m.1.unit n in
       first-refused old (read_exps (run_scope unit) C vs (exps_of (es ++ e ∷ rest))) (λ ts. give (tuple_of ts)) s (fault_of f)
@@ -161,8 +160,8 @@ module _ (old mid last : Context) (es : List (E.Exp Place)) (ts : List (Rc P.MlT
 pub tuple-read : (old new : Context) (es : List (E.Exp Place)) (ts : List (Rc P.MlType Global)) (p : Place) (t : Rc P.MlType Global) → ReadsAll old es new ts
     → type_of t.value ≡ tuple_of (types_of (parts_of ts)) → Reads old (E.tuple p (exps_of es)) new (Ok t)
 unfolding ReadsAll Reads IsPlain read_exp IsOver Mentions
-tuple-read old new es ts p t reads e = λ h C vs around s is means known.
-    let m = reads h C vs around s is means known in
+tuple-read old new es ts p t reads e = λ h C vs around s is sees.
+    let m = reads h C vs around s is sees in
     let us = types_of (parts_of ts) in (
       m.0,
       then-reaches around old new (read_exps (run_scope (unit_of old)) C vs (exps_of es)) (λ ts. give (tuple_of ts)) s m.0 us m.1 new (type_of t.value) m.0

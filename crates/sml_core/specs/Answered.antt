@@ -6,7 +6,7 @@ use Rattle.std.specs.Global.{Global}
 use Rattle.std.specs.declared.rc.Rc.{Rc}
 use Rattle.sml_lex.specs.Faults.{fault_of}
 use Rattle.sml_lex.specs.declared.fault.Place.{Place}
-use Rattle.sml_tree.specs.Expressions.{Exp, Exps, Fields, constant, name, row, tuple, let_in, bracket, apply, typed, handle, raise, fn, no_exp, and_exp, field, no_field, and_field}
+use Rattle.sml_tree.specs.Expressions.{Exp, Exps, Fields, Rules, constant, name, row, tuple, let_in, bracket, apply, typed, handle, raise, fn, no_exp, and_exp, field, no_field, and_field, rule, no_rule, and_rule}
 use Rattle.sml_objects.specs.Appearance.{Stands}
 use Rattle.sml_objects.specs.Initial.{Name}
 use Rattle.sml_objects.specs.Maps.{Map}
@@ -15,23 +15,24 @@ use Rattle.sml_objects.specs.Views.{maker_of, type_of}
 use Rattle.sml_objects.specs.declared.objects.MlType as P
 use Rattle.sml_rules.specs.Answers.{refused, accepted, fault_at}
 use Rattle.sml_lex.specs.declared.fault.Code.TheVariants.{E3}
-use Rattle.sml_tree.specs.Trees.{Id, LongId}
+use Rattle.sml_tree.specs.Trees.{Id}
 use Rattle.sml_rules.specs.Lookups.{Found, found, no_entry, no_path}
 use Rattle.sml_bases.specs.Views.{value_of}
 use Rattle.sml_bases.specs.declared.objects.Value as V
-use Rattle.sml_core_rules.specs.Lookups.{value_at}
-use Rattle.sml_graph.specs.Interned.{IsBodyOver}
-use Rattle.sml_layers.specs.Demands.{Mentions}
-use Rattle.sml_core_rules.specs.Objects.{Env, Value, Status, variable, constructor, exception, overloaded}
+use Rattle.sml_layers.specs.declared.layer.Bound.{Bound}
+use Rattle.sml_layers.specs.Demands.{asks, within}
+use Rattle.sml_core_rules.specs.Objects.{Env, Value, Status}
 use Rattle.sml_core_rules.specs.Scopes.{run_scope}
-use Rattle.sml_core_rules.specs.Scripts.{Script, IsAnswer, new_unknown, ◌>>=◌}
+use Rattle.sml_core_rules.specs.Scripts.{Script, IsAnswer, new_unknown, require, ◌>>=◌}
 use Rattle.sml_core_rules.specs.States.{State, Window}
 use Rattle.sml_core_rules.specs.Values.{applied, apply_general, instance, require_attributes, require_equal, require_status}
 use Rattle.sml_core_rules.specs.Expressions.{exn_type, read_exp, read_fields}
-use Rattle.sml_scopes.specs.Means.{Means}
+use Rattle.sml_scopes.specs.Means.{Means, MeansAt}
+use Rattle.sml_scopes.specs.declared.scopes.Mark.{Mark}
 use Rattle.sml_types.specs.declared.fault.CoreFault.{CoreFault}
 use Rattle.sml_types.specs.declared.fault.CoreFault.TheVariants.{Memory, Fault}
-use Rattle.sml_asks.specs.Solvers.{SolverIs, IsTypeIn}
+use Rattle.sml_asks.specs.Solvers.{IsBound, IsTypeIn, SolverIs}
+use Rattle.sml_core.specs.Seen.{AreScoped, IsValueIn, Sees, WhereOverloaded}
 use Rattle.sml_core.specs.declared.context.Context.{Context}
 
 -- the unit that a context makes names for, and the scope of its names
@@ -55,12 +56,18 @@ pub record IsLater (s t : State Place Name) : Type 0 where
   pub made : s.made ≤ t.made
   pub names : (n : Name) → Stands n s.names → Stands n t.names
 
--- After the script's answer with an object the context is that of a later state, of the same unit, and its scopes are as they were.
+-- The scopes mean whatever they meant, around each mark too, and explicit variables stand for what they stood for.
+pub record Keeps (old new : Context) : Type 0 where
+  pub means : (C : Env Name) → Means old.scopes C → Means new.scopes C
+  pub around : (C : Env Name) (m : Mark) → MeansAt old.scopes m C → MeansAt new.scopes m C
+  pub scoped : (vs : Map (MlType Name)) → AreScoped old.explicit vs → AreScoped new.explicit vs
+
+-- After the script's answer with an object the context is that of a later state, of the same unit, and sees what it saw.
 pub record Reaches {X : Type 0} (around : Window Place Name) (old : Context) (k : Script Place Name X) (s : State Place Name) (new : Context) (x : X) (t : State Place Name) : Type 0 where
   pub answer : IsAnswer (run_scope (unit_of old)) k s (accepted (x, t))
   pub at : IsAt around new t
   pub unit : unit_of new ≡ unit_of old
-  pub scopes : new.scopes ≡ old.scopes
+  pub seen : Keeps old new
   pub later : IsLater s t
 
 -- The answer is one that the script may be given. Of its object this is true.
@@ -92,6 +99,13 @@ Equates old p t u new result =
     (around : Window Place Name) (s : State Place Name) → IsAt around old s → IsTypeIn s.made s.names t → IsTypeIn s.made s.names u
     → Does around old (require_equal p t u) s new result
 
+-- A call demands that a type, which speaks of what was made, mentions only names with lower numbers than this, and the names that a list has,
+-- where these are the same.
+unfoldable pub Limits : Context → Place → MlType Name → Bound → ℕ → Context → Result (Unit {0}) CoreFault → Type 0
+Limits old p t b most new result =
+    (around : Window Place Name) (s : State Place Name) (list : List Name) → IsAt around old s → IsTypeIn s.made s.names t → IsBound (unit_of old) old.new.next s.names most list
+    → Does around old (require (asks (within b list) t) p) s new result
+
 -- A call applies what has the first type to what has the second.
 unfoldable pub Applies : Context → Place → MlType Name → MlType Name → Context → Result (Rc P.MlType Global) CoreFault → Type 0
 Applies old p t a new result =
@@ -109,27 +123,10 @@ unfoldable pub AsksAttributes : Context → Place → ℕ → List Bool → Cont
 AsksAttributes old p k es new result =
     (around : Window Place Name) (s : State Place Name) → IsAt around old s → k + length es ≤ s.made → Does around old (require_attributes p k es) s new result
 
--- what is known of overloaded identifiers
-abbrev pub WhereOverloaded : Status → Type 0 → Type 0
-WhereOverloaded variable A = Unit {0}
-WhereOverloaded (constructor i n) A = Unit {0}
-WhereOverloaded exception A = Unit {0}
-WhereOverloaded (overloaded c) A = A
-
 -- A call asks of an unknown what the status of its value asks.
 unfoldable pub AsksStatus : Context → Place → ℕ → Status → Context → Result (Unit {0}) CoreFault → Type 0
 AsksStatus old p k w new result =
     (around : Window Place Name) (s : State Place Name) → IsAt around old s → WhereOverloaded w (k < s.made) → Does around old (require_status p k w) s new result
-
--- The scheme of a value speaks of what was made, and of its own variables. An overloaded identifier has one.
-pub record IsValueIn (made : ℕ) (names : List Name) (v : Value Name) : Type 0 where
-  pub unknowns : IsBodyOver (length v.scheme.variables) made v.scheme.body
-  pub mentions : Mentions (λ n. Stands n names) v.scheme.body
-  pub status : WhereOverloaded v.status (0 < length v.scheme.variables)
-
--- All values of an environment do, at every path.
-unfoldable pub AreValuesIn : ℕ → List Name → Env Name → Type 0
-AreValuesIn made names C = (x : LongId) (v : Value Name) → value_at C x ≡ found v → IsValueIn made names v
 
 -- this value, none, or E3 with the beginning of the path that leads nowhere
 abbrev pub FindsValue : Place → Result (Option V.Value) CoreFault → Found (Value Name) → Type 0
@@ -149,7 +146,7 @@ Raises old p t new result =
     (around : Window Place Name) (s : State Place Name) → IsAt around old s → IsTypeIn s.made s.names t
     → Types around old (require_equal p t (exn_type (run_scope (unit_of old))) >>= λ u. new_unknown) s new result
 
--- made of constants, identifiers, rows, tuples, brackets, applications and `raise`
+-- without declarations
 unfoldable mutual
   pub IsPlain : Exp Place → Type 0
   IsPlain (constant p c) = Unit {0}
@@ -159,10 +156,10 @@ unfoldable mutual
   IsPlain (let_in p ds e) = ⊥
   IsPlain (bracket p e) = IsPlain e
   IsPlain (apply p f e) = IsPlain f × IsPlain e
-  IsPlain (typed p e t) = ⊥
-  IsPlain (handle p e m) = ⊥
+  IsPlain (typed p e t) = IsPlain e
+  IsPlain (handle p e m) = IsPlain e × ArePlainRules m
   IsPlain (raise p e) = IsPlain e
-  IsPlain (fn p m) = ⊥
+  IsPlain (fn p m) = ArePlainRules m
 
   pub ArePlain : Exps Place → Type 0
   ArePlain no_exp = Unit {0}
@@ -172,12 +169,15 @@ unfoldable mutual
   ArePlainFields no_field = Unit {0}
   ArePlainFields (and_field (field l e) fs) = IsPlain e × ArePlainFields fs
 
--- A call reads an expression in an environment, which its scopes mean and which speaks of what was made, with the types of explicit
--- variables.
+  pub ArePlainRules : Rules Place → Type 0
+  ArePlainRules no_rule = Unit {0}
+  ArePlainRules (and_rule (rule p q e) m) = IsPlain e × ArePlainRules m
+
+-- A call reads an expression in an environment and with types of explicit variables that the context sees.
 unfoldable pub Reads : Context → Exp Place → Context → Result (Rc P.MlType Global) CoreFault → Type 0
 Reads old e new result =
-    IsPlain e → (C : Env Name) (vs : Map (MlType Name)) (around : Window Place Name) (s : State Place Name) → IsAt around old s → Means old.scopes C
-    → AreValuesIn s.made s.names C → Types around old (read_exp (run_scope (unit_of old)) C vs e) s new result
+    IsPlain e → (C : Env Name) (vs : Map (MlType Name)) (around : Window Place Name) (s : State Place Name) → IsAt around old s → Sees C vs old s
+    → Types around old (read_exp (run_scope (unit_of old)) C vs e) s new result
 
 -- fields with their types
 abbrev pub Row : Type 0
@@ -190,5 +190,5 @@ AreFieldsIn r s = AllByRecursion (λ f. IsTypeIn s.made s.names f.1) r
 -- A call reads fields, one after the other.
 unfoldable pub ReadsFields : {Y : Type 0} → (Y → Row) → Context → Fields Place → Context → Result Y CoreFault → Type 0
 ReadsFields view old fs new result =
-    ArePlainFields fs → (C : Env Name) (vs : Map (MlType Name)) (around : Window Place Name) (s : State Place Name) → IsAt around old s → Means old.scopes C
-    → AreValuesIn s.made s.names C → AnswersAs view AreFieldsIn around old (read_fields (run_scope (unit_of old)) C vs [] fs) s new result
+    ArePlainFields fs → (C : Env Name) (vs : Map (MlType Name)) (around : Window Place Name) (s : State Place Name) → IsAt around old s → Sees C vs old s
+    → AnswersAs view AreFieldsIn around old (read_fields (run_scope (unit_of old)) C vs [] fs) s new result

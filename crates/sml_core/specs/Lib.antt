@@ -1,2 +1,5 @@
 pub mod Answered
 pub mod Bound
+pub mod Patterns
+pub mod Rules
+pub mod Seen

@@ -4,12 +4,18 @@ ghost use Rattle.std.specs.Prelude.{◌≡◌, ◌≢◌, ◌+◌, [], ◌∷◌
 ghost use Rattle.std.specs.Option.{IfSome};
 ghost use Rattle.sml_lex.specs.declared.fault.Code.{Code};
 ghost use Rattle.sml_lex.specs.declared.fault.Code.TheVariants.{E1};
+ghost use Rattle.sml_tree.specs.TypeViews.{ty_of};
 ghost use Rattle.sml_tree.specs.Views.{ident_of, long_of};
+ghost use Rattle.sml_tree.specs.Withtype.{unlisted};
 ghost use Rattle.sml_objects.specs.Initial.{Name};
+ghost use Rattle.sml_objects.specs.Maps.{Map, lookup};
+ghost use Rattle.sml_objects.specs.Objects as T;
 ghost use Rattle.sml_objects.specs.Views.{type_of};
 ghost use Rattle.sml_graph.specs.Refusals.{refusal_code};
 ghost use Rattle.sml_core_rules.specs.Answers.{need};
 ghost use Rattle.sml_core_rules.specs.Lookups as found;
+ghost use Rattle.sml_core_rules.specs.Types.{read_ty};
+ghost use Rattle.sml_core_rules.specs.Values.{constructs, is_constructor};
 ghost use Rattle.sml_core_rules.specs.Objects as O;
 ghost use Rattle.sml_core_rules.specs.Objects.{and_structure, empty, maps, no_structure, overloaded};
 ghost use Rattle.sml_bases.specs.Views.{env_of, status_of, ty_str_of, value_of};
@@ -17,8 +23,11 @@ ghost use Rattle.sml_bases.specs.declared.objects.Basis.{out-Basis};
 ghost use Rattle.sml_scopes.specs.Means.{BasisMeans, IsAround, Means, MeansAt};
 ghost use Rattle.sml_types.specs.Answered.{IsAnswer, IsFault};
 ghost use Rattle.sml_types.specs.declared.fault.CoreFault.TheVariants as CoreFault;
-ghost use Rattle.sml_core.specs.Answered.{AsksAttributes, AsksStatus, Equates, FindsValue, MakesInstance, MakesUnknown, Watches, unit_of};
+ghost use Rattle.sml_types.specs.Meant.{meant};
+ghost use Rattle.sml_core.specs.Answered.{AsksAttributes, AsksStatus, Equates, FindsValue, Limits, MakesInstance, MakesUnknown, Watches, unit_of};
 ghost use Rattle.sml_core.specs.Bound.{Extends, IsAnew};
+ghost use Rattle.sml_core.specs.Patterns.{ReadsConstraint};
+ghost use Rattle.sml_core.specs.Seen.{AreScoped};
 
 use crate::explicit::Explicit;
 use crate::recorder::{Meeting, Recorder, Seen};
@@ -222,7 +231,8 @@ impl<'a> Context<'a> {
     }
 
     pub fn mark(&self) -> Mark
-        ensures { (C : O.Env Name) → Means self.now.scopes C → MeansAt self.now.scopes result C }
+        ensures meant { (C : O.Env Name) → Means self.now.scopes C → MeansAt self.now.scopes result C }
+        ensures around { (C : O.Env Name) (m : Mark) → MeansAt self.now.scopes m C → IsAround m result }
     {
         self.scopes.mark()
     }
@@ -283,7 +293,9 @@ impl<'a> Context<'a> {
     }
 
     /// The status of a short identifier; one that is unbound is a variable.
-    pub(crate) fn status(&self, name: &Ident) -> Status {
+    pub(crate) fn status(&self, name: &Ident) -> Status
+        ensures { (C : O.Env Name) → Means self.now.scopes C → constructs (status_of result) ≡ is_constructor C (ident_of name.now) }
+    {
         match self.scopes.value(name) {
             Some(value) => value.status,
             None => Status::Variable,
@@ -361,7 +373,9 @@ impl<'a> Context<'a> {
         ty: &MlType,
         bound: Bound,
         most: u32,
-    ) -> Result<(), CoreFault> {
+    ) -> Result<(), CoreFault>
+        ensures { Limits self.entry.now place (type_of ty.now) bound most self.exit.now result }
+    {
         self.watch(Meeting::Late, &[ty])?;
         match ask_within(&mut self.solver, ty, bound, most) {
             Ok(()) => Ok(()),
@@ -449,13 +463,20 @@ impl<'a> Context<'a> {
     }
 
     /// What a type expression means, with the explicit type variables in scope.
-    pub(crate) fn written(&mut self, ty: &Ty) -> Result<Rc<Written>, CoreFault> {
+    pub(crate) fn written(&mut self, ty: &Ty) -> Result<Rc<Written>, CoreFault>
+        ensures answer { (C : O.Env Name) (vs : Map (T.MlType Name)) → Means self.entry.now.scopes C → AreScoped self.entry.now.explicit vs → lookup unlisted vs ≡ None
+            → IsAnswer (λ w. meant w.value) result (read_ty C vs (ty_of ty.now)) }
+        ensures scoped { (vs : Map (T.MlType Name)) → AreScoped self.entry.now.explicit vs → AreScoped self.exit.now.explicit vs }
+        ensures same { self.exit.now ≡ record self.entry.now { explicit = self.exit.now.explicit } }
+    {
         written_type(self.alloc, &self.scopes, &mut self.explicit, ty)
     }
 
     /// The type that a constraint means, with the explicit type variables in scope. One that is too large for a scheme is E7
     /// at its first token.
-    pub(crate) fn ty(&mut self, ty: &Ty) -> Result<Rc<MlType>, CoreFault> {
+    pub(crate) fn ty(&mut self, ty: &Ty) -> Result<Rc<MlType>, CoreFault>
+        ensures { ReadsConstraint self.entry.now (ty_of ty.now) self.exit.now result }
+    {
         let written = self.written(ty)?;
         small(self.alloc, type_place(ty), &written)?;
         Ok(written.make(self.alloc)?)

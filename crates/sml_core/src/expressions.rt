@@ -1,18 +1,27 @@
 //! Expressions and matches (the Definition, section 4.10, rules 1 to 14).
 
-ghost use Rattle.std.specs.Prelude.{◌≡◌, map, IfOk, OnErr, Err};
+ghost use Rattle.std.specs.Prelude.{◌≡◌, [], ◌∷◌, map, IfOk, OnErr, OnOk, Err};
+ghost use Rattle.std.specs.Option.{option_map};
 ghost use Rattle.sml_lex.specs.declared.fault.Place.{Place};
 ghost use Rattle.sml_tree.specs.Expressions as E;
 ghost use Rattle.sml_tree.specs.Expressions.{name};
-ghost use Rattle.sml_tree.specs.ExpressionViews.{exp_of, exps_of, field_of, fields_of as exp_fields_of};
+ghost use Rattle.sml_tree.specs.ExpressionViews.{exp_of, exps_of, field_of, fields_of as exp_fields_of, rule_of, rules_of};
 ghost use Rattle.sml_types.specs.Rows.{AreRanked, fields_of};
-ghost use Rattle.sml_tree.specs.TypeViews.{long_name_of};
+ghost use Rattle.sml_tree.specs.TypeViews.{long_name_of, ty_of};
+ghost use Rattle.sml_tree.specs.Views.{ident_of};
 ghost use Rattle.sml_tree.specs.PatternViews.{constant_of};
-ghost use Rattle.sml_objects.specs.Initial.{naming};
+ghost use Rattle.sml_objects.specs.Initial.{Name, naming};
+ghost use Rattle.sml_objects.specs.Objects.{mono};
 ghost use Rattle.sml_objects.specs.Views.{type_of};
 ghost use Rattle.sml_core_rules.specs.Patterns.{constant_type};
 ghost use Rattle.sml_types.specs.declared.fault.CoreFault.TheVariants as CoreFault;
+ghost use Rattle.sml_bases.specs.Views.{status_of, value_of};
+ghost use Rattle.sml_core_rules.specs.Objects.{Env, maps, no_structure};
+ghost use Rattle.sml_scopes.specs.Means.{MeansAt};
 ghost use Rattle.sml_core.specs.Answered.{Applies, AppliesSo, Raises, Reads, ReadsFields};
+ghost use Rattle.sml_core.specs.Bound.{Extends};
+ghost use Rattle.sml_core.specs.Patterns.{bindings_of};
+ghost use Rattle.sml_core.specs.Rules.{BindsAll, Handles, LikeFirst, OpensRule, ReadsRule, ReadsRules, variable_entry};
 
 use crate::context::Context;
 use crate::patterns::Variables;
@@ -48,7 +57,9 @@ pub(crate) fn constant(alloc: Global, constant: &Constant) -> Result<Rc<MlType>,
 }
 
 /// A value of one type.
-pub(crate) fn of_type(alloc: Global, status: Status, ty: Rc<MlType>) -> Result<Value, Memory> {
+pub(crate) fn of_type(alloc: Global, status: Status, ty: Rc<MlType>) -> Result<Value, Memory>
+    ensures { IfOk result (λ v. value_of v ≡ record { scheme = mono (type_of ty.value); status = status_of status }) }
+{
     let scheme = Scheme {
         variables: Vec::new(alloc),
         body: ty,
@@ -121,7 +132,9 @@ impl Context<'_> {
 
     #[cycle(core)]
     #[inline(never)]
-    fn typed(&mut self, place: Place, exp: &Exp, ty: &Ty) -> Result<Rc<MlType>, CoreFault> {
+    fn typed(&mut self, place: Place, exp: &Exp, ty: &Ty) -> Result<Rc<MlType>, CoreFault>
+        ensures { Reads self.entry.now (E.typed place (exp_of exp.now) (ty_of ty.now)) self.exit.now result }
+    {
         let found = self.expression(exp)?;
         self.constrained(place, found, ty)
     }
@@ -137,7 +150,9 @@ impl Context<'_> {
 
     #[cycle(core)]
     #[inline(never)]
-    fn function(&mut self, place: Place, rules: &[Rule]) -> Result<Rc<MlType>, CoreFault> {
+    fn function(&mut self, place: Place, rules: &[Rule]) -> Result<Rc<MlType>, CoreFault>
+        ensures { Reads self.entry.now (E.fn place (rules_of (map rule_of rules.now))) self.exit.now result }
+    {
         let ty = self.rules(rules)?;
         judge_rules(&self.scopes, &mut self.warnings, Kind::Fn, place, rules)?;
         Ok(ty)
@@ -243,7 +258,9 @@ impl Context<'_> {
         ty: Rc<MlType>,
         handler: &MlType,
         rules: &[Rule],
-    ) -> Result<Rc<MlType>, CoreFault> {
+    ) -> Result<Rc<MlType>, CoreFault>
+        ensures { Handles self.entry.now place (type_of ty.value) (type_of handler.now) (rules_of (map rule_of rules.now)) self.exit.now result }
+    {
         let exn = initial(self.alloc, Initial::Exn)?;
         let wanted = arrow(self.alloc, exn, ty.clone()?)?;
         self.equal(place, Meeting::Handler, handler, &wanted)?;
@@ -263,7 +280,9 @@ impl Context<'_> {
     /// The type of a match.
     #[cycle(core)]
     #[inline(never)]
-    fn rules(&mut self, rules: &[Rule]) -> Result<Rc<MlType>, CoreFault> {
+    fn rules(&mut self, rules: &[Rule]) -> Result<Rc<MlType>, CoreFault>
+        ensures { ReadsRules self.entry.now (rules_of (map rule_of rules.now)) self.exit.now result }
+    {
         let mut first: Option<Rc<MlType>> = None;
         for rule in rules {
             let ty = self.rule(rule)?;
@@ -280,7 +299,9 @@ impl Context<'_> {
         place: Place,
         first: Option<Rc<MlType>>,
         ty: Rc<MlType>,
-    ) -> Result<Rc<MlType>, CoreFault> {
+    ) -> Result<Rc<MlType>, CoreFault>
+        ensures { LikeFirst self.entry.now place (option_map (λ t. type_of t.value) first) (type_of ty.value) self.exit.now result }
+    {
         match first {
             None => Ok(ty),
             Some(first) => {
@@ -292,7 +313,9 @@ impl Context<'_> {
 
     #[cycle(core)]
     #[inline(never)]
-    fn rule(&mut self, rule: &Rule) -> Result<Rc<MlType>, CoreFault> {
+    fn rule(&mut self, rule: &Rule) -> Result<Rc<MlType>, CoreFault>
+        ensures { ReadsRule self.entry.now (rule_of rule.now) self.exit.now result }
+    {
         let mark = self.mark();
         let from = self.rule_pattern(rule)?;
         let to = self.expression(&rule.exp)?;
@@ -302,18 +325,33 @@ impl Context<'_> {
 
     /// The type of a rule's pattern, whose variables are bound.
     #[inline(never)]
-    fn rule_pattern(&mut self, rule: &Rule) -> Result<Rc<MlType>, CoreFault> {
+    fn rule_pattern(&mut self, rule: &Rule) -> Result<Rc<MlType>, CoreFault>
+        ensures { OpensRule self.entry.now (rule_of rule.now) self.exit.now result }
+    {
         let mut variables = Variables::new(self.alloc);
         let ty = self.pattern(&mut variables, &rule.pat)?;
-        for (name, ty) in &variables.types {
-            self.within(pattern_place(&rule.pat), ty, Bound::Newness, self.new.next)?;
-            self.bind_variable(name, ty)?;
-        }
+        self.bind_all(pattern_place(&rule.pat), &variables)?;
         Ok(ty)
     }
 
+    /// Binds variables of one type, which mention only names made so far.
+    #[inline(never)]
+    fn bind_all(&mut self, place: Place, variables: &Variables) -> Result<(), CoreFault>
+        ensures { BindsAll self.entry.now place (bindings_of variables.now) self.exit.now result }
+    {
+        for (name, ty) in &variables.types {
+            self.within(place, ty, Bound::Newness, self.new.next)?;
+            self.bind_variable(name, ty)?;
+        }
+        Ok(())
+    }
+
     /// Binds a variable of one type inside an expression.
-    pub(crate) fn bind_variable(&mut self, name: &Ident, ty: &Rc<MlType>) -> Result<(), Memory> {
+    pub(crate) fn bind_variable(&mut self, name: &Ident, ty: &Rc<MlType>) -> Result<(), Memory>
+        ensures bound { OnOk result (Extends self.entry.now.scopes (maps no_structure [] (variable_entry (ident_of name.now) (type_of ty.now.value) ∷ [])) self.exit.now.scopes) }
+        ensures around { OnOk result ((C : Env Name) (m : Mark) → MeansAt self.entry.now.scopes m C → MeansAt self.exit.now.scopes m C) }
+        ensures same { self.exit.now ≡ record self.entry.now { scopes = self.exit.now.scopes } }
+    {
         let value = of_type(self.alloc, Status::Variable, ty.clone()?)?;
         self.scopes.bind_value(name, value)
     }

@@ -1,5 +1,22 @@
 //! Patterns (the Definition, section 4.10, rules 32 to 43).
 
+ghost use Rattle.std.specs.Prelude.{◌≡◌, ◌≢◌, [], None, codes, false, map, IfOk, OnErr, OnOk};
+ghost use Rattle.std.specs.Option.{option_map};
+ghost use Rattle.std.specs.Result.{IsErrAnd};
+ghost use Rattle.sml_lex.specs.declared.fault.Code.TheVariants.{E10};
+ghost use Rattle.sml_tree.specs.PatternViews.{pat_of, pats_of, pat_field_of, pat_fields_of};
+ghost use Rattle.sml_tree.specs.TypeViews.{long_name_of, name_of, ty_of};
+ghost use Rattle.sml_tree.specs.Views.{ident_of};
+ghost use Rattle.sml_objects.specs.Maps.{lookup};
+ghost use Rattle.sml_objects.specs.Views.{type_of};
+ghost use Rattle.sml_core_rules.specs.Lookups.{is_same};
+ghost use Rattle.sml_core_rules.specs.Patterns.{bind_variable, read_layered, read_named};
+ghost use Rattle.sml_core_rules.specs.Scopes.{run_scope};
+ghost use Rattle.sml_types.specs.Answered.{IsFault};
+ghost use Rattle.sml_types.specs.Rows.{AreRanked, fields_of};
+ghost use Rattle.sml_core.specs.Answered.{unit_of};
+ghost use Rattle.sml_core.specs.Patterns.{AppliesConstructor, BindsType, Constrains, MakesRow, ReadsPattern, ReadsPatternFields, ReadsPatterns, bindings_of};
+
 use crate::context::{Context, refused};
 use crate::expressions::constant;
 use crate::recorder::Meeting;
@@ -28,12 +45,17 @@ pub(crate) struct Variables {
     pub is_recursive: bool,
 }
 
-fn is_nil(name: &Ident) -> bool {
+fn is_nil(name: &Ident) -> bool
+    ensures { result ≡ is_same (ident_of name.now) (codes "nil") }
+{
     name.as_slice() == b"nil".as_slice()
 }
 
 impl Variables {
-    pub(crate) fn new(alloc: Global) -> Variables {
+    pub(crate) fn new(alloc: Global) -> Variables
+        ensures none { bindings_of result ≡ [] }
+        ensures kind { result.is_recursive ≡ false }
+    {
         Variables {
             types: IndexMap::new(alloc),
             is_recursive: false,
@@ -42,7 +64,10 @@ impl Variables {
 }
 
 /// That no pattern has bound a variable yet, or E10.
-fn first_in(variables: &Variables, place: Place, name: &Ident) -> Result<(), CoreFault> {
+fn first_in(variables: &Variables, place: Place, name: &Ident) -> Result<(), CoreFault>
+    ensures first { OnOk result (lookup (ident_of name.now) (bindings_of variables.now) ≡ None) }
+    ensures again { OnErr result (IsErrAnd result (λ f. IsFault f (record { code = E10; place = place; detail = None })) × (lookup (ident_of name.now) (bindings_of variables.now) ≢ None)) }
+{
     if variables.types.contains_key(name) {
         Err(plain_fault(Code::E10, place))
     } else {
@@ -57,7 +82,10 @@ impl Context<'_> {
         &mut self,
         variables: &mut Variables,
         pat: &Pat,
-    ) -> Result<Rc<MlType>, CoreFault> {
+    ) -> Result<Rc<MlType>, CoreFault>
+        ensures reads { ReadsPattern self.entry.now variables.old (pat_of pat.now) self.exit.now variables.new result }
+        ensures kind { variables.new.is_recursive ≡ variables.old.is_recursive }
+    {
         match pat {
             Pat::Wildcard(_) => self.unknown(),
             Pat::Constant(_, it) => Ok(constant(self.alloc, it)?),
@@ -95,7 +123,11 @@ impl Context<'_> {
         &mut self,
         variables: &mut Variables,
         fields: &[PatField],
-    ) -> Result<Fields, CoreFault> {
+    ) -> Result<Fields, CoreFault>
+        ensures ranked { IfOk result (λ row. AreRanked row.entries) }
+        ensures reads { ReadsPatternFields (λ row. fields_of (λ t. type_of t.value) row.entries) self.entry.now variables.old (pat_fields_of (map pat_field_of fields.now)) self.exit.now variables.new result }
+        ensures kind { variables.new.is_recursive ≡ variables.old.is_recursive }
+    {
         let mut row = BTreeMap::new(self.alloc);
         for field in fields {
             let ty = self.pattern(variables, &field.pat)?;
@@ -110,7 +142,10 @@ impl Context<'_> {
         &mut self,
         variables: &mut Variables,
         pats: &[Pat],
-    ) -> Result<Vec<Rc<MlType>>, CoreFault> {
+    ) -> Result<Vec<Rc<MlType>>, CoreFault>
+        ensures reads { ReadsPatterns self.entry.now variables.old (pats_of (map pat_of pats.now)) self.exit.now variables.new result }
+        ensures kind { variables.new.is_recursive ≡ variables.old.is_recursive }
+    {
         let mut types = Vec::new(self.alloc);
         for pat in pats {
             types.push(self.pattern(variables, pat)?)?;
@@ -125,7 +160,10 @@ impl Context<'_> {
         variables: &mut Variables,
         place: Place,
         long: &LongIdent,
-    ) -> Result<Rc<MlType>, CoreFault> {
+    ) -> Result<Rc<MlType>, CoreFault>
+        ensures binds { BindsType self.entry.now variables.old (λ r C vs bs. read_named (run_scope (unit_of self.entry.now)) r C vs place (long_name_of long.now) bs) self.exit.now variables.new result }
+        ensures kind { variables.new.is_recursive ≡ variables.old.is_recursive }
+    {
         if long.path.is_empty() {
             let is_bound = variables.is_recursive && !is_nil(&long.last);
             if is_bound || !is_constructor(self.status(&long.last)) {
@@ -148,7 +186,10 @@ impl Context<'_> {
         variables: &mut Variables,
         place: Place,
         name: &Ident,
-    ) -> Result<Rc<MlType>, CoreFault> {
+    ) -> Result<Rc<MlType>, CoreFault>
+        ensures binds { BindsType self.entry.now variables.old (λ r C vs bs. bind_variable (run_scope (unit_of self.entry.now)) place (ident_of name.now) bs) self.exit.now variables.new result }
+        ensures kind { variables.new.is_recursive ≡ variables.old.is_recursive }
+    {
         first_in(variables, place, name)?;
         let ty = self.unknown()?;
         variables.types.insert(name.clone()?, ty.clone()?)?;
@@ -162,7 +203,9 @@ impl Context<'_> {
         place: Place,
         fields: Fields,
         flexible: bool,
-    ) -> Result<Rc<MlType>, CoreFault> {
+    ) -> Result<Rc<MlType>, CoreFault>
+        ensures { AreRanked fields.entries → MakesRow self.entry.now place flexible (fields_of (λ t. type_of t.value) fields.entries) self.exit.now result }
+    {
         if !flexible {
             return Ok(row_of(self.alloc, fields)?);
         }
@@ -184,7 +227,9 @@ impl Context<'_> {
         &mut self,
         place: Place,
         long: &LongIdent,
-    ) -> Result<Rc<MlType>, CoreFault> {
+    ) -> Result<Rc<MlType>, CoreFault>
+        ensures { AppliesConstructor self.entry.now place (long_name_of long.now) self.exit.now result }
+    {
         let Some(value) = self.find(long)? else {
             if long.path.is_empty() {
                 return Err(plain_fault(Code::E5, long.place));
@@ -207,7 +252,11 @@ impl Context<'_> {
         variables: &mut Variables,
         name: &Name,
         ty: &Option<Box<Ty>>,
-    ) -> Result<Rc<MlType>, CoreFault> {
+    ) -> Result<Rc<MlType>, CoreFault>
+        ensures binds { BindsType self.entry.now variables.old
+            (λ r C vs bs. read_layered (run_scope (unit_of self.entry.now)) r C vs (name_of name.now) (option_map (λ t. ty_of t.value) ty.now) bs) self.exit.now variables.new result }
+        ensures kind { variables.new.is_recursive ≡ variables.old.is_recursive }
+    {
         if !variables.is_recursive && is_constructor(self.status(&name.ident)) {
             return Err(plain_fault(Code::E5, name.place));
         }
@@ -229,7 +278,9 @@ impl Context<'_> {
         place: Place,
         found: Rc<MlType>,
         ty: &Ty,
-    ) -> Result<Rc<MlType>, CoreFault> {
+    ) -> Result<Rc<MlType>, CoreFault>
+        ensures { Constrains self.entry.now place (type_of found.value) (ty_of ty.now) self.exit.now result }
+    {
         let wanted = self.ty(ty)?;
         self.equal(place, Meeting::Wanted, &found, &wanted)?;
         Ok(wanted)

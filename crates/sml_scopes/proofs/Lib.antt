@@ -3,4 +3,4 @@ mod Tables
 mod Nearest
 pub mod Joins
 mod Meanings
-mod Finding
+pub mod Finding

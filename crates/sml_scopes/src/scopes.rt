@@ -75,7 +75,8 @@ impl<'a> Scopes<'a> {
 
     /// Where a scope begins that is opened now.
     pub fn mark(&self) -> Mark
-        ensures { (C : O.Env Name) → Means self.now C → MeansAt self.now result C }
+        ensures meant { (C : O.Env Name) → Means self.now C → MeansAt self.now result C }
+        ensures around { (C : O.Env Name) (m : Mark) → MeansAt self.now m C → IsAround m result }
     {
         Mark {
             values: self.values.count(),

@@ -2,12 +2,12 @@ mod Closings
 pub mod Paths
 pub mod Entries
 mod Numbered
-mod Listing
+pub mod Listing
 pub mod RowLabels
 mod Admitting
 mod Arguments
 mod Meanings
-mod TyViews
+pub mod TyViews
 mod ReadLists
 mod Readings
 mod NamedFunctions
@@ -16,7 +16,7 @@ mod Counting
 mod Instances
 mod UsedArguments
 pub mod SideArguments
-mod Extensions
+pub mod Extensions
 mod Losing
 mod NewNames
 mod Settled

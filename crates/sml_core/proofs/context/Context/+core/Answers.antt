@@ -1,5 +1,6 @@
 use Rattle.std.proofs.Common.{◌≡◌, Ok, Err, ◌+◌, List, [], ◌∷◌, ◌++◌, map, take, drop, ap, subst, sym, ◌∙◌}
-use Rattle.std.proofs.lemmas.List.{take_all}
+use Rattle.std.proofs.lemmas.List.{drop_all, take_all}
+use Rattle.std.specs.Option.{option_map}
 use Rattle.std.specs.Global.{Global}
 use Rattle.std.specs.declared.rc.Rc.{Rc}
 use Rattle.sml_lex.specs.declared.fault.Place.{Place}
@@ -7,22 +8,27 @@ use Rattle.sml_objects.specs.declared.objects.MlType as P
 use Rattle.sml_types.specs.declared.fault.CoreFault.TheVariants as F
 use Rattle.sml_types.specs.Rows.{AreRanked}
 use Rattle.sml_tree.specs.Expressions as E
-use Rattle.sml_tree.specs.TypeViews.{name_of}
+use Rattle.sml_tree.specs.TypeViews.{name_of, ty_of}
 use Rattle.sml_tree.specs.declared.expressions.ExpField.{out-ExpField}
+use Rattle.sml_tree.specs.declared.expressions.Rule.{out-Rule}
 use Rattle.sml_objects.specs.Labels.{label_rank}
 use Rattle.sml_core_rules.specs.Types.{put_field}
-use Rattle.sml_tree.specs.ExpressionViews.{exp_of, exps_of, field_of, fields_of}
-use Rattle.sml_tree.specs.PatternViews.{constant_of}
-use Rattle.sml_tree.proofs.ExpViews.{exp_of-application, exp_of-bracket, exp_of-row, exp_of-tuple}
+use Rattle.sml_tree.specs.ExpressionViews.{exp_of, exps_of, field_of, fields_of, rule_of, rules_of}
+use Rattle.sml_tree.specs.PatternViews.{constant_of, pat_of}
+use Rattle.sml_tree.proofs.ExpViews.{exp_of-application, exp_of-typed, exp_of-bracket, exp_of-row, exp_of-tuple}
 use Rattle.sml_objects.specs.Views.{type_of}
 use Rattle.sml_core.proofs.Sequences.{by-err}
 use Rattle.sml_core.proofs.Applying.{application-read, argument-refused, bracket-read, constant-is, function-refused, read-memory}
-use Rattle.sml_core.proofs.Views.{exp_of-constant, exp_of-identifier, exp_of-raise, field_of-parts, function-never, handle-never, let-never, typed-never}
+use Rattle.sml_core.proofs.Views.{exp_of-constant, exp_of-function, exp_of-handle, exp_of-identifier, exp_of-raise, field_of-parts, let-never, rule_of-parts, rules-left}
 use Rattle.sml_core.proofs.Tuples.{ReadsAll, none-read, one-more, one-refused, tuple-read}
 use Rattle.sml_core.proofs.Rows.{no-field-read, one-field-more, one-field-refused, fields-memory, fields-seen, row-read, row-refused, row_in, row_types}
 use Rattle.sml_types.proofs.RowFields.{fields-put, ranked-put}
 use Rattle.sml_types.proofs.SideArguments.{mapped-next, mapped-split}
 use Rattle.sml_core.proofs.Raising.{raise-read, raise-refused}
+use Rattle.sml_core.proofs.Constraints.{typed-read, typed-refused}
+use Rattle.sml_core.proofs.Matches.{AreRead, fn-read, fn-refused, fn-unjudged, handle-read, handle-refused, handler-refused, like-stopped, no-rules-read, none-read as no-rule-read, one-rule-more, rule-stopped, rules-read}
+use Rattle.sml_core.proofs.Opening.{open-refused, right-refused, rule-memory, rule-read}
+use Rattle.sml_core.specs.Rules.{Handles, OpensRule, ReadsRule, ReadsRules}
 use Rattle.sml_core.specs.Answered.{Applies, Raises, Reads, ReadsFields, Row}
 use Rattle.sml_core.proofs.context.Context.+core.Goals as goal
 
@@ -55,13 +61,34 @@ expression-returns-in_err-argument-in-Application t c =
     (subst (λ d. Reads mid (exp_of d) new (Err c.in_err-argument-in-Application.field-0.0)) c.deref-in-Application-2.ensures c.in_err-argument-in-Application.ensures)))
 
 pub expression-returns-in_err-ty-in-Handle : goal.expression-returns-in_err-ty-in-Handle
-expression-returns-in_err-ty-in-Handle t c = handle-never c.args.self.now _ c.args.exp.now _ _ _ _ c.in-Handle.is
+expression-returns-in_err-ty-in-Handle t c =
+    let old = c.args.self.now in
+    let new = c.expression-in-Handle.new.self in
+    let p = c.in-Handle.place in
+    let e = exp_of c.in-Handle.exp.value in
+    let m = rules_of (map rule_of c.in-Handle.rules.items) in
+    let f = c.in_err-ty-in-Handle.field-0.0 in
+    by-err (Reads old (exp_of c.args.exp.now) new) c.from_residual-in_err-ty-in-Handle.result f c.from_residual-in_err-ty-in-Handle.ensures.1
+    (subst (λ d. Reads old d new (Err f)) (sym (ap exp_of c.in-Handle.is ∙ exp_of-handle p c.in-Handle.exp c.in-Handle.rules))
+    (handle-refused old new new p e m f (subst (λ d. Reads old (exp_of d) new (Err f)) c.deref-in-Handle.ensures c.in_err-ty-in-Handle.ensures)))
 
 pub expression-returns-in_err-decs-in-Let : goal.expression-returns-in_err-decs-in-Let
 expression-returns-in_err-decs-in-Let t c = let-never c.args.self.now _ c.args.exp.now _ _ _ _ c.in-Let.is
 
 pub expression-returns-in_err-handler-in-Handle : goal.expression-returns-in_err-handler-in-Handle
-expression-returns-in_err-handler-in-Handle t c = handle-never c.args.self.now _ c.args.exp.now _ _ _ _ c.in-Handle.is
+expression-returns-in_err-handler-in-Handle t c =
+    let old = c.args.self.now in
+    let mid = c.expression-in-Handle.new.self in
+    let new = c.rules.new.self in
+    let p = c.in-Handle.place in
+    let e = exp_of c.in-Handle.exp.value in
+    let m = rules_of (map rule_of c.in-Handle.rules.items) in
+    let f = c.in_err-handler-in-Handle.field-0.0 in
+    let found = c.in_ok-ty-in-Handle.ty in
+    by-err (Reads old (exp_of c.args.exp.now) new) c.from_residual-in_err-handler-in-Handle.result f c.from_residual-in_err-handler-in-Handle.ensures.1
+    (subst (λ d. Reads old d new (Err f)) (sym (ap exp_of c.in-Handle.is ∙ exp_of-handle p c.in-Handle.exp c.in-Handle.rules))
+    (handler-refused old mid new p e m found (subst (λ d. Reads old (exp_of d) mid (Ok found)) c.deref-in-Handle.ensures c.in_ok-ty-in-Handle.ensures) f
+    (subst (λ rs. ReadsRules mid (rules_of (map rule_of rs)) new (Err f)) c.deref-in-Handle-2.ensures.value c.in_err-handler-in-Handle.ensures)))
 
 pub expression-returns-in-Constant : goal.expression-returns-in-Constant
 expression-returns-in-Constant t c =
@@ -103,17 +130,35 @@ expression-returns-in_ok-argument-in-Application t c =
     (subst (λ t. Applies last p (type_of t) (type_of argument.value) c.applied.new.self c.applied.result) c.deref-in-Application-3.ensures c.applied.ensures))
 
 pub expression-returns-in-Typed : goal.expression-returns-in-Typed
-expression-returns-in-Typed t c = typed-never c.args.self.now _ c.args.exp.now _ _ _ _ c.in-Typed.is
+expression-returns-in-Typed t c =
+    subst (λ d. Reads c.args.self.now d c.typed.new.self c.typed.result)
+    ((λ i. E.typed c.in-Typed.place (exp_of (c.deref-in-Typed.ensures i)) (ty_of (c.deref-in-Typed-2.ensures i))) ∙ sym (ap exp_of c.in-Typed.is ∙ exp_of-typed c.in-Typed.place c.in-Typed.exp c.in-Typed.ty)) c.typed.ensures
 
 pub expression-returns-in_ok-handler-in-Handle : goal.expression-returns-in_ok-handler-in-Handle
-expression-returns-in_ok-handler-in-Handle t c = handle-never c.args.self.now _ c.args.exp.now _ _ _ _ c.in-Handle.is
+expression-returns-in_ok-handler-in-Handle t c =
+    let old = c.args.self.now in
+    let mid = c.expression-in-Handle.new.self in
+    let last = c.rules.new.self in
+    let new = c.handled.new.self in
+    let p = c.in-Handle.place in
+    let e = exp_of c.in-Handle.exp.value in
+    let m = rules_of (map rule_of c.in-Handle.rules.items) in
+    let found = c.in_ok-ty-in-Handle.ty in
+    let handler = c.in_ok-handler-in-Handle.handler in
+    subst (λ d. Reads old d new c.handled.result) (sym (ap exp_of c.in-Handle.is ∙ exp_of-handle p c.in-Handle.exp c.in-Handle.rules))
+    (handle-read old mid last p e m found (subst (λ d. Reads old (exp_of d) mid (Ok found)) c.deref-in-Handle.ensures c.in_ok-ty-in-Handle.ensures) handler new c.handled.result
+    (subst (λ rs. ReadsRules mid (rules_of (map rule_of rs)) last (Ok handler)) c.deref-in-Handle-2.ensures.value c.in_ok-handler-in-Handle.ensures)
+    (subst (λ x. Handles last p (type_of found.value) (type_of x) m new c.handled.result) c.deref-in-Handle-3.ensures
+    (subst (λ rs. Handles last p (type_of found.value) (type_of c.deref-in-Handle-3.result.now) (rules_of (map rule_of rs)) new c.handled.result) c.deref-in-Handle-4.ensures.value c.handled.ensures)))
 
 pub expression-returns-in-Raise : goal.expression-returns-in-Raise
 expression-returns-in-Raise t c =
     subst (λ d. Reads c.args.self.now d c.raise.new.self c.raise.result) (ap (λ e. E.raise c.in-Raise.place (exp_of e)) c.deref-in-Raise.ensures ∙ sym (ap exp_of c.in-Raise.is ∙ exp_of-raise c.in-Raise.place c.in-Raise.exp)) c.raise.ensures
 
 pub expression-returns-in-Function : goal.expression-returns-in-Function
-expression-returns-in-Function t c = function-never c.args.self.now _ c.args.exp.now _ _ _ c.in-Function.is
+expression-returns-in-Function t c =
+    subst (λ d. Reads c.args.self.now d c.function.new.self c.function.result)
+    (ap (λ rs. E.fn c.in-Function.place (rules_of (map rule_of rs))) c.deref-in-Function.ensures.value ∙ sym (ap exp_of c.in-Function.is ∙ exp_of-function c.in-Function.place c.in-Function.rules)) c.function.ensures
 
 pub expression-returns-in-Identifier : goal.expression-returns-in-Identifier
 expression-returns-in-Identifier t c =
@@ -255,3 +300,162 @@ row-returns-in_err-row_of t c = λ p.
 pub row-returns : goal.row-returns
 row-returns t c = λ p.
     row-read row_in c.args.self.now c.fields.new.self p (fields_of (map field_of c.args.fields.now)) c.in_ok-fields.fields c.in_ok-row_of.field-0 c.in_ok-fields.ensures.reads (c.in_ok-row_of.ensures c.in_ok-fields.ensures.ranked)
+
+-- constraints
+
+pub typed-returns-in_err-found : goal.typed-returns-in_err-found
+typed-returns-in_err-found t c =
+    let e = exp_of c.args.exp.now in
+    let ty = ty_of c.args.ty.now in
+    by-err (Reads c.args.self.now (E.typed c.args.place e ty) c.expression.new.self) c.from_residual.result c.in_err-found.field-0.0 c.from_residual.ensures.1
+    (typed-refused c.args.self.now c.expression.new.self c.args.place e ty c.in_err-found.field-0.0 c.in_err-found.ensures)
+
+pub typed-returns : goal.typed-returns
+typed-returns t c =
+    typed-read c.args.self.now c.expression.new.self c.constrained.new.self c.args.place (exp_of c.args.exp.now) (ty_of c.args.ty.now) c.in_ok-found.found c.constrained.result c.in_ok-found.ensures c.constrained.ensures
+
+-- matches
+
+pub rules-loop-rule-init : goal.rules-loop-rule-init
+rules-loop-rule-init t c = no-rule-read c.args.self.now (rules_of (map rule_of c.args.rules.now))
+
+pub rules-loop-rule-preserved : goal.rules-loop-rule-preserved
+rules-loop-rule-preserved t c =
+    let old = c.args.self.now in
+    let i = c.loop-rule.rule-index in
+    let x = c.rule-item.result in
+    let r = out-Rule x in
+    let m = rules_of (map rule_of c.args.rules.now) in
+    let first = option_map (λ t. type_of t.value) c.loop-rule.first in
+    let rest = rules_of (map rule_of (drop (i + 1) c.args.rules.now)) in
+    let now = c.loop-rule.self in
+    let mid = c.rule.new.self in
+    let so = subst (λ n. AreRead old m first n now) (rules-left c.args.rules.now i x c.loop-rule-test.true c.rule-item.is) c.loop-rule.invariant in
+    let a = c.in_ok-ty.ty in
+    one-rule-more old now mid c.like_first.new.self m first r.place (pat_of r.pat) (exp_of r.exp) rest so a (subst (λ r. ReadsRule now r mid (Ok a)) (rule_of-parts x) c.in_ok-ty.ensures)
+    c.in_ok-like_first.field-0 c.in_ok-like_first.ensures
+
+pub rules-returns-in_err-ty : goal.rules-returns-in_err-ty
+rules-returns-in_err-ty t c =
+    let old = c.args.self.now in
+    let i = c.loop-rule.rule-index in
+    let x = c.rule-item.result in
+    let r = out-Rule x in
+    let m = rules_of (map rule_of c.args.rules.now) in
+    let first = option_map (λ t. type_of t.value) c.loop-rule.first in
+    let rest = rules_of (map rule_of (drop (i + 1) c.args.rules.now)) in
+    let now = c.loop-rule.self in
+    let mid = c.rule.new.self in
+    let so = subst (λ n. AreRead old m first n now) (rules-left c.args.rules.now i x c.loop-rule-test.true c.rule-item.is) c.loop-rule.invariant in
+    let f = c.in_err-ty.field-0.0 in
+    by-err (ReadsRules old m mid) c.from_residual.result f c.from_residual.ensures.1
+    (rule-stopped old now mid mid m first r.place (pat_of r.pat) (exp_of r.exp) rest so f (subst (λ r. ReadsRule now r mid (Err f)) (rule_of-parts x) c.in_err-ty.ensures))
+
+pub rules-returns-in_err-like_first : goal.rules-returns-in_err-like_first
+rules-returns-in_err-like_first t c =
+    let old = c.args.self.now in
+    let i = c.loop-rule.rule-index in
+    let x = c.rule-item.result in
+    let r = out-Rule x in
+    let m = rules_of (map rule_of c.args.rules.now) in
+    let first = option_map (λ t. type_of t.value) c.loop-rule.first in
+    let rest = rules_of (map rule_of (drop (i + 1) c.args.rules.now)) in
+    let now = c.loop-rule.self in
+    let mid = c.rule.new.self in
+    let so = subst (λ n. AreRead old m first n now) (rules-left c.args.rules.now i x c.loop-rule-test.true c.rule-item.is) c.loop-rule.invariant in
+    let a = c.in_ok-ty.ty in
+    let f = c.in_err-like_first.field-0.0 in
+    let new = c.like_first.new.self in
+    by-err (ReadsRules old m new) c.from_residual-in_err-like_first.result f c.from_residual-in_err-like_first.ensures.1
+    (like-stopped old now mid new m first r.place (pat_of r.pat) (exp_of r.exp) rest so a (subst (λ r. ReadsRule now r mid (Ok a)) (rule_of-parts x) c.in_ok-ty.ensures) f c.in_err-like_first.ensures)
+
+pub rules-returns-in-Some : goal.rules-returns-in-Some
+rules-returns-in-Some t c =
+    let old = c.args.self.now in
+    let m = rules_of (map rule_of c.args.rules.now) in
+    let now = c.loop-rule.self in
+    let so = subst (λ rs. AreRead old m (option_map (λ t. type_of t.value) c.loop-rule.first) (rules_of (map rule_of rs)) now)
+    (drop_all c.loop-rule.rule-index c.args.rules.now c.loop-rule-test.false) c.loop-rule.invariant in
+    rules-read old now m c.in-Some.ty (subst (λ o. AreRead old m (option_map (λ t. type_of t.value) o) E.no_rule now) c.in-Some.is so)
+
+pub rules-returns-in-None : goal.rules-returns-in-None
+rules-returns-in-None t c =
+    let old = c.args.self.now in
+    let m = rules_of (map rule_of c.args.rules.now) in
+    let now = c.loop-rule.self in
+    let so = subst (λ rs. AreRead old m (option_map (λ t. type_of t.value) c.loop-rule.first) (rules_of (map rule_of rs)) now)
+    (drop_all c.loop-rule.rule-index c.args.rules.now c.loop-rule-test.false) c.loop-rule.invariant in
+    no-rules-read old now m c.unknown.new.self c.unknown.result (subst (λ o. AreRead old m (option_map (λ t. type_of t.value) o) E.no_rule now) c.in-None.is so) c.unknown.ensures
+
+pub rule-returns-in_err-from : goal.rule-returns-in_err-from
+rule-returns-in_err-from t c =
+    let old = c.args.self.now in
+    let r = out-Rule c.args.rule.now in
+    let parts = rule_of-parts c.args.rule.now in
+    let mid = c.rule_pattern.new.self in
+    let f = c.in_err-from.field-0.0 in
+    by-err (ReadsRule old (rule_of c.args.rule.now) mid) c.from_residual.result f c.from_residual.ensures.1
+    (subst (λ r. ReadsRule old r mid (Err f)) (sym parts)
+    (open-refused old mid mid r.place (pat_of r.pat) (exp_of r.exp) f (subst (λ r. OpensRule old r mid (Err f)) parts c.in_err-from.ensures)))
+
+pub rule-returns-in_err-to : goal.rule-returns-in_err-to
+rule-returns-in_err-to t c =
+    let old = c.args.self.now in
+    let r = out-Rule c.args.rule.now in
+    let parts = rule_of-parts c.args.rule.now in
+    let mid = c.rule_pattern.new.self in
+    let f = c.in_err-to.field-0.0 in
+    let last = c.expression.new.self in
+    let from = c.in_ok-from.from in
+    by-err (ReadsRule old (rule_of c.args.rule.now) last) c.from_residual-in_err-to.result f c.from_residual-in_err-to.ensures.1
+    (subst (λ r. ReadsRule old r last (Err f)) (sym parts)
+    (right-refused old mid last r.place (pat_of r.pat) (exp_of r.exp) from (subst (λ r. OpensRule old r mid (Ok from)) parts c.in_ok-from.ensures) f c.in_err-to.ensures))
+
+pub rule-returns-in_err-leave : goal.rule-returns-in_err-leave
+rule-returns-in_err-leave t c =
+    by-err (ReadsRule c.args.self.now (rule_of c.args.rule.now) c.leave.new.self) c.from_residual-in_err-leave.result F.Memory c.from_residual-in_err-leave.ensures.1
+    (rule-memory c.args.self.now c.leave.new.self (rule_of c.args.rule.now))
+
+pub rule-returns-in_err-arrow : goal.rule-returns-in_err-arrow
+rule-returns-in_err-arrow t c =
+    by-err (ReadsRule c.args.self.now (rule_of c.args.rule.now) c.leave.new.self) c.from_residual-in_err-arrow.result F.Memory c.from_residual-in_err-arrow.ensures.1
+    (rule-memory c.args.self.now c.leave.new.self (rule_of c.args.rule.now))
+
+pub rule-returns : goal.rule-returns
+rule-returns t c =
+    let old = c.args.self.now in
+    let r = out-Rule c.args.rule.now in
+    let parts = rule_of-parts c.args.rule.now in
+    let mid = c.rule_pattern.new.self in
+    let last = c.expression.new.self in
+    let new = c.leave.new.self in
+    let from = c.in_ok-from.from in
+    let result = c.in_ok-arrow.field-0 in
+    subst (λ r. ReadsRule old r new (Ok result)) (sym parts)
+    (rule-read old mid last r.place (pat_of r.pat) (exp_of r.exp) from (subst (λ r. OpensRule old r mid (Ok from)) parts c.in_ok-from.ensures) new c.mark-mark.result c.in_ok-to.to result
+    c.in_ok-to.ensures c.mark-mark.ensures.meant c.mark-mark.ensures.around c.in_ok-leave.ensures.left c.in_ok-leave.ensures.around c.leave.ensures.same c.in_ok-arrow.ensures)
+
+pub function-returns-in_err-ty : goal.function-returns-in_err-ty
+function-returns-in_err-ty t c =
+    let old = c.args.self.now in
+    let mid = c.rules.new.self in
+    let m = rules_of (map rule_of c.args.rules.now) in
+    let f = c.in_err-ty.field-0.0 in
+    by-err (Reads old (E.fn c.args.place m) mid) c.from_residual.result f c.from_residual.ensures.1 (fn-refused old mid c.args.place m f c.in_err-ty.ensures)
+
+pub function-returns-in_err-judge_rules : goal.function-returns-in_err-judge_rules
+function-returns-in_err-judge_rules t c =
+    let old = c.args.self.now in
+    let mid = c.rules.new.self in
+    let m = rules_of (map rule_of c.args.rules.now) in
+    let f = c.in_err-judge_rules.field-0.0 in
+    let new = record mid { warnings = c.judge_rules.new.warnings } in
+    by-err (Reads old (E.fn c.args.place m) new) c.from_residual-in_err-judge_rules.result f c.from_residual-in_err-judge_rules.ensures.1
+    (fn-unjudged old mid c.args.place m c.in_ok-ty.ty c.in_ok-ty.ensures new f c.in_err-judge_rules.ensures.fault)
+
+pub function-returns : goal.function-returns
+function-returns t c =
+    let old = c.args.self.now in
+    let mid = c.rules.new.self in
+    let m = rules_of (map rule_of c.args.rules.now) in
+    fn-read old mid c.args.place m c.in_ok-ty.ty c.in_ok-ty.ensures c.judge_rules.new.warnings

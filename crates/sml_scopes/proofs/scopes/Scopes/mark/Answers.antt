@@ -6,8 +6,8 @@ use Rattle.sml_scopes.specs.Means.{AreMeant}
 use Rattle.sml_scopes.proofs.Meanings.{all-bound, count-opened, meant-same}
 use Rattle.sml_scopes.proofs.scopes.Scopes.mark.Goals as goal
 
-pub returns : goal.returns
-returns c = λ C m.
+pub returns-clause-meant : goal.returns-clause-meant
+returns-clause-meant c = λ C m.
     let s = c.args.self.now in
     let vs = c.count.ensures in
     let ts = c.count-2.ensures in

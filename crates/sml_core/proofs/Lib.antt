@@ -20,3 +20,4 @@ pub mod PatternViews
 pub mod PatternRows
 pub mod PatternLists
 pub mod PatternForms
+pub mod Beginning

@@ -24,9 +24,9 @@ use Rattle.sml_layers.specs.Demands.{asks, within}
 use Rattle.sml_core_rules.specs.Objects.{Env, Value, Status}
 use Rattle.sml_core_rules.specs.Scopes.{run_scope}
 use Rattle.sml_core_rules.specs.Scripts.{Script, IsAnswer, new_unknown, require, ◌>>=◌}
-use Rattle.sml_core_rules.specs.States.{State, Window}
+use Rattle.sml_core_rules.specs.States.{State, Window, no_window}
 use Rattle.sml_core_rules.specs.Values.{applied, apply_general, instance, require_attributes, require_equal, require_status}
-use Rattle.sml_core_rules.specs.Expressions.{exn_type, read_exp, read_fields}
+use Rattle.sml_core_rules.specs.Expressions.{at_first, exn_type, read_exp, read_fields}
 use Rattle.sml_scopes.specs.Means.{Means, MeansAt}
 use Rattle.sml_scopes.specs.declared.scopes.Mark.{Mark}
 use Rattle.sml_types.specs.declared.fault.CoreFault.{CoreFault}
@@ -61,6 +61,11 @@ pub record Keeps (old new : Context) : Type 0 where
   pub means : (C : Env Name) → Means old.scopes C → Means new.scopes C
   pub around : (C : Env Name) (m : Mark) → MeansAt old.scopes m C → MeansAt new.scopes m C
   pub scoped : (vs : Map (MlType Name)) → AreScoped old.explicit vs → AreScoped new.explicit vs
+
+-- A context is at the beginning of a run over these names, and sees this environment and no explicit type variable.
+pub record Begins (C : Env Name) (ns : List Name) (c : Context) : Type 0 where
+  pub at : IsAt no_window c (at_first ns)
+  pub sees : Sees C [] c (at_first ns)
 
 -- After the script's answer with an object the context is that of a later state, of the same unit, and sees what it saw.
 pub record Reaches {X : Type 0} (around : Window Place Name) (old : Context) (k : Script Place Name X) (s : State Place Name) (new : Context) (x : X) (t : State Place Name) : Type 0 where

@@ -1,6 +1,6 @@
 //! What elaboration knows while it goes through a top-level declaration.
 
-ghost use Rattle.std.specs.Prelude.{◌≡◌, ◌≢◌, ◌+◌, [], ◌∷◌, Some, None, true, false, OnOk};
+ghost use Rattle.std.specs.Prelude.{◌≡◌, ◌≢◌, ◌+◌, List, [], ◌∷◌, Some, None, true, false, OnOk};
 ghost use Rattle.std.specs.Option.{IfSome};
 ghost use Rattle.sml_lex.specs.declared.fault.Code.{Code};
 ghost use Rattle.sml_lex.specs.declared.fault.Code.TheVariants.{E1};
@@ -24,10 +24,11 @@ ghost use Rattle.sml_scopes.specs.Means.{BasisMeans, IsAround, Means, MeansAt};
 ghost use Rattle.sml_types.specs.Answered.{IsAnswer, IsFault};
 ghost use Rattle.sml_types.specs.declared.fault.CoreFault.TheVariants as CoreFault;
 ghost use Rattle.sml_types.specs.Meant.{meant};
-ghost use Rattle.sml_core.specs.Answered.{AsksAttributes, AsksStatus, Equates, FindsValue, Limits, MakesInstance, MakesUnknown, Watches, unit_of};
+ghost use Rattle.sml_asks.specs.Solvers.{AreNames};
+ghost use Rattle.sml_core.specs.Answered.{AsksAttributes, AsksStatus, Begins, Equates, FindsValue, Limits, MakesInstance, MakesUnknown, Watches, unit_of};
 ghost use Rattle.sml_core.specs.Bound.{Extends, IsAnew};
 ghost use Rattle.sml_core.specs.Patterns.{ReadsConstraint};
-ghost use Rattle.sml_core.specs.Seen.{AreScoped};
+ghost use Rattle.sml_core.specs.Seen.{AreFunctionsIn, AreScoped, AreValuesIn};
 
 use crate::explicit::Explicit;
 use crate::recorder::{Meeting, Recorder, Seen};
@@ -101,6 +102,7 @@ impl<'a> Context<'a> {
         ensures quiet { result.recorder.wanted ≡ None }
         ensures exports { result.exports ≡ None }
         ensures closed { result.is_open ≡ false }
+        ensures begins { (C : O.Env Name) (ns : List Name) → BasisMeans basis.now C → AreValuesIn 0 ns C → AreFunctionsIn 0 ns C → AreNames (unit_of result) result.new.next ns → Begins C ns result }
     {
         Context {
             alloc,

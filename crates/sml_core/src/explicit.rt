@@ -1,6 +1,6 @@
 //! Explicit type variables in scope (the Definition, section 4.6).
 
-ghost use Rattle.std.specs.Prelude.{◌≡◌};
+ghost use Rattle.std.specs.Prelude.{◌≡◌, []};
 ghost use Rattle.std.specs.Option.{option_map};
 ghost use Rattle.sml_tree.specs.Trees.{Id};
 ghost use Rattle.sml_objects.specs.Maps.{lookup};
@@ -24,7 +24,9 @@ pub(crate) struct Explicit {
 }
 
 impl Explicit {
-    pub(crate) fn new(alloc: Global) -> Explicit {
+    pub(crate) fn new(alloc: Global) -> Explicit
+        ensures { result.unknowns.entries ≡ [] }
+    {
         Explicit {
             unknowns: IndexMap::new(alloc),
         }

@@ -21,3 +21,4 @@ pub mod PatternRows
 pub mod PatternLists
 pub mod PatternForms
 pub mod Beginning
+pub mod Speaking

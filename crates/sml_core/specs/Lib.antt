@@ -1,4 +1,5 @@
 pub mod Answered
+pub mod Beginnings
 pub mod Bound
 pub mod Patterns
 pub mod Rules

@@ -5,6 +5,7 @@ pub mod context;
 pub mod declarations;
 mod explicit;
 mod expressions;
+pub mod laws;
 mod patterns;
 pub mod recorder;
 pub mod values;

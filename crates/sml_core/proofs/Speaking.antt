@@ -9,7 +9,7 @@ use Rattle.sml_core_rules.specs.Objects.{Status, constructor, exception, overloa
 use Rattle.sml_core_laws.specs.Made.{AllSpeak, HasVariable, IsEnvIn, IsHeadIn, Speaks, Takes}
 use Rattle.sml_core_laws.proofs.MadeEnvs.{type-found, value-found}
 use Rattle.sml_core_laws.proofs.MadeInitial.{beginnings-are-well-made}
-use Rattle.sml_core.specs.Beginnings.{EnvironmentsSpeak, TheInitialOneSpeaks}
+use Rattle.sml_core.specs.Beginnings.{EnvironmentsCanBeSeen, TheInitialOneCanBeSeen}
 use Rattle.sml_core.specs.Seen.{AreFunctionsIn, AreValuesIn, WhereOverloaded}
 
 module _ (S : Head Name → ℕ → Type 0) (names : List Name) (n made : ℕ) (V : ℕ → Type 0) (known : (v : ℕ) → V v → v < made) where
@@ -43,19 +43,19 @@ status-in (constructor k n) σ h = tt
 status-in exception σ h = tt
 status-in (overloaded c) σ h = h
 
-pub environments-speak : EnvironmentsSpeak
+pub can-be-seen : EnvironmentsCanBeSeen
 unfolding AreValuesIn AreFunctionsIn
-environments-speak made names C h =
+can-be-seen made names C h =
     let S = Takes naming in (
-  (λ x v e.
-      let k = value-found S made names C x v h e in
-      let n = length v.scheme.variables in
-      record { unknowns = over S names n made (λ v. v < made) (λ v h. h) v.scheme.body k.0; mentions = mentions S names n made (λ v. v < made) (λ v h. h) v.scheme.body k.0; status = status-in v.status v.scheme k.1 }),
-  (λ c t e.
-      let k = type-found S made names C c t h e in
-      let n = length t.function.variables in
-      record { unknowns = over S names n made (λ v. ⊥) (λ v h. absurd h) t.function.body k.0; mentions = mentions S names n made (λ v. ⊥) (λ v h. absurd h) t.function.body k.0 }),
-)
+      (λ x v e.
+          let k = value-found S made names C x v h e in
+          let n = length v.scheme.variables in
+          record { unknowns = over S names n made (λ v. v < made) (λ v h. h) v.scheme.body k.0; mentions = mentions S names n made (λ v. v < made) (λ v h. h) v.scheme.body k.0; status = status-in v.status v.scheme k.1 }),
+      (λ c t e.
+          let k = type-found S made names C c t h e in
+          let n = length t.function.variables in
+          record { unknowns = over S names n made (λ v. ⊥) (λ v h. absurd h) t.function.body k.0; mentions = mentions S names n made (λ v. ⊥) (λ v h. absurd h) t.function.body k.0 }),
+    )
 
-pub the-initial-one-speaks : TheInitialOneSpeaks
-the-initial-one-speaks = environments-speak 0 _ _ beginnings-are-well-made.0
+pub initial-can-be-seen : TheInitialOneCanBeSeen
+initial-can-be-seen = can-be-seen 0 _ _ beginnings-are-well-made.0

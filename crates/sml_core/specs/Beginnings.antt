@@ -7,11 +7,11 @@ use Rattle.sml_core_laws.specs.Made.{IsEnvIn, Takes}
 use Rattle.sml_core.specs.Seen.{AreFunctionsIn, AreValuesIn}
 
 -- What stands in an environment speaks of what was made, wherever it is found.
-abbrev pub Speaks : ℕ → List Name → Env Name → Type 0
-Speaks made names C = AreValuesIn made names C × AreFunctionsIn made names C
+abbrev pub CanBeSeen : ℕ → List Name → Env Name → Type 0
+CanBeSeen made names C = AreValuesIn made names C × AreFunctionsIn made names C
 
-abbrev pub EnvironmentsSpeak : Type 0
-EnvironmentsSpeak = (made : ℕ) (names : List Name) (C : Env Name) → IsEnvIn (Takes naming) made names C → Speaks made names C
+abbrev pub EnvironmentsCanBeSeen : Type 0
+EnvironmentsCanBeSeen = (made : ℕ) (names : List Name) (C : Env Name) → IsEnvIn (Takes naming) made names C → CanBeSeen made names C
 
-abbrev pub TheInitialOneSpeaks : Type 0
-TheInitialOneSpeaks = Speaks 0 initial_names initial_env
+abbrev pub TheInitialOneCanBeSeen : Type 0
+TheInitialOneCanBeSeen = CanBeSeen 0 initial_names initial_env

@@ -22,3 +22,4 @@ pub mod PatternLists
 pub mod PatternForms
 pub mod Beginning
 pub mod Speaking
+pub mod Entering

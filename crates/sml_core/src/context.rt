@@ -10,15 +10,15 @@ ghost use Rattle.sml_tree.specs.Withtype.{unlisted};
 ghost use Rattle.sml_objects.specs.Initial.{Name};
 ghost use Rattle.sml_objects.specs.Maps.{Map, lookup};
 ghost use Rattle.sml_objects.specs.Objects as T;
-ghost use Rattle.sml_objects.specs.Views.{type_of};
+ghost use Rattle.sml_objects.specs.Views.{entries_of, type_of};
 ghost use Rattle.sml_graph.specs.Refusals.{refusal_code};
 ghost use Rattle.sml_core_rules.specs.Answers.{need};
 ghost use Rattle.sml_core_rules.specs.Lookups as found;
 ghost use Rattle.sml_core_rules.specs.Types.{read_ty};
 ghost use Rattle.sml_core_rules.specs.Values.{constructs, is_constructor};
 ghost use Rattle.sml_core_rules.specs.Objects as O;
-ghost use Rattle.sml_core_rules.specs.Objects.{and_structure, empty, maps, no_structure, overloaded};
-ghost use Rattle.sml_bases.specs.Views.{env_of, status_of, ty_str_of, value_of};
+ghost use Rattle.sml_core_rules.specs.Objects.{and_structure, empty, maps, no_structure, of_types, of_values, overloaded};
+ghost use Rattle.sml_bases.specs.Views.{env_of, status_of, structures_of, ty_str_of, value_of};
 ghost use Rattle.sml_bases.specs.declared.objects.Basis.{out-Basis};
 ghost use Rattle.sml_scopes.specs.Means.{BasisMeans, IsAround, Means, MeansAt};
 ghost use Rattle.sml_types.specs.Answered.{IsAnswer, IsFault};
@@ -187,7 +187,12 @@ impl<'a> Context<'a> {
     }
 
     /// Binds what an environment holds, entry by entry.
-    pub fn bind_env(&mut self, env: Env) -> Result<(), Memory> {
+    pub fn bind_env(&mut self, env: Env) -> Result<(), Memory>
+        ensures bound { OnOk result (Extends self.entry.now.scopes (env_of env) self.exit.now.scopes) }
+        ensures around { OnOk result ((C : O.Env Name) (m : Mark) → MeansAt self.entry.now.scopes m C → MeansAt self.exit.now.scopes m C) }
+        ensures same { self.exit.now ≡ record self.entry.now { scopes = self.exit.now.scopes; exports = self.exit.now.exports; recorder = self.exit.now.recorder } }
+        ensures wanted { self.exit.now.recorder.wanted ≡ self.entry.now.recorder.wanted }
+    {
         let Env {
             structures,
             types,
@@ -199,21 +204,35 @@ impl<'a> Context<'a> {
         self.bind_values(values)
     }
 
-    fn bind_structures(&mut self, structures: BTreeMap<Ident, Rc<Env>>) -> Result<(), Memory> {
+    fn bind_structures(&mut self, structures: BTreeMap<Ident, Rc<Env>>) -> Result<(), Memory>
+        ensures bound { OnOk result (Extends self.entry.now.scopes (maps (structures_of (entries_of (λ s. env_of s.value) structures.entries)) [] []) self.exit.now.scopes) }
+        ensures around { OnOk result ((C : O.Env Name) (m : Mark) → MeansAt self.entry.now.scopes m C → MeansAt self.exit.now.scopes m C) }
+        ensures same { self.exit.now ≡ record self.entry.now { scopes = self.exit.now.scopes; exports = self.exit.now.exports; recorder = self.exit.now.recorder } }
+        ensures wanted { self.exit.now.recorder.wanted ≡ self.entry.now.recorder.wanted }
+    {
         for (name, structure) in structures {
             self.bind_structure(&name, structure)?;
         }
         Ok(())
     }
 
-    fn bind_types(&mut self, types: BTreeMap<Ident, TypeStr>) -> Result<(), Memory> {
+    fn bind_types(&mut self, types: BTreeMap<Ident, TypeStr>) -> Result<(), Memory>
+        ensures bound { OnOk result (Extends self.entry.now.scopes (of_types (entries_of ty_str_of types.entries)) self.exit.now.scopes) }
+        ensures around { OnOk result ((C : O.Env Name) (m : Mark) → MeansAt self.entry.now.scopes m C → MeansAt self.exit.now.scopes m C) }
+        ensures same { self.exit.now ≡ record self.entry.now { scopes = self.exit.now.scopes; exports = self.exit.now.exports; recorder = self.exit.now.recorder } }
+        ensures wanted { self.exit.now.recorder.wanted ≡ self.entry.now.recorder.wanted }
+    {
         for (name, ty) in types {
             self.bind_type(&name, ty)?;
         }
         Ok(())
     }
 
-    fn bind_values(&mut self, values: BTreeMap<Ident, Value>) -> Result<(), Memory> {
+    fn bind_values(&mut self, values: BTreeMap<Ident, Value>) -> Result<(), Memory>
+        ensures bound { OnOk result (Extends self.entry.now.scopes (of_values (entries_of value_of values.entries)) self.exit.now.scopes) }
+        ensures around { OnOk result ((C : O.Env Name) (m : Mark) → MeansAt self.entry.now.scopes m C → MeansAt self.exit.now.scopes m C) }
+        ensures same { self.exit.now ≡ record self.entry.now { scopes = self.exit.now.scopes; exports = self.exit.now.exports } }
+    {
         for (name, value) in values {
             self.bind_value(&name, value)?;
         }

@@ -23,3 +23,4 @@ pub mod PatternForms
 pub mod Beginning
 pub mod Speaking
 pub mod Entering
+pub mod Declaring

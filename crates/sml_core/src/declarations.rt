@@ -1,12 +1,14 @@
 //! Declarations (the Definition, section 4.10, rules 15 to 24, 30 and 31).
 
-ghost use Rattle.std.specs.Prelude.{◌≡◌, ◌≢◌, None};
+ghost use Rattle.std.specs.Prelude.{◌≡◌, ◌≢◌, None, map};
 ghost use Rattle.std.specs.Option.{IfSome};
 ghost use Rattle.sml_objects.specs.Initial as I;
 ghost use Rattle.sml_core_rules.specs.Objects as O;
 ghost use Rattle.sml_core_rules.specs.Objects.{empty};
 ghost use Rattle.sml_bases.specs.Views.{env_of};
+ghost use Rattle.sml_tree.specs.BindingViews.{typ_bind_of};
 ghost use Rattle.sml_scopes.specs.Means.{Means, MeansAt};
+ghost use Rattle.sml_core.specs.Declarations.{DeclaresTypes};
 
 use crate::context::Context;
 use crate::expressions::of_type;
@@ -176,7 +178,9 @@ impl Context<'_> {
     }
 
     #[inline(never)]
-    fn type_dec(&mut self, place: Place, binds: &[TypBind]) -> Result<(), CoreFault> {
+    fn type_dec(&mut self, place: Place, binds: &[TypBind]) -> Result<(), CoreFault>
+        ensures { DeclaresTypes self.entry.now place (map typ_bind_of binds.now) self.exit.now result }
+    {
         let env = types(self.alloc, &self.scopes, place, binds)?;
         Ok(self.bind_env(env)?)
     }

@@ -24,3 +24,6 @@ pub mod Beginning
 pub mod Speaking
 pub mod Entering
 pub mod Declaring
+pub mod Begun
+pub mod Gathered
+pub mod Scoping

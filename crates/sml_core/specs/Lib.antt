@@ -1,5 +1,6 @@
 pub mod Answered
 pub mod Beginnings
+pub mod Begun
 pub mod Bound
 pub mod Declarations
 pub mod Patterns

@@ -1,11 +1,13 @@
 //! Explicit type variables in scope (the Definition, section 4.6).
 
-ghost use Rattle.std.specs.Prelude.{◌≡◌, []};
+ghost use Rattle.std.specs.Prelude.{◌≡◌, [], is_some, length, OnOk};
 ghost use Rattle.std.specs.Option.{option_map};
 ghost use Rattle.sml_tree.specs.Trees.{Id};
+ghost use Rattle.sml_tree.specs.Views.{ident_of};
 ghost use Rattle.sml_objects.specs.Maps.{lookup};
 ghost use Rattle.sml_objects.specs.Objects as O;
 ghost use Rattle.sml_types.specs.Variables.{place_in};
+ghost use Rattle.sml_core.specs.Begun.{AddsVariable};
 
 use indexmap::IndexMap;
 use sml_lex::fault::{Code, Memory, Place};
@@ -32,11 +34,15 @@ impl Explicit {
         }
     }
 
-    pub(crate) fn has(&self, name: &Ident) -> bool {
+    pub(crate) fn has(&self, name: &Ident) -> bool
+        ensures { result ≡ is_some (place_in self.now.unknowns.entries (ident_of name.now)) }
+    {
         self.unknowns.contains_key(name)
     }
 
-    pub(crate) fn add(&mut self, name: &Ident, unknown: u32) -> Result<(), Memory> {
+    pub(crate) fn add(&mut self, name: &Ident, unknown: u32) -> Result<(), Memory>
+        ensures { OnOk result (AddsVariable self.old (ident_of name.now) unknown self.new) }
+    {
         self.unknowns.insert(name.clone()?, unknown)?;
         Ok(())
     }
@@ -56,7 +62,9 @@ impl Explicit {
     }
 
     /// How many are in scope.
-    pub(crate) fn count(&self) -> usize {
+    pub(crate) fn count(&self) -> usize
+        ensures { result ≡ length self.now.unknowns.entries }
+    {
         self.unknowns.len()
     }
 

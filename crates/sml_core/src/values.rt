@@ -1,5 +1,13 @@
 //! Value declarations (the Definition, sections 4.6 to 4.8, rules 15, 25 and 26).
 
+ghost use Rattle.std.specs.Prelude.{◌≡◌, [], ◌++◌, map, IfOk};
+ghost use Rattle.sml_tree.specs.ExpressionViews.{bind_of, binds_of};
+ghost use Rattle.sml_tree.specs.TypeViews.{names_of};
+ghost use Rattle.sml_tree.specs.Views.{ident_of};
+ghost use Rattle.sml_core_rules.specs.Closing.{unguarded};
+ghost use Rattle.sml_closing.specs.Gathered.{ids_of, with_all};
+ghost use Rattle.sml_core.specs.Begun.{BeginsValues, ScopesAll, ScopesVariable};
+
 use crate::context::{Context, refused};
 use crate::patterns::Variables;
 use crate::recorder::Meeting;
@@ -51,7 +59,11 @@ impl Context<'_> {
         names: &[Name],
         binds: &[ValBind],
         recursive: &[ValBind],
-    ) -> Result<Declaration, CoreFault> {
+    ) -> Result<Declaration, CoreFault>
+        ensures { BeginsValues self.entry.now
+            (map (λ x. x.id) (names_of names.now) ++ (unguarded (binds_of (map bind_of binds.now)) ++ unguarded (binds_of (map bind_of recursive.now))))
+            self.exit.now result }
+    {
         let (unknowns, rows) = (self.solver.unknowns(), self.rows.len());
         let (overloaded, explicit) = (self.overloaded.len(), self.explicit.count());
         let mut found = named(self.alloc, names)?;
@@ -70,7 +82,9 @@ impl Context<'_> {
     }
 
     /// The unknowns of the explicit type variables that are not in scope yet, which are from here on.
-    fn scope_all(&mut self, names: &IndexSet<Ident>) -> Result<Vec<u32>, CoreFault> {
+    fn scope_all(&mut self, names: &IndexSet<Ident>) -> Result<Vec<u32>, CoreFault>
+        ensures { ScopesAll self.entry.now (ids_of names.now.keys) self.exit.now result }
+    {
         let mut scoped = Vec::new(self.alloc);
         for name in names {
             if !self.explicit.has(name) {
@@ -82,7 +96,9 @@ impl Context<'_> {
     }
 
     /// A new unknown for an explicit type variable, which is in scope from here on. It admits equality where the variable does.
-    fn scope(&mut self, name: &Ident) -> Result<u32, CoreFault> {
+    fn scope(&mut self, name: &Ident) -> Result<u32, CoreFault>
+        ensures { ScopesVariable self.entry.now (ident_of name.now) self.exit.now result }
+    {
         let Ok(unknown) = self.solver.fresh() else {
             return Err(CoreFault::Memory);
         };
@@ -386,7 +402,9 @@ impl Context<'_> {
     }
 }
 
-fn named(alloc: Global, names: &[Name]) -> Result<IndexSet<Ident>, Memory> {
+fn named(alloc: Global, names: &[Name]) -> Result<IndexSet<Ident>, Memory>
+    ensures { IfOk result (λ found. ids_of found.keys ≡ with_all [] (map (λ x. x.id) (names_of names.now))) }
+{
     let mut found = IndexSet::new(alloc);
     for name in names {
         found.insert(name.ident.clone()?)?;

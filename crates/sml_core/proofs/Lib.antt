@@ -12,6 +12,8 @@ pub mod BoundVariables
 pub mod Opening
 pub mod Limiting
 pub mod Matches
+pub mod Longer
+pub mod Binds
 pub mod Lost
 pub mod Constraints
 pub mod Binding

@@ -58,7 +58,7 @@ module _ (scope : Scope Name) (C : Env Name) where
     mutual
       unfolding read_pat read_pats read_pat_fields
 
-      pat-none-lost : (q : Pat Place) (bs : Bindings Name) (s : State Place Name) (r : Typed Name (MlType Name) × State Place Name) → IsAnswer scope (read_pat scope is_rec C vs bs q) s (accepted r)
+      pub pat-none-lost : (q : Pat Place) (bs : Bindings Name) (s : State Place Name) (r : Typed Name (MlType Name) × State Place Name) → IsAnswer scope (read_pat scope is_rec C vs bs q) s (accepted r)
           → StandsIn (IsLost C g) q → ⊥
       pat-none-lost (wildcard p) bs s r h l = l
       pat-none-lost (pat_constant p c) bs s r h l = l

@@ -7,13 +7,14 @@ use Rattle.sml_lex.specs.declared.fault.Place.{Place}
 use Rattle.sml_tree.specs.Expressions as E
 use Rattle.sml_tree.specs.TypeViews.{name_of, long_name_of}
 use Rattle.sml_tree.specs.PatternViews.{constant_of, pat_of}
-use Rattle.sml_tree.specs.ExpressionViews.{exp_of, field_of, rule_of, rules_of, exp_layer, field_layer, rule_layer, dec_layer, bind_layer}
+use Rattle.sml_tree.specs.ExpressionViews.{bind_of, binds_of, exp_of, field_of, rule_of, rules_of, exp_layer, field_layer, rule_layer, dec_layer, bind_layer}
 use Rattle.sml_tree.specs.declared.bare.LongIdent.{LongIdent}
 use Rattle.sml_tree.specs.declared.patterns.Constant.{Constant}
 use Rattle.sml_tree.specs.declared.expressions.Exp.{Exp}
 use Rattle.sml_tree.specs.declared.expressions.ExpField.{ExpField, out-ExpField, fold_out-ExpField}
 use Rattle.sml_tree.specs.declared.expressions.Dec.{Dec}
 use Rattle.sml_tree.specs.declared.expressions.Rule.{Rule, out-Rule, fold_out-Rule}
+use Rattle.sml_tree.specs.declared.expressions.ValBind.{ValBind, out-ValBind, fold_out-ValBind}
 use Rattle.sml_tree.specs.declared.expressions.Dec.TheOpen as EO
 use Rattle.sml_tree.specs.declared.expressions.Exp.TheVariants as EV
 use Rattle.sml_tree.specs.declared.expressions.Dec.TheFolds.{fold-roll-Exp}
@@ -43,11 +44,20 @@ rule_of-parts r = fold_out-Rule (E.Dec Place) (E.Exp Place) (E.Field Place) (E.R
 pub field_of-parts : (f : ExpField) → field_of f ≡ E.field (name_of (out-ExpField f).label) (exp_of (out-ExpField f).exp)
 field_of-parts f = fold_out-ExpField (E.Dec Place) (E.Exp Place) (E.Field Place) (E.Rule Place) (E.ValBind Place) dec_layer exp_layer field_layer rule_layer bind_layer f
 
+pub bind_of-parts : (b : ValBind) → bind_of b ≡ E.bind (pat_of (out-ValBind b).pat) (exp_of (out-ValBind b).exp)
+bind_of-parts b = fold_out-ValBind (E.Dec Place) (E.Exp Place) (E.Field Place) (E.Rule Place) (E.ValBind Place) dec_layer exp_layer field_layer rule_layer bind_layer b
+
 -- the rules from one of them on
 pub rules-left : (rs : List Rule) (i : ℕ) (r : Rule) → i < length rs → r ≡ get_or rs i r
     → rules_of (map rule_of (drop i rs)) ≡ E.and_rule (E.rule (out-Rule r).place (pat_of (out-Rule r).pat) (exp_of (out-Rule r).exp)) (rules_of (map rule_of (drop (i + 1) rs)))
 rules-left rs i r lt at =
     ap (λ ss. rules_of (map rule_of ss)) (drop_more rs i r lt ∙ ap (λ s. s ∷ drop (i + 1) rs) (sym at)) ∙ ap (λ s. E.and_rule s (rules_of (map rule_of (drop (i + 1) rs)))) (rule_of-parts r)
+
+-- the bindings from one of them on
+pub binds-left : (bs : List ValBind) (i : ℕ) (b : ValBind) → i < length bs → b ≡ get_or bs i b
+    → binds_of (map bind_of (drop i bs)) ≡ E.and_bind (E.bind (pat_of (out-ValBind b).pat) (exp_of (out-ValBind b).exp)) (binds_of (map bind_of (drop (i + 1) bs)))
+binds-left bs i b lt at =
+    ap (λ cs. binds_of (map bind_of cs)) (drop_more bs i b lt ∙ ap (λ c. c ∷ drop (i + 1) bs) (sym at)) ∙ ap (λ c. E.and_bind c (binds_of (map bind_of (drop (i + 1) bs)))) (bind_of-parts b)
 
 -- declarations are not plain
 

@@ -1,6 +1,7 @@
 pub mod Answered
 pub mod Beginnings
 pub mod Begun
+pub mod Binds
 pub mod Bound
 pub mod Declarations
 pub mod Patterns

@@ -4,9 +4,11 @@ ghost use Rattle.std.specs.Prelude.{◌≡◌, [], ◌++◌, map, IfOk};
 ghost use Rattle.sml_tree.specs.ExpressionViews.{bind_of, binds_of};
 ghost use Rattle.sml_tree.specs.TypeViews.{names_of};
 ghost use Rattle.sml_tree.specs.Views.{ident_of};
+ghost use Rattle.sml_objects.specs.Views.{type_of};
 ghost use Rattle.sml_core_rules.specs.Closing.{unguarded};
 ghost use Rattle.sml_closing.specs.Gathered.{ids_of, with_all};
 ghost use Rattle.sml_core.specs.Begun.{BeginsValues, ScopesAll, ScopesVariable};
+ghost use Rattle.sml_core.specs.Binds.{JoinsBind, ReadsBinds};
 
 use crate::context::{Context, refused};
 use crate::patterns::Variables;
@@ -127,7 +129,11 @@ impl Context<'_> {
         &mut self,
         declaration: &mut Declaration,
         binds: &[ValBind],
-    ) -> Result<(), CoreFault> {
+    ) -> Result<(), CoreFault>
+        ensures reads { ReadsBinds self.entry.now declaration.old (binds_of (map bind_of binds.now)) self.exit.now declaration.new result }
+        ensures rest { declaration.new ≡ record declaration.old { variables = declaration.new.variables; expansive = declaration.new.expansive } }
+        ensures kind { declaration.new.variables.is_recursive ≡ declaration.old.variables.is_recursive }
+    {
         for bind in binds {
             let pattern = self.pattern(&mut declaration.variables, &bind.pat)?;
             let ty = self.expression(&bind.exp)?;
@@ -143,7 +149,10 @@ impl Context<'_> {
         bind: &ValBind,
         pattern: &MlType,
         ty: &MlType,
-    ) -> Result<(), CoreFault> {
+    ) -> Result<(), CoreFault>
+        ensures joins { JoinsBind self.entry.now declaration.old (bind_of bind.now) (type_of pattern.now) (type_of ty.now) self.exit.now declaration.new result }
+        ensures rest { declaration.new ≡ record declaration.old { expansive = declaration.new.expansive } }
+    {
         self.equal(pattern_place(&bind.pat), Meeting::Binding, pattern, ty)?;
         let is_expansive = is_expansive(&self.scopes, &bind.exp)?;
         let count = declaration.variables.types.len();

@@ -1,4 +1,4 @@
-use Rattle.std.proofs.Common.{◌≡◌, Ok, Err, ◌+◌, List, [], ◌∷◌, ◌++◌, map, take, drop, ap, subst, sym, ◌∙◌}
+use Rattle.std.proofs.Common.{◌≡◌, Ok, Err, ◌+◌, List, [], ◌∷◌, ◌++◌, map, take, drop, ap, refl, subst, sym, ◌∙◌}
 use Rattle.std.proofs.lemmas.List.{drop_all, take_all}
 use Rattle.std.specs.Option.{option_map}
 use Rattle.std.specs.Global.{Global}
@@ -11,15 +11,16 @@ use Rattle.sml_tree.specs.Expressions as E
 use Rattle.sml_tree.specs.TypeViews.{name_of, ty_of}
 use Rattle.sml_tree.specs.declared.expressions.ExpField.{out-ExpField}
 use Rattle.sml_tree.specs.declared.expressions.Rule.{out-Rule}
+use Rattle.sml_tree.specs.declared.expressions.ValBind.{out-ValBind}
 use Rattle.sml_objects.specs.Labels.{label_rank}
 use Rattle.sml_core_rules.specs.Types.{put_field}
-use Rattle.sml_tree.specs.ExpressionViews.{exp_of, exps_of, field_of, fields_of, rule_of, rules_of}
+use Rattle.sml_tree.specs.ExpressionViews.{bind_of, binds_of, exp_of, exps_of, field_of, fields_of, rule_of, rules_of}
 use Rattle.sml_tree.specs.PatternViews.{constant_of, pat_of}
 use Rattle.sml_tree.proofs.ExpViews.{exp_of-application, exp_of-typed, exp_of-bracket, exp_of-row, exp_of-tuple}
 use Rattle.sml_objects.specs.Views.{type_of}
 use Rattle.sml_core.proofs.Sequences.{by-err}
 use Rattle.sml_core.proofs.Applying.{application-read, argument-refused, bracket-read, constant-is, function-refused, read-memory}
-use Rattle.sml_core.proofs.Views.{exp_of-constant, exp_of-function, exp_of-handle, exp_of-identifier, exp_of-raise, field_of-parts, let-never, rule_of-parts, rules-left}
+use Rattle.sml_core.proofs.Views.{exp_of-constant, exp_of-function, exp_of-handle, exp_of-identifier, exp_of-raise, field_of-parts, let-never, rule_of-parts, rules-left, binds-left}
 use Rattle.sml_core.proofs.Tuples.{ReadsAll, none-read, one-more, one-refused, tuple-read}
 use Rattle.sml_core.proofs.Rows.{no-field-read, one-field-more, one-field-refused, fields-memory, fields-seen, row-read, row-refused, row_in, row_types}
 use Rattle.sml_types.proofs.RowFields.{fields-put, ranked-put}
@@ -29,6 +30,10 @@ use Rattle.sml_core.proofs.Constraints.{typed-read, typed-refused}
 use Rattle.sml_core.proofs.Matches.{AreRead, fn-read, fn-refused, fn-unjudged, handle-read, handle-refused, handler-refused, like-stopped, no-rules-read, none-read as no-rule-read, one-rule-more, rule-stopped, rules-read}
 use Rattle.sml_core.proofs.Opening.{open-refused, right-refused, rule-memory, rule-read}
 use Rattle.sml_core.specs.Rules.{Handles, OpensRule, ReadsRule, ReadsRules}
+use Rattle.sml_core.proofs.Binds.{AreBindsRead, bind-in-parts, binds-read, join-stopped, no-bind-read, one-bind-more, pattern-stopped, right-stopped, same-but-bound}
+use Rattle.sml_core.specs.Binds.{ReadsBinds}
+use Rattle.sml_core.specs.declared.patterns.Variables.{Variables}
+use Rattle.sml_core.specs.declared.values.Declaration.{Declaration}
 use Rattle.sml_core.specs.Answered.{Applies, Raises, Reads, ReadsFields, Row}
 use Rattle.sml_core.proofs.context.Context.+core.Goals as goal
 
@@ -459,3 +464,109 @@ function-returns t c =
     let mid = c.rules.new.self in
     let m = rules_of (map rule_of c.args.rules.now) in
     fn-read old mid c.args.place m c.in_ok-ty.ty c.in_ok-ty.ensures c.judge_rules.new.warnings
+
+-- bindings before `rec`
+
+pub binds-loop-bind-init : goal.binds-loop-bind-init
+binds-loop-bind-init t c = record { reads = no-bind-read c.args.self.now c.args.declaration.now (binds_of (map bind_of c.args.binds.now)); rest = refl; kind = refl }
+
+pub binds-loop-bind-preserved : goal.binds-loop-bind-preserved
+binds-loop-bind-preserved t c =
+    let old = c.args.self.now in
+    let d = c.args.declaration.now in
+    let i = c.loop-bind.bind-index in
+    let x = c.bind-item.result in
+    let b = out-ValBind x in
+    let all = binds_of (map bind_of c.args.binds.now) in
+    let rest = binds_of (map bind_of (drop (i + 1) c.args.binds.now)) in
+    let now = c.loop-bind.self in
+    let done = c.loop-bind.declaration in
+    let so = subst (λ r. AreBindsRead old d all r now done) (binds-left c.args.binds.now i x c.loop-bind-test.true c.bind-item.is) c.loop-bind.invariant.reads in
+    let mid = c.pattern.new.self in
+    let vars = c.pattern.new.variables in
+    let p = c.in_ok-pattern.pattern in
+    let last = c.expression.new.self in
+    let a = c.in_ok-ty.ty in
+    let new = c.bound.new.self in
+    let after = c.bound.new.declaration in
+    let joins = bind-in-parts last (record done { variables = vars }) x p a c.deref.result.now c.deref-in-loop-bind.result.now c.deref.ensures c.deref-in-loop-bind.ensures new after (Ok tt) c.in_ok-bound.ensures.joins in
+    let same = c.in_ok-bound.ensures.rest in
+    let variables : after.variables ≡ vars = ap (λ (x : Declaration). x.variables) same in
+    record {
+      reads = one-bind-more old now mid d done vars all (pat_of b.pat) (exp_of b.exp) rest so p c.in_ok-pattern.ensures.reads last a c.in_ok-ty.ensures new after joins variables c.pattern.ensures.kind;
+      rest = same-but-bound d done after vars c.loop-bind.invariant.rest same;
+      kind = ap (λ (v : Variables). v.is_recursive) variables ∙ c.pattern.ensures.kind ∙ c.loop-bind.invariant.kind;
+    }
+
+pub binds-returns-in_err-pattern-clause-reads : goal.binds-returns-in_err-pattern-clause-reads
+binds-returns-in_err-pattern-clause-reads t c =
+    let old = c.args.self.now in
+    let d = c.args.declaration.now in
+    let i = c.loop-bind.bind-index in
+    let x = c.bind-item.result in
+    let b = out-ValBind x in
+    let all = binds_of (map bind_of c.args.binds.now) in
+    let rest = binds_of (map bind_of (drop (i + 1) c.args.binds.now)) in
+    let now = c.loop-bind.self in
+    let done = c.loop-bind.declaration in
+    let so = subst (λ r. AreBindsRead old d all r now done) (binds-left c.args.binds.now i x c.loop-bind-test.true c.bind-item.is) c.loop-bind.invariant.reads in
+    let mid = c.pattern.new.self in
+    let vars = c.pattern.new.variables in
+    let f = c.in_err-pattern.field-0.0 in
+    let after = record done { variables = vars } in
+    by-err (ReadsBinds old d all mid after) c.from_residual.result f c.from_residual.ensures.1
+    (pattern-stopped old now mid d done vars all (pat_of b.pat) (exp_of b.exp) rest so mid after f c.in_err-pattern.ensures.reads)
+
+pub binds-returns-in_err-ty-clause-reads : goal.binds-returns-in_err-ty-clause-reads
+binds-returns-in_err-ty-clause-reads t c =
+    let old = c.args.self.now in
+    let d = c.args.declaration.now in
+    let i = c.loop-bind.bind-index in
+    let x = c.bind-item.result in
+    let b = out-ValBind x in
+    let all = binds_of (map bind_of c.args.binds.now) in
+    let rest = binds_of (map bind_of (drop (i + 1) c.args.binds.now)) in
+    let now = c.loop-bind.self in
+    let done = c.loop-bind.declaration in
+    let so = subst (λ r. AreBindsRead old d all r now done) (binds-left c.args.binds.now i x c.loop-bind-test.true c.bind-item.is) c.loop-bind.invariant.reads in
+    let mid = c.pattern.new.self in
+    let vars = c.pattern.new.variables in
+    let last = c.expression.new.self in
+    let f = c.in_err-ty.field-0.0 in
+    let after = record done { variables = vars } in
+    by-err (ReadsBinds old d all last after) c.from_residual-in_err-ty.result f c.from_residual-in_err-ty.ensures.1
+    (right-stopped old now mid d done vars all (pat_of b.pat) (exp_of b.exp) rest so c.in_ok-pattern.pattern c.in_ok-pattern.ensures.reads last after f c.in_err-ty.ensures)
+
+pub binds-returns-in_err-bound-clause-reads : goal.binds-returns-in_err-bound-clause-reads
+binds-returns-in_err-bound-clause-reads t c =
+    let old = c.args.self.now in
+    let d = c.args.declaration.now in
+    let i = c.loop-bind.bind-index in
+    let x = c.bind-item.result in
+    let b = out-ValBind x in
+    let all = binds_of (map bind_of c.args.binds.now) in
+    let rest = binds_of (map bind_of (drop (i + 1) c.args.binds.now)) in
+    let now = c.loop-bind.self in
+    let done = c.loop-bind.declaration in
+    let so = subst (λ r. AreBindsRead old d all r now done) (binds-left c.args.binds.now i x c.loop-bind-test.true c.bind-item.is) c.loop-bind.invariant.reads in
+    let mid = c.pattern.new.self in
+    let vars = c.pattern.new.variables in
+    let p = c.in_ok-pattern.pattern in
+    let last = c.expression.new.self in
+    let a = c.in_ok-ty.ty in
+    let new = c.bound.new.self in
+    let after = c.bound.new.declaration in
+    let f = c.in_err-bound.field-0.0 in
+    let joins = bind-in-parts last (record done { variables = vars }) x p a c.deref.result.now c.deref-in-loop-bind.result.now c.deref.ensures c.deref-in-loop-bind.ensures new after (Err f) c.in_err-bound.ensures.joins in
+    by-err (ReadsBinds old d all new after) c.from_residual-in_err-bound.result f c.from_residual-in_err-bound.ensures.1
+    (join-stopped old now mid d done vars all (pat_of b.pat) (exp_of b.exp) rest so p c.in_ok-pattern.ensures.reads last a c.in_ok-ty.ensures new after f joins)
+
+pub binds-returns-clause-reads : goal.binds-returns-clause-reads
+binds-returns-clause-reads t c =
+    let old = c.args.self.now in
+    let d = c.args.declaration.now in
+    let all = binds_of (map bind_of c.args.binds.now) in
+    let now = c.loop-bind.self in
+    let done = c.loop-bind.declaration in
+    binds-read old now d done all
+    (subst (λ bs. AreBindsRead old d all (binds_of (map bind_of bs)) now done) (drop_all c.loop-bind.bind-index c.args.binds.now c.loop-bind-test.false) c.loop-bind.invariant.reads)

@@ -1,5 +1,5 @@
 -- Declarations of types.
-use Rattle.std.proofs.Common.{◌≡◌, List, [], None, OnOk, Result, Ok, Err, map, ap, subst, sym, refl, ◌∙◌}
+use Rattle.std.proofs.Common.{◌≡◌, List, [], None, Result, Ok, Err, map, ap, subst, sym, ◌∙◌}
 use mathlib.Core.Logic.{inl, inr}
 use Rattle.sml_lex.specs.Faults.{fault_of}
 use Rattle.sml_lex.specs.declared.fault.Place.{Place}
@@ -14,8 +14,7 @@ use Rattle.sml_core_rules.specs.Datatypes.{AreSmall, read_type_binds}
 use Rattle.sml_core_rules.specs.Objects.{Env, TyStr, of_types}
 use Rattle.sml_core_rules.specs.Scopes.{run_scope}
 use Rattle.sml_core_rules.specs.Scripts.{IsAnswer, Script, give, look, test, ◌>>=◌}
-use Rattle.sml_core_rules.specs.States.{State, Window}
-use Rattle.sml_core_rules.specs.Expressions.{read_types}
+use Rattle.sml_core_rules.specs.States.{State}
 use Rattle.sml_scopes.specs.Means.{Means, MeansAt}
 use Rattle.sml_scopes.specs.declared.scopes.Mark.{Mark}
 use Rattle.sml_types.specs.Bindings.{AreApart, AreSpelt, TypesAnswer}
@@ -25,7 +24,7 @@ use Rattle.sml_core.specs.declared.context.Context.{Context}
 use Rattle.sml_core.specs.Answered.{IsAt, unit_of}
 use Rattle.sml_core.specs.Bound.{Extends}
 use Rattle.sml_core.specs.Seen.{AreScoped}
-use Rattle.sml_core.specs.Declarations.{Declares, DeclaresTypes}
+use Rattle.sml_core.specs.Declarations.{DeclaresTypes}
 use Rattle.sml_core.proofs.Sequences.{no-later}
 
 -- what follows the reading of bindings

@@ -6,7 +6,7 @@ use Rattle.sml_objects.specs.Objects.{Head, MlType, MlTypes, Scheme, bound, free
 use Rattle.sml_layers.specs.Demands.{AllMention, Mentions}
 use Rattle.sml_graph.specs.Interned.{AreBodiesOver, IsBodyOver}
 use Rattle.sml_core_rules.specs.Objects.{Status, constructor, exception, overloaded, variable}
-use Rattle.sml_core_laws.specs.Made.{AllSpeak, HasVariable, IsEnvIn, IsHeadIn, Speaks, Takes}
+use Rattle.sml_core_laws.specs.Made.{AllSpeak, HasVariable, IsHeadIn, Speaks, Takes}
 use Rattle.sml_core_laws.proofs.MadeEnvs.{type-found, value-found}
 use Rattle.sml_core_laws.proofs.MadeInitial.{beginnings-are-well-made}
 use Rattle.sml_core.specs.Beginnings.{EnvironmentsCanBeSeen, TheInitialOneCanBeSeen}

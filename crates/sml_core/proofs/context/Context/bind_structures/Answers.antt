@@ -1,4 +1,4 @@
-use Rattle.std.proofs.Common.{◌≡◌, ap, subst, sym, refl, ◌∙◌}
+use Rattle.std.proofs.Common.{ap, subst, sym, refl, ◌∙◌}
 use Rattle.std.proofs.lemmas.Map.Iter.{rest_all, rest_more}
 use Rattle.sml_tree.specs.Views.{ident_of}
 use Rattle.sml_objects.specs.Views.{entries_of}

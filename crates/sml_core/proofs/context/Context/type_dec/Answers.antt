@@ -1,4 +1,4 @@
-use Rattle.std.proofs.Common.{[], None, Ok, Err, map, subst, sym}
+use Rattle.std.proofs.Common.{None, map, subst, sym}
 use Rattle.sml_tree.specs.BindingViews.{typ_bind_of}
 use Rattle.sml_types.specs.Sides.{IsSideOf}
 use Rattle.sml_types.specs.declared.fault.CoreFault.TheVariants as F

@@ -25,6 +25,7 @@ use Rattle.sml_core_rules.specs.Values.{require_so_far}
 use Rattle.sml_core_rules.proofs.Accepted.{bind-joined}
 use Rattle.sml_core_rules.proofs.Apart.{pat-apart}
 use Rattle.sml_core_rules.proofs.Refused.{bind-refused}
+use Rattle.sml_core_rules.specs.Rules.{AreApart}
 use Rattle.sml_scopes.specs.Means.{IsAround, Means, MeansAt}
 use Rattle.sml_scopes.specs.declared.scopes.Mark.{Mark}
 use Rattle.sml_types.specs.declared.fault.CoreFault.{CoreFault}
@@ -33,14 +34,28 @@ use Rattle.sml_asks.specs.Solvers.{IsTypeIn}
 use Rattle.sml_asks.proofs.Making.{names-are-bounds}
 use Rattle.sml_core.specs.declared.context.Context.{Context}
 use Rattle.sml_core.specs.declared.patterns.Variables.{Variables}
-use Rattle.sml_core.specs.Answered.{AnswersAs, IsAt, IsLater, Keeps, Limits, Reads, unit_of}
+use Rattle.sml_core.specs.Answered.{AnswersAs, IsAt, IsLater, Keeps, Limits, Reaches, Reads, unit_of}
 use Rattle.sml_core.specs.Bound.{Extends}
 use Rattle.sml_core.specs.Patterns.{AreBoundIn, ReadsPattern, bindings_of}
-use Rattle.sml_core.specs.Rules.{BindsAll, IsOpened, OpensRule, ReadsRule, read_rule, read_rule_pattern, variable_entry, with_bound}
+use Rattle.sml_core.specs.Rules.{IsOpened, OpensRule, ReadsRule, read_rule, read_rule_pattern, variable_entry, with_bound}
 use Rattle.sml_core.specs.Seen.{AreScoped, Sees}
 use Rattle.sml_core.proofs.Applying.{arrow-of-parts}
 use Rattle.sml_core.proofs.BoundVariables.{bound_on, means-all, sees-bound}
 use Rattle.sml_core.proofs.Sequences.{later-still, no-later, type-later}
+
+-- The variables were limited to names made so far and bound; apart from them the context sees what it saw.
+pub record AreBound (around : Window Place Name) (old : Context) (p : Place) (bs : Bindings Name) (s : State Place Name) (new : Context) (u : State Place Name) : Type 0 where
+  pub reaches : Reaches around old (require_bindings (run_scope (unit_of old)) p bs) s (record new { scopes = old.scopes }) tt u
+  pub means : (C : Env Name) → AreApart bs → Means old.scopes C → Means new.scopes (with_bound C bs)
+  pub stays : (D : Env Name) (m : Mark) → MeansAt old.scopes m D → MeansAt new.scopes m D
+
+-- Calls limit variables, whose types speak of what was made, to names made so far, and bind them.
+unfoldable pub BindsAll : Context → Place → Bindings Name → Context → Result (Unit {0}) CoreFault → Type 0
+BindsAll old p bs new (Ok x) = (around : Window Place Name) (s : State Place Name) → IsAt around old s → AreBoundIn s bs → (u : State Place Name) × AreBound around old p bs s new u
+BindsAll old p bs new (Err F.Memory) = Unit {0}
+BindsAll old p bs new (Err (F.Fault f)) =
+    (around : Window Place Name) (s : State Place Name) → IsAt around old s → AreBoundIn s bs
+    → IsAnswer (run_scope (unit_of old)) (require_bindings (run_scope (unit_of old)) p bs) s (refused (fault_of f))
 
 -- Some of the variables are limited and bound: what the others ask goes on to what all ask, and what binds them goes on to what binds all.
 pub record IsBindingAt (around : Window Place Name) (old : Context) (p : Place) (bs rest : Bindings Name) (s : State Place Name) (now : Context) (u : State Place Name) : Type 0 where

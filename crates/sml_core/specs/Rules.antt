@@ -19,7 +19,6 @@ use Rattle.sml_core_rules.specs.Scripts.{Script, IsAnswer, give, ◌>>=◌}
 use Rattle.sml_core_rules.specs.States.{Scope, State, Window, of_handle}
 use Rattle.sml_core_rules.specs.Patterns.{Bindings, Typed, pattern_place, read_pat, typed}
 use Rattle.sml_core_rules.specs.Expressions.{bound_values, exn_type, judge_patterns, like_first, read_exp, read_rules, require_bindings, rule_patterns}
-use Rattle.sml_core_rules.specs.Rules.{AreApart}
 use Rattle.sml_core_rules.specs.Values.{require_equal}
 use Rattle.sml_scopes.specs.Means.{Means, MeansAt}
 use Rattle.sml_scopes.specs.declared.scopes.Mark.{Mark}
@@ -46,20 +45,6 @@ read_rule_pattern scope C vs (rule p q e) = do
 -- the environment with these variables
 abbrev pub with_bound : Env Name → Bindings Name → Env Name
 with_bound C bs = extend C (of_values (bound_values bs))
-
--- The variables were limited to names made so far and bound; apart from them the context sees what it saw.
-pub record AreBound (around : Window Place Name) (old : Context) (p : Place) (bs : Bindings Name) (s : State Place Name) (new : Context) (u : State Place Name) : Type 0 where
-  pub reaches : Reaches around old (require_bindings (run_scope (unit_of old)) p bs) s (record new { scopes = old.scopes }) tt u
-  pub means : (C : Env Name) → AreApart bs → Means old.scopes C → Means new.scopes (with_bound C bs)
-  pub stays : (D : Env Name) (m : Mark) → MeansAt old.scopes m D → MeansAt new.scopes m D
-
--- A call limits variables, whose types speak of what was made, to names made so far, and binds them.
-unfoldable pub BindsAll : Context → Place → Bindings Name → Context → Result (Unit {0}) CoreFault → Type 0
-BindsAll old p bs new (Ok x) = (around : Window Place Name) (s : State Place Name) → IsAt around old s → AreBoundIn s bs → (u : State Place Name) × AreBound around old p bs s new u
-BindsAll old p bs new (Err Memory) = Unit {0}
-BindsAll old p bs new (Err (Fault f)) =
-    (around : Window Place Name) (s : State Place Name) → IsAt around old s → AreBoundIn s bs
-    → IsAnswer (run_scope (unit_of old)) (require_bindings (run_scope (unit_of old)) p bs) s (refused (fault_of f))
 
 -- The script of the pattern reached this state; apart from its variables, which are bound, the context sees what it saw.
 pub record IsOpened (around : Window Place Name) (old : Context) (r : Rule Place) (C : Env Name) (vs : Map (MlType Name)) (s : State Place Name) (new : Context) (t : MlType Name) (bs : Bindings Name)

@@ -20,8 +20,7 @@ ghost use Rattle.sml_core_rules.specs.Objects.{Env, maps, no_structure};
 ghost use Rattle.sml_scopes.specs.Means.{MeansAt};
 ghost use Rattle.sml_core.specs.Answered.{Applies, AppliesSo, Raises, Reads, ReadsFields};
 ghost use Rattle.sml_core.specs.Bound.{Extends};
-ghost use Rattle.sml_core.specs.Patterns.{bindings_of};
-ghost use Rattle.sml_core.specs.Rules.{BindsAll, Handles, LikeFirst, OpensRule, ReadsRule, ReadsRules, variable_entry};
+ghost use Rattle.sml_core.specs.Rules.{Handles, LikeFirst, OpensRule, ReadsRule, ReadsRules, variable_entry};
 
 use crate::context::Context;
 use crate::patterns::Variables;
@@ -330,20 +329,11 @@ impl Context<'_> {
     {
         let mut variables = Variables::new(self.alloc);
         let ty = self.pattern(&mut variables, &rule.pat)?;
-        self.bind_all(pattern_place(&rule.pat), &variables)?;
-        Ok(ty)
-    }
-
-    /// Binds variables of one type, which mention only names made so far.
-    #[inline(never)]
-    fn bind_all(&mut self, place: Place, variables: &Variables) -> Result<(), CoreFault>
-        ensures { BindsAll self.entry.now place (bindings_of variables.now) self.exit.now result }
-    {
         for (name, ty) in &variables.types {
-            self.within(place, ty, Bound::Newness, self.new.next)?;
+            self.within(pattern_place(&rule.pat), ty, Bound::Newness, self.new.next)?;
             self.bind_variable(name, ty)?;
         }
-        Ok(())
+        Ok(ty)
     }
 
     /// Binds a variable of one type inside an expression.
